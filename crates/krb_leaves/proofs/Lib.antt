@@ -1,0 +1,7 @@
+pub mod Digits
+pub mod Lengths
+pub mod Elements
+pub mod Growth
+pub mod Refusals
+pub mod IntegerBounds
+pub mod TimesTold

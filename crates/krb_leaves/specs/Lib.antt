@@ -1,0 +1,12 @@
+pub mod Tlv
+pub mod Encoding
+pub mod Reading
+pub mod TlvLaws
+pub mod Leaf
+pub mod LeafLaws
+pub mod BitString
+pub mod BitStringLaws
+pub mod Integer
+pub mod IntegerLaws
+pub mod GeneralizedTime
+pub mod GeneralizedTimeLaws

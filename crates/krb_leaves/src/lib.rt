@@ -1,0 +1,25 @@
+//! Elements of a tag, a length and a content, and the types that are one such element: the leaves of the Distinguished
+//! Encoding Rules (ITU-T X.690).
+//!
+//! The lower part of module `der`: `krb_der` re-exports all of it.
+#![tactic(auto)]
+
+mod bit_string;
+mod boolean;
+mod content;
+mod der;
+mod error;
+mod general_string;
+mod generalized_time;
+mod integer;
+mod octet_string;
+mod tlv;
+
+pub use bit_string::BitStringAsn1;
+pub use der::{Der, DerEncode, DerSequence};
+pub use error::Asn1DerError;
+pub use general_string::GeneralStringAsn1;
+pub use generalized_time::GeneralizedTimeAsn1;
+pub use integer::IntegerAsn1;
+pub use octet_string::OctetStringAsn1;
+pub use tlv::close_tlv;

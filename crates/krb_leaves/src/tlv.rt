@@ -1,0 +1,142 @@
+//! Tags, lengths and contents.
+
+ghost use Rattle.std.specs.Prelude.{◌≡◌, ℕ, ◌^◌, ◌<◌, ◌≤◌, ◌++◌, length, take, drop, IfOk, IfErr, OnOk, OnErr};
+ghost use Rattle.std.specs.Int.Digits.{digits_of, number_from_digits};
+ghost use Rattle.krb_leaves.specs.Tlv.{len, header, tlv};
+ghost use Rattle.krb_leaves.specs.Reading.{TakesFront, RefusesFront, Lengths, Elements};
+
+use crate::error::Asn1DerError;
+use std::alloc::AllocError;
+
+/// The number that the octets stand for in base 256, highest octet first.
+pub(crate) fn number_of(octets: &[u8]) -> usize
+    requires { length octets.now ≤ 8 }
+    ensures { result ≡ number_from_digits 256 octets.now }
+{
+    let mut n = 0usize;
+    for octet in octets {
+        n = n * 256 + *octet as usize;
+    }
+    n
+}
+
+/// The length at the front, and how many octets it takes.
+pub fn read_length(input: &[u8]) -> Result<(usize, usize), Asn1DerError>
+    ensures found { IfOk result (λ p. TakesFront (len p.0) p.1 input.now) }
+    ensures fits { IfOk result (λ p. p.0 < 2 ^ 64) }
+    ensures refused { IfErr result (RefusesFront Lengths input.now) }
+{
+    if input.is_empty() {
+        return Err(Asn1DerError::TruncatedData);
+    }
+    let first = input[0];
+    if first < 128 {
+        return Ok((first as usize, 1));
+    }
+    if first == 128 || first > 136 {
+        return Err(Asn1DerError::UnsupportedValue);
+    }
+    let count = (first - 128) as usize;
+    if input.len() - 1 < count {
+        return Err(Asn1DerError::TruncatedData);
+    }
+    let octets = &input[1..1 + count];
+    if octets[0] == 0 {
+        return Err(Asn1DerError::InvalidData);
+    }
+    let n = number_of(octets);
+    if n < 128 {
+        return Err(Asn1DerError::InvalidData);
+    }
+    Ok((n, 1 + count))
+}
+
+/// The content of the element with this tag at the front, and how many octets the element takes.
+pub fn read_tlv(tag: u8, input: &[u8]) -> Result<(&[u8], usize), Asn1DerError>
+    ensures found { IfOk result (λ p. TakesFront (tlv tag p.0.now) p.1 input.now) }
+    ensures refused { IfErr result (RefusesFront (Elements tag) input.now) }
+{
+    if input.is_empty() {
+        return Err(Asn1DerError::TruncatedData);
+    }
+    if input[0] != tag {
+        return Err(Asn1DerError::InvalidData);
+    }
+    let behind = &input[1..];
+    let (length, taken) = read_length(behind)?;
+    let rest = &behind[taken..];
+    if rest.len() < length {
+        return Err(Asn1DerError::TruncatedData);
+    }
+    Ok((&rest[..length], 1 + taken + length))
+}
+
+/// How many octets the number has in base 256.
+fn count_digits(n: usize) -> usize
+    ensures { result ≡ length (digits_of 256 n) }
+{
+    if n == 0 {
+        return 0;
+    }
+    count_digits(n / 256) + 1
+}
+
+/// Writes the number in base 256 at the end. Where memory runs out, some of its octets may stand there.
+fn push_digits(n: usize, out: &mut Vec<u8>) -> Result<(), AllocError>
+    ensures ok { OnOk result (out.new.items ≡ out.old.items ++ digits_of 256 n) }
+    ensures err { OnErr result (take (length out.old.items) out.new.items ≡ out.old.items) }
+{
+    if n == 0 {
+        return Ok(());
+    }
+    push_digits(n / 256, out)?;
+    out.push((n % 256) as u8)?;
+    Ok(())
+}
+
+/// Writes the tag and the length octets at the end. Where memory runs out, some of them may stand there.
+fn push_header(tag: u8, n: usize, out: &mut Vec<u8>) -> Result<(), AllocError>
+    ensures ok { OnOk result (out.new.items ≡ out.old.items ++ header tag n) }
+    ensures err { OnErr result (take (length out.old.items) out.new.items ≡ out.old.items) }
+{
+    out.push(tag)?;
+    if n < 128 {
+        out.push(n as u8)?;
+        return Ok(());
+    }
+    out.push(128 + count_digits(n) as u8)?;
+    push_digits(n, out)
+}
+
+/// Writes an element at the end.
+pub fn write_tlv(tag: u8, content: &[u8], out: &mut Vec<u8>) -> Result<(), AllocError>
+    ensures ok { OnOk result (out.new.items ≡ out.old.items ++ tlv tag content.now) }
+    ensures err { OnErr result (out.new.items ≡ out.old.items) }
+{
+    let start = out.len();
+    if let Err(e) = push_header(tag, content.len(), out) {
+        out.truncate(start);
+        return Err(e);
+    }
+    if let Err(e) = out.extend_from_slice(content) {
+        out.truncate(start);
+        return Err(e);
+    }
+    Ok(())
+}
+
+/// Makes an element of the octets from `start` on, by a header in front of them. Where memory runs out, they are taken away.
+pub fn close_tlv(tag: u8, start: usize, out: &mut Vec<u8>) -> Result<(), AllocError>
+    requires { start ≤ length out.old.items }
+    ensures ok { OnOk result (out.new.items ≡ take start out.old.items ++ tlv tag (drop start out.old.items)) }
+    ensures err { OnErr result (out.new.items ≡ take start out.old.items) }
+{
+    let end = out.len();
+    if let Err(e) = push_header(tag, end - start, out) {
+        out.truncate(start);
+        return Err(e);
+    }
+    let count = out.len() - end;
+    out[start..].rotate_right(count);
+    Ok(())
+}
