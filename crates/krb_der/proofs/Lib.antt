@@ -1,0 +1,3 @@
+pub mod WholeInput
+pub mod Rows
+pub mod FieldSteps

@@ -1,0 +1,12 @@
+use Rattle.std.specs.List.{flat_map, AllByRecursion}
+use Rattle.std.proofs.lemmas.Result.{err_from_is_err_and}
+use Rattle.krb_leaves.proofs.Refusals.{unwanted, no_content}
+use Rattle.krb_der.proofs.sequence_of.Asn1SequenceOfDer.read_element.Goals as goal
+
+pub returns-then-tag-ne-SEQUENCE-clause-refused : goal.returns-then-tag-ne-SEQUENCE-clause-refused
+returns-then-tag-ne-SEQUENCE-clause-refused g c = unwanted (AllByRecursion g.T.DerEncode.is_value) (flat_map g.T.DerEncode.enc) 48 c.args.tag c.args.content.now c.if-tag-ne-SEQUENCE.true
+
+pub returns-in_err-read_items-clause-refused : goal.returns-in_err-read_items-clause-refused
+returns-in_err-read_items-clause-refused g c =
+    let p = err_from_is_err_and c.from_residual.result c.from_residual.ensures.1 in
+    rw (p.1, p.2, c.if-tag-ne-SEQUENCE.false) (no_content (AllByRecursion g.T.DerEncode.is_value) (flat_map g.T.DerEncode.enc) 48 c.args.content.now c.in_err-read_items.field-0.0 c.in_err-read_items.ensures.refused)

@@ -1,0 +1,10 @@
+use Rattle.krb_leaves.proofs.Refusals.{unwanted}
+use Rattle.krb_der.proofs.WholeInput.{around_refused}
+use Rattle.krb_der.proofs.whole.read_around.Goals as goal
+
+pub returns-then-tag-wanted-clause-refused : goal.returns-then-tag-wanted-clause-refused
+returns-then-tag-wanted-clause-refused g c = unwanted g.T.DerEncode.is_value g.T.DerEncode.enc c.args.wanted c.args.tag c.args.content.now c.if-tag-wanted.true
+
+pub returns-clause-refused : goal.returns-clause-refused
+returns-clause-refused g c =
+    rw c.if-tag-wanted.false (around_refused g.T.DerEncode.is_value g.T.DerEncode.enc c.args.wanted c.args.content.now c.from_bytes.result c.from_bytes.ensures.reads c.from_bytes.ensures.no_device)

@@ -1,0 +1,19 @@
+-- What groups of fields keep.
+use Rattle.std.specs.Prelude.{◌≡◌, ℕ, Bool, List, ◌++◌, Result, MatchResult}
+use Rattle.krb_leaves.specs.declared.error.Asn1DerError.{Asn1DerError}
+use Rattle.krb_leaves.specs.declared.error.Asn1DerError.TheVariants as errors
+use Rattle.krb_leaves.specs.Encoding.{BeginsWith}
+
+-- Fields, and octets behind them that begin so, begin so.
+abbrev pub BeginSo : {A : Type 0} → (A → Type 0) → (A → List ℕ) → ((ℕ → Bool) → ℕ → Bool) → Type 0
+BeginSo {A} are_values octets begins = (follow : ℕ → Bool) (v : A) (x : List ℕ) → are_values v → BeginsWith follow x → BeginsWith (begins follow) (octets v ++ x)
+
+-- Fields that are told apart from what follows them decide themselves and what follows them.
+abbrev pub OneReading : {A : Type 0} → ((ℕ → Bool) → Type 0) → (A → Type 0) → (A → List ℕ) → Type 0
+OneReading {A} told_apart are_values octets =
+    (follow : ℕ → Bool) → told_apart follow → (v w : A) (x y : List ℕ) → are_values v → are_values w → BeginsWith follow x → BeginsWith follow y → octets v ++ x ≡ octets w ++ y → (v ≡ w) × (x ≡ y)
+
+-- Where fields stand in front of octets that they are told apart from, those fields are read, but for want of memory.
+abbrev pub ReadsFields : {A : Type 0} → ((ℕ → Bool) → Type 0) → (A → Type 0) → (A → List ℕ) → List ℕ → Result (A × ℕ) Asn1DerError → Type 0
+ReadsFields {A} told_apart are_values octets input r =
+    (follow : ℕ → Bool) → told_apart follow → (w : A) (y : List ℕ) → are_values w → BeginsWith follow y → input ≡ octets w ++ y → MatchResult r (λ p. p.0 ≡ w) (λ e. e ≡ errors.OutOfMemory)

@@ -1,0 +1,14 @@
+pub use Rattle.krb_leaves.specs.Tlv
+pub use Rattle.krb_leaves.specs.Encoding
+pub use Rattle.krb_leaves.specs.Reading
+pub use Rattle.krb_leaves.specs.TlvLaws
+pub use Rattle.krb_leaves.specs.Leaf
+pub use Rattle.krb_leaves.specs.BitString
+pub use Rattle.krb_leaves.specs.Integer
+pub use Rattle.krb_leaves.specs.GeneralizedTime
+pub mod Grouping
+pub mod FieldLaws
+pub mod ListLaws
+pub mod ApplicationLaws
+pub mod Whole
+pub mod Composite

@@ -1,0 +1,3 @@
+//! Numbers that the Kerberos standards name.
+
+pub mod types;

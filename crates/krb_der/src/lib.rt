@@ -1,0 +1,30 @@
+//! Values in the Distinguished Encoding Rules (ITU-T X.690), as Kerberos uses them (RFC 4120, 5.1 and 5.2).
+//!
+//! `from_bytes` reads a value from its one encoding and refuses all other octets; `to_vec` writes that encoding. The
+//! leaves are the simple types of ASN.1, the wrappers put tags around them, and `composite` has what a struct needs to
+//! be a SEQUENCE.
+#![tactic(auto)]
+
+mod application_tag;
+pub mod composite;
+pub mod constants;
+mod context_tag;
+mod fields;
+mod optional;
+mod sequence;
+mod sequence_of;
+mod whole;
+
+pub use application_tag::ApplicationTag;
+pub use context_tag::{
+    ExplicitContextTag, ExplicitContextTag0, ExplicitContextTag1, ExplicitContextTag2,
+    ExplicitContextTag3, ExplicitContextTag4, ExplicitContextTag5, ExplicitContextTag6,
+    ExplicitContextTag7, ExplicitContextTag8, ExplicitContextTag9, ExplicitContextTag10,
+};
+pub use krb_leaves::{
+    Asn1DerError, BitStringAsn1, Der, DerEncode, DerSequence, GeneralStringAsn1,
+    GeneralizedTimeAsn1, IntegerAsn1, OctetStringAsn1,
+};
+pub use optional::Optional;
+pub use sequence_of::Asn1SequenceOf;
+pub use whole::{from_bytes, to_vec};

@@ -1,0 +1,119 @@
+//! Structs that are SEQUENCEs.
+
+ghost use Rattle.std.specs.Prelude.{◌≡◌, ℕ, Bool, List, ◌++◌, IfOk, IfErr, OnOk, OnErr};
+ghost use Rattle.krb_leaves.specs.Tlv.{tlv};
+ghost use Rattle.krb_leaves.specs.Reading.{TakesFront, RefusesAll};
+ghost use Rattle.krb_der.specs.Composite.{nothing};
+ghost use Rattle.krb_der.specs.Grouping.{BeginSo, OneReading, ReadsFields};
+ghost use Rattle.krb_der.specs.Whole.{NoDevice};
+
+use krb_leaves::{Asn1DerError, close_tlv};
+use std::alloc::{AllocError, Global};
+
+/// The tag of a SEQUENCE: universal 16, constructed (X.690, 8.9).
+pub const SEQUENCE: u8 = 0x30;
+
+/// Fields of a sequence, one after another, as they are read.
+pub trait Fields {
+    /// The encodings of the fields, joined. An absent field adds nothing.
+    ghost octets: { Self → List ℕ };
+
+    /// Holds where each field is a value of its type.
+    ghost are_values: { Self → Type 0 };
+
+    /// Which octets the fields begin with, or what follows them where they are absent, if that begins so.
+    ghost begins: { (ℕ → Bool) → ℕ → Bool };
+
+    /// Each optional field is told by its first octet from what follows it, if what follows the fields begins so.
+    ghost told_apart: { (ℕ → Bool) → Type 0 };
+
+    ghost begin_so: { BeginSo are_values octets begins };
+
+    ghost one_reading: { OneReading told_apart are_values octets };
+
+    /// The fields at the front of the input, and the number of their octets. What follows them is not looked at.
+    fn read_fields(alloc: Global, input: &[u8]) -> Result<(Self, usize), Asn1DerError>
+        ensures valid { IfOk result (λ p. are_values p.0) }
+        ensures found { IfOk result (λ p. TakesFront (octets p.0) p.1 input.now) }
+        ensures reads { ReadsFields told_apart are_values octets input.now result }
+        ensures no_device { IfErr result NoDevice };
+}
+
+/// Fields of a sequence, one after another, lent for writing.
+pub trait FieldRefs {
+    /// The encodings of the fields, joined. An absent field adds nothing.
+    ghost octets: { Self → List ℕ };
+
+    /// Holds where each field is a value of its type.
+    ghost are_values: { Self → Type 0 };
+
+    /// Tells a proof that fields in hand are values of their types. It does nothing.
+    fn known_refs(&self)
+        ensures { are_values self.now };
+
+    /// Appends the fields to `out`, which is as before where memory is wanting.
+    fn write_refs(&self, alloc: Global, out: &mut Vec<u8>) -> Result<(), AllocError>
+        ensures ok { OnOk result (out.new.items ≡ out.old.items ++ octets self.now) }
+        ensures err { OnErr result (out.new.items ≡ out.old.items) };
+}
+
+/// A struct that is made of the fields of a sequence.
+pub trait Sequence {
+    /// The fields, in order.
+    type Fields: Fields + Drop;
+
+    /// The fields of a struct.
+    ghost fields: { Self → Self.Fields };
+
+    /// The struct with these fields.
+    ghost with_fields: { Self.Fields → Self };
+
+    /// The struct with these fields.
+    fn from_fields(parts: Self::Fields) -> Self
+        ensures { fields result ≡ parts };
+}
+
+/// The struct of the sequence that has this tag and content.
+///
+/// `InvalidData` where the tag is not `30`, then the first fault of the fields, in order, and `InvalidData` where octets
+/// are left over.
+pub fn read_sequence<S: Sequence>(alloc: Global, tag: u8, content: &[u8]) -> Result<S, Asn1DerError>
+    requires { S.Fields.told_apart nothing }
+    ensures valid { IfOk result (λ v. S.Fields.are_values (S.fields v)) }
+    ensures found { IfOk result (λ v. tlv tag content.now ≡ tlv 48 (S.Fields.octets (S.fields v))) }
+    ensures refused { IfErr result (RefusesAll (λ v. S.Fields.are_values (S.fields v)) (λ v. tlv 48 (S.Fields.octets (S.fields v))) (tlv tag content.now)) }
+{
+    if tag != SEQUENCE {
+        return Err(Asn1DerError::InvalidData);
+    }
+    let parts = read_all_fields::<S::Fields>(alloc, content)?;
+    Ok(S::from_fields(parts))
+}
+
+/// The fields that these octets are: all of them, with nothing left over.
+fn read_all_fields<F: Fields + Drop>(alloc: Global, content: &[u8]) -> Result<F, Asn1DerError>
+    requires { F.told_apart nothing }
+    ensures valid { IfOk result F.are_values }
+    ensures found { IfOk result (λ v. content.now ≡ F.octets v) }
+    ensures refused { IfErr result (RefusesAll F.are_values F.octets content.now) }
+{
+    let (parts, taken) = F::read_fields(alloc, content)?;
+    if taken != content.len() {
+        return Err(Asn1DerError::InvalidData);
+    }
+    Ok(parts)
+}
+
+/// Appends the sequence of these fields to `out`, which is as before where memory is wanting.
+pub fn write_sequence<R: FieldRefs>(
+    alloc: Global,
+    fields: &R,
+    out: &mut Vec<u8>,
+) -> Result<(), AllocError>
+    ensures ok { OnOk result (out.new.items ≡ out.old.items ++ tlv 48 (R.octets fields.now)) }
+    ensures err { OnErr result (out.new.items ≡ out.old.items) }
+{
+    let start = out.len();
+    fields.write_refs(alloc, out)?;
+    close_tlv(SEQUENCE, start, out)
+}

@@ -1,0 +1,119 @@
+//! SEQUENCE OF.
+
+ghost use Rattle.std.specs.Prelude.{◌≡◌, ◌==◌, ◌++◌, List, IfOk, IfErr, OnOk, OnErr};
+ghost use Rattle.std.specs.List.{flat_map, AllByRecursion};
+ghost use Rattle.std.specs.Cmp.Lexicographic.{pointwise, lists_per, lists_equiv};
+ghost use Rattle.krb_leaves.specs.Tlv.{tlv};
+ghost use Rattle.krb_leaves.specs.TlvLaws.{tagged_element, tagged_one_value};
+ghost use Rattle.krb_leaves.specs.Reading.{RefusesAll};
+ghost use Rattle.krb_der.specs.ListLaws.{list_one_content};
+
+use crate::sequence::SEQUENCE;
+use krb_leaves::{Asn1DerError, Der, DerEncode, close_tlv};
+use std::alloc::{AllocError, Global};
+use std::marker::Model;
+
+/// SEQUENCE OF (X.690, 8.10): the content is the encodings of the elements, in order.
+///
+/// It is made of a vector and gives it back, at `.0`, without a copy. A contract sees the list of its elements.
+#[derive(Debug, Drop)]
+pub struct Asn1SequenceOf<T>(pub Vec<T>);
+
+impl<T> Model for Asn1SequenceOf<T> {
+    ghost Value = { List T };
+
+    ghost view = { λ s. s.0.items };
+}
+
+impl<T: PartialEq> PartialEq for Asn1SequenceOf<T> {
+    ghost eq = { pointwise T.eq };
+
+    ghost laws = { lists_per T.PartialEq.laws };
+
+    fn eq(&self, other: &Self) -> bool {
+        self.0.as_slice() == other.0.as_slice()
+    }
+}
+
+impl<T: Eq> Eq for Asn1SequenceOf<T> {
+    ghost laws = { lists_equiv T.Eq.laws };
+}
+
+/// The items whose encodings, joined, these octets are.
+fn read_items<T: Der + Drop>(alloc: Global, octets: &[u8]) -> Result<Vec<T>, Asn1DerError>
+    ensures valid { IfOk result (λ v. AllByRecursion T.is_value v.items) }
+    ensures found { IfOk result (λ v. octets.now ≡ flat_map T.enc v.items) }
+    ensures refused { IfErr result (RefusesAll (AllByRecursion T.is_value) (flat_map T.enc) octets.now) }
+{
+    let mut items = Vec::new(alloc);
+    let mut rest = octets;
+    while !rest.is_empty() {
+        let (item, taken) = T::read(alloc, rest)?;
+        items.push(item)?;
+        rest = &rest[taken..];
+    }
+    Ok(items)
+}
+
+/// Appends the encodings of the items, in order.
+fn write_items<T: DerEncode>(
+    alloc: Global,
+    items: &[T],
+    out: &mut Vec<u8>,
+) -> Result<(), AllocError>
+    ensures ok { OnOk result (out.new.items ≡ out.old.items ++ flat_map T.enc items.now) }
+    ensures err { OnErr result (out.new.items ≡ out.old.items) }
+{
+    let start = out.len();
+    for item in items {
+        if let Err(error) = item.write(alloc, out) {
+            out.truncate(start);
+            return Err(error);
+        }
+    }
+    Ok(())
+}
+
+/// Tells a proof that the items in hand are values of their type. It does nothing.
+fn known_items<T: DerEncode>(items: &[T])
+    ensures { AllByRecursion T.is_value items.now }
+{
+    for item in items {
+        item.known();
+    }
+}
+
+impl<T: DerEncode> DerEncode for Asn1SequenceOf<T> {
+    ghost enc = { λ v. tlv 48 (flat_map T.enc v) };
+
+    ghost is_value = { AllByRecursion T.is_value };
+
+    ghost first = { λ t. t == 48 };
+
+    ghost is_element = { λ v h. tagged_element 48 (flat_map T.enc v) };
+
+    ghost one_value = { tagged_one_value 48 (AllByRecursion T.is_value) (flat_map T.enc) (list_one_content T.enc T.is_value T.first T.is_element T.one_value) };
+
+    fn known(&self) {
+        known_items(self.0.as_slice());
+    }
+
+    fn starts(octet: u8) -> bool {
+        octet == SEQUENCE
+    }
+
+    fn write(&self, alloc: Global, out: &mut Vec<u8>) -> Result<(), AllocError> {
+        let start = out.len();
+        write_items(alloc, self.0.as_slice(), out)?;
+        close_tlv(SEQUENCE, start, out)
+    }
+}
+
+impl<T: Der + Drop> Der for Asn1SequenceOf<T> {
+    fn read_element(alloc: Global, tag: u8, content: &[u8]) -> Result<Self, Asn1DerError> {
+        if tag != SEQUENCE {
+            return Err(Asn1DerError::InvalidData);
+        }
+        Ok(Asn1SequenceOf(read_items(alloc, content)?))
+    }
+}

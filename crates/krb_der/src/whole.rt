@@ -1,0 +1,73 @@
+//! Whole inputs and outputs.
+
+ghost use Rattle.std.specs.Prelude.{◌≡◌, ◌++◌, IfOk, IfErr, OnOk, OnErr};
+ghost use Rattle.krb_leaves.specs.Tlv.{tlv};
+ghost use Rattle.krb_leaves.specs.Reading.{RefusesAll};
+ghost use Rattle.krb_der.specs.Whole.{ReadsValue, TellsCut, RefusesMore, NoDevice};
+ghost use Rattle.krb_leaves.specs.declared.error.Asn1DerError.TheVariants.{OutOfMemory};
+
+use krb_leaves::{Asn1DerError, Der, DerEncode, close_tlv};
+use std::alloc::{AllocError, Global};
+
+/// The value whose encoding the input is, all of it.
+///
+/// A proper front of an encoding is `TruncatedData`, an encoding with octets behind it `InvalidData`; on other octets
+/// the first fault decides, from the left. `Io` is never answered.
+pub fn from_bytes<T: Der + Drop>(alloc: Global, input: &[u8]) -> Result<T, Asn1DerError>
+    ensures valid { IfOk result T.is_value }
+    ensures found { IfOk result (λ v. input.now ≡ T.enc v) }
+    ensures reads { ReadsValue T.is_value T.enc input.now result }
+    ensures cut { TellsCut T.is_value T.enc input.now result }
+    ensures more { RefusesMore T.is_value T.enc input.now result }
+    ensures no_device { IfErr result NoDevice }
+{
+    let (value, taken) = T::read(alloc, input)?;
+    if taken != input.len() {
+        return Err(Asn1DerError::InvalidData);
+    }
+    Ok(value)
+}
+
+/// The encoding of a value. `OutOfMemory` alone is answered in its place.
+pub fn to_vec<T: DerEncode>(alloc: Global, value: &T) -> Result<Vec<u8>, Asn1DerError>
+    ensures ok { IfOk result (λ v. v.items ≡ T.enc value.now) }
+    ensures err { IfErr result (λ e. e ≡ OutOfMemory) }
+{
+    let mut out = Vec::new(alloc);
+    value.write(alloc, &mut out)?;
+    Ok(out)
+}
+
+/// Appends the element of this tag around a value's encoding.
+pub(crate) fn write_around<T: DerEncode>(
+    alloc: Global,
+    tag: u8,
+    value: &T,
+    out: &mut Vec<u8>,
+) -> Result<(), AllocError>
+    ensures ok { OnOk result (out.new.items ≡ out.old.items ++ tlv tag (T.enc value.now)) }
+    ensures err { OnErr result (out.new.items ≡ out.old.items) }
+{
+    let start = out.len();
+    value.write(alloc, out)?;
+    close_tlv(tag, start, out)
+}
+
+/// The value whose encoding the content of an element is, where the element's tag is the wanted one.
+///
+/// `InvalidData` where the tag is another, else as `from_bytes` on the content.
+pub(crate) fn read_around<T: Der + Drop>(
+    alloc: Global,
+    wanted: u8,
+    tag: u8,
+    content: &[u8],
+) -> Result<T, Asn1DerError>
+    ensures valid { IfOk result T.is_value }
+    ensures found { IfOk result (λ v. tlv tag content.now ≡ tlv wanted (T.enc v)) }
+    ensures refused { IfErr result (RefusesAll T.is_value (λ v. tlv wanted (T.enc v)) (tlv tag content.now)) }
+{
+    if tag != wanted {
+        return Err(Asn1DerError::InvalidData);
+    }
+    from_bytes(alloc, content)
+}
