@@ -1,0 +1,10 @@
+pub use Rattle.krb_der.specs.Tlv
+pub use Rattle.krb_der.specs.Encoding
+pub use Rattle.krb_der.specs.Reading
+pub use Rattle.krb_der.specs.Leaf
+pub use Rattle.krb_der.specs.BitString
+pub use Rattle.krb_der.specs.Integer
+pub use Rattle.krb_der.specs.GeneralizedTime
+pub use Rattle.krb_der.specs.Grouping
+pub use Rattle.krb_der.specs.Composite
+pub use Rattle.krb_der.specs.Whole

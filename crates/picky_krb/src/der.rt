@@ -1,0 +1,10 @@
+//! Values in the Distinguished Encoding Rules (ITU-T X.690).
+
+pub use krb_der::{
+    ApplicationTag, Asn1DerError, Asn1SequenceOf, BitStringAsn1, Der, DerEncode, DerSequence,
+    ExplicitContextTag, ExplicitContextTag0, ExplicitContextTag1, ExplicitContextTag2,
+    ExplicitContextTag3, ExplicitContextTag4, ExplicitContextTag5, ExplicitContextTag6,
+    ExplicitContextTag7, ExplicitContextTag8, ExplicitContextTag9, ExplicitContextTag10,
+    GeneralStringAsn1, GeneralizedTimeAsn1, IntegerAsn1, OctetStringAsn1, Optional, composite,
+    from_bytes, to_vec,
+};

@@ -1,0 +1,14 @@
+//! Kerberos messages (RFC 4120), each read from its one DER encoding and written so, and proved to be.
+//!
+//! The modules have the names and the items of the Rust crate `picky-krb`; `der` stands in place of the crates that the
+//! original takes its ASN.1 types from.
+#![tactic(auto)]
+
+pub mod der;
+#[cfg(test)]
+mod first_rows;
+#[cfg(test)]
+mod leaf_rows;
+
+pub use krb_der::constants;
+pub use krb_msg::data_types;
