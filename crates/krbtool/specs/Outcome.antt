@@ -1,0 +1,41 @@
+-- What a run of the program did, and with which status it ended.
+use Rattle.std.specs.Prelude.{◌≡◌, ◌⊎◌, ◌↔◌, ℕ, List, ⊤, Option, Result, Ok, Err, OnOk, IfErr, IfSome, IsErrOf, MatchResult}
+use Rattle.std.specs.Io.KnownBytes.{Keeps, Appends, IsAtEnd}
+use Rattle.krbtool.specs.declared.command.Command.{Command}
+use Rattle.krbtool.specs.declared.failure.Failure.{Failure}
+use Rattle.krbtool.specs.declared.failure.Failure.TheVariants.{Words, Memory, Read, Write}
+use Rattle.krbtool.specs.Commands.{AreWordsOf, IsAnswer}
+
+-- the status of a refusal
+abbrev pub refusal_status : Failure → ℕ
+refusal_status Words = 2
+refusal_status e = 1
+
+-- the status of a run
+abbrev pub status_of : Result ⊤ Failure → ℕ
+status_of (Ok t) = 0
+status_of (Err e) = refusal_status e
+
+-- memory was wanting, or a device failed
+abbrev pub IsOutside : Failure → Type 0
+IsOutside e = (e ≡ Memory) ⊎ (e ≡ Read) ⊎ (e ≡ Write)
+
+-- these words are a command, and this is its answer to the input
+abbrev pub Answers : {V : Type 0} → (V → Type 0) → (V → List ℕ) → List (List ℕ) → List ℕ → List ℕ → Type 0
+Answers is_value enc words input answer = (command : Command) × AreWordsOf command words × IsAnswer is_value enc command input answer
+
+-- With these words: what was read of the input, where its octets are known (`rest` of it is left), and what was
+-- written, where the octets of the output are known (before and after).
+pub record IsRun {V : Type 0} (is_value : V → Type 0) (enc : V → List ℕ) (words : List (List ℕ)) (input rest before after : Option (List ℕ)) (outcome : Result ⊤ Failure) : Type 0 where
+  -- the words are refused exactly where they are no command
+  pub refused : IsErrOf outcome Words ↔ ((command : Command) → ¬ AreWordsOf command words)
+  -- and then nothing is read
+  pub unread : IfErr outcome (λ e. e ≡ Words → Keeps input rest)
+  -- all of the input is read before an answer
+  pub read : OnOk outcome (IsAtEnd rest)
+  -- what is written is the answer to all of the input
+  pub written : OnOk outcome (IfSome input (λ octets. (answer : List ℕ) × Answers is_value enc words octets answer × Appends before after answer))
+  -- where there is an answer, it is written, but for memory and devices
+  pub answered : IfSome input (λ octets. (answer : List ℕ) → Answers is_value enc words octets answer → MatchResult outcome (λ _. Appends before after answer) IsOutside)
+  -- nothing is written before a refusal, but for one of the writing of an answer
+  pub kept : IfErr outcome (λ e. Keeps before after ⊎ ((e ≡ Write) × IfSome input (λ octets. (answer : List ℕ) × Answers is_value enc words octets answer)))

@@ -1,0 +1,106 @@
+//! The program over any reader and any writers.
+
+ghost use Rattle.std.specs.Prelude.{◌≡◌, ◌≢◌, ◌⊎◌, ℕ, List, ⊤, map, IfOk, IfErr, MatchResult, OnOk, IfSome, Result};
+ghost use Rattle.std.specs.Io.KnownBytes.{Keeps, Appends, IsAtEnd};
+ghost use Rattle.std.specs.String.{string_bytes};
+ghost use Rattle.krbtool.specs.declared.failure.Failure.{Failure};
+ghost use Rattle.krbtool.specs.Commands.{IsChecked, IsAnswer};
+ghost use Rattle.krbtool.specs.Outcome.{status_of, refusal_status, IsOutside, IsRun};
+
+use crate::command::{Command, parse};
+use crate::failure::{Failure, der_failure, read_failure};
+use krb_der::{Der, DerEncode, from_bytes, to_vec};
+use krb_msg::data_types::EncTicketPart;
+use std::alloc::Global;
+use std::io::{Read, Write};
+
+/// All that the reader has left.
+fn read_all<R: Read>(alloc: Global, input: &mut R) -> Result<Vec<u8>, Failure>
+    ensures read { IfOk result (λ octets. IfSome (R.remaining input.old) (λ all. octets.items ≡ all)) }
+    ensures end { OnOk result (IsAtEnd (R.remaining input.new)) }
+    ensures refused { IfErr result (λ e. (e ≡ Failure.Memory) ⊎ (e ≡ Failure.Read)) }
+{
+    let mut octets = Vec::new(alloc);
+    input.read_to_end(&mut octets).map_err(read_failure)?;
+    Ok(octets)
+}
+
+/// Writes all of the octets, and lets none wait in the writer.
+fn write_out<W: Write>(output: &mut W, octets: &[u8]) -> Result<(), Failure>
+    ensures written { OnOk result (Appends (W.contents output.old) (W.contents output.new) octets.now) }
+    ensures refused { IfErr result (λ e. e ≡ Failure.Write) }
+{
+    if output.write_all(octets).is_err() || output.flush().is_err() {
+        return Err(Failure::Write);
+    }
+    Ok(())
+}
+
+/// The input again, where it is the encoding of a value of the type.
+fn checked<T: Der + Drop>(alloc: Global, input: &[u8]) -> Result<Vec<u8>, Failure>
+    ensures found { IfOk result (λ made. IsChecked T.is_value T.enc input.now made.items) }
+    ensures only { (answer : List ℕ) → IsChecked T.is_value T.enc input.now answer
+        → MatchResult result (λ made. made.items ≡ answer) IsOutside }
+    ensures words { IfErr result (λ e. e ≢ Failure.Words) }
+{
+    let value: T = from_bytes(alloc, input).map_err(der_failure)?;
+    to_vec(alloc, &value).map_err(der_failure)
+}
+
+/// What the command answers to the input.
+fn answer(alloc: Global, command: &Command, input: &[u8]) -> Result<Vec<u8>, Failure>
+    ensures found { IfOk result (λ made. IsAnswer ⟦<EncTicketPart as DerEncode>⟧.is_value ⟦<EncTicketPart as DerEncode>⟧.enc command.now input.now made.items) }
+    ensures only { (answer : List ℕ) → IsAnswer ⟦<EncTicketPart as DerEncode>⟧.is_value ⟦<EncTicketPart as DerEncode>⟧.enc command.now input.now answer
+        → MatchResult result (λ made. made.items ≡ answer) IsOutside }
+    ensures words { IfErr result (λ e. e ≢ Failure.Words) }
+{
+    match command {
+        Command::Check => checked::<EncTicketPart>(alloc, input),
+    }
+}
+
+/// Reads all of the input, and writes the answer to it.
+fn perform<R: Read, W: Write>(
+    alloc: Global,
+    words: &[String],
+    input: &mut R,
+    output: &mut W,
+) -> Result<(), Failure>
+    ensures { IsRun ⟦<EncTicketPart as DerEncode>⟧.is_value ⟦<EncTicketPart as DerEncode>⟧.enc
+        (map string_bytes words.now) (R.remaining input.old) (R.remaining input.new)
+        (W.contents output.old) (W.contents output.new) result }
+{
+    let command = parse(words)?;
+    let octets = read_all(alloc, input)?;
+    let made = answer(alloc, &command, &octets)?;
+    write_out(output, &made)?;
+    Ok(())
+}
+
+/// Tells a refusal by one line, and gives its status. A failed write of that line changes nothing.
+pub fn refuse<E: Write>(failure: &Failure, faults: &mut E) -> u8
+    ensures { result ≡ refusal_status failure.now }
+{
+    let _ = writeln!(faults, "{failure}");
+    failure.status()
+}
+
+/// One run of the program: its status, and one line to `faults` where it refuses.
+pub fn run<R: Read, W: Write, E: Write>(
+    alloc: Global,
+    words: &[String],
+    input: &mut R,
+    output: &mut W,
+    faults: &mut E,
+) -> u8
+    ensures ran { (outcome : Result ⊤ Failure) × (result ≡ status_of outcome)
+        × IsRun ⟦<EncTicketPart as DerEncode>⟧.is_value ⟦<EncTicketPart as DerEncode>⟧.enc
+        (map string_bytes words.now) (R.remaining input.old) (R.remaining input.new)
+        (W.contents output.old) (W.contents output.new) outcome }
+    ensures quiet { result ≡ 0 → Keeps (E.contents faults.old) (E.contents faults.new) }
+{
+    match perform(alloc, words, input, output) {
+        Ok(()) => 0,
+        Err(failure) => refuse(&failure, faults),
+    }
+}
