@@ -10,6 +10,7 @@ pub mod composite;
 pub mod constants;
 mod context_tag;
 mod fields;
+pub mod laws;
 mod optional;
 mod sequence;
 mod sequence_of;

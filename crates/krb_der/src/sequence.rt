@@ -1,7 +1,8 @@
 //! Structs that are SEQUENCEs.
 
-ghost use Rattle.std.specs.Prelude.{◌≡◌, ℕ, Bool, List, ◌++◌, IfOk, IfErr, OnOk, OnErr};
+ghost use Rattle.std.specs.Prelude.{◌≡◌, ℕ, Bool, List, ◌++◌, Err, IfOk, IfErr, OnOk, OnErr};
 ghost use Rattle.krb_leaves.specs.Tlv.{tlv};
+ghost use Rattle.krb_leaves.specs.declared.error.Asn1DerError.TheVariants.{InvalidData};
 ghost use Rattle.krb_leaves.specs.Reading.{TakesFront, RefusesAll};
 ghost use Rattle.krb_der.specs.Composite.{nothing};
 ghost use Rattle.krb_der.specs.Grouping.{BeginSo, OneReading, ReadsFields};
@@ -82,6 +83,7 @@ pub fn read_sequence<S: Sequence>(alloc: Global, tag: u8, content: &[u8]) -> Res
     ensures valid { IfOk result (λ v. S.Fields.are_values (S.fields v)) }
     ensures found { IfOk result (λ v. tlv tag content.now ≡ tlv 48 (S.Fields.octets (S.fields v))) }
     ensures refused { IfErr result (RefusesAll (λ v. S.Fields.are_values (S.fields v)) (λ v. tlv 48 (S.Fields.octets (S.fields v))) (tlv tag content.now)) }
+    ensures other_tag { (tag ≡ 48 → ⊥) → result ≡ Err InvalidData }
 {
     if tag != SEQUENCE {
         return Err(Asn1DerError::InvalidData);

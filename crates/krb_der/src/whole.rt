@@ -1,10 +1,10 @@
 //! Whole inputs and outputs.
 
-ghost use Rattle.std.specs.Prelude.{◌≡◌, ◌++◌, IfOk, IfErr, OnOk, OnErr};
+ghost use Rattle.std.specs.Prelude.{◌≡◌, ◌++◌, Err, IfOk, IfErr, OnOk, OnErr};
 ghost use Rattle.krb_leaves.specs.Tlv.{tlv};
 ghost use Rattle.krb_leaves.specs.Reading.{RefusesAll};
 ghost use Rattle.krb_der.specs.Whole.{ReadsValue, TellsCut, RefusesMore, NoDevice};
-ghost use Rattle.krb_leaves.specs.declared.error.Asn1DerError.TheVariants.{OutOfMemory};
+ghost use Rattle.krb_leaves.specs.declared.error.Asn1DerError.TheVariants.{InvalidData, OutOfMemory};
 
 use krb_leaves::{Asn1DerError, Der, DerEncode, close_tlv};
 use std::alloc::{AllocError, Global};
@@ -65,6 +65,7 @@ pub(crate) fn read_around<T: Der + Drop>(
     ensures valid { IfOk result T.is_value }
     ensures found { IfOk result (λ v. tlv tag content.now ≡ tlv wanted (T.enc v)) }
     ensures refused { IfErr result (RefusesAll T.is_value (λ v. tlv wanted (T.enc v)) (tlv tag content.now)) }
+    ensures other_tag { (tag ≡ wanted → ⊥) → result ≡ Err InvalidData }
 {
     if tag != wanted {
         return Err(Asn1DerError::InvalidData);

@@ -2,3 +2,4 @@
 #![tactic(auto)]
 
 pub mod data_types;
+pub mod laws;
