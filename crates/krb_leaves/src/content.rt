@@ -1,9 +1,10 @@
 //! The contents of leaves.
 
-ghost use Rattle.std.specs.Prelude.{◌≡◌, List, ℕ, IfOk, IfErr};
+ghost use Rattle.std.specs.Prelude.{◌≡◌, ◌⊎◌, List, ℕ, IfOk, IfErr, IsErrAnd};
 ghost use Rattle.krb_leaves.specs.Tlv.{tlv};
 ghost use Rattle.krb_leaves.specs.Encoding.{OneValue};
 ghost use Rattle.krb_leaves.specs.Reading.{RefusesAll};
+ghost use Rattle.krb_leaves.specs.declared.error.Asn1DerError.TheVariants as errors;
 
 use crate::error::Asn1DerError;
 use std::alloc::Global;
@@ -23,7 +24,8 @@ pub(crate) trait Content {
     fn read_content(alloc: Global, content: &[u8]) -> Result<Self, Asn1DerError>
         ensures valid { IfOk result has_content }
         ensures found { IfOk result (λ v. content.now ≡ octets v) }
-        ensures refused { IfErr result (RefusesAll has_content octets content.now) };
+        ensures refused { IfErr result (RefusesAll has_content octets content.now) }
+        ensures fault { IfErr result (λ e. (e ≡ errors.InvalidData) ⊎ (e ≡ errors.OutOfMemory)) };
 }
 
 /// The leaf whose element has this tag and content, where the tag is the wanted one; another is `InvalidData`.
@@ -36,6 +38,8 @@ pub(crate) fn read_tagged<C: Content>(
     ensures valid { IfOk result C.has_content }
     ensures found { IfOk result (λ v. tlv tag content.now ≡ tlv wanted (C.octets v)) }
     ensures refused { IfErr result (RefusesAll C.has_content (λ v. tlv wanted (C.octets v)) (tlv tag content.now)) }
+    ensures fault { IfErr result (λ e. (e ≡ errors.InvalidData) ⊎ (e ≡ errors.OutOfMemory)) }
+    ensures wrong_tag { (tag ≡ wanted → ⊥) → IsErrAnd result (λ e. e ≡ errors.InvalidData) }
 {
     if tag != wanted {
         return Err(Asn1DerError::InvalidData);

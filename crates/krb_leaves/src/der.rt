@@ -1,9 +1,10 @@
 //! Types whose values have one encoding each.
 
-ghost use Rattle.std.specs.Prelude.{◌≡◌, ℕ, Bool, List, ◌++◌, IfOk, IfErr, OnOk, OnErr};
+ghost use Rattle.std.specs.Prelude.{◌≡◌, ◌<◌, ℕ, Bool, false, List, ◌++◌, length, slice_index, IfOk, IfErr, IsErrAnd, OnOk, OnErr};
 ghost use Rattle.krb_leaves.specs.Tlv.{tlv};
 ghost use Rattle.krb_leaves.specs.Encoding.{IsElement, OneValue};
 ghost use Rattle.krb_leaves.specs.Reading.{TakesFront, RefusesFront, RefusesAll, Encodings};
+ghost use Rattle.krb_leaves.specs.declared.error.Asn1DerError.TheVariants.{InvalidData};
 
 use crate::error::Asn1DerError;
 use crate::tlv::read_tlv;
@@ -48,7 +49,8 @@ pub trait Der: DerEncode {
     fn read_element(alloc: Global, tag: u8, content: &[u8]) -> Result<Self, Asn1DerError>
         ensures valid { IfOk result Self.is_value }
         ensures found { IfOk result (λ v. tlv tag content.now ≡ Self.enc v) }
-        ensures refused { IfErr result (RefusesAll Self.is_value Self.enc (tlv tag content.now)) };
+        ensures refused { IfErr result (RefusesAll Self.is_value Self.enc (tlv tag content.now)) }
+        ensures wrong_tag { Self.first tag ≡ false → IsErrAnd result (λ e. e ≡ InvalidData) };
 
     /// The value whose encoding stands at the front of the input, and the number of its octets.
     ///
@@ -58,6 +60,7 @@ pub trait Der: DerEncode {
         ensures valid { IfOk result (λ p. Self.is_value p.0) }
         ensures found { IfOk result (λ p. TakesFront (Self.enc p.0) p.1 input.now) }
         ensures refused { IfErr result (RefusesFront (Encodings Self.is_value Self.enc) input.now) }
+        ensures wrong_tag { 0 < length input.now → Self.first (slice_index input.now 0) ≡ false → IsErrAnd result (λ e. e ≡ InvalidData) }
     {
         if input.is_empty() {
             return Err(Asn1DerError::TruncatedData);

@@ -73,9 +73,7 @@ impl Eq for GeneralStringAsn1 {
 /// Tells a proof that a text is valid UTF-8. It does nothing.
 fn known_text(text: &str)
     ensures { IsUtf8 text.now }
-{
-    let _octets = text.as_bytes();
-}
+{}
 
 impl Content for GeneralStringAsn1 {
     ghost octets = { λ v. v };

@@ -1,6 +1,6 @@
 //! INTEGER.
 
-ghost use Rattle.std.specs.Prelude.{◌≡◌, ◌==◌, ℕ, ◌^◌, ◌<◌, ◌≤◌, ℤ, pos, length, drop, FitsSigned, MatchBool, MatchOption, SomeIff, IfOk, IfErr, OnErr, []};
+ghost use Rattle.std.specs.Prelude.{◌≡◌, ◌==◌, ℕ, ◌^◌, ◌<◌, ◌≤◌, ℤ, pos, length, drop, slice_index, FitsSigned, MatchBool, MatchOption, SomeIff, IfOk, IfErr, OnErr, []};
 ghost use Rattle.std.specs.Int.{w64};
 ghost use Rattle.std.specs.Int.Digits.{number_from_digits};
 ghost use Rattle.std.specs.Cmp.Lexicographic.{pointwise};
@@ -104,6 +104,7 @@ impl IntegerAsn1 {
     pub fn from_bytes_be_unsigned(octets: Vec<u8>) -> Result<Self, Asn1DerError>
         ensures value { IfOk result (λ v. v ≡ pos (number_from_digits 256 octets.items)) }
         ensures err { IfErr result (λ e. e ≡ OutOfMemory) }
+        ensures needed { OnErr result (0 < length octets.items → 128 ≤ slice_index octets.items 0) }
     {
         let mut octets = octets;
         if octets.first().is_some_and(|first| *first >= 128) {

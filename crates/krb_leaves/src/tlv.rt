@@ -1,9 +1,10 @@
 //! Tags, lengths and contents.
 
-ghost use Rattle.std.specs.Prelude.{◌≡◌, ℕ, ◌^◌, ◌<◌, ◌≤◌, ◌++◌, length, take, drop, IfOk, IfErr, OnOk, OnErr};
+ghost use Rattle.std.specs.Prelude.{◌≡◌, ◌⊎◌, ℕ, ◌^◌, ◌-◌, ◌<◌, ◌≤◌, ◌++◌, length, take, drop, slice_index, IfOk, IfErr, OnOk, OnErr};
 ghost use Rattle.std.specs.Int.Digits.{digits_of, number_from_digits};
 ghost use Rattle.krb_leaves.specs.Tlv.{len, header, tlv};
 ghost use Rattle.krb_leaves.specs.Reading.{TakesFront, RefusesFront, Lengths, Elements};
+ghost use Rattle.krb_leaves.specs.declared.error.Asn1DerError.TheVariants as errors;
 
 use crate::error::Asn1DerError;
 use std::alloc::AllocError;
@@ -25,6 +26,9 @@ pub fn read_length(input: &[u8]) -> Result<(usize, usize), Asn1DerError>
     ensures found { IfOk result (λ p. TakesFront (len p.0) p.1 input.now) }
     ensures fits { IfOk result (λ p. p.0 < 2 ^ 64) }
     ensures refused { IfErr result (RefusesFront Lengths input.now) }
+    ensures missing { IfErr result (λ e. e ≡ errors.TruncatedData → length input.now ≤ slice_index input.now 0 - 128) }
+    ensures unsupported { IfErr result (λ e. e ≡ errors.UnsupportedValue → (slice_index input.now 0 ≡ 128) ⊎ (136 < slice_index input.now 0)) }
+    ensures heapless { IfErr result (λ e. e ≡ errors.OutOfMemory → ⊥) }
 {
     if input.is_empty() {
         return Err(Asn1DerError::TruncatedData);
@@ -55,6 +59,7 @@ pub fn read_length(input: &[u8]) -> Result<(usize, usize), Asn1DerError>
 pub fn read_tlv(tag: u8, input: &[u8]) -> Result<(&[u8], usize), Asn1DerError>
     ensures found { IfOk result (λ p. TakesFront (tlv tag p.0.now) p.1 input.now) }
     ensures refused { IfErr result (RefusesFront (Elements tag) input.now) }
+    ensures heapless { IfErr result (λ e. e ≡ errors.OutOfMemory → ⊥) }
 {
     if input.is_empty() {
         return Err(Asn1DerError::TruncatedData);
