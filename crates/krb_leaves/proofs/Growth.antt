@@ -1,8 +1,8 @@
 -- Writing a header.
-use Rattle.std.proofs.Common.{◌≡◌, ℕ, set, ◌+◌, ◌-◌, length-drop, ◌<◌, ◌≤◌, List, [], ◌∷◌, ◌++◌, length, take, drop, refl, sym, ap, ◌∙◌, append_assoc, arith}
-use Rattle.std.proofs.lemmas.List.{set_at, take_at, length-take-le, take-take, length-append, take_rest, drop-append-le, drop_at, drop_all, take-append-le, append-nil}
+use Rattle.std.proofs.Common.{◌≡◌, ℕ, ◌+◌, ◌-◌, length-drop, ◌<◌, ◌≤◌, List, [], ◌∷◌, ◌++◌, length, take, drop, refl, sym, ap, ◌∙◌, append_assoc, arith}
+use Rattle.std.proofs.lemmas.List.{take_at, length-take-le, take-take, length-append, take_rest, drop-append-le, drop_at, drop_all, take-append-le, append-nil}
 use Rattle.std.specs.Int.Digits.{digits_of}
-use Rattle.krb_leaves.specs.Tlv.{len, header, tlv}
+use Rattle.krb_leaves.specs.Tlv.{header, tlv}
 use Rattle.krb_leaves.specs.TlvLaws.{len-small, len-large}
 
 pub header_small : (out : List ℕ) (tag n : ℕ) (a b : List ℕ) → n < 128 → a ≡ out ++ tag ∷ [] → b ≡ a ++ n ∷ [] → b ≡ out ++ header tag n
@@ -43,12 +43,3 @@ closed_length s rot start le e =
     let mid : length (take (length s - start) (drop start s)) ≡ length (drop start s) = ap length (take_rest s start) in
     let post : drop (length s - start) (drop start s) ≡ [] = drop_all (length s - start) (drop start s) (omega (arith, length-drop start s)) in
     rw post (omega (arith, e, mid, length-drop start s, length-take-le start s le, length-append rot [], length-append (take start s) (rot ++ [])))
-
--- another tag in the place of the first
-pub retagged : (out e c new : List ℕ) (start t s : ℕ) → start ≡ length out → e ≡ tlv s c → new ≡ set (out ++ e) start t → new ≡ out ++ tlv t c
-unfolding tlv
-retagged out e c new start t s same f g = rw (g, f) (set_at out s (len (length c) ++ c) t start (sym same))
-
-pub retagged_room : (out e c : List ℕ) (start s : ℕ) → start ≡ length out → e ≡ tlv s c → start < length (out ++ e)
-unfolding tlv
-retagged_room out e c start s same f = omega (arith, same, length-append out e, ap length f)

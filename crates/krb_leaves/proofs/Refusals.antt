@@ -10,14 +10,6 @@ use Rattle.krb_leaves.specs.Reading.{TakesFront, NoFront, NoBeginning, RefusesFr
 use Rattle.krb_leaves.proofs.Elements.{nothing_read, other_tag, same_first}
 use Rattle.krb_leaves.proofs.Lengths.{NoMeet, refused_from_meet, front_from_meet}
 
--- where more is an encoding, more is refused
-pub refuses_fewer : (P Q : List ℕ → Type 0) (input : List ℕ) (e : Asn1DerError) → ((b : List ℕ) → Q b → P b) → RefusesFront P input e → RefusesFront Q input e
-refuses_fewer P Q input errors.OutOfMemory h r = tt
-refuses_fewer P Q input errors.TruncatedData h r = λ b rest q. r b rest (h b q)
-refuses_fewer P Q input errors.InvalidData h r = (λ b rest q. r.0 b rest (h b q), λ b rest q. r.1 b rest (h b q))
-refuses_fewer P Q input errors.UnsupportedValue h r = (λ b rest q. r.0 b rest (h b q), λ b rest q. r.1 b rest (h b q))
-refuses_fewer P Q input (errors.Io io) h r = r
-
 -- where what meets the input is an encoding too, more is refused
 refuses_met : (P Q : List ℕ → Type 0) (input : List ℕ) (e : Asn1DerError) → ((b x y : List ℕ) → Q b → input ++ x ≡ b ++ y → P b) → RefusesFront P input e → RefusesFront Q input e
 refuses_met P Q input errors.OutOfMemory h r = tt
@@ -77,10 +69,3 @@ no_content is_content content t c e r = refuses_other is_content content is_cont
 -- a value is refused as its parts are
 pub parts_refused : {A F : Type 0} (parts : A → F) (is_content : F → Type 0) (content : F → List ℕ) (input : List ℕ) (e : Asn1DerError) → RefusesAll is_content content input e → RefusesAll (λ v. is_content (parts v)) (λ v. content (parts v)) input e
 parts_refused parts is_content content input e r = refuses_other is_content content (λ v. is_content (parts v)) (λ v. content (parts v)) input input e (λ none v hv k. none (parts v) hv k) r
-
-pub retagged_refused : {A : Type 0} (t s : ℕ) (is_value : A → Type 0) (enc inner : A → List ℕ) (c : List ℕ) (e : Asn1DerError) → RefusesAll is_value enc (tlv s c) e → RefusesAll (λ v. is_value v × (enc v ≡ tlv s (inner v))) (λ v. tlv t (inner v)) (tlv t c) e
-retagged_refused t s is_value enc inner c e r = refuses_other is_value enc (λ v. is_value v × (enc v ≡ tlv s (inner v))) (λ v. tlv t (inner v)) (tlv s c) (tlv t c) e
-    (λ none v hv k. none v hv.0 (ap (λ (l : List ℕ). tlv s l) (tlv_same t t c (inner v) k) ∙ sym hv.1)) r
-
-pub retagged_found : (t s : ℕ) (c d e : List ℕ) → tlv s c ≡ e → e ≡ tlv s d → tlv t c ≡ tlv t d
-retagged_found t s c d e f g = ap (λ (l : List ℕ). tlv t l) (tlv_same s s c d (f ∙ g))
