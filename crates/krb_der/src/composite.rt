@@ -98,15 +98,25 @@
 //!    the fields, `tt` for a field and `only_tag TAG _ refl` for one that may be absent, TAG being its first octet in
 //!    decimal (`a1` is 161).
 //!
-//! The file imports, for its clauses:
+//! The file imports what the code names and what its clauses name; the names marked are needed only by fields that may
+//! be absent:
 //!
 //! ```text
+//! use krb_der::composite::{Both, Field, FieldRefs, Fields, SEQUENCE, Sequence, read_sequence, write_sequence};
+//! use krb_der::composite::{OptionalField}; // may be absent
+//! use krb_der::{Asn1DerError, Der, DerEncode, DerSequence, Optional, field_refs, fields};
+//! use krb_der::{ExplicitContextTag0, ExplicitContextTag1, IntegerAsn1, OctetStringAsn1};
+//! use std::alloc::{AllocError, Global};
 //! ghost use Rattle.std.specs.Prelude.{◌==◌, refl};
-//! ghost use Rattle.krb_der.specs.Composite.{both, field, optional_field};
+//! ghost use Rattle.krb_der.specs.Composite.{both, field, optional_field}; // optional_field: may be absent
 //! ghost use Rattle.krb_der.specs.FieldLaws.{sequence_one_value};
 //! ghost use Rattle.krb_der.specs.Tlv.{tlv};
-//! ghost use Rattle.krb_der.specs.TlvLaws.{only_tag, tagged_element};
+//! ghost use Rattle.krb_der.specs.TlvLaws.{only_tag, tagged_element}; // only_tag: may be absent
 //! ```
+//!
+//! The types of the fields are: `IntegerAsn1` for INTEGER, Int32 and UInt32, `bool` for BOOLEAN, `OctetStringAsn1` for
+//! OCTET STRING, `BitStringAsn1` for BIT STRING, `Asn1SequenceOf<T>` for SEQUENCE OF, `ExplicitContextTagN<T>` for an
+//! explicit tag `[N]`, and `ApplicationTag<T, N>` for `[APPLICATION N]`.
 //!
 //! Its crate names `krb_der` in crates.txt, for the macros. A CHOICE, or another type of several tags, implements
 //! `DerEncode` and `Der` by itself.

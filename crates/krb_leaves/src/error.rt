@@ -16,7 +16,7 @@ pub enum Asn1DerError {
     /// A wrong tag, a needless length or integer octet, a bad leaf, or octets left over.
     #[error("the octets are no encoding of the value's type")]
     InvalidData,
-    /// Tag, length or content octets are missing, or a mandatory field is.
+    /// Tag, length or content octets are missing, or a mandatory field is where the octets of its sequence end.
     #[error("the octets end too early")]
     TruncatedData,
     /// An indefinite length, or one of more than eight octets.
