@@ -1,0 +1,2 @@
+pub mod CryptoError
+pub mod Hmac
