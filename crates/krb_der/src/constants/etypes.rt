@@ -1,0 +1,10 @@
+//! Numbers of encryption types (RFC 3961, 8; RFC 3962, 7).
+
+/// Triple DES in CBC mode with HMAC-SHA1 and derived keys (RFC 3961, 6.3).
+pub const DES3_CBC_SHA1_KD: usize = 16;
+
+/// AES of 128-bit keys with ciphertext stealing and HMAC-SHA1 cut to 96 bits (RFC 3962).
+pub const AES128_CTS_HMAC_SHA1_96: usize = 17;
+
+/// AES of 256-bit keys with ciphertext stealing and HMAC-SHA1 cut to 96 bits (RFC 3962).
+pub const AES256_CTS_HMAC_SHA1_96: usize = 18;

@@ -1,0 +1,3 @@
+pub mod Sealing
+pub mod Suites
+pub mod WellKnown
