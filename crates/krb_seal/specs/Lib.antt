@@ -1,0 +1,2 @@
+pub mod PartError
+pub mod Filled

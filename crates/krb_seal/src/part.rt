@@ -1,0 +1,83 @@
+//! Sealing and opening the encoding of a value, by a cipher that is lent.
+
+ghost use Rattle.std.specs.Prelude.{◌≡◌, ◌≢◌, ℕ, ◌↔◌, List, ◌++◌, length, IsTrue, IfOk, IfErr, MatchResult, IsErrAnd};
+ghost use Rattle.krb_block.specs.CryptoError.{IsMemoryOr};
+ghost use Rattle.krb_der.specs.Reading.{Encodings};
+ghost use Rattle.krb_der.specs.Whole.{Answers, FailsWith};
+ghost use Rattle.krb_suite.specs.Sealing.{IsGiven, IsOfNone, IsTheOne, Opens};
+ghost use Rattle.krb_seal.specs.Filled.{IsFewZeros, RefusesFilled};
+ghost use Rattle.krb_seal.specs.PartError.{IsMemory, IsMemoryOrElse, IsCrypto, IfCrypto, IfDer};
+
+use crate::error::PartError;
+use krb_der::{Asn1DerError, Der, to_vec};
+use krb_suite::{Cipher, KerberosCryptoError};
+use std::alloc::Global;
+
+/// The encoding of a value, sealed by the lent cipher under this key, key usage and confounder.
+///
+/// The confounder has the cipher's `confounder_size` octets. A key that has not `key_size` octets is
+/// `Crypto(KeyLength)`; nothing else is refused, but for want of memory.
+pub fn seal_part<T: Der>(
+    alloc: Global,
+    cipher: &dyn Cipher,
+    key: &[u8],
+    key_usage: i32,
+    confounder: &[u8],
+    value: &T,
+) -> Result<Vec<u8>, PartError>
+    requires { length confounder.now ≡ confounder_octets cipher.now }
+    ensures key { IfOk result (λ _. length key.now ≡ key_octets cipher.now) }
+    ensures sealed { IfOk result (λ octets. IsTheOne (meaning cipher.now key.now key_usage confounder.now (T.enc value.now)) octets.items) }
+    ensures refused { IfErr result (λ e. IsMemoryOrElse e ((length key.now ≢ key_octets cipher.now) × (e ≡ PartError.Crypto (KerberosCryptoError.KeyLength (length key.now) (key_octets cipher.now))))) }
+{
+    let payload = to_vec(alloc, value)?;
+    Ok(cipher.encrypt(alloc, key, key_usage, &payload, confounder)?)
+}
+
+/// The value whose encoding the cipher sealed to these octets, under this key and key usage and some confounder.
+///
+/// What the cipher refuses is `Crypto`: a key that has not `key_size` octets, and octets that it seals nothing to. What
+/// it opens is `Der` where no encoding stands in front of it, and `Der(InvalidData)` where one does and what follows is
+/// not fewer than `fill_size` zeros.
+pub fn open_part<T: Der + Drop>(
+    alloc: Global,
+    cipher: &dyn Cipher,
+    key: &[u8],
+    key_usage: i32,
+    bytes: &[u8],
+) -> Result<T, PartError>
+    ensures key { IfOk result (λ _. length key.now ≡ key_octets cipher.now) }
+    ensures valid { IfOk result T.is_value }
+    ensures opened { IfOk result (λ v. IsGiven (meaning cipher.now key.now key_usage) (confounder_octets cipher.now) bytes.now (T.enc v)) }
+    ensures only { length key.now ≡ key_octets cipher.now → (v : T) → T.is_value v → IsGiven (meaning cipher.now key.now key_usage) (confounder_octets cipher.now) bytes.now (T.enc v) → MatchResult result (λ w. w ≡ v) IsMemory }
+    ensures behind { length key.now ≡ key_octets cipher.now → (v : T) (rest : List ℕ) → T.is_value v → IsGiven (meaning cipher.now key.now key_usage) (confounder_octets cipher.now) bytes.now (T.enc v ++ rest) → ¬ IsFewZeros (fill_octets cipher.now) rest → IsErrAnd result (λ e. IsMemoryOrElse e (e ≡ PartError.Der Asn1DerError.InvalidData)) }
+    ensures other_key { length key.now ≢ key_octets cipher.now → IsErrAnd result IsCrypto }
+    ensures crypto { length key.now ≡ key_octets cipher.now → IfErr result (λ e. IfCrypto e (λ why. IsMemoryOr why (IsOfNone (IsGiven (meaning cipher.now key.now key_usage) (confounder_octets cipher.now) bytes.now)))) }
+    ensures der { IfErr result (λ e. IfDer e (λ why. (filled : List ℕ) × Opens (fill_octets cipher.now) (IsGiven (meaning cipher.now key.now key_usage) (confounder_octets cipher.now) bytes.now) filled × RefusesFilled (Encodings T.is_value T.enc) (fill_octets cipher.now) filled why)) }
+{
+    let filled = cipher.decrypt(alloc, key, key_usage, bytes)?;
+    Ok(read_filled(alloc, &filled, cipher.fill_size())?)
+}
+
+/// The value whose encoding stands in front of the octets, with fewer than `size` zeros behind it.
+fn read_filled<T: Der + Drop>(alloc: Global, filled: &[u8], size: usize) -> Result<T, Asn1DerError>
+    ensures valid { IfOk result T.is_value }
+    ensures found { IfOk result (λ v. (rest : List ℕ) × (filled.now ≡ T.enc v ++ rest) × IsFewZeros size rest) }
+    ensures only { (v : T) (rest : List ℕ) → T.is_value v → filled.now ≡ T.enc v ++ rest → IsFewZeros size rest → Answers result v }
+    ensures behind { (v : T) (rest : List ℕ) → T.is_value v → filled.now ≡ T.enc v ++ rest → ¬ IsFewZeros size rest → FailsWith result Asn1DerError.InvalidData }
+    ensures refused { IfErr result (RefusesFilled (Encodings T.is_value T.enc) size filled.now) }
+{
+    let (value, taken) = T::read(alloc, filled)?;
+    if is_few_zeros(&filled[taken..], size) {
+        Ok(value)
+    } else {
+        Err(Asn1DerError::InvalidData)
+    }
+}
+
+/// Whether the octets are fewer than `size`, and all zero.
+fn is_few_zeros(octets: &[u8], size: usize) -> bool
+    ensures { IsTrue result ↔ IsFewZeros size octets.now }
+{
+    octets.len() < size && octets.iter().all(|octet| *octet == 0)
+}
