@@ -4,11 +4,15 @@
 //! original takes its ASN.1 types from.
 #![tactic(auto)]
 
+pub mod crypto;
+#[cfg(test)]
+mod crypto_rows;
 pub mod der;
 #[cfg(test)]
 mod first_rows;
 #[cfg(test)]
 mod leaf_rows;
+pub mod seal;
 
 pub use krb_der::constants;
 pub use krb_msg::data_types;

@@ -1,0 +1,143 @@
+//! Published HMAC values, the constants of derived keys, and the numbers of the suites.
+
+use crate::constants::{cksum_types, etypes};
+use crate::crypto::{
+    ChecksumSuite, CipherSuite, KERBEROS, KerberosCryptoError, hmac_sha1, usage_kc, usage_ke,
+    usage_ki,
+};
+use std::alloc::Global;
+use std::process::Abort;
+use std::test::Fail;
+
+/// Compares an HMAC-SHA1 with its published value, cut and filled too.
+fn has_hmac(
+    rt: &impl Abort,
+    alloc: Global,
+    key: &[u8],
+    payload: &[u8],
+    mac: &[u8; 20],
+) -> Result<(), Fail> {
+    assert_eq!(rt;
+        hmac_sha1(alloc, key, payload, 20)?.as_slice(),
+        mac.as_slice()
+    );
+    assert_eq!(rt; hmac_sha1(alloc, key, payload, 12)?.as_slice(), &mac[..12]);
+    assert!(rt; hmac_sha1(alloc, key, payload, 0)?.is_empty());
+    let filled = hmac_sha1(alloc, key, payload, 22)?;
+    assert_eq!(rt; &filled[..20], mac.as_slice());
+    assert_eq!(rt; &filled[20..], b"\x00\x00".as_slice());
+    Ok(())
+}
+
+/// RFC 2202, 3: test cases 1, 2 and 6; the last one's key is longer than a block.
+#[test]
+fn hmac_rows(rt: HostRuntime) -> Result<(), Fail> {
+    let alloc = rt.alloc();
+    has_hmac(
+        &rt,
+        alloc,
+        &[0x0b; 20],
+        b"Hi There",
+        b"\xb6\x17\x31\x86\x55\x05\x72\x64\xe2\x8b\xc0\xb6\xfb\x37\x8c\x8e\xf1\x46\xbe\x00",
+    )?;
+    has_hmac(
+        &rt,
+        alloc,
+        b"Jefe",
+        b"what do ya want for nothing?",
+        b"\xef\xfc\xdf\x6a\xe5\xeb\x2f\xa2\xd2\x74\x16\xd5\xf1\x84\xdf\x9c\x25\x9a\x7c\x79",
+    )?;
+    has_hmac(
+        &rt,
+        alloc,
+        &[0xaa; 80],
+        b"Test Using Larger Than Block-Size Key - Hash Key First",
+        b"\xaa\x4a\xe5\xe1\x52\x72\xd0\x0e\x95\x70\x56\x37\xce\x8a\x3b\x55\xed\x40\x21\x12",
+    )?;
+    Ok(())
+}
+
+#[test]
+fn usage_rows(rt: HostRuntime) -> Result<(), Fail> {
+    assert_eq!(rt; usage_ke(5), *b"\x00\x00\x00\x05\xaa");
+    assert_eq!(rt; usage_ki(5), *b"\x00\x00\x00\x05\x55");
+    assert_eq!(rt; usage_kc(5), *b"\x00\x00\x00\x05\x99");
+    assert_eq!(rt; usage_ke(0x0102_0304), *b"\x01\x02\x03\x04\xaa");
+    assert_eq!(rt; usage_ki(-2), *b"\xff\xff\xff\xfe\x55");
+    assert_eq!(rt; KERBEROS.as_slice(), b"kerberos".as_slice());
+    Ok(())
+}
+
+/// Every number of an encryption type and its neighbours (RFC 3961, 8; RFC 3962, 7).
+#[test]
+fn cipher_suite_rows(rt: HostRuntime) -> Result<(), Fail> {
+    assert_eq!(rt; etypes::DES3_CBC_SHA1_KD, 16);
+    assert_eq!(rt; etypes::AES128_CTS_HMAC_SHA1_96, 17);
+    assert_eq!(rt; etypes::AES256_CTS_HMAC_SHA1_96, 18);
+    let rows = [
+        (16, CipherSuite::Des3CbcSha1Kd),
+        (17, CipherSuite::Aes128CtsHmacSha196),
+        (18, CipherSuite::Aes256CtsHmacSha196),
+    ];
+    let alloc = rt.alloc();
+    for (number, suite) in &rows {
+        assert_eq!(rt; CipherSuite::try_from(*number)?, *suite);
+        let octet = *number as u8;
+        assert_eq!(rt; CipherSuite::from_octets(alloc, &[octet])?, *suite);
+        assert_eq!(rt; u32::from(suite), octet as u32);
+        assert_eq!(rt; u8::from(suite), octet);
+        assert_eq!(rt; usize::from(suite.clone()?), *number);
+        assert_eq!(rt; u8::from(suite.clone()?), octet);
+    }
+    for number in [0, 15, 19, 256 + 17] {
+        let refusal = CipherSuite::try_from(number).err();
+        assert!(rt;
+            matches!(
+                refusal,
+                Some(KerberosCryptoError::AlgorithmIdentifier(n)) if n == number
+            )
+        );
+    }
+    for octets in [b"".as_slice(), b"\x0f", b"\x13", b"\x11\x11", b"\x00\x11"] {
+        let refusal = CipherSuite::from_octets(alloc, octets).err();
+        assert!(rt;
+            matches!(
+                &refusal,
+                Some(KerberosCryptoError::AlgorithmIdentifierData(data)) if data.as_slice() == octets
+            )
+        );
+    }
+    Ok(())
+}
+
+/// Every number of a checksum type and its neighbours (RFC 3961, 8; RFC 3962, 7).
+#[test]
+fn checksum_suite_rows(rt: HostRuntime) -> Result<(), Fail> {
+    assert_eq!(rt; cksum_types::HMAC_SHA1_DES3_KD, 12);
+    assert_eq!(rt; cksum_types::HMAC_SHA1_96_AES128, 15);
+    assert_eq!(rt; cksum_types::HMAC_SHA1_96_AES256, 16);
+    let rows = [
+        (12, ChecksumSuite::HmacSha1Des3Kd),
+        (15, ChecksumSuite::HmacSha196Aes128),
+        (16, ChecksumSuite::HmacSha196Aes256),
+    ];
+    for (number, suite) in &rows {
+        assert_eq!(rt; ChecksumSuite::try_from(*number)?, *suite);
+        let octet = *number as u8;
+        assert_eq!(rt; u32::from(suite), octet as u32);
+        assert_eq!(rt; u8::from(suite), octet);
+        assert_eq!(rt; usize::from(suite.clone()?), *number);
+        assert_eq!(rt; u32::from(suite.clone()?), octet as u32);
+        assert_eq!(rt; u8::from(suite.clone()?), octet);
+    }
+    for number in [0, 11, 13, 14, 17, 256 + 12] {
+        let refusal = ChecksumSuite::try_from(number).err();
+        assert!(rt;
+            matches!(
+                refusal,
+                Some(KerberosCryptoError::AlgorithmIdentifier(n)) if n == number
+            )
+        );
+    }
+    Ok(())
+}

@@ -1,0 +1,19 @@
+-- What the cipher of the tests writes.
+use Rattle.std.specs.Prelude.{◌≡◌, ◌≢◌, ◌<◌, ◌≤◌, ◌%◌, ◌⊎◌, ℕ, List, [], ◌∷◌, ◌++◌, map, bit_xor}
+use Rattle.krb_block.specs.declared.error.KerberosCryptoError.{KerberosCryptoError}
+use Rattle.krb_block.specs.declared.error.KerberosCryptoError.TheVariants.{CipherLength, CipherUnpad}
+use Rattle.krb_der.specs.Encoding.{IsOctets}
+use Rattle.krb_suite.specs.Sealing.{IsFill}
+
+-- The confounder and the payload, filled to a multiple of four octets, each combined with the key's one octet.
+pub record IsToy (key confounder payload octets : List ℕ) : Type 0 where
+  pub octet : ℕ
+  pub filled : List ℕ
+  pub key_is : key ≡ octet ∷ []
+  pub fill : IsFill 4 (confounder ++ payload) filled
+  pub of_octets : IsOctets filled
+  pub xored : octets ≡ map (λ x. bit_xor x octet) filled
+
+-- why so many octets are not opened: first too few for a confounder, then no whole blocks
+abbrev pub IsToyRefusal : ℕ → KerberosCryptoError → Type 0
+IsToyRefusal n e = ((n < 4) × (e ≡ CipherLength n 4)) ⊎ ((4 ≤ n) × (n % 4 ≢ 0) × (e ≡ CipherUnpad))
