@@ -1,7 +1,7 @@
 -- HMAC (RFC 2104) over SHA-1 (FIPS 180-4). A key and a message are lists of octets.
 use Rattle.std.specs.Prelude.{ℕ, ◌-◌, nat_lt, List, ◌++◌, length, replicate, map, bit_xor, if◌then◌else◌}
 use Rattle.sha1.specs.Sha1.{Holds, sha1}
-use Rattle.krb_block.specs.declared.hmac.HmacSha1.{HmacSha1}
+use Rattle.krb_block.specs.declared.hmac.HmacSha1Key.{HmacSha1Key}
 
 -- a key of more than a block of 64 octets is hashed first (RFC 2104, 2)
 abbrev pub short_key : List ℕ → List ℕ
@@ -19,6 +19,6 @@ padded key pad = map (λ x. bit_xor x pad) (block_key key)
 unfoldable pub hmac : List ℕ → List ℕ → List ℕ
 hmac key message = sha1 (padded key 0x5c ++ sha1 (padded key 0x36 ++ message))
 
--- both hashes have taken the key's padded block, and the inner one this message behind it
-abbrev pub Absorbs : HmacSha1 → List ℕ → List ℕ → Type 0
-Absorbs h key message = Holds h.inner (padded key 0x36 ++ message) × Holds h.outer (padded key 0x5c)
+-- both hashes have taken the key's padded block
+abbrev pub IsReady : HmacSha1Key → List ℕ → Type 0
+IsReady ready key = Holds ready.inner (padded key 0x36) × Holds ready.outer (padded key 0x5c)

@@ -1,2 +1,9 @@
 pub mod CryptoError
+pub mod Fold
 pub mod Hmac
+pub mod Pbkdf2
+pub mod Polynomial
+pub mod SBox
+pub mod Aes
+pub mod InverseCipher
+pub mod Size

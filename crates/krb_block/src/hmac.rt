@@ -1,7 +1,7 @@
 //! HMAC over SHA-1 (RFC 2104; FIPS 180-4).
 
-ghost use Rattle.std.specs.Prelude.{◌≡◌, ◌-◌, ℕ, List, [], ◌++◌, length, map, take, replicate, bit_xor, IfOk, MatchResult};
-ghost use Rattle.krb_block.specs.Hmac.{block_key, hmac, Absorbs};
+ghost use Rattle.std.specs.Prelude.{◌≡◌, ◌-◌, ℕ, List, ◌++◌, length, map, take, replicate, bit_xor, IfOk, MatchResult};
+ghost use Rattle.krb_block.specs.Hmac.{block_key, hmac, IsReady};
 ghost use Rattle.krb_block.specs.declared.error.KerberosCryptoError.TheVariants.{OutOfMemory};
 
 use crate::error::KerberosCryptoResult;
@@ -9,7 +9,7 @@ use sha1::Sha1;
 use std::alloc::Global;
 
 /// The octets of a SHA-1 digest.
-const DIGEST_SIZE: usize = 20;
+pub(crate) const DIGEST_SIZE: usize = 20;
 
 /// The octets of a block that SHA-1 takes at once.
 const BLOCK_SIZE: usize = 64;
@@ -19,38 +19,33 @@ const INNER_PAD: u8 = 0x36;
 
 const OUTER_PAD: u8 = 0x5c;
 
-/// An HMAC-SHA1 under way: both hashes have taken the key's padded block, and the inner one the message so far.
+/// A key of HMAC-SHA1, ready for use: the states of the inner and the outer hash behind the key's padded blocks.
 #[derive(Drop)]
-struct HmacSha1 {
+pub(crate) struct HmacSha1Key {
     inner: Sha1,
     outer: Sha1,
 }
 
-impl HmacSha1 {
-    /// Of the empty message.
-    fn new(key: &[u8]) -> HmacSha1
-        ensures { Absorbs result key.now [] }
+impl HmacSha1Key {
+    pub(crate) fn new(key: &[u8]) -> HmacSha1Key
+        ensures { IsReady result key.now }
     {
         let block = block_of(key);
         let mut inner = Sha1::new();
         inner.update(&padded_with(&block, INNER_PAD));
         let mut outer = Sha1::new();
         outer.update(&padded_with(&block, OUTER_PAD));
-        HmacSha1 { inner, outer }
+        HmacSha1Key { inner, outer }
     }
 
-    /// Adds octets to the message.
-    fn update(&mut self, octets: &[u8])
-        ensures { (key message : List ℕ) → Absorbs self.old key message → Absorbs self.new key (message ++ octets.now) }
+    /// The HMAC of two parts, one behind the other.
+    pub(crate) fn mac(&self, first: &[u8], second: &[u8]) -> [u8; DIGEST_SIZE]
+        ensures { (key : List ℕ) → IsReady self.now key → result ≡ hmac key (first.now ++ second.now) }
     {
-        self.inner.update(octets);
-    }
-
-    /// The HMAC of the message.
-    fn finalize(self) -> [u8; DIGEST_SIZE]
-        ensures { (key message : List ℕ) → Absorbs self key message → result ≡ hmac key message }
-    {
-        let HmacSha1 { inner, mut outer } = self;
+        let mut inner = self.inner.clone().unwrap();
+        inner.update(first);
+        inner.update(second);
+        let mut outer = self.outer.clone().unwrap();
         outer.update(&inner.finalize());
         outer.finalize()
     }
@@ -80,6 +75,12 @@ fn padded_with(block: &[u8; BLOCK_SIZE], pad: u8) -> [u8; BLOCK_SIZE]
     padded
 }
 
+fn digest_of(key: &[u8], payload: &[u8]) -> [u8; DIGEST_SIZE]
+    ensures { result ≡ hmac key.now payload.now }
+{
+    HmacSha1Key::new(key).mac(payload, &[])
+}
+
 /// The first `mac_size` octets of the HMAC-SHA1 of the payload (RFC 2104; in Kerberos RFC 3961, 5.3), of which there
 /// are 20; past these they are zeros.
 ///
@@ -93,11 +94,10 @@ pub fn hmac_sha1(
     ensures mac { MatchResult result (λ mac. mac.items ≡ take mac_size (hmac key.now payload.now ++ replicate (mac_size - 20) 0)) (λ e. e ≡ OutOfMemory) }
     ensures size { IfOk result (λ mac. length mac.items ≡ mac_size) }
 {
-    let mut hmac = HmacSha1::new(key);
-    hmac.update(payload);
+    let digest = digest_of(key, payload);
     let kept = mac_size.min(DIGEST_SIZE);
     let mut mac = Vec::with_capacity(alloc, mac_size)?;
-    mac.extend_from_slice(&hmac.finalize()[..kept])?;
+    mac.extend_from_slice(&digest[..kept])?;
     mac.resize(mac_size, 0)?;
     Ok(mac)
 }

@@ -1,5 +1,5 @@
 use Rattle.std.proofs.Common.{arith}
-use Rattle.krb_block.proofs.Steps.{block_short}
+use Rattle.krb_block.proofs.HmacSteps.{block_short}
 use Rattle.krb_block.proofs.hmac.block_of.Goals as goal
 
 pub returns-else-key-gt-BLOCK_SIZE : goal.returns-else-key-gt-BLOCK_SIZE

@@ -1,5 +1,5 @@
 use Rattle.std.proofs.Common.{get_or, bit_xor, ap, arith, rules}
-use Rattle.krb_block.proofs.Steps.{write_below, write_above, padded_end}
+use Rattle.krb_block.proofs.HmacSteps.{write_below, write_above, padded_end}
 use Rattle.krb_block.proofs.hmac.padded_with.Goals as goal
 
 pub loop-i-preserved : goal.loop-i-preserved

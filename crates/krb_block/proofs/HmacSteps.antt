@@ -1,5 +1,5 @@
 -- The steps of the HMAC: the key's block, the padding of it, and the two hashes.
-use Rattle.std.proofs.Common.{◌≡◌, ◌≢◌, ℕ, ◌+◌, ◌<◌, ◌≤◌, List, ◌++◌, length, drop, replicate, map, get_or, set, bit_xor, below_more, refl, sym, ap, ◌∙◌, arith}
+use Rattle.std.proofs.Common.{◌≡◌, ◌≢◌, ℕ, ◌+◌, ◌<◌, ◌≤◌, List, ◌++◌, length, drop, replicate, map, get_or, set, bit_xor, below_more, append_assoc, refl, sym, ap, ◌∙◌, arith}
 use Rattle.std.proofs.lemmas.List.{get_or-set_same, get_or-set_other, get_or-map, ext_get_or, length-map, drop-replicate}
 use Rattle.std.proofs.lemmas.Bool.{le-ltb}
 use Rattle.sha1.specs.Sha1.{sha1}
@@ -26,6 +26,7 @@ padded_end out block pad i lo lb hi below =
     (λ k lt. below k (omega arith) ∙ sym (get_or-map (λ x. bit_xor x pad) block k 0 0 (omega arith)))
 
 -- the outer hash of the inner one
-pub hmac_is : (key message digest mac : List ℕ) → digest ≡ sha1 (padded key 0x36 ++ message) → mac ≡ sha1 (padded key 0x5c ++ digest) → mac ≡ hmac key message
+pub hmac_is : (key first second digest mac : List ℕ) → digest ≡ sha1 ((padded key 0x36 ++ first) ++ second) → mac ≡ sha1 (padded key 0x5c ++ digest) → mac ≡ hmac key (first ++ second)
 unfolding hmac
-hmac_is key message digest mac inner outer = outer ∙ ap (λ d. sha1 (padded key 0x5c ++ d)) inner
+hmac_is key first second digest mac inner outer =
+    outer ∙ ap (λ d. sha1 (padded key 0x5c ++ d)) (inner ∙ ap sha1 (append_assoc (padded key 0x36) first second))

@@ -1,0 +1,99 @@
+//! n-fold (RFC 3961, 5.1).
+
+ghost use Rattle.std.specs.Prelude.{◌≡◌, ℕ, ◌+◌, ◌-◌, ◌*◌, ◌/◌, ◌%◌, ◌^◌, ◌<◌, ◌≤◌, length, slice_index, IfOk, IfErr};
+ghost use Rattle.krb_block.specs.Fold.{number, gcd, rot, n_folded, folded};
+ghost use Rattle.krb_block.specs.declared.error.KerberosCryptoError.TheVariants.{OutOfMemory};
+
+use crate::error::KerberosCryptoResult;
+use std::alloc::Global;
+
+/// The octets folded to `n` bits (RFC 3961, 5.1): the copies of the input, each turned right by 13 bits more than the one
+/// before, as many as fill a common multiple of both lengths, are cut into pieces of `n` bits and added in
+/// ones'-complement arithmetic.
+///
+/// The input is not empty, and `n` is a positive multiple of 8. `OutOfMemory` is the only refusal.
+pub fn n_fold(alloc: Global, input: &[u8], n: usize) -> KerberosCryptoResult<Vec<u8>>
+    requires filled { 0 < length input.now }
+    requires whole { n % 8 ≡ 0 }
+    requires some { 0 < n }
+    ensures size { IfOk result (λ v. length v.items ≡ n / 8) }
+    ensures value { IfOk result (λ v. v.items ≡ folded input.now n) }
+    ensures refused { IfErr result (λ e. e ≡ OutOfMemory) }
+{
+    let mut sum = vec![in alloc; 0u8; n / 8]?;
+    fold_into(&mut sum, input);
+    are_octets(&sum);
+    Ok(sum)
+}
+
+/// Adds the turns of the input to the sum, octet by octet from the right, round and round, with end-around carry.
+fn fold_into(sum: &mut [u8], input: &[u8])
+    requires filled { 0 < length input.now }
+    requires some { 0 < length sum.old }
+    requires small { length sum.old < 2 ^ 61 }
+    requires zero { number sum.old ≡ 0 }
+    ensures { number sum.new ≡ n_folded (number input.now) (8 * length input.now) (8 * length sum.old) }
+{
+    let size = sum.len();
+    let count = size / greatest_common_divisor(size, input.len());
+    let mut place = 0;
+    let mut carry = 0;
+    'turns: for back in 0..count {
+        'octets: for e in 0..input.len() {
+            let octet = turned_octet(input, count - 1 - back, e);
+            carry = add_octet(sum, place, octet, carry);
+            place += 1;
+            if place == size {
+                place = 0;
+            }
+        }
+    }
+    'last: for i in 0..size {
+        carry = add_octet(sum, i, 0, carry);
+    }
+}
+
+/// Octet `e` from the right of the input turned right by 13 `j` bits.
+fn turned_octet(input: &[u8], j: usize, e: usize) -> u8
+    requires inside { e < length input.now }
+    requires small { j < 2 ^ 61 }
+    ensures { result ≡ rot (number input.now) (8 * length input.now) j / 256 ^ e % 256 }
+{
+    let len = input.len();
+    let at = (j + 5 * j / 8) % len + e;
+    let low = input[len - 1 - at % len];
+    let high = input[len - 1 - (at + 1) % len];
+    let pair = high as u16 * 256 + low as u16;
+    ((pair >> (5 * j % 8)) % 256) as u8
+}
+
+/// Adds an octet and a carry at a place from the right, and gives the carry.
+fn add_octet(sum: &mut [u8], place: usize, octet: u8, carry: u8) -> u8
+    requires inside { place < length sum.old }
+    requires one { carry ≤ 1 }
+    ensures carry { result ≤ 1 }
+    ensures value { number sum.new + result * 256 ^ (place + 1) ≡ number sum.old + (octet + carry) * 256 ^ place }
+{
+    let at = sum.len() - 1 - place;
+    let total = sum[at] as u16 + octet as u16 + carry as u16;
+    sum[at] = (total % 256) as u8;
+    (total / 256) as u8
+}
+
+/// By Euclid's algorithm, for a positive first number.
+fn greatest_common_divisor(mut a: usize, mut b: usize) -> usize
+    requires { 0 < a }
+    ensures { result ≡ gcd a b }
+{
+    while b != 0 {
+        let rest = a % b;
+        a = b;
+        b = rest;
+    }
+    a
+}
+
+/// Tells a proof that the elements are octets. It does nothing.
+fn are_octets(elements: &[u8])
+    ensures { (i : ℕ) → slice_index elements.now i < 256 }
+{}
