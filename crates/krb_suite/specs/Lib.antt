@@ -1,3 +1,4 @@
+pub mod Derive
 pub mod Sealing
 pub mod Suites
 pub mod WellKnown

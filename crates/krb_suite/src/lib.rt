@@ -1,6 +1,7 @@
 //! Encryption schemes of Kerberos (RFC 3961): what a cipher is, whoever implements it, and the suites by their numbers.
 #![tactic(auto)]
 
+pub mod aes;
 mod checksum_suite;
 mod cipher;
 mod cipher_suite;

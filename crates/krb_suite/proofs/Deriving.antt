@@ -1,0 +1,34 @@
+-- The steps of `derive_key`.
+use Rattle.std.proofs.Common.{◌≡◌, ℕ, suc, ◌+◌, ◌-◌, ◌*◌, ◌/◌, ◌<◌, ◌≤◌, ◌⊎◌, List, ◌++◌, length, take, refl, sym, ap, ◌∙◌, arith, inl, inr, append_assoc}
+use Rattle.std.proofs.lemmas.List.{append-nil, take_all}
+use Rattle.krb_block.specs.Fold.{folded}
+use Rattle.krb_block.specs.Aes.{aes_block}
+use Rattle.krb_block.specs.Size.{key_octets}
+use Rattle.krb_block.specs.declared.aes.AesSize.{AesSize}
+use Rattle.krb_block.specs.declared.aes.AesSize.TheVariants.{Aes256, Aes128}
+use Rattle.krb_suite.specs.Derive.{blocks_from, aes_dk}
+
+pub key_sizes : (size : AesSize) → (key_octets size ≡ 16) ⊎ (key_octets size ≡ 32)
+key_sizes Aes256 = inr refl
+key_sizes Aes128 = inl refl
+
+pub blocks_step : (E : List ℕ → List ℕ) (f next out new all : List ℕ) (n i : ℕ) → i < n → next ≡ E f → new ≡ out ++ next
+    → out ++ blocks_from E f (n - i) ≡ all → new ++ blocks_from E next (n - (i + 1)) ≡ all
+unfolding blocks_from
+blocks_step E f next out new all n i low made grown held =
+    let count : n - i ≡ suc (n - (i + 1)) = omega arith in
+    rw (grown, made) (append_assoc out (E f) (blocks_from E (E f) (n - (i + 1))) ∙ rw count at held)
+
+pub derived_end : (key constant f out : List ℕ) (n i : ℕ) → (length key ≡ 16) ⊎ (length key ≡ 32) → n ≡ length key / 16 → n ≤ i → f ≡ folded constant 128
+    → length out ≡ 16 * n → (b : List ℕ) → out ++ blocks_from (aes_block key) b (n - i) ≡ blocks_from (aes_block key) f n
+    → (out ≡ aes_dk key constant) × (length out ≡ length key)
+unfolding blocks_from aes_dk
+derived_end key constant f out n i size en past ef long b held =
+    let none : n - i ≡ 0 = omega arith in
+    let whole : out ≡ blocks_from (aes_block key) f n = sym (append-nil out) ∙ rw none at held in
+    let as_long : length out ≡ length key = elim size [ inl short ↦ omega arith | inr wide ↦ omega arith ] in
+    let count : n ≡ (length key + 16 - 1) / 16 = elim size [ inl short ↦ omega arith | inr wide ↦ omega arith ] in (
+      sym (take_all (length key) out (omega (arith, as_long)))
+          ∙ ap (take (length key)) (whole ∙ ap (λ (g : List ℕ). blocks_from (aes_block key) g n) ef ∙ ap (λ (k : ℕ). blocks_from (aes_block key) (folded constant 128) k) count),
+      as_long,
+    )
