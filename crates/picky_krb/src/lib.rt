@@ -11,6 +11,8 @@ pub mod der;
 #[cfg(test)]
 mod first_rows;
 #[cfg(test)]
+mod key_rows;
+#[cfg(test)]
 mod leaf_rows;
 pub mod seal;
 
