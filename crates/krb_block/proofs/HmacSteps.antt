@@ -2,7 +2,7 @@
 use Rattle.std.proofs.Common.{◌≡◌, ◌≢◌, ℕ, ◌+◌, ◌<◌, ◌≤◌, List, ◌++◌, length, drop, replicate, map, get_or, set, bit_xor, below_more, append_assoc, refl, sym, ap, ◌∙◌, arith}
 use Rattle.std.proofs.lemmas.List.{get_or-set_same, get_or-set_other, get_or-map, ext_get_or, length-map, drop-replicate}
 use Rattle.std.proofs.lemmas.Bool.{le-ltb}
-use Rattle.sha1.specs.Sha1.{sha1}
+use Rattle.sha1.specs.Sha1.{sha1, digest_bytes}
 use Rattle.krb_block.specs.Hmac.{block_key, padded, hmac}
 
 -- a key of at most a block is followed by zeros
@@ -30,3 +30,7 @@ pub hmac_is : (key first second digest mac : List ℕ) → digest ≡ sha1 ((pad
 unfolding hmac
 hmac_is key first second digest mac inner outer =
     outer ∙ ap (λ d. sha1 (padded key 0x5c ++ d)) (inner ∙ ap sha1 (append_assoc (padded key 0x36) first second))
+
+pub hmac_size : (key message : List ℕ) → length (hmac key message) ≡ 20
+unfolding hmac sha1 digest_bytes
+hmac_size key message = refl

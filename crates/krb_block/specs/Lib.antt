@@ -7,3 +7,4 @@ pub mod SBox
 pub mod Aes
 pub mod InverseCipher
 pub mod Size
+pub mod Modes

@@ -4,8 +4,10 @@ ghost use Rattle.std.specs.Prelude.{◌≡◌, ◌≢◌, ℕ, ◌-◌, ◌*◌,
 ghost use Rattle.std.specs.List.{All};
 ghost use Rattle.krb_block.specs.Aes.{aes_block, IsExpanded};
 ghost use Rattle.krb_block.specs.InverseCipher.{aes_undo};
+ghost use Rattle.krb_block.specs.Modes.{AreInverse};
 ghost use Rattle.krb_block.specs.Size.{key_octets};
 
+use crate::block_cipher::BlockCipher;
 use crate::error::{KerberosCryptoError, KerberosCryptoResult};
 use key_expansion::{ROUND_KEYS_SIZE, are_octets, expand};
 use rounds::{add_round_key, inverse_last_round, inverse_round, last_round, round};
@@ -120,5 +122,29 @@ impl AesKey {
             s = next;
         }
         add_round_key(keys, 0, s)
+    }
+
+    /// Tells a proof that the two block calls undo each other. It does nothing.
+    pub(crate) fn undoes(&self)
+        ensures { AreInverse 16 (aes_block self.now) (aes_undo self.now) }
+    {
+        let _rounds = self.rounds;
+    }
+}
+
+impl BlockCipher for AesKey {
+    ghost use Rattle.krb_block.specs.Aes.{aes_block};
+    ghost use Rattle.krb_block.specs.InverseCipher.{aes_undo};
+
+    ghost enciphers = { aes_block };
+
+    ghost deciphers = { aes_undo };
+
+    fn encrypt_block(&self, block: &[u8; AES_BLOCK_SIZE]) -> [u8; AES_BLOCK_SIZE] {
+        self.encrypt_block(*block)
+    }
+
+    fn decrypt_block(&self, block: &[u8; AES_BLOCK_SIZE]) -> [u8; AES_BLOCK_SIZE] {
+        self.decrypt_block(*block)
     }
 }

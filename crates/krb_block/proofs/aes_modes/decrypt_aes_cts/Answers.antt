@@ -1,0 +1,4 @@
+use Rattle.krb_block.proofs.aes_modes.decrypt_aes_cts.Goals as goal
+
+pub returns-clause-only : goal.returns-clause-only
+returns-clause-only c = λ q octets is. c.in_ok-decrypt_cts.ensures.only q octets (rw (c.in_ok-cipher.ensures.1) is)
