@@ -1,12 +1,15 @@
 -- The steps of `derive_key`.
-use Rattle.std.proofs.Common.{◌≡◌, ℕ, suc, ◌+◌, ◌-◌, ◌*◌, ◌/◌, ◌<◌, ◌≤◌, ◌⊎◌, List, ◌++◌, length, take, refl, sym, ap, ◌∙◌, arith, inl, inr, append_assoc}
+use Rattle.std.proofs.Common.{◌≡◌, ℕ, suc, ◌+◌, ◌-◌, ◌*◌, ◌/◌, ◌<◌, ◌≤◌, ◌⊎◌, List, ◌++◌, length, take, codes, refl, sym, ap, ◌∙◌, arith, inl, inr, append_assoc}
 use Rattle.std.proofs.lemmas.List.{append-nil, take_all}
 use Rattle.krb_block.specs.Fold.{folded}
 use Rattle.krb_block.specs.Aes.{aes_block}
 use Rattle.krb_block.specs.Size.{key_octets}
 use Rattle.krb_block.specs.declared.aes.AesSize.{AesSize}
 use Rattle.krb_block.specs.declared.aes.AesSize.TheVariants.{Aes256, Aes128}
-use Rattle.krb_suite.specs.Derive.{blocks_from, aes_dk}
+use Rattle.std.proofs.lemmas.List.{ext_get_or}
+use Rattle.std.proofs.lemmas.Nat.Bits.{same_from_bits}
+use Rattle.krb_suite.specs.Derive.{blocks_from, aes_dk, IsAesPasswordKey}
+use Rattle.krb_suite.specs.Sealing.{IsTheOne}
 
 pub key_sizes : (size : AesSize) → (key_octets size ≡ 16) ⊎ (key_octets size ≡ 32)
 key_sizes Aes256 = inr refl
@@ -32,3 +35,13 @@ derived_end key constant f out n i size en past ef long b held =
           ∙ ap (take (length key)) (whole ∙ ap (λ (g : List ℕ). blocks_from (aes_block key) g n) ef ∙ ap (λ (k : ℕ). blocks_from (aes_block key) (folded constant 128) k) count),
       as_long,
     )
+
+-- a password and a salt give one key
+pub password_one : (size : ℕ) (password salt key : List ℕ) → IsAesPasswordKey size password salt key → IsTheOne (IsAesPasswordKey size password salt) key
+password_one size password salt key made = record {
+  holds = made;
+  only = λ other is.
+      let seeds : is.0 ≡ made.0 = ext_get_or 0 is.0 made.0 (is.1 ∙ sym made.1)
+      (λ k lt. let within : k < length made.0 = omega (arith, lt, is.1, made.1) in same_from_bits _ _ (λ b. is.2 k b lt ∙ sym (made.2 k b within))) in
+      is.3 ∙ ap (λ (s : List ℕ). aes_dk s (codes "kerberos")) seeds ∙ sym made.3;
+}

@@ -1,1 +1,3 @@
 pub mod Deriving
+pub mod Messages
+pub mod Opening

@@ -1,9 +1,6 @@
 -- What the law of a cipher speaks of (RFC 3961, 3). Keys, confounders, payloads and sealed octets are lists of octets,
 -- and a meaning says which octets a payload becomes under a confounder: meaning confounder payload octets.
-use Rattle.std.specs.Prelude.{◌≡◌, ◌≢◌, ℕ, ◌<◌, ◌%◌, List, ◌++◌, ◌↔◌, length, replicate}
-use Rattle.krb_block.specs.CryptoError.{IsMemoryOr}
-use Rattle.krb_block.specs.declared.error.KerberosCryptoError.{KerberosCryptoError}
-use Rattle.krb_block.specs.declared.error.KerberosCryptoError.TheVariants.{KeyLength}
+use Rattle.std.specs.Prelude.{◌≡◌, ℕ, ◌<◌, ◌%◌, List, ◌++◌, ◌↔◌, length, replicate}
 
 -- ---- lists
 
@@ -55,9 +52,3 @@ pub record Deciphers (fill_size confounder_size : ℕ) (enciphers : List ℕ →
   pub size_is : length confounder ≡ confounder_size
   pub whole : IsFill fill_size plaintext plaintext
   pub exactly : (other payload : List ℕ) → length other ≡ confounder_size → enciphers other payload encrypted ↔ ((other ≡ confounder) × IsFill fill_size payload plaintext)
-
--- ---- refusals
-
--- only a key of another length is refused, but for want of memory
-abbrev pub RefusesKey : ℕ → List ℕ → KerberosCryptoError → Type 0
-RefusesKey size key e = IsMemoryOr e ((length key ≢ size) × (e ≡ KeyLength (length key) size))

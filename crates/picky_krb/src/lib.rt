@@ -15,6 +15,8 @@ mod key_rows;
 #[cfg(test)]
 mod leaf_rows;
 pub mod seal;
+#[cfg(test)]
+mod suite_rows;
 
 pub use krb_der::constants;
 pub use krb_msg::data_types;

@@ -4,7 +4,8 @@ ghost use Rattle.std.specs.Prelude.{◌≡◌, ◌<◌, length, IfOk, IfErr};
 ghost use Rattle.krb_block.specs.Size.{key_octets};
 ghost use Rattle.krb_block.specs.declared.error.KerberosCryptoError.TheVariants.{OutOfMemory};
 ghost use Rattle.krb_suite.specs.Derive.{aes_dk, IsAesPasswordKey};
-ghost use Rattle.krb_suite.specs.Sealing.{RefusesKey};
+ghost use Rattle.krb_suite.specs.Sealing.{IsTheOne};
+ghost use Rattle.krb_block.specs.CryptoError.{RefusesKey};
 
 use crate::well_known::KERBEROS;
 use krb_block::{AES_BLOCK_SIZE, AesKey, AesSize, KerberosCryptoResult, n_fold, pbkdf2_hmac_sha1};
@@ -51,7 +52,7 @@ pub fn derive_key_from_password(
     size: &AesSize,
 ) -> KerberosCryptoResult<Vec<u8>>
     ensures size { IfOk result (λ key. length key.items ≡ key_octets size.now) }
-    ensures made { IfOk result (λ key. IsAesPasswordKey (key_octets size.now) password.now salt.now key.items) }
+    ensures made { IfOk result (λ key. IsTheOne (IsAesPasswordKey (key_octets size.now) password.now salt.now) key.items) }
     ensures refused { IfErr result (λ e. e ≡ OutOfMemory) }
 {
     let mut seed = vec![in alloc; 0u8; size.key_length()]?;
