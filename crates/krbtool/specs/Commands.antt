@@ -1,17 +1,45 @@
--- What the words after the program's name ask for, and what is answered to an input. The values that are read and
--- written are those of which `is_value` holds, and `enc` gives their encodings.
-use Rattle.std.specs.Prelude.{◌≡◌, ℕ, List, [], ◌∷◌, codes}
+-- What each command answers to an input. The values that are read and written are those of which `is_value` holds, and
+-- `enc` gives their encodings.
+use Rattle.std.specs.Prelude.{◌≡◌, ℕ, ℤ, List, length}
+use Rattle.krb_suite.specs.Sealed.{IsSealedAes}
+use Rattle.krb_suite.specs.Sealing.{IsGiven}
+use Rattle.krbtool.specs.declared.command.Suite.{Suite}
+use Rattle.krbtool.specs.declared.command.Suite.TheVariants.{Aes128, Aes256}
 use Rattle.krbtool.specs.declared.command.Command.{Command}
-use Rattle.krbtool.specs.declared.command.Command.TheVariants.{Check}
+use Rattle.krbtool.specs.declared.command.Command.TheVariants.{Check, Seal, Open}
 
--- the words are those of the command
-abbrev pub AreWordsOf : Command → List (List ℕ) → Type 0
-AreWordsOf Check words = words ≡ codes "check" ∷ []
+-- the number of a suite (RFC 3962, 7), and the octets of its keys
+abbrev pub etype_of : Suite → ℕ
+etype_of Aes128 = 17
+etype_of Aes256 = 18
 
--- the input is the encoding of a value, and the answer is that encoding
-abbrev pub IsChecked : {V : Type 0} → (V → Type 0) → (V → List ℕ) → List ℕ → List ℕ → Type 0
-IsChecked {V} is_value enc input answer = (v : V) × is_value v × (input ≡ enc v) × (answer ≡ input)
+abbrev pub key_size_of : Suite → ℕ
+key_size_of Aes128 = 16
+key_size_of Aes256 = 32
 
--- what the command answers to the input
-abbrev pub IsAnswer : {V : Type 0} → (V → Type 0) → (V → List ℕ) → Command → List ℕ → List ℕ → Type 0
-IsAnswer is_value enc Check input answer = IsChecked is_value enc input answer
+module _ {V : Type 0} (is_value : V → Type 0) (enc : V → List ℕ) where
+  -- the input is the encoding of a value, and the answer is that encoding
+  abbrev pub IsChecked : List ℕ → List ℕ → Type 0
+  IsChecked input answer = (v : V) × is_value v × (input ≡ enc v) × (answer ≡ input)
+
+  -- the input is the encoding of a value, and the answer is what it is sealed to
+  abbrev pub IsSealing : Suite → List ℕ → ℤ → List ℕ → List ℕ → List ℕ → Type 0
+  IsSealing suite key usage confounder input answer =
+      (v : V) × is_value v × (input ≡ enc v) × (length key ≡ key_size_of suite) × IsSealedAes key usage confounder (enc v) answer
+
+  -- the answer is the encoding of a value, which some confounder seals to the input
+  abbrev pub IsOpening : Suite → List ℕ → ℤ → List ℕ → List ℕ → Type 0
+  IsOpening suite key usage input answer =
+      (v : V) × is_value v × (answer ≡ enc v) × (length key ≡ key_size_of suite) × IsGiven (IsSealedAes key usage) 16 input (enc v)
+
+  -- what the command answers to the input
+  abbrev pub IsAnswer : Command → List ℕ → List ℕ → Type 0
+  IsAnswer Check input answer = IsChecked input answer
+  IsAnswer (Seal key confounder) input answer = IsSealing key.suite key.octets.items key.usage confounder.items input answer
+  IsAnswer (Open key) input answer = IsOpening key.suite key.octets.items key.usage input answer
+
+-- what a command keeps of its words
+abbrev pub HasConfounder : Command → Type 0
+HasConfounder Check = Unit {0}
+HasConfounder (Seal key confounder) = length confounder.items ≡ 16
+HasConfounder (Open key) = Unit {0}

@@ -1,10 +1,10 @@
 -- What a run of the program did, and with which status it ended.
-use Rattle.std.specs.Prelude.{◌≡◌, ◌⊎◌, ◌↔◌, ℕ, List, ⊤, Option, Result, Ok, Err, OnOk, IfErr, IfSome, IsErrOf, MatchResult}
+use Rattle.std.specs.Prelude.{◌≡◌, ◌⊎◌, ℕ, List, ⊤, Option, Result, Ok, Err, OnOk, IfErr, IfSome, MatchResult}
 use Rattle.std.specs.Io.KnownBytes.{Keeps, Appends, IsAtEnd}
-use Rattle.krbtool.specs.declared.command.Command.{Command}
+use Rattle.krb_block.specs.declared.error.KerberosCryptoError.TheVariants.{AlgorithmIdentifier}
 use Rattle.krbtool.specs.declared.failure.Failure.{Failure}
-use Rattle.krbtool.specs.declared.failure.Failure.TheVariants.{Words, Memory, Read, Write}
-use Rattle.krbtool.specs.Commands.{AreWordsOf, IsAnswer}
+use Rattle.krbtool.specs.declared.failure.Failure.TheVariants.{Words, Crypto, Memory, Read, Write}
+use Rattle.krbtool.specs.Words.{AreWords, NameUnknown, AreNoWords, Answers}
 
 -- the status of a refusal
 abbrev pub refusal_status : Failure → ℕ
@@ -20,17 +20,16 @@ status_of (Err e) = refusal_status e
 abbrev pub IsOutside : Failure → Type 0
 IsOutside e = (e ≡ Memory) ⊎ (e ≡ Read) ⊎ (e ≡ Write)
 
--- these words are a command, and this is its answer to the input
-abbrev pub Answers : {V : Type 0} → (V → Type 0) → (V → List ℕ) → List (List ℕ) → List ℕ → List ℕ → Type 0
-Answers is_value enc words input answer = (command : Command) × AreWordsOf command words × IsAnswer is_value enc command input answer
-
 -- With these words: what was read of the input, where its octets are known (`rest` of it is left), and what was
 -- written, where the octets of the output are known (before and after).
 pub record IsRun {V : Type 0} (is_value : V → Type 0) (enc : V → List ℕ) (words : List (List ℕ)) (input rest before after : Option (List ℕ)) (outcome : Result ⊤ Failure) : Type 0 where
-  -- the words are refused exactly where they are no command
-  pub refused : IsErrOf outcome Words ↔ ((command : Command) → ¬ AreWordsOf command words)
+  -- the words are refused only where they are of no command, and then they are, but for want of memory
+  pub refused : IfErr outcome (λ e. e ≡ Words → AreNoWords words)
+  pub told : AreNoWords words → MatchResult outcome (λ _. ⊥) (λ e. (e ≡ Words) ⊎ (e ≡ Memory))
+  -- so is an encryption type that the program does not know
+  pub unknown : (n : ℕ) → NameUnknown words n → MatchResult outcome (λ _. ⊥) (λ e. (e ≡ Crypto (AlgorithmIdentifier n)) ⊎ (e ≡ Memory))
   -- and then nothing is read
-  pub unread : IfErr outcome (λ e. e ≡ Words → Keeps input rest)
+  pub unread : (AreWords words → ⊥) → Keeps input rest
   -- all of the input is read before an answer
   pub read : OnOk outcome (IsAtEnd rest)
   -- what is written is the answer to all of the input

@@ -1,33 +1,34 @@
-//! What the words after the program's name ask for.
+//! What the program is asked to do.
 
-ghost use Rattle.std.specs.Prelude.{◌≡◌, IfOk, IfErr, map};
-ghost use Rattle.std.specs.String.{string_bytes};
-ghost use Rattle.krbtool.specs.declared.command.Command.{Command};
-ghost use Rattle.krbtool.specs.Commands.{AreWordsOf};
-
-use crate::failure::Failure;
-
-/// What the program is asked to do.
-#[derive(Debug, Drop)]
-pub enum Command {
-    /// Read one `EncTicketPart` and write it again: the word `check`, alone.
-    Check,
+/// An encryption suite that the program knows.
+#[derive(Debug, Drop, PartialEq, Eq)]
+pub enum Suite {
+    /// Encryption type 17.
+    Aes128,
+    /// Encryption type 18.
+    Aes256,
 }
 
-/// The command that the words are, or `Words` where they are none.
-pub fn parse(words: &[String]) -> Result<Command, Failure>
-    ensures found { IfOk result (λ command. AreWordsOf command (map string_bytes words.now)) }
-    ensures refused { IfErr result (λ e. (e ≡ Failure.Words)
-        × ((command : Command) → ¬ AreWordsOf command (map string_bytes words.now))) }
-{
-    match words.len() {
-        1 => {
-            if words[0].as_str() == "check" {
-                Ok(Command::Check)
-            } else {
-                Err(Failure::Words)
-            }
-        }
-        _ => Err(Failure::Words),
-    }
+/// The words ETYPE KEYHEX USAGE: a suite, the octets of a key, which may be of any number, and a key usage.
+#[derive(Drop)]
+pub struct SealingKey {
+    pub suite: Suite,
+    pub octets: Vec<u8>,
+    pub usage: i32,
+}
+
+/// What the program is asked to do, each time to an `EncTicketPart`.
+#[derive(Drop)]
+pub enum Command {
+    /// Read one and write it again: the word `check`, alone.
+    Check,
+    /// Seal one under a confounder: `seal ETYPE KEYHEX USAGE CONFHEX`.
+    Seal {
+        key: SealingKey,
+        confounder: Vec<u8>,
+    },
+    /// Open one: `open ETYPE KEYHEX USAGE`.
+    Open {
+        key: SealingKey,
+    },
 }

@@ -1,15 +1,15 @@
 //! The program over any reader and any writers.
 
-ghost use Rattle.std.specs.Prelude.{◌≡◌, ◌≢◌, ◌⊎◌, ℕ, List, ⊤, map, IfOk, IfErr, MatchResult, OnOk, IfSome, Result};
+ghost use Rattle.std.specs.Prelude.{◌≡◌, ◌⊎◌, ⊤, map, IfOk, IfErr, OnOk, IfSome, Result};
 ghost use Rattle.std.specs.Io.KnownBytes.{Keeps, Appends, IsAtEnd};
 ghost use Rattle.std.specs.String.{string_bytes};
 ghost use Rattle.krbtool.specs.declared.failure.Failure.{Failure};
-ghost use Rattle.krbtool.specs.Commands.{IsChecked, IsAnswer};
-ghost use Rattle.krbtool.specs.Outcome.{status_of, refusal_status, IsOutside, IsRun};
+ghost use Rattle.krbtool.specs.Outcome.{status_of, refusal_status, IsRun};
 
-use crate::command::{Command, parse};
-use crate::failure::{Failure, der_failure, read_failure};
-use krb_der::{Der, DerEncode, from_bytes, to_vec};
+use crate::answer::answer;
+use crate::failure::{Failure, read_failure};
+use crate::parse::parse;
+use krb_der::DerEncode;
 use krb_msg::data_types::EncTicketPart;
 use std::alloc::Global;
 use std::io::{Read, Write};
@@ -36,30 +36,8 @@ fn write_out<W: Write>(output: &mut W, octets: &[u8]) -> Result<(), Failure>
     Ok(())
 }
 
-/// The input again, where it is the encoding of a value of the type.
-fn checked<T: Der + Drop>(alloc: Global, input: &[u8]) -> Result<Vec<u8>, Failure>
-    ensures found { IfOk result (λ made. IsChecked T.is_value T.enc input.now made.items) }
-    ensures only { (answer : List ℕ) → IsChecked T.is_value T.enc input.now answer
-        → MatchResult result (λ made. made.items ≡ answer) IsOutside }
-    ensures words { IfErr result (λ e. e ≢ Failure.Words) }
-{
-    let value: T = from_bytes(alloc, input).map_err(der_failure)?;
-    to_vec(alloc, &value).map_err(der_failure)
-}
-
-/// What the command answers to the input.
-fn answer(alloc: Global, command: &Command, input: &[u8]) -> Result<Vec<u8>, Failure>
-    ensures found { IfOk result (λ made. IsAnswer ⟦<EncTicketPart as DerEncode>⟧.is_value ⟦<EncTicketPart as DerEncode>⟧.enc command.now input.now made.items) }
-    ensures only { (answer : List ℕ) → IsAnswer ⟦<EncTicketPart as DerEncode>⟧.is_value ⟦<EncTicketPart as DerEncode>⟧.enc command.now input.now answer
-        → MatchResult result (λ made. made.items ≡ answer) IsOutside }
-    ensures words { IfErr result (λ e. e ≢ Failure.Words) }
-{
-    match command {
-        Command::Check => checked::<EncTicketPart>(alloc, input),
-    }
-}
-
 /// Reads all of the input, and writes the answer to it.
+#[tactic(auto, using(crate::proofs::Parsing::command_words, crate::proofs::Parsing::names_none, crate::proofs::Parsing::answers_to, crate::proofs::Parsing::answers_from))]
 fn perform<R: Read, W: Write>(
     alloc: Global,
     words: &[String],
@@ -70,7 +48,7 @@ fn perform<R: Read, W: Write>(
         (map string_bytes words.now) (R.remaining input.old) (R.remaining input.new)
         (W.contents output.old) (W.contents output.new) result }
 {
-    let command = parse(words)?;
+    let command = parse(alloc, words)?;
     let octets = read_all(alloc, input)?;
     let made = answer(alloc, &command, &octets)?;
     write_out(output, &made)?;

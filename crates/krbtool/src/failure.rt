@@ -1,9 +1,12 @@
 //! Why a run is refused.
 
 ghost use Rattle.std.specs.Prelude.{◌≡◌, ◌≢◌, ◌⊎◌};
+ghost use Rattle.krb_seal.specs.PartError.{IsMemory};
 ghost use Rattle.krbtool.specs.Outcome.{refusal_status};
 
 use krb_der::Asn1DerError;
+use krb_seal::PartError;
+use krb_suite::KerberosCryptoError;
 use std::{fmt, io};
 
 /// Why a run is refused. Its text is the line that the program tells, without the newline.
@@ -13,6 +16,8 @@ pub enum Failure {
     Words,
     /// The octets are no encoding, for this reason.
     Der(Asn1DerError),
+    /// The encryption type is not known, or the cipher refused the key or the octets, for this reason.
+    Crypto(KerberosCryptoError),
     /// Memory was wanting.
     Memory,
     /// The input could not be read.
@@ -45,6 +50,7 @@ impl fmt::Display for Failure {
             Failure::Der(Asn1DerError::UnsupportedValue) => {
                 write!(f, "krbtool: der UnsupportedValue")
             }
+            Failure::Crypto(error) => write!(f, "krbtool: crypto {}", variant(error)),
             Failure::Der(Asn1DerError::OutOfMemory) | Failure::Memory => {
                 write!(f, "krbtool: memory")
             }
@@ -52,6 +58,34 @@ impl fmt::Display for Failure {
                 write!(f, "krbtool: io")
             }
         }
+    }
+}
+
+/// The name of the variant.
+fn variant(error: &KerberosCryptoError) -> &'static str {
+    match error {
+        KerberosCryptoError::KeyLength(_, _) => "KeyLength",
+        KerberosCryptoError::CipherLength(_, _) => "CipherLength",
+        KerberosCryptoError::AlgorithmIdentifier(_) => "AlgorithmIdentifier",
+        KerberosCryptoError::AlgorithmIdentifierData(_) => "AlgorithmIdentifierData",
+        KerberosCryptoError::IntegrityCheck => "IntegrityCheck",
+        KerberosCryptoError::CipherError(_) => "CipherError",
+        KerberosCryptoError::CipherUnpad => "CipherUnpad",
+        KerberosCryptoError::CipherPad => "CipherPad",
+        KerberosCryptoError::SeedBitLen(_) => "SeedBitLen",
+        KerberosCryptoError::OutOfMemory => "OutOfMemory",
+    }
+}
+
+/// The refusal of a part that was not sealed or not opened. Want of memory is `Memory`.
+pub fn part_failure(error: PartError) -> Failure
+    ensures memory { IsMemory error → result ≡ Failure.Memory }
+    ensures words { result ≢ Failure.Words }
+{
+    match error {
+        PartError::Crypto(KerberosCryptoError::OutOfMemory) => Failure::Memory,
+        PartError::Crypto(error) => Failure::Crypto(error),
+        PartError::Der(error) => der_failure(error),
     }
 }
 

@@ -1,11 +1,15 @@
-//! The program `krbtool`: `krbtool check` reads one encrypted part of a ticket and writes it again.
+//! The program `krbtool`: reads, seals and opens the encrypted part of a ticket.
 #![tactic(auto)]
 
+mod answer;
 mod command;
 mod engine;
 mod failure;
+mod parse;
 #[cfg(test)]
 mod real_parts;
+#[cfg(test)]
+mod sealing_tests;
 #[cfg(test)]
 mod tests;
 

@@ -1,11 +1,11 @@
 use crate::engine::run;
-use crate::real_parts::{HEIMDAL, MIT, SAMBA};
+use crate::real_parts::REAL_PARTS;
 use std::alloc::{AllocError, Global};
 use std::io;
 use std::io::{Read, Write};
 use std::test::Fail;
 
-const PART: [u8; 128] = [
+pub const PART: [u8; 128] = [
     0x63, 0x7e, 0x30, 0x7c, 0xa0, 0x07, 0x03, 0x05, 0x00, 0x00, 0x00, 0x00, 0x00, 0xa1, 0x1b, 0x30,
     0x19, 0xa0, 0x03, 0x02, 0x01, 0x11, 0xa1, 0x12, 0x04, 0x10, 0x00, 0x01, 0x02, 0x03, 0x04, 0x05,
     0x06, 0x07, 0x08, 0x09, 0x0a, 0x0b, 0x0c, 0x0d, 0x0e, 0x0f, 0xa2, 0x0d, 0x1b, 0x0b, 0x45, 0x58,
@@ -16,7 +16,7 @@ const PART: [u8; 128] = [
     0x0f, 0x32, 0x30, 0x32, 0x31, 0x31, 0x32, 0x33, 0x31, 0x31, 0x30, 0x30, 0x30, 0x30, 0x30, 0x5a,
 ];
 
-const USAGE: &[u8] =
+pub const USAGE: &[u8] =
     b"usage: krbtool check | seal ETYPE KEYHEX USAGE CONFHEX | open ETYPE KEYHEX USAGE\n";
 
 /// A reader of octets: gives at most `step` of them at a read, and fails at the read number `failing`, from 1.
@@ -88,7 +88,7 @@ impl Write for Sink {
     }
 }
 
-fn words_of(alloc: Global, line: &str) -> Result<Vec<String>, AllocError> {
+pub fn words_of(alloc: Global, line: &str) -> Result<Vec<String>, AllocError> {
     let mut words = Vec::new(alloc);
     for word in line.split_whitespace() {
         words.push(String::from_str(alloc, word)?)?;
@@ -120,8 +120,8 @@ fn writes_a_part_back(rt: HostRuntime) -> Result<(), Fail> {
 fn writes_parts_of_real_servers_back(rt: HostRuntime) -> Result<(), Fail> {
     let alloc = rt.alloc();
     let words = words_of(alloc, "check")?;
-    let parts: [&[u8]; 3] = [&MIT, &HEIMDAL, &SAMBA];
-    for part in parts {
+    for real in REAL_PARTS {
+        let part = real.opened;
         let mut input = Source::new(part, 4096, 0);
         let mut output = Vec::new(alloc);
         let mut faults = Vec::new(alloc);

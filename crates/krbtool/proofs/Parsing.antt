@@ -1,0 +1,169 @@
+-- Words and the commands that they are.
+use Rattle.std.proofs.Common.{◌≡◌, ◌≢◌, ℕ, ℤ, List, [], ◌∷◌, codes, map, length, get_or, Result, Ok, Err, refl, sym, ap, ◌∙◌, inl, inr, arith}
+use Rattle.hex.specs.Hex.{decode_of}
+use Rattle.hex.specs.declared.error.FromHexError.{FromHexError}
+use Rattle.krbtool.specs.declared.command.Suite.{Suite}
+use Rattle.krbtool.specs.declared.command.Suite.TheVariants.{Aes128, Aes256}
+use Rattle.krbtool.specs.declared.failure.Failure.{Failure}
+use Rattle.krbtool.specs.declared.command.Command.{Command}
+use Rattle.krbtool.specs.declared.command.Command.TheVariants.{Check, Seal, Open}
+use Rattle.krbtool.specs.Commands.{etype_of, IsSealing, IsOpening, IsAnswer}
+use Rattle.krbtool.specs.Words.{IsEtype, IsUsage, AreWords, IsCommand, NameUnknown, AreNoWords, RefusesEtype, RefusesKeyWords, RefusesWords, Answers}
+
+-- each word says one thing alone
+
+etype_same : (word : List ℕ) (s t : Suite) → IsEtype word s → IsEtype word t → s ≡ t
+etype_same word Aes128 Aes128 one other = refl
+etype_same word Aes256 Aes256 one other = refl
+etype_same word Aes128 Aes256 one other = absurd (omega (arith, one.value, other.value))
+etype_same word Aes256 Aes128 one other = absurd (omega (arith, one.value, other.value))
+
+octets_or_none : Result (List ℕ) FromHexError → List ℕ
+octets_or_none (Ok octets) = octets
+octets_or_none (Err e) = []
+
+octets_same : (word xs ys : List ℕ) → decode_of word ≡ Ok xs → decode_of word ≡ Ok ys → xs ≡ ys
+unfolding octets_or_none
+octets_same word xs ys one other = ap octets_or_none (sym one ∙ other)
+
+usage_same : (word : List ℕ) (z y : ℤ) → IsUsage word z → IsUsage word y → z ≡ y
+usage_same word z y one other = one.value ∙ sym other.value
+
+-- words that are refused by the first of them
+
+pub etype_refused : (etype keyhex usage : List ℕ) (e : Failure) → RefusesEtype etype e → RefusesKeyWords etype keyhex usage e
+etype_refused etype keyhex usage e (inr unknown) = inr (inl unknown)
+etype_refused etype keyhex usage e (inl none) =
+    inr (inr (none.0, λ n is. none.1 n is.number, λ s key z are. none.1 (etype_of s) are.suite_is))
+
+pub open_refused : (etype keyhex usage : List ℕ) (e : Failure) → RefusesKeyWords etype keyhex usage e → RefusesWords (codes "open" ∷ etype ∷ keyhex ∷ usage ∷ []) e
+open_refused etype keyhex usage e (inl memory) = inl memory
+open_refused etype keyhex usage e (inr (inl unknown)) = inr (inl (unknown.0, unknown.1, (refl, unknown.2)))
+open_refused etype keyhex usage e (inr (inr none)) = inr (inr (none.0, (λ are. none.2 are.1 are.2 are.3 are.4, λ n is. none.1 n is.1)))
+
+pub seal_refused : (etype keyhex usage confhex : List ℕ) (e : Failure) → RefusesKeyWords etype keyhex usage e → RefusesWords (codes "seal" ∷ etype ∷ keyhex ∷ usage ∷ confhex ∷ []) e
+seal_refused etype keyhex usage confhex e (inl memory) = inl memory
+seal_refused etype keyhex usage confhex e (inr (inl unknown)) = inr (inl (unknown.0, unknown.1, (refl, unknown.2)))
+seal_refused etype keyhex usage confhex e (inr (inr none)) = inr (inr (none.0, (λ are. none.2 are.1 are.2 are.3 are.5, λ n is. none.1 n is.1)))
+
+-- what words say of which a command is known
+
+pub command_words : (words : List (List ℕ)) (command : Command) → IsCommand words command → AreWords words
+command_words (word ∷ []) Check is = is
+command_words (word ∷ etype ∷ keyhex ∷ usage ∷ []) (Open key) is = (is.0, key.suite, key.octets.items, key.usage, is.1)
+command_words (word ∷ etype ∷ keyhex ∷ usage ∷ confhex ∷ []) (Seal key confounder) is =
+    (is.0, key.suite, key.octets.items, key.usage, confounder.items, is.1, is.2)
+command_words [] command is = elim is [ ]
+command_words (word ∷ []) (Seal key confounder) is = elim is [ ]
+command_words (word ∷ []) (Open key) is = elim is [ ]
+command_words (word ∷ (etype ∷ [])) command is = elim is [ ]
+command_words (word ∷ (etype ∷ (keyhex ∷ []))) command is = elim is [ ]
+command_words (word ∷ (etype ∷ (keyhex ∷ (usage ∷ [])))) Check is = elim is [ ]
+command_words (word ∷ (etype ∷ (keyhex ∷ (usage ∷ [])))) (Seal key confounder) is = elim is [ ]
+command_words (word ∷ (etype ∷ (keyhex ∷ (usage ∷ (confhex ∷ []))))) Check is = elim is [ ]
+command_words (word ∷ (etype ∷ (keyhex ∷ (usage ∷ (confhex ∷ []))))) (Open key) is = elim is [ ]
+command_words (word ∷ (etype ∷ (keyhex ∷ (usage ∷ (confhex ∷ (_ ∷ _)))))) command is = elim is [ ]
+
+pub names_none : (words : List (List ℕ)) (n : ℕ) → AreWords words → NameUnknown words n → ⊥
+names_none (word ∷ etype ∷ keyhex ∷ usage ∷ []) n are is = is.1.unknown are.1 (sym are.4.suite_is.value ∙ is.1.number.value)
+names_none (word ∷ etype ∷ keyhex ∷ usage ∷ confhex ∷ []) n are is = is.1.unknown are.1 (sym are.5.suite_is.value ∙ is.1.number.value)
+names_none [] n are is = elim are [ ]
+names_none (word ∷ []) n are is = elim is [ ]
+names_none (word ∷ (etype ∷ [])) n are is = elim are [ ]
+names_none (word ∷ (etype ∷ (keyhex ∷ []))) n are is = elim are [ ]
+names_none (word ∷ (etype ∷ (keyhex ∷ (usage ∷ (confhex ∷ (_ ∷ _)))))) n are is = elim are [ ]
+
+module _ {V : Type 0} (is_value : V → Type 0) (enc : V → List ℕ) where
+  opening_same : (s t : Suite) (k l : List ℕ) (z y : ℤ) (input answer : List ℕ) → s ≡ t → k ≡ l → z ≡ y
+      → IsOpening is_value enc s k z input answer → IsOpening is_value enc t l y input answer
+  opening_same s t k l z y input answer es ek ez is = rw (← es, ← ek, ← ez) is
+
+  sealing_same : (s t : Suite) (k l : List ℕ) (z y : ℤ) (f g input answer : List ℕ) → s ≡ t → k ≡ l → z ≡ y → f ≡ g
+      → IsSealing is_value enc s k z f input answer → IsSealing is_value enc t l y g input answer
+  sealing_same s t k l z y f g input answer es ek ez ef is = rw (← es, ← ek, ← ez, ← ef) is
+
+  -- the words and their command answer the same
+  pub answers_to : (words : List (List ℕ)) (command : Command) (input answer : List ℕ) → IsCommand words command
+      → Answers is_value enc words input answer → IsAnswer is_value enc command input answer
+  answers_to (word ∷ []) Check input answer is held = held.1
+  answers_to (word ∷ etype ∷ keyhex ∷ usage ∷ []) (Open key) input answer is held =
+      opening_same held.1 key.suite held.2 key.octets.items held.3 key.usage input answer (etype_same etype held.1 key.suite held.5.suite_is is.1.suite_is)
+      (octets_same keyhex held.2 key.octets.items held.5.key_is is.1.key_is) (usage_same usage held.3 key.usage held.5.number_is is.1.number_is) held.4
+  answers_to (word ∷ etype ∷ keyhex ∷ usage ∷ confhex ∷ []) (Seal key confounder) input answer is held =
+      sealing_same held.1 key.suite held.2 key.octets.items held.3 key.usage held.4 confounder.items input answer
+      (etype_same etype held.1 key.suite held.6.suite_is is.1.suite_is) (octets_same keyhex held.2 key.octets.items held.6.key_is is.1.key_is)
+      (usage_same usage held.3 key.usage held.6.number_is is.1.number_is)
+      (octets_same confhex held.4 confounder.items held.7.confounder_is is.2.confounder_is) held.5
+  answers_to [] command input answer is held = elim is [ ]
+  answers_to (word ∷ []) (Seal key confounder) input answer is held = elim is [ ]
+  answers_to (word ∷ []) (Open key) input answer is held = elim is [ ]
+  answers_to (word ∷ (etype ∷ [])) command input answer is held = elim is [ ]
+  answers_to (word ∷ (etype ∷ (keyhex ∷ []))) command input answer is held = elim is [ ]
+  answers_to (word ∷ (etype ∷ (keyhex ∷ (usage ∷ [])))) Check input answer is held = elim is [ ]
+  answers_to (word ∷ (etype ∷ (keyhex ∷ (usage ∷ [])))) (Seal key confounder) input answer is held = elim is [ ]
+  answers_to (word ∷ (etype ∷ (keyhex ∷ (usage ∷ (confhex ∷ []))))) Check input answer is held = elim is [ ]
+  answers_to (word ∷ (etype ∷ (keyhex ∷ (usage ∷ (confhex ∷ []))))) (Open key) input answer is held = elim is [ ]
+  answers_to (word ∷ (etype ∷ (keyhex ∷ (usage ∷ (confhex ∷ (_ ∷ _)))))) command input answer is held = elim is [ ]
+
+  pub answers_from : (words : List (List ℕ)) (command : Command) (input answer : List ℕ) → IsCommand words command
+      → IsAnswer is_value enc command input answer → Answers is_value enc words input answer
+  answers_from (word ∷ []) Check input answer is held = (is, held)
+  answers_from (word ∷ etype ∷ keyhex ∷ usage ∷ []) (Open key) input answer is held = (is.0, key.suite, key.octets.items, key.usage, held, is.1)
+  answers_from (word ∷ etype ∷ keyhex ∷ usage ∷ confhex ∷ []) (Seal key confounder) input answer is held =
+      (is.0, key.suite, key.octets.items, key.usage, confounder.items, held, is.1, is.2)
+  answers_from [] command input answer is held = elim is [ ]
+  answers_from (word ∷ []) (Seal key confounder) input answer is held = elim is [ ]
+  answers_from (word ∷ []) (Open key) input answer is held = elim is [ ]
+  answers_from (word ∷ (etype ∷ [])) command input answer is held = elim is [ ]
+  answers_from (word ∷ (etype ∷ (keyhex ∷ []))) command input answer is held = elim is [ ]
+  answers_from (word ∷ (etype ∷ (keyhex ∷ (usage ∷ [])))) Check input answer is held = elim is [ ]
+  answers_from (word ∷ (etype ∷ (keyhex ∷ (usage ∷ [])))) (Seal key confounder) input answer is held = elim is [ ]
+  answers_from (word ∷ (etype ∷ (keyhex ∷ (usage ∷ (confhex ∷ []))))) Check input answer is held = elim is [ ]
+  answers_from (word ∷ (etype ∷ (keyhex ∷ (usage ∷ (confhex ∷ []))))) (Open key) input answer is held = elim is [ ]
+  answers_from (word ∷ (etype ∷ (keyhex ∷ (usage ∷ (confhex ∷ (_ ∷ _)))))) command input answer is held = elim is [ ]
+
+-- the words of a list of so many
+
+pub texts_1 : {X : Type 0} (f : X → List ℕ) (ws : List X) (a : X) → length ws ≡ 1 → a ≡ get_or ws 0 a → map f ws ≡ f a ∷ []
+texts_1 f [] a long ea = absurd (omega (arith, long))
+texts_1 f (x ∷ []) a long ea = rw ea refl
+texts_1 f (x ∷ y ∷ rest) a long ea = absurd (omega (arith, long))
+
+pub texts_4 : {X : Type 0} (f : X → List ℕ) (ws : List X) (a b c d : X) → length ws ≡ 4 → a ≡ get_or ws 0 a → b ≡ get_or ws 1 b → c ≡ get_or ws 2 c → d ≡ get_or ws 3 d
+    → map f ws ≡ f a ∷ f b ∷ f c ∷ f d ∷ []
+texts_4 f [] a b c d long ea eb ec ed = absurd (omega (arith, long))
+texts_4 f (x ∷ []) a b c d long ea eb ec ed = absurd (omega (arith, long))
+texts_4 f (x ∷ y ∷ []) a b c d long ea eb ec ed = absurd (omega (arith, long))
+texts_4 f (x ∷ y ∷ z ∷ []) a b c d long ea eb ec ed = absurd (omega (arith, long))
+texts_4 f (x ∷ y ∷ z ∷ w ∷ []) a b c d long ea eb ec ed = rw (ea, eb, ec, ed) refl
+texts_4 f (x ∷ y ∷ z ∷ w ∷ v ∷ rest) a b c d long ea eb ec ed = absurd (omega (arith, long))
+
+pub texts_5 : {X : Type 0} (f : X → List ℕ) (ws : List X) (a b c d e : X) → length ws ≡ 5 → a ≡ get_or ws 0 a → b ≡ get_or ws 1 b → c ≡ get_or ws 2 c → d ≡ get_or ws 3 d → e ≡ get_or ws 4 e
+    → map f ws ≡ f a ∷ f b ∷ f c ∷ f d ∷ f e ∷ []
+texts_5 f [] a b c d e long ea eb ec ed ee = absurd (omega (arith, long))
+texts_5 f (x ∷ []) a b c d e long ea eb ec ed ee = absurd (omega (arith, long))
+texts_5 f (x ∷ y ∷ []) a b c d e long ea eb ec ed ee = absurd (omega (arith, long))
+texts_5 f (x ∷ y ∷ z ∷ []) a b c d e long ea eb ec ed ee = absurd (omega (arith, long))
+texts_5 f (x ∷ y ∷ z ∷ w ∷ []) a b c d e long ea eb ec ed ee = absurd (omega (arith, long))
+texts_5 f (x ∷ y ∷ z ∷ w ∷ v ∷ []) a b c d e long ea eb ec ed ee = rw (ea, eb, ec, ed, ee) refl
+texts_5 f (x ∷ y ∷ z ∷ w ∷ v ∷ u ∷ rest) a b c d e long ea eb ec ed ee = absurd (omega (arith, long))
+
+-- words that are of no command
+
+pub not_check : (word : List ℕ) → word ≢ codes "check" → AreNoWords (word ∷ [])
+not_check word other = (other, λ n is. is)
+
+pub not_open : (word etype keyhex usage : List ℕ) → word ≢ codes "open" → AreNoWords (word ∷ etype ∷ keyhex ∷ usage ∷ [])
+not_open word etype keyhex usage other = (λ are. other are.0, λ n is. other is.0)
+
+pub not_seal : (word etype keyhex usage confhex : List ℕ) → word ≢ codes "seal" → AreNoWords (word ∷ etype ∷ keyhex ∷ usage ∷ confhex ∷ [])
+not_seal word etype keyhex usage confhex other = (λ are. other are.0, λ n is. other is.0)
+
+pub not_so_many : {X : Type 0} (f : X → List ℕ) (ws : List X) → length ws ≢ 1 → length ws ≢ 4 → length ws ≢ 5 → AreNoWords (map f ws)
+not_so_many f [] h1 h4 h5 = (λ are. are, λ n is. is)
+not_so_many f (x ∷ []) h1 h4 h5 = absurd (h1 refl)
+not_so_many f (x ∷ y ∷ []) h1 h4 h5 = (λ are. are, λ n is. is)
+not_so_many f (x ∷ y ∷ z ∷ []) h1 h4 h5 = (λ are. are, λ n is. is)
+not_so_many f (x ∷ y ∷ z ∷ w ∷ []) h1 h4 h5 = absurd (h4 refl)
+not_so_many f (x ∷ y ∷ z ∷ w ∷ v ∷ []) h1 h4 h5 = absurd (h5 refl)
+not_so_many f (x ∷ y ∷ z ∷ w ∷ v ∷ u ∷ rest) h1 h4 h5 = (λ are. are, λ n is. is)

@@ -1,0 +1,101 @@
+-- What the words after the program's name ask for.
+use Rattle.std.specs.Prelude.{◌≡◌, ◌≢◌, ◌⊎◌, ◌<◌, ◌^◌, ℕ, ℤ, List, [], ◌∷◌, codes, length, slice_index, FitsSigned, Ok}
+use Rattle.std.specs.Int.{w32}
+use Rattle.std.specs.Str.Parse.{IsNumeral, digits_value, without_leading_sign, signed_digits_value}
+use Rattle.hex.specs.Hex.{decode_of}
+use Rattle.krb_block.specs.declared.error.KerberosCryptoError.TheVariants as crypto
+use Rattle.krbtool.specs.declared.command.Suite.{Suite}
+use Rattle.krbtool.specs.declared.command.Command.{Command}
+use Rattle.krbtool.specs.declared.command.Command.TheVariants.{Check, Seal, Open}
+use Rattle.krbtool.specs.declared.failure.Failure.{Failure}
+use Rattle.krbtool.specs.declared.failure.Failure.TheVariants as failure
+use Rattle.krbtool.specs.Commands.{etype_of, IsChecked, IsSealing, IsOpening}
+
+-- the word is this number in decimal digits, and a `usize` holds it
+pub record IsNumber (word : List ℕ) (n : ℕ) : Type 0 where
+  pub digits : IsNumeral 10 word
+  pub value : digits_value 10 word ≡ n
+  pub fits : n < 2 ^ 64
+
+-- the word is the suite's number
+abbrev pub IsEtype : List ℕ → Suite → Type 0
+IsEtype word suite = IsNumber word (etype_of suite)
+
+-- the word is a number of no suite that the program knows
+pub record IsUnknownEtype (word : List ℕ) (n : ℕ) : Type 0 where
+  pub number : IsNumber word n
+  pub unknown : (suite : Suite) → etype_of suite ≢ n
+
+-- the word is the usage: decimal digits, with a minus in front or nothing, and an `i32` holds it
+pub record IsUsage (word : List ℕ) (usage : ℤ) : Type 0 where
+  pub no_plus : slice_index word 0 ≢ 43
+  pub digits : IsNumeral 10 (without_leading_sign word)
+  pub fits : FitsSigned w32 (signed_digits_value 10 word)
+  pub value : usage ≡ signed_digits_value 10 word
+
+-- ETYPE KEYHEX USAGE
+pub record AreKeyWords (etype keyhex usage : List ℕ) (suite : Suite) (key : List ℕ) (number : ℤ) : Type 0 where
+  pub suite_is : IsEtype etype suite
+  pub key_is : decode_of keyhex ≡ Ok key
+  pub number_is : IsUsage usage number
+
+-- CONFHEX
+pub record IsConfounderWord (confhex confounder : List ℕ) : Type 0 where
+  pub confounder_is : decode_of confhex ≡ Ok confounder
+  pub size_is : length confounder ≡ 16
+
+-- the words are a command's
+abbrev pub AreWords : List (List ℕ) → Type 0
+AreWords (command ∷ []) = command ≡ codes "check"
+AreWords (command ∷ etype ∷ keyhex ∷ usage ∷ []) =
+    (command ≡ codes "open") × (suite : Suite) × (key : List ℕ) × (number : ℤ) × AreKeyWords etype keyhex usage suite key number
+AreWords (command ∷ etype ∷ keyhex ∷ usage ∷ confhex ∷ []) =
+    (command ≡ codes "seal") × (suite : Suite) × (key : List ℕ) × (number : ℤ) × (confounder : List ℕ)
+    × AreKeyWords etype keyhex usage suite key number × IsConfounderWord confhex confounder
+AreWords words = ⊥
+
+-- the words are this command's
+abbrev pub IsCommand : List (List ℕ) → Command → Type 0
+IsCommand (command ∷ []) Check = command ≡ codes "check"
+IsCommand (command ∷ etype ∷ keyhex ∷ usage ∷ []) (Open key) =
+    (command ≡ codes "open") × AreKeyWords etype keyhex usage key.suite key.octets.items key.usage
+IsCommand (command ∷ etype ∷ keyhex ∷ usage ∷ confhex ∷ []) (Seal key confounder) =
+    (command ≡ codes "seal") × AreKeyWords etype keyhex usage key.suite key.octets.items key.usage × IsConfounderWord confhex confounder.items
+IsCommand words command = ⊥
+
+-- the words name an encryption type that the program does not know, whatever words follow it
+abbrev pub NameUnknown : List (List ℕ) → ℕ → Type 0
+NameUnknown (command ∷ etype ∷ keyhex ∷ usage ∷ []) n = (command ≡ codes "open") × IsUnknownEtype etype n
+NameUnknown (command ∷ etype ∷ keyhex ∷ usage ∷ confhex ∷ []) n = (command ≡ codes "seal") × IsUnknownEtype etype n
+NameUnknown words n = ⊥
+
+-- the words are of no command, and name no unknown encryption type
+abbrev pub AreNoWords : List (List ℕ) → Type 0
+AreNoWords words = (AreWords words → ⊥) × ((n : ℕ) → NameUnknown words n → ⊥)
+
+-- why words are refused
+abbrev pub RefusesWords : List (List ℕ) → Failure → Type 0
+RefusesWords words e =
+    (e ≡ failure.Memory) ⊎ ((n : ℕ) × (e ≡ failure.Crypto (crypto.AlgorithmIdentifier n)) × NameUnknown words n) ⊎ ((e ≡ failure.Words) × AreNoWords words)
+
+-- why ETYPE alone, and why ETYPE KEYHEX USAGE are refused
+abbrev pub RefusesEtype : List ℕ → Failure → Type 0
+RefusesEtype word e =
+    ((e ≡ failure.Words) × ((n : ℕ) → IsNumber word n → ⊥)) ⊎ ((n : ℕ) × (e ≡ failure.Crypto (crypto.AlgorithmIdentifier n)) × IsUnknownEtype word n)
+
+abbrev pub RefusesKeyWords : List ℕ → List ℕ → List ℕ → Failure → Type 0
+RefusesKeyWords etype keyhex usage e =
+    (e ≡ failure.Memory) ⊎ ((n : ℕ) × (e ≡ failure.Crypto (crypto.AlgorithmIdentifier n)) × IsUnknownEtype etype n)
+    ⊎ ((e ≡ failure.Words) × ((n : ℕ) → IsUnknownEtype etype n → ⊥) × ((suite : Suite) (key : List ℕ) (number : ℤ) → AreKeyWords etype keyhex usage suite key number → ⊥))
+
+-- what these words answer to an input
+abbrev pub Answers : {V : Type 0} → (V → Type 0) → (V → List ℕ) → List (List ℕ) → List ℕ → List ℕ → Type 0
+Answers is_value enc (command ∷ []) input answer = (command ≡ codes "check") × IsChecked is_value enc input answer
+Answers is_value enc (command ∷ etype ∷ keyhex ∷ usage ∷ []) input answer =
+    (command ≡ codes "open") × (suite : Suite) × (key : List ℕ) × (number : ℤ)
+    × IsOpening is_value enc suite key number input answer × AreKeyWords etype keyhex usage suite key number
+Answers is_value enc (command ∷ etype ∷ keyhex ∷ usage ∷ confhex ∷ []) input answer =
+    (command ≡ codes "seal") × (suite : Suite) × (key : List ℕ) × (number : ℤ) × (confounder : List ℕ)
+    × IsSealing is_value enc suite key number confounder input answer
+    × AreKeyWords etype keyhex usage suite key number × IsConfounderWord confhex confounder
+Answers is_value enc words input answer = ⊥

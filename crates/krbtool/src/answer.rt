@@ -1,0 +1,136 @@
+//! What a command answers to an input.
+
+ghost use Rattle.std.specs.Prelude.{◌≡◌, ◌≢◌, ℕ, List, length, IfOk, IfErr, MatchResult};
+ghost use Rattle.krb_suite.specs.Sealing.{IsGiven};
+ghost use Rattle.krbtool.specs.Commands.{IsChecked, IsSealing, IsOpening, IsAnswer, HasConfounder};
+ghost use Rattle.krbtool.specs.Outcome.{IsOutside};
+
+use crate::command::{Command, SealingKey, Suite};
+use crate::failure::{Failure, der_failure, part_failure};
+use krb_der::{Der, DerEncode, from_bytes, to_vec};
+use krb_msg::data_types::EncTicketPart;
+use krb_seal::{open_part, seal_part};
+use krb_suite::Cipher;
+use krb_suite::aes::{Aes128CtsHmacSha196, Aes256CtsHmacSha196};
+use std::alloc::Global;
+
+/// The input again, where it is the encoding of a value of the type.
+fn checked<T: Der + Drop>(alloc: Global, input: &[u8]) -> Result<Vec<u8>, Failure>
+    ensures found { IfOk result (λ made. IsChecked T.is_value T.enc input.now made.items) }
+    ensures only { (answer : List ℕ) → IsChecked T.is_value T.enc input.now answer
+        → MatchResult result (λ made. made.items ≡ answer) IsOutside }
+    ensures words { IfErr result (λ e. e ≢ Failure.Words) }
+{
+    let value: T = from_bytes(alloc, input).map_err(der_failure)?;
+    to_vec(alloc, &value).map_err(der_failure)
+}
+
+/// What the input, the encoding of a value, is sealed to by the lent cipher.
+fn sealed<T: Der + Drop>(
+    alloc: Global,
+    cipher: &dyn Cipher,
+    key: &[u8],
+    usage: i32,
+    confounder: &[u8],
+    input: &[u8],
+) -> Result<Vec<u8>, Failure>
+    requires { length confounder.now ≡ confounder_octets cipher.now }
+    ensures found { IfOk result (λ made. (v : T) × T.is_value v × (input.now ≡ T.enc v) × (length key.now ≡ key_octets cipher.now) × meaning cipher.now key.now usage confounder.now (T.enc v) made.items) }
+    ensures only { (v : T) (answer : List ℕ) → T.is_value v → input.now ≡ T.enc v → length key.now ≡ key_octets cipher.now → meaning cipher.now key.now usage confounder.now (T.enc v) answer
+        → MatchResult result (λ made. made.items ≡ answer) IsOutside }
+    ensures words { IfErr result (λ e. e ≢ Failure.Words) }
+{
+    let value: T = from_bytes(alloc, input).map_err(der_failure)?;
+    value.known();
+    seal_part(alloc, cipher, key, usage, confounder, &value).map_err(part_failure)
+}
+
+/// The encoding of the value that the lent cipher sealed to the input.
+fn opened<T: Der + Drop>(
+    alloc: Global,
+    cipher: &dyn Cipher,
+    key: &[u8],
+    usage: i32,
+    input: &[u8],
+) -> Result<Vec<u8>, Failure>
+    ensures found { IfOk result (λ made. (v : T) × T.is_value v × (made.items ≡ T.enc v) × (length key.now ≡ key_octets cipher.now) × IsGiven (meaning cipher.now key.now usage) (confounder_octets cipher.now) input.now (T.enc v)) }
+    ensures only { (v : T) → T.is_value v → length key.now ≡ key_octets cipher.now → IsGiven (meaning cipher.now key.now usage) (confounder_octets cipher.now) input.now (T.enc v)
+        → MatchResult result (λ made. made.items ≡ T.enc v) IsOutside }
+    ensures words { IfErr result (λ e. e ≢ Failure.Words) }
+{
+    let value: T = open_part(alloc, cipher, key, usage, input).map_err(part_failure)?;
+    to_vec(alloc, &value).map_err(der_failure)
+}
+
+/// What the input is sealed to under the key.
+fn sealed_under(
+    alloc: Global,
+    key: &SealingKey,
+    confounder: &[u8],
+    input: &[u8],
+) -> Result<Vec<u8>, Failure>
+    requires { length confounder.now ≡ 16 }
+    ensures found { IfOk result (λ made. IsSealing ⟦<EncTicketPart as DerEncode>⟧.is_value ⟦<EncTicketPart as DerEncode>⟧.enc key.now.suite key.now.octets.items key.now.usage confounder.now input.now made.items) }
+    ensures only { (answer : List ℕ) → IsSealing ⟦<EncTicketPart as DerEncode>⟧.is_value ⟦<EncTicketPart as DerEncode>⟧.enc key.now.suite key.now.octets.items key.now.usage confounder.now input.now answer
+        → MatchResult result (λ made. made.items ≡ answer) IsOutside }
+    ensures words { IfErr result (λ e. e ≢ Failure.Words) }
+{
+    match key.suite {
+        Suite::Aes128 => sealed::<EncTicketPart>(
+            alloc,
+            &Aes128CtsHmacSha196::new(),
+            &key.octets,
+            key.usage,
+            confounder,
+            input,
+        ),
+        Suite::Aes256 => sealed::<EncTicketPart>(
+            alloc,
+            &Aes256CtsHmacSha196::new(),
+            &key.octets,
+            key.usage,
+            confounder,
+            input,
+        ),
+    }
+}
+
+/// What was sealed to the input under the key.
+fn opened_under(alloc: Global, key: &SealingKey, input: &[u8]) -> Result<Vec<u8>, Failure>
+    ensures found { IfOk result (λ made. IsOpening ⟦<EncTicketPart as DerEncode>⟧.is_value ⟦<EncTicketPart as DerEncode>⟧.enc key.now.suite key.now.octets.items key.now.usage input.now made.items) }
+    ensures only { (answer : List ℕ) → IsOpening ⟦<EncTicketPart as DerEncode>⟧.is_value ⟦<EncTicketPart as DerEncode>⟧.enc key.now.suite key.now.octets.items key.now.usage input.now answer
+        → MatchResult result (λ made. made.items ≡ answer) IsOutside }
+    ensures words { IfErr result (λ e. e ≢ Failure.Words) }
+{
+    match key.suite {
+        Suite::Aes128 => opened::<EncTicketPart>(
+            alloc,
+            &Aes128CtsHmacSha196::new(),
+            &key.octets,
+            key.usage,
+            input,
+        ),
+        Suite::Aes256 => opened::<EncTicketPart>(
+            alloc,
+            &Aes256CtsHmacSha196::new(),
+            &key.octets,
+            key.usage,
+            input,
+        ),
+    }
+}
+
+/// What the command answers to the input.
+pub fn answer(alloc: Global, command: &Command, input: &[u8]) -> Result<Vec<u8>, Failure>
+    requires { HasConfounder command.now }
+    ensures found { IfOk result (λ made. IsAnswer ⟦<EncTicketPart as DerEncode>⟧.is_value ⟦<EncTicketPart as DerEncode>⟧.enc command.now input.now made.items) }
+    ensures only { (answer : List ℕ) → IsAnswer ⟦<EncTicketPart as DerEncode>⟧.is_value ⟦<EncTicketPart as DerEncode>⟧.enc command.now input.now answer
+        → MatchResult result (λ made. made.items ≡ answer) IsOutside }
+    ensures words { IfErr result (λ e. e ≢ Failure.Words) }
+{
+    match command {
+        Command::Check => checked::<EncTicketPart>(alloc, input),
+        Command::Seal { key, confounder } => sealed_under(alloc, key, confounder, input),
+        Command::Open { key } => opened_under(alloc, key, input),
+    }
+}

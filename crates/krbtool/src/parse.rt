@@ -1,0 +1,140 @@
+//! The command that words are. They are counted, then tested from the left.
+
+ghost use Rattle.std.specs.Prelude.{◌≡◌, ◌≢◌, ◌⊎◌, ℕ, ℤ, List, [], ◌∷◌, codes, map, IfOk, IfErr, Ok};
+ghost use Rattle.std.specs.String.{string_bytes};
+ghost use Rattle.hex.specs.Hex.{decode_of};
+ghost use Rattle.krbtool.specs.Words.{IsEtype, IsUsage, AreKeyWords, IsCommand, RefusesEtype, RefusesKeyWords, RefusesWords};
+
+use crate::command::{Command, SealingKey, Suite};
+use crate::failure::Failure;
+use hex::FromHexError;
+use krb_suite::KerberosCryptoError;
+use krb_suite::aes::AES_BLOCK_SIZE;
+use std::alloc::Global;
+
+/// The command that the words are. `Words` where they are none, and `Crypto(AlgorithmIdentifier)` where they name an
+/// encryption type that the program does not know, whatever words follow.
+pub fn parse(alloc: Global, words: &[String]) -> Result<Command, Failure>
+    ensures found { IfOk result (IsCommand (map string_bytes words.now)) }
+    ensures refused { IfErr result (RefusesWords (map string_bytes words.now)) }
+{
+    match words.len() {
+        1 => {
+            if words[0].as_str() == "check" {
+                Ok(Command::Check)
+            } else {
+                Err(Failure::Words)
+            }
+        }
+        4 => {
+            if words[0].as_str() == "open" {
+                parse_open(
+                    alloc,
+                    words[1].as_str(),
+                    words[2].as_str(),
+                    words[3].as_str(),
+                )
+            } else {
+                Err(Failure::Words)
+            }
+        }
+        5 => {
+            if words[0].as_str() == "seal" {
+                parse_seal(
+                    alloc,
+                    words[1].as_str(),
+                    words[2].as_str(),
+                    words[3].as_str(),
+                    words[4].as_str(),
+                )
+            } else {
+                Err(Failure::Words)
+            }
+        }
+        _ => Err(Failure::Words),
+    }
+}
+
+fn parse_open(alloc: Global, etype: &str, key: &str, usage: &str) -> Result<Command, Failure>
+    ensures found { IfOk result (IsCommand (codes "open" ∷ etype.now ∷ key.now ∷ usage.now ∷ [])) }
+    ensures refused { IfErr result (RefusesWords (codes "open" ∷ etype.now ∷ key.now ∷ usage.now ∷ [])) }
+{
+    let key = parse_key(alloc, etype, key, usage)?;
+    Ok(Command::Open { key })
+}
+
+fn parse_seal(
+    alloc: Global,
+    etype: &str,
+    key: &str,
+    usage: &str,
+    confounder: &str,
+) -> Result<Command, Failure>
+    ensures found { IfOk result (IsCommand (codes "seal" ∷ etype.now ∷ key.now ∷ usage.now ∷ confounder.now ∷ [])) }
+    ensures refused { IfErr result (RefusesWords (codes "seal" ∷ etype.now ∷ key.now ∷ usage.now ∷ confounder.now ∷ [])) }
+{
+    let key = parse_key(alloc, etype, key, usage)?;
+    let confounder = octets_of(alloc, confounder)?;
+    if confounder.len() != AES_BLOCK_SIZE {
+        return Err(Failure::Words);
+    }
+    Ok(Command::Seal { key, confounder })
+}
+
+/// The words ETYPE KEYHEX USAGE.
+#[tactic(auto, using(crate::proofs::Parsing::etype_refused))]
+fn parse_key(alloc: Global, etype: &str, key: &str, usage: &str) -> Result<SealingKey, Failure>
+    ensures found { IfOk result (λ k. AreKeyWords etype.now key.now usage.now k.suite k.octets.items k.usage) }
+    ensures refused { IfErr result (RefusesKeyWords etype.now key.now usage.now) }
+{
+    let suite = suite_of(etype)?;
+    let octets = octets_of(alloc, key)?;
+    let usage = usage_of(usage)?;
+    Ok(SealingKey {
+        suite,
+        octets,
+        usage,
+    })
+}
+
+/// ETYPE: decimal digits, of a number that a `usize` holds.
+fn suite_of(text: &str) -> Result<Suite, Failure>
+    ensures found { IfOk result (IsEtype text.now) }
+    ensures refused { IfErr result (RefusesEtype text.now) }
+{
+    if text.starts_with('+') {
+        return Err(Failure::Words);
+    }
+    match text.parse::<usize>() {
+        Ok(17) => Ok(Suite::Aes128),
+        Ok(18) => Ok(Suite::Aes256),
+        Ok(other) => Err(Failure::Crypto(KerberosCryptoError::AlgorithmIdentifier(other))),
+        Err(_) => Err(Failure::Words),
+    }
+}
+
+/// USAGE: decimal digits, with a minus in front or nothing, of a number that an `i32` holds.
+fn usage_of(text: &str) -> Result<i32, Failure>
+    ensures found { IfOk result (IsUsage text.now) }
+    ensures refused { IfErr result (λ e. (e ≡ Failure.Words) × ((usage : ℤ) → ¬ IsUsage text.now usage)) }
+{
+    if text.starts_with('+') {
+        return Err(Failure::Words);
+    }
+    match text.parse::<i32>() {
+        Ok(usage) => Ok(usage),
+        Err(_) => Err(Failure::Words),
+    }
+}
+
+/// KEYHEX and CONFHEX: an even number of hexadecimal digits of either case.
+fn octets_of(alloc: Global, text: &str) -> Result<Vec<u8>, Failure>
+    ensures found { IfOk result (λ octets. decode_of text.now ≡ Ok octets.items) }
+    ensures refused { IfErr result (λ e. (e ≡ Failure.Memory) ⊎ ((e ≡ Failure.Words) × ((octets : List ℕ) → decode_of text.now ≢ Ok octets))) }
+{
+    match hex::decode(alloc, text) {
+        Ok(octets) => Ok(octets),
+        Err(FromHexError::OutOfMemory) => Err(Failure::Memory),
+        Err(_) => Err(Failure::Words),
+    }
+}
