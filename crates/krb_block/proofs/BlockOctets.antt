@@ -4,7 +4,7 @@ use Rattle.std.proofs.lemmas.List.{length-append, get_or-drop, get_or_past, ext_
 use Rattle.std.proofs.lemmas.Nat.{xor_lt, xor_comm}
 use lib.Bits.{xor_assoc, xor_self, xor_zero_r, xor_zero_l}
 use Rattle.std.proofs.lemmas.Bool.{cases_lt}
-use Rattle.krb_block.specs.Modes.{filled, xor_octets, IsOctets, IsBlock}
+use Rattle.krb_block.specs.Modes.{filled_to, xor_octets, IsOctets, IsBlock}
 
 pub length-xor_octets : (xs ys : List ℕ) → length xs ≡ length ys → length (xor_octets xs ys) ≡ length xs
 length-xor_octets [] ys e = refl
@@ -86,15 +86,15 @@ get_or-then_zeros (x ∷ t) n zero = refl
 get_or-then_zeros (x ∷ t) n (suc k) = get_or-then_zeros t n k
 
 -- a block written octet by octet
-pub joined_end : (block part b : List ℕ) (i : ℕ) → length block ≡ 16 → length b ≡ 16 → length part ≤ 16 → i ≡ length part
+pub joined_end : (size : ℕ) (block part b : List ℕ) (i : ℕ) → length block ≡ size → length b ≡ size → length part ≤ size → i ≡ length part
     → ((k : ℕ) → k < i → get_or block k 0 ≡ bit_xor (get_or part k 0) (get_or b k 0)) → ((k : ℕ) → i ≤ k → get_or block k 0 ≡ get_or b k 0)
-    → block ≡ xor_octets (filled part) b
-joined_end block part b i lb l fits ei below above =
-    let lf : length (filled part) ≡ 16 = rw (length-append, length-replicate) (omega arith) in
-    let lx : length (xor_octets (filled part) b) ≡ 16 = length-xor_octets (filled part) b (lf ∙ sym l) ∙ lf in
-    ext_get_or 0 block (xor_octets (filled part) b) (lb ∙ sym lx) (λ k lt.
-    let at : get_or (xor_octets (filled part) b) k 0 ≡ bit_xor (get_or part k 0) (get_or b k 0) =
-    get_or-xor_octets (filled part) b k (lf ∙ sym l) ∙ ap (λ (j : ℕ). bit_xor j (get_or b k 0)) (get_or-then_zeros part (16 - length part) k) in
+    → block ≡ xor_octets (filled_to size part) b
+joined_end size block part b i lb l fits ei below above =
+    let lf : length (filled_to size part) ≡ size = rw (length-append, length-replicate) (omega arith) in
+    let lx : length (xor_octets (filled_to size part) b) ≡ size = length-xor_octets (filled_to size part) b (lf ∙ sym l) ∙ lf in
+    ext_get_or 0 block (xor_octets (filled_to size part) b) (lb ∙ sym lx) (λ k lt.
+    let at : get_or (xor_octets (filled_to size part) b) k 0 ≡ bit_xor (get_or part k 0) (get_or b k 0) =
+    get_or-xor_octets (filled_to size part) b k (lf ∙ sym l) ∙ ap (λ (j : ℕ). bit_xor j (get_or b k 0)) (get_or-then_zeros part (size - length part) k) in
     elim (cases_lt k i) [
       | inl low ↦ below k low ∙ sym at
       | inr high ↦

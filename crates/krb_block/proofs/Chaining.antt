@@ -1,11 +1,12 @@
 -- Cipher block chaining as a function of octets, over blocks of any size, and what undoes it.
-use Rattle.std.proofs.Common.{◌≡◌, ℕ, zero, suc, ◌+◌, ◌-◌, ◌*◌, ◌/◌, ◌%◌, ◌<◌, ◌≤◌, List, [], ◌∷◌, ◌++◌, length, take, drop, refl, sym, ap, ◌∙◌, arith}
-use Rattle.std.proofs.lemmas.List.{length-append, length-take-le, length-drop, take-append-drop, take-append-le, take_at, drop_at, append_assoc, append-nil, length-replicate}
-use Rattle.std.proofs.Math.Nat.{mul-suc}
+use Rattle.std.proofs.Common.{◌≡◌, ℕ, zero, suc, ◌+◌, ◌-◌, ◌*◌, ◌/◌, ◌%◌, ◌<◌, ◌≤◌, List, [], ◌∷◌, ◌++◌, length, take, drop, get_or, refl, sym, ap, ◌∙◌, arith, add-one, add-zero}
+use Rattle.std.proofs.lemmas.List.{length-append, length-take-le, length-drop, take-append-drop, take-append-le, take_at, drop_at, append_assoc, append-nil, drop-drop, length-replicate}
+use Rattle.std.proofs.Math.Arith.{digits_div, digits_mod}
+use Rattle.std.proofs.Math.Nat.{mul-suc, mul_comm, add_comm, mul-le-mul_left, div-add-mod'}
+use Rattle.std.specs.Simd.{first_chunks}
 use Rattle.std.specs.List.{concat}
-use Rattle.krb_block.specs.Modes.{filled, xor_octets, IsOctets, IsBlock, AreInverse, zero_block, first_blocks, filled_blocks, IsCbc}
+use Rattle.krb_block.specs.Modes.{filled_to, xor_octets, IsOctets, IsBlock, AreInverse, zero_block, first_blocks, filled_blocks, IsCbc}
 use Rattle.krb_block.proofs.BlockOctets.{length-xor_octets, IsOctets-xor_octets, IsOctets-take, IsOctets-drop, IsOctets-append, IsOctets-zeros, xor_octets-twice}
-use Rattle.krb_block.proofs.StealingSteps.{filled_whole, part_length, next_part}
 use Rattle.krb_block.proofs.Chains.{chained, chained_from, CbcFrom-chained}
 
 module _ (size : ℕ) where
@@ -127,58 +128,123 @@ module _ (size : ℕ) where
     joined = e ∙ sym (linked_is E n (zero_block size) p (IsWhole-of_length n p len)) ∙ ap (λ (k : ℕ). concat (chained E (zero_block size) (first_blocks size k p))) (sym count);
   }
 
--- ---- steps over blocks of 16 octets
+  -- ---- steps of the loops over blocks
 
-pub link_step : (E : List ℕ → List ℕ) (count i : ℕ) (v p out out2 c part target : List ℕ) → i < count → 16 * count ≤ length p
-    → part ≡ take 16 (drop (16 * i) p) → c ≡ E (xor_octets (filled part) v) → out2 ≡ out ++ c → out ++ linked 16 E (count - i) v (drop (16 * i) p) ≡ target
-    → out2 ++ linked 16 E (count - (i + 1)) c (drop (16 * (i + 1)) p) ≡ target
-unfolding linked
-link_step E count i v p out out2 c part target lt long ep ec eo inv =
-    let m : count - i ≡ suc (count - (i + 1)) = omega arith in
-    let q : List ℕ = drop (16 * i) p in
-    let k : ℕ = count - (i + 1) in
-    let whole : c ≡ E (xor_octets (take 16 q) v) = ec ∙ ap (λ (j : List ℕ). E (xor_octets (filled j) v)) ep ∙ ap (λ (j : List ℕ). E (xor_octets j v)) (filled_whole (take 16 q) (part_length p i (omega arith))) in
-    let before : out ++ (E (xor_octets (take 16 q) v) ++ linked 16 E k (E (xor_octets (take 16 q) v)) (drop 16 q)) ≡ target = rw m at inv in
-    rw (eo, whole, ← next_part p i) (append_assoc out (E (xor_octets (take 16 q) v)) (linked 16 E k (E (xor_octets (take 16 q) v)) (drop 16 q)) ∙ before)
+  pub filled_whole : (t : List ℕ) → length t ≡ size → filled_to size t ≡ t
+  filled_whole t e = let z : size - length t ≡ 0 = omega arith in rw z (append-nil t)
 
-pub unlink_step : (D : List ℕ → List ℕ) (count i : ℕ) (v c out out2 x d b target : List ℕ) → i < count
-    → x ≡ take 16 (drop (16 * i) c) → d ≡ D x → length d ≡ 16 → b ≡ xor_octets (filled d) v → out2 ≡ out ++ b → out ++ unlinked 16 D (count - i) v (drop (16 * i) c) ≡ target
-    → out2 ++ unlinked 16 D (count - (i + 1)) x (drop (16 * (i + 1)) c) ≡ target
-unfolding unlinked
-unlink_step D count i v c out out2 x d b target lt ex ed l eb eo inv =
-    let m : count - i ≡ suc (count - (i + 1)) = omega arith in
-    let q : List ℕ = drop (16 * i) c in
-    let k : ℕ = count - (i + 1) in
-    let whole : b ≡ xor_octets (D x) v = eb ∙ ap (λ (j : List ℕ). xor_octets j v) (filled_whole d l) ∙ ap (λ (j : List ℕ). xor_octets j v) ed in
-    let before : out ++ (xor_octets (D (take 16 q)) v ++ unlinked 16 D k (take 16 q) (drop 16 q)) ≡ target = rw m at inv in
-    rw (eo, whole, ex, ← next_part c i) (append_assoc out (xor_octets (D (take 16 q)) v) (unlinked 16 D k (take 16 q) (drop 16 q)) ∙ before)
+  pub part_length : (p : List ℕ) (i : ℕ) → size * i + size ≤ length p → length (take size (drop (size * i) p)) ≡ size
+  part_length p i h = length-take-le size (drop (size * i) p) (rw length-drop (omega arith))
 
--- no block is left
-pub linked_end : (E : List ℕ → List ℕ) (count i : ℕ) (v rest out target : List ℕ) → count ≤ i → out ++ linked 16 E (count - i) v rest ≡ target → out ≡ target
-unfolding linked
-linked_end E count i v rest out target done e = let none : count - i ≡ 0 = omega arith in sym (append-nil out) ∙ rw none at e
+  pub next_part : (p : List ℕ) (i : ℕ) → drop size (drop (size * i) p) ≡ drop (size * (i + 1)) p
+  next_part p i = let e : size * i + size ≡ size * (i + 1) = rw add-one (sym (mul-suc size i)) in drop-drop size (size * i) p ∙ ap (λ (k : ℕ). drop k p) e
 
-pub unlinked_end : (D : List ℕ → List ℕ) (count i : ℕ) (v rest out target : List ℕ) → count ≤ i → out ++ unlinked 16 D (count - i) v rest ≡ target → out ≡ target
-unfolding unlinked
-unlinked_end D count i v rest out target done e = let none : count - i ≡ 0 = omega arith in sym (append-nil out) ∙ rw none at e
+  -- where more whole blocks follow, one is there
+  pub part_inside : (p : List ℕ) (i : ℕ) → i < length p / size → size * i + size ≤ length p
+  part_inside p i low =
+      let up : size * suc i ≤ size * (length p / size) = mul-le-mul_left size (omega arith) in
+      let more : size * suc i ≡ size * i + size = mul-suc size i in
+      let all : length p / size * size + length p % size ≡ length p = div-add-mod' (length p) size in
+      let turned : size * (length p / size) ≡ length p / size * size = mul_comm size (length p / size) in
+      omega (arith, up, more, all, turned)
 
--- what is unlinked is the one list that is chained to c
-pub cbc_plain : (E D : List ℕ → List ℕ) → AreInverse 16 E D → (p c : List ℕ) → IsOctets c → length c % 16 ≡ 0 → p ≡ unlinked 16 D (length c / 16) (zero_block 16) c → IsCbc 16 E p c
-cbc_plain E D inv p c all whole e =
-    let n : ℕ = length c / 16 in
-    let hc : IsWhole 16 n c = IsWhole-of_length 16 n c (omega (arith, whole)) in
-    let hp = unlinked-octets 16 E D inv n (zero_block 16) c (IsBlock-zero_block 16) all hc in
-    let len : length p ≡ 16 * n = ap length e ∙ length-of_IsWhole 16 n (unlinked 16 D n (zero_block 16) c) hp.0 in
-    IsCbc-linked 16 E n p c len (omega (arith, len)) (omega (arith, len))
-    (sym (linked-unlinked 16 E D inv n (zero_block 16) c (IsBlock-zero_block 16) all hc) ∙ ap (linked 16 E n (zero_block 16)) (sym e))
+  -- the whole blocks, one by one
+  pub chunk_at : (n : ℕ) (p none : List ℕ) (i : ℕ) → i < n → get_or (first_chunks size n p) i none ≡ take size (drop (size * i) p)
+  chunk_at zero p none i low = absurd (omega arith)
+  chunk_at (suc n) p none zero low = let start : size * 0 ≡ 0 = omega arith in rw start refl
+  chunk_at (suc n) p none (suc i) low =
+      let e : size * suc i ≡ size + size * i = mul-suc size i ∙ add_comm (size * i) size in
+      chunk_at n (drop size p) none i (omega arith) ∙ ap (take size) (drop-drop (size * i) size p ∙ ap (λ (k : ℕ). drop k p) (sym e))
 
-pub cbc_only : (E D : List ℕ → List ℕ) → AreInverse 16 E D → (p c q : List ℕ) → p ≡ unlinked 16 D (length c / 16) (zero_block 16) c → IsOctets q → IsCbc 16 E q c → q ≡ p
-cbc_only E D inv p c q e all is =
-    let m : ℕ = length q / 16 in
-    let whole : length q % 16 ≡ 0 = is.whole in
-    let len : length q ≡ 16 * m = omega (arith, whole) in
-    let hq : IsWhole 16 m q = IsWhole-of_length 16 m q len in
-    let made : c ≡ linked 16 E m (zero_block 16) q = linked_from 16 E m q c len (omega (arith, len)) is in
-    let long : length c ≡ 16 * m = ap length made ∙ length-of_IsWhole 16 m (linked 16 E m (zero_block 16) q) (linked_whole 16 E D inv m (zero_block 16) q (IsBlock-zero_block 16) all hq).0 in
-    let same : length c / 16 ≡ m = omega (arith, long) in
-    sym (e ∙ ap (λ (k : ℕ). unlinked 16 D k (zero_block 16) c) same ∙ ap (unlinked 16 D m (zero_block 16)) made ∙ unlinked-linked 16 E D inv m (zero_block 16) q (IsBlock-zero_block 16) all hq)
+  pub link_step : (E : List ℕ → List ℕ) (count i : ℕ) (v p out out2 c part target : List ℕ) → i < count → size * i + size ≤ length p
+      → part ≡ take size (drop (size * i) p) → c ≡ E (xor_octets (filled_to size part) v) → out2 ≡ out ++ c → out ++ linked E (count - i) v (drop (size * i) p) ≡ target
+      → out2 ++ linked E (count - (i + 1)) c (drop (size * (i + 1)) p) ≡ target
+  unfolding linked
+  link_step E count i v p out out2 c part target lt long ep ec eo inv =
+      let m : count - i ≡ suc (count - (i + 1)) = omega arith in
+      let q : List ℕ = drop (size * i) p in
+      let k : ℕ = count - (i + 1) in
+      let whole : c ≡ E (xor_octets (take size q) v) = ec ∙ ap (λ (j : List ℕ). E (xor_octets (filled_to size j) v)) ep ∙ ap (λ (j : List ℕ). E (xor_octets j v)) (filled_whole (take size q) (part_length p i long)) in
+      let before : out ++ (E (xor_octets (take size q) v) ++ linked E k (E (xor_octets (take size q) v)) (drop size q)) ≡ target = rw m at inv in
+      rw (eo, whole, ← next_part p i) (append_assoc out (E (xor_octets (take size q) v)) (linked E k (E (xor_octets (take size q) v)) (drop size q)) ∙ before)
+
+  pub unlink_step : (D : List ℕ → List ℕ) (count i : ℕ) (v c out out2 x d b target : List ℕ) → i < count
+      → x ≡ take size (drop (size * i) c) → d ≡ D x → length d ≡ size → b ≡ xor_octets (filled_to size d) v → out2 ≡ out ++ b → out ++ unlinked D (count - i) v (drop (size * i) c) ≡ target
+      → out2 ++ unlinked D (count - (i + 1)) x (drop (size * (i + 1)) c) ≡ target
+  unfolding unlinked
+  unlink_step D count i v c out out2 x d b target lt ex ed l eb eo inv =
+      let m : count - i ≡ suc (count - (i + 1)) = omega arith in
+      let q : List ℕ = drop (size * i) c in
+      let k : ℕ = count - (i + 1) in
+      let whole : b ≡ xor_octets (D x) v = eb ∙ ap (λ (j : List ℕ). xor_octets j v) (filled_whole d l) ∙ ap (λ (j : List ℕ). xor_octets j v) ed in
+      let before : out ++ (xor_octets (D (take size q)) v ++ unlinked D k (take size q) (drop size q)) ≡ target = rw m at inv in
+      rw (eo, whole, ex, ← next_part c i) (append_assoc out (xor_octets (D (take size q)) v) (unlinked D k (take size q) (drop size q)) ∙ before)
+
+  -- no block is left
+  pub linked_end : (E : List ℕ → List ℕ) (count i : ℕ) (v rest out target : List ℕ) → count ≤ i → out ++ linked E (count - i) v rest ≡ target → out ≡ target
+  unfolding linked
+  linked_end E count i v rest out target done e = let none : count - i ≡ 0 = omega arith in sym (append-nil out) ∙ rw none at e
+
+  pub unlinked_end : (D : List ℕ → List ℕ) (count i : ℕ) (v rest out target : List ℕ) → count ≤ i → out ++ unlinked D (count - i) v rest ≡ target → out ≡ target
+  unfolding unlinked
+  unlinked_end D count i v rest out target done e = let none : count - i ≡ 0 = omega arith in sym (append-nil out) ∙ rw none at e
+
+  -- ---- what the loops answer
+
+  -- whole blocks are as many as their number says, also where the last is counted by rounding up
+  pub whole_length : (p : List ℕ) → length p % size ≡ 0 → length p ≡ size * (length p / size)
+  whole_length p whole = let all : length p / size * size + length p % size ≡ length p = div-add-mod' (length p) size in sym all ∙ ap (λ (k : ℕ). length p / size * size + k) whole ∙ add-zero (length p / size * size) ∙ mul_comm (length p / size) size
+
+  pub rounded_up : 0 < size → (p : List ℕ) (n : ℕ) → length p ≡ size * n → (length p + (size - 1)) / size ≡ n
+  rounded_up some p n e =
+      let low : size - 1 < size = omega arith in
+      let sum : length p + (size - 1) ≡ n * size + (size - 1) = ap (λ (k : ℕ). k + (size - 1)) (e ∙ mul_comm size n) in
+      ap (λ (k : ℕ). k / size) sum ∙ digits_div n low
+
+  pub whole_count : 0 < size → (n : ℕ) → (size * n) / size ≡ n
+  whole_count some n = ap (λ (k : ℕ). k / size) (mul_comm size n ∙ sym (add-zero (n * size))) ∙ digits_div n some
+
+  pub whole_rest : 0 < size → (n : ℕ) → (size * n) % size ≡ 0
+  whole_rest some n = ap (λ (k : ℕ). k % size) (mul_comm size n ∙ sym (add-zero (n * size))) ∙ digits_mod n some
+
+  -- what is linked is what the blocks are chained to
+  pub cbc_linked : 0 < size → (E : List ℕ → List ℕ) (p c : List ℕ) → length p % size ≡ 0 → c ≡ linked E (length p / size) (zero_block size) p → IsCbc size E p c
+  cbc_linked some E p c whole e =
+      let len : length p ≡ size * (length p / size) = whole_length p whole in
+      IsCbc-linked E (length p / size) p c len (rounded_up some p (length p / size) len) whole e
+
+  -- what is unlinked is the one list that is chained to c
+  pub cbc_plain : 0 < size → (E D : List ℕ → List ℕ) → AreInverse size E D → (p c : List ℕ) → IsOctets c → length c % size ≡ 0 → p ≡ unlinked D (length c / size) (zero_block size) c → IsCbc size E p c
+  cbc_plain some E D inv p c all whole e =
+      let n : ℕ = length c / size in
+      let hc : IsWhole n c = IsWhole-of_length n c (whole_length c whole) in
+      let hp = unlinked-octets E D inv n (zero_block size) c IsBlock-zero_block all hc in
+      let len : length p ≡ size * n = ap length e ∙ length-of_IsWhole n (unlinked D n (zero_block size) c) hp.0 in
+      IsCbc-linked E n p c len (rounded_up some p n len) (ap (λ (k : ℕ). k % size) len ∙ whole_rest some n)
+      (sym (linked-unlinked E D inv n (zero_block size) c IsBlock-zero_block all hc) ∙ ap (linked E n (zero_block size)) (sym e))
+
+  pub cbc_only : 0 < size → (E D : List ℕ → List ℕ) → AreInverse size E D → (p c q : List ℕ) → p ≡ unlinked D (length c / size) (zero_block size) c → IsOctets q → IsCbc size E q c → q ≡ p
+  cbc_only some E D inv p c q e all is =
+      let m : ℕ = length q / size in
+      let len : length q ≡ size * m = whole_length q is.whole in
+      let hq : IsWhole m q = IsWhole-of_length m q len in
+      let made : c ≡ linked E m (zero_block size) q = linked_from E m q c len (rounded_up some q m len) is in
+      let long : length c ≡ size * m = ap length made ∙ length-of_IsWhole m (linked E m (zero_block size) q) (linked_whole E D inv m (zero_block size) q IsBlock-zero_block all hq).0 in
+      let same : length c / size ≡ m = ap (λ (k : ℕ). k / size) long ∙ whole_count some m in
+      sym (e ∙ ap (λ (k : ℕ). unlinked D k (zero_block size) c) same ∙ ap (unlinked D m (zero_block size)) made ∙ unlinked-linked E D inv m (zero_block size) q IsBlock-zero_block all hq)
+
+  -- ---- what callers need
+
+  -- a list is chained to one list
+  pub IsCbc-same : (E : List ℕ → List ℕ) (p c d : List ℕ) → IsCbc size E p c → IsCbc size E p d → c ≡ d
+  IsCbc-same E p c d h k =
+      h.joined ∙ ap concat (chained_from E (zero_block size) (filled_blocks size p) h.blocks h.chained ∙ sym (chained_from E (zero_block size) (filled_blocks size p) k.blocks k.chained)) ∙ sym k.joined
+
+  -- what is chained is as long as the blocks
+  pub IsCbc-length : 0 < size → (E D : List ℕ → List ℕ) → AreInverse size E D → (p c : List ℕ) → IsOctets p → IsCbc size E p c → length c ≡ length p
+  IsCbc-length some E D inv p c all is =
+      let n : ℕ = length p / size in
+      let len : length p ≡ size * n = whole_length p is.whole in
+      let hp : IsWhole n p = IsWhole-of_length n p len in
+      let made : c ≡ linked E n (zero_block size) p = linked_from E n p c len (rounded_up some p n len) is in
+      ap length made ∙ length-of_IsWhole n (linked E n (zero_block size) p) (linked_whole E D inv n (zero_block size) p IsBlock-zero_block all hp).0 ∙ sym len

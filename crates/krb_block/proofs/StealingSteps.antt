@@ -1,22 +1,14 @@
 -- The steps of the loops over blocks.
 use Rattle.std.proofs.Common.{◌≡◌, ℕ, zero, suc, ◌+◌, ◌-◌, ◌*◌, ◌<◌, ◌≤◌, List, ◌++◌, length, take, drop, refl, sym, ap, ◌∙◌, arith}
-use Rattle.std.proofs.lemmas.List.{length-take-le, length-drop, drop-drop, append-nil, append_assoc, take-append-drop, take_at}
+use Rattle.std.proofs.lemmas.List.{length-take-le, append_assoc, take-append-drop, take_at}
 use Rattle.krb_block.proofs.BlockOctets.{length-xor_octets, xor_octets-append}
 use Rattle.krb_block.specs.Modes.{filled, xor_octets}
+use Rattle.krb_block.proofs.Chaining.{filled_whole, part_length, next_part}
 use Rattle.krb_block.proofs.StealingLaws.{stolen, unstolen, two, untwo}
-
-pub filled_whole : (t : List ℕ) → length t ≡ 16 → filled t ≡ t
-filled_whole t e = let z : 16 - length t ≡ 0 = omega arith in rw z (append-nil t)
-
-pub part_length : (p : List ℕ) (i : ℕ) → 16 * i + 16 ≤ length p → length (take 16 (drop (16 * i) p)) ≡ 16
-part_length p i h = length-take-le 16 (drop (16 * i) p) (rw length-drop (omega arith))
-
-pub next_part : (p : List ℕ) (i : ℕ) → drop 16 (drop (16 * i) p) ≡ drop (16 * (i + 1)) p
-next_part p i = let e : 16 * i + 16 ≡ 16 * (i + 1) = omega arith in drop-drop 16 (16 * i) p ∙ ap (λ (k : ℕ). drop k p) e
 
 pub encrypt_one : (E : List ℕ → List ℕ) (v p c part : List ℕ) → length p ≡ 16 → part ≡ p → c ≡ E (xor_octets (filled part) v) → c ≡ stolen E 0 v p
 unfolding stolen
-encrypt_one E v p c part h ep ec = ec ∙ ap (λ (k : List ℕ). E (xor_octets (filled k) v)) ep ∙ ap (λ (k : List ℕ). E (xor_octets k v)) (filled_whole p h)
+encrypt_one E v p c part h ep ec = ec ∙ ap (λ (k : List ℕ). E (xor_octets (filled k) v)) ep ∙ ap (λ (k : List ℕ). E (xor_octets k v)) (filled_whole 16 p h)
 
 pub encrypt_step : (E : List ℕ → List ℕ) (count i : ℕ) (v p out out2 c part target : List ℕ) → i + 1 < count → 16 * count < length p
     → part ≡ take 16 (drop (16 * i) p) → c ≡ E (xor_octets (filled part) v) → out2 ≡ out ++ c → out ++ stolen E (count - i) v (drop (16 * i) p) ≡ target
@@ -26,9 +18,9 @@ encrypt_step E count i v p out out2 c part target lt long ep ec eo inv =
     let m : count - i ≡ suc (suc (count - i - 2)) = omega arith in
     let k : count - (i + 1) ≡ suc (count - i - 2) = omega arith in
     let q : List ℕ = drop (16 * i) p in
-    let whole : c ≡ E (xor_octets (take 16 (drop (16 * i) p)) v) = ec ∙ ap (λ (j : List ℕ). E (xor_octets (filled j) v)) ep ∙ ap (λ (j : List ℕ). E (xor_octets j v)) (filled_whole (take 16 q) (part_length p i (omega arith))) in
+    let whole : c ≡ E (xor_octets (take 16 (drop (16 * i) p)) v) = ec ∙ ap (λ (j : List ℕ). E (xor_octets (filled j) v)) ep ∙ ap (λ (j : List ℕ). E (xor_octets j v)) (filled_whole 16 (take 16 q) (part_length 16 p i (omega arith))) in
     let before : out ++ (E (xor_octets (take 16 q) v) ++ stolen E (suc (count - i - 2)) (E (xor_octets (take 16 q) v)) (drop 16 q)) ≡ target = rw m at inv in
-    rw (k, eo, whole, ← next_part p i) (append_assoc out (E (xor_octets (take 16 q) v)) (stolen E (suc (count - i - 2)) (E (xor_octets (take 16 q) v)) (drop 16 q)) ∙ before)
+    rw (k, eo, whole, ← next_part 16 p i) (append_assoc out (E (xor_octets (take 16 q) v)) (stolen E (suc (count - i - 2)) (E (xor_octets (take 16 q) v)) (drop 16 q)) ∙ before)
 
 pub encrypt_last : (E : List ℕ → List ℕ) (count i : ℕ) (v p out out2 out3 s d cut part tail target : List ℕ) → i + 1 ≡ count → 16 * count < length p
     → part ≡ take 16 (drop (16 * i) p) → tail ≡ drop (16 * count) p → s ≡ E (xor_octets (filled part) v) → d ≡ E (xor_octets (filled tail) s) → cut ≡ take (length tail) s
@@ -37,15 +29,15 @@ unfolding stolen
 encrypt_last E count i v p out out2 out3 s d cut part tail target ei long ep et es ed ec eo eo3 inv =
     let m : count - i ≡ suc zero = omega arith in
     let q : List ℕ = drop (16 * i) p in
-    let whole : s ≡ E (xor_octets (take 16 (drop (16 * i) p)) v) = es ∙ ap (λ (j : List ℕ). E (xor_octets (filled j) v)) ep ∙ ap (λ (j : List ℕ). E (xor_octets j v)) (filled_whole (take 16 q) (part_length p i (omega arith))) in
-    let rest : tail ≡ drop 16 (drop (16 * i) p) = et ∙ ap (λ (k : ℕ). drop (16 * k) p) (sym ei) ∙ sym (next_part p i) in
+    let whole : s ≡ E (xor_octets (take 16 (drop (16 * i) p)) v) = es ∙ ap (λ (j : List ℕ). E (xor_octets (filled j) v)) ep ∙ ap (λ (j : List ℕ). E (xor_octets j v)) (filled_whole 16 (take 16 q) (part_length 16 p i (omega arith))) in
+    let rest : tail ≡ drop 16 (drop (16 * i) p) = et ∙ ap (λ (k : ℕ). drop (16 * k) p) (sym ei) ∙ sym (next_part 16 p i) in
     let before : out ++ two E v (take 16 q) (drop 16 q) ≡ target = rw m at inv in
     let same : two E v (take 16 q) (drop 16 q) ≡ d ++ cut = rw (ed, ec, rest, whole) refl in
     eo3 ∙ ap (λ (k : List ℕ). k ++ cut) eo ∙ append_assoc out d cut ∙ ap (λ (k : List ℕ). out ++ k) (sym same) ∙ before
 
 pub decrypt_one : (D : List ℕ → List ℕ) (v c p b d : List ℕ) → b ≡ c → d ≡ D b → length d ≡ 16 → p ≡ xor_octets (filled d) v → p ≡ unstolen D 0 v c
 unfolding unstolen
-decrypt_one D v c p b d eb ed l ep = ep ∙ ap (λ (k : List ℕ). xor_octets k v) (filled_whole d l) ∙ ap (λ (k : List ℕ). xor_octets k v) ed ∙ ap (λ (k : List ℕ). xor_octets (D k) v) eb
+decrypt_one D v c p b d eb ed l ep = ep ∙ ap (λ (k : List ℕ). xor_octets k v) (filled_whole 16 d l) ∙ ap (λ (k : List ℕ). xor_octets k v) ed ∙ ap (λ (k : List ℕ). xor_octets (D k) v) eb
 
 pub decrypt_step : (D : List ℕ → List ℕ) (count i : ℕ) (v c out out2 x d b target : List ℕ) → i + 1 < count
     → x ≡ take 16 (drop (16 * i) c) → d ≡ D x → length d ≡ 16 → b ≡ xor_octets (filled d) v → out2 ≡ out ++ b → out ++ unstolen D (count - i) v (drop (16 * i) c) ≡ target
@@ -55,9 +47,9 @@ decrypt_step D count i v c out out2 x d b target lt ex ed l eb eo inv =
     let m : count - i ≡ suc (suc (count - i - 2)) = omega arith in
     let k : count - (i + 1) ≡ suc (count - i - 2) = omega arith in
     let q : List ℕ = drop (16 * i) c in
-    let whole : b ≡ xor_octets (D x) v = eb ∙ ap (λ (j : List ℕ). xor_octets j v) (filled_whole d l) ∙ ap (λ (j : List ℕ). xor_octets j v) ed in
+    let whole : b ≡ xor_octets (D x) v = eb ∙ ap (λ (j : List ℕ). xor_octets j v) (filled_whole 16 d l) ∙ ap (λ (j : List ℕ). xor_octets j v) ed in
     let before : out ++ (xor_octets (D (take 16 q)) v ++ unstolen D (suc (count - i - 2)) (take 16 q) (drop 16 q)) ≡ target = rw m at inv in
-    rw (k, eo, whole, ex, ← next_part c i) (append_assoc out (xor_octets (D (take 16 q)) v) (unstolen D (suc (count - i - 2)) (take 16 q) (drop 16 q)) ∙ before)
+    rw (k, eo, whole, ex, ← next_part 16 c i) (append_assoc out (xor_octets (D (take 16 q)) v) (unstolen D (suc (count - i - 2)) (take 16 q) (drop 16 q)) ∙ before)
 
 pub decrypt_last : (D : List ℕ → List ℕ) (count i : ℕ) (v c out out2 out3 x u s d b t cut tail target : List ℕ) → i + 1 ≡ count
     → x ≡ take 16 (drop (16 * i) c) → tail ≡ drop (16 * count) c → u ≡ D x → length u ≡ 16 → s ≡ tail ++ drop (length tail) u → d ≡ D s → length d ≡ 16
@@ -67,7 +59,7 @@ unfolding unstolen
 decrypt_last D count i v c out out2 out3 x u s d b t cut tail target ei ex et eu lu es ed ld eb ett ec fits eo eo3 inv =
     let m : count - i ≡ suc zero = omega arith in
     let q : List ℕ = drop (16 * i) c in
-    let rest : drop 16 (drop (16 * i) c) ≡ tail = next_part c i ∙ ap (λ (k : ℕ). drop (16 * k) c) ei ∙ sym et in
+    let rest : drop 16 (drop (16 * i) c) ≡ tail = next_part 16 c i ∙ ap (λ (k : ℕ). drop (16 * k) c) ei ∙ sym et in
     let before : out ++ untwo D v (take 16 q) (drop 16 q) ≡ target = rw m at inv in
     let r : length (take (length tail) u) ≡ length tail = length-take-le (length tail) u (omega arith) in
     let lx : length (xor_octets (take (length tail) u) tail) ≡ length tail = length-xor_octets (take (length tail) u) tail r ∙ r in
@@ -75,10 +67,10 @@ decrypt_last D count i v c out out2 out3 x u s d b t cut tail target ei ex et eu
     ap (λ (k : List ℕ). xor_octets k s) (sym (take-append-drop (length tail) u)) ∙ ap (λ (k : List ℕ). xor_octets (take (length tail) u ++ drop (length tail) u) k) es
     ∙ xor_octets-append (take (length tail) u) tail (drop (length tail) u) (drop (length tail) u) r in
     let low : cut ≡ xor_octets (take (length tail) u) tail =
-    ec ∙ ap (λ (k : List ℕ). take (length tail) k) (ett ∙ ap (λ (k : List ℕ). xor_octets k s) (filled_whole u lu) ∙ joint)
+    ec ∙ ap (λ (k : List ℕ). take (length tail) k) (ett ∙ ap (λ (k : List ℕ). xor_octets k s) (filled_whole 16 u lu) ∙ joint)
     ∙ take_at (xor_octets (take (length tail) u) tail) (xor_octets (drop (length tail) u) (drop (length tail) u)) (length tail) lx in
     let high : b ≡ xor_octets (D (tail ++ drop (length tail) u)) v =
-    eb ∙ ap (λ (k : List ℕ). xor_octets k v) (filled_whole d ld ∙ ed) ∙ ap (λ (k : List ℕ). xor_octets (D k) v) es in
+    eb ∙ ap (λ (k : List ℕ). xor_octets k v) (filled_whole 16 d ld ∙ ed) ∙ ap (λ (k : List ℕ). xor_octets (D k) v) es in
     let eu2 : u ≡ D (take 16 q) = eu ∙ ap D ex in
     let same : untwo D v (take 16 q) (drop 16 q) ≡ b ++ cut = rw (high, low, rest, eu2) refl in
     eo3 ∙ ap (λ (k : List ℕ). k ++ cut) eo ∙ append_assoc out b cut ∙ ap (λ (k : List ℕ). out ++ k) (sym same) ∙ before

@@ -8,3 +8,5 @@ pub mod Aes
 pub mod InverseCipher
 pub mod Size
 pub mod Modes
+pub mod DesTables
+pub mod Des

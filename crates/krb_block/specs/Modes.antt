@@ -15,6 +15,21 @@ IsOctets xs = (i : ℕ) → slice_index xs i < 256
 abbrev pub IsBlock : ℕ → List ℕ → Type 0
 IsBlock size b = (length b ≡ size) × IsOctets b
 
+-- ---- filling
+
+-- at most size octets, filled with zeros to just so many
+abbrev pub filled_to : ℕ → List ℕ → List ℕ
+filled_to size t = t ++ replicate (size - length t) 0
+
+-- the payload with the fewest zeros to a multiple of size octets
+pub record IsFill (size : ℕ) (payload filled : List ℕ) : Type 0 where
+  pub zeros : ℕ
+  pub fewer : zeros < size
+  pub joined : filled ≡ payload ++ replicate zeros 0
+  pub whole : length filled % size ≡ 0
+
+-- ---- block functions
+
 -- E and D undo each other on blocks
 pub record AreInverse (size : ℕ) (E D : List ℕ → List ℕ) : Type 0 where
   pub enciphered : (b : List ℕ) → IsBlock size b → IsBlock size (E b)
@@ -59,16 +74,16 @@ pub record IsCbc (size : ℕ) (E : List ℕ → List ℕ) (p c : List ℕ) : Typ
 
 -- ---- stealing, over blocks of 16 octets
 
--- the octets t, filled with zeros to a block
-abbrev pub filled : List ℕ → List ℕ
-filled t = t ++ replicate (16 - length t) 0
-
 -- the last two blocks exchanged, where there are two
 unfoldable pub exchanged : List (List ℕ) → List (List ℕ)
 exchanged [] = []
 exchanged (x ∷ []) = x ∷ []
 exchanged (x ∷ y ∷ []) = y ∷ x ∷ []
 exchanged (x ∷ y ∷ z ∷ rest) = x ∷ exchanged (y ∷ z ∷ rest)
+
+-- the octets t, filled with zeros to a block
+abbrev pub filled : List ℕ → List ℕ
+filled t = filled_to 16 t
 
 abbrev pub CtsFrom : (List ℕ → List ℕ) → List ℕ → List ℕ → List ℕ → Type 0
 CtsFrom E v p c = (16 ≤ length p) × (cs : List (List ℕ)) × CbcFrom E v (filled_blocks 16 p) cs × (c ≡ take (length p) (concat (exchanged cs)))

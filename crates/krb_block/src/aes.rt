@@ -132,7 +132,7 @@ impl AesKey {
     }
 }
 
-impl BlockCipher for AesKey {
+impl BlockCipher<AES_BLOCK_SIZE> for AesKey {
     ghost use Rattle.krb_block.specs.Aes.{aes_block};
     ghost use Rattle.krb_block.specs.InverseCipher.{aes_undo};
 

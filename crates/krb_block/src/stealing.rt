@@ -3,11 +3,14 @@
 ghost use Rattle.std.specs.Prelude.{◌≡◌, ℕ, ◌+◌, ◌-◌, ◌*◌, ◌/◌, ◌%◌, ◌<◌, ◌≤◌, List, length, IfOk};
 ghost use Rattle.krb_block.specs.Modes.{IsOctets, AreInverse, Cts};
 
-use crate::block_cipher::{BLOCK_SIZE, BlockCipher, joined_with};
+use crate::block_cipher::{BlockCipher, joined_with};
 use std::alloc::{AllocError, Global};
 
+/// The octets of a block.
+const BLOCK_SIZE: usize = 16;
+
 /// The octets, enciphered: the last two blocks are written in turned order, and the stolen one is cut.
-pub(crate) fn encrypt_cts<C: BlockCipher>(
+pub(crate) fn encrypt_cts<C: BlockCipher<BLOCK_SIZE>>(
     alloc: Global,
     cipher: &C,
     payload: &[u8],
@@ -45,7 +48,7 @@ pub(crate) fn encrypt_cts<C: BlockCipher>(
 }
 
 /// The one list of octets that is enciphered to these.
-pub(crate) fn decrypt_cts<C: BlockCipher>(
+pub(crate) fn decrypt_cts<C: BlockCipher<BLOCK_SIZE>>(
     alloc: Global,
     cipher: &C,
     cipher_text: &[u8],

@@ -1,0 +1,53 @@
+//! Cipher block chaining under triple DES (RFC 3961, 6.3). Each call tests the key, then the length.
+
+ghost use Rattle.std.specs.Prelude.{◌≡◌, ◌≢◌, ◌%◌, ℕ, List, length, IfOk, IfErr};
+ghost use Rattle.krb_block.specs.CryptoError.{RefusesKey, RefusesKeyOr};
+ghost use Rattle.krb_block.specs.declared.error.KerberosCryptoError.TheVariants.{OutOfMemory};
+ghost use Rattle.krb_block.specs.Des.{ede_block};
+ghost use Rattle.krb_block.specs.Modes.{IsCbc, IsFill, IsOctets};
+
+use crate::cbc::{decrypt_cbc, encrypt_cbc};
+use crate::des::{DES3_BLOCK_SIZE, DesKey};
+use crate::error::{KerberosCryptoError, KerberosCryptoResult};
+use std::alloc::Global;
+
+/// The octets, with the fewest zeros to whole blocks of 8 behind them, in CBC from a zero block on. `KeyLength` where the
+/// key has not 24 octets; nothing else is refused.
+pub fn encrypt_des(alloc: Global, key: &[u8], payload: &[u8]) -> KerberosCryptoResult<Vec<u8>>
+    ensures key { IfOk result (λ _. length key.now ≡ 24) }
+    ensures chained { IfOk result (λ c. (filled : List ℕ) × IsFill 8 payload.now filled × IsCbc 8 (ede_block key.now) filled c.items) }
+    ensures refused { IfErr result (RefusesKey 24 key.now) }
+{
+    let cipher = DesKey::new(key)?;
+    if payload.len() % DES3_BLOCK_SIZE == 0 {
+        return Ok(encrypt_cbc(alloc, &cipher, payload)?);
+    }
+    let mut filled = Vec::from_slice(alloc, payload)?;
+    fill_blocks(&mut filled)?;
+    Ok(encrypt_cbc(alloc, &cipher, &filled)?)
+}
+
+/// The one list of octets that is chained to these, with whatever it was filled with. `KeyLength` where the key has not 24
+/// octets, then `CipherUnpad` where the octets are not whole blocks of 8.
+pub fn decrypt_des(alloc: Global, key: &[u8], cipher_text: &[u8]) -> KerberosCryptoResult<Vec<u8>>
+    ensures key { IfOk result (λ _. length key.now ≡ 24) }
+    ensures plain { IfOk result (λ p. IsCbc 8 (ede_block key.now) p.items cipher_text.now) }
+    ensures only { IfOk result (λ p. (q : List ℕ) → IsOctets q → IsCbc 8 (ede_block key.now) q cipher_text.now → q ≡ p.items) }
+    ensures refused { IfErr result (RefusesKeyOr 24 key.now (length cipher_text.now % 8 ≢ 0) KerberosCryptoError.CipherUnpad) }
+{
+    let cipher = DesKey::new(key)?;
+    if cipher_text.len() % DES3_BLOCK_SIZE != 0 {
+        return Err(KerberosCryptoError::CipherUnpad);
+    }
+    cipher.undoes();
+    Ok(decrypt_cbc(alloc, &cipher, cipher_text)?)
+}
+
+/// Puts the fewest zeros to whole blocks of 8 behind the octets, which are as before where memory is wanting.
+pub fn fill_blocks(octets: &mut Vec<u8>) -> KerberosCryptoResult<()>
+    ensures filled { IfOk result (λ _. IsFill 8 octets.old.items octets.new.items) }
+    ensures refused { IfErr result (λ e. (e ≡ OutOfMemory) × (octets.new.items ≡ octets.old.items)) }
+{
+    let length = octets.len().next_multiple_of(DES3_BLOCK_SIZE);
+    Ok(octets.resize(length, 0)?)
+}
