@@ -8,7 +8,7 @@ use Rattle.krb_block.specs.declared.error.KerberosCryptoError.TheVariants.{OutOf
 use Rattle.krb_leaves.specs.Encoding.{IsElement, OneValue}
 use Rattle.krb_leaves.specs.Reading.{TakesFront}
 use Rattle.krb_leaves.specs.TlvLaws.{field_apart}
-use Rattle.krb_suite.specs.Sealing.{Opens, IsOfNone}
+use Rattle.krb_scheme.specs.Sealing.{Opens, IsOfNone}
 use Rattle.krb_seal.specs.Filled.{IsFewZeros}
 
 module _ {A : Type 0} (is_value : A → Type 0) (enc : A → List ℕ) (first : ℕ → Bool) (element : (v : A) → is_value v → IsElement first (enc v)) (one : OneValue is_value enc) where

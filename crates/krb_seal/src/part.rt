@@ -4,7 +4,7 @@ ghost use Rattle.std.specs.Prelude.{◌≡◌, ◌≢◌, ℕ, ◌↔◌, List, 
 ghost use Rattle.krb_block.specs.CryptoError.{IsMemoryOr};
 ghost use Rattle.krb_der.specs.Reading.{Encodings};
 ghost use Rattle.krb_der.specs.Whole.{Answers, FailsWith};
-ghost use Rattle.krb_suite.specs.Sealing.{IsGiven, IsOfNone, IsTheOne, Opens};
+ghost use Rattle.krb_scheme.specs.Sealing.{IsGiven, IsOfNone, IsTheOne, Opens};
 ghost use Rattle.krb_seal.specs.Filled.{IsFewZeros, RefusesFilled};
 ghost use Rattle.krb_seal.specs.PartError.{IsMemory, IsMemoryOrElse, IsCrypto, IfCrypto, IfDer};
 

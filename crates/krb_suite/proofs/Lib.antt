@@ -1,3 +1,0 @@
-pub mod Deriving
-pub mod Messages
-pub mod Opening

@@ -3,14 +3,14 @@
 ghost use Rattle.std.specs.Prelude.{◌≡◌, ℕ, ℤ, ◌<◌, ◌≤◌, ◌/◌, List, length, vec_len, MatchResult, IfOk, IfErr};
 ghost use Rattle.krb_block.specs.CryptoError.{IsMemoryOr, RefusesKey};
 ghost use Rattle.krb_block.specs.declared.error.KerberosCryptoError.TheVariants.{OutOfMemory};
-ghost use Rattle.krb_suite.specs.Sealing.{IsTheOne, IsOfNone, IsGiven, Opens, Enciphers, IsSplit, Deciphers};
+ghost use Rattle.krb_scheme.specs.Sealing.{IsTheOne, IsOfNone, IsGiven, Opens, Enciphers, IsSplit, Deciphers};
 ghost use Rattle.krb_suite.specs.declared.cipher_suite.CipherSuite.{CipherSuite};
 ghost use Rattle.krb_suite.specs.declared.checksum_suite.ChecksumSuite.{ChecksumSuite};
 
 use crate::checksum_suite::ChecksumSuite;
 use crate::cipher_suite::CipherSuite;
-use crate::without_checksum::{DecryptWithoutChecksum, EncryptWithoutChecksum};
 use krb_block::KerberosCryptoResult;
+use krb_scheme::{DecryptWithoutChecksum, EncryptWithoutChecksum};
 use std::alloc::Global;
 
 /// An encryption scheme with its integrity checksum (RFC 3961, 3), lent as `&dyn Cipher`.

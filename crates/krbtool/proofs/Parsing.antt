@@ -1,22 +1,32 @@
 -- Words and the commands that they are.
-use Rattle.std.proofs.Common.{◌≡◌, ◌≢◌, ℕ, ℤ, List, [], ◌∷◌, codes, map, length, get_or, Result, Ok, Err, refl, sym, ap, ◌∙◌, inl, inr, arith}
+use Rattle.std.proofs.Common.{◌≡◌, ◌≢◌, ℕ, ℤ, List, [], ◌∷◌, codes, map, length, get_or, Option, None, Some, IfSome, MatchResult, Result, Ok, Err, refl, sym, ap, subst, ◌∙◌, inl, inr, arith}
+use Rattle.std.specs.Bool.{⊤}
+use Rattle.std.specs.Io.KnownBytes.{Appends}
 use Rattle.hex.specs.Hex.{decode_of}
 use Rattle.hex.specs.declared.error.FromHexError.{FromHexError}
-use Rattle.krbtool.specs.declared.command.Suite.{Suite}
-use Rattle.krbtool.specs.declared.command.Suite.TheVariants.{Aes128, Aes256}
+use Rattle.krb_suite.specs.Suites as suites
+use Rattle.krb_suite.specs.declared.cipher_suite.CipherSuite.{CipherSuite}
+use Rattle.krb_suite.specs.declared.cipher_suite.CipherSuite.TheVariants.{Aes128CtsHmacSha196, Aes256CtsHmacSha196, Des3CbcSha1Kd}
 use Rattle.krbtool.specs.declared.failure.Failure.{Failure}
+use Rattle.krbtool.specs.declared.failure.Failure.TheVariants.{Write}
+use Rattle.krbtool.specs.Outcome.{IsOutside, IsRun}
 use Rattle.krbtool.specs.declared.command.Command.{Command}
 use Rattle.krbtool.specs.declared.command.Command.TheVariants.{Check, Seal, Open}
-use Rattle.krbtool.specs.Commands.{etype_of, IsSealing, IsOpening, IsAnswer}
+use Rattle.krbtool.specs.Commands.{IsSealing, IsOpening, IsAnswer}
 use Rattle.krbtool.specs.Words.{IsEtype, IsUsage, AreWords, IsCommand, NameUnknown, AreNoWords, RefusesEtype, RefusesKeyWords, RefusesWords, Answers}
 
 -- each word says one thing alone
 
-etype_same : (word : List ℕ) (s t : Suite) → IsEtype word s → IsEtype word t → s ≡ t
-etype_same word Aes128 Aes128 one other = refl
-etype_same word Aes256 Aes256 one other = refl
-etype_same word Aes128 Aes256 one other = absurd (omega (arith, one.value, other.value))
-etype_same word Aes256 Aes128 one other = absurd (omega (arith, one.value, other.value))
+etype_same : (word : List ℕ) (s t : CipherSuite) → IsEtype word s → IsEtype word t → s ≡ t
+etype_same word Aes128CtsHmacSha196 Aes128CtsHmacSha196 one other = refl
+etype_same word Aes128CtsHmacSha196 Aes256CtsHmacSha196 one other = absurd (omega (arith, one.value, other.value))
+etype_same word Aes128CtsHmacSha196 Des3CbcSha1Kd one other = absurd (omega (arith, one.value, other.value))
+etype_same word Aes256CtsHmacSha196 Aes128CtsHmacSha196 one other = absurd (omega (arith, one.value, other.value))
+etype_same word Aes256CtsHmacSha196 Aes256CtsHmacSha196 one other = refl
+etype_same word Aes256CtsHmacSha196 Des3CbcSha1Kd one other = absurd (omega (arith, one.value, other.value))
+etype_same word Des3CbcSha1Kd Aes128CtsHmacSha196 one other = absurd (omega (arith, one.value, other.value))
+etype_same word Des3CbcSha1Kd Aes256CtsHmacSha196 one other = absurd (omega (arith, one.value, other.value))
+etype_same word Des3CbcSha1Kd Des3CbcSha1Kd one other = refl
 
 octets_or_none : Result (List ℕ) FromHexError → List ℕ
 octets_or_none (Ok octets) = octets
@@ -34,7 +44,7 @@ usage_same word z y one other = one.value ∙ sym other.value
 pub etype_refused : (etype keyhex usage : List ℕ) (e : Failure) → RefusesEtype etype e → RefusesKeyWords etype keyhex usage e
 etype_refused etype keyhex usage e (inr unknown) = inr (inl unknown)
 etype_refused etype keyhex usage e (inl none) =
-    inr (inr (none.0, λ n is. none.1 n is.number, λ s key z are. none.1 (etype_of s) are.suite_is))
+    inr (inr (none.0, λ n is. none.1 n is.number, λ s key z are. none.1 (suites.etype s) are.suite_is))
 
 pub open_refused : (etype keyhex usage : List ℕ) (e : Failure) → RefusesKeyWords etype keyhex usage e → RefusesWords (codes "open" ∷ etype ∷ keyhex ∷ usage ∷ []) e
 open_refused etype keyhex usage e (inl memory) = inl memory
@@ -74,11 +84,11 @@ names_none (word ∷ (etype ∷ (keyhex ∷ []))) n are is = elim are [ ]
 names_none (word ∷ (etype ∷ (keyhex ∷ (usage ∷ (confhex ∷ (_ ∷ _)))))) n are is = elim are [ ]
 
 module _ {V : Type 0} (is_value : V → Type 0) (enc : V → List ℕ) where
-  opening_same : (s t : Suite) (k l : List ℕ) (z y : ℤ) (input answer : List ℕ) → s ≡ t → k ≡ l → z ≡ y
+  opening_same : (s t : CipherSuite) (k l : List ℕ) (z y : ℤ) (input answer : List ℕ) → s ≡ t → k ≡ l → z ≡ y
       → IsOpening is_value enc s k z input answer → IsOpening is_value enc t l y input answer
   opening_same s t k l z y input answer es ek ez is = rw (← es, ← ek, ← ez) is
 
-  sealing_same : (s t : Suite) (k l : List ℕ) (z y : ℤ) (f g input answer : List ℕ) → s ≡ t → k ≡ l → z ≡ y → f ≡ g
+  sealing_same : (s t : CipherSuite) (k l : List ℕ) (z y : ℤ) (f g input answer : List ℕ) → s ≡ t → k ≡ l → z ≡ y → f ≡ g
       → IsSealing is_value enc s k z f input answer → IsSealing is_value enc t l y g input answer
   sealing_same s t k l z y f g input answer es ek ez ef is = rw (← es, ← ek, ← ez, ← ef) is
 
@@ -121,6 +131,34 @@ module _ {V : Type 0} (is_value : V → Type 0) (enc : V → List ℕ) where
   answers_from (word ∷ (etype ∷ (keyhex ∷ (usage ∷ (confhex ∷ []))))) Check input answer is held = elim is [ ]
   answers_from (word ∷ (etype ∷ (keyhex ∷ (usage ∷ (confhex ∷ []))))) (Open key) input answer is held = elim is [ ]
   answers_from (word ∷ (etype ∷ (keyhex ∷ (usage ∷ (confhex ∷ (_ ∷ _)))))) command input answer is held = elim is [ ]
+
+  -- a run whose writing failed had words of a command and an answer to all of its input
+  unwritten_answer : (words : List (List ℕ)) (command : Command) (octets made : List ℕ) (input : Option (List ℕ)) → IsCommand words command
+      → IsAnswer is_value enc command octets made → IfSome input (λ all. octets ≡ all)
+      → IfSome input (λ all. (answer : List ℕ) × Answers is_value enc words all answer)
+  unwritten_answer words command octets made None is held all = all
+  unwritten_answer words command octets made (Some input) is held all =
+      (made, answers_from words command input made is (subst (λ k. IsAnswer is_value enc command k made) all held))
+
+  outside : (words : List (List ℕ)) (input before after : Option (List ℕ))
+      → IfSome input (λ octets. (answer : List ℕ) → Answers is_value enc words octets answer → (λ (outcome : Result ⊤ Failure). MatchResult outcome (λ _. Appends before after answer) IsOutside) (Err Write))
+  outside words None before after = tt
+  outside words (Some input) before after = λ answer held. inr (inr refl)
+
+  pub unwritten_run : (words : List (List ℕ)) (command : Command) (octets made : List ℕ) (input rest before after : Option (List ℕ)) → IsCommand words command
+      → IsAnswer is_value enc command octets made → IfSome input (λ all. octets ≡ all) → IsRun is_value enc words input rest before after (Err Write)
+  unwritten_run words command octets made input rest before after is held all =
+      let are : AreWords words = command_words words command is in
+      record {
+        refused = λ same. absurd (cc same);
+        told = λ none. absurd (none.0 are);
+        unknown = λ n names. absurd (names_none words n are names);
+        unread = λ none. absurd (none are);
+        read = tt;
+        written = tt;
+        answered = outside words input before after;
+        kept = inr (refl, unwritten_answer words command octets made input is held all);
+      }
 
 -- the words of a list of so many
 

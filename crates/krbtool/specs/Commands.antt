@@ -1,21 +1,11 @@
 -- What each command answers to an input. The values that are read and written are those of which `is_value` holds, and
 -- `enc` gives their encodings.
 use Rattle.std.specs.Prelude.{◌≡◌, ℕ, ℤ, List, length}
-use Rattle.krb_suite.specs.Sealed.{IsSealedAes}
-use Rattle.krb_suite.specs.Sealing.{IsGiven}
-use Rattle.krbtool.specs.declared.command.Suite.{Suite}
-use Rattle.krbtool.specs.declared.command.Suite.TheVariants.{Aes128, Aes256}
+use Rattle.krb_scheme.specs.Sealing.{IsGiven}
+use Rattle.krb_suite.specs.BySuite.{IsSealed, key_octets_of, confounder_octets_of}
+use Rattle.krb_suite.specs.declared.cipher_suite.CipherSuite.{CipherSuite}
 use Rattle.krbtool.specs.declared.command.Command.{Command}
 use Rattle.krbtool.specs.declared.command.Command.TheVariants.{Check, Seal, Open}
-
--- the number of a suite (RFC 3962, 7), and the octets of its keys
-abbrev pub etype_of : Suite → ℕ
-etype_of Aes128 = 17
-etype_of Aes256 = 18
-
-abbrev pub key_size_of : Suite → ℕ
-key_size_of Aes128 = 16
-key_size_of Aes256 = 32
 
 module _ {V : Type 0} (is_value : V → Type 0) (enc : V → List ℕ) where
   -- the input is the encoding of a value, and the answer is that encoding
@@ -23,14 +13,14 @@ module _ {V : Type 0} (is_value : V → Type 0) (enc : V → List ℕ) where
   IsChecked input answer = (v : V) × is_value v × (input ≡ enc v) × (answer ≡ input)
 
   -- the input is the encoding of a value, and the answer is what it is sealed to
-  abbrev pub IsSealing : Suite → List ℕ → ℤ → List ℕ → List ℕ → List ℕ → Type 0
+  abbrev pub IsSealing : CipherSuite → List ℕ → ℤ → List ℕ → List ℕ → List ℕ → Type 0
   IsSealing suite key usage confounder input answer =
-      (v : V) × is_value v × (input ≡ enc v) × (length key ≡ key_size_of suite) × IsSealedAes key usage confounder (enc v) answer
+      (v : V) × is_value v × (input ≡ enc v) × (length key ≡ key_octets_of suite) × IsSealed suite key usage confounder (enc v) answer
 
   -- the answer is the encoding of a value, which some confounder seals to the input
-  abbrev pub IsOpening : Suite → List ℕ → ℤ → List ℕ → List ℕ → Type 0
+  abbrev pub IsOpening : CipherSuite → List ℕ → ℤ → List ℕ → List ℕ → Type 0
   IsOpening suite key usage input answer =
-      (v : V) × is_value v × (answer ≡ enc v) × (length key ≡ key_size_of suite) × IsGiven (IsSealedAes key usage) 16 input (enc v)
+      (v : V) × is_value v × (answer ≡ enc v) × (length key ≡ key_octets_of suite) × IsGiven (IsSealed suite key usage) (confounder_octets_of suite) input (enc v)
 
   -- what the command answers to the input
   abbrev pub IsAnswer : Command → List ℕ → List ℕ → Type 0
@@ -41,5 +31,5 @@ module _ {V : Type 0} (is_value : V → Type 0) (enc : V → List ℕ) where
 -- what a command keeps of its words
 abbrev pub HasConfounder : Command → Type 0
 HasConfounder Check = Unit {0}
-HasConfounder (Seal key confounder) = length confounder.items ≡ 16
+HasConfounder (Seal key confounder) = length confounder.items ≡ confounder_octets_of key.suite
 HasConfounder (Open key) = Unit {0}

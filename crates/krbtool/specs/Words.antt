@@ -4,12 +4,14 @@ use Rattle.std.specs.Int.{w32}
 use Rattle.std.specs.Str.Parse.{IsNumeral, digits_value, without_leading_sign, signed_digits_value}
 use Rattle.hex.specs.Hex.{decode_of}
 use Rattle.krb_block.specs.declared.error.KerberosCryptoError.TheVariants as crypto
-use Rattle.krbtool.specs.declared.command.Suite.{Suite}
+use Rattle.krb_suite.specs.BySuite.{confounder_octets_of}
+use Rattle.krb_suite.specs.Suites as suites
+use Rattle.krb_suite.specs.declared.cipher_suite.CipherSuite.{CipherSuite}
 use Rattle.krbtool.specs.declared.command.Command.{Command}
 use Rattle.krbtool.specs.declared.command.Command.TheVariants.{Check, Seal, Open}
 use Rattle.krbtool.specs.declared.failure.Failure.{Failure}
 use Rattle.krbtool.specs.declared.failure.Failure.TheVariants as failure
-use Rattle.krbtool.specs.Commands.{etype_of, IsChecked, IsSealing, IsOpening}
+use Rattle.krbtool.specs.Commands.{IsChecked, IsSealing, IsOpening}
 
 -- the word is this number in decimal digits, and a `usize` holds it
 pub record IsNumber (word : List ℕ) (n : ℕ) : Type 0 where
@@ -18,13 +20,13 @@ pub record IsNumber (word : List ℕ) (n : ℕ) : Type 0 where
   pub fits : n < 2 ^ 64
 
 -- the word is the suite's number
-abbrev pub IsEtype : List ℕ → Suite → Type 0
-IsEtype word suite = IsNumber word (etype_of suite)
+abbrev pub IsEtype : List ℕ → CipherSuite → Type 0
+IsEtype word suite = IsNumber word (suites.etype suite)
 
 -- the word is a number of no suite that the program knows
 pub record IsUnknownEtype (word : List ℕ) (n : ℕ) : Type 0 where
   pub number : IsNumber word n
-  pub unknown : (suite : Suite) → etype_of suite ≢ n
+  pub unknown : (suite : CipherSuite) → suites.etype suite ≢ n
 
 -- the word is the usage: decimal digits, with a minus in front or nothing, and an `i32` holds it
 pub record IsUsage (word : List ℕ) (usage : ℤ) : Type 0 where
@@ -34,24 +36,24 @@ pub record IsUsage (word : List ℕ) (usage : ℤ) : Type 0 where
   pub value : usage ≡ signed_digits_value 10 word
 
 -- ETYPE KEYHEX USAGE
-pub record AreKeyWords (etype keyhex usage : List ℕ) (suite : Suite) (key : List ℕ) (number : ℤ) : Type 0 where
+pub record AreKeyWords (etype keyhex usage : List ℕ) (suite : CipherSuite) (key : List ℕ) (number : ℤ) : Type 0 where
   pub suite_is : IsEtype etype suite
   pub key_is : decode_of keyhex ≡ Ok key
   pub number_is : IsUsage usage number
 
 -- CONFHEX
-pub record IsConfounderWord (confhex confounder : List ℕ) : Type 0 where
+pub record IsConfounderWord (suite : CipherSuite) (confhex confounder : List ℕ) : Type 0 where
   pub confounder_is : decode_of confhex ≡ Ok confounder
-  pub size_is : length confounder ≡ 16
+  pub size_is : length confounder ≡ confounder_octets_of suite
 
 -- the words are a command's
 abbrev pub AreWords : List (List ℕ) → Type 0
 AreWords (command ∷ []) = command ≡ codes "check"
 AreWords (command ∷ etype ∷ keyhex ∷ usage ∷ []) =
-    (command ≡ codes "open") × (suite : Suite) × (key : List ℕ) × (number : ℤ) × AreKeyWords etype keyhex usage suite key number
+    (command ≡ codes "open") × (suite : CipherSuite) × (key : List ℕ) × (number : ℤ) × AreKeyWords etype keyhex usage suite key number
 AreWords (command ∷ etype ∷ keyhex ∷ usage ∷ confhex ∷ []) =
-    (command ≡ codes "seal") × (suite : Suite) × (key : List ℕ) × (number : ℤ) × (confounder : List ℕ)
-    × AreKeyWords etype keyhex usage suite key number × IsConfounderWord confhex confounder
+    (command ≡ codes "seal") × (suite : CipherSuite) × (key : List ℕ) × (number : ℤ) × (confounder : List ℕ)
+    × AreKeyWords etype keyhex usage suite key number × IsConfounderWord suite confhex confounder
 AreWords words = ⊥
 
 -- the words are this command's
@@ -60,7 +62,7 @@ IsCommand (command ∷ []) Check = command ≡ codes "check"
 IsCommand (command ∷ etype ∷ keyhex ∷ usage ∷ []) (Open key) =
     (command ≡ codes "open") × AreKeyWords etype keyhex usage key.suite key.octets.items key.usage
 IsCommand (command ∷ etype ∷ keyhex ∷ usage ∷ confhex ∷ []) (Seal key confounder) =
-    (command ≡ codes "seal") × AreKeyWords etype keyhex usage key.suite key.octets.items key.usage × IsConfounderWord confhex confounder.items
+    (command ≡ codes "seal") × AreKeyWords etype keyhex usage key.suite key.octets.items key.usage × IsConfounderWord key.suite confhex confounder.items
 IsCommand words command = ⊥
 
 -- the words name an encryption type that the program does not know, whatever words follow it
@@ -86,16 +88,16 @@ RefusesEtype word e =
 abbrev pub RefusesKeyWords : List ℕ → List ℕ → List ℕ → Failure → Type 0
 RefusesKeyWords etype keyhex usage e =
     (e ≡ failure.Memory) ⊎ ((n : ℕ) × (e ≡ failure.Crypto (crypto.AlgorithmIdentifier n)) × IsUnknownEtype etype n)
-    ⊎ ((e ≡ failure.Words) × ((n : ℕ) → IsUnknownEtype etype n → ⊥) × ((suite : Suite) (key : List ℕ) (number : ℤ) → AreKeyWords etype keyhex usage suite key number → ⊥))
+    ⊎ ((e ≡ failure.Words) × ((n : ℕ) → IsUnknownEtype etype n → ⊥) × ((suite : CipherSuite) (key : List ℕ) (number : ℤ) → AreKeyWords etype keyhex usage suite key number → ⊥))
 
 -- what these words answer to an input
 abbrev pub Answers : {V : Type 0} → (V → Type 0) → (V → List ℕ) → List (List ℕ) → List ℕ → List ℕ → Type 0
 Answers is_value enc (command ∷ []) input answer = (command ≡ codes "check") × IsChecked is_value enc input answer
 Answers is_value enc (command ∷ etype ∷ keyhex ∷ usage ∷ []) input answer =
-    (command ≡ codes "open") × (suite : Suite) × (key : List ℕ) × (number : ℤ)
+    (command ≡ codes "open") × (suite : CipherSuite) × (key : List ℕ) × (number : ℤ)
     × IsOpening is_value enc suite key number input answer × AreKeyWords etype keyhex usage suite key number
 Answers is_value enc (command ∷ etype ∷ keyhex ∷ usage ∷ confhex ∷ []) input answer =
-    (command ≡ codes "seal") × (suite : Suite) × (key : List ℕ) × (number : ℤ) × (confounder : List ℕ)
+    (command ≡ codes "seal") × (suite : CipherSuite) × (key : List ℕ) × (number : ℤ) × (confounder : List ℕ)
     × IsSealing is_value enc suite key number confounder input answer
-    × AreKeyWords etype keyhex usage suite key number × IsConfounderWord confhex confounder
+    × AreKeyWords etype keyhex usage suite key number × IsConfounderWord suite confhex confounder
 Answers is_value enc words input answer = ⊥

@@ -1,17 +1,19 @@
 //! What a command answers to an input.
 
 ghost use Rattle.std.specs.Prelude.{◌≡◌, ◌≢◌, ℕ, List, length, IfOk, IfErr, MatchResult};
-ghost use Rattle.krb_suite.specs.Sealing.{IsGiven};
+ghost use Rattle.krb_scheme.specs.Sealing.{IsGiven};
+ghost use Rattle.krb_suite.specs.BySuite.{confounder_octets_of};
 ghost use Rattle.krbtool.specs.Commands.{IsChecked, IsSealing, IsOpening, IsAnswer, HasConfounder};
 ghost use Rattle.krbtool.specs.Outcome.{IsOutside};
 
-use crate::command::{Command, SealingKey, Suite};
+use crate::command::{Command, SealingKey};
 use crate::failure::{Failure, der_failure, part_failure};
 use krb_der::{Der, DerEncode, from_bytes, to_vec};
 use krb_msg::data_types::EncTicketPart;
 use krb_seal::{open_part, seal_part};
-use krb_suite::Cipher;
 use krb_suite::aes::{Aes128CtsHmacSha196, Aes256CtsHmacSha196};
+use krb_suite::des::Des3CbcSha1Kd;
+use krb_suite::{Cipher, CipherSuite};
 use std::alloc::Global;
 
 /// The input again, where it is the encoding of a value of the type.
@@ -69,14 +71,14 @@ fn sealed_under(
     confounder: &[u8],
     input: &[u8],
 ) -> Result<Vec<u8>, Failure>
-    requires { length confounder.now ≡ 16 }
+    requires { length confounder.now ≡ confounder_octets_of key.now.suite }
     ensures found { IfOk result (λ made. IsSealing ⟦<EncTicketPart as DerEncode>⟧.is_value ⟦<EncTicketPart as DerEncode>⟧.enc key.now.suite key.now.octets.items key.now.usage confounder.now input.now made.items) }
     ensures only { (answer : List ℕ) → IsSealing ⟦<EncTicketPart as DerEncode>⟧.is_value ⟦<EncTicketPart as DerEncode>⟧.enc key.now.suite key.now.octets.items key.now.usage confounder.now input.now answer
         → MatchResult result (λ made. made.items ≡ answer) IsOutside }
     ensures words { IfErr result (λ e. e ≢ Failure.Words) }
 {
     match key.suite {
-        Suite::Aes128 => sealed::<EncTicketPart>(
+        CipherSuite::Aes128CtsHmacSha196 => sealed::<EncTicketPart>(
             alloc,
             &Aes128CtsHmacSha196::new(),
             &key.octets,
@@ -84,9 +86,17 @@ fn sealed_under(
             confounder,
             input,
         ),
-        Suite::Aes256 => sealed::<EncTicketPart>(
+        CipherSuite::Aes256CtsHmacSha196 => sealed::<EncTicketPart>(
             alloc,
             &Aes256CtsHmacSha196::new(),
+            &key.octets,
+            key.usage,
+            confounder,
+            input,
+        ),
+        CipherSuite::Des3CbcSha1Kd => sealed::<EncTicketPart>(
+            alloc,
+            &Des3CbcSha1Kd::new(),
             &key.octets,
             key.usage,
             confounder,
@@ -103,16 +113,23 @@ fn opened_under(alloc: Global, key: &SealingKey, input: &[u8]) -> Result<Vec<u8>
     ensures words { IfErr result (λ e. e ≢ Failure.Words) }
 {
     match key.suite {
-        Suite::Aes128 => opened::<EncTicketPart>(
+        CipherSuite::Aes128CtsHmacSha196 => opened::<EncTicketPart>(
             alloc,
             &Aes128CtsHmacSha196::new(),
             &key.octets,
             key.usage,
             input,
         ),
-        Suite::Aes256 => opened::<EncTicketPart>(
+        CipherSuite::Aes256CtsHmacSha196 => opened::<EncTicketPart>(
             alloc,
             &Aes256CtsHmacSha196::new(),
+            &key.octets,
+            key.usage,
+            input,
+        ),
+        CipherSuite::Des3CbcSha1Kd => opened::<EncTicketPart>(
+            alloc,
+            &Des3CbcSha1Kd::new(),
             &key.octets,
             key.usage,
             input,

@@ -1,18 +1,11 @@
 //! What the program is asked to do.
 
-/// An encryption suite that the program knows.
-#[derive(Debug, Drop, PartialEq, Eq)]
-pub enum Suite {
-    /// Encryption type 17.
-    Aes128,
-    /// Encryption type 18.
-    Aes256,
-}
+use krb_suite::CipherSuite;
 
 /// The words ETYPE KEYHEX USAGE: a suite, the octets of a key, which may be of any number, and a key usage.
 #[derive(Drop)]
 pub struct SealingKey {
-    pub suite: Suite,
+    pub suite: CipherSuite,
     pub octets: Vec<u8>,
     pub usage: i32,
 }

@@ -5,11 +5,10 @@ ghost use Rattle.std.specs.String.{string_bytes};
 ghost use Rattle.hex.specs.Hex.{decode_of};
 ghost use Rattle.krbtool.specs.Words.{IsEtype, IsUsage, AreKeyWords, IsCommand, RefusesEtype, RefusesKeyWords, RefusesWords};
 
-use crate::command::{Command, SealingKey, Suite};
+use crate::command::{Command, SealingKey};
 use crate::failure::Failure;
 use hex::FromHexError;
-use krb_suite::KerberosCryptoError;
-use krb_suite::aes::AES_BLOCK_SIZE;
+use krb_suite::{Cipher, CipherSuite};
 use std::alloc::Global;
 
 /// The command that the words are. `Words` where they are none, and `Crypto(AlgorithmIdentifier)` where they name an
@@ -75,14 +74,13 @@ fn parse_seal(
 {
     let key = parse_key(alloc, etype, key, usage)?;
     let confounder = octets_of(alloc, confounder)?;
-    if confounder.len() != AES_BLOCK_SIZE {
+    if confounder.len() != key.suite.confounder_size() {
         return Err(Failure::Words);
     }
     Ok(Command::Seal { key, confounder })
 }
 
 /// The words ETYPE KEYHEX USAGE.
-#[tactic(auto, using(crate::proofs::Parsing::etype_refused))]
 fn parse_key(alloc: Global, etype: &str, key: &str, usage: &str) -> Result<SealingKey, Failure>
     ensures found { IfOk result (λ k. AreKeyWords etype.now key.now usage.now k.suite k.octets.items k.usage) }
     ensures refused { IfErr result (RefusesKeyWords etype.now key.now usage.now) }
@@ -98,7 +96,7 @@ fn parse_key(alloc: Global, etype: &str, key: &str, usage: &str) -> Result<Seali
 }
 
 /// ETYPE: decimal digits, of a number that a `usize` holds.
-fn suite_of(text: &str) -> Result<Suite, Failure>
+fn suite_of(text: &str) -> Result<CipherSuite, Failure>
     ensures found { IfOk result (IsEtype text.now) }
     ensures refused { IfErr result (RefusesEtype text.now) }
 {
@@ -106,9 +104,7 @@ fn suite_of(text: &str) -> Result<Suite, Failure>
         return Err(Failure::Words);
     }
     match text.parse::<usize>() {
-        Ok(17) => Ok(Suite::Aes128),
-        Ok(18) => Ok(Suite::Aes256),
-        Ok(other) => Err(Failure::Crypto(KerberosCryptoError::AlgorithmIdentifier(other))),
+        Ok(number) => CipherSuite::try_from(number).map_err(Failure::Crypto),
         Err(_) => Err(Failure::Words),
     }
 }

@@ -99,6 +99,10 @@ fn seals_a_part_and_opens_it(rt: HostRuntime) -> Result<(), Fail> {
             "seal 18 1697ea5d1d40b06de88c5f36a86b14fb9b4746943291319db68beb130bc70387 -2147483648 a1349d21eee8b95da7825bb4a7a5e04e",
             "open 18 1697ea5d1d40b06de88c5f36a86b14fb9b4746943291319db68beb130bc70387 -2147483648",
         ),
+        (
+            "seal 16 73f81520e62a9d8a9efe9d910d6e406badcef75d3792a78a 5 a1349d21eee8b95d",
+            "open 16 73f81520e62a9d8a9efe9d910d6e406badcef75d3792a78a 5",
+        ),
     ] {
         let sealed = run_line(alloc, sealing, &PART)?;
         assert_eq!(rt; sealed.status, 0, "at {sealing}");
@@ -147,6 +151,9 @@ fn refuses_words_of_no_command(rt: HostRuntime) -> Result<(), Fail> {
         "seal 17 0 5 00112233445566778899aabbccddeeff",
         "seal 17 00 x 00112233445566778899aabbccddeeff",
         "seal 18 00 5 0011223344556677",
+        "seal 16 00 5 00112233445566",
+        "seal 16 00 5 001122334455667788",
+        "seal 16 00 5 00112233445566778899aabbccddeeff",
     ] {
         let ran = run_line(alloc, line, &PART)?;
         assert_eq!(rt; ran.status, 2, "at {line:?}");
@@ -163,12 +170,12 @@ fn refuses_unknown_encryption_types(rt: HostRuntime) -> Result<(), Fail> {
     for line in [
         "open 3 00 2",
         "open 0 00 2",
-        "open 16 00 2",
+        "open 15 00 2",
         "open 19 00 2",
         "open 18446744073709551615 00 2",
         "open 3 x y",
         "seal 3 00 2 00112233445566778899aabbccddeeff",
-        "seal 16 00 2 0011223344556677",
+        "seal 23 00 2 0011223344556677",
         "seal 3 x y z",
     ] {
         let ran = run_line(alloc, line, &PART)?;
@@ -216,6 +223,30 @@ fn tells_why_a_part_is_not_sealed_or_opened(rt: HostRuntime) -> Result<(), Fail>
         assert_eq!(rt; ran.status, 1, "at {wanted}");
         assert_eq!(rt; ran.faults.as_slice(), wanted.as_bytes());
         assert!(rt; ran.output.is_empty(), "at {wanted}");
+    }
+    Ok(())
+}
+
+#[test]
+fn tells_why_triple_des_does_not_open(rt: HostRuntime) -> Result<(), Fail> {
+    let alloc = rt.alloc();
+    let zeros = [0u8; 52];
+    let open = "open 16 73f81520e62a9d8a9efe9d910d6e406badcef75d3792a78a 5";
+    for (line, octets, wanted) in [
+        ("open 16 00 5", 27, "krbtool: crypto KeyLength\n"),
+        (open, 27, "krbtool: crypto CipherLength\n"),
+        (open, 28, "krbtool: crypto IntegrityCheck\n"),
+        (open, 47, "krbtool: crypto CipherUnpad\n"),
+        (open, 52, "krbtool: crypto IntegrityCheck\n"),
+    ] {
+        let ran = run_line(alloc, line, &zeros[..octets])?;
+        assert_eq!(rt; ran.status, 1, "at {octets} octets");
+        assert_eq!(rt;
+            ran.faults.as_slice(),
+            wanted.as_bytes(),
+            "at {octets} octets"
+        );
+        assert!(rt; ran.output.is_empty(), "at {octets} octets");
     }
     Ok(())
 }

@@ -10,8 +10,9 @@ pub use Rattle.krb_der.specs.Composite
 pub use Rattle.krb_der.specs.Whole
 pub use Rattle.krb_block.specs.CryptoError
 pub use Rattle.krb_block.specs.Hmac
-pub use Rattle.krb_suite.specs.Sealing
+pub use Rattle.krb_block.specs.Modes
+pub use Rattle.krb_scheme.specs.Sealing
 pub use Rattle.krb_suite.specs.Suites
-pub use Rattle.krb_suite.specs.WellKnown
+pub use Rattle.krb_scheme.specs.WellKnown
 pub use Rattle.krb_seal.specs.PartError
 pub use Rattle.krb_seal.specs.Filled

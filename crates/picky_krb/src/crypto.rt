@@ -2,6 +2,6 @@
 
 pub use krb_block::{hmac_sha1, n_fold, pbkdf2_hmac_sha1};
 pub use krb_suite::{
-    ChecksumSuite, Cipher, CipherSuite, DecryptWithoutChecksum, EncryptWithoutChecksum, KERBEROS,
-    KerberosCryptoError, KerberosCryptoResult, aes, usage_kc, usage_ke, usage_ki,
+    Checksum, ChecksumSuite, Cipher, CipherSuite, DecryptWithoutChecksum, EncryptWithoutChecksum,
+    KERBEROS, KerberosCryptoError, KerberosCryptoResult, aes, des, usage_kc, usage_ke, usage_ki,
 };

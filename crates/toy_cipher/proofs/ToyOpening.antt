@@ -8,7 +8,8 @@ use Rattle.std.specs.List.{take-map}
 use Rattle.krb_block.specs.CryptoError.{IsMemoryOr}
 use Rattle.krb_block.specs.declared.error.KerberosCryptoError.{KerberosCryptoError}
 use Rattle.krb_der.specs.Encoding.{IsOctets}
-use Rattle.krb_suite.specs.Sealing.{IsFill, IsGiven, IsOfNone, IsSplit, Enciphers, Deciphers, Opens}
+use Rattle.krb_block.specs.Modes.{IsFill}
+use Rattle.krb_scheme.specs.Sealing.{IsGiven, IsOfNone, IsSplit, Enciphers, Deciphers, Opens}
 use Rattle.toy_cipher.specs.Toy.{IsToy}
 
 -- ---- octets

@@ -3,7 +3,7 @@ use Rattle.std.specs.Prelude.{◌≡◌, ◌≢◌, ◌<◌, ◌≤◌, ◌%◌,
 use Rattle.krb_block.specs.declared.error.KerberosCryptoError.{KerberosCryptoError}
 use Rattle.krb_block.specs.declared.error.KerberosCryptoError.TheVariants.{CipherLength, CipherUnpad}
 use Rattle.krb_der.specs.Encoding.{IsOctets}
-use Rattle.krb_suite.specs.Sealing.{IsFill}
+use Rattle.krb_block.specs.Modes.{IsFill}
 
 -- The confounder and the payload, filled to a multiple of four octets, each combined with the key's one octet.
 pub record IsToy (key confounder payload octets : List ℕ) : Type 0 where

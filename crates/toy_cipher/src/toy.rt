@@ -2,7 +2,7 @@
 
 ghost use Rattle.std.specs.Prelude.{◌≡◌, ◌≢◌, ◌<◌, ◌≤◌, ◌%◌, ℕ, List, [], ◌∷◌, ◌++◌, length, take, map, bit_xor, replicate, IfOk, MatchResult};
 ghost use Rattle.krb_der.specs.Encoding.{IsOctets};
-ghost use Rattle.krb_suite.specs.Sealing.{IsFill};
+ghost use Rattle.krb_block.specs.Modes.{IsFill};
 ghost use Rattle.toy_cipher.specs.Toy.{IsToy, IsToyRefusal};
 
 use picky_krb::crypto::{

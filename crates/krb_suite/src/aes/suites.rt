@@ -2,16 +2,15 @@
 
 ghost use Rattle.std.specs.Prelude.{◌≡◌, length};
 
-use super::key_derivation::{derive_key_from_password, random_to_key};
-use super::message::{
-    decrypt_message, decrypt_message_no_checksum, encrypt_message, encrypt_message_no_checksum,
-    integrity_checksum,
-};
 use crate::checksum_suite::ChecksumSuite;
 use crate::cipher::Cipher;
 use crate::cipher_suite::CipherSuite;
-use crate::without_checksum::{DecryptWithoutChecksum, EncryptWithoutChecksum};
 use krb_block::{AES_BLOCK_SIZE, AesSize, KerberosCryptoResult};
+use krb_scheme::aes::{
+    decrypt_message, decrypt_message_no_checksum, derive_key_from_password, encrypt_message,
+    encrypt_message_no_checksum, integrity_checksum, random_to_key,
+};
+use krb_scheme::{DecryptWithoutChecksum, EncryptWithoutChecksum};
 use std::alloc::Global;
 
 /// The octets to a multiple of which a payload is filled: ciphertext stealing fills none.
@@ -39,8 +38,8 @@ impl Aes128CtsHmacSha196 {
 }
 
 impl Cipher for Aes128CtsHmacSha196 {
-    ghost use Rattle.krb_suite.specs.Derive.{IsAesPasswordKey};
-    ghost use Rattle.krb_suite.specs.Sealed.{IsSealedAes, aes_ki, mac_96};
+    ghost use Rattle.krb_scheme.specs.Derive.{IsAesPasswordKey};
+    ghost use Rattle.krb_scheme.specs.Sealed.{IsSealedAes, aes_ki, mac_96};
     ghost use Rattle.krb_suite.specs.declared.cipher_suite.CipherSuite.TheVariants as cipher;
     ghost use Rattle.krb_suite.specs.declared.checksum_suite.ChecksumSuite.TheVariants as checksum;
 
@@ -172,8 +171,8 @@ impl Aes256CtsHmacSha196 {
 }
 
 impl Cipher for Aes256CtsHmacSha196 {
-    ghost use Rattle.krb_suite.specs.Derive.{IsAesPasswordKey};
-    ghost use Rattle.krb_suite.specs.Sealed.{IsSealedAes, aes_ki, mac_96};
+    ghost use Rattle.krb_scheme.specs.Derive.{IsAesPasswordKey};
+    ghost use Rattle.krb_scheme.specs.Sealed.{IsSealedAes, aes_ki, mac_96};
     ghost use Rattle.krb_suite.specs.declared.cipher_suite.CipherSuite.TheVariants as cipher;
     ghost use Rattle.krb_suite.specs.declared.checksum_suite.ChecksumSuite.TheVariants as checksum;
 

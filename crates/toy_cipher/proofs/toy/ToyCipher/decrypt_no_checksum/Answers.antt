@@ -1,7 +1,7 @@
 use Rattle.std.proofs.Common.{◌≡◌, ◌∙◌, ◌++◌, sym, ap, length, map, take, drop, bit_xor, arith}
 use Rattle.std.proofs.lemmas.List.{append-nil}
 use Rattle.krb_der.specs.Encoding.{IsOctets}
-use Rattle.krb_suite.specs.Sealing.{IsSplit}
+use Rattle.krb_scheme.specs.Sealing.{IsSplit}
 use Rattle.toy_cipher.proofs.ToyOpening.{toy_deciphers, only_octet}
 use Rattle.toy_cipher.proofs.toy.ToyCipher.decrypt_no_checksum.Goals as goal
 

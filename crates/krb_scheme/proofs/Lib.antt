@@ -1,0 +1,5 @@
+pub mod Deriving
+pub mod DesParts
+pub mod DesLaws
+pub mod Messages
+pub mod Opening

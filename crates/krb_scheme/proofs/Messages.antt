@@ -1,0 +1,126 @@
+-- The steps of the message calls.
+use Rattle.std.proofs.Common.{◌≡◌, ◌≢◌, Bool, true, false, not, ℕ, ℤ, ◌≤◌, ◌-◌, ◌%◌, List, ◌++◌, length, take, drop, replicate, refl, sym, ap, subst, ◌∙◌, arith}
+use Rattle.std.specs.Str.{bytes_eq}
+use Rattle.std.proofs.lemmas.Bool.{le-ltb, eq-eqb}
+use Rattle.std.proofs.lemmas.List.{length-take-le, length-drop, take-append-drop, take_at}
+use Rattle.std.proofs.lemmas.Slice.Eq.{bytes_eq-Decides}
+use Rattle.krb_block.specs.Hmac.{hmac}
+use Rattle.krb_block.proofs.AesUndoing.{aes_block_size}
+use Rattle.krb_block.proofs.HmacSteps.{hmac_size}
+use Rattle.krb_block.proofs.StealingUses.{Cts-same, Cts-length}
+use Rattle.krb_block.specs.Aes.{aes_block}
+use Rattle.krb_block.specs.Des.{ede_block, ede_undo}
+use Rattle.krb_block.specs.Modes.{IsCbc, IsFill, IsOctets}
+use Rattle.krb_block.proofs.Chaining.{IsCbc-same, IsCbc-length}
+use Rattle.krb_block.proofs.DesTriple.{AreInverse-ede}
+use Rattle.krb_block.proofs.Filling.{IsFill-one, IsFill-whole}
+use Rattle.krb_block.specs.declared.error.KerberosCryptoError.{KerberosCryptoError}
+use Rattle.krb_block.specs.declared.error.KerberosCryptoError.TheVariants.{IntegrityCheck}
+use Rattle.krb_scheme.specs.Sealing.{IsSplit}
+use Rattle.krb_scheme.specs.MessageSteps.{IsEnciphered, IsDeciphered}
+use Rattle.krb_scheme.specs.Sealed.{aes_ke, AesCts, mac_96, aes_refusal, des3_ke, des3_ki, Des3Cbc, des3_refusal}
+
+-- ---- AES
+
+pub mac_size : (ki m : List ℕ) → length (mac_96 ki m) ≡ 12
+mac_size ki m = length-take-le 12 (hmac ki m) (omega (arith, hmac_size ki m))
+
+pub AesCts-same : (key : List ℕ) (usage : ℤ) (p c d : List ℕ) → AesCts key usage p c → AesCts key usage p d → c ≡ d
+AesCts-same key usage p c d = Cts-same (aes_block (aes_ke key usage)) p c d
+
+-- what is enciphered has at least a block
+pub AesCts-long : (key : List ℕ) (usage : ℤ) (p c : List ℕ) → IsOctets p → 16 ≤ length p → AesCts key usage p c → 16 ≤ length c
+AesCts-long key usage p c octets long h = omega (arith, long, Cts-length (aes_block (aes_ke key usage)) (aes_block_size (aes_ke key usage)) p c h)
+
+-- under a right key, what is refused for another reason than its checksum is too short
+pub aes_short : (size : ℕ) (key bytes : List ℕ) (e : KerberosCryptoError) → length key ≡ size → (e ≡ aes_refusal size key bytes) × (e ≢ IntegrityCheck) → ¬ ((12 ≤ length bytes) × (16 ≤ length bytes - 12))
+aes_short size key bytes e right refused shape =
+    let long : 28 ≤ length bytes = omega (arith, shape.0, shape.1) in
+    let same : aes_refusal size key bytes ≡ IntegrityCheck = rw (le-ltb (length bytes) 28 long, right, eq-eqb size size refl) refl in
+    refused.1 (refused.0 ∙ same)
+
+-- ---- triple DES
+
+-- an HMAC of 20 octets is cut and filled by none
+pub whole_mac : (key m tag : List ℕ) → tag ≡ take 20 (hmac key m ++ replicate (20 - 20) 0) → tag ≡ hmac key m
+whole_mac key m tag e = e ∙ take_at (hmac key m) (replicate (20 - 20) 0) 20 (hmac_size key m)
+
+pub Des3Cbc-same : (key : List ℕ) (usage : ℤ) (p c d : List ℕ) → Des3Cbc key usage p c → Des3Cbc key usage p d → c ≡ d
+Des3Cbc-same key usage p c d = IsCbc-same 8 (ede_block (des3_ke key usage)) p c d
+
+pub Des3Cbc-length : (key : List ℕ) (usage : ℤ) (p c : List ℕ) → IsOctets p → Des3Cbc key usage p c → length c ≡ length p
+Des3Cbc-length key usage p c octets h = IsCbc-length 8 (omega arith) (ede_block (des3_ke key usage)) (ede_undo (des3_ke key usage)) (AreInverse-ede (des3_ke key usage)) p c octets h
+
+-- what is enciphered has at least a block, and whole ones
+pub Des3Cbc-shaped : (key : List ℕ) (usage : ℤ) (p c : List ℕ) → IsOctets p → 8 ≤ length p → Des3Cbc key usage p c → (8 ≤ length c) × (length c % 8 ≡ 0)
+Des3Cbc-shaped key usage p c octets long h =
+    let same : length c ≡ length p = Des3Cbc-length key usage p c octets h in
+    (omega (arith, same, long), ap (λ (k : ℕ). k % 8) same ∙ h.whole)
+
+-- under a right key, whole blocks behind a confounder are refused for their checksum alone
+des3_intact : (key bytes : List ℕ) → length key ≡ 24 → 28 ≤ length bytes → (length bytes - 20) % 8 ≡ 0 → des3_refusal key bytes ≡ IntegrityCheck
+des3_intact key bytes right long whole = rw (eq-eqb (length key) 24 right, le-ltb (length bytes) 28 long, eq-eqb ((length bytes - 20) % 8) 0 whole) refl
+
+-- and what is refused for another reason is too short, or not of whole blocks
+pub des3_unshaped : (key bytes : List ℕ) (e : KerberosCryptoError) → length key ≡ 24 → (e ≡ des3_refusal key bytes) × (e ≢ IntegrityCheck)
+    → ¬ ((20 ≤ length bytes) × ((8 ≤ length bytes - 20) × ((length bytes - 20) % 8 ≡ 0)))
+des3_unshaped key bytes e right refused shape =
+    refused.1 (refused.0 ∙ des3_intact key bytes right (omega (arith, shape.0, shape.1.0)) shape.1.1)
+
+-- what is written by the calls is confounder and payload, filled and enciphered
+pub des3_enciphered : (key : List ℕ) (usage : ℤ) (ke ki confounder payload filled f c : List ℕ) → ke ≡ des3_ke key usage → ki ≡ des3_ki key usage
+    → IsFill 8 (confounder ++ payload) filled → IsOctets filled → IsFill 8 filled f → IsCbc 8 (ede_block ke) f c
+    → IsEnciphered 8 (Des3Cbc key usage) (des3_ki key usage) confounder payload filled c ki
+des3_enciphered key usage ke ki confounder payload filled f c eke eki is octets fill made = record {
+  fill_is = is;
+  octets = octets;
+  enciphered = subst (λ p. Des3Cbc key usage p c) (IsFill-one 8 filled f filled fill (IsFill-whole 8 (omega arith) filled is.whole)) (subst (λ k. IsCbc 8 (ede_block k) f c) eke made);
+  ki_is = eki;
+}
+
+-- and what is read is the one list that is enciphered so
+pub des3_deciphered : (key : List ℕ) (usage : ℤ) (ke ki bytes filled : List ℕ) → ke ≡ des3_ke key usage → ki ≡ des3_ki key usage → 28 ≤ length bytes → IsOctets filled
+    → IsCbc 8 (ede_block ke) filled (take (length bytes - 20) bytes)
+    → ((q : List ℕ) → IsOctets q → IsCbc 8 (ede_block ke) q (take (length bytes - 20) bytes) → q ≡ filled)
+    → IsDeciphered 8 8 20 (Des3Cbc key usage) (des3_ki key usage) bytes filled ki
+des3_deciphered key usage ke ki bytes filled eke eki long octets made only =
+    let held : Des3Cbc key usage filled (take (length bytes - 20) bytes) = subst (λ k. IsCbc 8 (ede_block k) filled (take (length bytes - 20) bytes)) eke made in
+    let same : length (take (length bytes - 20) bytes) ≡ length filled = Des3Cbc-length key usage filled (take (length bytes - 20) bytes) octets held in
+    record {
+      long = long;
+      front = omega (arith, same, long, length-take-le (length bytes - 20) bytes (omega arith));
+      whole = held.whole;
+      of_octets = octets;
+      enciphered = held;
+      only = λ q is h. only q is (subst (λ k. IsCbc 8 (ede_block k) q (take (length bytes - 20) bytes)) (sym eke) h);
+      ki_is = eki;
+    }
+
+-- what is deciphered is refused for its checksum alone
+pub des3_checked : (key : List ℕ) (usage : ℤ) (bytes filled ki : List ℕ) → length key ≡ 24 → IsDeciphered 8 8 20 (Des3Cbc key usage) (des3_ki key usage) bytes filled ki
+    → des3_refusal key bytes ≡ IntegrityCheck
+des3_checked key usage bytes filled ki right d =
+    let same : length (take (length bytes - 20) bytes) ≡ length filled = Des3Cbc-length key usage filled (take (length bytes - 20) bytes) d.of_octets d.enciphered in
+    let front : length bytes - 20 ≡ length filled = sym (length-take-le (length bytes - 20) bytes (omega arith)) ∙ same in
+    des3_intact key bytes right d.long (ap (λ (k : ℕ). k % 8) front ∙ d.whole)
+
+-- ---- the comparison of checksums
+
+not_false : (b : Bool) → not b ≡ false → b ≡ true
+not_false true e = refl
+not_false false e = cc
+
+-- where the test finds a difference, there is one
+pub differ : (xs ys : List ℕ) (b : Bool) → b ≡ not (bytes_eq xs ys) → b ≡ true → xs ≢ ys
+differ xs ys b e differs same = let yes : bytes_eq xs ys ≡ true = (bytes_eq-Decides xs ys).1 same in absurd (cc (sym differs ∙ e ∙ ap not yes))
+
+-- and where it finds none, there is none
+pub agree : (xs ys : List ℕ) (b : Bool) → b ≡ not (bytes_eq xs ys) → b ≡ false → xs ≡ ys
+agree xs ys b e alike = (bytes_eq-Decides xs ys).0 (not_false (bytes_eq xs ys) (sym e ∙ alike))
+
+-- the octets are those without their last h, and these
+pub split_end : (bytes end : List ℕ) (h : ℕ) → h ≤ length bytes → end ≡ drop (length bytes - h) bytes → IsSplit h bytes (take (length bytes - h) bytes) end
+split_end bytes end h long e = record {
+  joined = sym (take-append-drop (length bytes - h) bytes) ∙ ap (λ (k : List ℕ). take (length bytes - h) bytes ++ k) (sym e);
+  size_is = ap length e ∙ omega (arith, long, length-drop (length bytes - h) bytes);
+}

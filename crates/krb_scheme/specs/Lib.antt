@@ -1,0 +1,6 @@
+pub mod Derive
+pub mod MessageSteps
+pub mod RandomToKey
+pub mod Sealed
+pub mod Sealing
+pub mod WellKnown

@@ -1,0 +1,21 @@
+-- What the message calls keep between their steps.
+use Rattle.std.specs.Prelude.{◌≡◌, ℕ, ◌+◌, ◌-◌, ◌%◌, ◌≤◌, List, ◌++◌, length, take}
+use Rattle.krb_block.specs.Modes.{IsOctets, IsFill}
+
+-- confounder and payload, filled to a multiple of fill octets and enciphered, and the key Ki
+pub record IsEnciphered (fill : ℕ) (enciphers : List ℕ → List ℕ → Type 0) (integrity_key confounder payload filled encrypted ki : List ℕ) : Type 0 where
+  pub fill_is : IsFill fill (confounder ++ payload) filled
+  pub octets : IsOctets filled
+  pub enciphered : enciphers filled encrypted
+  pub ki_is : ki ≡ integrity_key
+
+-- the one list that is enciphered to the octets without their last h, which holds n octets of a confounder and whole fills,
+-- and the key Ki
+pub record IsDeciphered (fill n h : ℕ) (enciphers : List ℕ → List ℕ → Type 0) (integrity_key octets filled ki : List ℕ) : Type 0 where
+  pub long : n + h ≤ length octets
+  pub front : n ≤ length filled
+  pub whole : length filled % fill ≡ 0
+  pub of_octets : IsOctets filled
+  pub enciphered : enciphers filled (take (length octets - h) octets)
+  pub only : (other : List ℕ) → IsOctets other → enciphers other (take (length octets - h) octets) → other ≡ filled
+  pub ki_is : ki ≡ integrity_key

@@ -1,0 +1,11 @@
+//! AES for Kerberos (RFC 3962): keys, messages and checksums.
+
+mod integrity;
+mod key_derivation;
+mod message;
+
+pub use integrity::{checksum_sha_aes, integrity_checksum};
+pub use key_derivation::{derive_key, derive_key_from_password, random_to_key};
+pub use message::{
+    decrypt_message, decrypt_message_no_checksum, encrypt_message, encrypt_message_no_checksum,
+};

@@ -1,0 +1,186 @@
+//! Messages under AES (RFC 3961, 5.3; RFC 3962, 6), stated once over the size of the key.
+
+ghost use Rattle.std.specs.Prelude.{◌≡◌, ◌≢◌, ℕ, List, length, IfOk, IfErr};
+ghost use Rattle.krb_block.specs.CryptoError.{IsMemoryOr, RefusesKey};
+ghost use Rattle.krb_block.specs.Size.{key_octets};
+ghost use Rattle.krb_scheme.specs.MessageSteps.{IsEnciphered, IsDeciphered};
+ghost use Rattle.krb_scheme.specs.Sealed.{IsSealedAes, AesCts, aes_ki, aes_refusal};
+ghost use Rattle.krb_scheme.specs.Sealing.{IsTheOne, IsOfNone, IsGiven, Opens, Enciphers, IsSplit, Deciphers};
+
+use super::key_derivation::derive_key;
+use crate::octets::are_octets;
+use crate::well_known::{usage_ke, usage_ki};
+use crate::without_checksum::{DecryptWithoutChecksum, EncryptWithoutChecksum};
+use krb_block::{
+    AES_BLOCK_SIZE, AES_MAC_SIZE, AesSize, KerberosCryptoError, KerberosCryptoResult,
+    decrypt_aes_cts, encrypt_aes_cts, hmac_sha1,
+};
+use std::alloc::Global;
+
+/// The octets of a message with an empty payload: the confounder and the checksum.
+const SHORTEST: usize = AES_BLOCK_SIZE + AES_MAC_SIZE;
+
+/// The payload, encrypted with the confounder in front of it under Ke, and the HMAC of both under Ki, cut to 12 octets.
+///
+/// `KeyLength` where the key has not the size's length; nothing else is refused.
+pub fn encrypt_message(
+    alloc: Global,
+    key: &[u8],
+    key_usage: i32,
+    payload: &[u8],
+    size: &AesSize,
+    confounder: [u8; AES_BLOCK_SIZE],
+) -> KerberosCryptoResult<Vec<u8>>
+    ensures key { IfOk result (λ _. length key.now ≡ key_octets size.now) }
+    ensures sealed { IfOk result (λ octets. IsTheOne (IsSealedAes key.now key_usage confounder payload.now) octets.items) }
+    ensures refused { IfErr result (RefusesKey (key_octets size.now) key.now) }
+{
+    let enciphered = encipher(alloc, key, key_usage, payload, &confounder, size)?;
+    let mac = hmac_sha1(alloc, &enciphered.ki, &enciphered.joined, AES_MAC_SIZE)?;
+    let mut sealed = enciphered.encrypted;
+    sealed.extend_from_slice(&mac)?;
+    Ok(sealed)
+}
+
+/// The payload that was encrypted to these octets.
+///
+/// `CipherLength` of their number and 28 where they are fewer, then `KeyLength` where the key has not the size's length,
+/// then `IntegrityCheck` where the checksum is another; nothing is handed out before it is compared.
+pub fn decrypt_message(
+    alloc: Global,
+    key: &[u8],
+    key_usage: i32,
+    cipher_data: &[u8],
+    size: &AesSize,
+) -> KerberosCryptoResult<Vec<u8>>
+    ensures key { IfOk result (λ _. length key.now ≡ key_octets size.now) }
+    ensures opened { IfOk result (λ payload. Opens 1 (IsGiven (IsSealedAes key.now key_usage) 16 cipher_data.now) payload.items) }
+    ensures refused { length key.now ≡ key_octets size.now → IfErr result (λ e. IsMemoryOr e (IsOfNone (IsGiven (IsSealedAes key.now key_usage) 16 cipher_data.now))) }
+    ensures exact { IfErr result (λ e. IsMemoryOr e (e ≡ aes_refusal (key_octets size.now) key.now cipher_data.now)) }
+{
+    let deciphered = decipher(alloc, key, key_usage, cipher_data, size)?;
+    let mac = hmac_sha1(alloc, &deciphered.ki, &deciphered.joined, AES_MAC_SIZE)?;
+    let checksum = &cipher_data[cipher_data.len() - AES_MAC_SIZE..];
+    if mac.as_slice() != checksum {
+        return Err(KerberosCryptoError::IntegrityCheck);
+    }
+    let payload = &deciphered.joined[AES_BLOCK_SIZE..];
+    Ok(Vec::from_slice(alloc, payload)?)
+}
+
+/// What `encrypt_message` makes, without the checksum; with it the confounder and Ki.
+pub fn encrypt_message_no_checksum(
+    alloc: Global,
+    key: &[u8],
+    key_usage: i32,
+    payload: &[u8],
+    size: &AesSize,
+    confounder: [u8; AES_BLOCK_SIZE],
+) -> KerberosCryptoResult<EncryptWithoutChecksum>
+    ensures key { IfOk result (λ _. length key.now ≡ key_octets size.now) }
+    ensures encrypted { IfOk result (λ made. IsTheOne (Enciphers (IsSealedAes key.now key_usage) 12 confounder payload.now) made.encrypted.items) }
+    ensures confounder { IfOk result (λ made. made.confounder.items ≡ confounder) }
+    ensures ki { IfOk result (λ made. made.ki.items ≡ aes_ki key.now key_usage) }
+    ensures refused { IfErr result (RefusesKey (key_octets size.now) key.now) }
+{
+    let enciphered = encipher(alloc, key, key_usage, payload, &confounder, size)?;
+    let confounder = Vec::from_slice(alloc, &confounder)?;
+    Ok(EncryptWithoutChecksum {
+        encrypted: enciphered.encrypted,
+        confounder,
+        ki: enciphered.ki,
+    })
+}
+
+/// What the octets without their last 12 decrypt to, these 12 octets, which are not compared, and Ki.
+///
+/// `CipherLength` of their number and 28 where they are fewer, then `KeyLength` where the key has not the size's length.
+pub fn decrypt_message_no_checksum(
+    alloc: Global,
+    key: &[u8],
+    key_usage: i32,
+    cipher_data: &[u8],
+    size: &AesSize,
+) -> KerberosCryptoResult<DecryptWithoutChecksum>
+    ensures key { IfOk result (λ _. length key.now ≡ key_octets size.now) }
+    ensures opened { IfOk result (λ made. (encrypted : List ℕ) × IsSplit 12 cipher_data.now encrypted made.checksum.items × Deciphers 1 16 (Enciphers (IsSealedAes key.now key_usage) 12) encrypted made.confounder.items made.plaintext.items) }
+    ensures ki { IfOk result (λ made. made.ki.items ≡ aes_ki key.now key_usage) }
+    ensures refused { length key.now ≡ key_octets size.now → IfErr result (λ e. IsMemoryOr e ((encrypted checksum : List ℕ) → IsSplit 12 cipher_data.now encrypted checksum → IsOfNone (IsGiven (Enciphers (IsSealedAes key.now key_usage) 12) 16 encrypted))) }
+    ensures exact { IfErr result (λ e. IsMemoryOr e ((e ≡ aes_refusal (key_octets size.now) key.now cipher_data.now) × (e ≢ KerberosCryptoError.IntegrityCheck))) }
+{
+    let deciphered = decipher(alloc, key, key_usage, cipher_data, size)?;
+    let front = &deciphered.joined[..AES_BLOCK_SIZE];
+    let confounder = Vec::from_slice(alloc, front)?;
+    let rest = &deciphered.joined[AES_BLOCK_SIZE..];
+    let plaintext = Vec::from_slice(alloc, rest)?;
+    let end = &cipher_data[cipher_data.len() - AES_MAC_SIZE..];
+    let checksum = Vec::from_slice(alloc, end)?;
+    Ok(DecryptWithoutChecksum {
+        plaintext,
+        confounder,
+        checksum,
+        ki: deciphered.ki,
+    })
+}
+
+#[derive(Drop)]
+struct Enciphered {
+    joined: Vec<u8>,
+    encrypted: Vec<u8>,
+    ki: Vec<u8>,
+}
+
+/// Confounder and payload joined, and encrypted under Ke.
+fn encipher(
+    alloc: Global,
+    key: &[u8],
+    key_usage: i32,
+    payload: &[u8],
+    confounder: &[u8; AES_BLOCK_SIZE],
+    size: &AesSize,
+) -> KerberosCryptoResult<Enciphered>
+    ensures key { IfOk result (λ _. length key.now ≡ key_octets size.now) }
+    ensures enciphered { IfOk result (λ r. IsEnciphered 1 (AesCts key.now key_usage) (aes_ki key.now key_usage) confounder.now payload.now r.joined.items r.encrypted.items r.ki.items) }
+    ensures refused { IfErr result (RefusesKey (key_octets size.now) key.now) }
+{
+    let ke = derive_key(alloc, key, &usage_ke(key_usage), size)?;
+    let ki = derive_key(alloc, key, &usage_ki(key_usage), size)?;
+    let mut joined = Vec::from_slice(alloc, confounder)?;
+    joined.extend_from_slice(payload)?;
+    are_octets(&joined);
+    let encrypted = encrypt_aes_cts(alloc, &ke, &joined, size)?;
+    Ok(Enciphered {
+        joined,
+        encrypted,
+        ki,
+    })
+}
+
+#[derive(Drop)]
+struct Deciphered {
+    joined: Vec<u8>,
+    ki: Vec<u8>,
+}
+
+/// What the octets without their last 12 decrypt to under Ke.
+fn decipher(
+    alloc: Global,
+    key: &[u8],
+    key_usage: i32,
+    cipher_data: &[u8],
+    size: &AesSize,
+) -> KerberosCryptoResult<Deciphered>
+    ensures key { IfOk result (λ _. length key.now ≡ key_octets size.now) }
+    ensures deciphered { IfOk result (λ r. IsDeciphered 1 16 12 (AesCts key.now key_usage) (aes_ki key.now key_usage) cipher_data.now r.joined.items r.ki.items) }
+    ensures exact { IfErr result (λ e. IsMemoryOr e ((e ≡ aes_refusal (key_octets size.now) key.now cipher_data.now) × (e ≢ KerberosCryptoError.IntegrityCheck))) }
+{
+    if cipher_data.len() < SHORTEST {
+        return Err(KerberosCryptoError::CipherLength(cipher_data.len(), SHORTEST));
+    }
+    let ke = derive_key(alloc, key, &usage_ke(key_usage), size)?;
+    let ki = derive_key(alloc, key, &usage_ki(key_usage), size)?;
+    let encrypted = &cipher_data[..cipher_data.len() - AES_MAC_SIZE];
+    let joined = decrypt_aes_cts(alloc, &ke, encrypted, size)?;
+    are_octets(&joined);
+    Ok(Deciphered { joined, ki })
+}

@@ -1,0 +1,183 @@
+//! Messages under triple DES (RFC 3961, 5.3 and 6.3).
+
+ghost use Rattle.std.specs.Prelude.{◌≡◌, ◌≢◌, ℕ, List, length, IfOk, IfErr};
+ghost use Rattle.krb_block.specs.CryptoError.{IsMemoryOr, RefusesKey};
+ghost use Rattle.krb_scheme.specs.MessageSteps.{IsEnciphered, IsDeciphered};
+ghost use Rattle.krb_scheme.specs.Sealed.{IsSealedDes3, Des3Cbc, des3_ki, des3_refusal};
+ghost use Rattle.krb_scheme.specs.Sealing.{IsTheOne, IsOfNone, IsGiven, Opens, Enciphers, IsSplit, Deciphers};
+
+use super::key_derivation::derive_key;
+use crate::octets::are_octets;
+use crate::well_known::{usage_ke, usage_ki};
+use crate::without_checksum::{DecryptWithoutChecksum, EncryptWithoutChecksum};
+use krb_block::{
+    DES3_BLOCK_SIZE, DES3_MAC_SIZE, KerberosCryptoError, KerberosCryptoResult, decrypt_des,
+    encrypt_des, fill_blocks, hmac_sha1,
+};
+use std::alloc::Global;
+
+/// The octets of a message with an empty payload: the confounder and the checksum.
+const SHORTEST: usize = DES3_BLOCK_SIZE + DES3_MAC_SIZE;
+
+/// The payload, encrypted with the confounder in front of it and zeros to whole blocks behind it under Ke, and the HMAC of
+/// all this under Ki, of 20 octets.
+///
+/// `KeyLength` where the key has not 24 octets; nothing else is refused.
+pub fn encrypt_message(
+    alloc: Global,
+    key: &[u8],
+    key_usage: i32,
+    payload: &[u8],
+    confounder: [u8; DES3_BLOCK_SIZE],
+) -> KerberosCryptoResult<Vec<u8>>
+    ensures key { IfOk result (λ _. length key.now ≡ 24) }
+    ensures sealed { IfOk result (λ octets. IsTheOne (IsSealedDes3 key.now key_usage confounder payload.now) octets.items) }
+    ensures refused { IfErr result (RefusesKey 24 key.now) }
+{
+    let enciphered = encipher(alloc, key, key_usage, payload, &confounder)?;
+    let mac = hmac_sha1(alloc, &enciphered.ki, &enciphered.filled, DES3_MAC_SIZE)?;
+    let mut sealed = enciphered.encrypted;
+    sealed.extend_from_slice(&mac)?;
+    Ok(sealed)
+}
+
+/// The payload that was encrypted to these octets, with the zeros that it was filled with.
+///
+/// `KeyLength` where the key has not 24 octets, then `CipherLength` of their number and 28 where they are fewer, then
+/// `CipherUnpad` where those in front of the last 20 are not whole blocks of 8, then `IntegrityCheck` where the checksum
+/// is another; nothing is handed out before it is compared.
+pub fn decrypt_message(
+    alloc: Global,
+    key: &[u8],
+    key_usage: i32,
+    cipher_data: &[u8],
+) -> KerberosCryptoResult<Vec<u8>>
+    ensures key { IfOk result (λ _. length key.now ≡ 24) }
+    ensures opened { IfOk result (λ payload. Opens 8 (IsGiven (IsSealedDes3 key.now key_usage) 8 cipher_data.now) payload.items) }
+    ensures refused { length key.now ≡ 24 → IfErr result (λ e. IsMemoryOr e (IsOfNone (IsGiven (IsSealedDes3 key.now key_usage) 8 cipher_data.now))) }
+    ensures exact { IfErr result (λ e. IsMemoryOr e (e ≡ des3_refusal key.now cipher_data.now)) }
+{
+    let deciphered = decipher(alloc, key, key_usage, cipher_data)?;
+    let mac = hmac_sha1(alloc, &deciphered.ki, &deciphered.filled, DES3_MAC_SIZE)?;
+    let checksum = &cipher_data[cipher_data.len() - DES3_MAC_SIZE..];
+    if mac.as_slice() != checksum {
+        return Err(KerberosCryptoError::IntegrityCheck);
+    }
+    let payload = &deciphered.filled[DES3_BLOCK_SIZE..];
+    Ok(Vec::from_slice(alloc, payload)?)
+}
+
+/// What `encrypt_message` makes, without the checksum; with it the confounder and Ki.
+pub fn encrypt_message_no_checksum(
+    alloc: Global,
+    key: &[u8],
+    key_usage: i32,
+    payload: &[u8],
+    confounder: [u8; DES3_BLOCK_SIZE],
+) -> KerberosCryptoResult<EncryptWithoutChecksum>
+    ensures key { IfOk result (λ _. length key.now ≡ 24) }
+    ensures encrypted { IfOk result (λ made. IsTheOne (Enciphers (IsSealedDes3 key.now key_usage) 20 confounder payload.now) made.encrypted.items) }
+    ensures confounder { IfOk result (λ made. made.confounder.items ≡ confounder) }
+    ensures ki { IfOk result (λ made. made.ki.items ≡ des3_ki key.now key_usage) }
+    ensures refused { IfErr result (RefusesKey 24 key.now) }
+{
+    let enciphered = encipher(alloc, key, key_usage, payload, &confounder)?;
+    let confounder = Vec::from_slice(alloc, &confounder)?;
+    Ok(EncryptWithoutChecksum {
+        encrypted: enciphered.encrypted,
+        confounder,
+        ki: enciphered.ki,
+    })
+}
+
+/// What the octets without their last 20 decrypt to, with the zeros of the fill, these 20 octets, which are not compared,
+/// and Ki.
+///
+/// `KeyLength`, `CipherLength` and `CipherUnpad` as in `decrypt_message`, in this order.
+pub fn decrypt_message_no_checksum(
+    alloc: Global,
+    key: &[u8],
+    key_usage: i32,
+    cipher_data: &[u8],
+) -> KerberosCryptoResult<DecryptWithoutChecksum>
+    ensures key { IfOk result (λ _. length key.now ≡ 24) }
+    ensures opened { IfOk result (λ made. (encrypted : List ℕ) × IsSplit 20 cipher_data.now encrypted made.checksum.items × Deciphers 8 8 (Enciphers (IsSealedDes3 key.now key_usage) 20) encrypted made.confounder.items made.plaintext.items) }
+    ensures ki { IfOk result (λ made. made.ki.items ≡ des3_ki key.now key_usage) }
+    ensures refused { length key.now ≡ 24 → IfErr result (λ e. IsMemoryOr e ((encrypted checksum : List ℕ) → IsSplit 20 cipher_data.now encrypted checksum → IsOfNone (IsGiven (Enciphers (IsSealedDes3 key.now key_usage) 20) 8 encrypted))) }
+    ensures exact { IfErr result (λ e. IsMemoryOr e ((e ≡ des3_refusal key.now cipher_data.now) × (e ≢ KerberosCryptoError.IntegrityCheck))) }
+{
+    let deciphered = decipher(alloc, key, key_usage, cipher_data)?;
+    let front = &deciphered.filled[..DES3_BLOCK_SIZE];
+    let confounder = Vec::from_slice(alloc, front)?;
+    let rest = &deciphered.filled[DES3_BLOCK_SIZE..];
+    let plaintext = Vec::from_slice(alloc, rest)?;
+    let end = &cipher_data[cipher_data.len() - DES3_MAC_SIZE..];
+    let checksum = Vec::from_slice(alloc, end)?;
+    Ok(DecryptWithoutChecksum {
+        plaintext,
+        confounder,
+        checksum,
+        ki: deciphered.ki,
+    })
+}
+
+#[derive(Drop)]
+struct Enciphered {
+    filled: Vec<u8>,
+    encrypted: Vec<u8>,
+    ki: Vec<u8>,
+}
+
+/// Confounder and payload joined, filled to whole blocks, and encrypted under Ke.
+fn encipher(
+    alloc: Global,
+    key: &[u8],
+    key_usage: i32,
+    payload: &[u8],
+    confounder: &[u8; DES3_BLOCK_SIZE],
+) -> KerberosCryptoResult<Enciphered>
+    ensures key { IfOk result (λ _. length key.now ≡ 24) }
+    ensures enciphered { IfOk result (λ r. IsEnciphered 8 (Des3Cbc key.now key_usage) (des3_ki key.now key_usage) confounder.now payload.now r.filled.items r.encrypted.items r.ki.items) }
+    ensures refused { IfErr result (RefusesKey 24 key.now) }
+{
+    let ke = derive_key(alloc, key, &usage_ke(key_usage))?;
+    let ki = derive_key(alloc, key, &usage_ki(key_usage))?;
+    let mut filled = Vec::from_slice(alloc, confounder)?;
+    filled.extend_from_slice(payload)?;
+    fill_blocks(&mut filled)?;
+    are_octets(&filled);
+    let encrypted = encrypt_des(alloc, &ke, &filled)?;
+    Ok(Enciphered {
+        filled,
+        encrypted,
+        ki,
+    })
+}
+
+#[derive(Drop)]
+struct Deciphered {
+    filled: Vec<u8>,
+    ki: Vec<u8>,
+}
+
+/// What the octets without their last 20 decrypt to under Ke.
+fn decipher(
+    alloc: Global,
+    key: &[u8],
+    key_usage: i32,
+    cipher_data: &[u8],
+) -> KerberosCryptoResult<Deciphered>
+    ensures key { IfOk result (λ _. length key.now ≡ 24) }
+    ensures deciphered { IfOk result (λ r. IsDeciphered 8 8 20 (Des3Cbc key.now key_usage) (des3_ki key.now key_usage) cipher_data.now r.filled.items r.ki.items) }
+    ensures exact { IfErr result (λ e. IsMemoryOr e ((e ≡ des3_refusal key.now cipher_data.now) × (e ≢ KerberosCryptoError.IntegrityCheck))) }
+{
+    let ke = derive_key(alloc, key, &usage_ke(key_usage))?;
+    let ki = derive_key(alloc, key, &usage_ki(key_usage))?;
+    if cipher_data.len() < SHORTEST {
+        return Err(KerberosCryptoError::CipherLength(cipher_data.len(), SHORTEST));
+    }
+    let encrypted = &cipher_data[..cipher_data.len() - DES3_MAC_SIZE];
+    let filled = decrypt_des(alloc, &ke, encrypted)?;
+    are_octets(&filled);
+    Ok(Deciphered { filled, ki })
+}

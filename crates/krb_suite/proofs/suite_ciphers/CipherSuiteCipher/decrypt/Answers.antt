@@ -1,0 +1,20 @@
+use Rattle.std.proofs.lemmas.Int.{to_z-of_z}
+use Rattle.krb_suite.proofs.suite_ciphers.CipherSuiteCipher.decrypt.Goals as goal
+
+pub returns-in-Aes128CtsHmacSha196-clause-opened : goal.returns-in-Aes128CtsHmacSha196-clause-opened
+returns-in-Aes128CtsHmacSha196-clause-opened c = let fits = c.ranges.key_usage in rw c.in-Aes128CtsHmacSha196.is (simp to_z-of_z at c.decrypt.ensures.opened)
+
+pub returns-in-Aes128CtsHmacSha196-clause-refused : goal.returns-in-Aes128CtsHmacSha196-clause-refused
+returns-in-Aes128CtsHmacSha196-clause-refused c = let fits = c.ranges.key_usage in rw c.in-Aes128CtsHmacSha196.is (simp to_z-of_z at c.decrypt.ensures.refused)
+
+pub returns-in-Aes256CtsHmacSha196-clause-opened : goal.returns-in-Aes256CtsHmacSha196-clause-opened
+returns-in-Aes256CtsHmacSha196-clause-opened c = let fits = c.ranges.key_usage in rw c.in-Aes256CtsHmacSha196.is (simp to_z-of_z at c.decrypt-in-Aes256CtsHmacSha196.ensures.opened)
+
+pub returns-in-Aes256CtsHmacSha196-clause-refused : goal.returns-in-Aes256CtsHmacSha196-clause-refused
+returns-in-Aes256CtsHmacSha196-clause-refused c = let fits = c.ranges.key_usage in rw c.in-Aes256CtsHmacSha196.is (simp to_z-of_z at c.decrypt-in-Aes256CtsHmacSha196.ensures.refused)
+
+pub returns-in-Des3CbcSha1Kd-clause-opened : goal.returns-in-Des3CbcSha1Kd-clause-opened
+returns-in-Des3CbcSha1Kd-clause-opened c = let fits = c.ranges.key_usage in rw c.in-Des3CbcSha1Kd.is (simp to_z-of_z at c.decrypt-in-Des3CbcSha1Kd.ensures.opened)
+
+pub returns-in-Des3CbcSha1Kd-clause-refused : goal.returns-in-Des3CbcSha1Kd-clause-refused
+returns-in-Des3CbcSha1Kd-clause-refused c = let fits = c.ranges.key_usage in rw c.in-Des3CbcSha1Kd.is (simp to_z-of_z at c.decrypt-in-Des3CbcSha1Kd.ensures.refused)
