@@ -9,6 +9,10 @@ pub mod crypto;
 mod crypto_rows;
 pub mod der;
 #[cfg(test)]
+mod des_key_rows;
+#[cfg(test)]
+mod des_rows;
+#[cfg(test)]
 mod first_rows;
 #[cfg(test)]
 mod key_rows;
