@@ -145,7 +145,8 @@ fn encipher(
 {
     let ke = derive_key(alloc, key, &usage_ke(key_usage), size)?;
     let ki = derive_key(alloc, key, &usage_ki(key_usage), size)?;
-    let mut joined = Vec::from_slice(alloc, confounder)?;
+    let mut joined = Vec::with_capacity(alloc, AES_BLOCK_SIZE + payload.len())?;
+    joined.extend_from_slice(confounder)?;
     joined.extend_from_slice(payload)?;
     are_octets(&joined);
     let encrypted = encrypt_aes_cts(alloc, &ke, &joined, size)?;

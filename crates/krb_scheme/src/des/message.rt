@@ -142,7 +142,8 @@ fn encipher(
 {
     let ke = derive_key(alloc, key, &usage_ke(key_usage))?;
     let ki = derive_key(alloc, key, &usage_ki(key_usage))?;
-    let mut filled = Vec::from_slice(alloc, confounder)?;
+    let mut filled = Vec::with_capacity(alloc, 2 * DES3_BLOCK_SIZE + payload.len())?;
+    filled.extend_from_slice(confounder)?;
     filled.extend_from_slice(payload)?;
     fill_blocks(&mut filled)?;
     are_octets(&filled);
