@@ -7,6 +7,7 @@ mod checksum;
 mod checksum_suite;
 mod cipher;
 mod cipher_suite;
+mod confounder;
 pub mod des;
 mod suite_checksums;
 mod suite_ciphers;

@@ -1,10 +1,9 @@
 //! The AES suites of RFC 3962: ciphers over the message calls.
 
-ghost use Rattle.std.specs.Prelude.{◌≡◌, length};
-
 use crate::checksum_suite::ChecksumSuite;
 use crate::cipher::Cipher;
 use crate::cipher_suite::CipherSuite;
+use crate::confounder::confounder_of;
 use krb_block::{AES_BLOCK_SIZE, AesSize, KerberosCryptoResult};
 use krb_scheme::aes::{
     decrypt_message, decrypt_message_no_checksum, derive_key_from_password, encrypt_message,
@@ -15,16 +14,6 @@ use std::alloc::Global;
 
 /// The octets to a multiple of which a payload is filled: ciphertext stealing fills none.
 const FILL_SIZE: usize = 1;
-
-/// The octets as a confounder.
-fn confounder_of(octets: &[u8]) -> [u8; AES_BLOCK_SIZE]
-    requires { length octets.now ≡ 16 }
-    ensures { result ≡ octets.now }
-{
-    let mut confounder = [0; AES_BLOCK_SIZE];
-    confounder.copy_from_slice(octets);
-    confounder
-}
 
 /// aes128-cts-hmac-sha1-96, encryption type 17 (RFC 3962): keys and seeds of 16 octets, confounders of 16, checksums of 12.
 #[derive(Debug, Drop, Clone, PartialEq, Eq, Default)]

@@ -1,10 +1,9 @@
 //! The suite of triple DES (RFC 3961, 6.3): a cipher over the message calls.
 
-ghost use Rattle.std.specs.Prelude.{◌≡◌, length};
-
 use crate::checksum_suite::ChecksumSuite;
 use crate::cipher::Cipher;
 use crate::cipher_suite::CipherSuite;
+use crate::confounder::confounder_of;
 use krb_block::{DES3_BLOCK_SIZE, DES3_KEY_SIZE, DES3_SEED_LEN, KerberosCryptoResult};
 use krb_scheme::des::{
     decrypt_message, decrypt_message_no_checksum, derive_key_from_password, encrypt_message,
@@ -12,16 +11,6 @@ use krb_scheme::des::{
 };
 use krb_scheme::{DecryptWithoutChecksum, EncryptWithoutChecksum};
 use std::alloc::Global;
-
-/// The octets as a confounder.
-fn confounder_of(octets: &[u8]) -> [u8; DES3_BLOCK_SIZE]
-    requires { length octets.now ≡ 8 }
-    ensures { result ≡ octets.now }
-{
-    let mut confounder = [0; DES3_BLOCK_SIZE];
-    confounder.copy_from_slice(octets);
-    confounder
-}
 
 /// des3-cbc-hmac-sha1-kd, encryption type 16 (RFC 3961, 6.3): keys of 24 octets, seeds of 21, confounders of 8, checksums of
 /// 20. A payload is filled with zeros to a multiple of 8 octets, and opened with them.

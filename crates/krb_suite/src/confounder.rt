@@ -1,0 +1,13 @@
+//! A confounder as the message calls take it.
+
+ghost use Rattle.std.specs.Prelude.{◌≡◌, length};
+
+/// The octets as a confounder of the suite's length.
+pub(crate) fn confounder_of<const SIZE: usize>(octets: &[u8]) -> [u8; SIZE]
+    requires { length octets.now ≡ SIZE }
+    ensures { result ≡ octets.now }
+{
+    let mut confounder = [0; SIZE];
+    confounder.copy_from_slice(octets);
+    confounder
+}
