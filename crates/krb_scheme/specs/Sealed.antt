@@ -85,3 +85,7 @@ des3_refusal key octets =
     else if (length octets - 20) % 8 == 0 then IntegrityCheck
     else CipherUnpad
     ) else KeyLength (length key) 24
+
+-- why a password and a salt give no key: there is no octet of them
+abbrev pub IsNoDes3Password : List ℕ → List ℕ → KerberosCryptoError → Type 0
+IsNoDes3Password password salt e = (length (password ++ salt) ≡ 0) × (e ≡ KeyLength 0 1)

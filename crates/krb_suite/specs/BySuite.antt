@@ -1,9 +1,10 @@
 -- What each suite means, by cases (RFC 3961, 6.3; RFC 3962, 6).
 use Rattle.std.specs.Prelude.{ℕ, ℤ, List}
 use Rattle.krb_block.specs.Hmac.{hmac}
+use Rattle.krb_block.specs.declared.error.KerberosCryptoError.{KerberosCryptoError}
 use Rattle.krb_scheme.specs.Derive.{IsAesPasswordKey, IsDes3PasswordKey}
 use Rattle.krb_scheme.specs.RandomToKey.{random_to_key}
-use Rattle.krb_scheme.specs.Sealed.{IsSealedAes, aes_ki, aes_sum, mac_96, IsSealedDes3, des3_ki, des3_sum}
+use Rattle.krb_scheme.specs.Sealed.{IsSealedAes, aes_ki, aes_sum, mac_96, aes_refusal, IsSealedDes3, des3_ki, des3_sum, des3_refusal, IsNoDes3Password}
 use Rattle.krb_suite.specs.declared.cipher_suite.CipherSuite.{CipherSuite}
 use Rattle.krb_suite.specs.declared.cipher_suite.CipherSuite.TheVariants.{Aes128CtsHmacSha196, Aes256CtsHmacSha196, Des3CbcSha1Kd}
 use Rattle.krb_suite.specs.declared.checksum_suite.ChecksumSuite.{ChecksumSuite}
@@ -68,6 +69,18 @@ abbrev pub IsPasswordKey : CipherSuite → List ℕ → List ℕ → List ℕ �
 IsPasswordKey Aes128CtsHmacSha196 password salt key = IsAesPasswordKey 16 password salt key
 IsPasswordKey Aes256CtsHmacSha196 password salt key = IsAesPasswordKey 32 password salt key
 IsPasswordKey Des3CbcSha1Kd password salt key = IsDes3PasswordKey password salt key
+
+-- why octets are not opened under this key
+abbrev pub refusal_of : CipherSuite → List ℕ → List ℕ → KerberosCryptoError
+refusal_of Aes128CtsHmacSha196 key octets = aes_refusal 16 key octets
+refusal_of Aes256CtsHmacSha196 key octets = aes_refusal 32 key octets
+refusal_of Des3CbcSha1Kd key octets = des3_refusal key octets
+
+-- why a password and a salt give no key: under AES all do
+abbrev pub IsNoPassword : CipherSuite → List ℕ → List ℕ → KerberosCryptoError → Type 0
+IsNoPassword Aes128CtsHmacSha196 password salt e = ⊥
+IsNoPassword Aes256CtsHmacSha196 password salt e = ⊥
+IsNoPassword Des3CbcSha1Kd password salt e = IsNoDes3Password password salt e
 
 -- the suite of the checksum that is sealed in
 abbrev pub checksum_suite_of : CipherSuite → ChecksumSuite

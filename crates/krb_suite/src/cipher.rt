@@ -1,7 +1,8 @@
 //! What a cipher is, whoever implements it.
 
-ghost use Rattle.std.specs.Prelude.{◌≡◌, ℕ, ℤ, ◌<◌, ◌≤◌, ◌/◌, List, length, vec_len, MatchResult, IfOk, IfErr};
+ghost use Rattle.std.specs.Prelude.{◌≡◌, ◌≢◌, ℕ, ℤ, ◌<◌, ◌≤◌, ◌/◌, List, length, vec_len, MatchResult, IfOk, IfErr};
 ghost use Rattle.krb_block.specs.CryptoError.{IsMemoryOr, RefusesKey};
+ghost use Rattle.krb_block.specs.declared.error.KerberosCryptoError.{KerberosCryptoError};
 ghost use Rattle.krb_block.specs.declared.error.KerberosCryptoError.TheVariants.{OutOfMemory};
 ghost use Rattle.krb_scheme.specs.Sealing.{IsTheOne, IsOfNone, IsGiven, Opens, Enciphers, IsSplit, Deciphers};
 ghost use Rattle.krb_suite.specs.declared.cipher_suite.CipherSuite.{CipherSuite};
@@ -9,7 +10,7 @@ ghost use Rattle.krb_suite.specs.declared.checksum_suite.ChecksumSuite.{Checksum
 
 use crate::checksum_suite::ChecksumSuite;
 use crate::cipher_suite::CipherSuite;
-use krb_block::KerberosCryptoResult;
+use krb_block::{KerberosCryptoError, KerberosCryptoResult};
 use krb_scheme::{DecryptWithoutChecksum, EncryptWithoutChecksum};
 use std::alloc::Global;
 
@@ -42,6 +43,11 @@ pub trait Cipher {
 
     // This password and salt give this key.
     ghost password_key: { Self → List ℕ → List ℕ → List ℕ → Type 0 };
+
+    // Why octets are not opened under this key and usage, and why a password and a salt give no key.
+    ghost unopened: { Self → List ℕ → ℤ → List ℕ → KerberosCryptoError → Type 0 };
+
+    ghost no_password_key: { Self → List ℕ → List ℕ → KerberosCryptoError → Type 0 };
 
     // The suites whose numbers name the scheme and its checksum.
     ghost encryption_type: { Self → CipherSuite };
@@ -91,7 +97,8 @@ pub trait Cipher {
 
     /// The payload that was encrypted to these octets, with the fewest zeros to a multiple of `fill_size` behind it.
     ///
-    /// A key of another length is refused, and so are octets that no payload is encrypted to under any confounder.
+    /// A key of another length is refused, and so are octets that no payload is encrypted to under any confounder; each
+    /// suite says for which of these first, and how.
     fn decrypt(
         &self,
         alloc: Global,
@@ -101,7 +108,8 @@ pub trait Cipher {
     ) -> KerberosCryptoResult<Vec<u8>>
         ensures key { IfOk result (λ _. length key.now ≡ key_octets self.now) }
         ensures opened { IfOk result (λ payload. Opens (fill_octets self.now) (IsGiven (meaning self.now key.now key_usage) (confounder_octets self.now) cipher_data.now) payload.items) }
-        ensures refused { length key.now ≡ key_octets self.now → IfErr result (λ e. IsMemoryOr e (IsOfNone (IsGiven (meaning self.now key.now key_usage) (confounder_octets self.now) cipher_data.now))) };
+        ensures refused { length key.now ≡ key_octets self.now → IfErr result (λ e. IsMemoryOr e (IsOfNone (IsGiven (meaning self.now key.now key_usage) (confounder_octets self.now) cipher_data.now))) }
+        ensures exact { IfErr result (λ e. IsMemoryOr e (unopened self.now key.now key_usage cipher_data.now e)) };
 
     /// As `encrypt`, without the integrity checksum behind the encrypted octets, which is the caller's to make.
     fn encrypt_no_checksum(
@@ -122,7 +130,7 @@ pub trait Cipher {
     /// As `decrypt`, with the integrity checksum handed out and not compared.
     ///
     /// A key of another length is refused, and so are octets that no payload is encrypted to, whatever checksum stands
-    /// behind.
+    /// behind; as in `decrypt`, but for `IntegrityCheck`.
     fn decrypt_no_checksum(
         &self,
         alloc: Global,
@@ -133,7 +141,8 @@ pub trait Cipher {
         ensures key { IfOk result (λ _. length key.now ≡ key_octets self.now) }
         ensures opened { IfOk result (λ made. (encrypted : List ℕ) × IsSplit (checksum_octets self.now) cipher_data.now encrypted made.checksum.items × Deciphers (fill_octets self.now) (confounder_octets self.now) (Enciphers (meaning self.now key.now key_usage) (checksum_octets self.now)) encrypted made.confounder.items made.plaintext.items) }
         ensures ki { IfOk result (λ made. made.ki.items ≡ integrity_key self.now key.now key_usage) }
-        ensures refused { length key.now ≡ key_octets self.now → IfErr result (λ e. IsMemoryOr e ((encrypted checksum : List ℕ) → IsSplit (checksum_octets self.now) cipher_data.now encrypted checksum → IsOfNone (IsGiven (Enciphers (meaning self.now key.now key_usage) (checksum_octets self.now)) (confounder_octets self.now) encrypted))) };
+        ensures refused { length key.now ≡ key_octets self.now → IfErr result (λ e. IsMemoryOr e ((encrypted checksum : List ℕ) → IsSplit (checksum_octets self.now) cipher_data.now encrypted checksum → IsOfNone (IsGiven (Enciphers (meaning self.now key.now key_usage) (checksum_octets self.now)) (confounder_octets self.now) encrypted))) }
+        ensures exact { IfErr result (λ e. IsMemoryOr e (unopened self.now key.now key_usage cipher_data.now e × (e ≢ KerberosCryptoError.IntegrityCheck))) };
 
     /// The integrity checksum of a payload under the key Ki, as `encrypt` makes it of what it encrypts. It is not the
     /// checksum that stands alone in a message, which is made under the key Kc.
@@ -159,7 +168,8 @@ pub trait Cipher {
     ) -> KerberosCryptoResult<Vec<u8>>
         ensures size { IfOk result (λ key. length key.items ≡ key_octets self.now) }
         ensures made { IfOk result (λ key. IsTheOne (password_key self.now password.now salt.now) key.items) }
-        ensures refused { IfErr result (λ e. IsMemoryOr e (IsOfNone (password_key self.now password.now salt.now))) };
+        ensures refused { IfErr result (λ e. IsMemoryOr e (IsOfNone (password_key self.now password.now salt.now))) }
+        ensures exact { IfErr result (λ e. IsMemoryOr e (no_password_key self.now password.now salt.now e)) };
 
     /// The key that a seed gives (random-to-key). The seed has at least `seed_bit_len` / 8 octets; of just so many a
     /// key of `key_size` octets is made.

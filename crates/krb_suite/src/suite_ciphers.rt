@@ -1,5 +1,7 @@
 //! The suites as ciphers: each is the cipher that it names.
 
+ghost use Rattle.std.specs.Prelude.{◌≡◌};
+
 use crate::aes::{Aes128CtsHmacSha196, Aes256CtsHmacSha196};
 use crate::checksum_suite::ChecksumSuite;
 use crate::cipher::Cipher;
@@ -10,7 +12,7 @@ use krb_scheme::{DecryptWithoutChecksum, EncryptWithoutChecksum};
 use std::alloc::Global;
 
 impl Cipher for CipherSuite {
-    ghost use Rattle.krb_suite.specs.BySuite.{IsSealed, key_octets_of, confounder_octets_of, fill_octets_of, checksum_octets_of, integrity_key_of, integrity_checksum_of, seed_bits_of, key_of_seed_of, IsPasswordKey, checksum_suite_of};
+    ghost use Rattle.krb_suite.specs.BySuite.{IsSealed, key_octets_of, confounder_octets_of, fill_octets_of, checksum_octets_of, integrity_key_of, integrity_checksum_of, seed_bits_of, key_of_seed_of, IsPasswordKey, refusal_of, IsNoPassword, checksum_suite_of};
 
     ghost meaning = { IsSealed };
 
@@ -31,6 +33,10 @@ impl Cipher for CipherSuite {
     ghost key_of_seed = { key_of_seed_of };
 
     ghost password_key = { IsPasswordKey };
+
+    ghost unopened = { λ suite key _ octets e. e ≡ refusal_of suite key octets };
+
+    ghost no_password_key = { IsNoPassword };
 
     ghost encryption_type = { λ suite. suite };
 

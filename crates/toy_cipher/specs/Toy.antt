@@ -1,7 +1,7 @@
 -- What the cipher of the tests writes.
-use Rattle.std.specs.Prelude.{◌≡◌, ◌≢◌, ◌<◌, ◌≤◌, ◌%◌, ◌⊎◌, ℕ, List, [], ◌∷◌, ◌++◌, map, bit_xor}
+use Rattle.std.specs.Prelude.{◌≡◌, ◌≢◌, ◌<◌, ◌≤◌, ◌%◌, ◌⊎◌, ℕ, List, [], ◌∷◌, ◌++◌, length, map, bit_xor}
 use Rattle.krb_block.specs.declared.error.KerberosCryptoError.{KerberosCryptoError}
-use Rattle.krb_block.specs.declared.error.KerberosCryptoError.TheVariants.{CipherLength, CipherUnpad}
+use Rattle.krb_block.specs.declared.error.KerberosCryptoError.TheVariants.{CipherLength, CipherUnpad, KeyLength}
 use Rattle.krb_der.specs.Encoding.{IsOctets}
 use Rattle.krb_block.specs.Modes.{IsFill}
 
@@ -17,3 +17,7 @@ pub record IsToy (key confounder payload octets : List ℕ) : Type 0 where
 -- why so many octets are not opened: first too few for a confounder, then no whole blocks
 abbrev pub IsToyRefusal : ℕ → KerberosCryptoError → Type 0
 IsToyRefusal n e = ((n < 4) × (e ≡ CipherLength n 4)) ⊎ ((4 ≤ n) × (n % 4 ≢ 0) × (e ≡ CipherUnpad))
+
+-- why octets are not opened: the key first, which has one octet, then their number
+abbrev pub IsToyUnopened : List ℕ → List ℕ → KerberosCryptoError → Type 0
+IsToyUnopened key octets e = ((length key ≢ 1) × (e ≡ KeyLength (length key) 1)) ⊎ ((length key ≡ 1) × IsToyRefusal (length octets) e)

@@ -3,7 +3,7 @@
 ghost use Rattle.std.specs.Prelude.{◌≡◌, ◌≢◌, ◌<◌, ◌≤◌, ◌%◌, ℕ, List, [], ◌∷◌, ◌++◌, length, take, map, bit_xor, replicate, IfOk, MatchResult};
 ghost use Rattle.krb_der.specs.Encoding.{IsOctets};
 ghost use Rattle.krb_block.specs.Modes.{IsFill};
-ghost use Rattle.toy_cipher.specs.Toy.{IsToy, IsToyRefusal};
+ghost use Rattle.toy_cipher.specs.Toy.{IsToy, IsToyRefusal, IsToyUnopened};
 
 use picky_krb::crypto::{
     ChecksumSuite, Cipher, CipherSuite, DecryptWithoutChecksum, EncryptWithoutChecksum,
@@ -88,6 +88,10 @@ impl Cipher for Toy {
     ghost key_of_seed = { λ _ seed. take 1 seed };
 
     ghost password_key = { λ _ _ _ key. key ≡ 0 ∷ [] };
+
+    ghost unopened = { λ _ key _ octets e. IsToyUnopened key octets e };
+
+    ghost no_password_key = { λ _ _ _ _. ⊥ };
 
     ghost encryption_type = { λ _. Aes128CtsHmacSha196 };
 

@@ -5,6 +5,7 @@ ghost use Rattle.krb_block.specs.CryptoError.{IsMemoryOr, RefusesKey};
 ghost use Rattle.krb_block.specs.declared.error.KerberosCryptoError.TheVariants.{OutOfMemory};
 ghost use Rattle.krb_scheme.specs.Derive.{des3_dk, IsDes3PasswordKey};
 ghost use Rattle.krb_scheme.specs.RandomToKey.{random_to_key};
+ghost use Rattle.krb_scheme.specs.Sealed.{IsNoDes3Password};
 ghost use Rattle.krb_scheme.specs.Sealing.{IsTheOne};
 
 use super::key_of_seed::key_of_seed;
@@ -48,7 +49,7 @@ pub fn derive_key_from_password(
 ) -> KerberosCryptoResult<Vec<u8>>
     ensures size { IfOk result (λ key. length key.items ≡ 24) }
     ensures made { IfOk result (λ key. IsTheOne (IsDes3PasswordKey password.now salt.now) key.items) }
-    ensures refused { IfErr result (λ e. IsMemoryOr e ((length (password.now ++ salt.now) ≡ 0) × (e ≡ KerberosCryptoError.KeyLength 0 1))) }
+    ensures refused { IfErr result (λ e. IsMemoryOr e (IsNoDes3Password password.now salt.now e)) }
 {
     if password.is_empty() && salt.is_empty() {
         return Err(KerberosCryptoError::KeyLength(0, 1));

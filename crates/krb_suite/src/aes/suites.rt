@@ -1,5 +1,7 @@
 //! The AES suites of RFC 3962: ciphers over the message calls.
 
+ghost use Rattle.std.specs.Prelude.{◌≡◌};
+
 use crate::checksum_suite::ChecksumSuite;
 use crate::cipher::Cipher;
 use crate::cipher_suite::CipherSuite;
@@ -28,7 +30,7 @@ impl Aes128CtsHmacSha196 {
 
 impl Cipher for Aes128CtsHmacSha196 {
     ghost use Rattle.krb_scheme.specs.Derive.{IsAesPasswordKey};
-    ghost use Rattle.krb_scheme.specs.Sealed.{IsSealedAes, aes_ki, mac_96};
+    ghost use Rattle.krb_scheme.specs.Sealed.{IsSealedAes, aes_ki, mac_96, aes_refusal};
     ghost use Rattle.krb_suite.specs.declared.cipher_suite.CipherSuite.TheVariants as cipher;
     ghost use Rattle.krb_suite.specs.declared.checksum_suite.ChecksumSuite.TheVariants as checksum;
 
@@ -51,6 +53,10 @@ impl Cipher for Aes128CtsHmacSha196 {
     ghost key_of_seed = { λ _ seed. seed };
 
     ghost password_key = { λ _ password salt key. IsAesPasswordKey 16 password salt key };
+
+    ghost unopened = { λ _ key _ octets e. e ≡ aes_refusal 16 key octets };
+
+    ghost no_password_key = { λ _ _ _ _. ⊥ };
 
     ghost encryption_type = { λ _. cipher.Aes128CtsHmacSha196 };
 
@@ -161,7 +167,7 @@ impl Aes256CtsHmacSha196 {
 
 impl Cipher for Aes256CtsHmacSha196 {
     ghost use Rattle.krb_scheme.specs.Derive.{IsAesPasswordKey};
-    ghost use Rattle.krb_scheme.specs.Sealed.{IsSealedAes, aes_ki, mac_96};
+    ghost use Rattle.krb_scheme.specs.Sealed.{IsSealedAes, aes_ki, mac_96, aes_refusal};
     ghost use Rattle.krb_suite.specs.declared.cipher_suite.CipherSuite.TheVariants as cipher;
     ghost use Rattle.krb_suite.specs.declared.checksum_suite.ChecksumSuite.TheVariants as checksum;
 
@@ -184,6 +190,10 @@ impl Cipher for Aes256CtsHmacSha196 {
     ghost key_of_seed = { λ _ seed. seed };
 
     ghost password_key = { λ _ password salt key. IsAesPasswordKey 32 password salt key };
+
+    ghost unopened = { λ _ key _ octets e. e ≡ aes_refusal 32 key octets };
+
+    ghost no_password_key = { λ _ _ _ _. ⊥ };
 
     ghost encryption_type = { λ _. cipher.Aes256CtsHmacSha196 };
 

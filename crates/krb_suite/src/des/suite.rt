@@ -1,5 +1,7 @@
 //! The suite of triple DES (RFC 3961, 6.3): a cipher over the message calls.
 
+ghost use Rattle.std.specs.Prelude.{◌≡◌};
+
 use crate::checksum_suite::ChecksumSuite;
 use crate::cipher::Cipher;
 use crate::cipher_suite::CipherSuite;
@@ -28,7 +30,7 @@ impl Cipher for Des3CbcSha1Kd {
     ghost use Rattle.krb_block.specs.Hmac.{hmac};
     ghost use Rattle.krb_scheme.specs.Derive.{IsDes3PasswordKey};
     ghost use Rattle.krb_scheme.specs.RandomToKey.{random_to_key};
-    ghost use Rattle.krb_scheme.specs.Sealed.{IsSealedDes3, des3_ki};
+    ghost use Rattle.krb_scheme.specs.Sealed.{IsSealedDes3, des3_ki, des3_refusal, IsNoDes3Password};
     ghost use Rattle.krb_suite.specs.declared.cipher_suite.CipherSuite.TheVariants as cipher;
     ghost use Rattle.krb_suite.specs.declared.checksum_suite.ChecksumSuite.TheVariants as checksum;
 
@@ -51,6 +53,10 @@ impl Cipher for Des3CbcSha1Kd {
     ghost key_of_seed = { λ _ seed. random_to_key seed };
 
     ghost password_key = { λ _ password salt key. IsDes3PasswordKey password salt key };
+
+    ghost unopened = { λ _ key _ octets e. e ≡ des3_refusal key octets };
+
+    ghost no_password_key = { λ _ password salt e. IsNoDes3Password password salt e };
 
     ghost encryption_type = { λ _. cipher.Des3CbcSha1Kd };
 

@@ -7,21 +7,21 @@ use Rattle.krb_seal.proofs.part.open_part.Goals as goal
 pub returns-in_err-filled-clause-only : goal.returns-in_err-filled-clause-only
 returns-in_err-filled-clause-only g c = λ right v is given.
     let fits = c.ranges.key_usage in
-    let why = simp to_z-of_z at (c.in_err-filled.ensures.1.1 right) in
+    let why = simp to_z-of_z at (c.in_err-filled.ensures.1.1.0 right) in
     let p = err_from_is_err_and c.from_residual.result c.from_residual.ensures.1 in
     rw (p.1, p.2) (memory_alone _ _ _ why given)
 
 pub returns-in_err-filled-clause-behind : goal.returns-in_err-filled-clause-behind
 returns-in_err-filled-clause-behind g c = λ right v rest is given more.
     let fits = c.ranges.key_usage in
-    let why = simp to_z-of_z at (c.in_err-filled.ensures.1.1 right) in
+    let why = simp to_z-of_z at (c.in_err-filled.ensures.1.1.0 right) in
     let p = err_from_is_err_and c.from_residual.result c.from_residual.ensures.1 in
     rw (p.1, p.2) (inl (memory_alone _ _ _ why given))
 
 pub returns-in_err-filled-clause-crypto : goal.returns-in_err-filled-clause-crypto
 returns-in_err-filled-clause-crypto g c = λ right.
     let fits = c.ranges.key_usage in
-    let why = simp to_z-of_z at (c.in_err-filled.ensures.1.1 right) in
+    let why = simp to_z-of_z at (c.in_err-filled.ensures.1.1.0 right) in
     let p = err_from_is_err_and c.from_residual.result c.from_residual.ensures.1 in
     rw (p.1, p.2) why
 
