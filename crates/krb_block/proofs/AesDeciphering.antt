@@ -64,18 +64,6 @@ deciphered keys v c s p nr n is long view state done held last =
           ∙ ap (decipher w nr) (sym (block q) ∙ eq) ∙ sym e;
     }
 
-pub deciphered_by : (v c p : List ℕ) (nr : ℕ) → IsKeySize (nr - 6) → length v ≡ 4 * (nr - 6) → All (λ x. x < 256) (key_expansion v)
-    → IsState c → p ≡ decipher (key_expansion v) nr c → IsDeciphered v c p
-deciphered_by v c p nr size len octets state e =
-    let w = key_expansion v in
-    let block = aes_block_rounds v nr size len in
-    record {
-      undone = block p ∙ ap (cipher w nr) e ∙ cipher-decipher w octets nr c state;
-      alone = λ q ql qo eq.
-          sym (decipher-cipher w octets nr q (record { long = ql; octets = qo }))
-          ∙ ap (decipher w nr) (sym (block q) ∙ eq) ∙ sym e;
-    }
-
 -- what the loop gives is the inverse cipher
 pub undone_by : (keys v c s p : List ℕ) (nr n : ℕ) → IsExpanded keys nr → length keys ≡ 240 → take (4 * (nr - 6)) keys ≡ v → nr ≤ n
     → inverse_rounds (take (16 * (nr + 1)) keys) s (nr - n)

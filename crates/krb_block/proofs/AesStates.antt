@@ -184,18 +184,3 @@ add_round_key_twice w n s is =
     state_same (λ r c. bit_xor (bit_xor (octet_at s r c) (key r c)) (key r c)) (octet_at s)
     (λ r c hr hc. xor_assoc (octet_at s r c) (key r c) (key r c) ∙ ap (bit_xor (octet_at s r c)) (xor_self (key r c)) ∙ xor_zero_r (octet_at s r c))
     ∙ state_by_octets s is.long
-
-pub mix_octet : (s : List ℕ) → IsState s → (r c : ℕ) → r < 4 → c < 4 → column_coefficient mix_polynomial (column_of s c) r < 256
-mix_octet s is = column_octet mix_polynomial s mix_small is
-
-pub unmix_octet : (s : List ℕ) → IsState s → (r c : ℕ) → r < 4 → c < 4 → column_coefficient unmix_polynomial (column_of s c) r < 256
-unmix_octet s is = column_octet unmix_polynomial s unmix_small is
-
-pub unmix_lt : (a b c d r : ℕ) → a < 256 → b < 256 → c < 256 → d < 256 → r < 4 → column_coefficient unmix_polynomial (a ∷ b ∷ c ∷ d ∷ []) r < 256
-unmix_lt a b c d r ha hb hc hd hr =
-    xor_lt 8 _ _
-    (xor_lt 8 _ _
-    (xor_lt 8 _ _ (times_octet (slice_index unmix_polynomial (r % 4)) a (unmix_small (r % 4) (omega arith)) ha)
-    (times_octet (slice_index unmix_polynomial ((r + 3) % 4)) b (unmix_small ((r + 3) % 4) (omega arith)) hb))
-    (times_octet (slice_index unmix_polynomial ((r + 2) % 4)) c (unmix_small ((r + 2) % 4) (omega arith)) hc))
-    (times_octet (slice_index unmix_polynomial ((r + 1) % 4)) d (unmix_small ((r + 1) % 4) (omega arith)) hd)

@@ -1,79 +1,49 @@
 -- xor of lists, and lists of octets.
-use Rattle.std.proofs.Common.{◌≡◌, ℕ, zero, suc, ◌+◌, ◌-◌, ◌<◌, ◌≤◌, ◌≢◌, below_more, set, List, [], ◌∷◌, ◌++◌, length, take, drop, replicate, get_or, bit_xor, refl, sym, ap, ◌∙◌, arith, inl, inr}
-use Rattle.std.proofs.lemmas.List.{length-append, get_or-drop, get_or_past, ext_get_or, length-replicate, get_or-set_same, get_or-set_other}
-use Rattle.std.proofs.lemmas.Nat.{xor_lt, xor_comm}
+use Rattle.std.proofs.Common.{◌≡◌, ℕ, zero, suc, ◌+◌, ◌-◌, ◌<◌, ◌≤◌, ◌≢◌, below_more, set, List, [], ◌∷◌, ◌++◌, length, replicate, get_or, bit_xor, refl, sym, ap, ◌∙◌, arith, inl, inr}
+use Rattle.std.proofs.lemmas.List.{length-append, get_or_past, ext_get_or, length-replicate, get_or-set_same, get_or-set_other}
+use Rattle.std.proofs.lemmas.Nat.{xor_comm}
 use lib.Bits.{xor_assoc, xor_self, xor_zero_r, xor_zero_l}
 use Rattle.std.proofs.lemmas.Bool.{cases_lt}
-use Rattle.krb_block.specs.Modes.{filled_to, xor_octets, IsOctets, IsBlock}
+use Rattle.krb_block.specs.Xor.{xor_lists}
+use Rattle.krb_block.proofs.Below.{AreBelow-xor_lists}
+use Rattle.krb_block.specs.Modes.{filled_to, IsBlock}
 
-pub length-xor_octets : (xs ys : List ℕ) → length xs ≡ length ys → length (xor_octets xs ys) ≡ length xs
-length-xor_octets [] ys e = refl
-length-xor_octets (x ∷ xs) [] e = absurd (omega arith)
-length-xor_octets (x ∷ xs) (y ∷ ys) e = ap suc (length-xor_octets xs ys (omega arith))
+pub length-xor_lists : (xs ys : List ℕ) → length xs ≡ length ys → length (xor_lists xs ys) ≡ length xs
+length-xor_lists [] ys e = refl
+length-xor_lists (x ∷ xs) [] e = absurd (omega arith)
+length-xor_lists (x ∷ xs) (y ∷ ys) e = ap suc (length-xor_lists xs ys (omega arith))
 
-pub IsOctets-tail : (x : ℕ) (xs : List ℕ) → IsOctets (x ∷ xs) → IsOctets xs
-IsOctets-tail x xs h i = h (suc i)
-
-pub IsOctets-cons : (x : ℕ) (xs : List ℕ) → x < 256 → IsOctets xs → IsOctets (x ∷ xs)
-IsOctets-cons x xs h t zero = h
-IsOctets-cons x xs h t (suc i) = t i
-
-pub IsOctets-xor_octets : (xs ys : List ℕ) → IsOctets xs → IsOctets ys → IsOctets (xor_octets xs ys)
-IsOctets-xor_octets [] ys h g i = omega arith
-IsOctets-xor_octets (x ∷ xs) [] h g i = omega arith
-IsOctets-xor_octets (x ∷ xs) (y ∷ ys) h g zero = xor_lt 8 x y (h 0) (g 0)
-IsOctets-xor_octets (x ∷ xs) (y ∷ ys) h g (suc i) = IsOctets-xor_octets xs ys (IsOctets-tail x xs h) (IsOctets-tail y ys g) i
-
-pub IsOctets-take : (n : ℕ) (xs : List ℕ) → IsOctets xs → IsOctets (take n xs)
-IsOctets-take zero xs h i = omega arith
-IsOctets-take (suc n) [] h i = omega arith
-IsOctets-take (suc n) (x ∷ xs) h zero = h 0
-IsOctets-take (suc n) (x ∷ xs) h (suc i) = IsOctets-take n xs (IsOctets-tail x xs h) i
-
-pub IsOctets-drop : (n : ℕ) (xs : List ℕ) → IsOctets xs → IsOctets (drop n xs)
-IsOctets-drop n xs h i = rw (get_or-drop n xs i 0) (h (n + i))
-
-pub IsOctets-append : (xs ys : List ℕ) → IsOctets xs → IsOctets ys → IsOctets (xs ++ ys)
-IsOctets-append [] ys h g i = g i
-IsOctets-append (x ∷ xs) ys h g zero = h 0
-IsOctets-append (x ∷ xs) ys h g (suc i) = IsOctets-append xs ys (IsOctets-tail x xs h) g i
-
-pub IsOctets-zeros : (n : ℕ) → IsOctets (replicate n 0)
-IsOctets-zeros zero i = omega arith
-IsOctets-zeros (suc n) zero = omega arith
-IsOctets-zeros (suc n) (suc i) = IsOctets-zeros n i
-
-pub IsBlock-xor_octets : (xs ys : List ℕ) → IsBlock 16 xs → IsBlock 16 ys → IsBlock 16 (xor_octets xs ys)
-IsBlock-xor_octets xs ys h g = (length-xor_octets xs ys (h.0 ∙ sym g.0) ∙ h.0, IsOctets-xor_octets xs ys h.1 g.1)
+pub IsBlock-xor_lists : (xs ys : List ℕ) → IsBlock 16 xs → IsBlock 16 ys → IsBlock 16 (xor_lists xs ys)
+IsBlock-xor_lists xs ys h g = (length-xor_lists xs ys (h.0 ∙ sym g.0) ∙ h.0, AreBelow-xor_lists 8 xs ys h.1 g.1)
 
 -- the second time undoes the first
-pub xor_octets-twice : (xs ys : List ℕ) → length xs ≡ length ys → xor_octets (xor_octets xs ys) ys ≡ xs
-xor_octets-twice [] ys e = refl
-xor_octets-twice (x ∷ xs) [] e = absurd (omega arith)
-xor_octets-twice (x ∷ xs) (y ∷ ys) e =
+pub xor_lists-twice : (xs ys : List ℕ) → length xs ≡ length ys → xor_lists (xor_lists xs ys) ys ≡ xs
+xor_lists-twice [] ys e = refl
+xor_lists-twice (x ∷ xs) [] e = absurd (omega arith)
+xor_lists-twice (x ∷ xs) (y ∷ ys) e =
     let one : bit_xor (bit_xor x y) y ≡ x = xor_assoc x y y ∙ ap (λ k. bit_xor x k) (xor_self y) ∙ xor_zero_r x in
-    rw (one, xor_octets-twice xs ys (omega arith)) refl
+    rw (one, xor_lists-twice xs ys (omega arith)) refl
 
-pub xor_octets-append : (xs ys us vs : List ℕ) → length xs ≡ length ys → xor_octets (xs ++ us) (ys ++ vs) ≡ xor_octets xs ys ++ xor_octets us vs
-xor_octets-append [] [] us vs e = refl
-xor_octets-append [] (y ∷ ys) us vs e = absurd (omega arith)
-xor_octets-append (x ∷ xs) [] us vs e = absurd (omega arith)
-xor_octets-append (x ∷ xs) (y ∷ ys) us vs e = ap (λ k. bit_xor x y ∷ k) (xor_octets-append xs ys us vs (omega arith))
+pub xor_lists-append : (xs ys us vs : List ℕ) → length xs ≡ length ys → xor_lists (xs ++ us) (ys ++ vs) ≡ xor_lists xs ys ++ xor_lists us vs
+xor_lists-append [] [] us vs e = refl
+xor_lists-append [] (y ∷ ys) us vs e = absurd (omega arith)
+xor_lists-append (x ∷ xs) [] us vs e = absurd (omega arith)
+xor_lists-append (x ∷ xs) (y ∷ ys) us vs e = ap (λ k. bit_xor x y ∷ k) (xor_lists-append xs ys us vs (omega arith))
 
-pub xor_octets-zeros : (n : ℕ) (ys : List ℕ) → length ys ≡ n → xor_octets (replicate n 0) ys ≡ ys
-xor_octets-zeros zero [] e = refl
-xor_octets-zeros zero (y ∷ ys) e = absurd (omega arith)
-xor_octets-zeros (suc n) [] e = absurd (omega arith)
-xor_octets-zeros (suc n) (y ∷ ys) e =
+pub xor_lists-zeros : (n : ℕ) (ys : List ℕ) → length ys ≡ n → xor_lists (replicate n 0) ys ≡ ys
+xor_lists-zeros zero [] e = refl
+xor_lists-zeros zero (y ∷ ys) e = absurd (omega arith)
+xor_lists-zeros (suc n) [] e = absurd (omega arith)
+xor_lists-zeros (suc n) (y ∷ ys) e =
     let one : bit_xor 0 y ≡ y = xor_comm 0 y ∙ xor_zero_r y in
-    rw (one, xor_octets-zeros n ys (omega arith)) refl
+    rw (one, xor_lists-zeros n ys (omega arith)) refl
 
-pub get_or-xor_octets : (xs ys : List ℕ) (k : ℕ) → length xs ≡ length ys → get_or (xor_octets xs ys) k 0 ≡ bit_xor (get_or xs k 0) (get_or ys k 0)
-get_or-xor_octets [] [] k e = sym (xor_zero_r 0)
-get_or-xor_octets [] (y ∷ ys) k e = absurd (omega arith)
-get_or-xor_octets (x ∷ xs) [] k e = absurd (omega arith)
-get_or-xor_octets (x ∷ xs) (y ∷ ys) zero e = refl
-get_or-xor_octets (x ∷ xs) (y ∷ ys) (suc k) e = get_or-xor_octets xs ys k (omega arith)
+pub get_or-xor_lists : (xs ys : List ℕ) (k : ℕ) → length xs ≡ length ys → get_or (xor_lists xs ys) k 0 ≡ bit_xor (get_or xs k 0) (get_or ys k 0)
+get_or-xor_lists [] [] k e = sym (xor_zero_r 0)
+get_or-xor_lists [] (y ∷ ys) k e = absurd (omega arith)
+get_or-xor_lists (x ∷ xs) [] k e = absurd (omega arith)
+get_or-xor_lists (x ∷ xs) (y ∷ ys) zero e = refl
+get_or-xor_lists (x ∷ xs) (y ∷ ys) (suc k) e = get_or-xor_lists xs ys k (omega arith)
 
 get_or-zeros : (n k : ℕ) → get_or {A = ℕ} (replicate n 0) k 0 ≡ 0
 get_or-zeros zero k = refl
@@ -88,13 +58,13 @@ get_or-then_zeros (x ∷ t) n (suc k) = get_or-then_zeros t n k
 -- a block written octet by octet
 pub joined_end : (size : ℕ) (block part b : List ℕ) (i : ℕ) → length block ≡ size → length b ≡ size → length part ≤ size → i ≡ length part
     → ((k : ℕ) → k < i → get_or block k 0 ≡ bit_xor (get_or part k 0) (get_or b k 0)) → ((k : ℕ) → i ≤ k → get_or block k 0 ≡ get_or b k 0)
-    → block ≡ xor_octets (filled_to size part) b
+    → block ≡ xor_lists (filled_to size part) b
 joined_end size block part b i lb l fits ei below above =
     let lf : length (filled_to size part) ≡ size = rw (length-append, length-replicate) (omega arith) in
-    let lx : length (xor_octets (filled_to size part) b) ≡ size = length-xor_octets (filled_to size part) b (lf ∙ sym l) ∙ lf in
-    ext_get_or 0 block (xor_octets (filled_to size part) b) (lb ∙ sym lx) (λ k lt.
-    let at : get_or (xor_octets (filled_to size part) b) k 0 ≡ bit_xor (get_or part k 0) (get_or b k 0) =
-    get_or-xor_octets (filled_to size part) b k (lf ∙ sym l) ∙ ap (λ (j : ℕ). bit_xor j (get_or b k 0)) (get_or-then_zeros part (size - length part) k) in
+    let lx : length (xor_lists (filled_to size part) b) ≡ size = length-xor_lists (filled_to size part) b (lf ∙ sym l) ∙ lf in
+    ext_get_or 0 block (xor_lists (filled_to size part) b) (lb ∙ sym lx) (λ k lt.
+    let at : get_or (xor_lists (filled_to size part) b) k 0 ≡ bit_xor (get_or part k 0) (get_or b k 0) =
+    get_or-xor_lists (filled_to size part) b k (lf ∙ sym l) ∙ ap (λ (j : ℕ). bit_xor j (get_or b k 0)) (get_or-then_zeros part (size - length part) k) in
     elim (cases_lt k i) [
       | inl low ↦ below k low ∙ sym at
       | inr high ↦

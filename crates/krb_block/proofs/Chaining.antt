@@ -5,8 +5,10 @@ use Rattle.std.proofs.Math.Arith.{digits_div, digits_mod}
 use Rattle.std.proofs.Math.Nat.{mul-suc, mul_comm, add_comm, mul-le-mul_left, div-add-mod'}
 use Rattle.std.specs.Simd.{first_chunks}
 use Rattle.std.specs.List.{concat}
-use Rattle.krb_block.specs.Modes.{filled_to, xor_octets, IsOctets, IsBlock, AreInverse, zero_block, first_blocks, filled_blocks, IsCbc}
-use Rattle.krb_block.proofs.BlockOctets.{length-xor_octets, IsOctets-xor_octets, IsOctets-take, IsOctets-drop, IsOctets-append, IsOctets-zeros, xor_octets-twice}
+use Rattle.krb_block.specs.Xor.{xor_lists}
+use Rattle.krb_block.specs.Modes.{filled_to, IsOctets, IsBlock, AreInverse, zero_block, first_blocks, filled_blocks, IsCbc}
+use Rattle.krb_block.proofs.Below.{AreBelow-append, AreBelow-drop, AreBelow-take, AreBelow-xor_lists, AreBelow-zeros}
+use Rattle.krb_block.proofs.BlockOctets.{length-xor_lists, xor_lists-twice}
 use Rattle.krb_block.proofs.Chains.{chained, chained_from, CbcFrom-chained}
 
 module _ (size : ℕ) where
@@ -18,11 +20,11 @@ module _ (size : ℕ) where
   -- the first n blocks of p, chained and joined
   unfoldable pub linked : (List ℕ → List ℕ) → ℕ → List ℕ → List ℕ → List ℕ
   linked E zero v p = []
-  linked E (suc n) v p = E (xor_octets (take size p) v) ++ linked E n (E (xor_octets (take size p) v)) (drop size p)
+  linked E (suc n) v p = E (xor_lists (take size p) v) ++ linked E n (E (xor_lists (take size p) v)) (drop size p)
 
   unfoldable pub unlinked : (List ℕ → List ℕ) → ℕ → List ℕ → List ℕ → List ℕ
   unlinked D zero v c = []
-  unlinked D (suc n) v c = xor_octets (D (take size c)) v ++ unlinked D n (take size c) (drop size c)
+  unlinked D (suc n) v c = xor_lists (D (take size c)) v ++ unlinked D n (take size c) (drop size c)
 
   -- the definition's lists come to the function
   pub linked_is : (E : List ℕ → List ℕ) (n : ℕ) (v p : List ℕ) → IsWhole n p → concat (chained E v (first_blocks size n p)) ≡ linked E n v p
@@ -30,15 +32,15 @@ module _ (size : ℕ) where
   linked_is E zero v p h = refl
   linked_is E (suc n) v p h =
       let first : take size (p ++ zero_block size) ≡ take size p = take-append-le size p (zero_block size) h.0 in
-      rw first (ap (λ (rest : List ℕ). E (xor_octets (take size p) v) ++ rest) (linked_is E n (E (xor_octets (take size p) v)) (drop size p) h.1))
+      rw first (ap (λ (rest : List ℕ). E (xor_lists (take size p) v) ++ rest) (linked_is E n (E (xor_lists (take size p) v)) (drop size p) h.1))
 
   module _ (E D : List ℕ → List ℕ) (inv : AreInverse size E D) where
     first_block : (n : ℕ) (p : List ℕ) → IsWhole (suc n) p → IsOctets p → IsBlock size (take size p)
     unfolding IsWhole
-    first_block n p h all = (length-take-le size p h.0, IsOctets-take size p all)
+    first_block n p h all = (length-take-le size p h.0, AreBelow-take size p all)
 
-    xor_block : (b v : List ℕ) → IsBlock size b → IsBlock size v → IsBlock size (xor_octets b v)
-    xor_block b v hb hv = (length-xor_octets b v (hb.0 ∙ sym hv.0) ∙ hb.0, IsOctets-xor_octets b v hb.1 hv.1)
+    xor_block : (b v : List ℕ) → IsBlock size b → IsBlock size v → IsBlock size (xor_lists b v)
+    xor_block b v hb hv = (length-xor_lists b v (hb.0 ∙ sym hv.0) ∙ hb.0, AreBelow-xor_lists 8 b v hb.1 hv.1)
 
     joined_whole : (n : ℕ) (b rest : List ℕ) → length b ≡ size → IsWhole n rest → IsWhole (suc n) (b ++ rest)
     unfolding IsWhole
@@ -50,10 +52,10 @@ module _ (size : ℕ) where
     linked_whole zero v p hv all h = (refl, λ i. omega arith)
     linked_whole (suc n) v p hv all h =
         let b : List ℕ = take size p in
-        let c : List ℕ = E (xor_octets b v) in
-        let hc : IsBlock size c = inv.enciphered (xor_octets b v) (xor_block b v (first_block n p h all) hv) in
-        let rest = linked_whole n c (drop size p) hc (IsOctets-drop size p all) h.1 in
-        (joined_whole n c (linked E n c (drop size p)) hc.0 rest.0, IsOctets-append c (linked E n c (drop size p)) hc.1 rest.1)
+        let c : List ℕ = E (xor_lists b v) in
+        let hc : IsBlock size c = inv.enciphered (xor_lists b v) (xor_block b v (first_block n p h all) hv) in
+        let rest = linked_whole n c (drop size p) hc (AreBelow-drop size p all) h.1 in
+        (joined_whole n c (linked E n c (drop size p)) hc.0 rest.0, AreBelow-append c (linked E n c (drop size p)) hc.1 rest.1)
 
     pub unlinked-linked : (n : ℕ) (v p : List ℕ) → IsBlock size v → IsOctets p → IsWhole n p → unlinked D n v (linked E n v p) ≡ p
     unfolding IsWhole linked unlinked
@@ -61,12 +63,12 @@ module _ (size : ℕ) where
     unlinked-linked (suc n) v p hv all h =
         let b : List ℕ = take size p in
         let hb : IsBlock size b = first_block n p h all in
-        let c : List ℕ = E (xor_octets b v) in
+        let c : List ℕ = E (xor_lists b v) in
         let rest : List ℕ = linked E n c (drop size p) in
-        let hx : IsBlock size (xor_octets b v) = xor_block b v hb hv in
-        let hc : IsBlock size c = inv.enciphered (xor_octets b v) hx in
-        let plain : xor_octets (D c) v ≡ b = ap (λ (d : List ℕ). xor_octets d v) (inv.left (xor_octets b v) hx) ∙ xor_octets-twice b v (hb.0 ∙ sym hv.0) in
-        rw (take_at c rest size hc.0, drop_at c rest size hc.0, plain, unlinked-linked n c (drop size p) hc (IsOctets-drop size p all) h.1) (take-append-drop size p)
+        let hx : IsBlock size (xor_lists b v) = xor_block b v hb hv in
+        let hc : IsBlock size c = inv.enciphered (xor_lists b v) hx in
+        let plain : xor_lists (D c) v ≡ b = ap (λ (d : List ℕ). xor_lists d v) (inv.left (xor_lists b v) hx) ∙ xor_lists-twice b v (hb.0 ∙ sym hv.0) in
+        rw (take_at c rest size hc.0, drop_at c rest size hc.0, plain, unlinked-linked n c (drop size p) hc (AreBelow-drop size p all) h.1) (take-append-drop size p)
 
     pub linked-unlinked : (n : ℕ) (v c : List ℕ) → IsBlock size v → IsOctets c → IsWhole n c → linked E n v (unlinked D n v c) ≡ c
     unfolding IsWhole linked unlinked
@@ -75,11 +77,11 @@ module _ (size : ℕ) where
         let x : List ℕ = take size c in
         let hx : IsBlock size x = first_block n c h all in
         let hd : IsBlock size (D x) = inv.deciphered x hx in
-        let b : List ℕ = xor_octets (D x) v in
+        let b : List ℕ = xor_lists (D x) v in
         let hb : IsBlock size b = xor_block (D x) v hd hv in
         let rest : List ℕ = unlinked D n x (drop size c) in
-        let sealed : E (xor_octets b v) ≡ x = ap E (xor_octets-twice (D x) v (hd.0 ∙ sym hv.0)) ∙ inv.right x hx in
-        rw (take_at b rest size hb.0, drop_at b rest size hb.0, sealed, linked-unlinked n x (drop size c) hx (IsOctets-drop size c all) h.1) (take-append-drop size c)
+        let sealed : E (xor_lists b v) ≡ x = ap E (xor_lists-twice (D x) v (hd.0 ∙ sym hv.0)) ∙ inv.right x hx in
+        rw (take_at b rest size hb.0, drop_at b rest size hb.0, sealed, linked-unlinked n x (drop size c) hx (AreBelow-drop size c all) h.1) (take-append-drop size c)
 
     -- what is unlinked is of octets
     pub unlinked-octets : (n : ℕ) (v c : List ℕ) → IsBlock size v → IsOctets c → IsWhole n c → IsWhole n (unlinked D n v c) × IsOctets (unlinked D n v c)
@@ -88,9 +90,9 @@ module _ (size : ℕ) where
     unlinked-octets (suc n) v c hv all h =
         let x : List ℕ = take size c in
         let hx : IsBlock size x = first_block n c h all in
-        let hb : IsBlock size (xor_octets (D x) v) = xor_block (D x) v (inv.deciphered x hx) hv in
-        let rest = unlinked-octets n x (drop size c) hx (IsOctets-drop size c all) h.1 in
-        (joined_whole n (xor_octets (D x) v) (unlinked D n x (drop size c)) hb.0 rest.0, IsOctets-append (xor_octets (D x) v) (unlinked D n x (drop size c)) hb.1 rest.1)
+        let hb : IsBlock size (xor_lists (D x) v) = xor_block (D x) v (inv.deciphered x hx) hv in
+        let rest = unlinked-octets n x (drop size c) hx (AreBelow-drop size c all) h.1 in
+        (joined_whole n (xor_lists (D x) v) (unlinked D n x (drop size c)) hb.0 rest.0, AreBelow-append (xor_lists (D x) v) (unlinked D n x (drop size c)) hb.1 rest.1)
 
   no_octets : (p : List ℕ) → length p ≡ 0 → p ≡ []
   no_octets [] e = refl
@@ -112,7 +114,7 @@ module _ (size : ℕ) where
       omega (arith, h.0, more, rest, length-drop size p)
 
   pub IsBlock-zero_block : IsBlock size (zero_block size)
-  IsBlock-zero_block = (length-replicate size 0, IsOctets-zeros size)
+  IsBlock-zero_block = (length-replicate size 0, AreBelow-zeros size (omega arith))
 
   -- the relation comes to the function
   pub linked_from : (E : List ℕ → List ℕ) (n : ℕ) (p c : List ℕ) → length p ≡ size * n → (length p + (size - 1)) / size ≡ n → IsCbc size E p c → c ≡ linked E n (zero_block size) p
@@ -157,28 +159,28 @@ module _ (size : ℕ) where
       chunk_at n (drop size p) none i (omega arith) ∙ ap (take size) (drop-drop (size * i) size p ∙ ap (λ (k : ℕ). drop k p) (sym e))
 
   pub link_step : (E : List ℕ → List ℕ) (count i : ℕ) (v p out out2 c part target : List ℕ) → i < count → size * i + size ≤ length p
-      → part ≡ take size (drop (size * i) p) → c ≡ E (xor_octets (filled_to size part) v) → out2 ≡ out ++ c → out ++ linked E (count - i) v (drop (size * i) p) ≡ target
+      → part ≡ take size (drop (size * i) p) → c ≡ E (xor_lists (filled_to size part) v) → out2 ≡ out ++ c → out ++ linked E (count - i) v (drop (size * i) p) ≡ target
       → out2 ++ linked E (count - (i + 1)) c (drop (size * (i + 1)) p) ≡ target
   unfolding linked
   link_step E count i v p out out2 c part target lt long ep ec eo inv =
       let m : count - i ≡ suc (count - (i + 1)) = omega arith in
       let q : List ℕ = drop (size * i) p in
       let k : ℕ = count - (i + 1) in
-      let whole : c ≡ E (xor_octets (take size q) v) = ec ∙ ap (λ (j : List ℕ). E (xor_octets (filled_to size j) v)) ep ∙ ap (λ (j : List ℕ). E (xor_octets j v)) (filled_whole (take size q) (part_length p i long)) in
-      let before : out ++ (E (xor_octets (take size q) v) ++ linked E k (E (xor_octets (take size q) v)) (drop size q)) ≡ target = rw m at inv in
-      rw (eo, whole, ← next_part p i) (append_assoc out (E (xor_octets (take size q) v)) (linked E k (E (xor_octets (take size q) v)) (drop size q)) ∙ before)
+      let whole : c ≡ E (xor_lists (take size q) v) = ec ∙ ap (λ (j : List ℕ). E (xor_lists (filled_to size j) v)) ep ∙ ap (λ (j : List ℕ). E (xor_lists j v)) (filled_whole (take size q) (part_length p i long)) in
+      let before : out ++ (E (xor_lists (take size q) v) ++ linked E k (E (xor_lists (take size q) v)) (drop size q)) ≡ target = rw m at inv in
+      rw (eo, whole, ← next_part p i) (append_assoc out (E (xor_lists (take size q) v)) (linked E k (E (xor_lists (take size q) v)) (drop size q)) ∙ before)
 
   pub unlink_step : (D : List ℕ → List ℕ) (count i : ℕ) (v c out out2 x d b target : List ℕ) → i < count
-      → x ≡ take size (drop (size * i) c) → d ≡ D x → length d ≡ size → b ≡ xor_octets (filled_to size d) v → out2 ≡ out ++ b → out ++ unlinked D (count - i) v (drop (size * i) c) ≡ target
+      → x ≡ take size (drop (size * i) c) → d ≡ D x → length d ≡ size → b ≡ xor_lists (filled_to size d) v → out2 ≡ out ++ b → out ++ unlinked D (count - i) v (drop (size * i) c) ≡ target
       → out2 ++ unlinked D (count - (i + 1)) x (drop (size * (i + 1)) c) ≡ target
   unfolding unlinked
   unlink_step D count i v c out out2 x d b target lt ex ed l eb eo inv =
       let m : count - i ≡ suc (count - (i + 1)) = omega arith in
       let q : List ℕ = drop (size * i) c in
       let k : ℕ = count - (i + 1) in
-      let whole : b ≡ xor_octets (D x) v = eb ∙ ap (λ (j : List ℕ). xor_octets j v) (filled_whole d l) ∙ ap (λ (j : List ℕ). xor_octets j v) ed in
-      let before : out ++ (xor_octets (D (take size q)) v ++ unlinked D k (take size q) (drop size q)) ≡ target = rw m at inv in
-      rw (eo, whole, ex, ← next_part c i) (append_assoc out (xor_octets (D (take size q)) v) (unlinked D k (take size q) (drop size q)) ∙ before)
+      let whole : b ≡ xor_lists (D x) v = eb ∙ ap (λ (j : List ℕ). xor_lists j v) (filled_whole d l) ∙ ap (λ (j : List ℕ). xor_lists j v) ed in
+      let before : out ++ (xor_lists (D (take size q)) v ++ unlinked D k (take size q) (drop size q)) ≡ target = rw m at inv in
+      rw (eo, whole, ex, ← next_part c i) (append_assoc out (xor_lists (D (take size q)) v) (unlinked D k (take size q) (drop size q)) ∙ before)
 
   -- no block is left
   pub linked_end : (E : List ℕ → List ℕ) (count i : ℕ) (v rest out target : List ℕ) → count ≤ i → out ++ linked E (count - i) v rest ≡ target → out ≡ target

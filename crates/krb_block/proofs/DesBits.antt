@@ -7,7 +7,9 @@ use Rattle.std.proofs.lemmas.Bool.Decides.{nat_tests}
 use Rattle.std.proofs.lemmas.Nat.{xor_shr, xor_mod}
 use Rattle.std.proofs.Math.Arith.{digits_div, digits_mod}
 use Rattle.std.proofs.Math.Nat.{add-suc, pow-suc, div-one, div-div-eq-div-mul}
-use Rattle.krb_block.specs.Des.{bits, permuted, xor_bits}
+use Rattle.krb_block.specs.Xor.{xor_lists}
+use Rattle.krb_block.specs.Des.{bits, permuted}
+use Rattle.krb_block.proofs.BlockOctets.{xor_lists-append}
 
 pub bits-suc : (w n : ℕ) → bits (suc w) n ≡ bits w (n / 2) ++ (n % 2) ∷ []
 unfolding bits
@@ -50,18 +52,12 @@ slice_index-bits (suc w) n i (suc e) at =
     let shift : n / 2 / 2 ^ e ≡ n / 2 ^ suc e = div-div-eq-div-mul n 2 (2 ^ e) ∙ ap (λ k. n / k) (omega (arith, pow-suc 2 e)) in
     rw bits-suc (get_or_append_left (bits w (n / 2)) ((n % 2) ∷ []) 0 i lt ∙ slice_index-bits w (n / 2) i e below ∙ ap (λ k. k % 2) shift)
 
-xor_bits_push : (xs ys : List ℕ) (x y : ℕ) → length xs ≡ length ys → xor_bits (xs ++ x ∷ []) (ys ++ y ∷ []) ≡ xor_bits xs ys ++ bit_xor x y ∷ []
-xor_bits_push [] [] x y e = refl
-xor_bits_push [] (b ∷ ys) x y e = absurd (omega arith)
-xor_bits_push (a ∷ xs) [] x y e = absurd (omega arith)
-xor_bits_push (a ∷ xs) (b ∷ ys) x y e = ap (λ k. bit_xor a b ∷ k) (xor_bits_push xs ys x y (omega arith))
-
-pub bits-xor : (w a b : ℕ) → bits w (bit_xor a b) ≡ xor_bits (bits w a) (bits w b)
+pub bits-xor : (w a b : ℕ) → bits w (bit_xor a b) ≡ xor_lists (bits w a) (bits w b)
 bits-xor zero a b = rw (bits-zero (bit_xor a b), bits-zero a) refl
 bits-xor (suc w) a b =
     let q : bit_xor a b / 2 ≡ bit_xor (a / 2) (b / 2) = xor_shr a b 1 in
     let r : bit_xor a b % 2 ≡ bit_xor (a % 2) (b % 2) = xor_mod a b 1 in
-    rw (bits-suc w (bit_xor a b), bits-suc w a, bits-suc w b, q, r, bits-xor w (a / 2) (b / 2)) (sym (xor_bits_push (bits w (a / 2)) (bits w (b / 2)) (a % 2) (b % 2) (length-bits w (a / 2) ∙ sym (length-bits w (b / 2)))))
+    rw (bits-suc w (bit_xor a b), bits-suc w a, bits-suc w b, q, r, bits-xor w (a / 2) (b / 2)) (sym (xor_lists-append (bits w (a / 2)) (bits w (b / 2)) ((a % 2) ∷ []) ((b % 2) ∷ []) (length-bits w (a / 2) ∙ sym (length-bits w (b / 2)))))
 
 -- one more bit of a permutation
 pub permuted_more : (table : List ℕ) (width x out i t : ℕ) → i < length table → t ≡ slice_index table i → 0 < t → t ≤ width → out < 2 ^ i

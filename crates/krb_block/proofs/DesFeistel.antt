@@ -1,23 +1,12 @@
 -- The rounds in reverse order undo the rounds, and the last permutation undoes the first.
-use Rattle.std.proofs.Common.{◌≡◌, ℕ, suc, List, [], ◌∷◌, ◌++◌, length, take, drop, map, reverse, slice_index, bit_xor, refl, sym, ap, ◌∙◌, arith}
+use Rattle.std.proofs.Common.{◌≡◌, ℕ, List, [], ◌∷◌, ◌++◌, length, take, drop, map, reverse, slice_index, refl, sym, ap, ◌∙◌, arith}
 use Rattle.std.specs.List.{range_with_len}
 use Rattle.std.proofs.lemmas.List.{length-append, length-take-le, length-drop, take-append-drop, take_at, drop_at, reverse-reverse, reverse-append}
 use Rattle.std.proofs.lemmas.List.FromFn.{fill_by_all}
-use lib.Bits.{xor_assoc, xor_self, xor_zero_r}
 use Rattle.krb_block.specs.DesTables.{initial_table, final_table, round_table}
-use Rattle.krb_block.specs.Des.{permuted, xor_bits, round_value, rounds, ciphered, round_keys, des_block, des_undo}
-
-pub length-xor_bits : (xs ys : List ℕ) → length xs ≡ length ys → length (xor_bits xs ys) ≡ length xs
-length-xor_bits [] ys e = refl
-length-xor_bits (x ∷ xs) [] e = absurd (omega arith)
-length-xor_bits (x ∷ xs) (y ∷ ys) e = ap suc (length-xor_bits xs ys (omega arith))
-
-pub xor_bits-twice : (xs ys : List ℕ) → length xs ≡ length ys → xor_bits (xor_bits xs ys) ys ≡ xs
-xor_bits-twice [] ys e = refl
-xor_bits-twice (x ∷ xs) [] e = absurd (omega arith)
-xor_bits-twice (x ∷ xs) (y ∷ ys) e =
-    let one : bit_xor (bit_xor x y) y ≡ x = xor_assoc x y y ∙ ap (λ k. bit_xor x k) (xor_self y) ∙ xor_zero_r x in
-    rw (one, xor_bits-twice xs ys (omega arith)) refl
+use Rattle.krb_block.specs.Xor.{xor_lists}
+use Rattle.krb_block.specs.Des.{permuted, round_value, rounds, ciphered, round_keys, des_block, des_undo}
+use Rattle.krb_block.proofs.BlockOctets.{length-xor_lists, xor_lists-twice}
 
 pub length-round_value : (right key : List ℕ) → length (round_value right key) ≡ 32
 unfolding round_value round_table
@@ -25,7 +14,7 @@ length-round_value right key = refl
 
 -- ---- the state of the rounds
 abbrev step : List ℕ → List ℕ × List ℕ → List ℕ × List ℕ
-step key h = (h.1, xor_bits h.0 (round_value h.1 key))
+step key h = (h.1, xor_lists h.0 (round_value h.1 key))
 
 abbrev swapped : List ℕ × List ℕ → List ℕ × List ℕ
 swapped h = (h.1, h.0)
@@ -38,7 +27,7 @@ abbrev AreHalves : List ℕ × List ℕ → Type 0
 AreHalves h = (length h.0 ≡ 32) × (length h.1 ≡ 32)
 
 AreHalves-step : (key : List ℕ) (h : List ℕ × List ℕ) → AreHalves h → AreHalves (step key h)
-AreHalves-step key h ok = (ok.1, length-xor_bits h.0 (round_value h.1 key) (ok.0 ∙ sym (length-round_value h.1 key)) ∙ ok.0)
+AreHalves-step key h ok = (ok.1, length-xor_lists h.0 (round_value h.1 key) (ok.0 ∙ sym (length-round_value h.1 key)) ∙ ok.0)
 
 AreHalves-run : (keys : List (List ℕ)) (h : List ℕ × List ℕ) → AreHalves h → AreHalves (run keys h)
 unfolding run
@@ -52,7 +41,7 @@ run-push (k ∷ keys) key h = run-push keys key (step k h)
 
 -- one round, turned round, undoes itself
 step_undone : (key : List ℕ) (h : List ℕ × List ℕ) → AreHalves h → step key (swapped (step key h)) ≡ swapped h
-step_undone key h ok = ap (λ (k : List ℕ). (h.1, k)) (xor_bits-twice h.0 (round_value h.1 key) (ok.0 ∙ sym (length-round_value h.1 key)))
+step_undone key h ok = ap (λ (k : List ℕ). (h.1, k)) (xor_lists-twice h.0 (round_value h.1 key) (ok.0 ∙ sym (length-round_value h.1 key)))
 
 run_undone : (keys : List (List ℕ)) (h : List ℕ × List ℕ) → AreHalves h → run (reverse keys) (swapped (run keys h)) ≡ swapped h
 unfolding run
@@ -65,7 +54,7 @@ run_undone (key ∷ keys) h ok =
 rounds_run : (keys : List (List ℕ)) (l r : List ℕ) → rounds keys l r ≡ (run keys (l, r)).1 ++ (run keys (l, r)).0
 unfolding rounds run
 rounds_run [] l r = refl
-rounds_run (key ∷ keys) l r = rounds_run keys r (xor_bits l (round_value r key))
+rounds_run (key ∷ keys) l r = rounds_run keys r (xor_lists l (round_value r key))
 
 -- ---- the two permutations
 as_indexed : (p : List ℕ) → length p ≡ 64 → p ≡ map (λ i. slice_index p i) (range_with_len 0 64)

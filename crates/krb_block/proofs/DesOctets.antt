@@ -1,46 +1,23 @@
 -- Octets and their bits, and triple DES on octets.
 use Rattle.std.proofs.Common.{◌≡◌, ℕ, zero, suc, ◌+◌, ◌-◌, ◌*◌, ◌/◌, ◌%◌, ◌^◌, ◌<◌, ◌≤◌, List, [], ◌∷◌, ◌++◌, length, take, drop, slice_index, refl, sym, ap, ◌∙◌, arith}
 use Rattle.std.specs.Int.{w64, byte_at, bytes_high_first, to_be_bytes, from_be_bytes}
-use Rattle.std.proofs.lemmas.Nat.{be_bytes_8, xor_lt}
-use Rattle.std.proofs.lemmas.List.{take_at, drop_at, take-append-drop, drop_more, length-append, length-drop, length-take-le, get_or-drop}
+use Rattle.std.proofs.lemmas.Nat.{be_bytes_8}
+use Rattle.std.proofs.lemmas.List.{take_at, drop_at, take-append-drop, drop_more, length-append, length-drop, length-take-le}
 use Rattle.std.proofs.Math.Arith.{digits_lt}
 use Rattle.std.proofs.Math.Nat.{pow-suc}
 use Rattle.krb_block.proofs.FoldWorth.{worth, worth_pow}
 use Rattle.krb_block.specs.Modes.{IsOctets}
 use Rattle.krb_block.specs.DesTables.{initial_table, final_table, expansion_table, round_table, s_boxes}
-use Rattle.krb_block.specs.Des.{bits, number_of_bits, permuted, xor_bits, substituted_one, substituted, round_value, rounds, ciphered, octet_bits, octets_of_bits}
+use Rattle.krb_block.specs.Xor.{xor_lists}
+use Rattle.krb_block.specs.Des.{bits, number_of_bits, permuted, substituted_one, substituted, round_value, rounds, ciphered, octet_bits, octets_of_bits}
 use Rattle.krb_block.proofs.DesBits.{bits-suc, bits-zero, bits-append, length-bits, same_from_bits}
 use Rattle.krb_block.proofs.DesRounds.{bits-split}
-use Rattle.krb_block.proofs.BlockOctets.{IsOctets-take, IsOctets-drop}
+use Rattle.krb_block.proofs.Below.{AreBelow, AreBelow-append, AreBelow-drop, AreBelow-one, AreBelow-take, AreBelow-xor_lists}
 
 -- ---- lists of bits
 
 abbrev pub AreBits : List ℕ → Type 0
-AreBits xs = (i : ℕ) → slice_index xs i < 2
-
-AreBits-one : (x : ℕ) → x < 2 → AreBits (x ∷ [])
-AreBits-one x h zero = h
-AreBits-one x h (suc i) = omega arith
-
-AreBits-append : (xs ys : List ℕ) → AreBits xs → AreBits ys → AreBits (xs ++ ys)
-AreBits-append [] ys h g i = g i
-AreBits-append (x ∷ xs) ys h g zero = h 0
-AreBits-append (x ∷ xs) ys h g (suc i) = AreBits-append xs ys (λ k. h (suc k)) g i
-
-AreBits-take : (n : ℕ) (xs : List ℕ) → AreBits xs → AreBits (take n xs)
-AreBits-take zero xs h i = omega arith
-AreBits-take (suc n) [] h i = omega arith
-AreBits-take (suc n) (x ∷ xs) h zero = h 0
-AreBits-take (suc n) (x ∷ xs) h (suc i) = AreBits-take n xs (λ k. h (suc k)) i
-
-AreBits-drop : (n : ℕ) (xs : List ℕ) → AreBits xs → AreBits (drop n xs)
-AreBits-drop n xs h i = rw (get_or-drop n xs i 0) (h (n + i))
-
-AreBits-xor_bits : (xs ys : List ℕ) → AreBits xs → AreBits ys → AreBits (xor_bits xs ys)
-AreBits-xor_bits [] ys h g i = omega arith
-AreBits-xor_bits (x ∷ xs) [] h g i = omega arith
-AreBits-xor_bits (x ∷ xs) (y ∷ ys) h g zero = xor_lt 1 x y (h 0) (g 0)
-AreBits-xor_bits (x ∷ xs) (y ∷ ys) h g (suc i) = AreBits-xor_bits xs ys (λ k. h (suc k)) (λ k. g (suc k)) i
+AreBits xs = AreBelow 2 xs
 
 AreBits-permuted : (table xs : List ℕ) → AreBits xs → AreBits (permuted table xs)
 AreBits-permuted [] xs h i = omega arith
@@ -51,29 +28,29 @@ AreBits-bits : (w n : ℕ) → AreBits (bits w n)
 AreBits-bits zero n i = rw (bits-zero n) (omega arith)
 AreBits-bits (suc w) n i =
     let low : n % 2 < 2 = omega arith in
-    rw (bits-suc w n) (AreBits-append (bits w (n / 2)) ((n % 2) ∷ []) (AreBits-bits w (n / 2)) (AreBits-one (n % 2) low) i)
+    rw (bits-suc w n) (AreBelow-append (bits w (n / 2)) ((n % 2) ∷ []) (AreBits-bits w (n / 2)) (AreBelow-one (n % 2) low) i)
 
 AreBits-substituted : (boxes : List (List (List ℕ))) (xs : List ℕ) → AreBits (substituted boxes xs)
 unfolding substituted
 AreBits-substituted [] xs i = omega arith
-AreBits-substituted (box ∷ boxes) xs i = AreBits-append (substituted_one box (take 6 xs)) (substituted boxes (drop 6 xs)) (AreBits-bits 4 _) (AreBits-substituted boxes (drop 6 xs)) i
+AreBits-substituted (box ∷ boxes) xs i = AreBelow-append (substituted_one box (take 6 xs)) (substituted boxes (drop 6 xs)) (AreBits-bits 4 _) (AreBits-substituted boxes (drop 6 xs)) i
 
 AreBits-round_value : (right key : List ℕ) → AreBits (round_value right key)
 unfolding round_value
-AreBits-round_value right key = AreBits-permuted round_table (substituted s_boxes (xor_bits (permuted expansion_table right) key)) (AreBits-substituted s_boxes _)
+AreBits-round_value right key = AreBits-permuted round_table (substituted s_boxes (xor_lists (permuted expansion_table right) key)) (AreBits-substituted s_boxes _)
 
 AreBits-rounds : (keys : List (List ℕ)) (left right : List ℕ) → AreBits left → AreBits right → AreBits (rounds keys left right)
 unfolding rounds
-AreBits-rounds [] left right h g = AreBits-append right left g h
+AreBits-rounds [] left right h g = AreBelow-append right left g h
 AreBits-rounds (key ∷ keys) left right h g =
-    AreBits-rounds keys right (xor_bits left (round_value right key)) g (AreBits-xor_bits left (round_value right key) h (AreBits-round_value right key))
+    AreBits-rounds keys right (xor_lists left (round_value right key)) g (AreBelow-xor_lists 1 left (round_value right key) h (AreBits-round_value right key))
 
 pub AreBits-ciphered : (keys : List (List ℕ)) (p : List ℕ) → AreBits p → AreBits (ciphered keys p)
 unfolding ciphered
 AreBits-ciphered keys p h =
     let q = permuted initial_table p in
     let all : AreBits (permuted initial_table p) = AreBits-permuted initial_table p h in
-    AreBits-permuted final_table (rounds keys (take 32 q) (drop 32 q)) (AreBits-rounds keys (take 32 q) (drop 32 q) (AreBits-take 32 q all) (AreBits-drop 32 q all))
+    AreBits-permuted final_table (rounds keys (take 32 q) (drop 32 q)) (AreBits-rounds keys (take 32 q) (drop 32 q) (AreBelow-take 32 q all) (AreBelow-drop 32 q all))
 
 pub length-ciphered : (keys : List (List ℕ)) (p : List ℕ) → length (ciphered keys p) ≡ 64
 unfolding ciphered final_table
@@ -114,7 +91,7 @@ number_of_bits-bits w n h =
 pub AreBits-octet_bits : (xs : List ℕ) → AreBits (octet_bits xs)
 unfolding octet_bits
 AreBits-octet_bits [] i = omega arith
-AreBits-octet_bits (x ∷ xs) i = AreBits-append (bits 8 x) (octet_bits xs) (AreBits-bits 8 x) (AreBits-octet_bits xs) i
+AreBits-octet_bits (x ∷ xs) i = AreBelow-append (bits 8 x) (octet_bits xs) (AreBits-bits 8 x) (AreBits-octet_bits xs) i
 
 pub length-octet_bits : (xs : List ℕ) → length (octet_bits xs) ≡ 8 * length xs
 unfolding octet_bits
@@ -131,9 +108,9 @@ unfolding octets_of_bits
 IsOctets-octets_of_bits zero xs h len i = omega arith
 IsOctets-octets_of_bits (suc n) xs h len zero =
     let eight : length (take 8 xs) ≡ 8 = length-take-le 8 xs (omega arith) in
-    let small : number_of_bits (take 8 xs) < 2 ^ length (take 8 xs) = number_of_bits_lt (take 8 xs) (AreBits-take 8 xs h) in
+    let small : number_of_bits (take 8 xs) < 2 ^ length (take 8 xs) = number_of_bits_lt (take 8 xs) (AreBelow-take 8 xs h) in
     rw eight at small
-IsOctets-octets_of_bits (suc n) xs h len (suc i) = IsOctets-octets_of_bits n (drop 8 xs) (AreBits-drop 8 xs h) (length-drop 8 xs ∙ omega arith) i
+IsOctets-octets_of_bits (suc n) xs h len (suc i) = IsOctets-octets_of_bits n (drop 8 xs) (AreBelow-drop 8 xs h) (length-drop 8 xs ∙ omega arith) i
 
 pub octets_of_bits-octet_bits : (xs : List ℕ) → IsOctets xs → octets_of_bits (length xs) (octet_bits xs) ≡ xs
 unfolding octet_bits octets_of_bits
@@ -150,8 +127,8 @@ octet_bits-octets_of_bits zero [] h len = refl
 octet_bits-octets_of_bits zero (x ∷ xs) h len = absurd (omega arith)
 octet_bits-octets_of_bits (suc n) xs h len =
     let eight : length (take 8 xs) ≡ 8 = length-take-le 8 xs (omega arith) in
-    let one : bits 8 (number_of_bits (take 8 xs)) ≡ take 8 xs = ap (λ k. bits k (number_of_bits (take 8 xs))) (sym eight) ∙ bits-number_of_bits (take 8 xs) (AreBits-take 8 xs h) in
-    let rest : octet_bits (octets_of_bits n (drop 8 xs)) ≡ drop 8 xs = octet_bits-octets_of_bits n (drop 8 xs) (AreBits-drop 8 xs h) (length-drop 8 xs ∙ omega arith) in
+    let one : bits 8 (number_of_bits (take 8 xs)) ≡ take 8 xs = ap (λ k. bits k (number_of_bits (take 8 xs))) (sym eight) ∙ bits-number_of_bits (take 8 xs) (AreBelow-take 8 xs h) in
+    let rest : octet_bits (octets_of_bits n (drop 8 xs)) ≡ drop 8 xs = octet_bits-octets_of_bits n (drop 8 xs) (AreBelow-drop 8 xs h) (length-drop 8 xs ∙ omega arith) in
     ap (λ (k : List ℕ). k ++ octet_bits (octets_of_bits n (drop 8 xs))) one ∙ ap (λ (k : List ℕ). take 8 xs ++ k) rest ∙ take-append-drop 8 xs
 
 -- ---- the octets of numbers
@@ -219,4 +196,4 @@ pub eight_octets_is : (xs : List ℕ) (at n : ℕ) → IsOctets xs → at + 8 �
     → bits 64 n ≡ octet_bits (take 8 (drop at xs))
 eight_octets_is xs at n octets h e =
     let long : length (take 8 (drop at xs)) ≡ 8 = length-take-le 8 (drop at xs) (omega (arith, length-drop at xs)) in
-    sym (octet_bits_is (take 8 (drop at xs)) n long (IsOctets-take 8 (drop at xs) (IsOctets-drop at xs octets)) (e ∙ ap (from_be_bytes w64) (octets_from-take-drop xs at h)))
+    sym (octet_bits_is (take 8 (drop at xs)) n long (AreBelow-take 8 (drop at xs) (AreBelow-drop at xs octets)) (e ∙ ap (from_be_bytes w64) (octets_from-take-drop xs at h)))

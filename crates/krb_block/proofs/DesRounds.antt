@@ -1,6 +1,6 @@
 -- The code's numbers against the lists of bits.
-use Rattle.std.proofs.Common.{◌≡◌, ℕ, ◌+◌, ◌-◌, ◌*◌, ◌/◌, ◌%◌, ◌^◌, ◌<◌, ◌≤◌, List, [], ◌∷◌, ◌++◌, length, take, drop, map, get_or, set, slice_index, slice_index_or, nat_le, reverse, true, bit_xor, refl, sym, ap, ◌∙◌, arith}
-use Rattle.std.proofs.lemmas.List.{take_at, drop_at, drop-drop, drop_more, drop_all, append_assoc, append-nil, take_more_set, take_all, map_push, get_or-map, get_or-reverse, length-map}
+use Rattle.std.proofs.Common.{◌≡◌, ℕ, ◌+◌, ◌-◌, ◌*◌, ◌/◌, ◌%◌, ◌^◌, ◌<◌, ◌≤◌, List, [], ◌∷◌, ◌++◌, length, take, drop, map, get_or, set, slice_index, slice_index_or, nat_le, true, bit_xor, refl, sym, ap, ◌∙◌, arith}
+use Rattle.std.proofs.lemmas.List.{take_at, drop_at, drop-drop, drop_more, drop_all, append_assoc, append-nil, take_more_set, take_all, map_push, get_or-map}
 use Rattle.std.proofs.lemmas.Nat.{shr_below, field_of, pow_pos}
 use Rattle.std.proofs.Math.Nat.{div-add-mod', mod-lt}
 use Rattle.std.proofs.Math.Arith.{digits_lt}
@@ -9,7 +9,8 @@ use Rattle.std.specs.List.{list_all}
 use Rattle.std.proofs.lemmas.List.Sums.{AllPass-from_list_all}
 use Rattle.std.proofs.lemmas.Bool.Decides.{nat_tests}
 use Rattle.krb_block.specs.DesTables.{second_choice}
-use Rattle.krb_block.specs.Des.{bits, number_of_bits, bit_of, permuted, xor_bits, row_of, column_of, substituted_one, substituted, round_value, rounds, turned_left, keys_from}
+use Rattle.krb_block.specs.Xor.{xor_lists}
+use Rattle.krb_block.specs.Des.{bits, number_of_bits, bit_of, permuted, row_of, column_of, substituted_one, substituted, round_value, rounds, turned_left, keys_from}
 use Rattle.krb_block.proofs.DesBits.{length-bits, bits-append, slice_index-bits, bits-xor}
 
 pub bits-split : (a b x : ℕ) → bits (a + b) x ≡ bits a (x / 2 ^ b) ++ bits b (x % 2 ^ b)
@@ -85,7 +86,7 @@ substitute_end boxes x out i lb ei held =
     sym (append-nil (bits 32 out)) ∙ ap (λ (k : List (List (List ℕ))). bits 32 out ++ substituted k (drop 48 (bits 48 x))) (sym none) ∙ (rw ei at held)
 
 -- ---- the rounds
-pub rounds-cons : (k : List ℕ) (ks : List (List ℕ)) (l r : List ℕ) → rounds (k ∷ ks) l r ≡ rounds ks r (xor_bits l (round_value r k))
+pub rounds-cons : (k : List ℕ) (ks : List (List ℕ)) (l r : List ℕ) → rounds (k ∷ ks) l r ≡ rounds ks r (xor_lists l (round_value r k))
 unfolding rounds
 rounds-cons k ks l r = refl
 
@@ -94,25 +95,16 @@ pub rounds_more : (keys : List (List ℕ)) (i left right f next : ℕ) (key targ
     → rounds (drop i keys) (bits 32 left) (bits 32 right) ≡ target
     → rounds (drop (i + 1) keys) (bits 32 right) (bits 32 next) ≡ target
 rounds_more keys i left right f next key target lt ek ef en held =
-    let step : rounds (drop i keys) (bits 32 left) (bits 32 right) ≡ rounds (drop (i + 1) keys) (bits 32 right) (xor_bits (bits 32 left) (round_value (bits 32 right) (slice_index_or keys i []))) =
+    let step : rounds (drop i keys) (bits 32 left) (bits 32 right) ≡ rounds (drop (i + 1) keys) (bits 32 right) (xor_lists (bits 32 left) (round_value (bits 32 right) (slice_index_or keys i []))) =
     ap (λ (k : List (List ℕ)). rounds k (bits 32 left) (bits 32 right)) (drop_more keys i [] lt)
     ∙ rounds-cons (slice_index_or keys i []) (drop (i + 1) keys) (bits 32 left) (bits 32 right) in
-    let same : bits 32 next ≡ xor_bits (bits 32 left) (round_value (bits 32 right) (slice_index_or keys i [])) =
-    ap (bits 32) en ∙ bits-xor 32 left f ∙ ap (λ (k : List ℕ). xor_bits (bits 32 left) k) (ef ∙ ap (round_value (bits 32 right)) ek) in
+    let same : bits 32 next ≡ xor_lists (bits 32 left) (round_value (bits 32 right) (slice_index_or keys i [])) =
+    ap (bits 32) en ∙ bits-xor 32 left f ∙ ap (λ (k : List ℕ). xor_lists (bits 32 left) k) (ef ∙ ap (round_value (bits 32 right)) ek) in
     ap (λ (k : List ℕ). rounds (drop (i + 1) keys) (bits 32 right) k) same ∙ sym step ∙ held
 
--- the round keys in order, and from the last
+-- the round keys in order
 pub key_at : (keys : List ℕ) (i : ℕ) → i < length keys → bits 48 (slice_index keys i) ≡ slice_index_or (map (bits 48) keys) i []
 key_at keys i h = sym (get_or-map (bits 48) keys i 0 [] h)
-
-pub key_back : (keys : List ℕ) (i : ℕ) → length keys ≡ 16 → i < 16
-    → bits 48 (slice_index keys (15 - i)) ≡ slice_index_or (reverse (map (bits 48) keys)) i []
-key_back keys i len h =
-    let all : length (map (bits 48) keys) ≡ 16 = length-map keys (bits 48) ∙ len in
-    let within : i < length (map (bits 48) keys) = omega (arith, all) in
-    let inside : 15 - i < length keys = omega (arith, len) in
-    let place : length (map (bits 48) keys) - 1 - i ≡ 15 - i = omega (arith, all) in
-    key_at keys (15 - i) inside ∙ sym (get_or-reverse (map (bits 48) keys) i [] within ∙ ap (λ k. slice_index_or (map (bits 48) keys) k []) place)
 
 pub rounds_start : (keys : List (List ℕ)) (whole : ℕ) (q : List ℕ) → bits 64 whole ≡ q
     → rounds keys (bits 32 (whole / 2 ^ 32)) (bits 32 (whole % 2 ^ 32)) ≡ rounds keys (take 32 q) (drop 32 q)

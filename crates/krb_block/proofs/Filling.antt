@@ -5,7 +5,7 @@ use Rattle.std.proofs.lemmas.List.{append-nil, length-append, length-replicate, 
 use Rattle.std.proofs.Math.Arith.{digits_mod}
 use Rattle.std.proofs.Math.Nat.{div-add-mod', mul-add-mod_self_right}
 use Rattle.krb_block.specs.Modes.{IsOctets, IsFill}
-use Rattle.krb_block.proofs.BlockOctets.{IsOctets-take, IsOctets-append, IsOctets-zeros}
+use Rattle.krb_block.proofs.Below.{AreBelow-append, AreBelow-take, AreBelow-zeros}
 
 module _ (size : ℕ) where
   blocks : (n : ℕ) → n % size ≡ 0 → n ≡ n / size * size
@@ -67,10 +67,10 @@ module _ (size : ℕ) where
 
   -- both are of octets, or none is
   pub IsFill-octets : (p w : List ℕ) → IsFill size p w → IsOctets p → IsOctets w
-  IsFill-octets p w fill octets = subst IsOctets (sym fill.joined) (IsOctets-append p (replicate fill.zeros 0) octets (IsOctets-zeros fill.zeros))
+  IsFill-octets p w fill octets = subst IsOctets (sym fill.joined) (AreBelow-append p (replicate fill.zeros 0) octets (AreBelow-zeros fill.zeros (omega arith)))
 
   pub IsFill-front : (p w : List ℕ) → IsFill size p w → IsOctets w → IsOctets p
-  IsFill-front p w fill octets = subst IsOctets (ap (take (length p)) fill.joined ∙ take_at p (replicate fill.zeros 0) (length p) refl) (IsOctets-take (length p) w octets)
+  IsFill-front p w fill octets = subst IsOctets (ap (take (length p)) fill.joined ∙ take_at p (replicate fill.zeros 0) (length p) refl) (AreBelow-take (length p) w octets)
 
   -- behind whole blocks of w the rest is of whole blocks
   pub rest_whole : (n : ℕ) (w : List ℕ) → n % size ≡ 0 → n ≤ length w → length w % size ≡ 0 → (length w - n) % size ≡ 0

@@ -2,7 +2,8 @@
 use Rattle.std.proofs.Common.{◌≡◌, ℕ, zero, suc, ◌+◌, ◌*◌, ◌/◌, List, [], ◌∷◌, ◌++◌, length, take, refl, sym, ap, ◌∙◌, arith, length-append}
 use Rattle.std.proofs.lemmas.List.{length-take-le}
 use Rattle.std.specs.List.{concat}
-use Rattle.krb_block.specs.Modes.{xor_octets, zero_block, first_blocks, filled_blocks, exchanged, Cts}
+use Rattle.krb_block.specs.Xor.{xor_lists}
+use Rattle.krb_block.specs.Modes.{zero_block, first_blocks, filled_blocks, exchanged, Cts}
 use Rattle.krb_block.proofs.Chains.{chained, chained_from, CbcFrom-chained}
 
 module _ (E : List ℕ → List ℕ) where
@@ -29,7 +30,7 @@ wide (x ∷ y ∷ z ∷ rest) h =
 chained_wide : (E : List ℕ → List ℕ) → ((b : List ℕ) → length (E b) ≡ 16) → (v : List ℕ) (ps : List (List ℕ)) → AreWide (chained E v ps)
 unfolding chained
 chained_wide E sized v [] = tt
-chained_wide E sized v (p ∷ ps) = (sized (xor_octets p v), chained_wide E sized (E (xor_octets p v)) ps)
+chained_wide E sized v (p ∷ ps) = (sized (xor_lists p v), chained_wide E sized (E (xor_lists p v)) ps)
 
 first_count : (n : ℕ) (p : List ℕ) → length (first_blocks 16 n p) ≡ n
 unfolding first_blocks

@@ -1,6 +1,7 @@
 -- DES (FIPS 46-3) on lists of bits, each 0 or 1, and triple DES on lists of octets (NIST SP 800-67, 3.1; RFC 3961, 6.3).
 -- Bits are counted from 1, the leftmost first.
-use Rattle.std.specs.Prelude.{◌≡◌, ℕ, zero, suc, ◌+◌, ◌-◌, ◌*◌, ◌/◌, ◌%◌, ◌^◌, List, [], ◌∷◌, ◌++◌, length, take, drop, map, reverse, bit_xor, slice_index, slice_index_or}
+use Rattle.std.specs.Prelude.{◌≡◌, ℕ, zero, suc, ◌+◌, ◌-◌, ◌*◌, ◌/◌, ◌%◌, ◌^◌, List, [], ◌∷◌, ◌++◌, length, take, drop, map, reverse, slice_index, slice_index_or}
+use Rattle.krb_block.specs.Xor.{xor_lists}
 use Rattle.krb_block.specs.DesTables.{initial_table, final_table, expansion_table, round_table, first_choice, second_choice, turns, s_boxes}
 
 -- ---- bits
@@ -23,12 +24,6 @@ bit_of xs i = slice_index xs (i - 1)
 abbrev pub permuted : List ℕ → List ℕ → List ℕ
 permuted table xs = map (bit_of xs) table
 
--- addition modulo 2, bit by bit
-abbrev pub xor_bits : List ℕ → List ℕ → List ℕ
-xor_bits [] ys = []
-xor_bits (x ∷ xs) [] = []
-xor_bits (x ∷ xs) (y ∷ ys) = bit_xor x y ∷ xor_bits xs ys
-
 -- ---- the function f of a round (FIPS 46-3, The Cipher Function f)
 
 -- the row that six bits choose, by the first and the last of them
@@ -50,7 +45,7 @@ substituted (box ∷ boxes) xs = substituted_one box (take 6 xs) ++ substituted 
 
 -- f(R, K)
 unfoldable pub round_value : List ℕ → List ℕ → List ℕ
-round_value right key = permuted round_table (substituted s_boxes (xor_bits (permuted expansion_table right) key))
+round_value right key = permuted round_table (substituted s_boxes (xor_lists (permuted expansion_table right) key))
 
 -- ---- the key schedule (FIPS 46-3, Appendix 1)
 
@@ -72,7 +67,7 @@ round_keys key = keys_from turns (take 28 (permuted first_choice key)) (drop 28 
 -- the rounds, and at the end the right half before the left
 unfoldable pub rounds : List (List ℕ) → List ℕ → List ℕ → List ℕ
 rounds [] left right = right ++ left
-rounds (key ∷ keys) left right = rounds keys right (xor_bits left (round_value right key))
+rounds (key ∷ keys) left right = rounds keys right (xor_lists left (round_value right key))
 
 -- the block p under these round keys
 unfoldable pub ciphered : List (List ℕ) → List ℕ → List ℕ

@@ -7,6 +7,7 @@ pub mod SBox
 pub mod Aes
 pub mod InverseCipher
 pub mod Size
+pub mod Xor
 pub mod Modes
 pub mod DesTables
 pub mod Des

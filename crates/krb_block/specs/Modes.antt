@@ -1,12 +1,7 @@
 -- Cipher block chaining and ciphertext stealing over any block function (RFC 3962, 5), blocks being lists of size octets.
-use Rattle.std.specs.Prelude.{◌≡◌, ℕ, zero, suc, ◌+◌, ◌-◌, ◌/◌, ◌%◌, ◌<◌, ◌≤◌, List, [], ◌∷◌, ◌++◌, length, take, drop, replicate, bit_xor, slice_index, slice_index_or}
+use Rattle.std.specs.Prelude.{◌≡◌, ℕ, zero, suc, ◌+◌, ◌-◌, ◌/◌, ◌%◌, ◌<◌, ◌≤◌, List, [], ◌∷◌, ◌++◌, length, take, drop, replicate, slice_index, slice_index_or}
 use Rattle.std.specs.List.{concat}
-
--- octet by octet
-abbrev pub xor_octets : List ℕ → List ℕ → List ℕ
-xor_octets [] ys = []
-xor_octets (x ∷ xs) [] = []
-xor_octets (x ∷ xs) (y ∷ ys) = bit_xor x y ∷ xor_octets xs ys
+use Rattle.krb_block.specs.Xor.{xor_lists}
 
 -- each is a number from 0 to 255
 abbrev pub IsOctets : List ℕ → Type 0
@@ -15,7 +10,7 @@ IsOctets xs = (i : ℕ) → slice_index xs i < 256
 abbrev pub IsBlock : ℕ → List ℕ → Type 0
 IsBlock size b = (length b ≡ size) × IsOctets b
 
--- ---- filling
+-- ---- filling (RFC 3961, 5.3, "pad"; RFC 3962, 5)
 
 -- at most size octets, filled with zeros to just so many
 abbrev pub filled_to : ℕ → List ℕ → List ℕ
@@ -47,7 +42,7 @@ before v cs (suc i) = slice_index_or cs i []
 -- two lists of blocks of equal length, each block being E of the plain one, combined with the block before it
 abbrev pub CbcFrom : (List ℕ → List ℕ) → List ℕ → List (List ℕ) → List (List ℕ) → Type 0
 CbcFrom E v ps cs = (length cs ≡ length ps)
-    × ((i : ℕ) → i < length ps → slice_index_or cs i [] ≡ E (xor_octets (slice_index_or ps i []) (before v cs i)))
+    × ((i : ℕ) → i < length ps → slice_index_or cs i [] ≡ E (xor_lists (slice_index_or ps i []) (before v cs i)))
 
 abbrev pub zero_block : ℕ → List ℕ
 zero_block size = replicate size 0

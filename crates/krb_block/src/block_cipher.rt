@@ -1,7 +1,8 @@
 //! Block ciphers, as the modes of operation see them.
 
 ghost use Rattle.std.specs.Prelude.{◌≡◌, ℕ, ◌≤◌, List, length};
-ghost use Rattle.krb_block.specs.Modes.{xor_octets, filled_to};
+ghost use Rattle.krb_block.specs.Xor.{xor_lists};
+ghost use Rattle.krb_block.specs.Modes.{filled_to};
 
 /// A block function under a key, and what undoes it. A block has `SIZE` octets.
 pub(crate) trait BlockCipher<const SIZE: usize> {
@@ -19,7 +20,7 @@ pub(crate) trait BlockCipher<const SIZE: usize> {
 /// At most a block of octets, filled with zeros and combined with the block before by exclusive or.
 pub(crate) fn joined_with<const SIZE: usize>(before: &[u8; SIZE], part: &[u8]) -> [u8; SIZE]
     requires { length part.now ≤ SIZE }
-    ensures { result ≡ xor_octets (filled_to SIZE part.now) before.now }
+    ensures { result ≡ xor_lists (filled_to SIZE part.now) before.now }
 {
     let mut block = *before;
     for (i, x) in part.iter().enumerate() {

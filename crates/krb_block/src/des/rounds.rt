@@ -27,15 +27,9 @@ pub(super) fn encipher(keys: &[u64; 16], block: u64) -> u64
 pub(super) fn decipher(keys: &[u64; 16], block: u64) -> u64
     ensures { bits 64 result ≡ ciphered (reverse (map (bits 48) keys.now)) (bits 64 block) }
 {
-    let whole = permute(block, 64, &INITIAL);
-    let mut left = whole >> 32;
-    let mut right = whole % (1 << 32);
-    'rounds: for back in 0..16 {
-        let next = left ^ round_value(right, keys[15 - back]);
-        left = right;
-        right = next;
-    }
-    permute(right * (1 << 32) + left, 64, &FINAL)
+    let mut back = *keys;
+    back.reverse();
+    encipher(&back, block)
 }
 
 /// f(R, K), what a round adds to the left half (FIPS 46-3, The Cipher Function f).
