@@ -1,8 +1,8 @@
 -- The steps of the message calls.
-use Rattle.std.proofs.Common.{◌≡◌, ◌≢◌, Bool, true, false, not, ℕ, ℤ, ◌≤◌, ◌-◌, ◌%◌, List, ◌++◌, length, take, drop, replicate, refl, sym, ap, subst, ◌∙◌, arith}
+use Rattle.std.proofs.Common.{◌≡◌, ◌≢◌, Bool, true, false, not, ℕ, ℤ, ◌≤◌, ◌-◌, ◌%◌, List, ◌++◌, length, take, replicate, refl, sym, ap, subst, ◌∙◌, arith}
 use Rattle.std.specs.Str.{bytes_eq}
 use Rattle.std.proofs.lemmas.Bool.{le-ltb, eq-eqb}
-use Rattle.std.proofs.lemmas.List.{length-take-le, length-drop, take-append-drop, take_at}
+use Rattle.std.proofs.lemmas.List.{length-take-le, take_all, take_at}
 use Rattle.std.proofs.lemmas.Slice.Eq.{bytes_eq-Decides}
 use Rattle.krb_block.specs.Hmac.{hmac}
 use Rattle.krb_block.proofs.AesUndoing.{aes_block_size}
@@ -16,28 +16,30 @@ use Rattle.krb_block.proofs.DesTriple.{AreInverse-ede}
 use Rattle.krb_block.proofs.Filling.{IsFill-one, IsFill-whole}
 use Rattle.krb_block.specs.declared.error.KerberosCryptoError.{KerberosCryptoError}
 use Rattle.krb_block.specs.declared.error.KerberosCryptoError.TheVariants.{IntegrityCheck}
-use Rattle.krb_scheme.specs.Sealing.{IsSplit}
 use Rattle.krb_scheme.specs.MessageSteps.{IsEnciphered, IsDeciphered}
-use Rattle.krb_scheme.specs.Sealed.{aes_ke, AesCts, mac_96, aes_refusal, des3_ke, des3_ki, Des3Cbc, des3_refusal}
+use Rattle.krb_scheme.proofs.Opening.{IsScheme}
+use Rattle.krb_scheme.specs.Sealed.{aes_ke, aes_ki, AesCts, mac_96, aes_refusal, des3_ke, des3_ki, Des3Cbc, des3_refusal}
 
 -- ---- AES
 
-pub mac_size : (ki m : List ℕ) → length (mac_96 ki m) ≡ 12
-mac_size ki m = length-take-le 12 (hmac ki m) (omega (arith, hmac_size ki m))
+pub aes_scheme : (key : List ℕ) (usage : ℤ) → IsScheme 1 16 12 (AesCts key usage) (mac_96 (aes_ki key usage)) (aes_ki key usage) (λ n. 16 ≤ n)
+aes_scheme key usage = record {
+  some = omega arith;
+  multiple = refl;
+  sized = λ m. length-take-le 12 (hmac (aes_ki key usage) m) (omega (arith, hmac_size (aes_ki key usage) m));
+  cut = λ m. refl;
+  same = Cts-same (aes_block (aes_ke key usage));
+  shaped = λ p c octets long h. omega (arith, long, Cts-length (aes_block (aes_ke key usage)) (aes_block_size (aes_ke key usage)) p c h);
+}
 
-pub AesCts-same : (key : List ℕ) (usage : ℤ) (p c d : List ℕ) → AesCts key usage p c → AesCts key usage p d → c ≡ d
-AesCts-same key usage p c d = Cts-same (aes_block (aes_ke key usage)) p c d
+-- under a right key, octets enough are refused for their checksum alone
+pub aes_intact : (size : ℕ) (key bytes : List ℕ) → length key ≡ size → 28 ≤ length bytes → aes_refusal size key bytes ≡ IntegrityCheck
+aes_intact size key bytes right long = rw (le-ltb (length bytes) 28 long, right, eq-eqb size size refl) refl
 
--- what is enciphered has at least a block
-pub AesCts-long : (key : List ℕ) (usage : ℤ) (p c : List ℕ) → IsOctets p → 16 ≤ length p → AesCts key usage p c → 16 ≤ length c
-AesCts-long key usage p c octets long h = omega (arith, long, Cts-length (aes_block (aes_ke key usage)) (aes_block_size (aes_ke key usage)) p c h)
-
--- under a right key, what is refused for another reason than its checksum is too short
+-- and what is refused for another reason is too short
 pub aes_short : (size : ℕ) (key bytes : List ℕ) (e : KerberosCryptoError) → length key ≡ size → (e ≡ aes_refusal size key bytes) × (e ≢ IntegrityCheck) → ¬ ((12 ≤ length bytes) × (16 ≤ length bytes - 12))
 aes_short size key bytes e right refused shape =
-    let long : 28 ≤ length bytes = omega (arith, shape.0, shape.1) in
-    let same : aes_refusal size key bytes ≡ IntegrityCheck = rw (le-ltb (length bytes) 28 long, right, eq-eqb size size refl) refl in
-    refused.1 (refused.0 ∙ same)
+    refused.1 (refused.0 ∙ aes_intact size key bytes right (omega (arith, shape.0, shape.1)))
 
 -- ---- triple DES
 
@@ -45,17 +47,21 @@ aes_short size key bytes e right refused shape =
 pub whole_mac : (key m tag : List ℕ) → tag ≡ take 20 (hmac key m ++ replicate (20 - 20) 0) → tag ≡ hmac key m
 whole_mac key m tag e = e ∙ take_at (hmac key m) (replicate (20 - 20) 0) 20 (hmac_size key m)
 
-pub Des3Cbc-same : (key : List ℕ) (usage : ℤ) (p c d : List ℕ) → Des3Cbc key usage p c → Des3Cbc key usage p d → c ≡ d
-Des3Cbc-same key usage p c d = IsCbc-same 8 (ede_block (des3_ke key usage)) p c d
-
-pub Des3Cbc-length : (key : List ℕ) (usage : ℤ) (p c : List ℕ) → IsOctets p → Des3Cbc key usage p c → length c ≡ length p
+Des3Cbc-length : (key : List ℕ) (usage : ℤ) (p c : List ℕ) → IsOctets p → Des3Cbc key usage p c → length c ≡ length p
 Des3Cbc-length key usage p c octets h = IsCbc-length 8 (omega arith) (ede_block (des3_ke key usage)) (ede_undo (des3_ke key usage)) (AreInverse-ede (des3_ke key usage)) p c octets h
 
--- what is enciphered has at least a block, and whole ones
-pub Des3Cbc-shaped : (key : List ℕ) (usage : ℤ) (p c : List ℕ) → IsOctets p → 8 ≤ length p → Des3Cbc key usage p c → (8 ≤ length c) × (length c % 8 ≡ 0)
-Des3Cbc-shaped key usage p c octets long h =
-    let same : length c ≡ length p = Des3Cbc-length key usage p c octets h in
-    (omega (arith, same, long), ap (λ (k : ℕ). k % 8) same ∙ h.whole)
+-- what is enciphered has at least a block, and whole ones; the HMAC has 20 octets, and none is cut off
+pub des3_scheme : (key : List ℕ) (usage : ℤ) → IsScheme 8 8 20 (Des3Cbc key usage) (hmac (des3_ki key usage)) (des3_ki key usage) (λ n. (8 ≤ n) × (n % 8 ≡ 0))
+des3_scheme key usage = record {
+  some = omega arith;
+  multiple = refl;
+  sized = hmac_size (des3_ki key usage);
+  cut = λ m. take_all 20 (hmac (des3_ki key usage) m) (omega (arith, hmac_size (des3_ki key usage) m));
+  same = IsCbc-same 8 (ede_block (des3_ke key usage));
+  shaped = λ p c octets long h.
+      let same : length c ≡ length p = Des3Cbc-length key usage p c octets h in
+      (omega (arith, same, long), ap (λ (k : ℕ). k % 8) same ∙ h.whole);
+}
 
 -- under a right key, whole blocks behind a confounder are refused for their checksum alone
 des3_intact : (key bytes : List ℕ) → length key ≡ 24 → 28 ≤ length bytes → (length bytes - 20) % 8 ≡ 0 → des3_refusal key bytes ≡ IntegrityCheck
@@ -117,10 +123,3 @@ differ xs ys b e differs same = let yes : bytes_eq xs ys ≡ true = (bytes_eq-De
 -- and where it finds none, there is none
 pub agree : (xs ys : List ℕ) (b : Bool) → b ≡ not (bytes_eq xs ys) → b ≡ false → xs ≡ ys
 agree xs ys b e alike = (bytes_eq-Decides xs ys).0 (not_false (bytes_eq xs ys) (sym e ∙ alike))
-
--- the octets are those without their last h, and these
-pub split_end : (bytes end : List ℕ) (h : ℕ) → h ≤ length bytes → end ≡ drop (length bytes - h) bytes → IsSplit h bytes (take (length bytes - h) bytes) end
-split_end bytes end h long e = record {
-  joined = sym (take-append-drop (length bytes - h) bytes) ∙ ap (λ (k : List ℕ). take (length bytes - h) bytes ++ k) (sym e);
-  size_is = ap length e ∙ omega (arith, long, length-drop (length bytes - h) bytes);
-}

@@ -1,12 +1,22 @@
 -- What is opened is what was sealed, for anything that one list of octets at most is enciphered to.
-use Rattle.std.proofs.Common.{◌≡◌, ℕ, ◌≤◌, ◌<◌, ◌%◌, ◌+◌, ◌-◌, List, ◌++◌, length, take, drop, replicate, ap, sym, ◌∙◌, refl, arith, length-append, append_assoc, subst}
+use Rattle.std.proofs.Common.{◌≡◌, ◌≢◌, ℕ, ◌≤◌, ◌<◌, ◌%◌, ◌+◌, ◌-◌, List, ◌++◌, length, take, drop, replicate, ap, sym, ◌∙◌, refl, arith, length-append, append_assoc, subst}
 use Rattle.std.proofs.Math.Seq.{take-append_seam, drop-append_seam}
 use Rattle.std.proofs.lemmas.List.{take-append-drop, length-take-le, length-drop, take_at}
 use Rattle.krb_block.specs.Modes.{IsOctets, IsFill}
 use Rattle.krb_block.proofs.Filling.{IsFill-one, IsFill-whole, IsFill-behind, IsFill-before, IsFill-octets, IsFill-front, rest_whole}
 use Rattle.krb_scheme.specs.Sealing.{IsGiven, IsOfNone, IsTheOne, Opens, Enciphers, IsSplit, Deciphers}
 use Rattle.krb_scheme.specs.Sealed.{IsSealedBy}
-use Rattle.krb_scheme.specs.MessageSteps.{IsEnciphered, IsDeciphered}
+use Rattle.krb_scheme.specs.MessageSteps.{cut_mac, end_of, IsEnciphered, IsDeciphered}
+
+-- what is asked of a scheme: payloads are filled to multiples of fill octets, confounders have n and checksums h; what is
+-- enciphered, and the first h octets of the HMAC under the integrity key; and which lengths enciphered octets have
+pub record IsScheme (fill n h : ℕ) (enciphers : List ℕ → List ℕ → Type 0) (mac : List ℕ → List ℕ) (integrity_key : List ℕ) (Shape : ℕ → Type 0) : Type 0 where
+  pub some : 0 < fill
+  pub multiple : n % fill ≡ 0
+  pub sized : (m : List ℕ) → length (mac m) ≡ h
+  pub cut : (m : List ℕ) → cut_mac h integrity_key m ≡ mac m
+  pub same : (p c d : List ℕ) → enciphers p c → enciphers p d → c ≡ d
+  pub shaped : (p c : List ℕ) → IsOctets p → n ≤ length p → enciphers p c → Shape (length c)
 
 -- a list that ends in the tag is its front and the tag
 front_of : (front tag bytes : List ℕ) (h : ℕ) → length tag ≡ h → bytes ≡ front ++ tag → take (length bytes - h) bytes ≡ front
@@ -20,48 +30,55 @@ back_of front tag bytes h len e =
     let size : length bytes - h ≡ length front = omega (arith, len, simp length-append at (ap length e)) in
     subst (λ n. drop n bytes ≡ tag) (sym size) (ap (drop (length front)) e ∙ drop-append_seam front tag)
 
--- the octets without their last h are the front, where h octets stand behind it
-pub front_split : (bytes front tag : List ℕ) (h : ℕ) → IsSplit h bytes front tag → take (length bytes - h) bytes ≡ front
-front_split bytes front tag h split = front_of front tag bytes h split.size_is split.joined
+-- the octets are those without their last h, and these
+split_end : (bytes end : List ℕ) (h : ℕ) → h ≤ length bytes → end ≡ drop (length bytes - h) bytes → IsSplit h bytes (take (length bytes - h) bytes) end
+split_end bytes end h long e = record {
+  joined = sym (take-append-drop (length bytes - h) bytes) ∙ ap (λ (k : List ℕ). take (length bytes - h) bytes ++ k) (sym e);
+  size_is = ap length e ∙ omega (arith, long, length-drop (length bytes - h) bytes);
+}
 
-module _ (fill : ℕ) (enciphers : List ℕ → List ℕ → Type 0) (mac : List ℕ → List ℕ) (h : ℕ) (sized : (m : List ℕ) → length (mac m) ≡ h) where
+module _ {fill n h : ℕ} {enciphers : List ℕ → List ℕ → Type 0} {mac : List ℕ → List ℕ} {integrity_key : List ℕ} {Shape : ℕ → Type 0} (scheme : IsScheme fill n h enciphers mac integrity_key Shape) where
   -- what is sealed ends in the MAC of the one list that its front deciphers to
   cut : (bytes confounder payload : List ℕ) (sealed : IsSealedBy fill enciphers mac confounder payload bytes)
       → enciphers sealed.filled (take (length bytes - h) bytes) × (drop (length bytes - h) bytes ≡ mac sealed.filled)
   cut bytes confounder payload sealed = (
-    subst (enciphers sealed.filled) (sym (front_of sealed.cipher (mac sealed.filled) bytes h (sized sealed.filled) sealed.joined)) sealed.enciphered,
-    back_of sealed.cipher (mac sealed.filled) bytes h (sized sealed.filled) sealed.joined,
+    subst (enciphers sealed.filled) (sym (front_of sealed.cipher (mac sealed.filled) bytes h (scheme.sized sealed.filled) sealed.joined)) sealed.enciphered,
+    back_of sealed.cipher (mac sealed.filled) bytes h (scheme.sized sealed.filled) sealed.joined,
   )
 
   filled_octets : (bytes confounder payload : List ℕ) (sealed : IsSealedBy fill enciphers mac confounder payload bytes) → IsOctets sealed.filled
   filled_octets bytes confounder payload sealed = IsFill-octets fill (confounder ++ payload) sealed.filled sealed.fill_is sealed.of_octets
 
   -- the fill of a payload behind n octets of a confounder is what stands there
-  fill_behind : (n : ℕ) → n % fill ≡ 0 → (confounder payload filled : List ℕ) → length confounder ≡ n → IsFill fill (confounder ++ payload) filled
+  fill_behind : (confounder payload filled : List ℕ) → length confounder ≡ n → IsFill fill (confounder ++ payload) filled
       → IsFill fill payload (drop n filled)
-  fill_behind n multiple confounder payload filled size is =
-      subst (λ k. IsFill fill payload (drop k filled)) size (IsFill-behind fill confounder payload filled (rw size multiple) is)
+  fill_behind confounder payload filled size is =
+      subst (λ k. IsFill fill payload (drop k filled)) size (IsFill-behind fill confounder payload filled (rw size scheme.multiple) is)
 
-  fill_before : (n : ℕ) → n % fill ≡ 0 → (payload filled : List ℕ) → n ≤ length filled → IsFill fill payload (drop n filled) → IsFill fill (take n filled ++ payload) filled
-  fill_before n multiple payload filled long is =
-      let front : length (take n filled) % fill ≡ 0 = rw (length-take-le n filled long) multiple in
+  fill_before : (payload filled : List ℕ) → n ≤ length filled → IsFill fill payload (drop n filled) → IsFill fill (take n filled ++ payload) filled
+  fill_before payload filled long is =
+      let front : length (take n filled) % fill ≡ 0 = rw (length-take-le n filled long) scheme.multiple in
       subst (IsFill fill (take n filled ++ payload)) (take-append-drop n filled) (IsFill-before fill (take n filled) payload (drop n filled) front is)
 
-  rest_is_whole : (n : ℕ) → 0 < fill → n % fill ≡ 0 → (filled : List ℕ) → n ≤ length filled → length filled % fill ≡ 0 → IsFill fill (drop n filled) (drop n filled)
-  rest_is_whole n some multiple filled long whole = IsFill-whole fill some (drop n filled) (rw length-drop (rest_whole fill n filled multiple long whole))
+  rest_is_whole : (filled : List ℕ) → n ≤ length filled → length filled % fill ≡ 0 → IsFill fill (drop n filled) (drop n filled)
+  rest_is_whole filled long whole = IsFill-whole fill scheme.some (drop n filled) (rw length-drop (rest_whole fill n filled scheme.multiple long whole))
+
+  -- the tag that is compared is the one that is sealed
+  tag_is : (bytes filled ki : List ℕ) → IsDeciphered fill n h enciphers integrity_key bytes filled ki → cut_mac h ki filled ≡ mac filled
+  tag_is bytes filled ki d = ap (λ (k : List ℕ). cut_mac h k filled) d.ki_is ∙ scheme.cut filled
 
   -- bytes whose end is the MAC of the one list that their front deciphers to
-  pub seal_opens : 0 < fill → (n : ℕ) → n % fill ≡ 0 → (integrity_key bytes filled ki : List ℕ) → IsDeciphered fill n h enciphers integrity_key bytes filled ki
-      → drop (length bytes - h) bytes ≡ mac filled → Opens fill (IsGiven (IsSealedBy fill enciphers mac) n bytes) (drop n filled)
-  seal_opens some n multiple integrity_key bytes filled ki d ends = record {
-    whole = rest_is_whole n some multiple filled d.front d.whole;
+  pub seal_opens : (bytes filled ki : List ℕ) → IsDeciphered fill n h enciphers integrity_key bytes filled ki
+      → end_of h bytes ≡ cut_mac h ki filled → Opens fill (IsGiven (IsSealedBy fill enciphers mac) n bytes) (drop n filled)
+  seal_opens bytes filled ki d ends = record {
+    whole = rest_is_whole filled d.front d.whole;
     exactly = λ q. (
       (λ given.
           let sealed = given.means in
           let e : sealed.filled ≡ filled = d.only sealed.filled (filled_octets bytes given.confounder q sealed) (cut bytes given.confounder q sealed).0 in
-          fill_behind n multiple given.confounder q filled given.size_is (subst (IsFill fill (given.confounder ++ q)) e sealed.fill_is)),
+          fill_behind given.confounder q filled given.size_is (subst (IsFill fill (given.confounder ++ q)) e sealed.fill_is)),
       (λ is.
-          let all : IsFill fill (take n filled ++ q) filled = fill_before n multiple q filled d.front is in
+          let all : IsFill fill (take n filled ++ q) filled = fill_before q filled d.front is in
           record {
             confounder = take n filled;
             size_is = length-take-le n filled d.front;
@@ -71,32 +88,32 @@ module _ (fill : ℕ) (enciphers : List ℕ → List ℕ → Type 0) (mac : List
               fill_is = all;
               cipher = take (length bytes - h) bytes;
               enciphered = d.enciphered;
-              joined = sym (take-append-drop (length bytes - h) bytes) ∙ ap (λ r. take (length bytes - h) bytes ++ r) ends;
+              joined = sym (take-append-drop (length bytes - h) bytes) ∙ ap (λ r. take (length bytes - h) bytes ++ r) (ends ∙ tag_is bytes filled ki d);
             };
           }),
     );
   }
 
   -- bytes whose end is another list are given for no payload
-  pub none_sealed : (n : ℕ) (integrity_key bytes filled ki : List ℕ) → IsDeciphered fill n h enciphers integrity_key bytes filled ki
-      → ¬ (drop (length bytes - h) bytes ≡ mac filled) → IsOfNone (IsGiven (IsSealedBy fill enciphers mac) n bytes)
-  none_sealed n integrity_key bytes filled ki d other q given =
+  pub none_sealed : (bytes filled ki : List ℕ) → IsDeciphered fill n h enciphers integrity_key bytes filled ki
+      → end_of h bytes ≢ cut_mac h ki filled → IsOfNone (IsGiven (IsSealedBy fill enciphers mac) n bytes)
+  none_sealed bytes filled ki d other q given =
       let sealed = given.means in
       let parts = cut bytes given.confounder q sealed in
-      other (parts.1 ∙ ap mac (d.only sealed.filled (filled_octets bytes given.confounder q sealed) parts.0))
+      other (parts.1 ∙ ap mac (d.only sealed.filled (filled_octets bytes given.confounder q sealed) parts.0) ∙ sym (tag_is bytes filled ki d))
 
   -- what is written is the one list that is sealed
-  pub seals : (integrity_key confounder payload filled cipher ki tag bytes : List ℕ) → ((p c d : List ℕ) → enciphers p c → enciphers p d → c ≡ d)
-      → IsEnciphered fill enciphers integrity_key confounder payload filled cipher ki → tag ≡ mac filled → bytes ≡ cipher ++ tag
+  pub seals : (confounder payload filled cipher ki bytes : List ℕ)
+      → IsEnciphered fill enciphers integrity_key confounder payload filled cipher ki → bytes ≡ cipher ++ cut_mac h ki filled
       → IsTheOne (IsSealedBy fill enciphers mac confounder payload) bytes
-  seals integrity_key confounder payload filled cipher ki tag bytes same e et eb =
-      let into : bytes ≡ cipher ++ mac filled = eb ∙ ap (λ r. cipher ++ r) et in
+  seals confounder payload filled cipher ki bytes e joined =
+      let into : bytes ≡ cipher ++ mac filled = joined ∙ ap (λ r. cipher ++ r) (ap (λ (k : List ℕ). cut_mac h k filled) e.ki_is ∙ scheme.cut filled) in
       record {
         holds = record { of_octets = IsFill-front fill (confounder ++ payload) filled e.fill_is e.octets; filled = filled; fill_is = e.fill_is; cipher = cipher; enciphered = e.enciphered; joined = into };
         only = λ other sealed.
             let one : sealed.filled ≡ filled = IsFill-one fill (confounder ++ payload) sealed.filled filled sealed.fill_is e.fill_is in
             let held : enciphers filled sealed.cipher = subst (λ p. enciphers p sealed.cipher) one sealed.enciphered in
-            sealed.joined ∙ ap (λ m. sealed.cipher ++ mac m) one ∙ ap (λ c. c ++ mac filled) (same filled sealed.cipher cipher held e.enciphered) ∙ sym into;
+            sealed.joined ∙ ap (λ m. sealed.cipher ++ mac m) one ∙ ap (λ c. c ++ mac filled) (scheme.same filled sealed.cipher cipher held e.enciphered) ∙ sym into;
       }
 
   -- ---- without the checksum
@@ -113,7 +130,7 @@ module _ (fill : ℕ) (enciphers : List ℕ → List ℕ → Type 0) (mac : List
       let sealed = made.means in
       let tag : List ℕ = mac sealed.filled in
       let size : length encrypted ≡ length sealed.cipher =
-      omega (arith, made.size_is, sized sealed.filled, simp length-append at (ap length sealed.joined)) in
+      omega (arith, made.size_is, scheme.sized sealed.filled, simp length-append at (ap length sealed.joined)) in
       let same : sealed.cipher ≡ encrypted = sym (take_at sealed.cipher tag (length encrypted) (sym size)) ∙ ap (take (length encrypted)) (sym sealed.joined) ∙ take_at encrypted made.checksum (length encrypted) refl in
       record { of_octets = sealed.of_octets; filled = sealed.filled; fill_is = sealed.fill_is; enciphered = subst (enciphers sealed.filled) same sealed.enciphered }
 
@@ -121,69 +138,78 @@ module _ (fill : ℕ) (enciphers : List ℕ → List ℕ → Type 0) (mac : List
       → Enciphers (IsSealedBy fill enciphers mac) h confounder payload encrypted
   enciphers_to confounder payload filled encrypted is octets held = record {
     checksum = mac filled;
-    size_is = sized filled;
+    size_is = scheme.sized filled;
     means = record { of_octets = IsFill-front fill (confounder ++ payload) filled is octets; filled = filled; fill_is = is; cipher = encrypted; enciphered = held; joined = refl };
   }
 
   -- what is encrypted is the one list that is
-  pub enciphers_one : (integrity_key confounder payload filled encrypted ki : List ℕ) → ((p c d : List ℕ) → enciphers p c → enciphers p d → c ≡ d)
+  pub enciphers_one : (confounder payload filled encrypted ki : List ℕ)
       → IsEnciphered fill enciphers integrity_key confounder payload filled encrypted ki → IsTheOne (Enciphers (IsSealedBy fill enciphers mac) h confounder payload) encrypted
-  enciphers_one integrity_key confounder payload filled encrypted ki same e = record {
+  enciphers_one confounder payload filled encrypted ki e = record {
     holds = enciphers_to confounder payload filled encrypted e.fill_is e.octets e.enciphered;
     only = λ other made.
         let from : IsMade confounder payload other = made_from confounder payload other made in
         let one : from.filled ≡ filled = IsFill-one fill (confounder ++ payload) from.filled filled from.fill_is e.fill_is in
-        same filled other encrypted (subst (λ p. enciphers p other) one from.enciphered) e.enciphered;
+        scheme.same filled other encrypted (subst (λ p. enciphers p other) one from.enciphered) e.enciphered;
   }
 
   -- what is decrypted is the one confounder and payload
-  pub deciphers : 0 < fill → (n : ℕ) → n % fill ≡ 0 → (integrity_key bytes filled ki : List ℕ) → IsDeciphered fill n h enciphers integrity_key bytes filled ki
+  pub deciphers : (bytes filled ki : List ℕ) → IsDeciphered fill n h enciphers integrity_key bytes filled ki
       → Deciphers fill n (Enciphers (IsSealedBy fill enciphers mac) h) (take (length bytes - h) bytes) (take n filled) (drop n filled)
-  deciphers some n multiple integrity_key bytes filled ki d =
+  deciphers bytes filled ki d =
       let encrypted : List ℕ = take (length bytes - h) bytes in
       record {
         size_is = length-take-le n filled d.front;
-        whole = rest_is_whole n some multiple filled d.front d.whole;
+        whole = rest_is_whole filled d.front d.whole;
         exactly = λ other payload size. (
           (λ made.
               let from : IsMade other payload (take (length bytes - h) bytes) = made_from other payload (take (length bytes - h) bytes) made in
               let e : from.filled ≡ filled = d.only from.filled (IsFill-octets fill (other ++ payload) from.filled from.fill_is from.of_octets) from.enciphered in
               let all : IsFill fill (other ++ payload) filled = subst (IsFill fill (other ++ payload)) e from.fill_is in (
                 sym (ap (take n) (all.joined ∙ append_assoc other payload (replicate all.zeros 0)) ∙ take_at other (payload ++ replicate all.zeros 0) n size),
-                fill_behind n multiple other payload filled size all,
+                fill_behind other payload filled size all,
               )),
           (λ both.
-              let all : IsFill fill (take n filled ++ payload) filled = fill_before n multiple payload filled d.front both.1 in
+              let all : IsFill fill (take n filled ++ payload) filled = fill_before payload filled d.front both.1 in
               let here : IsFill fill (other ++ payload) filled = subst (λ front. IsFill fill (front ++ payload) filled) (sym both.0) all in
               enciphers_to other payload filled (take (length bytes - h) bytes) here d.of_octets d.enciphered),
         );
       }
 
+  -- and its octets are those in front of the checksum
+  pub splits : (bytes filled ki confounder plaintext checksum : List ℕ) → IsDeciphered fill n h enciphers integrity_key bytes filled ki
+      → (confounder ≡ take n filled) × (plaintext ≡ drop n filled) × (checksum ≡ end_of h bytes)
+      → (encrypted : List ℕ) × IsSplit h bytes encrypted checksum × Deciphers fill n (Enciphers (IsSealedBy fill enciphers mac) h) encrypted confounder plaintext
+  splits bytes filled ki confounder plaintext checksum d is = (
+    take (length bytes - h) bytes,
+    split_end bytes checksum h (omega (arith, d.long)) is.2,
+    rw (is.0, is.1) (deciphers bytes filled ki d),
+  )
+
   -- ---- what is too short, or not of whole blocks
 
-  module _ (n : ℕ) (Shape : ℕ → Type 0) (shaped : (p c : List ℕ) → IsOctets p → n ≤ length p → enciphers p c → Shape (length c)) where
-    fill_long : (confounder payload filled : List ℕ) → length confounder ≡ n → IsFill fill (confounder ++ payload) filled → n ≤ length filled
-    fill_long confounder payload filled size is =
-        omega (arith, size, simp length-append at (ap length is.joined))
+  fill_long : (confounder payload filled : List ℕ) → length confounder ≡ n → IsFill fill (confounder ++ payload) filled → n ≤ length filled
+  fill_long confounder payload filled size is =
+      omega (arith, size, simp length-append at (ap length is.joined))
 
-    -- nothing is enciphered to it
-    pub none_enciphered : (encrypted : List ℕ) → ¬ Shape (length encrypted) → IsOfNone (IsGiven (Enciphers (IsSealedBy fill enciphers mac) h) n encrypted)
-    none_enciphered encrypted other payload given =
-        let from : IsMade given.confounder payload encrypted = made_from given.confounder payload encrypted given.means in
-        other (shaped from.filled encrypted (IsFill-octets fill (given.confounder ++ payload) from.filled from.fill_is from.of_octets) (fill_long given.confounder payload from.filled given.size_is from.fill_is) from.enciphered)
+  -- nothing is enciphered to it
+  pub none_enciphered : (encrypted : List ℕ) → ¬ Shape (length encrypted) → IsOfNone (IsGiven (Enciphers (IsSealedBy fill enciphers mac) h) n encrypted)
+  none_enciphered encrypted other payload given =
+      let from : IsMade given.confounder payload encrypted = made_from given.confounder payload encrypted given.means in
+      other (scheme.shaped from.filled encrypted (IsFill-octets fill (given.confounder ++ payload) from.filled from.fill_is from.of_octets) (fill_long given.confounder payload from.filled given.size_is from.fill_is) from.enciphered)
 
-    -- nothing is sealed to what has it in front of h octets
-    pub none_shaped : (bytes : List ℕ) → ¬ ((h ≤ length bytes) × Shape (length bytes - h)) → IsOfNone (IsGiven (IsSealedBy fill enciphers mac) n bytes)
-    none_shaped bytes other payload given =
-        let sealed = given.means in
-        let shape : Shape (length sealed.cipher) = shaped sealed.filled sealed.cipher (filled_octets bytes given.confounder payload sealed) (fill_long given.confounder payload sealed.filled given.size_is sealed.fill_is) sealed.enciphered in
-        let size : length bytes ≡ length sealed.cipher + h = ap length sealed.joined ∙ length-append sealed.cipher (mac sealed.filled) ∙ ap (λ (k : ℕ). length sealed.cipher + k) (sized sealed.filled) in
-        let front : length sealed.cipher ≡ length bytes - h = omega (arith, size) in
-        other (omega (arith, size), subst Shape front shape)
+  -- nothing is sealed to what has it in front of h octets
+  pub none_shaped : (bytes : List ℕ) → ¬ ((h ≤ length bytes) × Shape (length bytes - h)) → IsOfNone (IsGiven (IsSealedBy fill enciphers mac) n bytes)
+  none_shaped bytes other payload given =
+      let sealed = given.means in
+      let shape : Shape (length sealed.cipher) = scheme.shaped sealed.filled sealed.cipher (filled_octets bytes given.confounder payload sealed) (fill_long given.confounder payload sealed.filled given.size_is sealed.fill_is) sealed.enciphered in
+      let size : length bytes ≡ length sealed.cipher + h = ap length sealed.joined ∙ length-append sealed.cipher (mac sealed.filled) ∙ ap (λ (k : ℕ). length sealed.cipher + k) (scheme.sized sealed.filled) in
+      let front : length sealed.cipher ≡ length bytes - h = omega (arith, size) in
+      other (omega (arith, size), subst Shape front shape)
 
-    pub none_split : (bytes : List ℕ) → ¬ ((h ≤ length bytes) × Shape (length bytes - h)) → (encrypted checksum : List ℕ) → IsSplit h bytes encrypted checksum
-        → IsOfNone (IsGiven (Enciphers (IsSealedBy fill enciphers mac) h) n encrypted)
-    none_split bytes other encrypted checksum split =
-        let size : length bytes ≡ length encrypted + h = ap length split.joined ∙ length-append encrypted checksum ∙ ap (λ (k : ℕ). length encrypted + k) split.size_is in
-        let front : length encrypted ≡ length bytes - h = omega (arith, size) in
-        none_enciphered encrypted (λ shape. other (omega (arith, size), subst Shape front shape))
+  pub none_split : (bytes : List ℕ) → ¬ ((h ≤ length bytes) × Shape (length bytes - h)) → (encrypted checksum : List ℕ) → IsSplit h bytes encrypted checksum
+      → IsOfNone (IsGiven (Enciphers (IsSealedBy fill enciphers mac) h) n encrypted)
+  none_split bytes other encrypted checksum split =
+      let size : length bytes ≡ length encrypted + h = ap length split.joined ∙ length-append encrypted checksum ∙ ap (λ (k : ℕ). length encrypted + k) split.size_is in
+      let front : length encrypted ≡ length bytes - h = omega (arith, size) in
+      none_enciphered encrypted (λ shape. other (omega (arith, size), subst Shape front shape))

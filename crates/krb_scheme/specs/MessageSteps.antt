@@ -1,6 +1,15 @@
 -- What the message calls keep between their steps.
-use Rattle.std.specs.Prelude.{◌≡◌, ℕ, ◌+◌, ◌-◌, ◌%◌, ◌≤◌, List, ◌++◌, length, take}
+use Rattle.std.specs.Prelude.{◌≡◌, ℕ, ◌+◌, ◌-◌, ◌%◌, ◌≤◌, List, ◌++◌, length, take, drop}
+use Rattle.krb_block.specs.Hmac.{hmac}
 use Rattle.krb_block.specs.Modes.{IsOctets, IsFill}
+
+-- the first size octets of an HMAC
+abbrev pub cut_mac : ℕ → List ℕ → List ℕ → List ℕ
+cut_mac size key message = take size (hmac key message)
+
+-- the last size of the octets
+abbrev pub end_of : ℕ → List ℕ → List ℕ
+end_of size octets = drop (length octets - size) octets
 
 -- confounder and payload, filled to a multiple of fill octets and enciphered, and the key Ki
 pub record IsEnciphered (fill : ℕ) (enciphers : List ℕ → List ℕ → Type 0) (integrity_key confounder payload filled encrypted ki : List ℕ) : Type 0 where

@@ -2,6 +2,7 @@
 #![tactic(auto)]
 
 pub mod aes;
+mod checksum;
 pub mod des;
 pub mod laws;
 mod octets;

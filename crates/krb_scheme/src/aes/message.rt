@@ -8,12 +8,13 @@ ghost use Rattle.krb_scheme.specs.Sealed.{IsSealedAes, AesCts, aes_ki, aes_refus
 ghost use Rattle.krb_scheme.specs.Sealing.{IsTheOne, IsOfNone, IsGiven, Opens, Enciphers, IsSplit, Deciphers};
 
 use super::key_derivation::derive_key;
+use crate::checksum::{Deciphered, Enciphered};
 use crate::octets::are_octets;
 use crate::well_known::{usage_ke, usage_ki};
 use crate::without_checksum::{DecryptWithoutChecksum, EncryptWithoutChecksum};
 use krb_block::{
     AES_BLOCK_SIZE, AES_MAC_SIZE, AesSize, KerberosCryptoError, KerberosCryptoResult,
-    decrypt_aes_cts, encrypt_aes_cts, hmac_sha1,
+    decrypt_aes_cts, encrypt_aes_cts,
 };
 use std::alloc::Global;
 
@@ -36,10 +37,7 @@ pub fn encrypt_message(
     ensures refused { IfErr result (RefusesKey (key_octets size.now) key.now) }
 {
     let enciphered = encipher(alloc, key, key_usage, payload, &confounder, size)?;
-    let mac = hmac_sha1(alloc, &enciphered.ki, &enciphered.joined, AES_MAC_SIZE)?;
-    let mut sealed = enciphered.encrypted;
-    sealed.extend_from_slice(&mac)?;
-    Ok(sealed)
+    enciphered.with_checksum(alloc, AES_MAC_SIZE)
 }
 
 /// The payload that was encrypted to these octets.
@@ -59,13 +57,7 @@ pub fn decrypt_message(
     ensures exact { IfErr result (λ e. IsMemoryOr e (e ≡ aes_refusal (key_octets size.now) key.now cipher_data.now)) }
 {
     let deciphered = decipher(alloc, key, key_usage, cipher_data, size)?;
-    let mac = hmac_sha1(alloc, &deciphered.ki, &deciphered.joined, AES_MAC_SIZE)?;
-    let checksum = &cipher_data[cipher_data.len() - AES_MAC_SIZE..];
-    if mac.as_slice() != checksum {
-        return Err(KerberosCryptoError::IntegrityCheck);
-    }
-    let payload = &deciphered.joined[AES_BLOCK_SIZE..];
-    Ok(Vec::from_slice(alloc, payload)?)
+    deciphered.checked(alloc, cipher_data, AES_BLOCK_SIZE, AES_MAC_SIZE)
 }
 
 /// What `encrypt_message` makes, without the checksum; with it the confounder and Ki.
@@ -84,12 +76,7 @@ pub fn encrypt_message_no_checksum(
     ensures refused { IfErr result (RefusesKey (key_octets size.now) key.now) }
 {
     let enciphered = encipher(alloc, key, key_usage, payload, &confounder, size)?;
-    let confounder = Vec::from_slice(alloc, &confounder)?;
-    Ok(EncryptWithoutChecksum {
-        encrypted: enciphered.encrypted,
-        confounder,
-        ki: enciphered.ki,
-    })
+    enciphered.without_checksum(alloc, &confounder)
 }
 
 /// What the octets without their last 12 decrypt to, these 12 octets, which are not compared, and Ki.
@@ -109,28 +96,10 @@ pub fn decrypt_message_no_checksum(
     ensures exact { IfErr result (λ e. IsMemoryOr e ((e ≡ aes_refusal (key_octets size.now) key.now cipher_data.now) × (e ≢ KerberosCryptoError.IntegrityCheck))) }
 {
     let deciphered = decipher(alloc, key, key_usage, cipher_data, size)?;
-    let front = &deciphered.joined[..AES_BLOCK_SIZE];
-    let confounder = Vec::from_slice(alloc, front)?;
-    let rest = &deciphered.joined[AES_BLOCK_SIZE..];
-    let plaintext = Vec::from_slice(alloc, rest)?;
-    let end = &cipher_data[cipher_data.len() - AES_MAC_SIZE..];
-    let checksum = Vec::from_slice(alloc, end)?;
-    Ok(DecryptWithoutChecksum {
-        plaintext,
-        confounder,
-        checksum,
-        ki: deciphered.ki,
-    })
+    deciphered.unchecked(alloc, cipher_data, AES_BLOCK_SIZE, AES_MAC_SIZE)
 }
 
-#[derive(Drop)]
-struct Enciphered {
-    joined: Vec<u8>,
-    encrypted: Vec<u8>,
-    ki: Vec<u8>,
-}
-
-/// Confounder and payload joined, and encrypted under Ke.
+/// Confounder and payload joined, which AES does not fill, and encrypted under Ke.
 fn encipher(
     alloc: Global,
     key: &[u8],
@@ -140,27 +109,21 @@ fn encipher(
     size: &AesSize,
 ) -> KerberosCryptoResult<Enciphered>
     ensures key { IfOk result (λ _. length key.now ≡ key_octets size.now) }
-    ensures enciphered { IfOk result (λ r. IsEnciphered 1 (AesCts key.now key_usage) (aes_ki key.now key_usage) confounder.now payload.now r.joined.items r.encrypted.items r.ki.items) }
+    ensures enciphered { IfOk result (λ r. IsEnciphered 1 (AesCts key.now key_usage) (aes_ki key.now key_usage) confounder.now payload.now r.filled.items r.encrypted.items r.ki.items) }
     ensures refused { IfErr result (RefusesKey (key_octets size.now) key.now) }
 {
     let ke = derive_key(alloc, key, &usage_ke(key_usage), size)?;
     let ki = derive_key(alloc, key, &usage_ki(key_usage), size)?;
-    let mut joined = Vec::with_capacity(alloc, AES_BLOCK_SIZE + payload.len())?;
-    joined.extend_from_slice(confounder)?;
-    joined.extend_from_slice(payload)?;
-    are_octets(&joined);
-    let encrypted = encrypt_aes_cts(alloc, &ke, &joined, size)?;
+    let mut filled = Vec::with_capacity(alloc, AES_BLOCK_SIZE + payload.len())?;
+    filled.extend_from_slice(confounder)?;
+    filled.extend_from_slice(payload)?;
+    are_octets(&filled);
+    let encrypted = encrypt_aes_cts(alloc, &ke, &filled, size)?;
     Ok(Enciphered {
-        joined,
+        filled,
         encrypted,
         ki,
     })
-}
-
-#[derive(Drop)]
-struct Deciphered {
-    joined: Vec<u8>,
-    ki: Vec<u8>,
 }
 
 /// What the octets without their last 12 decrypt to under Ke.
@@ -172,7 +135,7 @@ fn decipher(
     size: &AesSize,
 ) -> KerberosCryptoResult<Deciphered>
     ensures key { IfOk result (λ _. length key.now ≡ key_octets size.now) }
-    ensures deciphered { IfOk result (λ r. IsDeciphered 1 16 12 (AesCts key.now key_usage) (aes_ki key.now key_usage) cipher_data.now r.joined.items r.ki.items) }
+    ensures deciphered { IfOk result (λ r. IsDeciphered 1 16 12 (AesCts key.now key_usage) (aes_ki key.now key_usage) cipher_data.now r.filled.items r.ki.items) }
     ensures exact { IfErr result (λ e. IsMemoryOr e ((e ≡ aes_refusal (key_octets size.now) key.now cipher_data.now) × (e ≢ KerberosCryptoError.IntegrityCheck))) }
 {
     if cipher_data.len() < SHORTEST {
@@ -181,7 +144,7 @@ fn decipher(
     let ke = derive_key(alloc, key, &usage_ke(key_usage), size)?;
     let ki = derive_key(alloc, key, &usage_ki(key_usage), size)?;
     let encrypted = &cipher_data[..cipher_data.len() - AES_MAC_SIZE];
-    let joined = decrypt_aes_cts(alloc, &ke, encrypted, size)?;
-    are_octets(&joined);
-    Ok(Deciphered { joined, ki })
+    let filled = decrypt_aes_cts(alloc, &ke, encrypted, size)?;
+    are_octets(&filled);
+    Ok(Deciphered { filled, ki })
 }

@@ -7,12 +7,13 @@ ghost use Rattle.krb_scheme.specs.Sealed.{IsSealedDes3, Des3Cbc, des3_ki, des3_r
 ghost use Rattle.krb_scheme.specs.Sealing.{IsTheOne, IsOfNone, IsGiven, Opens, Enciphers, IsSplit, Deciphers};
 
 use super::key_derivation::derive_key;
+use crate::checksum::{Deciphered, Enciphered};
 use crate::octets::are_octets;
 use crate::well_known::{usage_ke, usage_ki};
 use crate::without_checksum::{DecryptWithoutChecksum, EncryptWithoutChecksum};
 use krb_block::{
     DES3_BLOCK_SIZE, DES3_MAC_SIZE, KerberosCryptoError, KerberosCryptoResult, decrypt_des,
-    encrypt_des, fill_blocks, hmac_sha1,
+    encrypt_des, fill_blocks,
 };
 use std::alloc::Global;
 
@@ -35,13 +36,10 @@ pub fn encrypt_message(
     ensures refused { IfErr result (RefusesKey 24 key.now) }
 {
     let enciphered = encipher(alloc, key, key_usage, payload, &confounder)?;
-    let mac = hmac_sha1(alloc, &enciphered.ki, &enciphered.filled, DES3_MAC_SIZE)?;
-    let mut sealed = enciphered.encrypted;
-    sealed.extend_from_slice(&mac)?;
-    Ok(sealed)
+    enciphered.with_checksum(alloc, DES3_MAC_SIZE)
 }
 
-/// The payload that was encrypted to these octets, with the zeros that it was filled with.
+/// The payload that was encrypted to these octets, with its fill, whatever that is.
 ///
 /// `KeyLength` where the key has not 24 octets, then `CipherLength` of their number and 28 where they are fewer, then
 /// `CipherUnpad` where those in front of the last 20 are not whole blocks of 8, then `IntegrityCheck` where the checksum
@@ -58,13 +56,7 @@ pub fn decrypt_message(
     ensures exact { IfErr result (λ e. IsMemoryOr e (e ≡ des3_refusal key.now cipher_data.now)) }
 {
     let deciphered = decipher(alloc, key, key_usage, cipher_data)?;
-    let mac = hmac_sha1(alloc, &deciphered.ki, &deciphered.filled, DES3_MAC_SIZE)?;
-    let checksum = &cipher_data[cipher_data.len() - DES3_MAC_SIZE..];
-    if mac.as_slice() != checksum {
-        return Err(KerberosCryptoError::IntegrityCheck);
-    }
-    let payload = &deciphered.filled[DES3_BLOCK_SIZE..];
-    Ok(Vec::from_slice(alloc, payload)?)
+    deciphered.checked(alloc, cipher_data, DES3_BLOCK_SIZE, DES3_MAC_SIZE)
 }
 
 /// What `encrypt_message` makes, without the checksum; with it the confounder and Ki.
@@ -82,16 +74,11 @@ pub fn encrypt_message_no_checksum(
     ensures refused { IfErr result (RefusesKey 24 key.now) }
 {
     let enciphered = encipher(alloc, key, key_usage, payload, &confounder)?;
-    let confounder = Vec::from_slice(alloc, &confounder)?;
-    Ok(EncryptWithoutChecksum {
-        encrypted: enciphered.encrypted,
-        confounder,
-        ki: enciphered.ki,
-    })
+    enciphered.without_checksum(alloc, &confounder)
 }
 
-/// What the octets without their last 20 decrypt to, with the zeros of the fill, these 20 octets, which are not compared,
-/// and Ki.
+/// What the octets without their last 20 decrypt to, with the fill, whatever that is, these 20 octets, which are not
+/// compared, and Ki.
 ///
 /// `KeyLength`, `CipherLength` and `CipherUnpad` as in `decrypt_message`, in this order.
 pub fn decrypt_message_no_checksum(
@@ -107,25 +94,7 @@ pub fn decrypt_message_no_checksum(
     ensures exact { IfErr result (λ e. IsMemoryOr e ((e ≡ des3_refusal key.now cipher_data.now) × (e ≢ KerberosCryptoError.IntegrityCheck))) }
 {
     let deciphered = decipher(alloc, key, key_usage, cipher_data)?;
-    let front = &deciphered.filled[..DES3_BLOCK_SIZE];
-    let confounder = Vec::from_slice(alloc, front)?;
-    let rest = &deciphered.filled[DES3_BLOCK_SIZE..];
-    let plaintext = Vec::from_slice(alloc, rest)?;
-    let end = &cipher_data[cipher_data.len() - DES3_MAC_SIZE..];
-    let checksum = Vec::from_slice(alloc, end)?;
-    Ok(DecryptWithoutChecksum {
-        plaintext,
-        confounder,
-        checksum,
-        ki: deciphered.ki,
-    })
-}
-
-#[derive(Drop)]
-struct Enciphered {
-    filled: Vec<u8>,
-    encrypted: Vec<u8>,
-    ki: Vec<u8>,
+    deciphered.unchecked(alloc, cipher_data, DES3_BLOCK_SIZE, DES3_MAC_SIZE)
 }
 
 /// Confounder and payload joined, filled to whole blocks, and encrypted under Ke.
@@ -153,12 +122,6 @@ fn encipher(
         encrypted,
         ki,
     })
-}
-
-#[derive(Drop)]
-struct Deciphered {
-    filled: Vec<u8>,
-    ki: Vec<u8>,
 }
 
 /// What the octets without their last 20 decrypt to under Ke.

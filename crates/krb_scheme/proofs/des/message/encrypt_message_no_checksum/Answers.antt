@@ -1,10 +1,9 @@
 use Rattle.std.proofs.lemmas.Int.{to_z-of_z}
-use Rattle.krb_scheme.specs.MessageSteps.{IsEnciphered}
-use Rattle.krb_block.specs.Hmac.{hmac}
-use Rattle.krb_block.proofs.HmacSteps.{hmac_size}
+use Rattle.std.proofs.lemmas.Result.{IfOk-weaker}
 use Rattle.krb_scheme.specs.Sealed.{Des3Cbc, des3_ki}
-use Rattle.krb_scheme.proofs.Messages.{Des3Cbc-same}
+use Rattle.krb_scheme.specs.MessageSteps.{IsEnciphered}
 use Rattle.krb_scheme.proofs.Opening.{enciphers_one}
+use Rattle.krb_scheme.proofs.Messages.{des3_scheme}
 use Rattle.krb_scheme.proofs.des.message.encrypt_message_no_checksum.Goals as goal
 
 pub returns-clause-encrypted : goal.returns-clause-encrypted
@@ -14,5 +13,4 @@ returns-clause-encrypted c =
     let usage = c.args.key_usage in
     let made = c.in_ok-enciphered.enciphered in
     let e : IsEnciphered 8 (Des3Cbc key usage) (des3_ki key usage) c.args.confounder c.args.payload.now made.filled.items made.encrypted.items made.ki.items = simp to_z-of_z at c.in_ok-enciphered.ensures.enciphered in
-    enciphers_one 8 (Des3Cbc key usage) (hmac (des3_ki key usage)) 20 (hmac_size (des3_ki key usage)) (des3_ki key usage) c.args.confounder c.args.payload.now made.filled.items made.encrypted.items made.ki.items
-    (Des3Cbc-same key usage) e
+    IfOk-weaker c.without_checksum.result _ _ (λ written same. rw same (enciphers_one (des3_scheme key usage) c.args.confounder c.args.payload.now made.filled.items made.encrypted.items made.ki.items e)) c.without_checksum.ensures.encrypted
