@@ -1,5 +1,5 @@
 -- Reading values in a row.
-use Rattle.std.proofs.Common.{◌≡◌, ℕ, zero, suc, eqb, false, ◌<◌, ◌^◌, Bool, List, [], ◌∷◌, ◌++◌, length, drop, refl, sym, ap, ◌∙◌, append_assoc, arith}
+use Rattle.std.proofs.Common.{◌≡◌, ℕ, zero, suc, eqb, false, ◌<◌, ◌^◌, Bool, List, [], ◌∷◌, ◌++◌, length, refl, sym, ap, ◌∙◌, append_assoc, arith}
 use Rattle.std.proofs.lemmas.List.{append-nil, length-append}
 use Rattle.std.specs.List.{flat_map, AllByRecursion}
 use Rattle.krb_leaves.specs.declared.error.Asn1DerError.{Asn1DerError}
@@ -21,15 +21,6 @@ flat_map-push f [] y = append-nil (f y)
 flat_map-push f (x ∷ xs) y = ap (λ (l : List ℕ). f x ++ l) (flat_map-push f xs y) ∙ sym (append_assoc (f x) (flat_map f xs) (f y))
 
 module _ {A : Type 0} (enc : A → List ℕ) (is_value : A → Type 0) where
-  pub read_none : (input : List ℕ) → ReadSoFar enc is_value [] input input
-  read_none input = record { values = tt; parts = refl }
-
-  pub read_more : (items : List A) (x : A) (n : ℕ) (rest input : List ℕ) → is_value x → TakesFront (enc x) n rest → ReadSoFar enc is_value items rest input → ReadSoFar enc is_value (items ++ x ∷ []) (drop n rest) input
-  read_more items x n rest input hx f r = record {
-    values = All-push is_value items x r.values hx;
-    parts = r.parts ∙ ap (λ (l : List ℕ). flat_map enc items ++ l) f.front ∙ sym (append_assoc (flat_map enc items) (enc x) (drop n rest)) ∙ ap (λ (l : List ℕ). l ++ drop n rest) (sym (flat_map-push enc items x));
-  }
-
   pub read_all : (items : List A) (rest input : List ℕ) → length rest ≡ 0 → ReadSoFar enc is_value items rest input → input ≡ flat_map enc items
   read_all items [] input e r = r.parts ∙ append-nil (flat_map enc items)
   read_all items (i ∷ is) input e r = absurd (omega arith)

@@ -187,16 +187,6 @@ texts_5 f (x ∷ y ∷ z ∷ w ∷ v ∷ []) a b c d e long ea eb ec ed ee = rw 
 texts_5 f (x ∷ y ∷ z ∷ w ∷ v ∷ u ∷ rest) a b c d e long ea eb ec ed ee = absurd (omega (arith, long))
 
 -- words that are of no command
-
-pub not_check : (word : List ℕ) → word ≢ codes "check" → AreNoWords (word ∷ [])
-not_check word other = (other, λ n is. is)
-
-pub not_open : (word etype keyhex usage : List ℕ) → word ≢ codes "open" → AreNoWords (word ∷ etype ∷ keyhex ∷ usage ∷ [])
-not_open word etype keyhex usage other = (λ are. other are.0, λ n is. other is.0)
-
-pub not_seal : (word etype keyhex usage confhex : List ℕ) → word ≢ codes "seal" → AreNoWords (word ∷ etype ∷ keyhex ∷ usage ∷ confhex ∷ [])
-not_seal word etype keyhex usage confhex other = (λ are. other are.0, λ n is. other is.0)
-
 pub not_so_many : {X : Type 0} (f : X → List ℕ) (ws : List X) → length ws ≢ 1 → length ws ≢ 4 → length ws ≢ 5 → AreNoWords (map f ws)
 not_so_many f [] h1 h4 h5 = (λ are. are, λ n is. is)
 not_so_many f (x ∷ []) h1 h4 h5 = absurd (h1 refl)
