@@ -8,8 +8,8 @@ use Rattle.krb_scheme.specs.Sealing.{IsGiven, IsOfNone, IsTheOne, Opens, Enciphe
 use Rattle.krb_scheme.specs.Sealed.{IsSealedBy}
 use Rattle.krb_scheme.specs.MessageSteps.{cut_mac, end_of, IsEnciphered, IsDeciphered}
 
--- what is asked of a scheme: payloads are filled to multiples of fill octets, confounders have n and checksums h; what is
--- enciphered, and the first h octets of the HMAC under the integrity key; and which lengths enciphered octets have
+-- what is asked of a scheme: confounders of n octets are whole fills; its checksum is the first h octets of the HMAC under the
+-- integrity key; no list is enciphered to two; and enciphered octets have a length of this shape
 pub record IsScheme (fill n h : ℕ) (enciphers : List ℕ → List ℕ → Type 0) (mac : List ℕ → List ℕ) (integrity_key : List ℕ) (Shape : ℕ → Type 0) : Type 0 where
   pub some : 0 < fill
   pub multiple : n % fill ≡ 0

@@ -1,4 +1,4 @@
-//! The checksum behind the encrypted octets of a message, alike under every suite (RFC 3961, 5.3).
+//! The checksum behind the encrypted octets of a message, alike under AES and under triple DES (RFC 3961, 5.3).
 
 ghost use Rattle.std.specs.Prelude.{◌≡◌, ◌≢◌, ◌≤◌, length, take, drop, ◌++◌, IfOk, IfErr};
 ghost use Rattle.krb_block.specs.CryptoError.{IsMemoryOr};
