@@ -9,6 +9,7 @@ mod des;
 mod des_modes;
 mod error;
 mod hmac;
+pub mod laws;
 mod nfold;
 mod pbkdf2;
 mod stealing;

@@ -37,6 +37,16 @@ split_end bytes end h long e = record {
   size_is = ap length e ∙ omega (arith, long, length-drop (length bytes - h) bytes);
 }
 
+-- what a payload was sealed to is opened to its fill
+pub opened_as : (fill : ℕ) (meaning : List ℕ → List ℕ → List ℕ → Type 0) (n : ℕ) (confounder payload octets opened : List ℕ) → length confounder ≡ n → meaning confounder payload octets
+    → Opens fill (IsGiven meaning n octets) opened → IsFill fill payload opened
+opened_as fill meaning n confounder payload octets opened size sealed opens = (opens.exactly payload).0 (record { confounder = confounder; size_is = size; means = sealed })
+
+-- and it is not what nothing is sealed to
+pub not_of_none : (meaning : List ℕ → List ℕ → List ℕ → Type 0) (n : ℕ) (confounder payload octets : List ℕ) → length confounder ≡ n → meaning confounder payload octets
+    → ¬ (IsOfNone (IsGiven meaning n octets))
+not_of_none meaning n confounder payload octets size sealed none = none payload (record { confounder = confounder; size_is = size; means = sealed })
+
 module _ {fill n h : ℕ} {enciphers : List ℕ → List ℕ → Type 0} {mac : List ℕ → List ℕ} {integrity_key : List ℕ} {Shape : ℕ → Type 0} (scheme : IsScheme fill n h enciphers mac integrity_key Shape) where
   -- what is sealed ends in the MAC of the one list that its front deciphers to
   cut : (bytes confounder payload : List ℕ) (sealed : IsSealedBy fill enciphers mac confounder payload bytes)

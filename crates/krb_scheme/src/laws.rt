@@ -1,8 +1,12 @@
-//! What holds of each key that random octets give: laws over the definitions, of functions that do nothing.
+//! Laws over the definitions, of functions that do nothing: what each key that random octets give is, and that what was
+//! sealed is opened to its payload. The contracts of the message calls turn these into sentences about what they answer.
 
-ghost use Rattle.std.specs.Prelude.{◌≡◌, ◌*◌, ◌<◌, ℕ, length, take, drop};
+ghost use Rattle.std.specs.Prelude.{◌≡◌, ◌*◌, ◌<◌, ℕ, ℤ, List, length, take, drop};
 ghost use Rattle.std.specs.List.{All, Contains};
+ghost use Rattle.krb_block.specs.Modes.{IsFill};
 ghost use Rattle.krb_scheme.specs.RandomToKey.{random_to_key, HasOddParity, weak_keys};
+ghost use Rattle.krb_scheme.specs.Sealed.{IsSealedAes, IsSealedDes3};
+ghost use Rattle.krb_scheme.specs.Sealing.{IsOfNone, IsGiven, Opens};
 
 /// A key of triple DES has 24 octets, each with an odd number of ones, and none of its three keys of DES is weak
 /// (RFC 3961, 6.3.1).
@@ -10,4 +14,22 @@ pub fn des3_keys_are_sound(seed: &[u8])
     ensures size { length (random_to_key seed.now) ≡ 24 }
     ensures odd { All HasOddParity (random_to_key seed.now) }
     ensures strong { (part : ℕ) → part < 3 → ¬ (Contains weak_keys (take 8 (drop (8 * part) (random_to_key seed.now)))) }
+{}
+
+/// What was sealed under AES is opened to its payload, whatever the confounder, and is not refused (RFC 3961, 5.3; RFC 3962,
+/// 6).
+pub fn aes_opens_what_was_sealed()
+    ensures opened { (key : List ℕ) (usage : ℤ) (confounder payload octets opened : List ℕ) → length confounder ≡ 16 → IsSealedAes key usage confounder payload octets
+        → Opens 1 (IsGiven (IsSealedAes key usage) 16 octets) opened → opened ≡ payload }
+    ensures kept { (key : List ℕ) (usage : ℤ) (confounder payload octets : List ℕ) → length confounder ≡ 16 → IsSealedAes key usage confounder payload octets
+        → ¬ (IsOfNone (IsGiven (IsSealedAes key usage) 16 octets)) }
+{}
+
+/// What was sealed under triple DES is opened to its payload, filled with zeros to a multiple of 8 octets, whatever the
+/// confounder, and is not refused (RFC 3961, 5.3 and 6.3).
+pub fn des3_opens_what_was_sealed()
+    ensures opened { (key : List ℕ) (usage : ℤ) (confounder payload octets opened : List ℕ) → length confounder ≡ 8 → IsSealedDes3 key usage confounder payload octets
+        → Opens 8 (IsGiven (IsSealedDes3 key usage) 8 octets) opened → IsFill 8 payload opened }
+    ensures kept { (key : List ℕ) (usage : ℤ) (confounder payload octets : List ℕ) → length confounder ≡ 8 → IsSealedDes3 key usage confounder payload octets
+        → ¬ (IsOfNone (IsGiven (IsSealedDes3 key usage) 8 octets)) }
 {}
