@@ -3,11 +3,11 @@ use Rattle.std.specs.Prelude.{◌≡◌, ℕ, ◌+◌, ◌-◌, ◌%◌, ◌≤�
 use Rattle.krb_block.specs.Hmac.{hmac}
 use Rattle.krb_block.specs.Modes.{IsOctets, IsFill}
 
--- the first size octets of an HMAC
+-- the first size octets of an HMAC (RFC 2104, 5; RFC 3961, 5.3, "H1[1..h]")
 abbrev pub cut_mac : ℕ → List ℕ → List ℕ → List ℕ
 cut_mac size key message = take size (hmac key message)
 
--- the last size of the octets
+-- the last size of the octets, where a checksum stands (RFC 3961, 5.3)
 abbrev pub end_of : ℕ → List ℕ → List ℕ
 end_of size octets = drop (length octets - size) octets
 
