@@ -5,9 +5,8 @@ use Rattle.std.proofs.lemmas.List.{append_cancel_left, take_rest}
 use Rattle.krb_leaves.specs.Encoding.{IsElement, OneValue, BeginsWith, Apart, optional}
 use Rattle.krb_leaves.specs.Reading.{TakesFront}
 use Rattle.krb_leaves.specs.TlvLaws.{field_apart, element_begins}
-use Rattle.krb_der.specs.declared.fields.Field.{Field}
-use Rattle.krb_der.specs.declared.fields.OptionalField.{OptionalField}
-use Rattle.krb_der.specs.FieldLaws.{element_first, element_long, same_field, same_optional}
+use Rattle.krb_der.specs.declared.optional.Optional.{Optional}
+use Rattle.krb_der.specs.FieldLaws.{element_first, element_long, same_optional}
 
 -- ---- one field
 
@@ -21,19 +20,19 @@ module _ {A : Type 0} (enc : A → List ℕ) (is_value : A → Type 0) (first : 
   none_there input other (Some v) y h q = absurd (starts_some input (enc v ++ y) (element_first first (enc v) y (element v h)) (element_long first (enc v) y (element v h)) q other)
 
   -- where the input does not begin with a field's first octet, the field is absent
-  pub none_read : (input : List ℕ) → (0 < length input → first (get_or input 0 0) ≡ true → ⊥) → (v w : OptionalField A) (y : List ℕ) → v.0 ≡ None → IfSome w.0 is_value → input ≡ optional enc w.0 ++ y → v ≡ w
+  pub none_read : (input : List ℕ) → (0 < length input → first (get_or input 0 0) ≡ true → ⊥) → (v w : Optional (Option A)) (y : List ℕ) → v.0 ≡ None → IfSome w.0 is_value → input ≡ optional enc w.0 ++ y → v ≡ w
   none_read input other v w y e h q = same_optional v w (e ∙ none_there input other w.0 y h q)
 
   module _ (one : OneValue is_value enc) where
-    pub field_read : (a : A) (n : ℕ) (input : List ℕ) (v w : Field A) (y : List ℕ) → is_value a → TakesFront (enc a) n input → v.0 ≡ a → is_value w.0 → input ≡ enc w.0 ++ y → v ≡ w
-    field_read a n input v w y ha f e h q = same_field v w (e ∙ (field_apart enc is_value first element one a w.0 (drop n input) y ha h (sym f.front ∙ q)).0)
+    pub field_read : (a : A) (n : ℕ) (input : List ℕ) (w : A) (y : List ℕ) → is_value a → TakesFront (enc a) n input → is_value w → input ≡ enc w ++ y → a ≡ w
+    field_read a n input w y ha f h q = (field_apart enc is_value first element one a w (drop n input) y ha h (sym f.front ∙ q)).0
 
     some_there : (follow : ℕ → Bool) → Apart first follow → (a : A) (n : ℕ) (input : List ℕ) → is_value a → TakesFront (enc a) n input → (o : Option A) (y : List ℕ) → IfSome o is_value → BeginsWith follow y → input ≡ optional enc o ++ y → Some a ≡ o
     some_there follow told a n input ha f None y h hy q = absurd (element_begins first follow (enc a) y (drop n input) (element a ha) hy told (sym f.front ∙ q))
     some_there follow told a n input ha f (Some v) y h hy q = ap Some (field_apart enc is_value first element one a v (drop n input) y ha h (sym f.front ∙ q)).0
 
     -- a field that was read is there
-    pub some_read : (follow : ℕ → Bool) → Apart first follow → (a : A) (n : ℕ) (input : List ℕ) (v w : OptionalField A) (y : List ℕ) → is_value a → TakesFront (enc a) n input → v.0 ≡ Some a → IfSome w.0 is_value → BeginsWith follow y → input ≡ optional enc w.0 ++ y → v ≡ w
+    pub some_read : (follow : ℕ → Bool) → Apart first follow → (a : A) (n : ℕ) (input : List ℕ) (v w : Optional (Option A)) (y : List ℕ) → is_value a → TakesFront (enc a) n input → v.0 ≡ Some a → IfSome w.0 is_value → BeginsWith follow y → input ≡ optional enc w.0 ++ y → v ≡ w
     some_read follow told a n input v w y ha f e h hy q = same_optional v w (e ∙ some_there follow told a n input ha f w.0 y h hy q)
 
 pub not_both : (b : Bool) → false ≡ b → b ≡ true → ⊥

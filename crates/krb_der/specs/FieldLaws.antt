@@ -4,9 +4,7 @@ use Rattle.std.specs.Prelude.{IfSome}
 use Rattle.krb_leaves.specs.Tlv.{len, tlv}
 use Rattle.krb_leaves.specs.Encoding.{IsElement, OneValue, BeginsWith, Apart, optional}
 use Rattle.krb_leaves.specs.TlvLaws.{tlv_same, field_apart, optional_apart}
-use Rattle.krb_der.specs.declared.fields.Field.{Field}
-use Rattle.krb_der.specs.declared.fields.OptionalField.{OptionalField}
-use Rattle.krb_der.specs.declared.fields.Both.{Both}
+use Rattle.krb_der.specs.declared.optional.Optional.{Optional}
 use Rattle.krb_der.specs.Composite.{nothing}
 use Rattle.krb_der.specs.Grouping.{BeginSo, OneReading}
 
@@ -36,35 +34,30 @@ or_right : (f g : ℕ → Bool) (c : List ℕ) → BeginsWith g c → BeginsWith
 or_right f g [] h = tt
 or_right f g (i ∷ c) h = rw h (or_true (f i))
 
-pub same_field : {A : Type 0} (v w : Field A) → v.0 ≡ w.0 → v ≡ w
-same_field {A} v w h = let mk : A → Field A = λ a. record { 0 = a } in ap mk h
+pub same_optional : {A : Type 0} (v w : Optional (Option A)) → v.0 ≡ w.0 → v ≡ w
+same_optional {A} v w h = let mk : Option A → Optional (Option A) = λ a. record { 0 = a } in ap mk h
 
-pub same_optional : {A : Type 0} (v w : OptionalField A) → v.0 ≡ w.0 → v ≡ w
-same_optional {A} v w h = let mk : Option A → OptionalField A = λ a. record { 0 = a } in ap mk h
-
-pub same_both : {A B : Type 0} (v w : Both A B) → v.0 ≡ w.0 → v.1 ≡ w.1 → v ≡ w
-same_both {A} {B} v w h k = let mk : A → B → Both A B = λ a b. record { 0 = a; 1 = b } in ap (λ (a : A). mk a v.1) h ∙ ap (λ (b : B). mk w.0 b) k
+pub same_both : {A B : Type 0} (v w : A × B) → v.0 ≡ w.0 → v.1 ≡ w.1 → v ≡ w
+same_both {A} {B} v w h k = let mk : A → B → A × B = λ a b. (a, b) in ap (λ (a : A). mk a v.1) h ∙ ap (λ (b : B). mk w.0 b) k
 
 -- ---- one field
 
 module _ {A : Type 0} (enc : A → List ℕ) (is_value : A → Type 0) (first : ℕ → Bool) (element : (v : A) → is_value v → IsElement first (enc v)) where
-  pub field_begins : BeginSo (λ (v : Field A). is_value v.0) (λ v. enc v.0) (λ follow. first)
-  field_begins follow v x h hx = element_first first (enc v.0) x (element v.0 h)
+  pub field_begins : BeginSo is_value enc (λ follow. first)
+  field_begins follow v x h hx = element_first first (enc v) x (element v h)
 
   optional_starts : (follow : ℕ → Bool) (v : Option A) (x : List ℕ) → IfSome v is_value → BeginsWith follow x → BeginsWith (λ t. first t || follow t) (optional enc v ++ x)
   optional_starts follow None x h hx = or_right first follow x hx
   optional_starts follow (Some v) x h hx = or_left first follow (enc v ++ x) (element_first first (enc v) x (element v h))
 
-  pub optional_begins : BeginSo (λ (v : OptionalField A). IfSome v.0 is_value) (λ v. optional enc v.0) (λ follow t. first t || follow t)
+  pub optional_begins : BeginSo (λ (v : Optional (Option A)). IfSome v.0 is_value) (λ v. optional enc v.0) (λ follow t. first t || follow t)
   optional_begins follow v x h hx = optional_starts follow v.0 x h hx
 
   module _ (one : OneValue is_value enc) where
-    pub field_one_reading : OneReading (λ follow. Unit {0}) (λ (v : Field A). is_value v.0) (λ v. enc v.0)
-    field_one_reading follow told v w x y hv hw hx hy e =
-        let s = field_apart enc is_value first element one v.0 w.0 x y hv hw e in
-        (same_field v w s.0, s.1)
+    pub field_one_reading : OneReading (λ follow. Unit {0}) is_value enc
+    field_one_reading follow told v w x y hv hw hx hy e = field_apart enc is_value first element one v w x y hv hw e
 
-    pub optional_one_reading : OneReading (λ follow. Apart first follow) (λ (v : OptionalField A). IfSome v.0 is_value) (λ v. optional enc v.0)
+    pub optional_one_reading : OneReading (λ follow. Apart first follow) (λ (v : Optional (Option A)). IfSome v.0 is_value) (λ v. optional enc v.0)
     optional_one_reading follow told v w x y hv hw hx hy e =
         let s = optional_apart enc is_value first follow element one told v.0 w.0 x y hv hw hx hy e in
         (same_optional v w s.0, s.1)
@@ -72,11 +65,11 @@ module _ {A : Type 0} (enc : A → List ℕ) (is_value : A → Type 0) (first : 
 -- ---- fields behind fields
 
 module _ {A B : Type 0} (a_octets : A → List ℕ) (b_octets : B → List ℕ) (are_a : A → Type 0) (are_b : B → Type 0) (a_begins b_begins : (ℕ → Bool) → ℕ → Bool) (a_so : BeginSo are_a a_octets a_begins) (b_so : BeginSo are_b b_octets b_begins) where
-  pub both_begins : BeginSo (λ (v : Both A B). are_a v.0 × are_b v.1) (λ v. a_octets v.0 ++ b_octets v.1) (λ follow. a_begins (b_begins follow))
+  pub both_begins : BeginSo (λ (v : A × B). are_a v.0 × are_b v.1) (λ v. a_octets v.0 ++ b_octets v.1) (λ follow. a_begins (b_begins follow))
   both_begins follow v x h hx = rw append_assoc (a_so (b_begins follow) v.0 (b_octets v.1 ++ x) h.0 (b_so follow v.1 x h.1 hx))
 
   pub both_one_reading : (a_told b_told : (ℕ → Bool) → Type 0) → OneReading a_told are_a a_octets → OneReading b_told are_b b_octets
-      → OneReading (λ follow. a_told (b_begins follow) × b_told follow) (λ (v : Both A B). are_a v.0 × are_b v.1) (λ v. a_octets v.0 ++ b_octets v.1)
+      → OneReading (λ follow. a_told (b_begins follow) × b_told follow) (λ (v : A × B). are_a v.0 × are_b v.1) (λ v. a_octets v.0 ++ b_octets v.1)
   both_one_reading a_told b_told one_a one_b follow told v w x y hv hw hx hy e =
       let f : a_octets v.0 ++ (b_octets v.1 ++ x) ≡ a_octets w.0 ++ (b_octets w.1 ++ y) = sym (append_assoc (a_octets v.0) (b_octets v.1) x) ∙ e ∙ append_assoc (a_octets w.0) (b_octets w.1) y in
       let s = one_a (b_begins follow) told.0 v.0 w.0 (b_octets v.1 ++ x) (b_octets w.1 ++ y) hv.0 hw.0 (b_so follow v.1 x hv.1 hx) (b_so follow w.1 y hw.1 hy) f in

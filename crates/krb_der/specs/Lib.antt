@@ -12,3 +12,7 @@ pub mod ListLaws
 pub mod ApplicationLaws
 pub mod Whole
 pub mod Composite
+pub mod Asn1
+pub mod Equality
+pub mod EqualityLaws
+pub mod SequenceLaws

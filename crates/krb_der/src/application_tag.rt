@@ -38,10 +38,6 @@ impl<T: DerSequence, const N: u8> DerEncode for ApplicationTag<T, N> {
 
     ghost one_value = { λ v w hv hw e. tagged_one_value (96 + N) T.is_value T.enc T.one_value v w hv.0 hw.0 e };
 
-    fn known(&self) {
-        self.0.known();
-    }
-
     fn starts(octet: u8) -> bool {
         N <= 30 && octet == 0x60 + N
     }

@@ -1,6 +1,6 @@
 //! Explicit context tags.
 
-ghost use Rattle.std.specs.Prelude.{◌≡◌, ◌==◌, ◌+◌, ◌≤◌, ℕ};
+ghost use Rattle.std.specs.Prelude.{◌≡◌, ◌==◌, ◌+◌, ◌≤◌, ℕ, min};
 ghost use Rattle.krb_leaves.specs.Tlv.{tlv};
 ghost use Rattle.krb_leaves.specs.TlvLaws.{tagged_element, tagged_one_value};
 
@@ -9,8 +9,9 @@ use krb_leaves::{Asn1DerError, Der, DerEncode};
 use std::alloc::{AllocError, Global};
 use std::marker::{Model, PhantomData};
 
-/// A type that stands for the number of a context tag.
+/// A type that stands for the number of a context tag, as `Number<0>` does.
 pub trait TagNumber {
+    /// The number, at most 30.
     ghost number: { ℕ };
 
     /// The number, at most 30: a larger one takes more than one octet (X.690, 8.1.2.4).
@@ -21,8 +22,8 @@ pub trait TagNumber {
 
 /// A value under an explicit context tag (X.690, 8.14): the tag `a0` + N around the value's encoding.
 ///
-/// It is made by `ExplicitContextTag0::from(value)` and so on, and gives the value back at `.0`. A contract sees the
-/// value.
+/// It is made by `ExplicitContextTag0::from(value)` and so on, and gives the value back at `.0`. The numbers 0 to 10 have
+/// such a name, and `ExplicitContextTag<T, Number<11>>` is that of 11. A contract sees the value.
 #[derive(Drop)]
 #[derive_where(Debug, Clone, PartialEq, Eq; T)]
 pub struct ExplicitContextTag<T, N>(pub T, PhantomData<N>);
@@ -54,10 +55,6 @@ impl<T: DerEncode, N: TagNumber> DerEncode for ExplicitContextTag<T, N> {
 
     ghost one_value = { tagged_one_value (160 + N.number) T.is_value T.enc T.one_value };
 
-    fn known(&self) {
-        self.0.known();
-    }
-
     fn starts(octet: u8) -> bool {
         octet == 0xa0 + N::get()
     }
@@ -74,156 +71,46 @@ impl<T: Der + Drop, N: TagNumber> Der for ExplicitContextTag<T, N> {
     }
 }
 
-/// A value under the explicit context tag 0: `a0`.
-pub type ExplicitContextTag0<T> = ExplicitContextTag<T, Number0>;
+/// The number N of a context tag. It is at most 30, since the tag is one octet: a larger N stands for 30.
+pub struct Number<const N: u8>;
 
-/// The number 0.
-pub struct Number0;
-
-impl TagNumber for Number0 {
-    ghost number = { 0 };
+impl<const N: u8> TagNumber for Number<N> {
+    ghost number = { min N 30 };
 
     fn get() -> u8 {
-        0
+        N.min(30)
     }
 }
+
+/// A value under the explicit context tag 0: `a0`.
+pub type ExplicitContextTag0<T> = ExplicitContextTag<T, Number<0>>;
 
 /// A value under the explicit context tag 1: `a1`.
-pub type ExplicitContextTag1<T> = ExplicitContextTag<T, Number1>;
-
-/// The number 1.
-pub struct Number1;
-
-impl TagNumber for Number1 {
-    ghost number = { 1 };
-
-    fn get() -> u8 {
-        1
-    }
-}
+pub type ExplicitContextTag1<T> = ExplicitContextTag<T, Number<1>>;
 
 /// A value under the explicit context tag 2: `a2`.
-pub type ExplicitContextTag2<T> = ExplicitContextTag<T, Number2>;
-
-/// The number 2.
-pub struct Number2;
-
-impl TagNumber for Number2 {
-    ghost number = { 2 };
-
-    fn get() -> u8 {
-        2
-    }
-}
+pub type ExplicitContextTag2<T> = ExplicitContextTag<T, Number<2>>;
 
 /// A value under the explicit context tag 3: `a3`.
-pub type ExplicitContextTag3<T> = ExplicitContextTag<T, Number3>;
-
-/// The number 3.
-pub struct Number3;
-
-impl TagNumber for Number3 {
-    ghost number = { 3 };
-
-    fn get() -> u8 {
-        3
-    }
-}
+pub type ExplicitContextTag3<T> = ExplicitContextTag<T, Number<3>>;
 
 /// A value under the explicit context tag 4: `a4`.
-pub type ExplicitContextTag4<T> = ExplicitContextTag<T, Number4>;
-
-/// The number 4.
-pub struct Number4;
-
-impl TagNumber for Number4 {
-    ghost number = { 4 };
-
-    fn get() -> u8 {
-        4
-    }
-}
+pub type ExplicitContextTag4<T> = ExplicitContextTag<T, Number<4>>;
 
 /// A value under the explicit context tag 5: `a5`.
-pub type ExplicitContextTag5<T> = ExplicitContextTag<T, Number5>;
-
-/// The number 5.
-pub struct Number5;
-
-impl TagNumber for Number5 {
-    ghost number = { 5 };
-
-    fn get() -> u8 {
-        5
-    }
-}
+pub type ExplicitContextTag5<T> = ExplicitContextTag<T, Number<5>>;
 
 /// A value under the explicit context tag 6: `a6`.
-pub type ExplicitContextTag6<T> = ExplicitContextTag<T, Number6>;
-
-/// The number 6.
-pub struct Number6;
-
-impl TagNumber for Number6 {
-    ghost number = { 6 };
-
-    fn get() -> u8 {
-        6
-    }
-}
+pub type ExplicitContextTag6<T> = ExplicitContextTag<T, Number<6>>;
 
 /// A value under the explicit context tag 7: `a7`.
-pub type ExplicitContextTag7<T> = ExplicitContextTag<T, Number7>;
-
-/// The number 7.
-pub struct Number7;
-
-impl TagNumber for Number7 {
-    ghost number = { 7 };
-
-    fn get() -> u8 {
-        7
-    }
-}
+pub type ExplicitContextTag7<T> = ExplicitContextTag<T, Number<7>>;
 
 /// A value under the explicit context tag 8: `a8`.
-pub type ExplicitContextTag8<T> = ExplicitContextTag<T, Number8>;
-
-/// The number 8.
-pub struct Number8;
-
-impl TagNumber for Number8 {
-    ghost number = { 8 };
-
-    fn get() -> u8 {
-        8
-    }
-}
+pub type ExplicitContextTag8<T> = ExplicitContextTag<T, Number<8>>;
 
 /// A value under the explicit context tag 9: `a9`.
-pub type ExplicitContextTag9<T> = ExplicitContextTag<T, Number9>;
-
-/// The number 9.
-pub struct Number9;
-
-impl TagNumber for Number9 {
-    ghost number = { 9 };
-
-    fn get() -> u8 {
-        9
-    }
-}
+pub type ExplicitContextTag9<T> = ExplicitContextTag<T, Number<9>>;
 
 /// A value under the explicit context tag 10: `aa`.
-pub type ExplicitContextTag10<T> = ExplicitContextTag<T, Number10>;
-
-/// The number 10.
-pub struct Number10;
-
-impl TagNumber for Number10 {
-    ghost number = { 10 };
-
-    fn get() -> u8 {
-        10
-    }
-}
+pub type ExplicitContextTag10<T> = ExplicitContextTag<T, Number<10>>;

@@ -1,45 +1,40 @@
-//! Groups of fields.
+//! The fields of a sequence: tagged ones, optional ones, and tuples of up to six of these, which are groups of fields.
 
-ghost use Rattle.std.specs.Prelude.{◌≡◌, ◌++◌, ◌||◌, IfSome};
+ghost use Rattle.std.specs.Prelude.{◌≡◌, ◌==◌, ◌+◌, ◌++◌, ◌||◌, IfSome};
+ghost use Rattle.std.proofs.Common.{ap};
+ghost use Rattle.krb_leaves.specs.Tlv.{tlv};
+ghost use Rattle.krb_leaves.specs.TlvLaws.{tagged_element, tagged_one_value};
 ghost use Rattle.krb_leaves.specs.Encoding.{Apart, optional};
 ghost use Rattle.krb_der.specs.FieldLaws.{field_begins, field_one_reading, optional_begins, optional_one_reading, both_begins, both_one_reading};
 
+use crate::context_tag::{ExplicitContextTag, TagNumber};
+use crate::optional::Optional;
 use crate::sequence::{FieldRefs, Fields};
 use krb_leaves::{Asn1DerError, Der, DerEncode};
 use std::alloc::{AllocError, Global};
 
-/// A field.
-#[derive(Debug, Drop)]
-pub struct Field<T>(pub T);
+/// A mandatory field.
+impl<T: Der + Drop, N: TagNumber> Fields for ExplicitContextTag<T, N> {
+    ghost octets = { λ v. tlv (160 + N.number) (T.enc v) };
 
-/// A field that may be absent.
-#[derive(Debug, Drop)]
-pub struct OptionalField<T>(pub Option<T>);
+    ghost are_values = { T.is_value };
 
-/// Fields, and those behind them.
-#[derive(Debug, Drop)]
-pub struct Both<L, R>(pub L, pub R);
-
-impl<T: Der + Drop> Fields for Field<T> {
-    ghost octets = { λ v. T.enc v.0 };
-
-    ghost are_values = { λ v. T.is_value v.0 };
-
-    ghost begins = { λ follow. T.first };
+    ghost begins = { λ follow t. t == 160 + N.number };
 
     ghost told_apart = { λ follow. Unit {0} };
 
-    ghost begin_so = { field_begins T.enc T.is_value T.first T.is_element };
+    ghost begin_so = { field_begins (λ v. tlv (160 + N.number) (T.enc v)) T.is_value (λ t. t == 160 + N.number) (λ v h. tagged_element (160 + N.number) (T.enc v)) };
 
-    ghost one_reading = { field_one_reading T.enc T.is_value T.first T.is_element T.one_value };
+    ghost one_reading = { field_one_reading (λ v. tlv (160 + N.number) (T.enc v)) T.is_value (λ t. t == 160 + N.number) (λ v h. tagged_element (160 + N.number) (T.enc v)) (tagged_one_value (160 + N.number) T.is_value T.enc T.one_value) };
 
     fn read_fields(alloc: Global, input: &[u8]) -> Result<(Self, usize), Asn1DerError> {
-        let (value, taken) = T::read(alloc, input)?;
-        Ok((Field(value), taken))
+        let (value, taken) = Self::read(alloc, input)?;
+        Ok((value, taken))
     }
 }
 
-impl<T: Der + Drop> Fields for OptionalField<T> {
+/// A field that may be absent: it is where the next octet may begin its encoding.
+impl<T: Der + Drop> Fields for Optional<Option<T>> {
     ghost octets = { λ v. optional T.enc v.0 };
 
     ghost are_values = { λ v. IfSome v.0 T.is_value };
@@ -54,14 +49,15 @@ impl<T: Der + Drop> Fields for OptionalField<T> {
 
     fn read_fields(alloc: Global, input: &[u8]) -> Result<(Self, usize), Asn1DerError> {
         if input.is_empty() || !T::starts(input[0]) {
-            return Ok((OptionalField(None), 0));
+            return Ok((Optional(None), 0));
         }
         let (value, taken) = T::read(alloc, input)?;
-        Ok((OptionalField(Some(value)), taken))
+        Ok((Optional(Some(value)), taken))
     }
 }
 
-impl<L: Fields + Drop, R: Fields> Fields for Both<L, R> {
+/// Two fields, or groups of fields.
+impl<L: Fields + Drop, R: Fields> Fields for (L, R) {
     ghost octets = { λ v. L.octets v.0 ++ R.octets v.1 };
 
     ghost are_values = { λ v. L.are_values v.0 × R.are_values v.1 };
@@ -77,60 +73,128 @@ impl<L: Fields + Drop, R: Fields> Fields for Both<L, R> {
     fn read_fields(alloc: Global, input: &[u8]) -> Result<(Self, usize), Asn1DerError> {
         let (left, taken) = L::read_fields(alloc, input)?;
         let (right, more) = R::read_fields(alloc, &input[taken..])?;
-        Ok((Both(left, right), taken + more))
+        Ok(((left, right), taken + more))
     }
 }
 
-/// A lent field.
-#[derive(Drop)]
-pub struct FieldRef<'a, T>(pub &'a T);
+/// Three fields, or groups of fields.
+impl<A: Fields + Drop, B: Fields + Drop, C: Fields> Fields for (A, B, C) {
+    ghost octets = { λ v. A.octets v.0 ++ B.octets v.1 ++ C.octets v.2 };
 
-/// A lent field that may be absent.
-#[derive(Drop)]
-pub struct OptionalFieldRef<'a, T>(pub &'a Option<T>);
+    ghost are_values = { λ v. A.are_values v.0 × B.are_values v.1 × C.are_values v.2 };
 
-impl<'a, T: DerEncode> FieldRefs for FieldRef<'a, T> {
-    ghost octets = { λ v. T.enc v.0.now };
+    ghost begins = { λ follow. A.begins (B.begins (C.begins follow)) };
 
-    ghost are_values = { λ v. T.is_value v.0.now };
+    ghost told_apart = { λ follow. A.told_apart (B.begins (C.begins follow)) × B.told_apart (C.begins follow) × C.told_apart follow };
 
-    fn known_refs(&self) {
-        self.0.known();
-    }
+    ghost begin_so = { λ follow v x h. ⟦<((A, B), C) as Fields>⟧.begin_so follow ((v.0, v.1), v.2) x ((h.0, h.1), h.2) };
 
-    fn write_refs(&self, alloc: Global, out: &mut Vec<u8>) -> Result<(), AllocError> {
-        self.0.write(alloc, out)
+    ghost one_reading = { λ follow told v w x y hv hw hx hy e. let s = ⟦<((A, B), C) as Fields>⟧.one_reading follow ((told.0, told.1), told.2) ((v.0, v.1), v.2) ((w.0, w.1), w.2) x y ((hv.0, hv.1), hv.2) ((hw.0, hw.1), hw.2) hx hy e in (ap (λ p. (p.0.0, p.0.1, p.1)) s.0, s.1) };
+
+    fn read_fields(alloc: Global, input: &[u8]) -> Result<(Self, usize), Asn1DerError> {
+        let (((a, b), c), taken) = <((A, B), C)>::read_fields(alloc, input)?;
+        Ok(((a, b, c), taken))
     }
 }
 
-impl<'a, T: DerEncode> FieldRefs for OptionalFieldRef<'a, T> {
-    ghost octets = { λ v. optional T.enc v.0.now };
+/// Four fields, or groups of fields.
+impl<A: Fields + Drop, B: Fields + Drop, C: Fields + Drop, D: Fields> Fields for (A, B, C, D) {
+    ghost octets = { λ v. A.octets v.0 ++ B.octets v.1 ++ C.octets v.2 ++ D.octets v.3 };
 
-    ghost are_values = { λ v. IfSome v.0.now T.is_value };
+    ghost are_values = { λ v. A.are_values v.0 × B.are_values v.1 × C.are_values v.2 × D.are_values v.3 };
 
-    fn known_refs(&self) {
-        if let Some(value) = self.0 {
-            value.known();
-        }
+    ghost begins = { λ follow. A.begins (B.begins (C.begins (D.begins follow))) };
+
+    ghost told_apart = { λ follow. A.told_apart (B.begins (C.begins (D.begins follow))) × B.told_apart (C.begins (D.begins follow)) × C.told_apart (D.begins follow) × D.told_apart follow };
+
+    ghost begin_so = { λ follow v x h. ⟦<((A, B, C), D) as Fields>⟧.begin_so follow ((v.0, v.1, v.2), v.3) x ((h.0, h.1, h.2), h.3) };
+
+    ghost one_reading = { λ follow told v w x y hv hw hx hy e. let s = ⟦<((A, B, C), D) as Fields>⟧.one_reading follow ((told.0, told.1, told.2), told.3) ((v.0, v.1, v.2), v.3) ((w.0, w.1, w.2), w.3) x y ((hv.0, hv.1, hv.2), hv.3) ((hw.0, hw.1, hw.2), hw.3) hx hy e in (ap (λ p. (p.0.0, p.0.1, p.0.2, p.1)) s.0, s.1) };
+
+    fn read_fields(alloc: Global, input: &[u8]) -> Result<(Self, usize), Asn1DerError> {
+        let (((a, b, c), d), taken) = <((A, B, C), D)>::read_fields(alloc, input)?;
+        Ok(((a, b, c, d), taken))
     }
+}
+
+/// Five fields, or groups of fields.
+impl<A: Fields + Drop, B: Fields + Drop, C: Fields + Drop, D: Fields + Drop, E: Fields> Fields
+    for (A, B, C, D, E) {
+    ghost octets = { λ v. A.octets v.0 ++ B.octets v.1 ++ C.octets v.2 ++ D.octets v.3 ++ E.octets v.4 };
+
+    ghost are_values = { λ v. A.are_values v.0 × B.are_values v.1 × C.are_values v.2 × D.are_values v.3 × E.are_values v.4 };
+
+    ghost begins = { λ follow. A.begins (B.begins (C.begins (D.begins (E.begins follow)))) };
+
+    ghost told_apart = { λ follow. A.told_apart (B.begins (C.begins (D.begins (E.begins follow)))) × B.told_apart (C.begins (D.begins (E.begins follow))) × C.told_apart (D.begins (E.begins follow)) × D.told_apart (E.begins follow) × E.told_apart follow };
+
+    ghost begin_so = { λ follow v x h. ⟦<((A, B, C, D), E) as Fields>⟧.begin_so follow ((v.0, v.1, v.2, v.3), v.4) x ((h.0, h.1, h.2, h.3), h.4) };
+
+    ghost one_reading = { λ follow told v w x y hv hw hx hy e. let s = ⟦<((A, B, C, D), E) as Fields>⟧.one_reading follow ((told.0, told.1, told.2, told.3), told.4) ((v.0, v.1, v.2, v.3), v.4) ((w.0, w.1, w.2, w.3), w.4) x y ((hv.0, hv.1, hv.2, hv.3), hv.4) ((hw.0, hw.1, hw.2, hw.3), hw.4) hx hy e in (ap (λ p. (p.0.0, p.0.1, p.0.2, p.0.3, p.1)) s.0, s.1) };
+
+    fn read_fields(alloc: Global, input: &[u8]) -> Result<(Self, usize), Asn1DerError> {
+        let (((a, b, c, d), e), taken) = <((A, B, C, D), E)>::read_fields(alloc, input)?;
+        Ok(((a, b, c, d, e), taken))
+    }
+}
+
+/// Six fields, or groups of fields.
+impl<
+    A: Fields + Drop,
+    B: Fields + Drop,
+    C: Fields + Drop,
+    D: Fields + Drop,
+    E: Fields + Drop,
+    F: Fields,
+> Fields for (A, B, C, D, E, F) {
+    ghost octets = { λ v. A.octets v.0 ++ B.octets v.1 ++ C.octets v.2 ++ D.octets v.3 ++ E.octets v.4 ++ F.octets v.5 };
+
+    ghost are_values = { λ v. A.are_values v.0 × B.are_values v.1 × C.are_values v.2 × D.are_values v.3 × E.are_values v.4 × F.are_values v.5 };
+
+    ghost begins = { λ follow. A.begins (B.begins (C.begins (D.begins (E.begins (F.begins follow))))) };
+
+    ghost told_apart = { λ follow. A.told_apart (B.begins (C.begins (D.begins (E.begins (F.begins follow))))) × B.told_apart (C.begins (D.begins (E.begins (F.begins follow)))) × C.told_apart (D.begins (E.begins (F.begins follow))) × D.told_apart (E.begins (F.begins follow)) × E.told_apart (F.begins follow) × F.told_apart follow };
+
+    ghost begin_so = { λ follow v x h. ⟦<((A, B, C, D, E), F) as Fields>⟧.begin_so follow ((v.0, v.1, v.2, v.3, v.4), v.5) x ((h.0, h.1, h.2, h.3, h.4), h.5) };
+
+    ghost one_reading = { λ follow told v w x y hv hw hx hy e. let s = ⟦<((A, B, C, D, E), F) as Fields>⟧.one_reading follow ((told.0, told.1, told.2, told.3, told.4), told.5) ((v.0, v.1, v.2, v.3, v.4), v.5) ((w.0, w.1, w.2, w.3, w.4), w.5) x y ((hv.0, hv.1, hv.2, hv.3, hv.4), hv.5) ((hw.0, hw.1, hw.2, hw.3, hw.4), hw.5) hx hy e in (ap (λ p. (p.0.0, p.0.1, p.0.2, p.0.3, p.0.4, p.1)) s.0, s.1) };
+
+    fn read_fields(alloc: Global, input: &[u8]) -> Result<(Self, usize), Asn1DerError> {
+        let (((a, b, c, d, e), f), taken) = <((A, B, C, D, E), F)>::read_fields(alloc, input)?;
+        Ok(((a, b, c, d, e, f), taken))
+    }
+}
+
+/// A mandatory field.
+impl<'a, T: DerEncode, N: TagNumber> FieldRefs for &'a ExplicitContextTag<T, N> {
+    ghost octets = { λ v. tlv (160 + N.number) (T.enc v.now) };
+
+    ghost are_values = { λ v. T.is_value v.now };
 
     fn write_refs(&self, alloc: Global, out: &mut Vec<u8>) -> Result<(), AllocError> {
-        match self.0 {
+        self.write(alloc, out)
+    }
+}
+
+/// A field that may be absent: then nothing is written.
+impl<'a, T: DerEncode> FieldRefs for &'a Optional<Option<T>> {
+    ghost octets = { λ v. optional T.enc v.now.0 };
+
+    ghost are_values = { λ v. IfSome v.now.0 T.is_value };
+
+    fn write_refs(&self, alloc: Global, out: &mut Vec<u8>) -> Result<(), AllocError> {
+        match &self.0 {
             Some(value) => value.write(alloc, out),
             None => Ok(()),
         }
     }
 }
 
-impl<L: FieldRefs, R: FieldRefs> FieldRefs for Both<L, R> {
+/// Fields, and the field or the group behind them. `field_refs!` makes these pairs.
+impl<L: FieldRefs, R: FieldRefs> FieldRefs for (L, R) {
     ghost octets = { λ v. L.octets v.0 ++ R.octets v.1 };
 
     ghost are_values = { λ v. L.are_values v.0 × R.are_values v.1 };
-
-    fn known_refs(&self) {
-        self.0.known_refs();
-        self.1.known_refs();
-    }
 
     fn write_refs(&self, alloc: Global, out: &mut Vec<u8>) -> Result<(), AllocError> {
         let start = out.len();

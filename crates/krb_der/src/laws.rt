@@ -1,14 +1,65 @@
 //! Laws over the definitions, of functions that do nothing.
 
-ghost use Rattle.std.specs.Prelude.{◌≡◌};
+ghost use Rattle.std.specs.Prelude.{◌≡◌, ◌+◌, ◌≤◌, ◌++◌, ◌∷◌, ℕ, ℤ, Bool, List, Option, IfSome};
+ghost use Rattle.std.specs.List.{flat_map};
 ghost use Rattle.krb_leaves.specs.Tlv.{tlv};
+ghost use Rattle.krb_leaves.specs.Encoding.{Apart, BeginsWith, optional};
+ghost use Rattle.krb_leaves.specs.Leaf.{bool_content};
+ghost use Rattle.krb_leaves.specs.Integer.{shortest};
+ghost use Rattle.krb_leaves.specs.BitString.{Bits};
+ghost use Rattle.krb_leaves.specs.GeneralizedTime.{Time, time_content};
+ghost use Rattle.krb_der.specs.Equality.{ClonesValue, TellsEqual};
 
+use crate::application_tag::ApplicationTag;
 use crate::context_tag::{
-    ExplicitContextTag0, ExplicitContextTag1, ExplicitContextTag2, ExplicitContextTag3,
-    ExplicitContextTag4, ExplicitContextTag5, ExplicitContextTag6, ExplicitContextTag7,
-    ExplicitContextTag8, ExplicitContextTag9, ExplicitContextTag10,
+    ExplicitContextTag, ExplicitContextTag0, ExplicitContextTag1, ExplicitContextTag2,
+    ExplicitContextTag3, ExplicitContextTag4, ExplicitContextTag5, ExplicitContextTag6,
+    ExplicitContextTag7, ExplicitContextTag8, ExplicitContextTag9, ExplicitContextTag10, Number,
+    TagNumber,
 };
-use krb_leaves::DerEncode;
+use crate::optional::Optional;
+use crate::sequence_of::Asn1SequenceOf;
+use krb_leaves::{
+    BitStringAsn1, DerEncode, DerSequence, GeneralStringAsn1, GeneralizedTimeAsn1, IntegerAsn1,
+    OctetStringAsn1,
+};
+
+/// The laws of joined encodings: what stands at the front of octets is decided by them, and so is what stands behind it.
+///
+/// `element` is of one tag, length and content (X.690, 8.1.1) and a rest; `field` of a mandatory field and a rest;
+/// `optional` of an optional field and a rest that begins with none of the field's first octets.
+pub fn joined_encodings<T: DerEncode>()
+    ensures element { (t u : ℕ) (c d x y : List ℕ) → tlv t c ++ x ≡ tlv u d ++ y → (t ≡ u) × (c ≡ d) × (x ≡ y) }
+    ensures field { (v w : T) (x y : List ℕ) → T.is_value v → T.is_value w → T.enc v ++ x ≡ T.enc w ++ y → (v ≡ w) × (x ≡ y) }
+    ensures optional { (begins : ℕ → Bool) → Apart T.first begins
+        → (v w : Option T) (x y : List ℕ) → IfSome v T.is_value → IfSome w T.is_value → BeginsWith begins x → BeginsWith begins y
+        → optional T.enc v ++ x ≡ optional T.enc w ++ y → (v ≡ w) × (x ≡ y) }
+{}
+
+/// The tag and the content of each leaf (X.690, 8.2, 8.3, 8.6, 8.7, 8.23 and 8.25).
+pub fn leaf_encodings()
+    ensures boolean { (v : Bool) → ⟦<bool as DerEncode>⟧.enc v ≡ tlv 1 (bool_content v) }
+    ensures integer { (v : ℤ) → ⟦<IntegerAsn1 as DerEncode>⟧.enc v ≡ tlv 2 (shortest v) }
+    ensures bit_string { (v : Bits) → ⟦<BitStringAsn1 as DerEncode>⟧.enc v ≡ tlv 3 (v.spare ∷ v.octets) }
+    ensures octet_string { (v : List ℕ) → ⟦<OctetStringAsn1 as DerEncode>⟧.enc v ≡ tlv 4 v }
+    ensures generalized_time { (v : Time) → ⟦<GeneralizedTimeAsn1 as DerEncode>⟧.enc v ≡ tlv 24 (time_content v) }
+    ensures general_string { (v : List ℕ) → ⟦<GeneralStringAsn1 as DerEncode>⟧.enc v ≡ tlv 27 v }
+{}
+
+/// `Asn1SequenceOf`: the tag `30` around the items' encodings, joined (X.690, 8.10).
+pub fn sequence_of<T: DerEncode>()
+    ensures { (v : List T) → ⟦<Asn1SequenceOf<T> as DerEncode>⟧.enc v ≡ tlv 48 (flat_map T.enc v) }
+{}
+
+/// `ExplicitContextTag<T, Number<N>>`: the tag `a0` + N around the value, to N = 30 (X.690, 8.1.2.4 and 8.14).
+pub fn any_context_tag<T: DerEncode, const N: u8>()
+    ensures { N ≤ 30 → (v : T) → ⟦<ExplicitContextTag<T, Number<N>> as DerEncode>⟧.enc v ≡ tlv (160 + N) (T.enc v) }
+{}
+
+/// `ApplicationTag<T, N>`: the tag `60` + N around the sequence (X.690, 8.1.2 and 8.14).
+pub fn application_tag<T: DerSequence, const N: u8>()
+    ensures { (v : T) → ⟦<ApplicationTag<T, N> as DerEncode>⟧.enc v ≡ tlv (96 + N) (T.enc v) }
+{}
 
 /// `ExplicitContextTag0` to `10`: the tags `a0` to `aa` around the value (X.690, 8.14).
 pub fn context_tags<T: DerEncode>()
@@ -23,4 +74,29 @@ pub fn context_tags<T: DerEncode>()
     ensures tag_8 { (v : T) → ⟦<ExplicitContextTag8<T> as DerEncode>⟧.enc v ≡ tlv 168 (T.enc v) }
     ensures tag_9 { (v : T) → ⟦<ExplicitContextTag9<T> as DerEncode>⟧.enc v ≡ tlv 169 (T.enc v) }
     ensures tag_10 { (v : T) → ⟦<ExplicitContextTag10<T> as DerEncode>⟧.enc v ≡ tlv 170 (T.enc v) }
+{}
+
+/// `==` on each leaf: it answers true for equal values and for no others.
+pub fn leaf_equality()
+    ensures integer { TellsEqual ⟦<IntegerAsn1 as PartialEq>⟧.eq }
+    ensures bit_string { TellsEqual ⟦<BitStringAsn1 as PartialEq>⟧.eq }
+    ensures octet_string { TellsEqual ⟦<OctetStringAsn1 as PartialEq>⟧.eq }
+    ensures generalized_time { TellsEqual ⟦<GeneralizedTimeAsn1 as PartialEq>⟧.eq }
+    ensures general_string { TellsEqual ⟦<GeneralStringAsn1 as PartialEq>⟧.eq }
+{}
+
+/// `==` on what is made of values of T: it tells equal values, where that of T does.
+pub fn wrapper_equality<T: PartialEq, N: TagNumber, const M: u8>()
+    ensures explicit { TellsEqual T.eq → TellsEqual ⟦<ExplicitContextTag<T, N> as PartialEq>⟧.eq }
+    ensures application { TellsEqual T.eq → TellsEqual ⟦<ApplicationTag<T, M> as PartialEq>⟧.eq }
+    ensures optional { TellsEqual T.eq → TellsEqual ⟦<Optional<Option<T>> as PartialEq>⟧.eq }
+    ensures sequence_of { TellsEqual T.eq → TellsEqual ⟦<Asn1SequenceOf<T> as PartialEq>⟧.eq }
+{}
+
+/// A clone of a time is that time again, and one of what is made of values of T is, where a clone of T's is.
+pub fn clones<T: Clone, N: TagNumber, const M: u8>()
+    ensures generalized_time { ClonesValue ⟦<GeneralizedTimeAsn1 as Clone>⟧.is_clone }
+    ensures explicit { ClonesValue T.is_clone → ClonesValue ⟦<ExplicitContextTag<T, N> as Clone>⟧.is_clone }
+    ensures application { ClonesValue T.is_clone → ClonesValue ⟦<ApplicationTag<T, M> as Clone>⟧.is_clone }
+    ensures optional { ClonesValue T.is_clone → ClonesValue ⟦<Optional<Option<T>> as Clone>⟧.is_clone }
 {}

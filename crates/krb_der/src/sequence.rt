@@ -14,7 +14,8 @@ use std::alloc::{AllocError, Global};
 /// The tag of a SEQUENCE: universal 16, constructed (X.690, 8.9).
 pub const SEQUENCE: u8 = 0x30;
 
-/// Fields of a sequence, one after another, as they are read.
+/// Fields of a sequence (X.690, 8.9), one after another, as they are read: an explicit tag, an `Optional`, or a tuple of
+/// two to six of these or of such tuples.
 pub trait Fields {
     /// The encodings of the fields, joined. An absent field adds nothing.
     ghost octets: { Self → List ℕ };
@@ -28,8 +29,10 @@ pub trait Fields {
     /// Each optional field is told by its first octet from what follows it, if what follows the fields begins so.
     ghost told_apart: { (ℕ → Bool) → Type 0 };
 
+    /// Fields, and octets behind them that begin so, begin as `begins` says.
     ghost begin_so: { BeginSo are_values octets begins };
 
+    /// Fields that are told apart from what follows them decide themselves and what follows.
     ghost one_reading: { OneReading told_apart are_values octets };
 
     /// The fields at the front of the input, and the number of their octets. What follows them is not looked at.
@@ -40,7 +43,7 @@ pub trait Fields {
         ensures no_device { IfErr result NoDevice };
 }
 
-/// Fields of a sequence, one after another, lent for writing.
+/// Fields of a sequence (X.690, 8.9), one after another, lent for writing: what `field_refs!` makes.
 pub trait FieldRefs {
     /// The encodings of the fields, joined. An absent field adds nothing.
     ghost octets: { Self → List ℕ };
@@ -48,19 +51,16 @@ pub trait FieldRefs {
     /// Holds where each field is a value of its type.
     ghost are_values: { Self → Type 0 };
 
-    /// Tells a proof that fields in hand are values of their types. It does nothing.
-    fn known_refs(&self)
-        ensures { are_values self.now };
-
     /// Appends the fields to `out`, which is as before where memory is wanting.
     fn write_refs(&self, alloc: Global, out: &mut Vec<u8>) -> Result<(), AllocError>
         ensures ok { OnOk result (out.new.items ≡ out.old.items ++ octets self.now) }
+        ensures valid { OnOk result (are_values self.now) }
         ensures err { OnErr result (out.new.items ≡ out.old.items) };
 }
 
-/// A struct that is made of the fields of a sequence.
+/// A struct that is made of the fields of a sequence (X.690, 8.9).
 pub trait Sequence {
-    /// The fields, in order.
+    /// The types of the fields, in order: a tuple of up to six, or of groups.
     type Fields: Fields + Drop;
 
     /// The fields of a struct.
@@ -113,6 +113,7 @@ pub fn write_sequence<R: FieldRefs>(
     out: &mut Vec<u8>,
 ) -> Result<(), AllocError>
     ensures ok { OnOk result (out.new.items ≡ out.old.items ++ tlv 48 (R.octets fields.now)) }
+    ensures valid { OnOk result (R.are_values fields.now) }
     ensures err { OnErr result (out.new.items ≡ out.old.items) }
 {
     let start = out.len();

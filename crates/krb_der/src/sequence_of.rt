@@ -62,6 +62,7 @@ fn write_items<T: DerEncode>(
     out: &mut Vec<u8>,
 ) -> Result<(), AllocError>
     ensures ok { OnOk result (out.new.items ≡ out.old.items ++ flat_map T.enc items.now) }
+    ensures valid { OnOk result (AllByRecursion T.is_value items.now) }
     ensures err { OnErr result (out.new.items ≡ out.old.items) }
 {
     let start = out.len();
@@ -74,15 +75,6 @@ fn write_items<T: DerEncode>(
     Ok(())
 }
 
-/// Tells a proof that the items in hand are values of their type. It does nothing.
-fn known_items<T: DerEncode>(items: &[T])
-    ensures { AllByRecursion T.is_value items.now }
-{
-    for item in items {
-        item.known();
-    }
-}
-
 impl<T: DerEncode> DerEncode for Asn1SequenceOf<T> {
     ghost enc = { λ v. tlv 48 (flat_map T.enc v) };
 
@@ -93,10 +85,6 @@ impl<T: DerEncode> DerEncode for Asn1SequenceOf<T> {
     ghost is_element = { λ v h. tagged_element 48 (flat_map T.enc v) };
 
     ghost one_value = { tagged_one_value 48 (AllByRecursion T.is_value) (flat_map T.enc) (list_one_content T.enc T.is_value T.first T.is_element T.one_value) };
-
-    fn known(&self) {
-        known_items(self.0.as_slice());
-    }
 
     fn starts(octet: u8) -> bool {
         octet == SEQUENCE

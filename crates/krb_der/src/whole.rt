@@ -31,6 +31,7 @@ pub fn from_bytes<T: Der + Drop>(alloc: Global, input: &[u8]) -> Result<T, Asn1D
 /// The encoding of a value. `OutOfMemory` alone is answered in its place.
 pub fn to_vec<T: DerEncode>(alloc: Global, value: &T) -> Result<Vec<u8>, Asn1DerError>
     ensures ok { IfOk result (λ v. v.items ≡ T.enc value.now) }
+    ensures valid { OnOk result (T.is_value value.now) }
     ensures err { IfErr result (λ e. e ≡ OutOfMemory) }
 {
     let mut out = Vec::new(alloc);
@@ -46,6 +47,7 @@ pub(crate) fn write_around<T: DerEncode>(
     out: &mut Vec<u8>,
 ) -> Result<(), AllocError>
     ensures ok { OnOk result (out.new.items ≡ out.old.items ++ tlv tag (T.enc value.now)) }
+    ensures valid { OnOk result (T.is_value value.now) }
     ensures err { OnErr result (out.new.items ≡ out.old.items) }
 {
     let start = out.len();

@@ -9,6 +9,10 @@ pub record IsElement (first : ℕ → Bool) (b : List ℕ) : Type 0 where
   pub whole : b ≡ tlv tag content
   pub begins : first tag ≡ true
 
+-- b is a SEQUENCE of some content
+abbrev pub IsSequence : List ℕ → Type 0
+IsSequence b = (content : List ℕ) × (b ≡ tlv 48 content)
+
 -- equal encodings are of equal values
 abbrev pub OneValue : {A : Type 0} → (A → Type 0) → (A → List ℕ) → Type 0
 OneValue {A} is_value enc = (v w : A) → is_value v → is_value w → enc v ≡ enc w → v ≡ w

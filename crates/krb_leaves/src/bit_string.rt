@@ -143,10 +143,6 @@ impl DerEncode for BitStringAsn1 {
 
     ghost one_value = { tagged_one_value 3 IsBits bits_content bits_one_content };
 
-    fn known(&self) {
-        let _spare = self.spare;
-    }
-
     fn starts(octet: u8) -> bool {
         octet == BIT_STRING
     }

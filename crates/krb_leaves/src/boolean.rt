@@ -43,8 +43,6 @@ impl DerEncode for bool {
 
     ghost one_value = { tagged_one_value 1 (λ v. Unit {0}) bool_content bool_one_content };
 
-    fn known(&self) {}
-
     fn starts(octet: u8) -> bool {
         octet == BOOLEAN
     }

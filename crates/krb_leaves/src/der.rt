@@ -2,7 +2,7 @@
 
 ghost use Rattle.std.specs.Prelude.{◌≡◌, ◌<◌, ℕ, Bool, false, List, ◌++◌, length, slice_index, IfOk, IfErr, IsErrAnd, OnOk, OnErr};
 ghost use Rattle.krb_leaves.specs.Tlv.{tlv};
-ghost use Rattle.krb_leaves.specs.Encoding.{IsElement, OneValue};
+ghost use Rattle.krb_leaves.specs.Encoding.{IsElement, IsSequence, OneValue};
 ghost use Rattle.krb_leaves.specs.Reading.{TakesFront, RefusesFront, RefusesAll, Encodings};
 ghost use Rattle.krb_leaves.specs.declared.error.Asn1DerError.TheVariants.{InvalidData};
 
@@ -27,10 +27,6 @@ pub trait DerEncode {
     /// Equal encodings are of equal values.
     ghost one_value: { OneValue is_value enc };
 
-    /// Tells a proof that a value in hand is one of the type. It does nothing.
-    fn known(&self)
-        ensures { is_value self.now };
-
     /// Whether a value's encoding may begin with this octet.
     fn starts(octet: u8) -> bool
         ensures { result ≡ first octet };
@@ -38,6 +34,7 @@ pub trait DerEncode {
     /// Appends the encoding to `out`, which is as before where memory is wanting.
     fn write(&self, alloc: Global, out: &mut Vec<u8>) -> Result<(), AllocError>
         ensures ok { OnOk result (out.new.items ≡ out.old.items ++ enc self.now) }
+        ensures valid { OnOk result (is_value self.now) }
         ensures err { OnErr result (out.new.items ≡ out.old.items) };
 }
 
@@ -76,10 +73,9 @@ pub trait Der: DerEncode {
 }
 
 /// A type whose encodings are SEQUENCEs: their first octet is `30` (X.690, 8.9).
+///
+/// Only what stands under an application tag has to be one.
 pub trait DerSequence: DerEncode {
-    /// The content of the sequence.
-    ghost inner: { Self → List ℕ };
-
-    /// The encoding is a sequence of that content.
-    ghost is_sequence: { (v : Self) → Self.enc v ≡ tlv 48 (inner v) };
+    /// The encoding of a value is a SEQUENCE of some content.
+    ghost is_sequence: { (v : Self) → IsSequence (Self.enc v) };
 }

@@ -2,7 +2,7 @@
 
 ghost use Rattle.std.specs.Prelude.{◌≡◌, ◌==◌, List, ℕ, IfOk, IfErr};
 ghost use Rattle.std.specs.String.{string_bytes};
-ghost use Rattle.std.specs.Str.{IsUtf8, IsAscii, IsNotAscii};
+ghost use Rattle.std.specs.Str.{IsAscii, IsNotAscii};
 ghost use Rattle.std.specs.Cmp.Lexicographic.{pointwise};
 ghost use Rattle.std.specs.Cmp.Rules.{comparing};
 ghost use Rattle.std.proofs.Common.{rules};
@@ -70,17 +70,12 @@ impl Eq for GeneralStringAsn1 {
     ghost laws = { Prim.search (comparing, rules) };
 }
 
-/// Tells a proof that a text is valid UTF-8. It does nothing.
-fn known_text(text: &str)
-    ensures { IsUtf8 text.now }
-{}
-
 impl Content for GeneralStringAsn1 {
     ghost octets = { λ v. v };
 
-    ghost has_content = { λ v. IsUtf8 v × IsAscii v };
+    ghost has_content = { IsAscii };
 
-    ghost one_content = { same_one_content (λ v. IsUtf8 v × IsAscii v) };
+    ghost one_content = { same_one_content IsAscii };
 
     fn read_content(alloc: Global, content: &[u8]) -> Result<Self, Asn1DerError> {
         match str::from_utf8(content) {
@@ -93,17 +88,13 @@ impl Content for GeneralStringAsn1 {
 impl DerEncode for GeneralStringAsn1 {
     ghost enc = { λ v. tlv 27 v };
 
-    ghost is_value = { λ v. IsUtf8 v × IsAscii v };
+    ghost is_value = { IsAscii };
 
     ghost first = { λ t. t == 27 };
 
     ghost is_element = { λ v h. tagged_element 27 v };
 
-    ghost one_value = { tagged_one_value 27 (λ v. IsUtf8 v × IsAscii v) (λ v. v) (same_one_content (λ v. IsUtf8 v × IsAscii v)) };
-
-    fn known(&self) {
-        known_text(self.0.as_str());
-    }
+    ghost one_value = { tagged_one_value 27 IsAscii (λ v. v) (same_one_content IsAscii) };
 
     fn starts(octet: u8) -> bool {
         octet == GENERAL_STRING

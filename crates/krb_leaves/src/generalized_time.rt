@@ -224,16 +224,13 @@ impl DerEncode for GeneralizedTimeAsn1 {
 
     ghost one_value = { tagged_one_value 24 IsRealTime time_content time_one_content };
 
-    fn known(&self) {
-        // A field in use shows the proof what holds of all of them.
-        let _ = &self.year;
-    }
-
     fn starts(octet: u8) -> bool {
         octet == GENERALIZED_TIME
     }
 
     fn write(&self, _alloc: Global, out: &mut Vec<u8>) -> Result<(), AllocError> {
+        // A field in use shows the proof what holds of all of them.
+        let _ = &self.year;
         write_tlv(GENERALIZED_TIME, &self.octets(), out)
     }
 }

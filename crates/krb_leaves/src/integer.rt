@@ -80,17 +80,16 @@ fn number_of_inverted(octets: &[u8]) -> usize
 impl IntegerAsn1 {
     /// The number that the octets stand for in two's complement, highest octet first; none stand for zero.
     ///
-    /// `OutOfMemory` alone is answered, and only where there are no octets: then one is added.
-    pub fn from_bytes_be_signed(octets: Vec<u8>) -> Result<Self, Asn1DerError>
+    /// `OutOfMemory` alone is answered, and only where there are no octets: then one is made.
+    pub fn from_bytes_be_signed(alloc: Global, octets: Vec<u8>) -> Result<Self, Asn1DerError>
         ensures value { IfOk result (λ v. v ≡ whole_number octets.items) }
         ensures err { IfErr result (λ e. e ≡ OutOfMemory) }
         ensures empty { OnErr result (octets.items ≡ []) }
     {
-        let mut octets = octets;
         if octets.is_empty() {
-            octets.push(0)?;
-            return Ok(IntegerAsn1(octets));
+            return Ok(IntegerAsn1(Vec::from_slice(alloc, &[0])?));
         }
+        let mut octets = octets;
         let front = needless(&octets);
         let kept = octets.len() - front;
         octets.rotate_left(front);
@@ -101,7 +100,7 @@ impl IntegerAsn1 {
     /// The number that the octets stand for, highest octet first, which is not negative; none stand for zero.
     ///
     /// `OutOfMemory` alone is answered: an octet may be added.
-    pub fn from_bytes_be_unsigned(octets: Vec<u8>) -> Result<Self, Asn1DerError>
+    pub fn from_bytes_be_unsigned(alloc: Global, octets: Vec<u8>) -> Result<Self, Asn1DerError>
         ensures value { IfOk result (λ v. v ≡ pos (number_from_digits 256 octets.items)) }
         ensures err { IfErr result (λ e. e ≡ OutOfMemory) }
         ensures needed { OnErr result (0 < length octets.items → 128 ≤ slice_index octets.items 0) }
@@ -110,7 +109,7 @@ impl IntegerAsn1 {
         if octets.first().is_some_and(|first| *first >= 128) {
             octets.insert(0, 0)?;
         }
-        IntegerAsn1::from_bytes_be_signed(octets)
+        IntegerAsn1::from_bytes_be_signed(alloc, octets)
     }
 
     /// The shortest two's complement of the number, highest octet first.
@@ -183,8 +182,6 @@ impl DerEncode for IntegerAsn1 {
     ghost is_element = { λ v h. tagged_element 2 (shortest v) };
 
     ghost one_value = { tagged_one_value 2 (λ v. Unit {0}) shortest integer_one_content };
-
-    fn known(&self) {}
 
     fn starts(octet: u8) -> bool {
         octet == INTEGER

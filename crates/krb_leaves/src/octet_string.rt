@@ -73,15 +73,12 @@ impl DerEncode for OctetStringAsn1 {
 
     ghost one_value = { tagged_one_value 4 IsOctets (λ v. v) (same_one_content IsOctets) };
 
-    fn known(&self) {
-        known_octets(&self.0);
-    }
-
     fn starts(octet: u8) -> bool {
         octet == OCTET_STRING
     }
 
     fn write(&self, _alloc: Global, out: &mut Vec<u8>) -> Result<(), AllocError> {
+        known_octets(&self.0);
         write_tlv(OCTET_STRING, &self.0, out)
     }
 }

@@ -1,65 +1,54 @@
-//! The encoding of each type, field by field: laws over the definitions, of functions that do nothing.
-//!
-//! Each says in one equation what the type's ASN.1 text says; tags are in decimal (`a0` is 160).
+//! Laws over the definitions, of functions that do nothing: each alias names the type that its standard says.
 
-ghost use Rattle.std.specs.Prelude.{◌≡◌, ◌++◌};
-ghost use Rattle.std.specs.List.{flat_map};
-ghost use Rattle.krb_der.specs.Tlv.{tlv};
-ghost use Rattle.krb_der.specs.Encoding.{optional};
+ghost use Rattle.std.specs.Prelude.{◌≡◌, ℕ, ℤ, List};
+ghost use Rattle.krb_der.specs.Asn1.{application, bit_string, general_string, generalized_time, integer, sequence_of};
+ghost use Rattle.krb_der.specs.BitString.{Bits};
+ghost use Rattle.krb_der.specs.Equality.{ClonesValue, TellsEqual};
+ghost use Rattle.krb_der.specs.GeneralizedTime.{Time};
 
 use crate::data_types::{
     AuthorizationData, AuthorizationDataInner, EncTicketPart, EncTicketPartInner, EncryptedData,
     EncryptionKey, HostAddress, HostAddresses, KerbPaPacRequest, KerberosFlags, KerberosStringAsn1,
-    KerberosTime, Microseconds, PaEncTsEnc, PrincipalName, Realm, TransitedEncoding,
+    KerberosTime, Microseconds, PaEncTimestamp, PaEncTsEnc, PrincipalName, Realm,
+    TransitedEncoding,
 };
-use krb_der::{DerEncode, IntegerAsn1, OctetStringAsn1};
+use krb_der::DerEncode;
 
-/// PrincipalName (RFC 4120, 5.2.2).
-pub fn principal_name()
-    ensures { (v : PrincipalName) → ⟦<PrincipalName as DerEncode>⟧.enc v ≡ tlv 48 (tlv 160 (⟦<IntegerAsn1 as DerEncode>⟧.enc v.name_type) ++ tlv 161 (tlv 48 (flat_map ⟦<KerberosStringAsn1 as DerEncode>⟧.enc v.name_string))) }
+/// The aliases of simple types (RFC 4120, 5.2.1 to 5.2.4 and 5.2.8).
+pub fn simple_types()
+    ensures kerberos_string { (v : List ℕ) → ⟦<KerberosStringAsn1 as DerEncode>⟧.enc v ≡ general_string v }
+    ensures realm { (v : List ℕ) → ⟦<Realm as DerEncode>⟧.enc v ≡ general_string v }
+    ensures kerberos_time { (v : Time) → ⟦<KerberosTime as DerEncode>⟧.enc v ≡ generalized_time v }
+    ensures microseconds { (v : ℤ) → ⟦<Microseconds as DerEncode>⟧.enc v ≡ integer v }
+    ensures kerberos_flags { (v : Bits) → ⟦<KerberosFlags as DerEncode>⟧.enc v ≡ bit_string v }
 {}
 
-/// HostAddress (RFC 4120, 5.2.5).
-pub fn host_address()
-    ensures { (v : HostAddress) → ⟦<HostAddress as DerEncode>⟧.enc v ≡ tlv 48 (tlv 160 (⟦<IntegerAsn1 as DerEncode>⟧.enc v.addr_type) ++ tlv 161 (⟦<OctetStringAsn1 as DerEncode>⟧.enc v.address)) }
+/// The aliases of lists (RFC 4120, 5.2.5 and 5.2.6).
+pub fn lists()
+    ensures host_addresses { (v : _) → ⟦<HostAddresses as DerEncode>⟧.enc v ≡ sequence_of ⟦<HostAddress as DerEncode>⟧.enc v }
+    ensures authorization_data { (v : _) → ⟦<AuthorizationData as DerEncode>⟧.enc v ≡ sequence_of ⟦<AuthorizationDataInner as DerEncode>⟧.enc v }
 {}
 
-/// AuthorizationDataInner (RFC 4120, 5.2.6).
-pub fn authorization_data()
-    ensures { (v : AuthorizationDataInner) → ⟦<AuthorizationDataInner as DerEncode>⟧.enc v ≡ tlv 48 (tlv 160 (⟦<IntegerAsn1 as DerEncode>⟧.enc v.ad_type) ++ tlv 161 (⟦<OctetStringAsn1 as DerEncode>⟧.enc v.ad_data)) }
+/// The aliases of structs, bare or under an application tag (RFC 4120, 5.2.7.2 and 5.3).
+pub fn structs()
+    ensures pa_enc_timestamp { (v : _) → ⟦<PaEncTimestamp as DerEncode>⟧.enc v ≡ ⟦<EncryptedData as DerEncode>⟧.enc v }
+    ensures enc_ticket_part { (v : _) → ⟦<EncTicketPart as DerEncode>⟧.enc v ≡ application 3 (⟦<EncTicketPartInner as DerEncode>⟧.enc v) }
 {}
 
-/// EncryptedData (RFC 4120, 5.2.9).
-pub fn encrypted_data()
-    ensures { (v : EncryptedData) → ⟦<EncryptedData as DerEncode>⟧.enc v ≡ tlv 48 (tlv 160 (⟦<IntegerAsn1 as DerEncode>⟧.enc v.etype) ++ (optional (λ n. tlv 161 (⟦<IntegerAsn1 as DerEncode>⟧.enc n)) v.kvno.0 ++ tlv 162 (⟦<OctetStringAsn1 as DerEncode>⟧.enc v.cipher))) }
+/// `==` on each struct: it answers true for equal values and for no others.
+pub fn equality()
+    ensures host_address { TellsEqual ⟦<HostAddress as PartialEq>⟧.eq }
+    ensures authorization_data { TellsEqual ⟦<AuthorizationDataInner as PartialEq>⟧.eq }
+    ensures encrypted_data { TellsEqual ⟦<EncryptedData as PartialEq>⟧.eq }
+    ensures encryption_key { TellsEqual ⟦<EncryptionKey as PartialEq>⟧.eq }
+    ensures principal_name { TellsEqual ⟦<PrincipalName as PartialEq>⟧.eq }
+    ensures pa_enc_ts_enc { TellsEqual ⟦<PaEncTsEnc as PartialEq>⟧.eq }
+    ensures kerb_pa_pac_request { TellsEqual ⟦<KerbPaPacRequest as PartialEq>⟧.eq }
+    ensures transited_encoding { TellsEqual ⟦<TransitedEncoding as PartialEq>⟧.eq }
+    ensures enc_ticket_part { TellsEqual ⟦<EncTicketPartInner as PartialEq>⟧.eq }
 {}
 
-/// EncryptionKey (RFC 4120, 5.2.9).
-pub fn encryption_key()
-    ensures { (v : EncryptionKey) → ⟦<EncryptionKey as DerEncode>⟧.enc v ≡ tlv 48 (tlv 160 (⟦<IntegerAsn1 as DerEncode>⟧.enc v.key_type) ++ tlv 161 (⟦<OctetStringAsn1 as DerEncode>⟧.enc v.key_value)) }
-{}
-
-/// TransitedEncoding (RFC 4120, 5.3).
-pub fn transited_encoding()
-    ensures { (v : TransitedEncoding) → ⟦<TransitedEncoding as DerEncode>⟧.enc v ≡ tlv 48 (tlv 160 (⟦<IntegerAsn1 as DerEncode>⟧.enc v.tr_type) ++ tlv 161 (⟦<OctetStringAsn1 as DerEncode>⟧.enc v.contents)) }
-{}
-
-/// EncTicketPart: the tag `63`, application 3, around its sequence (RFC 4120, 5.3).
-pub fn enc_ticket_part()
-    ensures { (v : EncTicketPartInner) → ⟦<EncTicketPart as DerEncode>⟧.enc v ≡ tlv 99 (⟦<EncTicketPartInner as DerEncode>⟧.enc v) }
-{}
-
-/// EncTicketPartInner (RFC 4120, 5.3).
-pub fn enc_ticket_part_inner()
-    ensures { (v : EncTicketPartInner) → ⟦<EncTicketPartInner as DerEncode>⟧.enc v ≡ tlv 48 ((tlv 160 (⟦<KerberosFlags as DerEncode>⟧.enc v.flags) ++ (tlv 161 (⟦<EncryptionKey as DerEncode>⟧.enc v.key) ++ (tlv 162 (⟦<Realm as DerEncode>⟧.enc v.crealm) ++ (tlv 163 (⟦<PrincipalName as DerEncode>⟧.enc v.cname) ++ tlv 164 (⟦<TransitedEncoding as DerEncode>⟧.enc v.transited))))) ++ (tlv 165 (⟦<KerberosTime as DerEncode>⟧.enc v.auth_time) ++ (optional (λ t. tlv 166 (⟦<KerberosTime as DerEncode>⟧.enc t)) v.starttime.0 ++ (tlv 167 (⟦<KerberosTime as DerEncode>⟧.enc v.endtime) ++ (optional (λ t. tlv 168 (⟦<KerberosTime as DerEncode>⟧.enc t)) v.renew_till.0 ++ (optional (λ t. tlv 169 (⟦<HostAddresses as DerEncode>⟧.enc t)) v.caddr.0 ++ optional (λ t. tlv 170 (⟦<AuthorizationData as DerEncode>⟧.enc t)) v.authorization_data.0)))))) }
-{}
-
-/// PaEncTsEnc (RFC 4120, 5.2.7.2).
-pub fn pa_enc_ts_enc()
-    ensures { (v : PaEncTsEnc) → ⟦<PaEncTsEnc as DerEncode>⟧.enc v ≡ tlv 48 (tlv 160 (⟦<KerberosTime as DerEncode>⟧.enc v.patimestamp) ++ optional (λ n. tlv 161 (⟦<Microseconds as DerEncode>⟧.enc n)) v.pausec.0) }
-{}
-
-/// KerbPaPacRequest (MS-KILE, 2.2.3).
-pub fn kerb_pa_pac_request()
-    ensures { (v : KerbPaPacRequest) → ⟦<KerbPaPacRequest as DerEncode>⟧.enc v ≡ tlv 48 (tlv 160 (⟦<bool as DerEncode>⟧.enc v.include_pac)) }
+/// A clone of each struct that has one is the value again.
+pub fn clones()
+    ensures { ClonesValue ⟦<KerbPaPacRequest as Clone>⟧.is_clone }
 {}

@@ -43,7 +43,6 @@ fn sealed<T: Der + Drop>(
     ensures words { IfErr result (λ e. e ≢ Failure.Words) }
 {
     let value: T = from_bytes(alloc, input).map_err(der_failure)?;
-    value.known();
     seal_part(alloc, cipher, key, usage, confounder, &value).map_err(part_failure)
 }
 

@@ -69,7 +69,7 @@ fn joined(alloc: Global, parts: &[&[u8]]) -> Result<Vec<u8>, AllocError> {
 }
 
 fn number(alloc: Global, n: u8) -> Result<IntegerAsn1, Asn1DerError> {
-    IntegerAsn1::from_bytes_be_unsigned(vec![in alloc; n]?)
+    IntegerAsn1::from_bytes_be_unsigned(alloc, vec![in alloc; n]?)
 }
 
 fn text(alloc: Global, text: &str) -> Result<KerberosStringAsn1, Asn1DerError> {
@@ -278,6 +278,22 @@ fn time_stamp(rt: HostRuntime) -> Result<(), Fail> {
         alloc,
         &stamp,
         b"\x30\x13\xa0\x11\x18\x0f20211231235959Z",
+    )?;
+    // 0x0aa754, as MIT Kerberos writes it
+    let microseconds = IntegerAsn1::from_bytes_be_unsigned(
+        alloc,
+        [0x0a, 0xa7, 0x54].to_vec(alloc)?,
+    )?;
+    assert_eq!(rt; microseconds.to_u32(), Some(698_196));
+    let stamp = PaEncTsEnc {
+        patimestamp: ExplicitContextTag0::from(KerberosTime::new(2026, 11, 22, 6, 55, 2)?),
+        pausec: Optional(Some(ExplicitContextTag1::from(microseconds))),
+    };
+    both_ways(
+        &rt,
+        alloc,
+        &stamp,
+        b"\x30\x1a\xa0\x11\x18\x0f20261122065502Z\xa1\x05\x02\x03\x0a\xa7\x54",
     )?;
     let no_leap_year = from_bytes::<PaEncTsEnc>(alloc, b"\x30\x13\xa0\x11\x18\x0f20210229235959Z");
     assert_eq!(rt; refusal(&no_leap_year), "InvalidData");

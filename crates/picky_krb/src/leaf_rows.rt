@@ -1,11 +1,13 @@
 //! Encodings of the leaves, both ways, and malformed octets with the refusal that the order of faults gives.
 
-use crate::data_types::KerbPaPacRequest;
+use crate::data_types::{KerbPaPacRequest, PrincipalName};
 use crate::der::{
-    ApplicationTag, Asn1DerError, Asn1SequenceOf, BitStringAsn1, Der, DerEncode, GeneralStringAsn1,
-    GeneralizedTimeAsn1, IntegerAsn1, OctetStringAsn1, from_bytes, to_vec,
+    ApplicationTag, Asn1DerError, Asn1SequenceOf, BitStringAsn1, Der, DerEncode,
+    ExplicitContextTag0, GeneralStringAsn1, GeneralizedTimeAsn1, IntegerAsn1, OctetStringAsn1,
+    Optional, from_bytes, to_vec,
 };
 use std::alloc::Global;
+use std::io;
 use std::process::Abort;
 use std::test::Fail;
 
@@ -25,8 +27,11 @@ fn refused<T: Der + Drop>(rt: &impl Abort, alloc: Global, octets: &[u8], variant
 #[test]
 fn malformed_octets(rt: HostRuntime) -> Result<(), Fail> {
     let alloc = rt.alloc();
-    let rows: [(&[u8], &str); 7] = [
+    let rows: [(&[u8], &str); 10] = [
         (b"\x30\x80\x00\x00", "UnsupportedValue"),
+        (b"\x30\x04\xa0\x80\x00\x00", "UnsupportedValue"),
+        (b"\x30\x05\xa1\x03\x01\x01\xff", "InvalidData"),
+        (b"\x30\x05\xa0\x03\x02\x01\xff", "InvalidData"),
         (b"\x30\x00", "TruncatedData"),
         (b"\x30\x05\xa0\x04\x01\x01\xff", "TruncatedData"),
         (b"\x30\x05\xa0\x03\x01\x02\xff", "TruncatedData"),
@@ -37,6 +42,12 @@ fn malformed_octets(rt: HostRuntime) -> Result<(), Fail> {
     for (octets, variant) in rows {
         refused::<KerbPaPacRequest>(&rt, alloc, octets, variant);
     }
+    refused::<PrincipalName>(
+        &rt,
+        alloc,
+        b"\x30\x0d\xa0\x03\x02\x01\x01\xa1\x06\x30\x04\x04\x02\x61\x62",
+        "InvalidData",
+    );
     let rows: [(&[u8], &str); 4] = [
         (
             b"\x04\x89\xff\xff\xff\xff\xff\xff\xff\xff\xff",
@@ -79,6 +90,33 @@ fn malformed_octets(rt: HostRuntime) -> Result<(), Fail> {
     Ok(())
 }
 
+#[test]
+fn texts_of_refusals(rt: HostRuntime) -> Result<(), Fail> {
+    let rows = [
+        (
+            Asn1DerError::InvalidData,
+            "the octets are no encoding of the value's type",
+        ),
+        (Asn1DerError::TruncatedData, "the octets end too early"),
+        (
+            Asn1DerError::UnsupportedValue,
+            "the encoding is of a form that is not supported",
+        ),
+        (Asn1DerError::OutOfMemory, "out of memory"),
+    ];
+    for (refusal, text) in rows {
+        assert_eq!(rt; format!(in rt.alloc(); "{refusal}")?.as_str(), text);
+    }
+    let device = io::Error::from(io::ErrorKind::UnexpectedEof);
+    let told = format!(in rt.alloc(); "reading or writing failed: {device}")?;
+    let refusal = Asn1DerError::Io(device);
+    assert_eq!(rt;
+        format!(in rt.alloc(); "{refusal}")?.as_str(),
+        told.as_str()
+    );
+    Ok(())
+}
+
 /// Whole numbers by their two's complement, from the examples that the standards' guides give.
 #[test]
 fn integers(rt: HostRuntime) -> Result<(), Fail> {
@@ -103,19 +141,19 @@ fn integers(rt: HostRuntime) -> Result<(), Fail> {
         ),
     ];
     for (octets, value, encoding) in rows {
-        let number = IntegerAsn1::from_bytes_be_signed(octets.to_vec(alloc)?)?;
+        let number = IntegerAsn1::from_bytes_be_signed(alloc, octets.to_vec(alloc)?)?;
         assert_eq!(rt; number.to_i64(), Some(value));
         assert_eq!(rt; number.to_u32(), u32::try_from(value).ok());
         assert_eq!(rt; to_vec(alloc, &number)?.as_slice(), encoding);
         assert!(rt; from_bytes::<IntegerAsn1>(alloc, encoding)? == number);
     }
-    let number = IntegerAsn1::from_bytes_be_unsigned([0xff; 4].to_vec(alloc)?)?;
+    let number = IntegerAsn1::from_bytes_be_unsigned(alloc, [0xff; 4].to_vec(alloc)?)?;
     assert_eq!(rt;
         number.as_signed_bytes_be(),
         [0, 0xff, 0xff, 0xff, 0xff].as_slice()
     );
     assert_eq!(rt; number.to_u32(), Some(u32::MAX));
-    let number = IntegerAsn1::from_bytes_be_unsigned([0xff; 8].to_vec(alloc)?)?;
+    let number = IntegerAsn1::from_bytes_be_unsigned(alloc, [0xff; 8].to_vec(alloc)?)?;
     assert_eq!(rt; number.to_i64(), None);
     assert_eq!(rt; number.to_u32(), None);
     Ok(())
@@ -166,6 +204,24 @@ fn strings_and_lists(rt: HostRuntime) -> Result<(), Fail> {
         b"\x5a\x30\x06\x01\x01\xff\x01\x01\x00".as_slice()
     );
     assert!(rt; from_bytes::<Asn1SequenceOf<bool>>(alloc, &out[1..])? == list);
+    Ok(())
+}
+
+#[test]
+fn clones(rt: HostRuntime) -> Result<(), Fail> {
+    let asked = ApplicationTag::<KerbPaPacRequest, 3>(KerbPaPacRequest {
+        include_pac: ExplicitContextTag0::from(true),
+    });
+    let not_asked = ApplicationTag::<KerbPaPacRequest, 3>(KerbPaPacRequest {
+        include_pac: ExplicitContextTag0::from(false),
+    });
+    assert!(rt; asked.clone()? == asked);
+    assert!(rt; asked != not_asked);
+    let present = Optional(Some(ExplicitContextTag0::from(false)));
+    let absent: Optional<Option<ExplicitContextTag0<bool>>> = Optional(None);
+    assert!(rt; present.clone()? == present);
+    assert!(rt; absent.clone()? == absent);
+    assert!(rt; present != absent);
     Ok(())
 }
 

@@ -1,17 +1,14 @@
 //! Addresses.
 
-ghost use Rattle.std.specs.Prelude.{◌==◌, refl};
-ghost use Rattle.krb_der.specs.Composite.{both, field};
-ghost use Rattle.krb_der.specs.Tlv.{tlv};
+ghost use Rattle.std.specs.Prelude.{◌==◌, ◌++◌, refl};
+ghost use Rattle.krb_der.specs.Asn1.{explicit, integer, octet_string, sequence};
+ghost use Rattle.krb_der.specs.SequenceLaws.{one_value_of, values_of};
 ghost use Rattle.krb_der.specs.TlvLaws.{tagged_element};
-ghost use Rattle.krb_der.specs.FieldLaws.{sequence_one_value};
 
-use krb_der::composite::{
-    Both, Field, FieldRefs, Fields, SEQUENCE, Sequence, read_sequence, write_sequence,
-};
+use krb_der::composite::{Fields, SEQUENCE, Sequence, read_sequence, write_sequence};
 use krb_der::{
     Asn1DerError, Asn1SequenceOf, Der, DerEncode, DerSequence, ExplicitContextTag0,
-    ExplicitContextTag1, IntegerAsn1, OctetStringAsn1, field_refs, fields,
+    ExplicitContextTag1, IntegerAsn1, OctetStringAsn1, field_refs,
 };
 use std::alloc::{AllocError, Global};
 
@@ -31,38 +28,31 @@ pub struct HostAddress {
     pub address: ExplicitContextTag1<OctetStringAsn1>,
 }
 
-type HostAddressFields = Both<
-    Field<ExplicitContextTag0<IntegerAsn1>>,
-    Field<ExplicitContextTag1<OctetStringAsn1>>,
->;
-
 impl Sequence for HostAddress {
-    type Fields = HostAddressFields;
+    type Fields = (
+        ExplicitContextTag0<IntegerAsn1>,
+        ExplicitContextTag1<OctetStringAsn1>,
+    );
 
-    ghost fields = { λ v. both (field v.addr_type) (field v.address) };
+    ghost fields = { λ v. (v.addr_type, v.address) };
 
-    ghost with_fields = { λ f. record { addr_type = f.0.0; address = f.1.0 } };
+    ghost with_fields = { λ f. record { addr_type = f.0; address = f.1 } };
 
-    fn from_fields(parts: HostAddressFields) -> Self {
-        let fields!(addr_type, address) = parts;
+    fn from_fields((addr_type, address): Self::Fields) -> Self {
         HostAddress { addr_type, address }
     }
 }
 
 impl DerEncode for HostAddress {
-    ghost enc = { λ v. tlv 48 (⟦<HostAddressFields as Fields>⟧.octets (⟦<HostAddress as Sequence>⟧.fields v)) };
+    ghost enc = { λ v. sequence (explicit 0 (integer v.addr_type) ++ explicit 1 (octet_string v.address)) };
 
-    ghost is_value = { λ v. ⟦<HostAddressFields as Fields>⟧.are_values (⟦<HostAddress as Sequence>⟧.fields v) };
+    ghost is_value = { values_of ⟦<Self as Sequence>⟧ ⟦<<Self as Sequence>::Fields as Fields>⟧ };
 
     ghost first = { λ t. t == 48 };
 
-    ghost is_element = { λ v h. tagged_element 48 (⟦<HostAddressFields as Fields>⟧.octets (⟦<HostAddress as Sequence>⟧.fields v)) };
+    ghost is_element = { λ v h. tagged_element 48 _ };
 
-    ghost one_value = { sequence_one_value ⟦<HostAddress as Sequence>⟧.fields ⟦<HostAddress as Sequence>⟧.with_fields (λ v. refl) ⟦<HostAddressFields as Fields>⟧.told_apart ⟦<HostAddressFields as Fields>⟧.are_values ⟦<HostAddressFields as Fields>⟧.octets ⟦<HostAddressFields as Fields>⟧.one_reading (tt, tt) };
-
-    fn known(&self) {
-        field_refs!(self; addr_type, address).known_refs();
-    }
+    ghost one_value = { one_value_of ⟦<Self as Sequence>⟧ ⟦<<Self as Sequence>::Fields as Fields>⟧ (λ v. refl) (tt, tt) };
 
     fn starts(octet: u8) -> bool {
         octet == SEQUENCE
@@ -80,9 +70,7 @@ impl Der for HostAddress {
 }
 
 impl DerSequence for HostAddress {
-    ghost inner = { λ v. ⟦<HostAddressFields as Fields>⟧.octets (⟦<HostAddress as Sequence>⟧.fields v) };
-
-    ghost is_sequence = { λ v. refl };
+    ghost is_sequence = { λ v. (_, refl) };
 }
 
 /// Addresses of a host (RFC 4120, 5.2.5).

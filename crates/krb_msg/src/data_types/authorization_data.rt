@@ -1,17 +1,14 @@
 //! Authorization data.
 
-ghost use Rattle.std.specs.Prelude.{◌==◌, refl};
-ghost use Rattle.krb_der.specs.Composite.{both, field};
-ghost use Rattle.krb_der.specs.Tlv.{tlv};
+ghost use Rattle.std.specs.Prelude.{◌==◌, ◌++◌, refl};
+ghost use Rattle.krb_der.specs.Asn1.{explicit, integer, octet_string, sequence};
+ghost use Rattle.krb_der.specs.SequenceLaws.{one_value_of, values_of};
 ghost use Rattle.krb_der.specs.TlvLaws.{tagged_element};
-ghost use Rattle.krb_der.specs.FieldLaws.{sequence_one_value};
 
-use krb_der::composite::{
-    Both, Field, FieldRefs, Fields, SEQUENCE, Sequence, read_sequence, write_sequence,
-};
+use krb_der::composite::{Fields, SEQUENCE, Sequence, read_sequence, write_sequence};
 use krb_der::{
     Asn1DerError, Asn1SequenceOf, Der, DerEncode, DerSequence, ExplicitContextTag0,
-    ExplicitContextTag1, IntegerAsn1, OctetStringAsn1, field_refs, fields,
+    ExplicitContextTag1, IntegerAsn1, OctetStringAsn1, field_refs,
 };
 use std::alloc::{AllocError, Global};
 
@@ -31,38 +28,31 @@ pub struct AuthorizationDataInner {
     pub ad_data: ExplicitContextTag1<OctetStringAsn1>,
 }
 
-type AuthorizationDataInnerFields = Both<
-    Field<ExplicitContextTag0<IntegerAsn1>>,
-    Field<ExplicitContextTag1<OctetStringAsn1>>,
->;
-
 impl Sequence for AuthorizationDataInner {
-    type Fields = AuthorizationDataInnerFields;
+    type Fields = (
+        ExplicitContextTag0<IntegerAsn1>,
+        ExplicitContextTag1<OctetStringAsn1>,
+    );
 
-    ghost fields = { λ v. both (field v.ad_type) (field v.ad_data) };
+    ghost fields = { λ v. (v.ad_type, v.ad_data) };
 
-    ghost with_fields = { λ f. record { ad_type = f.0.0; ad_data = f.1.0 } };
+    ghost with_fields = { λ f. record { ad_type = f.0; ad_data = f.1 } };
 
-    fn from_fields(parts: AuthorizationDataInnerFields) -> Self {
-        let fields!(ad_type, ad_data) = parts;
+    fn from_fields((ad_type, ad_data): Self::Fields) -> Self {
         AuthorizationDataInner { ad_type, ad_data }
     }
 }
 
 impl DerEncode for AuthorizationDataInner {
-    ghost enc = { λ v. tlv 48 (⟦<AuthorizationDataInnerFields as Fields>⟧.octets (⟦<AuthorizationDataInner as Sequence>⟧.fields v)) };
+    ghost enc = { λ v. sequence (explicit 0 (integer v.ad_type) ++ explicit 1 (octet_string v.ad_data)) };
 
-    ghost is_value = { λ v. ⟦<AuthorizationDataInnerFields as Fields>⟧.are_values (⟦<AuthorizationDataInner as Sequence>⟧.fields v) };
+    ghost is_value = { values_of ⟦<Self as Sequence>⟧ ⟦<<Self as Sequence>::Fields as Fields>⟧ };
 
     ghost first = { λ t. t == 48 };
 
-    ghost is_element = { λ v h. tagged_element 48 (⟦<AuthorizationDataInnerFields as Fields>⟧.octets (⟦<AuthorizationDataInner as Sequence>⟧.fields v)) };
+    ghost is_element = { λ v h. tagged_element 48 _ };
 
-    ghost one_value = { sequence_one_value ⟦<AuthorizationDataInner as Sequence>⟧.fields ⟦<AuthorizationDataInner as Sequence>⟧.with_fields (λ v. refl) ⟦<AuthorizationDataInnerFields as Fields>⟧.told_apart ⟦<AuthorizationDataInnerFields as Fields>⟧.are_values ⟦<AuthorizationDataInnerFields as Fields>⟧.octets ⟦<AuthorizationDataInnerFields as Fields>⟧.one_reading (tt, tt) };
-
-    fn known(&self) {
-        field_refs!(self; ad_type, ad_data).known_refs();
-    }
+    ghost one_value = { one_value_of ⟦<Self as Sequence>⟧ ⟦<<Self as Sequence>::Fields as Fields>⟧ (λ v. refl) (tt, tt) };
 
     fn starts(octet: u8) -> bool {
         octet == SEQUENCE
@@ -80,9 +70,7 @@ impl Der for AuthorizationDataInner {
 }
 
 impl DerSequence for AuthorizationDataInner {
-    ghost inner = { λ v. ⟦<AuthorizationDataInnerFields as Fields>⟧.octets (⟦<AuthorizationDataInner as Sequence>⟧.fields v) };
-
-    ghost is_sequence = { λ v. refl };
+    ghost is_sequence = { λ v. (_, refl) };
 }
 
 /// Authorization data (RFC 4120, 5.2.6).

@@ -1,18 +1,15 @@
 //! Keys and ciphertexts.
 
-ghost use Rattle.std.specs.Prelude.{◌==◌, refl};
-ghost use Rattle.krb_der.specs.Composite.{both, field, optional_field};
-ghost use Rattle.krb_der.specs.Tlv.{tlv};
+ghost use Rattle.std.specs.Prelude.{◌==◌, ◌++◌, refl};
+ghost use Rattle.krb_der.specs.Asn1.{explicit, integer, octet_string, sequence};
+ghost use Rattle.krb_der.specs.Encoding.{optional};
+ghost use Rattle.krb_der.specs.SequenceLaws.{one_value_of, values_of};
 ghost use Rattle.krb_der.specs.TlvLaws.{only_tag, tagged_element};
-ghost use Rattle.krb_der.specs.FieldLaws.{sequence_one_value};
 
-use krb_der::composite::{
-    Both, Field, FieldRefs, Fields, OptionalField, SEQUENCE, Sequence, read_sequence,
-    write_sequence,
-};
+use krb_der::composite::{Fields, SEQUENCE, Sequence, read_sequence, write_sequence};
 use krb_der::{
     Asn1DerError, Der, DerEncode, DerSequence, ExplicitContextTag0, ExplicitContextTag1,
-    ExplicitContextTag2, IntegerAsn1, OctetStringAsn1, Optional, field_refs, fields,
+    ExplicitContextTag2, IntegerAsn1, OctetStringAsn1, Optional, field_refs,
 };
 use std::alloc::{AllocError, Global};
 
@@ -35,52 +32,43 @@ pub struct EncryptedData {
     pub cipher: ExplicitContextTag2<OctetStringAsn1>,
 }
 
-type EncryptedDataFields = Both<
-    Field<ExplicitContextTag0<IntegerAsn1>>,
-    Both<
-        OptionalField<ExplicitContextTag1<IntegerAsn1>>,
-        Field<ExplicitContextTag2<OctetStringAsn1>>,
-    >,
->;
-
 impl Sequence for EncryptedData {
-    type Fields = EncryptedDataFields;
+    type Fields = (
+        ExplicitContextTag0<IntegerAsn1>,
+        Optional<Option<ExplicitContextTag1<IntegerAsn1>>>,
+        ExplicitContextTag2<OctetStringAsn1>,
+    );
 
-    ghost fields = { λ v. both (field v.etype) (both (optional_field v.kvno.0) (field v.cipher)) };
+    ghost fields = { λ v. (v.etype, v.kvno, v.cipher) };
 
-    ghost with_fields = { λ f. record { etype = f.0.0; kvno = record { 0 = f.1.0.0 }; cipher = f.1.1.0 } };
+    ghost with_fields = { λ f. record { etype = f.0; kvno = f.1; cipher = f.2 } };
 
-    fn from_fields(parts: EncryptedDataFields) -> Self {
-        let fields!(etype, optional kvno, cipher) = parts;
+    fn from_fields((etype, kvno, cipher): Self::Fields) -> Self {
         EncryptedData {
             etype,
-            kvno: Optional(kvno),
+            kvno,
             cipher,
         }
     }
 }
 
 impl DerEncode for EncryptedData {
-    ghost enc = { λ v. tlv 48 (⟦<EncryptedDataFields as Fields>⟧.octets (⟦<EncryptedData as Sequence>⟧.fields v)) };
+    ghost enc = { λ v. sequence (explicit 0 (integer v.etype) ++ optional (λ x. explicit 1 (integer x)) v.kvno.0 ++ explicit 2 (octet_string v.cipher)) };
 
-    ghost is_value = { λ v. ⟦<EncryptedDataFields as Fields>⟧.are_values (⟦<EncryptedData as Sequence>⟧.fields v) };
+    ghost is_value = { values_of ⟦<Self as Sequence>⟧ ⟦<<Self as Sequence>::Fields as Fields>⟧ };
 
     ghost first = { λ t. t == 48 };
 
-    ghost is_element = { λ v h. tagged_element 48 (⟦<EncryptedDataFields as Fields>⟧.octets (⟦<EncryptedData as Sequence>⟧.fields v)) };
+    ghost is_element = { λ v h. tagged_element 48 _ };
 
-    ghost one_value = { sequence_one_value ⟦<EncryptedData as Sequence>⟧.fields ⟦<EncryptedData as Sequence>⟧.with_fields (λ v. refl) ⟦<EncryptedDataFields as Fields>⟧.told_apart ⟦<EncryptedDataFields as Fields>⟧.are_values ⟦<EncryptedDataFields as Fields>⟧.octets ⟦<EncryptedDataFields as Fields>⟧.one_reading (tt, (only_tag 161 _ refl, tt)) };
-
-    fn known(&self) {
-        field_refs!(self; etype, optional kvno, cipher).known_refs();
-    }
+    ghost one_value = { one_value_of ⟦<Self as Sequence>⟧ ⟦<<Self as Sequence>::Fields as Fields>⟧ (λ v. refl) (tt, only_tag 161 _ refl, tt) };
 
     fn starts(octet: u8) -> bool {
         octet == SEQUENCE
     }
 
     fn write(&self, alloc: Global, out: &mut Vec<u8>) -> Result<(), AllocError> {
-        write_sequence(alloc, &field_refs!(self; etype, optional kvno, cipher), out)
+        write_sequence(alloc, &field_refs!(self; etype, kvno, cipher), out)
     }
 }
 
@@ -91,9 +79,7 @@ impl Der for EncryptedData {
 }
 
 impl DerSequence for EncryptedData {
-    ghost inner = { λ v. ⟦<EncryptedDataFields as Fields>⟧.octets (⟦<EncryptedData as Sequence>⟧.fields v) };
-
-    ghost is_sequence = { λ v. refl };
+    ghost is_sequence = { λ v. (_, refl) };
 }
 
 /// A key (RFC 4120, 5.2.9).
@@ -112,20 +98,17 @@ pub struct EncryptionKey {
     pub key_value: ExplicitContextTag1<OctetStringAsn1>,
 }
 
-type EncryptionKeyFields = Both<
-    Field<ExplicitContextTag0<IntegerAsn1>>,
-    Field<ExplicitContextTag1<OctetStringAsn1>>,
->;
-
 impl Sequence for EncryptionKey {
-    type Fields = EncryptionKeyFields;
+    type Fields = (
+        ExplicitContextTag0<IntegerAsn1>,
+        ExplicitContextTag1<OctetStringAsn1>,
+    );
 
-    ghost fields = { λ v. both (field v.key_type) (field v.key_value) };
+    ghost fields = { λ v. (v.key_type, v.key_value) };
 
-    ghost with_fields = { λ f. record { key_type = f.0.0; key_value = f.1.0 } };
+    ghost with_fields = { λ f. record { key_type = f.0; key_value = f.1 } };
 
-    fn from_fields(parts: EncryptionKeyFields) -> Self {
-        let fields!(key_type, key_value) = parts;
+    fn from_fields((key_type, key_value): Self::Fields) -> Self {
         EncryptionKey {
             key_type,
             key_value,
@@ -134,19 +117,15 @@ impl Sequence for EncryptionKey {
 }
 
 impl DerEncode for EncryptionKey {
-    ghost enc = { λ v. tlv 48 (⟦<EncryptionKeyFields as Fields>⟧.octets (⟦<EncryptionKey as Sequence>⟧.fields v)) };
+    ghost enc = { λ v. sequence (explicit 0 (integer v.key_type) ++ explicit 1 (octet_string v.key_value)) };
 
-    ghost is_value = { λ v. ⟦<EncryptionKeyFields as Fields>⟧.are_values (⟦<EncryptionKey as Sequence>⟧.fields v) };
+    ghost is_value = { values_of ⟦<Self as Sequence>⟧ ⟦<<Self as Sequence>::Fields as Fields>⟧ };
 
     ghost first = { λ t. t == 48 };
 
-    ghost is_element = { λ v h. tagged_element 48 (⟦<EncryptionKeyFields as Fields>⟧.octets (⟦<EncryptionKey as Sequence>⟧.fields v)) };
+    ghost is_element = { λ v h. tagged_element 48 _ };
 
-    ghost one_value = { sequence_one_value ⟦<EncryptionKey as Sequence>⟧.fields ⟦<EncryptionKey as Sequence>⟧.with_fields (λ v. refl) ⟦<EncryptionKeyFields as Fields>⟧.told_apart ⟦<EncryptionKeyFields as Fields>⟧.are_values ⟦<EncryptionKeyFields as Fields>⟧.octets ⟦<EncryptionKeyFields as Fields>⟧.one_reading (tt, tt) };
-
-    fn known(&self) {
-        field_refs!(self; key_type, key_value).known_refs();
-    }
+    ghost one_value = { one_value_of ⟦<Self as Sequence>⟧ ⟦<<Self as Sequence>::Fields as Fields>⟧ (λ v. refl) (tt, tt) };
 
     fn starts(octet: u8) -> bool {
         octet == SEQUENCE
@@ -164,7 +143,5 @@ impl Der for EncryptionKey {
 }
 
 impl DerSequence for EncryptionKey {
-    ghost inner = { λ v. ⟦<EncryptionKeyFields as Fields>⟧.octets (⟦<EncryptionKey as Sequence>⟧.fields v) };
-
-    ghost is_sequence = { λ v. refl };
+    ghost is_sequence = { λ v. (_, refl) };
 }

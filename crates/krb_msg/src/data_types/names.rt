@@ -1,17 +1,14 @@
 //! Names.
 
-ghost use Rattle.std.specs.Prelude.{◌==◌, refl};
-ghost use Rattle.krb_der.specs.Composite.{both, field};
-ghost use Rattle.krb_der.specs.Tlv.{tlv};
+ghost use Rattle.std.specs.Prelude.{◌==◌, ◌++◌, refl};
+ghost use Rattle.krb_der.specs.Asn1.{explicit, general_string, integer, sequence, sequence_of};
+ghost use Rattle.krb_der.specs.SequenceLaws.{one_value_of, values_of};
 ghost use Rattle.krb_der.specs.TlvLaws.{tagged_element};
-ghost use Rattle.krb_der.specs.FieldLaws.{sequence_one_value};
 
-use krb_der::composite::{
-    Both, Field, FieldRefs, Fields, SEQUENCE, Sequence, read_sequence, write_sequence,
-};
+use krb_der::composite::{Fields, SEQUENCE, Sequence, read_sequence, write_sequence};
 use krb_der::{
     Asn1DerError, Asn1SequenceOf, Der, DerEncode, DerSequence, ExplicitContextTag0,
-    ExplicitContextTag1, GeneralStringAsn1, IntegerAsn1, field_refs, fields,
+    ExplicitContextTag1, GeneralStringAsn1, IntegerAsn1, field_refs,
 };
 use std::alloc::{AllocError, Global};
 
@@ -45,20 +42,17 @@ pub struct PrincipalName {
     pub name_string: ExplicitContextTag1<Asn1SequenceOf<KerberosStringAsn1>>,
 }
 
-type PrincipalNameFields = Both<
-    Field<ExplicitContextTag0<IntegerAsn1>>,
-    Field<ExplicitContextTag1<Asn1SequenceOf<KerberosStringAsn1>>>,
->;
-
 impl Sequence for PrincipalName {
-    type Fields = PrincipalNameFields;
+    type Fields = (
+        ExplicitContextTag0<IntegerAsn1>,
+        ExplicitContextTag1<Asn1SequenceOf<KerberosStringAsn1>>,
+    );
 
-    ghost fields = { λ v. both (field v.name_type) (field v.name_string) };
+    ghost fields = { λ v. (v.name_type, v.name_string) };
 
-    ghost with_fields = { λ f. record { name_type = f.0.0; name_string = f.1.0 } };
+    ghost with_fields = { λ f. record { name_type = f.0; name_string = f.1 } };
 
-    fn from_fields(parts: PrincipalNameFields) -> Self {
-        let fields!(name_type, name_string) = parts;
+    fn from_fields((name_type, name_string): Self::Fields) -> Self {
         PrincipalName {
             name_type,
             name_string,
@@ -67,19 +61,15 @@ impl Sequence for PrincipalName {
 }
 
 impl DerEncode for PrincipalName {
-    ghost enc = { λ v. tlv 48 (⟦<PrincipalNameFields as Fields>⟧.octets (⟦<PrincipalName as Sequence>⟧.fields v)) };
+    ghost enc = { λ v. sequence (explicit 0 (integer v.name_type) ++ explicit 1 (sequence_of general_string v.name_string)) };
 
-    ghost is_value = { λ v. ⟦<PrincipalNameFields as Fields>⟧.are_values (⟦<PrincipalName as Sequence>⟧.fields v) };
+    ghost is_value = { values_of ⟦<Self as Sequence>⟧ ⟦<<Self as Sequence>::Fields as Fields>⟧ };
 
     ghost first = { λ t. t == 48 };
 
-    ghost is_element = { λ v h. tagged_element 48 (⟦<PrincipalNameFields as Fields>⟧.octets (⟦<PrincipalName as Sequence>⟧.fields v)) };
+    ghost is_element = { λ v h. tagged_element 48 _ };
 
-    ghost one_value = { sequence_one_value ⟦<PrincipalName as Sequence>⟧.fields ⟦<PrincipalName as Sequence>⟧.with_fields (λ v. refl) ⟦<PrincipalNameFields as Fields>⟧.told_apart ⟦<PrincipalNameFields as Fields>⟧.are_values ⟦<PrincipalNameFields as Fields>⟧.octets ⟦<PrincipalNameFields as Fields>⟧.one_reading (tt, tt) };
-
-    fn known(&self) {
-        field_refs!(self; name_type, name_string).known_refs();
-    }
+    ghost one_value = { one_value_of ⟦<Self as Sequence>⟧ ⟦<<Self as Sequence>::Fields as Fields>⟧ (λ v. refl) (tt, tt) };
 
     fn starts(octet: u8) -> bool {
         octet == SEQUENCE
@@ -97,7 +87,5 @@ impl Der for PrincipalName {
 }
 
 impl DerSequence for PrincipalName {
-    ghost inner = { λ v. ⟦<PrincipalNameFields as Fields>⟧.octets (⟦<PrincipalName as Sequence>⟧.fields v) };
-
-    ghost is_sequence = { λ v. refl };
+    ghost is_sequence = { λ v. (_, refl) };
 }

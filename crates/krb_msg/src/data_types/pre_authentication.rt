@@ -1,19 +1,16 @@
 //! Parts of pre-authentication.
 
-ghost use Rattle.std.specs.Prelude.{◌==◌, refl};
-ghost use Rattle.krb_der.specs.Composite.{both, field, optional_field};
-ghost use Rattle.krb_der.specs.Tlv.{tlv};
+ghost use Rattle.std.specs.Prelude.{◌==◌, ◌++◌, refl};
+ghost use Rattle.krb_der.specs.Asn1.{boolean, explicit, generalized_time, integer, sequence};
+ghost use Rattle.krb_der.specs.Encoding.{optional};
+ghost use Rattle.krb_der.specs.SequenceLaws.{one_value_of, values_of};
 ghost use Rattle.krb_der.specs.TlvLaws.{only_tag, tagged_element};
-ghost use Rattle.krb_der.specs.FieldLaws.{sequence_one_value};
 
 use super::{EncryptedData, KerberosTime, Microseconds};
-use krb_der::composite::{
-    Both, Field, FieldRefs, Fields, OptionalField, SEQUENCE, Sequence, read_sequence,
-    write_sequence,
-};
+use krb_der::composite::{Fields, SEQUENCE, Sequence, read_sequence, write_sequence};
 use krb_der::{
     Asn1DerError, Der, DerEncode, DerSequence, ExplicitContextTag0, ExplicitContextTag1, Optional,
-    field_refs, fields,
+    field_refs,
 };
 use std::alloc::{AllocError, Global};
 
@@ -40,48 +37,41 @@ pub struct PaEncTsEnc {
     pub pausec: Optional<Option<ExplicitContextTag1<Microseconds>>>,
 }
 
-type PaEncTsEncFields = Both<
-    Field<ExplicitContextTag0<KerberosTime>>,
-    OptionalField<ExplicitContextTag1<Microseconds>>,
->;
-
 impl Sequence for PaEncTsEnc {
-    type Fields = PaEncTsEncFields;
+    type Fields = (
+        ExplicitContextTag0<KerberosTime>,
+        Optional<Option<ExplicitContextTag1<Microseconds>>>,
+    );
 
-    ghost fields = { λ v. both (field v.patimestamp) (optional_field v.pausec.0) };
+    ghost fields = { λ v. (v.patimestamp, v.pausec) };
 
-    ghost with_fields = { λ f. record { patimestamp = f.0.0; pausec = record { 0 = f.1.0 } } };
+    ghost with_fields = { λ f. record { patimestamp = f.0; pausec = f.1 } };
 
-    fn from_fields(parts: PaEncTsEncFields) -> Self {
-        let fields!(patimestamp, optional pausec) = parts;
+    fn from_fields((patimestamp, pausec): Self::Fields) -> Self {
         PaEncTsEnc {
             patimestamp,
-            pausec: Optional(pausec),
+            pausec,
         }
     }
 }
 
 impl DerEncode for PaEncTsEnc {
-    ghost enc = { λ v. tlv 48 (⟦<PaEncTsEncFields as Fields>⟧.octets (⟦<PaEncTsEnc as Sequence>⟧.fields v)) };
+    ghost enc = { λ v. sequence (explicit 0 (generalized_time v.patimestamp) ++ optional (λ x. explicit 1 (integer x)) v.pausec.0) };
 
-    ghost is_value = { λ v. ⟦<PaEncTsEncFields as Fields>⟧.are_values (⟦<PaEncTsEnc as Sequence>⟧.fields v) };
+    ghost is_value = { values_of ⟦<Self as Sequence>⟧ ⟦<<Self as Sequence>::Fields as Fields>⟧ };
 
     ghost first = { λ t. t == 48 };
 
-    ghost is_element = { λ v h. tagged_element 48 (⟦<PaEncTsEncFields as Fields>⟧.octets (⟦<PaEncTsEnc as Sequence>⟧.fields v)) };
+    ghost is_element = { λ v h. tagged_element 48 _ };
 
-    ghost one_value = { sequence_one_value ⟦<PaEncTsEnc as Sequence>⟧.fields ⟦<PaEncTsEnc as Sequence>⟧.with_fields (λ v. refl) ⟦<PaEncTsEncFields as Fields>⟧.told_apart ⟦<PaEncTsEncFields as Fields>⟧.are_values ⟦<PaEncTsEncFields as Fields>⟧.octets ⟦<PaEncTsEncFields as Fields>⟧.one_reading (tt, only_tag 161 _ refl) };
-
-    fn known(&self) {
-        field_refs!(self; patimestamp, optional pausec).known_refs();
-    }
+    ghost one_value = { one_value_of ⟦<Self as Sequence>⟧ ⟦<<Self as Sequence>::Fields as Fields>⟧ (λ v. refl) (tt, only_tag 161 _ refl) };
 
     fn starts(octet: u8) -> bool {
         octet == SEQUENCE
     }
 
     fn write(&self, alloc: Global, out: &mut Vec<u8>) -> Result<(), AllocError> {
-        write_sequence(alloc, &field_refs!(self; patimestamp, optional pausec), out)
+        write_sequence(alloc, &field_refs!(self; patimestamp, pausec), out)
     }
 }
 
@@ -92,9 +82,7 @@ impl Der for PaEncTsEnc {
 }
 
 impl DerSequence for PaEncTsEnc {
-    ghost inner = { λ v. ⟦<PaEncTsEncFields as Fields>⟧.octets (⟦<PaEncTsEnc as Sequence>⟧.fields v) };
-
-    ghost is_sequence = { λ v. refl };
+    ghost is_sequence = { λ v. (_, refl) };
 }
 
 /// Whether a PAC is asked for (MS-KILE, 2.2.3).
@@ -110,35 +98,28 @@ pub struct KerbPaPacRequest {
     pub include_pac: ExplicitContextTag0<bool>,
 }
 
-type KerbPaPacRequestFields = Field<ExplicitContextTag0<bool>>;
-
 impl Sequence for KerbPaPacRequest {
-    type Fields = KerbPaPacRequestFields;
+    type Fields = ExplicitContextTag0<bool>;
 
-    ghost fields = { λ v. field v.include_pac };
+    ghost fields = { λ v. v.include_pac };
 
-    ghost with_fields = { λ f. record { include_pac = f.0 } };
+    ghost with_fields = { λ f. record { include_pac = f } };
 
-    fn from_fields(parts: KerbPaPacRequestFields) -> Self {
-        let fields!(include_pac) = parts;
+    fn from_fields(include_pac: Self::Fields) -> Self {
         KerbPaPacRequest { include_pac }
     }
 }
 
 impl DerEncode for KerbPaPacRequest {
-    ghost enc = { λ v. tlv 48 (⟦<KerbPaPacRequestFields as Fields>⟧.octets (⟦<KerbPaPacRequest as Sequence>⟧.fields v)) };
+    ghost enc = { λ v. sequence (explicit 0 (boolean v.include_pac)) };
 
-    ghost is_value = { λ v. ⟦<KerbPaPacRequestFields as Fields>⟧.are_values (⟦<KerbPaPacRequest as Sequence>⟧.fields v) };
+    ghost is_value = { values_of ⟦<Self as Sequence>⟧ ⟦<<Self as Sequence>::Fields as Fields>⟧ };
 
     ghost first = { λ t. t == 48 };
 
-    ghost is_element = { λ v h. tagged_element 48 (⟦<KerbPaPacRequestFields as Fields>⟧.octets (⟦<KerbPaPacRequest as Sequence>⟧.fields v)) };
+    ghost is_element = { λ v h. tagged_element 48 _ };
 
-    ghost one_value = { sequence_one_value ⟦<KerbPaPacRequest as Sequence>⟧.fields ⟦<KerbPaPacRequest as Sequence>⟧.with_fields (λ v. refl) ⟦<KerbPaPacRequestFields as Fields>⟧.told_apart ⟦<KerbPaPacRequestFields as Fields>⟧.are_values ⟦<KerbPaPacRequestFields as Fields>⟧.octets ⟦<KerbPaPacRequestFields as Fields>⟧.one_reading tt };
-
-    fn known(&self) {
-        field_refs!(self; include_pac).known_refs();
-    }
+    ghost one_value = { one_value_of ⟦<Self as Sequence>⟧ ⟦<<Self as Sequence>::Fields as Fields>⟧ (λ v. refl) tt };
 
     fn starts(octet: u8) -> bool {
         octet == SEQUENCE
@@ -156,7 +137,5 @@ impl Der for KerbPaPacRequest {
 }
 
 impl DerSequence for KerbPaPacRequest {
-    ghost inner = { λ v. ⟦<KerbPaPacRequestFields as Fields>⟧.octets (⟦<KerbPaPacRequest as Sequence>⟧.fields v) };
-
-    ghost is_sequence = { λ v. refl };
+    ghost is_sequence = { λ v. (_, refl) };
 }

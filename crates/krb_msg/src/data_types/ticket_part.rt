@@ -1,26 +1,22 @@
 //! The encrypted part of a ticket.
 
-ghost use Rattle.std.specs.Prelude.{◌==◌, refl};
-ghost use Rattle.krb_der.specs.Composite.{both, field, optional_field};
-ghost use Rattle.krb_der.specs.Tlv.{tlv};
+ghost use Rattle.std.specs.Prelude.{◌==◌, ◌++◌, refl};
+ghost use Rattle.krb_der.specs.Asn1.{bit_string, explicit, general_string, generalized_time, integer, octet_string, sequence};
+ghost use Rattle.krb_der.specs.Encoding.{optional};
+ghost use Rattle.krb_der.specs.SequenceLaws.{one_value_of, values_of};
 ghost use Rattle.krb_der.specs.TlvLaws.{only_tag, tagged_element};
-ghost use Rattle.krb_der.specs.FieldLaws.{sequence_one_value};
 
 use super::{
     AuthorizationData, EncryptionKey, HostAddresses, KerberosFlags, KerberosTime, PrincipalName,
     Realm,
 };
-use krb_der::composite::{
-    Both, Field, FieldRefs, Fields, OptionalField, SEQUENCE, Sequence, read_sequence,
-    write_sequence,
-};
+use krb_der::composite::{Fields, SEQUENCE, Sequence, read_sequence, write_sequence};
 use krb_der::constants::types::ENC_TICKET_PART_TYPE;
 use krb_der::{
     ApplicationTag, Asn1DerError, Der, DerEncode, DerSequence, ExplicitContextTag0,
     ExplicitContextTag1, ExplicitContextTag2, ExplicitContextTag3, ExplicitContextTag4,
     ExplicitContextTag5, ExplicitContextTag6, ExplicitContextTag7, ExplicitContextTag8,
     ExplicitContextTag9, ExplicitContextTag10, IntegerAsn1, OctetStringAsn1, Optional, field_refs,
-    fields,
 };
 use std::alloc::{AllocError, Global};
 
@@ -40,38 +36,31 @@ pub struct TransitedEncoding {
     pub contents: ExplicitContextTag1<OctetStringAsn1>,
 }
 
-type TransitedEncodingFields = Both<
-    Field<ExplicitContextTag0<IntegerAsn1>>,
-    Field<ExplicitContextTag1<OctetStringAsn1>>,
->;
-
 impl Sequence for TransitedEncoding {
-    type Fields = TransitedEncodingFields;
+    type Fields = (
+        ExplicitContextTag0<IntegerAsn1>,
+        ExplicitContextTag1<OctetStringAsn1>,
+    );
 
-    ghost fields = { λ v. both (field v.tr_type) (field v.contents) };
+    ghost fields = { λ v. (v.tr_type, v.contents) };
 
-    ghost with_fields = { λ f. record { tr_type = f.0.0; contents = f.1.0 } };
+    ghost with_fields = { λ f. record { tr_type = f.0; contents = f.1 } };
 
-    fn from_fields(parts: TransitedEncodingFields) -> Self {
-        let fields!(tr_type, contents) = parts;
+    fn from_fields((tr_type, contents): Self::Fields) -> Self {
         TransitedEncoding { tr_type, contents }
     }
 }
 
 impl DerEncode for TransitedEncoding {
-    ghost enc = { λ v. tlv 48 (⟦<TransitedEncodingFields as Fields>⟧.octets (⟦<TransitedEncoding as Sequence>⟧.fields v)) };
+    ghost enc = { λ v. sequence (explicit 0 (integer v.tr_type) ++ explicit 1 (octet_string v.contents)) };
 
-    ghost is_value = { λ v. ⟦<TransitedEncodingFields as Fields>⟧.are_values (⟦<TransitedEncoding as Sequence>⟧.fields v) };
+    ghost is_value = { values_of ⟦<Self as Sequence>⟧ ⟦<<Self as Sequence>::Fields as Fields>⟧ };
 
     ghost first = { λ t. t == 48 };
 
-    ghost is_element = { λ v h. tagged_element 48 (⟦<TransitedEncodingFields as Fields>⟧.octets (⟦<TransitedEncoding as Sequence>⟧.fields v)) };
+    ghost is_element = { λ v h. tagged_element 48 _ };
 
-    ghost one_value = { sequence_one_value ⟦<TransitedEncoding as Sequence>⟧.fields ⟦<TransitedEncoding as Sequence>⟧.with_fields (λ v. refl) ⟦<TransitedEncodingFields as Fields>⟧.told_apart ⟦<TransitedEncodingFields as Fields>⟧.are_values ⟦<TransitedEncodingFields as Fields>⟧.octets ⟦<TransitedEncodingFields as Fields>⟧.one_reading (tt, tt) };
-
-    fn known(&self) {
-        field_refs!(self; tr_type, contents).known_refs();
-    }
+    ghost one_value = { one_value_of ⟦<Self as Sequence>⟧ ⟦<<Self as Sequence>::Fields as Fields>⟧ (λ v. refl) (tt, tt) };
 
     fn starts(octet: u8) -> bool {
         octet == SEQUENCE
@@ -89,9 +78,7 @@ impl Der for TransitedEncoding {
 }
 
 impl DerSequence for TransitedEncoding {
-    ghost inner = { λ v. ⟦<TransitedEncodingFields as Fields>⟧.octets (⟦<TransitedEncoding as Sequence>⟧.fields v) };
-
-    ghost is_sequence = { λ v. refl };
+    ghost is_sequence = { λ v. (_, refl) };
 }
 
 /// What the encrypted part of a ticket holds (RFC 4120, 5.3).
@@ -137,48 +124,35 @@ pub struct EncTicketPartInner {
     pub authorization_data: Optional<Option<ExplicitContextTag10<AuthorizationData>>>,
 }
 
-type EncTicketPartInnerFields = Both<
-    Both<
-        Field<ExplicitContextTag0<KerberosFlags>>,
-        Both<
-            Field<ExplicitContextTag1<EncryptionKey>>,
-            Both<
-                Field<ExplicitContextTag2<Realm>>,
-                Both<
-                    Field<ExplicitContextTag3<PrincipalName>>,
-                    Field<ExplicitContextTag4<TransitedEncoding>>,
-                >,
-            >,
-        >,
-    >,
-    Both<
-        Field<ExplicitContextTag5<KerberosTime>>,
-        Both<
-            OptionalField<ExplicitContextTag6<KerberosTime>>,
-            Both<
-                Field<ExplicitContextTag7<KerberosTime>>,
-                Both<
-                    OptionalField<ExplicitContextTag8<KerberosTime>>,
-                    Both<
-                        OptionalField<ExplicitContextTag9<HostAddresses>>,
-                        OptionalField<ExplicitContextTag10<AuthorizationData>>,
-                    >,
-                >,
-            >,
-        >,
-    >,
->;
-
 impl Sequence for EncTicketPartInner {
-    type Fields = EncTicketPartInnerFields;
+    type Fields = (
+        (
+            ExplicitContextTag0<KerberosFlags>,
+            ExplicitContextTag1<EncryptionKey>,
+            ExplicitContextTag2<Realm>,
+            ExplicitContextTag3<PrincipalName>,
+            ExplicitContextTag4<TransitedEncoding>,
+        ),
+        (
+            ExplicitContextTag5<KerberosTime>,
+            Optional<Option<ExplicitContextTag6<KerberosTime>>>,
+            ExplicitContextTag7<KerberosTime>,
+            Optional<Option<ExplicitContextTag8<KerberosTime>>>,
+            Optional<Option<ExplicitContextTag9<HostAddresses>>>,
+            Optional<Option<ExplicitContextTag10<AuthorizationData>>>,
+        ),
+    );
 
-    ghost fields = { λ v. both (both (field v.flags) (both (field v.key) (both (field v.crealm) (both (field v.cname) (field v.transited))))) (both (field v.auth_time) (both (optional_field v.starttime.0) (both (field v.endtime) (both (optional_field v.renew_till.0) (both (optional_field v.caddr.0) (optional_field v.authorization_data.0)))))) };
+    ghost fields = { λ v. ((v.flags, v.key, v.crealm, v.cname, v.transited), (v.auth_time, v.starttime, v.endtime, v.renew_till, v.caddr, v.authorization_data)) };
 
-    ghost with_fields = { λ f. record { flags = f.0.0.0; key = f.0.1.0.0; crealm = f.0.1.1.0.0; cname = f.0.1.1.1.0.0; transited = f.0.1.1.1.1.0; auth_time = f.1.0.0; starttime = record { 0 = f.1.1.0.0 }; endtime = f.1.1.1.0.0; renew_till = record { 0 = f.1.1.1.1.0.0 }; caddr = record { 0 = f.1.1.1.1.1.0.0 }; authorization_data = record { 0 = f.1.1.1.1.1.1.0 } } };
+    ghost with_fields = { λ f. record { flags = f.0.0; key = f.0.1; crealm = f.0.2; cname = f.0.3; transited = f.0.4; auth_time = f.1.0; starttime = f.1.1; endtime = f.1.2; renew_till = f.1.3; caddr = f.1.4; authorization_data = f.1.5 } };
 
-    fn from_fields(parts: EncTicketPartInnerFields) -> Self {
-        let fields!((flags, key, crealm, cname, transited), (auth_time, optional starttime, endtime, optional renew_till, optional caddr, optional authorization_data)) =
-            parts;
+    fn from_fields(
+        (
+            (flags, key, crealm, cname, transited),
+            (auth_time, starttime, endtime, renew_till, caddr, authorization_data),
+        ): Self::Fields,
+    ) -> Self {
         EncTicketPartInner {
             flags,
             key,
@@ -186,29 +160,25 @@ impl Sequence for EncTicketPartInner {
             cname,
             transited,
             auth_time,
-            starttime: Optional(starttime),
+            starttime,
             endtime,
-            renew_till: Optional(renew_till),
-            caddr: Optional(caddr),
-            authorization_data: Optional(authorization_data),
+            renew_till,
+            caddr,
+            authorization_data,
         }
     }
 }
 
 impl DerEncode for EncTicketPartInner {
-    ghost enc = { λ v. tlv 48 (⟦<EncTicketPartInnerFields as Fields>⟧.octets (⟦<EncTicketPartInner as Sequence>⟧.fields v)) };
+    ghost enc = { λ v. sequence ((explicit 0 (bit_string v.flags) ++ explicit 1 (⟦<EncryptionKey as DerEncode>⟧.enc v.key) ++ explicit 2 (general_string v.crealm) ++ explicit 3 (⟦<PrincipalName as DerEncode>⟧.enc v.cname) ++ explicit 4 (⟦<TransitedEncoding as DerEncode>⟧.enc v.transited)) ++ (explicit 5 (generalized_time v.auth_time) ++ optional (λ x. explicit 6 (generalized_time x)) v.starttime.0 ++ explicit 7 (generalized_time v.endtime) ++ optional (λ x. explicit 8 (generalized_time x)) v.renew_till.0 ++ optional (λ x. explicit 9 (⟦<HostAddresses as DerEncode>⟧.enc x)) v.caddr.0 ++ optional (λ x. explicit 10 (⟦<AuthorizationData as DerEncode>⟧.enc x)) v.authorization_data.0)) };
 
-    ghost is_value = { λ v. ⟦<EncTicketPartInnerFields as Fields>⟧.are_values (⟦<EncTicketPartInner as Sequence>⟧.fields v) };
+    ghost is_value = { values_of ⟦<Self as Sequence>⟧ ⟦<<Self as Sequence>::Fields as Fields>⟧ };
 
     ghost first = { λ t. t == 48 };
 
-    ghost is_element = { λ v h. tagged_element 48 (⟦<EncTicketPartInnerFields as Fields>⟧.octets (⟦<EncTicketPartInner as Sequence>⟧.fields v)) };
+    ghost is_element = { λ v h. tagged_element 48 _ };
 
-    ghost one_value = { sequence_one_value ⟦<EncTicketPartInner as Sequence>⟧.fields ⟦<EncTicketPartInner as Sequence>⟧.with_fields (λ v. refl) ⟦<EncTicketPartInnerFields as Fields>⟧.told_apart ⟦<EncTicketPartInnerFields as Fields>⟧.are_values ⟦<EncTicketPartInnerFields as Fields>⟧.octets ⟦<EncTicketPartInnerFields as Fields>⟧.one_reading ((tt, (tt, (tt, (tt, tt)))), (tt, (only_tag 166 _ refl, (tt, (only_tag 168 _ refl, (only_tag 169 _ refl, only_tag 170 _ refl)))))) };
-
-    fn known(&self) {
-        field_refs!(self; (flags, key, crealm, cname, transited), (auth_time, optional starttime, endtime, optional renew_till, optional caddr, optional authorization_data)).known_refs();
-    }
+    ghost one_value = { one_value_of ⟦<Self as Sequence>⟧ ⟦<<Self as Sequence>::Fields as Fields>⟧ (λ v. refl) ((tt, tt, tt, tt, tt), (tt, only_tag 166 _ refl, tt, only_tag 168 _ refl, only_tag 169 _ refl, only_tag 170 _ refl)) };
 
     fn starts(octet: u8) -> bool {
         octet == SEQUENCE
@@ -217,7 +187,7 @@ impl DerEncode for EncTicketPartInner {
     fn write(&self, alloc: Global, out: &mut Vec<u8>) -> Result<(), AllocError> {
         write_sequence(
             alloc,
-            &field_refs!(self; (flags, key, crealm, cname, transited), (auth_time, optional starttime, endtime, optional renew_till, optional caddr, optional authorization_data)),
+            &field_refs!(self; (flags, key, crealm, cname, transited), (auth_time, starttime, endtime, renew_till, caddr, authorization_data)),
             out,
         )
     }
@@ -230,9 +200,7 @@ impl Der for EncTicketPartInner {
 }
 
 impl DerSequence for EncTicketPartInner {
-    ghost inner = { λ v. ⟦<EncTicketPartInnerFields as Fields>⟧.octets (⟦<EncTicketPartInner as Sequence>⟧.fields v) };
-
-    ghost is_sequence = { λ v. refl };
+    ghost is_sequence = { λ v. (_, refl) };
 }
 
 /// The encrypted part of a ticket (RFC 4120, 5.3).

@@ -1,0 +1,10 @@
+-- What a comparison tells.
+use Rattle.std.specs.Prelude.{◌≡◌, ◌↔◌, Bool, IsTrue}
+
+-- the test answers true for equal values and for no others
+abbrev pub TellsEqual : {A : Type 0} → (A → A → Bool) → Type 0
+TellsEqual {A} eq = (a b : A) → IsTrue (eq a b) ↔ (a ≡ b)
+
+-- a clone is the value again
+abbrev pub ClonesValue : {A : Type 0} → (A → A → Type 0) → Type 0
+ClonesValue {A} is_clone = (a b : A) → is_clone a b → b ≡ a
