@@ -1,10 +1,7 @@
 -- What `decrypt_block` answers, from what its loop keeps.
 use Rattle.std.proofs.Common.{◌≡◌, ℕ, suc, ◌+◌, ◌-◌, ◌*◌, ◌<◌, ◌≤◌, min, List, length, take, sym, ap, ◌∙◌, arith, inl, inr, length-take}
-use Rattle.std.specs.List.{All}
-use Rattle.std.proofs.lemmas.List.Elements.{All-take}
-use Rattle.krb_block.specs.Aes.{key_expansion, key_length, round_count, cipher, add_round_key, aes_block, IsExpanded, IsKeySize}
-use Rattle.krb_block.specs.InverseCipher.{inverse_round, inverse_last_round, inverse_rounds, decipher, aes_undo, IsState}
-use Rattle.krb_block.proofs.AesInverting.{cipher-decipher, decipher-cipher}
+use Rattle.krb_block.specs.Aes.{key_expansion, key_words, round_count, add_round_key, IsExpanded}
+use Rattle.krb_block.specs.InverseCipher.{inverse_round, inverse_last_round, inverse_rounds, decipher, aes_undo}
 
 pub inverse_rounds_more : (w s t e : List ℕ) (nr n : ℕ) → n < nr → t ≡ inverse_round w (nr - n) s
     → inverse_rounds w s (nr - n) ≡ e → inverse_rounds w t (nr - (n + 1)) ≡ e
@@ -13,23 +10,6 @@ inverse_rounds_more w s t e nr n low new held =
     let f : nr - n ≡ suc (nr - (n + 1)) = omega arith in
     rw (new, f) (rw f at held)
 
--- an expanded key's block call is the cipher under its front
-aes_block_is : (keys v : List ℕ) (nr : ℕ) → IsExpanded keys nr → length keys ≡ 240 → take (4 * (nr - 6)) keys ≡ v
-    → (p : List ℕ) → aes_block v p ≡ cipher (take (16 * (nr + 1)) keys) nr p
-unfolding aes_block
-aes_block_is keys v nr is long view p =
-    let e : take (16 * (nr + 1)) keys ≡ key_expansion v = is.keys ∙ ap key_expansion view in
-    let len : length v ≡ min (4 * (nr - 6)) (length keys) = ap length (sym view) ∙ length-take (4 * (nr - 6)) keys in
-    let count : round_count (key_length v) ≡ nr = elim is.size [ inl four ↦ omega arith | inr eight ↦ omega arith ] in
-    ap (λ (m : ℕ). cipher (key_expansion v) m p) count ∙ ap (λ (x : List ℕ). cipher x nr p) (sym e)
-
--- the block call of a key of four or eight words
-pub aes_block_rounds : (v : List ℕ) (nr : ℕ) → IsKeySize (nr - 6) → length v ≡ 4 * (nr - 6) → (p : List ℕ) → aes_block v p ≡ cipher (key_expansion v) nr p
-unfolding aes_block
-aes_block_rounds v nr size len p =
-    let count : round_count (key_length v) ≡ nr = elim size [ inl four ↦ omega arith | inr eight ↦ omega arith ] in
-    ap (λ (m : ℕ). cipher (key_expansion v) m p) count
-
 -- the inverse cipher of a key, from its expansion
 aes_undo_is : (keys v : List ℕ) (nr : ℕ) → IsExpanded keys nr → length keys ≡ 240 → take (4 * (nr - 6)) keys ≡ v
     → (c : List ℕ) → aes_undo v c ≡ decipher (take (16 * (nr + 1)) keys) nr c
@@ -37,32 +17,8 @@ unfolding aes_undo
 aes_undo_is keys v nr is long view c =
     let e : take (16 * (nr + 1)) keys ≡ key_expansion v = is.keys ∙ ap key_expansion view in
     let len : length v ≡ min (4 * (nr - 6)) (length keys) = ap length (sym view) ∙ length-take (4 * (nr - 6)) keys in
-    let count : round_count (key_length v) ≡ nr = elim is.size [ inl four ↦ omega arith | inr eight ↦ omega arith ] in
+    let count : round_count (key_words v) ≡ nr = elim is.size [ inl four ↦ omega arith | inr eight ↦ omega arith ] in
     ap (λ (m : ℕ). decipher (key_expansion v) m c) count ∙ ap (λ (x : List ℕ). decipher x nr c) (sym e)
-
--- p is the one block that the key v takes to c
-pub record IsDeciphered (v c p : List ℕ) : Type 0 where
-  pub undone : aes_block v p ≡ c
-  pub alone : (q : List ℕ) → length q ≡ 16 → All (λ x. x < 256) q → aes_block v q ≡ c → q ≡ p
-
-pub deciphered : (keys v c s p : List ℕ) (nr n : ℕ) → IsExpanded keys nr → length keys ≡ 240 → take (4 * (nr - 6)) keys ≡ v
-    → IsState c → nr ≤ n
-    → inverse_rounds (take (16 * (nr + 1)) keys) s (nr - n)
-    ≡ inverse_rounds (take (16 * (nr + 1)) keys) (inverse_last_round (take (16 * (nr + 1)) keys) nr c) (nr - 1)
-    → p ≡ add_round_key (take (16 * (nr + 1)) keys) 0 s → IsDeciphered v c p
-unfolding inverse_rounds
-deciphered keys v c s p nr n is long view state done held last =
-    let w = take (16 * (nr + 1)) keys in
-    let octets : All (λ x. x < 256) w = All-take (λ x. x < 256) (16 * (nr + 1)) keys is.octets in
-    let none : nr - n ≡ 0 = omega arith in
-    let e : p ≡ decipher w nr c = last ∙ ap (add_round_key w 0) (rw none at held) in
-    let block = aes_block_is keys v nr is long view in
-    record {
-      undone = block p ∙ ap (cipher w nr) e ∙ cipher-decipher w octets nr c state;
-      alone = λ q ql qo eq.
-          sym (decipher-cipher w octets nr q (record { long = ql; octets = qo }))
-          ∙ ap (decipher w nr) (sym (block q) ∙ eq) ∙ sym e;
-    }
 
 -- what the loop gives is the inverse cipher
 pub undone_by : (keys v c s p : List ℕ) (nr n : ℕ) → IsExpanded keys nr → length keys ≡ 240 → take (4 * (nr - 6)) keys ≡ v → nr ≤ n

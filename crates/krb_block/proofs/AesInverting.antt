@@ -1,11 +1,11 @@
 -- The inverse cipher undoes the cipher, from both sides.
-use Rattle.std.proofs.Common.{◌≡◌, ℕ, zero, suc, ◌-◌, ◌<◌, List, refl, ap, ◌∙◌}
-use Rattle.std.specs.List.{All}
+use Rattle.std.proofs.Common.{◌≡◌, ℕ, zero, suc, ◌-◌, List, refl, ap, ◌∙◌}
+use Rattle.krb_block.specs.Modes.{IsOctets}
 use Rattle.krb_block.specs.Aes.{sub_bytes, shift_rows, mix_columns, add_round_key, round, rounds, last_round, cipher}
-use Rattle.krb_block.specs.InverseCipher.{inverse_sub_bytes, inverse_shift_rows, inverse_mix_columns, inverse_round, inverse_last_round, inverse_rounds, decipher, IsState}
-use Rattle.krb_block.proofs.AesStates.{sub_bytes-IsState, inverse_sub_bytes-IsState, shift_rows-IsState, inverse_shift_rows-IsState, mix_columns-IsState, inverse_mix_columns-IsState, add_round_key-IsState, add_round_key_twice, inverse_sub_bytes-sub_bytes, sub_bytes-inverse_sub_bytes, inverse_shift_rows-shift_rows, shift_rows-inverse_shift_rows, inverse_mix_columns-mix_columns, mix_columns-inverse_mix_columns}
+use Rattle.krb_block.specs.InverseCipher.{inverse_sub_bytes, inverse_shift_rows, inverse_mix_columns, inverse_round, inverse_last_round, inverse_rounds, decipher}
+use Rattle.krb_block.proofs.AesStates.{IsState, sub_bytes-IsState, inverse_sub_bytes-IsState, shift_rows-IsState, inverse_shift_rows-IsState, mix_columns-IsState, inverse_mix_columns-IsState, add_round_key-IsState, add_round_key_twice, inverse_sub_bytes-sub_bytes, sub_bytes-inverse_sub_bytes, inverse_shift_rows-shift_rows, shift_rows-inverse_shift_rows, inverse_mix_columns-mix_columns, mix_columns-inverse_mix_columns}
 
-module _ (w : List ℕ) (octets : All (λ x. x < 256) w) where
+module _ (w : List ℕ) (octets : IsOctets w) where
   pub round-IsState : (n : ℕ) (s : List ℕ) → IsState s → IsState (round w n s)
   round-IsState n s is = add_round_key-IsState w n _ octets (mix_columns-IsState _ (shift_rows-IsState _ (sub_bytes-IsState s is)))
 

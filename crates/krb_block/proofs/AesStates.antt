@@ -10,12 +10,18 @@ use lib.Bits.{xor_assoc, xor_self, xor_zero_r}
 use Rattle.krb_block.specs.Polynomial.{times}
 use Rattle.krb_block.specs.SBox.{s_box}
 use Rattle.krb_block.specs.Aes.{octet_at, state_of, column_coefficient, column_of, mix_polynomial, sub_bytes, shift_rows, mix_columns, add_round_key}
-use Rattle.krb_block.specs.InverseCipher.{inverse_s_box, unmix_polynomial, inverse_sub_bytes, inverse_shift_rows, inverse_mix_columns, IsState}
+use Rattle.krb_block.specs.InverseCipher.{inverse_s_box, unmix_polynomial, inverse_sub_bytes, inverse_shift_rows, inverse_mix_columns}
+use Rattle.krb_block.specs.Modes.{IsOctets}
 use Rattle.krb_block.proofs.Tables.{all_below, all_below_at}
 use Rattle.krb_block.proofs.AesTables.{s_box_octet, inverse_s_box_octet, s_box_undoes, inverse_s_box_undoes}
 use Rattle.krb_block.proofs.AesColumns.{unmix_mix, mix_unmix}
 
 -- ---- a state by its octets
+
+-- 16 octets
+pub record IsState (s : List ℕ) : Type 0 where
+  pub long : length s ≡ 16
+  pub octets : IsOctets s
 
 abbrev items : List ℕ → ℕ → ℕ → List ℕ
 items s i zero = []
@@ -49,40 +55,46 @@ state_same f g h =
     let e33 = h 3 3 (lit< tt) (lit< tt) in
     cc
 
+octets_at : (xs : List ℕ) → All (λ x. x < 256) xs → IsOctets xs
+octets_at xs all i = elim (cases_lt i (length xs)) [
+  | inl within ↦ All-get_or (λ x. x < 256) xs i 0 within all
+  | inr past ↦ rw (get_or_past xs i 0 past) (lit< tt)
+]
+
 pub state_octets : (f : ℕ → ℕ → ℕ) → ((r c : ℕ) → r < 4 → c < 4 → f r c < 256) → IsState (state_of f)
 state_octets f h =
     let p : ℕ → Type 0 = λ x. x < 256 in
     record {
       long = refl;
-      octets = All-from_recursion p (state_of f)
-          (h 0 0 (lit< tt) (lit< tt), (h 1 0 (lit< tt) (lit< tt), (h 2 0 (lit< tt) (lit< tt), (h 3 0 (lit< tt) (lit< tt), (h 0 1 (lit< tt) (lit< tt), (h 1 1 (lit< tt) (lit< tt), (h 2 1 (lit< tt) (lit< tt), (h 3 1 (lit< tt) (lit< tt), (h 0 2 (lit< tt) (lit< tt), (h 1 2 (lit< tt) (lit< tt), (h 2 2 (lit< tt) (lit< tt), (h 3 2 (lit< tt) (lit< tt), (h 0 3 (lit< tt) (lit< tt), (h 1 3 (lit< tt) (lit< tt), (h 2 3 (lit< tt) (lit< tt), (h 3 3 (lit< tt) (lit< tt), (tt)))))))))))))))));
+      octets = octets_at (state_of f) (All-from_recursion p (state_of f)
+          (h 0 0 (lit< tt) (lit< tt), (h 1 0 (lit< tt) (lit< tt), (h 2 0 (lit< tt) (lit< tt), (h 3 0 (lit< tt) (lit< tt), (h 0 1 (lit< tt) (lit< tt), (h 1 1 (lit< tt) (lit< tt), (h 2 1 (lit< tt) (lit< tt), (h 3 1 (lit< tt) (lit< tt), (h 0 2 (lit< tt) (lit< tt), (h 1 2 (lit< tt) (lit< tt), (h 2 2 (lit< tt) (lit< tt), (h 3 2 (lit< tt) (lit< tt), (h 0 3 (lit< tt) (lit< tt), (h 1 3 (lit< tt) (lit< tt), (h 2 3 (lit< tt) (lit< tt), (h 3 3 (lit< tt) (lit< tt), (tt))))))))))))))))));
     }
 
-pub octet_at-lt : (s : List ℕ) → IsState s → (r c : ℕ) → r < 4 → c < 4 → octet_at s r c < 256
-octet_at-lt s is r c hr hc = All-get_or (λ x. x < 256) s (r + 4 * c) 0 (omega (arith, is.long)) is.octets
+octet_at-lt : (s : List ℕ) → IsState s → (r c : ℕ) → octet_at s r c < 256
+octet_at-lt s is r c = is.octets (r + 4 * c)
 
 -- ---- each operation gives a state
 
 pub sub_bytes-IsState : (s : List ℕ) → IsState s → IsState (sub_bytes s)
 unfolding sub_bytes
-sub_bytes-IsState s is = state_octets (λ r c. s_box (octet_at s r c)) (λ r c hr hc. s_box_octet (octet_at s r c) (octet_at-lt s is r c hr hc))
+sub_bytes-IsState s is = state_octets (λ r c. s_box (octet_at s r c)) (λ r c hr hc. s_box_octet (octet_at s r c) (octet_at-lt s is r c))
 
 pub inverse_sub_bytes-IsState : (s : List ℕ) → IsState s → IsState (inverse_sub_bytes s)
 unfolding inverse_sub_bytes
-inverse_sub_bytes-IsState s is = state_octets (λ r c. inverse_s_box (octet_at s r c)) (λ r c hr hc. inverse_s_box_octet (octet_at s r c) (octet_at-lt s is r c hr hc))
+inverse_sub_bytes-IsState s is = state_octets (λ r c. inverse_s_box (octet_at s r c)) (λ r c hr hc. inverse_s_box_octet (octet_at s r c) (octet_at-lt s is r c))
 
 -- ---- and is undone
 
 pub inverse_sub_bytes-sub_bytes : (s : List ℕ) → IsState s → inverse_sub_bytes (sub_bytes s) ≡ s
 unfolding sub_bytes inverse_sub_bytes
 inverse_sub_bytes-sub_bytes s is =
-    state_same (λ r c. inverse_s_box (s_box (octet_at s r c))) (octet_at s) (λ r c hr hc. inverse_s_box_undoes (octet_at s r c) (octet_at-lt s is r c hr hc))
+    state_same (λ r c. inverse_s_box (s_box (octet_at s r c))) (octet_at s) (λ r c hr hc. inverse_s_box_undoes (octet_at s r c) (octet_at-lt s is r c))
     ∙ state_by_octets s is.long
 
 pub sub_bytes-inverse_sub_bytes : (s : List ℕ) → IsState s → sub_bytes (inverse_sub_bytes s) ≡ s
 unfolding sub_bytes inverse_sub_bytes
 sub_bytes-inverse_sub_bytes s is =
-    state_same (λ r c. s_box (inverse_s_box (octet_at s r c))) (octet_at s) (λ r c hr hc. s_box_undoes (octet_at s r c) (octet_at-lt s is r c hr hc))
+    state_same (λ r c. s_box (inverse_s_box (octet_at s r c))) (octet_at s) (λ r c hr hc. s_box_undoes (octet_at s r c) (octet_at-lt s is r c))
     ∙ state_by_octets s is.long
 
 pub inverse_shift_rows-shift_rows : (s : List ℕ) → IsState s → inverse_shift_rows (shift_rows s) ≡ s
@@ -95,11 +107,11 @@ shift_rows-inverse_shift_rows s is = state_by_octets s is.long
 
 pub shift_rows-IsState : (s : List ℕ) → IsState s → IsState (shift_rows s)
 unfolding shift_rows
-shift_rows-IsState s is = state_octets (λ r c. octet_at s r ((c + r) % 4)) (λ r c hr hc. octet_at-lt s is r ((c + r) % 4) hr (omega arith))
+shift_rows-IsState s is = state_octets (λ r c. octet_at s r ((c + r) % 4)) (λ r c hr hc. octet_at-lt s is r ((c + r) % 4))
 
 pub inverse_shift_rows-IsState : (s : List ℕ) → IsState s → IsState (inverse_shift_rows s)
 unfolding inverse_shift_rows
-inverse_shift_rows-IsState s is = state_octets (λ r c. octet_at s r ((c + 4 - r) % 4)) (λ r c hr hc. octet_at-lt s is r ((c + 4 - r) % 4) hr (omega arith))
+inverse_shift_rows-IsState s is = state_octets (λ r c. octet_at s r ((c + 4 - r) % 4)) (λ r c hr hc. octet_at-lt s is r ((c + 4 - r) % 4))
 
 times_octets : all_below (λ a. all_below (λ x. nat_lt (times a x) 256) 256) 16 ≡ true
 unfolding times
@@ -121,10 +133,10 @@ column_octet : (p s : List ℕ) → ((k : ℕ) → k < 4 → slice_index p k < 1
 column_octet p s small is r c hr hc =
     xor_lt 8 _ _
     (xor_lt 8 _ _
-    (xor_lt 8 _ _ (times_octet (slice_index p (r % 4)) (octet_at s 0 c) (small (r % 4) (omega arith)) (octet_at-lt s is 0 c (lit< tt) hc))
-    (times_octet (slice_index p ((r + 3) % 4)) (octet_at s 1 c) (small ((r + 3) % 4) (omega arith)) (octet_at-lt s is 1 c (lit< tt) hc)))
-    (times_octet (slice_index p ((r + 2) % 4)) (octet_at s 2 c) (small ((r + 2) % 4) (omega arith)) (octet_at-lt s is 2 c (lit< tt) hc)))
-    (times_octet (slice_index p ((r + 1) % 4)) (octet_at s 3 c) (small ((r + 1) % 4) (omega arith)) (octet_at-lt s is 3 c (lit< tt) hc))
+    (xor_lt 8 _ _ (times_octet (slice_index p (r % 4)) (octet_at s 0 c) (small (r % 4) (omega arith)) (octet_at-lt s is 0 c))
+    (times_octet (slice_index p ((r + 3) % 4)) (octet_at s 1 c) (small ((r + 3) % 4) (omega arith)) (octet_at-lt s is 1 c)))
+    (times_octet (slice_index p ((r + 2) % 4)) (octet_at s 2 c) (small ((r + 2) % 4) (omega arith)) (octet_at-lt s is 2 c)))
+    (times_octet (slice_index p ((r + 1) % 4)) (octet_at s 3 c) (small ((r + 1) % 4) (omega arith)) (octet_at-lt s is 3 c))
 
 pub mix_columns-IsState : (s : List ℕ) → IsState s → IsState (mix_columns s)
 unfolding mix_columns
@@ -151,31 +163,25 @@ pub inverse_mix_columns-mix_columns : (s : List ℕ) → IsState s → inverse_m
 unfolding mix_columns inverse_mix_columns
 inverse_mix_columns-mix_columns s is =
     let at = octet_at-lt s is in
-    let col = λ (c : ℕ) (h : c < 4). unmix_mix (octet_at s 0 c) (octet_at s 1 c) (octet_at s 2 c) (octet_at s 3 c)
-    (at 0 c (lit< tt) h) (at 1 c (lit< tt) h) (at 2 c (lit< tt) h) (at 3 c (lit< tt) h) in
-    columns_same _ _ _ _ s is.long (col 0 (lit< tt)) (col 1 (lit< tt)) (col 2 (lit< tt)) (col 3 (lit< tt))
+    let col = λ (c : ℕ). unmix_mix (octet_at s 0 c) (octet_at s 1 c) (octet_at s 2 c) (octet_at s 3 c)
+    (at 0 c) (at 1 c) (at 2 c) (at 3 c) in
+    columns_same _ _ _ _ s is.long (col 0) (col 1) (col 2) (col 3)
 
 pub mix_columns-inverse_mix_columns : (s : List ℕ) → IsState s → mix_columns (inverse_mix_columns s) ≡ s
 unfolding mix_columns inverse_mix_columns
 mix_columns-inverse_mix_columns s is =
     let at = octet_at-lt s is in
-    let col = λ (c : ℕ) (h : c < 4). mix_unmix (octet_at s 0 c) (octet_at s 1 c) (octet_at s 2 c) (octet_at s 3 c)
-    (at 0 c (lit< tt) h) (at 1 c (lit< tt) h) (at 2 c (lit< tt) h) (at 3 c (lit< tt) h) in
-    columns_same _ _ _ _ s is.long (col 0 (lit< tt)) (col 1 (lit< tt)) (col 2 (lit< tt)) (col 3 (lit< tt))
+    let col = λ (c : ℕ). mix_unmix (octet_at s 0 c) (octet_at s 1 c) (octet_at s 2 c) (octet_at s 3 c)
+    (at 0 c) (at 1 c) (at 2 c) (at 3 c) in
+    columns_same _ _ _ _ s is.long (col 0) (col 1) (col 2) (col 3)
 
 -- ---- the key
 
-pub any_octet : (w : List ℕ) → All (λ x. x < 256) w → (k : ℕ) → slice_index w k < 256
-any_octet w all k = elim (cases_lt k (length w)) [
-  | inl low ↦ all k 0 low
-  | inr past ↦ rw (get_or_past w k 0 past) (lit< tt)
-]
-
-pub add_round_key-IsState : (w : List ℕ) (n : ℕ) (s : List ℕ) → All (λ x. x < 256) w → IsState s → IsState (add_round_key w n s)
+pub add_round_key-IsState : (w : List ℕ) (n : ℕ) (s : List ℕ) → IsOctets w → IsState s → IsState (add_round_key w n s)
 unfolding add_round_key
 add_round_key-IsState w n s all is =
     state_octets (λ r c. bit_xor (octet_at s r c) (slice_index w (16 * n + (r + 4 * c))))
-    (λ r c hr hc. xor_lt 8 (octet_at s r c) (slice_index w (16 * n + (r + 4 * c))) (octet_at-lt s is r c hr hc) (any_octet w all (16 * n + (r + 4 * c))))
+    (λ r c hr hc. xor_lt 8 (octet_at s r c) (slice_index w (16 * n + (r + 4 * c))) (octet_at-lt s is r c) (all (16 * n + (r + 4 * c))))
 
 pub add_round_key_twice : (w : List ℕ) (n : ℕ) (s : List ℕ) → IsState s → add_round_key w n (add_round_key w n s) ≡ s
 unfolding add_round_key

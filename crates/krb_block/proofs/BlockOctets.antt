@@ -16,6 +16,12 @@ length-xor_lists (x ∷ xs) (y ∷ ys) e = ap suc (length-xor_lists xs ys (omega
 pub IsBlock-xor_lists : (xs ys : List ℕ) → IsBlock 16 xs → IsBlock 16 ys → IsBlock 16 (xor_lists xs ys)
 IsBlock-xor_lists xs ys h g = (length-xor_lists xs ys (h.0 ∙ sym g.0) ∙ h.0, AreBelow-xor_lists 8 xs ys h.1 g.1)
 
+pub xor_lists-comm : (xs ys : List ℕ) → xor_lists xs ys ≡ xor_lists ys xs
+xor_lists-comm [] [] = refl
+xor_lists-comm [] (y ∷ ys) = refl
+xor_lists-comm (x ∷ xs) [] = refl
+xor_lists-comm (x ∷ xs) (y ∷ ys) = rw (xor_comm x y, xor_lists-comm xs ys) refl
+
 -- the second time undoes the first
 pub xor_lists-twice : (xs ys : List ℕ) → length xs ≡ length ys → xor_lists (xor_lists xs ys) ys ≡ xs
 xor_lists-twice [] ys e = refl
@@ -56,10 +62,10 @@ get_or-then_zeros (x ∷ t) n zero = refl
 get_or-then_zeros (x ∷ t) n (suc k) = get_or-then_zeros t n k
 
 -- a block written octet by octet
-pub joined_end : (size : ℕ) (block part b : List ℕ) (i : ℕ) → length block ≡ size → length b ≡ size → length part ≤ size → i ≡ length part
+pub xored_end : (size : ℕ) (block part b : List ℕ) (i : ℕ) → length block ≡ size → length b ≡ size → length part ≤ size → i ≡ length part
     → ((k : ℕ) → k < i → get_or block k 0 ≡ bit_xor (get_or part k 0) (get_or b k 0)) → ((k : ℕ) → i ≤ k → get_or block k 0 ≡ get_or b k 0)
     → block ≡ xor_lists (filled_to size part) b
-joined_end size block part b i lb l fits ei below above =
+xored_end size block part b i lb l fits ei below above =
     let lf : length (filled_to size part) ≡ size = rw (length-append, length-replicate) (omega arith) in
     let lx : length (xor_lists (filled_to size part) b) ≡ size = length-xor_lists (filled_to size part) b (lf ∙ sym l) ∙ lf in
     ext_get_or 0 block (xor_lists (filled_to size part) b) (lb ∙ sym lx) (λ k lt.
@@ -72,11 +78,11 @@ joined_end size block part b i lb l fits ei below above =
           above k high ∙ sym (at ∙ ap (λ (j : ℕ). bit_xor j (get_or b k 0)) past ∙ xor_zero_l (get_or b k 0))
     ])
 
-pub joined_more : (block part b : List ℕ) (i : ℕ) → i < length block
+pub xored_more : (block part b : List ℕ) (i : ℕ) → i < length block
     → ((k : ℕ) → k < i → get_or block k 0 ≡ bit_xor (get_or part k 0) (get_or b k 0)) → ((k : ℕ) → i ≤ k → get_or block k 0 ≡ get_or b k 0)
     → ((k : ℕ) → k < i + 1 → get_or (set block i (bit_xor (get_or block i 0) (get_or part i 0))) k 0 ≡ bit_xor (get_or part k 0) (get_or b k 0))
     × ((k : ℕ) → i + 1 ≤ k → get_or (set block i (bit_xor (get_or block i 0) (get_or part i 0))) k 0 ≡ get_or b k 0)
-joined_more block part b i fits below above =
+xored_more block part b i fits below above =
     let x : ℕ = bit_xor (get_or block i 0) (get_or part i 0) in
     let now : bit_xor (get_or block i 0) (get_or part i 0) ≡ bit_xor (get_or part i 0) (get_or b i 0) =
     ap (λ (j : ℕ). bit_xor j (get_or part i 0)) (above i (omega arith)) ∙ xor_comm (get_or b i 0) (get_or part i 0) in (

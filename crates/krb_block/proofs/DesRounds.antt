@@ -1,6 +1,6 @@
 -- The code's numbers against the lists of bits.
-use Rattle.std.proofs.Common.{◌≡◌, ℕ, ◌+◌, ◌-◌, ◌*◌, ◌/◌, ◌%◌, ◌^◌, ◌<◌, ◌≤◌, List, [], ◌∷◌, ◌++◌, length, take, drop, map, get_or, set, slice_index, slice_index_or, nat_le, true, bit_xor, refl, sym, ap, ◌∙◌, arith}
-use Rattle.std.proofs.lemmas.List.{take_at, drop_at, drop-drop, drop_more, drop_all, append_assoc, append-nil, take_more_set, take_all, map_push, get_or-map}
+use Rattle.std.proofs.Common.{◌≡◌, ℕ, ◌+◌, ◌*◌, ◌/◌, ◌%◌, ◌^◌, ◌<◌, ◌≤◌, List, [], ◌∷◌, ◌++◌, length, take, drop, map, get_or, set, slice_index, slice_index_or, nat_le, true, bit_xor, refl, sym, ap, ◌∙◌, arith}
+use Rattle.std.proofs.lemmas.List.{take_at, drop_at, drop_more, drop_all, append_assoc, append-nil, take_more_set, take_all, map_push, get_or-map}
 use Rattle.std.proofs.lemmas.Nat.{shr_below, field_of, pow_pos}
 use Rattle.std.proofs.Math.Nat.{div-add-mod', mod-lt}
 use Rattle.std.proofs.Math.Arith.{digits_lt}
@@ -10,36 +10,15 @@ use Rattle.std.proofs.lemmas.List.Sums.{AllPass-from_list_all}
 use Rattle.std.proofs.lemmas.Bool.Decides.{nat_tests}
 use Rattle.krb_block.specs.DesTables.{second_choice}
 use Rattle.krb_block.specs.Xor.{xor_lists}
-use Rattle.krb_block.specs.Des.{bits, number_of_bits, bit_of, permuted, row_of, column_of, substituted_one, substituted, round_value, rounds, turned_left, keys_from}
-use Rattle.krb_block.proofs.DesBits.{length-bits, bits-append, slice_index-bits, bits-xor}
+use Rattle.krb_block.specs.Des.{bits, permuted, substituted_one, substituted, round_value, rounds, turned_left, keys_from}
+use Rattle.krb_block.proofs.DesBits.{length-bits, bits-append, bits-xor}
 
 pub bits-split : (a b x : ℕ) → bits (a + b) x ≡ bits a (x / 2 ^ b) ++ bits b (x % 2 ^ b)
 bits-split a b x =
     let low : x % 2 ^ b < 2 ^ b = mod-lt x (pow_pos b) in
     ap (bits (a + b)) (sym (div-add-mod' x (2 ^ b))) ∙ bits-append a b (x / 2 ^ b) (x % 2 ^ b) low
 
--- ---- a box
-pub number_of_two : (a b : ℕ) → number_of_bits (a ∷ b ∷ []) ≡ a * 2 + b
-unfolding number_of_bits
-number_of_two a b = omega arith
-
-pub number_of_four : (a b c d : ℕ) → number_of_bits (a ∷ b ∷ c ∷ d ∷ []) ≡ a * 8 + b * 4 + c * 2 + d
-unfolding number_of_bits
-number_of_four a b c d = omega arith
-
-pub one_is : (box : List (List ℕ)) (six : ℕ) → six < 64 → bits 4 (slice_index (slice_index_or box (six / 32 * 2 + six % 2) []) (six / 2 % 16)) ≡ substituted_one box (bits 6 six)
-one_is box six h =
-    let b1 : bit_of (bits 6 six) 1 ≡ six / 32 % 2 = slice_index-bits 6 six 0 5 refl in
-    let b2 : bit_of (bits 6 six) 2 ≡ six / 16 % 2 = slice_index-bits 6 six 1 4 refl in
-    let b3 : bit_of (bits 6 six) 3 ≡ six / 8 % 2 = slice_index-bits 6 six 2 3 refl in
-    let b4 : bit_of (bits 6 six) 4 ≡ six / 4 % 2 = slice_index-bits 6 six 3 2 refl in
-    let b5 : bit_of (bits 6 six) 5 ≡ six / 2 % 2 = slice_index-bits 6 six 4 1 refl in
-    let b6 : bit_of (bits 6 six) 6 ≡ six / 1 % 2 = slice_index-bits 6 six 5 0 refl in
-    let row : six / 32 * 2 + six % 2 ≡ row_of (bits 6 six) = rw (number_of_two, b1, b6) (omega arith) in
-    let column : six / 2 % 16 ≡ column_of (bits 6 six) = rw (number_of_four, b2, b3, b4, b5) (omega arith) in
-    ap (λ k. bits 4 (slice_index (slice_index_or box (six / 32 * 2 + six % 2) []) k)) column
-    ∙ ap (λ k. bits 4 (slice_index (slice_index_or box k []) (column_of (bits 6 six)))) row
-
+-- ---- the boxes
 -- six bits of x
 pub bits_window : (a b x : ℕ) → take 6 (drop a (bits (a + (6 + b)) x)) ≡ bits 6 (x / 2 ^ b % 64)
 bits_window a b x =
@@ -52,38 +31,6 @@ pub substituted-cons : (box : List (List ℕ)) (boxes : List (List (List ℕ))) 
     → substituted (box ∷ boxes) xs ≡ substituted_one box (take 6 xs) ++ substituted boxes (drop 6 xs)
 unfolding substituted
 substituted-cons box boxes xs = refl
-
-pub substitute_more : (boxes : List (List (List ℕ))) (x out i v : ℕ) → length boxes ≡ 8 → i < 8 → v < 16 → out < 2 ^ (4 * i)
-    → bits 4 v ≡ substituted_one (slice_index_or boxes i []) (bits 6 (x / 2 ^ (42 - 6 * i) % 64))
-    → bits (4 * i) out ++ substituted (drop i boxes) (drop (6 * i) (bits 48 x)) ≡ substituted boxes (bits 48 x)
-    → (bits (4 * (i + 1)) (out * 16 + v) ++ substituted (drop (i + 1) boxes) (drop (6 * (i + 1)) (bits 48 x)) ≡ substituted boxes (bits 48 x)) × (out * 16 + v < 2 ^ (4 * (i + 1)))
-substitute_more boxes x out i v lb lt lv small ev held =
-    let w : 6 * i + (6 + (42 - 6 * i)) ≡ 48 = omega arith in
-    let window : take 6 (drop (6 * i) (bits 48 x)) ≡ bits 6 (x / 2 ^ (42 - 6 * i) % 64) = ap (λ k. take 6 (drop (6 * i) (bits k x))) (sym w) ∙ bits_window (6 * i) (42 - 6 * i) x in
-    let next : 6 * i + 6 ≡ 6 * (i + 1) = omega arith in
-    let rest : drop 6 (drop (6 * i) (bits 48 x)) ≡ drop (6 * (i + 1)) (bits 48 x) = drop-drop 6 (6 * i) (bits 48 x) ∙ ap (λ k. drop k (bits 48 x)) next in
-    let step : substituted (drop i boxes) (drop (6 * i) (bits 48 x)) ≡ bits 4 v ++ substituted (drop (i + 1) boxes) (drop (6 * (i + 1)) (bits 48 x)) =
-    ap (λ (k : List (List (List ℕ))). substituted k (drop (6 * i) (bits 48 x))) (drop_more boxes i [] (omega arith))
-    ∙ substituted-cons (slice_index_or boxes i []) (drop (i + 1) boxes) (drop (6 * i) (bits 48 x))
-    ∙ ap (λ (k : List ℕ). substituted_one (slice_index_or boxes i []) k ++ substituted (drop (i + 1) boxes) (drop 6 (drop (6 * i) (bits 48 x)))) window
-    ∙ ap (λ (k : List ℕ). k ++ substituted (drop (i + 1) boxes) (drop 6 (drop (6 * i) (bits 48 x)))) (sym ev)
-    ∙ ap (λ (k : List ℕ). bits 4 v ++ substituted (drop (i + 1) boxes) k) rest in
-    let four : 4 * i + 4 ≡ 4 * (i + 1) = omega arith in
-    let pushed : bits (4 * (i + 1)) (out * 16 + v) ≡ bits (4 * i) out ++ bits 4 v = ap (λ k. bits k (out * 16 + v)) (sym four) ∙ bits-append (4 * i) 4 out v lv in
-    let power : 2 ^ (4 * (i + 1)) ≡ 2 ^ (4 * i) * 16 = ap (λ k. 2 ^ k) (sym four) ∙ pow-add 2 (4 * i) 4 in (
-      ap (λ (k : List ℕ). k ++ substituted (drop (i + 1) boxes) (drop (6 * (i + 1)) (bits 48 x))) pushed
-          ∙ append_assoc (bits (4 * i) out) (bits 4 v) (substituted (drop (i + 1) boxes) (drop (6 * (i + 1)) (bits 48 x)))
-          ∙ ap (λ (k : List ℕ). bits (4 * i) out ++ k) (sym step) ∙ held,
-      rw power (omega arith),
-    )
-
-pub substitute_end : (boxes : List (List (List ℕ))) (x out i : ℕ) → length boxes ≡ 8 → i ≡ 8
-    → bits (4 * i) out ++ substituted (drop i boxes) (drop (6 * i) (bits 48 x)) ≡ substituted boxes (bits 48 x)
-    → bits 32 out ≡ substituted boxes (bits 48 x)
-unfolding substituted
-substitute_end boxes x out i lb ei held =
-    let none : drop 8 boxes ≡ [] = drop_all 8 boxes (omega arith) in
-    sym (append-nil (bits 32 out)) ∙ ap (λ (k : List (List (List ℕ))). bits 32 out ++ substituted k (drop 48 (bits 48 x))) (sym none) ∙ (rw ei at held)
 
 -- ---- the rounds
 pub rounds-cons : (k : List ℕ) (ks : List (List ℕ)) (l r : List ℕ) → rounds (k ∷ ks) l r ≡ rounds ks r (xor_lists l (round_value r k))

@@ -1,12 +1,8 @@
 -- Triple DES on octets: what the code computes, and that its two calls undo each other.
-use Rattle.std.proofs.Common.{◌≡◌, ℕ, ◌<◌, List, length, map, reverse, slice_index, sym, ap, ◌∙◌, arith, inl, inr}
+use Rattle.std.proofs.Common.{◌≡◌, ℕ, List, length, map, reverse, sym, ap, ◌∙◌, arith}
 use Rattle.std.specs.Int.{w64, to_be_bytes}
-use Rattle.std.specs.List.{All}
-use Rattle.std.proofs.lemmas.Bool.{cases_lt}
-use Rattle.std.proofs.lemmas.List.{get_or_past}
-use Rattle.std.proofs.lemmas.List.Elements.{All-get_or}
 use Rattle.krb_block.specs.Modes.{IsOctets, IsBlock, AreInverse}
-use Rattle.krb_block.specs.Des.{bits, ciphered, round_keys, des_block, des_undo, octet_bits, octets_of_bits, cipher_octets, plain_octets, first_key, second_key, third_key, ede_block, ede_undo, AreRoundKeys, AreScheduled}
+use Rattle.krb_block.specs.Des.{bits, ciphered, round_keys, des_block, des_undo, octet_bits, octets_of_bits, cipher_octets, plain_octets, first_key, second_key, third_key, ede3, ede3_undo, AreRoundKeys, AreScheduled}
 use Rattle.krb_block.proofs.DesFeistel.{des_undo-block, des_block-undo}
 use Rattle.krb_block.proofs.DesOctets.{AreBits-octet_bits, AreBits-ciphered, length-octet_bits, length-ciphered, length-octets_of_bits, IsOctets-octets_of_bits, octets_of_bits-octet_bits, octet_bits-octets_of_bits, octets_of_bits-bits, octet_bits-to_be_bytes}
 
@@ -30,25 +26,25 @@ plain_octets_is keys key p n m scheduled before after =
     ∙ ap (λ (k : List (List ℕ)). octets_of_bits 8 (ciphered (reverse k) (bits 64 n))) (sym scheduled)
     ∙ ap (octets_of_bits 8) (sym after) ∙ octets_of_bits-bits m
 
-pub ede_block_is : (first second third key p : List ℕ) (n a b m : ℕ) → AreScheduled first second third key → octet_bits p ≡ bits 64 n
+pub ede3_is : (first second third key p : List ℕ) (n a b m : ℕ) → AreScheduled first second third key → octet_bits p ≡ bits 64 n
     → bits 64 a ≡ ciphered (map (bits 48) first) (bits 64 n)
     → bits 64 b ≡ ciphered (reverse (map (bits 48) second)) (bits 64 a)
     → bits 64 m ≡ ciphered (map (bits 48) third) (bits 64 b)
-    → to_be_bytes w64 m ≡ ede_block key p
-unfolding ede_block
-ede_block_is first second third key p n a b m is start once twice last =
+    → to_be_bytes w64 m ≡ ede3 key p
+unfolding ede3
+ede3_is first second third key p n a b m is start once twice last =
     let e1 : cipher_octets (first_key key) p ≡ to_be_bytes w64 a = cipher_octets_is first (first_key key) p n a is.first_keys start once in
     let e2 : plain_octets (second_key key) (to_be_bytes w64 a) ≡ to_be_bytes w64 b = plain_octets_is second (second_key key) (to_be_bytes w64 a) a b is.second_keys (octet_bits-to_be_bytes a) twice in
     let e3 : cipher_octets (third_key key) (to_be_bytes w64 b) ≡ to_be_bytes w64 m = cipher_octets_is third (third_key key) (to_be_bytes w64 b) b m is.third_keys (octet_bits-to_be_bytes b) last in
     sym (ap (λ (k : List ℕ). cipher_octets (third_key key) (plain_octets (second_key key) k)) e1 ∙ ap (cipher_octets (third_key key)) e2 ∙ e3)
 
-pub ede_undo_is : (first second third key c : List ℕ) (n a b m : ℕ) → AreScheduled first second third key → octet_bits c ≡ bits 64 n
+pub ede3_undo_is : (first second third key c : List ℕ) (n a b m : ℕ) → AreScheduled first second third key → octet_bits c ≡ bits 64 n
     → bits 64 a ≡ ciphered (reverse (map (bits 48) third)) (bits 64 n)
     → bits 64 b ≡ ciphered (map (bits 48) second) (bits 64 a)
     → bits 64 m ≡ ciphered (reverse (map (bits 48) first)) (bits 64 b)
-    → to_be_bytes w64 m ≡ ede_undo key c
-unfolding ede_undo
-ede_undo_is first second third key c n a b m is start once twice last =
+    → to_be_bytes w64 m ≡ ede3_undo key c
+unfolding ede3_undo
+ede3_undo_is first second third key c n a b m is start once twice last =
     let e1 : plain_octets (third_key key) c ≡ to_be_bytes w64 a = plain_octets_is third (third_key key) c n a is.third_keys start once in
     let e2 : cipher_octets (second_key key) (to_be_bytes w64 a) ≡ to_be_bytes w64 b = cipher_octets_is second (second_key key) (to_be_bytes w64 a) a b is.second_keys (octet_bits-to_be_bytes a) twice in
     let e3 : plain_octets (first_key key) (to_be_bytes w64 b) ≡ to_be_bytes w64 m = plain_octets_is first (first_key key) (to_be_bytes w64 b) b m is.first_keys (octet_bits-to_be_bytes b) last in
@@ -112,24 +108,18 @@ AreInverse-joined size E D F G h g = record {
   right = λ b is. ap F (h.right (G b) (g.deciphered b is)) ∙ g.right b is;
 }
 
-pub AreInverse-ede : (key : List ℕ) → AreInverse 8 (ede_block key) (ede_undo key)
-unfolding ede_block ede_undo
-AreInverse-ede key =
+pub AreInverse-ede3 : (key : List ℕ) → AreInverse 8 (ede3 key) (ede3_undo key)
+unfolding ede3 ede3_undo
+AreInverse-ede3 key =
     AreInverse-joined 8 (λ b. plain_octets (second_key key) (cipher_octets (first_key key) b)) (λ b. plain_octets (first_key key) (cipher_octets (second_key key) b)) (cipher_octets (third_key key)) (plain_octets (third_key key))
     (AreInverse-joined 8 (cipher_octets (first_key key)) (plain_octets (first_key key)) (plain_octets (second_key key)) (cipher_octets (second_key key))
     (AreInverse-octets (first_key key))
     (AreInverse-turned 8 (cipher_octets (second_key key)) (plain_octets (second_key key)) (AreInverse-octets (second_key key))))
     (AreInverse-octets (third_key key))
 
-octets_at : (xs : List ℕ) → All (λ x. x < 256) xs → IsOctets xs
-octets_at xs all i = elim (cases_lt i (length xs)) [
-  | inl within ↦ All-get_or (λ x. x < 256) xs i 0 within all
-  | inr past ↦ let e : slice_index xs i ≡ 0 = get_or_past xs i 0 past in rw e (omega arith)
-]
-
 -- what gives the block c is what undoing c gives
-pub ede_undo_alone : (key q c : List ℕ) → length q ≡ 8 → All (λ x. x < 256) q → ede_block key q ≡ c → q ≡ ede_undo key c
-ede_undo_alone key q c long all e = sym ((AreInverse-ede key).left q (long, octets_at q all)) ∙ ap (ede_undo key) e
+pub ede3_undo_alone : (key q c : List ℕ) → length q ≡ 8 → IsOctets q → ede3 key q ≡ c → q ≡ ede3_undo key c
+ede3_undo_alone key q c long octets e = sym ((AreInverse-ede3 key).left q (long, octets)) ∙ ap (ede3_undo key) e
 
-pub ede_block-undo : (key c : List ℕ) → length c ≡ 8 → IsOctets c → ede_block key (ede_undo key c) ≡ c
-ede_block-undo key c long octets = (AreInverse-ede key).right c (long, octets)
+pub ede3-undo : (key c : List ℕ) → length c ≡ 8 → IsOctets c → ede3 key (ede3_undo key c) ≡ c
+ede3-undo key c long octets = (AreInverse-ede3 key).right c (long, octets)

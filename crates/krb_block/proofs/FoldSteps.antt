@@ -1,8 +1,9 @@
 -- The steps of the loops of `fold_into`.
 use Rattle.std.proofs.Common.{◌≡◌, ℕ, zero, suc, ◌+◌, ◌-◌, ◌*◌, ◌/◌, ◌%◌, ◌<◌, ◌≤◌, ◌≢◌, List, length, replicate, refl, sym, ap, ◌∙◌, arith}
 use Rattle.std.proofs.Math.Nat.{mod-lt, zero-mul, zero-mod}
-use Rattle.krb_block.specs.Fold.{number, gcd, rot, joined, residue, n_folded}
-use Rattle.krb_block.proofs.FoldWorth.{worth, worth-zero, worth-suc, worth_pos, worth_pow, AreOctets, number_lt, number-nil, number-cons}
+use Rattle.krb_block.specs.Modes.{IsOctets}
+use Rattle.krb_block.specs.Fold.{number, gcd, rot, joined, residue, folded_number}
+use Rattle.krb_block.proofs.FoldWorth.{worth, worth-zero, worth-suc, worth_pos, worth_pow, number_lt, number-nil, number-cons}
 use Rattle.krb_block.proofs.FoldTurns.{joined_octet, joined_lt}
 use Rattle.krb_block.proofs.Folding.{Folding, Folding-start, Folding-step, Folding-end, next_place, next_turn}
 use Rattle.krb_block.proofs.FoldDivisors.{copies, whole_turns}
@@ -17,7 +18,7 @@ pub worth_top : (s : ℕ) → worth s ≡ worth s - 1 + 1
 worth_top s = omega (arith, worth_pos s)
 
 -- one octet
-pub octet_step : (s b e count carry x carry2 : ℕ) (bytes sum next : List ℕ) → 0 < s → AreOctets bytes → AreOctets next → length next ≡ s
+pub octet_step : (s b e count carry x carry2 : ℕ) (bytes sum next : List ℕ) → 0 < s → IsOctets bytes → IsOctets next → length next ≡ s
     → b < count → e < length bytes
     → x ≡ rot (number bytes) (8 * length bytes) (count - 1 - b) / worth e % 256
     → carry2 ≤ 1
@@ -39,7 +40,7 @@ octet_step s b e count carry x carry2 bytes sum next pos hd hn en hb he ex ec ev
     rw (← at) after
 
 -- all turns are added
-pub turns_end : (s b count carry v : ℕ) (bytes : List ℕ) → 0 < s → 0 < length bytes → AreOctets bytes → count ≡ s / gcd s (length bytes) → b ≡ count
+pub turns_end : (s b count carry v : ℕ) (bytes : List ℕ) → 0 < s → 0 < length bytes → IsOctets bytes → count ≡ s / gcd s (length bytes) → b ≡ count
     → Folding s (worth s - 1) (joined (number bytes) (8 * length bytes) count) (b * length bytes) v carry
     → v + carry * worth 0 ≡ residue (worth s - 1) (joined (number bytes) (8 * length bytes) count)
 turns_end s b count carry v bytes pos some hd ec eb f =
@@ -63,8 +64,8 @@ no_carry (suc c) v w h = absurd (omega arith)
 
 -- the last carry is added
 pub fold_end : (s n count carry i v x : ℕ) → 0 < s → 0 < n → count ≡ s / gcd s n → i ≡ s
-    → v + carry * worth i ≡ residue (worth s - 1) (joined x (8 * n) count) → v ≡ n_folded x (8 * n) (8 * s)
-unfolding n_folded
+    → v + carry * worth i ≡ residue (worth s - 1) (joined x (8 * n) count) → v ≡ folded_number x (8 * n) (8 * s)
+unfolding folded_number
 fold_end s n count carry i v x pos some ec ei ev =
     let top : 1 < worth s = some_worth s pos in
     let lt : residue (worth s - 1) (joined x (8 * n) count) < worth s = omega (arith, residue_lt (worth s - 1) (joined x (8 * n) count) (omega arith)) in

@@ -5,8 +5,9 @@ use Rattle.std.proofs.Math.Pow.{field, mod-mod-pow, mod-pow-add}
 use Rattle.std.proofs.Math.Nat.{add-mul-div_right, div-add-mod', div-div-eq-div-mul, mod-lt, mul_comm, mod-eq_of_lt, mod-eq-sub-mod, zero-mul, div-one, add-suc}
 use Rattle.std.proofs.lemmas.Nat.{pow-add, pow_pos, shr-shr, shr_below}
 use Rattle.std.proofs.lemmas.Bool.{cases_lt}
+use Rattle.krb_block.specs.Modes.{IsOctets}
 use Rattle.krb_block.specs.Fold.{number, turned, rot, joined}
-use Rattle.krb_block.proofs.FoldWorth.{worth, worth-zero, worth-suc, worth-add, worth_pos, worth_pow, AreOctets, number_lt, octet_of, octet-high}
+use Rattle.krb_block.proofs.FoldWorth.{worth, worth-zero, worth-suc, worth-add, worth_pos, worth_pow, number_lt, octet_of, octet-high}
 
 -- x twice in a row, shifted
 turned_twice : (x d r : ℕ) → (x * 2 ^ (d + r) + x) / 2 ^ r ≡ x / 2 ^ r * 2 ^ (d + r) + ((x % 2 ^ r) * 2 ^ d + x / 2 ^ r)
@@ -53,7 +54,7 @@ across y o h =
     sym (field y 8 o) ∙ ap (λ (i : ℕ). i / 2 ^ o) (sym cut16) ∙ field (y % 65536) 8 o ∙ ap (λ (i : ℕ). i / 2 ^ o % 256) both
 
 -- an octet of the octets written twice
-twice_octet : (xs : List ℕ) (t n : ℕ) → AreOctets xs → n ≡ length xs → t < 2 * n → (number xs * worth n + number xs) / worth t % 256 ≡ get_or xs (n - 1 - t % n) 0
+twice_octet : (xs : List ℕ) (t n : ℕ) → IsOctets xs → n ≡ length xs → t < 2 * n → (number xs * worth n + number xs) / worth t % 256 ≡ get_or xs (n - 1 - t % n) 0
 twice_octet xs t n h en lt = elim (cases_lt t n) [
   | inl low ↦
       let e : t % n ≡ t = mod-eq_of_lt low in
@@ -78,7 +79,7 @@ turn_parts j n pos =
     ap (λ (k : ℕ). k % (8 * n)) e ∙ digits_mod (a / n) small
 
 -- octet e from the right of turn j, from the octets
-pub rot_octet : (xs : List ℕ) (j e a n : ℕ) → AreOctets xs → n ≡ length xs → e < n → a ≡ (j + 5 * j / 8) % n + e
+pub rot_octet : (xs : List ℕ) (j e a n : ℕ) → IsOctets xs → n ≡ length xs → e < n → a ≡ (j + 5 * j / 8) % n + e
     → rot (number xs) (8 * n) j / worth e % 256 ≡ (get_or xs (n - 1 - (a + 1) % n) 0 * 256 + get_or xs (n - 1 - a % n) 0) / 2 ^ (5 * j % 8) % 256
 rot_octet xs j e a n h en he ea =
     let pos : 0 < n = omega arith in

@@ -6,6 +6,7 @@ use Rattle.std.proofs.lemmas.Nat.{pow-add}
 use Rattle.std.proofs.lemmas.List.{length-append, length-set}
 use Rattle.std.proofs.Math.ListN.{set}
 use Rattle.krb_block.specs.Fold.{number}
+use Rattle.krb_block.specs.Modes.{IsOctets}
 
 -- what an octet at place i from the right is worth
 unfoldable pub worth : ℕ → ℕ
@@ -41,18 +42,14 @@ pub number-cons : (x : ℕ) (xs : List ℕ) → number (x ∷ xs) ≡ x * worth 
 unfolding number worth
 number-cons x xs = refl
 
--- each is an octet
-abbrev pub AreOctets : List ℕ → Type 0
-AreOctets xs = (i : ℕ) → get_or xs i 0 < 256
+pub IsOctets-tail : (x : ℕ) (xs : List ℕ) → IsOctets (x ∷ xs) → IsOctets xs
+IsOctets-tail x xs h i = h (suc i)
 
-pub AreOctets-tail : (x : ℕ) (xs : List ℕ) → AreOctets (x ∷ xs) → AreOctets xs
-AreOctets-tail x xs h i = h (suc i)
-
-pub number_lt : (xs : List ℕ) → AreOctets xs → number xs < worth (length xs)
+pub number_lt : (xs : List ℕ) → IsOctets xs → number xs < worth (length xs)
 number_lt [] h = rw number-nil (worth_pos 0)
 number_lt (x ∷ xs) h =
     let hx : x ≤ 255 = omega (arith, h 0) in
-    let low : number xs < worth (length xs) = number_lt xs (AreOctets-tail x xs h) in
+    let low : number xs < worth (length xs) = number_lt xs (IsOctets-tail x xs h) in
     let bound : x * worth (length xs) ≤ 255 * worth (length xs) = mul-le-mul_right (worth (length xs)) hx in
     rw (number-cons, worth-suc) (omega arith)
 
@@ -75,16 +72,16 @@ octet-high a k e n lt =
     subst (λ (m : ℕ). (a * worth m + n) / worth e % 256 ≡ n / worth e % 256) (sym at) (octet_high_at a (k - suc e) e n)
 
 -- the octet at place i from the left and e from the right
-pub octet_of : (xs : List ℕ) (i e : ℕ) → AreOctets xs → i + suc e ≡ length xs → number xs / worth e % 256 ≡ get_or xs i 0
+pub octet_of : (xs : List ℕ) (i e : ℕ) → IsOctets xs → i + suc e ≡ length xs → number xs / worth e % 256 ≡ get_or xs i 0
 octet_of [] i e h at = absurd (omega arith)
 octet_of (x ∷ xs) zero e h at =
     let ee : e ≡ length xs = omega arith in
-    let low : number xs < worth (length xs) = number_lt xs (AreOctets-tail x xs h) in
+    let low : number xs < worth (length xs) = number_lt xs (IsOctets-tail x xs h) in
     rw (number-cons, ee, digits_div x low) (mod-eq_of_lt (h 0))
 octet_of (x ∷ xs) (suc i) e h at =
     let lt : e < length xs = omega arith in
     let tail : i + suc e ≡ length xs = omega arith in
-    rw (number-cons, octet-high x (length xs) e (number xs) lt) (octet_of xs i e (AreOctets-tail x xs h) tail)
+    rw (number-cons, octet-high x (length xs) e (number xs) lt) (octet_of xs i e (IsOctets-tail x xs h) tail)
 
 pub number-set : (xs : List ℕ) (i e x : ℕ) → i + suc e ≡ length xs
     → number (set xs i x) + get_or xs i 0 * worth e ≡ number xs + x * worth e

@@ -1,36 +1,44 @@
 -- The steps of the HMAC: the key's block, the padding of it, and the two hashes.
-use Rattle.std.proofs.Common.{◌≡◌, ◌≢◌, ℕ, ◌+◌, ◌<◌, ◌≤◌, List, ◌++◌, length, drop, replicate, map, get_or, set, bit_xor, below_more, append_assoc, refl, sym, ap, ◌∙◌, arith}
-use Rattle.std.proofs.lemmas.List.{get_or-set_same, get_or-set_other, get_or-map, ext_get_or, length-map, drop-replicate}
-use Rattle.std.proofs.lemmas.Bool.{le-ltb}
+use Rattle.std.proofs.Common.{◌≡◌, ℕ, ◌<◌, ◌≤◌, List, ◌++◌, length, drop, replicate, append_assoc, refl, sym, ap, ◌∙◌}
+use Rattle.std.proofs.lemmas.List.{length-replicate, drop-replicate}
+use Rattle.std.proofs.lemmas.Bool.{le-ltb, lt-ltb}
 use Rattle.sha1.specs.Sha1.{sha1, digest_bytes}
-use Rattle.krb_block.specs.Hmac.{block_key, padded, hmac}
+use Rattle.krb_block.specs.Xor.{xor_lists}
+use Rattle.krb_block.specs.Modes.{filled_to}
+use Rattle.krb_block.specs.Hmac.{block_key, padded, hmac_over, hmac}
+use Rattle.krb_block.proofs.BlockOctets.{xor_lists-comm}
+use Rattle.krb_block.proofs.Chaining.{filled_whole}
 
 -- a key of at most a block is followed by zeros
-pub block_short : (key front : List ℕ) → front ≡ key → length key ≤ 64 → front ++ drop (length key) (replicate 64 0) ≡ block_key key
-block_short key front e short = rw (le-ltb 64 (length key) short, e, drop-replicate {X = ℕ} (length key) 64 0) refl
+pub block_short : (hash : List ℕ → List ℕ) (block : ℕ) (key front : List ℕ) → front ≡ key → length key ≤ block → front ++ drop (length key) (replicate block 0) ≡ block_key hash block key
+block_short hash block key front e short = rw (le-ltb block (length key) short, e, drop-replicate {X = ℕ} (length key) block 0) refl
 
--- a write at index i goes on with what holds of the elements below i
-pub write_below : (out : List ℕ) (i x : ℕ) (f : ℕ → ℕ) → i < length out → ((k : ℕ) → k < i → get_or out k 0 ≡ f k) → x ≡ f i
-    → (k : ℕ) → k < i + 1 → get_or (set out i x) k 0 ≡ f k
-write_below out i x f fits below ex =
-    below_more _ _ (λ k lt. let ne : k ≢ i = omega arith in get_or-set_other out i k x 0 ne ∙ below k lt) (get_or-set_same out i x 0 fits ∙ ex)
+-- and the hash of a longer one
+pub block_long : (hash : List ℕ → List ℕ) (block size : ℕ) (key front : List ℕ) → front ≡ hash key → length front ≡ size → block < length key → front ++ drop size (replicate block 0) ≡ block_key hash block key
+block_long hash block size key front e len long =
+    let sized : length (hash key) ≡ size = ap length (sym e) ∙ len in
+    rw (lt-ltb block (length key) long, sized, e, drop-replicate {X = ℕ} size block 0) refl
 
--- and keeps those above it
-pub write_above : (out old : List ℕ) (i x : ℕ) → ((k : ℕ) → i ≤ k → get_or out k 0 ≡ get_or old k 0) → (k : ℕ) → i + 1 ≤ k → get_or (set out i x) k 0 ≡ get_or old k 0
-write_above out old i x above k h = let ne : k ≢ i = omega arith in get_or-set_other out i k x 0 ne ∙ above k (omega arith)
-
--- after the last write every octet is combined
-pub padded_end : (out block : List ℕ) (pad i : ℕ) → length out ≡ 64 → length block ≡ 64 → 64 ≤ i → ((k : ℕ) → k < i → get_or out k 0 ≡ bit_xor (get_or block k 0) pad) → out ≡ map (λ x. bit_xor x pad) block
-padded_end out block pad i lo lb hi below =
-    ext_get_or 0 out (map (λ x. bit_xor x pad) block) (lo ∙ sym (length-map block (λ x. bit_xor x pad) ∙ lb))
-    (λ k lt. below k (omega arith) ∙ sym (get_or-map (λ x. bit_xor x pad) block k 0 0 (omega arith)))
+-- the key's block, combined with a block of one octet
+pub padded_is : (hash : List ℕ → List ℕ) (block : ℕ) (key out b : List ℕ) (pad : ℕ) → out ≡ xor_lists (filled_to block (replicate block pad)) b → b ≡ block_key hash block key → out ≡ padded hash block key pad
+padded_is hash block key out b pad e at =
+    e ∙ ap (λ (k : List ℕ). xor_lists k b) (filled_whole block (replicate block pad) (length-replicate block pad))
+    ∙ ap (xor_lists (replicate block pad)) at ∙ xor_lists-comm (replicate block pad) (block_key hash block key)
 
 -- the outer hash of the inner one
-pub hmac_is : (key first second digest mac : List ℕ) → digest ≡ sha1 ((padded key 0x36 ++ first) ++ second) → mac ≡ sha1 (padded key 0x5c ++ digest) → mac ≡ hmac key (first ++ second)
-unfolding hmac
-hmac_is key first second digest mac inner outer =
-    outer ∙ ap (λ d. sha1 (padded key 0x5c ++ d)) (inner ∙ ap sha1 (append_assoc (padded key 0x36) first second))
+pub hmac_is : (hash : List ℕ → List ℕ) (block : ℕ) (key first second digest mac : List ℕ) → digest ≡ hash ((padded hash block key 0x36 ++ first) ++ second) → mac ≡ hash (padded hash block key 0x5c ++ digest) → mac ≡ hmac_over hash block key (first ++ second)
+unfolding hmac_over
+hmac_is hash block key first second digest mac inner outer =
+    outer ∙ ap (λ d. hash (padded hash block key 0x5c ++ d)) (inner ∙ ap hash (append_assoc (padded hash block key 0x36) first second))
+
+-- an HMAC has as many octets as the hash
+hmac_over-size : (hash : List ℕ → List ℕ) (block size : ℕ) → ((m : List ℕ) → length (hash m) ≡ size) → (key message : List ℕ) → length (hmac_over hash block key message) ≡ size
+unfolding hmac_over
+hmac_over-size hash block size sized key message = sized (padded hash block key 0x5c ++ hash (padded hash block key 0x36 ++ message))
+
+sha1_size : (m : List ℕ) → length (sha1 m) ≡ 20
+unfolding sha1 digest_bytes
+sha1_size m = refl
 
 pub hmac_size : (key message : List ℕ) → length (hmac key message) ≡ 20
-unfolding hmac sha1 digest_bytes
-hmac_size key message = refl
+hmac_size key message = hmac_over-size sha1 64 20 sha1_size key message

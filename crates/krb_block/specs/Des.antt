@@ -114,12 +114,12 @@ abbrev pub third_key : List ℕ → List ℕ
 third_key key = take 8 (drop 16 key)
 
 -- E(K3, D(K2, E(K1, p)))
-unfoldable pub ede_block : List ℕ → List ℕ → List ℕ
-ede_block key p = cipher_octets (third_key key) (plain_octets (second_key key) (cipher_octets (first_key key) p))
+unfoldable pub ede3 : List ℕ → List ℕ → List ℕ
+ede3 key p = cipher_octets (third_key key) (plain_octets (second_key key) (cipher_octets (first_key key) p))
 
 -- D(K1, E(K2, D(K3, c)))
-unfoldable pub ede_undo : List ℕ → List ℕ → List ℕ
-ede_undo key c = plain_octets (first_key key) (cipher_octets (second_key key) (plain_octets (third_key key) c))
+unfoldable pub ede3_undo : List ℕ → List ℕ → List ℕ
+ede3_undo key c = plain_octets (first_key key) (cipher_octets (second_key key) (plain_octets (third_key key) c))
 
 -- ---- what the code keeps
 

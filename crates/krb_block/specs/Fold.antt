@@ -39,9 +39,9 @@ residue m zero = 0
 residue m (suc j) = suc (j % m)
 
 -- the k-bit number x folded to n bits
-unfoldable pub n_folded : ℕ → ℕ → ℕ → ℕ
-n_folded x k n = residue (2 ^ n - 1) (joined x k (lcm n k / k))
+unfoldable pub folded_number : ℕ → ℕ → ℕ → ℕ
+folded_number x k n = residue (2 ^ n - 1) (joined x k (lcm n k / k))
 
 -- the octets of xs folded to n bits, n being a multiple of 8
-unfoldable pub folded : List ℕ → ℕ → List ℕ
-folded xs n = bytes_high_first (n / 8) (n_folded (number xs) (8 * length xs) n)
+unfoldable pub fold : List ℕ → ℕ → List ℕ
+fold xs n = bytes_high_first (n / 8) (folded_number (number xs) (8 * length xs) n)

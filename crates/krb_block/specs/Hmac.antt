@@ -1,24 +1,32 @@
--- HMAC (RFC 2104) over SHA-1 (FIPS 180-4). A key and a message are lists of octets.
-use Rattle.std.specs.Prelude.{ℕ, ◌-◌, nat_lt, List, ◌++◌, length, replicate, map, bit_xor, if◌then◌else◌}
-use Rattle.sha1.specs.Sha1.{Holds, sha1}
-use Rattle.krb_block.specs.declared.hmac.HmacSha1Key.{HmacSha1Key}
+-- HMAC (RFC 2104) over a hash function, which takes blocks of so many octets. A key and a message are lists of octets.
+use Rattle.std.specs.Prelude.{ℕ, ◌-◌, ◌<◌, ◌≤◌, ◌^◌, nat_lt, List, ◌++◌, length, replicate, if◌then◌else◌}
+use Rattle.krb_block.specs.Xor.{xor_lists}
+use Rattle.sha1.specs.Sha1.{sha1}
 
--- a key of more than a block of 64 octets is hashed first (RFC 2104, 2)
-abbrev pub short_key : List ℕ → List ℕ
-short_key key = if nat_lt 64 (length key) then sha1 key else key
+-- a hash has some octets, and no more than a block, which fits in memory
+abbrev pub AreSizes : ℕ → ℕ → Type 0
+AreSizes block size = (0 < size) × (size ≤ block) × (block < 2 ^ 63)
 
--- the key, filled with zeros to a block
-abbrev pub block_key : List ℕ → List ℕ
-block_key key = short_key key ++ replicate (64 - length (short_key key)) 0
+-- a key of more than a block is hashed first (RFC 2104, 2)
+abbrev pub short_key : (List ℕ → List ℕ) → ℕ → List ℕ → List ℕ
+short_key hash block key = if nat_lt block (length key) then hash key else key
 
--- the block, each octet combined with this one by exclusive or
-abbrev pub padded : List ℕ → ℕ → List ℕ
-padded key pad = map (λ x. bit_xor x pad) (block_key key)
+-- K, the key filled with zeros to a block (RFC 2104, 2)
+abbrev pub block_key : (List ℕ → List ℕ) → ℕ → List ℕ → List ℕ
+block_key hash block key = short_key hash block key ++ replicate (block - length (short_key hash block key)) 0
+
+-- K XOR pad: the key's block, combined by exclusive or with a block of this octet
+abbrev pub padded : (List ℕ → List ℕ) → ℕ → List ℕ → ℕ → List ℕ
+padded hash block key pad = xor_lists (block_key hash block key) (replicate block pad)
 
 -- H(K XOR opad, H(K XOR ipad, message)) (RFC 2104, 2)
-unfoldable pub hmac : List ℕ → List ℕ → List ℕ
-hmac key message = sha1 (padded key 0x5c ++ sha1 (padded key 0x36 ++ message))
+unfoldable pub hmac_over : (List ℕ → List ℕ) → ℕ → List ℕ → List ℕ → List ℕ
+hmac_over hash block key message = hash (padded hash block key 0x5c ++ hash (padded hash block key 0x36 ++ message))
 
--- both hashes have taken the key's padded block
-abbrev pub IsReady : HmacSha1Key → List ℕ → Type 0
-IsReady ready key = Holds ready.inner (padded key 0x36) × Holds ready.outer (padded key 0x5c)
+-- over SHA-1, which takes blocks of 64 octets (FIPS 180-4, figure 1)
+abbrev pub hmac : List ℕ → List ℕ → List ℕ
+hmac key message = hmac_over sha1 64 key message
+
+-- two hashes, of which these are the messages taken, have taken the key's padded block
+abbrev pub IsReady : (List ℕ → Type 0) → (List ℕ → Type 0) → (List ℕ → List ℕ) → ℕ → List ℕ → Type 0
+IsReady inner outer hash block key = inner (padded hash block key 0x36) × outer (padded hash block key 0x5c)

@@ -1,15 +1,14 @@
 //! The AES block cipher (FIPS 197), for keys of 16 and of 32 octets.
 
-ghost use Rattle.std.specs.Prelude.{◌≡◌, ◌≢◌, ℕ, ◌-◌, ◌*◌, ◌<◌, List, length, take, MatchResult};
-ghost use Rattle.std.specs.List.{All};
+ghost use Rattle.std.specs.Prelude.{◌≡◌, ◌≢◌, ℕ, ◌-◌, ◌*◌, List, length, take, MatchResult};
 ghost use Rattle.krb_block.specs.Aes.{aes_block, IsExpanded};
 ghost use Rattle.krb_block.specs.InverseCipher.{aes_undo};
-ghost use Rattle.krb_block.specs.Modes.{AreInverse};
+ghost use Rattle.krb_block.specs.Modes.{AreInverse, IsOctets};
 ghost use Rattle.krb_block.specs.Size.{key_octets};
 
 use crate::block_cipher::BlockCipher;
 use crate::error::{KerberosCryptoError, KerberosCryptoResult};
-use key_expansion::{ROUND_KEYS_SIZE, are_octets, expand};
+use key_expansion::{ROUND_KEYS_SIZE, expand};
 use rounds::{add_round_key, inverse_last_round, inverse_round, last_round, round};
 use std::marker::Model;
 
@@ -111,11 +110,10 @@ impl AesKey {
     /// The one block that the cipher makes this one of, by the inverse cipher (FIPS 197, 5.3).
     pub fn decrypt_block(&self, block: [u8; AES_BLOCK_SIZE]) -> [u8; AES_BLOCK_SIZE]
         ensures undone { aes_block self.now result ≡ block }
-        ensures alone { (q : List ℕ) → length q ≡ 16 → All (λ x. x < 256) q → aes_block self.now q ≡ block → q ≡ result }
+        ensures alone { (q : List ℕ) → length q ≡ 16 → IsOctets q → aes_block self.now q ≡ block → q ≡ result }
         ensures value { result ≡ aes_undo self.now block }
     {
         let keys = &self.round_keys[..16 * (self.rounds + 1)];
-        are_octets(&block);
         let mut s = inverse_last_round(keys, self.rounds, block);
         'rounds: for n in 1..self.rounds {
             let next = inverse_round(keys, self.rounds - n, s);

@@ -3,7 +3,8 @@
 ghost use Rattle.std.specs.Prelude.{◌≡◌, ℕ, ◌+◌, ◌-◌, ◌*◌, ◌/◌, ◌%◌, ◌<◌, ◌≤◌, ◌^◌, List, length, IfOk};
 ghost use Rattle.krb_block.specs.Modes.{IsOctets, AreInverse, IsCbc};
 
-use crate::block_cipher::{BlockCipher, joined_with};
+use crate::block_cipher::BlockCipher;
+use crate::xor::xored_with;
 use std::alloc::{AllocError, Global};
 
 /// The whole blocks, each combined with the encrypted block before it and encrypted.
@@ -20,7 +21,7 @@ pub(crate) fn encrypt_cbc<const SIZE: usize, C: BlockCipher<SIZE>>(
     let mut out = Vec::with_capacity(alloc, payload.len())?;
     let mut before = [0u8; SIZE];
     for part in payload.as_chunks::<SIZE>().0 {
-        let block = joined_with(&before, part);
+        let block = xored_with(&before, part);
         before = cipher.encrypt_block(&block);
         out.extend_from_slice(&before)?;
     }
@@ -43,7 +44,7 @@ pub(crate) fn decrypt_cbc<const SIZE: usize, C: BlockCipher<SIZE>>(
     let mut out = Vec::with_capacity(alloc, cipher_text.len())?;
     let mut before = [0u8; SIZE];
     for block in cipher_text.as_chunks::<SIZE>().0 {
-        out.extend_from_slice(&joined_with(&before, &cipher.decrypt_block(block)))?;
+        out.extend_from_slice(&xored_with(&before, &cipher.decrypt_block(block)))?;
         before = *block;
     }
     Ok(out)

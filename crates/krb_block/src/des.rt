@@ -1,9 +1,8 @@
 //! Triple DES (NIST SP 800-67, 3.1; RFC 3961, 6.3), for keys of 24 octets: three keys of DES (FIPS 46-3).
 
-ghost use Rattle.std.specs.Prelude.{◌≡◌, ◌≢◌, ℕ, ◌+◌, ◌<◌, ◌≤◌, List, length, take, drop, MatchResult};
-ghost use Rattle.std.specs.List.{All};
-ghost use Rattle.krb_block.specs.Des.{bits, octet_bits, ede_block, ede_undo, AreScheduled};
-ghost use Rattle.krb_block.specs.Modes.{AreInverse};
+ghost use Rattle.std.specs.Prelude.{◌≡◌, ◌≢◌, ℕ, ◌+◌, ◌≤◌, List, length, take, drop, MatchResult};
+ghost use Rattle.krb_block.specs.Des.{bits, octet_bits, ede3, ede3_undo, AreScheduled};
+ghost use Rattle.krb_block.specs.Modes.{AreInverse, IsOctets};
 
 use crate::block_cipher::BlockCipher;
 use crate::error::{KerberosCryptoError, KerberosCryptoResult};
@@ -66,7 +65,7 @@ impl DesKey {
     /// The block that triple DES makes of this one under the key: enciphered with its first key, deciphered with its
     /// second, enciphered with its third.
     pub fn encrypt_block(&self, block: [u8; DES3_BLOCK_SIZE]) -> [u8; DES3_BLOCK_SIZE]
-        ensures { result ≡ ede_block self.now block }
+        ensures { result ≡ ede3 self.now block }
     {
         let once = encipher(&self.first, u64::from_be_bytes(block));
         let twice = decipher(&self.second, once);
@@ -75,9 +74,9 @@ impl DesKey {
 
     /// The one block that triple DES makes this one of under the key.
     pub fn decrypt_block(&self, block: [u8; DES3_BLOCK_SIZE]) -> [u8; DES3_BLOCK_SIZE]
-        ensures undone { ede_block self.now result ≡ block }
-        ensures alone { (q : List ℕ) → length q ≡ 8 → All (λ x. x < 256) q → ede_block self.now q ≡ block → q ≡ result }
-        ensures value { result ≡ ede_undo self.now block }
+        ensures undone { ede3 self.now result ≡ block }
+        ensures alone { (q : List ℕ) → length q ≡ 8 → IsOctets q → ede3 self.now q ≡ block → q ≡ result }
+        ensures value { result ≡ ede3_undo self.now block }
     {
         let once = decipher(&self.third, u64::from_be_bytes(block));
         let twice = encipher(&self.second, once);
@@ -86,16 +85,16 @@ impl DesKey {
 
     /// Tells a proof that the two block calls undo each other. It does nothing.
     pub(crate) fn undoes(&self)
-        ensures { AreInverse 8 (ede_block self.now) (ede_undo self.now) }
+        ensures { AreInverse 8 (ede3 self.now) (ede3_undo self.now) }
     {}
 }
 
 impl BlockCipher<DES3_BLOCK_SIZE> for DesKey {
-    ghost use Rattle.krb_block.specs.Des.{ede_block, ede_undo};
+    ghost use Rattle.krb_block.specs.Des.{ede3, ede3_undo};
 
-    ghost enciphers = { ede_block };
+    ghost enciphers = { ede3 };
 
-    ghost deciphers = { ede_undo };
+    ghost deciphers = { ede3_undo };
 
     fn encrypt_block(&self, block: &[u8; DES3_BLOCK_SIZE]) -> [u8; DES3_BLOCK_SIZE] {
         self.encrypt_block(*block)

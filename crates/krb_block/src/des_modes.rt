@@ -3,7 +3,7 @@
 ghost use Rattle.std.specs.Prelude.{◌≡◌, ◌≢◌, ◌%◌, ℕ, List, length, IfOk, IfErr};
 ghost use Rattle.krb_block.specs.CryptoError.{RefusesKey, RefusesKeyOr};
 ghost use Rattle.krb_block.specs.declared.error.KerberosCryptoError.TheVariants.{OutOfMemory};
-ghost use Rattle.krb_block.specs.Des.{ede_block};
+ghost use Rattle.krb_block.specs.Des.{ede3};
 ghost use Rattle.krb_block.specs.Modes.{IsCbc, IsFill, IsOctets};
 
 use crate::cbc::{decrypt_cbc, encrypt_cbc};
@@ -15,7 +15,7 @@ use std::alloc::Global;
 /// key has not 24 octets; nothing else is refused.
 pub fn encrypt_des(alloc: Global, key: &[u8], payload: &[u8]) -> KerberosCryptoResult<Vec<u8>>
     ensures key { IfOk result (λ _. length key.now ≡ 24) }
-    ensures chained { IfOk result (λ c. (filled : List ℕ) × IsFill 8 payload.now filled × IsCbc 8 (ede_block key.now) filled c.items) }
+    ensures chained { IfOk result (λ c. (filled : List ℕ) × IsFill 8 payload.now filled × IsCbc 8 (ede3 key.now) filled c.items) }
     ensures refused { IfErr result (RefusesKey 24 key.now) }
 {
     let cipher = DesKey::new(key)?;
@@ -31,8 +31,8 @@ pub fn encrypt_des(alloc: Global, key: &[u8], payload: &[u8]) -> KerberosCryptoR
 /// octets, then `CipherUnpad` where the octets are not whole blocks of 8.
 pub fn decrypt_des(alloc: Global, key: &[u8], cipher_text: &[u8]) -> KerberosCryptoResult<Vec<u8>>
     ensures key { IfOk result (λ _. length key.now ≡ 24) }
-    ensures plain { IfOk result (λ p. IsCbc 8 (ede_block key.now) p.items cipher_text.now) }
-    ensures only { IfOk result (λ p. (q : List ℕ) → IsOctets q → IsCbc 8 (ede_block key.now) q cipher_text.now → q ≡ p.items) }
+    ensures plain { IfOk result (λ p. IsCbc 8 (ede3 key.now) p.items cipher_text.now) }
+    ensures only { IfOk result (λ p. (q : List ℕ) → IsOctets q → IsCbc 8 (ede3 key.now) q cipher_text.now → q ≡ p.items) }
     ensures refused { IfErr result (RefusesKeyOr 24 key.now (length cipher_text.now % 8 ≢ 0) KerberosCryptoError.CipherUnpad) }
 {
     let cipher = DesKey::new(key)?;

@@ -9,10 +9,13 @@ use thiserror::Error;
 /// Why a call of the cryptography refuses. Lengths are in octets.
 #[derive(Debug, Drop, Error)]
 pub enum KerberosCryptoError {
-    /// The key's length, and the one that the suite's keys have.
+    /// The key's length, and the one that the suite's keys have. Also 0 and 1, which are no key's lengths, for an empty password
+    /// with an empty salt under triple DES, where there is no octet to fold.
     #[error("Invalid key length: {0}. Expected: {1}")]
     KeyLength(usize, usize),
-    /// The length of the octets to be opened, and the least that they may have.
+    /// The length of the octets, and the least that they may have. Answered by opening, with and without the checksum, in each
+    /// suite: 28, for the confounder and the checksum. Under AES alone also by ciphertext stealing in both directions, 16, and
+    /// by `swap_two_last_blocks`, 32.
     #[error("Invalid cipher length: {0}. Expected at least: {1}")]
     CipherLength(usize, usize),
     /// A number that names no suite.
@@ -27,10 +30,10 @@ pub enum KerberosCryptoError {
     /// Not answered by any call.
     #[error("Cipher error: {0}")]
     CipherError(String),
-    /// The octets to be opened are not whole blocks.
+    /// The octets to be deciphered by cipher block chaining are not whole blocks.
     #[error("Padding error")]
     CipherUnpad,
-    /// The octets to be encrypted are not whole blocks.
+    /// The octets to be enciphered by cipher block chaining are not whole blocks.
     #[error("Padding error")]
     CipherPad,
     /// Not answered by any call.

@@ -8,11 +8,14 @@ mod cbc;
 mod des;
 mod des_modes;
 mod error;
+mod hash;
 mod hmac;
 pub mod laws;
 mod nfold;
+mod octets;
 mod pbkdf2;
 mod stealing;
+mod xor;
 
 pub use aes::{AES_BLOCK_SIZE, AES_MAC_SIZE, AES128_KEY_SIZE, AES256_KEY_SIZE, AesKey, AesSize};
 pub use aes_modes::{

@@ -1,10 +1,11 @@
 //! n-fold (RFC 3961, 5.1).
 
-ghost use Rattle.std.specs.Prelude.{◌≡◌, ℕ, ◌+◌, ◌-◌, ◌*◌, ◌/◌, ◌%◌, ◌^◌, ◌<◌, ◌≤◌, length, slice_index, IfOk, IfErr};
-ghost use Rattle.krb_block.specs.Fold.{number, gcd, rot, n_folded, folded};
+ghost use Rattle.std.specs.Prelude.{◌≡◌, ◌+◌, ◌-◌, ◌*◌, ◌/◌, ◌%◌, ◌^◌, ◌<◌, ◌≤◌, length, IfOk, IfErr};
+ghost use Rattle.krb_block.specs.Fold.{number, gcd, rot, folded_number, fold};
 ghost use Rattle.krb_block.specs.declared.error.KerberosCryptoError.TheVariants.{OutOfMemory};
 
 use crate::error::KerberosCryptoResult;
+use crate::octets::are_octets;
 use std::alloc::Global;
 
 /// The octets folded to `n` bits (RFC 3961, 5.1): the copies of the input, each turned right by 13 bits more than the one
@@ -17,7 +18,7 @@ pub fn n_fold(alloc: Global, input: &[u8], n: usize) -> KerberosCryptoResult<Vec
     requires whole { n % 8 ≡ 0 }
     requires some { 0 < n }
     ensures size { IfOk result (λ v. length v.items ≡ n / 8) }
-    ensures value { IfOk result (λ v. v.items ≡ folded input.now n) }
+    ensures value { IfOk result (λ v. v.items ≡ fold input.now n) }
     ensures refused { IfErr result (λ e. e ≡ OutOfMemory) }
 {
     let mut sum = vec![in alloc; 0u8; n / 8]?;
@@ -32,7 +33,7 @@ fn fold_into(sum: &mut [u8], input: &[u8])
     requires some { 0 < length sum.old }
     requires small { length sum.old < 2 ^ 61 }
     requires zero { number sum.old ≡ 0 }
-    ensures { number sum.new ≡ n_folded (number input.now) (8 * length input.now) (8 * length sum.old) }
+    ensures { number sum.new ≡ folded_number (number input.now) (8 * length input.now) (8 * length sum.old) }
 {
     let size = sum.len();
     let count = size / greatest_common_divisor(size, input.len());
@@ -92,8 +93,3 @@ fn greatest_common_divisor(mut a: usize, mut b: usize) -> usize
     }
     a
 }
-
-/// Tells a proof that the elements are octets. It does nothing.
-fn are_octets(elements: &[u8])
-    ensures { (i : ℕ) → slice_index elements.now i < 256 }
-{}

@@ -1,14 +1,14 @@
 -- The steps of `derive_key`.
 use Rattle.std.proofs.Common.{◌≡◌, ℕ, suc, ◌+◌, ◌-◌, ◌*◌, ◌/◌, ◌<◌, ◌≤◌, ◌⊎◌, List, [], ◌++◌, length, take, codes, refl, sym, ap, ◌∙◌, arith, inl, inr, append_assoc}
 use Rattle.std.proofs.lemmas.List.{append-nil, take_all}
-use Rattle.krb_block.specs.Fold.{folded}
+use Rattle.krb_block.specs.Fold.{fold}
 use Rattle.krb_block.specs.Aes.{aes_block}
 use Rattle.krb_block.specs.Size.{key_octets}
 use Rattle.krb_block.specs.declared.aes.AesSize.{AesSize}
 use Rattle.krb_block.specs.declared.aes.AesSize.TheVariants.{Aes256, Aes128}
 use Rattle.std.proofs.lemmas.List.{ext_get_or}
 use Rattle.std.proofs.lemmas.Nat.Bits.{same_from_bits}
-use Rattle.krb_block.specs.Des.{ede_block}
+use Rattle.krb_block.specs.Des.{ede3}
 use Rattle.krb_scheme.specs.Derive.{blocks_from, aes_dk, IsAesPasswordKey, des3_dk}
 use Rattle.krb_scheme.specs.RandomToKey.{random_to_key}
 use Rattle.krb_scheme.specs.Sealing.{IsTheOne}
@@ -24,7 +24,7 @@ blocks_step E f next out new all n i low made grown held =
     let count : n - i ≡ suc (n - (i + 1)) = omega arith in
     rw (grown, made) (append_assoc out (E f) (blocks_from E (E f) (n - (i + 1))) ∙ rw count at held)
 
-pub derived_end : (key constant f out : List ℕ) (n i : ℕ) → (length key ≡ 16) ⊎ (length key ≡ 32) → n ≡ length key / 16 → n ≤ i → f ≡ folded constant 128
+pub derived_end : (key constant f out : List ℕ) (n i : ℕ) → (length key ≡ 16) ⊎ (length key ≡ 32) → n ≡ length key / 16 → n ≤ i → f ≡ fold constant 128
     → length out ≡ 16 * n → (b : List ℕ) → out ++ blocks_from (aes_block key) b (n - i) ≡ blocks_from (aes_block key) f n
     → (out ≡ aes_dk key constant) × (length out ≡ length key)
 unfolding blocks_from aes_dk
@@ -34,7 +34,7 @@ derived_end key constant f out n i size en past ef long b held =
     let as_long : length out ≡ length key = elim size [ inl short ↦ omega arith | inr wide ↦ omega arith ] in
     let count : n ≡ (length key + 16 - 1) / 16 = elim size [ inl short ↦ omega arith | inr wide ↦ omega arith ] in (
       sym (take_all (length key) out (omega (arith, as_long)))
-          ∙ ap (take (length key)) (whole ∙ ap (λ (g : List ℕ). blocks_from (aes_block key) g n) ef ∙ ap (λ (k : ℕ). blocks_from (aes_block key) (folded constant 128) k) count),
+          ∙ ap (take (length key)) (whole ∙ ap (λ (g : List ℕ). blocks_from (aes_block key) g n) ef ∙ ap (λ (k : ℕ). blocks_from (aes_block key) (fold constant 128) k) count),
       as_long,
     )
 
@@ -50,15 +50,15 @@ password_one size password salt key made = record {
 
 -- ---- triple DES
 
-pub des3_derived : (key constant f first second third : List ℕ) → f ≡ folded constant 64 → first ≡ ede_block key f → second ≡ ede_block key first → third ≡ ede_block key second
+pub des3_derived : (key constant f first second third : List ℕ) → f ≡ fold constant 64 → first ≡ ede3 key f → second ≡ ede3 key first → third ≡ ede3 key second
     → random_to_key (take 21 (first ++ second ++ third)) ≡ des3_dk key constant
 unfolding des3_dk blocks_from
 des3_derived key constant f first second third ef e1 e2 e3 =
-    let b1 : first ≡ ede_block key (folded constant 64) = e1 ∙ ap (ede_block key) ef in
-    let b2 : second ≡ ede_block key (ede_block key (folded constant 64)) = e2 ∙ ap (ede_block key) b1 in
-    let b3 : third ≡ ede_block key (ede_block key (ede_block key (folded constant 64))) = e3 ∙ ap (ede_block key) b2 in
-    let x : List ℕ = ede_block key (folded constant 64) in
-    let y : List ℕ = ede_block key (ede_block key (folded constant 64)) in
-    let z : List ℕ = ede_block key (ede_block key (ede_block key (folded constant 64))) in
+    let b1 : first ≡ ede3 key (fold constant 64) = e1 ∙ ap (ede3 key) ef in
+    let b2 : second ≡ ede3 key (ede3 key (fold constant 64)) = e2 ∙ ap (ede3 key) b1 in
+    let b3 : third ≡ ede3 key (ede3 key (ede3 key (fold constant 64))) = e3 ∙ ap (ede3 key) b2 in
+    let x : List ℕ = ede3 key (fold constant 64) in
+    let y : List ℕ = ede3 key (ede3 key (fold constant 64)) in
+    let z : List ℕ = ede3 key (ede3 key (ede3 key (fold constant 64))) in
     let all : x ++ y ++ z ≡ x ++ (y ++ (z ++ [])) = append_assoc x y z ∙ ap (λ (back : List ℕ). x ++ (y ++ back)) (sym (append-nil z)) in
     rw (b1, b2, b3) (ap (λ (blocks : List ℕ). random_to_key (take 21 blocks)) all)

@@ -9,25 +9,25 @@ use Rattle.krb_block.proofs.AesUndoing.{aes_block_size}
 use Rattle.krb_block.proofs.HmacSteps.{hmac_size}
 use Rattle.krb_block.proofs.StealingUses.{Cts-same, Cts-length}
 use Rattle.krb_block.specs.Aes.{aes_block}
-use Rattle.krb_block.specs.Des.{ede_block, ede_undo}
+use Rattle.krb_block.specs.Des.{ede3, ede3_undo}
 use Rattle.krb_block.specs.Modes.{IsCbc, IsFill, IsOctets}
 use Rattle.krb_block.proofs.Chaining.{IsCbc-same, IsCbc-length}
-use Rattle.krb_block.proofs.DesTriple.{AreInverse-ede}
+use Rattle.krb_block.proofs.DesTriple.{AreInverse-ede3}
 use Rattle.krb_block.proofs.Filling.{IsFill-one, IsFill-whole}
 use Rattle.krb_block.specs.declared.error.KerberosCryptoError.{KerberosCryptoError}
 use Rattle.krb_block.specs.declared.error.KerberosCryptoError.TheVariants.{IntegrityCheck}
-use Rattle.krb_scheme.specs.MessageSteps.{IsEnciphered, IsDeciphered}
+use Rattle.krb_scheme.specs.MessageSteps.{cut_mac, IsEnciphered, IsDeciphered}
 use Rattle.krb_scheme.proofs.Opening.{IsScheme}
 use Rattle.krb_scheme.specs.Sealed.{aes_ke, aes_ki, AesCts, mac_96, aes_refusal, des3_ke, des3_ki, Des3Cbc, des3_refusal}
 
 -- ---- AES
 
-pub aes_scheme : (key : List ℕ) (usage : ℤ) → IsScheme 1 16 12 (AesCts key usage) (mac_96 (aes_ki key usage)) (aes_ki key usage) (λ n. 16 ≤ n)
+pub aes_scheme : (key : List ℕ) (usage : ℤ) → IsScheme 1 16 12 (AesCts key usage) (λ p c. mac_96 (aes_ki key usage) p) (λ ki p c. cut_mac 12 ki p) (aes_ki key usage) (λ n. 16 ≤ n)
 aes_scheme key usage = record {
   some = omega arith;
   multiple = refl;
-  sized = λ m. length-take-le 12 (hmac (aes_ki key usage) m) (omega (arith, hmac_size (aes_ki key usage) m));
-  cut = λ m. refl;
+  sized = λ m c. length-take-le 12 (hmac (aes_ki key usage) m) (omega (arith, hmac_size (aes_ki key usage) m));
+  computed = λ m c. refl;
   same = Cts-same (aes_block (aes_ke key usage));
   shaped = λ p c octets long h. omega (arith, long, Cts-length (aes_block (aes_ke key usage)) (aes_block_size (aes_ke key usage)) p c h);
 }
@@ -48,16 +48,16 @@ pub whole_mac : (key m tag : List ℕ) → tag ≡ take 20 (hmac key m ++ replic
 whole_mac key m tag e = e ∙ take_at (hmac key m) (replicate (20 - 20) 0) 20 (hmac_size key m)
 
 Des3Cbc-length : (key : List ℕ) (usage : ℤ) (p c : List ℕ) → IsOctets p → Des3Cbc key usage p c → length c ≡ length p
-Des3Cbc-length key usage p c octets h = IsCbc-length 8 (omega arith) (ede_block (des3_ke key usage)) (ede_undo (des3_ke key usage)) (AreInverse-ede (des3_ke key usage)) p c octets h
+Des3Cbc-length key usage p c octets h = IsCbc-length 8 (omega arith) (ede3 (des3_ke key usage)) (ede3_undo (des3_ke key usage)) (AreInverse-ede3 (des3_ke key usage)) p c octets h
 
 -- what is enciphered has at least a block, and whole ones; the HMAC has 20 octets, and none is cut off
-pub des3_scheme : (key : List ℕ) (usage : ℤ) → IsScheme 8 8 20 (Des3Cbc key usage) (hmac (des3_ki key usage)) (des3_ki key usage) (λ n. (8 ≤ n) × (n % 8 ≡ 0))
+pub des3_scheme : (key : List ℕ) (usage : ℤ) → IsScheme 8 8 20 (Des3Cbc key usage) (λ p c. hmac (des3_ki key usage) p) (λ ki p c. cut_mac 20 ki p) (des3_ki key usage) (λ n. (8 ≤ n) × (n % 8 ≡ 0))
 des3_scheme key usage = record {
   some = omega arith;
   multiple = refl;
-  sized = hmac_size (des3_ki key usage);
-  cut = λ m. take_all 20 (hmac (des3_ki key usage) m) (omega (arith, hmac_size (des3_ki key usage) m));
-  same = IsCbc-same 8 (ede_block (des3_ke key usage));
+  sized = λ m c. hmac_size (des3_ki key usage) m;
+  computed = λ m c. take_all 20 (hmac (des3_ki key usage) m) (omega (arith, hmac_size (des3_ki key usage) m));
+  same = IsCbc-same 8 (ede3 (des3_ke key usage));
   shaped = λ p c octets long h.
       let same : length c ≡ length p = Des3Cbc-length key usage p c octets h in
       (omega (arith, same, long), ap (λ (k : ℕ). k % 8) same ∙ h.whole);
@@ -75,22 +75,22 @@ des3_unshaped key bytes e right refused shape =
 
 -- what is written by the calls is confounder and payload, filled and enciphered
 pub des3_enciphered : (key : List ℕ) (usage : ℤ) (ke ki confounder payload filled f c : List ℕ) → ke ≡ des3_ke key usage → ki ≡ des3_ki key usage
-    → IsFill 8 (confounder ++ payload) filled → IsOctets filled → IsFill 8 filled f → IsCbc 8 (ede_block ke) f c
+    → IsFill 8 (confounder ++ payload) filled → IsOctets filled → IsFill 8 filled f → IsCbc 8 (ede3 ke) f c
     → IsEnciphered 8 (Des3Cbc key usage) (des3_ki key usage) confounder payload filled c ki
 des3_enciphered key usage ke ki confounder payload filled f c eke eki is octets fill made = record {
   fill_is = is;
   octets = octets;
-  enciphered = subst (λ p. Des3Cbc key usage p c) (IsFill-one 8 filled f filled fill (IsFill-whole 8 (omega arith) filled is.whole)) (subst (λ k. IsCbc 8 (ede_block k) f c) eke made);
+  enciphered = subst (λ p. Des3Cbc key usage p c) (IsFill-one 8 filled f filled fill (IsFill-whole 8 (omega arith) filled is.whole)) (subst (λ k. IsCbc 8 (ede3 k) f c) eke made);
   ki_is = eki;
 }
 
 -- and what is read is the one list that is enciphered so
 pub des3_deciphered : (key : List ℕ) (usage : ℤ) (ke ki bytes filled : List ℕ) → ke ≡ des3_ke key usage → ki ≡ des3_ki key usage → 28 ≤ length bytes → IsOctets filled
-    → IsCbc 8 (ede_block ke) filled (take (length bytes - 20) bytes)
-    → ((q : List ℕ) → IsOctets q → IsCbc 8 (ede_block ke) q (take (length bytes - 20) bytes) → q ≡ filled)
+    → IsCbc 8 (ede3 ke) filled (take (length bytes - 20) bytes)
+    → ((q : List ℕ) → IsOctets q → IsCbc 8 (ede3 ke) q (take (length bytes - 20) bytes) → q ≡ filled)
     → IsDeciphered 8 8 20 (Des3Cbc key usage) (des3_ki key usage) bytes filled ki
 des3_deciphered key usage ke ki bytes filled eke eki long octets made only =
-    let held : Des3Cbc key usage filled (take (length bytes - 20) bytes) = subst (λ k. IsCbc 8 (ede_block k) filled (take (length bytes - 20) bytes)) eke made in
+    let held : Des3Cbc key usage filled (take (length bytes - 20) bytes) = subst (λ k. IsCbc 8 (ede3 k) filled (take (length bytes - 20) bytes)) eke made in
     let same : length (take (length bytes - 20) bytes) ≡ length filled = Des3Cbc-length key usage filled (take (length bytes - 20) bytes) octets held in
     record {
       long = long;
@@ -98,7 +98,7 @@ des3_deciphered key usage ke ki bytes filled eke eki long octets made only =
       whole = held.whole;
       of_octets = octets;
       enciphered = held;
-      only = λ q is h. only q is (subst (λ k. IsCbc 8 (ede_block k) q (take (length bytes - 20) bytes)) (sym eke) h);
+      only = λ q is h. only q is (subst (λ k. IsCbc 8 (ede3 k) q (take (length bytes - 20) bytes)) (sym eke) h);
       ki_is = eki;
     }
 

@@ -6,15 +6,15 @@ use Rattle.krb_block.specs.Modes.{IsOctets, IsFill}
 use Rattle.krb_block.proofs.Filling.{IsFill-one, IsFill-whole, IsFill-behind, IsFill-before, IsFill-octets, IsFill-front, rest_whole}
 use Rattle.krb_scheme.specs.Sealing.{IsGiven, IsOfNone, IsTheOne, Opens, Enciphers, IsSplit, Deciphers}
 use Rattle.krb_scheme.specs.Sealed.{IsSealedBy}
-use Rattle.krb_scheme.specs.MessageSteps.{cut_mac, end_of, IsEnciphered, IsDeciphered}
+use Rattle.krb_scheme.specs.MessageSteps.{end_of, IsEnciphered, IsDeciphered}
 
--- what is asked of a scheme: confounders of n octets are whole fills; its checksum is the first h octets of the HMAC under the
--- integrity key; no list is enciphered to two; and enciphered octets have a length of this shape
-pub record IsScheme (fill n h : ℕ) (enciphers : List ℕ → List ℕ → Type 0) (mac : List ℕ → List ℕ) (integrity_key : List ℕ) (Shape : ℕ → Type 0) : Type 0 where
+-- what is asked of a scheme: confounders of n octets are whole fills; its checksum has h octets, and is the tag that the calls
+-- compute under the integrity key; no list is enciphered to two; and enciphered octets have a length of this shape
+pub record IsScheme (fill n h : ℕ) (enciphers : List ℕ → List ℕ → Type 0) (mac : List ℕ → List ℕ → List ℕ) (tag : List ℕ → List ℕ → List ℕ → List ℕ) (integrity_key : List ℕ) (Shape : ℕ → Type 0) : Type 0 where
   pub some : 0 < fill
   pub multiple : n % fill ≡ 0
-  pub sized : (m : List ℕ) → length (mac m) ≡ h
-  pub cut : (m : List ℕ) → cut_mac h integrity_key m ≡ mac m
+  pub sized : (p c : List ℕ) → length (mac p c) ≡ h
+  pub computed : (p c : List ℕ) → tag integrity_key p c ≡ mac p c
   pub same : (p c d : List ℕ) → enciphers p c → enciphers p d → c ≡ d
   pub shaped : (p c : List ℕ) → IsOctets p → n ≤ length p → enciphers p c → Shape (length c)
 
@@ -47,14 +47,16 @@ pub not_of_none : (meaning : List ℕ → List ℕ → List ℕ → Type 0) (n :
     → ¬ (IsOfNone (IsGiven meaning n octets))
 not_of_none meaning n confounder payload octets size sealed none = none payload (record { confounder = confounder; size_is = size; means = sealed })
 
-module _ {fill n h : ℕ} {enciphers : List ℕ → List ℕ → Type 0} {mac : List ℕ → List ℕ} {integrity_key : List ℕ} {Shape : ℕ → Type 0} (scheme : IsScheme fill n h enciphers mac integrity_key Shape) where
+module _ {fill n h : ℕ} {enciphers : List ℕ → List ℕ → Type 0} {mac : List ℕ → List ℕ → List ℕ} {tag : List ℕ → List ℕ → List ℕ → List ℕ} {integrity_key : List ℕ} {Shape : ℕ → Type 0} (scheme : IsScheme fill n h enciphers mac tag integrity_key Shape) where
   -- what is sealed ends in the MAC of the one list that its front deciphers to
   cut : (bytes confounder payload : List ℕ) (sealed : IsSealedBy fill enciphers mac confounder payload bytes)
-      → enciphers sealed.filled (take (length bytes - h) bytes) × (drop (length bytes - h) bytes ≡ mac sealed.filled)
-  cut bytes confounder payload sealed = (
-    subst (enciphers sealed.filled) (sym (front_of sealed.cipher (mac sealed.filled) bytes h (scheme.sized sealed.filled) sealed.joined)) sealed.enciphered,
-    back_of sealed.cipher (mac sealed.filled) bytes h (scheme.sized sealed.filled) sealed.joined,
-  )
+      → enciphers sealed.filled (take (length bytes - h) bytes) × (drop (length bytes - h) bytes ≡ mac sealed.filled (take (length bytes - h) bytes))
+  cut bytes confounder payload sealed =
+      let end : List ℕ = mac sealed.filled sealed.cipher in
+      let front : take (length bytes - h) bytes ≡ sealed.cipher = front_of sealed.cipher end bytes h (scheme.sized sealed.filled sealed.cipher) sealed.joined in (
+        subst (enciphers sealed.filled) (sym front) sealed.enciphered,
+        back_of sealed.cipher end bytes h (scheme.sized sealed.filled sealed.cipher) sealed.joined ∙ ap (mac sealed.filled) (sym front),
+      )
 
   filled_octets : (bytes confounder payload : List ℕ) (sealed : IsSealedBy fill enciphers mac confounder payload bytes) → IsOctets sealed.filled
   filled_octets bytes confounder payload sealed = IsFill-octets fill (confounder ++ payload) sealed.filled sealed.fill_is sealed.of_octets
@@ -74,12 +76,12 @@ module _ {fill n h : ℕ} {enciphers : List ℕ → List ℕ → Type 0} {mac : 
   rest_is_whole filled long whole = IsFill-whole fill scheme.some (drop n filled) (rw length-drop (rest_whole fill n filled scheme.multiple long whole))
 
   -- the tag that is compared is the one that is sealed
-  tag_is : (bytes filled ki : List ℕ) → IsDeciphered fill n h enciphers integrity_key bytes filled ki → cut_mac h ki filled ≡ mac filled
-  tag_is bytes filled ki d = ap (λ (k : List ℕ). cut_mac h k filled) d.ki_is ∙ scheme.cut filled
+  tag_is : (filled cipher ki : List ℕ) → ki ≡ integrity_key → tag ki filled cipher ≡ mac filled cipher
+  tag_is filled cipher ki same = ap (λ (k : List ℕ). tag k filled cipher) same ∙ scheme.computed filled cipher
 
   -- bytes whose end is the MAC of the one list that their front deciphers to
   pub seal_opens : (bytes filled ki : List ℕ) → IsDeciphered fill n h enciphers integrity_key bytes filled ki
-      → end_of h bytes ≡ cut_mac h ki filled → Opens fill (IsGiven (IsSealedBy fill enciphers mac) n bytes) (drop n filled)
+      → end_of h bytes ≡ tag ki filled (take (length bytes - h) bytes) → Opens fill (IsGiven (IsSealedBy fill enciphers mac) n bytes) (drop n filled)
   seal_opens bytes filled ki d ends = record {
     whole = rest_is_whole filled d.front d.whole;
     exactly = λ q. (
@@ -98,7 +100,7 @@ module _ {fill n h : ℕ} {enciphers : List ℕ → List ℕ → Type 0} {mac : 
               fill_is = all;
               cipher = take (length bytes - h) bytes;
               enciphered = d.enciphered;
-              joined = sym (take-append-drop (length bytes - h) bytes) ∙ ap (λ r. take (length bytes - h) bytes ++ r) (ends ∙ tag_is bytes filled ki d);
+              joined = sym (take-append-drop (length bytes - h) bytes) ∙ ap (λ r. take (length bytes - h) bytes ++ r) (ends ∙ tag_is filled (take (length bytes - h) bytes) ki d.ki_is);
             };
           }),
     );
@@ -106,24 +108,25 @@ module _ {fill n h : ℕ} {enciphers : List ℕ → List ℕ → Type 0} {mac : 
 
   -- bytes whose end is another list are given for no payload
   pub none_sealed : (bytes filled ki : List ℕ) → IsDeciphered fill n h enciphers integrity_key bytes filled ki
-      → end_of h bytes ≢ cut_mac h ki filled → IsOfNone (IsGiven (IsSealedBy fill enciphers mac) n bytes)
+      → end_of h bytes ≢ tag ki filled (take (length bytes - h) bytes) → IsOfNone (IsGiven (IsSealedBy fill enciphers mac) n bytes)
   none_sealed bytes filled ki d other q given =
       let sealed = given.means in
       let parts = cut bytes given.confounder q sealed in
-      other (parts.1 ∙ ap mac (d.only sealed.filled (filled_octets bytes given.confounder q sealed) parts.0) ∙ sym (tag_is bytes filled ki d))
+      let front : List ℕ = take (length bytes - h) bytes in
+      other (parts.1 ∙ ap (λ p. mac p front) (d.only sealed.filled (filled_octets bytes given.confounder q sealed) parts.0) ∙ sym (tag_is filled front ki d.ki_is))
 
   -- what is written is the one list that is sealed
   pub seals : (confounder payload filled cipher ki bytes : List ℕ)
-      → IsEnciphered fill enciphers integrity_key confounder payload filled cipher ki → bytes ≡ cipher ++ cut_mac h ki filled
+      → IsEnciphered fill enciphers integrity_key confounder payload filled cipher ki → bytes ≡ cipher ++ tag ki filled cipher
       → IsTheOne (IsSealedBy fill enciphers mac confounder payload) bytes
   seals confounder payload filled cipher ki bytes e joined =
-      let into : bytes ≡ cipher ++ mac filled = joined ∙ ap (λ r. cipher ++ r) (ap (λ (k : List ℕ). cut_mac h k filled) e.ki_is ∙ scheme.cut filled) in
+      let into : bytes ≡ cipher ++ mac filled cipher = joined ∙ ap (λ r. cipher ++ r) (tag_is filled cipher ki e.ki_is) in
       record {
         holds = record { of_octets = IsFill-front fill (confounder ++ payload) filled e.fill_is e.octets; filled = filled; fill_is = e.fill_is; cipher = cipher; enciphered = e.enciphered; joined = into };
         only = λ other sealed.
             let one : sealed.filled ≡ filled = IsFill-one fill (confounder ++ payload) sealed.filled filled sealed.fill_is e.fill_is in
             let held : enciphers filled sealed.cipher = subst (λ p. enciphers p sealed.cipher) one sealed.enciphered in
-            sealed.joined ∙ ap (λ m. sealed.cipher ++ mac m) one ∙ ap (λ c. c ++ mac filled) (scheme.same filled sealed.cipher cipher held e.enciphered) ∙ sym into;
+            sealed.joined ∙ ap (λ m. sealed.cipher ++ mac m sealed.cipher) one ∙ ap (λ c. c ++ mac filled c) (scheme.same filled sealed.cipher cipher held e.enciphered) ∙ sym into;
       }
 
   -- ---- without the checksum
@@ -138,17 +141,17 @@ module _ {fill n h : ℕ} {enciphers : List ℕ → List ℕ → Type 0} {mac : 
   made_from : (confounder payload encrypted : List ℕ) → Enciphers (IsSealedBy fill enciphers mac) h confounder payload encrypted → IsMade confounder payload encrypted
   made_from confounder payload encrypted made =
       let sealed = made.means in
-      let tag : List ℕ = mac sealed.filled in
+      let end : List ℕ = mac sealed.filled sealed.cipher in
       let size : length encrypted ≡ length sealed.cipher =
-      omega (arith, made.size_is, scheme.sized sealed.filled, simp length-append at (ap length sealed.joined)) in
-      let same : sealed.cipher ≡ encrypted = sym (take_at sealed.cipher tag (length encrypted) (sym size)) ∙ ap (take (length encrypted)) (sym sealed.joined) ∙ take_at encrypted made.checksum (length encrypted) refl in
+      omega (arith, made.size_is, scheme.sized sealed.filled sealed.cipher, simp length-append at (ap length sealed.joined)) in
+      let same : sealed.cipher ≡ encrypted = sym (take_at sealed.cipher end (length encrypted) (sym size)) ∙ ap (take (length encrypted)) (sym sealed.joined) ∙ take_at encrypted made.checksum (length encrypted) refl in
       record { of_octets = sealed.of_octets; filled = sealed.filled; fill_is = sealed.fill_is; enciphered = subst (enciphers sealed.filled) same sealed.enciphered }
 
   enciphers_to : (confounder payload filled encrypted : List ℕ) → IsFill fill (confounder ++ payload) filled → IsOctets filled → enciphers filled encrypted
       → Enciphers (IsSealedBy fill enciphers mac) h confounder payload encrypted
   enciphers_to confounder payload filled encrypted is octets held = record {
-    checksum = mac filled;
-    size_is = scheme.sized filled;
+    checksum = mac filled encrypted;
+    size_is = scheme.sized filled encrypted;
     means = record { of_octets = IsFill-front fill (confounder ++ payload) filled is octets; filled = filled; fill_is = is; cipher = encrypted; enciphered = held; joined = refl };
   }
 
@@ -213,7 +216,7 @@ module _ {fill n h : ℕ} {enciphers : List ℕ → List ℕ → Type 0} {mac : 
   none_shaped bytes other payload given =
       let sealed = given.means in
       let shape : Shape (length sealed.cipher) = scheme.shaped sealed.filled sealed.cipher (filled_octets bytes given.confounder payload sealed) (fill_long given.confounder payload sealed.filled given.size_is sealed.fill_is) sealed.enciphered in
-      let size : length bytes ≡ length sealed.cipher + h = ap length sealed.joined ∙ length-append sealed.cipher (mac sealed.filled) ∙ ap (λ (k : ℕ). length sealed.cipher + k) (scheme.sized sealed.filled) in
+      let size : length bytes ≡ length sealed.cipher + h = ap length sealed.joined ∙ length-append sealed.cipher (mac sealed.filled sealed.cipher) ∙ ap (λ (k : ℕ). length sealed.cipher + k) (scheme.sized sealed.filled sealed.cipher) in
       let front : length sealed.cipher ≡ length bytes - h = omega (arith, size) in
       other (omega (arith, size), subst Shape front shape)
 

@@ -1,7 +1,7 @@
 -- What the suites write (RFC 3961, 5.3).
 use Rattle.std.specs.Prelude.{◌≡◌, ℕ, ℤ, ◌-◌, ◌%◌, List, ◌++◌, length, nat_lt, ◌==◌, take, if◌then◌else◌}
 use Rattle.krb_block.specs.Aes.{aes_block}
-use Rattle.krb_block.specs.Des.{ede_block}
+use Rattle.krb_block.specs.Des.{ede3}
 use Rattle.krb_block.specs.Hmac.{hmac}
 use Rattle.krb_block.specs.Modes.{Cts, IsCbc, IsFill, IsOctets}
 use Rattle.krb_block.specs.declared.error.KerberosCryptoError.{KerberosCryptoError}
@@ -10,14 +10,15 @@ use Rattle.krb_scheme.specs.Derive.{aes_dk, des3_dk}
 use Rattle.krb_scheme.specs.WellKnown.{usage_constant}
 
 -- what confounder and payload, with the fewest zeros to a multiple of fill octets, are enciphered to, and behind it the
--- checksum of the same
-pub record IsSealedBy (fill : ℕ) (enciphers : List ℕ → List ℕ → Type 0) (mac : List ℕ → List ℕ) (confounder payload octets : List ℕ) : Type 0 where
+-- checksum, mac, of the filled octets and of what they are enciphered to. In the suites of RFC 3962 and of triple DES it is
+-- of the filled octets alone.
+pub record IsSealedBy (fill : ℕ) (enciphers : List ℕ → List ℕ → Type 0) (mac : List ℕ → List ℕ → List ℕ) (confounder payload octets : List ℕ) : Type 0 where
   pub of_octets : IsOctets (confounder ++ payload)
   pub filled : List ℕ
   pub fill_is : IsFill fill (confounder ++ payload) filled
   pub cipher : List ℕ
   pub enciphered : enciphers filled cipher
-  pub joined : octets ≡ cipher ++ mac filled
+  pub joined : octets ≡ cipher ++ mac filled cipher
 
 -- ---- AES (RFC 3962, 6)
 
@@ -41,7 +42,7 @@ AesCts key usage p c = Cts (aes_block (aes_ke key usage)) p c
 
 -- the relation of the AES suites, which fill nothing
 abbrev pub IsSealedAes : List ℕ → ℤ → List ℕ → List ℕ → List ℕ → Type 0
-IsSealedAes key usage confounder payload octets = IsSealedBy 1 (AesCts key usage) (mac_96 (aes_ki key usage)) confounder payload octets
+IsSealedAes key usage confounder payload octets = IsSealedBy 1 (AesCts key usage) (λ filled cipher. mac_96 (aes_ki key usage) filled) confounder payload octets
 
 -- the keyed checksum of a message that stands alone
 abbrev pub aes_sum : List ℕ → ℤ → List ℕ → List ℕ
@@ -67,11 +68,11 @@ des3_kc key usage = des3_dk key (usage_constant usage 0x99)
 
 -- what the key's Ke enciphers
 abbrev pub Des3Cbc : List ℕ → ℤ → List ℕ → List ℕ → Type 0
-Des3Cbc key usage p c = IsCbc 8 (ede_block (des3_ke key usage)) p c
+Des3Cbc key usage p c = IsCbc 8 (ede3 (des3_ke key usage)) p c
 
 -- the relation of the suite of triple DES, which fills to blocks of 8 octets and has a whole HMAC
 abbrev pub IsSealedDes3 : List ℕ → ℤ → List ℕ → List ℕ → List ℕ → Type 0
-IsSealedDes3 key usage confounder payload octets = IsSealedBy 8 (Des3Cbc key usage) (hmac (des3_ki key usage)) confounder payload octets
+IsSealedDes3 key usage confounder payload octets = IsSealedBy 8 (Des3Cbc key usage) (λ filled cipher. hmac (des3_ki key usage) filled) confounder payload octets
 
 -- the keyed checksum of a message that stands alone
 abbrev pub des3_sum : List ℕ → ℤ → List ℕ → List ℕ

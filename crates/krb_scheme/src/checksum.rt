@@ -28,8 +28,16 @@ impl Enciphered {
         ensures memory { IfErr result (λ e. e ≡ KerberosCryptoError.OutOfMemory) }
     {
         let mac = hmac_sha1(alloc, &self.ki, &self.filled, mac_size)?;
+        self.followed_by(&mac)
+    }
+
+    /// The encrypted octets and, behind them, this checksum.
+    pub(crate) fn followed_by(self, mac: &[u8]) -> KerberosCryptoResult<Vec<u8>>
+        ensures joined { IfOk result (λ octets. octets.items ≡ self.encrypted.items ++ mac.now) }
+        ensures memory { IfErr result (λ e. e ≡ KerberosCryptoError.OutOfMemory) }
+    {
         let mut sealed = self.encrypted;
-        sealed.extend_from_slice(&mac)?;
+        sealed.extend_from_slice(mac)?;
         Ok(sealed)
     }
 
@@ -77,8 +85,25 @@ impl Deciphered {
         ensures refused { IfErr result (λ e. IsMemoryOr e ((end_of mac_size cipher_data.now ≢ cut_mac mac_size self.now.ki.items self.now.filled.items) × (e ≡ KerberosCryptoError.IntegrityCheck))) }
     {
         let mac = hmac_sha1(alloc, &self.ki, &self.filled, mac_size)?;
-        let checksum = &cipher_data[cipher_data.len() - mac_size..];
-        if mac.as_slice() != checksum {
+        self.compared(alloc, cipher_data, front, &mac)
+    }
+
+    /// What stands behind the confounder, of `front` octets, where the message ends in this checksum. Else
+    /// `IntegrityCheck`; nothing is handed out before it is compared.
+    pub(crate) fn compared(
+        &self,
+        alloc: Global,
+        cipher_data: &[u8],
+        front: usize,
+        mac: &[u8],
+    ) -> KerberosCryptoResult<Vec<u8>>
+        requires long { length mac.now ≤ length cipher_data.now }
+        requires front { front ≤ length self.now.filled.items }
+        ensures payload { IfOk result (λ payload. (end_of (length mac.now) cipher_data.now ≡ mac.now) × (payload.items ≡ drop front self.now.filled.items)) }
+        ensures refused { IfErr result (λ e. IsMemoryOr e ((end_of (length mac.now) cipher_data.now ≢ mac.now) × (e ≡ KerberosCryptoError.IntegrityCheck))) }
+    {
+        let checksum = &cipher_data[cipher_data.len() - mac.len()..];
+        if mac != checksum {
             return Err(KerberosCryptoError::IntegrityCheck);
         }
         let payload = &self.filled[front..];

@@ -8,12 +8,12 @@ ghost use Rattle.krb_scheme.specs.RandomToKey.{random_to_key, HasOddParity, weak
 ghost use Rattle.krb_scheme.specs.Sealed.{IsSealedAes, IsSealedDes3};
 ghost use Rattle.krb_scheme.specs.Sealing.{IsOfNone, IsGiven, Opens};
 
-/// A key of triple DES has 24 octets, each with an odd number of ones, and none of its three keys of DES is weak
-/// (RFC 3961, 6.3.1).
-pub fn des3_keys_are_sound(seed: &[u8])
-    ensures size { length (random_to_key seed.now) ≡ 24 }
-    ensures odd { All HasOddParity (random_to_key seed.now) }
-    ensures strong { (part : ℕ) → part < 3 → ¬ (Contains weak_keys (take 8 (drop (8 * part) (random_to_key seed.now)))) }
+/// The key of triple DES that a seed gives, whatever the seed, has 24 octets, each with an odd number of ones, and none of its
+/// three keys of DES is weak (RFC 3961, 6.3.1).
+pub fn des3_keys_are_sound()
+    ensures size { (seed : List ℕ) → length (random_to_key seed) ≡ 24 }
+    ensures odd { (seed : List ℕ) → All HasOddParity (random_to_key seed) }
+    ensures strong { (seed : List ℕ) (part : ℕ) → part < 3 → ¬ (Contains weak_keys (take 8 (drop (8 * part) (random_to_key seed)))) }
 {}
 
 /// What was sealed under AES is opened to its payload, whatever the confounder, and is not refused (RFC 3961, 5.3; RFC 3962,

@@ -1,10 +1,11 @@
 //! The key expansion (FIPS 197, 5.2).
 
 ghost use Rattle.std.specs.Prelude.{◌≡◌, ◌+◌, ◌*◌, ◌/◌, ◌<◌, ◌≤◌, ◌++◌, length, take};
-ghost use Rattle.std.specs.List.{All};
+ghost use Rattle.krb_block.specs.Modes.{IsOctets};
 ghost use Rattle.krb_block.specs.Aes.{sub_word, key_term, next_word, key_expansion, IsKeySize};
 
 use super::tables::sub_byte;
+use crate::octets::are_octets;
 
 /// The octets of the round keys of the longer key: 15 of 16 octets.
 pub(super) const ROUND_KEYS_SIZE: usize = 240;
@@ -17,7 +18,7 @@ pub(super) fn expand(key: &[u8]) -> [u8; ROUND_KEYS_SIZE]
     requires { IsKeySize (length key.now / 4) × (length key.now ≡ 4 * (length key.now / 4)) }
     ensures keys { take (16 * (length key.now / 4 + 7)) result ≡ key_expansion key.now }
     ensures front { take (length key.now) result ≡ key.now }
-    ensures octets { All (λ x. x < 256) result }
+    ensures octets { IsOctets result }
 {
     let nk = key.len() / 4;
     let mut w = [0; ROUND_KEYS_SIZE];
@@ -88,8 +89,3 @@ fn put_word(w: &mut [u8; ROUND_KEYS_SIZE], at: usize, word: [u8; 4])
     w[at + 2] = c;
     w[at + 3] = d;
 }
-
-/// Tells a proof that the elements are octets. It does nothing.
-pub(super) fn are_octets(elements: &[u8])
-    ensures { All (λ x. x < 256) elements.now }
-{}

@@ -1,12 +1,10 @@
 //! The 16 rounds of DES between its first and its last permutation (FIPS 46-3, Enciphering, Deciphering).
 
-ghost use Rattle.std.specs.Prelude.{◌≡◌, ◌^◌, ◌<◌, map, reverse, IsTrue, nat_lt};
-ghost use Rattle.std.specs.List.{list_all};
-ghost use Rattle.krb_block.specs.DesTables.{s_boxes};
-ghost use Rattle.krb_block.specs.Des.{bits, substituted_one, substituted, round_value, ciphered};
+ghost use Rattle.std.specs.Prelude.{◌≡◌, ◌^◌, ◌<◌, map, reverse};
+ghost use Rattle.krb_block.specs.Des.{bits, round_value, ciphered};
 
 use super::permutation::permute;
-use super::tables::{EXPANSION, FINAL, INITIAL, ROUND, S_BOXES};
+use super::tables::{FINAL, INITIAL, JOINED};
 
 /// The block enciphered with these round keys.
 pub(super) fn encipher(keys: &[u64; 16], block: u64) -> u64
@@ -32,35 +30,17 @@ pub(super) fn decipher(keys: &[u64; 16], block: u64) -> u64
     encipher(&back, block)
 }
 
-/// f(R, K), what a round adds to the left half (FIPS 46-3, The Cipher Function f).
+/// f(R, K), what a round adds to the left half (FIPS 46-3, The Cipher Function f). E is the half with its last bit before
+/// it and its first bit behind it, from which each box takes six bits, four further on than the box before.
 fn round_value(right: u64, key: u64) -> u64
     ensures value { bits 32 result ≡ round_value (bits 32 right) (bits 48 key) }
     ensures small { result < 2 ^ 32 }
 {
-    let wide = permute(right, 32, &EXPANSION) ^ key;
-    permute(substitute(wide), 32, &ROUND)
-}
-
-/// The four bits of each box, S1 to S8, for the next six of 48.
-fn substitute(wide: u64) -> u64
-    ensures value { bits 32 result ≡ substituted s_boxes (bits 48 wide) }
-    ensures small { result < 2 ^ 32 }
-{
-    let mut joined = 0;
+    let wide = (right % 2 * (1 << 32) + right % (1 << 32)) * 2 + (right >> 31) % 2;
+    let mut value = 0;
     'boxes: for i in 0..8 {
-        joined = joined * 16 + substitute_one(&S_BOXES[i], (wide >> (42 - 6 * i)) % 64);
+        let six = ((wide >> (28 - 4 * i)) ^ (key >> (42 - 6 * i))) % 64;
+        value = value ^ JOINED[i][six as usize] as u64;
     }
-    joined
-}
-
-/// The four bits that a box has for six: the outer two choose the row, the inner four the column.
-fn substitute_one(rows: &[[u8; 16]; 4], six: u64) -> u64
-    requires six { six < 64 }
-    requires four { IsTrue (list_all (list_all (λ v. nat_lt v 16)) rows.now) }
-    ensures value { bits 4 result ≡ substituted_one rows.now (bits 6 six) }
-    ensures small { result < 16 }
-{
-    let row = six / 32 * 2 + six % 2;
-    let column = six / 2 % 16;
-    rows[row as usize][column as usize] as u64
+    value
 }

@@ -13,11 +13,11 @@ loop-block-preserved g c =
     let block : List ℕ = c.block-item.result in
     let low : i < length p / g.row.SIZE = omega (arith, c.loop-block-test.true, c.as_chunks.ensures.front_len) in
     let at : block ≡ take g.row.SIZE (drop (g.row.SIZE * i) p) = c.block-item.is ∙ ap (λ (parts : List (List ℕ)). get_or parts i block) c.as_chunks.ensures.front ∙ chunk_at g.row.SIZE (length p / g.row.SIZE) p block i low in
-    let items : c.extend_from_slice.new.self.items ≡ c.loop-block.out.items ++ c.joined_with.result = pushed c.joined_with.result refl c.in_ok-extend_from_slice.was c.extend_from_slice.ensures.items in
+    let items : c.extend_from_slice.new.self.items ≡ c.loop-block.out.items ++ c.xored_with.result = pushed c.xored_with.result refl c.in_ok-extend_from_slice.was c.extend_from_slice.ensures.items in
     let long : length c.decrypt_block.result ≡ g.row.SIZE = search rules in
     unlink_step g.row.SIZE D (length p / g.row.SIZE) i c.loop-block.before p c.loop-block.out.items c.extend_from_slice.new.self.items block
-    c.decrypt_block.result c.joined_with.result (unlinked g.row.SIZE D (length p / g.row.SIZE) (zero_block g.row.SIZE) p)
-    low at c.decrypt_block.ensures long c.joined_with.ensures items c.loop-block.invariant
+    c.decrypt_block.result c.xored_with.result (unlinked g.row.SIZE D (length p / g.row.SIZE) (zero_block g.row.SIZE) p)
+    low at c.decrypt_block.ensures long c.xored_with.ensures items c.loop-block.invariant
 
 all_is : (g : Over) (c : goal.After-loop-block g) → c.loop-block.out.items ≡ unlinked g.row.SIZE (g.C.BlockCipher.deciphers c.args.cipher.now) (length c.args.cipher_text.now / g.row.SIZE) (zero_block g.row.SIZE) c.args.cipher_text.now
 all_is g c =

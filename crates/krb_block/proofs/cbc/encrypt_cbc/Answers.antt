@@ -13,7 +13,7 @@ loop-part-preserved g c =
     let part : List ℕ = c.part-item.result in
     let low : i < length p / g.row.SIZE = omega (arith, c.loop-part-test.true, c.as_chunks.ensures.front_len) in
     let at : part ≡ take g.row.SIZE (drop (g.row.SIZE * i) p) = c.part-item.is ∙ ap (λ (parts : List (List ℕ)). get_or parts i part) c.as_chunks.ensures.front ∙ chunk_at g.row.SIZE (length p / g.row.SIZE) p part i low in
-    let made : c.encrypt_block-before.result ≡ E (xor_lists (filled_to g.row.SIZE part) c.loop-part.before) = c.encrypt_block-before.ensures ∙ ap E c.joined_with-block.ensures in
+    let made : c.encrypt_block-before.result ≡ E (xor_lists (filled_to g.row.SIZE part) c.loop-part.before) = c.encrypt_block-before.ensures ∙ ap E c.xored_with-block.ensures in
     let items : c.extend_from_slice.new.self.items ≡ c.loop-part.out.items ++ c.encrypt_block-before.result = pushed c.encrypt_block-before.result refl c.in_ok-extend_from_slice.was c.extend_from_slice.ensures.items in
     link_step g.row.SIZE E (length p / g.row.SIZE) i c.loop-part.before p c.loop-part.out.items c.extend_from_slice.new.self.items c.encrypt_block-before.result part
     (linked g.row.SIZE E (length p / g.row.SIZE) (zero_block g.row.SIZE) p) low (part_inside g.row.SIZE p i low) at made items c.loop-part.invariant

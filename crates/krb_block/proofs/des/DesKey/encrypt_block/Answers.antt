@@ -1,8 +1,8 @@
 use Rattle.std.proofs.Common.{◌≡◌, length, ◌∙◌, ap, rules}
 use Rattle.krb_block.specs.Modes.{IsOctets}
-use Rattle.krb_block.specs.Des.{bits, octet_bits, ede_block}
+use Rattle.krb_block.specs.Des.{bits, octet_bits, ede3}
 use Rattle.krb_block.proofs.DesOctets.{octet_bits_is}
-use Rattle.krb_block.proofs.DesTriple.{ede_block_is}
+use Rattle.krb_block.proofs.DesTriple.{ede3_is}
 use Rattle.krb_block.proofs.des.DesKey.encrypt_block.Goals as goal
 
 pub returns : goal.returns
@@ -12,6 +12,6 @@ returns c =
     let start : octet_bits c.args.block ≡ bits 64 c.from_be_bytes.result = octet_bits_is c.args.block c.from_be_bytes.result long octets c.from_be_bytes.ensures in
     let k = c.self.inside in
     c.to_be_bytes.ensures
-    ∙ ede_block_is k.first k.second k.third k.octets c.args.block c.from_be_bytes.result c.encipher-once.result c.decipher-twice.result c.encipher.result
+    ∙ ede3_is k.first k.second k.third k.octets c.args.block c.from_be_bytes.result c.encipher-once.result c.decipher-twice.result c.encipher.result
     c.self.invariant start c.encipher-once.ensures c.decipher-twice.ensures c.encipher.ensures
-    ∙ ap (λ v. ede_block v c.args.block) c.self.view_is
+    ∙ ap (λ v. ede3 v c.args.block) c.self.view_is

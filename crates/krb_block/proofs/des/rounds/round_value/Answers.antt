@@ -1,11 +1,25 @@
-use Rattle.std.proofs.Common.{List, ℕ, ap, ◌∙◌}
-use Rattle.krb_block.specs.DesTables.{round_table, expansion_table, s_boxes}
+use Rattle.std.proofs.Common.{arith}
+use Rattle.std.proofs.lemmas.Nat.{xor_lt}
+use Rattle.krb_block.specs.DesTables.{expansion_table}
 use Rattle.krb_block.specs.Xor.{xor_lists}
-use Rattle.krb_block.specs.Des.{bits, permuted, round_value, substituted}
-use Rattle.krb_block.proofs.DesBits.{bits-xor}
+use Rattle.krb_block.specs.Des.{bits, permuted, round_value}
+use Rattle.krb_block.proofs.DesJoined.{joined_start, joined_word, joined_more, joined_end}
+use Rattle.krb_block.proofs.DesExpansion.{expansion_six}
 use Rattle.krb_block.proofs.des.rounds.round_value.Goals as goal
 
+pub boxes-init : goal.boxes-init
+unfolding round_value
+boxes-init c = record {
+  value = joined_start (xor_lists (permuted expansion_table (bits 32 c.args.right)) (bits 48 c.args.key));
+  small = omega arith;
+}
+
+pub boxes-preserved : goal.boxes-preserved
+boxes-preserved c = record {
+  value = joined_more (xor_lists (permuted expansion_table (bits 32 c.args.right)) (bits 48 c.args.key)) c.boxes.i c.boxes.value _ _ c.boxes-test.true (omega arith)
+      (expansion_six c.args.right c.args.key c.boxes.i c.boxes-test.true) c.boxes.invariant.value;
+  small = xor_lt 32 c.boxes.value _ c.boxes.invariant.small (joined_word c.boxes.i _ c.boxes-test.true (omega arith));
+}
+
 pub returns-clause-value : goal.returns-clause-value
-unfolding round_value round_table expansion_table
-returns-clause-value c =
-    c.permute-2.ensures.value ∙ ap (permuted round_table) (c.substitute.ensures.value ∙ ap (substituted s_boxes) (bits-xor 48 c.permute.result c.args.key ∙ ap (λ (k : List ℕ). xor_lists k (bits 48 c.args.key)) c.permute.ensures.value))
+returns-clause-value c = joined_end (xor_lists (permuted expansion_table (bits 32 c.args.right)) (bits 48 c.args.key)) c.boxes.i c.boxes.value _ (omega arith) c.boxes.invariant.value
