@@ -13,8 +13,8 @@ IsMemory (Crypto e) = e ≡ crypto.OutOfMemory
 IsMemory (Der e) = e ≡ der.OutOfMemory
 
 -- memory was wanting, or this holds
-abbrev pub IsMemoryOrElse : PartError → Type 0 → Type 0
-IsMemoryOrElse e P = IsMemory e ⊎ P
+abbrev pub IsPartMemoryOr : PartError → Type 0 → Type 0
+IsPartMemoryOr e P = IsMemory e ⊎ P
 
 -- the cipher refused
 abbrev pub IsCrypto : PartError → Type 0

@@ -6,7 +6,7 @@ ghost use Rattle.krb_der.specs.Reading.{Encodings};
 ghost use Rattle.krb_der.specs.Whole.{Answers, FailsWith};
 ghost use Rattle.krb_scheme.specs.Sealing.{IsGiven, IsOfNone, IsTheOne, Opens};
 ghost use Rattle.krb_seal.specs.Filled.{IsFewZeros, RefusesFilled};
-ghost use Rattle.krb_seal.specs.PartError.{IsMemory, IsMemoryOrElse, IsCrypto, IfCrypto, IfDer};
+ghost use Rattle.krb_seal.specs.PartError.{IsMemory, IsPartMemoryOr, IsCrypto, IfCrypto, IfDer};
 
 use crate::error::PartError;
 use krb_der::{Asn1DerError, Der, to_vec};
@@ -28,7 +28,7 @@ pub fn seal_part<T: Der>(
     requires { length confounder.now ≡ confounder_octets cipher.now }
     ensures key { IfOk result (λ _. length key.now ≡ key_octets cipher.now) }
     ensures sealed { IfOk result (λ octets. IsTheOne (meaning cipher.now key.now key_usage confounder.now (T.enc value.now)) octets.items) }
-    ensures refused { IfErr result (λ e. IsMemoryOrElse e ((length key.now ≢ key_octets cipher.now) × (e ≡ PartError.Crypto (KerberosCryptoError.KeyLength (length key.now) (key_octets cipher.now))))) }
+    ensures refused { IfErr result (λ e. IsPartMemoryOr e ((length key.now ≢ key_octets cipher.now) × (e ≡ PartError.Crypto (KerberosCryptoError.KeyLength (length key.now) (key_octets cipher.now))))) }
 {
     let payload = to_vec(alloc, value)?;
     Ok(cipher.encrypt(alloc, key, key_usage, &payload, confounder)?)
@@ -36,9 +36,9 @@ pub fn seal_part<T: Der>(
 
 /// The value whose encoding the cipher sealed to these octets, under this key and key usage and some confounder.
 ///
-/// What the cipher refuses is `Crypto`: a key that has not `key_size` octets, and octets that it seals nothing to. What
-/// it opens is `Der` where no encoding stands in front of it, and `Der(InvalidData)` where one does and what follows is
-/// not fewer than `fill_size` zeros.
+/// What the cipher refuses is `Crypto` of the cipher's own reason: a key that has not `key_size` octets, and octets that
+/// it seals nothing to. What it opens is `Der` where no encoding stands in front of it, and `Der(InvalidData)` where one
+/// does and what follows is not fewer than `fill_size` zeros.
 pub fn open_part<T: Der + Drop>(
     alloc: Global,
     cipher: &dyn Cipher,
@@ -50,9 +50,10 @@ pub fn open_part<T: Der + Drop>(
     ensures valid { IfOk result T.is_value }
     ensures opened { IfOk result (λ v. IsGiven (meaning cipher.now key.now key_usage) (confounder_octets cipher.now) bytes.now (T.enc v)) }
     ensures only { length key.now ≡ key_octets cipher.now → (v : T) → T.is_value v → IsGiven (meaning cipher.now key.now key_usage) (confounder_octets cipher.now) bytes.now (T.enc v) → MatchResult result (λ w. w ≡ v) IsMemory }
-    ensures behind { length key.now ≡ key_octets cipher.now → (v : T) (rest : List ℕ) → T.is_value v → IsGiven (meaning cipher.now key.now key_usage) (confounder_octets cipher.now) bytes.now (T.enc v ++ rest) → ¬ IsFewZeros (fill_octets cipher.now) rest → IsErrAnd result (λ e. IsMemoryOrElse e (e ≡ PartError.Der Asn1DerError.InvalidData)) }
+    ensures behind { length key.now ≡ key_octets cipher.now → (v : T) (rest : List ℕ) → T.is_value v → IsGiven (meaning cipher.now key.now key_usage) (confounder_octets cipher.now) bytes.now (T.enc v ++ rest) → ¬ IsFewZeros (fill_octets cipher.now) rest → IsErrAnd result (λ e. IsPartMemoryOr e (e ≡ PartError.Der Asn1DerError.InvalidData)) }
     ensures other_key { length key.now ≢ key_octets cipher.now → IsErrAnd result IsCrypto }
     ensures crypto { length key.now ≡ key_octets cipher.now → IfErr result (λ e. IfCrypto e (λ why. IsMemoryOr why (IsOfNone (IsGiven (meaning cipher.now key.now key_usage) (confounder_octets cipher.now) bytes.now)))) }
+    ensures exact { IfErr result (λ e. IfCrypto e (λ why. IsMemoryOr why (unopened cipher.now key.now key_usage bytes.now why))) }
     ensures der { IfErr result (λ e. IfDer e (λ why. (filled : List ℕ) × Opens (fill_octets cipher.now) (IsGiven (meaning cipher.now key.now key_usage) (confounder_octets cipher.now) bytes.now) filled × RefusesFilled (Encodings T.is_value T.enc) (fill_octets cipher.now) filled why)) }
 {
     let filled = cipher.decrypt(alloc, key, key_usage, bytes)?;

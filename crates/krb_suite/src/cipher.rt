@@ -144,8 +144,9 @@ pub trait Cipher {
         ensures refused { length key.now ≡ key_octets self.now → IfErr result (λ e. IsMemoryOr e ((encrypted checksum : List ℕ) → IsSplit (checksum_octets self.now) cipher_data.now encrypted checksum → IsOfNone (IsGiven (Enciphers (meaning self.now key.now key_usage) (checksum_octets self.now)) (confounder_octets self.now) encrypted))) }
         ensures exact { IfErr result (λ e. IsMemoryOr e (unopened self.now key.now key_usage cipher_data.now e × (e ≢ KerberosCryptoError.IntegrityCheck))) };
 
-    /// The integrity checksum of a payload under the key Ki, as `encrypt` makes it of what it encrypts. It is not the
-    /// checksum that stands alone in a message, which is made under the key Kc.
+    /// The integrity checksum of just these octets under the key Ki (RFC 3961, 5.3): no confounder stands before them and
+    /// no fill behind. A suite's `encrypt` puts behind what it encrypts the one of confounder, payload and fill, joined.
+    /// The checksum that stands alone in a message is another, made under the key Kc.
     ///
     /// A key of another length is `KeyLength`; nothing else is refused.
     fn encryption_checksum(

@@ -9,6 +9,7 @@ mod cipher;
 mod cipher_suite;
 mod confounder;
 pub mod des;
+pub mod laws;
 mod suite_checksums;
 mod suite_ciphers;
 

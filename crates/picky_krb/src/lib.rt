@@ -4,6 +4,8 @@
 //! original takes its ASN.1 types from.
 #![tactic(auto)]
 
+#[cfg(test)]
+mod checksum_rows;
 pub mod crypto;
 #[cfg(test)]
 mod crypto_rows;
@@ -12,6 +14,8 @@ pub mod der;
 mod des_key_rows;
 #[cfg(test)]
 mod des_rows;
+#[cfg(test)]
+mod error_rows;
 #[cfg(test)]
 mod first_rows;
 #[cfg(test)]

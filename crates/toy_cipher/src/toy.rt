@@ -170,12 +170,7 @@ impl Cipher for Toy {
         cipher_data: &[u8],
     ) -> KerberosCryptoResult<DecryptWithoutChecksum> {
         let octet = key_octet(key)?;
-        if cipher_data.len() < CONFOUNDER_SIZE {
-            return Err(KerberosCryptoError::CipherLength(cipher_data.len(), CONFOUNDER_SIZE));
-        }
-        if cipher_data.len() % FILL_SIZE != 0 {
-            return Err(KerberosCryptoError::CipherUnpad);
-        }
+        check_blocks(cipher_data)?;
         let (confounder, payload) = cipher_data.split_at(CONFOUNDER_SIZE);
         Ok(DecryptWithoutChecksum {
             plaintext: xored(alloc, octet, payload)?,
