@@ -1,15 +1,11 @@
 -- Words and the commands that they are.
-use Rattle.std.proofs.Common.{◌≡◌, ◌≢◌, ℕ, ℤ, List, [], ◌∷◌, codes, map, length, get_or, Option, None, Some, IfSome, MatchResult, Result, Ok, Err, refl, sym, ap, subst, ◌∙◌, inl, inr, arith}
-use Rattle.std.specs.Bool.{⊤}
-use Rattle.std.specs.Io.KnownBytes.{Appends}
+use Rattle.std.proofs.Common.{◌≡◌, ◌≢◌, ℕ, ℤ, List, [], ◌∷◌, codes, map, length, get_or, Result, Ok, Err, refl, sym, ap, ◌∙◌, inl, inr, arith}
 use Rattle.hex.specs.Hex.{decode_of}
 use Rattle.hex.specs.declared.error.FromHexError.{FromHexError}
 use Rattle.krb_suite.specs.Suites as suites
 use Rattle.krb_suite.specs.declared.cipher_suite.CipherSuite.{CipherSuite}
 use Rattle.krb_suite.specs.declared.cipher_suite.CipherSuite.TheVariants.{Aes128CtsHmacSha196, Aes256CtsHmacSha196, Des3CbcSha1Kd}
 use Rattle.krbtool.specs.declared.failure.Failure.{Failure}
-use Rattle.krbtool.specs.declared.failure.Failure.TheVariants.{Write}
-use Rattle.krbtool.specs.Outcome.{IsOutside, IsRun}
 use Rattle.krbtool.specs.declared.command.Command.{Command}
 use Rattle.krbtool.specs.declared.command.Command.TheVariants.{Check, Seal, Open}
 use Rattle.krbtool.specs.Commands.{IsSealing, IsOpening, IsAnswer}
@@ -83,6 +79,16 @@ names_none (word ∷ (etype ∷ [])) n are is = elim are [ ]
 names_none (word ∷ (etype ∷ (keyhex ∷ []))) n are is = elim are [ ]
 names_none (word ∷ (etype ∷ (keyhex ∷ (usage ∷ (confhex ∷ (_ ∷ _)))))) n are is = elim are [ ]
 
+-- a word is the numeral of one number
+pub names_same : (words : List (List ℕ)) (n m : ℕ) → NameUnknown words n → NameUnknown words m → n ≡ m
+names_same (word ∷ etype ∷ keyhex ∷ usage ∷ []) n m one other = sym one.1.number.value ∙ other.1.number.value
+names_same (word ∷ etype ∷ keyhex ∷ usage ∷ confhex ∷ []) n m one other = sym one.1.number.value ∙ other.1.number.value
+names_same [] n m one other = elim one [ ]
+names_same (word ∷ []) n m one other = elim one [ ]
+names_same (word ∷ (etype ∷ [])) n m one other = elim one [ ]
+names_same (word ∷ (etype ∷ (keyhex ∷ []))) n m one other = elim one [ ]
+names_same (word ∷ (etype ∷ (keyhex ∷ (usage ∷ (confhex ∷ (_ ∷ _)))))) n m one other = elim one [ ]
+
 module _ {V : Type 0} (is_value : V → Type 0) (enc : V → List ℕ) where
   opening_same : (s t : CipherSuite) (k l : List ℕ) (z y : ℤ) (input answer : List ℕ) → s ≡ t → k ≡ l → z ≡ y
       → IsOpening is_value enc s k z input answer → IsOpening is_value enc t l y input answer
@@ -91,6 +97,16 @@ module _ {V : Type 0} (is_value : V → Type 0) (enc : V → List ℕ) where
   sealing_same : (s t : CipherSuite) (k l : List ℕ) (z y : ℤ) (f g input answer : List ℕ) → s ≡ t → k ≡ l → z ≡ y → f ≡ g
       → IsSealing is_value enc s k z f input answer → IsSealing is_value enc t l y g input answer
   sealing_same s t k l z y f g input answer es ek ez ef is = rw (← es, ← ek, ← ez, ← ef) is
+
+  -- words that have an answer are a command's
+  pub answers_words : (words : List (List ℕ)) (input answer : List ℕ) → Answers is_value enc words input answer → AreWords words
+  answers_words (word ∷ []) input answer held = held.0
+  answers_words (word ∷ etype ∷ keyhex ∷ usage ∷ []) input answer held = (held.0, held.1, held.2, held.3, held.5)
+  answers_words (word ∷ etype ∷ keyhex ∷ usage ∷ confhex ∷ []) input answer held = (held.0, held.1, held.2, held.3, held.4, held.6, held.7)
+  answers_words [] input answer held = elim held [ ]
+  answers_words (word ∷ (etype ∷ [])) input answer held = elim held [ ]
+  answers_words (word ∷ (etype ∷ (keyhex ∷ []))) input answer held = elim held [ ]
+  answers_words (word ∷ (etype ∷ (keyhex ∷ (usage ∷ (confhex ∷ (_ ∷ _)))))) input answer held = elim held [ ]
 
   -- the words and their command answer the same
   pub answers_to : (words : List (List ℕ)) (command : Command) (input answer : List ℕ) → IsCommand words command
@@ -131,34 +147,6 @@ module _ {V : Type 0} (is_value : V → Type 0) (enc : V → List ℕ) where
   answers_from (word ∷ (etype ∷ (keyhex ∷ (usage ∷ (confhex ∷ []))))) Check input answer is held = elim is [ ]
   answers_from (word ∷ (etype ∷ (keyhex ∷ (usage ∷ (confhex ∷ []))))) (Open key) input answer is held = elim is [ ]
   answers_from (word ∷ (etype ∷ (keyhex ∷ (usage ∷ (confhex ∷ (_ ∷ _)))))) command input answer is held = elim is [ ]
-
-  -- a run whose writing failed had words of a command and an answer to all of its input
-  unwritten_answer : (words : List (List ℕ)) (command : Command) (octets made : List ℕ) (input : Option (List ℕ)) → IsCommand words command
-      → IsAnswer is_value enc command octets made → IfSome input (λ all. octets ≡ all)
-      → IfSome input (λ all. (answer : List ℕ) × Answers is_value enc words all answer)
-  unwritten_answer words command octets made None is held all = all
-  unwritten_answer words command octets made (Some input) is held all =
-      (made, answers_from words command input made is (subst (λ k. IsAnswer is_value enc command k made) all held))
-
-  outside : (words : List (List ℕ)) (input before after : Option (List ℕ))
-      → IfSome input (λ octets. (answer : List ℕ) → Answers is_value enc words octets answer → (λ (outcome : Result ⊤ Failure). MatchResult outcome (λ _. Appends before after answer) IsOutside) (Err Write))
-  outside words None before after = tt
-  outside words (Some input) before after = λ answer held. inr (inr refl)
-
-  pub unwritten_run : (words : List (List ℕ)) (command : Command) (octets made : List ℕ) (input rest before after : Option (List ℕ)) → IsCommand words command
-      → IsAnswer is_value enc command octets made → IfSome input (λ all. octets ≡ all) → IsRun is_value enc words input rest before after (Err Write)
-  unwritten_run words command octets made input rest before after is held all =
-      let are : AreWords words = command_words words command is in
-      record {
-        refused = λ same. absurd (cc same);
-        told = λ none. absurd (none.0 are);
-        unknown = λ n names. absurd (names_none words n are names);
-        unread = λ none. absurd (none are);
-        read = tt;
-        written = tt;
-        answered = outside words input before after;
-        kept = inr (refl, unwritten_answer words command octets made input is held all);
-      }
 
 -- the words of a list of so many
 

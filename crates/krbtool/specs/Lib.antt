@@ -1,3 +1,4 @@
+pub mod Failures
 pub mod Commands
 pub mod Words
 pub mod Outcome

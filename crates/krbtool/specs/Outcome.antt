@@ -1,10 +1,13 @@
 -- What a run of the program did, and with which status it ended.
-use Rattle.std.specs.Prelude.{◌≡◌, ◌⊎◌, ℕ, List, ⊤, Option, Result, Ok, Err, OnOk, IfErr, IfSome, MatchResult}
+use Rattle.std.specs.Prelude.{◌≡◌, ◌⊎◌, ℕ, List, take, ⊤, Option, Result, Ok, Err, OnOk, IfErr, IfSome, MatchResult}
 use Rattle.std.specs.Io.KnownBytes.{Keeps, Appends, IsAtEnd}
 use Rattle.krb_block.specs.declared.error.KerberosCryptoError.TheVariants.{AlgorithmIdentifier}
+use Rattle.krbtool.specs.declared.command.Command.{Command}
 use Rattle.krbtool.specs.declared.failure.Failure.{Failure}
 use Rattle.krbtool.specs.declared.failure.Failure.TheVariants.{Words, Crypto, Memory, Read, Write}
-use Rattle.krbtool.specs.Words.{AreWords, NameUnknown, AreNoWords, Answers}
+use Rattle.krbtool.specs.Failures.{line_of}
+use Rattle.krbtool.specs.Commands.{IsRefusal}
+use Rattle.krbtool.specs.Words.{AreWords, IsCommand, NameUnknown, AreNoWords, RefusesWords, Answers}
 
 -- the status of a refusal
 abbrev pub refusal_status : Failure → ℕ
@@ -16,9 +19,23 @@ abbrev pub status_of : Result ⊤ Failure → ℕ
 status_of (Ok t) = 0
 status_of (Err e) = refusal_status e
 
+-- What is told of a run, where the octets of the place for it are known (before and after): nothing of one that succeeds,
+-- and else the line of its refusal, or a front of it where the place takes no more.
+abbrev pub IsTold : Option (List ℕ) → Option (List ℕ) → Result ⊤ Failure → Type 0
+IsTold before after (Ok t) = Keeps before after
+IsTold before after (Err e) = (count : ℕ) × Appends before after (take count (line_of e))
+
 -- memory was wanting, or a device failed
 abbrev pub IsOutside : Failure → Type 0
 IsOutside e = (e ≡ Memory) ⊎ (e ≡ Read) ⊎ (e ≡ Write)
+
+-- Why a run is refused: the input could not be read; for its words; since an answer could not be written; or as the command
+-- refuses the input.
+abbrev pub IsReason : {V : Type 0} → (V → Type 0) → (V → List ℕ) → List (List ℕ) → Option (List ℕ) → Failure → Type 0
+IsReason is_value enc words input e =
+    (e ≡ Read) ⊎ RefusesWords words e
+    ⊎ ((e ≡ Write) × IfSome input (λ octets. (answer : List ℕ) × Answers is_value enc words octets answer))
+    ⊎ IfSome input (λ octets. (command : Command) × IsCommand words command × IsRefusal is_value enc command octets e)
 
 -- With these words: what was read of the input, where its octets are known (`rest` of it is left), and what was
 -- written, where the octets of the output are known (before and after).
@@ -38,3 +55,5 @@ pub record IsRun {V : Type 0} (is_value : V → Type 0) (enc : V → List ℕ) (
   pub answered : IfSome input (λ octets. (answer : List ℕ) → Answers is_value enc words octets answer → MatchResult outcome (λ _. Appends before after answer) IsOutside)
   -- nothing is written before a refusal, but for one of the writing of an answer
   pub kept : IfErr outcome (λ e. Keeps before after ⊎ ((e ≡ Write) × IfSome input (λ octets. (answer : List ℕ) × Answers is_value enc words octets answer)))
+  -- each refusal has its reason
+  pub because : IfErr outcome (IsReason is_value enc words input)

@@ -1,13 +1,13 @@
 //! What a command answers to an input.
 
-ghost use Rattle.std.specs.Prelude.{◌≡◌, ◌≢◌, ℕ, List, length, IfOk, IfErr, MatchResult};
+ghost use Rattle.std.specs.Prelude.{◌≡◌, ℕ, List, length, IfOk, IfErr, MatchResult};
 ghost use Rattle.krb_scheme.specs.Sealing.{IsGiven};
-ghost use Rattle.krb_suite.specs.BySuite.{confounder_octets_of};
-ghost use Rattle.krbtool.specs.Commands.{IsChecked, IsSealing, IsOpening, IsAnswer, HasConfounder};
+ghost use Rattle.krb_suite.specs.BySuite.{IsSealed, key_octets_of, fill_octets_of, confounder_octets_of, refusal_of};
+ghost use Rattle.krbtool.specs.Commands.{IsChecked, IsSealing, IsOpening, IsAnswer, IsUnread, IsUnsealed, IsUnopened, IsRefusal, HasConfounder};
 ghost use Rattle.krbtool.specs.Outcome.{IsOutside};
 
 use crate::command::{Command, SealingKey};
-use crate::failure::{Failure, der_failure, part_failure};
+use crate::failure::Failure;
 use krb_der::{Der, DerEncode, from_bytes, to_vec};
 use krb_msg::data_types::EncTicketPart;
 use krb_seal::{open_part, seal_part};
@@ -21,46 +21,45 @@ fn checked<T: Der + Drop>(alloc: Global, input: &[u8]) -> Result<Vec<u8>, Failur
     ensures found { IfOk result (λ made. IsChecked T.is_value T.enc input.now made.items) }
     ensures only { (answer : List ℕ) → IsChecked T.is_value T.enc input.now answer
         → MatchResult result (λ made. made.items ≡ answer) IsOutside }
-    ensures words { IfErr result (λ e. e ≢ Failure.Words) }
+    ensures refused { IfErr result (IsUnread T.is_value T.enc input.now) }
 {
-    let value: T = from_bytes(alloc, input).map_err(der_failure)?;
-    to_vec(alloc, &value).map_err(der_failure)
+    let value: T = from_bytes(alloc, input)?;
+    Ok(to_vec(alloc, &value)?)
 }
 
 /// What the input, the encoding of a value, is sealed to by the lent cipher.
 fn sealed<T: Der + Drop>(
     alloc: Global,
     cipher: &dyn Cipher,
-    key: &[u8],
-    usage: i32,
+    key: &SealingKey,
     confounder: &[u8],
     input: &[u8],
 ) -> Result<Vec<u8>, Failure>
     requires { length confounder.now ≡ confounder_octets cipher.now }
-    ensures found { IfOk result (λ made. (v : T) × T.is_value v × (input.now ≡ T.enc v) × (length key.now ≡ key_octets cipher.now) × meaning cipher.now key.now usage confounder.now (T.enc v) made.items) }
-    ensures only { (v : T) (answer : List ℕ) → T.is_value v → input.now ≡ T.enc v → length key.now ≡ key_octets cipher.now → meaning cipher.now key.now usage confounder.now (T.enc v) answer
+    ensures found { IfOk result (λ made. (v : T) × T.is_value v × (input.now ≡ T.enc v) × (length key.now.octets.items ≡ key_octets cipher.now) × meaning cipher.now key.now.octets.items key.now.usage confounder.now (T.enc v) made.items) }
+    ensures only { (v : T) (answer : List ℕ) → T.is_value v → input.now ≡ T.enc v → length key.now.octets.items ≡ key_octets cipher.now → meaning cipher.now key.now.octets.items key.now.usage confounder.now (T.enc v) answer
         → MatchResult result (λ made. made.items ≡ answer) IsOutside }
-    ensures words { IfErr result (λ e. e ≢ Failure.Words) }
+    ensures refused { IfErr result (IsUnsealed T.is_value T.enc (key_octets cipher.now) key.now.octets.items input.now) }
 {
-    let value: T = from_bytes(alloc, input).map_err(der_failure)?;
-    seal_part(alloc, cipher, key, usage, confounder, &value).map_err(part_failure)
+    let value: T = from_bytes(alloc, input)?;
+    let made = seal_part(alloc, cipher, &key.octets, key.usage, confounder, &value)?;
+    Ok(made)
 }
 
 /// The encoding of the value that the lent cipher sealed to the input.
 fn opened<T: Der + Drop>(
     alloc: Global,
     cipher: &dyn Cipher,
-    key: &[u8],
-    usage: i32,
+    key: &SealingKey,
     input: &[u8],
 ) -> Result<Vec<u8>, Failure>
-    ensures found { IfOk result (λ made. (v : T) × T.is_value v × (made.items ≡ T.enc v) × (length key.now ≡ key_octets cipher.now) × IsGiven (meaning cipher.now key.now usage) (confounder_octets cipher.now) input.now (T.enc v)) }
-    ensures only { (v : T) → T.is_value v → length key.now ≡ key_octets cipher.now → IsGiven (meaning cipher.now key.now usage) (confounder_octets cipher.now) input.now (T.enc v)
+    ensures found { IfOk result (λ made. (v : T) × T.is_value v × (made.items ≡ T.enc v) × (length key.now.octets.items ≡ key_octets cipher.now) × IsGiven (meaning cipher.now key.now.octets.items key.now.usage) (confounder_octets cipher.now) input.now (T.enc v)) }
+    ensures only { (v : T) → T.is_value v → length key.now.octets.items ≡ key_octets cipher.now → IsGiven (meaning cipher.now key.now.octets.items key.now.usage) (confounder_octets cipher.now) input.now (T.enc v)
         → MatchResult result (λ made. made.items ≡ T.enc v) IsOutside }
-    ensures words { IfErr result (λ e. e ≢ Failure.Words) }
+    ensures refused { IfErr result (IsUnopened T.is_value T.enc (fill_octets cipher.now) (IsGiven (meaning cipher.now key.now.octets.items key.now.usage) (confounder_octets cipher.now) input.now) (length key.now.octets.items ≡ key_octets cipher.now) (unopened cipher.now key.now.octets.items key.now.usage input.now)) }
 {
-    let value: T = open_part(alloc, cipher, key, usage, input).map_err(part_failure)?;
-    to_vec(alloc, &value).map_err(der_failure)
+    let value: T = open_part(alloc, cipher, &key.octets, key.usage, input)?;
+    Ok(to_vec(alloc, &value)?)
 }
 
 /// What the input is sealed to under the key.
@@ -74,33 +73,18 @@ fn sealed_under(
     ensures found { IfOk result (λ made. IsSealing ⟦<EncTicketPart as DerEncode>⟧.is_value ⟦<EncTicketPart as DerEncode>⟧.enc key.now.suite key.now.octets.items key.now.usage confounder.now input.now made.items) }
     ensures only { (answer : List ℕ) → IsSealing ⟦<EncTicketPart as DerEncode>⟧.is_value ⟦<EncTicketPart as DerEncode>⟧.enc key.now.suite key.now.octets.items key.now.usage confounder.now input.now answer
         → MatchResult result (λ made. made.items ≡ answer) IsOutside }
-    ensures words { IfErr result (λ e. e ≢ Failure.Words) }
+    ensures refused { IfErr result (IsUnsealed ⟦<EncTicketPart as DerEncode>⟧.is_value ⟦<EncTicketPart as DerEncode>⟧.enc (key_octets_of key.now.suite) key.now.octets.items input.now) }
 {
     match key.suite {
-        CipherSuite::Aes128CtsHmacSha196 => sealed::<EncTicketPart>(
-            alloc,
-            &Aes128CtsHmacSha196::new(),
-            &key.octets,
-            key.usage,
-            confounder,
-            input,
-        ),
-        CipherSuite::Aes256CtsHmacSha196 => sealed::<EncTicketPart>(
-            alloc,
-            &Aes256CtsHmacSha196::new(),
-            &key.octets,
-            key.usage,
-            confounder,
-            input,
-        ),
-        CipherSuite::Des3CbcSha1Kd => sealed::<EncTicketPart>(
-            alloc,
-            &Des3CbcSha1Kd::new(),
-            &key.octets,
-            key.usage,
-            confounder,
-            input,
-        ),
+        CipherSuite::Aes128CtsHmacSha196 => {
+            sealed::<EncTicketPart>(alloc, &Aes128CtsHmacSha196::new(), key, confounder, input)
+        }
+        CipherSuite::Aes256CtsHmacSha196 => {
+            sealed::<EncTicketPart>(alloc, &Aes256CtsHmacSha196::new(), key, confounder, input)
+        }
+        CipherSuite::Des3CbcSha1Kd => {
+            sealed::<EncTicketPart>(alloc, &Des3CbcSha1Kd::new(), key, confounder, input)
+        }
     }
 }
 
@@ -109,30 +93,18 @@ fn opened_under(alloc: Global, key: &SealingKey, input: &[u8]) -> Result<Vec<u8>
     ensures found { IfOk result (λ made. IsOpening ⟦<EncTicketPart as DerEncode>⟧.is_value ⟦<EncTicketPart as DerEncode>⟧.enc key.now.suite key.now.octets.items key.now.usage input.now made.items) }
     ensures only { (answer : List ℕ) → IsOpening ⟦<EncTicketPart as DerEncode>⟧.is_value ⟦<EncTicketPart as DerEncode>⟧.enc key.now.suite key.now.octets.items key.now.usage input.now answer
         → MatchResult result (λ made. made.items ≡ answer) IsOutside }
-    ensures words { IfErr result (λ e. e ≢ Failure.Words) }
+    ensures refused { IfErr result (IsUnopened ⟦<EncTicketPart as DerEncode>⟧.is_value ⟦<EncTicketPart as DerEncode>⟧.enc (fill_octets_of key.now.suite) (IsGiven (IsSealed key.now.suite key.now.octets.items key.now.usage) (confounder_octets_of key.now.suite) input.now) (length key.now.octets.items ≡ key_octets_of key.now.suite) (λ why. why ≡ refusal_of key.now.suite key.now.octets.items input.now)) }
 {
     match key.suite {
-        CipherSuite::Aes128CtsHmacSha196 => opened::<EncTicketPart>(
-            alloc,
-            &Aes128CtsHmacSha196::new(),
-            &key.octets,
-            key.usage,
-            input,
-        ),
-        CipherSuite::Aes256CtsHmacSha196 => opened::<EncTicketPart>(
-            alloc,
-            &Aes256CtsHmacSha196::new(),
-            &key.octets,
-            key.usage,
-            input,
-        ),
-        CipherSuite::Des3CbcSha1Kd => opened::<EncTicketPart>(
-            alloc,
-            &Des3CbcSha1Kd::new(),
-            &key.octets,
-            key.usage,
-            input,
-        ),
+        CipherSuite::Aes128CtsHmacSha196 => {
+            opened::<EncTicketPart>(alloc, &Aes128CtsHmacSha196::new(), key, input)
+        }
+        CipherSuite::Aes256CtsHmacSha196 => {
+            opened::<EncTicketPart>(alloc, &Aes256CtsHmacSha196::new(), key, input)
+        }
+        CipherSuite::Des3CbcSha1Kd => {
+            opened::<EncTicketPart>(alloc, &Des3CbcSha1Kd::new(), key, input)
+        }
     }
 }
 
@@ -142,7 +114,7 @@ pub fn answer(alloc: Global, command: &Command, input: &[u8]) -> Result<Vec<u8>,
     ensures found { IfOk result (λ made. IsAnswer ⟦<EncTicketPart as DerEncode>⟧.is_value ⟦<EncTicketPart as DerEncode>⟧.enc command.now input.now made.items) }
     ensures only { (answer : List ℕ) → IsAnswer ⟦<EncTicketPart as DerEncode>⟧.is_value ⟦<EncTicketPart as DerEncode>⟧.enc command.now input.now answer
         → MatchResult result (λ made. made.items ≡ answer) IsOutside }
-    ensures words { IfErr result (λ e. e ≢ Failure.Words) }
+    ensures refused { IfErr result (IsRefusal ⟦<EncTicketPart as DerEncode>⟧.is_value ⟦<EncTicketPart as DerEncode>⟧.enc command.now input.now) }
 {
     match command {
         Command::Check => checked::<EncTicketPart>(alloc, input),

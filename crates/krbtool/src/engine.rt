@@ -1,10 +1,10 @@
 //! The program over any reader and any writers.
 
-ghost use Rattle.std.specs.Prelude.{◌≡◌, ◌⊎◌, ⊤, map, IfOk, IfErr, OnOk, IfSome, Result};
+ghost use Rattle.std.specs.Prelude.{◌≡◌, ◌⊎◌, ℕ, ⊤, map, take, IfOk, IfErr, OnOk, IfSome, Result, Err};
 ghost use Rattle.std.specs.Io.KnownBytes.{Keeps, Appends, IsAtEnd};
 ghost use Rattle.std.specs.String.{string_bytes};
 ghost use Rattle.krbtool.specs.declared.failure.Failure.{Failure};
-ghost use Rattle.krbtool.specs.Outcome.{status_of, refusal_status, IsRun};
+ghost use Rattle.krbtool.specs.Outcome.{status_of, refusal_status, IsTold, IsRun};
 
 use crate::answer::answer;
 use crate::failure::{Failure, read_failure};
@@ -12,7 +12,7 @@ use crate::parse::parse;
 use krb_der::DerEncode;
 use krb_msg::data_types::EncTicketPart;
 use std::alloc::Global;
-use std::io::{Read, Write};
+use std::io::{ErrorKind, Read, Write};
 
 /// All that the reader has left.
 fn read_all<R: Read>(alloc: Global, input: &mut R) -> Result<Vec<u8>, Failure>
@@ -37,7 +37,6 @@ fn write_out<W: Write>(output: &mut W, octets: &[u8]) -> Result<(), Failure>
 }
 
 /// Reads all of the input, and writes the answer to it.
-#[tactic(auto, using(crate::proofs::Parsing::command_words, crate::proofs::Parsing::names_none, crate::proofs::Parsing::answers_to, crate::proofs::Parsing::answers_from))]
 fn perform<R: Read, W: Write>(
     alloc: Global,
     words: &[String],
@@ -55,11 +54,33 @@ fn perform<R: Read, W: Write>(
     Ok(())
 }
 
+/// Writes the octets, as many of them as the writer takes.
+fn write_front<W: Write>(output: &mut W, octets: &[u8])
+    ensures { (count : ℕ) × Appends (W.contents output.old) (W.contents output.new) (take count octets.now) }
+{
+    let mut rest = octets;
+    for _ in 0..u64::MAX {
+        if rest.is_empty() {
+            return;
+        }
+        match output.write(rest) {
+            Ok(0) => return,
+            Ok(count) => rest = &rest[count..],
+            Err(error) => {
+                if error.kind() != ErrorKind::Interrupted {
+                    return;
+                }
+            }
+        }
+    }
+}
+
 /// Tells a refusal by one line, and gives its status. A failed write of that line changes nothing.
 pub fn refuse<E: Write>(failure: &Failure, faults: &mut E) -> u8
-    ensures { result ≡ refusal_status failure.now }
+    ensures status { result ≡ refusal_status failure.now }
+    ensures told { IsTold (E.contents faults.old) (E.contents faults.new) (Err failure.now) }
 {
-    let _ = writeln!(faults, "{failure}");
+    write_front(faults, failure.line().as_bytes());
     failure.status()
 }
 
@@ -72,6 +93,7 @@ pub fn run<R: Read, W: Write, E: Write>(
     faults: &mut E,
 ) -> u8
     ensures ran { (outcome : Result ⊤ Failure) × (result ≡ status_of outcome)
+        × IsTold (E.contents faults.old) (E.contents faults.new) outcome
         × IsRun ⟦<EncTicketPart as DerEncode>⟧.is_value ⟦<EncTicketPart as DerEncode>⟧.enc
         (map string_bytes words.now) (R.remaining input.old) (R.remaining input.new)
         (W.contents output.old) (W.contents output.new) outcome }

@@ -1,15 +1,15 @@
 //! Why a run is refused.
 
-ghost use Rattle.std.specs.Prelude.{◌≡◌, ◌≢◌, ◌⊎◌};
-ghost use Rattle.krb_seal.specs.PartError.{IsMemory};
+ghost use Rattle.std.specs.Prelude.{◌≡◌, ◌⊎◌};
+ghost use Rattle.krbtool.specs.Failures.{of_der, of_part, der_line, crypto_line, line_of};
 ghost use Rattle.krbtool.specs.Outcome.{refusal_status};
 
 use krb_der::Asn1DerError;
 use krb_seal::PartError;
 use krb_suite::KerberosCryptoError;
-use std::{fmt, io};
+use std::io;
 
-/// Why a run is refused. Its text is the line that the program tells, without the newline.
+/// Why a run is refused.
 #[derive(Debug, Drop)]
 pub enum Failure {
     /// The words are no command.
@@ -36,67 +36,78 @@ impl Failure {
             _ => 1,
         }
     }
-}
 
-impl fmt::Display for Failure {
-    fn fmt<W: fmt::Write>(&self, f: &mut fmt::Formatter<W>) -> fmt::Result {
+    /// The line that the program tells, with its newline.
+    pub fn line(&self) -> &'static str
+        ensures { result.now ≡ line_of self.now }
+    {
         match self {
-            Failure::Words => write!(
-                f,
-                "usage: krbtool check | seal ETYPE KEYHEX USAGE CONFHEX | open ETYPE KEYHEX USAGE"
-            ),
-            Failure::Der(Asn1DerError::InvalidData) => write!(f, "krbtool: der InvalidData"),
-            Failure::Der(Asn1DerError::TruncatedData) => write!(f, "krbtool: der TruncatedData"),
-            Failure::Der(Asn1DerError::UnsupportedValue) => {
-                write!(f, "krbtool: der UnsupportedValue")
+            Failure::Words => {
+                "usage: krbtool check | seal ETYPE KEYHEX USAGE CONFHEX | open ETYPE KEYHEX USAGE\n"
             }
-            Failure::Crypto(error) => write!(f, "krbtool: crypto {}", variant(error)),
-            Failure::Der(Asn1DerError::OutOfMemory) | Failure::Memory => {
-                write!(f, "krbtool: memory")
-            }
-            Failure::Der(Asn1DerError::Io(_)) | Failure::Read | Failure::Write => {
-                write!(f, "krbtool: io")
-            }
+            Failure::Der(error) => der_line(error),
+            Failure::Crypto(error) => crypto_line(error),
+            Failure::Memory => "krbtool: memory\n",
+            Failure::Read | Failure::Write => "krbtool: io\n",
         }
     }
 }
 
-/// The name of the variant.
-fn variant(error: &KerberosCryptoError) -> &'static str {
+/// The line of a refusal by the type of a value.
+fn der_line(error: &Asn1DerError) -> &'static str
+    ensures { result.now ≡ der_line error.now }
+{
     match error {
-        KerberosCryptoError::KeyLength(_, _) => "KeyLength",
-        KerberosCryptoError::CipherLength(_, _) => "CipherLength",
-        KerberosCryptoError::AlgorithmIdentifier(_) => "AlgorithmIdentifier",
-        KerberosCryptoError::AlgorithmIdentifierData(_) => "AlgorithmIdentifierData",
-        KerberosCryptoError::IntegrityCheck => "IntegrityCheck",
-        KerberosCryptoError::CipherError(_) => "CipherError",
-        KerberosCryptoError::CipherUnpad => "CipherUnpad",
-        KerberosCryptoError::CipherPad => "CipherPad",
-        KerberosCryptoError::SeedBitLen(_) => "SeedBitLen",
-        KerberosCryptoError::OutOfMemory => "OutOfMemory",
+        Asn1DerError::InvalidData => "krbtool: der InvalidData\n",
+        Asn1DerError::TruncatedData => "krbtool: der TruncatedData\n",
+        Asn1DerError::UnsupportedValue => "krbtool: der UnsupportedValue\n",
+        Asn1DerError::OutOfMemory => "krbtool: memory\n",
+        Asn1DerError::Io(_) => "krbtool: io\n",
+    }
+}
+
+/// The line of a refusal by the cipher.
+fn crypto_line(error: &KerberosCryptoError) -> &'static str
+    ensures { result.now ≡ crypto_line error.now }
+{
+    match error {
+        KerberosCryptoError::KeyLength(_, _) => "krbtool: crypto KeyLength\n",
+        KerberosCryptoError::CipherLength(_, _) => "krbtool: crypto CipherLength\n",
+        KerberosCryptoError::AlgorithmIdentifier(_) => "krbtool: crypto AlgorithmIdentifier\n",
+        KerberosCryptoError::AlgorithmIdentifierData(_) => {
+            "krbtool: crypto AlgorithmIdentifierData\n"
+        }
+        KerberosCryptoError::IntegrityCheck => "krbtool: crypto IntegrityCheck\n",
+        KerberosCryptoError::CipherError(_) => "krbtool: crypto CipherError\n",
+        KerberosCryptoError::CipherUnpad => "krbtool: crypto CipherUnpad\n",
+        KerberosCryptoError::CipherPad => "krbtool: crypto CipherPad\n",
+        KerberosCryptoError::SeedBitLen(_) => "krbtool: crypto SeedBitLen\n",
+        KerberosCryptoError::OutOfMemory => "krbtool: memory\n",
     }
 }
 
 /// The refusal of a part that was not sealed or not opened. Want of memory is `Memory`.
-pub fn part_failure(error: PartError) -> Failure
-    ensures memory { IsMemory error → result ≡ Failure.Memory }
-    ensures words { result ≢ Failure.Words }
-{
-    match error {
-        PartError::Crypto(KerberosCryptoError::OutOfMemory) => Failure::Memory,
-        PartError::Crypto(error) => Failure::Crypto(error),
-        PartError::Der(error) => der_failure(error),
+impl From<PartError> for Failure {
+    ghost from_gives = { λ error failure. failure ≡ of_part error };
+
+    fn from(error: PartError) -> Failure {
+        match error {
+            PartError::Crypto(KerberosCryptoError::OutOfMemory) => Failure::Memory,
+            PartError::Crypto(error) => Failure::Crypto(error),
+            PartError::Der(error) => Failure::from(error),
+        }
     }
 }
 
 /// The refusal of octets that are no encoding. Want of memory is `Memory`.
-pub fn der_failure(error: Asn1DerError) -> Failure
-    ensures memory { error ≡ Asn1DerError.OutOfMemory → result ≡ Failure.Memory }
-    ensures words { result ≢ Failure.Words }
-{
-    match error {
-        Asn1DerError::OutOfMemory => Failure::Memory,
-        error => Failure::Der(error),
+impl From<Asn1DerError> for Failure {
+    ghost from_gives = { λ error failure. failure ≡ of_der error };
+
+    fn from(error: Asn1DerError) -> Failure {
+        match error {
+            Asn1DerError::OutOfMemory => Failure::Memory,
+            error => Failure::Der(error),
+        }
     }
 }
 

@@ -52,13 +52,16 @@ impl<'a> Read for Source<'a> {
     }
 }
 
-/// A writer to memory: takes at most `step` octets at a write, and fails at the write number `failing`, from 1.
+/// A writer to memory: takes at most `step` octets at a write, and fails at the write number `failing` and at the flush
+/// number `unflushed`, from 1.
 #[derive(Drop)]
 struct Sink {
     taken: Vec<u8>,
     step: usize,
     writes: usize,
     failing: usize,
+    flushes: usize,
+    unflushed: usize,
 }
 
 impl Sink {
@@ -68,6 +71,8 @@ impl Sink {
             step,
             writes: 0,
             failing,
+            flushes: 0,
+            unflushed: 0,
         }
     }
 }
@@ -84,6 +89,10 @@ impl Write for Sink {
     }
 
     fn flush(&mut self) -> io::Result<()> {
+        self.flushes = self.flushes.saturating_add(1);
+        if self.flushes == self.unflushed {
+            return Err(io::Error::from(io::ErrorKind::Other));
+        }
         Ok(())
     }
 }
@@ -111,6 +120,7 @@ fn writes_a_part_back(rt: HostRuntime) -> Result<(), Fail> {
             PART.as_slice(),
             "in steps of {step}"
         );
+        assert_eq!(rt; output.flushes, 1, "in steps of {step}");
         assert!(rt; faults.is_empty());
     }
     Ok(())
@@ -220,6 +230,21 @@ fn tells_failing_devices(rt: HostRuntime) -> Result<(), Fail> {
 }
 
 #[test]
+fn tells_what_was_not_flushed(rt: HostRuntime) -> Result<(), Fail> {
+    let alloc = rt.alloc();
+    let words = words_of(alloc, "check")?;
+    let mut input = PART.as_slice();
+    let mut output = Sink::new(alloc, 128, 0);
+    output.unflushed = 1;
+    let mut faults = Vec::new(alloc);
+    let status = run(alloc, &words, &mut input, &mut output, &mut faults);
+    assert_eq!(rt; status, 1);
+    assert_eq!(rt; faults.as_slice(), b"krbtool: io\n".as_slice());
+    assert_eq!(rt; output.flushes, 1);
+    Ok(())
+}
+
+#[test]
 fn needs_no_place_for_faults(rt: HostRuntime) -> Result<(), Fail> {
     let alloc = rt.alloc();
     for (line, octets, wanted) in [
@@ -235,6 +260,24 @@ fn needs_no_place_for_faults(rt: HostRuntime) -> Result<(), Fail> {
         assert_eq!(rt; status, wanted);
         let answer = if wanted == 0 { PART.as_slice() } else { &[] };
         assert_eq!(rt; output.as_slice(), answer);
+    }
+    Ok(())
+}
+
+#[test]
+fn tells_a_line_in_steps(rt: HostRuntime) -> Result<(), Fail> {
+    let alloc = rt.alloc();
+    let words = words_of(alloc, "check")?;
+    for (failing, wanted) in [
+        (0, b"krbtool: der TruncatedData\n".as_slice()),
+        (3, b"krbtool: d".as_slice()),
+    ] {
+        let mut input = &PART[..127];
+        let mut output = Vec::new(alloc);
+        let mut faults = Sink::new(alloc, 5, failing);
+        let status = run(alloc, &words, &mut input, &mut output, &mut faults);
+        assert_eq!(rt; status, 1);
+        assert_eq!(rt; faults.taken.as_slice(), wanted);
     }
     Ok(())
 }
