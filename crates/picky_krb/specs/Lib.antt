@@ -8,6 +8,7 @@ pub use Rattle.krb_der.specs.GeneralizedTime
 pub use Rattle.krb_der.specs.Grouping
 pub use Rattle.krb_der.specs.Composite
 pub use Rattle.krb_der.specs.Whole
+pub use Rattle.krb_der.specs.Asn1
 pub use Rattle.krb_block.specs.CryptoError
 pub use Rattle.krb_block.specs.Hmac
 pub use Rattle.krb_block.specs.Pbkdf2
@@ -23,5 +24,6 @@ pub use Rattle.krb_scheme.specs.Sealing
 pub use Rattle.krb_scheme.specs.Sealed
 pub use Rattle.krb_suite.specs.Suites
 pub use Rattle.krb_suite.specs.BySuite
+pub use Rattle.krb_suite.specs.Standards
 pub use Rattle.krb_seal.specs.PartError
 pub use Rattle.krb_seal.specs.Filled
