@@ -1,3 +1,4 @@
 pub mod WholeInput
 pub mod Rows
 pub mod FieldSteps
+pub mod Streams

@@ -23,6 +23,10 @@ bit_string b = tlv 3 (bits_content b)
 abbrev pub octet_string : List ℕ → List ℕ
 octet_string octets = tlv 4 octets
 
+-- UTF8String: universal 12 (8.23)
+abbrev pub utf8_string : List ℕ → List ℕ
+utf8_string octets = tlv 12 octets
+
 -- GeneralizedTime: universal 24 (8.25 and 11.7)
 abbrev pub generalized_time : Time → List ℕ
 generalized_time t = tlv 24 (time_content t)

@@ -16,3 +16,4 @@ pub mod Asn1
 pub mod Equality
 pub mod EqualityLaws
 pub mod SequenceLaws
+pub mod Streaming

@@ -7,19 +7,19 @@
 //! Note ::= SEQUENCE {
 //!     number [0] INTEGER,
 //!     text   [1] OCTET STRING OPTIONAL,
-//!     urgent [11] BOOLEAN
+//!     urgent [13] BOOLEAN
 //! }
 //! ```
 //!
 //! 1. Write the struct. Its fields are public and in order, each under its tag. One that may be absent is
-//!    `Optional<Option<..>>`. `ExplicitContextTag0` to `10` have names; from 11 to 30 write the number.
+//!    `Optional<Option<..>>`. `ExplicitContextTag0` to `12` have names; from 13 to 30 write the number.
 //!
 //!    ```text
 //!    #[derive(Debug, Drop, PartialEq, Eq)]
 //!    pub struct Note {
 //!        pub number: ExplicitContextTag0<IntegerAsn1>,
 //!        pub text: Optional<Option<ExplicitContextTag1<OctetStringAsn1>>>,
-//!        pub urgent: ExplicitContextTag<bool, Number<11>>,
+//!        pub urgent: ExplicitContextTag<bool, Number<13>>,
 //!    }
 //!    ```
 //!
@@ -31,7 +31,7 @@
 //!        type Fields = (
 //!            ExplicitContextTag0<IntegerAsn1>,
 //!            Optional<Option<ExplicitContextTag1<OctetStringAsn1>>>,
-//!            ExplicitContextTag<bool, Number<11>>,
+//!            ExplicitContextTag<bool, Number<13>>,
 //!        );
 //!
 //!        ghost fields = { λ v. (v.number, v.text, v.urgent) };
@@ -55,7 +55,7 @@
 //!
 //!    ```text
 //!    impl DerEncode for Note {
-//!        ghost enc = { λ v. sequence (explicit 0 (integer v.number) ++ optional (λ x. explicit 1 (octet_string x)) v.text.0 ++ explicit 11 (boolean v.urgent)) };
+//!        ghost enc = { λ v. sequence (explicit 0 (integer v.number) ++ optional (λ x. explicit 1 (octet_string x)) v.text.0 ++ explicit 13 (boolean v.urgent)) };
 //!
 //!        ghost is_value = { values_of ⟦<Self as Sequence>⟧ ⟦<<Self as Sequence>::Fields as Fields>⟧ };
 //!
@@ -103,7 +103,7 @@
 //! ghost use Rattle.krb_der.specs.SequenceLaws.{one_value_of, values_of};
 //! ghost use Rattle.krb_der.specs.TlvLaws.{only_tag, tagged_element}; // only_tag: only for fields that may be absent
 //!
-//! use krb_der::composite::{Fields, Number, SEQUENCE, Sequence, read_sequence, write_sequence}; // Number: only for tags past 10
+//! use krb_der::composite::{Fields, Number, SEQUENCE, Sequence, read_sequence, write_sequence}; // Number: only for tags past 12
 //! use krb_der::{Asn1DerError, Der, DerEncode, field_refs};
 //! use krb_der::{ExplicitContextTag0, IntegerAsn1}; // the fields' types, and so on
 //! use krb_der::{Optional}; // only for fields that may be absent
@@ -119,8 +119,10 @@
 //! |---|---|---|
 //! | BOOLEAN | `bool` | `boolean x` |
 //! | INTEGER, Int32, UInt32, Microseconds | `IntegerAsn1` | `integer x` |
+//! | INTEGER of 0 to 2^32 - 1, where no other is to be read | `u32` | `integer (pos x)`, with `pos` of the Prelude |
 //! | BIT STRING, KerberosFlags | `BitStringAsn1` | `bit_string x` |
 //! | OCTET STRING | `OctetStringAsn1` | `octet_string x` |
+//! | UTF8String | `Utf8StringAsn1` | `utf8_string x` |
 //! | GeneralString, KerberosString, Realm | `GeneralStringAsn1` | `general_string x` |
 //! | GeneralizedTime, KerberosTime | `GeneralizedTimeAsn1` | `generalized_time x` |
 //! | SEQUENCE OF T | `Asn1SequenceOf<T>` | `sequence_of w x`, where `w` is the word of T |

@@ -22,8 +22,8 @@ pub trait TagNumber {
 
 /// A value under an explicit context tag (X.690, 8.14): the tag `a0` + N around the value's encoding.
 ///
-/// It is made by `ExplicitContextTag0::from(value)` and so on, and gives the value back at `.0`. The numbers 0 to 10 have
-/// such a name, and `ExplicitContextTag<T, Number<11>>` is that of 11. A contract sees the value.
+/// It is made by `ExplicitContextTag0::from(value)` and so on, and gives the value back at `.0`. The numbers 0 to 12 have
+/// such a name, and `ExplicitContextTag<T, Number<13>>` is that of 13. A contract sees the value.
 #[derive(Drop)]
 #[derive_where(Debug, Clone, PartialEq, Eq; T)]
 pub struct ExplicitContextTag<T, N>(pub T, PhantomData<N>);
@@ -114,3 +114,9 @@ pub type ExplicitContextTag9<T> = ExplicitContextTag<T, Number<9>>;
 
 /// A value under the explicit context tag 10: `aa`.
 pub type ExplicitContextTag10<T> = ExplicitContextTag<T, Number<10>>;
+
+/// A value under the explicit context tag 11: `ab`.
+pub type ExplicitContextTag11<T> = ExplicitContextTag<T, Number<11>>;
+
+/// A value under the explicit context tag 12: `ac`.
+pub type ExplicitContextTag12<T> = ExplicitContextTag<T, Number<12>>;

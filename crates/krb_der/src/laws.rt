@@ -1,6 +1,6 @@
 //! Laws over the definitions, of functions that do nothing.
 
-ghost use Rattle.std.specs.Prelude.{◌≡◌, ◌+◌, ◌≤◌, ◌++◌, ◌∷◌, ℕ, ℤ, Bool, List, Option, IfSome};
+ghost use Rattle.std.specs.Prelude.{◌≡◌, ◌+◌, ◌≤◌, ◌++◌, ◌∷◌, ℕ, ℤ, pos, Bool, List, Option, IfSome};
 ghost use Rattle.std.specs.List.{flat_map};
 ghost use Rattle.krb_leaves.specs.Tlv.{tlv};
 ghost use Rattle.krb_leaves.specs.Encoding.{Apart, BeginsWith, optional};
@@ -14,14 +14,14 @@ use crate::application_tag::ApplicationTag;
 use crate::context_tag::{
     ExplicitContextTag, ExplicitContextTag0, ExplicitContextTag1, ExplicitContextTag2,
     ExplicitContextTag3, ExplicitContextTag4, ExplicitContextTag5, ExplicitContextTag6,
-    ExplicitContextTag7, ExplicitContextTag8, ExplicitContextTag9, ExplicitContextTag10, Number,
-    TagNumber,
+    ExplicitContextTag7, ExplicitContextTag8, ExplicitContextTag9, ExplicitContextTag10,
+    ExplicitContextTag11, ExplicitContextTag12, Number, TagNumber,
 };
 use crate::optional::Optional;
 use crate::sequence_of::Asn1SequenceOf;
 use krb_leaves::{
     BitStringAsn1, DerEncode, DerSequence, GeneralStringAsn1, GeneralizedTimeAsn1, IntegerAsn1,
-    OctetStringAsn1,
+    OctetStringAsn1, Utf8StringAsn1,
 };
 
 /// The laws of joined encodings: what stands at the front of octets is decided by them, and so is what stands behind it.
@@ -40,8 +40,10 @@ pub fn joined_encodings<T: DerEncode>()
 pub fn leaf_encodings()
     ensures boolean { (v : Bool) → ⟦<bool as DerEncode>⟧.enc v ≡ tlv 1 (bool_content v) }
     ensures integer { (v : ℤ) → ⟦<IntegerAsn1 as DerEncode>⟧.enc v ≡ tlv 2 (shortest v) }
+    ensures number { (v : ℕ) → ⟦<u32 as DerEncode>⟧.enc v ≡ tlv 2 (shortest (pos v)) }
     ensures bit_string { (v : Bits) → ⟦<BitStringAsn1 as DerEncode>⟧.enc v ≡ tlv 3 (v.spare ∷ v.octets) }
     ensures octet_string { (v : List ℕ) → ⟦<OctetStringAsn1 as DerEncode>⟧.enc v ≡ tlv 4 v }
+    ensures utf8_string { (v : List ℕ) → ⟦<Utf8StringAsn1 as DerEncode>⟧.enc v ≡ tlv 12 v }
     ensures generalized_time { (v : Time) → ⟦<GeneralizedTimeAsn1 as DerEncode>⟧.enc v ≡ tlv 24 (time_content v) }
     ensures general_string { (v : List ℕ) → ⟦<GeneralStringAsn1 as DerEncode>⟧.enc v ≡ tlv 27 v }
 {}
@@ -61,7 +63,7 @@ pub fn application_tag<T: DerSequence, const N: u8>()
     ensures { (v : T) → ⟦<ApplicationTag<T, N> as DerEncode>⟧.enc v ≡ tlv (96 + N) (T.enc v) }
 {}
 
-/// `ExplicitContextTag0` to `10`: the tags `a0` to `aa` around the value (X.690, 8.14).
+/// `ExplicitContextTag0` to `12`: the tags `a0` to `ac` around the value (X.690, 8.14).
 pub fn context_tags<T: DerEncode>()
     ensures tag_0 { (v : T) → ⟦<ExplicitContextTag0<T> as DerEncode>⟧.enc v ≡ tlv 160 (T.enc v) }
     ensures tag_1 { (v : T) → ⟦<ExplicitContextTag1<T> as DerEncode>⟧.enc v ≡ tlv 161 (T.enc v) }
@@ -74,13 +76,17 @@ pub fn context_tags<T: DerEncode>()
     ensures tag_8 { (v : T) → ⟦<ExplicitContextTag8<T> as DerEncode>⟧.enc v ≡ tlv 168 (T.enc v) }
     ensures tag_9 { (v : T) → ⟦<ExplicitContextTag9<T> as DerEncode>⟧.enc v ≡ tlv 169 (T.enc v) }
     ensures tag_10 { (v : T) → ⟦<ExplicitContextTag10<T> as DerEncode>⟧.enc v ≡ tlv 170 (T.enc v) }
+    ensures tag_11 { (v : T) → ⟦<ExplicitContextTag11<T> as DerEncode>⟧.enc v ≡ tlv 171 (T.enc v) }
+    ensures tag_12 { (v : T) → ⟦<ExplicitContextTag12<T> as DerEncode>⟧.enc v ≡ tlv 172 (T.enc v) }
 {}
 
 /// `==` on each leaf: it answers true for equal values and for no others.
 pub fn leaf_equality()
     ensures integer { TellsEqual ⟦<IntegerAsn1 as PartialEq>⟧.eq }
+    ensures number { TellsEqual ⟦<u32 as PartialEq>⟧.eq }
     ensures bit_string { TellsEqual ⟦<BitStringAsn1 as PartialEq>⟧.eq }
     ensures octet_string { TellsEqual ⟦<OctetStringAsn1 as PartialEq>⟧.eq }
+    ensures utf8_string { TellsEqual ⟦<Utf8StringAsn1 as PartialEq>⟧.eq }
     ensures generalized_time { TellsEqual ⟦<GeneralizedTimeAsn1 as PartialEq>⟧.eq }
     ensures general_string { TellsEqual ⟦<GeneralStringAsn1 as PartialEq>⟧.eq }
 {}

@@ -1,6 +1,7 @@
 //! Values in the Distinguished Encoding Rules (ITU-T X.690), as Kerberos uses them (RFC 4120, 5.1 and 5.2).
 //!
-//! `from_bytes` reads a value from its one encoding and refuses all other octets; `to_vec` writes that encoding. The
+//! `from_bytes` reads a value from its one encoding and refuses all other octets; `to_vec` writes that encoding, and
+//! `copy` does both. `from_reader` and `to_writer` do so on readers and writers. The
 //! leaves are the simple types of ASN.1, the wrappers put tags around them, and `composite` has what a struct needs to
 //! be a SEQUENCE.
 #![tactic(auto)]
@@ -14,6 +15,7 @@ pub mod laws;
 mod optional;
 mod sequence;
 mod sequence_of;
+mod stream;
 mod whole;
 
 pub use application_tag::ApplicationTag;
@@ -21,11 +23,13 @@ pub use context_tag::{
     ExplicitContextTag, ExplicitContextTag0, ExplicitContextTag1, ExplicitContextTag2,
     ExplicitContextTag3, ExplicitContextTag4, ExplicitContextTag5, ExplicitContextTag6,
     ExplicitContextTag7, ExplicitContextTag8, ExplicitContextTag9, ExplicitContextTag10,
+    ExplicitContextTag11, ExplicitContextTag12,
 };
 pub use krb_leaves::{
     Asn1DerError, BitStringAsn1, Der, DerEncode, DerSequence, GeneralStringAsn1,
-    GeneralizedTimeAsn1, IntegerAsn1, OctetStringAsn1,
+    GeneralizedTimeAsn1, IntegerAsn1, OctetStringAsn1, Utf8StringAsn1,
 };
 pub use optional::Optional;
 pub use sequence_of::Asn1SequenceOf;
-pub use whole::{from_bytes, to_vec};
+pub use stream::{from_reader, to_writer};
+pub use whole::{copy, from_bytes, to_vec};

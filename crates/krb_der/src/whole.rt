@@ -3,7 +3,7 @@
 ghost use Rattle.std.specs.Prelude.{◌≡◌, ◌++◌, Err, IfOk, IfErr, OnOk, OnErr};
 ghost use Rattle.krb_leaves.specs.Tlv.{tlv};
 ghost use Rattle.krb_leaves.specs.Reading.{RefusesAll};
-ghost use Rattle.krb_der.specs.Whole.{ReadsValue, TellsCut, RefusesMore, NoDevice};
+ghost use Rattle.krb_der.specs.Whole.{Answers, ReadsValue, TellsCut, RefusesMore, NoDevice};
 ghost use Rattle.krb_leaves.specs.declared.error.Asn1DerError.TheVariants.{InvalidData, OutOfMemory};
 
 use krb_leaves::{Asn1DerError, Der, DerEncode, close_tlv};
@@ -37,6 +37,14 @@ pub fn to_vec<T: DerEncode>(alloc: Global, value: &T) -> Result<Vec<u8>, Asn1Der
     let mut out = Vec::new(alloc);
     value.write(alloc, &mut out)?;
     Ok(out)
+}
+
+/// An equal value, read from the encoding of this one. `OutOfMemory` alone is answered in its place.
+pub fn copy<T: Der + Drop>(alloc: Global, value: &T) -> Result<T, Asn1DerError>
+    ensures { Answers result value.now }
+{
+    let octets = to_vec(alloc, value)?;
+    from_bytes(alloc, &octets)
 }
 
 /// Appends the element of this tag around a value's encoding.

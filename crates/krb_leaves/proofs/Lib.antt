@@ -5,3 +5,4 @@ pub mod Growth
 pub mod Refusals
 pub mod IntegerBounds
 pub mod TimesTold
+pub mod Unsigned32

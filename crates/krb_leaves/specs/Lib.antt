@@ -8,5 +8,6 @@ pub mod BitString
 pub mod BitStringLaws
 pub mod Integer
 pub mod IntegerLaws
+pub mod UnsignedLaws
 pub mod GeneralizedTime
 pub mod GeneralizedTimeLaws

@@ -21,7 +21,7 @@ use std::alloc::{AllocError, Global};
 use std::marker::Model;
 
 /// The tag of an INTEGER: universal 2 (X.690, 8.3).
-const INTEGER: u8 = 0x02;
+pub(crate) const INTEGER: u8 = 0x02;
 
 /// The most octets of a number that fits 64 bits.
 const I64_OCTETS: usize = 8;

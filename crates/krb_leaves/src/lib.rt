@@ -14,6 +14,8 @@ mod generalized_time;
 mod integer;
 mod octet_string;
 mod tlv;
+mod unsigned;
+mod utf8_string;
 
 pub use bit_string::BitStringAsn1;
 pub use der::{Der, DerEncode, DerSequence};
@@ -22,4 +24,5 @@ pub use general_string::GeneralStringAsn1;
 pub use generalized_time::GeneralizedTimeAsn1;
 pub use integer::IntegerAsn1;
 pub use octet_string::OctetStringAsn1;
-pub use tlv::close_tlv;
+pub use tlv::{close_tlv, read_length};
+pub use utf8_string::Utf8StringAsn1;

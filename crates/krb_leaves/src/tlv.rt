@@ -22,7 +22,7 @@ pub(crate) fn number_of(octets: &[u8]) -> usize
 }
 
 /// The length at the front, and how many octets it takes.
-pub(crate) fn read_length(input: &[u8]) -> Result<(usize, usize), Asn1DerError>
+pub fn read_length(input: &[u8]) -> Result<(usize, usize), Asn1DerError>
     ensures found { IfOk result (λ p. TakesFront (len p.0) p.1 input.now) }
     ensures fits { IfOk result (λ p. p.0 < 2 ^ 64) }
     ensures refused { IfErr result (RefusesFront Lengths input.now) }
@@ -87,7 +87,7 @@ fn count_digits(n: usize) -> usize
 }
 
 /// Writes the number in base 256 at the end. Where memory runs out, some of its octets may stand there.
-fn push_digits(n: usize, out: &mut Vec<u8>) -> Result<(), AllocError>
+pub(crate) fn push_digits(n: usize, out: &mut Vec<u8>) -> Result<(), AllocError>
     ensures ok { OnOk result (out.new.items ≡ out.old.items ++ digits_of 256 n) }
     ensures err { OnErr result (take (length out.old.items) out.new.items ≡ out.old.items) }
 {

@@ -5,6 +5,7 @@ pub use krb_der::{
     ExplicitContextTag, ExplicitContextTag0, ExplicitContextTag1, ExplicitContextTag2,
     ExplicitContextTag3, ExplicitContextTag4, ExplicitContextTag5, ExplicitContextTag6,
     ExplicitContextTag7, ExplicitContextTag8, ExplicitContextTag9, ExplicitContextTag10,
-    GeneralStringAsn1, GeneralizedTimeAsn1, IntegerAsn1, OctetStringAsn1, Optional, composite,
-    from_bytes, to_vec,
+    ExplicitContextTag11, ExplicitContextTag12, GeneralStringAsn1, GeneralizedTimeAsn1,
+    IntegerAsn1, OctetStringAsn1, Optional, Utf8StringAsn1, composite, copy, from_bytes,
+    from_reader, to_vec, to_writer,
 };

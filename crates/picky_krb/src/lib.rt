@@ -24,6 +24,8 @@ mod key_rows;
 mod leaf_rows;
 pub mod seal;
 #[cfg(test)]
+mod stream_rows;
+#[cfg(test)]
 mod suite_rows;
 
 pub use krb_der::constants;

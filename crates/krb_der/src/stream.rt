@@ -1,0 +1,154 @@
+//! Readers and writers.
+
+ghost use Rattle.std.specs.Prelude.{◌≡◌, ◌≤◌, ◌<◌, IfOk, IfErr, OnOk, ◌-◌, length, take};
+ghost use Rattle.std.specs.Io.KnownBytes.{Consumes, Appends, IsAtEnd};
+ghost use Rattle.krb_leaves.specs.Tlv.{len};
+ghost use Rattle.krb_leaves.specs.Reading.{Lengths, Encodings};
+ghost use Rattle.krb_leaves.specs.declared.error.Asn1DerError.TheVariants.{OutOfMemory};
+ghost use Rattle.krb_der.specs.Streaming.{Gathers, IsFault, IsShort, ReadsFront, RefusesReader, TellsEarlyEnd};
+
+use crate::whole::to_vec;
+use krb_leaves::{Asn1DerError, Der, DerEncode, read_length};
+use std::alloc::Global;
+use std::io;
+use std::io::{ErrorKind, Read, Write};
+
+/// The most octets that are asked of a reader at once.
+const MOST_AT_ONCE: usize = 512;
+
+/// One read, tried again where a signal interrupts it.
+fn read_once<R: Read>(reader: &mut R, buffer: &mut [u8]) -> Result<usize, Asn1DerError>
+    ensures within { IfOk result (λ n. n ≤ length buffer.new) }
+    ensures room { length buffer.new ≡ length buffer.old }
+    ensures octets { IfOk result (λ n. Consumes (R.remaining reader.old) (R.remaining reader.new) (take n buffer.new)) }
+    ensures end { IfOk result (λ n. n ≡ 0 → 0 < length buffer.old → IsAtEnd (R.remaining reader.new)) }
+    ensures err { IfErr result IsFault }
+{
+    for _ in 0..u64::MAX {
+        match reader.read(buffer) {
+            Ok(n) => return Ok(n),
+            Err(fault) => {
+                if fault.kind() != ErrorKind::Interrupted {
+                    return Err(Asn1DerError::Io(fault));
+                }
+            }
+        }
+    }
+    Err(Asn1DerError::Io(io::Error::from(ErrorKind::Interrupted)))
+}
+
+/// Appends the octets of one read, at most `wanted`, and answers how many: none only where the reader is at its end.
+fn gather_some<R: Read>(
+    reader: &mut R,
+    wanted: usize,
+    out: &mut Vec<u8>,
+) -> Result<usize, Asn1DerError>
+    ensures ok { IfOk result (λ n. Gathers n out.old.items out.new.items (R.remaining reader.old) (R.remaining reader.new)) }
+    ensures within { IfOk result (λ n. n ≤ wanted) }
+    ensures end { IfOk result (λ n. n ≡ 0 → 0 < wanted → IsAtEnd (R.remaining reader.new)) }
+    ensures err { IfErr result IsFault }
+{
+    let mut octets = [0u8; MOST_AT_ONCE];
+    let buffer = &mut octets[..wanted.min(MOST_AT_ONCE)];
+    let n = read_once(reader, buffer)?;
+    out.extend_from_slice(&buffer[..n])?;
+    Ok(n)
+}
+
+/// Takes so many octets from the reader. The vector grows only with what came.
+fn gather<R: Read>(reader: &mut R, count: usize, out: &mut Vec<u8>) -> Result<(), Asn1DerError>
+    ensures ok { OnOk result (Gathers count out.old.items out.new.items (R.remaining reader.old) (R.remaining reader.new)) }
+    ensures err { IfErr result (IsShort count (R.remaining reader.old)) }
+{
+    let mut done = 0;
+    while done < count {
+        let n = gather_some(reader, count - done, out)?;
+        if n == 0 {
+            return Err(Asn1DerError::TruncatedData);
+        }
+        done += n;
+    }
+    Ok(())
+}
+
+/// How many octets of a length stand behind its first, where that begins one.
+fn count_behind(first: u8) -> usize
+    ensures short { first < 128 → result ≡ 0 }
+    ensures long { 128 ≤ first → first ≤ 136 → result ≡ first - 128 }
+{
+    if first < 128 || first > 136 {
+        return 0;
+    }
+    (first - 128) as usize
+}
+
+/// Takes the octets of a length from the reader.
+fn gather_length<R: Read>(alloc: Global, reader: &mut R) -> Result<usize, Asn1DerError>
+    ensures ok { IfOk result (λ n. Consumes (R.remaining reader.old) (R.remaining reader.new) (len n)) }
+    ensures err { IfErr result (RefusesReader Lengths (R.remaining reader.old)) }
+{
+    let mut octets = Vec::new(alloc);
+    gather(reader, 1, &mut octets)?;
+    let first = octets[0];
+    let behind = count_behind(first);
+    gather(reader, behind, &mut octets)?;
+    let (length, _) = read_length(&octets)?;
+    Ok(length)
+}
+
+/// The value whose encoding the reader's next octets are. They are taken, and no octet behind them.
+fn read_front<T: Der, R: Read>(alloc: Global, reader: &mut R) -> Result<T, Asn1DerError>
+    ensures valid { IfOk result T.is_value }
+    ensures found { IfOk result (λ v. Consumes (R.remaining reader.old) (R.remaining reader.new) (T.enc v)) }
+    ensures refused { IfErr result (RefusesReader (Encodings T.is_value T.enc) (R.remaining reader.old)) }
+{
+    let mut first = Vec::new(alloc);
+    gather(reader, 1, &mut first)?;
+    let tag = first[0];
+    if !T::starts(tag) {
+        return Err(Asn1DerError::InvalidData);
+    }
+    let length = gather_length(alloc, reader)?;
+    let mut content = Vec::new(alloc);
+    gather(reader, length, &mut content)?;
+    T::read_element(alloc, tag, &content)
+}
+
+/// The value whose encoding the reader's next octets are. Exactly these are taken: what stands behind them is left
+/// unread.
+///
+/// Where the reader ends inside an encoding, and where it is at its end, the answer is `TruncatedData`. On other octets
+/// the first fault decides, from the left, as in `from_bytes`. A fault of the reader is `Io`; a read that a signal
+/// interrupts is tried again. The memory that is taken grows only with the octets that came, whatever length they claim.
+/// After a refusal some octets may have been taken, and the reader is to be given up.
+pub fn from_reader<T: Der, R: Read>(alloc: Global, reader: &mut R) -> Result<T, Asn1DerError>
+    ensures valid { IfOk result T.is_value }
+    ensures found { IfOk result (λ v. Consumes (R.remaining reader.old) (R.remaining reader.new) (T.enc v)) }
+    ensures refused { IfErr result (RefusesReader (Encodings T.is_value T.enc) (R.remaining reader.old)) }
+    ensures reads { ReadsFront T.is_value T.enc (R.remaining reader.old) result }
+    ensures cut { TellsEarlyEnd T.is_value T.enc (R.remaining reader.old) result }
+{
+    read_front(alloc, reader)
+}
+
+/// Writes the encoding of a value, and answers how many octets it has.
+///
+/// The encoding is made first: where the answer is `OutOfMemory`, nothing was written. A fault of the writer is `Io`
+/// always, and some octets may have been written then.
+pub fn to_writer<T: DerEncode, W: Write>(
+    alloc: Global,
+    value: &T,
+    writer: &mut W,
+) -> Result<usize, Asn1DerError>
+    ensures count { IfOk result (λ n. n ≡ length (T.enc value.now)) }
+    ensures octets { OnOk result (Appends (W.contents writer.old) (W.contents writer.new) (T.enc value.now)) }
+    ensures valid { OnOk result (T.is_value value.now) }
+    ensures err { IfErr result IsFault }
+    ensures kept { IfErr result (λ e. e ≡ OutOfMemory → writer.new ≡ writer.old) }
+{
+    let octets = to_vec(alloc, value)?;
+    if let Err(e) = writer.write_all(&octets) {
+        return Err(Asn1DerError::Io(e));
+    }
+    Ok(octets.len())
+}

@@ -1,0 +1,18 @@
+use Rattle.std.proofs.Common.{◌<◌, ◌^◌, ℕ, ℤ, pos, sym, ◌∙◌}
+use Rattle.std.proofs.lemmas.Result.{err_from_is_err_and}
+use Rattle.krb_leaves.specs.Tlv.{tlv}
+use Rattle.krb_leaves.specs.TlvLaws.{tlv_same}
+use Rattle.krb_leaves.specs.Integer.{shortest}
+use Rattle.krb_leaves.specs.IntegerLaws.{integer_one_content}
+use Rattle.krb_leaves.proofs.Refusals.{refuses_other}
+use Rattle.krb_leaves.proofs.unsigned.U32Der.read_element.Goals as goal
+
+pub returns-in_err-number-clause-refused : goal.returns-in_err-number-clause-refused
+returns-in_err-number-clause-refused c =
+    let p = err_from_is_err_and c.from_residual.result c.from_residual.ensures.1 in
+    let x = tlv c.args.tag c.args.content.now in
+    rw (p.1, p.2) (refuses_other (λ (z : ℤ). Unit {0}) (λ z. tlv 2 (shortest z)) (λ (v : ℕ). v < 2 ^ 32) (λ v. tlv 2 (shortest (pos v))) x x c.in_err-number.field-0.0 (λ none v hv q. none (pos v) tt q) c.in_err-number.ensures.refused)
+
+pub returns-clause-refused : goal.returns-clause-refused
+returns-clause-refused c = λ v hv q.
+    c.in-None.ensures v hv (integer_one_content c.in_ok-number.number (pos v) tt tt (tlv_same 2 2 (shortest c.in_ok-number.number) (shortest (pos v)) (sym c.in_ok-number.ensures.found ∙ q)))
