@@ -9,6 +9,10 @@ mod checksum_rows;
 pub mod crypto;
 #[cfg(test)]
 mod crypto_rows;
+#[cfg(test)]
+mod data_type_rows;
+#[cfg(test)]
+mod data_type_values;
 pub mod der;
 #[cfg(test)]
 mod des_key_rows;

@@ -1,14 +1,14 @@
 //! The encrypted part of a ticket.
 
 ghost use Rattle.std.specs.Prelude.{◌==◌, ◌++◌, refl};
-ghost use Rattle.krb_der.specs.Asn1.{bit_string, explicit, general_string, generalized_time, integer, octet_string, sequence};
+ghost use Rattle.krb_der.specs.Asn1.{bit_string, explicit, general_string, generalized_time, sequence};
 ghost use Rattle.krb_der.specs.Encoding.{optional};
 ghost use Rattle.krb_der.specs.SequenceLaws.{one_value_of, values_of};
 ghost use Rattle.krb_der.specs.TlvLaws.{only_tag, tagged_element};
 
 use super::{
     AuthorizationData, EncryptionKey, HostAddresses, KerberosFlags, KerberosTime, PrincipalName,
-    Realm,
+    Realm, TransitedEncoding,
 };
 use krb_der::composite::{Fields, SEQUENCE, Sequence, read_sequence, write_sequence};
 use krb_der::constants::types::ENC_TICKET_PART_TYPE;
@@ -16,70 +16,9 @@ use krb_der::{
     ApplicationTag, Asn1DerError, Der, DerEncode, DerSequence, ExplicitContextTag0,
     ExplicitContextTag1, ExplicitContextTag2, ExplicitContextTag3, ExplicitContextTag4,
     ExplicitContextTag5, ExplicitContextTag6, ExplicitContextTag7, ExplicitContextTag8,
-    ExplicitContextTag9, ExplicitContextTag10, IntegerAsn1, OctetStringAsn1, Optional, field_refs,
+    ExplicitContextTag9, ExplicitContextTag10, Optional, field_refs,
 };
 use std::alloc::{AllocError, Global};
-
-/// The realms that took part in authenticating the client (RFC 4120, 5.3).
-///
-/// ```text
-/// TransitedEncoding ::= SEQUENCE {
-///     tr-type  [0] Int32,
-///     contents [1] OCTET STRING
-/// }
-/// ```
-#[derive(Debug, Drop, PartialEq, Eq)]
-pub struct TransitedEncoding {
-    /// How the names are encoded.
-    pub tr_type: ExplicitContextTag0<IntegerAsn1>,
-    /// The encoded names of the realms.
-    pub contents: ExplicitContextTag1<OctetStringAsn1>,
-}
-
-impl Sequence for TransitedEncoding {
-    type Fields = (
-        ExplicitContextTag0<IntegerAsn1>,
-        ExplicitContextTag1<OctetStringAsn1>,
-    );
-
-    ghost fields = { λ v. (v.tr_type, v.contents) };
-
-    ghost with_fields = { λ f. record { tr_type = f.0; contents = f.1 } };
-
-    fn from_fields((tr_type, contents): Self::Fields) -> Self {
-        TransitedEncoding { tr_type, contents }
-    }
-}
-
-impl DerEncode for TransitedEncoding {
-    ghost enc = { λ v. sequence (explicit 0 (integer v.tr_type) ++ explicit 1 (octet_string v.contents)) };
-
-    ghost is_value = { values_of ⟦<Self as Sequence>⟧ ⟦<<Self as Sequence>::Fields as Fields>⟧ };
-
-    ghost first = { λ t. t == 48 };
-
-    ghost is_element = { λ v h. tagged_element 48 _ };
-
-    ghost one_value = { one_value_of ⟦<Self as Sequence>⟧ ⟦<<Self as Sequence>::Fields as Fields>⟧ (λ v. refl) (tt, tt) };
-
-    fn starts(octet: u8) -> bool {
-        octet == SEQUENCE
-    }
-
-    fn write(&self, alloc: Global, out: &mut Vec<u8>) -> Result<(), AllocError> {
-        write_sequence(alloc, &field_refs!(self; tr_type, contents), out)
-    }
-}
-
-impl Der for TransitedEncoding {
-    fn read_element(alloc: Global, tag: u8, content: &[u8]) -> Result<Self, Asn1DerError> {
-        read_sequence(alloc, tag, content)
-    }
-}
-
-impl DerSequence for TransitedEncoding {
-    ghost is_sequence = { λ v. (_, refl) };
-}
 
 /// What the encrypted part of a ticket holds (RFC 4120, 5.3).
 ///

@@ -1,0 +1,33 @@
+//! Laws over the definitions, of functions that do nothing: each alias names the type that its standard says.
+
+ghost use Rattle.std.specs.Prelude.{◌≡◌};
+ghost use Rattle.krb_der.specs.Asn1.{sequence_of};
+ghost use Rattle.krb_der.specs.Equality.{ClonesValue, TellsEqual};
+
+use crate::data_types::{
+    EtypeInfo2, EtypeInfo2Entry, KerbErrorData, KerbPaPacRequest, PaData, PaEncTimestamp,
+    PaEncTsEnc, PaPacOptions,
+};
+use krb_der::DerEncode;
+use krb_types::data_types::EncryptedData;
+
+/// The aliases (RFC 4120, 5.2.7.2 and 5.2.7.5).
+pub fn aliases()
+    ensures pa_enc_timestamp { (v : _) → ⟦<PaEncTimestamp as DerEncode>⟧.enc v ≡ ⟦<EncryptedData as DerEncode>⟧.enc v }
+    ensures etype_info2 { (v : _) → ⟦<EtypeInfo2 as DerEncode>⟧.enc v ≡ sequence_of ⟦<EtypeInfo2Entry as DerEncode>⟧.enc v }
+{}
+
+/// `==` on each struct: it answers true for equal values and for no others.
+pub fn equality()
+    ensures pa_data { TellsEqual ⟦<PaData as PartialEq>⟧.eq }
+    ensures pa_enc_ts_enc { TellsEqual ⟦<PaEncTsEnc as PartialEq>⟧.eq }
+    ensures kerb_pa_pac_request { TellsEqual ⟦<KerbPaPacRequest as PartialEq>⟧.eq }
+    ensures pa_pac_options { TellsEqual ⟦<PaPacOptions as PartialEq>⟧.eq }
+    ensures etype_info2_entry { TellsEqual ⟦<EtypeInfo2Entry as PartialEq>⟧.eq }
+    ensures kerb_error_data { TellsEqual ⟦<KerbErrorData as PartialEq>⟧.eq }
+{}
+
+/// A clone of each struct that has one is the value again.
+pub fn clones()
+    ensures { ClonesValue ⟦<KerbPaPacRequest as Clone>⟧.is_clone }
+{}
