@@ -1,6 +1,5 @@
-//! Values of the data types with all that may be absent present, and with none of it, compared with octets both ways. But for
-//! the list of one encryption type, whose octets are worked out by hand, the octets are those of an encoder of X.690 that has
-//! nothing of this library.
+//! Values of the data types with all that may be absent present, and with none of it, compared with octets both ways. The octets
+//! are those of an encoder of X.690 that has nothing of this library.
 
 use crate::data_types::{
     Authenticator, AuthenticatorInner, AuthorizationDataInner, ChangePasswdData, Checksum,
