@@ -131,7 +131,7 @@
 //! | `[N]` T OPTIONAL | `Optional<Option<ExplicitContextTagN<T>>>` | `optional (λ x. explicit N (w x)) v.name.0` |
 //! | `[APPLICATION N]` S | `ApplicationTag<S, N>` | `application N (w x)` |
 //!
-//! `krb_msg` names the types of RFC 4120 that are one of these, as `KerberosTime` is `GeneralizedTimeAsn1`; the word is that of
+//! `krb_types` names the types of RFC 4120 that are one of these, as `KerberosTime` is `GeneralizedTimeAsn1`; the word is that of
 //! the type behind the name.
 //!
 //! # One field, and seven or more

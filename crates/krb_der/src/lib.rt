@@ -8,7 +8,6 @@
 
 mod application_tag;
 pub mod composite;
-pub mod constants;
 mod context_tag;
 mod fields;
 pub mod laws;

@@ -1,5 +1,4 @@
-//! The types of Kerberos messages (RFC 4120), each of which is read from its one DER encoding and written so.
+//! Kerberos messages and their data types (RFC 4120), each of which is read from its one DER encoding and written so.
 #![tactic(auto)]
 
 pub mod data_types;
-pub mod laws;

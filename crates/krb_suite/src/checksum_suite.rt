@@ -4,9 +4,7 @@ ghost use Rattle.std.specs.Prelude.{◌≡◌, ◌<◌};
 ghost use Rattle.krb_suite.specs.Suites.{checksum_type, IsNumbered};
 
 use krb_block::{KerberosCryptoError, KerberosCryptoResult};
-use krb_der::constants::cksum_types::{
-    HMAC_SHA1_96_AES128, HMAC_SHA1_96_AES256, HMAC_SHA1_DES3_KD,
-};
+use krb_constants::cksum_types::{HMAC_SHA1_96_AES128, HMAC_SHA1_96_AES256, HMAC_SHA1_DES3_KD};
 
 /// A checksum suite. Its number is that of its checksum type (RFC 3961, 8; RFC 3962, 7).
 #[derive(Debug, Drop, Clone, PartialEq, Eq)]

@@ -5,9 +5,7 @@ ghost use Rattle.krb_block.specs.CryptoError.{IsMemoryOr};
 ghost use Rattle.krb_suite.specs.Suites.{etype, IsNumbered, IsIdentifierData, NoSuite};
 
 use krb_block::{KerberosCryptoError, KerberosCryptoResult};
-use krb_der::constants::etypes::{
-    AES128_CTS_HMAC_SHA1_96, AES256_CTS_HMAC_SHA1_96, DES3_CBC_SHA1_KD,
-};
+use krb_constants::etypes::{AES128_CTS_HMAC_SHA1_96, AES256_CTS_HMAC_SHA1_96, DES3_CBC_SHA1_KD};
 use std::alloc::Global;
 
 /// An encryption suite. Its number is that of its encryption type (RFC 3961, 8; RFC 3962, 7).

@@ -9,7 +9,7 @@ ghost use Rattle.krbtool.specs.Outcome.{IsOutside};
 use crate::command::{Command, SealingKey};
 use crate::failure::Failure;
 use krb_der::{Der, DerEncode, from_bytes, to_vec};
-use krb_msg::data_types::EncTicketPart;
+use krb_parts::data_types::EncTicketPart;
 use krb_seal::{open_part, seal_part};
 use krb_suite::aes::{Aes128CtsHmacSha196, Aes256CtsHmacSha196};
 use krb_suite::des::Des3CbcSha1Kd;

@@ -6,6 +6,7 @@
 
 #[cfg(test)]
 mod checksum_rows;
+pub mod constants;
 pub mod crypto;
 #[cfg(test)]
 mod crypto_rows;
@@ -32,5 +33,4 @@ mod stream_rows;
 #[cfg(test)]
 mod suite_rows;
 
-pub use krb_der::constants;
 pub use krb_msg::data_types;

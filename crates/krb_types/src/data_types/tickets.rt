@@ -6,8 +6,8 @@ ghost use Rattle.krb_der.specs.SequenceLaws.{one_value_of, values_of};
 ghost use Rattle.krb_der.specs.TlvLaws.{tagged_element};
 
 use super::{EncryptedData, PrincipalName, Realm};
+use krb_constants::types::TICKET_TYPE;
 use krb_der::composite::{Fields, SEQUENCE, Sequence, read_sequence, write_sequence};
-use krb_der::constants::types::TICKET_TYPE;
 use krb_der::{
     ApplicationTag, Asn1DerError, Der, DerEncode, DerSequence, ExplicitContextTag0,
     ExplicitContextTag1, ExplicitContextTag2, ExplicitContextTag3, IntegerAsn1, OctetStringAsn1,

@@ -6,16 +6,16 @@ ghost use Rattle.krb_der.specs.Encoding.{optional};
 ghost use Rattle.krb_der.specs.SequenceLaws.{one_value_of, values_of};
 ghost use Rattle.krb_der.specs.TlvLaws.{only_tag, tagged_element};
 
-use super::{
-    AuthorizationData, Checksum, EncryptionKey, KerberosTime, Microseconds, PrincipalName, Realm,
-};
+use krb_constants::types::{AUTHENTICATOR_TYPE, ENC_AP_REP_PART_TYPE};
 use krb_der::composite::{Fields, SEQUENCE, Sequence, read_sequence, write_sequence};
-use krb_der::constants::types::{AUTHENTICATOR_TYPE, ENC_AP_REP_PART_TYPE};
 use krb_der::{
     ApplicationTag, Asn1DerError, Der, DerEncode, DerSequence, ExplicitContextTag0,
     ExplicitContextTag1, ExplicitContextTag2, ExplicitContextTag3, ExplicitContextTag4,
     ExplicitContextTag5, ExplicitContextTag6, ExplicitContextTag7, ExplicitContextTag8,
     IntegerAsn1, Optional, field_refs,
+};
+use krb_types::data_types::{
+    AuthorizationData, Checksum, EncryptionKey, KerberosTime, Microseconds, PrincipalName, Realm,
 };
 use std::alloc::{AllocError, Global};
 

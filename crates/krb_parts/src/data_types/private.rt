@@ -6,14 +6,14 @@ ghost use Rattle.krb_der.specs.Encoding.{optional};
 ghost use Rattle.krb_der.specs.SequenceLaws.{one_value_of, values_of};
 ghost use Rattle.krb_der.specs.TlvLaws.{only_tag, tagged_element};
 
-use super::{HostAddress, KerberosTime, Microseconds};
+use krb_constants::types::KRB_PRIV_ENC_PART;
 use krb_der::composite::{Fields, SEQUENCE, Sequence, read_sequence, write_sequence};
-use krb_der::constants::types::KRB_PRIV_ENC_PART;
 use krb_der::{
     ApplicationTag, Asn1DerError, Der, DerEncode, DerSequence, ExplicitContextTag0,
     ExplicitContextTag1, ExplicitContextTag2, ExplicitContextTag3, ExplicitContextTag4,
     ExplicitContextTag5, IntegerAsn1, OctetStringAsn1, Optional, field_refs,
 };
+use krb_types::data_types::{HostAddress, KerberosTime, Microseconds};
 use std::alloc::{AllocError, Global};
 
 /// What the encrypted part of a KRB-PRIV holds (RFC 4120, 5.7.1).

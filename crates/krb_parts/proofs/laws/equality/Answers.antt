@@ -1,6 +1,6 @@
 use Rattle.std.proofs.Common.{refl}
 use Rattle.krb_der.specs.EqualityLaws.{octets_tell, integers_tell, times_tell, bits_tell, list_tells, tag_tells, optional_tells, pair_tells, parts_tell}
-use Rattle.krb_msg.proofs.laws.equality.Goals as goal
+use Rattle.krb_parts.proofs.laws.equality.Goals as goal
 
 pub returns-clause-authenticator : goal.returns-clause-authenticator
 returns-clause-authenticator c =

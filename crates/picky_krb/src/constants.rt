@@ -1,0 +1,5 @@
+//! Numbers and octets that the Kerberos standards name.
+
+pub use krb_constants::{
+    cksum_types, cred_ssp, error_codes, etypes, gss_api, key_usages, krb_priv, types,
+};
