@@ -1,0 +1,11 @@
+-- How a field that may be absent is told, whatever follows it.
+use Rattle.std.specs.Prelude.{◌≡◌, ◌↔◌, ℕ, List, [], ◌∷◌, Option, IsSome}
+
+-- there is a first octet, and it is this one
+abbrev pub Begins : ℕ → List ℕ → Type 0
+Begins tag [] = ⊥
+Begins tag (b ∷ bs) = b ≡ tag
+
+-- The field is there exactly where the octets, which are its own and those behind it, begin with its tag.
+abbrev pub IsTold : {A : Type 0} → ℕ → Option A → List ℕ → Type 0
+IsTold tag v octets = IsSome v ↔ Begins tag octets

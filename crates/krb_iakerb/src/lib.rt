@@ -1,0 +1,7 @@
+//! The header of IAKERB (draft-ietf-kitten-iakerb-03, 3), which is read from more than one spelling: what follows its known fields
+//! is ignored.
+#![tactic(auto)]
+
+mod content;
+pub mod laws;
+pub mod messages;
