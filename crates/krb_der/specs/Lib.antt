@@ -17,3 +17,5 @@ pub mod Equality
 pub mod EqualityLaws
 pub mod SequenceLaws
 pub mod Streaming
+pub mod Choice
+pub mod ChoiceLaws

@@ -56,7 +56,7 @@ pub fn read_length(input: &[u8]) -> Result<(usize, usize), Asn1DerError>
 }
 
 /// The content of the element with this tag at the front, and how many octets the element takes.
-pub(crate) fn read_tlv(tag: u8, input: &[u8]) -> Result<(&[u8], usize), Asn1DerError>
+pub fn read_tlv(tag: u8, input: &[u8]) -> Result<(&[u8], usize), Asn1DerError>
     ensures found { IfOk result (λ p. TakesFront (tlv tag p.0.now) p.1 input.now) }
     ensures refused { IfErr result (RefusesFront (Elements tag) input.now) }
     ensures heapless { IfErr result (λ e. e ≡ errors.OutOfMemory → ⊥) }
@@ -114,7 +114,7 @@ fn push_header(tag: u8, n: usize, out: &mut Vec<u8>) -> Result<(), AllocError>
 }
 
 /// Writes an element at the end.
-pub(crate) fn write_tlv(tag: u8, content: &[u8], out: &mut Vec<u8>) -> Result<(), AllocError>
+pub fn write_tlv(tag: u8, content: &[u8], out: &mut Vec<u8>) -> Result<(), AllocError>
     ensures ok { OnOk result (out.new.items ≡ out.old.items ++ tlv tag content.now) }
     ensures err { OnErr result (out.new.items ≡ out.old.items) }
 {

@@ -1,0 +1,32 @@
+-- What a choice of two types keeps whose elements have the tags t and u.
+use Rattle.std.proofs.Common.{◌≡◌, ℕ, ◌||◌, eqb, Bool, true, false, List, [], ◌++◌, ◌⊎◌, inl, inr, refl, sym, ap, eq-eqb}
+use Rattle.krb_leaves.specs.Tlv.{tlv}
+use Rattle.krb_leaves.specs.Encoding.{IsElement, OneValue}
+use Rattle.krb_leaves.specs.TlvLaws.{tlv_apart}
+use Rattle.krb_der.specs.Choice.{choice, IsChoice}
+
+pub same_tags : (t u : ℕ) (c d : List ℕ) → tlv t c ≡ tlv u d → t ≡ u
+same_tags t u c d e = (tlv_apart t u c d [] [] (ap (λ (l : List ℕ). l ++ []) e)).tag
+
+or_left : (b c : Bool) → b ≡ true → (b || c) ≡ true
+or_left b c e = rw e refl
+
+or_right : (b c : Bool) → c ≡ true → (b || c) ≡ true
+or_right true c e = refl
+or_right false c e = e
+
+module _ {A B : Type 0} (t u : ℕ) (a : A → List ℕ) (b : B → List ℕ) where
+  pub choice_element : (m : A ⊎ B) → IsElement (λ k. eqb k t || eqb k u) (choice (λ v. tlv t (a v)) (λ v. tlv u (b v)) m)
+  choice_element (inl v) = record { tag = t; content = a v; whole = refl; begins = or_left (eqb t t) (eqb t u) (eq-eqb t t refl) }
+  choice_element (inr v) = record { tag = u; content = b v; whole = refl; begins = or_right (eqb u t) (eqb u u) (eq-eqb u u refl) }
+
+  module _ (apart : t ≡ u → ⊥) (is_a : A → Type 0) (is_b : B → Type 0) (one : OneValue is_a (λ v. tlv t (a v))) (also : OneValue is_b (λ v. tlv u (b v))) where
+    same_held : OneValue (IsChoice is_a is_b) (choice (λ v. tlv t (a v)) (λ v. tlv u (b v)))
+    same_held (inl x) (inl y) hx hy q = ap inl (one x y hx hy q)
+    same_held (inr x) (inr y) hx hy q = ap inr (also x y hx hy q)
+    same_held (inl x) (inr y) hx hy q = absurd (apart (same_tags t u (a x) (b y) q))
+    same_held (inr x) (inl y) hx hy q = absurd (apart (sym (same_tags u t (b x) (a y) q)))
+
+    -- where what is held decides the choice
+    pub choice_one_value : {E : Type 0} (held : E → A ⊎ B) → ((v w : E) → held v ≡ held w → v ≡ w) → OneValue (λ m. IsChoice is_a is_b (held m)) (λ m. choice (λ v. tlv t (a v)) (λ v. tlv u (b v)) (held m))
+    choice_one_value held decides v w hv hw e = decides v w (same_held (held v) (held w) hv hw e)
