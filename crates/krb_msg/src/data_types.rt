@@ -1,6 +1,8 @@
 //! Data types (RFC 4120, 5.2 to 5.8): those that messages share, those of pre-authentication, and the parts of messages that are
 //! enciphered.
 
+mod results;
+
 pub use krb_padata::data_types::{
     EtypeInfo2, EtypeInfo2Entry, KerbErrorData, KerbPaPacRequest, PaData, PaEncTimestamp,
     PaEncTsEnc, PaPacOptions,
@@ -16,3 +18,4 @@ pub use krb_types::data_types::{
     KerberosFlags, KerberosStringAsn1, KerberosTime, LastReq, LastReqInner, Microseconds,
     PrincipalName, Realm, Ticket, TicketInner, TransitedEncoding,
 };
+pub use results::{KrbResult, ResultExt};

@@ -2,3 +2,5 @@
 #![tactic(auto)]
 
 pub mod data_types;
+pub mod laws;
+pub mod messages;

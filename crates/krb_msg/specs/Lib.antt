@@ -1,0 +1,3 @@
+pub mod ApMessage
+pub mod CodeText
+pub mod Results

@@ -1,0 +1,43 @@
+//! Messages, or the refusals that come in their place.
+
+ghost use Rattle.std.specs.Prelude.{◌≡◌, ◌++◌, ◌<◌, ◌^◌, List, ℕ, length, Ok, Err, IfOk, IfErr, MatchResult};
+ghost use Rattle.krb_der.specs.Whole.{Answers, FailsWith, NoDevice};
+ghost use Rattle.krb_leaves.specs.declared.error.Asn1DerError.TheVariants.{InvalidData, TruncatedData};
+ghost use Rattle.krb_msg.specs.Results.{IsNoEncoding};
+
+use crate::messages::KrbError;
+use krb_der::{Asn1DerError, Der, DerEncode, from_bytes};
+use std::alloc::Global;
+
+/// What a client asked for, or the KRB-ERROR that came in its place (RFC 4120, 3.1.3 and 3.1.4).
+pub type KrbResult<T> = Result<T, KrbError>;
+
+/// Results that are read from octets.
+pub trait ResultExt<T: Der + Drop> {
+    /// The value whose encoding the octets are, or else the KRB-ERROR whose encoding they are.
+    ///
+    /// On other octets the refusal is that of reading them as a KRB-ERROR, by `from_bytes`: a proper front of one is
+    /// `TruncatedData`, and one with octets behind it `InvalidData`. `Io` is never answered. Want of memory is answered at once,
+    /// also where it comes in reading the value, and never as a KRB-ERROR.
+    fn deserialize(alloc: Global, octets: &[u8]) -> Result<KrbResult<T>, Asn1DerError>
+        ensures valid { IfOk result (λ r. MatchResult r T.is_value ⟦<KrbError as DerEncode>⟧.is_value) }
+        ensures found { IfOk result (λ r. MatchResult r (λ v. octets.now ≡ T.enc v) (λ e. octets.now ≡ ⟦<KrbError as DerEncode>⟧.enc e)) }
+        ensures error { IfOk result (λ r. IfErr r (λ e. IsNoEncoding T.is_value T.enc octets.now)) }
+        ensures reads_value { (v : T) → T.is_value v → octets.now ≡ T.enc v → Answers result (Ok v) }
+        ensures reads_error { IsNoEncoding T.is_value T.enc octets.now → (e : _) → ⟦<KrbError as DerEncode>⟧.is_value e → octets.now ≡ ⟦<KrbError as DerEncode>⟧.enc e → Answers result (Err e) }
+        ensures cut { IsNoEncoding T.is_value T.enc octets.now → (e : _) (rest : List ℕ) → ⟦<KrbError as DerEncode>⟧.is_value e → 0 < length rest → length (⟦<KrbError as DerEncode>⟧.enc e) < 2 ^ 64
+            → ⟦<KrbError as DerEncode>⟧.enc e ≡ octets.now ++ rest → FailsWith result TruncatedData }
+        ensures more { IsNoEncoding T.is_value T.enc octets.now → (e : _) (rest : List ℕ) → ⟦<KrbError as DerEncode>⟧.is_value e → 0 < length rest
+            → octets.now ≡ ⟦<KrbError as DerEncode>⟧.enc e ++ rest → FailsWith result InvalidData }
+        ensures no_device { IfErr result NoDevice };
+}
+
+impl<T: Der + Drop> ResultExt<T> for KrbResult<T> {
+    fn deserialize(alloc: Global, octets: &[u8]) -> Result<KrbResult<T>, Asn1DerError> {
+        match from_bytes::<T>(alloc, octets) {
+            Ok(value) => Ok(Ok(value)),
+            Err(Asn1DerError::OutOfMemory) => Err(Asn1DerError::OutOfMemory),
+            Err(_) => Ok(Err(from_bytes::<KrbError>(alloc, octets)?)),
+        }
+    }
+}

@@ -1,0 +1,32 @@
+//! Laws over the definitions, of functions that do nothing: each alias names the type that its standard says.
+
+ghost use Rattle.std.specs.Prelude.{◌≡◌};
+ghost use Rattle.krb_der.specs.Asn1.{application};
+ghost use Rattle.krb_der.specs.Equality.{TellsEqual};
+
+use crate::messages::{ApMessage, KdcProxyMessage, KrbError, KrbErrorInner};
+use krb_app::laws::equality as application_equality;
+use krb_app::messages::{ApRep, ApReq};
+use krb_der::DerEncode;
+use krb_types::laws::equality as shared_equality;
+
+/// The message under its application tag (RFC 4120, 5.9.1).
+pub fn application_tags()
+    ensures krb_error { (v : _) → ⟦<KrbError as DerEncode>⟧.enc v ≡ application 30 (⟦<KrbErrorInner as DerEncode>⟧.enc v) }
+{}
+
+/// Either message of an exchange with a server is encoded as itself (RFC 4120, 5.5.1 and 5.5.2).
+pub fn ap_messages()
+    ensures ap_req { (v : _) → ⟦<ApMessage as DerEncode>⟧.enc (ApMessage.ApReq v) ≡ ⟦<ApReq as DerEncode>⟧.enc v }
+    ensures ap_rep { (v : _) → ⟦<ApMessage as DerEncode>⟧.enc (ApMessage.ApRep v) ≡ ⟦<ApRep as DerEncode>⟧.enc v }
+{}
+
+/// `==` on each struct and on the choice: it answers true for equal values and for no others.
+pub fn equality()
+    ensures ap_message { TellsEqual ⟦<ApMessage as PartialEq>⟧.eq }
+    ensures krb_error { TellsEqual ⟦<KrbErrorInner as PartialEq>⟧.eq }
+    ensures kdc_proxy_message { TellsEqual ⟦<KdcProxyMessage as PartialEq>⟧.eq }
+{
+    shared_equality();
+    application_equality();
+}
