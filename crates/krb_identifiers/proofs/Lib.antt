@@ -1,0 +1,2 @@
+pub mod ObjectIdentifiers
+pub mod RawValues

@@ -1,0 +1,3 @@
+pub mod ObjectIdentifier
+pub mod ObjectIdentifierLaws
+pub mod RawValue
