@@ -1,0 +1,13 @@
+use Rattle.std.proofs.Common.{arith}
+use Rattle.std.proofs.lemmas.Result.{err_from_is_err_and}
+use Rattle.krb_der.proofs.Choices.{neither_tag, first_refused}
+use Rattle.krb_pkinit.specs.Replies.{held, tags_apart}
+use Rattle.krb_pkinit.proofs.pkinit.answers.PaPkAsRepDer.read_element.Goals as goal
+
+pub returns-in_err-read_element-in-160-clause-refused : goal.returns-in_err-read_element-in-160-clause-refused
+returns-in_err-read_element-in-160-clause-refused c =
+    let p = err_from_is_err_and c.from_residual.result c.from_residual.ensures.1 in
+    rw (p.1, p.2) (first_refused held _ _ 160 129 _ _ c.args.tag c.args.content.now tags_apart c.in-160.is c.in_err-read_element-in-160.field-0.0 c.in_err-read_element-in-160.ensures.refused)
+
+pub returns-in_default-clause-refused : goal.returns-in_default-clause-refused
+returns-in_default-clause-refused c = neither_tag held _ _ 160 129 _ _ c.args.tag c.args.content.now (λ e. omega arith) (λ e. omega arith)
