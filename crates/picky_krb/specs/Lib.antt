@@ -8,7 +8,16 @@ pub use Rattle.krb_der.specs.GeneralizedTime
 pub use Rattle.krb_der.specs.Grouping
 pub use Rattle.krb_der.specs.Composite
 pub use Rattle.krb_der.specs.Whole
+pub use Rattle.krb_der.specs.Streaming
+pub use Rattle.krb_der.specs.Equality
 pub use Rattle.krb_der.specs.Asn1
+pub use Rattle.krb_der.specs.Choice
+pub use Rattle.krb_identifiers.specs.ObjectIdentifier
+pub use Rattle.krb_identifiers.specs.RawValue
+pub use Rattle.krb_algorithms.specs.Implicit
+pub use Rattle.krb_iakerb.specs.Header
+pub use Rattle.krb_msg.specs.CodeText
+pub use Rattle.krb_msg.specs.Results
 pub use Rattle.krb_block.specs.CryptoError
 pub use Rattle.krb_block.specs.Hmac
 pub use Rattle.krb_block.specs.Pbkdf2
@@ -25,5 +34,6 @@ pub use Rattle.krb_scheme.specs.Sealed
 pub use Rattle.krb_suite.specs.Suites
 pub use Rattle.krb_suite.specs.BySuite
 pub use Rattle.krb_suite.specs.Standards
+pub use Rattle.krb_secret.specs.Agreement
 pub use Rattle.krb_seal.specs.PartError
 pub use Rattle.krb_seal.specs.Filled

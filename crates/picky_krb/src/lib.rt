@@ -10,10 +10,6 @@ pub mod constants;
 pub mod crypto;
 #[cfg(test)]
 mod crypto_rows;
-#[cfg(test)]
-mod data_type_rows;
-#[cfg(test)]
-mod data_type_values;
 pub mod der;
 #[cfg(test)]
 mod des_key_rows;
@@ -22,15 +18,11 @@ mod des_rows;
 #[cfg(test)]
 mod error_rows;
 #[cfg(test)]
-mod first_rows;
-#[cfg(test)]
 mod key_rows;
-#[cfg(test)]
-mod leaf_rows;
 pub mod seal;
-#[cfg(test)]
-mod stream_rows;
 #[cfg(test)]
 mod suite_rows;
 
-pub use krb_msg::data_types;
+pub use krb_credssp::credssp;
+pub use krb_msg::{data_types, messages};
+pub use krb_pkinit::pkinit;

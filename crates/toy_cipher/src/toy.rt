@@ -1,6 +1,6 @@
 //! The cipher, and what it has to keep.
 
-ghost use Rattle.std.specs.Prelude.{◌≡◌, ◌≢◌, ◌<◌, ◌≤◌, ◌%◌, ℕ, List, [], ◌∷◌, ◌++◌, length, take, map, bit_xor, replicate, IfOk, MatchResult};
+ghost use Rattle.std.specs.Prelude.{◌≡◌, ◌≢◌, ◌<◌, ◌≤◌, ◌+◌, ◌*◌, ◌%◌, ℕ, List, [], ◌∷◌, ◌++◌, length, take, map, bit_xor, replicate, IfOk, MatchResult};
 ghost use Rattle.krb_der.specs.Encoding.{IsOctets};
 ghost use Rattle.krb_block.specs.Modes.{IsFill};
 ghost use Rattle.toy_cipher.specs.Toy.{IsToy, IsToyRefusal, IsToyUnopened};
@@ -20,7 +20,10 @@ const FILL_SIZE: usize = 4;
 /// The confounder and the payload, filled with zeros to a multiple of four octets, each combined with the key's one
 /// octet by exclusive or. There is no checksum.
 #[derive(Debug, Drop)]
-pub struct Toy;
+pub struct Toy {
+    /// The octets of a seed that no key is made of: those behind its first.
+    pub spare_seed: u16,
+}
 
 /// The key's one octet.
 fn key_octet(key: &[u8]) -> KerberosCryptoResult<u8>
@@ -83,7 +86,7 @@ impl Cipher for Toy {
 
     ghost integrity_checksum = { λ _ _ _ _. [] };
 
-    ghost seed_bits = { λ _. 8 };
+    ghost seed_bits = { λ toy. 8 * (1 + toy.spare_seed) };
 
     ghost key_of_seed = { λ _ seed. take 1 seed };
 
@@ -102,7 +105,7 @@ impl Cipher for Toy {
     }
 
     fn seed_bit_len(&self) -> usize {
-        8 * KEY_SIZE
+        8 * (KEY_SIZE + self.spare_seed as usize)
     }
 
     fn confounder_size(&self) -> usize {

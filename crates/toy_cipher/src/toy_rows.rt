@@ -8,6 +8,8 @@ use picky_krb::seal::{PartError, open_part, seal_part};
 use std::alloc::Global;
 use std::test::Fail;
 
+const TOY: Toy = Toy { spare_seed: 0 };
+
 const KEY: [u8; 1] = *b"\x5a";
 
 const KEY_USAGE: i32 = 2;
@@ -28,7 +30,7 @@ fn request() -> KerbPaPacRequest {
 
 /// Why these octets are not opened under this key.
 fn refusal(alloc: Global, key: &[u8], octets: &[u8]) -> Option<PartError> {
-    open_part::<KerbPaPacRequest>(alloc, &Toy, key, KEY_USAGE, octets).err()
+    open_part::<KerbPaPacRequest>(alloc, &TOY, key, KEY_USAGE, octets).err()
 }
 
 fn is_invalid(refusal: &Option<PartError>) -> bool {
@@ -38,9 +40,9 @@ fn is_invalid(refusal: &Option<PartError>) -> bool {
 #[test]
 fn toy_rows(rt: HostRuntime) -> Result<(), Fail> {
     let alloc = rt.alloc();
-    let sealed = seal_part(alloc, &Toy, &KEY, KEY_USAGE, &CONFOUNDER, &request())?;
+    let sealed = seal_part(alloc, &TOY, &KEY, KEY_USAGE, &CONFOUNDER, &request())?;
     assert_eq!(rt; sealed.as_slice(), SEALED.as_slice());
-    let opened: KerbPaPacRequest = open_part(alloc, &Toy, &KEY, KEY_USAGE, &SEALED)?;
+    let opened: KerbPaPacRequest = open_part(alloc, &TOY, &KEY, KEY_USAGE, &SEALED)?;
     assert_eq!(rt; opened, request());
 
     let one_behind = b"\x5b\x58\x59\x5e\x6a\x5f\xfa\x59\x5b\x5b\xa5\x5b";
@@ -68,7 +70,7 @@ fn other_refusals(rt: HostRuntime) -> Result<(), Fail> {
     let alloc = rt.alloc();
     assert!(rt;
         matches!(
-            seal_part(alloc, &Toy, b"", KEY_USAGE, &CONFOUNDER, &request()).err(),
+            seal_part(alloc, &TOY, b"", KEY_USAGE, &CONFOUNDER, &request()).err(),
             Some(PartError::Crypto(KerberosCryptoError::KeyLength(0, 1)))
         )
     );
@@ -91,7 +93,7 @@ fn other_refusals(rt: HostRuntime) -> Result<(), Fail> {
 #[test]
 fn lent_calls(rt: HostRuntime) -> Result<(), Fail> {
     let alloc = rt.alloc();
-    let cipher: &dyn Cipher = &Toy;
+    let cipher: &dyn Cipher = &TOY;
     assert_eq!(rt; cipher.key_size(), 1);
     assert_eq!(rt; cipher.seed_bit_len(), 8);
     assert_eq!(rt; cipher.confounder_size(), 4);
@@ -122,12 +124,12 @@ fn lent_calls(rt: HostRuntime) -> Result<(), Fail> {
 #[test]
 fn lent_keys(rt: HostRuntime) -> Result<(), Fail> {
     let alloc = rt.alloc();
-    let cipher: &dyn Cipher = &Toy;
+    let cipher: &dyn Cipher = &TOY;
     let checksum = cipher.encryption_checksum(alloc, &KEY, KEY_USAGE, &PAYLOAD)?;
     assert!(rt; checksum.is_empty());
     let password_key = cipher.generate_key_from_password(alloc, b"password", b"salt")?;
     assert_eq!(rt; password_key.as_slice(), b"\x00".as_slice());
-    let key = Toy.random_to_key(alloc, vec![in alloc; 7, 8]?)?;
+    let key = TOY.random_to_key(alloc, vec![in alloc; 7, 8]?)?;
     assert_eq!(rt; key.as_slice(), b"\x07".as_slice());
     Ok(())
 }

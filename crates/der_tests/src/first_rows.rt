@@ -1,16 +1,17 @@
 //! Worked encodings of the first types, both ways, and octets that are refused.
 
-use crate::data_types::{
-    AuthorizationData, AuthorizationDataInner, EncTicketPart, EncTicketPartInner, EncryptedData,
-    EncryptionKey, HostAddress, HostAddresses, KerbPaPacRequest, KerberosStringAsn1, KerberosTime,
-    PaEncTsEnc, PrincipalName, TransitedEncoding,
-};
-use crate::der::{
+use krb_der::{
     ApplicationTag, Asn1DerError, Asn1SequenceOf, BitStringAsn1, Der, DerEncode,
     ExplicitContextTag0, ExplicitContextTag1, ExplicitContextTag2, ExplicitContextTag3,
     ExplicitContextTag4, ExplicitContextTag5, ExplicitContextTag6, ExplicitContextTag7,
     ExplicitContextTag8, ExplicitContextTag9, ExplicitContextTag10, IntegerAsn1, OctetStringAsn1,
     Optional, from_bytes, to_vec,
+};
+use krb_padata::data_types::{KerbPaPacRequest, PaEncTsEnc};
+use krb_parts::data_types::{EncTicketPart, EncTicketPartInner};
+use krb_types::data_types::{
+    AuthorizationData, AuthorizationDataInner, EncryptedData, EncryptionKey, HostAddress,
+    HostAddresses, KerberosStringAsn1, KerberosTime, PrincipalName, TransitedEncoding,
 };
 use std::alloc::{AllocError, Global};
 use std::process::Abort;

@@ -1,11 +1,12 @@
 //! Encodings of the leaves, both ways, and malformed octets with the refusal that the order of faults gives.
 
-use crate::data_types::{KerbPaPacRequest, PrincipalName};
-use crate::der::{
+use krb_der::{
     ApplicationTag, Asn1DerError, Asn1SequenceOf, BitStringAsn1, Der, DerEncode,
     ExplicitContextTag0, GeneralStringAsn1, GeneralizedTimeAsn1, IntegerAsn1, OctetStringAsn1,
     Optional, from_bytes, to_vec,
 };
+use krb_padata::data_types::KerbPaPacRequest;
+use krb_types::data_types::PrincipalName;
 use std::alloc::Global;
 use std::io;
 use std::process::Abort;

@@ -1,11 +1,11 @@
 //! Values read from readers that give few octets at a time or fail, values written to writers, copies, and the leaves
 //! `u32` and `Utf8StringAsn1`.
 
-use crate::data_types::{EncryptedData, PrincipalName};
-use crate::der::{
+use krb_der::{
     Asn1DerError, Der, ExplicitContextTag11, ExplicitContextTag12, OctetStringAsn1, Utf8StringAsn1,
     copy, from_bytes, from_reader, to_vec, to_writer,
 };
+use krb_types::data_types::{EncryptedData, PrincipalName};
 use std::alloc::Global;
 use std::io;
 use std::io::{ErrorKind, Read, Write};
@@ -158,6 +158,16 @@ fn malformed_octets_by_reader(rt: HostRuntime) -> Result<(), Fail> {
         }
     }
     Ok(())
+}
+
+/// A length that no octets follow: no memory is taken for it.
+#[test]
+fn claimed_octets_by_reader(rt: HostRuntime) {
+    for at_once in [1, usize::MAX] {
+        let mut reader = giving(b"\x04\x88\xff\xff\xff\xff\xff\xff\xff\xff", at_once);
+        let read: Result<OctetStringAsn1, Asn1DerError> = from_reader(rt.alloc(), &mut reader);
+        assert_eq!(rt; refusal(&read), "TruncatedData");
+    }
 }
 
 #[test]
