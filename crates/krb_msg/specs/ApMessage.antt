@@ -1,4 +1,4 @@
--- The choice between the two messages of an exchange with a server.
+-- The choice between the two messages of an exchange with a server (RFC 4120, 5.5.1 and 5.5.2).
 use Rattle.std.proofs.Common.{arith, inl, inr}
 use Rattle.std.specs.Prelude.{◌≡◌, ℕ, ◌⊎◌}
 use Rattle.krb_app.specs.declared.messages.application.ApReqInner.{ApReqInner}

@@ -1,4 +1,4 @@
--- The text of an error code.
+-- The text of an error code (RFC 4120, 7.5.9), in the form that the original prints it in.
 use Rattle.std.specs.Prelude.{ℕ, ◌+◌, nat_lt, if◌then◌else◌, List, [], ◌∷◌, ◌++◌, map, codes}
 use Rattle.std.specs.Int.Digits.{digits_of}
 
