@@ -1,0 +1,3 @@
+mod Mic
+mod Streams
+mod Wrap
