@@ -1,0 +1,4 @@
+mod Retagging
+mod Faults
+mod KrbTokens
+mod Proxies

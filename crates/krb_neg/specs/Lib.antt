@@ -1,0 +1,6 @@
+pub mod Proxy
+pub mod ProxyLaws
+pub mod Refused
+pub mod Token
+pub mod TokenIdLaws
+pub mod TokenLaws

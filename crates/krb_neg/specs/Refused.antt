@@ -1,0 +1,63 @@
+-- Which octets are no token, and by which first fault, from the left (RFC 2743, 3.1; RFC 4121, 4.1).
+use Rattle.std.specs.Prelude.{◌≡◌, ◌⊎◌, ℕ, ◌<◌, List, ◌++◌, length}
+use Rattle.std.specs.IoError.{error_kind}
+use Rattle.std.specs.declared.io.Error.{Error}
+use Rattle.std.specs.declared.io.ErrorKind.TheVariants.{UnexpectedEof}
+use Rattle.krb_leaves.specs.declared.error.Asn1DerError.{Asn1DerError}
+use Rattle.krb_leaves.specs.declared.error.Asn1DerError.TheVariants as errors
+use Rattle.krb_leaves.specs.Reading.{Elements, Encodings, RefusesFront}
+use Rattle.krb_identifiers.specs.ObjectIdentifier.{IsArcs, object_identifier}
+use Rattle.krb_iakerb.specs.Fields.{Begins}
+use Rattle.krb_tokens.specs.declared.error.GssApiMessageError.{GssApiMessageError}
+use Rattle.krb_tokens.specs.declared.error.GssApiMessageError.TheVariants as gss
+use Rattle.krb_tokens.specs.Errors.{of_der}
+use Rattle.krb_neg.specs.Token.{IsTokenId, token}
+
+-- ---- what stands before a fault
+
+-- a token stands at the front, whose content is so
+abbrev pub InToken : List ℕ → (List ℕ → Type 0) → Type 0
+InToken input P = (content : List ℕ) × (rest : List ℕ) × (input ≡ token content ++ rest) × P content
+
+-- a mechanism stands at the front, and what stands behind it is so
+abbrev pub BehindMechanism : List ℕ → (List ℕ → List ℕ → Type 0) → Type 0
+BehindMechanism content P = (oid : List ℕ) × (behind : List ℕ) × IsArcs oid × (content ≡ object_identifier oid ++ behind) × P oid behind
+
+-- a token id stands at the front, and what stands behind it is so
+abbrev pub BehindId : List ℕ → (List ℕ → List ℕ → Type 0) → Type 0
+BehindId octets P = (id : List ℕ) × (behind : List ℕ) × IsTokenId id × (octets ≡ id ++ behind) × P id behind
+
+-- ---- the faults
+
+-- a fault of DER at the front of the octets
+abbrev pub FrontRefused : (List ℕ → Type 0) → List ℕ → GssApiMessageError → Type 0
+FrontRefused P octets e = (f : Asn1DerError) × (e ≡ of_der f) × RefusesFront P octets f
+
+-- the first octet is not 60, or an element of that tag is cut short or has a wrong length
+abbrev pub FrameRefused : List ℕ → GssApiMessageError → Type 0
+FrameRefused input e = ((Begins 96 input → ⊥) × (e ≡ gss.Asn1Error errors.InvalidData))
+    ⊎ (Begins 96 input × (f : Asn1DerError) × (e ≡ of_der f) × (f ≡ errors.OutOfMemory → ⊥) × RefusesFront (Elements 96) input f)
+
+abbrev pub MechanismRefused : List ℕ → GssApiMessageError → Type 0
+MechanismRefused content e = FrontRefused (Encodings IsArcs object_identifier) content e
+
+-- one octet, or none
+abbrev pub IdRefused : List ℕ → GssApiMessageError → Type 0
+IdRefused octets e = (x : Error) × (e ≡ gss.IoError x) × (error_kind x ≡ UnexpectedEof) × (length octets < 2)
+
+-- an encoding with octets behind it
+abbrev pub IsFollowed : {A : Type 0} → (A → Type 0) → (A → List ℕ) → List ℕ → Type 0
+IsFollowed {A} is_value enc octets = (v : A) × (more : List ℕ) × is_value v × (0 < length more) × (octets ≡ enc v ++ more)
+
+-- what is to be one encoding, all of it
+abbrev pub MessageRefused : {A : Type 0} → (A → Type 0) → (A → List ℕ) → List ℕ → GssApiMessageError → Type 0
+MessageRefused is_value enc octets e = FrontRefused (Encodings is_value enc) octets e ⊎ ((e ≡ gss.Asn1Error errors.InvalidData) × IsFollowed is_value enc octets)
+
+-- ---- a token of Kerberos: any mechanism, any id, and a message
+
+abbrev pub KrbMessageRefused : {A : Type 0} → (A → Type 0) → (A → List ℕ) → List ℕ → GssApiMessageError → Type 0
+KrbMessageRefused is_value enc input e =
+    FrameRefused input e ⊎ InToken input (λ content.
+    MechanismRefused content e ⊎ BehindMechanism content (λ oid behind.
+    IdRefused behind e ⊎ BehindId behind (λ id last.
+    MessageRefused is_value enc last e)))

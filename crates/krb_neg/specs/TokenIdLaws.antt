@@ -1,0 +1,16 @@
+-- Two octets among the fields of a sequence.
+use Rattle.std.proofs.Common.{◌≡◌, ℕ, true, List, [], ◌∷◌, ◌++◌, refl, sym, ◌∙◌}
+use Rattle.krb_leaves.specs.Encoding.{BeginsWith}
+use Rattle.krb_leaves.specs.TlvLaws.{same_fronts}
+use Rattle.krb_der.specs.Grouping.{BeginSo, OneReading}
+use Rattle.krb_neg.specs.Token.{IsTokenId}
+
+begins_anyhow : (x : List ℕ) → BeginsWith (λ t. true) x
+begins_anyhow [] = tt
+begins_anyhow (i ∷ x) = refl
+
+pub id_begins : BeginSo IsTokenId (λ v. v) (λ follow t. true)
+id_begins follow v x h hx = begins_anyhow (v ++ x)
+
+pub id_one_reading : OneReading (λ follow. Unit {0}) IsTokenId (λ v. v)
+id_one_reading follow told v w x y hv hw hx hy e = same_fronts v w x y (hv.two ∙ sym hw.two) e

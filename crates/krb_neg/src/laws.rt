@@ -1,0 +1,55 @@
+//! Laws over the definitions, of functions that do nothing.
+
+ghost use Rattle.std.specs.Prelude.{◌≡◌, ◌++◌, ◌∷◌, List, ℕ, drop};
+ghost use Rattle.krb_der.specs.Asn1.{explicit, sequence_of};
+ghost use Rattle.krb_der.specs.Equality.{TellsEqual};
+ghost use Rattle.krb_identifiers.specs.ObjectIdentifier.{object_identifier};
+ghost use Rattle.krb_leaves.specs.Tlv.{tlv};
+ghost use Rattle.krb_neg.specs.Proxy.{ProxyReads, iakerb, proxy_id};
+ghost use Rattle.krb_neg.specs.Token.{token};
+
+use crate::application_tag_0::ApplicationTag0;
+use crate::iakerb::IAKerbProxyMessage;
+use crate::krb_message::KrbMessage;
+use crate::spnego::{
+    GssApiNegInit, MechType, MechTypeList, NegTokenInit, NegTokenTarg, NegTokenTarg1,
+};
+use krb_der::{Der, DerEncode, DerSequence};
+use krb_iakerb::laws::{equality as header_equality, header_readings};
+
+/// The aliases (RFC 4178, 4.1 and 4.2).
+pub fn aliases()
+    ensures mech_type { (v : List ℕ) → ⟦<MechType as DerEncode>⟧.enc v ≡ object_identifier v }
+    ensures mech_type_list { (v : List (List ℕ)) → ⟦<MechTypeList as DerEncode>⟧.enc v ≡ sequence_of object_identifier v }
+    ensures neg_token_targ_1 { (v : _) → ⟦<NegTokenTarg1 as DerEncode>⟧.enc v ≡ explicit 1 (⟦<NegTokenTarg as DerEncode>⟧.enc v) }
+{}
+
+/// A token is the SEQUENCE's encoding with `60` in the place of its first octet, so that the tag takes the place of `30`
+/// (RFC 2743, 3.1; X.690, 8.14).
+pub fn tokens<T: DerSequence>()
+    ensures first_octet { (v : T) → ⟦<ApplicationTag0<T> as DerEncode>⟧.enc v ≡ 96 ∷ drop 1 (T.enc v) }
+    ensures content { (v : T) (content : List ℕ) → T.enc v ≡ tlv 48 content → ⟦<ApplicationTag0<T> as DerEncode>⟧.enc v ≡ tlv 96 content }
+{}
+
+/// A token of IAKERB that was written is read as what was written (draft-ietf-kitten-iakerb-03, 3).
+pub fn proxy_messages<T: Der + Drop>()
+    ensures written { (m : _) → ⟦<IAKerbProxyMessage<T> as DerEncode>⟧.is_value m → (content : List ℕ) × (⟦<ApplicationTag0<IAKerbProxyMessage<T>> as DerEncode>⟧.enc m ≡ token content) × ProxyReads T.enc content m.header m.krb_msg }
+{
+    header_readings();
+}
+
+/// `==` on the messages of SPNEGO: it answers true for equal values and for no others.
+pub fn equality()
+    ensures neg_token_init { TellsEqual ⟦<NegTokenInit as PartialEq>⟧.eq }
+    ensures neg_token_targ { TellsEqual ⟦<NegTokenTarg as PartialEq>⟧.eq }
+    ensures gss_api_neg_init { TellsEqual ⟦<GssApiNegInit as PartialEq>⟧.eq }
+{}
+
+/// `==` on what holds a message: it tells equal values, where that of the message does.
+pub fn message_equality<T: PartialEq>()
+    ensures application_tag_0 { TellsEqual T.eq → TellsEqual ⟦<ApplicationTag0<T> as PartialEq>⟧.eq }
+    ensures krb_message { TellsEqual T.eq → TellsEqual ⟦<KrbMessage<T> as PartialEq>⟧.eq }
+    ensures proxy_message { TellsEqual T.eq → TellsEqual ⟦<IAKerbProxyMessage<T> as PartialEq>⟧.eq }
+{
+    header_equality();
+}
