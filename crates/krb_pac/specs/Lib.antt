@@ -1,0 +1,9 @@
+pub mod Comparing
+pub mod Equality
+pub mod Kind
+pub mod Layout
+pub mod Marks
+pub mod OnePac
+pub mod Refused
+pub mod Stands
+pub mod Written

@@ -1,0 +1,91 @@
+//! The entry of one buffer.
+
+ghost use Rattle.std.specs.Prelude.{◌≡◌, ℕ, ◌≤◌, ◌⊎◌, length, drop, Some, IfOk, IfErr, IfSome, OnOk};
+ghost use Rattle.std.specs.Io.KnownBytes.{Appends};
+ghost use Rattle.byteorder.specs.Endian.{little_number};
+ghost use Rattle.krb_pac.specs.Kind.{IsUnlisted};
+ghost use Rattle.krb_pac.specs.Layout.{EntryAt};
+ghost use Rattle.krb_pac.specs.Refused.{AnswersUnlessFault, IsFault};
+ghost use Rattle.krb_pac.specs.Written.{entry_octets};
+ghost use Rattle.krb_pac.specs.declared.error.PacError.TheVariants as errors;
+ghost use Rattle.krb_pac.specs.declared.info.PacInfoBuffer.{PacInfoBuffer};
+
+use crate::error::PacError;
+use crate::kind::PacBufferType;
+use crate::writing::entry;
+use byteorder::{LittleEndian, ReadBytesExt};
+use std::io::{Read, Write};
+
+/// The entry of a buffer (MS-PAC 2.4, PAC_INFO_BUFFER): 16 octets, the numbers in little-endian order.
+///
+/// ```text
+/// ulType       4 octets
+/// cbBufferSize 4 octets, how many octets the buffer has
+/// Offset       8 octets, how many octets of the PAC stand before it
+/// ```
+#[derive(Debug, Clone, Copy, PartialEq, Eq)]
+pub struct PacInfoBuffer {
+    ul_type: PacBufferType,
+    cb_buffer_size: u32,
+    offset: u64,
+}
+
+impl PacInfoBuffer {
+    /// The entry of these fields.
+    pub fn new(ul_type: PacBufferType, cb_buffer_size: u32, offset: u64) -> Self
+        ensures { result ≡ record { ul_type = ul_type; cb_buffer_size = cb_buffer_size; offset = offset } }
+    {
+        PacInfoBuffer {
+            ul_type,
+            cb_buffer_size,
+            offset,
+        }
+    }
+
+    /// What the buffer holds.
+    pub fn ul_type(&self) -> PacBufferType
+        ensures { result ≡ self.now.ul_type }
+    {
+        self.ul_type
+    }
+
+    /// How many octets the buffer has.
+    pub fn cb_buffer_size(&self) -> u32
+        ensures { result ≡ self.now.cb_buffer_size }
+    {
+        self.cb_buffer_size
+    }
+
+    /// How many octets of the PAC stand before the buffer.
+    pub fn offset(&self) -> u64
+        ensures { result ≡ self.now.offset }
+    {
+        self.offset
+    }
+
+    /// The entry that the reader's next 16 octets are, read field by field. What stands behind them is left unread.
+    ///
+    /// The number of no type is `PacBufferType`, told once it is read. A reader that ends or fails is `IoError`, an early end
+    /// of the kind `UnexpectedEof`. After a refusal some octets may have been read.
+    pub fn deserialize<R: Read>(reader: &mut R) -> Result<Self, PacError>
+        ensures found { IfOk result (λ e. IfSome (R.remaining reader.old) (λ f. EntryAt f 0 e)) }
+        ensures behind { OnOk result (IfSome (R.remaining reader.old) (λ f. R.remaining reader.new ≡ Some (drop 16 f))) }
+        ensures refused { IfErr result (λ e. IsFault e ⊎ ((n : ℕ) × (e ≡ errors.PacBufferType n) × IsUnlisted n × IfSome (R.remaining reader.old) (λ f. (4 ≤ length f) × (n ≡ little_number 4 f)))) }
+        ensures only { IfSome (R.remaining reader.old) (λ f. (e : PacInfoBuffer) → EntryAt f 0 e → AnswersUnlessFault result e) }
+    {
+        let number = reader.read_u32::<LittleEndian>()?;
+        let ul_type = PacBufferType::try_from(number)?;
+        let cb_buffer_size = reader.read_u32::<LittleEndian>()?;
+        let offset = reader.read_u64::<LittleEndian>()?;
+        Ok(PacInfoBuffer::new(ul_type, cb_buffer_size, offset))
+    }
+
+    /// Writes the 16 octets of the entry. A fault of the writer is `IoError`, and some octets may have been written then.
+    pub fn serialize<W: Write>(&self, to: &mut W) -> Result<(), PacError>
+        ensures ok { OnOk result (Appends (W.contents to.old) (W.contents to.new) (entry_octets self.now)) }
+        ensures fault { IfErr result IsFault }
+    {
+        to.write_all(&entry(self))?;
+        Ok(())
+    }
+}

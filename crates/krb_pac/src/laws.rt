@@ -1,0 +1,40 @@
+//! Laws over the definitions, of functions that do nothing.
+
+ghost use Rattle.std.specs.Prelude.{◌≡◌, ℕ, List};
+ghost use Rattle.krb_pac.specs.Equality.{ClonesValue, TellsEqual};
+ghost use Rattle.krb_pac.specs.Layout.{Buffer, PacIs};
+ghost use Rattle.krb_pac.specs.Refused.{AreOneOrMemory, PacRefused};
+ghost use Rattle.krb_pac.specs.Written.{PacPut};
+ghost use Rattle.krb_pac.specs.declared.error.PacError.TheVariants as errors;
+
+use crate::buffer::PacBuffer;
+use crate::error::PacError;
+use crate::info::PacInfoBuffer;
+use crate::kind::PacBufferType;
+use crate::pac::Pac;
+
+/// Octets are one PAC at most, and what a PAC is written as is that PAC alone.
+pub fn readings()
+    ensures one { (b : List ℕ) (pac read : List Buffer) → PacIs b pac → PacIs b read → read ≡ pac }
+    ensures read_back { (b : List ℕ) (pac read : List Buffer) → PacPut pac b → PacIs b read → read ≡ pac }
+{}
+
+/// Octets that are a PAC have no refusal but for want of memory, and other octets have one first fault.
+pub fn refusals()
+    ensures no_pac { (b : List ℕ) (pac : List Buffer) (e : PacError) → PacIs b pac → PacRefused b e → e ≡ errors.OutOfMemory }
+    ensures one { (b : List ℕ) (e f : PacError) → PacRefused b e → PacRefused b f → AreOneOrMemory e f }
+{}
+
+/// `==`: it answers true for equal values and for no others.
+pub fn equality()
+    ensures kind { TellsEqual ⟦<PacBufferType as PartialEq>⟧.eq }
+    ensures info_buffer { TellsEqual ⟦<PacInfoBuffer as PartialEq>⟧.eq }
+    ensures buffer { TellsEqual ⟦<PacBuffer as PartialEq>⟧.eq }
+    ensures pac { TellsEqual ⟦<Pac as PartialEq>⟧.eq }
+{}
+
+/// A clone is the value again.
+pub fn clones()
+    ensures kind { ClonesValue ⟦<PacBufferType as Clone>⟧.is_clone }
+    ensures info_buffer { ClonesValue ⟦<PacInfoBuffer as Clone>⟧.is_clone }
+{}

@@ -1,0 +1,55 @@
+//! Whether ranges have a place among octets.
+
+ghost use Rattle.std.specs.Prelude.{◌≡◌, ℕ, ◌+◌, ◌≤◌, ◌<◌, true, false, length};
+ghost use Rattle.krb_pac.specs.Marks.{IsLeft, Takes};
+ghost use Rattle.krb_pac.specs.Written.{IsBehind, HasRoom};
+
+use crate::buffer::PacBuffer;
+
+/// Whether a range lies within the octets and behind the header.
+pub(crate) fn has_place(p: &PacBuffer, head: usize, len: usize) -> bool
+    ensures yes { result ≡ true → (p.now.info.offset + p.now.info.cb_buffer_size ≤ len) × IsBehind head p.now }
+    ensures no { result ≡ false → p.now.info.offset + p.now.info.cb_buffer_size ≤ len → IsBehind head p.now → ⊥ }
+{
+    let size = p.info_buffer().cb_buffer_size() as u64;
+    let offset = p.info_buffer().offset();
+    let len = len as u64;
+    if offset > len || len - offset < size {
+        return false;
+    }
+    size == 0 || offset >= head as u64
+}
+
+/// Whether an entry at `at` and its range lie within the octets and share none.
+pub(crate) fn has_room(p: &PacBuffer, at: usize, len: usize) -> bool
+    ensures yes { result ≡ true → HasRoom at len p.now }
+    ensures no { result ≡ false → HasRoom at len p.now → ⊥ }
+{
+    let size = p.info_buffer().cb_buffer_size() as u64;
+    let offset = p.info_buffer().offset();
+    let len = len as u64;
+    let at = at as u64;
+    if at > len || len - at < 16 || offset > len || len - offset < size {
+        return false;
+    }
+    if offset <= at {
+        size == 0 || size <= at - offset
+    } else {
+        size == 0 || offset - at >= 16
+    }
+}
+
+/// Marks the octets of a range as taken, and answers true; answers false where one of them is taken already.
+pub(crate) fn take_range(marks: &mut [bool], at: usize, size: usize) -> bool
+    requires { at + size ≤ length marks.old }
+    ensures len { length marks.new ≡ length marks.old }
+    ensures yes { result ≡ true → Takes at size marks.old marks.new }
+    ensures no { result ≡ false → ((k : ℕ) → at ≤ k → k < at + size → IsLeft marks.old k) → ⊥ }
+{
+    let range = &mut marks[at..at + size];
+    if range.contains(&true) {
+        return false;
+    }
+    range.fill(true);
+    true
+}
