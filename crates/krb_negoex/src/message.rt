@@ -1,0 +1,115 @@
+//! What every whole message has.
+
+ghost use Rattle.std.specs.Prelude.{◌≡◌, ℕ, ◌+◌, ◌≤◌, ◌<◌, ◌^◌, List, ◌++◌, ◌⊎◌, IfOk, IfErr, OnOk, MatchResult};
+ghost use Rattle.std.specs.Io.KnownBytes.{Appends, Keeps};
+ghost use Rattle.std.specs.IoError.{error_kind};
+ghost use Rattle.krb_negoex.specs.Refused.{IsMemory, IsUnfit};
+ghost use Rattle.krb_negoex.specs.Whole.{written, new_header};
+ghost use Rattle.krb_negoex.specs.Wire.{header_layout};
+
+use crate::header::{MessageHeader, MessageType, NEGOEXTS_MESSAGE_SIGNATURE};
+use crate::numbers::invalid_input;
+use crate::parts::{Lay, Part};
+use crate::traits::NegoexDataType;
+use std::alloc::Global;
+use std::io;
+use std::io::{ErrorKind, Write};
+use uuid::Uuid;
+
+/// A message (MS-NEGOEX 2.2.6): a fixed part, and a payload behind it.
+pub trait NegoexMessage: Part {
+    /// What refusals are told by.
+    type Error;
+
+    /// The octets between the fixed part and the payload.
+    ghost between: { List ℕ };
+
+    /// Where the payload starts.
+    ghost start: { Self → ℕ };
+
+    /// The first fault of octets that are no such message.
+    ghost refused: { List ℕ → Self.Error → Type 0 };
+
+    /// A growth was refused.
+    ghost is_memory: { Self.Error → Type 0 };
+
+    /// A number does not fit its field.
+    ghost is_unfit: { Self.Error → Type 0 };
+
+    /// The message that the octets begin with, what its vectors point to among them. The lengths in the header are not compared
+    /// with the octets.
+    ///
+    /// Fields are read in order, a vector's elements right behind its own octets, and the first fault decides. For the three
+    /// messages here: `InvalidData` at another signature or message type, and where a vector's offset lies past the octets, also
+    /// with the count 0; `InvalidInput` at another checksum scheme; `UnexpectedEof` where the octets end before a fixed part or
+    /// an element does; `OutOfMemory` where a growth was refused.
+    fn decode(alloc: Global, message: &[u8]) -> Result<Self, Self::Error>
+        ensures found { IfOk result (Self.layout.part message.now message.now) }
+        ensures refused { IfErr result (refused message.now) }
+        ensures only { (v : Self) → Self.layout.part message.now message.now v → MatchResult result (λ w. Self.layout.same w v) is_memory };
+
+    /// Writes the message. Its vectors say that the payload stands at `header_len`, whatever that is, and it is written behind
+    /// the fixed part.
+    ///
+    /// `InvalidInput` where an offset or a count does not fit its 32 bits, and `OutOfMemory` where a growth was refused; the
+    /// writer is then as before. A writer's fault is passed on.
+    fn encode<W: Write>(&self, alloc: Global, to: &mut W) -> Result<(), Self::Error>
+        ensures laid { OnOk result (Self.layout.laid (start self.now) self.now) }
+        ensures ok { OnOk result (Appends (W.contents to.old) (W.contents to.new) (written Self.layout (start self.now) between self.now)) }
+        ensures unlaid { (Self.layout.laid (start self.now) self.now → ⊥) → MatchResult result (λ _. ⊥) (λ e. is_memory e ⊎ is_unfit e) × Keeps (W.contents to.old) (W.contents to.new) };
+}
+
+/// The value that the octets of a message begin with.
+pub(crate) fn decode_whole<M: Part>(alloc: Global, message: &[u8]) -> io::Result<M>
+    ensures found { IfOk result (M.layout.part message.now message.now) }
+    ensures refused { IfErr result (M.layout.refuses message.now message.now) }
+    ensures only { (v : M) → M.layout.part message.now message.now v → MatchResult result (λ w. M.layout.same w v) IsMemory }
+{
+    let (value, _) = M::read_part(alloc, message, message)?;
+    Ok(value)
+}
+
+/// Writes a fixed part, octets between, and the payload, which starts at the offset.
+pub(crate) fn encode_whole<M: Lay, W: Write>(
+    value: &M,
+    alloc: Global,
+    start: usize,
+    between: &[u8],
+    to: &mut W,
+) -> io::Result<()>
+    ensures laid { OnOk result (M.layout.laid start value.now) }
+    ensures ok { OnOk result (Appends (W.contents to.old) (W.contents to.new) (written M.layout start between.now value.now)) }
+    ensures unlaid { (M.layout.laid start value.now → ⊥) → MatchResult result (λ _. ⊥) (λ e. IsMemory e ⊎ IsUnfit e) × Keeps (W.contents to.old) (W.contents to.new) }
+{
+    let mut octets = Vec::new(alloc);
+    let mut payload = Vec::new(alloc);
+    value.lay(alloc, start, &mut octets, &mut payload)?;
+    octets.extend_from_slice(between)?;
+    octets.extend_from_slice(&payload)?;
+    to.write_all(&octets)
+}
+
+/// The header of a message of that length; `InvalidInput` where it does not fit 32 bits.
+pub(crate) fn header_of(
+    message_type: MessageType,
+    conversation_id: Uuid,
+    sequence_num: u32,
+    header_len: u32,
+    message_len: usize,
+) -> io::Result<MessageHeader>
+    ensures ok { IfOk result (λ h. (h ≡ new_header message_type conversation_id sequence_num header_len message_len) × (message_len < 2 ^ 32) × header_layout.readable h) }
+    ensures err { IfErr result (λ e. (error_kind e ≡ ErrorKind.InvalidInput) × (2 ^ 32 ≤ message_len)) }
+{
+    let _known = (message_type.size(), conversation_id.size());
+    if message_len > 0xffff_ffff {
+        return Err(invalid_input());
+    }
+    Ok(MessageHeader {
+        signature: NEGOEXTS_MESSAGE_SIGNATURE,
+        message_type,
+        sequence_num,
+        header_len,
+        message_len: message_len as u32,
+        conversation_id,
+    })
+}

@@ -1,0 +1,122 @@
+//! What every type of data in a message has.
+
+ghost use Rattle.std.specs.Prelude.{◌≡◌, ℕ, ◌+◌, ◌^◌, ◌-◌, ◌≤◌, ◌<◌, min, List, ◌++◌, length, take, drop, Some, IfOk, IfErr, IfSome, OnOk, OnErr, MatchResult};
+ghost use Rattle.std.specs.Io.KnownBytes.{Appends, Keeps, Consumes};
+ghost use Rattle.krb_negoex.specs.Refused.{IsUnlaidBy};
+
+use crate::message::encode_whole;
+use crate::parts::{Lay, Part, Placed};
+use std::alloc::Global;
+use std::io;
+use std::io::{ErrorKind, Read, Write};
+
+/// A type of data of MS-NEGOEX 2.2: a fixed part, and a payload that stands elsewhere in the message. It is an octet, a GUID, a
+/// message type, a header, an extension, a checksum, or a vector of a type of data.
+pub trait NegoexDataType: Placed {
+    /// What refusals are told by.
+    type Error: From<io::Error>;
+
+    /// What is known of every value: numbers in range.
+    ghost known: { Self → Type 0 };
+
+    /// How many octets the fixed part has: 1 for an octet, 16 for a GUID, 4 for a message type, 40 for a header, 12 for an
+    /// extension, 20 for a checksum, 8 for a vector.
+    fn fixed_len() -> usize
+        ensures { result ≡ Self.layout.width };
+
+    /// How many octets the fixed part and all payloads have, or `usize::MAX` where that is less.
+    fn size(&self) -> usize
+        ensures size { result ≡ min (Self.layout.width + Self.layout.payload_size self.now) (2 ^ 64 - 1) }
+        ensures known { known self.now };
+
+    /// Writes the fixed part to one writer, and the payload to the other; answers how many octets the payload has. The payload
+    /// stands in the message at the offset, which counts octets from the message's first.
+    ///
+    /// `InvalidInput` where an offset or a count does not fit its 32 bits, and `OutOfMemory` where a growth was refused; both
+    /// writers are then as before. A writer's fault is passed on.
+    final fn encode_with_payload<W: Write, V: Write>(
+        &self,
+        alloc: Global,
+        offset: usize,
+        to: &mut W,
+        payload_to: &mut V,
+    ) -> Result<usize, Self::Error>
+    where
+        Self: Sized,
+        ensures laid { OnOk result (Self.layout.laid offset self.now) }
+        ensures size { IfOk result (λ n. n ≡ Self.layout.payload_size self.now) }
+        ensures fixed_part { OnOk result (Appends (W.contents to.old) (W.contents to.new) (Self.layout.fixed offset self.now)) }
+        ensures payload_part { OnOk result (Appends (V.contents payload_to.old) (V.contents payload_to.new) (Self.layout.payload offset self.now)) }
+        ensures unlaid { (Self.layout.laid offset self.now → ⊥) → MatchResult result (λ _. ⊥) (IsUnlaidBy Self.Error.from_gives) × Keeps (W.contents to.old) (W.contents to.new) × Keeps (V.contents payload_to.old) (V.contents payload_to.new) }
+    {
+        let mut fixed_part = Vec::new(alloc);
+        let mut payload_part = Vec::new(alloc);
+        self.lay(alloc, offset, &mut fixed_part, &mut payload_part)?;
+        to.write_all(&fixed_part)?;
+        payload_to.write_all(&payload_part)?;
+        Ok(payload_part.len())
+    }
+
+    /// Writes the fixed part and the payload behind it. The fixed part names the payload's place: octet 8 for a vector, 12 for
+    /// an extension, its `header_len` for a checksum.
+    ///
+    /// `InvalidInput` where an offset or a count does not fit its 32 bits, and `OutOfMemory` where a growth was refused; the
+    /// writer is then as before. A writer's fault is passed on.
+    final fn encode<W: Write>(&self, alloc: Global, to: &mut W) -> Result<(), Self::Error>
+    where
+        Self: Sized,
+        ensures laid { OnOk result (Self.layout.laid (Self.start self.now) self.now) }
+        ensures ok { OnOk result (Appends (W.contents to.old) (W.contents to.new) (Self.layout.fixed (Self.start self.now) self.now ++ Self.layout.payload (Self.start self.now) self.now)) }
+        ensures unlaid { (Self.layout.laid (Self.start self.now) self.now → ⊥) → MatchResult result (λ _. ⊥) (IsUnlaidBy Self.Error.from_gives) × Keeps (W.contents to.old) (W.contents to.new) }
+    {
+        encode_whole(self, alloc, self.payload_start(), &[], to)?;
+        Ok(())
+    }
+
+    /// The value whose fixed part the reader gives next; the reader then stands behind that. What the fixed part points to is
+    /// read out of the message.
+    ///
+    /// `UnexpectedEof` where the reader or the message ends before a fixed part does, `InvalidData` where a vector's offset lies
+    /// past the message, at another signature or at a number that is no message type's, `InvalidInput` at another checksum
+    /// scheme, and `OutOfMemory` where a growth was refused. A reader's fault is passed on.
+    final fn decode<R: Read>(
+        alloc: Global,
+        from: &mut R,
+        message: &[u8],
+    ) -> Result<Self, Self::Error>
+    where
+        Self: Sized,
+        ensures found { IfOk result (λ v. IfSome (R.remaining from.old) (λ f. Self.layout.part f message.now v)) }
+        ensures rest { OnOk result (IfSome (R.remaining from.old) (λ f. R.remaining from.new ≡ Some (drop Self.layout.width f))) }
+        ensures only { IfSome (R.remaining from.old) (λ f. (v : Self) → Self.layout.part f message.now v → IfOk result (λ w. Self.layout.same w v)) }
+    {
+        let octets = read_front(alloc, from, Self::fixed_len())?;
+        let (value, _) = Self::read_part(alloc, &octets, message)?;
+        Ok(value)
+    }
+}
+
+/// The next octets of a reader, fewer where it ends before.
+fn read_front<R: Read>(alloc: Global, from: &mut R, count: usize) -> io::Result<Vec<u8>>
+    ensures { IfOk result (λ v. IfSome (R.remaining from.old) (λ f. (v.items ≡ take count f) × (R.remaining from.new ≡ Some (drop count f)))) }
+{
+    let mut octets = Vec::new(alloc);
+    let mut piece = [0u8; 64];
+    'pieces: for _ in 0..u64::MAX {
+        let left = count - octets.len();
+        if left == 0 {
+            return Ok(octets);
+        }
+        let most = left.min(64);
+        match from.read(&mut piece[..most]) {
+            Ok(0) => return Ok(octets),
+            Ok(n) => octets.extend_from_slice(&piece[..n])?,
+            Err(e) => {
+                if e.kind() != ErrorKind::Interrupted {
+                    return Err(e);
+                }
+            }
+        }
+    }
+    Err(io::Error::new(ErrorKind::Other, "a reader that does not end"))
+}
