@@ -1,0 +1,54 @@
+//! Keys by the free calls.
+
+use crate::row::{Answer, Row, answer_of, size_of};
+use krb_suite::{aes, des};
+use std::alloc::Global;
+
+/// Calls of keys of triple DES (RFC 3961, 6.3).
+fn try_des_key(alloc: Global, row: &Row) -> Answer {
+    match row.call {
+        "derive_key" => {
+            if row.beside.is_empty() {
+                return None;
+            }
+            answer_of(alloc, des::derive_key(alloc, &row.key, &row.beside))
+        }
+        "derive_key_from_password" => answer_of(
+            alloc,
+            des::derive_key_from_password(alloc, &row.key, &row.beside),
+        ),
+        "random_to_key" => {
+            if row.input.len() < des::DES3_SEED_LEN {
+                return None;
+            }
+            answer_of(alloc, des::random_to_key(alloc, &row.input))
+        }
+        _ => None,
+    }
+}
+
+/// Calls of keys of AES (RFC 3962, 4 and 6).
+fn try_aes_key(alloc: Global, row: &Row) -> Answer {
+    let size = size_of(row.suite)?;
+    match row.call {
+        "derive_key" => {
+            if row.beside.is_empty() {
+                return None;
+            }
+            answer_of(alloc, aes::derive_key(alloc, &row.key, &row.beside, &size))
+        }
+        "derive_key_from_password" => answer_of(
+            alloc,
+            aes::derive_key_from_password(alloc, &row.key, &row.beside, &size),
+        ),
+        _ => None,
+    }
+}
+
+/// Calls of keys.
+pub fn try_key(alloc: Global, row: &Row) -> Answer {
+    if row.suite == "des3" {
+        return try_des_key(alloc, row);
+    }
+    try_aes_key(alloc, row)
+}

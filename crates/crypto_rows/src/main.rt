@@ -1,0 +1,32 @@
+//! The program `crypto_rows`: cryptography of Kerberos (RFC 3961, RFC 3962), call by call.
+//!
+//! Its standard input is a table. A row is a line of six columns with tabs between: a call, a suite or a size, a number in
+//! decimal digits (mostly a key usage), and three octet strings in hexadecimal digits: a key or a password, what stands beside
+//! the input (a confounder, a salt or a constant), and the input. A line that begins with `#` is none. For each row the program
+//! prints the call, the suite and what is answered: octets in hexadecimal digits, or the refusal.
+#![tactic(auto)]
+
+mod blocks;
+mod hashes;
+mod keys;
+mod messages;
+mod row;
+mod suites;
+mod table;
+
+use std::io;
+use std::io::{BufRead, BufReader};
+use table::report_of;
+
+fn main(rt: HostRuntime) -> io::Result<()> {
+    let alloc = rt.alloc();
+    for line in BufReader::new(alloc, rt.reader())?.lines(alloc) {
+        let line = line?;
+        if line.starts_with('#') {
+            continue;
+        }
+        let report = report_of(alloc, line.as_str())?;
+        println!(rt; "{report}")?;
+    }
+    Ok(())
+}

@@ -1,0 +1,72 @@
+//! The rows of the table, and what is told of each.
+
+use crate::blocks::{try_block, try_mode};
+use crate::hashes::try_hash;
+use crate::keys::try_key;
+use crate::messages::try_message;
+use crate::row::{Answer, Row};
+use crate::suites::{try_checksum, try_suite};
+use std::alloc::{AllocError, Global};
+
+/// The octets of a row.
+fn octets_of(alloc: Global, columns: &str) -> Option<(Vec<u8>, Vec<u8>, Vec<u8>)> {
+    let (key, rest) = columns.split_once('\t')?;
+    let (beside, input) = rest.split_once('\t')?;
+    let key = hex::decode(alloc, key).ok()?;
+    let beside = hex::decode(alloc, beside).ok()?;
+    let input = hex::decode(alloc, input).ok()?;
+    Some((key, beside, input))
+}
+
+/// The row that a line is.
+fn row_of(alloc: Global, line: &str) -> Option<Row<'_>> {
+    let (call, rest) = line.split_once('\t')?;
+    let (suite, rest) = rest.split_once('\t')?;
+    let (number, columns) = rest.split_once('\t')?;
+    let number = number.parse::<i32>().ok()?;
+    let (key, beside, input) = octets_of(alloc, columns)?;
+    Some(Row {
+        call,
+        suite,
+        number,
+        key,
+        beside,
+        input,
+    })
+}
+
+/// What the call of a row answers.
+fn try_row(alloc: Global, row: &Row) -> Answer {
+    match row.call {
+        "encrypt_block" | "decrypt_block" => try_block(alloc, row),
+        "hmac_sha1" | "n_fold" | "pbkdf2_hmac_sha1" => try_hash(alloc, row),
+        "derive_key" | "derive_key_from_password" | "random_to_key" => try_key(alloc, row),
+        "encrypt_message"
+        | "decrypt_message"
+        | "encrypt_message_no_checksum"
+        | "decrypt_message_no_checksum"
+        | "checksum_sha_aes" => try_message(alloc, row),
+        "checksum" => try_checksum(alloc, row),
+        "encrypt"
+        | "decrypt"
+        | "encrypt_no_checksum"
+        | "decrypt_no_checksum"
+        | "encryption_checksum"
+        | "generate_key_from_password"
+        | "seed_to_key" => try_suite(alloc, row),
+        _ => try_mode(alloc, row),
+    }
+}
+
+/// What is told of the row that a line is.
+pub fn report_of(alloc: Global, line: &str) -> Result<String, AllocError> {
+    let Some(row) = row_of(alloc, line) else {
+        return format!(in alloc; "no row: {line}");
+    };
+    let (call, suite) = (row.call, row.suite);
+    match try_row(alloc, &row) {
+        Some(Ok(text)) => format!(in alloc; "{call} {suite}: {text}"),
+        Some(Err(refusal)) => format!(in alloc; "{call} {suite}: refused, {refusal:?}"),
+        None => format!(in alloc; "{call} {suite}: no such call"),
+    }
+}
