@@ -16,8 +16,16 @@ pub use Rattle.krb_identifiers.specs.ObjectIdentifier
 pub use Rattle.krb_identifiers.specs.RawValue
 pub use Rattle.krb_algorithms.specs.Implicit
 pub use Rattle.krb_iakerb.specs.Header
+pub use Rattle.krb_tokens.specs.Mic
+pub use Rattle.krb_tokens.specs.Wrap
+pub use Rattle.krb_neg.specs.Token
+pub use Rattle.krb_neg.specs.Proxy
+pub use Rattle.krb_lsap.specs.TokenInfo
+pub use Rattle.krb_pac.specs.Layout
+pub use Rattle.krb_pac.specs.Written
 pub use Rattle.krb_msg.specs.CodeText
 pub use Rattle.krb_msg.specs.Results
+pub use Rattle.krb_password.specs.Frame
 pub use Rattle.krb_block.specs.CryptoError
 pub use Rattle.krb_block.specs.Hmac
 pub use Rattle.krb_block.specs.Pbkdf2

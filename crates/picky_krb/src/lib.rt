@@ -4,25 +4,23 @@
 //! original takes its ASN.1 types from.
 #![tactic(auto)]
 
-#[cfg(test)]
-mod checksum_rows;
 pub mod constants;
 pub mod crypto;
-#[cfg(test)]
-mod crypto_rows;
+pub mod data_types;
 pub mod der;
 #[cfg(test)]
-mod des_key_rows;
-#[cfg(test)]
-mod des_rows;
-#[cfg(test)]
 mod error_rows;
+pub mod gss_api;
+pub mod messages;
 #[cfg(test)]
-mod key_rows;
+mod number_rows;
+pub mod pac;
+#[cfg(test)]
+mod part_rows;
 pub mod seal;
 #[cfg(test)]
-mod suite_rows;
+mod size_rows;
 
 pub use krb_credssp::credssp;
-pub use krb_msg::{data_types, messages};
+pub use krb_negoex::negoex;
 pub use krb_pkinit::pkinit;

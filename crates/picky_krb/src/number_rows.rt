@@ -1,61 +1,10 @@
-//! Published HMAC values, the constants of derived keys, and the numbers of the suites.
+//! The constants of derived keys, and the numbers of the suites.
 
 use crate::constants::{cksum_types, etypes};
 use crate::crypto::{
-    ChecksumSuite, CipherSuite, KERBEROS, KerberosCryptoError, hmac_sha1, usage_kc, usage_ke,
-    usage_ki,
+    ChecksumSuite, CipherSuite, KERBEROS, KerberosCryptoError, usage_kc, usage_ke, usage_ki,
 };
-use std::alloc::Global;
-use std::process::Abort;
 use std::test::Fail;
-
-/// Compares an HMAC-SHA1 with its published value, cut and filled too.
-fn has_hmac(
-    rt: &impl Abort,
-    alloc: Global,
-    key: &[u8],
-    payload: &[u8],
-    mac: &[u8; 20],
-) -> Result<(), Fail> {
-    assert_eq!(rt;
-        hmac_sha1(alloc, key, payload, 20)?.as_slice(),
-        mac.as_slice()
-    );
-    assert_eq!(rt; hmac_sha1(alloc, key, payload, 12)?.as_slice(), &mac[..12]);
-    assert!(rt; hmac_sha1(alloc, key, payload, 0)?.is_empty());
-    let filled = hmac_sha1(alloc, key, payload, 22)?;
-    assert_eq!(rt; &filled[..20], mac.as_slice());
-    assert_eq!(rt; &filled[20..], b"\x00\x00".as_slice());
-    Ok(())
-}
-
-/// RFC 2202, 3: test cases 1, 2 and 6; the last one's key is longer than a block.
-#[test]
-fn hmac_rows(rt: HostRuntime) -> Result<(), Fail> {
-    let alloc = rt.alloc();
-    has_hmac(
-        &rt,
-        alloc,
-        &[0x0b; 20],
-        b"Hi There",
-        b"\xb6\x17\x31\x86\x55\x05\x72\x64\xe2\x8b\xc0\xb6\xfb\x37\x8c\x8e\xf1\x46\xbe\x00",
-    )?;
-    has_hmac(
-        &rt,
-        alloc,
-        b"Jefe",
-        b"what do ya want for nothing?",
-        b"\xef\xfc\xdf\x6a\xe5\xeb\x2f\xa2\xd2\x74\x16\xd5\xf1\x84\xdf\x9c\x25\x9a\x7c\x79",
-    )?;
-    has_hmac(
-        &rt,
-        alloc,
-        &[0xaa; 80],
-        b"Test Using Larger Than Block-Size Key - Hash Key First",
-        b"\xaa\x4a\xe5\xe1\x52\x72\xd0\x0e\x95\x70\x56\x37\xce\x8a\x3b\x55\xed\x40\x21\x12",
-    )?;
-    Ok(())
-}
 
 #[test]
 fn usage_rows(rt: HostRuntime) -> Result<(), Fail> {
