@@ -13,9 +13,7 @@ use krb_types::data_types::{
     AuthorizationData, AuthorizationDataInner, EncryptedData, EncryptionKey, HostAddress,
     HostAddresses, KerberosStringAsn1, KerberosTime, PrincipalName, TransitedEncoding,
 };
-use std::alloc::{AllocError, Global};
 use std::process::Abort;
-use std::test::Fail;
 
 /// An EncTicketPart with no optional field.
 const TICKET_PART: [u8; 128] =
@@ -35,15 +33,12 @@ fn refusal<T>(outcome: &Result<T, Asn1DerError>) -> &'static str {
 
 /// Compares the encoding of a value with these octets, and the value read from them with it; a proper front of them is
 /// cut short, and with an octet behind them they are invalid.
-fn both_ways<T: Der + PartialEq + Drop>(
-    rt: &impl Abort,
-    alloc: Global,
-    value: &T,
-    octets: &[u8],
-) -> Result<(), Fail> {
-    assert_eq!(rt; to_vec(alloc, value)?.as_slice(), octets);
-    let read = from_bytes::<T>(alloc, octets)?;
-    assert!(rt; read == *value);
+fn both_ways<T: Der + PartialEq + Drop>(rt: &(impl Abort + AllocGlobal), value: T, octets: &[u8]) {
+    let alloc = rt.alloc();
+    let written = to_vec(alloc, &value).expect(rt, "memory");
+    assert_eq!(rt; written.as_slice(), octets);
+    let read = from_bytes::<T>(alloc, octets).expect(rt, "an encoding");
+    assert!(rt; read == value);
     for n in 0..octets.len() {
         assert_eq!(rt;
             refusal(&from_bytes::<T>(alloc, &octets[..n])),
@@ -51,304 +46,286 @@ fn both_ways<T: Der + PartialEq + Drop>(
             "front of {n}"
         );
     }
-    let mut more = Vec::from_slice(alloc, octets)?;
-    more.push(0)?;
+    let more = joined(rt, &[octets, b"\x00"]);
     assert_eq!(rt; refusal(&from_bytes::<T>(alloc, &more)), "InvalidData");
-    let (front, taken) = T::read(alloc, &more)?;
-    assert!(rt; front == *value);
+    let (front, taken) = T::read(alloc, &more).expect(rt, "an encoding");
+    assert!(rt; front == value);
     assert_eq!(rt; taken, octets.len());
-    Ok(())
+}
+
+/// Octets that are refused as this type are invalid.
+fn invalid<T: Der + Drop>(rt: &(impl Abort + AllocGlobal), octets: &[u8]) {
+    assert_eq!(rt;
+        refusal(&from_bytes::<T>(rt.alloc(), octets)),
+        "InvalidData"
+    );
 }
 
 /// These octets, one after another.
-fn joined(alloc: Global, parts: &[&[u8]]) -> Result<Vec<u8>, AllocError> {
-    let mut octets = Vec::new(alloc);
+fn joined(rt: &(impl Abort + AllocGlobal), parts: &[&[u8]]) -> Vec<u8> {
+    let mut octets = Vec::new(rt.alloc());
     for part in parts {
-        octets.extend_from_slice(part)?;
+        octets.extend_from_slice(part).expect(rt, "memory");
     }
-    Ok(octets)
+    octets
 }
 
-fn number(alloc: Global, n: u8) -> Result<IntegerAsn1, Asn1DerError> {
-    IntegerAsn1::from_bytes_be_unsigned(alloc, vec![in alloc; n]?)
+fn vector(rt: &(impl Abort + AllocGlobal), octets: &[u8]) -> Vec<u8> {
+    Vec::from_slice(rt.alloc(), octets).expect(rt, "memory")
 }
 
-fn text(alloc: Global, text: &str) -> Result<KerberosStringAsn1, Asn1DerError> {
-    KerberosStringAsn1::from_string(String::from_str(alloc, text)?)
+fn number(rt: &(impl Abort + AllocGlobal), octets: &[u8]) -> IntegerAsn1 {
+    IntegerAsn1::from_bytes_be_unsigned(rt.alloc(), vector(rt, octets)).expect(rt, "a number")
 }
 
-fn octets(alloc: Global, octets: &[u8]) -> Result<OctetStringAsn1, Asn1DerError> {
-    Ok(OctetStringAsn1(Vec::from_slice(alloc, octets)?))
+fn text(rt: &(impl Abort + AllocGlobal), text: &str) -> KerberosStringAsn1 {
+    let text = String::from_str(rt.alloc(), text).expect(rt, "memory");
+    KerberosStringAsn1::from_string(text).expect(rt, "a text")
 }
 
-fn name(alloc: Global, kind: u8, parts: &[&str]) -> Result<PrincipalName, Asn1DerError> {
-    let mut components = Vec::new(alloc);
+fn octets(rt: &(impl Abort + AllocGlobal), octets: &[u8]) -> OctetStringAsn1 {
+    OctetStringAsn1(vector(rt, octets))
+}
+
+/// The time of this day and hour.
+fn at(
+    rt: &impl Abort,
+    (year, month, day): (u16, u8, u8),
+    (hour, minute, second): (u8, u8, u8),
+) -> KerberosTime {
+    KerberosTime::new(year, month, day, hour, minute, second).expect(rt, "a time")
+}
+
+fn name(rt: &(impl Abort + AllocGlobal), kind: u8, parts: &[&str]) -> PrincipalName {
+    let mut components = Vec::new(rt.alloc());
     for part in parts {
-        components.push(text(alloc, part)?)?;
+        components.push(text(rt, part)).expect(rt, "memory");
     }
-    Ok(PrincipalName {
-        name_type: ExplicitContextTag0::from(number(alloc, kind)?),
+    PrincipalName {
+        name_type: ExplicitContextTag0::from(number(rt, &[kind])),
         name_string: ExplicitContextTag1::from(Asn1SequenceOf(components)),
-    })
+    }
 }
 
-fn addresses(alloc: Global) -> Result<HostAddresses, Asn1DerError> {
-    Ok(Asn1SequenceOf(vec![in alloc;
+/// A list of one.
+fn list_of<T: Drop>(rt: &(impl Abort + AllocGlobal), item: T) -> Asn1SequenceOf<T> {
+    let mut items = Vec::new(rt.alloc());
+    items.push(item).expect(rt, "memory");
+    Asn1SequenceOf(items)
+}
+
+fn addresses(rt: &(impl Abort + AllocGlobal)) -> HostAddresses {
+    list_of(
+        rt,
         HostAddress {
-            addr_type: ExplicitContextTag0::from(number(alloc, 2)?),
-            address: ExplicitContextTag1::from(octets(alloc, &[192, 0, 2, 1])?),
+            addr_type: ExplicitContextTag0::from(number(rt, &[2])),
+            address: ExplicitContextTag1::from(octets(rt, &[192, 0, 2, 1])),
         },
-    ]?))
+    )
 }
 
-fn authorization_data(alloc: Global) -> Result<AuthorizationData, Asn1DerError> {
-    Ok(Asn1SequenceOf(vec![in alloc;
+fn authorization_data(rt: &(impl Abort + AllocGlobal)) -> AuthorizationData {
+    list_of(
+        rt,
         AuthorizationDataInner {
-            ad_type: ExplicitContextTag0::from(number(alloc, 1)?),
-            ad_data: ExplicitContextTag1::from(octets(alloc, &[0xbe, 0xef])?),
+            ad_type: ExplicitContextTag0::from(number(rt, &[1])),
+            ad_data: ExplicitContextTag1::from(octets(rt, &[0xbe, 0xef])),
         },
-    ]?))
+    )
 }
 
-/// The part of `TICKET_PART` but for its optional fields.
-#[derive(Drop)]
-struct Mandatory {
-    flags: BitStringAsn1,
-    key: EncryptionKey,
-    crealm: KerberosStringAsn1,
-    cname: PrincipalName,
-    transited: TransitedEncoding,
-    auth_time: KerberosTime,
-    endtime: KerberosTime,
-}
-
-fn key(alloc: Global) -> Result<EncryptionKey, Asn1DerError> {
-    Ok(EncryptionKey {
-        key_type: ExplicitContextTag0::from(number(alloc, 17)?),
+fn key(rt: &(impl Abort + AllocGlobal)) -> EncryptionKey {
+    EncryptionKey {
+        key_type: ExplicitContextTag0::from(number(rt, &[17])),
         key_value: ExplicitContextTag1::from(octets(
-            alloc,
+            rt,
             &[0, 1, 2, 3, 4, 5, 6, 7, 8, 9, 10, 11, 12, 13, 14, 15],
-        )?),
-    })
+        )),
+    }
 }
 
-fn transited(alloc: Global) -> Result<TransitedEncoding, Asn1DerError> {
-    Ok(TransitedEncoding {
-        tr_type: ExplicitContextTag0::from(number(alloc, 1)?),
-        contents: ExplicitContextTag1::from(octets(alloc, &[])?),
-    })
-}
-
-fn mandatory_parts(alloc: Global) -> Result<Mandatory, Asn1DerError> {
-    Ok(Mandatory {
-        flags: BitStringAsn1::with_bytes(vec![in alloc; 0; 4]?),
-        key: key(alloc)?,
-        crealm: text(alloc, "EXAMPLE.COM")?,
-        cname: name(alloc, 1, &["test1"])?,
-        transited: transited(alloc)?,
-        auth_time: KerberosTime::new(2021, 12, 31, 0, 0, 0)?,
-        endtime: KerberosTime::new(2021, 12, 31, 10, 0, 0)?,
-    })
+fn transited(rt: &(impl Abort + AllocGlobal)) -> TransitedEncoding {
+    TransitedEncoding {
+        tr_type: ExplicitContextTag0::from(number(rt, &[1])),
+        contents: ExplicitContextTag1::from(octets(rt, &[])),
+    }
 }
 
 /// The optional fields.
 #[derive(Drop)]
 struct Options {
-    starttime: Optional<Option<ExplicitContextTag6<KerberosTime>>>,
-    renew_till: Optional<Option<ExplicitContextTag8<KerberosTime>>>,
-    caddr: Optional<Option<ExplicitContextTag9<HostAddresses>>>,
-    authorization_data: Optional<Option<ExplicitContextTag10<AuthorizationData>>>,
-}
-
-fn no_options() -> Options {
-    Options {
-        starttime: Optional(None),
-        renew_till: Optional(None),
-        caddr: Optional(None),
-        authorization_data: Optional(None),
-    }
-}
-
-fn only_start(start: KerberosTime) -> Options {
-    Options {
-        starttime: Optional(Some(ExplicitContextTag6::from(start))),
-        renew_till: Optional(None),
-        caddr: Optional(None),
-        authorization_data: Optional(None),
-    }
-}
-
-fn all_options(
-    start: KerberosTime,
-    end: KerberosTime,
-    caddr: HostAddresses,
-    data: AuthorizationData,
-) -> Options {
-    Options {
-        starttime: Optional(Some(ExplicitContextTag6::from(start))),
-        renew_till: Optional(Some(ExplicitContextTag8::from(end))),
-        caddr: Optional(Some(ExplicitContextTag9::from(caddr))),
-        authorization_data: Optional(Some(ExplicitContextTag10::from(data))),
-    }
+    starttime: Option<KerberosTime>,
+    renew_till: Option<KerberosTime>,
+    caddr: Option<HostAddresses>,
+    authorization_data: Option<AuthorizationData>,
 }
 
 /// The part of `TICKET_PART`, with these optional fields.
-fn ticket_part(parts: Mandatory, options: Options) -> EncTicketPart {
+fn ticket_part(rt: &(impl Abort + AllocGlobal), options: Options) -> EncTicketPart {
     ApplicationTag(EncTicketPartInner {
-        flags: ExplicitContextTag0::from(parts.flags),
-        key: ExplicitContextTag1::from(parts.key),
-        crealm: ExplicitContextTag2::from(parts.crealm),
-        cname: ExplicitContextTag3::from(parts.cname),
-        transited: ExplicitContextTag4::from(parts.transited),
-        auth_time: ExplicitContextTag5::from(parts.auth_time),
-        starttime: options.starttime,
-        endtime: ExplicitContextTag7::from(parts.endtime),
-        renew_till: options.renew_till,
-        caddr: options.caddr,
-        authorization_data: options.authorization_data,
+        flags: ExplicitContextTag0::from(BitStringAsn1::with_bytes(vector(rt, &[0; 4]))),
+        key: ExplicitContextTag1::from(key(rt)),
+        crealm: ExplicitContextTag2::from(text(rt, "EXAMPLE.COM")),
+        cname: ExplicitContextTag3::from(name(rt, 1, &["test1"])),
+        transited: ExplicitContextTag4::from(transited(rt)),
+        auth_time: ExplicitContextTag5::from(at(rt, (2021, 12, 31), (0, 0, 0))),
+        starttime: Optional(
+            options
+                .starttime
+                .map(|time| ExplicitContextTag6::from(time)),
+        ),
+        endtime: ExplicitContextTag7::from(at(rt, (2021, 12, 31), (10, 0, 0))),
+        renew_till: Optional(
+            options
+                .renew_till
+                .map(|time| ExplicitContextTag8::from(time)),
+        ),
+        caddr: Optional(options.caddr.map(|list| ExplicitContextTag9::from(list))),
+        authorization_data: Optional(
+            options
+                .authorization_data
+                .map(|list| ExplicitContextTag10::from(list)),
+        ),
     })
 }
 
-#[test]
-fn pac_request(rt: HostRuntime) -> Result<(), Fail> {
-    let alloc = rt.alloc();
-    let asked = KerbPaPacRequest {
-        include_pac: ExplicitContextTag0::from(true),
-    };
-    both_ways(&rt, alloc, &asked, b"\x30\x05\xa0\x03\x01\x01\xff")?;
-    let not_asked = KerbPaPacRequest {
-        include_pac: ExplicitContextTag0::from(false),
-    };
-    both_ways(&rt, alloc, &not_asked, b"\x30\x05\xa0\x03\x01\x01\x00")?;
-    assert!(rt; asked.clone()? == asked);
-    let one_for_true = from_bytes::<KerbPaPacRequest>(alloc, b"\x30\x05\xa0\x03\x01\x01\x01");
-    assert_eq!(rt; refusal(&one_for_true), "InvalidData");
-    Ok(())
+fn asking(include: bool) -> KerbPaPacRequest {
+    KerbPaPacRequest {
+        include_pac: ExplicitContextTag0::from(include),
+    }
 }
 
 #[test]
-fn principal_name(rt: HostRuntime) -> Result<(), Fail> {
-    let alloc = rt.alloc();
-    let krbtgt = name(alloc, 1, &["krbtgt", "EXAMPLE.COM"])?;
+fn pac_request(rt: HostRuntime) {
+    both_ways(&rt, asking(true), b"\x30\x05\xa0\x03\x01\x01\xff");
+    both_ways(&rt, asking(false), b"\x30\x05\xa0\x03\x01\x01\x00");
+    assert!(rt; asking(true).clone().expect(&rt, "memory") == asking(true));
+    invalid::<KerbPaPacRequest>(&rt, b"\x30\x05\xa0\x03\x01\x01\x01");
+}
+
+#[test]
+fn principal_name(rt: HostRuntime) {
     both_ways(
         &rt,
-        alloc,
-        &krbtgt,
+        name(&rt, 1, &["krbtgt", "EXAMPLE.COM"]),
         b"\x30\x1e\xa0\x03\x02\x01\x01\xa1\x17\x30\x15\x1b\x06krbtgt\x1b\x0bEXAMPLE.COM",
+    );
+}
+
+fn enciphered(rt: &(impl Abort + AllocGlobal), kvno: Option<IntegerAsn1>) -> EncryptedData {
+    EncryptedData {
+        etype: ExplicitContextTag0::from(number(rt, &[18])),
+        kvno: Optional(kvno.map(|number| ExplicitContextTag1::from(number))),
+        cipher: ExplicitContextTag2::from(octets(rt, &[0xde, 0xad])),
+    }
+}
+
+#[test]
+fn encrypted_data(rt: HostRuntime) {
+    both_ways(
+        &rt,
+        enciphered(&rt, None),
+        b"\x30\x0b\xa0\x03\x02\x01\x12\xa2\x04\x04\x02\xde\xad",
+    );
+    both_ways(
+        &rt,
+        enciphered(&rt, Some(number(&rt, &[3]))),
+        b"\x30\x10\xa0\x03\x02\x01\x12\xa1\x03\x02\x01\x03\xa2\x04\x04\x02\xde\xad",
+    );
+    invalid::<EncryptedData>(
+        &rt,
+        b"\x30\x81\x0b\xa0\x03\x02\x01\x12\xa2\x04\x04\x02\xde\xad",
+    );
+}
+
+fn stamp(time: KerberosTime, microseconds: Option<IntegerAsn1>) -> PaEncTsEnc {
+    PaEncTsEnc {
+        patimestamp: ExplicitContextTag0::from(time),
+        pausec: Optional(microseconds.map(|number| ExplicitContextTag1::from(number))),
+    }
+}
+
+#[test]
+fn time_stamp(rt: HostRuntime) {
+    both_ways(
+        &rt,
+        stamp(at(&rt, (2021, 12, 31), (23, 59, 59)), None),
+        b"\x30\x13\xa0\x11\x18\x0f20211231235959Z",
+    );
+    // 0x0aa754, as MIT Kerberos writes it
+    let microseconds = number(&rt, &[0x0a, 0xa7, 0x54]);
+    assert_eq!(rt; microseconds.to_u32(), Some(698_196));
+    both_ways(
+        &rt,
+        stamp(at(&rt, (2026, 11, 22), (6, 55, 2)), Some(microseconds)),
+        b"\x30\x1a\xa0\x11\x18\x0f20261122065502Z\xa1\x05\x02\x03\x0a\xa7\x54",
+    );
+}
+
+#[test]
+fn leap_years(rt: HostRuntime) {
+    invalid::<PaEncTsEnc>(&rt, b"\x30\x13\xa0\x11\x18\x0f20210229235959Z");
+    let leap_year: PaEncTsEnc = from_bytes(
+        rt.alloc(),
+        b"\x30\x13\xa0\x11\x18\x0f20240229235959Z",
+    ).expect(&rt, "a stamp");
+    let time = &leap_year.patimestamp.0;
+    assert_eq!(rt; (time.year(), time.month(), time.day()), (2024, 2, 29));
+    assert_eq!(rt; (time.hour(), time.minute(), time.second()), (23, 59, 59));
+    assert!(rt; time.clone().expect(&rt, "memory") == *time);
+}
+
+#[test]
+fn enc_ticket_part(rt: HostRuntime) {
+    let options = Options {
+        starttime: None,
+        renew_till: None,
+        caddr: None,
+        authorization_data: None,
+    };
+    both_ways(&rt, ticket_part(&rt, options), &TICKET_PART);
+}
+
+/// The octets of `TICKET_PART` with these in front, the start of the hour behind the first time, and these behind all.
+fn with_a_start(rt: &(impl Abort + AllocGlobal), front: &[u8], behind: &[u8]) -> Vec<u8> {
+    let start = b"\xa6\x11\x18\x0f20211231010000Z";
+    joined(
+        rt,
+        &[
+            front,
+            &TICKET_PART[4..109],
+            start,
+            &TICKET_PART[109..],
+            behind,
+        ],
     )
 }
 
 #[test]
-fn encrypted_data(rt: HostRuntime) -> Result<(), Fail> {
-    let alloc = rt.alloc();
-    let mut data = EncryptedData {
-        etype: ExplicitContextTag0::from(number(alloc, 18)?),
-        kvno: Optional(None),
-        cipher: ExplicitContextTag2::from(octets(alloc, &[0xde, 0xad])?),
-    };
-    both_ways(
-        &rt,
-        alloc,
-        &data,
-        b"\x30\x0b\xa0\x03\x02\x01\x12\xa2\x04\x04\x02\xde\xad",
-    )?;
-    data.kvno = Optional(Some(ExplicitContextTag1::from(number(alloc, 3)?)));
-    both_ways(
-        &rt,
-        alloc,
-        &data,
-        b"\x30\x10\xa0\x03\x02\x01\x12\xa1\x03\x02\x01\x03\xa2\x04\x04\x02\xde\xad",
-    )?;
-    let needless_length = from_bytes::<EncryptedData>(
-        alloc,
-        b"\x30\x81\x0b\xa0\x03\x02\x01\x12\xa2\x04\x04\x02\xde\xad",
-    );
-    assert_eq!(rt; refusal(&needless_length), "InvalidData");
-    Ok(())
-}
-
-#[test]
-fn time_stamp(rt: HostRuntime) -> Result<(), Fail> {
-    let alloc = rt.alloc();
-    let stamp = PaEncTsEnc {
-        patimestamp: ExplicitContextTag0::from(KerberosTime::new(2021, 12, 31, 23, 59, 59)?),
-        pausec: Optional(None),
-    };
-    both_ways(
-        &rt,
-        alloc,
-        &stamp,
-        b"\x30\x13\xa0\x11\x18\x0f20211231235959Z",
-    )?;
-    // 0x0aa754, as MIT Kerberos writes it
-    let microseconds = IntegerAsn1::from_bytes_be_unsigned(
-        alloc,
-        [0x0a, 0xa7, 0x54].to_vec(alloc)?,
-    )?;
-    assert_eq!(rt; microseconds.to_u32(), Some(698_196));
-    let stamp = PaEncTsEnc {
-        patimestamp: ExplicitContextTag0::from(KerberosTime::new(2026, 11, 22, 6, 55, 2)?),
-        pausec: Optional(Some(ExplicitContextTag1::from(microseconds))),
-    };
-    both_ways(
-        &rt,
-        alloc,
-        &stamp,
-        b"\x30\x1a\xa0\x11\x18\x0f20261122065502Z\xa1\x05\x02\x03\x0a\xa7\x54",
-    )?;
-    let no_leap_year = from_bytes::<PaEncTsEnc>(alloc, b"\x30\x13\xa0\x11\x18\x0f20210229235959Z");
-    assert_eq!(rt; refusal(&no_leap_year), "InvalidData");
-    let leap_year = from_bytes::<PaEncTsEnc>(alloc, b"\x30\x13\xa0\x11\x18\x0f20240229235959Z")?;
-    let time = &leap_year.patimestamp.0;
-    assert_eq!(rt; (time.year(), time.month(), time.day()), (2024, 2, 29));
-    assert_eq!(rt; (time.hour(), time.minute(), time.second()), (23, 59, 59));
-    assert!(rt; time.clone()? == *time);
-    Ok(())
-}
-
-#[test]
-fn enc_ticket_part(rt: HostRuntime) -> Result<(), Fail> {
-    let alloc = rt.alloc();
-    let part = ticket_part(mandatory_parts(alloc)?, no_options());
-    both_ways(&rt, alloc, &part, &TICKET_PART)
-}
-
-#[test]
-fn enc_ticket_part_with_a_start(rt: HostRuntime) -> Result<(), Fail> {
-    let alloc = rt.alloc();
-    let octets = joined(
-        alloc,
-        &[
-            b"\x63\x81\x92\x30\x81\x8f",
-            &TICKET_PART[4..109],
-            b"\xa6\x11\x18\x0f20211231010000Z",
-            &TICKET_PART[109..],
-        ],
-    )?;
+fn enc_ticket_part_with_a_start(rt: HostRuntime) {
+    let octets = with_a_start(&rt, b"\x63\x81\x92\x30\x81\x8f", &[]);
     assert_eq!(rt; octets.len(), 149);
-    let options = only_start(KerberosTime::new(2021, 12, 31, 1, 0, 0)?);
-    let part = ticket_part(mandatory_parts(alloc)?, options);
-    both_ways(&rt, alloc, &part, &octets)
+    let options = Options {
+        starttime: Some(at(&rt, (2021, 12, 31), (1, 0, 0))),
+        renew_till: None,
+        caddr: None,
+        authorization_data: None,
+    };
+    both_ways(&rt, ticket_part(&rt, options), &octets);
 }
 
+/// The optional fields behind the times.
+const OPTIONS: [u8; 55] =
+    *b"\xa8\x11\x18\x0f20220107000000Z\xa9\x11\x30\x0f\x30\x0d\xa0\x03\x02\x01\x02\xa1\x06\x04\x04\xc0\x00\x02\x01\xaa\x0f\x30\x0d\x30\x0b\xa0\x03\x02\x01\x01\xa1\x04\x04\x02\xbe\xef";
+
 #[test]
-fn enc_ticket_part_with_all_options(rt: HostRuntime) -> Result<(), Fail> {
-    let alloc = rt.alloc();
-    let octets = joined(
-        alloc,
-        &[
-            b"\x63\x81\xc9\x30\x81\xc6",
-            &TICKET_PART[4..109],
-            b"\xa6\x11\x18\x0f20211231010000Z",
-            &TICKET_PART[109..],
-            b"\xa8\x11\x18\x0f20220107000000Z",
-            b"\xa9\x11\x30\x0f\x30\x0d\xa0\x03\x02\x01\x02\xa1\x06\x04\x04\xc0\x00\x02\x01",
-            b"\xaa\x0f\x30\x0d\x30\x0b\xa0\x03\x02\x01\x01\xa1\x04\x04\x02\xbe\xef",
-        ],
-    )?;
-    let start = KerberosTime::new(2021, 12, 31, 1, 0, 0)?;
-    let end = KerberosTime::new(2022, 1, 7, 0, 0, 0)?;
-    let options = all_options(start, end, addresses(alloc)?, authorization_data(alloc)?);
-    let part = ticket_part(mandatory_parts(alloc)?, options);
-    both_ways(&rt, alloc, &part, &octets)
+fn enc_ticket_part_with_all_options(rt: HostRuntime) {
+    let octets = with_a_start(&rt, b"\x63\x81\xc9\x30\x81\xc6", &OPTIONS);
+    let options = Options {
+        starttime: Some(at(&rt, (2021, 12, 31), (1, 0, 0))),
+        renew_till: Some(at(&rt, (2022, 1, 7), (0, 0, 0))),
+        caddr: Some(addresses(&rt)),
+        authorization_data: Some(authorization_data(&rt)),
+    };
+    both_ways(&rt, ticket_part(&rt, options), &octets);
 }

@@ -6,18 +6,16 @@ use krb_der::{
     copy, from_bytes, from_reader, to_vec, to_writer,
 };
 use krb_types::data_types::{EncryptedData, PrincipalName};
-use std::alloc::Global;
 use std::io;
 use std::io::{ErrorKind, Read, Write};
 use std::process::Abort;
-use std::test::Fail;
 
-/// The name 1, "krbtgt", "EXAMPLE.COM", and an octet that stands behind it.
-const NAME_AND_MORE: [u8; 33] =
-    *b"\x30\x1e\xa0\x03\x02\x01\x01\xa1\x17\x30\x15\x1b\x06krbtgt\x1b\x0bEXAMPLE.COM\x5a";
+/// The name 1, "krbtgt", "EXAMPLE.COM".
+const NAME: [u8; 32] =
+    *b"\x30\x1e\xa0\x03\x02\x01\x01\xa1\x17\x30\x15\x1b\x06krbtgt\x1b\x0bEXAMPLE.COM";
 
-/// The octets of the name.
-const NAME_LENGTH: usize = 32;
+/// An octet that stands behind a value.
+const BEHIND: u8 = 0x5a;
 
 /// A reader of these octets that gives at most `at_once` of them, and fails at its read `fault`, counted from 0.
 #[derive(Drop)]
@@ -88,52 +86,90 @@ fn refusal<T>(outcome: &Result<T, Asn1DerError>) -> &'static str {
     }
 }
 
-#[test]
-fn front_value_alone_is_taken(rt: HostRuntime) -> Result<(), Fail> {
+/// These octets, and one behind them.
+fn and_more(rt: &(impl Abort + AllocGlobal), octets: &[u8]) -> Vec<u8> {
+    let mut more = Vec::from_slice(rt.alloc(), octets).expect(rt, "memory");
+    more.push(BEHIND).expect(rt, "memory");
+    more
+}
+
+/// The value of these octets is read, so many at a time, and what stands behind it is left; a proper front is cut short.
+fn taken<T: Der + PartialEq + Drop>(
+    rt: &(impl Abort + AllocGlobal),
+    octets: &[u8],
+    at_once: usize,
+) {
     let alloc = rt.alloc();
-    let name = from_bytes::<PrincipalName>(alloc, &NAME_AND_MORE[..NAME_LENGTH])?;
-    for at_once in [1, 7, usize::MAX] {
-        let mut reader = giving(&NAME_AND_MORE, at_once);
-        let read: PrincipalName = from_reader(alloc, &mut reader)?;
-        assert!(rt; read == name, "{at_once} at a time");
-        assert_eq!(rt; reader.left, b"\x5a".as_slice());
-        for n in 0..NAME_LENGTH {
-            let mut reader = giving(&NAME_AND_MORE[..n], at_once);
-            let read: Result<PrincipalName, Asn1DerError> = from_reader(alloc, &mut reader);
-            assert_eq!(rt; refusal(&read), "TruncatedData", "front of {n}");
-        }
+    let value: T = from_bytes(alloc, octets).expect(rt, "an encoding");
+    let given = and_more(rt, octets);
+    let mut reader = giving(&given, at_once);
+    let read: T = from_reader(alloc, &mut reader).expect(rt, "an encoding");
+    assert!(rt; read == value, "{at_once} at a time");
+    assert_eq!(rt; reader.left, [BEHIND].as_slice());
+    for n in 0..octets.len() {
+        refused::<T>(rt, &octets[..n], at_once, "TruncatedData");
     }
-    let mut long = b"\x04\x82\x05\x14".to_vec(alloc)?;
-    long.extend_from_slice(&[7; 1301])?;
+}
+
+/// These octets, so many at a time, are refused so.
+fn refused<T: Der + Drop>(
+    rt: &(impl Abort + AllocGlobal),
+    octets: &[u8],
+    at_once: usize,
+    variant: &str,
+) {
+    let mut reader = giving(octets, at_once);
+    let read: Result<T, Asn1DerError> = from_reader(rt.alloc(), &mut reader);
+    assert_eq!(rt; refusal(&read), variant, "of {octets:?}");
+}
+
+#[test]
+fn front_value_alone_is_taken(rt: HostRuntime) {
+    for at_once in [1, 7, usize::MAX] {
+        taken::<PrincipalName>(&rt, &NAME, at_once);
+    }
+}
+
+#[test]
+fn a_long_front_value_is_taken(rt: HostRuntime) {
+    let alloc = rt.alloc();
+    let mut long = b"\x04\x82\x05\x14".to_vec(alloc).expect(&rt, "memory");
+    long.extend_from_slice(&[7; 1301]).expect(&rt, "memory");
     let mut reader = giving(&long, usize::MAX);
-    let read: OctetStringAsn1 = from_reader(alloc, &mut reader)?;
+    let read: OctetStringAsn1 = from_reader(alloc, &mut reader).expect(&rt, "an octet string");
     assert_eq!(rt; read.0.as_slice(), [7; 1300].as_slice());
     assert_eq!(rt; reader.left, b"\x07".as_slice());
-    Ok(())
+}
+
+/// At this read the reader fails once with this kind: the answer is so.
+fn failing<T: Der + Drop>(
+    rt: &(impl Abort + AllocGlobal),
+    given: &[u8],
+    turn: usize,
+    kind: ErrorKind,
+    variant: &str,
+) -> usize {
+    let mut reader = giving(given, 1);
+    reader.fault = Some(turn);
+    reader.kind = kind;
+    let read: Result<T, Asn1DerError> = from_reader(rt.alloc(), &mut reader);
+    assert_eq!(rt; refusal(&read), variant, "at read {turn}");
+    reader.left.len()
 }
 
 /// At each read in turn the reader fails once, or a signal interrupts it.
 #[test]
-fn failing_readers(rt: HostRuntime) -> Result<(), Fail> {
-    let alloc = rt.alloc();
-    for turn in 0..NAME_LENGTH {
-        let mut reader = giving(&NAME_AND_MORE, 1);
-        reader.fault = Some(turn);
-        let read: Result<PrincipalName, Asn1DerError> = from_reader(alloc, &mut reader);
-        assert_eq!(rt; refusal(&read), "Io", "at read {turn}");
-        let mut reader = giving(&NAME_AND_MORE, 1);
-        reader.fault = Some(turn);
-        reader.kind = ErrorKind::Interrupted;
-        let read: Result<PrincipalName, Asn1DerError> = from_reader(alloc, &mut reader);
-        assert_eq!(rt; refusal(&read), "none", "at read {turn}");
-        assert_eq!(rt; reader.left, b"\x5a".as_slice());
+fn failing_readers(rt: HostRuntime) {
+    let given = and_more(&rt, &NAME);
+    for turn in 0..NAME.len() {
+        failing::<PrincipalName>(&rt, &given, turn, ErrorKind::BrokenPipe, "Io");
+        let left = failing::<PrincipalName>(&rt, &given, turn, ErrorKind::Interrupted, "none");
+        assert_eq!(rt; left, 1);
     }
-    Ok(())
 }
 
 #[test]
-fn malformed_octets_by_reader(rt: HostRuntime) -> Result<(), Fail> {
-    let alloc = rt.alloc();
+fn malformed_octets_by_reader(rt: HostRuntime) {
     let rows: [(&[u8], &str); 8] = [
         (b"\x30\x88\xff\xff\xff\xff\xff\xff\xff\xff", "TruncatedData"),
         (
@@ -151,81 +187,101 @@ fn malformed_octets_by_reader(rt: HostRuntime) -> Result<(), Fail> {
         (b"\x30\x05\xa0\x03\x02\x01\x01", "TruncatedData"),
     ];
     for (octets, variant) in rows {
-        for at_once in [1, usize::MAX] {
-            let mut reader = giving(octets, at_once);
-            let read: Result<PrincipalName, Asn1DerError> = from_reader(alloc, &mut reader);
-            assert_eq!(rt; refusal(&read), variant, "of {octets:?}");
-        }
+        refused::<PrincipalName>(&rt, octets, 1, variant);
+        refused::<PrincipalName>(&rt, octets, usize::MAX, variant);
     }
-    Ok(())
 }
 
 /// A length that no octets follow: no memory is taken for it.
 #[test]
 fn claimed_octets_by_reader(rt: HostRuntime) {
-    for at_once in [1, usize::MAX] {
-        let mut reader = giving(b"\x04\x88\xff\xff\xff\xff\xff\xff\xff\xff", at_once);
-        let read: Result<OctetStringAsn1, Asn1DerError> = from_reader(rt.alloc(), &mut reader);
-        assert_eq!(rt; refusal(&read), "TruncatedData");
-    }
+    let claimed = b"\x04\x88\xff\xff\xff\xff\xff\xff\xff\xff";
+    refused::<OctetStringAsn1>(&rt, claimed, 1, "TruncatedData");
+    refused::<OctetStringAsn1>(&rt, claimed, usize::MAX, "TruncatedData");
+}
+
+/// The value of these octets is appended to what a vector holds.
+fn appended<T: Der + Drop>(rt: &(impl Abort + AllocGlobal), octets: &[u8]) {
+    let alloc = rt.alloc();
+    let value: T = from_bytes(alloc, octets).expect(rt, "an encoding");
+    let mut out = [BEHIND].to_vec(alloc).expect(rt, "memory");
+    let count = to_writer(alloc, &value, &mut out).expect(rt, "memory");
+    assert_eq!(rt; count, octets.len());
+    let mut expected = [BEHIND].to_vec(alloc).expect(rt, "memory");
+    expected.extend_from_slice(octets).expect(rt, "memory");
+    assert!(rt; out == expected);
+}
+
+/// A writer with less room than the value wants fails, and is filled; one with as much does not.
+fn into_room<T: Der + Drop>(rt: &(impl Abort + AllocGlobal), octets: &[u8], room: usize) {
+    let alloc = rt.alloc();
+    let value: T = from_bytes(alloc, octets).expect(rt, "an encoding");
+    let mut writer = Full { room };
+    let variant = if room < octets.len() { "Io" } else { "none" };
+    assert_eq!(rt;
+        refusal(&to_writer(alloc, &value, &mut writer)),
+        variant,
+        "room for {room}"
+    );
+    assert_eq!(rt; writer.room, 0);
 }
 
 #[test]
-fn writers(rt: HostRuntime) -> Result<(), Fail> {
-    let alloc = rt.alloc();
-    let name = from_bytes::<PrincipalName>(alloc, &NAME_AND_MORE[..NAME_LENGTH])?;
-    let mut out = [0x5a].to_vec(alloc)?;
-    assert_eq!(rt; to_writer(alloc, &name, &mut out)?, NAME_LENGTH);
-    assert_eq!(rt; out[0], 0x5a);
-    assert_eq!(rt; &out[1..], &NAME_AND_MORE[..NAME_LENGTH]);
-    for room in 0..NAME_LENGTH {
-        let mut writer = Full { room };
-        assert_eq!(rt;
-            refusal(&to_writer(alloc, &name, &mut writer)),
-            "Io",
-            "room for {room}"
-        );
-        assert_eq!(rt; writer.room, 0);
+fn writers(rt: HostRuntime) {
+    appended::<PrincipalName>(&rt, &NAME);
+    for room in 0..=NAME.len() {
+        into_room::<PrincipalName>(&rt, &NAME, room);
     }
-    let mut writer = Full { room: NAME_LENGTH };
-    assert_eq!(rt; to_writer(alloc, &name, &mut writer)?, NAME_LENGTH);
-    Ok(())
+}
+
+/// A copy of the value of these octets is equal, and has the same encoding.
+fn copied<T: Der + PartialEq + Drop>(rt: &(impl Abort + AllocGlobal), octets: &[u8]) {
+    let alloc = rt.alloc();
+    let value: T = from_bytes(alloc, octets).expect(rt, "an encoding");
+    let again = copy(alloc, &value).expect(rt, "memory");
+    assert!(rt; again == value);
+    let written = to_vec(alloc, &again).expect(rt, "memory");
+    assert_eq!(rt; written.as_slice(), octets);
+}
+
+fn has_version(rt: &(impl Abort + AllocGlobal), octets: &[u8]) -> bool {
+    let data: EncryptedData = from_bytes(rt.alloc(), octets).expect(rt, "an encoding");
+    data.kvno.0.is_some()
 }
 
 #[test]
-fn copies(rt: HostRuntime) -> Result<(), Fail> {
-    let alloc = rt.alloc();
-    let with_version =
-        b"\x30\x10\xa0\x03\x02\x01\x12\xa1\x03\x02\x01\x02\xa2\x04\x04\x02\xde\xad".as_slice();
-    let without_version = b"\x30\x0b\xa0\x03\x02\x01\x12\xa2\x04\x04\x02\xde\xad".as_slice();
-    for (octets, has_version) in [(with_version, true), (without_version, false)] {
-        let data = from_bytes::<EncryptedData>(alloc, octets)?;
-        assert_eq!(rt; data.kvno.0.is_some(), has_version);
-        let again = copy(alloc, &data)?;
-        assert!(rt; again == data);
-        assert_eq!(rt; to_vec(alloc, &again)?.as_slice(), octets);
-    }
-    Ok(())
+fn copies(rt: HostRuntime) {
+    let with_version = b"\x30\x10\xa0\x03\x02\x01\x12\xa1\x03\x02\x01\x02\xa2\x04\x04\x02\xde\xad";
+    let without_version = b"\x30\x0b\xa0\x03\x02\x01\x12\xa2\x04\x04\x02\xde\xad";
+    assert!(rt; has_version(&rt, with_version));
+    assert!(rt; !has_version(&rt, without_version));
+    copied::<EncryptedData>(&rt, with_version);
+    copied::<EncryptedData>(&rt, without_version);
 }
 
 /// Compares the encoding of a value with these octets, and the value read from them, at once and octet by octet, with it.
-fn both_ways<T: Der + PartialEq + Drop>(
-    rt: &impl Abort,
-    alloc: Global,
-    value: &T,
-    octets: &[u8],
-) -> Result<(), Fail> {
-    assert_eq!(rt; to_vec(alloc, value)?.as_slice(), octets);
-    assert!(rt; from_bytes::<T>(alloc, octets)? == *value, "{octets:?}");
-    let read: T = from_reader(alloc, &mut giving(octets, 1))?;
-    assert!(rt; read == *value, "{octets:?}");
-    assert!(rt; copy(alloc, value)? == *value, "{octets:?}");
-    Ok(())
+fn both_ways<T: Der + PartialEq + Drop>(rt: &(impl Abort + AllocGlobal), value: T, octets: &[u8]) {
+    let alloc = rt.alloc();
+    let written = to_vec(alloc, &value).expect(rt, "memory");
+    assert_eq!(rt; written.as_slice(), octets);
+    let read: T = from_bytes(alloc, octets).expect(rt, "an encoding");
+    assert!(rt; read == value, "{octets:?}");
+    let read: T = from_reader(alloc, &mut giving(octets, 1)).expect(rt, "an encoding");
+    assert!(rt; read == value, "{octets:?}");
+    assert!(rt;
+        copy(alloc, &value).expect(rt, "memory") == value,
+        "{octets:?}"
+    );
+}
+
+/// These octets are no encoding of this type.
+fn invalid<T: Der + Drop>(rt: &(impl Abort + AllocGlobal), octets: &[u8]) {
+    let read = from_bytes::<T>(rt.alloc(), octets);
+    assert_eq!(rt; refusal(&read), "InvalidData", "{octets:?}");
 }
 
 #[test]
-fn small_numbers_and_texts(rt: HostRuntime) -> Result<(), Fail> {
-    let alloc = rt.alloc();
+fn small_numbers(rt: HostRuntime) {
     let rows: [(u32, &[u8]); 6] = [
         (0, b"\x02\x01\x00"),
         (127, b"\x02\x01\x7f"),
@@ -235,7 +291,7 @@ fn small_numbers_and_texts(rt: HostRuntime) -> Result<(), Fail> {
         (u32::MAX, b"\x02\x05\x00\xff\xff\xff\xff"),
     ];
     for (number, octets) in rows {
-        both_ways(&rt, alloc, &number, octets)?;
+        both_ways::<u32>(&rt, number, octets);
     }
     for octets in [
         b"\x02\x05\x01\x00\x00\x00\x00".as_slice(),
@@ -243,39 +299,36 @@ fn small_numbers_and_texts(rt: HostRuntime) -> Result<(), Fail> {
         b"\x02\x02\x00\x7f",
         b"\x0a\x01\x00",
     ] {
-        assert_eq!(rt;
-            refusal(&from_bytes::<u32>(alloc, octets)),
-            "InvalidData",
-            "{octets:?}"
-        );
+        invalid::<u32>(&rt, octets);
     }
+    both_ways(
+        &rt,
+        ExplicitContextTag11::from(5u32),
+        b"\xab\x03\x02\x01\x05",
+    );
+    both_ways(
+        &rt,
+        ExplicitContextTag12::from(5u32),
+        b"\xac\x03\x02\x01\x05",
+    );
+}
+
+fn utf8(rt: &(impl Abort + AllocGlobal), text: &str) -> Utf8StringAsn1 {
+    Utf8StringAsn1(String::from_str(rt.alloc(), text).expect(rt, "memory"))
+}
+
+#[test]
+fn texts(rt: HostRuntime) {
     let rows: [(&str, &[u8]); 3] = [
         ("", b"\x0c\x00"),
         ("A", b"\x0c\x01\x41"),
         ("\u{e9}", b"\x0c\x02\xc3\xa9"),
     ];
     for (text, octets) in rows {
-        let value = Utf8StringAsn1(String::from_str(alloc, text)?);
-        both_ways(&rt, alloc, &value, octets)?;
-        assert_eq!(rt;
-            from_bytes::<Utf8StringAsn1>(alloc, octets)?.0.as_str(),
-            text
-        );
+        both_ways::<Utf8StringAsn1>(&rt, utf8(&rt, text), octets);
+        let read: Utf8StringAsn1 = from_bytes(rt.alloc(), octets).expect(&rt, "a text");
+        assert_eq!(rt; read.0.as_str(), text);
     }
-    for octets in [b"\x0c\x01\xff".as_slice(), b"\x1b\x01\x41"] {
-        let read = from_bytes::<Utf8StringAsn1>(alloc, octets);
-        assert_eq!(rt; refusal(&read), "InvalidData", "{octets:?}");
-    }
-    both_ways(
-        &rt,
-        alloc,
-        &ExplicitContextTag11::from(5u32),
-        b"\xab\x03\x02\x01\x05",
-    )?;
-    both_ways(
-        &rt,
-        alloc,
-        &ExplicitContextTag12::from(5u32),
-        b"\xac\x03\x02\x01\x05",
-    )
+    invalid::<Utf8StringAsn1>(&rt, b"\x0c\x01\xff");
+    invalid::<Utf8StringAsn1>(&rt, b"\x1b\x01\x41");
 }
