@@ -13,6 +13,7 @@ mod delegation;
 mod dribble;
 mod leaves;
 mod messages;
+mod negotiation;
 mod parts;
 mod pre_authentication;
 mod shared;

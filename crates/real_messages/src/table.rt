@@ -6,6 +6,7 @@ use crate::certificates::{
 use crate::delegation::try_delegated;
 use crate::leaves::{try_leaf, try_tagged};
 use crate::messages::{try_message, try_reply, try_request};
+use crate::negotiation::{try_negotiation, try_token};
 use crate::parts::{try_credentials, try_part};
 use crate::pre_authentication::try_pre_authentication;
 use crate::shared::{try_list, try_shared, try_simple};
@@ -78,6 +79,12 @@ fn try_other(alloc: Global, name: &str, octets: &[u8]) -> Option<Result<Findings
         return Some(found);
     }
     if let Some(found) = try_certificate_reply(alloc, name, octets) {
+        return Some(found);
+    }
+    if let Some(found) = try_negotiation(alloc, name, octets) {
+        return Some(found);
+    }
+    if let Some(found) = try_token(alloc, name, octets) {
         return Some(found);
     }
     try_delegated(alloc, name, octets)
