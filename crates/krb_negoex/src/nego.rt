@@ -112,8 +112,8 @@ impl NegoexMessage for Nego {
 }
 
 impl Nego {
-    /// A message of these parts. The header length is 96, the version 0, and the message's length that of its octets;
-    /// `InvalidInput` where that does not fit 32 bits. What is made has one reading, itself, once it is encoded.
+    /// A message of these parts. The header length is 96, the version 0, and the message's length that of its octets; `InvalidInput` where that does not fit
+    /// 32 bits. What is made has one reading, itself, once it is encoded.
     pub fn new(
         message_type: MessageType,
         conversation_id: Uuid,
