@@ -55,7 +55,7 @@ state_same f g h =
     let e33 = h 3 3 (lit< tt) (lit< tt) in
     cc
 
-octets_at : (xs : List ℕ) → All (λ x. x < 256) xs → IsOctets xs
+pub octets_at : (xs : List ℕ) → All (λ x. x < 256) xs → IsOctets xs
 octets_at xs all i = elim (cases_lt i (length xs)) [
   | inl within ↦ All-get_or (λ x. x < 256) xs i 0 within all
   | inr past ↦ rw (get_or_past xs i 0 past) (lit< tt)
@@ -190,3 +190,17 @@ add_round_key_twice w n s is =
     state_same (λ r c. bit_xor (bit_xor (octet_at s r c) (key r c)) (key r c)) (octet_at s)
     (λ r c hr hc. xor_assoc (octet_at s r c) (key r c) (key r c) ∙ ap (bit_xor (octet_at s r c)) (xor_self (key r c)) ∙ xor_zero_r (octet_at s r c))
     ∙ state_by_octets s is.long
+
+-- ---- columns after InvMixColumns
+
+pub unmix_octet : (s : List ℕ) → IsState s → (r c : ℕ) → r < 4 → c < 4 → column_coefficient unmix_polynomial (column_of s c) r < 256
+unmix_octet s is = column_octet unmix_polynomial s unmix_small is
+
+pub unmix_lt : (a b c d r : ℕ) → a < 256 → b < 256 → c < 256 → d < 256 → r < 4 → column_coefficient unmix_polynomial (a ∷ b ∷ c ∷ d ∷ []) r < 256
+unmix_lt a b c d r ha hb hc hd hr =
+    xor_lt 8 _ _
+    (xor_lt 8 _ _
+    (xor_lt 8 _ _ (times_octet (slice_index unmix_polynomial (r % 4)) a (unmix_small (r % 4) (omega arith)) ha)
+    (times_octet (slice_index unmix_polynomial ((r + 3) % 4)) b (unmix_small ((r + 3) % 4) (omega arith)) hb))
+    (times_octet (slice_index unmix_polynomial ((r + 2) % 4)) c (unmix_small ((r + 2) % 4) (omega arith)) hc))
+    (times_octet (slice_index unmix_polynomial ((r + 1) % 4)) d (unmix_small ((r + 1) % 4) (omega arith)) hd)

@@ -6,6 +6,7 @@ pub mod Polynomial
 pub mod SBox
 pub mod Aes
 pub mod InverseCipher
+pub mod AesWords
 pub mod Size
 pub mod Xor
 pub mod Modes

@@ -1,19 +1,25 @@
 //! The AES block cipher (FIPS 197), for keys of 16 and of 32 octets.
 
 ghost use Rattle.std.specs.Prelude.{◌≡◌, ◌≢◌, ℕ, ◌-◌, ◌*◌, List, length, take, MatchResult};
-ghost use Rattle.krb_block.specs.Aes.{aes_block, IsExpanded};
+ghost use Rattle.krb_block.specs.Aes.{aes_block};
+ghost use Rattle.krb_block.specs.AesWords.{IsKept};
 ghost use Rattle.krb_block.specs.InverseCipher.{aes_undo};
 ghost use Rattle.krb_block.specs.Modes.{AreInverse, IsOctets};
 ghost use Rattle.krb_block.specs.Size.{key_octets};
 
 use crate::block_cipher::BlockCipher;
 use crate::error::{KerberosCryptoError, KerberosCryptoResult};
-use key_expansion::{ROUND_KEYS_SIZE, expand};
-use rounds::{add_round_key, inverse_last_round, inverse_round, last_round, round};
+use crate::octets::are_octets;
+use key_expansion::{ROUND_KEY_WORDS, expand, invert, kept_octets};
+use rounds::{
+    add_round_key, four_inverse_rounds, four_rounds, inverse_last_round, last_round,
+    nine_inverse_rounds, nine_rounds,
+};
 use std::marker::Model;
 
-mod columns;
+mod encrypting_tables;
 mod key_expansion;
+mod opening_tables;
 mod rounds;
 mod tables;
 
@@ -64,19 +70,22 @@ impl AesSize {
     }
 }
 
-/// A key, ready for use: its round keys. As a value it is the key's octets.
+/// A key, ready for use: its octets, and the round keys of the cipher and of its equivalent inverse (FIPS 197, 5.3.5). As a
+/// value it is its octets.
 #[derive(Drop)]
 pub struct AesKey {
-    round_keys: [u8; ROUND_KEYS_SIZE],
+    octets: [u8; AES256_KEY_SIZE],
+    round_keys: [u32; ROUND_KEY_WORDS],
+    inverse_keys: [u32; ROUND_KEY_WORDS],
     rounds: usize,
 }
 
 impl Model for AesKey {
     ghost Value = { List ℕ };
 
-    ghost view = { λ k. take (4 * (k.rounds - 6)) k.round_keys };
+    ghost view = { λ k. take (4 * (k.rounds - 6)) k.octets };
 
-    ghost invariant = { λ k. IsExpanded k.round_keys k.rounds };
+    ghost invariant = { λ k. IsKept k.octets k.round_keys k.inverse_keys k.rounds };
 }
 
 impl AesKey {
@@ -88,9 +97,16 @@ impl AesKey {
         if key.len() != wanted {
             return Err(KerberosCryptoError::KeyLength(key.len(), wanted));
         }
+        let rounds = key.len() / 4 + 6;
+        let round_keys = match size {
+            AesSize::Aes256 => expand::<8>(key),
+            AesSize::Aes128 => expand::<4>(key),
+        };
         Ok(AesKey {
-            round_keys: expand(key),
-            rounds: key.len() / 4 + 6,
+            octets: kept_octets(key),
+            inverse_keys: invert(&round_keys, rounds),
+            round_keys,
+            rounds,
         })
     }
 
@@ -98,13 +114,14 @@ impl AesKey {
     pub fn encrypt_block(&self, block: [u8; AES_BLOCK_SIZE]) -> [u8; AES_BLOCK_SIZE]
         ensures { result ≡ aes_block self.now block }
     {
-        let keys = &self.round_keys[..16 * (self.rounds + 1)];
-        let mut s = add_round_key(keys, 0, block);
-        'rounds: for n in 1..self.rounds {
-            let next = round(keys, n, s);
-            s = next;
+        are_octets(&block);
+        let keys = &self.round_keys;
+        let ninth = nine_rounds(keys, block);
+        if self.rounds == 10 {
+            last_round(keys, 10, ninth)
+        } else {
+            last_round(keys, 14, four_rounds(keys, 10, ninth))
         }
-        last_round(keys, self.rounds, s)
     }
 
     /// The one block that the cipher makes this one of, by the inverse cipher (FIPS 197, 5.3).
@@ -113,13 +130,14 @@ impl AesKey {
         ensures alone { (q : List ℕ) → length q ≡ 16 → IsOctets q → aes_block self.now q ≡ block → q ≡ result }
         ensures value { result ≡ aes_undo self.now block }
     {
-        let keys = &self.round_keys[..16 * (self.rounds + 1)];
-        let mut s = inverse_last_round(keys, self.rounds, block);
-        'rounds: for n in 1..self.rounds {
-            let next = inverse_round(keys, self.rounds - n, s);
-            s = next;
-        }
-        add_round_key(keys, 0, s)
+        are_octets(&block);
+        let keys = &self.inverse_keys;
+        let tenth = if self.rounds == 10 {
+            add_round_key(keys, 10, block)
+        } else {
+            four_inverse_rounds(keys, 13, add_round_key(keys, 14, block))
+        };
+        inverse_last_round(keys, nine_inverse_rounds(keys, tenth))
     }
 
     /// Tells a proof that the two block calls undo each other. It does nothing.

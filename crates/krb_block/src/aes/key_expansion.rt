@@ -1,91 +1,96 @@
-//! The key expansion (FIPS 197, 5.2).
+//! The key expansion (FIPS 197, 5.2), and that of the equivalent inverse cipher (5.3.5), by words.
 
-ghost use Rattle.std.specs.Prelude.{◌≡◌, ◌+◌, ◌*◌, ◌/◌, ◌<◌, ◌≤◌, ◌++◌, length, take};
+ghost use Rattle.std.specs.Prelude.{◌≡◌, ℕ, ◌+◌, ◌*◌, ◌<◌, ◌≤◌, List, length, take, slice_index};
 ghost use Rattle.krb_block.specs.Modes.{IsOctets};
-ghost use Rattle.krb_block.specs.Aes.{sub_word, key_term, next_word, key_expansion, IsKeySize};
+ghost use Rattle.krb_block.specs.Aes.{product_of_columns, word_at, key_term, key_expansion, IsKeySize};
+ghost use Rattle.krb_block.specs.AesWords.{word_of, HasRoundKey, HasInverseKeys};
+ghost use Rattle.krb_block.specs.InverseCipher.{unmix_polynomial};
 
-use super::tables::sub_byte;
+use super::opening_tables::unmixed_column;
+use super::tables::{sub_byte, substituted_column};
 use crate::octets::are_octets;
 
-/// The octets of the round keys of the longer key: 15 of 16 octets.
-pub(super) const ROUND_KEYS_SIZE: usize = 240;
+/// The words of the round keys of the longer key: 15 of 4.
+pub(super) const ROUND_KEY_WORDS: usize = 60;
 
-/// The first octets of Rcon[1] to Rcon[10].
-const ROUND_CONSTANTS: [u8; 10] = [0x01, 0x02, 0x04, 0x08, 0x10, 0x20, 0x40, 0x80, 0x1b, 0x36];
+/// Rcon[1] to Rcon[10].
+const ROUND_CONSTANTS: [u32; 10] = [
+    0x01000000, 0x02000000, 0x04000000, 0x08000000, 0x10000000, 0x20000000, 0x40000000, 0x80000000,
+    0x1b000000, 0x36000000,
+];
 
-/// The round keys of a key of 4 or 8 words, and zeros behind them.
-pub(super) fn expand(key: &[u8]) -> [u8; ROUND_KEYS_SIZE]
-    requires { IsKeySize (length key.now / 4) × (length key.now ≡ 4 * (length key.now / 4)) }
-    ensures keys { take (16 * (length key.now / 4 + 7)) result ≡ key_expansion key.now }
-    ensures front { take (length key.now) result ≡ key.now }
-    ensures octets { IsOctets result }
+/// The words of the round keys of a key of `NK` words, and zeros behind them.
+pub(super) fn expand<const NK: usize>(key: &[u8]) -> [u32; ROUND_KEY_WORDS]
+    requires size { IsKeySize NK }
+    requires whole { length key.now ≡ 4 * NK }
+    ensures { (n : ℕ) → n ≤ NK + 6 → HasRoundKey (key_expansion key.now) result n }
 {
-    let nk = key.len() / 4;
-    let mut w = [0; ROUND_KEYS_SIZE];
-    'copy: for k in 0..key.len() {
-        w[k] = key[k];
+    are_octets(key);
+    let mut w = key_words::<NK>(key);
+    'expand: for i in NK..4 * NK + 28 {
+        w[i] = w[i - NK] ^ key_term::<NK>(i, w[i - 1]);
     }
-    'expand: for n in 0..3 * nk + 28 {
-        let word = next_word(&w, nk, n + nk);
-        put_word(&mut w, 4 * (n + nk), word);
-    }
-    are_octets(&w);
     w
 }
 
-/// Word `i`, from the words before it.
-fn next_word(w: &[u8; ROUND_KEYS_SIZE], nk: usize, i: usize) -> [u8; 4]
-    requires size { IsKeySize nk }
-    requires within { i < 4 * nk + 28 }
-    requires past { nk ≤ i }
-    ensures { result ≡ next_word nk w.now i }
+/// The key's own words, and zeros behind them.
+fn key_words<const NK: usize>(key: &[u8]) -> [u32; ROUND_KEY_WORDS]
+    requires size { IsKeySize NK }
+    requires whole { length key.now ≡ 4 * NK }
+    ensures { (k : ℕ) → k < NK → slice_index result k ≡ word_of (word_at key.now k) }
 {
-    let last = 4 * (i - 1);
-    let [a, b, c, d] = key_term(nk, i, [w[last], w[last + 1], w[last + 2], w[last + 3]]);
-    let first = 4 * (i - nk);
-    [
-        w[first] ^ a,
-        w[first + 1] ^ b,
-        w[first + 2] ^ c,
-        w[first + 3] ^ d,
-    ]
+    let mut w = [0; ROUND_KEY_WORDS];
+    'copy: for i in 0..NK {
+        w[i] = u32::from_be_bytes([key[4 * i], key[4 * i + 1], key[4 * i + 2], key[4 * i + 3]]);
+    }
+    w
 }
 
-/// What word `i` adds to the word `nk` before it, from the word before it.
-fn key_term(nk: usize, i: usize, t: [u8; 4]) -> [u8; 4]
-    requires size { IsKeySize nk }
-    requires within { i < 4 * nk + 28 }
-    requires past { nk ≤ i }
-    ensures { result ≡ key_term nk i t }
+/// What word `i` adds to the word `NK` before it, from the word before it.
+fn key_term<const NK: usize>(i: usize, before: u32) -> u32
+    requires size { IsKeySize NK }
+    requires within { i < 4 * NK + 28 }
+    requires past { NK ≤ i }
+    ensures { (t : List ℕ) → IsOctets t → before ≡ word_of t → result ≡ word_of (key_term NK i t) }
 {
-    if i % nk == 0 {
-        let [a, b, c, d] = sub_word([t[1], t[2], t[3], t[0]]);
-        [a ^ ROUND_CONSTANTS[i / nk - 1], b, c, d]
-    } else if nk == 8 && i % 8 == 4 {
-        sub_word(t)
+    let [a, b, c, d] = before.to_be_bytes();
+    if i % NK == 0 {
+        substituted_column(b, c, d, a) ^ ROUND_CONSTANTS[i / NK - 1]
+    } else if NK == 8 && i % 8 == 4 {
+        substituted_column(a, b, c, d)
     } else {
-        t
+        before
     }
 }
 
-fn sub_word(t: [u8; 4]) -> [u8; 4]
-    ensures { result ≡ sub_word t }
+/// The words of the round keys of the equivalent inverse cipher (5.3.5), from those of the cipher.
+pub(super) fn invert(words: &[u32; ROUND_KEY_WORDS], rounds: usize) -> [u32; ROUND_KEY_WORDS]
+    requires { (1 ≤ rounds) × (rounds ≤ 14) }
+    ensures { (w : List ℕ) → IsOctets w → ((n : ℕ) → n ≤ rounds → HasRoundKey w words.now n) → HasInverseKeys w result rounds }
 {
-    [
-        sub_byte(t[0]),
-        sub_byte(t[1]),
-        sub_byte(t[2]),
-        sub_byte(t[3]),
-    ]
+    let mut inverted = *words;
+    'unmix: for i in 4..4 * rounds {
+        inverted[i] = unmixed(words[i]);
+    }
+    inverted
 }
 
-fn put_word(w: &mut [u8; ROUND_KEYS_SIZE], at: usize, word: [u8; 4])
-    requires { at + 4 ≤ 240 }
-    ensures { take (at + 4) w.new ≡ take at w.old ++ word }
+/// The column of this word after InvMixColumns.
+fn unmixed(word: u32) -> u32
+    ensures { (t : List ℕ) → IsOctets t → word ≡ word_of t → result ≡ word_of (product_of_columns unmix_polynomial t) }
 {
-    let [a, b, c, d] = word;
-    w[at] = a;
-    w[at + 1] = b;
-    w[at + 2] = c;
-    w[at + 3] = d;
+    let [a, b, c, d] = word.to_be_bytes();
+    unmixed_column(sub_byte(a), sub_byte(b), sub_byte(c), sub_byte(d))
+}
+
+/// The octets of a key, and zeros behind them.
+pub(super) fn kept_octets(key: &[u8]) -> [u8; 32]
+    requires { length key.now ≤ 32 }
+    ensures front { take (length key.now) result ≡ key.now }
+    ensures octets { IsOctets result }
+{
+    let mut octets = [0; 32];
+    octets[..key.len()].copy_from_slice(key);
+    are_octets(&octets);
+    octets
 }

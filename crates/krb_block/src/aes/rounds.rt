@@ -1,154 +1,148 @@
-//! The rounds of the cipher and of its inverse (FIPS 197, 5.1, 5.3), on states of 16 octets, column by column.
+//! The rounds of the cipher and of its equivalent inverse (FIPS 197, 5.1, 5.3.5), on states of four words, a column each.
 
-ghost use Rattle.std.specs.Prelude.{◌≡◌, ◌+◌, ◌*◌, ◌≤◌, length};
-ghost use Rattle.krb_block.specs.Aes.{sub_bytes, shift_rows, mix_columns, add_round_key, round, last_round};
-ghost use Rattle.krb_block.specs.InverseCipher.{inverse_sub_bytes, inverse_shift_rows, inverse_mix_columns, inverse_round, inverse_last_round};
+ghost use Rattle.std.specs.Prelude.{◌≡◌, ℕ, ◌+◌, ◌-◌, ◌≤◌, List};
+ghost use Rattle.krb_block.specs.Modes.{IsOctets, IsBlock};
+ghost use Rattle.krb_block.specs.Aes.{add_round_key, round, rounds, last_round};
+ghost use Rattle.krb_block.specs.AesWords.{Holds, HasRoundKey, HasUnmixedKey, inverse_cipher_round, inverse_cipher_rounds, inverse_cipher_last};
 
-use super::columns::{mix_column, unmix_column};
-use super::tables::{inverse_sub_byte, sub_byte};
+use super::encrypting_tables::mixed_column;
+use super::key_expansion::ROUND_KEY_WORDS;
+use super::opening_tables::unmixed_column;
+use super::tables::{substituted_column, unsubstituted_column};
 
-/// Round `n`, with the round keys that `keys` is (5.1).
-pub(super) fn round(keys: &[u8], n: usize, s: [u8; 16]) -> [u8; 16]
-    requires { 16 * n + 16 ≤ length keys.now }
-    ensures { result ≡ round keys.now n s }
+/// AddRoundKey (5.1.4) of a block, with round key `n`.
+pub(super) fn add_round_key(keys: &[u32; ROUND_KEY_WORDS], n: usize, block: [u8; 16]) -> [u32; 4]
+    requires { n ≤ 14 }
+    ensures { (w : List ℕ) → IsOctets w → HasRoundKey w keys.now n → IsBlock 16 block → Holds result (add_round_key w n block) }
 {
-    add_round_key(keys, n, mix_columns(shift_rows(sub_bytes(s))))
-}
-
-/// The last round has no MixColumns (5.1).
-pub(super) fn last_round(keys: &[u8], n: usize, s: [u8; 16]) -> [u8; 16]
-    requires { 16 * n + 16 ≤ length keys.now }
-    ensures { result ≡ last_round keys.now n s }
-{
-    add_round_key(keys, n, shift_rows(sub_bytes(s)))
-}
-
-/// What undoes round `n` (5.3).
-pub(super) fn inverse_round(keys: &[u8], n: usize, s: [u8; 16]) -> [u8; 16]
-    requires { 16 * n + 16 ≤ length keys.now }
-    ensures { result ≡ inverse_round keys.now n s }
-{
-    inverse_sub_bytes(inverse_shift_rows(inverse_mix_columns(add_round_key(keys, n, s))))
-}
-
-/// What undoes the last round (5.3).
-pub(super) fn inverse_last_round(keys: &[u8], n: usize, s: [u8; 16]) -> [u8; 16]
-    requires { 16 * n + 16 ≤ length keys.now }
-    ensures { result ≡ inverse_last_round keys.now n s }
-{
-    inverse_sub_bytes(inverse_shift_rows(add_round_key(keys, n, s)))
-}
-
-/// AddRoundKey (5.1.4), with round key `n`.
-pub(super) fn add_round_key(keys: &[u8], n: usize, s: [u8; 16]) -> [u8; 16]
-    requires { 16 * n + 16 ≤ length keys.now }
-    ensures { result ≡ add_round_key keys.now n s }
-{
-    let at = 16 * n;
     [
-        s[0] ^ keys[at + 0],
-        s[1] ^ keys[at + 1],
-        s[2] ^ keys[at + 2],
-        s[3] ^ keys[at + 3],
-        s[4] ^ keys[at + 4],
-        s[5] ^ keys[at + 5],
-        s[6] ^ keys[at + 6],
-        s[7] ^ keys[at + 7],
-        s[8] ^ keys[at + 8],
-        s[9] ^ keys[at + 9],
-        s[10] ^ keys[at + 10],
-        s[11] ^ keys[at + 11],
-        s[12] ^ keys[at + 12],
-        s[13] ^ keys[at + 13],
-        s[14] ^ keys[at + 14],
-        s[15] ^ keys[at + 15],
+        u32::from_be_bytes([block[0], block[1], block[2], block[3]]) ^ keys[4 * n],
+        u32::from_be_bytes([block[4], block[5], block[6], block[7]]) ^ keys[4 * n + 1],
+        u32::from_be_bytes([block[8], block[9], block[10], block[11]]) ^ keys[4 * n + 2],
+        u32::from_be_bytes([block[12], block[13], block[14], block[15]]) ^ keys[4 * n + 3],
     ]
 }
 
-fn sub_bytes(s: [u8; 16]) -> [u8; 16]
-    ensures { result ≡ sub_bytes s }
+/// The first nine rounds, which each key has.
+pub(super) fn nine_rounds(keys: &[u32; ROUND_KEY_WORDS], block: [u8; 16]) -> [u32; 4]
+    ensures { (w : List ℕ) → IsOctets w → ((n : ℕ) → n ≤ 9 → HasRoundKey w keys.now n) → IsBlock 16 block → Holds result (rounds w block 9) }
 {
+    let fourth = four_rounds(keys, 1, add_round_key(keys, 0, block));
+    round(keys, 9, four_rounds(keys, 5, fourth))
+}
+
+/// Round `n` and the three after it.
+pub(super) fn four_rounds(keys: &[u32; ROUND_KEY_WORDS], n: usize, s: [u32; 4]) -> [u32; 4]
+    requires { n ≤ 11 }
+    ensures { (w st : List ℕ) → IsOctets w → ((i : ℕ) → i ≤ 3 → HasRoundKey w keys.now (n + i)) → Holds s st → Holds result (round w (n + 3) (round w (n + 2) (round w (n + 1) (round w n st)))) }
+{
+    round(
+        keys,
+        n + 3,
+        round(keys, n + 2, round(keys, n + 1, round(keys, n, s))),
+    )
+}
+
+/// Round `n` (5.1).
+fn round(keys: &[u32; ROUND_KEY_WORDS], n: usize, s: [u32; 4]) -> [u32; 4]
+    requires { n ≤ 14 }
+    ensures { (w st : List ℕ) → IsOctets w → HasRoundKey w keys.now n → Holds s st → Holds result (round w n st) }
+{
+    let [a0, a1, a2, a3] = s[0].to_be_bytes();
+    let [b0, b1, b2, b3] = s[1].to_be_bytes();
+    let [c0, c1, c2, c3] = s[2].to_be_bytes();
+    let [d0, d1, d2, d3] = s[3].to_be_bytes();
     [
-        sub_byte(s[0]),
-        sub_byte(s[1]),
-        sub_byte(s[2]),
-        sub_byte(s[3]),
-        sub_byte(s[4]),
-        sub_byte(s[5]),
-        sub_byte(s[6]),
-        sub_byte(s[7]),
-        sub_byte(s[8]),
-        sub_byte(s[9]),
-        sub_byte(s[10]),
-        sub_byte(s[11]),
-        sub_byte(s[12]),
-        sub_byte(s[13]),
-        sub_byte(s[14]),
-        sub_byte(s[15]),
+        mixed_column(a0, b1, c2, d3) ^ keys[4 * n],
+        mixed_column(b0, c1, d2, a3) ^ keys[4 * n + 1],
+        mixed_column(c0, d1, a2, b3) ^ keys[4 * n + 2],
+        mixed_column(d0, a1, b2, c3) ^ keys[4 * n + 3],
     ]
 }
 
-fn shift_rows(s: [u8; 16]) -> [u8; 16]
-    ensures { result ≡ shift_rows s }
+/// The last round, `n`, has no MixColumns (5.1).
+pub(super) fn last_round(keys: &[u32; ROUND_KEY_WORDS], n: usize, s: [u32; 4]) -> [u8; 16]
+    requires { n ≤ 14 }
+    ensures { (w st : List ℕ) → IsOctets w → HasRoundKey w keys.now n → Holds s st → result ≡ last_round w n st }
 {
-    [
-        s[0], s[5], s[10], s[15], s[4], s[9], s[14], s[3], s[8], s[13], s[2], s[7], s[12], s[1],
-        s[6], s[11],
-    ]
+    let [a0, a1, a2, a3] = s[0].to_be_bytes();
+    let [b0, b1, b2, b3] = s[1].to_be_bytes();
+    let [c0, c1, c2, c3] = s[2].to_be_bytes();
+    let [d0, d1, d2, d3] = s[3].to_be_bytes();
+    octets_of([
+        substituted_column(a0, b1, c2, d3) ^ keys[4 * n],
+        substituted_column(b0, c1, d2, a3) ^ keys[4 * n + 1],
+        substituted_column(c0, d1, a2, b3) ^ keys[4 * n + 2],
+        substituted_column(d0, a1, b2, c3) ^ keys[4 * n + 3],
+    ])
 }
 
-fn mix_columns(s: [u8; 16]) -> [u8; 16]
-    ensures { result ≡ mix_columns s }
+/// The octets of a state.
+fn octets_of(s: [u32; 4]) -> [u8; 16]
+    ensures { (st : List ℕ) → Holds s st → result ≡ st }
 {
-    let [a0, a1, a2, a3] = mix_column([s[0], s[1], s[2], s[3]]);
-    let [b0, b1, b2, b3] = mix_column([s[4], s[5], s[6], s[7]]);
-    let [c0, c1, c2, c3] = mix_column([s[8], s[9], s[10], s[11]]);
-    let [d0, d1, d2, d3] = mix_column([s[12], s[13], s[14], s[15]]);
+    let [a0, a1, a2, a3] = s[0].to_be_bytes();
+    let [b0, b1, b2, b3] = s[1].to_be_bytes();
+    let [c0, c1, c2, c3] = s[2].to_be_bytes();
+    let [d0, d1, d2, d3] = s[3].to_be_bytes();
     [
         a0, a1, a2, a3, b0, b1, b2, b3, c0, c1, c2, c3, d0, d1, d2, d3,
     ]
 }
 
-fn inverse_sub_bytes(s: [u8; 16]) -> [u8; 16]
-    ensures { result ≡ inverse_sub_bytes s }
+/// The nine rounds of the inverse cipher, from round 9 to round 1, which each key has.
+pub(super) fn nine_inverse_rounds(keys: &[u32; ROUND_KEY_WORDS], s: [u32; 4]) -> [u32; 4]
+    ensures { (w st : List ℕ) → IsOctets w → ((n : ℕ) → 1 ≤ n → n ≤ 9 → HasUnmixedKey w keys.now n) → Holds s st → Holds result (inverse_cipher_rounds w st 9) }
 {
+    let fifth = four_inverse_rounds(keys, 8, inverse_round(keys, 9, s));
+    four_inverse_rounds(keys, 4, fifth)
+}
+
+/// Round `n` of the inverse cipher, and the three that come after it, down to `n - 3`.
+pub(super) fn four_inverse_rounds(keys: &[u32; ROUND_KEY_WORDS], n: usize, s: [u32; 4]) -> [u32; 4]
+    requires { (3 ≤ n) × (n ≤ 14) }
+    ensures { (w st : List ℕ) → IsOctets w → ((i : ℕ) → i ≤ 3 → HasUnmixedKey w keys.now (n - i)) → Holds s st → Holds result (inverse_cipher_round w (n - 3) (inverse_cipher_round w (n - 2) (inverse_cipher_round w (n - 1) (inverse_cipher_round w n st)))) }
+{
+    inverse_round(
+        keys,
+        n - 3,
+        inverse_round(
+            keys,
+            n - 2,
+            inverse_round(keys, n - 1, inverse_round(keys, n, s)),
+        ),
+    )
+}
+
+/// Round `n` of the inverse cipher; the round key is unmixed (5.3.5).
+fn inverse_round(keys: &[u32; ROUND_KEY_WORDS], n: usize, s: [u32; 4]) -> [u32; 4]
+    requires { n ≤ 14 }
+    ensures { (w st : List ℕ) → IsOctets w → HasUnmixedKey w keys.now n → Holds s st → Holds result (inverse_cipher_round w n st) }
+{
+    let [a0, a1, a2, a3] = s[0].to_be_bytes();
+    let [b0, b1, b2, b3] = s[1].to_be_bytes();
+    let [c0, c1, c2, c3] = s[2].to_be_bytes();
+    let [d0, d1, d2, d3] = s[3].to_be_bytes();
     [
-        inverse_sub_byte(s[0]),
-        inverse_sub_byte(s[1]),
-        inverse_sub_byte(s[2]),
-        inverse_sub_byte(s[3]),
-        inverse_sub_byte(s[4]),
-        inverse_sub_byte(s[5]),
-        inverse_sub_byte(s[6]),
-        inverse_sub_byte(s[7]),
-        inverse_sub_byte(s[8]),
-        inverse_sub_byte(s[9]),
-        inverse_sub_byte(s[10]),
-        inverse_sub_byte(s[11]),
-        inverse_sub_byte(s[12]),
-        inverse_sub_byte(s[13]),
-        inverse_sub_byte(s[14]),
-        inverse_sub_byte(s[15]),
+        unmixed_column(a0, d1, c2, b3) ^ keys[4 * n],
+        unmixed_column(b0, a1, d2, c3) ^ keys[4 * n + 1],
+        unmixed_column(c0, b1, a2, d3) ^ keys[4 * n + 2],
+        unmixed_column(d0, c1, b2, a3) ^ keys[4 * n + 3],
     ]
 }
 
-fn inverse_shift_rows(s: [u8; 16]) -> [u8; 16]
-    ensures { result ≡ inverse_shift_rows s }
+/// The last round of the inverse cipher has no InvMixColumns (5.3.5).
+pub(super) fn inverse_last_round(keys: &[u32; ROUND_KEY_WORDS], s: [u32; 4]) -> [u8; 16]
+    ensures { (w st : List ℕ) → IsOctets w → HasRoundKey w keys.now 0 → Holds s st → result ≡ inverse_cipher_last w st }
 {
-    [
-        s[0], s[13], s[10], s[7], s[4], s[1], s[14], s[11], s[8], s[5], s[2], s[15], s[12], s[9],
-        s[6], s[3],
-    ]
-}
-
-fn inverse_mix_columns(s: [u8; 16]) -> [u8; 16]
-    ensures { result ≡ inverse_mix_columns s }
-{
-    let [a0, a1, a2, a3] = unmix_column([s[0], s[1], s[2], s[3]]);
-    let [b0, b1, b2, b3] = unmix_column([s[4], s[5], s[6], s[7]]);
-    let [c0, c1, c2, c3] = unmix_column([s[8], s[9], s[10], s[11]]);
-    let [d0, d1, d2, d3] = unmix_column([s[12], s[13], s[14], s[15]]);
-    [
-        a0, a1, a2, a3, b0, b1, b2, b3, c0, c1, c2, c3, d0, d1, d2, d3,
-    ]
+    let [a0, a1, a2, a3] = s[0].to_be_bytes();
+    let [b0, b1, b2, b3] = s[1].to_be_bytes();
+    let [c0, c1, c2, c3] = s[2].to_be_bytes();
+    let [d0, d1, d2, d3] = s[3].to_be_bytes();
+    octets_of([
+        unsubstituted_column(a0, d1, c2, b3) ^ keys[0],
+        unsubstituted_column(b0, a1, d2, c3) ^ keys[1],
+        unsubstituted_column(c0, b1, a2, d3) ^ keys[2],
+        unsubstituted_column(d0, c1, b2, a3) ^ keys[3],
+    ])
 }

@@ -1,8 +1,9 @@
 //! The S-box of FIPS 197 (5.1.1, 5.3.2) and its inverse, as tables.
 
-ghost use Rattle.std.specs.Prelude.{◌≡◌};
+ghost use Rattle.std.specs.Prelude.{◌≡◌, [], ◌∷◌};
 ghost use Rattle.krb_block.specs.SBox.{s_box};
 ghost use Rattle.krb_block.specs.InverseCipher.{inverse_s_box};
+ghost use Rattle.krb_block.specs.AesWords.{word_of};
 
 const S_BOX: [u8; 256] = [
     0x63, 0x7c, 0x77, 0x7b, 0xf2, 0x6b, 0x6f, 0xc5, 0x30, 0x01, 0x67, 0x2b, 0xfe, 0xd7, 0xab, 0x76,
@@ -48,8 +49,27 @@ pub(super) fn sub_byte(x: u8) -> u8
     S_BOX[x as usize]
 }
 
-pub(super) fn inverse_sub_byte(x: u8) -> u8
+/// The column of these octets after SubBytes.
+pub(super) fn substituted_column(a: u8, b: u8, c: u8, d: u8) -> u32
+    ensures { result ≡ word_of (s_box a ∷ s_box b ∷ s_box c ∷ s_box d ∷ []) }
+{
+    u32::from_be_bytes([sub_byte(a), sub_byte(b), sub_byte(c), sub_byte(d)])
+}
+
+fn inverse_sub_byte(x: u8) -> u8
     ensures { result ≡ inverse_s_box x }
 {
     INVERSE_S_BOX[x as usize]
+}
+
+/// The column of these octets after InvSubBytes.
+pub(super) fn unsubstituted_column(a: u8, b: u8, c: u8, d: u8) -> u32
+    ensures { result ≡ word_of (inverse_s_box a ∷ inverse_s_box b ∷ inverse_s_box c ∷ inverse_s_box d ∷ []) }
+{
+    u32::from_be_bytes([
+        inverse_sub_byte(a),
+        inverse_sub_byte(b),
+        inverse_sub_byte(c),
+        inverse_sub_byte(d),
+    ])
 }

@@ -1,18 +1,33 @@
-use Rattle.std.proofs.Common.{◌≡◌, arith, inl, inr}
-use Rattle.krb_block.specs.Aes.{rounds}
-use Rattle.krb_block.proofs.AesExpansion.{rounds_more, cipher_done}
+use Rattle.std.proofs.Common.{◌≡◌, ◌+◌, ℕ, length, ap, sym, ◌∙◌, arith, rules, inl, inr}
+use Rattle.krb_block.specs.Aes.{key_expansion, rounds, cipher}
+use Rattle.krb_block.proofs.AesKeys.{keys_are, expansion_octets, cipher_is}
 use Rattle.krb_block.proofs.aes.AesKey.encrypt_block.Goals as goal
 
-pub rounds-init : goal.rounds-init
+pub returns-then-self-eq10 : goal.returns-then-self-eq10
+returns-then-self-eq10 c =
+    let k = c.self.inside in
+    let v = c.args.self.now in
+    let w = key_expansion v in
+    let ten : k.rounds ≡ 10 = omega arith in
+    let has = keys_are k.octets k.round_keys k.inverse_keys v k.rounds c.self.invariant c.self.told.0 c.self.view_is in
+    let octets = expansion_octets k.octets k.round_keys k.inverse_keys v k.rounds c.self.invariant c.self.told.0 c.self.view_is in
+    let long : length c.args.block ≡ 16 = search rules in
+    c.last_round.ensures w _ octets (has 10 (omega arith)) (c.nine_rounds-ninth.ensures w octets (λ n h. has n (omega arith)) (long, c.are_octets.ensures))
+    ∙ ap (λ (m : ℕ). cipher w m c.args.block) (sym ten)
+    ∙ sym (cipher_is k.octets k.round_keys k.inverse_keys v k.rounds c.self.invariant c.self.told.0 c.self.view_is c.args.block)
+
+pub returns-else-self-eq10 : goal.returns-else-self-eq10
 unfolding rounds
-rounds-init c = c.add_round_key-s.ensures
-
-pub rounds-preserved : goal.rounds-preserved
-rounds-preserved c = rounds_more _ c.args.block c.rounds.s c.round-next.result c.rounds.n (omega arith) c.rounds.invariant c.round-next.ensures
-
-pub returns : goal.returns
-returns c =
-    let nr = c.self.inside.rounds in
-    let done : c.rounds.n ≡ nr = elim c.self.invariant.size [ inl e ↦ omega arith | inr e ↦ omega arith ] in
-    cipher_done c.self.inside.round_keys c.args.block c.rounds.s c.last_round.result c.args.self.now nr c.rounds.n
-    c.self.invariant c.self.told c.self.view_is done c.rounds.invariant c.last_round.ensures
+returns-else-self-eq10 c =
+    let k = c.self.inside in
+    let v = c.args.self.now in
+    let w = key_expansion v in
+    let fourteen : k.rounds ≡ 14 = elim c.self.invariant.size [ inl four ↦ omega arith | inr eight ↦ omega arith ] in
+    let has = keys_are k.octets k.round_keys k.inverse_keys v k.rounds c.self.invariant c.self.told.0 c.self.view_is in
+    let octets = expansion_octets k.octets k.round_keys k.inverse_keys v k.rounds c.self.invariant c.self.told.0 c.self.view_is in
+    let long : length c.args.block ≡ 16 = search rules in
+    c.last_round-else-self-eq10.ensures w _ octets (has 14 (omega arith))
+    (c.four_rounds.ensures w _ octets (λ i h. has (10 + i) (omega arith))
+    (c.nine_rounds-ninth.ensures w octets (λ n h. has n (omega arith)) (long, c.are_octets.ensures)))
+    ∙ ap (λ (m : ℕ). cipher w m c.args.block) (sym fourteen)
+    ∙ sym (cipher_is k.octets k.round_keys k.inverse_keys v k.rounds c.self.invariant c.self.told.0 c.self.view_is c.args.block)
