@@ -18,7 +18,7 @@ IsOctets-word a b c d ha hb hc hd (suc (suc zero)) = hc
 IsOctets-word a b c d ha hb hc hd (suc (suc (suc zero))) = hd
 IsOctets-word a b c d ha hb hc hd (suc (suc (suc (suc i)))) = lit< tt
 
-pub IsOctets-add_words : (t u : List ℕ) → IsOctets t → IsOctets u → IsOctets (add_words t u)
+IsOctets-add_words : (t u : List ℕ) → IsOctets t → IsOctets u → IsOctets (add_words t u)
 IsOctets-add_words t u h g =
     IsOctets-word _ _ _ _ (xor_lt 8 _ _ (h 0) (g 0)) (xor_lt 8 _ _ (h 1) (g 1)) (xor_lt 8 _ _ (h 2) (g 2)) (xor_lt 8 _ _ (h 3) (g 3))
 

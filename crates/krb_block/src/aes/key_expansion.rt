@@ -1,8 +1,8 @@
 //! The key expansion (FIPS 197, 5.2), and that of the equivalent inverse cipher (5.3.5), by words.
 
-ghost use Rattle.std.specs.Prelude.{◌≡◌, ℕ, ◌+◌, ◌*◌, ◌<◌, ◌≤◌, List, length, take, slice_index};
+ghost use Rattle.std.specs.Prelude.{◌≡◌, ℕ, ◌+◌, ◌*◌, ◌<◌, ◌≤◌, List, length, take};
 ghost use Rattle.krb_block.specs.Modes.{IsOctets};
-ghost use Rattle.krb_block.specs.Aes.{product_of_columns, word_at, key_term, key_expansion, IsKeySize};
+ghost use Rattle.krb_block.specs.Aes.{product_of_columns, key_term, key_expansion, IsKeySize};
 ghost use Rattle.krb_block.specs.AesWords.{word_of, HasRoundKey, HasInverseKeys};
 ghost use Rattle.krb_block.specs.InverseCipher.{unmix_polynomial};
 
@@ -26,22 +26,12 @@ pub(super) fn expand<const NK: usize>(key: &[u8]) -> [u32; ROUND_KEY_WORDS]
     ensures { (n : ℕ) → n ≤ NK + 6 → HasRoundKey (key_expansion key.now) result n }
 {
     are_octets(key);
-    let mut w = key_words::<NK>(key);
-    'expand: for i in NK..4 * NK + 28 {
-        w[i] = w[i - NK] ^ key_term::<NK>(i, w[i - 1]);
-    }
-    w
-}
-
-/// The key's own words, and zeros behind them.
-fn key_words<const NK: usize>(key: &[u8]) -> [u32; ROUND_KEY_WORDS]
-    requires size { IsKeySize NK }
-    requires whole { length key.now ≡ 4 * NK }
-    ensures { (k : ℕ) → k < NK → slice_index result k ≡ word_of (word_at key.now k) }
-{
     let mut w = [0; ROUND_KEY_WORDS];
     'copy: for i in 0..NK {
         w[i] = u32::from_be_bytes([key[4 * i], key[4 * i + 1], key[4 * i + 2], key[4 * i + 3]]);
+    }
+    'expand: for i in NK..4 * NK + 28 {
+        w[i] = w[i - NK] ^ key_term::<NK>(i, w[i - 1]);
     }
     w
 }

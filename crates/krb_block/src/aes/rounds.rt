@@ -28,7 +28,8 @@ pub(super) fn nine_rounds(keys: &[u32; ROUND_KEY_WORDS], block: [u8; 16]) -> [u3
     ensures { (w : List ℕ) → IsOctets w → ((n : ℕ) → n ≤ 9 → HasRoundKey w keys.now n) → IsBlock 16 block → Holds result (rounds w block 9) }
 {
     let fourth = four_rounds(keys, 1, add_round_key(keys, 0, block));
-    round(keys, 9, four_rounds(keys, 5, fourth))
+    let eighth = four_rounds(keys, 5, fourth);
+    round(keys, 9, eighth)
 }
 
 /// Round `n` and the three after it.

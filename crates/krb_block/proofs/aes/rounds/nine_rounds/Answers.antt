@@ -6,6 +6,6 @@ pub returns : goal.returns
 unfolding rounds
 returns c = λ w octets has block.
     c.round.ensures w _ octets (has 9 (omega arith))
-    (c.four_rounds.ensures w _ octets (λ i h. has (5 + i) (omega arith))
+    (c.four_rounds-eighth.ensures w _ octets (λ i h. has (5 + i) (omega arith))
     (c.four_rounds-fourth.ensures w _ octets (λ i h. has (1 + i) (omega arith))
     (c.add_round_key.ensures w octets (has 0 (omega arith)) block)))
