@@ -65,7 +65,7 @@ pub(super) fn invert(words: &[u32; ROUND_KEY_WORDS], rounds: usize) -> [u32; ROU
     inverted
 }
 
-/// The column of this word after InvMixColumns.
+/// The column of this word after InvMixColumns. The S-box goes first, since the tables undo it.
 fn unmixed(word: u32) -> u32
     ensures { (t : List ℕ) → IsOctets t → word ≡ word_of t → result ≡ word_of (product_of_columns unmix_polynomial t) }
 {
