@@ -1,6 +1,6 @@
 -- The steps of the loops of `fold_into`.
 use Rattle.std.proofs.Common.{◌≡◌, ℕ, zero, suc, ◌+◌, ◌-◌, ◌*◌, ◌/◌, ◌%◌, ◌<◌, ◌≤◌, ◌≢◌, List, length, replicate, refl, sym, ap, ◌∙◌, arith}
-use Rattle.std.proofs.Math.Nat.{mod-lt, zero-mul, zero-mod}
+use Rattle.std.proofs.Math.Nat.{mod-lt, mod-mod, zero-mul, zero-mod}
 use Rattle.krb_block.specs.Modes.{IsOctets}
 use Rattle.krb_block.specs.Fold.{number, gcd, rot, joined, residue, folded_number}
 use Rattle.krb_block.proofs.FoldWorth.{worth, worth-zero, worth-suc, worth_pos, worth_pow, number_lt, number-nil, number-cons}
@@ -78,16 +78,33 @@ pub number_zeros : (n : ℕ) → number (replicate n 0) ≡ 0
 number_zeros zero = number-nil
 number_zeros (suc n) = rw (number-cons, number_zeros n) (omega arith)
 
--- the place after an octet
-pub place_wraps : (s b e n p q : ℕ) → 0 < s → p ≡ (b * n + e) % s → p + 1 ≡ s → q ≡ 0 → q ≡ (b * n + (e + 1)) % s
-place_wraps s b e n p q pos ep es eq =
-    let at : b * n + (e + 1) ≡ b * n + e + 1 = omega arith in
-    let turn : (b * n + e) % s + 1 ≡ s = omega arith in
-    rw (at, next_turn s (b * n + e) pos turn) eq
+-- the place after an octet, from place a on
+pub place_wraps : (s a e p q : ℕ) → 0 < s → p ≡ (a + e) % s → p + 1 ≡ s → q ≡ 0 → q ≡ (a + (e + 1)) % s
+place_wraps s a e p q pos ep es eq =
+    let at : a + (e + 1) ≡ a + e + 1 = omega arith in
+    let turn : (a + e) % s + 1 ≡ s = omega arith in
+    rw (at, next_turn s (a + e) pos turn) eq
 
-pub place_moves : (s b e n p q : ℕ) → 0 < s → p ≡ (b * n + e) % s → p + 1 ≢ s → q ≡ p + 1 → q ≡ (b * n + (e + 1)) % s
-place_moves s b e n p q pos ep ne eq =
-    let at : b * n + (e + 1) ≡ b * n + e + 1 = omega arith in
-    let lt : (b * n + e) % s < s = mod-lt (b * n + e) pos in
-    let inside : (b * n + e) % s + 1 < s = omega arith in
-    rw (at, next_place s (b * n + e) inside, ← ep) eq
+pub place_moves : (s a e p q : ℕ) → 0 < s → p ≡ (a + e) % s → p + 1 ≢ s → q ≡ p + 1 → q ≡ (a + (e + 1)) % s
+place_moves s a e p q pos ep ne eq =
+    let at : a + (e + 1) ≡ a + e + 1 = omega arith in
+    let lt : (a + e) % s < s = mod-lt (a + e) pos in
+    let inside : (a + e) % s + 1 < s = omega arith in
+    rw (at, next_place s (a + e) inside, ← ep) eq
+
+-- the place where a turn begins
+pub turn_place : (s j p : ℕ) → p ≡ j + j / 8 * 5 + (j % 8) * 5 / 8 → p % s ≡ ((j + 5 * j / 8) % s + 0) % s
+turn_place s j p e =
+    let same : p ≡ j + 5 * j / 8 = omega arith in
+    let none : (j + 5 * j / 8) % s + 0 ≡ (j + 5 * j / 8) % s = omega arith in
+    rw (none, mod-mod) (ap (λ (k : ℕ). k % s) same)
+
+-- the octet above the one at place a
+pub above_last : (n a high : ℕ) → 0 < n → a % n ≡ n - 1 → high ≡ n - 1 → high ≡ n - 1 - (a + 1) % n
+above_last n a high pos ep eh = let z : (a + 1) % n ≡ 0 = next_turn n a pos (omega arith) in omega arith
+
+pub above_inside : (n a high : ℕ) → 0 < n → a % n ≢ n - 1 → high ≡ n - 1 - a % n - 1 → high ≡ n - 1 - (a + 1) % n
+above_inside n a high pos ep eh =
+    let lt : a % n < n = mod-lt a pos in
+    let z : (a + 1) % n ≡ a % n + 1 = next_place n a (omega arith) in
+    omega arith

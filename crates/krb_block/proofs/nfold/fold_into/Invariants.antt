@@ -1,4 +1,4 @@
-use Rattle.std.proofs.Common.{◌≡◌, ◌+◌, ◌-◌, ◌*◌, ◌%◌, ◌≤◌, length}
+use Rattle.std.proofs.Common.{◌≡◌, ◌+◌, ◌-◌, ◌*◌, ◌/◌, ◌%◌, ◌≤◌, length}
 use Rattle.krb_block.specs.Fold.{number, joined, residue}
 use Rattle.krb_block.proofs.FoldWorth.{worth}
 use Rattle.krb_block.proofs.Folding.{Folding}
@@ -12,6 +12,7 @@ invariant-turns l = record {
 
 abbrev pub invariant-octets : goal.invariant-octets
 invariant-octets l = record {
+  from : l.from ≡ ((l.turn + 5 * l.turn / 8) % length l.input + l.e) % length l.input;
   at : l.place ≡ (l.back * length l.input + l.e) % l.size;
   folding : Folding l.size (worth l.size - 1) (joined (number l.input) (8 * length l.input) l.count) (l.back * length l.input + l.e) (number l.sum) l.carry;
 }
