@@ -1,6 +1,7 @@
 -- DES (FIPS 46-3) on lists of bits, each 0 or 1, and triple DES on lists of octets (NIST SP 800-67, 3.1; RFC 3961, 6.3).
 -- Bits are counted from 1, the leftmost first.
-use Rattle.std.specs.Prelude.{◌≡◌, ℕ, zero, suc, ◌+◌, ◌-◌, ◌*◌, ◌/◌, ◌%◌, ◌^◌, List, [], ◌∷◌, ◌++◌, length, take, drop, map, reverse, slice_index, slice_index_or}
+use Rattle.std.specs.Prelude.{◌≡◌, ℕ, zero, suc, ◌+◌, ◌-◌, ◌*◌, ◌/◌, ◌%◌, ◌^◌, ◌==◌, ◌&&◌, nat_le, if◌then◌else◌, List, [], ◌∷◌, ◌++◌, length, take, drop, map, reverse, slice_index, slice_index_or}
+use Rattle.std.specs.Int.{bit_at}
 use Rattle.krb_block.specs.Xor.{xor_lists}
 use Rattle.krb_block.specs.DesTables.{initial_table, final_table, expansion_table, round_table, first_choice, second_choice, turns, s_boxes}
 
@@ -120,6 +121,13 @@ ede3 key p = cipher_octets (third_key key) (plain_octets (second_key key) (ciphe
 -- D(K1, E(K2, D(K3, c)))
 unfoldable pub ede3_undo : List ℕ → List ℕ → List ℕ
 ede3_undo key c = plain_octets (first_key key) (cipher_octets (second_key key) (plain_octets (third_key key) c))
+
+-- ---- bits that change places
+
+-- the place whose bit comes to place k, both from the right, where each bit that the mask names and the one so many places
+-- to its left change places
+abbrev pub exchanged_place : ℕ → ℕ → ℕ → ℕ
+exchanged_place shift mask k = if bit_at mask k == 1 then k + shift else (if nat_le shift k && (bit_at mask (k - shift) == 1) then k - shift else k)
 
 -- ---- what the code keeps
 

@@ -3,14 +3,14 @@
 ghost use Rattle.std.specs.Prelude.{◌≡◌, ◌^◌, ◌<◌, map, reverse};
 ghost use Rattle.krb_block.specs.Des.{bits, round_value, ciphered};
 
-use super::permutation::permute;
-use super::tables::{FINAL, INITIAL, JOINED};
+use super::permutation::{permute_first, permute_last};
+use super::tables::JOINED;
 
 /// The block enciphered with these round keys.
 pub(super) fn encipher(keys: &[u64; 16], block: u64) -> u64
     ensures { bits 64 result ≡ ciphered (map (bits 48) keys.now) (bits 64 block) }
 {
-    let whole = permute(block, 64, &INITIAL);
+    let whole = permute_first(block);
     let mut left = whole >> 32;
     let mut right = whole % (1 << 32);
     'rounds: for n in 0..16 {
@@ -18,7 +18,7 @@ pub(super) fn encipher(keys: &[u64; 16], block: u64) -> u64
         left = right;
         right = next;
     }
-    permute(right * (1 << 32) + left, 64, &FINAL)
+    permute_last(right * (1 << 32) + left)
 }
 
 /// The block deciphered: the round keys are taken from the last to the first.

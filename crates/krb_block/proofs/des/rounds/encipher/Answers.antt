@@ -9,8 +9,8 @@ use Rattle.krb_block.proofs.des.rounds.encipher.Goals as goal
 pub rounds-init : goal.rounds-init
 unfolding initial_table
 rounds-init c = record {
-  value = rounds_start (map (bits 48) c.args.keys.now) c.permute-whole.result (permuted initial_table (bits 64 c.args.block)) c.permute-whole.ensures.value;
-  left_small = omega (arith, c.permute-whole.ensures.small);
+  value = rounds_start (map (bits 48) c.args.keys.now) c.permute_first-whole.result (permuted initial_table (bits 64 c.args.block)) c.permute_first-whole.ensures;
+  left_small = omega (arith, c.permute_first-whole.type_inv);
   right_small = omega arith;
 }
 
@@ -31,4 +31,4 @@ returns c =
     let keys = c.args.keys.now in
     let long : length c.args.keys.now ≡ 16 = search rules in
     let done : length (map (bits 48) c.args.keys.now) ≤ c.rounds.n = omega (arith, length-map keys (bits 48), long) in
-    c.permute.ensures.value ∙ ap (permuted final_table) (rounds_end (map (bits 48) keys) c.rounds.n c.rounds.left c.rounds.right _ c.rounds.invariant.left_small done c.rounds.invariant.value)
+    c.permute_last.ensures ∙ ap (permuted final_table) (rounds_end (map (bits 48) keys) c.rounds.n c.rounds.left c.rounds.right _ c.rounds.invariant.left_small done c.rounds.invariant.value)
