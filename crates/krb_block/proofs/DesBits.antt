@@ -1,7 +1,7 @@
 -- The bits of numbers.
-use Rattle.std.proofs.Common.{◌≡◌, ℕ, zero, suc, ◌+◌, ◌-◌, ◌*◌, ◌/◌, ◌%◌, ◌^◌, ◌<◌, ◌≤◌, true, nat_lt, nat_le, ◌&&◌, List, [], ◌∷◌, ◌++◌, length, take, map, reverse, slice_index, bit_xor, refl, sym, ap, ◌∙◌, arith, add-one, add-zero}
+use Rattle.std.proofs.Common.{◌≡◌, ℕ, zero, suc, ◌+◌, ◌-◌, ◌*◌, ◌/◌, ◌%◌, ◌^◌, ◌<◌, ◌≤◌, true, nat_lt, nat_le, ◌&&◌, List, [], ◌∷◌, ◌++◌, length, take, slice_index, bit_xor, refl, sym, ap, ◌∙◌, arith, add-one, add-zero}
 use Rattle.std.specs.List.{list_all}
-use Rattle.std.proofs.lemmas.List.{length_push, map_more, get_or_append_left, get_or_push, append_assoc, append-nil, same_from_push, reverse-append, map-append}
+use Rattle.std.proofs.lemmas.List.{length_push, map_more, get_or_append_left, get_or_push, append_assoc, append-nil, same_from_push}
 use Rattle.std.proofs.lemmas.List.Sums.{AllPass-from_list_all}
 use Rattle.std.proofs.lemmas.Bool.Decides.{nat_tests}
 use Rattle.std.proofs.lemmas.Nat.{xor_shr, xor_mod}
@@ -87,8 +87,3 @@ same_from_bits (suc w) a b ha hb e =
     let parts : (bits w (a / 2) ≡ bits w (b / 2)) × (a % 2 ≡ b % 2) = same_from_push (bits w (a / 2)) (bits w (b / 2)) (a % 2) (b % 2) (sym (bits-suc w a) ∙ e ∙ bits-suc w b) in
     let half : a / 2 ≡ b / 2 = same_from_bits w (a / 2) (b / 2) (omega (arith, two)) (omega (arith, two)) parts.0 in
     omega (arith, half, parts.1)
-
-pub map_reverse : (f : ℕ → List ℕ) (xs : List ℕ) → map f (reverse xs) ≡ reverse (map f xs)
-map_reverse f [] = refl
-map_reverse f (x ∷ xs) =
-    ap (map f) (reverse-append (x ∷ []) xs) ∙ map-append f (reverse xs) (x ∷ []) ∙ ap (λ (k : List (List ℕ)). k ++ f x ∷ []) (map_reverse f xs) ∙ sym (reverse-append (f x ∷ []) (map f xs))

@@ -1,52 +1,10 @@
--- The groups of six that E makes of a half are six bits of the half between its last bit and its first.
-use Rattle.std.proofs.Common.{◌≡◌, ℕ, zero, suc, ◌+◌, ◌-◌, ◌*◌, ◌/◌, ◌%◌, ◌^◌, ◌<◌, ◌≤◌, List, [], ◌∷◌, ◌++◌, length, take, drop, slice_index, bit_xor, refl, sym, ap, ◌∙◌, arith}
-use Rattle.std.proofs.lemmas.List.{length-take-le, length-drop, take_at, drop_at, drop-drop}
-use Rattle.std.proofs.lemmas.Nat.{xor_mod}
-use Rattle.krb_block.specs.DesTables.{expansion_table}
+-- The groups of six that E makes of a half stand, six in an octet, in the half turned by 3 and the half turned by 31.
+use Rattle.std.proofs.Common.{◌≡◌, ℕ, zero, suc, ◌+◌, ◌-◌, ◌*◌, ◌/◌, ◌%◌, ◌^◌, ◌<◌, List, [], ◌∷◌, ◌++◌, length, take, drop, bit_or, bit_xor, refl, sym, ap, ◌∙◌, arith}
+use Rattle.krb_block.specs.DesTables.{expansion_table, kept_table}
 use Rattle.krb_block.specs.Xor.{xor_lists}
-use Rattle.krb_block.specs.Des.{bits, permuted}
-use Rattle.krb_block.proofs.DesBits.{length-bits, bits-zero, bits-suc, bits-append, bits-push, bits-xor, slice_index-bits}
-use Rattle.krb_block.proofs.DesRounds.{bits-split, bits_window}
-
--- n groups of six, each four further on
-windows : ℕ → List ℕ → List ℕ
-windows zero xs = []
-windows (suc n) xs = take 6 xs ++ windows n (drop 4 xs)
-
-windows_at : (n i : ℕ) (xs : List ℕ) → i < n → 4 * n + 2 ≤ length xs → take 6 (drop (6 * i) (windows n xs)) ≡ take 6 (drop (4 * i) xs)
-unfolding windows
-windows_at zero i xs lt long = absurd (omega arith)
-windows_at (suc n) zero xs lt long = take_at (take 6 xs) (windows n (drop 4 xs)) 6 (length-take-le 6 xs (omega arith))
-windows_at (suc n) (suc i) xs lt long =
-    let six : 6 * suc i ≡ 6 + 6 * i = omega arith in
-    let four : 4 * suc i ≡ 4 + 4 * i = omega arith in
-    let past : drop 6 (take 6 xs ++ windows n (drop 4 xs)) ≡ windows n (drop 4 xs) = drop_at (take 6 xs) (windows n (drop 4 xs)) 6 (length-take-le 6 xs (omega arith)) in
-    let front : drop (6 * suc i) (take 6 xs ++ windows n (drop 4 xs)) ≡ drop (6 * i) (windows n (drop 4 xs)) =
-    ap (λ k. drop k (take 6 xs ++ windows n (drop 4 xs))) six ∙ sym (drop-drop (6 * i) 6 (take 6 xs ++ windows n (drop 4 xs))) ∙ ap (drop (6 * i)) past in
-    let back : drop (4 * i) (drop 4 xs) ≡ drop (4 * suc i) xs = drop-drop (4 * i) 4 xs ∙ ap (λ k. drop k xs) (sym four) in
-    ap (take 6) front ∙ windows_at n i (drop 4 xs) (omega arith) (omega (arith, length-drop 4 xs)) ∙ ap (take 6) back
-
--- a half between its last bit and its first
-abbrev between : ℕ → List ℕ
-between right = slice_index (bits 32 right) 31 ∷ (bits 32 right ++ slice_index (bits 32 right) 0 ∷ [])
-
-expansion_windows : (right : ℕ) → permuted expansion_table (bits 32 right) ≡ windows 8 (between right)
-unfolding bits expansion_table windows
-expansion_windows right = refl
-
--- the same as a number
-abbrev pub widened : ℕ → ℕ
-widened right = (right % 2 * 2 ^ 32 + right % 2 ^ 32) * 2 + right / 2 ^ 31 % 2
-
-bits-widened : (right : ℕ) → bits 34 (widened right) ≡ between right
-bits-widened right =
-    let last : slice_index (bits 32 right) 31 ≡ right % 2 = slice_index-bits 32 right 31 0 refl ∙ omega arith in
-    let first : slice_index (bits 32 right) 0 ≡ right / 2 ^ 31 % 2 = slice_index-bits 32 right 0 31 refl in
-    let low : bits 32 right ≡ bits 32 (right % 2 ^ 32) = bits-split 0 32 right ∙ ap (λ (k : List ℕ). k ++ bits 32 (right % 2 ^ 32)) (bits-zero (right / 2 ^ 32)) in
-    let one : bits 1 (right % 2) ≡ (right % 2) ∷ [] = bits-suc 0 (right % 2) ∙ rw (bits-zero (right % 2 / 2)) (ap (λ k. k ∷ []) (omega arith)) in
-    bits-push 33 (right % 2 * 2 ^ 32 + right % 2 ^ 32) (right / 2 ^ 31 % 2) (omega arith)
-    ∙ ap (λ (k : List ℕ). k ++ (right / 2 ^ 31 % 2) ∷ []) (bits-append 1 32 (right % 2) (right % 2 ^ 32) (omega arith))
-    ∙ rw (one, ← low, last, first) refl
+use Rattle.krb_block.specs.Des.{bits, permuted, turned_left, key_bits}
+use Rattle.krb_block.proofs.DesBits.{length-bits, bits-append, bits-xor}
+use Rattle.krb_block.proofs.DesRounds.{bits_window, turned_is, rotated_is}
 
 take-xor_lists : (n : ℕ) (xs ys : List ℕ) → take n (xor_lists xs ys) ≡ xor_lists (take n xs) (take n ys)
 take-xor_lists zero xs ys = refl
@@ -60,25 +18,91 @@ drop-xor_lists (suc n) [] ys e = refl
 drop-xor_lists (suc n) (x ∷ xs) [] e = absurd (omega arith)
 drop-xor_lists (suc n) (x ∷ xs) (y ∷ ys) e = drop-xor_lists n xs ys (omega arith)
 
+-- six bits from place a on
+abbrev six_from : ℕ → List ℕ → List ℕ
+six_from a xs = take 6 (drop a xs)
+
+six-xor : (a : ℕ) (xs ys : List ℕ) → length xs ≡ length ys → six_from a (xor_lists xs ys) ≡ xor_lists (six_from a xs) (six_from a ys)
+six-xor a xs ys e = ap (take 6) (drop-xor_lists a xs ys e) ∙ take-xor_lists 6 (drop a xs) (drop a ys)
+
+-- ---- the half, turned twice
+
+abbrev both_turned : ℕ → List ℕ
+both_turned right = turned_left 29 (bits 32 right) ++ turned_left 1 (bits 32 right)
+
+expansion_odd : (right i : ℕ) → i < 4 → six_from (12 * i) (permuted expansion_table (bits 32 right)) ≡ six_from (8 * i + 2) (both_turned right)
+unfolding bits expansion_table
+expansion_odd right zero lt = refl
+expansion_odd right (suc zero) lt = refl
+expansion_odd right (suc (suc zero)) lt = refl
+expansion_odd right (suc (suc (suc zero))) lt = refl
+expansion_odd right (suc (suc (suc (suc i)))) lt = absurd (omega arith)
+
+expansion_even : (right i : ℕ) → i < 4 → six_from (12 * i + 6) (permuted expansion_table (bits 32 right)) ≡ six_from (8 * i + 34) (both_turned right)
+unfolding bits expansion_table
+expansion_even right zero lt = refl
+expansion_even right (suc zero) lt = refl
+expansion_even right (suc (suc zero)) lt = refl
+expansion_even right (suc (suc (suc zero))) lt = refl
+expansion_even right (suc (suc (suc (suc i)))) lt = absurd (omega arith)
+
+kept_odd : (key i : ℕ) → i < 4 → six_from (12 * i) (key_bits key) ≡ six_from (8 * i + 2) (bits 64 key)
+unfolding bits kept_table
+kept_odd key zero lt = refl
+kept_odd key (suc zero) lt = refl
+kept_odd key (suc (suc zero)) lt = refl
+kept_odd key (suc (suc (suc zero))) lt = refl
+kept_odd key (suc (suc (suc (suc i)))) lt = absurd (omega arith)
+
+kept_even : (key i : ℕ) → i < 4 → six_from (12 * i + 6) (key_bits key) ≡ six_from (8 * i + 34) (bits 64 key)
+unfolding bits kept_table
+kept_even key zero lt = refl
+kept_even key (suc zero) lt = refl
+kept_even key (suc (suc zero)) lt = refl
+kept_even key (suc (suc (suc zero))) lt = refl
+kept_even key (suc (suc (suc (suc i)))) lt = absurd (omega arith)
+
+-- ---- what a box takes
+
 length-expanded : (xs : List ℕ) → length (permuted expansion_table xs) ≡ 48
 unfolding expansion_table
 length-expanded xs = refl
 
--- the six bits that a box takes
-pub expansion_six : (right key i : ℕ) → i < 8
-    → take 6 (drop (6 * i) (xor_lists (permuted expansion_table (bits 32 right)) (bits 48 key))) ≡ bits 6 (bit_xor (widened right / 2 ^ (28 - 4 * i)) (key / 2 ^ (42 - 6 * i)) % 64)
-expansion_six right key i lt =
-    let wide : List ℕ = permuted expansion_table (bits 32 right) in
-    let w34 : 4 * i + (6 + (28 - 4 * i)) ≡ 34 = omega arith in
-    let w48 : 6 * i + (6 + (42 - 6 * i)) ≡ 48 = omega arith in
-    let long : 4 * 8 + 2 ≤ length (between right) = omega (arith, ap length (sym (bits-widened right)), length-bits 34 (widened right)) in
-    let one : take 6 (drop (6 * i) (permuted expansion_table (bits 32 right))) ≡ bits 6 (widened right / 2 ^ (28 - 4 * i) % 64) =
-    ap (λ (k : List ℕ). take 6 (drop (6 * i) k)) (expansion_windows right) ∙ windows_at 8 i (between right) lt long
-    ∙ ap (λ (k : List ℕ). take 6 (drop (4 * i) k)) (sym (bits-widened right)) ∙ ap (λ k. take 6 (drop (4 * i) (bits k (widened right)))) (sym w34)
-    ∙ bits_window (4 * i) (28 - 4 * i) (widened right) in
-    let other : take 6 (drop (6 * i) (bits 48 key)) ≡ bits 6 (key / 2 ^ (42 - 6 * i) % 64) =
-    ap (λ k. take 6 (drop (6 * i) (bits k key))) (sym w48) ∙ bits_window (6 * i) (42 - 6 * i) key in
-    ap (take 6) (drop-xor_lists (6 * i) wide (bits 48 key) (length-expanded (bits 32 right) ∙ sym (length-bits 48 key)))
-    ∙ take-xor_lists 6 (drop (6 * i) wide) (drop (6 * i) (bits 48 key)) ∙ rw (one, other) refl
-    ∙ sym (bits-xor 6 (widened right / 2 ^ (28 - 4 * i) % 64) (key / 2 ^ (42 - 6 * i) % 64))
-    ∙ ap (bits 6) (sym (xor_mod (widened right / 2 ^ (28 - 4 * i)) (key / 2 ^ (42 - 6 * i)) 6))
+length-kept : (xs : List ℕ) → length (permuted kept_table xs) ≡ 48
+unfolding kept_table
+length-kept xs = refl
+
+abbrev pub mixed_with : ℕ → ℕ → List ℕ
+mixed_with right key = xor_lists (permuted expansion_table (bits 32 right)) (key_bits key)
+
+six_mixed : (right key wide m a b : ℕ) → bits 64 wide ≡ both_turned right → a + (6 + b) ≡ 64
+    → six_from m (permuted expansion_table (bits 32 right)) ≡ six_from a (both_turned right) → six_from m (key_bits key) ≡ six_from a (bits 64 key)
+    → six_from m (mixed_with right key) ≡ bits 6 (bit_xor wide key / 2 ^ b % 64)
+six_mixed right key wide m a b ew at er ek =
+    six-xor m (permuted expansion_table (bits 32 right)) (key_bits key) (length-expanded (bits 32 right) ∙ sym (length-kept (bits 64 key)))
+    ∙ rw (er ∙ ap (six_from a) (sym ew), ek) refl
+    ∙ sym (six-xor a (bits 64 wide) (bits 64 key) (length-bits 64 wide ∙ sym (length-bits 64 key)))
+    ∙ ap (six_from a) (sym (bits-xor 64 wide key)) ∙ ap (λ k. six_from a (bits k (bit_xor wide key))) (sym at) ∙ bits_window 6 a b (bit_xor wide key)
+
+pub six_odd : (right key wide i : ℕ) → bits 64 wide ≡ both_turned right → i < 4
+    → take 6 (drop (6 * (2 * i)) (mixed_with right key)) ≡ bits 6 (bit_xor wide key / 2 ^ (56 - 8 * i) % 64)
+six_odd right key wide i ew lt =
+    let e : 6 * (2 * i) ≡ 12 * i = omega arith in
+    ap (λ k. six_from k (mixed_with right key)) e ∙ six_mixed right key wide (12 * i) (8 * i + 2) (56 - 8 * i) ew (omega arith) (expansion_odd right i lt) (kept_odd key i lt)
+
+pub six_even : (right key wide i : ℕ) → bits 64 wide ≡ both_turned right → i < 4
+    → take 6 (drop (6 * (2 * i + 1)) (mixed_with right key)) ≡ bits 6 (bit_xor wide key / 2 ^ (24 - 8 * i) % 64)
+six_even right key wide i ew lt =
+    let e : 6 * (2 * i + 1) ≡ 12 * i + 6 = omega arith in
+    ap (λ k. six_from k (mixed_with right key)) e ∙ six_mixed right key wide (12 * i + 6) (8 * i + 34) (24 - 8 * i) ew (omega arith) (expansion_even right i lt) (kept_even key i lt)
+
+-- what the code computes of the half
+pub wide_is : (right a b : ℕ) → right < 2 ^ 32 → a ≡ bit_or (right / 2 ^ 3) (right * 2 ^ 29 % 2 ^ 32) → b ≡ bit_or (right / 2 ^ 31) (right * 2 ^ 1 % 2 ^ 32)
+    → bits 64 (a * 2 ^ 32 + b) ≡ both_turned right
+wide_is right a b small ea eb =
+    let one : a ≡ right % 2 ^ 3 * 2 ^ 29 + right / 2 ^ 3 = ea ∙ rotated_is 32 right 29 3 refl small in
+    let other : b ≡ right % 2 ^ 31 * 2 ^ 1 + right / 2 ^ 31 = eb ∙ rotated_is 32 right 1 31 refl small in
+    let ta = turned_is 32 right 29 3 refl small in
+    let tb = turned_is 32 right 1 31 refl small in
+    let fits : b < 2 ^ 32 = rw other tb.1 in
+    bits-append 32 32 a b fits ∙ rw (one, other, ta.0, tb.0) refl

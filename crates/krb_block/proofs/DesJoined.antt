@@ -1,7 +1,7 @@
 -- The tables that join S1 to S8 and P: what the xor of their entries is.
-use Rattle.std.proofs.Common.{◌≡◌, ℕ, zero, suc, ◌+◌, ◌-◌, ◌*◌, ◌^◌, ◌<◌, Bool, true, false, ◌==◌, nat_lt, ◌&&◌, List, [], ◌∷◌, ◌++◌, length, take, drop, replicate, slice_index, slice_index_or, bit_xor, refl, sym, ap, ◌∙◌, arith}
+use Rattle.std.proofs.Common.{◌≡◌, ℕ, zero, suc, ◌+◌, ◌-◌, ◌*◌, ◌<◌, Bool, true, false, ◌==◌, ◌&&◌, List, [], ◌∷◌, ◌++◌, length, take, drop, replicate, slice_index, slice_index_or, bit_xor, refl, sym, ap, ◌∙◌, arith}
 use Rattle.std.proofs.lemmas.List.{length-append, length-replicate, length-drop, drop_more, drop-drop}
-use Rattle.std.proofs.lemmas.Bool.{and_parts, eqb-true, ltb-true}
+use Rattle.std.proofs.lemmas.Bool.{and_parts, eqb-true}
 use lib.Bits.{xor_zero_r, xor_assoc}
 use Rattle.krb_block.specs.DesTables.{round_table, s_boxes}
 use Rattle.krb_block.specs.Xor.{xor_lists}
@@ -14,13 +14,13 @@ use Rattle.krb_block.proofs.DesRounds.{substituted-cons}
 
 -- ---- each entry, by one computation
 
-abbrev same_list : List ℕ → List ℕ → Bool
+abbrev pub same_list : List ℕ → List ℕ → Bool
 same_list [] [] = true
 same_list [] (y ∷ ys) = false
 same_list (x ∷ xs) [] = false
 same_list (x ∷ xs) (y ∷ ys) = (x == y) && same_list xs ys
 
-same_list_is : (xs ys : List ℕ) → same_list xs ys ≡ true → xs ≡ ys
+pub same_list_is : (xs ys : List ℕ) → same_list xs ys ≡ true → xs ≡ ys
 same_list_is [] [] h = refl
 same_list_is [] (y ∷ ys) h = absurd (grind (arith, h))
 same_list_is (x ∷ xs) [] h = absurd (grind (arith, h))
@@ -45,14 +45,6 @@ joined_entry i six hi hs =
     all_below_at (λ j. all_below (λ k. same_list (bits 32 (joined_at j k)) (permuted round_table (in_place j k))) 64) 8 i joined_table hi in
     same_list_is (bits 32 (joined_at i six)) (permuted round_table (in_place i six)) (all_below_at (λ k. same_list (bits 32 (joined_at i k)) (permuted round_table (in_place i k))) 64 six row hs)
 
-words_table : all_below (λ i. all_below (λ six. nat_lt (joined_at i six) (2 ^ 32)) 64) 8 ≡ true
-words_table = refl
-
-pub joined_word : (i six : ℕ) → i < 8 → six < 64 → joined_at i six < 2 ^ 32
-joined_word i six hi hs =
-    let row : all_below (λ k. nat_lt (joined_at i k) (2 ^ 32)) 64 ≡ true = all_below_at (λ j. all_below (λ k. nat_lt (joined_at j k) (2 ^ 32)) 64) 8 i words_table hi in
-    ltb-true (joined_at i six) (2 ^ 32) (all_below_at (λ k. nat_lt (joined_at i k) (2 ^ 32)) 64 six row hs)
-
 -- ---- a permutation of a xor is the xor of the permutations
 pub permuted-xor : (table xs ys : List ℕ) → length xs ≡ length ys → permuted table (xor_lists xs ys) ≡ xor_lists (permuted table xs) (permuted table ys)
 permuted-xor [] xs ys e = refl
@@ -60,13 +52,13 @@ permuted-xor (t ∷ table) xs ys e = rw (get_or-xor_lists xs ys (t - 1) e, permu
 
 -- ---- pieces of 32 bits
 
-zeros_right : (n : ℕ) (xs : List ℕ) → length xs ≡ n → xor_lists xs (replicate n 0) ≡ xs
+pub zeros_right : (n : ℕ) (xs : List ℕ) → length xs ≡ n → xor_lists xs (replicate n 0) ≡ xs
 zeros_right zero [] e = refl
 zeros_right zero (x ∷ xs) e = absurd (omega arith)
 zeros_right (suc n) [] e = absurd (omega arith)
 zeros_right (suc n) (x ∷ xs) e = rw (xor_zero_r x, zeros_right n xs (omega arith)) refl
 
-xor_lists-assoc : (xs ys zs : List ℕ) → length xs ≡ length ys → length ys ≡ length zs → xor_lists (xor_lists xs ys) zs ≡ xor_lists xs (xor_lists ys zs)
+pub xor_lists-assoc : (xs ys zs : List ℕ) → length xs ≡ length ys → length ys ≡ length zs → xor_lists (xor_lists xs ys) zs ≡ xor_lists xs (xor_lists ys zs)
 xor_lists-assoc [] [] [] e f = refl
 xor_lists-assoc [] [] (z ∷ zs) e f = absurd (omega arith)
 xor_lists-assoc [] (y ∷ ys) zs e f = absurd (omega arith)
@@ -74,30 +66,31 @@ xor_lists-assoc (x ∷ xs) [] zs e f = absurd (omega arith)
 xor_lists-assoc (x ∷ xs) (y ∷ ys) [] e f = absurd (omega arith)
 xor_lists-assoc (x ∷ xs) (y ∷ ys) (z ∷ zs) e f = rw (xor_assoc x y z, xor_lists-assoc xs ys zs (omega arith) (omega arith)) refl
 
-zeros_more : (a : ℕ) (xs : List ℕ) → replicate (a + 4) 0 ++ xs ≡ replicate a 0 ++ (replicate 4 0 ++ xs)
-zeros_more zero xs = refl
-zeros_more (suc a) xs =
-    let e : suc a + 4 ≡ suc (a + 4) = omega arith in
-    ap (λ k. replicate k 0 ++ xs) e ∙ ap (λ (k : List ℕ). 0 ∷ k) (zeros_more a xs)
+zeros_more : (a n : ℕ) (xs : List ℕ) → replicate (a + n) 0 ++ xs ≡ replicate a 0 ++ (replicate n 0 ++ xs)
+zeros_more zero n xs = ap (λ k. replicate k 0 ++ xs) (omega arith)
+zeros_more (suc a) n xs =
+    let e : suc a + n ≡ suc (a + n) = omega arith in
+    ap (λ k. replicate k 0 ++ xs) e ∙ ap (λ (k : List ℕ). 0 ∷ k) (zeros_more a n xs)
 
--- four bits q in their place, and then the rest
-permuted_pieces : (table : List ℕ) (a b : ℕ) (q rest : List ℕ) → length q ≡ 4 → length rest ≡ b
-    → permuted table (replicate a 0 ++ (q ++ rest)) ≡ xor_lists (permuted table (replicate a 0 ++ (q ++ replicate b 0))) (permuted table (replicate (a + 4) 0 ++ rest))
-permuted_pieces table a b q rest lq lr =
+-- n bits q in their place, and then the rest
+pub permuted_pieces : (table : List ℕ) (a n b : ℕ) (q rest : List ℕ) → length q ≡ n → length rest ≡ b
+    → permuted table (replicate a 0 ++ (q ++ rest)) ≡ xor_lists (permuted table (replicate a 0 ++ (q ++ replicate b 0))) (permuted table (replicate (a + n) 0 ++ rest))
+permuted_pieces table a n b q rest lq lr =
     let first : List ℕ = replicate a 0 ++ (q ++ replicate b 0) in
-    let second : List ℕ = replicate a 0 ++ (replicate 4 0 ++ rest) in
+    let second : List ℕ = replicate a 0 ++ (replicate n 0 ++ rest) in
     let la : length (replicate {A = ℕ} a 0) ≡ a = length-replicate a 0 in
+    let ln : length (replicate {A = ℕ} n 0) ≡ n = length-replicate n 0 in
     let whole : xor_lists first second ≡ replicate a 0 ++ (q ++ rest) =
-    xor_lists-append (replicate a 0) (replicate a 0) (q ++ replicate b 0) (replicate 4 0 ++ rest) refl
-    ∙ ap (λ (k : List ℕ). k ++ xor_lists (q ++ replicate b 0) (replicate 4 0 ++ rest)) (xor_lists-zeros a (replicate a 0) la)
-    ∙ ap (λ (k : List ℕ). replicate a 0 ++ k) (xor_lists-append q (replicate 4 0) (replicate b 0) rest lq)
-    ∙ ap (λ (k : List ℕ). replicate a 0 ++ (k ++ xor_lists (replicate b 0) rest)) (zeros_right 4 q lq)
+    xor_lists-append (replicate a 0) (replicate a 0) (q ++ replicate b 0) (replicate n 0 ++ rest) refl
+    ∙ ap (λ (k : List ℕ). k ++ xor_lists (q ++ replicate b 0) (replicate n 0 ++ rest)) (xor_lists-zeros a (replicate a 0) la)
+    ∙ ap (λ (k : List ℕ). replicate a 0 ++ k) (xor_lists-append q (replicate n 0) (replicate b 0) rest (lq ∙ sym ln))
+    ∙ ap (λ (k : List ℕ). replicate a 0 ++ (k ++ xor_lists (replicate b 0) rest)) (zeros_right n q lq)
     ∙ ap (λ (k : List ℕ). replicate a 0 ++ (q ++ k)) (xor_lists-zeros b rest lr) in
     let lb : length (replicate {A = ℕ} b 0) ≡ b = length-replicate b 0 in
     let long : length first ≡ length second =
-    omega (arith, length-append (replicate a 0) (q ++ replicate b 0), length-append (replicate a 0) (replicate 4 0 ++ rest), length-append q (replicate b 0), length-append (replicate 4 0) rest, la, lb, lq, lr) in
+    omega (arith, length-append (replicate a 0) (q ++ replicate b 0), length-append (replicate a 0) (replicate n 0 ++ rest), length-append q (replicate b 0), length-append (replicate n 0) rest, la, ln, lb, lq, lr) in
     ap (permuted table) (sym whole) ∙ permuted-xor table first second long
-    ∙ ap (λ (k : List ℕ). xor_lists (permuted table first) (permuted table k)) (sym (zeros_more a rest))
+    ∙ ap (λ (k : List ℕ). xor_lists (permuted table first) (permuted table k)) (sym (zeros_more a n rest))
 
 length-substituted : (boxes : List (List (List ℕ))) (xs : List ℕ) → length (substituted boxes xs) ≡ 4 * length boxes
 unfolding substituted
@@ -142,12 +135,24 @@ joined_more x i value six target lt small window held =
     let four : 4 * i + 4 ≡ 4 * (i + 1) = omega arith in
     let after : List ℕ = permuted round_table (left_from (i + 1) x) in
     let parted : permuted round_table (left_from i x) ≡ xor_lists (bits 32 (joined_at i six)) after =
-    ap (λ (k : List ℕ). permuted round_table (replicate (4 * i) 0 ++ k)) cut ∙ permuted_pieces round_table (4 * i) (28 - 4 * i) q tail lq lt4
+    ap (λ (k : List ℕ). permuted round_table (replicate (4 * i) 0 ++ k)) cut ∙ permuted_pieces round_table (4 * i) 4 (28 - 4 * i) q tail lq lt4
     ∙ ap (λ k. xor_lists (permuted round_table (in_place i six)) (permuted round_table (replicate k 0 ++ tail))) four
     ∙ ap (λ (k : List ℕ). xor_lists k after) (sym (joined_entry i six lt small)) in
     ap (λ (k : List ℕ). xor_lists k after) (bits-xor 32 value (joined_at i six))
     ∙ xor_lists-assoc (bits 32 value) (bits 32 (joined_at i six)) after (length-bits 32 value ∙ sym (length-bits 32 (joined_at i six))) (length-bits 32 (joined_at i six) ∙ sym (length-permuted (left_from (i + 1) x)))
     ∙ ap (λ (k : List ℕ). xor_lists (bits 32 value) k) (sym parted) ∙ held
+
+-- two boxes in a row
+pub joined_two : (x : List ℕ) (i value odd even : ℕ) (target : List ℕ) → i < 4 → odd < 64 → even < 64
+    → take 6 (drop (6 * (2 * i)) x) ≡ bits 6 odd → take 6 (drop (6 * (2 * i + 1)) x) ≡ bits 6 even
+    → xor_lists (bits 32 value) (permuted round_table (left_from (2 * i) x)) ≡ target
+    → xor_lists (bits 32 (bit_xor (bit_xor value (joined_at (2 * i) odd)) (joined_at (2 * i + 1) even))) (permuted round_table (left_from (2 * (i + 1)) x)) ≡ target
+joined_two x i value odd even target lt small_odd small_even one other held =
+    let next : 2 * (i + 1) ≡ 2 * i + 1 + 1 = omega arith in
+    let first : xor_lists (bits 32 (bit_xor value (joined_at (2 * i) odd))) (permuted round_table (left_from (2 * i + 1) x)) ≡ target =
+    joined_more x (2 * i) value odd target (omega arith) small_odd one held in
+    ap (λ k. xor_lists (bits 32 (bit_xor (bit_xor value (joined_at (2 * i) odd)) (joined_at (2 * i + 1) even))) (permuted round_table (left_from k x))) next
+    ∙ joined_more x (2 * i + 1) (bit_xor value (joined_at (2 * i) odd)) even target (omega arith) small_even other first
 
 pub joined_end : (x : List ℕ) (i value : ℕ) (target : List ℕ) → i ≡ 8
     → xor_lists (bits 32 value) (permuted round_table (left_from i x)) ≡ target → bits 32 value ≡ target

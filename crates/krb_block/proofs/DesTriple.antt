@@ -1,56 +1,14 @@
 -- Triple DES on octets: what the code computes, and that its two calls undo each other.
-use Rattle.std.proofs.Common.{◌≡◌, ℕ, List, length, map, reverse, sym, ap, ◌∙◌, arith}
+use Rattle.std.proofs.Common.{◌≡◌, ℕ, List, length, take, drop, map, reverse, sym, ap, ◌∙◌, arith}
 use Rattle.std.specs.Int.{w64, to_be_bytes}
 use Rattle.krb_block.specs.Modes.{IsOctets, IsBlock, AreInverse}
-use Rattle.krb_block.specs.Des.{bits, ciphered, round_keys, des_block, des_undo, octet_bits, octets_of_bits, cipher_octets, plain_octets, first_key, second_key, third_key, ede3, ede3_undo, AreRoundKeys, AreScheduled}
-use Rattle.krb_block.proofs.DesFeistel.{des_undo-block, des_block-undo}
-use Rattle.krb_block.proofs.DesOctets.{AreBits-octet_bits, AreBits-ciphered, length-octet_bits, length-ciphered, length-octets_of_bits, IsOctets-octets_of_bits, octets_of_bits-octet_bits, octet_bits-octets_of_bits, octets_of_bits-bits, octet_bits-to_be_bytes}
+use Rattle.krb_block.specs.DesTables.{initial_table, final_table}
+use Rattle.krb_block.specs.Des.{bits, key_bits, permuted, rounds, ciphered, round_keys, des_block, des_undo, octet_bits, octets_of_bits, cipher_octets, plain_octets, first_key, second_key, third_key, ede3, ede3_undo, AreScheduled}
+use Rattle.krb_block.proofs.DesBits.{length-bits}
+use Rattle.krb_block.proofs.DesFeistel.{initial_final, des_undo-block, des_block-undo}
+use Rattle.krb_block.proofs.DesOctets.{AreBits-octet_bits, AreBits-ciphered, length-octet_bits, length-ciphered, length-octets_of_bits, IsOctets-octets_of_bits, octets_of_bits-octet_bits, octet_bits-octets_of_bits, octets_of_bits-bits}
 
--- ---- numbers of 64 bits
-
-cipher_octets_is : (keys key p : List ℕ) (n m : ℕ) → AreRoundKeys keys key → octet_bits p ≡ bits 64 n
-    → bits 64 m ≡ ciphered (map (bits 48) keys) (bits 64 n)
-    → cipher_octets key p ≡ to_be_bytes w64 m
-unfolding cipher_octets des_block
-cipher_octets_is keys key p n m scheduled before after =
-    ap (λ (k : List ℕ). octets_of_bits 8 (ciphered (round_keys (octet_bits key)) k)) before
-    ∙ ap (λ (k : List (List ℕ)). octets_of_bits 8 (ciphered k (bits 64 n))) (sym scheduled)
-    ∙ ap (octets_of_bits 8) (sym after) ∙ octets_of_bits-bits m
-
-plain_octets_is : (keys key p : List ℕ) (n m : ℕ) → AreRoundKeys keys key → octet_bits p ≡ bits 64 n
-    → bits 64 m ≡ ciphered (reverse (map (bits 48) keys)) (bits 64 n)
-    → plain_octets key p ≡ to_be_bytes w64 m
-unfolding plain_octets des_undo
-plain_octets_is keys key p n m scheduled before after =
-    ap (λ (k : List ℕ). octets_of_bits 8 (ciphered (reverse (round_keys (octet_bits key))) k)) before
-    ∙ ap (λ (k : List (List ℕ)). octets_of_bits 8 (ciphered (reverse k) (bits 64 n))) (sym scheduled)
-    ∙ ap (octets_of_bits 8) (sym after) ∙ octets_of_bits-bits m
-
-pub ede3_is : (first second third key p : List ℕ) (n a b m : ℕ) → AreScheduled first second third key → octet_bits p ≡ bits 64 n
-    → bits 64 a ≡ ciphered (map (bits 48) first) (bits 64 n)
-    → bits 64 b ≡ ciphered (reverse (map (bits 48) second)) (bits 64 a)
-    → bits 64 m ≡ ciphered (map (bits 48) third) (bits 64 b)
-    → to_be_bytes w64 m ≡ ede3 key p
-unfolding ede3
-ede3_is first second third key p n a b m is start once twice last =
-    let e1 : cipher_octets (first_key key) p ≡ to_be_bytes w64 a = cipher_octets_is first (first_key key) p n a is.first_keys start once in
-    let e2 : plain_octets (second_key key) (to_be_bytes w64 a) ≡ to_be_bytes w64 b = plain_octets_is second (second_key key) (to_be_bytes w64 a) a b is.second_keys (octet_bits-to_be_bytes a) twice in
-    let e3 : cipher_octets (third_key key) (to_be_bytes w64 b) ≡ to_be_bytes w64 m = cipher_octets_is third (third_key key) (to_be_bytes w64 b) b m is.third_keys (octet_bits-to_be_bytes b) last in
-    sym (ap (λ (k : List ℕ). cipher_octets (third_key key) (plain_octets (second_key key) k)) e1 ∙ ap (cipher_octets (third_key key)) e2 ∙ e3)
-
-pub ede3_undo_is : (first second third key c : List ℕ) (n a b m : ℕ) → AreScheduled first second third key → octet_bits c ≡ bits 64 n
-    → bits 64 a ≡ ciphered (reverse (map (bits 48) third)) (bits 64 n)
-    → bits 64 b ≡ ciphered (map (bits 48) second) (bits 64 a)
-    → bits 64 m ≡ ciphered (reverse (map (bits 48) first)) (bits 64 b)
-    → to_be_bytes w64 m ≡ ede3_undo key c
-unfolding ede3_undo
-ede3_undo_is first second third key c n a b m is start once twice last =
-    let e1 : plain_octets (third_key key) c ≡ to_be_bytes w64 a = plain_octets_is third (third_key key) c n a is.third_keys start once in
-    let e2 : cipher_octets (second_key key) (to_be_bytes w64 a) ≡ to_be_bytes w64 b = cipher_octets_is second (second_key key) (to_be_bytes w64 a) a b is.second_keys (octet_bits-to_be_bytes a) twice in
-    let e3 : plain_octets (first_key key) (to_be_bytes w64 b) ≡ to_be_bytes w64 m = plain_octets_is first (first_key key) (to_be_bytes w64 b) b m is.first_keys (octet_bits-to_be_bytes b) last in
-    sym (ap (λ (k : List ℕ). plain_octets (first_key key) (cipher_octets (second_key key) k)) e1 ∙ ap (plain_octets (first_key key)) e2 ∙ e3)
-
--- ---- the two calls undo each other
+-- ---- blocks
 
 block_of : (keys : List (List ℕ)) (b : List ℕ) → IsBlock 8 (octets_of_bits 8 (ciphered keys (octet_bits b)))
 block_of keys b = (
@@ -61,6 +19,67 @@ block_of keys b = (
 bits_of_block : (keys : List (List ℕ)) (b : List ℕ) → octet_bits (octets_of_bits 8 (ciphered keys (octet_bits b))) ≡ ciphered keys (octet_bits b)
 bits_of_block keys b =
     octet_bits-octets_of_bits 8 (ciphered keys (octet_bits b)) (AreBits-ciphered keys (octet_bits b) (AreBits-octet_bits b)) (length-ciphered keys (octet_bits b))
+
+-- ---- numbers of 64 bits, with no permutation between the three
+
+-- what the rounds make of the block y is x
+abbrev IsRun : List (List ℕ) → ℕ → ℕ → Type 0
+IsRun keys y x = bits 64 x ≡ rounds keys (take 32 (bits 64 y)) (drop 32 (bits 64 y))
+
+ciphered_run : (keys : List (List ℕ)) (q : List ℕ) (y x : ℕ) → permuted initial_table q ≡ bits 64 y → IsRun keys y x → ciphered keys q ≡ permuted final_table (bits 64 x)
+unfolding ciphered
+ciphered_run keys q y x e run = ap (λ (k : List ℕ). permuted final_table (rounds keys (take 32 k) (drop 32 k))) e ∙ ap (permuted final_table) (sym run)
+
+ciphered_again : (keys : List (List ℕ)) (y x : ℕ) → IsRun keys y x → ciphered keys (permuted final_table (bits 64 y)) ≡ permuted final_table (bits 64 x)
+ciphered_again keys y x run = ciphered_run keys (permuted final_table (bits 64 y)) y x (initial_final (bits 64 y) (length-bits 64 y)) run
+
+-- three in a row
+thrice_is : (first second third : List (List ℕ)) (p : List ℕ) (n s a b d m : ℕ) → octet_bits p ≡ bits 64 n → bits 64 s ≡ permuted initial_table (bits 64 n)
+    → IsRun first s a → IsRun second a b → IsRun third b d → bits 64 m ≡ permuted final_table (bits 64 d)
+    → ciphered third (ciphered second (ciphered first (octet_bits p))) ≡ bits 64 m
+thrice_is first second third p n s a b d m before start once twice thrice after =
+    ap (λ (k : List ℕ). ciphered third (ciphered second (ciphered first k))) before
+    ∙ ap (λ (k : List ℕ). ciphered third (ciphered second k)) (ciphered_run first (bits 64 n) s a (sym start) once)
+    ∙ ap (ciphered third) (ciphered_again second a b twice) ∙ ciphered_again third b d thrice ∙ sym after
+
+octets_thrice : (first second third : List (List ℕ)) (p : List ℕ)
+    → octets_of_bits 8 (ciphered third (octet_bits (octets_of_bits 8 (ciphered second (octet_bits (octets_of_bits 8 (ciphered first (octet_bits p))))))))
+    ≡ octets_of_bits 8 (ciphered third (ciphered second (ciphered first (octet_bits p))))
+octets_thrice first second third p =
+    ap (λ (k : List ℕ). octets_of_bits 8 (ciphered third k)) (bits_of_block second (octets_of_bits 8 (ciphered first (octet_bits p))))
+    ∙ ap (λ (k : List ℕ). octets_of_bits 8 (ciphered third (ciphered second k))) (bits_of_block first p)
+
+pub ede3_is : (first second third key p : List ℕ) (n s a b d m : ℕ) → AreScheduled first second third key → octet_bits p ≡ bits 64 n
+    → bits 64 s ≡ permuted initial_table (bits 64 n)
+    → IsRun (map key_bits first) s a → IsRun (reverse (map key_bits second)) a b → IsRun (map key_bits third) b d
+    → bits 64 m ≡ permuted final_table (bits 64 d)
+    → to_be_bytes w64 m ≡ ede3 key p
+unfolding ede3 cipher_octets plain_octets des_block des_undo
+ede3_is first second third key p n s a b d m is before start once twice thrice after =
+    let k1 : List (List ℕ) = round_keys (octet_bits (first_key key)) in
+    let k2 : List (List ℕ) = reverse (round_keys (octet_bits (second_key key))) in
+    let k3 : List (List ℕ) = round_keys (octet_bits (third_key key)) in
+    let r1 : IsRun k1 s a = rw is.first_keys at once in
+    let r2 : IsRun k2 a b = rw is.second_keys at twice in
+    let r3 : IsRun k3 b d = rw is.third_keys at thrice in
+    sym (octets_thrice k1 k2 k3 p ∙ ap (octets_of_bits 8) (thrice_is k1 k2 k3 p n s a b d m before start r1 r2 r3 after) ∙ octets_of_bits-bits m)
+
+pub ede3_undo_is : (first second third key c : List ℕ) (n s a b d m : ℕ) → AreScheduled first second third key → octet_bits c ≡ bits 64 n
+    → bits 64 s ≡ permuted initial_table (bits 64 n)
+    → IsRun (reverse (map key_bits third)) s a → IsRun (map key_bits second) a b → IsRun (reverse (map key_bits first)) b d
+    → bits 64 m ≡ permuted final_table (bits 64 d)
+    → to_be_bytes w64 m ≡ ede3_undo key c
+unfolding ede3_undo cipher_octets plain_octets des_block des_undo
+ede3_undo_is first second third key c n s a b d m is before start once twice thrice after =
+    let k3 : List (List ℕ) = reverse (round_keys (octet_bits (third_key key))) in
+    let k2 : List (List ℕ) = round_keys (octet_bits (second_key key)) in
+    let k1 : List (List ℕ) = reverse (round_keys (octet_bits (first_key key))) in
+    let r3 : IsRun k3 s a = rw is.third_keys at once in
+    let r2 : IsRun k2 a b = rw is.second_keys at twice in
+    let r1 : IsRun k1 b d = rw is.first_keys at thrice in
+    sym (octets_thrice k3 k2 k1 c ∙ ap (octets_of_bits 8) (thrice_is k3 k2 k1 c n s a b d m before start r3 r2 r1 after) ∙ octets_of_bits-bits m)
+
+-- ---- the two calls undo each other
 
 bits_in_block : (b : List ℕ) → IsBlock 8 b → length (octet_bits b) ≡ 64
 bits_in_block b h = length-octet_bits b ∙ omega (arith, h.0)

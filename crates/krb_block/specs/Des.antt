@@ -3,7 +3,7 @@
 use Rattle.std.specs.Prelude.{◌≡◌, ℕ, zero, suc, ◌+◌, ◌-◌, ◌*◌, ◌/◌, ◌%◌, ◌^◌, ◌==◌, ◌&&◌, nat_le, if◌then◌else◌, List, [], ◌∷◌, ◌++◌, length, take, drop, map, reverse, slice_index, slice_index_or}
 use Rattle.std.specs.Int.{bit_at}
 use Rattle.krb_block.specs.Xor.{xor_lists}
-use Rattle.krb_block.specs.DesTables.{initial_table, final_table, expansion_table, round_table, first_choice, second_choice, turns, s_boxes}
+use Rattle.krb_block.specs.DesTables.{initial_table, final_table, expansion_table, round_table, first_choice, second_choice, turns, s_boxes, kept_table}
 
 -- ---- bits
 
@@ -131,9 +131,13 @@ exchanged_place shift mask k = if bit_at mask k == 1 then k + shift else (if nat
 
 -- ---- what the code keeps
 
--- the numbers are the round keys of the key of these octets
+-- the round key that a number keeps
+abbrev pub key_bits : ℕ → List ℕ
+key_bits kept = permuted kept_table (bits 64 kept)
+
+-- the numbers keep the round keys of the key of these octets
 abbrev pub AreRoundKeys : List ℕ → List ℕ → Type 0
-AreRoundKeys keys octets = map (bits 48) keys ≡ round_keys (octet_bits octets)
+AreRoundKeys keys octets = map key_bits keys ≡ round_keys (octet_bits octets)
 
 -- the round keys of the three keys
 pub record AreScheduled (first second third octets : List ℕ) : Type 0 where

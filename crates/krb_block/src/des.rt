@@ -7,7 +7,8 @@ ghost use Rattle.krb_block.specs.Modes.{AreInverse, IsOctets};
 use crate::block_cipher::BlockCipher;
 use crate::error::{KerberosCryptoError, KerberosCryptoResult};
 use key_schedule::round_keys;
-use rounds::{decipher, encipher};
+use permutation::{permute_first, permute_last};
+use rounds::{rounds, rounds_back};
 use std::marker::Model;
 
 mod key_schedule;
@@ -63,13 +64,15 @@ impl DesKey {
     }
 
     /// The block that triple DES makes of this one under the key: enciphered with its first key, deciphered with its
-    /// second, enciphered with its third.
+    /// second, enciphered with its third. In between, the last permutation of one and the first of the next undo each other.
     pub fn encrypt_block(&self, block: [u8; DES3_BLOCK_SIZE]) -> [u8; DES3_BLOCK_SIZE]
         ensures { result ≡ ede3 self.now block }
     {
-        let once = encipher(&self.first, u64::from_be_bytes(block));
-        let twice = decipher(&self.second, once);
-        encipher(&self.third, twice).to_be_bytes()
+        let start = permute_first(u64::from_be_bytes(block));
+        let once = rounds(&self.first, start);
+        let twice = rounds_back(&self.second, once);
+        let thrice = rounds(&self.third, twice);
+        permute_last(thrice).to_be_bytes()
     }
 
     /// The one block that triple DES makes this one of under the key.
@@ -78,9 +81,11 @@ impl DesKey {
         ensures alone { (q : List ℕ) → length q ≡ 8 → IsOctets q → ede3 self.now q ≡ block → q ≡ result }
         ensures value { result ≡ ede3_undo self.now block }
     {
-        let once = decipher(&self.third, u64::from_be_bytes(block));
-        let twice = encipher(&self.second, once);
-        decipher(&self.first, twice).to_be_bytes()
+        let start = permute_first(u64::from_be_bytes(block));
+        let once = rounds_back(&self.third, start);
+        let twice = rounds(&self.second, once);
+        let thrice = rounds_back(&self.first, twice);
+        permute_last(thrice).to_be_bytes()
     }
 
     /// Tells a proof that the two block calls undo each other. It does nothing.

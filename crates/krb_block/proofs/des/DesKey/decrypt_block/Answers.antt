@@ -12,8 +12,8 @@ value_is c =
     let start : octet_bits c.args.block ≡ bits 64 c.from_be_bytes.result = octet_bits_is c.args.block c.from_be_bytes.result long octets c.from_be_bytes.ensures in
     let k = c.self.inside in
     c.to_be_bytes.ensures
-    ∙ ede3_undo_is k.first k.second k.third k.octets c.args.block c.from_be_bytes.result c.decipher-once.result c.encipher-twice.result c.decipher.result
-    c.self.invariant start c.decipher-once.ensures c.encipher-twice.ensures c.decipher.ensures
+    ∙ ede3_undo_is k.first k.second k.third k.octets c.args.block c.from_be_bytes.result c.permute_first-start.result c.rounds_back-once.result c.rounds-twice.result c.rounds_back-thrice.result c.permute_last.result
+    c.self.invariant start c.permute_first-start.ensures c.rounds_back-once.ensures c.rounds-twice.ensures c.rounds_back-thrice.ensures c.permute_last.ensures
     ∙ ap (λ v. ede3_undo v c.args.block) c.self.view_is
 
 pub returns-clause-undone : goal.returns-clause-undone

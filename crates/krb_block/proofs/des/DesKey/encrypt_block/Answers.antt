@@ -12,6 +12,6 @@ returns c =
     let start : octet_bits c.args.block ≡ bits 64 c.from_be_bytes.result = octet_bits_is c.args.block c.from_be_bytes.result long octets c.from_be_bytes.ensures in
     let k = c.self.inside in
     c.to_be_bytes.ensures
-    ∙ ede3_is k.first k.second k.third k.octets c.args.block c.from_be_bytes.result c.encipher-once.result c.decipher-twice.result c.encipher.result
-    c.self.invariant start c.encipher-once.ensures c.decipher-twice.ensures c.encipher.ensures
+    ∙ ede3_is k.first k.second k.third k.octets c.args.block c.from_be_bytes.result c.permute_first-start.result c.rounds-once.result c.rounds_back-twice.result c.rounds-thrice.result c.permute_last.result
+    c.self.invariant start c.permute_first-start.ensures c.rounds-once.ensures c.rounds_back-twice.ensures c.rounds-thrice.ensures c.permute_last.ensures
     ∙ ap (λ v. ede3 v c.args.block) c.self.view_is

@@ -1,5 +1,5 @@
 use Rattle.std.proofs.Common.{refl, arith, rules}
-use Rattle.krb_block.specs.DesTables.{turns, first_choice, second_choice}
+use Rattle.krb_block.specs.DesTables.{turns, first_choice}
 use Rattle.krb_block.specs.declared.des.tables.TheConstants.{TURNS}
 use Rattle.krb_block.specs.Des.{bits, permuted, round_keys}
 use Rattle.krb_block.proofs.DesRounds.{keys_start, keys_more, keys_end, few_turns}
@@ -18,11 +18,11 @@ pub turn_left-d-requires-clause-few : goal.turn_left-d-requires-clause-few
 turn_left-d-requires-clause-few c = few_turns TURNS c.keys.i refl c.keys-test.true
 
 pub keys-preserved : goal.keys-preserved
-unfolding turns second_choice
+unfolding turns
 keys-preserved c = record {
   sized = search rules;
-  value = keys_more turns c.keys.keys c.keys.i c.keys.c c.keys.d c.turn_left-c.result c.turn_left-d.result c.permute.result _ c.keys-test.true (omega (arith, c.keys.invariant.sized)) c.turn_left-c.ensures.value c.turn_left-d.ensures.value
-      c.turn_left-d.ensures.small c.permute.ensures.value c.keys.invariant.value;
+  value = keys_more turns c.keys.keys c.keys.i c.keys.c c.keys.d c.turn_left-c.result c.turn_left-d.result c.second_choice.result _ c.keys-test.true (omega (arith, c.keys.invariant.sized)) c.turn_left-c.ensures.value c.turn_left-d.ensures.value
+      c.turn_left-d.ensures.small c.second_choice.ensures c.keys.invariant.value;
   c_small = c.turn_left-c.ensures.small;
   d_small = c.turn_left-d.ensures.small;
 }

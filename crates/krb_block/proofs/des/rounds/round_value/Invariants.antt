@@ -1,13 +1,10 @@
-use Rattle.std.proofs.Common.{◌≡◌, ◌^◌, ◌<◌}
-use Rattle.krb_block.specs.DesTables.{round_table, expansion_table}
+use Rattle.std.proofs.Common.{◌≡◌, ◌*◌}
+use Rattle.krb_block.specs.DesTables.{round_table}
 use Rattle.krb_block.specs.Xor.{xor_lists}
-use Rattle.krb_block.specs.Des.{bits, permuted, round_value}
+use Rattle.krb_block.specs.Des.{bits, permuted, round_value, key_bits}
 use Rattle.krb_block.proofs.DesJoined.{left_from}
+use Rattle.krb_block.proofs.DesExpansion.{mixed_with}
 use Rattle.krb_block.proofs.des.rounds.round_value.Given as goal
 
 abbrev pub invariant-boxes : goal.invariant-boxes
-invariant-boxes l = record {
-  value : xor_lists (bits 32 l.value) (permuted round_table (left_from l.i (xor_lists (permuted expansion_table (bits 32 l.right)) (bits 48 l.key))))
-      ≡ round_value (bits 32 l.right) (bits 48 l.key);
-  small : l.value < 2 ^ 32;
-}
+invariant-boxes l = xor_lists (bits 32 l.value) (permuted round_table (left_from (2 * l.i) (mixed_with l.right l.key))) ≡ round_value (bits 32 l.right) (key_bits l.key)
