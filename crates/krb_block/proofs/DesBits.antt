@@ -1,14 +1,11 @@
 -- The bits of numbers.
-use Rattle.std.proofs.Common.{◌≡◌, ℕ, zero, suc, ◌+◌, ◌-◌, ◌*◌, ◌/◌, ◌%◌, ◌^◌, ◌<◌, ◌≤◌, true, nat_lt, nat_le, ◌&&◌, List, [], ◌∷◌, ◌++◌, length, take, slice_index, bit_xor, refl, sym, ap, ◌∙◌, arith, add-one, add-zero}
-use Rattle.std.specs.List.{list_all}
-use Rattle.std.proofs.lemmas.List.{length_push, map_more, get_or_append_left, get_or_push, append_assoc, append-nil, same_from_push}
-use Rattle.std.proofs.lemmas.List.Sums.{AllPass-from_list_all}
-use Rattle.std.proofs.lemmas.Bool.Decides.{nat_tests}
+use Rattle.std.proofs.Common.{◌≡◌, ℕ, zero, suc, ◌+◌, ◌*◌, ◌/◌, ◌%◌, ◌^◌, ◌<◌, [], ◌∷◌, ◌++◌, length, slice_index, bit_xor, refl, sym, ap, ◌∙◌, arith, add-one, add-zero}
+use Rattle.std.proofs.lemmas.List.{length_push, get_or_append_left, get_or_push, append_assoc, append-nil, same_from_push}
 use Rattle.std.proofs.lemmas.Nat.{xor_shr, xor_mod}
 use Rattle.std.proofs.Math.Arith.{digits_div, digits_mod}
 use Rattle.std.proofs.Math.Nat.{add-suc, pow-suc, div-one, div-div-eq-div-mul}
 use Rattle.krb_block.specs.Xor.{xor_lists}
-use Rattle.krb_block.specs.Des.{bits, permuted}
+use Rattle.krb_block.specs.Des.{bits}
 use Rattle.krb_block.proofs.BlockOctets.{xor_lists-append}
 
 pub bits-suc : (w n : ℕ) → bits (suc w) n ≡ bits w (n / 2) ++ (n % 2) ∷ []
@@ -58,26 +55,6 @@ bits-xor (suc w) a b =
     let q : bit_xor a b / 2 ≡ bit_xor (a / 2) (b / 2) = xor_shr a b 1 in
     let r : bit_xor a b % 2 ≡ bit_xor (a % 2) (b % 2) = xor_mod a b 1 in
     rw (bits-suc w (bit_xor a b), bits-suc w a, bits-suc w b, q, r, bits-xor w (a / 2) (b / 2)) (sym (xor_lists-append (bits w (a / 2)) (bits w (b / 2)) ((a % 2) ∷ []) ((b % 2) ∷ []) (length-bits w (a / 2) ∙ sym (length-bits w (b / 2)))))
-
--- one more bit of a permutation
-pub permuted_more : (table : List ℕ) (width x out i t : ℕ) → i < length table → t ≡ slice_index table i → 0 < t → t ≤ width → out < 2 ^ i
-    → bits i out ≡ permuted (take i table) (bits width x)
-    → (bits (i + 1) (out * 2 + x / 2 ^ (width - t) % 2) ≡ permuted (take (i + 1) table) (bits width x)) × (out * 2 + x / 2 ^ (width - t) % 2 < 2 ^ (i + 1))
-permuted_more table width x out i t lt et low high small held =
-    let bit : slice_index (bits width x) (t - 1) ≡ x / 2 ^ (width - t) % 2 = slice_index-bits width x (t - 1) (width - t) (omega arith) in
-    let b : x / 2 ^ (width - t) % 2 < 2 = omega arith in
-    let two : 2 ^ (i + 1) ≡ 2 ^ i * 2 = rw add-one (pow-suc 2 i) in (
-      bits-push i out (x / 2 ^ (width - t) % 2) b ∙ ap (λ k. k ++ (x / 2 ^ (width - t) % 2) ∷ []) held ∙ ap (λ k. permuted (take i table) (bits width x) ++ k ∷ []) (sym bit ∙ ap (λ k. slice_index (bits width x) (k - 1)) et)
-          ∙ sym (map_more (λ k. slice_index (bits width x) (k - 1)) table i 0 lt),
-      rw two (omega arith),
-    )
-
-pub named : (t w : ℕ) → (nat_lt 0 t && nat_le t w) ≡ true → (0 < t) × (t ≤ w)
-named t w h = (grind (arith, nat_tests), grind (arith, nat_tests))
-
-pub named_at : (xs : List ℕ) (w i : ℕ) → list_all (λ t. nat_lt 0 t && nat_le t w) xs ≡ true → i < length xs
-    → (0 < slice_index xs i) × (slice_index xs i ≤ w)
-named_at xs w i h lt = named (slice_index xs i) w (AllPass-from_list_all (λ t. nat_lt 0 t && nat_le t w) xs h i 0 lt)
 
 -- numbers of w bits with the same bits are the same
 pub same_from_bits : (w a b : ℕ) → a < 2 ^ w → b < 2 ^ w → bits w a ≡ bits w b → a ≡ b

@@ -1,17 +1,63 @@
--- The tables by which PC-2 chooses the bits of a round key, seven of C and D at a time.
+-- PC-1 as the columns that IP makes, and PC-2 by tables, seven bits of C and D at a time.
 use Rattle.std.proofs.Common.{◌≡◌, ℕ, ◌+◌, ◌-◌, ◌*◌, ◌/◌, ◌%◌, ◌^◌, ◌<◌, true, List, [], ◌++◌, length, take, drop, replicate, slice_index, slice_index_or, bit_xor, refl, sym, ap, ◌∙◌, arith}
 use Rattle.std.proofs.lemmas.List.{length-drop, drop-drop, drop_all, take-append-drop}
-use Rattle.krb_block.specs.DesTables.{second_choice, kept_table}
+use Rattle.krb_block.specs.DesTables.{initial_table, first_choice, second_choice, kept_table}
 use Rattle.krb_block.specs.Xor.{xor_lists}
 use Rattle.krb_block.specs.Des.{bits, permuted, key_bits}
 use Rattle.krb_block.specs.declared.des.tables.TheConstants.{CHOSEN}
 use Rattle.krb_block.proofs.Tables.{all_below, all_below_at}
 use Rattle.krb_block.proofs.BlockOctets.{xor_lists-zeros}
-use Rattle.krb_block.proofs.DesBits.{length-bits, bits-xor}
+use Rattle.krb_block.proofs.DesBits.{length-bits, bits-append, bits-xor}
 use Rattle.krb_block.proofs.DesRounds.{bits_window}
 use Rattle.krb_block.proofs.DesJoined.{same_list, same_list_is, permuted-xor, permuted_pieces, xor_lists-assoc, zeros_right}
 
--- ---- each entry, by one computation
+-- ---- PC-1
+
+window : (n a b y : ℕ) (q : List ℕ) → a + (n + b) ≡ 64 → bits 64 y ≡ q → bits n (y / 2 ^ b % 2 ^ n) ≡ take n (drop a q)
+window n a b y q at e = sym (bits_window n a b y) ∙ ap (λ k. take n (drop a (bits k y))) at ∙ ap (λ (k : List ℕ). take n (drop a k)) e
+
+bits_behind : (a b x y : ℕ) (p q : List ℕ) → bits a x ≡ p → bits b y ≡ q → y < 2 ^ b → bits (a + b) (x * 2 ^ b + y) ≡ p ++ q
+bits_behind a b x y p q ex ey lt = bits-append a b x y lt ∙ rw (ex, ey) refl
+
+-- the columns in the order of PC-1
+abbrev columns_of : List ℕ → List ℕ
+columns_of q =
+    ((((((take 8 (drop 32 q) ++ take 8 (drop 0 q)) ++ take 8 (drop 40 q)) ++ take 4 (drop 8 q)) ++ take 8 (drop 56 q)) ++ take 8 (drop 16 q)) ++ take 8 (drop 48 q)) ++ take 4 (drop 12 q)
+
+columns_chosen : (x : List ℕ) → columns_of (permuted initial_table x) ≡ permuted first_choice x
+unfolding initial_table first_choice
+columns_chosen x = refl
+
+abbrev third_part : ℕ → ℕ
+third_part y = (y / 2 ^ 24 % 256 * 256 + y / 2 ^ 56 % 256) * 256 + y / 2 ^ 16 % 256
+
+abbrev sixth_part : ℕ → ℕ
+sixth_part y = ((third_part y * 16 + y / 2 ^ 52 % 16) * 256 + y % 256) * 256 + y / 2 ^ 40 % 256
+
+abbrev pub columns_value : ℕ → ℕ
+columns_value y = (sixth_part y * 256 + y / 2 ^ 8 % 256) * 16 + y / 2 ^ 48 % 16
+
+third_bits : (y : ℕ) (q : List ℕ) → bits 64 y ≡ q → bits 24 (third_part y) ≡ (take 8 (drop 32 q) ++ take 8 (drop 0 q)) ++ take 8 (drop 40 q)
+third_bits y q e =
+    let one : bits 8 (y / 2 ^ 24 % 256) ≡ take 8 (drop 32 q) = window 8 32 24 y q refl e in
+    let two = bits_behind 8 8 (y / 2 ^ 24 % 256) (y / 2 ^ 56 % 256) _ _ one (window 8 0 56 y q refl e) (omega arith) in
+    bits_behind 16 8 (y / 2 ^ 24 % 256 * 256 + y / 2 ^ 56 % 256) (y / 2 ^ 16 % 256) _ _ two (window 8 40 16 y q refl e) (omega arith)
+
+sixth_bits : (y : ℕ) (q p : List ℕ) → bits 64 y ≡ q → bits 24 (third_part y) ≡ p → bits 44 (sixth_part y) ≡ ((p ++ take 4 (drop 8 q)) ++ take 8 (drop 56 q)) ++ take 8 (drop 16 q)
+sixth_bits y q p e three =
+    let last : y % 256 ≡ y / 2 ^ 0 % 256 = omega arith in
+    let four = bits_behind 24 4 (third_part y) (y / 2 ^ 52 % 16) p _ three (window 4 8 52 y q refl e) (omega arith) in
+    let five = bits_behind 28 8 (third_part y * 16 + y / 2 ^ 52 % 16) (y % 256) _ _ four (ap (bits 8) last ∙ window 8 56 0 y q refl e) (omega arith) in
+    bits_behind 36 8 ((third_part y * 16 + y / 2 ^ 52 % 16) * 256 + y % 256) (y / 2 ^ 40 % 256) _ _ five (window 8 16 40 y q refl e) (omega arith)
+
+pub columns_are : (x y : ℕ) → bits 64 y ≡ permuted initial_table (bits 64 x) → bits 56 (columns_value y) ≡ permuted first_choice (bits 64 x)
+columns_are x y e =
+    let q : List ℕ = permuted initial_table (bits 64 x) in
+    let six = sixth_bits y q _ e (third_bits y q e) in
+    let seven = bits_behind 44 8 (sixth_part y) (y / 2 ^ 8 % 256) _ _ six (window 8 48 8 y q refl e) (omega arith) in
+    bits_behind 52 4 (sixth_part y * 256 + y / 2 ^ 8 % 256) (y / 2 ^ 48 % 16) _ _ seven (window 4 12 48 y q refl e) (omega arith) ∙ columns_chosen (bits 64 x)
+
+-- ---- PC-2, each entry by one computation
 
 -- seven bits behind 7 i others
 abbrev in_place : ℕ → ℕ → List ℕ

@@ -1,17 +1,17 @@
 //! The key schedule of DES (FIPS 46-3, Appendix 1).
 
 ghost use Rattle.std.specs.Prelude.{◌≡◌, ◌^◌, ◌<◌, ◌≤◌, map};
-ghost use Rattle.krb_block.specs.DesTables.{second_choice};
+ghost use Rattle.krb_block.specs.DesTables.{first_choice, second_choice};
 ghost use Rattle.krb_block.specs.Des.{bits, permuted, turned_left, round_keys, key_bits};
 
-use super::permutation::permute;
-use super::tables::{CHOSEN, FIRST_CHOICE, TURNS};
+use super::permutation::permute_first;
+use super::tables::{CHOSEN, TURNS};
 
 /// The 16 round keys of a key, each as a round takes it: six bits in an octet, for S1, S3, S5, S7, S2, S4, S6 and S8.
 pub(super) fn round_keys(key: u64) -> [u64; 16]
     ensures { map key_bits result ≡ round_keys (bits 64 key) }
 {
-    let chosen = permute(key, 64, &FIRST_CHOICE);
+    let chosen = first_choice(key);
     let mut c = chosen >> 28;
     let mut d = chosen % (1 << 28);
     let mut keys = [0; 16];
@@ -21,6 +21,24 @@ pub(super) fn round_keys(key: u64) -> [u64; 16]
         keys[i] = second_choice(c * (1 << 28) + d);
     }
     keys
+}
+
+/// PC-1, the 28 bits of C and the 28 bits of D. IP makes each octet of one column of the key, a bit of each of its octets from
+/// the last to the first, and PC-1 takes the same columns: the first three and half of the fourth, the seventh, the sixth, the
+/// fifth and the other half of the fourth.
+fn first_choice(key: u64) -> u64
+    ensures value { bits 56 result ≡ permuted first_choice (bits 64 key) }
+    ensures small { result < 2 ^ 56 }
+{
+    let columns = permute_first(key);
+    let mut chosen = (columns >> 24) % 256;
+    chosen = chosen * 256 + (columns >> 56) % 256;
+    chosen = chosen * 256 + (columns >> 16) % 256;
+    chosen = chosen * 16 + (columns >> 52) % 16;
+    chosen = chosen * 256 + columns % 256;
+    chosen = chosen * 256 + (columns >> 40) % 256;
+    chosen = chosen * 256 + (columns >> 8) % 256;
+    chosen * 16 + (columns >> 48) % 16
 }
 
 /// C or D, of 28 bits, turned left by this many places.

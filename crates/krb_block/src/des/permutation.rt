@@ -1,8 +1,7 @@
-//! The permutations and choices of bits that the tables of DES name (FIPS 46-3).
+//! The first and the last permutation of a block of DES (FIPS 46-3, Enciphering).
 
-ghost use Rattle.std.specs.Prelude.{◌≡◌, ℕ, ◌*◌, ◌^◌, ◌<◌, ◌≤◌, ◌&&◌, length, IsTrue, nat_lt, nat_le, bit_and};
+ghost use Rattle.std.specs.Prelude.{◌≡◌, ℕ, ◌*◌, ◌^◌, ◌<◌, bit_and};
 ghost use Rattle.std.specs.Int.{bit_at};
-ghost use Rattle.std.specs.List.{list_all};
 ghost use Rattle.krb_block.specs.DesTables.{initial_table, final_table};
 ghost use Rattle.krb_block.specs.Des.{bits, permuted, exchanged_place};
 
@@ -37,19 +36,4 @@ fn exchange(x: u64, shift: u32, mask: u64) -> u64
 {
     let differing = ((x >> shift) ^ x) & mask;
     x ^ differing ^ (differing << shift)
-}
-
-/// The bits of `x`, a number of `width` bits, that the table names.
-pub(super) fn permute(x: u64, width: u32, table: &[u8]) -> u64
-    requires width { width ≤ 64 }
-    requires room { length table.now ≤ 64 }
-    requires named { IsTrue (list_all (λ t. nat_lt 0 t && nat_le t width) table.now) }
-    ensures value { bits (length table.now) result ≡ permuted table.now (bits width x) }
-    ensures small { result < 2 ^ length table.now }
-{
-    let mut chosen = 0;
-    'places: for place in table {
-        chosen = chosen * 2 + (x >> (width - *place as u32)) % 2;
-    }
-    chosen
 }

@@ -1,12 +1,5 @@
 //! The tables of DES (FIPS 46-3). A number names a bit, bits being counted from 1 at the left.
 
-/// PC-1, the 56 bits of a key that count: 28 for C and 28 for D.
-pub(super) const FIRST_CHOICE: [u8; 56] = [
-    57, 49, 41, 33, 25, 17, 9, 1, 58, 50, 42, 34, 26, 18, 10, 2, 59, 51, 43, 35, 27, 19, 11, 3, 60,
-    52, 44, 36, 63, 55, 47, 39, 31, 23, 15, 7, 62, 54, 46, 38, 30, 22, 14, 6, 61, 53, 45, 37, 29,
-    21, 13, 5, 28, 20, 12, 4,
-];
-
 /// How far C and D are turned left before each of the 16 rounds.
 pub(super) const TURNS: [u8; 16] = [1, 1, 2, 2, 2, 2, 2, 2, 1, 2, 2, 2, 2, 2, 2, 1];
 

@@ -9,8 +9,8 @@ pub keys-init : goal.keys-init
 unfolding first_choice
 keys-init c = record {
   sized = refl;
-  value = keys_start turns c.permute-chosen.result (permuted first_choice (bits 64 c.args.key)) c.permute-chosen.ensures.value;
-  c_small = omega (arith, c.permute-chosen.ensures.small);
+  value = keys_start turns c.first_choice-chosen.result (permuted first_choice (bits 64 c.args.key)) c.first_choice-chosen.ensures.value;
+  c_small = omega (arith, c.first_choice-chosen.ensures.small);
   d_small = omega arith;
 }
 
