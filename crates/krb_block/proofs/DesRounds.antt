@@ -106,12 +106,11 @@ keys_from-cons t ts c d = refl
 
 pub keys_more : (ts keys : List ℕ) (i c d c2 d2 k : ℕ) (target : List (List ℕ)) → i < length ts → i < length keys
     → bits 28 c2 ≡ turned_left (get_or ts i 0) (bits 28 c) → bits 28 d2 ≡ turned_left (get_or ts i 0) (bits 28 d)
-    → d2 < 2 ^ 28 → key_bits k ≡ permuted second_choice (bits 56 (c2 * 2 ^ 28 + d2))
+    → key_bits k ≡ permuted second_choice (bits 28 c2 ++ bits 28 d2)
     → map key_bits (take i keys) ++ keys_from (drop i ts) (bits 28 c) (bits 28 d) ≡ target
     → map key_bits (take (i + 1) (set keys i k)) ++ keys_from (drop (i + 1) ts) (bits 28 c2) (bits 28 d2) ≡ target
-keys_more ts keys i c d c2 d2 k target lt lk ec ed small ek held =
-    let joint : bits 56 (c2 * 2 ^ 28 + d2) ≡ turned_left (get_or ts i 0) (bits 28 c) ++ turned_left (get_or ts i 0) (bits 28 d) = bits-append 28 28 c2 d2 small ∙ rw (ec, ed) refl in
-    let one : key_bits k ≡ permuted second_choice (turned_left (get_or ts i 0) (bits 28 c) ++ turned_left (get_or ts i 0) (bits 28 d)) = ek ∙ ap (permuted second_choice) joint in
+keys_more ts keys i c d c2 d2 k target lt lk ec ed ek held =
+    let one : key_bits k ≡ permuted second_choice (turned_left (get_or ts i 0) (bits 28 c) ++ turned_left (get_or ts i 0) (bits 28 d)) = ek ∙ rw (ec, ed) refl in
     let rest : keys_from (drop i ts) (bits 28 c) (bits 28 d) ≡ key_bits k ∷ keys_from (drop (i + 1) ts) (bits 28 c2) (bits 28 d2) =
     ap (λ (l : List ℕ). keys_from l (bits 28 c) (bits 28 d)) (drop_more ts i 0 lt) ∙ keys_from-cons (get_or ts i 0) (drop (i + 1) ts) (bits 28 c) (bits 28 d) ∙ rw (one, ec, ed) refl in
     let written : map key_bits (take (i + 1) (set keys i k)) ≡ map key_bits (take i keys) ++ key_bits k ∷ [] =

@@ -1,11 +1,11 @@
 //! The key schedule of DES (FIPS 46-3, Appendix 1).
 
-ghost use Rattle.std.specs.Prelude.{◌≡◌, ◌^◌, ◌<◌, ◌≤◌, map};
+ghost use Rattle.std.specs.Prelude.{◌≡◌, ◌^◌, ◌<◌, ◌≤◌, ◌++◌, map};
 ghost use Rattle.krb_block.specs.DesTables.{first_choice, second_choice};
 ghost use Rattle.krb_block.specs.Des.{bits, permuted, turned_left, round_keys, key_bits};
 
 use super::permutation::permute_first;
-use super::tables::{CHOSEN, TURNS};
+use super::tables::{CHOSEN_OF_C, CHOSEN_OF_D, TURNS};
 
 /// The 16 round keys of a key, each as a round takes it: six bits in an octet, for S1, S3, S5, S7, S2, S4, S6 and S8.
 pub(super) fn round_keys(key: u64) -> [u64; 16]
@@ -18,7 +18,7 @@ pub(super) fn round_keys(key: u64) -> [u64; 16]
     'keys: for i in 0..16 {
         c = turn_left(c, TURNS[i]);
         d = turn_left(d, TURNS[i]);
-        keys[i] = second_choice(c * (1 << 28) + d);
+        keys[i] = second_choice(c, d);
     }
     keys
 }
@@ -52,14 +52,17 @@ fn turn_left(half: u64, places: u8) -> u64
     half % low * (1 << places) + half / low
 }
 
-/// PC-2, the round key that C and D choose, by seven of their bits at a time.
-fn second_choice(halves: u64) -> u64
-    ensures { key_bits result ≡ permuted second_choice (bits 56 halves) }
+/// PC-2, the round key that C and D choose, by seven bits of each at a time.
+fn second_choice(c: u64, d: u64) -> u64
+    ensures { key_bits result ≡ permuted second_choice (bits 28 c ++ bits 28 d) }
 {
-    let mut key = 0;
-    'parts: for i in 0..8 {
-        let part = (halves >> (49 - 7 * i)) % 128;
-        key = key ^ CHOSEN[i][part as usize];
+    let mut of_c = 0;
+    let mut of_d = 0;
+    'parts: for i in 0..4 {
+        of_c = of_c ^ CHOSEN_OF_C[i][((c >> (21 - 7 * i)) % 128) as usize];
+        of_d = of_d ^ CHOSEN_OF_D[i][((d >> (21 - 7 * i)) % 128) as usize];
     }
-    key
+    let odd = (of_c >> 16) as u64 * (1 << 16) + (of_d >> 16) as u64;
+    let even = (of_c % (1 << 16)) as u64 * (1 << 16) + (of_d % (1 << 16)) as u64;
+    odd * (1 << 32) + even
 }

@@ -21,8 +21,7 @@ pub keys-preserved : goal.keys-preserved
 unfolding turns
 keys-preserved c = record {
   sized = search rules;
-  value = keys_more turns c.keys.keys c.keys.i c.keys.c c.keys.d c.turn_left-c.result c.turn_left-d.result c.second_choice.result _ c.keys-test.true (omega (arith, c.keys.invariant.sized)) c.turn_left-c.ensures.value c.turn_left-d.ensures.value
-      c.turn_left-d.ensures.small c.second_choice.ensures c.keys.invariant.value;
+  value = keys_more turns c.keys.keys c.keys.i c.keys.c c.keys.d c.turn_left-c.result c.turn_left-d.result c.second_choice.result _ c.keys-test.true (omega (arith, c.keys.invariant.sized)) c.turn_left-c.ensures.value c.turn_left-d.ensures.value c.second_choice.ensures c.keys.invariant.value;
   c_small = c.turn_left-c.ensures.small;
   d_small = c.turn_left-d.ensures.small;
 }
