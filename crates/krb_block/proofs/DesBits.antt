@@ -20,9 +20,6 @@ pub length-bits : (w n : ℕ) → length (bits w n) ≡ w
 length-bits zero n = rw bits-zero refl
 length-bits (suc w) n = rw (bits-suc) (length_push (bits w (n / 2)) (n % 2) ∙ ap (λ k. k + 1) (length-bits w (n / 2)) ∙ add-one w)
 
-pub bits-push : (w n b : ℕ) → b < 2 → bits (w + 1) (n * 2 + b) ≡ bits w n ++ b ∷ []
-bits-push w n b h = rw (add-one, bits-suc, digits_div n h, digits_mod n h) refl
-
 -- n 2^b + m has the bits of n and then those of m
 pub bits-append : (a b n m : ℕ) → m < 2 ^ b → bits (a + b) (n * 2 ^ b + m) ≡ bits a n ++ bits b m
 bits-append a zero n m h =
