@@ -1,96 +1,157 @@
--- The steps of the loops over blocks.
-use Rattle.std.proofs.Common.{◌≡◌, ℕ, zero, suc, ◌+◌, ◌-◌, ◌*◌, ◌/◌, ◌<◌, ◌≤◌, List, ◌++◌, length, take, drop, get_or, refl, sym, ap, ◌∙◌, arith}
-use Rattle.std.proofs.lemmas.List.{length-take-le, length-drop, append_assoc, take-append-drop, take_at, drop-take, take-take}
-use Rattle.std.specs.Simd.{first_chunks}
-use Rattle.krb_block.proofs.Below.{AreBelow-take, AreBelow-drop}
-use Rattle.krb_block.proofs.BlockOctets.{length-xor_lists, xor_lists-append, xor_lists-comm, xor_lists-zeros}
+-- The steps of ciphertext stealing in place.
+use Rattle.std.proofs.Common.{◌≡◌, ℕ, zero, suc, ◌+◌, ◌-◌, ◌*◌, ◌/◌, ◌<◌, ◌≤◌, List, [], ◌++◌, length, take, drop, sym, ap, ◌∙◌, arith}
+use Rattle.std.proofs.lemmas.List.{length-append, length-take-le, length-drop, append_assoc, append-nil, take-append-drop, take-append-le, drop-append-le, take_at, drop_at, take_all, drop_all, take_rest}
+use Rattle.krb_block.proofs.BlockOctets.{length-xor_lists, xor_lists-append}
+use Rattle.krb_block.specs.Linked.{linked, last_linked, unlinked, last_block}
 use Rattle.krb_block.specs.Xor.{xor_lists}
-use Rattle.krb_block.specs.Modes.{IsOctets, IsBlock, filled, zero_block}
-use Rattle.krb_block.proofs.Chaining.{filled_whole, part_length, next_part, chunk_at}
+use Rattle.krb_block.specs.Modes.{filled, zero_block, IsBlock, IsOctets}
+use Rattle.krb_block.proofs.Below.{AreBelow-take, AreBelow-drop}
+use Rattle.krb_block.proofs.Chaining.{no_octets}
 use Rattle.krb_block.proofs.StealingLaws.{stolen, unstolen, two, untwo}
 
--- what stands in front of the last two blocks is n blocks
-pub front_count : (p : List ℕ) (start n : ℕ) → start ≡ 16 * n → start ≤ length p → length (take start p) / 16 ≡ n
-front_count p start n e long = let size : length (take start p) ≡ start = length-take-le start p long in omega (arith, e, size)
+-- the front, and octets behind it to the end, both written in their places
+pub both_written : (n : ℕ) (x rest y : List ℕ) → length x ≡ n → take n (x ++ rest) ++ (y ++ drop (length (x ++ rest) - n) (drop n (x ++ rest))) ≡ x ++ y
+both_written n x rest y e =
+    let front : take n (x ++ rest) ≡ x = take_at x rest n e in
+    let behind : drop n (x ++ rest) ≡ rest = drop_at x rest n e in
+    let none : drop (length (x ++ rest) - n) rest ≡ [] = drop_all (length (x ++ rest) - n) rest (omega (arith, length-append x rest, e)) in
+    ap (λ (k : List ℕ). k ++ (y ++ drop (length (x ++ rest) - n) (drop n (x ++ rest)))) front
+    ∙ ap (λ (k : List ℕ). x ++ (y ++ drop (length (x ++ rest) - n) k)) behind
+    ∙ ap (λ (k : List ℕ). x ++ (y ++ k)) none ∙ ap (λ (k : List ℕ). x ++ k) (append-nil y)
 
--- each of them is one of all
-pub front_block : (p none : List ℕ) (start n i : ℕ) → start ≡ 16 * n → start ≤ length p → i < n
-    → get_or (first_chunks 16 (length (take start p) / 16) (take start p)) i none ≡ take 16 (drop (16 * i) p)
-front_block p none start n i e long low =
-    let count : length (take start p) / 16 ≡ n = front_count p start n e long in
-    let cut : start ≡ 16 * i + (start - 16 * i) = omega (arith, e, low) in
-    chunk_at 16 (length (take start p) / 16) (take start p) none i (omega (arith, count, low))
-    ∙ ap (λ (k : ℕ). take 16 (drop (16 * i) (take k p))) cut ∙ ap (take 16) (drop-take (16 * i) (start - 16 * i) p)
-    ∙ take-take 16 (start - 16 * i) (drop (16 * i) p) (omega (arith, e, low))
+-- what stands behind the front is the rest
+rest_behind : (n : ℕ) (x rest : List ℕ) → length x ≡ n → take (length (x ++ rest) - n) (drop n (x ++ rest)) ≡ rest
+rest_behind n x rest e = take_rest (x ++ rest) n ∙ drop_at x rest n e
 
--- the last whole block is a block
-pub rest_block : (p rest : List ℕ) (n i : ℕ) → IsOctets p → i + 1 ≡ n → 16 * n < length p → rest ≡ drop (16 * i) p → IsBlock 16 (take 16 rest)
-rest_block p rest n i octets e long er = rw er (length-take-le 16 (drop (16 * i) p) (rw length-drop (omega (arith, e, long))), AreBelow-take 16 (drop (16 * i) p) (AreBelow-drop (16 * i) p octets))
+-- one block has no other to steal from
+pub one_stolen : (E : List ℕ → List ℕ) (p : List ℕ) → length p ≡ 16 → linked 16 E (length p / 16) (zero_block 16) p ≡ stolen E 0 (zero_block 16) p
+unfolding linked stolen
+one_stolen E p e =
+    let one : length p / 16 ≡ 1 = omega (arith, e) in
+    let whole : take 16 p ≡ p = take_all 16 p (omega (arith, e)) in
+    rw one (append-nil (E (xor_lists (take 16 p) (zero_block 16))) ∙ ap (λ (k : List ℕ). E (xor_lists k (zero_block 16))) whole)
 
-pub encrypt_one : (E : List ℕ → List ℕ) (v p c part : List ℕ) → length p ≡ 16 → part ≡ p → c ≡ E (xor_lists (filled part) v) → c ≡ stolen E 0 v p
-unfolding stolen
-encrypt_one E v p c part h ep ec = ec ∙ ap (λ (k : List ℕ). E (xor_lists (filled k) v)) ep ∙ ap (λ (k : List ℕ). E (xor_lists k v)) (filled_whole 16 p h)
+pub one_unstolen : (D : List ℕ → List ℕ) (c : List ℕ) → length c ≡ 16 → unlinked 16 D (length c / 16) (zero_block 16) c ≡ unstolen D 0 (zero_block 16) c
+unfolding unlinked unstolen
+one_unstolen D c e =
+    let one : length c / 16 ≡ 1 = omega (arith, e) in
+    let whole : take 16 c ≡ c = take_all 16 c (omega (arith, e)) in
+    rw one (append-nil (xor_lists (D (take 16 c)) (zero_block 16)) ∙ ap (λ (k : List ℕ). xor_lists (D k) (zero_block 16)) whole)
 
-pub encrypt_step : (E : List ℕ → List ℕ) (count i : ℕ) (v p out out2 c part target : List ℕ) → i + 1 < count → 16 * count < length p
-    → part ≡ take 16 (drop (16 * i) p) → c ≡ E (xor_lists (filled part) v) → out2 ≡ out ++ c → out ++ stolen E (count - i) v (drop (16 * i) p) ≡ target
-    → out2 ++ stolen E (count - (i + 1)) c (drop (16 * (i + 1)) p) ≡ target
-unfolding stolen
-encrypt_step E count i v p out out2 c part target lt long ep ec eo inv =
-    let m : count - i ≡ suc (suc (count - i - 2)) = omega arith in
-    let k : count - (i + 1) ≡ suc (count - i - 2) = omega arith in
-    let q : List ℕ = drop (16 * i) p in
-    let whole : c ≡ E (xor_lists (take 16 (drop (16 * i) p)) v) = ec ∙ ap (λ (j : List ℕ). E (xor_lists (filled j) v)) ep ∙ ap (λ (j : List ℕ). E (xor_lists j v)) (filled_whole 16 (take 16 q) (part_length 16 p i (omega arith))) in
-    let before : out ++ (E (xor_lists (take 16 q) v) ++ stolen E (suc (count - i - 2)) (E (xor_lists (take 16 q) v)) (drop 16 q)) ≡ target = rw m at inv in
-    rw (k, eo, whole, ← next_part 16 p i) (append_assoc out (E (xor_lists (take 16 q) v)) (stolen E (suc (count - i - 2)) (E (xor_lists (take 16 q) v)) (drop 16 q)) ∙ before)
+-- m blocks in front of the last two are chained
+stolen_front : (E : List ℕ → List ℕ) (m : ℕ) (v front rest : List ℕ) → length front ≡ 16 * m
+    → linked 16 E m v front ++ two E (last_linked 16 E m v front) (take 16 rest) (drop 16 rest) ≡ stolen E (suc m) v (front ++ rest)
+unfolding linked last_linked stolen
+stolen_front E zero v front rest e = ap (λ (k : List ℕ). two E v (take 16 (k ++ rest)) (drop 16 (k ++ rest))) (sym (no_octets 16 front (omega (arith, e))))
+stolen_front E (suc m) v front rest e =
+    let long : 16 ≤ length front = omega (arith, e) in
+    let b : List ℕ = E (xor_lists (take 16 front) v) in
+    let same : take 16 (front ++ rest) ≡ take 16 front = take-append-le 16 front rest long in
+    let next : drop 16 (front ++ rest) ≡ drop 16 front ++ rest = drop-append-le 16 front rest long in
+    let more : length (drop 16 front) ≡ 16 * m = length-drop 16 front ∙ omega (arith, e) in
+    append_assoc b (linked 16 E m b (drop 16 front)) (two E (last_linked 16 E m b (drop 16 front)) (take 16 rest) (drop 16 rest))
+    ∙ ap (λ (k : List ℕ). b ++ k) (stolen_front E m b (drop 16 front) rest more)
+    ∙ ap (λ (k : List ℕ). E (xor_lists k v) ++ stolen E (suc m) (E (xor_lists k v)) (drop 16 front ++ rest)) (sym same)
+    ∙ ap (λ (k : List ℕ). E (xor_lists (take 16 (front ++ rest)) v) ++ stolen E (suc m) (E (xor_lists (take 16 (front ++ rest)) v)) k) (sym next)
 
-pub encrypt_last : (E : List ℕ → List ℕ) (count i : ℕ) (v p out out2 out3 rest s d cut target : List ℕ) → i + 1 ≡ count → 16 * count < length p → rest ≡ drop (16 * i) p
-    → s ≡ E (xor_lists (filled (take 16 rest)) v) → d ≡ E (xor_lists (filled (drop 16 rest)) s) → cut ≡ take (length rest - 16) s
-    → out2 ≡ out ++ d → out3 ≡ out2 ++ cut → out ++ stolen E (count - i) v (drop (16 * i) p) ≡ target → out3 ≡ target
-unfolding stolen
-encrypt_last E count i v p out out2 out3 rest s d cut target ei long er es ed ec eo eo3 inv =
-    let m : count - i ≡ suc zero = omega arith in
-    let wide : 16 ≤ length rest = rw (er, length-drop) (omega arith) in
-    let whole : s ≡ E (xor_lists (take 16 rest) v) = es ∙ ap (λ (j : List ℕ). E (xor_lists j v)) (filled_whole 16 (take 16 rest) (length-take-le 16 rest wide)) in
-    let left : cut ≡ take (length (drop 16 rest)) s = ec ∙ ap (λ (k : ℕ). take k s) (sym (length-drop 16 rest)) in
-    let before : out ++ two E v (take 16 rest) (drop 16 rest) ≡ target = rw er (rw m at inv) in
-    let same : two E v (take 16 rest) (drop 16 rest) ≡ d ++ cut = rw (ed, left, whole) refl in
-    eo3 ∙ ap (λ (k : List ℕ). k ++ cut) eo ∙ append_assoc out d cut ∙ ap (λ (k : List ℕ). out ++ k) (sym same) ∙ before
+unstolen_front : (D : List ℕ → List ℕ) (m : ℕ) (v front rest : List ℕ) → length front ≡ 16 * m
+    → unlinked 16 D m v front ++ untwo D (last_block 16 m v front) (take 16 rest) (drop 16 rest) ≡ unstolen D (suc m) v (front ++ rest)
+unfolding unlinked last_block unstolen
+unstolen_front D zero v front rest e = ap (λ (k : List ℕ). untwo D v (take 16 (k ++ rest)) (drop 16 (k ++ rest))) (sym (no_octets 16 front (omega (arith, e))))
+unstolen_front D (suc m) v front rest e =
+    let long : 16 ≤ length front = omega (arith, e) in
+    let x : List ℕ = take 16 front in
+    let same : take 16 (front ++ rest) ≡ take 16 front = take-append-le 16 front rest long in
+    let next : drop 16 (front ++ rest) ≡ drop 16 front ++ rest = drop-append-le 16 front rest long in
+    let more : length (drop 16 front) ≡ 16 * m = length-drop 16 front ∙ omega (arith, e) in
+    append_assoc (xor_lists (D x) v) (unlinked 16 D m x (drop 16 front)) (untwo D (last_block 16 m x (drop 16 front)) (take 16 rest) (drop 16 rest))
+    ∙ ap (λ (k : List ℕ). xor_lists (D x) v ++ k) (unstolen_front D m x (drop 16 front) rest more)
+    ∙ ap (λ (k : List ℕ). xor_lists (D k) v ++ unstolen D (suc m) k (drop 16 front ++ rest)) (sym same)
+    ∙ ap (λ (k : List ℕ). xor_lists (D (take 16 (front ++ rest))) v ++ unstolen D (suc m) (take 16 (front ++ rest)) k) (sym next)
 
-pub decrypt_one : (D : List ℕ → List ℕ) (c p b : List ℕ) → b ≡ c → p ≡ D b → length p ≡ 16 → p ≡ unstolen D 0 (zero_block 16) c
-unfolding unstolen
-decrypt_one D c p b eb ep l =
-    let long : length (D c) ≡ 16 = ap length (ap D (sym eb) ∙ sym ep) ∙ l in
-    ep ∙ ap D eb ∙ sym (xor_lists-comm (D c) (zero_block 16) ∙ xor_lists-zeros 16 (D c) long)
-
-pub decrypt_step : (D : List ℕ → List ℕ) (count i : ℕ) (v c out out2 x d b target : List ℕ) → i + 1 < count
-    → x ≡ take 16 (drop (16 * i) c) → d ≡ D x → length d ≡ 16 → b ≡ xor_lists (filled d) v → out2 ≡ out ++ b → out ++ unstolen D (count - i) v (drop (16 * i) c) ≡ target
-    → out2 ++ unstolen D (count - (i + 1)) x (drop (16 * (i + 1)) c) ≡ target
-unfolding unstolen
-decrypt_step D count i v c out out2 x d b target lt ex ed l eb eo inv =
-    let m : count - i ≡ suc (suc (count - i - 2)) = omega arith in
-    let k : count - (i + 1) ≡ suc (count - i - 2) = omega arith in
-    let q : List ℕ = drop (16 * i) c in
-    let whole : b ≡ xor_lists (D x) v = eb ∙ ap (λ (j : List ℕ). xor_lists j v) (filled_whole 16 d l) ∙ ap (λ (j : List ℕ). xor_lists j v) ed in
-    let before : out ++ (xor_lists (D (take 16 q)) v ++ unstolen D (suc (count - i - 2)) (take 16 q) (drop 16 q)) ≡ target = rw m at inv in
-    rw (k, eo, whole, ex, ← next_part 16 c i) (append_assoc out (xor_lists (D (take 16 q)) v) (unstolen D (suc (count - i - 2)) (take 16 q) (drop 16 q)) ∙ before)
-
-pub decrypt_last : (D : List ℕ → List ℕ) (count i : ℕ) (v c out out2 out3 rest b t cut target : List ℕ) → i + 1 ≡ count → 16 * count < length c → length c ≤ 16 * count + 16 → rest ≡ drop (16 * i) c
-    → length (D (take 16 rest)) ≡ 16 → b ≡ xor_lists (D (drop 16 rest ++ drop (length rest - 16) (D (take 16 rest)))) v
-    → t ≡ xor_lists (D (take 16 rest)) (drop 16 rest ++ drop (length rest - 16) (D (take 16 rest))) → cut ≡ take (length rest - 16) t
-    → out2 ≡ out ++ b → out3 ≡ out2 ++ cut → out ++ unstolen D (count - i) v (drop (16 * i) c) ≡ target → out3 ≡ target
-unfolding unstolen
-decrypt_last D count i v c out out2 out3 rest b t cut target ei long short er lu eb et ec eo eo3 inv =
-    let m : count - i ≡ suc zero = omega arith in
-    let u : List ℕ = D (take 16 rest) in
-    let y : List ℕ = drop 16 rest in
-    let n : ℕ = length rest - 16 in
-    let ly : length (drop 16 rest) ≡ n = length-drop 16 rest in
-    let fits : n ≤ 16 = rw (er, length-drop) (omega arith) in
-    let before : out ++ untwo D v (take 16 rest) y ≡ target = rw er (rw m at inv) in
+-- what the octets of the stolen block give back
+cut_plain : (u y : List ℕ) (n : ℕ) → length u ≡ 16 → length y ≡ n → n ≤ 16 → take n (xor_lists u (y ++ drop n u)) ≡ xor_lists (take n u) y
+cut_plain u y n lu ly fits =
     let r : length (take n u) ≡ n = length-take-le n u (omega (arith, lu, fits)) in
     let lx : length (xor_lists (take n u) y) ≡ n = length-xor_lists (take n u) y (r ∙ sym ly) ∙ r in
     let joint : xor_lists u (y ++ drop n u) ≡ xor_lists (take n u) y ++ xor_lists (drop n u) (drop n u) =
     ap (λ (k : List ℕ). xor_lists k (y ++ drop n u)) (sym (take-append-drop n u)) ∙ xor_lists-append (take n u) y (drop n u) (drop n u) (r ∙ sym ly) in
-    let low : cut ≡ xor_lists (take n u) y = ec ∙ ap (take n) (et ∙ joint) ∙ take_at (xor_lists (take n u) y) (xor_lists (drop n u) (drop n u)) n lx in
-    let same : untwo D v (take 16 rest) y ≡ b ++ cut = rw (ly, low, eb) refl in
-    eo3 ∙ ap (λ (k : List ℕ). k ++ cut) eo ∙ append_assoc out b cut ∙ ap (λ (k : List ℕ). out ++ k) (sym same) ∙ before
+    ap (take n) joint ∙ take_at (xor_lists (take n u) y) (xor_lists (drop n u) (drop n u)) n lx
+
+-- the blocks in front of the last two are so many
+front_count : (p : List ℕ) (start : ℕ) → start ≡ 16 * ((length p - 1) / 16 - 1) → start + 16 < length p
+    → (length (take start p) ≡ 16 * (length (take start p) / 16)) × (suc (length (take start p) / 16) ≡ (length p - 1) / 16)
+front_count p start e long =
+    let size : length (take start p) ≡ start = length-take-le start p (omega (arith, long)) in
+    (omega (arith, size, e), omega (arith, size, e, long))
+
+-- front and last two are all
+all_stolen : (E : List ℕ → List ℕ) (p front last out : List ℕ) (start : ℕ) → start ≡ 16 * ((length p - 1) / 16 - 1) → start + 16 < length p
+    → front ≡ linked 16 E (length (take start p) / 16) (zero_block 16) (take start p) → last ≡ last_linked 16 E (length (take start p) / 16) (zero_block 16) (take start p)
+    → out ≡ front ++ (E (xor_lists (filled (drop 16 (drop start p))) (E (xor_lists (take 16 (drop start p)) last))) ++ take (length (drop start p) - 16) (E (xor_lists (take 16 (drop start p)) last)))
+    → out ≡ stolen E ((length p - 1) / 16) (zero_block 16) p
+all_stolen E p front last out start e long ef el eo =
+    let rest : List ℕ = drop start p in
+    let m : ℕ = length (take start p) / 16 in
+    let count = front_count p start e long in
+    let s : List ℕ = E (xor_lists (take 16 rest) last) in
+    let two_is : E (xor_lists (filled (drop 16 rest)) s) ++ take (length rest - 16) s ≡ two E last (take 16 rest) (drop 16 rest) = ap (λ (k : ℕ). E (xor_lists (filled (drop 16 rest)) s) ++ take k s) (sym (length-drop 16 rest)) in
+    eo ∙ ap (λ (k : List ℕ). front ++ k) two_is
+    ∙ ap (λ (k : List ℕ). k ++ two E last (take 16 rest) (drop 16 rest)) ef
+    ∙ ap (λ (k : List ℕ). linked 16 E m (zero_block 16) (take start p) ++ two E k (take 16 rest) (drop 16 rest)) el
+    ∙ stolen_front E m (zero_block 16) (take start p) rest count.0
+    ∙ ap (λ (k : ℕ). stolen E k (zero_block 16) (take start p ++ rest)) count.1 ∙ ap (stolen E ((length p - 1) / 16) (zero_block 16)) (take-append-drop start p)
+
+all_unstolen : (D : List ℕ → List ℕ) (c front last out : List ℕ) (start : ℕ) → start ≡ 16 * ((length c - 1) / 16 - 1) → start + 16 < length c → length c ≤ start + 32
+    → length (D (take 16 (drop start c))) ≡ 16
+    → front ≡ unlinked 16 D (length (take start c) / 16) (zero_block 16) (take start c) → last ≡ last_block 16 (length (take start c) / 16) (zero_block 16) (take start c)
+    → out ≡ front ++ (xor_lists (D (drop 16 (drop start c) ++ drop (length (drop start c) - 16) (D (take 16 (drop start c))))) last
+    ++ take (length (drop start c) - 16) (xor_lists (D (take 16 (drop start c))) (drop 16 (drop start c) ++ drop (length (drop start c) - 16) (D (take 16 (drop start c))))))
+    → out ≡ unstolen D ((length c - 1) / 16) (zero_block 16) c
+all_unstolen D c front last out start e long short lu ef el eo =
+    let rest : List ℕ = drop start c in
+    let u : List ℕ = D (take 16 rest) in
+    let y : List ℕ = drop 16 rest in
+    let n : ℕ = length rest - 16 in
+    let m : ℕ = length (take start c) / 16 in
+    let count = front_count c start e long in
+    let ly : length (drop 16 rest) ≡ n = length-drop 16 rest in
+    let fits : n ≤ 16 = omega (arith, length-drop start c, short) in
+    let cut : take n (xor_lists u (y ++ drop n u)) ≡ xor_lists (take n u) y = cut_plain u y n lu ly fits in
+    let untwo_is : xor_lists (D (y ++ drop n u)) last ++ take n (xor_lists u (y ++ drop n u)) ≡ untwo D last (take 16 rest) y =
+    ap (λ (k : List ℕ). xor_lists (D (y ++ drop n u)) last ++ k) cut ∙ ap (λ (k : ℕ). xor_lists (D (y ++ drop k u)) last ++ xor_lists (take k u) y) (sym ly) in
+    eo ∙ ap (λ (k : List ℕ). front ++ k) untwo_is
+    ∙ ap (λ (k : List ℕ). k ++ untwo D last (take 16 rest) y) ef
+    ∙ ap (λ (k : List ℕ). unlinked 16 D m (zero_block 16) (take start c) ++ untwo D k (take 16 rest) y) el
+    ∙ unstolen_front D m (zero_block 16) (take start c) rest count.0
+    ∙ ap (λ (k : ℕ). unstolen D k (zero_block 16) (take start c ++ rest)) count.1 ∙ ap (unstolen D ((length c - 1) / 16) (zero_block 16)) (take-append-drop start c)
+
+-- what the two last blocks are enciphered to, and deciphered to, as the calls on them answer
+abbrev ends : (List ℕ → List ℕ) → List ℕ → List ℕ → List ℕ
+ends E last r = E (xor_lists (filled (drop 16 r)) (E (xor_lists (take 16 r) last))) ++ take (length r - 16) (E (xor_lists (take 16 r) last))
+
+abbrev undone_ends : (List ℕ → List ℕ) → List ℕ → List ℕ → List ℕ
+undone_ends D last r = xor_lists (D (drop 16 r ++ drop (length r - 16) (D (take 16 r)))) last ++ take (length r - 16) (xor_lists (D (take 16 r)) (drop 16 r ++ drop (length r - 16) (D (take 16 r))))
+
+-- front and rest, written in their places
+abbrev in_place : ℕ → List ℕ → List ℕ → List ℕ → List ℕ
+in_place start front rest written = take start (front ++ rest) ++ (written ++ drop (length (front ++ rest) - start) (drop start (front ++ rest)))
+
+pub written_stolen : (E : List ℕ → List ℕ) (p front last written : List ℕ) (start : ℕ) → start ≡ 16 * ((length p - 1) / 16 - 1) → start + 16 < length p → length front ≡ start
+    → front ≡ linked 16 E (length (take start p) / 16) (zero_block 16) (take start p) → last ≡ last_linked 16 E (length (take start p) / 16) (zero_block 16) (take start p)
+    → written ≡ ends E last (take (length (front ++ drop start p) - start) (drop start (front ++ drop start p)))
+    → in_place start front (drop start p) written ≡ stolen E ((length p - 1) / 16) (zero_block 16) p
+written_stolen E p front last written start e long lf ef el ew =
+    all_stolen E p front last (in_place start front (drop start p) written) start e long ef el
+    (both_written start front (drop start p) written lf ∙ ap (λ (k : List ℕ). front ++ k) (ew ∙ ap (ends E last) (rest_behind start front (drop start p) lf)))
+
+pub written_unstolen : (D : List ℕ → List ℕ) (c front last written : List ℕ) (start : ℕ) → start ≡ 16 * ((length c - 1) / 16 - 1) → start + 16 < length c → length c ≤ start + 32
+    → ((b : List ℕ) → IsBlock 16 b → IsBlock 16 (D b)) → IsOctets c → length front ≡ start
+    → front ≡ unlinked 16 D (length (take start c) / 16) (zero_block 16) (take start c) → last ≡ last_block 16 (length (take start c) / 16) (zero_block 16) (take start c)
+    → written ≡ undone_ends D last (take (length (front ++ drop start c) - start) (drop start (front ++ drop start c)))
+    → in_place start front (drop start c) written ≡ unstolen D ((length c - 1) / 16) (zero_block 16) c
+written_unstolen D c front last written start e long short sized octets lf ef el ew =
+    let wide : length (take 16 (drop start c)) ≡ 16 = length-take-le 16 (drop start c) (omega (arith, length-drop start c, long)) in
+    let whole : length (D (take 16 (drop start c))) ≡ 16 = (sized (take 16 (drop start c)) (wide, AreBelow-take 16 (drop start c) (AreBelow-drop start c octets))).0 in
+    all_unstolen D c front last (in_place start front (drop start c) written) start e long short whole ef el
+    (both_written start front (drop start c) written lf ∙ ap (λ (k : List ℕ). front ++ k) (ew ∙ ap (undone_ends D last) (rest_behind start front (drop start c) lf)))

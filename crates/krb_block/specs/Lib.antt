@@ -9,6 +9,7 @@ pub mod InverseCipher
 pub mod AesWords
 pub mod Size
 pub mod Xor
+pub mod Linked
 pub mod Modes
 pub mod DesTables
 pub mod Des

@@ -9,7 +9,7 @@ ghost use Rattle.krb_block.specs.Size.{key_octets};
 use crate::aes::{AES_BLOCK_SIZE, AesKey, AesSize};
 use crate::cbc::{decrypt_cbc, encrypt_cbc};
 use crate::error::{KerberosCryptoError, KerberosCryptoResult};
-use crate::stealing::{decrypt_cts, encrypt_cts};
+use crate::in_place;
 use std::alloc::Global;
 
 /// The octets, in CBC from a zero block on. `KeyLength` where the key has not the size's length, then `CipherPad` where
@@ -28,7 +28,9 @@ pub fn encrypt_aes_cbc(
     if plaintext.len() % AES_BLOCK_SIZE != 0 {
         return Err(KerberosCryptoError::CipherPad);
     }
-    Ok(encrypt_cbc(alloc, &cipher, plaintext)?)
+    let mut octets = Vec::from_slice(alloc, plaintext)?;
+    encrypt_cbc(&cipher, &mut octets);
+    Ok(octets)
 }
 
 /// The one list of octets that `encrypt_aes_cbc` makes these of. `KeyLength` where the key has not the size's length,
@@ -48,8 +50,10 @@ pub fn decrypt_aes_cbc(
     if cipher_text.len() % AES_BLOCK_SIZE != 0 {
         return Err(KerberosCryptoError::CipherUnpad);
     }
+    let mut octets = Vec::from_slice(alloc, cipher_text)?;
     cipher.undoes();
-    Ok(decrypt_cbc(alloc, &cipher, cipher_text)?)
+    decrypt_cbc(&cipher, &mut octets);
+    Ok(octets)
 }
 
 /// The octets, in CBC with ciphertext stealing, as many as they were (RFC 3962, 5). `KeyLength` where the key has not the
@@ -68,8 +72,9 @@ pub fn encrypt_aes_cts(
     if payload.len() < AES_BLOCK_SIZE {
         return Err(KerberosCryptoError::CipherLength(payload.len(), AES_BLOCK_SIZE));
     }
-    cipher.undoes();
-    Ok(encrypt_cts(alloc, &cipher, payload)?)
+    let mut octets = Vec::from_slice(alloc, payload)?;
+    in_place::encrypt_aes_cts(&cipher, &mut octets);
+    Ok(octets)
 }
 
 /// The one list of octets that `encrypt_aes_cts` makes these of. `KeyLength` where the key has not the size's length,
@@ -89,8 +94,9 @@ pub fn decrypt_aes_cts(
     if cipher_text.len() < AES_BLOCK_SIZE {
         return Err(KerberosCryptoError::CipherLength(cipher_text.len(), AES_BLOCK_SIZE));
     }
-    cipher.undoes();
-    Ok(decrypt_cts(alloc, &cipher, cipher_text)?)
+    let mut octets = Vec::from_slice(alloc, cipher_text)?;
+    in_place::decrypt_aes_cts(&cipher, &mut octets);
+    Ok(octets)
 }
 
 /// Exchanges the last two runs of 16 octets, in place. `CipherLength` of their number and 32 where the octets are fewer,

@@ -6,9 +6,9 @@ ghost use Rattle.krb_block.specs.declared.error.KerberosCryptoError.TheVariants.
 ghost use Rattle.krb_block.specs.Des.{ede3};
 ghost use Rattle.krb_block.specs.Modes.{IsCbc, IsFill, IsOctets};
 
-use crate::cbc::{decrypt_cbc, encrypt_cbc};
 use crate::des::{DES3_BLOCK_SIZE, DesKey};
 use crate::error::{KerberosCryptoError, KerberosCryptoResult};
+use crate::in_place;
 use std::alloc::Global;
 
 /// The octets, with the fewest zeros to whole blocks of 8 behind them, in CBC from a zero block on. `KeyLength` where the
@@ -19,12 +19,12 @@ pub fn encrypt_des(alloc: Global, key: &[u8], payload: &[u8]) -> KerberosCryptoR
     ensures refused { IfErr result (RefusesKey 24 key.now) }
 {
     let cipher = DesKey::new(key)?;
-    if payload.len() % DES3_BLOCK_SIZE == 0 {
-        return Ok(encrypt_cbc(alloc, &cipher, payload)?);
-    }
-    let mut filled = Vec::from_slice(alloc, payload)?;
-    fill_blocks(&mut filled)?;
-    Ok(encrypt_cbc(alloc, &cipher, &filled)?)
+    let whole = payload.len().next_multiple_of(DES3_BLOCK_SIZE);
+    let mut octets = Vec::with_capacity(alloc, whole)?;
+    octets.extend_from_slice(payload)?;
+    fill_blocks(&mut octets)?;
+    in_place::encrypt_des(&cipher, &mut octets);
+    Ok(octets)
 }
 
 /// The one list of octets that is chained to these, with whatever it was filled with. `KeyLength` where the key has not 24
@@ -39,8 +39,9 @@ pub fn decrypt_des(alloc: Global, key: &[u8], cipher_text: &[u8]) -> KerberosCry
     if cipher_text.len() % DES3_BLOCK_SIZE != 0 {
         return Err(KerberosCryptoError::CipherUnpad);
     }
-    cipher.undoes();
-    Ok(decrypt_cbc(alloc, &cipher, cipher_text)?)
+    let mut octets = Vec::from_slice(alloc, cipher_text)?;
+    in_place::decrypt_des(&cipher, &mut octets);
+    Ok(octets)
 }
 
 /// Puts the fewest zeros to whole blocks of 8 behind the octets, which are as before where memory is wanting.

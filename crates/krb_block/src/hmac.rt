@@ -69,7 +69,7 @@ fn block_of<const BLOCK: usize, const SIZE: usize, H: HashFunction<BLOCK, SIZE>>
 }
 
 /// The HMAC of the payload under the key (RFC 2104, 2).
-fn digest_of<const BLOCK: usize, const SIZE: usize, H: HashFunction<BLOCK, SIZE>>(
+pub(crate) fn digest_of<const BLOCK: usize, const SIZE: usize, H: HashFunction<BLOCK, SIZE>>(
     key: &[u8],
     payload: &[u8],
 ) -> [u8; SIZE]

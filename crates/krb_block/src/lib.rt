@@ -10,6 +10,7 @@ mod des_modes;
 mod error;
 mod hash;
 mod hmac;
+pub mod in_place;
 pub mod laws;
 mod nfold;
 mod octets;
