@@ -14,6 +14,8 @@ use crate::hmac::digest_of;
 use crate::stealing;
 use sha1::Sha1;
 
+pub use crate::nfold::n_fold_into;
+
 /// Makes of the octets what CBC with ciphertext stealing makes of them under AES (RFC 3962, 5).
 pub fn encrypt_aes_cts(key: &AesKey, octets: &mut [u8])
     requires { 16 ≤ length octets.old }

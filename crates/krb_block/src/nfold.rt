@@ -28,7 +28,7 @@ pub fn n_fold(alloc: Global, input: &[u8], n: usize) -> KerberosCryptoResult<Vec
 
 /// The octets folded to as many bits as the caller's octets have (RFC 3961, 5.1), which are written over and may have held
 /// anything. Neither is empty, and no memory is taken.
-pub(crate) fn n_fold_into(input: &[u8], out: &mut [u8])
+pub fn n_fold_into(input: &[u8], out: &mut [u8])
     requires filled { 0 < length input.now }
     requires some { 0 < length out.old }
     ensures { out.new ≡ fold input.now (8 * length out.old) }
