@@ -1,5 +1,5 @@
 -- The steps of the message calls.
-use Rattle.std.proofs.Common.{◌≡◌, ◌≢◌, Bool, true, false, not, ℕ, ℤ, ◌≤◌, ◌-◌, ◌%◌, List, ◌++◌, length, take, replicate, refl, sym, ap, subst, ◌∙◌, arith}
+use Rattle.std.proofs.Common.{◌≡◌, ◌≢◌, Bool, true, false, not, ℕ, ℤ, ◌≤◌, ◌-◌, ◌%◌, List, ◌++◌, length, take, drop, replicate, refl, sym, ap, subst, ◌∙◌, arith}
 use Rattle.std.specs.Str.{bytes_eq}
 use Rattle.std.proofs.lemmas.Bool.{le-ltb, eq-eqb}
 use Rattle.std.proofs.lemmas.List.{length-take-le, take_all, take_at}
@@ -10,10 +10,10 @@ use Rattle.krb_block.proofs.HmacSteps.{hmac_size}
 use Rattle.krb_block.proofs.StealingUses.{Cts-same, Cts-length}
 use Rattle.krb_block.specs.Aes.{aes_block}
 use Rattle.krb_block.specs.Des.{ede3, ede3_undo}
-use Rattle.krb_block.specs.Modes.{IsCbc, IsFill, IsOctets}
+use Rattle.krb_block.specs.Modes.{Cts, IsCbc, IsFill, IsOctets}
 use Rattle.krb_block.proofs.Chaining.{IsCbc-same, IsCbc-length}
 use Rattle.krb_block.proofs.DesTriple.{AreInverse-ede3}
-use Rattle.krb_block.proofs.Filling.{IsFill-one, IsFill-whole}
+use Rattle.krb_block.proofs.Filling.{IsFill-whole}
 use Rattle.krb_block.specs.declared.error.KerberosCryptoError.{KerberosCryptoError}
 use Rattle.krb_block.specs.declared.error.KerberosCryptoError.TheVariants.{IntegrityCheck}
 use Rattle.krb_scheme.specs.MessageSteps.{cut_mac, IsEnciphered, IsDeciphered}
@@ -40,6 +40,34 @@ aes_intact size key bytes right long = rw (le-ltb (length bytes) 28 long, right,
 pub aes_short : (size : ℕ) (key bytes : List ℕ) (e : KerberosCryptoError) → length key ≡ size → (e ≡ aes_refusal size key bytes) × (e ≢ IntegrityCheck) → ¬ ((12 ≤ length bytes) × (16 ≤ length bytes - 12))
 aes_short size key bytes e right refused shape =
     refused.1 (refused.0 ∙ aes_intact size key bytes right (omega (arith, shape.0, shape.1)))
+
+-- what is written by the calls is confounder and payload, enciphered
+pub aes_enciphered : (key : List ℕ) (usage : ℤ) (ke ki confounder payload filled c : List ℕ) → ke ≡ aes_ke key usage → ki ≡ aes_ki key usage
+    → filled ≡ confounder ++ payload → IsOctets filled → Cts (aes_block ke) filled c
+    → IsEnciphered 1 (AesCts key usage) (aes_ki key usage) confounder payload filled c ki
+aes_enciphered key usage ke ki confounder payload filled c eke eki joined octets made = record {
+  fill_is = subst (λ f. IsFill 1 (confounder ++ payload) f) (sym joined) (IsFill-whole 1 (omega arith) (confounder ++ payload) (omega arith));
+  octets = octets;
+  enciphered = subst (λ k. Cts (aes_block k) filled c) eke made;
+  ki_is = eki;
+}
+
+-- and what is read is the one list that is enciphered so
+pub aes_deciphered : (key : List ℕ) (usage : ℤ) (ke ki bytes filled : List ℕ) → ke ≡ aes_ke key usage → ki ≡ aes_ki key usage → 28 ≤ length bytes → IsOctets filled
+    → Cts (aes_block ke) filled (take (length bytes - 12) bytes)
+    → ((q : List ℕ) → IsOctets q → Cts (aes_block ke) q (take (length bytes - 12) bytes) → q ≡ filled)
+    → IsDeciphered 1 16 12 (AesCts key usage) (aes_ki key usage) bytes filled ki
+aes_deciphered key usage ke ki bytes filled eke eki long octets made only =
+    let held : AesCts key usage filled (take (length bytes - 12) bytes) = subst (λ k. Cts (aes_block k) filled (take (length bytes - 12) bytes)) eke made in
+    record {
+      long = long;
+      front = held.0;
+      whole = omega arith;
+      of_octets = octets;
+      enciphered = held;
+      only = λ q is h. only q is (subst (λ k. Cts (aes_block k) q (take (length bytes - 12) bytes)) (sym eke) h);
+      ki_is = eki;
+    }
 
 -- ---- triple DES
 
@@ -74,13 +102,13 @@ des3_unshaped key bytes e right refused shape =
     refused.1 (refused.0 ∙ des3_intact key bytes right (omega (arith, shape.0, shape.1.0)) shape.1.1)
 
 -- what is written by the calls is confounder and payload, filled and enciphered
-pub des3_enciphered : (key : List ℕ) (usage : ℤ) (ke ki confounder payload filled f c : List ℕ) → ke ≡ des3_ke key usage → ki ≡ des3_ki key usage
-    → IsFill 8 (confounder ++ payload) filled → IsOctets filled → IsFill 8 filled f → IsCbc 8 (ede3 ke) f c
+pub des3_enciphered : (key : List ℕ) (usage : ℤ) (ke ki confounder payload filled c : List ℕ) → ke ≡ des3_ke key usage → ki ≡ des3_ki key usage
+    → IsFill 8 (confounder ++ payload) filled → IsOctets filled → IsCbc 8 (ede3 ke) filled c
     → IsEnciphered 8 (Des3Cbc key usage) (des3_ki key usage) confounder payload filled c ki
-des3_enciphered key usage ke ki confounder payload filled f c eke eki is octets fill made = record {
+des3_enciphered key usage ke ki confounder payload filled c eke eki is octets made = record {
   fill_is = is;
   octets = octets;
-  enciphered = subst (λ p. Des3Cbc key usage p c) (IsFill-one 8 filled f filled fill (IsFill-whole 8 (omega arith) filled is.whole)) (subst (λ k. IsCbc 8 (ede3 k) f c) eke made);
+  enciphered = subst (λ k. IsCbc 8 (ede3 k) filled c) eke made;
   ki_is = eki;
 }
 
@@ -109,6 +137,12 @@ des3_checked key usage bytes filled ki right d =
     let same : length (take (length bytes - 20) bytes) ≡ length filled = Des3Cbc-length key usage filled (take (length bytes - 20) bytes) d.of_octets d.enciphered in
     let front : length bytes - 20 ≡ length filled = sym (length-take-le (length bytes - 20) bytes (omega arith)) ∙ same in
     des3_intact key bytes right d.long (ap (λ (k : ℕ). k % 8) front ∙ d.whole)
+
+-- ---- calls in place
+
+-- a vector whose octets a call wrote over holds what the call left
+pub written : (items new : List ℕ) (n : ℕ) → length new ≡ n → take n (new ++ drop (length new) items) ≡ new
+written items new n e = take_at new (drop (length new) items) n e
 
 -- ---- the comparison of checksums
 

@@ -4,6 +4,7 @@ mod integrity;
 mod key_derivation;
 mod key_of_seed;
 mod message;
+mod message_keys;
 mod parts;
 
 pub use integrity::{integrity_checksum, keyed_checksum};

@@ -3,6 +3,7 @@
 
 pub mod aes;
 mod checksum;
+mod derived_key;
 pub mod des;
 pub mod laws;
 mod octets;

@@ -7,8 +7,10 @@ ghost use Rattle.krb_scheme.specs.Derive.{aes_dk, IsAesPasswordKey};
 ghost use Rattle.krb_scheme.specs.Sealing.{IsTheOne};
 ghost use Rattle.krb_block.specs.CryptoError.{RefusesKey};
 
+use crate::derived_key::DerivedKey;
 use crate::well_known::KERBEROS;
-use krb_block::{AES_BLOCK_SIZE, AesKey, AesSize, KerberosCryptoResult, n_fold, pbkdf2_hmac_sha1};
+use krb_block::in_place::n_fold_into;
+use krb_block::{AES_BLOCK_SIZE, AesKey, AesSize, KerberosCryptoResult, pbkdf2_hmac_sha1};
 use std::alloc::Global;
 
 /// The rounds of PBKDF2 by default (RFC 3962, 4).
@@ -31,16 +33,26 @@ pub fn derive_key(
     ensures refused { IfErr result (RefusesKey (key_octets size.now) key.now) }
 {
     let cipher = AesKey::new(key, size)?;
-    let folded = n_fold(alloc, well_known, 8 * AES_BLOCK_SIZE)?;
+    let derived = derived_key(&cipher, well_known, size);
+    Ok(Vec::from_slice(alloc, derived.as_slice())?)
+}
+
+/// The key that `derive_key` gives, from a key that is ready for use. No memory is taken.
+pub(crate) fn derived_key(cipher: &AesKey, well_known: &[u8], size: &AesSize) -> DerivedKey
+    requires some { 0 < length well_known.now }
+    requires size { length cipher.now ≡ key_octets size.now }
+    ensures derived { result ≡ aes_dk cipher.now well_known.now }
+    ensures size { length result ≡ key_octets size.now }
+{
     let mut block = [0; AES_BLOCK_SIZE];
-    block.copy_from_slice(&folded);
-    let mut derived = Vec::with_capacity(alloc, key.len())?;
-    for i in 0..key.len() / AES_BLOCK_SIZE {
+    n_fold_into(well_known, &mut block);
+    let mut derived = DerivedKey::empty();
+    for i in 0..size.key_length() / AES_BLOCK_SIZE {
         let next = cipher.encrypt_block(block);
         block = next;
-        derived.extend_from_slice(&block)?;
+        derived.push(&block);
     }
-    Ok(derived)
+    derived
 }
 
 /// The key that a password and a salt give (string-to-key of RFC 3962, 4): PBKDF2 with HMAC-SHA1 and 4096 rounds, and

@@ -3,19 +3,16 @@
 ghost use Rattle.std.specs.Prelude.{◌≡◌, ◌≢◌, ℕ, List, length, IfOk, IfErr};
 ghost use Rattle.krb_block.specs.CryptoError.{IsMemoryOr, RefusesKey};
 ghost use Rattle.krb_block.specs.Size.{key_octets};
-ghost use Rattle.krb_scheme.specs.MessageSteps.{IsEnciphered, IsDeciphered};
+ghost use Rattle.krb_scheme.specs.MessageSteps.{IsDeciphered};
 ghost use Rattle.krb_scheme.specs.Sealed.{IsSealedAes, AesCts, aes_ki, aes_refusal};
 ghost use Rattle.krb_scheme.specs.Sealing.{IsTheOne, IsOfNone, IsGiven, Opens, Enciphers, IsSplit, Deciphers};
 
-use super::key_derivation::derive_key;
-use crate::checksum::{Deciphered, Enciphered};
+use super::message_keys::MessageKeys;
+use crate::checksum::{Deciphered, joined, without_checksum};
 use crate::octets::are_octets;
-use crate::well_known::{usage_ke, usage_ki};
 use crate::without_checksum::{DecryptWithoutChecksum, EncryptWithoutChecksum};
-use krb_block::{
-    AES_BLOCK_SIZE, AES_MAC_SIZE, AesSize, KerberosCryptoError, KerberosCryptoResult,
-    decrypt_aes_cts, encrypt_aes_cts,
-};
+use krb_block::in_place::{decrypt_aes_cts, encrypt_aes_cts, hmac_sha1};
+use krb_block::{AES_BLOCK_SIZE, AES_MAC_SIZE, AesSize, KerberosCryptoError, KerberosCryptoResult};
 use std::alloc::Global;
 
 /// The octets of a message with an empty payload: the confounder and the checksum.
@@ -36,8 +33,12 @@ pub fn encrypt_message(
     ensures sealed { IfOk result (λ octets. IsTheOne (IsSealedAes key.now key_usage confounder payload.now) octets.items) }
     ensures refused { IfErr result (RefusesKey (key_octets size.now) key.now) }
 {
-    let enciphered = encipher(alloc, key, key_usage, payload, &confounder, size)?;
-    enciphered.with_checksum(alloc, AES_MAC_SIZE)
+    let keys = MessageKeys::new(key, key_usage, size)?;
+    let mut octets = joined(alloc, &confounder, payload, AES_MAC_SIZE)?;
+    let mac = hmac_sha1(keys.ki.as_slice(), &octets);
+    encrypt_aes_cts(&keys.ke, &mut octets);
+    octets.extend_from_slice(&mac[..AES_MAC_SIZE])?;
+    Ok(octets)
 }
 
 /// The payload that was encrypted to these octets.
@@ -57,7 +58,7 @@ pub fn decrypt_message(
     ensures exact { IfErr result (λ e. IsMemoryOr e (e ≡ aes_refusal (key_octets size.now) key.now cipher_data.now)) }
 {
     let deciphered = decipher(alloc, key, key_usage, cipher_data, size)?;
-    deciphered.checked(alloc, cipher_data, AES_BLOCK_SIZE, AES_MAC_SIZE)
+    deciphered.checked(cipher_data, AES_BLOCK_SIZE, AES_MAC_SIZE)
 }
 
 /// What `encrypt_message` makes, without the checksum; with it the confounder and Ki.
@@ -75,8 +76,10 @@ pub fn encrypt_message_no_checksum(
     ensures ki { IfOk result (λ made. made.ki.items ≡ aes_ki key.now key_usage) }
     ensures refused { IfErr result (RefusesKey (key_octets size.now) key.now) }
 {
-    let enciphered = encipher(alloc, key, key_usage, payload, &confounder, size)?;
-    enciphered.without_checksum(alloc, &confounder)
+    let keys = MessageKeys::new(key, key_usage, size)?;
+    let mut octets = joined(alloc, &confounder, payload, 0)?;
+    encrypt_aes_cts(&keys.ke, &mut octets);
+    without_checksum(alloc, octets, &confounder, &keys.ki)
 }
 
 /// What the octets without their last 12 decrypt to, these 12 octets, which are not compared, and Ki.
@@ -99,33 +102,6 @@ pub fn decrypt_message_no_checksum(
     deciphered.unchecked(alloc, cipher_data, AES_BLOCK_SIZE, AES_MAC_SIZE)
 }
 
-/// Confounder and payload joined, which AES does not fill, and encrypted under Ke.
-fn encipher(
-    alloc: Global,
-    key: &[u8],
-    key_usage: i32,
-    payload: &[u8],
-    confounder: &[u8; AES_BLOCK_SIZE],
-    size: &AesSize,
-) -> KerberosCryptoResult<Enciphered>
-    ensures key { IfOk result (λ _. length key.now ≡ key_octets size.now) }
-    ensures enciphered { IfOk result (λ r. IsEnciphered 1 (AesCts key.now key_usage) (aes_ki key.now key_usage) confounder.now payload.now r.filled.items r.encrypted.items r.ki.items) }
-    ensures refused { IfErr result (RefusesKey (key_octets size.now) key.now) }
-{
-    let ke = derive_key(alloc, key, &usage_ke(key_usage), size)?;
-    let ki = derive_key(alloc, key, &usage_ki(key_usage), size)?;
-    let mut filled = Vec::with_capacity(alloc, AES_BLOCK_SIZE + payload.len())?;
-    filled.extend_from_slice(confounder)?;
-    filled.extend_from_slice(payload)?;
-    are_octets(&filled);
-    let encrypted = encrypt_aes_cts(alloc, &ke, &filled, size)?;
-    Ok(Enciphered {
-        filled,
-        encrypted,
-        ki,
-    })
-}
-
 /// What the octets without their last 12 decrypt to under Ke.
 fn decipher(
     alloc: Global,
@@ -135,16 +111,19 @@ fn decipher(
     size: &AesSize,
 ) -> KerberosCryptoResult<Deciphered>
     ensures key { IfOk result (λ _. length key.now ≡ key_octets size.now) }
-    ensures deciphered { IfOk result (λ r. IsDeciphered 1 16 12 (AesCts key.now key_usage) (aes_ki key.now key_usage) cipher_data.now r.filled.items r.ki.items) }
+    ensures deciphered { IfOk result (λ r. IsDeciphered 1 16 12 (AesCts key.now key_usage) (aes_ki key.now key_usage) cipher_data.now r.filled.items r.ki) }
     ensures exact { IfErr result (λ e. IsMemoryOr e ((e ≡ aes_refusal (key_octets size.now) key.now cipher_data.now) × (e ≢ KerberosCryptoError.IntegrityCheck))) }
 {
     if cipher_data.len() < SHORTEST {
         return Err(KerberosCryptoError::CipherLength(cipher_data.len(), SHORTEST));
     }
-    let ke = derive_key(alloc, key, &usage_ke(key_usage), size)?;
-    let ki = derive_key(alloc, key, &usage_ki(key_usage), size)?;
+    let keys = MessageKeys::new(key, key_usage, size)?;
     let encrypted = &cipher_data[..cipher_data.len() - AES_MAC_SIZE];
-    let filled = decrypt_aes_cts(alloc, &ke, encrypted, size)?;
+    let mut filled = Vec::from_slice(alloc, encrypted)?;
+    decrypt_aes_cts(&keys.ke, &mut filled);
     are_octets(&filled);
-    Ok(Deciphered { filled, ki })
+    Ok(Deciphered {
+        filled,
+        ki: keys.ki,
+    })
 }

@@ -11,8 +11,10 @@ ghost use Rattle.krb_scheme.specs.Sealing.{IsTheOne};
 use super::key_of_seed::key_of_seed;
 use super::parts::joined;
 use crate::well_known::KERBEROS;
+use krb_block::in_place::n_fold_into;
 use krb_block::{
-    DES3_BLOCK_SIZE, DES3_SEED_LEN, DesKey, KerberosCryptoError, KerberosCryptoResult, n_fold,
+    DES3_BLOCK_SIZE, DES3_KEY_SIZE, DES3_SEED_LEN, DesKey, KerberosCryptoError, KerberosCryptoResult,
+    n_fold,
 };
 use std::alloc::Global;
 
@@ -28,14 +30,22 @@ pub fn derive_key(alloc: Global, key: &[u8], well_known: &[u8]) -> KerberosCrypt
     ensures refused { IfErr result (RefusesKey 24 key.now) }
 {
     let cipher = DesKey::new(key)?;
-    let folded = n_fold(alloc, well_known, 8 * DES3_BLOCK_SIZE)?;
+    let derived = derived_key(&cipher, well_known);
+    Ok(Vec::from_slice(alloc, &derived)?)
+}
+
+/// The key that `derive_key` gives, from a key that is ready for use. No memory is taken.
+pub(crate) fn derived_key(cipher: &DesKey, well_known: &[u8]) -> [u8; DES3_KEY_SIZE]
+    requires { 0 < length well_known.now }
+    ensures { result ≡ des3_dk cipher.now well_known.now }
+{
     let mut block = [0; DES3_BLOCK_SIZE];
-    block.copy_from_slice(&folded);
+    n_fold_into(well_known, &mut block);
     let first = cipher.encrypt_block(block);
     let second = cipher.encrypt_block(first);
     let third = cipher.encrypt_block(second);
     let blocks = joined(&first, &second, &third);
-    Ok(random_to_key(alloc, &blocks[..DES3_SEED_LEN])?)
+    key_of_seed(&blocks[..DES3_SEED_LEN])
 }
 
 /// The key that a password and a salt give (string-to-key of RFC 3961, 6.3.1): both, joined, n-folded to a seed, and the

@@ -1,19 +1,19 @@
 //! Messages under triple DES (RFC 3961, 5.3 and 6.3).
 
-ghost use Rattle.std.specs.Prelude.{◌≡◌, ◌≢◌, ℕ, List, length, IfOk, IfErr};
+ghost use Rattle.std.specs.Prelude.{◌≡◌, ◌≢◌, ◌≤◌, ◌++◌, ℕ, List, length, IfOk, IfErr};
+ghost use Rattle.krb_block.specs.Modes.{IsFill, IsOctets};
 ghost use Rattle.krb_block.specs.CryptoError.{IsMemoryOr, RefusesKey};
-ghost use Rattle.krb_scheme.specs.MessageSteps.{IsEnciphered, IsDeciphered};
+ghost use Rattle.krb_scheme.specs.MessageSteps.{IsDeciphered};
 ghost use Rattle.krb_scheme.specs.Sealed.{IsSealedDes3, Des3Cbc, des3_ki, des3_refusal};
 ghost use Rattle.krb_scheme.specs.Sealing.{IsTheOne, IsOfNone, IsGiven, Opens, Enciphers, IsSplit, Deciphers};
 
-use super::key_derivation::derive_key;
-use crate::checksum::{Deciphered, Enciphered};
+use super::message_keys::MessageKeys;
+use crate::checksum::{Deciphered, joined, without_checksum};
 use crate::octets::are_octets;
-use crate::well_known::{usage_ke, usage_ki};
 use crate::without_checksum::{DecryptWithoutChecksum, EncryptWithoutChecksum};
+use krb_block::in_place::{decrypt_des, encrypt_des, hmac_sha1};
 use krb_block::{
-    DES3_BLOCK_SIZE, DES3_MAC_SIZE, KerberosCryptoError, KerberosCryptoResult, decrypt_des,
-    encrypt_des, fill_blocks,
+    DES3_BLOCK_SIZE, DES3_MAC_SIZE, DesKey, KerberosCryptoError, KerberosCryptoResult, fill_blocks,
 };
 use std::alloc::Global;
 
@@ -35,8 +35,13 @@ pub fn encrypt_message(
     ensures sealed { IfOk result (λ octets. IsTheOne (IsSealedDes3 key.now key_usage confounder payload.now) octets.items) }
     ensures refused { IfErr result (RefusesKey 24 key.now) }
 {
-    let enciphered = encipher(alloc, key, key_usage, payload, &confounder)?;
-    enciphered.with_checksum(alloc, DES3_MAC_SIZE)
+    let base = DesKey::new(key)?;
+    let keys = MessageKeys::new(&base, key_usage)?;
+    let mut octets = filled(alloc, &confounder, payload, DES3_MAC_SIZE)?;
+    let mac = hmac_sha1(keys.ki.as_slice(), &octets);
+    encrypt_des(&keys.ke, &mut octets);
+    octets.extend_from_slice(&mac)?;
+    Ok(octets)
 }
 
 /// The payload that was encrypted to these octets, with its fill, whatever that is.
@@ -56,7 +61,7 @@ pub fn decrypt_message(
     ensures exact { IfErr result (λ e. IsMemoryOr e (e ≡ des3_refusal key.now cipher_data.now)) }
 {
     let deciphered = decipher(alloc, key, key_usage, cipher_data)?;
-    deciphered.checked(alloc, cipher_data, DES3_BLOCK_SIZE, DES3_MAC_SIZE)
+    deciphered.checked(cipher_data, DES3_BLOCK_SIZE, DES3_MAC_SIZE)
 }
 
 /// What `encrypt_message` makes, without the checksum; with it the confounder and Ki.
@@ -73,8 +78,11 @@ pub fn encrypt_message_no_checksum(
     ensures ki { IfOk result (λ made. made.ki.items ≡ des3_ki key.now key_usage) }
     ensures refused { IfErr result (RefusesKey 24 key.now) }
 {
-    let enciphered = encipher(alloc, key, key_usage, payload, &confounder)?;
-    enciphered.without_checksum(alloc, &confounder)
+    let base = DesKey::new(key)?;
+    let keys = MessageKeys::new(&base, key_usage)?;
+    let mut octets = filled(alloc, &confounder, payload, 0)?;
+    encrypt_des(&keys.ke, &mut octets);
+    without_checksum(alloc, octets, &confounder, &keys.ki)
 }
 
 /// What the octets without their last 20 decrypt to, with the fill, whatever that is, these 20 octets, which are not
@@ -97,31 +105,22 @@ pub fn decrypt_message_no_checksum(
     deciphered.unchecked(alloc, cipher_data, DES3_BLOCK_SIZE, DES3_MAC_SIZE)
 }
 
-/// Confounder and payload joined, filled to whole blocks, and encrypted under Ke.
-fn encipher(
+/// Confounder and payload, filled to whole blocks, with room for `spare` octets behind them.
+fn filled(
     alloc: Global,
-    key: &[u8],
-    key_usage: i32,
-    payload: &[u8],
     confounder: &[u8; DES3_BLOCK_SIZE],
-) -> KerberosCryptoResult<Enciphered>
-    ensures key { IfOk result (λ _. length key.now ≡ 24) }
-    ensures enciphered { IfOk result (λ r. IsEnciphered 8 (Des3Cbc key.now key_usage) (des3_ki key.now key_usage) confounder.now payload.now r.filled.items r.encrypted.items r.ki.items) }
-    ensures refused { IfErr result (RefusesKey 24 key.now) }
+    payload: &[u8],
+    spare: usize,
+) -> KerberosCryptoResult<Vec<u8>>
+    requires { spare ≤ 20 }
+    ensures filled { IfOk result (λ octets. IsFill 8 (confounder.now ++ payload.now) octets.items) }
+    ensures octets { IfOk result (λ octets. IsOctets octets.items) }
+    ensures memory { IfErr result (λ e. e ≡ KerberosCryptoError.OutOfMemory) }
 {
-    let ke = derive_key(alloc, key, &usage_ke(key_usage))?;
-    let ki = derive_key(alloc, key, &usage_ki(key_usage))?;
-    let mut filled = Vec::with_capacity(alloc, 2 * DES3_BLOCK_SIZE + payload.len())?;
-    filled.extend_from_slice(confounder)?;
-    filled.extend_from_slice(payload)?;
-    fill_blocks(&mut filled)?;
-    are_octets(&filled);
-    let encrypted = encrypt_des(alloc, &ke, &filled)?;
-    Ok(Enciphered {
-        filled,
-        encrypted,
-        ki,
-    })
+    let mut octets = joined(alloc, confounder, payload, DES3_BLOCK_SIZE + spare)?;
+    fill_blocks(&mut octets)?;
+    are_octets(&octets);
+    Ok(octets)
 }
 
 /// What the octets without their last 20 decrypt to under Ke.
@@ -132,16 +131,23 @@ fn decipher(
     cipher_data: &[u8],
 ) -> KerberosCryptoResult<Deciphered>
     ensures key { IfOk result (λ _. length key.now ≡ 24) }
-    ensures deciphered { IfOk result (λ r. IsDeciphered 8 8 20 (Des3Cbc key.now key_usage) (des3_ki key.now key_usage) cipher_data.now r.filled.items r.ki.items) }
+    ensures deciphered { IfOk result (λ r. IsDeciphered 8 8 20 (Des3Cbc key.now key_usage) (des3_ki key.now key_usage) cipher_data.now r.filled.items r.ki) }
     ensures exact { IfErr result (λ e. IsMemoryOr e ((e ≡ des3_refusal key.now cipher_data.now) × (e ≢ KerberosCryptoError.IntegrityCheck))) }
 {
-    let ke = derive_key(alloc, key, &usage_ke(key_usage))?;
-    let ki = derive_key(alloc, key, &usage_ki(key_usage))?;
+    let base = DesKey::new(key)?;
     if cipher_data.len() < SHORTEST {
         return Err(KerberosCryptoError::CipherLength(cipher_data.len(), SHORTEST));
     }
     let encrypted = &cipher_data[..cipher_data.len() - DES3_MAC_SIZE];
-    let filled = decrypt_des(alloc, &ke, encrypted)?;
+    if encrypted.len() % DES3_BLOCK_SIZE != 0 {
+        return Err(KerberosCryptoError::CipherUnpad);
+    }
+    let keys = MessageKeys::new(&base, key_usage)?;
+    let mut filled = Vec::from_slice(alloc, encrypted)?;
+    decrypt_des(&keys.ke, &mut filled);
     are_octets(&filled);
-    Ok(Deciphered { filled, ki })
+    Ok(Deciphered {
+        filled,
+        ki: keys.ki,
+    })
 }

@@ -26,8 +26,8 @@ returns-clause-opened c =
     let bytes = c.args.cipher_data.now in
     let usage = c.args.key_usage in
     let made = c.in_ok-deciphered.deciphered in
-    let d : IsDeciphered 1 16 12 (AesCts key usage) (aes_ki key usage) bytes made.filled.items made.ki.items = simp to_z-of_z at c.in_ok-deciphered.ensures.deciphered in
-    IfOk-weaker c.checked.result _ _ (λ payload is. rw is.1 (seal_opens (aes_scheme key usage) bytes made.filled.items made.ki.items d is.0)) c.checked.ensures.payload
+    let d : IsDeciphered 1 16 12 (AesCts key usage) (aes_ki key usage) bytes made.filled.items made.ki = simp to_z-of_z at c.in_ok-deciphered.ensures.deciphered in
+    IfOk-weaker c.checked.result _ _ (λ payload is. rw is.1 (seal_opens (aes_scheme key usage) bytes made.filled.items made.ki d is.0)) c.checked.ensures.payload
 
 pub returns-clause-refused : goal.returns-clause-refused
 returns-clause-refused c = λ right.
@@ -36,8 +36,5 @@ returns-clause-refused c = λ right.
     let bytes = c.args.cipher_data.now in
     let usage = c.args.key_usage in
     let made = c.in_ok-deciphered.deciphered in
-    let d : IsDeciphered 1 16 12 (AesCts key usage) (aes_ki key usage) bytes made.filled.items made.ki.items = simp to_z-of_z at c.in_ok-deciphered.ensures.deciphered in
-    IfErr-weaker c.checked.result _ _ (λ e why. elim why [
-      | inl memory ↦ inl memory
-      | inr other ↦ inr (none_sealed (aes_scheme key usage) bytes made.filled.items made.ki.items d other.0)
-    ]) c.checked.ensures.refused
+    let d : IsDeciphered 1 16 12 (AesCts key usage) (aes_ki key usage) bytes made.filled.items made.ki = simp to_z-of_z at c.in_ok-deciphered.ensures.deciphered in
+    IfErr-weaker c.checked.result _ _ (λ e why. inr (none_sealed (aes_scheme key usage) bytes made.filled.items made.ki d why.0)) c.checked.ensures.refused

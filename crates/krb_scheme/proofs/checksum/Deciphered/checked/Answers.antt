@@ -1,25 +1,17 @@
-use Rattle.std.proofs.Common.{rules, ◌≡◌, inl, inr, sym, ap, length, ◌∙◌}
-use Rattle.std.proofs.lemmas.Result.{IfOk-weaker, IfErr-weaker}
-use Rattle.krb_scheme.specs.MessageSteps.{cut_mac, end_of}
+use Rattle.std.proofs.Common.{rules, ◌≡◌, ◌-◌, ℕ, List, length, take, refl, sym, ◌∙◌}
+use Rattle.std.proofs.lemmas.List.{take_rest}
+use Rattle.krb_scheme.specs.MessageSteps.{cut_mac}
+use Rattle.krb_scheme.proofs.Messages.{differ, agree}
 use Rattle.krb_scheme.proofs.checksum.Deciphered.checked.Goals as goal
 
-mac_is : (c : goal.After-drop-mac) → c.deref-3.result.now ≡ cut_mac c.args.mac_size c.args.self.now.ki.items c.args.self.now.filled.items
-mac_is c = search rules
-
-size_is : (c : goal.After-drop-mac) → length c.deref-3.result.now ≡ c.args.mac_size
-size_is c = ap length c.deref-3.ensures.value ∙ c.in_ok-mac.ensures.size
+pub returns-then-ne-clause-refused : goal.returns-then-ne-clause-refused
+returns-then-ne-clause-refused c =
+    let octets : List ℕ = c.args.cipher_data.now in
+    let mac : take c.args.mac_size c.hmac_sha1-mac.result ≡ cut_mac c.args.mac_size c.args.self.ki c.args.self.filled.items = search rules in
+    ((λ ends. differ _ _ _ c.ne.ensures c.if-ne.true (mac ∙ sym ends ∙ sym (take_rest octets (length octets - c.args.mac_size)))), refl)
 
 pub returns-clause-payload : goal.returns-clause-payload
 returns-clause-payload c =
-    let mac = mac_is c in
-    let size = size_is c in
-    IfOk-weaker c.compared.result _ _ (λ payload is. (ap (λ n. end_of n c.args.cipher_data.now) (sym size) ∙ is.0 ∙ mac, is.1)) c.compared.ensures.payload
-
-pub returns-clause-refused : goal.returns-clause-refused
-returns-clause-refused c =
-    let mac = mac_is c in
-    let size = size_is c in
-    IfErr-weaker c.compared.result _ _ (λ e why. elim why [
-      | inl memory ↦ inl memory
-      | inr other ↦ inr ((λ same. other.0 (ap (λ n. end_of n c.args.cipher_data.now) size ∙ same ∙ sym mac)), other.1)
-    ]) c.compared.ensures.refused
+    let octets : List ℕ = c.args.cipher_data.now in
+    let mac : take c.args.mac_size c.hmac_sha1-mac.result ≡ cut_mac c.args.mac_size c.args.self.ki c.args.self.filled.items = search rules in
+    (sym (take_rest octets (length octets - c.args.mac_size)) ∙ sym (agree _ _ _ c.ne.ensures c.if-ne.false) ∙ mac, c.behind.ensures)

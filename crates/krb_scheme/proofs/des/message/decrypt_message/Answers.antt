@@ -25,8 +25,8 @@ returns-clause-opened c =
     let bytes = c.args.cipher_data.now in
     let usage = c.args.key_usage in
     let made = c.in_ok-deciphered.deciphered in
-    let d : IsDeciphered 8 8 20 (Des3Cbc key usage) (des3_ki key usage) bytes made.filled.items made.ki.items = simp to_z-of_z at c.in_ok-deciphered.ensures.deciphered in
-    IfOk-weaker c.checked.result _ _ (λ payload is. rw is.1 (seal_opens (des3_scheme key usage) bytes made.filled.items made.ki.items d is.0)) c.checked.ensures.payload
+    let d : IsDeciphered 8 8 20 (Des3Cbc key usage) (des3_ki key usage) bytes made.filled.items made.ki = simp to_z-of_z at c.in_ok-deciphered.ensures.deciphered in
+    IfOk-weaker c.checked.result _ _ (λ payload is. rw is.1 (seal_opens (des3_scheme key usage) bytes made.filled.items made.ki d is.0)) c.checked.ensures.payload
 
 pub returns-clause-refused : goal.returns-clause-refused
 returns-clause-refused c = λ right.
@@ -35,11 +35,8 @@ returns-clause-refused c = λ right.
     let bytes = c.args.cipher_data.now in
     let usage = c.args.key_usage in
     let made = c.in_ok-deciphered.deciphered in
-    let d : IsDeciphered 8 8 20 (Des3Cbc key usage) (des3_ki key usage) bytes made.filled.items made.ki.items = simp to_z-of_z at c.in_ok-deciphered.ensures.deciphered in
-    IfErr-weaker c.checked.result _ _ (λ e why. elim why [
-      | inl memory ↦ inl memory
-      | inr other ↦ inr (none_sealed (des3_scheme key usage) bytes made.filled.items made.ki.items d other.0)
-    ]) c.checked.ensures.refused
+    let d : IsDeciphered 8 8 20 (Des3Cbc key usage) (des3_ki key usage) bytes made.filled.items made.ki = simp to_z-of_z at c.in_ok-deciphered.ensures.deciphered in
+    IfErr-weaker c.checked.result _ _ (λ e why. inr (none_sealed (des3_scheme key usage) bytes made.filled.items made.ki d why.0)) c.checked.ensures.refused
 
 pub returns-clause-exact : goal.returns-clause-exact
 returns-clause-exact c =
@@ -48,8 +45,5 @@ returns-clause-exact c =
     let bytes = c.args.cipher_data.now in
     let usage = c.args.key_usage in
     let made = c.in_ok-deciphered.deciphered in
-    let d : IsDeciphered 8 8 20 (Des3Cbc key usage) (des3_ki key usage) bytes made.filled.items made.ki.items = simp to_z-of_z at c.in_ok-deciphered.ensures.deciphered in
-    IfErr-weaker c.checked.result _ _ (λ e why. elim why [
-      | inl memory ↦ inl memory
-      | inr other ↦ inr (other.1 ∙ sym (des3_checked key usage bytes made.filled.items made.ki.items c.in_ok-deciphered.ensures.key d))
-    ]) c.checked.ensures.refused
+    let d : IsDeciphered 8 8 20 (Des3Cbc key usage) (des3_ki key usage) bytes made.filled.items made.ki = simp to_z-of_z at c.in_ok-deciphered.ensures.deciphered in
+    IfErr-weaker c.checked.result _ _ (λ e why. inr (why.1 ∙ sym (des3_checked key usage bytes made.filled.items made.ki c.in_ok-deciphered.ensures.key d))) c.checked.ensures.refused

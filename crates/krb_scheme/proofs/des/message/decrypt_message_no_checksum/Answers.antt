@@ -25,5 +25,5 @@ returns-clause-opened c =
     let bytes = c.args.cipher_data.now in
     let usage = c.args.key_usage in
     let made = c.in_ok-deciphered.deciphered in
-    let d : IsDeciphered 8 8 20 (Des3Cbc key usage) (des3_ki key usage) bytes made.filled.items made.ki.items = simp to_z-of_z at c.in_ok-deciphered.ensures.deciphered in
-    IfOk-weaker c.unchecked.result _ _ (λ split is. splits (des3_scheme key usage) bytes made.filled.items made.ki.items split.confounder.items split.plaintext.items split.checksum.items d is) c.unchecked.ensures.parts
+    let d : IsDeciphered 8 8 20 (Des3Cbc key usage) (des3_ki key usage) bytes made.filled.items made.ki = simp to_z-of_z at c.in_ok-deciphered.ensures.deciphered in
+    IfOk-weaker c.unchecked.result _ _ (λ split is. splits (des3_scheme key usage) bytes made.filled.items made.ki split.confounder.items split.plaintext.items split.checksum.items d is) c.unchecked.ensures.parts
