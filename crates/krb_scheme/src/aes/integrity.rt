@@ -5,9 +5,9 @@ ghost use Rattle.krb_block.specs.CryptoError.{RefusesKey};
 ghost use Rattle.krb_block.specs.Size.{key_octets};
 ghost use Rattle.krb_scheme.specs.Sealed.{mac_96, aes_ki, aes_sum};
 
-use super::key_derivation::derive_key;
+use super::key_derivation::derived_key;
 use crate::well_known::{usage_kc, usage_ki};
-use krb_block::{AES_MAC_SIZE, AesSize, KerberosCryptoResult, hmac_sha1};
+use krb_block::{AES_MAC_SIZE, AesKey, AesSize, KerberosCryptoResult, hmac_sha1};
 use std::alloc::Global;
 
 /// The checksum that is sealed in with a payload: its HMAC under Ki, cut to 12 octets.
@@ -24,8 +24,9 @@ pub fn integrity_checksum(
     ensures checksum { IfOk result (λ checksum. checksum.items ≡ mac_96 (aes_ki key.now key_usage) payload.now) }
     ensures refused { IfErr result (RefusesKey (key_octets size.now) key.now) }
 {
-    let ki = derive_key(alloc, key, &usage_ki(key_usage), size)?;
-    hmac_sha1(alloc, &ki, payload, AES_MAC_SIZE)
+    let base = AesKey::new(key, size)?;
+    let ki = derived_key(&base, &usage_ki(key_usage), size);
+    hmac_sha1(alloc, ki.as_slice(), payload, AES_MAC_SIZE)
 }
 
 /// The checksum of a message that stands alone (RFC 3961, 5.4): its HMAC under Kc, cut to 12 octets.
@@ -42,6 +43,7 @@ pub fn checksum_sha_aes(
     ensures checksum { IfOk result (λ checksum. checksum.items ≡ aes_sum key.now key_usage payload.now) }
     ensures refused { IfErr result (RefusesKey (key_octets size.now) key.now) }
 {
-    let kc = derive_key(alloc, key, &usage_kc(key_usage), size)?;
-    hmac_sha1(alloc, &kc, payload, AES_MAC_SIZE)
+    let base = AesKey::new(key, size)?;
+    let kc = derived_key(&base, &usage_kc(key_usage), size);
+    hmac_sha1(alloc, kc.as_slice(), payload, AES_MAC_SIZE)
 }

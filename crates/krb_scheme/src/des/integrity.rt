@@ -5,9 +5,9 @@ ghost use Rattle.krb_block.specs.CryptoError.{RefusesKey};
 ghost use Rattle.krb_block.specs.Hmac.{hmac};
 ghost use Rattle.krb_scheme.specs.Sealed.{des3_ki, des3_sum};
 
-use super::key_derivation::derive_key;
+use super::key_derivation::derived_key;
 use crate::well_known::{usage_kc, usage_ki};
-use krb_block::{DES3_MAC_SIZE, KerberosCryptoResult, hmac_sha1};
+use krb_block::{DES3_MAC_SIZE, DesKey, KerberosCryptoResult, hmac_sha1};
 use std::alloc::Global;
 
 /// The checksum that is sealed in with a payload: its HMAC under Ki, of 20 octets. The payload is not filled.
@@ -23,7 +23,8 @@ pub fn integrity_checksum(
     ensures checksum { IfOk result (λ checksum. checksum.items ≡ hmac (des3_ki key.now key_usage) payload.now) }
     ensures refused { IfErr result (RefusesKey 24 key.now) }
 {
-    let ki = derive_key(alloc, key, &usage_ki(key_usage))?;
+    let base = DesKey::new(key)?;
+    let ki = derived_key(&base, &usage_ki(key_usage));
     Ok(hmac_sha1(alloc, &ki, payload, DES3_MAC_SIZE)?)
 }
 
@@ -40,6 +41,7 @@ pub fn keyed_checksum(
     ensures checksum { IfOk result (λ checksum. checksum.items ≡ des3_sum key.now key_usage payload.now) }
     ensures refused { IfErr result (RefusesKey 24 key.now) }
 {
-    let kc = derive_key(alloc, key, &usage_kc(key_usage))?;
+    let base = DesKey::new(key)?;
+    let kc = derived_key(&base, &usage_kc(key_usage));
     Ok(hmac_sha1(alloc, &kc, payload, DES3_MAC_SIZE)?)
 }

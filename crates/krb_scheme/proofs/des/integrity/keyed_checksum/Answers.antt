@@ -6,5 +6,5 @@ use Rattle.krb_scheme.proofs.des.integrity.keyed_checksum.Goals as goal
 
 pub returns-clause-checksum : goal.returns-clause-checksum
 returns-clause-checksum c =
-    let derived : c.in_ok-kc.kc.items ≡ des3_kc c.args.key.now c.args.key_usage = search rules in
-    whole_mac c.in_ok-kc.kc.items c.args.payload.now c.in_ok-hmac_sha1.field-0.items (search rules) ∙ ap (λ (k : List ℕ). hmac k c.args.payload.now) derived
+    let derived : c.derived_key-kc.result ≡ des3_kc c.args.key.now c.args.key_usage = search rules in
+    whole_mac c.derived_key-kc.result c.args.payload.now c.in_ok-hmac_sha1.field-0.items (search rules) ∙ ap (λ (k : List ℕ). hmac k c.args.payload.now) derived
