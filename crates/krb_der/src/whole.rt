@@ -28,13 +28,16 @@ pub fn from_bytes<T: Der + Drop>(alloc: Global, input: &[u8]) -> Result<T, Asn1D
     Ok(value)
 }
 
+/// The room of a new encoding, in octets: most messages of an exchange need no more.
+const ROOM: usize = 256;
+
 /// The encoding of a value. `OutOfMemory` alone is answered in its place.
 pub fn to_vec<T: DerEncode>(alloc: Global, value: &T) -> Result<Vec<u8>, Asn1DerError>
     ensures ok { IfOk result (λ v. v.items ≡ T.enc value.now) }
     ensures valid { OnOk result (T.is_value value.now) }
     ensures err { IfErr result (λ e. e ≡ OutOfMemory) }
 {
-    let mut out = Vec::new(alloc);
+    let mut out = Vec::with_capacity(alloc, ROOM)?;
     value.write(alloc, &mut out)?;
     Ok(out)
 }

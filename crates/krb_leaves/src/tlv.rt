@@ -78,7 +78,8 @@ pub fn read_tlv(tag: u8, input: &[u8]) -> Result<(&[u8], usize), Asn1DerError>
 
 /// How many octets the number has in base 256.
 fn count_digits(n: usize) -> usize
-    ensures { result ≡ length (digits_of 256 n) }
+    ensures count { result ≡ length (digits_of 256 n) }
+    ensures few { result ≤ 8 }
 {
     if n == 0 {
         return 0;
@@ -99,18 +100,19 @@ pub(crate) fn push_digits(n: usize, out: &mut Vec<u8>) -> Result<(), AllocError>
     Ok(())
 }
 
-/// Writes the tag and the length octets at the end. Where memory runs out, some of them may stand there.
-fn push_header(tag: u8, n: usize, out: &mut Vec<u8>) -> Result<(), AllocError>
-    ensures ok { OnOk result (out.new.items ≡ out.old.items ++ header tag n) }
-    ensures err { OnErr result (take (length out.old.items) out.new.items ≡ out.old.items) }
+/// The octets in front of a content of n octets, at the front of the array, and how many they are.
+fn header_octets(tag: u8, n: usize) -> ([u8; 10], usize)
+    ensures octets { take result.1 result.0 ≡ header tag n }
+    ensures count { result.1 ≤ 10 }
 {
-    out.push(tag)?;
     if n < 128 {
-        out.push(n as u8)?;
-        return Ok(());
+        return ([tag, n as u8, 0, 0, 0, 0, 0, 0, 0, 0], 2);
     }
-    out.push(128 + count_digits(n) as u8)?;
-    push_digits(n, out)
+    let count = count_digits(n);
+    let digits = n.to_be_bytes();
+    let mut octets = [tag, 128 + count as u8, 0, 0, 0, 0, 0, 0, 0, 0];
+    octets[2..2 + count].copy_from_slice(&digits[8 - count..]);
+    (octets, 2 + count)
 }
 
 /// Writes an element at the end.
@@ -119,10 +121,8 @@ pub fn write_tlv(tag: u8, content: &[u8], out: &mut Vec<u8>) -> Result<(), Alloc
     ensures err { OnErr result (out.new.items ≡ out.old.items) }
 {
     let start = out.len();
-    if let Err(e) = push_header(tag, content.len(), out) {
-        out.truncate(start);
-        return Err(e);
-    }
+    let (octets, count) = header_octets(tag, content.len());
+    out.extend_from_slice(&octets[..count])?;
     if let Err(e) = out.extend_from_slice(content) {
         out.truncate(start);
         return Err(e);
@@ -137,11 +137,12 @@ pub fn close_tlv(tag: u8, start: usize, out: &mut Vec<u8>) -> Result<(), AllocEr
     ensures err { OnErr result (out.new.items ≡ take start out.old.items) }
 {
     let end = out.len();
-    if let Err(e) = push_header(tag, end - start, out) {
+    let (octets, count) = header_octets(tag, end - start);
+    if let Err(e) = out.extend_from_slice(&octets[..count]) {
         out.truncate(start);
         return Err(e);
     }
-    let count = out.len() - end;
-    out[start..].rotate_right(count);
+    out.copy_within(start..end, start + count);
+    out[start..start + count].copy_from_slice(&octets[..count]);
     Ok(())
 }
