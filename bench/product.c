@@ -1,0 +1,92 @@
+/* Prints the time of each call, in nanoseconds, a line a call: its name, a tab, the number.
+ * The argument is the window of a measurement in milliseconds. */
+#include "answers.h"
+#include "timing.h"
+
+enum { LARGE = 65536, FRAME = 64 };
+
+static const struct {
+    size_t etype, key_size, confounder_size;
+} suites[] = {{16, 24, 8}, {17, 16, 16}, {18, 32, 16}};
+
+static double window;
+static char name[96];
+static uint8_t key[32], confounder[16], payload[LARGE], sealed[LARGE + FRAME];
+
+static void time_blocks(void) {
+    uint8_t block[16] = {0};
+    for (size_t size = 16; size <= 32; size += 16) {
+        snprintf(name, sizeof name, "AES%zu block, encrypt", 8 * size);
+        TIME(window, name, 1000, bench_aes_encrypt(key, size, 1000, ARRAY(block)));
+        snprintf(name, sizeof name, "AES%zu block, decrypt", 8 * size);
+        TIME(window, name, 1000, bench_aes_decrypt(key, size, 1000, ARRAY(block)));
+        snprintf(name, sizeof name, "AES%zu key schedule", 8 * size);
+        TIME(window, name, 1, bench_aes_encrypt(key, size, 0, ARRAY(block)));
+    }
+    TIME(window, "triple DES block, encrypt", 100, bench_des_encrypt(key, 24, 100, block, 8));
+    TIME(window, "triple DES block, decrypt", 100, bench_des_decrypt(key, 24, 100, block, 8));
+    TIME(window, "triple DES key schedule", 1, bench_des_encrypt(key, 24, 0, block, 8));
+}
+
+static void time_messages(size_t etype, size_t key_size, size_t confounder_size) {
+    static const size_t sizes[] = {64, 1024, LARGE};
+    for (size_t i = 0; i < sizeof sizes / sizeof *sizes; i++) {
+        size_t total = bench_seal(etype, key, key_size, 2, confounder, confounder_size, payload, sizes[i],
+                                  ARRAY(sealed));
+        snprintf(name, sizeof name, "seal %zu octets, suite %zu", sizes[i], etype);
+        TIME(window, name, 1,
+             bench_seal(etype, key, key_size, 2, confounder, confounder_size, payload, sizes[i], NO_ROOM));
+        snprintf(name, sizeof name, "open %zu octets, suite %zu", sizes[i], etype);
+        if (bench_open(etype, key, key_size, 2, sealed, total, NO_ROOM) < sizes[i]) {
+            fprintf(stderr, "%s: refused\n", name);
+            exit(1);
+        }
+        TIME(window, name, 1, bench_open(etype, key, key_size, 2, sealed, total, NO_ROOM));
+    }
+}
+
+static void time_keys(void) {
+    uint8_t out[32];
+    for (size_t etype = 16; etype <= 18; etype++) {
+        snprintf(name, sizeof name, "string to key, suite %zu", etype);
+        TIME(window, name, 1,
+             bench_string_to_key(etype, TEXT("5hYYSAfFJp"), TEXT("EXAMPLE.COMtest1"), ARRAY(out)));
+    }
+    TIME(window, "n-fold, 8 octets to 128 bits", 1, bench_n_fold(TEXT("kerberos"), 16, ARRAY(out)));
+    TIME(window, "n-fold, 8 octets to 168 bits", 1, bench_n_fold(TEXT("kerberos"), 21, ARRAY(out)));
+    TIME(window, "n-fold, 5 octets to 128 bits", 1, bench_n_fold(TEXT("\0\0\0\2\xaa"), 16, ARRAY(out)));
+}
+
+static void time_part(const struct part *part) {
+    struct octets_of_part it = read_digits(part);
+    snprintf(name, sizeof name, "seal a part of %zu octets, suite %zu", it.plain_size, part->etype);
+    TIME(window, name, 100,
+         bench_seal_part(part->etype, it.key, it.key_size, 2, it.confounder, it.confounder_size, it.plain,
+                         it.plain_size, 100, NO_ROOM));
+    snprintf(name, sizeof name, "open a part of %zu octets, suite %zu", it.plain_size, part->etype);
+    TIME(window, name, 1, bench_open_part(part->etype, it.key, it.key_size, 2, it.sealed, it.sealed_size));
+}
+
+int main(int count, char **arguments) {
+    uint8_t small[256];
+    size_t size = octets_of(small_part, small);
+    window = (count > 1 ? atof(arguments[1]) : 20) * 1e6;
+    expect_blocks();
+    expect_keys();
+    expect_parts();
+    for (size_t i = 0; i < sizeof key; i++) {
+        key[i] = 2 * i + 1;
+    }
+    memset(payload, 0x5a, sizeof payload);
+    time_blocks();
+    for (size_t i = 0; i < sizeof suites / sizeof *suites; i++) {
+        time_messages(suites[i].etype, suites[i].key_size, suites[i].confounder_size);
+    }
+    time_keys();
+    TIME(window, "read a part of 149 octets", 1, bench_read_part(small, size));
+    TIME(window, "write a part of 149 octets", 1000, bench_write_part(small, size, 1000, NO_ROOM));
+    for (size_t i = 0; i < sizeof parts / sizeof *parts; i++) {
+        time_part(&parts[i]);
+    }
+    return 0;
+}
