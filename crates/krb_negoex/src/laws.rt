@@ -1,13 +1,28 @@
 //! Laws over the definitions, of functions that do nothing.
 
-ghost use Rattle.std.specs.Prelude.{◌≡◌, ℕ, ◌+◌, List, [], length};
+ghost use Rattle.std.specs.Prelude.{◌≡◌, ◌↔◌, ℕ, ◌+◌, List, [], Vec, length};
+ghost use Rattle.std.specs.declared.alloc.Global.{Global};
 ghost use Rattle.std.specs.declared.io.Error.{Error};
-ghost use Rattle.krb_negoex.specs.Refused.{OneFault};
-ghost use Rattle.krb_negoex.specs.Wire.{nego_layout, exchange_layout, verify_layout, schemes_layout, extensions_layout};
+ghost use Rattle.krb_negoex.specs.GuidLayout.{guid};
+ghost use Rattle.krb_negoex.specs.Layouts.{seen, vector};
+ghost use Rattle.krb_negoex.specs.Refused.{OneFault, IsMemory, IsUnfit};
+ghost use Rattle.krb_negoex.specs.SameLayout.{SameLayout};
+ghost use Rattle.krb_negoex.specs.Wire.{nego_layout, exchange_layout, verify_layout, schemes_layout, extensions_layout, one_octet, type_layout, header_layout, extension_layout, checksum_layout};
 ghost use Rattle.krb_negoex.specs.Whole.{four_zeros, written, HasOneReading};
 ghost use Rattle.krb_negoex.specs.declared.nego.Nego.{Nego};
 ghost use Rattle.krb_negoex.specs.declared.exchange.Exchange.{Exchange};
 ghost use Rattle.krb_negoex.specs.declared.verify.Verify.{Verify};
+
+use crate::checksum::Checksum;
+use crate::exchange::Exchange;
+use crate::extension::Extension;
+use crate::header::{MessageHeader, MessageType};
+use crate::message::NegoexMessage;
+use crate::nego::Nego;
+use crate::parts::{Lay, Placed};
+use crate::traits::NegoexDataType;
+use crate::verify::Verify;
+use uuid::Uuid;
 
 /// A message whose payload is laid right behind its fixed part, as `new` makes it, is read as it alone.
 pub fn messages_read_back()
@@ -28,4 +43,54 @@ pub fn refusals_are_of_one_kind()
     ensures nego { (m : List ℕ) (e g : Error) → nego_layout.refuses m m e → nego_layout.refuses m m g → OneFault e g }
     ensures exchange { (m : List ℕ) (e g : Error) → exchange_layout.refuses m m e → exchange_layout.refuses m m g → OneFault e g }
     ensures verify { (m : List ℕ) (e g : Error) → verify_layout.refuses m m e → verify_layout.refuses m m g → OneFault e g }
+{}
+
+/// What `decode` and `encode` of a message speak of: its own layout (MS-NEGOEX 2.2.6.3 to 2.2.6.5), a payload at its header's
+/// length, and four zeros in front of that in a `Verify` alone.
+pub fn messages()
+    ensures nego { SameLayout ⟦<Nego as Lay>⟧.layout nego_layout }
+    ensures nego_between { ⟦<Nego as NegoexMessage>⟧.between ≡ [] }
+    ensures nego_start { (n : Nego) → ⟦<Nego as NegoexMessage>⟧.start n ≡ n.header.header_len }
+    ensures exchange { SameLayout ⟦<Exchange as Lay>⟧.layout exchange_layout }
+    ensures exchange_between { ⟦<Exchange as NegoexMessage>⟧.between ≡ [] }
+    ensures exchange_start { (n : Exchange) → ⟦<Exchange as NegoexMessage>⟧.start n ≡ n.header.header_len }
+    ensures verify { SameLayout ⟦<Verify as Lay>⟧.layout verify_layout }
+    ensures verify_between { ⟦<Verify as NegoexMessage>⟧.between ≡ four_zeros }
+    ensures verify_start { (n : Verify) → ⟦<Verify as NegoexMessage>⟧.start n ≡ n.header.header_len }
+{}
+
+/// What their refusals are: the layout's first fault, want of memory, and a number that does not fit its field.
+pub fn refusals()
+    ensures nego { (m : List ℕ) (e : Error) → ⟦<Nego as NegoexMessage>⟧.refused m e ↔ nego_layout.refuses m m e }
+    ensures nego_memory { (e : Error) → ⟦<Nego as NegoexMessage>⟧.is_memory e ↔ IsMemory e }
+    ensures nego_unfit { (e : Error) → ⟦<Nego as NegoexMessage>⟧.is_unfit e ↔ IsUnfit e }
+    ensures exchange { (m : List ℕ) (e : Error) → ⟦<Exchange as NegoexMessage>⟧.refused m e ↔ exchange_layout.refuses m m e }
+    ensures exchange_memory { (e : Error) → ⟦<Exchange as NegoexMessage>⟧.is_memory e ↔ IsMemory e }
+    ensures exchange_unfit { (e : Error) → ⟦<Exchange as NegoexMessage>⟧.is_unfit e ↔ IsUnfit e }
+    ensures verify { (m : List ℕ) (e : Error) → ⟦<Verify as NegoexMessage>⟧.refused m e ↔ verify_layout.refuses m m e }
+    ensures verify_memory { (e : Error) → ⟦<Verify as NegoexMessage>⟧.is_memory e ↔ IsMemory e }
+    ensures verify_unfit { (e : Error) → ⟦<Verify as NegoexMessage>⟧.is_unfit e ↔ IsUnfit e }
+{}
+
+/// What the calls of a type of data speak of: its own layout (MS-NEGOEX 2.2.5 and 2.2.6), and, where it is written by itself, a
+/// payload, if there is one, right behind the fixed part, or where a checksum's length says.
+pub fn types_of_data()
+    ensures octet { SameLayout ⟦<u8 as Lay>⟧.layout one_octet }
+    ensures octet_start { (v : ℕ) → ⟦<u8 as Placed>⟧.start v ≡ 0 }
+    ensures guid { SameLayout ⟦<Uuid as Lay>⟧.layout guid }
+    ensures guid_start { (v : List ℕ) → ⟦<Uuid as Placed>⟧.start v ≡ 0 }
+    ensures message_type { SameLayout ⟦<MessageType as Lay>⟧.layout type_layout }
+    ensures message_type_start { (v : MessageType) → ⟦<MessageType as Placed>⟧.start v ≡ 0 }
+    ensures header { SameLayout ⟦<MessageHeader as Lay>⟧.layout header_layout }
+    ensures header_start { (v : MessageHeader) → ⟦<MessageHeader as Placed>⟧.start v ≡ 0 }
+    ensures extension { SameLayout ⟦<Extension as Lay>⟧.layout extension_layout }
+    ensures extension_start { (v : Extension) → ⟦<Extension as Placed>⟧.start v ≡ 12 }
+    ensures checksum { SameLayout ⟦<Checksum as Lay>⟧.layout checksum_layout }
+    ensures checksum_start { (v : Checksum) → ⟦<Checksum as Placed>⟧.start v ≡ v.header_len }
+{}
+
+/// The same of a vector, whose elements have the layout of their type (MS-NEGOEX 2.2.5.2).
+pub fn vectors<T: NegoexDataType + Drop>()
+    ensures layout { SameLayout ⟦<Vec<T> as Lay>⟧.layout (seen (λ v. v.items) (vector T.layout)) }
+    ensures start { (v : Vec T Global) → ⟦<Vec<T> as Placed>⟧.start v ≡ 8 }
 {}
