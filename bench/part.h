@@ -16,8 +16,8 @@ static const char small_part[] =
     "a1020400a511180f32303231313233313030303030305aa611180f32303231313233313030303030305aa711"
     "180f32303231313233313130303030305a";
 
-/* Of tickets for names and keys made up for this, key usage 2: of MIT Kerberos 1.20.1 (16), Heimdal 7.8 (17), MIT Kerberos 1.20.1 (18).
- * The confounders were found with OpenSSL. */
+/* Of tickets for names and keys that were made up for tests, key usage 2: of MIT Kerberos 1.20.1 (suites 16 and 18) and
+ * of Heimdal 7.8 (suite 17). The confounders were found with OpenSSL. */
 static const struct part parts[] = {
     {
         .etype = 16,

@@ -11,7 +11,7 @@ static const struct {
 
 static double window;
 static char name[96];
-static uint8_t key[32], confounder[16], payload[LARGE], sealed[LARGE + FRAME];
+static uint8_t key[32], confounder[16], payload[LARGE], sealed[LARGE + FRAME], opened[LARGE + FRAME];
 
 static void time_blocks(void) {
     uint8_t block[16] = {0};
@@ -37,8 +37,9 @@ static void time_messages(size_t etype, size_t key_size, size_t confounder_size)
         TIME(window, name, 1,
              bench_seal(etype, key, key_size, 2, confounder, confounder_size, payload, sizes[i], NO_ROOM));
         snprintf(name, sizeof name, "open %zu octets, suite %zu", sizes[i], etype);
-        if (bench_open(etype, key, key_size, 2, sealed, total, NO_ROOM) < sizes[i]) {
-            fprintf(stderr, "%s: refused\n", name);
+        if (bench_open(etype, key, key_size, 2, sealed, total, ARRAY(opened)) < sizes[i] ||
+            memcmp(opened, payload, sizes[i]) != 0) {
+            fprintf(stderr, "%s: not what was sealed\n", name);
             exit(1);
         }
         TIME(window, name, 1, bench_open(etype, key, key_size, 2, sealed, total, NO_ROOM));
