@@ -23,6 +23,9 @@ mod opening_tables;
 mod rounds;
 mod tables;
 
+pub use encrypting_tables::{T0, T1, T2, T3};
+pub use opening_tables::{D0, D1, D2, D3};
+
 /// The octets of a block (FIPS 197, 3.1).
 pub const AES_BLOCK_SIZE: usize = 16;
 

@@ -16,6 +16,8 @@ mod permutation;
 mod rounds;
 mod tables;
 
+pub use tables::JOINED;
+
 /// The octets of a block (FIPS 46-3): 64 bits.
 pub const DES3_BLOCK_SIZE: usize = 8;
 

@@ -8,13 +8,11 @@ ghost use Rattle.krb_block.specs.Hmac.{hmac};
 ghost use Rattle.krb_block.specs.Modes.{Cts, IsCbc, IsOctets};
 
 use crate::aes::AesKey;
-use crate::cbc;
 use crate::des::DesKey;
 use crate::hmac::digest_of;
-use crate::stealing;
-use sha1::Sha1;
-
 pub use crate::nfold::n_fold_into;
+use crate::{cbc, stealing};
+use sha1::Sha1;
 
 /// Makes of the octets what CBC with ciphertext stealing makes of them under AES (RFC 3962, 5).
 pub fn encrypt_aes_cts(key: &AesKey, octets: &mut [u8])

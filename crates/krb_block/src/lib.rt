@@ -16,6 +16,7 @@ mod nfold;
 mod octets;
 mod pbkdf2;
 mod stealing;
+pub mod word_tables;
 mod xor;
 
 pub use aes::{AES_BLOCK_SIZE, AES_MAC_SIZE, AES128_KEY_SIZE, AES256_KEY_SIZE, AesKey, AesSize};

@@ -22,8 +22,7 @@ loop-i-preserved g c =
     let long : length made ≡ size = search rules in
     let fits : size * i + size ≤ length o = omega (arith, inside, c.loop-i.auto.octets) in
     let next = placed_at size o _ c.copy_from_slice.new.self made i long fits c.copy_from_slice.ensures.after refl in
-    let count : ℕ = length p / size in
-    (
+    let count : ℕ = length p / size in (
       link_step size E count i c.loop-i.before p (take (size * i) o) _ made part (linked size E count c.args.first.now p) low inside at is next.0 c.loop-i.invariant.0,
       next.1 ∙ drop_more size o p i c.loop-i.invariant.1,
       last_linked_step size E count i c.loop-i.before p made part (last_linked size E count c.args.first.now p) low inside at is c.loop-i.invariant.2,

@@ -19,8 +19,7 @@ loop-i-preserved g c =
     let whole : length c.decrypt_block-mixed.result ≡ size = search rules in
     let long : length plain ≡ size = search rules in
     let fits : size * i + size ≤ length o = omega (arith, inside, c.loop-i.auto.octets) in
-    let next = placed_at size o _ c.copy_from_slice-in-loop-i.new.self plain i long fits c.copy_from_slice-in-loop-i.ensures.after refl in
-    (
+    let next = placed_at size o _ c.copy_from_slice-in-loop-i.new.self plain i long fits c.copy_from_slice-in-loop-i.ensures.after refl in (
       unlink_step size D count i c.loop-i.before p (take (size * i) o) _ block c.decrypt_block-mixed.result plain (unlinked size D count c.args.first.now p) low at c.decrypt_block-mixed.ensures whole c.xored_with.ensures next.0 c.loop-i.invariant.0,
       next.1 ∙ drop_more size o p i c.loop-i.invariant.1,
       last_block_step size count i c.loop-i.before p block (last_block size count c.args.first.now p) low at c.loop-i.invariant.2,
