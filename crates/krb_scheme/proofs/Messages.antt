@@ -16,8 +16,8 @@ use Rattle.krb_block.proofs.DesTriple.{AreInverse-ede3}
 use Rattle.krb_block.proofs.Filling.{IsFill-whole}
 use Rattle.krb_block.specs.declared.error.KerberosCryptoError.{KerberosCryptoError}
 use Rattle.krb_block.specs.declared.error.KerberosCryptoError.TheVariants.{IntegrityCheck}
-use Rattle.krb_scheme.specs.MessageSteps.{cut_mac, IsEnciphered, IsDeciphered}
-use Rattle.krb_scheme.proofs.Opening.{IsScheme}
+use Rattle.krb_scheme.specs.MessageSteps.{cut_mac, IsDeciphered}
+use Rattle.krb_scheme.proofs.Opening.{IsScheme, IsEnciphered}
 use Rattle.krb_scheme.specs.Sealed.{aes_ke, aes_ki, AesCts, mac_96, aes_refusal, des3_ke, des3_ki, Des3Cbc, des3_refusal}
 
 -- ---- AES

@@ -6,7 +6,14 @@ use Rattle.krb_block.specs.Modes.{IsOctets, IsFill}
 use Rattle.krb_block.proofs.Filling.{IsFill-one, IsFill-whole, IsFill-behind, IsFill-before, IsFill-octets, IsFill-front, rest_whole}
 use Rattle.krb_scheme.specs.Sealing.{IsGiven, IsOfNone, IsTheOne, Opens, Enciphers, IsSplit, Deciphers}
 use Rattle.krb_scheme.specs.Sealed.{IsSealedBy}
-use Rattle.krb_scheme.specs.MessageSteps.{end_of, IsEnciphered, IsDeciphered}
+use Rattle.krb_scheme.specs.MessageSteps.{end_of, IsDeciphered}
+
+-- confounder and payload, filled to a multiple of fill octets and enciphered, and the key Ki
+pub record IsEnciphered (fill : ℕ) (enciphers : List ℕ → List ℕ → Type 0) (integrity_key confounder payload filled encrypted ki : List ℕ) : Type 0 where
+  pub fill_is : IsFill fill (confounder ++ payload) filled
+  pub octets : IsOctets filled
+  pub enciphered : enciphers filled encrypted
+  pub ki_is : ki ≡ integrity_key
 
 -- what is asked of a scheme: confounders of n octets are whole fills; its checksum has h octets, and is the tag that the calls
 -- compute under the integrity key; no list is enciphered to two; and enciphered octets have a length of this shape

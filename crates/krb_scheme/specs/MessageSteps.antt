@@ -1,7 +1,7 @@
 -- What the message calls keep between their steps.
-use Rattle.std.specs.Prelude.{◌≡◌, ℕ, ◌+◌, ◌-◌, ◌%◌, ◌≤◌, List, ◌++◌, length, take, drop}
+use Rattle.std.specs.Prelude.{◌≡◌, ℕ, ◌+◌, ◌-◌, ◌%◌, ◌≤◌, List, length, take, drop}
 use Rattle.krb_block.specs.Hmac.{hmac}
-use Rattle.krb_block.specs.Modes.{IsOctets, IsFill}
+use Rattle.krb_block.specs.Modes.{IsOctets}
 
 -- the first size octets of an HMAC (RFC 2104, 5; RFC 3961, 5.3, "H1[1..h]")
 abbrev pub cut_mac : ℕ → List ℕ → List ℕ → List ℕ
@@ -10,13 +10,6 @@ cut_mac size key message = take size (hmac key message)
 -- the last size of the octets, where a checksum stands (RFC 3961, 5.3)
 abbrev pub end_of : ℕ → List ℕ → List ℕ
 end_of size octets = drop (length octets - size) octets
-
--- confounder and payload, filled to a multiple of fill octets and enciphered, and the key Ki
-pub record IsEnciphered (fill : ℕ) (enciphers : List ℕ → List ℕ → Type 0) (integrity_key confounder payload filled encrypted ki : List ℕ) : Type 0 where
-  pub fill_is : IsFill fill (confounder ++ payload) filled
-  pub octets : IsOctets filled
-  pub enciphered : enciphers filled encrypted
-  pub ki_is : ki ≡ integrity_key
 
 -- the one list that is enciphered to the octets without their last h, which holds n octets of a confounder and whole fills,
 -- and the key Ki

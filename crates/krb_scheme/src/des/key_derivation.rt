@@ -13,8 +13,8 @@ use super::parts::joined;
 use crate::well_known::KERBEROS;
 use krb_block::in_place::n_fold_into;
 use krb_block::{
-    DES3_BLOCK_SIZE, DES3_KEY_SIZE, DES3_SEED_LEN, DesKey, KerberosCryptoError, KerberosCryptoResult,
-    n_fold,
+    DES3_BLOCK_SIZE, DES3_KEY_SIZE, DES3_SEED_LEN, DesKey, KerberosCryptoError,
+    KerberosCryptoResult, n_fold,
 };
 use std::alloc::Global;
 

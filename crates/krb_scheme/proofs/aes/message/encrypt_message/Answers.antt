@@ -4,8 +4,8 @@ use Rattle.std.proofs.lemmas.Slice.{pushed}
 use Rattle.krb_block.specs.Aes.{aes_block}
 use Rattle.krb_block.specs.Modes.{Cts, IsOctets}
 use Rattle.krb_scheme.specs.Sealed.{AesCts, aes_ke, aes_ki}
-use Rattle.krb_scheme.specs.MessageSteps.{cut_mac, IsEnciphered}
-use Rattle.krb_scheme.proofs.Opening.{seals}
+use Rattle.krb_scheme.specs.MessageSteps.{cut_mac}
+use Rattle.krb_scheme.proofs.Opening.{IsEnciphered, seals}
 use Rattle.krb_scheme.proofs.Messages.{aes_scheme, aes_enciphered, written}
 use Rattle.krb_scheme.proofs.aes.message.encrypt_message.Goals as goal
 

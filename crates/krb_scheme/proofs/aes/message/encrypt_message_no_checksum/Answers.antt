@@ -3,9 +3,8 @@ use Rattle.std.proofs.lemmas.Int.{to_z-of_z}
 use Rattle.krb_block.specs.Aes.{aes_block}
 use Rattle.krb_block.specs.Modes.{Cts, IsOctets}
 use Rattle.krb_scheme.specs.Sealed.{AesCts, aes_ke, aes_ki}
-use Rattle.krb_scheme.specs.MessageSteps.{IsEnciphered}
 use Rattle.std.proofs.lemmas.Result.{IfOk-weaker}
-use Rattle.krb_scheme.proofs.Opening.{enciphers_one}
+use Rattle.krb_scheme.proofs.Opening.{IsEnciphered, enciphers_one}
 use Rattle.krb_scheme.proofs.Messages.{aes_scheme, aes_enciphered, written}
 use Rattle.krb_scheme.proofs.aes.message.encrypt_message_no_checksum.Goals as goal
 

@@ -6,8 +6,8 @@ use Rattle.std.proofs.lemmas.Slice.{pushed}
 use Rattle.krb_block.specs.Des.{ede3}
 use Rattle.krb_block.specs.Modes.{IsCbc, IsOctets}
 use Rattle.krb_scheme.specs.Sealed.{Des3Cbc, des3_ke, des3_ki}
-use Rattle.krb_scheme.specs.MessageSteps.{cut_mac, IsEnciphered}
-use Rattle.krb_scheme.proofs.Opening.{seals}
+use Rattle.krb_scheme.specs.MessageSteps.{cut_mac}
+use Rattle.krb_scheme.proofs.Opening.{IsEnciphered, seals}
 use Rattle.krb_scheme.proofs.Messages.{des3_scheme, des3_enciphered, written}
 use Rattle.krb_scheme.proofs.des.message.encrypt_message.Goals as goal
 

@@ -3,9 +3,8 @@ use Rattle.std.proofs.lemmas.Int.{to_z-of_z}
 use Rattle.krb_block.specs.Des.{ede3}
 use Rattle.krb_block.specs.Modes.{IsCbc, IsOctets}
 use Rattle.krb_scheme.specs.Sealed.{Des3Cbc, des3_ke, des3_ki}
-use Rattle.krb_scheme.specs.MessageSteps.{IsEnciphered}
 use Rattle.std.proofs.lemmas.Result.{IfOk-weaker}
-use Rattle.krb_scheme.proofs.Opening.{enciphers_one}
+use Rattle.krb_scheme.proofs.Opening.{IsEnciphered, enciphers_one}
 use Rattle.krb_scheme.proofs.Messages.{des3_scheme, des3_enciphered, written}
 use Rattle.krb_scheme.proofs.des.message.encrypt_message_no_checksum.Goals as goal
 
