@@ -1,0 +1,153 @@
+/* Makes each call with its requests for memory refused, each in turn, and prints a line a call: its name, how many requests it
+ * makes, and how many runs were made. Ends with status 1 at the first run that answers neither the undisturbed answer nor want
+ * of memory, or that holds a block when it ends.
+ *
+ * The arguments are the files of rows of octets: an origin, a type and octets in hexadecimal digits, with tabs between. */
+#include "calls.h"
+#include "memory.h"
+#include <stdint.h>
+#include <stdio.h>
+#include <stdlib.h>
+#include <string.h>
+#include <unistd.h>
+
+enum { ROOM = 16384, DONE = 0, OUT_OF_MEMORY = 1 };
+
+/* The program's, which the linker turned from main (--wrap). */
+int __real_main(int count, char **words);
+
+struct octets {
+    uint8_t at[ROOM];
+    size_t count;
+};
+
+struct answer {
+    int status;
+    struct octets octets;
+    long requests, held;
+};
+
+static FILE *report;
+
+static void die(const char *why) {
+    fprintf(stderr, "refusals: %s\n", why);
+    exit(1);
+}
+
+/* Has the program run on what stands in the file behind its standard input. */
+static struct answer run(long refused, bool on) {
+    static char name[] = "refusals", *words[] = {name, NULL};
+    struct answer answer;
+    if (lseek(STDIN_FILENO, 0, SEEK_SET) || lseek(STDOUT_FILENO, 0, SEEK_SET) || ftruncate(STDOUT_FILENO, 0)) {
+        die("a file cannot be rewound");
+    }
+    start_requests(refused, on);
+    answer.status = __real_main(1, words);
+    answer.requests = requests_made();
+    answer.held = blocks_held();
+    ssize_t count = pread(STDOUT_FILENO, answer.octets.at, ROOM, 0);
+    if (count < 0) {
+        die("an answer cannot be read");
+    }
+    answer.octets.count = count;
+    return answer;
+}
+
+static void give(const char *name, const struct octets *octets) {
+    uint8_t length = strlen(name);
+    if (1 + length + octets->count > ROOM) {
+        die("too many octets");
+    }
+    if (ftruncate(STDIN_FILENO, 0) || pwrite(STDIN_FILENO, &length, 1, 0) != 1 ||
+        pwrite(STDIN_FILENO, name, length, 1) != length ||
+        pwrite(STDIN_FILENO, octets->at, octets->count, 1 + length) != (ssize_t)octets->count) {
+        die("a call cannot be written");
+    }
+}
+
+static bool are_equal(const struct octets *one, const struct octets *other) {
+    return one->count == other->count && memcmp(one->at, other->at, one->count) == 0;
+}
+
+/* Whether a run with refusals ended well: as the undisturbed one, or for want of memory with nothing written. */
+static bool is_well(const struct answer *it, const struct answer *undisturbed) {
+    if (it->held != 0) {
+        return false;
+    }
+    if (it->status == OUT_OF_MEMORY) {
+        return it->octets.count == 0 && it->requests > 0;
+    }
+    return it->status == undisturbed->status && are_equal(&it->octets, &undisturbed->octets);
+}
+
+/* Refuses each request in turn, until a run meets none, and answers how many runs that took. */
+static long refuse_each(const char *name, const struct answer *undisturbed, bool on) {
+    for (long refused = 1;; refused++) {
+        struct answer it = run(refused, on);
+        if (!is_well(&it, undisturbed)) {
+            fprintf(stderr, "refusals: %s: request %ld refused%s: status %d, %zu octets, %ld blocks held\n", name,
+                    refused, on ? " and each after it" : "", it.status, it.octets.count, it.held);
+            exit(1);
+        }
+        if (it.requests < refused) {
+            return refused;
+        }
+    }
+}
+
+/* Makes the call undisturbed and with refusals, prints its line, and answers the undisturbed answer. */
+static struct answer try_call(const char *name, const struct octets *octets) {
+    give(name, octets);
+    struct answer undisturbed = run(0, false);
+    if (undisturbed.status != DONE || undisturbed.held != 0) {
+        fprintf(stderr, "refusals: %s: status %d, %ld blocks held\n", name, undisturbed.status, undisturbed.held);
+        exit(1);
+    }
+    long runs = 1 + refuse_each(name, &undisturbed, false) + refuse_each(name, &undisturbed, true);
+    fprintf(report, "%s\t%ld\t%ld\n", name, undisturbed.requests, runs);
+    return undisturbed;
+}
+
+static struct octets octets_of(const char *digits) {
+    struct octets made = {.count = 0};
+    unsigned octet;
+    for (; sscanf(digits, "%2x", &octet) == 1; digits += 2) {
+        if (made.count == ROOM) {
+            die("too many octets");
+        }
+        made.at[made.count++] = octet;
+    }
+    return made;
+}
+
+static void try_listed(void) {
+    struct octets octets = {.count = 0};
+    for (size_t i = 0; i < sizeof calls / sizeof *calls; i++) {
+        const struct call *call = &calls[i];
+        if (call->digits) {
+            octets = octets_of(call->digits);
+        } else if (call->count) {
+            octets.count = call->count;
+            memset(octets.at, call->octet, call->count);
+        }
+        struct answer made = try_call(call->name, &octets);
+        struct octets wanted = octets_of(call->answer ? call->answer : "");
+        if (made.requests > call->most || (call->answer && !are_equal(&made.octets, &wanted))) {
+            fprintf(stderr, "refusals: %s: %ld requests, and not the answer or more than %ld\n", call->name,
+                    made.requests, call->most);
+            exit(1);
+        }
+        octets = made.octets;
+    }
+}
+
+int __wrap_main(void) {
+    FILE *input = tmpfile(), *output = tmpfile();
+    report = fdopen(dup(STDOUT_FILENO), "w");
+    if (!input || !output || !report || dup2(fileno(input), STDIN_FILENO) < 0 ||
+        dup2(fileno(output), STDOUT_FILENO) < 0) {
+        die("no files for the program's input and output");
+    }
+    try_listed();
+    return 0;
+}
