@@ -1,8 +1,7 @@
 /* The calls of the cryptography, and what they are made on. */
 #ifndef CALLS_H
 #define CALLS_H
-#include <stddef.h>
-#include <stdint.h>
+#include "c_library.h"
 
 /* A call of crates/refusals by its name. It is made on the octets of these digits, or on one octet so many times, or else on
  * what the call before it answered. The most requests that it may make, and the answer's digits where they are known. */

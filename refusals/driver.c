@@ -3,13 +3,9 @@
  * of memory, or that holds a block when it ends.
  *
  * The arguments are the files of rows of octets: an origin, a type and octets in hexadecimal digits, with tabs between. */
+#include "c_library.h"
 #include "calls.h"
 #include "memory.h"
-#include <stdint.h>
-#include <stdio.h>
-#include <stdlib.h>
-#include <string.h>
-#include <unistd.h>
 
 enum { ROOM = 16384, DONE = 0, OUT_OF_MEMORY = 1 };
 
@@ -35,17 +31,17 @@ static void die(const char *why) {
 }
 
 /* Has the program run on what stands in the file behind its standard input. */
-static struct answer run(long refused, bool on) {
-    static char name[] = "refusals", *words[] = {name, NULL};
+static struct answer run(long refused, int on) {
+    static char name[] = "refusals", *words[] = {name, 0};
     struct answer answer;
-    if (lseek(STDIN_FILENO, 0, SEEK_SET) || lseek(STDOUT_FILENO, 0, SEEK_SET) || ftruncate(STDOUT_FILENO, 0)) {
+    if (lseek(STDIN_FILENO, 0, 0) || lseek(STDOUT_FILENO, 0, 0) || ftruncate(STDOUT_FILENO, 0)) {
         die("a file cannot be rewound");
     }
     start_requests(refused, on);
     answer.status = __real_main(1, words);
     answer.requests = requests_made();
     answer.held = blocks_held();
-    ssize_t count = pread(STDOUT_FILENO, answer.octets.at, ROOM, 0);
+    long count = pread(STDOUT_FILENO, answer.octets.at, ROOM, 0);
     if (count < 0) {
         die("an answer cannot be read");
     }
@@ -60,19 +56,19 @@ static void give(const char *name, const struct octets *octets) {
     }
     if (ftruncate(STDIN_FILENO, 0) || pwrite(STDIN_FILENO, &length, 1, 0) != 1 ||
         pwrite(STDIN_FILENO, name, length, 1) != length ||
-        pwrite(STDIN_FILENO, octets->at, octets->count, 1 + length) != (ssize_t)octets->count) {
+        pwrite(STDIN_FILENO, octets->at, octets->count, 1 + length) != (long)octets->count) {
         die("a call cannot be written");
     }
 }
 
-static bool are_equal(const struct octets *one, const struct octets *other) {
+static int are_equal(const struct octets *one, const struct octets *other) {
     return one->count == other->count && memcmp(one->at, other->at, one->count) == 0;
 }
 
 /* Whether a run with refusals ended well: as the undisturbed one, or for want of memory with nothing written. */
-static bool is_well(const struct answer *it, const struct answer *undisturbed) {
+static int is_well(const struct answer *it, const struct answer *undisturbed) {
     if (it->held != 0) {
-        return false;
+        return 0;
     }
     if (it->status == OUT_OF_MEMORY) {
         return it->octets.count == 0 && it->requests > 0;
@@ -81,7 +77,7 @@ static bool is_well(const struct answer *it, const struct answer *undisturbed) {
 }
 
 /* Refuses each request in turn, until a run meets none, and answers how many runs that took. */
-static long refuse_each(const char *name, const struct answer *undisturbed, bool on) {
+static long refuse_each(const char *name, const struct answer *undisturbed, int on) {
     for (long refused = 1;; refused++) {
         struct answer it = run(refused, on);
         if (!is_well(&it, undisturbed)) {
@@ -98,12 +94,12 @@ static long refuse_each(const char *name, const struct answer *undisturbed, bool
 /* Makes the call undisturbed and with refusals, prints its line, and answers the undisturbed answer. */
 static struct answer try_call(const char *name, const struct octets *octets) {
     give(name, octets);
-    struct answer undisturbed = run(0, false);
+    struct answer undisturbed = run(0, 0);
     if (undisturbed.status != DONE || undisturbed.held != 0) {
         fprintf(stderr, "refusals: %s: status %d, %ld blocks held\n", name, undisturbed.status, undisturbed.held);
         exit(1);
     }
-    long runs = 1 + refuse_each(name, &undisturbed, false) + refuse_each(name, &undisturbed, true);
+    long runs = 1 + refuse_each(name, &undisturbed, 0) + refuse_each(name, &undisturbed, 1);
     fprintf(report, "%s\t%ld\t%ld\n", name, undisturbed.requests, runs);
     return undisturbed;
 }

@@ -1,10 +1,9 @@
 /* Counts and refuses the requests for memory of what is linked with it. */
 #ifndef MEMORY_H
 #define MEMORY_H
-#include <stdbool.h>
 
-/* Starts a run in which the request of this number (from 1; 0 for none) is refused, and with `on` each one after it. */
-void start_requests(long refused, bool on);
+/* Starts a run in which the request of this number (from 1; 0 for none) is refused, and where `on` holds each one after it. */
+void start_requests(long refused, int on);
 
 /* How many requests the run has made, and how many blocks it holds. */
 long requests_made(void);
