@@ -7,7 +7,8 @@
 #include "calls.h"
 #include "memory.h"
 
-enum { ROOM = 16384, DONE = 0, OUT_OF_MEMORY = 1 };
+/* The statuses of crates/refusals, and the most octets that it reads. */
+enum { DONE, OUT_OF_MEMORY, REFUSED, CHANGED, NO_CALL, ROOM = 16384 };
 
 /* The program's, which the linker turned from main (--wrap). */
 int __real_main(int count, char **words);
@@ -24,6 +25,7 @@ struct answer {
 };
 
 static FILE *report;
+static int passed;
 
 static void die(const char *why) {
     fprintf(stderr, "refusals: %s\n", why);
@@ -91,16 +93,18 @@ static long refuse_each(const char *name, const struct answer *undisturbed, int 
     }
 }
 
-/* Makes the call undisturbed and with refusals, prints its line, and answers the undisturbed answer. */
-static struct answer try_call(const char *name, const struct octets *octets) {
+/* Makes the call undisturbed, which is to end with this status, and with refusals; prints its line, and answers the undisturbed
+ * answer. */
+static struct answer try_call(const char *name, const struct octets *octets, int status) {
     give(name, octets);
     struct answer undisturbed = run(0, 0);
-    if (undisturbed.status != DONE || undisturbed.held != 0) {
+    if (undisturbed.status != status || undisturbed.held != 0) {
         fprintf(stderr, "refusals: %s: status %d, %ld blocks held\n", name, undisturbed.status, undisturbed.held);
         exit(1);
     }
     long runs = 1 + refuse_each(name, &undisturbed, 0) + refuse_each(name, &undisturbed, 1);
     fprintf(report, "%s\t%ld\t%ld\n", name, undisturbed.requests, runs);
+    passed++;
     return undisturbed;
 }
 
@@ -126,18 +130,51 @@ static void try_listed(void) {
             octets.count = call->count;
             memset(octets.at, call->octet, call->count);
         }
-        struct answer made = try_call(call->name, &octets);
+        struct answer made = try_call(call->name, &octets, DONE);
         struct octets wanted = octets_of(call->answer ? call->answer : "");
-        if (made.requests > call->most || (call->answer && !are_equal(&made.octets, &wanted))) {
-            fprintf(stderr, "refusals: %s: %ld requests, and not the answer or more than %ld\n", call->name,
-                    made.requests, call->most);
+        if (made.requests < 1 || made.requests > call->most || (call->answer && !are_equal(&made.octets, &wanted))) {
+            fprintf(stderr, "refusals: %s: %ld requests, or not the known answer\n", call->name, made.requests);
             exit(1);
         }
         octets = made.octets;
     }
 }
 
-int __wrap_main(void) {
+/* Whether the program has a call of this name. */
+static int is_called(const char *name, const struct octets *octets) {
+    give(name, octets);
+    return run(0, 0).status != NO_CALL;
+}
+
+/* Each row of a table: an origin, a type and digits, with tabs between. What is read is written as the same octets; where a
+ * refusal stands in the origin's place, they are refused. */
+static void try_rows(const char *path) {
+    static char line[4 * ROOM];
+    FILE *rows = fopen(path, "r");
+    if (!rows) {
+        die("no such table");
+    }
+    while (fgets(line, sizeof line, rows)) {
+        char *origin = strtok(line, "\t"), *name = strtok(0, "\t"), *digits = strtok(0, "\t\n");
+        if (*origin == '#' || !digits) {
+            continue;
+        }
+        int is_refused = 'A' <= *origin && *origin <= 'Z';
+        struct octets octets = octets_of(digits);
+        if (!is_called(name, &octets)) {
+            fprintf(report, "%s\tleft out\n", name);
+            continue;
+        }
+        struct answer made = try_call(name, &octets, is_refused ? REFUSED : DONE);
+        if (!is_refused && !are_equal(&made.octets, &octets)) {
+            fprintf(stderr, "refusals: %s: not the octets that were read\n", name);
+            exit(1);
+        }
+    }
+    fclose(rows);
+}
+
+int __wrap_main(int count, char **words) {
     FILE *input = tmpfile(), *output = tmpfile();
     report = fdopen(dup(STDOUT_FILENO), "w");
     if (!input || !output || !report || dup2(fileno(input), STDIN_FILENO) < 0 ||
@@ -145,5 +182,10 @@ int __wrap_main(void) {
         die("no files for the program's input and output");
     }
     try_listed();
+    for (int i = 1; i < count; i++) {
+        try_rows(words[i]);
+    }
+    fprintf(report, "%d passed, 0 failed\n", passed);
+    fclose(report);
     return 0;
 }

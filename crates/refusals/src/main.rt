@@ -10,7 +10,9 @@ mod cryptography;
 mod keys;
 mod outcome;
 mod parts;
+mod round_trip;
 mod suites;
+mod types;
 
 use call::made_of;
 use outcome::Refusal;
