@@ -1,8 +1,8 @@
-/* Makes each call with its requests for memory refused, each in turn, and prints a line a call: its name, how many requests it
- * makes, and how many runs were made. Ends with status 1 at the first run that answers neither the undisturbed answer nor want
- * of memory, or that holds a block when it ends.
+/* Makes each call with its requests for memory refused, each in turn: that one alone, and that one with all after it. Prints a
+ * line a call: its name, how many requests it makes, and in how many runs it was made. Ends with status 1 at the first run that
+ * answers neither what the undisturbed run answers nor want of memory, or that holds a block when it ends.
  *
- * The arguments are the files of rows of octets: an origin, a type and octets in hexadecimal digits, with tabs between. */
+ * The arguments are tables of octets. */
 #include "c_library.h"
 #include "calls.h"
 #include "memory.h"
@@ -83,8 +83,8 @@ static long refuse_each(const char *name, const struct answer *undisturbed, int 
     for (long refused = 1;; refused++) {
         struct answer it = run(refused, on);
         if (!is_well(&it, undisturbed)) {
-            fprintf(stderr, "refusals: %s: request %ld refused%s: status %d, %zu octets, %ld blocks held\n", name,
-                    refused, on ? " and each after it" : "", it.status, it.octets.count, it.held);
+            fprintf(stderr, "refusals: %s: request %ld refused%s: status %d, %zu octets, %ld blocks held\n",
+                    name, refused, on ? " and each after it" : "", it.status, it.octets.count, it.held);
             exit(1);
         }
         if (it.requests < refused) {
@@ -99,7 +99,8 @@ static struct answer try_call(const char *name, const struct octets *octets, int
     give(name, octets);
     struct answer undisturbed = run(0, 0);
     if (undisturbed.status != status || undisturbed.held != 0) {
-        fprintf(stderr, "refusals: %s: status %d, %ld blocks held\n", name, undisturbed.status, undisturbed.held);
+        fprintf(stderr, "refusals: %s: status %d, %ld blocks held\n", name, undisturbed.status,
+                undisturbed.held);
         exit(1);
     }
     long runs = 1 + refuse_each(name, &undisturbed, 0) + refuse_each(name, &undisturbed, 1);
@@ -132,8 +133,12 @@ static void try_listed(void) {
         }
         struct answer made = try_call(call->name, &octets, DONE);
         struct octets wanted = octets_of(call->answer ? call->answer : "");
-        if (made.requests < 1 || made.requests > call->most || (call->answer && !are_equal(&made.octets, &wanted))) {
-            fprintf(stderr, "refusals: %s: %ld requests, or not the known answer\n", call->name, made.requests);
+        if (made.requests < 1 || made.requests > call->most) {
+            fprintf(stderr, "refusals: %s: %ld requests\n", call->name, made.requests);
+            exit(1);
+        }
+        if (call->answer && !are_equal(&made.octets, &wanted)) {
+            fprintf(stderr, "refusals: %s: not the known answer\n", call->name);
             exit(1);
         }
         octets = made.octets;
