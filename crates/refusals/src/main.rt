@@ -1,7 +1,7 @@
 //! The program `refusals`: makes one call of the library, and takes no memory but what that call takes.
 //!
 //! Its standard input is an octet, a name of so many octets, and the octets that the call is made on. It writes the octets that
-//! the call answers, and ends with the call's `Outcome` as its status. `refusals/run` links it with C that refuses its requests
+//! the call answers, and ends with status 0, or with that of its `Refusal`. `refusals/run` links it with C that refuses its requests
 //! for memory, each in turn.
 #![tactic(auto)]
 
