@@ -6,6 +6,7 @@ use crate::keys::try_key;
 use crate::messages::try_message;
 use crate::row::{Answer, Row};
 use crate::suites::{try_checksum, try_suite};
+use crate::sweeps::try_sweep;
 use std::alloc::{AllocError, Global};
 
 /// The octets of a row.
@@ -47,6 +48,7 @@ fn try_row(alloc: Global, row: &Row) -> Answer {
         | "decrypt_message_no_checksum"
         | "checksum_sha_aes" => try_message(alloc, row),
         "checksum" => try_checksum(alloc, row),
+        "flips" | "fronts" => try_sweep(alloc, row),
         "encrypt"
         | "decrypt"
         | "encrypt_no_checksum"
