@@ -71,7 +71,7 @@ fn other_fillers(rt: HostRuntime) {
 }
 
 /// Whichever read of the 17 octets and of the end fails, its fault is the answer; a read that a signal interrupts is tried again.
-fn faults(rt: &(impl Abort + AllocGlobal), octets: &[u8]) {
+fn mic_faults(rt: &(impl Abort + AllocGlobal), octets: &[u8]) {
     let alloc = rt.alloc();
     for turn in 0..18 {
         let failed = MicToken::decode(alloc, Slow::failing(octets, turn, ErrorKind::TimedOut));
@@ -81,9 +81,21 @@ fn faults(rt: &(impl Abort + AllocGlobal), octets: &[u8]) {
     }
 }
 
+/// The same of a Wrap token.
+fn wrap_faults(rt: &(impl Abort + AllocGlobal), octets: &[u8]) {
+    let alloc = rt.alloc();
+    for turn in 0..18 {
+        let failed = WrapToken::decode(alloc, Slow::failing(octets, turn, ErrorKind::TimedOut));
+        assert!(rt; is_io(&failed, ErrorKind::TimedOut), "read {turn}");
+        let again = WrapToken::decode(alloc, Slow::failing(octets, turn, ErrorKind::Interrupted));
+        assert!(rt; again.is_ok(), "read {turn}");
+    }
+}
+
 #[test]
 fn failing_readers(rt: HostRuntime) {
-    faults(&rt, &octets(&rt, "040404ffffffffff0000000000000001aa"));
+    mic_faults(&rt, &octets(&rt, "040404ffffffffff0000000000000001aa"));
+    wrap_faults(&rt, &octets(&rt, "050406ff010203040000000000000001aa"));
 }
 
 /// A wrong id or filler is told before anything behind it is read.
@@ -101,8 +113,21 @@ fn refusals_in_order(rt: HostRuntime) {
 }
 
 /// A writer with room for fewer octets than the token has fails, and one with room for all does not.
-fn into_little_room(rt: &(impl Abort + AllocGlobal), octets: &[u8]) {
+fn mic_into_little_room(rt: &(impl Abort + AllocGlobal), octets: &[u8]) {
     let token = mic(rt, octets).expect(rt, "a MIC token");
+    for room in 0..octets.len() {
+        assert!(rt;
+            is_io(&token.encode(&mut Full { room }), ErrorKind::BrokenPipe),
+            "room {room}"
+        );
+    }
+    let room = octets.len();
+    assert!(rt; token.encode(&mut Full { room }).is_ok());
+}
+
+/// The same of a Wrap token.
+fn wrap_into_little_room(rt: &(impl Abort + AllocGlobal), octets: &[u8]) {
+    let token = wrap(rt, octets).expect(rt, "a Wrap token");
     for room in 0..octets.len() {
         assert!(rt;
             is_io(&token.encode(&mut Full { room }), ErrorKind::BrokenPipe),
@@ -115,5 +140,6 @@ fn into_little_room(rt: &(impl Abort + AllocGlobal), octets: &[u8]) {
 
 #[test]
 fn failing_writers(rt: HostRuntime) {
-    into_little_room(&rt, &octets(&rt, "040404ffffffffff0000000000000001aabb"));
+    mic_into_little_room(&rt, &octets(&rt, "040404ffffffffff0000000000000001aabb"));
+    wrap_into_little_room(&rt, &octets(&rt, "050406ff010203040000000000000001aabb"));
 }
