@@ -1,16 +1,32 @@
 //! Readers that give few octets or fail, and writers that fail.
 
-use crate::shared::{conversation, kind_of, octets_of, scheme};
-use krb_negoex::negoex::data_types::{MessageHeader, MessageType};
-use krb_negoex::negoex::messages::Exchange;
+use crate::shared::{kind_of, octets_of};
+use krb_negoex::negoex::data_types::{
+    AuthScheme, AuthSchemeVector, ByteVector, Checksum, Extension, ExtensionVector, MessageHeader,
+    MessageType,
+};
+use krb_negoex::negoex::messages::{Exchange, Nego, Verify};
 use krb_negoex::negoex::{NegoexDataType, NegoexMessage};
+use std::alloc::AllocGlobal;
 use std::io;
 use std::io::{ErrorKind, Read, Write};
-use std::test::Fail;
+use std::process::Abort;
 
-/// A header of 40 octets, and an octet behind it.
+/// A header.
 const HEADER: &str =
-    "4e45474f45585453010000000200000060000000700000005a07293b91f333afa1b4a212249d7cb4aa";
+    "4e45474f45585453010000000200000060000000700000005a07293b91f333afa1b4a212249d7cb4";
+
+/// A `Nego` of one scheme and one extension.
+const NEGO: &str =
+    "4e45474f45585453000000000000000060000000820000005a07293b91f333afa1b4a212249d7cb407070707070707070707070707070707070707070707070707070707070707070000000000000000600000000100000070000000010000005c33530deaf90d4db2ec4ae3786ec308030000007c00000006000000010203040506";
+
+/// An `Exchange` of five octets.
+const EXCHANGE: &str =
+    "4e45474f45585453040000000300000040000000450000005a07293b91f333afa1b4a212249d7cb45c33530deaf90d4db2ec4ae3786ec30840000000050000000102030405";
+
+/// A `Verify`.
+const VERIFY: &str =
+    "4e45474f455854530600000004000000500000005c0000005a07293b91f333afa1b4a212249d7cb45c33530deaf90d4db2ec4ae3786ec308140000000100000010000000500000000c00000000000000e4a770941783cc0c0d243a57";
 
 /// A reader that gives one octet at a time, and fails at its read `fault`, counted from 0.
 #[derive(Drop)]
@@ -56,55 +72,120 @@ impl Write for Full {
     }
 }
 
-#[test]
-fn slow_readers(rt: HostRuntime) -> Result<(), Fail> {
-    let octets = octets_of(&rt, HEADER);
-    let mut whole = octets.as_slice();
-    let header = MessageHeader::decode(rt.alloc(), &mut whole, &[])?;
-    let mut slow = Slow {
-        left: &octets,
+/// A reader of these octets that gives one at a time, and fails at the read `fault`.
+fn giving(octets: &[u8], fault: Option<usize>) -> Slow<'_> {
+    Slow {
+        left: octets,
         reads: 0,
-        fault: None,
-    };
-    let read = MessageHeader::decode(rt.alloc(), &mut slow, &[])?;
-    assert!(rt; read == header);
-    assert_eq!(rt; slow.left, [0xaa].as_slice());
-    for turn in 0..40 {
-        let mut slow = Slow {
-            left: &octets,
-            reads: 0,
-            fault: Some(turn),
-        };
-        let answer = MessageHeader::decode(rt.alloc(), &mut slow, &[]);
+        fault,
+    }
+}
+
+/// The value of these octets is read octet by octet as it is at once, and what stands behind its fixed part is left. At each read
+/// in turn the reader fails.
+fn is_read_slowly<T: NegoexDataType<Error = io::Error> + PartialEq + Drop>(
+    rt: &(impl Abort + AllocGlobal),
+    digits: &str,
+) {
+    let octets = octets_of(rt, digits);
+    let mut whole = octets.as_slice();
+    let value = T::decode(rt.alloc(), &mut whole, &octets).expect(rt, "a value");
+    let mut reader = giving(&octets, None);
+    let read = T::decode(rt.alloc(), &mut reader, &octets).expect(rt, "a value");
+    assert!(rt; read == value, "{digits}");
+    assert_eq!(rt; reader.left, whole, "{digits}");
+    for turn in 0..T::fixed_len() {
+        let mut reader = giving(&octets, Some(turn));
+        let answer = T::decode(rt.alloc(), &mut reader, &octets);
         assert_eq!(rt;
             kind_of(answer),
             Some(ErrorKind::BrokenPipe),
-            "at read {turn}"
+            "{digits} at read {turn}"
         );
     }
-    Ok(())
+}
+
+/// A writer with room for fewer octets than the value of these has fails, and one with room for all does not.
+fn wants_room<T: NegoexDataType<Error = io::Error> + Drop>(
+    rt: &(impl Abort + AllocGlobal),
+    digits: &str,
+) {
+    let octets = octets_of(rt, digits);
+    let mut whole = octets.as_slice();
+    let value = T::decode(rt.alloc(), &mut whole, &octets).expect(rt, "a value");
+    for room in 0..octets.len() {
+        let answer = value.encode(rt.alloc(), &mut Full { room });
+        assert_eq!(rt;
+            kind_of(answer),
+            Some(ErrorKind::BrokenPipe),
+            "{digits} into {room} octets"
+        );
+    }
+    let room = octets.len();
+    assert!(rt; value.encode(rt.alloc(), &mut Full { room }).is_ok());
+}
+
+/// Values of a type of data over devices.
+fn over_devices<T: NegoexDataType<Error = io::Error> + PartialEq + Drop>(
+    rt: &(impl Abort + AllocGlobal),
+    digits: &str,
+) {
+    is_read_slowly::<T>(rt, digits);
+    wants_room::<T>(rt, digits);
 }
 
 #[test]
-fn full_writers(rt: HostRuntime) -> Result<(), Fail> {
-    let token = octets_of(&rt, "0102030405");
-    let two = octets_of(&rt, "0102");
-    let exchange = Exchange::new(MessageType::Challenge, conversation(), 3, scheme(), token)?;
-    for room in 0..69 {
-        let mut full = Full { room };
-        let answer = exchange.encode(rt.alloc(), &mut full);
+fn data_over_devices(rt: HostRuntime) {
+    over_devices::<u8>(&rt, "2a");
+    over_devices::<AuthScheme>(&rt, "5c33530deaf90d4db2ec4ae3786ec308");
+    over_devices::<MessageType>(&rt, "01000000");
+    over_devices::<MessageHeader>(&rt, HEADER);
+    over_devices::<Extension>(&rt, "030000000c00000006000000010203040506");
+    over_devices::<Checksum>(
+        &rt,
+        "140000000100000010000000140000000c000000e4a770941783cc0c0d243a57",
+    );
+    over_devices::<ByteVector>(&rt, "08000000020000000102");
+    over_devices::<AuthSchemeVector>(&rt, "08000000010000005c33530deaf90d4db2ec4ae3786ec308");
+    over_devices::<ExtensionVector>(
+        &rt,
+        "0800000002000000030000002000000006000000030000002600000006000000010203040506010203040506",
+    );
+}
+
+/// A writer with room for fewer octets than the message of these has fails, and one with room for all does not.
+fn message_wants_room<M: NegoexMessage<Error = io::Error> + Drop>(
+    rt: &(impl Abort + AllocGlobal),
+    digits: &str,
+) {
+    let octets = octets_of(rt, digits);
+    let message = M::decode(rt.alloc(), &octets).expect(rt, "a message");
+    for room in 0..octets.len() {
+        let answer = message.encode(rt.alloc(), &mut Full { room });
         assert_eq!(rt;
             kind_of(answer),
             Some(ErrorKind::BrokenPipe),
-            "of {room} octets"
+            "into {room} octets"
         );
     }
-    exchange.encode(rt.alloc(), &mut Full { room: 69 })?;
+    let room = octets.len();
+    assert!(rt; message.encode(rt.alloc(), &mut Full { room }).is_ok());
+}
+
+#[test]
+fn messages_into_little_room(rt: HostRuntime) {
+    message_wants_room::<Nego>(&rt, NEGO);
+    message_wants_room::<Exchange>(&rt, EXCHANGE);
+    message_wants_room::<Verify>(&rt, VERIFY);
+}
+
+#[test]
+fn two_full_writers(rt: HostRuntime) {
+    let two = octets_of(&rt, "0102");
     for (fixed_part, payload) in [(7, 2), (8, 1)] {
         let mut to = Full { room: fixed_part };
         let mut payload_to = Full { room: payload };
         let answer = two.encode_with_payload(rt.alloc(), 8, &mut to, &mut payload_to);
         assert_eq!(rt; kind_of(answer), Some(ErrorKind::BrokenPipe));
     }
-    Ok(())
 }
