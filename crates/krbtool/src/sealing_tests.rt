@@ -1,10 +1,13 @@
 use crate::engine::run;
 use crate::real_parts::REAL_PARTS;
-use crate::tests::{PART, USAGE, words_of};
+use crate::tests::{PART, Sink, Source, USAGE, words_of};
 use std::alloc::{AllocError, Global};
+use std::process::Abort;
 use std::test::Fail;
 
 const INTEGRITY: &[u8] = b"krbtool: crypto IntegrityCheck\n";
+
+const IO: &[u8] = b"krbtool: io\n";
 
 /// What one run did.
 #[derive(Drop)]
@@ -53,6 +56,86 @@ fn seals_real_parts_as_their_servers_did(rt: HostRuntime) -> Result<(), Fail> {
         assert_eq!(rt; ran.status, 0, "at {}", part.sealing);
         assert!(rt; ran.output.as_slice() == part.sealed, "at {}", part.sealing);
         assert!(rt; ran.faults.is_empty());
+    }
+    Ok(())
+}
+
+/// Sealing and opening a real part, each with its input and its answer.
+fn real_runs() -> [(&'static str, &'static [u8], &'static [u8]); 2] {
+    let part = &REAL_PARTS[0];
+    [
+        (part.sealing, part.opened, part.sealed),
+        (part.opening, part.sealed, part.opened),
+    ]
+}
+
+#[test]
+fn takes_and_gives_few_octets_at_a_time(rt: HostRuntime) -> Result<(), Fail> {
+    let alloc = rt.alloc();
+    for (line, given, wanted) in real_runs() {
+        let words = words_of(alloc, line)?;
+        for step in [1, 7] {
+            let mut input = Source::new(given, step, 0);
+            let mut output = Sink::new(alloc, step, 0);
+            let mut faults = Vec::new(alloc);
+            let status = run(alloc, &words, &mut input, &mut output, &mut faults);
+            assert_eq!(rt; status, 0, "at {line} in steps of {step}");
+            assert!(rt;
+                output.taken.as_slice() == wanted,
+                "at {line} in steps of {step}"
+            );
+            assert!(rt; faults.is_empty());
+        }
+    }
+    Ok(())
+}
+
+/// The reader fails at its read of this number, from 1: nothing is written.
+fn tells_a_failing_reader(
+    rt: &impl Abort,
+    alloc: Global,
+    words: &[String],
+    given: &[u8],
+    failing: usize,
+) {
+    let mut input = Source::new(given, 1, failing);
+    let mut output = Vec::new(alloc);
+    let mut faults = Vec::new(alloc);
+    let status = run(alloc, words, &mut input, &mut output, &mut faults);
+    assert_eq!(rt; status, 1, "at read {failing}");
+    assert_eq!(rt; faults.as_slice(), IO, "at read {failing}");
+    assert!(rt; output.is_empty(), "at read {failing}");
+}
+
+/// The writer fails at its write of this number, from 1.
+fn tells_a_failing_writer(
+    rt: &impl Abort,
+    alloc: Global,
+    words: &[String],
+    given: &[u8],
+    failing: usize,
+) {
+    let mut input = given;
+    let mut output = Sink::new(alloc, 1, failing);
+    let mut faults = Vec::new(alloc);
+    let status = run(alloc, words, &mut input, &mut output, &mut faults);
+    assert_eq!(rt; status, 1, "at write {failing}");
+    assert_eq!(rt; faults.as_slice(), IO, "at write {failing}");
+}
+
+/// One octet at a time, each read in turn fails, that of the end too, and each write.
+#[test]
+fn tells_devices_that_fail_on_sealing_and_opening(rt: HostRuntime) -> Result<(), Fail> {
+    let alloc = rt.alloc();
+    for (line, given, wanted) in real_runs() {
+        let words = words_of(alloc, line)?;
+        for turn in 0..given.len() {
+            tells_a_failing_reader(&rt, alloc, &words, given, turn.saturating_add(1));
+        }
+        tells_a_failing_reader(&rt, alloc, &words, given, given.len().saturating_add(1));
+        for turn in 0..wanted.len() {
+            tells_a_failing_writer(&rt, alloc, &words, given, turn.saturating_add(1));
+        }
     }
     Ok(())
 }

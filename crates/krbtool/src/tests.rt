@@ -3,6 +3,7 @@ use crate::real_parts::REAL_PARTS;
 use std::alloc::{AllocError, Global};
 use std::io;
 use std::io::{Read, Write};
+use std::process::Abort;
 use std::test::Fail;
 
 pub const PART: [u8; 128] = [
@@ -21,7 +22,7 @@ pub const USAGE: &[u8] =
 
 /// A reader of octets: gives at most `step` of them at a read, and fails at the read number `failing`, from 1.
 #[derive(Drop)]
-struct Source<'a> {
+pub struct Source<'a> {
     left: &'a [u8],
     step: usize,
     reads: usize,
@@ -29,7 +30,7 @@ struct Source<'a> {
 }
 
 impl<'a> Source<'a> {
-    fn new(left: &'a [u8], step: usize, failing: usize) -> Self {
+    pub fn new(left: &'a [u8], step: usize, failing: usize) -> Self {
         Source {
             left,
             step,
@@ -55,8 +56,8 @@ impl<'a> Read for Source<'a> {
 /// A writer to memory: takes at most `step` octets at a write, and fails at the write number `failing` and at the flush
 /// number `unflushed`, from 1.
 #[derive(Drop)]
-struct Sink {
-    taken: Vec<u8>,
+pub struct Sink {
+    pub taken: Vec<u8>,
     step: usize,
     writes: usize,
     failing: usize,
@@ -65,7 +66,7 @@ struct Sink {
 }
 
 impl Sink {
-    fn new(alloc: Global, step: usize, failing: usize) -> Self {
+    pub fn new(alloc: Global, step: usize, failing: usize) -> Self {
         Sink {
             taken: Vec::new(alloc),
             step,
@@ -176,6 +177,51 @@ fn refuses_other_octets(rt: HostRuntime) -> Result<(), Fail> {
         assert_eq!(rt; status, 1, "at {count} octets");
         assert_eq!(rt; faults.as_slice(), line, "at {count} octets");
         assert!(rt; output.is_empty(), "at {count} octets");
+    }
+    Ok(())
+}
+
+/// How many single bit flips of the part are told by this line. Each is refused as no part, or is another part and written back.
+fn flips_told(rt: &impl Abort, alloc: Global, line: &[u8]) -> Result<usize, AllocError> {
+    let words = words_of(alloc, "check")?;
+    let mut flipped = Vec::from_slice(alloc, &PART)?;
+    let mut output = Vec::new(alloc);
+    let mut faults = Vec::new(alloc);
+    let mut told = 0usize;
+    for position in 0..PART.len() {
+        for bit in [1u8, 2, 4, 8, 16, 32, 64, 128] {
+            if let Some(octet) = flipped.get_mut(position) {
+                *octet ^= bit;
+            }
+            output.clear();
+            faults.clear();
+            let mut input = flipped.as_slice();
+            let status = run(alloc, &words, &mut input, &mut output, &mut faults);
+            let is_refused = status == 1 && output.is_empty() && !faults.is_empty();
+            let is_written = status == 0 && output == flipped && faults.is_empty();
+            assert!(rt; is_refused || is_written, "bit {bit} of octet {position}");
+            if faults.as_slice() == line {
+                told = told.saturating_add(1);
+            }
+            if let Some(octet) = flipped.get_mut(position) {
+                *octet ^= bit;
+            }
+        }
+    }
+    Ok(told)
+}
+
+/// The 1024 flips, as many of each answer as another decoder of DER counts.
+#[test]
+fn refuses_a_flipped_bit_or_writes_it_back(rt: HostRuntime) -> Result<(), Fail> {
+    for (line, wanted) in [
+        ("", 374),
+        ("krbtool: der InvalidData\n", 467),
+        ("krbtool: der TruncatedData\n", 165),
+        ("krbtool: der UnsupportedValue\n", 18),
+    ] {
+        let told = flips_told(&rt, rt.alloc(), line.as_bytes())?;
+        assert_eq!(rt; told, wanted, "told by {line:?}");
     }
     Ok(())
 }
