@@ -1,10 +1,13 @@
 //! Values read from readers that give few octets at a time or fail, values written to writers, copies, and the leaves
 //! `u32` and `Utf8StringAsn1`.
 
+use crate::first_rows::TICKET_PART;
 use krb_der::{
     Asn1DerError, Der, ExplicitContextTag11, ExplicitContextTag12, OctetStringAsn1, Utf8StringAsn1,
     copy, from_bytes, from_reader, to_vec, to_writer,
 };
+use krb_padata::data_types::{KerbPaPacRequest, PaEncTsEnc};
+use krb_parts::data_types::EncTicketPart;
 use krb_types::data_types::{EncryptedData, PrincipalName};
 use std::io;
 use std::io::{ErrorKind, Read, Write};
@@ -13,6 +16,15 @@ use std::process::Abort;
 /// The name 1, "krbtgt", "EXAMPLE.COM".
 const NAME: [u8; 32] =
     *b"\x30\x1e\xa0\x03\x02\x01\x01\xa1\x17\x30\x15\x1b\x06krbtgt\x1b\x0bEXAMPLE.COM";
+
+/// Asks for a PAC.
+const PAC_REQUEST: &[u8] = b"\x30\x05\xa0\x03\x01\x01\xff";
+
+/// The ciphertext `dead` under a key of AES256.
+const ENCRYPTED: &[u8] = b"\x30\x0b\xa0\x03\x02\x01\x12\xa2\x04\x04\x02\xde\xad";
+
+/// The last second of 2021.
+const TIME_STAMP: &[u8] = b"\x30\x13\xa0\x11\x18\x0f20211231235959Z";
 
 /// An octet that stands behind a value.
 const BEHIND: u8 = 0x5a;
@@ -127,6 +139,7 @@ fn refused<T: Der + Drop>(
 fn front_value_alone_is_taken(rt: HostRuntime) {
     for at_once in [1, 7, usize::MAX] {
         taken::<PrincipalName>(&rt, &NAME, at_once);
+        taken::<EncTicketPart>(&rt, &TICKET_PART, at_once);
     }
 }
 
@@ -158,14 +171,22 @@ fn failing<T: Der + Drop>(
 }
 
 /// At each read in turn the reader fails once, or a signal interrupts it.
-#[test]
-fn failing_readers(rt: HostRuntime) {
-    let given = and_more(&rt, &NAME);
-    for turn in 0..NAME.len() {
-        failing::<PrincipalName>(&rt, &given, turn, ErrorKind::BrokenPipe, "Io");
-        let left = failing::<PrincipalName>(&rt, &given, turn, ErrorKind::Interrupted, "none");
+fn reads_in_turn<T: Der + Drop>(rt: &(impl Abort + AllocGlobal), octets: &[u8]) {
+    let given = and_more(rt, octets);
+    for turn in 0..octets.len() {
+        failing::<T>(rt, &given, turn, ErrorKind::BrokenPipe, "Io");
+        let left = failing::<T>(rt, &given, turn, ErrorKind::Interrupted, "none");
         assert_eq!(rt; left, 1);
     }
+}
+
+#[test]
+fn failing_readers(rt: HostRuntime) {
+    reads_in_turn::<KerbPaPacRequest>(&rt, PAC_REQUEST);
+    reads_in_turn::<PrincipalName>(&rt, &NAME);
+    reads_in_turn::<EncryptedData>(&rt, ENCRYPTED);
+    reads_in_turn::<PaEncTsEnc>(&rt, TIME_STAMP);
+    reads_in_turn::<EncTicketPart>(&rt, &TICKET_PART);
 }
 
 #[test]
@@ -226,12 +247,22 @@ fn into_room<T: Der + Drop>(rt: &(impl Abort + AllocGlobal), octets: &[u8], room
     assert_eq!(rt; writer.room, 0);
 }
 
+/// Each room up to as much as the value wants.
+fn rooms_in_turn<T: Der + Drop>(rt: &(impl Abort + AllocGlobal), octets: &[u8]) {
+    for room in 0..octets.len() {
+        into_room::<T>(rt, octets, room);
+    }
+    into_room::<T>(rt, octets, octets.len());
+}
+
 #[test]
 fn writers(rt: HostRuntime) {
     appended::<PrincipalName>(&rt, &NAME);
-    for room in 0..=NAME.len() {
-        into_room::<PrincipalName>(&rt, &NAME, room);
-    }
+    rooms_in_turn::<KerbPaPacRequest>(&rt, PAC_REQUEST);
+    rooms_in_turn::<PrincipalName>(&rt, &NAME);
+    rooms_in_turn::<EncryptedData>(&rt, ENCRYPTED);
+    rooms_in_turn::<PaEncTsEnc>(&rt, TIME_STAMP);
+    rooms_in_turn::<EncTicketPart>(&rt, &TICKET_PART);
 }
 
 /// A copy of the value of these octets is equal, and has the same encoding.
