@@ -56,6 +56,70 @@ static void count_part(const struct part *part) {
     COUNT(bench_open_part(part->etype, it.key, it.key_size, 2, it.sealed, it.sealed_size));
 }
 
+/* Puts a tag and a length in front of the last `count` octets that stand before `end`, and answers the new front. */
+static uint8_t *close_element(uint8_t tag, const uint8_t *end, uint8_t *front) {
+    size_t count = end - front, digits = 0;
+    uint8_t length[8];
+    for (size_t rest = count; rest && count > 127; rest >>= 8) {
+        length[digits++] = rest & 0xff;
+    }
+    for (size_t i = 0; i < digits; i++) {
+        *--front = length[i];
+    }
+    *--front = digits ? 0x80 | digits : count;
+    *--front = tag;
+    return front;
+}
+
+/* Counts the reading of a part that is made of a field with these octets in front of it and behind it. */
+static void count_grown(const char *what, octets before, size_t before_size, octets behind, size_t behind_size,
+                        uint8_t *front, uint8_t *end) {
+    memcpy(end, behind, behind_size);
+    end += behind_size;
+    front -= before_size;
+    memcpy(front, before, before_size);
+    front = close_element(0x30, end, front);
+    front = close_element(0x63, end, front);
+    snprintf(name, sizeof name, "read a part of %zu octets, %s", end - front, what);
+    start_counting();
+    size_t made = bench_read_part(front, end - front);
+    struct counted counted = stop_counting();
+    if (!made) {
+        fprintf(stderr, "bench: %s: refused\n", name);
+        exit(1);
+    }
+    print(counted);
+}
+
+/* The small part's fields in front of its client's name, that name, and those behind it. */
+enum { CONTENT = 6, NAME = 59, NAME_SIZE = 20 };
+
+/* Reads parts with more and more authorization data in one entry, and parts whose client has more and more names of no
+ * octet, which are the elements that take the most memory an octet. */
+static void count_growth(const uint8_t *small, size_t size) {
+    static uint8_t room[2 * LARGE];
+    for (size_t count = 1024; count <= LARGE; count *= 32) {
+        uint8_t *front = room + FRAME * 8, *end = front + count;
+        memset(front, 0x5a, count);
+        static const uint8_t type[] = {0xa0, 0x03, 0x02, 0x01, 0x01};
+        front = close_element(0xa1, end, close_element(0x04, end, front)) - sizeof type;
+        memcpy(front, type, sizeof type);
+        front = close_element(0xaa, end, close_element(0x30, end, close_element(0x30, end, front)));
+        count_grown("an entry of authorization data", small + CONTENT, size - CONTENT, small, 0, front, end);
+        front = room + FRAME * 8, end = front;
+        for (size_t i = 0; i < count; i += 2) {
+            *end++ = 0x1b;
+            *end++ = 0x00;
+        }
+        static const uint8_t kind[] = {0xa0, 0x03, 0x02, 0x01, 0x01};
+        front = close_element(0xa1, end, close_element(0x30, end, front)) - sizeof kind;
+        memcpy(front, kind, sizeof kind);
+        front = close_element(0xa3, end, close_element(0x30, end, front));
+        count_grown("names of no octet", small + CONTENT, NAME - CONTENT, small + NAME + NAME_SIZE,
+                    size - NAME - NAME_SIZE, front, end);
+    }
+}
+
 int main(void) {
     uint8_t small[256], out[32];
     size_t size = octets_of(small_part, small);
@@ -64,6 +128,7 @@ int main(void) {
     COUNT(bench_read_part(small, size));
     snprintf(name, sizeof name, "write a part of 149 octets");
     COUNT_SECOND(bench_write_part(small, size, 1, NO_ROOM), bench_write_part(small, size, 2, NO_ROOM));
+    count_growth(small, size);
     for (size_t i = 0; i < sizeof parts / sizeof *parts; i++) {
         count_part(&parts[i]);
     }
