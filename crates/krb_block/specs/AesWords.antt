@@ -1,4 +1,4 @@
--- Columns and round keys as words of 32 bits, first octet highest, and what is kept of a key.
+-- Columns and round keys as words of 32 bits, first octet highest, and what is kept of a key (FIPS 197, 3.5, 5.2 and 5.3.5).
 use Rattle.std.specs.Prelude.{◌≡◌, ℕ, zero, suc, ◌+◌, ◌-◌, ◌*◌, ◌^◌, ◌<◌, ◌≤◌, List, [], ◌∷◌, take, slice_index}
 use Rattle.krb_block.specs.Modes.{IsOctets, IsBlock}
 use Rattle.krb_block.specs.Aes.{column_of, product_of_columns, add_round_key, key_expansion, IsKeySize}
