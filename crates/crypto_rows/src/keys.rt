@@ -1,5 +1,6 @@
 //! Keys by the free calls.
 
+use crate::aes_sha2::try_aes_sha2;
 use crate::row::{Answer, Row, answer_of, size_of};
 use krb_suite::{aes, des};
 use std::alloc::Global;
@@ -49,6 +50,9 @@ fn try_aes_key(alloc: Global, row: &Row) -> Answer {
 pub fn try_key(alloc: Global, row: &Row) -> Answer {
     if row.suite == "des3" {
         return try_des_key(alloc, row);
+    }
+    if row.suite.ends_with("-sha2") {
+        return try_aes_sha2(alloc, row);
     }
     try_aes_key(alloc, row)
 }

@@ -1,4 +1,4 @@
-//! The program `crypto_rows`: cryptography of Kerberos (RFC 3961, RFC 3962), call by call.
+//! The program `crypto_rows`: cryptography of Kerberos (RFC 3961, RFC 3962, RFC 8009), call by call.
 //!
 //! Its standard input is a table. A row is a line of six columns with tabs between: a call, a suite or a size, a number in
 //! decimal digits (mostly a key usage), and three octet strings in hexadecimal digits: a key or a password, what stands beside
@@ -7,6 +7,7 @@
 //! opens what its input gives with each bit flipped in turn, or each proper front of it, and tells how often each answer came.
 #![tactic(auto)]
 
+mod aes_sha2;
 mod blocks;
 mod hashes;
 mod keys;

@@ -1,5 +1,6 @@
 //! Sealing, opening and checksums by the free calls.
 
+use crate::aes_sha2::try_aes_sha2;
 use crate::row::{Answer, Row, aes_block, answer_of, des_block, size_of};
 use crate::suites::{shut, split};
 use krb_suite::{aes, des};
@@ -74,6 +75,9 @@ fn try_aes_message(alloc: Global, row: &Row) -> Answer {
 pub fn try_message(alloc: Global, row: &Row) -> Answer {
     if row.suite == "des3" {
         return try_des_message(alloc, row);
+    }
+    if row.suite.ends_with("-sha2") {
+        return try_aes_sha2(alloc, row);
     }
     try_aes_message(alloc, row)
 }

@@ -1,7 +1,8 @@
 //! The rows of the table, and what is told of each.
 
+use crate::aes_sha2::try_aes_sha2;
 use crate::blocks::{try_block, try_mode};
-use crate::hashes::try_hash;
+use crate::hashes::{try_fold, try_hmac, try_kdf, try_stretching};
 use crate::keys::try_key;
 use crate::messages::try_message;
 use crate::row::{Answer, Row};
@@ -40,7 +41,13 @@ fn row_of(alloc: Global, line: &str) -> Option<Row<'_>> {
 fn try_row(alloc: Global, row: &Row) -> Answer {
     match row.call {
         "encrypt_block" | "decrypt_block" => try_block(alloc, row),
-        "hmac_sha1" | "n_fold" | "pbkdf2_hmac_sha1" => try_hash(alloc, row),
+        "n_fold" => try_fold(alloc, row),
+        "hmac_sha1" | "hmac_sha256" | "hmac_sha384" => try_hmac(alloc, row),
+        "pbkdf2_hmac_sha1" | "pbkdf2_hmac_sha256" | "pbkdf2_hmac_sha384" => {
+            try_stretching(alloc, row)
+        }
+        "kdf_hmac_sha256" | "kdf_hmac_sha384" => try_kdf(alloc, row),
+        "integrity_checksum" | "keyed_checksum" => try_aes_sha2(alloc, row),
         "derive_key" | "derive_key_from_password" | "random_to_key" => try_key(alloc, row),
         "encrypt_message"
         | "decrypt_message"

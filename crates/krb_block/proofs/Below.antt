@@ -2,7 +2,7 @@
 use Rattle.std.proofs.Common.{ℕ, zero, suc, ◌+◌, ◌^◌, ◌<◌, List, [], ◌∷◌, ◌++◌, take, drop, replicate, slice_index, arith}
 use Rattle.std.proofs.lemmas.List.{get_or-drop}
 use Rattle.std.proofs.lemmas.Nat.{xor_lt}
-use Rattle.krb_block.specs.Xor.{xor_lists}
+use Rattle.krb_mac.specs.Xor.{xor_lists}
 
 abbrev pub AreBelow : ℕ → List ℕ → Type 0
 AreBelow n xs = (i : ℕ) → slice_index xs i < n

@@ -4,11 +4,11 @@ use Rattle.std.proofs.lemmas.List.{length-append, length-take-le, length-drop, t
 use Rattle.std.proofs.Math.Arith.{digits_div, digits_mod}
 use Rattle.std.proofs.Math.Nat.{mul-suc, mul_comm, mul-le-mul_left, div-add-mod'}
 use Rattle.std.specs.List.{concat}
-use Rattle.krb_block.specs.Xor.{xor_lists}
+use Rattle.krb_mac.specs.Xor.{xor_lists, filled_to}
 use Rattle.krb_block.specs.Linked.{linked, last_linked, unlinked, last_block}
-use Rattle.krb_block.specs.Modes.{filled_to, IsOctets, IsBlock, AreInverse, zero_block, first_blocks, filled_blocks, IsCbc}
+use Rattle.krb_block.specs.Modes.{IsOctets, IsBlock, AreInverse, zero_block, first_blocks, filled_blocks, IsCbc}
 use Rattle.krb_block.proofs.Below.{AreBelow-append, AreBelow-drop, AreBelow-take, AreBelow-xor_lists, AreBelow-zeros}
-use Rattle.krb_block.proofs.BlockOctets.{length-xor_lists, xor_lists-twice}
+use Rattle.krb_mac.proofs.XorLists.{length-xor_lists, xor_lists-twice, filled_whole}
 use Rattle.krb_block.proofs.Chains.{chained, chained_from, CbcFrom-chained}
 
 module _ (size : ℕ) where
@@ -123,9 +123,6 @@ module _ (size : ℕ) where
 
   -- ---- steps of the loops over blocks
 
-  pub filled_whole : (t : List ℕ) → length t ≡ size → filled_to size t ≡ t
-  filled_whole t e = let z : size - length t ≡ 0 = omega arith in rw z (append-nil t)
-
   pub part_length : (p : List ℕ) (i : ℕ) → size * i + size ≤ length p → length (take size (drop (size * i) p)) ≡ size
   part_length p i h = length-take-le size (drop (size * i) p) (rw length-drop (omega arith))
 
@@ -149,7 +146,7 @@ module _ (size : ℕ) where
       let m : count - i ≡ suc (count - (i + 1)) = omega arith in
       let q : List ℕ = drop (size * i) p in
       let k : ℕ = count - (i + 1) in
-      let whole : c ≡ E (xor_lists (take size q) v) = ec ∙ ap (λ (j : List ℕ). E (xor_lists (filled_to size j) v)) ep ∙ ap (λ (j : List ℕ). E (xor_lists j v)) (filled_whole (take size q) (part_length p i long)) in
+      let whole : c ≡ E (xor_lists (take size q) v) = ec ∙ ap (λ (j : List ℕ). E (xor_lists (filled_to size j) v)) ep ∙ ap (λ (j : List ℕ). E (xor_lists j v)) (filled_whole size (take size q) (part_length p i long)) in
       let before : out ++ (E (xor_lists (take size q) v) ++ linked size E k (E (xor_lists (take size q) v)) (drop size q)) ≡ target = rw m at inv in
       rw (eo, whole, ← next_part p i) (append_assoc out (E (xor_lists (take size q) v)) (linked size E k (E (xor_lists (take size q) v)) (drop size q)) ∙ before)
 
@@ -161,7 +158,7 @@ module _ (size : ℕ) where
       let m : count - i ≡ suc (count - (i + 1)) = omega arith in
       let q : List ℕ = drop (size * i) c in
       let k : ℕ = count - (i + 1) in
-      let whole : b ≡ xor_lists (D x) v = eb ∙ ap (λ (j : List ℕ). xor_lists j v) (filled_whole d l) ∙ ap (λ (j : List ℕ). xor_lists j v) ed in
+      let whole : b ≡ xor_lists (D x) v = eb ∙ ap (λ (j : List ℕ). xor_lists j v) (filled_whole size d l) ∙ ap (λ (j : List ℕ). xor_lists j v) ed in
       let before : out ++ (xor_lists (D (take size q)) v ++ unlinked size D k (take size q) (drop size q)) ≡ target = rw m at inv in
       rw (eo, whole, ex, ← next_part c i) (append_assoc out (xor_lists (D (take size q)) v) (unlinked size D k (take size q) (drop size q)) ∙ before)
 
@@ -202,7 +199,7 @@ module _ (size : ℕ) where
   last_linked_step E count i v p c part target lt long ep ec inv =
       let m : count - i ≡ suc (count - (i + 1)) = omega arith in
       let q : List ℕ = drop (size * i) p in
-      let whole : c ≡ E (xor_lists (take size q) v) = ec ∙ ap (λ (j : List ℕ). E (xor_lists (filled_to size j) v)) ep ∙ ap (λ (j : List ℕ). E (xor_lists j v)) (filled_whole (take size q) (part_length p i long)) in
+      let whole : c ≡ E (xor_lists (take size q) v) = ec ∙ ap (λ (j : List ℕ). E (xor_lists (filled_to size j) v)) ep ∙ ap (λ (j : List ℕ). E (xor_lists j v)) (filled_whole size (take size q) (part_length p i long)) in
       let before : last_linked size E (count - (i + 1)) (E (xor_lists (take size q) v)) (drop size q) ≡ target = rw m at inv in
       rw (whole, ← next_part p i) before
 

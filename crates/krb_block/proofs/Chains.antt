@@ -1,6 +1,6 @@
 -- CBC as a function of the plain blocks.
 use Rattle.std.proofs.Common.{◌≡◌, ℕ, zero, suc, ◌<◌, List, [], ◌∷◌, length, get_or, refl, sym, ap, ◌∙◌, arith}
-use Rattle.krb_block.specs.Xor.{xor_lists}
+use Rattle.krb_mac.specs.Xor.{xor_lists}
 use Rattle.krb_block.specs.Modes.{before, CbcFrom}
 
 unfoldable pub chained : (List ℕ → List ℕ) → List ℕ → List (List ℕ) → List (List ℕ)

@@ -4,9 +4,9 @@ use Rattle.std.proofs.lemmas.List.{length_push, get_or_append_left, get_or_push,
 use Rattle.std.proofs.lemmas.Nat.{xor_shr, xor_mod}
 use Rattle.std.proofs.Math.Arith.{digits_div, digits_mod}
 use Rattle.std.proofs.Math.Nat.{add-suc, pow-suc, div-one, div-div-eq-div-mul}
-use Rattle.krb_block.specs.Xor.{xor_lists}
+use Rattle.krb_mac.specs.Xor.{xor_lists}
 use Rattle.krb_block.specs.Des.{bits}
-use Rattle.krb_block.proofs.BlockOctets.{xor_lists-append}
+use Rattle.krb_mac.proofs.XorLists.{xor_lists-append}
 
 pub bits-suc : (w n : ℕ) → bits (suc w) n ≡ bits w (n / 2) ++ (n % 2) ∷ []
 unfolding bits

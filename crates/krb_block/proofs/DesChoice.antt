@@ -2,11 +2,11 @@
 use Rattle.std.proofs.Common.{◌≡◌, ℕ, zero, suc, ◌+◌, ◌-◌, ◌*◌, ◌/◌, ◌%◌, ◌^◌, ◌<◌, Bool, true, List, [], ◌∷◌, ◌++◌, length, take, drop, map, replicate, slice_index, slice_index_or, bit_xor, refl, sym, ap, ◌∙◌, arith}
 use Rattle.std.proofs.lemmas.List.{length-drop, length-map, drop-drop, drop_all, take_at, drop_at, take-append-drop}
 use Rattle.krb_block.specs.DesTables.{initial_table, first_choice, second_choice, kept_table}
-use Rattle.krb_block.specs.Xor.{xor_lists}
+use Rattle.krb_mac.specs.Xor.{xor_lists}
 use Rattle.krb_block.specs.Des.{bits, bit_of, permuted, key_bits}
 use Rattle.krb_block.specs.declared.des.tables.TheConstants.{CHOSEN_OF_C, CHOSEN_OF_D}
 use Rattle.krb_block.proofs.Tables.{all_below, all_below_at}
-use Rattle.krb_block.proofs.BlockOctets.{xor_lists-zeros}
+use Rattle.krb_mac.proofs.XorLists.{xor_lists-zeros}
 use Rattle.krb_block.proofs.DesBits.{length-bits, bits-append, bits-xor}
 use Rattle.krb_block.proofs.DesRounds.{bits_window, bits-split}
 use Rattle.krb_block.proofs.DesJoined.{same_list, same_list_is, permuted-xor, permuted_pieces, xor_lists-assoc, zeros_right}

@@ -1,7 +1,7 @@
 -- The groups of six that E makes of a half stand, six in an octet, in the half turned by 3 and the half turned by 31.
 use Rattle.std.proofs.Common.{◌≡◌, ℕ, zero, suc, ◌+◌, ◌-◌, ◌*◌, ◌/◌, ◌%◌, ◌^◌, ◌<◌, List, [], ◌∷◌, ◌++◌, length, take, drop, bit_or, bit_xor, refl, sym, ap, ◌∙◌, arith}
 use Rattle.krb_block.specs.DesTables.{expansion_table, kept_table}
-use Rattle.krb_block.specs.Xor.{xor_lists}
+use Rattle.krb_mac.specs.Xor.{xor_lists}
 use Rattle.krb_block.specs.Des.{bits, permuted, turned_left, key_bits}
 use Rattle.krb_block.proofs.DesBits.{length-bits, bits-append, bits-xor}
 use Rattle.krb_block.proofs.DesRounds.{bits_window, turned_is, rotated_is}

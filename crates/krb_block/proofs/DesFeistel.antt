@@ -4,9 +4,9 @@ use Rattle.std.specs.List.{range_with_len}
 use Rattle.std.proofs.lemmas.List.{length-append, length-take-le, length-drop, take-append-drop, take_at, drop_at, reverse-reverse, reverse-append}
 use Rattle.std.proofs.lemmas.List.FromFn.{fill_by_all}
 use Rattle.krb_block.specs.DesTables.{initial_table, final_table, round_table}
-use Rattle.krb_block.specs.Xor.{xor_lists}
+use Rattle.krb_mac.specs.Xor.{xor_lists}
 use Rattle.krb_block.specs.Des.{permuted, round_value, rounds, ciphered, round_keys, des_block, des_undo}
-use Rattle.krb_block.proofs.BlockOctets.{length-xor_lists, xor_lists-twice}
+use Rattle.krb_mac.proofs.XorLists.{length-xor_lists, xor_lists-twice}
 
 pub length-round_value : (right key : List ℕ) → length (round_value right key) ≡ 32
 unfolding round_value round_table

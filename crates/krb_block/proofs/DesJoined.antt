@@ -4,11 +4,11 @@ use Rattle.std.proofs.lemmas.List.{length-append, length-replicate, length-drop,
 use Rattle.std.proofs.lemmas.Bool.{and_parts, eqb-true}
 use lib.Bits.{xor_zero_r, xor_assoc}
 use Rattle.krb_block.specs.DesTables.{round_table, s_boxes}
-use Rattle.krb_block.specs.Xor.{xor_lists}
+use Rattle.krb_mac.specs.Xor.{xor_lists}
 use Rattle.krb_block.specs.Des.{bits, number_of_bits, row_of, column_of, permuted, substituted_one, substituted}
 use Rattle.krb_block.specs.declared.des.tables.TheConstants.{JOINED}
 use Rattle.krb_block.proofs.Tables.{all_below, all_below_at}
-use Rattle.krb_block.proofs.BlockOctets.{xor_lists-append, xor_lists-zeros, get_or-xor_lists}
+use Rattle.krb_mac.proofs.XorLists.{xor_lists-append, xor_lists-zeros, get_or-xor_lists}
 use Rattle.krb_block.proofs.DesBits.{length-bits, bits-xor}
 use Rattle.krb_block.proofs.DesRounds.{substituted-cons}
 

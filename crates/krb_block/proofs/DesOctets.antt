@@ -8,7 +8,7 @@ use Rattle.std.proofs.Math.Nat.{pow-suc}
 use Rattle.krb_block.proofs.FoldWorth.{worth, worth_pow}
 use Rattle.krb_block.specs.Modes.{IsOctets}
 use Rattle.krb_block.specs.DesTables.{initial_table, final_table, expansion_table, round_table, s_boxes}
-use Rattle.krb_block.specs.Xor.{xor_lists}
+use Rattle.krb_mac.specs.Xor.{xor_lists}
 use Rattle.krb_block.specs.Des.{bits, number_of_bits, permuted, substituted_one, substituted, round_value, rounds, ciphered, octet_bits, octets_of_bits}
 use Rattle.krb_block.proofs.DesBits.{bits-suc, bits-zero, bits-append, length-bits, same_from_bits}
 use Rattle.krb_block.proofs.DesRounds.{bits-split}

@@ -9,7 +9,7 @@ use Rattle.std.specs.List.{list_all}
 use Rattle.std.proofs.lemmas.List.Sums.{AllPass-from_list_all}
 use Rattle.std.proofs.lemmas.Bool.Decides.{nat_tests}
 use Rattle.krb_block.specs.DesTables.{second_choice}
-use Rattle.krb_block.specs.Xor.{xor_lists}
+use Rattle.krb_mac.specs.Xor.{xor_lists}
 use Rattle.krb_block.specs.Des.{bits, permuted, substituted_one, substituted, round_value, rounds, turned_left, keys_from, key_bits}
 use Rattle.krb_block.proofs.DesBits.{length-bits, bits-append, bits-xor}
 

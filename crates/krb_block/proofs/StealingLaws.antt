@@ -3,10 +3,10 @@ use Rattle.std.proofs.Common.{◌≡◌, ℕ, zero, suc, ◌+◌, ◌-◌, ◌*�
 use Rattle.std.proofs.lemmas.List.{length-append, length-take-le, length-drop, length-replicate, take-append-drop, take-append-le, take_at, drop_at, append-nil, append_assoc, replicate-append-replicate}
 use Rattle.std.proofs.Math.Nat.{zero-add, suc-add}
 use Rattle.std.specs.List.{concat}
-use Rattle.krb_block.specs.Xor.{xor_lists}
+use Rattle.krb_mac.specs.Xor.{xor_lists}
 use Rattle.krb_block.specs.Modes.{filled, IsOctets, IsBlock, AreInverse, zero_block, first_blocks, filled_blocks, exchanged, CtsFrom, Cts, HasOnePlain}
 use Rattle.krb_block.proofs.Below.{AreBelow-append, AreBelow-drop, AreBelow-take, AreBelow-xor_lists, AreBelow-zeros}
-use Rattle.krb_block.proofs.BlockOctets.{length-xor_lists, IsBlock-xor_lists, xor_lists-twice, xor_lists-append, xor_lists-zeros}
+use Rattle.krb_mac.proofs.XorLists.{length-xor_lists, xor_lists-twice, xor_lists-append, xor_lists-zeros}
 use Rattle.krb_block.proofs.Chains.{chained, chained_from, CbcFrom-chained}
 
 -- p has n whole blocks and then one to 16 octets
@@ -36,6 +36,9 @@ IsBlock-filled t h fits = (
   rw (length-append, length-replicate) (omega arith),
   AreBelow-append t (replicate (16 - length t) 0) h (AreBelow-zeros (16 - length t) (omega arith)),
 )
+
+IsBlock-xor_lists : (xs ys : List ℕ) → IsBlock 16 xs → IsBlock 16 ys → IsBlock 16 (xor_lists xs ys)
+IsBlock-xor_lists xs ys h g = (length-xor_lists xs ys (h.0 ∙ sym g.0) ∙ h.0, AreBelow-xor_lists 8 xs ys h.1 g.1)
 
 IsBlock-take : (p : List ℕ) → IsOctets p → 16 ≤ length p → IsBlock 16 (take 16 p)
 IsBlock-take p h long = (length-take-le 16 p long, AreBelow-take 16 p h)

@@ -1,9 +1,9 @@
 -- The steps of ciphertext stealing in place.
 use Rattle.std.proofs.Common.{◌≡◌, ℕ, zero, suc, ◌+◌, ◌-◌, ◌*◌, ◌/◌, ◌<◌, ◌≤◌, List, [], ◌++◌, length, take, drop, sym, ap, ◌∙◌, arith}
 use Rattle.std.proofs.lemmas.List.{length-append, length-take-le, length-drop, append_assoc, append-nil, take-append-drop, take-append-le, drop-append-le, take_at, drop_at, take_all, drop_all, take_rest}
-use Rattle.krb_block.proofs.BlockOctets.{length-xor_lists, xor_lists-append}
+use Rattle.krb_mac.proofs.XorLists.{length-xor_lists, xor_lists-append}
 use Rattle.krb_block.specs.Linked.{linked, last_linked, unlinked, last_block}
-use Rattle.krb_block.specs.Xor.{xor_lists}
+use Rattle.krb_mac.specs.Xor.{xor_lists}
 use Rattle.krb_block.specs.Modes.{filled, zero_block, IsBlock, IsOctets}
 use Rattle.krb_block.proofs.Below.{AreBelow-take, AreBelow-drop}
 use Rattle.krb_block.proofs.Chaining.{no_octets}

@@ -2,7 +2,7 @@
 -- Bits are counted from 1, the leftmost first.
 use Rattle.std.specs.Prelude.{◌≡◌, ℕ, zero, suc, ◌+◌, ◌-◌, ◌*◌, ◌/◌, ◌%◌, ◌^◌, ◌==◌, ◌&&◌, nat_le, if◌then◌else◌, List, [], ◌∷◌, ◌++◌, length, take, drop, map, reverse, slice_index, slice_index_or}
 use Rattle.std.specs.Int.{bit_at}
-use Rattle.krb_block.specs.Xor.{xor_lists}
+use Rattle.krb_mac.specs.Xor.{xor_lists}
 use Rattle.krb_block.specs.DesTables.{initial_table, final_table, expansion_table, round_table, first_choice, second_choice, turns, s_boxes, kept_table}
 
 -- ---- bits

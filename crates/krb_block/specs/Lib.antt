@@ -1,14 +1,10 @@
-pub mod CryptoError
 pub mod Fold
-pub mod Hmac
-pub mod Pbkdf2
 pub mod Polynomial
 pub mod SBox
 pub mod Aes
 pub mod InverseCipher
 pub mod AesWords
 pub mod Size
-pub mod Xor
 pub mod Linked
 pub mod Modes
 pub mod DesTables

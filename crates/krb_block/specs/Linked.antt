@@ -1,7 +1,7 @@
 -- Cipher block chaining (NIST SP 800-38A, 6.2), block by block, as the calls that work in place answer it. Private contracts alone
 -- cite this: those of public calls say it by `IsCbc` and `Cts`. Blocks have size octets, and v is the block before the first.
 use Rattle.std.specs.Prelude.{ℕ, zero, suc, List, [], ◌++◌, take, drop}
-use Rattle.krb_block.specs.Xor.{xor_lists}
+use Rattle.krb_mac.specs.Xor.{xor_lists}
 
 -- the first n blocks of p, each combined with the block before it and enciphered, joined
 unfoldable pub linked : ℕ → (List ℕ → List ℕ) → ℕ → List ℕ → List ℕ → List ℕ

@@ -1,7 +1,7 @@
 -- Cipher block chaining and ciphertext stealing over any block function (RFC 3962, 5), blocks being lists of size octets.
 use Rattle.std.specs.Prelude.{◌≡◌, ℕ, zero, suc, ◌+◌, ◌-◌, ◌/◌, ◌%◌, ◌<◌, ◌≤◌, List, [], ◌∷◌, ◌++◌, length, take, drop, replicate, slice_index, slice_index_or}
 use Rattle.std.specs.List.{concat}
-use Rattle.krb_block.specs.Xor.{xor_lists}
+use Rattle.krb_mac.specs.Xor.{xor_lists, filled_to}
 
 -- each is a number from 0 to 255
 abbrev pub IsOctets : List ℕ → Type 0
@@ -11,10 +11,6 @@ abbrev pub IsBlock : ℕ → List ℕ → Type 0
 IsBlock size b = (length b ≡ size) × IsOctets b
 
 -- ---- filling (RFC 3961, 5.3, "pad"; RFC 3962, 5)
-
--- at most size octets, filled with zeros to just so many
-abbrev pub filled_to : ℕ → List ℕ → List ℕ
-filled_to size t = t ++ replicate (size - length t) 0
 
 -- the payload with the fewest zeros to a multiple of size octets
 pub record IsFill (size : ℕ) (payload filled : List ℕ) : Type 0 where

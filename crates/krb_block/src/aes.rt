@@ -8,9 +8,9 @@ ghost use Rattle.krb_block.specs.Modes.{AreInverse, IsOctets};
 ghost use Rattle.krb_block.specs.Size.{key_octets};
 
 use crate::block_cipher::BlockCipher;
-use crate::error::{KerberosCryptoError, KerberosCryptoResult};
 use crate::octets::are_octets;
 use key_expansion::{ROUND_KEY_WORDS, expand, invert, kept_octets};
+use krb_mac::{KerberosCryptoError, KerberosCryptoResult};
 use rounds::{
     add_round_key, four_inverse_rounds, four_rounds, inverse_last_round, last_round,
     nine_inverse_rounds, nine_rounds,

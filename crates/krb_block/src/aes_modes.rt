@@ -2,14 +2,14 @@
 
 ghost use Rattle.std.specs.Prelude.{◌≡◌, ◌≢◌, ◌<◌, ◌-◌, ◌%◌, ℕ, List, ◌++◌, length, take, drop, Err, IfOk, IfErr, MatchResult};
 ghost use Rattle.krb_block.specs.Aes.{aes_block};
-ghost use Rattle.krb_block.specs.CryptoError.{RefusesKeyOr};
+ghost use Rattle.krb_mac.specs.CryptoError.{RefusesKeyOr};
 ghost use Rattle.krb_block.specs.Modes.{Cts, IsCbc, IsOctets};
 ghost use Rattle.krb_block.specs.Size.{key_octets};
 
 use crate::aes::{AES_BLOCK_SIZE, AesKey, AesSize};
 use crate::cbc::{decrypt_cbc, encrypt_cbc};
-use crate::error::{KerberosCryptoError, KerberosCryptoResult};
 use crate::in_place;
+use krb_mac::{KerberosCryptoError, KerberosCryptoResult};
 use std::alloc::Global;
 
 /// The octets, in CBC from a zero block on. `KeyLength` where the key has not the size's length, then `CipherPad` where

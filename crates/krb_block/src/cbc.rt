@@ -5,7 +5,7 @@ ghost use Rattle.krb_block.specs.Linked.{linked, last_linked, unlinked, last_blo
 ghost use Rattle.krb_block.specs.Modes.{IsOctets, AreInverse, IsCbc};
 
 use crate::block_cipher::BlockCipher;
-use crate::xor::xored_with;
+use krb_mac::xor::xored_with;
 
 /// Makes of the octets, which are whole blocks, what they are chained to from a zero block on.
 pub(crate) fn encrypt_cbc<const SIZE: usize, C: BlockCipher<SIZE>>(cipher: &C, octets: &mut [u8])

@@ -5,8 +5,8 @@ ghost use Rattle.krb_block.specs.Des.{bits, octet_bits, ede3, ede3_undo, AreSche
 ghost use Rattle.krb_block.specs.Modes.{AreInverse, IsOctets};
 
 use crate::block_cipher::BlockCipher;
-use crate::error::{KerberosCryptoError, KerberosCryptoResult};
 use key_schedule::round_keys;
+use krb_mac::{KerberosCryptoError, KerberosCryptoResult};
 use permutation::{permute_first, permute_last};
 use rounds::{rounds, rounds_back};
 use std::marker::Model;

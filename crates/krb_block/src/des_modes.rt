@@ -1,14 +1,14 @@
 //! Cipher block chaining under triple DES (RFC 3961, 6.3). Each call tests the key, then the length.
 
 ghost use Rattle.std.specs.Prelude.{◌≡◌, ◌≢◌, ◌%◌, ℕ, List, length, IfOk, IfErr};
-ghost use Rattle.krb_block.specs.CryptoError.{RefusesKey, RefusesKeyOr};
-ghost use Rattle.krb_block.specs.declared.error.KerberosCryptoError.TheVariants.{OutOfMemory};
+ghost use Rattle.krb_mac.specs.CryptoError.{RefusesKey, RefusesKeyOr};
+ghost use Rattle.krb_mac.specs.declared.error.KerberosCryptoError.TheVariants.{OutOfMemory};
 ghost use Rattle.krb_block.specs.Des.{ede3};
 ghost use Rattle.krb_block.specs.Modes.{IsCbc, IsFill, IsOctets};
 
 use crate::des::{DES3_BLOCK_SIZE, DesKey};
-use crate::error::{KerberosCryptoError, KerberosCryptoResult};
 use crate::in_place;
+use krb_mac::{KerberosCryptoError, KerberosCryptoResult};
 use std::alloc::Global;
 
 /// The octets, with the fewest zeros to whole blocks of 8 behind them, in CBC from a zero block on. `KeyLength` where the

@@ -4,15 +4,13 @@
 ghost use Rattle.std.specs.Prelude.{◌≡◌, ◌%◌, ◌≤◌, ℕ, List, length};
 ghost use Rattle.krb_block.specs.Aes.{aes_block};
 ghost use Rattle.krb_block.specs.Des.{ede3};
-ghost use Rattle.krb_block.specs.Hmac.{hmac};
 ghost use Rattle.krb_block.specs.Modes.{Cts, IsCbc, IsOctets};
 
 use crate::aes::AesKey;
 use crate::des::DesKey;
-use crate::hmac::digest_of;
 pub use crate::nfold::n_fold_into;
 use crate::{cbc, stealing};
-use sha1::Sha1;
+pub use krb_mac::in_place::hmac_sha1;
 
 /// Makes of the octets what CBC with ciphertext stealing makes of them under AES (RFC 3962, 5).
 pub fn encrypt_aes_cts(key: &AesKey, octets: &mut [u8])
@@ -49,11 +47,4 @@ pub fn decrypt_des(key: &DesKey, octets: &mut [u8])
 {
     key.undoes();
     cbc::decrypt_cbc(key, octets);
-}
-
-/// The HMAC-SHA1 of the payload (RFC 2104; FIPS 180-4), of 20 octets.
-pub fn hmac_sha1(key: &[u8], payload: &[u8]) -> [u8; 20]
-    ensures { result ≡ hmac key.now payload.now }
-{
-    digest_of::<64, 20, Sha1>(key, payload)
 }

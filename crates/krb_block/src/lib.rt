@@ -1,4 +1,5 @@
-//! What Kerberos cryptography is made of: block ciphers and their modes, HMAC, PBKDF2, n-fold, and why a call refuses.
+//! What Kerberos cryptography is made of: block ciphers and their modes, and n-fold; and, of the crate below, HMAC, PBKDF2, the
+//! key derivation function of RFC 8009 and why a call refuses.
 #![tactic(auto)]
 
 mod aes;
@@ -7,17 +8,12 @@ mod block_cipher;
 mod cbc;
 mod des;
 mod des_modes;
-mod error;
-mod hash;
-mod hmac;
 pub mod in_place;
 pub mod laws;
 mod nfold;
 mod octets;
-mod pbkdf2;
 mod stealing;
 pub mod word_tables;
-mod xor;
 
 pub use aes::{AES_BLOCK_SIZE, AES_MAC_SIZE, AES128_KEY_SIZE, AES256_KEY_SIZE, AesKey, AesSize};
 pub use aes_modes::{
@@ -25,7 +21,8 @@ pub use aes_modes::{
 };
 pub use des::{DES3_BLOCK_SIZE, DES3_KEY_SIZE, DES3_MAC_SIZE, DES3_SEED_LEN, DesKey};
 pub use des_modes::{decrypt_des, encrypt_des, fill_blocks};
-pub use error::{KerberosCryptoError, KerberosCryptoResult};
-pub use hmac::hmac_sha1;
+pub use krb_mac::{
+    KerberosCryptoError, KerberosCryptoResult, hmac_sha1, hmac_sha256, hmac_sha384,
+    kdf_hmac_sha256, kdf_hmac_sha384, pbkdf2_hmac_sha1, pbkdf2_hmac_sha256, pbkdf2_hmac_sha384,
+};
 pub use nfold::n_fold;
-pub use pbkdf2::pbkdf2_hmac_sha1;

@@ -2,10 +2,10 @@
 
 ghost use Rattle.std.specs.Prelude.{◌≡◌, ℕ, ◌+◌, ◌-◌, ◌*◌, ◌/◌, ◌%◌, ◌^◌, ◌<◌, ◌≤◌, length, IfOk, IfErr};
 ghost use Rattle.krb_block.specs.Fold.{number, gcd, rot, folded_number, fold};
-ghost use Rattle.krb_block.specs.declared.error.KerberosCryptoError.TheVariants.{OutOfMemory};
+ghost use Rattle.krb_mac.specs.declared.error.KerberosCryptoError.TheVariants.{OutOfMemory};
 
-use crate::error::KerberosCryptoResult;
 use crate::octets::are_octets;
+use krb_mac::KerberosCryptoResult;
 use std::alloc::Global;
 
 /// The octets folded to `n` bits (RFC 3961, 5.1): the copies of the input, each turned right by 13 bits more than the one

@@ -2,11 +2,11 @@
 
 ghost use Rattle.std.specs.Prelude.{◌≡◌, ℕ, ◌+◌, ◌-◌, ◌*◌, ◌/◌, ◌%◌, ◌<◌, ◌≤◌, List, ◌++◌, length, take, drop};
 ghost use Rattle.krb_block.specs.Modes.{IsOctets, AreInverse, Cts, filled};
-ghost use Rattle.krb_block.specs.Xor.{xor_lists};
+ghost use Rattle.krb_mac.specs.Xor.{xor_lists};
 
 use crate::block_cipher::BlockCipher;
 use crate::cbc::{chain, unchain};
-use crate::xor::xored_with;
+use krb_mac::xor::xored_with;
 
 /// The octets of a block.
 const BLOCK_SIZE: usize = 16;

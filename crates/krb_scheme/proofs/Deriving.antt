@@ -1,6 +1,8 @@
 -- The steps of `derive_key`.
 use Rattle.std.proofs.Common.{◌≡◌, ℕ, suc, ◌+◌, ◌-◌, ◌*◌, ◌/◌, ◌<◌, ◌≤◌, ◌⊎◌, List, [], ◌++◌, length, take, codes, refl, sym, ap, ◌∙◌, arith, inl, inr, append_assoc}
 use Rattle.std.proofs.lemmas.List.{append-nil, take_all}
+use Rattle.krb_mac.specs.Hmac.{hmac}
+use Rattle.krb_mac.specs.Pbkdf2.{IsPbkdf2Over}
 use Rattle.krb_block.specs.Fold.{fold}
 use Rattle.krb_block.specs.Aes.{aes_block}
 use Rattle.krb_block.specs.Size.{key_octets}
@@ -38,13 +40,18 @@ derived_end key constant f out n i size en past ef long b held =
       as_long,
     )
 
+-- PBKDF2 gives one list of so many octets
+pub pbkdf2_one : (prf : List ℕ → List ℕ → List ℕ) (block size : ℕ) (password salt : List ℕ) (c : ℕ) (p q : List ℕ) → length p ≡ size → length q ≡ size
+    → IsPbkdf2Over prf block password salt c p → IsPbkdf2Over prf block password salt c q → p ≡ q
+pbkdf2_one prf block size password salt c p q lp lq is like =
+    ext_get_or 0 p q (lp ∙ sym lq) (λ k lt. let within : k < length q = omega (arith, lt, lp, lq) in same_from_bits _ _ (λ b. is k b lt ∙ sym (like k b within)))
+
 -- a password and a salt give one key
 pub password_one : (size : ℕ) (password salt key : List ℕ) → IsAesPasswordKey size password salt key → IsTheOne (IsAesPasswordKey size password salt) key
 password_one size password salt key made = record {
   holds = made;
   only = λ other is.
-      let seeds : is.0 ≡ made.0 = ext_get_or 0 is.0 made.0 (is.1 ∙ sym made.1)
-      (λ k lt. let within : k < length made.0 = omega (arith, lt, is.1, made.1) in same_from_bits _ _ (λ b. is.2 k b lt ∙ sym (made.2 k b within))) in
+      let seeds : is.0 ≡ made.0 = pbkdf2_one hmac 20 size password salt 4096 is.0 made.0 is.1 made.1 is.2 made.2 in
       is.3 ∙ ap (λ (s : List ℕ). aes_dk s (codes "kerberos")) seeds ∙ sym made.3;
 }
 

@@ -3,3 +3,4 @@ pub mod DesParts
 pub mod DesLaws
 pub mod Messages
 pub mod Opening
+pub mod Sha2Messages

@@ -1,51 +1,58 @@
 -- The steps of the message calls.
-use Rattle.std.proofs.Common.{◌≡◌, ◌≢◌, Bool, true, false, not, ℕ, ℤ, ◌≤◌, ◌-◌, ◌%◌, List, ◌++◌, length, take, drop, replicate, refl, sym, ap, subst, ◌∙◌, arith}
+use Rattle.std.proofs.Common.{◌≡◌, ◌≢◌, Bool, true, false, not, ℕ, ℤ, ◌≤◌, ◌+◌, ◌-◌, ◌%◌, List, ◌++◌, length, take, drop, replicate, refl, sym, ap, subst, ◌∙◌, arith}
 use Rattle.std.specs.Str.{bytes_eq}
 use Rattle.std.proofs.lemmas.Bool.{le-ltb, eq-eqb}
 use Rattle.std.proofs.lemmas.List.{length-take-le, take_all, take_at}
 use Rattle.std.proofs.lemmas.Slice.Eq.{bytes_eq-Decides}
-use Rattle.krb_block.specs.Hmac.{hmac}
+use Rattle.krb_mac.specs.Hmac.{hmac}
 use Rattle.krb_block.proofs.AesUndoing.{aes_block_size}
-use Rattle.krb_block.proofs.HmacSteps.{hmac_size}
+use Rattle.krb_mac.proofs.HmacSteps.{hmac_size}
 use Rattle.krb_block.proofs.StealingUses.{Cts-same, Cts-length}
 use Rattle.krb_block.specs.Aes.{aes_block}
 use Rattle.krb_block.specs.Des.{ede3, ede3_undo}
 use Rattle.krb_block.specs.Modes.{Cts, IsCbc, IsFill, IsOctets}
 use Rattle.krb_block.proofs.Chaining.{IsCbc-same, IsCbc-length}
 use Rattle.krb_block.proofs.DesTriple.{AreInverse-ede3}
-use Rattle.krb_block.proofs.Filling.{IsFill-whole}
-use Rattle.krb_block.specs.declared.error.KerberosCryptoError.{KerberosCryptoError}
-use Rattle.krb_block.specs.declared.error.KerberosCryptoError.TheVariants.{IntegrityCheck}
+use Rattle.krb_block.proofs.Filling.{IsFill-one, IsFill-whole}
+use Rattle.krb_mac.specs.declared.error.KerberosCryptoError.{KerberosCryptoError}
+use Rattle.krb_mac.specs.declared.error.KerberosCryptoError.TheVariants.{IntegrityCheck}
 use Rattle.krb_scheme.specs.MessageSteps.{cut_mac, IsDeciphered}
 use Rattle.krb_scheme.proofs.Opening.{IsScheme, IsEnciphered}
-use Rattle.krb_scheme.specs.Sealed.{aes_ke, aes_ki, AesCts, mac_96, aes_refusal, des3_ke, des3_ki, Des3Cbc, des3_refusal}
+use Rattle.krb_scheme.specs.Sealed.{aes_ke, aes_ki, AesCts, mac_96, cts_refusal, des3_ke, des3_ki, Des3Cbc, des3_refusal}
 
 -- ---- AES
 
-pub aes_scheme : (key : List ℕ) (usage : ℤ) → IsScheme 1 16 12 (AesCts key usage) (λ p c. mac_96 (aes_ki key usage) p) (λ ki p c. cut_mac 12 ki p) (aes_ki key usage) (λ n. 16 ≤ n)
-aes_scheme key usage = record {
+-- for any checksum of h octets
+pub cts_scheme : (h : ℕ) (ke ki : List ℕ) (mac : List ℕ → List ℕ → List ℕ) (tag : List ℕ → List ℕ → List ℕ → List ℕ) → ((p c : List ℕ) → length (mac p c) ≡ h) → ((p c : List ℕ) → tag ki p c ≡ mac p c)
+    → IsScheme 1 16 h (Cts (aes_block ke)) mac tag ki (λ n. 16 ≤ n)
+cts_scheme h ke ki mac tag sized computed = record {
   some = omega arith;
   multiple = refl;
-  sized = λ m c. length-take-le 12 (hmac (aes_ki key usage) m) (omega (arith, hmac_size (aes_ki key usage) m));
-  computed = λ m c. refl;
-  same = Cts-same (aes_block (aes_ke key usage));
-  shaped = λ p c octets long h. omega (arith, long, Cts-length (aes_block (aes_ke key usage)) (aes_block_size (aes_ke key usage)) p c h);
+  sized = sized;
+  computed = computed;
+  same = Cts-same (aes_block ke);
+  shaped = λ p c octets long is. omega (arith, long, Cts-length (aes_block ke) (aes_block_size ke) p c is);
 }
 
+pub aes_scheme : (key : List ℕ) (usage : ℤ) → IsScheme 1 16 12 (AesCts key usage) (λ p c. mac_96 (aes_ki key usage) p) (λ ki p c. cut_mac 12 ki p) (aes_ki key usage) (λ n. 16 ≤ n)
+aes_scheme key usage =
+    cts_scheme 12 (aes_ke key usage) (aes_ki key usage) (λ p c. mac_96 (aes_ki key usage) p) (λ ki p c. cut_mac 12 ki p)
+    (λ m c. length-take-le 12 (hmac (aes_ki key usage) m) (omega (arith, hmac_size (aes_ki key usage) m))) (λ m c. refl)
+
 -- under a right key, octets enough are refused for their checksum alone
-pub aes_intact : (size : ℕ) (key bytes : List ℕ) → length key ≡ size → 28 ≤ length bytes → aes_refusal size key bytes ≡ IntegrityCheck
-aes_intact size key bytes right long = rw (le-ltb (length bytes) 28 long, right, eq-eqb size size refl) refl
+pub cts_intact : (h size : ℕ) (key bytes : List ℕ) → length key ≡ size → 16 + h ≤ length bytes → cts_refusal (16 + h) size key bytes ≡ IntegrityCheck
+cts_intact h size key bytes right long = rw (le-ltb (length bytes) (16 + h) long, right, eq-eqb size size refl) refl
 
 -- and what is refused for another reason is too short
-pub aes_short : (size : ℕ) (key bytes : List ℕ) (e : KerberosCryptoError) → length key ≡ size → (e ≡ aes_refusal size key bytes) × (e ≢ IntegrityCheck) → ¬ ((12 ≤ length bytes) × (16 ≤ length bytes - 12))
-aes_short size key bytes e right refused shape =
-    refused.1 (refused.0 ∙ aes_intact size key bytes right (omega (arith, shape.0, shape.1)))
+pub cts_short : (h size : ℕ) (key bytes : List ℕ) (e : KerberosCryptoError) → length key ≡ size → (e ≡ cts_refusal (16 + h) size key bytes) × (e ≢ IntegrityCheck)
+    → ¬ ((h ≤ length bytes) × (16 ≤ length bytes - h))
+cts_short h size key bytes e right refused shape =
+    refused.1 (refused.0 ∙ cts_intact h size key bytes right (omega (arith, shape.0, shape.1)))
 
--- what is written by the calls is confounder and payload, enciphered
-pub aes_enciphered : (key : List ℕ) (usage : ℤ) (ke ki confounder payload filled c : List ℕ) → ke ≡ aes_ke key usage → ki ≡ aes_ki key usage
-    → filled ≡ confounder ++ payload → IsOctets filled → Cts (aes_block ke) filled c
-    → IsEnciphered 1 (AesCts key usage) (aes_ki key usage) confounder payload filled c ki
-aes_enciphered key usage ke ki confounder payload filled c eke eki joined octets made = record {
+-- what is written by the calls is confounder and payload, enciphered under the keys Ke and Ki
+pub cts_enciphered : (is_ke is_ki ke ki confounder payload filled c : List ℕ) → ke ≡ is_ke → ki ≡ is_ki → filled ≡ confounder ++ payload → IsOctets filled → Cts (aes_block ke) filled c
+    → IsEnciphered 1 (Cts (aes_block is_ke)) is_ki confounder payload filled c ki
+cts_enciphered is_ke is_ki ke ki confounder payload filled c eke eki joined octets made = record {
   fill_is = subst (λ f. IsFill 1 (confounder ++ payload) f) (sym joined) (IsFill-whole 1 (omega arith) (confounder ++ payload) (omega arith));
   octets = octets;
   enciphered = subst (λ k. Cts (aes_block k) filled c) eke made;
@@ -53,21 +60,28 @@ aes_enciphered key usage ke ki confounder payload filled c eke eki joined octets
 }
 
 -- and what is read is the one list that is enciphered so
-pub aes_deciphered : (key : List ℕ) (usage : ℤ) (ke ki bytes filled : List ℕ) → ke ≡ aes_ke key usage → ki ≡ aes_ki key usage → 28 ≤ length bytes → IsOctets filled
-    → Cts (aes_block ke) filled (take (length bytes - 12) bytes)
-    → ((q : List ℕ) → IsOctets q → Cts (aes_block ke) q (take (length bytes - 12) bytes) → q ≡ filled)
-    → IsDeciphered 1 16 12 (AesCts key usage) (aes_ki key usage) bytes filled ki
-aes_deciphered key usage ke ki bytes filled eke eki long octets made only =
-    let held : AesCts key usage filled (take (length bytes - 12) bytes) = subst (λ k. Cts (aes_block k) filled (take (length bytes - 12) bytes)) eke made in
-    record {
-      long = long;
-      front = held.0;
-      whole = omega arith;
-      of_octets = octets;
-      enciphered = held;
-      only = λ q is h. only q is (subst (λ k. Cts (aes_block k) q (take (length bytes - 12) bytes)) (sym eke) h);
-      ki_is = eki;
-    }
+pub cts_deciphered : (h : ℕ) (ke ki bytes filled : List ℕ) → 16 + h ≤ length bytes → IsOctets filled → Cts (aes_block ke) filled (take (length bytes - h) bytes)
+    → ((q : List ℕ) → IsOctets q → Cts (aes_block ke) q (take (length bytes - h) bytes) → q ≡ filled)
+    → IsDeciphered 1 16 h (Cts (aes_block ke)) ki bytes filled ki
+cts_deciphered h ke ki bytes filled long octets made only = record {
+  long = long;
+  front = made.0;
+  whole = omega arith;
+  of_octets = octets;
+  enciphered = made;
+  only = only;
+  ki_is = refl;
+}
+
+-- under the keys Ke and Ki
+pub deciphered_under : (h : ℕ) (is_ke is_ki ke ki bytes filled got : List ℕ) → ke ≡ is_ke → ki ≡ is_ki → IsDeciphered 1 16 h (Cts (aes_block ke)) ki bytes filled got
+    → IsDeciphered 1 16 h (Cts (aes_block is_ke)) is_ki bytes filled got
+deciphered_under h is_ke is_ki ke ki bytes filled got eke eki is =
+    subst (λ k. IsDeciphered 1 16 h (Cts (aes_block is_ke)) k bytes filled got) eki (subst (λ k. IsDeciphered 1 16 h (Cts (aes_block k)) ki bytes filled got) eke is)
+
+-- what is opened, filled to a multiple of one octet, is the payload itself
+pub unfilled : (payload opened : List ℕ) → IsFill 1 payload opened → opened ≡ payload
+unfilled payload opened is = IsFill-one 1 payload opened payload is (IsFill-whole 1 (omega arith) payload (omega arith))
 
 -- ---- triple DES
 

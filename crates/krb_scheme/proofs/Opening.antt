@@ -122,6 +122,10 @@ module _ {fill n h : ℕ} {enciphers : List ℕ → List ℕ → Type 0} {mac : 
       let front : List ℕ = take (length bytes - h) bytes in
       other (parts.1 ∙ ap (λ p. mac p front) (d.only sealed.filled (filled_octets bytes given.confounder q sealed) parts.0) ∙ sym (tag_is filled front ki d.ki_is))
 
+  -- nor are bytes whose end is the MAC of their front with no list
+  pub none_ends : (bytes : List ℕ) → ((p : List ℕ) → end_of h bytes ≢ mac p (take (length bytes - h) bytes)) → IsOfNone (IsGiven (IsSealedBy fill enciphers mac) n bytes)
+  none_ends bytes other q given = other given.means.filled (cut bytes given.confounder q given.means).1
+
   -- what is written is the one list that is sealed
   pub seals : (confounder payload filled cipher ki bytes : List ℕ)
       → IsEnciphered fill enciphers integrity_key confounder payload filled cipher ki → bytes ≡ cipher ++ tag ki filled cipher

@@ -3,7 +3,7 @@ use Rattle.std.specs.Prelude.{◌≡◌, ℕ, zero, suc, ◌+◌, ◌-◌, ◌*�
 use Rattle.krb_block.specs.Fold.{fold}
 use Rattle.krb_block.specs.Aes.{aes_block}
 use Rattle.krb_block.specs.Des.{ede3}
-use Rattle.krb_block.specs.Pbkdf2.{IsPbkdf2}
+use Rattle.krb_mac.specs.Pbkdf2.{IsPbkdf2}
 use Rattle.krb_scheme.specs.RandomToKey.{random_to_key}
 
 -- n blocks E(f), E(E(f)), .., joined

@@ -3,4 +3,5 @@ pub mod MessageSteps
 pub mod RandomToKey
 pub mod Sealed
 pub mod Sealing
+pub mod AesSha2
 pub mod WellKnown

@@ -1,6 +1,6 @@
 -- What the message calls keep between their steps.
 use Rattle.std.specs.Prelude.{◌≡◌, ℕ, ◌+◌, ◌-◌, ◌%◌, ◌≤◌, List, length, take, drop}
-use Rattle.krb_block.specs.Hmac.{hmac}
+use Rattle.krb_mac.specs.Hmac.{hmac}
 use Rattle.krb_block.specs.Modes.{IsOctets}
 
 -- the first size octets of an HMAC (RFC 2104, 5; RFC 3961, 5.3, "H1[1..h]")

@@ -2,10 +2,10 @@
 use Rattle.std.specs.Prelude.{◌≡◌, ℕ, ℤ, ◌-◌, ◌%◌, List, ◌++◌, length, nat_lt, ◌==◌, take, if◌then◌else◌}
 use Rattle.krb_block.specs.Aes.{aes_block}
 use Rattle.krb_block.specs.Des.{ede3}
-use Rattle.krb_block.specs.Hmac.{hmac}
+use Rattle.krb_mac.specs.Hmac.{hmac}
 use Rattle.krb_block.specs.Modes.{Cts, IsCbc, IsFill, IsOctets}
-use Rattle.krb_block.specs.declared.error.KerberosCryptoError.{KerberosCryptoError}
-use Rattle.krb_block.specs.declared.error.KerberosCryptoError.TheVariants.{CipherLength, CipherUnpad, IntegrityCheck, KeyLength}
+use Rattle.krb_mac.specs.declared.error.KerberosCryptoError.{KerberosCryptoError}
+use Rattle.krb_mac.specs.declared.error.KerberosCryptoError.TheVariants.{CipherLength, CipherUnpad, IntegrityCheck, KeyLength}
 use Rattle.krb_scheme.specs.Derive.{aes_dk, des3_dk}
 use Rattle.krb_scheme.specs.WellKnown.{usage_constant}
 
@@ -48,12 +48,17 @@ IsSealedAes key usage confounder payload octets = IsSealedBy 1 (AesCts key usage
 abbrev pub aes_sum : List ℕ → ℤ → List ℕ → List ℕ
 aes_sum key usage message = mac_96 (aes_kc key usage) message
 
--- why octets are not opened under a key that should have size octets: their number first, then the key's, then the checksum
-abbrev pub aes_refusal : ℕ → List ℕ → List ℕ → KerberosCryptoError
-aes_refusal size key octets =
-    if nat_lt (length octets) 28 then CipherLength (length octets) 28
+-- why octets, of which there should be so many at least, are not opened under a key that should have size octets: their number
+-- first, then the key's, then the checksum
+abbrev pub cts_refusal : ℕ → ℕ → List ℕ → List ℕ → KerberosCryptoError
+cts_refusal shortest size key octets =
+    if nat_lt (length octets) shortest then CipherLength (length octets) shortest
     else if length key == size then IntegrityCheck
     else KeyLength (length key) size
+
+-- a confounder of 16 octets and a checksum of 12 are the shortest
+abbrev pub aes_refusal : ℕ → List ℕ → List ℕ → KerberosCryptoError
+aes_refusal size key octets = cts_refusal 28 size key octets
 
 -- ---- triple DES (RFC 3961, 6.3)
 

@@ -3,7 +3,7 @@
 mod integrity;
 mod key_derivation;
 mod message;
-mod message_keys;
+pub(crate) mod message_keys;
 
 pub use integrity::{checksum_sha_aes, integrity_checksum};
 pub use key_derivation::{derive_key, derive_key_from_password, random_to_key};

@@ -5,8 +5,8 @@ ghost use Rattle.std.specs.Prelude.{◌≡◌, ◌≢◌, ◌+◌, ◌≤◌, le
 ghost use Rattle.krb_block.specs.Modes.{IsOctets};
 ghost use Rattle.krb_scheme.specs.MessageSteps.{cut_mac, end_of};
 
-use crate::derived_key::DerivedKey;
 use crate::octets::are_octets;
+use crate::short_octets::ShortOctets;
 use crate::without_checksum::{DecryptWithoutChecksum, EncryptWithoutChecksum};
 use krb_block::in_place::hmac_sha1;
 use krb_block::{KerberosCryptoError, KerberosCryptoResult};
@@ -36,7 +36,7 @@ pub(crate) fn without_checksum(
     alloc: Global,
     encrypted: Vec<u8>,
     confounder: &[u8],
-    ki: &DerivedKey,
+    ki: &ShortOctets,
 ) -> KerberosCryptoResult<EncryptWithoutChecksum>
     ensures encrypted { IfOk result (λ made. made.encrypted.items ≡ encrypted.items) }
     ensures confounder { IfOk result (λ made. made.confounder.items ≡ confounder.now) }
@@ -56,7 +56,7 @@ pub(crate) fn without_checksum(
 #[derive(Drop)]
 pub(crate) struct Deciphered {
     pub(crate) filled: Vec<u8>,
-    pub(crate) ki: DerivedKey,
+    pub(crate) ki: ShortOctets,
 }
 
 impl Deciphered {
@@ -111,7 +111,7 @@ impl Deciphered {
 }
 
 /// The octets behind the first `front`, moved to the front. No memory is taken.
-fn behind(octets: Vec<u8>, front: usize) -> Vec<u8>
+pub(crate) fn behind(octets: Vec<u8>, front: usize) -> Vec<u8>
     requires { front ≤ length octets.items }
     ensures { result.items ≡ drop front octets.items }
 {

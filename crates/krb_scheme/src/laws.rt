@@ -4,6 +4,8 @@
 ghost use Rattle.std.specs.Prelude.{◌≡◌, ◌*◌, ◌<◌, ℕ, ℤ, List, length, take, drop};
 ghost use Rattle.std.specs.List.{All, Contains};
 ghost use Rattle.krb_block.specs.Modes.{IsFill};
+ghost use Rattle.krb_block.specs.declared.aes.AesSize.{AesSize};
+ghost use Rattle.krb_scheme.specs.AesSha2.{IsSealedSha2};
 ghost use Rattle.krb_scheme.specs.RandomToKey.{random_to_key, HasOddParity, weak_keys};
 ghost use Rattle.krb_scheme.specs.Sealed.{IsSealedAes, IsSealedDes3};
 ghost use Rattle.krb_scheme.specs.Sealing.{IsOfNone, IsGiven, Opens};
@@ -23,6 +25,14 @@ pub fn aes_opens_what_was_sealed()
         → Opens 1 (IsGiven (IsSealedAes key usage) 16 octets) opened → opened ≡ payload }
     ensures kept { (key : List ℕ) (usage : ℤ) (confounder payload octets : List ℕ) → length confounder ≡ 16 → IsSealedAes key usage confounder payload octets
         → ¬ (IsOfNone (IsGiven (IsSealedAes key usage) 16 octets)) }
+{}
+
+/// What was sealed under AES with SHA-2 is opened to its payload, whatever the confounder, and is not refused (RFC 8009, 5).
+pub fn sha2_opens_what_was_sealed()
+    ensures opened { (size : AesSize) (key : List ℕ) (usage : ℤ) (confounder payload octets opened : List ℕ) → length confounder ≡ 16 → IsSealedSha2 size key usage confounder payload octets
+        → Opens 1 (IsGiven (IsSealedSha2 size key usage) 16 octets) opened → opened ≡ payload }
+    ensures kept { (size : AesSize) (key : List ℕ) (usage : ℤ) (confounder payload octets : List ℕ) → length confounder ≡ 16 → IsSealedSha2 size key usage confounder payload octets
+        → ¬ (IsOfNone (IsGiven (IsSealedSha2 size key usage) 16 octets)) }
 {}
 
 /// What was sealed under triple DES is opened to its payload, filled with zeros to a multiple of 8 octets, whatever the

@@ -2,11 +2,13 @@
 #![tactic(auto)]
 
 pub mod aes;
+pub mod aes_sha2;
 mod checksum;
-mod derived_key;
+mod cts;
 pub mod des;
 pub mod laws;
 mod octets;
+mod short_octets;
 mod well_known;
 mod without_checksum;
 

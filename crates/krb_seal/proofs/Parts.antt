@@ -2,9 +2,9 @@
 use Rattle.std.proofs.Common.{◌≡◌, inl, inr, ℕ, ◌≤◌, ◌-◌, Bool, List, ◌++◌, length, take, drop, replicate, ap, sym, ◌∙◌, refl, arith, append_assoc, length-append}
 use Rattle.std.proofs.Math.Seq.{take-append_seam}
 use Rattle.std.proofs.lemmas.List.{take-replicate, length-replicate, take_rest}
-use Rattle.krb_block.specs.CryptoError.{IsMemoryOr}
-use Rattle.krb_block.specs.declared.error.KerberosCryptoError.{KerberosCryptoError}
-use Rattle.krb_block.specs.declared.error.KerberosCryptoError.TheVariants.{OutOfMemory}
+use Rattle.krb_mac.specs.CryptoError.{IsMemoryOr}
+use Rattle.krb_mac.specs.declared.error.KerberosCryptoError.{KerberosCryptoError}
+use Rattle.krb_mac.specs.declared.error.KerberosCryptoError.TheVariants.{OutOfMemory}
 use Rattle.krb_leaves.specs.Encoding.{IsElement, OneValue}
 use Rattle.krb_leaves.specs.Reading.{TakesFront}
 use Rattle.krb_leaves.specs.TlvLaws.{field_apart}

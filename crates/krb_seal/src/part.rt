@@ -1,7 +1,7 @@
 //! Sealing and opening the encoding of a value, by a cipher that is lent.
 
 ghost use Rattle.std.specs.Prelude.{◌≡◌, ◌≢◌, ℕ, ◌↔◌, List, ◌++◌, length, IsTrue, IfOk, IfErr, MatchResult, IsErrAnd};
-ghost use Rattle.krb_block.specs.CryptoError.{IsMemoryOr};
+ghost use Rattle.krb_mac.specs.CryptoError.{IsMemoryOr};
 ghost use Rattle.krb_der.specs.Reading.{Encodings};
 ghost use Rattle.krb_der.specs.Whole.{Answers, FailsWith};
 ghost use Rattle.krb_scheme.specs.Sealing.{IsGiven, IsOfNone, IsTheOne, Opens};

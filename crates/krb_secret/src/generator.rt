@@ -1,8 +1,8 @@
 //! Encryption under a confounder that a generator gives.
 
 ghost use Rattle.std.specs.Prelude.{◌≡◌, ◌⊎◌, length, IfOk, IfErr, IsErrAnd};
-ghost use Rattle.krb_block.specs.CryptoError.{RefusesKey};
-ghost use Rattle.krb_block.specs.declared.error.KerberosCryptoError.TheVariants.{OutOfMemory};
+ghost use Rattle.krb_mac.specs.CryptoError.{RefusesKey};
+ghost use Rattle.krb_mac.specs.declared.error.KerberosCryptoError.TheVariants.{OutOfMemory};
 ghost use Rattle.krb_scheme.specs.Sealing.{IsTheOne};
 ghost use Rattle.rand_core.specs.Stream.{fill_bytes};
 

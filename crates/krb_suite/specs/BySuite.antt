@@ -1,7 +1,7 @@
 -- What each suite means, by cases (RFC 3961, 6.3; RFC 3962, 6).
 use Rattle.std.specs.Prelude.{ℕ, ℤ, List}
-use Rattle.krb_block.specs.Hmac.{hmac}
-use Rattle.krb_block.specs.declared.error.KerberosCryptoError.{KerberosCryptoError}
+use Rattle.krb_mac.specs.Hmac.{hmac}
+use Rattle.krb_mac.specs.declared.error.KerberosCryptoError.{KerberosCryptoError}
 use Rattle.krb_scheme.specs.Derive.{IsAesPasswordKey, IsDes3PasswordKey}
 use Rattle.krb_scheme.specs.RandomToKey.{random_to_key}
 use Rattle.krb_scheme.specs.Sealed.{IsSealedAes, aes_ki, aes_sum, mac_96, aes_refusal, IsSealedDes3, des3_ki, des3_sum, des3_refusal, IsNoDes3Password}

@@ -1,7 +1,7 @@
 -- The suites and their numbers (RFC 3961, 8; RFC 3962, 7).
 use Rattle.std.specs.Prelude.{◌≡◌, ℕ, List, Result, MatchResult}
-use Rattle.krb_block.specs.declared.error.KerberosCryptoError.{KerberosCryptoError}
-use Rattle.krb_block.specs.declared.error.KerberosCryptoError.TheVariants as errors
+use Rattle.krb_mac.specs.declared.error.KerberosCryptoError.{KerberosCryptoError}
+use Rattle.krb_mac.specs.declared.error.KerberosCryptoError.TheVariants as errors
 use Rattle.krb_suite.specs.declared.cipher_suite.CipherSuite.{CipherSuite}
 use Rattle.krb_suite.specs.declared.cipher_suite.CipherSuite.TheVariants as cipher
 use Rattle.krb_suite.specs.declared.checksum_suite.ChecksumSuite.{ChecksumSuite}

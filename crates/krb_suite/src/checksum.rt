@@ -1,7 +1,7 @@
 //! What a keyed checksum is, whoever implements it.
 
 ghost use Rattle.std.specs.Prelude.{◌≡◌, ℕ, ℤ, List, length, IfOk, IfErr};
-ghost use Rattle.krb_block.specs.CryptoError.{RefusesKey};
+ghost use Rattle.krb_mac.specs.CryptoError.{RefusesKey};
 ghost use Rattle.krb_suite.specs.declared.checksum_suite.ChecksumSuite.{ChecksumSuite};
 
 use crate::checksum_suite::ChecksumSuite;

@@ -1,9 +1,9 @@
 //! What a cipher is, whoever implements it.
 
 ghost use Rattle.std.specs.Prelude.{◌≡◌, ◌≢◌, ℕ, ℤ, ◌<◌, ◌≤◌, ◌/◌, List, length, vec_len, MatchResult, IfOk, IfErr};
-ghost use Rattle.krb_block.specs.CryptoError.{IsMemoryOr, RefusesKey};
-ghost use Rattle.krb_block.specs.declared.error.KerberosCryptoError.{KerberosCryptoError};
-ghost use Rattle.krb_block.specs.declared.error.KerberosCryptoError.TheVariants.{OutOfMemory};
+ghost use Rattle.krb_mac.specs.CryptoError.{IsMemoryOr, RefusesKey};
+ghost use Rattle.krb_mac.specs.declared.error.KerberosCryptoError.{KerberosCryptoError};
+ghost use Rattle.krb_mac.specs.declared.error.KerberosCryptoError.TheVariants.{OutOfMemory};
 ghost use Rattle.krb_scheme.specs.Sealing.{IsTheOne, IsOfNone, IsGiven, Opens, Enciphers, IsSplit, Deciphers};
 ghost use Rattle.krb_suite.specs.declared.cipher_suite.CipherSuite.{CipherSuite};
 ghost use Rattle.krb_suite.specs.declared.checksum_suite.ChecksumSuite.{ChecksumSuite};

@@ -1,7 +1,7 @@
 //! The encryption suites by their numbers.
 
 ghost use Rattle.std.specs.Prelude.{◌≡◌, ◌<◌, [], ◌∷◌, MatchResult};
-ghost use Rattle.krb_block.specs.CryptoError.{IsMemoryOr};
+ghost use Rattle.krb_mac.specs.CryptoError.{IsMemoryOr};
 ghost use Rattle.krb_suite.specs.Suites.{etype, IsNumbered, IsIdentifierData, NoSuite};
 
 use krb_block::{KerberosCryptoError, KerberosCryptoResult};

@@ -2,7 +2,7 @@
 
 ghost use Rattle.std.specs.Prelude.{◌≡◌, ◌↔◌, ℕ, Result, true};
 ghost use Rattle.std.specs.Borrow.{Bor};
-ghost use Rattle.krb_block.specs.declared.error.KerberosCryptoError.{KerberosCryptoError};
+ghost use Rattle.krb_mac.specs.declared.error.KerberosCryptoError.{KerberosCryptoError};
 ghost use Rattle.krb_suite.specs.Standards.{IsAesSuite, IsDes3Suite, IsAesChecksum, IsDes3Checksum};
 ghost use Rattle.krb_suite.specs.Suites.{etype, checksum_type, IsNumbered};
 

@@ -1,8 +1,8 @@
 -- Refusals of parts, told as those of a run.
 use Rattle.std.proofs.Common.{◌≡◌, ◌≢◌, ℕ, List, refl, inl, inr}
-use Rattle.krb_block.specs.CryptoError.{IsMemoryOr}
-use Rattle.krb_block.specs.declared.error.KerberosCryptoError.{KerberosCryptoError}
-use Rattle.krb_block.specs.declared.error.KerberosCryptoError.TheVariants as crypto
+use Rattle.krb_mac.specs.CryptoError.{IsMemoryOr}
+use Rattle.krb_mac.specs.declared.error.KerberosCryptoError.{KerberosCryptoError}
+use Rattle.krb_mac.specs.declared.error.KerberosCryptoError.TheVariants as crypto
 use Rattle.krb_leaves.specs.Reading.{Encodings}
 use Rattle.krb_leaves.specs.declared.error.Asn1DerError.TheVariants as der
 use Rattle.krb_scheme.specs.Sealing.{IsOfNone, Opens}

@@ -1,8 +1,8 @@
 -- What each command answers to an input, and why it refuses one. The values that are read and written are those of which
 -- `is_value` holds, and `enc` gives their encodings.
 use Rattle.std.specs.Prelude.{◌≡◌, ◌≢◌, ◌⊎◌, ℕ, ℤ, List, length, Err}
-use Rattle.krb_block.specs.declared.error.KerberosCryptoError.{KerberosCryptoError}
-use Rattle.krb_block.specs.declared.error.KerberosCryptoError.TheVariants.{KeyLength}
+use Rattle.krb_mac.specs.declared.error.KerberosCryptoError.{KerberosCryptoError}
+use Rattle.krb_mac.specs.declared.error.KerberosCryptoError.TheVariants.{KeyLength}
 use Rattle.krb_leaves.specs.declared.error.Asn1DerError.{Asn1DerError}
 use Rattle.krb_leaves.specs.Reading.{Encodings}
 use Rattle.krb_der.specs.Whole.{ReadsValue, TellsCut, RefusesMore, NoDevice}

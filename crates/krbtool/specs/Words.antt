@@ -3,7 +3,7 @@ use Rattle.std.specs.Prelude.{◌≡◌, ◌≢◌, ◌⊎◌, ◌<◌, ◌^◌,
 use Rattle.std.specs.Int.{w32}
 use Rattle.std.specs.Str.Parse.{IsNumeral, digits_value, without_leading_sign, signed_digits_value}
 use Rattle.hex.specs.Hex.{decode_of}
-use Rattle.krb_block.specs.declared.error.KerberosCryptoError.TheVariants as crypto
+use Rattle.krb_mac.specs.declared.error.KerberosCryptoError.TheVariants as crypto
 use Rattle.krb_suite.specs.BySuite.{confounder_octets_of}
 use Rattle.krb_suite.specs.Suites as suites
 use Rattle.krb_suite.specs.declared.cipher_suite.CipherSuite.{CipherSuite}

@@ -1,6 +1,7 @@
 pub use Rattle.krb_der.specs.Tlv
 pub use Rattle.krb_der.specs.Encoding
 pub use Rattle.krb_der.specs.Reading
+pub use Rattle.krb_der.specs.Faults
 pub use Rattle.krb_der.specs.Leaf
 pub use Rattle.krb_der.specs.BitString
 pub use Rattle.krb_der.specs.Integer
@@ -11,8 +12,10 @@ pub use Rattle.krb_der.specs.Whole
 pub use Rattle.krb_der.specs.Streaming
 pub use Rattle.krb_der.specs.Equality
 pub use Rattle.krb_der.specs.Asn1
+pub use Rattle.krb_der.specs.FieldFaults
 pub use Rattle.krb_der.specs.Choice
 pub use Rattle.krb_identifiers.specs.ObjectIdentifier
+pub use Rattle.krb_identifiers.specs.ObjectIdentifierFaults
 pub use Rattle.krb_identifiers.specs.RawValue
 pub use Rattle.krb_algorithms.specs.Implicit
 pub use Rattle.krb_iakerb.specs.Header
@@ -26,9 +29,9 @@ pub use Rattle.krb_pac.specs.Written
 pub use Rattle.krb_msg.specs.CodeText
 pub use Rattle.krb_msg.specs.Results
 pub use Rattle.krb_password.specs.Frame
-pub use Rattle.krb_block.specs.CryptoError
-pub use Rattle.krb_block.specs.Hmac
-pub use Rattle.krb_block.specs.Pbkdf2
+pub use Rattle.krb_mac.specs.CryptoError
+pub use Rattle.krb_mac.specs.Hmac
+pub use Rattle.krb_mac.specs.Pbkdf2
 pub use Rattle.krb_block.specs.Fold
 pub use Rattle.krb_block.specs.Size
 pub use Rattle.krb_block.specs.Aes

@@ -1,7 +1,7 @@
 -- What the cipher of the tests writes.
 use Rattle.std.specs.Prelude.{◌≡◌, ◌≢◌, ◌<◌, ◌≤◌, ◌%◌, ◌⊎◌, ℕ, List, [], ◌∷◌, ◌++◌, length, map, bit_xor}
-use Rattle.krb_block.specs.declared.error.KerberosCryptoError.{KerberosCryptoError}
-use Rattle.krb_block.specs.declared.error.KerberosCryptoError.TheVariants.{CipherLength, CipherUnpad, KeyLength}
+use Rattle.krb_mac.specs.declared.error.KerberosCryptoError.{KerberosCryptoError}
+use Rattle.krb_mac.specs.declared.error.KerberosCryptoError.TheVariants.{CipherLength, CipherUnpad, KeyLength}
 use Rattle.krb_der.specs.Encoding.{IsOctets}
 use Rattle.krb_block.specs.Modes.{IsFill}
 

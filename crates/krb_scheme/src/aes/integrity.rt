@@ -1,7 +1,7 @@
 //! Checksums under AES (RFC 3961, 5.3 and 5.4; RFC 3962, 6).
 
 ghost use Rattle.std.specs.Prelude.{◌≡◌, length, IfOk, IfErr};
-ghost use Rattle.krb_block.specs.CryptoError.{RefusesKey};
+ghost use Rattle.krb_mac.specs.CryptoError.{RefusesKey};
 ghost use Rattle.krb_block.specs.Size.{key_octets};
 ghost use Rattle.krb_scheme.specs.Sealed.{mac_96, aes_ki, aes_sum};
 

@@ -2,12 +2,12 @@
 
 ghost use Rattle.std.specs.Prelude.{◌≡◌, ◌<◌, length, IfOk, IfErr};
 ghost use Rattle.krb_block.specs.Size.{key_octets};
-ghost use Rattle.krb_block.specs.declared.error.KerberosCryptoError.TheVariants.{OutOfMemory};
+ghost use Rattle.krb_mac.specs.declared.error.KerberosCryptoError.TheVariants.{OutOfMemory};
 ghost use Rattle.krb_scheme.specs.Derive.{aes_dk, IsAesPasswordKey};
 ghost use Rattle.krb_scheme.specs.Sealing.{IsTheOne};
-ghost use Rattle.krb_block.specs.CryptoError.{RefusesKey};
+ghost use Rattle.krb_mac.specs.CryptoError.{RefusesKey};
 
-use crate::derived_key::DerivedKey;
+use crate::short_octets::ShortOctets;
 use crate::well_known::KERBEROS;
 use krb_block::in_place::n_fold_into;
 use krb_block::{AES_BLOCK_SIZE, AesKey, AesSize, KerberosCryptoResult, pbkdf2_hmac_sha1};
@@ -38,7 +38,7 @@ pub fn derive_key(
 }
 
 /// The key that `derive_key` gives, from a key that is ready for use. No memory is taken.
-pub(crate) fn derived_key(cipher: &AesKey, well_known: &[u8], size: &AesSize) -> DerivedKey
+pub(crate) fn derived_key(cipher: &AesKey, well_known: &[u8], size: &AesSize) -> ShortOctets
     requires some { 0 < length well_known.now }
     requires size { length cipher.now ≡ key_octets size.now }
     ensures derived { result ≡ aes_dk cipher.now well_known.now }
@@ -46,7 +46,7 @@ pub(crate) fn derived_key(cipher: &AesKey, well_known: &[u8], size: &AesSize) ->
 {
     let mut block = [0; AES_BLOCK_SIZE];
     n_fold_into(well_known, &mut block);
-    let mut derived = DerivedKey::empty();
+    let mut derived = ShortOctets::empty();
     for i in 0..size.key_length() / AES_BLOCK_SIZE {
         let next = cipher.encrypt_block(block);
         block = next;

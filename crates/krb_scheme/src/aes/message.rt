@@ -1,7 +1,7 @@
 //! Messages under AES (RFC 3961, 5.3; RFC 3962, 6), stated once over the size of the key.
 
 ghost use Rattle.std.specs.Prelude.{◌≡◌, ◌≢◌, ℕ, List, length, IfOk, IfErr};
-ghost use Rattle.krb_block.specs.CryptoError.{IsMemoryOr, RefusesKey};
+ghost use Rattle.krb_mac.specs.CryptoError.{IsMemoryOr, RefusesKey};
 ghost use Rattle.krb_block.specs.Size.{key_octets};
 ghost use Rattle.krb_scheme.specs.MessageSteps.{IsDeciphered};
 ghost use Rattle.krb_scheme.specs.Sealed.{IsSealedAes, AesCts, aes_ki, aes_refusal};
@@ -9,9 +9,9 @@ ghost use Rattle.krb_scheme.specs.Sealing.{IsTheOne, IsOfNone, IsGiven, Opens, E
 
 use super::message_keys::MessageKeys;
 use crate::checksum::{Deciphered, joined, without_checksum};
-use crate::octets::are_octets;
+use crate::cts::{deciphered, enciphered};
 use crate::without_checksum::{DecryptWithoutChecksum, EncryptWithoutChecksum};
-use krb_block::in_place::{decrypt_aes_cts, encrypt_aes_cts, hmac_sha1};
+use krb_block::in_place::{encrypt_aes_cts, hmac_sha1};
 use krb_block::{AES_BLOCK_SIZE, AES_MAC_SIZE, AesSize, KerberosCryptoError, KerberosCryptoResult};
 use std::alloc::Global;
 
@@ -77,8 +77,7 @@ pub fn encrypt_message_no_checksum(
     ensures refused { IfErr result (RefusesKey (key_octets size.now) key.now) }
 {
     let keys = MessageKeys::new(key, key_usage, size)?;
-    let mut octets = joined(alloc, &confounder, payload, 0)?;
-    encrypt_aes_cts(&keys.ke, &mut octets);
+    let octets = enciphered(alloc, &keys.ke, &confounder, payload, 0)?;
     without_checksum(alloc, octets, &confounder, &keys.ki)
 }
 
@@ -118,12 +117,5 @@ fn decipher(
         return Err(KerberosCryptoError::CipherLength(cipher_data.len(), SHORTEST));
     }
     let keys = MessageKeys::new(key, key_usage, size)?;
-    let encrypted = &cipher_data[..cipher_data.len() - AES_MAC_SIZE];
-    let mut filled = Vec::from_slice(alloc, encrypted)?;
-    decrypt_aes_cts(&keys.ke, &mut filled);
-    are_octets(&filled);
-    Ok(Deciphered {
-        filled,
-        ki: keys.ki,
-    })
+    deciphered(alloc, keys, cipher_data, AES_MAC_SIZE)
 }

@@ -1,12 +1,12 @@
 //! The two keys of a message under AES (RFC 3961, 5.3).
 
 ghost use Rattle.std.specs.Prelude.{◌≡◌, length, IfOk, IfErr};
-ghost use Rattle.krb_block.specs.CryptoError.{RefusesKey};
+ghost use Rattle.krb_mac.specs.CryptoError.{RefusesKey};
 ghost use Rattle.krb_block.specs.Size.{key_octets};
 ghost use Rattle.krb_scheme.specs.Sealed.{aes_ke, aes_ki};
 
 use super::key_derivation::derived_key;
-use crate::derived_key::DerivedKey;
+use crate::short_octets::ShortOctets;
 use crate::well_known::{usage_ke, usage_ki};
 use krb_block::{AesKey, AesSize, KerberosCryptoResult};
 
@@ -14,7 +14,7 @@ use krb_block::{AesKey, AesSize, KerberosCryptoResult};
 #[derive(Drop)]
 pub(crate) struct MessageKeys {
     pub(crate) ke: AesKey,
-    pub(crate) ki: DerivedKey,
+    pub(crate) ki: ShortOctets,
 }
 
 impl MessageKeys {

@@ -1,8 +1,8 @@
 //! Checksums under triple DES (RFC 3961, 5.3, 5.4 and 6.3).
 
 ghost use Rattle.std.specs.Prelude.{◌≡◌, length, IfOk, IfErr};
-ghost use Rattle.krb_block.specs.CryptoError.{RefusesKey};
-ghost use Rattle.krb_block.specs.Hmac.{hmac};
+ghost use Rattle.krb_mac.specs.CryptoError.{RefusesKey};
+ghost use Rattle.krb_mac.specs.Hmac.{hmac};
 ghost use Rattle.krb_scheme.specs.Sealed.{des3_ki, des3_sum};
 
 use super::key_derivation::derived_key;

@@ -1,8 +1,8 @@
 //! Keys of triple DES from keys, from passwords and from random octets (RFC 3961, 5.1 and 6.3.1).
 
 ghost use Rattle.std.specs.Prelude.{◌≡◌, ◌<◌, ◌≤◌, ◌++◌, length, IfOk, IfErr};
-ghost use Rattle.krb_block.specs.CryptoError.{IsMemoryOr, RefusesKey};
-ghost use Rattle.krb_block.specs.declared.error.KerberosCryptoError.TheVariants.{OutOfMemory};
+ghost use Rattle.krb_mac.specs.CryptoError.{IsMemoryOr, RefusesKey};
+ghost use Rattle.krb_mac.specs.declared.error.KerberosCryptoError.TheVariants.{OutOfMemory};
 ghost use Rattle.krb_scheme.specs.Derive.{des3_dk, IsDes3PasswordKey};
 ghost use Rattle.krb_scheme.specs.RandomToKey.{random_to_key};
 ghost use Rattle.krb_scheme.specs.Sealed.{IsNoDes3Password};

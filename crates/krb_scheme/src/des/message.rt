@@ -2,7 +2,7 @@
 
 ghost use Rattle.std.specs.Prelude.{◌≡◌, ◌≢◌, ◌≤◌, ◌++◌, ℕ, List, length, IfOk, IfErr};
 ghost use Rattle.krb_block.specs.Modes.{IsFill, IsOctets};
-ghost use Rattle.krb_block.specs.CryptoError.{IsMemoryOr, RefusesKey};
+ghost use Rattle.krb_mac.specs.CryptoError.{IsMemoryOr, RefusesKey};
 ghost use Rattle.krb_scheme.specs.MessageSteps.{IsDeciphered};
 ghost use Rattle.krb_scheme.specs.Sealed.{IsSealedDes3, Des3Cbc, des3_ki, des3_refusal};
 ghost use Rattle.krb_scheme.specs.Sealing.{IsTheOne, IsOfNone, IsGiven, Opens, Enciphers, IsSplit, Deciphers};

@@ -4,7 +4,7 @@ ghost use Rattle.std.specs.Prelude.{◌≡◌, IsOk, IfOk};
 ghost use Rattle.krb_scheme.specs.Sealed.{des3_ke, des3_ki};
 
 use super::key_derivation::derived_key;
-use crate::derived_key::DerivedKey;
+use crate::short_octets::ShortOctets;
 use crate::well_known::{usage_ke, usage_ki};
 use krb_block::{DesKey, KerberosCryptoResult};
 
@@ -12,7 +12,7 @@ use krb_block::{DesKey, KerberosCryptoResult};
 #[derive(Drop)]
 pub(crate) struct MessageKeys {
     pub(crate) ke: DesKey,
-    pub(crate) ki: DerivedKey,
+    pub(crate) ki: ShortOctets,
 }
 
 impl MessageKeys {
@@ -23,7 +23,7 @@ impl MessageKeys {
         ensures ki { IfOk result (λ keys. keys.ki ≡ des3_ki base.now key_usage) }
     {
         let ke = derived_key(base, &usage_ke(key_usage));
-        let mut ki = DerivedKey::empty();
+        let mut ki = ShortOctets::empty();
         ki.push(&derived_key(base, &usage_ki(key_usage)));
         Ok(MessageKeys {
             ke: DesKey::new(&ke)?,

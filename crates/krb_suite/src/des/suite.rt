@@ -27,7 +27,7 @@ impl Des3CbcSha1Kd {
 }
 
 impl Cipher for Des3CbcSha1Kd {
-    ghost use Rattle.krb_block.specs.Hmac.{hmac};
+    ghost use Rattle.krb_mac.specs.Hmac.{hmac};
     ghost use Rattle.krb_scheme.specs.Derive.{IsDes3PasswordKey};
     ghost use Rattle.krb_scheme.specs.RandomToKey.{random_to_key};
     ghost use Rattle.krb_scheme.specs.Sealed.{IsSealedDes3, des3_ki, des3_refusal, IsNoDes3Password};

@@ -1,6 +1,5 @@
 use Rattle.std.proofs.Common.{◌≡◌, ℕ, ◌+◌, ◌-◌, ◌*◌, ◌/◌, ◌<◌, ◌≤◌, List, length, take, drop, refl, ap, ◌∙◌, arith, rules}
-use Rattle.krb_block.specs.Xor.{xor_lists}
-use Rattle.krb_block.specs.Modes.{filled_to}
+use Rattle.krb_mac.specs.Xor.{xor_lists, filled_to}
 use Rattle.krb_block.specs.Linked.{linked, last_linked}
 use Rattle.krb_block.proofs.Chaining.{part_inside, part_at, placed_at, drop_more, link_step, last_linked_step, linked_all, last_linked_end}
 use Rattle.krb_block.proofs.cbc.chain.Goals as goal

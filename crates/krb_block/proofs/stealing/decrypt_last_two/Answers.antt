@@ -1,7 +1,7 @@
 use Rattle.std.proofs.Common.{◌≡◌, ℕ, ◌-◌, List, ◌++◌, length, take, drop, ap, ◌∙◌, rules}
 use Rattle.std.proofs.lemmas.List.{take_rest}
-use Rattle.krb_block.specs.Xor.{xor_lists}
-use Rattle.krb_block.proofs.Chaining.{filled_whole}
+use Rattle.krb_mac.specs.Xor.{xor_lists}
+use Rattle.krb_mac.proofs.XorLists.{filled_whole}
 use Rattle.krb_block.proofs.StealingSteps.{both_written}
 use Rattle.krb_block.proofs.stealing.decrypt_last_two.Goals as goal
 

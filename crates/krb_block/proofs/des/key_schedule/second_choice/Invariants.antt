@@ -1,5 +1,5 @@
 use Rattle.std.proofs.Common.{◌≡◌}
-use Rattle.krb_block.specs.Xor.{xor_lists}
+use Rattle.krb_mac.specs.Xor.{xor_lists}
 use Rattle.krb_block.specs.Des.{bits, permuted}
 use Rattle.krb_block.proofs.DesChoice.{choice_of_c, choice_of_d, half_bits, parts_from}
 use Rattle.krb_block.proofs.des.key_schedule.second_choice.Given as goal

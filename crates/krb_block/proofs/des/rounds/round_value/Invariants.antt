@@ -1,6 +1,6 @@
 use Rattle.std.proofs.Common.{◌≡◌, ◌*◌}
 use Rattle.krb_block.specs.DesTables.{round_table}
-use Rattle.krb_block.specs.Xor.{xor_lists}
+use Rattle.krb_mac.specs.Xor.{xor_lists}
 use Rattle.krb_block.specs.Des.{bits, permuted, round_value, key_bits}
 use Rattle.krb_block.proofs.DesJoined.{left_from}
 use Rattle.krb_block.proofs.DesExpansion.{mixed_with}

@@ -5,7 +5,7 @@ use Rattle.krb_block.specs.Size.{key_octets}
 use Rattle.krb_scheme.specs.Sealed.{AesCts, aes_ki}
 use Rattle.krb_scheme.specs.MessageSteps.{IsDeciphered}
 use Rattle.krb_scheme.proofs.Opening.{splits, none_split}
-use Rattle.krb_scheme.proofs.Messages.{aes_scheme, aes_short}
+use Rattle.krb_scheme.proofs.Messages.{aes_scheme, cts_short}
 use Rattle.krb_scheme.proofs.aes.message.decrypt_message_no_checksum.Goals as goal
 
 pub returns-in_err-deciphered-clause-refused : goal.returns-in_err-deciphered-clause-refused
@@ -16,7 +16,7 @@ returns-in_err-deciphered-clause-refused c = λ right.
     rw (p.1, p.2)
     (elim c.in_err-deciphered.ensures.exact [
       | inl memory ↦ inl memory
-      | inr other ↦ inr (none_split (aes_scheme key c.args.key_usage) bytes (aes_short (key_octets c.args.size.now) key bytes _ right other))
+      | inr other ↦ inr (none_split (aes_scheme key c.args.key_usage) bytes (cts_short 12 (key_octets c.args.size.now) key bytes _ right other))
     ])
 
 pub returns-clause-opened : goal.returns-clause-opened

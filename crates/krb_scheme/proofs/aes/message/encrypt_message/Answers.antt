@@ -6,7 +6,7 @@ use Rattle.krb_block.specs.Modes.{Cts, IsOctets}
 use Rattle.krb_scheme.specs.Sealed.{AesCts, aes_ke, aes_ki}
 use Rattle.krb_scheme.specs.MessageSteps.{cut_mac}
 use Rattle.krb_scheme.proofs.Opening.{IsEnciphered, seals}
-use Rattle.krb_scheme.proofs.Messages.{aes_scheme, aes_enciphered, written}
+use Rattle.krb_scheme.proofs.Messages.{aes_scheme, cts_enciphered, written}
 use Rattle.krb_scheme.proofs.aes.message.encrypt_message.Goals as goal
 
 pub returns-clause-sealed : goal.returns-clause-sealed
@@ -22,7 +22,7 @@ returns-clause-sealed c =
     let octets : IsOctets filled = c.in_ok-octets.ensures.octets in
     let enciphered : Cts (aes_block keys.ke) filled made = subst (λ p. Cts (aes_block keys.ke) p made) c.deref_mut.ensures.value c.encrypt_aes_cts.ensures in
     let e : IsEnciphered 1 (AesCts key usage) (aes_ki key usage) c.args.confounder c.args.payload.now filled made keys.ki =
-    aes_enciphered key usage keys.ke keys.ki c.args.confounder c.args.payload.now filled made ke ki c.in_ok-octets.ensures.joined octets enciphered in
+    cts_enciphered (aes_ke key usage) (aes_ki key usage) keys.ke keys.ki c.args.confounder c.args.payload.now filled made ke ki c.in_ok-octets.ensures.joined octets enciphered in
     let back : take c.in_ok-octets.octets.len (made ++ drop (length made) filled) ≡ made = written filled made c.in_ok-octets.octets.len (c.encrypt_aes_cts.auto.octets ∙ c.deref_mut.ensures.len) in
     let mac : List ℕ = take 12 c.hmac_sha1-mac.result in
     let mac_is : mac ≡ cut_mac 12 keys.ki filled = search rules in

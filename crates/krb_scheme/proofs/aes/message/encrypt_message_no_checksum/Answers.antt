@@ -1,11 +1,9 @@
-use Rattle.std.proofs.Common.{◌≡◌, ◌++◌, ℕ, List, length, take, drop, subst, ◌∙◌}
+use Rattle.std.proofs.Common.{◌≡◌, ◌++◌, ℕ, List, refl}
 use Rattle.std.proofs.lemmas.Int.{to_z-of_z}
-use Rattle.krb_block.specs.Aes.{aes_block}
-use Rattle.krb_block.specs.Modes.{Cts, IsOctets}
-use Rattle.krb_scheme.specs.Sealed.{AesCts, aes_ke, aes_ki}
 use Rattle.std.proofs.lemmas.Result.{IfOk-weaker}
+use Rattle.krb_scheme.specs.Sealed.{AesCts, aes_ke, aes_ki}
 use Rattle.krb_scheme.proofs.Opening.{IsEnciphered, enciphers_one}
-use Rattle.krb_scheme.proofs.Messages.{aes_scheme, aes_enciphered, written}
+use Rattle.krb_scheme.proofs.Messages.{aes_scheme, cts_enciphered}
 use Rattle.krb_scheme.proofs.aes.message.encrypt_message_no_checksum.Goals as goal
 
 pub returns-clause-encrypted : goal.returns-clause-encrypted
@@ -14,13 +12,10 @@ returns-clause-encrypted c =
     let key = c.args.key.now in
     let usage = c.args.key_usage in
     let keys = c.in_ok-keys.keys in
-    let filled : List ℕ = c.in_ok-octets.octets.items in
-    let made : List ℕ = c.encrypt_aes_cts.new.octets in
+    let filled : List ℕ = c.args.confounder ++ c.args.payload.now in
+    let made : List ℕ = c.in_ok-octets.octets.items in
     let ke : keys.ke ≡ aes_ke key usage = simp to_z-of_z at c.in_ok-keys.ensures.ke in
     let ki : keys.ki ≡ aes_ki key usage = simp to_z-of_z at c.in_ok-keys.ensures.ki in
-    let octets : IsOctets filled = c.in_ok-octets.ensures.octets in
-    let enciphered : Cts (aes_block keys.ke) filled made = subst (λ p. Cts (aes_block keys.ke) p made) c.deref_mut.ensures.value c.encrypt_aes_cts.ensures in
     let e : IsEnciphered 1 (AesCts key usage) (aes_ki key usage) c.args.confounder c.args.payload.now filled made keys.ki =
-    aes_enciphered key usage keys.ke keys.ki c.args.confounder c.args.payload.now filled made ke ki c.in_ok-octets.ensures.joined octets enciphered in
-    let back : take c.in_ok-octets.octets.len (made ++ drop (length made) filled) ≡ made = written filled made c.in_ok-octets.octets.len (c.encrypt_aes_cts.auto.octets ∙ c.deref_mut.ensures.len) in
-    IfOk-weaker c.without_checksum.result _ _ (λ sealed same. let is : sealed.encrypted.items ≡ made = same ∙ back in rw is (enciphers_one (aes_scheme key usage) c.args.confounder c.args.payload.now filled made keys.ki e)) c.without_checksum.ensures.encrypted
+    cts_enciphered (aes_ke key usage) (aes_ki key usage) keys.ke keys.ki c.args.confounder c.args.payload.now filled made ke ki refl c.in_ok-octets.ensures.octets c.in_ok-octets.ensures.enciphered in
+    IfOk-weaker c.without_checksum.result _ _ (λ sealed same. rw same (enciphers_one (aes_scheme key usage) c.args.confounder c.args.payload.now filled made keys.ki e)) c.without_checksum.ensures.encrypted

@@ -1,5 +1,5 @@
 use Rattle.std.proofs.Common.{rules, ◌≡◌, List, ℕ, ap, ◌∙◌}
-use Rattle.krb_block.specs.Hmac.{hmac}
+use Rattle.krb_mac.specs.Hmac.{hmac}
 use Rattle.krb_scheme.specs.Sealed.{des3_kc}
 use Rattle.krb_scheme.proofs.Messages.{whole_mac}
 use Rattle.krb_scheme.proofs.des.integrity.keyed_checksum.Goals as goal

@@ -1,6 +1,6 @@
 use Rattle.std.proofs.Common.{◌≡◌, ◌++◌, ℕ, List, length, take, drop, ap, subst, ◌∙◌, refl, sym, arith, rules}
 use Rattle.std.proofs.lemmas.List.{take_all}
-use Rattle.krb_block.specs.Hmac.{hmac}
+use Rattle.krb_mac.specs.Hmac.{hmac}
 use Rattle.std.proofs.lemmas.Int.{to_z-of_z}
 use Rattle.std.proofs.lemmas.Slice.{pushed}
 use Rattle.krb_block.specs.Des.{ede3}

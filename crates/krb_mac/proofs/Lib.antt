@@ -1,0 +1,3 @@
+pub mod XorLists
+pub mod HmacSteps
+pub mod Pbkdf2Steps
