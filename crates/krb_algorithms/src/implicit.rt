@@ -3,8 +3,10 @@
 ghost use Rattle.std.specs.Prelude.{◌≡◌, ◌==◌, ◌+◌};
 ghost use Rattle.krb_leaves.specs.Tlv.{tlv};
 ghost use Rattle.krb_leaves.specs.TlvLaws.{tagged_element};
+ghost use Rattle.krb_leaves.specs.Faults.{FrontFault, TaggedFault};
+ghost use Rattle.krb_leaves.specs.FaultLaws.{front_laws};
 ghost use Rattle.krb_der.specs.FieldLaws.{field_begins, field_one_reading};
-ghost use Rattle.krb_algorithms.specs.ImplicitLaws.{retagged_one_value};
+ghost use Rattle.krb_algorithms.specs.ImplicitLaws.{retagged_fault_laws, retagged_one_value};
 
 use krb_der::composite::{FieldRefs, Fields, Number, TagNumber};
 use krb_der::{Asn1DerError, Der, DerEncode};
@@ -56,6 +58,10 @@ impl<T: DerPrimitive, N: TagNumber> DerEncode for ImplicitContextTag<T, N> {
 
     ghost one_value = { retagged_one_value (128 + N.number) T.tag T.is_value T.enc T.inner T.one_value };
 
+    ghost fault = { TaggedFault (128 + N.number) (T.fault T.tag) };
+
+    ghost fault_laws = { retagged_fault_laws (128 + N.number) T.tag T.is_value T.enc T.inner T.fault T.fault_laws };
+
     fn starts(octet: u8) -> bool {
         octet == 0x80 + N::get()
     }
@@ -91,6 +97,14 @@ impl<T: DerPrimitive + Drop, N: TagNumber> Fields for ImplicitContextTag<T, N> {
     ghost begin_so = { field_begins (λ v. tlv (128 + N.number) (T.inner v)) (λ v. T.is_value v × (T.enc v ≡ tlv T.tag (T.inner v))) (λ t. t == 128 + N.number) (λ v h. tagged_element (128 + N.number) (T.inner v)) };
 
     ghost one_reading = { field_one_reading (λ v. tlv (128 + N.number) (T.inner v)) (λ v. T.is_value v × (T.enc v ≡ tlv T.tag (T.inner v))) (λ t. t == 128 + N.number) (λ v h. tagged_element (128 + N.number) (T.inner v)) (retagged_one_value (128 + N.number) T.tag T.is_value T.enc T.inner T.one_value) };
+
+    ghost ends = { λ v rest. Unit {0} };
+
+    ghost fault = { FrontFault (λ t. t == 128 + N.number) ⟦<Self as DerEncode>⟧.fault };
+
+    ghost fault_laws = { front_laws _ _ _ ⟦<Self as DerEncode>⟧.is_element _ ⟦<Self as DerEncode>⟧.fault_laws ⟦<Self as DerEncode>⟧.one_value };
+
+    ghost told_ends = { λ follow told v x h hx. tt };
 
     fn read_fields(alloc: Global, input: &[u8]) -> Result<(Self, usize), Asn1DerError> {
         let (value, taken) = Self::read(alloc, input)?;

@@ -4,6 +4,8 @@
 //! lent for writing as `FieldRef(&self.name)`. One that may be absent is `Optional<Option<T>>`, as under a tag: it is told by
 //! its first octet from what follows it.
 
+ghost use Rattle.krb_leaves.specs.Faults.{FrontFault};
+ghost use Rattle.krb_leaves.specs.FaultLaws.{front_laws};
 ghost use Rattle.krb_der.specs.FieldLaws.{field_begins, field_one_reading};
 
 use krb_der::composite::{FieldRefs, Fields};
@@ -35,6 +37,14 @@ impl<T: Der + Drop> Fields for Field<T> {
     ghost begin_so = { field_begins T.enc T.is_value T.first T.is_element };
 
     ghost one_reading = { field_one_reading T.enc T.is_value T.first T.is_element T.one_value };
+
+    ghost ends = { λ v rest. Unit {0} };
+
+    ghost fault = { FrontFault T.first T.fault };
+
+    ghost fault_laws = { front_laws T.is_value T.enc T.first T.is_element T.fault T.fault_laws T.one_value };
+
+    ghost told_ends = { λ follow told v x h hx. tt };
 
     fn read_fields(alloc: Global, input: &[u8]) -> Result<(Self, usize), Asn1DerError> {
         let (value, taken) = T::read(alloc, input)?;

@@ -3,6 +3,8 @@
 ghost use Rattle.std.specs.Prelude.{◌==◌, ◌++◌, refl};
 ghost use Rattle.krb_der.specs.Asn1.{bit_string, sequence};
 ghost use Rattle.krb_der.specs.Encoding.{optional};
+ghost use Rattle.krb_der.specs.FieldFaults.{sequence_fault};
+ghost use Rattle.krb_der.specs.FieldFaultLaws.{sequence_fault_laws};
 ghost use Rattle.krb_der.specs.SequenceLaws.{one_value_of, values_of};
 ghost use Rattle.krb_der.specs.TlvLaws.{tagged_element};
 ghost use Rattle.krb_identifiers.specs.ObjectIdentifier.{object_identifier};
@@ -54,6 +56,10 @@ impl DerEncode for AlgorithmIdentifier {
     ghost is_element = { λ v h. tagged_element 48 _ };
 
     ghost one_value = { one_value_of ⟦<Self as Sequence>⟧ ⟦<<Self as Sequence>::Fields as Fields>⟧ (λ v. refl) (tt, λ t h. refl) };
+
+    ghost fault = { sequence_fault ⟦<<Self as Sequence>::Fields as Fields>⟧ };
+
+    ghost fault_laws = { sequence_fault_laws ⟦<Self as Sequence>⟧ ⟦<<Self as Sequence>::Fields as Fields>⟧ (tt, λ t h. refl) };
 
     fn starts(octet: u8) -> bool {
         octet == SEQUENCE
@@ -115,6 +121,10 @@ impl DerEncode for SubjectPublicKeyInfo {
     ghost is_element = { λ v h. tagged_element 48 _ };
 
     ghost one_value = { one_value_of ⟦<Self as Sequence>⟧ ⟦<<Self as Sequence>::Fields as Fields>⟧ (λ v. refl) (tt, tt) };
+
+    ghost fault = { sequence_fault ⟦<<Self as Sequence>::Fields as Fields>⟧ };
+
+    ghost fault_laws = { sequence_fault_laws ⟦<Self as Sequence>⟧ ⟦<<Self as Sequence>::Fields as Fields>⟧ (tt, tt) };
 
     fn starts(octet: u8) -> bool {
         octet == SEQUENCE

@@ -12,7 +12,7 @@ use Rattle.krb_leaves.specs.Encoding.{IsElement, OneValue}
 use Rattle.krb_leaves.specs.Reading.{TakesFront, NoFront, NoBeginning, RefusesFront, RefusesAll, Encodings, Elements, Lengths}
 use Rattle.krb_der.specs.Streaming.{Gathers, IsFault, IsShort, ReadsFront, RefusesReader, TellsEarlyEnd}
 use Rattle.krb_leaves.specs.TlvLaws.{len-small, field_apart}
-use Rattle.krb_leaves.proofs.Lengths.{NoMeet, meet_from_both, meets, nothing_read, refused_from_meet}
+use Rattle.krb_leaves.specs.LengthLaws.{NoMeet, meet_from_both, meets, nothing_read, refused_from_meet}
 use Rattle.krb_leaves.proofs.Elements.{bad_length, short_content}
 use Rattle.krb_leaves.proofs.Refusals.{none_read, wrong_first, no_element, behind_element}
 
@@ -57,10 +57,10 @@ length_none (Some p) errors.InvalidData s = absurd s
 length_none (Some p) errors.UnsupportedValue s = absurd s
 length_none (Some p) (errors.Io e) s = tt
 
-longer_meet : (octets rest : List ℕ) → NoFront Lengths octets × NoBeginning Lengths octets → NoMeet Lengths (octets ++ rest)
+pub longer_meet : (octets rest : List ℕ) → NoFront Lengths octets × NoBeginning Lengths octets → NoMeet Lengths (octets ++ rest)
 longer_meet octets rest r b x y p e = meet_from_both Lengths octets r b (rest ++ x) y p (sym (append_assoc octets rest x) ∙ e)
 
-length_all : (p q s f new : List ℕ) (count : ℕ) → Gathers 1 [] f (Some p) (Some q) → Gathers count f new (Some q) (Some s) → p ≡ new ++ s
+pub length_all : (p q s f new : List ℕ) (count : ℕ) → Gathers 1 [] f (Some p) (Some q) → Gathers count f new (Some q) (Some s) → p ≡ new ++ s
 length_all p q s f new count g h = g.3 ∙ ap (λ (l : List ℕ). g.0 ++ l) h.3 ∙ sym (append_assoc g.0 h.0 s) ∙ ap (λ (l : List ℕ). l ++ s) (ap (λ (l : List ℕ). l ++ h.0) (sym g.2) ∙ sym h.2)
 
 one_octet : (bs : List ℕ) → length bs ≡ 1 → (x : ℕ) × (bs ≡ x ∷ [])
@@ -68,7 +68,7 @@ one_octet [] e = absurd (omega (arith, e))
 one_octet (x ∷ []) e = (x, refl)
 one_octet (x ∷ y ∷ ys) e = absurd (omega (arith, e))
 
-tag_front : (f bs p q : List ℕ) → f ≡ [] ++ bs → length bs ≡ 1 → p ≡ bs ++ q → p ≡ get_or f 0 0 ∷ q
+pub tag_front : (f bs p q : List ℕ) → f ≡ [] ++ bs → length bs ≡ 1 → p ≡ bs ++ q → p ≡ get_or f 0 0 ∷ q
 tag_front f bs p q e one h =
     let x = one_octet bs one in
     let k : f ≡ x.0 ∷ [] = e ∙ x.1 in
@@ -115,7 +115,7 @@ none_behind first count L bs rest k long lt e =
     ]
 
 -- the first octet and those behind it
-first_and : (f new bs cs : List ℕ) → f ≡ [] ++ bs → length bs ≡ 1 → new ≡ f ++ cs → new ≡ get_or f 0 0 ∷ cs
+pub first_and : (f new bs cs : List ℕ) → f ≡ [] ++ bs → length bs ≡ 1 → new ≡ f ++ cs → new ≡ get_or f 0 0 ∷ cs
 first_and f new bs cs e one h =
     let x = one_octet bs one in
     let k : f ≡ x.0 ∷ [] = e ∙ x.1 in

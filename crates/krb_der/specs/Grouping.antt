@@ -17,3 +17,7 @@ OneReading {A} told_apart are_values octets =
 abbrev pub ReadsFields : {A : Type 0} → ((ℕ → Bool) → Type 0) → (A → Type 0) → (A → List ℕ) → List ℕ → Result (A × ℕ) Asn1DerError → Type 0
 ReadsFields {A} told_apart are_values octets input r =
     (follow : ℕ → Bool) → told_apart follow → (w : A) (y : List ℕ) → are_values w → BeginsWith follow y → input ≡ octets w ++ y → MatchResult r (λ p. p.0 ≡ w) (λ e. e ≡ errors.OutOfMemory)
+
+-- Fields that are told apart from what follows them end where it begins so.
+abbrev pub ToldEnds : {A : Type 0} → ((ℕ → Bool) → Type 0) → (A → Type 0) → (A → List ℕ → Type 0) → Type 0
+ToldEnds {A} told_apart are_values ends = (follow : ℕ → Bool) → told_apart follow → (v : A) (x : List ℕ) → are_values v → BeginsWith follow x → ends v x

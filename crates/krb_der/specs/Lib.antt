@@ -1,7 +1,9 @@
 pub use Rattle.krb_leaves.specs.Tlv
 pub use Rattle.krb_leaves.specs.Encoding
 pub use Rattle.krb_leaves.specs.Reading
+pub use Rattle.krb_leaves.specs.Faults
 pub use Rattle.krb_leaves.specs.TlvLaws
+pub use Rattle.krb_leaves.specs.FaultLaws
 pub use Rattle.krb_leaves.specs.Leaf
 pub use Rattle.krb_leaves.specs.BitString
 pub use Rattle.krb_leaves.specs.Integer
@@ -16,6 +18,8 @@ pub mod Asn1
 pub mod Equality
 pub mod EqualityLaws
 pub mod SequenceLaws
+pub mod FieldFaults
+pub mod FieldFaultLaws
 pub mod Streaming
 pub mod Choice
 pub mod ChoiceLaws

@@ -45,3 +45,8 @@ abbrev pub TellsEarlyEnd : {A : Type 0} → (A → Type 0) → (A → List ℕ) 
 TellsEarlyEnd {A} is_value enc left r =
     (v : A) (front rest : List ℕ) → is_value v → 0 < length rest → length (enc v) < 2 ^ 64 → left ≡ Some front → enc v ≡ front ++ rest
     → MatchResult r (λ w. ⊥) (λ e. (e ≡ errors.TruncatedData) ⊎ IsFault e)
+
+-- Unless the reader failed, the fault is the first of the octets that it had left.
+abbrev pub ReaderFault : (List ℕ → Asn1DerError → Type 0) → Option (List ℕ) → Asn1DerError → Type 0
+ReaderFault fault None e = Unit {0}
+ReaderFault fault (Some xs) e = IsFault e ⊎ fault xs e

@@ -3,7 +3,11 @@
 ghost use Rattle.std.specs.Prelude.{◌≡◌, ◌==◌, ◌+◌, ◌≤◌, ◌&&◌, nat_le};
 ghost use Rattle.krb_leaves.specs.Tlv.{tlv};
 ghost use Rattle.krb_leaves.specs.TlvLaws.{tagged_one_value};
+ghost use Rattle.krb_leaves.specs.Faults.{TaggedFault, ValueFault};
+ghost use Rattle.krb_der.specs.FieldFaults.{NumberFault};
 ghost use Rattle.krb_der.specs.ApplicationLaws.{application_element};
+ghost use Rattle.krb_leaves.specs.FaultLaws.{tagged_laws, value_laws};
+ghost use Rattle.krb_der.specs.FieldFaultLaws.{number_laws};
 
 use crate::whole::{read_around, write_around};
 use krb_leaves::{Asn1DerError, Der, DerEncode, DerSequence};
@@ -37,6 +41,10 @@ impl<T: DerSequence, const N: u8> DerEncode for ApplicationTag<T, N> {
     ghost is_element = { λ v h. application_element N (T.enc v) h.1 };
 
     ghost one_value = { λ v w hv hw e. tagged_one_value (96 + N) T.is_value T.enc T.one_value v w hv.0 hw.0 e };
+
+    ghost fault = { NumberFault N (TaggedFault (96 + N) (ValueFault T.is_value T.enc T.first T.fault)) };
+
+    ghost fault_laws = { number_laws N T.is_value (λ v. tlv (96 + N) (T.enc v)) (TaggedFault (96 + N) (ValueFault T.is_value T.enc T.first T.fault)) (tagged_laws (96 + N) T.is_value T.enc (ValueFault T.is_value T.enc T.first T.fault) (value_laws T.is_value T.enc T.first T.is_element T.fault T.fault_laws T.one_value)) };
 
     fn starts(octet: u8) -> bool {
         N <= 30 && octet == 0x60 + N

@@ -49,9 +49,9 @@
 //!    ```
 //!
 //! 3. Write `impl DerEncode`. `enc` is the ASN.1 text again, in the words of the table below, one field after another with
-//!    `++` between. `write` names the fields. At the end of `one_value` stands, in the shape of the fields, `tt` for each
-//!    mandatory field and `only_tag TAG _ refl` for each that may be absent: it is told by its tag from what follows it, and
-//!    TAG is 160 more than its number. The other members are the same for each struct.
+//!    `++` between. `write` names the fields. At the end of `one_value`, and again of `fault_laws`, stands, in the shape of the
+//!    fields, `tt` for each mandatory field and `only_tag TAG _ refl` for each that may be absent: it is told by its tag from
+//!    what follows it, and TAG is 160 more than its number. The other members are the same for each struct.
 //!
 //!    ```text
 //!    impl DerEncode for Note {
@@ -64,6 +64,10 @@
 //!        ghost is_element = { λ v h. tagged_element 48 _ };
 //!
 //!        ghost one_value = { one_value_of ⟦<Self as Sequence>⟧ ⟦<<Self as Sequence>::Fields as Fields>⟧ (λ v. refl) (tt, only_tag 161 _ refl, tt) };
+//!
+//!        ghost fault = { sequence_fault ⟦<<Self as Sequence>::Fields as Fields>⟧ };
+//!
+//!        ghost fault_laws = { sequence_fault_laws ⟦<Self as Sequence>⟧ ⟦<<Self as Sequence>::Fields as Fields>⟧ (tt, only_tag 161 _ refl, tt) };
 //!
 //!        fn starts(octet: u8) -> bool {
 //!            octet == SEQUENCE
@@ -100,6 +104,8 @@
 //! ghost use Rattle.std.specs.Prelude.{◌==◌, ◌++◌, refl}; // with one field alone no ◌++◌
 //! ghost use Rattle.krb_der.specs.Asn1.{boolean, explicit, integer, octet_string, sequence}; // the words of `enc`
 //! ghost use Rattle.krb_der.specs.Encoding.{optional}; // only for fields that may be absent
+//! ghost use Rattle.krb_der.specs.FieldFaults.{sequence_fault};
+//! ghost use Rattle.krb_der.specs.FieldFaultLaws.{sequence_fault_laws};
 //! ghost use Rattle.krb_der.specs.SequenceLaws.{one_value_of, values_of};
 //! ghost use Rattle.krb_der.specs.TlvLaws.{only_tag, tagged_element}; // only_tag: only for fields that may be absent
 //!
@@ -137,7 +143,7 @@
 //! # One field, and seven or more
 //!
 //! With one field alone `Fields` is its type with no parentheses, and so are `fields`, `with_fields`, `from_fields` and the end
-//! of `one_value`: `λ v. v.name`, `λ f. record { name = f }`, `name: Self::Fields` and `tt`.
+//! of `one_value` and `fault_laws`: `λ v. v.name`, `λ f. record { name = f }`, `name: Self::Fields` and `tt`.
 //!
 //! A tuple has up to six fields. Seven or more stand in groups, which are tuples in a tuple; in `enc` parentheses stand
 //! around each group, and in `field_refs!` too. With `a` to `f` mandatory and `g [6]` optional:
@@ -154,6 +160,8 @@
 //! ghost enc = { λ v. sequence ((explicit 0 (integer v.a) ++ explicit 1 (integer v.b) ++ ..) ++ (.. ++ optional (λ x. explicit 6 (integer x)) v.g.0)) };
 //!
 //! ghost one_value = { one_value_of .. (λ v. refl) ((tt, tt, tt, tt), (tt, tt, only_tag 166 _ refl)) };
+//!
+//! ghost fault_laws = { sequence_fault_laws .. ((tt, tt, tt, tt), (tt, tt, only_tag 166 _ refl)) };
 //!
 //! write_sequence(alloc, &field_refs!(self; (a, b, c, d), (e, f, g)), out)
 //! ```

@@ -3,6 +3,8 @@
 ghost use Rattle.std.specs.Prelude.{◌≡◌, ◌==◌, ◌+◌, ◌≤◌, ℕ, min};
 ghost use Rattle.krb_leaves.specs.Tlv.{tlv};
 ghost use Rattle.krb_leaves.specs.TlvLaws.{tagged_element, tagged_one_value};
+ghost use Rattle.krb_leaves.specs.Faults.{TaggedFault, ValueFault};
+ghost use Rattle.krb_leaves.specs.FaultLaws.{tagged_laws, value_laws};
 
 use crate::whole::{read_around, write_around};
 use krb_leaves::{Asn1DerError, Der, DerEncode};
@@ -54,6 +56,10 @@ impl<T: DerEncode, N: TagNumber> DerEncode for ExplicitContextTag<T, N> {
     ghost is_element = { λ v h. tagged_element (160 + N.number) (T.enc v) };
 
     ghost one_value = { tagged_one_value (160 + N.number) T.is_value T.enc T.one_value };
+
+    ghost fault = { TaggedFault (160 + N.number) (ValueFault T.is_value T.enc T.first T.fault) };
+
+    ghost fault_laws = { tagged_laws (160 + N.number) T.is_value T.enc (ValueFault T.is_value T.enc T.first T.fault) (value_laws T.is_value T.enc T.first T.is_element T.fault T.fault_laws T.one_value) };
 
     fn starts(octet: u8) -> bool {
         octet == 0xa0 + N::get()

@@ -1,13 +1,16 @@
 //! Laws over the definitions, of functions that do nothing.
 
-ghost use Rattle.std.specs.Prelude.{◌≡◌, ◌+◌, ◌≤◌, ◌++◌, ◌∷◌, ℕ, ℤ, pos, Bool, List, Option, IfSome};
+ghost use Rattle.std.specs.Prelude.{◌≡◌, ◌↔◌, ◌+◌, ◌<◌, ◌≤◌, ◌^◌, ◌++◌, ◌∷◌, ℕ, ℤ, pos, Bool, List, Option, IfSome, length};
+ghost use Rattle.std.specs.Str.{IsAscii, IsUtf8};
 ghost use Rattle.std.specs.List.{flat_map};
 ghost use Rattle.krb_leaves.specs.Tlv.{tlv};
-ghost use Rattle.krb_leaves.specs.Encoding.{Apart, BeginsWith, optional};
+ghost use Rattle.krb_leaves.specs.declared.error.Asn1DerError.{Asn1DerError};
+ghost use Rattle.krb_leaves.specs.Encoding.{Apart, BeginsWith, IsOctets, optional};
+ghost use Rattle.krb_leaves.specs.Faults.{FrontFault, LeafFault, RowFault, TaggedFault, ValueFault};
 ghost use Rattle.krb_leaves.specs.Leaf.{bool_content};
 ghost use Rattle.krb_leaves.specs.Integer.{shortest};
-ghost use Rattle.krb_leaves.specs.BitString.{Bits};
-ghost use Rattle.krb_leaves.specs.GeneralizedTime.{Time, time_content};
+ghost use Rattle.krb_leaves.specs.BitString.{Bits, IsBits};
+ghost use Rattle.krb_leaves.specs.GeneralizedTime.{IsRealTime, Time, time_content};
 ghost use Rattle.krb_der.specs.Equality.{ClonesValue, TellsEqual};
 
 use crate::application_tag::ApplicationTag;
@@ -78,6 +81,40 @@ pub fn context_tags<T: DerEncode>()
     ensures tag_10 { (v : T) → ⟦<ExplicitContextTag10<T> as DerEncode>⟧.enc v ≡ tlv 170 (T.enc v) }
     ensures tag_11 { (v : T) → ⟦<ExplicitContextTag11<T> as DerEncode>⟧.enc v ≡ tlv 171 (T.enc v) }
     ensures tag_12 { (v : T) → ⟦<ExplicitContextTag12<T> as DerEncode>⟧.enc v ≡ tlv 172 (T.enc v) }
+{}
+
+/// What the first fault of octets is: there is one at most, and none where a value's encoding stands.
+///
+/// `front` and `read` are of the front of octets, as `Der::read` takes it, `all` and `whole` of all of them, as `from_bytes`
+/// does. Octets have fewer than 2^64 octets, as those of any slice.
+pub fn first_fault<T: DerEncode>()
+    ensures front { (octets : List ℕ) (e d : Asn1DerError) → length octets < 2 ^ 64 → FrontFault T.first T.fault octets e → FrontFault T.first T.fault octets d → e ≡ d }
+    ensures read { (octets : List ℕ) (e : Asn1DerError) (v : T) (rest : List ℕ) → length octets < 2 ^ 64 → FrontFault T.first T.fault octets e → T.is_value v → octets ≡ T.enc v ++ rest → ⊥ }
+    ensures all { (octets : List ℕ) (e d : Asn1DerError) → length octets < 2 ^ 64 → ValueFault T.is_value T.enc T.first T.fault octets e → ValueFault T.is_value T.enc T.first T.fault octets d → e ≡ d }
+    ensures whole { (octets : List ℕ) (e : Asn1DerError) (v : T) → length octets < 2 ^ 64 → ValueFault T.is_value T.enc T.first T.fault octets e → T.is_value v → octets ≡ T.enc v → ⊥ }
+{}
+
+/// The fault of a leaf: an element of another tag, or of a content that no value has, is `InvalidData`.
+pub fn leaf_faults()
+    ensures boolean { (t : ℕ) (content : List ℕ) (e : Asn1DerError) → ⟦<bool as DerEncode>⟧.fault t content e ↔ LeafFault 1 (λ (v : Bool). Unit {0}) bool_content t content e }
+    ensures integer { (t : ℕ) (content : List ℕ) (e : Asn1DerError) → ⟦<IntegerAsn1 as DerEncode>⟧.fault t content e ↔ LeafFault 2 (λ (v : ℤ). Unit {0}) shortest t content e }
+    ensures number { (t : ℕ) (content : List ℕ) (e : Asn1DerError) → ⟦<u32 as DerEncode>⟧.fault t content e ↔ LeafFault 2 (λ (v : ℕ). v < 2 ^ 32) (λ v. shortest (pos v)) t content e }
+    ensures bit_string { (t : ℕ) (content : List ℕ) (e : Asn1DerError) → ⟦<BitStringAsn1 as DerEncode>⟧.fault t content e ↔ LeafFault 3 IsBits (λ (v : Bits). v.spare ∷ v.octets) t content e }
+    ensures octet_string { (t : ℕ) (content : List ℕ) (e : Asn1DerError) → ⟦<OctetStringAsn1 as DerEncode>⟧.fault t content e ↔ LeafFault 4 IsOctets (λ (v : List ℕ). v) t content e }
+    ensures utf8_string { (t : ℕ) (content : List ℕ) (e : Asn1DerError) → ⟦<Utf8StringAsn1 as DerEncode>⟧.fault t content e ↔ LeafFault 12 IsUtf8 (λ (v : List ℕ). v) t content e }
+    ensures generalized_time { (t : ℕ) (content : List ℕ) (e : Asn1DerError) → ⟦<GeneralizedTimeAsn1 as DerEncode>⟧.fault t content e ↔ LeafFault 24 IsRealTime time_content t content e }
+    ensures general_string { (t : ℕ) (content : List ℕ) (e : Asn1DerError) → ⟦<GeneralStringAsn1 as DerEncode>⟧.fault t content e ↔ LeafFault 27 IsAscii (λ (v : List ℕ). v) t content e }
+{}
+
+/// The fault of what is made of values of T: first that of the tag, then that of what is inside, from the left.
+pub fn composite_faults<T: DerEncode, const N: u8>()
+    ensures sequence_of { (t : ℕ) (content : List ℕ) (e : Asn1DerError) → ⟦<Asn1SequenceOf<T> as DerEncode>⟧.fault t content e ↔ TaggedFault 48 (RowFault T.is_value T.enc (FrontFault T.first T.fault)) t content e }
+    ensures explicit { N ≤ 30 → (t : ℕ) (content : List ℕ) (e : Asn1DerError) → ⟦<ExplicitContextTag<T, Number<N>> as DerEncode>⟧.fault t content e ↔ TaggedFault (160 + N) (ValueFault T.is_value T.enc T.first T.fault) t content e }
+{}
+
+/// The fault of a sequence under an application tag.
+pub fn application_fault<T: DerSequence, const N: u8>()
+    ensures { N ≤ 30 → (t : ℕ) (content : List ℕ) (e : Asn1DerError) → ⟦<ApplicationTag<T, N> as DerEncode>⟧.fault t content e ↔ TaggedFault (96 + N) (ValueFault T.is_value T.enc T.first T.fault) t content e }
 {}
 
 /// `==` on each leaf: it answers true for equal values and for no others.

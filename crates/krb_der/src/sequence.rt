@@ -1,11 +1,13 @@
 //! Structs that are SEQUENCEs.
 
-ghost use Rattle.std.specs.Prelude.{◌≡◌, ℕ, Bool, List, ◌++◌, Err, IfOk, IfErr, OnOk, OnErr};
+ghost use Rattle.std.specs.Prelude.{◌≡◌, ℕ, Bool, List, ◌++◌, drop, Err, IfOk, IfErr, OnOk, OnErr};
 ghost use Rattle.krb_leaves.specs.Tlv.{tlv};
+ghost use Rattle.krb_leaves.specs.declared.error.Asn1DerError.{Asn1DerError};
 ghost use Rattle.krb_leaves.specs.declared.error.Asn1DerError.TheVariants.{InvalidData};
 ghost use Rattle.krb_leaves.specs.Reading.{TakesFront, RefusesAll};
+ghost use Rattle.krb_leaves.specs.Faults.{FrontLaws, OrMemory, TaggedFault, WholeFault};
 ghost use Rattle.krb_der.specs.Composite.{nothing};
-ghost use Rattle.krb_der.specs.Grouping.{BeginSo, OneReading, ReadsFields};
+ghost use Rattle.krb_der.specs.Grouping.{BeginSo, OneReading, ReadsFields, ToldEnds};
 ghost use Rattle.krb_der.specs.Whole.{NoDevice};
 
 use krb_leaves::{Asn1DerError, close_tlv};
@@ -35,12 +37,26 @@ pub trait Fields {
     /// Fields that are told apart from what follows them decide themselves and what follows.
     ghost one_reading: { OneReading told_apart are_values octets };
 
+    /// The fields end where these octets begin: none of those that are absent at the end begins so.
+    ghost ends: { Self → List ℕ → Type 0 };
+
+    /// Which refusal the first fault is of the fields at the front of these octets, from the left.
+    ghost fault: { List ℕ → Asn1DerError → Type 0 };
+
+    /// Where the fields have a fault they do not stand, and they have no other first fault.
+    ghost fault_laws: { FrontLaws are_values octets ends fault };
+
+    /// Fields that are told apart from what follows them end where it begins so.
+    ghost told_ends: { ToldEnds told_apart are_values ends };
+
     /// The fields at the front of the input, and the number of their octets. What follows them is not looked at.
     fn read_fields(alloc: Global, input: &[u8]) -> Result<(Self, usize), Asn1DerError>
         ensures valid { IfOk result (λ p. are_values p.0) }
         ensures found { IfOk result (λ p. TakesFront (octets p.0) p.1 input.now) }
         ensures reads { ReadsFields told_apart are_values octets input.now result }
-        ensures no_device { IfErr result NoDevice };
+        ensures no_device { IfErr result NoDevice }
+        ensures ends { IfOk result (λ p. ends p.0 (drop p.1 input.now)) }
+        ensures first_fault { IfErr result (OrMemory (fault input.now)) };
 }
 
 /// Fields of a sequence (X.690, 8.9), one after another, lent for writing: what `field_refs!` makes.
@@ -84,6 +100,7 @@ pub fn read_sequence<S: Sequence>(alloc: Global, tag: u8, content: &[u8]) -> Res
     ensures found { IfOk result (λ v. tlv tag content.now ≡ tlv 48 (S.Fields.octets (S.fields v))) }
     ensures refused { IfErr result (RefusesAll (λ v. S.Fields.are_values (S.fields v)) (λ v. tlv 48 (S.Fields.octets (S.fields v))) (tlv tag content.now)) }
     ensures other_tag { (tag ≡ 48 → ⊥) → result ≡ Err InvalidData }
+    ensures first_fault { IfErr result (OrMemory (TaggedFault 48 (WholeFault S.Fields.are_values S.Fields.octets S.Fields.ends S.Fields.fault) tag content.now)) }
 {
     if tag != SEQUENCE {
         return Err(Asn1DerError::InvalidData);
@@ -98,6 +115,7 @@ fn read_all_fields<F: Fields + Drop>(alloc: Global, content: &[u8]) -> Result<F,
     ensures valid { IfOk result F.are_values }
     ensures found { IfOk result (λ v. content.now ≡ F.octets v) }
     ensures refused { IfErr result (RefusesAll F.are_values F.octets content.now) }
+    ensures first_fault { IfErr result (OrMemory (WholeFault F.are_values F.octets F.ends F.fault content.now)) }
 {
     let (parts, taken) = F::read_fields(alloc, content)?;
     if taken != content.len() {

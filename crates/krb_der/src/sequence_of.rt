@@ -6,7 +6,9 @@ ghost use Rattle.std.specs.Cmp.Lexicographic.{pointwise, lists_per, lists_equiv}
 ghost use Rattle.krb_leaves.specs.Tlv.{tlv};
 ghost use Rattle.krb_leaves.specs.TlvLaws.{tagged_element, tagged_one_value};
 ghost use Rattle.krb_leaves.specs.Reading.{RefusesAll};
+ghost use Rattle.krb_leaves.specs.Faults.{FrontFault, OrMemory, RowFault, TaggedFault};
 ghost use Rattle.krb_der.specs.ListLaws.{list_one_content};
+ghost use Rattle.krb_leaves.specs.FaultLaws.{list_laws, tagged_laws};
 
 use crate::sequence::SEQUENCE;
 use krb_leaves::{Asn1DerError, Der, DerEncode, close_tlv};
@@ -44,6 +46,7 @@ fn read_items<T: Der + Drop>(alloc: Global, octets: &[u8]) -> Result<Vec<T>, Asn
     ensures valid { IfOk result (λ v. AllByRecursion T.is_value v.items) }
     ensures found { IfOk result (λ v. octets.now ≡ flat_map T.enc v.items) }
     ensures refused { IfErr result (RefusesAll (AllByRecursion T.is_value) (flat_map T.enc) octets.now) }
+    ensures first_fault { IfErr result (OrMemory (RowFault T.is_value T.enc (FrontFault T.first T.fault) octets.now)) }
 {
     let mut items = Vec::new(alloc);
     let mut rest = octets;
@@ -85,6 +88,10 @@ impl<T: DerEncode> DerEncode for Asn1SequenceOf<T> {
     ghost is_element = { λ v h. tagged_element 48 (flat_map T.enc v) };
 
     ghost one_value = { tagged_one_value 48 (AllByRecursion T.is_value) (flat_map T.enc) (list_one_content T.enc T.is_value T.first T.is_element T.one_value) };
+
+    ghost fault = { TaggedFault 48 (RowFault T.is_value T.enc (FrontFault T.first T.fault)) };
+
+    ghost fault_laws = { tagged_laws 48 (AllByRecursion T.is_value) (flat_map T.enc) (RowFault T.is_value T.enc (FrontFault T.first T.fault)) (list_laws T.is_value T.enc T.first T.is_element T.fault T.fault_laws T.one_value) };
 
     fn starts(octet: u8) -> bool {
         octet == SEQUENCE

@@ -1,11 +1,12 @@
 //! Readers and writers.
 
-ghost use Rattle.std.specs.Prelude.{◌≡◌, ◌≤◌, ◌<◌, IfOk, IfErr, OnOk, ◌-◌, length, take};
+ghost use Rattle.std.specs.Prelude.{◌≡◌, ◌≤◌, ◌<◌, IfOk, IfErr, OnOk, ◌-◌, ◌^◌, length, take};
 ghost use Rattle.std.specs.Io.KnownBytes.{Consumes, Appends, IsAtEnd};
 ghost use Rattle.krb_leaves.specs.Tlv.{len};
 ghost use Rattle.krb_leaves.specs.Reading.{Lengths, Encodings};
+ghost use Rattle.krb_leaves.specs.Faults.{FrontFault, LengthFault};
 ghost use Rattle.krb_leaves.specs.declared.error.Asn1DerError.TheVariants.{OutOfMemory};
-ghost use Rattle.krb_der.specs.Streaming.{Gathers, IsFault, IsShort, ReadsFront, RefusesReader, TellsEarlyEnd};
+ghost use Rattle.krb_der.specs.Streaming.{Gathers, IsFault, IsShort, ReaderFault, ReadsFront, RefusesReader, TellsEarlyEnd};
 
 use crate::whole::to_vec;
 use krb_leaves::{Asn1DerError, Der, DerEncode, read_length};
@@ -75,6 +76,7 @@ fn gather<R: Read>(reader: &mut R, count: usize, out: &mut Vec<u8>) -> Result<()
 fn count_behind(first: u8) -> usize
     ensures short { first < 128 → result ≡ 0 }
     ensures long { 128 ≤ first → first ≤ 136 → result ≡ first - 128 }
+    ensures other { 136 < first → result ≡ 0 }
 {
     if first < 128 || first > 136 {
         return 0;
@@ -86,6 +88,8 @@ fn count_behind(first: u8) -> usize
 fn gather_length<R: Read>(alloc: Global, reader: &mut R) -> Result<usize, Asn1DerError>
     ensures ok { IfOk result (λ n. Consumes (R.remaining reader.old) (R.remaining reader.new) (len n)) }
     ensures err { IfErr result (RefusesReader Lengths (R.remaining reader.old)) }
+    ensures fits { IfOk result (λ n. n < 2 ^ 64) }
+    ensures first_fault { IfErr result (ReaderFault LengthFault (R.remaining reader.old)) }
 {
     let mut octets = Vec::new(alloc);
     gather(reader, 1, &mut octets)?;
@@ -101,6 +105,7 @@ fn read_front<T: Der, R: Read>(alloc: Global, reader: &mut R) -> Result<T, Asn1D
     ensures valid { IfOk result T.is_value }
     ensures found { IfOk result (λ v. Consumes (R.remaining reader.old) (R.remaining reader.new) (T.enc v)) }
     ensures refused { IfErr result (RefusesReader (Encodings T.is_value T.enc) (R.remaining reader.old)) }
+    ensures first_fault { IfErr result (ReaderFault (FrontFault T.first T.fault) (R.remaining reader.old)) }
 {
     let mut first = Vec::new(alloc);
     gather(reader, 1, &mut first)?;
@@ -127,6 +132,7 @@ pub fn from_reader<T: Der, R: Read>(alloc: Global, reader: &mut R) -> Result<T, 
     ensures refused { IfErr result (RefusesReader (Encodings T.is_value T.enc) (R.remaining reader.old)) }
     ensures reads { ReadsFront T.is_value T.enc (R.remaining reader.old) result }
     ensures cut { TellsEarlyEnd T.is_value T.enc (R.remaining reader.old) result }
+    ensures first_fault { IfErr result (ReaderFault (FrontFault T.first T.fault) (R.remaining reader.old)) }
 {
     read_front(alloc, reader)
 }

@@ -3,6 +3,7 @@
 ghost use Rattle.std.specs.Prelude.{◌≡◌, ◌++◌, Err, IfOk, IfErr, OnOk, OnErr};
 ghost use Rattle.krb_leaves.specs.Tlv.{tlv};
 ghost use Rattle.krb_leaves.specs.Reading.{RefusesAll};
+ghost use Rattle.krb_leaves.specs.Faults.{OrMemory, TaggedFault, ValueFault};
 ghost use Rattle.krb_der.specs.Whole.{Answers, ReadsValue, TellsCut, RefusesMore, NoDevice};
 ghost use Rattle.krb_leaves.specs.declared.error.Asn1DerError.TheVariants.{InvalidData, OutOfMemory};
 
@@ -20,6 +21,7 @@ pub fn from_bytes<T: Der + Drop>(alloc: Global, input: &[u8]) -> Result<T, Asn1D
     ensures cut { TellsCut T.is_value T.enc input.now result }
     ensures more { RefusesMore T.is_value T.enc input.now result }
     ensures no_device { IfErr result NoDevice }
+    ensures first_fault { IfErr result (OrMemory (ValueFault T.is_value T.enc T.first T.fault input.now)) }
 {
     let (value, taken) = T::read(alloc, input)?;
     if taken != input.len() {
@@ -79,6 +81,7 @@ pub(crate) fn read_around<T: Der + Drop>(
     ensures found { IfOk result (λ v. tlv tag content.now ≡ tlv wanted (T.enc v)) }
     ensures refused { IfErr result (RefusesAll T.is_value (λ v. tlv wanted (T.enc v)) (tlv tag content.now)) }
     ensures other_tag { (tag ≡ wanted → ⊥) → result ≡ Err InvalidData }
+    ensures first_fault { IfErr result (OrMemory (TaggedFault wanted (ValueFault T.is_value T.enc T.first T.fault) tag content.now)) }
 {
     if tag != wanted {
         return Err(Asn1DerError::InvalidData);

@@ -3,6 +3,8 @@
 ghost use Rattle.std.specs.Prelude.{◌==◌, List, ℕ};
 ghost use Rattle.krb_der.specs.Asn1.{sequence};
 ghost use Rattle.krb_der.specs.TlvLaws.{tagged_element, tagged_one_value};
+ghost use Rattle.krb_leaves.specs.Faults.{LeafFault};
+ghost use Rattle.krb_leaves.specs.FaultLaws.{leaf_fault_laws};
 ghost use Rattle.krb_leaves.specs.LeafLaws.{same_one_content};
 
 use krb_der::composite::SEQUENCE;
@@ -31,6 +33,10 @@ impl DerEncode for SequenceContent {
     ghost is_element = { λ v h. tagged_element 48 v };
 
     ghost one_value = { tagged_one_value 48 (λ v. Unit {0}) (λ v. v) (same_one_content (λ v. Unit {0})) };
+
+    ghost fault = { LeafFault 48 (λ v. Unit {0}) (λ v. v) };
+
+    ghost fault_laws = { leaf_fault_laws 48 (λ v. Unit {0}) (λ v. v) };
 
     fn starts(octet: u8) -> bool {
         octet == SEQUENCE

@@ -1,14 +1,15 @@
 -- Reading and writing sub-identifiers.
-use Rattle.std.proofs.Common.{◌≡◌, ℕ, zero, suc, ◌+◌, ◌-◌, ◌*◌, ◌/◌, ◌%◌, ◌<◌, ◌≤◌, ◌^◌, List, [], ◌∷◌, ◌++◌, length, get_or, slice_index, take, drop, refl, sym, ap, ◌∙◌, append_assoc, arith, inl, inr, ◌⊎◌, slice_set, eqb, false}
+use Rattle.std.proofs.Common.{◌≡◌, ℕ, zero, suc, ◌+◌, ◌-◌, ◌*◌, ◌/◌, ◌%◌, ◌<◌, ◌≤◌, ◌^◌, List, [], ◌∷◌, ◌++◌, length, get_or, slice_index, take, drop, refl, sym, ap, ◌∙◌, append_assoc, arith, inl, inr, ◌⊎◌, slice_set, eqb, false, length-drop}
 use Rattle.std.proofs.lemmas.Bool.{cases_lt}
-use Rattle.std.proofs.lemmas.List.{drop_more, drop_all, take_at, take-take, length-append}
-use Rattle.std.specs.List.{flat_map}
-use Rattle.std.specs.Int.Digits.{digits_of}
-use Rattle.std.proofs.lemmas.Int.Digits.{digits_of_step}
+use Rattle.std.proofs.lemmas.List.{append-nil, drop_more, drop_all, take_at, take-take, length-append}
+use Rattle.std.specs.List.{flat_map, AllByRecursion}
+use Rattle.std.specs.Int.Digits.{digits_of, number_from_digits_after}
+use Rattle.std.proofs.lemmas.Int.Digits.{digits_of_step, first_digits_of, number_after_append, number_after_ge, number_digits_of}
 use Rattle.krb_leaves.specs.declared.error.Asn1DerError.{Asn1DerError}
 use Rattle.krb_leaves.specs.declared.error.Asn1DerError.TheVariants as errors
 use Rattle.krb_leaves.specs.Reading.{TakesFront, RefusesAll}
 use Rattle.krb_identifiers.specs.ObjectIdentifier.{continued, sub_identifier, sub_identifiers, arcs_content, IsArcs}
+use Rattle.krb_identifiers.specs.ObjectIdentifierFaults.{IsTooLarge}
 use Rattle.krb_identifiers.specs.ObjectIdentifierLaws.{decode, decode_more, decode_sub, decode_none, decode_large, sub_apart, sub_some}
 
 -- the octets taken so far are the digits of n with more behind them
@@ -18,6 +19,12 @@ pub record SubSoFar (octets : List ℕ) (taken n : ℕ) : Type 0 where
   pub count : taken ≡ length (continued (digits_of 128 n))
   pub same : decode 0 octets ≡ decode n (drop taken octets)
   pub begun : 0 < taken → 0 < n
+
+heads : (a b : ℕ) (x y : List ℕ) → a ∷ x ≡ b ∷ y → (a ≡ b) × (x ≡ y)
+heads a b x y e = (cc, cc)
+
+same_conses : (a b : ℕ) (x y : List ℕ) → a ≡ b → x ≡ y → a ∷ x ≡ b ∷ y
+same_conses a b x y e f = cc
 
 pub continued-append : (ds es : List ℕ) → continued (ds ++ es) ≡ continued ds ++ continued es
 continued-append [] es = refl
@@ -88,7 +95,51 @@ pub sub_empty : (octets : List ℕ) (m : ℕ) (rest : List ℕ) → length octet
 sub_empty [] m rest h q = sub_some m rest q
 sub_empty (b ∷ bs) m rest h q = omega (arith, h)
 
+-- ---- sub-identifiers past 64 bits
+
+pub too_large : (octets : List ℕ) (taken n : ℕ) → SubSoFar octets taken n → taken < length octets → 2 ^ 57 ≤ n → IsTooLarge octets
+too_large octets taken n s lt le = (n, drop taken octets, s.parts, omega (arith, length-drop taken octets), le)
+
+first_digit : (ds rest : List ℕ) → 0 < get_or ds 0 0 → slice_index (continued ds ++ rest) 0 ≡ 128 → ⊥
+first_digit [] rest p e = omega (arith, p)
+first_digit (d ∷ ds) rest p e = let k : 128 + d ≡ 128 = e in omega (arith, p)
+
+pub leading_small : (octets : List ℕ) → slice_index octets 0 ≡ 128 → IsTooLarge octets → ⊥
+leading_small octets e t = first_digit (digits_of 128 t.0) t.1 (first_digits_of 128 t.0 (omega arith) (omega (arith, t.4))) (ap (λ (l : List ℕ). slice_index l 0) (sym t.2) ∙ e)
+
+pub empty_small : (octets : List ℕ) → length octets ≡ 0 → IsTooLarge octets → ⊥
+empty_small octets e t = omega (arith, e, ap length t.2, length-append (continued (digits_of 128 t.0)) t.1, t.3)
+
+-- digits that begin with others are these and more
+more_digits : (ds es rest : List ℕ) → continued ds ≡ continued es ++ rest → 0 < length rest → (f : ℕ) × (fs : List ℕ) × (ds ≡ es ++ f ∷ fs)
+more_digits [] [] rest e some = absurd (omega (arith, ap length e, some))
+more_digits (d ∷ ds) [] rest e some = (d, ds, refl)
+more_digits [] (e2 ∷ es) rest e some = absurd (omega (arith, ap length e))
+more_digits (d ∷ ds) (e2 ∷ es) rest e some =
+    let k = heads (128 + d) (128 + e2) (continued ds) (continued es ++ rest) e in
+    let m = more_digits ds es rest k.1 some in
+    (m.0, m.1, same_conses d e2 ds (es ++ m.0 ∷ m.1) (omega (arith, k.0)) m.2)
+
+-- a number with such digits is that much larger
+digits_larger : (m n f : ℕ) (fs : List ℕ) → digits_of 128 n ≡ digits_of 128 m ++ f ∷ fs → 128 * m ≤ n
+digits_larger m n f fs e =
+    let whole : number_from_digits_after 128 (number_from_digits_after 128 0 (digits_of 128 m)) (f ∷ fs) ≡ n = sym (number_after_append 128 0 (digits_of 128 m) (f ∷ fs)) ∙ ap (λ (l : List ℕ). number_from_digits_after 128 0 l) (sym e) ∙ number_digits_of 128 n (omega arith) in
+    let front : number_from_digits_after 128 0 (digits_of 128 m) ≡ m = number_digits_of 128 m (omega arith) in
+    let more : m * 128 + f ≤ number_from_digits_after 128 (m * 128 + f) fs = number_after_ge 128 (m * 128 + f) fs (omega arith) in
+    let step : number_from_digits_after 128 (m * 128 + f) fs ≡ n = rw front at whole in
+    omega (arith, more, step)
+
+pub cut_small : (octets : List ℕ) (taken n : ℕ) → SubSoFar octets taken n → length octets ≤ taken → n < 2 ^ 64 → IsTooLarge octets → ⊥
+cut_small octets taken n s le lt t =
+    let all : octets ≡ continued (digits_of 128 n) = s.parts ∙ ap (λ (l : List ℕ). continued (digits_of 128 n) ++ l) (drop_all taken octets le) ∙ append-nil (continued (digits_of 128 n)) in
+    let m = more_digits (digits_of 128 n) (digits_of 128 t.0) t.1 (sym all ∙ t.2) t.3 in
+    omega (arith, digits_larger t.0 n m.0 m.1 m.2, t.4, lt)
+
 -- ---- in a row
+
+pub below_push : (v : List ℕ) (n : ℕ) → AllByRecursion (λ m. m < 2 ^ 64) v → n < 2 ^ 64 → AllByRecursion (λ m. m < 2 ^ 64) (v ++ n ∷ [])
+below_push [] n h lt = (lt, tt)
+below_push (m ∷ v) n h lt = (h.0, below_push v n h.1 lt)
 
 pub positive : (n : ℕ) → eqb n 0 ≡ false → 0 < n
 positive zero e = absurd cc

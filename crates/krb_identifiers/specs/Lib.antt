@@ -1,3 +1,4 @@
 pub mod ObjectIdentifier
 pub mod ObjectIdentifierLaws
+pub mod ObjectIdentifierFaults
 pub mod RawValue

@@ -3,14 +3,17 @@
 ghost use Rattle.std.specs.Prelude.{◌≡◌, ◌==◌, ◌⊎◌, ◌+◌, ◌*◌, ◌^◌, ◌<◌, ◌++◌, ◌∷◌, List, ℕ, length, take, slice_index, IfOk, IfErr, OnOk, OnErr, MatchBool, MatchResult};
 ghost use Rattle.std.specs.Cmp.Lexicographic.{pointwise};
 ghost use Rattle.std.specs.Cmp.Rules.{comparing};
-ghost use Rattle.std.specs.List.{flat_map};
+ghost use Rattle.std.specs.List.{flat_map, AllByRecursion};
 ghost use Rattle.std.specs.Int.Digits.{digits_of};
 ghost use Rattle.std.proofs.Common.{rules};
 ghost use Rattle.krb_leaves.specs.Tlv.{tlv};
 ghost use Rattle.krb_leaves.specs.TlvLaws.{tagged_element, tagged_one_value};
 ghost use Rattle.krb_leaves.specs.Reading.{TakesFront, RefusesAll};
+ghost use Rattle.krb_leaves.specs.Faults.{OrMemory, RowFault, TaggedFault};
+ghost use Rattle.krb_leaves.specs.FaultLaws.{tagged_laws};
 ghost use Rattle.krb_identifiers.specs.ObjectIdentifier.{continued, sub_identifier, sub_identifiers, arcs_content, dots_before, dotted, IsArcs};
 ghost use Rattle.krb_identifiers.specs.ObjectIdentifierLaws.{arcs_one_content};
+ghost use Rattle.krb_identifiers.specs.ObjectIdentifierFaults.{ArcsFault, SubIdentifierFault, arcs_laws};
 ghost use Rattle.krb_leaves.specs.declared.error.Asn1DerError.TheVariants as errors;
 
 use krb_leaves::{Asn1DerError, Der, DerEncode, close_tlv};
@@ -59,6 +62,7 @@ fn read_sub_identifier(octets: &[u8]) -> Result<(u64, usize), Asn1DerError>
     ensures fits { IfOk result (λ p. p.0 < 2 ^ 64) }
     ensures refused { IfErr result (λ e. (n : ℕ) (rest : List ℕ) → n < 2 ^ 64 → octets.now ≡ sub_identifier n ++ rest → ⊥) }
     ensures fault { IfErr result (λ e. (e ≡ errors.InvalidData) ⊎ (e ≡ errors.UnsupportedValue)) }
+    ensures first_fault { IfErr result (SubIdentifierFault octets.now) }
 {
     if octets.is_empty() || octets[0] == 0x80 {
         return Err(Asn1DerError::InvalidData);
@@ -84,6 +88,8 @@ fn read_sub_identifiers(alloc: Global, octets: &[u8]) -> Result<Vec<u64>, Asn1De
     ensures found { IfOk result (λ v. octets.now ≡ flat_map sub_identifier v.items) }
     ensures refused { IfErr result (λ e. (e ≡ errors.OutOfMemory) ⊎ ((v : List ℕ) → ((i : ℕ) → slice_index v i < 2 ^ 64) → octets.now ≡ flat_map sub_identifier v → ⊥)) }
     ensures fault { IfErr result (λ e. (e ≡ errors.OutOfMemory) ⊎ ((e ≡ errors.InvalidData) ⊎ (e ≡ errors.UnsupportedValue))) }
+    ensures below { IfOk result (λ v. AllByRecursion (λ n. n < 2 ^ 64) v.items) }
+    ensures first_fault { IfErr result (OrMemory (RowFault (λ n. n < 2 ^ 64) sub_identifier SubIdentifierFault octets.now)) }
 {
     let mut numbers = Vec::new(alloc);
     let mut rest = octets;
@@ -100,6 +106,7 @@ fn read_arcs(alloc: Global, content: &[u8]) -> Result<Vec<u64>, Asn1DerError>
     ensures valid { IfOk result (λ v. IsArcs v.items) }
     ensures found { IfOk result (λ v. content.now ≡ arcs_content v.items) }
     ensures refused { IfErr result (RefusesAll IsArcs arcs_content content.now) }
+    ensures first_fault { IfErr result (OrMemory (ArcsFault content.now)) }
 {
     let mut arcs = read_sub_identifiers(alloc, content)?;
     if arcs.is_empty() {
@@ -223,6 +230,10 @@ impl DerEncode for ObjectIdentifierAsn1 {
     ghost is_element = { λ v h. tagged_element 6 (arcs_content v) };
 
     ghost one_value = { tagged_one_value 6 IsArcs arcs_content arcs_one_content };
+
+    ghost fault = { TaggedFault 6 ArcsFault };
+
+    ghost fault_laws = { tagged_laws 6 IsArcs arcs_content ArcsFault arcs_laws };
 
     fn starts(octet: u8) -> bool {
         octet == OBJECT_IDENTIFIER

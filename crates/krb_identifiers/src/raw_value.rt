@@ -5,7 +5,7 @@ ghost use Rattle.std.specs.Cmp.Lexicographic.{pointwise};
 ghost use Rattle.std.specs.Cmp.Rules.{comparing};
 ghost use Rattle.std.proofs.Common.{rules};
 ghost use Rattle.krb_leaves.specs.Tlv.{tlv};
-ghost use Rattle.krb_identifiers.specs.RawValue.{is_raw_first};
+ghost use Rattle.krb_identifiers.specs.RawValue.{RawFault, is_raw_first, raw_laws};
 ghost use Rattle.krb_leaves.specs.Encoding.{IsElement};
 ghost use Rattle.krb_leaves.specs.declared.error.Asn1DerError.TheVariants as errors;
 
@@ -95,6 +95,10 @@ impl DerEncode for Asn1RawDer {
     ghost is_element = { λ v h. h };
 
     ghost one_value = { λ v w hv hw e. e };
+
+    ghost fault = { RawFault };
+
+    ghost fault_laws = { raw_laws };
 
     fn starts(octet: u8) -> bool {
         begins_value(octet)

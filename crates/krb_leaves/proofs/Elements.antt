@@ -7,7 +7,7 @@ use Rattle.krb_leaves.specs.declared.error.Asn1DerError.TheVariants as errors
 use Rattle.krb_leaves.specs.Tlv.{len, tlv}
 use Rattle.krb_leaves.specs.Reading.{TakesFront, NoFront, NoBeginning, RefusesFront, Lengths, Elements}
 use Rattle.krb_leaves.specs.TlvLaws.{same_heads, len_apart}
-use Rattle.krb_leaves.proofs.Lengths.{NoMeet, meet_from_both, same_conses}
+use Rattle.krb_leaves.specs.LengthLaws.{NoMeet, meet_from_both, same_conses}
 
 pub nothing_read : (t : ℕ) (input : List ℕ) → eqb (length input) 0 ≡ true → NoFront (Elements t) input
 unfolding tlv

@@ -1,6 +1,7 @@
 pub mod Digits
-pub mod Lengths
 pub mod Elements
+pub mod FirstFaults
+pub mod TaggedFaults
 pub mod Growth
 pub mod Refusals
 pub mod IntegerBounds

@@ -8,7 +8,7 @@ use Rattle.krb_leaves.specs.Encoding.{IsElement}
 use Rattle.krb_leaves.specs.TlvLaws.{tlv_apart, tlv_same, same_tlvs}
 use Rattle.krb_leaves.specs.Reading.{TakesFront, NoFront, NoBeginning, RefusesFront, RefusesAll, Encodings, Elements}
 use Rattle.krb_leaves.proofs.Elements.{nothing_read, other_tag, same_first}
-use Rattle.krb_leaves.proofs.Lengths.{NoMeet, refused_from_meet, front_from_meet}
+use Rattle.krb_leaves.specs.LengthLaws.{NoMeet, refused_from_meet, front_from_meet}
 
 -- where what meets the input is an encoding too, more is refused
 refuses_met : (P Q : List ℕ → Type 0) (input : List ℕ) (e : Asn1DerError) → ((b x y : List ℕ) → Q b → input ++ x ≡ b ++ y → P b) → RefusesFront P input e → RefusesFront Q input e

@@ -1,7 +1,10 @@
 pub mod Tlv
 pub mod Encoding
 pub mod Reading
+pub mod Faults
 pub mod TlvLaws
+pub mod LengthLaws
+pub mod FaultLaws
 pub mod Leaf
 pub mod LeafLaws
 pub mod BitString

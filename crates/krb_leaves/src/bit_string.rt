@@ -9,6 +9,8 @@ ghost use Rattle.krb_leaves.specs.TlvLaws.{tagged_element, tagged_one_value};
 ghost use Rattle.krb_leaves.specs.BitString.{Bits, IsBits, bits_content};
 ghost use Rattle.krb_leaves.specs.BitStringLaws.{bits_one_content};
 ghost use Rattle.krb_leaves.specs.declared.error.Asn1DerError.TheVariants.{InvalidData};
+ghost use Rattle.krb_leaves.specs.Faults.{LeafFault};
+ghost use Rattle.krb_leaves.specs.FaultLaws.{leaf_fault_laws};
 
 use crate::content::{Content, read_tagged};
 use crate::der::{Der, DerEncode};
@@ -142,6 +144,10 @@ impl DerEncode for BitStringAsn1 {
     ghost is_element = { λ v h. tagged_element 3 (bits_content v) };
 
     ghost one_value = { tagged_one_value 3 IsBits bits_content bits_one_content };
+
+    ghost fault = { LeafFault 3 IsBits bits_content };
+
+    ghost fault_laws = { leaf_fault_laws 3 IsBits bits_content };
 
     fn starts(octet: u8) -> bool {
         octet == BIT_STRING

@@ -5,6 +5,8 @@ ghost use Rattle.krb_leaves.specs.Tlv.{tlv};
 ghost use Rattle.krb_leaves.specs.TlvLaws.{tagged_element, tagged_one_value};
 ghost use Rattle.krb_leaves.specs.Leaf.{bool_content};
 ghost use Rattle.krb_leaves.specs.LeafLaws.{bool_one_content};
+ghost use Rattle.krb_leaves.specs.Faults.{LeafFault};
+ghost use Rattle.krb_leaves.specs.FaultLaws.{leaf_fault_laws};
 
 use crate::content::{Content, read_tagged};
 use crate::der::{Der, DerEncode};
@@ -42,6 +44,10 @@ impl DerEncode for bool {
     ghost is_element = { λ v h. tagged_element 1 (bool_content v) };
 
     ghost one_value = { tagged_one_value 1 (λ v. Unit {0}) bool_content bool_one_content };
+
+    ghost fault = { LeafFault 1 (λ v. Unit {0}) bool_content };
+
+    ghost fault_laws = { leaf_fault_laws 1 (λ v. Unit {0}) bool_content };
 
     fn starts(octet: u8) -> bool {
         octet == BOOLEAN

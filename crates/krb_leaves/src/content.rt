@@ -4,6 +4,7 @@ ghost use Rattle.std.specs.Prelude.{◌≡◌, ◌⊎◌, List, ℕ, IfOk, IfErr
 ghost use Rattle.krb_leaves.specs.Tlv.{tlv};
 ghost use Rattle.krb_leaves.specs.Encoding.{OneValue};
 ghost use Rattle.krb_leaves.specs.Reading.{RefusesAll};
+ghost use Rattle.krb_leaves.specs.Faults.{LeafFault, OrMemory};
 ghost use Rattle.krb_leaves.specs.declared.error.Asn1DerError.TheVariants as errors;
 
 use crate::error::Asn1DerError;
@@ -40,6 +41,7 @@ pub(crate) fn read_tagged<C: Content>(
     ensures refused { IfErr result (RefusesAll C.has_content (λ v. tlv wanted (C.octets v)) (tlv tag content.now)) }
     ensures fault { IfErr result (λ e. (e ≡ errors.InvalidData) ⊎ (e ≡ errors.OutOfMemory)) }
     ensures wrong_tag { (tag ≡ wanted → ⊥) → IsErrAnd result (λ e. e ≡ errors.InvalidData) }
+    ensures first_fault { IfErr result (OrMemory (LeafFault wanted C.has_content C.octets tag content.now)) }
 {
     if tag != wanted {
         return Err(Asn1DerError::InvalidData);

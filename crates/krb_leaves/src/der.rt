@@ -4,6 +4,8 @@ ghost use Rattle.std.specs.Prelude.{◌≡◌, ◌<◌, ℕ, Bool, false, List, 
 ghost use Rattle.krb_leaves.specs.Tlv.{tlv};
 ghost use Rattle.krb_leaves.specs.Encoding.{IsElement, IsSequence, OneValue};
 ghost use Rattle.krb_leaves.specs.Reading.{TakesFront, RefusesFront, RefusesAll, Encodings};
+ghost use Rattle.krb_leaves.specs.Faults.{FaultLaws, FrontFault, OrMemory};
+ghost use Rattle.krb_leaves.specs.declared.error.Asn1DerError.{Asn1DerError};
 ghost use Rattle.krb_leaves.specs.declared.error.Asn1DerError.TheVariants.{InvalidData};
 
 use crate::error::Asn1DerError;
@@ -27,6 +29,13 @@ pub trait DerEncode {
     /// Equal encodings are of equal values.
     ghost one_value: { OneValue is_value enc };
 
+    /// Which refusal the first fault is of the element of this tag and content, from the left: that of its tag, then that
+    /// of its content.
+    ghost fault: { ℕ → List ℕ → Asn1DerError → Type 0 };
+
+    /// An element with a fault is no value's, and has no other first fault.
+    ghost fault_laws: { FaultLaws is_value enc fault };
+
     /// Whether a value's encoding may begin with this octet.
     fn starts(octet: u8) -> bool
         ensures { result ≡ first octet };
@@ -47,7 +56,8 @@ pub trait Der: DerEncode {
         ensures valid { IfOk result Self.is_value }
         ensures found { IfOk result (λ v. tlv tag content.now ≡ Self.enc v) }
         ensures refused { IfErr result (RefusesAll Self.is_value Self.enc (tlv tag content.now)) }
-        ensures wrong_tag { Self.first tag ≡ false → IsErrAnd result (λ e. e ≡ InvalidData) };
+        ensures wrong_tag { Self.first tag ≡ false → IsErrAnd result (λ e. e ≡ InvalidData) }
+        ensures first_fault { IfErr result (OrMemory (Self.fault tag content.now)) };
 
     /// The value whose encoding stands at the front of the input, and the number of its octets.
     ///
@@ -58,6 +68,7 @@ pub trait Der: DerEncode {
         ensures found { IfOk result (λ p. TakesFront (Self.enc p.0) p.1 input.now) }
         ensures refused { IfErr result (RefusesFront (Encodings Self.is_value Self.enc) input.now) }
         ensures wrong_tag { 0 < length input.now → Self.first (slice_index input.now 0) ≡ false → IsErrAnd result (λ e. e ≡ InvalidData) }
+        ensures first_fault { IfErr result (OrMemory (FrontFault Self.first Self.fault input.now)) }
     {
         if input.is_empty() {
             return Err(Asn1DerError::TruncatedData);

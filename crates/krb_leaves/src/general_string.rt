@@ -10,6 +10,8 @@ ghost use Rattle.krb_leaves.specs.Tlv.{tlv};
 ghost use Rattle.krb_leaves.specs.TlvLaws.{tagged_element, tagged_one_value};
 ghost use Rattle.krb_leaves.specs.LeafLaws.{same_one_content};
 ghost use Rattle.krb_leaves.specs.declared.error.Asn1DerError.TheVariants.{InvalidData};
+ghost use Rattle.krb_leaves.specs.Faults.{LeafFault};
+ghost use Rattle.krb_leaves.specs.FaultLaws.{leaf_fault_laws};
 
 use crate::content::{Content, read_tagged};
 use crate::der::{Der, DerEncode};
@@ -95,6 +97,10 @@ impl DerEncode for GeneralStringAsn1 {
     ghost is_element = { λ v h. tagged_element 27 v };
 
     ghost one_value = { tagged_one_value 27 IsAscii (λ v. v) (same_one_content IsAscii) };
+
+    ghost fault = { LeafFault 27 IsAscii (λ v. v) };
+
+    ghost fault_laws = { leaf_fault_laws 27 IsAscii (λ v. v) };
 
     fn starts(octet: u8) -> bool {
         octet == GENERAL_STRING

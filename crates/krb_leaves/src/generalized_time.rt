@@ -6,6 +6,8 @@ ghost use Rattle.krb_leaves.specs.TlvLaws.{tagged_element, tagged_one_value};
 ghost use Rattle.krb_leaves.specs.declared.error.Asn1DerError.TheVariants as errors;
 ghost use Rattle.krb_leaves.specs.GeneralizedTime.{Time, time, IsRealDate, IsTimeOfDay, IsRealTime, last_digit, time_content, number_at, time_told};
 ghost use Rattle.krb_leaves.specs.GeneralizedTimeLaws.{time_one_content};
+ghost use Rattle.krb_leaves.specs.Faults.{LeafFault};
+ghost use Rattle.krb_leaves.specs.FaultLaws.{leaf_fault_laws};
 
 use crate::content::{Content, read_tagged};
 use crate::der::{Der, DerEncode};
@@ -223,6 +225,10 @@ impl DerEncode for GeneralizedTimeAsn1 {
     ghost is_element = { λ v h. tagged_element 24 (time_content v) };
 
     ghost one_value = { tagged_one_value 24 IsRealTime time_content time_one_content };
+
+    ghost fault = { LeafFault 24 IsRealTime time_content };
+
+    ghost fault_laws = { leaf_fault_laws 24 IsRealTime time_content };
 
     fn starts(octet: u8) -> bool {
         octet == GENERALIZED_TIME

@@ -11,6 +11,8 @@ ghost use Rattle.krb_leaves.specs.TlvLaws.{tagged_element, tagged_one_value};
 ghost use Rattle.krb_leaves.specs.Integer.{inverted, shortest, whole_number, IsShortest};
 ghost use Rattle.krb_leaves.specs.IntegerLaws.{integer_one_content};
 ghost use Rattle.krb_leaves.specs.declared.error.Asn1DerError.TheVariants.{OutOfMemory};
+ghost use Rattle.krb_leaves.specs.Faults.{LeafFault};
+ghost use Rattle.krb_leaves.specs.FaultLaws.{leaf_fault_laws};
 
 use crate::content::{Content, read_tagged};
 use crate::der::{Der, DerEncode};
@@ -182,6 +184,10 @@ impl DerEncode for IntegerAsn1 {
     ghost is_element = { λ v h. tagged_element 2 (shortest v) };
 
     ghost one_value = { tagged_one_value 2 (λ v. Unit {0}) shortest integer_one_content };
+
+    ghost fault = { LeafFault 2 (λ v. Unit {0}) shortest };
+
+    ghost fault_laws = { leaf_fault_laws 2 (λ v. Unit {0}) shortest };
 
     fn starts(octet: u8) -> bool {
         octet == INTEGER

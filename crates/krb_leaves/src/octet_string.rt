@@ -8,6 +8,8 @@ ghost use Rattle.krb_leaves.specs.Tlv.{tlv};
 ghost use Rattle.krb_leaves.specs.TlvLaws.{tagged_element, tagged_one_value};
 ghost use Rattle.krb_leaves.specs.Encoding.{IsOctets};
 ghost use Rattle.krb_leaves.specs.LeafLaws.{same_one_content};
+ghost use Rattle.krb_leaves.specs.Faults.{LeafFault};
+ghost use Rattle.krb_leaves.specs.FaultLaws.{leaf_fault_laws};
 
 use crate::content::{Content, read_tagged};
 use crate::der::{Der, DerEncode};
@@ -72,6 +74,10 @@ impl DerEncode for OctetStringAsn1 {
     ghost is_element = { λ v h. tagged_element 4 v };
 
     ghost one_value = { tagged_one_value 4 IsOctets (λ v. v) (same_one_content IsOctets) };
+
+    ghost fault = { LeafFault 4 IsOctets (λ v. v) };
+
+    ghost fault_laws = { leaf_fault_laws 4 IsOctets (λ v. v) };
 
     fn starts(octet: u8) -> bool {
         octet == OCTET_STRING

@@ -4,6 +4,7 @@ ghost use Rattle.std.specs.Prelude.{◌≡◌, ◌⊎◌, ℕ, ◌^◌, ◌-◌,
 ghost use Rattle.std.specs.Int.Digits.{digits_of, number_from_digits};
 ghost use Rattle.krb_leaves.specs.Tlv.{len, header, tlv};
 ghost use Rattle.krb_leaves.specs.Reading.{TakesFront, RefusesFront, Lengths, Elements};
+ghost use Rattle.krb_leaves.specs.Faults.{LengthFault, HeaderFault};
 ghost use Rattle.krb_leaves.specs.declared.error.Asn1DerError.TheVariants as errors;
 
 use crate::error::Asn1DerError;
@@ -29,6 +30,7 @@ pub fn read_length(input: &[u8]) -> Result<(usize, usize), Asn1DerError>
     ensures missing { IfErr result (λ e. e ≡ errors.TruncatedData → length input.now ≤ slice_index input.now 0 - 128) }
     ensures unsupported { IfErr result (λ e. e ≡ errors.UnsupportedValue → (slice_index input.now 0 ≡ 128) ⊎ (136 < slice_index input.now 0)) }
     ensures heapless { IfErr result (λ e. e ≡ errors.OutOfMemory → ⊥) }
+    ensures first_fault { IfErr result (LengthFault input.now) }
 {
     if input.is_empty() {
         return Err(Asn1DerError::TruncatedData);
@@ -60,6 +62,7 @@ pub fn read_tlv(tag: u8, input: &[u8]) -> Result<(&[u8], usize), Asn1DerError>
     ensures found { IfOk result (λ p. TakesFront (tlv tag p.0.now) p.1 input.now) }
     ensures refused { IfErr result (RefusesFront (Elements tag) input.now) }
     ensures heapless { IfErr result (λ e. e ≡ errors.OutOfMemory → ⊥) }
+    ensures first_fault { IfErr result (HeaderFault tag input.now) }
 {
     if input.is_empty() {
         return Err(Asn1DerError::TruncatedData);

@@ -6,6 +6,8 @@ ghost use Rattle.krb_leaves.specs.Tlv.{tlv};
 ghost use Rattle.krb_leaves.specs.TlvLaws.{tagged_element};
 ghost use Rattle.krb_leaves.specs.Integer.{unsigned, shortest};
 ghost use Rattle.krb_leaves.specs.UnsignedLaws.{unsigned_one_value};
+ghost use Rattle.krb_leaves.specs.Faults.{LeafFault};
+ghost use Rattle.krb_leaves.specs.FaultLaws.{leaf_fault_laws};
 
 use crate::der::{Der, DerEncode};
 use crate::error::Asn1DerError;
@@ -50,6 +52,10 @@ impl DerEncode for u32 {
     ghost is_element = { λ v h. tagged_element 2 (shortest (pos v)) };
 
     ghost one_value = { unsigned_one_value (λ v. v < 2 ^ 32) };
+
+    ghost fault = { LeafFault 2 (λ v. v < 2 ^ 32) (λ v. shortest (pos v)) };
+
+    ghost fault_laws = { leaf_fault_laws 2 (λ v. v < 2 ^ 32) (λ v. shortest (pos v)) };
 
     fn starts(octet: u8) -> bool {
         octet == INTEGER

@@ -9,6 +9,8 @@ ghost use Rattle.std.proofs.Common.{rules};
 ghost use Rattle.krb_leaves.specs.Tlv.{tlv};
 ghost use Rattle.krb_leaves.specs.TlvLaws.{tagged_element, tagged_one_value};
 ghost use Rattle.krb_leaves.specs.LeafLaws.{same_one_content};
+ghost use Rattle.krb_leaves.specs.Faults.{LeafFault};
+ghost use Rattle.krb_leaves.specs.FaultLaws.{leaf_fault_laws};
 
 use crate::content::{Content, read_tagged};
 use crate::der::{Der, DerEncode};
@@ -77,6 +79,10 @@ impl DerEncode for Utf8StringAsn1 {
     ghost is_element = { λ v h. tagged_element 12 v };
 
     ghost one_value = { tagged_one_value 12 IsUtf8 (λ v. v) (same_one_content IsUtf8) };
+
+    ghost fault = { LeafFault 12 IsUtf8 (λ v. v) };
+
+    ghost fault_laws = { leaf_fault_laws 12 IsUtf8 (λ v. v) };
 
     fn starts(octet: u8) -> bool {
         octet == UTF8_STRING

@@ -3,7 +3,10 @@ use Rattle.std.proofs.Common.{◌≡◌, ℕ, Bool, List, ◌++◌, ap, ◌∙�
 use Rattle.std.proofs.lemmas.List.{append_cancel_left}
 use Rattle.krb_leaves.specs.Tlv.{tlv}
 use Rattle.krb_leaves.specs.TlvLaws.{field_apart, tlv_same}
+use Rattle.krb_leaves.specs.declared.error.Asn1DerError.{Asn1DerError}
 use Rattle.krb_leaves.specs.Encoding.{IsElement, OneValue}
+use Rattle.krb_leaves.specs.Faults.{LeafFault, FaultLaws}
+use Rattle.krb_leaves.specs.FaultLaws.{leaf_fault_laws}
 use Rattle.krb_identifiers.specs.ObjectIdentifier.{object_identifier}
 use Rattle.krb_iakerb.specs.declared.messages.header.IAKerbHeader.{IAKerbHeader}
 use Rattle.krb_leaves.specs.declared.der.DerEncode.{Ghosts as EncodingOf}
@@ -23,3 +26,11 @@ proxy_one_value h is_value enc one v w hv hw e =
     let q = append_cancel_left proxy_id (rest v) (rest w) p in
     let s = field_apart h.enc h.is_value h.first h.is_element h.one_value v.header w.header (enc v.krb_msg) (enc w.krb_msg) hv.0 hw.0 q in
     same_parts v w s.0 (one v.krb_msg w.krb_msg hv.1 hw.1 s.1)
+
+-- no `Der` reads these messages: an element that is none of theirs is invalid
+abbrev pub ProxyFault : {A : Type 0} → EncodingOf IAKerbHeader → (A → Type 0) → (A → List ℕ) → ℕ → List ℕ → Asn1DerError → Type 0
+ProxyFault {A} h is_value enc = LeafFault 48 (λ (v : IAKerbProxyMessage A). h.is_value v.header × is_value v.krb_msg) (λ (v : IAKerbProxyMessage A). object_identifier iakerb ++ (proxy_id ++ (h.enc v.header ++ enc v.krb_msg)))
+
+pub proxy_fault_laws : {A : Type 0} (h : EncodingOf IAKerbHeader) (is_value : A → Type 0) (enc : A → List ℕ)
+    → FaultLaws (λ (v : IAKerbProxyMessage A). h.is_value v.header × is_value v.krb_msg) (λ (v : IAKerbProxyMessage A). tlv 48 (object_identifier iakerb ++ (proxy_id ++ (h.enc v.header ++ enc v.krb_msg)))) (ProxyFault h is_value enc)
+proxy_fault_laws {A} h is_value enc = leaf_fault_laws 48 (λ (v : IAKerbProxyMessage A). h.is_value v.header × is_value v.krb_msg) (λ (v : IAKerbProxyMessage A). object_identifier iakerb ++ (proxy_id ++ (h.enc v.header ++ enc v.krb_msg)))

@@ -1,5 +1,7 @@
 -- The frame of a GSS token (RFC 2743, 3.1), and what stands in one.
-use Rattle.std.specs.Prelude.{◌≡◌, ℕ, List, ◌∷◌, length, drop}
+use Rattle.std.specs.Prelude.{◌≡◌, ℕ, List, ◌∷◌, ◌<◌, length, drop}
+use Rattle.krb_leaves.specs.declared.error.Asn1DerError.{Asn1DerError}
+use Rattle.krb_leaves.specs.declared.error.Asn1DerError.TheVariants as errors
 use Rattle.krb_leaves.specs.Encoding.{IsOctets}
 use Rattle.krb_leaves.specs.Tlv.{tlv}
 
@@ -15,3 +17,7 @@ token content = tlv 96 content
 pub record IsTokenId (id : List ℕ) : Type 0 where
   pub two : length id ≡ 2
   pub octets : IsOctets id
+
+-- the fault of these two octets: one or both are missing
+abbrev pub IdFault : List ℕ → Asn1DerError → Type 0
+IdFault octets e = (e ≡ errors.TruncatedData) × (length octets < 2)

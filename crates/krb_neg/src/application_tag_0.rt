@@ -2,8 +2,9 @@
 
 ghost use Rattle.std.specs.Prelude.{◌≡◌, ◌==◌};
 ghost use Rattle.krb_der.specs.Encoding.{IsSequence};
+ghost use Rattle.krb_der.specs.Faults.{TaggedFault};
 ghost use Rattle.krb_neg.specs.Token.{in_token};
-ghost use Rattle.krb_neg.specs.TokenLaws.{token_element, token_one_value};
+ghost use Rattle.krb_neg.specs.TokenLaws.{token_element, token_fault_laws, token_one_value};
 
 use krb_der::composite::SEQUENCE;
 use krb_der::{Asn1DerError, Der, DerEncode, DerSequence};
@@ -45,6 +46,10 @@ impl<T: DerSequence> DerEncode for ApplicationTag0<T> {
     ghost is_element = { λ v h. token_element (T.enc v) h.1 };
 
     ghost one_value = { token_one_value T.is_value T.enc T.one_value };
+
+    ghost fault = { TaggedFault 96 (T.fault 48) };
+
+    ghost fault_laws = { token_fault_laws T.is_value T.enc T.fault T.fault_laws };
 
     fn starts(octet: u8) -> bool {
         octet == TOKEN

@@ -8,7 +8,7 @@ ghost use Rattle.krb_iakerb.specs.Header.{HeaderReads};
 ghost use Rattle.krb_identifiers.specs.ObjectIdentifier.{dotted, object_identifier};
 ghost use Rattle.krb_tokens.specs.declared.error.GssApiMessageError.TheVariants.{OutOfMemory};
 ghost use Rattle.krb_neg.specs.Proxy.{HeaderRefused, IAKerbRefused, ProxyIdRefused, ProxyReads, ProxyRefused, iakerb, proxy_id};
-ghost use Rattle.krb_neg.specs.ProxyLaws.{proxy_one_value};
+ghost use Rattle.krb_neg.specs.ProxyLaws.{ProxyFault, proxy_fault_laws, proxy_one_value};
 ghost use Rattle.krb_tokens.specs.Refused.{Answers, IsFault};
 ghost use Rattle.krb_neg.specs.Token.{token};
 
@@ -81,6 +81,10 @@ impl<T: Der + Drop> DerEncode for IAKerbProxyMessage<T> {
     ghost is_element = { λ v h. tagged_element 48 _ };
 
     ghost one_value = { proxy_one_value ⟦<IAKerbHeader as DerEncode>⟧ T.is_value T.enc T.one_value };
+
+    ghost fault = { ProxyFault ⟦<IAKerbHeader as DerEncode>⟧ T.is_value T.enc };
+
+    ghost fault_laws = { proxy_fault_laws ⟦<IAKerbHeader as DerEncode>⟧ T.is_value T.enc };
 
     fn starts(octet: u8) -> bool {
         octet == SEQUENCE

@@ -3,6 +3,8 @@
 ghost use Rattle.std.specs.Prelude.{◌≡◌, ◌==◌, ◌++◌, refl, List, ℕ, IfOk, IfErr, OnOk};
 ghost use Rattle.std.specs.Io.KnownBytes.{Appends};
 ghost use Rattle.krb_der.specs.Asn1.{sequence};
+ghost use Rattle.krb_der.specs.FieldFaults.{sequence_fault};
+ghost use Rattle.krb_der.specs.FieldFaultLaws.{sequence_fault_laws};
 ghost use Rattle.krb_der.specs.SequenceLaws.{one_value_of, values_of};
 ghost use Rattle.krb_der.specs.TlvLaws.{tagged_element};
 ghost use Rattle.krb_identifiers.specs.ObjectIdentifier.{object_identifier};
@@ -70,6 +72,10 @@ impl<T: Der + Drop> DerEncode for KrbMessage<T> {
     ghost is_element = { λ v h. tagged_element 48 _ };
 
     ghost one_value = { one_value_of ⟦<Self as Sequence>⟧ ⟦<<Self as Sequence>::Fields as Fields>⟧ (λ v. refl) (tt, tt, tt) };
+
+    ghost fault = { sequence_fault ⟦<<Self as Sequence>::Fields as Fields>⟧ };
+
+    ghost fault_laws = { sequence_fault_laws ⟦<Self as Sequence>⟧ ⟦<<Self as Sequence>::Fields as Fields>⟧ (tt, tt, tt) };
 
     fn starts(octet: u8) -> bool {
         octet == SEQUENCE

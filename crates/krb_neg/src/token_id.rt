@@ -1,8 +1,8 @@
 //! The two octets that stand behind the mechanism in a token, as a field of a sequence, for structs that are tokens.
 
 ghost use Rattle.std.specs.Prelude.{ℕ, List, true};
-ghost use Rattle.krb_neg.specs.Token.{IsTokenId};
-ghost use Rattle.krb_neg.specs.TokenIdLaws.{id_begins, id_one_reading};
+ghost use Rattle.krb_neg.specs.Token.{IdFault, IsTokenId};
+ghost use Rattle.krb_neg.specs.TokenIdLaws.{id_begins, id_fault_laws, id_one_reading};
 
 use krb_der::Asn1DerError;
 use krb_der::composite::{FieldRefs, Fields};
@@ -38,6 +38,14 @@ impl Fields for TokenId {
     ghost begin_so = { id_begins };
 
     ghost one_reading = { id_one_reading };
+
+    ghost ends = { λ v rest. Unit {0} };
+
+    ghost fault = { IdFault };
+
+    ghost fault_laws = { id_fault_laws };
+
+    ghost told_ends = { λ follow told v x h hx. tt };
 
     fn read_fields(_alloc: Global, input: &[u8]) -> Result<(Self, usize), Asn1DerError> {
         if input.len() < 2 {

@@ -3,6 +3,8 @@
 ghost use Rattle.std.specs.Prelude.{◌==◌, ◌++◌, refl};
 ghost use Rattle.krb_der.specs.Asn1.{bit_string, explicit, general_string, generalized_time, integer, sequence, sequence_of};
 ghost use Rattle.krb_der.specs.Encoding.{optional};
+ghost use Rattle.krb_der.specs.FieldFaults.{sequence_fault};
+ghost use Rattle.krb_der.specs.FieldFaultLaws.{sequence_fault_laws};
 ghost use Rattle.krb_der.specs.SequenceLaws.{one_value_of, values_of};
 ghost use Rattle.krb_der.specs.TlvLaws.{only_tag, tagged_element};
 
@@ -128,6 +130,10 @@ impl DerEncode for KdcReqBody {
 
     ghost one_value = { one_value_of ⟦<Self as Sequence>⟧ ⟦<<Self as Sequence>::Fields as Fields>⟧ (λ v. refl) ((tt, only_tag 161 _ refl, tt, only_tag 163 _ refl), (only_tag 164 _ refl, tt, only_tag 166 _ refl, tt), (tt, only_tag 169 _ refl, only_tag 170 _ refl, only_tag 171 _ refl)) };
 
+    ghost fault = { sequence_fault ⟦<<Self as Sequence>::Fields as Fields>⟧ };
+
+    ghost fault_laws = { sequence_fault_laws ⟦<Self as Sequence>⟧ ⟦<<Self as Sequence>::Fields as Fields>⟧ ((tt, only_tag 161 _ refl, tt, only_tag 163 _ refl), (only_tag 164 _ refl, tt, only_tag 166 _ refl, tt), (tt, only_tag 169 _ refl, only_tag 170 _ refl, only_tag 171 _ refl)) };
+
     fn starts(octet: u8) -> bool {
         octet == SEQUENCE
     }
@@ -205,6 +211,10 @@ impl DerEncode for KdcReq {
     ghost is_element = { λ v h. tagged_element 48 _ };
 
     ghost one_value = { one_value_of ⟦<Self as Sequence>⟧ ⟦<<Self as Sequence>::Fields as Fields>⟧ (λ v. refl) (tt, tt, only_tag 163 _ refl, tt) };
+
+    ghost fault = { sequence_fault ⟦<<Self as Sequence>::Fields as Fields>⟧ };
+
+    ghost fault_laws = { sequence_fault_laws ⟦<Self as Sequence>⟧ ⟦<<Self as Sequence>::Fields as Fields>⟧ (tt, tt, only_tag 163 _ refl, tt) };
 
     fn starts(octet: u8) -> bool {
         octet == SEQUENCE

@@ -3,6 +3,8 @@
 ghost use Rattle.std.specs.Prelude.{◌==◌, ◌++◌, refl};
 ghost use Rattle.krb_der.specs.Asn1.{explicit, generalized_time, integer, octet_string, sequence, sequence_of};
 ghost use Rattle.krb_der.specs.Encoding.{optional};
+ghost use Rattle.krb_der.specs.FieldFaults.{sequence_fault};
+ghost use Rattle.krb_der.specs.FieldFaultLaws.{sequence_fault_laws};
 ghost use Rattle.krb_der.specs.SequenceLaws.{one_value_of, values_of};
 ghost use Rattle.krb_der.specs.TlvLaws.{only_tag, tagged_element};
 ghost use Rattle.krb_algorithms.specs.Implicit.{implicit};
@@ -73,6 +75,10 @@ impl DerEncode for ExternalPrincipalIdentifier {
     ghost is_element = { λ v h. tagged_element 48 _ };
 
     ghost one_value = { one_value_of ⟦<Self as Sequence>⟧ ⟦<<Self as Sequence>::Fields as Fields>⟧ (λ v. refl) (only_tag 128 _ refl, only_tag 129 _ refl, only_tag 130 _ refl) };
+
+    ghost fault = { sequence_fault ⟦<<Self as Sequence>::Fields as Fields>⟧ };
+
+    ghost fault_laws = { sequence_fault_laws ⟦<Self as Sequence>⟧ ⟦<<Self as Sequence>::Fields as Fields>⟧ (only_tag 128 _ refl, only_tag 129 _ refl, only_tag 130 _ refl) };
 
     fn starts(octet: u8) -> bool {
         octet == SEQUENCE
@@ -148,6 +154,10 @@ impl DerEncode for PaPkAsReq {
     ghost is_element = { λ v h. tagged_element 48 _ };
 
     ghost one_value = { one_value_of ⟦<Self as Sequence>⟧ ⟦<<Self as Sequence>::Fields as Fields>⟧ (λ v. refl) (tt, only_tag 161 _ refl, only_tag 130 _ refl) };
+
+    ghost fault = { sequence_fault ⟦<<Self as Sequence>::Fields as Fields>⟧ };
+
+    ghost fault_laws = { sequence_fault_laws ⟦<Self as Sequence>⟧ ⟦<<Self as Sequence>::Fields as Fields>⟧ (tt, only_tag 161 _ refl, only_tag 130 _ refl) };
 
     fn starts(octet: u8) -> bool {
         octet == SEQUENCE
@@ -226,6 +236,10 @@ impl DerEncode for PkAuthenticator {
     ghost is_element = { λ v h. tagged_element 48 _ };
 
     ghost one_value = { one_value_of ⟦<Self as Sequence>⟧ ⟦<<Self as Sequence>::Fields as Fields>⟧ (λ v. refl) (tt, tt, tt, only_tag 163 _ refl) };
+
+    ghost fault = { sequence_fault ⟦<<Self as Sequence>::Fields as Fields>⟧ };
+
+    ghost fault_laws = { sequence_fault_laws ⟦<Self as Sequence>⟧ ⟦<<Self as Sequence>::Fields as Fields>⟧ (tt, tt, tt, only_tag 163 _ refl) };
 
     fn starts(octet: u8) -> bool {
         octet == SEQUENCE
@@ -308,6 +322,10 @@ impl<C: Der + Drop> DerEncode for AuthPack<C> {
     ghost is_element = { λ v h. tagged_element 48 _ };
 
     ghost one_value = { one_value_of ⟦<Self as Sequence>⟧ ⟦<<Self as Sequence>::Fields as Fields>⟧ (λ v. refl) (tt, only_tag 161 _ refl, only_tag 162 _ refl, only_tag 163 _ refl) };
+
+    ghost fault = { sequence_fault ⟦<<Self as Sequence>::Fields as Fields>⟧ };
+
+    ghost fault_laws = { sequence_fault_laws ⟦<Self as Sequence>⟧ ⟦<<Self as Sequence>::Fields as Fields>⟧ (tt, only_tag 161 _ refl, only_tag 162 _ refl, only_tag 163 _ refl) };
 
     fn starts(octet: u8) -> bool {
         octet == SEQUENCE

@@ -2,6 +2,8 @@
 
 ghost use Rattle.std.specs.Prelude.{◌==◌, ◌++◌, refl};
 ghost use Rattle.krb_der.specs.Asn1.{explicit, general_string, sequence, sequence_of};
+ghost use Rattle.krb_der.specs.FieldFaults.{sequence_fault};
+ghost use Rattle.krb_der.specs.FieldFaultLaws.{sequence_fault_laws};
 ghost use Rattle.krb_der.specs.SequenceLaws.{one_value_of, values_of};
 ghost use Rattle.krb_der.specs.TlvLaws.{tagged_element};
 ghost use Rattle.krb_algorithms.specs.Implicit.{implicit};
@@ -52,6 +54,10 @@ impl DerEncode for Pku2uNegoReqMetadata {
     ghost is_element = { λ v h. tagged_element 48 _ };
 
     ghost one_value = { one_value_of ⟦<Self as Sequence>⟧ ⟦<<Self as Sequence>::Fields as Fields>⟧ (λ v. refl) tt };
+
+    ghost fault = { sequence_fault ⟦<<Self as Sequence>::Fields as Fields>⟧ };
+
+    ghost fault_laws = { sequence_fault_laws ⟦<Self as Sequence>⟧ ⟦<<Self as Sequence>::Fields as Fields>⟧ tt };
 
     fn starts(octet: u8) -> bool {
         octet == SEQUENCE
@@ -116,6 +122,10 @@ impl DerEncode for Pku2uNegoBody {
 
     ghost one_value = { one_value_of ⟦<Self as Sequence>⟧ ⟦<<Self as Sequence>::Fields as Fields>⟧ (λ v. refl) (tt, tt) };
 
+    ghost fault = { sequence_fault ⟦<<Self as Sequence>::Fields as Fields>⟧ };
+
+    ghost fault_laws = { sequence_fault_laws ⟦<Self as Sequence>⟧ ⟦<<Self as Sequence>::Fields as Fields>⟧ (tt, tt) };
+
     fn starts(octet: u8) -> bool {
         octet == SEQUENCE
     }
@@ -179,6 +189,10 @@ impl DerEncode for Pku2uNegoReq {
 
     ghost one_value = { one_value_of ⟦<Self as Sequence>⟧ ⟦<<Self as Sequence>::Fields as Fields>⟧ (λ v. refl) (tt, tt) };
 
+    ghost fault = { sequence_fault ⟦<<Self as Sequence>::Fields as Fields>⟧ };
+
+    ghost fault_laws = { sequence_fault_laws ⟦<Self as Sequence>⟧ ⟦<<Self as Sequence>::Fields as Fields>⟧ (tt, tt) };
+
     fn starts(octet: u8) -> bool {
         octet == SEQUENCE
     }
@@ -236,6 +250,10 @@ impl DerEncode for Pku2uNegoRep {
 
     ghost one_value = { one_value_of ⟦<Self as Sequence>⟧ ⟦<<Self as Sequence>::Fields as Fields>⟧ (λ v. refl) tt };
 
+    ghost fault = { sequence_fault ⟦<<Self as Sequence>::Fields as Fields>⟧ };
+
+    ghost fault_laws = { sequence_fault_laws ⟦<Self as Sequence>⟧ ⟦<<Self as Sequence>::Fields as Fields>⟧ tt };
+
     fn starts(octet: u8) -> bool {
         octet == SEQUENCE
     }
@@ -290,6 +308,10 @@ impl DerEncode for KrbFinished {
     ghost is_element = { λ v h. tagged_element 48 _ };
 
     ghost one_value = { one_value_of ⟦<Self as Sequence>⟧ ⟦<<Self as Sequence>::Fields as Fields>⟧ (λ v. refl) tt };
+
+    ghost fault = { sequence_fault ⟦<<Self as Sequence>::Fields as Fields>⟧ };
+
+    ghost fault_laws = { sequence_fault_laws ⟦<Self as Sequence>⟧ ⟦<<Self as Sequence>::Fields as Fields>⟧ tt };
 
     fn starts(octet: u8) -> bool {
         octet == SEQUENCE

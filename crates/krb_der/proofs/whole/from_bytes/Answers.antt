@@ -2,6 +2,8 @@ use Rattle.std.proofs.Common.{◌<◌, ◌^◌, length, arith, refl, inl, sym, �
 use Rattle.std.proofs.lemmas.Result.{err_from_is_err_and}
 use Rattle.krb_der.proofs.WholeInput.{err_again, err_cut, err_more, whole_is, not_all, not_cut, no_more, no_device}
 use Rattle.krb_leaves.specs.Reading.{Encodings}
+use Rattle.krb_leaves.specs.Faults.{FrontFault}
+use Rattle.krb_der.proofs.FaultSteps.{front_wrong, too_many}
 use Rattle.krb_der.proofs.whole.from_bytes.Goals as goal
 
 pub returns-in_err-value-clause-reads : goal.returns-in_err-value-clause-reads
@@ -46,3 +48,11 @@ pub returns-in_err-value-clause-no_device : goal.returns-in_err-value-clause-no_
 returns-in_err-value-clause-no_device g c =
     let p = err_from_is_err_and c.from_residual.result c.from_residual.ensures.1 in
     rw (p.1, p.2) (no_device (Encodings g.T.DerEncode.is_value g.T.DerEncode.enc) c.args.input.now c.in_err-value.field-0.0 c.in_err-value.ensures.refused)
+
+pub returns-in_err-value-clause-first_fault : goal.returns-in_err-value-clause-first_fault
+returns-in_err-value-clause-first_fault g c =
+    let p = err_from_is_err_and c.from_residual.result c.from_residual.ensures.1 in
+    rw (p.1, p.2) (front_wrong g.T.DerEncode.is_value g.T.DerEncode.enc (λ v rest. Unit {0}) (FrontFault g.T.DerEncode.first g.T.DerEncode.fault) c.args.input.now c.in_err-value.field-0.0 c.in_err-value.ensures.first_fault)
+
+pub returns-then-taken-input-clause-first_fault : goal.returns-then-taken-input-clause-first_fault
+returns-then-taken-input-clause-first_fault g c = too_many g.T.DerEncode.is_value g.T.DerEncode.enc (λ v rest. Unit {0}) (FrontFault g.T.DerEncode.first g.T.DerEncode.fault) c.in_ok-value.value c.in_ok-value.taken c.args.input.now c.in_ok-value.ensures.valid c.in_ok-value.ensures.found tt c.if-taken-input.true

@@ -1,0 +1,29 @@
+-- How the first fault of a part becomes that of the whole.
+use Rattle.std.proofs.Common.{◌≡◌, ℕ, ◌-◌, ◌<◌, List, length, take, drop, ap, subst, arith, inr, length-append}
+use Rattle.std.proofs.lemmas.List.{take_rest}
+use Rattle.krb_leaves.specs.declared.error.Asn1DerError.{Asn1DerError}
+use Rattle.krb_leaves.specs.declared.error.Asn1DerError.TheVariants as errors
+use Rattle.krb_leaves.specs.Reading.{TakesFront}
+use Rattle.krb_leaves.specs.Faults.{at_front, left_over}
+use Rattle.krb_leaves.specs.Faults.{OrMemory, WholeFault}
+use Rattle.krb_leaves.proofs.FirstFaults.{or_memory}
+use Rattle.krb_der.specs.FieldFaults.{in_left, in_right}
+use Rattle.krb_der.specs.FieldFaults.{PairFault}
+
+module _ {A : Type 0} (is_value : A → Type 0) (octets_of : A → List ℕ) (ends : A → List ℕ → Type 0) (fault : List ℕ → Asn1DerError → Type 0) where
+  pub front_wrong : (octets : List ℕ) (e : Asn1DerError) → OrMemory (fault octets) e → OrMemory (WholeFault is_value octets_of ends fault octets) e
+  front_wrong octets e h = or_memory (fault octets) (WholeFault is_value octets_of ends fault octets) e (at_front e) h
+
+  pub too_many : (v : A) (n : ℕ) (octets : List ℕ) → is_value v → TakesFront (octets_of v) n octets → ends v (drop n octets) → (n ≡ length octets → ⊥) → OrMemory (WholeFault is_value octets_of ends fault octets) errors.InvalidData
+  too_many v n octets hv f hends more =
+      let some : 0 < length (drop n octets) = omega (arith, f.count, ap length f.front, length-append (octets_of v) (drop n octets), more) in
+      inr (left_over v (drop n octets) hv f.front hends some)
+
+module _ {L : Type 0} (are_values : L → Type 0) (octets_of : L → List ℕ) (ends : L → List ℕ → Type 0) (left right : List ℕ → Asn1DerError → Type 0) where
+  pub left_wrong : (octets : List ℕ) (e : Asn1DerError) → OrMemory (left octets) e → OrMemory (PairFault are_values octets_of ends left right octets) e
+  left_wrong octets e h = or_memory (left octets) (PairFault are_values octets_of ends left right octets) e (in_left e) h
+
+  pub right_wrong : (v : L) (n : ℕ) (octets : List ℕ) (e : Asn1DerError) → are_values v → TakesFront (octets_of v) n octets → ends v (drop n octets) → OrMemory (right (take (length octets - n) (drop n octets))) e → OrMemory (PairFault are_values octets_of ends left right octets) e
+  right_wrong v n octets e hv f hends h =
+      let behind : OrMemory (right (drop n octets)) e = subst (λ (l : List ℕ). OrMemory (right l) e) (take_rest octets n) h in
+      or_memory (right (drop n octets)) (PairFault are_values octets_of ends left right octets) e (in_right v (drop n octets) e hv f.front hends) behind

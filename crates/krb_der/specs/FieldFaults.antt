@@ -1,0 +1,35 @@
+-- The first fault of the fields of a sequence, from the left.
+use Rattle.std.specs.Prelude.{◌≡◌, ℕ, ◌<◌, ◌≤◌, ◌⊎◌, Bool, true, false, List, [], ◌∷◌, ◌++◌}
+use Rattle.krb_leaves.specs.declared.error.Asn1DerError.{Asn1DerError}
+use Rattle.krb_leaves.specs.declared.error.Asn1DerError.TheVariants as errors
+use Rattle.krb_leaves.specs.Faults.{FrontFault, TaggedFault, WholeFault}
+use Rattle.krb_der.specs.declared.sequence.Fields.{Ghosts as FieldsOf}
+
+-- there are octets, and the first is one of these
+abbrev pub IsBegun : (ℕ → Bool) → List ℕ → Type 0
+IsBegun first [] = ⊥
+IsBegun first (t ∷ rest) = first t ≡ true
+
+-- the octets are none, or the first is none of these
+abbrev pub IsAbsent : (ℕ → Bool) → List ℕ → Type 0
+IsAbsent first [] = Unit {0}
+IsAbsent first (t ∷ rest) = first t ≡ false
+
+-- The first fault of a field that may be absent: it is there where the octets begin as it does, and then the fault is that of
+-- its element.
+abbrev pub OptionalFault : (ℕ → Bool) → (ℕ → List ℕ → Asn1DerError → Type 0) → List ℕ → Asn1DerError → Type 0
+OptionalFault first fault octets e = IsBegun first octets × FrontFault first fault octets e
+
+-- The first fault of fields behind fields: that of the left ones, or these stand at the front and it is that of the right ones
+-- in the octets behind them.
+pub data PairFault {L : Type 0} (are_values : L → Type 0) (octets_of : L → List ℕ) (ends : L → List ℕ → Type 0) (left right : List ℕ → Asn1DerError → Type 0) (octets : List ℕ) : Asn1DerError → Type 0 where
+  in_left : (e : Asn1DerError) → left octets e → PairFault are_values octets_of ends left right octets e
+  in_right : (v : L) (rest : List ℕ) (e : Asn1DerError) → are_values v → octets ≡ octets_of v ++ rest → ends v rest → right rest e → PairFault are_values octets_of ends left right octets e
+
+-- The first fault of a SEQUENCE (X.690, 8.9): its tag, then its fields in order, then what is left over.
+abbrev pub sequence_fault : {F : Type 0} → FieldsOf F → ℕ → List ℕ → Asn1DerError → Type 0
+sequence_fault f = TaggedFault 48 (WholeFault f.are_values f.octets f.ends f.fault)
+
+-- The first fault of an element under an application tag of this number: a number past 30 has no value.
+abbrev pub NumberFault : ℕ → (ℕ → List ℕ → Asn1DerError → Type 0) → ℕ → List ℕ → Asn1DerError → Type 0
+NumberFault n fault t content e = ((30 < n) × (e ≡ errors.InvalidData)) ⊎ ((n ≤ 30) × fault t content e)
