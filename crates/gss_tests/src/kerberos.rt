@@ -1,8 +1,9 @@
 //! Tokens of Kerberos.
 
+use crate::devices::Full;
 use crate::outcome::{asking, identifier, octets, refusal};
 use krb_app::messages::ApRep;
-use krb_der::{copy, from_bytes, to_vec};
+use krb_der::{Der, copy, from_bytes, to_vec};
 use krb_neg::gss_api::{ApplicationTag0, KrbMessage};
 use krb_padata::data_types::KerbPaPacRequest;
 use std::process::Abort;
@@ -94,6 +95,27 @@ fn a_message_is_written_with_no_tag_in_front(rt: HostRuntime) {
     assert!(rt; sent == octets(&rt, "06092a864886f71201020201003005a0030101ff"));
     let sequence = to_vec(alloc, &message(&rt)).expect(&rt, "memory");
     assert!(rt; sequence == octets(&rt, "301406092a864886f71201020201003005a0030101ff"));
+}
+
+/// A writer with room for fewer octets than the message has fails, and one with room for all does not.
+fn wants_room<T: Der + Drop>(
+    rt: &(impl Abort + AllocGlobal),
+    message: KrbMessage<T>,
+    length: usize,
+) {
+    for room in 0..length {
+        let mut writer = Full { room };
+        let outcome = message.encode(rt.alloc(), &mut writer);
+        assert!(rt; refusal(&outcome) == "BrokenPipe", "room {room}");
+        assert!(rt; writer.room == 0, "room {room}");
+    }
+    let outcome = message.encode(rt.alloc(), &mut Full { room: length });
+    assert!(rt; refusal(&outcome) == "none");
+}
+
+#[test]
+fn failing_writers(rt: HostRuntime) {
+    wants_room(&rt, message(&rt), 20);
 }
 
 #[test]

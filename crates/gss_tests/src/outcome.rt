@@ -33,6 +33,9 @@ pub fn refusal<T>(outcome: &Result<T, GssApiMessageError>) -> &'static str {
         Err(GssApiMessageError::IoError(fault)) if fault.kind() == ErrorKind::UnexpectedEof => {
             "UnexpectedEof"
         }
+        Err(GssApiMessageError::IoError(fault)) if fault.kind() == ErrorKind::BrokenPipe => {
+            "BrokenPipe"
+        }
         Err(GssApiMessageError::Asn1Error(Asn1DerError::InvalidData)) => "InvalidData",
         Err(GssApiMessageError::Asn1Error(Asn1DerError::TruncatedData)) => "TruncatedData",
         Err(GssApiMessageError::Asn1Error(Asn1DerError::UnsupportedValue)) => "UnsupportedValue",

@@ -1,7 +1,8 @@
 //! Tokens of IAKERB.
 
+use crate::devices::Full;
 use crate::outcome::{asking, octets, refusal};
-use krb_der::{ExplicitContextTag1, Optional, Utf8StringAsn1, to_vec};
+use krb_der::{Der, ExplicitContextTag1, Optional, Utf8StringAsn1, to_vec};
 use krb_iakerb::messages::IAKerbHeader;
 use krb_neg::gss_api::{ApplicationTag0, GssApiMessageError, IAKerbProxyMessage};
 use krb_padata::data_types::KerbPaPacRequest;
@@ -92,6 +93,27 @@ fn a_token_is_written(rt: HostRuntime) {
     assert!(rt; sent == octets(&rt, "06062b060105020505013005a1030c01413005a0030101ff"));
     let again = message(&rt).clone(alloc).expect(&rt, "memory");
     assert!(rt; again == message(&rt));
+}
+
+/// A writer with room for fewer octets than the message has fails, and one with room for all does not.
+fn wants_room<T: Der + Drop>(
+    rt: &(impl Abort + AllocGlobal),
+    message: IAKerbProxyMessage<T>,
+    length: usize,
+) {
+    for room in 0..length {
+        let mut writer = Full { room };
+        let outcome = message.encode(rt.alloc(), &mut writer);
+        assert!(rt; refusal(&outcome) == "BrokenPipe", "room {room}");
+        assert!(rt; writer.room == 0, "room {room}");
+    }
+    let outcome = message.encode(rt.alloc(), &mut Full { room: length });
+    assert!(rt; refusal(&outcome) == "none");
+}
+
+#[test]
+fn failing_writers(rt: HostRuntime) {
+    wants_room(&rt, message(&rt), 24);
 }
 
 #[test]

@@ -11,6 +11,7 @@
 mod certificates;
 mod delegation;
 mod dribble;
+mod faulty;
 mod leaves;
 mod messages;
 mod negotiation;

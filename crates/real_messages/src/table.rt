@@ -124,6 +124,7 @@ fn push_findings(text: &mut String, found: &Findings) -> Result<bool, AllocError
         ("longer", found.longer),
         ("streamed", found.streamed),
         ("sent", found.sent),
+        ("faulted", found.faulted),
         ("copied", found.copied),
     ] {
         text.push_str(if held { ", " } else { ", not " })?;

@@ -1,8 +1,10 @@
 //! What is tried of octets that should be the encoding of a value of a type.
 
 use crate::dribble::Dribble;
+use crate::faulty::{FaultyReader, FaultyWriter};
 use krb_der::{Asn1DerError, Der, copy, from_bytes, from_reader, to_vec, to_writer};
 use std::alloc::Global;
+use std::io::ErrorKind;
 
 /// What stands behind the octets that a reader gives.
 const BEHIND: [u8; 2] = [0x30, 0x00];
@@ -20,6 +22,8 @@ pub struct Findings {
     pub streamed: bool,
     /// A writer gets these octets, and their number is answered.
     pub sent: bool,
+    /// Where a reader fails at one of its reads, or a writer at one of its writes, each in turn, its fault is the answer.
+    pub faulted: bool,
     /// A copy of the value has the same encoding.
     pub copied: bool,
 }
@@ -33,6 +37,8 @@ pub fn findings_of<T: Der + Drop>(alloc: Global, octets: &[u8]) -> Result<Findin
         longer: is_refused_longer::<T>(alloc, octets)?,
         streamed: is_streamed::<T>(alloc, octets)?,
         sent: is_sent(alloc, &value, octets)?,
+        faulted: is_faulted_in_reading::<T>(alloc, octets)?
+            && is_faulted_in_writing(alloc, &value, octets),
         copied: is_copied(alloc, &value, octets)?,
     })
 }
@@ -76,6 +82,51 @@ fn is_sent<T: Der + Drop>(alloc: Global, value: &T, octets: &[u8]) -> Result<boo
     let mut sent = Vec::new(alloc);
     let count = to_writer(alloc, value, &mut sent)?;
     Ok(count == octets.len() && sent.as_slice() == octets)
+}
+
+/// Whether this is the fault of a device.
+fn is_fault<T>(outcome: &Result<T, Asn1DerError>) -> bool {
+    matches!(outcome, Err(Asn1DerError::Io(fault)) if fault.kind() == ErrorKind::BrokenPipe)
+}
+
+/// Reads until no read is the one that fails.
+fn is_faulted_in_reading<T: Der + Drop>(
+    alloc: Global,
+    octets: &[u8],
+) -> Result<bool, Asn1DerError> {
+    for before in 0..=octets.len() {
+        let mut reader = FaultyReader {
+            left: octets,
+            before,
+            failed: false,
+        };
+        let read = from_reader::<T, _>(alloc, &mut reader);
+        if !reader.failed {
+            return is_written(alloc, &read?, octets);
+        }
+        if !is_fault(&read) {
+            return Ok(false);
+        }
+    }
+    Ok(false)
+}
+
+/// Writes until no write is the one that fails.
+fn is_faulted_in_writing<T: Der + Drop>(alloc: Global, value: &T, octets: &[u8]) -> bool {
+    for before in 0..=octets.len() {
+        let mut writer = FaultyWriter {
+            before,
+            failed: false,
+        };
+        let sent = to_writer(alloc, value, &mut writer);
+        if !writer.failed {
+            return matches!(sent, Ok(count) if count == octets.len());
+        }
+        if !is_fault(&sent) {
+            return false;
+        }
+    }
+    false
 }
 
 fn is_copied<T: Der + Drop>(alloc: Global, value: &T, octets: &[u8]) -> Result<bool, Asn1DerError> {
