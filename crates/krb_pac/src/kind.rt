@@ -31,6 +31,12 @@ pub enum PacBufferType {
     DeviceClaimsInfo = 15,
     /// The ticket's checksum (MS-PAC 2.8).
     TicketChecksum = 16,
+    /// Attributes of the PAC: whether the client asked for one (MS-PAC 2.14, PAC_ATTRIBUTES_INFO).
+    PacAttributesInfo = 17,
+    /// The security identifier of the client that asked for the ticket (MS-PAC 2.15, PAC_REQUESTOR).
+    PacRequestor = 18,
+    /// The extended checksum of the KDC, over the whole PAC (MS-PAC 2.8).
+    FullPacChecksum = 19,
 }
 
 impl TryFrom<u32> for PacBufferType {
@@ -52,6 +58,9 @@ impl TryFrom<u32> for PacBufferType {
             14 => Ok(PacBufferType::DeviceInfo),
             15 => Ok(PacBufferType::DeviceClaimsInfo),
             16 => Ok(PacBufferType::TicketChecksum),
+            17 => Ok(PacBufferType::PacAttributesInfo),
+            18 => Ok(PacBufferType::PacRequestor),
+            19 => Ok(PacBufferType::FullPacChecksum),
             _ => Err(PacError::PacBufferType(number)),
         }
     }

@@ -40,7 +40,7 @@ fn entry_not_read(rt: HostRuntime) -> Result<(), Fail> {
     for n in 8..24 {
         no_entry(&rt, rt.alloc(), &ONE_BUFFER[8..n], "UnexpectedEof")?;
     }
-    no_entry(&rt, rt.alloc(), b"\x11\0\0\0", "PacBufferType(17)")
+    no_entry(&rt, rt.alloc(), b"\x14\0\0\0", "PacBufferType(20)")
 }
 
 #[test]

@@ -143,8 +143,8 @@ fn octets_at_their_limits(rt: HostRuntime) -> Result<(), Fail> {
             "InvalidRange",
         ),
         (
-            b"\x01\0\0\0\0\0\0\0\x11\0\0\0\x04\0\0\0",
-            "PacBufferType(17)",
+            b"\x01\0\0\0\0\0\0\0\x14\0\0\0\x04\0\0\0",
+            "PacBufferType(20)",
         ),
         (b"\0\0\0\0\0\0\0\0", "done"),
         (b"\0\0\0\0\0\0\0\x01", "InvalidVersion(16777216)"),
@@ -157,9 +157,10 @@ fn octets_at_their_limits(rt: HostRuntime) -> Result<(), Fail> {
 
 #[test]
 fn changed_octets(rt: HostRuntime) -> Result<(), Fail> {
-    let rows: [(&[(usize, u8)], &str); 6] = [
+    let rows: [(&[(usize, u8)], &str); 7] = [
         (&[(4, 1)], "InvalidVersion(1)"),
-        (&[(8, 17)], "PacBufferType(17)"),
+        (&[(8, 17)], "done"),
+        (&[(8, 20)], "PacBufferType(20)"),
         (&[(16, 25)], "InvalidRange"),
         (&[(12, 0)], "done"),
         (&[(12, 0), (16, 28)], "done"),
@@ -167,6 +168,34 @@ fn changed_octets(rt: HostRuntime) -> Result<(), Fail> {
     ];
     for (changes, words) in rows {
         reads_as(&rt, rt.alloc(), &changed(changes), words)?;
+    }
+    Ok(())
+}
+
+/// The PAC of one buffer, with each number of a type that current servers issue: it is written with four zeros behind.
+#[test]
+fn types_of_current_servers(rt: HostRuntime) -> Result<(), Fail> {
+    let alloc = rt.alloc();
+    for (number, kind) in [
+        (17, PacBufferType::PacAttributesInfo),
+        (18, PacBufferType::PacRequestor),
+        (19, PacBufferType::FullPacChecksum),
+    ] {
+        let read = changed(&[(8, number)]);
+        let pac = Pac::deserialize(alloc, read.as_slice())?;
+        let info = PacInfoBuffer::new(kind, 4, 24);
+        assert_eq!(rt; pac.buffers().len(), 1);
+        assert!(rt;
+            pac.buffers()
+                .iter()
+                .all(|buffer| *buffer.info_buffer() == info)
+        );
+        let mut octets = read.to_vec(alloc)?;
+        octets.extend_from_slice(&[0; 4])?;
+        let mut out = Vec::new(alloc);
+        pac.serialize(alloc, &mut out)?;
+        assert!(rt; out == octets);
+        assert!(rt; Pac::deserialize(alloc, out.as_slice())? == pac);
     }
     Ok(())
 }
@@ -215,15 +244,15 @@ fn numbers_of_types(rt: HostRuntime) -> Result<(), Fail> {
         (14, PacBufferType::DeviceInfo),
         (15, PacBufferType::DeviceClaimsInfo),
         (16, PacBufferType::TicketChecksum),
+        (17, PacBufferType::PacAttributesInfo),
+        (18, PacBufferType::PacRequestor),
+        (19, PacBufferType::FullPacChecksum),
     ];
     for (number, kind) in kinds {
         assert_eq!(rt; u32::from(kind), number);
         assert_eq!(rt; PacBufferType::try_from(number)?, kind);
     }
-    for number in 0..=20u32 {
-        if kinds.iter().any(|row| row.0 == number) {
-            continue;
-        }
+    for number in [0, 3, 4, 5, 8, 9, 20, u32::MAX] {
         let answer = told(alloc, &PacBufferType::try_from(number))?;
         let words = format!(in alloc; "PacBufferType({number})")?;
         assert!(rt; answer == words, "{number}");
