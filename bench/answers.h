@@ -36,7 +36,7 @@ static void expect_blocks(void) {
     expect("triple DES, decrypt", bench_des_decrypt(ARRAY(keys), 1, ARRAY(half)), half, word);
 }
 
-/* n-fold: RFC 3961, A.1, and one by Python. Keys: RFC 3961, A.4, and two by Python. */
+/* n-fold: RFC 3961, A.1, and one by Python. Keys: RFC 3961, A.4, and four by Python. */
 static void expect_keys(void) {
     uint8_t out[32];
     expect("n-fold to 128 bits", bench_n_fold(TEXT("kerberos"), 16, ARRAY(out)), out,
@@ -54,6 +54,12 @@ static void expect_keys(void) {
     expect("string to key, suite 18",
            bench_string_to_key(18, TEXT("5hYYSAfFJp"), TEXT("EXAMPLE.COMtest1"), ARRAY(out)), out,
            "daded1cc15ae17deaa63a490f7678944758f3b255a542569cb20eba761eeabac");
+    expect("string to key, suite 19",
+           bench_string_to_key(19, TEXT("5hYYSAfFJp"), TEXT("EXAMPLE.COMtest1"), ARRAY(out)), out,
+           "78c98f9d0b74b9b57195be0fd553a71c");
+    expect("string to key, suite 20",
+           bench_string_to_key(20, TEXT("5hYYSAfFJp"), TEXT("EXAMPLE.COMtest1"), ARRAY(out)), out,
+           "ce84d695a69c689855158579fe1dfc4150f4cc2ffa0f21662ee8818a9d87c178");
 }
 
 /* A part's octets. */

@@ -132,7 +132,7 @@ int main(void) {
     for (size_t i = 0; i < sizeof parts / sizeof *parts; i++) {
         count_part(&parts[i]);
     }
-    for (size_t etype = 16; etype <= 18; etype++) {
+    for (size_t etype = 16; etype <= 20; etype++) {
         snprintf(name, sizeof name, "string to key, suite %zu", etype);
         COUNT(bench_string_to_key(etype, TEXT("5hYYSAfFJp"), TEXT("EXAMPLE.COMtest1"), ARRAY(out)));
     }
@@ -142,6 +142,8 @@ int main(void) {
         count_messages(16, 24, 8, sizes[i]);
         count_messages(17, 16, 16, sizes[i]);
         count_messages(18, 32, 16, sizes[i]);
+        count_messages(19, 16, 16, sizes[i]);
+        count_messages(20, 32, 16, sizes[i]);
     }
     return 0;
 }

@@ -7,7 +7,7 @@ enum { LARGE = 65536, FRAME = 64 };
 
 static const struct {
     size_t etype, key_size, confounder_size;
-} suites[] = {{16, 24, 8}, {17, 16, 16}, {18, 32, 16}};
+} suites[] = {{16, 24, 8}, {17, 16, 16}, {18, 32, 16}, {19, 16, 16}, {20, 32, 16}};
 
 static double window;
 static char name[96];
@@ -48,7 +48,7 @@ static void time_messages(size_t etype, size_t key_size, size_t confounder_size)
 
 static void time_keys(void) {
     uint8_t out[32];
-    for (size_t etype = 16; etype <= 18; etype++) {
+    for (size_t etype = 16; etype <= 20; etype++) {
         snprintf(name, sizeof name, "string to key, suite %zu", etype);
         TIME(window, name, 1,
              bench_string_to_key(etype, TEXT("5hYYSAfFJp"), TEXT("EXAMPLE.COMtest1"), ARRAY(out)));

@@ -2,7 +2,7 @@
 
 use crate::aes_sha2::try_aes_sha2;
 use crate::row::{Answer, Row, answer_of, size_of};
-use krb_suite::{aes, des};
+use krb_sha1_suites::{aes, des};
 use std::alloc::Global;
 
 /// Calls of keys of triple DES (RFC 3961, 6.3).

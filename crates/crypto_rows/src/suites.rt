@@ -1,10 +1,13 @@
 //! Calls of a suite that is lent, by its name or its number.
 
 use crate::row::{Answer, Row, answer_of};
-use krb_suite::aes::{
+use krb_sha1_suites::aes::{
     Aes128CtsHmacSha196, Aes256CtsHmacSha196, HmacSha196Aes128, HmacSha196Aes256,
 };
-use krb_suite::des::{Des3CbcSha1Kd, HmacSha1Des3Kd};
+use krb_sha1_suites::des::{Des3CbcSha1Kd, HmacSha1Des3Kd};
+use krb_sha2_suites::aes_sha2::{
+    Aes128CtsHmacSha256128, Aes256CtsHmacSha384192, HmacSha256128Aes128, HmacSha384192Aes256,
+};
 use krb_suite::{
     Checksum, ChecksumSuite, Cipher, CipherSuite, DecryptWithoutChecksum, EncryptWithoutChecksum,
     KerberosCryptoResult,
@@ -105,6 +108,17 @@ fn try_cipher(alloc: Global, cipher: &dyn Cipher, row: &Row) -> Answer {
     }
 }
 
+/// Calls of a cipher of RFC 8009.
+fn try_sha2_suite(alloc: Global, row: &Row) -> Answer {
+    match row.suite {
+        "aes128-sha2" => try_cipher(alloc, &Aes128CtsHmacSha256128::new(), row),
+        "aes256-sha2" => try_cipher(alloc, &Aes256CtsHmacSha384192::default(), row),
+        "19" => try_cipher(alloc, &CipherSuite::Aes128CtsHmacSha256128, row),
+        "20" => try_cipher(alloc, &CipherSuite::Aes256CtsHmacSha384192, row),
+        _ => None,
+    }
+}
+
 /// Calls of a cipher (RFC 3961, 3).
 pub fn try_suite(alloc: Global, row: &Row) -> Answer {
     match row.suite {
@@ -115,13 +129,24 @@ pub fn try_suite(alloc: Global, row: &Row) -> Answer {
         "17" => try_cipher(alloc, &CipherSuite::Aes128CtsHmacSha196, row),
         "18" => try_cipher(alloc, &CipherSuite::Aes256CtsHmacSha196, row),
         "16" => try_cipher(alloc, &CipherSuite::Des3CbcSha1Kd, row),
-        _ => None,
+        _ => try_sha2_suite(alloc, row),
     }
 }
 
 fn sum_of(alloc: Global, checksum: &dyn Checksum, row: &Row) -> Answer {
     let sum = checksum.checksum(alloc, &row.key, row.number, &row.input);
     answer_of(alloc, sum)
+}
+
+/// The call of a checksum of RFC 8009.
+fn try_sha2_checksum(alloc: Global, row: &Row) -> Answer {
+    match row.suite {
+        "aes128-sha2" => sum_of(alloc, &HmacSha256128Aes128, row),
+        "aes256-sha2" => sum_of(alloc, &HmacSha384192Aes256, row),
+        "19" => sum_of(alloc, &ChecksumSuite::HmacSha256128Aes128, row),
+        "20" => sum_of(alloc, &ChecksumSuite::HmacSha384192Aes256, row),
+        _ => None,
+    }
 }
 
 /// The call of a checksum (RFC 3961, 4).
@@ -136,6 +161,6 @@ pub fn try_checksum(alloc: Global, row: &Row) -> Answer {
         "15" => sum_of(alloc, &ChecksumSuite::HmacSha196Aes128, row),
         "16" => sum_of(alloc, &ChecksumSuite::HmacSha196Aes256, row),
         "12" => sum_of(alloc, &ChecksumSuite::HmacSha1Des3Kd, row),
-        _ => None,
+        _ => try_sha2_checksum(alloc, row),
     }
 }

@@ -1,13 +1,11 @@
 //! Octets near those of a row, opened one after another.
 
 use crate::row::{Answer, Row};
-use krb_suite::aes::Aes128CtsHmacSha196;
-use krb_suite::des::Des3CbcSha1Kd;
+use krb_sha1_suites::aes::Aes128CtsHmacSha196;
+use krb_sha1_suites::des::Des3CbcSha1Kd;
+use krb_sha2_suites::aes_sha2::{Aes128CtsHmacSha256128, Aes256CtsHmacSha384192};
 use krb_suite::{Cipher, KerberosCryptoError, KerberosCryptoResult};
 use std::alloc::{AllocError, Global};
-
-/// The fewest octets that are opened: a confounder and a checksum.
-const FEWEST: usize = 28;
 
 /// Answers in turn, each with how often it came without another between.
 #[derive(Drop)]
@@ -52,12 +50,18 @@ impl Runs {
     }
 }
 
-/// What opening octets answers, in a word.
-fn opened(alloc: Global, cipher: &dyn Cipher, row: &Row, octets: &[u8]) -> &'static str {
+/// What opening octets answers, in a word. The fewest that are opened are a confounder and a checksum.
+fn opened(
+    alloc: Global,
+    cipher: &dyn Cipher,
+    fewest: usize,
+    row: &Row,
+    octets: &[u8],
+) -> &'static str {
     match cipher.decrypt(alloc, &row.key, row.number, octets) {
         Ok(_) => "opened",
-        Err(KerberosCryptoError::CipherLength(got, fewest)) => {
-            if got == octets.len() && fewest == FEWEST {
+        Err(KerberosCryptoError::CipherLength(got, wanted)) => {
+            if got == octets.len() && wanted == fewest {
                 "CipherLength"
             } else {
                 "CipherLength of other numbers"
@@ -71,7 +75,12 @@ fn opened(alloc: Global, cipher: &dyn Cipher, row: &Row, octets: &[u8]) -> &'sta
 }
 
 /// What each single bit flip of the input opens to.
-fn flips(alloc: Global, cipher: &dyn Cipher, row: &Row) -> KerberosCryptoResult<String> {
+fn flips(
+    alloc: Global,
+    cipher: &dyn Cipher,
+    fewest: usize,
+    row: &Row,
+) -> KerberosCryptoResult<String> {
     let mut runs = Runs::new(alloc);
     let mut flipped = Vec::from_slice(alloc, row.input.as_slice())?;
     for position in 0..row.input.len() {
@@ -79,7 +88,7 @@ fn flips(alloc: Global, cipher: &dyn Cipher, row: &Row) -> KerberosCryptoResult<
             if let Some(octet) = flipped.get_mut(position) {
                 *octet ^= bit;
             }
-            runs.add(alloc, opened(alloc, cipher, row, &flipped))?;
+            runs.add(alloc, opened(alloc, cipher, fewest, row, &flipped))?;
             if let Some(octet) = flipped.get_mut(position) {
                 *octet ^= bit;
             }
@@ -90,19 +99,25 @@ fn flips(alloc: Global, cipher: &dyn Cipher, row: &Row) -> KerberosCryptoResult<
 }
 
 /// What each proper front of the input opens to, the empty one first.
-fn fronts(alloc: Global, cipher: &dyn Cipher, row: &Row) -> KerberosCryptoResult<String> {
+fn fronts(
+    alloc: Global,
+    cipher: &dyn Cipher,
+    fewest: usize,
+    row: &Row,
+) -> KerberosCryptoResult<String> {
     let mut runs = Runs::new(alloc);
     for count in 0..row.input.len() {
-        runs.add(alloc, opened(alloc, cipher, row, &row.input[..count]))?;
+        let front = &row.input[..count];
+        runs.add(alloc, opened(alloc, cipher, fewest, row, front))?;
     }
     runs.end(alloc)?;
     Ok(runs.text)
 }
 
-fn sweep(alloc: Global, cipher: &dyn Cipher, row: &Row) -> Answer {
+fn sweep(alloc: Global, cipher: &dyn Cipher, fewest: usize, row: &Row) -> Answer {
     match row.call {
-        "flips" => Some(flips(alloc, cipher, row)),
-        "fronts" => Some(fronts(alloc, cipher, row)),
+        "flips" => Some(flips(alloc, cipher, fewest, row)),
+        "fronts" => Some(fronts(alloc, cipher, fewest, row)),
         _ => None,
     }
 }
@@ -110,8 +125,10 @@ fn sweep(alloc: Global, cipher: &dyn Cipher, row: &Row) -> Answer {
 /// Sweeps of a suite.
 pub fn try_sweep(alloc: Global, row: &Row) -> Answer {
     match row.suite {
-        "aes128" => sweep(alloc, &Aes128CtsHmacSha196::new(), row),
-        "des3" => sweep(alloc, &Des3CbcSha1Kd::new(), row),
+        "aes128" => sweep(alloc, &Aes128CtsHmacSha196::new(), 28, row),
+        "des3" => sweep(alloc, &Des3CbcSha1Kd::new(), 28, row),
+        "aes128-sha2" => sweep(alloc, &Aes128CtsHmacSha256128::new(), 32, row),
+        "aes256-sha2" => sweep(alloc, &Aes256CtsHmacSha384192::new(), 40, row),
         _ => None,
     }
 }

@@ -1,4 +1,4 @@
-//! Numbers of checksum types (RFC 3961, 8; RFC 3962, 7).
+//! Numbers of checksum types (RFC 3961, 8; RFC 3962, 7; RFC 8009, 7).
 
 /// CRC-32 (RFC 3961, 6.1.3).
 pub const CRC32: usize = 1;
@@ -38,3 +38,9 @@ pub const HMAC_SHA1_96_AES128: usize = 15;
 
 /// HMAC-SHA1 cut to 96 bits, under a key derived for AES of 256-bit keys (RFC 3962).
 pub const HMAC_SHA1_96_AES256: usize = 16;
+
+/// HMAC-SHA256 cut to 128 bits, under a key derived for AES of 128-bit keys (RFC 8009).
+pub const HMAC_SHA256_128_AES128: usize = 19;
+
+/// HMAC-SHA384 cut to 192 bits, under a key derived for AES of 256-bit keys (RFC 8009).
+pub const HMAC_SHA384_192_AES256: usize = 20;

@@ -69,16 +69,17 @@ pub fn gss_octets()
     ensures wrap_filler { WRAP_FILLER ≡ 255 }
 {}
 
-/// The numbers of encryption types (RFC 3961, 8; RFC 3962, 7; RFC 4757, 5).
+/// The numbers of encryption types (RFC 3961, 8; RFC 3962, 7; RFC 8009, 7; RFC 4757, 5).
 pub fn encryption_types()
-    ensures all { DES3_CBC_MD5 ∷ DES3_CBC_SHA1 ∷ DES3_CBC_SHA1_KD ∷ AES128_CTS_HMAC_SHA1_96 ∷ AES256_CTS_HMAC_SHA1_96 ∷ RC4_HMA ∷ [] ≡ 5 ∷ 7 ∷ 16 ∷ 17 ∷ 18 ∷ 23 ∷ [] }
+    ensures all { DES3_CBC_MD5 ∷ DES3_CBC_SHA1 ∷ DES3_CBC_SHA1_KD ∷ AES128_CTS_HMAC_SHA1_96 ∷ AES256_CTS_HMAC_SHA1_96 ∷ AES128_CTS_HMAC_SHA256_128 ∷ AES256_CTS_HMAC_SHA384_192 ∷ RC4_HMA ∷ [] ≡ 5 ∷ 7 ∷ 16 ∷ 17 ∷ 18 ∷ 19 ∷ 20 ∷ 23 ∷ [] }
 {}
 
-/// The numbers of checksum types (RFC 3961, 8; RFC 3962, 7).
+/// The numbers of checksum types (RFC 3961, 8; RFC 3962, 7; RFC 8009, 7).
 pub fn checksum_types()
     ensures unkeyed_and_des { CRC32 ∷ RSA_MD4 ∷ RSA_MD4_DES ∷ DES_MAC ∷ DES_MAC_K ∷ RSA_MD4_DES_K ∷ RSA_MD5 ∷ RSA_MD5_DES ∷ RSA_MD5_DES3 ∷ [] ≡ range_with_len 1 9 }
     ensures triple_des { HMAC_SHA1_DES3_KD ∷ HMAC_SHA1_DES3 ∷ [] ≡ range_with_len 12 2 }
     ensures aes { HMAC_SHA1_96_AES128 ∷ HMAC_SHA1_96_AES256 ∷ [] ≡ range_with_len 15 2 }
+    ensures aes_with_sha2 { HMAC_SHA256_128_AES128 ∷ HMAC_SHA384_192_AES256 ∷ [] ≡ range_with_len 19 2 }
 {}
 
 /// The numbers of delegated credentials (MS-CSSP, 2.2.1.2).

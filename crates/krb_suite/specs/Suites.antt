@@ -1,4 +1,4 @@
--- The suites and their numbers (RFC 3961, 8; RFC 3962, 7).
+-- The suites and their numbers (RFC 3961, 8; RFC 3962, 7; RFC 8009, 7).
 use Rattle.std.specs.Prelude.{◌≡◌, ℕ, List, Result, MatchResult}
 use Rattle.krb_mac.specs.declared.error.KerberosCryptoError.{KerberosCryptoError}
 use Rattle.krb_mac.specs.declared.error.KerberosCryptoError.TheVariants as errors
@@ -12,12 +12,16 @@ abbrev pub etype : CipherSuite → ℕ
 etype cipher.Des3CbcSha1Kd = 16
 etype cipher.Aes128CtsHmacSha196 = 17
 etype cipher.Aes256CtsHmacSha196 = 18
+etype cipher.Aes128CtsHmacSha256128 = 19
+etype cipher.Aes256CtsHmacSha384192 = 20
 
 -- the number of the checksum type
 abbrev pub checksum_type : ChecksumSuite → ℕ
 checksum_type checksum.HmacSha1Des3Kd = 12
 checksum_type checksum.HmacSha196Aes128 = 15
 checksum_type checksum.HmacSha196Aes256 = 16
+checksum_type checksum.HmacSha256128Aes128 = 19
+checksum_type checksum.HmacSha384192Aes256 = 20
 
 -- no suite has this identifier
 abbrev pub NoSuite : {S A : Type 0} → (S → A) → A → Type 0

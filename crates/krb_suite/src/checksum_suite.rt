@@ -4,9 +4,12 @@ ghost use Rattle.std.specs.Prelude.{◌≡◌, ◌<◌};
 ghost use Rattle.krb_suite.specs.Suites.{checksum_type, IsNumbered};
 
 use krb_block::{KerberosCryptoError, KerberosCryptoResult};
-use krb_constants::cksum_types::{HMAC_SHA1_96_AES128, HMAC_SHA1_96_AES256, HMAC_SHA1_DES3_KD};
+use krb_constants::cksum_types::{
+    HMAC_SHA1_96_AES128, HMAC_SHA1_96_AES256, HMAC_SHA1_DES3_KD, HMAC_SHA256_128_AES128,
+    HMAC_SHA384_192_AES256,
+};
 
-/// A checksum suite. Its number is that of its checksum type (RFC 3961, 8; RFC 3962, 7).
+/// A checksum suite. Its number is that of its checksum type (RFC 3961, 8; RFC 3962, 7; RFC 8009, 7).
 #[derive(Debug, Drop, Clone, PartialEq, Eq)]
 pub enum ChecksumSuite {
     /// hmac-sha1-96-aes256, 16.
@@ -15,6 +18,10 @@ pub enum ChecksumSuite {
     HmacSha196Aes128,
     /// hmac-sha1-des3-kd, 12.
     HmacSha1Des3Kd,
+    /// hmac-sha256-128-aes128, 19.
+    HmacSha256128Aes128,
+    /// hmac-sha384-192-aes256, 20.
+    HmacSha384192Aes256,
 }
 
 impl ChecksumSuite {
@@ -26,6 +33,8 @@ impl ChecksumSuite {
             ChecksumSuite::HmacSha196Aes256 => HMAC_SHA1_96_AES256,
             ChecksumSuite::HmacSha196Aes128 => HMAC_SHA1_96_AES128,
             ChecksumSuite::HmacSha1Des3Kd => HMAC_SHA1_DES3_KD,
+            ChecksumSuite::HmacSha256128Aes128 => HMAC_SHA256_128_AES128,
+            ChecksumSuite::HmacSha384192Aes256 => HMAC_SHA384_192_AES256,
         }
     }
 }
@@ -41,6 +50,8 @@ impl TryFrom<usize> for ChecksumSuite {
             HMAC_SHA1_96_AES256 => Ok(ChecksumSuite::HmacSha196Aes256),
             HMAC_SHA1_96_AES128 => Ok(ChecksumSuite::HmacSha196Aes128),
             HMAC_SHA1_DES3_KD => Ok(ChecksumSuite::HmacSha1Des3Kd),
+            HMAC_SHA256_128_AES128 => Ok(ChecksumSuite::HmacSha256128Aes128),
+            HMAC_SHA384_192_AES256 => Ok(ChecksumSuite::HmacSha384192Aes256),
             _ => Err(KerberosCryptoError::AlgorithmIdentifier(identifier)),
         }
     }

@@ -145,7 +145,8 @@ pub trait Cipher {
         ensures exact { IfErr result (λ e. IsMemoryOr e (unopened self.now key.now key_usage cipher_data.now e × (e ≢ KerberosCryptoError.IntegrityCheck))) };
 
     /// The integrity checksum of just these octets under the key Ki (RFC 3961, 5.3): no confounder stands before them and
-    /// no fill behind. A suite's `encrypt` puts behind what it encrypts the one of confounder, payload and fill, joined.
+    /// no fill behind. What `encrypt` puts behind the encrypted octets is, in the suites of RFC 3961 and RFC 3962, the one
+    /// of confounder, payload and fill, joined, and in those of RFC 8009 the one of 16 zero octets and the encrypted octets.
     /// The checksum that stands alone in a message is another, made under the key Kc.
     ///
     /// A key of another length is `KeyLength`; nothing else is refused.

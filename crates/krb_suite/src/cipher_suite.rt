@@ -5,10 +5,13 @@ ghost use Rattle.krb_mac.specs.CryptoError.{IsMemoryOr};
 ghost use Rattle.krb_suite.specs.Suites.{etype, IsNumbered, IsIdentifierData, NoSuite};
 
 use krb_block::{KerberosCryptoError, KerberosCryptoResult};
-use krb_constants::etypes::{AES128_CTS_HMAC_SHA1_96, AES256_CTS_HMAC_SHA1_96, DES3_CBC_SHA1_KD};
+use krb_constants::etypes::{
+    AES128_CTS_HMAC_SHA1_96, AES128_CTS_HMAC_SHA256_128, AES256_CTS_HMAC_SHA1_96,
+    AES256_CTS_HMAC_SHA384_192, DES3_CBC_SHA1_KD,
+};
 use std::alloc::Global;
 
-/// An encryption suite. Its number is that of its encryption type (RFC 3961, 8; RFC 3962, 7).
+/// An encryption suite. Its number is that of its encryption type (RFC 3961, 8; RFC 3962, 7; RFC 8009, 7).
 #[derive(Debug, Drop, Clone, PartialEq, Eq)]
 pub enum CipherSuite {
     /// aes128-cts-hmac-sha1-96, 17.
@@ -17,6 +20,10 @@ pub enum CipherSuite {
     Aes256CtsHmacSha196,
     /// des3-cbc-hmac-sha1-kd, 16.
     Des3CbcSha1Kd,
+    /// aes128-cts-hmac-sha256-128, 19.
+    Aes128CtsHmacSha256128,
+    /// aes256-cts-hmac-sha384-192, 20.
+    Aes256CtsHmacSha384192,
 }
 
 impl CipherSuite {
@@ -41,6 +48,8 @@ impl CipherSuite {
             CipherSuite::Aes128CtsHmacSha196 => AES128_CTS_HMAC_SHA1_96,
             CipherSuite::Aes256CtsHmacSha196 => AES256_CTS_HMAC_SHA1_96,
             CipherSuite::Des3CbcSha1Kd => DES3_CBC_SHA1_KD,
+            CipherSuite::Aes128CtsHmacSha256128 => AES128_CTS_HMAC_SHA256_128,
+            CipherSuite::Aes256CtsHmacSha384192 => AES256_CTS_HMAC_SHA384_192,
         }
     }
 }
@@ -56,6 +65,8 @@ impl TryFrom<usize> for CipherSuite {
             AES128_CTS_HMAC_SHA1_96 => Ok(CipherSuite::Aes128CtsHmacSha196),
             AES256_CTS_HMAC_SHA1_96 => Ok(CipherSuite::Aes256CtsHmacSha196),
             DES3_CBC_SHA1_KD => Ok(CipherSuite::Des3CbcSha1Kd),
+            AES128_CTS_HMAC_SHA256_128 => Ok(CipherSuite::Aes128CtsHmacSha256128),
+            AES256_CTS_HMAC_SHA384_192 => Ok(CipherSuite::Aes256CtsHmacSha384192),
             _ => Err(KerberosCryptoError::AlgorithmIdentifier(identifier)),
         }
     }

@@ -1,9 +1,9 @@
-//! A confounder as the message calls take it.
+//! A confounder as the message calls take it: for the suites here, and for those in the crates above.
 
 ghost use Rattle.std.specs.Prelude.{◌≡◌, length};
 
-/// The octets as a confounder of the suite's length.
-pub(crate) fn confounder_of<const SIZE: usize>(octets: &[u8]) -> [u8; SIZE]
+/// The octets, copied, as a confounder of the suite's length, which they have.
+pub fn confounder_of<const SIZE: usize>(octets: &[u8]) -> [u8; SIZE]
     requires { length octets.now ≡ SIZE }
     ensures { result ≡ octets.now }
 {

@@ -1,14 +1,12 @@
-//! The suites of Kerberos (RFC 3961): what a cipher and a checksum are, whoever implements them, and the suites by their
-//! numbers.
+//! The suites of Kerberos (RFC 3961, RFC 3962, RFC 8009): what a cipher and a checksum are, whoever implements them, and the
+//! suites by their numbers. A suite that is a type of its own stands in a crate above.
 #![tactic(auto)]
 
-pub mod aes;
 mod checksum;
 mod checksum_suite;
 mod cipher;
 mod cipher_suite;
-mod confounder;
-pub mod des;
+pub mod confounder;
 pub mod laws;
 mod suite_checksums;
 mod suite_ciphers;

@@ -1,10 +1,9 @@
-//! The checksum suites as checksums: each is the one that it names.
+//! The checksum suites as checksums: each is the one that its number names.
 
-use crate::aes::{HmacSha196Aes128, HmacSha196Aes256};
 use crate::checksum::Checksum;
 use crate::checksum_suite::ChecksumSuite;
-use crate::des::HmacSha1Des3Kd;
-use krb_block::KerberosCryptoResult;
+use krb_block::{AesSize, KerberosCryptoResult};
+use krb_scheme::{aes, aes_sha2, des};
 use std::alloc::Global;
 
 impl Checksum for ChecksumSuite {
@@ -18,9 +17,11 @@ impl Checksum for ChecksumSuite {
 
     fn checksum_type(&self) -> ChecksumSuite {
         match self {
-            ChecksumSuite::HmacSha196Aes256 => HmacSha196Aes256.checksum_type(),
-            ChecksumSuite::HmacSha196Aes128 => HmacSha196Aes128.checksum_type(),
-            ChecksumSuite::HmacSha1Des3Kd => HmacSha1Des3Kd.checksum_type(),
+            ChecksumSuite::HmacSha196Aes256 => ChecksumSuite::HmacSha196Aes256,
+            ChecksumSuite::HmacSha196Aes128 => ChecksumSuite::HmacSha196Aes128,
+            ChecksumSuite::HmacSha1Des3Kd => ChecksumSuite::HmacSha1Des3Kd,
+            ChecksumSuite::HmacSha256128Aes128 => ChecksumSuite::HmacSha256128Aes128,
+            ChecksumSuite::HmacSha384192Aes256 => ChecksumSuite::HmacSha384192Aes256,
         }
     }
 
@@ -33,13 +34,17 @@ impl Checksum for ChecksumSuite {
     ) -> KerberosCryptoResult<Vec<u8>> {
         match self {
             ChecksumSuite::HmacSha196Aes256 => {
-                HmacSha196Aes256.checksum(alloc, key, key_usage, payload)
+                aes::checksum_sha_aes(alloc, key, key_usage, payload, &AesSize::Aes256)
             }
             ChecksumSuite::HmacSha196Aes128 => {
-                HmacSha196Aes128.checksum(alloc, key, key_usage, payload)
+                aes::checksum_sha_aes(alloc, key, key_usage, payload, &AesSize::Aes128)
             }
-            ChecksumSuite::HmacSha1Des3Kd => {
-                HmacSha1Des3Kd.checksum(alloc, key, key_usage, payload)
+            ChecksumSuite::HmacSha1Des3Kd => des::keyed_checksum(alloc, key, key_usage, payload),
+            ChecksumSuite::HmacSha256128Aes128 => {
+                aes_sha2::keyed_checksum(alloc, key, key_usage, payload, &AesSize::Aes128)
+            }
+            ChecksumSuite::HmacSha384192Aes256 => {
+                aes_sha2::keyed_checksum(alloc, key, key_usage, payload, &AesSize::Aes256)
             }
         }
     }

@@ -1,15 +1,20 @@
-//! The suites as ciphers: each is the cipher that it names.
+//! The suites as ciphers: each is the cipher that its number names.
 
 ghost use Rattle.std.specs.Prelude.{◌≡◌};
 
-use crate::aes::{Aes128CtsHmacSha196, Aes256CtsHmacSha196};
 use crate::checksum_suite::ChecksumSuite;
 use crate::cipher::Cipher;
 use crate::cipher_suite::CipherSuite;
-use crate::des::Des3CbcSha1Kd;
-use krb_block::KerberosCryptoResult;
-use krb_scheme::{DecryptWithoutChecksum, EncryptWithoutChecksum};
+use crate::confounder::confounder_of;
+use krb_block::{
+    AES_BLOCK_SIZE, AES128_KEY_SIZE, AES256_KEY_SIZE, AesSize, DES3_BLOCK_SIZE, DES3_KEY_SIZE,
+    DES3_SEED_LEN, KerberosCryptoResult,
+};
+use krb_scheme::{DecryptWithoutChecksum, EncryptWithoutChecksum, aes, aes_sha2, des};
 use std::alloc::Global;
+
+/// The octets to a multiple of which a payload is filled under AES: ciphertext stealing fills none.
+const AES_FILL_SIZE: usize = 1;
 
 impl Cipher for CipherSuite {
     ghost use Rattle.krb_suite.specs.BySuite.{IsSealed, key_octets_of, confounder_octets_of, fill_octets_of, checksum_octets_of, integrity_key_of, integrity_checksum_of, seed_bits_of, key_of_seed_of, IsPasswordKey, refusal_of, IsNoPassword, checksum_suite_of};
@@ -44,49 +49,61 @@ impl Cipher for CipherSuite {
 
     fn key_size(&self) -> usize {
         match self {
-            CipherSuite::Aes128CtsHmacSha196 => Aes128CtsHmacSha196::new().key_size(),
-            CipherSuite::Aes256CtsHmacSha196 => Aes256CtsHmacSha196::new().key_size(),
-            CipherSuite::Des3CbcSha1Kd => Des3CbcSha1Kd::new().key_size(),
+            CipherSuite::Aes128CtsHmacSha196 => AES128_KEY_SIZE,
+            CipherSuite::Aes256CtsHmacSha196 => AES256_KEY_SIZE,
+            CipherSuite::Des3CbcSha1Kd => DES3_KEY_SIZE,
+            CipherSuite::Aes128CtsHmacSha256128 => AES128_KEY_SIZE,
+            CipherSuite::Aes256CtsHmacSha384192 => AES256_KEY_SIZE,
         }
     }
 
     fn seed_bit_len(&self) -> usize {
         match self {
-            CipherSuite::Aes128CtsHmacSha196 => Aes128CtsHmacSha196::new().seed_bit_len(),
-            CipherSuite::Aes256CtsHmacSha196 => Aes256CtsHmacSha196::new().seed_bit_len(),
-            CipherSuite::Des3CbcSha1Kd => Des3CbcSha1Kd::new().seed_bit_len(),
+            CipherSuite::Aes128CtsHmacSha196 => 8 * AES128_KEY_SIZE,
+            CipherSuite::Aes256CtsHmacSha196 => 8 * AES256_KEY_SIZE,
+            CipherSuite::Des3CbcSha1Kd => 8 * DES3_SEED_LEN,
+            CipherSuite::Aes128CtsHmacSha256128 => 8 * AES128_KEY_SIZE,
+            CipherSuite::Aes256CtsHmacSha384192 => 8 * AES256_KEY_SIZE,
         }
     }
 
     fn confounder_size(&self) -> usize {
         match self {
-            CipherSuite::Aes128CtsHmacSha196 => Aes128CtsHmacSha196::new().confounder_size(),
-            CipherSuite::Aes256CtsHmacSha196 => Aes256CtsHmacSha196::new().confounder_size(),
-            CipherSuite::Des3CbcSha1Kd => Des3CbcSha1Kd::new().confounder_size(),
+            CipherSuite::Aes128CtsHmacSha196 => AES_BLOCK_SIZE,
+            CipherSuite::Aes256CtsHmacSha196 => AES_BLOCK_SIZE,
+            CipherSuite::Des3CbcSha1Kd => DES3_BLOCK_SIZE,
+            CipherSuite::Aes128CtsHmacSha256128 => AES_BLOCK_SIZE,
+            CipherSuite::Aes256CtsHmacSha384192 => AES_BLOCK_SIZE,
         }
     }
 
     fn fill_size(&self) -> usize {
         match self {
-            CipherSuite::Aes128CtsHmacSha196 => Aes128CtsHmacSha196::new().fill_size(),
-            CipherSuite::Aes256CtsHmacSha196 => Aes256CtsHmacSha196::new().fill_size(),
-            CipherSuite::Des3CbcSha1Kd => Des3CbcSha1Kd::new().fill_size(),
+            CipherSuite::Aes128CtsHmacSha196 => AES_FILL_SIZE,
+            CipherSuite::Aes256CtsHmacSha196 => AES_FILL_SIZE,
+            CipherSuite::Des3CbcSha1Kd => DES3_BLOCK_SIZE,
+            CipherSuite::Aes128CtsHmacSha256128 => AES_FILL_SIZE,
+            CipherSuite::Aes256CtsHmacSha384192 => AES_FILL_SIZE,
         }
     }
 
     fn cipher_type(&self) -> CipherSuite {
         match self {
-            CipherSuite::Aes128CtsHmacSha196 => Aes128CtsHmacSha196::new().cipher_type(),
-            CipherSuite::Aes256CtsHmacSha196 => Aes256CtsHmacSha196::new().cipher_type(),
-            CipherSuite::Des3CbcSha1Kd => Des3CbcSha1Kd::new().cipher_type(),
+            CipherSuite::Aes128CtsHmacSha196 => CipherSuite::Aes128CtsHmacSha196,
+            CipherSuite::Aes256CtsHmacSha196 => CipherSuite::Aes256CtsHmacSha196,
+            CipherSuite::Des3CbcSha1Kd => CipherSuite::Des3CbcSha1Kd,
+            CipherSuite::Aes128CtsHmacSha256128 => CipherSuite::Aes128CtsHmacSha256128,
+            CipherSuite::Aes256CtsHmacSha384192 => CipherSuite::Aes256CtsHmacSha384192,
         }
     }
 
     fn checksum_type(&self) -> ChecksumSuite {
         match self {
-            CipherSuite::Aes128CtsHmacSha196 => Aes128CtsHmacSha196::new().checksum_type(),
-            CipherSuite::Aes256CtsHmacSha196 => Aes256CtsHmacSha196::new().checksum_type(),
-            CipherSuite::Des3CbcSha1Kd => Des3CbcSha1Kd::new().checksum_type(),
+            CipherSuite::Aes128CtsHmacSha196 => ChecksumSuite::HmacSha196Aes128,
+            CipherSuite::Aes256CtsHmacSha196 => ChecksumSuite::HmacSha196Aes256,
+            CipherSuite::Des3CbcSha1Kd => ChecksumSuite::HmacSha1Des3Kd,
+            CipherSuite::Aes128CtsHmacSha256128 => ChecksumSuite::HmacSha256128Aes128,
+            CipherSuite::Aes256CtsHmacSha384192 => ChecksumSuite::HmacSha384192Aes256,
         }
     }
 
@@ -100,13 +117,24 @@ impl Cipher for CipherSuite {
     ) -> KerberosCryptoResult<Vec<u8>> {
         match self {
             CipherSuite::Aes128CtsHmacSha196 => {
-                Aes128CtsHmacSha196::new().encrypt(alloc, key, key_usage, payload, confounder)
+                let block = confounder_of(confounder);
+                aes::encrypt_message(alloc, key, key_usage, payload, &AesSize::Aes128, block)
             }
             CipherSuite::Aes256CtsHmacSha196 => {
-                Aes256CtsHmacSha196::new().encrypt(alloc, key, key_usage, payload, confounder)
+                let block = confounder_of(confounder);
+                aes::encrypt_message(alloc, key, key_usage, payload, &AesSize::Aes256, block)
             }
             CipherSuite::Des3CbcSha1Kd => {
-                Des3CbcSha1Kd::new().encrypt(alloc, key, key_usage, payload, confounder)
+                let block = confounder_of(confounder);
+                des::encrypt_message(alloc, key, key_usage, payload, block)
+            }
+            CipherSuite::Aes128CtsHmacSha256128 => {
+                let block = confounder_of(confounder);
+                aes_sha2::encrypt_message(alloc, key, key_usage, payload, &AesSize::Aes128, block)
+            }
+            CipherSuite::Aes256CtsHmacSha384192 => {
+                let block = confounder_of(confounder);
+                aes_sha2::encrypt_message(alloc, key, key_usage, payload, &AesSize::Aes256, block)
             }
         }
     }
@@ -120,13 +148,17 @@ impl Cipher for CipherSuite {
     ) -> KerberosCryptoResult<Vec<u8>> {
         match self {
             CipherSuite::Aes128CtsHmacSha196 => {
-                Aes128CtsHmacSha196::new().decrypt(alloc, key, key_usage, cipher_data)
+                aes::decrypt_message(alloc, key, key_usage, cipher_data, &AesSize::Aes128)
             }
             CipherSuite::Aes256CtsHmacSha196 => {
-                Aes256CtsHmacSha196::new().decrypt(alloc, key, key_usage, cipher_data)
+                aes::decrypt_message(alloc, key, key_usage, cipher_data, &AesSize::Aes256)
             }
-            CipherSuite::Des3CbcSha1Kd => {
-                Des3CbcSha1Kd::new().decrypt(alloc, key, key_usage, cipher_data)
+            CipherSuite::Des3CbcSha1Kd => des::decrypt_message(alloc, key, key_usage, cipher_data),
+            CipherSuite::Aes128CtsHmacSha256128 => {
+                aes_sha2::decrypt_message(alloc, key, key_usage, cipher_data, &AesSize::Aes128)
+            }
+            CipherSuite::Aes256CtsHmacSha384192 => {
+                aes_sha2::decrypt_message(alloc, key, key_usage, cipher_data, &AesSize::Aes256)
             }
         }
     }
@@ -141,17 +173,28 @@ impl Cipher for CipherSuite {
     ) -> KerberosCryptoResult<EncryptWithoutChecksum> {
         match self {
             CipherSuite::Aes128CtsHmacSha196 => {
-                Aes128CtsHmacSha196::new().encrypt_no_checksum(
-                    alloc, key, key_usage, payload, confounder,
-                )
+                let block = confounder_of(confounder);
+                let size = &AesSize::Aes128;
+                aes::encrypt_message_no_checksum(alloc, key, key_usage, payload, size, block)
             }
             CipherSuite::Aes256CtsHmacSha196 => {
-                Aes256CtsHmacSha196::new().encrypt_no_checksum(
-                    alloc, key, key_usage, payload, confounder,
-                )
+                let block = confounder_of(confounder);
+                let size = &AesSize::Aes256;
+                aes::encrypt_message_no_checksum(alloc, key, key_usage, payload, size, block)
             }
             CipherSuite::Des3CbcSha1Kd => {
-                Des3CbcSha1Kd::new().encrypt_no_checksum(alloc, key, key_usage, payload, confounder)
+                let block = confounder_of(confounder);
+                des::encrypt_message_no_checksum(alloc, key, key_usage, payload, block)
+            }
+            CipherSuite::Aes128CtsHmacSha256128 => {
+                let block = confounder_of(confounder);
+                let size = &AesSize::Aes128;
+                aes_sha2::encrypt_message_no_checksum(alloc, key, key_usage, payload, size, block)
+            }
+            CipherSuite::Aes256CtsHmacSha384192 => {
+                let block = confounder_of(confounder);
+                let size = &AesSize::Aes256;
+                aes_sha2::encrypt_message_no_checksum(alloc, key, key_usage, payload, size, block)
             }
         }
     }
@@ -165,13 +208,23 @@ impl Cipher for CipherSuite {
     ) -> KerberosCryptoResult<DecryptWithoutChecksum> {
         match self {
             CipherSuite::Aes128CtsHmacSha196 => {
-                Aes128CtsHmacSha196::new().decrypt_no_checksum(alloc, key, key_usage, cipher_data)
+                let size = &AesSize::Aes128;
+                aes::decrypt_message_no_checksum(alloc, key, key_usage, cipher_data, size)
             }
             CipherSuite::Aes256CtsHmacSha196 => {
-                Aes256CtsHmacSha196::new().decrypt_no_checksum(alloc, key, key_usage, cipher_data)
+                let size = &AesSize::Aes256;
+                aes::decrypt_message_no_checksum(alloc, key, key_usage, cipher_data, size)
             }
             CipherSuite::Des3CbcSha1Kd => {
-                Des3CbcSha1Kd::new().decrypt_no_checksum(alloc, key, key_usage, cipher_data)
+                des::decrypt_message_no_checksum(alloc, key, key_usage, cipher_data)
+            }
+            CipherSuite::Aes128CtsHmacSha256128 => {
+                let size = &AesSize::Aes128;
+                aes_sha2::decrypt_message_no_checksum(alloc, key, key_usage, cipher_data, size)
+            }
+            CipherSuite::Aes256CtsHmacSha384192 => {
+                let size = &AesSize::Aes256;
+                aes_sha2::decrypt_message_no_checksum(alloc, key, key_usage, cipher_data, size)
             }
         }
     }
@@ -185,13 +238,17 @@ impl Cipher for CipherSuite {
     ) -> KerberosCryptoResult<Vec<u8>> {
         match self {
             CipherSuite::Aes128CtsHmacSha196 => {
-                Aes128CtsHmacSha196::new().encryption_checksum(alloc, key, key_usage, payload)
+                aes::integrity_checksum(alloc, key, key_usage, payload, &AesSize::Aes128)
             }
             CipherSuite::Aes256CtsHmacSha196 => {
-                Aes256CtsHmacSha196::new().encryption_checksum(alloc, key, key_usage, payload)
+                aes::integrity_checksum(alloc, key, key_usage, payload, &AesSize::Aes256)
             }
-            CipherSuite::Des3CbcSha1Kd => {
-                Des3CbcSha1Kd::new().encryption_checksum(alloc, key, key_usage, payload)
+            CipherSuite::Des3CbcSha1Kd => des::integrity_checksum(alloc, key, key_usage, payload),
+            CipherSuite::Aes128CtsHmacSha256128 => {
+                aes_sha2::integrity_checksum(alloc, key, key_usage, payload, &AesSize::Aes128)
+            }
+            CipherSuite::Aes256CtsHmacSha384192 => {
+                aes_sha2::integrity_checksum(alloc, key, key_usage, payload, &AesSize::Aes256)
             }
         }
     }
@@ -204,26 +261,28 @@ impl Cipher for CipherSuite {
     ) -> KerberosCryptoResult<Vec<u8>> {
         match self {
             CipherSuite::Aes128CtsHmacSha196 => {
-                Aes128CtsHmacSha196::new().generate_key_from_password(alloc, password, salt)
+                aes::derive_key_from_password(alloc, password, salt, &AesSize::Aes128)
             }
             CipherSuite::Aes256CtsHmacSha196 => {
-                Aes256CtsHmacSha196::new().generate_key_from_password(alloc, password, salt)
+                aes::derive_key_from_password(alloc, password, salt, &AesSize::Aes256)
             }
-            CipherSuite::Des3CbcSha1Kd => {
-                Des3CbcSha1Kd::new().generate_key_from_password(alloc, password, salt)
+            CipherSuite::Des3CbcSha1Kd => des::derive_key_from_password(alloc, password, salt),
+            CipherSuite::Aes128CtsHmacSha256128 => {
+                aes_sha2::derive_key_from_password(alloc, password, salt, &AesSize::Aes128)
+            }
+            CipherSuite::Aes256CtsHmacSha384192 => {
+                aes_sha2::derive_key_from_password(alloc, password, salt, &AesSize::Aes256)
             }
         }
     }
 
     fn random_to_key(&self, alloc: Global, key: Vec<u8>) -> KerberosCryptoResult<Vec<u8>> {
         match self {
-            CipherSuite::Aes128CtsHmacSha196 => {
-                Aes128CtsHmacSha196::new().random_to_key(alloc, key)
-            }
-            CipherSuite::Aes256CtsHmacSha196 => {
-                Aes256CtsHmacSha196::new().random_to_key(alloc, key)
-            }
-            CipherSuite::Des3CbcSha1Kd => Des3CbcSha1Kd::new().random_to_key(alloc, key),
+            CipherSuite::Aes128CtsHmacSha196 => Ok(aes::random_to_key(key)),
+            CipherSuite::Aes256CtsHmacSha196 => Ok(aes::random_to_key(key)),
+            CipherSuite::Des3CbcSha1Kd => des::random_to_key(alloc, &key),
+            CipherSuite::Aes128CtsHmacSha256128 => Ok(aes_sha2::random_to_key(key)),
+            CipherSuite::Aes256CtsHmacSha384192 => Ok(aes_sha2::random_to_key(key)),
         }
     }
 }

@@ -1,10 +1,10 @@
 -- Words and the commands that they are.
-use Rattle.std.proofs.Common.{◌≡◌, ◌≢◌, ℕ, ℤ, List, [], ◌∷◌, codes, map, length, get_or, Result, Ok, Err, refl, sym, ap, ◌∙◌, inl, inr, arith}
+use Rattle.std.proofs.Common.{◌≡◌, ◌≢◌, ℕ, ℤ, List, [], ◌∷◌, codes, map, length, get_or, slice_index_or, ◌-◌, Result, Ok, Err, refl, sym, ap, ◌∙◌, inl, inr, arith}
 use Rattle.hex.specs.Hex.{decode_of}
 use Rattle.hex.specs.declared.error.FromHexError.{FromHexError}
 use Rattle.krb_suite.specs.Suites as suites
 use Rattle.krb_suite.specs.declared.cipher_suite.CipherSuite.{CipherSuite}
-use Rattle.krb_suite.specs.declared.cipher_suite.CipherSuite.TheVariants.{Aes128CtsHmacSha196, Aes256CtsHmacSha196, Des3CbcSha1Kd}
+use Rattle.krb_suite.specs.declared.cipher_suite.CipherSuite.TheVariants.{Aes128CtsHmacSha196, Aes256CtsHmacSha196, Des3CbcSha1Kd, Aes128CtsHmacSha256128, Aes256CtsHmacSha384192}
 use Rattle.krbtool.specs.declared.failure.Failure.{Failure}
 use Rattle.krbtool.specs.declared.command.Command.{Command}
 use Rattle.krbtool.specs.declared.command.Command.TheVariants.{Check, Seal, Open}
@@ -13,16 +13,20 @@ use Rattle.krbtool.specs.Words.{IsEtype, IsUsage, AreWords, IsCommand, NameUnkno
 
 -- each word says one thing alone
 
+-- the suite of a number
+named : ℕ → CipherSuite
+named n = slice_index_or (Des3CbcSha1Kd ∷ Aes128CtsHmacSha196 ∷ Aes256CtsHmacSha196 ∷ Aes128CtsHmacSha256128 ∷ Aes256CtsHmacSha384192 ∷ []) (n - 16) Des3CbcSha1Kd
+
+named_etype : (s : CipherSuite) → named (suites.etype s) ≡ s
+unfolding named
+named_etype Aes128CtsHmacSha196 = refl
+named_etype Aes256CtsHmacSha196 = refl
+named_etype Des3CbcSha1Kd = refl
+named_etype Aes128CtsHmacSha256128 = refl
+named_etype Aes256CtsHmacSha384192 = refl
+
 etype_same : (word : List ℕ) (s t : CipherSuite) → IsEtype word s → IsEtype word t → s ≡ t
-etype_same word Aes128CtsHmacSha196 Aes128CtsHmacSha196 one other = refl
-etype_same word Aes128CtsHmacSha196 Aes256CtsHmacSha196 one other = absurd (omega (arith, one.value, other.value))
-etype_same word Aes128CtsHmacSha196 Des3CbcSha1Kd one other = absurd (omega (arith, one.value, other.value))
-etype_same word Aes256CtsHmacSha196 Aes128CtsHmacSha196 one other = absurd (omega (arith, one.value, other.value))
-etype_same word Aes256CtsHmacSha196 Aes256CtsHmacSha196 one other = refl
-etype_same word Aes256CtsHmacSha196 Des3CbcSha1Kd one other = absurd (omega (arith, one.value, other.value))
-etype_same word Des3CbcSha1Kd Aes128CtsHmacSha196 one other = absurd (omega (arith, one.value, other.value))
-etype_same word Des3CbcSha1Kd Aes256CtsHmacSha196 one other = absurd (omega (arith, one.value, other.value))
-etype_same word Des3CbcSha1Kd Des3CbcSha1Kd one other = refl
+etype_same word s t one other = sym (named_etype s) ∙ ap named (sym one.value ∙ other.value) ∙ named_etype t
 
 octets_or_none : Result (List ℕ) FromHexError → List ℕ
 octets_or_none (Ok octets) = octets

@@ -11,8 +11,9 @@ use crate::failure::Failure;
 use krb_der::{Der, DerEncode, from_bytes, to_vec};
 use krb_parts::data_types::EncTicketPart;
 use krb_seal::{open_part, seal_part};
-use krb_suite::aes::{Aes128CtsHmacSha196, Aes256CtsHmacSha196};
-use krb_suite::des::Des3CbcSha1Kd;
+use krb_sha1_suites::aes::{Aes128CtsHmacSha196, Aes256CtsHmacSha196};
+use krb_sha1_suites::des::Des3CbcSha1Kd;
+use krb_sha2_suites::aes_sha2::{Aes128CtsHmacSha256128, Aes256CtsHmacSha384192};
 use krb_suite::{Cipher, CipherSuite};
 use std::alloc::Global;
 
@@ -85,6 +86,24 @@ fn sealed_under(
         CipherSuite::Des3CbcSha1Kd => {
             sealed::<EncTicketPart>(alloc, &Des3CbcSha1Kd::new(), key, confounder, input)
         }
+        CipherSuite::Aes128CtsHmacSha256128 => {
+            sealed::<EncTicketPart>(
+                alloc,
+                &Aes128CtsHmacSha256128::new(),
+                key,
+                confounder,
+                input,
+            )
+        }
+        CipherSuite::Aes256CtsHmacSha384192 => {
+            sealed::<EncTicketPart>(
+                alloc,
+                &Aes256CtsHmacSha384192::new(),
+                key,
+                confounder,
+                input,
+            )
+        }
     }
 }
 
@@ -104,6 +123,12 @@ fn opened_under(alloc: Global, key: &SealingKey, input: &[u8]) -> Result<Vec<u8>
         }
         CipherSuite::Des3CbcSha1Kd => {
             opened::<EncTicketPart>(alloc, &Des3CbcSha1Kd::new(), key, input)
+        }
+        CipherSuite::Aes128CtsHmacSha256128 => {
+            opened::<EncTicketPart>(alloc, &Aes128CtsHmacSha256128::new(), key, input)
+        }
+        CipherSuite::Aes256CtsHmacSha384192 => {
+            opened::<EncTicketPart>(alloc, &Aes256CtsHmacSha384192::new(), key, input)
         }
     }
 }

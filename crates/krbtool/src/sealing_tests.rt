@@ -173,23 +173,36 @@ fn refuses_real_parts_with_one_bit_flipped(rt: HostRuntime) -> Result<(), Fail> 
 #[test]
 fn seals_a_part_and_opens_it(rt: HostRuntime) -> Result<(), Fail> {
     let alloc = rt.alloc();
-    for (sealing, opening) in [
+    for (sealing, opening, count) in [
         (
             "seal 17 c7c41666445d3a66931377391e8a3fe6 2 a1349d21eee8b95da7825bb4a7a5e04e",
             "open 017 C7C41666445D3A66931377391E8A3FE6 02",
+            156,
         ),
         (
             "seal 18 1697ea5d1d40b06de88c5f36a86b14fb9b4746943291319db68beb130bc70387 -2147483648 a1349d21eee8b95da7825bb4a7a5e04e",
             "open 18 1697ea5d1d40b06de88c5f36a86b14fb9b4746943291319db68beb130bc70387 -2147483648",
+            156,
         ),
         (
             "seal 16 73f81520e62a9d8a9efe9d910d6e406badcef75d3792a78a 5 a1349d21eee8b95d",
             "open 16 73f81520e62a9d8a9efe9d910d6e406badcef75d3792a78a 5",
+            156,
+        ),
+        (
+            "seal 19 3705d96080c17728a0e800eab6e0d23c 2 7e5895eaf2672435bad817f545a37148",
+            "open 19 3705d96080c17728a0e800eab6e0d23c 2",
+            160,
+        ),
+        (
+            "seal 20 6d404d37faf79f9df0d33568d320669800eb4836472ea8a026d16b7182460c52 2 f764e9fa15c276478b2c7d0c4e5f58e4",
+            "open 20 6d404d37faf79f9df0d33568d320669800eb4836472ea8a026d16b7182460c52 2",
+            168,
         ),
     ] {
         let sealed = run_line(alloc, sealing, &PART)?;
         assert_eq!(rt; sealed.status, 0, "at {sealing}");
-        assert_eq!(rt; sealed.output.len(), 156, "at {sealing}");
+        assert_eq!(rt; sealed.output.len(), count, "at {sealing}");
         let opened = run_line(alloc, opening, &sealed.output)?;
         assert_eq!(rt; opened.status, 0, "at {opening}");
         assert_eq!(rt; opened.output.as_slice(), PART.as_slice(), "at {opening}");
@@ -237,6 +250,8 @@ fn refuses_words_of_no_command(rt: HostRuntime) -> Result<(), Fail> {
         "seal 16 00 5 00112233445566",
         "seal 16 00 5 001122334455667788",
         "seal 16 00 5 00112233445566778899aabbccddeeff",
+        "seal 19 00 5 0011223344556677",
+        "seal 20 00 5 00112233445566778899aabbccddeeff00",
     ] {
         let ran = run_line(alloc, line, &PART)?;
         assert_eq!(rt; ran.status, 2, "at {line:?}");
@@ -254,7 +269,7 @@ fn refuses_unknown_encryption_types(rt: HostRuntime) -> Result<(), Fail> {
         "open 3 00 2",
         "open 0 00 2",
         "open 15 00 2",
-        "open 19 00 2",
+        "open 21 00 2",
         "open 18446744073709551615 00 2",
         "open 3 x y",
         "seal 3 00 2 00112233445566778899aabbccddeeff",
@@ -277,7 +292,7 @@ fn refuses_unknown_encryption_types(rt: HostRuntime) -> Result<(), Fail> {
 #[test]
 fn tells_why_a_part_is_not_sealed_or_opened(rt: HostRuntime) -> Result<(), Fail> {
     let alloc = rt.alloc();
-    let zeros = [0u8; 28];
+    let zeros = [0u8; 40];
     let seal = "seal 17 00 5 00112233445566778899aabbccddeeff";
     let open = "open 17 c7c41666445d3a66931377391e8a3fe6 5";
     // "aes256_cts_" sealed under that key, usage 5 and a1349d21eee8b95da7825bb4a7a5e04e
@@ -294,12 +309,24 @@ fn tells_why_a_part_is_not_sealed_or_opened(rt: HostRuntime) -> Result<(), Fail>
             &zeros[..27],
             "krbtool: crypto CipherLength\n",
         ),
+        ("open 18 00 5", &zeros[..28], "krbtool: crypto KeyLength\n"),
+        (open, &zeros[..28], "krbtool: crypto IntegrityCheck\n"),
         (
-            "open 18 00 5",
+            "open 19 00 5",
+            &zeros[..31],
+            "krbtool: crypto CipherLength\n",
+        ),
+        ("open 19 00 5", &zeros[..32], "krbtool: crypto KeyLength\n"),
+        (
+            "open 20 00 5",
+            &zeros[..39],
+            "krbtool: crypto CipherLength\n",
+        ),
+        (
+            "open 20 00 5",
             zeros.as_slice(),
             "krbtool: crypto KeyLength\n",
         ),
-        (open, zeros.as_slice(), "krbtool: crypto IntegrityCheck\n"),
         (open, text.as_slice(), "krbtool: der InvalidData\n"),
     ] {
         let ran = run_line(alloc, line, input)?;

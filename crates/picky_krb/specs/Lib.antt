@@ -32,6 +32,7 @@ pub use Rattle.krb_password.specs.Frame
 pub use Rattle.krb_mac.specs.CryptoError
 pub use Rattle.krb_mac.specs.Hmac
 pub use Rattle.krb_mac.specs.Pbkdf2
+pub use Rattle.krb_mac.specs.Kdf
 pub use Rattle.krb_block.specs.Fold
 pub use Rattle.krb_block.specs.Size
 pub use Rattle.krb_block.specs.Aes
@@ -42,6 +43,7 @@ pub use Rattle.krb_scheme.specs.Derive
 pub use Rattle.krb_scheme.specs.RandomToKey
 pub use Rattle.krb_scheme.specs.Sealing
 pub use Rattle.krb_scheme.specs.Sealed
+pub use Rattle.krb_scheme.specs.AesSha2
 pub use Rattle.krb_suite.specs.Suites
 pub use Rattle.krb_suite.specs.BySuite
 pub use Rattle.krb_suite.specs.Standards

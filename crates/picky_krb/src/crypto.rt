@@ -1,8 +1,15 @@
-//! Cryptography of Kerberos (RFC 3961, RFC 3962).
+//! Cryptography of Kerberos (RFC 3961, RFC 3962, RFC 8009).
 
-pub use krb_block::{hmac_sha1, n_fold, pbkdf2_hmac_sha1};
+pub mod aes;
+
+pub use krb_block::n_fold;
+pub use krb_mac::{
+    hmac_sha1, hmac_sha256, hmac_sha384, kdf_hmac_sha256, kdf_hmac_sha384, pbkdf2_hmac_sha1,
+    pbkdf2_hmac_sha256, pbkdf2_hmac_sha384,
+};
 pub use krb_secret::{diffie_hellman, encrypt_with_rng};
+pub use krb_sha1_suites::des;
 pub use krb_suite::{
     Checksum, ChecksumSuite, Cipher, CipherSuite, DecryptWithoutChecksum, EncryptWithoutChecksum,
-    KERBEROS, KerberosCryptoError, KerberosCryptoResult, aes, des, usage_kc, usage_ke, usage_ki,
+    KERBEROS, KerberosCryptoError, KerberosCryptoResult, usage_kc, usage_ke, usage_ki,
 };

@@ -87,6 +87,8 @@ fn equal_suites(rt: HostRuntime) {
         CipherSuite::Aes128CtsHmacSha196,
         CipherSuite::Aes256CtsHmacSha196,
         CipherSuite::Des3CbcSha1Kd,
+        CipherSuite::Aes128CtsHmacSha256128,
+        CipherSuite::Aes256CtsHmacSha384192,
     ];
     for (m, first) in ciphers.iter().enumerate() {
         for (n, second) in ciphers.iter().enumerate() {
@@ -98,6 +100,8 @@ fn equal_suites(rt: HostRuntime) {
         ChecksumSuite::HmacSha196Aes256,
         ChecksumSuite::HmacSha196Aes128,
         ChecksumSuite::HmacSha1Des3Kd,
+        ChecksumSuite::HmacSha256128Aes128,
+        ChecksumSuite::HmacSha384192Aes256,
     ];
     for (m, first) in checksums.iter().enumerate() {
         for (n, second) in checksums.iter().enumerate() {

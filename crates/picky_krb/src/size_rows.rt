@@ -1,8 +1,10 @@
 //! Sizes and types of the suites, by their names and their numbers, and what is left as it was.
 
 use crate::crypto::aes::{
-    AES_MAC_SIZE, AES128_KEY_SIZE, AES256_KEY_SIZE, Aes128CtsHmacSha196, Aes256CtsHmacSha196,
-    AesKey, AesSize, HmacSha196Aes128, HmacSha196Aes256, random_to_key, swap_two_last_blocks,
+    AES_MAC_SIZE, AES128_KEY_SIZE, AES256_KEY_SIZE, Aes128CtsHmacSha196, Aes128CtsHmacSha256128,
+    Aes256CtsHmacSha196, Aes256CtsHmacSha384192, AesKey, AesSize, HmacSha196Aes128,
+    HmacSha196Aes256, HmacSha256128Aes128, HmacSha384192Aes256, random_to_key,
+    swap_two_last_blocks,
 };
 use crate::crypto::des::{
     DES3_BLOCK_SIZE, DES3_KEY_SIZE, DES3_MAC_SIZE, DES3_SEED_LEN, Des3CbcSha1Kd, DesKey,
@@ -37,7 +39,7 @@ fn key_sizes(rt: HostRuntime) {
     assert!(rt; matches!(long, Some(KerberosCryptoError::KeyLength(25, 24))));
 }
 
-/// RFC 3961, 6.3, and RFC 3962, 6 and 7: sizes and types of the suites by their numbers.
+/// RFC 3961, 6.3, RFC 3962, 6 and 7, and RFC 8009, 5 and 7: sizes and types of the suites by their numbers.
 #[test]
 fn suite_sizes(rt: HostRuntime) {
     let rows = [
@@ -55,6 +57,16 @@ fn suite_sizes(rt: HostRuntime) {
             CipherSuite::Des3CbcSha1Kd,
             [24, 168, 8, 8],
             ChecksumSuite::HmacSha1Des3Kd,
+        ),
+        (
+            CipherSuite::Aes128CtsHmacSha256128,
+            [16, 128, 16, 1],
+            ChecksumSuite::HmacSha256128Aes128,
+        ),
+        (
+            CipherSuite::Aes256CtsHmacSha384192,
+            [32, 256, 16, 1],
+            ChecksumSuite::HmacSha384192Aes256,
         ),
     ];
     for (suite, sizes, checksum) in &rows {
@@ -98,21 +110,42 @@ fn aes_suites(rt: HostRuntime) -> Result<(), Fail> {
     Ok(())
 }
 
-/// The type of each checksum by its name and by its number (RFC 3961, 8; RFC 3962, 7).
+/// RFC 8009, 5 and 7: sizes and types of its suites by their names.
+#[test]
+fn aes_sha2_suites(rt: HostRuntime) -> Result<(), Fail> {
+    let short = Aes128CtsHmacSha256128::new();
+    assert_eq!(rt; short.cipher_type(), CipherSuite::try_from(19)?);
+    assert_eq!(rt; short.checksum_type(), ChecksumSuite::try_from(19)?);
+    assert_eq!(rt; (short.key_size(), short.seed_bit_len()), (16, 128));
+    assert_eq!(rt; (short.confounder_size(), short.fill_size()), (16, 1));
+    let long = Aes256CtsHmacSha384192::default();
+    assert_eq!(rt; long.cipher_type(), CipherSuite::try_from(20)?);
+    assert_eq!(rt; long.checksum_type(), ChecksumSuite::try_from(20)?);
+    assert_eq!(rt; (long.key_size(), long.seed_bit_len()), (32, 256));
+    assert_eq!(rt; (long.confounder_size(), long.fill_size()), (16, 1));
+    assert!(rt; long.clone()? == Aes256CtsHmacSha384192::new());
+    Ok(())
+}
+
+/// The type of each checksum by its name and by its number (RFC 3961, 8; RFC 3962, 7; RFC 8009, 7).
 #[test]
 fn checksum_suites(rt: HostRuntime) {
     let suites = [
         ChecksumSuite::HmacSha1Des3Kd,
         ChecksumSuite::HmacSha196Aes128,
         ChecksumSuite::HmacSha196Aes256,
+        ChecksumSuite::HmacSha256128Aes128,
+        ChecksumSuite::HmacSha384192Aes256,
     ];
     for suite in &suites {
         assert_eq!(rt; suite.checksum_type(), *suite);
     }
-    let [des3, aes128, aes256] = &suites;
+    let [des3, aes128, aes256, sha256, sha384] = &suites;
     assert_eq!(rt; HmacSha1Des3Kd.checksum_type(), *des3);
     assert_eq!(rt; HmacSha196Aes128.checksum_type(), *aes128);
     assert_eq!(rt; HmacSha196Aes256.checksum_type(), *aes256);
+    assert_eq!(rt; HmacSha256128Aes128.checksum_type(), *sha256);
+    assert_eq!(rt; HmacSha384192Aes256.checksum_type(), *sha384);
 }
 
 /// RFC 3962, 6: under AES a seed is the key.

@@ -3,7 +3,7 @@
 use crate::outcome::Refusal;
 use krb_block::{
     AesSize, decrypt_aes_cbc, decrypt_aes_cts, decrypt_des, encrypt_aes_cbc, encrypt_aes_cts,
-    encrypt_des, fill_blocks, hmac_sha1, n_fold,
+    encrypt_des, fill_blocks, hmac_sha1, hmac_sha256, hmac_sha384, n_fold,
 };
 use std::alloc::Global;
 
@@ -21,6 +21,8 @@ pub fn try_cryptography(alloc: Global, call: &str, octets: &[u8]) -> Result<Vec<
             n_fold(alloc, octets, 64)?
         }
         "hmac_sha1" => hmac_sha1(alloc, KEY_OF_AES, octets, 20)?,
+        "hmac_sha256" => hmac_sha256(alloc, KEY_OF_AES, octets, 32)?,
+        "hmac_sha384" => hmac_sha384(alloc, KEY_OF_AES, octets, 48)?,
         "encrypt_aes_cbc" => encrypt_aes_cbc(alloc, KEY_OF_AES, octets, &AesSize::Aes128)?,
         "decrypt_aes_cbc" => decrypt_aes_cbc(alloc, KEY_OF_AES, octets, &AesSize::Aes128)?,
         "encrypt_aes_cts" => encrypt_aes_cts(alloc, KEY_OF_AES, octets, &AesSize::Aes128)?,

@@ -2,7 +2,7 @@
 
 use crate::outcome::Refusal;
 use crate::suites::key_of;
-use krb_block::AesSize;
+use krb_block::{AesSize, kdf_hmac_sha256, kdf_hmac_sha384};
 use krb_scheme::{KERBEROS, aes, des};
 use krb_secret::diffie_hellman::{DhNonce, generate_key_from_shared_secret};
 use krb_suite::{Cipher, CipherSuite};
@@ -35,6 +35,8 @@ fn derived(alloc: Global, suite: &CipherSuite) -> Result<Vec<u8>, Refusal> {
         CipherSuite::Aes256CtsHmacSha196 => {
             aes::derive_key(alloc, key, KERBEROS, &AesSize::Aes256)?
         }
+        CipherSuite::Aes128CtsHmacSha256128 => kdf_hmac_sha256(alloc, key, KERBEROS, 128)?,
+        CipherSuite::Aes256CtsHmacSha384192 => kdf_hmac_sha384(alloc, key, KERBEROS, 256)?,
     };
     Ok(made)
 }

@@ -13,6 +13,8 @@ pub fn suite_of(number: &str) -> Option<CipherSuite> {
         "16" => Some(CipherSuite::Des3CbcSha1Kd),
         "17" => Some(CipherSuite::Aes128CtsHmacSha196),
         "18" => Some(CipherSuite::Aes256CtsHmacSha196),
+        "19" => Some(CipherSuite::Aes128CtsHmacSha256128),
+        "20" => Some(CipherSuite::Aes256CtsHmacSha384192),
         _ => None,
     }
 }
@@ -21,8 +23,12 @@ pub fn suite_of(number: &str) -> Option<CipherSuite> {
 pub fn key_of(suite: &CipherSuite) -> &'static [u8] {
     match suite {
         CipherSuite::Des3CbcSha1Kd => b"a key of triple DES, 24.",
-        CipherSuite::Aes128CtsHmacSha196 => b"a key of AES128.",
-        CipherSuite::Aes256CtsHmacSha196 => b"a key of AES256, of 32 octets...",
+        CipherSuite::Aes128CtsHmacSha196 | CipherSuite::Aes128CtsHmacSha256128 => {
+            b"a key of AES128."
+        }
+        CipherSuite::Aes256CtsHmacSha196 | CipherSuite::Aes256CtsHmacSha384192 => {
+            b"a key of AES256, of 32 octets..."
+        }
     }
 }
 
