@@ -1,15 +1,19 @@
 //! Laws over the definitions, of functions that do nothing.
 
-ghost use Rattle.std.specs.Prelude.{◌≡◌, ◌+◌, ◌≤◌};
+ghost use Rattle.std.specs.Prelude.{◌≡◌, ◌↔◌, ◌==◌, ◌+◌, ◌≤◌, ℕ, List};
 ghost use Rattle.krb_leaves.specs.Tlv.{tlv};
+ghost use Rattle.krb_leaves.specs.Faults.{FrontFault, TaggedFault};
+ghost use Rattle.krb_leaves.specs.declared.error.Asn1DerError.{Asn1DerError};
+ghost use Rattle.krb_der.specs.FieldFaults.{HasFaultsOf, SameFault};
 ghost use Rattle.krb_der.specs.Equality.{TellsEqual};
 
 use crate::implicit::{
     ImplicitContextTag, ImplicitContextTag0, ImplicitContextTag1, ImplicitContextTag2,
 };
+use crate::untagged::Field;
 use crate::x509::{AlgorithmIdentifier, SubjectPublicKeyInfo};
-use krb_der::DerEncode;
-use krb_der::composite::{Number, TagNumber};
+use krb_der::composite::{Fields, Number, Sequence, TagNumber};
+use krb_der::{Der, DerEncode};
 use krb_identifiers::{Asn1RawDer, DerPrimitive, ObjectIdentifierAsn1};
 
 /// `ImplicitContextTag0` to `2`: the tags `80` to `82` in the place of the leaf's own (X.690, 8.14).
@@ -22,6 +26,28 @@ pub fn implicit_tags<T: DerPrimitive>()
 /// `ImplicitContextTag<T, Number<N>>`: the tag `80` + N in the place of the leaf's own, to N = 30 (X.690, 8.1.2.4 and 8.14).
 pub fn any_implicit_tag<T: DerPrimitive, const N: u8>()
     ensures { N ≤ 30 → (v : T) → ⟦<ImplicitContextTag<T, Number<N>> as DerEncode>⟧.enc v ≡ tlv (128 + N) (T.inner v) }
+{}
+
+/// The first fault of each struct is that of a SEQUENCE of its fields (X.690, 8.9): its tag, then its fields in order, then what is
+/// left over.
+pub fn faults()
+    ensures algorithm_identifier { HasFaultsOf ⟦<AlgorithmIdentifier as DerEncode>⟧.fault ⟦<<AlgorithmIdentifier as Sequence>::Fields as Fields>⟧ }
+    ensures subject_public_key_info { HasFaultsOf ⟦<SubjectPublicKeyInfo as DerEncode>⟧.fault ⟦<<SubjectPublicKeyInfo as Sequence>::Fields as Fields>⟧ }
+{}
+
+/// The first fault of a leaf under an implicit tag (X.690, 8.14): another tag, or that of the leaf's content under its own tag. As a
+/// field of a sequence it is that of the element at the front of the octets, and the field ends with its octets.
+pub fn implicit_faults<T: DerPrimitive + Drop, const N: u8>()
+    ensures element { N ≤ 30 → SameFault ⟦<ImplicitContextTag<T, Number<N>> as DerEncode>⟧.fault (TaggedFault (128 + N) (T.fault T.tag)) }
+    ensures field { N ≤ 30 → (octets : List ℕ) (e : Asn1DerError) → ⟦<ImplicitContextTag<T, Number<N>> as Fields>⟧.fault octets e ↔ FrontFault (λ t. t == 128 + N) (TaggedFault (128 + N) (T.fault T.tag)) octets e }
+    ensures field_ends { (v : T) (rest : List ℕ) → ⟦<ImplicitContextTag<T, Number<N>> as Fields>⟧.ends v rest }
+{}
+
+/// The first fault of a field with no tag of its own (X.690, 8.9): that of its element at the front of the octets. It ends with
+/// its octets.
+pub fn untagged_faults<T: Der + Drop>()
+    ensures field { (octets : List ℕ) (e : Asn1DerError) → ⟦<Field<T> as Fields>⟧.fault octets e ↔ FrontFault T.first T.fault octets e }
+    ensures field_ends { (v : T) (rest : List ℕ) → ⟦<Field<T> as Fields>⟧.ends v rest }
 {}
 
 /// `==` on object identifiers, raw values and the structs made of them: it answers true for equal values and for no others.

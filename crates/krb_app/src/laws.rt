@@ -2,6 +2,7 @@
 
 ghost use Rattle.std.specs.Prelude.{◌≡◌};
 ghost use Rattle.krb_der.specs.Asn1.{application};
+ghost use Rattle.krb_der.specs.FieldFaults.{HasFaultsOf};
 ghost use Rattle.krb_der.specs.Equality.{TellsEqual};
 
 use crate::messages::{
@@ -9,6 +10,7 @@ use crate::messages::{
     TgtReq,
 };
 use krb_der::DerEncode;
+use krb_der::composite::{Fields, Sequence};
 use krb_types::laws::equality as shared_equality;
 
 /// The messages, each under its application tag (RFC 4120, 5.5.1, 5.5.2, 5.7.1 and 5.8.1).
@@ -17,6 +19,17 @@ pub fn application_tags()
     ensures ap_rep { (v : _) → ⟦<ApRep as DerEncode>⟧.enc v ≡ application 15 (⟦<ApRepInner as DerEncode>⟧.enc v) }
     ensures krb_priv { (v : _) → ⟦<KrbPriv as DerEncode>⟧.enc v ≡ application 21 (⟦<KrbPrivInner as DerEncode>⟧.enc v) }
     ensures krb_cred { (v : _) → ⟦<KrbCred as DerEncode>⟧.enc v ≡ application 22 (⟦<KrbCredInner as DerEncode>⟧.enc v) }
+{}
+
+/// The first fault of each struct is that of a SEQUENCE of its fields (X.690, 8.9): its tag, then its fields in order, then what is
+/// left over.
+pub fn faults()
+    ensures ap_req { HasFaultsOf ⟦<ApReqInner as DerEncode>⟧.fault ⟦<<ApReqInner as Sequence>::Fields as Fields>⟧ }
+    ensures ap_rep { HasFaultsOf ⟦<ApRepInner as DerEncode>⟧.fault ⟦<<ApRepInner as Sequence>::Fields as Fields>⟧ }
+    ensures krb_cred { HasFaultsOf ⟦<KrbCredInner as DerEncode>⟧.fault ⟦<<KrbCredInner as Sequence>::Fields as Fields>⟧ }
+    ensures krb_priv { HasFaultsOf ⟦<KrbPrivInner as DerEncode>⟧.fault ⟦<<KrbPrivInner as Sequence>::Fields as Fields>⟧ }
+    ensures tgt_req { HasFaultsOf ⟦<TgtReq as DerEncode>⟧.fault ⟦<<TgtReq as Sequence>::Fields as Fields>⟧ }
+    ensures tgt_rep { HasFaultsOf ⟦<TgtRep as DerEncode>⟧.fault ⟦<<TgtRep as Sequence>::Fields as Fields>⟧ }
 {}
 
 /// `==` on each struct: it answers true for equal values and for no others.

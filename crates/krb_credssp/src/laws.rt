@@ -1,11 +1,25 @@
 //! Laws over the definitions, of functions that do nothing.
 
+ghost use Rattle.krb_der.specs.FieldFaults.{HasFaultsOf};
 ghost use Rattle.krb_der.specs.Equality.{TellsEqual};
 
 use crate::credssp::{
     TsCredentials, TsCspDataDetail, TsPasswordCreds, TsRemoteGuardCreds, TsRemoteGuardPackageCred,
     TsSmartCardCreds,
 };
+use krb_der::DerEncode;
+use krb_der::composite::{Fields, Sequence};
+
+/// The first fault of each struct is that of a SEQUENCE of its fields (X.690, 8.9): its tag, then its fields in order, then what is
+/// left over.
+pub fn faults()
+    ensures ts_credentials { HasFaultsOf ⟦<TsCredentials as DerEncode>⟧.fault ⟦<<TsCredentials as Sequence>::Fields as Fields>⟧ }
+    ensures ts_password_creds { HasFaultsOf ⟦<TsPasswordCreds as DerEncode>⟧.fault ⟦<<TsPasswordCreds as Sequence>::Fields as Fields>⟧ }
+    ensures ts_csp_data_detail { HasFaultsOf ⟦<TsCspDataDetail as DerEncode>⟧.fault ⟦<<TsCspDataDetail as Sequence>::Fields as Fields>⟧ }
+    ensures ts_smart_card_creds { HasFaultsOf ⟦<TsSmartCardCreds as DerEncode>⟧.fault ⟦<<TsSmartCardCreds as Sequence>::Fields as Fields>⟧ }
+    ensures ts_remote_guard_package_cred { HasFaultsOf ⟦<TsRemoteGuardPackageCred as DerEncode>⟧.fault ⟦<<TsRemoteGuardPackageCred as Sequence>::Fields as Fields>⟧ }
+    ensures ts_remote_guard_creds { HasFaultsOf ⟦<TsRemoteGuardCreds as DerEncode>⟧.fault ⟦<<TsRemoteGuardCreds as Sequence>::Fields as Fields>⟧ }
+{}
 
 /// `==` on each struct: it answers true for equal values and for no others.
 pub fn equality()

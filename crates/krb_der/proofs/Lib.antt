@@ -5,3 +5,4 @@ pub mod FaultSteps
 pub mod Streams
 pub mod ReaderFaults
 pub mod Choices
+pub mod FieldNumbers

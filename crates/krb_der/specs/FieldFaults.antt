@@ -1,5 +1,5 @@
 -- The first fault of the fields of a sequence, from the left.
-use Rattle.std.specs.Prelude.{◌≡◌, ℕ, ◌<◌, ◌≤◌, ◌⊎◌, Bool, true, false, List, [], ◌∷◌, ◌++◌}
+use Rattle.std.specs.Prelude.{◌≡◌, ◌↔◌, ℕ, ◌<◌, ◌≤◌, ◌⊎◌, Bool, true, false, List, [], ◌∷◌, ◌++◌}
 use Rattle.krb_leaves.specs.declared.error.Asn1DerError.{Asn1DerError}
 use Rattle.krb_leaves.specs.declared.error.Asn1DerError.TheVariants as errors
 use Rattle.krb_leaves.specs.Faults.{FrontFault, TaggedFault, WholeFault}
@@ -26,9 +26,21 @@ pub data PairFault {L : Type 0} (are_values : L → Type 0) (octets_of : L → L
   in_left : (e : Asn1DerError) → left octets e → PairFault are_values octets_of ends left right octets e
   in_right : (v : L) (rest : List ℕ) (e : Asn1DerError) → are_values v → octets ≡ octets_of v ++ rest → ends v rest → right rest e → PairFault are_values octets_of ends left right octets e
 
+-- The first fault of fields and a last one behind them.
+abbrev pub LastFault : {L : Type 0} → FieldsOf L → (List ℕ → Asn1DerError → Type 0) → List ℕ → Asn1DerError → Type 0
+LastFault l = PairFault l.are_values l.octets l.ends l.fault
+
 -- The first fault of a SEQUENCE (X.690, 8.9): its tag, then its fields in order, then what is left over.
 abbrev pub sequence_fault : {F : Type 0} → FieldsOf F → ℕ → List ℕ → Asn1DerError → Type 0
 sequence_fault f = TaggedFault 48 (WholeFault f.are_values f.octets f.ends f.fault)
+
+-- Two say one first fault of elements: of each tag and content.
+abbrev pub SameFault : (ℕ → List ℕ → Asn1DerError → Type 0) → (ℕ → List ℕ → Asn1DerError → Type 0) → Type 0
+SameFault fault other = (t : ℕ) (content : List ℕ) (e : Asn1DerError) → fault t content e ↔ other t content e
+
+-- The first fault of an element is that of the SEQUENCE of these fields.
+abbrev pub HasFaultsOf : {F : Type 0} → (ℕ → List ℕ → Asn1DerError → Type 0) → FieldsOf F → Type 0
+HasFaultsOf fault fields = SameFault fault (sequence_fault fields)
 
 -- The first fault of an element under an application tag of this number: a number past 30 has no value.
 abbrev pub NumberFault : ℕ → (ℕ → List ℕ → Asn1DerError → Type 0) → ℕ → List ℕ → Asn1DerError → Type 0

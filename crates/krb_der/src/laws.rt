@@ -1,6 +1,6 @@
 //! Laws over the definitions, of functions that do nothing.
 
-ghost use Rattle.std.specs.Prelude.{◌≡◌, ◌↔◌, ◌+◌, ◌<◌, ◌≤◌, ◌^◌, ◌++◌, ◌∷◌, ℕ, ℤ, pos, Bool, List, Option, IfSome, length};
+ghost use Rattle.std.specs.Prelude.{◌≡◌, ◌↔◌, ◌==◌, ◌+◌, ◌<◌, ◌≤◌, ◌^◌, ◌++◌, ◌∷◌, ℕ, ℤ, pos, Bool, List, Option, None, IfSome, length};
 ghost use Rattle.std.specs.Str.{IsAscii, IsUtf8};
 ghost use Rattle.std.specs.List.{flat_map};
 ghost use Rattle.krb_leaves.specs.Tlv.{tlv};
@@ -11,6 +11,8 @@ ghost use Rattle.krb_leaves.specs.Leaf.{bool_content};
 ghost use Rattle.krb_leaves.specs.Integer.{shortest};
 ghost use Rattle.krb_leaves.specs.BitString.{Bits, IsBits};
 ghost use Rattle.krb_leaves.specs.GeneralizedTime.{IsRealTime, Time, time_content};
+ghost use Rattle.krb_der.specs.FieldFaults.{IsAbsent, LastFault, OptionalFault};
+ghost use Rattle.krb_der.specs.declared.optional.Optional.{Optional as OptionalOf};
 ghost use Rattle.krb_der.specs.Equality.{ClonesValue, TellsEqual};
 
 use crate::application_tag::ApplicationTag;
@@ -21,10 +23,11 @@ use crate::context_tag::{
     ExplicitContextTag11, ExplicitContextTag12, Number, TagNumber,
 };
 use crate::optional::Optional;
+use crate::sequence::Fields;
 use crate::sequence_of::Asn1SequenceOf;
 use krb_leaves::{
-    BitStringAsn1, DerEncode, DerSequence, GeneralStringAsn1, GeneralizedTimeAsn1, IntegerAsn1,
-    OctetStringAsn1, Utf8StringAsn1,
+    BitStringAsn1, Der, DerEncode, DerSequence, GeneralStringAsn1, GeneralizedTimeAsn1,
+    IntegerAsn1, OctetStringAsn1, Utf8StringAsn1,
 };
 
 /// The laws of joined encodings: what stands at the front of octets is decided by them, and so is what stands behind it.
@@ -115,6 +118,34 @@ pub fn composite_faults<T: DerEncode, const N: u8>()
 /// The fault of a sequence under an application tag.
 pub fn application_fault<T: DerSequence, const N: u8>()
     ensures { N ≤ 30 → (t : ℕ) (content : List ℕ) (e : Asn1DerError) → ⟦<ApplicationTag<T, N> as DerEncode>⟧.fault t content e ↔ TaggedFault (96 + N) (ValueFault T.is_value T.enc T.first T.fault) t content e }
+{}
+
+/// The first fault of a field of a sequence (X.690, 8.9 and 8.14), and where the field ends.
+///
+/// A mandatory field stands under its tag, and ends with its octets. One that may be absent is there where the octets begin as
+/// it does, and is absent where they do not.
+pub fn field_faults<T: Der + Drop, const N: u8>()
+    ensures mandatory { N ≤ 30 → (octets : List ℕ) (e : Asn1DerError) → ⟦<ExplicitContextTag<T, Number<N>> as Fields>⟧.fault octets e ↔ FrontFault (λ t. t == 160 + N) (TaggedFault (160 + N) (ValueFault T.is_value T.enc T.first T.fault)) octets e }
+    ensures mandatory_ends { (v : T) (rest : List ℕ) → ⟦<ExplicitContextTag<T, Number<N>> as Fields>⟧.ends v rest }
+    ensures optional { (octets : List ℕ) (e : Asn1DerError) → ⟦<Optional<Option<T>> as Fields>⟧.fault octets e ↔ OptionalFault T.first T.fault octets e }
+    ensures optional_ends { (v : OptionalOf (Option T)) (rest : List ℕ) → ⟦<Optional<Option<T>> as Fields>⟧.ends v rest ↔ (v.0 ≡ None → IsAbsent T.first rest) }
+{}
+
+/// The first fault of fields (X.690, 8.9): that of the fields before the last, or they stand and it is that of the last in the
+/// octets behind them. Tuples of two to six, of fields or of groups of fields.
+pub fn tuple_faults<
+    A: Fields + Drop,
+    B: Fields + Drop,
+    C: Fields + Drop,
+    D: Fields + Drop,
+    E: Fields + Drop,
+    F: Fields + Drop,
+>()
+    ensures two { (octets : List ℕ) (e : Asn1DerError) → ⟦<(A, B) as Fields>⟧.fault octets e ↔ LastFault ⟦<A as Fields>⟧ B.fault octets e }
+    ensures three { (octets : List ℕ) (e : Asn1DerError) → ⟦<(A, B, C) as Fields>⟧.fault octets e ↔ LastFault ⟦<(A, B) as Fields>⟧ C.fault octets e }
+    ensures four { (octets : List ℕ) (e : Asn1DerError) → ⟦<(A, B, C, D) as Fields>⟧.fault octets e ↔ LastFault ⟦<(A, B, C) as Fields>⟧ D.fault octets e }
+    ensures five { (octets : List ℕ) (e : Asn1DerError) → ⟦<(A, B, C, D, E) as Fields>⟧.fault octets e ↔ LastFault ⟦<(A, B, C, D) as Fields>⟧ E.fault octets e }
+    ensures six { (octets : List ℕ) (e : Asn1DerError) → ⟦<(A, B, C, D, E, F) as Fields>⟧.fault octets e ↔ LastFault ⟦<(A, B, C, D, E) as Fields>⟧ F.fault octets e }
 {}
 
 /// `==` on each leaf: it answers true for equal values and for no others.

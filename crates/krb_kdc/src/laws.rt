@@ -2,6 +2,7 @@
 
 ghost use Rattle.std.specs.Prelude.{◌≡◌};
 ghost use Rattle.krb_der.specs.Asn1.{application};
+ghost use Rattle.krb_der.specs.FieldFaults.{HasFaultsOf};
 ghost use Rattle.krb_der.specs.Equality.{TellsEqual};
 
 use crate::messages::{
@@ -9,6 +10,7 @@ use crate::messages::{
     TgsReq,
 };
 use krb_der::DerEncode;
+use krb_der::composite::{Fields, Sequence};
 use krb_padata::laws::equality as padata_equality;
 use krb_types::laws::equality as shared_equality;
 
@@ -20,6 +22,15 @@ pub fn application_tags()
     ensures tgs_rep { (v : _) → ⟦<TgsRep as DerEncode>⟧.enc v ≡ application 13 (⟦<KdcRep as DerEncode>⟧.enc v) }
     ensures enc_as_rep_part { (v : _) → ⟦<EncAsRepPart as DerEncode>⟧.enc v ≡ application 25 (⟦<EncKdcRepPart as DerEncode>⟧.enc v) }
     ensures enc_tgs_rep_part { (v : _) → ⟦<EncTgsRepPart as DerEncode>⟧.enc v ≡ application 26 (⟦<EncKdcRepPart as DerEncode>⟧.enc v) }
+{}
+
+/// The first fault of each struct is that of a SEQUENCE of its fields (X.690, 8.9): its tag, then its fields in order, then what is
+/// left over.
+pub fn faults()
+    ensures kdc_req_body { HasFaultsOf ⟦<KdcReqBody as DerEncode>⟧.fault ⟦<<KdcReqBody as Sequence>::Fields as Fields>⟧ }
+    ensures kdc_req { HasFaultsOf ⟦<KdcReq as DerEncode>⟧.fault ⟦<<KdcReq as Sequence>::Fields as Fields>⟧ }
+    ensures kdc_rep { HasFaultsOf ⟦<KdcRep as DerEncode>⟧.fault ⟦<<KdcRep as Sequence>::Fields as Fields>⟧ }
+    ensures enc_kdc_rep_part { HasFaultsOf ⟦<EncKdcRepPart as DerEncode>⟧.fault ⟦<<EncKdcRepPart as Sequence>::Fields as Fields>⟧ }
 {}
 
 /// `==` on each struct: it answers true for equal values and for no others.

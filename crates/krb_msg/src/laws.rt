@@ -2,12 +2,15 @@
 
 ghost use Rattle.std.specs.Prelude.{◌≡◌};
 ghost use Rattle.krb_der.specs.Asn1.{application};
+ghost use Rattle.krb_der.specs.Choice.{ChoiceFault};
+ghost use Rattle.krb_der.specs.FieldFaults.{HasFaultsOf, SameFault};
 ghost use Rattle.krb_der.specs.Equality.{TellsEqual};
 
 use crate::messages::{ApMessage, KdcProxyMessage, KrbError, KrbErrorInner};
 use krb_app::laws::equality as application_equality;
 use krb_app::messages::{ApRep, ApReq};
 use krb_der::DerEncode;
+use krb_der::composite::{Fields, Sequence};
 use krb_types::laws::equality as shared_equality;
 
 /// The message under its application tag (RFC 4120, 5.9.1).
@@ -19,6 +22,18 @@ pub fn application_tags()
 pub fn ap_messages()
     ensures ap_req { (v : _) → ⟦<ApMessage as DerEncode>⟧.enc (ApMessage.ApReq v) ≡ ⟦<ApReq as DerEncode>⟧.enc v }
     ensures ap_rep { (v : _) → ⟦<ApMessage as DerEncode>⟧.enc (ApMessage.ApRep v) ≡ ⟦<ApRep as DerEncode>⟧.enc v }
+{}
+
+/// The first fault of each struct is that of a SEQUENCE of its fields (X.690, 8.9): its tag, then its fields in order, then what is
+/// left over.
+pub fn faults()
+    ensures krb_error { HasFaultsOf ⟦<KrbErrorInner as DerEncode>⟧.fault ⟦<<KrbErrorInner as Sequence>::Fields as Fields>⟧ }
+    ensures kdc_proxy_message { HasFaultsOf ⟦<KdcProxyMessage as DerEncode>⟧.fault ⟦<<KdcProxyMessage as Sequence>::Fields as Fields>⟧ }
+{}
+
+/// The first fault of a choice of two messages (X.690, 8.13): the tag is neither's, or it is that of the message whose tag it is.
+pub fn ap_message_faults()
+    ensures { SameFault ⟦<ApMessage as DerEncode>⟧.fault (ChoiceFault 110 111 ⟦<ApReq as DerEncode>⟧.fault ⟦<ApRep as DerEncode>⟧.fault) }
 {}
 
 /// `==` on each struct and on the choice: it answers true for equal values and for no others.

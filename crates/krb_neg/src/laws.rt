@@ -1,10 +1,14 @@
 //! Laws over the definitions, of functions that do nothing.
 
-ghost use Rattle.std.specs.Prelude.{◌≡◌, ◌++◌, ◌∷◌, List, ℕ, drop};
+ghost use Rattle.std.specs.Prelude.{◌≡◌, ◌↔◌, ◌++◌, ◌∷◌, ◌<◌, List, ℕ, drop, length};
 ghost use Rattle.krb_der.specs.Asn1.{explicit, sequence_of};
+ghost use Rattle.krb_der.specs.FieldFaults.{HasFaultsOf, SameFault};
 ghost use Rattle.krb_der.specs.Equality.{TellsEqual};
 ghost use Rattle.krb_identifiers.specs.ObjectIdentifier.{object_identifier};
 ghost use Rattle.krb_leaves.specs.Tlv.{tlv};
+ghost use Rattle.krb_leaves.specs.Faults.{TaggedFault};
+ghost use Rattle.krb_leaves.specs.declared.error.Asn1DerError.{Asn1DerError};
+ghost use Rattle.krb_leaves.specs.declared.error.Asn1DerError.TheVariants.{TruncatedData};
 ghost use Rattle.krb_neg.specs.Proxy.{ProxyReads, iakerb, proxy_id};
 ghost use Rattle.krb_neg.specs.Token.{token};
 
@@ -14,6 +18,8 @@ use crate::krb_message::KrbMessage;
 use crate::spnego::{
     GssApiNegInit, MechType, MechTypeList, NegTokenInit, NegTokenTarg, NegTokenTarg1,
 };
+use crate::token_id::TokenId;
+use krb_der::composite::{Fields, Sequence};
 use krb_der::{Der, DerEncode, DerSequence};
 use krb_iakerb::laws::{equality as header_equality, header_readings};
 
@@ -37,6 +43,27 @@ pub fn proxy_messages<T: Der + Drop>()
 {
     header_readings();
 }
+
+/// The first fault of each struct is that of a SEQUENCE of its fields (X.690, 8.9): its tag, then its fields in order, then what is
+/// left over.
+pub fn faults()
+    ensures neg_token_init { HasFaultsOf ⟦<NegTokenInit as DerEncode>⟧.fault ⟦<<NegTokenInit as Sequence>::Fields as Fields>⟧ }
+    ensures neg_token_targ { HasFaultsOf ⟦<NegTokenTarg as DerEncode>⟧.fault ⟦<<NegTokenTarg as Sequence>::Fields as Fields>⟧ }
+    ensures gss_api_neg_init { HasFaultsOf ⟦<GssApiNegInit as DerEncode>⟧.fault ⟦<<GssApiNegInit as Sequence>::Fields as Fields>⟧ }
+{}
+
+/// The first fault of a token (RFC 2743, 3.1): another first octet, or that of the SEQUENCE inside, as under its own tag.
+pub fn token_faults<T: DerSequence>()
+    ensures { SameFault ⟦<ApplicationTag0<T> as DerEncode>⟧.fault (TaggedFault 96 (T.fault 48)) }
+{}
+
+/// The first fault of a message in a token (RFC 4121, 4.1), and of the two octets between the mechanism and the message: fewer
+/// than two are cut short.
+pub fn krb_message_faults<T: Der + Drop>()
+    ensures message { HasFaultsOf ⟦<KrbMessage<T> as DerEncode>⟧.fault ⟦<<KrbMessage<T> as Sequence>::Fields as Fields>⟧ }
+    ensures token_id { (octets : List ℕ) (e : Asn1DerError) → ⟦<TokenId as Fields>⟧.fault octets e ↔ (e ≡ TruncatedData) × (length octets < 2) }
+    ensures token_id_ends { (v rest : List ℕ) → ⟦<TokenId as Fields>⟧.ends v rest }
+{}
 
 /// `==` on the messages of SPNEGO: it answers true for equal values and for no others.
 pub fn equality()

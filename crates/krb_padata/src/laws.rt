@@ -2,6 +2,7 @@
 
 ghost use Rattle.std.specs.Prelude.{◌≡◌};
 ghost use Rattle.krb_der.specs.Asn1.{sequence_of};
+ghost use Rattle.krb_der.specs.FieldFaults.{HasFaultsOf};
 ghost use Rattle.krb_der.specs.Equality.{ClonesValue, TellsEqual};
 
 use crate::data_types::{
@@ -9,12 +10,24 @@ use crate::data_types::{
     PaEncTsEnc, PaPacOptions,
 };
 use krb_der::DerEncode;
+use krb_der::composite::{Fields, Sequence};
 use krb_types::data_types::EncryptedData;
 
 /// The aliases (RFC 4120, 5.2.7.2 and 5.2.7.5).
 pub fn aliases()
     ensures pa_enc_timestamp { (v : _) → ⟦<PaEncTimestamp as DerEncode>⟧.enc v ≡ ⟦<EncryptedData as DerEncode>⟧.enc v }
     ensures etype_info2 { (v : _) → ⟦<EtypeInfo2 as DerEncode>⟧.enc v ≡ sequence_of ⟦<EtypeInfo2Entry as DerEncode>⟧.enc v }
+{}
+
+/// The first fault of each struct is that of a SEQUENCE of its fields (X.690, 8.9): its tag, then its fields in order, then what is
+/// left over.
+pub fn faults()
+    ensures pa_data { HasFaultsOf ⟦<PaData as DerEncode>⟧.fault ⟦<<PaData as Sequence>::Fields as Fields>⟧ }
+    ensures pa_enc_ts_enc { HasFaultsOf ⟦<PaEncTsEnc as DerEncode>⟧.fault ⟦<<PaEncTsEnc as Sequence>::Fields as Fields>⟧ }
+    ensures kerb_pa_pac_request { HasFaultsOf ⟦<KerbPaPacRequest as DerEncode>⟧.fault ⟦<<KerbPaPacRequest as Sequence>::Fields as Fields>⟧ }
+    ensures pa_pac_options { HasFaultsOf ⟦<PaPacOptions as DerEncode>⟧.fault ⟦<<PaPacOptions as Sequence>::Fields as Fields>⟧ }
+    ensures etype_info2_entry { HasFaultsOf ⟦<EtypeInfo2Entry as DerEncode>⟧.fault ⟦<<EtypeInfo2Entry as Sequence>::Fields as Fields>⟧ }
+    ensures kerb_error_data { HasFaultsOf ⟦<KerbErrorData as DerEncode>⟧.fault ⟦<<KerbErrorData as Sequence>::Fields as Fields>⟧ }
 {}
 
 /// `==` on each struct: it answers true for equal values and for no others.

@@ -2,6 +2,7 @@
 
 ghost use Rattle.std.specs.Prelude.{◌≡◌};
 ghost use Rattle.krb_der.specs.Asn1.{application};
+ghost use Rattle.krb_der.specs.FieldFaults.{HasFaultsOf};
 ghost use Rattle.krb_der.specs.Equality.{TellsEqual};
 
 use crate::data_types::{
@@ -10,6 +11,7 @@ use crate::data_types::{
     KrbCredInfo,
 };
 use krb_der::DerEncode;
+use krb_der::composite::{Fields, Sequence};
 use krb_types::laws::equality as shared_equality;
 
 /// The enciphered parts, each under its application tag (RFC 4120, 5.3, 5.5.1, 5.5.2, 5.7.1 and 5.8.1).
@@ -19,6 +21,17 @@ pub fn enciphered_parts()
     ensures enc_krb_priv_part { (v : _) → ⟦<EncKrbPrivPart as DerEncode>⟧.enc v ≡ application 28 (⟦<EncKrbPrivPartInner as DerEncode>⟧.enc v) }
     ensures enc_krb_cred_part { (v : _) → ⟦<EncKrbCredPart as DerEncode>⟧.enc v ≡ application 29 (⟦<EncKrbCredPartInner as DerEncode>⟧.enc v) }
     ensures enc_ticket_part { (v : _) → ⟦<EncTicketPart as DerEncode>⟧.enc v ≡ application 3 (⟦<EncTicketPartInner as DerEncode>⟧.enc v) }
+{}
+
+/// The first fault of each struct is that of a SEQUENCE of its fields (X.690, 8.9): its tag, then its fields in order, then what is
+/// left over.
+pub fn faults()
+    ensures authenticator { HasFaultsOf ⟦<AuthenticatorInner as DerEncode>⟧.fault ⟦<<AuthenticatorInner as Sequence>::Fields as Fields>⟧ }
+    ensures enc_ap_rep_part { HasFaultsOf ⟦<EncApRepPartInner as DerEncode>⟧.fault ⟦<<EncApRepPartInner as Sequence>::Fields as Fields>⟧ }
+    ensures krb_cred_info { HasFaultsOf ⟦<KrbCredInfo as DerEncode>⟧.fault ⟦<<KrbCredInfo as Sequence>::Fields as Fields>⟧ }
+    ensures enc_krb_cred_part { HasFaultsOf ⟦<EncKrbCredPartInner as DerEncode>⟧.fault ⟦<<EncKrbCredPartInner as Sequence>::Fields as Fields>⟧ }
+    ensures enc_krb_priv_part { HasFaultsOf ⟦<EncKrbPrivPartInner as DerEncode>⟧.fault ⟦<<EncKrbPrivPartInner as Sequence>::Fields as Fields>⟧ }
+    ensures enc_ticket_part { HasFaultsOf ⟦<EncTicketPartInner as DerEncode>⟧.fault ⟦<<EncTicketPartInner as Sequence>::Fields as Fields>⟧ }
 {}
 
 /// `==` on each struct: it answers true for equal values and for no others.

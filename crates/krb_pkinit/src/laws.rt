@@ -2,6 +2,8 @@
 
 ghost use Rattle.std.specs.Prelude.{◌≡◌, List, ℕ};
 ghost use Rattle.krb_der.specs.Asn1.{explicit, octet_string};
+ghost use Rattle.krb_der.specs.Choice.{ChoiceFault};
+ghost use Rattle.krb_der.specs.FieldFaults.{HasFaultsOf, SameFault};
 ghost use Rattle.krb_der.specs.Equality.{TellsEqual};
 ghost use Rattle.krb_algorithms.specs.Implicit.{implicit};
 
@@ -9,9 +11,10 @@ use crate::pkinit::{
     AuthPack, DhAuthPack, DhNonce, DhRepInfo, EcAuthPack, ExternalPrincipalIdentifier,
     KdcDhKeyInfo, PaPkAsRep, PaPkAsReq, PkAuthenticator,
 };
-use krb_algorithms::SubjectPublicKeyInfo;
 use krb_algorithms::laws::equality as algorithm_equality;
-use krb_der::DerEncode;
+use krb_algorithms::{ImplicitContextTag1, SubjectPublicKeyInfo};
+use krb_der::composite::{Fields, Sequence};
+use krb_der::{Der, DerEncode, ExplicitContextTag0, OctetStringAsn1};
 use krb_dh_keys::pkinit::DhReqInfo;
 
 /// The aliases (RFC 4556, 3.2.1; RFC 5349, 4).
@@ -25,6 +28,27 @@ pub fn aliases()
 pub fn answers()
     ensures dh_info { (v : _) → ⟦<PaPkAsRep as DerEncode>⟧.enc (PaPkAsRep.DhInfo v) ≡ explicit 0 (⟦<DhRepInfo as DerEncode>⟧.enc v) }
     ensures enc_key_pack { (v : List ℕ) → ⟦<PaPkAsRep as DerEncode>⟧.enc (PaPkAsRep.EncKeyPack v) ≡ implicit 1 v }
+{}
+
+/// The first fault of each struct is that of a SEQUENCE of its fields (X.690, 8.9): its tag, then its fields in order, then what is
+/// left over.
+pub fn faults()
+    ensures external_principal_identifier { HasFaultsOf ⟦<ExternalPrincipalIdentifier as DerEncode>⟧.fault ⟦<<ExternalPrincipalIdentifier as Sequence>::Fields as Fields>⟧ }
+    ensures pa_pk_as_req { HasFaultsOf ⟦<PaPkAsReq as DerEncode>⟧.fault ⟦<<PaPkAsReq as Sequence>::Fields as Fields>⟧ }
+    ensures pk_authenticator { HasFaultsOf ⟦<PkAuthenticator as DerEncode>⟧.fault ⟦<<PkAuthenticator as Sequence>::Fields as Fields>⟧ }
+    ensures dh_rep_info { HasFaultsOf ⟦<DhRepInfo as DerEncode>⟧.fault ⟦<<DhRepInfo as Sequence>::Fields as Fields>⟧ }
+    ensures kdc_dh_key_info { HasFaultsOf ⟦<KdcDhKeyInfo as DerEncode>⟧.fault ⟦<<KdcDhKeyInfo as Sequence>::Fields as Fields>⟧ }
+{}
+
+/// The first fault of what a client signs, with a public key of either kind (X.690, 8.9; RFC 4556, 3.2.1).
+pub fn auth_pack_faults<C: Der + Drop>()
+    ensures { HasFaultsOf ⟦<AuthPack<C> as DerEncode>⟧.fault ⟦<<AuthPack<C> as Sequence>::Fields as Fields>⟧ }
+{}
+
+/// The first fault of the choice of a KDC's answer (X.690, 8.13; RFC 4556, 3.2.3): the tag is neither's, or it is that of what has
+/// the tag.
+pub fn pa_pk_as_rep_faults()
+    ensures { SameFault ⟦<PaPkAsRep as DerEncode>⟧.fault (ChoiceFault 160 129 ⟦<ExplicitContextTag0<DhRepInfo> as DerEncode>⟧.fault ⟦<ImplicitContextTag1<OctetStringAsn1> as DerEncode>⟧.fault) }
 {}
 
 /// `==` on each struct and on the choice: it answers true for equal values and for no others.

@@ -1,9 +1,22 @@
 //! Laws over the definitions, of functions that do nothing.
 
+ghost use Rattle.krb_der.specs.FieldFaults.{HasFaultsOf};
 ghost use Rattle.krb_der.specs.Equality.{TellsEqual};
 
 use crate::pkinit::{KrbFinished, Pku2uNegoBody, Pku2uNegoRep, Pku2uNegoReq, Pku2uNegoReqMetadata};
+use krb_der::DerEncode;
+use krb_der::composite::{Fields, Sequence};
 use krb_types::laws::equality as shared_equality;
+
+/// The first fault of each struct is that of a SEQUENCE of its fields (X.690, 8.9): its tag, then its fields in order, then what is
+/// left over.
+pub fn faults()
+    ensures pku2u_nego_req_metadata { HasFaultsOf ⟦<Pku2uNegoReqMetadata as DerEncode>⟧.fault ⟦<<Pku2uNegoReqMetadata as Sequence>::Fields as Fields>⟧ }
+    ensures pku2u_nego_body { HasFaultsOf ⟦<Pku2uNegoBody as DerEncode>⟧.fault ⟦<<Pku2uNegoBody as Sequence>::Fields as Fields>⟧ }
+    ensures pku2u_nego_req { HasFaultsOf ⟦<Pku2uNegoReq as DerEncode>⟧.fault ⟦<<Pku2uNegoReq as Sequence>::Fields as Fields>⟧ }
+    ensures pku2u_nego_rep { HasFaultsOf ⟦<Pku2uNegoRep as DerEncode>⟧.fault ⟦<<Pku2uNegoRep as Sequence>::Fields as Fields>⟧ }
+    ensures krb_finished { HasFaultsOf ⟦<KrbFinished as DerEncode>⟧.fault ⟦<<KrbFinished as Sequence>::Fields as Fields>⟧ }
+{}
 
 /// `==` on each struct: it answers true for equal values and for no others.
 pub fn equality()

@@ -3,6 +3,7 @@
 ghost use Rattle.std.specs.Prelude.{◌≡◌, ℕ, ℤ, List};
 ghost use Rattle.krb_der.specs.Asn1.{application, bit_string, general_string, generalized_time, integer, sequence_of};
 ghost use Rattle.krb_der.specs.BitString.{Bits};
+ghost use Rattle.krb_der.specs.FieldFaults.{HasFaultsOf};
 ghost use Rattle.krb_der.specs.Equality.{TellsEqual};
 ghost use Rattle.krb_der.specs.GeneralizedTime.{Time};
 
@@ -13,6 +14,7 @@ use crate::data_types::{
     PrincipalName, Realm, Ticket, TicketInner, TransitedEncoding,
 };
 use krb_der::DerEncode;
+use krb_der::composite::{Fields, Sequence};
 
 /// The aliases of simple types (RFC 4120, 5.2.1 to 5.2.4, 5.2.8 and 5.5.1).
 pub fn simple_types()
@@ -34,6 +36,22 @@ pub fn lists()
 /// The aliases of structs under an application tag (RFC 4120, 5.3).
 pub fn structs()
     ensures ticket { (v : _) → ⟦<Ticket as DerEncode>⟧.enc v ≡ application 1 (⟦<TicketInner as DerEncode>⟧.enc v) }
+{}
+
+/// The first fault of each struct is that of a SEQUENCE of its fields (X.690, 8.9): its tag, then its fields in order, then what is
+/// left over.
+pub fn faults()
+    ensures host_address { HasFaultsOf ⟦<HostAddress as DerEncode>⟧.fault ⟦<<HostAddress as Sequence>::Fields as Fields>⟧ }
+    ensures authorization_data { HasFaultsOf ⟦<AuthorizationDataInner as DerEncode>⟧.fault ⟦<<AuthorizationDataInner as Sequence>::Fields as Fields>⟧ }
+    ensures restriction { HasFaultsOf ⟦<KerbAdRestrictionEntry as DerEncode>⟧.fault ⟦<<KerbAdRestrictionEntry as Sequence>::Fields as Fields>⟧ }
+    ensures checksum { HasFaultsOf ⟦<Checksum as DerEncode>⟧.fault ⟦<<Checksum as Sequence>::Fields as Fields>⟧ }
+    ensures encrypted_data { HasFaultsOf ⟦<EncryptedData as DerEncode>⟧.fault ⟦<<EncryptedData as Sequence>::Fields as Fields>⟧ }
+    ensures encryption_key { HasFaultsOf ⟦<EncryptionKey as DerEncode>⟧.fault ⟦<<EncryptionKey as Sequence>::Fields as Fields>⟧ }
+    ensures last_req { HasFaultsOf ⟦<LastReqInner as DerEncode>⟧.fault ⟦<<LastReqInner as Sequence>::Fields as Fields>⟧ }
+    ensures principal_name { HasFaultsOf ⟦<PrincipalName as DerEncode>⟧.fault ⟦<<PrincipalName as Sequence>::Fields as Fields>⟧ }
+    ensures change_passwd_data { HasFaultsOf ⟦<ChangePasswdData as DerEncode>⟧.fault ⟦<<ChangePasswdData as Sequence>::Fields as Fields>⟧ }
+    ensures ticket { HasFaultsOf ⟦<TicketInner as DerEncode>⟧.fault ⟦<<TicketInner as Sequence>::Fields as Fields>⟧ }
+    ensures transited_encoding { HasFaultsOf ⟦<TransitedEncoding as DerEncode>⟧.fault ⟦<<TransitedEncoding as Sequence>::Fields as Fields>⟧ }
 {}
 
 /// `==` on each struct: it answers true for equal values and for no others.
