@@ -6,17 +6,13 @@
 #include "c_library.h"
 #include "calls.h"
 #include "memory.h"
+#include "octets.h"
 
-/* The statuses of crates/refusals, and the most octets that it reads. */
-enum { DONE, OUT_OF_MEMORY, REFUSED, CHANGED, NO_CALL, ROOM = 16384 };
+/* The statuses of crates/refusals. */
+enum { DONE, OUT_OF_MEMORY, REFUSED, CHANGED, NO_CALL };
 
 /* The program's, which the linker turned from main (--wrap). */
 int __real_main(int count, char **words);
-
-struct octets {
-    uint8_t at[ROOM];
-    size_t count;
-};
 
 struct answer {
     int status;
@@ -26,11 +22,6 @@ struct answer {
 
 static FILE *report;
 static int passed;
-
-static void die(const char *why) {
-    fprintf(stderr, "refusals: %s\n", why);
-    exit(1);
-}
 
 /* Has the program run on what stands in the file behind its standard input. */
 static struct answer run(long refused, int on) {
@@ -61,10 +52,6 @@ static void give(const char *name, const struct octets *octets) {
         pwrite(STDIN_FILENO, octets->at, octets->count, 1 + length) != (long)octets->count) {
         die("a call cannot be written");
     }
-}
-
-static int are_equal(const struct octets *one, const struct octets *other) {
-    return one->count == other->count && memcmp(one->at, other->at, one->count) == 0;
 }
 
 /* Whether a run with refusals ended well: as the undisturbed one, or for want of memory with nothing written. */
@@ -109,18 +96,6 @@ static struct answer try_call(const char *name, const struct octets *octets, int
     return undisturbed;
 }
 
-static struct octets octets_of(const char *digits) {
-    struct octets made = {.count = 0};
-    unsigned octet;
-    for (; sscanf(digits, "%2x", &octet) == 1; digits += 2) {
-        if (made.count == ROOM) {
-            die("too many octets");
-        }
-        made.at[made.count++] = octet;
-    }
-    return made;
-}
-
 static void try_listed(void) {
     struct octets octets = {.count = 0};
     for (size_t i = 0; i < sizeof calls / sizeof *calls; i++) {
@@ -145,14 +120,26 @@ static void try_listed(void) {
     }
 }
 
-/* Whether the program has a call of this name. */
-static int is_called(const char *name, const struct octets *octets) {
-    give(name, octets);
-    return run(0, 0).status != NO_CALL;
+/* Makes a call that answers the octets that it is made on, where it is to end so. */
+static void try_anew(const char *name, const struct octets *octets, int status) {
+    struct answer made = try_call(name, octets, status);
+    if (status == DONE && !are_equal(&made.octets, octets)) {
+        fprintf(stderr, "refusals: %s: not the octets that were read\n", name);
+        exit(1);
+    }
 }
 
-/* Each row of a table: an origin, a type and digits, with tabs between. What is read is written as the same octets; where a
- * refusal stands in the origin's place, they are refused. */
+/* A PAC, and its first buffer. Whether they are read is as the undisturbed run says: crates/real_pacs has it for each row. */
+static void try_pac(const struct octets *octets) {
+    static const char *names[] = {"Pac", "PacBuffer"};
+    for (int i = 0; i < 2; i++) {
+        give(names[i], octets);
+        try_anew(names[i], octets, run(0, 0).status == REFUSED ? REFUSED : DONE);
+    }
+}
+
+/* Each row of a table: an origin, a name and digits, with tabs between, or an origin and the digits of a PAC. What is read is
+ * written as the same octets; where a refusal stands in the origin's place in front of a name, they are refused. */
 static void try_rows(const char *path) {
     static char line[4 * ROOM];
     FILE *rows = fopen(path, "r");
@@ -160,20 +147,15 @@ static void try_rows(const char *path) {
         die("no such table");
     }
     while (fgets(line, sizeof line, rows)) {
-        char *origin = strtok(line, "\t"), *name = strtok(0, "\t"), *digits = strtok(0, "\t\n");
-        if (*origin == '#' || !digits) {
+        char *origin = strtok(line, "\t\n"), *name = strtok(0, "\t\n"), *digits = strtok(0, "\t\n");
+        if (!name || *origin == '#') {
             continue;
         }
-        int is_refused = 'A' <= *origin && *origin <= 'Z';
-        struct octets octets = octets_of(digits);
-        if (!is_called(name, &octets)) {
-            fprintf(report, "%s\tleft out\n", name);
-            continue;
-        }
-        struct answer made = try_call(name, &octets, is_refused ? REFUSED : DONE);
-        if (!is_refused && !are_equal(&made.octets, &octets)) {
-            fprintf(stderr, "refusals: %s: not the octets that were read\n", name);
-            exit(1);
+        struct octets octets = octets_of(digits ? digits : name);
+        if (digits) {
+            try_anew(name, &octets, 'A' <= *origin && *origin <= 'Z' ? REFUSED : DONE);
+        } else {
+            try_pac(&octets);
         }
     }
     fclose(rows);

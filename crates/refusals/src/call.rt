@@ -1,6 +1,7 @@
 //! The calls, by their names.
 
 use crate::cryptography::try_cryptography;
+use crate::formats::try_format;
 use crate::keys::try_key;
 use crate::outcome::Refusal;
 use crate::parts::try_part;
@@ -23,12 +24,15 @@ fn split(input: &[u8]) -> Option<(&str, &[u8])> {
 }
 
 /// What the call that the input names answers of its octets. A name is a call's, or a call's and a suite's number with a blank
-/// between, or a type's, whose `round_trip` is made.
+/// between, or a type's or a format's, which is read and written.
 pub fn made_of(alloc: Global, input: &[u8]) -> Result<Vec<u8>, Refusal> {
     let Some((name, octets)) = split(input) else {
         return Err(Refusal::NoCall);
     };
     if let Some(made) = try_type(alloc, name, octets) {
+        return made;
+    }
+    if let Some(made) = try_format(alloc, name, octets) {
         return made;
     }
     let Some((call, number)) = name.split_once(' ') else {

@@ -7,6 +7,7 @@
 
 mod call;
 mod cryptography;
+mod formats;
 mod keys;
 mod outcome;
 mod parts;

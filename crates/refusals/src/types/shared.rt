@@ -1,6 +1,6 @@
 //! The types that messages and their parts share, by their names.
 
-use crate::outcome::Refusal;
+use crate::outcome::Attempt;
 use crate::round_trip::round_trip;
 use krb_types::data_types::{
     ApOptions, AuthorizationData, AuthorizationDataInner, ChangePasswdData, Checksum,
@@ -10,42 +10,93 @@ use krb_types::data_types::{
 };
 use std::alloc::Global;
 
-/// The round trip of the octets as those of a type that is no sequence, by its name.
-pub fn try_simple(alloc: Global, name: &str, octets: &[u8]) -> Option<Result<Vec<u8>, Refusal>> {
+/// The round trip of the octets as those of a type that messages share, by its name. `None` where none has it.
+pub fn try_shared(alloc: Global, name: &str, octets: &[u8]) -> Attempt {
+    if let Some(made) = try_flags(alloc, name, octets) {
+        return Some(made);
+    }
+    if let Some(made) = try_text(alloc, name, octets) {
+        return Some(made);
+    }
+    if let Some(made) = try_cryptographic(alloc, name, octets) {
+        return Some(made);
+    }
+    if let Some(made) = try_principal(alloc, name, octets) {
+        return Some(made);
+    }
+    if let Some(made) = try_authorization(alloc, name, octets) {
+        return Some(made);
+    }
+    if let Some(made) = try_last_request(alloc, name, octets) {
+        return Some(made);
+    }
+    try_ticket(alloc, name, octets)
+}
+
+/// Flags, or microseconds.
+fn try_flags(alloc: Global, name: &str, octets: &[u8]) -> Attempt {
     match name {
         "ApOptions" => Some(round_trip::<ApOptions>(alloc, octets)),
         "KerberosFlags" => Some(round_trip::<KerberosFlags>(alloc, octets)),
+        "Microseconds" => Some(round_trip::<Microseconds>(alloc, octets)),
+        _ => None,
+    }
+}
+
+/// Text, or a time.
+fn try_text(alloc: Global, name: &str, octets: &[u8]) -> Attempt {
+    match name {
         "KerberosStringAsn1" => Some(round_trip::<KerberosStringAsn1>(alloc, octets)),
         "KerberosTime" => Some(round_trip::<KerberosTime>(alloc, octets)),
-        "Microseconds" => Some(round_trip::<Microseconds>(alloc, octets)),
         "Realm" => Some(round_trip::<Realm>(alloc, octets)),
         _ => None,
     }
 }
 
-/// The round trip of the octets as those of a sequence of leaves, by its name.
-pub fn try_shared(alloc: Global, name: &str, octets: &[u8]) -> Option<Result<Vec<u8>, Refusal>> {
+/// What a key makes, or a key.
+fn try_cryptographic(alloc: Global, name: &str, octets: &[u8]) -> Attempt {
     match name {
-        "AuthorizationDataInner" => Some(round_trip::<AuthorizationDataInner>(alloc, octets)),
         "Checksum" => Some(round_trip::<Checksum>(alloc, octets)),
         "EncryptedData" => Some(round_trip::<EncryptedData>(alloc, octets)),
         "EncryptionKey" => Some(round_trip::<EncryptionKey>(alloc, octets)),
+        _ => None,
+    }
+}
+
+/// A name, or an address.
+fn try_principal(alloc: Global, name: &str, octets: &[u8]) -> Attempt {
+    match name {
         "HostAddress" => Some(round_trip::<HostAddress>(alloc, octets)),
-        "KerbAdRestrictionEntry" => Some(round_trip::<KerbAdRestrictionEntry>(alloc, octets)),
-        "LastReqInner" => Some(round_trip::<LastReqInner>(alloc, octets)),
+        "HostAddresses" => Some(round_trip::<HostAddresses>(alloc, octets)),
         "PrincipalName" => Some(round_trip::<PrincipalName>(alloc, octets)),
+        _ => None,
+    }
+}
+
+/// Authorization data.
+fn try_authorization(alloc: Global, name: &str, octets: &[u8]) -> Attempt {
+    match name {
+        "AuthorizationData" => Some(round_trip::<AuthorizationData>(alloc, octets)),
+        "AuthorizationDataInner" => Some(round_trip::<AuthorizationDataInner>(alloc, octets)),
+        "KerbAdRestrictionEntry" => Some(round_trip::<KerbAdRestrictionEntry>(alloc, octets)),
+        _ => None,
+    }
+}
+
+/// When a client last asked, or over which realms.
+fn try_last_request(alloc: Global, name: &str, octets: &[u8]) -> Attempt {
+    match name {
+        "LastReq" => Some(round_trip::<LastReq>(alloc, octets)),
+        "LastReqInner" => Some(round_trip::<LastReqInner>(alloc, octets)),
         "TransitedEncoding" => Some(round_trip::<TransitedEncoding>(alloc, octets)),
         _ => None,
     }
 }
 
-/// The round trip of the octets as those of a list, or of a sequence that holds one, by its name.
-pub fn try_list(alloc: Global, name: &str, octets: &[u8]) -> Option<Result<Vec<u8>, Refusal>> {
+/// A ticket, or a password that is changed.
+fn try_ticket(alloc: Global, name: &str, octets: &[u8]) -> Attempt {
     match name {
-        "AuthorizationData" => Some(round_trip::<AuthorizationData>(alloc, octets)),
         "ChangePasswdData" => Some(round_trip::<ChangePasswdData>(alloc, octets)),
-        "HostAddresses" => Some(round_trip::<HostAddresses>(alloc, octets)),
-        "LastReq" => Some(round_trip::<LastReq>(alloc, octets)),
         "Ticket" => Some(round_trip::<Ticket>(alloc, octets)),
         "TicketInner" => Some(round_trip::<TicketInner>(alloc, octets)),
         _ => None,
