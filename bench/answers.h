@@ -48,18 +48,16 @@ static void expect_keys(void) {
     expect("string to key, suite 16",
            bench_string_to_key(16, TEXT("password"), TEXT("ATHENA.MIT.EDUraeburn"), ARRAY(out)), out,
            "850bb51358548cd05e86768c313e3bfef7511937dcf72c3e");
-    expect("string to key, suite 17",
-           bench_string_to_key(17, TEXT("5hYYSAfFJp"), TEXT("EXAMPLE.COMtest1"), ARRAY(out)), out,
-           "bb43d002e37743161256aec90681cfdc");
-    expect("string to key, suite 18",
-           bench_string_to_key(18, TEXT("5hYYSAfFJp"), TEXT("EXAMPLE.COMtest1"), ARRAY(out)), out,
-           "daded1cc15ae17deaa63a490f7678944758f3b255a542569cb20eba761eeabac");
-    expect("string to key, suite 19",
-           bench_string_to_key(19, TEXT("5hYYSAfFJp"), TEXT("EXAMPLE.COMtest1"), ARRAY(out)), out,
-           "78c98f9d0b74b9b57195be0fd553a71c");
-    expect("string to key, suite 20",
-           bench_string_to_key(20, TEXT("5hYYSAfFJp"), TEXT("EXAMPLE.COMtest1"), ARRAY(out)), out,
-           "ce84d695a69c689855158579fe1dfc4150f4cc2ffa0f21662ee8818a9d87c178");
+    static const char *const keys[] = {
+        "bb43d002e37743161256aec90681cfdc",
+        "daded1cc15ae17deaa63a490f7678944758f3b255a542569cb20eba761eeabac",
+        "78c98f9d0b74b9b57195be0fd553a71c",
+        "ce84d695a69c689855158579fe1dfc4150f4cc2ffa0f21662ee8818a9d87c178",
+    };
+    for (size_t i = 0; i < sizeof keys / sizeof *keys; i++) {
+        expect("string to key, a suite of AES",
+               bench_string_to_key(17 + i, TEXT("5hYYSAfFJp"), TEXT("EXAMPLE.COMtest1"), ARRAY(out)), out, keys[i]);
+    }
 }
 
 /* A part's octets. */
