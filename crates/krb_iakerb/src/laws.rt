@@ -1,11 +1,14 @@
 //! Laws over the definitions, of functions that do nothing.
 
-ghost use Rattle.std.specs.Prelude.{◌≡◌, List, ℕ};
-ghost use Rattle.krb_der.specs.FieldFaults.{HasFaultsOf};
+ghost use Rattle.std.specs.Prelude.{◌≡◌, ◌<◌, ◌^◌, List, length, ℕ};
+ghost use Rattle.krb_leaves.specs.declared.error.Asn1DerError.{Asn1DerError};
+ghost use Rattle.krb_der.specs.FieldFaults.{SameFault};
 ghost use Rattle.krb_der.specs.Equality.{TellsEqual};
 ghost use Rattle.krb_iakerb.specs.Header.{HeaderReads};
+ghost use Rattle.krb_iakerb.specs.HeaderFaults.{IAKerbHeaderFault, extensible_fault};
 
 use crate::messages::IAKerbHeader;
+use crate::reading::known_faults;
 use krb_der::DerEncode;
 use krb_der::composite::{Fields, Sequence};
 
@@ -18,11 +21,17 @@ pub fn header_readings()
         → HeaderReads (⟦<IAKerbHeader as DerEncode>⟧.enc h) w → w ≡ h }
 {}
 
-/// The first fault of a header is that of a SEQUENCE of its fields (X.690, 8.9): its tag, then its fields in order, then what is
-/// left over.
+/// The first fault of a header (draft-ietf-kitten-iakerb-03, 3): its tag, then its known fields in order. What follows them in the
+/// SEQUENCE is none, so that what is read as a header has no fault.
 pub fn faults()
-    ensures iakerb_header { HasFaultsOf ⟦<IAKerbHeader as DerEncode>⟧.fault ⟦<<IAKerbHeader as Sequence>::Fields as Fields>⟧ }
-{}
+    ensures iakerb_header { SameFault ⟦<IAKerbHeader as DerEncode>⟧.fault (extensible_fault ⟦<<IAKerbHeader as Sequence>::Fields as Fields>⟧) }
+    ensures one_fault { (octets : List ℕ) (e d : Asn1DerError) → length octets < 2 ^ 64
+        → IAKerbHeaderFault ⟦<IAKerbHeader as DerEncode>⟧ octets e → IAKerbHeaderFault ⟦<IAKerbHeader as DerEncode>⟧ octets d → e ≡ d }
+    ensures none_where_read { (octets : List ℕ) (e : Asn1DerError) (h : IAKerbHeader) → length octets < 2 ^ 64
+        → IAKerbHeaderFault ⟦<IAKerbHeader as DerEncode>⟧ octets e → ⟦<IAKerbHeader as DerEncode>⟧.is_value h → HeaderReads octets h → ⊥ }
+{
+    known_faults::<<IAKerbHeader as Sequence>::Fields>();
+}
 
 /// `==` on headers: it answers true for equal values and for no others.
 pub fn equality()

@@ -2,6 +2,6 @@
 //! is ignored.
 #![tactic(auto)]
 
-mod content;
 pub mod laws;
 pub mod messages;
+pub mod reading;

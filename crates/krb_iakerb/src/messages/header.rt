@@ -3,23 +3,21 @@
 ghost use Rattle.std.specs.Prelude.{◌≡◌, ◌==◌, ◌++◌, ◌+◌, ◌<◌, ◌^◌, refl, length, List, ℕ, Option, IfOk, IfErr, IfSome, MatchResult};
 ghost use Rattle.krb_der.specs.Asn1.{bit_string, explicit, octet_string, sequence, utf8_string};
 ghost use Rattle.krb_der.specs.Encoding.{optional};
-ghost use Rattle.krb_der.specs.Reading.{TakesFront};
-ghost use Rattle.krb_der.specs.FieldFaults.{sequence_fault};
-ghost use Rattle.krb_der.specs.FieldFaultLaws.{sequence_fault_laws};
 ghost use Rattle.krb_der.specs.SequenceLaws.{one_value_of, values_of};
 ghost use Rattle.krb_der.specs.TlvLaws.{only_tag, tagged_element};
 ghost use Rattle.krb_der.specs.Whole.{Answers, FailsWith, NoDevice};
 ghost use Rattle.krb_leaves.specs.declared.error.Asn1DerError.TheVariants.{InvalidData, OutOfMemory, TruncatedData};
-ghost use Rattle.krb_iakerb.specs.Fields.{IsTold};
-ghost use Rattle.krb_iakerb.specs.Header.{ContentReads, HeaderReads};
+ghost use Rattle.krb_leaves.specs.Faults.{OrMemory};
+ghost use Rattle.krb_iakerb.specs.Header.{HeaderReads};
+ghost use Rattle.krb_iakerb.specs.HeaderFaults.{IAKerbHeaderFault, extensible_fault, extensible_fault_laws};
 
-use crate::content::SequenceContent;
-use krb_der::composite::{Fields, SEQUENCE, Sequence, TagNumber, write_sequence};
+use crate::reading::read_content;
+use krb_der::composite::{Fields, SEQUENCE, Sequence, write_sequence};
 use krb_der::{
-    Asn1DerError, BitStringAsn1, Der, DerEncode, DerSequence, ExplicitContextTag,
-    ExplicitContextTag1, ExplicitContextTag2, ExplicitContextTag3, OctetStringAsn1, Optional,
-    Utf8StringAsn1, field_refs, from_bytes, to_vec,
+    Asn1DerError, BitStringAsn1, DerEncode, DerSequence, ExplicitContextTag1, ExplicitContextTag2,
+    ExplicitContextTag3, OctetStringAsn1, Optional, Utf8StringAsn1, field_refs, to_vec,
 };
+use krb_leaves::read_tlv;
 use std::alloc::{AllocError, Global};
 
 /// What the server wants to see again: a client copies it into its next message (draft-ietf-kitten-iakerb-03, 3).
@@ -79,9 +77,9 @@ impl DerEncode for IAKerbHeader {
 
     ghost one_value = { one_value_of ⟦<Self as Sequence>⟧ ⟦<<Self as Sequence>::Fields as Fields>⟧ (λ v. refl) (tt, only_tag 162 _ refl, only_tag 163 _ refl) };
 
-    ghost fault = { sequence_fault ⟦<<Self as Sequence>::Fields as Fields>⟧ };
+    ghost fault = { extensible_fault ⟦<<Self as Sequence>::Fields as Fields>⟧ };
 
-    ghost fault_laws = { sequence_fault_laws ⟦<Self as Sequence>⟧ ⟦<<Self as Sequence>::Fields as Fields>⟧ (tt, only_tag 162 _ refl, only_tag 163 _ refl) };
+    ghost fault_laws = { extensible_fault_laws ⟦<Self as Sequence>⟧ ⟦<<Self as Sequence>::Fields as Fields>⟧ (tt, only_tag 162 _ refl, only_tag 163 _ refl) };
 
     fn starts(octet: u8) -> bool {
         octet == SEQUENCE
@@ -100,18 +98,26 @@ impl IAKerbHeader {
     /// The header that the input is read as, all of it.
     ///
     /// It is a SEQUENCE of the realm, then the cookie if the next octet is `a2`, then the flags if the next octet is `a3`; all
-    /// octets that are left in the sequence are ignored. A proper front of a SEQUENCE is `TruncatedData`, and a SEQUENCE with
-    /// octets behind it `InvalidData`; on other octets the first fault decides, from the left. `Io` is never answered.
+    /// octets that are left in the sequence are ignored. A proper front of a SEQUENCE is `TruncatedData`; on other octets the
+    /// first fault decides, from the left: the tag, the length, the realm, the cookie, the flags, and last `InvalidData` where
+    /// octets are left behind the SEQUENCE. `Io` is never answered.
     pub fn from_bytes(alloc: Global, octets: &[u8]) -> Result<IAKerbHeader, Asn1DerError>
         ensures valid { IfOk result ⟦<IAKerbHeader as DerEncode>⟧.is_value }
         ensures found { IfOk result (HeaderReads octets.now) }
         ensures reads { (h : IAKerbHeader) → ⟦<IAKerbHeader as DerEncode>⟧.is_value h → HeaderReads octets.now h → Answers result h }
-        ensures cut { (content rest : List ℕ) → 0 < length rest → length (sequence content) < 2 ^ 64 → sequence content ≡ octets.now ++ rest → FailsWith result TruncatedData }
-        ensures more { (content rest : List ℕ) → 0 < length rest → octets.now ≡ sequence content ++ rest → FailsWith result InvalidData }
+        ensures cut { (content rest : List ℕ) → 0 < length rest → length (sequence content) < 2 ^ 64
+            → sequence content ≡ octets.now ++ rest → FailsWith result TruncatedData }
+        ensures more { (h : IAKerbHeader) (b rest : List ℕ) → ⟦<IAKerbHeader as DerEncode>⟧.is_value h → HeaderReads b h → 0 < length rest
+            → octets.now ≡ b ++ rest → FailsWith result InvalidData }
         ensures no_device { IfErr result NoDevice }
+        ensures first_fault { IfErr result (OrMemory (IAKerbHeaderFault ⟦<IAKerbHeader as DerEncode>⟧ octets.now)) }
     {
-        let content = from_bytes::<SequenceContent>(alloc, octets)?;
-        read_content(alloc, &content.0)
+        let (content, taken) = read_tlv(SEQUENCE, octets)?;
+        let header = read_content(alloc, content)?;
+        if taken != octets.len() {
+            return Err(Asn1DerError::InvalidData);
+        }
+        Ok(header)
     }
 
     /// An equal header. `OutOfMemory` alone is answered in its place.
@@ -121,42 +127,4 @@ impl IAKerbHeader {
         let octets = to_vec(alloc, self)?;
         IAKerbHeader::from_bytes(alloc, &octets)
     }
-}
-
-/// The header that the content of a sequence is read as.
-fn read_content(alloc: Global, content: &[u8]) -> Result<IAKerbHeader, Asn1DerError>
-    ensures valid { IfOk result ⟦<IAKerbHeader as DerEncode>⟧.is_value }
-    ensures found { IfOk result (ContentReads content.now) }
-    ensures reads { (h : IAKerbHeader) → ⟦<IAKerbHeader as DerEncode>⟧.is_value h → ContentReads content.now h → Answers result h }
-    ensures no_device { IfErr result NoDevice }
-{
-    let (target_realm, taken) = ExplicitContextTag1::<Utf8StringAsn1>::read_fields(alloc, content)?;
-    let behind_realm = &content[taken..];
-    let (cookie, taken) = read_optional(alloc, behind_realm)?;
-    let (flags, _) = read_optional(alloc, &behind_realm[taken..])?;
-    Ok(IAKerbHeader {
-        target_realm,
-        cookie,
-        flags,
-    })
-}
-
-/// The field that may be absent at the front of the input, and the number of its octets: it is there where the next octet is its
-/// tag, whatever follows it.
-fn read_optional<T: Der + Drop, N: TagNumber>(
-    alloc: Global,
-    input: &[u8],
-) -> Result<(Optional<Option<ExplicitContextTag<T, N>>>, usize), Asn1DerError>
-    ensures valid { IfOk result (λ p. IfSome p.0.0 T.is_value) }
-    ensures found { IfOk result (λ p. TakesFront (optional (λ x. explicit N.number (T.enc x)) p.0.0) p.1 input.now) }
-    ensures told { IfOk result (λ p. IsTold (160 + N.number) p.0.0 input.now) }
-    ensures reads { (w : Option T) (y : List ℕ) → IfSome w T.is_value → IsTold (160 + N.number) w input.now
-        → input.now ≡ optional (λ x. explicit N.number (T.enc x)) w ++ y → MatchResult result (λ p. p.0.0 ≡ w) (λ e. e ≡ OutOfMemory) }
-    ensures no_device { IfErr result NoDevice }
-{
-    if input.is_empty() || !ExplicitContextTag::<T, N>::starts(input[0]) {
-        return Ok((Optional(None), 0));
-    }
-    let (field, taken) = ExplicitContextTag::<T, N>::read_fields(alloc, input)?;
-    Ok((Optional(Some(field)), taken))
 }
