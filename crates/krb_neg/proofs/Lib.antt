@@ -2,3 +2,4 @@ mod Retagging
 mod Faults
 mod KrbTokens
 mod Proxies
+mod OneFaults

@@ -1,14 +1,15 @@
 -- A token of IAKERB is not refused, but for want of memory.
-use Rattle.std.proofs.Common.{◌≡◌, ℕ, ◌+◌, ◌-◌, ◌<◌, ◌^◌, ◌⊎◌, inl, inr, Bool, List, [], ◌∷◌, ◌++◌, length, take, drop, refl, sym, ap, subst, ◌∙◌, append_assoc, arith, rules, tests}
-use Rattle.std.proofs.lemmas.List.{append-nil, append_cancel_left, take_at}
-use Rattle.std.specs.Int.Digits.{digits_of}
+use Rattle.std.proofs.Common.{◌≡◌, ℕ, ◌-◌, ◌<◌, ◌^◌, ◌⊎◌, inl, inr, List, [], ◌∷◌, ◌++◌, length, take, drop, refl, sym, ap, subst, ◌∙◌, arith, rules, tests}
+use Rattle.std.proofs.lemmas.List.{append_cancel_left, take_rest}
 use Rattle.std.proofs.lemmas.Fmt.{decimal_digit}
 use Rattle.krb_leaves.specs.declared.error.Asn1DerError.{Asn1DerError}
 use Rattle.krb_leaves.specs.declared.error.Asn1DerError.TheVariants as errors
-use Rattle.krb_leaves.specs.Reading.{Elements, RefusesFront, TakesFront}
+use Rattle.krb_leaves.specs.Reading.{Elements, TakesFront}
 use Rattle.krb_leaves.specs.Tlv.{len, tlv}
 use Rattle.krb_leaves.specs.TlvLaws.{same_fronts, tlv_apart}
-use Rattle.krb_leaves.specs.Encoding.{IsElement, OneValue}
+use Rattle.krb_leaves.specs.declared.der.DerEncode.{Ghosts as EncodingOf}
+use Rattle.krb_leaves.specs.Encoding.{OneValue}
+use Rattle.krb_leaves.specs.Faults.{OrMemory}
 use Rattle.krb_identifiers.specs.ObjectIdentifier.{IsArcs, dotted, object_identifier, sub_identifier}
 use Rattle.krb_tokens.specs.declared.error.GssApiMessageError.{GssApiMessageError}
 use Rattle.krb_tokens.specs.declared.error.GssApiMessageError.TheVariants as gss
@@ -17,7 +18,7 @@ use Rattle.krb_identifiers.specs.ObjectIdentifier.{arcs_content}
 use Rattle.krb_identifiers.specs.ObjectIdentifierLaws.{arcs_one_content}
 use Rattle.krb_leaves.specs.TlvLaws.{tagged_one_value}
 use Rattle.krb_der.specs.Whole.{NoDevice}
-use Rattle.krb_iakerb.specs.Header.{HeaderReads}
+use Rattle.krb_iakerb.specs.Header.{ContentReads, HeaderReads}
 use Rattle.krb_iakerb.specs.declared.messages.header.IAKerbHeader.{IAKerbHeader}
 use Rattle.std.specs.Prelude.{IfSome}
 use Rattle.std.specs.Str.{IsUtf8}
@@ -41,26 +42,26 @@ iakerb_text = rw (decimal_digit 1 (omega arith), decimal_digit 3 (omega arith), 
 
 -- ---- the header
 
--- the element that was taken
-pub taken_is : (b octets : List ℕ) (n : ℕ) → TakesFront b n octets → take n octets ≡ b
-taken_is b octets n f = ap (λ (l : List ℕ). take n l) f.front ∙ take_at b (drop n octets) n (sym f.count)
-
-pub header_told : (is_value : IAKerbHeader → Type 0) (content octets : List ℕ) (n : ℕ) (f : Asn1DerError) → TakesFront (tlv 48 content) n octets → NoDevice f
-    → ((h : IAKerbHeader) → is_value h → HeaderReads (take n octets) h → f ≡ errors.OutOfMemory) → NoHeader is_value octets f
-header_told is_value content octets n f t device none = record {
+pub header_told : (h : EncodingOf IAKerbHeader) (content octets : List ℕ) (n : ℕ) (f : Asn1DerError) → TakesFront (tlv 48 content) n octets → NoDevice f
+    → ((v : IAKerbHeader) → h.is_value v → ContentReads content v → f ≡ errors.OutOfMemory) → OrMemory (h.fault 48 content) f → NoHeader h octets f
+header_told h content octets n f t device none first = record {
   content = content;
   behind = drop n octets;
   front = t.front;
   no_device = device;
-  none = λ h hv r. none h hv (subst (λ (l : List ℕ). HeaderReads l h) (sym (taken_is (tlv 48 content) octets n t)) r);
+  none = λ v hv r. none v hv (subst (λ (l : List ℕ). ContentReads l v) (sym (tlv_same 48 48 content r.0 r.1)) r.2);
+  first = first;
 }
 
-no_header_fault : (is_value : IAKerbHeader → Type 0) (h : IAKerbHeader) (b behind octets : List ℕ) (e : GssApiMessageError) → length octets < 2 ^ 64 → is_value h → HeaderReads b h → octets ≡ b ++ behind → HeaderRefused is_value octets e → e ≡ gss.OutOfMemory
-no_header_fault is_value h b behind octets e lt hv r q (f, t, inl k) =
-    absurd (k.0 (front_memory (Elements 48) octets f k.1 b behind (r.0, (behind_fits b behind octets lt q).0, r.1) q))
-no_header_fault is_value h b behind octets e lt hv r q (f, t, inr k) =
-    let s = tlv_apart 48 48 k.content r.0 k.behind behind (sym k.front ∙ q ∙ ap (λ (l : List ℕ). l ++ behind) r.1) in
-    t ∙ ap of_der (k.none h hv (subst (λ (l : List ℕ). HeaderReads l h) (r.1 ∙ ap (λ (l : List ℕ). tlv 48 l) (sym s.content)) r))
+pub header_found : (content octets : List ℕ) (n : ℕ) (v : IAKerbHeader) → TakesFront (tlv 48 content) n octets → ContentReads content v → (b : List ℕ) × HeaderReads b v × (octets ≡ b ++ take (length octets - n) (drop n octets))
+header_found content octets n v t r = (tlv 48 content, (content, refl, r), t.front ∙ ap (λ (l : List ℕ). tlv 48 content ++ l) (sym (take_rest octets n)))
+
+pub no_header_fault : (k : EncodingOf IAKerbHeader) (h : IAKerbHeader) (b behind octets : List ℕ) (e : GssApiMessageError) → length octets < 2 ^ 64 → k.is_value h → HeaderReads b h → octets ≡ b ++ behind → HeaderRefused k octets e → e ≡ gss.OutOfMemory
+no_header_fault k h b behind octets e lt hv r q (f, t, inl x) =
+    absurd (x.0 (front_memory (Elements 48) octets f x.1 b behind (r.0, (behind_fits b behind octets lt q).0, r.1) q))
+no_header_fault k h b behind octets e lt hv r q (f, t, inr x) =
+    let s = tlv_apart 48 48 x.content r.0 x.behind behind (sym x.front ∙ q ∙ ap (λ (l : List ℕ). l ++ behind) r.1) in
+    t ∙ ap of_der (x.none h hv (subst (λ (l : List ℕ). HeaderReads l h) (r.1 ∙ ap (λ (l : List ℕ). tlv 48 l) (sym s.content)) r))
 
 -- what stands behind a header
 pub behind_header : (h other : IAKerbHeader) (b c x y : List ℕ) → HeaderReads b h → HeaderReads c other → b ++ x ≡ c ++ y → (b ≡ c) × (x ≡ y)
@@ -74,32 +75,32 @@ behind_header h other b c x y r s e =
 pub iakerb_arcs : IsArcs iakerb
 iakerb_arcs = search (rules, tests)
 
-proxy_id_two : IsTokenId proxy_id
+pub proxy_id_two : IsTokenId proxy_id
 proxy_id_two = search (rules, tests)
 
-module _ {A : Type 0} (is_header : IAKerbHeader → Type 0) (is_value : A → Type 0) (enc : A → List ℕ) (first : ℕ → Bool) (element : (v : A) → is_value v → IsElement first (enc v)) (one : OneValue is_value enc) where
-  module _ (h : IAKerbHeader) (hh : is_header h) (v : A) (hv : is_value v) (e : GssApiMessageError) where
-    at_header : (b octets : List ℕ) → length octets < 2 ^ 64 → HeaderReads b h → octets ≡ b ++ enc v → HeaderRefused is_header octets e ⊎ BehindHeader octets (λ last. MessageRefused is_value enc last e) → e ≡ gss.OutOfMemory
-    at_header b octets lt r q (inl k) = no_header_fault is_header h b (enc v) octets e lt hh r q k
+module _ {A : Type 0} (kind : EncodingOf IAKerbHeader) (m : EncodingOf A) where
+  module _ (h : IAKerbHeader) (hh : kind.is_value h) (v : A) (hv : m.is_value v) (e : GssApiMessageError) where
+    at_header : (b octets : List ℕ) → length octets < 2 ^ 64 → HeaderReads b h → octets ≡ b ++ m.enc v → HeaderRefused kind octets e ⊎ BehindHeader kind octets (λ last. MessageRefused m last e) → e ≡ gss.OutOfMemory
+    at_header b octets lt r q (inl k) = no_header_fault kind h b (m.enc v) octets e lt hh r q k
     at_header b octets lt r q (inr k) =
-        let s = behind_header k.0 h k.1 b k.2 (enc v) k.3 r (sym k.4 ∙ q) in
-        no_message_fault is_value enc first element one v k.2 e (behind_fits k.1 k.2 octets lt k.4).1 hv s.1 k.5
+        let s = behind_header k.0 h k.1 b k.2 (m.enc v) k.4 r (sym k.5 ∙ q) in
+        no_message_fault m v k.2 e (behind_fits k.1 k.2 octets lt k.5).1 hv s.1 k.6
 
-    at_id : (b behind : List ℕ) → length behind < 2 ^ 64 → HeaderReads b h → behind ≡ proxy_id ++ (b ++ enc v)
-        → ProxyIdRefused behind e ⊎ ((octets : List ℕ) × (behind ≡ proxy_id ++ octets) × (HeaderRefused is_header octets e ⊎ BehindHeader octets (λ last. MessageRefused is_value enc last e))) → e ≡ gss.OutOfMemory
-    at_id b behind lt r q (inl (inl k)) = absurd (no_id_fault proxy_id (b ++ enc v) behind e proxy_id_two q k)
-    at_id b behind lt r q (inl (inr k)) = absurd (k.4.0 (same_fronts k.0 proxy_id k.1 (b ++ enc v) (k.2.two ∙ sym proxy_id_two.two) (sym k.3 ∙ q)).0)
-    at_id b behind lt r q (inr k) = at_header b k.0 (behind_fits proxy_id k.0 behind lt k.1).1 r (append_cancel_left proxy_id k.0 (b ++ enc v) (sym k.1 ∙ q)) k.2
+    at_id : (b behind : List ℕ) → length behind < 2 ^ 64 → HeaderReads b h → behind ≡ proxy_id ++ (b ++ m.enc v)
+        → ProxyIdRefused behind e ⊎ ((octets : List ℕ) × (behind ≡ proxy_id ++ octets) × (HeaderRefused kind octets e ⊎ BehindHeader kind octets (λ last. MessageRefused m last e))) → e ≡ gss.OutOfMemory
+    at_id b behind lt r q (inl (inl k)) = absurd (no_id_fault proxy_id (b ++ m.enc v) behind e proxy_id_two q k)
+    at_id b behind lt r q (inl (inr k)) = absurd (k.4.0 (same_fronts k.0 proxy_id k.1 (b ++ m.enc v) (k.2.two ∙ sym proxy_id_two.two) (sym k.3 ∙ q)).0)
+    at_id b behind lt r q (inr k) = at_header b k.0 (behind_fits proxy_id k.0 behind lt k.1).1 r (append_cancel_left proxy_id k.0 (b ++ m.enc v) (sym k.1 ∙ q)) k.2
 
-    at_mechanism : (b content : List ℕ) → length content < 2 ^ 64 → HeaderReads b h → content ≡ object_identifier iakerb ++ (proxy_id ++ (b ++ enc v))
-        → IAKerbRefused content e ⊎ ((behind : List ℕ) × (content ≡ object_identifier iakerb ++ behind) × (ProxyIdRefused behind e ⊎ ((octets : List ℕ) × (behind ≡ proxy_id ++ octets) × (HeaderRefused is_header octets e ⊎ BehindHeader octets (λ last. MessageRefused is_value enc last e))))) → e ≡ gss.OutOfMemory
-    at_mechanism b content lt r q (inl (inl k)) = no_mechanism_fault iakerb (proxy_id ++ (b ++ enc v)) content e lt iakerb_arcs q k
+    at_mechanism : (b content : List ℕ) → length content < 2 ^ 64 → HeaderReads b h → content ≡ object_identifier iakerb ++ (proxy_id ++ (b ++ m.enc v))
+        → IAKerbRefused content e ⊎ ((behind : List ℕ) × (content ≡ object_identifier iakerb ++ behind) × (ProxyIdRefused behind e ⊎ ((octets : List ℕ) × (behind ≡ proxy_id ++ octets) × (HeaderRefused kind octets e ⊎ BehindHeader kind octets (λ last. MessageRefused m last e))))) → e ≡ gss.OutOfMemory
+    at_mechanism b content lt r q (inl (inl k)) = no_mechanism_fault iakerb (proxy_id ++ (b ++ m.enc v)) content e lt iakerb_arcs q k
     at_mechanism b content lt r q (inl (inr k)) =
-        let s = one_mechanism k.0 iakerb k.1 (proxy_id ++ (b ++ enc v)) (sym k.3 ∙ q) in
+        let s = one_mechanism k.0 iakerb k.1 (proxy_id ++ (b ++ m.enc v)) (sym k.3 ∙ q) in
         absurd (k.4.0 (tagged_one_value 6 IsArcs arcs_content arcs_one_content k.0 iakerb k.2 iakerb_arcs s.0))
-    at_mechanism b content lt r q (inr k) = at_id b k.0 (behind_fits (object_identifier iakerb) k.0 content lt k.1).1 r (append_cancel_left (object_identifier iakerb) k.0 (proxy_id ++ (b ++ enc v)) (sym k.1 ∙ q)) k.2
+    at_mechanism b content lt r q (inr k) = at_id b k.0 (behind_fits (object_identifier iakerb) k.0 content lt k.1).1 r (append_cancel_left (object_identifier iakerb) k.0 (proxy_id ++ (b ++ m.enc v)) (sym k.1 ∙ q)) k.2
 
-    pub no_refusal : (input content rest : List ℕ) → length input < 2 ^ 64 → input ≡ token content ++ rest → ProxyReads enc content h v → ProxyRefused is_header is_value enc input e → e ≡ gss.OutOfMemory
+    pub no_refusal : (input content rest : List ℕ) → length input < 2 ^ 64 → input ≡ token content ++ rest → ProxyReads m.enc content h v → ProxyRefused kind m input e → e ≡ gss.OutOfMemory
     no_refusal input content rest lt q p (inl k) = no_frame_fault content rest input e lt q k
     no_refusal input content rest lt q p (inr k) =
         let s = tlv_apart 96 96 k.0 content k.1 rest (sym k.2 ∙ q) in

@@ -2,7 +2,8 @@
 use Rattle.std.specs.Prelude.{◌≡◌, ◌⊎◌, ℕ, List, [], ◌∷◌, ◌++◌}
 use Rattle.krb_leaves.specs.declared.error.Asn1DerError.{Asn1DerError}
 use Rattle.krb_leaves.specs.declared.error.Asn1DerError.TheVariants as errors
-use Rattle.krb_leaves.specs.Reading.{Elements, RefusesFront}
+use Rattle.krb_leaves.specs.declared.der.DerEncode.{Ghosts as EncodingOf}
+use Rattle.krb_leaves.specs.Faults.{OrMemory}
 use Rattle.krb_leaves.specs.Tlv.{tlv}
 use Rattle.krb_der.specs.Whole.{NoDevice}
 use Rattle.krb_identifiers.specs.ObjectIdentifier.{dotted, object_identifier}
@@ -11,7 +12,7 @@ use Rattle.krb_iakerb.specs.declared.messages.header.IAKerbHeader.{IAKerbHeader}
 use Rattle.krb_tokens.specs.declared.error.GssApiMessageError.{GssApiMessageError}
 use Rattle.krb_tokens.specs.declared.error.GssApiMessageError.TheVariants as gss
 use Rattle.krb_tokens.specs.Errors.{of_der}
-use Rattle.krb_neg.specs.Refused.{BehindId, BehindMechanism, FrameRefused, IdRefused, InToken, MechanismRefused, MessageRefused}
+use Rattle.krb_neg.specs.Refused.{BehindId, BehindMechanism, ElementRefused, FrameRefused, IdRefused, InToken, MechanismRefused, MessageRefused}
 
 -- 1.3.6.1.5.2.5: IAKERB
 abbrev pub iakerb : List ℕ
@@ -46,25 +47,27 @@ IAKerbRefused content e = MechanismRefused content e ⊎ BehindMechanism content
 abbrev pub ProxyIdRefused : List ℕ → GssApiMessageError → Type 0
 ProxyIdRefused octets e = IdRefused octets e ⊎ BehindId octets (λ id behind. (id ≡ proxy_id → ⊥) × (e ≡ gss.InvalidId proxy_id id))
 
--- an element of this content stands at the front, and is read as no header, but for want of memory
-pub record NoHeader (is_value : IAKerbHeader → Type 0) (octets : List ℕ) (f : Asn1DerError) : Type 0 where
+-- A sequence of this content stands at the front, and is read as no header; its first fault is told, but for want of memory.
+pub record NoHeader (h : EncodingOf IAKerbHeader) (octets : List ℕ) (f : Asn1DerError) : Type 0 where
   pub content : List ℕ
   pub behind : List ℕ
   pub front : octets ≡ tlv 48 content ++ behind
   pub no_device : NoDevice f
-  pub none : (h : IAKerbHeader) → is_value h → HeaderReads (tlv 48 content) h → f ≡ errors.OutOfMemory
+  pub none : (v : IAKerbHeader) → h.is_value v → HeaderReads (tlv 48 content) v → f ≡ errors.OutOfMemory
+  pub first : OrMemory (h.fault 48 content) f
 
-abbrev pub HeaderRefused : (IAKerbHeader → Type 0) → List ℕ → GssApiMessageError → Type 0
-HeaderRefused is_value octets e = (f : Asn1DerError) × (e ≡ of_der f) × (((f ≡ errors.OutOfMemory → ⊥) × RefusesFront (Elements 48) octets f) ⊎ NoHeader is_value octets f)
+abbrev pub HeaderRefused : EncodingOf IAKerbHeader → List ℕ → GssApiMessageError → Type 0
+HeaderRefused h octets e = (f : Asn1DerError) × (e ≡ of_der f) × (ElementRefused 48 octets f ⊎ NoHeader h octets f)
 
 -- a header stands at the front, and what stands behind it is so
-abbrev pub BehindHeader : List ℕ → (List ℕ → Type 0) → Type 0
-BehindHeader octets P = (h : IAKerbHeader) × (b : List ℕ) × (behind : List ℕ) × HeaderReads b h × (octets ≡ b ++ behind) × P behind
+abbrev pub BehindHeader : EncodingOf IAKerbHeader → List ℕ → (List ℕ → Type 0) → Type 0
+BehindHeader h octets P = (v : IAKerbHeader) × (b : List ℕ) × (behind : List ℕ) × h.is_value v × HeaderReads b v × (octets ≡ b ++ behind) × P behind
 
-abbrev pub ProxyRefused : {A : Type 0} → (IAKerbHeader → Type 0) → (A → Type 0) → (A → List ℕ) → List ℕ → GssApiMessageError → Type 0
-ProxyRefused is_header is_value enc input e =
+-- The first fault of a token, from the left: of its frame, its mechanism, its id, its header, its message.
+abbrev pub ProxyRefused : {A : Type 0} → EncodingOf IAKerbHeader → EncodingOf A → List ℕ → GssApiMessageError → Type 0
+ProxyRefused h m input e =
     FrameRefused input e ⊎ InToken input (λ content.
     IAKerbRefused content e ⊎ ((behind : List ℕ) × (content ≡ object_identifier iakerb ++ behind) × (
     ProxyIdRefused behind e ⊎ ((octets : List ℕ) × (behind ≡ proxy_id ++ octets) × (
-    HeaderRefused is_header octets e ⊎ BehindHeader octets (λ last.
-    MessageRefused is_value enc last e))))))
+    HeaderRefused h octets e ⊎ BehindHeader h octets (λ last.
+    MessageRefused m last e))))))

@@ -1,10 +1,10 @@
 -- Equal encodings are of equal messages.
-use Rattle.std.proofs.Common.{◌≡◌, ℕ, Bool, List, ◌++◌, ap, ◌∙◌}
+use Rattle.std.proofs.Common.{◌≡◌, ℕ, List, ◌++◌, ap, ◌∙◌}
 use Rattle.std.proofs.lemmas.List.{append_cancel_left}
 use Rattle.krb_leaves.specs.Tlv.{tlv}
 use Rattle.krb_leaves.specs.TlvLaws.{field_apart, tlv_same}
 use Rattle.krb_leaves.specs.declared.error.Asn1DerError.{Asn1DerError}
-use Rattle.krb_leaves.specs.Encoding.{IsElement, OneValue}
+use Rattle.krb_leaves.specs.Encoding.{OneValue}
 use Rattle.krb_leaves.specs.Faults.{LeafFault, FaultLaws}
 use Rattle.krb_leaves.specs.FaultLaws.{leaf_fault_laws}
 use Rattle.krb_identifiers.specs.ObjectIdentifier.{object_identifier}

@@ -1,6 +1,6 @@
 -- A token's tag takes the place of a SEQUENCE's.
-use Rattle.std.proofs.Common.{◌≡◌, ℕ, List, [], ◌∷◌, ◌++◌, ◌<◌, ◌^◌, drop, eqb, length, refl, sym, ap, ◌∙◌}
-use Rattle.krb_leaves.specs.Tlv.{len, tlv}
+use Rattle.std.proofs.Common.{◌≡◌, ℕ, List, [], ◌++◌, ◌<◌, ◌^◌, eqb, length, refl, sym, ap, ◌∙◌}
+use Rattle.krb_leaves.specs.Tlv.{tlv}
 use Rattle.krb_leaves.specs.TlvLaws.{tagged_element, tlv_apart, tlv_same}
 use Rattle.krb_leaves.specs.Encoding.{IsElement, IsSequence, OneValue}
 use Rattle.krb_leaves.specs.declared.error.Asn1DerError.{Asn1DerError}

@@ -20,6 +20,7 @@ use krb_constants::gss_api::IAKERB_PROXY_TOKEN_ID;
 use krb_der::composite::{FieldRefs, SEQUENCE, write_sequence};
 use krb_der::{Der, DerEncode, DerSequence, copy};
 use krb_iakerb::messages::IAKerbHeader;
+use krb_iakerb::reading::read_content;
 use krb_identifiers::ObjectIdentifierAsn1;
 use krb_leaves::read_tlv;
 use krb_tokens::GssApiMessageError;
@@ -136,10 +137,12 @@ impl<T: Der + Drop> IAKerbProxyMessage<T> {
     /// The message of the token at the front of the input, which may go on behind it.
     ///
     /// The parts are read from the left, and the first fault decides. An input that does not begin with `60` is
-    /// `Asn1Error(InvalidData)`, and one that ends inside the token `Asn1Error(TruncatedData)`. Then come the faults of the
-    /// mechanism; `InvalidMechanismOid` of `1.3.6.1.5.2.5` and another one; `IoError` of `UnexpectedEof` where the token ends inside
-    /// the id; `InvalidId` of `05 01` and another one; the faults of the header, as `IAKerbHeader::from_bytes` tells them, and of
-    /// the message; and `Asn1Error(InvalidData)` where octets are left in the token. No other `IoError` is answered.
+    /// `Asn1Error(InvalidData)`, and one that ends inside the token `Asn1Error(TruncatedData)`; its length octets are refused as
+    /// those of any element. Then come the faults of the mechanism; `InvalidMechanismOid` of `1.3.6.1.5.2.5` and another one;
+    /// `IoError` of `UnexpectedEof` where the token ends inside the id; `InvalidId` of `05 01` and another one; the faults of the
+    /// header, as `IAKerbHeader::from_bytes` tells them, and of the message; and `Asn1Error(InvalidData)` where octets are left in
+    /// the token. The faults of the mechanism and of the message are told as `from_bytes` tells them. No other `IoError` is
+    /// answered.
     pub fn decode_application_iakerb_proxy_message(
         alloc: Global,
         input: &[u8],
@@ -147,7 +150,7 @@ impl<T: Der + Drop> IAKerbProxyMessage<T> {
         ensures valid { IfOk result (λ m. ⟦<IAKerbHeader as DerEncode>⟧.is_value m.header × T.is_value m.krb_msg) }
         ensures found { IfOk result (λ m. (content : List ℕ) × (rest : List ℕ) × (input.now ≡ token content ++ rest) × ProxyReads T.enc content m.header m.krb_msg) }
         ensures reads { (m : _) (content rest : List ℕ) → ⟦<IAKerbHeader as DerEncode>⟧.is_value m.header → T.is_value m.krb_msg → input.now ≡ token content ++ rest → ProxyReads T.enc content m.header m.krb_msg → Answers result m }
-        ensures refused { IfErr result (ProxyRefused ⟦<IAKerbHeader as DerEncode>⟧.is_value T.is_value T.enc input.now) }
+        ensures first_fault { IfErr result (ProxyRefused ⟦<IAKerbHeader as DerEncode>⟧ ⟦<T as DerEncode>⟧ input.now) }
     {
         let content = read_frame(input)?;
         let behind = read_iakerb(alloc, content)?;
@@ -218,9 +221,9 @@ fn read_proxy_id(octets: &[u8]) -> Result<&[u8], GssApiMessageError>
 fn read_header(alloc: Global, octets: &[u8]) -> Result<(IAKerbHeader, &[u8]), GssApiMessageError>
     ensures valid { IfOk result (λ p. ⟦<IAKerbHeader as DerEncode>⟧.is_value p.0) }
     ensures found { IfOk result (λ p. (b : List ℕ) × HeaderReads b p.0 × (octets.now ≡ b ++ p.1.now)) }
-    ensures refused { IfErr result (HeaderRefused ⟦<IAKerbHeader as DerEncode>⟧.is_value octets.now) }
+    ensures refused { IfErr result (HeaderRefused ⟦<IAKerbHeader as DerEncode>⟧ octets.now) }
 {
-    let (_, taken) = read_tlv(SEQUENCE, octets)?;
-    let header = IAKerbHeader::from_bytes(alloc, &octets[..taken])?;
+    let (content, taken) = read_tlv(SEQUENCE, octets)?;
+    let header = read_content(alloc, content)?;
     Ok((header, &octets[taken..]))
 }

@@ -126,9 +126,10 @@ impl<T: Der + Drop> KrbMessage<T> {
     /// The message of the token at the front of the input, which may go on behind it.
     ///
     /// The parts are read from the left, and the first fault decides. An input that does not begin with `60` is
-    /// `Asn1Error(InvalidData)`, and one that ends inside the token `Asn1Error(TruncatedData)`. Then come the faults of the
-    /// mechanism, which may be any; `IoError` of `UnexpectedEof` where the token ends inside the id, which may be any; the faults
-    /// of the message; and `Asn1Error(InvalidData)` where octets are left in the token. No other `IoError` is answered.
+    /// `Asn1Error(InvalidData)`, and one that ends inside the token `Asn1Error(TruncatedData)`; its length octets are refused as
+    /// those of any element. Then come the faults of the mechanism, which may be any; `IoError` of `UnexpectedEof` where the token
+    /// ends inside the id, which may be any; the faults of the message; and `Asn1Error(InvalidData)` where octets are left in the
+    /// token. The faults of the mechanism and of the message are told as `from_bytes` tells them. No other `IoError` is answered.
     pub fn decode_application_krb_message(
         alloc: Global,
         input: &[u8],
@@ -136,7 +137,7 @@ impl<T: Der + Drop> KrbMessage<T> {
         ensures valid { IfOk result ⟦<KrbMessage<T> as DerEncode>⟧.is_value }
         ensures found { IfOk result (λ m. (rest : List ℕ) × (input.now ≡ in_token (⟦<KrbMessage<T> as DerEncode>⟧.enc m) ++ rest)) }
         ensures reads { (m : _) (rest : List ℕ) → ⟦<KrbMessage<T> as DerEncode>⟧.is_value m → input.now ≡ in_token (⟦<KrbMessage<T> as DerEncode>⟧.enc m) ++ rest → Answers result m }
-        ensures refused { IfErr result (KrbMessageRefused T.is_value T.enc input.now) }
+        ensures first_fault { IfErr result (KrbMessageRefused ⟦<T as DerEncode>⟧ input.now) }
     {
         let content = read_frame(input)?;
         let (krb5_oid, behind) = read_mechanism(alloc, content)?;

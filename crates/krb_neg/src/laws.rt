@@ -1,6 +1,6 @@
 //! Laws over the definitions, of functions that do nothing.
 
-ghost use Rattle.std.specs.Prelude.{◌≡◌, ◌↔◌, ◌++◌, ◌∷◌, ◌<◌, List, ℕ, drop, length};
+ghost use Rattle.std.specs.Prelude.{◌≡◌, ◌↔◌, ◌++◌, ◌∷◌, ◌<◌, ◌^◌, List, ℕ, drop, length};
 ghost use Rattle.krb_der.specs.Asn1.{explicit, sequence_of};
 ghost use Rattle.krb_der.specs.FieldFaults.{HasFaultsOf, SameFault};
 ghost use Rattle.krb_der.specs.Equality.{TellsEqual};
@@ -9,8 +9,12 @@ ghost use Rattle.krb_leaves.specs.Tlv.{tlv};
 ghost use Rattle.krb_leaves.specs.Faults.{TaggedFault};
 ghost use Rattle.krb_leaves.specs.declared.error.Asn1DerError.{Asn1DerError};
 ghost use Rattle.krb_leaves.specs.declared.error.Asn1DerError.TheVariants.{TruncatedData};
-ghost use Rattle.krb_neg.specs.Proxy.{ProxyReads, iakerb, proxy_id};
-ghost use Rattle.krb_neg.specs.Token.{token};
+ghost use Rattle.krb_neg.specs.Proxy.{ProxyReads, ProxyRefused};
+ghost use Rattle.krb_neg.specs.Refused.{KrbMessageRefused, TellsOneFault};
+ghost use Rattle.krb_neg.specs.Token.{in_token, token};
+ghost use Rattle.krb_neg.specs.declared.iakerb.IAKerbProxyMessage.{IAKerbProxyMessage};
+ghost use Rattle.krb_tokens.specs.declared.error.GssApiMessageError.{GssApiMessageError};
+ghost use Rattle.krb_tokens.specs.declared.error.GssApiMessageError.TheVariants.{OutOfMemory};
 
 use crate::application_tag_0::ApplicationTag0;
 use crate::iakerb::IAKerbProxyMessage;
@@ -22,6 +26,7 @@ use crate::token_id::TokenId;
 use krb_der::composite::{Fields, Sequence};
 use krb_der::{Der, DerEncode, DerSequence};
 use krb_iakerb::laws::{equality as header_equality, header_readings};
+use krb_iakerb::messages::IAKerbHeader;
 
 /// The aliases (RFC 4178, 4.1 and 4.2).
 pub fn aliases()
@@ -63,6 +68,21 @@ pub fn krb_message_faults<T: Der + Drop>()
     ensures message { HasFaultsOf ⟦<KrbMessage<T> as DerEncode>⟧.fault ⟦<<KrbMessage<T> as Sequence>::Fields as Fields>⟧ }
     ensures token_id { (octets : List ℕ) (e : Asn1DerError) → ⟦<TokenId as Fields>⟧.fault octets e ↔ (e ≡ TruncatedData) × (length octets < 2) }
     ensures token_id_ends { (v rest : List ℕ) → ⟦<TokenId as Fields>⟧.ends v rest }
+{}
+
+/// Where a token of Kerberos or of IAKERB has a fault of DER (X.690), it has no other first fault.
+pub fn one_fault<T: Der + Drop>()
+    ensures krb_message { TellsOneFault (KrbMessageRefused ⟦<T as DerEncode>⟧) }
+    ensures proxy_message { TellsOneFault (ProxyRefused ⟦<IAKerbHeader as DerEncode>⟧ ⟦<T as DerEncode>⟧) }
+{}
+
+/// Where a token of Kerberos or of IAKERB stands at the front, it has no fault.
+pub fn none_where_read<T: Der + Drop>()
+    ensures krb_message { (m : _) (input rest : List ℕ) (e : GssApiMessageError) → length input < 2 ^ 64 → ⟦<KrbMessage<T> as DerEncode>⟧.is_value m
+        → input ≡ in_token (⟦<KrbMessage<T> as DerEncode>⟧.enc m) ++ rest → KrbMessageRefused ⟦<T as DerEncode>⟧ input e → e ≡ OutOfMemory }
+    ensures proxy_message { (m : IAKerbProxyMessage T) (input content rest : List ℕ) (e : GssApiMessageError) → length input < 2 ^ 64
+        → ⟦<IAKerbHeader as DerEncode>⟧.is_value m.header → T.is_value m.krb_msg → input ≡ token content ++ rest → ProxyReads T.enc content m.header m.krb_msg
+        → ProxyRefused ⟦<IAKerbHeader as DerEncode>⟧ ⟦<T as DerEncode>⟧ input e → e ≡ OutOfMemory }
 {}
 
 /// `==` on the messages of SPNEGO: it answers true for equal values and for no others.

@@ -6,7 +6,7 @@ ghost use Rattle.krb_neg.specs.Refused.{FrameRefused, IdRefused, MechanismRefuse
 ghost use Rattle.krb_neg.specs.Token.{IsTokenId, token};
 
 use crate::application_tag_0::TOKEN;
-use krb_der::{Asn1DerError, Der};
+use krb_der::{Asn1DerError, Der, DerEncode};
 use krb_identifiers::ObjectIdentifierAsn1;
 use krb_leaves::read_tlv;
 use krb_tokens::GssApiMessageError;
@@ -56,7 +56,7 @@ pub(crate) fn read_message<T: Der + Drop>(
 ) -> Result<T, GssApiMessageError>
     ensures valid { IfOk result T.is_value }
     ensures found { IfOk result (λ v. octets.now ≡ T.enc v) }
-    ensures refused { IfErr result (MessageRefused T.is_value T.enc octets.now) }
+    ensures refused { IfErr result (MessageRefused ⟦<T as DerEncode>⟧ octets.now) }
 {
     let (message, taken) = T::read(alloc, octets)?;
     if taken != octets.len() {

@@ -1,7 +1,6 @@
 use Rattle.std.proofs.lemmas.Result.{err_from_is_err_and}
 use Rattle.krb_leaves.specs.Encoding.{IsSequence}
 use Rattle.krb_leaves.proofs.Refusals.{unwanted}
-use Rattle.krb_neg.specs.Token.{in_token}
 use Rattle.krb_neg.proofs.Retagging.{token_found, token_refused}
 use Rattle.krb_neg.specs.TokenLaws.{token_is}
 use Rattle.std.proofs.Common.{◌∙◌}

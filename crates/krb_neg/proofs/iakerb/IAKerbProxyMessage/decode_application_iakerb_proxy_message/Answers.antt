@@ -1,5 +1,6 @@
 use Rattle.std.proofs.Common.{◌<◌, ◌^◌, length, inl, inr, arith}
 use Rattle.std.proofs.lemmas.Result.{err_from_is_err_and}
+use Rattle.krb_iakerb.specs.contracts.messages.header.IAKerbHeaderDerEncode.TheImpl.{ghosts}
 use Rattle.krb_neg.proofs.Proxies.{IsHeader, no_refusal, one_header, one_proxy, proxy_found}
 use Rattle.krb_neg.proofs.iakerb.IAKerbProxyMessage.decode_application_iakerb_proxy_message.Goals as goal
 
@@ -8,7 +9,7 @@ returns-in_err-content-clause-reads g c = λ m content rest hh hv q r.
     let p = err_from_is_err_and c.from_residual.result c.from_residual.ensures.1 in
     let lt : length c.args.input.now < 2 ^ 64 = omega arith in
     let d = g.T.DerEncode in
-    rw (p.1, p.2) (no_refusal IsHeader d.is_value d.enc d.first d.is_element d.one_value m.header hh m.krb_msg hv c.in_err-content.field-0.0 c.args.input.now content rest lt q r (inl c.in_err-content.ensures.refused))
+    rw (p.1, p.2) (no_refusal ghosts d m.header hh m.krb_msg hv c.in_err-content.field-0.0 c.args.input.now content rest lt q r (inl c.in_err-content.ensures.refused))
 
 pub returns-in_err-behind-clause-reads : goal.returns-in_err-behind-clause-reads
 returns-in_err-behind-clause-reads g c = λ m content rest hh hv q r.
@@ -16,10 +17,10 @@ returns-in_err-behind-clause-reads g c = λ m content rest hh hv q r.
     let f = c.in_ok-content.ensures.found in
     let lt : length c.args.input.now < 2 ^ 64 = omega arith in
     let d = g.T.DerEncode in
-    rw (p.1, p.2) (no_refusal IsHeader d.is_value d.enc d.first d.is_element d.one_value m.header hh m.krb_msg hv c.in_err-behind.field-0.0 c.args.input.now content rest lt q r (inr (c.in_ok-content.content.now, f.0, f.1, inl c.in_err-behind.ensures.refused)))
+    rw (p.1, p.2) (no_refusal ghosts d m.header hh m.krb_msg hv c.in_err-behind.field-0.0 c.args.input.now content rest lt q r (inr (c.in_ok-content.content.now, f.0, f.1, inl c.in_err-behind.ensures.refused)))
 
-pub returns-in_err-behind-clause-refused : goal.returns-in_err-behind-clause-refused
-returns-in_err-behind-clause-refused g c =
+pub returns-in_err-behind-clause-first_fault : goal.returns-in_err-behind-clause-first_fault
+returns-in_err-behind-clause-first_fault g c =
     let p = err_from_is_err_and c.from_residual-in_err-behind.result c.from_residual-in_err-behind.ensures.1 in
     let f = c.in_ok-content.ensures.found in
     rw (p.1, p.2) (inr (c.in_ok-content.content.now, f.0, f.1, inl c.in_err-behind.ensures.refused))
@@ -30,10 +31,10 @@ returns-in_err-rest-clause-reads g c = λ m content rest hh hv q r.
     let f = c.in_ok-content.ensures.found in
     let lt : length c.args.input.now < 2 ^ 64 = omega arith in
     let d = g.T.DerEncode in
-    rw (p.1, p.2) (no_refusal IsHeader d.is_value d.enc d.first d.is_element d.one_value m.header hh m.krb_msg hv c.in_err-rest.field-0.0 c.args.input.now content rest lt q r (inr (c.in_ok-content.content.now, f.0, f.1, inr (c.in_ok-behind.behind.now, c.in_ok-behind.ensures.found, inl c.in_err-rest.ensures.refused))))
+    rw (p.1, p.2) (no_refusal ghosts d m.header hh m.krb_msg hv c.in_err-rest.field-0.0 c.args.input.now content rest lt q r (inr (c.in_ok-content.content.now, f.0, f.1, inr (c.in_ok-behind.behind.now, c.in_ok-behind.ensures.found, inl c.in_err-rest.ensures.refused))))
 
-pub returns-in_err-rest-clause-refused : goal.returns-in_err-rest-clause-refused
-returns-in_err-rest-clause-refused g c =
+pub returns-in_err-rest-clause-first_fault : goal.returns-in_err-rest-clause-first_fault
+returns-in_err-rest-clause-first_fault g c =
     let p = err_from_is_err_and c.from_residual-in_err-rest.result c.from_residual-in_err-rest.ensures.1 in
     let f = c.in_ok-content.ensures.found in
     rw (p.1, p.2) (inr (c.in_ok-content.content.now, f.0, f.1, inr (c.in_ok-behind.behind.now, c.in_ok-behind.ensures.found, inl c.in_err-rest.ensures.refused)))
@@ -44,10 +45,10 @@ returns-in_err-header-clause-reads g c = λ m content rest hh hv q r.
     let f = c.in_ok-content.ensures.found in
     let lt : length c.args.input.now < 2 ^ 64 = omega arith in
     let d = g.T.DerEncode in
-    rw (p.1, p.2) (no_refusal IsHeader d.is_value d.enc d.first d.is_element d.one_value m.header hh m.krb_msg hv c.in_err-header.field-0.0 c.args.input.now content rest lt q r (inr (c.in_ok-content.content.now, f.0, f.1, inr (c.in_ok-behind.behind.now, c.in_ok-behind.ensures.found, inr (c.in_ok-rest.rest.now, c.in_ok-rest.ensures.found, inl c.in_err-header.ensures.refused)))))
+    rw (p.1, p.2) (no_refusal ghosts d m.header hh m.krb_msg hv c.in_err-header.field-0.0 c.args.input.now content rest lt q r (inr (c.in_ok-content.content.now, f.0, f.1, inr (c.in_ok-behind.behind.now, c.in_ok-behind.ensures.found, inr (c.in_ok-rest.rest.now, c.in_ok-rest.ensures.found, inl c.in_err-header.ensures.refused)))))
 
-pub returns-in_err-header-clause-refused : goal.returns-in_err-header-clause-refused
-returns-in_err-header-clause-refused g c =
+pub returns-in_err-header-clause-first_fault : goal.returns-in_err-header-clause-first_fault
+returns-in_err-header-clause-first_fault g c =
     let p = err_from_is_err_and c.from_residual-in_err-header.result c.from_residual-in_err-header.ensures.1 in
     let f = c.in_ok-content.ensures.found in
     rw (p.1, p.2) (inr (c.in_ok-content.content.now, f.0, f.1, inr (c.in_ok-behind.behind.now, c.in_ok-behind.ensures.found, inr (c.in_ok-rest.rest.now, c.in_ok-rest.ensures.found, inl c.in_err-header.ensures.refused))))
@@ -59,14 +60,14 @@ returns-in_err-krb_msg-clause-reads g c = λ m content rest hh hv q r.
     let h = c.in_ok-header.ensures.found in
     let lt : length c.args.input.now < 2 ^ 64 = omega arith in
     let d = g.T.DerEncode in
-    rw (p.1, p.2) (no_refusal IsHeader d.is_value d.enc d.first d.is_element d.one_value m.header hh m.krb_msg hv c.in_err-krb_msg.field-0.0 c.args.input.now content rest lt q r (inr (c.in_ok-content.content.now, f.0, f.1, inr (c.in_ok-behind.behind.now, c.in_ok-behind.ensures.found, inr (c.in_ok-rest.rest.now, c.in_ok-rest.ensures.found, inr (c.in_ok-header.header, h.0, c.in_ok-header.message.now, h.1, h.2, c.in_err-krb_msg.ensures.refused))))))
+    rw (p.1, p.2) (no_refusal ghosts d m.header hh m.krb_msg hv c.in_err-krb_msg.field-0.0 c.args.input.now content rest lt q r (inr (c.in_ok-content.content.now, f.0, f.1, inr (c.in_ok-behind.behind.now, c.in_ok-behind.ensures.found, inr (c.in_ok-rest.rest.now, c.in_ok-rest.ensures.found, inr (c.in_ok-header.header, h.0, c.in_ok-header.message.now, c.in_ok-header.ensures.valid, h.1, h.2, c.in_err-krb_msg.ensures.refused))))))
 
-pub returns-in_err-krb_msg-clause-refused : goal.returns-in_err-krb_msg-clause-refused
-returns-in_err-krb_msg-clause-refused g c =
+pub returns-in_err-krb_msg-clause-first_fault : goal.returns-in_err-krb_msg-clause-first_fault
+returns-in_err-krb_msg-clause-first_fault g c =
     let p = err_from_is_err_and c.from_residual-in_err-krb_msg.result c.from_residual-in_err-krb_msg.ensures.1 in
     let f = c.in_ok-content.ensures.found in
     let h = c.in_ok-header.ensures.found in
-    rw (p.1, p.2) (inr (c.in_ok-content.content.now, f.0, f.1, inr (c.in_ok-behind.behind.now, c.in_ok-behind.ensures.found, inr (c.in_ok-rest.rest.now, c.in_ok-rest.ensures.found, inr (c.in_ok-header.header, h.0, c.in_ok-header.message.now, h.1, h.2, c.in_err-krb_msg.ensures.refused)))))
+    rw (p.1, p.2) (inr (c.in_ok-content.content.now, f.0, f.1, inr (c.in_ok-behind.behind.now, c.in_ok-behind.ensures.found, inr (c.in_ok-rest.rest.now, c.in_ok-rest.ensures.found, inr (c.in_ok-header.header, h.0, c.in_ok-header.message.now, c.in_ok-header.ensures.valid, h.1, h.2, c.in_err-krb_msg.ensures.refused)))))
 
 pub returns-clause-found : goal.returns-clause-found
 returns-clause-found g c =

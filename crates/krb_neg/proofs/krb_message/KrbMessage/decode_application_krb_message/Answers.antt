@@ -1,4 +1,4 @@
-use Rattle.std.proofs.Common.{◌<◌, ◌^◌, length, inl, inr, arith, sym}
+use Rattle.std.proofs.Common.{◌<◌, ◌^◌, length, inl, inr, arith}
 use Rattle.std.proofs.lemmas.Result.{err_from_is_err_and}
 use Rattle.krb_neg.proofs.KrbTokens.{no_refusal_of, one_reading, parts_found, same_message}
 use Rattle.krb_neg.proofs.krb_message.KrbMessage.decode_application_krb_message.Goals as goal
@@ -8,7 +8,7 @@ returns-in_err-content-clause-reads g c = λ m rest hm q.
     let p = err_from_is_err_and c.from_residual.result c.from_residual.ensures.1 in
     let lt : length c.args.input.now < 2 ^ 64 = omega arith in
     let d = g.T.DerEncode in
-    rw (p.1, p.2) (no_refusal_of d.is_value d.enc d.first d.is_element d.one_value m.krb5_oid m.krb5_token_id m.krb_msg c.args.input.now rest c.in_err-content.field-0.0 lt hm q (inl c.in_err-content.ensures.refused))
+    rw (p.1, p.2) (no_refusal_of d m.krb5_oid m.krb5_token_id m.krb_msg c.args.input.now rest c.in_err-content.field-0.0 lt hm q (inl c.in_err-content.ensures.refused))
 
 pub returns-in_err-krb5_oid-clause-reads : goal.returns-in_err-krb5_oid-clause-reads
 returns-in_err-krb5_oid-clause-reads g c = λ m rest hm q.
@@ -16,7 +16,7 @@ returns-in_err-krb5_oid-clause-reads g c = λ m rest hm q.
     let lt : length c.args.input.now < 2 ^ 64 = omega arith in
     let d = g.T.DerEncode in
     let f = c.in_ok-content.ensures.found in
-    rw (p.1, p.2) (no_refusal_of d.is_value d.enc d.first d.is_element d.one_value m.krb5_oid m.krb5_token_id m.krb_msg c.args.input.now rest c.in_err-krb5_oid.field-0.0 lt hm q (inr (c.in_ok-content.content.now, f.0, f.1, inl c.in_err-krb5_oid.ensures.refused)))
+    rw (p.1, p.2) (no_refusal_of d m.krb5_oid m.krb5_token_id m.krb_msg c.args.input.now rest c.in_err-krb5_oid.field-0.0 lt hm q (inr (c.in_ok-content.content.now, f.0, f.1, inl c.in_err-krb5_oid.ensures.refused)))
 
 pub returns-in_err-krb5_token_id-clause-reads : goal.returns-in_err-krb5_token_id-clause-reads
 returns-in_err-krb5_token_id-clause-reads g c = λ m rest hm q.
@@ -25,8 +25,15 @@ returns-in_err-krb5_token_id-clause-reads g c = λ m rest hm q.
     let d = g.T.DerEncode in
     let f = c.in_ok-content.ensures.found in
     let o = c.in_ok-krb5_oid.ensures.found in
-    rw (p.1, p.2) (no_refusal_of d.is_value d.enc d.first d.is_element d.one_value m.krb5_oid m.krb5_token_id m.krb_msg c.args.input.now rest c.in_err-krb5_token_id.field-0.0 lt hm q
+    rw (p.1, p.2) (no_refusal_of d m.krb5_oid m.krb5_token_id m.krb_msg c.args.input.now rest c.in_err-krb5_token_id.field-0.0 lt hm q
     (inr (c.in_ok-content.content.now, f.0, f.1, inr (c.in_ok-krb5_oid.krb5_oid, c.in_ok-krb5_oid.behind.now, o.0, o.1, inl c.in_err-krb5_token_id.ensures.refused))))
+
+pub returns-in_err-krb5_token_id-clause-first_fault : goal.returns-in_err-krb5_token_id-clause-first_fault
+returns-in_err-krb5_token_id-clause-first_fault g c =
+    let p = err_from_is_err_and c.from_residual-in_err-krb5_token_id.result c.from_residual-in_err-krb5_token_id.ensures.1 in
+    let f = c.in_ok-content.ensures.found in
+    let o = c.in_ok-krb5_oid.ensures.found in
+    rw (p.1, p.2) (inr (c.in_ok-content.content.now, f.0, f.1, inr (c.in_ok-krb5_oid.krb5_oid, c.in_ok-krb5_oid.behind.now, o.0, o.1, inl c.in_err-krb5_token_id.ensures.refused)))
 
 pub returns-in_err-krb_msg-clause-reads : goal.returns-in_err-krb_msg-clause-reads
 returns-in_err-krb_msg-clause-reads g c = λ m rest hm q.
@@ -36,11 +43,11 @@ returns-in_err-krb_msg-clause-reads g c = λ m rest hm q.
     let f = c.in_ok-content.ensures.found in
     let o = c.in_ok-krb5_oid.ensures.found in
     let i = c.in_ok-krb5_token_id.ensures.found in
-    rw (p.1, p.2) (no_refusal_of d.is_value d.enc d.first d.is_element d.one_value m.krb5_oid m.krb5_token_id m.krb_msg c.args.input.now rest c.in_err-krb_msg.field-0.0 lt hm q
+    rw (p.1, p.2) (no_refusal_of d m.krb5_oid m.krb5_token_id m.krb_msg c.args.input.now rest c.in_err-krb_msg.field-0.0 lt hm q
     (inr (c.in_ok-content.content.now, f.0, f.1, inr (c.in_ok-krb5_oid.krb5_oid, c.in_ok-krb5_oid.behind.now, o.0, o.1, inr (c.in_ok-krb5_token_id.krb5_token_id, c.in_ok-krb5_token_id.rest.now, i.0, i.1, c.in_err-krb_msg.ensures.refused)))))
 
-pub returns-in_err-krb_msg-clause-refused : goal.returns-in_err-krb_msg-clause-refused
-returns-in_err-krb_msg-clause-refused g c =
+pub returns-in_err-krb_msg-clause-first_fault : goal.returns-in_err-krb_msg-clause-first_fault
+returns-in_err-krb_msg-clause-first_fault g c =
     let p = err_from_is_err_and c.from_residual-in_err-krb_msg.result c.from_residual-in_err-krb_msg.ensures.1 in
     let f = c.in_ok-content.ensures.found in
     let o = c.in_ok-krb5_oid.ensures.found in
@@ -57,5 +64,5 @@ returns-clause-reads g c = λ m rest hm q.
     let d = g.T.DerEncode in
     let f = returns-clause-found g c in
     same_message c.in_ok-krb5_oid.krb5_oid m.krb5_oid c.in_ok-krb5_token_id.krb5_token_id m.krb5_token_id c.in_ok-krb_msg.krb_msg m.krb_msg
-    (one_reading d.is_value d.enc d.first d.is_element d.one_value c.in_ok-krb5_oid.krb5_oid c.in_ok-krb5_token_id.krb5_token_id c.in_ok-krb_msg.krb_msg m.krb5_oid m.krb5_token_id m.krb_msg c.args.input.now f.0 rest
+    (one_reading d c.in_ok-krb5_oid.krb5_oid c.in_ok-krb5_token_id.krb5_token_id c.in_ok-krb_msg.krb_msg m.krb5_oid m.krb5_token_id m.krb_msg c.args.input.now f.0 rest
     (c.in_ok-krb5_oid.ensures.found.0, c.in_ok-krb5_token_id.ensures.found.0, c.in_ok-krb_msg.ensures.valid) hm f.1 q)
