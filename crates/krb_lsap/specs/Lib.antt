@@ -1,1 +1,2 @@
 pub mod TokenInfo
+pub mod Transfer

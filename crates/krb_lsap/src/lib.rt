@@ -3,5 +3,6 @@
 
 pub mod laws;
 mod token;
+mod transfer;
 
-pub use token::{LsapTokenInfoIntegrity, MACHINE_ID_LENGTH};
+pub use token::{LsapTokenInfoIntegrity, MACHINE_ID_LENGTH, RECORD_LENGTH, octets_of, record_of};

@@ -1,15 +1,21 @@
 //! The integrity level and the machine of a caller.
 
-ghost use Rattle.std.specs.Prelude.{◌≡◌, ◌++◌, List, ℕ, Some, IfOk, OnOk};
+ghost use Rattle.std.specs.Prelude.{◌≡◌, ◌≢◌, ◌++◌, List, ℕ, Some, IfOk, IfErr, OnOk, OnErr};
 ghost use Rattle.std.specs.Io.KnownBytes.{Appends, Consumes};
+ghost use Rattle.std.specs.IoError.{error_kind};
 ghost use Rattle.std.specs.Int.{to_le_bytes, w32};
 ghost use Rattle.krb_lsap.specs.TokenInfo.{IsTokenInfo, lsap_token_info};
+ghost use Rattle.krb_lsap.specs.Transfer.{GivesFront, TakesFewer};
 
+use crate::transfer::{give_all, take_all};
 use std::io;
-use std::io::{Read, Write};
+use std::io::{ErrorKind, Read, Write};
 
 /// How many octets the identifier of a machine has (MS-KILE, 2.2.5).
 pub const MACHINE_ID_LENGTH: usize = 32;
+
+/// How many octets a record has (MS-KILE, 2.2.5).
+pub const RECORD_LENGTH: usize = 40;
 
 /// An LSAP_TOKEN_INFO_INTEGRITY (MS-KILE, 2.2.5): 40 octets, of which the numbers have their lowest octet first.
 ///
@@ -29,34 +35,58 @@ pub struct LsapTokenInfoIntegrity {
 }
 
 impl LsapTokenInfoIntegrity {
-    /// Writes the 40 octets of the record. Every refusal is a fault of the writer, which may have put out some octets then.
+    /// Writes the 40 octets of the record.
+    ///
+    /// Every refusal is a fault of the writer, or `WriteZero` where it takes none. It has taken a front of these octets then, and
+    /// not all of them. A write that a signal interrupts is tried again.
     pub fn encode<W: Write>(&self, to: &mut W) -> io::Result<()>
         ensures octets { OnOk result (Appends (W.contents to.old) (W.contents to.new) (lsap_token_info self.now)) }
+        ensures front { OnErr result (GivesFront (lsap_token_info self.now) (W.contents to.old) (W.contents to.new)) }
+        ensures retried { IfErr result (λ e. error_kind e ≢ ErrorKind.Interrupted) }
     {
-        to.write_all(&self.flags.to_le_bytes())?;
-        to.write_all(&self.token_il.to_le_bytes())?;
-        to.write_all(&self.machine_id)
+        give_all(to, &octets_of(self))
     }
 
     /// The record that the reader's next 40 octets are. Exactly these are taken.
     ///
-    /// Where fewer are left, the refusal is of the kind `UnexpectedEof`. Every other refusal is a fault of the reader. After a
-    /// refusal some octets may have been taken, and the reader is to be given up.
+    /// Where fewer are left, the refusal is of the kind `UnexpectedEof`. Every other refusal is a fault of the reader; a read that a
+    /// signal interrupts is tried again. After a refusal fewer than 40 octets have been taken, and the reader is to be given up.
     pub fn decode<R: Read>(from: &mut R) -> io::Result<Self>
         ensures valid { IfOk result IsTokenInfo }
         ensures found { IfOk result (λ r. Consumes (R.remaining from.old) (R.remaining from.new) (lsap_token_info r)) }
         ensures reads { (r : LsapTokenInfoIntegrity) (rest : List ℕ) → IsTokenInfo r → R.remaining from.old ≡ Some (lsap_token_info r ++ rest)
             → IfOk result (λ w. (w ≡ r) × (R.remaining from.new ≡ Some rest)) }
+        ensures fewer { OnErr result (TakesFewer 40 (R.remaining from.old) (R.remaining from.new)) }
+        ensures retried { IfErr result (λ e. error_kind e ≢ ErrorKind.Interrupted) }
     {
-        let flags = read_number(from)?;
-        let token_il = read_number(from)?;
-        let mut machine_id = [0; MACHINE_ID_LENGTH];
-        from.read_exact(&mut machine_id)?;
-        Ok(LsapTokenInfoIntegrity {
-            flags,
-            token_il,
-            machine_id,
-        })
+        let mut octets = [0; RECORD_LENGTH];
+        take_all(from, &mut octets)?;
+        Ok(record_of(&octets))
+    }
+}
+
+/// The 40 octets of a record. There is no refusal.
+pub fn octets_of(info: &LsapTokenInfoIntegrity) -> [u8; RECORD_LENGTH]
+    ensures { result ≡ lsap_token_info info.now }
+{
+    let mut octets = [0; RECORD_LENGTH];
+    octets[..4].copy_from_slice(&info.flags.to_le_bytes());
+    octets[4..8].copy_from_slice(&info.token_il.to_le_bytes());
+    octets[8..].copy_from_slice(&info.machine_id);
+    octets
+}
+
+/// The record that 40 octets are. Each 40 octets are one: there is no refusal.
+pub fn record_of(octets: &[u8; RECORD_LENGTH]) -> LsapTokenInfoIntegrity
+    ensures valid { IsTokenInfo result }
+    ensures octets { lsap_token_info result ≡ octets.now }
+{
+    let mut machine_id = [0; MACHINE_ID_LENGTH];
+    machine_id.copy_from_slice(&octets[8..]);
+    LsapTokenInfoIntegrity {
+        flags: number_of([octets[0], octets[1], octets[2], octets[3]]),
+        token_il: number_of([octets[4], octets[5], octets[6], octets[7]]),
+        machine_id,
     }
 }
 
@@ -65,13 +95,4 @@ fn number_of(octets: [u8; 4]) -> u32
     ensures { to_le_bytes w32 result ≡ octets }
 {
     u32::from_le_bytes(octets)
-}
-
-/// The number that the reader's next four octets are.
-fn read_number<R: Read>(from: &mut R) -> io::Result<u32>
-    ensures { IfOk result (λ n. Consumes (R.remaining from.old) (R.remaining from.new) (to_le_bytes w32 n)) }
-{
-    let mut octets = [0; 4];
-    from.read_exact(&mut octets)?;
-    Ok(number_of(octets))
 }
