@@ -2,8 +2,10 @@
 
 ghost use Rattle.std.specs.Prelude.{◌≡◌, ◌++◌, ◌<◌, ◌^◌, List, ℕ, length, Ok, Err, IfOk, IfErr, MatchResult};
 ghost use Rattle.krb_der.specs.Whole.{Answers, FailsWith, NoDevice};
+ghost use Rattle.krb_leaves.specs.Faults.{OrMemory};
+ghost use Rattle.krb_leaves.specs.declared.error.Asn1DerError.{Asn1DerError};
 ghost use Rattle.krb_leaves.specs.declared.error.Asn1DerError.TheVariants.{InvalidData, TruncatedData};
-ghost use Rattle.krb_msg.specs.Results.{IsNoEncoding};
+ghost use Rattle.krb_msg.specs.Results.{FaultOf, FaultOfBoth, IsNoEncoding};
 
 use crate::messages::KrbError;
 use krb_der::{Asn1DerError, Der, DerEncode, from_bytes};
@@ -17,8 +19,8 @@ pub trait ResultExt<T: Der + Drop> {
     /// The value whose encoding the octets are, or else the KRB-ERROR whose encoding they are.
     ///
     /// On other octets the refusal is that of reading them as a KRB-ERROR, by `from_bytes`: a proper front of one is
-    /// `TruncatedData`, and one with octets behind it `InvalidData`. `Io` is never answered. Want of memory is answered at once,
-    /// also where it comes in reading the value, and never as a KRB-ERROR.
+    /// `TruncatedData`, one with octets behind it `InvalidData`, and else the first fault decides, from the left. `Io` is never
+    /// answered. Want of memory is answered at once, also where it comes in reading the value, and never as a KRB-ERROR.
     fn deserialize(alloc: Global, octets: &[u8]) -> Result<KrbResult<T>, Asn1DerError>
         ensures valid { IfOk result (λ r. MatchResult r T.is_value ⟦<KrbError as DerEncode>⟧.is_value) }
         ensures found { IfOk result (λ r. MatchResult r (λ v. octets.now ≡ T.enc v) (λ e. octets.now ≡ ⟦<KrbError as DerEncode>⟧.enc e)) }
@@ -29,7 +31,9 @@ pub trait ResultExt<T: Der + Drop> {
             → ⟦<KrbError as DerEncode>⟧.enc e ≡ octets.now ++ rest → FailsWith result TruncatedData }
         ensures more { IsNoEncoding T.is_value T.enc octets.now → (e : _) (rest : List ℕ) → ⟦<KrbError as DerEncode>⟧.is_value e → 0 < length rest
             → octets.now ≡ ⟦<KrbError as DerEncode>⟧.enc e ++ rest → FailsWith result InvalidData }
-        ensures no_device { IfErr result NoDevice };
+        ensures no_device { IfErr result NoDevice }
+        ensures faulty_value { IfOk result (λ r. IfErr r (λ e. (d : Asn1DerError) × FaultOf ⟦<T as DerEncode>⟧ octets.now d)) }
+        ensures first_fault { IfErr result (OrMemory (FaultOfBoth ⟦<T as DerEncode>⟧ ⟦<KrbError as DerEncode>⟧ octets.now)) };
 }
 
 impl<T: Der + Drop> ResultExt<T> for KrbResult<T> {

@@ -8,6 +8,7 @@ ghost use Rattle.krb_der.specs.FieldFaultLaws.{sequence_fault_laws};
 ghost use Rattle.krb_der.specs.SequenceLaws.{one_value_of, values_of};
 ghost use Rattle.krb_der.specs.TlvLaws.{only_tag, tagged_element};
 ghost use Rattle.krb_der.specs.Whole.{Answers, NoDevice, TellsCut};
+ghost use Rattle.krb_leaves.specs.Faults.{FrontFault, OrMemory};
 ghost use Rattle.krb_leaves.specs.declared.error.Asn1DerError.TheVariants.{OutOfMemory};
 
 use krb_der::composite::{Fields, SEQUENCE, Sequence, read_sequence, write_sequence};
@@ -106,6 +107,7 @@ impl KdcProxyMessage {
         ensures reads { (v : KdcProxyMessage) (rest : List ℕ) → ⟦<KdcProxyMessage as DerEncode>⟧.is_value v → raw.now ≡ ⟦<KdcProxyMessage as DerEncode>⟧.enc v ++ rest → Answers result v }
         ensures cut { TellsCut ⟦<KdcProxyMessage as DerEncode>⟧.is_value ⟦<KdcProxyMessage as DerEncode>⟧.enc raw.now result }
         ensures no_device { IfErr result NoDevice }
+        ensures first_fault { IfErr result (OrMemory (FrontFault ⟦<KdcProxyMessage as DerEncode>⟧.first ⟦<KdcProxyMessage as DerEncode>⟧.fault raw.now)) }
     {
         read_front(alloc, raw)
     }
@@ -144,6 +146,7 @@ fn read_front<T: Der>(alloc: Global, octets: &[u8]) -> Result<T, Asn1DerError>
     ensures reads { (v : T) (rest : List ℕ) → T.is_value v → octets.now ≡ T.enc v ++ rest → Answers result v }
     ensures cut { TellsCut T.is_value T.enc octets.now result }
     ensures no_device { IfErr result NoDevice }
+    ensures first_fault { IfErr result (OrMemory (FrontFault T.first T.fault octets.now)) }
 {
     let (value, _) = T::read(alloc, octets)?;
     Ok(value)
