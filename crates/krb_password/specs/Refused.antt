@@ -1,14 +1,25 @@
--- Which octets are read as no frame, each by its first fault (RFC 3244, 2).
-use Rattle.std.specs.Prelude.{◌≡◌, ℕ, ◌<◌, List, [], ◌∷◌, ◌++◌, length, Option, Some, None, ◌⊎◌}
+-- Which octets are read as no frame, each by its first fault (RFC 3244, 2), and what a reader's and a writer's refusals say.
+use Rattle.std.specs.Prelude.{◌≡◌, ◌≢◌, ℕ, ◌<◌, ◌≤◌, ◌^◌, List, [], ◌∷◌, ◌++◌, length, Option, Some, None, ◌⊎◌}
+use Rattle.std.specs.Io.KnownBytes.{Appends, Consumes, Keeps}
 use Rattle.std.specs.IoError.{error_kind}
 use Rattle.std.specs.declared.io.Error.{Error}
+use Rattle.std.specs.declared.io.ErrorKind.{ErrorKind}
 use Rattle.std.specs.declared.io.ErrorKind.TheVariants as kinds
+use Rattle.krb_leaves.specs.declared.der.DerEncode.{Ghosts as EncodingOf}
 use Rattle.krb_leaves.specs.declared.error.Asn1DerError.{Asn1DerError}
 use Rattle.krb_leaves.specs.declared.error.Asn1DerError.TheVariants as errors
-use Rattle.krb_leaves.specs.Reading.{Encodings}
-use Rattle.krb_der.specs.Streaming.{IsFault, RefusesReader}
+use Rattle.krb_leaves.specs.Faults.{FrontFault}
+use Rattle.krb_leaves.specs.Reading.{Encodings, RefusesFront}
+use Rattle.krb_password.specs.declared.error.MessageFault.{MessageFault}
+use Rattle.krb_password.specs.declared.error.MessageFault.TheVariants as faults
+use Rattle.krb_password.specs.declared.error.ReadFrameError.{ReadFrameError}
+use Rattle.krb_password.specs.declared.error.ReadFrameError.TheVariants as unread
+use Rattle.krb_password.specs.declared.error.WriteFrameError.{WriteFrameError}
+use Rattle.krb_password.specs.declared.error.WriteFrameError.TheVariants as unwritten
 use Rattle.krb_password.specs.declared.refusal.Refusal.{Refusal}
 use Rattle.krb_password.specs.declared.refusal.Refusal.TheVariants as refusals
+
+-- ---- octets
 
 -- two octets of the frame's length, and what follows them
 pub record BehindLength (octets rest : List ℕ) : Type 0 where
@@ -32,68 +43,137 @@ IsCut octets = (length octets < 4) ⊎ ((rest : List ℕ) × BehindLength octets
 abbrev pub IsOfOtherVersion : List ℕ → Type 0
 IsOfOtherVersion octets = (version rest : List ℕ) × BehindLength octets (version ++ rest) × (length version ≡ 2) × (version ≡ 0 ∷ 1 ∷ [] → ⊥)
 
--- the six octets in front are refused so
-abbrev pub HeaderRefused : Option (List ℕ) → Refusal → Type 0
-HeaderRefused None why = Unit {0}
-HeaderRefused (Some octets) refusals.Cut = IsCut octets
-HeaderRefused (Some octets) refusals.Version = IsOfOtherVersion octets
-HeaderRefused (Some octets) (refusals.ApMessage e) = ⊥
-HeaderRefused (Some octets) (refusals.KrbPriv e) = ⊥
-HeaderRefused (Some octets) (refusals.Device e) = Unit {0}
+-- a message's fault, as an encoding's is told
+abbrev pub der_fault : MessageFault → Asn1DerError
+der_fault faults.InvalidData = errors.InvalidData
+der_fault faults.TruncatedData = errors.TruncatedData
+der_fault faults.UnsupportedValue = errors.UnsupportedValue
 
--- The octets of a reader are refused so: the first message is one of A, and the second one of B.
-abbrev pub FrameRefused : {A B : Type 0} → (A → Type 0) → (A → List ℕ) → (B → Type 0) → (B → List ℕ) → Option (List ℕ) → Refusal → Type 0
-FrameRefused is_a enc_a is_b enc_b None why = Unit {0}
-FrameRefused is_a enc_a is_b enc_b (Some octets) refusals.Cut = IsCut octets
-FrameRefused is_a enc_a is_b enc_b (Some octets) refusals.Version = IsOfOtherVersion octets
-FrameRefused is_a enc_a is_b enc_b (Some octets) (refusals.ApMessage e) = (rest : List ℕ) × BehindHeader octets rest × RefusesReader (Encodings is_a enc_a) (Some rest) e
-FrameRefused {A} {B} is_a enc_a is_b enc_b (Some octets) (refusals.KrbPriv e) = (v : A) × ((rest : List ℕ) × is_a v × BehindHeader octets (enc_a v ++ rest) × RefusesReader (Encodings is_b enc_b) (Some rest) e)
-FrameRefused is_a enc_a is_b enc_b (Some octets) (refusals.Device e) = Unit {0}
+-- how the refusal of an encoding is told of the message that stands in this place; no device fails
+abbrev pub told_in : (MessageFault → ReadFrameError) → Asn1DerError → ReadFrameError
+told_in place errors.InvalidData = place faults.InvalidData
+told_in place errors.TruncatedData = place faults.TruncatedData
+told_in place errors.UnsupportedValue = place faults.UnsupportedValue
+told_in place errors.OutOfMemory = unread.OutOfMemory
+told_in place (errors.Io e) = unread.OutOfMemory
+
+-- This is the first fault of the octets as a message, from the left; so none stands at their front, and none begins with them
+-- but where octets are missing.
+abbrev pub MessageRefused : {A : Type 0} → EncodingOf A → List ℕ → MessageFault → Type 0
+MessageRefused a octets e = FrontFault a.first a.fault octets (der_fault e) × RefusesFront (Encodings a.is_value a.enc) octets (der_fault e)
+
+-- The first fault of octets that begin with no frame, from the left. The first message is one of A, and the second one of B.
+abbrev pub FrameFault : {A B : Type 0} → EncodingOf A → EncodingOf B → List ℕ → ReadFrameError → Type 0
+FrameFault a b octets unread.Cut = IsCut octets
+FrameFault a b octets unread.Version = IsOfOtherVersion octets
+FrameFault a b octets (unread.ApMessage e) = (rest : List ℕ) × BehindHeader octets rest × MessageRefused a rest e
+FrameFault {A} a b octets (unread.KrbPriv e) = (v : A) × ((rest : List ℕ) × a.is_value v × BehindHeader octets (a.enc v ++ rest) × MessageRefused b rest e)
+FrameFault a b octets unread.OutOfMemory = ⊥
+
+-- the octets begin with no frame by this fault, or memory ran out behind the six octets in front
+abbrev pub FrameRefused : {A B : Type 0} → EncodingOf A → EncodingOf B → List ℕ → ReadFrameError → Type 0
+FrameRefused a b octets e = ((e ≡ unread.OutOfMemory) × ((rest : List ℕ) × BehindHeader octets rest)) ⊎ FrameFault a b octets e
+
+-- the six octets in front are refused so
+abbrev pub HeaderFault : List ℕ → ReadFrameError → Type 0
+HeaderFault octets unread.Cut = IsCut octets
+HeaderFault octets unread.Version = IsOfOtherVersion octets
+HeaderFault octets (unread.ApMessage e) = ⊥
+HeaderFault octets (unread.KrbPriv e) = ⊥
+HeaderFault octets unread.OutOfMemory = ⊥
+
+-- ---- readers
+
+-- The reader failed: it had given octets that are cut short in the six in front, or these stand there.
+abbrev pub ReaderFailed : List ℕ → Option (List ℕ) → Type 0
+ReaderFailed octets after = ((taken : List ℕ) × IsCut taken × Consumes (Some octets) after taken) ⊎ ((rest : List ℕ) × BehindHeader octets rest)
+
+-- the octets of a reader are refused so, where they are known
+abbrev pub ReaderRefused : {A B : Type 0} → EncodingOf A → EncodingOf B → Option (List ℕ) → Option (List ℕ) → Refusal → Type 0
+ReaderRefused a b None after why = Unit {0}
+ReaderRefused a b (Some octets) after (refusals.Frame e) = FrameRefused a b octets e
+ReaderRefused a b (Some octets) after (refusals.Device e) = ReaderFailed octets after
+
+-- how the refusal of an encoding is told of a reader's message that stands in this place
+abbrev pub reader_told_in : (MessageFault → ReadFrameError) → Asn1DerError → Refusal
+reader_told_in place errors.InvalidData = refusals.Frame (place faults.InvalidData)
+reader_told_in place errors.TruncatedData = refusals.Frame (place faults.TruncatedData)
+reader_told_in place errors.UnsupportedValue = refusals.Frame (place faults.UnsupportedValue)
+reader_told_in place errors.OutOfMemory = refusals.Frame unread.OutOfMemory
+reader_told_in place (errors.Io e) = refusals.Device e
 
 -- the reader failed, or a growth of memory was refused
 abbrev pub IsFailure : Refusal → Type 0
-IsFailure refusals.Cut = ⊥
-IsFailure refusals.Version = ⊥
-IsFailure (refusals.ApMessage e) = IsFault e
-IsFailure (refusals.KrbPriv e) = IsFault e
+IsFailure (refusals.Frame unread.Cut) = ⊥
+IsFailure (refusals.Frame unread.Version) = ⊥
+IsFailure (refusals.Frame (unread.ApMessage e)) = ⊥
+IsFailure (refusals.Frame (unread.KrbPriv e)) = ⊥
+IsFailure (refusals.Frame unread.OutOfMemory) = Unit {0}
 IsFailure (refusals.Device e) = Unit {0}
 
--- what a message's refusal is answered by
-abbrev pub IsMessageFault : Asn1DerError → Error → Type 0
-IsMessageFault errors.OutOfMemory fault = error_kind fault ≡ kinds.OutOfMemory
-IsMessageFault errors.TruncatedData fault = error_kind fault ≡ kinds.InvalidData
-IsMessageFault errors.InvalidData fault = error_kind fault ≡ kinds.InvalidData
-IsMessageFault errors.UnsupportedValue fault = error_kind fault ≡ kinds.InvalidData
-IsMessageFault (errors.Io e) fault = fault ≡ e
+-- the kind of error that a frame's refusal is answered by
+abbrev pub frame_kind : ReadFrameError → ErrorKind
+frame_kind unread.Cut = kinds.UnexpectedEof
+frame_kind unread.Version = kinds.InvalidData
+frame_kind (unread.ApMessage e) = kinds.InvalidData
+frame_kind (unread.KrbPriv e) = kinds.InvalidData
+frame_kind unread.OutOfMemory = kinds.OutOfMemory
 
--- what a frame's refusal is answered by
+-- what a refusal is answered by
 abbrev pub IsAnswered : Refusal → Error → Type 0
-IsAnswered refusals.Cut fault = error_kind fault ≡ kinds.UnexpectedEof
-IsAnswered refusals.Version fault = error_kind fault ≡ kinds.InvalidData
-IsAnswered (refusals.ApMessage e) fault = IsMessageFault e fault
-IsAnswered (refusals.KrbPriv e) fault = IsMessageFault e fault
+IsAnswered (refusals.Frame why) fault = error_kind fault ≡ frame_kind why
 IsAnswered (refusals.Device e) fault = fault ≡ e
 
--- the reader was at its end, unless it failed
-abbrev pub EndsOrFails : Option (List ℕ) → Refusal → Type 0
-EndsOrFails None why = Unit {0}
-EndsOrFails (Some octets) refusals.Cut = octets ≡ []
-EndsOrFails (Some octets) refusals.Version = ⊥
-EndsOrFails (Some octets) (refusals.ApMessage e) = ⊥
-EndsOrFails (Some octets) (refusals.KrbPriv e) = ⊥
-EndsOrFails (Some octets) (refusals.Device e) = Unit {0}
+-- the reader was at its end, unless it failed, and then it gave nothing
+abbrev pub EndsOrFails : Option (List ℕ) → Option (List ℕ) → Refusal → Type 0
+EndsOrFails None after why = Unit {0}
+EndsOrFails (Some octets) after (refusals.Frame unread.Cut) = octets ≡ []
+EndsOrFails (Some octets) after (refusals.Frame unread.Version) = ⊥
+EndsOrFails (Some octets) after (refusals.Frame (unread.ApMessage e)) = ⊥
+EndsOrFails (Some octets) after (refusals.Frame (unread.KrbPriv e)) = ⊥
+EndsOrFails (Some octets) after (refusals.Frame unread.OutOfMemory) = ⊥
+EndsOrFails (Some octets) after (refusals.Device e) = Keeps (Some octets) after
 
--- the reader had fewer than two octets, unless it failed
-abbrev pub IsShort : Option (List ℕ) → Refusal → Type 0
-IsShort None why = Unit {0}
-IsShort (Some octets) refusals.Cut = length octets < 2
-IsShort (Some octets) refusals.Version = ⊥
-IsShort (Some octets) (refusals.ApMessage e) = ⊥
-IsShort (Some octets) (refusals.KrbPriv e) = ⊥
-IsShort (Some octets) (refusals.Device e) = Unit {0}
+-- the reader had fewer than two octets, unless it failed, and then it gave fewer
+abbrev pub IsShort : Option (List ℕ) → Option (List ℕ) → Refusal → Type 0
+IsShort None after why = Unit {0}
+IsShort (Some octets) after (refusals.Frame unread.Cut) = length octets < 2
+IsShort (Some octets) after (refusals.Frame unread.Version) = ⊥
+IsShort (Some octets) after (refusals.Frame (unread.ApMessage e)) = ⊥
+IsShort (Some octets) after (refusals.Frame (unread.KrbPriv e)) = ⊥
+IsShort (Some octets) after (refusals.Frame unread.OutOfMemory) = ⊥
+IsShort (Some octets) after (refusals.Device e) = (taken : List ℕ) × (length taken < 2) × Consumes (Some octets) after taken
+
+-- the six octets in front are refused so, unless the reader failed, and then those that it gave are cut short
+abbrev pub HeaderRefused : Option (List ℕ) → Option (List ℕ) → Refusal → Type 0
+HeaderRefused None after why = Unit {0}
+HeaderRefused (Some octets) after (refusals.Frame e) = HeaderFault octets e
+HeaderRefused (Some octets) after (refusals.Device e) = (taken : List ℕ) × IsCut taken × Consumes (Some octets) after taken
 
 -- the six octets in front were taken from a reader, and the version is 1
 abbrev pub HeaderTaken : Option (List ℕ) → Option (List ℕ) → Type 0
 HeaderTaken None after = Unit {0}
 HeaderTaken (Some octets) None = ⊥
 HeaderTaken (Some octets) (Some rest) = BehindHeader octets rest
+
+-- ---- writers
+
+-- the kind of error that a refusal to write a frame is answered by
+abbrev pub unwritten_kind : WriteFrameError → ErrorKind
+unwritten_kind unwritten.TooLong = kinds.InvalidInput
+unwritten_kind unwritten.OutOfMemory = kinds.OutOfMemory
+
+-- memory ran out, or a frame of these octets is too long
+abbrev pub IsUnwritten : List ℕ → WriteFrameError → Type 0
+IsUnwritten octets e = (e ≡ unwritten.OutOfMemory) ⊎ ((e ≡ unwritten.TooLong) × (2 ^ 16 ≤ length octets))
+
+-- the writer took a proper front of the octets
+abbrev pub GivesFront : List ℕ → Option (List ℕ) → Option (List ℕ) → Type 0
+GivesFront octets before after = (front rest : List ℕ) × (octets ≡ front ++ rest) × (0 < length rest) × Appends before after front
+
+-- Why a frame of these octets was not written: memory ran out, or it is too long, and the writer is as before; or it fits, and
+-- the writer failed, which had taken a proper front of it.
+pub data WriterRefused {W : Type 0} (contents : W → Option (List ℕ)) (before after : W) (octets : List ℕ) (e : Error) : Type 0 where
+  no_memory : error_kind e ≡ kinds.OutOfMemory → after ≡ before → WriterRefused contents before after octets e
+  too_long : error_kind e ≡ kinds.InvalidInput → 2 ^ 16 ≤ length octets → after ≡ before → WriterRefused contents before after octets e
+  writer_failed : length octets < 2 ^ 16 → error_kind e ≢ kinds.Interrupted → GivesFront octets (contents before) (contents after) → WriterRefused contents before after octets e

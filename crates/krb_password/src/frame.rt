@@ -1,14 +1,18 @@
 //! The frame of a request to change a password, and of its answer.
 
-ghost use Rattle.std.specs.Prelude.{◌≡◌, ◌++◌, ◌<◌, ◌≤◌, ◌^◌, ◌⊎◌, List, ℕ, length, Some, Err, IfOk, IfErr, OnOk, MatchResult};
+ghost use Rattle.std.specs.Prelude.{◌≡◌, ◌++◌, ◌<◌, ◌≤◌, ◌^◌, ◌⊎◌, List, ℕ, length, Some, Err, IfOk, IfErr, OnOk, OnErr, MatchResult};
 ghost use Rattle.std.specs.Io.KnownBytes.{Appends, Consumes};
 ghost use Rattle.std.specs.IoError.{error_kind};
 ghost use Rattle.krb_der.specs.Whole.{Answers};
-ghost use Rattle.krb_password.specs.Frame.{IsFramed, frame};
-ghost use Rattle.krb_password.specs.Refused.{FrameRefused, IsAnswered};
+ghost use Rattle.krb_leaves.specs.Reading.{TakesFront};
+ghost use Rattle.krb_password.specs.Frame.{HoldsValues, IsFrameOf, frame_of};
+ghost use Rattle.krb_password.specs.Refused.{FrameRefused, IsAnswered, IsUnwritten, ReaderRefused, WriterRefused};
 ghost use Rattle.krb_password.specs.declared.refusal.Refusal.{Refusal};
 
-use crate::reading::read_frame;
+use crate::error::{ReadFrameError, WriteFrameError};
+use crate::front::front_messages;
+use crate::reading::take_messages;
+use crate::transfer::give_all;
 use crate::writing::frame_octets;
 use krb_app::messages::KrbPriv;
 use krb_der::{Asn1DerError, DerEncode, copy};
@@ -41,20 +45,21 @@ impl KrbPrivMessage {
     ///
     /// Both lengths are read, and compared with nothing. The fields are read and checked in order. Octets that end in the six in
     /// front of the messages are `UnexpectedEof`, unless the version was refused before. Another version is `InvalidData`, and so
-    /// are a message that is no encoding and one that is cut short. A fault of the reader is passed on; a read that a signal
-    /// interrupts is tried again. Want of memory is `OutOfMemory`. After a refusal some octets may have been taken, and the reader
-    /// is to be given up.
+    /// are a message that is no encoding and one that is cut short: the fault is the first, from the left, as `read_frame` tells it.
+    /// A fault of the reader is passed on: what it gave before is cut short in these six octets, or they stand there. A read that a
+    /// signal interrupts is tried again. Want of memory, behind these six octets alone, is `OutOfMemory`. After a refusal some octets
+    /// may have been taken, and the reader is to be given up. `read_frame` reads a slice, with no device.
     pub fn deserialize<R: Read>(alloc: Global, reader: &mut R) -> io::Result<Self>
-        ensures valid { IfOk result (λ m. ⟦<ApMessage as DerEncode>⟧.is_value m.ap_message × ⟦<KrbPriv as DerEncode>⟧.is_value m.krb_priv) }
-        ensures found { IfOk result (λ m. (octets : List ℕ) × IsFramed octets (⟦<ApMessage as DerEncode>⟧.enc m.ap_message) (⟦<KrbPriv as DerEncode>⟧.enc m.krb_priv)
+        ensures valid { IfOk result (HoldsValues ⟦<ApMessage as DerEncode>⟧ ⟦<KrbPriv as DerEncode>⟧) }
+        ensures found { IfOk result (λ m. (octets : List ℕ) × IsFrameOf ⟦<ApMessage as DerEncode>⟧ ⟦<KrbPriv as DerEncode>⟧ m octets
             × Consumes (R.remaining reader.old) (R.remaining reader.new) octets) }
-        ensures reads { (m : KrbPrivMessage) (octets rest : List ℕ) → ⟦<ApMessage as DerEncode>⟧.is_value m.ap_message → ⟦<KrbPriv as DerEncode>⟧.is_value m.krb_priv
-            → length octets < 2 ^ 64 → IsFramed octets (⟦<ApMessage as DerEncode>⟧.enc m.ap_message) (⟦<KrbPriv as DerEncode>⟧.enc m.krb_priv)
+        ensures reads { (m : KrbPrivMessage) (octets rest : List ℕ) → HoldsValues ⟦<ApMessage as DerEncode>⟧ ⟦<KrbPriv as DerEncode>⟧ m
+            → length octets < 2 ^ 64 → IsFrameOf ⟦<ApMessage as DerEncode>⟧ ⟦<KrbPriv as DerEncode>⟧ m octets
             → R.remaining reader.old ≡ Some (octets ++ rest) → IfOk result (λ n. (n ≡ m) × (R.remaining reader.new ≡ Some rest)) }
         ensures refused { IfErr result (λ e. (why : Refusal) × IsAnswered why e
-            × FrameRefused ⟦<ApMessage as DerEncode>⟧.is_value ⟦<ApMessage as DerEncode>⟧.enc ⟦<KrbPriv as DerEncode>⟧.is_value ⟦<KrbPriv as DerEncode>⟧.enc (R.remaining reader.old) why) }
+            × ReaderRefused ⟦<ApMessage as DerEncode>⟧ ⟦<KrbPriv as DerEncode>⟧ (R.remaining reader.old) (R.remaining reader.new) why) }
     {
-        let (ap_message, krb_priv) = read_frame(alloc, reader)?;
+        let (ap_message, krb_priv) = take_messages(alloc, reader)?;
         Ok(KrbPrivMessage {
             ap_message,
             krb_priv,
@@ -64,16 +69,20 @@ impl KrbPrivMessage {
     /// Writes the frame.
     ///
     /// A frame of more than 65535 octets is `InvalidInput`, and nothing was written. The frame is made first: where its growth is
-    /// refused, which is `OutOfMemory`, nothing was written. A fault of the writer is passed on, and some octets may have been
-    /// written then.
+    /// refused, which is `OutOfMemory`, nothing was written. Every other refusal is a fault of the writer, or `WriteZero` where it
+    /// takes none: it has taken a front of the frame then, and not all of it. A write that a signal interrupts is tried again.
+    /// `write_frame` appends to a vector, with no device.
     pub fn serialize<W: Write>(&self, alloc: Global, writer: &mut W) -> io::Result<()>
-        ensures octets { OnOk result (Appends (W.contents writer.old) (W.contents writer.new) (frame (⟦<ApMessage as DerEncode>⟧.enc self.now.ap_message) (⟦<KrbPriv as DerEncode>⟧.enc self.now.krb_priv))) }
-        ensures valid { OnOk result (⟦<ApMessage as DerEncode>⟧.is_value self.now.ap_message × ⟦<KrbPriv as DerEncode>⟧.is_value self.now.krb_priv) }
-        ensures too_long { 2 ^ 16 ≤ length (frame (⟦<ApMessage as DerEncode>⟧.enc self.now.ap_message) (⟦<KrbPriv as DerEncode>⟧.enc self.now.krb_priv))
-            → MatchResult result (λ _. ⊥) (λ e. ((error_kind e ≡ ErrorKind.InvalidInput) ⊎ (error_kind e ≡ ErrorKind.OutOfMemory)) × (writer.new ≡ writer.old)) }
+        ensures octets { OnOk result
+            (Appends (W.contents writer.old) (W.contents writer.new) (frame_of ⟦<ApMessage as DerEncode>⟧ ⟦<KrbPriv as DerEncode>⟧ self.now)) }
+        ensures valid { OnOk result (HoldsValues ⟦<ApMessage as DerEncode>⟧ ⟦<KrbPriv as DerEncode>⟧ self.now) }
+        ensures too_long { 2 ^ 16 ≤ length (frame_of ⟦<ApMessage as DerEncode>⟧ ⟦<KrbPriv as DerEncode>⟧ self.now) → MatchResult result (λ _. ⊥)
+            (λ e. ((error_kind e ≡ ErrorKind.InvalidInput) ⊎ (error_kind e ≡ ErrorKind.OutOfMemory)) × (writer.new ≡ writer.old)) }
+        ensures refused { IfErr result
+            (WriterRefused W.contents writer.old writer.new (frame_of ⟦<ApMessage as DerEncode>⟧ ⟦<KrbPriv as DerEncode>⟧ self.now)) }
     {
         let octets = frame_octets(alloc, &self.ap_message, &self.krb_priv)?;
-        writer.write_all(&octets)
+        give_all(writer, &octets)
     }
 
     /// An equal value. `OutOfMemory` alone is answered in its place.
@@ -85,4 +94,44 @@ impl KrbPrivMessage {
             krb_priv: copy(alloc, &self.krb_priv)?,
         })
     }
+}
+
+/// The frame at the front of the octets, and how many octets it has. What stands behind it is not looked at.
+///
+/// Both lengths are read, and compared with nothing. On other octets the refusal is the first fault, from the left: the six octets in
+/// front are cut short, unless the version is another, which is told before the second length is missed; then that of the AP
+/// message, then that of the KRB-PRIV. `OutOfMemory` may come in place of any answer behind these six octets.
+pub fn read_frame(alloc: Global, octets: &[u8]) -> Result<(KrbPrivMessage, usize), ReadFrameError>
+    ensures valid { IfOk result (λ p. HoldsValues ⟦<ApMessage as DerEncode>⟧ ⟦<KrbPriv as DerEncode>⟧ p.0) }
+    ensures found { IfOk result (λ p. (x : List ℕ) × IsFrameOf ⟦<ApMessage as DerEncode>⟧ ⟦<KrbPriv as DerEncode>⟧ p.0 x × TakesFront x p.1 octets.now) }
+    ensures reads { (m : KrbPrivMessage) (x rest : List ℕ) → HoldsValues ⟦<ApMessage as DerEncode>⟧ ⟦<KrbPriv as DerEncode>⟧ m
+        → IsFrameOf ⟦<ApMessage as DerEncode>⟧ ⟦<KrbPriv as DerEncode>⟧ m x → octets.now ≡ x ++ rest
+        → MatchResult result (λ p. p ≡ (m, length x)) (λ e. e ≡ ReadFrameError.OutOfMemory) }
+    ensures first_fault { IfErr result (FrameRefused ⟦<ApMessage as DerEncode>⟧ ⟦<KrbPriv as DerEncode>⟧ octets.now) }
+{
+    let ((ap_message, krb_priv), taken) = front_messages(alloc, octets)?;
+    let message = KrbPrivMessage {
+        ap_message,
+        krb_priv,
+    };
+    Ok((message, taken))
+}
+
+/// Appends the frame to `out`, which is as before after a refusal.
+///
+/// `TooLong` exactly where the frame has more than 65535 octets; else `OutOfMemory` alone is answered in its place.
+pub fn write_frame(
+    alloc: Global,
+    message: &KrbPrivMessage,
+    out: &mut Vec<u8>,
+) -> Result<(), WriteFrameError>
+    ensures ok { OnOk result (out.new.items ≡ out.old.items ++ frame_of ⟦<ApMessage as DerEncode>⟧ ⟦<KrbPriv as DerEncode>⟧ message.now) }
+    ensures fits { OnOk result (length (frame_of ⟦<ApMessage as DerEncode>⟧ ⟦<KrbPriv as DerEncode>⟧ message.now) < 2 ^ 16) }
+    ensures valid { OnOk result (HoldsValues ⟦<ApMessage as DerEncode>⟧ ⟦<KrbPriv as DerEncode>⟧ message.now) }
+    ensures err { IfErr result (IsUnwritten (frame_of ⟦<ApMessage as DerEncode>⟧ ⟦<KrbPriv as DerEncode>⟧ message.now)) }
+    ensures kept { OnErr result (out.new.items ≡ out.old.items) }
+{
+    let octets = frame_octets(alloc, &message.ap_message, &message.krb_priv)?;
+    out.extend_from_slice(&octets)?;
+    Ok(())
 }

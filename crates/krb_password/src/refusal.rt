@@ -1,49 +1,49 @@
-//! Why a frame was not read.
+//! Why no frame was read from a reader.
 
-ghost use Rattle.krb_password.specs.Refused.{IsAnswered, IsMessageFault};
+ghost use Rattle.std.specs.Prelude.{◌≡◌};
+ghost use Rattle.krb_password.specs.Refused.{IsAnswered, reader_told_in};
 
+use crate::error::{ReadFrameError, ap_message_error, krb_priv_error};
 use krb_der::Asn1DerError;
 use std::io;
-use std::io::ErrorKind;
 
-/// Why a frame was not read.
+/// Why no frame was read from a reader.
 #[derive(Drop)]
 pub(crate) enum Refusal {
-    /// The six octets in front of the messages end too early.
-    Cut,
-    /// The version is another.
-    Version,
-    /// The first message was not read.
-    ApMessage(Asn1DerError),
-    /// The second message was not read.
-    KrbPriv(Asn1DerError),
+    /// The octets that the reader has left begin with no frame, or memory ran out.
+    Frame(ReadFrameError),
     /// The reader failed.
     Device(io::Error),
 }
 
-/// The reader's own fault where it failed, `OutOfMemory` for want of memory, `UnexpectedEof` where the six octets in front are cut
-/// short, and else `InvalidData`.
+/// The reader's own fault where it failed, and else the error of the frame's refusal.
 impl From<Refusal> for io::Error {
     ghost from_gives = { IsAnswered };
 
     fn from(refusal: Refusal) -> io::Error {
         match refusal {
             Refusal::Device(fault) => fault,
-            Refusal::Cut => io::Error::from(ErrorKind::UnexpectedEof),
-            Refusal::Version => io::Error::from(ErrorKind::InvalidData),
-            Refusal::ApMessage(error) | Refusal::KrbPriv(error) => message_fault(error),
+            Refusal::Frame(why) => io::Error::from(why),
         }
     }
 }
 
-/// The reader's own fault where it failed, `OutOfMemory` for want of memory, and else `InvalidData`.
-fn message_fault(error: Asn1DerError) -> io::Error
-    ensures { IsMessageFault error result }
+/// The refusal of an AP message that a reader gave.
+pub(crate) fn ap_message_refusal(error: Asn1DerError) -> Refusal
+    ensures { result ≡ reader_told_in ReadFrameError.ApMessage error }
 {
     match error {
-        Asn1DerError::Io(fault) => fault,
-        Asn1DerError::OutOfMemory => io::Error::from(ErrorKind::OutOfMemory),
-        Asn1DerError::InvalidData | Asn1DerError::TruncatedData | Asn1DerError::UnsupportedValue =>
-            io::Error::from(ErrorKind::InvalidData),
+        Asn1DerError::Io(fault) => Refusal::Device(fault),
+        other => Refusal::Frame(ap_message_error(other)),
+    }
+}
+
+/// The refusal of a KRB-PRIV that a reader gave.
+pub(crate) fn krb_priv_refusal(error: Asn1DerError) -> Refusal
+    ensures { result ≡ reader_told_in ReadFrameError.KrbPriv error }
+{
+    match error {
+        Asn1DerError::Io(fault) => Refusal::Device(fault),
+        other => Refusal::Frame(krb_priv_error(other)),
     }
 }

@@ -2,26 +2,23 @@
 
 ghost use Rattle.std.specs.Prelude.{◌≡◌, ◌<◌, ◌≤◌, ◌^◌, ◌⊎◌, ◌∷◌, ◌++◌, length, drop, IfOk, IfErr, OnOk};
 ghost use Rattle.std.specs.Int.{to_be_bytes, w16};
-ghost use Rattle.std.specs.IoError.{error_kind};
 ghost use Rattle.krb_password.specs.Frame.{frame};
+ghost use Rattle.krb_password.specs.Refused.{IsUnwritten};
 
+use crate::error::WriteFrameError;
+use crate::front::HEADER_LENGTH;
 use krb_constants::krb_priv::KRB_PRIV_VERSION;
 use krb_der::DerEncode;
 use std::alloc::Global;
-use std::io;
-use std::io::ErrorKind;
 
-/// How many octets stand in front of the messages: a length, the version, and another length.
-const HEADER_LENGTH: usize = 6;
-
-/// A length in two octets. `InvalidInput` where it does not fit.
-fn two_octets(n: usize) -> io::Result<u16>
+/// A length in two octets. `TooLong` where it does not fit.
+fn two_octets(n: usize) -> Result<u16, WriteFrameError>
     ensures ok { IfOk result (λ m. m ≡ n) }
-    ensures err { IfErr result (λ e. (error_kind e ≡ ErrorKind.InvalidInput) × (2 ^ 16 ≤ n)) }
+    ensures err { IfErr result (λ e. (e ≡ WriteFrameError.TooLong) × (2 ^ 16 ≤ n)) }
 {
     match u16::try_from(n) {
         Ok(n) => Ok(n),
-        Err(_) => Err(io::Error::from(ErrorKind::InvalidInput)),
+        Err(_) => Err(WriteFrameError::TooLong),
     }
 }
 
@@ -52,17 +49,16 @@ fn put_header(octets: &mut [u8], whole: u16, first: u16)
 
 /// The frame of two messages.
 ///
-/// `InvalidInput` exactly where it has more than 65535 octets; else `OutOfMemory` alone is answered in its place.
+/// `TooLong` exactly where it has more than 65535 octets; else `OutOfMemory` alone is answered in its place.
 pub(crate) fn frame_octets<A: DerEncode, B: DerEncode>(
     alloc: Global,
     first: &A,
     second: &B,
-) -> io::Result<Vec<u8>>
+) -> Result<Vec<u8>, WriteFrameError>
     ensures ok { IfOk result (λ v. v.items ≡ frame (A.enc first.now) (B.enc second.now)) }
     ensures fits { OnOk result (length (frame (A.enc first.now) (B.enc second.now)) < 2 ^ 16) }
     ensures valid { OnOk result (A.is_value first.now × B.is_value second.now) }
-    ensures err { IfErr result (λ e. (error_kind e ≡ ErrorKind.OutOfMemory)
-        ⊎ ((error_kind e ≡ ErrorKind.InvalidInput) × (2 ^ 16 ≤ length (frame (A.enc first.now) (B.enc second.now))))) }
+    ensures err { IfErr result (IsUnwritten (frame (A.enc first.now) (B.enc second.now))) }
 {
     let mut octets = Vec::from_slice(alloc, &[0; HEADER_LENGTH])?;
     first.write(alloc, &mut octets)?;
