@@ -1,7 +1,7 @@
 -- Reading the buffers one after the other, and what a refusal rules out.
 use Rattle.std.proofs.Common.{◌≡◌, ℕ, zero, suc, ◌+◌, ◌*◌, ◌<◌, ◌≤◌, ◌⊎◌, inl, inr, List, [], ◌∷◌, ◌++◌, length, refl, sym, ap, ◌∙◌, subst, ⊎_elim, arith, length-append, Result, Ok, Err, IfOk, IfErr}
 use Rattle.std.proofs.lemmas.Bool.{cases_lt}
-use Rattle.krb_pac.specs.declared.info.PacInfoBuffer.{PacInfoBuffer}
+use Rattle.krb_pac.specs.Entry.{Entry}
 use Rattle.krb_pac.specs.Layout.{EntryAt, Buffer, BufferAt, Buffers, PacIs}
 use Rattle.krb_pac.specs.OnePac.{same_entry}
 use Rattle.krb_pac.specs.Refused.{BufferRefused, Before, PacRefused, NamesOutside, RefusesUnlessFault}
@@ -66,7 +66,7 @@ more_read b at next i ps p qs e moved x found =
     record { place = omega arith; count = omega arith; buffers = subst (Buffers b 0) (sym e) all }
 
 -- a range outside is the fault that is told
-outside_there : (b : List ℕ) (at : ℕ) (i : PacInfoBuffer) (e : PacError) → EntryAt b at i → length b < i.offset + i.cb_buffer_size → BufferRefused b at e → (e ≡ errors.InvalidRange) ⊎ (e ≡ errors.OutOfMemory)
+outside_there : (b : List ℕ) (at : ℕ) (i : Entry) (e : PacError) → EntryAt b at i → length b < i.offset + i.cb_buffer_size → BufferRefused b at e → (e ≡ errors.InvalidRange) ⊎ (e ≡ errors.OutOfMemory)
 outside_there b at i errors.OutOfMemory x o r = inr refl
 outside_there b at i (errors.IoError err) x o r = let room = x.room in absurd (⊎_elim (λ h. omega arith) (λ h. omega arith) r.1)
 outside_there b at i (errors.PacBufferType n) x o r = absurd (r.2 i.ul_type (sym x.kind ∙ sym r.1))
@@ -74,7 +74,7 @@ outside_there b at i errors.InvalidRange x o r = inl refl
 outside_there b at i (errors.Version n) x o r = absurd r
 outside_there b at i (errors.InvalidVersion n) x o r = absurd r
 
-not_a_buffer : (b : List ℕ) (at : ℕ) (i : PacInfoBuffer) (p : Buffer) → EntryAt b at i → length b < i.offset + i.cb_buffer_size → BufferAt b at p → ⊥
+not_a_buffer : (b : List ℕ) (at : ℕ) (i : Entry) (p : Buffer) → EntryAt b at i → length b < i.offset + i.cb_buffer_size → BufferAt b at p → ⊥
 not_a_buffer b at i p x o y =
     let e = same_entry b at p.info i y.entry x in
     let inside : i.offset + i.cb_buffer_size ≤ length b = rw (← e) y.inside in

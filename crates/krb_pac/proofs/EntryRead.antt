@@ -6,7 +6,7 @@ use Rattle.krb_pac.specs.Kind.{code}
 use Rattle.krb_pac.specs.Layout.{EntryAt}
 use Rattle.krb_pac.specs.OnePac.{same_entry}
 use Rattle.krb_pac.specs.declared.kind.PacBufferType.{PacBufferType}
-use Rattle.krb_pac.specs.declared.info.PacInfoBuffer.{PacInfoBuffer}
+use Rattle.krb_pac.specs.Entry.{Entry}
 
 pub entry_of : (o1 o2 o3 o4 : Option (List ℕ)) (k : PacBufferType) (n s p : ℕ) → ReadsNumber little_number 4 o1 o2 n → code k ≡ n → ReadsNumber little_number 4 o2 o3 s → ReadsNumber little_number 8 o3 o4 p
     → IfSome o1 (λ f. EntryAt f 0 (record { ul_type = k; cb_buffer_size = s; offset = p }) × (o4 ≡ Some (drop 16 f)))
@@ -31,7 +31,7 @@ entry_of (Some a) (Some b) (Some c) (Some d) k n s p x e y z =
     )
 
 -- an entry that was read field by field is the only one
-pub only_read : (o1 o2 o3 o4 : Option (List ℕ)) (k : PacBufferType) (n s p : ℕ) (i : PacInfoBuffer) → i ≡ record { ul_type = k; cb_buffer_size = s; offset = p }
-    → ReadsNumber little_number 4 o1 o2 n → code k ≡ n → ReadsNumber little_number 4 o2 o3 s → ReadsNumber little_number 8 o3 o4 p → IfSome o1 (λ f. (e : PacInfoBuffer) → EntryAt f 0 e → i ≡ e)
+pub only_read : (o1 o2 o3 o4 : Option (List ℕ)) (k : PacBufferType) (n s p : ℕ) (i : Entry) → i ≡ record { ul_type = k; cb_buffer_size = s; offset = p }
+    → ReadsNumber little_number 4 o1 o2 n → code k ≡ n → ReadsNumber little_number 4 o2 o3 s → ReadsNumber little_number 8 o3 o4 p → IfSome o1 (λ f. (e : Entry) → EntryAt f 0 e → i ≡ e)
 only_read None o2 o3 o4 k n s p i same x e y z = tt
 only_read (Some f) o2 o3 o4 k n s p i same x e y z = λ j at. same ∙ same_entry f 0 (record { ul_type = k; cb_buffer_size = s; offset = p }) j (entry_of (Some f) o2 o3 o4 k n s p x e y z).0 at

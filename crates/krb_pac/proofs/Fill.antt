@@ -10,7 +10,7 @@ use Rattle.krb_pac.specs.Kind.{code}
 use Rattle.krb_pac.specs.Layout.{EntryAt, Buffer, BufferAt, Buffers}
 use Rattle.krb_pac.specs.Stands.{Stands, KeepsOutside}
 use Rattle.krb_pac.specs.Written.{AllOf, AreApart, AllApart, IsBehind, IsFree, IsOutside, PacPut, HasRoom, PutTwice, BufferPut, entry_octets, FitsEntry, padded, head}
-use Rattle.krb_pac.specs.declared.info.PacInfoBuffer.{PacInfoBuffer}
+use Rattle.krb_pac.specs.Entry.{Entry}
 use Rattle.krb_pac.proofs.Lists.{AllOf-push, AllOf-front, AllOf-at}
 
 -- the entries and ranges of the buffers stand in b, from entry i on
@@ -172,7 +172,7 @@ standing b xs at x =
     let e = length-drop at b in
     take_same (drop at b) xs (omega arith) (λ k l. get_or-drop at b k 0 ∙ x.same k l)
 
-entry_read : (b : List ℕ) (at : ℕ) (i : PacInfoBuffer) → FitsEntry i → Stands b at (entry_octets i) → EntryAt b at i
+entry_read : (b : List ℕ) (at : ℕ) (i : Entry) → FitsEntry i → Stands b at (entry_octets i) → EntryAt b at i
 entry_read b at i f x = record {
   room = x.room;
   kind = ap (λ (k : ℕ). little_number 4 (drop k b)) (add_zero at) ∙ number_from 0 4 b (entry_octets i) at 0 x (omega arith) ∙ little_number-reads_back 4 (code i.ul_type) (little_bytes 4 i.cb_buffer_size ++ little_bytes 8 i.offset) (omega (arith, f.0));

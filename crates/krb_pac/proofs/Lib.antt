@@ -1,3 +1,4 @@
+pub mod Calls
 pub mod EntryRead
 pub mod Entries
 pub mod EntriesRead

@@ -7,7 +7,7 @@ use Rattle.krb_pac.specs.Layout.{EntryAt, Buffer, BufferAt}
 use Rattle.krb_pac.specs.Refused.{IsCut, IsEof, BufferRefused, Before, PacRefused, AreOne, AreOneOrMemory}
 use Rattle.krb_pac.proofs.Entries.{nth, no_buffer}
 use Rattle.krb_pac.specs.declared.error.PacError.{PacError}
-use Rattle.krb_pac.specs.declared.info.PacInfoBuffer.{PacInfoBuffer}
+use Rattle.krb_pac.specs.Entry.{Entry}
 use Rattle.krb_pac.specs.declared.error.PacError.TheVariants as errors
 
 -- the four octets at `at` are the number of no type
@@ -17,10 +17,10 @@ NoType b at n = (at + 4 ≤ length b) × (n ≡ little_number 4 (drop at b)) × 
 cut_type : (b : List ℕ) (at n : ℕ) → IsCut b at → NoType b at n → ⊥
 cut_type b at n x y = ⊎_elim (λ h. omega (arith, y.0)) (λ h. y.2 h.0.1.0 (h.0.1.1 ∙ sym y.1)) x
 
-cut_entry : (b : List ℕ) (at : ℕ) (i : PacInfoBuffer) → IsCut b at → EntryAt b at i → ⊥
+cut_entry : (b : List ℕ) (at : ℕ) (i : Entry) → IsCut b at → EntryAt b at i → ⊥
 cut_entry b at i x y = let room = y.room in ⊎_elim (λ h. omega arith) (λ h. omega arith) x
 
-type_entry : (b : List ℕ) (at n : ℕ) (i : PacInfoBuffer) → NoType b at n → EntryAt b at i → ⊥
+type_entry : (b : List ℕ) (at n : ℕ) (i : Entry) → NoType b at n → EntryAt b at i → ⊥
 type_entry b at n i x y = x.2 i.ul_type (sym y.kind ∙ sym x.1)
 
 one_there : (b : List ℕ) (at : ℕ) (e f : PacError) → BufferRefused b at e → BufferRefused b at f → AreOneOrMemory e f

@@ -4,10 +4,10 @@ use Rattle.std.specs.Ordering.{on, eq_of_both}
 use Rattle.std.specs.Prelude.{◌≡◌, Bool, nat_eq, ℕ, suc, ◌+◌, ◌*◌, ◌≤◌, List, [], ◌∷◌, length, take, drop}
 use Rattle.byteorder.specs.Endian.{little_number}
 use Rattle.krb_pac.specs.Kind.{code}
-use Rattle.krb_pac.specs.declared.info.PacInfoBuffer.{PacInfoBuffer}
+use Rattle.krb_pac.specs.Entry.{Entry}
 
 -- the 16 octets from `at` on are this entry (MS-PAC 2.4, PAC_INFO_BUFFER)
-pub record EntryAt (b : List ℕ) (at : ℕ) (e : PacInfoBuffer) : Type 0 where
+pub record EntryAt (b : List ℕ) (at : ℕ) (e : Entry) : Type 0 where
   pub room : at + 16 ≤ length b
   pub kind : little_number 4 (drop at b) ≡ code e.ul_type
   pub size : little_number 4 (drop (at + 4) b) ≡ e.cb_buffer_size
@@ -15,7 +15,7 @@ pub record EntryAt (b : List ℕ) (at : ℕ) (e : PacInfoBuffer) : Type 0 where
 
 -- an entry and the octets that it names
 pub record Buffer : Type 0 where
-  pub info : PacInfoBuffer
+  pub info : Entry
   pub octets : List ℕ
 
 -- the entry at `at` is this buffer's, and the slice that it names lies in b and is the buffer's octets

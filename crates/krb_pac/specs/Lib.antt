@@ -1,4 +1,6 @@
 pub mod Comparing
+pub mod Devices
+pub mod Entry
 pub mod Equality
 pub mod Kind
 pub mod Layout

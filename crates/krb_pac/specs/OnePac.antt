@@ -1,13 +1,13 @@
 -- A PAC that octets are is one alone.
 use Rattle.std.proofs.Common.{◌≡◌, ℕ, suc, ◌+◌, ◌*◌, List, [], ◌∷◌, length, take, drop, refl, sym, ap, ◌∙◌, arith}
 use Rattle.krb_pac.specs.declared.kind.PacBufferType.{PacBufferType}
-use Rattle.krb_pac.specs.declared.info.PacInfoBuffer.{PacInfoBuffer}
+use Rattle.krb_pac.specs.Entry.{Entry}
 use Rattle.krb_pac.specs.Kind.{same_code}
 use Rattle.krb_pac.specs.Layout.{EntryAt, Buffer, BufferAt, Buffers, PacIs}
 
-pub same_entry : (b : List ℕ) (at : ℕ) (i j : PacInfoBuffer) → EntryAt b at i → EntryAt b at j → i ≡ j
+pub same_entry : (b : List ℕ) (at : ℕ) (i j : Entry) → EntryAt b at i → EntryAt b at j → i ≡ j
 same_entry b at i j p q =
-    let mk : PacBufferType → ℕ → ℕ → PacInfoBuffer = λ k s o. record { ul_type = k; cb_buffer_size = s; offset = o } in
+    let mk : PacBufferType → ℕ → ℕ → Entry = λ k s o. record { ul_type = k; cb_buffer_size = s; offset = o } in
     let k : i.ul_type ≡ j.ul_type = same_code i.ul_type j.ul_type (sym p.kind ∙ q.kind) in
     let s : i.cb_buffer_size ≡ j.cb_buffer_size = sym p.size ∙ q.size in
     let o : i.offset ≡ j.offset = sym p.offset ∙ q.offset in
@@ -15,10 +15,10 @@ same_entry b at i j p q =
 
 pub same_buffer : (b : List ℕ) (at : ℕ) (p q : Buffer) → BufferAt b at p → BufferAt b at q → p ≡ q
 same_buffer b at p q x y =
-    let mk : PacInfoBuffer → List ℕ → Buffer = λ i o. record { info = i; octets = o } in
+    let mk : Entry → List ℕ → Buffer = λ i o. record { info = i; octets = o } in
     let e : p.info ≡ q.info = same_entry b at p.info q.info x.entry y.entry in
-    let o : p.octets ≡ q.octets = x.named ∙ ap (λ (i : PacInfoBuffer). take i.cb_buffer_size (drop i.offset b)) e ∙ sym y.named in
-    ap (λ (i : PacInfoBuffer). mk i p.octets) e ∙ ap (λ (l : List ℕ). mk q.info l) o
+    let o : p.octets ≡ q.octets = x.named ∙ ap (λ (i : Entry). take i.cb_buffer_size (drop i.offset b)) e ∙ sym y.named in
+    ap (λ (i : Entry). mk i p.octets) e ∙ ap (λ (l : List ℕ). mk q.info l) o
 
 same_buffers : (b : List ℕ) (i : ℕ) (ps qs : List Buffer) → length ps ≡ length qs → Buffers b i ps → Buffers b i qs → ps ≡ qs
 same_buffers b i [] [] e x y = refl

@@ -6,7 +6,7 @@ use Rattle.byteorder.specs.Endian.{little_number}
 use Rattle.krb_pac.specs.Kind.{code, IsUnlisted}
 use Rattle.krb_pac.specs.Layout.{EntryAt, Buffer, Buffers}
 use Rattle.krb_pac.specs.declared.kind.PacBufferType.{PacBufferType}
-use Rattle.krb_pac.specs.declared.info.PacInfoBuffer.{PacInfoBuffer}
+use Rattle.krb_pac.specs.Entry.{Entry}
 use Rattle.krb_pac.specs.declared.error.PacError.{PacError}
 use Rattle.krb_pac.specs.declared.error.PacError.TheVariants as errors
 
@@ -22,12 +22,16 @@ abbrev pub IsEof : PacError → Type 0
 IsEof (errors.IoError x) = error_kind x ≡ UnexpectedEof
 IsEof e = ⊥
 
+-- a number is answered by its type, and one that no type has is refused with it (MS-PAC 2.4)
+abbrev pub IsTypeOf : ℕ → Result PacBufferType PacError → Type 0
+IsTypeOf n answer = MatchResult answer (λ k. code k ≡ n) (λ e. (e ≡ errors.PacBufferType n) × IsUnlisted n)
+
 -- the first fault of the entry at `at` and of the slice that it names
 abbrev pub BufferRefused : List ℕ → ℕ → PacError → Type 0
 BufferRefused b at errors.OutOfMemory = Unit {0}
 BufferRefused b at (errors.IoError x) = (error_kind x ≡ UnexpectedEof) × IsCut b at
 BufferRefused b at (errors.PacBufferType n) = (at + 4 ≤ length b) × (n ≡ little_number 4 (drop at b)) × IsUnlisted n
-BufferRefused b at errors.InvalidRange = (i : PacInfoBuffer) × EntryAt b at i × (length b < i.offset + i.cb_buffer_size)
+BufferRefused b at errors.InvalidRange = (i : Entry) × EntryAt b at i × (length b < i.offset + i.cb_buffer_size)
 BufferRefused b at (errors.Version n) = ⊥
 BufferRefused b at (errors.InvalidVersion n) = ⊥
 
@@ -51,7 +55,7 @@ PacRefused b (errors.Version n) = ⊥
 pub record NamesOutside (b : List ℕ) : Type 0 where
   pub earlier : List Buffer
   pub before : Before b earlier
-  pub info : PacInfoBuffer
+  pub info : Entry
   pub entry : EntryAt b (8 + 16 * length earlier) info
   pub outside : length b < info.offset + info.cb_buffer_size
 

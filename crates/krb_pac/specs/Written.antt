@@ -4,14 +4,14 @@ use Rattle.byteorder.specs.Endian.{little_bytes}
 use Rattle.krb_pac.specs.Kind.{code}
 use Rattle.krb_pac.specs.Layout.{Buffer, BufferAt, PacIs}
 use Rattle.krb_pac.specs.Stands.{Stands, KeepsOutside}
-use Rattle.krb_pac.specs.declared.info.PacInfoBuffer.{PacInfoBuffer}
+use Rattle.krb_pac.specs.Entry.{Entry}
 
 -- the octets of an entry (MS-PAC 2.4)
-abbrev pub entry_octets : PacInfoBuffer → List ℕ
+abbrev pub entry_octets : Entry → List ℕ
 entry_octets i = little_bytes 4 (code i.ul_type) ++ little_bytes 4 i.cb_buffer_size ++ little_bytes 8 i.offset
 
 -- the numbers fit their fields
-abbrev pub FitsEntry : PacInfoBuffer → Type 0
+abbrev pub FitsEntry : Entry → Type 0
 FitsEntry i = (code i.ul_type < 256) × (i.cb_buffer_size < 2 ^ 32) × (i.offset < 2 ^ 64)
 
 -- the sizes, each rounded up to 8

@@ -88,6 +88,7 @@ impl PacBuffer {
     /// `InvalidRange` where the entry or the octets do not fit, or share an octet. A refusal changes nothing.
     pub fn serialize(&self, out: &mut [u8], position: &mut usize) -> Result<(), PacError>
         ensures put { OnOk result (BufferPut position.old out.old out.new self.now) }
+        ensures room { OnOk result (HasRoom position.old (length out.old) self.now) }
         ensures moved { OnOk result (position.new ≡ position.old + 16) }
         ensures refused { IfErr result (λ e. (e ≡ errors.InvalidRange) × (HasRoom position.old (length out.old) self.now → ⊥)) }
         ensures kept { OnErr result ((out.new ≡ out.old) × (position.new ≡ position.old)) }

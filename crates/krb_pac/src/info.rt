@@ -1,20 +1,19 @@
 //! The entry of one buffer.
 
-ghost use Rattle.std.specs.Prelude.{◌≡◌, ℕ, ◌≤◌, ◌⊎◌, length, drop, Some, IfOk, IfErr, IfSome, OnOk};
+ghost use Rattle.std.specs.Prelude.{◌≡◌, ℕ, drop, Some, IfOk, IfErr, IfSome, OnOk};
 ghost use Rattle.std.specs.Io.KnownBytes.{Appends};
-ghost use Rattle.byteorder.specs.Endian.{little_number};
-ghost use Rattle.krb_pac.specs.Kind.{IsUnlisted};
+ghost use Rattle.krb_pac.specs.Devices.{EntryRefused, IsIo, IsLasting, TakesFront};
+ghost use Rattle.krb_pac.specs.Entry.{Entry};
 ghost use Rattle.krb_pac.specs.Layout.{EntryAt};
-ghost use Rattle.krb_pac.specs.Refused.{AnswersUnlessFault, IsFault};
+ghost use Rattle.krb_pac.specs.Refused.{AnswersUnlessFault};
 ghost use Rattle.krb_pac.specs.Written.{entry_octets};
-ghost use Rattle.krb_pac.specs.declared.error.PacError.TheVariants as errors;
-ghost use Rattle.krb_pac.specs.declared.info.PacInfoBuffer.{PacInfoBuffer};
 
+use crate::devices::{read_u32, read_u64, write_octets};
 use crate::error::PacError;
 use crate::kind::PacBufferType;
 use crate::writing::entry;
-use byteorder::{LittleEndian, ReadBytesExt};
 use std::io::{Read, Write};
+use std::marker::Model;
 
 /// The entry of a buffer (MS-PAC 2.4, PAC_INFO_BUFFER): 16 octets, the numbers in little-endian order.
 ///
@@ -28,6 +27,16 @@ pub struct PacInfoBuffer {
     ul_type: PacBufferType,
     cb_buffer_size: u32,
     offset: u64,
+}
+
+impl Model for PacInfoBuffer {
+    ghost use Rattle.krb_pac.specs.Entry.{Entry};
+
+    ghost Value = { Entry };
+
+    ghost view = { λ e. record { ul_type = e.ul_type; cb_buffer_size = e.cb_buffer_size; offset = e.offset } };
+
+    ghost inverse = { λ e. record { ul_type = e.ul_type; cb_buffer_size = e.cb_buffer_size; offset = e.offset } };
 }
 
 impl PacInfoBuffer {
@@ -65,27 +74,28 @@ impl PacInfoBuffer {
 
     /// The entry that the reader's next 16 octets are, read field by field. What stands behind them is left unread.
     ///
-    /// The number of no type is `PacBufferType`, told once it is read. A reader that ends or fails is `IoError`, an early end
-    /// of the kind `UnexpectedEof`. After a refusal some octets may have been read.
+    /// The number of no type is `PacBufferType`, told once its four octets are read. A reader that ends or fails before it gave all 16 is
+    /// `IoError`, an early end of the kind `UnexpectedEof`; a read that a signal interrupts is made again. After a refusal some
+    /// octets may have been read.
     pub fn deserialize<R: Read>(reader: &mut R) -> Result<Self, PacError>
         ensures found { IfOk result (λ e. IfSome (R.remaining reader.old) (λ f. EntryAt f 0 e)) }
         ensures behind { OnOk result (IfSome (R.remaining reader.old) (λ f. R.remaining reader.new ≡ Some (drop 16 f))) }
-        ensures refused { IfErr result (λ e. IsFault e ⊎ ((n : ℕ) × (e ≡ errors.PacBufferType n) × IsUnlisted n × IfSome (R.remaining reader.old) (λ f. (4 ≤ length f) × (n ≡ little_number 4 f)))) }
-        ensures only { IfSome (R.remaining reader.old) (λ f. (e : PacInfoBuffer) → EntryAt f 0 e → AnswersUnlessFault result e) }
+        ensures refused { IfErr result (EntryRefused (R.remaining reader.old) (R.remaining reader.new)) }
+        ensures only { IfSome (R.remaining reader.old) (λ f. (e : Entry) → EntryAt f 0 e → AnswersUnlessFault result e) }
     {
-        let number = reader.read_u32::<LittleEndian>()?;
+        let number = read_u32(reader)?;
         let ul_type = PacBufferType::try_from(number)?;
-        let cb_buffer_size = reader.read_u32::<LittleEndian>()?;
-        let offset = reader.read_u64::<LittleEndian>()?;
+        let cb_buffer_size = read_u32(reader)?;
+        let offset = read_u64(reader)?;
         Ok(PacInfoBuffer::new(ul_type, cb_buffer_size, offset))
     }
 
-    /// Writes the 16 octets of the entry. A fault of the writer is `IoError`, and some octets may have been written then.
+    /// Writes the 16 octets of the entry. A fault of the writer is `IoError`; it has then taken a front of these octets, and not all
+    /// of them. A write that a signal interrupts is made again.
     pub fn serialize<W: Write>(&self, to: &mut W) -> Result<(), PacError>
         ensures ok { OnOk result (Appends (W.contents to.old) (W.contents to.new) (entry_octets self.now)) }
-        ensures fault { IfErr result IsFault }
+        ensures fault { IfErr result (IsIo (λ x. IsLasting x × TakesFront (entry_octets self.now) (W.contents to.old) (W.contents to.new))) }
     {
-        to.write_all(&entry(self))?;
-        Ok(())
+        write_octets(to, &entry(self))
     }
 }

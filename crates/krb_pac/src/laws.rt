@@ -1,9 +1,10 @@
 //! Laws over the definitions, of functions that do nothing.
 
-ghost use Rattle.std.specs.Prelude.{◌≡◌, ℕ, List};
+ghost use Rattle.std.specs.Prelude.{◌≡◌, ◌↔◌, ℕ, List, Result};
 ghost use Rattle.krb_pac.specs.Equality.{ClonesValue, TellsEqual};
+ghost use Rattle.krb_pac.specs.Kind.{code};
 ghost use Rattle.krb_pac.specs.Layout.{Buffer, PacIs};
-ghost use Rattle.krb_pac.specs.Refused.{AreOneOrMemory, PacRefused};
+ghost use Rattle.krb_pac.specs.Refused.{AreOneOrMemory, IsTypeOf, PacRefused};
 ghost use Rattle.krb_pac.specs.Written.{PacPut};
 ghost use Rattle.krb_pac.specs.declared.error.PacError.TheVariants as errors;
 
@@ -31,6 +32,13 @@ pub fn equality()
     ensures info_buffer { TellsEqual ⟦<PacInfoBuffer as PartialEq>⟧.eq }
     ensures buffer { TellsEqual ⟦<PacBuffer as PartialEq>⟧.eq }
     ensures pac { TellsEqual ⟦<Pac as PartialEq>⟧.eq }
+{}
+
+/// The types by their numbers (MS-PAC 2.4): each number is read as its type, and no other number is; each type is written as its
+/// number.
+pub fn numbers()
+    ensures from_u32 { (n : ℕ) (answer : Result PacBufferType PacError) → ⟦<PacBufferType as TryFrom<u32>>⟧.try_from_gives n answer ↔ IsTypeOf n answer }
+    ensures into_u32 { (kind : PacBufferType) (n : ℕ) → ⟦<u32 as From<PacBufferType>>⟧.from_gives kind n ↔ n ≡ code kind }
 {}
 
 /// A clone is the value again.

@@ -6,6 +6,7 @@
 #![tactic(auto)]
 
 mod buffer;
+mod devices;
 mod error;
 mod info;
 mod kind;

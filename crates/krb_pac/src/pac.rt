@@ -4,11 +4,13 @@ ghost use Rattle.std.specs.Prelude.{◌≡◌, ℕ, ◌≤◌, ◌<◌, ◌^◌,
 ghost use Rattle.std.specs.Io.KnownBytes.{Appends};
 ghost use Rattle.krb_pac.specs.Written.{PacPut};
 ghost use Rattle.std.specs.Cmp.Lexicographic.{pointwise};
+ghost use Rattle.krb_pac.specs.Devices.{IfIo, IsLasting, TakesFront};
 ghost use Rattle.krb_pac.specs.Comparing.{same_pac_per, same_pac_equiv};
 ghost use Rattle.krb_pac.specs.Layout.{Buffer, PacIs, same_buffer};
 ghost use Rattle.krb_pac.specs.Refused.{Answers, AnswersUnlessFault, RefusesUnlessFault, NamesOutside, PacRefused, IsFault};
 
 use crate::buffer::PacBuffer;
+use crate::devices::write_octets;
 use crate::error::PacError;
 use crate::reading::u32_at;
 use crate::writing::to_octets;
@@ -84,17 +86,18 @@ impl Pac {
     ///
     /// `InvalidRange` where a buffer's octets are not all within this length, or share an octet with the entries and what stands
     /// before them, or with another buffer's. All growths of memory come before the first write: after `OutOfMemory` and
-    /// `InvalidRange` nothing was written. A fault of the writer is `IoError`, and some octets may have been written then. The
-    /// steps that it takes grow with the octets that it writes alone, whatever the number of buffers.
+    /// `InvalidRange` nothing was written. A fault of the writer is `IoError`; it has then taken a front of the PAC's octets, and not
+    /// all of them. A write that a signal interrupts is made again. The steps that it takes grow with the octets that it writes
+    /// alone, whatever the number of buffers.
     pub fn serialize<W: Write>(&self, alloc: Global, out: &mut W) -> Result<(), PacError>
         ensures ok { OnOk result ((b : List ℕ) × PacPut self.now b × Appends (W.contents out.old) (W.contents out.new) b) }
         ensures no_place { ((b : List ℕ) → PacPut self.now b → ⊥) → MatchResult result (λ _. ⊥) (λ e. (e ≡ PacError.InvalidRange) ⊎ (e ≡ PacError.OutOfMemory)) }
         ensures refused { IfErr result (λ e. IsFault e ⊎ ((e ≡ PacError.InvalidRange) × ((b : List ℕ) → PacPut self.now b → ⊥))) }
         ensures kept { IfErr result (λ e. (e ≡ PacError.InvalidRange) ⊎ (e ≡ PacError.OutOfMemory) → out.new ≡ out.old) }
+        ensures fault { IfErr result (IfIo (λ x. IsLasting x × ((b : List ℕ) × PacPut self.now b × TakesFront b (W.contents out.old) (W.contents out.new)))) }
     {
         let octets = to_octets(alloc, self.buffers())?;
-        out.write_all(&octets)?;
-        Ok(())
+        write_octets(out, &octets)
     }
 
     /// An equal PAC. `OutOfMemory` alone is answered in its place.
@@ -123,6 +126,7 @@ impl Pac {
         ensures found { IfOk result (λ pac. IfSome (R.remaining reader) (λ b. PacIs b pac)) }
         ensures refused { IfErr result (λ e. IsFault e ⊎ IfSome (R.remaining reader) (λ b. PacRefused b e)) }
         ensures range { IfSome (R.remaining reader) (λ b. NamesOutside b → RefusesUnlessFault result PacError.InvalidRange) }
+        ensures lasting { IfErr result (IfIo IsLasting) }
         ensures only { IfSome (R.remaining reader) (λ b. (pac : List Buffer) → PacIs b pac → AnswersUnlessFault result pac) }
     {
         let mut reader = reader;
@@ -149,6 +153,7 @@ impl Eq for Pac {
 fn read_all<R: Read>(alloc: Global, reader: &mut R) -> Result<Vec<u8>, PacError>
     ensures gave { IfOk result (λ v. IfSome (R.remaining reader.old) (λ b. v.items ≡ b)) }
     ensures fault { IfErr result IsFault }
+    ensures lasting { IfErr result (IfIo IsLasting) }
 {
     let mut octets = Vec::new(alloc);
     let mut part = [0u8; 512];

@@ -3,7 +3,7 @@ use Rattle.std.proofs.lemmas.List.{take_all, length-take-le}
 use Rattle.krb_pac.specs.Layout.{Buffer}
 use Rattle.krb_pac.specs.Marks.{Takes}
 use Rattle.krb_pac.specs.Written.{AllOf, AreApart, padded, head}
-use Rattle.krb_pac.specs.declared.info.PacInfoBuffer.{PacInfoBuffer}
+use Rattle.krb_pac.specs.Entry.{Entry}
 use Rattle.krb_pac.proofs.Fill.{Filled, IsWithin, more_filled, all_filled, split_at_place, one_more, without_place, without_own}
 use Rattle.krb_pac.proofs.Marks.{Marked, more_marked, free_apart, apart_free}
 use Rattle.krb_pac.proofs.writing.fill.Goals as goal
@@ -21,7 +21,7 @@ returns-then-not-take_range-clause-no c = λ _ b x.
     let all = c.args.buffers.now in
     let p = c.index-buffers-i.result in
     let r : c.take_range.result ≡ false = search rules in
-    let offset : c.offset-offset.result ≡ p.info.offset = c.offset-offset.ensures ∙ ap (λ (z : PacInfoBuffer). z.offset) c.info_buffer.ensures in
+    let offset : c.offset-offset.result ≡ p.info.offset = c.offset-offset.ensures ∙ ap (λ (z : Entry). z.offset) c.info_buffer.ensures in
     let size = c.octets.ensures.size in
     without_own b all (take c.buffers.i all) (drop (suc c.buffers.i) all) p (split_at_place all c.buffers.i p c.buffers-test.true c.index-buffers-i.is) x
     (λ apart. c.take_range.ensures.no r (λ k l h. c.buffers.invariant.1.left k (apart_free (take c.buffers.i all) p k (omega arith) (omega arith) apart)))
@@ -35,7 +35,7 @@ buffers-preserved c =
     let h : c.has_place.result ≡ true = search rules in
     let m : c.take_range.result ≡ true = search rules in
     let place = c.has_place.ensures.yes h in
-    let offset : c.offset-offset.result ≡ p.info.offset = c.offset-offset.ensures ∙ ap (λ (z : PacInfoBuffer). z.offset) c.info_buffer.ensures in
+    let offset : c.offset-offset.result ≡ p.info.offset = c.offset-offset.ensures ∙ ap (λ (z : Entry). z.offset) c.info_buffer.ensures in
     let new : List Bool = c.take_range.new.marks in
     let takes : Takes p.info.offset p.info.cb_buffer_size c.buffers.marks new =
     subst (λ (k : ℕ). Takes k p.info.cb_buffer_size c.buffers.marks new) offset

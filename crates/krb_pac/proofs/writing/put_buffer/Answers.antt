@@ -1,7 +1,7 @@
 use Rattle.std.proofs.Common.{◌≡◌, ℕ, List, length, sym, ap, ◌∙◌, subst}
 use Rattle.krb_pac.specs.Stands.{Stands, KeepsOutside}
 use Rattle.krb_pac.specs.Written.{entry_octets, FitsEntry}
-use Rattle.krb_pac.specs.declared.info.PacInfoBuffer.{PacInfoBuffer}
+use Rattle.krb_pac.specs.Entry.{Entry}
 use Rattle.krb_pac.proofs.writing.put_buffer.Goals as goal
 
 pub returns-clause-put : goal.returns-clause-put
@@ -12,7 +12,7 @@ returns-clause-put c =
     let new = c.put-2.new.out in
     let info : c.info_buffer.result.now ≡ p.info = c.info_buffer.ensures in
     let octets : c.entry.result ≡ entry_octets p.info = c.entry.ensures.octets ∙ ap entry_octets info in
-    let offset : c.offset.result ≡ p.info.offset = c.offset.ensures ∙ ap (λ (z : PacInfoBuffer). z.offset) c.info_buffer-2.ensures in
+    let offset : c.offset.result ≡ p.info.offset = c.offset.ensures ∙ ap (λ (z : Entry). z.offset) c.info_buffer-2.ensures in
     let named : c.octets.result.now ≡ p.octets = c.octets.ensures.octets in
     let range : Stands new p.info.offset c.octets.result.now = subst (λ (k : ℕ). Stands new k c.octets.result.now) offset c.put-2.ensures.here in
     let kept : KeepsOutside p.info.offset (length c.octets.result.now) mid new = subst (λ (k : ℕ). KeepsOutside k (length c.octets.result.now) mid new) offset c.put-2.ensures.kept in
