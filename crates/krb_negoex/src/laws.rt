@@ -1,12 +1,17 @@
 //! Laws over the definitions, of functions that do nothing.
 
-ghost use Rattle.std.specs.Prelude.{◌≡◌, ◌↔◌, ℕ, ◌+◌, List, [], Vec, length};
+ghost use Rattle.std.specs.Prelude.{◌≡◌, ◌↔◌, ℕ, ◌+◌, List, [], Vec, length, Result};
+ghost use Rattle.std.specs.Borrow.{Bor};
 ghost use Rattle.std.specs.declared.alloc.Global.{Global};
 ghost use Rattle.std.specs.declared.io.Error.{Error};
+ghost use Rattle.krb_negoex.specs.Copies.{checksum_parts, exchange_parts, extension_parts, nego_parts, verify_parts};
+ghost use Rattle.krb_negoex.specs.Devices.{IsLasting};
+ghost use Rattle.krb_negoex.specs.Equality.{ClonesValue, TellsEqual, TellsEqualBy};
 ghost use Rattle.krb_negoex.specs.GuidLayout.{guid};
 ghost use Rattle.krb_negoex.specs.Layouts.{seen, vector};
 ghost use Rattle.krb_negoex.specs.Refused.{OneFault, IsMemory, IsUnfit};
 ghost use Rattle.krb_negoex.specs.SameLayout.{SameLayout};
+ghost use Rattle.krb_negoex.specs.Types.{type_code, IsTypeOf};
 ghost use Rattle.krb_negoex.specs.Wire.{nego_layout, exchange_layout, verify_layout, schemes_layout, extensions_layout, one_octet, type_layout, header_layout, extension_layout, checksum_layout};
 ghost use Rattle.krb_negoex.specs.Whole.{four_zeros, written, HasOneReading};
 ghost use Rattle.krb_negoex.specs.declared.nego.Nego.{Nego};
@@ -59,17 +64,21 @@ pub fn messages()
     ensures verify_start { (n : Verify) → ⟦<Verify as NegoexMessage>⟧.start n ≡ n.header.header_len }
 {}
 
-/// What their refusals are: the layout's first fault, want of memory, and a number that does not fit its field.
+/// What their refusals are: the layout's first fault, want of memory, a number that does not fit its field, and a writer's fault that
+/// is not a call which a signal interrupted.
 pub fn refusals()
     ensures nego { (m : List ℕ) (e : Error) → ⟦<Nego as NegoexMessage>⟧.refused m e ↔ nego_layout.refuses m m e }
     ensures nego_memory { (e : Error) → ⟦<Nego as NegoexMessage>⟧.is_memory e ↔ IsMemory e }
     ensures nego_unfit { (e : Error) → ⟦<Nego as NegoexMessage>⟧.is_unfit e ↔ IsUnfit e }
+    ensures nego_fault { (e : Error) → ⟦<Nego as NegoexMessage>⟧.is_fault e ↔ IsLasting e }
     ensures exchange { (m : List ℕ) (e : Error) → ⟦<Exchange as NegoexMessage>⟧.refused m e ↔ exchange_layout.refuses m m e }
     ensures exchange_memory { (e : Error) → ⟦<Exchange as NegoexMessage>⟧.is_memory e ↔ IsMemory e }
     ensures exchange_unfit { (e : Error) → ⟦<Exchange as NegoexMessage>⟧.is_unfit e ↔ IsUnfit e }
+    ensures exchange_fault { (e : Error) → ⟦<Exchange as NegoexMessage>⟧.is_fault e ↔ IsLasting e }
     ensures verify { (m : List ℕ) (e : Error) → ⟦<Verify as NegoexMessage>⟧.refused m e ↔ verify_layout.refuses m m e }
     ensures verify_memory { (e : Error) → ⟦<Verify as NegoexMessage>⟧.is_memory e ↔ IsMemory e }
     ensures verify_unfit { (e : Error) → ⟦<Verify as NegoexMessage>⟧.is_unfit e ↔ IsUnfit e }
+    ensures verify_fault { (e : Error) → ⟦<Verify as NegoexMessage>⟧.is_fault e ↔ IsLasting e }
 {}
 
 /// What the calls of a type of data speak of: its own layout (MS-NEGOEX 2.2.5 and 2.2.6), and, where it is written by itself, a
@@ -93,4 +102,28 @@ pub fn types_of_data()
 pub fn vectors<T: NegoexDataType + Drop>()
     ensures layout { SameLayout ⟦<Vec<T> as Lay>⟧.layout (seen (λ v. v.items) (vector T.layout)) }
     ensures start { (v : Vec T Global) → ⟦<Vec<T> as Placed>⟧.start v ≡ 8 }
+{}
+
+/// The message types by their numbers (MS-NEGOEX 2.2.6.1): each number is read as its type, and no other number is; each type is
+/// written as its number.
+pub fn numbers()
+    ensures from_u32 { (n : ℕ) (answer : Result MessageType Error) → ⟦<MessageType as TryFrom<u32>>⟧.try_from_gives n answer ↔ IsTypeOf n answer }
+    ensures ref_into_u32 { (kind : Bor MessageType) (n : ℕ) → ⟦<u32 as From<&'static MessageType>>⟧.from_gives kind n ↔ n ≡ type_code kind.now }
+{}
+
+/// `==`: it answers true for equal values and for no others; where a value holds vectors, for values of equal fields and elements.
+pub fn equality()
+    ensures message_type { TellsEqual ⟦<MessageType as PartialEq>⟧.eq }
+    ensures header { TellsEqual ⟦<MessageHeader as PartialEq>⟧.eq }
+    ensures extension { TellsEqualBy extension_parts ⟦<Extension as PartialEq>⟧.eq }
+    ensures checksum { TellsEqualBy checksum_parts ⟦<Checksum as PartialEq>⟧.eq }
+    ensures nego { TellsEqualBy nego_parts ⟦<Nego as PartialEq>⟧.eq }
+    ensures exchange { TellsEqualBy exchange_parts ⟦<Exchange as PartialEq>⟧.eq }
+    ensures verify { TellsEqualBy verify_parts ⟦<Verify as PartialEq>⟧.eq }
+{}
+
+/// A clone is the value again.
+pub fn clones()
+    ensures message_type { ClonesValue ⟦<MessageType as Clone>⟧.is_clone }
+    ensures header { ClonesValue ⟦<MessageHeader as Clone>⟧.is_clone }
 {}

@@ -5,6 +5,7 @@
 #![tactic(auto)]
 
 mod checksum;
+mod devices;
 mod exchange;
 mod extension;
 mod guid;

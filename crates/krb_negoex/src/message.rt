@@ -3,10 +3,12 @@
 ghost use Rattle.std.specs.Prelude.{◌≡◌, ℕ, ◌+◌, ◌≤◌, ◌<◌, ◌^◌, List, ◌++◌, ◌⊎◌, IfOk, IfErr, OnOk, MatchResult};
 ghost use Rattle.std.specs.Io.KnownBytes.{Appends, Keeps};
 ghost use Rattle.std.specs.IoError.{error_kind};
+ghost use Rattle.krb_negoex.specs.Devices.{EncodeRefused, TakesFront};
 ghost use Rattle.krb_negoex.specs.Refused.{IsMemory, IsUnfit};
 ghost use Rattle.krb_negoex.specs.Whole.{written, new_header};
 ghost use Rattle.krb_negoex.specs.Wire.{header_layout};
 
+use crate::devices::write_octets;
 use crate::header::{MessageHeader, MessageType, NEGOEXTS_MESSAGE_SIGNATURE};
 use crate::numbers::invalid_input;
 use crate::parts::{Lay, Part};
@@ -36,6 +38,9 @@ pub trait NegoexMessage: Part {
     /// A number does not fit its field.
     ghost is_unfit: { Self.Error → Type 0 };
 
+    /// What a writer's fault is told as.
+    ghost is_fault: { Self.Error → Type 0 };
+
     /// The message that the octets begin with, what its vectors point to among them. The lengths in the header are not compared
     /// with the octets.
     ///
@@ -52,11 +57,14 @@ pub trait NegoexMessage: Part {
     /// the fixed part.
     ///
     /// `InvalidInput` where an offset or a count does not fit its 32 bits, and `OutOfMemory` where a growth was refused; the
-    /// writer is then as before. A writer's fault is passed on.
+    /// writer is then as before. A writer's fault is passed on; it has then taken a front of the message's octets, and not all of them.
+    /// A write that a signal interrupts is made again.
     fn encode<W: Write>(&self, alloc: Global, to: &mut W) -> Result<(), Self::Error>
         ensures laid { OnOk result (Self.layout.laid (start self.now) self.now) }
         ensures ok { OnOk result (Appends (W.contents to.old) (W.contents to.new) (written Self.layout (start self.now) between self.now)) }
-        ensures unlaid { (Self.layout.laid (start self.now) self.now → ⊥) → MatchResult result (λ _. ⊥) (λ e. is_memory e ⊎ is_unfit e) × Keeps (W.contents to.old) (W.contents to.new) };
+        ensures unlaid { (Self.layout.laid (start self.now) self.now → ⊥) → MatchResult result (λ _. ⊥) (λ e. is_memory e ⊎ is_unfit e) × Keeps (W.contents to.old) (W.contents to.new) }
+        ensures refused { IfErr result (λ e. ((is_memory e ⊎ (is_unfit e × (Self.layout.laid (start self.now) self.now → ⊥))) × Keeps (W.contents to.old) (W.contents to.new))
+            ⊎ (Self.layout.laid (start self.now) self.now × is_fault e × TakesFront (written Self.layout (start self.now) between self.now) (W.contents to.old) (W.contents to.new))) };
 }
 
 /// The value that the octets of a message begin with.
@@ -80,13 +88,14 @@ pub(crate) fn encode_whole<M: Lay, W: Write>(
     ensures laid { OnOk result (M.layout.laid start value.now) }
     ensures ok { OnOk result (Appends (W.contents to.old) (W.contents to.new) (written M.layout start between.now value.now)) }
     ensures unlaid { (M.layout.laid start value.now → ⊥) → MatchResult result (λ _. ⊥) (λ e. IsMemory e ⊎ IsUnfit e) × Keeps (W.contents to.old) (W.contents to.new) }
+    ensures refused { IfErr result (EncodeRefused (M.layout.laid start value.now) (written M.layout start between.now value.now) (W.contents to.old) (W.contents to.new)) }
 {
     let mut octets = Vec::new(alloc);
     let mut payload = Vec::new(alloc);
     value.lay(alloc, start, &mut octets, &mut payload)?;
     octets.extend_from_slice(between)?;
     octets.extend_from_slice(&payload)?;
-    to.write_all(&octets)
+    write_octets(to, &octets)
 }
 
 /// The header of a message of that length; `InvalidInput` where it does not fit 32 bits.

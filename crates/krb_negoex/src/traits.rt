@@ -1,14 +1,16 @@
 //! What every type of data in a message has.
 
-ghost use Rattle.std.specs.Prelude.{◌≡◌, ℕ, ◌+◌, ◌^◌, ◌-◌, ◌≤◌, ◌<◌, min, List, ◌++◌, length, take, drop, Some, IfOk, IfErr, IfSome, OnOk, OnErr, MatchResult};
-ghost use Rattle.std.specs.Io.KnownBytes.{Appends, Keeps, Consumes};
-ghost use Rattle.krb_negoex.specs.Refused.{IsUnlaidBy};
+ghost use Rattle.std.specs.Prelude.{◌≡◌, ℕ, ◌+◌, ◌^◌, ◌-◌, ◌⊎◌, min, ◌++◌, drop, Some, IfOk, IfErr, IfSome, OnOk, MatchResult};
+ghost use Rattle.std.specs.Io.KnownBytes.{Appends, Keeps};
+ghost use Rattle.krb_negoex.specs.Devices.{EncodeRefused, FrontRefused, GatherRefused, IsLasting, IsToldBy, PartsStopped};
+ghost use Rattle.krb_negoex.specs.Refused.{IsUnlaidBy, LayRefused};
 
+use crate::devices::{read_front, write_octets};
 use crate::message::encode_whole;
 use crate::parts::{Lay, Part, Placed};
 use std::alloc::Global;
 use std::io;
-use std::io::{ErrorKind, Read, Write};
+use std::io::{Read, Write};
 
 /// A type of data of MS-NEGOEX 2.2: a fixed part, and a payload that stands elsewhere in the message. It is an octet, a GUID, a
 /// message type, a header, an extension, a checksum, or a vector of a type of data.
@@ -33,7 +35,8 @@ pub trait NegoexDataType: Placed {
     /// stands in the message at the offset, which counts octets from the message's first.
     ///
     /// `InvalidInput` where an offset or a count does not fit its 32 bits, and `OutOfMemory` where a growth was refused; both
-    /// writers are then as before. A writer's fault is passed on.
+    /// writers are then as before. A writer's fault is passed on; the writers have then taken a front of the fixed part and nothing,
+    /// or the fixed part and a front of the payload. A write that a signal interrupts is made again.
     final fn encode_with_payload<W: Write, V: Write>(
         &self,
         alloc: Global,
@@ -48,12 +51,16 @@ pub trait NegoexDataType: Placed {
         ensures fixed_part { OnOk result (Appends (W.contents to.old) (W.contents to.new) (Self.layout.fixed offset self.now)) }
         ensures payload_part { OnOk result (Appends (V.contents payload_to.old) (V.contents payload_to.new) (Self.layout.payload offset self.now)) }
         ensures unlaid { (Self.layout.laid offset self.now → ⊥) → MatchResult result (λ _. ⊥) (IsUnlaidBy Self.Error.from_gives) × Keeps (W.contents to.old) (W.contents to.new) × Keeps (V.contents payload_to.old) (V.contents payload_to.new) }
+        ensures refused { IfErr result (IsToldBy Self.Error.from_gives (λ x.
+            (LayRefused (Self.layout.laid offset self.now) x × Keeps (W.contents to.old) (W.contents to.new) × Keeps (V.contents payload_to.old) (V.contents payload_to.new))
+            ⊎ (Self.layout.laid offset self.now × IsLasting x
+            × PartsStopped (Self.layout.fixed offset self.now) (Self.layout.payload offset self.now) (W.contents to.old) (W.contents to.new) (V.contents payload_to.old) (V.contents payload_to.new)))) }
     {
         let mut fixed_part = Vec::new(alloc);
         let mut payload_part = Vec::new(alloc);
         self.lay(alloc, offset, &mut fixed_part, &mut payload_part)?;
-        to.write_all(&fixed_part)?;
-        payload_to.write_all(&payload_part)?;
+        write_octets(to, &fixed_part)?;
+        write_octets(payload_to, &payload_part)?;
         Ok(payload_part.len())
     }
 
@@ -61,13 +68,16 @@ pub trait NegoexDataType: Placed {
     /// an extension, its `header_len` for a checksum.
     ///
     /// `InvalidInput` where an offset or a count does not fit its 32 bits, and `OutOfMemory` where a growth was refused; the
-    /// writer is then as before. A writer's fault is passed on.
+    /// writer is then as before. A writer's fault is passed on; it has then taken a front of these octets, and not all of them. A write
+    /// that a signal interrupts is made again.
     final fn encode<W: Write>(&self, alloc: Global, to: &mut W) -> Result<(), Self::Error>
     where
         Self: Sized,
         ensures laid { OnOk result (Self.layout.laid (Self.start self.now) self.now) }
         ensures ok { OnOk result (Appends (W.contents to.old) (W.contents to.new) (Self.layout.fixed (Self.start self.now) self.now ++ Self.layout.payload (Self.start self.now) self.now)) }
         ensures unlaid { (Self.layout.laid (Self.start self.now) self.now → ⊥) → MatchResult result (λ _. ⊥) (IsUnlaidBy Self.Error.from_gives) × Keeps (W.contents to.old) (W.contents to.new) }
+        ensures refused { IfErr result (IsToldBy Self.Error.from_gives (EncodeRefused (Self.layout.laid (Self.start self.now) self.now)
+            (Self.layout.fixed (Self.start self.now) self.now ++ Self.layout.payload (Self.start self.now) self.now) (W.contents to.old) (W.contents to.new))) }
     {
         encode_whole(self, alloc, self.payload_start(), &[], to)?;
         Ok(())
@@ -78,7 +88,8 @@ pub trait NegoexDataType: Placed {
     ///
     /// `UnexpectedEof` where the reader or the message ends before a fixed part does, `InvalidData` where a vector's offset lies
     /// past the message, at another signature or at a number that is no message type's, `InvalidInput` at another checksum
-    /// scheme, and `OutOfMemory` where a growth was refused. A reader's fault is passed on.
+    /// scheme, and `OutOfMemory` where a growth was refused. A reader's fault before it gave a fixed part is passed on; a read that a
+    /// signal interrupts is made again.
     final fn decode<R: Read>(
         alloc: Global,
         from: &mut R,
@@ -89,34 +100,11 @@ pub trait NegoexDataType: Placed {
         ensures found { IfOk result (λ v. IfSome (R.remaining from.old) (λ f. Self.layout.part f message.now v)) }
         ensures rest { OnOk result (IfSome (R.remaining from.old) (λ f. R.remaining from.new ≡ Some (drop Self.layout.width f))) }
         ensures only { IfSome (R.remaining from.old) (λ f. (v : Self) → Self.layout.part f message.now v → IfOk result (λ w. Self.layout.same w v)) }
+        ensures refused { IfErr result (IsToldBy Self.Error.from_gives (λ x. GatherRefused Self.layout.width (R.remaining from.old) (R.remaining from.new) x
+            ⊎ FrontRefused Self.layout.width (λ f. Self.layout.refuses f message.now) (R.remaining from.old) (R.remaining from.new) x)) }
     {
         let octets = read_front(alloc, from, Self::fixed_len())?;
         let (value, _) = Self::read_part(alloc, &octets, message)?;
         Ok(value)
     }
-}
-
-/// The next octets of a reader, fewer where it ends before.
-fn read_front<R: Read>(alloc: Global, from: &mut R, count: usize) -> io::Result<Vec<u8>>
-    ensures { IfOk result (λ v. IfSome (R.remaining from.old) (λ f. (v.items ≡ take count f) × (R.remaining from.new ≡ Some (drop count f)))) }
-{
-    let mut octets = Vec::new(alloc);
-    let mut piece = [0u8; 64];
-    'pieces: for _ in 0..u64::MAX {
-        let left = count - octets.len();
-        if left == 0 {
-            return Ok(octets);
-        }
-        let most = left.min(64);
-        match from.read(&mut piece[..most]) {
-            Ok(0) => return Ok(octets),
-            Ok(n) => octets.extend_from_slice(&piece[..n])?,
-            Err(e) => {
-                if e.kind() != ErrorKind::Interrupted {
-                    return Err(e);
-                }
-            }
-        }
-    }
-    Err(io::Error::new(ErrorKind::Other, "a reader that does not end"))
 }

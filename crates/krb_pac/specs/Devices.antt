@@ -42,3 +42,7 @@ abbrev pub EntryRefused : Option (List ℕ) → Option (List ℕ) → PacError �
 EntryRefused old new (errors.IoError x) = IsLasting x × GivesFewer 16 old new
 EntryRefused old new (errors.PacBufferType n) = IsUnlisted n × IfSome old (λ f. (4 ≤ length f) × (n ≡ little_number 4 f) × (new ≡ Some (drop 4 f)))
 EntryRefused old new e = ⊥
+
+-- a device's error came from the writer, which took a front of octets that are so
+abbrev pub StopsInside : (List ℕ → Type 0) → Option (List ℕ) → Option (List ℕ) → PacError → Type 0
+StopsInside P old new e = IfIo (λ x. IsLasting x × ((b : List ℕ) × P b × TakesFront b old new)) e

@@ -4,7 +4,7 @@ ghost use Rattle.std.specs.Prelude.{◌≡◌, ℕ, ◌≤◌, ◌<◌, ◌^◌,
 ghost use Rattle.std.specs.Io.KnownBytes.{Appends};
 ghost use Rattle.krb_pac.specs.Written.{PacPut};
 ghost use Rattle.std.specs.Cmp.Lexicographic.{pointwise};
-ghost use Rattle.krb_pac.specs.Devices.{IfIo, IsLasting, TakesFront};
+ghost use Rattle.krb_pac.specs.Devices.{IfIo, IsLasting, StopsInside};
 ghost use Rattle.krb_pac.specs.Comparing.{same_pac_per, same_pac_equiv};
 ghost use Rattle.krb_pac.specs.Layout.{Buffer, PacIs, same_buffer};
 ghost use Rattle.krb_pac.specs.Refused.{Answers, AnswersUnlessFault, RefusesUnlessFault, NamesOutside, PacRefused, IsFault};
@@ -94,7 +94,7 @@ impl Pac {
         ensures no_place { ((b : List ℕ) → PacPut self.now b → ⊥) → MatchResult result (λ _. ⊥) (λ e. (e ≡ PacError.InvalidRange) ⊎ (e ≡ PacError.OutOfMemory)) }
         ensures refused { IfErr result (λ e. IsFault e ⊎ ((e ≡ PacError.InvalidRange) × ((b : List ℕ) → PacPut self.now b → ⊥))) }
         ensures kept { IfErr result (λ e. (e ≡ PacError.InvalidRange) ⊎ (e ≡ PacError.OutOfMemory) → out.new ≡ out.old) }
-        ensures fault { IfErr result (IfIo (λ x. IsLasting x × ((b : List ℕ) × PacPut self.now b × TakesFront b (W.contents out.old) (W.contents out.new)))) }
+        ensures fault { IfErr result (StopsInside (PacPut self.now) (W.contents out.old) (W.contents out.new)) }
     {
         let octets = to_octets(alloc, self.buffers())?;
         write_octets(out, &octets)
