@@ -21,5 +21,6 @@ pub mod SequenceLaws
 pub mod FieldFaults
 pub mod FieldFaultLaws
 pub mod Streaming
+pub mod Tags
 pub mod Choice
 pub mod ChoiceLaws

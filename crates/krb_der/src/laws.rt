@@ -1,6 +1,6 @@
 //! Laws over the definitions, of functions that do nothing.
 
-ghost use Rattle.std.specs.Prelude.{◌≡◌, ◌↔◌, ◌==◌, ◌+◌, ◌<◌, ◌≤◌, ◌^◌, ◌++◌, ◌∷◌, ℕ, ℤ, pos, Bool, List, Option, None, IfSome, length};
+ghost use Rattle.std.specs.Prelude.{◌≡◌, ◌↔◌, ◌==◌, ◌||◌, ◌+◌, ◌<◌, ◌≤◌, ◌^◌, ◌++◌, ◌∷◌, ℕ, ℤ, pos, Bool, List, Option, None, IfSome, length};
 ghost use Rattle.std.specs.Str.{IsAscii, IsUtf8};
 ghost use Rattle.std.specs.List.{flat_map};
 ghost use Rattle.krb_leaves.specs.Tlv.{tlv};
@@ -14,6 +14,7 @@ ghost use Rattle.krb_leaves.specs.GeneralizedTime.{IsRealTime, Time, time_conten
 ghost use Rattle.krb_der.specs.FieldFaults.{IsAbsent, LastFault, OptionalFault};
 ghost use Rattle.krb_der.specs.declared.optional.Optional.{Optional as OptionalOf};
 ghost use Rattle.krb_der.specs.Equality.{ClonesValue, TellsEqual};
+ghost use Rattle.krb_der.specs.Tags.{HasTag};
 
 use crate::application_tag::ApplicationTag;
 use crate::context_tag::{
@@ -97,7 +98,8 @@ pub fn first_fault<T: DerEncode>()
     ensures whole { (octets : List ℕ) (e : Asn1DerError) (v : T) → length octets < 2 ^ 64 → ValueFault T.is_value T.enc T.first T.fault octets e → T.is_value v → octets ≡ T.enc v → ⊥ }
 {}
 
-/// The fault of a leaf: an element of another tag, or of a content that no value has, is `InvalidData`.
+/// The fault of a leaf: an element of another tag, or of a content that no value has, is `InvalidData`. Its encodings begin with the tag,
+/// and with no other octet (X.690, 8.1.2).
 pub fn leaf_faults()
     ensures boolean { (t : ℕ) (content : List ℕ) (e : Asn1DerError) → ⟦<bool as DerEncode>⟧.fault t content e ↔ LeafFault 1 (λ (v : Bool). Unit {0}) bool_content t content e }
     ensures integer { (t : ℕ) (content : List ℕ) (e : Asn1DerError) → ⟦<IntegerAsn1 as DerEncode>⟧.fault t content e ↔ LeafFault 2 (λ (v : ℤ). Unit {0}) shortest t content e }
@@ -107,28 +109,42 @@ pub fn leaf_faults()
     ensures utf8_string { (t : ℕ) (content : List ℕ) (e : Asn1DerError) → ⟦<Utf8StringAsn1 as DerEncode>⟧.fault t content e ↔ LeafFault 12 IsUtf8 (λ (v : List ℕ). v) t content e }
     ensures generalized_time { (t : ℕ) (content : List ℕ) (e : Asn1DerError) → ⟦<GeneralizedTimeAsn1 as DerEncode>⟧.fault t content e ↔ LeafFault 24 IsRealTime time_content t content e }
     ensures general_string { (t : ℕ) (content : List ℕ) (e : Asn1DerError) → ⟦<GeneralStringAsn1 as DerEncode>⟧.fault t content e ↔ LeafFault 27 IsAscii (λ (v : List ℕ). v) t content e }
+    ensures boolean_tag { HasTag 1 ⟦<bool as DerEncode>⟧.first }
+    ensures integer_tag { HasTag 2 ⟦<IntegerAsn1 as DerEncode>⟧.first }
+    ensures number_tag { HasTag 2 ⟦<u32 as DerEncode>⟧.first }
+    ensures bit_string_tag { HasTag 3 ⟦<BitStringAsn1 as DerEncode>⟧.first }
+    ensures octet_string_tag { HasTag 4 ⟦<OctetStringAsn1 as DerEncode>⟧.first }
+    ensures utf8_string_tag { HasTag 12 ⟦<Utf8StringAsn1 as DerEncode>⟧.first }
+    ensures generalized_time_tag { HasTag 24 ⟦<GeneralizedTimeAsn1 as DerEncode>⟧.first }
+    ensures general_string_tag { HasTag 27 ⟦<GeneralStringAsn1 as DerEncode>⟧.first }
 {}
 
-/// The fault of what is made of values of T: first that of the tag, then that of what is inside, from the left.
+/// The fault of what is made of values of T: first that of the tag, then that of what is inside, from the left. Its encodings begin with
+/// the tag, and with no other octet (X.690, 8.1.2).
 pub fn composite_faults<T: DerEncode, const N: u8>()
     ensures sequence_of { (t : ℕ) (content : List ℕ) (e : Asn1DerError) → ⟦<Asn1SequenceOf<T> as DerEncode>⟧.fault t content e ↔ TaggedFault 48 (RowFault T.is_value T.enc (FrontFault T.first T.fault)) t content e }
     ensures explicit { N ≤ 30 → (t : ℕ) (content : List ℕ) (e : Asn1DerError) → ⟦<ExplicitContextTag<T, Number<N>> as DerEncode>⟧.fault t content e ↔ TaggedFault (160 + N) (ValueFault T.is_value T.enc T.first T.fault) t content e }
+    ensures sequence_of_tag { HasTag 48 ⟦<Asn1SequenceOf<T> as DerEncode>⟧.first }
+    ensures explicit_tag { N ≤ 30 → HasTag (160 + N) ⟦<ExplicitContextTag<T, Number<N>> as DerEncode>⟧.first }
 {}
 
-/// The fault of a sequence under an application tag.
+/// The fault of a sequence under an application tag, and the octet with which alone its encodings begin.
 pub fn application_fault<T: DerSequence, const N: u8>()
-    ensures { N ≤ 30 → (t : ℕ) (content : List ℕ) (e : Asn1DerError) → ⟦<ApplicationTag<T, N> as DerEncode>⟧.fault t content e ↔ TaggedFault (96 + N) (ValueFault T.is_value T.enc T.first T.fault) t content e }
+    ensures tag { N ≤ 30 → HasTag (96 + N) ⟦<ApplicationTag<T, N> as DerEncode>⟧.first }
+    ensures fault { N ≤ 30 → (t : ℕ) (content : List ℕ) (e : Asn1DerError) → ⟦<ApplicationTag<T, N> as DerEncode>⟧.fault t content e ↔ TaggedFault (96 + N) (ValueFault T.is_value T.enc T.first T.fault) t content e }
 {}
 
 /// The first fault of a field of a sequence (X.690, 8.9 and 8.14), and where the field ends.
 ///
 /// A mandatory field stands under its tag, and ends with its octets. One that may be absent is there where the octets begin as
-/// it does, and is absent where they do not.
+/// it does, and is absent where they do not: with it and what may follow, octets begin as one or the other does.
 pub fn field_faults<T: Der + Drop, const N: u8>()
     ensures mandatory { N ≤ 30 → (octets : List ℕ) (e : Asn1DerError) → ⟦<ExplicitContextTag<T, Number<N>> as Fields>⟧.fault octets e ↔ FrontFault (λ t. t == 160 + N) (TaggedFault (160 + N) (ValueFault T.is_value T.enc T.first T.fault)) octets e }
     ensures mandatory_ends { (v : T) (rest : List ℕ) → ⟦<ExplicitContextTag<T, Number<N>> as Fields>⟧.ends v rest }
     ensures optional { (octets : List ℕ) (e : Asn1DerError) → ⟦<Optional<Option<T>> as Fields>⟧.fault octets e ↔ OptionalFault T.first T.fault octets e }
     ensures optional_ends { (v : OptionalOf (Option T)) (rest : List ℕ) → ⟦<Optional<Option<T>> as Fields>⟧.ends v rest ↔ (v.0 ≡ None → IsAbsent T.first rest) }
+    ensures mandatory_begins { N ≤ 30 → (follow : ℕ → Bool) → HasTag (160 + N) (⟦<ExplicitContextTag<T, Number<N>> as Fields>⟧.begins follow) }
+    ensures optional_begins { (follow : ℕ → Bool) (t : ℕ) → ⟦<Optional<Option<T>> as Fields>⟧.begins follow t ≡ (T.first t || follow t) }
 {}
 
 /// The first fault of fields (X.690, 8.9): that of the fields before the last, or they stand and it is that of the last in the
