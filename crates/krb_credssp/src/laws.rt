@@ -2,6 +2,7 @@
 
 ghost use Rattle.krb_der.specs.FieldFaults.{HasFaultsOf};
 ghost use Rattle.krb_der.specs.Equality.{TellsEqual};
+ghost use Rattle.krb_der.specs.Tags.{HasTag};
 
 use crate::credssp::{
     TsCredentials, TsCspDataDetail, TsPasswordCreds, TsRemoteGuardCreds, TsRemoteGuardPackageCred,
@@ -11,7 +12,7 @@ use krb_der::DerEncode;
 use krb_der::composite::{Fields, Sequence};
 
 /// The first fault of each struct is that of a SEQUENCE of its fields (X.690, 8.9): its tag, then its fields in order, then what is
-/// left over.
+/// left over. Its encodings begin with that tag, and with no other octet (X.690, 8.1.2).
 pub fn faults()
     ensures ts_credentials { HasFaultsOf ⟦<TsCredentials as DerEncode>⟧.fault ⟦<<TsCredentials as Sequence>::Fields as Fields>⟧ }
     ensures ts_password_creds { HasFaultsOf ⟦<TsPasswordCreds as DerEncode>⟧.fault ⟦<<TsPasswordCreds as Sequence>::Fields as Fields>⟧ }
@@ -19,6 +20,12 @@ pub fn faults()
     ensures ts_smart_card_creds { HasFaultsOf ⟦<TsSmartCardCreds as DerEncode>⟧.fault ⟦<<TsSmartCardCreds as Sequence>::Fields as Fields>⟧ }
     ensures ts_remote_guard_package_cred { HasFaultsOf ⟦<TsRemoteGuardPackageCred as DerEncode>⟧.fault ⟦<<TsRemoteGuardPackageCred as Sequence>::Fields as Fields>⟧ }
     ensures ts_remote_guard_creds { HasFaultsOf ⟦<TsRemoteGuardCreds as DerEncode>⟧.fault ⟦<<TsRemoteGuardCreds as Sequence>::Fields as Fields>⟧ }
+    ensures ts_credentials_tag { HasTag 48 ⟦<TsCredentials as DerEncode>⟧.first }
+    ensures ts_password_creds_tag { HasTag 48 ⟦<TsPasswordCreds as DerEncode>⟧.first }
+    ensures ts_csp_data_detail_tag { HasTag 48 ⟦<TsCspDataDetail as DerEncode>⟧.first }
+    ensures ts_smart_card_creds_tag { HasTag 48 ⟦<TsSmartCardCreds as DerEncode>⟧.first }
+    ensures ts_remote_guard_package_cred_tag { HasTag 48 ⟦<TsRemoteGuardPackageCred as DerEncode>⟧.first }
+    ensures ts_remote_guard_creds_tag { HasTag 48 ⟦<TsRemoteGuardCreds as DerEncode>⟧.first }
 {}
 
 /// `==` on each struct: it answers true for equal values and for no others.

@@ -2,6 +2,7 @@
 
 ghost use Rattle.krb_der.specs.FieldFaults.{HasFaultsOf};
 ghost use Rattle.krb_der.specs.Equality.{TellsEqual};
+ghost use Rattle.krb_der.specs.Tags.{HasTag};
 
 use crate::pkinit::{KrbFinished, Pku2uNegoBody, Pku2uNegoRep, Pku2uNegoReq, Pku2uNegoReqMetadata};
 use krb_der::DerEncode;
@@ -9,13 +10,18 @@ use krb_der::composite::{Fields, Sequence};
 use krb_types::laws::equality as shared_equality;
 
 /// The first fault of each struct is that of a SEQUENCE of its fields (X.690, 8.9): its tag, then its fields in order, then what is
-/// left over.
+/// left over. Its encodings begin with that tag, and with no other octet (X.690, 8.1.2).
 pub fn faults()
     ensures pku2u_nego_req_metadata { HasFaultsOf ⟦<Pku2uNegoReqMetadata as DerEncode>⟧.fault ⟦<<Pku2uNegoReqMetadata as Sequence>::Fields as Fields>⟧ }
     ensures pku2u_nego_body { HasFaultsOf ⟦<Pku2uNegoBody as DerEncode>⟧.fault ⟦<<Pku2uNegoBody as Sequence>::Fields as Fields>⟧ }
     ensures pku2u_nego_req { HasFaultsOf ⟦<Pku2uNegoReq as DerEncode>⟧.fault ⟦<<Pku2uNegoReq as Sequence>::Fields as Fields>⟧ }
     ensures pku2u_nego_rep { HasFaultsOf ⟦<Pku2uNegoRep as DerEncode>⟧.fault ⟦<<Pku2uNegoRep as Sequence>::Fields as Fields>⟧ }
     ensures krb_finished { HasFaultsOf ⟦<KrbFinished as DerEncode>⟧.fault ⟦<<KrbFinished as Sequence>::Fields as Fields>⟧ }
+    ensures pku2u_nego_req_metadata_tag { HasTag 48 ⟦<Pku2uNegoReqMetadata as DerEncode>⟧.first }
+    ensures pku2u_nego_body_tag { HasTag 48 ⟦<Pku2uNegoBody as DerEncode>⟧.first }
+    ensures pku2u_nego_req_tag { HasTag 48 ⟦<Pku2uNegoReq as DerEncode>⟧.first }
+    ensures pku2u_nego_rep_tag { HasTag 48 ⟦<Pku2uNegoRep as DerEncode>⟧.first }
+    ensures krb_finished_tag { HasTag 48 ⟦<KrbFinished as DerEncode>⟧.first }
 {}
 
 /// `==` on each struct: it answers true for equal values and for no others.

@@ -6,6 +6,7 @@ ghost use Rattle.krb_der.specs.BitString.{Bits};
 ghost use Rattle.krb_der.specs.FieldFaults.{HasFaultsOf};
 ghost use Rattle.krb_der.specs.Equality.{TellsEqual};
 ghost use Rattle.krb_der.specs.GeneralizedTime.{Time};
+ghost use Rattle.krb_der.specs.Tags.{HasTag};
 
 use crate::data_types::{
     ApOptions, AuthorizationData, AuthorizationDataInner, ChangePasswdData, Checksum,
@@ -39,7 +40,7 @@ pub fn structs()
 {}
 
 /// The first fault of each struct is that of a SEQUENCE of its fields (X.690, 8.9): its tag, then its fields in order, then what is
-/// left over.
+/// left over. Its encodings begin with that tag, and with no other octet (X.690, 8.1.2).
 pub fn faults()
     ensures host_address { HasFaultsOf ⟦<HostAddress as DerEncode>⟧.fault ⟦<<HostAddress as Sequence>::Fields as Fields>⟧ }
     ensures authorization_data { HasFaultsOf ⟦<AuthorizationDataInner as DerEncode>⟧.fault ⟦<<AuthorizationDataInner as Sequence>::Fields as Fields>⟧ }
@@ -52,6 +53,17 @@ pub fn faults()
     ensures change_passwd_data { HasFaultsOf ⟦<ChangePasswdData as DerEncode>⟧.fault ⟦<<ChangePasswdData as Sequence>::Fields as Fields>⟧ }
     ensures ticket { HasFaultsOf ⟦<TicketInner as DerEncode>⟧.fault ⟦<<TicketInner as Sequence>::Fields as Fields>⟧ }
     ensures transited_encoding { HasFaultsOf ⟦<TransitedEncoding as DerEncode>⟧.fault ⟦<<TransitedEncoding as Sequence>::Fields as Fields>⟧ }
+    ensures host_address_tag { HasTag 48 ⟦<HostAddress as DerEncode>⟧.first }
+    ensures authorization_data_tag { HasTag 48 ⟦<AuthorizationDataInner as DerEncode>⟧.first }
+    ensures restriction_tag { HasTag 48 ⟦<KerbAdRestrictionEntry as DerEncode>⟧.first }
+    ensures checksum_tag { HasTag 48 ⟦<Checksum as DerEncode>⟧.first }
+    ensures encrypted_data_tag { HasTag 48 ⟦<EncryptedData as DerEncode>⟧.first }
+    ensures encryption_key_tag { HasTag 48 ⟦<EncryptionKey as DerEncode>⟧.first }
+    ensures last_req_tag { HasTag 48 ⟦<LastReqInner as DerEncode>⟧.first }
+    ensures principal_name_tag { HasTag 48 ⟦<PrincipalName as DerEncode>⟧.first }
+    ensures change_passwd_data_tag { HasTag 48 ⟦<ChangePasswdData as DerEncode>⟧.first }
+    ensures ticket_tag { HasTag 48 ⟦<TicketInner as DerEncode>⟧.first }
+    ensures transited_encoding_tag { HasTag 48 ⟦<TransitedEncoding as DerEncode>⟧.first }
 {}
 
 /// `==` on each struct: it answers true for equal values and for no others.
