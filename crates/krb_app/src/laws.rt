@@ -4,6 +4,7 @@ ghost use Rattle.std.specs.Prelude.{◌≡◌};
 ghost use Rattle.krb_der.specs.Asn1.{application};
 ghost use Rattle.krb_der.specs.FieldFaults.{HasFaultsOf};
 ghost use Rattle.krb_der.specs.Equality.{TellsEqual};
+ghost use Rattle.krb_der.specs.Tags.{HasTag};
 
 use crate::messages::{
     ApRep, ApRepInner, ApReq, ApReqInner, KrbCred, KrbCredInner, KrbPriv, KrbPrivInner, TgtRep,
@@ -22,7 +23,7 @@ pub fn application_tags()
 {}
 
 /// The first fault of each struct is that of a SEQUENCE of its fields (X.690, 8.9): its tag, then its fields in order, then what is
-/// left over.
+/// left over. Its encodings begin with that tag, and with no other octet (X.690, 8.1.2).
 pub fn faults()
     ensures ap_req { HasFaultsOf ⟦<ApReqInner as DerEncode>⟧.fault ⟦<<ApReqInner as Sequence>::Fields as Fields>⟧ }
     ensures ap_rep { HasFaultsOf ⟦<ApRepInner as DerEncode>⟧.fault ⟦<<ApRepInner as Sequence>::Fields as Fields>⟧ }
@@ -30,6 +31,12 @@ pub fn faults()
     ensures krb_priv { HasFaultsOf ⟦<KrbPrivInner as DerEncode>⟧.fault ⟦<<KrbPrivInner as Sequence>::Fields as Fields>⟧ }
     ensures tgt_req { HasFaultsOf ⟦<TgtReq as DerEncode>⟧.fault ⟦<<TgtReq as Sequence>::Fields as Fields>⟧ }
     ensures tgt_rep { HasFaultsOf ⟦<TgtRep as DerEncode>⟧.fault ⟦<<TgtRep as Sequence>::Fields as Fields>⟧ }
+    ensures ap_req_tag { HasTag 48 ⟦<ApReqInner as DerEncode>⟧.first }
+    ensures ap_rep_tag { HasTag 48 ⟦<ApRepInner as DerEncode>⟧.first }
+    ensures krb_cred_tag { HasTag 48 ⟦<KrbCredInner as DerEncode>⟧.first }
+    ensures krb_priv_tag { HasTag 48 ⟦<KrbPrivInner as DerEncode>⟧.first }
+    ensures tgt_req_tag { HasTag 48 ⟦<TgtReq as DerEncode>⟧.first }
+    ensures tgt_rep_tag { HasTag 48 ⟦<TgtRep as DerEncode>⟧.first }
 {}
 
 /// `==` on each struct: it answers true for equal values and for no others.

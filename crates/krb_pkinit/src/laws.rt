@@ -5,6 +5,7 @@ ghost use Rattle.krb_der.specs.Asn1.{explicit, octet_string};
 ghost use Rattle.krb_der.specs.Choice.{ChoiceFault};
 ghost use Rattle.krb_der.specs.FieldFaults.{HasFaultsOf, SameFault};
 ghost use Rattle.krb_der.specs.Equality.{TellsEqual};
+ghost use Rattle.krb_der.specs.Tags.{HasTag, HasTags};
 ghost use Rattle.krb_algorithms.specs.Implicit.{implicit};
 
 use crate::pkinit::{
@@ -31,24 +32,31 @@ pub fn answers()
 {}
 
 /// The first fault of each struct is that of a SEQUENCE of its fields (X.690, 8.9): its tag, then its fields in order, then what is
-/// left over.
+/// left over. Its encodings begin with that tag, and with no other octet (X.690, 8.1.2).
 pub fn faults()
     ensures external_principal_identifier { HasFaultsOf ⟦<ExternalPrincipalIdentifier as DerEncode>⟧.fault ⟦<<ExternalPrincipalIdentifier as Sequence>::Fields as Fields>⟧ }
     ensures pa_pk_as_req { HasFaultsOf ⟦<PaPkAsReq as DerEncode>⟧.fault ⟦<<PaPkAsReq as Sequence>::Fields as Fields>⟧ }
     ensures pk_authenticator { HasFaultsOf ⟦<PkAuthenticator as DerEncode>⟧.fault ⟦<<PkAuthenticator as Sequence>::Fields as Fields>⟧ }
     ensures dh_rep_info { HasFaultsOf ⟦<DhRepInfo as DerEncode>⟧.fault ⟦<<DhRepInfo as Sequence>::Fields as Fields>⟧ }
     ensures kdc_dh_key_info { HasFaultsOf ⟦<KdcDhKeyInfo as DerEncode>⟧.fault ⟦<<KdcDhKeyInfo as Sequence>::Fields as Fields>⟧ }
+    ensures external_principal_identifier_tag { HasTag 48 ⟦<ExternalPrincipalIdentifier as DerEncode>⟧.first }
+    ensures pa_pk_as_req_tag { HasTag 48 ⟦<PaPkAsReq as DerEncode>⟧.first }
+    ensures pk_authenticator_tag { HasTag 48 ⟦<PkAuthenticator as DerEncode>⟧.first }
+    ensures dh_rep_info_tag { HasTag 48 ⟦<DhRepInfo as DerEncode>⟧.first }
+    ensures kdc_dh_key_info_tag { HasTag 48 ⟦<KdcDhKeyInfo as DerEncode>⟧.first }
 {}
 
 /// The first fault of what a client signs, with a public key of either kind (X.690, 8.9; RFC 4556, 3.2.1).
 pub fn auth_pack_faults<C: Der + Drop>()
-    ensures { HasFaultsOf ⟦<AuthPack<C> as DerEncode>⟧.fault ⟦<<AuthPack<C> as Sequence>::Fields as Fields>⟧ }
+    ensures fault { HasFaultsOf ⟦<AuthPack<C> as DerEncode>⟧.fault ⟦<<AuthPack<C> as Sequence>::Fields as Fields>⟧ }
+    ensures tag { HasTag 48 ⟦<AuthPack<C> as DerEncode>⟧.first }
 {}
 
 /// The first fault of the choice of a KDC's answer (X.690, 8.13; RFC 4556, 3.2.3): the tag is neither's, or it is that of what has
-/// the tag.
+/// the tag. Its encodings begin with one of the two.
 pub fn pa_pk_as_rep_faults()
-    ensures { SameFault ⟦<PaPkAsRep as DerEncode>⟧.fault (ChoiceFault 160 129 ⟦<ExplicitContextTag0<DhRepInfo> as DerEncode>⟧.fault ⟦<ImplicitContextTag1<OctetStringAsn1> as DerEncode>⟧.fault) }
+    ensures fault { SameFault ⟦<PaPkAsRep as DerEncode>⟧.fault (ChoiceFault 160 129 ⟦<ExplicitContextTag0<DhRepInfo> as DerEncode>⟧.fault ⟦<ImplicitContextTag1<OctetStringAsn1> as DerEncode>⟧.fault) }
+    ensures tags { HasTags 160 129 ⟦<PaPkAsRep as DerEncode>⟧.first }
 {}
 
 /// `==` on each struct and on the choice: it answers true for equal values and for no others.
