@@ -4,6 +4,7 @@ ghost use Rattle.std.specs.Prelude.{◌≡◌};
 ghost use Rattle.krb_der.specs.Asn1.{application};
 ghost use Rattle.krb_der.specs.FieldFaults.{HasFaultsOf};
 ghost use Rattle.krb_der.specs.Equality.{TellsEqual};
+ghost use Rattle.krb_der.specs.Tags.{HasTag};
 
 use crate::messages::{
     AsRep, AsReq, EncAsRepPart, EncKdcRepPart, EncTgsRepPart, KdcRep, KdcReq, KdcReqBody, TgsRep,
@@ -25,12 +26,16 @@ pub fn application_tags()
 {}
 
 /// The first fault of each struct is that of a SEQUENCE of its fields (X.690, 8.9): its tag, then its fields in order, then what is
-/// left over.
+/// left over. Its encodings begin with that tag, and with no other octet (X.690, 8.1.2).
 pub fn faults()
     ensures kdc_req_body { HasFaultsOf ⟦<KdcReqBody as DerEncode>⟧.fault ⟦<<KdcReqBody as Sequence>::Fields as Fields>⟧ }
     ensures kdc_req { HasFaultsOf ⟦<KdcReq as DerEncode>⟧.fault ⟦<<KdcReq as Sequence>::Fields as Fields>⟧ }
     ensures kdc_rep { HasFaultsOf ⟦<KdcRep as DerEncode>⟧.fault ⟦<<KdcRep as Sequence>::Fields as Fields>⟧ }
     ensures enc_kdc_rep_part { HasFaultsOf ⟦<EncKdcRepPart as DerEncode>⟧.fault ⟦<<EncKdcRepPart as Sequence>::Fields as Fields>⟧ }
+    ensures kdc_req_body_tag { HasTag 48 ⟦<KdcReqBody as DerEncode>⟧.first }
+    ensures kdc_req_tag { HasTag 48 ⟦<KdcReq as DerEncode>⟧.first }
+    ensures kdc_rep_tag { HasTag 48 ⟦<KdcRep as DerEncode>⟧.first }
+    ensures enc_kdc_rep_part_tag { HasTag 48 ⟦<EncKdcRepPart as DerEncode>⟧.first }
 {}
 
 /// `==` on each struct: it answers true for equal values and for no others.

@@ -4,6 +4,7 @@ ghost use Rattle.std.specs.Prelude.{◌≡◌};
 ghost use Rattle.krb_der.specs.Asn1.{application};
 ghost use Rattle.krb_der.specs.FieldFaults.{HasFaultsOf};
 ghost use Rattle.krb_der.specs.Equality.{TellsEqual};
+ghost use Rattle.krb_der.specs.Tags.{HasTag};
 
 use crate::data_types::{
     Authenticator, AuthenticatorInner, EncApRepPart, EncApRepPartInner, EncKrbCredPart,
@@ -24,7 +25,7 @@ pub fn enciphered_parts()
 {}
 
 /// The first fault of each struct is that of a SEQUENCE of its fields (X.690, 8.9): its tag, then its fields in order, then what is
-/// left over.
+/// left over. Its encodings begin with that tag, and with no other octet (X.690, 8.1.2).
 pub fn faults()
     ensures authenticator { HasFaultsOf ⟦<AuthenticatorInner as DerEncode>⟧.fault ⟦<<AuthenticatorInner as Sequence>::Fields as Fields>⟧ }
     ensures enc_ap_rep_part { HasFaultsOf ⟦<EncApRepPartInner as DerEncode>⟧.fault ⟦<<EncApRepPartInner as Sequence>::Fields as Fields>⟧ }
@@ -32,6 +33,12 @@ pub fn faults()
     ensures enc_krb_cred_part { HasFaultsOf ⟦<EncKrbCredPartInner as DerEncode>⟧.fault ⟦<<EncKrbCredPartInner as Sequence>::Fields as Fields>⟧ }
     ensures enc_krb_priv_part { HasFaultsOf ⟦<EncKrbPrivPartInner as DerEncode>⟧.fault ⟦<<EncKrbPrivPartInner as Sequence>::Fields as Fields>⟧ }
     ensures enc_ticket_part { HasFaultsOf ⟦<EncTicketPartInner as DerEncode>⟧.fault ⟦<<EncTicketPartInner as Sequence>::Fields as Fields>⟧ }
+    ensures authenticator_tag { HasTag 48 ⟦<AuthenticatorInner as DerEncode>⟧.first }
+    ensures enc_ap_rep_part_tag { HasTag 48 ⟦<EncApRepPartInner as DerEncode>⟧.first }
+    ensures krb_cred_info_tag { HasTag 48 ⟦<KrbCredInfo as DerEncode>⟧.first }
+    ensures enc_krb_cred_part_tag { HasTag 48 ⟦<EncKrbCredPartInner as DerEncode>⟧.first }
+    ensures enc_krb_priv_part_tag { HasTag 48 ⟦<EncKrbPrivPartInner as DerEncode>⟧.first }
+    ensures enc_ticket_part_tag { HasTag 48 ⟦<EncTicketPartInner as DerEncode>⟧.first }
 {}
 
 /// `==` on each struct: it answers true for equal values and for no others.
