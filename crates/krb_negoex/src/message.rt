@@ -63,8 +63,10 @@ pub trait NegoexMessage: Part {
         ensures laid { OnOk result (Self.layout.laid (start self.now) self.now) }
         ensures ok { OnOk result (Appends (W.contents to.old) (W.contents to.new) (written Self.layout (start self.now) between self.now)) }
         ensures unlaid { (Self.layout.laid (start self.now) self.now → ⊥) → MatchResult result (λ _. ⊥) (λ e. is_memory e ⊎ is_unfit e) × Keeps (W.contents to.old) (W.contents to.new) }
-        ensures refused { IfErr result (λ e. ((is_memory e ⊎ (is_unfit e × (Self.layout.laid (start self.now) self.now → ⊥))) × Keeps (W.contents to.old) (W.contents to.new))
-            ⊎ (Self.layout.laid (start self.now) self.now × is_fault e × TakesFront (written Self.layout (start self.now) between self.now) (W.contents to.old) (W.contents to.new))) };
+        ensures refused { IfErr result (λ e. ((is_memory e ⊎ (is_unfit e × (Self.layout.laid (start self.now) self.now → ⊥)))
+            × Keeps (W.contents to.old) (W.contents to.new))
+            ⊎ (Self.layout.laid (start self.now) self.now × is_fault e
+            × TakesFront (written Self.layout (start self.now) between self.now) (W.contents to.old) (W.contents to.new))) };
 }
 
 /// The value that the octets of a message begin with.
@@ -88,7 +90,8 @@ pub(crate) fn encode_whole<M: Lay, W: Write>(
     ensures laid { OnOk result (M.layout.laid start value.now) }
     ensures ok { OnOk result (Appends (W.contents to.old) (W.contents to.new) (written M.layout start between.now value.now)) }
     ensures unlaid { (M.layout.laid start value.now → ⊥) → MatchResult result (λ _. ⊥) (λ e. IsMemory e ⊎ IsUnfit e) × Keeps (W.contents to.old) (W.contents to.new) }
-    ensures refused { IfErr result (EncodeRefused (M.layout.laid start value.now) (written M.layout start between.now value.now) (W.contents to.old) (W.contents to.new)) }
+    ensures refused { IfErr result (EncodeRefused (M.layout.laid start value.now) (written M.layout start between.now value.now)
+        (W.contents to.old) (W.contents to.new)) }
 {
     let mut octets = Vec::new(alloc);
     let mut payload = Vec::new(alloc);

@@ -52,9 +52,11 @@ pub trait NegoexDataType: Placed {
         ensures payload_part { OnOk result (Appends (V.contents payload_to.old) (V.contents payload_to.new) (Self.layout.payload offset self.now)) }
         ensures unlaid { (Self.layout.laid offset self.now → ⊥) → MatchResult result (λ _. ⊥) (IsUnlaidBy Self.Error.from_gives) × Keeps (W.contents to.old) (W.contents to.new) × Keeps (V.contents payload_to.old) (V.contents payload_to.new) }
         ensures refused { IfErr result (IsToldBy Self.Error.from_gives (λ x.
-            (LayRefused (Self.layout.laid offset self.now) x × Keeps (W.contents to.old) (W.contents to.new) × Keeps (V.contents payload_to.old) (V.contents payload_to.new))
+            (LayRefused (Self.layout.laid offset self.now) x × Keeps (W.contents to.old) (W.contents to.new)
+            × Keeps (V.contents payload_to.old) (V.contents payload_to.new))
             ⊎ (Self.layout.laid offset self.now × IsLasting x
-            × PartsStopped (Self.layout.fixed offset self.now) (Self.layout.payload offset self.now) (W.contents to.old) (W.contents to.new) (V.contents payload_to.old) (V.contents payload_to.new)))) }
+            × PartsStopped (Self.layout.fixed offset self.now) (Self.layout.payload offset self.now)
+            (W.contents to.old) (W.contents to.new) (V.contents payload_to.old) (V.contents payload_to.new)))) }
     {
         let mut fixed_part = Vec::new(alloc);
         let mut payload_part = Vec::new(alloc);
