@@ -1,7 +1,8 @@
 -- An encoding with a cipher's fill behind it (RFC 3961, 5.3).
-use Rattle.std.specs.Prelude.{◌≡◌, ◌⊎◌, ℕ, ◌<◌, List, ◌++◌, replicate}
+use Rattle.std.specs.Prelude.{◌≡◌, ◌⊎◌, ℕ, ◌<◌, Bool, List, ◌++◌, replicate}
 use Rattle.krb_leaves.specs.declared.error.Asn1DerError.{Asn1DerError}
 use Rattle.krb_leaves.specs.declared.error.Asn1DerError.TheVariants.{InvalidData}
+use Rattle.krb_leaves.specs.Faults.{FrontFault}
 use Rattle.krb_leaves.specs.Reading.{RefusesFront}
 
 -- fewer than size octets, all zero
@@ -16,3 +17,8 @@ HasMore P size octets = (front rest : List ℕ) × P front × (octets ≡ front 
 -- invalid where more stands behind.
 abbrev pub RefusesFilled : (List ℕ → Type 0) → ℕ → List ℕ → Asn1DerError → Type 0
 RefusesFilled P size octets e = RefusesFront P octets e ⊎ ((e ≡ InvalidData) × HasMore P size octets)
+
+-- The first fault of octets that should be one of P and fewer than size zeros: that of the element at the front, whose tag is to be
+-- among the first octets and whose content has this fault, and else invalid data where more stands behind.
+abbrev pub FilledFault : (List ℕ → Type 0) → (ℕ → Bool) → (ℕ → List ℕ → Asn1DerError → Type 0) → ℕ → List ℕ → Asn1DerError → Type 0
+FilledFault P first fault size octets e = FrontFault first fault octets e ⊎ ((e ≡ InvalidData) × HasMore P size octets)

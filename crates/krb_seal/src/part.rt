@@ -5,7 +5,8 @@ ghost use Rattle.krb_mac.specs.CryptoError.{IsMemoryOr};
 ghost use Rattle.krb_der.specs.Reading.{Encodings};
 ghost use Rattle.krb_der.specs.Whole.{Answers, FailsWith};
 ghost use Rattle.krb_scheme.specs.Sealing.{IsGiven, IsOfNone, IsTheOne, Opens};
-ghost use Rattle.krb_seal.specs.Filled.{IsFewZeros, RefusesFilled};
+ghost use Rattle.krb_leaves.specs.Faults.{OrMemory};
+ghost use Rattle.krb_seal.specs.Filled.{FilledFault, IsFewZeros, RefusesFilled};
 ghost use Rattle.krb_seal.specs.PartError.{IsMemory, IsPartMemoryOr, IsCrypto, IfCrypto, IfDer};
 
 use crate::error::PartError;
@@ -37,8 +38,8 @@ pub fn seal_part<T: Der>(
 /// The value whose encoding the cipher sealed to these octets, under this key and key usage and some confounder.
 ///
 /// What the cipher refuses is `Crypto` of the cipher's own reason: a key that has not `key_size` octets, and octets that
-/// it seals nothing to. What it opens is `Der` where no encoding stands in front of it, and `Der(InvalidData)` where one
-/// does and what follows is not fewer than `fill_size` zeros.
+/// it seals nothing to. What it opens is `Der` of its first fault where no encoding stands in front of it, and
+/// `Der(InvalidData)` where one does and what follows is not fewer than `fill_size` zeros.
 pub fn open_part<T: Der + Drop>(
     alloc: Global,
     cipher: &dyn Cipher,
@@ -55,6 +56,8 @@ pub fn open_part<T: Der + Drop>(
     ensures crypto { length key.now ≡ key_octets cipher.now → IfErr result (λ e. IfCrypto e (λ why. IsMemoryOr why (IsOfNone (IsGiven (meaning cipher.now key.now key_usage) (confounder_octets cipher.now) bytes.now)))) }
     ensures exact { IfErr result (λ e. IfCrypto e (λ why. IsMemoryOr why (unopened cipher.now key.now key_usage bytes.now why))) }
     ensures der { IfErr result (λ e. IfDer e (λ why. (filled : List ℕ) × Opens (fill_octets cipher.now) (IsGiven (meaning cipher.now key.now key_usage) (confounder_octets cipher.now) bytes.now) filled × RefusesFilled (Encodings T.is_value T.enc) (fill_octets cipher.now) filled why)) }
+    ensures first_fault { IfErr result (λ e. IfDer e (λ why. (filled : List ℕ) × Opens (fill_octets cipher.now) (IsGiven (meaning cipher.now key.now key_usage) (confounder_octets cipher.now) bytes.now) filled
+        × RefusesFilled (Encodings T.is_value T.enc) (fill_octets cipher.now) filled why × OrMemory (FilledFault (Encodings T.is_value T.enc) T.first T.fault (fill_octets cipher.now) filled) why)) }
 {
     let filled = cipher.decrypt(alloc, key, key_usage, bytes)?;
     Ok(read_filled(alloc, &filled, cipher.fill_size())?)
@@ -67,6 +70,7 @@ fn read_filled<T: Der + Drop>(alloc: Global, filled: &[u8], size: usize) -> Resu
     ensures only { (v : T) (rest : List ℕ) → T.is_value v → filled.now ≡ T.enc v ++ rest → IsFewZeros size rest → Answers result v }
     ensures behind { (v : T) (rest : List ℕ) → T.is_value v → filled.now ≡ T.enc v ++ rest → ¬ IsFewZeros size rest → FailsWith result Asn1DerError.InvalidData }
     ensures refused { IfErr result (RefusesFilled (Encodings T.is_value T.enc) size filled.now) }
+    ensures first_fault { IfErr result (OrMemory (FilledFault (Encodings T.is_value T.enc) T.first T.fault size filled.now)) }
 {
     let (value, taken) = T::read(alloc, filled)?;
     if is_few_zeros(&filled[taken..], size) {

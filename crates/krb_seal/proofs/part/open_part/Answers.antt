@@ -51,6 +51,14 @@ returns-in_err-read_filled-clause-der g c =
     let p = err_from_is_err_and c.from_residual-in_err-read_filled.result c.from_residual-in_err-read_filled.ensures.1 in
     rw (p.1, p.2) (_, opens, rw (← c.deref.ensures.value, ← c.fill_size.ensures.0) c.in_err-read_filled.ensures.refused)
 
+pub returns-in_err-read_filled-clause-first_fault : goal.returns-in_err-read_filled-clause-first_fault
+returns-in_err-read_filled-clause-first_fault g c =
+    let fits = c.ranges.key_usage in
+    let opens = simp to_z-of_z at c.in_ok-filled.ensures.1.0 in
+    let p = err_from_is_err_and c.from_residual-in_err-read_filled.result c.from_residual-in_err-read_filled.ensures.1 in
+    rw (p.1, p.2)
+    (_, opens, rw (← c.deref.ensures.value, ← c.fill_size.ensures.0) c.in_err-read_filled.ensures.refused, rw (← c.deref.ensures.value, ← c.fill_size.ensures.0) c.in_err-read_filled.ensures.first_fault)
+
 pub returns-clause-opened : goal.returns-clause-opened
 returns-clause-opened g c =
     let fits = c.ranges.key_usage in
