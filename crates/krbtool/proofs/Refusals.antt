@@ -1,12 +1,14 @@
 -- Refusals of parts, told as those of a run.
-use Rattle.std.proofs.Common.{◌≡◌, ◌≢◌, ℕ, List, refl, inl, inr}
+use Rattle.std.proofs.Common.{◌≡◌, ◌≢◌, ℕ, Bool, List, refl, inl, inr}
 use Rattle.krb_mac.specs.CryptoError.{IsMemoryOr}
 use Rattle.krb_mac.specs.declared.error.KerberosCryptoError.{KerberosCryptoError}
 use Rattle.krb_mac.specs.declared.error.KerberosCryptoError.TheVariants as crypto
+use Rattle.krb_leaves.specs.Faults.{OrMemory}
 use Rattle.krb_leaves.specs.Reading.{Encodings}
+use Rattle.krb_leaves.specs.declared.error.Asn1DerError.{Asn1DerError}
 use Rattle.krb_leaves.specs.declared.error.Asn1DerError.TheVariants as der
 use Rattle.krb_scheme.specs.Sealing.{IsOfNone, Opens}
-use Rattle.krb_seal.specs.Filled.{RefusesFilled}
+use Rattle.krb_seal.specs.Filled.{FilledFault, RefusesFilled}
 use Rattle.krb_seal.specs.PartError.{IfCrypto, IfDer}
 use Rattle.krb_seal.specs.declared.error.PartError.{PartError}
 use Rattle.krb_seal.specs.declared.error.PartError.TheVariants as part
@@ -22,35 +24,41 @@ not_memory : {P : Type 0} (why : KerberosCryptoError) → why ≢ crypto.OutOfMe
 not_memory why other (inl memory) = absurd (other memory)
 not_memory why other (inr held) = held
 
-module _ {V : Type 0} (is_value : V → Type 0) (enc : V → List ℕ) where
+-- nor is this one
+not_der_memory : (P : Asn1DerError → Type 0) (why : Asn1DerError) → why ≢ der.OutOfMemory → OrMemory P why → P why
+not_der_memory P why other (inl memory) = absurd (other memory)
+not_der_memory P why other (inr held) = held
+
+module _ {V : Type 0} (is_value : V → Type 0) (enc : V → List ℕ) (first : ℕ → Bool) (fault : ℕ → List ℕ → Asn1DerError → Type 0) where
   pub unopened_part : (fill : ℕ) (given : List ℕ → Type 0) (right : Type 0) (unopened : KerberosCryptoError → Type 0) (e : PartError)
       → (right → IfCrypto e (λ why. IsMemoryOr why (IsOfNone given))) → IfCrypto e (λ why. IsMemoryOr why (unopened why))
-      → IfDer e (λ why. (filled : List ℕ) × Opens fill given filled × RefusesFilled (Encodings is_value enc) fill filled why)
-      → IsUnopened is_value enc fill given right unopened (of_part e)
+      → IfDer e (λ why. (filled : List ℕ) × Opens fill given filled × RefusesFilled (Encodings is_value enc) fill filled why
+      × OrMemory (FilledFault (Encodings is_value enc) first fault fill filled) why)
+      → IsUnopened is_value enc first fault fill given right unopened (of_part e)
   unopened_part fill given right unopened (part.Crypto crypto.OutOfMemory) none exact more = inl refl
   unopened_part fill given right unopened (part.Crypto why) none exact more =
       let other : why ≢ crypto.OutOfMemory = λ same. (cc) in
       inr (inl (why, refl, not_memory why other exact, λ is. not_memory why other (none is)))
   unopened_part fill given right unopened (part.Der der.OutOfMemory) none exact more = inl refl
-  unopened_part fill given right unopened (part.Der why) none exact more = inr (inr (why, refl, more.0, more.1, more.2))
+  unopened_part fill given right unopened (part.Der why) none exact more = inr (inr (why, refl, more.0, more.1, more.2, not_der_memory (FilledFault (Encodings is_value enc) first fault fill more.0) why (λ same. (cc)) more.3))
 
   -- no input is refused for words
 
-  unread_not_words : (octets : List ℕ) (e : Failure) → IsUnread is_value enc octets e → e ≡ Words → ⊥
+  unread_not_words : (octets : List ℕ) (e : Failure) → IsUnread is_value enc first fault octets e → e ≡ Words → ⊥
   unread_not_words octets e (inl memory) same = (cc)
   unread_not_words octets e (inr der) same = let is : e ≡ Der der.0 = der.1 in (cc)
 
-  unsealed_not_words : (size : ℕ) (key octets : List ℕ) (e : Failure) → IsUnsealed is_value enc size key octets e → e ≡ Words → ⊥
+  unsealed_not_words : (size : ℕ) (key octets : List ℕ) (e : Failure) → IsUnsealed is_value enc first fault size key octets e → e ≡ Words → ⊥
   unsealed_not_words size key octets e (inl unread) same = unread_not_words octets e unread same
   unsealed_not_words size key octets e (inr other) same = let is = other.1 in (cc)
 
   unopened_not_words : (fill : ℕ) (given : List ℕ → Type 0) (right : Type 0) (unopened : KerberosCryptoError → Type 0) (e : Failure)
-      → IsUnopened is_value enc fill given right unopened e → e ≡ Words → ⊥
+      → IsUnopened is_value enc first fault fill given right unopened e → e ≡ Words → ⊥
   unopened_not_words fill given right unopened e (inl memory) same = (cc)
   unopened_not_words fill given right unopened e (inr (inl other)) same = let is : e ≡ Crypto other.0 = other.1 in (cc)
   unopened_not_words fill given right unopened e (inr (inr other)) same = let is : e ≡ Der other.0 = other.1 in (cc)
 
-  pub refusal_not_words : (command : Command) (octets : List ℕ) (e : Failure) → IsRefusal is_value enc command octets e → e ≡ Words → ⊥
+  pub refusal_not_words : (command : Command) (octets : List ℕ) (e : Failure) → IsRefusal is_value enc first fault command octets e → e ≡ Words → ⊥
   refusal_not_words Check octets e why same = unread_not_words octets e why same
   refusal_not_words (Seal key confounder) octets e why same = unsealed_not_words _ key.octets.items octets e why same
   refusal_not_words (Open key) octets e why same = unopened_not_words _ _ _ _ e why same

@@ -1,8 +1,9 @@
 -- The ways in which a run ends.
-use Rattle.std.proofs.Common.{◌≡◌, ℕ, List, Option, None, Some, IfSome, Ok, Err, refl, sym, subst, inl, inr, ◌⊎◌}
+use Rattle.std.proofs.Common.{◌≡◌, ℕ, Bool, List, Option, None, Some, IfSome, Ok, Err, refl, sym, subst, inl, inr, ◌⊎◌}
 use Rattle.std.specs.Io.KnownBytes.{Keeps, Appends, IsAtEnd}
 use Rattle.krbtool.proofs.Fronts.{Keeps-refl}
 use Rattle.krb_mac.specs.declared.error.KerberosCryptoError.TheVariants.{AlgorithmIdentifier}
+use Rattle.krb_leaves.specs.declared.error.Asn1DerError.{Asn1DerError}
 use Rattle.krbtool.specs.declared.command.Command.{Command}
 use Rattle.krbtool.specs.declared.failure.Failure.{Failure}
 use Rattle.krbtool.specs.declared.failure.Failure.TheVariants.{Words, Crypto, Memory, Read, Write}
@@ -35,7 +36,7 @@ words_outside words e (inl memory) are = inl memory
 words_outside words e (inr (inl unknown)) are = absurd (names_none words unknown.0 are unknown.2)
 words_outside words e (inr (inr never)) are = absurd (never.1.0 are)
 
-module _ {V : Type 0} (is_value : V → Type 0) (enc : V → List ℕ) where
+module _ {V : Type 0} (is_value : V → Type 0) (enc : V → List ℕ) (first : ℕ → Bool) (fault : ℕ → List ℕ → Asn1DerError → Type 0) where
   -- where each answer has an outcome like this, so do the answers to a known input
   each_answer : (words : List (List ℕ)) (input : Option (List ℕ)) (P : List ℕ → Type 0)
       → ((octets answer : List ℕ) → input ≡ Some octets → Answers is_value enc words octets answer → P answer)
@@ -43,7 +44,7 @@ module _ {V : Type 0} (is_value : V → Type 0) (enc : V → List ℕ) where
   each_answer words None P each = tt
   each_answer words (Some octets) P each = λ answer held. each octets answer refl held
 
-  pub words_run : (words : List (List ℕ)) (e : Failure) (input before : Option (List ℕ)) → RefusesWords words e → IsRun is_value enc words input input before before (Err e)
+  pub words_run : (words : List (List ℕ)) (e : Failure) (input before : Option (List ℕ)) → RefusesWords words e → IsRun is_value enc first fault words input input before before (Err e)
   words_run words e input before why = record {
     refused = words_refused words e why;
     told = words_told words e why;
@@ -60,7 +61,7 @@ module _ {V : Type 0} (is_value : V → Type 0) (enc : V → List ℕ) where
   command_run : (words : List (List ℕ)) (command : Command) (e : Failure) (input rest before after : Option (List ℕ)) → IsCommand words command → (e ≡ Words → ⊥)
       → IfSome input (λ octets. (answer : List ℕ) → Answers is_value enc words octets answer → IsOutside e)
       → (Keeps before after ⊎ ((e ≡ Write) × IfSome input (λ octets. (answer : List ℕ) × Answers is_value enc words octets answer)))
-      → IsReason is_value enc words input e → IsRun is_value enc words input rest before after (Err e)
+      → IsReason is_value enc first fault words input e → IsRun is_value enc first fault words input rest before after (Err e)
   command_run words command e input rest before after is other answered kept because =
       let are : AreWords words = command_words words command is in
       record {
@@ -83,22 +84,22 @@ module _ {V : Type 0} (is_value : V → Type 0) (enc : V → List ℕ) where
   read_outside e (inl is) = inl is
   read_outside e (inr is) = inr (inl is)
 
-  read_reason : (words : List (List ℕ)) (input : Option (List ℕ)) (e : Failure) → (e ≡ Memory) ⊎ (e ≡ Read) → IsReason is_value enc words input e
+  read_reason : (words : List (List ℕ)) (input : Option (List ℕ)) (e : Failure) → (e ≡ Memory) ⊎ (e ≡ Read) → IsReason is_value enc first fault words input e
   read_reason words input e (inl is) = inr (inl (inl is))
   read_reason words input e (inr is) = inl is
 
   pub unread_run : (words : List (List ℕ)) (command : Command) (e : Failure) (input rest before : Option (List ℕ)) → IsCommand words command
-      → (e ≡ Memory) ⊎ (e ≡ Read) → IsRun is_value enc words input rest before before (Err e)
+      → (e ≡ Memory) ⊎ (e ≡ Read) → IsRun is_value enc first fault words input rest before before (Err e)
   unread_run words command e input rest before is why =
       command_run words command e input rest before before is (not_words e why) (each_answer words input (λ answer. IsOutside e) (λ octets answer same held. read_outside e why))
       (inl (Keeps-refl before)) (read_reason words input e why)
 
   -- what is said of the octets that were read is said of the known input
   known_refusal : (words : List (List ℕ)) (command : Command) (e : Failure) (octets : List ℕ) (input : Option (List ℕ)) → IsCommand words command
-      → IfSome input (λ all. octets ≡ all) → IsRefusal is_value enc command octets e
-      → IfSome input (λ all. (command : Command) × IsCommand words command × IsRefusal is_value enc command all e)
+      → IfSome input (λ all. octets ≡ all) → IsRefusal is_value enc first fault command octets e
+      → IfSome input (λ all. (command : Command) × IsCommand words command × IsRefusal is_value enc first fault command all e)
   known_refusal words command e octets None is all why = tt
-  known_refusal words command e octets (Some input) is all why = (command, is, subst (λ (k : List ℕ). IsRefusal is_value enc command k e) all why)
+  known_refusal words command e octets (Some input) is all why = (command, is, subst (λ (k : List ℕ). IsRefusal is_value enc first fault command k e) all why)
 
   known_answers : (words : List (List ℕ)) (command : Command) (octets : List ℕ) (input : Option (List ℕ)) (P : List ℕ → Type 0) → IsCommand words command
       → IfSome input (λ all. octets ≡ all) → ((answer : List ℕ) → IsAnswer is_value enc command octets answer → P answer)
@@ -109,9 +110,9 @@ module _ {V : Type 0} (is_value : V → Type 0) (enc : V → List ℕ) where
 
   pub unanswered_run : (words : List (List ℕ)) (command : Command) (e : Failure) (octets : List ℕ) (input rest before : Option (List ℕ)) → IsCommand words command
       → IfSome input (λ all. octets ≡ all) → ((answer : List ℕ) → IsAnswer is_value enc command octets answer → IsOutside e)
-      → IsRefusal is_value enc command octets e → IsRun is_value enc words input rest before before (Err e)
+      → IsRefusal is_value enc first fault command octets e → IsRun is_value enc first fault words input rest before before (Err e)
   unanswered_run words command e octets input rest before is all only why =
-      command_run words command e input rest before before is (refusal_not_words is_value enc command octets e why)
+      command_run words command e input rest before before is (refusal_not_words is_value enc first fault command octets e why)
       (known_answers words command octets input (λ answer. IsOutside e) is all only)
       (inl (Keeps-refl before)) (inr (inr (inr (known_refusal words command e octets input is all why))))
 
@@ -124,7 +125,7 @@ module _ {V : Type 0} (is_value : V → Type 0) (enc : V → List ℕ) where
       (made, answers_from is_value enc words command input made is (subst (λ (k : List ℕ). IsAnswer is_value enc command k made) all held))
 
   pub unwritten_run : (words : List (List ℕ)) (command : Command) (octets made : List ℕ) (input rest before after : Option (List ℕ)) → IsCommand words command
-      → IsAnswer is_value enc command octets made → IfSome input (λ all. octets ≡ all) → IsRun is_value enc words input rest before after (Err Write)
+      → IsAnswer is_value enc command octets made → IfSome input (λ all. octets ≡ all) → IsRun is_value enc first fault words input rest before after (Err Write)
   unwritten_run words command octets made input rest before after is held all =
       let answer = known_answer words command octets made input is held all in
       command_run words command Write input rest before after is (λ same. (cc))
@@ -140,7 +141,7 @@ module _ {V : Type 0} (is_value : V → Type 0) (enc : V → List ℕ) where
 
   pub answered_run : (words : List (List ℕ)) (command : Command) (octets made : List ℕ) (input rest before after : Option (List ℕ)) → IsCommand words command
       → IsAnswer is_value enc command octets made → ((answer : List ℕ) → IsAnswer is_value enc command octets answer → made ≡ answer)
-      → IfSome input (λ all. octets ≡ all) → IsAtEnd rest → Appends before after made → IsRun is_value enc words input rest before after (Ok tt)
+      → IfSome input (λ all. octets ≡ all) → IsAtEnd rest → Appends before after made → IsRun is_value enc first fault words input rest before after (Ok tt)
   answered_run words command octets made input rest before after is held only all end appends =
       let are : AreWords words = command_words words command is in
       record {

@@ -1,13 +1,14 @@
 -- What each command answers to an input, and why it refuses one. The values that are read and written are those of which
 -- `is_value` holds, and `enc` gives their encodings.
-use Rattle.std.specs.Prelude.{◌≡◌, ◌≢◌, ◌⊎◌, ℕ, ℤ, List, length, Err}
+use Rattle.std.specs.Prelude.{◌≡◌, ◌≢◌, ◌⊎◌, ℕ, ℤ, Bool, List, length, Err}
 use Rattle.krb_mac.specs.declared.error.KerberosCryptoError.{KerberosCryptoError}
 use Rattle.krb_mac.specs.declared.error.KerberosCryptoError.TheVariants.{KeyLength}
 use Rattle.krb_leaves.specs.declared.error.Asn1DerError.{Asn1DerError}
+use Rattle.krb_leaves.specs.Faults.{ValueFault}
 use Rattle.krb_leaves.specs.Reading.{Encodings}
 use Rattle.krb_der.specs.Whole.{ReadsValue, TellsCut, RefusesMore, NoDevice}
 use Rattle.krb_scheme.specs.Sealing.{IsGiven, IsOfNone, Opens}
-use Rattle.krb_seal.specs.Filled.{RefusesFilled}
+use Rattle.krb_seal.specs.Filled.{FilledFault, RefusesFilled}
 use Rattle.krb_suite.specs.BySuite.{IsSealed, key_octets_of, confounder_octets_of, fill_octets_of, refusal_of}
 use Rattle.krb_suite.specs.declared.cipher_suite.CipherSuite.{CipherSuite}
 use Rattle.krbtool.specs.declared.command.Command.{Command}
@@ -36,22 +37,26 @@ module _ {V : Type 0} (is_value : V → Type 0) (enc : V → List ℕ) where
   IsAnswer (Seal key confounder) input answer = IsSealing key.suite key.octets.items key.usage confounder.items input answer
   IsAnswer (Open key) input answer = IsOpening key.suite key.octets.items key.usage input answer
 
-  -- the octets are refused for want of memory, or as they may be where all of them should be the encoding of a value
+module _ {V : Type 0} (is_value : V → Type 0) (enc : V → List ℕ) (first : ℕ → Bool) (fault : ℕ → List ℕ → Asn1DerError → Type 0) where
+  -- the octets are refused for want of memory, or by their first fault, where all of them should be the encoding of a value
   abbrev pub IsUnread : List ℕ → Failure → Type 0
   IsUnread octets e = (e ≡ Memory) ⊎ ((why : Asn1DerError) × (e ≡ Der why)
-      × ReadsValue is_value enc octets (Err why) × TellsCut is_value enc octets (Err why) × RefusesMore is_value enc octets (Err why) × NoDevice why)
+      × ReadsValue is_value enc octets (Err why) × TellsCut is_value enc octets (Err why) × RefusesMore is_value enc octets (Err why) × NoDevice why
+      × ValueFault is_value enc first fault octets why)
 
-  -- or the key, for not having size octets
+  -- or they are, and the key is refused for not having size octets: the value is looked at first
   abbrev pub IsUnsealed : ℕ → List ℕ → List ℕ → Failure → Type 0
-  IsUnsealed size key octets e = IsUnread octets e ⊎ ((length key ≢ size) × (e ≡ Crypto (KeyLength (length key) size)))
+  IsUnsealed size key octets e = IsUnread octets e ⊎ ((length key ≢ size) × (e ≡ Crypto (KeyLength (length key) size)) × (v : V) × is_value v × (octets ≡ enc v))
 
   -- Octets, which are given for these payloads, are not opened: for want of memory; by the cipher, for its reason, under a
-  -- right key only where they are given for no payload; or since a payload that is opened is no encoding that is filled.
+  -- right key only where they are given for no payload; or since a payload that is opened is no encoding that is filled, by
+  -- its first fault.
   abbrev pub IsUnopened : ℕ → (List ℕ → Type 0) → Type 0 → (KerberosCryptoError → Type 0) → Failure → Type 0
   IsUnopened fill given right unopened e =
       (e ≡ Memory)
       ⊎ ((why : KerberosCryptoError) × (e ≡ Crypto why) × unopened why × (right → IsOfNone given))
-      ⊎ ((why : Asn1DerError) × (e ≡ Der why) × (filled : List ℕ) × Opens fill given filled × RefusesFilled (Encodings is_value enc) fill filled why)
+      ⊎ ((why : Asn1DerError) × (e ≡ Der why) × (filled : List ℕ) × Opens fill given filled
+      × RefusesFilled (Encodings is_value enc) fill filled why × FilledFault (Encodings is_value enc) first fault fill filled why)
 
   -- why the command refuses the input
   abbrev pub IsRefusal : Command → List ℕ → Failure → Type 0

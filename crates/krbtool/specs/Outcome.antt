@@ -1,7 +1,8 @@
 -- What a run of the program did, and with which status it ended.
-use Rattle.std.specs.Prelude.{◌≡◌, ◌⊎◌, ℕ, List, take, ⊤, Option, Result, Ok, Err, OnOk, IfErr, IfSome, MatchResult}
+use Rattle.std.specs.Prelude.{◌≡◌, ◌⊎◌, ℕ, Bool, List, take, ⊤, Option, Result, Ok, Err, OnOk, IfErr, IfSome, MatchResult}
 use Rattle.std.specs.Io.KnownBytes.{Keeps, Appends, IsAtEnd}
 use Rattle.krb_mac.specs.declared.error.KerberosCryptoError.TheVariants.{AlgorithmIdentifier}
+use Rattle.krb_leaves.specs.declared.error.Asn1DerError.{Asn1DerError}
 use Rattle.krbtool.specs.declared.command.Command.{Command}
 use Rattle.krbtool.specs.declared.failure.Failure.{Failure}
 use Rattle.krbtool.specs.declared.failure.Failure.TheVariants.{Words, Crypto, Memory, Read, Write}
@@ -31,15 +32,15 @@ IsOutside e = (e ≡ Memory) ⊎ (e ≡ Read) ⊎ (e ≡ Write)
 
 -- Why a run is refused: the input could not be read; for its words; since an answer could not be written; or as the command
 -- refuses the input.
-abbrev pub IsReason : {V : Type 0} → (V → Type 0) → (V → List ℕ) → List (List ℕ) → Option (List ℕ) → Failure → Type 0
-IsReason is_value enc words input e =
+abbrev pub IsReason : {V : Type 0} → (V → Type 0) → (V → List ℕ) → (ℕ → Bool) → (ℕ → List ℕ → Asn1DerError → Type 0) → List (List ℕ) → Option (List ℕ) → Failure → Type 0
+IsReason is_value enc first fault words input e =
     (e ≡ Read) ⊎ RefusesWords words e
     ⊎ ((e ≡ Write) × IfSome input (λ octets. (answer : List ℕ) × Answers is_value enc words octets answer))
-    ⊎ IfSome input (λ octets. (command : Command) × IsCommand words command × IsRefusal is_value enc command octets e)
+    ⊎ IfSome input (λ octets. (command : Command) × IsCommand words command × IsRefusal is_value enc first fault command octets e)
 
 -- With these words: what was read of the input, where its octets are known (`rest` of it is left), and what was
 -- written, where the octets of the output are known (before and after).
-pub record IsRun {V : Type 0} (is_value : V → Type 0) (enc : V → List ℕ) (words : List (List ℕ)) (input rest before after : Option (List ℕ)) (outcome : Result ⊤ Failure) : Type 0 where
+pub record IsRun {V : Type 0} (is_value : V → Type 0) (enc : V → List ℕ) (first : ℕ → Bool) (fault : ℕ → List ℕ → Asn1DerError → Type 0) (words : List (List ℕ)) (input rest before after : Option (List ℕ)) (outcome : Result ⊤ Failure) : Type 0 where
   -- the words are refused only where they are of no command, and then they are, but for want of memory
   pub refused : IfErr outcome (λ e. e ≡ Words → AreNoWords words)
   pub told : AreNoWords words → MatchResult outcome (λ _. ⊥) (λ e. (e ≡ Words) ⊎ (e ≡ Memory))
@@ -56,4 +57,4 @@ pub record IsRun {V : Type 0} (is_value : V → Type 0) (enc : V → List ℕ) (
   -- nothing is written before a refusal, but for one of the writing of an answer
   pub kept : IfErr outcome (λ e. Keeps before after ⊎ ((e ≡ Write) × IfSome input (λ octets. (answer : List ℕ) × Answers is_value enc words octets answer)))
   -- each refusal has its reason
-  pub because : IfErr outcome (IsReason is_value enc words input)
+  pub because : IfErr outcome (IsReason is_value enc first fault words input)

@@ -22,7 +22,7 @@ fn checked<T: Der + Drop>(alloc: Global, input: &[u8]) -> Result<Vec<u8>, Failur
     ensures found { IfOk result (λ made. IsChecked T.is_value T.enc input.now made.items) }
     ensures only { (answer : List ℕ) → IsChecked T.is_value T.enc input.now answer
         → MatchResult result (λ made. made.items ≡ answer) IsOutside }
-    ensures refused { IfErr result (IsUnread T.is_value T.enc input.now) }
+    ensures refused { IfErr result (IsUnread T.is_value T.enc T.first T.fault input.now) }
 {
     let value: T = from_bytes(alloc, input)?;
     Ok(to_vec(alloc, &value)?)
@@ -40,7 +40,7 @@ fn sealed<T: Der + Drop>(
     ensures found { IfOk result (λ made. (v : T) × T.is_value v × (input.now ≡ T.enc v) × (length key.now.octets.items ≡ key_octets cipher.now) × meaning cipher.now key.now.octets.items key.now.usage confounder.now (T.enc v) made.items) }
     ensures only { (v : T) (answer : List ℕ) → T.is_value v → input.now ≡ T.enc v → length key.now.octets.items ≡ key_octets cipher.now → meaning cipher.now key.now.octets.items key.now.usage confounder.now (T.enc v) answer
         → MatchResult result (λ made. made.items ≡ answer) IsOutside }
-    ensures refused { IfErr result (IsUnsealed T.is_value T.enc (key_octets cipher.now) key.now.octets.items input.now) }
+    ensures refused { IfErr result (IsUnsealed T.is_value T.enc T.first T.fault (key_octets cipher.now) key.now.octets.items input.now) }
 {
     let value: T = from_bytes(alloc, input)?;
     let made = seal_part(alloc, cipher, &key.octets, key.usage, confounder, &value)?;
@@ -57,7 +57,7 @@ fn opened<T: Der + Drop>(
     ensures found { IfOk result (λ made. (v : T) × T.is_value v × (made.items ≡ T.enc v) × (length key.now.octets.items ≡ key_octets cipher.now) × IsGiven (meaning cipher.now key.now.octets.items key.now.usage) (confounder_octets cipher.now) input.now (T.enc v)) }
     ensures only { (v : T) → T.is_value v → length key.now.octets.items ≡ key_octets cipher.now → IsGiven (meaning cipher.now key.now.octets.items key.now.usage) (confounder_octets cipher.now) input.now (T.enc v)
         → MatchResult result (λ made. made.items ≡ T.enc v) IsOutside }
-    ensures refused { IfErr result (IsUnopened T.is_value T.enc (fill_octets cipher.now) (IsGiven (meaning cipher.now key.now.octets.items key.now.usage) (confounder_octets cipher.now) input.now) (length key.now.octets.items ≡ key_octets cipher.now) (unopened cipher.now key.now.octets.items key.now.usage input.now)) }
+    ensures refused { IfErr result (IsUnopened T.is_value T.enc T.first T.fault (fill_octets cipher.now) (IsGiven (meaning cipher.now key.now.octets.items key.now.usage) (confounder_octets cipher.now) input.now) (length key.now.octets.items ≡ key_octets cipher.now) (unopened cipher.now key.now.octets.items key.now.usage input.now)) }
 {
     let value: T = open_part(alloc, cipher, &key.octets, key.usage, input)?;
     Ok(to_vec(alloc, &value)?)
@@ -74,7 +74,7 @@ fn sealed_under(
     ensures found { IfOk result (λ made. IsSealing ⟦<EncTicketPart as DerEncode>⟧.is_value ⟦<EncTicketPart as DerEncode>⟧.enc key.now.suite key.now.octets.items key.now.usage confounder.now input.now made.items) }
     ensures only { (answer : List ℕ) → IsSealing ⟦<EncTicketPart as DerEncode>⟧.is_value ⟦<EncTicketPart as DerEncode>⟧.enc key.now.suite key.now.octets.items key.now.usage confounder.now input.now answer
         → MatchResult result (λ made. made.items ≡ answer) IsOutside }
-    ensures refused { IfErr result (IsUnsealed ⟦<EncTicketPart as DerEncode>⟧.is_value ⟦<EncTicketPart as DerEncode>⟧.enc (key_octets_of key.now.suite) key.now.octets.items input.now) }
+    ensures refused { IfErr result (IsUnsealed ⟦<EncTicketPart as DerEncode>⟧.is_value ⟦<EncTicketPart as DerEncode>⟧.enc ⟦<EncTicketPart as DerEncode>⟧.first ⟦<EncTicketPart as DerEncode>⟧.fault (key_octets_of key.now.suite) key.now.octets.items input.now) }
 {
     match key.suite {
         CipherSuite::Aes128CtsHmacSha196 => {
@@ -112,7 +112,7 @@ fn opened_under(alloc: Global, key: &SealingKey, input: &[u8]) -> Result<Vec<u8>
     ensures found { IfOk result (λ made. IsOpening ⟦<EncTicketPart as DerEncode>⟧.is_value ⟦<EncTicketPart as DerEncode>⟧.enc key.now.suite key.now.octets.items key.now.usage input.now made.items) }
     ensures only { (answer : List ℕ) → IsOpening ⟦<EncTicketPart as DerEncode>⟧.is_value ⟦<EncTicketPart as DerEncode>⟧.enc key.now.suite key.now.octets.items key.now.usage input.now answer
         → MatchResult result (λ made. made.items ≡ answer) IsOutside }
-    ensures refused { IfErr result (IsUnopened ⟦<EncTicketPart as DerEncode>⟧.is_value ⟦<EncTicketPart as DerEncode>⟧.enc (fill_octets_of key.now.suite) (IsGiven (IsSealed key.now.suite key.now.octets.items key.now.usage) (confounder_octets_of key.now.suite) input.now) (length key.now.octets.items ≡ key_octets_of key.now.suite) (λ why. why ≡ refusal_of key.now.suite key.now.octets.items input.now)) }
+    ensures refused { IfErr result (IsUnopened ⟦<EncTicketPart as DerEncode>⟧.is_value ⟦<EncTicketPart as DerEncode>⟧.enc ⟦<EncTicketPart as DerEncode>⟧.first ⟦<EncTicketPart as DerEncode>⟧.fault (fill_octets_of key.now.suite) (IsGiven (IsSealed key.now.suite key.now.octets.items key.now.usage) (confounder_octets_of key.now.suite) input.now) (length key.now.octets.items ≡ key_octets_of key.now.suite) (λ why. why ≡ refusal_of key.now.suite key.now.octets.items input.now)) }
 {
     match key.suite {
         CipherSuite::Aes128CtsHmacSha196 => {
@@ -139,7 +139,7 @@ pub fn answer(alloc: Global, command: &Command, input: &[u8]) -> Result<Vec<u8>,
     ensures found { IfOk result (λ made. IsAnswer ⟦<EncTicketPart as DerEncode>⟧.is_value ⟦<EncTicketPart as DerEncode>⟧.enc command.now input.now made.items) }
     ensures only { (answer : List ℕ) → IsAnswer ⟦<EncTicketPart as DerEncode>⟧.is_value ⟦<EncTicketPart as DerEncode>⟧.enc command.now input.now answer
         → MatchResult result (λ made. made.items ≡ answer) IsOutside }
-    ensures refused { IfErr result (IsRefusal ⟦<EncTicketPart as DerEncode>⟧.is_value ⟦<EncTicketPart as DerEncode>⟧.enc command.now input.now) }
+    ensures refused { IfErr result (IsRefusal ⟦<EncTicketPart as DerEncode>⟧.is_value ⟦<EncTicketPart as DerEncode>⟧.enc ⟦<EncTicketPart as DerEncode>⟧.first ⟦<EncTicketPart as DerEncode>⟧.fault command.now input.now) }
 {
     match command {
         Command::Check => checked::<EncTicketPart>(alloc, input),

@@ -43,7 +43,7 @@ fn perform<R: Read, W: Write>(
     input: &mut R,
     output: &mut W,
 ) -> Result<(), Failure>
-    ensures { IsRun ⟦<EncTicketPart as DerEncode>⟧.is_value ⟦<EncTicketPart as DerEncode>⟧.enc
+    ensures { IsRun ⟦<EncTicketPart as DerEncode>⟧.is_value ⟦<EncTicketPart as DerEncode>⟧.enc ⟦<EncTicketPart as DerEncode>⟧.first ⟦<EncTicketPart as DerEncode>⟧.fault
         (map string_bytes words.now) (R.remaining input.old) (R.remaining input.new)
         (W.contents output.old) (W.contents output.new) result }
 {
@@ -94,7 +94,7 @@ pub fn run<R: Read, W: Write, E: Write>(
 ) -> u8
     ensures ran { (outcome : Result ⊤ Failure) × (result ≡ status_of outcome)
         × IsTold (E.contents faults.old) (E.contents faults.new) outcome
-        × IsRun ⟦<EncTicketPart as DerEncode>⟧.is_value ⟦<EncTicketPart as DerEncode>⟧.enc
+        × IsRun ⟦<EncTicketPart as DerEncode>⟧.is_value ⟦<EncTicketPart as DerEncode>⟧.enc ⟦<EncTicketPart as DerEncode>⟧.first ⟦<EncTicketPart as DerEncode>⟧.fault
         (map string_bytes words.now) (R.remaining input.old) (R.remaining input.new)
         (W.contents output.old) (W.contents output.new) outcome }
     ensures quiet { result ≡ 0 → Keeps (E.contents faults.old) (E.contents faults.new) }

@@ -10,5 +10,5 @@ returns-in_err-value-clause-refused g c =
     let fits : FitsSigned w32 c.args.key.now.usage = search rules in
     let usage = to_z-of_z w32 c.args.key.now.usage fits in
     rw (p.1, p.2)
-    (unopened_part _ _ _ _ _ _ c.in_err-value.field-0.0 (rw (c.deref.ensures.value, usage) at c.in_err-value.ensures.crypto)
-    (rw (c.deref.ensures.value, usage) at c.in_err-value.ensures.exact) (rw (c.deref.ensures.value, usage) at c.in_err-value.ensures.der))
+    (unopened_part _ _ _ _ _ _ _ _ c.in_err-value.field-0.0 (rw (c.deref.ensures.value, usage) at c.in_err-value.ensures.crypto)
+    (rw (c.deref.ensures.value, usage) at c.in_err-value.ensures.exact) (rw (c.deref.ensures.value, usage) at c.in_err-value.ensures.first_fault))
