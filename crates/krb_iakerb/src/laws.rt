@@ -4,6 +4,7 @@ ghost use Rattle.std.specs.Prelude.{◌≡◌, ◌<◌, ◌^◌, List, length, �
 ghost use Rattle.krb_leaves.specs.declared.error.Asn1DerError.{Asn1DerError};
 ghost use Rattle.krb_der.specs.FieldFaults.{SameFault};
 ghost use Rattle.krb_der.specs.Equality.{TellsEqual};
+ghost use Rattle.krb_der.specs.Tags.{HasTag};
 ghost use Rattle.krb_iakerb.specs.Header.{HeaderReads};
 ghost use Rattle.krb_iakerb.specs.HeaderFaults.{IAKerbHeaderFault, extensible_fault};
 
@@ -25,6 +26,7 @@ pub fn header_readings()
 /// SEQUENCE is none, so that what is read as a header has no fault.
 pub fn faults()
     ensures iakerb_header { SameFault ⟦<IAKerbHeader as DerEncode>⟧.fault (extensible_fault ⟦<<IAKerbHeader as Sequence>::Fields as Fields>⟧) }
+    ensures iakerb_header_tag { HasTag 48 ⟦<IAKerbHeader as DerEncode>⟧.first }
     ensures one_fault { (octets : List ℕ) (e d : Asn1DerError) → length octets < 2 ^ 64
         → IAKerbHeaderFault ⟦<IAKerbHeader as DerEncode>⟧ octets e → IAKerbHeaderFault ⟦<IAKerbHeader as DerEncode>⟧ octets d → e ≡ d }
     ensures none_where_read { (octets : List ℕ) (e : Asn1DerError) (h : IAKerbHeader) → length octets < 2 ^ 64

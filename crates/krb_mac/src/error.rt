@@ -9,7 +9,7 @@ use thiserror::Error;
 /// Why a call of the cryptography refuses. Lengths are in octets.
 #[derive(Debug, Drop, Error)]
 pub enum KerberosCryptoError {
-    /// The key's length, and the one that the suite's keys have. Also 0 and 1, which are no key's lengths, for an empty password
+    /// The key's length, and the one that the suite's keys have; a cipher of a caller's own is held to the same. Also 0 and 1, which are no key's lengths, for an empty password
     /// with an empty salt under triple DES, where there is no octet to fold.
     #[error("Invalid key length: {0}. Expected: {1}")]
     KeyLength(usize, usize),

@@ -5,6 +5,7 @@ ghost use Rattle.krb_der.specs.Asn1.{application};
 ghost use Rattle.krb_der.specs.Choice.{ChoiceFault};
 ghost use Rattle.krb_der.specs.FieldFaults.{HasFaultsOf, SameFault};
 ghost use Rattle.krb_der.specs.Equality.{TellsEqual};
+ghost use Rattle.krb_der.specs.Tags.{HasTag, HasTags};
 
 use crate::messages::{ApMessage, KdcProxyMessage, KrbError, KrbErrorInner};
 use krb_app::laws::equality as application_equality;
@@ -25,15 +26,18 @@ pub fn ap_messages()
 {}
 
 /// The first fault of each struct is that of a SEQUENCE of its fields (X.690, 8.9): its tag, then its fields in order, then what is
-/// left over.
+/// left over. Its encodings begin with that tag alone.
 pub fn faults()
     ensures krb_error { HasFaultsOf ⟦<KrbErrorInner as DerEncode>⟧.fault ⟦<<KrbErrorInner as Sequence>::Fields as Fields>⟧ }
+    ensures krb_error_tag { HasTag 48 ⟦<KrbErrorInner as DerEncode>⟧.first }
     ensures kdc_proxy_message { HasFaultsOf ⟦<KdcProxyMessage as DerEncode>⟧.fault ⟦<<KdcProxyMessage as Sequence>::Fields as Fields>⟧ }
+    ensures kdc_proxy_message_tag { HasTag 48 ⟦<KdcProxyMessage as DerEncode>⟧.first }
 {}
 
 /// The first fault of a choice of two messages (X.690, 8.13): the tag is neither's, or it is that of the message whose tag it is.
 pub fn ap_message_faults()
-    ensures { SameFault ⟦<ApMessage as DerEncode>⟧.fault (ChoiceFault 110 111 ⟦<ApReq as DerEncode>⟧.fault ⟦<ApRep as DerEncode>⟧.fault) }
+    ensures fault { SameFault ⟦<ApMessage as DerEncode>⟧.fault (ChoiceFault 110 111 ⟦<ApReq as DerEncode>⟧.fault ⟦<ApRep as DerEncode>⟧.fault) }
+    ensures tags { HasTags 110 111 ⟦<ApMessage as DerEncode>⟧.first }
 {}
 
 /// `==` on each struct and on the choice: it answers true for equal values and for no others.

@@ -3,6 +3,7 @@
 ghost use Rattle.std.specs.Prelude.{◌≡◌, ◌↔◌, ◌++◌, ◌∷◌, ◌<◌, ◌^◌, List, ℕ, drop, length};
 ghost use Rattle.krb_der.specs.Asn1.{explicit, sequence_of};
 ghost use Rattle.krb_der.specs.FieldFaults.{HasFaultsOf, SameFault};
+ghost use Rattle.krb_der.specs.Tags.{HasTag};
 ghost use Rattle.krb_der.specs.Equality.{TellsEqual};
 ghost use Rattle.krb_identifiers.specs.ObjectIdentifier.{object_identifier};
 ghost use Rattle.krb_leaves.specs.Tlv.{tlv};
@@ -50,22 +51,27 @@ pub fn proxy_messages<T: Der + Drop>()
 }
 
 /// The first fault of each struct is that of a SEQUENCE of its fields (X.690, 8.9): its tag, then its fields in order, then what is
-/// left over.
+/// left over. Its encodings begin with that tag alone.
 pub fn faults()
     ensures neg_token_init { HasFaultsOf ⟦<NegTokenInit as DerEncode>⟧.fault ⟦<<NegTokenInit as Sequence>::Fields as Fields>⟧ }
+    ensures neg_token_init_tag { HasTag 48 ⟦<NegTokenInit as DerEncode>⟧.first }
     ensures neg_token_targ { HasFaultsOf ⟦<NegTokenTarg as DerEncode>⟧.fault ⟦<<NegTokenTarg as Sequence>::Fields as Fields>⟧ }
+    ensures neg_token_targ_tag { HasTag 48 ⟦<NegTokenTarg as DerEncode>⟧.first }
     ensures gss_api_neg_init { HasFaultsOf ⟦<GssApiNegInit as DerEncode>⟧.fault ⟦<<GssApiNegInit as Sequence>::Fields as Fields>⟧ }
+    ensures gss_api_neg_init_tag { HasTag 48 ⟦<GssApiNegInit as DerEncode>⟧.first }
 {}
 
 /// The first fault of a token (RFC 2743, 3.1): another first octet, or that of the SEQUENCE inside, as under its own tag.
 pub fn token_faults<T: DerSequence>()
-    ensures { SameFault ⟦<ApplicationTag0<T> as DerEncode>⟧.fault (TaggedFault 96 (T.fault 48)) }
+    ensures fault { SameFault ⟦<ApplicationTag0<T> as DerEncode>⟧.fault (TaggedFault 96 (T.fault 48)) }
+    ensures tag { HasTag 96 ⟦<ApplicationTag0<T> as DerEncode>⟧.first }
 {}
 
 /// The first fault of a message in a token (RFC 4121, 4.1), and of the two octets between the mechanism and the message: fewer
 /// than two are cut short.
 pub fn krb_message_faults<T: Der + Drop>()
     ensures message { HasFaultsOf ⟦<KrbMessage<T> as DerEncode>⟧.fault ⟦<<KrbMessage<T> as Sequence>::Fields as Fields>⟧ }
+    ensures message_tag { HasTag 48 ⟦<KrbMessage<T> as DerEncode>⟧.first }
     ensures token_id { (octets : List ℕ) (e : Asn1DerError) → ⟦<TokenId as Fields>⟧.fault octets e ↔ (e ≡ TruncatedData) × (length octets < 2) }
     ensures token_id_ends { (v rest : List ℕ) → ⟦<TokenId as Fields>⟧.ends v rest }
 {}

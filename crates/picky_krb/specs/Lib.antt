@@ -13,12 +13,14 @@ pub use Rattle.krb_der.specs.Streaming
 pub use Rattle.krb_der.specs.Equality
 pub use Rattle.krb_der.specs.Asn1
 pub use Rattle.krb_der.specs.FieldFaults
+pub use Rattle.krb_der.specs.Tags
 pub use Rattle.krb_der.specs.Choice
 pub use Rattle.krb_identifiers.specs.ObjectIdentifier
 pub use Rattle.krb_identifiers.specs.ObjectIdentifierFaults
 pub use Rattle.krb_identifiers.specs.RawValue
 pub use Rattle.krb_algorithms.specs.Implicit
 pub use Rattle.krb_iakerb.specs.Header
+pub use Rattle.krb_iakerb.specs.HeaderFaults
 pub use Rattle.krb_tokens.specs.Mic
 pub use Rattle.krb_tokens.specs.Wrap
 pub use Rattle.krb_neg.specs.Token
