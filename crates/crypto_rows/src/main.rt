@@ -16,6 +16,7 @@ mod row;
 mod suites;
 mod sweeps;
 mod table;
+mod tables;
 
 use std::io;
 use std::io::{BufRead, BufReader};

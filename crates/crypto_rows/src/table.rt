@@ -8,6 +8,7 @@ use crate::messages::try_message;
 use crate::row::{Answer, Row};
 use crate::suites::{try_checksum, try_suite};
 use crate::sweeps::try_sweep;
+use crate::tables::try_table;
 use std::alloc::{AllocError, Global};
 
 /// The octets of a row.
@@ -56,6 +57,7 @@ fn try_row(alloc: Global, row: &Row) -> Answer {
         | "checksum_sha_aes" => try_message(alloc, row),
         "checksum" => try_checksum(alloc, row),
         "flips" | "fronts" => try_sweep(alloc, row),
+        "word_table" => try_table(alloc, row),
         "encrypt"
         | "decrypt"
         | "encrypt_no_checksum"

@@ -8,18 +8,10 @@ pub mod constants;
 pub mod crypto;
 pub mod data_types;
 pub mod der;
-#[cfg(test)]
-mod error_rows;
 pub mod gss_api;
 pub mod messages;
-#[cfg(test)]
-mod number_rows;
 pub mod pac;
-#[cfg(test)]
-mod part_rows;
 pub mod seal;
-#[cfg(test)]
-mod size_rows;
 
 pub use krb_credssp::credssp;
 pub use krb_negoex::negoex;

@@ -1,26 +1,21 @@
 //! Delegated credentials, by their names.
 
-use crate::trial::{Findings, findings_of};
+use crate::row::{Attempt, Row};
+use crate::trial::findings_of;
 use krb_credssp::credssp::{
     TsCredentials, TsCspDataDetail, TsPasswordCreds, TsRemoteGuardCreds, TsRemoteGuardPackageCred,
     TsSmartCardCreds,
 };
-use krb_der::Asn1DerError;
-use std::alloc::Global;
 
-/// What is found of the octets as those of delegated credentials, by the name of their type.
-pub fn try_delegated(
-    alloc: Global,
-    name: &str,
-    octets: &[u8],
-) -> Option<Result<Findings, Asn1DerError>> {
-    match name {
-        "TsCredentials" => Some(findings_of::<TsCredentials>(alloc, octets)),
-        "TsCspDataDetail" => Some(findings_of::<TsCspDataDetail>(alloc, octets)),
-        "TsPasswordCreds" => Some(findings_of::<TsPasswordCreds>(alloc, octets)),
-        "TsRemoteGuardCreds" => Some(findings_of::<TsRemoteGuardCreds>(alloc, octets)),
-        "TsRemoteGuardPackageCred" => Some(findings_of::<TsRemoteGuardPackageCred>(alloc, octets)),
-        "TsSmartCardCreds" => Some(findings_of::<TsSmartCardCreds>(alloc, octets)),
+/// What is found of the octets as those of delegated credentials, by the name of their type. `None` where none has it.
+pub fn try_delegated(row: &Row<'_>) -> Attempt {
+    match row.name {
+        "TsCredentials" => Some(findings_of::<TsCredentials>(row)),
+        "TsCspDataDetail" => Some(findings_of::<TsCspDataDetail>(row)),
+        "TsPasswordCreds" => Some(findings_of::<TsPasswordCreds>(row)),
+        "TsRemoteGuardCreds" => Some(findings_of::<TsRemoteGuardCreds>(row)),
+        "TsRemoteGuardPackageCred" => Some(findings_of::<TsRemoteGuardPackageCred>(row)),
+        "TsSmartCardCreds" => Some(findings_of::<TsSmartCardCreds>(row)),
         _ => None,
     }
 }

@@ -1,7 +1,7 @@
 //! Messages, by their names.
 
-use crate::trial::{Findings, findings_of};
-use krb_der::Asn1DerError;
+use crate::row::{Attempt, Row};
+use crate::trial::findings_of;
 use krb_kdc::messages::{
     AsRep, AsReq, EncAsRepPart, EncKdcRepPart, EncTgsRepPart, KdcRep, KdcReq, KdcReqBody, TgsRep,
     TgsReq,
@@ -10,61 +10,48 @@ use krb_msg::messages::{
     ApMessage, ApRep, ApRepInner, ApReq, ApReqInner, KdcProxyMessage, KrbCred, KrbCredInner,
     KrbError, KrbErrorInner, KrbPriv, KrbPrivInner, TgtRep, TgtReq,
 };
-use std::alloc::Global;
 
-/// What is found of the octets as those of a request to a KDC, by its name.
-pub fn try_request(
-    alloc: Global,
-    name: &str,
-    octets: &[u8],
-) -> Option<Result<Findings, Asn1DerError>> {
-    match name {
-        "AsReq" => Some(findings_of::<AsReq>(alloc, octets)),
-        "KdcReq" => Some(findings_of::<KdcReq>(alloc, octets)),
-        "KdcReqBody" => Some(findings_of::<KdcReqBody>(alloc, octets)),
-        "TgsReq" => Some(findings_of::<TgsReq>(alloc, octets)),
+/// What is found of the octets as those of a request to a KDC, by its name. `None` where none has it.
+pub fn try_request(row: &Row<'_>) -> Attempt {
+    match row.name {
+        "AsReq" => Some(findings_of::<AsReq>(row)),
+        "KdcReq" => Some(findings_of::<KdcReq>(row)),
+        "KdcReqBody" => Some(findings_of::<KdcReqBody>(row)),
+        "TgsReq" => Some(findings_of::<TgsReq>(row)),
         _ => None,
     }
 }
 
-/// What is found of the octets as those of a KDC's answer or its part that is enciphered, by its name.
-pub fn try_reply(
-    alloc: Global,
-    name: &str,
-    octets: &[u8],
-) -> Option<Result<Findings, Asn1DerError>> {
-    match name {
-        "AsRep" => Some(findings_of::<AsRep>(alloc, octets)),
-        "EncAsRepPart" => Some(findings_of::<EncAsRepPart>(alloc, octets)),
-        "EncKdcRepPart" => Some(findings_of::<EncKdcRepPart>(alloc, octets)),
-        "EncTgsRepPart" => Some(findings_of::<EncTgsRepPart>(alloc, octets)),
-        "KdcRep" => Some(findings_of::<KdcRep>(alloc, octets)),
-        "TgsRep" => Some(findings_of::<TgsRep>(alloc, octets)),
+/// What is found of the octets as those of a KDC's answer or its part that is enciphered, by its name. `None` where none has it.
+pub fn try_reply(row: &Row<'_>) -> Attempt {
+    match row.name {
+        "AsRep" => Some(findings_of::<AsRep>(row)),
+        "EncAsRepPart" => Some(findings_of::<EncAsRepPart>(row)),
+        "EncKdcRepPart" => Some(findings_of::<EncKdcRepPart>(row)),
+        "EncTgsRepPart" => Some(findings_of::<EncTgsRepPart>(row)),
+        "KdcRep" => Some(findings_of::<KdcRep>(row)),
+        "TgsRep" => Some(findings_of::<TgsRep>(row)),
         _ => None,
     }
 }
 
-/// What is found of the octets as those of another message, by its name.
-pub fn try_message(
-    alloc: Global,
-    name: &str,
-    octets: &[u8],
-) -> Option<Result<Findings, Asn1DerError>> {
-    match name {
-        "ApMessage" => Some(findings_of::<ApMessage>(alloc, octets)),
-        "ApRep" => Some(findings_of::<ApRep>(alloc, octets)),
-        "ApRepInner" => Some(findings_of::<ApRepInner>(alloc, octets)),
-        "ApReq" => Some(findings_of::<ApReq>(alloc, octets)),
-        "ApReqInner" => Some(findings_of::<ApReqInner>(alloc, octets)),
-        "KdcProxyMessage" => Some(findings_of::<KdcProxyMessage>(alloc, octets)),
-        "KrbCred" => Some(findings_of::<KrbCred>(alloc, octets)),
-        "KrbCredInner" => Some(findings_of::<KrbCredInner>(alloc, octets)),
-        "KrbError" => Some(findings_of::<KrbError>(alloc, octets)),
-        "KrbErrorInner" => Some(findings_of::<KrbErrorInner>(alloc, octets)),
-        "KrbPriv" => Some(findings_of::<KrbPriv>(alloc, octets)),
-        "KrbPrivInner" => Some(findings_of::<KrbPrivInner>(alloc, octets)),
-        "TgtRep" => Some(findings_of::<TgtRep>(alloc, octets)),
-        "TgtReq" => Some(findings_of::<TgtReq>(alloc, octets)),
+/// What is found of the octets as those of another message, by its name. `None` where none has it.
+pub fn try_message(row: &Row<'_>) -> Attempt {
+    match row.name {
+        "ApMessage" => Some(findings_of::<ApMessage>(row)),
+        "ApRep" => Some(findings_of::<ApRep>(row)),
+        "ApRepInner" => Some(findings_of::<ApRepInner>(row)),
+        "ApReq" => Some(findings_of::<ApReq>(row)),
+        "ApReqInner" => Some(findings_of::<ApReqInner>(row)),
+        "KdcProxyMessage" => Some(findings_of::<KdcProxyMessage>(row)),
+        "KrbCred" => Some(findings_of::<KrbCred>(row)),
+        "KrbCredInner" => Some(findings_of::<KrbCredInner>(row)),
+        "KrbError" => Some(findings_of::<KrbError>(row)),
+        "KrbErrorInner" => Some(findings_of::<KrbErrorInner>(row)),
+        "KrbPriv" => Some(findings_of::<KrbPriv>(row)),
+        "KrbPrivInner" => Some(findings_of::<KrbPrivInner>(row)),
+        "TgtRep" => Some(findings_of::<TgtRep>(row)),
+        "TgtReq" => Some(findings_of::<TgtReq>(row)),
         _ => None,
     }
 }

@@ -1,29 +1,25 @@
 //! The types of pre-authentication, by their names.
 
-use crate::trial::{Findings, findings_of};
-use krb_der::{Asn1DerError, Asn1SequenceOf};
+use crate::row::{Attempt, Row};
+use crate::trial::findings_of;
+use krb_der::Asn1SequenceOf;
 use krb_padata::data_types::{
     EtypeInfo2, EtypeInfo2Entry, KerbErrorData, KerbPaPacRequest, PaData, PaEncTimestamp,
     PaEncTsEnc, PaPacOptions,
 };
-use std::alloc::Global;
 
-/// What is found of the octets as those of a type of pre-authentication, by its name.
-pub fn try_pre_authentication(
-    alloc: Global,
-    name: &str,
-    octets: &[u8],
-) -> Option<Result<Findings, Asn1DerError>> {
-    match name {
-        "EtypeInfo2" => Some(findings_of::<EtypeInfo2>(alloc, octets)),
-        "EtypeInfo2Entry" => Some(findings_of::<EtypeInfo2Entry>(alloc, octets)),
-        "KerbErrorData" => Some(findings_of::<KerbErrorData>(alloc, octets)),
-        "KerbPaPacRequest" => Some(findings_of::<KerbPaPacRequest>(alloc, octets)),
-        "PaData" => Some(findings_of::<PaData>(alloc, octets)),
-        "Asn1SequenceOf<PaData>" => Some(findings_of::<Asn1SequenceOf<PaData>>(alloc, octets)),
-        "PaEncTimestamp" => Some(findings_of::<PaEncTimestamp>(alloc, octets)),
-        "PaEncTsEnc" => Some(findings_of::<PaEncTsEnc>(alloc, octets)),
-        "PaPacOptions" => Some(findings_of::<PaPacOptions>(alloc, octets)),
+/// What is found of the octets as those of a type of pre-authentication, by its name. `None` where none has it.
+pub fn try_pre_authentication(row: &Row<'_>) -> Attempt {
+    match row.name {
+        "EtypeInfo2" => Some(findings_of::<EtypeInfo2>(row)),
+        "EtypeInfo2Entry" => Some(findings_of::<EtypeInfo2Entry>(row)),
+        "KerbErrorData" => Some(findings_of::<KerbErrorData>(row)),
+        "KerbPaPacRequest" => Some(findings_of::<KerbPaPacRequest>(row)),
+        "PaData" => Some(findings_of::<PaData>(row)),
+        "Asn1SequenceOf<PaData>" => Some(findings_of::<Asn1SequenceOf<PaData>>(row)),
+        "PaEncTimestamp" => Some(findings_of::<PaEncTimestamp>(row)),
+        "PaEncTsEnc" => Some(findings_of::<PaEncTsEnc>(row)),
+        "PaPacOptions" => Some(findings_of::<PaPacOptions>(row)),
         _ => None,
     }
 }

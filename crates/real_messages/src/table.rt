@@ -4,14 +4,15 @@ use crate::certificates::{
     try_certificate_reply, try_certificate_request, try_pku2u, try_public_key,
 };
 use crate::delegation::try_delegated;
+use crate::formats::try_format;
 use crate::leaves::{try_leaf, try_tagged};
 use crate::messages::{try_message, try_reply, try_request};
 use crate::negotiation::{try_negotiation, try_token};
 use crate::parts::{try_credentials, try_part};
 use crate::pre_authentication::try_pre_authentication;
+use crate::row::{Attempt, Findings, Refusal, Row, Trial};
 use crate::shared::{try_list, try_shared, try_simple};
-use crate::trial::Findings;
-use krb_der::Asn1DerError;
+use hex::FromHexError;
 use std::alloc::{AllocError, Global};
 
 /// What is told of a row, and whether all that was tried held.
@@ -29,96 +30,132 @@ fn columns(line: &str) -> Option<(&str, &str, &str)> {
 }
 
 /// What is found of the octets as those of a data type or a message, by its name. `None` where none has it.
-fn try_kerberos(
-    alloc: Global,
-    name: &str,
-    octets: &[u8],
-) -> Option<Result<Findings, Asn1DerError>> {
-    if let Some(found) = try_simple(alloc, name, octets) {
+fn try_kerberos(row: &Row<'_>) -> Attempt {
+    if let Some(found) = try_simple(row) {
         return Some(found);
     }
-    if let Some(found) = try_shared(alloc, name, octets) {
+    if let Some(found) = try_shared(row) {
         return Some(found);
     }
-    if let Some(found) = try_list(alloc, name, octets) {
+    if let Some(found) = try_list(row) {
         return Some(found);
     }
-    if let Some(found) = try_pre_authentication(alloc, name, octets) {
+    if let Some(found) = try_pre_authentication(row) {
         return Some(found);
     }
-    if let Some(found) = try_part(alloc, name, octets) {
+    if let Some(found) = try_part(row) {
         return Some(found);
     }
-    if let Some(found) = try_credentials(alloc, name, octets) {
+    if let Some(found) = try_credentials(row) {
         return Some(found);
     }
-    if let Some(found) = try_request(alloc, name, octets) {
+    if let Some(found) = try_request(row) {
         return Some(found);
     }
-    if let Some(found) = try_reply(alloc, name, octets) {
+    if let Some(found) = try_reply(row) {
         return Some(found);
     }
-    try_message(alloc, name, octets)
+    try_message(row)
 }
 
 /// What is found of the octets as those of another type, by its name. `None` where none has it.
-fn try_other(alloc: Global, name: &str, octets: &[u8]) -> Option<Result<Findings, Asn1DerError>> {
-    if let Some(found) = try_leaf(alloc, name, octets) {
+fn try_other(row: &Row<'_>) -> Attempt {
+    if let Some(found) = try_leaf(row) {
         return Some(found);
     }
-    if let Some(found) = try_tagged(alloc, name, octets) {
+    if let Some(found) = try_tagged(row) {
         return Some(found);
     }
-    if let Some(found) = try_public_key(alloc, name, octets) {
+    if let Some(found) = try_public_key(row) {
         return Some(found);
     }
-    if let Some(found) = try_pku2u(alloc, name, octets) {
+    if let Some(found) = try_pku2u(row) {
         return Some(found);
     }
-    if let Some(found) = try_certificate_request(alloc, name, octets) {
+    if let Some(found) = try_certificate_request(row) {
         return Some(found);
     }
-    if let Some(found) = try_certificate_reply(alloc, name, octets) {
+    if let Some(found) = try_certificate_reply(row) {
         return Some(found);
     }
-    if let Some(found) = try_negotiation(alloc, name, octets) {
+    if let Some(found) = try_negotiation(row) {
         return Some(found);
     }
-    if let Some(found) = try_token(alloc, name, octets) {
+    if let Some(found) = try_token(row) {
         return Some(found);
     }
-    try_delegated(alloc, name, octets)
+    try_delegated(row)
 }
 
 /// What is found of the octets as those of the type of this name. `None` where no type has it.
-fn try_type(alloc: Global, name: &str, octets: &[u8]) -> Option<Result<Findings, Asn1DerError>> {
-    if let Some(found) = try_kerberos(alloc, name, octets) {
+fn try_type(row: &Row<'_>) -> Attempt {
+    if let Some(found) = try_kerberos(row) {
         return Some(found);
     }
-    try_other(alloc, name, octets)
-}
-
-/// The name of a refusal.
-fn refusal_name(refusal: &Asn1DerError) -> &'static str {
-    match refusal {
-        Asn1DerError::InvalidData => "InvalidData",
-        Asn1DerError::TruncatedData => "TruncatedData",
-        Asn1DerError::UnsupportedValue => "UnsupportedValue",
-        Asn1DerError::Io(_) => "Io",
-        Asn1DerError::OutOfMemory => "OutOfMemory",
+    if let Some(found) = try_other(row) {
+        return Some(found);
     }
+    try_format(row)
 }
 
 /// Whether a row of this origin is to be refused: it has the name of the refusal in the origin's place.
 fn is_refused(origin: &str) -> bool {
-    matches!(origin, "InvalidData" | "TruncatedData" | "UnsupportedValue")
+    matches!(
+        origin,
+        "InvalidData"
+            | "TruncatedData"
+            | "UnsupportedValue"
+            | "UnexpectedEof"
+            | "InvalidId"
+            | "InvalidMechanismOid"
+            | "PacBufferType"
+    )
 }
 
-/// Appends the word of each finding, with `not` before it where it did not hold. Answers whether all of them held.
+/// What is tried of a row of this origin.
+fn trial_of(origin: &str) -> Trial {
+    match origin {
+        "large" => Trial::Large,
+        "once" => Trial::Once,
+        _ => Trial::Whole,
+    }
+}
+
+/// Octets in hexadecimal digits. Or, with blanks between: such octets, others, and how many times these follow, in decimal digits.
+fn octets_of(alloc: Global, digits: &str) -> Result<Option<Vec<u8>>, AllocError> {
+    let Some((head, rest)) = digits.split_once(' ') else {
+        return decoded(alloc, digits);
+    };
+    let Some((repeated, count)) = rest.split_once(' ') else {
+        return Ok(None);
+    };
+    let (Some(mut octets), Some(repeated), Ok(count)) = (
+        decoded(alloc, head)?,
+        decoded(alloc, repeated)?,
+        count.parse::<u32>(),
+    ) else {
+        return Ok(None);
+    };
+    for _ in 0..count {
+        octets.extend_from_slice(&repeated)?;
+    }
+    Ok(Some(octets))
+}
+
+/// Octets in hexadecimal digits.
+fn decoded(alloc: Global, digits: &str) -> Result<Option<Vec<u8>>, AllocError> {
+    match hex::decode(alloc, digits) {
+        Ok(octets) => Ok(Some(octets)),
+        Err(FromHexError::OutOfMemory) => Err(AllocError),
+        Err(_) => Ok(None),
+    }
+}
+
+/// Appends the word of each finding that was tried, with `not` before it where it did not hold. Answers whether all of them held.
 fn push_findings(text: &mut String, found: &Findings) -> Result<bool, AllocError> {
     text.push_str(" read")?;
     let mut all = true;
-    for (word, held) in [
+    for (word, finding) in [
         ("written", found.written),
         ("cut", found.cut),
         ("longer", found.longer),
@@ -126,37 +163,51 @@ fn push_findings(text: &mut String, found: &Findings) -> Result<bool, AllocError
         ("sent", found.sent),
         ("faulted", found.faulted),
         ("copied", found.copied),
+        ("kept", found.kept),
     ] {
-        text.push_str(if held { ", " } else { ", not " })?;
-        text.push_str(word)?;
-        all = all && held;
+        if let Some(held) = finding {
+            text.push_str(if held { ", " } else { ", not " })?;
+            text.push_str(word)?;
+            all = all && held;
+        }
     }
     Ok(all)
 }
 
-/// What is told of the row that a line is.
+/// Appends what is found of the row. Answers whether that is as it should be.
+fn push_outcome(text: &mut String, origin: &str, found: &Attempt) -> Result<bool, AllocError> {
+    match found {
+        Some(Ok(findings)) => Ok(push_findings(text, findings)? && !is_refused(origin)),
+        Some(Err(Refusal::OutOfMemory)) => Err(AllocError),
+        Some(Err(refusal)) => {
+            text.push_str(" refused, ")?;
+            text.push_str(refusal.name())?;
+            Ok(origin == refusal.name())
+        }
+        None => {
+            text.push_str(" no such type")?;
+            Ok(false)
+        }
+    }
+}
+
+/// What is told of the row that a line is. Want of memory is answered as itself, in each of its calls.
 pub fn report_of(alloc: Global, line: &str) -> Result<Report, AllocError> {
     let Some((origin, name, digits)) = columns(line) else {
         let text = format!(in alloc; "no row: {line}")?;
         return Ok(Report { text, held: false });
     };
-    let Ok(octets) = hex::decode(alloc, digits) else {
+    let Some(octets) = octets_of(alloc, digits)? else {
         let text = format!(in alloc; "{origin} {name}: no hexadecimal digits")?;
         return Ok(Report { text, held: false });
     };
     let mut text = format!(in alloc; "{origin} {name} {} octets:", octets.len())?;
-    let held = match try_type(alloc, name, &octets) {
-        Some(Ok(findings)) => push_findings(&mut text, &findings)? && !is_refused(origin),
-        Some(Err(refusal)) => {
-            let name = refusal_name(&refusal);
-            text.push_str(" refused, ")?;
-            text.push_str(name)?;
-            origin == name
-        }
-        None => {
-            text.push_str(" no such type")?;
-            false
-        }
-    };
+    let found = try_type(&Row {
+        alloc,
+        trial: trial_of(origin),
+        name,
+        octets: &octets,
+    });
+    let held = push_outcome(&mut text, origin, &found)?;
     Ok(Report { text, held })
 }

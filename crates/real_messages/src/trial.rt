@@ -2,45 +2,81 @@
 
 use crate::dribble::Dribble;
 use crate::faulty::{FaultyReader, FaultyWriter};
+use crate::row::{Findings, Refusal, Row, Trial};
 use krb_der::{Asn1DerError, Der, copy, from_bytes, from_reader, to_vec, to_writer};
 use std::alloc::Global;
 use std::io::ErrorKind;
 
-/// What stands behind the octets that a reader gives.
-const BEHIND: [u8; 2] = [0x30, 0x00];
+/// What stands behind the octets that a reader gives, and in the vector that octets are appended to.
+const OTHERS: [u8; 2] = [0x30, 0x00];
 
-/// What holds of octets that were read as a value.
-#[derive(Clone, Copy)]
-pub struct Findings {
-    /// The encoding of the value is these octets.
-    pub written: bool,
-    /// Each proper front of them is `TruncatedData`.
-    pub cut: bool,
-    /// With one octet more they are `InvalidData`.
-    pub longer: bool,
-    /// A reader that gives one octet at a time gives the same value, and what stands behind it stays unread.
-    pub streamed: bool,
-    /// A writer gets these octets, and their number is answered.
-    pub sent: bool,
-    /// Where a reader fails at one of its reads, or a writer at one of its writes, each in turn, its fault is the answer.
-    pub faulted: bool,
-    /// A copy of the value has the same encoding.
-    pub copied: bool,
-}
+/// The octets that a writer has room for which takes no memory.
+const ROOM: usize = 4096;
 
 /// Reads the octets as a T, and says what holds of them. A refusal to read them is answered as it is.
-pub fn findings_of<T: Der + Drop>(alloc: Global, octets: &[u8]) -> Result<Findings, Asn1DerError> {
+pub fn findings_of<T: Der + Drop>(row: &Row<'_>) -> Result<Findings, Refusal> {
+    let found = match row.trial {
+        Trial::Once => made_once::<T>(row.alloc, row.octets)?,
+        Trial::Large => tried_at_length::<T>(row.alloc, row.octets)?,
+        Trial::Whole => tried_wholly::<T>(row.alloc, row.octets)?,
+    };
+    Ok(found)
+}
+
+fn tried_wholly<T: Der + Drop>(alloc: Global, octets: &[u8]) -> Result<Findings, Asn1DerError> {
+    let mut found = tried_at_length::<T>(alloc, octets)?;
+    let value: T = from_bytes(alloc, octets)?;
+    let read = is_faulted_in_reading::<T>(alloc, octets)?;
+    found.faulted = Some(read && is_faulted_in_writing(alloc, &value, octets));
+    found.cut = Some(is_cut::<T>(alloc, octets));
+    Ok(found)
+}
+
+fn tried_at_length<T: Der + Drop>(alloc: Global, octets: &[u8]) -> Result<Findings, Asn1DerError> {
     let value: T = from_bytes(alloc, octets)?;
     Ok(Findings {
-        written: is_written(alloc, &value, octets)?,
-        cut: is_cut::<T>(alloc, octets),
-        longer: is_refused_longer::<T>(alloc, octets)?,
-        streamed: is_streamed::<T>(alloc, octets)?,
-        sent: is_sent(alloc, &value, octets)?,
-        faulted: is_faulted_in_reading::<T>(alloc, octets)?
-            && is_faulted_in_writing(alloc, &value, octets),
-        copied: is_copied(alloc, &value, octets)?,
+        written: Some(is_written(alloc, &value, octets)?),
+        longer: Some(is_refused_longer::<T>(alloc, octets)?),
+        streamed: Some(is_streamed::<T>(alloc, octets)?),
+        sent: Some(is_sent(alloc, &value, octets)?),
+        copied: Some(is_copied(alloc, &value, octets)?),
+        ..Findings::NONE
     })
+}
+
+/// The value is read, copied, appended to a vector, given to a writer that takes no memory, and written.
+fn made_once<T: Der + Drop>(alloc: Global, octets: &[u8]) -> Result<Findings, Asn1DerError> {
+    let value: T = from_bytes(alloc, octets)?;
+    let again = copy(alloc, &value)?;
+    let kept = is_appended(alloc, &again, octets)? && is_sent_whole(alloc, &again)?;
+    Ok(Findings {
+        copied: Some(is_written(alloc, &again, octets)?),
+        kept: Some(kept),
+        ..Findings::NONE
+    })
+}
+
+fn is_appended<T: Der + Drop>(
+    alloc: Global,
+    value: &T,
+    octets: &[u8],
+) -> Result<bool, Asn1DerError> {
+    let mut vector = Vec::from_slice(alloc, &OTHERS)?;
+    match value.write(alloc, &mut vector) {
+        Ok(()) => Ok(vector.strip_prefix(OTHERS.as_slice()) == Some(octets)),
+        Err(_) if vector.as_slice() == OTHERS.as_slice() => Err(Asn1DerError::OutOfMemory),
+        Err(_) => Ok(false),
+    }
+}
+
+fn is_sent_whole<T: Der + Drop>(alloc: Global, value: &T) -> Result<bool, Asn1DerError> {
+    let mut room = [0u8; ROOM];
+    let mut left = room.as_mut_slice();
+    match to_writer(alloc, value, &mut left) {
+        Ok(_) => Ok(true),
+        Err(_) if left.len() != ROOM => Ok(false),
+        Err(refusal) => Err(refusal),
+    }
 }
 
 fn is_written<T: Der + Drop>(
@@ -71,10 +107,10 @@ fn is_refused_longer<T: Der + Drop>(alloc: Global, octets: &[u8]) -> Result<bool
 
 fn is_streamed<T: Der + Drop>(alloc: Global, octets: &[u8]) -> Result<bool, Asn1DerError> {
     let mut given = Vec::from_slice(alloc, octets)?;
-    given.extend_from_slice(&BEHIND)?;
+    given.extend_from_slice(&OTHERS)?;
     let mut reader = Dribble { left: &given };
     let value: T = from_reader(alloc, &mut reader)?;
-    let left_behind = reader.left == BEHIND.as_slice();
+    let left_behind = reader.left == OTHERS.as_slice();
     Ok(is_written(alloc, &value, octets)? && left_behind)
 }
 

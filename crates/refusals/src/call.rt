@@ -1,12 +1,10 @@
 //! The calls, by their names.
 
 use crate::cryptography::try_cryptography;
-use crate::formats::try_format;
 use crate::keys::try_key;
 use crate::outcome::Refusal;
 use crate::parts::try_part;
 use crate::suites::{suite_of, try_suite};
-use crate::types::try_type;
 use std::alloc::Global;
 
 /// The name in front of the input, and the octets behind it.
@@ -24,17 +22,11 @@ fn split(input: &[u8]) -> Option<(&str, &[u8])> {
 }
 
 /// What the call that the input names answers of its octets. A name is a call's, or a call's and a suite's number with a blank
-/// between, or a type's or a format's, which is read and written.
+/// between.
 pub fn made_of(alloc: Global, input: &[u8]) -> Result<Vec<u8>, Refusal> {
     let Some((name, octets)) = split(input) else {
         return Err(Refusal::NoCall);
     };
-    if let Some(made) = try_type(alloc, name, octets) {
-        return made;
-    }
-    if let Some(made) = try_format(alloc, name, octets) {
-        return made;
-    }
     let Some((call, number)) = name.split_once(' ') else {
         return try_cryptography(alloc, name, octets);
     };

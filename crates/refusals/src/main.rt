@@ -1,4 +1,4 @@
-//! The program `refusals`: makes one call of the library, and takes no memory but what that call takes.
+//! The program `refusals`: makes one call of the cryptography, and takes no memory but what that call takes.
 //!
 //! Its standard input is an octet, a name of so many octets, and the octets that the call is made on. It writes the octets that
 //! the call answers, and ends with status 0, or with that of its `Refusal`. `refusals/run` links it with C that refuses its requests
@@ -7,13 +7,10 @@
 
 mod call;
 mod cryptography;
-mod formats;
 mod keys;
 mod outcome;
 mod parts;
-mod round_trip;
 mod suites;
-mod types;
 
 use call::made_of;
 use outcome::Refusal;

@@ -2,16 +2,9 @@
 
 use krb_block::KerberosCryptoError;
 use krb_der::Asn1DerError;
-use krb_pac::PacError;
 use krb_seal::PartError;
 use krb_secret::diffie_hellman::DiffieHellmanError;
-use krb_tokens::GssApiMessageError;
 use std::alloc::{AllocError, AllocFailed};
-use std::io;
-use std::io::ErrorKind;
-
-/// What the call of a name answers. `None` where none has it.
-pub type Attempt = Option<Result<Vec<u8>, Refusal>>;
 
 /// Why a call made nothing.
 #[derive(Debug, Drop)]
@@ -81,33 +74,6 @@ impl From<DiffieHellmanError> for Refusal {
     fn from(error: DiffieHellmanError) -> Refusal {
         match error {
             DiffieHellmanError::OutOfMemory => Refusal::OutOfMemory,
-            _ => Refusal::Other,
-        }
-    }
-}
-
-impl From<io::Error> for Refusal {
-    fn from(error: io::Error) -> Refusal {
-        match error.kind() {
-            ErrorKind::OutOfMemory => Refusal::OutOfMemory,
-            _ => Refusal::Other,
-        }
-    }
-}
-
-impl From<GssApiMessageError> for Refusal {
-    fn from(error: GssApiMessageError) -> Refusal {
-        match error {
-            GssApiMessageError::OutOfMemory => Refusal::OutOfMemory,
-            _ => Refusal::Other,
-        }
-    }
-}
-
-impl From<PacError> for Refusal {
-    fn from(error: PacError) -> Refusal {
-        match error {
-            PacError::OutOfMemory => Refusal::OutOfMemory,
             _ => Refusal::Other,
         }
     }

@@ -1,14 +1,12 @@
-//! MIC and Wrap tokens (RFC 4121, 4.2.6): those of a real peer, with the checksums and the messages inside, and worked octets, read
-//! at once and an octet at a time. The crate holds tests alone.
+//! Tests of tokens, frames and records: those of the GSS-API, MIC and Wrap tokens with the cryptography, the frame in which passwords
+//! are changed, and the LSAP record. The crate holds tests alone.
 #![tactic(auto)]
 
 #[cfg(test)]
-mod calls;
-#[cfg(test)]
 mod devices;
 #[cfg(test)]
-mod outcome;
+mod framed;
 #[cfg(test)]
-mod real_tokens;
+mod frames;
 #[cfg(test)]
-mod refusals;
+mod mic_and_wrap;

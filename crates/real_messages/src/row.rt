@@ -1,0 +1,151 @@
+//! A row, and what is found of it.
+
+use krb_der::Asn1DerError;
+use krb_pac::PacError;
+use krb_tokens::GssApiMessageError;
+use std::alloc::{AllocError, Global};
+use std::io;
+use std::io::ErrorKind;
+
+/// How much is tried of a row's octets.
+#[derive(Clone, Copy, PartialEq, Eq)]
+pub enum Trial {
+    /// All that `Findings` has.
+    Whole,
+    /// What takes time by the number of octets, and no more: there are many of them.
+    Large,
+    /// They are read, copied and written, each once: requests for memory are refused.
+    Once,
+}
+
+/// Octets, the name of the type that they are read as, and what is tried of them.
+#[derive(Drop)]
+pub struct Row<'a> {
+    pub alloc: Global,
+    pub trial: Trial,
+    pub name: &'a str,
+    pub octets: &'a [u8],
+}
+
+/// What holds of octets that were read as a value. `None` where it was not tried.
+#[derive(Clone, Copy)]
+pub struct Findings {
+    /// What is written of the value is these octets.
+    pub written: Option<bool>,
+    /// Each proper front of them is `TruncatedData`.
+    pub cut: Option<bool>,
+    /// With one octet more they are `InvalidData`.
+    pub longer: Option<bool>,
+    /// A reader that gives one octet at a time gives the same value, and what stands behind it stays unread.
+    pub streamed: Option<bool>,
+    /// A writer gets these octets, and their number is answered.
+    pub sent: Option<bool>,
+    /// Where a reader fails at one of its reads, or a writer at one of its writes, each in turn, its fault is the answer.
+    pub faulted: Option<bool>,
+    /// What is written of a copy of the value is these octets.
+    pub copied: Option<bool>,
+    /// A vector keeps what stands in front of what is appended, and a writer what it had, where the writing is refused.
+    pub kept: Option<bool>,
+}
+
+impl Findings {
+    /// Nothing was tried.
+    pub const NONE: Findings = Findings {
+        written: None,
+        cut: None,
+        longer: None,
+        streamed: None,
+        sent: None,
+        faulted: None,
+        copied: None,
+        kept: None,
+    };
+}
+
+/// Why octets were not read, or a value not written.
+#[derive(Debug, Drop)]
+pub enum Refusal {
+    Der(Asn1DerError),
+    Token(GssApiMessageError),
+    Pac(PacError),
+    Device(io::Error),
+    OutOfMemory,
+}
+
+/// What is found of a row, or how its octets are refused. `None` where no type has the row's name.
+pub type Attempt = Option<Result<Findings, Refusal>>;
+
+impl From<Asn1DerError> for Refusal {
+    fn from(error: Asn1DerError) -> Refusal {
+        match error {
+            Asn1DerError::OutOfMemory => Refusal::OutOfMemory,
+            Asn1DerError::Io(fault) => Refusal::from(fault),
+            error => Refusal::Der(error),
+        }
+    }
+}
+
+impl From<GssApiMessageError> for Refusal {
+    fn from(error: GssApiMessageError) -> Refusal {
+        match error {
+            GssApiMessageError::OutOfMemory => Refusal::OutOfMemory,
+            GssApiMessageError::IoError(fault) => Refusal::from(fault),
+            GssApiMessageError::Asn1Error(error) => Refusal::from(error),
+            error => Refusal::Token(error),
+        }
+    }
+}
+
+impl From<PacError> for Refusal {
+    fn from(error: PacError) -> Refusal {
+        match error {
+            PacError::OutOfMemory => Refusal::OutOfMemory,
+            PacError::IoError(fault) => Refusal::from(fault),
+            error => Refusal::Pac(error),
+        }
+    }
+}
+
+impl From<io::Error> for Refusal {
+    fn from(error: io::Error) -> Refusal {
+        match error.kind() {
+            ErrorKind::OutOfMemory => Refusal::OutOfMemory,
+            _ => Refusal::Device(error),
+        }
+    }
+}
+
+impl From<AllocError> for Refusal {
+    fn from(_error: AllocError) -> Refusal {
+        Refusal::OutOfMemory
+    }
+}
+
+impl Refusal {
+    /// The name of the refusal, and of a fault that of its kind.
+    pub fn name(&self) -> &'static str {
+        match self {
+            Refusal::Der(Asn1DerError::InvalidData) => "InvalidData",
+            Refusal::Der(Asn1DerError::TruncatedData) => "TruncatedData",
+            Refusal::Der(Asn1DerError::UnsupportedValue) => "UnsupportedValue",
+            Refusal::Der(_) => "another refusal of DER",
+            Refusal::Token(GssApiMessageError::InvalidId(..)) => "InvalidId",
+            Refusal::Token(GssApiMessageError::InvalidMechanismOid(..)) => "InvalidMechanismOid",
+            Refusal::Token(_) => "another refusal of a token",
+            Refusal::Pac(PacError::PacBufferType(_)) => "PacBufferType",
+            Refusal::Pac(PacError::InvalidRange) => "InvalidRange",
+            Refusal::Pac(_) => "another refusal of a PAC",
+            Refusal::Device(fault) => kind_name(fault.kind()),
+            Refusal::OutOfMemory => "OutOfMemory",
+        }
+    }
+}
+
+fn kind_name(kind: ErrorKind) -> &'static str {
+    match kind {
+        ErrorKind::UnexpectedEof => "UnexpectedEof",
+        ErrorKind::InvalidData => "InvalidData",
+        ErrorKind::InvalidInput => "InvalidInput",
+        _ => "another fault",
+    }
+}

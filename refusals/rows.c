@@ -1,0 +1,36 @@
+/* Has the program real_messages read, copy and write the octets of each row of its table, with its requests for memory refused. The
+ * argument is that table. */
+#include "runs.h"
+
+/* The statuses of real_messages on a row of the origin `once`: it was read and all held, or it was refused. */
+enum { HELD, REFUSED };
+
+static char line[4 * ROOM];
+
+/* Tries the row of these columns. Where a refusal's name stands in the origin's place, the octets are refused. */
+static void try_row(const char *origin, const char *name, const char *digits) {
+    struct octets input;
+    int count = snprintf((char *)input.at, ROOM, "once\t%s\t%s\n", name, digits);
+    if (count >= ROOM) {
+        fail(name, "too many octets");
+    }
+    input.count = count;
+    try_runs(name, &input, 'A' <= *origin && *origin <= 'Z' ? REFUSED : HELD);
+}
+
+int __wrap_main(int count, char **words) {
+    FILE *rows = count == 2 ? fopen(words[1], "r") : 0;
+    if (!rows) {
+        die("no such table");
+    }
+    start_runs();
+    while (fgets(line, sizeof line, rows)) {
+        char *origin = strtok(line, "\t\n"), *name = strtok(0, "\t\n"), *digits = strtok(0, "\t\n");
+        if (digits && *origin != '#' && memcmp(origin, "large", 5)) {
+            try_row(origin, name, digits);
+        }
+    }
+    fclose(rows);
+    end_runs();
+    return 0;
+}
