@@ -24,7 +24,7 @@ fn sealed_and_opened(
     suite: &CipherSuite,
     key: &[u8],
     confounder: &[u8],
-    beside: usize,
+    beside: u8,
 ) -> Result<(), Fail> {
     if confounder.len() != suite.confounder_size() {
         assert!(rt; false);
@@ -32,7 +32,7 @@ fn sealed_and_opened(
     }
     let part = OctetStringAsn1(vec![in alloc; 0x5a; COUNT]?);
     let sealed = seal_part(alloc, suite, key, 2, confounder, &part)?;
-    assert_eq!(rt; sealed.len(), HEADER + COUNT + beside);
+    assert_eq!(rt; sealed.len(), HEADER + COUNT + usize::from(beside));
     let opened: OctetStringAsn1 = open_part(alloc, suite, key, 2, &sealed)?;
     assert!(rt; opened == part);
     Ok(())
