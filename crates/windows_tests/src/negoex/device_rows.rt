@@ -369,8 +369,10 @@ fn two_interrupted_writers(rt: HostRuntime) {
         let mut payload_to = taking(rt.alloc(), payload_room, usize::MAX);
         let answer = two.encode_with_payload(rt.alloc(), 8, &mut to, &mut payload_to);
         assert_eq!(rt; kind_of(answer), Some(ErrorKind::BrokenPipe));
-        assert_eq!(rt; to.taken.as_slice(), &fixed_part[..room]);
+        assert_eq!(rt; to.taken.len(), room);
+        assert!(rt; fixed_part.starts_with(&to.taken));
         let taken = if room < 8 { 0 } else { payload_room };
-        assert_eq!(rt; payload_to.taken.as_slice(), &two[..taken]);
+        assert_eq!(rt; payload_to.taken.len(), taken);
+        assert!(rt; two.starts_with(&payload_to.taken));
     }
 }
