@@ -7,6 +7,15 @@ enum { HELD, REFUSED };
 
 static char line[4 * ROOM];
 
+/* Whether a refusal's name stands in the origin's place: one word that begins with a capital. */
+static int is_refusal(const char *origin) {
+    size_t letters = 0;
+    while (('A' <= origin[letters] && origin[letters] <= 'Z') || ('a' <= origin[letters] && origin[letters] <= 'z')) {
+        letters++;
+    }
+    return 'A' <= *origin && *origin <= 'Z' && letters == strlen(origin);
+}
+
 /* Tries the row of these columns. Where a refusal's name stands in the origin's place, the octets are refused. */
 static void try_row(const char *origin, const char *name, const char *digits) {
     struct octets input;
@@ -15,7 +24,7 @@ static void try_row(const char *origin, const char *name, const char *digits) {
         fail(name, "too many octets");
     }
     input.count = count;
-    try_runs(name, &input, 'A' <= *origin && *origin <= 'Z' ? REFUSED : HELD);
+    try_runs(name, &input, is_refusal(origin) ? REFUSED : HELD);
 }
 
 int __wrap_main(int count, char **words) {
