@@ -1,5 +1,5 @@
-/* Has the program real_messages read, copy and write the octets of each row of its table, with its requests for memory refused. The
- * argument is that table. */
+/* Has the program real_messages read, copy and write the octets of each row of its table, with its requests for memory refused, and
+ * of a PAC its first buffer alone too. The argument is that table. */
 #include "runs.h"
 
 /* The statuses of real_messages on a row of the origin `once`: it was read and all held, or it was refused. */
@@ -37,6 +37,9 @@ int __wrap_main(int count, char **words) {
         char *origin = strtok(line, "\t\n"), *name = strtok(0, "\t\n"), *digits = strtok(0, "\t\n");
         if (digits && *origin != '#' && memcmp(origin, "large", 5)) {
             try_row(origin, name, digits);
+            if (strlen(name) == 3 && !memcmp(name, "Pac", 3)) {
+                try_row(origin, "PacBuffer", digits);
+            }
         }
     }
     fclose(rows);
