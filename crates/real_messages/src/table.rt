@@ -22,11 +22,12 @@ pub struct Report {
     pub held: bool,
 }
 
-/// The origin, the type and the digits of a row.
-fn columns(line: &str) -> Option<(&str, &str, &str)> {
+/// The origin, the type, the digits and the text of a row. The text is empty where none stands.
+fn columns(line: &str) -> Option<(&str, &str, &str, &str)> {
     let (origin, rest) = line.split_once('\t')?;
-    let (name, digits) = rest.split_once('\t')?;
-    Some((origin, name, digits))
+    let (name, rest) = rest.split_once('\t')?;
+    let (digits, text) = rest.split_once('\t').unwrap_or((rest, ""));
+    Some((origin, name, digits, text))
 }
 
 /// What is found of the octets as those of a data type or a message, by its name. `None` where none has it.
@@ -164,6 +165,7 @@ fn push_findings(text: &mut String, found: &Findings) -> Result<bool, AllocError
         ("faulted", found.faulted),
         ("copied", found.copied),
         ("kept", found.kept),
+        ("shown", found.shown),
     ] {
         if let Some(held) = finding {
             text.push_str(if held { ", " } else { ", not " })?;
@@ -193,7 +195,7 @@ fn push_outcome(text: &mut String, origin: &str, found: &Attempt) -> Result<bool
 
 /// What is told of the row that a line is. Want of memory is answered as itself, in each of its calls.
 pub fn report_of(alloc: Global, line: &str) -> Result<Report, AllocError> {
-    let Some((origin, name, digits)) = columns(line) else {
+    let Some((origin, name, digits, shown)) = columns(line) else {
         let text = format!(in alloc; "no row: {line}")?;
         return Ok(Report { text, held: false });
     };
@@ -207,6 +209,7 @@ pub fn report_of(alloc: Global, line: &str) -> Result<Report, AllocError> {
         trial: trial_of(origin),
         name,
         octets: &octets,
+        text: shown,
     });
     let held = push_outcome(&mut text, origin, &found)?;
     Ok(Report { text, held })
