@@ -7,9 +7,9 @@ mod engine;
 mod failure;
 mod parse;
 #[cfg(test)]
-mod real_parts;
+mod rows;
 #[cfg(test)]
-mod sealing_tests;
+mod sealed_parts;
 #[cfg(test)]
 mod tests;
 

@@ -1,51 +1,64 @@
+//! The program over devices in memory, row by row.
+
 use crate::engine::run;
-use crate::real_parts::REAL_PARTS;
+use crate::rows::{PART, ROWS};
+use crate::sealed_parts::SEALED_PARTS;
 use std::alloc::{AllocError, Global};
 use std::io;
-use std::io::{Read, Write};
-use std::process::Abort;
+use std::io::{ErrorKind, Read, Write};
 use std::test::Fail;
 
-pub const PART: [u8; 128] = [
-    0x63, 0x7e, 0x30, 0x7c, 0xa0, 0x07, 0x03, 0x05, 0x00, 0x00, 0x00, 0x00, 0x00, 0xa1, 0x1b, 0x30,
-    0x19, 0xa0, 0x03, 0x02, 0x01, 0x11, 0xa1, 0x12, 0x04, 0x10, 0x00, 0x01, 0x02, 0x03, 0x04, 0x05,
-    0x06, 0x07, 0x08, 0x09, 0x0a, 0x0b, 0x0c, 0x0d, 0x0e, 0x0f, 0xa2, 0x0d, 0x1b, 0x0b, 0x45, 0x58,
-    0x41, 0x4d, 0x50, 0x4c, 0x45, 0x2e, 0x43, 0x4f, 0x4d, 0xa3, 0x12, 0x30, 0x10, 0xa0, 0x03, 0x02,
-    0x01, 0x01, 0xa1, 0x09, 0x30, 0x07, 0x1b, 0x05, 0x74, 0x65, 0x73, 0x74, 0x31, 0xa4, 0x0b, 0x30,
-    0x09, 0xa0, 0x03, 0x02, 0x01, 0x01, 0xa1, 0x02, 0x04, 0x00, 0xa5, 0x11, 0x18, 0x0f, 0x32, 0x30,
-    0x32, 0x31, 0x31, 0x32, 0x33, 0x31, 0x30, 0x30, 0x30, 0x30, 0x30, 0x30, 0x5a, 0xa7, 0x11, 0x18,
-    0x0f, 0x32, 0x30, 0x32, 0x31, 0x31, 0x32, 0x33, 0x31, 0x31, 0x30, 0x30, 0x30, 0x30, 0x30, 0x5a,
-];
-
-pub const USAGE: &[u8] =
+const USAGE: &[u8] =
     b"usage: krbtool check | seal ETYPE KEYHEX USAGE CONFHEX | open ETYPE KEYHEX USAGE\n";
 
-/// A reader of octets: gives at most `step` of them at a read, and fails at the read number `failing`, from 1.
+const TRUNCATED: &[u8] = b"krbtool: der TruncatedData\n";
+
+const INTEGRITY: &[u8] = b"krbtool: crypto IntegrityCheck\n";
+
+/// The octets of a reader, or those that a writer has taken: at most `step` at a call. The call number `failing`, from 1, fails.
 #[derive(Drop)]
-pub struct Source<'a> {
+struct Device<'a> {
     left: &'a [u8],
+    taken: Vec<u8>,
     step: usize,
-    reads: usize,
+    calls: usize,
     failing: usize,
+    is_interrupted: bool,
 }
 
-impl<'a> Source<'a> {
-    pub fn new(left: &'a [u8], step: usize, failing: usize) -> Self {
-        Source {
+impl<'a> Device<'a> {
+    fn new(
+        alloc: Global,
+        left: &'a [u8],
+        step: usize,
+        failing: usize,
+        is_interrupted: bool,
+    ) -> Self {
+        Device {
             left,
+            taken: Vec::new(alloc),
             step,
-            reads: 0,
+            calls: 0,
             failing,
+            is_interrupted,
         }
+    }
+
+    fn count_call(&mut self) -> io::Result<()> {
+        self.calls = self.calls.saturating_add(1);
+        if self.calls != self.failing {
+            return Ok(());
+        }
+        if self.is_interrupted {
+            return Err(io::Error::from(ErrorKind::Interrupted));
+        }
+        Err(io::Error::from(ErrorKind::Other))
     }
 }
 
-impl<'a> Read for Source<'a> {
+impl<'a> Read for Device<'a> {
     fn read(&mut self, buf: &mut [u8]) -> io::Result<usize> {
-        self.reads = self.reads.saturating_add(1);
-        if self.reads == self.failing {
-            return Err(io::Error::from(io::ErrorKind::Other));
-        }
+        self.count_call()?;
         let count = buf.len().min(self.left.len()).min(self.step);
         buf[..count].copy_from_slice(&self.left[..count]);
         self.left = &self.left[count..];
@@ -53,154 +66,221 @@ impl<'a> Read for Source<'a> {
     }
 }
 
-/// A writer to memory: takes at most `step` octets at a write, and fails at the write number `failing` and at the flush
-/// number `unflushed`, from 1.
-#[derive(Drop)]
-pub struct Sink {
-    pub taken: Vec<u8>,
-    step: usize,
-    writes: usize,
-    failing: usize,
-    flushes: usize,
-    unflushed: usize,
-}
-
-impl Sink {
-    pub fn new(alloc: Global, step: usize, failing: usize) -> Self {
-        Sink {
-            taken: Vec::new(alloc),
-            step,
-            writes: 0,
-            failing,
-            flushes: 0,
-            unflushed: 0,
-        }
-    }
-}
-
-impl Write for Sink {
+impl<'a> Write for Device<'a> {
     fn write(&mut self, buf: &[u8]) -> io::Result<usize> {
-        self.writes = self.writes.saturating_add(1);
-        if self.writes == self.failing {
-            return Err(io::Error::from(io::ErrorKind::Other));
-        }
+        self.count_call()?;
         let count = buf.len().min(self.step);
         self.taken.extend_from_slice(&buf[..count])?;
         Ok(count)
     }
 
     fn flush(&mut self) -> io::Result<()> {
-        self.flushes = self.flushes.saturating_add(1);
-        if self.flushes == self.unflushed {
-            return Err(io::Error::from(io::ErrorKind::Other));
-        }
-        Ok(())
+        self.count_call()
     }
 }
 
-pub fn words_of(alloc: Global, line: &str) -> Result<Vec<String>, AllocError> {
+/// A row of the table.
+#[derive(Drop)]
+struct Row<'a> {
+    sweep: &'a str,
+    number: usize,
+    words: Vec<String>,
+    input: Vec<u8>,
+    left: usize,
+    status: u8,
+    output: Vec<u8>,
+    faults: Vec<u8>,
+}
+
+/// The words of a line but its first.
+fn words_of(alloc: Global, line: &str) -> Result<Vec<String>, AllocError> {
     let mut words = Vec::new(alloc);
-    for word in line.split_whitespace() {
+    let mut rest = line.split_once(' ');
+    for _ in 0..8 {
+        let Some((_, behind)) = rest else {
+            break;
+        };
+        rest = behind.split_once(' ');
+        let word = match rest {
+            Some((word, _)) => word,
+            None => behind,
+        };
         words.push(String::from_str(alloc, word)?)?;
     }
     Ok(words)
 }
 
-#[test]
-fn writes_a_part_back(rt: HostRuntime) -> Result<(), Fail> {
-    let alloc = rt.alloc();
-    let words = words_of(alloc, "check")?;
-    for step in [1, 7, 128] {
-        let mut input = Source::new(&PART, step, 0);
-        let mut output = Sink::new(alloc, step, 0);
-        let mut faults = Vec::new(alloc);
-        let status = run(alloc, &words, &mut input, &mut output, &mut faults);
-        assert_eq!(rt; status, 0, "in steps of {step}");
-        assert_eq!(rt;
-            output.taken.as_slice(),
-            PART.as_slice(),
-            "in steps of {step}"
-        );
-        assert_eq!(rt; output.flushes, 1, "in steps of {step}");
-        assert!(rt; faults.is_empty());
-    }
-    Ok(())
+/// The row that a line is but for its output and its line.
+fn row_of(alloc: Global, line: &str) -> Option<(Row<'_>, &str)> {
+    let (sweep, rest) = line.split_once(';')?;
+    let (number, rest) = rest.split_once(';')?;
+    let (words, rest) = rest.split_once(';')?;
+    let (input, rest) = rest.split_once(';')?;
+    let (left, rest) = rest.split_once(';')?;
+    let (status, fault) = rest.split_once(';')?;
+    let row = Row {
+        sweep,
+        number: number.parse::<usize>().ok()?,
+        words: words_of(alloc, words).ok()?,
+        input: input_of(alloc, input)?,
+        left: left.parse::<usize>().ok()?,
+        status: status.parse::<u8>().ok()?,
+        output: Vec::new(alloc),
+        faults: Vec::new(alloc),
+    };
+    Some((row, fault))
 }
 
-#[test]
-fn writes_parts_of_real_servers_back(rt: HostRuntime) -> Result<(), Fail> {
-    let alloc = rt.alloc();
-    let words = words_of(alloc, "check")?;
-    for real in REAL_PARTS {
-        let part = real.opened;
-        let mut input = Source::new(part, 4096, 0);
-        let mut output = Vec::new(alloc);
-        let mut faults = Vec::new(alloc);
-        let status = run(alloc, &words, &mut input, &mut output, &mut faults);
-        assert_eq!(rt; status, 0, "of {} octets", part.len());
-        assert!(rt; output.as_slice() == part, "of {} octets", part.len());
-
-        let mut short = Source::new(part, 4096, 0);
-        short.left = &part[..part.len().saturating_sub(1)];
-        output.clear();
-        let status = run(alloc, &words, &mut short, &mut output, &mut faults);
-        assert_eq!(rt; status, 1, "of {} octets", part.len());
-        assert_eq!(rt;
-            faults.as_slice(),
-            b"krbtool: der TruncatedData\n".as_slice()
-        );
-        assert!(rt; output.is_empty());
+/// The input that a column says.
+fn input_of(alloc: Global, column: &str) -> Option<Vec<u8>> {
+    let (kind, rest) = column.split_once(' ')?;
+    if kind == "hex" {
+        return hex::decode(alloc, rest).ok();
     }
-    Ok(())
+    let count = rest.parse::<u8>().ok()? as usize;
+    let mut input = Vec::new(alloc);
+    if kind == "part" {
+        input.extend_from_slice(&PART).ok()?;
+    }
+    input.resize(count, 0).ok()?;
+    Some(input)
 }
 
-#[test]
-fn refuses_other_octets(rt: HostRuntime) -> Result<(), Fail> {
-    let alloc = rt.alloc();
-    let words = words_of(alloc, "check")?;
-    let mut longer = Vec::from_slice(alloc, &PART)?;
-    longer.push(0)?;
-    let mut output = Vec::new(alloc);
-    let mut faults = Vec::new(alloc);
-    for count in 0..longer.len() + 1 {
-        if count == PART.len() {
-            continue;
+/// The row of a line, whole.
+fn whole_row_of(alloc: Global, line: &str) -> Option<Row<'_>> {
+    let (mut row, fault) = row_of(alloc, line)?;
+    match row.status {
+        0 => row.output.extend_from_slice(&PART).ok()?,
+        2 => row.faults.extend_from_slice(USAGE).ok()?,
+        _ => {
+            if !fault.is_empty() {
+                let text = format!(in alloc; "krbtool: {fault}\n").ok()?;
+                row.faults.extend_from_slice(text.as_bytes()).ok()?;
+            }
         }
-        let line = if count < PART.len() {
-            b"krbtool: der TruncatedData\n".as_slice()
-        } else {
-            b"krbtool: der InvalidData\n".as_slice()
-        };
-        let mut input = &longer[..count];
-        faults.clear();
-        let status = run(alloc, &words, &mut input, &mut output, &mut faults);
-        assert_eq!(rt; status, 1, "at {count} octets");
-        assert_eq!(rt; faults.as_slice(), line, "at {count} octets");
-        assert!(rt; output.is_empty(), "at {count} octets");
     }
-    Ok(())
+    Some(row)
 }
 
-/// How many single bit flips of the part are told by this line. Each is refused as no part, or is another part and written back.
-fn flips_told(rt: &impl Abort, alloc: Global, line: &[u8]) -> Result<usize, AllocError> {
-    let words = words_of(alloc, "check")?;
-    let mut flipped = Vec::from_slice(alloc, &PART)?;
-    let mut output = Vec::new(alloc);
-    let mut faults = Vec::new(alloc);
+/// A row of status 0 that moves so many octets a call.
+fn good_row<'a>(
+    alloc: Global,
+    number: usize,
+    words: &str,
+    input: &[u8],
+    output: &[u8],
+) -> Result<Row<'a>, AllocError> {
+    Ok(Row {
+        sweep: "once",
+        number,
+        words: words_of(alloc, words)?,
+        input: Vec::from_slice(alloc, input)?,
+        left: 0,
+        status: 0,
+        output: Vec::from_slice(alloc, output)?,
+        faults: Vec::new(alloc),
+    })
+}
+
+/// How many calls of at most `step` octets move so many, where each moves as many as it can.
+fn calls_of(octets: usize, step: usize) -> usize {
+    if step == 0 {
+        return 0;
+    }
+    octets.div_ceil(step)
+}
+
+/// How many calls of its writer a run makes: the last is the flush.
+fn writes_of(row: &Row) -> usize {
+    if row.status != 0 {
+        return 0;
+    }
+    calls_of(row.output.len(), row.number).saturating_add(1)
+}
+
+/// The first `count` of the octets, or all of them.
+fn front_of(octets: &[u8], count: usize) -> &[u8] {
+    &octets[..count.min(octets.len())]
+}
+
+/// Whether a run is as the row says where the call number `failing` of one device fails: of the reader (0), of the writer (1) or of
+/// that of the faults (2). No call has the number 0.
+fn is_told(alloc: Global, row: &Row, place: u8, failing: usize, is_interrupted: bool) -> bool {
+    let step = row.number;
+    let failing_at = [
+        if place == 0 { failing } else { 0 },
+        if place == 1 { failing } else { 0 },
+        if place == 2 { failing } else { 0 },
+    ];
+    let mut input = Device::new(alloc, &row.input, step, failing_at[0], is_interrupted);
+    let mut output = Device::new(alloc, &[], step, failing_at[1], is_interrupted);
+    let mut faults = Device::new(alloc, &[], step, failing_at[2], is_interrupted);
+    let status = run(alloc, &row.words, &mut input, &mut output, &mut faults);
+    let is_flush = place == 1 && failing == writes_of(row);
+    if failing == 0 || (is_interrupted && !is_flush) {
+        return status == row.status
+            && output.taken == row.output
+            && faults.taken == row.faults
+            && input.left.len() == row.left
+            && (is_interrupted || output.calls == writes_of(row));
+    }
+    let before = failing.saturating_sub(1).saturating_mul(step);
+    if place == 2 {
+        return status == row.status
+            && output.taken == row.output
+            && faults.taken.as_slice() == front_of(&row.faults, before);
+    }
+    let taken = if place == 1 { before } else { 0 };
+    status == 1
+        && output.taken.as_slice() == front_of(&row.output, taken)
+        && faults.taken.as_slice() == b"krbtool: io\n".as_slice()
+}
+
+/// Each call of each device fails in turn, and is interrupted in turn. The reader's last call finds the end.
+fn is_told_over_devices(alloc: Global, row: &Row) -> bool {
+    let mut reads = 0;
+    if row.left == 0 {
+        reads = calls_of(row.input.len(), row.number).saturating_add(1);
+    }
+    let lines = calls_of(row.faults.len(), row.number);
+    for (place, count) in [(0u8, reads), (1, writes_of(row)), (2, lines)] {
+        for turn in 0..count {
+            let failing = turn.saturating_add(1);
+            if !is_told(alloc, row, place, failing, false)
+                || !is_told(alloc, row, place, failing, true)
+            {
+                return false;
+            }
+        }
+    }
+    is_told(alloc, row, 0, 0, false)
+}
+
+/// Whether the run of this input, of which one bit was flipped, is told by the row's line. `None` where it is neither refused with a line
+/// nor written back.
+fn is_flip_told(alloc: Global, row: &Row, flipped: &[u8]) -> Option<bool> {
+    let mut input = Device::new(alloc, flipped, 4096, 0, false);
+    let mut output = Device::new(alloc, &[], 4096, 0, false);
+    let mut faults = Device::new(alloc, &[], 4096, 0, false);
+    let status = run(alloc, &row.words, &mut input, &mut output, &mut faults);
+    let is_refused = status == 1 && output.taken.is_empty() && !faults.taken.is_empty();
+    let is_written = status == 0 && output.taken.as_slice() == flipped && faults.taken.is_empty();
+    if is_refused || is_written {
+        return Some(faults.taken == row.faults);
+    }
+    None
+}
+
+/// How many of the single bit flips of the input are told by the row's line.
+fn flips_told(alloc: Global, row: &Row) -> Option<usize> {
+    let mut flipped = Vec::from_slice(alloc, &row.input).ok()?;
     let mut told = 0usize;
-    for position in 0..PART.len() {
+    for position in 0..row.input.len() {
         for bit in [1u8, 2, 4, 8, 16, 32, 64, 128] {
             if let Some(octet) = flipped.get_mut(position) {
                 *octet ^= bit;
             }
-            output.clear();
-            faults.clear();
-            let mut input = flipped.as_slice();
-            let status = run(alloc, &words, &mut input, &mut output, &mut faults);
-            let is_refused = status == 1 && output.is_empty() && !faults.is_empty();
-            let is_written = status == 0 && output == flipped && faults.is_empty();
-            assert!(rt; is_refused || is_written, "bit {bit} of octet {position}");
-            if faults.as_slice() == line {
+            if is_flip_told(alloc, row, &flipped)? {
                 told = told.saturating_add(1);
             }
             if let Some(octet) = flipped.get_mut(position) {
@@ -208,122 +288,131 @@ fn flips_told(rt: &impl Abort, alloc: Global, line: &[u8]) -> Result<usize, Allo
             }
         }
     }
-    Ok(told)
+    Some(told)
 }
 
-/// The 1024 flips, as many of each answer as another decoder of DER counts.
-#[test]
-fn refuses_a_flipped_bit_or_writes_it_back(rt: HostRuntime) -> Result<(), Fail> {
-    for (line, wanted) in [
-        ("", 374),
-        ("krbtool: der InvalidData\n", 467),
-        ("krbtool: der TruncatedData\n", 165),
-        ("krbtool: der UnsupportedValue\n", 18),
-    ] {
-        let told = flips_told(&rt, rt.alloc(), line.as_bytes())?;
-        assert_eq!(rt; told, wanted, "told by {line:?}");
+/// Whether each proper front of the input is told as the row says.
+fn are_fronts_told(alloc: Global, row: &mut Row) -> bool {
+    for _ in 0..row.input.len() {
+        row.input.pop();
+        if !is_told(alloc, row, 0, 0, false) {
+            return false;
+        }
     }
-    Ok(())
+    true
+}
+
+/// Whether the runs of a line are as it says.
+fn is_line_told(alloc: Global, line: &str) -> bool {
+    let Some(mut row) = whole_row_of(alloc, line) else {
+        return false;
+    };
+    match row.sweep {
+        "once" => is_told(alloc, &row, 0, 0, false),
+        "steps" => is_told_over_devices(alloc, &row),
+        "fronts" => are_fronts_told(alloc, &mut row),
+        "flips" => flips_told(alloc, &row) == Some(row.number),
+        _ => false,
+    }
+}
+
+/// A part, and the words that open and that seal it.
+#[derive(Drop)]
+struct SealedPart<'a> {
+    opening: &'a str,
+    sealing: &'a str,
+    sealed: Vec<u8>,
+    opened: Vec<u8>,
+}
+
+/// The part that a line is.
+fn part_of(alloc: Global, line: &str) -> Option<SealedPart<'_>> {
+    let (opening, rest) = line.split_once(';')?;
+    let (sealing, rest) = rest.split_once(';')?;
+    let (sealed, opened) = rest.split_once(';')?;
+    Some(SealedPart {
+        opening,
+        sealing,
+        sealed: hex::decode(alloc, sealed).ok()?,
+        opened: hex::decode(alloc, opened).ok()?,
+    })
+}
+
+/// Whether a part is sealed, opened and written back, `step` octets a call. Without its last octet it is none.
+fn is_part_told(alloc: Global, part: &SealedPart, step: usize) -> Result<bool, AllocError> {
+    let seal = good_row(alloc, step, part.sealing, &part.opened, &part.sealed)?;
+    let open = good_row(alloc, step, part.opening, &part.sealed, &part.opened)?;
+    let check = good_row(alloc, step, "krbtool check", &part.opened, &part.opened)?;
+    let front = &part.opened[..part.opened.len().saturating_sub(1)];
+    let mut short = good_row(alloc, step, "krbtool check", front, &[])?;
+    short.status = 1;
+    short.faults.extend_from_slice(TRUNCATED)?;
+    if step < 16 {
+        return Ok(is_told_over_devices(alloc, &seal) && is_told_over_devices(alloc, &open));
+    }
+    Ok(
+        is_told(alloc, &seal, 0, 0, false)
+            && is_told(alloc, &open, 0, 0, false)
+            && is_told(alloc, &check, 0, 0, false)
+            && is_told(alloc, &short, 0, 0, false),
+    )
+}
+
+/// Whether each single bit flip of a sealed part is told by the checksum.
+fn are_flips_told(alloc: Global, part: &SealedPart) -> Result<bool, AllocError> {
+    let mut row = good_row(alloc, 4096, part.opening, &part.sealed, &[])?;
+    row.faults.extend_from_slice(INTEGRITY)?;
+    Ok(flips_told(alloc, &row) == Some(part.sealed.len().saturating_mul(8)))
+}
+
+/// The first line that is not told, or nothing.
+fn fault_of_lines(alloc: Global) -> &'static str {
+    let mut rest = ROWS;
+    for _ in 0..1000 {
+        let Some((line, behind)) = rest.split_once('\n') else {
+            return rest;
+        };
+        if !is_line_told(alloc, line) {
+            return line;
+        }
+        rest = behind;
+    }
+    rest
+}
+
+/// Whether a part is told as its line says, in steps of few octets too where it is the first.
+fn is_part_line_told(alloc: Global, line: &str, is_first: bool) -> bool {
+    let Some(part) = part_of(alloc, line) else {
+        return false;
+    };
+    if is_first && !matches!(is_part_told(alloc, &part, 1), Ok(true)) {
+        return false;
+    }
+    if is_first && !matches!(is_part_told(alloc, &part, 7), Ok(true)) {
+        return false;
+    }
+    matches!(is_part_told(alloc, &part, 4096), Ok(true))
+        && matches!(are_flips_told(alloc, &part), Ok(true))
+}
+
+/// The first line of a part that is not told, or nothing.
+fn fault_of_parts(alloc: Global) -> &'static str {
+    let mut rest = SEALED_PARTS;
+    for turn in 0..1000 {
+        let Some((line, behind)) = rest.split_once('\n') else {
+            return rest;
+        };
+        if !is_part_line_told(alloc, line, turn == 0) {
+            return line;
+        }
+        rest = behind;
+    }
+    rest
 }
 
 #[test]
-fn refuses_other_words(rt: HostRuntime) -> Result<(), Fail> {
-    let alloc = rt.alloc();
-    for line in ["", "check x", "seal", "Check"] {
-        let words = words_of(alloc, line)?;
-        let mut input = PART.as_slice();
-        let mut output = Vec::new(alloc);
-        let mut faults = Vec::new(alloc);
-        let status = run(alloc, &words, &mut input, &mut output, &mut faults);
-        assert_eq!(rt; status, 2, "at {line:?}");
-        assert_eq!(rt; faults.as_slice(), USAGE, "at {line:?}");
-        assert_eq!(rt; input.len(), PART.len(), "at {line:?}");
-        assert!(rt; output.is_empty());
-    }
-    Ok(())
-}
-
-#[test]
-fn tells_failing_devices(rt: HostRuntime) -> Result<(), Fail> {
-    let alloc = rt.alloc();
-    let words = words_of(alloc, "check")?;
-    for failing in 1..10 {
-        let mut input = Source::new(&PART, 16, failing);
-        let mut output = Vec::new(alloc);
-        let mut faults = Vec::new(alloc);
-        let status = run(alloc, &words, &mut input, &mut output, &mut faults);
-        assert_eq!(rt; status, 1, "at read {failing}");
-        assert_eq!(rt;
-            faults.as_slice(),
-            b"krbtool: io\n".as_slice(),
-            "at read {failing}"
-        );
-        assert!(rt; output.is_empty(), "at read {failing}");
-    }
-    for failing in 1..9 {
-        let mut input = PART.as_slice();
-        let mut output = Sink::new(alloc, 16, failing);
-        let mut faults = Vec::new(alloc);
-        let status = run(alloc, &words, &mut input, &mut output, &mut faults);
-        assert_eq!(rt; status, 1, "at write {failing}");
-        assert_eq!(rt;
-            faults.as_slice(),
-            b"krbtool: io\n".as_slice(),
-            "at write {failing}"
-        );
-    }
-    Ok(())
-}
-
-#[test]
-fn tells_what_was_not_flushed(rt: HostRuntime) -> Result<(), Fail> {
-    let alloc = rt.alloc();
-    let words = words_of(alloc, "check")?;
-    let mut input = PART.as_slice();
-    let mut output = Sink::new(alloc, 128, 0);
-    output.unflushed = 1;
-    let mut faults = Vec::new(alloc);
-    let status = run(alloc, &words, &mut input, &mut output, &mut faults);
-    assert_eq!(rt; status, 1);
-    assert_eq!(rt; faults.as_slice(), b"krbtool: io\n".as_slice());
-    assert_eq!(rt; output.flushes, 1);
-    Ok(())
-}
-
-#[test]
-fn needs_no_place_for_faults(rt: HostRuntime) -> Result<(), Fail> {
-    let alloc = rt.alloc();
-    for (line, octets, wanted) in [
-        ("check", PART.as_slice(), 0),
-        ("check", &PART[..127], 1),
-        ("seal", PART.as_slice(), 2),
-    ] {
-        let words = words_of(alloc, line)?;
-        let mut input = octets;
-        let mut output = Vec::new(alloc);
-        let mut faults = Sink::new(alloc, 1, 1);
-        let status = run(alloc, &words, &mut input, &mut output, &mut faults);
-        assert_eq!(rt; status, wanted);
-        let answer = if wanted == 0 { PART.as_slice() } else { &[] };
-        assert_eq!(rt; output.as_slice(), answer);
-    }
-    Ok(())
-}
-
-#[test]
-fn tells_a_line_in_steps(rt: HostRuntime) -> Result<(), Fail> {
-    let alloc = rt.alloc();
-    let words = words_of(alloc, "check")?;
-    for (failing, wanted) in [
-        (0, b"krbtool: der TruncatedData\n".as_slice()),
-        (3, b"krbtool: d".as_slice()),
-    ] {
-        let mut input = &PART[..127];
-        let mut output = Vec::new(alloc);
-        let mut faults = Sink::new(alloc, 5, failing);
-        let status = run(alloc, &words, &mut input, &mut output, &mut faults);
-        assert_eq!(rt; status, 1);
-        assert_eq!(rt; faults.taken.as_slice(), wanted);
-    }
+fn rows(rt: HostRuntime) -> Result<(), Fail> {
+    assert_eq!(rt; fault_of_lines(rt.alloc()), "");
+    assert_eq!(rt; fault_of_parts(rt.alloc()), "");
     Ok(())
 }
