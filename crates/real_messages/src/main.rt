@@ -12,7 +12,6 @@ mod certificates;
 mod delegation;
 mod dribble;
 mod faulty;
-mod formats;
 mod leaves;
 mod messages;
 mod negotiation;
