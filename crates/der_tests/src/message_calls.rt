@@ -2,12 +2,9 @@
 
 mod choices;
 mod errors;
-mod headers;
 mod octets;
-mod proxies;
-mod results;
 
-use krb_der::{Asn1DerError, OctetStringAsn1};
+use krb_der::Asn1DerError;
 use std::alloc::Global;
 
 /// The variant that a refusal is.
@@ -20,10 +17,6 @@ fn refusal<T>(outcome: &Result<T, Asn1DerError>) -> &'static str {
         Err(Asn1DerError::Io(_)) => "Io",
         Err(Asn1DerError::OutOfMemory) => "OutOfMemory",
     }
-}
-
-fn octet_string(alloc: Global, octets: &[u8]) -> Result<OctetStringAsn1, Asn1DerError> {
-    Ok(OctetStringAsn1(Vec::from_slice(alloc, octets)?))
 }
 
 /// These octets, and one more.

@@ -13,7 +13,6 @@ mod certificates;
 mod delegation;
 mod dribble;
 mod faulty;
-mod formats;
 mod leaves;
 mod messages;
 mod negotiation;

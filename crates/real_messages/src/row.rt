@@ -1,8 +1,6 @@
 //! A row, and what is found of it.
 
 use krb_der::Asn1DerError;
-use krb_pac::PacError;
-use krb_tokens::GssApiMessageError;
 use std::alloc::{AllocError, Global};
 use std::io;
 use std::io::ErrorKind;
@@ -73,8 +71,6 @@ impl Findings {
 #[derive(Debug, Drop)]
 pub enum Refusal {
     Der(Asn1DerError),
-    Token(GssApiMessageError),
-    Pac(PacError),
     Device(io::Error),
     OutOfMemory,
 }
@@ -88,27 +84,6 @@ impl From<Asn1DerError> for Refusal {
             Asn1DerError::OutOfMemory => Refusal::OutOfMemory,
             Asn1DerError::Io(fault) => Refusal::from(fault),
             error => Refusal::Der(error),
-        }
-    }
-}
-
-impl From<GssApiMessageError> for Refusal {
-    fn from(error: GssApiMessageError) -> Refusal {
-        match error {
-            GssApiMessageError::OutOfMemory => Refusal::OutOfMemory,
-            GssApiMessageError::IoError(fault) => Refusal::from(fault),
-            GssApiMessageError::Asn1Error(error) => Refusal::from(error),
-            error => Refusal::Token(error),
-        }
-    }
-}
-
-impl From<PacError> for Refusal {
-    fn from(error: PacError) -> Refusal {
-        match error {
-            PacError::OutOfMemory => Refusal::OutOfMemory,
-            PacError::IoError(fault) => Refusal::from(fault),
-            error => Refusal::Pac(error),
         }
     }
 }
@@ -136,12 +111,6 @@ impl Refusal {
             Refusal::Der(Asn1DerError::TruncatedData) => "TruncatedData",
             Refusal::Der(Asn1DerError::UnsupportedValue) => "UnsupportedValue",
             Refusal::Der(_) => "another refusal of DER",
-            Refusal::Token(GssApiMessageError::InvalidId(..)) => "InvalidId",
-            Refusal::Token(GssApiMessageError::InvalidMechanismOid(..)) => "InvalidMechanismOid",
-            Refusal::Token(_) => "another refusal of a token",
-            Refusal::Pac(PacError::PacBufferType(_)) => "PacBufferType",
-            Refusal::Pac(PacError::InvalidRange) => "InvalidRange",
-            Refusal::Pac(_) => "another refusal of a PAC",
             Refusal::Device(fault) => kind_name(fault.kind()),
             Refusal::OutOfMemory => "OutOfMemory",
         }

@@ -4,7 +4,6 @@ use crate::certificates::{
     try_certificate_reply, try_certificate_request, try_pku2u, try_public_key,
 };
 use crate::delegation::try_delegated;
-use crate::formats::try_format;
 use crate::leaves::{try_leaf, try_tagged};
 use crate::messages::{try_message, try_reply, try_request};
 use crate::negotiation::{try_negotiation, try_token};
@@ -93,24 +92,12 @@ fn try_type(row: &Row<'_>) -> Attempt {
     if let Some(found) = try_kerberos(row) {
         return Some(found);
     }
-    if let Some(found) = try_other(row) {
-        return Some(found);
-    }
-    try_format(row)
+    try_other(row)
 }
 
 /// Whether a row of this origin is to be refused: it has the name of the refusal in the origin's place.
 fn is_refused(origin: &str) -> bool {
-    matches!(
-        origin,
-        "InvalidData"
-            | "TruncatedData"
-            | "UnsupportedValue"
-            | "UnexpectedEof"
-            | "InvalidId"
-            | "InvalidMechanismOid"
-            | "PacBufferType"
-    )
+    matches!(origin, "InvalidData" | "TruncatedData" | "UnsupportedValue")
 }
 
 /// What is tried of a row of this origin.
