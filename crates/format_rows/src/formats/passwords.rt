@@ -64,15 +64,6 @@ impl Format for Frame {
     }
 }
 
-/// The octets of which a frame at the front of a row's is read.
-fn taken_of(row: &Row<'_>) -> Result<Vec<u8>, Refusal> {
-    let (_message, taken) = read_frame(row.alloc, row.octets)?;
-    let Some((front, _rest)) = row.octets.split_at_checked(taken) else {
-        return Err(Refusal::Lost);
-    };
-    Ok(Vec::from_slice(row.alloc, front)?)
-}
-
 impl Format for LsapTokenInfoIntegrity {
     fn read_from(_alloc: Global, octets: &[u8]) -> Result<LsapTokenInfoIntegrity, Refusal> {
         let mut reader = octets;
@@ -130,7 +121,6 @@ pub fn try_password(row: &Row<'_>) -> Attempt {
         "KrbPrivMessage" => Some(tried_slowly::<KrbPrivMessage>(row)),
         "LsapTokenInfoIntegrity" => Some(tried_slowly::<LsapTokenInfoIntegrity>(row)),
         "read_frame" => Some(tried::<Frame>(row)),
-        "read_frame, taken" => Some(made(row, taken_of(row))),
         "frames, texts" => Some(made(row, texts(row.alloc))),
         "record_of" => Some(made(row, recorded(row))),
         _ => None,
