@@ -1,6 +1,5 @@
 //! Worked octets, read and written by the calls of messages.
 
-mod choices;
 mod errors;
 mod headers;
 mod octets;
