@@ -1,8 +1,8 @@
-/* Has the program real_messages read, copy and write the octets of each row of its table, with its requests for memory refused, and
+/* Has the program real_messages or format_rows read, copy and write the octets of each row of its table, with its requests for memory refused, and
  * of a PAC its first buffer alone too. The argument is that table. */
 #include "runs.h"
 
-/* The statuses of real_messages on a row of the origin `once`: it was read and all held, or it was refused. */
+/* The statuses of these programs on a row of the origin `once`: it was read and all held, or it was refused. */
 enum { HELD, REFUSED };
 
 static char line[4 * ROOM];

@@ -99,17 +99,18 @@ fn send<F: Format>(alloc: Global, value: &F) -> Result<bool, Refusal> {
     }
 }
 
-/// What is written of the value to a vector, behind what stands there. A refusal is to leave the vector as it was.
+/// What is written of the value to a vector, behind what stands there. A refusal is to leave the vector as it was, but where the
+/// vector itself wanted memory: a token is written in two pieces.
 fn written<F: Format>(alloc: Global, value: &F) -> Result<Vec<u8>, Refusal> {
     let mut octets = Vec::from_slice(alloc, &FRONT)?;
     let outcome = value.write_to(alloc, &mut octets);
     let Some(behind) = octets.strip_prefix(FRONT.as_slice()) else {
         return Err(Refusal::Lost);
     };
-    if outcome.is_err() && !behind.is_empty() {
-        return Err(Refusal::Lost);
+    if let Err(refusal) = outcome {
+        let is_kept = behind.is_empty() || matches!(&refusal, Refusal::OutOfMemory);
+        return Err(if is_kept { refusal } else { Refusal::Lost });
     }
-    outcome?;
     Ok(Vec::from_slice(alloc, behind)?)
 }
 
