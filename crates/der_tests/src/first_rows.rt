@@ -1,7 +1,7 @@
 //! A ticket's part that is built field by field, as a user builds it, and its octets.
 
 use krb_der::{
-    ApplicationTag, Asn1DerError, Asn1SequenceOf, BitStringAsn1, ExplicitContextTag0,
+    ApplicationTag, Asn1DerError, Asn1SequenceOf, BitStringAsn1, Der, ExplicitContextTag0,
     ExplicitContextTag1, ExplicitContextTag2, ExplicitContextTag3, ExplicitContextTag4,
     ExplicitContextTag5, ExplicitContextTag6, ExplicitContextTag7, ExplicitContextTag8,
     ExplicitContextTag9, ExplicitContextTag10, IntegerAsn1, OctetStringAsn1, Optional, from_bytes,
@@ -13,7 +13,7 @@ use krb_types::data_types::{
     KerberosStringAsn1, KerberosTime, PrincipalName, TransitedEncoding,
 };
 use std::alloc::Global;
-use std::test::Fail;
+use std::process::Abort;
 
 /// An EncTicketPart with no optional field.
 const TICKET_PART: [u8; 128] =
@@ -23,90 +23,93 @@ const TICKET_PART: [u8; 128] =
 const OPTIONS: [u8; 55] =
     *b"\xa8\x11\x18\x0f20220107000000Z\xa9\x11\x30\x0f\x30\x0d\xa0\x03\x02\x01\x02\xa1\x06\x04\x04\xc0\x00\x02\x01\xaa\x0f\x30\x0d\x30\x0b\xa0\x03\x02\x01\x01\xa1\x04\x04\x02\xbe\xef";
 
-fn number(alloc: Global, n: u8) -> Result<IntegerAsn1, Asn1DerError> {
-    IntegerAsn1::from_bytes_be_unsigned(alloc, vec![in alloc; n]?)
+fn number(rt: &(impl Abort + AllocGlobal), n: u8) -> IntegerAsn1 {
+    let octets = Vec::from_slice(rt.alloc(), &[n]).expect(rt, "memory");
+    IntegerAsn1::from_bytes_be_unsigned(rt.alloc(), octets).expect(rt, "a number")
 }
 
-fn text(alloc: Global, text: &str) -> Result<KerberosStringAsn1, Asn1DerError> {
-    KerberosStringAsn1::from_string(String::from_str(alloc, text)?)
+fn text(rt: &(impl Abort + AllocGlobal), text: &str) -> KerberosStringAsn1 {
+    let text = String::from_str(rt.alloc(), text).expect(rt, "memory");
+    KerberosStringAsn1::from_string(text).expect(rt, "a text")
 }
 
-fn octets(alloc: Global, octets: &[u8]) -> Result<OctetStringAsn1, Asn1DerError> {
-    Ok(OctetStringAsn1(Vec::from_slice(alloc, octets)?))
+fn octets(rt: &(impl Abort + AllocGlobal), octets: &[u8]) -> OctetStringAsn1 {
+    OctetStringAsn1(Vec::from_slice(rt.alloc(), octets).expect(rt, "memory"))
 }
 
-/// The hour of the last day of 2021.
-fn hour(hour: u8) -> Result<KerberosTime, Asn1DerError> {
-    KerberosTime::new(2021, 12, 31, hour, 0, 0)
+fn list_of<T: Drop>(rt: &(impl Abort + AllocGlobal), item: T) -> Asn1SequenceOf<T> {
+    let mut items = Vec::new(rt.alloc());
+    items.push(item).expect(rt, "memory");
+    Asn1SequenceOf(items)
 }
 
-fn key(alloc: Global) -> Result<EncryptionKey, Asn1DerError> {
+/// The hour of this day.
+fn at(rt: &impl Abort, (year, month, day): (u16, u8, u8), hour: u8) -> KerberosTime {
+    KerberosTime::new(year, month, day, hour, 0, 0).expect(rt, "a time")
+}
+
+fn key(rt: &(impl Abort + AllocGlobal)) -> EncryptionKey {
     let value = [0, 1, 2, 3, 4, 5, 6, 7, 8, 9, 10, 11, 12, 13, 14, 15];
-    Ok(EncryptionKey {
-        key_type: ExplicitContextTag0::from(number(alloc, 17)?),
-        key_value: ExplicitContextTag1::from(octets(alloc, &value)?),
-    })
+    EncryptionKey {
+        key_type: ExplicitContextTag0::from(number(rt, 17)),
+        key_value: ExplicitContextTag1::from(octets(rt, &value)),
+    }
 }
 
-fn client(alloc: Global) -> Result<PrincipalName, Asn1DerError> {
-    Ok(PrincipalName {
-        name_type: ExplicitContextTag0::from(number(alloc, 1)?),
-        name_string: ExplicitContextTag1::from(Asn1SequenceOf(vec![in alloc;
-            text(alloc, "test1")?,
-        ]?)),
-    })
+fn client(rt: &(impl Abort + AllocGlobal)) -> PrincipalName {
+    PrincipalName {
+        name_type: ExplicitContextTag0::from(number(rt, 1)),
+        name_string: ExplicitContextTag1::from(list_of(rt, text(rt, "test1"))),
+    }
 }
 
-fn transited(alloc: Global) -> Result<TransitedEncoding, Asn1DerError> {
-    Ok(TransitedEncoding {
-        tr_type: ExplicitContextTag0::from(number(alloc, 1)?),
-        contents: ExplicitContextTag1::from(octets(alloc, &[])?),
-    })
+fn transited(rt: &(impl Abort + AllocGlobal)) -> TransitedEncoding {
+    TransitedEncoding {
+        tr_type: ExplicitContextTag0::from(number(rt, 1)),
+        contents: ExplicitContextTag1::from(octets(rt, &[])),
+    }
 }
 
-fn addresses(alloc: Global) -> Result<HostAddresses, Asn1DerError> {
+fn addresses(rt: &(impl Abort + AllocGlobal)) -> HostAddresses {
     let address = HostAddress {
-        addr_type: ExplicitContextTag0::from(number(alloc, 2)?),
-        address: ExplicitContextTag1::from(octets(alloc, &[192, 0, 2, 1])?),
+        addr_type: ExplicitContextTag0::from(number(rt, 2)),
+        address: ExplicitContextTag1::from(octets(rt, &[192, 0, 2, 1])),
     };
-    Ok(Asn1SequenceOf(vec![in alloc; address]?))
+    list_of(rt, address)
 }
 
-fn authorization_data(alloc: Global) -> Result<AuthorizationData, Asn1DerError> {
+fn authorization_data(rt: &(impl Abort + AllocGlobal)) -> AuthorizationData {
     let entry = AuthorizationDataInner {
-        ad_type: ExplicitContextTag0::from(number(alloc, 1)?),
-        ad_data: ExplicitContextTag1::from(octets(alloc, &[0xbe, 0xef])?),
+        ad_type: ExplicitContextTag0::from(number(rt, 1)),
+        ad_data: ExplicitContextTag1::from(octets(rt, &[0xbe, 0xef])),
     };
-    Ok(Asn1SequenceOf(vec![in alloc; entry]?))
+    list_of(rt, entry)
 }
 
 /// The part of `TICKET_PART`.
-fn ticket_part(alloc: Global) -> Result<EncTicketPart, Asn1DerError> {
-    Ok(ApplicationTag(EncTicketPartInner {
-        flags: ExplicitContextTag0::from(BitStringAsn1::with_bytes(vec![in alloc; 0, 0, 0, 0]?)),
-        key: ExplicitContextTag1::from(key(alloc)?),
-        crealm: ExplicitContextTag2::from(text(alloc, "EXAMPLE.COM")?),
-        cname: ExplicitContextTag3::from(client(alloc)?),
-        transited: ExplicitContextTag4::from(transited(alloc)?),
-        auth_time: ExplicitContextTag5::from(hour(0)?),
+fn ticket_part(rt: &(impl Abort + AllocGlobal)) -> EncTicketPart {
+    let flags = Vec::from_slice(rt.alloc(), &[0; 4]).expect(rt, "memory");
+    ApplicationTag(EncTicketPartInner {
+        flags: ExplicitContextTag0::from(BitStringAsn1::with_bytes(flags)),
+        key: ExplicitContextTag1::from(key(rt)),
+        crealm: ExplicitContextTag2::from(text(rt, "EXAMPLE.COM")),
+        cname: ExplicitContextTag3::from(client(rt)),
+        transited: ExplicitContextTag4::from(transited(rt)),
+        auth_time: ExplicitContextTag5::from(at(rt, (2021, 12, 31), 0)),
         starttime: Optional(None),
-        endtime: ExplicitContextTag7::from(hour(10)?),
+        endtime: ExplicitContextTag7::from(at(rt, (2021, 12, 31), 10)),
         renew_till: Optional(None),
         caddr: Optional(None),
         authorization_data: Optional(None),
-    }))
+    })
 }
 
 /// Gives a part all its optional fields.
-fn fill(alloc: Global, part: &mut EncTicketPartInner) -> Result<(), Asn1DerError> {
-    let renew_till = KerberosTime::new(2022, 1, 7, 0, 0, 0)?;
-    part.starttime = Optional(Some(ExplicitContextTag6::from(hour(1)?)));
-    part.renew_till = Optional(Some(ExplicitContextTag8::from(renew_till)));
-    part.caddr = Optional(Some(ExplicitContextTag9::from(addresses(alloc)?)));
-    part.authorization_data = Optional(Some(ExplicitContextTag10::from(authorization_data(
-        alloc,
-    )?)));
-    Ok(())
+fn fill(rt: &(impl Abort + AllocGlobal), part: &mut EncTicketPartInner) {
+    part.starttime = Optional(Some(ExplicitContextTag6::from(at(rt, (2021, 12, 31), 1))));
+    part.renew_till = Optional(Some(ExplicitContextTag8::from(at(rt, (2022, 1, 7), 0))));
+    part.caddr = Optional(Some(ExplicitContextTag9::from(addresses(rt))));
+    part.authorization_data = Optional(Some(ExplicitContextTag10::from(authorization_data(rt))));
 }
 
 /// `TICKET_PART` with all optional fields.
@@ -119,19 +122,22 @@ fn filled_octets(alloc: Global) -> Result<Vec<u8>, Asn1DerError> {
     Ok(octets)
 }
 
-/// Whether the part is written as these octets, and read from them.
-fn agrees(alloc: Global, part: &EncTicketPart, octets: &[u8]) -> Result<bool, Asn1DerError> {
-    let read = from_bytes::<EncTicketPart>(alloc, octets)?;
-    Ok(to_vec(alloc, part)?.as_slice() == octets && read == *part)
+/// Whether a value is written as these octets, and read from them.
+fn agrees<T: Der + PartialEq + Drop>(
+    alloc: Global,
+    value: &T,
+    octets: &[u8],
+) -> Result<bool, Asn1DerError> {
+    let read = from_bytes::<T>(alloc, octets)?;
+    Ok(to_vec(alloc, value)?.as_slice() == octets && read == *value)
 }
 
 #[test]
-fn first_rows(rt: HostRuntime) -> Result<(), Fail> {
+fn first_rows(rt: HostRuntime) {
     let alloc = rt.alloc();
-    let mut part = ticket_part(alloc)?;
-    let bare = agrees(alloc, &part, &TICKET_PART)?;
-    fill(alloc, &mut part.0)?;
-    let filled = agrees(alloc, &part, &filled_octets(alloc)?)?;
-    assert!(rt; bare && filled);
-    Ok(())
+    let mut part = ticket_part(&rt);
+    assert!(&rt; agrees(alloc, &part, &TICKET_PART).expect(&rt, "a part"));
+    fill(&rt, &mut part.0);
+    let octets = filled_octets(alloc).expect(&rt, "memory");
+    assert!(&rt; agrees(alloc, &part, &octets).expect(&rt, "a part"));
 }
