@@ -1,99 +1,20 @@
-//! Encodings of the leaves, both ways, and malformed octets with the refusal that the order of faults gives.
+//! Constructors of the leaves and what they give back, equality, and the texts of refusals.
 
 use krb_der::{
-    ApplicationTag, Asn1DerError, Asn1SequenceOf, BitStringAsn1, Der, DerEncode,
-    ExplicitContextTag0, GeneralStringAsn1, GeneralizedTimeAsn1, IntegerAsn1, OctetStringAsn1,
-    Optional, from_bytes, to_vec,
+    Asn1DerError, BitStringAsn1, ExplicitContextTag0, GeneralStringAsn1, GeneralizedTimeAsn1,
+    IntegerAsn1, Optional, from_bytes, to_vec,
 };
+use krb_identifiers::{Asn1RawDer, ObjectIdentifierAsn1};
 use krb_padata::data_types::KerbPaPacRequest;
-use krb_types::data_types::PrincipalName;
 use std::alloc::Global;
 use std::io;
-use std::process::Abort;
 use std::test::Fail;
-
-/// Compares the refusal of these octets, read as a T.
-fn refused<T: Der + Drop>(rt: &impl Abort, alloc: Global, octets: &[u8], variant: &str) {
-    let told = match from_bytes::<T>(alloc, octets) {
-        Ok(_) => "none",
-        Err(Asn1DerError::InvalidData) => "InvalidData",
-        Err(Asn1DerError::TruncatedData) => "TruncatedData",
-        Err(Asn1DerError::UnsupportedValue) => "UnsupportedValue",
-        Err(Asn1DerError::Io(_)) => "Io",
-        Err(Asn1DerError::OutOfMemory) => "OutOfMemory",
-    };
-    assert_eq!(rt; told, variant, "of {octets:?}");
-}
-
-#[test]
-fn malformed_octets(rt: HostRuntime) -> Result<(), Fail> {
-    let alloc = rt.alloc();
-    let rows: [(&[u8], &str); 10] = [
-        (b"\x30\x80\x00\x00", "UnsupportedValue"),
-        (b"\x30\x04\xa0\x80\x00\x00", "UnsupportedValue"),
-        (b"\x30\x05\xa1\x03\x01\x01\xff", "InvalidData"),
-        (b"\x30\x05\xa0\x03\x02\x01\xff", "InvalidData"),
-        (b"\x30\x00", "TruncatedData"),
-        (b"\x30\x05\xa0\x04\x01\x01\xff", "TruncatedData"),
-        (b"\x30\x05\xa0\x03\x01\x02\xff", "TruncatedData"),
-        (b"\x30\x06\xa0\x04\x01\x02\xff\xff", "InvalidData"),
-        (b"\x30\x07\xa0\x03\x01\x01\xff\x05\x00", "InvalidData"),
-        (b"\x31\x05\xa0\x03\x01\x01\xff", "InvalidData"),
-    ];
-    for (octets, variant) in rows {
-        refused::<KerbPaPacRequest>(&rt, alloc, octets, variant);
-    }
-    refused::<PrincipalName>(
-        &rt,
-        alloc,
-        b"\x30\x0d\xa0\x03\x02\x01\x01\xa1\x06\x30\x04\x04\x02\x61\x62",
-        "InvalidData",
-    );
-    let rows: [(&[u8], &str); 4] = [
-        (
-            b"\x04\x89\xff\xff\xff\xff\xff\xff\xff\xff\xff",
-            "UnsupportedValue",
-        ),
-        (b"\x04\x88\xff\xff\xff\xff\xff\xff\xff\xff", "TruncatedData"),
-        (b"\x04\x81\x7f", "InvalidData"),
-        (b"\x04\x81\x05\x00\x00\x00\x00\x00", "InvalidData"),
-    ];
-    for (octets, variant) in rows {
-        refused::<OctetStringAsn1>(&rt, alloc, octets, variant);
-    }
-    let mut zero_in_front = b"\x04\x82\x00\x80".to_vec(alloc)?;
-    zero_in_front.extend_from_slice(&[0; 128])?;
-    refused::<OctetStringAsn1>(&rt, alloc, &zero_in_front, "InvalidData");
-    for octets in [
-        b"\x02\x00".as_slice(),
-        b"\x02\x02\x00\x05",
-        b"\x02\x02\xff\xff",
-    ] {
-        refused::<IntegerAsn1>(&rt, alloc, octets, "InvalidData");
-    }
-    for octets in [
-        b"\x03\x00".as_slice(),
-        b"\x03\x01\x01",
-        b"\x03\x02\x08\x00",
-        b"\x03\x02\x01\x01",
-    ] {
-        refused::<BitStringAsn1>(&rt, alloc, octets, "InvalidData");
-    }
-    refused::<GeneralStringAsn1>(&rt, alloc, b"\x1b\x01\x80", "InvalidData");
-    refused::<GeneralizedTimeAsn1>(&rt, alloc, b"\x18\x0f20211231235960Z", "InvalidData");
-    refused::<bool>(&rt, alloc, b"\x01\x02\xff\xff", "InvalidData");
-    refused::<ApplicationTag<KerbPaPacRequest, 31>>(
-        &rt,
-        alloc,
-        b"\x7f\x07\x30\x05\xa0\x03\x01\x01\xff",
-        "InvalidData",
-    );
-    Ok(())
-}
 
 #[test]
 fn texts_of_refusals(rt: HostRuntime) -> Result<(), Fail> {
-    let rows = [
+    let device = io::Error::from(io::ErrorKind::UnexpectedEof);
+    let told = format!(in rt.alloc(); "reading or writing failed: {device}")?;
+    for (refusal, text) in [
         (
             Asn1DerError::InvalidData,
             "the octets are no encoding of the value's type",
@@ -104,24 +25,49 @@ fn texts_of_refusals(rt: HostRuntime) -> Result<(), Fail> {
             "the encoding is of a form that is not supported",
         ),
         (Asn1DerError::OutOfMemory, "out of memory"),
-    ];
-    for (refusal, text) in rows {
+        (Asn1DerError::Io(device), told.as_str()),
+    ] {
         assert_eq!(rt; format!(in rt.alloc(); "{refusal}")?.as_str(), text);
     }
-    let device = io::Error::from(io::ErrorKind::UnexpectedEof);
-    let told = format!(in rt.alloc(); "reading or writing failed: {device}")?;
-    let refusal = Asn1DerError::Io(device);
-    assert_eq!(rt;
-        format!(in rt.alloc(); "{refusal}")?.as_str(),
-        told.as_str()
-    );
     Ok(())
+}
+
+/// Whether the number of these octets in two's complement is this one, and its encoding these, of which it is read.
+fn is_number(
+    alloc: Global,
+    octets: &[u8],
+    value: i64,
+    encoding: &[u8],
+) -> Result<bool, Asn1DerError> {
+    let number = IntegerAsn1::from_bytes_be_signed(alloc, octets.to_vec(alloc)?)?;
+    let read = from_bytes::<IntegerAsn1>(alloc, encoding)?;
+    Ok(
+        number.to_i64() == Some(value)
+            && number.to_u32() == u32::try_from(value).ok()
+            && to_vec(alloc, &number)?.as_slice() == encoding
+            && read == number,
+    )
+}
+
+/// Whether the number of these octets with no sign has these octets in two's complement, and these values.
+fn is_unsigned(
+    alloc: Global,
+    octets: &[u8],
+    signed: &[u8],
+    small: Option<u32>,
+    large: Option<i64>,
+) -> Result<bool, Asn1DerError> {
+    let number = IntegerAsn1::from_bytes_be_unsigned(alloc, octets.to_vec(alloc)?)?;
+    Ok(
+        number.as_signed_bytes_be() == signed
+            && number.to_u32() == small
+            && number.to_i64() == large,
+    )
 }
 
 /// Whole numbers by their two's complement, from the examples that the standards' guides give.
 #[test]
 fn integers(rt: HostRuntime) -> Result<(), Fail> {
-    let alloc = rt.alloc();
     let rows: [(&[u8], i64, &[u8]); 9] = [
         (&[], 0, b"\x02\x01\x00"),
         (&[0], 0, b"\x02\x01\x00"),
@@ -142,87 +88,100 @@ fn integers(rt: HostRuntime) -> Result<(), Fail> {
         ),
     ];
     for (octets, value, encoding) in rows {
-        let number = IntegerAsn1::from_bytes_be_signed(alloc, octets.to_vec(alloc)?)?;
-        assert_eq!(rt; number.to_i64(), Some(value));
-        assert_eq!(rt; number.to_u32(), u32::try_from(value).ok());
-        assert_eq!(rt; to_vec(alloc, &number)?.as_slice(), encoding);
-        assert!(rt; from_bytes::<IntegerAsn1>(alloc, encoding)? == number);
+        assert!(rt; is_number(rt.alloc(), octets, value, encoding)?);
     }
-    let number = IntegerAsn1::from_bytes_be_unsigned(alloc, [0xff; 4].to_vec(alloc)?)?;
-    assert_eq!(rt;
-        number.as_signed_bytes_be(),
-        [0, 0xff, 0xff, 0xff, 0xff].as_slice()
-    );
-    assert_eq!(rt; number.to_u32(), Some(u32::MAX));
-    let number = IntegerAsn1::from_bytes_be_unsigned(alloc, [0xff; 8].to_vec(alloc)?)?;
-    assert_eq!(rt; number.to_i64(), None);
-    assert_eq!(rt; number.to_u32(), None);
+    let rows: [(&[u8], &[u8], Option<u32>, Option<i64>); 3] = [
+        (
+            &[0xff; 4],
+            &[0, 0xff, 0xff, 0xff, 0xff],
+            Some(u32::MAX),
+            Some(4_294_967_295),
+        ),
+        (
+            &[0xff; 8],
+            &[0, 0xff, 0xff, 0xff, 0xff, 0xff, 0xff, 0xff, 0xff],
+            None,
+            None,
+        ),
+        (
+            &[0x0a, 0xa7, 0x54],
+            &[0x0a, 0xa7, 0x54],
+            Some(698_196),
+            Some(698_196),
+        ),
+    ];
+    for (octets, signed, small, large) in rows {
+        assert!(rt; is_unsigned(rt.alloc(), octets, signed, small, large)?);
+    }
     Ok(())
 }
 
+/// Whether the bits are made of octets and of this many spare bits, and give them back. `None` where they are refused.
+fn bits(alloc: Global, octets: &[u8], spare: u8) -> Result<Option<bool>, Asn1DerError> {
+    match BitStringAsn1::new(octets.to_vec(alloc)?, spare) {
+        Ok(bits) => Ok(Some(bits.octets() == octets && bits.spare_bits() == spare)),
+        Err(_) => Ok(None),
+    }
+}
+
+/// Whether a text is made, and given back. `None` where it is refused.
+fn text(alloc: Global, text: &str) -> Result<Option<bool>, Asn1DerError> {
+    match GeneralStringAsn1::from_string(String::from_str(alloc, text)?) {
+        Ok(made) => Ok(Some(made.as_str() == text)),
+        Err(_) => Ok(None),
+    }
+}
+
+/// Whether a value of any type is made of these octets, and gives them back. `None` where they are refused.
+fn raw(alloc: Global, octets: &[u8]) -> Result<Option<bool>, Asn1DerError> {
+    match Asn1RawDer::new(octets.to_vec(alloc)?) {
+        Ok(made) => Ok(Some(made.as_bytes() == octets)),
+        Err(_) => Ok(None),
+    }
+}
+
 #[test]
-fn strings_and_lists(rt: HostRuntime) -> Result<(), Fail> {
+fn strings(rt: HostRuntime) -> Result<(), Fail> {
     let alloc = rt.alloc();
-    let bits = BitStringAsn1::new([0x6e, 0x5d, 0xc0].to_vec(alloc)?, 6)?;
-    assert_eq!(rt;
-        to_vec(alloc, &bits)?.as_slice(),
-        b"\x03\x04\x06\x6e\x5d\xc0".as_slice()
-    );
-    let read = from_bytes::<BitStringAsn1>(alloc, b"\x03\x04\x06\x6e\x5d\xc0")?;
-    assert_eq!(rt;
-        (read.octets(), read.spare_bits()),
-        ([0x6e, 0x5d, 0xc0].as_slice(), 6)
-    );
-    assert!(rt; read == bits);
-    assert!(rt; BitStringAsn1::new([1].to_vec(alloc)?, 1).is_err());
-    assert!(rt; BitStringAsn1::new(Vec::new(alloc), 1).is_err());
-    assert!(rt; BitStringAsn1::new([0].to_vec(alloc)?, 8).is_err());
-
-    let text = GeneralStringAsn1::from_string(String::from_str(alloc, "test1")?)?;
-    assert_eq!(rt;
-        to_vec(alloc, &text)?.as_slice(),
-        b"\x1b\x05test1".as_slice()
-    );
-    let read = from_bytes::<GeneralStringAsn1>(alloc, b"\x1b\x05test1")?;
-    assert_eq!(rt; read.as_str(), "test1");
-    let beyond = String::from_str(alloc, "caf\u{e9}")?;
-    assert!(rt; GeneralStringAsn1::from_string(beyond).is_err());
-
-    let long = OctetStringAsn1([7; 200].to_vec(alloc)?);
-    let written = to_vec(alloc, &long)?;
-    assert!(rt; written.starts_with(b"\x04\x81\xc8\x07"));
-    assert!(rt; from_bytes::<OctetStringAsn1>(alloc, &written)? == long);
-    let longer = OctetStringAsn1([7; 300].to_vec(alloc)?);
-    let written = to_vec(alloc, &longer)?;
-    assert!(rt; written.starts_with(b"\x04\x82\x01\x2c\x07"));
-    assert!(rt; from_bytes::<OctetStringAsn1>(alloc, &written)? == longer);
-
-    let list = Asn1SequenceOf(vec![in alloc; true, false]?);
-    let mut out = [0x5a].to_vec(alloc)?;
-    list.write(alloc, &mut out)?;
-    assert_eq!(rt;
-        out.as_slice(),
-        b"\x5a\x30\x06\x01\x01\xff\x01\x01\x00".as_slice()
-    );
-    assert!(rt; from_bytes::<Asn1SequenceOf<bool>>(alloc, &out[1..])? == list);
+    let rows: [(&[u8], u8, Option<bool>); 4] = [
+        (&[0x6e, 0x5d, 0xc0], 6, Some(true)),
+        (&[1], 1, None),
+        (&[], 1, None),
+        (&[0], 8, None),
+    ];
+    for (octets, spare, made) in rows {
+        assert!(rt; bits(alloc, octets, spare)? == made);
+    }
+    for (characters, made) in [("test1", Some(true)), ("caf\u{e9}", None)] {
+        assert!(rt; text(alloc, characters)? == made);
+    }
+    let rows: [(&[u8], Option<bool>); 7] = [
+        (b"\x05\x00", Some(true)),
+        (b"", None),
+        (b"\x05", None),
+        (b"\x00\x00", None),
+        (b"\x1f\x00", None),
+        (b"\x05\x00\x00", None),
+        (b"\x05\x81\x00", None),
+    ];
+    for (octets, made) in rows {
+        assert!(rt; raw(alloc, octets)? == made);
+    }
     Ok(())
+}
+
+fn asking(include: bool) -> KerbPaPacRequest {
+    KerbPaPacRequest {
+        include_pac: ExplicitContextTag0::from(include),
+    }
 }
 
 #[test]
 fn clones(rt: HostRuntime) -> Result<(), Fail> {
-    let asked = ApplicationTag::<KerbPaPacRequest, 3>(KerbPaPacRequest {
-        include_pac: ExplicitContextTag0::from(true),
-    });
-    let not_asked = ApplicationTag::<KerbPaPacRequest, 3>(KerbPaPacRequest {
-        include_pac: ExplicitContextTag0::from(false),
-    });
-    assert!(rt; asked.clone()? == asked);
-    assert!(rt; asked != not_asked);
+    assert!(rt; asking(true).clone()? == asking(true) && asking(true) != asking(false));
     let present = Optional(Some(ExplicitContextTag0::from(false)));
     let absent: Optional<Option<ExplicitContextTag0<bool>>> = Optional(None);
-    assert!(rt; present.clone()? == present);
-    assert!(rt; absent.clone()? == absent);
-    assert!(rt; present != absent);
+    assert!(rt; present.clone()? == present && absent.clone()? == absent && present != absent);
     Ok(())
 }
 
@@ -245,10 +204,81 @@ fn dates_that_are_not_real(rt: HostRuntime) {
         (2021, 1, 1, 0, 0, 60, false),
     ] {
         let time = GeneralizedTimeAsn1::new(year, month, day, hour, minute, second);
-        assert_eq!(rt;
-            time.is_ok(),
-            real,
-            "{year}-{month}-{day} {hour}:{minute}:{second}"
-        );
+        let made = match time {
+            Ok(time) => Some(
+                (time.year(), time.month(), time.day()) == (year, month, day)
+                    && (time.hour(), time.minute(), time.second()) == (hour, minute, second),
+            ),
+            Err(_) => None,
+        };
+        assert!(rt; made == real.then_some(true));
     }
+}
+
+/// Whether these arcs have this text and these octets, and are read from them. `None` where they are refused.
+fn identifies(
+    alloc: Global,
+    arcs: &[u64],
+    text: &str,
+    octets: &[u8],
+) -> Result<Option<bool>, Asn1DerError> {
+    let value = match ObjectIdentifierAsn1::from_arcs(alloc, arcs) {
+        Ok(value) => value,
+        Err(Asn1DerError::InvalidData) => return Ok(None),
+        Err(refusal) => return Err(refusal),
+    };
+    let read: ObjectIdentifierAsn1 = from_bytes(alloc, octets)?;
+    Ok(Some(
+        value.arcs() == arcs
+            && value.to_text(alloc)?.as_str() == text
+            && to_vec(alloc, &value)?.as_slice() == octets
+            && read.arcs() == arcs,
+    ))
+}
+
+/// X.690, 8.19.5; RFC 4121, 1; RFC 3279, 2.3.1; RFC 5480, 2.1.1. Two identifiers whose first octets are neighbours, the largest
+/// numbers, and arcs of no identifier.
+#[test]
+fn identifiers(rt: HostRuntime) -> Result<(), Fail> {
+    let rows: [(&[u64], &str, &[u8]); 8] = [
+        (&[2, 100, 3], "2.100.3", b"\x06\x03\x81\x34\x03"),
+        (&[2, 999], "2.999", b"\x06\x02\x88\x37"),
+        (
+            &[1, 2, 840, 113554, 1, 2, 2],
+            "1.2.840.113554.1.2.2",
+            b"\x06\x09\x2a\x86\x48\x86\xf7\x12\x01\x02\x02",
+        ),
+        (
+            &[1, 2, 840, 113549, 1, 1, 1],
+            "1.2.840.113549.1.1.1",
+            b"\x06\x09\x2a\x86\x48\x86\xf7\x0d\x01\x01\x01",
+        ),
+        (
+            &[1, 2, 840, 10045, 3, 1, 7],
+            "1.2.840.10045.3.1.7",
+            b"\x06\x08\x2a\x86\x48\xce\x3d\x03\x01\x07",
+        ),
+        (&[2, 40], "2.40", b"\x06\x01\x78"),
+        (&[1, 39], "1.39", b"\x06\x01\x4f"),
+        (
+            &[2, 18446744073709551535, 18446744073709551615],
+            "2.18446744073709551535.18446744073709551615",
+            b"\x06\x14\x81\xff\xff\xff\xff\xff\xff\xff\xff\x7f\x81\xff\xff\xff\xff\xff\xff\xff\xff\x7f",
+        ),
+    ];
+    for (arcs, text, octets) in rows {
+        assert!(rt; identifies(rt.alloc(), arcs, text, octets)? == Some(true));
+    }
+    let rows: [&[u64]; 6] = [
+        &[],
+        &[1],
+        &[3, 0],
+        &[0, 40],
+        &[1, 40],
+        &[2, 18446744073709551536],
+    ];
+    for arcs in rows {
+        assert!(rt; identifies(rt.alloc(), arcs, "", b"\x06\x01\x4f")?.is_none());
+    }
+    Ok(())
 }

@@ -1,16 +1,10 @@
-//! Tests of the types that have an encoding in DER: octets both ways, octets that are refused, readers and writers; the calls of
-//! messages that are no plain structs; values built field by field. The crate holds tests alone.
+//! Tests of what no row of the program `real_messages` can reach: a value that is built field by field, constructors of leaves,
+//! equality, the texts of refusals and of the codes of a KRB-ERROR. The crate holds tests alone.
 #![tactic(auto)]
 
 #[cfg(test)]
-mod built_values;
-#[cfg(test)]
-mod certificates;
+mod code_texts;
 #[cfg(test)]
 mod first_rows;
 #[cfg(test)]
 mod leaf_rows;
-#[cfg(test)]
-mod message_calls;
-#[cfg(test)]
-mod stream_rows;

@@ -60,7 +60,7 @@ module _ {V : Type 0} (is_value : V → Type 0) (enc : V → List ℕ) (first : 
   -- a run whose words are a command's, and which is refused for no words
   command_run : (words : List (List ℕ)) (command : Command) (e : Failure) (input rest before after : Option (List ℕ)) → IsCommand words command → (e ≡ Words → ⊥)
       → IfSome input (λ octets. (answer : List ℕ) → Answers is_value enc words octets answer → IsOutside e)
-      → (Keeps before after ⊎ ((e ≡ Write) × IfSome input (λ octets. (answer : List ℕ) × Answers is_value enc words octets answer)))
+      → (Keeps before after ⊎ ((e ≡ Write) × IsAtEnd rest × IfSome input (λ octets. (answer : List ℕ) × Answers is_value enc words octets answer)))
       → IsReason is_value enc first fault words input e → IsRun is_value enc first fault words input rest before after (Err e)
   command_run words command e input rest before after is other answered kept because =
       let are : AreWords words = command_words words command is in
@@ -125,12 +125,12 @@ module _ {V : Type 0} (is_value : V → Type 0) (enc : V → List ℕ) (first : 
       (made, answers_from is_value enc words command input made is (subst (λ (k : List ℕ). IsAnswer is_value enc command k made) all held))
 
   pub unwritten_run : (words : List (List ℕ)) (command : Command) (octets made : List ℕ) (input rest before after : Option (List ℕ)) → IsCommand words command
-      → IsAnswer is_value enc command octets made → IfSome input (λ all. octets ≡ all) → IsRun is_value enc first fault words input rest before after (Err Write)
-  unwritten_run words command octets made input rest before after is held all =
+      → IsAnswer is_value enc command octets made → IfSome input (λ all. octets ≡ all) → IsAtEnd rest → IsRun is_value enc first fault words input rest before after (Err Write)
+  unwritten_run words command octets made input rest before after is held all end =
       let answer = known_answer words command octets made input is held all in
       command_run words command Write input rest before after is (λ same. (cc))
       (each_answer words input (λ answer. IsOutside Write) (λ octets answer same held. inr (inr refl)))
-      (inr (refl, answer)) (inr (inr (inl (refl, answer))))
+      (inr (refl, end, answer)) (inr (inr (inl (refl, answer))))
 
   written_answer : (words : List (List ℕ)) (command : Command) (octets made : List ℕ) (input before after : Option (List ℕ)) → IsCommand words command
       → IsAnswer is_value enc command octets made → IfSome input (λ all. octets ≡ all) → Appends before after made

@@ -54,7 +54,7 @@ pub record IsRun {V : Type 0} (is_value : V → Type 0) (enc : V → List ℕ) (
   pub written : OnOk outcome (IfSome input (λ octets. (answer : List ℕ) × Answers is_value enc words octets answer × Appends before after answer))
   -- where there is an answer, it is written, but for memory and devices
   pub answered : IfSome input (λ octets. (answer : List ℕ) → Answers is_value enc words octets answer → MatchResult outcome (λ _. Appends before after answer) IsOutside)
-  -- nothing is written before a refusal, but for one of the writing of an answer
-  pub kept : IfErr outcome (λ e. Keeps before after ⊎ ((e ≡ Write) × IfSome input (λ octets. (answer : List ℕ) × Answers is_value enc words octets answer)))
+  -- nothing is written before a refusal, but for one of the writing of an answer, before which all of the input is read
+  pub kept : IfErr outcome (λ e. Keeps before after ⊎ ((e ≡ Write) × IsAtEnd rest × IfSome input (λ octets. (answer : List ℕ) × Answers is_value enc words octets answer)))
   -- each refusal has its reason
   pub because : IfErr outcome (IsReason is_value enc first fault words input)

@@ -8,8 +8,7 @@ ghost use Rattle.krbtool.specs.Outcome.{IsOutside};
 
 use crate::command::{Command, SealingKey};
 use crate::failure::Failure;
-use krb_der::{Der, DerEncode, from_bytes, to_vec};
-use krb_parts::data_types::EncTicketPart;
+use krb_der::{Der, from_bytes, to_vec};
 use krb_seal::{open_part, seal_part};
 use krb_sha1_suites::aes::{Aes128CtsHmacSha196, Aes256CtsHmacSha196};
 use krb_sha1_suites::des::Des3CbcSha1Kd;
@@ -64,30 +63,30 @@ fn opened<T: Der + Drop>(
 }
 
 /// What the input is sealed to under the key.
-fn sealed_under(
+fn sealed_under<T: Der + Drop>(
     alloc: Global,
     key: &SealingKey,
     confounder: &[u8],
     input: &[u8],
 ) -> Result<Vec<u8>, Failure>
     requires { length confounder.now ≡ confounder_octets_of key.now.suite }
-    ensures found { IfOk result (λ made. IsSealing ⟦<EncTicketPart as DerEncode>⟧.is_value ⟦<EncTicketPart as DerEncode>⟧.enc key.now.suite key.now.octets.items key.now.usage confounder.now input.now made.items) }
-    ensures only { (answer : List ℕ) → IsSealing ⟦<EncTicketPart as DerEncode>⟧.is_value ⟦<EncTicketPart as DerEncode>⟧.enc key.now.suite key.now.octets.items key.now.usage confounder.now input.now answer
+    ensures found { IfOk result (λ made. IsSealing T.is_value T.enc key.now.suite key.now.octets.items key.now.usage confounder.now input.now made.items) }
+    ensures only { (answer : List ℕ) → IsSealing T.is_value T.enc key.now.suite key.now.octets.items key.now.usage confounder.now input.now answer
         → MatchResult result (λ made. made.items ≡ answer) IsOutside }
-    ensures refused { IfErr result (IsUnsealed ⟦<EncTicketPart as DerEncode>⟧.is_value ⟦<EncTicketPart as DerEncode>⟧.enc ⟦<EncTicketPart as DerEncode>⟧.first ⟦<EncTicketPart as DerEncode>⟧.fault (key_octets_of key.now.suite) key.now.octets.items input.now) }
+    ensures refused { IfErr result (IsUnsealed T.is_value T.enc T.first T.fault (key_octets_of key.now.suite) key.now.octets.items input.now) }
 {
     match key.suite {
         CipherSuite::Aes128CtsHmacSha196 => {
-            sealed::<EncTicketPart>(alloc, &Aes128CtsHmacSha196::new(), key, confounder, input)
+            sealed::<T>(alloc, &Aes128CtsHmacSha196::new(), key, confounder, input)
         }
         CipherSuite::Aes256CtsHmacSha196 => {
-            sealed::<EncTicketPart>(alloc, &Aes256CtsHmacSha196::new(), key, confounder, input)
+            sealed::<T>(alloc, &Aes256CtsHmacSha196::new(), key, confounder, input)
         }
         CipherSuite::Des3CbcSha1Kd => {
-            sealed::<EncTicketPart>(alloc, &Des3CbcSha1Kd::new(), key, confounder, input)
+            sealed::<T>(alloc, &Des3CbcSha1Kd::new(), key, confounder, input)
         }
         CipherSuite::Aes128CtsHmacSha256128 => {
-            sealed::<EncTicketPart>(
+            sealed::<T>(
                 alloc,
                 &Aes128CtsHmacSha256128::new(),
                 key,
@@ -96,7 +95,7 @@ fn sealed_under(
             )
         }
         CipherSuite::Aes256CtsHmacSha384192 => {
-            sealed::<EncTicketPart>(
+            sealed::<T>(
                 alloc,
                 &Aes256CtsHmacSha384192::new(),
                 key,
@@ -108,42 +107,48 @@ fn sealed_under(
 }
 
 /// What was sealed to the input under the key.
-fn opened_under(alloc: Global, key: &SealingKey, input: &[u8]) -> Result<Vec<u8>, Failure>
-    ensures found { IfOk result (λ made. IsOpening ⟦<EncTicketPart as DerEncode>⟧.is_value ⟦<EncTicketPart as DerEncode>⟧.enc key.now.suite key.now.octets.items key.now.usage input.now made.items) }
-    ensures only { (answer : List ℕ) → IsOpening ⟦<EncTicketPart as DerEncode>⟧.is_value ⟦<EncTicketPart as DerEncode>⟧.enc key.now.suite key.now.octets.items key.now.usage input.now answer
+fn opened_under<T: Der + Drop>(
+    alloc: Global,
+    key: &SealingKey,
+    input: &[u8],
+) -> Result<Vec<u8>, Failure>
+    ensures found { IfOk result (λ made. IsOpening T.is_value T.enc key.now.suite key.now.octets.items key.now.usage input.now made.items) }
+    ensures only { (answer : List ℕ) → IsOpening T.is_value T.enc key.now.suite key.now.octets.items key.now.usage input.now answer
         → MatchResult result (λ made. made.items ≡ answer) IsOutside }
-    ensures refused { IfErr result (IsUnopened ⟦<EncTicketPart as DerEncode>⟧.is_value ⟦<EncTicketPart as DerEncode>⟧.enc ⟦<EncTicketPart as DerEncode>⟧.first ⟦<EncTicketPart as DerEncode>⟧.fault (fill_octets_of key.now.suite) (IsGiven (IsSealed key.now.suite key.now.octets.items key.now.usage) (confounder_octets_of key.now.suite) input.now) (length key.now.octets.items ≡ key_octets_of key.now.suite) (λ why. why ≡ refusal_of key.now.suite key.now.octets.items input.now)) }
+    ensures refused { IfErr result (IsUnopened T.is_value T.enc T.first T.fault (fill_octets_of key.now.suite) (IsGiven (IsSealed key.now.suite key.now.octets.items key.now.usage) (confounder_octets_of key.now.suite) input.now) (length key.now.octets.items ≡ key_octets_of key.now.suite) (λ why. why ≡ refusal_of key.now.suite key.now.octets.items input.now)) }
 {
     match key.suite {
         CipherSuite::Aes128CtsHmacSha196 => {
-            opened::<EncTicketPart>(alloc, &Aes128CtsHmacSha196::new(), key, input)
+            opened::<T>(alloc, &Aes128CtsHmacSha196::new(), key, input)
         }
         CipherSuite::Aes256CtsHmacSha196 => {
-            opened::<EncTicketPart>(alloc, &Aes256CtsHmacSha196::new(), key, input)
+            opened::<T>(alloc, &Aes256CtsHmacSha196::new(), key, input)
         }
-        CipherSuite::Des3CbcSha1Kd => {
-            opened::<EncTicketPart>(alloc, &Des3CbcSha1Kd::new(), key, input)
-        }
+        CipherSuite::Des3CbcSha1Kd => { opened::<T>(alloc, &Des3CbcSha1Kd::new(), key, input) }
         CipherSuite::Aes128CtsHmacSha256128 => {
-            opened::<EncTicketPart>(alloc, &Aes128CtsHmacSha256128::new(), key, input)
+            opened::<T>(alloc, &Aes128CtsHmacSha256128::new(), key, input)
         }
         CipherSuite::Aes256CtsHmacSha384192 => {
-            opened::<EncTicketPart>(alloc, &Aes256CtsHmacSha384192::new(), key, input)
+            opened::<T>(alloc, &Aes256CtsHmacSha384192::new(), key, input)
         }
     }
 }
 
 /// What the command answers to the input.
-pub fn answer(alloc: Global, command: &Command, input: &[u8]) -> Result<Vec<u8>, Failure>
+pub fn answer<T: Der + Drop>(
+    alloc: Global,
+    command: &Command,
+    input: &[u8],
+) -> Result<Vec<u8>, Failure>
     requires { HasConfounder command.now }
-    ensures found { IfOk result (λ made. IsAnswer ⟦<EncTicketPart as DerEncode>⟧.is_value ⟦<EncTicketPart as DerEncode>⟧.enc command.now input.now made.items) }
-    ensures only { (answer : List ℕ) → IsAnswer ⟦<EncTicketPart as DerEncode>⟧.is_value ⟦<EncTicketPart as DerEncode>⟧.enc command.now input.now answer
+    ensures found { IfOk result (λ made. IsAnswer T.is_value T.enc command.now input.now made.items) }
+    ensures only { (answer : List ℕ) → IsAnswer T.is_value T.enc command.now input.now answer
         → MatchResult result (λ made. made.items ≡ answer) IsOutside }
-    ensures refused { IfErr result (IsRefusal ⟦<EncTicketPart as DerEncode>⟧.is_value ⟦<EncTicketPart as DerEncode>⟧.enc ⟦<EncTicketPart as DerEncode>⟧.first ⟦<EncTicketPart as DerEncode>⟧.fault command.now input.now) }
+    ensures refused { IfErr result (IsRefusal T.is_value T.enc T.first T.fault command.now input.now) }
 {
     match command {
-        Command::Check => checked::<EncTicketPart>(alloc, input),
-        Command::Seal { key, confounder } => sealed_under(alloc, key, confounder, input),
-        Command::Open { key } => opened_under(alloc, key, input),
+        Command::Check => checked::<T>(alloc, input),
+        Command::Seal { key, confounder } => sealed_under::<T>(alloc, key, confounder, input),
+        Command::Open { key } => opened_under::<T>(alloc, key, input),
     }
 }

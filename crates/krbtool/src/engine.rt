@@ -49,7 +49,7 @@ fn perform<R: Read, W: Write>(
 {
     let command = parse(alloc, words)?;
     let octets = read_all(alloc, input)?;
-    let made = answer(alloc, &command, &octets)?;
+    let made = answer::<EncTicketPart>(alloc, &command, &octets)?;
     write_out(output, &made)?;
     Ok(())
 }

@@ -17,91 +17,84 @@ pub const PART: [u8; 128] = [
     0x0f, 0x32, 0x30, 0x32, 0x31, 0x31, 0x32, 0x33, 0x31, 0x31, 0x30, 0x30, 0x30, 0x30, 0x30, 0x5a,
 ];
 
-/// The runs.
-pub const ROWS: [&str; 80] = [
-    // A part in steps of few octets, and over devices that fail at each call in turn.
-    "steps;1;krbtool check;part 128;0;0;",
-    "steps;7;krbtool check;part 128;0;0;",
-    "steps;16;krbtool check;part 128;0;0;",
-    "steps;5;krbtool check;part 127;0;1;der TruncatedData",
-    "steps;1;krbtool check;part 127;0;1;der TruncatedData",
-    "steps;1;krbtool seal;part 128;128;2;",
-    // `check` of the part, of octets behind it, of its fronts and of its flips, of which another decoder of DER counts as many.
-    "once;128;krbtool check;part 128;0;0;",
-    "once;129;krbtool check;part 129;0;1;der InvalidData",
-    "fronts;4096;krbtool check;part 128;0;1;der TruncatedData",
-    "flips;374;krbtool check;part 128;0;1;",
-    "flips;467;krbtool check;part 128;0;1;der InvalidData",
-    "flips;165;krbtool check;part 128;0;1;der TruncatedData",
-    "flips;18;krbtool check;part 128;0;1;der UnsupportedValue",
-    // Words of no command: nothing is read.
-    "once;128;krbtool;part 2;2;2;",
-    "once;128;krbtool Check;part 2;2;2;",
-    "once;128;krbtool check check;part 2;2;2;",
-    "once;128;krbtool seal;part 2;2;2;",
-    "once;128;krbtool open;part 2;2;2;",
-    "once;128;krbtool open 17;part 2;2;2;",
-    "once;128;krbtool open 17 00;part 2;2;2;",
-    "once;128;krbtool open 17 00 5 00;part 2;2;2;",
-    "once;128;krbtool open 17 00 5 00112233445566778899aabbccddeeff;part 2;2;2;",
-    "once;128;krbtool Open 17 00 5;part 2;2;2;",
-    "once;128;krbtool seal 17 00 5;part 2;2;2;",
-    "once;128;krbtool seal 17 00 5 00112233445566778899aabbccddeeff 0;part 2;2;2;",
-    "once;128;krbtool check 17 00 5;part 2;2;2;",
-    "once;128;krbtool open +17 00 5;part 2;2;2;",
-    "once;128;krbtool open -17 00 5;part 2;2;2;",
-    "once;128;krbtool open 0x11 00 5;part 2;2;2;",
-    "once;128;krbtool open aes128 00 5;part 2;2;2;",
-    "once;128;krbtool open 18446744073709551616 00 5;part 2;2;2;",
-    "once;128;krbtool open 17 0 5;part 2;2;2;",
-    "once;128;krbtool open 17 0g 5;part 2;2;2;",
-    "once;128;krbtool open 17 0x00 5;part 2;2;2;",
-    "once;128;krbtool open 17 00 +5;part 2;2;2;",
-    "once;128;krbtool open 17 00 5x;part 2;2;2;",
-    "once;128;krbtool open 17 00 -;part 2;2;2;",
-    "once;128;krbtool open 17 00 2147483648;part 2;2;2;",
-    "once;128;krbtool open 17 00 -2147483649;part 2;2;2;",
-    "once;128;krbtool seal 17 00 5 00112233445566778899aabbccddee;part 2;2;2;",
-    "once;128;krbtool seal 17 00 5 00112233445566778899aabbccddeeff00;part 2;2;2;",
-    "once;128;krbtool seal 17 00 5 00112233445566778899aabbccddeef;part 2;2;2;",
-    "once;128;krbtool seal 17 00 5 00112233445566778899aabbccddeefg;part 2;2;2;",
-    "once;128;krbtool seal 17 0 5 00112233445566778899aabbccddeeff;part 2;2;2;",
-    "once;128;krbtool seal 17 00 x 00112233445566778899aabbccddeeff;part 2;2;2;",
-    "once;128;krbtool seal 18 00 5 0011223344556677;part 2;2;2;",
-    "once;128;krbtool seal 16 00 5 00112233445566;part 2;2;2;",
-    "once;128;krbtool seal 16 00 5 001122334455667788;part 2;2;2;",
-    "once;128;krbtool seal 16 00 5 00112233445566778899aabbccddeeff;part 2;2;2;",
-    "once;128;krbtool seal 19 00 5 0011223344556677;part 2;2;2;",
-    "once;128;krbtool seal 20 00 5 00112233445566778899aabbccddeeff00;part 2;2;2;",
-    "once;128;krbtool check x;part 2;2;2;",
-    "once;128;krbtool  17 00 5;part 2;2;2;",
-    "once;128;krbtool open  00 5;part 2;2;2;",
-    "once;128;krbtool open 17 00 ;part 2;2;2;",
-    // Encryption types that are not known, before whatever stands behind them.
-    "once;128;krbtool open 3 00 2;part 2;2;1;crypto AlgorithmIdentifier",
-    "once;128;krbtool open 0 00 2;part 2;2;1;crypto AlgorithmIdentifier",
-    "once;128;krbtool open 15 00 2;part 2;2;1;crypto AlgorithmIdentifier",
-    "once;128;krbtool open 21 00 2;part 2;2;1;crypto AlgorithmIdentifier",
-    "once;128;krbtool open 18446744073709551615 00 2;part 2;2;1;crypto AlgorithmIdentifier",
-    "once;128;krbtool open 3 x y;part 2;2;1;crypto AlgorithmIdentifier",
-    "once;128;krbtool seal 3 00 2 00112233445566778899aabbccddeeff;part 2;2;1;crypto AlgorithmIdentifier",
-    "once;128;krbtool seal 23 00 2 0011223344556677;part 2;2;1;crypto AlgorithmIdentifier",
-    "once;128;krbtool seal 3 x y z;part 2;2;1;crypto AlgorithmIdentifier",
-    // Why a part is not sealed or opened. The last input is the text `aes256_cts_`, sealed.
-    "once;128;krbtool seal 17 00 5 00112233445566778899aabbccddeeff;part 127;0;1;der TruncatedData",
-    "once;128;krbtool seal 17 00 5 00112233445566778899aabbccddeeff;part 128;0;1;crypto KeyLength",
-    "once;128;krbtool open 17  5;part 128;0;1;crypto KeyLength",
-    "once;128;krbtool open 17 00 5;zeros 27;0;1;crypto CipherLength",
-    "once;128;krbtool open 18 00 5;zeros 28;0;1;crypto KeyLength",
-    "once;128;krbtool open 17 c7c41666445d3a66931377391e8a3fe6 5;zeros 28;0;1;crypto IntegrityCheck",
-    "once;128;krbtool open 19 00 5;zeros 31;0;1;crypto CipherLength",
-    "once;128;krbtool open 19 00 5;zeros 32;0;1;crypto KeyLength",
-    "once;128;krbtool open 20 00 5;zeros 39;0;1;crypto CipherLength",
-    "once;128;krbtool open 20 00 5;zeros 40;0;1;crypto KeyLength",
-    "once;128;krbtool open 16 00 5;zeros 27;0;1;crypto KeyLength",
-    "once;128;krbtool open 16 73f81520e62a9d8a9efe9d910d6e406badcef75d3792a78a 5;zeros 27;0;1;crypto CipherLength",
-    "once;128;krbtool open 16 73f81520e62a9d8a9efe9d910d6e406badcef75d3792a78a 5;zeros 28;0;1;crypto IntegrityCheck",
-    "once;128;krbtool open 16 73f81520e62a9d8a9efe9d910d6e406badcef75d3792a78a 5;zeros 47;0;1;crypto CipherUnpad",
-    "once;128;krbtool open 16 73f81520e62a9d8a9efe9d910d6e406badcef75d3792a78a 5;zeros 52;0;1;crypto IntegrityCheck",
-    "once;128;krbtool open 17 c7c41666445d3a66931377391e8a3fe6 5;hex f99742ceb3db51c972d6e1ceb1a094e74ee9de048686ec018c913504f8bb260b507075d1736691;0;1;der InvalidData",
-];
+/// The runs, a line each.
+pub const ROWS: &str = "steps;1;krbtool check;part 128;0;0;\n\
+steps;7;krbtool check;part 128;0;0;\n\
+steps;16;krbtool check;part 128;0;0;\n\
+steps;5;krbtool check;part 127;0;1;der TruncatedData\n\
+steps;1;krbtool check;part 127;0;1;der TruncatedData\n\
+steps;1;krbtool seal;part 128;128;2;\n\
+once;128;krbtool check;part 128;0;0;\n\
+once;129;krbtool check;part 129;0;1;der InvalidData\n\
+fronts;4096;krbtool check;part 128;0;1;der TruncatedData\n\
+flips;374;krbtool check;part 128;0;1;\n\
+flips;467;krbtool check;part 128;0;1;der InvalidData\n\
+flips;165;krbtool check;part 128;0;1;der TruncatedData\n\
+flips;18;krbtool check;part 128;0;1;der UnsupportedValue\n\
+once;128;krbtool;part 2;2;2;\n\
+once;128;krbtool Check;part 2;2;2;\n\
+once;128;krbtool check check;part 2;2;2;\n\
+once;128;krbtool seal;part 2;2;2;\n\
+once;128;krbtool open;part 2;2;2;\n\
+once;128;krbtool open 17;part 2;2;2;\n\
+once;128;krbtool open 17 00;part 2;2;2;\n\
+once;128;krbtool open 17 00 5 00;part 2;2;2;\n\
+once;128;krbtool open 17 00 5 00112233445566778899aabbccddeeff;part 2;2;2;\n\
+once;128;krbtool Open 17 00 5;part 2;2;2;\n\
+once;128;krbtool seal 17 00 5;part 2;2;2;\n\
+once;128;krbtool seal 17 00 5 00112233445566778899aabbccddeeff 0;part 2;2;2;\n\
+once;128;krbtool check 17 00 5;part 2;2;2;\n\
+once;128;krbtool open +17 00 5;part 2;2;2;\n\
+once;128;krbtool open -17 00 5;part 2;2;2;\n\
+once;128;krbtool open 0x11 00 5;part 2;2;2;\n\
+once;128;krbtool open aes128 00 5;part 2;2;2;\n\
+once;128;krbtool open 18446744073709551616 00 5;part 2;2;2;\n\
+once;128;krbtool open 17 0 5;part 2;2;2;\n\
+once;128;krbtool open 17 0g 5;part 2;2;2;\n\
+once;128;krbtool open 17 0x00 5;part 2;2;2;\n\
+once;128;krbtool open 17 00 +5;part 2;2;2;\n\
+once;128;krbtool open 17 00 5x;part 2;2;2;\n\
+once;128;krbtool open 17 00 -;part 2;2;2;\n\
+once;128;krbtool open 17 00 2147483648;part 2;2;2;\n\
+once;128;krbtool open 17 00 -2147483649;part 2;2;2;\n\
+once;128;krbtool seal 17 00 5 00112233445566778899aabbccddee;part 2;2;2;\n\
+once;128;krbtool seal 17 00 5 00112233445566778899aabbccddeeff00;part 2;2;2;\n\
+once;128;krbtool seal 17 00 5 00112233445566778899aabbccddeef;part 2;2;2;\n\
+once;128;krbtool seal 17 00 5 00112233445566778899aabbccddeefg;part 2;2;2;\n\
+once;128;krbtool seal 17 0 5 00112233445566778899aabbccddeeff;part 2;2;2;\n\
+once;128;krbtool seal 17 00 x 00112233445566778899aabbccddeeff;part 2;2;2;\n\
+once;128;krbtool seal 18 00 5 0011223344556677;part 2;2;2;\n\
+once;128;krbtool seal 16 00 5 00112233445566;part 2;2;2;\n\
+once;128;krbtool seal 16 00 5 001122334455667788;part 2;2;2;\n\
+once;128;krbtool seal 16 00 5 00112233445566778899aabbccddeeff;part 2;2;2;\n\
+once;128;krbtool seal 19 00 5 0011223344556677;part 2;2;2;\n\
+once;128;krbtool seal 20 00 5 00112233445566778899aabbccddeeff00;part 2;2;2;\n\
+once;128;krbtool check x;part 2;2;2;\n\
+once;128;krbtool  17 00 5;part 2;2;2;\n\
+once;128;krbtool open  00 5;part 2;2;2;\n\
+once;128;krbtool open 17 00 ;part 2;2;2;\n\
+once;128;krbtool open 3 00 2;part 2;2;1;crypto AlgorithmIdentifier\n\
+once;128;krbtool open 0 00 2;part 2;2;1;crypto AlgorithmIdentifier\n\
+once;128;krbtool open 15 00 2;part 2;2;1;crypto AlgorithmIdentifier\n\
+once;128;krbtool open 21 00 2;part 2;2;1;crypto AlgorithmIdentifier\n\
+once;128;krbtool open 18446744073709551615 00 2;part 2;2;1;crypto AlgorithmIdentifier\n\
+once;128;krbtool open 3 x y;part 2;2;1;crypto AlgorithmIdentifier\n\
+once;128;krbtool seal 3 00 2 00112233445566778899aabbccddeeff;part 2;2;1;crypto AlgorithmIdentifier\n\
+once;128;krbtool seal 23 00 2 0011223344556677;part 2;2;1;crypto AlgorithmIdentifier\n\
+once;128;krbtool seal 3 x y z;part 2;2;1;crypto AlgorithmIdentifier\n\
+once;128;krbtool seal 17 00 5 00112233445566778899aabbccddeeff;part 127;0;1;der TruncatedData\n\
+once;128;krbtool seal 17 00 5 00112233445566778899aabbccddeeff;part 128;0;1;crypto KeyLength\n\
+once;128;krbtool open 17  5;part 128;0;1;crypto KeyLength\n\
+once;128;krbtool open 17 00 5;zeros 27;0;1;crypto CipherLength\n\
+once;128;krbtool open 18 00 5;zeros 28;0;1;crypto KeyLength\n\
+once;128;krbtool open 17 c7c41666445d3a66931377391e8a3fe6 5;zeros 28;0;1;crypto IntegrityCheck\n\
+once;128;krbtool open 19 00 5;zeros 31;0;1;crypto CipherLength\n\
+once;128;krbtool open 19 00 5;zeros 32;0;1;crypto KeyLength\n\
+once;128;krbtool open 20 00 5;zeros 39;0;1;crypto CipherLength\n\
+once;128;krbtool open 20 00 5;zeros 40;0;1;crypto KeyLength\n\
+once;128;krbtool open 16 00 5;zeros 27;0;1;crypto KeyLength\n\
+once;128;krbtool open 16 73f81520e62a9d8a9efe9d910d6e406badcef75d3792a78a 5;zeros 27;0;1;crypto CipherLength\n\
+once;128;krbtool open 16 73f81520e62a9d8a9efe9d910d6e406badcef75d3792a78a 5;zeros 28;0;1;crypto IntegrityCheck\n\
+once;128;krbtool open 16 73f81520e62a9d8a9efe9d910d6e406badcef75d3792a78a 5;zeros 47;0;1;crypto CipherUnpad\n\
+once;128;krbtool open 16 73f81520e62a9d8a9efe9d910d6e406badcef75d3792a78a 5;zeros 52;0;1;crypto IntegrityCheck\n\
+once;128;krbtool open 17 c7c41666445d3a66931377391e8a3fe6 5;hex f99742ceb3db51c972d6e1ceb1a094e74ee9de048686ec018c913504f8bb260b507075d1736691;0;1;der InvalidData\n";

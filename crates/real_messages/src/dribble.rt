@@ -1,17 +1,38 @@
 //! A reader of few octets at a time.
 
 use std::io;
-use std::io::Read;
+use std::io::{ErrorKind, Read};
 
-/// A reader that gives its octets one at a time.
+/// A reader that gives at most `at_once` of its octets at a time. Where a signal is to come, it interrupts the next read.
 #[derive(Drop)]
 pub struct Dribble<'a> {
     pub left: &'a [u8],
+    pub at_once: usize,
+    pub signals: Signals,
+}
+
+/// Whether signals interrupt reads.
+#[derive(Clone, Copy, PartialEq, Eq)]
+pub enum Signals {
+    /// None of them.
+    Never,
+    /// The next one, and then each other one.
+    Next,
+    /// The one after the next one, and then each other one.
+    Later,
 }
 
 impl<'a> Read for Dribble<'a> {
     fn read(&mut self, buf: &mut [u8]) -> io::Result<usize> {
-        let count = buf.len().min(self.left.len()).min(1);
+        match self.signals {
+            Signals::Never => {}
+            Signals::Next => {
+                self.signals = Signals::Later;
+                return Err(io::Error::from(ErrorKind::Interrupted));
+            }
+            Signals::Later => self.signals = Signals::Next,
+        }
+        let count = buf.len().min(self.left.len()).min(self.at_once);
         let (front, rest) = self.left.split_at(count);
         buf[..count].copy_from_slice(front);
         self.left = rest;

@@ -29,21 +29,20 @@ impl<'a> Read for FaultyReader<'a> {
     }
 }
 
-/// A writer that takes few octets at a time, and fails at a write: `before` writes stand before that one.
+/// A writer that takes few octets at a time, has room for so many of them, and then fails: it wants memory of its own.
 #[derive(Drop)]
-pub struct FaultyWriter {
-    pub before: usize,
-    pub failed: bool,
+pub struct FullWriter {
+    pub room: usize,
 }
 
-impl Write for FaultyWriter {
+impl Write for FullWriter {
     fn write(&mut self, buf: &[u8]) -> io::Result<usize> {
-        if self.before == 0 {
-            self.failed = true;
-            return Err(io::Error::from(ErrorKind::BrokenPipe));
+        if self.room == 0 {
+            return Err(io::Error::from(ErrorKind::OutOfMemory));
         }
-        self.before -= 1;
-        Ok(buf.len().min(AT_ONCE))
+        let count = buf.len().min(self.room).min(AT_ONCE);
+        self.room -= count;
+        Ok(count)
     }
 
     fn flush(&mut self) -> io::Result<()> {

@@ -4,10 +4,11 @@ use crate::row::{Attempt, Row};
 use crate::trial::findings_of;
 use krb_algorithms::{ImplicitContextTag0, ImplicitContextTag1, ImplicitContextTag2};
 use krb_der::{
-    BitStringAsn1, ExplicitContextTag0, GeneralStringAsn1, GeneralizedTimeAsn1, IntegerAsn1,
-    OctetStringAsn1, Utf8StringAsn1,
+    ApplicationTag, BitStringAsn1, ExplicitContextTag0, GeneralStringAsn1, GeneralizedTimeAsn1,
+    IntegerAsn1, OctetStringAsn1, Utf8StringAsn1,
 };
 use krb_identifiers::{Asn1RawDer, ObjectIdentifierAsn1};
+use krb_padata::data_types::KerbPaPacRequest;
 
 /// What is found of the octets as those of a leaf, by its name. `None` where none has it.
 pub fn try_leaf(row: &Row<'_>) -> Attempt {
@@ -29,6 +30,9 @@ pub fn try_leaf(row: &Row<'_>) -> Attempt {
 /// What is found of the octets as those of a leaf under a tag, by its name. `None` where none has it.
 pub fn try_tagged(row: &Row<'_>) -> Attempt {
     match row.name {
+        "ApplicationTag<KerbPaPacRequest, 31>" => Some(findings_of::<
+            ApplicationTag<KerbPaPacRequest, 31>,
+        >(row)),
         "ExplicitContextTag0<IntegerAsn1>" => Some(findings_of::<ExplicitContextTag0<IntegerAsn1>>(
             row,
         )),

@@ -1,18 +1,18 @@
 //! The program `real_messages`: reads and writes octets that come from outside this library.
 //!
-//! Its standard input is a table. A row is a line of an origin, a type and octets in hexadecimal digits, with tabs between; a
-//! line that begins with `#` is none. The rows of servers and clients (MIT Kerberos, Heimdal, Samba) were sent by them, or
-//! stood within what they sent; those of no options and of all options were made by an encoder that has nothing of this
-//! library; worked rows are single examples of an encoding. A row with the name of a refusal in the origin's place is to be
-//! refused so. For each row the program prints a line that says what holds of its octets, in the words of `Findings`, or how
-//! they are refused. The status is 0 where all that should hold does, of every row.
+//! Its standard input is a table. A row is a line of an origin, a type, octets in hexadecimal digits and, in some rows, the
+//! text that `{:?}` writes of the value, with tabs between; a line that begins with `#` is none. The rows of servers and clients
+//! (MIT Kerberos, Heimdal, Samba) were sent by them, or stood within what they sent; those of no options, of all options and of
+//! distinct fields were made by an encoder that has nothing of this library, or by hand; worked rows are single examples of an
+//! encoding. A row with the name of a refusal in the origin's place is to be refused so, also by a reader that gives its octets.
+//! For each row the program prints a line that says what holds of its octets, in the words of `Findings`, or how they are
+//! refused. The status is 0 where all that should hold does, of every row.
 #![tactic(auto)]
 
 mod certificates;
 mod delegation;
 mod dribble;
 mod faulty;
-mod formats;
 mod leaves;
 mod messages;
 mod negotiation;

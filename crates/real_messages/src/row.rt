@@ -1,8 +1,6 @@
 //! A row, and what is found of it.
 
 use krb_der::Asn1DerError;
-use krb_pac::PacError;
-use krb_tokens::GssApiMessageError;
 use std::alloc::{AllocError, Global};
 use std::io;
 use std::io::ErrorKind;
@@ -18,13 +16,15 @@ pub enum Trial {
     Once,
 }
 
-/// Octets, the name of the type that they are read as, and what is tried of them.
+/// Octets, the name of the type that they are read as, and what is tried of them. The text is what `{:?}` writes of the value;
+/// none stands where that is not tried.
 #[derive(Drop)]
 pub struct Row<'a> {
     pub alloc: Global,
     pub trial: Trial,
     pub name: &'a str,
     pub octets: &'a [u8],
+    pub text: &'a str,
 }
 
 /// What holds of octets that were read as a value. `None` where it was not tried.
@@ -32,20 +32,24 @@ pub struct Row<'a> {
 pub struct Findings {
     /// What is written of the value is these octets.
     pub written: Option<bool>,
-    /// Each proper front of them is `TruncatedData`.
+    /// Each proper front of them is `TruncatedData`, and so is a reader of it; of many octets, of each sixteenth front.
     pub cut: Option<bool>,
     /// With one octet more they are `InvalidData`.
     pub longer: Option<bool>,
-    /// A reader that gives one octet at a time gives the same value, and what stands behind it stays unread.
+    /// Readers that give one octet at a time, seven, or all at once give the same value, also where signals interrupt them, and
+    /// what stands behind it stays unread. Octets that are refused are refused so by readers, too.
     pub streamed: Option<bool>,
-    /// A writer gets these octets, and their number is answered.
+    /// A writer gets these octets, behind what it had, and their number is answered.
     pub sent: Option<bool>,
-    /// Where a reader fails at one of its reads, or a writer at one of its writes, each in turn, its fault is the answer.
+    /// Where a reader fails at one of its reads, each in turn, its fault is the answer; so is that of a writer which has room for
+    /// fewer octets, of each number of them (of many octets, each sixteenth), and it is filled.
     pub faulted: Option<bool>,
-    /// What is written of a copy of the value is these octets.
+    /// A copy of the value is equal, and what is written of it is these octets.
     pub copied: Option<bool>,
     /// A vector keeps what stands in front of what is appended, and a writer what it had, where the writing is refused.
     pub kept: Option<bool>,
+    /// What `{:?}` writes of the value is the row's text.
+    pub shown: Option<bool>,
 }
 
 impl Findings {
@@ -59,6 +63,7 @@ impl Findings {
         faulted: None,
         copied: None,
         kept: None,
+        shown: None,
     };
 }
 
@@ -66,8 +71,6 @@ impl Findings {
 #[derive(Debug, Drop)]
 pub enum Refusal {
     Der(Asn1DerError),
-    Token(GssApiMessageError),
-    Pac(PacError),
     Device(io::Error),
     OutOfMemory,
 }
@@ -81,27 +84,6 @@ impl From<Asn1DerError> for Refusal {
             Asn1DerError::OutOfMemory => Refusal::OutOfMemory,
             Asn1DerError::Io(fault) => Refusal::from(fault),
             error => Refusal::Der(error),
-        }
-    }
-}
-
-impl From<GssApiMessageError> for Refusal {
-    fn from(error: GssApiMessageError) -> Refusal {
-        match error {
-            GssApiMessageError::OutOfMemory => Refusal::OutOfMemory,
-            GssApiMessageError::IoError(fault) => Refusal::from(fault),
-            GssApiMessageError::Asn1Error(error) => Refusal::from(error),
-            error => Refusal::Token(error),
-        }
-    }
-}
-
-impl From<PacError> for Refusal {
-    fn from(error: PacError) -> Refusal {
-        match error {
-            PacError::OutOfMemory => Refusal::OutOfMemory,
-            PacError::IoError(fault) => Refusal::from(fault),
-            error => Refusal::Pac(error),
         }
     }
 }
@@ -129,12 +111,6 @@ impl Refusal {
             Refusal::Der(Asn1DerError::TruncatedData) => "TruncatedData",
             Refusal::Der(Asn1DerError::UnsupportedValue) => "UnsupportedValue",
             Refusal::Der(_) => "another refusal of DER",
-            Refusal::Token(GssApiMessageError::InvalidId(..)) => "InvalidId",
-            Refusal::Token(GssApiMessageError::InvalidMechanismOid(..)) => "InvalidMechanismOid",
-            Refusal::Token(_) => "another refusal of a token",
-            Refusal::Pac(PacError::PacBufferType(_)) => "PacBufferType",
-            Refusal::Pac(PacError::InvalidRange) => "InvalidRange",
-            Refusal::Pac(_) => "another refusal of a PAC",
             Refusal::Device(fault) => kind_name(fault.kind()),
             Refusal::OutOfMemory => "OutOfMemory",
         }

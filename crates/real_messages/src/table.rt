@@ -4,7 +4,6 @@ use crate::certificates::{
     try_certificate_reply, try_certificate_request, try_pku2u, try_public_key,
 };
 use crate::delegation::try_delegated;
-use crate::formats::try_format;
 use crate::leaves::{try_leaf, try_tagged};
 use crate::messages::{try_message, try_reply, try_request};
 use crate::negotiation::{try_negotiation, try_token};
@@ -22,11 +21,12 @@ pub struct Report {
     pub held: bool,
 }
 
-/// The origin, the type and the digits of a row.
-fn columns(line: &str) -> Option<(&str, &str, &str)> {
+/// The origin, the type, the digits and the text of a row. The text is empty where none stands.
+fn columns(line: &str) -> Option<(&str, &str, &str, &str)> {
     let (origin, rest) = line.split_once('\t')?;
-    let (name, digits) = rest.split_once('\t')?;
-    Some((origin, name, digits))
+    let (name, rest) = rest.split_once('\t')?;
+    let (digits, text) = rest.split_once('\t').unwrap_or((rest, ""));
+    Some((origin, name, digits, text))
 }
 
 /// What is found of the octets as those of a data type or a message, by its name. `None` where none has it.
@@ -92,24 +92,12 @@ fn try_type(row: &Row<'_>) -> Attempt {
     if let Some(found) = try_kerberos(row) {
         return Some(found);
     }
-    if let Some(found) = try_other(row) {
-        return Some(found);
-    }
-    try_format(row)
+    try_other(row)
 }
 
 /// Whether a row of this origin is to be refused: it has the name of the refusal in the origin's place.
 fn is_refused(origin: &str) -> bool {
-    matches!(
-        origin,
-        "InvalidData"
-            | "TruncatedData"
-            | "UnsupportedValue"
-            | "UnexpectedEof"
-            | "InvalidId"
-            | "InvalidMechanismOid"
-            | "PacBufferType"
-    )
+    matches!(origin, "InvalidData" | "TruncatedData" | "UnsupportedValue")
 }
 
 /// What is tried of a row of this origin.
@@ -164,6 +152,7 @@ fn push_findings(text: &mut String, found: &Findings) -> Result<bool, AllocError
         ("faulted", found.faulted),
         ("copied", found.copied),
         ("kept", found.kept),
+        ("shown", found.shown),
     ] {
         if let Some(held) = finding {
             text.push_str(if held { ", " } else { ", not " })?;
@@ -193,7 +182,7 @@ fn push_outcome(text: &mut String, origin: &str, found: &Attempt) -> Result<bool
 
 /// What is told of the row that a line is. Want of memory is answered as itself, in each of its calls.
 pub fn report_of(alloc: Global, line: &str) -> Result<Report, AllocError> {
-    let Some((origin, name, digits)) = columns(line) else {
+    let Some((origin, name, digits, shown)) = columns(line) else {
         let text = format!(in alloc; "no row: {line}")?;
         return Ok(Report { text, held: false });
     };
@@ -207,6 +196,7 @@ pub fn report_of(alloc: Global, line: &str) -> Result<Report, AllocError> {
         trial: trial_of(origin),
         name,
         octets: &octets,
+        text: shown,
     });
     let held = push_outcome(&mut text, origin, &found)?;
     Ok(Report { text, held })

@@ -1,10 +1,11 @@
 //! What is tried of octets that should be the encoding of a value of a type.
 
-use crate::dribble::Dribble;
-use crate::faulty::{FaultyReader, FaultyWriter};
+use crate::dribble::{Dribble, Signals};
+use crate::faulty::{FaultyReader, FullWriter};
 use crate::row::{Findings, Refusal, Row, Trial};
 use krb_der::{Asn1DerError, Der, copy, from_bytes, from_reader, to_vec, to_writer};
 use std::alloc::Global;
+use std::fmt::Debug;
 use std::io::ErrorKind;
 
 /// What stands behind the octets that a reader gives, and in the vector that octets are appended to.
@@ -13,41 +14,100 @@ const OTHERS: [u8; 2] = [0x30, 0x00];
 /// The octets that a writer has room for which takes no memory.
 const ROOM: usize = 4096;
 
-/// Reads the octets as a T, and says what holds of them. A refusal to read them is answered as it is.
-pub fn findings_of<T: Der + Drop>(row: &Row<'_>) -> Result<Findings, Refusal> {
-    let found = match row.trial {
-        Trial::Once => made_once::<T>(row.alloc, row.octets)?,
-        Trial::Large => tried_at_length::<T>(row.alloc, row.octets)?,
-        Trial::Whole => tried_wholly::<T>(row.alloc, row.octets)?,
+/// Of how many octets each front is given by a reader, and taken by a writer.
+const FEW: usize = 256;
+
+/// How many octets a reader gives at a time, and the signals that interrupt its reads.
+const PACE: (usize, Signals) = (1, Signals::Never);
+
+/// And of few octets.
+const PACES: [(usize, Signals); 4] = [
+    PACE,
+    (1, Signals::Next),
+    (7, Signals::Later),
+    (usize::MAX, Signals::Never),
+];
+
+/// Reads the octets as a T, and says what holds of them. A refusal to read them is answered as it is, where a reader of them is
+/// refused so.
+pub fn findings_of<T: Der + Debug + PartialEq + Drop>(row: &Row<'_>) -> Result<Findings, Refusal> {
+    let value: T = match from_bytes(row.alloc, row.octets) {
+        Ok(value) => value,
+        Err(refusal) => return refused::<T>(row, refusal),
     };
+    let mut found = match row.trial {
+        Trial::Once => made_once::<T>(row.alloc, &value, row.octets)?,
+        Trial::Large => tried_at_length::<T>(row.alloc, &value, row.octets)?,
+        Trial::Whole => tried_wholly::<T>(row.alloc, &value, row.octets)?,
+    };
+    if !row.text.is_empty() {
+        found.shown = Some(format!(in row.alloc; "{value:?}")?.as_str() == row.text);
+    }
     Ok(found)
 }
 
-fn tried_wholly<T: Der + Drop>(alloc: Global, octets: &[u8]) -> Result<Findings, Asn1DerError> {
-    let mut found = tried_at_length::<T>(alloc, octets)?;
-    let value: T = from_bytes(alloc, octets)?;
+/// The refusal of the octets. Where a reader of them is not refused so, that is found.
+fn refused<T: Der + Drop>(row: &Row<'_>, refusal: Asn1DerError) -> Result<Findings, Refusal> {
+    let refusal = Refusal::from(refusal);
+    if row.trial != Trial::Once {
+        for (at_once, signals) in PACES {
+            let mut reader = Dribble {
+                left: row.octets,
+                at_once,
+                signals,
+            };
+            let read = from_reader::<T, _>(row.alloc, &mut reader);
+            let same = match read {
+                Ok(_) => false,
+                Err(other) => Refusal::from(other).name() == refusal.name(),
+            };
+            if !same {
+                return Ok(Findings {
+                    streamed: Some(false),
+                    ..Findings::NONE
+                });
+            }
+        }
+    }
+    Err(refusal)
+}
+
+fn tried_wholly<T: Der + PartialEq + Drop>(
+    alloc: Global,
+    value: &T,
+    octets: &[u8],
+) -> Result<Findings, Asn1DerError> {
+    let mut found = tried_at_length::<T>(alloc, value, octets)?;
+    found.streamed = Some(is_streamed::<T>(alloc, octets, &PACES)?);
     let read = is_faulted_in_reading::<T>(alloc, octets)?;
-    found.faulted = Some(read && is_faulted_in_writing(alloc, &value, octets));
+    found.faulted = Some(read && is_faulted_in_writing(alloc, value, octets));
     found.cut = Some(is_cut::<T>(alloc, octets));
     Ok(found)
 }
 
-fn tried_at_length<T: Der + Drop>(alloc: Global, octets: &[u8]) -> Result<Findings, Asn1DerError> {
-    let value: T = from_bytes(alloc, octets)?;
+fn tried_at_length<T: Der + PartialEq + Drop>(
+    alloc: Global,
+    value: &T,
+    octets: &[u8],
+) -> Result<Findings, Asn1DerError> {
     Ok(Findings {
-        written: Some(is_written(alloc, &value, octets)?),
+        written: Some(is_written(alloc, value, octets)?),
         longer: Some(is_refused_longer::<T>(alloc, octets)?),
-        streamed: Some(is_streamed::<T>(alloc, octets)?),
-        sent: Some(is_sent(alloc, &value, octets)?),
-        copied: Some(is_copied(alloc, &value, octets)?),
+        streamed: Some(is_streamed::<T>(alloc, octets, &[PACE])?),
+        sent: Some(is_sent(alloc, value, octets)?),
+        copied: Some(is_copied(alloc, value, octets)?),
+        kept: Some(is_appended(alloc, value, octets)?),
         ..Findings::NONE
     })
 }
 
-/// The value is read, copied, appended to a vector, given to a writer that takes no memory, and written.
-fn made_once<T: Der + Drop>(alloc: Global, octets: &[u8]) -> Result<Findings, Asn1DerError> {
-    let value: T = from_bytes(alloc, octets)?;
-    let again = copy(alloc, &value)?;
+/// The value is copied, appended to a vector, given to a writer that takes no memory, and written.
+fn made_once<T: Der + Drop>(
+    alloc: Global,
+    value: &T,
+    octets: &[u8],
+) -> Result<Findings, Asn1DerError> {
+    let again = copy(alloc, value)?;
     let kept = is_appended(alloc, &again, octets)? && is_sent_whole(alloc, &again)?;
     Ok(Findings {
         copied: Some(is_written(alloc, &again, octets)?),
@@ -88,14 +148,27 @@ fn is_written<T: Der + Drop>(
     Ok(written.as_slice() == octets)
 }
 
+/// Whether each proper front is cut short, and so in a reader that gives all of it at once.
 fn is_cut<T: Der + Drop>(alloc: Global, octets: &[u8]) -> bool {
     for count in 0..octets.len() {
-        let read = from_bytes::<T>(alloc, &octets[..count]);
-        if !matches!(&read, Err(Asn1DerError::TruncatedData)) {
+        let mut front = &octets[..count];
+        if !is_truncated(&from_bytes::<T>(alloc, front)) {
+            return false;
+        }
+        if is_tried(count, octets) && !is_truncated(&from_reader::<T, _>(alloc, &mut front)) {
             return false;
         }
     }
     true
+}
+
+/// Whether fronts of this many octets are given and taken: of few octets each, of more each sixteenth.
+fn is_tried(count: usize, octets: &[u8]) -> bool {
+    octets.len() <= FEW || count % 16 == 0 || count == octets.len()
+}
+
+fn is_truncated<T>(outcome: &Result<T, Asn1DerError>) -> bool {
+    matches!(outcome, Err(Asn1DerError::TruncatedData))
 }
 
 fn is_refused_longer<T: Der + Drop>(alloc: Global, octets: &[u8]) -> Result<bool, Asn1DerError> {
@@ -105,24 +178,36 @@ fn is_refused_longer<T: Der + Drop>(alloc: Global, octets: &[u8]) -> Result<bool
     Ok(matches!(&read, Err(Asn1DerError::InvalidData)))
 }
 
-fn is_streamed<T: Der + Drop>(alloc: Global, octets: &[u8]) -> Result<bool, Asn1DerError> {
+fn is_streamed<T: Der + Drop>(
+    alloc: Global,
+    octets: &[u8],
+    paces: &[(usize, Signals)],
+) -> Result<bool, Asn1DerError> {
     let mut given = Vec::from_slice(alloc, octets)?;
     given.extend_from_slice(&OTHERS)?;
-    let mut reader = Dribble { left: &given };
-    let value: T = from_reader(alloc, &mut reader)?;
-    let left_behind = reader.left == OTHERS.as_slice();
-    Ok(is_written(alloc, &value, octets)? && left_behind)
+    for (at_once, signals) in paces {
+        let mut reader = Dribble {
+            left: &given,
+            at_once: *at_once,
+            signals: *signals,
+        };
+        let value: T = from_reader(alloc, &mut reader)?;
+        if reader.left != OTHERS.as_slice() || !is_written(alloc, &value, octets)? {
+            return Ok(false);
+        }
+    }
+    Ok(true)
 }
 
 fn is_sent<T: Der + Drop>(alloc: Global, value: &T, octets: &[u8]) -> Result<bool, Asn1DerError> {
-    let mut sent = Vec::new(alloc);
+    let mut sent = Vec::from_slice(alloc, &OTHERS)?;
     let count = to_writer(alloc, value, &mut sent)?;
-    Ok(count == octets.len() && sent.as_slice() == octets)
+    Ok(count == octets.len() && sent.strip_prefix(OTHERS.as_slice()) == Some(octets))
 }
 
 /// Whether this is the fault of a device.
-fn is_fault<T>(outcome: &Result<T, Asn1DerError>) -> bool {
-    matches!(outcome, Err(Asn1DerError::Io(fault)) if fault.kind() == ErrorKind::BrokenPipe)
+fn is_fault<T>(outcome: &Result<T, Asn1DerError>, kind: ErrorKind) -> bool {
+    matches!(outcome, Err(Asn1DerError::Io(fault)) if fault.kind() == kind)
 }
 
 /// Reads until no read is the one that fails.
@@ -140,32 +225,39 @@ fn is_faulted_in_reading<T: Der + Drop>(
         if !reader.failed {
             return is_written(alloc, &read?, octets);
         }
-        if !is_fault(&read) {
+        if !is_fault(&read, ErrorKind::BrokenPipe) {
             return Ok(false);
         }
     }
     Ok(false)
 }
 
-/// Writes until no write is the one that fails.
+/// Writes to writers of each room up to as much as the value wants: each is filled.
 fn is_faulted_in_writing<T: Der + Drop>(alloc: Global, value: &T, octets: &[u8]) -> bool {
-    for before in 0..=octets.len() {
-        let mut writer = FaultyWriter {
-            before,
-            failed: false,
-        };
-        let sent = to_writer(alloc, value, &mut writer);
-        if !writer.failed {
-            return matches!(sent, Ok(count) if count == octets.len());
+    for room in 0..=octets.len() {
+        if !is_tried(room, octets) {
+            continue;
         }
-        if !is_fault(&sent) {
+        let mut writer = FullWriter { room };
+        let sent = to_writer(alloc, value, &mut writer);
+        let told = if room < octets.len() {
+            is_fault(&sent, ErrorKind::OutOfMemory)
+        } else {
+            matches!(sent, Ok(count) if count == room)
+        };
+        if !told || writer.room != 0 {
             return false;
         }
     }
-    false
+    true
 }
 
-fn is_copied<T: Der + Drop>(alloc: Global, value: &T, octets: &[u8]) -> Result<bool, Asn1DerError> {
+/// Whether a copy of the value is equal, and what is written of it is the octets.
+fn is_copied<T: Der + PartialEq + Drop>(
+    alloc: Global,
+    value: &T,
+    octets: &[u8],
+) -> Result<bool, Asn1DerError> {
     let again = copy(alloc, value)?;
-    is_written(alloc, &again, octets)
+    Ok(again == *value && is_written(alloc, &again, octets)?)
 }

@@ -24,7 +24,7 @@ returns-in_err-write_out g c =
     let p = err_from_is_err_and c.from_residual-in_err-write_out.result c.from_residual-in_err-write_out.ensures.1 in
     rw (p.1, p.2, c.in_err-write_out.ensures.refused)
     (unwritten_run _ _ _ _ _ c.in_ok-command.command c.in_ok-octets.octets.items c.in_ok-made.made.items _ _ _ _ c.in_ok-command.ensures.found
-    (rw c.deref.ensures.value at c.in_ok-made.ensures.found) c.in_ok-octets.ensures.read)
+    (rw c.deref.ensures.value at c.in_ok-made.ensures.found) c.in_ok-octets.ensures.read c.in_ok-octets.ensures.end)
 
 pub returns : goal.returns
 returns g c =

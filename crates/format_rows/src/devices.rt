@@ -1,0 +1,97 @@
+//! A reader and a writer of few octets at a time, which fail or are interrupted.
+
+use std::alloc::Global;
+use std::io;
+use std::io::{ErrorKind, Read, Write};
+
+/// Which calls of a device fail.
+#[derive(Clone, Copy, PartialEq, Eq)]
+pub enum Fault {
+    None,
+    /// The one before which so many stand.
+    At(usize),
+    /// Each second one, from the first on, is interrupted by a signal.
+    Interrupted,
+}
+
+/// The fault of the call before which so many stand.
+fn fault_at(fault: Fault, before: usize) -> io::Result<()> {
+    match fault {
+        Fault::At(turn) if turn == before => Err(io::Error::from(ErrorKind::BrokenPipe)),
+        Fault::Interrupted if before % 2 == 0 => Err(io::Error::from(ErrorKind::Interrupted)),
+        _ => Ok(()),
+    }
+}
+
+/// A reader.
+#[derive(Drop)]
+pub struct Source<'a> {
+    pub left: &'a [u8],
+    /// The most octets that a read gives.
+    at_once: usize,
+    fault: Fault,
+    pub reads: usize,
+}
+
+impl<'a> Source<'a> {
+    pub fn new(left: &'a [u8], at_once: usize, fault: Fault) -> Source<'a> {
+        Source {
+            left,
+            at_once,
+            fault,
+            reads: 0,
+        }
+    }
+}
+
+impl<'a> Read for Source<'a> {
+    fn read(&mut self, buf: &mut [u8]) -> io::Result<usize> {
+        let before = self.reads;
+        self.reads = before.saturating_add(1);
+        fault_at(self.fault, before)?;
+        let count = buf.len().min(self.at_once).min(self.left.len());
+        let (front, rest) = self.left.split_at(count);
+        buf[..count].copy_from_slice(front);
+        self.left = rest;
+        Ok(count)
+    }
+}
+
+/// A writer that takes at most three octets at a time, and fails where it has no room.
+#[derive(Drop)]
+pub struct Sink {
+    pub taken: Vec<u8>,
+    room: usize,
+    fault: Fault,
+    writes: usize,
+}
+
+impl Sink {
+    pub fn new(alloc: Global, room: usize, fault: Fault) -> Sink {
+        Sink {
+            taken: Vec::new(alloc),
+            room,
+            fault,
+            writes: 0,
+        }
+    }
+}
+
+impl Write for Sink {
+    fn write(&mut self, buf: &[u8]) -> io::Result<usize> {
+        let before = self.writes;
+        self.writes = before.saturating_add(1);
+        fault_at(self.fault, before)?;
+        let left = self.room.saturating_sub(self.taken.len());
+        if left == 0 {
+            return Err(io::Error::from(ErrorKind::BrokenPipe));
+        }
+        let count = buf.len().min(left).min(3);
+        self.taken.extend_from_slice(&buf[..count])?;
+        Ok(count)
+    }
+
+    fn flush(&mut self) -> io::Result<()> {
+        Ok(())
+    }
+}

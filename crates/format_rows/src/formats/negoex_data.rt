@@ -1,0 +1,218 @@
+//! Types of data of NEGOEX (MS-NEGOEX, 2.2.5).
+
+use crate::devices::{Fault, Sink, Source};
+use crate::row::{Attempt, Findings, Refusal, Row, Trial, name_of};
+use crate::trials::{Format, Streamed, made, tried_slowly};
+use krb_negoex::negoex::NegoexDataType;
+use krb_negoex::negoex::data_types::{
+    AuthSchemeVector, ByteVector, Checksum, Extension, ExtensionVector, Guid, MessageHeader,
+    MessageType,
+};
+use std::alloc::Global;
+use std::fmt::Debug;
+use std::io;
+use std::io::Write;
+
+/// A value of a type of data.
+#[derive(Drop, PartialEq)]
+struct Data<T>(T);
+
+impl<T: NegoexDataType<Error = io::Error> + PartialEq + Debug + Drop> Format for Data<T> {
+    fn read_from(alloc: Global, octets: &[u8]) -> Result<Data<T>, Refusal> {
+        let mut reader = octets;
+        Ok(Data(T::decode(alloc, &mut reader, octets)?))
+    }
+
+    fn again(&self, alloc: Global) -> Result<Data<T>, Refusal> {
+        let mut octets = Vec::new(alloc);
+        self.0.encode(alloc, &mut octets)?;
+        let mut reader = octets.as_slice();
+        Ok(Data(T::decode(alloc, &mut reader, &octets)?))
+    }
+
+    fn write_to<W: Write>(&self, alloc: Global, writer: &mut W) -> Result<(), Refusal> {
+        Ok(self.0.encode(alloc, writer)?)
+    }
+
+    fn shown(&self, alloc: Global) -> Result<String, Refusal> {
+        Ok(format!(in alloc; "{:?}", self.0)?)
+    }
+}
+
+impl<T: NegoexDataType<Error = io::Error> + PartialEq + Debug + Drop> Streamed for Data<T> {
+    fn read_slowly(
+        alloc: Global,
+        octets: &[u8],
+        reader: &mut Source<'_>,
+    ) -> Result<Data<T>, Refusal> {
+        Ok(Data(T::decode(alloc, reader, octets)?))
+    }
+}
+
+/// What two writers of so much room get of a value's fixed part and its payload.
+fn sent_apart<T: NegoexDataType<Error = io::Error>>(
+    alloc: Global,
+    value: &T,
+    rooms: (usize, usize),
+    fault: Fault,
+) -> (Sink, Sink, Result<usize, Refusal>) {
+    let mut writer = Sink::new(alloc, rooms.0, fault);
+    let mut payload_writer = Sink::new(alloc, rooms.1, fault);
+    let outcome = value.encode_with_payload(
+        alloc,
+        T::fixed_len(),
+        &mut writer,
+        &mut payload_writer,
+    );
+    match outcome {
+        Ok(size) => (writer, payload_writer, Ok(size)),
+        Err(fault) => (writer, payload_writer, Err(Refusal::from(fault))),
+    }
+}
+
+/// Whether the fixed part of a value and its payload, which are a row's octets, go to two writers, also where each write is
+/// interrupted. A writer that is full has taken a front of its part, and the payload's then nothing where the other is it.
+fn is_apart<T: NegoexDataType<Error = io::Error>>(alloc: Global, value: &T, octets: &[u8]) -> bool {
+    let Some((fixed, payload)) = octets.split_at_checked(T::fixed_len()) else {
+        return false;
+    };
+    let rooms = (fixed.len(), payload.len());
+    for fault in [Fault::None, Fault::Interrupted] {
+        let (writer, other, outcome) = sent_apart(alloc, value, rooms, fault);
+        let is_whole = matches!(outcome, Ok(size) if size == payload.len());
+        if !is_whole || writer.taken.as_slice() != fixed || other.taken.as_slice() != payload {
+            return false;
+        }
+    }
+    value.size() == octets.len()
+}
+
+/// Whether a full writer's fault is told.
+fn is_full_told<T: NegoexDataType<Error = io::Error>>(
+    alloc: Global,
+    value: &T,
+    octets: &[u8],
+) -> bool {
+    let Some((fixed, payload)) = octets.split_at_checked(T::fixed_len()) else {
+        return false;
+    };
+    for room in 0..octets.len() {
+        let payload_room = room.saturating_sub(fixed.len());
+        let (writer, other, outcome) = sent_apart(alloc, value, (room, payload_room), Fault::None);
+        if name_of(&outcome) != "BrokenPipe"
+            || !fixed.starts_with(&writer.taken)
+            || writer.taken.len() != room.min(fixed.len())
+            || !payload.starts_with(&other.taken)
+            || other.taken.len() != payload_room
+        {
+            return false;
+        }
+    }
+    true
+}
+
+/// What is found of a row whose octets are a value of a type of data.
+fn tried_apart<T: NegoexDataType<Error = io::Error> + PartialEq + Debug + Drop>(
+    row: &Row<'_>,
+) -> Result<Findings, Refusal> {
+    let mut found = tried_slowly::<Data<T>>(row)?;
+    if row.trial == Trial::Whole {
+        let value = Data::<T>::read_from(row.alloc, row.octets)?;
+        found.tell("apart", is_apart(row.alloc, &value.0, row.octets))?;
+        found.tell("full", is_full_told(row.alloc, &value.0, row.octets))?;
+    }
+    Ok(found)
+}
+
+/// What is found of a type of data that has no payload, by its name.
+fn try_fixed(row: &Row<'_>) -> Attempt {
+    match row.name {
+        "data_types::Guid" => Some(tried_apart::<Guid>(row)),
+        "data_types::MessageHeader" => Some(tried_apart::<MessageHeader>(row)),
+        "data_types::MessageType" => Some(tried_apart::<MessageType>(row)),
+        _ => None,
+    }
+}
+
+/// What is found of a vector, by its name.
+fn try_vector(row: &Row<'_>) -> Attempt {
+    match row.name {
+        "data_types::AuthSchemeVector" => Some(tried_apart::<AuthSchemeVector>(row)),
+        "data_types::ByteVector" => Some(tried_apart::<ByteVector>(row)),
+        "data_types::ExtensionVector" => Some(tried_apart::<ExtensionVector>(row)),
+        _ => None,
+    }
+}
+
+/// What is found of a type of data that has a payload and is no vector, by its name.
+fn try_payload(row: &Row<'_>) -> Attempt {
+    match row.name {
+        "data_types::Checksum" => Some(tried_apart::<Checksum>(row)),
+        "data_types::Extension" => Some(tried_apart::<Extension>(row)),
+        "data_types::u8" => Some(tried_apart::<u8>(row)),
+        _ => None,
+    }
+}
+
+/// What is written of a clone.
+fn checksum_cloned(row: &Row<'_>) -> Result<Vec<u8>, Refusal> {
+    let value = Data::<Checksum>::read_from(row.alloc, row.octets)?;
+    let again = value.0.clone(row.alloc)?;
+    if again != value.0 {
+        return Err(Refusal::Otherwise);
+    }
+    let mut octets = Vec::new(row.alloc);
+    again.encode(row.alloc, &mut octets)?;
+    Ok(octets)
+}
+
+/// What is written of a clone.
+fn extension_cloned(row: &Row<'_>) -> Result<Vec<u8>, Refusal> {
+    let value = Data::<Extension>::read_from(row.alloc, row.octets)?;
+    let again = value.0.clone(row.alloc)?;
+    if again != value.0 {
+        return Err(Refusal::Otherwise);
+    }
+    let mut octets = Vec::new(row.alloc);
+    again.encode(row.alloc, &mut octets)?;
+    Ok(octets)
+}
+
+/// What two vectors get, which stand one octet long before, of a vector of a row's octets whose payload stands at 2^32: the fixed part,
+/// and then the payload. Both are to stay where that is refused.
+fn far(row: &Row<'_>) -> Result<Vec<u8>, Refusal> {
+    let octets: ByteVector = Vec::from_slice(row.alloc, row.octets)?;
+    let mut fixed = Vec::from_slice(row.alloc, &[1])?;
+    let mut payload = Vec::from_slice(row.alloc, &[2])?;
+    let outcome = octets.encode_with_payload(row.alloc, 0x1_0000_0000, &mut fixed, &mut payload);
+    if outcome.is_err() && (fixed.len() != 1 || payload.len() != 1) {
+        return Err(Refusal::Lost);
+    }
+    outcome?;
+    fixed.extend_from_slice(&payload)?;
+    Ok(fixed)
+}
+
+/// What is found of a call of a type of data.
+fn try_call(row: &Row<'_>) -> Attempt {
+    match row.name {
+        "Checksum::clone" => Some(made(row, checksum_cloned(row))),
+        "Extension::clone" => Some(made(row, extension_cloned(row))),
+        "ByteVector at 4294967296" => Some(made(row, far(row))),
+        _ => None,
+    }
+}
+
+/// What is found of a type of data of NEGOEX, by its name.
+pub fn try_data(row: &Row<'_>) -> Attempt {
+    if let Some(found) = try_fixed(row) {
+        return Some(found);
+    }
+    if let Some(found) = try_vector(row) {
+        return Some(found);
+    }
+    if let Some(found) = try_payload(row) {
+        return Some(found);
+    }
+    try_call(row)
+}

@@ -1,0 +1,170 @@
+//! PACs, their entries and their buffers (MS-PAC, 2.3 to 2.4).
+
+use crate::devices::Source;
+use crate::row::{Attempt, Findings, Refusal, Row};
+use crate::trials::{Format, Streamed, made, tried_slowly};
+use krb_pac::{Pac, PacBuffer, PacInfoBuffer};
+use std::alloc::Global;
+use std::io::Write;
+
+/// The octets in front of a PAC's entries: a count, and the version.
+const HEADER_LENGTH: usize = 8;
+
+/// The octets of an entry: a type, a size and an offset.
+const ENTRY_LENGTH: usize = 16;
+
+impl Format for Pac {
+    fn read_from(alloc: Global, octets: &[u8]) -> Result<Pac, Refusal> {
+        Ok(Pac::deserialize(alloc, octets)?)
+    }
+
+    fn again(&self, alloc: Global) -> Result<Pac, Refusal> {
+        Ok(self.clone(alloc)?)
+    }
+
+    fn write_to<W: Write>(&self, alloc: Global, writer: &mut W) -> Result<(), Refusal> {
+        Ok(self.serialize(alloc, writer)?)
+    }
+
+    fn shown(&self, alloc: Global) -> Result<String, Refusal> {
+        let mut text = String::new(alloc);
+        for buffer in self.buffers() {
+            let info = buffer.info_buffer();
+            let size = info.cb_buffer_size();
+            let shown = format!(in alloc;
+                " {:?} {size} at {}: {:?}",
+                info.ul_type(),
+                info.offset(),
+                buffer.octets()
+            )?;
+            text.push_str(shown.as_str())?;
+        }
+        Ok(text)
+    }
+}
+
+impl Streamed for Pac {
+    fn read_slowly(alloc: Global, _octets: &[u8], reader: &mut Source<'_>) -> Result<Pac, Refusal> {
+        Ok(Pac::deserialize(alloc, reader)?)
+    }
+}
+
+impl Format for PacInfoBuffer {
+    fn read_from(_alloc: Global, octets: &[u8]) -> Result<PacInfoBuffer, Refusal> {
+        let mut reader = octets;
+        Ok(PacInfoBuffer::deserialize(&mut reader)?)
+    }
+
+    fn again(&self, _alloc: Global) -> Result<PacInfoBuffer, Refusal> {
+        Ok(PacInfoBuffer::new(self.ul_type(), self.cb_buffer_size(), self.offset()))
+    }
+
+    fn write_to<W: Write>(&self, _alloc: Global, writer: &mut W) -> Result<(), Refusal> {
+        Ok(self.serialize(writer)?)
+    }
+
+    fn shown(&self, alloc: Global) -> Result<String, Refusal> {
+        let kind = self.ul_type();
+        Ok(format!(in alloc; "{} {kind:?}", u32::from(kind))?)
+    }
+}
+
+impl Streamed for PacInfoBuffer {
+    fn read_slowly(
+        _alloc: Global,
+        _octets: &[u8],
+        reader: &mut Source<'_>,
+    ) -> Result<PacInfoBuffer, Refusal> {
+        Ok(PacInfoBuffer::deserialize(reader)?)
+    }
+}
+
+/// Has other octets stand in so many from there on.
+fn blank(octets: &mut [u8], from: usize, count: usize) {
+    for octet in octets.iter_mut().skip(from).take(count) {
+        *octet = b'z';
+    }
+}
+
+/// The octets of a PAC in which other octets stand where this entry stood, and where its buffer did.
+fn blanked(row: &Row<'_>, from: usize, info: &PacInfoBuffer) -> Result<Vec<u8>, Refusal> {
+    let mut octets = Vec::from_slice(row.alloc, row.octets)?;
+    blank(&mut octets, from, ENTRY_LENGTH);
+    blank(
+        &mut octets,
+        info.offset() as usize,
+        info.cb_buffer_size() as usize,
+    );
+    Ok(octets)
+}
+
+/// The PAC's octets, from which the entry and the buffer at one position are taken, and into which a clone of them is put at another.
+/// Where that is refused, the position and the octets are to be as before.
+fn moved(row: &Row<'_>, from: usize, to: usize) -> Result<Vec<u8>, Refusal> {
+    let mut position = from;
+    let read = PacBuffer::deserialize(row.alloc, row.octets, &mut position);
+    if read.is_err() && position != from {
+        return Err(Refusal::Lost);
+    }
+    let again = read?.clone(row.alloc)?;
+    let before = blanked(row, from, again.info_buffer())?;
+    let mut octets = Vec::from_slice(row.alloc, &before)?;
+    let mut position = to;
+    let outcome = again.serialize(&mut octets, &mut position);
+    if outcome.is_err() && (position != to || octets != before) {
+        return Err(Refusal::Lost);
+    }
+    outcome?;
+    Ok(octets)
+}
+
+/// What is found of the first buffer of a PAC's octets, which is put where it stood.
+fn put_again(row: &Row<'_>) -> Result<Findings, Refusal> {
+    let octets = moved(row, HEADER_LENGTH, HEADER_LENGTH)?;
+    let mut found = Findings::new(row.alloc);
+    found.tell("made", octets.as_slice() == row.octets)?;
+    Ok(found)
+}
+
+/// The octets of the buffer that is made of an entry at the front of a row's and of what stands behind it.
+fn buffer_anew(row: &Row<'_>) -> Result<Vec<u8>, Refusal> {
+    let mut reader = row.octets;
+    let info = PacInfoBuffer::deserialize(&mut reader)?;
+    let buffer = PacBuffer::new(info, Vec::from_slice(row.alloc, reader)?)?;
+    Ok(Vec::from_slice(row.alloc, buffer.octets())?)
+}
+
+/// What is written of the PAC that is made of clones of the buffers of the row's.
+fn pac_anew(row: &Row<'_>) -> Result<Vec<u8>, Refusal> {
+    let read = Pac::deserialize(row.alloc, row.octets)?;
+    let mut buffers = Vec::new(row.alloc);
+    for buffer in read.buffers() {
+        buffers.push(buffer.clone(row.alloc)?)?;
+    }
+    let mut octets = Vec::new(row.alloc);
+    Pac::new(buffers)?.serialize(row.alloc, &mut octets)?;
+    Ok(octets)
+}
+
+/// What is found of a buffer at a position, or into one.
+fn try_buffer(row: &Row<'_>) -> Attempt {
+    if let Some(position) = row.name.strip_prefix("PacBuffer at ") {
+        let from = position.parse::<usize>().ok()?;
+        return Some(made(row, moved(row, from, from)));
+    }
+    let position = row.name.strip_prefix("PacBuffer into ")?;
+    let to = position.parse::<usize>().ok()?;
+    Some(made(row, moved(row, HEADER_LENGTH, to)))
+}
+
+/// What is found of a PAC, an entry or a buffer, by its name.
+pub fn try_pac(row: &Row<'_>) -> Attempt {
+    match row.name {
+        "Pac" => Some(tried_slowly::<Pac>(row)),
+        "Pac::new" => Some(made(row, pac_anew(row))),
+        "PacInfoBuffer" => Some(tried_slowly::<PacInfoBuffer>(row)),
+        "PacBuffer" => Some(put_again(row)),
+        "PacBuffer::new" => Some(made(row, buffer_anew(row))),
+        _ => try_buffer(row),
+    }
+}

@@ -1,0 +1,114 @@
+//! The rows of the table, and what is told of each.
+
+use crate::formats::try_format;
+use crate::row::{Attempt, Refusal, Row, Trial};
+use hex::FromHexError;
+use std::alloc::{AllocError, Global};
+
+/// What is told of a row, and whether all that was tried held.
+#[derive(Drop)]
+pub struct Report {
+    pub text: String,
+    pub held: bool,
+}
+
+/// The origin, the name and the digits of a row.
+fn columns(line: &str) -> Option<(&str, &str, &str)> {
+    let (origin, rest) = line.split_once('\t')?;
+    let (name, digits) = rest.split_once('\t')?;
+    Some((origin, name, digits))
+}
+
+/// Whether a row of this origin is to be refused: it has the name of the refusal in the origin's place.
+fn is_refused(origin: &str) -> bool {
+    matches!(
+        origin,
+        "InvalidData" | "TruncatedData" | "UnsupportedValue" | "UnexpectedEof" | "InvalidRange"
+    )
+}
+
+/// What is tried of a row of this origin.
+fn trial_of(origin: &str) -> Trial {
+    match origin {
+        "shown" | "large, shown" => Trial::Shown,
+        "large" => Trial::Large,
+        "once" => Trial::Once,
+        _ => Trial::Whole,
+    }
+}
+
+/// Octets in hexadecimal digits, with blanks between parts. A part is digits, or digits, `*` and how many times they stand there.
+fn octets_of(alloc: Global, digits: &str) -> Result<Option<Vec<u8>>, AllocError> {
+    let mut octets = Vec::new(alloc);
+    for part in digits.split(' ') {
+        let (repeated, count) = part.split_once('*').unwrap_or((part, "1"));
+        let (Some(repeated), Ok(count)) = (decoded(alloc, repeated)?, count.parse::<u32>()) else {
+            return Ok(None);
+        };
+        for _ in 0..count {
+            octets.extend_from_slice(&repeated)?;
+        }
+    }
+    Ok(Some(octets))
+}
+
+/// Octets in hexadecimal digits.
+fn decoded(alloc: Global, digits: &str) -> Result<Option<Vec<u8>>, AllocError> {
+    match hex::decode(alloc, digits) {
+        Ok(octets) => Ok(Some(octets)),
+        Err(FromHexError::OutOfMemory) => Err(AllocError),
+        Err(_) => Ok(None),
+    }
+}
+
+/// Appends what is found of the row. Answers whether that is as it should be.
+fn push_outcome(
+    alloc: Global,
+    text: &mut String,
+    origin: &str,
+    found: &Attempt,
+) -> Result<bool, AllocError> {
+    match found {
+        Some(Ok(found)) => {
+            text.push_str(" read")?;
+            text.push_str(found.text.as_str())?;
+            Ok(found.held && !is_refused(origin))
+        }
+        Some(Err(Refusal::OutOfMemory)) => Err(AllocError),
+        Some(Err(refusal)) => {
+            text.push_str(" refused, ")?;
+            text.push_str(refusal.told(alloc)?.as_str())?;
+            Ok(origin == refusal.name())
+        }
+        None => {
+            text.push_str(" no such format")?;
+            Ok(false)
+        }
+    }
+}
+
+/// What is told of the row that a line is. Want of memory is answered as itself, in each of its calls.
+pub fn report_of(alloc: Global, line: &str) -> Result<Report, AllocError> {
+    let Some((origin, name, digits)) = columns(line) else {
+        let text = format!(in alloc; "no row: {line}")?;
+        return Ok(Report { text, held: false });
+    };
+    let (digits, behind) = digits.split_once('=').unwrap_or((digits, digits));
+    let Some(octets) = octets_of(alloc, digits)? else {
+        let text = format!(in alloc; "{origin} {name}: no hexadecimal digits")?;
+        return Ok(Report { text, held: false });
+    };
+    let written = octets_of(alloc, behind)?;
+    let unwritten = if written.is_none() { behind } else { "" };
+    let mut text = format!(in alloc; "{origin} {name} {} octets:", octets.len())?;
+    let found = try_format(&Row {
+        alloc,
+        trial: trial_of(origin),
+        name,
+        octets: &octets,
+        written: written.as_ref().map_or(&[], |octets| octets.as_slice()),
+        unwritten,
+    });
+    let held = push_outcome(alloc, &mut text, origin, &found)?;
+    Ok(Report { text, held })
+}
