@@ -86,6 +86,9 @@ fn has_sizes(cipher: &dyn Cipher) -> bool {
 
 /// Whether the lent calls that encrypt and decrypt answer Toy's octets.
 fn has_octets(alloc: Global, cipher: &dyn Cipher) -> KerberosCryptoResult<bool> {
+    if cipher.confounder_size() != CONFOUNDER.len() {
+        return Ok(false);
+    }
     let encrypted = cipher.encrypt(alloc, &KEY, KEY_USAGE, &PAYLOAD, &CONFOUNDER)?;
     let decrypted = cipher.decrypt(alloc, &KEY, KEY_USAGE, &SEALED)?;
     let bare = cipher.encrypt_no_checksum(alloc, &KEY, KEY_USAGE, &PAYLOAD, &CONFOUNDER)?;
