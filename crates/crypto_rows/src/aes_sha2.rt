@@ -2,8 +2,8 @@
 
 use crate::row::{Answer, Row, aes_block, answer_of};
 use crate::suites::{shut, split};
-use krb_block::AesSize;
 use krb_scheme::aes_sha2;
+use picky_krb::crypto::aes::AesSize;
 use std::alloc::Global;
 
 /// The size of the keys of the suite of this name.

@@ -1,11 +1,12 @@
 //! Blocks, and their modes.
 
 use crate::row::{Answer, Row, aes_block, answer_of, des_block, size_of};
-use krb_block::{AesKey, AesSize, DesKey, KerberosCryptoResult};
-use krb_sha1_suites::aes::{
-    decrypt_aes_cbc, decrypt_aes_cts, encrypt_aes_cbc, encrypt_aes_cts, swap_two_last_blocks,
+use picky_krb::crypto::KerberosCryptoResult;
+use picky_krb::crypto::aes::{
+    AesKey, AesSize, decrypt_aes_cbc, decrypt_aes_cts, encrypt_aes_cbc, encrypt_aes_cts,
+    swap_two_last_blocks,
 };
-use krb_sha1_suites::des::{decrypt_des, encrypt_des};
+use picky_krb::crypto::des::{DesKey, decrypt_des, encrypt_des};
 use std::alloc::Global;
 
 fn aes_encrypted(

@@ -1,7 +1,7 @@
 //! HMAC, n-fold, PBKDF2 and the KDF of RFC 8009.
 
 use crate::row::{Answer, Row, answer_of};
-use krb_block::{
+use picky_krb::crypto::{
     KerberosCryptoResult, hmac_sha1, hmac_sha256, hmac_sha384, kdf_hmac_sha256, kdf_hmac_sha384,
     n_fold, pbkdf2_hmac_sha1, pbkdf2_hmac_sha256, pbkdf2_hmac_sha384,
 };

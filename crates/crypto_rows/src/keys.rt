@@ -2,7 +2,7 @@
 
 use crate::aes_sha2::try_aes_sha2;
 use crate::row::{Answer, Row, answer_of, size_of};
-use krb_sha1_suites::{aes, des};
+use picky_krb::crypto::{aes, des};
 use std::alloc::Global;
 
 /// Calls of keys of triple DES (RFC 3961, 6.3).
@@ -42,6 +42,10 @@ fn try_aes_key(alloc: Global, row: &Row) -> Answer {
             alloc,
             aes::derive_key_from_password(alloc, &row.key, &row.beside, &size),
         ),
+        "random_to_key" => match Vec::from_slice(alloc, &row.input) {
+            Ok(seed) => answer_of(alloc, Ok(aes::random_to_key(seed))),
+            Err(_) => None,
+        },
         _ => None,
     }
 }

@@ -12,11 +12,14 @@ mod blocks;
 mod hashes;
 mod keys;
 mod messages;
+mod numbers;
+mod parts;
 mod row;
 mod suites;
 mod sweeps;
 mod table;
 mod tables;
+mod texts;
 
 use std::io;
 use std::io::{BufRead, BufReader};

@@ -3,7 +3,7 @@
 use crate::aes_sha2::try_aes_sha2;
 use crate::row::{Answer, Row, aes_block, answer_of, des_block, size_of};
 use crate::suites::{shut, split};
-use krb_sha1_suites::{aes, des};
+use picky_krb::crypto::{aes, des};
 use std::alloc::Global;
 
 /// Calls of triple DES (RFC 3961, 5.3 and 6.3).

@@ -1,6 +1,7 @@
 //! A row of the table.
 
-use krb_block::{AesSize, KerberosCryptoResult};
+use picky_krb::crypto::KerberosCryptoResult;
+use picky_krb::crypto::aes::AesSize;
 use std::alloc::Global;
 
 /// What a call is given.

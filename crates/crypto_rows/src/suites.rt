@@ -1,14 +1,14 @@
 //! Calls of a suite that is lent, by its name or its number.
 
+use crate::numbers::{number_of, sizes_of};
+use crate::parts::{try_agreement, try_part};
 use crate::row::{Answer, Row, answer_of};
-use krb_sha1_suites::aes::{
-    Aes128CtsHmacSha196, Aes256CtsHmacSha196, HmacSha196Aes128, HmacSha196Aes256,
+use picky_krb::crypto::aes::{
+    Aes128CtsHmacSha196, Aes128CtsHmacSha256128, Aes256CtsHmacSha196, Aes256CtsHmacSha384192,
+    HmacSha196Aes128, HmacSha196Aes256, HmacSha256128Aes128, HmacSha384192Aes256,
 };
-use krb_sha1_suites::des::{Des3CbcSha1Kd, HmacSha1Des3Kd};
-use krb_sha2_suites::aes_sha2::{
-    Aes128CtsHmacSha256128, Aes256CtsHmacSha384192, HmacSha256128Aes128, HmacSha384192Aes256,
-};
-use krb_suite::{
+use picky_krb::crypto::des::{Des3CbcSha1Kd, HmacSha1Des3Kd};
+use picky_krb::crypto::{
     Checksum, ChecksumSuite, Cipher, CipherSuite, DecryptWithoutChecksum, EncryptWithoutChecksum,
     KerberosCryptoResult,
 };
@@ -104,6 +104,9 @@ fn try_cipher(alloc: Global, cipher: &dyn Cipher, row: &Row) -> Answer {
     match row.call {
         "encrypt" | "encrypt_no_checksum" => try_sealing(alloc, cipher, row),
         "generate_key_from_password" | "seed_to_key" => try_making(alloc, cipher, row),
+        "sizes" => Some(sizes_of(alloc, cipher)),
+        "agree" => try_agreement(alloc, cipher, row),
+        "seal_part" | "open_part" | "large_part" => try_part(alloc, cipher, row),
         _ => try_opening(alloc, cipher, row),
     }
 }
@@ -134,6 +137,9 @@ pub fn try_suite(alloc: Global, row: &Row) -> Answer {
 }
 
 fn sum_of(alloc: Global, checksum: &dyn Checksum, row: &Row) -> Answer {
+    if row.call == "checksum_type" {
+        return Some(number_of(alloc, u8::from(checksum.checksum_type())));
+    }
     let sum = checksum.checksum(alloc, &row.key, row.number, &row.input);
     answer_of(alloc, sum)
 }
@@ -151,9 +157,6 @@ fn try_sha2_checksum(alloc: Global, row: &Row) -> Answer {
 
 /// The call of a checksum (RFC 3961, 4).
 pub fn try_checksum(alloc: Global, row: &Row) -> Answer {
-    if row.call != "checksum" {
-        return None;
-    }
     match row.suite {
         "aes128" => sum_of(alloc, &HmacSha196Aes128, row),
         "aes256" => sum_of(alloc, &HmacSha196Aes256, row),

@@ -1,10 +1,9 @@
 //! Octets near those of a row, opened one after another.
 
 use crate::row::{Answer, Row};
-use krb_sha1_suites::aes::Aes128CtsHmacSha196;
-use krb_sha1_suites::des::Des3CbcSha1Kd;
-use krb_sha2_suites::aes_sha2::{Aes128CtsHmacSha256128, Aes256CtsHmacSha384192};
-use krb_suite::{Cipher, KerberosCryptoError, KerberosCryptoResult};
+use picky_krb::crypto::aes::{Aes128CtsHmacSha196, Aes128CtsHmacSha256128, Aes256CtsHmacSha384192};
+use picky_krb::crypto::des::Des3CbcSha1Kd;
+use picky_krb::crypto::{Cipher, KerberosCryptoError, KerberosCryptoResult};
 use std::alloc::{AllocError, Global};
 
 /// Answers in turn, each with how often it came without another between.

@@ -5,10 +5,12 @@ use crate::blocks::{try_block, try_mode};
 use crate::hashes::{try_fold, try_hmac, try_kdf, try_stretching};
 use crate::keys::try_key;
 use crate::messages::try_message;
+use crate::numbers::try_number;
 use crate::row::{Answer, Row};
 use crate::suites::{try_checksum, try_suite};
 use crate::sweeps::try_sweep;
 use crate::tables::try_table;
+use crate::texts::try_text;
 use std::alloc::{AllocError, Global};
 
 /// The octets of a row.
@@ -55,7 +57,11 @@ fn try_row(alloc: Global, row: &Row) -> Answer {
         | "encrypt_message_no_checksum"
         | "decrypt_message_no_checksum"
         | "checksum_sha_aes" => try_message(alloc, row),
-        "checksum" => try_checksum(alloc, row),
+        "checksum" | "checksum_type" => try_checksum(alloc, row),
+        "cipher_suite" | "checksum_suite" | "usage_ke" | "usage_ki" | "usage_kc" | "constants" => {
+            try_number(alloc, row)
+        }
+        "text" => try_text(alloc, row.suite),
         "flips" | "fronts" => try_sweep(alloc, row),
         "word_table" => try_table(alloc, row),
         "encrypt"
@@ -64,7 +70,12 @@ fn try_row(alloc: Global, row: &Row) -> Answer {
         | "decrypt_no_checksum"
         | "encryption_checksum"
         | "generate_key_from_password"
-        | "seed_to_key" => try_suite(alloc, row),
+        | "seed_to_key"
+        | "sizes"
+        | "agree"
+        | "seal_part"
+        | "open_part"
+        | "large_part" => try_suite(alloc, row),
         _ => try_mode(alloc, row),
     }
 }

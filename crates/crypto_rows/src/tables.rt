@@ -1,8 +1,8 @@
 //! The tables of words by which AES and DES are computed.
 
 use crate::row::{Answer, Row, answer_of};
-use krb_block::KerberosCryptoResult;
 use krb_block::word_tables::{D0, D1, D2, D3, JOINED, T0, T1, T2, T3};
+use picky_krb::crypto::KerberosCryptoResult;
 use std::alloc::Global;
 
 /// The octets of the words, the highest first.

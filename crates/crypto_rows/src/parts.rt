@@ -1,0 +1,64 @@
+//! Sealed parts, and keys of shared secrets, by a cipher that is lent.
+
+use crate::row::{Answer, Row, answer_of};
+use picky_krb::crypto::diffie_hellman::{DhNonce, generate_key_from_shared_secret};
+use picky_krb::crypto::{Cipher, KerberosCryptoResult};
+use picky_krb::der::OctetStringAsn1;
+use picky_krb::seal::{PartError, open_part, seal_part};
+use std::alloc::{AllocError, Global};
+
+/// What a part answers: an octet string is its octets.
+fn told(alloc: Global, answer: Result<Vec<u8>, PartError>) -> KerberosCryptoResult<String> {
+    match answer {
+        Ok(octets) => Ok(hex::encode(alloc, &octets)?),
+        Err(PartError::Crypto(refusal)) => Err(refusal),
+        Err(refusal) => Ok(format!(in alloc; "refused, {refusal:?}")?),
+    }
+}
+
+/// The octets of an octet string that is opened.
+fn opened(alloc: Global, cipher: &dyn Cipher, row: &Row) -> Result<Vec<u8>, PartError> {
+    let part: OctetStringAsn1 = open_part(alloc, cipher, &row.key, row.number, &row.input)?;
+    Ok(part.0)
+}
+
+/// An octet string of as many octets as the row's number, sealed under key usage 2: how many octets it has then, and whether it opens.
+fn try_large_part(alloc: Global, cipher: &dyn Cipher, row: &Row) -> Answer {
+    if row.beside.len() != cipher.confounder_size() {
+        return None;
+    }
+    let count = usize::try_from(row.number).ok()?;
+    let part = OctetStringAsn1(vec![in alloc; 0x5a; count].ok()?);
+    let sealed = seal_part(alloc, cipher, &row.key, 2, &row.beside, &part).ok()?;
+    let again: OctetStringAsn1 = open_part(alloc, cipher, &row.key, 2, &sealed).ok()?;
+    let (octets, is_opened) = (sealed.len(), again == part);
+    Some(Ok(format!(in alloc; "{octets} octets, opened: {is_opened}").ok()?))
+}
+
+/// Calls of parts.
+pub fn try_part(alloc: Global, cipher: &dyn Cipher, row: &Row) -> Answer {
+    match row.call {
+        "open_part" => Some(told(alloc, opened(alloc, cipher, row))),
+        "large_part" => try_large_part(alloc, cipher, row),
+        _ => None,
+    }
+}
+
+/// The key of a shared secret. A row of the number 1 has the client's nonce beside the input, which is the server's.
+fn agreed(alloc: Global, cipher: &dyn Cipher, row: &Row) -> Result<Option<Vec<u8>>, AllocError> {
+    let secret = Vec::from_slice(alloc, &row.key)?;
+    let nonce = if row.number == 1 {
+        Some(DhNonce {
+            client_nonce: &row.beside,
+            server_nonce: &row.input,
+        })
+    } else {
+        None
+    };
+    Ok(generate_key_from_shared_secret(alloc, secret, nonce, cipher).ok())
+}
+
+/// The call of a key of a shared secret: RFC 4556, 3.2.3.1.
+pub fn try_agreement(alloc: Global, cipher: &dyn Cipher, row: &Row) -> Answer {
+    answer_of(alloc, Ok(agreed(alloc, cipher, row).ok()??))
+}
