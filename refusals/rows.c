@@ -1,5 +1,5 @@
-/* Has the program real_messages or format_rows read, copy and write the octets of each row of its table, with its requests for memory refused, and
- * of a PAC its first buffer alone too. The argument is that table. */
+/* Has the program real_messages or format_rows read, copy and write the octets of each row of its table, with its requests for memory
+ * refused, and of a PAC its first buffer alone too. The argument is that table. */
 #include "runs.h"
 
 /* The statuses of these programs on a row of the origin `once`: it was read and all held, or it was refused. */
