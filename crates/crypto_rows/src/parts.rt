@@ -3,23 +3,27 @@
 use crate::row::{Answer, Row, answer_of};
 use picky_krb::crypto::diffie_hellman::{DhNonce, generate_key_from_shared_secret};
 use picky_krb::crypto::{Cipher, KerberosCryptoResult};
-use picky_krb::der::OctetStringAsn1;
+use picky_krb::der::{Asn1RawDer, OctetStringAsn1, from_bytes};
 use picky_krb::seal::{PartError, open_part, seal_part};
 use std::alloc::{AllocError, Global};
 
-/// What a part answers: an octet string is its octets.
-fn told(alloc: Global, answer: Result<Vec<u8>, PartError>) -> KerberosCryptoResult<String> {
-    match answer {
-        Ok(octets) => Ok(hex::encode(alloc, &octets)?),
+/// The octets of the value that a part is opened to, of any type.
+fn opened(alloc: Global, cipher: &dyn Cipher, row: &Row) -> KerberosCryptoResult<String> {
+    match open_part::<Asn1RawDer>(alloc, cipher, &row.key, row.number, &row.input) {
+        Ok(part) => Ok(hex::encode(alloc, part.as_bytes())?),
         Err(PartError::Crypto(refusal)) => Err(refusal),
         Err(refusal) => Ok(format!(in alloc; "refused, {refusal:?}")?),
     }
 }
 
-/// The octets of an octet string that is opened.
-fn opened(alloc: Global, cipher: &dyn Cipher, row: &Row) -> Result<Vec<u8>, PartError> {
-    let part: OctetStringAsn1 = open_part(alloc, cipher, &row.key, row.number, &row.input)?;
-    Ok(part.0)
+/// What the value of these octets, of any type, is sealed to.
+fn try_sealing(alloc: Global, cipher: &dyn Cipher, row: &Row) -> Answer {
+    if row.beside.len() != cipher.confounder_size() {
+        return None;
+    }
+    let part: Asn1RawDer = from_bytes(alloc, &row.input).ok()?;
+    let sealed = seal_part(alloc, cipher, &row.key, row.number, &row.beside, &part).ok()?;
+    answer_of(alloc, Ok(sealed))
 }
 
 /// An octet string of as many octets as the row's number, sealed under key usage 2: how many octets it has then, and whether it opens.
@@ -38,7 +42,8 @@ fn try_large_part(alloc: Global, cipher: &dyn Cipher, row: &Row) -> Answer {
 /// Calls of parts.
 pub fn try_part(alloc: Global, cipher: &dyn Cipher, row: &Row) -> Answer {
     match row.call {
-        "open_part" => Some(told(alloc, opened(alloc, cipher, row))),
+        "open_part" => Some(opened(alloc, cipher, row)),
+        "seal_part" => try_sealing(alloc, cipher, row),
         "large_part" => try_large_part(alloc, cipher, row),
         _ => None,
     }
