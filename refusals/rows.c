@@ -1,4 +1,4 @@
-/* Has the program real_messages or format_rows read, copy and write the octets of each row of its table, with its requests for memory
+/* Has the program test_messages or test_formats read, copy and write the octets of each row of its table, with its requests for memory
  * refused, and of a PAC its first buffer alone too. The argument is that table. */
 #include "runs.h"
 

@@ -5,11 +5,11 @@ use Rattle.std.proofs.lemmas.List.{map-append, length-map, drop-map, take-append
 use Rattle.std.proofs.Math.Facts.{Fits-xor}
 use Rattle.std.specs.Int.Bits.{xor_assoc, xor_self, xor_zero_r}
 use Rattle.std.specs.List.{take-map}
-use Rattle.krb_mac.specs.CryptoError.{IsMemoryOr}
-use Rattle.krb_mac.specs.declared.error.KerberosCryptoError.{KerberosCryptoError}
+use Rattle.krb_crypto_hash.specs.CryptoError.{IsMemoryOr}
+use Rattle.krb_crypto_hash.specs.declared.error.KerberosCryptoError.{KerberosCryptoError}
 use Rattle.krb_der.specs.Encoding.{IsOctets}
-use Rattle.krb_block.specs.Modes.{IsFill}
-use Rattle.krb_scheme.specs.Sealing.{IsGiven, IsOfNone, IsSplit, Enciphers, Deciphers, Opens}
+use Rattle.krb_crypto_block.specs.Modes.{IsFill}
+use Rattle.krb_crypto_message.specs.Sealing.{IsGiven, IsOfNone, IsSplit, Enciphers, Deciphers, Opens}
 use Rattle.examples.specs.Toy.{IsToy}
 
 -- ---- octets

@@ -1,9 +1,9 @@
 -- What the cipher of the tests writes.
 use Rattle.std.specs.Prelude.{◌≡◌, ◌≢◌, ◌<◌, ◌≤◌, ◌%◌, ◌⊎◌, ℕ, List, [], ◌∷◌, ◌++◌, length, map, bit_xor}
-use Rattle.krb_mac.specs.declared.error.KerberosCryptoError.{KerberosCryptoError}
-use Rattle.krb_mac.specs.declared.error.KerberosCryptoError.TheVariants.{CipherLength, CipherUnpad, KeyLength}
+use Rattle.krb_crypto_hash.specs.declared.error.KerberosCryptoError.{KerberosCryptoError}
+use Rattle.krb_crypto_hash.specs.declared.error.KerberosCryptoError.TheVariants.{CipherLength, CipherUnpad, KeyLength}
 use Rattle.krb_der.specs.Encoding.{IsOctets}
-use Rattle.krb_block.specs.Modes.{IsFill}
+use Rattle.krb_crypto_block.specs.Modes.{IsFill}
 
 -- The confounder and the payload, filled to a multiple of four octets, each combined with the key's one octet.
 pub record IsToy (key confounder payload octets : List ℕ) : Type 0 where

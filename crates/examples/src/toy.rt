@@ -2,7 +2,7 @@
 
 ghost use Rattle.std.specs.Prelude.{◌≡◌, ◌≢◌, ◌<◌, ◌≤◌, ◌+◌, ◌*◌, ◌%◌, ℕ, List, [], ◌∷◌, ◌++◌, length, take, map, bit_xor, replicate, IfOk, MatchResult};
 ghost use Rattle.krb_der.specs.Encoding.{IsOctets};
-ghost use Rattle.krb_block.specs.Modes.{IsFill};
+ghost use Rattle.krb_crypto_block.specs.Modes.{IsFill};
 ghost use Rattle.examples.specs.Toy.{IsToy, IsToyRefusal, IsToyUnopened};
 
 use picky_krb::crypto::{
@@ -69,8 +69,8 @@ fn check_blocks(octets: &[u8]) -> KerberosCryptoResult<()>
 }
 
 impl Cipher for Toy {
-    ghost use Rattle.krb_suite.specs.declared.cipher_suite.CipherSuite.TheVariants.{Aes128CtsHmacSha196};
-    ghost use Rattle.krb_suite.specs.declared.checksum_suite.ChecksumSuite.TheVariants.{HmacSha196Aes128};
+    ghost use Rattle.krb_crypto_suite.specs.declared.cipher_suite.CipherSuite.TheVariants.{Aes128CtsHmacSha196};
+    ghost use Rattle.krb_crypto_suite.specs.declared.checksum_suite.ChecksumSuite.TheVariants.{HmacSha196Aes128};
 
     ghost meaning = { λ _ key _ confounder payload octets. IsToy key confounder payload octets };
 

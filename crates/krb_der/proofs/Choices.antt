@@ -1,14 +1,14 @@
 -- How a refusal of one type becomes one of a choice of two.
 use Rattle.std.proofs.Common.{◌≡◌, ℕ, List, ◌⊎◌, inl, inr, sym, ◌∙◌}
-use Rattle.krb_leaves.specs.declared.error.Asn1DerError.{Asn1DerError}
-use Rattle.krb_leaves.specs.declared.error.Asn1DerError.TheVariants as errors
-use Rattle.krb_leaves.specs.Tlv.{tlv}
-use Rattle.krb_leaves.specs.Reading.{RefusesAll}
-use Rattle.krb_leaves.proofs.Refusals.{refuses_other}
+use Rattle.krb_der_core.specs.declared.error.Asn1DerError.{Asn1DerError}
+use Rattle.krb_der_core.specs.declared.error.Asn1DerError.TheVariants as errors
+use Rattle.krb_der_core.specs.Tlv.{tlv}
+use Rattle.krb_der_core.specs.Reading.{RefusesAll}
+use Rattle.krb_der_core.proofs.Refusals.{refuses_other}
 use Rattle.krb_der.specs.Choice.{choice, IsChoice}
 use Rattle.krb_der.specs.ChoiceLaws.{same_tags}
-use Rattle.krb_leaves.specs.Faults.{OrMemory}
-use Rattle.krb_leaves.proofs.FirstFaults.{or_memory}
+use Rattle.krb_der_core.specs.Faults.{OrMemory}
+use Rattle.krb_der_core.proofs.FirstFaults.{or_memory}
 use Rattle.krb_der.specs.Choice.{neither, of_first, of_second}
 use Rattle.krb_der.specs.Choice.{ChoiceFault}
 

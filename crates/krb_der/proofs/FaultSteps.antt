@@ -1,12 +1,12 @@
 -- How the first fault of a part becomes that of the whole.
 use Rattle.std.proofs.Common.{◌≡◌, ℕ, ◌-◌, ◌<◌, List, length, take, drop, ap, subst, arith, inr, length-append}
 use Rattle.std.proofs.lemmas.List.{take_rest}
-use Rattle.krb_leaves.specs.declared.error.Asn1DerError.{Asn1DerError}
-use Rattle.krb_leaves.specs.declared.error.Asn1DerError.TheVariants as errors
-use Rattle.krb_leaves.specs.Reading.{TakesFront}
-use Rattle.krb_leaves.specs.Faults.{at_front, left_over}
-use Rattle.krb_leaves.specs.Faults.{OrMemory, WholeFault}
-use Rattle.krb_leaves.proofs.FirstFaults.{or_memory}
+use Rattle.krb_der_core.specs.declared.error.Asn1DerError.{Asn1DerError}
+use Rattle.krb_der_core.specs.declared.error.Asn1DerError.TheVariants as errors
+use Rattle.krb_der_core.specs.Reading.{TakesFront}
+use Rattle.krb_der_core.specs.Faults.{at_front, left_over}
+use Rattle.krb_der_core.specs.Faults.{OrMemory, WholeFault}
+use Rattle.krb_der_core.proofs.FirstFaults.{or_memory}
 use Rattle.krb_der.specs.FieldFaults.{in_left, in_right}
 use Rattle.krb_der.specs.FieldFaults.{PairFault}
 

@@ -1,7 +1,7 @@
 -- A number that two sums name.
 use Rattle.std.proofs.Common.{◌≡◌, ◌↔◌, ◌==◌, ℕ, ◌+◌, List, subst}
-use Rattle.krb_leaves.specs.declared.error.Asn1DerError.{Asn1DerError}
-use Rattle.krb_leaves.specs.Faults.{FrontFault, TaggedFault}
+use Rattle.krb_der_core.specs.declared.error.Asn1DerError.{Asn1DerError}
+use Rattle.krb_der_core.specs.Faults.{FrontFault, TaggedFault}
 
 -- the first fault of a mandatory field under the tag of one number is that under the tag of the other
 pub same_number : (m n : ℕ) → m ≡ n → (fault : List ℕ → Asn1DerError → Type 0) (octets : List ℕ) (e : Asn1DerError)

@@ -2,9 +2,9 @@
 use Rattle.std.proofs.Common.{◌≡◌, ℕ, ◌-◌, ◌<◌, Bool, true, false, List, [], ◌∷◌, ◌++◌, length, get_or, take, drop, Option, Some, None, refl, sym, ap, ◌∙◌, append_assoc, arith}
 use Rattle.std.specs.Prelude.{IfSome}
 use Rattle.std.proofs.lemmas.List.{append_cancel_left, take_rest}
-use Rattle.krb_leaves.specs.Encoding.{IsElement, OneValue, BeginsWith, Apart, optional}
-use Rattle.krb_leaves.specs.Reading.{TakesFront}
-use Rattle.krb_leaves.specs.TlvLaws.{field_apart, element_begins}
+use Rattle.krb_der_core.specs.Encoding.{IsElement, OneValue, BeginsWith, Apart, optional}
+use Rattle.krb_der_core.specs.Reading.{TakesFront}
+use Rattle.krb_der_core.specs.TlvLaws.{field_apart, element_begins}
 use Rattle.krb_der.specs.declared.optional.Optional.{Optional}
 use Rattle.krb_der.specs.FieldLaws.{element_first, element_long, same_optional}
 

@@ -3,14 +3,14 @@ use Rattle.std.proofs.Common.{◌≡◌, ℕ, ◌-◌, ◌<◌, ◌≤◌, ◌^�
 use Rattle.std.proofs.lemmas.Bool.{cases_lt}
 use Rattle.std.proofs.lemmas.List.{length-append}
 use Rattle.std.specs.Io.KnownBytes.{Consumes}
-use Rattle.krb_leaves.specs.declared.error.Asn1DerError.{Asn1DerError}
-use Rattle.krb_leaves.specs.declared.error.Asn1DerError.TheVariants as errors
-use Rattle.krb_leaves.specs.Tlv.{len, tlv}
-use Rattle.krb_leaves.specs.Reading.{RefusesFront, Lengths}
-use Rattle.krb_leaves.specs.TlvLaws.{same_heads}
-use Rattle.krb_leaves.specs.LengthLaws.{front_from_meet}
-use Rattle.krb_leaves.specs.Faults.{no_length, other_form, cut_length, long_length, no_tag, wrong_tag, wrong_length, cut_content, wrong_content}
-use Rattle.krb_leaves.specs.Faults.{LengthFault, FrontFault, OrMemory}
+use Rattle.krb_der_core.specs.declared.error.Asn1DerError.{Asn1DerError}
+use Rattle.krb_der_core.specs.declared.error.Asn1DerError.TheVariants as errors
+use Rattle.krb_der_core.specs.Tlv.{len, tlv}
+use Rattle.krb_der_core.specs.Reading.{RefusesFront, Lengths}
+use Rattle.krb_der_core.specs.TlvLaws.{same_heads}
+use Rattle.krb_der_core.specs.LengthLaws.{front_from_meet}
+use Rattle.krb_der_core.specs.Faults.{no_length, other_form, cut_length, long_length, no_tag, wrong_tag, wrong_length, cut_content, wrong_content}
+use Rattle.krb_der_core.specs.Faults.{LengthFault, FrontFault, OrMemory}
 use Rattle.krb_der.specs.Streaming.{Gathers, IsShort, ReaderFault}
 use Rattle.krb_der.proofs.Streams.{Behind, first_and, length_all, longer_meet, tag_front}
 

@@ -2,10 +2,10 @@
 use Rattle.std.proofs.Common.{◌≡◌, ℕ, zero, suc, eqb, false, ◌<◌, ◌^◌, Bool, List, [], ◌∷◌, ◌++◌, length, refl, sym, ap, ◌∙◌, append_assoc, arith}
 use Rattle.std.proofs.lemmas.List.{append-nil, length-append}
 use Rattle.std.specs.List.{flat_map, AllByRecursion}
-use Rattle.krb_leaves.specs.declared.error.Asn1DerError.{Asn1DerError}
-use Rattle.krb_leaves.specs.declared.error.Asn1DerError.TheVariants as errors
-use Rattle.krb_leaves.specs.Reading.{TakesFront, NoFront, RefusesFront, RefusesAll, Encodings}
-use Rattle.krb_leaves.specs.Encoding.{IsElement, OneValue}
+use Rattle.krb_der_core.specs.declared.error.Asn1DerError.{Asn1DerError}
+use Rattle.krb_der_core.specs.declared.error.Asn1DerError.TheVariants as errors
+use Rattle.krb_der_core.specs.Reading.{TakesFront, NoFront, RefusesFront, RefusesAll, Encodings}
+use Rattle.krb_der_core.specs.Encoding.{IsElement, OneValue}
 use Rattle.krb_der.specs.ListLaws.{peel, row_long}
 
 pub record ReadSoFar {A : Type 0} (enc : A → List ℕ) (is_value : A → Type 0) (items : List A) (rest input : List ℕ) : Type 0 where

@@ -5,16 +5,16 @@ use Rattle.std.proofs.lemmas.Bool.{eqb-true}
 use Rattle.std.specs.Prelude.{Result, Ok, Err, IfOk, IfErr}
 use Rattle.std.specs.Int.Digits.{digits_of}
 use Rattle.std.specs.Io.KnownBytes.{Consumes, IsAtEnd}
-use Rattle.krb_leaves.specs.declared.error.Asn1DerError.{Asn1DerError}
-use Rattle.krb_leaves.specs.declared.error.Asn1DerError.TheVariants as errors
-use Rattle.krb_leaves.specs.Tlv.{len, tlv}
-use Rattle.krb_leaves.specs.Encoding.{IsElement, OneValue}
-use Rattle.krb_leaves.specs.Reading.{TakesFront, NoFront, NoBeginning, RefusesFront, RefusesAll, Encodings, Elements, Lengths}
+use Rattle.krb_der_core.specs.declared.error.Asn1DerError.{Asn1DerError}
+use Rattle.krb_der_core.specs.declared.error.Asn1DerError.TheVariants as errors
+use Rattle.krb_der_core.specs.Tlv.{len, tlv}
+use Rattle.krb_der_core.specs.Encoding.{IsElement, OneValue}
+use Rattle.krb_der_core.specs.Reading.{TakesFront, NoFront, NoBeginning, RefusesFront, RefusesAll, Encodings, Elements, Lengths}
 use Rattle.krb_der.specs.Streaming.{Gathers, IsFault, IsShort, ReadsFront, RefusesReader, TellsEarlyEnd}
-use Rattle.krb_leaves.specs.TlvLaws.{len-small, field_apart}
-use Rattle.krb_leaves.specs.LengthLaws.{NoMeet, meet_from_both, meets, nothing_read, refused_from_meet}
-use Rattle.krb_leaves.proofs.Elements.{bad_length, short_content}
-use Rattle.krb_leaves.proofs.Refusals.{none_read, wrong_first, no_element, behind_element}
+use Rattle.krb_der_core.specs.TlvLaws.{len-small, field_apart}
+use Rattle.krb_der_core.specs.LengthLaws.{NoMeet, meet_from_both, meets, nothing_read, refused_from_meet}
+use Rattle.krb_der_core.proofs.Elements.{bad_length, short_content}
+use Rattle.krb_der_core.proofs.Refusals.{none_read, wrong_first, no_element, behind_element}
 
 pub consumes_none : (a : Option (List ℕ)) → Consumes a a []
 consumes_none None = tt

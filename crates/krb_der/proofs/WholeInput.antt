@@ -1,15 +1,15 @@
 -- A whole input is one encoding.
 use Rattle.std.proofs.Common.{◌≡◌, ℕ, ◌<◌, ◌^◌, ◌⊎◌, Bool, List, [], ◌++◌, length, drop, refl, sym, ap, ◌∙◌, append_assoc, arith, inl, inr}
 use Rattle.std.proofs.lemmas.List.{append-nil, length-append, drop_all}
-use Rattle.krb_leaves.specs.declared.error.Asn1DerError.{Asn1DerError}
-use Rattle.krb_leaves.specs.declared.error.Asn1DerError.TheVariants as errors
-use Rattle.krb_leaves.specs.Reading.{TakesFront, RefusesFront, RefusesAll, Encodings}
+use Rattle.krb_der_core.specs.declared.error.Asn1DerError.{Asn1DerError}
+use Rattle.krb_der_core.specs.declared.error.Asn1DerError.TheVariants as errors
+use Rattle.krb_der_core.specs.Reading.{TakesFront, RefusesFront, RefusesAll, Encodings}
 use Rattle.krb_der.specs.Whole.{ReadsValue, NoDevice}
-use Rattle.krb_leaves.proofs.Refusals.{no_content}
-use Rattle.krb_leaves.specs.Tlv.{tlv}
+use Rattle.krb_der_core.proofs.Refusals.{no_content}
+use Rattle.krb_der_core.specs.Tlv.{tlv}
 use Rattle.std.specs.Prelude.{Result, Ok, Err, IfErr}
-use Rattle.krb_leaves.specs.Encoding.{IsElement, OneValue}
-use Rattle.krb_leaves.specs.TlvLaws.{field_apart}
+use Rattle.krb_der_core.specs.Encoding.{IsElement, OneValue}
+use Rattle.krb_der_core.specs.TlvLaws.{field_apart}
 
 module _ {A : Type 0} (is_value : A → Type 0) (enc : A → List ℕ) where
   pub err_again : (input : List ℕ) (e : Asn1DerError) → length input < 2 ^ 64 → RefusesFront (Encodings is_value enc) input e → (v : A) → is_value v → input ≡ enc v → e ≡ errors.OutOfMemory

@@ -1,11 +1,11 @@
 -- The encodings of ASN.1's types, by the names that they have there, with the section of X.690 that gives tag and content.
 use Rattle.std.specs.Prelude.{ℕ, ℤ, Bool, List, ◌+◌}
 use Rattle.std.specs.List.{flat_map}
-use Rattle.krb_leaves.specs.Tlv.{tlv}
-use Rattle.krb_leaves.specs.Leaf.{bool_content}
-use Rattle.krb_leaves.specs.Integer.{shortest}
-use Rattle.krb_leaves.specs.BitString.{Bits, bits_content}
-use Rattle.krb_leaves.specs.GeneralizedTime.{Time, time_content}
+use Rattle.krb_der_core.specs.Tlv.{tlv}
+use Rattle.krb_der_core.specs.Leaf.{bool_content}
+use Rattle.krb_der_core.specs.Integer.{shortest}
+use Rattle.krb_der_core.specs.BitString.{Bits, bits_content}
+use Rattle.krb_der_core.specs.GeneralizedTime.{Time, time_content}
 
 -- BOOLEAN: universal 1 (8.2 and 11.1)
 abbrev pub boolean : Bool → List ℕ

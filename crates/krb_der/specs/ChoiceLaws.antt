@@ -1,10 +1,10 @@
 -- What a choice of two types keeps whose elements have the tags t and u.
 use Rattle.std.proofs.Common.{◌≡◌, ℕ, ◌||◌, eqb, Bool, true, false, List, [], ◌++◌, ◌⊎◌, inl, inr, length, refl, sym, ap, ◌∙◌, eq-eqb, ◌<◌, ◌^◌}
-use Rattle.krb_leaves.specs.Tlv.{tlv}
-use Rattle.krb_leaves.specs.Encoding.{IsElement, OneValue}
-use Rattle.krb_leaves.specs.TlvLaws.{tlv_apart}
-use Rattle.krb_leaves.specs.declared.error.Asn1DerError.{Asn1DerError}
-use Rattle.krb_leaves.specs.Faults.{FaultLaws}
+use Rattle.krb_der_core.specs.Tlv.{tlv}
+use Rattle.krb_der_core.specs.Encoding.{IsElement, OneValue}
+use Rattle.krb_der_core.specs.TlvLaws.{tlv_apart}
+use Rattle.krb_der_core.specs.declared.error.Asn1DerError.{Asn1DerError}
+use Rattle.krb_der_core.specs.Faults.{FaultLaws}
 use Rattle.krb_der.specs.Choice.{neither, of_first, of_second}
 use Rattle.krb_der.specs.Choice.{choice, IsChoice, ChoiceFault}
 

@@ -5,10 +5,10 @@ use Rattle.std.proofs.Common.{eq-eqb}
 use Rattle.std.specs.Cmp.{first_so, second_so}
 use Rattle.std.specs.Option.{option_eq}
 use Rattle.std.specs.Cmp.Lexicographic.{pointwise, pointwise_decides, bytes_decides}
-use Rattle.krb_leaves.specs.Integer.{shortest}
-use Rattle.krb_leaves.specs.IntegerLaws.{integer_one_content}
-use Rattle.krb_leaves.specs.BitString.{Bits}
-use Rattle.krb_leaves.specs.GeneralizedTime.{Time, time}
+use Rattle.krb_der_core.specs.Integer.{shortest}
+use Rattle.krb_der_core.specs.IntegerLaws.{integer_one_content}
+use Rattle.krb_der_core.specs.BitString.{Bits}
+use Rattle.krb_der_core.specs.GeneralizedTime.{Time, time}
 use Rattle.krb_der.specs.declared.optional.Optional.{Optional}
 use Rattle.krb_der.specs.FieldLaws.{same_optional, same_both}
 use Rattle.krb_der.specs.Equality.{TellsEqual}

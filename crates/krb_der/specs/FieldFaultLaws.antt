@@ -1,12 +1,12 @@
 -- The fields of a sequence have one first fault, and none where they stand.
 use Rattle.std.proofs.Common.{◌≡◌, ℕ, ◌^◌, ◌<◌, Bool, true, false, List, [], ◌∷◌, ◌++◌, length, Option, Some, None, refl, sym, ap, subst, ◌∙◌, append_assoc, arith, inl, inr, length-append, ◌≤◌}
 use Rattle.std.specs.Prelude.{IfSome}
-use Rattle.krb_leaves.specs.declared.error.Asn1DerError.{Asn1DerError}
-use Rattle.krb_leaves.specs.Tlv.{tlv}
-use Rattle.krb_leaves.specs.TlvLaws.{field_apart}
-use Rattle.krb_leaves.specs.Encoding.{IsElement, OneValue, BeginsWith, Apart, optional}
-use Rattle.krb_leaves.specs.Faults.{WholeFault, FaultLaws, ContentLaws, FrontLaws}
-use Rattle.krb_leaves.specs.FaultLaws.{front_laws, whole_laws, tagged_laws}
+use Rattle.krb_der_core.specs.declared.error.Asn1DerError.{Asn1DerError}
+use Rattle.krb_der_core.specs.Tlv.{tlv}
+use Rattle.krb_der_core.specs.TlvLaws.{field_apart}
+use Rattle.krb_der_core.specs.Encoding.{IsElement, OneValue, BeginsWith, Apart, optional}
+use Rattle.krb_der_core.specs.Faults.{WholeFault, FaultLaws, ContentLaws, FrontLaws}
+use Rattle.krb_der_core.specs.FaultLaws.{front_laws, whole_laws, tagged_laws}
 use Rattle.krb_der.specs.declared.optional.Optional.{Optional}
 use Rattle.krb_der.specs.declared.sequence.Sequence.{Ghosts as SequenceOf}
 use Rattle.krb_der.specs.declared.sequence.Fields.{Ghosts as FieldsOf}

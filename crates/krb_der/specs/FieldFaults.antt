@@ -1,8 +1,8 @@
 -- The first fault of the fields of a sequence, from the left.
 use Rattle.std.specs.Prelude.{◌≡◌, ◌↔◌, ℕ, ◌<◌, ◌≤◌, ◌⊎◌, Bool, true, false, List, [], ◌∷◌, ◌++◌}
-use Rattle.krb_leaves.specs.declared.error.Asn1DerError.{Asn1DerError}
-use Rattle.krb_leaves.specs.declared.error.Asn1DerError.TheVariants as errors
-use Rattle.krb_leaves.specs.Faults.{FrontFault, TaggedFault, WholeFault}
+use Rattle.krb_der_core.specs.declared.error.Asn1DerError.{Asn1DerError}
+use Rattle.krb_der_core.specs.declared.error.Asn1DerError.TheVariants as errors
+use Rattle.krb_der_core.specs.Faults.{FrontFault, TaggedFault, WholeFault}
 use Rattle.krb_der.specs.declared.sequence.Fields.{Ghosts as FieldsOf}
 
 -- there are octets, and the first is one of these

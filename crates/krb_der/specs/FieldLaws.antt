@@ -1,9 +1,9 @@
 -- Groups of fields have one reading.
 use Rattle.std.proofs.Common.{◌≡◌, ℕ, Bool, true, false, ◌||◌, List, [], ◌∷◌, ◌++◌, Option, Some, None, refl, sym, ap, ◌∙◌, append_assoc, length, ◌<◌, arith}
 use Rattle.std.specs.Prelude.{IfSome}
-use Rattle.krb_leaves.specs.Tlv.{len, tlv}
-use Rattle.krb_leaves.specs.Encoding.{IsElement, OneValue, BeginsWith, Apart, optional}
-use Rattle.krb_leaves.specs.TlvLaws.{tlv_same, field_apart, optional_apart}
+use Rattle.krb_der_core.specs.Tlv.{len, tlv}
+use Rattle.krb_der_core.specs.Encoding.{IsElement, OneValue, BeginsWith, Apart, optional}
+use Rattle.krb_der_core.specs.TlvLaws.{tlv_same, field_apart, optional_apart}
 use Rattle.krb_der.specs.declared.optional.Optional.{Optional}
 use Rattle.krb_der.specs.Composite.{nothing}
 use Rattle.krb_der.specs.Grouping.{BeginSo, OneReading}

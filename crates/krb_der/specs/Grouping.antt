@@ -1,8 +1,8 @@
 -- What groups of fields keep.
 use Rattle.std.specs.Prelude.{◌≡◌, ℕ, Bool, List, ◌++◌, Result, MatchResult}
-use Rattle.krb_leaves.specs.declared.error.Asn1DerError.{Asn1DerError}
-use Rattle.krb_leaves.specs.declared.error.Asn1DerError.TheVariants as errors
-use Rattle.krb_leaves.specs.Encoding.{BeginsWith}
+use Rattle.krb_der_core.specs.declared.error.Asn1DerError.{Asn1DerError}
+use Rattle.krb_der_core.specs.declared.error.Asn1DerError.TheVariants as errors
+use Rattle.krb_der_core.specs.Encoding.{BeginsWith}
 
 -- Fields, and octets behind them that begin so, begin so.
 abbrev pub BeginSo : {A : Type 0} → (A → Type 0) → (A → List ℕ) → ((ℕ → Bool) → ℕ → Bool) → Type 0

@@ -1,8 +1,8 @@
 -- Encodings in a row have one reading.
 use Rattle.std.proofs.Common.{◌≡◌, ℕ, ◌<◌, Bool, List, [], ◌∷◌, ◌++◌, length, refl, sym, ap, ◌∙◌, append_assoc, arith}
 use Rattle.std.specs.List.{flat_map, AllByRecursion}
-use Rattle.krb_leaves.specs.Encoding.{IsElement, OneValue, BeginsWith}
-use Rattle.krb_leaves.specs.TlvLaws.{field_apart}
+use Rattle.krb_der_core.specs.Encoding.{IsElement, OneValue, BeginsWith}
+use Rattle.krb_der_core.specs.TlvLaws.{field_apart}
 use Rattle.krb_der.specs.FieldLaws.{element_first, element_long}
 
 same_cons : {A : Type 0} (v w : A) (vs ws : List A) → v ≡ w → vs ≡ ws → v ∷ vs ≡ w ∷ ws

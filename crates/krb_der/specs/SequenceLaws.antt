@@ -1,8 +1,8 @@
 -- What a struct keeps that is made of the fields of a sequence, by the ghost members of its `Sequence` and of the `Fields`
 -- that these are.
 use Rattle.std.specs.Prelude.{◌≡◌}
-use Rattle.krb_leaves.specs.Tlv.{tlv}
-use Rattle.krb_leaves.specs.Encoding.{OneValue}
+use Rattle.krb_der_core.specs.Tlv.{tlv}
+use Rattle.krb_der_core.specs.Encoding.{OneValue}
 use Rattle.krb_der.specs.declared.sequence.Sequence.{Ghosts as SequenceOf}
 use Rattle.krb_der.specs.declared.sequence.Fields.{Ghosts as FieldsOf}
 use Rattle.krb_der.specs.Composite.{nothing}

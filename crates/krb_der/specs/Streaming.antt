@@ -1,9 +1,9 @@
 -- What is read from a reader, where the octets that it has left are known.
 use Rattle.std.specs.Prelude.{◌≡◌, ℕ, ◌<◌, List, ◌++◌, length, Option, None, Some, ◌^◌, ◌⊎◌, Result, MatchResult}
 use Rattle.std.specs.Io.KnownBytes.{Consumes}
-use Rattle.krb_leaves.specs.declared.error.Asn1DerError.{Asn1DerError}
-use Rattle.krb_leaves.specs.declared.error.Asn1DerError.TheVariants as errors
-use Rattle.krb_leaves.specs.Reading.{RefusesFront}
+use Rattle.krb_der_core.specs.declared.error.Asn1DerError.{Asn1DerError}
+use Rattle.krb_der_core.specs.declared.error.Asn1DerError.TheVariants as errors
+use Rattle.krb_der_core.specs.Reading.{RefusesFront}
 
 -- a growth of memory was refused, or a device failed
 abbrev pub IsFault : Asn1DerError → Type 0

@@ -1,7 +1,7 @@
 -- What `from_bytes` answers.
 use Rattle.std.specs.Prelude.{◌≡◌, ℕ, ◌<◌, ◌^◌, ◌⊎◌, List, ◌++◌, length, Result, MatchResult}
-use Rattle.krb_leaves.specs.declared.error.Asn1DerError.{Asn1DerError}
-use Rattle.krb_leaves.specs.declared.error.Asn1DerError.TheVariants as errors
+use Rattle.krb_der_core.specs.declared.error.Asn1DerError.{Asn1DerError}
+use Rattle.krb_der_core.specs.declared.error.Asn1DerError.TheVariants as errors
 
 -- the answer is this value, but for want of memory
 abbrev pub Answers : {A : Type 0} → Result A Asn1DerError → A → Type 0

@@ -1,16 +1,16 @@
 //! Application tags.
 
 ghost use Rattle.std.specs.Prelude.{◌≡◌, ◌==◌, ◌+◌, ◌≤◌, ◌&&◌, nat_le};
-ghost use Rattle.krb_leaves.specs.Tlv.{tlv};
-ghost use Rattle.krb_leaves.specs.TlvLaws.{tagged_one_value};
-ghost use Rattle.krb_leaves.specs.Faults.{TaggedFault, ValueFault};
+ghost use Rattle.krb_der_core.specs.Tlv.{tlv};
+ghost use Rattle.krb_der_core.specs.TlvLaws.{tagged_one_value};
+ghost use Rattle.krb_der_core.specs.Faults.{TaggedFault, ValueFault};
 ghost use Rattle.krb_der.specs.FieldFaults.{NumberFault};
 ghost use Rattle.krb_der.specs.ApplicationLaws.{application_element};
-ghost use Rattle.krb_leaves.specs.FaultLaws.{tagged_laws, value_laws};
+ghost use Rattle.krb_der_core.specs.FaultLaws.{tagged_laws, value_laws};
 ghost use Rattle.krb_der.specs.FieldFaultLaws.{number_laws};
 
 use crate::whole::{read_around, write_around};
-use krb_leaves::{Asn1DerError, Der, DerEncode, DerSequence};
+use krb_der_core::{Asn1DerError, Der, DerEncode, DerSequence};
 use std::alloc::{AllocError, Global};
 use std::marker::Model;
 

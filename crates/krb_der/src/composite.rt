@@ -137,7 +137,7 @@
 //! | `[N]` T OPTIONAL | `Optional<Option<ExplicitContextTagN<T>>>` | `optional (λ x. explicit N (w x)) v.name.0` |
 //! | `[APPLICATION N]` S | `ApplicationTag<S, N>` | `application N (w x)` |
 //!
-//! `krb_types` names the types of RFC 4120 that are one of these, as `KerberosTime` is `GeneralizedTimeAsn1`; the word is that of
+//! `krb_msg_types` names the types of RFC 4120 that are one of these, as `KerberosTime` is `GeneralizedTimeAsn1`; the word is that of
 //! the type behind the name.
 //!
 //! # One field, and seven or more

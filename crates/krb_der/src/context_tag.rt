@@ -1,13 +1,13 @@
 //! Explicit context tags.
 
 ghost use Rattle.std.specs.Prelude.{◌≡◌, ◌==◌, ◌+◌, ◌≤◌, ℕ, min};
-ghost use Rattle.krb_leaves.specs.Tlv.{tlv};
-ghost use Rattle.krb_leaves.specs.TlvLaws.{tagged_element, tagged_one_value};
-ghost use Rattle.krb_leaves.specs.Faults.{TaggedFault, ValueFault};
-ghost use Rattle.krb_leaves.specs.FaultLaws.{tagged_laws, value_laws};
+ghost use Rattle.krb_der_core.specs.Tlv.{tlv};
+ghost use Rattle.krb_der_core.specs.TlvLaws.{tagged_element, tagged_one_value};
+ghost use Rattle.krb_der_core.specs.Faults.{TaggedFault, ValueFault};
+ghost use Rattle.krb_der_core.specs.FaultLaws.{tagged_laws, value_laws};
 
 use crate::whole::{read_around, write_around};
-use krb_leaves::{Asn1DerError, Der, DerEncode};
+use krb_der_core::{Asn1DerError, Der, DerEncode};
 use std::alloc::{AllocError, Global};
 use std::marker::{Model, PhantomData};
 

@@ -2,11 +2,11 @@
 
 ghost use Rattle.std.specs.Prelude.{◌≡◌, ◌==◌, ◌+◌, ◌++◌, ◌||◌, None, IfSome};
 ghost use Rattle.std.proofs.Common.{ap};
-ghost use Rattle.krb_leaves.specs.Tlv.{tlv};
-ghost use Rattle.krb_leaves.specs.TlvLaws.{tagged_element, tagged_one_value};
-ghost use Rattle.krb_leaves.specs.Encoding.{Apart, optional};
-ghost use Rattle.krb_leaves.specs.Faults.{FrontFault};
-ghost use Rattle.krb_leaves.specs.FaultLaws.{front_laws};
+ghost use Rattle.krb_der_core.specs.Tlv.{tlv};
+ghost use Rattle.krb_der_core.specs.TlvLaws.{tagged_element, tagged_one_value};
+ghost use Rattle.krb_der_core.specs.Encoding.{Apart, optional};
+ghost use Rattle.krb_der_core.specs.Faults.{FrontFault};
+ghost use Rattle.krb_der_core.specs.FaultLaws.{front_laws};
 ghost use Rattle.krb_der.specs.FieldFaults.{IsAbsent, OptionalFault, PairFault};
 ghost use Rattle.krb_der.specs.FieldFaultLaws.{optional_laws, optional_told, pair_laws, pair_told, regrouped_laws};
 ghost use Rattle.krb_der.specs.FieldLaws.{field_begins, field_one_reading, optional_begins, optional_one_reading, both_begins, both_one_reading};
@@ -14,7 +14,7 @@ ghost use Rattle.krb_der.specs.FieldLaws.{field_begins, field_one_reading, optio
 use crate::context_tag::{ExplicitContextTag, TagNumber};
 use crate::optional::Optional;
 use crate::sequence::{FieldRefs, Fields};
-use krb_leaves::{Asn1DerError, Der, DerEncode};
+use krb_der_core::{Asn1DerError, Der, DerEncode};
 use std::alloc::{AllocError, Global};
 
 /// A mandatory field.

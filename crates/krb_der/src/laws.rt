@@ -3,14 +3,14 @@
 ghost use Rattle.std.specs.Prelude.{◌≡◌, ◌↔◌, ◌==◌, ◌||◌, ◌+◌, ◌<◌, ◌≤◌, ◌^◌, ◌++◌, ◌∷◌, ℕ, ℤ, pos, Bool, List, Option, None, IfSome, length};
 ghost use Rattle.std.specs.Str.{IsAscii, IsUtf8};
 ghost use Rattle.std.specs.List.{flat_map};
-ghost use Rattle.krb_leaves.specs.Tlv.{tlv};
-ghost use Rattle.krb_leaves.specs.declared.error.Asn1DerError.{Asn1DerError};
-ghost use Rattle.krb_leaves.specs.Encoding.{Apart, BeginsWith, IsOctets, optional};
-ghost use Rattle.krb_leaves.specs.Faults.{FrontFault, LeafFault, RowFault, TaggedFault, ValueFault};
-ghost use Rattle.krb_leaves.specs.Leaf.{bool_content};
-ghost use Rattle.krb_leaves.specs.Integer.{shortest};
-ghost use Rattle.krb_leaves.specs.BitString.{Bits, IsBits};
-ghost use Rattle.krb_leaves.specs.GeneralizedTime.{IsRealTime, Time, time_content};
+ghost use Rattle.krb_der_core.specs.Tlv.{tlv};
+ghost use Rattle.krb_der_core.specs.declared.error.Asn1DerError.{Asn1DerError};
+ghost use Rattle.krb_der_core.specs.Encoding.{Apart, BeginsWith, IsOctets, optional};
+ghost use Rattle.krb_der_core.specs.Faults.{FrontFault, LeafFault, RowFault, TaggedFault, ValueFault};
+ghost use Rattle.krb_der_core.specs.Leaf.{bool_content};
+ghost use Rattle.krb_der_core.specs.Integer.{shortest};
+ghost use Rattle.krb_der_core.specs.BitString.{Bits, IsBits};
+ghost use Rattle.krb_der_core.specs.GeneralizedTime.{IsRealTime, Time, time_content};
 ghost use Rattle.krb_der.specs.FieldFaults.{IsAbsent, LastFault, OptionalFault};
 ghost use Rattle.krb_der.specs.declared.optional.Optional.{Optional as OptionalOf};
 ghost use Rattle.krb_der.specs.Equality.{ClonesValue, TellsEqual};
@@ -26,7 +26,7 @@ use crate::context_tag::{
 use crate::optional::Optional;
 use crate::sequence::Fields;
 use crate::sequence_of::Asn1SequenceOf;
-use krb_leaves::{
+use krb_der_core::{
     BitStringAsn1, Der, DerEncode, DerSequence, GeneralStringAsn1, GeneralizedTimeAsn1,
     IntegerAsn1, OctetStringAsn1, Utf8StringAsn1,
 };

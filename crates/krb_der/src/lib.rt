@@ -24,7 +24,7 @@ pub use context_tag::{
     ExplicitContextTag7, ExplicitContextTag8, ExplicitContextTag9, ExplicitContextTag10,
     ExplicitContextTag11, ExplicitContextTag12,
 };
-pub use krb_leaves::{
+pub use krb_der_core::{
     Asn1DerError, BitStringAsn1, Der, DerEncode, DerSequence, GeneralStringAsn1,
     GeneralizedTimeAsn1, IntegerAsn1, OctetStringAsn1, Utf8StringAsn1,
 };

@@ -1,16 +1,16 @@
 //! Structs that are SEQUENCEs.
 
 ghost use Rattle.std.specs.Prelude.{◌≡◌, ℕ, Bool, List, ◌++◌, drop, Err, IfOk, IfErr, OnOk, OnErr};
-ghost use Rattle.krb_leaves.specs.Tlv.{tlv};
-ghost use Rattle.krb_leaves.specs.declared.error.Asn1DerError.{Asn1DerError};
-ghost use Rattle.krb_leaves.specs.declared.error.Asn1DerError.TheVariants.{InvalidData};
-ghost use Rattle.krb_leaves.specs.Reading.{TakesFront, RefusesAll};
-ghost use Rattle.krb_leaves.specs.Faults.{FrontLaws, OrMemory, TaggedFault, WholeFault};
+ghost use Rattle.krb_der_core.specs.Tlv.{tlv};
+ghost use Rattle.krb_der_core.specs.declared.error.Asn1DerError.{Asn1DerError};
+ghost use Rattle.krb_der_core.specs.declared.error.Asn1DerError.TheVariants.{InvalidData};
+ghost use Rattle.krb_der_core.specs.Reading.{TakesFront, RefusesAll};
+ghost use Rattle.krb_der_core.specs.Faults.{FrontLaws, OrMemory, TaggedFault, WholeFault};
 ghost use Rattle.krb_der.specs.Composite.{nothing};
 ghost use Rattle.krb_der.specs.Grouping.{BeginSo, OneReading, ReadsFields, ToldEnds};
 ghost use Rattle.krb_der.specs.Whole.{NoDevice};
 
-use krb_leaves::{Asn1DerError, close_tlv};
+use krb_der_core::{Asn1DerError, close_tlv};
 use std::alloc::{AllocError, Global};
 
 /// The tag of a SEQUENCE: universal 16, constructed (X.690, 8.9).

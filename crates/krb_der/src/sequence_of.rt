@@ -3,15 +3,15 @@
 ghost use Rattle.std.specs.Prelude.{◌≡◌, ◌==◌, ◌++◌, List, IfOk, IfErr, OnOk, OnErr};
 ghost use Rattle.std.specs.List.{flat_map, AllByRecursion};
 ghost use Rattle.std.specs.Cmp.Lexicographic.{pointwise, lists_per, lists_equiv};
-ghost use Rattle.krb_leaves.specs.Tlv.{tlv};
-ghost use Rattle.krb_leaves.specs.TlvLaws.{tagged_element, tagged_one_value};
-ghost use Rattle.krb_leaves.specs.Reading.{RefusesAll};
-ghost use Rattle.krb_leaves.specs.Faults.{FrontFault, OrMemory, RowFault, TaggedFault};
+ghost use Rattle.krb_der_core.specs.Tlv.{tlv};
+ghost use Rattle.krb_der_core.specs.TlvLaws.{tagged_element, tagged_one_value};
+ghost use Rattle.krb_der_core.specs.Reading.{RefusesAll};
+ghost use Rattle.krb_der_core.specs.Faults.{FrontFault, OrMemory, RowFault, TaggedFault};
 ghost use Rattle.krb_der.specs.ListLaws.{list_one_content};
-ghost use Rattle.krb_leaves.specs.FaultLaws.{list_laws, tagged_laws};
+ghost use Rattle.krb_der_core.specs.FaultLaws.{list_laws, tagged_laws};
 
 use crate::sequence::SEQUENCE;
-use krb_leaves::{Asn1DerError, Der, DerEncode, close_tlv};
+use krb_der_core::{Asn1DerError, Der, DerEncode, close_tlv};
 use std::alloc::{AllocError, Global};
 use std::marker::Model;
 

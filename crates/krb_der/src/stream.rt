@@ -2,14 +2,14 @@
 
 ghost use Rattle.std.specs.Prelude.{◌≡◌, ◌≤◌, ◌<◌, IfOk, IfErr, OnOk, ◌-◌, ◌^◌, length, take};
 ghost use Rattle.std.specs.Io.KnownBytes.{Consumes, Appends, IsAtEnd};
-ghost use Rattle.krb_leaves.specs.Tlv.{len};
-ghost use Rattle.krb_leaves.specs.Reading.{Lengths, Encodings};
-ghost use Rattle.krb_leaves.specs.Faults.{FrontFault, LengthFault};
-ghost use Rattle.krb_leaves.specs.declared.error.Asn1DerError.TheVariants.{OutOfMemory};
+ghost use Rattle.krb_der_core.specs.Tlv.{len};
+ghost use Rattle.krb_der_core.specs.Reading.{Lengths, Encodings};
+ghost use Rattle.krb_der_core.specs.Faults.{FrontFault, LengthFault};
+ghost use Rattle.krb_der_core.specs.declared.error.Asn1DerError.TheVariants.{OutOfMemory};
 ghost use Rattle.krb_der.specs.Streaming.{Gathers, IsFault, IsShort, ReaderFault, ReadsFront, RefusesReader, TellsEarlyEnd};
 
 use crate::whole::to_vec;
-use krb_leaves::{Asn1DerError, Der, DerEncode, read_length};
+use krb_der_core::{Asn1DerError, Der, DerEncode, read_length};
 use std::alloc::Global;
 use std::io;
 use std::io::{ErrorKind, Read, Write};

@@ -1,13 +1,13 @@
 //! Whole inputs and outputs.
 
 ghost use Rattle.std.specs.Prelude.{◌≡◌, ◌++◌, Err, IfOk, IfErr, OnOk, OnErr};
-ghost use Rattle.krb_leaves.specs.Tlv.{tlv};
-ghost use Rattle.krb_leaves.specs.Reading.{RefusesAll};
-ghost use Rattle.krb_leaves.specs.Faults.{OrMemory, TaggedFault, ValueFault};
+ghost use Rattle.krb_der_core.specs.Tlv.{tlv};
+ghost use Rattle.krb_der_core.specs.Reading.{RefusesAll};
+ghost use Rattle.krb_der_core.specs.Faults.{OrMemory, TaggedFault, ValueFault};
 ghost use Rattle.krb_der.specs.Whole.{Answers, ReadsValue, TellsCut, RefusesMore, NoDevice};
-ghost use Rattle.krb_leaves.specs.declared.error.Asn1DerError.TheVariants.{InvalidData, OutOfMemory};
+ghost use Rattle.krb_der_core.specs.declared.error.Asn1DerError.TheVariants.{InvalidData, OutOfMemory};
 
-use krb_leaves::{Asn1DerError, Der, DerEncode, close_tlv};
+use krb_der_core::{Asn1DerError, Der, DerEncode, close_tlv};
 use std::alloc::{AllocError, Global};
 
 /// The value whose encoding the input is, all of it.

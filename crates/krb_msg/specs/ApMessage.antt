@@ -1,8 +1,8 @@
 -- The choice between the two messages of an exchange with a server (RFC 4120, 5.5.1 and 5.5.2).
 use Rattle.std.proofs.Common.{arith, inl, inr}
 use Rattle.std.specs.Prelude.{◌≡◌, ℕ, ◌⊎◌}
-use Rattle.krb_app.specs.declared.messages.application.ApReqInner.{ApReqInner}
-use Rattle.krb_app.specs.declared.messages.application.ApRepInner.{ApRepInner}
+use Rattle.krb_msg_app.specs.declared.messages.application.ApReqInner.{ApReqInner}
+use Rattle.krb_msg_app.specs.declared.messages.application.ApRepInner.{ApRepInner}
 use Rattle.krb_msg.specs.declared.messages.ap_message.ApMessage.{ApMessage}
 use Rattle.krb_msg.specs.declared.messages.ap_message.ApMessage.TheVariants.{ApReq, ApRep}
 

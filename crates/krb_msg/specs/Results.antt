@@ -1,8 +1,8 @@
 -- Octets that are read as none of a type.
 use Rattle.std.specs.Prelude.{◌≡◌, ℕ, List}
-use Rattle.krb_leaves.specs.Faults.{ValueFault}
-use Rattle.krb_leaves.specs.declared.der.DerEncode.{Ghosts as EncodingOf}
-use Rattle.krb_leaves.specs.declared.error.Asn1DerError.{Asn1DerError}
+use Rattle.krb_der_core.specs.Faults.{ValueFault}
+use Rattle.krb_der_core.specs.declared.der.DerEncode.{Ghosts as EncodingOf}
+use Rattle.krb_der_core.specs.declared.error.Asn1DerError.{Asn1DerError}
 
 -- the octets are the encoding of no value
 abbrev pub IsNoEncoding : {A : Type 0} → (A → Type 0) → (A → List ℕ) → List ℕ → Type 0

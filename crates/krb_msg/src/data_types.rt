@@ -3,19 +3,16 @@
 
 mod results;
 
-pub use krb_padata::data_types::{
-    EtypeInfo2, EtypeInfo2Entry, KerbErrorData, KerbPaPacRequest, PaData, PaEncTimestamp,
-    PaEncTsEnc, PaPacOptions,
-};
-pub use krb_parts::data_types::{
+pub use krb_msg_parts::data_types::{
     Authenticator, AuthenticatorInner, EncApRepPart, EncApRepPartInner, EncKrbCredPart,
     EncKrbCredPartInner, EncKrbPrivPart, EncKrbPrivPartInner, EncTicketPart, EncTicketPartInner,
     KrbCredInfo,
 };
-pub use krb_types::data_types::{
+pub use krb_msg_types::data_types::{
     ApOptions, AuthorizationData, AuthorizationDataInner, ChangePasswdData, Checksum,
-    EncryptedData, EncryptionKey, HostAddress, HostAddresses, KerbAdRestrictionEntry,
-    KerberosFlags, KerberosStringAsn1, KerberosTime, LastReq, LastReqInner, Microseconds,
-    PrincipalName, Realm, Ticket, TicketInner, TransitedEncoding,
+    EncryptedData, EncryptionKey, EtypeInfo2, EtypeInfo2Entry, HostAddress, HostAddresses,
+    KerbAdRestrictionEntry, KerbErrorData, KerbPaPacRequest, KerberosFlags, KerberosStringAsn1,
+    KerberosTime, LastReq, LastReqInner, Microseconds, PaData, PaEncTimestamp, PaEncTsEnc,
+    PaPacOptions, PrincipalName, Realm, Ticket, TicketInner, TransitedEncoding,
 };
 pub use results::{KrbResult, ResultExt};

@@ -8,11 +8,11 @@ ghost use Rattle.krb_der.specs.Equality.{TellsEqual};
 ghost use Rattle.krb_der.specs.Tags.{HasTag, HasTags};
 
 use crate::messages::{ApMessage, KdcProxyMessage, KrbError, KrbErrorInner};
-use krb_app::laws::equality as application_equality;
-use krb_app::messages::{ApRep, ApReq};
 use krb_der::DerEncode;
 use krb_der::composite::{Fields, Sequence};
-use krb_types::laws::equality as shared_equality;
+use krb_msg_app::laws::equality as application_equality;
+use krb_msg_app::messages::{ApRep, ApReq};
+use krb_msg_types::laws::equality as shared_equality;
 
 /// The message under its application tag (RFC 4120, 5.9.1).
 pub fn application_tags()

@@ -7,12 +7,12 @@ mod proxy;
 
 pub use ap_message::ApMessage;
 pub use errors::{KrbError, KrbErrorInner};
-pub use krb_app::messages::{
+pub use krb_msg_app::messages::{
     ApRep, ApRepInner, ApReq, ApReqInner, KrbCred, KrbCredInner, KrbPriv, KrbPrivInner, TgtRep,
     TgtReq,
 };
-pub use krb_iakerb::messages::{IAKerbCookie, IAKerbHeader};
-pub use krb_kdc::messages::{
+pub use krb_msg_iakerb::messages::{IAKerbCookie, IAKerbHeader};
+pub use krb_msg_kdc::messages::{
     AsRep, AsReq, EncAsRepPart, EncKdcRepPart, EncTgsRepPart, KdcRep, KdcReq, KdcReqBody, TgsRep,
     TgsReq,
 };

@@ -6,17 +6,19 @@ ghost use Rattle.krb_der.specs.Choice.{ChoiceFault};
 ghost use Rattle.krb_der.specs.FieldFaults.{HasFaultsOf, SameFault};
 ghost use Rattle.krb_der.specs.Equality.{TellsEqual};
 ghost use Rattle.krb_der.specs.Tags.{HasTag, HasTags};
-ghost use Rattle.krb_algorithms.specs.Implicit.{implicit};
+ghost use Rattle.krb_der_x509.specs.Implicit.{implicit};
+
+pub mod dh_keys;
+pub mod pku2u;
 
 use crate::pkinit::{
-    AuthPack, DhAuthPack, DhNonce, DhRepInfo, EcAuthPack, ExternalPrincipalIdentifier,
+    AuthPack, DhAuthPack, DhNonce, DhRepInfo, DhReqInfo, EcAuthPack, ExternalPrincipalIdentifier,
     KdcDhKeyInfo, PaPkAsRep, PaPkAsReq, PkAuthenticator,
 };
-use krb_algorithms::laws::equality as algorithm_equality;
-use krb_algorithms::{ImplicitContextTag1, SubjectPublicKeyInfo};
 use krb_der::composite::{Fields, Sequence};
 use krb_der::{Der, DerEncode, ExplicitContextTag0, OctetStringAsn1};
-use krb_dh_keys::pkinit::DhReqInfo;
+use krb_der_x509::laws::equality as algorithm_equality;
+use krb_der_x509::{ImplicitContextTag1, SubjectPublicKeyInfo};
 
 /// The aliases (RFC 4556, 3.2.1; RFC 5349, 4).
 pub fn aliases()

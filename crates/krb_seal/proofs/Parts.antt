@@ -2,13 +2,13 @@
 use Rattle.std.proofs.Common.{◌≡◌, inl, inr, ℕ, ◌≤◌, ◌-◌, Bool, List, ◌++◌, length, take, drop, replicate, ap, sym, ◌∙◌, refl, arith, append_assoc, length-append}
 use Rattle.std.proofs.Math.Seq.{take-append_seam}
 use Rattle.std.proofs.lemmas.List.{take-replicate, length-replicate, take_rest}
-use Rattle.krb_mac.specs.CryptoError.{IsMemoryOr}
-use Rattle.krb_mac.specs.declared.error.KerberosCryptoError.{KerberosCryptoError}
-use Rattle.krb_mac.specs.declared.error.KerberosCryptoError.TheVariants.{OutOfMemory}
-use Rattle.krb_leaves.specs.Encoding.{IsElement, OneValue}
-use Rattle.krb_leaves.specs.Reading.{TakesFront}
-use Rattle.krb_leaves.specs.TlvLaws.{field_apart}
-use Rattle.krb_scheme.specs.Sealing.{Opens, IsOfNone}
+use Rattle.krb_crypto_hash.specs.CryptoError.{IsMemoryOr}
+use Rattle.krb_crypto_hash.specs.declared.error.KerberosCryptoError.{KerberosCryptoError}
+use Rattle.krb_crypto_hash.specs.declared.error.KerberosCryptoError.TheVariants.{OutOfMemory}
+use Rattle.krb_der_core.specs.Encoding.{IsElement, OneValue}
+use Rattle.krb_der_core.specs.Reading.{TakesFront}
+use Rattle.krb_der_core.specs.TlvLaws.{field_apart}
+use Rattle.krb_crypto_message.specs.Sealing.{Opens, IsOfNone}
 use Rattle.krb_seal.specs.Filled.{IsFewZeros}
 
 module _ {A : Type 0} (is_value : A → Type 0) (enc : A → List ℕ) (first : ℕ → Bool) (element : (v : A) → is_value v → IsElement first (enc v)) (one : OneValue is_value enc) where

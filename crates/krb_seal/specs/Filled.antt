@@ -1,9 +1,9 @@
 -- An encoding with a cipher's fill behind it (RFC 3961, 5.3).
 use Rattle.std.specs.Prelude.{◌≡◌, ◌⊎◌, ℕ, ◌<◌, Bool, List, ◌++◌, replicate}
-use Rattle.krb_leaves.specs.declared.error.Asn1DerError.{Asn1DerError}
-use Rattle.krb_leaves.specs.declared.error.Asn1DerError.TheVariants.{InvalidData}
-use Rattle.krb_leaves.specs.Faults.{FrontFault}
-use Rattle.krb_leaves.specs.Reading.{RefusesFront}
+use Rattle.krb_der_core.specs.declared.error.Asn1DerError.{Asn1DerError}
+use Rattle.krb_der_core.specs.declared.error.Asn1DerError.TheVariants.{InvalidData}
+use Rattle.krb_der_core.specs.Faults.{FrontFault}
+use Rattle.krb_der_core.specs.Reading.{RefusesFront}
 
 -- fewer than size octets, all zero
 abbrev pub IsFewZeros : ℕ → List ℕ → Type 0

@@ -1,9 +1,9 @@
 -- Which half refused, and why.
 use Rattle.std.specs.Prelude.{◌≡◌, ◌⊎◌}
-use Rattle.krb_mac.specs.declared.error.KerberosCryptoError.{KerberosCryptoError}
-use Rattle.krb_mac.specs.declared.error.KerberosCryptoError.TheVariants as crypto
-use Rattle.krb_leaves.specs.declared.error.Asn1DerError.{Asn1DerError}
-use Rattle.krb_leaves.specs.declared.error.Asn1DerError.TheVariants as der
+use Rattle.krb_crypto_hash.specs.declared.error.KerberosCryptoError.{KerberosCryptoError}
+use Rattle.krb_crypto_hash.specs.declared.error.KerberosCryptoError.TheVariants as crypto
+use Rattle.krb_der_core.specs.declared.error.Asn1DerError.{Asn1DerError}
+use Rattle.krb_der_core.specs.declared.error.Asn1DerError.TheVariants as der
 use Rattle.krb_seal.specs.declared.error.PartError.{PartError}
 use Rattle.krb_seal.specs.declared.error.PartError.TheVariants.{Crypto, Der}
 

@@ -3,8 +3,8 @@
 ghost use Rattle.std.specs.Prelude.{◌≡◌};
 ghost use Rattle.krb_seal.specs.declared.error.PartError.TheVariants.{Crypto, Der};
 
+use krb_crypto_suite::KerberosCryptoError;
 use krb_der::Asn1DerError;
-use krb_suite::KerberosCryptoError;
 use thiserror::Error;
 
 /// Why a part was not sealed or not opened. Want of memory is told by the half that met it.

@@ -1,17 +1,17 @@
 //! Sealing and opening the encoding of a value, by a cipher that is lent.
 
 ghost use Rattle.std.specs.Prelude.{◌≡◌, ◌≢◌, ℕ, ◌↔◌, List, ◌++◌, length, IsTrue, IfOk, IfErr, MatchResult, IsErrAnd};
-ghost use Rattle.krb_mac.specs.CryptoError.{IsMemoryOr};
+ghost use Rattle.krb_crypto_hash.specs.CryptoError.{IsMemoryOr};
 ghost use Rattle.krb_der.specs.Reading.{Encodings};
 ghost use Rattle.krb_der.specs.Whole.{Answers, FailsWith};
-ghost use Rattle.krb_scheme.specs.Sealing.{IsGiven, IsOfNone, IsTheOne, Opens};
-ghost use Rattle.krb_leaves.specs.Faults.{OrMemory};
+ghost use Rattle.krb_crypto_message.specs.Sealing.{IsGiven, IsOfNone, IsTheOne, Opens};
+ghost use Rattle.krb_der_core.specs.Faults.{OrMemory};
 ghost use Rattle.krb_seal.specs.Filled.{FilledFault, IsFewZeros, RefusesFilled};
 ghost use Rattle.krb_seal.specs.PartError.{IsMemory, IsPartMemoryOr, IsCrypto, IfCrypto, IfDer};
 
 use crate::error::PartError;
+use krb_crypto_suite::{Cipher, KerberosCryptoError};
 use krb_der::{Asn1DerError, Der, to_vec};
-use krb_suite::{Cipher, KerberosCryptoError};
 use std::alloc::Global;
 
 /// The encoding of a value, sealed by the lent cipher under this key, key usage and confounder.

@@ -1,13 +1,13 @@
 -- Refusals of parts, told as those of a run.
 use Rattle.std.proofs.Common.{◌≡◌, ◌≢◌, ℕ, Bool, List, refl, inl, inr}
-use Rattle.krb_mac.specs.CryptoError.{IsMemoryOr}
-use Rattle.krb_mac.specs.declared.error.KerberosCryptoError.{KerberosCryptoError}
-use Rattle.krb_mac.specs.declared.error.KerberosCryptoError.TheVariants as crypto
-use Rattle.krb_leaves.specs.Faults.{OrMemory}
-use Rattle.krb_leaves.specs.Reading.{Encodings}
-use Rattle.krb_leaves.specs.declared.error.Asn1DerError.{Asn1DerError}
-use Rattle.krb_leaves.specs.declared.error.Asn1DerError.TheVariants as der
-use Rattle.krb_scheme.specs.Sealing.{IsOfNone, Opens}
+use Rattle.krb_crypto_hash.specs.CryptoError.{IsMemoryOr}
+use Rattle.krb_crypto_hash.specs.declared.error.KerberosCryptoError.{KerberosCryptoError}
+use Rattle.krb_crypto_hash.specs.declared.error.KerberosCryptoError.TheVariants as crypto
+use Rattle.krb_der_core.specs.Faults.{OrMemory}
+use Rattle.krb_der_core.specs.Reading.{Encodings}
+use Rattle.krb_der_core.specs.declared.error.Asn1DerError.{Asn1DerError}
+use Rattle.krb_der_core.specs.declared.error.Asn1DerError.TheVariants as der
+use Rattle.krb_crypto_message.specs.Sealing.{IsOfNone, Opens}
 use Rattle.krb_seal.specs.Filled.{FilledFault, RefusesFilled}
 use Rattle.krb_seal.specs.PartError.{IfCrypto, IfDer}
 use Rattle.krb_seal.specs.declared.error.PartError.{PartError}

@@ -1,16 +1,16 @@
 -- What each command answers to an input, and why it refuses one. The values that are read and written are those of which
 -- `is_value` holds, and `enc` gives their encodings.
 use Rattle.std.specs.Prelude.{◌≡◌, ◌≢◌, ◌⊎◌, ℕ, ℤ, Bool, List, length, Err}
-use Rattle.krb_mac.specs.declared.error.KerberosCryptoError.{KerberosCryptoError}
-use Rattle.krb_mac.specs.declared.error.KerberosCryptoError.TheVariants.{KeyLength}
-use Rattle.krb_leaves.specs.declared.error.Asn1DerError.{Asn1DerError}
-use Rattle.krb_leaves.specs.Faults.{ValueFault}
-use Rattle.krb_leaves.specs.Reading.{Encodings}
+use Rattle.krb_crypto_hash.specs.declared.error.KerberosCryptoError.{KerberosCryptoError}
+use Rattle.krb_crypto_hash.specs.declared.error.KerberosCryptoError.TheVariants.{KeyLength}
+use Rattle.krb_der_core.specs.declared.error.Asn1DerError.{Asn1DerError}
+use Rattle.krb_der_core.specs.Faults.{ValueFault}
+use Rattle.krb_der_core.specs.Reading.{Encodings}
 use Rattle.krb_der.specs.Whole.{ReadsValue, TellsCut, RefusesMore, NoDevice}
-use Rattle.krb_scheme.specs.Sealing.{IsGiven, IsOfNone, Opens}
+use Rattle.krb_crypto_message.specs.Sealing.{IsGiven, IsOfNone, Opens}
 use Rattle.krb_seal.specs.Filled.{FilledFault, RefusesFilled}
-use Rattle.krb_suite.specs.BySuite.{IsSealed, key_octets_of, confounder_octets_of, fill_octets_of, refusal_of}
-use Rattle.krb_suite.specs.declared.cipher_suite.CipherSuite.{CipherSuite}
+use Rattle.krb_crypto_suite.specs.BySuite.{IsSealed, key_octets_of, confounder_octets_of, fill_octets_of, refusal_of}
+use Rattle.krb_crypto_suite.specs.declared.cipher_suite.CipherSuite.{CipherSuite}
 use Rattle.krbtool.specs.declared.command.Command.{Command}
 use Rattle.krbtool.specs.declared.command.Command.TheVariants.{Check, Seal, Open}
 use Rattle.krbtool.specs.declared.failure.Failure.{Failure}

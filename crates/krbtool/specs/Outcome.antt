@@ -1,8 +1,8 @@
 -- What a run of the program did, and with which status it ended.
 use Rattle.std.specs.Prelude.{◌≡◌, ◌⊎◌, ℕ, Bool, List, take, ⊤, Option, Result, Ok, Err, OnOk, IfErr, IfSome, MatchResult}
 use Rattle.std.specs.Io.KnownBytes.{Keeps, Appends, IsAtEnd}
-use Rattle.krb_mac.specs.declared.error.KerberosCryptoError.TheVariants.{AlgorithmIdentifier}
-use Rattle.krb_leaves.specs.declared.error.Asn1DerError.{Asn1DerError}
+use Rattle.krb_crypto_hash.specs.declared.error.KerberosCryptoError.TheVariants.{AlgorithmIdentifier}
+use Rattle.krb_der_core.specs.declared.error.Asn1DerError.{Asn1DerError}
 use Rattle.krbtool.specs.declared.command.Command.{Command}
 use Rattle.krbtool.specs.declared.failure.Failure.{Failure}
 use Rattle.krbtool.specs.declared.failure.Failure.TheVariants.{Words, Crypto, Memory, Read, Write}

@@ -1,19 +1,19 @@
 //! What a command answers to an input.
 
 ghost use Rattle.std.specs.Prelude.{◌≡◌, ℕ, List, length, IfOk, IfErr, MatchResult};
-ghost use Rattle.krb_scheme.specs.Sealing.{IsGiven};
-ghost use Rattle.krb_suite.specs.BySuite.{IsSealed, key_octets_of, fill_octets_of, confounder_octets_of, refusal_of};
+ghost use Rattle.krb_crypto_message.specs.Sealing.{IsGiven};
+ghost use Rattle.krb_crypto_suite.specs.BySuite.{IsSealed, key_octets_of, fill_octets_of, confounder_octets_of, refusal_of};
 ghost use Rattle.krbtool.specs.Commands.{IsChecked, IsSealing, IsOpening, IsAnswer, IsUnread, IsUnsealed, IsUnopened, IsRefusal, HasConfounder};
 ghost use Rattle.krbtool.specs.Outcome.{IsOutside};
 
 use crate::command::{Command, SealingKey};
 use crate::failure::Failure;
+use krb_crypto_suite::{Cipher, CipherSuite};
+use krb_crypto_suite_types::aes::{Aes128CtsHmacSha196, Aes256CtsHmacSha196};
+use krb_crypto_suite_types::aes_sha2::{Aes128CtsHmacSha256128, Aes256CtsHmacSha384192};
+use krb_crypto_suite_types::des::Des3CbcSha1Kd;
 use krb_der::{Der, from_bytes, to_vec};
 use krb_seal::{open_part, seal_part};
-use krb_sha1_suites::aes::{Aes128CtsHmacSha196, Aes256CtsHmacSha196};
-use krb_sha1_suites::des::Des3CbcSha1Kd;
-use krb_sha2_suites::aes_sha2::{Aes128CtsHmacSha256128, Aes256CtsHmacSha384192};
-use krb_suite::{Cipher, CipherSuite};
 use std::alloc::Global;
 
 /// The input again, where it is the encoding of a value of the type.

@@ -4,9 +4,9 @@ ghost use Rattle.std.specs.Prelude.{◌≡◌, ◌⊎◌};
 ghost use Rattle.krbtool.specs.Failures.{of_der, of_part, der_line, crypto_line, line_of};
 ghost use Rattle.krbtool.specs.Outcome.{refusal_status};
 
+use krb_crypto_suite::KerberosCryptoError;
 use krb_der::Asn1DerError;
 use krb_seal::PartError;
-use krb_suite::KerberosCryptoError;
 use std::io;
 
 /// Why a run is refused.

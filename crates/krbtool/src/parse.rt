@@ -8,7 +8,7 @@ ghost use Rattle.krbtool.specs.Words.{IsEtype, IsUsage, AreKeyWords, IsCommand, 
 use crate::command::{Command, SealingKey};
 use crate::failure::Failure;
 use hex::FromHexError;
-use krb_suite::{Cipher, CipherSuite};
+use krb_crypto_suite::{Cipher, CipherSuite};
 use std::alloc::Global;
 
 /// The command that the words are. `Words` where they are none, and `Crypto(AlgorithmIdentifier)` where they name an

@@ -1,9 +1,5 @@
 //! Values in the Distinguished Encoding Rules (ITU-T X.690).
 
-pub use krb_algorithms::{
-    AlgorithmIdentifier, ImplicitContextTag, ImplicitContextTag0, ImplicitContextTag1,
-    ImplicitContextTag2, SubjectPublicKeyInfo, untagged,
-};
 pub use krb_der::{
     ApplicationTag, Asn1DerError, Asn1SequenceOf, BitStringAsn1, Der, DerEncode, DerSequence,
     ExplicitContextTag, ExplicitContextTag0, ExplicitContextTag1, ExplicitContextTag2,
@@ -13,4 +9,7 @@ pub use krb_der::{
     IntegerAsn1, OctetStringAsn1, Optional, Utf8StringAsn1, composite, copy, from_bytes,
     from_reader, to_vec, to_writer,
 };
-pub use krb_identifiers::{Asn1RawDer, DerPrimitive, ObjectIdentifierAsn1};
+pub use krb_der_x509::{
+    AlgorithmIdentifier, Asn1RawDer, DerPrimitive, ImplicitContextTag, ImplicitContextTag0,
+    ImplicitContextTag1, ImplicitContextTag2, ObjectIdentifierAsn1, SubjectPublicKeyInfo, untagged,
+};

@@ -7,4 +7,4 @@ pub use krb_msg::messages::{
     KrbCred, KrbCredInner, KrbError, KrbErrorInner, KrbPriv, KrbPrivInner, TgsRep, TgsReq, TgtRep,
     TgtReq,
 };
-pub use krb_password::KrbPrivMessage;
+pub use krb_msg_password::KrbPrivMessage;

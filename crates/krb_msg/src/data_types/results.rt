@@ -2,9 +2,9 @@
 
 ghost use Rattle.std.specs.Prelude.{◌≡◌, ◌++◌, ◌<◌, ◌^◌, List, ℕ, length, Ok, Err, IfOk, IfErr, MatchResult};
 ghost use Rattle.krb_der.specs.Whole.{Answers, FailsWith, NoDevice};
-ghost use Rattle.krb_leaves.specs.Faults.{OrMemory};
-ghost use Rattle.krb_leaves.specs.declared.error.Asn1DerError.{Asn1DerError};
-ghost use Rattle.krb_leaves.specs.declared.error.Asn1DerError.TheVariants.{InvalidData, TruncatedData};
+ghost use Rattle.krb_der_core.specs.Faults.{OrMemory};
+ghost use Rattle.krb_der_core.specs.declared.error.Asn1DerError.{Asn1DerError};
+ghost use Rattle.krb_der_core.specs.declared.error.Asn1DerError.TheVariants.{InvalidData, TruncatedData};
 ghost use Rattle.krb_msg.specs.Results.{FaultOf, FaultOfBoth, IsNoEncoding};
 
 use crate::messages::KrbError;

@@ -5,8 +5,8 @@ ghost use Rattle.krb_der.specs.Choice.{ChoiceFault, IsChoice, choice};
 ghost use Rattle.krb_der.specs.ChoiceLaws.{choice_element, choice_fault_laws, choice_one_value};
 ghost use Rattle.krb_msg.specs.ApMessage.{held, held_decides, tags_apart};
 
-use krb_app::messages::{ApRep, ApReq};
 use krb_der::{Asn1DerError, Der, DerEncode};
+use krb_msg_app::messages::{ApRep, ApReq};
 use std::alloc::{AllocError, Global};
 
 /// The first octet of a KRB-AP-REQ: application 14 (RFC 4120, 5.5.1).

@@ -17,7 +17,9 @@ use krb_der::{
     ExplicitContextTag9, ExplicitContextTag10, ExplicitContextTag11, ExplicitContextTag12,
     IntegerAsn1, OctetStringAsn1, Optional, field_refs,
 };
-use krb_types::data_types::{KerberosStringAsn1, KerberosTime, Microseconds, PrincipalName, Realm};
+use krb_msg_types::data_types::{
+    KerberosStringAsn1, KerberosTime, Microseconds, PrincipalName, Realm,
+};
 use std::alloc::{AllocError, Global};
 
 /// What a KRB-ERROR holds (RFC 4120, 5.9.1).

@@ -8,15 +8,15 @@ ghost use Rattle.krb_der.specs.FieldFaultLaws.{sequence_fault_laws};
 ghost use Rattle.krb_der.specs.SequenceLaws.{one_value_of, values_of};
 ghost use Rattle.krb_der.specs.TlvLaws.{only_tag, tagged_element};
 ghost use Rattle.krb_der.specs.Whole.{Answers, NoDevice, TellsCut};
-ghost use Rattle.krb_leaves.specs.Faults.{FrontFault, OrMemory};
-ghost use Rattle.krb_leaves.specs.declared.error.Asn1DerError.TheVariants.{OutOfMemory};
+ghost use Rattle.krb_der_core.specs.Faults.{FrontFault, OrMemory};
+ghost use Rattle.krb_der_core.specs.declared.error.Asn1DerError.TheVariants.{OutOfMemory};
 
 use krb_der::composite::{Fields, SEQUENCE, Sequence, read_sequence, write_sequence};
 use krb_der::{
     Asn1DerError, Der, DerEncode, DerSequence, ExplicitContextTag0, ExplicitContextTag1,
     ExplicitContextTag2, IntegerAsn1, OctetStringAsn1, Optional, field_refs, to_vec,
 };
-use krb_types::data_types::KerberosStringAsn1;
+use krb_msg_types::data_types::KerberosStringAsn1;
 use std::alloc::{AllocError, Global};
 
 /// A message to or from a KDC, on its way through a proxy (MS-KKDCP, 2.2.2).

@@ -4,12 +4,12 @@ ghost use Rattle.std.specs.Prelude.{◌==◌, ◌||◌};
 ghost use Rattle.krb_der.specs.Asn1.{explicit};
 ghost use Rattle.krb_der.specs.Choice.{ChoiceFault, IsChoice, choice};
 ghost use Rattle.krb_der.specs.ChoiceLaws.{choice_element, choice_fault_laws, choice_one_value};
-ghost use Rattle.krb_algorithms.specs.Implicit.{implicit};
+ghost use Rattle.krb_der_x509.specs.Implicit.{implicit};
 ghost use Rattle.krb_pkinit.specs.Replies.{held, held_decides, tags_apart};
 
 use super::replies::DhRepInfo;
-use krb_algorithms::ImplicitContextTag1;
 use krb_der::{Asn1DerError, Der, DerEncode, ExplicitContextTag0, OctetStringAsn1};
+use krb_der_x509::ImplicitContextTag1;
 use std::alloc::{AllocError, Global};
 
 /// The first octet of `DhInfo`: the explicit context tag 0.

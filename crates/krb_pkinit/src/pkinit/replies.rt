@@ -7,16 +7,16 @@ ghost use Rattle.krb_der.specs.FieldFaults.{sequence_fault};
 ghost use Rattle.krb_der.specs.FieldFaultLaws.{sequence_fault_laws};
 ghost use Rattle.krb_der.specs.SequenceLaws.{one_value_of, values_of};
 ghost use Rattle.krb_der.specs.TlvLaws.{only_tag, tagged_element};
-ghost use Rattle.krb_algorithms.specs.Implicit.{implicit};
+ghost use Rattle.krb_der_x509.specs.Implicit.{implicit};
 
 use super::nonces::DhNonce;
-use krb_algorithms::ImplicitContextTag0;
 use krb_der::composite::{Fields, SEQUENCE, Sequence, read_sequence, write_sequence};
 use krb_der::{
     Asn1DerError, BitStringAsn1, Der, DerEncode, DerSequence, ExplicitContextTag0,
     ExplicitContextTag1, ExplicitContextTag2, IntegerAsn1, OctetStringAsn1, Optional, field_refs,
 };
-use krb_types::data_types::KerberosTime;
+use krb_der_x509::ImplicitContextTag0;
+use krb_msg_types::data_types::KerberosTime;
 use std::alloc::{AllocError, Global};
 
 /// The public key of a KDC (RFC 4556, 3.2.3).

@@ -1,7 +1,7 @@
 use Rattle.std.proofs.Common.{◌≡◌, ◌+◌, ◌-◌, ◌%◌, ◌++◌, List, ℕ, arith, rules, subst}
 use Rattle.std.specs.Vec.{vec_len}
 use Rattle.krb_der.specs.Encoding.{IsOctets}
-use Rattle.krb_block.specs.Modes.{IsFill}
+use Rattle.krb_crypto_block.specs.Modes.{IsFill}
 use Rattle.examples.proofs.ToyOpening.{resized_fill, fill_octets, octets-append}
 use Rattle.examples.proofs.toy.filled.Goals as goal
 

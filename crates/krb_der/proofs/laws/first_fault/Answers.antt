@@ -1,4 +1,4 @@
-use Rattle.krb_leaves.specs.FaultLaws.{front_laws, value_laws}
+use Rattle.krb_der_core.specs.FaultLaws.{front_laws, value_laws}
 use Rattle.krb_der.proofs.laws.first_fault.Goals as goal
 
 pub returns-clause-front : goal.returns-clause-front

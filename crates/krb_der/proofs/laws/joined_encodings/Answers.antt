@@ -1,4 +1,4 @@
-use Rattle.krb_leaves.specs.TlvLaws.{tlv_apart, field_apart, optional_apart}
+use Rattle.krb_der_core.specs.TlvLaws.{tlv_apart, field_apart, optional_apart}
 use Rattle.krb_der.proofs.laws.joined_encodings.Goals as goal
 
 pub returns-clause-element : goal.returns-clause-element

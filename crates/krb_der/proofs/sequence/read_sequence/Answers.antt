@@ -1,7 +1,7 @@
 use Rattle.std.proofs.lemmas.Result.{err_from_is_err_and}
-use Rattle.krb_leaves.proofs.Refusals.{unwanted, no_content, parts_refused}
-use Rattle.krb_leaves.specs.Faults.{WholeFault}
-use Rattle.krb_leaves.proofs.TaggedFaults.{tag_wrong, content_wrong}
+use Rattle.krb_der_core.proofs.Refusals.{unwanted, no_content, parts_refused}
+use Rattle.krb_der_core.specs.Faults.{WholeFault}
+use Rattle.krb_der_core.proofs.TaggedFaults.{tag_wrong, content_wrong}
 use Rattle.krb_der.proofs.sequence.read_sequence.Goals as goal
 
 pub returns-then-tag-ne-SEQUENCE-clause-refused : goal.returns-then-tag-ne-SEQUENCE-clause-refused

@@ -1,8 +1,8 @@
 use Rattle.std.proofs.Common.{◌<◌, ◌^◌, length, arith, refl, inl, sym, ◌∙◌}
 use Rattle.std.proofs.lemmas.Result.{err_from_is_err_and}
 use Rattle.krb_der.proofs.WholeInput.{err_again, err_cut, err_more, whole_is, not_all, not_cut, no_more, no_device}
-use Rattle.krb_leaves.specs.Reading.{Encodings}
-use Rattle.krb_leaves.specs.Faults.{FrontFault}
+use Rattle.krb_der_core.specs.Reading.{Encodings}
+use Rattle.krb_der_core.specs.Faults.{FrontFault}
 use Rattle.krb_der.proofs.FaultSteps.{front_wrong, too_many}
 use Rattle.krb_der.proofs.whole.from_bytes.Goals as goal
 

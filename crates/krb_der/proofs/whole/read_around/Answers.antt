@@ -1,7 +1,7 @@
-use Rattle.krb_leaves.proofs.Refusals.{unwanted}
+use Rattle.krb_der_core.proofs.Refusals.{unwanted}
 use Rattle.krb_der.proofs.WholeInput.{around_refused}
-use Rattle.krb_leaves.specs.Faults.{ValueFault}
-use Rattle.krb_leaves.proofs.TaggedFaults.{tag_wrong, contents_wrong}
+use Rattle.krb_der_core.specs.Faults.{ValueFault}
+use Rattle.krb_der_core.proofs.TaggedFaults.{tag_wrong, contents_wrong}
 use Rattle.krb_der.proofs.whole.read_around.Goals as goal
 
 pub returns-then-tag-wanted-clause-refused : goal.returns-then-tag-wanted-clause-refused

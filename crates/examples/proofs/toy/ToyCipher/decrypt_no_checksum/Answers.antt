@@ -1,7 +1,7 @@
 use Rattle.std.proofs.Common.{◌≡◌, ◌∙◌, ◌++◌, sym, ap, length, map, take, drop, bit_xor, arith}
 use Rattle.std.proofs.lemmas.List.{append-nil}
 use Rattle.krb_der.specs.Encoding.{IsOctets}
-use Rattle.krb_scheme.specs.Sealing.{IsSplit}
+use Rattle.krb_crypto_message.specs.Sealing.{IsSplit}
 use Rattle.examples.proofs.ToyOpening.{toy_deciphers, only_octet}
 use Rattle.examples.proofs.toy.ToyCipher.decrypt_no_checksum.Goals as goal
 

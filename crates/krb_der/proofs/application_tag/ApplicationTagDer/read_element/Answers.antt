@@ -1,7 +1,7 @@
 use Rattle.std.proofs.Common.{◌+◌, ◌≤◌}
 use Rattle.std.proofs.lemmas.Result.{err_from_is_err_and}
-use Rattle.krb_leaves.specs.Tlv.{tlv}
-use Rattle.krb_leaves.proofs.Refusals.{refuses_other}
+use Rattle.krb_der_core.specs.Tlv.{tlv}
+use Rattle.krb_der_core.proofs.Refusals.{refuses_other}
 use Rattle.krb_der.proofs.application_tag.ApplicationTagDer.read_element.Goals as goal
 
 pub returns-in_err-sequence-clause-refused : goal.returns-in_err-sequence-clause-refused

@@ -1,6 +1,6 @@
 use Rattle.std.proofs.Common.{◌+◌, eqb}
-use Rattle.krb_leaves.specs.Tlv.{tlv}
-use Rattle.krb_leaves.specs.TlvLaws.{tagged_element, tagged_one_value}
+use Rattle.krb_der_core.specs.Tlv.{tlv}
+use Rattle.krb_der_core.specs.TlvLaws.{tagged_element, tagged_one_value}
 use Rattle.krb_der.proofs.FieldSteps.{field_read}
 use Rattle.krb_der.proofs.fields.ExplicitContextTagFields.read_fields.Goals as goal
 

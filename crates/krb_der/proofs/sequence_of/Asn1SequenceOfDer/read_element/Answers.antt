@@ -1,8 +1,8 @@
 use Rattle.std.specs.List.{flat_map, AllByRecursion}
 use Rattle.std.proofs.lemmas.Result.{err_from_is_err_and}
-use Rattle.krb_leaves.proofs.Refusals.{unwanted, no_content}
-use Rattle.krb_leaves.specs.Faults.{FrontFault, RowFault}
-use Rattle.krb_leaves.proofs.TaggedFaults.{tag_wrong, content_wrong}
+use Rattle.krb_der_core.proofs.Refusals.{unwanted, no_content}
+use Rattle.krb_der_core.specs.Faults.{FrontFault, RowFault}
+use Rattle.krb_der_core.proofs.TaggedFaults.{tag_wrong, content_wrong}
 use Rattle.krb_der.proofs.sequence_of.Asn1SequenceOfDer.read_element.Goals as goal
 
 pub returns-then-tag-ne-SEQUENCE-clause-refused : goal.returns-then-tag-ne-SEQUENCE-clause-refused

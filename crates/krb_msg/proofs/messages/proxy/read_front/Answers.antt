@@ -1,6 +1,6 @@
 use Rattle.std.proofs.Common.{drop, sym, ◌∙◌}
 use Rattle.std.proofs.lemmas.Result.{err_from_is_err_and}
-use Rattle.krb_leaves.specs.TlvLaws.{field_apart}
+use Rattle.krb_der_core.specs.TlvLaws.{field_apart}
 use Rattle.krb_der.proofs.WholeInput.{err_cut, not_cut}
 use Rattle.krb_msg.proofs.messages.proxy.read_front.Goals as goal
 

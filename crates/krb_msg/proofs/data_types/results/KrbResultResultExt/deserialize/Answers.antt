@@ -1,7 +1,7 @@
 use Rattle.std.proofs.Common.{◌⊎◌, inl, inr, rules}
 use Rattle.std.proofs.lemmas.Result.{err_from_is_err_and}
 use Rattle.std.specs.Prelude.{◌≡◌}
-use Rattle.krb_leaves.specs.declared.error.Asn1DerError.TheVariants as errors
+use Rattle.krb_der_core.specs.declared.error.Asn1DerError.TheVariants as errors
 use Rattle.krb_msg.proofs.data_types.results.KrbResultResultExt.deserialize.Goals as goal
 
 fault_of : {M P : Type 0} → M ⊎ P → (M → ⊥) → P

@@ -1,5 +1,0 @@
-use Rattle.krb_der.specs.EqualityLaws.{tag_tells}
-use Rattle.krb_algorithms.proofs.laws.implicit_equality.Goals as goal
-
-pub returns : goal.returns
-returns g c = λ h. tag_tells h

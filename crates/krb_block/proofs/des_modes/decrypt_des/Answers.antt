@@ -1,9 +1,0 @@
-use Rattle.std.proofs.Common.{◌≡◌, ◌++◌, length, take, drop, sym, ◌∙◌}
-use Rattle.std.proofs.lemmas.List.{take_at}
-use Rattle.krb_block.proofs.des_modes.decrypt_des.Goals as goal
-
-pub returns-clause-only : goal.returns-clause-only
-returns-clause-only c = λ q octets is.
-    let same : take c.in_ok-octets.octets.len (c.decrypt_des.new.octets ++ drop (length c.decrypt_des.new.octets) c.in_ok-octets.octets.items) ≡ c.decrypt_des.new.octets = take_at c.decrypt_des.new.octets (drop (length c.decrypt_des.new.octets) c.in_ok-octets.octets.items) c.in_ok-octets.octets.len (c.decrypt_des.auto.octets ∙ c.deref_mut.ensures.len) in
-    let held : c.deref_mut.result.now ≡ c.args.cipher_text.now = c.deref_mut.ensures.value ∙ c.in_ok-octets.ensures.items in
-    c.decrypt_des.ensures.only q octets (rw (c.in_ok-cipher.ensures.1, held) is) ∙ sym same

@@ -1,0 +1,67 @@
+-- What a key's calls answer, from what is kept of the key.
+use Rattle.std.proofs.Common.{◌≡◌, ℕ, zero, suc, ◌+◌, ◌-◌, ◌*◌, ◌≤◌, min, List, length, take, refl, sym, ap, ◌∙◌, subst, arith, inl, inr, length-take}
+use Rattle.krb_crypto_block.specs.Modes.{IsOctets, AreInverse}
+use Rattle.krb_crypto_block.specs.Aes.{key_expansion, key_words, round_count, add_round_key, cipher, aes_block, IsKeySize}
+use Rattle.krb_crypto_block.specs.InverseCipher.{inverse_sub_bytes, inverse_shift_rows, inverse_rounds, decipher, aes_undo}
+use Rattle.krb_crypto_block.specs.AesWords.{HasRoundKey, HasInverseKeys, IsKept, inverse_cipher_round, inverse_cipher_rounds, inverse_cipher_last}
+use Rattle.krb_crypto_block.proofs.Below.{AreBelow-take}
+use Rattle.krb_crypto_block.proofs.AesUndoing.{IsOctets-expanded, are_inverse}
+use Rattle.krb_crypto_block.proofs.AesWordKeys.{key_expansion-octets}
+
+module _ (octets words inverse_words v : List ℕ) (nr : ℕ) (kept : IsKept octets words inverse_words nr) (long : length octets ≡ 32) (view : take (4 * (nr - 6)) octets ≡ v) where
+  pub value_octets : IsOctets v
+  value_octets = subst IsOctets view (AreBelow-take (4 * (nr - 6)) octets kept.are_octets)
+
+  pub expansion_octets : IsOctets (key_expansion v)
+  unfolding key_expansion
+  expansion_octets = IsOctets-expanded (key_words v) v (4 * (round_count (key_words v) + 1) - key_words v) value_octets
+
+  pub keys_are : (n : ℕ) → n ≤ nr → HasRoundKey (key_expansion v) words n
+  keys_are = rw view at kept.keys
+
+  pub inverse_keys_are : HasInverseKeys (key_expansion v) inverse_words nr
+  inverse_keys_are = rw view at kept.inverse_keys
+
+  rounds_are : round_count (key_words v) ≡ nr
+  rounds_are =
+      let len : length v ≡ min (4 * (nr - 6)) (length octets) = ap length (sym view) ∙ length-take (4 * (nr - 6)) octets in
+      elim kept.size [ inl four ↦ omega arith | inr eight ↦ omega arith ]
+
+  pub cipher_is : (p : List ℕ) → aes_block v p ≡ cipher (key_expansion v) nr p
+  unfolding aes_block
+  cipher_is p = ap (λ (m : ℕ). cipher (key_expansion v) m p) rounds_are
+
+  pub decipher_is : (c : List ℕ) → aes_undo v c ≡ decipher (key_expansion v) nr c
+  unfolding aes_undo
+  decipher_is c = ap (λ (m : ℕ). decipher (key_expansion v) m c) rounds_are
+
+  pub keys_undo : AreInverse 16 (aes_block v) (aes_undo v)
+  keys_undo = are_inverse v value_octets
+
+-- a key of nk words is kept
+pub is_kept : (key octets words inverse_words : List ℕ) (nk : ℕ) → IsKeySize nk → length key ≡ 4 * nk → IsOctets octets → take (length key) octets ≡ key
+    → ((n : ℕ) → n ≤ nk + 6 → HasRoundKey (key_expansion key) words n)
+    → ((w : List ℕ) → IsOctets w → ((n : ℕ) → n ≤ nk + 6 → HasRoundKey w words n) → HasInverseKeys w inverse_words (nk + 6))
+    → IsKept octets words inverse_words (nk + 6)
+is_kept key octets words inverse_words nk size long are_octets front keys inverse =
+    let same : nk + 6 - 6 ≡ nk = omega arith in
+    let whole : 4 * (nk + 6 - 6) ≡ length key = omega arith in
+    let value : take (4 * (nk + 6 - 6)) octets ≡ key = rw whole front in
+    let key_octets : IsOctets key = subst IsOctets front (AreBelow-take (length key) octets are_octets) in
+    record {
+      size = rw same size;
+      are_octets = are_octets;
+      keys = rw value keys;
+      inverse_keys = rw value (inverse (key_expansion key) (key_expansion-octets nk key size long key_octets) keys);
+    }
+
+-- ---- the inverse cipher, in the order of its steps
+
+inverse_rounds_by_steps : (w st : List ℕ) (n : ℕ)
+    → inverse_sub_bytes (inverse_shift_rows (inverse_cipher_rounds w st n)) ≡ inverse_rounds w (inverse_sub_bytes (inverse_shift_rows st)) n
+unfolding inverse_rounds inverse_cipher_rounds
+inverse_rounds_by_steps w st zero = refl
+inverse_rounds_by_steps w st (suc n) = inverse_rounds_by_steps w (inverse_cipher_round w (suc n) st) n
+
+pub decipher_by_steps : (w c : List ℕ) (nr : ℕ) → inverse_cipher_last w (inverse_cipher_rounds w (add_round_key w nr c) (nr - 1)) ≡ decipher w nr c
+decipher_by_steps w c nr = ap (add_round_key w 0) (inverse_rounds_by_steps w (add_round_key w nr c) (nr - 1))

@@ -1,0 +1,118 @@
+//! n-fold (RFC 3961, 5.1).
+
+ghost use Rattle.std.specs.Prelude.{◌≡◌, ℕ, ◌+◌, ◌-◌, ◌*◌, ◌/◌, ◌%◌, ◌^◌, ◌<◌, ◌≤◌, length, IfOk, IfErr};
+ghost use Rattle.krb_crypto_block.specs.Fold.{number, gcd, rot, folded_number, fold};
+ghost use Rattle.krb_crypto_hash.specs.declared.error.KerberosCryptoError.TheVariants.{OutOfMemory};
+
+use crate::octets::are_octets;
+use krb_crypto_hash::KerberosCryptoResult;
+use std::alloc::Global;
+
+/// The octets folded to `n` bits (RFC 3961, 5.1): the copies of the input, each turned right by 13 bits more than the one
+/// before, as many as fill a common multiple of both lengths, are cut into pieces of `n` bits and added in
+/// ones'-complement arithmetic.
+///
+/// The input is not empty, and `n` is a positive multiple of 8. `OutOfMemory` is the only refusal.
+pub fn n_fold(alloc: Global, input: &[u8], n: usize) -> KerberosCryptoResult<Vec<u8>>
+    requires filled { 0 < length input.now }
+    requires whole { n % 8 ≡ 0 }
+    requires some { 0 < n }
+    ensures size { IfOk result (λ v. length v.items ≡ n / 8) }
+    ensures value { IfOk result (λ v. v.items ≡ fold input.now n) }
+    ensures refused { IfErr result (λ e. e ≡ OutOfMemory) }
+{
+    let mut folded = vec![in alloc; 0u8; n / 8]?;
+    n_fold_into(input, &mut folded);
+    Ok(folded)
+}
+
+/// The octets folded to as many bits as the caller's octets have (RFC 3961, 5.1), which are written over and may have held
+/// anything. Neither is empty, and no memory is taken.
+pub fn n_fold_into(input: &[u8], out: &mut [u8])
+    requires filled { 0 < length input.now }
+    requires some { 0 < length out.old }
+    ensures { out.new ≡ fold input.now (8 * length out.old) }
+{
+    out.fill(0);
+    fold_into(out, input);
+    are_octets(out);
+}
+
+/// Adds the turns of the input to the sum, octet by octet from the right, round and round, with end-around carry.
+fn fold_into(sum: &mut [u8], input: &[u8])
+    requires filled { 0 < length input.now }
+    requires some { 0 < length sum.old }
+    requires zero { number sum.old ≡ 0 }
+    ensures { number sum.new ≡ folded_number (number input.now) (8 * length input.now) (8 * length sum.old) }
+{
+    let size = sum.len();
+    let count = size / greatest_common_divisor(size, input.len());
+    let mut place = 0;
+    let mut carry = 0;
+    'turns: for back in 0..count {
+        let turn = count - 1 - back;
+        let shift = 5 * (turn % 8) % 8;
+        let mut from = (turn + turn / 8 * 5 + turn % 8 * 5 / 8) % input.len();
+        'octets: for e in 0..input.len() {
+            let octet = turned_octet(input, from, shift);
+            carry = add_octet(sum, place, octet, carry);
+            from += 1;
+            if from == input.len() {
+                from = 0;
+            }
+            place += 1;
+            if place == size {
+                place = 0;
+            }
+        }
+    }
+    'last: for i in 0..size {
+        carry = add_octet(sum, i, 0, carry);
+    }
+}
+
+/// The eight bits of the input that begin this many bits above the lowest bit of the octet at a place from the right, where
+/// the last octet comes again above the first. With 13 `j` bits being `j + 5 j / 8` octets and `5 j % 8` bits, they are octet
+/// `e` from the right of the input turned right by 13 `j` bits.
+fn turned_octet(input: &[u8], place: usize, shift: usize) -> u8
+    requires inside { place < length input.now }
+    requires few { shift < 8 }
+    ensures { (j e : ℕ) → e < length input.now → place ≡ ((j + 5 * j / 8) % length input.now + e) % length input.now → shift ≡ 5 * j % 8
+        → result ≡ rot (number input.now) (8 * length input.now) j / 256 ^ e % 256 }
+{
+    let last = input.len() - 1;
+    let low = input[last - place];
+    let high = input[if place == last {
+        last
+    } else {
+        last - place - 1
+    }];
+    let pair = high as u16 * 256 + low as u16;
+    ((pair >> shift) % 256) as u8
+}
+
+/// Adds an octet and a carry at a place from the right, and gives the carry.
+fn add_octet(sum: &mut [u8], place: usize, octet: u8, carry: u8) -> u8
+    requires inside { place < length sum.old }
+    requires one { carry ≤ 1 }
+    ensures carry { result ≤ 1 }
+    ensures value { number sum.new + result * 256 ^ (place + 1) ≡ number sum.old + (octet + carry) * 256 ^ place }
+{
+    let at = sum.len() - 1 - place;
+    let total = sum[at] as u16 + octet as u16 + carry as u16;
+    sum[at] = (total % 256) as u8;
+    (total / 256) as u8
+}
+
+/// By Euclid's algorithm, for a positive first number.
+fn greatest_common_divisor(mut a: usize, mut b: usize) -> usize
+    requires { 0 < a }
+    ensures { result ≡ gcd a b }
+{
+    while b != 0 {
+        let rest = a % b;
+        a = b;
+        b = rest;
+    }
+    a
+}

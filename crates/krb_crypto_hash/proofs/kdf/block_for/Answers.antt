@@ -1,0 +1,19 @@
+use Rattle.std.proofs.Common.{◌≡◌, [], ◌∷◌, ◌++◌, ℕ, List, refl, ap, ◌∙◌}
+use Rattle.std.specs.Int.{w32, to_be_bytes}
+use Rattle.krb_crypto_hash.specs.Hmac.{padded, hmac_over}
+use Rattle.krb_crypto_hash.specs.Kdf.{kdf_message}
+use Rattle.krb_crypto_hash.proofs.HmacSteps.{hmac_whole, four_parts}
+use Rattle.krb_crypto_hash.proofs.kdf.block_for.Goals as goal
+
+pub returns : goal.returns
+returns g c =
+    let hash : List ℕ → List ℕ = g.H.HashFunction.hash in
+    let key : List ℕ = c.args.key.now in
+    let label : List ℕ = c.args.label.now in
+    let counter : c.to_be_bytes.result ≡ to_be_bytes w32 1 = c.to_be_bytes.ensures in
+    let bits : c.to_be_bytes-2.result ≡ to_be_bytes w32 c.args.bits = c.to_be_bytes-2.ensures in
+    let digest = c.finish.ensures _ (c.absorb-4.ensures _ (c.absorb-3.ensures _ (c.absorb-2.ensures _ (c.absorb.ensures _ c.keyed-inner.ensures.0)))) in
+    let joined = four_parts (padded hash g.row.BLOCK key 0x36) c.to_be_bytes.result label (0 ∷ []) c.to_be_bytes-2.result in
+    let mac = c.finish-2.ensures _ (c.absorb-5.ensures _ c.keyed-inner.ensures.1) in
+    let message : c.to_be_bytes.result ++ (label ++ (0 ∷ c.to_be_bytes-2.result)) ≡ kdf_message label c.args.bits = rw (counter, bits) refl in
+    hmac_whole hash g.row.BLOCK key _ c.finish.result c.finish-2.result (digest ∙ ap hash joined) mac ∙ ap (hmac_over hash g.row.BLOCK key) message

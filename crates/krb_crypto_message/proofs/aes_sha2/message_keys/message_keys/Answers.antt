@@ -1,0 +1,17 @@
+use Rattle.std.proofs.Common.{◌≡◌, ◌∙◌}
+use Rattle.std.proofs.lemmas.Int.{to_z-of_z}
+use Rattle.krb_crypto_message.specs.WellKnown.{usage_constant}
+use Rattle.krb_crypto_message.proofs.Sha2Messages.{derived_for}
+use Rattle.krb_crypto_message.proofs.aes_sha2.message_keys.message_keys.Goals as goal
+
+pub returns-clause-ke : goal.returns-clause-ke
+returns-clause-ke c =
+    let fits = c.ranges.key_usage in
+    let label : c.usage_ke.result ≡ usage_constant c.args.key_usage 0xaa = simp to_z-of_z at c.usage_ke.ensures in
+    c.in_ok-new.ensures.1 ∙ c.as_slice.ensures ∙ derived_for c.args.size.now c.args.key.now _ _ _ _ _ c.derived_key-ke.ensures.derived label c.key_length.ensures
+
+pub returns-clause-ki : goal.returns-clause-ki
+returns-clause-ki c =
+    let fits = c.ranges.key_usage in
+    let label : c.usage_ki.result ≡ usage_constant c.args.key_usage 0x55 = simp to_z-of_z at c.usage_ki.ensures in
+    derived_for c.args.size.now c.args.key.now _ _ _ _ _ c.derived_key-ki.ensures.derived label c.checksum_size.ensures

@@ -1,0 +1,23 @@
+-- What the message calls keep between their steps.
+use Rattle.std.specs.Prelude.{◌≡◌, ℕ, ◌+◌, ◌-◌, ◌%◌, ◌≤◌, List, length, take, drop}
+use Rattle.krb_crypto_hash.specs.Hmac.{hmac}
+use Rattle.krb_crypto_block.specs.Modes.{IsOctets}
+
+-- the first size octets of an HMAC (RFC 2104, 5; RFC 3961, 5.3, "H1[1..h]")
+abbrev pub cut_mac : ℕ → List ℕ → List ℕ → List ℕ
+cut_mac size key message = take size (hmac key message)
+
+-- the last size of the octets, where a checksum stands (RFC 3961, 5.3)
+abbrev pub end_of : ℕ → List ℕ → List ℕ
+end_of size octets = drop (length octets - size) octets
+
+-- the one list that is enciphered to the octets without their last h, which holds n octets of a confounder and whole fills,
+-- and the key Ki
+pub record IsDeciphered (fill n h : ℕ) (enciphers : List ℕ → List ℕ → Type 0) (integrity_key octets filled ki : List ℕ) : Type 0 where
+  pub long : n + h ≤ length octets
+  pub front : n ≤ length filled
+  pub whole : length filled % fill ≡ 0
+  pub of_octets : IsOctets filled
+  pub enciphered : enciphers filled (take (length octets - h) octets)
+  pub only : (other : List ℕ) → IsOctets other → enciphers other (take (length octets - h) octets) → other ≡ filled
+  pub ki_is : ki ≡ integrity_key

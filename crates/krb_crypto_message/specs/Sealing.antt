@@ -1,0 +1,48 @@
+-- What the law of a cipher speaks of (RFC 3961, 3). Keys, confounders, payloads and sealed octets are lists of octets,
+-- and a meaning says which octets a payload becomes under a confounder: meaning confounder payload octets.
+use Rattle.std.specs.Prelude.{◌≡◌, ℕ, List, ◌++◌, ◌↔◌, length}
+use Rattle.krb_crypto_block.specs.Modes.{IsFill}
+
+-- ---- lists
+
+-- the fact holds of this list, and of no other
+pub record IsTheOne (fact : List ℕ → Type 0) (octets : List ℕ) : Type 0 where
+  pub holds : fact octets
+  pub only : (other : List ℕ) → fact other → other ≡ octets
+
+-- the fact holds of no list
+abbrev pub IsOfNone : (List ℕ → Type 0) → Type 0
+IsOfNone fact = (octets : List ℕ) → ¬ fact octets
+
+-- ---- with the checksum
+
+-- some confounder of size octets gives these octets for the payload
+pub record IsGiven (meaning : List ℕ → List ℕ → List ℕ → Type 0) (size : ℕ) (octets payload : List ℕ) : Type 0 where
+  pub confounder : List ℕ
+  pub size_is : length confounder ≡ size
+  pub means : meaning confounder payload octets
+
+-- what is opened is of whole fills, and it is the fill of each payload that is given and of no other
+pub record Opens (size : ℕ) (given : List ℕ → Type 0) (opened : List ℕ) : Type 0 where
+  pub whole : IsFill size opened opened
+  pub exactly : (payload : List ℕ) → given payload ↔ IsFill size payload opened
+
+-- ---- without the checksum
+
+-- with some checksum of size octets behind them, the encrypted octets are what the meaning gives
+pub record Enciphers (meaning : List ℕ → List ℕ → List ℕ → Type 0) (size : ℕ) (confounder payload encrypted : List ℕ) : Type 0 where
+  pub checksum : List ℕ
+  pub size_is : length checksum ≡ size
+  pub means : meaning confounder payload (encrypted ++ checksum)
+
+-- the octets are encrypted ones and, behind them, a checksum of size octets
+pub record IsSplit (size : ℕ) (octets encrypted checksum : List ℕ) : Type 0 where
+  pub joined : octets ≡ encrypted ++ checksum
+  pub size_is : length checksum ≡ size
+
+-- the encrypted octets are those of this confounder and of each payload that the plaintext is the fill of, and of no
+-- other confounder and payload
+pub record Deciphers (fill_size confounder_size : ℕ) (enciphers : List ℕ → List ℕ → List ℕ → Type 0) (encrypted confounder plaintext : List ℕ) : Type 0 where
+  pub size_is : length confounder ≡ confounder_size
+  pub whole : IsFill fill_size plaintext plaintext
+  pub exactly : (other payload : List ℕ) → length other ≡ confounder_size → enciphers other payload encrypted ↔ ((other ≡ confounder) × IsFill fill_size payload plaintext)

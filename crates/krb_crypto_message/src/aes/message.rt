@@ -1,0 +1,123 @@
+//! Messages under AES (RFC 3961, 5.3; RFC 3962, 6), stated once over the size of the key.
+
+ghost use Rattle.std.specs.Prelude.{◌≡◌, ◌≢◌, ℕ, List, length, IfOk, IfErr};
+ghost use Rattle.krb_crypto_hash.specs.CryptoError.{IsMemoryOr, RefusesKey};
+ghost use Rattle.krb_crypto_block.specs.Size.{key_octets};
+ghost use Rattle.krb_crypto_message.specs.MessageSteps.{IsDeciphered};
+ghost use Rattle.krb_crypto_message.specs.Sealed.{IsSealedAes, AesCts, aes_ki, aes_refusal};
+ghost use Rattle.krb_crypto_message.specs.Sealing.{IsTheOne, IsOfNone, IsGiven, Opens, Enciphers, IsSplit, Deciphers};
+
+use super::message_keys::MessageKeys;
+use crate::checksum::{Deciphered, joined, without_checksum};
+use crate::cts::{deciphered, enciphered};
+use crate::without_checksum::{DecryptWithoutChecksum, EncryptWithoutChecksum};
+use krb_crypto_block::in_place::{encrypt_aes_cts, hmac_sha1};
+use krb_crypto_block::{
+    AES_BLOCK_SIZE, AES_MAC_SIZE, AesSize, KerberosCryptoError, KerberosCryptoResult,
+};
+use std::alloc::Global;
+
+/// The octets of a message with an empty payload: the confounder and the checksum.
+const SHORTEST: usize = AES_BLOCK_SIZE + AES_MAC_SIZE;
+
+/// The payload, encrypted with the confounder in front of it under Ke, and the HMAC of both under Ki, cut to 12 octets.
+///
+/// `KeyLength` where the key has not the size's length; nothing else is refused.
+pub fn encrypt_message(
+    alloc: Global,
+    key: &[u8],
+    key_usage: i32,
+    payload: &[u8],
+    size: &AesSize,
+    confounder: [u8; AES_BLOCK_SIZE],
+) -> KerberosCryptoResult<Vec<u8>>
+    ensures key { IfOk result (λ _. length key.now ≡ key_octets size.now) }
+    ensures sealed { IfOk result (λ octets. IsTheOne (IsSealedAes key.now key_usage confounder payload.now) octets.items) }
+    ensures refused { IfErr result (RefusesKey (key_octets size.now) key.now) }
+{
+    let keys = MessageKeys::new(key, key_usage, size)?;
+    let mut octets = joined(alloc, &confounder, payload, AES_MAC_SIZE)?;
+    let mac = hmac_sha1(keys.ki.as_slice(), &octets);
+    encrypt_aes_cts(&keys.ke, &mut octets);
+    octets.extend_from_slice(&mac[..AES_MAC_SIZE])?;
+    Ok(octets)
+}
+
+/// The payload that was encrypted to these octets.
+///
+/// `CipherLength` of their number and 28 where they are fewer, then `KeyLength` where the key has not the size's length,
+/// then `IntegrityCheck` where the checksum is another; nothing is handed out before it is compared.
+pub fn decrypt_message(
+    alloc: Global,
+    key: &[u8],
+    key_usage: i32,
+    cipher_data: &[u8],
+    size: &AesSize,
+) -> KerberosCryptoResult<Vec<u8>>
+    ensures key { IfOk result (λ _. length key.now ≡ key_octets size.now) }
+    ensures opened { IfOk result (λ payload. Opens 1 (IsGiven (IsSealedAes key.now key_usage) 16 cipher_data.now) payload.items) }
+    ensures refused { length key.now ≡ key_octets size.now → IfErr result (λ e. IsMemoryOr e (IsOfNone (IsGiven (IsSealedAes key.now key_usage) 16 cipher_data.now))) }
+    ensures exact { IfErr result (λ e. IsMemoryOr e (e ≡ aes_refusal (key_octets size.now) key.now cipher_data.now)) }
+{
+    let deciphered = decipher(alloc, key, key_usage, cipher_data, size)?;
+    deciphered.checked(cipher_data, AES_BLOCK_SIZE, AES_MAC_SIZE)
+}
+
+/// What `encrypt_message` makes, without the checksum; with it the confounder and Ki.
+pub fn encrypt_message_no_checksum(
+    alloc: Global,
+    key: &[u8],
+    key_usage: i32,
+    payload: &[u8],
+    size: &AesSize,
+    confounder: [u8; AES_BLOCK_SIZE],
+) -> KerberosCryptoResult<EncryptWithoutChecksum>
+    ensures key { IfOk result (λ _. length key.now ≡ key_octets size.now) }
+    ensures encrypted { IfOk result (λ made. IsTheOne (Enciphers (IsSealedAes key.now key_usage) 12 confounder payload.now) made.encrypted.items) }
+    ensures confounder { IfOk result (λ made. made.confounder.items ≡ confounder) }
+    ensures ki { IfOk result (λ made. made.ki.items ≡ aes_ki key.now key_usage) }
+    ensures refused { IfErr result (RefusesKey (key_octets size.now) key.now) }
+{
+    let keys = MessageKeys::new(key, key_usage, size)?;
+    let octets = enciphered(alloc, &keys.ke, &confounder, payload, 0)?;
+    without_checksum(alloc, octets, &confounder, &keys.ki)
+}
+
+/// What the octets without their last 12 decrypt to, these 12 octets, which are not compared, and Ki.
+///
+/// `CipherLength` of their number and 28 where they are fewer, then `KeyLength` where the key has not the size's length.
+pub fn decrypt_message_no_checksum(
+    alloc: Global,
+    key: &[u8],
+    key_usage: i32,
+    cipher_data: &[u8],
+    size: &AesSize,
+) -> KerberosCryptoResult<DecryptWithoutChecksum>
+    ensures key { IfOk result (λ _. length key.now ≡ key_octets size.now) }
+    ensures opened { IfOk result (λ made. (encrypted : List ℕ) × IsSplit 12 cipher_data.now encrypted made.checksum.items × Deciphers 1 16 (Enciphers (IsSealedAes key.now key_usage) 12) encrypted made.confounder.items made.plaintext.items) }
+    ensures ki { IfOk result (λ made. made.ki.items ≡ aes_ki key.now key_usage) }
+    ensures refused { length key.now ≡ key_octets size.now → IfErr result (λ e. IsMemoryOr e ((encrypted checksum : List ℕ) → IsSplit 12 cipher_data.now encrypted checksum → IsOfNone (IsGiven (Enciphers (IsSealedAes key.now key_usage) 12) 16 encrypted))) }
+    ensures exact { IfErr result (λ e. IsMemoryOr e ((e ≡ aes_refusal (key_octets size.now) key.now cipher_data.now) × (e ≢ KerberosCryptoError.IntegrityCheck))) }
+{
+    let deciphered = decipher(alloc, key, key_usage, cipher_data, size)?;
+    deciphered.unchecked(alloc, cipher_data, AES_BLOCK_SIZE, AES_MAC_SIZE)
+}
+
+/// What the octets without their last 12 decrypt to under Ke.
+fn decipher(
+    alloc: Global,
+    key: &[u8],
+    key_usage: i32,
+    cipher_data: &[u8],
+    size: &AesSize,
+) -> KerberosCryptoResult<Deciphered>
+    ensures key { IfOk result (λ _. length key.now ≡ key_octets size.now) }
+    ensures deciphered { IfOk result (λ r. IsDeciphered 1 16 12 (AesCts key.now key_usage) (aes_ki key.now key_usage) cipher_data.now r.filled.items r.ki) }
+    ensures exact { IfErr result (λ e. IsMemoryOr e ((e ≡ aes_refusal (key_octets size.now) key.now cipher_data.now) × (e ≢ KerberosCryptoError.IntegrityCheck))) }
+{
+    if cipher_data.len() < SHORTEST {
+        return Err(KerberosCryptoError::CipherLength(cipher_data.len(), SHORTEST));
+    }
+    let keys = MessageKeys::new(key, key_usage, size)?;
+    deciphered(alloc, keys, cipher_data, AES_MAC_SIZE)
+}

@@ -1,0 +1,53 @@
+//! Checksums under the suites of RFC 8009.
+
+ghost use Rattle.std.specs.Prelude.{◌≡◌, length, IfOk, IfErr};
+ghost use Rattle.krb_crypto_hash.specs.CryptoError.{RefusesKey};
+ghost use Rattle.krb_crypto_block.specs.Size.{key_octets};
+ghost use Rattle.krb_crypto_message.specs.AesSha2.{sha2_mac, sha2_ki, sha2_sum};
+
+use super::key_derivation::{derived_key, test_key};
+use super::mac::{checksum_size, mac};
+use crate::well_known::{usage_kc, usage_ki};
+use krb_crypto_block::{AesSize, KerberosCryptoResult};
+use std::alloc::Global;
+
+/// The HMAC of just these octets under Ki, cut to 16 or 24 octets. What is sealed in with a payload is the one of 16 zero
+/// octets and the enciphered octets.
+///
+/// `KeyLength` where the key has not the size's length; nothing else is refused.
+pub fn integrity_checksum(
+    alloc: Global,
+    key: &[u8],
+    key_usage: i32,
+    payload: &[u8],
+    size: &AesSize,
+) -> KerberosCryptoResult<Vec<u8>>
+    ensures key { IfOk result (λ _. length key.now ≡ key_octets size.now) }
+    ensures checksum { IfOk result (λ checksum. checksum.items ≡ sha2_mac size.now (sha2_ki size.now key.now key_usage) payload.now) }
+    ensures refused { IfErr result (RefusesKey (key_octets size.now) key.now) }
+{
+    test_key(key, size)?;
+    let ki = derived_key(key, &usage_ki(key_usage), checksum_size(size), size);
+    let checksum = mac(ki.as_slice(), &[], payload, size);
+    Ok(Vec::from_slice(alloc, checksum.as_slice())?)
+}
+
+/// The checksum of a message that stands alone (RFC 8009, 6): its HMAC under Kc, cut to 16 or 24 octets.
+///
+/// `KeyLength` where the key has not the size's length; nothing else is refused.
+pub fn keyed_checksum(
+    alloc: Global,
+    key: &[u8],
+    key_usage: i32,
+    payload: &[u8],
+    size: &AesSize,
+) -> KerberosCryptoResult<Vec<u8>>
+    ensures key { IfOk result (λ _. length key.now ≡ key_octets size.now) }
+    ensures checksum { IfOk result (λ checksum. checksum.items ≡ sha2_sum size.now key.now key_usage payload.now) }
+    ensures refused { IfErr result (RefusesKey (key_octets size.now) key.now) }
+{
+    test_key(key, size)?;
+    let kc = derived_key(key, &usage_kc(key_usage), checksum_size(size), size);
+    let checksum = mac(kc.as_slice(), &[], payload, size);
+    Ok(Vec::from_slice(alloc, checksum.as_slice())?)
+}

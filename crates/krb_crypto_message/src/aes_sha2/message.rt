@@ -1,0 +1,141 @@
+//! Messages under the suites of RFC 8009, 5, stated once over the size of the key.
+
+ghost use Rattle.std.specs.Prelude.{◌≡◌, ◌≢◌, ◌+◌, ◌-◌, ◌≤◌, ℕ, List, length, take, IfOk, IfErr};
+ghost use Rattle.krb_crypto_hash.specs.CryptoError.{IsMemoryOr, RefusesKey};
+ghost use Rattle.krb_crypto_block.specs.Size.{key_octets};
+ghost use Rattle.krb_crypto_message.specs.AesSha2.{IsSealedSha2, sha2_ke, sha2_ki, sha2_seal_mac, sha2_checksum_octets, sha2_refusal};
+ghost use Rattle.krb_crypto_message.specs.MessageSteps.{end_of};
+ghost use Rattle.krb_crypto_message.specs.Sealing.{IsTheOne, IsOfNone, IsGiven, Opens, Enciphers, IsSplit, Deciphers};
+
+use super::mac::{checksum_size, mac};
+use super::message_keys::message_keys;
+use crate::aes::message_keys::MessageKeys;
+use crate::checksum::{behind, without_checksum};
+use crate::cts::{deciphered, enciphered};
+use crate::without_checksum::{DecryptWithoutChecksum, EncryptWithoutChecksum};
+use krb_crypto_block::{AES_BLOCK_SIZE, AesSize, KerberosCryptoError, KerberosCryptoResult};
+use std::alloc::Global;
+
+/// The cipher state that stands before the enciphered octets in the HMAC, and is the initial vector (RFC 8009, 5).
+const CIPHER_STATE: [u8; AES_BLOCK_SIZE] = [0; AES_BLOCK_SIZE];
+
+/// The payload, encrypted with the confounder in front of it under Ke, and the HMAC of 16 zero octets and the encrypted octets
+/// under Ki, cut to 16 or 24 octets.
+///
+/// `KeyLength` where the key has not the size's length; nothing else is refused.
+pub fn encrypt_message(
+    alloc: Global,
+    key: &[u8],
+    key_usage: i32,
+    payload: &[u8],
+    size: &AesSize,
+    confounder: [u8; AES_BLOCK_SIZE],
+) -> KerberosCryptoResult<Vec<u8>>
+    ensures key { IfOk result (λ _. length key.now ≡ key_octets size.now) }
+    ensures sealed { IfOk result (λ octets. IsTheOne (IsSealedSha2 size.now key.now key_usage confounder payload.now) octets.items) }
+    ensures refused { IfErr result (RefusesKey (key_octets size.now) key.now) }
+{
+    let keys = message_keys(key, key_usage, size)?;
+    let mut octets = enciphered(alloc, &keys.ke, &confounder, payload, checksum_size(size))?;
+    let mac = mac(keys.ki.as_slice(), &CIPHER_STATE, &octets, size);
+    octets.extend_from_slice(mac.as_slice())?;
+    Ok(octets)
+}
+
+/// The payload that was encrypted to these octets.
+///
+/// `CipherLength` of their number and 32 or 40 where they are fewer, then `KeyLength` where the key has not the size's length,
+/// then `IntegrityCheck` where the checksum is another; nothing is decrypted before it is compared.
+pub fn decrypt_message(
+    alloc: Global,
+    key: &[u8],
+    key_usage: i32,
+    cipher_data: &[u8],
+    size: &AesSize,
+) -> KerberosCryptoResult<Vec<u8>>
+    ensures key { IfOk result (λ _. length key.now ≡ key_octets size.now) }
+    ensures opened { IfOk result (λ payload. Opens 1 (IsGiven (IsSealedSha2 size.now key.now key_usage) 16 cipher_data.now) payload.items) }
+    ensures refused { length key.now ≡ key_octets size.now → IfErr result (λ e. IsMemoryOr e (IsOfNone (IsGiven (IsSealedSha2 size.now key.now key_usage) 16 cipher_data.now))) }
+    ensures exact { IfErr result (λ e. IsMemoryOr e (e ≡ sha2_refusal size.now key.now cipher_data.now)) }
+{
+    let keys = opening_keys(key, key_usage, cipher_data, size)?;
+    compare(keys.ki.as_slice(), cipher_data, size)?;
+    let opened = deciphered(alloc, keys, cipher_data, checksum_size(size))?;
+    Ok(behind(opened.filled, AES_BLOCK_SIZE))
+}
+
+/// What `encrypt_message` makes, without the checksum; with it the confounder and Ki.
+pub fn encrypt_message_no_checksum(
+    alloc: Global,
+    key: &[u8],
+    key_usage: i32,
+    payload: &[u8],
+    size: &AesSize,
+    confounder: [u8; AES_BLOCK_SIZE],
+) -> KerberosCryptoResult<EncryptWithoutChecksum>
+    ensures key { IfOk result (λ _. length key.now ≡ key_octets size.now) }
+    ensures encrypted { IfOk result (λ made. IsTheOne (Enciphers (IsSealedSha2 size.now key.now key_usage) (sha2_checksum_octets size.now) confounder payload.now) made.encrypted.items) }
+    ensures confounder { IfOk result (λ made. made.confounder.items ≡ confounder) }
+    ensures ki { IfOk result (λ made. made.ki.items ≡ sha2_ki size.now key.now key_usage) }
+    ensures refused { IfErr result (RefusesKey (key_octets size.now) key.now) }
+{
+    let keys = message_keys(key, key_usage, size)?;
+    let octets = enciphered(alloc, &keys.ke, &confounder, payload, 0)?;
+    without_checksum(alloc, octets, &confounder, &keys.ki)
+}
+
+/// What the octets without their last 16 or 24 decrypt to, these last octets, which are not compared, and Ki.
+///
+/// `CipherLength` of their number and 32 or 40 where they are fewer, then `KeyLength` where the key has not the size's length.
+pub fn decrypt_message_no_checksum(
+    alloc: Global,
+    key: &[u8],
+    key_usage: i32,
+    cipher_data: &[u8],
+    size: &AesSize,
+) -> KerberosCryptoResult<DecryptWithoutChecksum>
+    ensures key { IfOk result (λ _. length key.now ≡ key_octets size.now) }
+    ensures opened { IfOk result (λ made. (encrypted : List ℕ) × IsSplit (sha2_checksum_octets size.now) cipher_data.now encrypted made.checksum.items × Deciphers 1 16 (Enciphers (IsSealedSha2 size.now key.now key_usage) (sha2_checksum_octets size.now)) encrypted made.confounder.items made.plaintext.items) }
+    ensures ki { IfOk result (λ made. made.ki.items ≡ sha2_ki size.now key.now key_usage) }
+    ensures refused { length key.now ≡ key_octets size.now → IfErr result (λ e. IsMemoryOr e ((encrypted checksum : List ℕ) → IsSplit (sha2_checksum_octets size.now) cipher_data.now encrypted checksum → IsOfNone (IsGiven (Enciphers (IsSealedSha2 size.now key.now key_usage) (sha2_checksum_octets size.now)) 16 encrypted))) }
+    ensures exact { IfErr result (λ e. IsMemoryOr e ((e ≡ sha2_refusal size.now key.now cipher_data.now) × (e ≢ KerberosCryptoError.IntegrityCheck))) }
+{
+    let keys = opening_keys(key, key_usage, cipher_data, size)?;
+    let mac_size = checksum_size(size);
+    let opened = deciphered(alloc, keys, cipher_data, mac_size)?;
+    opened.unchecked(alloc, cipher_data, AES_BLOCK_SIZE, mac_size)
+}
+
+/// The keys of octets that are long enough for a confounder and a checksum.
+fn opening_keys(
+    key: &[u8],
+    key_usage: i32,
+    cipher_data: &[u8],
+    size: &AesSize,
+) -> KerberosCryptoResult<MessageKeys>
+    ensures key { IfOk result (λ _. length key.now ≡ key_octets size.now) }
+    ensures long { IfOk result (λ _. 16 + sha2_checksum_octets size.now ≤ length cipher_data.now) }
+    ensures ke { IfOk result (λ keys. keys.ke ≡ sha2_ke size.now key.now key_usage) }
+    ensures ki { IfOk result (λ keys. keys.ki ≡ sha2_ki size.now key.now key_usage) }
+    ensures exact { IfErr result (λ e. IsMemoryOr e ((e ≡ sha2_refusal size.now key.now cipher_data.now) × (e ≢ KerberosCryptoError.IntegrityCheck))) }
+{
+    let shortest = AES_BLOCK_SIZE + checksum_size(size);
+    if cipher_data.len() < shortest {
+        return Err(KerberosCryptoError::CipherLength(cipher_data.len(), shortest));
+    }
+    message_keys(key, key_usage, size)
+}
+
+/// Whether the octets end in the checksum of those before it. Else `IntegrityCheck`.
+fn compare(ki: &[u8], cipher_data: &[u8], size: &AesSize) -> KerberosCryptoResult<()>
+    requires long { sha2_checksum_octets size.now ≤ length cipher_data.now }
+    ensures alike { IfOk result (λ _. end_of (sha2_checksum_octets size.now) cipher_data.now ≡ sha2_seal_mac size.now ki.now (take (length cipher_data.now - sha2_checksum_octets size.now) cipher_data.now)) }
+    ensures refused { IfErr result (λ e. (end_of (sha2_checksum_octets size.now) cipher_data.now ≢ sha2_seal_mac size.now ki.now (take (length cipher_data.now - sha2_checksum_octets size.now) cipher_data.now)) × (e ≡ KerberosCryptoError.IntegrityCheck)) }
+{
+    let (encrypted, checksum) = cipher_data.split_at(cipher_data.len() - checksum_size(size));
+    let mac = mac(ki, &CIPHER_STATE, encrypted, size);
+    if mac.as_slice() != checksum {
+        return Err(KerberosCryptoError::IntegrityCheck);
+    }
+    Ok(())
+}

@@ -1,0 +1,153 @@
+//! Messages under triple DES (RFC 3961, 5.3 and 6.3).
+
+ghost use Rattle.std.specs.Prelude.{◌≡◌, ◌≢◌, ◌≤◌, ◌++◌, ℕ, List, length, IfOk, IfErr};
+ghost use Rattle.krb_crypto_block.specs.Modes.{IsFill, IsOctets};
+ghost use Rattle.krb_crypto_hash.specs.CryptoError.{IsMemoryOr, RefusesKey};
+ghost use Rattle.krb_crypto_message.specs.MessageSteps.{IsDeciphered};
+ghost use Rattle.krb_crypto_message.specs.Sealed.{IsSealedDes3, Des3Cbc, des3_ki, des3_refusal};
+ghost use Rattle.krb_crypto_message.specs.Sealing.{IsTheOne, IsOfNone, IsGiven, Opens, Enciphers, IsSplit, Deciphers};
+
+use super::message_keys::MessageKeys;
+use crate::checksum::{Deciphered, joined, without_checksum};
+use crate::octets::are_octets;
+use crate::without_checksum::{DecryptWithoutChecksum, EncryptWithoutChecksum};
+use krb_crypto_block::in_place::{decrypt_des, encrypt_des, hmac_sha1};
+use krb_crypto_block::{
+    DES3_BLOCK_SIZE, DES3_MAC_SIZE, DesKey, KerberosCryptoError, KerberosCryptoResult, fill_blocks,
+};
+use std::alloc::Global;
+
+/// The octets of a message with an empty payload: the confounder and the checksum.
+const SHORTEST: usize = DES3_BLOCK_SIZE + DES3_MAC_SIZE;
+
+/// The payload, encrypted with the confounder in front of it and zeros to whole blocks behind it under Ke, and the HMAC of
+/// all this under Ki, of 20 octets.
+///
+/// `KeyLength` where the key has not 24 octets; nothing else is refused.
+pub fn encrypt_message(
+    alloc: Global,
+    key: &[u8],
+    key_usage: i32,
+    payload: &[u8],
+    confounder: [u8; DES3_BLOCK_SIZE],
+) -> KerberosCryptoResult<Vec<u8>>
+    ensures key { IfOk result (λ _. length key.now ≡ 24) }
+    ensures sealed { IfOk result (λ octets. IsTheOne (IsSealedDes3 key.now key_usage confounder payload.now) octets.items) }
+    ensures refused { IfErr result (RefusesKey 24 key.now) }
+{
+    let base = DesKey::new(key)?;
+    let keys = MessageKeys::new(&base, key_usage)?;
+    let mut octets = filled(alloc, &confounder, payload, DES3_MAC_SIZE)?;
+    let mac = hmac_sha1(keys.ki.as_slice(), &octets);
+    encrypt_des(&keys.ke, &mut octets);
+    octets.extend_from_slice(&mac)?;
+    Ok(octets)
+}
+
+/// The payload that was encrypted to these octets, with its fill, whatever that is.
+///
+/// `KeyLength` where the key has not 24 octets, then `CipherLength` of their number and 28 where they are fewer, then
+/// `CipherUnpad` where those in front of the last 20 are not whole blocks of 8, then `IntegrityCheck` where the checksum
+/// is another; nothing is handed out before it is compared.
+pub fn decrypt_message(
+    alloc: Global,
+    key: &[u8],
+    key_usage: i32,
+    cipher_data: &[u8],
+) -> KerberosCryptoResult<Vec<u8>>
+    ensures key { IfOk result (λ _. length key.now ≡ 24) }
+    ensures opened { IfOk result (λ payload. Opens 8 (IsGiven (IsSealedDes3 key.now key_usage) 8 cipher_data.now) payload.items) }
+    ensures refused { length key.now ≡ 24 → IfErr result (λ e. IsMemoryOr e (IsOfNone (IsGiven (IsSealedDes3 key.now key_usage) 8 cipher_data.now))) }
+    ensures exact { IfErr result (λ e. IsMemoryOr e (e ≡ des3_refusal key.now cipher_data.now)) }
+{
+    let deciphered = decipher(alloc, key, key_usage, cipher_data)?;
+    deciphered.checked(cipher_data, DES3_BLOCK_SIZE, DES3_MAC_SIZE)
+}
+
+/// What `encrypt_message` makes, without the checksum; with it the confounder and Ki.
+pub fn encrypt_message_no_checksum(
+    alloc: Global,
+    key: &[u8],
+    key_usage: i32,
+    payload: &[u8],
+    confounder: [u8; DES3_BLOCK_SIZE],
+) -> KerberosCryptoResult<EncryptWithoutChecksum>
+    ensures key { IfOk result (λ _. length key.now ≡ 24) }
+    ensures encrypted { IfOk result (λ made. IsTheOne (Enciphers (IsSealedDes3 key.now key_usage) 20 confounder payload.now) made.encrypted.items) }
+    ensures confounder { IfOk result (λ made. made.confounder.items ≡ confounder) }
+    ensures ki { IfOk result (λ made. made.ki.items ≡ des3_ki key.now key_usage) }
+    ensures refused { IfErr result (RefusesKey 24 key.now) }
+{
+    let base = DesKey::new(key)?;
+    let keys = MessageKeys::new(&base, key_usage)?;
+    let mut octets = filled(alloc, &confounder, payload, 0)?;
+    encrypt_des(&keys.ke, &mut octets);
+    without_checksum(alloc, octets, &confounder, &keys.ki)
+}
+
+/// What the octets without their last 20 decrypt to, with the fill, whatever that is, these 20 octets, which are not
+/// compared, and Ki.
+///
+/// `KeyLength`, `CipherLength` and `CipherUnpad` as in `decrypt_message`, in this order.
+pub fn decrypt_message_no_checksum(
+    alloc: Global,
+    key: &[u8],
+    key_usage: i32,
+    cipher_data: &[u8],
+) -> KerberosCryptoResult<DecryptWithoutChecksum>
+    ensures key { IfOk result (λ _. length key.now ≡ 24) }
+    ensures opened { IfOk result (λ made. (encrypted : List ℕ) × IsSplit 20 cipher_data.now encrypted made.checksum.items × Deciphers 8 8 (Enciphers (IsSealedDes3 key.now key_usage) 20) encrypted made.confounder.items made.plaintext.items) }
+    ensures ki { IfOk result (λ made. made.ki.items ≡ des3_ki key.now key_usage) }
+    ensures refused { length key.now ≡ 24 → IfErr result (λ e. IsMemoryOr e ((encrypted checksum : List ℕ) → IsSplit 20 cipher_data.now encrypted checksum → IsOfNone (IsGiven (Enciphers (IsSealedDes3 key.now key_usage) 20) 8 encrypted))) }
+    ensures exact { IfErr result (λ e. IsMemoryOr e ((e ≡ des3_refusal key.now cipher_data.now) × (e ≢ KerberosCryptoError.IntegrityCheck))) }
+{
+    let deciphered = decipher(alloc, key, key_usage, cipher_data)?;
+    deciphered.unchecked(alloc, cipher_data, DES3_BLOCK_SIZE, DES3_MAC_SIZE)
+}
+
+/// Confounder and payload, filled to whole blocks, with room for `spare` octets behind them.
+fn filled(
+    alloc: Global,
+    confounder: &[u8; DES3_BLOCK_SIZE],
+    payload: &[u8],
+    spare: usize,
+) -> KerberosCryptoResult<Vec<u8>>
+    requires { spare ≤ 20 }
+    ensures filled { IfOk result (λ octets. IsFill 8 (confounder.now ++ payload.now) octets.items) }
+    ensures octets { IfOk result (λ octets. IsOctets octets.items) }
+    ensures memory { IfErr result (λ e. e ≡ KerberosCryptoError.OutOfMemory) }
+{
+    let mut octets = joined(alloc, confounder, payload, DES3_BLOCK_SIZE + spare)?;
+    fill_blocks(&mut octets)?;
+    are_octets(&octets);
+    Ok(octets)
+}
+
+/// What the octets without their last 20 decrypt to under Ke.
+fn decipher(
+    alloc: Global,
+    key: &[u8],
+    key_usage: i32,
+    cipher_data: &[u8],
+) -> KerberosCryptoResult<Deciphered>
+    ensures key { IfOk result (λ _. length key.now ≡ 24) }
+    ensures deciphered { IfOk result (λ r. IsDeciphered 8 8 20 (Des3Cbc key.now key_usage) (des3_ki key.now key_usage) cipher_data.now r.filled.items r.ki) }
+    ensures exact { IfErr result (λ e. IsMemoryOr e ((e ≡ des3_refusal key.now cipher_data.now) × (e ≢ KerberosCryptoError.IntegrityCheck))) }
+{
+    let base = DesKey::new(key)?;
+    if cipher_data.len() < SHORTEST {
+        return Err(KerberosCryptoError::CipherLength(cipher_data.len(), SHORTEST));
+    }
+    let encrypted = &cipher_data[..cipher_data.len() - DES3_MAC_SIZE];
+    if encrypted.len() % DES3_BLOCK_SIZE != 0 {
+        return Err(KerberosCryptoError::CipherUnpad);
+    }
+    let keys = MessageKeys::new(&base, key_usage)?;
+    let mut filled = Vec::from_slice(alloc, encrypted)?;
+    decrypt_des(&keys.ke, &mut filled);
+    are_octets(&filled);
+    Ok(Deciphered {
+        filled,
+        ki: keys.ki,
+    })
+}

@@ -1,0 +1,290 @@
+//! The AES suites of RFC 3962: ciphers over the message calls.
+
+ghost use Rattle.std.specs.Prelude.{◌≡◌};
+
+use krb_crypto_block::{AES_BLOCK_SIZE, AesSize, KerberosCryptoResult};
+use krb_crypto_message::aes::{
+    decrypt_message, decrypt_message_no_checksum, derive_key_from_password, encrypt_message,
+    encrypt_message_no_checksum, integrity_checksum, random_to_key,
+};
+use krb_crypto_message::{DecryptWithoutChecksum, EncryptWithoutChecksum};
+use krb_crypto_suite::confounder::confounder_of;
+use krb_crypto_suite::{ChecksumSuite, Cipher, CipherSuite};
+use std::alloc::Global;
+
+/// The octets to a multiple of which a payload is filled: ciphertext stealing fills none.
+const FILL_SIZE: usize = 1;
+
+/// aes128-cts-hmac-sha1-96, encryption type 17 (RFC 3962): keys and seeds of 16 octets, confounders of 16, checksums of 12.
+#[derive(Debug, Drop, Clone, PartialEq, Eq, Default)]
+pub struct Aes128CtsHmacSha196;
+
+impl Aes128CtsHmacSha196 {
+    /// The suite.
+    pub fn new() -> Aes128CtsHmacSha196 {
+        Aes128CtsHmacSha196
+    }
+}
+
+impl Cipher for Aes128CtsHmacSha196 {
+    ghost use Rattle.krb_crypto_message.specs.Derive.{IsAesPasswordKey};
+    ghost use Rattle.krb_crypto_message.specs.Sealed.{IsSealedAes, aes_ki, mac_96, aes_refusal};
+    ghost use Rattle.krb_crypto_suite.specs.declared.cipher_suite.CipherSuite.TheVariants as cipher;
+    ghost use Rattle.krb_crypto_suite.specs.declared.checksum_suite.ChecksumSuite.TheVariants as checksum;
+
+    ghost meaning = { λ _ key usage confounder payload octets. IsSealedAes key usage confounder payload octets };
+
+    ghost key_octets = { λ _. 16 };
+
+    ghost confounder_octets = { λ _. 16 };
+
+    ghost fill_octets = { λ _. 1 };
+
+    ghost checksum_octets = { λ _. 12 };
+
+    ghost integrity_key = { λ _ key usage. aes_ki key usage };
+
+    ghost integrity_checksum = { λ _ key usage message. mac_96 (aes_ki key usage) message };
+
+    ghost seed_bits = { λ _. 128 };
+
+    ghost key_of_seed = { λ _ seed. seed };
+
+    ghost password_key = { λ _ password salt key. IsAesPasswordKey 16 password salt key };
+
+    ghost unopened = { λ _ key _ octets e. e ≡ aes_refusal 16 key octets };
+
+    ghost no_password_key = { λ _ _ _ _. ⊥ };
+
+    ghost encryption_type = { λ _. cipher.Aes128CtsHmacSha196 };
+
+    ghost keyed_checksum_type = { λ _. checksum.HmacSha196Aes128 };
+
+    fn key_size(&self) -> usize {
+        AesSize::Aes128.key_length()
+    }
+
+    fn seed_bit_len(&self) -> usize {
+        AesSize::Aes128.seed_bit_len()
+    }
+
+    fn confounder_size(&self) -> usize {
+        AES_BLOCK_SIZE
+    }
+
+    fn fill_size(&self) -> usize {
+        FILL_SIZE
+    }
+
+    fn cipher_type(&self) -> CipherSuite {
+        CipherSuite::Aes128CtsHmacSha196
+    }
+
+    fn checksum_type(&self) -> ChecksumSuite {
+        ChecksumSuite::HmacSha196Aes128
+    }
+
+    fn encrypt(
+        &self,
+        alloc: Global,
+        key: &[u8],
+        key_usage: i32,
+        payload: &[u8],
+        confounder: &[u8],
+    ) -> KerberosCryptoResult<Vec<u8>> {
+        let confounder = confounder_of(confounder);
+        encrypt_message(alloc, key, key_usage, payload, &AesSize::Aes128, confounder)
+    }
+
+    fn decrypt(
+        &self,
+        alloc: Global,
+        key: &[u8],
+        key_usage: i32,
+        cipher_data: &[u8],
+    ) -> KerberosCryptoResult<Vec<u8>> {
+        decrypt_message(alloc, key, key_usage, cipher_data, &AesSize::Aes128)
+    }
+
+    fn encrypt_no_checksum(
+        &self,
+        alloc: Global,
+        key: &[u8],
+        key_usage: i32,
+        payload: &[u8],
+        confounder: &[u8],
+    ) -> KerberosCryptoResult<EncryptWithoutChecksum> {
+        let confounder = confounder_of(confounder);
+        encrypt_message_no_checksum(alloc, key, key_usage, payload, &AesSize::Aes128, confounder)
+    }
+
+    fn decrypt_no_checksum(
+        &self,
+        alloc: Global,
+        key: &[u8],
+        key_usage: i32,
+        cipher_data: &[u8],
+    ) -> KerberosCryptoResult<DecryptWithoutChecksum> {
+        decrypt_message_no_checksum(alloc, key, key_usage, cipher_data, &AesSize::Aes128)
+    }
+
+    fn encryption_checksum(
+        &self,
+        alloc: Global,
+        key: &[u8],
+        key_usage: i32,
+        payload: &[u8],
+    ) -> KerberosCryptoResult<Vec<u8>> {
+        integrity_checksum(alloc, key, key_usage, payload, &AesSize::Aes128)
+    }
+
+    fn generate_key_from_password(
+        &self,
+        alloc: Global,
+        password: &[u8],
+        salt: &[u8],
+    ) -> KerberosCryptoResult<Vec<u8>> {
+        derive_key_from_password(alloc, password, salt, &AesSize::Aes128)
+    }
+
+    fn random_to_key(&self, _alloc: Global, key: Vec<u8>) -> KerberosCryptoResult<Vec<u8>> {
+        Ok(random_to_key(key))
+    }
+}
+
+/// aes256-cts-hmac-sha1-96, encryption type 18 (RFC 3962): keys and seeds of 32 octets, confounders of 16, checksums of 12.
+#[derive(Debug, Drop, Clone, PartialEq, Eq, Default)]
+pub struct Aes256CtsHmacSha196;
+
+impl Aes256CtsHmacSha196 {
+    /// The suite.
+    pub fn new() -> Aes256CtsHmacSha196 {
+        Aes256CtsHmacSha196
+    }
+}
+
+impl Cipher for Aes256CtsHmacSha196 {
+    ghost use Rattle.krb_crypto_message.specs.Derive.{IsAesPasswordKey};
+    ghost use Rattle.krb_crypto_message.specs.Sealed.{IsSealedAes, aes_ki, mac_96, aes_refusal};
+    ghost use Rattle.krb_crypto_suite.specs.declared.cipher_suite.CipherSuite.TheVariants as cipher;
+    ghost use Rattle.krb_crypto_suite.specs.declared.checksum_suite.ChecksumSuite.TheVariants as checksum;
+
+    ghost meaning = { λ _ key usage confounder payload octets. IsSealedAes key usage confounder payload octets };
+
+    ghost key_octets = { λ _. 32 };
+
+    ghost confounder_octets = { λ _. 16 };
+
+    ghost fill_octets = { λ _. 1 };
+
+    ghost checksum_octets = { λ _. 12 };
+
+    ghost integrity_key = { λ _ key usage. aes_ki key usage };
+
+    ghost integrity_checksum = { λ _ key usage message. mac_96 (aes_ki key usage) message };
+
+    ghost seed_bits = { λ _. 256 };
+
+    ghost key_of_seed = { λ _ seed. seed };
+
+    ghost password_key = { λ _ password salt key. IsAesPasswordKey 32 password salt key };
+
+    ghost unopened = { λ _ key _ octets e. e ≡ aes_refusal 32 key octets };
+
+    ghost no_password_key = { λ _ _ _ _. ⊥ };
+
+    ghost encryption_type = { λ _. cipher.Aes256CtsHmacSha196 };
+
+    ghost keyed_checksum_type = { λ _. checksum.HmacSha196Aes256 };
+
+    fn key_size(&self) -> usize {
+        AesSize::Aes256.key_length()
+    }
+
+    fn seed_bit_len(&self) -> usize {
+        AesSize::Aes256.seed_bit_len()
+    }
+
+    fn confounder_size(&self) -> usize {
+        AES_BLOCK_SIZE
+    }
+
+    fn fill_size(&self) -> usize {
+        FILL_SIZE
+    }
+
+    fn cipher_type(&self) -> CipherSuite {
+        CipherSuite::Aes256CtsHmacSha196
+    }
+
+    fn checksum_type(&self) -> ChecksumSuite {
+        ChecksumSuite::HmacSha196Aes256
+    }
+
+    fn encrypt(
+        &self,
+        alloc: Global,
+        key: &[u8],
+        key_usage: i32,
+        payload: &[u8],
+        confounder: &[u8],
+    ) -> KerberosCryptoResult<Vec<u8>> {
+        let confounder = confounder_of(confounder);
+        encrypt_message(alloc, key, key_usage, payload, &AesSize::Aes256, confounder)
+    }
+
+    fn decrypt(
+        &self,
+        alloc: Global,
+        key: &[u8],
+        key_usage: i32,
+        cipher_data: &[u8],
+    ) -> KerberosCryptoResult<Vec<u8>> {
+        decrypt_message(alloc, key, key_usage, cipher_data, &AesSize::Aes256)
+    }
+
+    fn encrypt_no_checksum(
+        &self,
+        alloc: Global,
+        key: &[u8],
+        key_usage: i32,
+        payload: &[u8],
+        confounder: &[u8],
+    ) -> KerberosCryptoResult<EncryptWithoutChecksum> {
+        let confounder = confounder_of(confounder);
+        encrypt_message_no_checksum(alloc, key, key_usage, payload, &AesSize::Aes256, confounder)
+    }
+
+    fn decrypt_no_checksum(
+        &self,
+        alloc: Global,
+        key: &[u8],
+        key_usage: i32,
+        cipher_data: &[u8],
+    ) -> KerberosCryptoResult<DecryptWithoutChecksum> {
+        decrypt_message_no_checksum(alloc, key, key_usage, cipher_data, &AesSize::Aes256)
+    }
+
+    fn encryption_checksum(
+        &self,
+        alloc: Global,
+        key: &[u8],
+        key_usage: i32,
+        payload: &[u8],
+    ) -> KerberosCryptoResult<Vec<u8>> {
+        integrity_checksum(alloc, key, key_usage, payload, &AesSize::Aes256)
+    }
+
+    fn generate_key_from_password(
+        &self,
+        alloc: Global,
+        password: &[u8],
+        salt: &[u8],
+    ) -> KerberosCryptoResult<Vec<u8>> {
+        derive_key_from_password(alloc, password, salt, &AesSize::Aes256)
+    }
+
+    fn random_to_key(&self, _alloc: Global, key: Vec<u8>) -> KerberosCryptoResult<Vec<u8>> {
+        Ok(random_to_key(key))
+    }
+}

@@ -1,0 +1,4 @@
+use Rattle.krb_der_core.proofs.tlv.+push_digits.Given as goal
+
+abbrev pub decreases-push_digits : goal.decreases-push_digits
+decreases-push_digits l = l.n

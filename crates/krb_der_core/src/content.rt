@@ -1,0 +1,50 @@
+//! The contents of leaves.
+
+ghost use Rattle.std.specs.Prelude.{◌≡◌, ◌⊎◌, List, ℕ, IfOk, IfErr, IsErrAnd};
+ghost use Rattle.krb_der_core.specs.Tlv.{tlv};
+ghost use Rattle.krb_der_core.specs.Encoding.{OneValue};
+ghost use Rattle.krb_der_core.specs.Reading.{RefusesAll};
+ghost use Rattle.krb_der_core.specs.Faults.{LeafFault, OrMemory};
+ghost use Rattle.krb_der_core.specs.declared.error.Asn1DerError.TheVariants as errors;
+
+use crate::error::Asn1DerError;
+use std::alloc::Global;
+
+/// A leaf: a type that is read from the content of its element, told apart from the tag and the length.
+pub(crate) trait Content {
+    /// The content of a value's element (X.690, 8.1.4).
+    ghost octets: { Self → List ℕ };
+
+    /// Holds of the values of the type.
+    ghost has_content: { Self → Type 0 };
+
+    /// Equal contents are of equal values.
+    ghost one_content: { OneValue has_content octets };
+
+    /// The value that has this content.
+    fn read_content(alloc: Global, content: &[u8]) -> Result<Self, Asn1DerError>
+        ensures valid { IfOk result has_content }
+        ensures found { IfOk result (λ v. content.now ≡ octets v) }
+        ensures refused { IfErr result (RefusesAll has_content octets content.now) }
+        ensures fault { IfErr result (λ e. (e ≡ errors.InvalidData) ⊎ (e ≡ errors.OutOfMemory)) };
+}
+
+/// The leaf whose element has this tag and content, where the tag is the wanted one; another is `InvalidData`.
+pub(crate) fn read_tagged<C: Content>(
+    alloc: Global,
+    wanted: u8,
+    tag: u8,
+    content: &[u8],
+) -> Result<C, Asn1DerError>
+    ensures valid { IfOk result C.has_content }
+    ensures found { IfOk result (λ v. tlv tag content.now ≡ tlv wanted (C.octets v)) }
+    ensures refused { IfErr result (RefusesAll C.has_content (λ v. tlv wanted (C.octets v)) (tlv tag content.now)) }
+    ensures fault { IfErr result (λ e. (e ≡ errors.InvalidData) ⊎ (e ≡ errors.OutOfMemory)) }
+    ensures wrong_tag { (tag ≡ wanted → ⊥) → IsErrAnd result (λ e. e ≡ errors.InvalidData) }
+    ensures first_fault { IfErr result (OrMemory (LeafFault wanted C.has_content C.octets tag content.now)) }
+{
+    if tag != wanted {
+        return Err(Asn1DerError::InvalidData);
+    }
+    C::read_content(alloc, content)
+}

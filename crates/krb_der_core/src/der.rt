@@ -1,0 +1,92 @@
+//! Types whose values have one encoding each.
+
+ghost use Rattle.std.specs.Prelude.{◌≡◌, ◌<◌, ℕ, Bool, false, List, ◌++◌, length, slice_index, IfOk, IfErr, IsErrAnd, OnOk, OnErr};
+ghost use Rattle.krb_der_core.specs.Tlv.{tlv};
+ghost use Rattle.krb_der_core.specs.Encoding.{IsElement, IsSequence, OneValue};
+ghost use Rattle.krb_der_core.specs.Reading.{TakesFront, RefusesFront, RefusesAll, Encodings};
+ghost use Rattle.krb_der_core.specs.Faults.{FaultLaws, FrontFault, OrMemory};
+ghost use Rattle.krb_der_core.specs.declared.error.Asn1DerError.{Asn1DerError};
+ghost use Rattle.krb_der_core.specs.declared.error.Asn1DerError.TheVariants.{InvalidData};
+
+use crate::error::Asn1DerError;
+use crate::tlv::read_tlv;
+use std::alloc::{AllocError, Global};
+
+/// A type each of whose values has one encoding by the Distinguished Encoding Rules (X.690, 10).
+pub trait DerEncode {
+    /// The encoding of a value.
+    ghost enc: { Self → List ℕ };
+
+    /// Holds of the values of the type: numbers are in range, and invariants are kept.
+    ghost is_value: { Self → Type 0 };
+
+    /// Whether an encoding may begin with this octet.
+    ghost first: { ℕ → Bool };
+
+    /// Each encoding is one element.
+    ghost is_element: { (v : Self) → is_value v → IsElement first (enc v) };
+
+    /// Equal encodings are of equal values.
+    ghost one_value: { OneValue is_value enc };
+
+    /// Which refusal the first fault is of the element of this tag and content, from the left: that of its tag, then that
+    /// of its content.
+    ghost fault: { ℕ → List ℕ → Asn1DerError → Type 0 };
+
+    /// An element with a fault is no value's, and has no other first fault.
+    ghost fault_laws: { FaultLaws is_value enc fault };
+
+    /// Whether a value's encoding may begin with this octet.
+    fn starts(octet: u8) -> bool
+        ensures { result ≡ first octet };
+
+    /// Appends the encoding to `out`, which is as before where memory is wanting.
+    fn write(&self, alloc: Global, out: &mut Vec<u8>) -> Result<(), AllocError>
+        ensures ok { OnOk result (out.new.items ≡ out.old.items ++ enc self.now) }
+        ensures valid { OnOk result (is_value self.now) }
+        ensures err { OnErr result (out.new.items ≡ out.old.items) };
+}
+
+/// A type whose values are read from their encodings.
+pub trait Der: DerEncode {
+    /// The value whose encoding is the element of this tag and content.
+    ///
+    /// `InvalidData` where the tag is another, else the first fault of the content.
+    fn read_element(alloc: Global, tag: u8, content: &[u8]) -> Result<Self, Asn1DerError>
+        ensures valid { IfOk result Self.is_value }
+        ensures found { IfOk result (λ v. tlv tag content.now ≡ Self.enc v) }
+        ensures refused { IfErr result (RefusesAll Self.is_value Self.enc (tlv tag content.now)) }
+        ensures wrong_tag { Self.first tag ≡ false → IsErrAnd result (λ e. e ≡ InvalidData) }
+        ensures first_fault { IfErr result (OrMemory (Self.fault tag content.now)) };
+
+    /// The value whose encoding stands at the front of the input, and the number of its octets.
+    ///
+    /// A proper front of an encoding is `TruncatedData`. Else the first fault decides: no tag is `TruncatedData`, a
+    /// wrong one `InvalidData`, then come the faults of the length, and then those of the content.
+    final fn read(alloc: Global, input: &[u8]) -> Result<(Self, usize), Asn1DerError>
+        ensures valid { IfOk result (λ p. Self.is_value p.0) }
+        ensures found { IfOk result (λ p. TakesFront (Self.enc p.0) p.1 input.now) }
+        ensures refused { IfErr result (RefusesFront (Encodings Self.is_value Self.enc) input.now) }
+        ensures wrong_tag { 0 < length input.now → Self.first (slice_index input.now 0) ≡ false → IsErrAnd result (λ e. e ≡ InvalidData) }
+        ensures first_fault { IfErr result (OrMemory (FrontFault Self.first Self.fault input.now)) }
+    {
+        if input.is_empty() {
+            return Err(Asn1DerError::TruncatedData);
+        }
+        let tag = input[0];
+        if !Self::starts(tag) {
+            return Err(Asn1DerError::InvalidData);
+        }
+        let (content, taken) = read_tlv(tag, input)?;
+        let value = Self::read_element(alloc, tag, content)?;
+        Ok((value, taken))
+    }
+}
+
+/// A type whose encodings are SEQUENCEs: their first octet is `30` (X.690, 8.9).
+///
+/// Only what stands under an application tag has to be one.
+pub trait DerSequence: DerEncode {
+    /// The encoding of a value is a SEQUENCE of some content.
+    ghost is_sequence: { (v : Self) → IsSequence (Self.enc v) };
+}

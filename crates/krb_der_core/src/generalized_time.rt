@@ -1,0 +1,248 @@
+//! GeneralizedTime.
+
+ghost use Rattle.std.specs.Prelude.{◌==◌, ◌≡◌, ◌↔◌, ◌+◌, ◌<◌, length, IsTrue, IsOk, IfOk, IfErr};
+ghost use Rattle.krb_der_core.specs.Tlv.{tlv};
+ghost use Rattle.krb_der_core.specs.TlvLaws.{tagged_element, tagged_one_value};
+ghost use Rattle.krb_der_core.specs.declared.error.Asn1DerError.TheVariants as errors;
+ghost use Rattle.krb_der_core.specs.GeneralizedTime.{Time, time, IsRealDate, IsTimeOfDay, IsRealTime, last_digit, time_content, number_at, time_told};
+ghost use Rattle.krb_der_core.specs.GeneralizedTimeLaws.{time_one_content};
+ghost use Rattle.krb_der_core.specs.Faults.{LeafFault};
+ghost use Rattle.krb_der_core.specs.FaultLaws.{leaf_fault_laws};
+
+use crate::content::{Content, read_tagged};
+use crate::der::{Der, DerEncode};
+use crate::error::Asn1DerError;
+use crate::tlv::write_tlv;
+use jiff::civil::Date;
+use std::alloc::{AllocError, Global};
+use std::marker::Model;
+
+/// The tag of a GeneralizedTime: universal 24 (X.690, 8.25).
+const GENERALIZED_TIME: u8 = 0x18;
+
+/// How many octets the content has: those of `YYYYMMDDHHMMSSZ`.
+const CONTENT_LENGTH: usize = 15;
+
+/// GeneralizedTime (X.690, 8.25 and 11.7), in the one form of a KerberosTime (RFC 4120, 5.2.3): a time in UTC, to the
+/// second.
+///
+/// A value is always a real time of the Gregorian calendar, from the year 0 to the year 9999, and never a leap second.
+/// The content is `YYYYMMDDHHMMSSZ` in ASCII, with no fraction of a second; another is `InvalidData`.
+#[derive(Debug, Drop, Clone, PartialEq, Eq)]
+pub struct GeneralizedTimeAsn1 {
+    year: u16,
+    month: u8,
+    day: u8,
+    hour: u8,
+    minute: u8,
+    second: u8,
+}
+
+impl Model for GeneralizedTimeAsn1 {
+    ghost Value = { Time };
+
+    ghost view = { λ t. time t.year t.month t.day t.hour t.minute t.second };
+
+    ghost invariant = { λ t. IsRealTime (time t.year t.month t.day t.hour t.minute t.second) };
+
+    ghost inverse = { λ v. record { year = v.year; month = v.month; day = v.day; hour = v.hour; minute = v.minute; second = v.second } };
+}
+
+impl GeneralizedTimeAsn1 {
+    /// The time with these numbers, or `InvalidData` if they are of no real time.
+    ///
+    /// Real is a date of the Gregorian calendar (year 0 to 9999, month 1 to 12, day 1 to the last of that month) at an
+    /// hour to 23, a minute to 59 and a second to 59.
+    pub fn new(
+        year: u16,
+        month: u8,
+        day: u8,
+        hour: u8,
+        minute: u8,
+        second: u8,
+    ) -> Result<Self, Asn1DerError>
+        ensures real { IsOk result ↔ IsRealTime (time year month day hour minute second) }
+        ensures value { IfOk result (λ t. t ≡ time year month day hour minute second) }
+        ensures refused { IfErr result (λ e. e ≡ errors.InvalidData) }
+    {
+        if !is_real_date(year, month, day) || !is_time_of_day(hour, minute, second) {
+            return Err(Asn1DerError::InvalidData);
+        }
+        Ok(GeneralizedTimeAsn1 {
+            year,
+            month,
+            day,
+            hour,
+            minute,
+            second,
+        })
+    }
+
+    /// The year, 0 to 9999.
+    pub fn year(&self) -> u16
+        ensures { result ≡ self.now.year }
+    {
+        self.year
+    }
+
+    /// The month, 1 to 12.
+    pub fn month(&self) -> u8
+        ensures { result ≡ self.now.month }
+    {
+        self.month
+    }
+
+    /// The day of the month, from 1: to 28, 29, 30 or 31.
+    pub fn day(&self) -> u8
+        ensures { result ≡ self.now.day }
+    {
+        self.day
+    }
+
+    /// The hour, 0 to 23.
+    pub fn hour(&self) -> u8
+        ensures { result ≡ self.now.hour }
+    {
+        self.hour
+    }
+
+    /// The minute, 0 to 59.
+    pub fn minute(&self) -> u8
+        ensures { result ≡ self.now.minute }
+    {
+        self.minute
+    }
+
+    /// The second, 0 to 59.
+    pub fn second(&self) -> u8
+        ensures { result ≡ self.now.second }
+    {
+        self.second
+    }
+
+    /// The content.
+    fn octets(&self) -> [u8; CONTENT_LENGTH]
+        ensures { result ≡ time_content self.now }
+    {
+        [
+            last_digit(self.year / 1000),
+            last_digit(self.year / 100),
+            last_digit(self.year / 10),
+            last_digit(self.year),
+            last_digit(u16::from(self.month / 10)),
+            last_digit(u16::from(self.month)),
+            last_digit(u16::from(self.day / 10)),
+            last_digit(u16::from(self.day)),
+            last_digit(u16::from(self.hour / 10)),
+            last_digit(u16::from(self.hour)),
+            last_digit(u16::from(self.minute / 10)),
+            last_digit(u16::from(self.minute)),
+            last_digit(u16::from(self.second / 10)),
+            last_digit(u16::from(self.second)),
+            b'Z',
+        ]
+    }
+}
+
+/// Whether the Gregorian calendar has this day, in a year of at most four digits.
+fn is_real_date(year: u16, month: u8, day: u8) -> bool
+    ensures { IsTrue result ↔ IsRealDate year month day }
+{
+    // The calendar takes signed numbers, and up to these bounds none is lost in a cast.
+    year <= 9999
+        && month <= 12
+        && day <= 31
+        && Date::new(year as i16, month as i8, day as i8).is_ok()
+}
+
+/// Whether a day has this second, leap seconds aside.
+fn is_time_of_day(hour: u8, minute: u8, second: u8) -> bool
+    ensures { IsTrue result ↔ IsTimeOfDay hour minute second }
+{
+    hour <= 23 && minute <= 59 && second <= 59
+}
+
+/// The last decimal digit of a number, in ASCII.
+fn last_digit(number: u16) -> u8
+    ensures { result ≡ last_digit number }
+{
+    b'0' + (number % 10) as u8
+}
+
+/// The number that the two digits at an index stand for.
+fn number_at(content: &[u8], index: usize) -> u8
+    requires { index + 1 < length content.now }
+    ensures { result ≡ number_at content.now index }
+{
+    10 * (content[index] % 16) + content[index + 1] % 16
+}
+
+/// The time that the digits of a content tell, or `InvalidData` if it is no real time. What is no digit is taken for
+/// some number too.
+fn time_told(content: &[u8]) -> Result<GeneralizedTimeAsn1, Asn1DerError>
+    requires { length content.now ≡ 15 }
+    ensures real { IsOk result ↔ IsRealTime (time_told content.now) }
+    ensures value { IfOk result (λ t. t ≡ time_told content.now) }
+    ensures refused { IfErr result (λ e. e ≡ errors.InvalidData) }
+{
+    GeneralizedTimeAsn1::new(
+        100 * u16::from(number_at(content, 0)) + u16::from(number_at(content, 2)),
+        number_at(content, 4),
+        number_at(content, 6),
+        number_at(content, 8),
+        number_at(content, 10),
+        number_at(content, 12),
+    )
+}
+
+impl Content for GeneralizedTimeAsn1 {
+    ghost octets = { time_content };
+
+    ghost has_content = { IsRealTime };
+
+    ghost one_content = { time_one_content };
+
+    fn read_content(_alloc: Global, content: &[u8]) -> Result<Self, Asn1DerError> {
+        if content.len() != CONTENT_LENGTH {
+            return Err(Asn1DerError::InvalidData);
+        }
+        let time = time_told(content)?;
+        // The octets of that time are these again only where each is the digit or the `Z` that its place wants.
+        if time.octets().as_slice() != content {
+            return Err(Asn1DerError::InvalidData);
+        }
+        Ok(time)
+    }
+}
+
+impl DerEncode for GeneralizedTimeAsn1 {
+    ghost enc = { λ v. tlv 24 (time_content v) };
+
+    ghost is_value = { IsRealTime };
+
+    ghost first = { λ t. t == 24 };
+
+    ghost is_element = { λ v h. tagged_element 24 (time_content v) };
+
+    ghost one_value = { tagged_one_value 24 IsRealTime time_content time_one_content };
+
+    ghost fault = { LeafFault 24 IsRealTime time_content };
+
+    ghost fault_laws = { leaf_fault_laws 24 IsRealTime time_content };
+
+    fn starts(octet: u8) -> bool {
+        octet == GENERALIZED_TIME
+    }
+
+    fn write(&self, _alloc: Global, out: &mut Vec<u8>) -> Result<(), AllocError> {
+        // A field in use shows the proof what holds of all of them.
+        let _ = &self.year;
+        write_tlv(GENERALIZED_TIME, &self.octets(), out)
+    }
+}
+
+impl Der for GeneralizedTimeAsn1 {
+    fn read_element(alloc: Global, tag: u8, content: &[u8]) -> Result<Self, Asn1DerError> {
+        read_tagged(alloc, GENERALIZED_TIME, tag, content)
+    }
+}

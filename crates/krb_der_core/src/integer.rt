@@ -1,0 +1,205 @@
+//! INTEGER.
+
+ghost use Rattle.std.specs.Prelude.{◌≡◌, ◌==◌, ℕ, ◌^◌, ◌<◌, ◌≤◌, ℤ, pos, length, drop, slice_index, FitsSigned, MatchBool, MatchOption, SomeIff, IfOk, IfErr, OnErr, []};
+ghost use Rattle.std.specs.Int.{w64};
+ghost use Rattle.std.specs.Int.Digits.{number_from_digits};
+ghost use Rattle.std.specs.Cmp.Lexicographic.{pointwise};
+ghost use Rattle.std.specs.Cmp.Rules.{comparing};
+ghost use Rattle.std.proofs.Common.{rules};
+ghost use Rattle.krb_der_core.specs.Tlv.{tlv};
+ghost use Rattle.krb_der_core.specs.TlvLaws.{tagged_element, tagged_one_value};
+ghost use Rattle.krb_der_core.specs.Integer.{inverted, shortest, whole_number, IsShortest};
+ghost use Rattle.krb_der_core.specs.IntegerLaws.{integer_one_content};
+ghost use Rattle.krb_der_core.specs.declared.error.Asn1DerError.TheVariants.{OutOfMemory};
+ghost use Rattle.krb_der_core.specs.Faults.{LeafFault};
+ghost use Rattle.krb_der_core.specs.FaultLaws.{leaf_fault_laws};
+
+use crate::content::{Content, read_tagged};
+use crate::der::{Der, DerEncode};
+use crate::error::Asn1DerError;
+use crate::octet_string::known_octets;
+use crate::tlv::{number_of, write_tlv};
+use std::alloc::{AllocError, Global};
+use std::marker::Model;
+
+/// The tag of an INTEGER: universal 2 (X.690, 8.3).
+pub(crate) const INTEGER: u8 = 0x02;
+
+/// The most octets of a number that fits 64 bits.
+const I64_OCTETS: usize = 8;
+
+/// INTEGER (X.690, 8.3): a whole number of any size. The content is its shortest two's complement, highest octet first.
+///
+/// A contract sees the number.
+#[derive(Debug, Drop)]
+pub struct IntegerAsn1(Vec<u8>);
+
+impl Model for IntegerAsn1 {
+    ghost Value = { ℤ };
+
+    ghost view = { λ s. whole_number s.0.items };
+
+    ghost invariant = { λ s. IsShortest s.0.items };
+}
+
+/// Whether there is an octet, and the first is not needless (X.690, 8.3.2).
+fn is_shortest(octets: &[u8]) -> bool
+    ensures { MatchBool result (IsShortest octets.now) (IsShortest octets.now → ⊥) }
+{
+    match octets {
+        [] => false,
+        [_] => true,
+        [first, second, ..] => *first != if *second < 128 { 0x00 } else { 0xff },
+    }
+}
+
+/// How many octets at the front are needless.
+fn needless(octets: &[u8]) -> usize
+    requires { 0 < length octets.now }
+    ensures within { result < length octets.now }
+    ensures same { whole_number (drop result octets.now) ≡ whole_number octets.now }
+    ensures short { IsShortest (drop result octets.now) }
+{
+    let mut n = 0;
+    while !is_shortest(&octets[n..]) {
+        n += 1;
+    }
+    n
+}
+
+/// The number that the octets stand for in base 256 with each bit the other way, highest octet first.
+fn number_of_inverted(octets: &[u8]) -> usize
+    requires { length octets.now ≤ 8 }
+    ensures { result ≡ number_from_digits 256 (inverted octets.now) }
+{
+    let mut n = 0usize;
+    for octet in octets {
+        n = n * 256 + !*octet as usize;
+    }
+    n
+}
+
+impl IntegerAsn1 {
+    /// The number that the octets stand for in two's complement, highest octet first; none stand for zero.
+    ///
+    /// `OutOfMemory` alone is answered, and only where there are no octets: then one is made.
+    pub fn from_bytes_be_signed(alloc: Global, octets: Vec<u8>) -> Result<Self, Asn1DerError>
+        ensures value { IfOk result (λ v. v ≡ whole_number octets.items) }
+        ensures err { IfErr result (λ e. e ≡ OutOfMemory) }
+        ensures empty { OnErr result (octets.items ≡ []) }
+    {
+        if octets.is_empty() {
+            return Ok(IntegerAsn1(Vec::from_slice(alloc, &[0])?));
+        }
+        let mut octets = octets;
+        let front = needless(&octets);
+        let kept = octets.len() - front;
+        octets.rotate_left(front);
+        octets.truncate(kept);
+        Ok(IntegerAsn1(octets))
+    }
+
+    /// The number that the octets stand for, highest octet first, which is not negative; none stand for zero.
+    ///
+    /// `OutOfMemory` alone is answered: an octet may be added.
+    pub fn from_bytes_be_unsigned(alloc: Global, octets: Vec<u8>) -> Result<Self, Asn1DerError>
+        ensures value { IfOk result (λ v. v ≡ pos (number_from_digits 256 octets.items)) }
+        ensures err { IfErr result (λ e. e ≡ OutOfMemory) }
+        ensures needed { OnErr result (0 < length octets.items → 128 ≤ slice_index octets.items 0) }
+    {
+        let mut octets = octets;
+        if octets.first().is_some_and(|first| *first >= 128) {
+            octets.insert(0, 0)?;
+        }
+        IntegerAsn1::from_bytes_be_signed(alloc, octets)
+    }
+
+    /// The shortest two's complement of the number, highest octet first.
+    pub fn as_signed_bytes_be(&self) -> &[u8]
+        ensures { result.now ≡ shortest self.now }
+    {
+        known_octets(&self.0);
+        self.0.as_slice()
+    }
+
+    /// The number, where it fits 64 bits; `None` where it does not.
+    pub fn to_i64(&self) -> Option<i64>
+        ensures { SomeIff result (FitsSigned w64 self.now) self.now }
+    {
+        let octets = self.as_signed_bytes_be();
+        if octets.len() > I64_OCTETS {
+            return None;
+        }
+        if octets[0] < 128 {
+            Some(number_of(octets) as i64)
+        } else {
+            Some(-1 - number_of_inverted(octets) as i64)
+        }
+    }
+
+    /// The number, where it fits 32 bits and is not negative; `None` where it does not.
+    pub fn to_u32(&self) -> Option<u32>
+        ensures { MatchOption result ((n : ℕ) → n < 2 ^ 32 → self.now ≡ pos n → ⊥) (λ n. self.now ≡ pos n) }
+    {
+        u32::try_from(self.to_i64()?).ok()
+    }
+}
+
+impl PartialEq for IntegerAsn1 {
+    ghost eq = { λ a b. pointwise ◌==◌ (shortest a) (shortest b) };
+
+    ghost laws = { Prim.search (comparing, rules) };
+
+    fn eq(&self, other: &Self) -> bool {
+        self.as_signed_bytes_be() == other.as_signed_bytes_be()
+    }
+}
+
+impl Eq for IntegerAsn1 {
+    ghost laws = { Prim.search (comparing, rules) };
+}
+
+impl Content for IntegerAsn1 {
+    ghost octets = { shortest };
+
+    ghost has_content = { λ v. Unit {0} };
+
+    ghost one_content = { integer_one_content };
+
+    fn read_content(alloc: Global, content: &[u8]) -> Result<Self, Asn1DerError> {
+        if !is_shortest(content) {
+            return Err(Asn1DerError::InvalidData);
+        }
+        Ok(IntegerAsn1(Vec::from_slice(alloc, content)?))
+    }
+}
+
+impl DerEncode for IntegerAsn1 {
+    ghost enc = { λ v. tlv 2 (shortest v) };
+
+    ghost is_value = { λ v. Unit {0} };
+
+    ghost first = { λ t. t == 2 };
+
+    ghost is_element = { λ v h. tagged_element 2 (shortest v) };
+
+    ghost one_value = { tagged_one_value 2 (λ v. Unit {0}) shortest integer_one_content };
+
+    ghost fault = { LeafFault 2 (λ v. Unit {0}) shortest };
+
+    ghost fault_laws = { leaf_fault_laws 2 (λ v. Unit {0}) shortest };
+
+    fn starts(octet: u8) -> bool {
+        octet == INTEGER
+    }
+
+    fn write(&self, _alloc: Global, out: &mut Vec<u8>) -> Result<(), AllocError> {
+        write_tlv(INTEGER, self.as_signed_bytes_be(), out)
+    }
+}
+
+impl Der for IntegerAsn1 {
+    fn read_element(alloc: Global, tag: u8, content: &[u8]) -> Result<Self, Asn1DerError> {
+        read_tagged(alloc, INTEGER, tag, content)
+    }
+}

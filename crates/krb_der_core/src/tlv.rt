@@ -1,0 +1,151 @@
+//! Tags, lengths and contents.
+
+ghost use Rattle.std.specs.Prelude.{◌≡◌, ◌⊎◌, ℕ, ◌^◌, ◌-◌, ◌<◌, ◌≤◌, ◌++◌, length, take, drop, slice_index, IfOk, IfErr, OnOk, OnErr};
+ghost use Rattle.std.specs.Int.Digits.{digits_of, number_from_digits};
+ghost use Rattle.krb_der_core.specs.Tlv.{len, header, tlv};
+ghost use Rattle.krb_der_core.specs.Reading.{TakesFront, RefusesFront, Lengths, Elements};
+ghost use Rattle.krb_der_core.specs.Faults.{LengthFault, HeaderFault};
+ghost use Rattle.krb_der_core.specs.declared.error.Asn1DerError.TheVariants as errors;
+
+use crate::error::Asn1DerError;
+use std::alloc::AllocError;
+
+/// The number that the octets stand for in base 256, highest octet first.
+pub(crate) fn number_of(octets: &[u8]) -> usize
+    requires { length octets.now ≤ 8 }
+    ensures { result ≡ number_from_digits 256 octets.now }
+{
+    let mut n = 0usize;
+    for octet in octets {
+        n = n * 256 + *octet as usize;
+    }
+    n
+}
+
+/// The length at the front, and how many octets it takes.
+pub fn read_length(input: &[u8]) -> Result<(usize, usize), Asn1DerError>
+    ensures found { IfOk result (λ p. TakesFront (len p.0) p.1 input.now) }
+    ensures fits { IfOk result (λ p. p.0 < 2 ^ 64) }
+    ensures refused { IfErr result (RefusesFront Lengths input.now) }
+    ensures missing { IfErr result (λ e. e ≡ errors.TruncatedData → length input.now ≤ slice_index input.now 0 - 128) }
+    ensures unsupported { IfErr result (λ e. e ≡ errors.UnsupportedValue → (slice_index input.now 0 ≡ 128) ⊎ (136 < slice_index input.now 0)) }
+    ensures heapless { IfErr result (λ e. e ≡ errors.OutOfMemory → ⊥) }
+    ensures first_fault { IfErr result (LengthFault input.now) }
+{
+    if input.is_empty() {
+        return Err(Asn1DerError::TruncatedData);
+    }
+    let first = input[0];
+    if first < 128 {
+        return Ok((first as usize, 1));
+    }
+    if first == 128 || first > 136 {
+        return Err(Asn1DerError::UnsupportedValue);
+    }
+    let count = (first - 128) as usize;
+    if input.len() - 1 < count {
+        return Err(Asn1DerError::TruncatedData);
+    }
+    let octets = &input[1..1 + count];
+    if octets[0] == 0 {
+        return Err(Asn1DerError::InvalidData);
+    }
+    let n = number_of(octets);
+    if n < 128 {
+        return Err(Asn1DerError::InvalidData);
+    }
+    Ok((n, 1 + count))
+}
+
+/// The content of the element with this tag at the front, and how many octets the element takes.
+pub fn read_tlv(tag: u8, input: &[u8]) -> Result<(&[u8], usize), Asn1DerError>
+    ensures found { IfOk result (λ p. TakesFront (tlv tag p.0.now) p.1 input.now) }
+    ensures refused { IfErr result (RefusesFront (Elements tag) input.now) }
+    ensures heapless { IfErr result (λ e. e ≡ errors.OutOfMemory → ⊥) }
+    ensures first_fault { IfErr result (HeaderFault tag input.now) }
+{
+    if input.is_empty() {
+        return Err(Asn1DerError::TruncatedData);
+    }
+    if input[0] != tag {
+        return Err(Asn1DerError::InvalidData);
+    }
+    let behind = &input[1..];
+    let (length, taken) = read_length(behind)?;
+    let rest = &behind[taken..];
+    if rest.len() < length {
+        return Err(Asn1DerError::TruncatedData);
+    }
+    Ok((&rest[..length], 1 + taken + length))
+}
+
+/// How many octets the number has in base 256.
+fn count_digits(n: usize) -> usize
+    ensures count { result ≡ length (digits_of 256 n) }
+    ensures few { result ≤ 8 }
+{
+    if n == 0 {
+        return 0;
+    }
+    count_digits(n / 256) + 1
+}
+
+/// Writes the number in base 256 at the end. Where memory runs out, some of its octets may stand there.
+pub(crate) fn push_digits(n: usize, out: &mut Vec<u8>) -> Result<(), AllocError>
+    ensures ok { OnOk result (out.new.items ≡ out.old.items ++ digits_of 256 n) }
+    ensures err { OnErr result (take (length out.old.items) out.new.items ≡ out.old.items) }
+{
+    if n == 0 {
+        return Ok(());
+    }
+    push_digits(n / 256, out)?;
+    out.push((n % 256) as u8)?;
+    Ok(())
+}
+
+/// The octets in front of a content of n octets, at the front of the array, and how many they are.
+fn header_octets(tag: u8, n: usize) -> ([u8; 10], usize)
+    ensures octets { take result.1 result.0 ≡ header tag n }
+    ensures count { result.1 ≤ 10 }
+{
+    if n < 128 {
+        return ([tag, n as u8, 0, 0, 0, 0, 0, 0, 0, 0], 2);
+    }
+    let count = count_digits(n);
+    let digits = n.to_be_bytes();
+    let mut octets = [tag, 128 + count as u8, 0, 0, 0, 0, 0, 0, 0, 0];
+    octets[2..2 + count].copy_from_slice(&digits[8 - count..]);
+    (octets, 2 + count)
+}
+
+/// Writes an element at the end.
+pub fn write_tlv(tag: u8, content: &[u8], out: &mut Vec<u8>) -> Result<(), AllocError>
+    ensures ok { OnOk result (out.new.items ≡ out.old.items ++ tlv tag content.now) }
+    ensures err { OnErr result (out.new.items ≡ out.old.items) }
+{
+    let start = out.len();
+    let (octets, count) = header_octets(tag, content.len());
+    out.extend_from_slice(&octets[..count])?;
+    if let Err(e) = out.extend_from_slice(content) {
+        out.truncate(start);
+        return Err(e);
+    }
+    Ok(())
+}
+
+/// Makes an element of the octets from `start` on, by a header in front of them. Where memory runs out, they are taken away.
+pub fn close_tlv(tag: u8, start: usize, out: &mut Vec<u8>) -> Result<(), AllocError>
+    requires { start ≤ length out.old.items }
+    ensures ok { OnOk result (out.new.items ≡ take start out.old.items ++ tlv tag (drop start out.old.items)) }
+    ensures err { OnErr result (out.new.items ≡ take start out.old.items) }
+{
+    let end = out.len();
+    let (octets, count) = header_octets(tag, end - start);
+    if let Err(e) = out.extend_from_slice(&octets[..count]) {
+        out.truncate(start);
+        return Err(e);
+    }
+    out.copy_within(start..end, start + count);
+    out[start..start + count].copy_from_slice(&octets[..count]);
+    Ok(())
+}

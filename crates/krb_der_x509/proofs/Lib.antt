@@ -1,0 +1,3 @@
+pub mod Retagging
+pub mod ObjectIdentifiers
+pub mod RawValues

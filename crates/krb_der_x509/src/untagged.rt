@@ -1,0 +1,67 @@
+//! Fields of a sequence that have no tag of their own, for structs that are SEQUENCEs.
+//!
+//! Such a field stands in a struct as its type, in the tuple of its fields as `Field<T>`, which has the value at `.0`, and is
+//! lent for writing as `FieldRef(&self.name)`. One that may be absent is `Optional<Option<T>>`, as under a tag: it is told by
+//! its first octet from what follows it.
+
+ghost use Rattle.krb_der_core.specs.Faults.{FrontFault};
+ghost use Rattle.krb_der_core.specs.FaultLaws.{front_laws};
+ghost use Rattle.krb_der.specs.FieldLaws.{field_begins, field_one_reading};
+
+use krb_der::composite::{FieldRefs, Fields};
+use krb_der::{Asn1DerError, Der, DerEncode};
+use std::alloc::{AllocError, Global};
+use std::marker::Model;
+
+/// A mandatory field with no tag of its own. A contract sees the value.
+#[derive(Debug, Drop)]
+pub struct Field<T>(pub T);
+
+impl<T> Model for Field<T> {
+    ghost Value = { T };
+
+    ghost view = { λ a. a.0 };
+
+    ghost inverse = { λ v. record { 0 = v } };
+}
+
+impl<T: Der + Drop> Fields for Field<T> {
+    ghost octets = { T.enc };
+
+    ghost are_values = { T.is_value };
+
+    ghost begins = { λ follow. T.first };
+
+    ghost told_apart = { λ follow. Unit {0} };
+
+    ghost begin_so = { field_begins T.enc T.is_value T.first T.is_element };
+
+    ghost one_reading = { field_one_reading T.enc T.is_value T.first T.is_element T.one_value };
+
+    ghost ends = { λ v rest. Unit {0} };
+
+    ghost fault = { FrontFault T.first T.fault };
+
+    ghost fault_laws = { front_laws T.is_value T.enc T.first T.is_element T.fault T.fault_laws T.one_value };
+
+    ghost told_ends = { λ follow told v x h hx. tt };
+
+    fn read_fields(alloc: Global, input: &[u8]) -> Result<(Self, usize), Asn1DerError> {
+        let (value, taken) = T::read(alloc, input)?;
+        Ok((Field(value), taken))
+    }
+}
+
+/// A mandatory field with no tag of its own, lent for writing.
+#[derive(Drop)]
+pub struct FieldRef<'a, T>(pub &'a T);
+
+impl<'a, T: DerEncode> FieldRefs for FieldRef<'a, T> {
+    ghost octets = { λ v. T.enc v.0.now };
+
+    ghost are_values = { λ v. T.is_value v.0.now };
+
+    fn write_refs(&self, alloc: Global, out: &mut Vec<u8>) -> Result<(), AllocError> {
+        self.0.write(alloc, out)
+    }
+}

@@ -1,0 +1,108 @@
+//! Laws over the definitions, of functions that do nothing.
+
+ghost use Rattle.std.specs.Prelude.{◌≡◌, ◌↔◌, ◌++◌, ◌∷◌, ◌<◌, ◌^◌, List, ℕ, drop, length};
+ghost use Rattle.krb_der.specs.Asn1.{explicit, sequence_of};
+ghost use Rattle.krb_der.specs.FieldFaults.{HasFaultsOf, SameFault};
+ghost use Rattle.krb_der.specs.Tags.{HasTag};
+ghost use Rattle.krb_der.specs.Equality.{TellsEqual};
+ghost use Rattle.krb_der_x509.specs.ObjectIdentifier.{object_identifier};
+ghost use Rattle.krb_der_core.specs.Tlv.{tlv};
+ghost use Rattle.krb_der_core.specs.Faults.{TaggedFault};
+ghost use Rattle.krb_der_core.specs.declared.error.Asn1DerError.{Asn1DerError};
+ghost use Rattle.krb_der_core.specs.declared.error.Asn1DerError.TheVariants.{TruncatedData};
+ghost use Rattle.krb_gss_negotiation.specs.Proxy.{ProxyReads, ProxyRefused};
+ghost use Rattle.krb_gss_negotiation.specs.Refused.{KrbMessageRefused, TellsOneFault};
+ghost use Rattle.krb_gss_negotiation.specs.Token.{in_token, token};
+ghost use Rattle.krb_gss_negotiation.specs.declared.iakerb.IAKerbProxyMessage.{IAKerbProxyMessage};
+ghost use Rattle.krb_gss_tokens.specs.declared.error.GssApiMessageError.{GssApiMessageError};
+ghost use Rattle.krb_gss_tokens.specs.declared.error.GssApiMessageError.TheVariants.{OutOfMemory};
+
+use crate::application_tag_0::ApplicationTag0;
+use crate::iakerb::IAKerbProxyMessage;
+use crate::krb_message::KrbMessage;
+use crate::spnego::{
+    GssApiNegInit, MechType, MechTypeList, NegTokenInit, NegTokenTarg, NegTokenTarg1,
+};
+use crate::token_id::TokenId;
+use krb_der::composite::{Fields, Sequence};
+use krb_der::{Der, DerEncode, DerSequence};
+use krb_msg_iakerb::laws::{equality as header_equality, header_readings};
+use krb_msg_iakerb::messages::IAKerbHeader;
+
+/// The aliases (RFC 4178, 4.1 and 4.2).
+pub fn aliases()
+    ensures mech_type { (v : List ℕ) → ⟦<MechType as DerEncode>⟧.enc v ≡ object_identifier v }
+    ensures mech_type_list { (v : List (List ℕ)) → ⟦<MechTypeList as DerEncode>⟧.enc v ≡ sequence_of object_identifier v }
+    ensures neg_token_targ_1 { (v : _) → ⟦<NegTokenTarg1 as DerEncode>⟧.enc v ≡ explicit 1 (⟦<NegTokenTarg as DerEncode>⟧.enc v) }
+{}
+
+/// A token is the SEQUENCE's encoding with `60` in the place of its first octet, so that the tag takes the place of `30`
+/// (RFC 2743, 3.1; X.690, 8.14).
+pub fn tokens<T: DerSequence>()
+    ensures first_octet { (v : T) → ⟦<ApplicationTag0<T> as DerEncode>⟧.enc v ≡ 96 ∷ drop 1 (T.enc v) }
+    ensures content { (v : T) (content : List ℕ) → T.enc v ≡ tlv 48 content → ⟦<ApplicationTag0<T> as DerEncode>⟧.enc v ≡ tlv 96 content }
+{}
+
+/// A token of IAKERB that was written is read as what was written (draft-ietf-kitten-iakerb-03, 3).
+pub fn proxy_messages<T: Der + Drop>()
+    ensures written { (m : _) → ⟦<IAKerbProxyMessage<T> as DerEncode>⟧.is_value m → (content : List ℕ) × (⟦<ApplicationTag0<IAKerbProxyMessage<T>> as DerEncode>⟧.enc m ≡ token content) × ProxyReads T.enc content m.header m.krb_msg }
+{
+    header_readings();
+}
+
+/// The first fault of each struct is that of a SEQUENCE of its fields (X.690, 8.9): its tag, then its fields in order, then what is
+/// left over. Its encodings begin with that tag alone.
+pub fn faults()
+    ensures neg_token_init { HasFaultsOf ⟦<NegTokenInit as DerEncode>⟧.fault ⟦<<NegTokenInit as Sequence>::Fields as Fields>⟧ }
+    ensures neg_token_init_tag { HasTag 48 ⟦<NegTokenInit as DerEncode>⟧.first }
+    ensures neg_token_targ { HasFaultsOf ⟦<NegTokenTarg as DerEncode>⟧.fault ⟦<<NegTokenTarg as Sequence>::Fields as Fields>⟧ }
+    ensures neg_token_targ_tag { HasTag 48 ⟦<NegTokenTarg as DerEncode>⟧.first }
+    ensures gss_api_neg_init { HasFaultsOf ⟦<GssApiNegInit as DerEncode>⟧.fault ⟦<<GssApiNegInit as Sequence>::Fields as Fields>⟧ }
+    ensures gss_api_neg_init_tag { HasTag 48 ⟦<GssApiNegInit as DerEncode>⟧.first }
+{}
+
+/// The first fault of a token (RFC 2743, 3.1): another first octet, or that of the SEQUENCE inside, as under its own tag.
+pub fn token_faults<T: DerSequence>()
+    ensures fault { SameFault ⟦<ApplicationTag0<T> as DerEncode>⟧.fault (TaggedFault 96 (T.fault 48)) }
+    ensures tag { HasTag 96 ⟦<ApplicationTag0<T> as DerEncode>⟧.first }
+{}
+
+/// The first fault of a message in a token (RFC 4121, 4.1), and of the two octets between the mechanism and the message: fewer
+/// than two are cut short.
+pub fn krb_message_faults<T: Der + Drop>()
+    ensures message { HasFaultsOf ⟦<KrbMessage<T> as DerEncode>⟧.fault ⟦<<KrbMessage<T> as Sequence>::Fields as Fields>⟧ }
+    ensures message_tag { HasTag 48 ⟦<KrbMessage<T> as DerEncode>⟧.first }
+    ensures token_id { (octets : List ℕ) (e : Asn1DerError) → ⟦<TokenId as Fields>⟧.fault octets e ↔ (e ≡ TruncatedData) × (length octets < 2) }
+    ensures token_id_ends { (v rest : List ℕ) → ⟦<TokenId as Fields>⟧.ends v rest }
+{}
+
+/// Where a token of Kerberos or of IAKERB has a fault of DER (X.690), it has no other first fault.
+pub fn one_fault<T: Der + Drop>()
+    ensures krb_message { TellsOneFault (KrbMessageRefused ⟦<T as DerEncode>⟧) }
+    ensures proxy_message { TellsOneFault (ProxyRefused ⟦<IAKerbHeader as DerEncode>⟧ ⟦<T as DerEncode>⟧) }
+{}
+
+/// Where a token of Kerberos or of IAKERB stands at the front, it has no fault.
+pub fn none_where_read<T: Der + Drop>()
+    ensures krb_message { (m : _) (input rest : List ℕ) (e : GssApiMessageError) → length input < 2 ^ 64 → ⟦<KrbMessage<T> as DerEncode>⟧.is_value m
+        → input ≡ in_token (⟦<KrbMessage<T> as DerEncode>⟧.enc m) ++ rest → KrbMessageRefused ⟦<T as DerEncode>⟧ input e → e ≡ OutOfMemory }
+    ensures proxy_message { (m : IAKerbProxyMessage T) (input content rest : List ℕ) (e : GssApiMessageError) → length input < 2 ^ 64
+        → ⟦<IAKerbHeader as DerEncode>⟧.is_value m.header → T.is_value m.krb_msg → input ≡ token content ++ rest → ProxyReads T.enc content m.header m.krb_msg
+        → ProxyRefused ⟦<IAKerbHeader as DerEncode>⟧ ⟦<T as DerEncode>⟧ input e → e ≡ OutOfMemory }
+{}
+
+/// `==` on the messages of SPNEGO: it answers true for equal values and for no others.
+pub fn equality()
+    ensures neg_token_init { TellsEqual ⟦<NegTokenInit as PartialEq>⟧.eq }
+    ensures neg_token_targ { TellsEqual ⟦<NegTokenTarg as PartialEq>⟧.eq }
+    ensures gss_api_neg_init { TellsEqual ⟦<GssApiNegInit as PartialEq>⟧.eq }
+{}
+
+/// `==` on what holds a message: it tells equal values, where that of the message does.
+pub fn message_equality<T: PartialEq>()
+    ensures application_tag_0 { TellsEqual T.eq → TellsEqual ⟦<ApplicationTag0<T> as PartialEq>⟧.eq }
+    ensures krb_message { TellsEqual T.eq → TellsEqual ⟦<KrbMessage<T> as PartialEq>⟧.eq }
+    ensures proxy_message { TellsEqual T.eq → TellsEqual ⟦<IAKerbProxyMessage<T> as PartialEq>⟧.eq }
+{
+    header_equality();
+}

@@ -1,0 +1,74 @@
+//! Why octets are no message of the GSS-API.
+
+ghost use Rattle.std.specs.Prelude.{◌≡◌};
+ghost use Rattle.krb_gss_tokens.specs.Errors.{of_der};
+ghost use Rattle.krb_gss_tokens.specs.declared.error.GssApiMessageError.TheVariants as errors;
+
+use krb_der_core::Asn1DerError;
+use std::alloc::{AllocError, AllocFailed};
+use std::io;
+use thiserror::Error;
+
+/// Why a token or a message of the GSS-API was not read or written.
+///
+/// Where two values are told, the expected one stands first.
+#[derive(Debug, Drop, Error)]
+pub enum GssApiMessageError {
+    /// The token id is another (RFC 4121, 4.1 and 4.2.6).
+    #[error("the token id is {1:?} in place of {0:?}")]
+    InvalidId([u8; 2], [u8; 2]),
+    /// The object identifier of the mechanism is another (RFC 2743, 3.1); both are dotted.
+    #[error("the mechanism is {1} in place of {0}")]
+    InvalidMechanismOid(String, String),
+    /// A reader or a writer failed, or the octets end inside a field: then the kind is `UnexpectedEof`.
+    #[error("reading or writing failed: {0}")]
+    IoError(io::Error),
+    /// Octets 3 to 7 of a MIC token are not all `ff` (RFC 4121, 4.2.6.1).
+    #[error("the filler of the MIC token is {0:?}")]
+    InvalidMicFiller([u8; 5]),
+    /// Octet 3 of a Wrap token is not `ff` (RFC 4121, 4.2.6.2).
+    #[error("the filler of the Wrap token is {0}")]
+    InvalidWrapFiller(u8),
+    /// Octets are no encoding of a value (X.690). It is never `Asn1DerError::OutOfMemory`.
+    #[error("the message is no encoding: {0}")]
+    Asn1Error(Asn1DerError),
+    /// A growth of memory was refused.
+    #[error("out of memory")]
+    OutOfMemory,
+}
+
+impl From<io::Error> for GssApiMessageError {
+    ghost from_gives = { λ fault e. e ≡ errors.IoError fault };
+
+    fn from(fault: io::Error) -> GssApiMessageError {
+        GssApiMessageError::IoError(fault)
+    }
+}
+
+/// A refusal of DER octets is told as it is, but want of memory as the own `OutOfMemory`.
+impl From<Asn1DerError> for GssApiMessageError {
+    ghost from_gives = { λ refusal e. e ≡ of_der refusal };
+
+    fn from(refusal: Asn1DerError) -> GssApiMessageError {
+        match refusal {
+            Asn1DerError::OutOfMemory => GssApiMessageError::OutOfMemory,
+            other => GssApiMessageError::Asn1Error(other),
+        }
+    }
+}
+
+impl From<AllocError> for GssApiMessageError {
+    ghost from_gives = { λ _ e. e ≡ errors.OutOfMemory };
+
+    fn from(_error: AllocError) -> GssApiMessageError {
+        GssApiMessageError::OutOfMemory
+    }
+}
+
+impl<T: Drop> From<AllocFailed<T>> for GssApiMessageError {
+    ghost from_gives = { λ _ e. e ≡ errors.OutOfMemory };
+
+    fn from(_error: AllocFailed<T>) -> GssApiMessageError {
+        GssApiMessageError::OutOfMemory
+    }
+}

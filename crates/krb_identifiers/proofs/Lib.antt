@@ -1,2 +1,0 @@
-pub mod ObjectIdentifiers
-pub mod RawValues

@@ -1,6 +1,0 @@
-use Rattle.krb_identifiers.specs.RawValue.{is_raw_first}
-use Rattle.krb_identifiers.proofs.RawValues.{raw_other}
-use Rattle.krb_identifiers.proofs.raw_value.Asn1RawDerDer.read_element.Goals as goal
-
-pub returns-then-not-begins_value-clause-refused : goal.returns-then-not-begins_value-clause-refused
-returns-then-not-begins_value-clause-refused c = λ v hv q. raw_other is_raw_first c.args.tag c.args.content.now v c.if-not-begins_value.ensures hv q

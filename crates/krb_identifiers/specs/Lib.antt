@@ -1,4 +1,0 @@
-pub mod ObjectIdentifier
-pub mod ObjectIdentifierLaws
-pub mod ObjectIdentifierFaults
-pub mod RawValue

@@ -1,4 +1,0 @@
-use Rattle.krb_leaves.proofs.unsigned.+first_digit.Given as goal
-
-abbrev pub decreases-first_digit : goal.decreases-first_digit
-decreases-first_digit l = l.n

@@ -1,0 +1,52 @@
+//! Laws over the definitions, of functions that do nothing: each alias names the type that its standard says.
+
+ghost use Rattle.std.specs.Prelude.{◌≡◌};
+ghost use Rattle.krb_der.specs.Asn1.{application};
+ghost use Rattle.krb_der.specs.FieldFaults.{HasFaultsOf};
+ghost use Rattle.krb_der.specs.Equality.{TellsEqual};
+ghost use Rattle.krb_der.specs.Tags.{HasTag};
+
+use crate::messages::{
+    ApRep, ApRepInner, ApReq, ApReqInner, KrbCred, KrbCredInner, KrbPriv, KrbPrivInner, TgtRep,
+    TgtReq,
+};
+use krb_der::DerEncode;
+use krb_der::composite::{Fields, Sequence};
+use krb_msg_types::laws::equality as shared_equality;
+
+/// The messages, each under its application tag (RFC 4120, 5.5.1, 5.5.2, 5.7.1 and 5.8.1).
+pub fn application_tags()
+    ensures ap_req { (v : _) → ⟦<ApReq as DerEncode>⟧.enc v ≡ application 14 (⟦<ApReqInner as DerEncode>⟧.enc v) }
+    ensures ap_rep { (v : _) → ⟦<ApRep as DerEncode>⟧.enc v ≡ application 15 (⟦<ApRepInner as DerEncode>⟧.enc v) }
+    ensures krb_priv { (v : _) → ⟦<KrbPriv as DerEncode>⟧.enc v ≡ application 21 (⟦<KrbPrivInner as DerEncode>⟧.enc v) }
+    ensures krb_cred { (v : _) → ⟦<KrbCred as DerEncode>⟧.enc v ≡ application 22 (⟦<KrbCredInner as DerEncode>⟧.enc v) }
+{}
+
+/// The first fault of each struct is that of a SEQUENCE of its fields (X.690, 8.9): its tag, then its fields in order, then what is
+/// left over. Its encodings begin with that tag, and with no other octet (X.690, 8.1.2).
+pub fn faults()
+    ensures ap_req { HasFaultsOf ⟦<ApReqInner as DerEncode>⟧.fault ⟦<<ApReqInner as Sequence>::Fields as Fields>⟧ }
+    ensures ap_rep { HasFaultsOf ⟦<ApRepInner as DerEncode>⟧.fault ⟦<<ApRepInner as Sequence>::Fields as Fields>⟧ }
+    ensures krb_cred { HasFaultsOf ⟦<KrbCredInner as DerEncode>⟧.fault ⟦<<KrbCredInner as Sequence>::Fields as Fields>⟧ }
+    ensures krb_priv { HasFaultsOf ⟦<KrbPrivInner as DerEncode>⟧.fault ⟦<<KrbPrivInner as Sequence>::Fields as Fields>⟧ }
+    ensures tgt_req { HasFaultsOf ⟦<TgtReq as DerEncode>⟧.fault ⟦<<TgtReq as Sequence>::Fields as Fields>⟧ }
+    ensures tgt_rep { HasFaultsOf ⟦<TgtRep as DerEncode>⟧.fault ⟦<<TgtRep as Sequence>::Fields as Fields>⟧ }
+    ensures ap_req_tag { HasTag 48 ⟦<ApReqInner as DerEncode>⟧.first }
+    ensures ap_rep_tag { HasTag 48 ⟦<ApRepInner as DerEncode>⟧.first }
+    ensures krb_cred_tag { HasTag 48 ⟦<KrbCredInner as DerEncode>⟧.first }
+    ensures krb_priv_tag { HasTag 48 ⟦<KrbPrivInner as DerEncode>⟧.first }
+    ensures tgt_req_tag { HasTag 48 ⟦<TgtReq as DerEncode>⟧.first }
+    ensures tgt_rep_tag { HasTag 48 ⟦<TgtRep as DerEncode>⟧.first }
+{}
+
+/// `==` on each struct: it answers true for equal values and for no others.
+pub fn equality()
+    ensures ap_req { TellsEqual ⟦<ApReqInner as PartialEq>⟧.eq }
+    ensures ap_rep { TellsEqual ⟦<ApRepInner as PartialEq>⟧.eq }
+    ensures krb_cred { TellsEqual ⟦<KrbCredInner as PartialEq>⟧.eq }
+    ensures krb_priv { TellsEqual ⟦<KrbPrivInner as PartialEq>⟧.eq }
+    ensures tgt_req { TellsEqual ⟦<TgtReq as PartialEq>⟧.eq }
+    ensures tgt_rep { TellsEqual ⟦<TgtRep as PartialEq>⟧.eq }
+{
+    shared_equality();
+}

@@ -1,0 +1,41 @@
+//! Laws over the definitions, of functions that do nothing.
+
+ghost use Rattle.std.specs.Prelude.{◌≡◌, ◌<◌, ◌^◌, List, length, ℕ};
+ghost use Rattle.krb_der_core.specs.declared.error.Asn1DerError.{Asn1DerError};
+ghost use Rattle.krb_der.specs.FieldFaults.{SameFault};
+ghost use Rattle.krb_der.specs.Equality.{TellsEqual};
+ghost use Rattle.krb_der.specs.Tags.{HasTag};
+ghost use Rattle.krb_msg_iakerb.specs.Header.{HeaderReads};
+ghost use Rattle.krb_msg_iakerb.specs.HeaderFaults.{IAKerbHeaderFault, extensible_fault};
+
+use crate::messages::IAKerbHeader;
+use crate::reading::known_faults;
+use krb_der::DerEncode;
+use krb_der::composite::{Fields, Sequence};
+
+/// Octets are read as one header at most, and a header that was written is read from what was written, and no other is.
+pub fn header_readings()
+    ensures one_reading { (b : List ℕ) (v w : IAKerbHeader) → ⟦<IAKerbHeader as DerEncode>⟧.is_value v → ⟦<IAKerbHeader as DerEncode>⟧.is_value w
+        → HeaderReads b v → HeaderReads b w → v ≡ w }
+    ensures written { (h : IAKerbHeader) → ⟦<IAKerbHeader as DerEncode>⟧.is_value h → HeaderReads (⟦<IAKerbHeader as DerEncode>⟧.enc h) h }
+    ensures read_back { (h w : IAKerbHeader) → ⟦<IAKerbHeader as DerEncode>⟧.is_value h → ⟦<IAKerbHeader as DerEncode>⟧.is_value w
+        → HeaderReads (⟦<IAKerbHeader as DerEncode>⟧.enc h) w → w ≡ h }
+{}
+
+/// The first fault of a header (draft-ietf-kitten-iakerb-03, 3): its tag, then its known fields in order. What follows them in the
+/// SEQUENCE is none, so that what is read as a header has no fault.
+pub fn faults()
+    ensures iakerb_header { SameFault ⟦<IAKerbHeader as DerEncode>⟧.fault (extensible_fault ⟦<<IAKerbHeader as Sequence>::Fields as Fields>⟧) }
+    ensures iakerb_header_tag { HasTag 48 ⟦<IAKerbHeader as DerEncode>⟧.first }
+    ensures one_fault { (octets : List ℕ) (e d : Asn1DerError) → length octets < 2 ^ 64
+        → IAKerbHeaderFault ⟦<IAKerbHeader as DerEncode>⟧ octets e → IAKerbHeaderFault ⟦<IAKerbHeader as DerEncode>⟧ octets d → e ≡ d }
+    ensures none_where_read { (octets : List ℕ) (e : Asn1DerError) (h : IAKerbHeader) → length octets < 2 ^ 64
+        → IAKerbHeaderFault ⟦<IAKerbHeader as DerEncode>⟧ octets e → ⟦<IAKerbHeader as DerEncode>⟧.is_value h → HeaderReads octets h → ⊥ }
+{
+    known_faults::<<IAKerbHeader as Sequence>::Fields>();
+}
+
+/// `==` on headers: it answers true for equal values and for no others.
+pub fn equality()
+    ensures iakerb_header { TellsEqual ⟦<IAKerbHeader as PartialEq>⟧.eq }
+{}

@@ -1,0 +1,32 @@
+//! What octets are read as a header of IAKERB.
+
+ghost use Rattle.std.specs.Prelude.{◌≡◌, IfOk, IfErr};
+ghost use Rattle.krb_der.specs.Whole.{Answers, NoDevice};
+ghost use Rattle.krb_der_core.specs.Faults.{FrontLaws, OrMemory};
+ghost use Rattle.krb_msg_iakerb.specs.Header.{ContentReads};
+
+use crate::messages::IAKerbHeader;
+use krb_der::composite::{Fields, Sequence};
+use krb_der::{Asn1DerError, DerEncode};
+use std::alloc::Global;
+
+/// Tells a proof that fields with a fault do not stand. It does nothing.
+pub(crate) fn known_faults<F: Fields>()
+    ensures { FrontLaws F.are_values F.octets F.ends F.fault }
+{}
+
+/// The header that the content of a SEQUENCE is read as (draft-ietf-kitten-iakerb-03, 3): the realm, then the cookie if the next
+/// octet is `a2`, then the flags if the next octet is `a3`. All octets that are left are ignored, whatever they are.
+///
+/// The first fault of these fields decides, from the left. `Io` is never answered.
+pub fn read_content(alloc: Global, content: &[u8]) -> Result<IAKerbHeader, Asn1DerError>
+    ensures valid { IfOk result ⟦<IAKerbHeader as DerEncode>⟧.is_value }
+    ensures found { IfOk result (ContentReads content.now) }
+    ensures reads { (h : IAKerbHeader) → ⟦<IAKerbHeader as DerEncode>⟧.is_value h → ContentReads content.now h → Answers result h }
+    ensures no_device { IfErr result NoDevice }
+    ensures first_fault { IfErr result (OrMemory (⟦<IAKerbHeader as DerEncode>⟧.fault 48 content.now)) }
+{
+    known_faults::<<IAKerbHeader as Sequence>::Fields>();
+    let (fields, _) = <IAKerbHeader as Sequence>::Fields::read_fields(alloc, content)?;
+    Ok(IAKerbHeader::from_fields(fields))
+}

@@ -1,0 +1,128 @@
+//! Why octets begin with no frame, and why a frame is not written.
+
+ghost use Rattle.std.specs.Prelude.{◌≡◌};
+ghost use Rattle.std.specs.IoError.{error_kind};
+ghost use Rattle.krb_msg_password.specs.Refused.{frame_kind, told_in, unwritten_kind};
+ghost use Rattle.krb_msg_password.specs.declared.error.WriteFrameError.TheVariants as unwritten;
+ghost use Rattle.krb_der.specs.Whole.{NoDevice};
+
+use krb_der::Asn1DerError;
+use std::alloc::{AllocError, AllocFailed};
+use std::io;
+use std::io::ErrorKind;
+use thiserror::Error;
+
+/// Why octets are no encoding of a message: the first fault, from the left, as `Asn1DerError` tells it.
+#[derive(Debug, Clone, Copy, PartialEq, Eq, Error)]
+pub enum MessageFault {
+    /// A wrong tag, a needless length or integer octet, a bad leaf, or octets left over.
+    #[error("the octets are no encoding of the message")]
+    InvalidData,
+    /// Tag, length or content octets are missing, or a mandatory field is.
+    #[error("the octets end too early")]
+    TruncatedData,
+    /// An indefinite length, or one of more than eight octets.
+    #[error("the encoding is of a form that is not supported")]
+    UnsupportedValue,
+}
+
+/// Why octets begin with no frame (RFC 3244, 2): the first fault, from the left, or want of memory. No device has a part in it.
+#[derive(Debug, Clone, Copy, PartialEq, Eq, Error)]
+pub enum ReadFrameError {
+    /// The octets end in the six in front of the messages, before another version was met.
+    #[error("the frame ends in front of its messages")]
+    Cut,
+    /// The version is another than 1.
+    #[error("the version of the frame is another")]
+    Version,
+    /// What stands behind the six octets is no AP message.
+    #[error("the AP message: {0}")]
+    ApMessage(MessageFault),
+    /// What stands behind the AP message is no KRB-PRIV.
+    #[error("the KRB-PRIV: {0}")]
+    KrbPriv(MessageFault),
+    /// A growth of memory was refused.
+    #[error("out of memory")]
+    OutOfMemory,
+}
+
+/// Why a frame was not written. No device has a part in it.
+#[derive(Debug, Clone, Copy, PartialEq, Eq, Error)]
+pub enum WriteFrameError {
+    /// The frame has more than 65535 octets.
+    #[error("the frame is too long")]
+    TooLong,
+    /// A growth of memory was refused.
+    #[error("out of memory")]
+    OutOfMemory,
+}
+
+impl From<AllocError> for WriteFrameError {
+    ghost from_gives = { λ _ e. e ≡ unwritten.OutOfMemory };
+
+    fn from(_error: AllocError) -> WriteFrameError {
+        WriteFrameError::OutOfMemory
+    }
+}
+
+impl<T: Drop> From<AllocFailed<T>> for WriteFrameError {
+    ghost from_gives = { λ _ e. e ≡ unwritten.OutOfMemory };
+
+    fn from(_error: AllocFailed<T>) -> WriteFrameError {
+        WriteFrameError::OutOfMemory
+    }
+}
+
+/// `UnexpectedEof` where the six octets in front are cut short, `OutOfMemory` for want of memory, and else `InvalidData`.
+impl From<ReadFrameError> for io::Error {
+    ghost from_gives = { λ why e. error_kind e ≡ frame_kind why };
+
+    fn from(why: ReadFrameError) -> io::Error {
+        match why {
+            ReadFrameError::Cut => io::Error::from(ErrorKind::UnexpectedEof),
+            ReadFrameError::OutOfMemory => io::Error::from(ErrorKind::OutOfMemory),
+            ReadFrameError::Version | ReadFrameError::ApMessage(_) | ReadFrameError::KrbPriv(_) =>
+                io::Error::from(ErrorKind::InvalidData),
+        }
+    }
+}
+
+/// `InvalidInput` for a frame that is too long, and `OutOfMemory` for want of memory.
+impl From<WriteFrameError> for io::Error {
+    ghost from_gives = { λ why e. error_kind e ≡ unwritten_kind why };
+
+    fn from(why: WriteFrameError) -> io::Error {
+        match why {
+            WriteFrameError::TooLong => io::Error::from(ErrorKind::InvalidInput),
+            WriteFrameError::OutOfMemory => io::Error::from(ErrorKind::OutOfMemory),
+        }
+    }
+}
+
+/// The refusal of an AP message, of octets that no device gave.
+pub(crate) fn ap_message_error(error: Asn1DerError) -> ReadFrameError
+    requires { NoDevice error }
+    ensures { result ≡ told_in ReadFrameError.ApMessage error }
+{
+    match error {
+        Asn1DerError::InvalidData => ReadFrameError::ApMessage(MessageFault::InvalidData),
+        Asn1DerError::TruncatedData => ReadFrameError::ApMessage(MessageFault::TruncatedData),
+        Asn1DerError::UnsupportedValue => ReadFrameError::ApMessage(MessageFault::UnsupportedValue),
+        Asn1DerError::OutOfMemory => ReadFrameError::OutOfMemory,
+        Asn1DerError::Io(_) => unreachable!(),
+    }
+}
+
+/// The refusal of a KRB-PRIV, of octets that no device gave.
+pub(crate) fn krb_priv_error(error: Asn1DerError) -> ReadFrameError
+    requires { NoDevice error }
+    ensures { result ≡ told_in ReadFrameError.KrbPriv error }
+{
+    match error {
+        Asn1DerError::InvalidData => ReadFrameError::KrbPriv(MessageFault::InvalidData),
+        Asn1DerError::TruncatedData => ReadFrameError::KrbPriv(MessageFault::TruncatedData),
+        Asn1DerError::UnsupportedValue => ReadFrameError::KrbPriv(MessageFault::UnsupportedValue),
+        Asn1DerError::OutOfMemory => ReadFrameError::OutOfMemory,
+        Asn1DerError::Io(_) => unreachable!(),
+    }
+}

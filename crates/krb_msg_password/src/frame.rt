@@ -1,0 +1,137 @@
+//! The frame of a request to change a password, and of its answer.
+
+ghost use Rattle.std.specs.Prelude.{◌≡◌, ◌++◌, ◌<◌, ◌≤◌, ◌^◌, ◌⊎◌, List, ℕ, length, Some, Err, IfOk, IfErr, OnOk, OnErr, MatchResult};
+ghost use Rattle.std.specs.Io.KnownBytes.{Appends, Consumes};
+ghost use Rattle.std.specs.IoError.{error_kind};
+ghost use Rattle.krb_der.specs.Whole.{Answers};
+ghost use Rattle.krb_der_core.specs.Reading.{TakesFront};
+ghost use Rattle.krb_msg_password.specs.Frame.{HoldsValues, IsFrameOf, frame_of};
+ghost use Rattle.krb_msg_password.specs.Refused.{FrameRefused, IsAnswered, IsUnwritten, ReaderRefused, WriterRefused};
+ghost use Rattle.krb_msg_password.specs.declared.refusal.Refusal.{Refusal};
+
+use crate::error::{ReadFrameError, WriteFrameError};
+use crate::front::front_messages;
+use crate::reading::take_messages;
+use crate::transfer::give_all;
+use crate::writing::frame_octets;
+use krb_der::{Asn1DerError, DerEncode, copy};
+use krb_msg::messages::ApMessage;
+use krb_msg_app::messages::KrbPriv;
+use std::alloc::Global;
+use std::io;
+use std::io::{ErrorKind, Read, Write};
+
+/// The frame of a request to change a password, and of its answer (RFC 3244, 2).
+///
+/// ```text
+/// message length:    2 octets, of the whole frame
+/// version:           2 octets, 1
+/// AP message length: 2 octets, of the AP message alone
+/// AP message:        a KRB-AP-REQ or a KRB-AP-REP in DER
+/// KRB-PRIV:          in DER
+/// ```
+///
+/// The numbers have their highest octet first. A frame has at most 65535 octets.
+#[derive(Debug, Drop, PartialEq, Eq)]
+pub struct KrbPrivMessage {
+    /// What shows who asks, or that the server is the one that was asked.
+    pub ap_message: ApMessage,
+    /// What is asked, or answered: its encrypted part holds a `ChangePasswdData` or a result.
+    pub krb_priv: KrbPriv,
+}
+
+impl KrbPrivMessage {
+    /// The frame that the reader's next octets are. Exactly these are taken: what stands behind the KRB-PRIV is left unread.
+    ///
+    /// Both lengths are read, and compared with nothing. The fields are read and checked in order. Octets that end in the six in
+    /// front of the messages are `UnexpectedEof`, unless the version was refused before. Another version is `InvalidData`, and so
+    /// are a message that is no encoding and one that is cut short: the fault is the first, from the left, as `read_frame` tells it.
+    /// A fault of the reader is passed on: what it gave before is cut short in these six octets, or they stand there. A read that a
+    /// signal interrupts is tried again. Want of memory, behind these six octets alone, is `OutOfMemory`. After a refusal some octets
+    /// may have been taken, and the reader is to be given up. `read_frame` reads a slice, with no device.
+    pub fn deserialize<R: Read>(alloc: Global, reader: &mut R) -> io::Result<Self>
+        ensures valid { IfOk result (HoldsValues ⟦<ApMessage as DerEncode>⟧ ⟦<KrbPriv as DerEncode>⟧) }
+        ensures found { IfOk result (λ m. (octets : List ℕ) × IsFrameOf ⟦<ApMessage as DerEncode>⟧ ⟦<KrbPriv as DerEncode>⟧ m octets
+            × Consumes (R.remaining reader.old) (R.remaining reader.new) octets) }
+        ensures reads { (m : KrbPrivMessage) (octets rest : List ℕ) → HoldsValues ⟦<ApMessage as DerEncode>⟧ ⟦<KrbPriv as DerEncode>⟧ m
+            → length octets < 2 ^ 64 → IsFrameOf ⟦<ApMessage as DerEncode>⟧ ⟦<KrbPriv as DerEncode>⟧ m octets
+            → R.remaining reader.old ≡ Some (octets ++ rest) → IfOk result (λ n. (n ≡ m) × (R.remaining reader.new ≡ Some rest)) }
+        ensures refused { IfErr result (λ e. (why : Refusal) × IsAnswered why e
+            × ReaderRefused ⟦<ApMessage as DerEncode>⟧ ⟦<KrbPriv as DerEncode>⟧ (R.remaining reader.old) (R.remaining reader.new) why) }
+    {
+        let (ap_message, krb_priv) = take_messages(alloc, reader)?;
+        Ok(KrbPrivMessage {
+            ap_message,
+            krb_priv,
+        })
+    }
+
+    /// Writes the frame.
+    ///
+    /// A frame of more than 65535 octets is `InvalidInput`, and nothing was written. The frame is made first: where its growth is
+    /// refused, which is `OutOfMemory`, nothing was written. Every other refusal is a fault of the writer, or `WriteZero` where it
+    /// takes none: it has taken a front of the frame then, and not all of it. A write that a signal interrupts is tried again.
+    /// `write_frame` appends to a vector, with no device.
+    pub fn serialize<W: Write>(&self, alloc: Global, writer: &mut W) -> io::Result<()>
+        ensures octets { OnOk result
+            (Appends (W.contents writer.old) (W.contents writer.new) (frame_of ⟦<ApMessage as DerEncode>⟧ ⟦<KrbPriv as DerEncode>⟧ self.now)) }
+        ensures valid { OnOk result (HoldsValues ⟦<ApMessage as DerEncode>⟧ ⟦<KrbPriv as DerEncode>⟧ self.now) }
+        ensures too_long { 2 ^ 16 ≤ length (frame_of ⟦<ApMessage as DerEncode>⟧ ⟦<KrbPriv as DerEncode>⟧ self.now) → MatchResult result (λ _. ⊥)
+            (λ e. ((error_kind e ≡ ErrorKind.InvalidInput) ⊎ (error_kind e ≡ ErrorKind.OutOfMemory)) × (writer.new ≡ writer.old)) }
+        ensures refused { IfErr result
+            (WriterRefused W.contents writer.old writer.new (frame_of ⟦<ApMessage as DerEncode>⟧ ⟦<KrbPriv as DerEncode>⟧ self.now)) }
+    {
+        let octets = frame_octets(alloc, &self.ap_message, &self.krb_priv)?;
+        give_all(writer, &octets)
+    }
+
+    /// An equal value. `OutOfMemory` alone is answered in its place.
+    pub fn clone(&self, alloc: Global) -> Result<Self, Asn1DerError>
+        ensures { Answers result self.now }
+    {
+        Ok(KrbPrivMessage {
+            ap_message: copy(alloc, &self.ap_message)?,
+            krb_priv: copy(alloc, &self.krb_priv)?,
+        })
+    }
+}
+
+/// The frame at the front of the octets, and how many octets it has. What stands behind it is not looked at.
+///
+/// Both lengths are read, and compared with nothing. On other octets the refusal is the first fault, from the left: the six octets in
+/// front are cut short, unless the version is another, which is told before the second length is missed; then that of the AP
+/// message, then that of the KRB-PRIV. `OutOfMemory` may come in place of any answer behind these six octets.
+pub fn read_frame(alloc: Global, octets: &[u8]) -> Result<(KrbPrivMessage, usize), ReadFrameError>
+    ensures valid { IfOk result (λ p. HoldsValues ⟦<ApMessage as DerEncode>⟧ ⟦<KrbPriv as DerEncode>⟧ p.0) }
+    ensures found { IfOk result (λ p. (x : List ℕ) × IsFrameOf ⟦<ApMessage as DerEncode>⟧ ⟦<KrbPriv as DerEncode>⟧ p.0 x × TakesFront x p.1 octets.now) }
+    ensures reads { (m : KrbPrivMessage) (x rest : List ℕ) → HoldsValues ⟦<ApMessage as DerEncode>⟧ ⟦<KrbPriv as DerEncode>⟧ m
+        → IsFrameOf ⟦<ApMessage as DerEncode>⟧ ⟦<KrbPriv as DerEncode>⟧ m x → octets.now ≡ x ++ rest
+        → MatchResult result (λ p. p ≡ (m, length x)) (λ e. e ≡ ReadFrameError.OutOfMemory) }
+    ensures first_fault { IfErr result (FrameRefused ⟦<ApMessage as DerEncode>⟧ ⟦<KrbPriv as DerEncode>⟧ octets.now) }
+{
+    let ((ap_message, krb_priv), taken) = front_messages(alloc, octets)?;
+    let message = KrbPrivMessage {
+        ap_message,
+        krb_priv,
+    };
+    Ok((message, taken))
+}
+
+/// Appends the frame to `out`, which is as before after a refusal.
+///
+/// `TooLong` exactly where the frame has more than 65535 octets; else `OutOfMemory` alone is answered in its place.
+pub fn write_frame(
+    alloc: Global,
+    message: &KrbPrivMessage,
+    out: &mut Vec<u8>,
+) -> Result<(), WriteFrameError>
+    ensures ok { OnOk result (out.new.items ≡ out.old.items ++ frame_of ⟦<ApMessage as DerEncode>⟧ ⟦<KrbPriv as DerEncode>⟧ message.now) }
+    ensures fits { OnOk result (length (frame_of ⟦<ApMessage as DerEncode>⟧ ⟦<KrbPriv as DerEncode>⟧ message.now) < 2 ^ 16) }
+    ensures valid { OnOk result (HoldsValues ⟦<ApMessage as DerEncode>⟧ ⟦<KrbPriv as DerEncode>⟧ message.now) }
+    ensures err { IfErr result (IsUnwritten (frame_of ⟦<ApMessage as DerEncode>⟧ ⟦<KrbPriv as DerEncode>⟧ message.now)) }
+    ensures kept { OnErr result (out.new.items ≡ out.old.items) }
+{
+    let octets = frame_octets(alloc, &message.ap_message, &message.krb_priv)?;
+    out.extend_from_slice(&octets)?;
+    Ok(())
+}

@@ -1,0 +1,52 @@
+//! Laws over the definitions, of functions that do nothing: each alias names the type that its standard says.
+
+ghost use Rattle.std.specs.Prelude.{◌≡◌};
+ghost use Rattle.krb_der.specs.Asn1.{sequence_of};
+ghost use Rattle.krb_der.specs.FieldFaults.{HasFaultsOf};
+ghost use Rattle.krb_der.specs.Equality.{ClonesValue, TellsEqual};
+ghost use Rattle.krb_der.specs.Tags.{HasTag};
+
+use crate::data_types::{
+    EncryptedData, EtypeInfo2, EtypeInfo2Entry, KerbErrorData, KerbPaPacRequest, PaData,
+    PaEncTimestamp, PaEncTsEnc, PaPacOptions,
+};
+use krb_der::DerEncode;
+use krb_der::composite::{Fields, Sequence};
+
+/// The aliases (RFC 4120, 5.2.7.2 and 5.2.7.5).
+pub fn aliases()
+    ensures pa_enc_timestamp { (v : _) → ⟦<PaEncTimestamp as DerEncode>⟧.enc v ≡ ⟦<EncryptedData as DerEncode>⟧.enc v }
+    ensures etype_info2 { (v : _) → ⟦<EtypeInfo2 as DerEncode>⟧.enc v ≡ sequence_of ⟦<EtypeInfo2Entry as DerEncode>⟧.enc v }
+{}
+
+/// The first fault of each struct is that of a SEQUENCE of its fields (X.690, 8.9): its tag, then its fields in order, then what is
+/// left over. Its encodings begin with that tag, and with no other octet (X.690, 8.1.2).
+pub fn faults()
+    ensures pa_data { HasFaultsOf ⟦<PaData as DerEncode>⟧.fault ⟦<<PaData as Sequence>::Fields as Fields>⟧ }
+    ensures pa_enc_ts_enc { HasFaultsOf ⟦<PaEncTsEnc as DerEncode>⟧.fault ⟦<<PaEncTsEnc as Sequence>::Fields as Fields>⟧ }
+    ensures kerb_pa_pac_request { HasFaultsOf ⟦<KerbPaPacRequest as DerEncode>⟧.fault ⟦<<KerbPaPacRequest as Sequence>::Fields as Fields>⟧ }
+    ensures pa_pac_options { HasFaultsOf ⟦<PaPacOptions as DerEncode>⟧.fault ⟦<<PaPacOptions as Sequence>::Fields as Fields>⟧ }
+    ensures etype_info2_entry { HasFaultsOf ⟦<EtypeInfo2Entry as DerEncode>⟧.fault ⟦<<EtypeInfo2Entry as Sequence>::Fields as Fields>⟧ }
+    ensures kerb_error_data { HasFaultsOf ⟦<KerbErrorData as DerEncode>⟧.fault ⟦<<KerbErrorData as Sequence>::Fields as Fields>⟧ }
+    ensures pa_data_tag { HasTag 48 ⟦<PaData as DerEncode>⟧.first }
+    ensures pa_enc_ts_enc_tag { HasTag 48 ⟦<PaEncTsEnc as DerEncode>⟧.first }
+    ensures kerb_pa_pac_request_tag { HasTag 48 ⟦<KerbPaPacRequest as DerEncode>⟧.first }
+    ensures pa_pac_options_tag { HasTag 48 ⟦<PaPacOptions as DerEncode>⟧.first }
+    ensures etype_info2_entry_tag { HasTag 48 ⟦<EtypeInfo2Entry as DerEncode>⟧.first }
+    ensures kerb_error_data_tag { HasTag 48 ⟦<KerbErrorData as DerEncode>⟧.first }
+{}
+
+/// `==` on each struct: it answers true for equal values and for no others.
+pub fn equality()
+    ensures pa_data { TellsEqual ⟦<PaData as PartialEq>⟧.eq }
+    ensures pa_enc_ts_enc { TellsEqual ⟦<PaEncTsEnc as PartialEq>⟧.eq }
+    ensures kerb_pa_pac_request { TellsEqual ⟦<KerbPaPacRequest as PartialEq>⟧.eq }
+    ensures pa_pac_options { TellsEqual ⟦<PaPacOptions as PartialEq>⟧.eq }
+    ensures etype_info2_entry { TellsEqual ⟦<EtypeInfo2Entry as PartialEq>⟧.eq }
+    ensures kerb_error_data { TellsEqual ⟦<KerbErrorData as PartialEq>⟧.eq }
+{}
+
+/// A clone of each struct that has one is the value again.
+pub fn clones()
+    ensures { ClonesValue ⟦<KerbPaPacRequest as Clone>⟧.is_clone }
+{}

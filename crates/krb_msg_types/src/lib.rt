@@ -1,0 +1,6 @@
+//! The data types that Kerberos messages and their parts share (RFC 4120, 5.2), those of pre-authentication (RFC 4120, 5.2.7;
+//! MS-KILE, 2.2) among them, each of which is read from its one DER encoding and written so.
+#![tactic(auto)]
+
+pub mod data_types;
+pub mod laws;

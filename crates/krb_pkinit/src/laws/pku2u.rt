@@ -1,0 +1,36 @@
+//! Laws over the definitions, of functions that do nothing.
+
+ghost use Rattle.krb_der.specs.FieldFaults.{HasFaultsOf};
+ghost use Rattle.krb_der.specs.Equality.{TellsEqual};
+ghost use Rattle.krb_der.specs.Tags.{HasTag};
+
+use crate::pkinit::{KrbFinished, Pku2uNegoBody, Pku2uNegoRep, Pku2uNegoReq, Pku2uNegoReqMetadata};
+use krb_der::DerEncode;
+use krb_der::composite::{Fields, Sequence};
+use krb_msg_types::laws::equality as shared_equality;
+
+/// The first fault of each struct is that of a SEQUENCE of its fields (X.690, 8.9): its tag, then its fields in order, then what is
+/// left over. Its encodings begin with that tag, and with no other octet (X.690, 8.1.2).
+pub fn faults()
+    ensures pku2u_nego_req_metadata { HasFaultsOf ⟦<Pku2uNegoReqMetadata as DerEncode>⟧.fault ⟦<<Pku2uNegoReqMetadata as Sequence>::Fields as Fields>⟧ }
+    ensures pku2u_nego_body { HasFaultsOf ⟦<Pku2uNegoBody as DerEncode>⟧.fault ⟦<<Pku2uNegoBody as Sequence>::Fields as Fields>⟧ }
+    ensures pku2u_nego_req { HasFaultsOf ⟦<Pku2uNegoReq as DerEncode>⟧.fault ⟦<<Pku2uNegoReq as Sequence>::Fields as Fields>⟧ }
+    ensures pku2u_nego_rep { HasFaultsOf ⟦<Pku2uNegoRep as DerEncode>⟧.fault ⟦<<Pku2uNegoRep as Sequence>::Fields as Fields>⟧ }
+    ensures krb_finished { HasFaultsOf ⟦<KrbFinished as DerEncode>⟧.fault ⟦<<KrbFinished as Sequence>::Fields as Fields>⟧ }
+    ensures pku2u_nego_req_metadata_tag { HasTag 48 ⟦<Pku2uNegoReqMetadata as DerEncode>⟧.first }
+    ensures pku2u_nego_body_tag { HasTag 48 ⟦<Pku2uNegoBody as DerEncode>⟧.first }
+    ensures pku2u_nego_req_tag { HasTag 48 ⟦<Pku2uNegoReq as DerEncode>⟧.first }
+    ensures pku2u_nego_rep_tag { HasTag 48 ⟦<Pku2uNegoRep as DerEncode>⟧.first }
+    ensures krb_finished_tag { HasTag 48 ⟦<KrbFinished as DerEncode>⟧.first }
+{}
+
+/// `==` on each struct: it answers true for equal values and for no others.
+pub fn equality()
+    ensures pku2u_nego_req_metadata { TellsEqual ⟦<Pku2uNegoReqMetadata as PartialEq>⟧.eq }
+    ensures pku2u_nego_body { TellsEqual ⟦<Pku2uNegoBody as PartialEq>⟧.eq }
+    ensures pku2u_nego_req { TellsEqual ⟦<Pku2uNegoReq as PartialEq>⟧.eq }
+    ensures pku2u_nego_rep { TellsEqual ⟦<Pku2uNegoRep as PartialEq>⟧.eq }
+    ensures krb_finished { TellsEqual ⟦<KrbFinished as PartialEq>⟧.eq }
+{
+    shared_equality();
+}

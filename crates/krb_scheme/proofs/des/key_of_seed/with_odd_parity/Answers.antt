@@ -1,6 +1,0 @@
-use Rattle.std.proofs.Common.{arith}
-use Rattle.krb_scheme.proofs.DesParts.{odd_octet}
-use Rattle.krb_scheme.proofs.des.key_of_seed.with_odd_parity.Goals as goal
-
-pub returns : goal.returns
-returns c = odd_octet c.args.octet (omega arith)

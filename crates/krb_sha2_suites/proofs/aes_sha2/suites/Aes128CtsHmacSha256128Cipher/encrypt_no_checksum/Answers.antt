@@ -1,8 +1,0 @@
-use Rattle.std.proofs.lemmas.Int.{to_z-of_z}
-use Rattle.krb_sha2_suites.proofs.aes_sha2.suites.Aes128CtsHmacSha256128Cipher.encrypt_no_checksum.Goals as goal
-
-pub returns-clause-encrypted : goal.returns-clause-encrypted
-returns-clause-encrypted c = let fits = c.ranges.key_usage in rw (c.confounder_of-confounder.ensures) at (simp to_z-of_z at c.encrypt_message_no_checksum.ensures.encrypted)
-
-pub returns-clause-ki : goal.returns-clause-ki
-returns-clause-ki c = let fits = c.ranges.key_usage in simp to_z-of_z at c.encrypt_message_no_checksum.ensures.ki

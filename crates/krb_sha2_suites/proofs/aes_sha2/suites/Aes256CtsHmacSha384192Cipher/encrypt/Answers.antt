@@ -1,5 +1,0 @@
-use Rattle.std.proofs.lemmas.Int.{to_z-of_z}
-use Rattle.krb_sha2_suites.proofs.aes_sha2.suites.Aes256CtsHmacSha384192Cipher.encrypt.Goals as goal
-
-pub returns-clause-sealed : goal.returns-clause-sealed
-returns-clause-sealed c = let fits = c.ranges.key_usage in rw (c.confounder_of-confounder.ensures) at (simp to_z-of_z at c.encrypt_message.ensures.sealed)

@@ -1,8 +1,0 @@
-use Rattle.std.proofs.Common.{ap, ◌∙◌}
-use Rattle.krb_tokens.specs.Mic.{Mic}
-use Rattle.krb_tokens.proofs.Streams.{appends_parts}
-use Rattle.krb_tokens.proofs.mic_token.MicToken.encode.Goals as goal
-
-pub returns-clause-ok : goal.returns-clause-ok
-returns-clause-ok g c =
-    appends_parts _ _ _ _ _ _ _ c.header.ensures (c.deref.ensures.value ∙ ap (λ (t : Mic). t.checksum) c.self.view_is) c.in_ok-write_all.ensures.bytes c.in_ok-write_all-2.ensures.bytes

@@ -1,0 +1,99 @@
+//! Messages of Kerberos and IAKERB in tokens of the GSS-API (RFC 2743, 3.1).
+
+use crate::row::{Attempt, Findings, Refusal, Row};
+use crate::trials::{Format, tried};
+use krb_der::{Der, DerSequence, copy, to_vec};
+use krb_gss_negotiation::gss_api::{ApplicationTag0, IAKerbProxyMessage, KrbMessage};
+use krb_msg::messages::ApRep;
+use krb_msg_kdc::messages::AsReq;
+use krb_msg_types::data_types::KerbPaPacRequest;
+use std::alloc::{AllocError, Global};
+use std::io::Write;
+
+impl<T: Der + Drop + PartialEq> Format for KrbMessage<T> {
+    fn read_from(alloc: Global, octets: &[u8]) -> Result<KrbMessage<T>, Refusal> {
+        let token = KrbMessage::<T>::decode_application_krb_message(alloc, octets)?;
+        Ok(token.0)
+    }
+
+    fn again(&self, alloc: Global) -> Result<KrbMessage<T>, Refusal> {
+        Ok(copy(alloc, self)?)
+    }
+
+    fn write_to<W: Write>(&self, alloc: Global, writer: &mut W) -> Result<(), Refusal> {
+        Ok(self.encode(alloc, writer)?)
+    }
+
+    fn readable(alloc: Global, written: &[u8]) -> Result<Vec<u8>, Refusal> {
+        Ok(token_of(alloc, written)?)
+    }
+}
+
+impl<T: Der + Drop + PartialEq> Format for IAKerbProxyMessage<T> {
+    fn read_from(alloc: Global, octets: &[u8]) -> Result<IAKerbProxyMessage<T>, Refusal> {
+        let token = IAKerbProxyMessage::<T>::decode_application_iakerb_proxy_message(
+            alloc, octets,
+        )?;
+        Ok(token.0)
+    }
+
+    fn again(&self, alloc: Global) -> Result<IAKerbProxyMessage<T>, Refusal> {
+        Ok(self.clone(alloc)?)
+    }
+
+    fn write_to<W: Write>(&self, alloc: Global, writer: &mut W) -> Result<(), Refusal> {
+        Ok(self.encode(alloc, writer)?)
+    }
+
+    fn readable(alloc: Global, written: &[u8]) -> Result<Vec<u8>, Refusal> {
+        Ok(token_of(alloc, written)?)
+    }
+}
+
+/// A token around these octets, of which there are fewer than 65,536 (X.690, 8.1.3).
+fn token_of(alloc: Global, octets: &[u8]) -> Result<Vec<u8>, AllocError> {
+    let [.., high, low] = octets.len().to_be_bytes();
+    let mut token = Vec::from_slice(alloc, &[0x60])?;
+    if octets.len() >= 0x100 {
+        token.extend_from_slice(&[0x82, high])?;
+    } else if octets.len() >= 0x80 {
+        token.push(0x81)?;
+    }
+    token.push(low)?;
+    token.extend_from_slice(octets)?;
+    Ok(token)
+}
+
+/// What is found of the message in the token at the front of a row's octets, which is put in a token again: that is the row's written
+/// octets in one.
+fn framed<F: Format + DerSequence>(row: &Row<'_>) -> Result<Findings, Refusal> {
+    let mut found = tried::<F>(row)?;
+    let message = F::read_from(row.alloc, row.octets)?;
+    let token = to_vec(row.alloc, &ApplicationTag0(message))?;
+    found.tell("framed", token == token_of(row.alloc, row.written)?)?;
+    Ok(found)
+}
+
+/// What is found of a token of Kerberos, by the call that reads it.
+fn try_kerberos(row: &Row<'_>) -> Attempt {
+    match row.name {
+        "decode_application_krb_message<ApRep>" => Some(framed::<KrbMessage<ApRep>>(row)),
+        "decode_application_krb_message<KerbPaPacRequest>" => {
+            Some(framed::<KrbMessage<KerbPaPacRequest>>(row))
+        }
+        _ => None,
+    }
+}
+
+/// What is found of a token of Kerberos or IAKERB, by the call that reads it.
+pub fn try_frame(row: &Row<'_>) -> Attempt {
+    match row.name {
+        "decode_application_iakerb_proxy_message<AsReq>" => {
+            Some(framed::<IAKerbProxyMessage<AsReq>>(row))
+        }
+        "decode_application_iakerb_proxy_message<KerbPaPacRequest>" => {
+            Some(framed::<IAKerbProxyMessage<KerbPaPacRequest>>(row))
+        }
+        _ => try_kerberos(row),
+    }
+}

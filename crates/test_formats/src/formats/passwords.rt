@@ -1,0 +1,128 @@
+//! The frames that change passwords (RFC 3244, 2), and records of a caller's integrity level and machine (MS-KILE, 2.2.5).
+
+use crate::devices::Source;
+use crate::row::{Attempt, Refusal, Row};
+use crate::trials::{Format, Streamed, made, tried, tried_slowly};
+use krb_lsap::{LsapTokenInfoIntegrity, octets_of, record_of};
+use krb_msg_password::{KrbPrivMessage, ReadFrameError, WriteFrameError, read_frame, write_frame};
+use std::alloc::Global;
+use std::io::Write;
+
+impl Format for KrbPrivMessage {
+    fn read_from(alloc: Global, octets: &[u8]) -> Result<KrbPrivMessage, Refusal> {
+        let mut reader = octets;
+        Ok(KrbPrivMessage::deserialize(alloc, &mut reader)?)
+    }
+
+    fn again(&self, alloc: Global) -> Result<KrbPrivMessage, Refusal> {
+        Ok(self.clone(alloc)?)
+    }
+
+    fn write_to<W: Write>(&self, alloc: Global, writer: &mut W) -> Result<(), Refusal> {
+        Ok(self.serialize(alloc, writer)?)
+    }
+}
+
+impl Streamed for KrbPrivMessage {
+    fn read_slowly(
+        alloc: Global,
+        _octets: &[u8],
+        reader: &mut Source<'_>,
+    ) -> Result<KrbPrivMessage, Refusal> {
+        Ok(KrbPrivMessage::deserialize(alloc, reader)?)
+    }
+}
+
+/// A frame that is read from a slice and written to a vector, with no device.
+#[derive(Drop, PartialEq)]
+struct Frame(KrbPrivMessage);
+
+impl Format for Frame {
+    fn read_from(alloc: Global, octets: &[u8]) -> Result<Frame, Refusal> {
+        let (message, taken) = read_frame(alloc, octets)?;
+        if taken > octets.len() {
+            return Err(Refusal::Lost);
+        }
+        Ok(Frame(message))
+    }
+
+    fn again(&self, alloc: Global) -> Result<Frame, Refusal> {
+        Ok(Frame(self.0.clone(alloc)?))
+    }
+
+    fn write_to<W: Write>(&self, alloc: Global, writer: &mut W) -> Result<(), Refusal> {
+        let mut octets = Vec::from_slice(alloc, &[0x5a])?;
+        let outcome = write_frame(alloc, &self.0, &mut octets);
+        let Some(behind) = octets.strip_prefix([0x5a].as_slice()) else {
+            return Err(Refusal::Lost);
+        };
+        if outcome.is_err() && !behind.is_empty() {
+            return Err(Refusal::Lost);
+        }
+        outcome?;
+        Ok(writer.write_all(behind)?)
+    }
+}
+
+impl Format for LsapTokenInfoIntegrity {
+    fn read_from(_alloc: Global, octets: &[u8]) -> Result<LsapTokenInfoIntegrity, Refusal> {
+        let mut reader = octets;
+        Ok(LsapTokenInfoIntegrity::decode(&mut reader)?)
+    }
+
+    fn again(&self, _alloc: Global) -> Result<LsapTokenInfoIntegrity, Refusal> {
+        Ok(self.clone()?)
+    }
+
+    fn write_to<W: Write>(&self, _alloc: Global, writer: &mut W) -> Result<(), Refusal> {
+        Ok(self.encode(writer)?)
+    }
+
+    fn shown(&self, alloc: Global) -> Result<String, Refusal> {
+        Ok(format!(in alloc; "{self:?}")?)
+    }
+}
+
+impl Streamed for LsapTokenInfoIntegrity {
+    fn read_slowly(
+        _alloc: Global,
+        _octets: &[u8],
+        reader: &mut Source<'_>,
+    ) -> Result<LsapTokenInfoIntegrity, Refusal> {
+        Ok(LsapTokenInfoIntegrity::decode(reader)?)
+    }
+}
+
+/// The octets of the record that these are, with no device.
+fn recorded(row: &Row<'_>) -> Result<Vec<u8>, Refusal> {
+    let mut octets = [0; 40];
+    if row.octets.len() != octets.len() {
+        return Err(Refusal::Lost);
+    }
+    octets.copy_from_slice(row.octets);
+    let record = record_of(&octets);
+    if record != LsapTokenInfoIntegrity::read_from(row.alloc, row.octets)? {
+        return Err(Refusal::Otherwise);
+    }
+    Ok(Vec::from_slice(row.alloc, &octets_of(&record))?)
+}
+
+/// The texts of want of memory.
+fn texts(alloc: Global) -> Result<Vec<u8>, Refusal> {
+    let read = ReadFrameError::OutOfMemory;
+    let written = WriteFrameError::OutOfMemory;
+    let text = format!(in alloc; "{read}, {written}")?;
+    Ok(Vec::from_slice(alloc, text.as_bytes())?)
+}
+
+/// What is found of a frame or a record, by its name.
+pub fn try_password(row: &Row<'_>) -> Attempt {
+    match row.name {
+        "KrbPrivMessage" => Some(tried_slowly::<KrbPrivMessage>(row)),
+        "LsapTokenInfoIntegrity" => Some(tried_slowly::<LsapTokenInfoIntegrity>(row)),
+        "read_frame" => Some(tried::<Frame>(row)),
+        "frames, texts" => Some(made(row, texts(row.alloc))),
+        "record_of" => Some(made(row, recorded(row))),
+        _ => None,
+    }
+}

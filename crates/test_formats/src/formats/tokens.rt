@@ -1,0 +1,117 @@
+//! MIC and Wrap tokens (RFC 4121, 4.2.6).
+
+use crate::devices::Source;
+use crate::row::{Attempt, Refusal, Row};
+use crate::trials::{Format, Streamed, made, tried_slowly};
+use krb_gss_tokens::{MicToken, WrapToken};
+use std::alloc::Global;
+use std::io::Write;
+
+/// What a token has for its payload, so that a clone copies it.
+const PAYLOAD: &[u8] = b"a payload";
+
+/// The flag of a token that an acceptor sent.
+const SENT_BY_ACCEPTOR: u8 = 1;
+
+impl Format for MicToken {
+    fn read_from(alloc: Global, octets: &[u8]) -> Result<MicToken, Refusal> {
+        let mut token = MicToken::decode(alloc, octets)?;
+        token.set_payload(Vec::from_slice(alloc, PAYLOAD)?);
+        Ok(token)
+    }
+
+    fn again(&self, alloc: Global) -> Result<MicToken, Refusal> {
+        Ok(self.clone(alloc)?)
+    }
+
+    fn write_to<W: Write>(&self, _alloc: Global, writer: &mut W) -> Result<(), Refusal> {
+        Ok(self.encode(writer)?)
+    }
+
+    fn shown(&self, alloc: Global) -> Result<String, Refusal> {
+        Ok(format!(in alloc; "{self:?}")?)
+    }
+}
+
+impl Streamed for MicToken {
+    fn read_slowly(
+        alloc: Global,
+        _octets: &[u8],
+        reader: &mut Source<'_>,
+    ) -> Result<MicToken, Refusal> {
+        let mut token = MicToken::decode(alloc, reader)?;
+        token.set_payload(Vec::from_slice(alloc, PAYLOAD)?);
+        Ok(token)
+    }
+}
+
+impl Format for WrapToken {
+    fn read_from(alloc: Global, octets: &[u8]) -> Result<WrapToken, Refusal> {
+        let mut token = WrapToken::decode(alloc, octets)?;
+        token.payload = Some(Vec::from_slice(alloc, PAYLOAD)?);
+        Ok(token)
+    }
+
+    fn again(&self, alloc: Global) -> Result<WrapToken, Refusal> {
+        Ok(self.clone(alloc)?)
+    }
+
+    fn write_to<W: Write>(&self, _alloc: Global, writer: &mut W) -> Result<(), Refusal> {
+        Ok(self.encode(writer)?)
+    }
+
+    fn shown(&self, alloc: Global) -> Result<String, Refusal> {
+        Ok(format!(in alloc; "{self:?}")?)
+    }
+}
+
+impl Streamed for WrapToken {
+    fn read_slowly(
+        alloc: Global,
+        _octets: &[u8],
+        reader: &mut Source<'_>,
+    ) -> Result<WrapToken, Refusal> {
+        let mut token = WrapToken::decode(alloc, reader)?;
+        token.payload = Some(Vec::from_slice(alloc, PAYLOAD)?);
+        Ok(token)
+    }
+}
+
+/// What is written of a MIC token that is made of the parts of the row's, and its header in front of that.
+fn mic_anew(row: &Row<'_>) -> Result<Vec<u8>, Refusal> {
+    let read = MicToken::decode(row.alloc, row.octets)?;
+    let token = if read.flags & SENT_BY_ACCEPTOR == 0 {
+        MicToken::with_initiator_flags(row.alloc)
+    } else {
+        MicToken::with_acceptor_flags(row.alloc)
+    };
+    let mut token = token.with_seq_number(read.seq_num);
+    let mut octets = Vec::from_slice(row.alloc, &token.header())?;
+    token.set_checksum(read.checksum);
+    token.encode(&mut octets)?;
+    Ok(octets)
+}
+
+/// What is written of a Wrap token that is made of the parts of the row's, and its header in front of that.
+fn wrap_anew(row: &Row<'_>) -> Result<Vec<u8>, Refusal> {
+    let read = WrapToken::decode(row.alloc, row.octets)?;
+    let mut token = WrapToken::with_seq_number(row.alloc, read.seq_num);
+    let mut octets = Vec::from_slice(row.alloc, &token.header())?;
+    token.flags = read.flags;
+    token.ec = read.ec;
+    token.set_rrc(read.rrc);
+    token.set_checksum(read.checksum);
+    token.encode(&mut octets)?;
+    Ok(octets)
+}
+
+/// What is found of a token, by the name of its type.
+pub fn try_token(row: &Row<'_>) -> Attempt {
+    match row.name {
+        "MicToken" => Some(tried_slowly::<MicToken>(row)),
+        "MicToken::with_seq_number" => Some(made(row, mic_anew(row))),
+        "WrapToken" => Some(tried_slowly::<WrapToken>(row)),
+        "WrapToken::with_seq_number" => Some(made(row, wrap_anew(row))),
+        _ => None,
+    }
+}

@@ -1,0 +1,62 @@
+//! The types of pre-authentication with certificates, by their names.
+
+use crate::row::{Attempt, Row};
+use crate::trial::findings_of;
+use krb_der::Asn1SequenceOf;
+use krb_der_x509::{AlgorithmIdentifier, SubjectPublicKeyInfo};
+use krb_pkinit::pkinit::{
+    DhAuthPack, DhDomainParameters, DhNonce, DhRepInfo, DhReqInfo, DhReqKeyInfo, EcAuthPack,
+    ExternalPrincipalIdentifier, KdcDhKeyInfo, KrbFinished, PaPkAsRep, PaPkAsReq, PkAuthenticator,
+    Pku2uNegoBody, Pku2uNegoRep, Pku2uNegoReq, Pku2uNegoReqMetadata, ValidationParams,
+};
+
+/// What is found of the octets as those of an algorithm or a public key, by its name. `None` where none has it.
+pub fn try_public_key(row: &Row<'_>) -> Attempt {
+    match row.name {
+        "AlgorithmIdentifier" => Some(findings_of::<AlgorithmIdentifier>(row)),
+        "Asn1SequenceOf<AlgorithmIdentifier>" => Some(findings_of::<
+            Asn1SequenceOf<AlgorithmIdentifier>,
+        >(row)),
+        "DhDomainParameters" => Some(findings_of::<DhDomainParameters>(row)),
+        "DhReqInfo" => Some(findings_of::<DhReqInfo>(row)),
+        "DhReqKeyInfo" => Some(findings_of::<DhReqKeyInfo>(row)),
+        "SubjectPublicKeyInfo" => Some(findings_of::<SubjectPublicKeyInfo>(row)),
+        "ValidationParams" => Some(findings_of::<ValidationParams>(row)),
+        _ => None,
+    }
+}
+
+/// What is found of the octets as those of a message of PKU2U, by its name. `None` where none has it.
+pub fn try_pku2u(row: &Row<'_>) -> Attempt {
+    match row.name {
+        "KrbFinished" => Some(findings_of::<KrbFinished>(row)),
+        "Pku2uNegoBody" => Some(findings_of::<Pku2uNegoBody>(row)),
+        "Pku2uNegoRep" => Some(findings_of::<Pku2uNegoRep>(row)),
+        "Pku2uNegoReq" => Some(findings_of::<Pku2uNegoReq>(row)),
+        "Pku2uNegoReqMetadata" => Some(findings_of::<Pku2uNegoReqMetadata>(row)),
+        _ => None,
+    }
+}
+
+/// What is found of the octets as those of a client with a certificate, by the name of their type. `None` where none has it.
+pub fn try_certificate_request(row: &Row<'_>) -> Attempt {
+    match row.name {
+        "DhAuthPack" => Some(findings_of::<DhAuthPack>(row)),
+        "DhNonce" => Some(findings_of::<DhNonce>(row)),
+        "EcAuthPack" => Some(findings_of::<EcAuthPack>(row)),
+        "ExternalPrincipalIdentifier" => Some(findings_of::<ExternalPrincipalIdentifier>(row)),
+        "PaPkAsReq" => Some(findings_of::<PaPkAsReq>(row)),
+        "PkAuthenticator" => Some(findings_of::<PkAuthenticator>(row)),
+        _ => None,
+    }
+}
+
+/// What is found of the octets as those of a KDC, by the name of their type. `None` where none has it.
+pub fn try_certificate_reply(row: &Row<'_>) -> Attempt {
+    match row.name {
+        "DhRepInfo" => Some(findings_of::<DhRepInfo>(row)),
+        "KdcDhKeyInfo" => Some(findings_of::<KdcDhKeyInfo>(row)),
+        "PaPkAsRep" => Some(findings_of::<PaPkAsRep>(row)),
+        _ => None,
+    }
+}

@@ -1,0 +1,46 @@
+//! The calls of the cryptography that are no suite's.
+
+use crate::outcome::Refusal;
+use krb_crypto_block::{
+    AesSize, decrypt_aes_cbc, decrypt_aes_cts, decrypt_des, encrypt_aes_cbc, encrypt_aes_cts,
+    encrypt_des, fill_blocks, hmac_sha1, hmac_sha256, hmac_sha384, n_fold,
+};
+use std::alloc::Global;
+
+const KEY_OF_AES: &[u8] = b"a key of AES128.";
+
+const KEY_OF_TRIPLE_DES: &[u8] = b"a key of triple DES, 24.";
+
+/// The call of this name on these octets.
+pub fn try_cryptography(alloc: Global, call: &str, octets: &[u8]) -> Result<Vec<u8>, Refusal> {
+    let made = match call {
+        "n_fold" => {
+            if octets.is_empty() {
+                return Err(Refusal::NoCall);
+            }
+            n_fold(alloc, octets, 64)?
+        }
+        "hmac_sha1" => hmac_sha1(alloc, KEY_OF_AES, octets, 20)?,
+        "hmac_sha256" => hmac_sha256(alloc, KEY_OF_AES, octets, 32)?,
+        "hmac_sha384" => hmac_sha384(alloc, KEY_OF_AES, octets, 48)?,
+        "encrypt_aes_cbc" => encrypt_aes_cbc(alloc, KEY_OF_AES, octets, &AesSize::Aes128)?,
+        "decrypt_aes_cbc" => decrypt_aes_cbc(alloc, KEY_OF_AES, octets, &AesSize::Aes128)?,
+        "encrypt_aes_cts" => encrypt_aes_cts(alloc, KEY_OF_AES, octets, &AesSize::Aes128)?,
+        "decrypt_aes_cts" => decrypt_aes_cts(alloc, KEY_OF_AES, octets, &AesSize::Aes128)?,
+        "encrypt_des" => encrypt_des(alloc, KEY_OF_TRIPLE_DES, octets)?,
+        "decrypt_des" => decrypt_des(alloc, KEY_OF_TRIPLE_DES, octets)?,
+        "fill_blocks" => return filled(alloc, octets),
+        _ => return Err(Refusal::NoCall),
+    };
+    Ok(made)
+}
+
+/// The octets with zeros behind them, to whole blocks; where that is refused, they are to be as before.
+fn filled(alloc: Global, octets: &[u8]) -> Result<Vec<u8>, Refusal> {
+    let mut blocks = Vec::from_slice(alloc, octets)?;
+    match fill_blocks(&mut blocks) {
+        Ok(()) => Ok(blocks),
+        Err(_) if blocks.as_slice() != octets => Err(Refusal::Changed),
+        Err(refusal) => Err(Refusal::from(refusal)),
+    }
+}

@@ -1,0 +1,37 @@
+//! The part of a ticket, sealed and opened.
+
+use crate::outcome::Refusal;
+use crate::suites::{TICKET, confounder_of, key_of};
+use krb_crypto_suite::{Cipher, CipherSuite};
+use krb_der::{from_bytes, to_vec};
+use krb_msg_parts::data_types::EncTicketPart;
+use krb_seal::{open_part, seal_part};
+use std::alloc::Global;
+
+/// The call of this name on a part: `seal_part` reads it from the octets first, `open_part` writes it afterwards.
+pub fn try_part(
+    alloc: Global,
+    call: &str,
+    suite: &CipherSuite,
+    octets: &[u8],
+) -> Result<Vec<u8>, Refusal> {
+    match call {
+        "seal_part" => sealed(alloc, suite, octets),
+        "open_part" => opened(alloc, suite, octets),
+        _ => Err(Refusal::NoCall),
+    }
+}
+
+fn sealed(alloc: Global, suite: &CipherSuite, octets: &[u8]) -> Result<Vec<u8>, Refusal> {
+    let confounder = confounder_of(suite);
+    if confounder.len() != suite.confounder_size() {
+        return Err(Refusal::NoCall);
+    }
+    let part: EncTicketPart = from_bytes(alloc, octets)?;
+    Ok(seal_part(alloc, suite, key_of(suite), TICKET, confounder, &part)?)
+}
+
+fn opened(alloc: Global, suite: &CipherSuite, octets: &[u8]) -> Result<Vec<u8>, Refusal> {
+    let part: EncTicketPart = open_part(alloc, suite, key_of(suite), TICKET, octets)?;
+    Ok(to_vec(alloc, &part)?)
+}
