@@ -1,5 +1,5 @@
 use Rattle.std.proofs.Common.{◌≤◌, length}
-use Rattle.refusals.proofs.fill.Given as goal
+use Rattle.test_refusals.proofs.fill.Given as goal
 
 abbrev pub invariant-loop : goal.invariant-loop
 invariant-loop g l = l.filled ≤ length l.room
