@@ -1,8 +1,10 @@
 //! Why a PAC was not read or written.
 
 ghost use Rattle.std.specs.Prelude.{◌≡◌};
+ghost use Rattle.krb_pac.specs.Devices.{IsReadError};
 ghost use Rattle.krb_pac.specs.declared.error.PacError.TheVariants as errors;
 
+use krb_io::ReadError;
 use std::alloc::{AllocError, AllocFailed};
 use std::io;
 use thiserror::Error;
@@ -35,6 +37,17 @@ impl From<io::Error> for PacError {
 
     fn from(error: io::Error) -> PacError {
         PacError::IoError(error)
+    }
+}
+
+impl From<ReadError> for PacError {
+    ghost from_gives = { IsReadError };
+
+    fn from(error: ReadError) -> PacError {
+        match error {
+            ReadError::Io(error) => PacError::IoError(error),
+            ReadError::OutOfMemory => PacError::OutOfMemory,
+        }
     }
 }
 

@@ -2,16 +2,18 @@
 
 ghost use Rattle.std.specs.Prelude.{◌≡◌, ℕ, drop, Some, IfOk, IfErr, IfSome, OnOk};
 ghost use Rattle.std.specs.Io.KnownBytes.{Appends};
-ghost use Rattle.krb_pac.specs.Devices.{EntryRefused, IsIo, IsLasting, TakesFront};
+ghost use Rattle.krb_io.specs.Transfer.{IsNotInterrupted, IsPrefixWritten};
+ghost use Rattle.krb_pac.specs.Devices.{EntryRefused, IsIo};
 ghost use Rattle.krb_pac.specs.Entry.{Entry};
 ghost use Rattle.krb_pac.specs.Layout.{EntryAt};
 ghost use Rattle.krb_pac.specs.Refused.{AnswersUnlessFault};
 ghost use Rattle.krb_pac.specs.Written.{entry_octets};
 
-use crate::devices::{read_u32, read_u64, write_octets};
+use crate::devices::{read_u32, read_u64};
 use crate::error::PacError;
 use crate::kind::PacBufferType;
 use crate::writing::entry;
+use krb_io::write_all;
 use std::io::{Read, Write};
 use std::marker::Model;
 
@@ -94,8 +96,9 @@ impl PacInfoBuffer {
     /// of them. A write that a signal interrupts is made again.
     pub fn serialize<W: Write>(&self, to: &mut W) -> Result<(), PacError>
         ensures ok { OnOk result (Appends (W.contents to.old) (W.contents to.new) (entry_octets self.now)) }
-        ensures fault { IfErr result (IsIo (λ x. IsLasting x × TakesFront (entry_octets self.now) (W.contents to.old) (W.contents to.new))) }
+        ensures fault { IfErr result (IsIo (λ x. IsNotInterrupted x × IsPrefixWritten (entry_octets self.now) (W.contents to.old) (W.contents to.new))) }
     {
-        write_octets(to, &entry(self))
+        write_all(to, &entry(self))?;
+        Ok(())
     }
 }

@@ -4,19 +4,19 @@ ghost use Rattle.std.specs.Prelude.{◌≡◌, ℕ, ◌≤◌, ◌<◌, ◌^◌,
 ghost use Rattle.std.specs.Io.KnownBytes.{Appends};
 ghost use Rattle.krb_pac.specs.Written.{PacPut};
 ghost use Rattle.std.specs.Cmp.Lexicographic.{pointwise};
-ghost use Rattle.krb_pac.specs.Devices.{IfIo, IsLasting, StopsInside};
+ghost use Rattle.krb_pac.specs.Devices.{IfIo, StopsInside};
+ghost use Rattle.krb_io.specs.Transfer.{IsNotInterrupted};
 ghost use Rattle.krb_pac.specs.Comparing.{same_pac_per, same_pac_equiv};
 ghost use Rattle.krb_pac.specs.Layout.{Buffer, PacIs, same_buffer};
 ghost use Rattle.krb_pac.specs.Refused.{Answers, AnswersUnlessFault, RefusesUnlessFault, NamesOutside, PacRefused, IsFault};
 
 use crate::buffer::PacBuffer;
-use crate::devices::write_octets;
 use crate::error::PacError;
 use crate::reading::u32_at;
 use crate::writing::to_octets;
+use krb_io::{read_to_end, write_all};
 use std::alloc::Global;
-use std::io;
-use std::io::{ErrorKind, Read, Write};
+use std::io::{Read, Write};
 use std::marker::Model;
 
 /// A PAC (MS-PAC 2.3, PACTYPE): its buffers, fewer than 2^32 of them.
@@ -97,7 +97,8 @@ impl Pac {
         ensures fault { IfErr result (StopsInside (PacPut self.now) (W.contents out.old) (W.contents out.new)) }
     {
         let octets = to_octets(alloc, self.buffers())?;
-        write_octets(out, &octets)
+        write_all(out, &octets)?;
+        Ok(())
     }
 
     /// An equal PAC. `OutOfMemory` alone is answered in its place.
@@ -126,11 +127,11 @@ impl Pac {
         ensures found { IfOk result (λ pac. IfSome (R.remaining reader) (λ b. PacIs b pac)) }
         ensures refused { IfErr result (λ e. IsFault e ⊎ IfSome (R.remaining reader) (λ b. PacRefused b e)) }
         ensures range { IfSome (R.remaining reader) (λ b. NamesOutside b → RefusesUnlessFault result PacError.InvalidRange) }
-        ensures lasting { IfErr result (IfIo IsLasting) }
+        ensures lasting { IfErr result (IfIo IsNotInterrupted) }
         ensures only { IfSome (R.remaining reader) (λ b. (pac : List Buffer) → PacIs b pac → AnswersUnlessFault result pac) }
     {
         let mut reader = reader;
-        let octets = read_all(alloc, &mut reader)?;
+        let octets = read_to_end(alloc, &mut reader)?;
         Pac::from_octets(alloc, &octets)
     }
 }
@@ -147,26 +148,4 @@ impl PartialEq for Pac {
 
 impl Eq for Pac {
     ghost laws = { same_pac_equiv };
-}
-
-/// The octets up to the reader's end.
-fn read_all<R: Read>(alloc: Global, reader: &mut R) -> Result<Vec<u8>, PacError>
-    ensures gave { IfOk result (λ v. IfSome (R.remaining reader.old) (λ b. v.items ≡ b)) }
-    ensures fault { IfErr result IsFault }
-    ensures lasting { IfErr result (IfIo IsLasting) }
-{
-    let mut octets = Vec::new(alloc);
-    let mut part = [0u8; 512];
-    'parts: for _ in 0..u64::MAX {
-        match reader.read(&mut part) {
-            Ok(0) => return Ok(octets),
-            Ok(n) => octets.extend_from_slice(&part[..n])?,
-            Err(e) => {
-                if e.kind() != ErrorKind::Interrupted {
-                    return Err(PacError::IoError(e));
-                }
-            }
-        }
-    }
-    Err(PacError::IoError(io::Error::new(ErrorKind::Other, "a reader that does not end")))
 }

@@ -6,5 +6,5 @@ use Rattle.krb_pac.proofs.devices.read_u64.Goals as goal
 
 pub returns-clause-bytes : goal.returns-clause-bytes
 returns-clause-bytes g c =
-    let number = reads_number little_number 8 (little_from-append 8) _ _ c.read_octets.new.octets (search rules) c.in_ok-read_octets.ensures.bytes in
-    subst (ReadsNumber little_number 8 (g.R.Read.remaining c.args.from.now) (g.R.Read.remaining c.read_octets.new.from)) (sym c.read_u64.ensures) number
+    let number = reads_number little_number 8 (little_from-append 8) _ _ c.read_exact.new.buffer (search rules) c.in_ok-read_exact.ensures.octets in
+    subst (ReadsNumber little_number 8 (g.R.Read.remaining c.args.from.now) (g.R.Read.remaining c.read_exact.new.reader)) (sym c.read_u64.ensures) number

@@ -15,6 +15,6 @@ pub returns-clause-range : goal.returns-clause-range
 returns-clause-range g c =
     let items = c.in_ok-octets.octets.items in
     let r = c.from_octets.result in
-    outside_known (g.R.Read.remaining c.args.reader) items r c.in_ok-octets.ensures.gave
+    outside_known (g.R.Read.remaining c.args.reader) items r c.in_ok-octets.ensures.octets
     (subst (λ (w : List ℕ). IfOk r (PacIs w)) c.deref.ensures.value c.from_octets.ensures.found)
     (subst (λ (w : List ℕ). IfErr r (PacRefused w)) c.deref.ensures.value c.from_octets.ensures.refused)
