@@ -35,7 +35,7 @@ expanded-length nk key (suc n) =
     let long = length-append (expanded nk key n) (next_word nk (expanded nk key n) (n + nk)) in
     omega (arith, before, long)
 
--- lists with one front have one word there
+-- lists with one prefix have one word there
 word_at_front : (v w : List ℕ) (m i : ℕ) → take m v ≡ take m w → 4 * i + 4 ≤ m → word_at v i ≡ word_at w i
 word_at_front v w m i e h = sym (word_at_within v m i h) ∙ ap (λ (t : List ℕ). word_at t i) e ∙ word_at_within w m i h
 

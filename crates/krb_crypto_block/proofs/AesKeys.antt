@@ -1,4 +1,4 @@
--- What a key's calls answer, from what is kept of the key.
+-- What a key's calls result, from what is kept of the key.
 use Rattle.std.proofs.Common.{◌≡◌, ℕ, zero, suc, ◌+◌, ◌-◌, ◌*◌, ◌≤◌, min, List, length, take, refl, sym, ap, ◌∙◌, subst, arith, inl, inr, length-take}
 use Rattle.krb_crypto_block.specs.Modes.{IsOctets, AreInverse}
 use Rattle.krb_crypto_block.specs.Aes.{key_expansion, key_words, round_count, add_round_key, cipher, aes_block, IsKeySize}

@@ -12,7 +12,7 @@ use Rattle.krb_crypto_hash.proofs.XorLists.{length-xor_lists, xor_lists-twice, f
 use Rattle.krb_crypto_block.proofs.Chains.{chained, chained_from, CbcFrom-chained}
 
 module _ (size : ℕ) where
-  -- p has n whole blocks, and nothing behind them
+  -- p has n whole blocks, and nothing after them
   unfoldable pub IsWhole : ℕ → List ℕ → Type 0
   IsWhole zero p = p ≡ []
   IsWhole (suc n) p = (size ≤ length p) × IsWhole n (drop size p)
@@ -228,7 +228,7 @@ module _ (size : ℕ) where
   unfolding last_block
   last_block_end count i v rest target done e = let none : count - i ≡ 0 = omega arith in rw none at e
 
-  -- ---- what the loops answer
+  -- ---- what the loops result
 
   -- whole blocks are as many as their number says, also where the last is counted by rounding up
   pub whole_length : (p : List ℕ) → length p % size ≡ 0 → length p ≡ size * (length p / size)

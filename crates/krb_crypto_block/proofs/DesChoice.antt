@@ -73,7 +73,7 @@ half_table = 3 ∷ 4 ∷ 5 ∷ 6 ∷ 7 ∷ 8 ∷ 19 ∷ 20 ∷ 21 ∷ 22 ∷ 23 
 abbrev pub half_bits : ℕ → List ℕ
 half_bits word = permuted half_table (bits 32 word)
 
--- seven bits behind 7 i others
+-- seven bits after 7 i others
 abbrev in_place : ℕ → ℕ → List ℕ
 in_place i part = replicate (7 * i) 0 ++ (bits 7 part ++ replicate (21 - 7 * i) 0)
 

@@ -1,4 +1,4 @@
--- Filling with zeros to whole blocks.
+-- Padding with zeros to whole blocks.
 use Rattle.std.proofs.Common.{◌≡◌, ℕ, ◌+◌, ◌-◌, ◌*◌, ◌/◌, ◌%◌, ◌<◌, ◌≤◌, List, ◌++◌, length, take, drop, replicate, refl, sym, ap, subst, ◌∙◌, arith, inl, inr, add-zero, append_assoc}
 use Rattle.std.proofs.lemmas.Bool.{cases_lt}
 use Rattle.std.proofs.lemmas.List.{append-nil, length-append, length-replicate, take_at, drop_at}
@@ -33,7 +33,7 @@ module _ (size : ℕ) where
   fill_length : (p w : List ℕ) (fill : IsFill size p w) → length w ≡ length p + fill.zeros
   fill_length p w fill = ap length fill.joined ∙ length-append p (replicate fill.zeros 0) ∙ ap (λ (k : ℕ). length p + k) (length-replicate fill.zeros 0)
 
-  -- there is one fill
+  -- there is one padded form
   pub IsFill-one : (p v w : List ℕ) → IsFill size p v → IsFill size p w → v ≡ w
   IsFill-one p v w a b =
       let hv : (length p + a.zeros) % size ≡ 0 = ap (λ (k : ℕ). k % size) (sym (fill_length p v a)) ∙ a.whole in
@@ -44,7 +44,7 @@ module _ (size : ℕ) where
   pub IsFill-whole : 0 < size → (p : List ℕ) → length p % size ≡ 0 → IsFill size p p
   IsFill-whole some p whole = record { zeros = 0; fewer = some; joined = sym (append-nil p); whole = whole }
 
-  -- whole blocks in front change nothing
+  -- whole blocks before change nothing
   pub IsFill-behind : (c q w : List ℕ) → length c % size ≡ 0 → IsFill size (c ++ q) w → IsFill size q (drop (length c) w)
   IsFill-behind c q w front fill =
       let parts : w ≡ c ++ (q ++ replicate fill.zeros 0) = fill.joined ∙ append_assoc c q (replicate fill.zeros 0) in
@@ -72,7 +72,7 @@ module _ (size : ℕ) where
   pub IsFill-front : (p w : List ℕ) → IsFill size p w → IsOctets w → IsOctets p
   IsFill-front p w fill octets = subst IsOctets (ap (take (length p)) fill.joined ∙ take_at p (replicate fill.zeros 0) (length p) refl) (AreBelow-take (length p) w octets)
 
-  -- behind whole blocks of w the rest is of whole blocks
+  -- after whole blocks of w the rest is of whole blocks
   pub rest_whole : (n : ℕ) (w : List ℕ) → n % size ≡ 0 → n ≤ length w → length w % size ≡ 0 → (length w - n) % size ≡ 0
   rest_whole n w front long whole =
       let sum : length w ≡ n + (length w - n) = omega arith in

@@ -98,7 +98,7 @@ rot_octet xs j e a n h en he ea =
     first ∙ ap (λ (i : ℕ). i % 256) shifted ∙ joint ∙ ap (λ (i : ℕ). (i % 256 * 256 + x / worth a % 256) / 2 ^ (5 * j % 8) % 256) above
     ∙ ap (λ (i : ℕ). (i * 256 + x / worth a % 256) / 2 ^ (5 * j % 8) % 256) high ∙ ap (λ (i : ℕ). (get_or xs (n - 1 - (a + 1) % n) 0 * 256 + i) / 2 ^ (5 * j % 8) % 256) low
 
--- ---- the turns joined
+-- ---- the turns concatenated
 joined-suc : (x k c : ℕ) → joined x k (suc c) ≡ joined x k c * 2 ^ k + rot x k c
 unfolding joined
 joined-suc x k c = refl
@@ -124,7 +124,7 @@ joined_shift x n i (suc m) pos h =
     rw (w, top) (sym (div-div-eq-div-mul (joined x (8 * n) (i + m) * worth n + rot x (8 * n) (i + m)) (worth n) (worth (m * n)))
     ∙ ap (λ (k : ℕ). k / worth (m * n)) (digits_div (joined x (8 * n) (i + m)) one) ∙ joined_shift x n i m pos h)
 
--- an octet of the turns joined is one of a turn
+-- an octet of the turns concatenated is one of a turn
 pub joined_octet : (x n i m e : ℕ) → 0 < n → x < worth n → e < n → joined x (8 * n) (suc i + m) / worth (m * n + e) % 256 ≡ rot x (8 * n) i / worth e % 256
 joined_octet x n i m e pos h he =
     let j : ℕ = joined x (8 * n) (suc i + m) in

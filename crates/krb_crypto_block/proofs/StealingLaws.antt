@@ -133,7 +133,7 @@ module _ (E D : List ℕ → List ℕ) (inv : AreInverse 16 E D) where
   IsBlock-first : (v p : List ℕ) → IsBlock 16 v → IsOctets p → 16 ≤ length p → IsBlock 16 (E (xor_lists (take 16 p) v))
   IsBlock-first v p hv hp long = inv.enciphered (xor_lists (take 16 p) v) (IsBlock-xor_lists (take 16 p) v (IsBlock-take p hp long) hv)
 
-  -- the length and the octets of what is enciphered
+  -- the length and the octets of what is encrypted
   two_length : (v b t : List ℕ) → IsBlock 16 v → IsBlock 16 b → IsOctets t → length t ≤ 16 → (length (two E v b t) ≡ 16 + length t) × IsOctets (two E v b t)
   two_length v b t hv hb ht fits =
       let hc : IsBlock 16 (E (xor_lists b v)) = inv.enciphered (xor_lists b v) (IsBlock-xor_lists b v hb hv) in
@@ -326,11 +326,11 @@ module _ (E D : List ℕ → List ℕ) (inv : AreInverse 16 E D) where
   zero_is_block : IsBlock 16 (zero_block 16)
   zero_is_block = (refl, AreBelow-zeros 16 (omega arith))
 
-  -- what is enciphered has `Cts`
+  -- what is encrypted has `Cts`
   pub Cts-stolen : (n : ℕ) (p c : List ℕ) → 16 ≤ length p → IsOctets p → n ≡ (length p - 1) / 16 → c ≡ stolen E n (zero_block 16) p → Cts E p c
   Cts-stolen n p c long hp en ec = subst (λ (k : List ℕ). Cts E p k) (sym ec) (CtsFrom-stolen n (zero_block 16) p zero_is_block hp (InBlocks_at n p long en))
 
-  -- what is deciphered has `Cts`
+  -- what is decrypted has `Cts`
   pub Cts-unstolen : (n : ℕ) (p c : List ℕ) → 16 ≤ length c → IsOctets c → n ≡ (length c - 1) / 16 → p ≡ unstolen D n (zero_block 16) c → Cts E p c
   Cts-unstolen n p c long hc en ep =
       let h : InBlocks n c = InBlocks_at n c long en in

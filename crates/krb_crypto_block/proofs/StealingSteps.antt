@@ -9,7 +9,7 @@ use Rattle.krb_crypto_block.proofs.Below.{AreBelow-take, AreBelow-drop}
 use Rattle.krb_crypto_block.proofs.Chaining.{no_octets}
 use Rattle.krb_crypto_block.proofs.StealingLaws.{stolen, unstolen, two, untwo}
 
--- the front, and octets behind it to the end, both written in their places
+-- the prefix, and octets after it to the end, both written in their places
 pub both_written : (n : ℕ) (x rest y : List ℕ) → length x ≡ n → take n (x ++ rest) ++ (y ++ drop (length (x ++ rest) - n) (drop n (x ++ rest))) ≡ x ++ y
 both_written n x rest y e =
     let front : take n (x ++ rest) ≡ x = take_at x rest n e in
@@ -19,7 +19,7 @@ both_written n x rest y e =
     ∙ ap (λ (k : List ℕ). x ++ (y ++ drop (length (x ++ rest) - n) k)) behind
     ∙ ap (λ (k : List ℕ). x ++ (y ++ k)) none ∙ ap (λ (k : List ℕ). x ++ k) (append-nil y)
 
--- what stands behind the front is the rest
+-- what is after the prefix is the rest
 rest_behind : (n : ℕ) (x rest : List ℕ) → length x ≡ n → take (length (x ++ rest) - n) (drop n (x ++ rest)) ≡ rest
 rest_behind n x rest e = take_rest (x ++ rest) n ∙ drop_at x rest n e
 
@@ -38,7 +38,7 @@ one_unstolen D c e =
     let whole : take 16 c ≡ c = take_all 16 c (omega (arith, e)) in
     rw one (append-nil (xor_lists (D (take 16 c)) (zero_block 16)) ∙ ap (λ (k : List ℕ). xor_lists (D k) (zero_block 16)) whole)
 
--- m blocks in front of the last two are chained
+-- m blocks before the last two are chained
 stolen_front : (E : List ℕ → List ℕ) (m : ℕ) (v front rest : List ℕ) → length front ≡ 16 * m
     → linked 16 E m v front ++ two E (last_linked 16 E m v front) (take 16 rest) (drop 16 rest) ≡ stolen E (suc m) v (front ++ rest)
 unfolding linked last_linked stolen
@@ -78,14 +78,14 @@ cut_plain u y n lu ly fits =
     ap (λ (k : List ℕ). xor_lists k (y ++ drop n u)) (sym (take-append-drop n u)) ∙ xor_lists-append (take n u) y (drop n u) (drop n u) (r ∙ sym ly) in
     ap (take n) joint ∙ take_at (xor_lists (take n u) y) (xor_lists (drop n u) (drop n u)) n lx
 
--- the blocks in front of the last two are so many
+-- the blocks before the last two are so many
 front_count : (p : List ℕ) (start : ℕ) → start ≡ 16 * ((length p - 1) / 16 - 1) → start + 16 < length p
     → (length (take start p) ≡ 16 * (length (take start p) / 16)) × (suc (length (take start p) / 16) ≡ (length p - 1) / 16)
 front_count p start e long =
     let size : length (take start p) ≡ start = length-take-le start p (omega (arith, long)) in
     (omega (arith, size, e), omega (arith, size, e, long))
 
--- front and last two are all
+-- prefix and last two are all
 all_stolen : (E : List ℕ → List ℕ) (p front last out : List ℕ) (start : ℕ) → start ≡ 16 * ((length p - 1) / 16 - 1) → start + 16 < length p
     → front ≡ linked 16 E (length (take start p) / 16) (zero_block 16) (take start p) → last ≡ last_linked 16 E (length (take start p) / 16) (zero_block 16) (take start p)
     → out ≡ front ++ (E (xor_lists (filled (drop 16 (drop start p))) (E (xor_lists (take 16 (drop start p)) last))) ++ take (length (drop start p) - 16) (E (xor_lists (take 16 (drop start p)) last)))
@@ -126,14 +126,14 @@ all_unstolen D c front last out start e long short lu ef el eo =
     ∙ unstolen_front D m (zero_block 16) (take start c) rest count.0
     ∙ ap (λ (k : ℕ). unstolen D k (zero_block 16) (take start c ++ rest)) count.1 ∙ ap (unstolen D ((length c - 1) / 16) (zero_block 16)) (take-append-drop start c)
 
--- what the two last blocks are enciphered to, and deciphered to, as the calls on them answer
+-- what the two last blocks are encrypted to, and decrypted to, as the calls on them result
 abbrev ends : (List ℕ → List ℕ) → List ℕ → List ℕ → List ℕ
 ends E last r = E (xor_lists (filled (drop 16 r)) (E (xor_lists (take 16 r) last))) ++ take (length r - 16) (E (xor_lists (take 16 r) last))
 
 abbrev undone_ends : (List ℕ → List ℕ) → List ℕ → List ℕ → List ℕ
 undone_ends D last r = xor_lists (D (drop 16 r ++ drop (length r - 16) (D (take 16 r)))) last ++ take (length r - 16) (xor_lists (D (take 16 r)) (drop 16 r ++ drop (length r - 16) (D (take 16 r))))
 
--- front and rest, written in their places
+-- prefix and rest, written in their places
 abbrev in_place : ℕ → List ℕ → List ℕ → List ℕ → List ℕ
 in_place start front rest written = take start (front ++ rest) ++ (written ++ drop (length (front ++ rest) - start) (drop start (front ++ rest)))
 

@@ -1,4 +1,4 @@
--- What callers need of ciphertext stealing: its answer is one, and as long as the data.
+-- What callers need of ciphertext stealing: its result is one, and as long as the data.
 use Rattle.std.proofs.Common.{◌≡◌, ℕ, zero, suc, ◌+◌, ◌*◌, ◌/◌, List, [], ◌∷◌, ◌++◌, length, take, refl, sym, ap, ◌∙◌, arith, length-append}
 use Rattle.std.proofs.lemmas.List.{length-take-le}
 use Rattle.std.specs.List.{concat}
@@ -10,7 +10,7 @@ module _ (E : List ℕ → List ℕ) where
   blocks_are : (p c : List ℕ) (h : Cts E p c) → c ≡ take (length p) (concat (exchanged (chained E (zero_block 16) (filled_blocks 16 p))))
   blocks_are p c h = h.3 ∙ ap (λ (k : List (List ℕ)). take (length p) (concat (exchanged k))) (chained_from E (zero_block 16) (filled_blocks 16 p) h.1 h.2)
 
-  -- a list is enciphered to one list
+  -- a list is encrypted to one list
   pub Cts-same : (p c d : List ℕ) → Cts E p c → Cts E p d → c ≡ d
   Cts-same p c d h k = blocks_are p c h ∙ sym (blocks_are p d k)
 
@@ -37,7 +37,7 @@ unfolding first_blocks
 first_count zero p = refl
 first_count (suc n) p = ap suc (first_count n _)
 
--- what is enciphered is as long as the data
+-- what is encrypted is as long as the data
 pub Cts-length : (E : List ℕ → List ℕ) → ((b : List ℕ) → length (E b) ≡ 16) → (p c : List ℕ) → Cts E p c → length c ≡ length p
 Cts-length E sized p c h =
     let cs : List (List ℕ) = chained E (zero_block 16) (filled_blocks 16 p) in

@@ -54,7 +54,7 @@ pub record HasInverseKeys (w words : List ℕ) (nr : ℕ) : Type 0 where
   pub between : (n : ℕ) → 1 ≤ n → n < nr → HasUnmixedKey w words n
   pub last : HasRoundKey w words nr
 
--- the octets of a key that is the front of a list, the words of its round keys, and those of the equivalent inverse cipher,
+-- the octets of a key that is a prefix of a list, the words of its round keys, and those of the equivalent inverse cipher,
 -- for this number of rounds
 pub record IsKept (octets words inverse_words : List ℕ) (nr : ℕ) : Type 0 where
   pub size : IsKeySize (nr - 6)

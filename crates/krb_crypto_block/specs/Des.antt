@@ -74,11 +74,11 @@ rounds (key ∷ keys) left right = rounds keys right (xor_lists left (round_valu
 unfoldable pub ciphered : List (List ℕ) → List ℕ → List ℕ
 ciphered keys p = permuted final_table (rounds keys (take 32 (permuted initial_table p)) (drop 32 (permuted initial_table p)))
 
--- the block p, of 64 bits, enciphered under a key of 64 bits
+-- the block p, of 64 bits, encrypted under a key of 64 bits
 unfoldable pub des_block : List ℕ → List ℕ → List ℕ
 des_block key p = ciphered (round_keys key) p
 
--- the block c deciphered: the round keys are taken from the last to the first
+-- the block c decrypted: the round keys are taken from the last to the first
 unfoldable pub des_undo : List ℕ → List ℕ → List ℕ
 des_undo key c = ciphered (reverse (round_keys key)) c
 

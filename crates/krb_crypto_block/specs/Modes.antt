@@ -10,7 +10,7 @@ IsOctets xs = (i : ℕ) → slice_index xs i < 256
 abbrev pub IsBlock : ℕ → List ℕ → Type 0
 IsBlock size b = (length b ≡ size) × IsOctets b
 
--- ---- filling (RFC 3961, 5.3, "pad"; RFC 3962, 5)
+-- ---- padding (RFC 3961, 5.3, "pad"; RFC 3962, 5)
 
 -- the payload with the fewest zeros to a multiple of size octets
 pub record IsFill (size : ℕ) (payload filled : List ℕ) : Type 0 where
@@ -52,11 +52,11 @@ unfoldable pub first_blocks : ℕ → ℕ → List ℕ → List (List ℕ)
 first_blocks size zero p = []
 first_blocks size (suc n) p = take size (p ++ zero_block size) ∷ first_blocks size n (drop size p)
 
--- the blocks of p, the last filled with zeros
+-- the blocks of p, the last padded with zeros
 abbrev pub filled_blocks : ℕ → List ℕ → List (List ℕ)
 filled_blocks size p = first_blocks size ((length p + (size - 1)) / size) p
 
--- p is of whole blocks, and c is the blocks that it is chained to, joined
+-- p is of whole blocks, and c is the blocks that it is chained to, concatenated
 pub record IsCbc (size : ℕ) (E : List ℕ → List ℕ) (p c : List ℕ) : Type 0 where
   pub whole : length p % size ≡ 0
   pub blocks : List (List ℕ)
@@ -72,18 +72,22 @@ exchanged (x ∷ []) = x ∷ []
 exchanged (x ∷ y ∷ []) = y ∷ x ∷ []
 exchanged (x ∷ y ∷ z ∷ rest) = x ∷ exchanged (y ∷ z ∷ rest)
 
--- the octets t, filled with zeros to a block
+-- the octets t, padded with zeros to a block
 abbrev pub filled : List ℕ → List ℕ
 filled t = filled_to 16 t
 
 abbrev pub CtsFrom : (List ℕ → List ℕ) → List ℕ → List ℕ → List ℕ → Type 0
 CtsFrom E v p c = (16 ≤ length p) × (cs : List (List ℕ)) × CbcFrom E v (filled_blocks 16 p) cs × (c ≡ take (length p) (concat (exchanged cs)))
 
--- ciphertext stealing (RFC 3962, 5): the zero-filled octets are chained, the last two blocks change places, and the result
+-- the last two runs of 16 octets, exchanged
+abbrev pub with_last_two_swapped : List ℕ → List ℕ
+with_last_two_swapped octets = take (length octets - 32) octets ++ (drop (length octets - 16) octets ++ take 16 (drop (length octets - 32) octets))
+
+-- ciphertext stealing (RFC 3962, 5): the zero-padded octets are chained, the last two blocks change places, and the result
 -- is cut to the length of the octets, which are at least a block
 abbrev pub Cts : (List ℕ → List ℕ) → List ℕ → List ℕ → Type 0
 Cts E p c = CtsFrom E (zero_block 16) p c
 
--- there is exactly one p of octets that is enciphered to c
+-- there is exactly one p of octets that is encrypted to c
 abbrev pub HasOnePlain : (List ℕ → List ℕ) → List ℕ → Type 0
 HasOnePlain E c = (p : List ℕ) × IsOctets p × (length p ≡ length c) × Cts E p c × ((q : List ℕ) → IsOctets q → Cts E q c → q ≡ p)

@@ -1,11 +1,12 @@
 //! The AES block cipher (FIPS 197), for keys of 16 and of 32 octets.
 
-ghost use Rattle.std.specs.Prelude.{◌≡◌, ◌≢◌, ℕ, ◌-◌, ◌*◌, List, length, take, MatchResult};
+ghost use Rattle.std.specs.Prelude.{◌≡◌, ℕ, ◌-◌, ◌*◌, List, length, take, MatchResult};
 ghost use Rattle.krb_crypto_block.specs.Aes.{aes_block};
 ghost use Rattle.krb_crypto_block.specs.AesWords.{IsKept};
 ghost use Rattle.krb_crypto_block.specs.InverseCipher.{aes_undo};
 ghost use Rattle.krb_crypto_block.specs.Modes.{AreInverse, IsOctets};
 ghost use Rattle.krb_crypto_block.specs.Size.{key_octets};
+ghost use Rattle.krb_crypto_hash.specs.CryptoError.{IsKeyLengthError};
 
 use crate::block_cipher::BlockCipher;
 use crate::octets::are_octets;
@@ -92,9 +93,9 @@ impl Model for AesKey {
 }
 
 impl AesKey {
-    /// The key of these octets. `KeyLength` where they are not as many as the size's keys have; no memory is taken.
+    /// The key of these octets. `KeyLength` where they are not as many as the size's keys have; it allocates nothing.
     pub fn new(key: &[u8], size: &AesSize) -> KerberosCryptoResult<AesKey>
-        ensures { MatchResult result (λ k. (length key.now ≡ key_octets size.now) × (k ≡ key.now)) (λ e. (length key.now ≢ key_octets size.now) × (e ≡ KerberosCryptoError.KeyLength (length key.now) (key_octets size.now))) }
+        ensures { MatchResult result (λ k. (length key.now ≡ key_octets size.now) × (k ≡ key.now)) (IsKeyLengthError (key_octets size.now) key.now) }
     {
         let wanted = size.key_length();
         if key.len() != wanted {
@@ -113,7 +114,7 @@ impl AesKey {
         })
     }
 
-    /// The block that the cipher (FIPS 197, 5.1) makes of this one under the key.
+    /// The block, encrypted under the key (FIPS 197, 5.1).
     pub fn encrypt_block(&self, block: [u8; AES_BLOCK_SIZE]) -> [u8; AES_BLOCK_SIZE]
         ensures { result ≡ aes_block self.now block }
     {
@@ -127,7 +128,7 @@ impl AesKey {
         }
     }
 
-    /// The one block that the cipher makes this one of, by the inverse cipher (FIPS 197, 5.3).
+    /// The block, decrypted under the key, by the inverse cipher (FIPS 197, 5.3).
     pub fn decrypt_block(&self, block: [u8; AES_BLOCK_SIZE]) -> [u8; AES_BLOCK_SIZE]
         ensures undone { aes_block self.now result ≡ block }
         ensures alone { (q : List ℕ) → length q ≡ 16 → IsOctets q → aes_block self.now q ≡ block → q ≡ result }
@@ -143,7 +144,7 @@ impl AesKey {
         inverse_last_round(keys, nine_inverse_rounds(keys, tenth))
     }
 
-    /// Tells a proof that the two block calls undo each other. It does nothing.
+    /// A lemma: the two block calls undo each other.
     pub(crate) fn undoes(&self)
         ensures { AreInverse 16 (aes_block self.now) (aes_undo self.now) }
     {

@@ -1,9 +1,9 @@
 //! Cipher block chaining and ciphertext stealing under AES (RFC 3962, 5). Each call tests the key, then the length.
 
-ghost use Rattle.std.specs.Prelude.{◌≡◌, ◌≢◌, ◌<◌, ◌-◌, ◌%◌, ℕ, List, ◌++◌, length, take, drop, Err, IfOk, IfErr, MatchResult};
+ghost use Rattle.std.specs.Prelude.{◌≡◌, ◌≢◌, ◌<◌, ◌%◌, ℕ, List, length, IfOk, IfErr};
 ghost use Rattle.krb_crypto_block.specs.Aes.{aes_block};
-ghost use Rattle.krb_crypto_hash.specs.CryptoError.{RefusesKeyOr};
-ghost use Rattle.krb_crypto_block.specs.Modes.{Cts, IsCbc, IsOctets};
+ghost use Rattle.krb_crypto_hash.specs.CryptoError.{RefusesKeyOr, IsKeyOrCipherLengthError};
+ghost use Rattle.krb_crypto_block.specs.Modes.{Cts, IsCbc, IsOctets, with_last_two_swapped};
 ghost use Rattle.krb_crypto_block.specs.Size.{key_octets};
 
 use crate::aes::{AES_BLOCK_SIZE, AesKey, AesSize};
@@ -66,7 +66,7 @@ pub fn encrypt_aes_cts(
 ) -> KerberosCryptoResult<Vec<u8>>
     ensures key { IfOk result (λ _. length key.now ≡ key_octets size.now) }
     ensures enciphered { IfOk result (λ c. Cts (aes_block key.now) payload.now c.items) }
-    ensures refused { IfErr result (RefusesKeyOr (key_octets size.now) key.now (length payload.now < 16) (KerberosCryptoError.CipherLength (length payload.now) 16)) }
+    ensures refused { IfErr result (IsKeyOrCipherLengthError (key_octets size.now) key.now 16 payload.now) }
 {
     let cipher = AesKey::new(key, size)?;
     if payload.len() < AES_BLOCK_SIZE {
@@ -88,7 +88,7 @@ pub fn decrypt_aes_cts(
     ensures key { IfOk result (λ _. length key.now ≡ key_octets size.now) }
     ensures plain { IfOk result (λ p. Cts (aes_block key.now) p.items cipher_text.now) }
     ensures only { IfOk result (λ p. (q : List ℕ) → IsOctets q → Cts (aes_block key.now) q cipher_text.now → q ≡ p.items) }
-    ensures refused { IfErr result (RefusesKeyOr (key_octets size.now) key.now (length cipher_text.now < 16) (KerberosCryptoError.CipherLength (length cipher_text.now) 16)) }
+    ensures refused { IfErr result (IsKeyOrCipherLengthError (key_octets size.now) key.now 16 cipher_text.now) }
 {
     let cipher = AesKey::new(key, size)?;
     if cipher_text.len() < AES_BLOCK_SIZE {
@@ -100,9 +100,9 @@ pub fn decrypt_aes_cts(
 }
 
 /// Exchanges the last two runs of 16 octets, in place. `CipherLength` of their number and 32 where the octets are fewer,
-/// which then stay as they are. No memory is taken.
+/// which then stay as they are. It allocates nothing.
 pub fn swap_two_last_blocks(octets: &mut [u8]) -> KerberosCryptoResult<()>
-    ensures swapped { IfOk result (λ _. octets.new ≡ take (length octets.old - 32) octets.old ++ (drop (length octets.old - 16) octets.old ++ take 16 (drop (length octets.old - 32) octets.old))) }
+    ensures swapped { IfOk result (λ _. octets.new ≡ with_last_two_swapped octets.old) }
     ensures refused { IfErr result (λ e. (length octets.old < 32) × (e ≡ KerberosCryptoError.CipherLength (length octets.old) 32) × (octets.new ≡ octets.old)) }
 {
     const TWO_BLOCKS: usize = 2 * AES_BLOCK_SIZE;

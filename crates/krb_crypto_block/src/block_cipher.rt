@@ -1,4 +1,4 @@
-//! Block ciphers, as the modes of operation see them.
+//! Block ciphers, as the modes of operation use them.
 
 ghost use Rattle.std.specs.Prelude.{◌≡◌, ℕ, List};
 

@@ -29,7 +29,7 @@ pub(crate) fn decrypt_cbc<const SIZE: usize, C: BlockCipher<SIZE>>(cipher: &C, o
     unchain(cipher, &[0; SIZE], octets);
 }
 
-/// Combines each whole block with the encrypted block before it, encrypts it, and gives the last one.
+/// Combines each whole block with the encrypted block before it, encrypts it, and returns the last one.
 pub(crate) fn chain<const SIZE: usize, C: BlockCipher<SIZE>>(
     cipher: &C,
     first: &[u8; SIZE],
@@ -51,7 +51,7 @@ pub(crate) fn chain<const SIZE: usize, C: BlockCipher<SIZE>>(
     before
 }
 
-/// Decrypts each whole block, combines it with the encrypted block before it, and gives the last encrypted one.
+/// Decrypts each whole block, combines it with the encrypted block before it, and returns the last encrypted one.
 pub(crate) fn unchain<const SIZE: usize, C: BlockCipher<SIZE>>(
     cipher: &C,
     first: &[u8; SIZE],

@@ -1,8 +1,9 @@
 //! Triple DES (NIST SP 800-67, 3.1; RFC 3961, 6.3), for keys of 24 octets: three keys of DES (FIPS 46-3).
 
-ghost use Rattle.std.specs.Prelude.{◌≡◌, ◌≢◌, ℕ, ◌+◌, ◌≤◌, List, length, take, drop, MatchResult};
+ghost use Rattle.std.specs.Prelude.{◌≡◌, ℕ, ◌+◌, ◌≤◌, List, length, take, drop, MatchResult};
 ghost use Rattle.krb_crypto_block.specs.Des.{bits, octet_bits, ede3, ede3_undo, AreScheduled};
 ghost use Rattle.krb_crypto_block.specs.Modes.{AreInverse, IsOctets};
+ghost use Rattle.krb_crypto_hash.specs.CryptoError.{IsKeyLengthError};
 
 use crate::block_cipher::BlockCipher;
 use key_schedule::round_keys;
@@ -48,9 +49,9 @@ impl Model for DesKey {
 }
 
 impl DesKey {
-    /// The key of these octets. `KeyLength` where they are not 24; no memory is taken.
+    /// The key of these octets. `KeyLength` where they are not 24; it allocates nothing.
     pub fn new(key: &[u8]) -> KerberosCryptoResult<DesKey>
-        ensures { MatchResult result (λ k. (length key.now ≡ 24) × (k ≡ key.now)) (λ e. (length key.now ≢ 24) × (e ≡ KerberosCryptoError.KeyLength (length key.now) 24)) }
+        ensures { MatchResult result (λ k. (length key.now ≡ 24) × (k ≡ key.now)) (IsKeyLengthError 24 key.now) }
     {
         if key.len() != DES3_KEY_SIZE {
             return Err(KerberosCryptoError::KeyLength(key.len(), DES3_KEY_SIZE));
@@ -65,8 +66,8 @@ impl DesKey {
         })
     }
 
-    /// The block that triple DES makes of this one under the key: enciphered with its first key, deciphered with its
-    /// second, enciphered with its third. In between, the last permutation of one and the first of the next undo each other.
+    /// The block that triple DES makes of this one under the key: encrypted with its first key, decrypted with its
+    /// second, encrypted with its third. In between, the last permutation of one and the first of the next undo each other.
     pub fn encrypt_block(&self, block: [u8; DES3_BLOCK_SIZE]) -> [u8; DES3_BLOCK_SIZE]
         ensures { result ≡ ede3 self.now block }
     {
@@ -90,7 +91,7 @@ impl DesKey {
         permute_last(thrice).to_be_bytes()
     }
 
-    /// Tells a proof that the two block calls undo each other. It does nothing.
+    /// A lemma: the two block calls undo each other.
     pub(crate) fn undoes(&self)
         ensures { AreInverse 8 (ede3 self.now) (ede3_undo self.now) }
     {}

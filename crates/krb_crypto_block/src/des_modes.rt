@@ -11,8 +11,8 @@ use crate::in_place;
 use krb_crypto_hash::{KerberosCryptoError, KerberosCryptoResult};
 use std::alloc::Global;
 
-/// The octets, with the fewest zeros to whole blocks of 8 behind them, in CBC from a zero block on. `KeyLength` where the
-/// key has not 24 octets; nothing else is refused.
+/// The octets, with the fewest zeros to whole blocks of 8 after them, in CBC from a zero block on. `KeyLength` where the
+/// key has not 24 octets; an allocation failure is the only other error.
 pub fn encrypt_des(alloc: Global, key: &[u8], payload: &[u8]) -> KerberosCryptoResult<Vec<u8>>
     ensures key { IfOk result (λ _. length key.now ≡ 24) }
     ensures chained { IfOk result (λ c. (filled : List ℕ) × IsFill 8 payload.now filled × IsCbc 8 (ede3 key.now) filled c.items) }
@@ -27,7 +27,7 @@ pub fn encrypt_des(alloc: Global, key: &[u8], payload: &[u8]) -> KerberosCryptoR
     Ok(octets)
 }
 
-/// The one list of octets that is chained to these, with whatever it was filled with. `KeyLength` where the key has not 24
+/// The one list of octets that is chained to these, with whatever padding it has. `KeyLength` where the key has not 24
 /// octets, then `CipherUnpad` where the octets are not whole blocks of 8.
 pub fn decrypt_des(alloc: Global, key: &[u8], cipher_text: &[u8]) -> KerberosCryptoResult<Vec<u8>>
     ensures key { IfOk result (λ _. length key.now ≡ 24) }
@@ -44,7 +44,7 @@ pub fn decrypt_des(alloc: Global, key: &[u8], cipher_text: &[u8]) -> KerberosCry
     Ok(octets)
 }
 
-/// Puts the fewest zeros to whole blocks of 8 behind the octets, which are as before where memory is wanting.
+/// Puts the fewest zeros to whole blocks of 8 after the octets, which are as before where an allocation fails.
 pub fn fill_blocks(octets: &mut Vec<u8>) -> KerberosCryptoResult<()>
     ensures filled { IfOk result (λ _. IsFill 8 octets.old.items octets.new.items) }
     ensures refused { IfErr result (λ e. (e ≡ OutOfMemory) × (octets.new.items ≡ octets.old.items)) }

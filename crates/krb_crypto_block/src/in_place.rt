@@ -1,5 +1,5 @@
-//! Calls over octets that the caller holds, for the crates of encryption schemes. None takes memory, so none refuses for want
-//! of it. What the library gives out stands at the root.
+//! Calls over octets that the caller holds, for the crates of encryption schemes. They allocate nothing, so none returns
+//! `OutOfMemory`. The calls that the library re-exports are at the root.
 
 ghost use Rattle.std.specs.Prelude.{◌≡◌, ◌%◌, ◌≤◌, ℕ, List, length};
 ghost use Rattle.krb_crypto_block.specs.Aes.{aes_block};

@@ -1,4 +1,4 @@
-//! Laws over the definitions, of functions that do nothing.
+//! Lemmas about the definitions.
 
 ghost use Rattle.std.specs.Prelude.{◌≡◌, ◌↔◌, ◌≤◌, ℕ, List, IsTrue, length};
 ghost use Rattle.krb_crypto_block.specs.Aes.{aes_block};
@@ -14,7 +14,7 @@ pub fn stealing_is_one_to_one()
     ensures one { (key p c d : List ℕ) → Cts (aes_block key) p c → Cts (aes_block key) p d → c ≡ d }
 {}
 
-/// `==` of sizes answers true for equal ones and for no others, and a clone of a size is that size again.
+/// `==` of sizes returns true for equal ones and for no others, and a clone of a size is that size again.
 pub fn sizes()
     ensures equality { (a b : AesSize) → IsTrue (⟦<AesSize as PartialEq>⟧.eq a b) ↔ (a ≡ b) }
     ensures clones { (a b : AesSize) → ⟦<AesSize as Clone>⟧.is_clone a b → b ≡ a }

@@ -1,5 +1,5 @@
-//! What Kerberos cryptography is made of: block ciphers and their modes, and n-fold; and, of the crate below, HMAC, PBKDF2, the
-//! key derivation function of RFC 8009 and why a call refuses.
+//! The primitives of Kerberos cryptography: block ciphers and their modes, and n-fold. Re-exports HMAC, PBKDF2, the key
+//! derivation function of RFC 8009 and the errors of the cryptography.
 #![tactic(auto)]
 
 mod aes;

@@ -12,7 +12,7 @@ use std::alloc::Global;
 /// before, as many as fill a common multiple of both lengths, are cut into pieces of `n` bits and added in
 /// ones'-complement arithmetic.
 ///
-/// The input is not empty, and `n` is a positive multiple of 8. `OutOfMemory` is the only refusal.
+/// The input is not empty, and `n` is a positive multiple of 8. `OutOfMemory` is the only error.
 pub fn n_fold(alloc: Global, input: &[u8], n: usize) -> KerberosCryptoResult<Vec<u8>>
     requires filled { 0 < length input.now }
     requires whole { n % 8 ≡ 0 }
@@ -27,7 +27,7 @@ pub fn n_fold(alloc: Global, input: &[u8], n: usize) -> KerberosCryptoResult<Vec
 }
 
 /// The octets folded to as many bits as the caller's octets have (RFC 3961, 5.1), which are written over and may have held
-/// anything. Neither is empty, and no memory is taken.
+/// anything. Neither is empty. It allocates nothing.
 pub fn n_fold_into(input: &[u8], out: &mut [u8])
     requires filled { 0 < length input.now }
     requires some { 0 < length out.old }
@@ -91,7 +91,7 @@ fn turned_octet(input: &[u8], place: usize, shift: usize) -> u8
     ((pair >> shift) % 256) as u8
 }
 
-/// Adds an octet and a carry at a place from the right, and gives the carry.
+/// Adds an octet and a carry at a place from the right, and returns the carry.
 fn add_octet(sum: &mut [u8], place: usize, octet: u8, carry: u8) -> u8
     requires inside { place < length sum.old }
     requires one { carry ≤ 1 }

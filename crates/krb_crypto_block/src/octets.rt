@@ -1,8 +1,8 @@
-//! What a proof is told of octets.
+//! A lemma about octets.
 
 ghost use Rattle.krb_crypto_block.specs.Modes.{IsOctets};
 
-/// Tells a proof that the elements are octets. It does nothing.
+/// A lemma: the elements are octets.
 pub(crate) fn are_octets(elements: &[u8])
     ensures { IsOctets elements.now }
 {}

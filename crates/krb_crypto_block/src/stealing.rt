@@ -11,8 +11,7 @@ use krb_crypto_hash::xor::xored_with;
 /// The octets of a block.
 const BLOCK_SIZE: usize = 16;
 
-/// Makes of the octets what they are enciphered to: the last two blocks are written in turned order, and the stolen one is
-/// cut.
+/// Encrypts the octets in place: the last two blocks are written in reversed order, and the stolen one is cut.
 pub(crate) fn encrypt_cts<C: BlockCipher<BLOCK_SIZE>>(cipher: &C, octets: &mut [u8])
     requires long { 16 ≤ length octets.old }
     requires inverse { AreInverse 16 (C.enciphers cipher.now) (C.deciphers cipher.now) }
@@ -27,7 +26,7 @@ pub(crate) fn encrypt_cts<C: BlockCipher<BLOCK_SIZE>>(cipher: &C, octets: &mut [
     encrypt_last_two(cipher, &before, &mut octets[start..]);
 }
 
-/// Makes of the octets the one list of octets that is enciphered to them.
+/// Decrypts the octets in place: they become the one list of octets that is encrypted to them.
 pub(crate) fn decrypt_cts<C: BlockCipher<BLOCK_SIZE>>(cipher: &C, octets: &mut [u8])
     requires long { 16 ≤ length octets.old }
     requires inverse { AreInverse 16 (C.enciphers cipher.now) (C.deciphers cipher.now) }
@@ -43,7 +42,7 @@ pub(crate) fn decrypt_cts<C: BlockCipher<BLOCK_SIZE>>(cipher: &C, octets: &mut [
     decrypt_last_two(cipher, &before, &mut octets[start..]);
 }
 
-/// How many of these octets stand in front of the last two blocks, the last of which may be incomplete.
+/// How many of these octets are before the last two blocks, the last of which may be incomplete.
 fn front_size(size: usize) -> usize
     requires { 16 < size }
     ensures blocks { result ≡ 16 * ((size - 1) / 16 - 1) }
@@ -53,8 +52,8 @@ fn front_size(size: usize) -> usize
     BLOCK_SIZE * ((size - 1) / BLOCK_SIZE - 1)
 }
 
-/// Makes of a whole block and one to 16 octets behind it what they are enciphered to: the block of the last octets, and of the
-/// block that their fill is stolen from as many octets as they are.
+/// Encrypts a whole block and one to 16 octets after it: the block of the last octets comes first, and after it as many octets
+/// as they are of the block that their padding is stolen from.
 fn encrypt_last_two<C: BlockCipher<BLOCK_SIZE>>(
     cipher: &C,
     before: &[u8; BLOCK_SIZE],
@@ -62,7 +61,8 @@ fn encrypt_last_two<C: BlockCipher<BLOCK_SIZE>>(
 )
     requires block { 16 ≤ length rest.old }
     requires last { length rest.old ≤ 32 }
-    ensures { let stolen = C.enciphers cipher.now (xor_lists (take 16 rest.old) before.now) in rest.new ≡ C.enciphers cipher.now (xor_lists (filled (drop 16 rest.old)) stolen) ++ take (length rest.old - 16) stolen }
+    ensures { let stolen = C.enciphers cipher.now (xor_lists (take 16 rest.old) before.now) in
+        rest.new ≡ C.enciphers cipher.now (xor_lists (filled (drop 16 rest.old)) stolen) ++ take (length rest.old - 16) stolen }
 {
     let stolen = cipher.encrypt_block(&xored_with(before, &rest[..BLOCK_SIZE]));
     let last = cipher.encrypt_block(&xored_with(&stolen, &rest[BLOCK_SIZE..]));
@@ -71,7 +71,7 @@ fn encrypt_last_two<C: BlockCipher<BLOCK_SIZE>>(
     rest[BLOCK_SIZE..].copy_from_slice(&stolen[..count]);
 }
 
-/// Makes of a block and one to 16 octets of the stolen one behind it what they are deciphered to.
+/// Decrypts a block and one to 16 octets of the stolen one after it.
 fn decrypt_last_two<C: BlockCipher<BLOCK_SIZE>>(
     cipher: &C,
     before: &[u8; BLOCK_SIZE],
@@ -79,7 +79,9 @@ fn decrypt_last_two<C: BlockCipher<BLOCK_SIZE>>(
 )
     requires block { 16 ≤ length rest.old }
     requires last { length rest.old ≤ 32 }
-    ensures { let last = C.deciphers cipher.now (take 16 rest.old) in let stolen = drop 16 rest.old ++ drop (length rest.old - 16) last in rest.new ≡ xor_lists (C.deciphers cipher.now stolen) before.now ++ take (length rest.old - 16) (xor_lists last stolen) }
+    ensures { let last = C.deciphers cipher.now (take 16 rest.old) in
+        let stolen = drop 16 rest.old ++ drop (length rest.old - 16) last in
+        rest.new ≡ xor_lists (C.deciphers cipher.now stolen) before.now ++ take (length rest.old - 16) (xor_lists last stolen) }
 {
     let count = rest.len() - BLOCK_SIZE;
     let mut block = [0u8; BLOCK_SIZE];

@@ -36,7 +36,7 @@ pub hmac_is : (hash : List ℕ → List ℕ) (block : ℕ) (key first second dig
 hmac_is hash block key first second digest mac inner outer =
     hmac_whole hash block key (first ++ second) digest mac (inner ∙ ap hash (append_assoc (padded hash block key 0x36) first second)) outer
 
--- four parts that are taken behind the key's block are one message
+-- four parts that are taken after the key's block are one message
 pub four_parts : (before a b c d : List ℕ) → (((before ++ a) ++ b) ++ c) ++ d ≡ before ++ (a ++ (b ++ (c ++ d)))
 four_parts before a b c d = append_assoc ((before ++ a) ++ b) c d ∙ append_assoc (before ++ a) b (c ++ d) ∙ append_assoc before a (b ++ (c ++ d))
 

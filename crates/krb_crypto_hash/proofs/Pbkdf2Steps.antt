@@ -54,7 +54,7 @@ one_more size i = rw add-one (mul-suc size i)
 pub is_least : (m x y : ℕ) → m ≡ min x y → (m ≡ x) ⊎ (m ≡ y)
 is_least m x y e = elim (cases_lt x y) [ inl lt ↦ inl (omega arith) | inr ge ↦ inr (omega arith) ]
 
--- where block i begins, there are octets left to fill
+-- where block i begins, there are octets left to padding
 pub begins : (size count i n : ℕ) → 0 < size → count ≡ n / size + min 1 (n % size) → i < count → size * i < n
 begins size count i n some is low =
     let bound = div_ceil_times n size some in
@@ -63,7 +63,7 @@ begins size count i n some is low =
     let wide : count * size < n + size = rw is bound.1 in
     omega (arith, up, next, wide)
 
--- and behind the last none
+-- and after the last none
 pub ends : (size count n : ℕ) → 0 < size → count ≡ n / size + min 1 (n % size) → n ≤ size * count
 ends size count n some is = let wide : n ≤ count * size = rw is (div_ceil_times n size some).0 in omega (arith, wide, mul_comm size count)
 

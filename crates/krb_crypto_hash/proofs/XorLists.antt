@@ -1,4 +1,4 @@
--- Addition modulo 2 of lists, and filling with zeros.
+-- Addition modulo 2 of lists, and padding with zeros.
 use Rattle.std.proofs.Common.{◌≡◌, ℕ, zero, suc, ◌+◌, ◌-◌, ◌<◌, ◌≤◌, ◌≢◌, below_more, set, List, [], ◌∷◌, ◌++◌, length, replicate, get_or, bit_xor, refl, sym, ap, ◌∙◌, arith, inl, inr}
 use Rattle.std.proofs.lemmas.List.{append-nil, length-append, get_or_past, ext_get_or, length-replicate, get_or-set_same, get_or-set_other}
 use Rattle.std.proofs.lemmas.Nat.{xor_comm}
@@ -56,7 +56,7 @@ get_or-then_zeros [] n k = get_or-zeros n k
 get_or-then_zeros (x ∷ t) n zero = refl
 get_or-then_zeros (x ∷ t) n (suc k) = get_or-then_zeros t n k
 
--- a whole block is filled with nothing
+-- a whole block is padded with nothing
 pub filled_whole : (size : ℕ) (t : List ℕ) → length t ≡ size → filled_to size t ≡ t
 filled_whole size t e = let z : size - length t ≡ 0 = omega arith in rw z (append-nil t)
 

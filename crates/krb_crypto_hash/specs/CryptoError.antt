@@ -1,16 +1,24 @@
--- Why a call of the cryptography refuses.
-use Rattle.std.specs.Prelude.{◌≡◌, ◌≢◌, ◌⊎◌, ℕ, List, length}
+-- When a call of the cryptography returns which error.
+use Rattle.std.specs.Prelude.{◌≡◌, ◌≢◌, ◌⊎◌, ℕ, ◌<◌, List, length}
 use Rattle.krb_crypto_hash.specs.declared.error.KerberosCryptoError.{KerberosCryptoError}
-use Rattle.krb_crypto_hash.specs.declared.error.KerberosCryptoError.TheVariants.{KeyLength, OutOfMemory}
+use Rattle.krb_crypto_hash.specs.declared.error.KerberosCryptoError.TheVariants.{CipherLength, KeyLength, OutOfMemory}
 
--- memory was wanting, or this holds
+-- an allocation failed, or this holds
 abbrev pub IsMemoryOr : KerberosCryptoError → Type 0 → Type 0
 IsMemoryOr e P = (e ≡ OutOfMemory) ⊎ P
 
--- only a key that has not size octets is refused, but for want of memory
-abbrev pub RefusesKey : ℕ → List ℕ → KerberosCryptoError → Type 0
-RefusesKey size key e = IsMemoryOr e ((length key ≢ size) × (e ≡ KeyLength (length key) size))
+-- the error of a key that has not size octets
+abbrev pub IsKeyLengthError : ℕ → List ℕ → KerberosCryptoError → Type 0
+IsKeyLengthError size key e = (length key ≢ size) × (e ≡ KeyLength (length key) size)
 
--- and, under a key of size octets, what is bad is refused so
+-- the error of an allocation, or of a key that has not size octets
+abbrev pub RefusesKey : ℕ → List ℕ → KerberosCryptoError → Type 0
+RefusesKey size key e = IsMemoryOr e (IsKeyLengthError size key e)
+
+-- and, under a key of size octets, the error for what is bad
 abbrev pub RefusesKeyOr : ℕ → List ℕ → Type 0 → KerberosCryptoError → KerberosCryptoError → Type 0
-RefusesKeyOr size key bad why e = IsMemoryOr e (((length key ≢ size) × (e ≡ KeyLength (length key) size)) ⊎ ((length key ≡ size) × bad × (e ≡ why)))
+RefusesKeyOr size key bad why e = IsMemoryOr e (IsKeyLengthError size key e ⊎ ((length key ≡ size) × bad × (e ≡ why)))
+
+-- and, under a key of size octets, the error for fewer octets than the least
+abbrev pub IsKeyOrCipherLengthError : ℕ → List ℕ → ℕ → List ℕ → KerberosCryptoError → Type 0
+IsKeyOrCipherLengthError size key least octets e = RefusesKeyOr size key (length octets < least) (CipherLength (length octets) least) e

@@ -13,10 +13,14 @@ unfoldable pub count_bits : (List ℕ → List ℕ → List ℕ) → List ℕ �
 count_bits prf password salt i zero k b = 0
 count_bits prf password salt i (suc c) k b = count_bits prf password salt i c k b + bit_at (slice_index (chain prf password salt i c) k) b
 
--- The octets are the blocks from 1 on, of size octets each, joined and cut: a bit of a block is set exactly where an odd
--- number of the first c of its chain have it.
+-- The octets are block i, T_i: a bit is set exactly where an odd number of the first c of its chain have it.
+abbrev pub IsBlockOf : (List ℕ → List ℕ → List ℕ) → List ℕ → List ℕ → ℕ → ℕ → List ℕ → Type 0
+IsBlockOf prf password salt i c octets = (k b : ℕ) → bit_at (slice_index octets k) b ≡ count_bits prf password salt i c k b % 2
+
+-- The octets are the blocks from 1 on, of size octets each, concatenated and cut.
 abbrev pub IsPbkdf2Over : (List ℕ → List ℕ → List ℕ) → ℕ → List ℕ → List ℕ → ℕ → List ℕ → Type 0
-IsPbkdf2Over prf size password salt c octets = (k b : ℕ) → k < length octets → bit_at (slice_index octets k) b ≡ count_bits prf password salt (k / size + 1) c (k % size) b % 2
+IsPbkdf2Over prf size password salt c octets = (k b : ℕ) → k < length octets
+    → bit_at (slice_index octets k) b ≡ count_bits prf password salt (k / size + 1) c (k % size) b % 2
 
 -- over HMAC with SHA-1
 abbrev pub IsPbkdf2 : List ℕ → List ℕ → ℕ → List ℕ → Type 0

@@ -1,7 +1,7 @@
 //! HMAC (RFC 2104) over any hash function, and over SHA-1, SHA-256 and SHA-384 (FIPS 180-4).
 
-ghost use Rattle.std.specs.Prelude.{◌≡◌, ◌-◌, ℕ, List, ◌++◌, length, take, replicate, IfOk, MatchResult};
-ghost use Rattle.krb_crypto_hash.specs.Hmac.{AreSizes, block_key, hmac_over, hmac, hmac_256, hmac_384, IsReady};
+ghost use Rattle.std.specs.Prelude.{◌≡◌, ℕ, List, ◌++◌, length, IfOk, MatchResult};
+ghost use Rattle.krb_crypto_hash.specs.Hmac.{AreSizes, block_key, hmac_over, hmac, hmac_256, hmac_384, resized, IsReady};
 ghost use Rattle.krb_crypto_hash.specs.declared.error.KerberosCryptoError.TheVariants.{OutOfMemory};
 
 use crate::error::KerberosCryptoResult;
@@ -17,7 +17,7 @@ const INNER_PAD: u8 = 0x36;
 /// opad, the one before the outer hash.
 const OUTER_PAD: u8 = 0x5c;
 
-/// The inner and the outer hash, which have taken K XOR ipad and K XOR opad (RFC 2104, 2). The octets of a key are hashed
+/// The inner and the outer hash, which have absorbed K XOR ipad and K XOR opad (RFC 2104, 2). The octets of a key are hashed
 /// once, however many messages follow.
 pub(crate) fn keyed<const BLOCK: usize, const SIZE: usize, H: HashFunction<BLOCK, SIZE>>(
     key: &[u8],
@@ -33,7 +33,7 @@ pub(crate) fn keyed<const BLOCK: usize, const SIZE: usize, H: HashFunction<BLOCK
     (inner, outer)
 }
 
-/// The HMAC (RFC 2104, 2) of two parts, one behind the other, under the key that the hashes have taken.
+/// The HMAC (RFC 2104, 2) of two parts, concatenated, under the key that the hashes have absorbed.
 pub(crate) fn mac<const BLOCK: usize, const SIZE: usize, H: HashFunction<BLOCK, SIZE>>(
     inner: &H,
     outer: &H,
@@ -41,7 +41,8 @@ pub(crate) fn mac<const BLOCK: usize, const SIZE: usize, H: HashFunction<BLOCK, 
     second: &[u8],
 ) -> [u8; SIZE]
     requires { AreSizes BLOCK SIZE }
-    ensures { (key : List ℕ) → IsReady (H.holds inner.now) (H.holds outer.now) H.hash BLOCK key → result ≡ hmac_over H.hash BLOCK key (first.now ++ second.now) }
+    ensures { (key : List ℕ) → IsReady (H.holds inner.now) (H.holds outer.now) H.hash BLOCK key
+        → result ≡ hmac_over H.hash BLOCK key (first.now ++ second.now) }
 {
     let mut inner = inner.copy();
     inner.absorb(first);
@@ -51,7 +52,7 @@ pub(crate) fn mac<const BLOCK: usize, const SIZE: usize, H: HashFunction<BLOCK, 
     outer.finish()
 }
 
-/// The key, filled with zeros to a block; one that is longer than a block is hashed first (RFC 2104, 2).
+/// The key, padded with zeros to a block; one that is longer than a block is hashed first (RFC 2104, 2).
 fn block_of<const BLOCK: usize, const SIZE: usize, H: HashFunction<BLOCK, SIZE>>(
     key: &[u8],
 ) -> [u8; BLOCK]
@@ -81,7 +82,7 @@ pub(crate) fn digest_of<const BLOCK: usize, const SIZE: usize, H: HashFunction<B
     mac(&inner, &outer, payload, &[])
 }
 
-/// The HMAC of two parts, one behind the other, under the key (RFC 2104, 2).
+/// The HMAC of two parts, concatenated, under the key (RFC 2104, 2).
 pub(crate) fn digest_of_parts<const BLOCK: usize, const SIZE: usize, H: HashFunction<BLOCK, SIZE>>(
     key: &[u8],
     first: &[u8],
@@ -102,7 +103,7 @@ fn mac_of<const BLOCK: usize, const SIZE: usize, H: HashFunction<BLOCK, SIZE>>(
     mac_size: usize,
 ) -> KerberosCryptoResult<Vec<u8>>
     requires { AreSizes BLOCK SIZE }
-    ensures mac { MatchResult result (λ mac. mac.items ≡ take mac_size (hmac_over H.hash BLOCK key.now payload.now ++ replicate (mac_size - SIZE) 0)) (λ e. e ≡ OutOfMemory) }
+    ensures mac { MatchResult result (λ mac. mac.items ≡ resized SIZE mac_size (hmac_over H.hash BLOCK key.now payload.now)) (λ e. e ≡ OutOfMemory) }
     ensures size { IfOk result (λ mac. length mac.items ≡ mac_size) }
 {
     let digest = digest_of::<BLOCK, SIZE, H>(key, payload);
@@ -116,14 +117,14 @@ fn mac_of<const BLOCK: usize, const SIZE: usize, H: HashFunction<BLOCK, SIZE>>(
 /// The first `mac_size` octets of the HMAC-SHA1 of the payload (RFC 2104; in Kerberos RFC 3961, 5.3), of which there
 /// are 20; past these they are zeros.
 ///
-/// A key of more than 64 octets is hashed first, as RFC 2104 says. `OutOfMemory` is the only refusal.
+/// A key of more than 64 octets is hashed first, as RFC 2104 says. `OutOfMemory` is the only error.
 pub fn hmac_sha1(
     alloc: Global,
     key: &[u8],
     payload: &[u8],
     mac_size: usize,
 ) -> KerberosCryptoResult<Vec<u8>>
-    ensures mac { MatchResult result (λ mac. mac.items ≡ take mac_size (hmac key.now payload.now ++ replicate (mac_size - 20) 0)) (λ e. e ≡ OutOfMemory) }
+    ensures mac { MatchResult result (λ mac. mac.items ≡ resized 20 mac_size (hmac key.now payload.now)) (λ e. e ≡ OutOfMemory) }
     ensures size { IfOk result (λ mac. length mac.items ≡ mac_size) }
 {
     mac_of::<64, 20, Sha1>(alloc, key, payload, mac_size)
@@ -132,14 +133,14 @@ pub fn hmac_sha1(
 /// The first `mac_size` octets of the HMAC-SHA256 of the payload (RFC 2104; in Kerberos RFC 8009, 5), of which there
 /// are 32; past these they are zeros.
 ///
-/// A key of more than 64 octets is hashed first, as RFC 2104 says. `OutOfMemory` is the only refusal.
+/// A key of more than 64 octets is hashed first, as RFC 2104 says. `OutOfMemory` is the only error.
 pub fn hmac_sha256(
     alloc: Global,
     key: &[u8],
     payload: &[u8],
     mac_size: usize,
 ) -> KerberosCryptoResult<Vec<u8>>
-    ensures mac { MatchResult result (λ mac. mac.items ≡ take mac_size (hmac_256 key.now payload.now ++ replicate (mac_size - 32) 0)) (λ e. e ≡ OutOfMemory) }
+    ensures mac { MatchResult result (λ mac. mac.items ≡ resized 32 mac_size (hmac_256 key.now payload.now)) (λ e. e ≡ OutOfMemory) }
     ensures size { IfOk result (λ mac. length mac.items ≡ mac_size) }
 {
     mac_of::<64, 32, Sha256>(alloc, key, payload, mac_size)
@@ -148,14 +149,14 @@ pub fn hmac_sha256(
 /// The first `mac_size` octets of the HMAC-SHA384 of the payload (RFC 2104; in Kerberos RFC 8009, 5), of which there
 /// are 48; past these they are zeros.
 ///
-/// A key of more than 128 octets is hashed first, as RFC 2104 says. `OutOfMemory` is the only refusal.
+/// A key of more than 128 octets is hashed first, as RFC 2104 says. `OutOfMemory` is the only error.
 pub fn hmac_sha384(
     alloc: Global,
     key: &[u8],
     payload: &[u8],
     mac_size: usize,
 ) -> KerberosCryptoResult<Vec<u8>>
-    ensures mac { MatchResult result (λ mac. mac.items ≡ take mac_size (hmac_384 key.now payload.now ++ replicate (mac_size - 48) 0)) (λ e. e ≡ OutOfMemory) }
+    ensures mac { MatchResult result (λ mac. mac.items ≡ resized 48 mac_size (hmac_384 key.now payload.now)) (λ e. e ≡ OutOfMemory) }
     ensures size { IfOk result (λ mac. length mac.items ≡ mac_size) }
 {
     mac_of::<128, 48, Sha384>(alloc, key, payload, mac_size)

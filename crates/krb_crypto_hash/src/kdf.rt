@@ -19,7 +19,7 @@ const LABEL_END: u8 = 0;
 
 /// The key of `bits` bits that KDF-HMAC-SHA2 (RFC 8009, 3) with SHA-256 derives from a key for a label.
 ///
-/// The bits are whole octets, from 8 to 256 of them. `OutOfMemory` is the only refusal.
+/// The bits are whole octets, from 8 to 256 of them. `OutOfMemory` is the only error.
 pub fn kdf_hmac_sha256(
     alloc: Global,
     key: &[u8],
@@ -38,7 +38,7 @@ pub fn kdf_hmac_sha256(
 
 /// The key of `bits` bits that KDF-HMAC-SHA2 (RFC 8009, 3) with SHA-384 derives from a key for a label.
 ///
-/// The bits are whole octets, from 8 to 384 of them. `OutOfMemory` is the only refusal.
+/// The bits are whole octets, from 8 to 384 of them. `OutOfMemory` is the only error.
 pub fn kdf_hmac_sha384(
     alloc: Global,
     key: &[u8],
@@ -55,7 +55,7 @@ pub fn kdf_hmac_sha384(
     Ok(Vec::from_slice(alloc, &block[..bits as usize / 8])?)
 }
 
-/// The HMAC under the key that a key for this label is the front of (RFC 8009, 3). No memory is taken.
+/// The HMAC under the key whose first octets are the key for this label (RFC 8009, 3). It allocates nothing.
 pub(crate) fn block_for<const BLOCK: usize, const SIZE: usize, H: HashFunction<BLOCK, SIZE>>(
     key: &[u8],
     label: &[u8],

@@ -1,5 +1,5 @@
 //! Message authentication codes and what is derived by them: HMAC (RFC 2104) over hash functions, PBKDF2 (RFC 8018), the key
-//! derivation function of RFC 8009, and why a call of the cryptography refuses.
+//! derivation function of RFC 8009, and the errors of the cryptography.
 #![tactic(auto)]
 
 mod error;

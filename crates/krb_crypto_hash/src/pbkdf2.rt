@@ -1,8 +1,7 @@
 //! PBKDF2 (RFC 8018, 5.2) with HMAC.
 
-ghost use Rattle.std.specs.Prelude.{◌≡◌, ℕ, List, ◌-◌, ◌*◌, ◌%◌, ◌^◌, ◌<◌, ◌≤◌, length, slice_index};
-ghost use Rattle.std.specs.Int.{bit_at};
-ghost use Rattle.krb_crypto_hash.specs.Pbkdf2.{count_bits, IsPbkdf2Over, IsPbkdf2, IsPbkdf2_256, IsPbkdf2_384};
+ghost use Rattle.std.specs.Prelude.{ℕ, List, ◌-◌, ◌*◌, ◌^◌, ◌<◌, ◌≤◌, length};
+ghost use Rattle.krb_crypto_hash.specs.Pbkdf2.{IsBlockOf, IsPbkdf2Over, IsPbkdf2, IsPbkdf2_256, IsPbkdf2_384};
 ghost use Rattle.krb_crypto_hash.specs.Hmac.{AreSizes, hmac_over, IsReady};
 
 use crate::hash::HashFunction;
@@ -13,7 +12,7 @@ use sha2::{Sha256, Sha384};
 
 /// Fills `out` with the octets that PBKDF2 (RFC 8018, 5.2) with HMAC-SHA1 derives from a password and a salt.
 ///
-/// There is at least one round, and `out` has at most 20 * (2^32 - 1) octets. No memory is taken, and each round is two
+/// There is at least one round, and `out` has at most 20 * (2^32 - 1) octets. It allocates nothing, and each round is two
 /// blocks of SHA-1.
 pub fn pbkdf2_hmac_sha1(password: &[u8], salt: &[u8], rounds: u32, out: &mut [u8])
     requires some { 0 < rounds }
@@ -25,7 +24,7 @@ pub fn pbkdf2_hmac_sha1(password: &[u8], salt: &[u8], rounds: u32, out: &mut [u8
 
 /// Fills `out` with the octets that PBKDF2 (RFC 8018, 5.2) with HMAC-SHA256 derives from a password and a salt.
 ///
-/// There is at least one round, and `out` has at most 32 * (2^32 - 1) octets. No memory is taken, and each round is two
+/// There is at least one round, and `out` has at most 32 * (2^32 - 1) octets. It allocates nothing, and each round is two
 /// blocks of SHA-256.
 pub fn pbkdf2_hmac_sha256(password: &[u8], salt: &[u8], rounds: u32, out: &mut [u8])
     requires some { 0 < rounds }
@@ -37,7 +36,7 @@ pub fn pbkdf2_hmac_sha256(password: &[u8], salt: &[u8], rounds: u32, out: &mut [
 
 /// Fills `out` with the octets that PBKDF2 (RFC 8018, 5.2) with HMAC-SHA384 derives from a password and a salt.
 ///
-/// There is at least one round, and `out` has at most 48 * (2^32 - 1) octets. No memory is taken, and each round is two
+/// There is at least one round, and `out` has at most 48 * (2^32 - 1) octets. It allocates nothing, and each round is two
 /// blocks of SHA-384.
 pub fn pbkdf2_hmac_sha384(password: &[u8], salt: &[u8], rounds: u32, out: &mut [u8])
     requires some { 0 < rounds }
@@ -70,7 +69,7 @@ fn derive<const BLOCK: usize, const SIZE: usize, H: HashFunction<BLOCK, SIZE>>(
 }
 
 /// T_i, the block of this index, from 1 on: the exclusive or of U_1, U_2, .., as many as there are rounds (RFC 8018, 5.2),
-/// under the password that the hashes have taken.
+/// under the password that the hashes have absorbed.
 fn derived_block<const BLOCK: usize, const SIZE: usize, H: HashFunction<BLOCK, SIZE>>(
     inner: &H,
     outer: &H,
@@ -80,7 +79,8 @@ fn derived_block<const BLOCK: usize, const SIZE: usize, H: HashFunction<BLOCK, S
 ) -> [u8; SIZE]
     requires sizes { AreSizes BLOCK SIZE }
     requires some { 0 < rounds }
-    ensures { (password : List ℕ) → IsReady (H.holds inner.now) (H.holds outer.now) H.hash BLOCK password → (k b : ℕ) → bit_at (slice_index result k) b ≡ count_bits (hmac_over H.hash BLOCK) password salt.now index rounds k b % 2 }
+    ensures { (password : List ℕ) → IsReady (H.holds inner.now) (H.holds outer.now) H.hash BLOCK password
+        → IsBlockOf (hmac_over H.hash BLOCK) password salt.now index rounds result }
 {
     let mut last = mac(inner, outer, salt, &index.to_be_bytes());
     let mut sum = last;

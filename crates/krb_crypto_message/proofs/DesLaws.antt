@@ -103,7 +103,7 @@ odd_key seed =
     All-append HasOddParity (key_part (take 7 seed) ++ key_part (take 7 (drop 7 seed))) (key_part (take 7 (drop 14 seed)))
     (All-append HasOddParity (key_part (take 7 seed)) (key_part (take 7 (drop 7 seed))) (odd_part _) (odd_part _)) (odd_part _)
 
--- the parts of three keys joined
+-- the parts of three keys concatenated
 parts : (p q r : List ℕ) → length p ≡ 8 → length q ≡ 8 → length r ≡ 8 → (take 8 (p ++ q ++ r) ≡ p) × (take 8 (drop 8 (p ++ q ++ r)) ≡ q) × (take 8 (drop 16 (p ++ q ++ r)) ≡ r)
 parts p q r lp lq lr =
     let both : length (p ++ q) ≡ 16 = length-append p q ∙ omega arith in

@@ -39,17 +39,17 @@ aes_scheme key usage =
     cts_scheme 12 (aes_ke key usage) (aes_ki key usage) (λ p c. mac_96 (aes_ki key usage) p) (λ ki p c. cut_mac 12 ki p)
     (λ m c. length-take-le 12 (hmac (aes_ki key usage) m) (omega (arith, hmac_size (aes_ki key usage) m))) (λ m c. refl)
 
--- under a right key, octets enough are refused for their checksum alone
+-- under a right key, octets enough are rejected for their checksum alone
 pub cts_intact : (h size : ℕ) (key bytes : List ℕ) → length key ≡ size → 16 + h ≤ length bytes → cts_refusal (16 + h) size key bytes ≡ IntegrityCheck
 cts_intact h size key bytes right long = rw (le-ltb (length bytes) (16 + h) long, right, eq-eqb size size refl) refl
 
--- and what is refused for another reason is too short
+-- and what is rejected for another reason is too short
 pub cts_short : (h size : ℕ) (key bytes : List ℕ) (e : KerberosCryptoError) → length key ≡ size → (e ≡ cts_refusal (16 + h) size key bytes) × (e ≢ IntegrityCheck)
     → ¬ ((h ≤ length bytes) × (16 ≤ length bytes - h))
 cts_short h size key bytes e right refused shape =
     refused.1 (refused.0 ∙ cts_intact h size key bytes right (omega (arith, shape.0, shape.1)))
 
--- what is written by the calls is confounder and payload, enciphered under the keys Ke and Ki
+-- what is written by the calls is confounder and payload, encrypted under the keys Ke and Ki
 pub cts_enciphered : (is_ke is_ki ke ki confounder payload filled c : List ℕ) → ke ≡ is_ke → ki ≡ is_ki → filled ≡ confounder ++ payload → IsOctets filled → Cts (aes_block ke) filled c
     → IsEnciphered 1 (Cts (aes_block is_ke)) is_ki confounder payload filled c ki
 cts_enciphered is_ke is_ki ke ki confounder payload filled c eke eki joined octets made = record {
@@ -59,7 +59,7 @@ cts_enciphered is_ke is_ki ke ki confounder payload filled c eke eki joined octe
   ki_is = eki;
 }
 
--- and what is read is the one list that is enciphered so
+-- and what is read is the one list that is encrypted so
 pub cts_deciphered : (h : ℕ) (ke ki bytes filled : List ℕ) → 16 + h ≤ length bytes → IsOctets filled → Cts (aes_block ke) filled (take (length bytes - h) bytes)
     → ((q : List ℕ) → IsOctets q → Cts (aes_block ke) q (take (length bytes - h) bytes) → q ≡ filled)
     → IsDeciphered 1 16 h (Cts (aes_block ke)) ki bytes filled ki
@@ -79,20 +79,20 @@ pub deciphered_under : (h : ℕ) (is_ke is_ki ke ki bytes filled got : List ℕ)
 deciphered_under h is_ke is_ki ke ki bytes filled got eke eki is =
     subst (λ k. IsDeciphered 1 16 h (Cts (aes_block is_ke)) k bytes filled got) eki (subst (λ k. IsDeciphered 1 16 h (Cts (aes_block k)) ki bytes filled got) eke is)
 
--- what is opened, filled to a multiple of one octet, is the payload itself
+-- what is opened, padded to a multiple of one octet, is the payload itself
 pub unfilled : (payload opened : List ℕ) → IsFill 1 payload opened → opened ≡ payload
 unfilled payload opened is = IsFill-one 1 payload opened payload is (IsFill-whole 1 (omega arith) payload (omega arith))
 
 -- ---- triple DES
 
--- an HMAC of 20 octets is cut and filled by none
+-- an HMAC of 20 octets is cut and padded by none
 pub whole_mac : (key m tag : List ℕ) → tag ≡ take 20 (hmac key m ++ replicate (20 - 20) 0) → tag ≡ hmac key m
 whole_mac key m tag e = e ∙ take_at (hmac key m) (replicate (20 - 20) 0) 20 (hmac_size key m)
 
 Des3Cbc-length : (key : List ℕ) (usage : ℤ) (p c : List ℕ) → IsOctets p → Des3Cbc key usage p c → length c ≡ length p
 Des3Cbc-length key usage p c octets h = IsCbc-length 8 (omega arith) (ede3 (des3_ke key usage)) (ede3_undo (des3_ke key usage)) (AreInverse-ede3 (des3_ke key usage)) p c octets h
 
--- what is enciphered has at least a block, and whole ones; the HMAC has 20 octets, and none is cut off
+-- what is encrypted has at least a block, and whole ones; the HMAC has 20 octets, and none is cut off
 pub des3_scheme : (key : List ℕ) (usage : ℤ) → IsScheme 8 8 20 (Des3Cbc key usage) (λ p c. hmac (des3_ki key usage) p) (λ ki p c. cut_mac 20 ki p) (des3_ki key usage) (λ n. (8 ≤ n) × (n % 8 ≡ 0))
 des3_scheme key usage = record {
   some = omega arith;
@@ -105,17 +105,17 @@ des3_scheme key usage = record {
       (omega (arith, same, long), ap (λ (k : ℕ). k % 8) same ∙ h.whole);
 }
 
--- under a right key, whole blocks behind a confounder are refused for their checksum alone
+-- under a right key, whole blocks after a confounder are rejected for their checksum alone
 des3_intact : (key bytes : List ℕ) → length key ≡ 24 → 28 ≤ length bytes → (length bytes - 20) % 8 ≡ 0 → des3_refusal key bytes ≡ IntegrityCheck
 des3_intact key bytes right long whole = rw (eq-eqb (length key) 24 right, le-ltb (length bytes) 28 long, eq-eqb ((length bytes - 20) % 8) 0 whole) refl
 
--- and what is refused for another reason is too short, or not of whole blocks
+-- and what is rejected for another reason is too short, or not of whole blocks
 pub des3_unshaped : (key bytes : List ℕ) (e : KerberosCryptoError) → length key ≡ 24 → (e ≡ des3_refusal key bytes) × (e ≢ IntegrityCheck)
     → ¬ ((20 ≤ length bytes) × ((8 ≤ length bytes - 20) × ((length bytes - 20) % 8 ≡ 0)))
 des3_unshaped key bytes e right refused shape =
     refused.1 (refused.0 ∙ des3_intact key bytes right (omega (arith, shape.0, shape.1.0)) shape.1.1)
 
--- what is written by the calls is confounder and payload, filled and enciphered
+-- what is written by the calls is confounder and payload, padded and encrypted
 pub des3_enciphered : (key : List ℕ) (usage : ℤ) (ke ki confounder payload filled c : List ℕ) → ke ≡ des3_ke key usage → ki ≡ des3_ki key usage
     → IsFill 8 (confounder ++ payload) filled → IsOctets filled → IsCbc 8 (ede3 ke) filled c
     → IsEnciphered 8 (Des3Cbc key usage) (des3_ki key usage) confounder payload filled c ki
@@ -126,7 +126,7 @@ des3_enciphered key usage ke ki confounder payload filled c eke eki is octets ma
   ki_is = eki;
 }
 
--- and what is read is the one list that is enciphered so
+-- and what is read is the one list that is encrypted so
 pub des3_deciphered : (key : List ℕ) (usage : ℤ) (ke ki bytes filled : List ℕ) → ke ≡ des3_ke key usage → ki ≡ des3_ki key usage → 28 ≤ length bytes → IsOctets filled
     → IsCbc 8 (ede3 ke) filled (take (length bytes - 20) bytes)
     → ((q : List ℕ) → IsOctets q → IsCbc 8 (ede3 ke) q (take (length bytes - 20) bytes) → q ≡ filled)
@@ -144,7 +144,7 @@ des3_deciphered key usage ke ki bytes filled eke eki long octets made only =
       ki_is = eki;
     }
 
--- what is deciphered is refused for its checksum alone
+-- what is decrypted is rejected for its checksum alone
 pub des3_checked : (key : List ℕ) (usage : ℤ) (bytes filled ki : List ℕ) → length key ≡ 24 → IsDeciphered 8 8 20 (Des3Cbc key usage) (des3_ki key usage) bytes filled ki
     → des3_refusal key bytes ≡ IntegrityCheck
 des3_checked key usage bytes filled ki right d =

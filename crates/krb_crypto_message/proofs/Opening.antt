@@ -1,4 +1,4 @@
--- What is opened is what was sealed, for anything that one list of octets at most is enciphered to.
+-- What is opened is what was sealed, for anything that one list of octets at most is encrypted to.
 use Rattle.std.proofs.Common.{◌≡◌, ◌≢◌, ℕ, ◌≤◌, ◌<◌, ◌%◌, ◌+◌, ◌-◌, List, ◌++◌, length, take, drop, replicate, ap, sym, ◌∙◌, refl, arith, length-append, append_assoc, subst}
 use Rattle.std.proofs.Math.Seq.{take-append_seam, drop-append_seam}
 use Rattle.std.proofs.lemmas.List.{take-append-drop, length-take-le, length-drop, take_at}
@@ -8,15 +8,15 @@ use Rattle.krb_crypto_message.specs.Sealing.{IsGiven, IsOfNone, IsTheOne, Opens,
 use Rattle.krb_crypto_message.specs.Sealed.{IsSealedBy}
 use Rattle.krb_crypto_message.specs.MessageSteps.{end_of, IsDeciphered}
 
--- confounder and payload, filled to a multiple of fill octets and enciphered, and the key Ki
+-- confounder and payload, padded to a multiple of padding octets and encrypted, and the key Ki
 pub record IsEnciphered (fill : ℕ) (enciphers : List ℕ → List ℕ → Type 0) (integrity_key confounder payload filled encrypted ki : List ℕ) : Type 0 where
   pub fill_is : IsFill fill (confounder ++ payload) filled
   pub octets : IsOctets filled
   pub enciphered : enciphers filled encrypted
   pub ki_is : ki ≡ integrity_key
 
--- what is asked of a scheme: confounders of n octets are whole fills; its checksum has h octets, and is the tag that the calls
--- compute under the integrity key; no list is enciphered to two; and enciphered octets have a length of this shape
+-- what is asked of a scheme: confounders of n octets are whole multiples of the padding size; its checksum has h octets, and is the tag that the calls
+-- compute under the integrity key; no list is encrypted to two; and encrypted octets have a length of this shape
 pub record IsScheme (fill n h : ℕ) (enciphers : List ℕ → List ℕ → Type 0) (mac : List ℕ → List ℕ → List ℕ) (tag : List ℕ → List ℕ → List ℕ → List ℕ) (integrity_key : List ℕ) (Shape : ℕ → Type 0) : Type 0 where
   pub some : 0 < fill
   pub multiple : n % fill ≡ 0
@@ -25,13 +25,13 @@ pub record IsScheme (fill n h : ℕ) (enciphers : List ℕ → List ℕ → Type
   pub same : (p c d : List ℕ) → enciphers p c → enciphers p d → c ≡ d
   pub shaped : (p c : List ℕ) → IsOctets p → n ≤ length p → enciphers p c → Shape (length c)
 
--- a list that ends in the tag is its front and the tag
+-- a list that ends in the tag is its prefix and the tag
 front_of : (front tag bytes : List ℕ) (h : ℕ) → length tag ≡ h → bytes ≡ front ++ tag → take (length bytes - h) bytes ≡ front
 front_of front tag bytes h len e =
     let size : length bytes - h ≡ length front = omega (arith, len, simp length-append at (ap length e)) in
     subst (λ n. take n bytes ≡ front) (sym size) (ap (take (length front)) e ∙ take-append_seam front tag)
 
--- and behind the front is the tag
+-- and after the prefix is the tag
 back_of : (front tag bytes : List ℕ) (h : ℕ) → length tag ≡ h → bytes ≡ front ++ tag → drop (length bytes - h) bytes ≡ tag
 back_of front tag bytes h len e =
     let size : length bytes - h ≡ length front = omega (arith, len, simp length-append at (ap length e)) in
@@ -44,7 +44,7 @@ split_end bytes end h long e = record {
   size_is = ap length e ∙ omega (arith, long, length-drop (length bytes - h) bytes);
 }
 
--- what a payload was sealed to is opened to its fill
+-- what a payload was sealed to is opened to its padding
 pub opened_as : (fill : ℕ) (meaning : List ℕ → List ℕ → List ℕ → Type 0) (n : ℕ) (confounder payload octets opened : List ℕ) → length confounder ≡ n → meaning confounder payload octets
     → Opens fill (IsGiven meaning n octets) opened → IsFill fill payload opened
 opened_as fill meaning n confounder payload octets opened size sealed opens = (opens.exactly payload).0 (record { confounder = confounder; size_is = size; means = sealed })
@@ -55,7 +55,7 @@ pub not_of_none : (meaning : List ℕ → List ℕ → List ℕ → Type 0) (n :
 not_of_none meaning n confounder payload octets size sealed none = none payload (record { confounder = confounder; size_is = size; means = sealed })
 
 module _ {fill n h : ℕ} {enciphers : List ℕ → List ℕ → Type 0} {mac : List ℕ → List ℕ → List ℕ} {tag : List ℕ → List ℕ → List ℕ → List ℕ} {integrity_key : List ℕ} {Shape : ℕ → Type 0} (scheme : IsScheme fill n h enciphers mac tag integrity_key Shape) where
-  -- what is sealed ends in the MAC of the one list that its front deciphers to
+  -- what is sealed ends in the MAC of the one list that its prefix decrypts to
   cut : (bytes confounder payload : List ℕ) (sealed : IsSealedBy fill enciphers mac confounder payload bytes)
       → enciphers sealed.filled (take (length bytes - h) bytes) × (drop (length bytes - h) bytes ≡ mac sealed.filled (take (length bytes - h) bytes))
   cut bytes confounder payload sealed =
@@ -68,7 +68,7 @@ module _ {fill n h : ℕ} {enciphers : List ℕ → List ℕ → Type 0} {mac : 
   filled_octets : (bytes confounder payload : List ℕ) (sealed : IsSealedBy fill enciphers mac confounder payload bytes) → IsOctets sealed.filled
   filled_octets bytes confounder payload sealed = IsFill-octets fill (confounder ++ payload) sealed.filled sealed.fill_is sealed.of_octets
 
-  -- the fill of a payload behind n octets of a confounder is what stands there
+  -- the padded form of a payload after n octets of a confounder is what stands there
   fill_behind : (confounder payload filled : List ℕ) → length confounder ≡ n → IsFill fill (confounder ++ payload) filled
       → IsFill fill payload (drop n filled)
   fill_behind confounder payload filled size is =
@@ -86,7 +86,7 @@ module _ {fill n h : ℕ} {enciphers : List ℕ → List ℕ → Type 0} {mac : 
   tag_is : (filled cipher ki : List ℕ) → ki ≡ integrity_key → tag ki filled cipher ≡ mac filled cipher
   tag_is filled cipher ki same = ap (λ (k : List ℕ). tag k filled cipher) same ∙ scheme.computed filled cipher
 
-  -- bytes whose end is the MAC of the one list that their front deciphers to
+  -- bytes whose end is the MAC of the one list that their prefix decrypts to
   pub seal_opens : (bytes filled ki : List ℕ) → IsDeciphered fill n h enciphers integrity_key bytes filled ki
       → end_of h bytes ≡ tag ki filled (take (length bytes - h) bytes) → Opens fill (IsGiven (IsSealedBy fill enciphers mac) n bytes) (drop n filled)
   seal_opens bytes filled ki d ends = record {
@@ -122,7 +122,7 @@ module _ {fill n h : ℕ} {enciphers : List ℕ → List ℕ → Type 0} {mac : 
       let front : List ℕ = take (length bytes - h) bytes in
       other (parts.1 ∙ ap (λ p. mac p front) (d.only sealed.filled (filled_octets bytes given.confounder q sealed) parts.0) ∙ sym (tag_is filled front ki d.ki_is))
 
-  -- nor are bytes whose end is the MAC of their front with no list
+  -- nor are bytes whose end is the MAC of their prefix with no list
   pub none_ends : (bytes : List ℕ) → ((p : List ℕ) → end_of h bytes ≢ mac p (take (length bytes - h) bytes)) → IsOfNone (IsGiven (IsSealedBy fill enciphers mac) n bytes)
   none_ends bytes other q given = other given.means.filled (cut bytes given.confounder q given.means).1
 
@@ -142,7 +142,7 @@ module _ {fill n h : ℕ} {enciphers : List ℕ → List ℕ → Type 0} {mac : 
 
   -- ---- without the checksum
 
-  -- what is encrypted is enciphered, whatever checksum stands behind it
+  -- what is encrypted is encrypted, whatever checksum is after it
   record IsMade (confounder payload encrypted : List ℕ) : Type 0 where
     of_octets : IsOctets (confounder ++ payload)
     filled : List ℕ
@@ -200,7 +200,7 @@ module _ {fill n h : ℕ} {enciphers : List ℕ → List ℕ → Type 0} {mac : 
         );
       }
 
-  -- and its octets are those in front of the checksum
+  -- and its octets are those before the checksum
   pub splits : (bytes filled ki confounder plaintext checksum : List ℕ) → IsDeciphered fill n h enciphers integrity_key bytes filled ki
       → (confounder ≡ take n filled) × (plaintext ≡ drop n filled) × (checksum ≡ end_of h bytes)
       → (encrypted : List ℕ) × IsSplit h bytes encrypted checksum × Deciphers fill n (Enciphers (IsSealedBy fill enciphers mac) h) encrypted confounder plaintext
@@ -216,13 +216,13 @@ module _ {fill n h : ℕ} {enciphers : List ℕ → List ℕ → Type 0} {mac : 
   fill_long confounder payload filled size is =
       omega (arith, size, simp length-append at (ap length is.joined))
 
-  -- nothing is enciphered to it
+  -- nothing is encrypted to it
   pub none_enciphered : (encrypted : List ℕ) → ¬ Shape (length encrypted) → IsOfNone (IsGiven (Enciphers (IsSealedBy fill enciphers mac) h) n encrypted)
   none_enciphered encrypted other payload given =
       let from : IsMade given.confounder payload encrypted = made_from given.confounder payload encrypted given.means in
       other (scheme.shaped from.filled encrypted (IsFill-octets fill (given.confounder ++ payload) from.filled from.fill_is from.of_octets) (fill_long given.confounder payload from.filled given.size_is from.fill_is) from.enciphered)
 
-  -- nothing is sealed to what has it in front of h octets
+  -- nothing is sealed to what has it before h octets
   pub none_shaped : (bytes : List ℕ) → ¬ ((h ≤ length bytes) × Shape (length bytes - h)) → IsOfNone (IsGiven (IsSealedBy fill enciphers mac) n bytes)
   none_shaped bytes other payload given =
       let sealed = given.means in

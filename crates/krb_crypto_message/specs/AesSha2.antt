@@ -1,5 +1,5 @@
 -- AES with SHA-2 (RFC 8009), by the size of a key: aes128-cts-hmac-sha256-128 and aes256-cts-hmac-sha384-192.
-use Rattle.std.specs.Prelude.{◌≡◌, ℕ, ℤ, ◌+◌, ◌*◌, List, ◌∷◌, ◌++◌, length, take, replicate, codes}
+use Rattle.std.specs.Prelude.{◌≡◌, ℕ, ℤ, ◌+◌, ◌-◌, ◌*◌, List, ◌∷◌, ◌++◌, length, take, replicate, codes}
 use Rattle.krb_crypto_hash.specs.Hmac.{hmac_256, hmac_384}
 use Rattle.krb_crypto_hash.specs.Kdf.{kdf_over}
 use Rattle.krb_crypto_hash.specs.Pbkdf2.{IsPbkdf2Over}
@@ -9,6 +9,7 @@ use Rattle.krb_crypto_block.specs.Modes.{Cts}
 use Rattle.krb_crypto_block.specs.Size.{key_octets}
 use Rattle.krb_crypto_block.specs.declared.aes.AesSize.{AesSize}
 use Rattle.krb_crypto_block.specs.declared.aes.AesSize.TheVariants.{Aes256, Aes128}
+use Rattle.krb_crypto_message.specs.MessageSteps.{end_of}
 use Rattle.krb_crypto_message.specs.Sealed.{IsSealedBy, cts_refusal}
 use Rattle.krb_crypto_message.specs.WellKnown.{usage_constant}
 
@@ -63,15 +64,20 @@ IsSha2PasswordKey size password salt key =
 
 -- ---- messages (RFC 8009, 5)
 
--- what the key's Ke enciphers
+-- what the key's Ke encrypts
 abbrev pub Sha2Cts : AesSize → List ℕ → ℤ → List ℕ → List ℕ → Type 0
 Sha2Cts size key usage p c = Cts (aes_block (sha2_ke size key usage)) p c
 
--- the checksum of the enciphered octets, with a cipher state of 16 zero octets before them
+-- the checksum of the encrypted octets, with a cipher state of 16 zero octets before them
 abbrev pub sha2_seal_mac : AesSize → List ℕ → List ℕ → List ℕ
 sha2_seal_mac size ki cipher = sha2_mac size ki (replicate 16 0 ++ cipher)
 
--- the relation of the suites, which fill nothing, and whose checksum is that of what confounder and payload are enciphered to
+-- the octets end in the checksum of those before it
+abbrev pub EndsInSealMac : AesSize → List ℕ → List ℕ → Type 0
+EndsInSealMac size ki octets =
+    end_of (sha2_checksum_octets size) octets ≡ sha2_seal_mac size ki (take (length octets - sha2_checksum_octets size) octets)
+
+-- the relation of the suites, which pad nothing, and whose checksum is that of what confounder and payload are encrypted to
 abbrev pub IsSealedSha2 : AesSize → List ℕ → ℤ → List ℕ → List ℕ → List ℕ → Type 0
 IsSealedSha2 size key usage confounder payload octets =
     IsSealedBy 1 (Sha2Cts size key usage) (λ filled cipher. sha2_seal_mac size (sha2_ki size key usage) cipher) confounder payload octets

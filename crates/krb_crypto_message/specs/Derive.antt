@@ -6,7 +6,7 @@ use Rattle.krb_crypto_block.specs.Des.{ede3}
 use Rattle.krb_crypto_hash.specs.Pbkdf2.{IsPbkdf2}
 use Rattle.krb_crypto_message.specs.RandomToKey.{random_to_key}
 
--- n blocks E(f), E(E(f)), .., joined
+-- n blocks E(f), E(E(f)), .., concatenated
 unfoldable pub blocks_from : (List ℕ → List ℕ) → List ℕ → ℕ → List ℕ
 blocks_from E f zero = []
 blocks_from E f (suc n) = E f ++ blocks_from E (E f) n
@@ -28,7 +28,7 @@ IsAesPasswordKey size password salt key =
 unfoldable pub des3_dk : List ℕ → List ℕ → List ℕ
 des3_dk key constant = random_to_key (dr (ede3 key) 8 constant 21)
 
--- string-to-key of triple DES: password and salt, joined and not empty, folded to a seed of 168 bits, and DK of the seed's
+-- string-to-key of triple DES: password and salt, concatenated and not empty, folded to a seed of 168 bits, and DK of the seed's
 -- key with "kerberos" (RFC 3961, 6.3.1)
 abbrev pub IsDes3PasswordKey : List ℕ → List ℕ → List ℕ → Type 0
 IsDes3PasswordKey password salt key =

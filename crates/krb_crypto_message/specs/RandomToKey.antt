@@ -73,6 +73,6 @@ repaired key = if is_weak key then slice_set key 7 (bit_xor (slice_index key 7) 
 unfoldable pub key_part : List ℕ → List ℕ
 key_part octets = repaired (stretched octets)
 
--- the three keys of DES that the first 21 octets of a seed give, joined
+-- the three keys of DES that the first 21 octets of a seed give, concatenated
 unfoldable pub random_to_key : List ℕ → List ℕ
 random_to_key seed = key_part (take 7 seed) ++ key_part (take 7 (drop 7 seed)) ++ key_part (take 7 (drop 14 seed))

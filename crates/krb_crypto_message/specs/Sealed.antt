@@ -9,9 +9,9 @@ use Rattle.krb_crypto_hash.specs.declared.error.KerberosCryptoError.TheVariants.
 use Rattle.krb_crypto_message.specs.Derive.{aes_dk, des3_dk}
 use Rattle.krb_crypto_message.specs.WellKnown.{usage_constant}
 
--- what confounder and payload, with the fewest zeros to a multiple of fill octets, are enciphered to, and behind it the
--- checksum, mac, of the filled octets and of what they are enciphered to. In the suites of RFC 3962 and of triple DES it is
--- of the filled octets alone.
+-- what confounder and payload, with the fewest zeros to a multiple of padding octets, are encrypted to, and after it the
+-- checksum, mac, of the padded octets and of what they are encrypted to. In the suites of RFC 3962 and of triple DES it is
+-- of the padded octets alone.
 pub record IsSealedBy (fill : ℕ) (enciphers : List ℕ → List ℕ → Type 0) (mac : List ℕ → List ℕ → List ℕ) (confounder payload octets : List ℕ) : Type 0 where
   pub of_octets : IsOctets (confounder ++ payload)
   pub filled : List ℕ
@@ -36,11 +36,11 @@ aes_kc key usage = aes_dk key (usage_constant usage 0x99)
 abbrev pub mac_96 : List ℕ → List ℕ → List ℕ
 mac_96 key message = take 12 (hmac key message)
 
--- what the key's Ke enciphers
+-- what the key's Ke encrypts
 abbrev pub AesCts : List ℕ → ℤ → List ℕ → List ℕ → Type 0
 AesCts key usage p c = Cts (aes_block (aes_ke key usage)) p c
 
--- the relation of the AES suites, which fill nothing
+-- the relation of the AES suites, which pad nothing
 abbrev pub IsSealedAes : List ℕ → ℤ → List ℕ → List ℕ → List ℕ → Type 0
 IsSealedAes key usage confounder payload octets = IsSealedBy 1 (AesCts key usage) (λ filled cipher. mac_96 (aes_ki key usage) filled) confounder payload octets
 
@@ -71,7 +71,7 @@ des3_ki key usage = des3_dk key (usage_constant usage 0x55)
 abbrev pub des3_kc : List ℕ → ℤ → List ℕ
 des3_kc key usage = des3_dk key (usage_constant usage 0x99)
 
--- what the key's Ke enciphers
+-- what the key's Ke encrypts
 abbrev pub Des3Cbc : List ℕ → ℤ → List ℕ → List ℕ → Type 0
 Des3Cbc key usage p c = IsCbc 8 (ede3 (des3_ke key usage)) p c
 

@@ -1,9 +1,9 @@
-//! What messages under AES and under triple DES have alike: the octets that are enciphered, and the checksum behind them
+//! What messages under AES and under triple DES have alike: the octets that are encrypted, and the checksum after them
 //! (RFC 3961, 5.3).
 
-ghost use Rattle.std.specs.Prelude.{◌≡◌, ◌≢◌, ◌+◌, ◌≤◌, length, take, drop, ◌++◌, IfOk, IfErr};
+ghost use Rattle.std.specs.Prelude.{◌≡◌, ◌+◌, ◌≤◌, length, take, drop, ◌++◌, IfOk, IfErr};
 ghost use Rattle.krb_crypto_block.specs.Modes.{IsOctets};
-ghost use Rattle.krb_crypto_message.specs.MessageSteps.{cut_mac, end_of};
+ghost use Rattle.krb_crypto_message.specs.MessageSteps.{end_of, EndsInMac};
 
 use crate::octets::are_octets;
 use crate::short_octets::ShortOctets;
@@ -12,7 +12,7 @@ use krb_crypto_block::in_place::hmac_sha1;
 use krb_crypto_block::{KerberosCryptoError, KerberosCryptoResult};
 use std::alloc::Global;
 
-/// Confounder and payload, one behind the other, with room for `spare` octets behind them.
+/// Confounder and payload, concatenated, with room for `spare` octets after them.
 pub(crate) fn joined(
     alloc: Global,
     confounder: &[u8],
@@ -60,8 +60,8 @@ pub(crate) struct Deciphered {
 }
 
 impl Deciphered {
-    /// What stands behind the confounder, of `front` octets, where the last `mac_size` octets of the message are the
-    /// checksum of all. Else `IntegrityCheck`; nothing is handed out before it is compared.
+    /// What is after the confounder, of `front` octets, where the last `mac_size` octets of the message are the
+    /// checksum of all. Else `IntegrityCheck`; nothing is returned before it is compared.
     pub(crate) fn checked(
         self,
         cipher_data: &[u8],
@@ -71,8 +71,8 @@ impl Deciphered {
         requires cut { mac_size ≤ 20 }
         requires long { mac_size ≤ length cipher_data.now }
         requires front { front ≤ length self.filled.items }
-        ensures payload { IfOk result (λ payload. (end_of mac_size cipher_data.now ≡ cut_mac mac_size self.ki self.filled.items) × (payload.items ≡ drop front self.filled.items)) }
-        ensures refused { IfErr result (λ e. (end_of mac_size cipher_data.now ≢ cut_mac mac_size self.ki self.filled.items) × (e ≡ KerberosCryptoError.IntegrityCheck)) }
+        ensures payload { IfOk result (λ payload. EndsInMac mac_size self.ki self.filled.items cipher_data.now × (payload.items ≡ drop front self.filled.items)) }
+        ensures refused { IfErr result (λ e. (¬ EndsInMac mac_size self.ki self.filled.items cipher_data.now) × (e ≡ KerberosCryptoError.IntegrityCheck)) }
     {
         let mac = hmac_sha1(self.ki.as_slice(), &self.filled);
         let checksum = &cipher_data[cipher_data.len() - mac_size..];
@@ -82,7 +82,7 @@ impl Deciphered {
         Ok(behind(self.filled, front))
     }
 
-    /// The confounder, of `front` octets; what stands behind it; the last `mac_size` octets of the message; and Ki.
+    /// The confounder, of `front` octets; what is after it; the last `mac_size` octets of the message; and Ki.
     pub(crate) fn unchecked(
         self,
         alloc: Global,
@@ -92,7 +92,9 @@ impl Deciphered {
     ) -> KerberosCryptoResult<DecryptWithoutChecksum>
         requires long { mac_size ≤ length cipher_data.now }
         requires front { front ≤ length self.filled.items }
-        ensures parts { IfOk result (λ made. (made.confounder.items ≡ take front self.filled.items) × (made.plaintext.items ≡ drop front self.filled.items) × (made.checksum.items ≡ end_of mac_size cipher_data.now)) }
+        ensures parts { IfOk result (λ made. (made.confounder.items ≡ take front self.filled.items)
+            × (made.plaintext.items ≡ drop front self.filled.items)
+            × (made.checksum.items ≡ end_of mac_size cipher_data.now)) }
         ensures ki { IfOk result (λ made. made.ki.items ≡ self.ki) }
         ensures memory { IfErr result (λ e. e ≡ KerberosCryptoError.OutOfMemory) }
     {
@@ -110,7 +112,7 @@ impl Deciphered {
     }
 }
 
-/// The octets behind the first `front`, moved to the front. No memory is taken.
+/// The octets after the first `front`, moved to the beginning. It allocates nothing.
 pub(crate) fn behind(octets: Vec<u8>, front: usize) -> Vec<u8>
     requires { front ≤ length octets.items }
     ensures { result.items ≡ drop front octets.items }

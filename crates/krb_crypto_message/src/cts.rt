@@ -1,5 +1,5 @@
-//! What messages under AES have alike, whatever their checksum is of: confounder and payload, enciphered by CBC with
-//! ciphertext stealing, and what octets decipher to (RFC 3962, 5 and 6; RFC 8009, 5).
+//! What messages under AES have alike, whatever their checksum is of: confounder and payload, encrypted by CBC with
+//! ciphertext stealing, and what octets decrypt to (RFC 3962, 5 and 6; RFC 8009, 5).
 
 ghost use Rattle.std.specs.Prelude.{◌≡◌, ◌+◌, ◌≤◌, ◌++◌, length, IfOk, IfErr};
 ghost use Rattle.krb_crypto_block.specs.Aes.{aes_block};
@@ -13,7 +13,7 @@ use krb_crypto_block::in_place::{decrypt_aes_cts, encrypt_aes_cts};
 use krb_crypto_block::{AES_BLOCK_SIZE, AesKey, KerberosCryptoError, KerberosCryptoResult};
 use std::alloc::Global;
 
-/// Confounder and payload, enciphered under Ke, with room for `spare` octets behind them.
+/// Confounder and payload, encrypted under Ke, with room for `spare` octets after them.
 pub(crate) fn enciphered(
     alloc: Global,
     ke: &AesKey,
@@ -31,7 +31,7 @@ pub(crate) fn enciphered(
     Ok(octets)
 }
 
-/// What the octets without their last `mac_size` decipher to under Ke; Ki stands beside it.
+/// What the octets without their last `mac_size` decrypt to under Ke; Ki stands beside it.
 pub(crate) fn deciphered(
     alloc: Global,
     keys: MessageKeys,

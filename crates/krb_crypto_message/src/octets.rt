@@ -2,7 +2,7 @@
 
 ghost use Rattle.krb_crypto_block.specs.Modes.{IsOctets};
 
-/// Tells a proof that the elements are octets. It does nothing.
+/// A lemma: the elements are octets. Its body is empty.
 pub(crate) fn are_octets(elements: &[u8])
     ensures { IsOctets elements.now }
 {}

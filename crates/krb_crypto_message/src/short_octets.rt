@@ -33,7 +33,7 @@ impl ShortOctets {
         }
     }
 
-    /// Puts the octets behind those that are there.
+    /// Puts the octets after those that are there.
     pub(crate) fn push(&mut self, part: &[u8])
         requires { length self.old + length part.now ≤ 32 }
         ensures { self.new ≡ self.old ++ part.now }

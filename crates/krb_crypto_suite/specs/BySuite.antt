@@ -38,7 +38,7 @@ confounder_octets_of Des3CbcSha1Kd = 8
 confounder_octets_of Aes128CtsHmacSha256128 = 16
 confounder_octets_of Aes256CtsHmacSha384192 = 16
 
--- those to a multiple of which a payload is filled
+-- those to a multiple of which a payload is padded
 abbrev pub fill_octets_of : CipherSuite → ℕ
 fill_octets_of Aes128CtsHmacSha196 = 1
 fill_octets_of Aes256CtsHmacSha196 = 1

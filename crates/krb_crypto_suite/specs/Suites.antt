@@ -27,11 +27,11 @@ checksum_type checksum.HmacSha384192Aes256 = 20
 abbrev pub NoSuite : {S A : Type 0} → (S → A) → A → Type 0
 NoSuite {S} identifier_of identifier = (suite : S) → identifier_of suite ≡ identifier → ⊥
 
--- the suite of this number is answered, and a number of none is refused
+-- the suite of this number is returned, and a number of none is rejected
 abbrev pub IsNumbered : {S : Type 0} → (S → ℕ) → ℕ → Result S KerberosCryptoError → Type 0
 IsNumbered number n r = MatchResult r (λ suite. number suite ≡ n) (λ e. NoSuite number n × (e ≡ errors.AlgorithmIdentifier n))
 
--- the refusal holds these octets, which name no suite
+-- the error holds these octets, which name no suite
 abbrev pub IsIdentifierData : List ℕ → KerberosCryptoError → Type 0
 IsIdentifierData octets (errors.AlgorithmIdentifierData identifier) = identifier.items ≡ octets
 IsIdentifierData octets (errors.KeyLength n m) = ⊥

@@ -1,4 +1,4 @@
-//! What a keyed checksum is, whoever implements it.
+//! The trait of keyed checksums.
 
 ghost use Rattle.std.specs.Prelude.{◌≡◌, ℕ, ℤ, List, length, IfOk, IfErr};
 ghost use Rattle.krb_crypto_hash.specs.CryptoError.{RefusesKey};
@@ -8,7 +8,7 @@ use crate::checksum_suite::ChecksumSuite;
 use krb_crypto_block::KerberosCryptoResult;
 use std::alloc::Global;
 
-/// A keyed checksum (RFC 3961, 4), lent as `&dyn Checksum`.
+/// A keyed checksum (RFC 3961, 4), which callers pass as `&dyn Checksum`.
 pub trait Checksum {
     // The octets of a key.
     ghost key_octets: { Self → ℕ };
@@ -25,7 +25,7 @@ pub trait Checksum {
 
     /// The checksum of a payload that stands alone in a message, under the key Kc of this key and key usage.
     ///
-    /// A key of another length is `KeyLength`; nothing else is refused but for want of memory, which is `OutOfMemory`.
+    /// A key of another length is `KeyLength`; the only other error is `OutOfMemory`.
     fn checksum(
         &self,
         alloc: Global,

@@ -1,10 +1,10 @@
-//! What a cipher is, whoever implements it.
+//! The trait of ciphers.
 
 ghost use Rattle.std.specs.Prelude.{◌≡◌, ◌≢◌, ℕ, ℤ, ◌<◌, ◌≤◌, ◌/◌, List, length, vec_len, MatchResult, IfOk, IfErr};
 ghost use Rattle.krb_crypto_hash.specs.CryptoError.{IsMemoryOr, RefusesKey};
 ghost use Rattle.krb_crypto_hash.specs.declared.error.KerberosCryptoError.{KerberosCryptoError};
 ghost use Rattle.krb_crypto_hash.specs.declared.error.KerberosCryptoError.TheVariants.{OutOfMemory};
-ghost use Rattle.krb_crypto_message.specs.Sealing.{IsTheOne, IsOfNone, IsGiven, Opens, Enciphers, IsSplit, Deciphers};
+ghost use Rattle.krb_crypto_message.specs.Sealing.{IsTheOne, IsOfNone, IsGiven, Opens, HasNoPayload, Enciphers, OpensUnchecked, HasNoPayloadUnchecked};
 ghost use Rattle.krb_crypto_suite.specs.declared.cipher_suite.CipherSuite.{CipherSuite};
 ghost use Rattle.krb_crypto_suite.specs.declared.checksum_suite.ChecksumSuite.{ChecksumSuite};
 
@@ -14,15 +14,15 @@ use krb_crypto_block::{KerberosCryptoError, KerberosCryptoResult};
 use krb_crypto_message::{DecryptWithoutChecksum, EncryptWithoutChecksum};
 use std::alloc::Global;
 
-/// An encryption scheme with its integrity checksum (RFC 3961, 3), lent as `&dyn Cipher`.
+/// An encryption scheme with its integrity checksum (RFC 3961, 3), which callers pass as `&dyn Cipher`.
 ///
-/// Lengths are in octets. A key has `key_size` octets; another is refused. Every call that answers a `Result` may
-/// answer `OutOfMemory`, where a growth of memory was refused.
+/// Lengths are in octets. A key has `key_size` octets; another is rejected. Every call that returns a `Result`
+/// may return `OutOfMemory`, where an allocation failed.
 pub trait Cipher {
     // Under this key, key usage and confounder the payload becomes these octets.
     ghost meaning: { Self → List ℕ → ℤ → List ℕ → List ℕ → List ℕ → Type 0 };
 
-    // The octets of a key, of a confounder, those to a multiple of which a payload is filled, and those of a checksum.
+    // The octets of a key, of a confounder, those to a multiple of which a payload is padded, and those of a checksum.
     ghost key_octets: { Self → ℕ };
 
     ghost confounder_octets: { Self → ℕ };
@@ -66,7 +66,7 @@ pub trait Cipher {
     fn confounder_size(&self) -> usize
         ensures { result ≡ confounder_octets self.now };
 
-    /// The octets to a multiple of which a payload is filled with zeros, at least one.
+    /// The octets to a multiple of which a payload is padded with zeros, at least one.
     fn fill_size(&self) -> usize
         ensures value { result ≡ fill_octets self.now }
         ensures positive { 0 < result };
@@ -79,9 +79,9 @@ pub trait Cipher {
     fn checksum_type(&self) -> ChecksumSuite
         ensures { result ≡ keyed_checksum_type self.now };
 
-    /// The payload, encrypted under the confounder, and the integrity checksum behind it.
+    /// The payload, encrypted under the confounder, and the integrity checksum after it.
     ///
-    /// The confounder has `confounder_size` octets. A key of another length is `KeyLength`; nothing else is refused.
+    /// The confounder has `confounder_size` octets. A key of another length is `KeyLength`; `OutOfMemory` is the only other error.
     fn encrypt(
         &self,
         alloc: Global,
@@ -95,9 +95,9 @@ pub trait Cipher {
         ensures sealed { IfOk result (λ octets. IsTheOne (meaning self.now key.now key_usage confounder.now payload.now) octets.items) }
         ensures refused { IfErr result (RefusesKey (key_octets self.now) key.now) };
 
-    /// The payload that was encrypted to these octets, with the fewest zeros to a multiple of `fill_size` behind it.
+    /// The payload that was encrypted to these octets, with the fewest zeros to a multiple of `fill_size` after it.
     ///
-    /// A key of another length is refused, and so are octets that no payload is encrypted to under any confounder; each
+    /// A key of another length is rejected, and so are octets that no payload is encrypted to under any confounder; each
     /// suite says for which of these first, and how.
     fn decrypt(
         &self,
@@ -107,11 +107,13 @@ pub trait Cipher {
         cipher_data: &[u8],
     ) -> KerberosCryptoResult<Vec<u8>>
         ensures key { IfOk result (λ _. length key.now ≡ key_octets self.now) }
-        ensures opened { IfOk result (λ payload. Opens (fill_octets self.now) (IsGiven (meaning self.now key.now key_usage) (confounder_octets self.now) cipher_data.now) payload.items) }
-        ensures refused { length key.now ≡ key_octets self.now → IfErr result (λ e. IsMemoryOr e (IsOfNone (IsGiven (meaning self.now key.now key_usage) (confounder_octets self.now) cipher_data.now))) }
+        ensures opened { IfOk result (λ payload. Opens (fill_octets self.now)
+            (IsGiven (meaning self.now key.now key_usage) (confounder_octets self.now) cipher_data.now) payload.items) }
+        ensures refused { length key.now ≡ key_octets self.now
+            → IfErr result (λ e. IsMemoryOr e (HasNoPayload (meaning self.now key.now key_usage) (confounder_octets self.now) cipher_data.now)) }
         ensures exact { IfErr result (λ e. IsMemoryOr e (unopened self.now key.now key_usage cipher_data.now e)) };
 
-    /// As `encrypt`, without the integrity checksum behind the encrypted octets, which is the caller's to make.
+    /// As `encrypt`, without the integrity checksum after the encrypted octets, which is the caller's to make.
     fn encrypt_no_checksum(
         &self,
         alloc: Global,
@@ -122,15 +124,16 @@ pub trait Cipher {
     ) -> KerberosCryptoResult<EncryptWithoutChecksum>
         requires { length confounder.now ≡ confounder_octets self.now }
         ensures key { IfOk result (λ _. length key.now ≡ key_octets self.now) }
-        ensures encrypted { IfOk result (λ made. IsTheOne (Enciphers (meaning self.now key.now key_usage) (checksum_octets self.now) confounder.now payload.now) made.encrypted.items) }
+        ensures encrypted { IfOk result (λ made. IsTheOne
+            (Enciphers (meaning self.now key.now key_usage) (checksum_octets self.now) confounder.now payload.now) made.encrypted.items) }
         ensures confounder { IfOk result (λ made. made.confounder.items ≡ confounder.now) }
         ensures ki { IfOk result (λ made. made.ki.items ≡ integrity_key self.now key.now key_usage) }
         ensures refused { IfErr result (RefusesKey (key_octets self.now) key.now) };
 
-    /// As `decrypt`, with the integrity checksum handed out and not compared.
+    /// As `decrypt`, with the integrity checksum returned and not compared.
     ///
-    /// A key of another length is refused, and so are octets that no payload is encrypted to, whatever checksum stands
-    /// behind; as in `decrypt`, but for `IntegrityCheck`.
+    /// A key of another length is rejected, and so are octets that no payload is encrypted to, whatever the checksum after
+    /// them; as in `decrypt`, but for `IntegrityCheck`.
     fn decrypt_no_checksum(
         &self,
         alloc: Global,
@@ -139,17 +142,19 @@ pub trait Cipher {
         cipher_data: &[u8],
     ) -> KerberosCryptoResult<DecryptWithoutChecksum>
         ensures key { IfOk result (λ _. length key.now ≡ key_octets self.now) }
-        ensures opened { IfOk result (λ made. (encrypted : List ℕ) × IsSplit (checksum_octets self.now) cipher_data.now encrypted made.checksum.items × Deciphers (fill_octets self.now) (confounder_octets self.now) (Enciphers (meaning self.now key.now key_usage) (checksum_octets self.now)) encrypted made.confounder.items made.plaintext.items) }
+        ensures opened { IfOk result (λ made. OpensUnchecked (fill_octets self.now) (confounder_octets self.now) (checksum_octets self.now)
+            (meaning self.now key.now key_usage) cipher_data.now made.confounder.items made.plaintext.items made.checksum.items) }
         ensures ki { IfOk result (λ made. made.ki.items ≡ integrity_key self.now key.now key_usage) }
-        ensures refused { length key.now ≡ key_octets self.now → IfErr result (λ e. IsMemoryOr e ((encrypted checksum : List ℕ) → IsSplit (checksum_octets self.now) cipher_data.now encrypted checksum → IsOfNone (IsGiven (Enciphers (meaning self.now key.now key_usage) (checksum_octets self.now)) (confounder_octets self.now) encrypted))) }
+        ensures refused { length key.now ≡ key_octets self.now → IfErr result (λ e. IsMemoryOr e
+            (HasNoPayloadUnchecked (confounder_octets self.now) (checksum_octets self.now) (meaning self.now key.now key_usage) cipher_data.now)) }
         ensures exact { IfErr result (λ e. IsMemoryOr e (unopened self.now key.now key_usage cipher_data.now e × (e ≢ KerberosCryptoError.IntegrityCheck))) };
 
-    /// The integrity checksum of just these octets under the key Ki (RFC 3961, 5.3): no confounder stands before them and
-    /// no fill behind. What `encrypt` puts behind the encrypted octets is, in the suites of RFC 3961 and RFC 3962, the one
-    /// of confounder, payload and fill, joined, and in those of RFC 8009 the one of 16 zero octets and the encrypted octets.
-    /// The checksum that stands alone in a message is another, made under the key Kc.
+    /// The integrity checksum of just these octets under the key Ki (RFC 3961, 5.3): they have no confounder and
+    /// no padding. `encrypt` appends, in the suites of RFC 3961 and RFC 3962, the checksum of the concatenated confounder, payload
+    /// and padding, and in those of RFC 8009 the one of 16 zero octets and the encrypted octets. The checksum that stands alone in
+    /// a message is another, made under the key Kc.
     ///
-    /// A key of another length is `KeyLength`; nothing else is refused.
+    /// A key of another length is `KeyLength`; `OutOfMemory` is the only other error.
     fn encryption_checksum(
         &self,
         alloc: Global,
@@ -161,7 +166,7 @@ pub trait Cipher {
         ensures checksum { IfOk result (λ checksum. checksum.items ≡ integrity_checksum self.now key.now key_usage payload.now) }
         ensures refused { IfErr result (RefusesKey (key_octets self.now) key.now) };
 
-    /// The key that a password and a salt give (string-to-key). A password and a salt that give none are refused.
+    /// The key that a password and a salt give (string-to-key). A password and a salt that give none are rejected.
     fn generate_key_from_password(
         &self,
         alloc: Global,

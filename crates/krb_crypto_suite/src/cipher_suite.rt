@@ -30,7 +30,8 @@ impl CipherSuite {
     /// The suite whose number is the identifier's one octet; else `AlgorithmIdentifierData` of the identifier, whose
     /// octets are copied.
     pub fn from_octets(alloc: Global, identifier: &[u8]) -> KerberosCryptoResult<CipherSuite>
-        ensures { MatchResult result (λ suite. identifier.now ≡ etype suite ∷ []) (λ e. NoSuite (λ suite. etype suite ∷ []) identifier.now × IsMemoryOr e (IsIdentifierData identifier.now e)) }
+        ensures { MatchResult result (λ suite. identifier.now ≡ etype suite ∷ [])
+            (λ e. NoSuite (λ suite. etype suite ∷ []) identifier.now × IsMemoryOr e (IsIdentifierData identifier.now e)) }
     {
         if let [octet] = identifier {
             if let Ok(suite) = CipherSuite::try_from(*octet as usize) {

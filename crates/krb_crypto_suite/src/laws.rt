@@ -1,4 +1,4 @@
-//! Laws over what the suites say of themselves, of functions that do nothing: it is what the standards say.
+//! Lemmas: each suite is what its standard says.
 
 ghost use Rattle.std.specs.Prelude.{◌≡◌, ◌↔◌, ℕ, Result, true};
 ghost use Rattle.std.specs.Borrow.{Bor};
@@ -64,17 +64,18 @@ pub fn hmac_sha384_192_aes256()
     ensures named { IsAesSha2Checksum ⟦<ChecksumSuite as Checksum>⟧ ChecksumSuite.HmacSha384192Aes256 AesSize.Aes256 32 20 }
 {}
 
-/// An encryption suite is turned into its number, and made of it; a number of no suite is refused (RFC 3961, 8; RFC 3962, 7;
+/// An encryption suite is turned into its number, and made of it; a number of no suite is rejected (RFC 3961, 8; RFC 3962, 7;
 /// RFC 8009, 7).
 pub fn cipher_suite_numbers()
     ensures into_usize { (suite : CipherSuite) (n : ℕ) → ⟦<usize as From<CipherSuite>>⟧.from_gives suite n ↔ n ≡ etype suite }
     ensures into_u8 { (suite : CipherSuite) (n : ℕ) → ⟦<u8 as From<CipherSuite>>⟧.from_gives suite n ↔ n ≡ etype suite }
     ensures ref_into_u32 { (suite : Bor CipherSuite) (n : ℕ) → ⟦<u32 as From<&'static CipherSuite>>⟧.from_gives suite n ↔ n ≡ etype suite.now }
     ensures ref_into_u8 { (suite : Bor CipherSuite) (n : ℕ) → ⟦<u8 as From<&'static CipherSuite>>⟧.from_gives suite n ↔ n ≡ etype suite.now }
-    ensures from_usize { (n : ℕ) (answer : Result CipherSuite KerberosCryptoError) → ⟦<CipherSuite as TryFrom<usize>>⟧.try_from_gives n answer ↔ IsNumbered etype n answer }
+    ensures from_usize { (n : ℕ) (answer : Result CipherSuite KerberosCryptoError)
+        → ⟦<CipherSuite as TryFrom<usize>>⟧.try_from_gives n answer ↔ IsNumbered etype n answer }
 {}
 
-/// A checksum suite is turned into its number, and made of it; a number of no suite is refused (RFC 3961, 8; RFC 3962, 7;
+/// A checksum suite is turned into its number, and made of it; a number of no suite is rejected (RFC 3961, 8; RFC 3962, 7;
 /// RFC 8009, 7).
 pub fn checksum_suite_numbers()
     ensures into_usize { (suite : ChecksumSuite) (n : ℕ) → ⟦<usize as From<ChecksumSuite>>⟧.from_gives suite n ↔ n ≡ checksum_type suite }
@@ -82,7 +83,8 @@ pub fn checksum_suite_numbers()
     ensures into_u8 { (suite : ChecksumSuite) (n : ℕ) → ⟦<u8 as From<ChecksumSuite>>⟧.from_gives suite n ↔ n ≡ checksum_type suite }
     ensures ref_into_u32 { (suite : Bor ChecksumSuite) (n : ℕ) → ⟦<u32 as From<&'static ChecksumSuite>>⟧.from_gives suite n ↔ n ≡ checksum_type suite.now }
     ensures ref_into_u8 { (suite : Bor ChecksumSuite) (n : ℕ) → ⟦<u8 as From<&'static ChecksumSuite>>⟧.from_gives suite n ↔ n ≡ checksum_type suite.now }
-    ensures from_usize { (n : ℕ) (answer : Result ChecksumSuite KerberosCryptoError) → ⟦<ChecksumSuite as TryFrom<usize>>⟧.try_from_gives n answer ↔ IsNumbered checksum_type n answer }
+    ensures from_usize { (n : ℕ) (answer : Result ChecksumSuite KerberosCryptoError)
+        → ⟦<ChecksumSuite as TryFrom<usize>>⟧.try_from_gives n answer ↔ IsNumbered checksum_type n answer }
 {}
 
 /// Suites are equal where they are the same, and a clone is the same suite.

@@ -1,5 +1,5 @@
-//! The suites of Kerberos (RFC 3961, RFC 3962, RFC 8009): what a cipher and a checksum are, whoever implements them, and the
-//! suites by their numbers. A suite that is a type of its own stands in a crate above.
+//! The suites of Kerberos (RFC 3961, RFC 3962, RFC 8009): the traits of ciphers and of checksums, and the suites by their numbers.
+//! The crate of the suites as types is above.
 #![tactic(auto)]
 
 mod checksum;

@@ -13,11 +13,13 @@ use krb_crypto_block::{
 use krb_crypto_message::{DecryptWithoutChecksum, EncryptWithoutChecksum, aes, aes_sha2, des};
 use std::alloc::Global;
 
-/// The octets to a multiple of which a payload is filled under AES: ciphertext stealing fills none.
+/// The octets to a multiple of which a payload is padded under AES: ciphertext stealing pads none.
 const AES_FILL_SIZE: usize = 1;
 
 impl Cipher for CipherSuite {
-    ghost use Rattle.krb_crypto_suite.specs.BySuite.{IsSealed, key_octets_of, confounder_octets_of, fill_octets_of, checksum_octets_of, integrity_key_of, integrity_checksum_of, seed_bits_of, key_of_seed_of, IsPasswordKey, refusal_of, IsNoPassword, checksum_suite_of};
+    ghost use Rattle.krb_crypto_suite.specs.BySuite.{IsSealed, key_octets_of, confounder_octets_of, fill_octets_of, checksum_octets_of};
+    ghost use Rattle.krb_crypto_suite.specs.BySuite.{integrity_key_of, integrity_checksum_of, seed_bits_of, key_of_seed_of};
+    ghost use Rattle.krb_crypto_suite.specs.BySuite.{IsPasswordKey, refusal_of, IsNoPassword, checksum_suite_of};
 
     ghost meaning = { IsSealed };
 

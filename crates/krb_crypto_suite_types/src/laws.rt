@@ -1,5 +1,4 @@
-//! Laws over what the suites say of themselves, of functions that do nothing: it is what the standards say, and so the same as
-//! what the suites of their numbers say.
+//! Lemmas: each type is what the standard says of its suite, and so the same as the suite of its number.
 
 ghost use Rattle.krb_crypto_suite.specs.Standards.{IsAesSuite, IsDes3Suite, IsAesSha2Suite, IsAesChecksum, IsDes3Checksum, IsAesSha2Checksum};
 

@@ -19,7 +19,7 @@ const ROUND_CONSTANTS: [u32; 10] = [
     0x1b000000, 0x36000000,
 ];
 
-/// The words of the round keys of a key of `NK` words, and zeros behind them.
+/// The words of the round keys of a key of `NK` words, and zeros after them.
 pub(super) fn expand<const NK: usize>(key: &[u8]) -> [u32; ROUND_KEY_WORDS]
     requires size { IsKeySize NK }
     requires whole { length key.now ≡ 4 * NK }
@@ -73,7 +73,7 @@ fn unmixed(word: u32) -> u32
     unmixed_column(sub_byte(a), sub_byte(b), sub_byte(c), sub_byte(d))
 }
 
-/// The octets of a key, and zeros behind them.
+/// The octets of a key, and zeros after them.
 pub(super) fn kept_octets(key: &[u8]) -> [u8; 32]
     requires { length key.now ≤ 32 }
     ensures front { take (length key.now) result ≡ key.now }

@@ -35,7 +35,8 @@ pub(super) fn nine_rounds(keys: &[u32; ROUND_KEY_WORDS], block: [u8; 16]) -> [u3
 /// Round `n` and the three after it.
 pub(super) fn four_rounds(keys: &[u32; ROUND_KEY_WORDS], n: usize, s: [u32; 4]) -> [u32; 4]
     requires { n ≤ 11 }
-    ensures { (w st : List ℕ) → IsOctets w → ((i : ℕ) → i ≤ 3 → HasRoundKey w keys.now (n + i)) → Holds s st → Holds result (round w (n + 3) (round w (n + 2) (round w (n + 1) (round w n st)))) }
+    ensures { (w st : List ℕ) → IsOctets w → ((i : ℕ) → i ≤ 3 → HasRoundKey w keys.now (n + i)) → Holds s st
+        → Holds result (round w (n + 3) (round w (n + 2) (round w (n + 1) (round w n st)))) }
 {
     round(
         keys,
@@ -102,7 +103,9 @@ pub(super) fn nine_inverse_rounds(keys: &[u32; ROUND_KEY_WORDS], s: [u32; 4]) ->
 /// Round `n` of the inverse cipher, and the three that come after it, down to `n - 3`.
 pub(super) fn four_inverse_rounds(keys: &[u32; ROUND_KEY_WORDS], n: usize, s: [u32; 4]) -> [u32; 4]
     requires { (3 ≤ n) × (n ≤ 14) }
-    ensures { (w st : List ℕ) → IsOctets w → ((i : ℕ) → i ≤ 3 → HasUnmixedKey w keys.now (n - i)) → Holds s st → Holds result (inverse_cipher_round w (n - 3) (inverse_cipher_round w (n - 2) (inverse_cipher_round w (n - 1) (inverse_cipher_round w n st)))) }
+    ensures { (w st : List ℕ) → IsOctets w → ((i : ℕ) → i ≤ 3 → HasUnmixedKey w keys.now (n - i)) → Holds s st
+        → Holds result (inverse_cipher_round w (n - 3) (inverse_cipher_round w (n - 2)
+        (inverse_cipher_round w (n - 1) (inverse_cipher_round w n st)))) }
 {
     inverse_round(
         keys,

@@ -5,7 +5,7 @@ ghost use Rattle.krb_crypto_block.specs.Des.{bits, round_value, rounds, key_bits
 
 use super::tables::JOINED;
 
-/// What the rounds with these round keys make of the two halves of a block: the right half, and behind it the left half.
+/// What the rounds with these round keys make of the two halves of a block: the right half, and after it the left half.
 pub(super) fn rounds(keys: &[u64; 16], block: u64) -> u64
     ensures { bits 64 result ≡ rounds (map key_bits keys.now) (take 32 (bits 64 block)) (drop 32 (bits 64 block)) }
 {
@@ -19,7 +19,7 @@ pub(super) fn rounds(keys: &[u64; 16], block: u64) -> u64
     right as u64 * (1 << 32) + left as u64
 }
 
-/// The same with the round keys from the last to the first, which deciphers.
+/// The same with the round keys from the last to the first, which decrypts.
 pub(super) fn rounds_back(keys: &[u64; 16], block: u64) -> u64
     ensures { bits 64 result ≡ rounds (reverse (map key_bits keys.now)) (take 32 (bits 64 block)) (drop 32 (bits 64 block)) }
 {

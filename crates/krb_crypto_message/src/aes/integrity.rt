@@ -12,7 +12,7 @@ use std::alloc::Global;
 
 /// The checksum that is sealed in with a payload: its HMAC under Ki, cut to 12 octets.
 ///
-/// `KeyLength` where the key has not the size's length; nothing else is refused.
+/// `KeyLength` where the key has not the size's length; an allocation failure is the only other error.
 pub fn integrity_checksum(
     alloc: Global,
     key: &[u8],
@@ -31,7 +31,7 @@ pub fn integrity_checksum(
 
 /// The checksum of a message that stands alone (RFC 3961, 5.4): its HMAC under Kc, cut to 12 octets.
 ///
-/// `KeyLength` where the key has not the size's length; nothing else is refused.
+/// `KeyLength` where the key has not the size's length; an allocation failure is the only other error.
 pub fn checksum_sha_aes(
     alloc: Global,
     key: &[u8],

@@ -17,7 +17,7 @@ use std::alloc::Global;
 const PBKDF2_ROUNDS: u32 = 4096;
 
 /// The key that a key and a well-known constant give (DK of RFC 3961, 5.1): the n-folded constant is encrypted again and
-/// again, and the blocks, joined, are the key, whose length in octets is the old one's.
+/// again, and the blocks, concatenated, are the key, whose length in octets is the old one's.
 ///
 /// The constant is not empty. `KeyLength` where the key has not the size's length.
 pub fn derive_key(
@@ -37,7 +37,7 @@ pub fn derive_key(
     Ok(Vec::from_slice(alloc, derived.as_slice())?)
 }
 
-/// The key that `derive_key` gives, from a key that is ready for use. No memory is taken.
+/// The key that `derive_key` gives, from a key that is ready for use. It allocates nothing.
 pub(crate) fn derived_key(cipher: &AesKey, well_known: &[u8], size: &AesSize) -> ShortOctets
     requires some { 0 < length well_known.now }
     requires size { length cipher.now ≡ key_octets size.now }
@@ -56,7 +56,7 @@ pub(crate) fn derived_key(cipher: &AesKey, well_known: &[u8], size: &AesSize) ->
 }
 
 /// The key that a password and a salt give (string-to-key of RFC 3962, 4): PBKDF2 with HMAC-SHA1 and 4096 rounds, and
-/// the key that is derived from it with the constant "kerberos". `OutOfMemory` is the only refusal.
+/// the key that is derived from it with the constant "kerberos". `OutOfMemory` is the only error.
 pub fn derive_key_from_password(
     alloc: Global,
     password: &[u8],

@@ -1,11 +1,11 @@
 //! Messages under AES (RFC 3961, 5.3; RFC 3962, 6), stated once over the size of the key.
 
-ghost use Rattle.std.specs.Prelude.{◌≡◌, ◌≢◌, ℕ, List, length, IfOk, IfErr};
+ghost use Rattle.std.specs.Prelude.{◌≡◌, ◌≢◌, length, IfOk, IfErr};
 ghost use Rattle.krb_crypto_hash.specs.CryptoError.{IsMemoryOr, RefusesKey};
 ghost use Rattle.krb_crypto_block.specs.Size.{key_octets};
 ghost use Rattle.krb_crypto_message.specs.MessageSteps.{IsDeciphered};
 ghost use Rattle.krb_crypto_message.specs.Sealed.{IsSealedAes, AesCts, aes_ki, aes_refusal};
-ghost use Rattle.krb_crypto_message.specs.Sealing.{IsTheOne, IsOfNone, IsGiven, Opens, Enciphers, IsSplit, Deciphers};
+ghost use Rattle.krb_crypto_message.specs.Sealing.{IsTheOne, IsGiven, Opens, HasNoPayload, Enciphers, OpensUnchecked, HasNoPayloadUnchecked};
 
 use super::message_keys::MessageKeys;
 use crate::checksum::{Deciphered, joined, without_checksum};
@@ -20,9 +20,9 @@ use std::alloc::Global;
 /// The octets of a message with an empty payload: the confounder and the checksum.
 const SHORTEST: usize = AES_BLOCK_SIZE + AES_MAC_SIZE;
 
-/// The payload, encrypted with the confounder in front of it under Ke, and the HMAC of both under Ki, cut to 12 octets.
+/// The payload, encrypted with the confounder before it under Ke, and the HMAC of both under Ki, cut to 12 octets.
 ///
-/// `KeyLength` where the key has not the size's length; nothing else is refused.
+/// `KeyLength` where the key has not the size's length; an allocation failure is the only other error.
 pub fn encrypt_message(
     alloc: Global,
     key: &[u8],
@@ -46,7 +46,7 @@ pub fn encrypt_message(
 /// The payload that was encrypted to these octets.
 ///
 /// `CipherLength` of their number and 28 where they are fewer, then `KeyLength` where the key has not the size's length,
-/// then `IntegrityCheck` where the checksum is another; nothing is handed out before it is compared.
+/// then `IntegrityCheck` where the checksum is another; nothing is returned before it is compared.
 pub fn decrypt_message(
     alloc: Global,
     key: &[u8],
@@ -56,7 +56,7 @@ pub fn decrypt_message(
 ) -> KerberosCryptoResult<Vec<u8>>
     ensures key { IfOk result (λ _. length key.now ≡ key_octets size.now) }
     ensures opened { IfOk result (λ payload. Opens 1 (IsGiven (IsSealedAes key.now key_usage) 16 cipher_data.now) payload.items) }
-    ensures refused { length key.now ≡ key_octets size.now → IfErr result (λ e. IsMemoryOr e (IsOfNone (IsGiven (IsSealedAes key.now key_usage) 16 cipher_data.now))) }
+    ensures refused { length key.now ≡ key_octets size.now → IfErr result (λ e. IsMemoryOr e (HasNoPayload (IsSealedAes key.now key_usage) 16 cipher_data.now)) }
     ensures exact { IfErr result (λ e. IsMemoryOr e (e ≡ aes_refusal (key_octets size.now) key.now cipher_data.now)) }
 {
     let deciphered = decipher(alloc, key, key_usage, cipher_data, size)?;
@@ -94,10 +94,12 @@ pub fn decrypt_message_no_checksum(
     size: &AesSize,
 ) -> KerberosCryptoResult<DecryptWithoutChecksum>
     ensures key { IfOk result (λ _. length key.now ≡ key_octets size.now) }
-    ensures opened { IfOk result (λ made. (encrypted : List ℕ) × IsSplit 12 cipher_data.now encrypted made.checksum.items × Deciphers 1 16 (Enciphers (IsSealedAes key.now key_usage) 12) encrypted made.confounder.items made.plaintext.items) }
+    ensures opened { IfOk result (λ made. OpensUnchecked 1 16 12 (IsSealedAes key.now key_usage) cipher_data.now
+        made.confounder.items made.plaintext.items made.checksum.items) }
     ensures ki { IfOk result (λ made. made.ki.items ≡ aes_ki key.now key_usage) }
-    ensures refused { length key.now ≡ key_octets size.now → IfErr result (λ e. IsMemoryOr e ((encrypted checksum : List ℕ) → IsSplit 12 cipher_data.now encrypted checksum → IsOfNone (IsGiven (Enciphers (IsSealedAes key.now key_usage) 12) 16 encrypted))) }
-    ensures exact { IfErr result (λ e. IsMemoryOr e ((e ≡ aes_refusal (key_octets size.now) key.now cipher_data.now) × (e ≢ KerberosCryptoError.IntegrityCheck))) }
+    ensures refused { length key.now ≡ key_octets size.now → IfErr result (λ e. IsMemoryOr e (HasNoPayloadUnchecked 16 12 (IsSealedAes key.now key_usage) cipher_data.now)) }
+    ensures exact { IfErr result (λ e. IsMemoryOr e ((e ≡ aes_refusal (key_octets size.now) key.now cipher_data.now)
+        × (e ≢ KerberosCryptoError.IntegrityCheck))) }
 {
     let deciphered = decipher(alloc, key, key_usage, cipher_data, size)?;
     deciphered.unchecked(alloc, cipher_data, AES_BLOCK_SIZE, AES_MAC_SIZE)
@@ -113,7 +115,8 @@ fn decipher(
 ) -> KerberosCryptoResult<Deciphered>
     ensures key { IfOk result (λ _. length key.now ≡ key_octets size.now) }
     ensures deciphered { IfOk result (λ r. IsDeciphered 1 16 12 (AesCts key.now key_usage) (aes_ki key.now key_usage) cipher_data.now r.filled.items r.ki) }
-    ensures exact { IfErr result (λ e. IsMemoryOr e ((e ≡ aes_refusal (key_octets size.now) key.now cipher_data.now) × (e ≢ KerberosCryptoError.IntegrityCheck))) }
+    ensures exact { IfErr result (λ e. IsMemoryOr e ((e ≡ aes_refusal (key_octets size.now) key.now cipher_data.now)
+        × (e ≢ KerberosCryptoError.IntegrityCheck))) }
 {
     if cipher_data.len() < SHORTEST {
         return Err(KerberosCryptoError::CipherLength(cipher_data.len(), SHORTEST));

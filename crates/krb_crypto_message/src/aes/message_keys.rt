@@ -18,7 +18,7 @@ pub(crate) struct MessageKeys {
 }
 
 impl MessageKeys {
-    /// Both keys of this usage, from one expansion of the base key. No memory is taken.
+    /// Both keys of this usage, from one expansion of the base key. It allocates nothing.
     pub(crate) fn new(
         key: &[u8],
         key_usage: i32,

@@ -12,9 +12,9 @@ use krb_crypto_block::{AesSize, KerberosCryptoResult};
 use std::alloc::Global;
 
 /// The HMAC of just these octets under Ki, cut to 16 or 24 octets. What is sealed in with a payload is the one of 16 zero
-/// octets and the enciphered octets.
+/// octets and the encrypted octets.
 ///
-/// `KeyLength` where the key has not the size's length; nothing else is refused.
+/// `KeyLength` where the key has not the size's length; an allocation failure is the only other error.
 pub fn integrity_checksum(
     alloc: Global,
     key: &[u8],
@@ -34,7 +34,7 @@ pub fn integrity_checksum(
 
 /// The checksum of a message that stands alone (RFC 8009, 6): its HMAC under Kc, cut to 16 or 24 octets.
 ///
-/// `KeyLength` where the key has not the size's length; nothing else is refused.
+/// `KeyLength` where the key has not the size's length; an allocation failure is the only other error.
 pub fn keyed_checksum(
     alloc: Global,
     key: &[u8],

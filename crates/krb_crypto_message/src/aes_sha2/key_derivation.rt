@@ -1,8 +1,9 @@
 //! Keys of the suites of RFC 8009 from keys and from passwords (RFC 8009, 3 and 4).
 
-ghost use Rattle.std.specs.Prelude.{◌≡◌, ◌≢◌, ◌≤◌, length, IfOk, IfErr, MatchResult};
+ghost use Rattle.std.specs.Prelude.{◌≡◌, ◌≤◌, length, IfOk, IfErr, MatchResult};
+ghost use Rattle.krb_crypto_hash.specs.CryptoError.{IsKeyLengthError};
 ghost use Rattle.krb_crypto_hash.specs.Pbkdf2.{IsPbkdf2Over};
-ghost use Rattle.krb_crypto_hash.specs.declared.error.KerberosCryptoError.TheVariants.{OutOfMemory, KeyLength};
+ghost use Rattle.krb_crypto_hash.specs.declared.error.KerberosCryptoError.TheVariants.{OutOfMemory};
 ghost use Rattle.krb_crypto_block.specs.Size.{key_octets};
 ghost use Rattle.krb_crypto_message.specs.AesSha2.{sha2_kdf, sha2_hmac, sha2_hmac_octets, sha2_salt, IsSha2PasswordKey};
 ghost use Rattle.krb_crypto_message.specs.Sealing.{IsTheOne};
@@ -22,9 +23,9 @@ const AES128_NAME: &[u8; 26] = b"aes128-cts-hmac-sha256-128";
 
 const AES256_NAME: &[u8; 26] = b"aes256-cts-hmac-sha384-192";
 
-/// Refuses a key of another length than the size's.
+/// `KeyLength` where the key has not the size's length.
 pub(crate) fn test_key(key: &[u8], size: &AesSize) -> KerberosCryptoResult<()>
-    ensures { MatchResult result (λ _. length key.now ≡ key_octets size.now) (λ e. (length key.now ≢ key_octets size.now) × (e ≡ KeyLength (length key.now) (key_octets size.now))) }
+    ensures { MatchResult result (λ _. length key.now ≡ key_octets size.now) (IsKeyLengthError (key_octets size.now) key.now) }
 {
     let wanted = size.key_length();
     if key.len() != wanted {
@@ -33,7 +34,7 @@ pub(crate) fn test_key(key: &[u8], size: &AesSize) -> KerberosCryptoResult<()>
     Ok(())
 }
 
-/// The key of so many octets that a key gives for a label (KDF-HMAC-SHA2 of RFC 8009, 3). No memory is taken.
+/// The key of so many octets that a key gives for a label (KDF-HMAC-SHA2 of RFC 8009, 3). It allocates nothing.
 pub(crate) fn derived_key(key: &[u8], label: &[u8], octets: usize, size: &AesSize) -> ShortOctets
     requires { octets ≤ 32 }
     ensures derived { result ≡ sha2_kdf size.now key.now label.now octets }
@@ -50,7 +51,7 @@ pub(crate) fn derived_key(key: &[u8], label: &[u8], octets: usize, size: &AesSiz
 
 /// The key that a password and a salt give (string-to-key of RFC 8009, 4): PBKDF2 with the suite's HMAC, 32768 rounds and the
 /// suite's name before the salt, and the key that is derived from it with the label "kerberos". `OutOfMemory` is the only
-/// refusal.
+/// error.
 pub fn derive_key_from_password(
     alloc: Global,
     password: &[u8],

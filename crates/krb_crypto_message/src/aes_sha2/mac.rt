@@ -23,7 +23,7 @@ pub fn checksum_size(size: &AesSize) -> usize
     }
 }
 
-/// The HMAC of two parts, one behind the other, cut to a checksum. No memory is taken.
+/// The HMAC of two parts, concatenated, cut to a checksum. It allocates nothing.
 pub(crate) fn mac(key: &[u8], first: &[u8], second: &[u8], size: &AesSize) -> ShortOctets
     ensures mac { result ≡ sha2_mac size.now key.now (first.now ++ second.now) }
     ensures size { length result ≡ sha2_checksum_octets size.now }

@@ -1,11 +1,10 @@
 //! Messages under the suites of RFC 8009, 5, stated once over the size of the key.
 
-ghost use Rattle.std.specs.Prelude.{◌≡◌, ◌≢◌, ◌+◌, ◌-◌, ◌≤◌, ℕ, List, length, take, IfOk, IfErr};
+ghost use Rattle.std.specs.Prelude.{◌≡◌, ◌≢◌, ◌+◌, ◌≤◌, length, IfOk, IfErr};
 ghost use Rattle.krb_crypto_hash.specs.CryptoError.{IsMemoryOr, RefusesKey};
 ghost use Rattle.krb_crypto_block.specs.Size.{key_octets};
-ghost use Rattle.krb_crypto_message.specs.AesSha2.{IsSealedSha2, sha2_ke, sha2_ki, sha2_seal_mac, sha2_checksum_octets, sha2_refusal};
-ghost use Rattle.krb_crypto_message.specs.MessageSteps.{end_of};
-ghost use Rattle.krb_crypto_message.specs.Sealing.{IsTheOne, IsOfNone, IsGiven, Opens, Enciphers, IsSplit, Deciphers};
+ghost use Rattle.krb_crypto_message.specs.AesSha2.{IsSealedSha2, EndsInSealMac, sha2_ke, sha2_ki, sha2_checksum_octets, sha2_refusal};
+ghost use Rattle.krb_crypto_message.specs.Sealing.{IsTheOne, IsGiven, Opens, HasNoPayload, Enciphers, OpensUnchecked, HasNoPayloadUnchecked};
 
 use super::mac::{checksum_size, mac};
 use super::message_keys::message_keys;
@@ -16,13 +15,13 @@ use crate::without_checksum::{DecryptWithoutChecksum, EncryptWithoutChecksum};
 use krb_crypto_block::{AES_BLOCK_SIZE, AesSize, KerberosCryptoError, KerberosCryptoResult};
 use std::alloc::Global;
 
-/// The cipher state that stands before the enciphered octets in the HMAC, and is the initial vector (RFC 8009, 5).
+/// The cipher state that stands before the encrypted octets in the HMAC, and is the initial vector (RFC 8009, 5).
 const CIPHER_STATE: [u8; AES_BLOCK_SIZE] = [0; AES_BLOCK_SIZE];
 
-/// The payload, encrypted with the confounder in front of it under Ke, and the HMAC of 16 zero octets and the encrypted octets
+/// The payload, encrypted with the confounder before it under Ke, and the HMAC of 16 zero octets and the encrypted octets
 /// under Ki, cut to 16 or 24 octets.
 ///
-/// `KeyLength` where the key has not the size's length; nothing else is refused.
+/// `KeyLength` where the key has not the size's length; an allocation failure is the only other error.
 pub fn encrypt_message(
     alloc: Global,
     key: &[u8],
@@ -55,7 +54,7 @@ pub fn decrypt_message(
 ) -> KerberosCryptoResult<Vec<u8>>
     ensures key { IfOk result (λ _. length key.now ≡ key_octets size.now) }
     ensures opened { IfOk result (λ payload. Opens 1 (IsGiven (IsSealedSha2 size.now key.now key_usage) 16 cipher_data.now) payload.items) }
-    ensures refused { length key.now ≡ key_octets size.now → IfErr result (λ e. IsMemoryOr e (IsOfNone (IsGiven (IsSealedSha2 size.now key.now key_usage) 16 cipher_data.now))) }
+    ensures refused { length key.now ≡ key_octets size.now → IfErr result (λ e. IsMemoryOr e (HasNoPayload (IsSealedSha2 size.now key.now key_usage) 16 cipher_data.now)) }
     ensures exact { IfErr result (λ e. IsMemoryOr e (e ≡ sha2_refusal size.now key.now cipher_data.now)) }
 {
     let keys = opening_keys(key, key_usage, cipher_data, size)?;
@@ -74,7 +73,8 @@ pub fn encrypt_message_no_checksum(
     confounder: [u8; AES_BLOCK_SIZE],
 ) -> KerberosCryptoResult<EncryptWithoutChecksum>
     ensures key { IfOk result (λ _. length key.now ≡ key_octets size.now) }
-    ensures encrypted { IfOk result (λ made. IsTheOne (Enciphers (IsSealedSha2 size.now key.now key_usage) (sha2_checksum_octets size.now) confounder payload.now) made.encrypted.items) }
+    ensures encrypted { IfOk result (λ made. IsTheOne
+        (Enciphers (IsSealedSha2 size.now key.now key_usage) (sha2_checksum_octets size.now) confounder payload.now) made.encrypted.items) }
     ensures confounder { IfOk result (λ made. made.confounder.items ≡ confounder) }
     ensures ki { IfOk result (λ made. made.ki.items ≡ sha2_ki size.now key.now key_usage) }
     ensures refused { IfErr result (RefusesKey (key_octets size.now) key.now) }
@@ -95,9 +95,11 @@ pub fn decrypt_message_no_checksum(
     size: &AesSize,
 ) -> KerberosCryptoResult<DecryptWithoutChecksum>
     ensures key { IfOk result (λ _. length key.now ≡ key_octets size.now) }
-    ensures opened { IfOk result (λ made. (encrypted : List ℕ) × IsSplit (sha2_checksum_octets size.now) cipher_data.now encrypted made.checksum.items × Deciphers 1 16 (Enciphers (IsSealedSha2 size.now key.now key_usage) (sha2_checksum_octets size.now)) encrypted made.confounder.items made.plaintext.items) }
+    ensures opened { IfOk result (λ made. OpensUnchecked 1 16 (sha2_checksum_octets size.now) (IsSealedSha2 size.now key.now key_usage) cipher_data.now
+        made.confounder.items made.plaintext.items made.checksum.items) }
     ensures ki { IfOk result (λ made. made.ki.items ≡ sha2_ki size.now key.now key_usage) }
-    ensures refused { length key.now ≡ key_octets size.now → IfErr result (λ e. IsMemoryOr e ((encrypted checksum : List ℕ) → IsSplit (sha2_checksum_octets size.now) cipher_data.now encrypted checksum → IsOfNone (IsGiven (Enciphers (IsSealedSha2 size.now key.now key_usage) (sha2_checksum_octets size.now)) 16 encrypted))) }
+    ensures refused { length key.now ≡ key_octets size.now → IfErr result (λ e. IsMemoryOr e
+        (HasNoPayloadUnchecked 16 (sha2_checksum_octets size.now) (IsSealedSha2 size.now key.now key_usage) cipher_data.now)) }
     ensures exact { IfErr result (λ e. IsMemoryOr e ((e ≡ sha2_refusal size.now key.now cipher_data.now) × (e ≢ KerberosCryptoError.IntegrityCheck))) }
 {
     let keys = opening_keys(key, key_usage, cipher_data, size)?;
@@ -129,8 +131,8 @@ fn opening_keys(
 /// Whether the octets end in the checksum of those before it. Else `IntegrityCheck`.
 fn compare(ki: &[u8], cipher_data: &[u8], size: &AesSize) -> KerberosCryptoResult<()>
     requires long { sha2_checksum_octets size.now ≤ length cipher_data.now }
-    ensures alike { IfOk result (λ _. end_of (sha2_checksum_octets size.now) cipher_data.now ≡ sha2_seal_mac size.now ki.now (take (length cipher_data.now - sha2_checksum_octets size.now) cipher_data.now)) }
-    ensures refused { IfErr result (λ e. (end_of (sha2_checksum_octets size.now) cipher_data.now ≢ sha2_seal_mac size.now ki.now (take (length cipher_data.now - sha2_checksum_octets size.now) cipher_data.now)) × (e ≡ KerberosCryptoError.IntegrityCheck)) }
+    ensures alike { IfOk result (λ _. EndsInSealMac size.now ki.now cipher_data.now) }
+    ensures refused { IfErr result (λ e. (¬ EndsInSealMac size.now ki.now cipher_data.now) × (e ≡ KerberosCryptoError.IntegrityCheck)) }
 {
     let (encrypted, checksum) = cipher_data.split_at(cipher_data.len() - checksum_size(size));
     let mac = mac(ki, &CIPHER_STATE, encrypted, size);

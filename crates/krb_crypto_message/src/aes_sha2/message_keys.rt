@@ -11,7 +11,7 @@ use crate::aes::message_keys::MessageKeys;
 use crate::well_known::{usage_ke, usage_ki};
 use krb_crypto_block::{AesKey, AesSize, KerberosCryptoResult};
 
-/// Ke, of the key's length, and Ki, of a checksum's, of this usage (RFC 8009, 5). No memory is taken.
+/// Ke, of the key's length, and Ki, of a checksum's, of this usage (RFC 8009, 5). It allocates nothing.
 pub(crate) fn message_keys(
     key: &[u8],
     key_usage: i32,

@@ -10,9 +10,9 @@ use crate::well_known::{usage_kc, usage_ki};
 use krb_crypto_block::{DES3_MAC_SIZE, DesKey, KerberosCryptoResult, hmac_sha1};
 use std::alloc::Global;
 
-/// The checksum that is sealed in with a payload: its HMAC under Ki, of 20 octets. The payload is not filled.
+/// The checksum that is sealed in with a payload: its HMAC under Ki, of 20 octets. The payload is not padded.
 ///
-/// `KeyLength` where the key has not 24 octets; nothing else is refused.
+/// `KeyLength` where the key has not 24 octets; an allocation failure is the only other error.
 pub fn integrity_checksum(
     alloc: Global,
     key: &[u8],
@@ -30,7 +30,7 @@ pub fn integrity_checksum(
 
 /// The checksum of a message that stands alone (RFC 3961, 5.4): its HMAC under Kc, of 20 octets.
 ///
-/// `KeyLength` where the key has not 24 octets; nothing else is refused.
+/// `KeyLength` where the key has not 24 octets; an allocation failure is the only other error.
 pub fn keyed_checksum(
     alloc: Global,
     key: &[u8],

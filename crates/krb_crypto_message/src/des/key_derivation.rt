@@ -34,7 +34,7 @@ pub fn derive_key(alloc: Global, key: &[u8], well_known: &[u8]) -> KerberosCrypt
     Ok(Vec::from_slice(alloc, &derived)?)
 }
 
-/// The key that `derive_key` gives, from a key that is ready for use. No memory is taken.
+/// The key that `derive_key` gives, from a key that is ready for use. It allocates nothing.
 pub(crate) fn derived_key(cipher: &DesKey, well_known: &[u8]) -> [u8; DES3_KEY_SIZE]
     requires { 0 < length well_known.now }
     ensures { result ≡ des3_dk cipher.now well_known.now }
@@ -48,10 +48,10 @@ pub(crate) fn derived_key(cipher: &DesKey, well_known: &[u8]) -> [u8; DES3_KEY_S
     key_of_seed(&blocks[..DES3_SEED_LEN])
 }
 
-/// The key that a password and a salt give (string-to-key of RFC 3961, 6.3.1): both, joined, n-folded to a seed, and the
+/// The key that a password and a salt give (string-to-key of RFC 3961, 6.3.1): both, concatenated, n-folded to a seed, and the
 /// key that is derived from the seed's key with the constant "kerberos".
 ///
-/// `KeyLength` of 0 and 1 where both are empty; nothing else is refused.
+/// `KeyLength` of 0 and 1 where both are empty; an allocation failure is the only other error.
 pub fn derive_key_from_password(
     alloc: Global,
     password: &[u8],
@@ -73,7 +73,7 @@ pub fn derive_key_from_password(
 }
 
 /// The key of 24 octets that a seed gives (random-to-key of RFC 3961, 6.3.1). The seed has at least 21 octets, of which
-/// the first 21 are taken. `OutOfMemory` is the only refusal.
+/// the first 21 are taken. `OutOfMemory` is the only error.
 pub fn random_to_key(alloc: Global, seed: &[u8]) -> KerberosCryptoResult<Vec<u8>>
     requires { 21 ≤ length seed.now }
     ensures made { IfOk result (λ key. key.items ≡ random_to_key seed.now) }

@@ -8,7 +8,7 @@ use super::parts::joined;
 /// What is added by exclusive or to the last octet of a weak key (RFC 3961, 6.2 and 6.3.1).
 const REPAIR: u8 = 0xf0;
 
-/// The key that the first 21 octets of a seed give, seven octets for each of its three keys of DES. No memory is taken.
+/// The key that the first 21 octets of a seed give, seven octets for each of its three keys of DES. It allocates nothing.
 pub(crate) fn key_of_seed(seed: &[u8]) -> [u8; 24]
     requires { 21 ≤ length seed.now }
     ensures { result ≡ random_to_key seed.now }

@@ -5,7 +5,7 @@ ghost use Rattle.krb_crypto_block.specs.Modes.{IsFill, IsOctets};
 ghost use Rattle.krb_crypto_hash.specs.CryptoError.{IsMemoryOr, RefusesKey};
 ghost use Rattle.krb_crypto_message.specs.MessageSteps.{IsDeciphered};
 ghost use Rattle.krb_crypto_message.specs.Sealed.{IsSealedDes3, Des3Cbc, des3_ki, des3_refusal};
-ghost use Rattle.krb_crypto_message.specs.Sealing.{IsTheOne, IsOfNone, IsGiven, Opens, Enciphers, IsSplit, Deciphers};
+ghost use Rattle.krb_crypto_message.specs.Sealing.{IsTheOne, IsGiven, Opens, HasNoPayload, Enciphers, OpensUnchecked, HasNoPayloadUnchecked};
 
 use super::message_keys::MessageKeys;
 use crate::checksum::{Deciphered, joined, without_checksum};
@@ -20,10 +20,10 @@ use std::alloc::Global;
 /// The octets of a message with an empty payload: the confounder and the checksum.
 const SHORTEST: usize = DES3_BLOCK_SIZE + DES3_MAC_SIZE;
 
-/// The payload, encrypted with the confounder in front of it and zeros to whole blocks behind it under Ke, and the HMAC of
+/// The payload, encrypted with the confounder before it and zeros to whole blocks after it under Ke, and the HMAC of
 /// all this under Ki, of 20 octets.
 ///
-/// `KeyLength` where the key has not 24 octets; nothing else is refused.
+/// `KeyLength` where the key has not 24 octets; an allocation failure is the only other error.
 pub fn encrypt_message(
     alloc: Global,
     key: &[u8],
@@ -44,11 +44,11 @@ pub fn encrypt_message(
     Ok(octets)
 }
 
-/// The payload that was encrypted to these octets, with its fill, whatever that is.
+/// The payload that was encrypted to these octets, with its padding, whatever that is.
 ///
 /// `KeyLength` where the key has not 24 octets, then `CipherLength` of their number and 28 where they are fewer, then
-/// `CipherUnpad` where those in front of the last 20 are not whole blocks of 8, then `IntegrityCheck` where the checksum
-/// is another; nothing is handed out before it is compared.
+/// `CipherUnpad` where those before the last 20 are not whole blocks of 8, then `IntegrityCheck` where the checksum
+/// is another; nothing is returned before it is compared.
 pub fn decrypt_message(
     alloc: Global,
     key: &[u8],
@@ -57,7 +57,7 @@ pub fn decrypt_message(
 ) -> KerberosCryptoResult<Vec<u8>>
     ensures key { IfOk result (λ _. length key.now ≡ 24) }
     ensures opened { IfOk result (λ payload. Opens 8 (IsGiven (IsSealedDes3 key.now key_usage) 8 cipher_data.now) payload.items) }
-    ensures refused { length key.now ≡ 24 → IfErr result (λ e. IsMemoryOr e (IsOfNone (IsGiven (IsSealedDes3 key.now key_usage) 8 cipher_data.now))) }
+    ensures refused { length key.now ≡ 24 → IfErr result (λ e. IsMemoryOr e (HasNoPayload (IsSealedDes3 key.now key_usage) 8 cipher_data.now)) }
     ensures exact { IfErr result (λ e. IsMemoryOr e (e ≡ des3_refusal key.now cipher_data.now)) }
 {
     let deciphered = decipher(alloc, key, key_usage, cipher_data)?;
@@ -85,7 +85,7 @@ pub fn encrypt_message_no_checksum(
     without_checksum(alloc, octets, &confounder, &keys.ki)
 }
 
-/// What the octets without their last 20 decrypt to, with the fill, whatever that is, these 20 octets, which are not
+/// What the octets without their last 20 decrypt to, with the padding, whatever that is, these 20 octets, which are not
 /// compared, and Ki.
 ///
 /// `KeyLength`, `CipherLength` and `CipherUnpad` as in `decrypt_message`, in this order.
@@ -96,16 +96,17 @@ pub fn decrypt_message_no_checksum(
     cipher_data: &[u8],
 ) -> KerberosCryptoResult<DecryptWithoutChecksum>
     ensures key { IfOk result (λ _. length key.now ≡ 24) }
-    ensures opened { IfOk result (λ made. (encrypted : List ℕ) × IsSplit 20 cipher_data.now encrypted made.checksum.items × Deciphers 8 8 (Enciphers (IsSealedDes3 key.now key_usage) 20) encrypted made.confounder.items made.plaintext.items) }
+    ensures opened { IfOk result (λ made. OpensUnchecked 8 8 20 (IsSealedDes3 key.now key_usage) cipher_data.now
+        made.confounder.items made.plaintext.items made.checksum.items) }
     ensures ki { IfOk result (λ made. made.ki.items ≡ des3_ki key.now key_usage) }
-    ensures refused { length key.now ≡ 24 → IfErr result (λ e. IsMemoryOr e ((encrypted checksum : List ℕ) → IsSplit 20 cipher_data.now encrypted checksum → IsOfNone (IsGiven (Enciphers (IsSealedDes3 key.now key_usage) 20) 8 encrypted))) }
+    ensures refused { length key.now ≡ 24 → IfErr result (λ e. IsMemoryOr e (HasNoPayloadUnchecked 8 20 (IsSealedDes3 key.now key_usage) cipher_data.now)) }
     ensures exact { IfErr result (λ e. IsMemoryOr e ((e ≡ des3_refusal key.now cipher_data.now) × (e ≢ KerberosCryptoError.IntegrityCheck))) }
 {
     let deciphered = decipher(alloc, key, key_usage, cipher_data)?;
     deciphered.unchecked(alloc, cipher_data, DES3_BLOCK_SIZE, DES3_MAC_SIZE)
 }
 
-/// Confounder and payload, filled to whole blocks, with room for `spare` octets behind them.
+/// Confounder and payload, padded to whole blocks, with room for `spare` octets after them.
 fn filled(
     alloc: Global,
     confounder: &[u8; DES3_BLOCK_SIZE],

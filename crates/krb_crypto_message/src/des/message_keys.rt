@@ -16,7 +16,7 @@ pub(crate) struct MessageKeys {
 }
 
 impl MessageKeys {
-    /// Both keys of this usage, from a base key that is ready for use. No memory is taken.
+    /// Both keys of this usage, from a base key that is ready for use. It allocates nothing.
     pub(crate) fn new(base: &DesKey, key_usage: i32) -> KerberosCryptoResult<MessageKeys>
         ensures made { IsOk result }
         ensures ke { IfOk result (λ keys. keys.ke ≡ des3_ke base.now key_usage) }

@@ -4,7 +4,7 @@ ghost use Rattle.std.specs.Prelude.{◌≡◌, ◌++◌};
 
 use krb_crypto_block::{DES3_BLOCK_SIZE, DES3_KEY_SIZE};
 
-/// The three parts, one behind the other. No memory is taken.
+/// The three parts, concatenated. It allocates nothing.
 pub(crate) fn joined(
     first: &[u8; DES3_BLOCK_SIZE],
     second: &[u8; DES3_BLOCK_SIZE],

@@ -1,8 +1,6 @@
 //! The checksums of RFC 3962: HMAC-SHA1 under a key of AES, cut to 96 bits.
 
-use krb_crypto_block::{AesSize, KerberosCryptoResult};
-use krb_crypto_message::aes::checksum_sha_aes;
-use krb_crypto_suite::{Checksum, ChecksumSuite};
+use krb_crypto_suite::{Checksum, ChecksumSuite, KerberosCryptoResult};
 use std::alloc::Global;
 
 /// hmac-sha1-96-aes128, checksum type 15 (RFC 3962, 7): keys of 16 octets, checksums of 12.
@@ -20,7 +18,7 @@ impl Checksum for HmacSha196Aes128 {
     ghost suite = { λ _. checksum.HmacSha196Aes128 };
 
     fn checksum_type(&self) -> ChecksumSuite {
-        ChecksumSuite::HmacSha196Aes128
+        ChecksumSuite::HmacSha196Aes128.checksum_type()
     }
 
     fn checksum(
@@ -30,7 +28,7 @@ impl Checksum for HmacSha196Aes128 {
         key_usage: i32,
         payload: &[u8],
     ) -> KerberosCryptoResult<Vec<u8>> {
-        checksum_sha_aes(alloc, key, key_usage, payload, &AesSize::Aes128)
+        ChecksumSuite::HmacSha196Aes128.checksum(alloc, key, key_usage, payload)
     }
 }
 
@@ -49,7 +47,7 @@ impl Checksum for HmacSha196Aes256 {
     ghost suite = { λ _. checksum.HmacSha196Aes256 };
 
     fn checksum_type(&self) -> ChecksumSuite {
-        ChecksumSuite::HmacSha196Aes256
+        ChecksumSuite::HmacSha196Aes256.checksum_type()
     }
 
     fn checksum(
@@ -59,6 +57,6 @@ impl Checksum for HmacSha196Aes256 {
         key_usage: i32,
         payload: &[u8],
     ) -> KerberosCryptoResult<Vec<u8>> {
-        checksum_sha_aes(alloc, key, key_usage, payload, &AesSize::Aes256)
+        ChecksumSuite::HmacSha196Aes256.checksum(alloc, key, key_usage, payload)
     }
 }

@@ -1,19 +1,12 @@
-//! The AES suites of RFC 3962: ciphers over the message calls.
+//! The AES suites of RFC 3962: each type is the cipher of its number.
 
 ghost use Rattle.std.specs.Prelude.{◌≡◌};
 
-use krb_crypto_block::{AES_BLOCK_SIZE, AesSize, KerberosCryptoResult};
-use krb_crypto_message::aes::{
-    decrypt_message, decrypt_message_no_checksum, derive_key_from_password, encrypt_message,
-    encrypt_message_no_checksum, integrity_checksum, random_to_key,
+use krb_crypto_suite::{
+    ChecksumSuite, Cipher, CipherSuite, DecryptWithoutChecksum, EncryptWithoutChecksum,
+    KerberosCryptoResult,
 };
-use krb_crypto_message::{DecryptWithoutChecksum, EncryptWithoutChecksum};
-use krb_crypto_suite::confounder::confounder_of;
-use krb_crypto_suite::{ChecksumSuite, Cipher, CipherSuite};
 use std::alloc::Global;
-
-/// The octets to a multiple of which a payload is filled: ciphertext stealing fills none.
-const FILL_SIZE: usize = 1;
 
 /// aes128-cts-hmac-sha1-96, encryption type 17 (RFC 3962): keys and seeds of 16 octets, confounders of 16, checksums of 12.
 #[derive(Debug, Drop, Clone, PartialEq, Eq, Default)]
@@ -61,27 +54,27 @@ impl Cipher for Aes128CtsHmacSha196 {
     ghost keyed_checksum_type = { λ _. checksum.HmacSha196Aes128 };
 
     fn key_size(&self) -> usize {
-        AesSize::Aes128.key_length()
+        CipherSuite::Aes128CtsHmacSha196.key_size()
     }
 
     fn seed_bit_len(&self) -> usize {
-        AesSize::Aes128.seed_bit_len()
+        CipherSuite::Aes128CtsHmacSha196.seed_bit_len()
     }
 
     fn confounder_size(&self) -> usize {
-        AES_BLOCK_SIZE
+        CipherSuite::Aes128CtsHmacSha196.confounder_size()
     }
 
     fn fill_size(&self) -> usize {
-        FILL_SIZE
+        CipherSuite::Aes128CtsHmacSha196.fill_size()
     }
 
     fn cipher_type(&self) -> CipherSuite {
-        CipherSuite::Aes128CtsHmacSha196
+        CipherSuite::Aes128CtsHmacSha196.cipher_type()
     }
 
     fn checksum_type(&self) -> ChecksumSuite {
-        ChecksumSuite::HmacSha196Aes128
+        CipherSuite::Aes128CtsHmacSha196.checksum_type()
     }
 
     fn encrypt(
@@ -92,8 +85,7 @@ impl Cipher for Aes128CtsHmacSha196 {
         payload: &[u8],
         confounder: &[u8],
     ) -> KerberosCryptoResult<Vec<u8>> {
-        let confounder = confounder_of(confounder);
-        encrypt_message(alloc, key, key_usage, payload, &AesSize::Aes128, confounder)
+        CipherSuite::Aes128CtsHmacSha196.encrypt(alloc, key, key_usage, payload, confounder)
     }
 
     fn decrypt(
@@ -103,7 +95,7 @@ impl Cipher for Aes128CtsHmacSha196 {
         key_usage: i32,
         cipher_data: &[u8],
     ) -> KerberosCryptoResult<Vec<u8>> {
-        decrypt_message(alloc, key, key_usage, cipher_data, &AesSize::Aes128)
+        CipherSuite::Aes128CtsHmacSha196.decrypt(alloc, key, key_usage, cipher_data)
     }
 
     fn encrypt_no_checksum(
@@ -114,8 +106,9 @@ impl Cipher for Aes128CtsHmacSha196 {
         payload: &[u8],
         confounder: &[u8],
     ) -> KerberosCryptoResult<EncryptWithoutChecksum> {
-        let confounder = confounder_of(confounder);
-        encrypt_message_no_checksum(alloc, key, key_usage, payload, &AesSize::Aes128, confounder)
+        CipherSuite::Aes128CtsHmacSha196.encrypt_no_checksum(
+            alloc, key, key_usage, payload, confounder,
+        )
     }
 
     fn decrypt_no_checksum(
@@ -125,7 +118,7 @@ impl Cipher for Aes128CtsHmacSha196 {
         key_usage: i32,
         cipher_data: &[u8],
     ) -> KerberosCryptoResult<DecryptWithoutChecksum> {
-        decrypt_message_no_checksum(alloc, key, key_usage, cipher_data, &AesSize::Aes128)
+        CipherSuite::Aes128CtsHmacSha196.decrypt_no_checksum(alloc, key, key_usage, cipher_data)
     }
 
     fn encryption_checksum(
@@ -135,7 +128,7 @@ impl Cipher for Aes128CtsHmacSha196 {
         key_usage: i32,
         payload: &[u8],
     ) -> KerberosCryptoResult<Vec<u8>> {
-        integrity_checksum(alloc, key, key_usage, payload, &AesSize::Aes128)
+        CipherSuite::Aes128CtsHmacSha196.encryption_checksum(alloc, key, key_usage, payload)
     }
 
     fn generate_key_from_password(
@@ -144,11 +137,11 @@ impl Cipher for Aes128CtsHmacSha196 {
         password: &[u8],
         salt: &[u8],
     ) -> KerberosCryptoResult<Vec<u8>> {
-        derive_key_from_password(alloc, password, salt, &AesSize::Aes128)
+        CipherSuite::Aes128CtsHmacSha196.generate_key_from_password(alloc, password, salt)
     }
 
-    fn random_to_key(&self, _alloc: Global, key: Vec<u8>) -> KerberosCryptoResult<Vec<u8>> {
-        Ok(random_to_key(key))
+    fn random_to_key(&self, alloc: Global, key: Vec<u8>) -> KerberosCryptoResult<Vec<u8>> {
+        CipherSuite::Aes128CtsHmacSha196.random_to_key(alloc, key)
     }
 }
 
@@ -198,27 +191,27 @@ impl Cipher for Aes256CtsHmacSha196 {
     ghost keyed_checksum_type = { λ _. checksum.HmacSha196Aes256 };
 
     fn key_size(&self) -> usize {
-        AesSize::Aes256.key_length()
+        CipherSuite::Aes256CtsHmacSha196.key_size()
     }
 
     fn seed_bit_len(&self) -> usize {
-        AesSize::Aes256.seed_bit_len()
+        CipherSuite::Aes256CtsHmacSha196.seed_bit_len()
     }
 
     fn confounder_size(&self) -> usize {
-        AES_BLOCK_SIZE
+        CipherSuite::Aes256CtsHmacSha196.confounder_size()
     }
 
     fn fill_size(&self) -> usize {
-        FILL_SIZE
+        CipherSuite::Aes256CtsHmacSha196.fill_size()
     }
 
     fn cipher_type(&self) -> CipherSuite {
-        CipherSuite::Aes256CtsHmacSha196
+        CipherSuite::Aes256CtsHmacSha196.cipher_type()
     }
 
     fn checksum_type(&self) -> ChecksumSuite {
-        ChecksumSuite::HmacSha196Aes256
+        CipherSuite::Aes256CtsHmacSha196.checksum_type()
     }
 
     fn encrypt(
@@ -229,8 +222,7 @@ impl Cipher for Aes256CtsHmacSha196 {
         payload: &[u8],
         confounder: &[u8],
     ) -> KerberosCryptoResult<Vec<u8>> {
-        let confounder = confounder_of(confounder);
-        encrypt_message(alloc, key, key_usage, payload, &AesSize::Aes256, confounder)
+        CipherSuite::Aes256CtsHmacSha196.encrypt(alloc, key, key_usage, payload, confounder)
     }
 
     fn decrypt(
@@ -240,7 +232,7 @@ impl Cipher for Aes256CtsHmacSha196 {
         key_usage: i32,
         cipher_data: &[u8],
     ) -> KerberosCryptoResult<Vec<u8>> {
-        decrypt_message(alloc, key, key_usage, cipher_data, &AesSize::Aes256)
+        CipherSuite::Aes256CtsHmacSha196.decrypt(alloc, key, key_usage, cipher_data)
     }
 
     fn encrypt_no_checksum(
@@ -251,8 +243,9 @@ impl Cipher for Aes256CtsHmacSha196 {
         payload: &[u8],
         confounder: &[u8],
     ) -> KerberosCryptoResult<EncryptWithoutChecksum> {
-        let confounder = confounder_of(confounder);
-        encrypt_message_no_checksum(alloc, key, key_usage, payload, &AesSize::Aes256, confounder)
+        CipherSuite::Aes256CtsHmacSha196.encrypt_no_checksum(
+            alloc, key, key_usage, payload, confounder,
+        )
     }
 
     fn decrypt_no_checksum(
@@ -262,7 +255,7 @@ impl Cipher for Aes256CtsHmacSha196 {
         key_usage: i32,
         cipher_data: &[u8],
     ) -> KerberosCryptoResult<DecryptWithoutChecksum> {
-        decrypt_message_no_checksum(alloc, key, key_usage, cipher_data, &AesSize::Aes256)
+        CipherSuite::Aes256CtsHmacSha196.decrypt_no_checksum(alloc, key, key_usage, cipher_data)
     }
 
     fn encryption_checksum(
@@ -272,7 +265,7 @@ impl Cipher for Aes256CtsHmacSha196 {
         key_usage: i32,
         payload: &[u8],
     ) -> KerberosCryptoResult<Vec<u8>> {
-        integrity_checksum(alloc, key, key_usage, payload, &AesSize::Aes256)
+        CipherSuite::Aes256CtsHmacSha196.encryption_checksum(alloc, key, key_usage, payload)
     }
 
     fn generate_key_from_password(
@@ -281,10 +274,10 @@ impl Cipher for Aes256CtsHmacSha196 {
         password: &[u8],
         salt: &[u8],
     ) -> KerberosCryptoResult<Vec<u8>> {
-        derive_key_from_password(alloc, password, salt, &AesSize::Aes256)
+        CipherSuite::Aes256CtsHmacSha196.generate_key_from_password(alloc, password, salt)
     }
 
-    fn random_to_key(&self, _alloc: Global, key: Vec<u8>) -> KerberosCryptoResult<Vec<u8>> {
-        Ok(random_to_key(key))
+    fn random_to_key(&self, alloc: Global, key: Vec<u8>) -> KerberosCryptoResult<Vec<u8>> {
+        CipherSuite::Aes256CtsHmacSha196.random_to_key(alloc, key)
     }
 }

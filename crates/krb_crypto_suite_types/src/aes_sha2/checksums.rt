@@ -1,8 +1,6 @@
 //! The checksums of RFC 8009: HMAC-SHA256 and HMAC-SHA384 under a key of AES, cut to half their length.
 
-use krb_crypto_block::{AesSize, KerberosCryptoResult};
-use krb_crypto_message::aes_sha2::keyed_checksum;
-use krb_crypto_suite::{Checksum, ChecksumSuite};
+use krb_crypto_suite::{Checksum, ChecksumSuite, KerberosCryptoResult};
 use std::alloc::Global;
 
 /// hmac-sha256-128-aes128, checksum type 19 (RFC 8009, 6 and 7): keys of 16 octets, checksums of 16.
@@ -21,7 +19,7 @@ impl Checksum for HmacSha256128Aes128 {
     ghost suite = { λ _. checksum.HmacSha256128Aes128 };
 
     fn checksum_type(&self) -> ChecksumSuite {
-        ChecksumSuite::HmacSha256128Aes128
+        ChecksumSuite::HmacSha256128Aes128.checksum_type()
     }
 
     fn checksum(
@@ -31,7 +29,7 @@ impl Checksum for HmacSha256128Aes128 {
         key_usage: i32,
         payload: &[u8],
     ) -> KerberosCryptoResult<Vec<u8>> {
-        keyed_checksum(alloc, key, key_usage, payload, &AesSize::Aes128)
+        ChecksumSuite::HmacSha256128Aes128.checksum(alloc, key, key_usage, payload)
     }
 }
 
@@ -51,7 +49,7 @@ impl Checksum for HmacSha384192Aes256 {
     ghost suite = { λ _. checksum.HmacSha384192Aes256 };
 
     fn checksum_type(&self) -> ChecksumSuite {
-        ChecksumSuite::HmacSha384192Aes256
+        ChecksumSuite::HmacSha384192Aes256.checksum_type()
     }
 
     fn checksum(
@@ -61,6 +59,6 @@ impl Checksum for HmacSha384192Aes256 {
         key_usage: i32,
         payload: &[u8],
     ) -> KerberosCryptoResult<Vec<u8>> {
-        keyed_checksum(alloc, key, key_usage, payload, &AesSize::Aes256)
+        ChecksumSuite::HmacSha384192Aes256.checksum(alloc, key, key_usage, payload)
     }
 }

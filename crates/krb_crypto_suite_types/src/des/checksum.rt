@@ -1,8 +1,6 @@
 //! The checksum of triple DES (RFC 3961, 6.3): a whole HMAC-SHA1.
 
-use krb_crypto_block::KerberosCryptoResult;
-use krb_crypto_message::des::keyed_checksum;
-use krb_crypto_suite::{Checksum, ChecksumSuite};
+use krb_crypto_suite::{Checksum, ChecksumSuite, KerberosCryptoResult};
 use std::alloc::Global;
 
 /// hmac-sha1-des3-kd, checksum type 12 (RFC 3961, 6.3): keys of 24 octets, checksums of 20.
@@ -20,7 +18,7 @@ impl Checksum for HmacSha1Des3Kd {
     ghost suite = { λ _. checksum.HmacSha1Des3Kd };
 
     fn checksum_type(&self) -> ChecksumSuite {
-        ChecksumSuite::HmacSha1Des3Kd
+        ChecksumSuite::HmacSha1Des3Kd.checksum_type()
     }
 
     fn checksum(
@@ -30,6 +28,6 @@ impl Checksum for HmacSha1Des3Kd {
         key_usage: i32,
         payload: &[u8],
     ) -> KerberosCryptoResult<Vec<u8>> {
-        keyed_checksum(alloc, key, key_usage, payload)
+        ChecksumSuite::HmacSha1Des3Kd.checksum(alloc, key, key_usage, payload)
     }
 }

@@ -1,19 +1,15 @@
-//! The suite of triple DES (RFC 3961, 6.3): a cipher over the message calls.
+//! The suite of triple DES (RFC 3961, 6.3): the cipher of its number.
 
 ghost use Rattle.std.specs.Prelude.{◌≡◌};
 
-use krb_crypto_block::{DES3_BLOCK_SIZE, DES3_KEY_SIZE, DES3_SEED_LEN, KerberosCryptoResult};
-use krb_crypto_message::des::{
-    decrypt_message, decrypt_message_no_checksum, derive_key_from_password, encrypt_message,
-    encrypt_message_no_checksum, integrity_checksum, random_to_key,
+use krb_crypto_suite::{
+    ChecksumSuite, Cipher, CipherSuite, DecryptWithoutChecksum, EncryptWithoutChecksum,
+    KerberosCryptoResult,
 };
-use krb_crypto_message::{DecryptWithoutChecksum, EncryptWithoutChecksum};
-use krb_crypto_suite::confounder::confounder_of;
-use krb_crypto_suite::{ChecksumSuite, Cipher, CipherSuite};
 use std::alloc::Global;
 
 /// des3-cbc-hmac-sha1-kd, encryption type 16 (RFC 3961, 6.3): keys of 24 octets, seeds of 21, confounders of 8, checksums of
-/// 20. A payload is filled with zeros to a multiple of 8 octets, and opened with them.
+/// 20. A payload is padded with zeros to a multiple of 8 octets, and decrypted with them.
 #[derive(Debug, Drop, Clone, PartialEq, Eq, Default)]
 pub struct Des3CbcSha1Kd;
 
@@ -61,27 +57,27 @@ impl Cipher for Des3CbcSha1Kd {
     ghost keyed_checksum_type = { λ _. checksum.HmacSha1Des3Kd };
 
     fn key_size(&self) -> usize {
-        DES3_KEY_SIZE
+        CipherSuite::Des3CbcSha1Kd.key_size()
     }
 
     fn seed_bit_len(&self) -> usize {
-        8 * DES3_SEED_LEN
+        CipherSuite::Des3CbcSha1Kd.seed_bit_len()
     }
 
     fn confounder_size(&self) -> usize {
-        DES3_BLOCK_SIZE
+        CipherSuite::Des3CbcSha1Kd.confounder_size()
     }
 
     fn fill_size(&self) -> usize {
-        DES3_BLOCK_SIZE
+        CipherSuite::Des3CbcSha1Kd.fill_size()
     }
 
     fn cipher_type(&self) -> CipherSuite {
-        CipherSuite::Des3CbcSha1Kd
+        CipherSuite::Des3CbcSha1Kd.cipher_type()
     }
 
     fn checksum_type(&self) -> ChecksumSuite {
-        ChecksumSuite::HmacSha1Des3Kd
+        CipherSuite::Des3CbcSha1Kd.checksum_type()
     }
 
     fn encrypt(
@@ -92,8 +88,7 @@ impl Cipher for Des3CbcSha1Kd {
         payload: &[u8],
         confounder: &[u8],
     ) -> KerberosCryptoResult<Vec<u8>> {
-        let confounder = confounder_of(confounder);
-        encrypt_message(alloc, key, key_usage, payload, confounder)
+        CipherSuite::Des3CbcSha1Kd.encrypt(alloc, key, key_usage, payload, confounder)
     }
 
     fn decrypt(
@@ -103,7 +98,7 @@ impl Cipher for Des3CbcSha1Kd {
         key_usage: i32,
         cipher_data: &[u8],
     ) -> KerberosCryptoResult<Vec<u8>> {
-        decrypt_message(alloc, key, key_usage, cipher_data)
+        CipherSuite::Des3CbcSha1Kd.decrypt(alloc, key, key_usage, cipher_data)
     }
 
     fn encrypt_no_checksum(
@@ -114,8 +109,7 @@ impl Cipher for Des3CbcSha1Kd {
         payload: &[u8],
         confounder: &[u8],
     ) -> KerberosCryptoResult<EncryptWithoutChecksum> {
-        let confounder = confounder_of(confounder);
-        encrypt_message_no_checksum(alloc, key, key_usage, payload, confounder)
+        CipherSuite::Des3CbcSha1Kd.encrypt_no_checksum(alloc, key, key_usage, payload, confounder)
     }
 
     fn decrypt_no_checksum(
@@ -125,7 +119,7 @@ impl Cipher for Des3CbcSha1Kd {
         key_usage: i32,
         cipher_data: &[u8],
     ) -> KerberosCryptoResult<DecryptWithoutChecksum> {
-        decrypt_message_no_checksum(alloc, key, key_usage, cipher_data)
+        CipherSuite::Des3CbcSha1Kd.decrypt_no_checksum(alloc, key, key_usage, cipher_data)
     }
 
     fn encryption_checksum(
@@ -135,7 +129,7 @@ impl Cipher for Des3CbcSha1Kd {
         key_usage: i32,
         payload: &[u8],
     ) -> KerberosCryptoResult<Vec<u8>> {
-        integrity_checksum(alloc, key, key_usage, payload)
+        CipherSuite::Des3CbcSha1Kd.encryption_checksum(alloc, key, key_usage, payload)
     }
 
     fn generate_key_from_password(
@@ -144,10 +138,10 @@ impl Cipher for Des3CbcSha1Kd {
         password: &[u8],
         salt: &[u8],
     ) -> KerberosCryptoResult<Vec<u8>> {
-        derive_key_from_password(alloc, password, salt)
+        CipherSuite::Des3CbcSha1Kd.generate_key_from_password(alloc, password, salt)
     }
 
     fn random_to_key(&self, alloc: Global, key: Vec<u8>) -> KerberosCryptoResult<Vec<u8>> {
-        random_to_key(alloc, &key)
+        CipherSuite::Des3CbcSha1Kd.random_to_key(alloc, key)
     }
 }

@@ -2,4 +2,4 @@ use Rattle.std.proofs.lemmas.Int.{to_z-of_z}
 use Rattle.krb_crypto_suite_types.proofs.aes.suites.Aes128CtsHmacSha196Cipher.decrypt.Goals as goal
 
 pub returns-clause-refused : goal.returns-clause-refused
-returns-clause-refused c = let fits = c.ranges.key_usage in simp to_z-of_z at c.decrypt_message.ensures.refused
+returns-clause-refused c = let fits = c.ranges.key_usage in simp to_z-of_z at c.decrypt.ensures.refused

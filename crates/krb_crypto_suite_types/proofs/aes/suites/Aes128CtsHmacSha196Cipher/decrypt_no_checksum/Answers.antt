@@ -2,7 +2,7 @@ use Rattle.std.proofs.lemmas.Int.{to_z-of_z}
 use Rattle.krb_crypto_suite_types.proofs.aes.suites.Aes128CtsHmacSha196Cipher.decrypt_no_checksum.Goals as goal
 
 pub returns-clause-opened : goal.returns-clause-opened
-returns-clause-opened c = let fits = c.ranges.key_usage in simp to_z-of_z at c.decrypt_message_no_checksum.ensures.opened
+returns-clause-opened c = let fits = c.ranges.key_usage in simp to_z-of_z at c.decrypt_no_checksum.ensures.opened
 
 pub returns-clause-refused : goal.returns-clause-refused
-returns-clause-refused c = let fits = c.ranges.key_usage in simp to_z-of_z at c.decrypt_message_no_checksum.ensures.refused
+returns-clause-refused c = let fits = c.ranges.key_usage in simp to_z-of_z at c.decrypt_no_checksum.ensures.refused

@@ -2,7 +2,4 @@ use Rattle.std.proofs.lemmas.Int.{to_z-of_z}
 use Rattle.krb_crypto_suite_types.proofs.aes_sha2.suites.Aes128CtsHmacSha256128Cipher.encrypt_no_checksum.Goals as goal
 
 pub returns-clause-encrypted : goal.returns-clause-encrypted
-returns-clause-encrypted c = let fits = c.ranges.key_usage in rw (c.confounder_of-confounder.ensures) at (simp to_z-of_z at c.encrypt_message_no_checksum.ensures.encrypted)
-
-pub returns-clause-ki : goal.returns-clause-ki
-returns-clause-ki c = let fits = c.ranges.key_usage in simp to_z-of_z at c.encrypt_message_no_checksum.ensures.ki
+returns-clause-encrypted c = let fits = c.ranges.key_usage in simp to_z-of_z at c.encrypt_no_checksum.ensures.encrypted

@@ -1,8 +1,8 @@
 use Rattle.std.proofs.lemmas.Int.{to_z-of_z}
 use Rattle.krb_crypto_suite_types.proofs.des.suite.Des3CbcSha1KdCipher.decrypt.Goals as goal
 
-pub returns-clause-refused : goal.returns-clause-refused
-returns-clause-refused c = let fits = c.ranges.key_usage in simp to_z-of_z at c.decrypt_message.ensures.refused
-
 pub returns-clause-opened : goal.returns-clause-opened
-returns-clause-opened c = let fits = c.ranges.key_usage in simp to_z-of_z at c.decrypt_message.ensures.opened
+returns-clause-opened c = let fits = c.ranges.key_usage in simp to_z-of_z at c.decrypt.ensures.opened
+
+pub returns-clause-refused : goal.returns-clause-refused
+returns-clause-refused c = let fits = c.ranges.key_usage in simp to_z-of_z at c.decrypt.ensures.refused
