@@ -1,4 +1,4 @@
-//! Laws over the definitions, of functions that do nothing.
+//! Lemmas about the definitions: functions with no body, each of whose clauses is a fact for proofs above.
 
 ghost use Rattle.krb_der.specs.FieldFaults.{HasFaultsOf};
 ghost use Rattle.krb_der.specs.Equality.{TellsEqual};
@@ -11,14 +11,15 @@ use crate::credssp::{
 use krb_der::DerEncode;
 use krb_der::composite::{Fields, Sequence};
 
-/// The first fault of each struct is that of a SEQUENCE of its fields (X.690, 8.9): its tag, then its fields in order, then what is
-/// left over. Its encodings begin with that tag, and with no other octet (X.690, 8.1.2).
+/// The first error of each struct is that of a SEQUENCE of its fields (X.690, 8.9): its tag, then its fields in order, then
+/// trailing octets. Its encodings begin with that tag, and with no other octet (X.690, 8.1.2).
 pub fn faults()
     ensures ts_credentials { HasFaultsOf ⟦<TsCredentials as DerEncode>⟧.fault ⟦<<TsCredentials as Sequence>::Fields as Fields>⟧ }
     ensures ts_password_creds { HasFaultsOf ⟦<TsPasswordCreds as DerEncode>⟧.fault ⟦<<TsPasswordCreds as Sequence>::Fields as Fields>⟧ }
     ensures ts_csp_data_detail { HasFaultsOf ⟦<TsCspDataDetail as DerEncode>⟧.fault ⟦<<TsCspDataDetail as Sequence>::Fields as Fields>⟧ }
     ensures ts_smart_card_creds { HasFaultsOf ⟦<TsSmartCardCreds as DerEncode>⟧.fault ⟦<<TsSmartCardCreds as Sequence>::Fields as Fields>⟧ }
-    ensures ts_remote_guard_package_cred { HasFaultsOf ⟦<TsRemoteGuardPackageCred as DerEncode>⟧.fault ⟦<<TsRemoteGuardPackageCred as Sequence>::Fields as Fields>⟧ }
+    ensures ts_remote_guard_package_cred { HasFaultsOf ⟦<TsRemoteGuardPackageCred as DerEncode>⟧.fault
+        ⟦<<TsRemoteGuardPackageCred as Sequence>::Fields as Fields>⟧ }
     ensures ts_remote_guard_creds { HasFaultsOf ⟦<TsRemoteGuardCreds as DerEncode>⟧.fault ⟦<<TsRemoteGuardCreds as Sequence>::Fields as Fields>⟧ }
     ensures ts_credentials_tag { HasTag 48 ⟦<TsCredentials as DerEncode>⟧.first }
     ensures ts_password_creds_tag { HasTag 48 ⟦<TsPasswordCreds as DerEncode>⟧.first }
@@ -28,7 +29,7 @@ pub fn faults()
     ensures ts_remote_guard_creds_tag { HasTag 48 ⟦<TsRemoteGuardCreds as DerEncode>⟧.first }
 {}
 
-/// `==` on each struct: it answers true for equal values and for no others.
+/// `==` on each struct: it returns true for equal values and for no others.
 pub fn equality()
     ensures ts_credentials { TellsEqual ⟦<TsCredentials as PartialEq>⟧.eq }
     ensures ts_password_creds { TellsEqual ⟦<TsPasswordCreds as PartialEq>⟧.eq }

@@ -1,4 +1,5 @@
-//! Credentials that are delegated to a server (MS-CSSP, 2.2.1.2), each of which is read from its one DER encoding and written so.
+//! Credentials that are delegated to a server (MS-CSSP, 2.2.1.2), each with one DER encoding a
+//! value.
 #![tactic(auto)]
 
 pub mod credssp;

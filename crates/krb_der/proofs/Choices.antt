@@ -1,4 +1,4 @@
--- How a refusal of one type becomes one of a choice of two.
+-- How an error of one type becomes one of a choice of two.
 use Rattle.std.proofs.Common.{◌≡◌, ℕ, List, ◌⊎◌, inl, inr, sym, ◌∙◌}
 use Rattle.krb_der_core.specs.declared.error.Asn1DerError.{Asn1DerError}
 use Rattle.krb_der_core.specs.declared.error.Asn1DerError.TheVariants as errors
@@ -34,7 +34,7 @@ module _ {E A B : Type 0} (held : E → A ⊎ B) (is_a : A → Type 0) (is_b : B
   pub second_refused : (t ≡ u → ⊥) → k ≡ u → (e : Asn1DerError) → RefusesAll is_b (λ v. tlv u (b v)) (tlv k content) e → RefusesAll (λ m. IsChoice is_a is_b (held m)) (λ m. choice (λ v. tlv t (a v)) (λ v. tlv u (b v)) (held m)) (tlv k content) e
   second_refused apart is e r = refuses_other is_b (λ v. tlv u (b v)) (λ m. IsChoice is_a is_b (held m)) (λ m. choice (λ v. tlv t (a v)) (λ v. tlv u (b v)) (held m)) (tlv k content) (tlv k content) e (λ none m h q. no_second apart is none (held m) h q) r
 
--- ---- the first fault
+-- ---- the first error
 
 module _ (t u : ℕ) (fault_a fault_b : ℕ → List ℕ → Asn1DerError → Type 0) (tag : ℕ) (content : List ℕ) where
   pub neither_wrong : (tag ≡ t → ⊥) → (tag ≡ u → ⊥) → OrMemory (ChoiceFault t u fault_a fault_b tag content) errors.InvalidData

@@ -1,4 +1,4 @@
--- How the first fault of a part becomes that of the whole.
+-- How the first error of a part becomes that of the whole.
 use Rattle.std.proofs.Common.{◌≡◌, ℕ, ◌-◌, ◌<◌, List, length, take, drop, ap, subst, arith, inr, length-append}
 use Rattle.std.proofs.lemmas.List.{take_rest}
 use Rattle.krb_der_core.specs.declared.error.Asn1DerError.{Asn1DerError}

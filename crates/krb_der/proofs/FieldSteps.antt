@@ -1,5 +1,5 @@
 -- Reading groups of fields.
-use Rattle.std.proofs.Common.{◌≡◌, ℕ, ◌-◌, ◌<◌, Bool, true, false, List, [], ◌∷◌, ◌++◌, length, get_or, take, drop, Option, Some, None, refl, sym, ap, ◌∙◌, append_assoc, arith}
+use Rattle.std.proofs.Common.{◌≡◌, ℕ, ◌-◌, ◌<◌, Bool, true, List, [], ◌∷◌, ◌++◌, length, get_or, take, drop, Option, Some, None, refl, sym, ap, ◌∙◌, append_assoc, arith}
 use Rattle.std.specs.Prelude.{IfSome}
 use Rattle.std.proofs.lemmas.List.{append_cancel_left, take_rest}
 use Rattle.krb_der_core.specs.Encoding.{IsElement, OneValue, BeginsWith, Apart, optional}
@@ -35,21 +35,19 @@ module _ {A : Type 0} (enc : A → List ℕ) (is_value : A → Type 0) (first : 
     pub some_read : (follow : ℕ → Bool) → Apart first follow → (a : A) (n : ℕ) (input : List ℕ) (v w : Optional (Option A)) (y : List ℕ) → is_value a → TakesFront (enc a) n input → v.0 ≡ Some a → IfSome w.0 is_value → BeginsWith follow y → input ≡ optional enc w.0 ++ y → v ≡ w
     some_read follow told a n input v w y ha f e h hy q = same_optional v w (e ∙ some_there follow told a n input ha f w.0 y h hy q)
 
-pub not_both : (b : Bool) → false ≡ b → b ≡ true → ⊥
-not_both true e f = let k : true ≡ false = sym e in cc
-not_both false e f = cc
-
--- ---- fields behind fields
+-- ---- fields after fields
 
 same_octets : {A : Type 0} (octets : A → List ℕ) (a w : A) (x y : List ℕ) → a ≡ w → octets a ++ x ≡ octets w ++ y → octets w ++ x ≡ octets w ++ y
 same_octets octets a w x y e q = ap (λ (l : List ℕ). l ++ x) (sym (ap octets e)) ∙ q
 
--- what stands behind the fields that were read
-pub behind_left : {A B : Type 0} (a_octets : A → List ℕ) (b_octets : B → List ℕ) (a w : A) (v : B) (n : ℕ) (input y : List ℕ) → TakesFront (a_octets a) n input → a ≡ w → input ≡ (a_octets w ++ b_octets v) ++ y
+-- what follows the fields that were read
+pub behind_left : {A B : Type 0} (a_octets : A → List ℕ) (b_octets : B → List ℕ) (a w : A) (v : B) (n : ℕ) (input y : List ℕ)
+    → TakesFront (a_octets a) n input → a ≡ w → input ≡ (a_octets w ++ b_octets v) ++ y
     → take (length input - n) (drop n input) ≡ b_octets v ++ y
 behind_left a_octets b_octets a w v n input y f e q =
     take_rest input n ∙ append_cancel_left (a_octets w) (drop n input) (b_octets v ++ y) (same_octets a_octets a w (drop n input) (b_octets v ++ y) e (sym f.front ∙ q ∙ append_assoc (a_octets w) (b_octets v) y))
 
 -- fields with octets left over are not all of them
-pub left_over : {A : Type 0} (octets : A → List ℕ) (a v : A) (n : ℕ) (input : List ℕ) → TakesFront (octets a) n input → a ≡ v → (n ≡ length input → ⊥) → input ≡ octets v → ⊥
+pub left_over : {A : Type 0} (octets : A → List ℕ) (a v : A) (n : ℕ) (input : List ℕ) → TakesFront (octets a) n input → a ≡ v
+    → (n ≡ length input → ⊥) → input ≡ octets v → ⊥
 left_over octets a v n input f e more q = more (f.count ∙ ap (λ w. length (octets w)) e ∙ sym (ap length q))

@@ -40,13 +40,13 @@ module _ {A : Type 0} (is_value : A → Type 0) (enc : A → List ℕ) where
   whole_is a n input f all = f.front ∙ ap (λ (l : List ℕ). enc a ++ l) (drop_all n input (omega arith)) ∙ append-nil (enc a)
 
   module _ (first : ℕ → Bool) (element : (v : A) → is_value v → IsElement first (enc v)) (one : OneValue is_value enc) where
-    -- a value that was read, and octets behind it, are no whole encoding
+    -- a value that was read, and octets after it, are no whole encoding
     pub not_all : (a v : A) (n : ℕ) (input : List ℕ) → is_value a → is_value v → TakesFront (enc a) n input → (n ≡ length input → ⊥) → input ≡ enc v → ⊥
     not_all a v n input ha hv f more q =
         let s = field_apart enc is_value first element one a v (drop n input) [] ha hv (sym f.front ∙ q ∙ sym (append-nil (enc v))) in
         more (f.count ∙ ap (λ (w : A). length (enc w)) s.0 ∙ sym (ap length q))
 
-    -- no encoding goes on behind one
+    -- no encoding goes on after one
     pub not_cut : (a v : A) (n : ℕ) (input rest : List ℕ) → is_value a → is_value v → TakesFront (enc a) n input → 0 < length rest → enc v ≡ input ++ rest → ⊥
     not_cut a v n input rest ha hv f some q =
         let k : enc a ++ (drop n input ++ rest) ≡ enc v ++ [] = sym (append_assoc (enc a) (drop n input) rest) ∙ ap (λ (l : List ℕ). l ++ rest) (sym f.front) ∙ sym q ∙ sym (append-nil (enc v)) in
@@ -58,16 +58,18 @@ module _ {A : Type 0} (is_value : A → Type 0) (enc : A → List ℕ) where
         let s = field_apart enc is_value first element one a v [] rest ha hv (append-nil (enc a) ∙ sym all ∙ q) in
         omega (arith, ap length s.1)
 
--- what `from_bytes` refuses is no encoding
-pub not_whole : {A : Type 0} (is_value : A → Type 0) (enc : A → List ℕ) (input : List ℕ) (e : Asn1DerError) → ((v : A) → is_value v → input ≡ enc v → e ≡ errors.OutOfMemory) → NoDevice e → RefusesAll is_value enc input e
+-- what `from_bytes` rejects is no encoding
+pub not_whole : {A : Type 0} (is_value : A → Type 0) (enc : A → List ℕ) (input : List ℕ) (e : Asn1DerError)
+    → ((v : A) → is_value v → input ≡ enc v → e ≡ errors.OutOfMemory) → NoDevice e → RefusesAll is_value enc input e
 not_whole is_value enc input errors.OutOfMemory h r = tt
 not_whole is_value enc input errors.TruncatedData h r = λ v hv q. absurd (let k = h v hv q in cc)
 not_whole is_value enc input errors.InvalidData h r = λ v hv q. absurd (let k = h v hv q in cc)
 not_whole is_value enc input errors.UnsupportedValue h r = λ v hv q. absurd (let k = h v hv q in cc)
 not_whole is_value enc input (errors.Io io) h r = r
 
--- what is refused as a content is refused under its tag
-pub around_refused : {A : Type 0} (is_value : A → Type 0) (enc : A → List ℕ) (tag : ℕ) (content : List ℕ) (r : Result A Asn1DerError) → ReadsValue is_value enc content r → IfErr r NoDevice
+-- what is rejected as a content is rejected under its tag
+pub around_refused : {A : Type 0} (is_value : A → Type 0) (enc : A → List ℕ) (tag : ℕ) (content : List ℕ) (r : Result A Asn1DerError)
+    → ReadsValue is_value enc content r → IfErr r NoDevice
     → IfErr r (RefusesAll is_value (λ v. tlv tag (enc v)) (tlv tag content))
 around_refused is_value enc tag content (Ok v) reads device = tt
 around_refused is_value enc tag content (Err e) reads device = no_content is_value enc tag content e (not_whole is_value enc content e reads device)

@@ -35,7 +35,7 @@ generalized_time t = tlv 24 (time_content t)
 abbrev pub general_string : List ℕ → List ℕ
 general_string octets = tlv 27 octets
 
--- SEQUENCE, of the encodings of its fields, joined: universal 16, constructed (8.9)
+-- SEQUENCE, of the encodings of its fields, concatenated: universal 16, constructed (8.9)
 abbrev pub sequence : List ℕ → List ℕ
 sequence content = tlv 48 content
 

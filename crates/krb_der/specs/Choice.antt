@@ -1,4 +1,4 @@
--- A CHOICE of two types that are told apart by their tags (X.690, 8.13).
+-- A CHOICE of two types that are distinguished by their tags (X.690, 8.13).
 use Rattle.std.proofs.Common.{inl, inr}
 use Rattle.std.specs.Prelude.{◌≡◌, ℕ, List, ◌⊎◌}
 use Rattle.krb_der_core.specs.declared.error.Asn1DerError.{Asn1DerError}
@@ -14,7 +14,8 @@ abbrev pub IsChoice : {A B : Type 0} → (A → Type 0) → (B → Type 0) → A
 IsChoice is_a is_b (inl v) = is_a v
 IsChoice is_a is_b (inr v) = is_b v
 
--- The first fault of a choice of elements with the tags t and u: the tag is neither, or the fault is that of the type with the tag.
+-- The first error of a choice of elements with the tags t and u: the tag is neither, or the error is that of the type with
+-- the tag.
 pub data ChoiceFault (t u : ℕ) (a b : ℕ → List ℕ → Asn1DerError → Type 0) (tag : ℕ) (content : List ℕ) : Asn1DerError → Type 0 where
   neither : (tag ≡ t → ⊥) → (tag ≡ u → ⊥) → ChoiceFault t u a b tag content errors.InvalidData
   of_first : (e : Asn1DerError) → tag ≡ t → a tag content e → ChoiceFault t u a b tag content e

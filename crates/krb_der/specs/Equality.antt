@@ -1,7 +1,7 @@
 -- What a comparison tells.
 use Rattle.std.specs.Prelude.{◌≡◌, ◌↔◌, Bool, IsTrue}
 
--- the test answers true for equal values and for no others
+-- the test is true for equal values and for no others
 abbrev pub TellsEqual : {A : Type 0} → (A → A → Bool) → Type 0
 TellsEqual {A} eq = (a b : A) → IsTrue (eq a b) ↔ (a ≡ b)
 

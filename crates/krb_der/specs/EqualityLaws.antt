@@ -17,7 +17,7 @@ and_both : (b c : Bool) → b ≡ true → c ≡ true → (b && c) ≡ true
 and_both true c e f = f
 and_both false c e f = e
 
--- ---- leaves
+-- ---- primitive types
 
 pub numbers_tell : TellsEqual nat_eq
 numbers_tell a b = (eqb-true a b, eq-eqb a b)
@@ -40,7 +40,8 @@ pair_tells {A} {B} {e} {f} g h v w = (
 )
 
 -- what is made of its parts, and taken apart to them
-pub parts_tell : {A B : Type 0} {e : B → B → Bool} (parts : A → B) (made : B → A) → ((v : A) → made (parts v) ≡ v) → TellsEqual e → TellsEqual (λ (v w : A). e (parts v) (parts w))
+pub parts_tell : {A B : Type 0} {e : B → B → Bool} (parts : A → B) (made : B → A) → ((v : A) → made (parts v) ≡ v) → TellsEqual e
+    → TellsEqual (λ (v w : A). e (parts v) (parts w))
 parts_tell parts made same h v w = (
   λ k. sym (same v) ∙ ap made ((h (parts v) (parts w)).0 k) ∙ same w,
   λ k. (h (parts v) (parts w)).1 (ap parts k),
@@ -67,7 +68,7 @@ optional_tells {A} {e} h v w = (
 pub list_tells : {A : Type 0} {e : A → A → Bool} → TellsEqual e → TellsEqual (pointwise e)
 list_tells h = pointwise_decides h
 
--- ---- leaves of several numbers
+-- ---- primitive types of several numbers
 
 pub bits_tell : TellsEqual (λ (v w : Bits). nat_eq v.spare w.spare && pointwise nat_eq v.octets w.octets)
 bits_tell = parts_tell (λ v. (v.spare, v.octets)) (λ p. record { spare = p.0; octets = p.1 }) (λ v. refl) (pair_tells numbers_tell octets_tell)

@@ -1,4 +1,4 @@
--- The fields of a sequence have one first fault, and none where they stand.
+-- The fields of a sequence have one first error, and none where they stand.
 use Rattle.std.proofs.Common.{◌≡◌, ℕ, ◌^◌, ◌<◌, Bool, true, false, List, [], ◌∷◌, ◌++◌, length, Option, Some, None, refl, sym, ap, subst, ◌∙◌, append_assoc, arith, inl, inr, length-append, ◌≤◌}
 use Rattle.std.specs.Prelude.{IfSome}
 use Rattle.krb_der_core.specs.declared.error.Asn1DerError.{Asn1DerError}
@@ -60,11 +60,11 @@ module _ {A : Type 0} (enc : A → List ℕ) (is_value : A → Type 0) (first : 
       one_rest = λ v w x y h k ends stops e. one_option_rest v.0 w.0 x y h k ends stops e;
     }
 
--- ---- fields behind fields
+-- ---- fields after fields
 
 module _ {L R : Type 0} (are_l : L → Type 0) (l_octets : L → List ℕ) (l_ends : L → List ℕ → Type 0) (l_fault : List ℕ → Asn1DerError → Type 0) (l_laws : FrontLaws are_l l_octets l_ends l_fault)
     (are_r : R → Type 0) (r_octets : R → List ℕ) (r_ends : R → List ℕ → Type 0) (r_fault : List ℕ → Asn1DerError → Type 0) (r_laws : FrontLaws are_r r_octets r_ends r_fault) where
-  -- what stands behind the left fields is shorter than all
+  -- what follows the left fields is shorter than all
   shorter : (v : L) (rest octets : List ℕ) → octets ≡ l_octets v ++ rest → length octets < 2 ^ 64 → length rest < 2 ^ 64
   shorter v rest octets e lt = omega (arith, ap length e, length-append (l_octets v) rest)
 
@@ -97,7 +97,8 @@ module _ {L R : Type 0} (are_l : L → Type 0) (l_octets : L → List ℕ) (l_en
   pair_told l_told r_told r_begins so tl tr follow told v x h hx = (tl (r_begins follow) told.0 v.0 (r_octets v.1 ++ x) h.0 (so follow v.1 x h.1 hx), tr follow told.1 v.1 x h.1 hx)
 
 -- the laws of fields that are others in another grouping
-pub regrouped_laws : {A B : Type 0} (to : A → B) (are_a : A → Type 0) (are_b : B → Type 0) (octets_of : B → List ℕ) (ends : B → List ℕ → Type 0) (fault : List ℕ → Asn1DerError → Type 0)
+pub regrouped_laws : {A B : Type 0} (to : A → B) (are_a : A → Type 0) (are_b : B → Type 0) (octets_of : B → List ℕ) (ends : B → List ℕ
+    → Type 0) (fault : List ℕ → Asn1DerError → Type 0)
     → FrontLaws are_b octets_of ends fault → ((v : A) → are_a v → are_b (to v)) → FrontLaws are_a (λ v. octets_of (to v)) (λ v. ends (to v)) fault
 regrouped_laws to are_a are_b octets_of ends fault laws h = record {
   no_value = λ octets e lt f v rest hv q ev. laws.no_value octets e lt f (to v) rest (h v hv) q ev;
@@ -107,20 +108,23 @@ regrouped_laws to are_a are_b octets_of ends fault laws h = record {
 
 -- ---- sequences
 
-pub parts_laws : {A F : Type 0} (parts : A → F) (is_content : F → Type 0) (content_of : F → List ℕ) (fault : List ℕ → Asn1DerError → Type 0) → ContentLaws is_content content_of fault → ContentLaws (λ v. is_content (parts v)) (λ v. content_of (parts v)) fault
+pub parts_laws : {A F : Type 0} (parts : A → F) (is_content : F → Type 0) (content_of : F → List ℕ) (fault : List ℕ → Asn1DerError
+    → Type 0) → ContentLaws is_content content_of fault → ContentLaws (λ v. is_content (parts v)) (λ v. content_of (parts v)) fault
 parts_laws parts is_content content_of fault laws = record {
   no_value = λ content e lt f v hv q. laws.no_value content e lt f (parts v) hv q;
   one_fault = laws.one_fault;
 }
 
-pub sequence_fault_laws : {A F : Type 0} (s : SequenceOf A F) (f : FieldsOf F) → f.told_apart nothing → FaultLaws (values_of s f) (λ v. tlv 48 (f.octets (s.fields v))) (sequence_fault f)
+pub sequence_fault_laws : {A F : Type 0} (s : SequenceOf A F) (f : FieldsOf F) → f.told_apart nothing
+    → FaultLaws (values_of s f) (λ v. tlv 48 (f.octets (s.fields v))) (sequence_fault f)
 sequence_fault_laws s f told =
     let fault = WholeFault f.are_values f.octets f.ends f.fault in
     tagged_laws 48 (values_of s f) (λ v. f.octets (s.fields v)) fault (parts_laws s.fields f.are_values f.octets fault (whole_laws f.are_values f.octets f.ends f.fault f.fault_laws (λ v hv. f.told_ends nothing told v [] hv tt)))
 
 -- ---- application tags
 
-pub number_laws : {A : Type 0} (n : ℕ) (is_value : A → Type 0) (enc : A → List ℕ) (fault : ℕ → List ℕ → Asn1DerError → Type 0) → FaultLaws is_value enc fault → FaultLaws (λ v. is_value v × (n ≤ 30)) enc (NumberFault n fault)
+pub number_laws : {A : Type 0} (n : ℕ) (is_value : A → Type 0) (enc : A → List ℕ) (fault : ℕ → List ℕ → Asn1DerError → Type 0)
+    → FaultLaws is_value enc fault → FaultLaws (λ v. is_value v × (n ≤ 30)) enc (NumberFault n fault)
 number_laws {A} n is_value enc fault laws = record { no_value = none; one_fault = one } where
   none : (t : ℕ) (content : List ℕ) (e : Asn1DerError) → length content < 2 ^ 64 → NumberFault n fault t content e → (v : A) → is_value v × (n ≤ 30) → tlv t content ≡ enc v → ⊥
   none t content e lt (inl f) v hv q = omega (arith, f.0, hv.1)

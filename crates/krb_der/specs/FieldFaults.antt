@@ -1,4 +1,4 @@
--- The first fault of the fields of a sequence, from the left.
+-- The first error of the fields of a sequence, from the left.
 use Rattle.std.specs.Prelude.{◌≡◌, ◌↔◌, ℕ, ◌<◌, ◌≤◌, ◌⊎◌, Bool, true, false, List, [], ◌∷◌, ◌++◌}
 use Rattle.krb_der_core.specs.declared.error.Asn1DerError.{Asn1DerError}
 use Rattle.krb_der_core.specs.declared.error.Asn1DerError.TheVariants as errors
@@ -15,33 +15,33 @@ abbrev pub IsAbsent : (ℕ → Bool) → List ℕ → Type 0
 IsAbsent first [] = Unit {0}
 IsAbsent first (t ∷ rest) = first t ≡ false
 
--- The first fault of a field that may be absent: it is there where the octets begin as it does, and then the fault is that of
+-- The first error of a field that may be absent: it is there where the octets begin as it does, and then the error is that of
 -- its element.
 abbrev pub OptionalFault : (ℕ → Bool) → (ℕ → List ℕ → Asn1DerError → Type 0) → List ℕ → Asn1DerError → Type 0
 OptionalFault first fault octets e = IsBegun first octets × FrontFault first fault octets e
 
--- The first fault of fields behind fields: that of the left ones, or these stand at the front and it is that of the right ones
--- in the octets behind them.
+-- The first error of fields after fields: that of the left ones, or these stand at the start and it is that of the right ones
+-- in the octets after them.
 pub data PairFault {L : Type 0} (are_values : L → Type 0) (octets_of : L → List ℕ) (ends : L → List ℕ → Type 0) (left right : List ℕ → Asn1DerError → Type 0) (octets : List ℕ) : Asn1DerError → Type 0 where
   in_left : (e : Asn1DerError) → left octets e → PairFault are_values octets_of ends left right octets e
   in_right : (v : L) (rest : List ℕ) (e : Asn1DerError) → are_values v → octets ≡ octets_of v ++ rest → ends v rest → right rest e → PairFault are_values octets_of ends left right octets e
 
--- The first fault of fields and a last one behind them.
+-- The first error of fields and a last one after them.
 abbrev pub LastFault : {L : Type 0} → FieldsOf L → (List ℕ → Asn1DerError → Type 0) → List ℕ → Asn1DerError → Type 0
 LastFault l = PairFault l.are_values l.octets l.ends l.fault
 
--- The first fault of a SEQUENCE (X.690, 8.9): its tag, then its fields in order, then what is left over.
+-- The first error of a SEQUENCE (X.690, 8.9): its tag, then its fields in order, then what is left over.
 abbrev pub sequence_fault : {F : Type 0} → FieldsOf F → ℕ → List ℕ → Asn1DerError → Type 0
 sequence_fault f = TaggedFault 48 (WholeFault f.are_values f.octets f.ends f.fault)
 
--- Two say one first fault of elements: of each tag and content.
+-- Two relations give the same first error: for each tag and content.
 abbrev pub SameFault : (ℕ → List ℕ → Asn1DerError → Type 0) → (ℕ → List ℕ → Asn1DerError → Type 0) → Type 0
 SameFault fault other = (t : ℕ) (content : List ℕ) (e : Asn1DerError) → fault t content e ↔ other t content e
 
--- The first fault of an element is that of the SEQUENCE of these fields.
+-- The first error of an element is that of the SEQUENCE of these fields.
 abbrev pub HasFaultsOf : {F : Type 0} → (ℕ → List ℕ → Asn1DerError → Type 0) → FieldsOf F → Type 0
 HasFaultsOf fault fields = SameFault fault (sequence_fault fields)
 
--- The first fault of an element under an application tag of this number: a number past 30 has no value.
+-- The first error of an element under an application tag of this number: a number past 30 has no value.
 abbrev pub NumberFault : ℕ → (ℕ → List ℕ → Asn1DerError → Type 0) → ℕ → List ℕ → Asn1DerError → Type 0
 NumberFault n fault t content e = ((30 < n) × (e ≡ errors.InvalidData)) ⊎ ((n ≤ 30) × fault t content e)

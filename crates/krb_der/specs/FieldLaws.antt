@@ -8,7 +8,7 @@ use Rattle.krb_der.specs.declared.optional.Optional.{Optional}
 use Rattle.krb_der.specs.Composite.{nothing}
 use Rattle.krb_der.specs.Grouping.{BeginSo, OneReading}
 
--- an element begins with its tag, whatever stands behind it
+-- an element begins with its tag, whatever is after it
 pub element_first : (f : ℕ → Bool) (a y : List ℕ) → IsElement f a → BeginsWith f (a ++ y)
 unfolding tlv
 element_first f [] y h = let k : [] ≡ h.tag ∷ (len (length h.content) ++ h.content) = h.whole in cc
@@ -62,7 +62,7 @@ module _ {A : Type 0} (enc : A → List ℕ) (is_value : A → Type 0) (first : 
         let s = optional_apart enc is_value first follow element one told v.0 w.0 x y hv hw hx hy e in
         (same_optional v w s.0, s.1)
 
--- ---- fields behind fields
+-- ---- fields after fields
 
 module _ {A B : Type 0} (a_octets : A → List ℕ) (b_octets : B → List ℕ) (are_a : A → Type 0) (are_b : B → Type 0) (a_begins b_begins : (ℕ → Bool) → ℕ → Bool) (a_so : BeginSo are_a a_octets a_begins) (b_so : BeginSo are_b b_octets b_begins) where
   pub both_begins : BeginSo (λ (v : A × B). are_a v.0 × are_b v.1) (λ v. a_octets v.0 ++ b_octets v.1) (λ follow. a_begins (b_begins follow))
@@ -79,7 +79,9 @@ module _ {A B : Type 0} (a_octets : A → List ℕ) (b_octets : B → List ℕ) 
 -- ---- a whole sequence
 
 -- a sequence decides the struct that is made of its fields
-pub sequence_one_value : {A F : Type 0} (fields : A → F) (with_fields : F → A) → ((v : A) → with_fields (fields v) ≡ v) → (told_apart : (ℕ → Bool) → Type 0) (are_values : F → Type 0) (octets : F → List ℕ) → OneReading told_apart are_values octets → told_apart nothing
+pub sequence_one_value : {A F : Type 0} (fields : A → F) (with_fields : F → A) → ((v : A) → with_fields (fields v) ≡ v)
+    → (told_apart : (ℕ → Bool) → Type 0) (are_values : F → Type 0) (octets : F → List ℕ) → OneReading told_apart are_values octets
+    → told_apart nothing
     → OneValue (λ v. are_values (fields v)) (λ v. tlv 48 (octets (fields v)))
 sequence_one_value fields with_fields same told_apart are_values octets one told v w hv hw e =
     let k = tlv_same 48 48 (octets (fields v)) (octets (fields w)) e in

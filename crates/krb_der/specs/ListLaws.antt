@@ -17,7 +17,7 @@ module _ {A : Type 0} (enc : A → List ℕ) (is_value : A → Type 0) (first : 
   row_long x y h = element_long first (enc x) y (element x h)
 
   module _ (one : OneValue is_value enc) where
-    -- what stands behind the values that were read is a row of values
+    -- what follows the values that were read is a row of values
     pub peel : (xs ys : List A) (rest : List ℕ) → AllByRecursion is_value xs → AllByRecursion is_value ys → flat_map enc xs ++ rest ≡ flat_map enc ys → (zs : List A) × AllByRecursion is_value zs × (rest ≡ flat_map enc zs)
     peel [] ys rest hx hy e = (ys, hy, e)
     peel (x ∷ xs) [] rest hx hy e = absurd (omega (arith, row_long x (flat_map enc xs ++ rest) hx.0, ap length (sym (append_assoc (enc x) (flat_map enc xs) rest) ∙ e)))

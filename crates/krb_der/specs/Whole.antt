@@ -1,13 +1,13 @@
--- What `from_bytes` answers.
+-- What `from_bytes` returns.
 use Rattle.std.specs.Prelude.{◌≡◌, ℕ, ◌<◌, ◌^◌, ◌⊎◌, List, ◌++◌, length, Result, MatchResult}
 use Rattle.krb_der_core.specs.declared.error.Asn1DerError.{Asn1DerError}
 use Rattle.krb_der_core.specs.declared.error.Asn1DerError.TheVariants as errors
 
--- the answer is this value, but for want of memory
+-- the result is this value, unless an allocation fails
 abbrev pub Answers : {A : Type 0} → Result A Asn1DerError → A → Type 0
 Answers r v = MatchResult r (λ w. w ≡ v) (λ e. e ≡ errors.OutOfMemory)
 
--- the answer is this fault, but for want of memory
+-- the result is this error, unless an allocation fails
 abbrev pub FailsWith : {A : Type 0} → Result A Asn1DerError → Asn1DerError → Type 0
 FailsWith r fault = MatchResult r (λ w. ⊥) (λ e. (e ≡ fault) ⊎ (e ≡ errors.OutOfMemory))
 
@@ -15,17 +15,17 @@ FailsWith r fault = MatchResult r (λ w. ⊥) (λ e. (e ≡ fault) ⊎ (e ≡ er
 abbrev pub ReadsValue : {A : Type 0} → (A → Type 0) → (A → List ℕ) → List ℕ → Result A Asn1DerError → Type 0
 ReadsValue {A} is_value enc input r = (v : A) → is_value v → input ≡ enc v → Answers r v
 
--- A proper front of an encoding is told to be cut short. The encoding has fewer than 2^64 octets: from there on the
--- length octets are nine, and those of a proper front are refused as a form that is not supported.
+-- A proper prefix of an encoding is `TruncatedData`. The encoding has fewer than 2^64 octets: from there on the
+-- length octets are nine, and those of a proper prefix are rejected as a form that is not supported.
 abbrev pub TellsCut : {A : Type 0} → (A → Type 0) → (A → List ℕ) → List ℕ → Result A Asn1DerError → Type 0
 TellsCut {A} is_value enc input r =
     (v : A) (rest : List ℕ) → is_value v → 0 < length rest → length (enc v) < 2 ^ 64 → enc v ≡ input ++ rest → FailsWith r errors.TruncatedData
 
--- an encoding with octets behind it is refused as invalid
+-- an encoding with trailing octets is `InvalidData`
 abbrev pub RefusesMore : {A : Type 0} → (A → Type 0) → (A → List ℕ) → List ℕ → Result A Asn1DerError → Type 0
 RefusesMore {A} is_value enc input r = (v : A) (rest : List ℕ) → is_value v → 0 < length rest → input ≡ enc v ++ rest → FailsWith r errors.InvalidData
 
--- no device failed
+-- no reader or writer failed
 abbrev pub NoDevice : Asn1DerError → Type 0
 NoDevice errors.OutOfMemory = Unit {0}
 NoDevice errors.TruncatedData = Unit {0}

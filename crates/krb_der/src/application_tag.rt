@@ -16,8 +16,8 @@ use std::marker::Model;
 
 /// A sequence under an application tag (X.690, 8.14): the tag `60` + N around the sequence.
 ///
-/// N is at most 30, as the tag is one octet: another N has no value, and its reading is `InvalidData`. A contract sees
-/// the sequence.
+/// N is at most 30, so that the tag is one octet: a larger N has no values, and reading it returns `InvalidData`. A contract
+/// sees the sequence.
 #[derive(Debug, Clone, Drop, PartialEq, Eq)]
 pub struct ApplicationTag<T, const N: u8>(pub T);
 
@@ -44,7 +44,10 @@ impl<T: DerSequence, const N: u8> DerEncode for ApplicationTag<T, N> {
 
     ghost fault = { NumberFault N (TaggedFault (96 + N) (ValueFault T.is_value T.enc T.first T.fault)) };
 
-    ghost fault_laws = { number_laws N T.is_value (λ v. tlv (96 + N) (T.enc v)) (TaggedFault (96 + N) (ValueFault T.is_value T.enc T.first T.fault)) (tagged_laws (96 + N) T.is_value T.enc (ValueFault T.is_value T.enc T.first T.fault) (value_laws T.is_value T.enc T.first T.is_element T.fault T.fault_laws T.one_value)) };
+    ghost fault_laws = { number_laws N T.is_value (λ v. tlv (96 + N) (T.enc v))
+        (TaggedFault (96 + N) (ValueFault T.is_value T.enc T.first T.fault))
+        (tagged_laws (96 + N) T.is_value T.enc (ValueFault T.is_value T.enc T.first T.fault)
+        (value_laws T.is_value T.enc T.first T.is_element T.fault T.fault_laws T.one_value)) };
 
     fn starts(octet: u8) -> bool {
         N <= 30 && octet == 0x60 + N

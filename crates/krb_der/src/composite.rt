@@ -1,7 +1,7 @@
-//! What a type of your own needs to be read and written, and how to add one.
+//! How to define a DER type of your own.
 //!
-//! A type is `DerEncode`, which says and writes the encoding of its values, and `Der`, which reads them. A struct that is a
-//! SEQUENCE gets both from its fields in five steps, none of which needs a proof file. Take this one:
+//! `DerEncode` specifies and writes the encoding of a type's values, and `Der` reads them. A struct that is a SEQUENCE
+//! implements both through its fields, in five steps that need no proof file. The example:
 //!
 //! ```text
 //! Note ::= SEQUENCE {
@@ -11,8 +11,9 @@
 //! }
 //! ```
 //!
-//! 1. Write the struct. Its fields are public and in order, each under its tag. One that may be absent is
-//!    `Optional<Option<..>>`. `ExplicitContextTag0` to `12` have names; from 13 to 30 write the number.
+//! 1. Write the struct. Its fields are public and in the order of the ASN.1 text, each under its tag. An OPTIONAL field is
+//!    `Optional<Option<..>>`. The tags 0 to 12 are `ExplicitContextTag0` to `ExplicitContextTag12`; the tags 13 to 30 are
+//!    `ExplicitContextTag<T, Number<13>>` to `Number<30>`.
 //!
 //!    ```text
 //!    #[derive(Debug, Drop, PartialEq, Eq)]
@@ -23,8 +24,8 @@
 //!    }
 //!    ```
 //!
-//! 2. Write `impl Sequence`: the tuple of the fields' types, the fields of a struct, the struct with given fields, and the
-//!    function that makes it.
+//! 2. Implement `Sequence`: the tuple of the fields' types, how a contract gets the fields of a struct and the struct of its
+//!    fields, and the function that makes the struct.
 //!
 //!    ```text
 //!    impl Sequence for Note {
@@ -48,10 +49,10 @@
 //!    }
 //!    ```
 //!
-//! 3. Write `impl DerEncode`. `enc` is the ASN.1 text again, in the words of the table below, one field after another with
-//!    `++` between. `write` names the fields. At the end of `one_value`, and again of `fault_laws`, stands, in the shape of the
-//!    fields, `tt` for each mandatory field and `only_tag TAG _ refl` for each that may be absent: it is told by its tag from
-//!    what follows it, and TAG is 160 more than its number. The other members are the same for each struct.
+//! 3. Implement `DerEncode`. `enc` is the ASN.1 text in the words of the table below, the fields in order, separated by
+//!    `++`. `write` names the fields. The last argument of `one_value` and of `fault_laws` has the shape of the tuple of
+//!    fields: `tt` for a mandatory field, `only_tag TAG _ refl` for an optional one, where TAG is 160 plus the number of its
+//!    tag: the tag distinguishes the field from what follows. The other members are the same for every struct.
 //!
 //!    ```text
 //!    impl DerEncode for Note {
@@ -79,7 +80,7 @@
 //!    }
 //!    ```
 //!
-//! 4. Write `impl Der`, the same for each struct.
+//! 4. Implement `Der`, the same for every struct.
 //!
 //!    ```text
 //!    impl Der for Note {
@@ -89,8 +90,8 @@
 //!    }
 //!    ```
 //!
-//! 5. Only where the struct stands under an application tag, as in `pub type Memo = ApplicationTag<Note, 3>;`, write
-//!    `impl DerSequence`, the same for each struct.
+//! 5. Only if the struct is under an application tag, as in `pub type Memo = ApplicationTag<Note, 3>;`: implement
+//!    `DerSequence`, the same for every struct.
 //!
 //!    ```text
 //!    impl DerSequence for Note {
@@ -98,7 +99,7 @@
 //!    }
 //!    ```
 //!
-//! The file imports what the code names and what its clauses name:
+//! The imports of the code and of its clauses:
 //!
 //! ```text
 //! ghost use Rattle.std.specs.Prelude.{◌==◌, ◌++◌, refl}; // with one field alone no ◌++◌
@@ -117,7 +118,7 @@
 //! use std::alloc::{AllocError, Global};
 //! ```
 //!
-//! Its crate names `krb_der` in crates.txt, for the macro.
+//! The crate's line of crates.txt names `krb_der`, for the macro `field_refs!`.
 //!
 //! # Types of fields
 //!
@@ -125,28 +126,28 @@
 //! |---|---|---|
 //! | BOOLEAN | `bool` | `boolean x` |
 //! | INTEGER, Int32, UInt32, Microseconds | `IntegerAsn1` | `integer x` |
-//! | INTEGER of 0 to 2^32 - 1, where no other is to be read | `u32` | `integer (pos x)`, with `pos` of the Prelude |
+//! | INTEGER of 0 to 2^32 - 1, where every other is an error | `u32` | `integer (pos x)`, with `pos` of the Prelude |
 //! | BIT STRING, KerberosFlags | `BitStringAsn1` | `bit_string x` |
 //! | OCTET STRING | `OctetStringAsn1` | `octet_string x` |
 //! | UTF8String | `Utf8StringAsn1` | `utf8_string x` |
 //! | GeneralString, KerberosString, Realm | `GeneralStringAsn1` | `general_string x` |
 //! | GeneralizedTime, KerberosTime | `GeneralizedTimeAsn1` | `generalized_time x` |
 //! | SEQUENCE OF T | `Asn1SequenceOf<T>` | `sequence_of w x`, where `w` is the word of T |
-//! | another type T: a struct, a list's name, what is under an application tag | `T` | `⟦<T as DerEncode>⟧.enc x` |
+//! | any other type T: a struct, an alias of a list, a type under an application tag | `T` | `⟦<T as DerEncode>⟧.enc x` |
 //! | `[N]` T | `ExplicitContextTagN<T>`, `ExplicitContextTag<T, Number<N>>` | `explicit N (w x)` |
 //! | `[N]` T OPTIONAL | `Optional<Option<ExplicitContextTagN<T>>>` | `optional (λ x. explicit N (w x)) v.name.0` |
 //! | `[APPLICATION N]` S | `ApplicationTag<S, N>` | `application N (w x)` |
 //!
-//! `krb_msg_types` names the types of RFC 4120 that are one of these, as `KerberosTime` is `GeneralizedTimeAsn1`; the word is that of
-//! the type behind the name.
+//! `krb_msg_types` has aliases for the types of RFC 4120 that are one of these: `KerberosTime` is `GeneralizedTimeAsn1`. The
+//! word of an alias is that of its type.
 //!
-//! # One field, and seven or more
+//! # One field; seven fields or more
 //!
-//! With one field alone `Fields` is its type with no parentheses, and so are `fields`, `with_fields`, `from_fields` and the end
-//! of `one_value` and `fault_laws`: `λ v. v.name`, `λ f. record { name = f }`, `name: Self::Fields` and `tt`.
+//! For one field, `Fields` is its type, without parentheses, and so are `fields`, `with_fields`, `from_fields` and the last
+//! argument of `one_value` and `fault_laws`: `λ v. v.name`, `λ f. record { name = f }`, `name: Self::Fields` and `tt`.
 //!
-//! A tuple has up to six fields. Seven or more stand in groups, which are tuples in a tuple; in `enc` parentheses stand
-//! around each group, and in `field_refs!` too. With `a` to `f` mandatory and `g [6]` optional:
+//! A tuple has up to six fields. Seven or more are grouped, as tuples in a tuple; `enc` and `field_refs!` have parentheses
+//! around each group. With `a` to `f` mandatory and `g [6]` optional:
 //!
 //! ```text
 //! type Fields = ((A, B, C, D), (E, F, G));
@@ -166,12 +167,12 @@
 //! write_sequence(alloc, &field_refs!(self; (a, b, c, d), (e, f, g)), out)
 //! ```
 //!
-//! A CHOICE, or another type of several tags, implements `DerEncode` and `Der` by itself.
+//! A CHOICE, or any other type with several tags, implements `DerEncode` and `Der` directly.
 
 pub use crate::context_tag::{Number, TagNumber};
 pub use crate::sequence::{FieldRefs, Fields, SEQUENCE, Sequence, read_sequence, write_sequence};
 
-/// The fields of a struct, lent for writing: `field_refs!(self; number, text)`. Fields in parentheses are a group.
+/// References to the fields of a struct, for writing: `field_refs!(self; number, text)`. Fields in parentheses are a group.
 #[macro_export]
 macro_rules! field_refs {
     (@one $value:expr; ($($group:tt)+)) => { $crate::field_refs!($value; $($group)+) };

@@ -11,12 +11,12 @@ use krb_der_core::{Asn1DerError, Der, DerEncode};
 use std::alloc::{AllocError, Global};
 use std::marker::{Model, PhantomData};
 
-/// A type that stands for the number of a context tag, as `Number<0>` does.
+/// The number of a context tag, as a type: `Number<0>`.
 pub trait TagNumber {
     /// The number, at most 30.
     ghost number: { ℕ };
 
-    /// The number, at most 30: a larger one takes more than one octet (X.690, 8.1.2.4).
+    /// The number, at most 30: a larger one needs more than one octet (X.690, 8.1.2.4).
     fn get() -> u8
         ensures value { result ≡ number }
         ensures small { result ≤ 30 };
@@ -24,8 +24,8 @@ pub trait TagNumber {
 
 /// A value under an explicit context tag (X.690, 8.14): the tag `a0` + N around the value's encoding.
 ///
-/// It is made by `ExplicitContextTag0::from(value)` and so on, and gives the value back at `.0`. The numbers 0 to 12 have
-/// such a name, and `ExplicitContextTag<T, Number<13>>` is that of 13. A contract sees the value.
+/// `ExplicitContextTag0::from(value)` makes it, and `.0` is the value. The numbers 0 to 12 have such a name; number 13 is
+/// `ExplicitContextTag<T, Number<13>>`. A contract sees the value.
 #[derive(Drop)]
 #[derive_where(Debug, Clone, PartialEq, Eq; T)]
 pub struct ExplicitContextTag<T, N>(pub T, PhantomData<N>);
@@ -59,7 +59,8 @@ impl<T: DerEncode, N: TagNumber> DerEncode for ExplicitContextTag<T, N> {
 
     ghost fault = { TaggedFault (160 + N.number) (ValueFault T.is_value T.enc T.first T.fault) };
 
-    ghost fault_laws = { tagged_laws (160 + N.number) T.is_value T.enc (ValueFault T.is_value T.enc T.first T.fault) (value_laws T.is_value T.enc T.first T.is_element T.fault T.fault_laws T.one_value) };
+    ghost fault_laws = { tagged_laws (160 + N.number) T.is_value T.enc (ValueFault T.is_value T.enc T.first T.fault)
+        (value_laws T.is_value T.enc T.first T.is_element T.fault T.fault_laws T.one_value) };
 
     fn starts(octet: u8) -> bool {
         octet == 0xa0 + N::get()
@@ -77,7 +78,7 @@ impl<T: Der + Drop, N: TagNumber> Der for ExplicitContextTag<T, N> {
     }
 }
 
-/// The number N of a context tag. It is at most 30, since the tag is one octet: a larger N stands for 30.
+/// The number N of a context tag, at most 30, since the tag is one octet: a larger N counts as 30.
 pub struct Number<const N: u8>;
 
 impl<const N: u8> TagNumber for Number<N> {

@@ -27,9 +27,11 @@ impl<T: Der + Drop, N: TagNumber> Fields for ExplicitContextTag<T, N> {
 
     ghost told_apart = { λ follow. Unit {0} };
 
-    ghost begin_so = { field_begins (λ v. tlv (160 + N.number) (T.enc v)) T.is_value (λ t. t == 160 + N.number) (λ v h. tagged_element (160 + N.number) (T.enc v)) };
+    ghost begin_so = { field_begins (λ v. tlv (160 + N.number) (T.enc v)) T.is_value (λ t. t == 160 + N.number)
+        (λ v h. tagged_element (160 + N.number) (T.enc v)) };
 
-    ghost one_reading = { field_one_reading (λ v. tlv (160 + N.number) (T.enc v)) T.is_value (λ t. t == 160 + N.number) (λ v h. tagged_element (160 + N.number) (T.enc v)) (tagged_one_value (160 + N.number) T.is_value T.enc T.one_value) };
+    ghost one_reading = { field_one_reading (λ v. tlv (160 + N.number) (T.enc v)) T.is_value (λ t. t == 160 + N.number)
+        (λ v h. tagged_element (160 + N.number) (T.enc v)) (tagged_one_value (160 + N.number) T.is_value T.enc T.one_value) };
 
     ghost ends = { λ v rest. Unit {0} };
 
@@ -45,7 +47,7 @@ impl<T: Der + Drop, N: TagNumber> Fields for ExplicitContextTag<T, N> {
     }
 }
 
-/// A field that may be absent: it is where the next octet may begin its encoding.
+/// An optional field: it is present where the next octet may begin its encoding.
 impl<T: Der + Drop> Fields for Optional<Option<T>> {
     ghost octets = { λ v. optional T.enc v.0 };
 
@@ -88,7 +90,8 @@ impl<L: Fields + Drop, R: Fields> Fields for (L, R) {
 
     ghost begin_so = { both_begins L.octets R.octets L.are_values R.are_values L.begins R.begins L.begin_so R.begin_so };
 
-    ghost one_reading = { both_one_reading L.octets R.octets L.are_values R.are_values L.begins R.begins L.begin_so R.begin_so L.told_apart R.told_apart L.one_reading R.one_reading };
+    ghost one_reading = { both_one_reading L.octets R.octets L.are_values R.are_values L.begins R.begins L.begin_so R.begin_so
+        L.told_apart R.told_apart L.one_reading R.one_reading };
 
     ghost ends = { λ v rest. L.ends v.0 (R.octets v.1 ++ rest) × R.ends v.1 rest };
 
@@ -96,7 +99,8 @@ impl<L: Fields + Drop, R: Fields> Fields for (L, R) {
 
     ghost fault_laws = { pair_laws L.are_values L.octets L.ends L.fault L.fault_laws R.are_values R.octets R.ends R.fault R.fault_laws };
 
-    ghost told_ends = { pair_told L.are_values L.octets L.ends L.fault L.fault_laws R.are_values R.octets R.ends R.fault R.fault_laws L.told_apart R.told_apart R.begins R.begin_so L.told_ends R.told_ends };
+    ghost told_ends = { pair_told L.are_values L.octets L.ends L.fault L.fault_laws R.are_values R.octets R.ends R.fault R.fault_laws
+        L.told_apart R.told_apart R.begins R.begin_so L.told_ends R.told_ends };
 
     fn read_fields(alloc: Global, input: &[u8]) -> Result<(Self, usize), Asn1DerError> {
         let (left, taken) = L::read_fields(alloc, input)?;
@@ -117,7 +121,9 @@ impl<A: Fields + Drop, B: Fields + Drop, C: Fields> Fields for (A, B, C) {
 
     ghost begin_so = { λ follow v x h. ⟦<((A, B), C) as Fields>⟧.begin_so follow ((v.0, v.1), v.2) x ((h.0, h.1), h.2) };
 
-    ghost one_reading = { λ follow told v w x y hv hw hx hy e. let s = ⟦<((A, B), C) as Fields>⟧.one_reading follow ((told.0, told.1), told.2) ((v.0, v.1), v.2) ((w.0, w.1), w.2) x y ((hv.0, hv.1), hv.2) ((hw.0, hw.1), hw.2) hx hy e in (ap (λ p. (p.0.0, p.0.1, p.1)) s.0, s.1) };
+    ghost one_reading = { λ follow told v w x y hv hw hx hy e. let s = ⟦<((A, B), C) as Fields>⟧.one_reading follow
+        ((told.0, told.1), told.2) ((v.0, v.1), v.2) ((w.0, w.1), w.2) x y ((hv.0, hv.1), hv.2) ((hw.0, hw.1), hw.2) hx hy e
+        in (ap (λ p. (p.0.0, p.0.1, p.1)) s.0, s.1) };
 
     ghost ends = { λ v. ⟦<((A, B), C) as Fields>⟧.ends ((v.0, v.1), v.2) };
 
@@ -125,7 +131,8 @@ impl<A: Fields + Drop, B: Fields + Drop, C: Fields> Fields for (A, B, C) {
 
     ghost fault_laws = { regrouped_laws (λ v. ((v.0, v.1), v.2)) _ _ _ _ _ ⟦<((A, B), C) as Fields>⟧.fault_laws (λ v h. ((h.0, h.1), h.2)) };
 
-    ghost told_ends = { λ follow told v x h hx. ⟦<((A, B), C) as Fields>⟧.told_ends follow ((told.0, told.1), told.2) ((v.0, v.1), v.2) x ((h.0, h.1), h.2) hx };
+    ghost told_ends = { λ follow told v x h hx. ⟦<((A, B), C) as Fields>⟧.told_ends follow ((told.0, told.1), told.2) ((v.0, v.1), v.2) x
+        ((h.0, h.1), h.2) hx };
 
     fn read_fields(alloc: Global, input: &[u8]) -> Result<(Self, usize), Asn1DerError> {
         let (((a, b), c), taken) = <((A, B), C)>::read_fields(alloc, input)?;
@@ -141,11 +148,14 @@ impl<A: Fields + Drop, B: Fields + Drop, C: Fields + Drop, D: Fields> Fields for
 
     ghost begins = { λ follow. A.begins (B.begins (C.begins (D.begins follow))) };
 
-    ghost told_apart = { λ follow. A.told_apart (B.begins (C.begins (D.begins follow))) × B.told_apart (C.begins (D.begins follow)) × C.told_apart (D.begins follow) × D.told_apart follow };
+    ghost told_apart = { λ follow. A.told_apart (B.begins (C.begins (D.begins follow))) × B.told_apart (C.begins (D.begins follow))
+        × C.told_apart (D.begins follow) × D.told_apart follow };
 
     ghost begin_so = { λ follow v x h. ⟦<((A, B, C), D) as Fields>⟧.begin_so follow ((v.0, v.1, v.2), v.3) x ((h.0, h.1, h.2), h.3) };
 
-    ghost one_reading = { λ follow told v w x y hv hw hx hy e. let s = ⟦<((A, B, C), D) as Fields>⟧.one_reading follow ((told.0, told.1, told.2), told.3) ((v.0, v.1, v.2), v.3) ((w.0, w.1, w.2), w.3) x y ((hv.0, hv.1, hv.2), hv.3) ((hw.0, hw.1, hw.2), hw.3) hx hy e in (ap (λ p. (p.0.0, p.0.1, p.0.2, p.1)) s.0, s.1) };
+    ghost one_reading = { λ follow told v w x y hv hw hx hy e. let s = ⟦<((A, B, C), D) as Fields>⟧.one_reading follow
+        ((told.0, told.1, told.2), told.3) ((v.0, v.1, v.2), v.3) ((w.0, w.1, w.2), w.3) x y ((hv.0, hv.1, hv.2), hv.3)
+        ((hw.0, hw.1, hw.2), hw.3) hx hy e in (ap (λ p. (p.0.0, p.0.1, p.0.2, p.1)) s.0, s.1) };
 
     ghost ends = { λ v. ⟦<((A, B, C), D) as Fields>⟧.ends ((v.0, v.1, v.2), v.3) };
 
@@ -153,7 +163,8 @@ impl<A: Fields + Drop, B: Fields + Drop, C: Fields + Drop, D: Fields> Fields for
 
     ghost fault_laws = { regrouped_laws (λ v. ((v.0, v.1, v.2), v.3)) _ _ _ _ _ ⟦<((A, B, C), D) as Fields>⟧.fault_laws (λ v h. ((h.0, h.1, h.2), h.3)) };
 
-    ghost told_ends = { λ follow told v x h hx. ⟦<((A, B, C), D) as Fields>⟧.told_ends follow ((told.0, told.1, told.2), told.3) ((v.0, v.1, v.2), v.3) x ((h.0, h.1, h.2), h.3) hx };
+    ghost told_ends = { λ follow told v x h hx. ⟦<((A, B, C), D) as Fields>⟧.told_ends follow ((told.0, told.1, told.2), told.3)
+        ((v.0, v.1, v.2), v.3) x ((h.0, h.1, h.2), h.3) hx };
 
     fn read_fields(alloc: Global, input: &[u8]) -> Result<(Self, usize), Asn1DerError> {
         let (((a, b, c), d), taken) = <((A, B, C), D)>::read_fields(alloc, input)?;
@@ -170,19 +181,25 @@ impl<A: Fields + Drop, B: Fields + Drop, C: Fields + Drop, D: Fields + Drop, E: 
 
     ghost begins = { λ follow. A.begins (B.begins (C.begins (D.begins (E.begins follow)))) };
 
-    ghost told_apart = { λ follow. A.told_apart (B.begins (C.begins (D.begins (E.begins follow)))) × B.told_apart (C.begins (D.begins (E.begins follow))) × C.told_apart (D.begins (E.begins follow)) × D.told_apart (E.begins follow) × E.told_apart follow };
+    ghost told_apart = { λ follow. A.told_apart (B.begins (C.begins (D.begins (E.begins follow))))
+        × B.told_apart (C.begins (D.begins (E.begins follow))) × C.told_apart (D.begins (E.begins follow))
+        × D.told_apart (E.begins follow) × E.told_apart follow };
 
     ghost begin_so = { λ follow v x h. ⟦<((A, B, C, D), E) as Fields>⟧.begin_so follow ((v.0, v.1, v.2, v.3), v.4) x ((h.0, h.1, h.2, h.3), h.4) };
 
-    ghost one_reading = { λ follow told v w x y hv hw hx hy e. let s = ⟦<((A, B, C, D), E) as Fields>⟧.one_reading follow ((told.0, told.1, told.2, told.3), told.4) ((v.0, v.1, v.2, v.3), v.4) ((w.0, w.1, w.2, w.3), w.4) x y ((hv.0, hv.1, hv.2, hv.3), hv.4) ((hw.0, hw.1, hw.2, hw.3), hw.4) hx hy e in (ap (λ p. (p.0.0, p.0.1, p.0.2, p.0.3, p.1)) s.0, s.1) };
+    ghost one_reading = { λ follow told v w x y hv hw hx hy e. let s = ⟦<((A, B, C, D), E) as Fields>⟧.one_reading follow
+        ((told.0, told.1, told.2, told.3), told.4) ((v.0, v.1, v.2, v.3), v.4) ((w.0, w.1, w.2, w.3), w.4) x y
+        ((hv.0, hv.1, hv.2, hv.3), hv.4) ((hw.0, hw.1, hw.2, hw.3), hw.4) hx hy e in (ap (λ p. (p.0.0, p.0.1, p.0.2, p.0.3, p.1)) s.0, s.1) };
 
     ghost ends = { λ v. ⟦<((A, B, C, D), E) as Fields>⟧.ends ((v.0, v.1, v.2, v.3), v.4) };
 
     ghost fault = { ⟦<((A, B, C, D), E) as Fields>⟧.fault };
 
-    ghost fault_laws = { regrouped_laws (λ v. ((v.0, v.1, v.2, v.3), v.4)) _ _ _ _ _ ⟦<((A, B, C, D), E) as Fields>⟧.fault_laws (λ v h. ((h.0, h.1, h.2, h.3), h.4)) };
+    ghost fault_laws = { regrouped_laws (λ v. ((v.0, v.1, v.2, v.3), v.4)) _ _ _ _ _
+        ⟦<((A, B, C, D), E) as Fields>⟧.fault_laws (λ v h. ((h.0, h.1, h.2, h.3), h.4)) };
 
-    ghost told_ends = { λ follow told v x h hx. ⟦<((A, B, C, D), E) as Fields>⟧.told_ends follow ((told.0, told.1, told.2, told.3), told.4) ((v.0, v.1, v.2, v.3), v.4) x ((h.0, h.1, h.2, h.3), h.4) hx };
+    ghost told_ends = { λ follow told v x h hx. ⟦<((A, B, C, D), E) as Fields>⟧.told_ends follow
+        ((told.0, told.1, told.2, told.3), told.4) ((v.0, v.1, v.2, v.3), v.4) x ((h.0, h.1, h.2, h.3), h.4) hx };
 
     fn read_fields(alloc: Global, input: &[u8]) -> Result<(Self, usize), Asn1DerError> {
         let (((a, b, c, d), e), taken) = <((A, B, C, D), E)>::read_fields(alloc, input)?;
@@ -205,19 +222,26 @@ impl<
 
     ghost begins = { λ follow. A.begins (B.begins (C.begins (D.begins (E.begins (F.begins follow))))) };
 
-    ghost told_apart = { λ follow. A.told_apart (B.begins (C.begins (D.begins (E.begins (F.begins follow))))) × B.told_apart (C.begins (D.begins (E.begins (F.begins follow)))) × C.told_apart (D.begins (E.begins (F.begins follow))) × D.told_apart (E.begins (F.begins follow)) × E.told_apart (F.begins follow) × F.told_apart follow };
+    ghost told_apart = { λ follow. A.told_apart (B.begins (C.begins (D.begins (E.begins (F.begins follow)))))
+        × B.told_apart (C.begins (D.begins (E.begins (F.begins follow)))) × C.told_apart (D.begins (E.begins (F.begins follow)))
+        × D.told_apart (E.begins (F.begins follow)) × E.told_apart (F.begins follow) × F.told_apart follow };
 
     ghost begin_so = { λ follow v x h. ⟦<((A, B, C, D, E), F) as Fields>⟧.begin_so follow ((v.0, v.1, v.2, v.3, v.4), v.5) x ((h.0, h.1, h.2, h.3, h.4), h.5) };
 
-    ghost one_reading = { λ follow told v w x y hv hw hx hy e. let s = ⟦<((A, B, C, D, E), F) as Fields>⟧.one_reading follow ((told.0, told.1, told.2, told.3, told.4), told.5) ((v.0, v.1, v.2, v.3, v.4), v.5) ((w.0, w.1, w.2, w.3, w.4), w.5) x y ((hv.0, hv.1, hv.2, hv.3, hv.4), hv.5) ((hw.0, hw.1, hw.2, hw.3, hw.4), hw.5) hx hy e in (ap (λ p. (p.0.0, p.0.1, p.0.2, p.0.3, p.0.4, p.1)) s.0, s.1) };
+    ghost one_reading = { λ follow told v w x y hv hw hx hy e. let s = ⟦<((A, B, C, D, E), F) as Fields>⟧.one_reading follow
+        ((told.0, told.1, told.2, told.3, told.4), told.5) ((v.0, v.1, v.2, v.3, v.4), v.5) ((w.0, w.1, w.2, w.3, w.4), w.5) x y
+        ((hv.0, hv.1, hv.2, hv.3, hv.4), hv.5) ((hw.0, hw.1, hw.2, hw.3, hw.4), hw.5) hx hy e
+        in (ap (λ p. (p.0.0, p.0.1, p.0.2, p.0.3, p.0.4, p.1)) s.0, s.1) };
 
     ghost ends = { λ v. ⟦<((A, B, C, D, E), F) as Fields>⟧.ends ((v.0, v.1, v.2, v.3, v.4), v.5) };
 
     ghost fault = { ⟦<((A, B, C, D, E), F) as Fields>⟧.fault };
 
-    ghost fault_laws = { regrouped_laws (λ v. ((v.0, v.1, v.2, v.3, v.4), v.5)) _ _ _ _ _ ⟦<((A, B, C, D, E), F) as Fields>⟧.fault_laws (λ v h. ((h.0, h.1, h.2, h.3, h.4), h.5)) };
+    ghost fault_laws = { regrouped_laws (λ v. ((v.0, v.1, v.2, v.3, v.4), v.5)) _ _ _ _ _
+        ⟦<((A, B, C, D, E), F) as Fields>⟧.fault_laws (λ v h. ((h.0, h.1, h.2, h.3, h.4), h.5)) };
 
-    ghost told_ends = { λ follow told v x h hx. ⟦<((A, B, C, D, E), F) as Fields>⟧.told_ends follow ((told.0, told.1, told.2, told.3, told.4), told.5) ((v.0, v.1, v.2, v.3, v.4), v.5) x ((h.0, h.1, h.2, h.3, h.4), h.5) hx };
+    ghost told_ends = { λ follow told v x h hx. ⟦<((A, B, C, D, E), F) as Fields>⟧.told_ends follow
+        ((told.0, told.1, told.2, told.3, told.4), told.5) ((v.0, v.1, v.2, v.3, v.4), v.5) x ((h.0, h.1, h.2, h.3, h.4), h.5) hx };
 
     fn read_fields(alloc: Global, input: &[u8]) -> Result<(Self, usize), Asn1DerError> {
         let (((a, b, c, d, e), f), taken) = <((A, B, C, D, E), F)>::read_fields(alloc, input)?;
@@ -236,7 +260,7 @@ impl<'a, T: DerEncode, N: TagNumber> FieldRefs for &'a ExplicitContextTag<T, N> 
     }
 }
 
-/// A field that may be absent: then nothing is written.
+/// An optional field: `None` is written as no octets.
 impl<'a, T: DerEncode> FieldRefs for &'a Optional<Option<T>> {
     ghost octets = { λ v. optional T.enc v.now.0 };
 
@@ -250,7 +274,7 @@ impl<'a, T: DerEncode> FieldRefs for &'a Optional<Option<T>> {
     }
 }
 
-/// Fields, and the field or the group behind them. `field_refs!` makes these pairs.
+/// Fields, and the next field or group. `field_refs!` makes these pairs.
 impl<L: FieldRefs, R: FieldRefs> FieldRefs for (L, R) {
     ghost octets = { λ v. L.octets v.0 ++ R.octets v.1 };
 

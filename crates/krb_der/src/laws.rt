@@ -1,4 +1,4 @@
-//! Laws over the definitions, of functions that do nothing.
+//! Lemmas about the definitions: functions with no body, each of whose clauses is a fact for proofs above.
 
 ghost use Rattle.std.specs.Prelude.{◌≡◌, ◌↔◌, ◌==◌, ◌||◌, ◌+◌, ◌<◌, ◌≤◌, ◌^◌, ◌++◌, ◌∷◌, ℕ, ℤ, pos, Bool, List, Option, None, IfSome, length};
 ghost use Rattle.std.specs.Str.{IsAscii, IsUtf8};
@@ -31,7 +31,7 @@ use krb_der_core::{
     IntegerAsn1, OctetStringAsn1, Utf8StringAsn1,
 };
 
-/// The laws of joined encodings: what stands at the front of octets is decided by them, and so is what stands behind it.
+/// Concatenated encodings: the octets determine the first value, and what follows it.
 ///
 /// `element` is of one tag, length and content (X.690, 8.1.1) and a rest; `field` of a mandatory field and a rest;
 /// `optional` of an optional field and a rest that begins with none of the field's first octets.
@@ -43,7 +43,7 @@ pub fn joined_encodings<T: DerEncode>()
         → optional T.enc v ++ x ≡ optional T.enc w ++ y → (v ≡ w) × (x ≡ y) }
 {}
 
-/// The tag and the content of each leaf (X.690, 8.2, 8.3, 8.6, 8.7, 8.23 and 8.25).
+/// The tag and the content of each primitive type (X.690, 8.2, 8.3, 8.6, 8.7, 8.23 and 8.25).
 pub fn leaf_encodings()
     ensures boolean { (v : Bool) → ⟦<bool as DerEncode>⟧.enc v ≡ tlv 1 (bool_content v) }
     ensures integer { (v : ℤ) → ⟦<IntegerAsn1 as DerEncode>⟧.enc v ≡ tlv 2 (shortest v) }
@@ -55,7 +55,7 @@ pub fn leaf_encodings()
     ensures general_string { (v : List ℕ) → ⟦<GeneralStringAsn1 as DerEncode>⟧.enc v ≡ tlv 27 v }
 {}
 
-/// `Asn1SequenceOf`: the tag `30` around the items' encodings, joined (X.690, 8.10).
+/// `Asn1SequenceOf`: the tag `30` around the items' encodings, concatenated (X.690, 8.10).
 pub fn sequence_of<T: DerEncode>()
     ensures { (v : List T) → ⟦<Asn1SequenceOf<T> as DerEncode>⟧.enc v ≡ tlv 48 (flat_map T.enc v) }
 {}
@@ -87,28 +87,40 @@ pub fn context_tags<T: DerEncode>()
     ensures tag_12 { (v : T) → ⟦<ExplicitContextTag12<T> as DerEncode>⟧.enc v ≡ tlv 172 (T.enc v) }
 {}
 
-/// What the first fault of octets is: there is one at most, and none where a value's encoding stands.
+/// The first error of octets: there is at most one, and none where the octets are a value's encoding.
 ///
-/// `front` and `read` are of the front of octets, as `Der::read` takes it, `all` and `whole` of all of them, as `from_bytes`
+/// `front` and `read` are about a prefix of the octets, as `Der::read` takes it, `all` and `whole` about all of them, as `from_bytes`
 /// does. Octets have fewer than 2^64 octets, as those of any slice.
 pub fn first_fault<T: DerEncode>()
-    ensures front { (octets : List ℕ) (e d : Asn1DerError) → length octets < 2 ^ 64 → FrontFault T.first T.fault octets e → FrontFault T.first T.fault octets d → e ≡ d }
-    ensures read { (octets : List ℕ) (e : Asn1DerError) (v : T) (rest : List ℕ) → length octets < 2 ^ 64 → FrontFault T.first T.fault octets e → T.is_value v → octets ≡ T.enc v ++ rest → ⊥ }
-    ensures all { (octets : List ℕ) (e d : Asn1DerError) → length octets < 2 ^ 64 → ValueFault T.is_value T.enc T.first T.fault octets e → ValueFault T.is_value T.enc T.first T.fault octets d → e ≡ d }
-    ensures whole { (octets : List ℕ) (e : Asn1DerError) (v : T) → length octets < 2 ^ 64 → ValueFault T.is_value T.enc T.first T.fault octets e → T.is_value v → octets ≡ T.enc v → ⊥ }
+    ensures front { (octets : List ℕ) (e d : Asn1DerError) → length octets < 2 ^ 64 → FrontFault T.first T.fault octets e
+        → FrontFault T.first T.fault octets d → e ≡ d }
+    ensures read { (octets : List ℕ) (e : Asn1DerError) (v : T) (rest : List ℕ) → length octets < 2 ^ 64
+        → FrontFault T.first T.fault octets e → T.is_value v → octets ≡ T.enc v ++ rest → ⊥ }
+    ensures all { (octets : List ℕ) (e d : Asn1DerError) → length octets < 2 ^ 64 → ValueFault T.is_value T.enc T.first T.fault octets e
+        → ValueFault T.is_value T.enc T.first T.fault octets d → e ≡ d }
+    ensures whole { (octets : List ℕ) (e : Asn1DerError) (v : T) → length octets < 2 ^ 64
+        → ValueFault T.is_value T.enc T.first T.fault octets e → T.is_value v → octets ≡ T.enc v → ⊥ }
 {}
 
-/// The fault of a leaf: an element of another tag, or of a content that no value has, is `InvalidData`. Its encodings begin with the tag,
-/// and with no other octet (X.690, 8.1.2).
+/// The error of a primitive type: an element with another tag, or with a content that no value has, is `InvalidData`. Its
+/// encodings begin with the tag, and with no other octet (X.690, 8.1.2).
 pub fn leaf_faults()
-    ensures boolean { (t : ℕ) (content : List ℕ) (e : Asn1DerError) → ⟦<bool as DerEncode>⟧.fault t content e ↔ LeafFault 1 (λ (v : Bool). Unit {0}) bool_content t content e }
-    ensures integer { (t : ℕ) (content : List ℕ) (e : Asn1DerError) → ⟦<IntegerAsn1 as DerEncode>⟧.fault t content e ↔ LeafFault 2 (λ (v : ℤ). Unit {0}) shortest t content e }
-    ensures number { (t : ℕ) (content : List ℕ) (e : Asn1DerError) → ⟦<u32 as DerEncode>⟧.fault t content e ↔ LeafFault 2 (λ (v : ℕ). v < 2 ^ 32) (λ v. shortest (pos v)) t content e }
-    ensures bit_string { (t : ℕ) (content : List ℕ) (e : Asn1DerError) → ⟦<BitStringAsn1 as DerEncode>⟧.fault t content e ↔ LeafFault 3 IsBits (λ (v : Bits). v.spare ∷ v.octets) t content e }
-    ensures octet_string { (t : ℕ) (content : List ℕ) (e : Asn1DerError) → ⟦<OctetStringAsn1 as DerEncode>⟧.fault t content e ↔ LeafFault 4 IsOctets (λ (v : List ℕ). v) t content e }
-    ensures utf8_string { (t : ℕ) (content : List ℕ) (e : Asn1DerError) → ⟦<Utf8StringAsn1 as DerEncode>⟧.fault t content e ↔ LeafFault 12 IsUtf8 (λ (v : List ℕ). v) t content e }
-    ensures generalized_time { (t : ℕ) (content : List ℕ) (e : Asn1DerError) → ⟦<GeneralizedTimeAsn1 as DerEncode>⟧.fault t content e ↔ LeafFault 24 IsRealTime time_content t content e }
-    ensures general_string { (t : ℕ) (content : List ℕ) (e : Asn1DerError) → ⟦<GeneralStringAsn1 as DerEncode>⟧.fault t content e ↔ LeafFault 27 IsAscii (λ (v : List ℕ). v) t content e }
+    ensures boolean { (t : ℕ) (content : List ℕ) (e : Asn1DerError) → ⟦<bool as DerEncode>⟧.fault t content e
+        ↔ LeafFault 1 (λ (v : Bool). Unit {0}) bool_content t content e }
+    ensures integer { (t : ℕ) (content : List ℕ) (e : Asn1DerError) → ⟦<IntegerAsn1 as DerEncode>⟧.fault t content e
+        ↔ LeafFault 2 (λ (v : ℤ). Unit {0}) shortest t content e }
+    ensures number { (t : ℕ) (content : List ℕ) (e : Asn1DerError) → ⟦<u32 as DerEncode>⟧.fault t content e
+        ↔ LeafFault 2 (λ (v : ℕ). v < 2 ^ 32) (λ v. shortest (pos v)) t content e }
+    ensures bit_string { (t : ℕ) (content : List ℕ) (e : Asn1DerError) → ⟦<BitStringAsn1 as DerEncode>⟧.fault t content e
+        ↔ LeafFault 3 IsBits (λ (v : Bits). v.spare ∷ v.octets) t content e }
+    ensures octet_string { (t : ℕ) (content : List ℕ) (e : Asn1DerError) → ⟦<OctetStringAsn1 as DerEncode>⟧.fault t content e
+        ↔ LeafFault 4 IsOctets (λ (v : List ℕ). v) t content e }
+    ensures utf8_string { (t : ℕ) (content : List ℕ) (e : Asn1DerError) → ⟦<Utf8StringAsn1 as DerEncode>⟧.fault t content e
+        ↔ LeafFault 12 IsUtf8 (λ (v : List ℕ). v) t content e }
+    ensures generalized_time { (t : ℕ) (content : List ℕ) (e : Asn1DerError) → ⟦<GeneralizedTimeAsn1 as DerEncode>⟧.fault t content e
+        ↔ LeafFault 24 IsRealTime time_content t content e }
+    ensures general_string { (t : ℕ) (content : List ℕ) (e : Asn1DerError) → ⟦<GeneralStringAsn1 as DerEncode>⟧.fault t content e
+        ↔ LeafFault 27 IsAscii (λ (v : List ℕ). v) t content e }
     ensures boolean_tag { HasTag 1 ⟦<bool as DerEncode>⟧.first }
     ensures integer_tag { HasTag 2 ⟦<IntegerAsn1 as DerEncode>⟧.first }
     ensures number_tag { HasTag 2 ⟦<u32 as DerEncode>⟧.first }
@@ -119,27 +131,32 @@ pub fn leaf_faults()
     ensures general_string_tag { HasTag 27 ⟦<GeneralStringAsn1 as DerEncode>⟧.first }
 {}
 
-/// The fault of what is made of values of T: first that of the tag, then that of what is inside, from the left. Its encodings begin with
-/// the tag, and with no other octet (X.690, 8.1.2).
+/// The error of a wrapper of values of T: first that of the tag, then that of the content, from the left. Its
+/// encodings begin with the tag, and with no other octet (X.690, 8.1.2).
 pub fn composite_faults<T: DerEncode, const N: u8>()
-    ensures sequence_of { (t : ℕ) (content : List ℕ) (e : Asn1DerError) → ⟦<Asn1SequenceOf<T> as DerEncode>⟧.fault t content e ↔ TaggedFault 48 (RowFault T.is_value T.enc (FrontFault T.first T.fault)) t content e }
-    ensures explicit { N ≤ 30 → (t : ℕ) (content : List ℕ) (e : Asn1DerError) → ⟦<ExplicitContextTag<T, Number<N>> as DerEncode>⟧.fault t content e ↔ TaggedFault (160 + N) (ValueFault T.is_value T.enc T.first T.fault) t content e }
+    ensures sequence_of { (t : ℕ) (content : List ℕ) (e : Asn1DerError) → ⟦<Asn1SequenceOf<T> as DerEncode>⟧.fault t content e
+        ↔ TaggedFault 48 (RowFault T.is_value T.enc (FrontFault T.first T.fault)) t content e }
+    ensures explicit { N ≤ 30 → (t : ℕ) (content : List ℕ) (e : Asn1DerError)
+        → ⟦<ExplicitContextTag<T, Number<N>> as DerEncode>⟧.fault t content e
+        ↔ TaggedFault (160 + N) (ValueFault T.is_value T.enc T.first T.fault) t content e }
     ensures sequence_of_tag { HasTag 48 ⟦<Asn1SequenceOf<T> as DerEncode>⟧.first }
     ensures explicit_tag { N ≤ 30 → HasTag (160 + N) ⟦<ExplicitContextTag<T, Number<N>> as DerEncode>⟧.first }
 {}
 
-/// The fault of a sequence under an application tag, and the octet with which alone its encodings begin.
+/// The error of a sequence under an application tag, and the one octet with which its encodings begin.
 pub fn application_fault<T: DerSequence, const N: u8>()
     ensures tag { N ≤ 30 → HasTag (96 + N) ⟦<ApplicationTag<T, N> as DerEncode>⟧.first }
-    ensures fault { N ≤ 30 → (t : ℕ) (content : List ℕ) (e : Asn1DerError) → ⟦<ApplicationTag<T, N> as DerEncode>⟧.fault t content e ↔ TaggedFault (96 + N) (ValueFault T.is_value T.enc T.first T.fault) t content e }
+    ensures fault { N ≤ 30 → (t : ℕ) (content : List ℕ) (e : Asn1DerError) → ⟦<ApplicationTag<T, N> as DerEncode>⟧.fault t content e
+        ↔ TaggedFault (96 + N) (ValueFault T.is_value T.enc T.first T.fault) t content e }
 {}
 
-/// The first fault of a field of a sequence (X.690, 8.9 and 8.14), and where the field ends.
+/// The first error of a field of a sequence (X.690, 8.9 and 8.14), and where the field ends.
 ///
-/// A mandatory field stands under its tag, and ends with its octets. One that may be absent is there where the octets begin as
-/// it does, and is absent where they do not: with it and what may follow, octets begin as one or the other does.
+/// A mandatory field is under its tag, and ends with its octets. An optional field is present where the octets begin as its
+/// encodings do, and absent elsewhere: with it and what may follow, octets begin as one or the other does.
 pub fn field_faults<T: Der + Drop, const N: u8>()
-    ensures mandatory { N ≤ 30 → (octets : List ℕ) (e : Asn1DerError) → ⟦<ExplicitContextTag<T, Number<N>> as Fields>⟧.fault octets e ↔ FrontFault (λ t. t == 160 + N) (TaggedFault (160 + N) (ValueFault T.is_value T.enc T.first T.fault)) octets e }
+    ensures mandatory { N ≤ 30 → (octets : List ℕ) (e : Asn1DerError) → ⟦<ExplicitContextTag<T, Number<N>> as Fields>⟧.fault octets e
+        ↔ FrontFault (λ t. t == 160 + N) (TaggedFault (160 + N) (ValueFault T.is_value T.enc T.first T.fault)) octets e }
     ensures mandatory_ends { (v : T) (rest : List ℕ) → ⟦<ExplicitContextTag<T, Number<N>> as Fields>⟧.ends v rest }
     ensures optional { (octets : List ℕ) (e : Asn1DerError) → ⟦<Optional<Option<T>> as Fields>⟧.fault octets e ↔ OptionalFault T.first T.fault octets e }
     ensures optional_ends { (v : OptionalOf (Option T)) (rest : List ℕ) → ⟦<Optional<Option<T>> as Fields>⟧.ends v rest ↔ (v.0 ≡ None → IsAbsent T.first rest) }
@@ -147,8 +164,8 @@ pub fn field_faults<T: Der + Drop, const N: u8>()
     ensures optional_begins { (follow : ℕ → Bool) (t : ℕ) → ⟦<Optional<Option<T>> as Fields>⟧.begins follow t ≡ (T.first t || follow t) }
 {}
 
-/// The first fault of fields (X.690, 8.9): that of the fields before the last, or they stand and it is that of the last in the
-/// octets behind them. Tuples of two to six, of fields or of groups of fields.
+/// The first error of fields (X.690, 8.9): that of the fields before the last; where these have none, that of the last in the
+/// octets after them. Tuples of two to six, of fields or of groups of fields.
 pub fn tuple_faults<
     A: Fields + Drop,
     B: Fields + Drop,
@@ -161,10 +178,11 @@ pub fn tuple_faults<
     ensures three { (octets : List ℕ) (e : Asn1DerError) → ⟦<(A, B, C) as Fields>⟧.fault octets e ↔ LastFault ⟦<(A, B) as Fields>⟧ C.fault octets e }
     ensures four { (octets : List ℕ) (e : Asn1DerError) → ⟦<(A, B, C, D) as Fields>⟧.fault octets e ↔ LastFault ⟦<(A, B, C) as Fields>⟧ D.fault octets e }
     ensures five { (octets : List ℕ) (e : Asn1DerError) → ⟦<(A, B, C, D, E) as Fields>⟧.fault octets e ↔ LastFault ⟦<(A, B, C, D) as Fields>⟧ E.fault octets e }
-    ensures six { (octets : List ℕ) (e : Asn1DerError) → ⟦<(A, B, C, D, E, F) as Fields>⟧.fault octets e ↔ LastFault ⟦<(A, B, C, D, E) as Fields>⟧ F.fault octets e }
+    ensures six { (octets : List ℕ) (e : Asn1DerError) → ⟦<(A, B, C, D, E, F) as Fields>⟧.fault octets e
+        ↔ LastFault ⟦<(A, B, C, D, E) as Fields>⟧ F.fault octets e }
 {}
 
-/// `==` on each leaf: it answers true for equal values and for no others.
+/// `==` on each primitive type: it returns true for equal values and for no others.
 pub fn leaf_equality()
     ensures integer { TellsEqual ⟦<IntegerAsn1 as PartialEq>⟧.eq }
     ensures number { TellsEqual ⟦<u32 as PartialEq>⟧.eq }
@@ -175,7 +193,7 @@ pub fn leaf_equality()
     ensures general_string { TellsEqual ⟦<GeneralStringAsn1 as PartialEq>⟧.eq }
 {}
 
-/// `==` on what is made of values of T: it tells equal values, where that of T does.
+/// `==` on a wrapper of values of T: it returns true for equal values and for no others, where that of T does.
 pub fn wrapper_equality<T: PartialEq, N: TagNumber, const M: u8>()
     ensures explicit { TellsEqual T.eq → TellsEqual ⟦<ExplicitContextTag<T, N> as PartialEq>⟧.eq }
     ensures application { TellsEqual T.eq → TellsEqual ⟦<ApplicationTag<T, M> as PartialEq>⟧.eq }
@@ -183,7 +201,7 @@ pub fn wrapper_equality<T: PartialEq, N: TagNumber, const M: u8>()
     ensures sequence_of { TellsEqual T.eq → TellsEqual ⟦<Asn1SequenceOf<T> as PartialEq>⟧.eq }
 {}
 
-/// A clone of a time is that time again, and one of what is made of values of T is, where a clone of T's is.
+/// A clone of a time equals it, and so does a clone of a wrapper of values of T, where a clone of a T does.
 pub fn clones<T: Clone, N: TagNumber, const M: u8>()
     ensures generalized_time { ClonesValue ⟦<GeneralizedTimeAsn1 as Clone>⟧.is_clone }
     ensures explicit { ClonesValue T.is_clone → ClonesValue ⟦<ExplicitContextTag<T, N> as Clone>⟧.is_clone }

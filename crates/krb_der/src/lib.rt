@@ -1,9 +1,8 @@
 //! Values in the Distinguished Encoding Rules (ITU-T X.690), as Kerberos uses them (RFC 4120, 5.1 and 5.2).
 //!
-//! `from_bytes` reads a value from its one encoding and refuses all other octets; `to_vec` writes that encoding, and
-//! `copy` does both. `from_reader` and `to_writer` do so on readers and writers. The
-//! leaves are the simple types of ASN.1, the wrappers put tags around them, and `composite` has what a struct needs to
-//! be a SEQUENCE.
+//! `from_bytes` reads a value from its one encoding and returns an error for all other octets; `to_vec` writes that encoding, and
+//! `copy` does both. `from_reader` and `to_writer` read and write streams. The primitive types are those of ASN.1, the
+//! wrappers put tags around them, and `composite` has what a struct needs to be a SEQUENCE.
 #![tactic(auto)]
 
 mod application_tag;

@@ -1,4 +1,4 @@
-//! Structs that are SEQUENCEs.
+//! SEQUENCE.
 
 ghost use Rattle.std.specs.Prelude.{◌≡◌, ℕ, Bool, List, ◌++◌, drop, Err, IfOk, IfErr, OnOk, OnErr};
 ghost use Rattle.krb_der_core.specs.Tlv.{tlv};
@@ -16,40 +16,40 @@ use std::alloc::{AllocError, Global};
 /// The tag of a SEQUENCE: universal 16, constructed (X.690, 8.9).
 pub const SEQUENCE: u8 = 0x30;
 
-/// Fields of a sequence (X.690, 8.9), one after another, as they are read: an explicit tag, an `Optional`, or a tuple of
-/// two to six of these or of such tuples.
+/// Fields of a sequence (X.690, 8.9) in order, for reading: an explicit tag, an `Optional`, or a tuple of two to six of
+/// these or of such tuples.
 pub trait Fields {
-    /// The encodings of the fields, joined. An absent field adds nothing.
+    /// The encodings of the fields, concatenated. An absent field adds nothing.
     ghost octets: { Self → List ℕ };
 
-    /// Holds where each field is a value of its type.
+    /// Each field is a value of its type.
     ghost are_values: { Self → Type 0 };
 
-    /// Which octets the fields begin with, or what follows them where they are absent, if that begins so.
+    /// Whether the fields may begin with an octet, or what follows them where they are absent, given the octets it begins with.
     ghost begins: { (ℕ → Bool) → ℕ → Bool };
 
-    /// Each optional field is told by its first octet from what follows it, if what follows the fields begins so.
+    /// The first octet of each optional field distinguishes it from what follows, given the octets that what follows begins with.
     ghost told_apart: { (ℕ → Bool) → Type 0 };
 
-    /// Fields, and octets behind them that begin so, begin as `begins` says.
+    /// Fields with octets after them begin as `begins` says.
     ghost begin_so: { BeginSo are_values octets begins };
 
-    /// Fields that are told apart from what follows them decide themselves and what follows.
+    /// Where the fields are distinguished from what follows, the octets determine the fields and what follows.
     ghost one_reading: { OneReading told_apart are_values octets };
 
-    /// The fields end where these octets begin: none of those that are absent at the end begins so.
+    /// The fields end where these octets begin: no absent field at the end begins as they do.
     ghost ends: { Self → List ℕ → Type 0 };
 
-    /// Which refusal the first fault is of the fields at the front of these octets, from the left.
+    /// The first error of the fields at the start of these octets, from the left.
     ghost fault: { List ℕ → Asn1DerError → Type 0 };
 
-    /// Where the fields have a fault they do not stand, and they have no other first fault.
+    /// Octets with an error do not begin with fields, and have no other first error.
     ghost fault_laws: { FrontLaws are_values octets ends fault };
 
-    /// Fields that are told apart from what follows them end where it begins so.
+    /// Fields that are distinguished from what follows end where that begins.
     ghost told_ends: { ToldEnds told_apart are_values ends };
 
-    /// The fields at the front of the input, and the number of their octets. What follows them is not looked at.
+    /// The fields at the start of the input, and the number of their octets. What follows is not read.
     fn read_fields(alloc: Global, input: &[u8]) -> Result<(Self, usize), Asn1DerError>
         ensures valid { IfOk result (λ p. are_values p.0) }
         ensures found { IfOk result (λ p. TakesFront (octets p.0) p.1 input.now) }
@@ -59,22 +59,22 @@ pub trait Fields {
         ensures first_fault { IfErr result (OrMemory (fault input.now)) };
 }
 
-/// Fields of a sequence (X.690, 8.9), one after another, lent for writing: what `field_refs!` makes.
+/// References to the fields of a sequence (X.690, 8.9) in order, for writing: `field_refs!` makes them.
 pub trait FieldRefs {
-    /// The encodings of the fields, joined. An absent field adds nothing.
+    /// The encodings of the fields, concatenated. An absent field adds nothing.
     ghost octets: { Self → List ℕ };
 
-    /// Holds where each field is a value of its type.
+    /// Each field is a value of its type.
     ghost are_values: { Self → Type 0 };
 
-    /// Appends the fields to `out`, which is as before where memory is wanting.
+    /// Appends the fields to `out`, which is unchanged where an allocation fails.
     fn write_refs(&self, alloc: Global, out: &mut Vec<u8>) -> Result<(), AllocError>
         ensures ok { OnOk result (out.new.items ≡ out.old.items ++ octets self.now) }
         ensures valid { OnOk result (are_values self.now) }
         ensures err { OnErr result (out.new.items ≡ out.old.items) };
 }
 
-/// A struct that is made of the fields of a sequence (X.690, 8.9).
+/// A struct that is a SEQUENCE of its fields (X.690, 8.9).
 pub trait Sequence {
     /// The types of the fields, in order: a tuple of up to six, or of groups.
     type Fields: Fields + Drop;
@@ -92,7 +92,7 @@ pub trait Sequence {
 
 /// The struct of the sequence that has this tag and content.
 ///
-/// `InvalidData` where the tag is not `30`, then the first fault of the fields, in order, and `InvalidData` where octets
+/// `InvalidData` where the tag is not `30`, then the first error of the fields, in order, and `InvalidData` where octets
 /// are left over.
 pub fn read_sequence<S: Sequence>(alloc: Global, tag: u8, content: &[u8]) -> Result<S, Asn1DerError>
     requires { S.Fields.told_apart nothing }
@@ -100,7 +100,8 @@ pub fn read_sequence<S: Sequence>(alloc: Global, tag: u8, content: &[u8]) -> Res
     ensures found { IfOk result (λ v. tlv tag content.now ≡ tlv 48 (S.Fields.octets (S.fields v))) }
     ensures refused { IfErr result (RefusesAll (λ v. S.Fields.are_values (S.fields v)) (λ v. tlv 48 (S.Fields.octets (S.fields v))) (tlv tag content.now)) }
     ensures other_tag { (tag ≡ 48 → ⊥) → result ≡ Err InvalidData }
-    ensures first_fault { IfErr result (OrMemory (TaggedFault 48 (WholeFault S.Fields.are_values S.Fields.octets S.Fields.ends S.Fields.fault) tag content.now)) }
+    ensures first_fault { IfErr result
+        (OrMemory (TaggedFault 48 (WholeFault S.Fields.are_values S.Fields.octets S.Fields.ends S.Fields.fault) tag content.now)) }
 {
     if tag != SEQUENCE {
         return Err(Asn1DerError::InvalidData);
@@ -109,7 +110,7 @@ pub fn read_sequence<S: Sequence>(alloc: Global, tag: u8, content: &[u8]) -> Res
     Ok(S::from_fields(parts))
 }
 
-/// The fields that these octets are: all of them, with nothing left over.
+/// The fields whose encoding is all of these octets.
 fn read_all_fields<F: Fields + Drop>(alloc: Global, content: &[u8]) -> Result<F, Asn1DerError>
     requires { F.told_apart nothing }
     ensures valid { IfOk result F.are_values }
@@ -124,7 +125,7 @@ fn read_all_fields<F: Fields + Drop>(alloc: Global, content: &[u8]) -> Result<F,
     Ok(parts)
 }
 
-/// Appends the sequence of these fields to `out`, which is as before where memory is wanting.
+/// Appends the sequence of these fields to `out`, which is unchanged where an allocation fails.
 pub fn write_sequence<R: FieldRefs>(
     alloc: Global,
     fields: &R,

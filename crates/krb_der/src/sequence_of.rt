@@ -17,7 +17,7 @@ use std::marker::Model;
 
 /// SEQUENCE OF (X.690, 8.10): the content is the encodings of the elements, in order.
 ///
-/// It is made of a vector and gives it back, at `.0`, without a copy. A contract sees the list of its elements.
+/// It is made from a vector and returns it, at `.0`, without a copy. A contract sees the list of its elements.
 #[derive(Debug, Drop)]
 pub struct Asn1SequenceOf<T>(pub Vec<T>);
 
@@ -41,7 +41,7 @@ impl<T: Eq> Eq for Asn1SequenceOf<T> {
     ghost laws = { lists_equiv T.Eq.laws };
 }
 
-/// The items whose encodings, joined, these octets are.
+/// The items whose concatenated encodings are these octets.
 fn read_items<T: Der + Drop>(alloc: Global, octets: &[u8]) -> Result<Vec<T>, Asn1DerError>
     ensures valid { IfOk result (λ v. AllByRecursion T.is_value v.items) }
     ensures found { IfOk result (λ v. octets.now ≡ flat_map T.enc v.items) }
@@ -91,7 +91,9 @@ impl<T: DerEncode> DerEncode for Asn1SequenceOf<T> {
 
     ghost fault = { TaggedFault 48 (RowFault T.is_value T.enc (FrontFault T.first T.fault)) };
 
-    ghost fault_laws = { tagged_laws 48 (AllByRecursion T.is_value) (flat_map T.enc) (RowFault T.is_value T.enc (FrontFault T.first T.fault)) (list_laws T.is_value T.enc T.first T.is_element T.fault T.fault_laws T.one_value) };
+    ghost fault_laws = { tagged_laws 48 (AllByRecursion T.is_value) (flat_map T.enc)
+        (RowFault T.is_value T.enc (FrontFault T.first T.fault))
+        (list_laws T.is_value T.enc T.first T.is_element T.fault T.fault_laws T.one_value) };
 
     fn starts(octet: u8) -> bool {
         octet == SEQUENCE

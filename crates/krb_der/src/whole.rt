@@ -10,10 +10,10 @@ ghost use Rattle.krb_der_core.specs.declared.error.Asn1DerError.TheVariants.{Inv
 use krb_der_core::{Asn1DerError, Der, DerEncode, close_tlv};
 use std::alloc::{AllocError, Global};
 
-/// The value whose encoding the input is, all of it.
+/// The value whose encoding is the whole input.
 ///
-/// A proper front of an encoding is `TruncatedData`, an encoding with octets behind it `InvalidData`; on other octets
-/// the first fault decides, from the left. `Io` is never answered.
+/// A proper prefix of an encoding is `TruncatedData`, an encoding with trailing octets `InvalidData`; on other octets
+/// the first error decides, from the left. `Io` is never returned.
 pub fn from_bytes<T: Der + Drop>(alloc: Global, input: &[u8]) -> Result<T, Asn1DerError>
     ensures valid { IfOk result T.is_value }
     ensures found { IfOk result (λ v. input.now ≡ T.enc v) }
@@ -30,10 +30,10 @@ pub fn from_bytes<T: Der + Drop>(alloc: Global, input: &[u8]) -> Result<T, Asn1D
     Ok(value)
 }
 
-/// The room of a new encoding, in octets: most messages of an exchange need no more.
+/// The initial capacity for an encoding, in octets: most messages of an exchange need no more.
 const ROOM: usize = 256;
 
-/// The encoding of a value. `OutOfMemory` alone is answered in its place.
+/// The encoding of a value. The only error is `OutOfMemory`.
 pub fn to_vec<T: DerEncode>(alloc: Global, value: &T) -> Result<Vec<u8>, Asn1DerError>
     ensures ok { IfOk result (λ v. v.items ≡ T.enc value.now) }
     ensures valid { OnOk result (T.is_value value.now) }
@@ -44,7 +44,7 @@ pub fn to_vec<T: DerEncode>(alloc: Global, value: &T) -> Result<Vec<u8>, Asn1Der
     Ok(out)
 }
 
-/// An equal value, read from the encoding of this one. `OutOfMemory` alone is answered in its place.
+/// An equal value, read from the encoding of this one. The only error is `OutOfMemory`.
 pub fn copy<T: Der + Drop>(alloc: Global, value: &T) -> Result<T, Asn1DerError>
     ensures { Answers result value.now }
 {
@@ -68,9 +68,9 @@ pub(crate) fn write_around<T: DerEncode>(
     close_tlv(tag, start, out)
 }
 
-/// The value whose encoding the content of an element is, where the element's tag is the wanted one.
+/// The value whose encoding is the content of an element with the expected tag.
 ///
-/// `InvalidData` where the tag is another, else as `from_bytes` on the content.
+/// `InvalidData` for another tag, else as `from_bytes` on the content.
 pub(crate) fn read_around<T: Der + Drop>(
     alloc: Global,
     wanted: u8,

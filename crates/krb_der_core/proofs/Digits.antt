@@ -22,7 +22,8 @@ octets_front (suc k) [] h i = omega arith
 octets_front (suc k) (d ∷ ds) h zero = h zero
 octets_front (suc k) (d ∷ ds) h (suc i) = octets_front k ds (λ j. h (suc j)) i
 
-pub front_fits : (octets : List ℕ) (i n b : ℕ) → IsOctets octets → length octets ≤ 8 → i < length octets → n ≡ number_from_digits 256 (take i octets) → b < 256 → n * 256 + b < 2 ^ 64
+pub front_fits : (octets : List ℕ) (i n b : ℕ) → IsOctets octets → length octets ≤ 8 → i < length octets
+    → n ≡ number_from_digits 256 (take i octets) → b < 256 → n * 256 + b < 2 ^ 64
 front_fits octets i n b h few lt e hb =
     let front = next_fits (take i octets) b (octets_below (take i octets) (octets_front i octets h)) (omega (arith, length-take-le i octets (omega arith))) hb in
     omega (arith, front, e)
@@ -31,7 +32,8 @@ pub length-inverted : (octets : List ℕ) → length (inverted octets) ≡ lengt
 length-inverted [] = refl
 length-inverted (d ∷ ds) = ap suc (length-inverted ds)
 
-pub inverted_front_fits : (octets : List ℕ) (i n b : ℕ) → length octets ≤ 8 → i < length octets → n ≡ number_from_digits 256 (inverted (take i octets)) → b < 256 → n * 256 + b < 2 ^ 64
+pub inverted_front_fits : (octets : List ℕ) (i n b : ℕ) → length octets ≤ 8 → i < length octets
+    → n ≡ number_from_digits 256 (inverted (take i octets)) → b < 256 → n * 256 + b < 2 ^ 64
 inverted_front_fits octets i n b few lt e hb =
     let front = next_fits (inverted (take i octets)) b (inverted_below (take i octets)) (omega (arith, length-inverted (take i octets), length-take-le i octets (omega arith))) hb in
     omega (arith, front, e)
@@ -43,7 +45,8 @@ digits_number_of : (octets : List ℕ) → IsOctets octets → (get_or octets 0 
 digits_number_of [] h first = absurd (first refl)
 digits_number_of (d ∷ ds) h first = digits_number d ds (omega (arith, first)) (octets_below (d ∷ ds) h)
 
--- the octets behind the first, with no zero in front, are the digits of their number
-pub digits_read : (input : List ℕ) (j k n : ℕ) → j ≡ k → IsOctets input → (get_or (take j (drop 1 input)) 0 0 ≡ 0 → ⊥) → n ≡ number_from_digits 256 (take j (drop 1 input)) → digits_of 256 n ≡ take k (drop 1 input)
+-- the octets after the first, with no zero in front, are the digits of their number
+pub digits_read : (input : List ℕ) (j k n : ℕ) → j ≡ k → IsOctets input → (get_or (take j (drop 1 input)) 0 0 ≡ 0 → ⊥)
+    → n ≡ number_from_digits 256 (take j (drop 1 input)) → digits_of 256 n ≡ take k (drop 1 input)
 digits_read input j k n same h first e =
     ap (digits_of 256) e ∙ digits_number_of (take j (drop 1 input)) (octets_front j (drop 1 input) (octets_behind input h)) first ∙ ap (λ (m : ℕ). take m (drop 1 input)) same

@@ -30,7 +30,7 @@ content_fits : (t : ℕ) (b : List ℕ) → (p : Elements t b) → length p.0 < 
 unfolding tlv
 content_fits t b p = omega (arith, ap length p.2, length-append (len (length p.0)) p.0)
 
--- what stands behind the tag
+-- what follows the tag
 behind : (t i : ℕ) (is b x y : List ℕ) → (p : Elements t b) → (i ∷ is) ++ x ≡ b ++ y → is ++ x ≡ len (length p.0) ++ (p.0 ++ y)
 unfolding tlv
 behind t i is b x y p e =
@@ -46,7 +46,8 @@ no_beginning : (t i : ℕ) (is : List ℕ) → NoMeet Lengths is → NoBeginning
 no_beginning t i is h b rest p e =
     h (len (length p.0)) rest (p.0 ++ []) (length p.0, content_fits t b p, refl) (behind t i is b rest [] p (sym e ∙ sym (append-nil b)))
 
-pub bad_length : (e : Asn1DerError) (t : ℕ) (input : List ℕ) → eqb (length input) 0 ≡ false → RefusesFront Lengths (drop 1 input) e → RefusesFront (Elements t) input e
+pub bad_length : (e : Asn1DerError) (t : ℕ) (input : List ℕ) → eqb (length input) 0 ≡ false → RefusesFront Lengths (drop 1 input) e
+    → RefusesFront (Elements t) input e
 bad_length e t [] h r = absurd cc
 bad_length errors.OutOfMemory t (i ∷ is) h r = tt
 bad_length errors.TruncatedData t (i ∷ is) h r = no_front t i is r
@@ -58,13 +59,15 @@ bad_length (errors.Io io) t (i ∷ is) h r = r
 cut : (t i L n : ℕ) (is b rest : List ℕ) → (p : Elements t b) → is ≡ len L ++ drop n is → i ∷ is ≡ b ++ rest → (L ≡ length p.0) × (drop n is ≡ p.0 ++ rest)
 cut t i L n is b rest p f e = len_apart L (length p.0) (drop n is) (p.0 ++ rest) (sym f ∙ sym (append-nil is) ∙ behind t i is b [] rest p (append-nil (i ∷ is) ∙ e))
 
-pub short_content : (t L n : ℕ) (input : List ℕ) → eqb (length input) 0 ≡ false → TakesFront (len L) n (drop 1 input) → length (drop n (drop 1 input)) < L → NoFront (Elements t) input
+pub short_content : (t L n : ℕ) (input : List ℕ) → eqb (length input) 0 ≡ false → TakesFront (len L) n (drop 1 input)
+    → length (drop n (drop 1 input)) < L → NoFront (Elements t) input
 short_content t L n [] h f lt b rest p e = absurd cc
 short_content t L n (i ∷ is) h f lt b rest p e =
     let k = cut t i L n is b rest p f.front e in
     omega (arith, k.0, ap length k.1, length-append p.0 rest)
 
-element_is : (t i L n : ℕ) (is : List ℕ) → i ≡ t → TakesFront (len L) n is → L ≤ length (drop n is) → TakesFront (tlv t (take L (drop n is))) (1 + n + L) (i ∷ is)
+element_is : (t i L n : ℕ) (is : List ℕ) → i ≡ t → TakesFront (len L) n is → L ≤ length (drop n is)
+    → TakesFront (tlv t (take L (drop n is))) (1 + n + L) (i ∷ is)
 unfolding tlv
 element_is t i L n is same f le =
     let c = take L (drop n is) in
@@ -74,6 +77,8 @@ element_is t i L n is same f le =
     let whole : is ≡ (len L ++ c) ++ drop (n + L) is = rw d (f.front ∙ ap (λ (l : List ℕ). len L ++ l) (sym (take-append-drop L (drop n is))) ∙ sym (append_assoc (len L) c (drop L (drop n is)))) in
     rw (k, one) (record { count = omega (arith, f.count, length-append (len L) c); front = same_conses i t is ((len L ++ c) ++ drop (n + L) is) same whole })
 
-pub element_read : (t L n : ℕ) (input : List ℕ) → eqb (length input) 0 ≡ false → get_or input 0 0 ≡ t → TakesFront (len L) n (drop 1 input) → L ≤ length (drop n (drop 1 input)) → TakesFront (tlv t (take L (drop n (drop 1 input)))) (1 + n + L) input
+pub element_read : (t L n : ℕ) (input : List ℕ) → eqb (length input) 0 ≡ false → get_or input 0 0 ≡ t
+    → TakesFront (len L) n (drop 1 input) → L ≤ length (drop n (drop 1 input))
+    → TakesFront (tlv t (take L (drop n (drop 1 input)))) (1 + n + L) input
 element_read t L n [] h same f le = absurd cc
 element_read t L n (i ∷ is) h same f le = element_is t i L n is same f le

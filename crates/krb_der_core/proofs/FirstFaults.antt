@@ -1,4 +1,4 @@
--- Where the first fault of octets stands, by what a reader saw.
+-- Where the first error of octets stands, by what a reader saw.
 use Rattle.std.proofs.Common.{◌≡◌, ℕ, ◌-◌, ◌^◌, ◌<◌, ◌≤◌, ◌⊎◌, Bool, true, false, eqb, eq-eqb, List, [], ◌∷◌, length, get_or, drop, refl, sym, ap, ◌∙◌, arith, inl, inr}
 use Rattle.std.proofs.lemmas.Bool.{eqb-true}
 use Rattle.krb_der_core.specs.declared.error.Asn1DerError.{Asn1DerError}
@@ -21,16 +21,19 @@ is_none (i ∷ is) h = absurd (omega (arith, eqb-true (length (i ∷ is)) 0 h))
 pub length_missing : (octets : List ℕ) → eqb (length octets) 0 ≡ true → LengthFault octets errors.TruncatedData
 length_missing octets h = no_length (is_none octets h)
 
-pub length_form : (octets : List ℕ) → eqb (length octets) 0 ≡ false → (get_or octets 0 0 ≡ 128) ⊎ ((get_or octets 0 0 ≡ 128 → ⊥) × (136 < get_or octets 0 0)) → LengthFault octets errors.UnsupportedValue
+pub length_form : (octets : List ℕ) → eqb (length octets) 0 ≡ false
+    → (get_or octets 0 0 ≡ 128) ⊎ ((get_or octets 0 0 ≡ 128 → ⊥) × (136 < get_or octets 0 0)) → LengthFault octets errors.UnsupportedValue
 length_form [] h bad = absurd cc
 length_form (i ∷ is) h (inl a) = other_form i is refl (inl a)
 length_form (i ∷ is) h (inr a) = other_form i is refl (inr a.1)
 
-pub length_cut : (octets : List ℕ) → eqb (length octets) 0 ≡ false → 128 < get_or octets 0 0 → get_or octets 0 0 ≤ 136 → length octets - 1 < get_or octets 0 0 - 128 → LengthFault octets errors.TruncatedData
+pub length_cut : (octets : List ℕ) → eqb (length octets) 0 ≡ false → 128 < get_or octets 0 0 → get_or octets 0 0 ≤ 136
+    → length octets - 1 < get_or octets 0 0 - 128 → LengthFault octets errors.TruncatedData
 length_cut [] h ge le short = absurd cc
 length_cut (i ∷ is) h ge le short = cut_length i is refl ge le (omega arith)
 
-pub length_long : (octets : List ℕ) → eqb (length octets) 0 ≡ false → 128 < get_or octets 0 0 → get_or octets 0 0 ≤ 136 → get_or octets 0 0 - 128 ≤ length octets - 1 → NoMeet Lengths octets → LengthFault octets errors.InvalidData
+pub length_long : (octets : List ℕ) → eqb (length octets) 0 ≡ false → 128 < get_or octets 0 0 → get_or octets 0 0 ≤ 136
+    → get_or octets 0 0 - 128 ≤ length octets - 1 → NoMeet Lengths octets → LengthFault octets errors.InvalidData
 length_long [] h ge le whole none = absurd cc
 length_long (i ∷ is) h ge le whole none = long_length i is refl ge le (omega arith) (front_from_meet Lengths (i ∷ is) none)
 
@@ -58,7 +61,7 @@ module _ (first : ℕ → Bool) (fault : ℕ → List ℕ → Asn1DerError → T
   same_tag : (tag t : ℕ) → first tag ≡ true → eqb t tag ≡ true → first t ≡ true
   same_tag tag t h e = ap first (eqb-true t tag e) ∙ h
 
-  -- what is wrong in front of a content is wrong with what begins so
+  -- what is wrong before a content is wrong with what begins so
   pub header_wrong : (tag : ℕ) (octets : List ℕ) (e : Asn1DerError) → first tag ≡ true → eqb (length octets) 0 ≡ false → get_or octets 0 0 ≡ tag → HeaderFault tag octets e → FrontFault first fault octets e
   header_wrong tag octets e h ne is (no_tag p) = no_tag p
   header_wrong tag octets e h ne is (wrong_tag t rest p w) = absurd (let k : t ≡ tag = sym (ap (λ (l : List ℕ). get_or l 0 0) p) ∙ is in let c : false ≡ true = sym w ∙ eq-eqb t tag k in cc)
@@ -70,7 +73,8 @@ pub or_memory : (F G : Asn1DerError → Type 0) (e : Asn1DerError) → (F e → 
 or_memory F G e h (inl m) = inl m
 or_memory F G e h (inr f) = inr (h f)
 
-leaf_fault : {A : Type 0} (is_content : A → Type 0) (content : A → List ℕ) (t : ℕ) (c : List ℕ) (e : Asn1DerError) → RefusesAll is_content content c e → (e ≡ errors.InvalidData) ⊎ (e ≡ errors.OutOfMemory)
+leaf_fault : {A : Type 0} (is_content : A → Type 0) (content : A → List ℕ) (t : ℕ) (c : List ℕ) (e : Asn1DerError)
+    → RefusesAll is_content content c e → (e ≡ errors.InvalidData) ⊎ (e ≡ errors.OutOfMemory)
     → OrMemory (LeafFault t is_content content t c) e
 leaf_fault is_content content t c errors.OutOfMemory r f = inl refl
 leaf_fault is_content content t c errors.InvalidData r f = inr (refl, λ v hv k. r v hv (tlv_same t t c (content v) k))
@@ -80,8 +84,9 @@ leaf_fault is_content content t c errors.UnsupportedValue r (inl f) = absurd cc
 leaf_fault is_content content t c errors.UnsupportedValue r (inr f) = absurd cc
 leaf_fault is_content content t c (errors.Io io) r f = absurd r
 
--- a leaf that refuses a content refuses the element
-pub leaf_faults : {A : Type 0} (is_content : A → Type 0) (content : A → List ℕ) (t : ℕ) (c : List ℕ) (r : Result A Asn1DerError) → IfErr r (RefusesAll is_content content c) → IfErr r (λ e. (e ≡ errors.InvalidData) ⊎ (e ≡ errors.OutOfMemory))
+-- a primitive type that rejects a content rejects the element
+pub leaf_faults : {A : Type 0} (is_content : A → Type 0) (content : A → List ℕ) (t : ℕ) (c : List ℕ) (r : Result A Asn1DerError)
+    → IfErr r (RefusesAll is_content content c) → IfErr r (λ e. (e ≡ errors.InvalidData) ⊎ (e ≡ errors.OutOfMemory))
     → IfErr r (OrMemory (LeafFault t is_content content t c))
 leaf_faults is_content content t c (Ok v) refused fault = tt
 leaf_faults is_content content t c (Err e) refused fault = leaf_fault is_content content t c e refused fault

@@ -1,4 +1,4 @@
--- Headers, and contents that are moved up behind them.
+-- Headers, and contents that are moved up after them.
 use Rattle.std.proofs.Common.{◌≡◌, ℕ, ◌+◌, ◌-◌, ◌*◌, ◌/◌, ◌%◌, ◌^◌, zero, suc, length-drop, ◌<◌, ◌≤◌, List, [], ◌∷◌, ◌++◌, length, take, drop, refl, sym, ap, ◌∙◌, arith}
 use native.Mathlib.Numerals.{unary_clauses}
 use Rattle.std.proofs.Math.Nat.{div-div-eq-div-mul}
@@ -40,7 +40,8 @@ digits_behind (suc k) (suc m) few =
     rw (left, last_octet k n, seam, digits_behind k (n / 256) (omega (arith, size, few))) (sym (digits_of_step 256 n (omega arith) (omega arith)))
 
 -- the last k of a number's eight octets are its k digits
-pub digits_copied : (n k : ℕ) (octets copied : List ℕ) → k ≡ length (digits_of 256 n) → k ≤ 8 → octets ≡ bytes_high_first 8 n → copied ≡ take (8 - (8 - k)) (drop (8 - k) octets) → copied ≡ digits_of 256 n
+pub digits_copied : (n k : ℕ) (octets copied : List ℕ) → k ≡ length (digits_of 256 n) → k ≤ 8 → octets ≡ bytes_high_first 8 n
+    → copied ≡ take (8 - (8 - k)) (drop (8 - k) octets) → copied ≡ digits_of 256 n
 digits_copied n k octets copied count few all e =
     let size : length octets ≡ 8 = ap length all ∙ octets_length 8 n in
     let rest : take (8 - (8 - k)) (drop (8 - k) octets) ≡ drop (8 - k) octets = rw size at (take_rest octets (8 - k)) in
@@ -49,7 +50,8 @@ digits_copied n k octets copied count few all e =
 pub header_small : (tag n : ℕ) → n < 128 → tag ∷ n ∷ [] ≡ header tag n
 header_small tag n lt = rw (len-small n lt) refl
 
-pub header_large : (tag n k : ℕ) (digits room : List ℕ) → 128 ≤ n → k ≡ length (digits_of 256 n) → digits ≡ digits_of 256 n → take (2 + k) (tag ∷ (128 + k) ∷ (digits ++ room)) ≡ header tag n
+pub header_large : (tag n k : ℕ) (digits room : List ℕ) → 128 ≤ n → k ≡ length (digits_of 256 n) → digits ≡ digits_of 256 n
+    → take (2 + k) (tag ∷ (128 + k) ∷ (digits ++ room)) ≡ header tag n
 header_large tag n k digits room le count e =
     take_at (tag ∷ (128 + k) ∷ digits) room (2 + k) (omega (arith, ap length e)) ∙ rw (len-large n le, count, e) refl
 
@@ -57,7 +59,8 @@ sum : (start count : ℕ) → start + (start + count - start) ≡ start + count
 sum start count = omega arith
 
 -- a content that was moved up by as many octets as its header has, and the header in the place that it left
-pub closed : (out longer moved octets written : List ℕ) (start tag end count : ℕ) → start ≤ length out → end ≡ length out → count ≡ length octets → octets ≡ header tag (end - start)
+pub closed : (out longer moved octets written : List ℕ) (start tag end count : ℕ) → start ≤ length out → end ≡ length out
+    → count ≡ length octets → octets ≡ header tag (end - start)
     → longer ≡ out ++ octets → moved ≡ (take (start + count) longer ++ take (end - start) (drop start longer)) ++ drop (start + count + (end - start)) longer → written ≡ octets
     → take start moved ++ (written ++ drop (start + count - start) (drop start moved)) ≡ take start out ++ tlv tag (drop start out)
 unfolding tlv
@@ -73,7 +76,8 @@ closed out longer moved octets written start tag end count le same size h e m w 
     let back : drop (start + count - start) (drop start moved) ≡ content = drop-drop (start + count - start) start moved ∙ ap (λ n. drop n moved) (sum start count) ∙ ap (λ (l : List ℕ). drop (start + count) l) whole ∙ drop_at (take (start + count) longer) content (start + count) below in
     rw (front, back, w, h, left) refl
 
-pub written_length : (s written : List ℕ) (start k : ℕ) → start ≤ length s → length written ≡ length (take k (drop start s)) → length (take start s ++ (written ++ drop k (drop start s))) ≡ length s
+pub written_length : (s written : List ℕ) (start k : ℕ) → start ≤ length s → length written ≡ length (take k (drop start s))
+    → length (take start s ++ (written ++ drop k (drop start s))) ≡ length s
 written_length s written start k le e =
     let split : length (take k (drop start s)) + length (drop k (drop start s)) ≡ length (drop start s) = sym (length-append (take k (drop start s)) (drop k (drop start s))) ∙ ap length (take-append-drop k (drop start s)) in
     omega (arith, e, split, length-drop start s, length-take-le start s le, length-append written (drop k (drop start s)), length-append (take start s) (written ++ drop k (drop start s)))

@@ -1,4 +1,4 @@
--- How a refusal inside an element becomes one of the element.
+-- How an error inside an element becomes one of the element.
 use Rattle.std.proofs.Common.{◌≡◌, ℕ, Bool, true, false, eqb, List, [], ◌++◌, length, drop, get_or, sym, ap, subst, ◌∙◌, append_assoc}
 use Rattle.std.proofs.lemmas.List.{append-nil}
 use Rattle.krb_der_core.specs.declared.error.Asn1DerError.{Asn1DerError}
@@ -10,15 +10,16 @@ use Rattle.krb_der_core.specs.Reading.{TakesFront, NoFront, NoBeginning, Refuses
 use Rattle.krb_der_core.proofs.Elements.{nothing_read, other_tag, same_first}
 use Rattle.krb_der_core.specs.LengthLaws.{NoMeet, refused_from_meet, front_from_meet}
 
--- where what meets the input is an encoding too, more is refused
-refuses_met : (P Q : List ℕ → Type 0) (input : List ℕ) (e : Asn1DerError) → ((b x y : List ℕ) → Q b → input ++ x ≡ b ++ y → P b) → RefusesFront P input e → RefusesFront Q input e
+-- where a prefix of the input is an encoding too, trailing octets are rejected
+refuses_met : (P Q : List ℕ → Type 0) (input : List ℕ) (e : Asn1DerError) → ((b x y : List ℕ) → Q b → input ++ x ≡ b ++ y → P b)
+    → RefusesFront P input e → RefusesFront Q input e
 refuses_met P Q input errors.OutOfMemory h r = tt
 refuses_met P Q input errors.TruncatedData h r = λ b rest q k. r b rest (h b [] rest q (append-nil input ∙ k)) k
 refuses_met P Q input errors.InvalidData h r = (λ b rest q k. r.0 b rest (h b [] rest q (append-nil input ∙ k)) k, λ b rest q k. r.1 b rest (h b rest [] q (sym k ∙ sym (append-nil b))) k)
 refuses_met P Q input errors.UnsupportedValue h r = (λ b rest q k. r.0 b rest (h b [] rest q (append-nil input ∙ k)) k, λ b rest q k. r.1 b rest (h b rest [] q (sym k ∙ sym (append-nil b))) k)
 refuses_met P Q input (errors.Io io) h r = r
 
--- what is refused for another cause than memory
+-- an error other than an allocation failure
 pub refuses_other : {A B : Type 0} (va : A → Type 0) (ca : A → List ℕ) (vb : B → Type 0) (cb : B → List ℕ) (x y : List ℕ) (e : Asn1DerError)
     → (((a : A) → va a → x ≡ ca a → ⊥) → (b : B) → vb b → y ≡ cb b → ⊥) → RefusesAll va ca x e → RefusesAll vb cb y e
 refuses_other va ca vb cb x y errors.OutOfMemory h r = tt
@@ -59,13 +60,16 @@ module _ {A : Type 0} (is_value : A → Type 0) (enc : A → List ℕ) (first : 
   behind_element t n c input errors.UnsupportedValue f r = refused_from_meet (Encodings is_value enc) input (met_element t n c input f r)
   behind_element t n c input (errors.Io io) f r = r
 
--- another tag than the wanted one
-pub unwanted : {A : Type 0} (is_content : A → Type 0) (content : A → List ℕ) (wanted t : ℕ) (c : List ℕ) → (t ≡ wanted → ⊥) → (v : A) → is_content v → tlv t c ≡ tlv wanted (content v) → ⊥
+-- another tag than the expected one
+pub unwanted : {A : Type 0} (is_content : A → Type 0) (content : A → List ℕ) (wanted t : ℕ) (c : List ℕ) → (t ≡ wanted → ⊥) → (v : A)
+    → is_content v → tlv t c ≡ tlv wanted (content v) → ⊥
 unwanted is_content content wanted t c other v hv k = other (tlv_apart t wanted c (content v) [] [] (ap (λ (l : List ℕ). l ++ []) k)).tag
 
-pub no_content : {A : Type 0} (is_content : A → Type 0) (content : A → List ℕ) (t : ℕ) (c : List ℕ) (e : Asn1DerError) → RefusesAll is_content content c e → RefusesAll is_content (λ v. tlv t (content v)) (tlv t c) e
+pub no_content : {A : Type 0} (is_content : A → Type 0) (content : A → List ℕ) (t : ℕ) (c : List ℕ) (e : Asn1DerError)
+    → RefusesAll is_content content c e → RefusesAll is_content (λ v. tlv t (content v)) (tlv t c) e
 no_content is_content content t c e r = refuses_other is_content content is_content (λ v. tlv t (content v)) c (tlv t c) e (λ none v hv k. none v hv (tlv_same t t c (content v) k)) r
 
--- a value is refused as its parts are
-pub parts_refused : {A F : Type 0} (parts : A → F) (is_content : F → Type 0) (content : F → List ℕ) (input : List ℕ) (e : Asn1DerError) → RefusesAll is_content content input e → RefusesAll (λ v. is_content (parts v)) (λ v. content (parts v)) input e
+-- a value is rejected as its parts are
+pub parts_refused : {A F : Type 0} (parts : A → F) (is_content : F → Type 0) (content : F → List ℕ) (input : List ℕ) (e : Asn1DerError)
+    → RefusesAll is_content content input e → RefusesAll (λ v. is_content (parts v)) (λ v. content (parts v)) input e
 parts_refused parts is_content content input e r = refuses_other is_content content (λ v. is_content (parts v)) (λ v. content (parts v)) input input e (λ none v hv k. none (parts v) hv k) r

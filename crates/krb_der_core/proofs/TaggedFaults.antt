@@ -1,4 +1,4 @@
--- How the first fault of a content becomes that of an element with a wanted tag.
+-- How the first error of a content becomes that of an element with a wanted tag.
 use Rattle.std.proofs.Common.{◌≡◌, ℕ, List, inr}
 use Rattle.std.specs.Prelude.{Result, Ok, Err, IfErr}
 use Rattle.krb_der_core.specs.declared.error.Asn1DerError.{Asn1DerError}

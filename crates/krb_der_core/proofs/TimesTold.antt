@@ -15,7 +15,8 @@ none_told content unreal v real same =
     unreal (subst (λ (t : Time). IsRealTime t) (sym (told_of_content content v real same)) real)
 
 -- what is written otherwise than it was read is the content of no real time
-pub none_written : (content written : List ℕ) (t : Time) (differs : Bool) → t ≡ time_told content → written ≡ time_content t → differs ≡ not (pointwise nat_eq written content) → differs ≡ true
+pub none_written : (content written : List ℕ) (t : Time) (differs : Bool) → t ≡ time_told content → written ≡ time_content t
+    → differs ≡ not (pointwise nat_eq written content) → differs ≡ true
     → (v : Time) → IsRealTime v → content ≡ time_content v → ⊥
 none_written content written t differs told octets tested found v real same =
     let again : written ≡ content = octets ∙ ap time_content (told ∙ told_of_content content v real same) ∙ sym same in

@@ -1,5 +1,5 @@
--- Octets have one first fault, and none where a value stands.
-use Rattle.std.proofs.Common.{◌≡◌, ℕ, ◌+◌, ◌-◌, ◌^◌, ◌<◌, ◌⊎◌, Bool, true, false, List, [], ◌∷◌, ◌++◌, length, nat_lt, if◌then◌else◌, refl, sym, ap, ◌∙◌, subst, append_assoc, arith, inl, inr}
+-- Octets have one first error, and none where a value stands.
+use Rattle.std.proofs.Common.{◌≡◌, ℕ, ◌-◌, ◌^◌, ◌<◌, ◌⊎◌, Bool, true, false, List, [], ◌∷◌, ◌++◌, length, nat_lt, if◌then◌else◌, refl, sym, ap, ◌∙◌, subst, append_assoc, arith, inl, inr}
 use Rattle.std.proofs.Math.Dec.{eqb-suc-zero}
 use Rattle.std.proofs.lemmas.Bool.{lt-ltb, le-ltb}
 use Rattle.std.proofs.lemmas.List.{append-nil, length-append}
@@ -25,14 +25,14 @@ bad_form : (n first : ℕ) (r rest : List ℕ) → n < 2 ^ 64 → first ∷ r �
 bad_form n first r rest lt e (inl a) = bad_first (first ∷ r) (eqb-suc-zero (length r)) (omega arith) (inl a) (len n) [] rest (n, lt, refl) (append-nil (first ∷ r) ∙ e)
 bad_form n first r rest lt e (inr a) = bad_first (first ∷ r) (eqb-suc-zero (length r)) (omega arith) (inr (omega arith, a)) (len n) [] rest (n, lt, refl) (append-nil (first ∷ r) ∙ e)
 
--- where a length stands at the front, there is no fault of it
+-- where a length stands at the start, there is no error of it
 no_length_fault : (n : ℕ) (octets rest : List ℕ) (e : Asn1DerError) → n < 2 ^ 64 → octets ≡ len n ++ rest → LengthFault octets e → ⊥
 no_length_fault n octets rest e lt q (no_length p) = nothing_read octets (rw p refl) (len n) rest (n, lt, refl) q
 no_length_fault n octets rest e lt q (other_form first r p bad) = bad_form n first r rest lt (sym p ∙ q) bad
 no_length_fault n octets rest e lt q (cut_length first r p gt le short) = short_read (first ∷ r) (eqb-suc-zero (length r)) (omega arith) (omega arith) (len n) rest (n, lt, refl) (sym p ∙ q)
 no_length_fault n octets rest e lt q (long_length first r p gt le all none) = none (len n) rest (n, lt, refl) q
 
--- the fault, where there is one
+-- the error, where there is one
 abbrev length_error : List ℕ → Asn1DerError
 length_error [] = errors.TruncatedData
 length_error (first ∷ rest) = if nat_lt 136 first then errors.UnsupportedValue else (if nat_lt 128 first then (if nat_lt (length rest) (first - 128) then errors.TruncatedData else errors.InvalidData) else errors.UnsupportedValue)
@@ -47,9 +47,10 @@ length_error_is octets e (long_length first r p gt le all none) = rw (p, le-ltb 
 one_length_fault : (octets : List ℕ) (e d : Asn1DerError) → LengthFault octets e → LengthFault octets d → e ≡ d
 one_length_fault octets e d f g = length_error_is octets e f ∙ sym (length_error_is octets d g)
 
--- ---- leaves
+-- ---- primitive types
 
-pub leaf_fault_laws : {A : Type 0} (wanted : ℕ) (is_value : A → Type 0) (content_of : A → List ℕ) → FaultLaws is_value (λ v. tlv wanted (content_of v)) (LeafFault wanted is_value content_of)
+pub leaf_fault_laws : {A : Type 0} (wanted : ℕ) (is_value : A → Type 0) (content_of : A → List ℕ)
+    → FaultLaws is_value (λ v. tlv wanted (content_of v)) (LeafFault wanted is_value content_of)
 leaf_fault_laws wanted is_value content_of = record { no_value = λ t c e lt f. f.1; one_fault = λ t c e d lt f g. f.0 ∙ sym g.0 }
 
 -- ---- elements
@@ -66,7 +67,8 @@ cut_stands n m r c rest short size e =
     let k = len_apart n m r (c ++ rest) e in
     omega (arith, short, size, k.0, ap length k.1, length-append c rest)
 
-behind_tag : (t i : ℕ) (content rest octets a : List ℕ) → octets ≡ tlv t content ++ rest → octets ≡ i ∷ a → (i ≡ t) × (a ≡ len (length content) ++ (content ++ rest))
+behind_tag : (t i : ℕ) (content rest octets a : List ℕ) → octets ≡ tlv t content ++ rest → octets ≡ i ∷ a → (i ≡ t)
+    × (a ≡ len (length content) ++ (content ++ rest))
 unfolding tlv
 behind_tag t i content rest octets a p q =
     let s = same_lists i t a ((len (length content) ++ content) ++ rest) octets q p in
@@ -77,7 +79,7 @@ unfolding tlv
 no_octets t content rest octets p q = let k : [] ≡ t ∷ ((len (length content) ++ content) ++ rest) = sym p ∙ q in cc
 
 module _ (first : ℕ → Bool) (fault : ℕ → List ℕ → Asn1DerError → Type 0) where
-  -- where an element stands, the fault is that of its content
+  -- where an element stands, the error is that of its content
   only_content : (octets : List ℕ) (e : Asn1DerError) (t : ℕ) (content rest : List ℕ) → FrontFault first fault octets e → octets ≡ tlv t content ++ rest → first t ≡ true → length content < 2 ^ 64 → fault t content e
   only_content octets e t content rest (no_tag p) q h lt = absurd (no_octets t content rest octets p q)
   only_content octets e t content rest (wrong_tag i a p w) q h lt = absurd (clash (first t) h (sym (ap first (behind_tag t i content rest octets a q p).0) ∙ w))
@@ -125,7 +127,7 @@ module _ {A : Type 0} (is_value : A → Type 0) (enc : A → List ℕ) (first : 
   one_rest : OneValue is_value enc → (v w : A) (x y : List ℕ) → is_value v → is_value w → Unit {0} → Unit {0} → enc v ++ x ≡ enc w ++ y → x ≡ y
   one_rest one v w x y hv hw u z e = (field_apart enc is_value first element one v w x y hv hw e).1
 
-  -- the front of octets that is to be a value's encoding
+  -- a prefix of octets that is to be a value's encoding
   pub front_laws : OneValue is_value enc → FrontLaws is_value enc (λ v rest. Unit {0}) (FrontFault first fault)
   front_laws one = record { no_value = no_front; one_fault = one_front; one_rest = one_rest one }
 
@@ -163,14 +165,14 @@ module _ {A : Type 0} (is_value : A → Type 0) (enc : A → List ℕ) (fault : 
   not_empty : (v : A) (x : List ℕ) → is_value v → [] ≡ enc v ++ x → ⊥
   not_empty v x h e = omega (arith, ap length e, length-append (enc v) x, some v h)
 
-  -- where a row ends in a fault, no row of values is all of it
+  -- where a row ends in an error, no row of values is all of it
   no_row : (xs ys : List A) (rest : List ℕ) (e : Asn1DerError) → length rest < 2 ^ 64 → 0 < length rest → fault rest e → AllByRecursion is_value xs → AllByRecursion is_value ys → flat_map enc xs ++ rest ≡ flat_map enc ys → ⊥
   no_row [] [] rest e lt left f hx hy q = omega (arith, ap length q, left)
   no_row [] (y ∷ ys) rest e lt left f hx hy q = laws.no_value rest e lt f y (flat_map enc ys) hy.0 q tt
   no_row (x ∷ xs) [] rest e lt left f hx hy q = not_empty x (flat_map enc xs ++ rest) hx.0 (sym q ∙ one_more x xs rest)
   no_row (x ∷ xs) (y ∷ ys) rest e lt left f hx hy q = no_row xs ys rest e lt left f hx.1 hy.1 (laws.one_rest x y (flat_map enc xs ++ rest) (flat_map enc ys) hx.0 hy.0 tt tt (sym (one_more x xs rest) ∙ q))
 
-  -- two faults in a row stand at one place
+  -- two errors of a row are at one place
   same_place : (xs ys : List A) (x y : List ℕ) (e d : Asn1DerError) → length x < 2 ^ 64 → length y < 2 ^ 64 → AllByRecursion is_value xs → AllByRecursion is_value ys → fault x e → fault y d → flat_map enc xs ++ x ≡ flat_map enc ys ++ y → e ≡ d
   same_place [] [] x y e d lt less hx hy f g q = laws.one_fault y e d less (subst (λ (l : List ℕ). fault l e) q f) g
   same_place [] (w ∷ ws) x y e d lt less hx hy f g q = absurd (laws.no_value x e lt f w (flat_map enc ws ++ y) hy.0 (q ∙ one_more w ws y) tt)

@@ -1,5 +1,5 @@
--- The first fault of octets that are no encoding, from the left: of an element its tag, its length, its content. Octets that
--- are missing are told before the content is looked at. A reader refuses by the first fault.
+-- The first error of octets that are no encoding, from the left: of an element its tag, its length, its content. Octets that
+-- are missing come before the content. A reader returns the first error.
 use Rattle.std.specs.Prelude.{◌≡◌, ◌==◌, ◌⊎◌, ℕ, ◌-◌, ◌<◌, ◌≤◌, ◌^◌, Bool, true, false, List, [], ◌∷◌, ◌++◌, length}
 use Rattle.std.specs.List.{flat_map, AllByRecursion}
 use Rattle.krb_der_core.specs.declared.error.Asn1DerError.{Asn1DerError}
@@ -7,7 +7,7 @@ use Rattle.krb_der_core.specs.declared.error.Asn1DerError.TheVariants as errors
 use Rattle.krb_der_core.specs.Tlv.{len, tlv}
 use Rattle.krb_der_core.specs.Reading.{NoFront, Lengths}
 
--- The first fault of length octets (X.690, 8.1.3 and 10.1): there are none; the first is that of the indefinite form or of
+-- The first error of length octets (X.690, 8.1.3 and 10.1): there are none; the first is that of the indefinite form or of
 -- more than eight octets; fewer follow than it says; or what follows is not the shortest form of a number.
 pub data LengthFault (octets : List ℕ) : Asn1DerError → Type 0 where
   no_length : octets ≡ [] → LengthFault octets errors.TruncatedData
@@ -15,8 +15,8 @@ pub data LengthFault (octets : List ℕ) : Asn1DerError → Type 0 where
   cut_length : (first : ℕ) (rest : List ℕ) → octets ≡ first ∷ rest → 128 < first → first ≤ 136 → length rest < first - 128 → LengthFault octets errors.TruncatedData
   long_length : (first : ℕ) (rest : List ℕ) → octets ≡ first ∷ rest → 128 < first → first ≤ 136 → first - 128 ≤ length rest → NoFront Lengths octets → LengthFault octets errors.InvalidData
 
--- The first fault of an element at the front of the octets (X.690, 8.1.1), whose tag is to be among the first octets. That of
--- its content is told by its tag and its content.
+-- The first error of an element at the start of the octets (X.690, 8.1.1), whose tag is to be among the first octets. That of
+-- its content depends on its tag and its content.
 pub data FrontFault (first : ℕ → Bool) (fault : ℕ → List ℕ → Asn1DerError → Type 0) (octets : List ℕ) : Asn1DerError → Type 0 where
   no_tag : octets ≡ [] → FrontFault first fault octets errors.TruncatedData
   wrong_tag : (t : ℕ) (rest : List ℕ) → octets ≡ t ∷ rest → first t ≡ false → FrontFault first fault octets errors.InvalidData
@@ -24,26 +24,26 @@ pub data FrontFault (first : ℕ → Bool) (fault : ℕ → List ℕ → Asn1Der
   cut_content : (t n : ℕ) (rest : List ℕ) → octets ≡ t ∷ (len n ++ rest) → first t ≡ true → n < 2 ^ 64 → length rest < n → FrontFault first fault octets errors.TruncatedData
   wrong_content : (t : ℕ) (content rest : List ℕ) (e : Asn1DerError) → octets ≡ tlv t content ++ rest → first t ≡ true → length content < 2 ^ 64 → fault t content e → FrontFault first fault octets e
 
--- The first fault of what stands in front of the content of an element with this tag, or that the content is cut short.
+-- The first error of the header of an element with this tag, or that the content is cut short.
 abbrev pub HeaderFault : ℕ → List ℕ → Asn1DerError → Type 0
 HeaderFault tag = FrontFault (λ t. t == tag) (λ t content e. ⊥)
 
--- The fault of an element of this tag and content where it is to have the wanted tag and a value's content: it is invalid.
+-- The error of an element of this tag and content where it is to have the expected tag and a value's content: it is invalid.
 abbrev pub LeafFault : {A : Type 0} → ℕ → (A → Type 0) → (A → List ℕ) → ℕ → List ℕ → Asn1DerError → Type 0
 LeafFault {A} wanted is_value content_of t content e = (e ≡ errors.InvalidData) × ((v : A) → is_value v → tlv t content ≡ tlv wanted (content_of v) → ⊥)
 
--- The first fault of an element that is to have the wanted tag: it has another, or its content has this fault.
+-- The first error of an element that is to have the expected tag: it has another, or its content has this error.
 pub data TaggedFault (wanted : ℕ) (fault : List ℕ → Asn1DerError → Type 0) (t : ℕ) (content : List ℕ) : Asn1DerError → Type 0 where
   other_tag : (t ≡ wanted → ⊥) → TaggedFault wanted fault t content errors.InvalidData
   in_content : (e : Asn1DerError) → t ≡ wanted → fault content e → TaggedFault wanted fault t content e
 
--- The first fault of octets that are to be one value's, all of them: that of its front, or octets are left over behind the
+-- The first error of octets that are to be one value's, all of them: that of the value, or octets are left over after the
 -- octets of a value, which ends there.
 pub data WholeFault {A : Type 0} (is_value : A → Type 0) (octets_of : A → List ℕ) (ends : A → List ℕ → Type 0) (fault : List ℕ → Asn1DerError → Type 0) (octets : List ℕ) : Asn1DerError → Type 0 where
   at_front : (e : Asn1DerError) → fault octets e → WholeFault is_value octets_of ends fault octets e
   left_over : (v : A) (rest : List ℕ) → is_value v → octets ≡ octets_of v ++ rest → ends v rest → 0 < length rest → WholeFault is_value octets_of ends fault octets errors.InvalidData
 
--- The first fault of values in a row (X.690, 8.10): some stand at the front, and octets are left of which it is the fault.
+-- The first error of values in a row (X.690, 8.10): some are at the start, and it is the error of the octets after them.
 pub record RowFault {A : Type 0} (is_value : A → Type 0) (enc : A → List ℕ) (fault : List ℕ → Asn1DerError → Type 0) (octets : List ℕ) (e : Asn1DerError) : Type 0 where
   pub items : List A
   pub rest : List ℕ
@@ -52,28 +52,28 @@ pub record RowFault {A : Type 0} (is_value : A → Type 0) (enc : A → List ℕ
   pub some_left : 0 < length rest
   pub first_left : fault rest e
 
--- The first fault of octets that are to be the encoding of one value, all of them.
+-- The first error of octets that are to be the encoding of one value, all of them.
 abbrev pub ValueFault : {A : Type 0} → (A → Type 0) → (A → List ℕ) → (ℕ → Bool) → (ℕ → List ℕ → Asn1DerError → Type 0) → List ℕ → Asn1DerError → Type 0
 ValueFault is_value enc first fault = WholeFault is_value enc (λ v rest. Unit {0}) (FrontFault first fault)
 
--- a growth of memory was refused, or this fault is the first
+-- an allocation failed, or this error is the first
 abbrev pub OrMemory : (Asn1DerError → Type 0) → Asn1DerError → Type 0
 OrMemory fault e = (e ≡ errors.OutOfMemory) ⊎ fault e
 
--- ---- what faults keep, where a content has fewer than 2^64 octets
+-- ---- what errors keep, where a content has fewer than 2^64 octets
 
--- The faults of elements: one with a fault is no value's, and has no other first fault.
+-- The errors of elements: one with an error is the encoding of no value, and has no other first error.
 pub record FaultLaws {A : Type 0} (is_value : A → Type 0) (enc : A → List ℕ) (fault : ℕ → List ℕ → Asn1DerError → Type 0) : Type 0 where
   pub no_value : (t : ℕ) (content : List ℕ) (e : Asn1DerError) → length content < 2 ^ 64 → fault t content e → (v : A) → is_value v → tlv t content ≡ enc v → ⊥
   pub one_fault : (t : ℕ) (content : List ℕ) (e d : Asn1DerError) → length content < 2 ^ 64 → fault t content e → fault t content d → e ≡ d
 
--- The faults of contents, likewise.
+-- The errors of contents, likewise.
 pub record ContentLaws {A : Type 0} (is_value : A → Type 0) (content_of : A → List ℕ) (fault : List ℕ → Asn1DerError → Type 0) : Type 0 where
   pub no_value : (content : List ℕ) (e : Asn1DerError) → length content < 2 ^ 64 → fault content e → (v : A) → is_value v → content ≡ content_of v → ⊥
   pub one_fault : (content : List ℕ) (e d : Asn1DerError) → length content < 2 ^ 64 → fault content e → fault content d → e ≡ d
 
--- The faults of what stands at the front of octets: where one is, no value stands that ends there, and there is no other
--- first fault; and what stands behind such a value is decided.
+-- The errors of what is at the start of octets: with one, no value ends there, and there is no other first error;
+-- and what follows such a value is determined.
 pub record FrontLaws {A : Type 0} (is_value : A → Type 0) (octets_of : A → List ℕ) (ends : A → List ℕ → Type 0) (fault : List ℕ → Asn1DerError → Type 0) : Type 0 where
   pub no_value : (octets : List ℕ) (e : Asn1DerError) → length octets < 2 ^ 64 → fault octets e → (v : A) (rest : List ℕ) → is_value v → octets ≡ octets_of v ++ rest → ends v rest → ⊥
   pub one_fault : (octets : List ℕ) (e d : Asn1DerError) → length octets < 2 ^ 64 → fault octets e → fault octets d → e ≡ d

@@ -46,7 +46,7 @@ time_content t =
 
 -- ---- and back
 
--- What the two octets from i on stand for. A digit is 48 more than what it stands for, and 48 is a multiple of 16.
+-- What the two octets from i on represent. A digit is 48 more than what it represents, and 48 is a multiple of 16.
 abbrev pub number_at : List ℕ → ℕ → ℕ
 number_at content i = 10 * (slice_index content i % 16) + slice_index content (i + 1) % 16
 

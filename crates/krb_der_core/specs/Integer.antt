@@ -2,7 +2,7 @@
 use Rattle.std.specs.Prelude.{◌≡◌, ℕ, ◌-◌, ◌<◌, ◌≤◌, List, [], ◌∷◌, length, slice_index, nat_lt, if◌then◌else◌, ℤ, pos, negsuc}
 use Rattle.std.specs.Int.Digits.{digits_of, number_from_digits}
 
--- a zero in front of octets that would stand for a negative number, or of none
+-- a zero before octets that would represent a negative number, or before none
 abbrev pub signed_front : List ℕ → List ℕ
 signed_front [] = 0 ∷ []
 signed_front (d ∷ ds) = if nat_lt d 128 then d ∷ ds else 0 ∷ d ∷ ds
@@ -21,7 +21,7 @@ abbrev pub shortest : ℤ → List ℕ
 shortest (pos n) = unsigned n
 shortest (negsuc n) = inverted (unsigned n)
 
--- the number that octets stand for in two's complement; none stand for zero
+-- the number that octets represent in two's complement; none represent zero
 abbrev pub whole_number : List ℕ → ℤ
 whole_number [] = pos 0
 whole_number (b ∷ bs) = if nat_lt b 128 then pos (number_from_digits 256 (b ∷ bs)) else negsuc (number_from_digits 256 (inverted (b ∷ bs)))

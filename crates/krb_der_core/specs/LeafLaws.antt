@@ -1,4 +1,4 @@
--- Each simple leaf has one content a value.
+-- Each simple primitive type has one content a value.
 use Rattle.std.proofs.Common.{ℕ, Bool, true, false, List, [], refl, arith}
 use Rattle.krb_der_core.specs.TlvLaws.{same_heads}
 use Rattle.krb_der_core.specs.Leaf.{bool_content}

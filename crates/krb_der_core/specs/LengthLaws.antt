@@ -11,7 +11,7 @@ use Rattle.krb_der_core.specs.TlvLaws.{same_heads, len-small, len-large}
 pub same_conses : (i j : ℕ) (a b : List ℕ) → i ≡ j → a ≡ b → i ∷ a ≡ j ∷ b
 same_conses i j a b e f = cc
 
--- no encoding and the input are fronts of one list
+-- no encoding and the input are prefixes of one list
 abbrev pub NoMeet : (List ℕ → Type 0) → List ℕ → Type 0
 NoMeet P input = (b x y : List ℕ) → P b → input ++ x ≡ b ++ y → ⊥
 
@@ -28,7 +28,7 @@ pub positive : (n : ℕ) → eqb n 0 ≡ false → 0 < n
 positive zero e = absurd cc
 positive (suc n) e = omega arith
 
--- of two fronts of one list, one begins with the other
+-- of two prefixes of one list, one begins with the other
 pub fronts_split : (a b x y : List ℕ) → a ++ x ≡ b ++ y → ((r : List ℕ) × (a ≡ b ++ r)) ⊎ ((r : List ℕ) × (b ≡ a ++ r))
 fronts_split [] b x y e = inr (b, refl)
 fronts_split (i ∷ a) [] x y e = inl (i ∷ a, refl)
@@ -46,7 +46,7 @@ meet_from_both P input h b x y p e =
       | inr r ↦ h.1 b r.0 p r.1
     ]
 
--- what stands behind the first octet of a length from 128 on
+-- what follows the first octet of a length from 128 on
 pub record LongLength (n first : ℕ) (input x y : List ℕ) : Type 0 where
   pub large : 128 ≤ n
   pub count : first ≡ 128 + length (digits_of 256 n)
@@ -78,7 +78,8 @@ len-nonempty n rest e =
     ]
 
 -- an input, by its first octet
-pub by_first : (Q : ℕ → List ℕ → Type 0) → ((first : ℕ) (rest : List ℕ) → Q first (first ∷ rest)) → (input : List ℕ) → eqb (length input) 0 ≡ false → Q (get_or input 0 0) input
+pub by_first : (Q : ℕ → List ℕ → Type 0) → ((first : ℕ) (rest : List ℕ) → Q first (first ∷ rest)) → (input : List ℕ)
+    → eqb (length input) 0 ≡ false → Q (get_or input 0 0) input
 by_first Q h [] e = absurd cc
 by_first Q h (first ∷ rest) e = h first rest
 
@@ -90,7 +91,8 @@ pub small_read : (input : List ℕ) → eqb (length input) 0 ≡ false → get_o
 small_read [] h lt = absurd cc
 small_read (i ∷ is) h lt = rw (len-small i lt) (record { count = refl; front = refl })
 
-pub bad_first : (input : List ℕ) → eqb (length input) 0 ≡ false → 128 ≤ get_or input 0 0 → (get_or input 0 0 ≡ 128) ⊎ ((get_or input 0 0 ≡ 128 → ⊥) × (136 < get_or input 0 0)) → NoMeet Lengths input
+pub bad_first : (input : List ℕ) → eqb (length input) 0 ≡ false → 128 ≤ get_or input 0 0
+    → (get_or input 0 0 ≡ 128) ⊎ ((get_or input 0 0 ≡ 128 → ⊥) × (136 < get_or input 0 0)) → NoMeet Lengths input
 bad_first [] h ge bad b x y p e = absurd cc
 bad_first (i ∷ is) h ge bad b x y p e =
     elim (meets p.0 i is x y p.1 (e ∙ ap (λ (l : List ℕ). l ++ y) p.2)) [
@@ -115,7 +117,8 @@ digits_at n first is x y le l =
 first_at : (d o : List ℕ) → d ≡ o → 0 < get_or d 0 0 → get_or o 0 0 ≡ 0 → ⊥
 first_at d o e h z = let f : 0 < get_or o 0 0 = subst (λ (l : List ℕ). 0 < get_or l 0 0) e h in omega arith
 
-pub zero_first : (input : List ℕ) → eqb (length input) 0 ≡ false → 128 ≤ get_or input 0 0 → get_or input 0 0 - 128 ≤ length input - 1 → get_or (take (get_or input 0 0 - 128) (drop 1 input)) 0 0 ≡ 0 → NoMeet Lengths input
+pub zero_first : (input : List ℕ) → eqb (length input) 0 ≡ false → 128 ≤ get_or input 0 0 → get_or input 0 0 - 128 ≤ length input - 1
+    → get_or (take (get_or input 0 0 - 128) (drop 1 input)) 0 0 ≡ 0 → NoMeet Lengths input
 zero_first [] h ge le z b x y p e = absurd cc
 zero_first (i ∷ is) h ge le z b x y p e =
     elim (meets p.0 i is x y p.1 (e ∙ ap (λ (l : List ℕ). l ++ y) p.2)) [
@@ -126,7 +129,8 @@ zero_first (i ∷ is) h ge le z b x y p e =
 same_digits : (m n : ℕ) (o : List ℕ) → digits_of 256 m ≡ o → digits_of 256 n ≡ o → m ≡ n
 same_digits m n o e f = Rattle.std.proofs.lemmas.Int.Digits.same_from_digits_of 256 m n (omega arith) (e ∙ sym f)
 
-pub needless : (input : List ℕ) (n : ℕ) → eqb (length input) 0 ≡ false → 128 ≤ get_or input 0 0 → get_or input 0 0 - 128 ≤ length input - 1 → digits_of 256 n ≡ take (get_or input 0 0 - 128) (drop 1 input) → n < 128 → NoMeet Lengths input
+pub needless : (input : List ℕ) (n : ℕ) → eqb (length input) 0 ≡ false → 128 ≤ get_or input 0 0
+    → get_or input 0 0 - 128 ≤ length input - 1 → digits_of 256 n ≡ take (get_or input 0 0 - 128) (drop 1 input) → n < 128 → NoMeet Lengths input
 needless [] n h ge le d lt b x y p e = absurd cc
 needless (i ∷ is) n h ge le d lt b x y p e =
     elim (meets p.0 i is x y p.1 (e ∙ ap (λ (l : List ℕ). l ++ y) p.2)) [
@@ -134,7 +138,9 @@ needless (i ∷ is) n h ge le d lt b x y p e =
       | inr l ↦ omega (arith, same_digits p.0 n (take (i - 128) is) (digits_at p.0 i is x y (omega arith) l) d, l.large)
     ]
 
-pub long_read : (input : List ℕ) (n : ℕ) → eqb (length input) 0 ≡ false → 128 ≤ get_or input 0 0 → get_or input 0 0 - 128 ≤ length input - 1 → digits_of 256 n ≡ take (get_or input 0 0 - 128) (drop 1 input) → 128 ≤ n → TakesFront (len n) (1 + (get_or input 0 0 - 128)) input
+pub long_read : (input : List ℕ) (n : ℕ) → eqb (length input) 0 ≡ false → 128 ≤ get_or input 0 0
+    → get_or input 0 0 - 128 ≤ length input - 1 → digits_of 256 n ≡ take (get_or input 0 0 - 128) (drop 1 input) → 128 ≤ n
+    → TakesFront (len n) (1 + (get_or input 0 0 - 128)) input
 long_read [] n h ge le d big = absurd cc
 long_read (i ∷ is) n h ge le d big =
     let k : length (digits_of 256 n) ≡ i - 128 = omega (arith, ap length d, length-take-le (i - 128) is (omega arith)) in

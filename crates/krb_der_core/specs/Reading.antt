@@ -1,26 +1,26 @@
--- What a reader answers.
+-- What a reader returns.
 use Rattle.std.specs.Prelude.{◌≡◌, ℕ, ◌<◌, ◌^◌, List, ◌++◌, length, drop}
 use Rattle.krb_der_core.specs.declared.error.Asn1DerError.{Asn1DerError}
 use Rattle.krb_der_core.specs.declared.error.Asn1DerError.TheVariants as errors
 use Rattle.krb_der_core.specs.Tlv.{len, tlv}
 
--- ---- the front of an input
+-- ---- the start of an input
 
--- p stands at the front of the input, and has n octets
+-- p is at the start of the input, and has n octets
 pub record TakesFront (p : List ℕ) (n : ℕ) (input : List ℕ) : Type 0 where
   pub count : n ≡ length p
   pub front : input ≡ p ++ drop n input
 
--- nothing of P stands at the front of the input
+-- nothing of P is at the start of the input
 abbrev pub NoFront : (List ℕ → Type 0) → List ℕ → Type 0
 NoFront P input = (b rest : List ℕ) → P b → input ≡ b ++ rest → ⊥
 
--- the input is no front of anything of P
+-- the input is no prefix of anything of P
 abbrev pub NoBeginning : (List ℕ → Type 0) → List ℕ → Type 0
 NoBeginning P input = (b rest : List ℕ) → P b → b ≡ input ++ rest → ⊥
 
--- When a reader of the front may refuse: for want of memory always; because octets are missing only where nothing of P
--- stands at the front; for another fault only where the input is no front of anything of P either. No device fails.
+-- When a reader of a prefix may return an error: on allocation failure always; because octets are missing only where nothing of P
+-- is at the start; another error only where the input is no prefix of anything of P either. No reader or writer fails.
 abbrev pub RefusesFront : (List ℕ → Type 0) → List ℕ → Asn1DerError → Type 0
 RefusesFront P input errors.OutOfMemory = Unit {0}
 RefusesFront P input errors.TruncatedData = NoFront P input
@@ -29,7 +29,7 @@ RefusesFront P input errors.UnsupportedValue = NoFront P input × NoBeginning P 
 RefusesFront P input (errors.Io e) = ⊥
 
 -- The encodings of the values of a type. Their lengths are below 2^64: from there on the length octets are nine, and
--- those of a proper front are refused as a form that is not supported.
+-- those of a proper prefix are rejected as a form that is not supported.
 abbrev pub Encodings : {A : Type 0} → (A → Type 0) → (A → List ℕ) → List ℕ → Type 0
 Encodings {A} is_value enc b = (v : A) × is_value v × (length b < 2 ^ 64) × (b ≡ enc v)
 
@@ -43,7 +43,7 @@ Elements t b = (c : List ℕ) × (length b < 2 ^ 64) × (b ≡ tlv t c)
 
 -- ---- the whole input
 
--- When a reader of the whole input may refuse: for want of memory always; else only where no value has these octets.
+-- When a reader of the whole input may return an error: on allocation failure always; else only where no value has these octets.
 abbrev pub RefusesAll : {A : Type 0} → (A → Type 0) → (A → List ℕ) → List ℕ → Asn1DerError → Type 0
 RefusesAll is_value octets input errors.OutOfMemory = Unit {0}
 RefusesAll {A} is_value octets input errors.TruncatedData = (v : A) → is_value v → input ≡ octets v → ⊥

@@ -7,7 +7,7 @@ use Rattle.std.specs.Int.Digits.{digits_of}
 unfoldable pub len : ℕ → List ℕ
 len n = if nat_lt n 128 then n ∷ [] else (128 + length (digits_of 256 n)) ∷ digits_of 256 n
 
--- what stands in front of a content of n octets
+-- what is before a content of n octets
 abbrev pub header : ℕ → ℕ → List ℕ
 header t n = t ∷ len n
 

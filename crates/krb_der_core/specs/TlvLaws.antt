@@ -1,4 +1,4 @@
--- Elements in a row have one reading: the three laws of joined encodings.
+-- Elements in a row have one reading: the three laws of concatenated encodings.
 use Rattle.std.proofs.Common.{◌≡◌, ℕ, ◌+◌, ◌<◌, ◌≤◌, Bool, true, false, List, [], ◌∷◌, ◌++◌, length, take, drop, refl, sym, ap, ◌∙◌, append_assoc, arith, inl, inr, eqb, eq-eqb, Option, Some, None}
 use Rattle.std.proofs.lemmas.Bool.{cases_lt, le-ltb, lt-ltb, eqb-true}
 use Rattle.std.proofs.lemmas.List.{take_at, drop_at}
@@ -8,7 +8,7 @@ use Rattle.std.specs.Prelude.{IfSome}
 use Rattle.krb_der_core.specs.Tlv.{len, tlv}
 use Rattle.krb_der_core.specs.Encoding.{IsElement, OneValue, BeginsWith, Apart, optional}
 
--- fronts of one length
+-- prefixes of one length
 pub same_fronts : (a b x y : List ℕ) → length a ≡ length b → a ++ x ≡ b ++ y → (a ≡ b) × (x ≡ y)
 same_fronts a b x y h e = (
   sym (take_at a x (length a) refl) ∙ ap (λ (l : List ℕ). take (length a) l) e ∙ take_at b y (length a) (sym h),
@@ -71,14 +71,16 @@ tlv_same t u c d e = (tlv_apart t u c d [] [] (ap (λ (l : List ℕ). l ++ []) e
 pub tagged_element : (t : ℕ) (c : List ℕ) → IsElement (λ u. eqb u t) (tlv t c)
 tagged_element t c = record { tag = t; content = c; whole = refl; begins = eq-eqb t t refl }
 
-pub tagged_one_value : {A : Type 0} (t : ℕ) (is_content : A → Type 0) (content : A → List ℕ) → OneValue is_content content → OneValue is_content (λ v. tlv t (content v))
+pub tagged_one_value : {A : Type 0} (t : ℕ) (is_content : A → Type 0) (content : A → List ℕ) → OneValue is_content content
+    → OneValue is_content (λ v. tlv t (content v))
 tagged_one_value t is_content content one v w hv hw e = one v w hv hw (tlv_same t t (content v) (content w) e)
 
 pub same_tlvs : (t u : ℕ) (c d : List ℕ) → t ≡ u → c ≡ d → tlv t c ≡ tlv u d
 same_tlvs t u c d e f = cc
 
 -- The second law: a mandatory field followed by a rest decides the field and the rest.
-pub field_apart : {A : Type 0} (enc : A → List ℕ) (is_value : A → Type 0) (first : ℕ → Bool) → ((v : A) → is_value v → IsElement first (enc v)) → OneValue is_value enc
+pub field_apart : {A : Type 0} (enc : A → List ℕ) (is_value : A → Type 0) (first : ℕ → Bool)
+    → ((v : A) → is_value v → IsElement first (enc v)) → OneValue is_value enc
     → (v w : A) (x y : List ℕ) → is_value v → is_value w → enc v ++ x ≡ enc w ++ y → (v ≡ w) × (x ≡ y)
 field_apart enc is_value first element one v w x y hv hw e =
     let a = element v hv in
@@ -100,7 +102,8 @@ element_begins f g a (j ∷ y) z h b apart e =
     cc
 
 -- The third law: so does an optional field, where the rest begins with none of its first octets.
-pub optional_apart : {A : Type 0} (enc : A → List ℕ) (is_value : A → Type 0) (first begins : ℕ → Bool) → ((v : A) → is_value v → IsElement first (enc v)) → OneValue is_value enc → Apart first begins
+pub optional_apart : {A : Type 0} (enc : A → List ℕ) (is_value : A → Type 0) (first begins : ℕ → Bool)
+    → ((v : A) → is_value v → IsElement first (enc v)) → OneValue is_value enc → Apart first begins
     → (v w : Option A) (x y : List ℕ) → IfSome v is_value → IfSome w is_value → BeginsWith begins x → BeginsWith begins y → optional enc v ++ x ≡ optional enc w ++ y → (v ≡ w) × (x ≡ y)
 optional_apart enc is_value first begins element one apart None None x y hv hw bx by e = (refl, e)
 optional_apart enc is_value first begins element one apart (Some v) None x y hv hw bx by e = absurd (element_begins first begins (enc v) y x (element v hv) by apart e)
@@ -109,6 +112,6 @@ optional_apart enc is_value first begins element one apart (Some v) (Some w) x y
     let s = field_apart enc is_value first element one v w x y hv hw e in
     (ap Some s.0, s.1)
 
--- an element of one tag is told by it from what does not begin with it
+-- an element of one tag is distinguished by it from what does not begin with it
 pub only_tag : (tag : ℕ) (g : ℕ → Bool) → g tag ≡ false → Apart (λ t. eqb t tag) g
 only_tag tag g h t e = ap g (eqb-true t tag e) ∙ h

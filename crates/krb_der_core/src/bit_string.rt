@@ -22,10 +22,10 @@ use std::marker::Model;
 /// The tag of a BIT STRING: universal 3 (X.690, 8.6).
 const BIT_STRING: u8 = 0x03;
 
-/// BIT STRING (X.690, 8.6 and 11.2): octets, of whose last some bits, up to seven, are spare.
+/// BIT STRING (X.690, 8.6 and 11.2): octets, and the number of unused bits in the last one, 0 to 7.
 ///
-/// The content is the number of spare bits in one octet, and the octets. Spare bits are zeros, and there are none
-/// without octets. A contract sees the octets and the number of spare bits.
+/// The content is the number of unused bits in one octet, and the octets. Unused bits are zeros, and there are none
+/// without octets. A contract sees the octets and the number of unused bits.
 #[derive(Debug, Drop)]
 pub struct BitStringAsn1 {
     octets: Vec<u8>,
@@ -48,7 +48,7 @@ fn power_of_two(n: u8) -> u8
     1u8 << n
 }
 
-/// Whether the spare bits are at most seven and zeros, and none without octets.
+/// Whether the unused bits are at most seven and zeros, and none without octets.
 fn are_bits(octets: &[u8], spare: u8) -> bool
     ensures { MatchBool result (IsBits (record { octets = octets.now; spare = spare })) (IsBits (record { octets = octets.now; spare = spare }) → ⊥) }
 {
@@ -62,9 +62,9 @@ fn are_bits(octets: &[u8], spare: u8) -> bool
 }
 
 impl BitStringAsn1 {
-    /// The octets without the last one's `spare` low bits, without a copy.
+    /// The bits of the octets but for the last one's `spare` low bits, without a copy.
     ///
-    /// `InvalidData` where `spare` is past 7, a spare bit is set, or there are spare bits and no octets.
+    /// `InvalidData` where `spare` is more than 7, an unused bit is set, or there are unused bits and no octets.
     pub fn new(octets: Vec<u8>, spare: u8) -> Result<Self, Asn1DerError>
         ensures value { IfOk result (λ v. (v ≡ record { octets = octets.items; spare = spare }) × IsBits v) }
         ensures refused { IfErr result (λ e. (e ≡ InvalidData) × (IsBits (record { octets = octets.items; spare = spare }) → ⊥)) }
@@ -82,14 +82,14 @@ impl BitStringAsn1 {
         BitStringAsn1 { octets, spare: 0 }
     }
 
-    /// The octets. The last one's spare bits are zeros.
+    /// The octets. The last one's unused bits are zeros.
     pub fn octets(&self) -> &[u8]
         ensures { result.now ≡ self.now.octets }
     {
         self.octets.as_slice()
     }
 
-    /// How many of the last octet's low bits are no part of the string: 0 to 7.
+    /// The number of unused low bits in the last octet: 0 to 7.
     pub fn spare_bits(&self) -> u8
         ensures { result ≡ self.now.spare }
     {

@@ -33,7 +33,7 @@ impl Content for bool {
     }
 }
 
-/// BOOLEAN (X.690, 8.2 and 11.1): the content is `ff` for true and `00` for false. Another is `InvalidData`.
+/// BOOLEAN (X.690, 8.2 and 11.1): the content is `ff` for true and `00` for false; any other is `InvalidData`.
 impl DerEncode for bool {
     ghost enc = { λ v. tlv 1 (bool_content v) };
 

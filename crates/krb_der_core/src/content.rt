@@ -1,4 +1,4 @@
-//! The contents of leaves.
+//! The contents of primitive types.
 
 ghost use Rattle.std.specs.Prelude.{◌≡◌, ◌⊎◌, List, ℕ, IfOk, IfErr, IsErrAnd};
 ghost use Rattle.krb_der_core.specs.Tlv.{tlv};
@@ -10,15 +10,15 @@ ghost use Rattle.krb_der_core.specs.declared.error.Asn1DerError.TheVariants as e
 use crate::error::Asn1DerError;
 use std::alloc::Global;
 
-/// A leaf: a type that is read from the content of its element, told apart from the tag and the length.
+/// A primitive type, which is read from the content of its element alone.
 pub(crate) trait Content {
     /// The content of a value's element (X.690, 8.1.4).
     ghost octets: { Self → List ℕ };
 
-    /// Holds of the values of the type.
+    /// Whether this is a value of the type.
     ghost has_content: { Self → Type 0 };
 
-    /// Equal contents are of equal values.
+    /// Equal contents belong to equal values.
     ghost one_content: { OneValue has_content octets };
 
     /// The value that has this content.
@@ -29,7 +29,7 @@ pub(crate) trait Content {
         ensures fault { IfErr result (λ e. (e ≡ errors.InvalidData) ⊎ (e ≡ errors.OutOfMemory)) };
 }
 
-/// The leaf whose element has this tag and content, where the tag is the wanted one; another is `InvalidData`.
+/// The value whose element has this tag and content. Another tag than the expected one is `InvalidData`.
 pub(crate) fn read_tagged<C: Content>(
     alloc: Global,
     wanted: u8,

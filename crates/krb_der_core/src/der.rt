@@ -17,7 +17,7 @@ pub trait DerEncode {
     /// The encoding of a value.
     ghost enc: { Self → List ℕ };
 
-    /// Holds of the values of the type: numbers are in range, and invariants are kept.
+    /// Whether this is a value of the type: numbers are in range, and invariants hold.
     ghost is_value: { Self → Type 0 };
 
     /// Whether an encoding may begin with this octet.
@@ -26,21 +26,20 @@ pub trait DerEncode {
     /// Each encoding is one element.
     ghost is_element: { (v : Self) → is_value v → IsElement first (enc v) };
 
-    /// Equal encodings are of equal values.
+    /// Equal encodings belong to equal values.
     ghost one_value: { OneValue is_value enc };
 
-    /// Which refusal the first fault is of the element of this tag and content, from the left: that of its tag, then that
-    /// of its content.
+    /// The first error of an element with this tag and content: that of the tag, then that of the content, from the left.
     ghost fault: { ℕ → List ℕ → Asn1DerError → Type 0 };
 
-    /// An element with a fault is no value's, and has no other first fault.
+    /// An element with an error is the encoding of no value, and has no other first error.
     ghost fault_laws: { FaultLaws is_value enc fault };
 
     /// Whether a value's encoding may begin with this octet.
     fn starts(octet: u8) -> bool
         ensures { result ≡ first octet };
 
-    /// Appends the encoding to `out`, which is as before where memory is wanting.
+    /// Appends the encoding to `out`, which is unchanged where an allocation fails.
     fn write(&self, alloc: Global, out: &mut Vec<u8>) -> Result<(), AllocError>
         ensures ok { OnOk result (out.new.items ≡ out.old.items ++ enc self.now) }
         ensures valid { OnOk result (is_value self.now) }
@@ -49,9 +48,9 @@ pub trait DerEncode {
 
 /// A type whose values are read from their encodings.
 pub trait Der: DerEncode {
-    /// The value whose encoding is the element of this tag and content.
+    /// The value whose encoding is the element with this tag and content.
     ///
-    /// `InvalidData` where the tag is another, else the first fault of the content.
+    /// `InvalidData` for another tag, else the first error of the content.
     fn read_element(alloc: Global, tag: u8, content: &[u8]) -> Result<Self, Asn1DerError>
         ensures valid { IfOk result Self.is_value }
         ensures found { IfOk result (λ v. tlv tag content.now ≡ Self.enc v) }
@@ -59,10 +58,10 @@ pub trait Der: DerEncode {
         ensures wrong_tag { Self.first tag ≡ false → IsErrAnd result (λ e. e ≡ InvalidData) }
         ensures first_fault { IfErr result (OrMemory (Self.fault tag content.now)) };
 
-    /// The value whose encoding stands at the front of the input, and the number of its octets.
+    /// The value whose encoding is at the start of the input, and the number of its octets.
     ///
-    /// A proper front of an encoding is `TruncatedData`. Else the first fault decides: no tag is `TruncatedData`, a
-    /// wrong one `InvalidData`, then come the faults of the length, and then those of the content.
+    /// A proper prefix of an encoding is `TruncatedData`. On other octets the first error is returned: that of the tag
+    /// (none is `TruncatedData`, another `InvalidData`), then that of the length, then that of the content.
     final fn read(alloc: Global, input: &[u8]) -> Result<(Self, usize), Asn1DerError>
         ensures valid { IfOk result (λ p. Self.is_value p.0) }
         ensures found { IfOk result (λ p. TakesFront (Self.enc p.0) p.1 input.now) }
@@ -85,7 +84,7 @@ pub trait Der: DerEncode {
 
 /// A type whose encodings are SEQUENCEs: their first octet is `30` (X.690, 8.9).
 ///
-/// Only what stands under an application tag has to be one.
+/// `ApplicationTag` requires it.
 pub trait DerSequence: DerEncode {
     /// The encoding of a value is a SEQUENCE of some content.
     ghost is_sequence: { (v : Self) → IsSequence (Self.enc v) };

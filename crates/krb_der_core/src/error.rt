@@ -1,4 +1,4 @@
-//! Why octets are no encoding.
+//! Errors of reading and writing DER.
 
 ghost use Rattle.std.specs.Prelude.{◌≡◌};
 ghost use Rattle.krb_der_core.specs.declared.error.Asn1DerError.TheVariants as errors;
@@ -7,16 +7,16 @@ use std::alloc::{AllocError, AllocFailed};
 use std::io;
 use thiserror::Error;
 
-/// Why octets were not read, or a value was not made or written.
+/// An error of reading octets, or of making or writing a value.
 ///
-/// Octets are looked at from the left, and the first fault decides: first an element's tag, then its length, then its
-/// content. Octets that are missing are told before the content is looked at.
+/// Octets are read from the left, and the first error is returned: an element's tag, then its length, then its content.
+/// Missing octets are reported before the content is read.
 #[derive(Debug, Drop, Error)]
 pub enum Asn1DerError {
-    /// A wrong tag, a needless length or integer octet, a bad leaf, or octets left over.
+    /// A wrong tag, a length or an integer that is not in its shortest form, an invalid content, or trailing octets.
     #[error("the octets are no encoding of the value's type")]
     InvalidData,
-    /// Tag, length or content octets are missing, or a mandatory field is where the octets of its sequence end.
+    /// Octets of a tag, a length or a content are missing, or a sequence ends before a mandatory field.
     #[error("the octets end too early")]
     TruncatedData,
     /// An indefinite length, or one of more than eight octets.
@@ -25,7 +25,7 @@ pub enum Asn1DerError {
     /// A reader or a writer failed.
     #[error("reading or writing failed: {0}")]
     Io(io::Error),
-    /// A growth of memory was refused.
+    /// An allocation failed.
     #[error("out of memory")]
     OutOfMemory,
 }

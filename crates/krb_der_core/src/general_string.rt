@@ -39,7 +39,7 @@ impl Model for GeneralStringAsn1 {
 }
 
 impl GeneralStringAsn1 {
-    /// The text, without a copy. `InvalidData` where one of its octets is past 127.
+    /// The text, without a copy. `InvalidData` where one of its octets is more than 127.
     pub fn from_string(text: String) -> Result<Self, Asn1DerError>
         ensures value { IfOk result (λ v. (v ≡ string_bytes text) × IsAscii v) }
         ensures refused { IfErr result (λ e. (e ≡ InvalidData) × IsNotAscii (string_bytes text)) }

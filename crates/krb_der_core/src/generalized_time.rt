@@ -20,14 +20,14 @@ use std::marker::Model;
 /// The tag of a GeneralizedTime: universal 24 (X.690, 8.25).
 const GENERALIZED_TIME: u8 = 0x18;
 
-/// How many octets the content has: those of `YYYYMMDDHHMMSSZ`.
+/// The length of the content in octets: that of `YYYYMMDDHHMMSSZ`.
 const CONTENT_LENGTH: usize = 15;
 
 /// GeneralizedTime (X.690, 8.25 and 11.7), in the one form of a KerberosTime (RFC 4120, 5.2.3): a time in UTC, to the
 /// second.
 ///
-/// A value is always a real time of the Gregorian calendar, from the year 0 to the year 9999, and never a leap second.
-/// The content is `YYYYMMDDHHMMSSZ` in ASCII, with no fraction of a second; another is `InvalidData`.
+/// A value is a time of the Gregorian calendar, from the year 0 to the year 9999, and never a leap second. The content is
+/// `YYYYMMDDHHMMSSZ` in ASCII, with no fraction of a second; any other is `InvalidData`.
 #[derive(Debug, Drop, Clone, PartialEq, Eq)]
 pub struct GeneralizedTimeAsn1 {
     year: u16,
@@ -49,10 +49,10 @@ impl Model for GeneralizedTimeAsn1 {
 }
 
 impl GeneralizedTimeAsn1 {
-    /// The time with these numbers, or `InvalidData` if they are of no real time.
+    /// The time with these numbers.
     ///
-    /// Real is a date of the Gregorian calendar (year 0 to 9999, month 1 to 12, day 1 to the last of that month) at an
-    /// hour to 23, a minute to 59 and a second to 59.
+    /// `InvalidData` unless they are a date of the Gregorian calendar (year 0 to 9999, month 1 to 12, day 1 to the last of
+    /// that month), an hour to 23, a minute to 59 and a second to 59.
     pub fn new(
         year: u16,
         month: u8,
@@ -92,7 +92,7 @@ impl GeneralizedTimeAsn1 {
         self.month
     }
 
-    /// The day of the month, from 1: to 28, 29, 30 or 31.
+    /// The day of the month, 1 to 28, 29, 30 or 31.
     pub fn day(&self) -> u8
         ensures { result ≡ self.now.day }
     {
@@ -169,7 +169,7 @@ fn last_digit(number: u16) -> u8
     b'0' + (number % 10) as u8
 }
 
-/// The number that the two digits at an index stand for.
+/// The number that the two digits at an index represent.
 fn number_at(content: &[u8], index: usize) -> u8
     requires { index + 1 < length content.now }
     ensures { result ≡ number_at content.now index }
@@ -177,8 +177,8 @@ fn number_at(content: &[u8], index: usize) -> u8
     10 * (content[index] % 16) + content[index + 1] % 16
 }
 
-/// The time that the digits of a content tell, or `InvalidData` if it is no real time. What is no digit is taken for
-/// some number too.
+/// The time whose digits are at their places in a content, or `InvalidData` where the calendar has no such time. An octet
+/// that is no digit counts as some number too.
 fn time_told(content: &[u8]) -> Result<GeneralizedTimeAsn1, Asn1DerError>
     requires { length content.now ≡ 15 }
     ensures real { IsOk result ↔ IsRealTime (time_told content.now) }
@@ -207,7 +207,7 @@ impl Content for GeneralizedTimeAsn1 {
             return Err(Asn1DerError::InvalidData);
         }
         let time = time_told(content)?;
-        // The octets of that time are these again only where each is the digit or the `Z` that its place wants.
+        // The time's content equals these octets only where each is the digit or the `Z` of its place.
         if time.octets().as_slice() != content {
             return Err(Asn1DerError::InvalidData);
         }

@@ -25,7 +25,7 @@ use std::marker::Model;
 /// The tag of an INTEGER: universal 2 (X.690, 8.3).
 pub(crate) const INTEGER: u8 = 0x02;
 
-/// The most octets of a number that fits 64 bits.
+/// The largest number of octets of a number that fits 64 bits.
 const I64_OCTETS: usize = 8;
 
 /// INTEGER (X.690, 8.3): a whole number of any size. The content is its shortest two's complement, highest octet first.
@@ -42,7 +42,7 @@ impl Model for IntegerAsn1 {
     ghost invariant = { λ s. IsShortest s.0.items };
 }
 
-/// Whether there is an octet, and the first is not needless (X.690, 8.3.2).
+/// Whether there is an octet, and the first is not redundant (X.690, 8.3.2).
 fn is_shortest(octets: &[u8]) -> bool
     ensures { MatchBool result (IsShortest octets.now) (IsShortest octets.now → ⊥) }
 {
@@ -53,7 +53,7 @@ fn is_shortest(octets: &[u8]) -> bool
     }
 }
 
-/// How many octets at the front are needless.
+/// The number of redundant leading octets.
 fn needless(octets: &[u8]) -> usize
     requires { 0 < length octets.now }
     ensures within { result < length octets.now }
@@ -67,7 +67,7 @@ fn needless(octets: &[u8]) -> usize
     n
 }
 
-/// The number that the octets stand for in base 256 with each bit the other way, highest octet first.
+/// The number that the complements of the octets represent in base 256, highest octet first.
 fn number_of_inverted(octets: &[u8]) -> usize
     requires { length octets.now ≤ 8 }
     ensures { result ≡ number_from_digits 256 (inverted octets.now) }
@@ -80,9 +80,9 @@ fn number_of_inverted(octets: &[u8]) -> usize
 }
 
 impl IntegerAsn1 {
-    /// The number that the octets stand for in two's complement, highest octet first; none stand for zero.
+    /// The number that the octets represent in two's complement, highest octet first; none represent zero.
     ///
-    /// `OutOfMemory` alone is answered, and only where there are no octets: then one is made.
+    /// The only error is `OutOfMemory`, and only where there are no octets: one is then allocated.
     pub fn from_bytes_be_signed(alloc: Global, octets: Vec<u8>) -> Result<Self, Asn1DerError>
         ensures value { IfOk result (λ v. v ≡ whole_number octets.items) }
         ensures err { IfErr result (λ e. e ≡ OutOfMemory) }
@@ -99,9 +99,9 @@ impl IntegerAsn1 {
         Ok(IntegerAsn1(octets))
     }
 
-    /// The number that the octets stand for, highest octet first, which is not negative; none stand for zero.
+    /// The number that the octets represent, highest octet first, which is not negative; none represent zero.
     ///
-    /// `OutOfMemory` alone is answered: an octet may be added.
+    /// The only error is `OutOfMemory`: an octet may be added.
     pub fn from_bytes_be_unsigned(alloc: Global, octets: Vec<u8>) -> Result<Self, Asn1DerError>
         ensures value { IfOk result (λ v. v ≡ pos (number_from_digits 256 octets.items)) }
         ensures err { IfErr result (λ e. e ≡ OutOfMemory) }

@@ -1,5 +1,5 @@
-//! Elements of a tag, a length and a content, and the types that are one such element: the leaves of the Distinguished
-//! Encoding Rules (ITU-T X.690).
+//! Elements (a tag, a length and a content) and the primitive types of the Distinguished Encoding Rules (ITU-T X.690), each
+//! of whose values is one element.
 //!
 //! The lower part of module `der`: `krb_der` re-exports all of it.
 #![tactic(auto)]

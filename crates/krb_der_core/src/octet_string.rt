@@ -23,7 +23,7 @@ const OCTET_STRING: u8 = 0x04;
 
 /// OCTET STRING (X.690, 8.7 and 10.2): the content is the octets themselves.
 ///
-/// It is made of a vector and gives it back, at `.0`, without a copy. A contract sees the list of its octets.
+/// It is made from a vector and returns it, at `.0`, without a copy. A contract sees the list of its octets.
 #[derive(Debug, Drop)]
 pub struct OctetStringAsn1(pub Vec<u8>);
 
@@ -47,7 +47,7 @@ impl Eq for OctetStringAsn1 {
     ghost laws = { Prim.search (comparing, rules) };
 }
 
-/// Tells a proof that what a slice holds are octets. It does nothing.
+/// Lemma: what a slice holds are octets.
 pub(crate) fn known_octets(octets: &[u8])
     ensures { IsOctets octets.now }
 {}

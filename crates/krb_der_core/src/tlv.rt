@@ -10,7 +10,7 @@ ghost use Rattle.krb_der_core.specs.declared.error.Asn1DerError.TheVariants as e
 use crate::error::Asn1DerError;
 use std::alloc::AllocError;
 
-/// The number that the octets stand for in base 256, highest octet first.
+/// The number that the octets represent in base 256, highest octet first.
 pub(crate) fn number_of(octets: &[u8]) -> usize
     requires { length octets.now ≤ 8 }
     ensures { result ≡ number_from_digits 256 octets.now }
@@ -22,7 +22,7 @@ pub(crate) fn number_of(octets: &[u8]) -> usize
     n
 }
 
-/// The length at the front, and how many octets it takes.
+/// The length at the start, and the number of its octets.
 pub fn read_length(input: &[u8]) -> Result<(usize, usize), Asn1DerError>
     ensures found { IfOk result (λ p. TakesFront (len p.0) p.1 input.now) }
     ensures fits { IfOk result (λ p. p.0 < 2 ^ 64) }
@@ -57,7 +57,7 @@ pub fn read_length(input: &[u8]) -> Result<(usize, usize), Asn1DerError>
     Ok((n, 1 + count))
 }
 
-/// The content of the element with this tag at the front, and how many octets the element takes.
+/// The content of the element with this tag at the start, and the number of the element's octets.
 pub fn read_tlv(tag: u8, input: &[u8]) -> Result<(&[u8], usize), Asn1DerError>
     ensures found { IfOk result (λ p. TakesFront (tlv tag p.0.now) p.1 input.now) }
     ensures refused { IfErr result (RefusesFront (Elements tag) input.now) }
@@ -90,7 +90,7 @@ fn count_digits(n: usize) -> usize
     count_digits(n / 256) + 1
 }
 
-/// Writes the number in base 256 at the end. Where memory runs out, some of its octets may stand there.
+/// Appends the number in base 256. Where an allocation fails, some of its octets may have been appended.
 pub(crate) fn push_digits(n: usize, out: &mut Vec<u8>) -> Result<(), AllocError>
     ensures ok { OnOk result (out.new.items ≡ out.old.items ++ digits_of 256 n) }
     ensures err { OnErr result (take (length out.old.items) out.new.items ≡ out.old.items) }
@@ -103,7 +103,7 @@ pub(crate) fn push_digits(n: usize, out: &mut Vec<u8>) -> Result<(), AllocError>
     Ok(())
 }
 
-/// The octets in front of a content of n octets, at the front of the array, and how many they are.
+/// The header of an element whose content has n octets, at the start of the array, and the number of its octets.
 fn header_octets(tag: u8, n: usize) -> ([u8; 10], usize)
     ensures octets { take result.1 result.0 ≡ header tag n }
     ensures count { result.1 ≤ 10 }
@@ -118,7 +118,7 @@ fn header_octets(tag: u8, n: usize) -> ([u8; 10], usize)
     (octets, 2 + count)
 }
 
-/// Writes an element at the end.
+/// Appends an element.
 pub fn write_tlv(tag: u8, content: &[u8], out: &mut Vec<u8>) -> Result<(), AllocError>
     ensures ok { OnOk result (out.new.items ≡ out.old.items ++ tlv tag content.now) }
     ensures err { OnErr result (out.new.items ≡ out.old.items) }
@@ -133,7 +133,8 @@ pub fn write_tlv(tag: u8, content: &[u8], out: &mut Vec<u8>) -> Result<(), Alloc
     Ok(())
 }
 
-/// Makes an element of the octets from `start` on, by a header in front of them. Where memory runs out, they are taken away.
+/// Makes the octets from `start` on the content of an element, and inserts its header before them. Where an allocation fails,
+/// they are removed.
 pub fn close_tlv(tag: u8, start: usize, out: &mut Vec<u8>) -> Result<(), AllocError>
     requires { start ≤ length out.old.items }
     ensures ok { OnOk result (out.new.items ≡ take start out.old.items ++ tlv tag (drop start out.old.items)) }

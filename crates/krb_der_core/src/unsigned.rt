@@ -25,7 +25,7 @@ fn first_digit(n: usize) -> usize
     first_digit(n / 256)
 }
 
-/// Writes the shortest two's complement of the number at the end. Where memory runs out, some of it may stand there.
+/// Appends the shortest two's complement of the number. Where an allocation fails, some of it may have been appended.
 fn push_unsigned(n: usize, out: &mut Vec<u8>) -> Result<(), AllocError>
     ensures ok { OnOk result (out.new.items ≡ out.old.items ++ unsigned n) }
     ensures err { OnErr result (take (length out.old.items) out.new.items ≡ out.old.items) }
@@ -41,7 +41,7 @@ fn push_unsigned(n: usize, out: &mut Vec<u8>) -> Result<(), AllocError>
     push_digits(n, out)
 }
 
-/// INTEGER (X.690, 8.3) of a number that is not negative and fits 32 bits; another is `InvalidData`.
+/// INTEGER (X.690, 8.3) of a number that is not negative and fits 32 bits; any other is `InvalidData`.
 impl DerEncode for u32 {
     ghost enc = { λ v. tlv 2 (shortest (pos v)) };
 

@@ -25,7 +25,7 @@ const UTF8_STRING: u8 = 0x0c;
 
 /// UTF8String (X.690, 8.23): the content is the text in UTF-8 (RFC 3629).
 ///
-/// The text is at `.0`, and any is allowed. A contract sees the list of its octets, whatever room the text has.
+/// Any text is allowed, and `.0` is the text. A contract sees the list of its octets, whatever the text's capacity.
 #[derive(Debug, Drop)]
 pub struct Utf8StringAsn1(pub String);
 
@@ -35,7 +35,7 @@ impl Model for Utf8StringAsn1 {
     ghost view = { λ s. string_bytes s.0 };
 }
 
-/// Tells a proof that a text is valid UTF-8. It does nothing.
+/// Lemma: a text is valid UTF-8.
 fn known_text(text: &str)
     ensures { IsUtf8 text.now }
 {}

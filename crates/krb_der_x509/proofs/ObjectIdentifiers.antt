@@ -12,7 +12,7 @@ use Rattle.krb_der_x509.specs.ObjectIdentifier.{continued, sub_identifier, sub_i
 use Rattle.krb_der_x509.specs.ObjectIdentifierFaults.{IsTooLarge}
 use Rattle.krb_der_x509.specs.ObjectIdentifierLaws.{decode, decode_more, decode_sub, decode_none, decode_large, sub_apart, sub_some}
 
--- the octets taken so far are the digits of n with more behind them
+-- the octets taken so far are the digits of n with more after them
 pub record SubSoFar (octets : List ℕ) (taken n : ℕ) : Type 0 where
   pub within : taken ≤ length octets
   pub parts : octets ≡ continued (digits_of 128 n) ++ drop taken octets
@@ -46,7 +46,7 @@ continued_more n b p h = ap continued (one_digit n b p h) ∙ continued-append (
 pub sub_begins : (octets : List ℕ) → SubSoFar octets 0 0
 sub_begins octets = record { within = omega arith; parts = refl; count = refl; same = refl; begun = λ lt. absurd (omega (arith, lt)) }
 
--- n is more than nothing behind an octet that is not 80 and not the last
+-- n is more than nothing after an octet that is not 80 and not the last
 more_begun : (octets : List ℕ) (taken n : ℕ) → SubSoFar octets taken n → (slice_index octets 0 ≡ 128 → ⊥) → 128 ≤ get_or octets taken 0 → 0 < n * 128 + (get_or octets taken 0 - 128)
 more_begun octets zero n s first le = elim (cases_lt 128 (get_or octets 0 0)) [ inl lt ↦ omega (arith, lt) | inr ge ↦ absurd (first (omega (arith, ge, le))) ]
 more_begun octets (suc taken) n s first le = omega (arith, s.begun (omega arith))

@@ -1,7 +1,7 @@
 -- Octets that are one value.
 use Rattle.std.proofs.Common.{◌≡◌, ℕ, Bool, true, false, eqb, ◌<◌, ◌^◌, List, [], ◌++◌, length, get_or, drop, refl, sym, ap, eq-eqb, ◌∙◌, arith}
 use Rattle.std.specs.Prelude.{MatchBool}
-use Rattle.std.proofs.lemmas.Bool.{eqb-true}
+use Rattle.std.proofs.lemmas.Bool.{eqb-true, false≢true}
 use Rattle.std.proofs.lemmas.List.{append-nil, length-append, drop_all}
 use Rattle.krb_der_core.specs.Tlv.{tlv}
 use Rattle.krb_der_core.specs.TlvLaws.{tlv_apart}
@@ -18,17 +18,13 @@ head_tlv : (t : ℕ) (c : List ℕ) → get_or (tlv t c) 0 0 ≡ t
 unfolding tlv
 head_tlv t c = refl
 
-not_both : (b : Bool) → false ≡ b → b ≡ true → ⊥
-not_both true e f = let k : true ≡ false = sym e in cc
-not_both false e f = cc
-
 match_bool : (b : Bool) {P Q : Type 0} → (b ≡ true → P) → (b ≡ false → Q) → MatchBool b P Q
 match_bool true p q = p refl
 match_bool false p q = q refl
 
 -- by whether two numbers are equal
 pub match_equal : (m n : ℕ) {P Q : Type 0} → (m ≡ n → P) → ((m ≡ n → ⊥) → Q) → MatchBool (eqb m n) P Q
-match_equal m n p q = match_bool (eqb m n) (λ e. p (eqb-true m n e)) (λ e. q (λ k. not_both (eqb m n) (sym e) (eq-eqb m n k)))
+match_equal m n p q = match_bool (eqb m n) (λ e. p (eqb-true m n e)) (λ e. q (λ k. false≢true (sym e ∙ eq-eqb m n k)))
 
 module _ (first : ℕ → Bool) (octets : List ℕ) where
   pub raw_empty : length octets ≡ 0 → IsElement first octets → ⊥
@@ -38,7 +34,7 @@ module _ (first : ℕ → Bool) (octets : List ℕ) where
   head h = ap (λ (l : List ℕ). get_or l 0 0) h.whole ∙ head_tlv h.tag h.content
 
   pub raw_tag : false ≡ first (get_or octets 0 0) → IsElement first octets → ⊥
-  raw_tag e h = not_both (first (get_or octets 0 0)) e (ap first (head h) ∙ h.begins)
+  raw_tag e h = false≢true (e ∙ ap first (head h) ∙ h.begins)
 
   pub raw_whole : (t n : ℕ) (c : List ℕ) → true ≡ first t → TakesFront (tlv t c) n octets → n ≡ length octets → IsElement first octets
   raw_whole t n c e f w =
@@ -63,4 +59,4 @@ module _ (first : ℕ → Bool) (octets : List ℕ) where
 pub raw_other : (first : ℕ → Bool) (t : ℕ) (c v : List ℕ) → false ≡ first t → IsElement first v → tlv t c ≡ v → ⊥
 raw_other first t c v e h q =
     let s = tlv_apart t h.tag c h.content [] [] (ap (λ (l : List ℕ). l ++ []) (q ∙ h.whole)) in
-    not_both (first t) e (ap first s.tag ∙ h.begins)
+    false≢true (e ∙ ap first s.tag ∙ h.begins)

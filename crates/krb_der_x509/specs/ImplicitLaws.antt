@@ -1,4 +1,4 @@
--- An implicit tag takes the place of a leaf's tag.
+-- An implicit tag takes the place of a primitive type's tag.
 use Rattle.std.proofs.Common.{◌≡◌, ℕ, List, sym, ap, ◌∙◌}
 use Rattle.krb_der_core.specs.Tlv.{tlv}
 use Rattle.krb_der_core.specs.TlvLaws.{tlv_same}

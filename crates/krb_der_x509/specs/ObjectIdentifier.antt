@@ -33,11 +33,11 @@ pub record IsArcs (arcs : List ℕ) : Type 0 where
   pub first : 40 * slice_index arcs 0 + slice_index arcs 1 < 2 ^ 64
   pub each : (i : ℕ) → slice_index arcs i < 2 ^ 64
 
--- numbers in decimal, a dot (46) in front of each
+-- numbers in decimal, a dot (46) before each
 abbrev pub dots_before : List ℕ → List ℕ
 dots_before arcs = flat_map (λ a. 46 ∷ decimal a) arcs
 
--- the arcs in decimal, joined by dots (RFC 4512, 1.4: numericoid)
+-- the arcs in decimal, separated by dots (RFC 4512, 1.4: numericoid)
 abbrev pub dotted : List ℕ → List ℕ
 dotted [] = []
 dotted (a ∷ arcs) = decimal a ++ dots_before arcs

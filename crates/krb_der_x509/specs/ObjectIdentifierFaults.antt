@@ -1,4 +1,4 @@
--- The first fault of the content of an object identifier (X.690, 8.19), from the left.
+-- The first error of the content of an object identifier (X.690, 8.19), from the left.
 use Rattle.std.proofs.Common.{◌≡◌, ◌⊎◌, ℕ, suc, ◌+◌, ◌*◌, ◌/◌, ◌%◌, ◌<◌, ◌≤◌, ◌^◌, List, [], ◌∷◌, ◌++◌, length, slice_index, sym, ap, ◌∙◌, inl, inr, arith}
 use Rattle.std.proofs.lemmas.List.{length-append}
 use Rattle.std.specs.List.{flat_map, AllByRecursion}
@@ -10,7 +10,7 @@ use Rattle.krb_der_core.specs.FaultLaws.{row_laws}
 use Rattle.krb_der_x509.specs.ObjectIdentifier.{continued, sub_identifier, sub_identifiers, arcs_content, IsArcs}
 use Rattle.krb_der_x509.specs.ObjectIdentifierLaws.{sub_apart, sub_some}
 
--- no sub-identifier below 2^64 stands at the front
+-- no sub-identifier below 2^64 is at the start
 abbrev pub NoSubIdentifier : List ℕ → Type 0
 NoSubIdentifier octets = (n : ℕ) (rest : List ℕ) → n < 2 ^ 64 → octets ≡ sub_identifier n ++ rest → ⊥
 
@@ -18,11 +18,11 @@ NoSubIdentifier octets = (n : ℕ) (rest : List ℕ) → n < 2 ^ 64 → octets �
 abbrev pub IsTooLarge : List ℕ → Type 0
 IsTooLarge octets = (n : ℕ) × (rest : List ℕ) × (octets ≡ continued (digits_of 128 n) ++ rest) × (0 < length rest) × (2 ^ 57 ≤ n)
 
--- The first fault of a sub-identifier: it is past 64 bits, which is not supported; or it begins with 80 or is cut short.
+-- The first error of a sub-identifier: it is past 64 bits, which is not supported; or it begins with 80 or is cut short.
 abbrev pub SubIdentifierFault : List ℕ → Asn1DerError → Type 0
 SubIdentifierFault octets e = NoSubIdentifier octets × (((e ≡ errors.UnsupportedValue) × IsTooLarge octets) ⊎ ((e ≡ errors.InvalidData) × (IsTooLarge octets → ⊥)))
 
--- The first fault of the content: it is empty, or it is that of a sub-identifier behind others.
+-- The first error of the content: it is empty, or it is that of a sub-identifier after others.
 abbrev pub ArcsFault : List ℕ → Asn1DerError → Type 0
 ArcsFault content e = ((e ≡ errors.InvalidData) × (content ≡ [])) ⊎ RowFault (λ n. n < 2 ^ 64) sub_identifier SubIdentifierFault content e
 

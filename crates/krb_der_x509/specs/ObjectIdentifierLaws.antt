@@ -1,4 +1,4 @@
--- The sub-identifiers of a content are told apart.
+-- A content determines its sub-identifiers.
 use Rattle.std.proofs.Common.{◌≡◌, ℕ, zero, suc, ◌+◌, ◌-◌, ◌*◌, ◌/◌, ◌%◌, ◌<◌, ◌≤◌, List, [], ◌∷◌, ◌++◌, length, get_or, slice_index, Option, Some, None, refl, sym, ap, ◌∙◌, append_assoc, arith, inl, inr, nat_lt, if◌then◌else◌}
 use Rattle.std.proofs.lemmas.Bool.{cases_lt, le-ltb, lt-ltb}
 use Rattle.std.specs.List.{flat_map}
@@ -7,7 +7,7 @@ use Rattle.std.proofs.lemmas.Int.Digits.{number_digits_of, first_digits_of}
 use Rattle.krb_der_core.specs.Encoding.{OneValue}
 use Rattle.krb_der_x509.specs.ObjectIdentifier.{continued, sub_identifier, arcs_content, IsArcs}
 
--- the number that is read on from n, and what stands behind it
+-- the number that is read on from n, and what follows it
 pub decode : ℕ → List ℕ → Option (ℕ × List ℕ)
 decode n [] = None
 decode n (b ∷ bs) = if nat_lt b 128 then Some (n * 128 + b, bs) else decode (n * 128 + (b - 128)) bs

@@ -11,7 +11,7 @@ use Rattle.krb_der_core.specs.TlvLaws.{tlv_apart}
 abbrev pub is_raw_first : ℕ → Bool
 is_raw_first t = not (t == 0) && not (t % 32 == 31)
 
--- the fault of an element of this tag: no value begins with it
+-- the error of an element of this tag: no value begins with it
 abbrev pub RawFault : ℕ → List ℕ → Asn1DerError → Type 0
 RawFault t content e = (e ≡ errors.InvalidData) × (is_raw_first t ≡ false)
 

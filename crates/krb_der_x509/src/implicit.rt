@@ -14,10 +14,10 @@ use krb_der::{Asn1DerError, Der, DerEncode};
 use std::alloc::{AllocError, Global};
 use std::marker::{Model, PhantomData};
 
-/// A leaf under an implicit context tag (X.690, 8.14): the tag `80` + N in the place of the leaf's own.
+/// A primitive type under an implicit context tag (X.690, 8.14): the tag `80` + N in place of the primitive type's own.
 ///
-/// It is made by `ImplicitContextTag0::from(value)` and so on, and gives the value back at `.0`. The numbers 0 to 2 have such
-/// a name, and `ImplicitContextTag<T, Number<3>>` is that of 3. A contract sees the value.
+/// `ImplicitContextTag0::from(value)` makes it, and `.0` is the value. The numbers 0 to 2 have such a name; number 3 is
+/// `ImplicitContextTag<T, Number<3>>`. A contract sees the value.
 #[derive(Drop)]
 #[derive_where(Debug, Clone, PartialEq, Eq; T)]
 pub struct ImplicitContextTag<T, N>(pub T, PhantomData<N>);
@@ -38,13 +38,13 @@ impl<T, N> From<T> for ImplicitContextTag<T, N> {
     }
 }
 
-/// A leaf under the implicit context tag 0: `80`.
+/// A primitive type under the implicit context tag 0: `80`.
 pub type ImplicitContextTag0<T> = ImplicitContextTag<T, Number<0>>;
 
-/// A leaf under the implicit context tag 1: `81`.
+/// A primitive type under the implicit context tag 1: `81`.
 pub type ImplicitContextTag1<T> = ImplicitContextTag<T, Number<1>>;
 
-/// A leaf under the implicit context tag 2: `82`.
+/// A primitive type under the implicit context tag 2: `82`.
 pub type ImplicitContextTag2<T> = ImplicitContextTag<T, Number<2>>;
 
 impl<T: DerPrimitive, N: TagNumber> DerEncode for ImplicitContextTag<T, N> {
@@ -94,9 +94,12 @@ impl<T: DerPrimitive + Drop, N: TagNumber> Fields for ImplicitContextTag<T, N> {
 
     ghost told_apart = { λ follow. Unit {0} };
 
-    ghost begin_so = { field_begins (λ v. tlv (128 + N.number) (T.inner v)) (λ v. T.is_value v × (T.enc v ≡ tlv T.tag (T.inner v))) (λ t. t == 128 + N.number) (λ v h. tagged_element (128 + N.number) (T.inner v)) };
+    ghost begin_so = { field_begins (λ v. tlv (128 + N.number) (T.inner v)) (λ v. T.is_value v × (T.enc v ≡ tlv T.tag (T.inner v)))
+        (λ t. t == 128 + N.number) (λ v h. tagged_element (128 + N.number) (T.inner v)) };
 
-    ghost one_reading = { field_one_reading (λ v. tlv (128 + N.number) (T.inner v)) (λ v. T.is_value v × (T.enc v ≡ tlv T.tag (T.inner v))) (λ t. t == 128 + N.number) (λ v h. tagged_element (128 + N.number) (T.inner v)) (retagged_one_value (128 + N.number) T.tag T.is_value T.enc T.inner T.one_value) };
+    ghost one_reading = { field_one_reading (λ v. tlv (128 + N.number) (T.inner v)) (λ v. T.is_value v × (T.enc v ≡ tlv T.tag (T.inner v)))
+        (λ t. t == 128 + N.number) (λ v h. tagged_element (128 + N.number) (T.inner v))
+        (retagged_one_value (128 + N.number) T.tag T.is_value T.enc T.inner T.one_value) };
 
     ghost ends = { λ v rest. Unit {0} };
 
@@ -112,7 +115,7 @@ impl<T: DerPrimitive + Drop, N: TagNumber> Fields for ImplicitContextTag<T, N> {
     }
 }
 
-/// A mandatory field of a sequence, lent for writing.
+/// A reference to a mandatory field of a sequence, for writing.
 impl<'a, T: DerPrimitive, N: TagNumber> FieldRefs for &'a ImplicitContextTag<T, N> {
     ghost octets = { λ v. tlv (128 + N.number) (T.inner v.now) };
 

@@ -1,5 +1,5 @@
-//! Object identifiers and raw values (ITU-T X.690), implicit tags, fields with no tag of their own, and the algorithm identifiers and
-//! public keys of X.509 that are made of them.
+//! Object identifiers and raw values (ITU-T X.690), implicit tags, fields with no tag of their own, and the algorithm
+//! identifiers and public keys of X.509 that consist of them.
 //!
 //! The upper part of module `der`.
 #![tactic(auto)]

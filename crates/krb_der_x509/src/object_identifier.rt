@@ -23,7 +23,7 @@ use std::marker::Model;
 /// The tag of an OBJECT IDENTIFIER: universal 6 (X.690, 8.19).
 const OBJECT_IDENTIFIER: u8 = 0x06;
 
-/// From here on a number in base 128 with one digit more is past 64 bits.
+/// A number from here on does not fit 64 bits with one more digit in base 128.
 const MOST_BEFORE_A_DIGIT: u64 = 1 << 57;
 
 /// OBJECT IDENTIFIER (X.690, 8.19), each of whose sub-identifiers is below 2^64.
@@ -40,7 +40,7 @@ impl Model for ObjectIdentifierAsn1 {
     ghost invariant = { λ s. IsArcs s.0.items };
 }
 
-/// Tells a proof that what a slice holds are numbers below 2^64. It does nothing.
+/// Lemma: what a slice holds are numbers below 2^64.
 fn known_arcs(arcs: &[u64])
     ensures { (i : ℕ) → slice_index arcs.now i < 2 ^ 64 }
 {}
@@ -56,7 +56,7 @@ fn are_arcs(arcs: &[u64]) -> bool
         && arcs[1] <= u64::MAX - 40 * arcs[0]
 }
 
-/// The sub-identifier at the front, and the number of its octets.
+/// The sub-identifier at the start, and the number of its octets.
 fn read_sub_identifier(octets: &[u8]) -> Result<(u64, usize), Asn1DerError>
     ensures found { IfOk result (λ p. TakesFront (sub_identifier p.0) p.1 octets.now) }
     ensures fits { IfOk result (λ p. p.0 < 2 ^ 64) }
@@ -83,10 +83,11 @@ fn read_sub_identifier(octets: &[u8]) -> Result<(u64, usize), Asn1DerError>
     Err(Asn1DerError::InvalidData)
 }
 
-/// The sub-identifiers that these octets are.
+/// The sub-identifiers whose encodings are these octets.
 fn read_sub_identifiers(alloc: Global, octets: &[u8]) -> Result<Vec<u64>, Asn1DerError>
     ensures found { IfOk result (λ v. octets.now ≡ flat_map sub_identifier v.items) }
-    ensures refused { IfErr result (λ e. (e ≡ errors.OutOfMemory) ⊎ ((v : List ℕ) → ((i : ℕ) → slice_index v i < 2 ^ 64) → octets.now ≡ flat_map sub_identifier v → ⊥)) }
+    ensures refused { IfErr result (λ e. (e ≡ errors.OutOfMemory)
+        ⊎ ((v : List ℕ) → ((i : ℕ) → slice_index v i < 2 ^ 64) → octets.now ≡ flat_map sub_identifier v → ⊥)) }
     ensures fault { IfErr result (λ e. (e ≡ errors.OutOfMemory) ⊎ ((e ≡ errors.InvalidData) ⊎ (e ≡ errors.UnsupportedValue))) }
     ensures below { IfOk result (λ v. AllByRecursion (λ n. n < 2 ^ 64) v.items) }
     ensures first_fault { IfErr result (OrMemory (RowFault (λ n. n < 2 ^ 64) sub_identifier SubIdentifierFault octets.now)) }
@@ -120,7 +121,8 @@ fn read_arcs(alloc: Global, content: &[u8]) -> Result<Vec<u64>, Asn1DerError>
     Ok(arcs)
 }
 
-/// Writes the digits of a number, each 128 more, at the end. Where memory runs out, some of them may stand there.
+/// Appends the digits of a number in base 128, each with its high bit set. Where an allocation fails, some may have been
+/// appended.
 fn push_continued(n: u64, out: &mut Vec<u8>) -> Result<(), AllocError>
     ensures ok { OnOk result (out.new.items ≡ out.old.items ++ continued (digits_of 128 n)) }
     ensures err { OnErr result (take (length out.old.items) out.new.items ≡ out.old.items) }
@@ -133,7 +135,7 @@ fn push_continued(n: u64, out: &mut Vec<u8>) -> Result<(), AllocError>
     Ok(())
 }
 
-/// Writes a sub-identifier at the end. Where memory runs out, some of its octets may stand there.
+/// Appends a sub-identifier. Where an allocation fails, some of its octets may have been appended.
 fn push_sub_identifier(n: u64, out: &mut Vec<u8>) -> Result<(), AllocError>
     ensures ok { OnOk result (out.new.items ≡ out.old.items ++ sub_identifier n) }
     ensures err { OnErr result (take (length out.old.items) out.new.items ≡ out.old.items) }
@@ -143,7 +145,7 @@ fn push_sub_identifier(n: u64, out: &mut Vec<u8>) -> Result<(), AllocError>
     Ok(())
 }
 
-/// Writes sub-identifiers at the end. Where memory runs out, some of their octets may stand there.
+/// Appends sub-identifiers. Where an allocation fails, some of their octets may have been appended.
 fn push_sub_identifiers(numbers: &[u64], out: &mut Vec<u8>) -> Result<(), AllocError>
     ensures ok { OnOk result (out.new.items ≡ out.old.items ++ flat_map sub_identifier numbers.now) }
     ensures err { OnErr result (take (length out.old.items) out.new.items ≡ out.old.items) }
@@ -154,7 +156,7 @@ fn push_sub_identifiers(numbers: &[u64], out: &mut Vec<u8>) -> Result<(), AllocE
     Ok(())
 }
 
-/// Writes the content of an object identifier at the end. Where memory runs out, some of its octets may stand there.
+/// Appends the content of an object identifier. Where an allocation fails, some of its octets may have been appended.
 fn push_arcs(arcs: &[u64], out: &mut Vec<u8>) -> Result<(), AllocError>
     requires { IsArcs arcs.now }
     ensures ok { OnOk result (out.new.items ≡ out.old.items ++ arcs_content arcs.now) }
@@ -164,7 +166,7 @@ fn push_arcs(arcs: &[u64], out: &mut Vec<u8>) -> Result<(), AllocError>
     push_sub_identifiers(&arcs[2..], out)
 }
 
-/// Writes numbers in decimal at the end of a text, a dot in front of each.
+/// Appends numbers in decimal to a text, a dot before each.
 fn push_dotted(arcs: &[u64], text: &mut String) -> Result<(), AllocError>
     ensures { OnOk result (text.new.bytes.items ≡ text.old.bytes.items ++ dots_before arcs.now) }
 {
@@ -177,8 +179,8 @@ fn push_dotted(arcs: &[u64], text: &mut String) -> Result<(), AllocError>
 impl ObjectIdentifierAsn1 {
     /// The object identifier with these arcs.
     ///
-    /// `InvalidData` where there are fewer than two, the first is past 2, the second past 39 below a first of 0 or 1, or
-    /// 80 and the second below a first of 2 past 64 bits.
+    /// `InvalidData` where there are fewer than two, where the first is more than 2, where the first is 0 or 1 and the second
+    /// more than 39, or where the first is 2 and 80 plus the second does not fit 64 bits.
     pub fn from_arcs(alloc: Global, arcs: &[u64]) -> Result<Self, Asn1DerError>
         ensures { MatchResult result (λ v. v ≡ arcs.now) (λ e. (e ≡ errors.OutOfMemory) ⊎ ((e ≡ errors.InvalidData) × (IsArcs arcs.now → ⊥))) }
     {
@@ -188,7 +190,7 @@ impl ObjectIdentifierAsn1 {
         Ok(ObjectIdentifierAsn1(Vec::from_slice(alloc, arcs)?))
     }
 
-    /// The arcs in decimal, joined by dots, as `1.2.840.113554.1.2.2` (RFC 4512, 1.4). `OutOfMemory` is the only refusal.
+    /// The arcs in decimal, separated by dots, as `1.2.840.113554.1.2.2` (RFC 4512, 1.4). The only error is `OutOfMemory`.
     pub fn to_text(&self, alloc: Global) -> Result<String, Asn1DerError>
         ensures { MatchResult result (λ text. text.bytes.items ≡ dotted self.now) (λ e. e ≡ errors.OutOfMemory) }
     {

@@ -1,4 +1,4 @@
-//! Leaves whose tag an implicit tag replaces.
+//! Primitive types whose tag an implicit tag replaces.
 
 ghost use Rattle.std.specs.Prelude.{◌≡◌, ℕ, List, refl, pos};
 ghost use Rattle.krb_der_core.specs.BitString.{bits_content};
@@ -14,7 +14,7 @@ use krb_der_core::{
     Utf8StringAsn1,
 };
 
-/// A leaf all of whose encodings have one tag, which an implicit tag replaces (X.690, 8.14).
+/// A primitive type all of whose encodings have one tag, which an implicit tag replaces (X.690, 8.14).
 pub trait DerPrimitive: Der {
     /// The tag.
     ghost tag: { ℕ };

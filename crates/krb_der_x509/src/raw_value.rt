@@ -15,8 +15,8 @@ use std::marker::Model;
 
 /// One value of any type, whose content is not read further.
 ///
-/// Its first octet is not `00`, and its tag is in one octet (X.690, 8.1.2.4). A contract sees the list of its octets,
-/// all of them.
+/// Its first octet is not `00`, and its tag is in one octet (X.690, 8.1.2.4). A contract sees the list of all
+/// its octets.
 #[derive(Debug, Drop)]
 pub struct Asn1RawDer(Vec<u8>);
 
@@ -53,7 +53,7 @@ fn is_one_value(octets: &[u8]) -> bool
 }
 
 impl Asn1RawDer {
-    /// The value that these octets are. `InvalidData` where they are no value, or more than one.
+    /// The value whose encoding is these octets. `InvalidData` where they are not exactly one value.
     pub fn new(octets: Vec<u8>) -> Result<Self, Asn1DerError>
         ensures { MatchResult result (λ v. v ≡ octets.items) (λ e. (e ≡ errors.InvalidData) × (IsElement is_raw_first octets.items → ⊥)) }
     {

@@ -1,8 +1,8 @@
 //! Fields of a sequence that have no tag of their own, for structs that are SEQUENCEs.
 //!
-//! Such a field stands in a struct as its type, in the tuple of its fields as `Field<T>`, which has the value at `.0`, and is
-//! lent for writing as `FieldRef(&self.name)`. One that may be absent is `Optional<Option<T>>`, as under a tag: it is told by
-//! its first octet from what follows it.
+//! Such a field has its own type in the struct, `Field<T>`, whose value is at `.0`, in the tuple of fields, and
+//! `FieldRef(&self.name)` for writing. An optional one is `Optional<Option<T>>`, as under a tag: its first octet
+//! distinguishes it from what follows.
 
 ghost use Rattle.krb_der_core.specs.Faults.{FrontFault};
 ghost use Rattle.krb_der_core.specs.FaultLaws.{front_laws};
@@ -52,7 +52,7 @@ impl<T: Der + Drop> Fields for Field<T> {
     }
 }
 
-/// A mandatory field with no tag of its own, lent for writing.
+/// A reference to a mandatory field with no tag of its own, for writing.
 #[derive(Drop)]
 pub struct FieldRef<'a, T>(pub &'a T);
 

@@ -1,4 +1,4 @@
--- What stands at the front of octets is not refused, but for want of memory.
+-- What is at the start of octets is not rejected, unless an allocation fails.
 use Rattle.std.proofs.Common.{◌≡◌, ℕ, suc, ◌+◌, ◌<◌, ◌^◌, inl, inr, eqb, List, [], ◌++◌, length, refl, sym, ap, subst, ◌∙◌, arith}
 use Rattle.std.proofs.lemmas.List.{append-nil, length-append}
 use Rattle.krb_der_core.specs.declared.error.Asn1DerError.{Asn1DerError}

@@ -1,4 +1,4 @@
--- A token of Kerberos is not refused, but for want of memory.
+-- A token of Kerberos is not rejected, unless an allocation fails.
 use Rattle.std.proofs.Common.{◌≡◌, ℕ, ◌<◌, ◌^◌, ◌⊎◌, inl, inr, List, ◌++◌, length, refl, sym, ap, ◌∙◌, append_assoc}
 use Rattle.krb_der_core.specs.Tlv.{tlv}
 use Rattle.krb_der_core.specs.TlvLaws.{same_fronts, tagged_one_value, tlv_apart}

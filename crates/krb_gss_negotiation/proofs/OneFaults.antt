@@ -1,4 +1,4 @@
--- Where a token has a fault of DER, it has no other first fault.
+-- Where a token has an error of DER, it has no other first error.
 use Rattle.std.proofs.Common.{◌≡◌, ℕ, ◌<◌, ◌^◌, ◌⊎◌, inl, inr, eqb, List, ◌++◌, length, refl, sym, ap, subst, ◌∙◌}
 use Rattle.std.specs.declared.io.Error.{Error}
 use Rattle.std.proofs.lemmas.List.{append_cancel_left}
@@ -22,7 +22,7 @@ use Rattle.krb_gss_negotiation.specs.Proxy.{BehindHeader, HeaderRefused, IAKerbR
 use Rattle.krb_gss_negotiation.proofs.Faults.{behind_fits, content_fits, front_memory, no_frame_fault, no_front_fault, no_id_fault, no_mechanism_fault, one_mechanism}
 use Rattle.krb_gss_negotiation.proofs.Proxies.{behind_header, iakerb_arcs, no_header_fault, proxy_id_two}
 
--- no other refusal than this fault, but for want of memory
+-- no other error than this error, unless an allocation fails
 abbrev Told : Asn1DerError → GssApiMessageError → Type 0
 Told f e = (e ≡ gss.OutOfMemory) ⊎ (e ≡ gss.Asn1Error f)
 
@@ -35,7 +35,7 @@ no_io f x p = cc
 no_id : (f : Asn1DerError) (x y : List ℕ) → gss.Asn1Error f ≡ gss.InvalidId x y → ⊥
 no_id f x y p = cc
 
--- ---- faults of DER
+-- ---- errors of DER
 
 of_memory : (f x : Asn1DerError) → gss.Asn1Error f ≡ of_der x → x ≡ errors.OutOfMemory → ⊥
 of_memory f x p m = no_memory f (p ∙ ap of_der m)

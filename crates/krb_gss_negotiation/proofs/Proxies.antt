@@ -1,4 +1,4 @@
--- A token of IAKERB is not refused, but for want of memory.
+-- A token of IAKERB is not rejected, unless an allocation fails.
 use Rattle.std.proofs.Common.{◌≡◌, ℕ, ◌-◌, ◌<◌, ◌^◌, ◌⊎◌, inl, inr, List, [], ◌∷◌, ◌++◌, length, take, drop, refl, sym, ap, subst, ◌∙◌, arith, rules, tests}
 use Rattle.std.proofs.lemmas.List.{append_cancel_left, take_rest}
 use Rattle.std.proofs.lemmas.Fmt.{decimal_digit}
@@ -63,7 +63,7 @@ no_header_fault k h b behind octets e lt hv r q (f, t, inr x) =
     let s = tlv_apart 48 48 x.content r.0 x.behind behind (sym x.front ∙ q ∙ ap (λ (l : List ℕ). l ++ behind) r.1) in
     t ∙ ap of_der (x.none h hv (subst (λ (l : List ℕ). HeaderReads l h) (r.1 ∙ ap (λ (l : List ℕ). tlv 48 l) (sym s.content)) r))
 
--- what stands behind a header
+-- what follows a header
 pub behind_header : (h other : IAKerbHeader) (b c x y : List ℕ) → HeaderReads b h → HeaderReads c other → b ++ x ≡ c ++ y → (b ≡ c) × (x ≡ y)
 behind_header h other b c x y r s e =
     let t = tlv_apart 48 48 r.0 s.0 x y (ap (λ (l : List ℕ). l ++ x) (sym r.1) ∙ e ∙ ap (λ (l : List ℕ). l ++ y) s.1) in

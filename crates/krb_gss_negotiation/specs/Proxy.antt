@@ -22,16 +22,16 @@ iakerb = 1 ∷ 3 ∷ 6 ∷ 1 ∷ 5 ∷ 2 ∷ 5 ∷ []
 abbrev pub proxy_id : List ℕ
 proxy_id = 5 ∷ 1 ∷ []
 
--- The content of a token is read as a header and a message: it is the mechanism, the id, octets that are read as the header, and
--- the message's encoding, with nothing behind it.
+-- The content of a token is read as a header and a message: it is the mechanism, the id, octets that are read as the header,
+-- and the message's encoding, with nothing after it.
 pub record ProxyReads {A : Type 0} (enc : A → List ℕ) (content : List ℕ) (header : IAKerbHeader) (message : A) : Type 0 where
   pub octets : List ℕ
   pub reads : HeaderReads octets header
   pub fields : content ≡ object_identifier iakerb ++ (proxy_id ++ (octets ++ enc message))
 
--- ---- the faults
+-- ---- the errors
 
--- another mechanism is told, in decimal, behind the expected one
+-- the error names the expected mechanism and the other one, in decimal
 abbrev pub TellsMechanism : List ℕ → GssApiMessageError → Type 0
 TellsMechanism oid gss.OutOfMemory = Unit {0}
 TellsMechanism oid (gss.InvalidMechanismOid expected got) = (expected.bytes.items ≡ dotted iakerb) × (got.bytes.items ≡ dotted oid)
@@ -47,7 +47,8 @@ IAKerbRefused content e = MechanismRefused content e ⊎ BehindMechanism content
 abbrev pub ProxyIdRefused : List ℕ → GssApiMessageError → Type 0
 ProxyIdRefused octets e = IdRefused octets e ⊎ BehindId octets (λ id behind. (id ≡ proxy_id → ⊥) × (e ≡ gss.InvalidId proxy_id id))
 
--- A sequence of this content stands at the front, and is read as no header; its first fault is told, but for want of memory.
+-- A sequence of this content is at the start, and is read as no header; its first error is returned, unless an allocation
+-- fails.
 pub record NoHeader (h : EncodingOf IAKerbHeader) (octets : List ℕ) (f : Asn1DerError) : Type 0 where
   pub content : List ℕ
   pub behind : List ℕ
@@ -59,11 +60,11 @@ pub record NoHeader (h : EncodingOf IAKerbHeader) (octets : List ℕ) (f : Asn1D
 abbrev pub HeaderRefused : EncodingOf IAKerbHeader → List ℕ → GssApiMessageError → Type 0
 HeaderRefused h octets e = (f : Asn1DerError) × (e ≡ of_der f) × (ElementRefused 48 octets f ⊎ NoHeader h octets f)
 
--- a header stands at the front, and what stands behind it is so
+-- a header is at the start, and what follows it is so
 abbrev pub BehindHeader : EncodingOf IAKerbHeader → List ℕ → (List ℕ → Type 0) → Type 0
 BehindHeader h octets P = (v : IAKerbHeader) × (b : List ℕ) × (behind : List ℕ) × h.is_value v × HeaderReads b v × (octets ≡ b ++ behind) × P behind
 
--- The first fault of a token, from the left: of its frame, its mechanism, its id, its header, its message.
+-- The first error of a token, from the left: of its frame, its mechanism, its id, its header, its message.
 abbrev pub ProxyRefused : {A : Type 0} → EncodingOf IAKerbHeader → EncodingOf A → List ℕ → GssApiMessageError → Type 0
 ProxyRefused h m input e =
     FrameRefused input e ⊎ InToken input (λ content.

@@ -18,6 +18,6 @@ pub record IsTokenId (id : List ℕ) : Type 0 where
   pub two : length id ≡ 2
   pub octets : IsOctets id
 
--- the fault of these two octets: one or both are missing
+-- the error of these two octets: one or both are missing
 abbrev pub IdFault : List ℕ → Asn1DerError → Type 0
 IdFault octets e = (e ≡ errors.TruncatedData) × (length octets < 2)

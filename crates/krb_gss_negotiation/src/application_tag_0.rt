@@ -1,4 +1,4 @@
-//! The tag of a GSS token, in the place of a SEQUENCE's.
+//! The tag of a GSS token, in place of a SEQUENCE's.
 
 ghost use Rattle.std.specs.Prelude.{◌≡◌, ◌==◌};
 ghost use Rattle.krb_der.specs.Encoding.{IsSequence};
@@ -14,7 +14,7 @@ use std::marker::Model;
 /// The tag of a GSS token: application 0, constructed (RFC 2743, 3.1).
 pub(crate) const TOKEN: u8 = 0x60;
 
-/// A GSS token (RFC 2743, 3.1): a SEQUENCE whose first octet is `60` in the place of `30`.
+/// A GSS token (RFC 2743, 3.1): a SEQUENCE whose first octet is `60` in place of `30`.
 ///
 /// ```text
 /// InitialContextToken ::= [APPLICATION 0] IMPLICIT SEQUENCE {
@@ -23,8 +23,8 @@ pub(crate) const TOKEN: u8 = 0x60;
 /// }
 /// ```
 ///
-/// It is not `ApplicationTag<T, 0>`, which stands around a SEQUENCE. Another first octet is `InvalidData`, and what is
-/// inside is refused as the SEQUENCE would be. A contract sees the SEQUENCE's value.
+/// It is not `ApplicationTag<T, 0>`, which wraps a SEQUENCE. Another first octet is `InvalidData`; the other errors are those
+/// of the SEQUENCE. A contract sees the SEQUENCE's value.
 #[derive(Debug, Drop, PartialEq, Eq)]
 pub struct ApplicationTag0<T>(pub T);
 

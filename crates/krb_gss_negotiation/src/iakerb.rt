@@ -36,7 +36,7 @@ const IAKERB_TEXT: &str = "1.3.6.1.5.2.5";
 /// The same as an OBJECT IDENTIFIER's encoding.
 const IAKERB_OBJECT_IDENTIFIER: [u8; 8] = [0x06, 0x06, 0x2b, 0x06, 0x01, 0x05, 0x02, 0x05];
 
-/// A message of IAKERB as it stands in a token (draft-ietf-kitten-iakerb-03, 3; RFC 2743, 3.1): it is sent as
+/// A message of IAKERB in a token (draft-ietf-kitten-iakerb-03, 3; RFC 2743, 3.1): it is sent as
 /// `ApplicationTag0<IAKerbProxyMessage<T>>`. `T` is the message's type, such as `AsReq`.
 ///
 /// ```text
@@ -48,10 +48,10 @@ const IAKERB_OBJECT_IDENTIFIER: [u8; 8] = [0x06, 0x06, 0x2b, 0x06, 0x01, 0x05, 0
 /// }
 /// ```
 ///
-/// Its header is read from more than one spelling, so it is no `Der`.
+/// Its header is read from more than one encoding, so it does not implement `Der`.
 #[derive(Debug, Drop, PartialEq, Eq)]
 pub struct IAKerbProxyMessage<T> {
-    /// Which realm the message is for.
+    /// The header, which names the realm of the message.
     pub header: IAKerbHeader,
     /// The message.
     pub krb_msg: T,
@@ -111,13 +111,13 @@ impl<T: Der + Drop> DerSequence for IAKerbProxyMessage<T> {
 }
 
 impl<T: Der + Drop> IAKerbProxyMessage<T> {
-    /// Writes what stands in the SEQUENCE: the mechanism, the token id, the header and the message, with neither tag nor length in
-    /// front.
+    /// Writes the content of the SEQUENCE: the mechanism, the token id, the header and the message, without tag and length.
     ///
-    /// The octets are made first: where the answer is `OutOfMemory`, nothing was written. `IoError` is a fault of the writer, and
-    /// some octets may have been written then.
+    /// The octets are computed first: with `OutOfMemory` nothing was written. `IoError` is an error of the writer; some octets
+    /// may have been written then.
     pub fn encode<W: Write>(&self, alloc: Global, writer: &mut W) -> Result<(), GssApiMessageError>
-        ensures octets { OnOk result (Appends (W.contents writer.old) (W.contents writer.new) (object_identifier iakerb ++ (proxy_id ++ (⟦<IAKerbHeader as DerEncode>⟧.enc self.now.header ++ T.enc self.now.krb_msg)))) }
+        ensures octets { OnOk result (Appends (W.contents writer.old) (W.contents writer.new)
+            (object_identifier iakerb ++ (proxy_id ++ (⟦<IAKerbHeader as DerEncode>⟧.enc self.now.header ++ T.enc self.now.krb_msg)))) }
         ensures err { IfErr result IsFault }
         ensures kept { IfErr result (λ e. e ≡ OutOfMemory → writer.new ≡ writer.old) }
     {
@@ -134,22 +134,24 @@ impl<T: Der + Drop> IAKerbProxyMessage<T> {
         Ok(())
     }
 
-    /// The message of the token at the front of the input, which may go on behind it.
+    /// The message of the token at the start of the input. Trailing octets are not read.
     ///
-    /// The parts are read from the left, and the first fault decides. An input that does not begin with `60` is
-    /// `Asn1Error(InvalidData)`, and one that ends inside the token `Asn1Error(TruncatedData)`; its length octets are refused as
-    /// those of any element. Then come the faults of the mechanism; `InvalidMechanismOid` of `1.3.6.1.5.2.5` and another one;
-    /// `IoError` of `UnexpectedEof` where the token ends inside the id; `InvalidId` of `05 01` and another one; the faults of the
-    /// header, as `IAKerbHeader::from_bytes` tells them, and of the message; and `Asn1Error(InvalidData)` where octets are left in
-    /// the token. The faults of the mechanism and of the message are told as `from_bytes` tells them. No other `IoError` is
-    /// answered.
+    /// The parts are read from the left, and the first error is returned. An input that does not begin with `60` is
+    /// `Asn1Error(InvalidData)`, and one that ends inside the token `Asn1Error(TruncatedData)`; the errors of its length octets are
+    /// those of any element. Then come the errors of the mechanism; `InvalidMechanismOid`, with `1.3.6.1.5.2.5` and the other
+    /// mechanism; `IoError` of `UnexpectedEof` where the token ends inside the id; `InvalidId`, with `05 01` and the other id; the
+    /// errors of the header, as `IAKerbHeader::from_bytes` returns them, and of the message; and `Asn1Error(InvalidData)` where
+    /// the token has trailing octets. The errors of the mechanism and of the message are those of `from_bytes`. There is no
+    /// other `IoError`.
     pub fn decode_application_iakerb_proxy_message(
         alloc: Global,
         input: &[u8],
     ) -> Result<ApplicationTag0<IAKerbProxyMessage<T>>, GssApiMessageError>
         ensures valid { IfOk result (λ m. ⟦<IAKerbHeader as DerEncode>⟧.is_value m.header × T.is_value m.krb_msg) }
-        ensures found { IfOk result (λ m. (content : List ℕ) × (rest : List ℕ) × (input.now ≡ token content ++ rest) × ProxyReads T.enc content m.header m.krb_msg) }
-        ensures reads { (m : _) (content rest : List ℕ) → ⟦<IAKerbHeader as DerEncode>⟧.is_value m.header → T.is_value m.krb_msg → input.now ≡ token content ++ rest → ProxyReads T.enc content m.header m.krb_msg → Answers result m }
+        ensures found { IfOk result (λ m. (content : List ℕ) × (rest : List ℕ) × (input.now ≡ token content ++ rest)
+            × ProxyReads T.enc content m.header m.krb_msg) }
+        ensures reads { (m : _) (content rest : List ℕ) → ⟦<IAKerbHeader as DerEncode>⟧.is_value m.header → T.is_value m.krb_msg
+            → input.now ≡ token content ++ rest → ProxyReads T.enc content m.header m.krb_msg → Answers result m }
         ensures first_fault { IfErr result (ProxyRefused ⟦<IAKerbHeader as DerEncode>⟧ ⟦<T as DerEncode>⟧ input.now) }
     {
         let content = read_frame(input)?;
@@ -160,7 +162,7 @@ impl<T: Der + Drop> IAKerbProxyMessage<T> {
         Ok(ApplicationTag0(IAKerbProxyMessage { header, krb_msg }))
     }
 
-    /// An equal message. `OutOfMemory` alone is answered in its place.
+    /// An equal message. The only error is `OutOfMemory`.
     pub fn clone(&self, alloc: Global) -> Result<IAKerbProxyMessage<T>, GssApiMessageError>
         ensures { Answers result self.now }
     {
@@ -177,7 +179,7 @@ fn is_iakerb(mechanism: &ObjectIdentifierAsn1) -> bool
     mechanism.arcs() == IAKERB.as_slice()
 }
 
-/// IAKERB and another mechanism in decimal.
+/// The error for another mechanism than IAKERB, with both in decimal.
 #[tactic(auto, using(crate::proofs::Proxies::iakerb_text))]
 fn mechanism_texts(
     alloc: Global,
@@ -192,7 +194,7 @@ fn mechanism_texts(
     Ok((expected, got))
 }
 
-/// What stands behind the mechanism IAKERB at the front of a token's content.
+/// What follows the mechanism IAKERB at the start of a token's content.
 fn read_iakerb(alloc: Global, content: &[u8]) -> Result<&[u8], GssApiMessageError>
     ensures found { IfOk result (λ behind. content.now ≡ object_identifier iakerb ++ behind.now) }
     ensures refused { IfErr result (IAKerbRefused content.now) }
@@ -205,7 +207,7 @@ fn read_iakerb(alloc: Global, content: &[u8]) -> Result<&[u8], GssApiMessageErro
     Ok(behind)
 }
 
-/// What stands behind the token id of a proxy's message.
+/// What follows the token id of a proxy's message.
 fn read_proxy_id(octets: &[u8]) -> Result<&[u8], GssApiMessageError>
     ensures found { IfOk result (λ rest. octets.now ≡ proxy_id ++ rest.now) }
     ensures refused { IfErr result (ProxyIdRefused octets.now) }
@@ -217,7 +219,7 @@ fn read_proxy_id(octets: &[u8]) -> Result<&[u8], GssApiMessageError>
     Ok(rest)
 }
 
-/// The header at the front, and what stands behind it.
+/// The header at the start, and what follows it.
 fn read_header(alloc: Global, octets: &[u8]) -> Result<(IAKerbHeader, &[u8]), GssApiMessageError>
     ensures valid { IfOk result (λ p. ⟦<IAKerbHeader as DerEncode>⟧.is_value p.0) }
     ensures found { IfOk result (λ p. (b : List ℕ) × HeaderReads b p.0 × (octets.now ≡ b ++ p.1.now)) }

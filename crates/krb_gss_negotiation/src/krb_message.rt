@@ -24,7 +24,7 @@ use krb_gss_tokens::GssApiMessageError;
 use std::alloc::{AllocError, Global};
 use std::io::Write;
 
-/// A message of Kerberos as it stands in a token (RFC 4121, 4.1; RFC 2743, 3.1): it is sent as
+/// A message of Kerberos in a token (RFC 4121, 4.1; RFC 2743, 3.1): it is sent as
 /// `ApplicationTag0<KrbMessage<T>>`. `T` is the message's type, such as `ApReq`.
 ///
 /// ```text
@@ -38,7 +38,7 @@ use std::io::Write;
 pub struct KrbMessage<T> {
     /// The mechanism.
     pub krb5_oid: ObjectIdentifierAsn1,
-    /// Which message it is.
+    /// The token id, which says what the message is.
     pub krb5_token_id: [u8; 2],
     /// The message.
     pub krb_msg: T,
@@ -104,12 +104,13 @@ impl<T: Der + Drop> DerSequence for KrbMessage<T> {
 }
 
 impl<T: Der + Drop> KrbMessage<T> {
-    /// Writes what stands in the SEQUENCE: the mechanism, the token id and the message, with neither tag nor length in front.
+    /// Writes the content of the SEQUENCE: the mechanism, the token id and the message, without tag and length.
     ///
-    /// The octets are made first: where the answer is `OutOfMemory`, nothing was written. `IoError` is a fault of the writer, and
-    /// some octets may have been written then.
+    /// The octets are computed first: with `OutOfMemory` nothing was written. `IoError` is an error of the writer; some octets
+    /// may have been written then.
     pub fn encode<W: Write>(&self, alloc: Global, writer: &mut W) -> Result<(), GssApiMessageError>
-        ensures octets { OnOk result (Appends (W.contents writer.old) (W.contents writer.new) (object_identifier self.now.krb5_oid ++ (self.now.krb5_token_id ++ T.enc self.now.krb_msg))) }
+        ensures octets { OnOk result (Appends (W.contents writer.old) (W.contents writer.new)
+            (object_identifier self.now.krb5_oid ++ (self.now.krb5_token_id ++ T.enc self.now.krb_msg))) }
         ensures err { IfErr result IsFault }
         ensures kept { IfErr result (λ e. e ≡ OutOfMemory → writer.new ≡ writer.old) }
     {
@@ -123,20 +124,21 @@ impl<T: Der + Drop> KrbMessage<T> {
         Ok(())
     }
 
-    /// The message of the token at the front of the input, which may go on behind it.
+    /// The message of the token at the start of the input. Trailing octets are not read.
     ///
-    /// The parts are read from the left, and the first fault decides. An input that does not begin with `60` is
-    /// `Asn1Error(InvalidData)`, and one that ends inside the token `Asn1Error(TruncatedData)`; its length octets are refused as
-    /// those of any element. Then come the faults of the mechanism, which may be any; `IoError` of `UnexpectedEof` where the token
-    /// ends inside the id, which may be any; the faults of the message; and `Asn1Error(InvalidData)` where octets are left in the
-    /// token. The faults of the mechanism and of the message are told as `from_bytes` tells them. No other `IoError` is answered.
+    /// The parts are read from the left, and the first error is returned. An input that does not begin with `60` is
+    /// `Asn1Error(InvalidData)`, and one that ends inside the token `Asn1Error(TruncatedData)`; the errors of its length octets are
+    /// those of any element. Then come the errors of the mechanism, which may be any; `IoError` of `UnexpectedEof` where the token
+    /// ends inside the id, which may be any; the errors of the message; and `Asn1Error(InvalidData)` where the token has trailing
+    /// octets. The errors of the mechanism and of the message are those of `from_bytes`. There is no other `IoError`.
     pub fn decode_application_krb_message(
         alloc: Global,
         input: &[u8],
     ) -> Result<ApplicationTag0<KrbMessage<T>>, GssApiMessageError>
         ensures valid { IfOk result ⟦<KrbMessage<T> as DerEncode>⟧.is_value }
         ensures found { IfOk result (λ m. (rest : List ℕ) × (input.now ≡ in_token (⟦<KrbMessage<T> as DerEncode>⟧.enc m) ++ rest)) }
-        ensures reads { (m : _) (rest : List ℕ) → ⟦<KrbMessage<T> as DerEncode>⟧.is_value m → input.now ≡ in_token (⟦<KrbMessage<T> as DerEncode>⟧.enc m) ++ rest → Answers result m }
+        ensures reads { (m : _) (rest : List ℕ) → ⟦<KrbMessage<T> as DerEncode>⟧.is_value m
+            → input.now ≡ in_token (⟦<KrbMessage<T> as DerEncode>⟧.enc m) ++ rest → Answers result m }
         ensures first_fault { IfErr result (KrbMessageRefused ⟦<T as DerEncode>⟧ input.now) }
     {
         let content = read_frame(input)?;

@@ -1,4 +1,4 @@
-//! Laws over the definitions, of functions that do nothing.
+//! Lemmas about the definitions: functions with no body, each of whose clauses is a fact for proofs above.
 
 ghost use Rattle.std.specs.Prelude.{◌≡◌, ◌↔◌, ◌++◌, ◌∷◌, ◌<◌, ◌^◌, List, ℕ, drop, length};
 ghost use Rattle.krb_der.specs.Asn1.{explicit, sequence_of};
@@ -36,22 +36,23 @@ pub fn aliases()
     ensures neg_token_targ_1 { (v : _) → ⟦<NegTokenTarg1 as DerEncode>⟧.enc v ≡ explicit 1 (⟦<NegTokenTarg as DerEncode>⟧.enc v) }
 {}
 
-/// A token is the SEQUENCE's encoding with `60` in the place of its first octet, so that the tag takes the place of `30`
+/// A token is the SEQUENCE's encoding with `60` in place of its first octet, `30`
 /// (RFC 2743, 3.1; X.690, 8.14).
 pub fn tokens<T: DerSequence>()
     ensures first_octet { (v : T) → ⟦<ApplicationTag0<T> as DerEncode>⟧.enc v ≡ 96 ∷ drop 1 (T.enc v) }
     ensures content { (v : T) (content : List ℕ) → T.enc v ≡ tlv 48 content → ⟦<ApplicationTag0<T> as DerEncode>⟧.enc v ≡ tlv 96 content }
 {}
 
-/// A token of IAKERB that was written is read as what was written (draft-ietf-kitten-iakerb-03, 3).
+/// A written token of IAKERB is read as the value that was written (draft-ietf-kitten-iakerb-03, 3).
 pub fn proxy_messages<T: Der + Drop>()
-    ensures written { (m : _) → ⟦<IAKerbProxyMessage<T> as DerEncode>⟧.is_value m → (content : List ℕ) × (⟦<ApplicationTag0<IAKerbProxyMessage<T>> as DerEncode>⟧.enc m ≡ token content) × ProxyReads T.enc content m.header m.krb_msg }
+    ensures written { (m : _) → ⟦<IAKerbProxyMessage<T> as DerEncode>⟧.is_value m → (content : List ℕ)
+        × (⟦<ApplicationTag0<IAKerbProxyMessage<T>> as DerEncode>⟧.enc m ≡ token content) × ProxyReads T.enc content m.header m.krb_msg }
 {
     header_readings();
 }
 
-/// The first fault of each struct is that of a SEQUENCE of its fields (X.690, 8.9): its tag, then its fields in order, then what is
-/// left over. Its encodings begin with that tag alone.
+/// The first error of each struct is that of a SEQUENCE of its fields (X.690, 8.9): its tag, then its fields in order, then
+/// trailing octets. Its encodings begin with that tag alone.
 pub fn faults()
     ensures neg_token_init { HasFaultsOf ⟦<NegTokenInit as DerEncode>⟧.fault ⟦<<NegTokenInit as Sequence>::Fields as Fields>⟧ }
     ensures neg_token_init_tag { HasTag 48 ⟦<NegTokenInit as DerEncode>⟧.first }
@@ -61,13 +62,13 @@ pub fn faults()
     ensures gss_api_neg_init_tag { HasTag 48 ⟦<GssApiNegInit as DerEncode>⟧.first }
 {}
 
-/// The first fault of a token (RFC 2743, 3.1): another first octet, or that of the SEQUENCE inside, as under its own tag.
+/// The first error of a token (RFC 2743, 3.1): another first octet, or that of the SEQUENCE inside, as under its own tag.
 pub fn token_faults<T: DerSequence>()
     ensures fault { SameFault ⟦<ApplicationTag0<T> as DerEncode>⟧.fault (TaggedFault 96 (T.fault 48)) }
     ensures tag { HasTag 96 ⟦<ApplicationTag0<T> as DerEncode>⟧.first }
 {}
 
-/// The first fault of a message in a token (RFC 4121, 4.1), and of the two octets between the mechanism and the message: fewer
+/// The first error of a message in a token (RFC 4121, 4.1), and of the two octets between the mechanism and the message: fewer
 /// than two are cut short.
 pub fn krb_message_faults<T: Der + Drop>()
     ensures message { HasFaultsOf ⟦<KrbMessage<T> as DerEncode>⟧.fault ⟦<<KrbMessage<T> as Sequence>::Fields as Fields>⟧ }
@@ -76,13 +77,13 @@ pub fn krb_message_faults<T: Der + Drop>()
     ensures token_id_ends { (v rest : List ℕ) → ⟦<TokenId as Fields>⟧.ends v rest }
 {}
 
-/// Where a token of Kerberos or of IAKERB has a fault of DER (X.690), it has no other first fault.
+/// Where a token of Kerberos or of IAKERB has an error of DER (X.690), it has no other first error.
 pub fn one_fault<T: Der + Drop>()
     ensures krb_message { TellsOneFault (KrbMessageRefused ⟦<T as DerEncode>⟧) }
     ensures proxy_message { TellsOneFault (ProxyRefused ⟦<IAKerbHeader as DerEncode>⟧ ⟦<T as DerEncode>⟧) }
 {}
 
-/// Where a token of Kerberos or of IAKERB stands at the front, it has no fault.
+/// Octets that begin with a token of Kerberos or of IAKERB have no error.
 pub fn none_where_read<T: Der + Drop>()
     ensures krb_message { (m : _) (input rest : List ℕ) (e : GssApiMessageError) → length input < 2 ^ 64 → ⟦<KrbMessage<T> as DerEncode>⟧.is_value m
         → input ≡ in_token (⟦<KrbMessage<T> as DerEncode>⟧.enc m) ++ rest → KrbMessageRefused ⟦<T as DerEncode>⟧ input e → e ≡ OutOfMemory }
@@ -91,14 +92,14 @@ pub fn none_where_read<T: Der + Drop>()
         → ProxyRefused ⟦<IAKerbHeader as DerEncode>⟧ ⟦<T as DerEncode>⟧ input e → e ≡ OutOfMemory }
 {}
 
-/// `==` on the messages of SPNEGO: it answers true for equal values and for no others.
+/// `==` on the messages of SPNEGO: it returns true for equal values and for no others.
 pub fn equality()
     ensures neg_token_init { TellsEqual ⟦<NegTokenInit as PartialEq>⟧.eq }
     ensures neg_token_targ { TellsEqual ⟦<NegTokenTarg as PartialEq>⟧.eq }
     ensures gss_api_neg_init { TellsEqual ⟦<GssApiNegInit as PartialEq>⟧.eq }
 {}
 
-/// `==` on what holds a message: it tells equal values, where that of the message does.
+/// `==` on types with a message: it returns true for equal values and for no others, where that of the message does.
 pub fn message_equality<T: PartialEq>()
     ensures application_tag_0 { TellsEqual T.eq → TellsEqual ⟦<ApplicationTag0<T> as PartialEq>⟧.eq }
     ensures krb_message { TellsEqual T.eq → TellsEqual ⟦<KrbMessage<T> as PartialEq>⟧.eq }

@@ -10,7 +10,7 @@ mod spnego;
 mod token;
 pub mod token_id;
 
-/// The types and calls of this crate and of the one below it, as `picky_krb::gss_api` gives them out.
+/// The types and calls of this crate and of the one below it, as `picky_krb::gss_api` re-exports them.
 pub mod gss_api {
     pub use crate::application_tag_0::ApplicationTag0;
     pub use crate::iakerb::IAKerbProxyMessage;

@@ -26,7 +26,7 @@ use std::alloc::{AllocError, Global};
 /// ```
 pub type MechType = ObjectIdentifierAsn1;
 
-/// Security mechanisms, the best first (RFC 4178, 4.1).
+/// Security mechanisms, the preferred first (RFC 4178, 4.1).
 ///
 /// ```text
 /// MechTypeList ::= SEQUENCE OF MechType
@@ -50,7 +50,7 @@ pub struct NegTokenInit {
     pub mech_types: Optional<Option<ExplicitContextTag0<MechTypeList>>>,
     /// The services that it asks for.
     pub req_flags: Optional<Option<ExplicitContextTag1<BitStringAsn1>>>,
-    /// The first token of its best mechanism.
+    /// The first token of its preferred mechanism.
     pub mech_token: Optional<Option<ExplicitContextTag2<OctetStringAsn1>>>,
     /// A MIC over the list of mechanisms.
     pub mech_list_mic: Optional<Option<ExplicitContextTag3<OctetStringAsn1>>>,
@@ -79,7 +79,9 @@ impl Sequence for NegTokenInit {
 }
 
 impl DerEncode for NegTokenInit {
-    ghost enc = { λ v. sequence (optional (λ x. explicit 0 (sequence_of object_identifier x)) v.mech_types.0 ++ optional (λ x. explicit 1 (bit_string x)) v.req_flags.0 ++ optional (λ x. explicit 2 (octet_string x)) v.mech_token.0 ++ optional (λ x. explicit 3 (octet_string x)) v.mech_list_mic.0) };
+    ghost enc = { λ v. sequence (optional (λ x. explicit 0 (sequence_of object_identifier x)) v.mech_types.0
+        ++ optional (λ x. explicit 1 (bit_string x)) v.req_flags.0 ++ optional (λ x. explicit 2 (octet_string x)) v.mech_token.0
+        ++ optional (λ x. explicit 3 (octet_string x)) v.mech_list_mic.0) };
 
     ghost is_value = { values_of ⟦<Self as Sequence>⟧ ⟦<<Self as Sequence>::Fields as Fields>⟧ };
 
@@ -87,11 +89,13 @@ impl DerEncode for NegTokenInit {
 
     ghost is_element = { λ v h. tagged_element 48 _ };
 
-    ghost one_value = { one_value_of ⟦<Self as Sequence>⟧ ⟦<<Self as Sequence>::Fields as Fields>⟧ (λ v. refl) (only_tag 160 _ refl, only_tag 161 _ refl, only_tag 162 _ refl, only_tag 163 _ refl) };
+    ghost one_value = { one_value_of ⟦<Self as Sequence>⟧ ⟦<<Self as Sequence>::Fields as Fields>⟧ (λ v. refl)
+        (only_tag 160 _ refl, only_tag 161 _ refl, only_tag 162 _ refl, only_tag 163 _ refl) };
 
     ghost fault = { sequence_fault ⟦<<Self as Sequence>::Fields as Fields>⟧ };
 
-    ghost fault_laws = { sequence_fault_laws ⟦<Self as Sequence>⟧ ⟦<<Self as Sequence>::Fields as Fields>⟧ (only_tag 160 _ refl, only_tag 161 _ refl, only_tag 162 _ refl, only_tag 163 _ refl) };
+    ghost fault_laws = { sequence_fault_laws ⟦<Self as Sequence>⟧ ⟦<<Self as Sequence>::Fields as Fields>⟧
+        (only_tag 160 _ refl, only_tag 161 _ refl, only_tag 162 _ refl, only_tag 163 _ refl) };
 
     fn starts(octet: u8) -> bool {
         octet == SEQUENCE
@@ -163,7 +167,9 @@ impl Sequence for NegTokenTarg {
 }
 
 impl DerEncode for NegTokenTarg {
-    ghost enc = { λ v. sequence (optional (λ x. explicit 0 x) v.neg_result.0 ++ optional (λ x. explicit 1 (object_identifier x)) v.supported_mech.0 ++ optional (λ x. explicit 2 (octet_string x)) v.response_token.0 ++ optional (λ x. explicit 3 (octet_string x)) v.mech_list_mic.0) };
+    ghost enc = { λ v. sequence (optional (λ x. explicit 0 x) v.neg_result.0
+        ++ optional (λ x. explicit 1 (object_identifier x)) v.supported_mech.0
+        ++ optional (λ x. explicit 2 (octet_string x)) v.response_token.0 ++ optional (λ x. explicit 3 (octet_string x)) v.mech_list_mic.0) };
 
     ghost is_value = { values_of ⟦<Self as Sequence>⟧ ⟦<<Self as Sequence>::Fields as Fields>⟧ };
 
@@ -171,11 +177,13 @@ impl DerEncode for NegTokenTarg {
 
     ghost is_element = { λ v h. tagged_element 48 _ };
 
-    ghost one_value = { one_value_of ⟦<Self as Sequence>⟧ ⟦<<Self as Sequence>::Fields as Fields>⟧ (λ v. refl) (only_tag 160 _ refl, only_tag 161 _ refl, only_tag 162 _ refl, only_tag 163 _ refl) };
+    ghost one_value = { one_value_of ⟦<Self as Sequence>⟧ ⟦<<Self as Sequence>::Fields as Fields>⟧ (λ v. refl)
+        (only_tag 160 _ refl, only_tag 161 _ refl, only_tag 162 _ refl, only_tag 163 _ refl) };
 
     ghost fault = { sequence_fault ⟦<<Self as Sequence>::Fields as Fields>⟧ };
 
-    ghost fault_laws = { sequence_fault_laws ⟦<Self as Sequence>⟧ ⟦<<Self as Sequence>::Fields as Fields>⟧ (only_tag 160 _ refl, only_tag 161 _ refl, only_tag 162 _ refl, only_tag 163 _ refl) };
+    ghost fault_laws = { sequence_fault_laws ⟦<Self as Sequence>⟧ ⟦<<Self as Sequence>::Fields as Fields>⟧
+        (only_tag 160 _ refl, only_tag 161 _ refl, only_tag 162 _ refl, only_tag 163 _ refl) };
 
     fn starts(octet: u8) -> bool {
         octet == SEQUENCE
@@ -203,7 +211,7 @@ impl DerSequence for NegTokenTarg {
 /// A later message of a negotiation as it is sent (RFC 4178, 4.2): `negTokenResp [1]` of the choice `NegotiationToken`.
 pub type NegTokenTarg1 = ExplicitContextTag1<NegTokenTarg>;
 
-/// What stands in the token that begins a negotiation (RFC 4178, 4.2; RFC 2743, 3.1): it is sent as
+/// The content of the token that begins a negotiation (RFC 4178, 4.2; RFC 2743, 3.1): it is sent as
 /// `ApplicationTag0<GssApiNegInit>`.
 ///
 /// ```text

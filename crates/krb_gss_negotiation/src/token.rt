@@ -1,4 +1,4 @@
-//! The parts of a token, as they are read from the left.
+//! The parts of a token, read from the left.
 
 ghost use Rattle.std.specs.Prelude.{◌≡◌, ◌++◌, List, ℕ, IfOk, IfErr};
 ghost use Rattle.krb_der_x509.specs.ObjectIdentifier.{IsArcs, object_identifier};
@@ -14,7 +14,7 @@ use std::alloc::Global;
 use std::io;
 use std::io::ErrorKind;
 
-/// The content of the token at the front of the input.
+/// The content of the token at the start of the input.
 pub(crate) fn read_frame(input: &[u8]) -> Result<&[u8], GssApiMessageError>
     ensures found { IfOk result (λ content. (rest : List ℕ) × (input.now ≡ token content.now ++ rest)) }
     ensures refused { IfErr result (FrameRefused input.now) }
@@ -26,7 +26,7 @@ pub(crate) fn read_frame(input: &[u8]) -> Result<&[u8], GssApiMessageError>
     Ok(content)
 }
 
-/// The mechanism at the front of a token's content, and what stands behind it.
+/// The mechanism at the start of a token's content, and what follows it.
 pub(crate) fn read_mechanism(
     alloc: Global,
     content: &[u8],
@@ -38,7 +38,7 @@ pub(crate) fn read_mechanism(
     Ok((mechanism, &content[taken..]))
 }
 
-/// The token id at the front, and what stands behind it.
+/// The token id at the start, and what follows it.
 pub(crate) fn read_token_id(octets: &[u8]) -> Result<([u8; 2], &[u8]), GssApiMessageError>
     ensures found { IfOk result (λ p. IsTokenId p.0 × (octets.now ≡ p.0 ++ p.1.now)) }
     ensures refused { IfErr result (IdRefused octets.now) }
@@ -49,7 +49,7 @@ pub(crate) fn read_token_id(octets: &[u8]) -> Result<([u8; 2], &[u8]), GssApiMes
     Ok(([octets[0], octets[1]], &octets[2..]))
 }
 
-/// The message whose encoding these octets are, all of them.
+/// The message whose encoding is all of these octets.
 pub(crate) fn read_message<T: Der + Drop>(
     alloc: Global,
     octets: &[u8],

@@ -1,4 +1,4 @@
-//! The two octets that stand behind the mechanism in a token, as a field of a sequence, for structs that are tokens.
+//! The token id, two octets after the mechanism in a token, as a field of a sequence.
 
 ghost use Rattle.std.specs.Prelude.{ℕ, List, true};
 ghost use Rattle.krb_gss_negotiation.specs.Token.{IdFault, IsTokenId};
@@ -9,7 +9,7 @@ use krb_der::composite::{FieldRefs, Fields};
 use std::alloc::{AllocError, Global};
 use std::marker::Model;
 
-/// What an inner token is (RFC 4121, 4.1): two octets with no tag and no length.
+/// The id of an inner token (RFC 4121, 4.1): two octets with no tag and no length.
 #[derive(Debug, Drop)]
 pub struct TokenId(pub [u8; 2]);
 
@@ -21,7 +21,7 @@ impl Model for TokenId {
     ghost inverse = { λ v. record { 0 = v } };
 }
 
-/// Tells a proof that two octets are two octets. It does nothing.
+/// Lemma: an array of two octets is a list of two octets.
 fn known_token_id(id: [u8; 2])
     ensures { IsTokenId id }
 {}

@@ -1,5 +1,5 @@
-//! Data types (RFC 4120, 5.2 to 5.8): those that messages share, those of pre-authentication, and the parts of messages that are
-//! enciphered.
+//! Data types (RFC 4120, 5.2 to 5.8): those that messages share, those of pre-authentication, and the parts of messages that
+//! are encrypted.
 
 mod results;
 

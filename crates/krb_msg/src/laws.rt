@@ -1,4 +1,4 @@
-//! Laws over the definitions, of functions that do nothing: each alias names the type that its standard says.
+//! Lemmas about the definitions: each alias is the type that its standard names.
 
 ghost use Rattle.std.specs.Prelude.{◌≡◌};
 ghost use Rattle.krb_der.specs.Asn1.{application};
@@ -25,8 +25,8 @@ pub fn ap_messages()
     ensures ap_rep { (v : _) → ⟦<ApMessage as DerEncode>⟧.enc (ApMessage.ApRep v) ≡ ⟦<ApRep as DerEncode>⟧.enc v }
 {}
 
-/// The first fault of each struct is that of a SEQUENCE of its fields (X.690, 8.9): its tag, then its fields in order, then what is
-/// left over. Its encodings begin with that tag alone.
+/// The first error of each struct is that of a SEQUENCE of its fields (X.690, 8.9): its tag, then its fields in order, then
+/// trailing octets. Its encodings begin with that tag alone.
 pub fn faults()
     ensures krb_error { HasFaultsOf ⟦<KrbErrorInner as DerEncode>⟧.fault ⟦<<KrbErrorInner as Sequence>::Fields as Fields>⟧ }
     ensures krb_error_tag { HasTag 48 ⟦<KrbErrorInner as DerEncode>⟧.first }
@@ -34,13 +34,14 @@ pub fn faults()
     ensures kdc_proxy_message_tag { HasTag 48 ⟦<KdcProxyMessage as DerEncode>⟧.first }
 {}
 
-/// The first fault of a choice of two messages (X.690, 8.13): the tag is neither's, or it is that of the message whose tag it is.
+/// The first error of a choice of two messages (X.690, 8.13): the tag is neither's, or it is that of the message whose tag
+/// it is.
 pub fn ap_message_faults()
     ensures fault { SameFault ⟦<ApMessage as DerEncode>⟧.fault (ChoiceFault 110 111 ⟦<ApReq as DerEncode>⟧.fault ⟦<ApRep as DerEncode>⟧.fault) }
     ensures tags { HasTags 110 111 ⟦<ApMessage as DerEncode>⟧.first }
 {}
 
-/// `==` on each struct and on the choice: it answers true for equal values and for no others.
+/// `==` on each struct and on the choice: it returns true for equal values and for no others.
 pub fn equality()
     ensures ap_message { TellsEqual ⟦<ApMessage as PartialEq>⟧.eq }
     ensures krb_error { TellsEqual ⟦<KrbErrorInner as PartialEq>⟧.eq }

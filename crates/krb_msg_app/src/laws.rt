@@ -1,4 +1,4 @@
-//! Laws over the definitions, of functions that do nothing: each alias names the type that its standard says.
+//! Lemmas about the definitions: each alias is the type that its standard names.
 
 ghost use Rattle.std.specs.Prelude.{◌≡◌};
 ghost use Rattle.krb_der.specs.Asn1.{application};
@@ -22,8 +22,8 @@ pub fn application_tags()
     ensures krb_cred { (v : _) → ⟦<KrbCred as DerEncode>⟧.enc v ≡ application 22 (⟦<KrbCredInner as DerEncode>⟧.enc v) }
 {}
 
-/// The first fault of each struct is that of a SEQUENCE of its fields (X.690, 8.9): its tag, then its fields in order, then what is
-/// left over. Its encodings begin with that tag, and with no other octet (X.690, 8.1.2).
+/// The first error of each struct is that of a SEQUENCE of its fields (X.690, 8.9): its tag, then its fields in order, then
+/// trailing octets. Its encodings begin with that tag, and with no other octet (X.690, 8.1.2).
 pub fn faults()
     ensures ap_req { HasFaultsOf ⟦<ApReqInner as DerEncode>⟧.fault ⟦<<ApReqInner as Sequence>::Fields as Fields>⟧ }
     ensures ap_rep { HasFaultsOf ⟦<ApRepInner as DerEncode>⟧.fault ⟦<<ApRepInner as Sequence>::Fields as Fields>⟧ }
@@ -39,7 +39,7 @@ pub fn faults()
     ensures tgt_rep_tag { HasTag 48 ⟦<TgtRep as DerEncode>⟧.first }
 {}
 
-/// `==` on each struct: it answers true for equal values and for no others.
+/// `==` on each struct: it returns true for equal values and for no others.
 pub fn equality()
     ensures ap_req { TellsEqual ⟦<ApReqInner as PartialEq>⟧.eq }
     ensures ap_rep { TellsEqual ⟦<ApRepInner as PartialEq>⟧.eq }

@@ -128,7 +128,7 @@ content_decides c d v w cv cw fv fw r s e =
     let third = told_apart (λ (x : Bits). tlv 3 (bits_content x)) IsBits 163 bits_one v.flags.0 w.flags.0 r.rest s.rest fv fw r.flags_told s.flags_told second.1 in
     same_header v w (tlv_same 12 12 v.target_realm w.target_realm first.content) second.0 third.0
 
--- where the known fields have a fault, no header is read
+-- where the known fields have an error, no header is read
 pub none_reads : (fault : List ℕ → Asn1DerError → Type 0) → FrontLaws known_values known_octets known_ends fault → (content : List ℕ) (e : Asn1DerError) → length content < 2 ^ 64 → fault content e
     → (h : IAKerbHeader) → known_values (known_fields h) → ContentReads content h → ⊥
 none_reads fault laws content e lt k h hv r = laws.no_value content e lt k (known_fields h) r.rest hv (r.fields ∙ sym (in_order h r.rest)) (content_ends h content r)

@@ -1,4 +1,4 @@
--- A sequence at the front of octets, and the header that its content is read as.
+-- A sequence at the start of octets, and the header that its content is read as.
 use Rattle.std.proofs.Common.{◌≡◌, ℕ, ◌<◌, ◌^◌, ◌⊎◌, eqb, List, [], ◌++◌, length, drop, refl, sym, ap, subst, ◌∙◌, inr}
 use Rattle.std.proofs.lemmas.List.{append-nil}
 use Rattle.krb_der_core.specs.declared.error.Asn1DerError.{Asn1DerError}
@@ -30,7 +30,7 @@ as_encodings octets (errors.Io io) r = r
 one_content : OneValue (λ (c : List ℕ). Unit {0}) (λ c. tlv 48 c)
 one_content v w hv hw e = tlv_same 48 48 v w e
 
--- the content of the element that was taken is that of each at the front
+-- the content of the element that was taken is that of each at the start
 pub same_content : (content other octets rest : List ℕ) (n : ℕ) → TakesFront (tlv 48 content) n octets → octets ≡ tlv 48 other ++ rest → content ≡ other
 same_content content other octets rest n f q = (tlv_apart 48 48 content other (drop n octets) rest (sym f.front ∙ q)).content
 
@@ -61,9 +61,9 @@ reads_here content octets b rest n h f r q =
 pub reads_all : (content octets : List ℕ) (n : ℕ) (h : IAKerbHeader) → TakesFront (tlv 48 content) n octets → HeaderReads octets h → ContentReads content h
 reads_all content octets n h f r = reads_here content octets octets [] n h f r (sym (append-nil octets))
 
--- ---- faults
+-- ---- errors
 
--- what is wrong in front of a content is wrong, whatever its faults are
+-- what is wrong before a content is wrong, whatever its errors are
 pub front_of_header : (fault : ℕ → List ℕ → Asn1DerError → Type 0) (tag : ℕ) (octets : List ℕ) (e : Asn1DerError) → HeaderFault tag octets e → FrontFault (λ t. eqb t tag) fault octets e
 front_of_header fault tag octets e (no_tag p) = no_tag p
 front_of_header fault tag octets e (wrong_tag t rest p w) = wrong_tag t rest p w
@@ -84,7 +84,7 @@ module _ (is_value : IAKerbHeader → Type 0) (fault : ℕ → List ℕ → Asn1
   pub octets_left : (content octets : List ℕ) (n : ℕ) (h : IAKerbHeader) → is_value h → ContentReads content h → TakesFront (tlv 48 content) n octets → (n ≡ length octets → ⊥) → OrMemory (ReadFault octets) errors.InvalidData
   octets_left content octets n h hv r f more = too_many (IsHeaderContent is_value) (λ c. tlv 48 c) (λ v rest. Unit {0}) (FrontFault (λ t. eqb t 48) fault) content n octets (h, hv, r) f tt more
 
--- Octets have one first fault, and none where they are read as a header.
+-- Octets have one first error, and none where they are read as a header.
 module _ (fault : List ℕ → Asn1DerError → Type 0) (laws : FrontLaws known_values known_octets known_ends fault) where
   contents : ContentLaws (IsHeaderContent (λ h. known_values (known_fields h))) (λ c. c) fault
   contents = record {

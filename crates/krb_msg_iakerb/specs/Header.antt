@@ -17,9 +17,9 @@ cookie h = optional (λ x. explicit 2 (octet_string x)) h.cookie.0
 abbrev pub flags : IAKerbHeader → List ℕ
 flags h = optional (λ x. explicit 3 (bit_string x)) h.flags.0
 
--- The content of a sequence is read as this header: it is the realm, the cookie, the flags, and a rest of any octets. The cookie
--- is there exactly where what follows the realm begins with a2, and the flags exactly where what follows the cookie begins
--- with a3.
+-- The content of a sequence is read as this header: it is the realm, the cookie, the flags, and a rest of any octets. The
+-- cookie is there exactly where what follows the realm begins with a2, and the flags exactly where what follows the cookie
+-- begins with a3.
 pub record ContentReads (content : List ℕ) (h : IAKerbHeader) : Type 0 where
   pub rest : List ℕ
   pub fields : content ≡ realm h ++ (cookie h ++ (flags h ++ rest))

@@ -1,4 +1,4 @@
--- The first fault of octets that are to be read as a header, from the left (draft-ietf-kitten-iakerb-03, 3): what follows the
+-- The first error of octets that are to be read as a header, from the left (draft-ietf-kitten-iakerb-03, 3): what follows the
 -- known fields is none.
 use Rattle.std.proofs.Common.{◌≡◌, ◌++◌, ◌==◌, ℕ, List, [], ◌∙◌, sym}
 use Rattle.std.proofs.lemmas.List.{append-nil}
@@ -15,7 +15,7 @@ use Rattle.krb_der.specs.declared.sequence.Sequence.{Ghosts as SequenceOf}
 use Rattle.krb_msg_iakerb.specs.declared.messages.header.IAKerbHeader.{IAKerbHeader}
 use Rattle.krb_msg_iakerb.specs.Header.{ContentReads}
 
--- The first fault of a SEQUENCE that may go on behind its fields: its tag, then its fields in order, and nothing behind them.
+-- The first error of a SEQUENCE that may go on after its fields: its tag, then its fields in order, and nothing after them.
 abbrev pub extensible_fault : {F : Type 0} → FieldsOf F → ℕ → List ℕ → Asn1DerError → Type 0
 extensible_fault f = TaggedFault 48 f.fault
 
@@ -23,12 +23,12 @@ extensible_fault f = TaggedFault 48 f.fault
 abbrev pub IsHeaderContent : (IAKerbHeader → Type 0) → List ℕ → Type 0
 IsHeaderContent is_value content = (h : IAKerbHeader) × is_value h × ContentReads content h
 
--- The first fault of octets that are to be read as a header, all of them: that of the element at the front, or octets are left
--- over behind a sequence whose content is read as a header.
+-- The first error of octets that are to be read as a header, all of them: that of the element at the start, or octets are left
+-- over after a sequence whose content is read as a header.
 abbrev pub IAKerbHeaderFault : EncodingOf IAKerbHeader → List ℕ → Asn1DerError → Type 0
 IAKerbHeaderFault h = ValueFault (IsHeaderContent h.is_value) sequence (λ t. t == 48) h.fault
 
--- A sequence with such a fault is no encoding of these fields, and has no other first fault.
+-- A sequence with such an error is no encoding of these fields, and has no other first error.
 pub extensible_fault_laws : {A F : Type 0} (s : SequenceOf A F) (f : FieldsOf F) → f.told_apart nothing
     → FaultLaws (values_of s f) (λ v. tlv 48 (f.octets (s.fields v))) (extensible_fault f)
 extensible_fault_laws s f told = tagged_laws 48 (values_of s f) (λ v. f.octets (s.fields v)) f.fault (record {

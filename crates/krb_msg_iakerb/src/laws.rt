@@ -1,4 +1,4 @@
-//! Laws over the definitions, of functions that do nothing.
+//! Lemmas about the definitions: functions with no body, each of whose clauses is a fact for proofs above.
 
 ghost use Rattle.std.specs.Prelude.{◌≡◌, ◌<◌, ◌^◌, List, length, ℕ};
 ghost use Rattle.krb_der_core.specs.declared.error.Asn1DerError.{Asn1DerError};
@@ -22,8 +22,8 @@ pub fn header_readings()
         → HeaderReads (⟦<IAKerbHeader as DerEncode>⟧.enc h) w → w ≡ h }
 {}
 
-/// The first fault of a header (draft-ietf-kitten-iakerb-03, 3): its tag, then its known fields in order. What follows them in the
-/// SEQUENCE is none, so that what is read as a header has no fault.
+/// The first error of a header (draft-ietf-kitten-iakerb-03, 3): its tag, then its known fields in order. What follows them
+/// in the SEQUENCE is none, so that what is read as a header has no error.
 pub fn faults()
     ensures iakerb_header { SameFault ⟦<IAKerbHeader as DerEncode>⟧.fault (extensible_fault ⟦<<IAKerbHeader as Sequence>::Fields as Fields>⟧) }
     ensures iakerb_header_tag { HasTag 48 ⟦<IAKerbHeader as DerEncode>⟧.first }
@@ -35,7 +35,7 @@ pub fn faults()
     known_faults::<<IAKerbHeader as Sequence>::Fields>();
 }
 
-/// `==` on headers: it answers true for equal values and for no others.
+/// `==` on headers: it returns true for equal values and for no others.
 pub fn equality()
     ensures iakerb_header { TellsEqual ⟦<IAKerbHeader as PartialEq>⟧.eq }
 {}

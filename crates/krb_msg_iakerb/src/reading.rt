@@ -10,15 +10,15 @@ use krb_der::composite::{Fields, Sequence};
 use krb_der::{Asn1DerError, DerEncode};
 use std::alloc::Global;
 
-/// Tells a proof that fields with a fault do not stand. It does nothing.
+/// Lemma: octets with an error do not begin with the fields.
 pub(crate) fn known_faults<F: Fields>()
     ensures { FrontLaws F.are_values F.octets F.ends F.fault }
 {}
 
-/// The header that the content of a SEQUENCE is read as (draft-ietf-kitten-iakerb-03, 3): the realm, then the cookie if the next
-/// octet is `a2`, then the flags if the next octet is `a3`. All octets that are left are ignored, whatever they are.
+/// The header that the content of a SEQUENCE is read as (draft-ietf-kitten-iakerb-03, 3): the realm, then the cookie if the
+/// next octet is `a2`, then the flags if the next octet is `a3`. Trailing octets are ignored, whatever they are.
 ///
-/// The first fault of these fields decides, from the left. `Io` is never answered.
+/// The first error of these fields is returned, from the left. `Io` is never returned.
 pub fn read_content(alloc: Global, content: &[u8]) -> Result<IAKerbHeader, Asn1DerError>
     ensures valid { IfOk result ⟦<IAKerbHeader as DerEncode>⟧.is_value }
     ensures found { IfOk result (ContentReads content.now) }

@@ -1,4 +1,4 @@
-//! Laws over the definitions, of functions that do nothing: each alias names the type that its standard says.
+//! Lemmas about the definitions: each alias is the type that its standard names.
 
 ghost use Rattle.std.specs.Prelude.{◌≡◌};
 ghost use Rattle.krb_der.specs.Asn1.{application};
@@ -15,7 +15,7 @@ use krb_der::composite::{Fields, Sequence};
 use krb_msg_types::laws::equality as shared_equality;
 use krb_msg_types::laws::pre_authentication::equality as padata_equality;
 
-/// The messages and their enciphered parts, each under its application tag (RFC 4120, 5.4.1 and 5.4.2).
+/// The messages and their encrypted parts, each under its application tag (RFC 4120, 5.4.1 and 5.4.2).
 pub fn application_tags()
     ensures as_req { (v : _) → ⟦<AsReq as DerEncode>⟧.enc v ≡ application 10 (⟦<KdcReq as DerEncode>⟧.enc v) }
     ensures as_rep { (v : _) → ⟦<AsRep as DerEncode>⟧.enc v ≡ application 11 (⟦<KdcRep as DerEncode>⟧.enc v) }
@@ -25,8 +25,8 @@ pub fn application_tags()
     ensures enc_tgs_rep_part { (v : _) → ⟦<EncTgsRepPart as DerEncode>⟧.enc v ≡ application 26 (⟦<EncKdcRepPart as DerEncode>⟧.enc v) }
 {}
 
-/// The first fault of each struct is that of a SEQUENCE of its fields (X.690, 8.9): its tag, then its fields in order, then what is
-/// left over. Its encodings begin with that tag, and with no other octet (X.690, 8.1.2).
+/// The first error of each struct is that of a SEQUENCE of its fields (X.690, 8.9): its tag, then its fields in order, then
+/// trailing octets. Its encodings begin with that tag, and with no other octet (X.690, 8.1.2).
 pub fn faults()
     ensures kdc_req_body { HasFaultsOf ⟦<KdcReqBody as DerEncode>⟧.fault ⟦<<KdcReqBody as Sequence>::Fields as Fields>⟧ }
     ensures kdc_req { HasFaultsOf ⟦<KdcReq as DerEncode>⟧.fault ⟦<<KdcReq as Sequence>::Fields as Fields>⟧ }
@@ -38,7 +38,7 @@ pub fn faults()
     ensures enc_kdc_rep_part_tag { HasTag 48 ⟦<EncKdcRepPart as DerEncode>⟧.first }
 {}
 
-/// `==` on each struct: it answers true for equal values and for no others.
+/// `==` on each struct: it returns true for equal values and for no others.
 pub fn equality()
     ensures kdc_req_body { TellsEqual ⟦<KdcReqBody as PartialEq>⟧.eq }
     ensures kdc_req { TellsEqual ⟦<KdcReq as PartialEq>⟧.eq }

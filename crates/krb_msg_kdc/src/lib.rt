@@ -1,4 +1,4 @@
-//! The messages of the exchanges with a KDC (RFC 4120, 5.4), each of which is read from its one DER encoding and written so.
+//! The messages of the exchanges with a KDC (RFC 4120, 5.4), each with one DER encoding a value.
 #![tactic(auto)]
 
 pub mod laws;

@@ -1,4 +1,4 @@
-//! Requests to a KDC, and its answers (RFC 4120, 5.4).
+//! Requests to a KDC, and its replies (RFC 4120, 5.4).
 
 mod replies;
 mod requests;

@@ -1,4 +1,4 @@
-//! The parts of tickets and messages that are enciphered (RFC 4120, 5.3 and 5.5 to 5.8), and what they hold.
+//! The parts of tickets and messages that are encrypted (RFC 4120, 5.3 and 5.5 to 5.8), and what they hold.
 
 mod authenticators;
 mod credentials;

@@ -1,4 +1,4 @@
-//! Laws over the definitions, of functions that do nothing: each alias names the type that its standard says.
+//! Lemmas about the definitions: each alias is the type that its standard names.
 
 ghost use Rattle.std.specs.Prelude.{◌≡◌};
 ghost use Rattle.krb_der.specs.Asn1.{application};
@@ -15,7 +15,7 @@ use krb_der::DerEncode;
 use krb_der::composite::{Fields, Sequence};
 use krb_msg_types::laws::equality as shared_equality;
 
-/// The enciphered parts, each under its application tag (RFC 4120, 5.3, 5.5.1, 5.5.2, 5.7.1 and 5.8.1).
+/// The encrypted parts, each under its application tag (RFC 4120, 5.3, 5.5.1, 5.5.2, 5.7.1 and 5.8.1).
 pub fn enciphered_parts()
     ensures authenticator { (v : _) → ⟦<Authenticator as DerEncode>⟧.enc v ≡ application 2 (⟦<AuthenticatorInner as DerEncode>⟧.enc v) }
     ensures enc_ap_rep_part { (v : _) → ⟦<EncApRepPart as DerEncode>⟧.enc v ≡ application 27 (⟦<EncApRepPartInner as DerEncode>⟧.enc v) }
@@ -24,8 +24,8 @@ pub fn enciphered_parts()
     ensures enc_ticket_part { (v : _) → ⟦<EncTicketPart as DerEncode>⟧.enc v ≡ application 3 (⟦<EncTicketPartInner as DerEncode>⟧.enc v) }
 {}
 
-/// The first fault of each struct is that of a SEQUENCE of its fields (X.690, 8.9): its tag, then its fields in order, then what is
-/// left over. Its encodings begin with that tag, and with no other octet (X.690, 8.1.2).
+/// The first error of each struct is that of a SEQUENCE of its fields (X.690, 8.9): its tag, then its fields in order, then
+/// trailing octets. Its encodings begin with that tag, and with no other octet (X.690, 8.1.2).
 pub fn faults()
     ensures authenticator { HasFaultsOf ⟦<AuthenticatorInner as DerEncode>⟧.fault ⟦<<AuthenticatorInner as Sequence>::Fields as Fields>⟧ }
     ensures enc_ap_rep_part { HasFaultsOf ⟦<EncApRepPartInner as DerEncode>⟧.fault ⟦<<EncApRepPartInner as Sequence>::Fields as Fields>⟧ }
@@ -41,7 +41,7 @@ pub fn faults()
     ensures enc_ticket_part_tag { HasTag 48 ⟦<EncTicketPartInner as DerEncode>⟧.first }
 {}
 
-/// `==` on each struct: it answers true for equal values and for no others.
+/// `==` on each struct: it returns true for equal values and for no others.
 pub fn equality()
     ensures authenticator { TellsEqual ⟦<AuthenticatorInner as PartialEq>⟧.eq }
     ensures enc_ap_rep_part { TellsEqual ⟦<EncApRepPartInner as PartialEq>⟧.eq }

@@ -1,4 +1,4 @@
-//! Laws over the definitions, of functions that do nothing: each alias names the type that its standard says.
+//! Lemmas about the definitions: each alias is the type that its standard names.
 
 ghost use Rattle.std.specs.Prelude.{◌≡◌, ℕ, ℤ, List};
 ghost use Rattle.krb_der.specs.Asn1.{application, bit_string, general_string, generalized_time, integer, sequence_of};
@@ -41,8 +41,8 @@ pub fn structs()
     ensures ticket { (v : _) → ⟦<Ticket as DerEncode>⟧.enc v ≡ application 1 (⟦<TicketInner as DerEncode>⟧.enc v) }
 {}
 
-/// The first fault of each struct is that of a SEQUENCE of its fields (X.690, 8.9): its tag, then its fields in order, then what is
-/// left over. Its encodings begin with that tag, and with no other octet (X.690, 8.1.2).
+/// The first error of each struct is that of a SEQUENCE of its fields (X.690, 8.9): its tag, then its fields in order, then
+/// trailing octets. Its encodings begin with that tag, and with no other octet (X.690, 8.1.2).
 pub fn faults()
     ensures host_address { HasFaultsOf ⟦<HostAddress as DerEncode>⟧.fault ⟦<<HostAddress as Sequence>::Fields as Fields>⟧ }
     ensures authorization_data { HasFaultsOf ⟦<AuthorizationDataInner as DerEncode>⟧.fault ⟦<<AuthorizationDataInner as Sequence>::Fields as Fields>⟧ }
@@ -68,7 +68,7 @@ pub fn faults()
     ensures transited_encoding_tag { HasTag 48 ⟦<TransitedEncoding as DerEncode>⟧.first }
 {}
 
-/// `==` on each struct: it answers true for equal values and for no others.
+/// `==` on each struct: it returns true for equal values and for no others.
 pub fn equality()
     ensures host_address { TellsEqual ⟦<HostAddress as PartialEq>⟧.eq }
     ensures authorization_data { TellsEqual ⟦<AuthorizationDataInner as PartialEq>⟧.eq }

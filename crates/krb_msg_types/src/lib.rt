@@ -1,5 +1,5 @@
 //! The data types that Kerberos messages and their parts share (RFC 4120, 5.2), those of pre-authentication (RFC 4120, 5.2.7;
-//! MS-KILE, 2.2) among them, each of which is read from its one DER encoding and written so.
+//! MS-KILE, 2.2) among them, each with one DER encoding a value.
 #![tactic(auto)]
 
 pub mod data_types;

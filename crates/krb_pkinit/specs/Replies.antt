@@ -1,4 +1,4 @@
--- The choice that a KDC answers a client with a certificate (RFC 4556, 3.2.3).
+-- The choice in the reply of a KDC to a client with a certificate (RFC 4556, 3.2.3).
 use Rattle.std.proofs.Common.{arith, inl, inr}
 use Rattle.std.specs.Prelude.{◌≡◌, List, ℕ, ◌⊎◌}
 use Rattle.krb_pkinit.specs.declared.pkinit.replies.DhRepInfo.{DhRepInfo}

@@ -1,4 +1,4 @@
-//! Laws over the definitions, of functions that do nothing: each alias names the type that its standard says.
+//! Lemmas about the definitions: each alias is the type that its standard names.
 
 ghost use Rattle.std.specs.Prelude.{◌≡◌, List, ℕ};
 ghost use Rattle.krb_der.specs.Asn1.{explicit, octet_string};
@@ -27,16 +27,17 @@ pub fn aliases()
     ensures ec_auth_pack { (v : _) → ⟦<EcAuthPack as DerEncode>⟧.enc v ≡ ⟦<AuthPack<SubjectPublicKeyInfo> as DerEncode>⟧.enc v }
 {}
 
-/// The choice of a KDC's answer is encoded as what it holds, under its tag (RFC 4556, 3.2.3).
+/// The choice of a KDC's reply is encoded as what it holds, under its tag (RFC 4556, 3.2.3).
 pub fn answers()
     ensures dh_info { (v : _) → ⟦<PaPkAsRep as DerEncode>⟧.enc (PaPkAsRep.DhInfo v) ≡ explicit 0 (⟦<DhRepInfo as DerEncode>⟧.enc v) }
     ensures enc_key_pack { (v : List ℕ) → ⟦<PaPkAsRep as DerEncode>⟧.enc (PaPkAsRep.EncKeyPack v) ≡ implicit 1 v }
 {}
 
-/// The first fault of each struct is that of a SEQUENCE of its fields (X.690, 8.9): its tag, then its fields in order, then what is
-/// left over. Its encodings begin with that tag, and with no other octet (X.690, 8.1.2).
+/// The first error of each struct is that of a SEQUENCE of its fields (X.690, 8.9): its tag, then its fields in order, then
+/// trailing octets. Its encodings begin with that tag, and with no other octet (X.690, 8.1.2).
 pub fn faults()
-    ensures external_principal_identifier { HasFaultsOf ⟦<ExternalPrincipalIdentifier as DerEncode>⟧.fault ⟦<<ExternalPrincipalIdentifier as Sequence>::Fields as Fields>⟧ }
+    ensures external_principal_identifier { HasFaultsOf ⟦<ExternalPrincipalIdentifier as DerEncode>⟧.fault
+        ⟦<<ExternalPrincipalIdentifier as Sequence>::Fields as Fields>⟧ }
     ensures pa_pk_as_req { HasFaultsOf ⟦<PaPkAsReq as DerEncode>⟧.fault ⟦<<PaPkAsReq as Sequence>::Fields as Fields>⟧ }
     ensures pk_authenticator { HasFaultsOf ⟦<PkAuthenticator as DerEncode>⟧.fault ⟦<<PkAuthenticator as Sequence>::Fields as Fields>⟧ }
     ensures dh_rep_info { HasFaultsOf ⟦<DhRepInfo as DerEncode>⟧.fault ⟦<<DhRepInfo as Sequence>::Fields as Fields>⟧ }
@@ -48,20 +49,21 @@ pub fn faults()
     ensures kdc_dh_key_info_tag { HasTag 48 ⟦<KdcDhKeyInfo as DerEncode>⟧.first }
 {}
 
-/// The first fault of what a client signs, with a public key of either kind (X.690, 8.9; RFC 4556, 3.2.1).
+/// The first error of what a client signs, with a public key of either kind (X.690, 8.9; RFC 4556, 3.2.1).
 pub fn auth_pack_faults<C: Der + Drop>()
     ensures fault { HasFaultsOf ⟦<AuthPack<C> as DerEncode>⟧.fault ⟦<<AuthPack<C> as Sequence>::Fields as Fields>⟧ }
     ensures tag { HasTag 48 ⟦<AuthPack<C> as DerEncode>⟧.first }
 {}
 
-/// The first fault of the choice of a KDC's answer (X.690, 8.13; RFC 4556, 3.2.3): the tag is neither's, or it is that of what has
-/// the tag. Its encodings begin with one of the two.
+/// The first error of the choice of a KDC's reply (X.690, 8.13; RFC 4556, 3.2.3): the tag is neither's, or it is that of
+/// what has the tag. Its encodings begin with one of the two.
 pub fn pa_pk_as_rep_faults()
-    ensures fault { SameFault ⟦<PaPkAsRep as DerEncode>⟧.fault (ChoiceFault 160 129 ⟦<ExplicitContextTag0<DhRepInfo> as DerEncode>⟧.fault ⟦<ImplicitContextTag1<OctetStringAsn1> as DerEncode>⟧.fault) }
+    ensures fault { SameFault ⟦<PaPkAsRep as DerEncode>⟧.fault
+        (ChoiceFault 160 129 ⟦<ExplicitContextTag0<DhRepInfo> as DerEncode>⟧.fault ⟦<ImplicitContextTag1<OctetStringAsn1> as DerEncode>⟧.fault) }
     ensures tags { HasTags 160 129 ⟦<PaPkAsRep as DerEncode>⟧.first }
 {}
 
-/// `==` on each struct and on the choice: it answers true for equal values and for no others.
+/// `==` on each struct and on the choice: it returns true for equal values and for no others.
 pub fn equality()
     ensures external_principal_identifier { TellsEqual ⟦<ExternalPrincipalIdentifier as PartialEq>⟧.eq }
     ensures pa_pk_as_req { TellsEqual ⟦<PaPkAsReq as PartialEq>⟧.eq }
@@ -71,7 +73,7 @@ pub fn equality()
     ensures pa_pk_as_rep { TellsEqual ⟦<PaPkAsRep as PartialEq>⟧.eq }
 {}
 
-/// `==` on what a client signs: it tells equal values, where that of the public key does.
+/// `==` on what a client signs: it returns true for equal values and for no others, where that of the public key does.
 pub fn auth_pack_equality<C: PartialEq>()
     ensures { TellsEqual C.eq → TellsEqual ⟦<AuthPack<C> as PartialEq>⟧.eq }
 {

@@ -83,7 +83,7 @@ impl DerSequence for TsRemoteGuardPackageCred {
     ghost is_sequence = { λ v. (_, refl) };
 }
 
-/// Credentials that stay with the client, which answers for them (MS-CSSP, 2.2.1.2.3).
+/// Credentials that stay with the client, which answers the server's calls for them (MS-CSSP, 2.2.1.2.3).
 ///
 /// ```text
 /// TSRemoteGuardCreds ::= SEQUENCE {
@@ -120,7 +120,8 @@ impl Sequence for TsRemoteGuardCreds {
 }
 
 impl DerEncode for TsRemoteGuardCreds {
-    ghost enc = { λ v. sequence (explicit 0 (⟦<TsRemoteGuardPackageCred as DerEncode>⟧.enc v.logon_cred) ++ optional (λ x. explicit 1 (sequence_of ⟦<TsRemoteGuardPackageCred as DerEncode>⟧.enc x)) v.supplemental_creds.0) };
+    ghost enc = { λ v. sequence (explicit 0 (⟦<TsRemoteGuardPackageCred as DerEncode>⟧.enc v.logon_cred)
+        ++ optional (λ x. explicit 1 (sequence_of ⟦<TsRemoteGuardPackageCred as DerEncode>⟧.enc x)) v.supplemental_creds.0) };
 
     ghost is_value = { values_of ⟦<Self as Sequence>⟧ ⟦<<Self as Sequence>::Fields as Fields>⟧ };
 

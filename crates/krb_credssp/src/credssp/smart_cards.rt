@@ -68,7 +68,9 @@ impl Sequence for TsCspDataDetail {
 }
 
 impl DerEncode for TsCspDataDetail {
-    ghost enc = { λ v. sequence (explicit 0 (integer v.key_spec) ++ optional (λ x. explicit 1 (octet_string x)) v.card_name.0 ++ optional (λ x. explicit 2 (octet_string x)) v.reader_name.0 ++ optional (λ x. explicit 3 (octet_string x)) v.container_name.0 ++ optional (λ x. explicit 4 (octet_string x)) v.csp_name.0) };
+    ghost enc = { λ v. sequence (explicit 0 (integer v.key_spec) ++ optional (λ x. explicit 1 (octet_string x)) v.card_name.0
+        ++ optional (λ x. explicit 2 (octet_string x)) v.reader_name.0 ++ optional (λ x. explicit 3 (octet_string x)) v.container_name.0
+        ++ optional (λ x. explicit 4 (octet_string x)) v.csp_name.0) };
 
     ghost is_value = { values_of ⟦<Self as Sequence>⟧ ⟦<<Self as Sequence>::Fields as Fields>⟧ };
 
@@ -76,11 +78,13 @@ impl DerEncode for TsCspDataDetail {
 
     ghost is_element = { λ v h. tagged_element 48 _ };
 
-    ghost one_value = { one_value_of ⟦<Self as Sequence>⟧ ⟦<<Self as Sequence>::Fields as Fields>⟧ (λ v. refl) (tt, only_tag 161 _ refl, only_tag 162 _ refl, only_tag 163 _ refl, only_tag 164 _ refl) };
+    ghost one_value = { one_value_of ⟦<Self as Sequence>⟧ ⟦<<Self as Sequence>::Fields as Fields>⟧ (λ v. refl)
+        (tt, only_tag 161 _ refl, only_tag 162 _ refl, only_tag 163 _ refl, only_tag 164 _ refl) };
 
     ghost fault = { sequence_fault ⟦<<Self as Sequence>::Fields as Fields>⟧ };
 
-    ghost fault_laws = { sequence_fault_laws ⟦<Self as Sequence>⟧ ⟦<<Self as Sequence>::Fields as Fields>⟧ (tt, only_tag 161 _ refl, only_tag 162 _ refl, only_tag 163 _ refl, only_tag 164 _ refl) };
+    ghost fault_laws = { sequence_fault_laws ⟦<Self as Sequence>⟧ ⟦<<Self as Sequence>::Fields as Fields>⟧
+        (tt, only_tag 161 _ refl, only_tag 162 _ refl, only_tag 163 _ refl, only_tag 164 _ refl) };
 
     fn starts(octet: u8) -> bool {
         octet == SEQUENCE
@@ -150,7 +154,8 @@ impl Sequence for TsSmartCardCreds {
 }
 
 impl DerEncode for TsSmartCardCreds {
-    ghost enc = { λ v. sequence (explicit 0 (octet_string v.pin) ++ explicit 1 (⟦<TsCspDataDetail as DerEncode>⟧.enc v.csp_data) ++ optional (λ x. explicit 2 (octet_string x)) v.user_hint.0 ++ optional (λ x. explicit 3 (octet_string x)) v.domain_hint.0) };
+    ghost enc = { λ v. sequence (explicit 0 (octet_string v.pin) ++ explicit 1 (⟦<TsCspDataDetail as DerEncode>⟧.enc v.csp_data)
+        ++ optional (λ x. explicit 2 (octet_string x)) v.user_hint.0 ++ optional (λ x. explicit 3 (octet_string x)) v.domain_hint.0) };
 
     ghost is_value = { values_of ⟦<Self as Sequence>⟧ ⟦<<Self as Sequence>::Fields as Fields>⟧ };
 
@@ -158,7 +163,8 @@ impl DerEncode for TsSmartCardCreds {
 
     ghost is_element = { λ v h. tagged_element 48 _ };
 
-    ghost one_value = { one_value_of ⟦<Self as Sequence>⟧ ⟦<<Self as Sequence>::Fields as Fields>⟧ (λ v. refl) (tt, tt, only_tag 162 _ refl, only_tag 163 _ refl) };
+    ghost one_value = { one_value_of ⟦<Self as Sequence>⟧ ⟦<<Self as Sequence>::Fields as Fields>⟧ (λ v. refl)
+        (tt, tt, only_tag 162 _ refl, only_tag 163 _ refl) };
 
     ghost fault = { sequence_fault ⟦<<Self as Sequence>::Fields as Fields>⟧ };
 

@@ -1,4 +1,4 @@
-//! Laws over the definitions, of functions that do nothing.
+//! Lemmas about identifiers and raw values.
 
 ghost use Rattle.std.specs.Prelude.{◌≡◌, ◌↔◌, ◌⊎◌, ◌==◌, ◌&&◌, not, ◌%◌, List, ℕ};
 ghost use Rattle.krb_der_core.specs.Tlv.{tlv};
@@ -19,17 +19,19 @@ pub fn encodings()
     ensures raw_value { (v : List ℕ) → ⟦<Asn1RawDer as DerEncode>⟧.enc v ≡ v }
 {}
 
-/// The first fault of an object identifier (X.690, 8.19): another tag, or that of its content, from the left. That of a raw
-/// value: no element that is read begins with its octet, since it is `00` or the tag takes more than one octet (X.690, 8.1.2.4). Encodings
-/// begin with the tag, those of raw values with any other octet, and with nothing else.
+/// The first error of an object identifier (X.690, 8.19): another tag, or that of its content, from the left. A raw
+/// value has one alone: its first octet is `00`, or that of a tag of more than one octet (X.690, 8.1.2.4). An object
+/// identifier begins with its tag, a raw value with any octet but these.
 pub fn faults()
-    ensures object_identifier { (t : ℕ) (content : List ℕ) (e : Asn1DerError) → ⟦<ObjectIdentifierAsn1 as DerEncode>⟧.fault t content e ↔ TaggedFault 6 ArcsFault t content e }
-    ensures raw_value { (t : ℕ) (content : List ℕ) (e : Asn1DerError) → ⟦<Asn1RawDer as DerEncode>⟧.fault t content e ↔ (e ≡ InvalidData) × ((t ≡ 0) ⊎ (t % 32 ≡ 31)) }
+    ensures object_identifier { (t : ℕ) (content : List ℕ) (e : Asn1DerError) → ⟦<ObjectIdentifierAsn1 as DerEncode>⟧.fault t content e
+        ↔ TaggedFault 6 ArcsFault t content e }
+    ensures raw_value { (t : ℕ) (content : List ℕ) (e : Asn1DerError) → ⟦<Asn1RawDer as DerEncode>⟧.fault t content e
+        ↔ (e ≡ InvalidData) × ((t ≡ 0) ⊎ (t % 32 ≡ 31)) }
     ensures object_identifier_tag { (t : ℕ) → ⟦<ObjectIdentifierAsn1 as DerEncode>⟧.first t ≡ (t == 6) }
     ensures raw_value_tag { (t : ℕ) → ⟦<Asn1RawDer as DerEncode>⟧.first t ≡ (not (t == 0) && not (t % 32 == 31)) }
 {}
 
-/// A leaf that an implicit tag may stand on has its own tag in front of its content (X.690, 8.14).
+/// The encoding of a primitive type that may have an implicit tag is its own tag and its content (X.690, 8.14).
 pub fn primitive_encoding<T: DerPrimitive>()
     ensures { (v : T) → T.enc v ≡ tlv T.tag (T.inner v) }
 {}

@@ -24,12 +24,12 @@ const AP_REP: u8 = 0x6f;
 /// }
 /// ```
 ///
-/// The first octet, `6e` or `6f`, tells them apart: another is `InvalidData`.
+/// The first octet, `6e` or `6f`, distinguishes them: any other is `InvalidData`.
 #[derive(Debug, Drop, PartialEq, Eq)]
 pub enum ApMessage {
-    /// What the client shows.
+    /// The client's message.
     ApReq(ApReq),
-    /// What the server answers.
+    /// The server's reply.
     ApRep(ApRep),
 }
 

@@ -1,4 +1,4 @@
-//! The texts of refusals.
+//! Texts of errors.
 
 ghost use Rattle.std.specs.Prelude.{Some};
 ghost use Rattle.krb_msg.specs.CodeText.{code_text};

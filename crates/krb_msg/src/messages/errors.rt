@@ -1,4 +1,4 @@
-//! Refusals.
+//! KRB-ERROR.
 
 ghost use Rattle.std.specs.Prelude.{◌==◌, ◌++◌, pos, refl};
 ghost use Rattle.krb_der.specs.Asn1.{explicit, general_string, generalized_time, integer, octet_string, sequence};
@@ -57,7 +57,7 @@ pub struct KrbErrorInner {
     pub stime: ExplicitContextTag4<KerberosTime>,
     /// Its microseconds.
     pub susec: ExplicitContextTag5<Microseconds>,
-    /// Why the request was refused (RFC 4120, 7.5.9).
+    /// The error code (RFC 4120, 7.5.9).
     pub error_code: ExplicitContextTag6<u32>,
     /// The realm of the client.
     pub crealm: Optional<Option<ExplicitContextTag7<Realm>>>,
@@ -69,7 +69,7 @@ pub struct KrbErrorInner {
     pub sname: ExplicitContextTag10<PrincipalName>,
     /// A text that explains the error.
     pub e_text: Optional<Option<ExplicitContextTag11<KerberosStringAsn1>>>,
-    /// Data on the error, whose form its code decides.
+    /// Data about the error, whose form depends on the code.
     pub e_data: Optional<Option<ExplicitContextTag12<OctetStringAsn1>>>,
 }
 
@@ -96,9 +96,27 @@ impl Sequence for KrbErrorInner {
         ),
     );
 
-    ghost fields = { λ v. ((v.pvno, v.msg_type, v.ctime, v.cusec), (v.stime, v.susec, v.error_code, v.crealm, v.cname), (v.realm, v.sname, v.e_text, v.e_data)) };
+    ghost fields = { λ v. (
+      (v.pvno, v.msg_type, v.ctime, v.cusec),
+      (v.stime, v.susec, v.error_code, v.crealm, v.cname),
+      (v.realm, v.sname, v.e_text, v.e_data),
+    ) };
 
-    ghost with_fields = { λ f. record { pvno = f.0.0; msg_type = f.0.1; ctime = f.0.2; cusec = f.0.3; stime = f.1.0; susec = f.1.1; error_code = f.1.2; crealm = f.1.3; cname = f.1.4; realm = f.2.0; sname = f.2.1; e_text = f.2.2; e_data = f.2.3 } };
+    ghost with_fields = { λ f. record {
+      pvno = f.0.0;
+      msg_type = f.0.1;
+      ctime = f.0.2;
+      cusec = f.0.3;
+      stime = f.1.0;
+      susec = f.1.1;
+      error_code = f.1.2;
+      crealm = f.1.3;
+      cname = f.1.4;
+      realm = f.2.0;
+      sname = f.2.1;
+      e_text = f.2.2;
+      e_data = f.2.3;
+    } };
 
     fn from_fields(
         (
@@ -126,7 +144,13 @@ impl Sequence for KrbErrorInner {
 }
 
 impl DerEncode for KrbErrorInner {
-    ghost enc = { λ v. sequence ((explicit 0 (integer v.pvno) ++ explicit 1 (integer v.msg_type) ++ optional (λ x. explicit 2 (generalized_time x)) v.ctime.0 ++ optional (λ x. explicit 3 (integer x)) v.cusec.0) ++ (explicit 4 (generalized_time v.stime) ++ explicit 5 (integer v.susec) ++ explicit 6 (integer (pos v.error_code)) ++ optional (λ x. explicit 7 (general_string x)) v.crealm.0 ++ optional (λ x. explicit 8 (⟦<PrincipalName as DerEncode>⟧.enc x)) v.cname.0) ++ (explicit 9 (general_string v.realm) ++ explicit 10 (⟦<PrincipalName as DerEncode>⟧.enc v.sname) ++ optional (λ x. explicit 11 (general_string x)) v.e_text.0 ++ optional (λ x. explicit 12 (octet_string x)) v.e_data.0)) };
+    ghost enc = { λ v. sequence ((explicit 0 (integer v.pvno) ++ explicit 1 (integer v.msg_type)
+        ++ optional (λ x. explicit 2 (generalized_time x)) v.ctime.0 ++ optional (λ x. explicit 3 (integer x)) v.cusec.0)
+        ++ (explicit 4 (generalized_time v.stime) ++ explicit 5 (integer v.susec) ++ explicit 6 (integer (pos v.error_code))
+        ++ optional (λ x. explicit 7 (general_string x)) v.crealm.0
+        ++ optional (λ x. explicit 8 (⟦<PrincipalName as DerEncode>⟧.enc x)) v.cname.0)
+        ++ (explicit 9 (general_string v.realm) ++ explicit 10 (⟦<PrincipalName as DerEncode>⟧.enc v.sname)
+        ++ optional (λ x. explicit 11 (general_string x)) v.e_text.0 ++ optional (λ x. explicit 12 (octet_string x)) v.e_data.0)) };
 
     ghost is_value = { values_of ⟦<Self as Sequence>⟧ ⟦<<Self as Sequence>::Fields as Fields>⟧ };
 
@@ -134,11 +158,19 @@ impl DerEncode for KrbErrorInner {
 
     ghost is_element = { λ v h. tagged_element 48 _ };
 
-    ghost one_value = { one_value_of ⟦<Self as Sequence>⟧ ⟦<<Self as Sequence>::Fields as Fields>⟧ (λ v. refl) ((tt, tt, only_tag 162 _ refl, only_tag 163 _ refl), (tt, tt, tt, only_tag 167 _ refl, only_tag 168 _ refl), (tt, tt, only_tag 171 _ refl, only_tag 172 _ refl)) };
+    ghost one_value = { one_value_of ⟦<Self as Sequence>⟧ ⟦<<Self as Sequence>::Fields as Fields>⟧ (λ v. refl) (
+      (tt, tt, only_tag 162 _ refl, only_tag 163 _ refl),
+      (tt, tt, tt, only_tag 167 _ refl, only_tag 168 _ refl),
+      (tt, tt, only_tag 171 _ refl, only_tag 172 _ refl),
+    ) };
 
     ghost fault = { sequence_fault ⟦<<Self as Sequence>::Fields as Fields>⟧ };
 
-    ghost fault_laws = { sequence_fault_laws ⟦<Self as Sequence>⟧ ⟦<<Self as Sequence>::Fields as Fields>⟧ ((tt, tt, only_tag 162 _ refl, only_tag 163 _ refl), (tt, tt, tt, only_tag 167 _ refl, only_tag 168 _ refl), (tt, tt, only_tag 171 _ refl, only_tag 172 _ refl)) };
+    ghost fault_laws = { sequence_fault_laws ⟦<Self as Sequence>⟧ ⟦<<Self as Sequence>::Fields as Fields>⟧ (
+      (tt, tt, only_tag 162 _ refl, only_tag 163 _ refl),
+      (tt, tt, tt, only_tag 167 _ refl, only_tag 168 _ refl),
+      (tt, tt, only_tag 171 _ refl, only_tag 172 _ refl),
+    ) };
 
     fn starts(octet: u8) -> bool {
         octet == SEQUENCE
@@ -163,7 +195,7 @@ impl DerSequence for KrbErrorInner {
     ghost is_sequence = { λ v. (_, refl) };
 }
 
-/// What a server or a KDC answers where it refuses (RFC 4120, 5.9.1).
+/// The message by which a server or a KDC reports an error (RFC 4120, 5.9.1).
 ///
 /// ```text
 /// KRB-ERROR ::= [APPLICATION 30] SEQUENCE {

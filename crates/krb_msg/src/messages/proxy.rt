@@ -30,7 +30,7 @@ use std::alloc::{AllocError, Global};
 /// ```
 #[derive(Debug, Drop, PartialEq, Eq)]
 pub struct KdcProxyMessage {
-    /// The message, behind its length in four octets.
+    /// The message, after its length in four octets.
     pub kerb_message: ExplicitContextTag0<OctetStringAsn1>,
     /// The realm that the message is for.
     pub target_domain: Optional<Option<ExplicitContextTag1<KerberosStringAsn1>>>,
@@ -59,7 +59,8 @@ impl Sequence for KdcProxyMessage {
 }
 
 impl DerEncode for KdcProxyMessage {
-    ghost enc = { λ v. sequence (explicit 0 (octet_string v.kerb_message) ++ optional (λ x. explicit 1 (general_string x)) v.target_domain.0 ++ optional (λ x. explicit 2 (integer x)) v.dclocator_hint.0) };
+    ghost enc = { λ v. sequence (explicit 0 (octet_string v.kerb_message)
+        ++ optional (λ x. explicit 1 (general_string x)) v.target_domain.0 ++ optional (λ x. explicit 2 (integer x)) v.dclocator_hint.0) };
 
     ghost is_value = { values_of ⟦<Self as Sequence>⟧ ⟦<<Self as Sequence>::Fields as Fields>⟧ };
 
@@ -97,14 +98,15 @@ impl DerSequence for KdcProxyMessage {
 }
 
 impl KdcProxyMessage {
-    /// The message whose encoding stands at the front of the octets. What stands behind it is not looked at.
+    /// The message whose encoding is at the start of the octets. What follows it is not read.
     ///
-    /// A proper front of an encoding is `TruncatedData`; on other octets the first fault decides, from the left. `Io` is never
-    /// answered.
+    /// A proper prefix of an encoding is `TruncatedData`; on other octets the first error is returned, from the left. `Io` is never
+    /// returned.
     pub fn from_raw(alloc: Global, raw: &[u8]) -> Result<KdcProxyMessage, Asn1DerError>
         ensures valid { IfOk result ⟦<KdcProxyMessage as DerEncode>⟧.is_value }
         ensures found { IfOk result (λ v. (rest : List ℕ) × (raw.now ≡ ⟦<KdcProxyMessage as DerEncode>⟧.enc v ++ rest)) }
-        ensures reads { (v : KdcProxyMessage) (rest : List ℕ) → ⟦<KdcProxyMessage as DerEncode>⟧.is_value v → raw.now ≡ ⟦<KdcProxyMessage as DerEncode>⟧.enc v ++ rest → Answers result v }
+        ensures reads { (v : KdcProxyMessage) (rest : List ℕ) → ⟦<KdcProxyMessage as DerEncode>⟧.is_value v
+            → raw.now ≡ ⟦<KdcProxyMessage as DerEncode>⟧.enc v ++ rest → Answers result v }
         ensures cut { TellsCut ⟦<KdcProxyMessage as DerEncode>⟧.is_value ⟦<KdcProxyMessage as DerEncode>⟧.enc raw.now result }
         ensures no_device { IfErr result NoDevice }
         ensures first_fault { IfErr result (OrMemory (FrontFault ⟦<KdcProxyMessage as DerEncode>⟧.first ⟦<KdcProxyMessage as DerEncode>⟧.fault raw.now)) }
@@ -114,7 +116,7 @@ impl KdcProxyMessage {
 
     /// A message that holds these octets, and names neither a realm nor how to look for a KDC.
     ///
-    /// `OutOfMemory` alone is answered in its place.
+    /// The only error is `OutOfMemory`.
     pub fn from_raw_kerb_message(
         alloc: Global,
         raw_kerb_message: &[u8],
@@ -129,7 +131,7 @@ impl KdcProxyMessage {
         })
     }
 
-    /// The encoding of the message. `OutOfMemory` alone is answered in its place.
+    /// The encoding of the message. The only error is `OutOfMemory`.
     pub fn to_vec(&self, alloc: Global) -> Result<Vec<u8>, Asn1DerError>
         ensures ok { IfOk result (λ v. v.items ≡ ⟦<KdcProxyMessage as DerEncode>⟧.enc self.now) }
         ensures valid { OnOk result (⟦<KdcProxyMessage as DerEncode>⟧.is_value self.now) }
@@ -139,7 +141,7 @@ impl KdcProxyMessage {
     }
 }
 
-/// The value whose encoding stands at the front of the octets, whatever stands behind it.
+/// The value whose encoding is at the start of the octets, whatever is after it.
 fn read_front<T: Der>(alloc: Global, octets: &[u8]) -> Result<T, Asn1DerError>
     ensures valid { IfOk result T.is_value }
     ensures found { IfOk result (λ v. (rest : List ℕ) × (octets.now ≡ T.enc v ++ rest)) }

@@ -67,7 +67,8 @@ impl Sequence for ApReqInner {
 }
 
 impl DerEncode for ApReqInner {
-    ghost enc = { λ v. sequence (explicit 0 (integer v.pvno) ++ explicit 1 (integer v.msg_type) ++ explicit 2 (bit_string v.ap_options) ++ explicit 3 (⟦<Ticket as DerEncode>⟧.enc v.ticket) ++ explicit 4 (⟦<EncryptedData as DerEncode>⟧.enc v.authenticator)) };
+    ghost enc = { λ v. sequence (explicit 0 (integer v.pvno) ++ explicit 1 (integer v.msg_type) ++ explicit 2 (bit_string v.ap_options)
+        ++ explicit 3 (⟦<Ticket as DerEncode>⟧.enc v.ticket) ++ explicit 4 (⟦<EncryptedData as DerEncode>⟧.enc v.authenticator)) };
 
     ghost is_value = { values_of ⟦<Self as Sequence>⟧ ⟦<<Self as Sequence>::Fields as Fields>⟧ };
 
@@ -104,7 +105,7 @@ impl DerSequence for ApReqInner {
     ghost is_sequence = { λ v. (_, refl) };
 }
 
-/// What a client shows a server, so that the server knows it (RFC 4120, 5.5.1).
+/// The message by which a client authenticates to a server (RFC 4120, 5.5.1).
 ///
 /// ```text
 /// AP-REQ ::= [APPLICATION 14] SEQUENCE {
@@ -153,7 +154,8 @@ impl Sequence for ApRepInner {
 }
 
 impl DerEncode for ApRepInner {
-    ghost enc = { λ v. sequence (explicit 0 (integer v.pvno) ++ explicit 1 (integer v.msg_type) ++ explicit 2 (⟦<EncryptedData as DerEncode>⟧.enc v.enc_part)) };
+    ghost enc = { λ v. sequence (explicit 0 (integer v.pvno) ++ explicit 1 (integer v.msg_type)
+        ++ explicit 2 (⟦<EncryptedData as DerEncode>⟧.enc v.enc_part)) };
 
     ghost is_value = { values_of ⟦<Self as Sequence>⟧ ⟦<<Self as Sequence>::Fields as Fields>⟧ };
 
@@ -186,7 +188,7 @@ impl DerSequence for ApRepInner {
     ghost is_sequence = { λ v. (_, refl) };
 }
 
-/// What a server answers a client that asked to know the server too (RFC 4120, 5.5.2).
+/// The reply of a server to a client that asked for mutual authentication (RFC 4120, 5.5.2).
 ///
 /// ```text
 /// AP-REP ::= [APPLICATION 15] SEQUENCE {

@@ -61,7 +61,8 @@ impl Sequence for KrbCredInner {
 }
 
 impl DerEncode for KrbCredInner {
-    ghost enc = { λ v. sequence (explicit 0 (integer v.pvno) ++ explicit 1 (integer v.msg_type) ++ explicit 2 (sequence_of ⟦<Ticket as DerEncode>⟧.enc v.tickets) ++ explicit 3 (⟦<EncryptedData as DerEncode>⟧.enc v.enc_part)) };
+    ghost enc = { λ v. sequence (explicit 0 (integer v.pvno) ++ explicit 1 (integer v.msg_type)
+        ++ explicit 2 (sequence_of ⟦<Ticket as DerEncode>⟧.enc v.tickets) ++ explicit 3 (⟦<EncryptedData as DerEncode>⟧.enc v.enc_part)) };
 
     ghost is_value = { values_of ⟦<Self as Sequence>⟧ ⟦<<Self as Sequence>::Fields as Fields>⟧ };
 
@@ -98,7 +99,7 @@ impl DerSequence for KrbCredInner {
     ghost is_sequence = { λ v. (_, refl) };
 }
 
-/// Tickets that are forwarded, with what their use needs (RFC 4120, 5.8.1).
+/// Forwarded tickets, with the data that their use needs (RFC 4120, 5.8.1).
 ///
 /// ```text
 /// KRB-CRED ::= [APPLICATION 22] SEQUENCE {

@@ -1,4 +1,4 @@
-//! Enciphered messages of an application.
+//! Encrypted messages of an application.
 
 ghost use Rattle.std.specs.Prelude.{◌==◌, ◌++◌, refl};
 ghost use Rattle.krb_der.specs.Asn1.{explicit, integer, sequence};
@@ -56,7 +56,8 @@ impl Sequence for KrbPrivInner {
 }
 
 impl DerEncode for KrbPrivInner {
-    ghost enc = { λ v. sequence (explicit 0 (integer v.pvno) ++ explicit 1 (integer v.msg_type) ++ explicit 3 (⟦<EncryptedData as DerEncode>⟧.enc v.enc_part)) };
+    ghost enc = { λ v. sequence (explicit 0 (integer v.pvno) ++ explicit 1 (integer v.msg_type)
+        ++ explicit 3 (⟦<EncryptedData as DerEncode>⟧.enc v.enc_part)) };
 
     ghost is_value = { values_of ⟦<Self as Sequence>⟧ ⟦<<Self as Sequence>::Fields as Fields>⟧ };
 
@@ -89,7 +90,7 @@ impl DerSequence for KrbPrivInner {
     ghost is_sequence = { λ v. (_, refl) };
 }
 
-/// A message of the application that is enciphered (RFC 4120, 5.7.1).
+/// A message of the application that is encrypted (RFC 4120, 5.7.1).
 ///
 /// ```text
 /// KRB-PRIV ::= [APPLICATION 21] SEQUENCE {

@@ -1,4 +1,4 @@
-//! How a client gets the ticket-granting ticket of a server that is a user.
+//! User-to-user authentication: how a client gets the ticket-granting ticket of a server that is a user.
 
 ghost use Rattle.std.specs.Prelude.{◌==◌, ◌++◌, refl};
 ghost use Rattle.krb_der.specs.Asn1.{explicit, integer, sequence};
@@ -17,7 +17,7 @@ use std::alloc::{AllocError, Global};
 
 /// A client asks a server for its ticket-granting ticket (draft-swift-win2k-krb-user2user-03, 6).
 ///
-/// In the draft the name may be absent, and a realm may stand behind it. Here the name is there, and nothing behind it.
+/// In the draft the name is optional, and an optional realm follows it. Here the name is mandatory, and nothing follows it.
 ///
 /// ```text
 /// KERB-TGT-REQUEST ::= SEQUENCE {
@@ -57,7 +57,8 @@ impl Sequence for TgtReq {
 }
 
 impl DerEncode for TgtReq {
-    ghost enc = { λ v. sequence (explicit 0 (integer v.pvno) ++ explicit 1 (integer v.msg_type) ++ explicit 2 (⟦<PrincipalName as DerEncode>⟧.enc v.server_name)) };
+    ghost enc = { λ v. sequence (explicit 0 (integer v.pvno) ++ explicit 1 (integer v.msg_type)
+        ++ explicit 2 (⟦<PrincipalName as DerEncode>⟧.enc v.server_name)) };
 
     ghost is_value = { values_of ⟦<Self as Sequence>⟧ ⟦<<Self as Sequence>::Fields as Fields>⟧ };
 
@@ -90,7 +91,7 @@ impl DerSequence for TgtReq {
     ghost is_sequence = { λ v. (_, refl) };
 }
 
-/// A server answers with its ticket-granting ticket (draft-swift-win2k-krb-user2user-03, 6).
+/// A server replies with its ticket-granting ticket (draft-swift-win2k-krb-user2user-03, 6).
 ///
 /// ```text
 /// KERB-TGT-REPLY ::= SEQUENCE {

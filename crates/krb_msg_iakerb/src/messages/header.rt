@@ -20,7 +20,7 @@ use krb_der::{
 use krb_der_core::read_tlv;
 use std::alloc::{AllocError, Global};
 
-/// What the server wants to see again: a client copies it into its next message (draft-ietf-kitten-iakerb-03, 3).
+/// A cookie of the server, which a client copies into its next message (draft-ietf-kitten-iakerb-03, 3).
 pub type IAKerbCookie = Option<ExplicitContextTag2<OctetStringAsn1>>;
 
 /// The header of an IAKERB message (draft-ietf-kitten-iakerb-03, 3).
@@ -34,15 +34,15 @@ pub type IAKerbCookie = Option<ExplicitContextTag2<OctetStringAsn1>>;
 /// }
 /// ```
 ///
-/// It is extensible: octets behind the known fields are ignored, so that a header is read from more than its encoding. So it is no
-/// `Der`, and is read by `IAKerbHeader::from_bytes`.
+/// It is extensible: octets after the known fields are ignored, so that a header is read from more than its encoding. So it does not
+/// implement `Der`: `IAKerbHeader::from_bytes` reads it.
 #[derive(Debug, Drop, PartialEq, Eq)]
 pub struct IAKerbHeader {
-    /// The realm of the server that the client wants to speak to.
+    /// The realm of the server to which the client connects.
     pub target_realm: ExplicitContextTag1<Utf8StringAsn1>,
-    /// What the server gave the client to send back.
+    /// The cookie that the server sent last.
     pub cookie: Optional<IAKerbCookie>,
-    /// Flags, whose meaning no standard gives.
+    /// Flags, which no standard defines.
     pub flags: Optional<Option<ExplicitContextTag3<BitStringAsn1>>>,
 }
 
@@ -67,7 +67,8 @@ impl Sequence for IAKerbHeader {
 }
 
 impl DerEncode for IAKerbHeader {
-    ghost enc = { λ v. sequence (explicit 1 (utf8_string v.target_realm) ++ optional (λ x. explicit 2 (octet_string x)) v.cookie.0 ++ optional (λ x. explicit 3 (bit_string x)) v.flags.0) };
+    ghost enc = { λ v. sequence (explicit 1 (utf8_string v.target_realm) ++ optional (λ x. explicit 2 (octet_string x)) v.cookie.0
+        ++ optional (λ x. explicit 3 (bit_string x)) v.flags.0) };
 
     ghost is_value = { values_of ⟦<Self as Sequence>⟧ ⟦<<Self as Sequence>::Fields as Fields>⟧ };
 
@@ -95,12 +96,12 @@ impl DerSequence for IAKerbHeader {
 }
 
 impl IAKerbHeader {
-    /// The header that the input is read as, all of it.
+    /// The header as which the whole input is read.
     ///
     /// It is a SEQUENCE of the realm, then the cookie if the next octet is `a2`, then the flags if the next octet is `a3`; all
-    /// octets that are left in the sequence are ignored. A proper front of a SEQUENCE is `TruncatedData`; on other octets the
-    /// first fault decides, from the left: the tag, the length, the realm, the cookie, the flags, and last `InvalidData` where
-    /// octets are left behind the SEQUENCE. `Io` is never answered.
+    /// further octets of the sequence are ignored. A proper prefix of a SEQUENCE is `TruncatedData`; on other octets the
+    /// first error is returned, from the left: the tag, the length, the realm, the cookie, the flags, and last `InvalidData` where
+    /// octets are left after the SEQUENCE. `Io` is never returned.
     pub fn from_bytes(alloc: Global, octets: &[u8]) -> Result<IAKerbHeader, Asn1DerError>
         ensures valid { IfOk result ⟦<IAKerbHeader as DerEncode>⟧.is_value }
         ensures found { IfOk result (HeaderReads octets.now) }
@@ -120,7 +121,7 @@ impl IAKerbHeader {
         Ok(header)
     }
 
-    /// An equal header. `OutOfMemory` alone is answered in its place.
+    /// An equal header. The only error is `OutOfMemory`.
     pub fn clone(&self, alloc: Global) -> Result<IAKerbHeader, Asn1DerError>
         ensures { Answers result self.now }
     {

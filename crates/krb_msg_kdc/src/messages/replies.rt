@@ -1,4 +1,4 @@
-//! What a KDC answers.
+//! Replies of a KDC.
 
 ghost use Rattle.std.specs.Prelude.{◌==◌, ◌++◌, refl};
 ghost use Rattle.krb_der.specs.Asn1.{bit_string, explicit, general_string, generalized_time, integer, sequence, sequence_of};
@@ -25,7 +25,7 @@ use krb_msg_types::data_types::{
 };
 use std::alloc::{AllocError, Global};
 
-/// The answer of a KDC that grants a ticket (RFC 4120, 5.4.2).
+/// The reply of a KDC that grants a ticket (RFC 4120, 5.4.2).
 ///
 /// ```text
 /// KDC-REP ::= SEQUENCE {
@@ -91,7 +91,10 @@ impl Sequence for KdcRep {
 }
 
 impl DerEncode for KdcRep {
-    ghost enc = { λ v. sequence ((explicit 0 (integer v.pvno) ++ explicit 1 (integer v.msg_type) ++ optional (λ x. explicit 2 (sequence_of ⟦<PaData as DerEncode>⟧.enc x)) v.padata.0) ++ (explicit 3 (general_string v.crealm) ++ explicit 4 (⟦<PrincipalName as DerEncode>⟧.enc v.cname) ++ explicit 5 (⟦<Ticket as DerEncode>⟧.enc v.ticket) ++ explicit 6 (⟦<EncryptedData as DerEncode>⟧.enc v.enc_part))) };
+    ghost enc = { λ v. sequence ((explicit 0 (integer v.pvno) ++ explicit 1 (integer v.msg_type)
+        ++ optional (λ x. explicit 2 (sequence_of ⟦<PaData as DerEncode>⟧.enc x)) v.padata.0)
+        ++ (explicit 3 (general_string v.crealm) ++ explicit 4 (⟦<PrincipalName as DerEncode>⟧.enc v.cname)
+        ++ explicit 5 (⟦<Ticket as DerEncode>⟧.enc v.ticket) ++ explicit 6 (⟦<EncryptedData as DerEncode>⟧.enc v.enc_part))) };
 
     ghost is_value = { values_of ⟦<Self as Sequence>⟧ ⟦<<Self as Sequence>::Fields as Fields>⟧ };
 
@@ -99,7 +102,8 @@ impl DerEncode for KdcRep {
 
     ghost is_element = { λ v h. tagged_element 48 _ };
 
-    ghost one_value = { one_value_of ⟦<Self as Sequence>⟧ ⟦<<Self as Sequence>::Fields as Fields>⟧ (λ v. refl) ((tt, tt, only_tag 162 _ refl), (tt, tt, tt, tt)) };
+    ghost one_value = { one_value_of ⟦<Self as Sequence>⟧ ⟦<<Self as Sequence>::Fields as Fields>⟧ (λ v. refl)
+        ((tt, tt, only_tag 162 _ refl), (tt, tt, tt, tt)) };
 
     ghost fault = { sequence_fault ⟦<<Self as Sequence>::Fields as Fields>⟧ };
 
@@ -128,21 +132,21 @@ impl DerSequence for KdcRep {
     ghost is_sequence = { λ v. (_, refl) };
 }
 
-/// The answer to a KRB-AS-REQ (RFC 4120, 5.4.2).
+/// The reply to a KRB-AS-REQ (RFC 4120, 5.4.2).
 ///
 /// ```text
 /// AS-REP ::= [APPLICATION 11] KDC-REP
 /// ```
 pub type AsRep = ApplicationTag<KdcRep, AS_REP_MSG_TYPE>;
 
-/// The answer to a KRB-TGS-REQ (RFC 4120, 5.4.2).
+/// The reply to a KRB-TGS-REQ (RFC 4120, 5.4.2).
 ///
 /// ```text
 /// TGS-REP ::= [APPLICATION 13] KDC-REP
 /// ```
 pub type TgsRep = ApplicationTag<KdcRep, TGS_REP_MSG_TYPE>;
 
-/// What the encrypted part of the answer of a KDC holds (RFC 4120, 5.4.2; RFC 6806, 11).
+/// The content of the encrypted part of a reply of a KDC (RFC 4120, 5.4.2; RFC 6806, 11).
 ///
 /// ```text
 /// EncKDCRepPart ::= SEQUENCE {
@@ -187,7 +191,7 @@ pub struct EncKdcRepPart {
     pub sname: ExplicitContextTag10<PrincipalName>,
     /// From which addresses the ticket may be used.
     pub caddr: Optional<Option<ExplicitContextTag11<HostAddresses>>>,
-    /// Data of pre-authentication that is enciphered (RFC 6806, 11).
+    /// Data of pre-authentication that is encrypted (RFC 6806, 11).
     pub encrypted_pa_data: Optional<Option<ExplicitContextTag12<Asn1SequenceOf<PaData>>>>,
 }
 
@@ -214,9 +218,27 @@ impl Sequence for EncKdcRepPart {
         ),
     );
 
-    ghost fields = { λ v. ((v.key, v.last_req, v.nonce, v.key_expiration), (v.flags, v.auth_time, v.start_time, v.end_time, v.renew_till), (v.srealm, v.sname, v.caddr, v.encrypted_pa_data)) };
+    ghost fields = { λ v. (
+      (v.key, v.last_req, v.nonce, v.key_expiration),
+      (v.flags, v.auth_time, v.start_time, v.end_time, v.renew_till),
+      (v.srealm, v.sname, v.caddr, v.encrypted_pa_data),
+    ) };
 
-    ghost with_fields = { λ f. record { key = f.0.0; last_req = f.0.1; nonce = f.0.2; key_expiration = f.0.3; flags = f.1.0; auth_time = f.1.1; start_time = f.1.2; end_time = f.1.3; renew_till = f.1.4; srealm = f.2.0; sname = f.2.1; caddr = f.2.2; encrypted_pa_data = f.2.3 } };
+    ghost with_fields = { λ f. record {
+      key = f.0.0;
+      last_req = f.0.1;
+      nonce = f.0.2;
+      key_expiration = f.0.3;
+      flags = f.1.0;
+      auth_time = f.1.1;
+      start_time = f.1.2;
+      end_time = f.1.3;
+      renew_till = f.1.4;
+      srealm = f.2.0;
+      sname = f.2.1;
+      caddr = f.2.2;
+      encrypted_pa_data = f.2.3;
+    } };
 
     fn from_fields(
         (
@@ -244,7 +266,15 @@ impl Sequence for EncKdcRepPart {
 }
 
 impl DerEncode for EncKdcRepPart {
-    ghost enc = { λ v. sequence ((explicit 0 (⟦<EncryptionKey as DerEncode>⟧.enc v.key) ++ explicit 1 (⟦<LastReq as DerEncode>⟧.enc v.last_req) ++ explicit 2 (integer v.nonce) ++ optional (λ x. explicit 3 (generalized_time x)) v.key_expiration.0) ++ (explicit 4 (bit_string v.flags) ++ explicit 5 (generalized_time v.auth_time) ++ optional (λ x. explicit 6 (generalized_time x)) v.start_time.0 ++ explicit 7 (generalized_time v.end_time) ++ optional (λ x. explicit 8 (generalized_time x)) v.renew_till.0) ++ (explicit 9 (general_string v.srealm) ++ explicit 10 (⟦<PrincipalName as DerEncode>⟧.enc v.sname) ++ optional (λ x. explicit 11 (⟦<HostAddresses as DerEncode>⟧.enc x)) v.caddr.0 ++ optional (λ x. explicit 12 (sequence_of ⟦<PaData as DerEncode>⟧.enc x)) v.encrypted_pa_data.0)) };
+    ghost enc = { λ v. sequence ((explicit 0 (⟦<EncryptionKey as DerEncode>⟧.enc v.key)
+        ++ explicit 1 (⟦<LastReq as DerEncode>⟧.enc v.last_req) ++ explicit 2 (integer v.nonce)
+        ++ optional (λ x. explicit 3 (generalized_time x)) v.key_expiration.0)
+        ++ (explicit 4 (bit_string v.flags) ++ explicit 5 (generalized_time v.auth_time)
+        ++ optional (λ x. explicit 6 (generalized_time x)) v.start_time.0 ++ explicit 7 (generalized_time v.end_time)
+        ++ optional (λ x. explicit 8 (generalized_time x)) v.renew_till.0)
+        ++ (explicit 9 (general_string v.srealm) ++ explicit 10 (⟦<PrincipalName as DerEncode>⟧.enc v.sname)
+        ++ optional (λ x. explicit 11 (⟦<HostAddresses as DerEncode>⟧.enc x)) v.caddr.0
+        ++ optional (λ x. explicit 12 (sequence_of ⟦<PaData as DerEncode>⟧.enc x)) v.encrypted_pa_data.0)) };
 
     ghost is_value = { values_of ⟦<Self as Sequence>⟧ ⟦<<Self as Sequence>::Fields as Fields>⟧ };
 
@@ -252,11 +282,19 @@ impl DerEncode for EncKdcRepPart {
 
     ghost is_element = { λ v h. tagged_element 48 _ };
 
-    ghost one_value = { one_value_of ⟦<Self as Sequence>⟧ ⟦<<Self as Sequence>::Fields as Fields>⟧ (λ v. refl) ((tt, tt, tt, only_tag 163 _ refl), (tt, tt, only_tag 166 _ refl, tt, only_tag 168 _ refl), (tt, tt, only_tag 171 _ refl, only_tag 172 _ refl)) };
+    ghost one_value = { one_value_of ⟦<Self as Sequence>⟧ ⟦<<Self as Sequence>::Fields as Fields>⟧ (λ v. refl) (
+      (tt, tt, tt, only_tag 163 _ refl),
+      (tt, tt, only_tag 166 _ refl, tt, only_tag 168 _ refl),
+      (tt, tt, only_tag 171 _ refl, only_tag 172 _ refl),
+    ) };
 
     ghost fault = { sequence_fault ⟦<<Self as Sequence>::Fields as Fields>⟧ };
 
-    ghost fault_laws = { sequence_fault_laws ⟦<Self as Sequence>⟧ ⟦<<Self as Sequence>::Fields as Fields>⟧ ((tt, tt, tt, only_tag 163 _ refl), (tt, tt, only_tag 166 _ refl, tt, only_tag 168 _ refl), (tt, tt, only_tag 171 _ refl, only_tag 172 _ refl)) };
+    ghost fault_laws = { sequence_fault_laws ⟦<Self as Sequence>⟧ ⟦<<Self as Sequence>::Fields as Fields>⟧ (
+      (tt, tt, tt, only_tag 163 _ refl),
+      (tt, tt, only_tag 166 _ refl, tt, only_tag 168 _ refl),
+      (tt, tt, only_tag 171 _ refl, only_tag 172 _ refl),
+    ) };
 
     fn starts(octet: u8) -> bool {
         octet == SEQUENCE

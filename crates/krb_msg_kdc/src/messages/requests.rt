@@ -56,15 +56,15 @@ pub struct KdcReqBody {
     pub till: ExplicitContextTag5<KerberosTime>,
     /// Until when the ticket is to be renewable.
     pub rtime: Optional<Option<ExplicitContextTag6<KerberosTime>>>,
-    /// A number that the answer is to repeat.
+    /// A number that the reply is to repeat.
     pub nonce: ExplicitContextTag7<IntegerAsn1>,
-    /// The encryption types that the client takes, the best first.
+    /// The encryption types that the client accepts, the preferred first.
     pub etype: ExplicitContextTag8<Asn1SequenceOf<IntegerAsn1>>,
     /// From which addresses the ticket is to be used.
     pub addresses: Optional<Option<ExplicitContextTag9<HostAddresses>>>,
     /// The encrypted `AuthorizationData` for the ticket, in a KRB-TGS-REQ alone.
     pub enc_authorization_data: Optional<Option<ExplicitContextTag10<EncryptedData>>>,
-    /// Further tickets that the options speak of.
+    /// Further tickets that the options need.
     pub additional_tickets: Optional<Option<ExplicitContextTag11<Asn1SequenceOf<Ticket>>>>,
 }
 
@@ -90,9 +90,26 @@ impl Sequence for KdcReqBody {
         ),
     );
 
-    ghost fields = { λ v. ((v.kdc_options, v.cname, v.realm, v.sname), (v.from, v.till, v.rtime, v.nonce), (v.etype, v.addresses, v.enc_authorization_data, v.additional_tickets)) };
+    ghost fields = { λ v. (
+      (v.kdc_options, v.cname, v.realm, v.sname),
+      (v.from, v.till, v.rtime, v.nonce),
+      (v.etype, v.addresses, v.enc_authorization_data, v.additional_tickets),
+    ) };
 
-    ghost with_fields = { λ f. record { kdc_options = f.0.0; cname = f.0.1; realm = f.0.2; sname = f.0.3; from = f.1.0; till = f.1.1; rtime = f.1.2; nonce = f.1.3; etype = f.2.0; addresses = f.2.1; enc_authorization_data = f.2.2; additional_tickets = f.2.3 } };
+    ghost with_fields = { λ f. record {
+      kdc_options = f.0.0;
+      cname = f.0.1;
+      realm = f.0.2;
+      sname = f.0.3;
+      from = f.1.0;
+      till = f.1.1;
+      rtime = f.1.2;
+      nonce = f.1.3;
+      etype = f.2.0;
+      addresses = f.2.1;
+      enc_authorization_data = f.2.2;
+      additional_tickets = f.2.3;
+    } };
 
     fn from_fields(
         (
@@ -119,7 +136,14 @@ impl Sequence for KdcReqBody {
 }
 
 impl DerEncode for KdcReqBody {
-    ghost enc = { λ v. sequence ((explicit 0 (bit_string v.kdc_options) ++ optional (λ x. explicit 1 (⟦<PrincipalName as DerEncode>⟧.enc x)) v.cname.0 ++ explicit 2 (general_string v.realm) ++ optional (λ x. explicit 3 (⟦<PrincipalName as DerEncode>⟧.enc x)) v.sname.0) ++ (optional (λ x. explicit 4 (generalized_time x)) v.from.0 ++ explicit 5 (generalized_time v.till) ++ optional (λ x. explicit 6 (generalized_time x)) v.rtime.0 ++ explicit 7 (integer v.nonce)) ++ (explicit 8 (sequence_of integer v.etype) ++ optional (λ x. explicit 9 (⟦<HostAddresses as DerEncode>⟧.enc x)) v.addresses.0 ++ optional (λ x. explicit 10 (⟦<EncryptedData as DerEncode>⟧.enc x)) v.enc_authorization_data.0 ++ optional (λ x. explicit 11 (sequence_of ⟦<Ticket as DerEncode>⟧.enc x)) v.additional_tickets.0)) };
+    ghost enc = { λ v. sequence ((explicit 0 (bit_string v.kdc_options)
+        ++ optional (λ x. explicit 1 (⟦<PrincipalName as DerEncode>⟧.enc x)) v.cname.0 ++ explicit 2 (general_string v.realm)
+        ++ optional (λ x. explicit 3 (⟦<PrincipalName as DerEncode>⟧.enc x)) v.sname.0)
+        ++ (optional (λ x. explicit 4 (generalized_time x)) v.from.0 ++ explicit 5 (generalized_time v.till)
+        ++ optional (λ x. explicit 6 (generalized_time x)) v.rtime.0 ++ explicit 7 (integer v.nonce))
+        ++ (explicit 8 (sequence_of integer v.etype) ++ optional (λ x. explicit 9 (⟦<HostAddresses as DerEncode>⟧.enc x)) v.addresses.0
+        ++ optional (λ x. explicit 10 (⟦<EncryptedData as DerEncode>⟧.enc x)) v.enc_authorization_data.0
+        ++ optional (λ x. explicit 11 (sequence_of ⟦<Ticket as DerEncode>⟧.enc x)) v.additional_tickets.0)) };
 
     ghost is_value = { values_of ⟦<Self as Sequence>⟧ ⟦<<Self as Sequence>::Fields as Fields>⟧ };
 
@@ -127,11 +151,19 @@ impl DerEncode for KdcReqBody {
 
     ghost is_element = { λ v h. tagged_element 48 _ };
 
-    ghost one_value = { one_value_of ⟦<Self as Sequence>⟧ ⟦<<Self as Sequence>::Fields as Fields>⟧ (λ v. refl) ((tt, only_tag 161 _ refl, tt, only_tag 163 _ refl), (only_tag 164 _ refl, tt, only_tag 166 _ refl, tt), (tt, only_tag 169 _ refl, only_tag 170 _ refl, only_tag 171 _ refl)) };
+    ghost one_value = { one_value_of ⟦<Self as Sequence>⟧ ⟦<<Self as Sequence>::Fields as Fields>⟧ (λ v. refl) (
+      (tt, only_tag 161 _ refl, tt, only_tag 163 _ refl),
+      (only_tag 164 _ refl, tt, only_tag 166 _ refl, tt),
+      (tt, only_tag 169 _ refl, only_tag 170 _ refl, only_tag 171 _ refl),
+    ) };
 
     ghost fault = { sequence_fault ⟦<<Self as Sequence>::Fields as Fields>⟧ };
 
-    ghost fault_laws = { sequence_fault_laws ⟦<Self as Sequence>⟧ ⟦<<Self as Sequence>::Fields as Fields>⟧ ((tt, only_tag 161 _ refl, tt, only_tag 163 _ refl), (only_tag 164 _ refl, tt, only_tag 166 _ refl, tt), (tt, only_tag 169 _ refl, only_tag 170 _ refl, only_tag 171 _ refl)) };
+    ghost fault_laws = { sequence_fault_laws ⟦<Self as Sequence>⟧ ⟦<<Self as Sequence>::Fields as Fields>⟧ (
+      (tt, only_tag 161 _ refl, tt, only_tag 163 _ refl),
+      (only_tag 164 _ refl, tt, only_tag 166 _ refl, tt),
+      (tt, only_tag 169 _ refl, only_tag 170 _ refl, only_tag 171 _ refl),
+    ) };
 
     fn starts(octet: u8) -> bool {
         octet == SEQUENCE
@@ -201,7 +233,9 @@ impl Sequence for KdcReq {
 }
 
 impl DerEncode for KdcReq {
-    ghost enc = { λ v. sequence (explicit 1 (integer v.pvno) ++ explicit 2 (integer v.msg_type) ++ optional (λ x. explicit 3 (sequence_of ⟦<PaData as DerEncode>⟧.enc x)) v.padata.0 ++ explicit 4 (⟦<KdcReqBody as DerEncode>⟧.enc v.req_body)) };
+    ghost enc = { λ v. sequence (explicit 1 (integer v.pvno) ++ explicit 2 (integer v.msg_type)
+        ++ optional (λ x. explicit 3 (sequence_of ⟦<PaData as DerEncode>⟧.enc x)) v.padata.0
+        ++ explicit 4 (⟦<KdcReqBody as DerEncode>⟧.enc v.req_body)) };
 
     ghost is_value = { values_of ⟦<Self as Sequence>⟧ ⟦<<Self as Sequence>::Fields as Fields>⟧ };
 

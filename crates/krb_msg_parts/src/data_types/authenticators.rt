@@ -1,4 +1,4 @@
-//! Authenticators, and their answers.
+//! Authenticators, and the replies to them.
 
 ghost use Rattle.std.specs.Prelude.{◌==◌, ◌++◌, refl};
 ghost use Rattle.krb_der.specs.Asn1.{explicit, general_string, generalized_time, integer, sequence};
@@ -77,7 +77,17 @@ impl Sequence for AuthenticatorInner {
 
     ghost fields = { λ v. ((v.authenticator_vno, v.crealm, v.cname, v.cksum, v.cusec, v.ctime), (v.subkey, v.seq_number, v.authorization_data)) };
 
-    ghost with_fields = { λ f. record { authenticator_vno = f.0.0; crealm = f.0.1; cname = f.0.2; cksum = f.0.3; cusec = f.0.4; ctime = f.0.5; subkey = f.1.0; seq_number = f.1.1; authorization_data = f.1.2 } };
+    ghost with_fields = { λ f. record {
+      authenticator_vno = f.0.0;
+      crealm = f.0.1;
+      cname = f.0.2;
+      cksum = f.0.3;
+      cusec = f.0.4;
+      ctime = f.0.5;
+      subkey = f.1.0;
+      seq_number = f.1.1;
+      authorization_data = f.1.2;
+    } };
 
     fn from_fields(
         (
@@ -100,7 +110,13 @@ impl Sequence for AuthenticatorInner {
 }
 
 impl DerEncode for AuthenticatorInner {
-    ghost enc = { λ v. sequence ((explicit 0 (integer v.authenticator_vno) ++ explicit 1 (general_string v.crealm) ++ explicit 2 (⟦<PrincipalName as DerEncode>⟧.enc v.cname) ++ optional (λ x. explicit 3 (⟦<Checksum as DerEncode>⟧.enc x)) v.cksum.0 ++ explicit 4 (integer v.cusec) ++ explicit 5 (generalized_time v.ctime)) ++ (optional (λ x. explicit 6 (⟦<EncryptionKey as DerEncode>⟧.enc x)) v.subkey.0 ++ optional (λ x. explicit 7 (integer x)) v.seq_number.0 ++ optional (λ x. explicit 8 (⟦<AuthorizationData as DerEncode>⟧.enc x)) v.authorization_data.0)) };
+    ghost enc = { λ v. sequence ((explicit 0 (integer v.authenticator_vno) ++ explicit 1 (general_string v.crealm)
+        ++ explicit 2 (⟦<PrincipalName as DerEncode>⟧.enc v.cname)
+        ++ optional (λ x. explicit 3 (⟦<Checksum as DerEncode>⟧.enc x)) v.cksum.0 ++ explicit 4 (integer v.cusec)
+        ++ explicit 5 (generalized_time v.ctime))
+        ++ (optional (λ x. explicit 6 (⟦<EncryptionKey as DerEncode>⟧.enc x)) v.subkey.0
+        ++ optional (λ x. explicit 7 (integer x)) v.seq_number.0
+        ++ optional (λ x. explicit 8 (⟦<AuthorizationData as DerEncode>⟧.enc x)) v.authorization_data.0)) };
 
     ghost is_value = { values_of ⟦<Self as Sequence>⟧ ⟦<<Self as Sequence>::Fields as Fields>⟧ };
 
@@ -108,11 +124,13 @@ impl DerEncode for AuthenticatorInner {
 
     ghost is_element = { λ v h. tagged_element 48 _ };
 
-    ghost one_value = { one_value_of ⟦<Self as Sequence>⟧ ⟦<<Self as Sequence>::Fields as Fields>⟧ (λ v. refl) ((tt, tt, tt, only_tag 163 _ refl, tt, tt), (only_tag 166 _ refl, only_tag 167 _ refl, only_tag 168 _ refl)) };
+    ghost one_value = { one_value_of ⟦<Self as Sequence>⟧ ⟦<<Self as Sequence>::Fields as Fields>⟧ (λ v. refl)
+        ((tt, tt, tt, only_tag 163 _ refl, tt, tt), (only_tag 166 _ refl, only_tag 167 _ refl, only_tag 168 _ refl)) };
 
     ghost fault = { sequence_fault ⟦<<Self as Sequence>::Fields as Fields>⟧ };
 
-    ghost fault_laws = { sequence_fault_laws ⟦<Self as Sequence>⟧ ⟦<<Self as Sequence>::Fields as Fields>⟧ ((tt, tt, tt, only_tag 163 _ refl, tt, tt), (only_tag 166 _ refl, only_tag 167 _ refl, only_tag 168 _ refl)) };
+    ghost fault_laws = { sequence_fault_laws ⟦<Self as Sequence>⟧ ⟦<<Self as Sequence>::Fields as Fields>⟧
+        ((tt, tt, tt, only_tag 163 _ refl, tt, tt), (only_tag 166 _ refl, only_tag 167 _ refl, only_tag 168 _ refl)) };
 
     fn starts(octet: u8) -> bool {
         octet == SEQUENCE
@@ -191,7 +209,9 @@ impl Sequence for EncApRepPartInner {
 }
 
 impl DerEncode for EncApRepPartInner {
-    ghost enc = { λ v. sequence (explicit 0 (generalized_time v.ctime) ++ explicit 1 (integer v.cusec) ++ optional (λ x. explicit 2 (⟦<EncryptionKey as DerEncode>⟧.enc x)) v.subkey.0 ++ optional (λ x. explicit 3 (integer x)) v.seq_number.0) };
+    ghost enc = { λ v. sequence (explicit 0 (generalized_time v.ctime) ++ explicit 1 (integer v.cusec)
+        ++ optional (λ x. explicit 2 (⟦<EncryptionKey as DerEncode>⟧.enc x)) v.subkey.0
+        ++ optional (λ x. explicit 3 (integer x)) v.seq_number.0) };
 
     ghost is_value = { values_of ⟦<Self as Sequence>⟧ ⟦<<Self as Sequence>::Fields as Fields>⟧ };
 
@@ -199,7 +219,8 @@ impl DerEncode for EncApRepPartInner {
 
     ghost is_element = { λ v h. tagged_element 48 _ };
 
-    ghost one_value = { one_value_of ⟦<Self as Sequence>⟧ ⟦<<Self as Sequence>::Fields as Fields>⟧ (λ v. refl) (tt, tt, only_tag 162 _ refl, only_tag 163 _ refl) };
+    ghost one_value = { one_value_of ⟦<Self as Sequence>⟧ ⟦<<Self as Sequence>::Fields as Fields>⟧ (λ v. refl)
+        (tt, tt, only_tag 162 _ refl, only_tag 163 _ refl) };
 
     ghost fault = { sequence_fault ⟦<<Self as Sequence>::Fields as Fields>⟧ };
 

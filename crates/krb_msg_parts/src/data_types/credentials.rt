@@ -86,7 +86,19 @@ impl Sequence for KrbCredInfo {
 
     ghost fields = { λ v. ((v.key, v.prealm, v.pname, v.flags, v.auth_time), (v.start_time, v.end_time, v.renew_till, v.srealm, v.sname, v.caddr)) };
 
-    ghost with_fields = { λ f. record { key = f.0.0; prealm = f.0.1; pname = f.0.2; flags = f.0.3; auth_time = f.0.4; start_time = f.1.0; end_time = f.1.1; renew_till = f.1.2; srealm = f.1.3; sname = f.1.4; caddr = f.1.5 } };
+    ghost with_fields = { λ f. record {
+      key = f.0.0;
+      prealm = f.0.1;
+      pname = f.0.2;
+      flags = f.0.3;
+      auth_time = f.0.4;
+      start_time = f.1.0;
+      end_time = f.1.1;
+      renew_till = f.1.2;
+      srealm = f.1.3;
+      sname = f.1.4;
+      caddr = f.1.5;
+    } };
 
     fn from_fields(
         (
@@ -111,7 +123,15 @@ impl Sequence for KrbCredInfo {
 }
 
 impl DerEncode for KrbCredInfo {
-    ghost enc = { λ v. sequence ((explicit 0 (⟦<EncryptionKey as DerEncode>⟧.enc v.key) ++ optional (λ x. explicit 1 (general_string x)) v.prealm.0 ++ optional (λ x. explicit 2 (⟦<PrincipalName as DerEncode>⟧.enc x)) v.pname.0 ++ optional (λ x. explicit 3 (bit_string x)) v.flags.0 ++ optional (λ x. explicit 4 (generalized_time x)) v.auth_time.0) ++ (optional (λ x. explicit 5 (generalized_time x)) v.start_time.0 ++ optional (λ x. explicit 6 (generalized_time x)) v.end_time.0 ++ optional (λ x. explicit 7 (generalized_time x)) v.renew_till.0 ++ optional (λ x. explicit 8 (general_string x)) v.srealm.0 ++ optional (λ x. explicit 9 (⟦<PrincipalName as DerEncode>⟧.enc x)) v.sname.0 ++ optional (λ x. explicit 10 (⟦<HostAddresses as DerEncode>⟧.enc x)) v.caddr.0)) };
+    ghost enc = { λ v. sequence ((explicit 0 (⟦<EncryptionKey as DerEncode>⟧.enc v.key)
+        ++ optional (λ x. explicit 1 (general_string x)) v.prealm.0
+        ++ optional (λ x. explicit 2 (⟦<PrincipalName as DerEncode>⟧.enc x)) v.pname.0
+        ++ optional (λ x. explicit 3 (bit_string x)) v.flags.0 ++ optional (λ x. explicit 4 (generalized_time x)) v.auth_time.0)
+        ++ (optional (λ x. explicit 5 (generalized_time x)) v.start_time.0
+        ++ optional (λ x. explicit 6 (generalized_time x)) v.end_time.0 ++ optional (λ x. explicit 7 (generalized_time x)) v.renew_till.0
+        ++ optional (λ x. explicit 8 (general_string x)) v.srealm.0
+        ++ optional (λ x. explicit 9 (⟦<PrincipalName as DerEncode>⟧.enc x)) v.sname.0
+        ++ optional (λ x. explicit 10 (⟦<HostAddresses as DerEncode>⟧.enc x)) v.caddr.0)) };
 
     ghost is_value = { values_of ⟦<Self as Sequence>⟧ ⟦<<Self as Sequence>::Fields as Fields>⟧ };
 
@@ -119,11 +139,17 @@ impl DerEncode for KrbCredInfo {
 
     ghost is_element = { λ v h. tagged_element 48 _ };
 
-    ghost one_value = { one_value_of ⟦<Self as Sequence>⟧ ⟦<<Self as Sequence>::Fields as Fields>⟧ (λ v. refl) ((tt, only_tag 161 _ refl, only_tag 162 _ refl, only_tag 163 _ refl, only_tag 164 _ refl), (only_tag 165 _ refl, only_tag 166 _ refl, only_tag 167 _ refl, only_tag 168 _ refl, only_tag 169 _ refl, only_tag 170 _ refl)) };
+    ghost one_value = { one_value_of ⟦<Self as Sequence>⟧ ⟦<<Self as Sequence>::Fields as Fields>⟧ (λ v. refl) (
+      (tt, only_tag 161 _ refl, only_tag 162 _ refl, only_tag 163 _ refl, only_tag 164 _ refl),
+      (only_tag 165 _ refl, only_tag 166 _ refl, only_tag 167 _ refl, only_tag 168 _ refl, only_tag 169 _ refl, only_tag 170 _ refl),
+    ) };
 
     ghost fault = { sequence_fault ⟦<<Self as Sequence>::Fields as Fields>⟧ };
 
-    ghost fault_laws = { sequence_fault_laws ⟦<Self as Sequence>⟧ ⟦<<Self as Sequence>::Fields as Fields>⟧ ((tt, only_tag 161 _ refl, only_tag 162 _ refl, only_tag 163 _ refl, only_tag 164 _ refl), (only_tag 165 _ refl, only_tag 166 _ refl, only_tag 167 _ refl, only_tag 168 _ refl, only_tag 169 _ refl, only_tag 170 _ refl)) };
+    ghost fault_laws = { sequence_fault_laws ⟦<Self as Sequence>⟧ ⟦<<Self as Sequence>::Fields as Fields>⟧ (
+      (tt, only_tag 161 _ refl, only_tag 162 _ refl, only_tag 163 _ refl, only_tag 164 _ refl),
+      (only_tag 165 _ refl, only_tag 166 _ refl, only_tag 167 _ refl, only_tag 168 _ refl, only_tag 169 _ refl, only_tag 170 _ refl),
+    ) };
 
     fn starts(octet: u8) -> bool {
         octet == SEQUENCE
@@ -205,7 +231,11 @@ impl Sequence for EncKrbCredPartInner {
 }
 
 impl DerEncode for EncKrbCredPartInner {
-    ghost enc = { λ v. sequence (explicit 0 (sequence_of ⟦<KrbCredInfo as DerEncode>⟧.enc v.ticket_info) ++ optional (λ x. explicit 1 (integer x)) v.nonce.0 ++ optional (λ x. explicit 2 (generalized_time x)) v.timestamp.0 ++ optional (λ x. explicit 3 (integer x)) v.usec.0 ++ optional (λ x. explicit 4 (⟦<HostAddress as DerEncode>⟧.enc x)) v.s_address.0 ++ optional (λ x. explicit 5 (⟦<HostAddress as DerEncode>⟧.enc x)) v.r_address.0) };
+    ghost enc = { λ v. sequence (explicit 0 (sequence_of ⟦<KrbCredInfo as DerEncode>⟧.enc v.ticket_info)
+        ++ optional (λ x. explicit 1 (integer x)) v.nonce.0 ++ optional (λ x. explicit 2 (generalized_time x)) v.timestamp.0
+        ++ optional (λ x. explicit 3 (integer x)) v.usec.0
+        ++ optional (λ x. explicit 4 (⟦<HostAddress as DerEncode>⟧.enc x)) v.s_address.0
+        ++ optional (λ x. explicit 5 (⟦<HostAddress as DerEncode>⟧.enc x)) v.r_address.0) };
 
     ghost is_value = { values_of ⟦<Self as Sequence>⟧ ⟦<<Self as Sequence>::Fields as Fields>⟧ };
 
@@ -213,11 +243,13 @@ impl DerEncode for EncKrbCredPartInner {
 
     ghost is_element = { λ v h. tagged_element 48 _ };
 
-    ghost one_value = { one_value_of ⟦<Self as Sequence>⟧ ⟦<<Self as Sequence>::Fields as Fields>⟧ (λ v. refl) (tt, only_tag 161 _ refl, only_tag 162 _ refl, only_tag 163 _ refl, only_tag 164 _ refl, only_tag 165 _ refl) };
+    ghost one_value = { one_value_of ⟦<Self as Sequence>⟧ ⟦<<Self as Sequence>::Fields as Fields>⟧ (λ v. refl)
+        (tt, only_tag 161 _ refl, only_tag 162 _ refl, only_tag 163 _ refl, only_tag 164 _ refl, only_tag 165 _ refl) };
 
     ghost fault = { sequence_fault ⟦<<Self as Sequence>::Fields as Fields>⟧ };
 
-    ghost fault_laws = { sequence_fault_laws ⟦<Self as Sequence>⟧ ⟦<<Self as Sequence>::Fields as Fields>⟧ (tt, only_tag 161 _ refl, only_tag 162 _ refl, only_tag 163 _ refl, only_tag 164 _ refl, only_tag 165 _ refl) };
+    ghost fault_laws = { sequence_fault_laws ⟦<Self as Sequence>⟧ ⟦<<Self as Sequence>::Fields as Fields>⟧
+        (tt, only_tag 161 _ refl, only_tag 162 _ refl, only_tag 163 _ refl, only_tag 164 _ refl, only_tag 165 _ refl) };
 
     fn starts(octet: u8) -> bool {
         octet == SEQUENCE

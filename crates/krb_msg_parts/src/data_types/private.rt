@@ -32,7 +32,7 @@ use std::alloc::{AllocError, Global};
 /// ```
 #[derive(Debug, Drop, PartialEq, Eq)]
 pub struct EncKrbPrivPartInner {
-    /// What the sender has to say.
+    /// The data of the sender.
     pub user_data: ExplicitContextTag0<OctetStringAsn1>,
     /// The time of the sender.
     pub timestamp: Optional<Option<ExplicitContextTag1<KerberosTime>>>,
@@ -75,7 +75,10 @@ impl Sequence for EncKrbPrivPartInner {
 }
 
 impl DerEncode for EncKrbPrivPartInner {
-    ghost enc = { λ v. sequence (explicit 0 (octet_string v.user_data) ++ optional (λ x. explicit 1 (generalized_time x)) v.timestamp.0 ++ optional (λ x. explicit 2 (integer x)) v.usec.0 ++ optional (λ x. explicit 3 (integer x)) v.seq_number.0 ++ explicit 4 (⟦<HostAddress as DerEncode>⟧.enc v.s_address) ++ optional (λ x. explicit 5 (⟦<HostAddress as DerEncode>⟧.enc x)) v.r_address.0) };
+    ghost enc = { λ v. sequence (explicit 0 (octet_string v.user_data) ++ optional (λ x. explicit 1 (generalized_time x)) v.timestamp.0
+        ++ optional (λ x. explicit 2 (integer x)) v.usec.0 ++ optional (λ x. explicit 3 (integer x)) v.seq_number.0
+        ++ explicit 4 (⟦<HostAddress as DerEncode>⟧.enc v.s_address)
+        ++ optional (λ x. explicit 5 (⟦<HostAddress as DerEncode>⟧.enc x)) v.r_address.0) };
 
     ghost is_value = { values_of ⟦<Self as Sequence>⟧ ⟦<<Self as Sequence>::Fields as Fields>⟧ };
 
@@ -83,11 +86,13 @@ impl DerEncode for EncKrbPrivPartInner {
 
     ghost is_element = { λ v h. tagged_element 48 _ };
 
-    ghost one_value = { one_value_of ⟦<Self as Sequence>⟧ ⟦<<Self as Sequence>::Fields as Fields>⟧ (λ v. refl) (tt, only_tag 161 _ refl, only_tag 162 _ refl, only_tag 163 _ refl, tt, only_tag 165 _ refl) };
+    ghost one_value = { one_value_of ⟦<Self as Sequence>⟧ ⟦<<Self as Sequence>::Fields as Fields>⟧ (λ v. refl)
+        (tt, only_tag 161 _ refl, only_tag 162 _ refl, only_tag 163 _ refl, tt, only_tag 165 _ refl) };
 
     ghost fault = { sequence_fault ⟦<<Self as Sequence>::Fields as Fields>⟧ };
 
-    ghost fault_laws = { sequence_fault_laws ⟦<Self as Sequence>⟧ ⟦<<Self as Sequence>::Fields as Fields>⟧ (tt, only_tag 161 _ refl, only_tag 162 _ refl, only_tag 163 _ refl, tt, only_tag 165 _ refl) };
+    ghost fault_laws = { sequence_fault_laws ⟦<Self as Sequence>⟧ ⟦<<Self as Sequence>::Fields as Fields>⟧
+        (tt, only_tag 161 _ refl, only_tag 162 _ refl, only_tag 163 _ refl, tt, only_tag 165 _ refl) };
 
     fn starts(octet: u8) -> bool {
         octet == SEQUENCE

@@ -84,9 +84,24 @@ impl Sequence for EncTicketPartInner {
         ),
     );
 
-    ghost fields = { λ v. ((v.flags, v.key, v.crealm, v.cname, v.transited), (v.auth_time, v.starttime, v.endtime, v.renew_till, v.caddr, v.authorization_data)) };
+    ghost fields = { λ v. (
+      (v.flags, v.key, v.crealm, v.cname, v.transited),
+      (v.auth_time, v.starttime, v.endtime, v.renew_till, v.caddr, v.authorization_data),
+    ) };
 
-    ghost with_fields = { λ f. record { flags = f.0.0; key = f.0.1; crealm = f.0.2; cname = f.0.3; transited = f.0.4; auth_time = f.1.0; starttime = f.1.1; endtime = f.1.2; renew_till = f.1.3; caddr = f.1.4; authorization_data = f.1.5 } };
+    ghost with_fields = { λ f. record {
+      flags = f.0.0;
+      key = f.0.1;
+      crealm = f.0.2;
+      cname = f.0.3;
+      transited = f.0.4;
+      auth_time = f.1.0;
+      starttime = f.1.1;
+      endtime = f.1.2;
+      renew_till = f.1.3;
+      caddr = f.1.4;
+      authorization_data = f.1.5;
+    } };
 
     fn from_fields(
         (
@@ -111,7 +126,13 @@ impl Sequence for EncTicketPartInner {
 }
 
 impl DerEncode for EncTicketPartInner {
-    ghost enc = { λ v. sequence ((explicit 0 (bit_string v.flags) ++ explicit 1 (⟦<EncryptionKey as DerEncode>⟧.enc v.key) ++ explicit 2 (general_string v.crealm) ++ explicit 3 (⟦<PrincipalName as DerEncode>⟧.enc v.cname) ++ explicit 4 (⟦<TransitedEncoding as DerEncode>⟧.enc v.transited)) ++ (explicit 5 (generalized_time v.auth_time) ++ optional (λ x. explicit 6 (generalized_time x)) v.starttime.0 ++ explicit 7 (generalized_time v.endtime) ++ optional (λ x. explicit 8 (generalized_time x)) v.renew_till.0 ++ optional (λ x. explicit 9 (⟦<HostAddresses as DerEncode>⟧.enc x)) v.caddr.0 ++ optional (λ x. explicit 10 (⟦<AuthorizationData as DerEncode>⟧.enc x)) v.authorization_data.0)) };
+    ghost enc = { λ v. sequence ((explicit 0 (bit_string v.flags) ++ explicit 1 (⟦<EncryptionKey as DerEncode>⟧.enc v.key)
+        ++ explicit 2 (general_string v.crealm) ++ explicit 3 (⟦<PrincipalName as DerEncode>⟧.enc v.cname)
+        ++ explicit 4 (⟦<TransitedEncoding as DerEncode>⟧.enc v.transited))
+        ++ (explicit 5 (generalized_time v.auth_time) ++ optional (λ x. explicit 6 (generalized_time x)) v.starttime.0
+        ++ explicit 7 (generalized_time v.endtime) ++ optional (λ x. explicit 8 (generalized_time x)) v.renew_till.0
+        ++ optional (λ x. explicit 9 (⟦<HostAddresses as DerEncode>⟧.enc x)) v.caddr.0
+        ++ optional (λ x. explicit 10 (⟦<AuthorizationData as DerEncode>⟧.enc x)) v.authorization_data.0)) };
 
     ghost is_value = { values_of ⟦<Self as Sequence>⟧ ⟦<<Self as Sequence>::Fields as Fields>⟧ };
 
@@ -119,11 +140,13 @@ impl DerEncode for EncTicketPartInner {
 
     ghost is_element = { λ v h. tagged_element 48 _ };
 
-    ghost one_value = { one_value_of ⟦<Self as Sequence>⟧ ⟦<<Self as Sequence>::Fields as Fields>⟧ (λ v. refl) ((tt, tt, tt, tt, tt), (tt, only_tag 166 _ refl, tt, only_tag 168 _ refl, only_tag 169 _ refl, only_tag 170 _ refl)) };
+    ghost one_value = { one_value_of ⟦<Self as Sequence>⟧ ⟦<<Self as Sequence>::Fields as Fields>⟧ (λ v. refl)
+        ((tt, tt, tt, tt, tt), (tt, only_tag 166 _ refl, tt, only_tag 168 _ refl, only_tag 169 _ refl, only_tag 170 _ refl)) };
 
     ghost fault = { sequence_fault ⟦<<Self as Sequence>::Fields as Fields>⟧ };
 
-    ghost fault_laws = { sequence_fault_laws ⟦<Self as Sequence>⟧ ⟦<<Self as Sequence>::Fields as Fields>⟧ ((tt, tt, tt, tt, tt), (tt, only_tag 166 _ refl, tt, only_tag 168 _ refl, only_tag 169 _ refl, only_tag 170 _ refl)) };
+    ghost fault_laws = { sequence_fault_laws ⟦<Self as Sequence>⟧ ⟦<<Self as Sequence>::Fields as Fields>⟧
+        ((tt, tt, tt, tt, tt), (tt, only_tag 166 _ refl, tt, only_tag 168 _ refl, only_tag 169 _ refl, only_tag 170 _ refl)) };
 
     fn starts(octet: u8) -> bool {
         octet == SEQUENCE

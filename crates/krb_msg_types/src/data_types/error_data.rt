@@ -1,4 +1,4 @@
-//! What a KDC tells of a refusal.
+//! The error data of a KDC.
 
 ghost use Rattle.std.specs.Prelude.{◌==◌, ◌++◌, refl};
 ghost use Rattle.krb_der.specs.Asn1.{explicit, integer, octet_string, sequence};
@@ -15,7 +15,7 @@ use krb_der::{
 };
 use std::alloc::{AllocError, Global};
 
-/// What a KDC tells of a refusal beside its code (MS-KILE, 2.2.2).
+/// What a KDC reports of an error beside its code (MS-KILE, 2.2.2).
 ///
 /// ```text
 /// KERB-ERROR-DATA ::= SEQUENCE {

@@ -56,7 +56,8 @@ impl Sequence for EtypeInfo2Entry {
 }
 
 impl DerEncode for EtypeInfo2Entry {
-    ghost enc = { λ v. sequence (explicit 0 (integer v.etype) ++ optional (λ x. explicit 1 (general_string x)) v.salt.0 ++ optional (λ x. explicit 2 (octet_string x)) v.s2kparams.0) };
+    ghost enc = { λ v. sequence (explicit 0 (integer v.etype) ++ optional (λ x. explicit 1 (general_string x)) v.salt.0
+        ++ optional (λ x. explicit 2 (octet_string x)) v.s2kparams.0) };
 
     ghost is_value = { values_of ⟦<Self as Sequence>⟧ ⟦<<Self as Sequence>::Fields as Fields>⟧ };
 

@@ -56,7 +56,9 @@ impl Sequence for ChangePasswdData {
 }
 
 impl DerEncode for ChangePasswdData {
-    ghost enc = { λ v. sequence (explicit 0 (octet_string v.new_passwd) ++ optional (λ x. explicit 1 (⟦<PrincipalName as DerEncode>⟧.enc x)) v.target_name.0 ++ optional (λ x. explicit 2 (general_string x)) v.target_realm.0) };
+    ghost enc = { λ v. sequence (explicit 0 (octet_string v.new_passwd)
+        ++ optional (λ x. explicit 1 (⟦<PrincipalName as DerEncode>⟧.enc x)) v.target_name.0
+        ++ optional (λ x. explicit 2 (general_string x)) v.target_realm.0) };
 
     ghost is_value = { values_of ⟦<Self as Sequence>⟧ ⟦<<Self as Sequence>::Fields as Fields>⟧ };
 

@@ -14,7 +14,7 @@ use krb_der::{
 };
 use std::alloc::{AllocError, Global};
 
-/// A restriction of the client, which stands in authorization data (MS-KILE, 2.2.6).
+/// A restriction of the client, in authorization data (MS-KILE, 2.2.6).
 ///
 /// ```text
 /// KERB-AD-RESTRICTION-ENTRY ::= SEQUENCE {

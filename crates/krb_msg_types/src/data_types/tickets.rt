@@ -127,7 +127,8 @@ impl Sequence for TicketInner {
 }
 
 impl DerEncode for TicketInner {
-    ghost enc = { λ v. sequence (explicit 0 (integer v.tkt_vno) ++ explicit 1 (general_string v.realm) ++ explicit 2 (⟦<PrincipalName as DerEncode>⟧.enc v.sname) ++ explicit 3 (⟦<EncryptedData as DerEncode>⟧.enc v.enc_part)) };
+    ghost enc = { λ v. sequence (explicit 0 (integer v.tkt_vno) ++ explicit 1 (general_string v.realm)
+        ++ explicit 2 (⟦<PrincipalName as DerEncode>⟧.enc v.sname) ++ explicit 3 (⟦<EncryptedData as DerEncode>⟧.enc v.enc_part)) };
 
     ghost is_value = { values_of ⟦<Self as Sequence>⟧ ⟦<<Self as Sequence>::Fields as Fields>⟧ };
 

@@ -1,4 +1,4 @@
-//! Laws over the definitions, of functions that do nothing: each alias names the type that its standard says.
+//! Lemmas about the types of pre-authentication: each alias is the type that its standard names.
 
 ghost use Rattle.std.specs.Prelude.{◌≡◌};
 ghost use Rattle.krb_der.specs.Asn1.{sequence_of};
@@ -19,8 +19,8 @@ pub fn aliases()
     ensures etype_info2 { (v : _) → ⟦<EtypeInfo2 as DerEncode>⟧.enc v ≡ sequence_of ⟦<EtypeInfo2Entry as DerEncode>⟧.enc v }
 {}
 
-/// The first fault of each struct is that of a SEQUENCE of its fields (X.690, 8.9): its tag, then its fields in order, then what is
-/// left over. Its encodings begin with that tag, and with no other octet (X.690, 8.1.2).
+/// The first error of each struct is that of a SEQUENCE of its fields (X.690, 8.9): its tag, then its fields in order, then
+/// trailing octets. Its encodings begin with that tag, and with no other octet (X.690, 8.1.2).
 pub fn faults()
     ensures pa_data { HasFaultsOf ⟦<PaData as DerEncode>⟧.fault ⟦<<PaData as Sequence>::Fields as Fields>⟧ }
     ensures pa_enc_ts_enc { HasFaultsOf ⟦<PaEncTsEnc as DerEncode>⟧.fault ⟦<<PaEncTsEnc as Sequence>::Fields as Fields>⟧ }
@@ -36,7 +36,7 @@ pub fn faults()
     ensures kerb_error_data_tag { HasTag 48 ⟦<KerbErrorData as DerEncode>⟧.first }
 {}
 
-/// `==` on each struct: it answers true for equal values and for no others.
+/// `==` on each struct: it returns true for equal values and for no others.
 pub fn equality()
     ensures pa_data { TellsEqual ⟦<PaData as PartialEq>⟧.eq }
     ensures pa_enc_ts_enc { TellsEqual ⟦<PaEncTsEnc as PartialEq>⟧.eq }
@@ -46,7 +46,7 @@ pub fn equality()
     ensures kerb_error_data { TellsEqual ⟦<KerbErrorData as PartialEq>⟧.eq }
 {}
 
-/// A clone of each struct that has one is the value again.
+/// A clone of each struct that has one equals the value.
 pub fn clones()
     ensures { ClonesValue ⟦<KerbPaPacRequest as Clone>⟧.is_clone }
 {}

@@ -1,4 +1,4 @@
-//! Laws over the definitions, of functions that do nothing.
+//! Lemmas about Diffie-Hellman keys.
 
 ghost use Rattle.krb_der.specs.FieldFaults.{HasFaultsOf};
 ghost use Rattle.krb_der.specs.Equality.{TellsEqual};
@@ -8,8 +8,8 @@ use crate::pkinit::{DhDomainParameters, DhReqInfo, DhReqKeyInfo, ValidationParam
 use krb_der::DerEncode;
 use krb_der::composite::{Fields, Sequence};
 
-/// The first fault of each struct is that of a SEQUENCE of its fields (X.690, 8.9): its tag, then its fields in order, then what is
-/// left over. Its encodings begin with that tag, and with no other octet (X.690, 8.1.2).
+/// The first error of each struct is that of a SEQUENCE of its fields (X.690, 8.9): its tag, then its fields in order, then
+/// trailing octets. Its encodings begin with that tag, and with no other octet (X.690, 8.1.2).
 pub fn faults()
     ensures validation_params { HasFaultsOf ⟦<ValidationParams as DerEncode>⟧.fault ⟦<<ValidationParams as Sequence>::Fields as Fields>⟧ }
     ensures dh_domain_parameters { HasFaultsOf ⟦<DhDomainParameters as DerEncode>⟧.fault ⟦<<DhDomainParameters as Sequence>::Fields as Fields>⟧ }
@@ -21,7 +21,7 @@ pub fn faults()
     ensures dh_req_info_tag { HasTag 48 ⟦<DhReqInfo as DerEncode>⟧.first }
 {}
 
-/// `==` on each struct: it answers true for equal values and for no others.
+/// `==` on each struct: it returns true for equal values and for no others.
 pub fn equality()
     ensures validation_params { TellsEqual ⟦<ValidationParams as PartialEq>⟧.eq }
     ensures dh_domain_parameters { TellsEqual ⟦<DhDomainParameters as PartialEq>⟧.eq }

@@ -1,4 +1,4 @@
-//! Laws over the definitions, of functions that do nothing.
+//! Lemmas about PKU2U.
 
 ghost use Rattle.krb_der.specs.FieldFaults.{HasFaultsOf};
 ghost use Rattle.krb_der.specs.Equality.{TellsEqual};
@@ -9,8 +9,8 @@ use krb_der::DerEncode;
 use krb_der::composite::{Fields, Sequence};
 use krb_msg_types::laws::equality as shared_equality;
 
-/// The first fault of each struct is that of a SEQUENCE of its fields (X.690, 8.9): its tag, then its fields in order, then what is
-/// left over. Its encodings begin with that tag, and with no other octet (X.690, 8.1.2).
+/// The first error of each struct is that of a SEQUENCE of its fields (X.690, 8.9): its tag, then its fields in order, then
+/// trailing octets. Its encodings begin with that tag, and with no other octet (X.690, 8.1.2).
 pub fn faults()
     ensures pku2u_nego_req_metadata { HasFaultsOf ⟦<Pku2uNegoReqMetadata as DerEncode>⟧.fault ⟦<<Pku2uNegoReqMetadata as Sequence>::Fields as Fields>⟧ }
     ensures pku2u_nego_body { HasFaultsOf ⟦<Pku2uNegoBody as DerEncode>⟧.fault ⟦<<Pku2uNegoBody as Sequence>::Fields as Fields>⟧ }
@@ -24,7 +24,7 @@ pub fn faults()
     ensures krb_finished_tag { HasTag 48 ⟦<KrbFinished as DerEncode>⟧.first }
 {}
 
-/// `==` on each struct: it answers true for equal values and for no others.
+/// `==` on each struct: it returns true for equal values and for no others.
 pub fn equality()
     ensures pku2u_nego_req_metadata { TellsEqual ⟦<Pku2uNegoReqMetadata as PartialEq>⟧.eq }
     ensures pku2u_nego_body { TellsEqual ⟦<Pku2uNegoBody as PartialEq>⟧.eq }

@@ -1,4 +1,4 @@
-//! What a KDC answers a client with a certificate.
+//! The reply of a KDC to a client with a certificate.
 
 ghost use Rattle.std.specs.Prelude.{◌==◌, ◌||◌};
 ghost use Rattle.krb_der.specs.Asn1.{explicit};
@@ -18,7 +18,7 @@ const DH_INFO: u8 = 0xa0;
 /// The first octet of `EncKeyPack`: the implicit context tag 1 of an OCTET STRING.
 const ENC_KEY_PACK: u8 = 0x81;
 
-/// What a KDC answers a client with a certificate (RFC 4556, 3.2.3).
+/// The reply of a KDC to a client with a certificate (RFC 4556, 3.2.3).
 ///
 /// ```text
 /// PA-PK-AS-REP ::= CHOICE {
@@ -27,7 +27,7 @@ const ENC_KEY_PACK: u8 = 0x81;
 /// }
 /// ```
 ///
-/// The first octet, `a0` or `81`, tells them apart: another is `InvalidData`.
+/// The first octet, `a0` or `81`, distinguishes them: any other is `InvalidData`.
 #[derive(Debug, Drop, PartialEq, Eq)]
 pub enum PaPkAsRep {
     /// The public key of the KDC, where a key is agreed on.
@@ -39,17 +39,20 @@ pub enum PaPkAsRep {
 impl DerEncode for PaPkAsRep {
     ghost enc = { λ m. choice (λ v. explicit 0 (⟦<DhRepInfo as DerEncode>⟧.enc v)) (λ v. implicit 1 v) (held m) };
 
-    ghost is_value = { λ m. IsChoice ⟦<ExplicitContextTag0<DhRepInfo> as DerEncode>⟧.is_value ⟦<ImplicitContextTag1<OctetStringAsn1> as DerEncode>⟧.is_value (held m) };
+    ghost is_value = { λ m. IsChoice ⟦<ExplicitContextTag0<DhRepInfo> as DerEncode>⟧.is_value
+        ⟦<ImplicitContextTag1<OctetStringAsn1> as DerEncode>⟧.is_value (held m) };
 
     ghost first = { λ t. t == 160 || t == 129 };
 
     ghost is_element = { λ v h. choice_element 160 129 _ _ (held v) };
 
-    ghost one_value = { choice_one_value 160 129 _ _ tags_apart _ _ ⟦<ExplicitContextTag0<DhRepInfo> as DerEncode>⟧.one_value ⟦<ImplicitContextTag1<OctetStringAsn1> as DerEncode>⟧.one_value held held_decides };
+    ghost one_value = { choice_one_value 160 129 _ _ tags_apart _ _ ⟦<ExplicitContextTag0<DhRepInfo> as DerEncode>⟧.one_value
+        ⟦<ImplicitContextTag1<OctetStringAsn1> as DerEncode>⟧.one_value held held_decides };
 
     ghost fault = { ChoiceFault 160 129 ⟦<ExplicitContextTag0<DhRepInfo> as DerEncode>⟧.fault ⟦<ImplicitContextTag1<OctetStringAsn1> as DerEncode>⟧.fault };
 
-    ghost fault_laws = { choice_fault_laws 160 129 _ _ tags_apart _ _ _ _ ⟦<ExplicitContextTag0<DhRepInfo> as DerEncode>⟧.fault_laws ⟦<ImplicitContextTag1<OctetStringAsn1> as DerEncode>⟧.fault_laws held };
+    ghost fault_laws = { choice_fault_laws 160 129 _ _ tags_apart _ _ _ _ ⟦<ExplicitContextTag0<DhRepInfo> as DerEncode>⟧.fault_laws
+        ⟦<ImplicitContextTag1<OctetStringAsn1> as DerEncode>⟧.fault_laws held };
 
     fn starts(octet: u8) -> bool {
         octet == DH_INFO || octet == ENC_KEY_PACK

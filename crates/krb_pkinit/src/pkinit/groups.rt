@@ -16,7 +16,8 @@ use krb_der_x509::ObjectIdentifierAsn1;
 use krb_der_x509::untagged::{Field, FieldRef};
 use std::alloc::{AllocError, Global};
 
-/// The group of a Diffie-Hellman key (RFC 3279, 2.3.3). An optional field is told by its first octet from what follows it.
+/// The group of a Diffie-Hellman key (RFC 3279, 2.3.3). The first octet of an optional field
+/// distinguishes it from what follows.
 ///
 /// ```text
 /// DomainParameters ::= SEQUENCE {
@@ -37,7 +38,7 @@ pub struct DhDomainParameters {
     pub q: IntegerAsn1,
     /// The factor of the subgroup.
     pub j: Optional<Option<IntegerAsn1>>,
-    /// What the group was made of.
+    /// How the group was generated.
     pub validation_params: Optional<Option<ValidationParams>>,
 }
 
@@ -66,7 +67,8 @@ impl Sequence for DhDomainParameters {
 }
 
 impl DerEncode for DhDomainParameters {
-    ghost enc = { λ v. sequence (integer v.p ++ integer v.g ++ integer v.q ++ optional (λ x. integer x) v.j.0 ++ optional (λ x. ⟦<ValidationParams as DerEncode>⟧.enc x) v.validation_params.0) };
+    ghost enc = { λ v. sequence (integer v.p ++ integer v.g ++ integer v.q ++ optional (λ x. integer x) v.j.0
+        ++ optional (λ x. ⟦<ValidationParams as DerEncode>⟧.enc x) v.validation_params.0) };
 
     ghost is_value = { values_of ⟦<Self as Sequence>⟧ ⟦<<Self as Sequence>::Fields as Fields>⟧ };
 
@@ -74,11 +76,13 @@ impl DerEncode for DhDomainParameters {
 
     ghost is_element = { λ v h. tagged_element 48 _ };
 
-    ghost one_value = { one_value_of ⟦<Self as Sequence>⟧ ⟦<<Self as Sequence>::Fields as Fields>⟧ (λ v. refl) (tt, tt, tt, only_tag 2 _ refl, only_tag 48 _ refl) };
+    ghost one_value = { one_value_of ⟦<Self as Sequence>⟧ ⟦<<Self as Sequence>::Fields as Fields>⟧ (λ v. refl)
+        (tt, tt, tt, only_tag 2 _ refl, only_tag 48 _ refl) };
 
     ghost fault = { sequence_fault ⟦<<Self as Sequence>::Fields as Fields>⟧ };
 
-    ghost fault_laws = { sequence_fault_laws ⟦<Self as Sequence>⟧ ⟦<<Self as Sequence>::Fields as Fields>⟧ (tt, tt, tt, only_tag 2 _ refl, only_tag 48 _ refl) };
+    ghost fault_laws = { sequence_fault_laws ⟦<Self as Sequence>⟧ ⟦<<Self as Sequence>::Fields as Fields>⟧
+        (tt, tt, tt, only_tag 2 _ refl, only_tag 48 _ refl) };
 
     fn starts(octet: u8) -> bool {
         octet == SEQUENCE

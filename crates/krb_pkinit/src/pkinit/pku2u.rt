@@ -78,7 +78,7 @@ impl DerSequence for Pku2uNegoReqMetadata {
     ghost is_sequence = { λ v. (_, refl) };
 }
 
-/// Whom a client of PKU2U speaks to.
+/// The target of a client of PKU2U.
 ///
 /// Windows sends it. No published standard has its text; the fields are those of the original.
 ///
@@ -179,7 +179,8 @@ impl Sequence for Pku2uNegoReq {
 }
 
 impl DerEncode for Pku2uNegoReq {
-    ghost enc = { λ v. sequence (explicit 0 (sequence_of ⟦<Pku2uNegoReqMetadata as DerEncode>⟧.enc v.metadata) ++ explicit 1 (⟦<Pku2uNegoBody as DerEncode>⟧.enc v.body)) };
+    ghost enc = { λ v. sequence (explicit 0 (sequence_of ⟦<Pku2uNegoReqMetadata as DerEncode>⟧.enc v.metadata)
+        ++ explicit 1 (⟦<Pku2uNegoBody as DerEncode>⟧.enc v.body)) };
 
     ghost is_value = { values_of ⟦<Self as Sequence>⟧ ⟦<<Self as Sequence>::Fields as Fields>⟧ };
 
@@ -212,7 +213,7 @@ impl DerSequence for Pku2uNegoReq {
     ghost is_sequence = { λ v. (_, refl) };
 }
 
-/// The metadata that a server of PKU2U answers in NEGOEX.
+/// The metadata that a server of PKU2U returns in NEGOEX.
 ///
 /// Windows sends it. No published standard has its text; the fields are those of the original.
 ///

@@ -1,4 +1,4 @@
-//! What a KDC answers a client with a certificate.
+//! Parts of the reply of a KDC to a client with a certificate.
 
 ghost use Rattle.std.specs.Prelude.{◌==◌, ◌++◌, refl};
 ghost use Rattle.krb_der.specs.Asn1.{bit_string, explicit, generalized_time, integer, octet_string, sequence};
@@ -131,7 +131,8 @@ impl Sequence for KdcDhKeyInfo {
 }
 
 impl DerEncode for KdcDhKeyInfo {
-    ghost enc = { λ v. sequence (explicit 0 (bit_string v.subject_public_key) ++ explicit 1 (integer v.nonce) ++ optional (λ x. explicit 2 (generalized_time x)) v.dh_key_expiration.0) };
+    ghost enc = { λ v. sequence (explicit 0 (bit_string v.subject_public_key) ++ explicit 1 (integer v.nonce)
+        ++ optional (λ x. explicit 2 (generalized_time x)) v.dh_key_expiration.0) };
 
     ghost is_value = { values_of ⟦<Self as Sequence>⟧ ⟦<<Self as Sequence>::Fields as Fields>⟧ };
 

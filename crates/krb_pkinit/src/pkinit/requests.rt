@@ -66,7 +66,8 @@ impl Sequence for ExternalPrincipalIdentifier {
 }
 
 impl DerEncode for ExternalPrincipalIdentifier {
-    ghost enc = { λ v. sequence (optional (λ x. implicit 0 x) v.subject_name.0 ++ optional (λ x. implicit 1 x) v.issuer_and_serial_number.0 ++ optional (λ x. implicit 2 x) v.subject_key_identifier.0) };
+    ghost enc = { λ v. sequence (optional (λ x. implicit 0 x) v.subject_name.0
+        ++ optional (λ x. implicit 1 x) v.issuer_and_serial_number.0 ++ optional (λ x. implicit 2 x) v.subject_key_identifier.0) };
 
     ghost is_value = { values_of ⟦<Self as Sequence>⟧ ⟦<<Self as Sequence>::Fields as Fields>⟧ };
 
@@ -74,11 +75,13 @@ impl DerEncode for ExternalPrincipalIdentifier {
 
     ghost is_element = { λ v h. tagged_element 48 _ };
 
-    ghost one_value = { one_value_of ⟦<Self as Sequence>⟧ ⟦<<Self as Sequence>::Fields as Fields>⟧ (λ v. refl) (only_tag 128 _ refl, only_tag 129 _ refl, only_tag 130 _ refl) };
+    ghost one_value = { one_value_of ⟦<Self as Sequence>⟧ ⟦<<Self as Sequence>::Fields as Fields>⟧ (λ v. refl)
+        (only_tag 128 _ refl, only_tag 129 _ refl, only_tag 130 _ refl) };
 
     ghost fault = { sequence_fault ⟦<<Self as Sequence>::Fields as Fields>⟧ };
 
-    ghost fault_laws = { sequence_fault_laws ⟦<Self as Sequence>⟧ ⟦<<Self as Sequence>::Fields as Fields>⟧ (only_tag 128 _ refl, only_tag 129 _ refl, only_tag 130 _ refl) };
+    ghost fault_laws = { sequence_fault_laws ⟦<Self as Sequence>⟧ ⟦<<Self as Sequence>::Fields as Fields>⟧
+        (only_tag 128 _ refl, only_tag 129 _ refl, only_tag 130 _ refl) };
 
     fn starts(octet: u8) -> bool {
         octet == SEQUENCE
@@ -145,7 +148,9 @@ impl Sequence for PaPkAsReq {
 }
 
 impl DerEncode for PaPkAsReq {
-    ghost enc = { λ v. sequence (implicit 0 v.signed_auth_pack ++ optional (λ x. explicit 1 (sequence_of ⟦<ExternalPrincipalIdentifier as DerEncode>⟧.enc x)) v.trusted_certifiers.0 ++ optional (λ x. implicit 2 x) v.kdc_pk_id.0) };
+    ghost enc = { λ v. sequence (implicit 0 v.signed_auth_pack
+        ++ optional (λ x. explicit 1 (sequence_of ⟦<ExternalPrincipalIdentifier as DerEncode>⟧.enc x)) v.trusted_certifiers.0
+        ++ optional (λ x. implicit 2 x) v.kdc_pk_id.0) };
 
     ghost is_value = { values_of ⟦<Self as Sequence>⟧ ⟦<<Self as Sequence>::Fields as Fields>⟧ };
 
@@ -198,7 +203,7 @@ pub struct PkAuthenticator {
     pub cusec: ExplicitContextTag0<IntegerAsn1>,
     /// The time of the client.
     pub ctime: ExplicitContextTag1<KerberosTime>,
-    /// A number that the answer is to repeat.
+    /// A number that the reply is to repeat.
     pub nonce: ExplicitContextTag2<IntegerAsn1>,
     /// The SHA-1 digest of the KDC-REQ-BODY.
     pub pa_checksum: Optional<Option<ExplicitContextTag3<OctetStringAsn1>>>,
@@ -227,7 +232,8 @@ impl Sequence for PkAuthenticator {
 }
 
 impl DerEncode for PkAuthenticator {
-    ghost enc = { λ v. sequence (explicit 0 (integer v.cusec) ++ explicit 1 (generalized_time v.ctime) ++ explicit 2 (integer v.nonce) ++ optional (λ x. explicit 3 (octet_string x)) v.pa_checksum.0) };
+    ghost enc = { λ v. sequence (explicit 0 (integer v.cusec) ++ explicit 1 (generalized_time v.ctime) ++ explicit 2 (integer v.nonce)
+        ++ optional (λ x. explicit 3 (octet_string x)) v.pa_checksum.0) };
 
     ghost is_value = { values_of ⟦<Self as Sequence>⟧ ⟦<<Self as Sequence>::Fields as Fields>⟧ };
 
@@ -313,7 +319,10 @@ impl<C: Der + Drop> Sequence for AuthPack<C> {
 }
 
 impl<C: Der + Drop> DerEncode for AuthPack<C> {
-    ghost enc = { λ v. sequence (explicit 0 (⟦<PkAuthenticator as DerEncode>⟧.enc v.pk_authenticator) ++ optional (λ x. explicit 1 (C.enc x)) v.client_public_value.0 ++ optional (λ x. explicit 2 (sequence_of ⟦<AlgorithmIdentifier as DerEncode>⟧.enc x)) v.supported_cms_types.0 ++ optional (λ x. explicit 3 (octet_string x)) v.client_dh_nonce.0) };
+    ghost enc = { λ v. sequence (explicit 0 (⟦<PkAuthenticator as DerEncode>⟧.enc v.pk_authenticator)
+        ++ optional (λ x. explicit 1 (C.enc x)) v.client_public_value.0
+        ++ optional (λ x. explicit 2 (sequence_of ⟦<AlgorithmIdentifier as DerEncode>⟧.enc x)) v.supported_cms_types.0
+        ++ optional (λ x. explicit 3 (octet_string x)) v.client_dh_nonce.0) };
 
     ghost is_value = { values_of ⟦<Self as Sequence>⟧ ⟦<<Self as Sequence>::Fields as Fields>⟧ };
 
@@ -321,11 +330,13 @@ impl<C: Der + Drop> DerEncode for AuthPack<C> {
 
     ghost is_element = { λ v h. tagged_element 48 _ };
 
-    ghost one_value = { one_value_of ⟦<Self as Sequence>⟧ ⟦<<Self as Sequence>::Fields as Fields>⟧ (λ v. refl) (tt, only_tag 161 _ refl, only_tag 162 _ refl, only_tag 163 _ refl) };
+    ghost one_value = { one_value_of ⟦<Self as Sequence>⟧ ⟦<<Self as Sequence>::Fields as Fields>⟧ (λ v. refl)
+        (tt, only_tag 161 _ refl, only_tag 162 _ refl, only_tag 163 _ refl) };
 
     ghost fault = { sequence_fault ⟦<<Self as Sequence>::Fields as Fields>⟧ };
 
-    ghost fault_laws = { sequence_fault_laws ⟦<Self as Sequence>⟧ ⟦<<Self as Sequence>::Fields as Fields>⟧ (tt, only_tag 161 _ refl, only_tag 162 _ refl, only_tag 163 _ refl) };
+    ghost fault_laws = { sequence_fault_laws ⟦<Self as Sequence>⟧ ⟦<<Self as Sequence>::Fields as Fields>⟧
+        (tt, only_tag 161 _ refl, only_tag 162 _ refl, only_tag 163 _ refl) };
 
     fn starts(octet: u8) -> bool {
         octet == SEQUENCE

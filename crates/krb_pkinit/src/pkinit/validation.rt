@@ -1,4 +1,4 @@
-//! What a Diffie-Hellman group was made of.
+//! How a Diffie-Hellman group was generated.
 
 ghost use Rattle.std.specs.Prelude.{◌≡◌, ◌==◌, ◌++◌, ℤ, refl};
 ghost use Rattle.krb_der.specs.Asn1.{bit_string, integer, sequence};
@@ -14,7 +14,7 @@ use krb_der_x509::untagged::{Field, FieldRef};
 use std::alloc::{AllocError, Global};
 use std::marker::Model;
 
-/// What a Diffie-Hellman group was made of, by which its making can be checked (RFC 3279, 2.3.3).
+/// How a Diffie-Hellman group was generated, so that its generation can be validated (RFC 3279, 2.3.3).
 ///
 /// ```text
 /// ValidationParms ::= SEQUENCE {
@@ -49,7 +49,7 @@ impl ValidationParams {
         }
     }
 
-    /// The seed that the primes were made of.
+    /// The seed from which the primes were generated.
     pub fn seed(&self) -> &BitStringAsn1
         ensures { result.now ≡ self.now.0 }
     {

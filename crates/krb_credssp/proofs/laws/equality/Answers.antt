@@ -14,13 +14,18 @@ returns-clause-ts_password_creds c =
 
 pub returns-clause-ts_csp_data_detail : goal.returns-clause-ts_csp_data_detail
 returns-clause-ts_csp_data_detail c =
-    parts_tell (λ v. (v.key_spec, (v.card_name, (v.reader_name, (v.container_name, v.csp_name))))) (λ p. record { key_spec = p.0; card_name = p.1.0; reader_name = p.1.1.0; container_name = p.1.1.1.0; csp_name = p.1.1.1.1 }) (λ v. refl)
-    (pair_tells (tag_tells integers_tell) (pair_tells (optional_tells (tag_tells octets_tell)) (pair_tells (optional_tells (tag_tells octets_tell)) (pair_tells (optional_tells (tag_tells octets_tell)) (optional_tells (tag_tells octets_tell))))))
+    parts_tell (λ v. (v.key_spec, (v.card_name, (v.reader_name, (v.container_name, v.csp_name))))) (λ p. record { key_spec = p.0;
+        card_name = p.1.0; reader_name = p.1.1.0; container_name = p.1.1.1.0; csp_name = p.1.1.1.1 }) (λ v. refl)
+    (pair_tells (tag_tells integers_tell) (pair_tells (optional_tells (tag_tells octets_tell))
+        (pair_tells (optional_tells (tag_tells octets_tell))
+        (pair_tells (optional_tells (tag_tells octets_tell)) (optional_tells (tag_tells octets_tell))))))
 
 pub returns-clause-ts_smart_card_creds : goal.returns-clause-ts_smart_card_creds
 returns-clause-ts_smart_card_creds c =
-    parts_tell (λ v. (v.pin, (v.csp_data, (v.user_hint, v.domain_hint)))) (λ p. record { pin = p.0; csp_data = p.1.0; user_hint = p.1.1.0; domain_hint = p.1.1.1 }) (λ v. refl)
-    (pair_tells (tag_tells octets_tell) (pair_tells (tag_tells (returns-clause-ts_csp_data_detail c)) (pair_tells (optional_tells (tag_tells octets_tell)) (optional_tells (tag_tells octets_tell)))))
+    parts_tell (λ v. (v.pin, (v.csp_data, (v.user_hint, v.domain_hint)))) (λ p. record { pin = p.0; csp_data = p.1.0;
+        user_hint = p.1.1.0; domain_hint = p.1.1.1 }) (λ v. refl)
+    (pair_tells (tag_tells octets_tell) (pair_tells (tag_tells (returns-clause-ts_csp_data_detail c))
+        (pair_tells (optional_tells (tag_tells octets_tell)) (optional_tells (tag_tells octets_tell)))))
 
 pub returns-clause-ts_remote_guard_package_cred : goal.returns-clause-ts_remote_guard_package_cred
 returns-clause-ts_remote_guard_package_cred c =

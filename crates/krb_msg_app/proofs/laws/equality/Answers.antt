@@ -4,8 +4,10 @@ use Rattle.krb_msg_app.proofs.laws.equality.Goals as goal
 
 pub returns-clause-ap_req : goal.returns-clause-ap_req
 returns-clause-ap_req c =
-    parts_tell (λ v. (v.pvno, (v.msg_type, (v.ap_options, (v.ticket, v.authenticator))))) (λ p. record { pvno = p.0; msg_type = p.1.0; ap_options = p.1.1.0; ticket = p.1.1.1.0; authenticator = p.1.1.1.1 }) (λ v. refl)
-    (pair_tells (tag_tells integers_tell) (pair_tells (tag_tells integers_tell) (pair_tells (tag_tells bits_tell) (pair_tells (tag_tells c.equality.ensures.ticket) (tag_tells c.equality.ensures.encrypted_data)))))
+    parts_tell (λ v. (v.pvno, (v.msg_type, (v.ap_options, (v.ticket, v.authenticator))))) (λ p. record { pvno = p.0;
+        msg_type = p.1.0; ap_options = p.1.1.0; ticket = p.1.1.1.0; authenticator = p.1.1.1.1 }) (λ v. refl)
+    (pair_tells (tag_tells integers_tell) (pair_tells (tag_tells integers_tell) (pair_tells (tag_tells bits_tell)
+        (pair_tells (tag_tells c.equality.ensures.ticket) (tag_tells c.equality.ensures.encrypted_data)))))
 
 pub returns-clause-ap_rep : goal.returns-clause-ap_rep
 returns-clause-ap_rep c =
@@ -14,8 +16,10 @@ returns-clause-ap_rep c =
 
 pub returns-clause-krb_cred : goal.returns-clause-krb_cred
 returns-clause-krb_cred c =
-    parts_tell (λ v. (v.pvno, (v.msg_type, (v.tickets, v.enc_part)))) (λ p. record { pvno = p.0; msg_type = p.1.0; tickets = p.1.1.0; enc_part = p.1.1.1 }) (λ v. refl)
-    (pair_tells (tag_tells integers_tell) (pair_tells (tag_tells integers_tell) (pair_tells (tag_tells (list_tells c.equality.ensures.ticket)) (tag_tells c.equality.ensures.encrypted_data))))
+    parts_tell (λ v. (v.pvno, (v.msg_type, (v.tickets, v.enc_part)))) (λ p. record { pvno = p.0; msg_type = p.1.0;
+        tickets = p.1.1.0; enc_part = p.1.1.1 }) (λ v. refl)
+    (pair_tells (tag_tells integers_tell) (pair_tells (tag_tells integers_tell)
+        (pair_tells (tag_tells (list_tells c.equality.ensures.ticket)) (tag_tells c.equality.ensures.encrypted_data))))
 
 pub returns-clause-krb_priv : goal.returns-clause-krb_priv
 returns-clause-krb_priv c =

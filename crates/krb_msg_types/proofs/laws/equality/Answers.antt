@@ -49,8 +49,10 @@ returns-clause-change_passwd_data c =
 
 pub returns-clause-ticket : goal.returns-clause-ticket
 returns-clause-ticket c =
-    parts_tell (λ v. (v.tkt_vno, (v.realm, (v.sname, v.enc_part)))) (λ p. record { tkt_vno = p.0; realm = p.1.0; sname = p.1.1.0; enc_part = p.1.1.1 }) (λ v. refl)
-    (pair_tells (tag_tells integers_tell) (pair_tells (tag_tells octets_tell) (pair_tells (tag_tells (returns-clause-principal_name c)) (tag_tells (returns-clause-encrypted_data c)))))
+    parts_tell (λ v. (v.tkt_vno, (v.realm, (v.sname, v.enc_part)))) (λ p. record { tkt_vno = p.0; realm = p.1.0; sname = p.1.1.0;
+        enc_part = p.1.1.1 }) (λ v. refl)
+    (pair_tells (tag_tells integers_tell) (pair_tells (tag_tells octets_tell)
+        (pair_tells (tag_tells (returns-clause-principal_name c)) (tag_tells (returns-clause-encrypted_data c)))))
 
 pub returns-clause-transited_encoding : goal.returns-clause-transited_encoding
 returns-clause-transited_encoding c =

@@ -7,8 +7,10 @@ returns-clause-validation_params c = pair_tells bits_tell integers_tell
 
 pub returns-clause-dh_domain_parameters : goal.returns-clause-dh_domain_parameters
 returns-clause-dh_domain_parameters c =
-    parts_tell (λ v. (v.p, (v.g, (v.q, (v.j, v.validation_params))))) (λ p. record { p = p.0; g = p.1.0; q = p.1.1.0; j = p.1.1.1.0; validation_params = p.1.1.1.1 }) (λ v. refl)
-    (pair_tells (integers_tell) (pair_tells (integers_tell) (pair_tells (integers_tell) (pair_tells (optional_tells integers_tell) (optional_tells (returns-clause-validation_params c))))))
+    parts_tell (λ v. (v.p, (v.g, (v.q, (v.j, v.validation_params))))) (λ p. record { p = p.0; g = p.1.0; q = p.1.1.0; j = p.1.1.1.0;
+        validation_params = p.1.1.1.1 }) (λ v. refl)
+    (pair_tells (integers_tell) (pair_tells (integers_tell) (pair_tells (integers_tell)
+        (pair_tells (optional_tells integers_tell) (optional_tells (returns-clause-validation_params c))))))
 
 pub returns-clause-dh_req_key_info : goal.returns-clause-dh_req_key_info
 returns-clause-dh_req_key_info c =
