@@ -10,33 +10,12 @@ ghost use Rattle.krb_der.specs.Streaming.{Gathers, IsFault, IsShort, ReaderFault
 
 use crate::whole::to_vec;
 use krb_der_core::{Asn1DerError, Der, DerEncode, read_length};
+use krb_io::read_once;
 use std::alloc::Global;
-use std::io;
-use std::io::{ErrorKind, Read, Write};
+use std::io::{Read, Write};
 
 /// The most octets that are asked of a reader at once.
 const MOST_AT_ONCE: usize = 512;
-
-/// One read, tried again where a signal interrupts it.
-fn read_once<R: Read>(reader: &mut R, buffer: &mut [u8]) -> Result<usize, Asn1DerError>
-    ensures within { IfOk result (λ n. n ≤ length buffer.new) }
-    ensures room { length buffer.new ≡ length buffer.old }
-    ensures octets { IfOk result (λ n. Consumes (R.remaining reader.old) (R.remaining reader.new) (take n buffer.new)) }
-    ensures end { IfOk result (λ n. n ≡ 0 → 0 < length buffer.old → IsAtEnd (R.remaining reader.new)) }
-    ensures err { IfErr result IsFault }
-{
-    for _ in 0..u64::MAX {
-        match reader.read(buffer) {
-            Ok(n) => return Ok(n),
-            Err(fault) => {
-                if fault.kind() != ErrorKind::Interrupted {
-                    return Err(Asn1DerError::Io(fault));
-                }
-            }
-        }
-    }
-    Err(Asn1DerError::Io(io::Error::from(ErrorKind::Interrupted)))
-}
 
 /// Appends the octets of one read, at most `wanted`, and answers how many: none only where the reader is at its end.
 fn gather_some<R: Read>(
@@ -51,7 +30,10 @@ fn gather_some<R: Read>(
 {
     let mut octets = [0u8; MOST_AT_ONCE];
     let buffer = &mut octets[..wanted.min(MOST_AT_ONCE)];
-    let n = read_once(reader, buffer)?;
+    let n = match read_once(reader, buffer) {
+        Ok(n) => n,
+        Err(error) => return Err(Asn1DerError::Io(error)),
+    };
     out.extend_from_slice(&buffer[..n])?;
     Ok(n)
 }

@@ -9,9 +9,9 @@ ghost use Rattle.krb_gss_tokens.specs.Octets.{octets_of};
 ghost use Rattle.krb_gss_tokens.specs.Refused.{IsFault, IsIo};
 
 use crate::error::GssApiMessageError;
+use krb_io::{ReadError, read_to_end};
 use std::alloc::Global;
-use std::io;
-use std::io::{ErrorKind, Read};
+use std::io::Read;
 
 /// The number that two octets are, the greater first.
 fn big_u16(octets: [u8; 2]) -> u16
@@ -55,20 +55,11 @@ pub(crate) fn read_rest<R: Read>(
     ensures all { IfOk result (λ rest. IfSome (R.remaining reader.old) (λ left. rest.items ≡ left)) }
     ensures fault { IfErr result IsFault }
 {
-    let mut rest = Vec::new(alloc);
-    let mut part = [0u8; 64];
-    'parts: for _ in 0..u64::MAX {
-        match reader.read(&mut part) {
-            Ok(0) => return Ok(rest),
-            Ok(n) => rest.extend_from_slice(&part[..n])?,
-            Err(fault) => {
-                if fault.kind() != ErrorKind::Interrupted {
-                    return Err(GssApiMessageError::IoError(fault));
-                }
-            }
-        }
+    match read_to_end(alloc, reader) {
+        Ok(rest) => Ok(rest),
+        Err(ReadError::Io(error)) => Err(GssApiMessageError::IoError(error)),
+        Err(ReadError::OutOfMemory) => Err(GssApiMessageError::OutOfMemory),
     }
-    Err(GssApiMessageError::IoError(io::Error::from(ErrorKind::Interrupted)))
 }
 
 /// A copy of a payload, where there is one.

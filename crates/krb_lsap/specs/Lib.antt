@@ -1,2 +1,1 @@
 pub mod TokenInfo
-pub mod Transfer

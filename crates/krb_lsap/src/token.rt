@@ -1,15 +1,14 @@
 //! The integrity level and the machine of a caller.
 
-ghost use Rattle.std.specs.Prelude.{◌≡◌, ◌≢◌, ◌++◌, List, ℕ, Some, IfOk, IfErr, OnOk, OnErr};
+ghost use Rattle.std.specs.Prelude.{◌≡◌, ◌++◌, List, ℕ, Some, IfOk, IfErr, OnOk, OnErr};
 ghost use Rattle.std.specs.Io.KnownBytes.{Appends, Consumes};
-ghost use Rattle.std.specs.IoError.{error_kind};
 ghost use Rattle.std.specs.Int.{to_le_bytes, w32};
+ghost use Rattle.krb_io.specs.Transfer.{IsNotInterrupted, IsPrefixWritten, IsShortRead};
 ghost use Rattle.krb_lsap.specs.TokenInfo.{IsTokenInfo, lsap_token_info};
-ghost use Rattle.krb_lsap.specs.Transfer.{GivesFront, TakesFewer};
 
-use crate::transfer::{give_all, take_all};
+use krb_io::{read_exact, write_all};
 use std::io;
-use std::io::{ErrorKind, Read, Write};
+use std::io::{Read, Write};
 
 /// How many octets the identifier of a machine has (MS-KILE, 2.2.5).
 pub const MACHINE_ID_LENGTH: usize = 32;
@@ -37,35 +36,35 @@ pub struct LsapTokenInfoIntegrity {
 impl LsapTokenInfoIntegrity {
     /// Writes the 40 octets of the record.
     ///
-    /// Every refusal is a fault of the writer, or `WriteZero` where it takes none. It has taken a front of these octets then, and
-    /// not all of them. A write that a signal interrupts is tried again.
+    /// Every error is an I/O error of the writer, or `WriteZero` where it takes no octets. It has then taken a prefix of these
+    /// octets, and not all of them. A write that a signal interrupts is tried again.
     pub fn encode<W: Write>(&self, to: &mut W) -> io::Result<()>
         ensures octets { OnOk result (Appends (W.contents to.old) (W.contents to.new) (lsap_token_info self.now)) }
-        ensures front { OnErr result (GivesFront (lsap_token_info self.now) (W.contents to.old) (W.contents to.new)) }
-        ensures retried { IfErr result (λ e. error_kind e ≢ ErrorKind.Interrupted) }
+        ensures front { OnErr result (IsPrefixWritten (lsap_token_info self.now) (W.contents to.old) (W.contents to.new)) }
+        ensures retried { IfErr result IsNotInterrupted }
     {
-        give_all(to, &octets_of(self))
+        write_all(to, &octets_of(self))
     }
 
-    /// The record that the reader's next 40 octets are. Exactly these are taken.
+    /// The record that the reader's next 40 octets are. Exactly these are read.
     ///
-    /// Where fewer are left, the refusal is of the kind `UnexpectedEof`. Every other refusal is a fault of the reader; a read that a
-    /// signal interrupts is tried again. After a refusal fewer than 40 octets have been taken, and the reader is to be given up.
+    /// Where fewer are left, the error is of the kind `UnexpectedEof`. Every other error is an I/O error of the reader; a read that a
+    /// signal interrupts is tried again. After an error fewer than 40 octets have been read, and the reader is of no further use.
     pub fn decode<R: Read>(from: &mut R) -> io::Result<Self>
         ensures valid { IfOk result IsTokenInfo }
         ensures found { IfOk result (λ r. Consumes (R.remaining from.old) (R.remaining from.new) (lsap_token_info r)) }
         ensures reads { (r : LsapTokenInfoIntegrity) (rest : List ℕ) → IsTokenInfo r → R.remaining from.old ≡ Some (lsap_token_info r ++ rest)
             → IfOk result (λ w. (w ≡ r) × (R.remaining from.new ≡ Some rest)) }
-        ensures fewer { OnErr result (TakesFewer 40 (R.remaining from.old) (R.remaining from.new)) }
-        ensures retried { IfErr result (λ e. error_kind e ≢ ErrorKind.Interrupted) }
+        ensures fewer { OnErr result (IsShortRead 40 (R.remaining from.old) (R.remaining from.new)) }
+        ensures retried { IfErr result IsNotInterrupted }
     {
         let mut octets = [0; RECORD_LENGTH];
-        take_all(from, &mut octets)?;
+        read_exact(from, &mut octets)?;
         Ok(record_of(&octets))
     }
 }
 
-/// The 40 octets of a record. There is no refusal.
+/// The 40 octets of a record. There is no error.
 pub fn octets_of(info: &LsapTokenInfoIntegrity) -> [u8; RECORD_LENGTH]
     ensures { result ≡ lsap_token_info info.now }
 {
@@ -76,7 +75,7 @@ pub fn octets_of(info: &LsapTokenInfoIntegrity) -> [u8; RECORD_LENGTH]
     octets
 }
 
-/// The record that 40 octets are. Each 40 octets are one: there is no refusal.
+/// The record that 40 octets are. Each 40 octets are one: there is no error.
 pub fn record_of(octets: &[u8; RECORD_LENGTH]) -> LsapTokenInfoIntegrity
     ensures valid { IsTokenInfo result }
     ensures octets { lsap_token_info result ≡ octets.now }

@@ -5,7 +5,7 @@ ghost use Rattle.std.specs.Borrow.{Bor};
 ghost use Rattle.std.specs.declared.alloc.Global.{Global};
 ghost use Rattle.std.specs.declared.io.Error.{Error};
 ghost use Rattle.krb_negoex.specs.Copies.{checksum_parts, exchange_parts, extension_parts, nego_parts, verify_parts};
-ghost use Rattle.krb_negoex.specs.Devices.{IsLasting};
+ghost use Rattle.krb_io.specs.Transfer.{IsNotInterrupted};
 ghost use Rattle.krb_negoex.specs.Equality.{ClonesValue, TellsEqual, TellsEqualBy};
 ghost use Rattle.krb_negoex.specs.GuidLayout.{guid};
 ghost use Rattle.krb_negoex.specs.Layouts.{seen, vector};
@@ -70,15 +70,15 @@ pub fn refusals()
     ensures nego { (m : List ℕ) (e : Error) → ⟦<Nego as NegoexMessage>⟧.refused m e ↔ nego_layout.refuses m m e }
     ensures nego_memory { (e : Error) → ⟦<Nego as NegoexMessage>⟧.is_memory e ↔ IsMemory e }
     ensures nego_unfit { (e : Error) → ⟦<Nego as NegoexMessage>⟧.is_unfit e ↔ IsUnfit e }
-    ensures nego_fault { (e : Error) → ⟦<Nego as NegoexMessage>⟧.is_fault e ↔ IsLasting e }
+    ensures nego_fault { (e : Error) → ⟦<Nego as NegoexMessage>⟧.is_fault e ↔ IsNotInterrupted e }
     ensures exchange { (m : List ℕ) (e : Error) → ⟦<Exchange as NegoexMessage>⟧.refused m e ↔ exchange_layout.refuses m m e }
     ensures exchange_memory { (e : Error) → ⟦<Exchange as NegoexMessage>⟧.is_memory e ↔ IsMemory e }
     ensures exchange_unfit { (e : Error) → ⟦<Exchange as NegoexMessage>⟧.is_unfit e ↔ IsUnfit e }
-    ensures exchange_fault { (e : Error) → ⟦<Exchange as NegoexMessage>⟧.is_fault e ↔ IsLasting e }
+    ensures exchange_fault { (e : Error) → ⟦<Exchange as NegoexMessage>⟧.is_fault e ↔ IsNotInterrupted e }
     ensures verify { (m : List ℕ) (e : Error) → ⟦<Verify as NegoexMessage>⟧.refused m e ↔ verify_layout.refuses m m e }
     ensures verify_memory { (e : Error) → ⟦<Verify as NegoexMessage>⟧.is_memory e ↔ IsMemory e }
     ensures verify_unfit { (e : Error) → ⟦<Verify as NegoexMessage>⟧.is_unfit e ↔ IsUnfit e }
-    ensures verify_fault { (e : Error) → ⟦<Verify as NegoexMessage>⟧.is_fault e ↔ IsLasting e }
+    ensures verify_fault { (e : Error) → ⟦<Verify as NegoexMessage>⟧.is_fault e ↔ IsNotInterrupted e }
 {}
 
 /// What the calls of a type of data speak of: its own layout (MS-NEGOEX 2.2.5 and 2.2.6), and, where it is written by itself, a

@@ -3,16 +3,17 @@
 ghost use Rattle.std.specs.Prelude.{◌≡◌, ℕ, ◌+◌, ◌≤◌, ◌<◌, ◌^◌, List, ◌++◌, ◌⊎◌, IfOk, IfErr, OnOk, MatchResult};
 ghost use Rattle.std.specs.Io.KnownBytes.{Appends, Keeps};
 ghost use Rattle.std.specs.IoError.{error_kind};
-ghost use Rattle.krb_negoex.specs.Devices.{EncodeRefused, TakesFront};
+ghost use Rattle.krb_io.specs.Transfer.{IsPrefixWritten};
+ghost use Rattle.krb_negoex.specs.Devices.{EncodeRefused};
 ghost use Rattle.krb_negoex.specs.Refused.{IsMemory, IsUnfit};
 ghost use Rattle.krb_negoex.specs.Whole.{written, new_header};
 ghost use Rattle.krb_negoex.specs.Wire.{header_layout};
 
-use crate::devices::write_octets;
 use crate::header::{MessageHeader, MessageType, NEGOEXTS_MESSAGE_SIGNATURE};
 use crate::numbers::invalid_input;
 use crate::parts::{Lay, Part};
 use crate::traits::NegoexDataType;
+use krb_io::write_all;
 use std::alloc::Global;
 use std::io;
 use std::io::{ErrorKind, Write};
@@ -66,7 +67,7 @@ pub trait NegoexMessage: Part {
         ensures refused { IfErr result (λ e. ((is_memory e ⊎ (is_unfit e × (Self.layout.laid (start self.now) self.now → ⊥)))
             × Keeps (W.contents to.old) (W.contents to.new))
             ⊎ (Self.layout.laid (start self.now) self.now × is_fault e
-            × TakesFront (written Self.layout (start self.now) between self.now) (W.contents to.old) (W.contents to.new))) };
+            × IsPrefixWritten (written Self.layout (start self.now) between self.now) (W.contents to.old) (W.contents to.new))) };
 }
 
 /// The value that the octets of a message begin with.
@@ -98,7 +99,7 @@ pub(crate) fn encode_whole<M: Lay, W: Write>(
     value.lay(alloc, start, &mut octets, &mut payload)?;
     octets.extend_from_slice(between)?;
     octets.extend_from_slice(&payload)?;
-    write_octets(to, &octets)
+    write_all(to, &octets)
 }
 
 /// The header of a message of that length; `InvalidInput` where it does not fit 32 bits.

@@ -3,7 +3,7 @@
 ghost use Rattle.std.specs.Prelude.{◌≡◌, ◌+◌, ◌≤◌, ◌<◌, ◌^◌, [], length, IfOk, IfErr};
 ghost use Rattle.std.specs.IoError.{error_kind};
 ghost use Rattle.krb_negoex.specs.Copies.{nego_parts};
-ghost use Rattle.krb_negoex.specs.Devices.{IsLasting};
+ghost use Rattle.krb_io.specs.Transfer.{IsNotInterrupted};
 ghost use Rattle.krb_negoex.specs.Refused.{IsMemory, IsUnfit};
 ghost use Rattle.krb_negoex.specs.Wire.{nego_layout, schemes_layout, extensions_layout};
 ghost use Rattle.krb_negoex.specs.Whole.{new_header, written, HasOneReading};
@@ -103,7 +103,7 @@ impl NegoexMessage for Nego {
 
     ghost is_unfit = { IsUnfit };
 
-    ghost is_fault = { IsLasting };
+    ghost is_fault = { IsNotInterrupted };
 
     fn decode(alloc: Global, message: &[u8]) -> io::Result<Nego> {
         decode_whole(alloc, message)

@@ -2,12 +2,14 @@
 
 ghost use Rattle.std.specs.Prelude.{◌≡◌, ℕ, ◌+◌, ◌^◌, ◌-◌, ◌⊎◌, min, ◌++◌, drop, Some, IfOk, IfErr, IfSome, OnOk, MatchResult};
 ghost use Rattle.std.specs.Io.KnownBytes.{Appends, Keeps};
-ghost use Rattle.krb_negoex.specs.Devices.{EncodeRefused, FrontRefused, GatherRefused, IsLasting, IsToldBy, PartsStopped};
+ghost use Rattle.krb_io.specs.Transfer.{IsNotInterrupted};
+ghost use Rattle.krb_negoex.specs.Devices.{EncodeRefused, FrontRefused, GatherRefused, IsToldBy, PartsStopped};
 ghost use Rattle.krb_negoex.specs.Refused.{IsUnlaidBy, LayRefused};
 
-use crate::devices::{read_front, write_octets};
+use crate::devices::read_front;
 use crate::message::encode_whole;
 use crate::parts::{Lay, Part, Placed};
+use krb_io::write_all;
 use std::alloc::Global;
 use std::io;
 use std::io::{Read, Write};
@@ -54,15 +56,15 @@ pub trait NegoexDataType: Placed {
         ensures refused { IfErr result (IsToldBy Self.Error.from_gives (λ x.
             (LayRefused (Self.layout.laid offset self.now) x × Keeps (W.contents to.old) (W.contents to.new)
             × Keeps (V.contents payload_to.old) (V.contents payload_to.new))
-            ⊎ (Self.layout.laid offset self.now × IsLasting x
+            ⊎ (Self.layout.laid offset self.now × IsNotInterrupted x
             × PartsStopped (Self.layout.fixed offset self.now) (Self.layout.payload offset self.now)
             (W.contents to.old) (W.contents to.new) (V.contents payload_to.old) (V.contents payload_to.new)))) }
     {
         let mut fixed_part = Vec::new(alloc);
         let mut payload_part = Vec::new(alloc);
         self.lay(alloc, offset, &mut fixed_part, &mut payload_part)?;
-        write_octets(to, &fixed_part)?;
-        write_octets(payload_to, &payload_part)?;
+        write_all(to, &fixed_part)?;
+        write_all(payload_to, &payload_part)?;
         Ok(payload_part.len())
     }
 

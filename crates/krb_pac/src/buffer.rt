@@ -9,7 +9,7 @@ ghost use Rattle.krb_pac.specs.declared.error.PacError.TheVariants as errors;
 
 use crate::error::PacError;
 use crate::info::PacInfoBuffer;
-use crate::ranges::has_room;
+use crate::ranges::{has_room, is_within};
 use crate::reading::entry_at;
 use crate::writing::put_buffer;
 use std::alloc::Global;
@@ -72,11 +72,11 @@ impl PacBuffer {
         ensures kept { OnErr result (position.new ≡ position.old) }
     {
         let info = entry_at(bytes, *position)?;
-        let size = info.cb_buffer_size() as usize;
-        let offset = info.offset() as usize;
-        if offset > bytes.len() || bytes.len() - offset < size {
+        if !is_within(&info, bytes.len()) {
             return Err(PacError::InvalidRange);
         }
+        let offset = info.offset() as usize;
+        let size = info.cb_buffer_size() as usize;
         let octets = Vec::from_slice(alloc, &bytes[offset..offset + size])?;
         *position += 16;
         Ok(PacBuffer { info, octets })

@@ -91,7 +91,8 @@ impl Pac {
     /// alone, whatever the number of buffers.
     pub fn serialize<W: Write>(&self, alloc: Global, out: &mut W) -> Result<(), PacError>
         ensures ok { OnOk result ((b : List ℕ) × PacPut self.now b × Appends (W.contents out.old) (W.contents out.new) b) }
-        ensures no_place { ((b : List ℕ) → PacPut self.now b → ⊥) → MatchResult result (λ _. ⊥) (λ e. (e ≡ PacError.InvalidRange) ⊎ (e ≡ PacError.OutOfMemory)) }
+        ensures no_place { ((b : List ℕ) → PacPut self.now b → ⊥)
+            → MatchResult result (λ _. ⊥) (λ e. (e ≡ PacError.InvalidRange) ⊎ (e ≡ PacError.OutOfMemory)) }
         ensures refused { IfErr result (λ e. IsFault e ⊎ ((e ≡ PacError.InvalidRange) × ((b : List ℕ) → PacPut self.now b → ⊥))) }
         ensures kept { IfErr result (λ e. (e ≡ PacError.InvalidRange) ⊎ (e ≡ PacError.OutOfMemory) → out.new ≡ out.old) }
         ensures fault { IfErr result (StopsInside (PacPut self.now) (W.contents out.old) (W.contents out.new)) }

@@ -5,19 +5,24 @@ ghost use Rattle.krb_pac.specs.Marks.{IsLeft, Takes};
 ghost use Rattle.krb_pac.specs.Written.{IsBehind, HasRoom};
 
 use crate::buffer::PacBuffer;
+use crate::info::PacInfoBuffer;
 
-/// Whether a range lies within the octets and behind the header.
+/// Whether the octets that an entry names are all within so many.
+pub(crate) fn is_within(info: &PacInfoBuffer, len: usize) -> bool
+    ensures yes { result ≡ true → info.now.offset + info.now.cb_buffer_size ≤ len }
+    ensures no { result ≡ false → len < info.now.offset + info.now.cb_buffer_size }
+{
+    let len = len as u64;
+    info.offset() <= len && u64::from(info.cb_buffer_size()) <= len - info.offset()
+}
+
+/// Whether a range lies within the octets and after the header.
 pub(crate) fn has_place(p: &PacBuffer, head: usize, len: usize) -> bool
     ensures yes { result ≡ true → (p.now.info.offset + p.now.info.cb_buffer_size ≤ len) × IsBehind head p.now }
     ensures no { result ≡ false → p.now.info.offset + p.now.info.cb_buffer_size ≤ len → IsBehind head p.now → ⊥ }
 {
-    let size = p.info_buffer().cb_buffer_size() as u64;
-    let offset = p.info_buffer().offset();
-    let len = len as u64;
-    if offset > len || len - offset < size {
-        return false;
-    }
-    size == 0 || offset >= head as u64
+    let info = p.info_buffer();
+    is_within(info, len) && (info.cb_buffer_size() == 0 || info.offset() >= head as u64)
 }
 
 /// Whether an entry at `at` and its range lie within the octets and share none.
@@ -25,13 +30,12 @@ pub(crate) fn has_room(p: &PacBuffer, at: usize, len: usize) -> bool
     ensures yes { result ≡ true → HasRoom at len p.now }
     ensures no { result ≡ false → HasRoom at len p.now → ⊥ }
 {
-    let size = p.info_buffer().cb_buffer_size() as u64;
-    let offset = p.info_buffer().offset();
-    let len = len as u64;
-    let at = at as u64;
-    if at > len || len - at < 16 || offset > len || len - offset < size {
+    if at > len || len - at < 16 || !is_within(p.info_buffer(), len) {
         return false;
     }
+    let size = u64::from(p.info_buffer().cb_buffer_size());
+    let offset = p.info_buffer().offset();
+    let at = at as u64;
     if offset <= at {
         size == 0 || size <= at - offset
     } else {
@@ -39,7 +43,7 @@ pub(crate) fn has_room(p: &PacBuffer, at: usize, len: usize) -> bool
     }
 }
 
-/// Marks the octets of a range as taken, and answers true; answers false where one of them is taken already.
+/// Marks the octets of a range as taken and returns true, or returns false where one of them is taken already.
 pub(crate) fn take_range(marks: &mut [bool], at: usize, size: usize) -> bool
     requires { at + size ≤ length marks.old }
     ensures len { length marks.new ≡ length marks.old }
