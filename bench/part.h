@@ -1,8 +1,8 @@
 /* Ticket parts, in hexadecimal digits, with the key and the confounder. */
 #ifndef PART_H
 #define PART_H
-#include "../refusals/real_parts.h"
 #include "library.h"
+#include "real_parts.h" /* written by refusals/real_parts */
 #include <stdio.h>
 
 struct part {

@@ -1,10 +1,10 @@
-/* The commands of the program krbtool, what each is given, and what it answers. */
+/* The commands of the program krbtool, their input, and their results. */
 #ifndef COMMANDS_H
 #define COMMANDS_H
 #include "c_library.h"
-#include "real_parts.h"
+#include "real_parts.h" /* written by refusals/real_parts */
 
-/* A command's words, the digits of its input, and its answer: the status, the line that tells a refusal, and the digits of its
+/* A command's arguments, the digits of its input, and its result: the status, the line of its error, and the digits of its
  * output. */
 struct command {
     const char *words[6], *input;

@@ -10,10 +10,10 @@ use thiserror::Error;
 /// Why a part was not sealed or not opened. Want of memory is told by the half that met it.
 #[derive(Debug, Drop, Error)]
 pub enum PartError {
-    /// The cipher refused the key or the octets.
+    /// The cipher rejected the key or the octets.
     #[error("{0}")]
     Crypto(KerberosCryptoError),
-    /// The opened octets are not one encoding with the cipher's fill behind it.
+    /// The opened octets are not one encoding with the cipher's padding after it.
     #[error("{0}")]
     Der(Asn1DerError),
 }

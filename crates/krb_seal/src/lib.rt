@@ -1,4 +1,4 @@
-//! A value's encoding, sealed and opened by whatever cipher is lent.
+//! A value's encoding, sealed and opened under the caller's cipher.
 #![tactic(auto)]
 
 mod error;

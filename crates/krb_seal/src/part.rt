@@ -1,23 +1,23 @@
-//! Sealing and opening the encoding of a value, by a cipher that is lent.
+//! Sealing and opening the encoding of a value, under the caller's cipher.
 
 ghost use Rattle.std.specs.Prelude.{◌≡◌, ◌≢◌, ℕ, ◌↔◌, List, ◌++◌, length, IsTrue, IfOk, IfErr, MatchResult, IsErrAnd};
 ghost use Rattle.krb_crypto_hash.specs.CryptoError.{IsMemoryOr};
 ghost use Rattle.krb_der.specs.Reading.{Encodings};
 ghost use Rattle.krb_der.specs.Whole.{Answers, FailsWith};
-ghost use Rattle.krb_crypto_message.specs.Sealing.{IsGiven, IsOfNone, IsTheOne, Opens};
+ghost use Rattle.krb_crypto_message.specs.Sealing.{HasNoPayload, IsGiven, IsTheOne};
 ghost use Rattle.krb_der_core.specs.Faults.{OrMemory};
-ghost use Rattle.krb_seal.specs.Filled.{FilledFault, IsFewZeros, RefusesFilled};
-ghost use Rattle.krb_seal.specs.PartError.{IsMemory, IsPartMemoryOr, IsCrypto, IfCrypto, IfDer};
+ghost use Rattle.krb_seal.specs.Filled.{FilledFault, HasFirstError, IsFewZeros, RefusesFilled, RejectsOpened};
+ghost use Rattle.krb_seal.specs.PartError.{IsMemory, IsPartMemoryOr, IsPartKeyLengthError, IsCrypto, IfCrypto, IfDer};
 
 use crate::error::PartError;
 use krb_crypto_suite::{Cipher, KerberosCryptoError};
 use krb_der::{Asn1DerError, Der, to_vec};
 use std::alloc::Global;
 
-/// The encoding of a value, sealed by the lent cipher under this key, key usage and confounder.
+/// The encoding of a value, sealed by the caller's cipher under this key, key usage and confounder.
 ///
 /// The confounder has the cipher's `confounder_size` octets. A key that has not `key_size` octets is
-/// `Crypto(KeyLength)`; nothing else is refused, but for want of memory.
+/// `Crypto(KeyLength)`; an allocation failure, of either half, is the only other error.
 pub fn seal_part<T: Der>(
     alloc: Global,
     cipher: &dyn Cipher,
@@ -29,7 +29,7 @@ pub fn seal_part<T: Der>(
     requires { length confounder.now ≡ confounder_octets cipher.now }
     ensures key { IfOk result (λ _. length key.now ≡ key_octets cipher.now) }
     ensures sealed { IfOk result (λ octets. IsTheOne (meaning cipher.now key.now key_usage confounder.now (T.enc value.now)) octets.items) }
-    ensures refused { IfErr result (λ e. IsPartMemoryOr e ((length key.now ≢ key_octets cipher.now) × (e ≡ PartError.Crypto (KerberosCryptoError.KeyLength (length key.now) (key_octets cipher.now))))) }
+    ensures refused { IfErr result (λ e. IsPartMemoryOr e (IsPartKeyLengthError (key_octets cipher.now) key.now e)) }
 {
     let payload = to_vec(alloc, value)?;
     Ok(cipher.encrypt(alloc, key, key_usage, &payload, confounder)?)
@@ -37,9 +37,9 @@ pub fn seal_part<T: Der>(
 
 /// The value whose encoding the cipher sealed to these octets, under this key and key usage and some confounder.
 ///
-/// What the cipher refuses is `Crypto` of the cipher's own reason: a key that has not `key_size` octets, and octets that
-/// it seals nothing to. What it opens is `Der` of its first fault where no encoding stands in front of it, and
-/// `Der(InvalidData)` where one does and what follows is not fewer than `fill_size` zeros.
+/// `Crypto` of the cipher's error for a key that has not `key_size` octets and for octets that it seals nothing to. Where the
+/// decrypted octets do not begin with an encoding, `Der` of their first error; where they do and the trailing octets are not
+/// fewer than `fill_size` zeros, `Der(InvalidData)`.
 pub fn open_part<T: Der + Drop>(
     alloc: Global,
     cipher: &dyn Cipher,
@@ -50,25 +50,33 @@ pub fn open_part<T: Der + Drop>(
     ensures key { IfOk result (λ _. length key.now ≡ key_octets cipher.now) }
     ensures valid { IfOk result T.is_value }
     ensures opened { IfOk result (λ v. IsGiven (meaning cipher.now key.now key_usage) (confounder_octets cipher.now) bytes.now (T.enc v)) }
-    ensures only { length key.now ≡ key_octets cipher.now → (v : T) → T.is_value v → IsGiven (meaning cipher.now key.now key_usage) (confounder_octets cipher.now) bytes.now (T.enc v) → MatchResult result (λ w. w ≡ v) IsMemory }
-    ensures behind { length key.now ≡ key_octets cipher.now → (v : T) (rest : List ℕ) → T.is_value v → IsGiven (meaning cipher.now key.now key_usage) (confounder_octets cipher.now) bytes.now (T.enc v ++ rest) → ¬ IsFewZeros (fill_octets cipher.now) rest → IsErrAnd result (λ e. IsPartMemoryOr e (e ≡ PartError.Der Asn1DerError.InvalidData)) }
+    ensures only { length key.now ≡ key_octets cipher.now → (v : T) → T.is_value v
+        → IsGiven (meaning cipher.now key.now key_usage) (confounder_octets cipher.now) bytes.now (T.enc v)
+        → MatchResult result (λ w. w ≡ v) IsMemory }
+    ensures behind { length key.now ≡ key_octets cipher.now → (v : T) (rest : List ℕ) → T.is_value v
+        → IsGiven (meaning cipher.now key.now key_usage) (confounder_octets cipher.now) bytes.now (T.enc v ++ rest)
+        → ¬ IsFewZeros (fill_octets cipher.now) rest
+        → IsErrAnd result (λ e. IsPartMemoryOr e (e ≡ PartError.Der Asn1DerError.InvalidData)) }
     ensures other_key { length key.now ≢ key_octets cipher.now → IsErrAnd result IsCrypto }
-    ensures crypto { length key.now ≡ key_octets cipher.now → IfErr result (λ e. IfCrypto e (λ why. IsMemoryOr why (IsOfNone (IsGiven (meaning cipher.now key.now key_usage) (confounder_octets cipher.now) bytes.now)))) }
+    ensures crypto { length key.now ≡ key_octets cipher.now → IfErr result (λ e. IfCrypto e
+        (λ why. IsMemoryOr why (HasNoPayload (meaning cipher.now key.now key_usage) (confounder_octets cipher.now) bytes.now))) }
     ensures exact { IfErr result (λ e. IfCrypto e (λ why. IsMemoryOr why (unopened cipher.now key.now key_usage bytes.now why))) }
-    ensures der { IfErr result (λ e. IfDer e (λ why. (filled : List ℕ) × Opens (fill_octets cipher.now) (IsGiven (meaning cipher.now key.now key_usage) (confounder_octets cipher.now) bytes.now) filled × RefusesFilled (Encodings T.is_value T.enc) (fill_octets cipher.now) filled why)) }
-    ensures first_fault { IfErr result (λ e. IfDer e (λ why. (filled : List ℕ) × Opens (fill_octets cipher.now) (IsGiven (meaning cipher.now key.now key_usage) (confounder_octets cipher.now) bytes.now) filled
-        × RefusesFilled (Encodings T.is_value T.enc) (fill_octets cipher.now) filled why × OrMemory (FilledFault (Encodings T.is_value T.enc) T.first T.fault (fill_octets cipher.now) filled) why)) }
+    ensures der { IfErr result (λ e. IfDer e (RejectsOpened (Encodings T.is_value T.enc) (fill_octets cipher.now)
+        (IsGiven (meaning cipher.now key.now key_usage) (confounder_octets cipher.now) bytes.now))) }
+    ensures first_fault { IfErr result (λ e. IfDer e (HasFirstError (Encodings T.is_value T.enc) T.first T.fault (fill_octets cipher.now)
+        (IsGiven (meaning cipher.now key.now key_usage) (confounder_octets cipher.now) bytes.now))) }
 {
     let filled = cipher.decrypt(alloc, key, key_usage, bytes)?;
     Ok(read_filled(alloc, &filled, cipher.fill_size())?)
 }
 
-/// The value whose encoding stands in front of the octets, with fewer than `size` zeros behind it.
+/// The value whose encoding the octets begin with, with fewer than `size` zeros after it.
 fn read_filled<T: Der + Drop>(alloc: Global, filled: &[u8], size: usize) -> Result<T, Asn1DerError>
     ensures valid { IfOk result T.is_value }
     ensures found { IfOk result (λ v. (rest : List ℕ) × (filled.now ≡ T.enc v ++ rest) × IsFewZeros size rest) }
     ensures only { (v : T) (rest : List ℕ) → T.is_value v → filled.now ≡ T.enc v ++ rest → IsFewZeros size rest → Answers result v }
-    ensures behind { (v : T) (rest : List ℕ) → T.is_value v → filled.now ≡ T.enc v ++ rest → ¬ IsFewZeros size rest → FailsWith result Asn1DerError.InvalidData }
+    ensures behind { (v : T) (rest : List ℕ) → T.is_value v → filled.now ≡ T.enc v ++ rest → ¬ IsFewZeros size rest
+        → FailsWith result Asn1DerError.InvalidData }
     ensures refused { IfErr result (RefusesFilled (Encodings T.is_value T.enc) size filled.now) }
     ensures first_fault { IfErr result (OrMemory (FilledFault (Encodings T.is_value T.enc) T.first T.fault size filled.now)) }
 {
