@@ -101,7 +101,11 @@ impl Exchange {
         auth_scheme: Uuid,
         exchange: Vec<u8>,
     ) -> io::Result<Self>
-        ensures ok { IfOk result (λ n. n ≡ record { header = new_header message_type conversation_id sequence_num 64 (64 + length exchange.items); auth_scheme = auth_scheme; exchange = exchange }) }
+        ensures ok { IfOk result (λ n. n ≡ record {
+          header = new_header message_type conversation_id sequence_num 64 (64 + length exchange.items);
+          auth_scheme = auth_scheme;
+          exchange = exchange;
+        }) }
         ensures one { IfOk result (λ n. HasOneReading exchange_layout 64 [] n) }
         ensures length { IfOk result (λ n. length (written exchange_layout 64 [] n) ≡ n.header.message_len) }
         ensures err { IfErr result (λ e. (error_kind e ≡ ErrorKind.InvalidInput) × (2 ^ 32 ≤ 64 + length exchange.items)) }

@@ -38,7 +38,8 @@ pub fn messages_read_back()
 
 /// The payloads of a message, and so its length, which `new` writes into the header, by what it holds.
 pub fn lengths()
-    ensures nego { (n : Nego) → length (written nego_layout 96 [] n) ≡ 96 + (schemes_layout.payload_size n.auth_schemes + extensions_layout.payload_size n.extensions) }
+    ensures nego { (n : Nego) → length (written nego_layout 96 [] n)
+        ≡ 96 + (schemes_layout.payload_size n.auth_schemes + extensions_layout.payload_size n.extensions) }
     ensures exchange { (n : Exchange) → length (written exchange_layout 64 [] n) ≡ 64 + length n.exchange.items }
     ensures verify { (n : Verify) → length (written verify_layout 80 four_zeros n) ≡ 80 + length n.checksum.checksum_value.items }
 {}

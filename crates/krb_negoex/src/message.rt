@@ -63,7 +63,8 @@ pub trait NegoexMessage: Part {
     fn encode<W: Write>(&self, alloc: Global, to: &mut W) -> Result<(), Self::Error>
         ensures laid { OnOk result (Self.layout.laid (start self.now) self.now) }
         ensures ok { OnOk result (Appends (W.contents to.old) (W.contents to.new) (written Self.layout (start self.now) between self.now)) }
-        ensures unlaid { (Self.layout.laid (start self.now) self.now → ⊥) → MatchResult result (λ _. ⊥) (λ e. is_memory e ⊎ is_unfit e) × Keeps (W.contents to.old) (W.contents to.new) }
+        ensures unlaid { (Self.layout.laid (start self.now) self.now → ⊥) → MatchResult result (λ _. ⊥) (λ e. is_memory e ⊎ is_unfit e)
+            × Keeps (W.contents to.old) (W.contents to.new) }
         ensures refused { IfErr result (λ e. ((is_memory e ⊎ (is_unfit e × (Self.layout.laid (start self.now) self.now → ⊥)))
             × Keeps (W.contents to.old) (W.contents to.new))
             ⊎ (Self.layout.laid (start self.now) self.now × is_fault e
@@ -90,7 +91,8 @@ pub(crate) fn encode_whole<M: Lay, W: Write>(
 ) -> io::Result<()>
     ensures laid { OnOk result (M.layout.laid start value.now) }
     ensures ok { OnOk result (Appends (W.contents to.old) (W.contents to.new) (written M.layout start between.now value.now)) }
-    ensures unlaid { (M.layout.laid start value.now → ⊥) → MatchResult result (λ _. ⊥) (λ e. IsMemory e ⊎ IsUnfit e) × Keeps (W.contents to.old) (W.contents to.new) }
+    ensures unlaid { (M.layout.laid start value.now → ⊥) → MatchResult result (λ _. ⊥) (λ e. IsMemory e ⊎ IsUnfit e)
+        × Keeps (W.contents to.old) (W.contents to.new) }
     ensures refused { IfErr result (EncodeRefused (M.layout.laid start value.now) (written M.layout start between.now value.now)
         (W.contents to.old) (W.contents to.new)) }
 {
@@ -110,7 +112,8 @@ pub(crate) fn header_of(
     header_len: u32,
     message_len: usize,
 ) -> io::Result<MessageHeader>
-    ensures ok { IfOk result (λ h. (h ≡ new_header message_type conversation_id sequence_num header_len message_len) × (message_len < 2 ^ 32) × header_layout.readable h) }
+    ensures ok { IfOk result (λ h. (h ≡ new_header message_type conversation_id sequence_num header_len message_len) × (message_len < 2 ^ 32)
+        × header_layout.readable h) }
     ensures err { IfErr result (λ e. (error_kind e ≡ ErrorKind.InvalidInput) × (2 ^ 32 ≤ message_len)) }
 {
     let _known = (message_type.size(), conversation_id.size());

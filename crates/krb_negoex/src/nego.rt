@@ -126,10 +126,17 @@ impl Nego {
         extensions: Vec<Extension>,
     ) -> io::Result<Self>
         ensures ok { let size = 96 + (schemes_layout.payload_size auth_schemes + extensions_layout.payload_size extensions) in
-            IfOk result (λ n. n ≡ record { header = new_header message_type conversation_id sequence_num 96 size; random = random; protocol_version = 0; auth_schemes = auth_schemes; extensions = extensions }) }
+            IfOk result (λ n. n ≡ record {
+              header = new_header message_type conversation_id sequence_num 96 size;
+              random = random;
+              protocol_version = 0;
+              auth_schemes = auth_schemes;
+              extensions = extensions;
+            }) }
         ensures one { IfOk result (λ n. HasOneReading nego_layout 96 [] n) }
         ensures length { IfOk result (λ n. length (written nego_layout 96 [] n) ≡ n.header.message_len) }
-        ensures err { IfErr result (λ e. (error_kind e ≡ ErrorKind.InvalidInput) × (2 ^ 32 ≤ 96 + (schemes_layout.payload_size auth_schemes + extensions_layout.payload_size extensions))) }
+        ensures err { IfErr result (λ e. (error_kind e ≡ ErrorKind.InvalidInput)
+            × (2 ^ 32 ≤ 96 + (schemes_layout.payload_size auth_schemes + extensions_layout.payload_size extensions))) }
     {
         let vectors = auth_schemes.size().saturating_add(extensions.size());
         let size = vectors.saturating_add(80);

@@ -52,7 +52,8 @@ pub trait NegoexDataType: Placed {
         ensures size { IfOk result (λ n. n ≡ Self.layout.payload_size self.now) }
         ensures fixed_part { OnOk result (Appends (W.contents to.old) (W.contents to.new) (Self.layout.fixed offset self.now)) }
         ensures payload_part { OnOk result (Appends (V.contents payload_to.old) (V.contents payload_to.new) (Self.layout.payload offset self.now)) }
-        ensures unlaid { (Self.layout.laid offset self.now → ⊥) → MatchResult result (λ _. ⊥) (IsUnlaidBy Self.Error.from_gives) × Keeps (W.contents to.old) (W.contents to.new) × Keeps (V.contents payload_to.old) (V.contents payload_to.new) }
+        ensures unlaid { (Self.layout.laid offset self.now → ⊥) → MatchResult result (λ _. ⊥) (IsUnlaidBy Self.Error.from_gives)
+            × Keeps (W.contents to.old) (W.contents to.new) × Keeps (V.contents payload_to.old) (V.contents payload_to.new) }
         ensures refused { IfErr result (IsToldBy Self.Error.from_gives (λ x.
             (LayRefused (Self.layout.laid offset self.now) x × Keeps (W.contents to.old) (W.contents to.new)
             × Keeps (V.contents payload_to.old) (V.contents payload_to.new))
@@ -78,8 +79,10 @@ pub trait NegoexDataType: Placed {
     where
         Self: Sized,
         ensures laid { OnOk result (Self.layout.laid (Self.start self.now) self.now) }
-        ensures ok { OnOk result (Appends (W.contents to.old) (W.contents to.new) (Self.layout.fixed (Self.start self.now) self.now ++ Self.layout.payload (Self.start self.now) self.now)) }
-        ensures unlaid { (Self.layout.laid (Self.start self.now) self.now → ⊥) → MatchResult result (λ _. ⊥) (IsUnlaidBy Self.Error.from_gives) × Keeps (W.contents to.old) (W.contents to.new) }
+        ensures ok { OnOk result (Appends (W.contents to.old) (W.contents to.new)
+            (Self.layout.fixed (Self.start self.now) self.now ++ Self.layout.payload (Self.start self.now) self.now)) }
+        ensures unlaid { (Self.layout.laid (Self.start self.now) self.now → ⊥) → MatchResult result (λ _. ⊥) (IsUnlaidBy Self.Error.from_gives)
+            × Keeps (W.contents to.old) (W.contents to.new) }
         ensures refused { IfErr result (IsToldBy Self.Error.from_gives (EncodeRefused (Self.layout.laid (Self.start self.now) self.now)
             (Self.layout.fixed (Self.start self.now) self.now ++ Self.layout.payload (Self.start self.now) self.now) (W.contents to.old) (W.contents to.new))) }
     {

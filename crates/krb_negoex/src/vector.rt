@@ -68,7 +68,8 @@ fn lay_elements<T: NegoexDataType>(
 ) -> io::Result<usize>
     ensures laid { OnOk result (AllLaid T.layout.laid T.layout.payload_size first elements.now) }
     ensures end { IfOk result (λ n. n ≡ first + total T.layout.payload_size elements.now) }
-    ensures appended { OnOk result (out.new.items ≡ out.old.items ++ (fixeds T.layout.fixed T.layout.payload_size first elements.now ++ fixeds T.layout.payload T.layout.payload_size first elements.now)) }
+    ensures appended { OnOk result (out.new.items ≡ out.old.items ++ (fixeds T.layout.fixed T.layout.payload_size first elements.now
+        ++ fixeds T.layout.payload T.layout.payload_size first elements.now)) }
     ensures refused { IfErr result (LayRefused (AllLaid T.layout.laid T.layout.payload_size first elements.now)) }
     ensures kept { OnErr result (out.new.items ≡ out.old.items) }
 {

@@ -97,8 +97,8 @@ impl NegoexMessage for Verify {
 }
 
 impl Verify {
-    /// A message of these parts. The header length is 80, the checksum's 20 and its scheme RFC 3961's, and the message's length that of its octets; `InvalidInput` where that does not fit
-    /// 32 bits. What is made has one reading, itself, once it is encoded.
+    /// A message of these parts. The header length is 80, the checksum's 20 and its scheme RFC 3961's, and the message's length that
+    /// of its octets; `InvalidInput` where that does not fit 32 bits. What is made has one reading, itself, once it is encoded.
     pub fn new(
         message_type: MessageType,
         conversation_id: Uuid,
