@@ -92,8 +92,8 @@ impl NegoexMessage for Exchange {
 }
 
 impl Exchange {
-    /// A message of these parts. The header length is 64, and the message's length that of its octets; `InvalidInput` where that does not fit
-    /// 32 bits. What is made has one reading, itself, once it is encoded.
+    /// A message of these parts. The header length is 64, and the message's length that of its octets; `InvalidInput` where that
+    /// does not fit 32 bits. What is made has one reading, itself, once it is encoded.
     pub fn new(
         message_type: MessageType,
         conversation_id: Uuid,
@@ -126,7 +126,7 @@ impl Exchange {
         })
     }
 
-    /// An equal message; refused for memory alone.
+    /// An equal message. The only error is `OutOfMemory`.
     pub fn clone(&self, alloc: Global) -> io::Result<Exchange>
         ensures ok { IfOk result (λ v. exchange_parts v ≡ exchange_parts self.now) }
         ensures err { IfErr result IsMemory }

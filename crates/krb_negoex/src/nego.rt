@@ -30,7 +30,7 @@ const NEGO_HEADER_LEN: u32 = 96;
 /// A message that names the schemes of a party (MS-NEGOEX 2.2.6.3).
 ///
 /// Layout, in octets: header 40, random octets 32, version 8, the schemes' vector 8, the extensions' vector 8: 96 in all; then the
-/// schemes, and the extensions behind them.
+/// schemes, and the extensions after them.
 #[derive(Debug, PartialEq, Eq, Drop)]
 pub struct Nego {
     /// What the message begins with.
@@ -115,8 +115,8 @@ impl NegoexMessage for Nego {
 }
 
 impl Nego {
-    /// A message of these parts. The header length is 96, the version 0, and the message's length that of its octets; `InvalidInput` where that does not fit
-    /// 32 bits. What is made has one reading, itself, once it is encoded.
+    /// A message of these parts. The header length is 96, the version 0, and the message's length that of its octets;
+    /// `InvalidInput` where that does not fit 32 bits. What is made has one reading, itself, once it is encoded.
     pub fn new(
         message_type: MessageType,
         conversation_id: Uuid,
@@ -156,7 +156,7 @@ impl Nego {
         })
     }
 
-    /// An equal message; refused for memory alone.
+    /// An equal message. The only error is `OutOfMemory`.
     pub fn clone(&self, alloc: Global) -> io::Result<Nego>
         ensures ok { IfOk result (λ v. nego_parts v ≡ nego_parts self.now) }
         ensures err { IfErr result IsMemory }

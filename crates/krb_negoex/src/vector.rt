@@ -14,7 +14,7 @@ use std::io;
 use uuid::Uuid;
 
 /// Octets (MS-NEGOEX 2.2.5.2.3). As every vector: an offset and a count of four octets each, and the elements' fixed parts at
-/// the offset, with their payloads behind them; an empty one has the offset 0. Where the standard has a count of two octets and
+/// the offset, with their payloads after them; an empty one has the offset 0. Where the standard has a count of two octets and
 /// two of padding, the padding is read as the count's upper half.
 pub type ByteVector = Vec<u8>;
 

@@ -138,7 +138,7 @@ impl Verify {
         })
     }
 
-    /// An equal message; refused for memory alone.
+    /// An equal message. The only error is `OutOfMemory`.
     pub fn clone(&self, alloc: Global) -> io::Result<Verify>
         ensures ok { IfOk result (λ v. verify_parts v ≡ verify_parts self.now) }
         ensures err { IfErr result IsMemory }
