@@ -11,7 +11,7 @@ use thiserror::Error;
 
 /// Why a token or a message of the GSS-API was not read or written.
 ///
-/// Where two values are told, the expected one stands first.
+/// Of two values the expected one comes first.
 #[derive(Debug, Drop, Error)]
 pub enum GssApiMessageError {
     /// The token id is another (RFC 4121, 4.1 and 4.2.6).
@@ -32,7 +32,7 @@ pub enum GssApiMessageError {
     /// Octets are no encoding of a value (X.690). It is never `Asn1DerError::OutOfMemory`.
     #[error("the message is no encoding: {0}")]
     Asn1Error(Asn1DerError),
-    /// A growth of memory was refused.
+    /// An allocation failed.
     #[error("out of memory")]
     OutOfMemory,
 }
@@ -45,7 +45,7 @@ impl From<io::Error> for GssApiMessageError {
     }
 }
 
-/// A refusal of DER octets is told as it is, but want of memory as the own `OutOfMemory`.
+/// An error of DER octets is kept as it is, but an allocation failure is `OutOfMemory` of this type.
 impl From<Asn1DerError> for GssApiMessageError {
     ghost from_gives = { λ refusal e. e ≡ of_der refusal };
 

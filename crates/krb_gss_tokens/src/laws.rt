@@ -7,7 +7,7 @@ ghost use Rattle.krb_gss_tokens.specs.Wrap.{Wrap};
 use crate::mic_token::MicToken;
 use crate::wrap_token::WrapToken;
 
-/// `==` on tokens: it answers true for equal values and for no others.
+/// `==` on tokens: it is true for equal values and for no others.
 pub fn equality()
     ensures mic_token { (a b : Mic) → IsTrue (⟦<MicToken as PartialEq>⟧.eq a b) ↔ (a ≡ b) }
     ensures wrap_token { (a b : Wrap) → IsTrue (⟦<WrapToken as PartialEq>⟧.eq a b) ↔ (a ≡ b) }

@@ -1,4 +1,4 @@
-//! MIC and Wrap tokens of Kerberos under the GSS-API (RFC 4121, 4.2.6), and why a message of the GSS-API is refused.
+//! MIC and Wrap tokens of Kerberos under the GSS-API (RFC 4121, 4.2.6), and the errors of messages of the GSS-API.
 #![tactic(auto)]
 
 mod error;

@@ -112,7 +112,7 @@ impl MicToken {
 
     /// Writes the header and the checksum. The payload is not written.
     ///
-    /// A fault of the writer is `IoError`, and no other refusal is answered; some octets may have been written then.
+    /// Every error is `IoError` of the writer; some octets may have been written then.
     pub fn encode<W: Write>(&self, to: &mut W) -> Result<(), GssApiMessageError>
         ensures ok { OnOk result (Appends (W.contents to.old) (W.contents to.new) (mic self.now)) }
         ensures err { IfErr result IsIo }
@@ -122,11 +122,11 @@ impl MicToken {
         Ok(())
     }
 
-    /// The token that the octets are, up to the reader's end. All octets behind the first 16 are the checksum; there is no payload.
+    /// The token that the octets are, up to the reader's end. All octets after the first 16 are the checksum; there is no payload.
     ///
     /// The fields are read and checked in their order: another id is `InvalidId`, another filler `InvalidMicFiller`, and each is
-    /// told before a later field is read. A field that the reader's end cuts short is an `IoError` of kind `UnexpectedEof`, and a
-    /// fault of the reader the `IoError` of it. `OutOfMemory` comes only while the checksum is read.
+    /// returned before a later field is read. A field that the reader's end cuts short is an `IoError` of kind `UnexpectedEof`, and an
+    /// I/O error of the reader is `IoError` of it. `OutOfMemory` comes only while the checksum is read.
     pub fn decode<R: Read + Drop>(alloc: Global, reader: R) -> Result<MicToken, GssApiMessageError>
         ensures found { IfOk result (λ t. IfSome (R.remaining reader) (λ octets. MicIs octets t)) }
         ensures no_payload { IfOk result (λ t. t.payload ≡ None) }

@@ -18,10 +18,10 @@ use std::marker::Model;
 /// The flags of a new token: the data is sealed, under a subkey that the acceptor asserted (RFC 4121, 4.2.2).
 const WRAP_TOKEN_DEFAULT_FLAGS: u8 = 6;
 
-/// The number of octets in front of the data (RFC 4121, 4.2.6.2).
+/// The number of octets before the data (RFC 4121, 4.2.6.2).
 const WRAP_HEADER_LEN: usize = 16;
 
-/// A Wrap token: a message, sealed or with its checksum behind it (RFC 4121, 4.2.6.2).
+/// A Wrap token: a message, sealed or followed by its checksum (RFC 4121, 4.2.6.2).
 ///
 /// | Octets | Field | |
 /// |---|---|---|
@@ -46,7 +46,7 @@ pub struct WrapToken {
     pub seq_num: u64,
     /// The message in plain, where it is known. It is no part of the token's octets.
     pub payload: Option<Vec<u8>>,
-    /// The data behind the header.
+    /// The data after the header.
     pub checksum: Vec<u8>,
 }
 
@@ -109,7 +109,7 @@ impl WrapToken {
 
     /// Writes the header and the data. The payload is not written.
     ///
-    /// A fault of the writer is `IoError`, and no other refusal is answered; some octets may have been written then.
+    /// Every error is `IoError` of the writer; some octets may have been written then.
     pub fn encode<W: Write>(&self, to: &mut W) -> Result<(), GssApiMessageError>
         ensures ok { OnOk result (Appends (W.contents to.old) (W.contents to.new) (wrap self.now)) }
         ensures err { IfErr result IsIo }
@@ -119,11 +119,11 @@ impl WrapToken {
         Ok(())
     }
 
-    /// The token that the octets are, up to the reader's end. All octets behind the first 16 are the data; there is no payload.
+    /// The token that the octets are, up to the reader's end. All octets after the first 16 are the data; there is no payload.
     ///
     /// The fields are read and checked in their order: another id is `InvalidId`, another filler `InvalidWrapFiller`, and each is
-    /// told before a later field is read. A field that the reader's end cuts short is an `IoError` of kind `UnexpectedEof`, and a
-    /// fault of the reader the `IoError` of it. `OutOfMemory` comes only while the data is read.
+    /// returned before a later field is read. A field that the reader's end cuts short is an `IoError` of kind `UnexpectedEof`, and an
+    /// I/O error of the reader is `IoError` of it. `OutOfMemory` comes only while the data is read.
     pub fn decode<R: Read + Drop>(alloc: Global, reader: R) -> Result<WrapToken, GssApiMessageError>
         ensures found { IfOk result (λ t. IfSome (R.remaining reader) (λ octets. WrapIs octets t)) }
         ensures no_payload { IfOk result (λ t. t.payload ≡ None) }

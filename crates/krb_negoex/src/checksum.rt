@@ -127,7 +127,7 @@ impl NegoexDataType for Checksum {
 }
 
 impl Checksum {
-    /// An equal checksum; refused for memory alone.
+    /// An equal checksum. The only error is `OutOfMemory`.
     pub fn clone(&self, alloc: Global) -> io::Result<Checksum>
         ensures ok { IfOk result (λ v. checksum_parts v ≡ checksum_parts self.now) }
         ensures err { IfErr result IsMemory }

@@ -92,8 +92,8 @@ impl NegoexMessage for Exchange {
 }
 
 impl Exchange {
-    /// A message of these parts. The header length is 64, and the message's length that of its octets; `InvalidInput` where that does not fit
-    /// 32 bits. What is made has one reading, itself, once it is encoded.
+    /// A message of these parts. The header length is 64, and the message's length that of its octets; `InvalidInput` where that
+    /// does not fit 32 bits. What is made has one reading, itself, once it is encoded.
     pub fn new(
         message_type: MessageType,
         conversation_id: Uuid,
@@ -101,7 +101,11 @@ impl Exchange {
         auth_scheme: Uuid,
         exchange: Vec<u8>,
     ) -> io::Result<Self>
-        ensures ok { IfOk result (λ n. n ≡ record { header = new_header message_type conversation_id sequence_num 64 (64 + length exchange.items); auth_scheme = auth_scheme; exchange = exchange }) }
+        ensures ok { IfOk result (λ n. n ≡ record {
+          header = new_header message_type conversation_id sequence_num 64 (64 + length exchange.items);
+          auth_scheme = auth_scheme;
+          exchange = exchange;
+        }) }
         ensures one { IfOk result (λ n. HasOneReading exchange_layout 64 [] n) }
         ensures length { IfOk result (λ n. length (written exchange_layout 64 [] n) ≡ n.header.message_len) }
         ensures err { IfErr result (λ e. (error_kind e ≡ ErrorKind.InvalidInput) × (2 ^ 32 ≤ 64 + length exchange.items)) }
@@ -122,7 +126,7 @@ impl Exchange {
         })
     }
 
-    /// An equal message; refused for memory alone.
+    /// An equal message. The only error is `OutOfMemory`.
     pub fn clone(&self, alloc: Global) -> io::Result<Exchange>
         ensures ok { IfOk result (λ v. exchange_parts v ≡ exchange_parts self.now) }
         ensures err { IfErr result IsMemory }

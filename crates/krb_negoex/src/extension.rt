@@ -16,7 +16,7 @@ use std::io;
 /// that the message's end cuts short `UnexpectedEof`.
 #[derive(Debug, PartialEq, Eq, Drop)]
 pub struct Extension {
-    /// The type; where it is negative as a signed number, who does not know the extension has to refuse it.
+    /// The type; where it is negative as a signed number, who does not know the extension has to reject it.
     pub extension_type: u32,
     /// The octets of the extension.
     pub extension_value: Vec<u8>,
@@ -82,7 +82,7 @@ impl NegoexDataType for Extension {
 }
 
 impl Extension {
-    /// An equal extension; refused for memory alone.
+    /// An equal extension. The only error is `OutOfMemory`.
     pub fn clone(&self, alloc: Global) -> io::Result<Extension>
         ensures ok { IfOk result (λ v. extension_parts v ≡ extension_parts self.now) }
         ensures err { IfErr result IsMemory }
@@ -94,7 +94,7 @@ impl Extension {
     }
 }
 
-/// Equal extensions; refused for memory alone.
+/// Equal extensions. The only error is `OutOfMemory`.
 pub(crate) fn clone_all(alloc: Global, extensions: &[Extension]) -> io::Result<Vec<Extension>>
     ensures ok { IfOk result (λ v. map extension_parts v.items ≡ map extension_parts extensions.now) }
     ensures err { IfErr result IsMemory }

@@ -12,7 +12,7 @@ use std::alloc::Global;
 use std::io;
 use uuid::Uuid;
 
-/// A GUID (MS-NEGOEX 2.2.2; MS-DTYP 2.3.4): 16 octets, of which the first four, the next two and the two behind them are numbers
+/// A GUID (MS-NEGOEX 2.2.2; MS-DTYP 2.3.4): 16 octets, of which the first four, the next two and the two after them are numbers
 /// that are written little-endian. Fewer octets are `UnexpectedEof`.
 pub type Guid = Uuid;
 

@@ -29,7 +29,7 @@ use crate::traits::NegoexDataType;
 use crate::verify::Verify;
 use uuid::Uuid;
 
-/// A message whose payload is laid right behind its fixed part, as `new` makes it, is read as it alone.
+/// A message whose payload is laid right after its fixed part, as `new` makes it, is read as it alone.
 pub fn messages_read_back()
     ensures nego { (n : Nego) → nego_layout.readable n → nego_layout.laid 96 n → HasOneReading nego_layout 96 [] n }
     ensures exchange { (n : Exchange) → exchange_layout.readable n → exchange_layout.laid 64 n → HasOneReading exchange_layout 64 [] n }
@@ -38,12 +38,13 @@ pub fn messages_read_back()
 
 /// The payloads of a message, and so its length, which `new` writes into the header, by what it holds.
 pub fn lengths()
-    ensures nego { (n : Nego) → length (written nego_layout 96 [] n) ≡ 96 + (schemes_layout.payload_size n.auth_schemes + extensions_layout.payload_size n.extensions) }
+    ensures nego { (n : Nego) → length (written nego_layout 96 [] n)
+        ≡ 96 + (schemes_layout.payload_size n.auth_schemes + extensions_layout.payload_size n.extensions) }
     ensures exchange { (n : Exchange) → length (written exchange_layout 64 [] n) ≡ 64 + length n.exchange.items }
     ensures verify { (n : Verify) → length (written verify_layout 80 four_zeros n) ≡ 80 + length n.checksum.checksum_value.items }
 {}
 
-/// Octets that are no message have one fault: all refusals of them are of one kind, want of memory aside.
+/// Octets that are no message have one error: all errors of them are of one kind, allocation failures aside.
 pub fn refusals_are_of_one_kind()
     ensures nego { (m : List ℕ) (e g : Error) → nego_layout.refuses m m e → nego_layout.refuses m m g → OneFault e g }
     ensures exchange { (m : List ℕ) (e g : Error) → exchange_layout.refuses m m e → exchange_layout.refuses m m g → OneFault e g }
@@ -51,7 +52,7 @@ pub fn refusals_are_of_one_kind()
 {}
 
 /// What `decode` and `encode` of a message speak of: its own layout (MS-NEGOEX 2.2.6.3 to 2.2.6.5), a payload at its header's
-/// length, and four zeros in front of that in a `Verify` alone.
+/// length, and four zeros before that in a `Verify` alone.
 pub fn messages()
     ensures nego { SameLayout ⟦<Nego as Lay>⟧.layout nego_layout }
     ensures nego_between { ⟦<Nego as NegoexMessage>⟧.between ≡ [] }
@@ -64,8 +65,8 @@ pub fn messages()
     ensures verify_start { (n : Verify) → ⟦<Verify as NegoexMessage>⟧.start n ≡ n.header.header_len }
 {}
 
-/// What their refusals are: the layout's first fault, want of memory, a number that does not fit its field, and a writer's fault that
-/// is not a call which a signal interrupted.
+/// What their errors are: the layout's first error, an allocation failure, a number that does not fit its field, and a writer's
+/// error that is not a call which a signal interrupted.
 pub fn refusals()
     ensures nego { (m : List ℕ) (e : Error) → ⟦<Nego as NegoexMessage>⟧.refused m e ↔ nego_layout.refuses m m e }
     ensures nego_memory { (e : Error) → ⟦<Nego as NegoexMessage>⟧.is_memory e ↔ IsMemory e }
@@ -82,7 +83,7 @@ pub fn refusals()
 {}
 
 /// What the calls of a type of data speak of: its own layout (MS-NEGOEX 2.2.5 and 2.2.6), and, where it is written by itself, a
-/// payload, if there is one, right behind the fixed part, or where a checksum's length says.
+/// payload, if there is one, right after the fixed part, or where a checksum's length says.
 pub fn types_of_data()
     ensures octet { SameLayout ⟦<u8 as Lay>⟧.layout one_octet }
     ensures octet_start { (v : ℕ) → ⟦<u8 as Placed>⟧.start v ≡ 0 }
@@ -111,7 +112,7 @@ pub fn numbers()
     ensures ref_into_u32 { (kind : Bor MessageType) (n : ℕ) → ⟦<u32 as From<&'static MessageType>>⟧.from_gives kind n ↔ n ≡ type_code kind.now }
 {}
 
-/// `==`: it answers true for equal values and for no others; where a value holds vectors, for values of equal fields and elements.
+/// `==`: it is true for equal values and for no others; where a value holds vectors, for values of equal fields and elements.
 pub fn equality()
     ensures message_type { TellsEqual ⟦<MessageType as PartialEq>⟧.eq }
     ensures header { TellsEqual ⟦<MessageHeader as PartialEq>⟧.eq }

@@ -19,9 +19,9 @@ use std::io;
 use std::io::{ErrorKind, Write};
 use uuid::Uuid;
 
-/// A message (MS-NEGOEX 2.2.6): a fixed part, and a payload behind it.
+/// A message (MS-NEGOEX 2.2.6): a fixed part, and a payload after it.
 pub trait NegoexMessage: Part {
-    /// What refusals are told by.
+    /// The errors.
     type Error;
 
     /// The octets between the fixed part and the payload.
@@ -30,40 +30,41 @@ pub trait NegoexMessage: Part {
     /// Where the payload starts.
     ghost start: { Self → ℕ };
 
-    /// The first fault of octets that are no such message.
+    /// The first error of octets that are no such message.
     ghost refused: { List ℕ → Self.Error → Type 0 };
 
-    /// A growth was refused.
+    /// An allocation failed.
     ghost is_memory: { Self.Error → Type 0 };
 
     /// A number does not fit its field.
     ghost is_unfit: { Self.Error → Type 0 };
 
-    /// What a writer's fault is told as.
+    /// What an I/O error of the writer becomes.
     ghost is_fault: { Self.Error → Type 0 };
 
     /// The message that the octets begin with, what its vectors point to among them. The lengths in the header are not compared
     /// with the octets.
     ///
-    /// Fields are read in order, a vector's elements right behind its own octets, and the first fault decides. For the three
+    /// Fields are read in order, a vector's elements right after its own octets, and the first error decides. For the three
     /// messages here: `InvalidData` at another signature or message type, and where a vector's offset lies past the octets, also
     /// with the count 0; `InvalidInput` at another checksum scheme; `UnexpectedEof` where the octets end before a fixed part or
-    /// an element does; `OutOfMemory` where a growth was refused.
+    /// an element does; `OutOfMemory` where an allocation failed.
     fn decode(alloc: Global, message: &[u8]) -> Result<Self, Self::Error>
         ensures found { IfOk result (Self.layout.part message.now message.now) }
         ensures refused { IfErr result (refused message.now) }
         ensures only { (v : Self) → Self.layout.part message.now message.now v → MatchResult result (λ w. Self.layout.same w v) is_memory };
 
-    /// Writes the message. Its vectors say that the payload stands at `header_len`, whatever that is, and it is written behind
+    /// Writes the message. Its vectors say that the payload stands at `header_len`, whatever that is, and it is written after
     /// the fixed part.
     ///
-    /// `InvalidInput` where an offset or a count does not fit its 32 bits, and `OutOfMemory` where a growth was refused; the
-    /// writer is then as before. A writer's fault is passed on; it has then taken a front of the message's octets, and not all of them.
-    /// A write that a signal interrupts is made again.
+    /// `InvalidInput` where an offset or a count does not fit its 32 bits, and `OutOfMemory` where an allocation failed; the
+    /// writer is then as before. An I/O error of the writer is returned; it has then taken a prefix of the message's octets, and
+    /// not all of them. A write that a signal interrupts is tried again.
     fn encode<W: Write>(&self, alloc: Global, to: &mut W) -> Result<(), Self::Error>
         ensures laid { OnOk result (Self.layout.laid (start self.now) self.now) }
         ensures ok { OnOk result (Appends (W.contents to.old) (W.contents to.new) (written Self.layout (start self.now) between self.now)) }
-        ensures unlaid { (Self.layout.laid (start self.now) self.now → ⊥) → MatchResult result (λ _. ⊥) (λ e. is_memory e ⊎ is_unfit e) × Keeps (W.contents to.old) (W.contents to.new) }
+        ensures unlaid { (Self.layout.laid (start self.now) self.now → ⊥) → MatchResult result (λ _. ⊥) (λ e. is_memory e ⊎ is_unfit e)
+            × Keeps (W.contents to.old) (W.contents to.new) }
         ensures refused { IfErr result (λ e. ((is_memory e ⊎ (is_unfit e × (Self.layout.laid (start self.now) self.now → ⊥)))
             × Keeps (W.contents to.old) (W.contents to.new))
             ⊎ (Self.layout.laid (start self.now) self.now × is_fault e
@@ -90,7 +91,8 @@ pub(crate) fn encode_whole<M: Lay, W: Write>(
 ) -> io::Result<()>
     ensures laid { OnOk result (M.layout.laid start value.now) }
     ensures ok { OnOk result (Appends (W.contents to.old) (W.contents to.new) (written M.layout start between.now value.now)) }
-    ensures unlaid { (M.layout.laid start value.now → ⊥) → MatchResult result (λ _. ⊥) (λ e. IsMemory e ⊎ IsUnfit e) × Keeps (W.contents to.old) (W.contents to.new) }
+    ensures unlaid { (M.layout.laid start value.now → ⊥) → MatchResult result (λ _. ⊥) (λ e. IsMemory e ⊎ IsUnfit e)
+        × Keeps (W.contents to.old) (W.contents to.new) }
     ensures refused { IfErr result (EncodeRefused (M.layout.laid start value.now) (written M.layout start between.now value.now)
         (W.contents to.old) (W.contents to.new)) }
 {
@@ -110,7 +112,8 @@ pub(crate) fn header_of(
     header_len: u32,
     message_len: usize,
 ) -> io::Result<MessageHeader>
-    ensures ok { IfOk result (λ h. (h ≡ new_header message_type conversation_id sequence_num header_len message_len) × (message_len < 2 ^ 32) × header_layout.readable h) }
+    ensures ok { IfOk result (λ h. (h ≡ new_header message_type conversation_id sequence_num header_len message_len) × (message_len < 2 ^ 32)
+        × header_layout.readable h) }
     ensures err { IfErr result (λ e. (error_kind e ≡ ErrorKind.InvalidInput) × (2 ^ 32 ≤ message_len)) }
 {
     let _known = (message_type.size(), conversation_id.size());

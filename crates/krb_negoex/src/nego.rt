@@ -30,7 +30,7 @@ const NEGO_HEADER_LEN: u32 = 96;
 /// A message that names the schemes of a party (MS-NEGOEX 2.2.6.3).
 ///
 /// Layout, in octets: header 40, random octets 32, version 8, the schemes' vector 8, the extensions' vector 8: 96 in all; then the
-/// schemes, and the extensions behind them.
+/// schemes, and the extensions after them.
 #[derive(Debug, PartialEq, Eq, Drop)]
 pub struct Nego {
     /// What the message begins with.
@@ -115,8 +115,8 @@ impl NegoexMessage for Nego {
 }
 
 impl Nego {
-    /// A message of these parts. The header length is 96, the version 0, and the message's length that of its octets; `InvalidInput` where that does not fit
-    /// 32 bits. What is made has one reading, itself, once it is encoded.
+    /// A message of these parts. The header length is 96, the version 0, and the message's length that of its octets;
+    /// `InvalidInput` where that does not fit 32 bits. What is made has one reading, itself, once it is encoded.
     pub fn new(
         message_type: MessageType,
         conversation_id: Uuid,
@@ -126,10 +126,17 @@ impl Nego {
         extensions: Vec<Extension>,
     ) -> io::Result<Self>
         ensures ok { let size = 96 + (schemes_layout.payload_size auth_schemes + extensions_layout.payload_size extensions) in
-            IfOk result (λ n. n ≡ record { header = new_header message_type conversation_id sequence_num 96 size; random = random; protocol_version = 0; auth_schemes = auth_schemes; extensions = extensions }) }
+            IfOk result (λ n. n ≡ record {
+              header = new_header message_type conversation_id sequence_num 96 size;
+              random = random;
+              protocol_version = 0;
+              auth_schemes = auth_schemes;
+              extensions = extensions;
+            }) }
         ensures one { IfOk result (λ n. HasOneReading nego_layout 96 [] n) }
         ensures length { IfOk result (λ n. length (written nego_layout 96 [] n) ≡ n.header.message_len) }
-        ensures err { IfErr result (λ e. (error_kind e ≡ ErrorKind.InvalidInput) × (2 ^ 32 ≤ 96 + (schemes_layout.payload_size auth_schemes + extensions_layout.payload_size extensions))) }
+        ensures err { IfErr result (λ e. (error_kind e ≡ ErrorKind.InvalidInput)
+            × (2 ^ 32 ≤ 96 + (schemes_layout.payload_size auth_schemes + extensions_layout.payload_size extensions))) }
     {
         let vectors = auth_schemes.size().saturating_add(extensions.size());
         let size = vectors.saturating_add(80);
@@ -149,7 +156,7 @@ impl Nego {
         })
     }
 
-    /// An equal message; refused for memory alone.
+    /// An equal message. The only error is `OutOfMemory`.
     pub fn clone(&self, alloc: Global) -> io::Result<Nego>
         ensures ok { IfOk result (λ v. nego_parts v ≡ nego_parts self.now) }
         ensures err { IfErr result IsMemory }

@@ -76,7 +76,7 @@ pub(crate) fn put_u64(out: &mut Vec<u8>, number: u64) -> Result<(), AllocError>
     Ok(())
 }
 
-/// The number in the first four octets, and the octets behind it.
+/// The number in the first four octets, and the octets after it.
 pub(crate) fn u32_front(octets: &[u8]) -> io::Result<(u32, &[u8])>
     ensures number { IfOk result (λ p. (4 ≤ length octets.now) × (little_number 4 octets.now ≡ p.0)) }
     ensures behind { IfOk result (λ p. p.1.now ≡ drop 4 octets.now) }
@@ -89,7 +89,7 @@ pub(crate) fn u32_front(octets: &[u8]) -> io::Result<(u32, &[u8])>
     Ok((LittleEndian::read_u32(octets), behind))
 }
 
-/// The number in the first eight octets, and the octets behind it.
+/// The number in the first eight octets, and the octets after it.
 pub(crate) fn u64_front(octets: &[u8]) -> io::Result<(u64, &[u8])>
     ensures number { IfOk result (λ p. (8 ≤ length octets.now) × (little_number 8 octets.now ≡ p.0)) }
     ensures behind { IfOk result (λ p. p.1.now ≡ drop 8 octets.now) }

@@ -1,8 +1,8 @@
-//! What is laid in a message and read out of it: parts, and parts one behind the other.
+//! What is laid in a message and read out of it: parts, and parts one after another.
 //!
 //! A type of data of one's own names its layout (`specs/Layouts.antt`), which says what its octets mean and carries the laws
 //! of that: `number`, `constant`, `coded`, `octets`, `guid` for what has no payload, `vector` for a vector, `followed` for one
-//! part behind another, and `seen` for a struct that is seen as its fields. It then implements `Lay` and `Part`, for a struct by
+//! part after another, and `seen` for a struct that is seen as its fields. It then implements `Lay` and `Part`, for a struct by
 //! `Both` of its fields in the order of the octets and with no proof, and `NegoexDataType` or `NegoexMessage`.
 
 ghost use Rattle.std.specs.Prelude.{◌≡◌, ℕ, ◌++◌, ◌<◌, ◌≤◌, length, drop, IfOk, IfErr, OnOk, OnErr};
@@ -17,10 +17,10 @@ pub trait Lay {
     /// What octets say in a message, and how values are laid.
     ghost layout: { Layout Self };
 
-    /// Appends the fixed part to one vector, and the payload, which starts at the offset, to the other; answers where the
+    /// Appends the fixed part to one vector, and the payload, which starts at the offset, to the other; returns where the
     /// payload ends. The offset and the answer count octets from the message's first.
     ///
-    /// `InvalidInput` where an offset or a count does not fit its 32 bits, and `OutOfMemory` where a growth was refused; both
+    /// `InvalidInput` where an offset or a count does not fit its 32 bits, and `OutOfMemory` where an allocation failed; both
     /// vectors are then as before.
     fn lay(
         &self,
@@ -40,12 +40,12 @@ pub trait Lay {
 
 /// What can be read out of a message, too.
 pub trait Part: Lay {
-    /// The value whose fixed part the octets begin with, and the octets behind that. What the fixed part points to is read
+    /// The value whose fixed part the octets begin with, and the octets after that. What the fixed part points to is read
     /// out of the message.
     ///
-    /// The first fault decides: `UnexpectedEof` where octets end before a fixed part does, `InvalidData` where a vector's offset
+    /// The first error decides: `UnexpectedEof` where octets end before a fixed part does, `InvalidData` where a vector's offset
     /// lies past the message or a number is none of its field's, `InvalidInput` at a checksum's scheme, and `OutOfMemory` where
-    /// a growth was refused.
+    /// an allocation failed.
     fn read_part<'a>(
         alloc: Global,
         octets: &'a [u8],
@@ -81,7 +81,7 @@ impl<T: Lay> Lay for &T {
     }
 }
 
-/// A part, and the parts behind it: the fixed parts one behind the other, and the payloads in the same order.
+/// A part, and the parts after it: the fixed parts one after another, and the payloads in the same order.
 #[derive(Debug, Drop)]
 pub struct Both<A, B>(pub A, pub B);
 

@@ -17,7 +17,7 @@ use std::io::{Read, Write};
 /// A type of data of MS-NEGOEX 2.2: a fixed part, and a payload that stands elsewhere in the message. It is an octet, a GUID, a
 /// message type, a header, an extension, a checksum, or a vector of a type of data.
 pub trait NegoexDataType: Placed {
-    /// What refusals are told by.
+    /// The errors.
     type Error: From<io::Error>;
 
     /// What is known of every value: numbers in range.
@@ -33,12 +33,12 @@ pub trait NegoexDataType: Placed {
         ensures size { result ≡ min (Self.layout.width + Self.layout.payload_size self.now) (2 ^ 64 - 1) }
         ensures known { known self.now };
 
-    /// Writes the fixed part to one writer, and the payload to the other; answers how many octets the payload has. The payload
+    /// Writes the fixed part to one writer, and the payload to the other; returns how many octets the payload has. The payload
     /// stands in the message at the offset, which counts octets from the message's first.
     ///
-    /// `InvalidInput` where an offset or a count does not fit its 32 bits, and `OutOfMemory` where a growth was refused; both
-    /// writers are then as before. A writer's fault is passed on; the writers have then taken a front of the fixed part and nothing,
-    /// or the fixed part and a front of the payload. A write that a signal interrupts is made again.
+    /// `InvalidInput` where an offset or a count does not fit its 32 bits, and `OutOfMemory` where an allocation failed; both
+    /// writers are then as before. An I/O error of the writer is returned; the writers have then taken a prefix of the fixed part
+    /// and nothing, or the fixed part and a prefix of the payload. A write that a signal interrupts is tried again.
     final fn encode_with_payload<W: Write, V: Write>(
         &self,
         alloc: Global,
@@ -52,7 +52,8 @@ pub trait NegoexDataType: Placed {
         ensures size { IfOk result (λ n. n ≡ Self.layout.payload_size self.now) }
         ensures fixed_part { OnOk result (Appends (W.contents to.old) (W.contents to.new) (Self.layout.fixed offset self.now)) }
         ensures payload_part { OnOk result (Appends (V.contents payload_to.old) (V.contents payload_to.new) (Self.layout.payload offset self.now)) }
-        ensures unlaid { (Self.layout.laid offset self.now → ⊥) → MatchResult result (λ _. ⊥) (IsUnlaidBy Self.Error.from_gives) × Keeps (W.contents to.old) (W.contents to.new) × Keeps (V.contents payload_to.old) (V.contents payload_to.new) }
+        ensures unlaid { (Self.layout.laid offset self.now → ⊥) → MatchResult result (λ _. ⊥) (IsUnlaidBy Self.Error.from_gives)
+            × Keeps (W.contents to.old) (W.contents to.new) × Keeps (V.contents payload_to.old) (V.contents payload_to.new) }
         ensures refused { IfErr result (IsToldBy Self.Error.from_gives (λ x.
             (LayRefused (Self.layout.laid offset self.now) x × Keeps (W.contents to.old) (W.contents to.new)
             × Keeps (V.contents payload_to.old) (V.contents payload_to.new))
@@ -68,18 +69,20 @@ pub trait NegoexDataType: Placed {
         Ok(payload_part.len())
     }
 
-    /// Writes the fixed part and the payload behind it. The fixed part names the payload's place: octet 8 for a vector, 12 for
+    /// Writes the fixed part and the payload after it. The fixed part names the payload's place: octet 8 for a vector, 12 for
     /// an extension, its `header_len` for a checksum.
     ///
-    /// `InvalidInput` where an offset or a count does not fit its 32 bits, and `OutOfMemory` where a growth was refused; the
-    /// writer is then as before. A writer's fault is passed on; it has then taken a front of these octets, and not all of them. A write
-    /// that a signal interrupts is made again.
+    /// `InvalidInput` where an offset or a count does not fit its 32 bits, and `OutOfMemory` where an allocation failed; the
+    /// writer is then as before. An I/O error of the writer is returned; it has then taken a prefix of these octets, and not all
+    /// of them. A write that a signal interrupts is tried again.
     final fn encode<W: Write>(&self, alloc: Global, to: &mut W) -> Result<(), Self::Error>
     where
         Self: Sized,
         ensures laid { OnOk result (Self.layout.laid (Self.start self.now) self.now) }
-        ensures ok { OnOk result (Appends (W.contents to.old) (W.contents to.new) (Self.layout.fixed (Self.start self.now) self.now ++ Self.layout.payload (Self.start self.now) self.now)) }
-        ensures unlaid { (Self.layout.laid (Self.start self.now) self.now → ⊥) → MatchResult result (λ _. ⊥) (IsUnlaidBy Self.Error.from_gives) × Keeps (W.contents to.old) (W.contents to.new) }
+        ensures ok { OnOk result (Appends (W.contents to.old) (W.contents to.new)
+            (Self.layout.fixed (Self.start self.now) self.now ++ Self.layout.payload (Self.start self.now) self.now)) }
+        ensures unlaid { (Self.layout.laid (Self.start self.now) self.now → ⊥) → MatchResult result (λ _. ⊥) (IsUnlaidBy Self.Error.from_gives)
+            × Keeps (W.contents to.old) (W.contents to.new) }
         ensures refused { IfErr result (IsToldBy Self.Error.from_gives (EncodeRefused (Self.layout.laid (Self.start self.now) self.now)
             (Self.layout.fixed (Self.start self.now) self.now ++ Self.layout.payload (Self.start self.now) self.now) (W.contents to.old) (W.contents to.new))) }
     {
@@ -87,13 +90,13 @@ pub trait NegoexDataType: Placed {
         Ok(())
     }
 
-    /// The value whose fixed part the reader gives next; the reader then stands behind that. What the fixed part points to is
+    /// The value whose fixed part the reader gives next; the reader then stands after that. What the fixed part points to is
     /// read out of the message.
     ///
     /// `UnexpectedEof` where the reader or the message ends before a fixed part does, `InvalidData` where a vector's offset lies
     /// past the message, at another signature or at a number that is no message type's, `InvalidInput` at another checksum
-    /// scheme, and `OutOfMemory` where a growth was refused. A reader's fault before it gave a fixed part is passed on; a read that a
-    /// signal interrupts is made again.
+    /// scheme, and `OutOfMemory` where an allocation failed. An I/O error of the reader before it gave a fixed part is returned;
+    /// a read that a signal interrupts is tried again.
     final fn decode<R: Read>(
         alloc: Global,
         from: &mut R,

@@ -14,7 +14,7 @@ use std::io;
 use uuid::Uuid;
 
 /// Octets (MS-NEGOEX 2.2.5.2.3). As every vector: an offset and a count of four octets each, and the elements' fixed parts at
-/// the offset, with their payloads behind them; an empty one has the offset 0. Where the standard has a count of two octets and
+/// the offset, with their payloads after them; an empty one has the offset 0. Where the standard has a count of two octets and
 /// two of padding, the padding is read as the count's upper half.
 pub type ByteVector = Vec<u8>;
 
@@ -68,7 +68,8 @@ fn lay_elements<T: NegoexDataType>(
 ) -> io::Result<usize>
     ensures laid { OnOk result (AllLaid T.layout.laid T.layout.payload_size first elements.now) }
     ensures end { IfOk result (λ n. n ≡ first + total T.layout.payload_size elements.now) }
-    ensures appended { OnOk result (out.new.items ≡ out.old.items ++ (fixeds T.layout.fixed T.layout.payload_size first elements.now ++ fixeds T.layout.payload T.layout.payload_size first elements.now)) }
+    ensures appended { OnOk result (out.new.items ≡ out.old.items ++ (fixeds T.layout.fixed T.layout.payload_size first elements.now
+        ++ fixeds T.layout.payload T.layout.payload_size first elements.now)) }
     ensures refused { IfErr result (LayRefused (AllLaid T.layout.laid T.layout.payload_size first elements.now)) }
     ensures kept { OnErr result (out.new.items ≡ out.old.items) }
 {

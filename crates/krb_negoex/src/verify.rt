@@ -97,8 +97,8 @@ impl NegoexMessage for Verify {
 }
 
 impl Verify {
-    /// A message of these parts. The header length is 80, the checksum's 20 and its scheme RFC 3961's, and the message's length that of its octets; `InvalidInput` where that does not fit
-    /// 32 bits. What is made has one reading, itself, once it is encoded.
+    /// A message of these parts. The header length is 80, the checksum's 20 and its scheme RFC 3961's, and the message's length that
+    /// of its octets; `InvalidInput` where that does not fit 32 bits. What is made has one reading, itself, once it is encoded.
     pub fn new(
         message_type: MessageType,
         conversation_id: Uuid,
@@ -138,7 +138,7 @@ impl Verify {
         })
     }
 
-    /// An equal message; refused for memory alone.
+    /// An equal message. The only error is `OutOfMemory`.
     pub fn clone(&self, alloc: Global) -> io::Result<Verify>
         ensures ok { IfOk result (λ v. verify_parts v ≡ verify_parts self.now) }
         ensures err { IfErr result IsMemory }

@@ -21,7 +21,8 @@ fewer_behind n k x (Some xs) (Some ys) c r h =
     record { octets = take n xs ++ h.octets; fewer = omega arith; read = Consumes-trans (Some xs) (Some ys) c (take n xs) h.octets first h.read }
 
 -- a number of an entry came, and then fewer octets than its next number has
-pub refused_behind : (n k x : ℕ) (a b c : Option (List ℕ)) (e : PacError) → n + k ≤ 16 → ReadsNumber little_number n a b x → IsIo (λ f. IsNotInterrupted f × IsShortRead k b c) e → EntryRefused a c e
+pub refused_behind : (n k x : ℕ) (a b c : Option (List ℕ)) (e : PacError) → n + k ≤ 16 → ReadsNumber little_number n a b x
+    → IsIo (λ f. IsNotInterrupted f × IsShortRead k b c) e → EntryRefused a c e
 refused_behind n k x a b c (errors.IoError f) h r y =
     let all = fewer_behind n k x a b c r y.1 in
     let fewer = all.fewer in
@@ -37,7 +38,8 @@ front_of None = []
 front_of (Some xs) = xs
 
 -- two numbers came, one behind the other
-pub both_came : (n m x y : ℕ) (a b c : Option (List ℕ)) → ReadsNumber little_number n a b x → ReadsNumber little_number m b c y → ReadsNumber little_number (n + m) a c (little_number (n + m) (front_of a))
+pub both_came : (n m x y : ℕ) (a b c : Option (List ℕ)) → ReadsNumber little_number n a b x → ReadsNumber little_number m b c y
+    → ReadsNumber little_number (n + m) a c (little_number (n + m) (front_of a))
 both_came n m x y None b c r s = tt
 both_came n m x y (Some xs) None c r s = absurd r
 both_came n m x y (Some xs) (Some ys) None r s = absurd s

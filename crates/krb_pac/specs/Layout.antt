@@ -5,6 +5,7 @@ use Rattle.std.specs.Prelude.{◌≡◌, Bool, nat_eq, ℕ, suc, ◌+◌, ◌*�
 use Rattle.byteorder.specs.Endian.{little_number}
 use Rattle.krb_pac.specs.Kind.{code}
 use Rattle.krb_pac.specs.Entry.{Entry}
+use Rattle.krb_pac.specs.declared.kind.PacBufferType.{PacBufferType}
 
 -- the 16 octets from `at` on are this entry (MS-PAC 2.4, PAC_INFO_BUFFER)
 pub record EntryAt (b : List ℕ) (at : ℕ) (e : Entry) : Type 0 where
@@ -12,6 +13,10 @@ pub record EntryAt (b : List ℕ) (at : ℕ) (e : Entry) : Type 0 where
   pub kind : little_number 4 (drop at b) ≡ code e.ul_type
   pub size : little_number 4 (drop (at + 4) b) ≡ e.cb_buffer_size
   pub offset : little_number 8 (drop (at + 8) b) ≡ e.offset
+
+-- the entry of this type, whose size and offset the octets after its type begin with
+abbrev pub entry_of_type : PacBufferType → List ℕ → Entry
+entry_of_type kind rest = record { ul_type = kind; cb_buffer_size = little_number 4 rest; offset = little_number 8 (drop 4 rest) }
 
 -- an entry and the octets that it names
 pub record Buffer : Type 0 where

@@ -19,13 +19,3 @@ pub(crate) fn read_u32<R: Read>(from: &mut R) -> Result<u32, PacError>
     read_exact(from, &mut octets)?;
     Ok(LittleEndian::read_u32(&octets))
 }
-
-/// The number in the reader's next eight octets.
-pub(crate) fn read_u64<R: Read>(from: &mut R) -> Result<u64, PacError>
-    ensures bytes { IfOk result (λ n. ReadsNumber little_number 8 (R.remaining from.old) (R.remaining from.new) n) }
-    ensures fault { IfErr result (IsIo (λ x. IsNotInterrupted x × IsShortRead 8 (R.remaining from.old) (R.remaining from.new))) }
-{
-    let mut octets = [0; 8];
-    read_exact(from, &mut octets)?;
-    Ok(LittleEndian::read_u64(&octets))
-}

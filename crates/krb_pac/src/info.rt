@@ -1,19 +1,20 @@
 //! The entry of one buffer.
 
-ghost use Rattle.std.specs.Prelude.{◌≡◌, ℕ, drop, Some, IfOk, IfErr, IfSome, OnOk};
+ghost use Rattle.std.specs.Prelude.{◌≡◌, ℕ, ◌≤◌, length, drop, Some, IfOk, IfErr, IfSome, OnOk};
 ghost use Rattle.std.specs.Io.KnownBytes.{Appends};
 ghost use Rattle.krb_io.specs.Transfer.{IsNotInterrupted, IsPrefixWritten};
 ghost use Rattle.krb_pac.specs.Devices.{EntryRefused, IsIo};
 ghost use Rattle.krb_pac.specs.Entry.{Entry};
-ghost use Rattle.krb_pac.specs.Layout.{EntryAt};
+ghost use Rattle.krb_pac.specs.Layout.{EntryAt, entry_of_type};
 ghost use Rattle.krb_pac.specs.Refused.{AnswersUnlessFault};
 ghost use Rattle.krb_pac.specs.Written.{entry_octets};
 
-use crate::devices::{read_u32, read_u64};
+use crate::devices::read_u32;
 use crate::error::PacError;
 use crate::kind::PacBufferType;
 use crate::writing::entry;
-use krb_io::write_all;
+use byteorder::{ByteOrder, LittleEndian};
+use krb_io::{read_exact, write_all};
 use std::io::{Read, Write};
 use std::marker::Model;
 
@@ -53,6 +54,19 @@ impl PacInfoBuffer {
         }
     }
 
+    /// The entry of this type, whose size and offset the octets after its type begin with.
+    pub(crate) fn of_type(ul_type: PacBufferType, rest: &[u8]) -> Self
+        requires { 12 ≤ length rest.now }
+        ensures { result ≡ entry_of_type ul_type rest.now }
+    {
+        let (_, offset) = rest.split_at(4);
+        PacInfoBuffer {
+            ul_type,
+            cb_buffer_size: LittleEndian::read_u32(rest),
+            offset: LittleEndian::read_u64(offset),
+        }
+    }
+
     /// What the buffer holds.
     pub fn ul_type(&self) -> PacBufferType
         ensures { result ≡ self.now.ul_type }
@@ -87,9 +101,9 @@ impl PacInfoBuffer {
     {
         let number = read_u32(reader)?;
         let ul_type = PacBufferType::try_from(number)?;
-        let cb_buffer_size = read_u32(reader)?;
-        let offset = read_u64(reader)?;
-        Ok(PacInfoBuffer::new(ul_type, cb_buffer_size, offset))
+        let mut rest = [0; 12];
+        read_exact(reader, &mut rest)?;
+        Ok(PacInfoBuffer::of_type(ul_type, &rest))
     }
 
     /// Writes the 16 octets of the entry. A fault of the writer is `IoError`; it has then taken a front of these octets, and not all

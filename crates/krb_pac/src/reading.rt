@@ -30,28 +30,15 @@ pub(crate) fn u32_at(bytes: &[u8], at: usize) -> Result<u32, PacError>
     Ok(LittleEndian::read_u32(rest))
 }
 
-/// The number in the eight octets from `at` on.
-pub(crate) fn u64_at(bytes: &[u8], at: usize) -> Result<u64, PacError>
-    ensures ok { IfOk result (λ n. (at + 8 ≤ length bytes.now) × (little_number 8 (drop at bytes.now) ≡ n)) }
-    ensures err { IfErr result (λ e. IsEof e × (length bytes.now < at + 8)) }
-{
-    if at > bytes.len() || bytes.len() - at < 8 {
-        return Err(cut_short());
-    }
-    let (_, rest) = bytes.split_at(at);
-    Ok(LittleEndian::read_u64(rest))
-}
-
 /// The entry in the sixteen octets from `at` on.
 pub(crate) fn entry_at(bytes: &[u8], at: usize) -> Result<PacInfoBuffer, PacError>
     ensures ok { IfOk result (EntryAt bytes.now at) }
     ensures err { IfErr result (BufferRefused bytes.now at) }
 {
-    if at > bytes.len() {
+    let ul_type = PacBufferType::try_from(u32_at(bytes, at)?)?;
+    if bytes.len() - at < 16 {
         return Err(cut_short());
     }
-    let ul_type = PacBufferType::try_from(u32_at(bytes, at)?)?;
-    let cb_buffer_size = u32_at(bytes, at + 4)?;
-    let offset = u64_at(bytes, at + 8)?;
-    Ok(PacInfoBuffer::new(ul_type, cb_buffer_size, offset))
+    let (_, rest) = bytes.split_at(at + 4);
+    Ok(PacInfoBuffer::of_type(ul_type, rest))
 }

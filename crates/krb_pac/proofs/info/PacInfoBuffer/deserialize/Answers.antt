@@ -1,18 +1,26 @@
-use Rattle.std.proofs.Common.{arith}
+use Rattle.std.proofs.Common.{◌≡◌, length, rules}
 use Rattle.std.proofs.lemmas.Result.{err_from_is_err_and}
-use Rattle.krb_pac.proofs.Calls.{both_came, refused_behind}
-use Rattle.krb_pac.proofs.EntryRead.{only_read}
+use Rattle.krb_pac.proofs.Calls.{fewer_behind}
+use Rattle.krb_pac.proofs.EntryRead.{entry_found, entry_passed, only_entry}
 use Rattle.krb_pac.proofs.info.PacInfoBuffer.deserialize.Goals as goal
 
+pub returns-clause-found : goal.returns-clause-found
+returns-clause-found g c =
+    let long : length c.read_exact.new.buffer ≡ 12 = search rules in
+    entry_found _ _ _ _ _ _ _ c.of_type.ensures long c.in_ok-number.ensures.bytes c.in_ok-ul_type.ensures.0 c.in_ok-read_exact.ensures.octets
+
+pub returns-clause-behind : goal.returns-clause-behind
+returns-clause-behind g c =
+    let long : length c.read_exact.new.buffer ≡ 12 = search rules in
+    entry_passed _ _ _ _ _ _ long c.in_ok-number.ensures.bytes c.in_ok-ul_type.ensures.0 c.in_ok-read_exact.ensures.octets
+
 pub returns-clause-only : goal.returns-clause-only
-returns-clause-only g c = only_read _ _ _ _ _ _ _ _ _ c.new.ensures c.in_ok-number.ensures.bytes c.in_ok-ul_type.ensures.0 c.in_ok-cb_buffer_size.ensures.bytes c.in_ok-offset.ensures.bytes
+returns-clause-only g c =
+    let long : length c.read_exact.new.buffer ≡ 12 = search rules in
+    only_entry _ _ _ _ _ _ _ c.of_type.ensures long c.in_ok-number.ensures.bytes c.in_ok-ul_type.ensures.0 c.in_ok-read_exact.ensures.octets
 
-pub returns-in_err-cb_buffer_size-clause-refused : goal.returns-in_err-cb_buffer_size-clause-refused
-returns-in_err-cb_buffer_size-clause-refused g c =
-    let p = err_from_is_err_and c.from_residual-in_err-cb_buffer_size.result c.from_residual-in_err-cb_buffer_size.ensures.1 in
-    rw (p.1, p.2) (refused_behind 4 4 _ _ _ _ c.in_err-cb_buffer_size.field-0.0 (omega arith) c.in_ok-number.ensures.bytes c.in_err-cb_buffer_size.ensures.fault)
-
-pub returns-in_err-offset-clause-refused : goal.returns-in_err-offset-clause-refused
-returns-in_err-offset-clause-refused g c =
-    let p = err_from_is_err_and c.from_residual-in_err-offset.result c.from_residual-in_err-offset.ensures.1 in
-    rw (p.1, p.2) (refused_behind 8 8 _ _ _ _ c.in_err-offset.field-0.0 (omega arith) (both_came 4 4 _ _ _ _ _ c.in_ok-number.ensures.bytes c.in_ok-cb_buffer_size.ensures.bytes) c.in_err-offset.ensures.fault)
+pub returns-in_err-read_exact-clause-refused : goal.returns-in_err-read_exact-clause-refused
+returns-in_err-read_exact-clause-refused g c =
+    let p = err_from_is_err_and c.from_residual-in_err-read_exact.result c.from_residual-in_err-read_exact.ensures.1 in
+    let short = fewer_behind 4 12 _ _ _ _ c.in_ok-number.ensures.bytes c.in_err-read_exact.ensures.fewer in
+    rw (p.1, p.2) (c.in_err-read_exact.ensures.lasting, short)
