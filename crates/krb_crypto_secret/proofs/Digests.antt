@@ -1,4 +1,4 @@
--- The digests, and their front.
+-- The digests, and their prefix.
 use Rattle.std.proofs.Common.{◌≡◌, ℕ, zero, suc, ◌+◌, ◌-◌, ◌≤◌, inl, inr, List, [], ◌∷◌, ◌++◌, length, take, min, refl, sym, ap, ◌∙◌, arith, rules, add-one}
 use Rattle.std.proofs.lemmas.Bool.{cases_lt}
 use Rattle.std.proofs.lemmas.List.{length-append, append-nil, length-take-le, take-append-le, take_all}
@@ -28,7 +28,7 @@ longer x n (suc k) size h =
     let wide = longer x n k size h in
     rw e (omega (arith, more, wide))
 
--- more digests leave the front as it is
+-- more digests leave the prefix as it is
 pub same_front : (x : List ℕ) (size n k : ℕ) → size ≤ length (digests x n) → take size (digests x (n + k)) ≡ take size (digests x n)
 unfolding digests
 same_front x size n zero h = let e : n + 0 ≡ n = omega arith in ap (λ j. take size (digests x j)) e
@@ -44,7 +44,7 @@ cut_so d kept m ld e = elim (cases_lt m 20) [
   | inr ge ↦ take_all kept d (omega (arith, e, ge, ld)) ∙ sym (take_all m d (omega (arith, ge, ld)))
 ]
 
--- the front of the digests so far, and as much of the next as it still wants
+-- the prefix of the digests so far, and as much of the next as it still wants
 pub front_next : (size : ℕ) (a d front : List ℕ) (kept : ℕ) → length d ≡ 20 → front ≡ take size a → kept ≡ min 20 (size - length front) → front ++ take kept d ≡ take size (a ++ d)
 front_next size a d front kept ld e ek = elim (cases_lt (length a) size) [
   | inl lt ↦

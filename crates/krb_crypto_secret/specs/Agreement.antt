@@ -8,7 +8,7 @@ unfoldable pub digests : List ℕ → ℕ → List ℕ
 digests x zero = []
 digests x (suc n) = digests x n ++ sha1 (n ∷ x)
 
--- octetstring2key(x), where random-to-key makes a key of a seed of so many octets: of the front of the digests, of which there
+-- octetstring2key(x), where random-to-key makes a key of a seed of so many octets: of the prefix of the digests, of which there
 -- are 256, since the number is one octet
 abbrev pub octets_to_key : (List ℕ → List ℕ) → ℕ → List ℕ → List ℕ
 octets_to_key random_to_key seed_octets x = random_to_key (take seed_octets (digests x 256))

@@ -13,24 +13,24 @@ use thiserror::Error;
 /// The octets of a digest of SHA-1.
 const DIGEST_SIZE: usize = 20;
 
-/// The most octets that a seed may have: those of the digests of 256 messages, since the number in front of each is one octet.
+/// The most octets that a seed may have: those of the digests of 256 messages, since the number before each is one octet.
 const LONGEST_SEED: usize = 5120;
 
 /// Why no key is made of a shared secret.
 #[derive(Debug, Drop, Error)]
 pub enum DiffieHellmanError {
-    /// Not answered by any call.
+    /// Not returned by any call.
     #[error("Invalid bit len: {0}")]
     BitLen(String),
     /// The octets that the cipher's seed has, and the most that the digests give, which is 5120.
     #[error("Invalid data len: expected at least {0} but got {1}.")]
     DataLen(usize, usize),
-    /// A growth of memory was refused.
+    /// An allocation failed.
     #[error("out of memory")]
     OutOfMemory,
 }
 
-/// What is answered of a shared secret.
+/// The result of a call over a shared secret.
 pub type DiffieHellmanResult<T> = Result<T, DiffieHellmanError>;
 
 impl From<AllocError> for DiffieHellmanError {
@@ -61,15 +61,15 @@ pub struct DhNonce<'a> {
 /// The key that the cipher makes of a shared secret: octetstring2key(DHSharedSecret | n_c | n_k) of RFC 4556, 3.2.3.1. Without
 /// nonces both are empty.
 ///
-/// `DataLen` of the seed's octets and 5120 where the cipher's seed has more than 5120; nothing else is refused, but for want of
-/// memory.
+/// `DataLen` of the seed's octets and 5120 where the cipher's seed has more than 5120; `OutOfMemory` is the only other error.
 pub fn generate_key_from_shared_secret(
     alloc: Global,
     dh_shared_secret: Vec<u8>,
     nonce: Option<DhNonce>,
     cipher: &dyn Cipher,
 ) -> DiffieHellmanResult<Vec<u8>>
-    ensures key { IfOk result (λ key. key.items ≡ octets_to_key (key_of_seed cipher.now) (seed_bits cipher.now / 8) (dh_shared_secret.items ++ nonces nonce.entry)) }
+    ensures key { IfOk result (λ key. key.items ≡
+        octets_to_key (key_of_seed cipher.now) (seed_bits cipher.now / 8) (dh_shared_secret.items ++ nonces nonce.entry)) }
     ensures size { IfOk result (λ key. length key.items ≡ key_octets cipher.now) }
     ensures long { 5120 < seed_bits cipher.now / 8 → result ≡ Err (DataLen (seed_bits cipher.now / 8) 5120) }
     ensures refused { seed_bits cipher.now / 8 ≤ 5120 → IfErr result (λ e. e ≡ OutOfMemory) }
@@ -96,7 +96,7 @@ pub fn generate_key_from_shared_secret(
     }
 }
 
-/// The first `size` octets of the digests of these three parts, joined.
+/// The first `size` octets of the digests of these three parts, concatenated.
 fn seed_of(
     alloc: Global,
     secret: &[u8],
@@ -118,7 +118,7 @@ fn seed_of(
     Ok(seed)
 }
 
-/// The SHA-1 digest of a number in one octet and of these three parts, joined.
+/// The SHA-1 digest of a number in one octet and of these three parts, concatenated.
 fn digest_of(number: u8, secret: &[u8], client_nonce: &[u8], server_nonce: &[u8]) -> [u8; 20]
     ensures { result ≡ sha1 (number ∷ (secret.now ++ client_nonce.now ++ server_nonce.now)) }
 {

@@ -12,10 +12,10 @@ use rand_core::Rng;
 use std::alloc::Global;
 
 /// The payload, encrypted by the cipher under a confounder of `confounder_size` octets, which the generator gives at one
-/// call, and the integrity checksum behind it.
+/// call, and the integrity checksum after it.
 ///
-/// A key of another length than `key_size` octets is `KeyLength`; nothing else is refused. The generator has given the
-/// confounder then too. Only where the answer is `OutOfMemory` it may be as before.
+/// A key of another length than `key_size` octets is `KeyLength`; `OutOfMemory` is the only other error. The generator has given
+/// the confounder then too. Only where the result is `OutOfMemory` it may be as before.
 pub fn encrypt_with_rng<R: Rng>(
     alloc: Global,
     cipher: &dyn Cipher,
@@ -25,9 +25,11 @@ pub fn encrypt_with_rng<R: Rng>(
     rng: &mut R,
 ) -> KerberosCryptoResult<Vec<u8>>
     ensures key { IfOk result (λ _. length key.now ≡ key_octets cipher.now) }
-    ensures sealed { IfOk result (λ octets. IsTheOne (meaning cipher.now key.now key_usage (fill_bytes (confounder_octets cipher.now) (R.stream rng.old)).0 payload.now) octets.items) }
+    ensures sealed { IfOk result (λ octets. IsTheOne
+        (meaning cipher.now key.now key_usage (fill_bytes (confounder_octets cipher.now) (R.stream rng.old)).0 payload.now) octets.items) }
     ensures refused { IfErr result (RefusesKey (key_octets cipher.now) key.now) }
-    ensures stream { (R.stream rng.new ≡ (fill_bytes (confounder_octets cipher.now) (R.stream rng.old)).1) ⊎ (IsErrAnd result (λ e. e ≡ OutOfMemory) × (rng.new ≡ rng.old)) }
+    ensures stream { (R.stream rng.new ≡ (fill_bytes (confounder_octets cipher.now) (R.stream rng.old)).1)
+        ⊎ (IsErrAnd result (λ e. e ≡ OutOfMemory) × (rng.new ≡ rng.old)) }
 {
     let mut confounder = vec![in alloc; 0; cipher.confounder_size()]?;
     rng.fill_bytes(&mut confounder);

@@ -1,4 +1,4 @@
--- Octets of which a writer has taken a front.
+-- Octets of which a writer has taken a prefix.
 use Rattle.std.proofs.Common.{◌≡◌, ℕ, ◌+◌, List, [], ◌++◌, Option, None, Some, take, drop, refl, sym, ap, subst, append_assoc, append-nil, ◌∙◌}
 use Rattle.std.proofs.Math.Seq.{take-add}
 use Rattle.std.proofs.lemmas.List.{drop-drop}
@@ -24,7 +24,7 @@ Appends-none : (a : Option (List ℕ)) → Appends a a []
 Appends-none None = tt
 Appends-none (Some l) = sym (append-nil l)
 
--- the writer's octets, known before and after, have grown by a front of these, and this is the rest
+-- the writer's octets, known before and after, have grown by a prefix of these, and this is the rest
 pub record HasFront (before after : Option (List ℕ)) (octets rest : List ℕ) : Type 0 where
   pub count : ℕ
   pub rest_is : rest ≡ drop count octets

@@ -39,7 +39,7 @@ octets_same word xs ys one other = ap octets_or_none (sym one ∙ other)
 usage_same : (word : List ℕ) (z y : ℤ) → IsUsage word z → IsUsage word y → z ≡ y
 usage_same word z y one other = one.value ∙ sym other.value
 
--- words that are refused by the first of them
+-- words that are rejected by the first of them
 
 pub etype_refused : (etype keyhex usage : List ℕ) (e : Failure) → RefusesEtype etype e → RefusesKeyWords etype keyhex usage e
 etype_refused etype keyhex usage e (inr unknown) = inr (inl unknown)
@@ -102,7 +102,7 @@ module _ {V : Type 0} (is_value : V → Type 0) (enc : V → List ℕ) where
       → IsSealing is_value enc s k z f input answer → IsSealing is_value enc t l y g input answer
   sealing_same s t k l z y f g input answer es ek ez ef is = rw (← es, ← ek, ← ez, ← ef) is
 
-  -- words that have an answer are a command's
+  -- words that have a result are a command's
   pub answers_words : (words : List (List ℕ)) (input answer : List ℕ) → Answers is_value enc words input answer → AreWords words
   answers_words (word ∷ []) input answer held = held.0
   answers_words (word ∷ etype ∷ keyhex ∷ usage ∷ []) input answer held = (held.0, held.1, held.2, held.3, held.5)
@@ -112,7 +112,7 @@ module _ {V : Type 0} (is_value : V → Type 0) (enc : V → List ℕ) where
   answers_words (word ∷ (etype ∷ (keyhex ∷ []))) input answer held = elim held [ ]
   answers_words (word ∷ (etype ∷ (keyhex ∷ (usage ∷ (confhex ∷ (_ ∷ _)))))) input answer held = elim held [ ]
 
-  -- the words and their command answer the same
+  -- the words and their command result the same
   pub answers_to : (words : List (List ℕ)) (command : Command) (input answer : List ℕ) → IsCommand words command
       → Answers is_value enc words input answer → IsAnswer is_value enc command input answer
   answers_to (word ∷ []) Check input answer is held = held.1

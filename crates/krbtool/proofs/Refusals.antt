@@ -1,4 +1,4 @@
--- Refusals of parts, told as those of a run.
+-- Errors of parts, as those of a run.
 use Rattle.std.proofs.Common.{◌≡◌, ◌≢◌, ℕ, Bool, List, refl, inl, inr}
 use Rattle.krb_crypto_hash.specs.CryptoError.{IsMemoryOr}
 use Rattle.krb_crypto_hash.specs.declared.error.KerberosCryptoError.{KerberosCryptoError}
@@ -17,9 +17,9 @@ use Rattle.krbtool.specs.Failures.{of_part}
 use Rattle.krbtool.specs.declared.failure.Failure.TheVariants.{Words, Der, Crypto}
 use Rattle.krbtool.specs.declared.command.Command.{Command}
 use Rattle.krbtool.specs.declared.command.Command.TheVariants.{Check, Seal, Open}
-use Rattle.krbtool.specs.Commands.{IsUnread, IsUnsealed, IsUnopened, IsRefusal}
+use Rattle.krbtool.specs.Commands.{IsReadError, IsSealError, IsOpenError, IsRefusal}
 
--- a refusal that is not for want of memory
+-- an error that is not for an allocation failure
 not_memory : {P : Type 0} (why : KerberosCryptoError) → why ≢ crypto.OutOfMemory → IsMemoryOr why P → P
 not_memory why other (inl memory) = absurd (other memory)
 not_memory why other (inr held) = held
@@ -30,35 +30,35 @@ not_der_memory P why other (inl memory) = absurd (other memory)
 not_der_memory P why other (inr held) = held
 
 module _ {V : Type 0} (is_value : V → Type 0) (enc : V → List ℕ) (first : ℕ → Bool) (fault : ℕ → List ℕ → Asn1DerError → Type 0) where
-  pub unopened_part : (fill : ℕ) (given : List ℕ → Type 0) (right : Type 0) (unopened : KerberosCryptoError → Type 0) (e : PartError)
+  pub open_error_of_part : (fill : ℕ) (given : List ℕ → Type 0) (right : Type 0) (unopened : KerberosCryptoError → Type 0) (e : PartError)
       → (right → IfCrypto e (λ why. IsMemoryOr why (IsOfNone given))) → IfCrypto e (λ why. IsMemoryOr why (unopened why))
       → IfDer e (λ why. (filled : List ℕ) × Opens fill given filled × RefusesFilled (Encodings is_value enc) fill filled why
       × OrMemory (FilledFault (Encodings is_value enc) first fault fill filled) why)
-      → IsUnopened is_value enc first fault fill given right unopened (of_part e)
-  unopened_part fill given right unopened (part.Crypto crypto.OutOfMemory) none exact more = inl refl
-  unopened_part fill given right unopened (part.Crypto why) none exact more =
+      → IsOpenError is_value enc first fault fill given right unopened (of_part e)
+  open_error_of_part fill given right unopened (part.Crypto crypto.OutOfMemory) none exact more = inl refl
+  open_error_of_part fill given right unopened (part.Crypto why) none exact more =
       let other : why ≢ crypto.OutOfMemory = λ same. (cc) in
       inr (inl (why, refl, not_memory why other exact, λ is. not_memory why other (none is)))
-  unopened_part fill given right unopened (part.Der der.OutOfMemory) none exact more = inl refl
-  unopened_part fill given right unopened (part.Der why) none exact more = inr (inr (why, refl, more.0, more.1, more.2, not_der_memory (FilledFault (Encodings is_value enc) first fault fill more.0) why (λ same. (cc)) more.3))
+  open_error_of_part fill given right unopened (part.Der der.OutOfMemory) none exact more = inl refl
+  open_error_of_part fill given right unopened (part.Der why) none exact more = inr (inr (why, refl, more.0, more.1, more.2, not_der_memory (FilledFault (Encodings is_value enc) first fault fill more.0) why (λ same. (cc)) more.3))
 
-  -- no input is refused for words
+  -- no input is an error of the arguments
 
-  unread_not_words : (octets : List ℕ) (e : Failure) → IsUnread is_value enc first fault octets e → e ≡ Words → ⊥
-  unread_not_words octets e (inl memory) same = (cc)
-  unread_not_words octets e (inr der) same = let is : e ≡ Der der.0 = der.1 in (cc)
+  read_error_not_words : (octets : List ℕ) (e : Failure) → IsReadError is_value enc first fault octets e → e ≡ Words → ⊥
+  read_error_not_words octets e (inl memory) same = (cc)
+  read_error_not_words octets e (inr der) same = let is : e ≡ Der der.0 = der.1 in (cc)
 
-  unsealed_not_words : (size : ℕ) (key octets : List ℕ) (e : Failure) → IsUnsealed is_value enc first fault size key octets e → e ≡ Words → ⊥
-  unsealed_not_words size key octets e (inl unread) same = unread_not_words octets e unread same
-  unsealed_not_words size key octets e (inr other) same = let is = other.1 in (cc)
+  seal_error_not_words : (size : ℕ) (key octets : List ℕ) (e : Failure) → IsSealError is_value enc first fault size key octets e → e ≡ Words → ⊥
+  seal_error_not_words size key octets e (inl unread) same = read_error_not_words octets e unread same
+  seal_error_not_words size key octets e (inr other) same = let is = other.1 in (cc)
 
-  unopened_not_words : (fill : ℕ) (given : List ℕ → Type 0) (right : Type 0) (unopened : KerberosCryptoError → Type 0) (e : Failure)
-      → IsUnopened is_value enc first fault fill given right unopened e → e ≡ Words → ⊥
-  unopened_not_words fill given right unopened e (inl memory) same = (cc)
-  unopened_not_words fill given right unopened e (inr (inl other)) same = let is : e ≡ Crypto other.0 = other.1 in (cc)
-  unopened_not_words fill given right unopened e (inr (inr other)) same = let is : e ≡ Der other.0 = other.1 in (cc)
+  open_error_not_words : (fill : ℕ) (given : List ℕ → Type 0) (right : Type 0) (unopened : KerberosCryptoError → Type 0) (e : Failure)
+      → IsOpenError is_value enc first fault fill given right unopened e → e ≡ Words → ⊥
+  open_error_not_words fill given right unopened e (inl memory) same = (cc)
+  open_error_not_words fill given right unopened e (inr (inl other)) same = let is : e ≡ Crypto other.0 = other.1 in (cc)
+  open_error_not_words fill given right unopened e (inr (inr other)) same = let is : e ≡ Der other.0 = other.1 in (cc)
 
   pub refusal_not_words : (command : Command) (octets : List ℕ) (e : Failure) → IsRefusal is_value enc first fault command octets e → e ≡ Words → ⊥
-  refusal_not_words Check octets e why same = unread_not_words octets e why same
-  refusal_not_words (Seal key confounder) octets e why same = unsealed_not_words _ key.octets.items octets e why same
-  refusal_not_words (Open key) octets e why same = unopened_not_words _ _ _ _ e why same
+  refusal_not_words Check octets e why same = read_error_not_words octets e why same
+  refusal_not_words (Seal key confounder) octets e why same = seal_error_not_words _ key.octets.items octets e why same
+  refusal_not_words (Open key) octets e why same = open_error_not_words _ _ _ _ e why same

@@ -13,7 +13,7 @@ use Rattle.krbtool.specs.Words.{AreWords, IsCommand, NameUnknown, AreNoWords, Re
 use Rattle.krbtool.proofs.Parsing.{command_words, names_none, names_same, answers_words, answers_to, answers_from}
 use Rattle.krbtool.proofs.Refusals.{refusal_not_words}
 
--- ---- words that are refused
+-- ---- words that are rejected
 
 words_told : (words : List (List ℕ)) (e : Failure) → RefusesWords words e → AreNoWords words → (e ≡ Words) ⊎ (e ≡ Memory)
 words_told words e (inl memory) none = inr memory
@@ -37,7 +37,7 @@ words_outside words e (inr (inl unknown)) are = absurd (names_none words unknown
 words_outside words e (inr (inr never)) are = absurd (never.1.0 are)
 
 module _ {V : Type 0} (is_value : V → Type 0) (enc : V → List ℕ) (first : ℕ → Bool) (fault : ℕ → List ℕ → Asn1DerError → Type 0) where
-  -- where each answer has an outcome like this, so do the answers to a known input
+  -- where each result has an outcome like this, so do the returns to a known input
   each_answer : (words : List (List ℕ)) (input : Option (List ℕ)) (P : List ℕ → Type 0)
       → ((octets answer : List ℕ) → input ≡ Some octets → Answers is_value enc words octets answer → P answer)
       → IfSome input (λ octets. (answer : List ℕ) → Answers is_value enc words octets answer → P answer)
@@ -57,7 +57,7 @@ module _ {V : Type 0} (is_value : V → Type 0) (enc : V → List ℕ) (first : 
     because = inr (inl why);
   }
 
-  -- a run whose words are a command's, and which is refused for no words
+  -- a run whose words are a command's, and which is rejected for no words
   command_run : (words : List (List ℕ)) (command : Command) (e : Failure) (input rest before after : Option (List ℕ)) → IsCommand words command → (e ≡ Words → ⊥)
       → IfSome input (λ octets. (answer : List ℕ) → Answers is_value enc words octets answer → IsOutside e)
       → (Keeps before after ⊎ ((e ≡ Write) × IsAtEnd rest × IfSome input (λ octets. (answer : List ℕ) × Answers is_value enc words octets answer)))
@@ -116,7 +116,7 @@ module _ {V : Type 0} (is_value : V → Type 0) (enc : V → List ℕ) (first : 
       (known_answers words command octets input (λ answer. IsOutside e) is all only)
       (inl (Keeps-refl before)) (inr (inr (inr (known_refusal words command e octets input is all why))))
 
-  -- the answer that was made is one to the known input
+  -- the result that was made is one to the known input
   known_answer : (words : List (List ℕ)) (command : Command) (octets made : List ℕ) (input : Option (List ℕ)) → IsCommand words command
       → IsAnswer is_value enc command octets made → IfSome input (λ all. octets ≡ all)
       → IfSome input (λ all. (answer : List ℕ) × Answers is_value enc words all answer)

@@ -1,4 +1,4 @@
--- What a refusal of the library is told as, and the line that the program tells.
+-- What an error of the library is told as, and the line that the program tells.
 use Rattle.std.specs.Prelude.{List, ℕ, codes}
 use Rattle.krb_crypto_hash.specs.declared.error.KerberosCryptoError.{KerberosCryptoError}
 use Rattle.krb_crypto_hash.specs.declared.error.KerberosCryptoError.TheVariants as crypto
@@ -9,17 +9,17 @@ use Rattle.krb_seal.specs.declared.error.PartError.TheVariants as part
 use Rattle.krbtool.specs.declared.failure.Failure.{Failure}
 use Rattle.krbtool.specs.declared.failure.Failure.TheVariants.{Words, Der, Crypto, Memory, Read, Write}
 
--- a refusal by the type of a value is told as itself, and want of memory as such
+-- an error of the type of a value is a failure of its own, and an allocation failure is one
 abbrev pub of_der : Asn1DerError → Failure
 of_der der.OutOfMemory = Memory
 of_der e = Der e
 
--- so is one by the cipher
+-- so is one of the cipher
 abbrev pub of_crypto : KerberosCryptoError → Failure
 of_crypto crypto.OutOfMemory = Memory
 of_crypto e = Crypto e
 
--- and one of a part, by either
+-- and one of a part, of either
 abbrev pub of_part : PartError → Failure
 of_part (part.Crypto e) = of_crypto e
 of_part (part.Der e) = of_der e

@@ -10,7 +10,7 @@ use Rattle.krbtool.specs.Failures.{line_of}
 use Rattle.krbtool.specs.Commands.{IsRefusal}
 use Rattle.krbtool.specs.Words.{AreWords, IsCommand, NameUnknown, AreNoWords, RefusesWords, Answers}
 
--- the status of a refusal
+-- the status of an error
 abbrev pub refusal_status : Failure → ℕ
 refusal_status Words = 2
 refusal_status e = 1
@@ -20,18 +20,18 @@ abbrev pub status_of : Result ⊤ Failure → ℕ
 status_of (Ok t) = 0
 status_of (Err e) = refusal_status e
 
--- What is told of a run, where the octets of the place for it are known (before and after): nothing of one that succeeds,
--- and else the line of its refusal, or a front of it where the place takes no more.
-abbrev pub IsTold : Option (List ℕ) → Option (List ℕ) → Result ⊤ Failure → Type 0
-IsTold before after (Ok t) = Keeps before after
-IsTold before after (Err e) = (count : ℕ) × Appends before after (take count (line_of e))
+-- What a run writes to standard error, where its octets are known (before and after): nothing where it succeeds, and else the
+-- line of its error, or a prefix of it where the writer fails.
+abbrev pub IsLineWritten : Option (List ℕ) → Option (List ℕ) → Result ⊤ Failure → Type 0
+IsLineWritten before after (Ok t) = Keeps before after
+IsLineWritten before after (Err e) = (count : ℕ) × Appends before after (take count (line_of e))
 
--- memory was wanting, or a device failed
+-- an allocation, the reader or the writer failed
 abbrev pub IsOutside : Failure → Type 0
 IsOutside e = (e ≡ Memory) ⊎ (e ≡ Read) ⊎ (e ≡ Write)
 
--- Why a run is refused: the input could not be read; for its words; since an answer could not be written; or as the command
--- refuses the input.
+-- The error of a run: the input could not be read; the arguments are wrong; a result could not be written; or the command's error
+-- for the input.
 abbrev pub IsReason : {V : Type 0} → (V → Type 0) → (V → List ℕ) → (ℕ → Bool) → (ℕ → List ℕ → Asn1DerError → Type 0) → List (List ℕ) → Option (List ℕ) → Failure → Type 0
 IsReason is_value enc first fault words input e =
     (e ≡ Read) ⊎ RefusesWords words e
@@ -41,20 +41,20 @@ IsReason is_value enc first fault words input e =
 -- With these words: what was read of the input, where its octets are known (`rest` of it is left), and what was
 -- written, where the octets of the output are known (before and after).
 pub record IsRun {V : Type 0} (is_value : V → Type 0) (enc : V → List ℕ) (first : ℕ → Bool) (fault : ℕ → List ℕ → Asn1DerError → Type 0) (words : List (List ℕ)) (input rest before after : Option (List ℕ)) (outcome : Result ⊤ Failure) : Type 0 where
-  -- the words are refused only where they are of no command, and then they are, but for want of memory
+  -- the arguments are an error only where they are of no command, and then they are, but for an allocation failure
   pub refused : IfErr outcome (λ e. e ≡ Words → AreNoWords words)
   pub told : AreNoWords words → MatchResult outcome (λ _. ⊥) (λ e. (e ≡ Words) ⊎ (e ≡ Memory))
   -- so is an encryption type that the program does not know
   pub unknown : (n : ℕ) → NameUnknown words n → MatchResult outcome (λ _. ⊥) (λ e. (e ≡ Crypto (AlgorithmIdentifier n)) ⊎ (e ≡ Memory))
   -- and then nothing is read
   pub unread : (AreWords words → ⊥) → Keeps input rest
-  -- all of the input is read before an answer
+  -- all of the input is read before a result
   pub read : OnOk outcome (IsAtEnd rest)
-  -- what is written is the answer to all of the input
+  -- what is written is the result to all of the input
   pub written : OnOk outcome (IfSome input (λ octets. (answer : List ℕ) × Answers is_value enc words octets answer × Appends before after answer))
-  -- where there is an answer, it is written, but for memory and devices
+  -- where there is a result, it is written, unless an allocation, the reader or the writer fails
   pub answered : IfSome input (λ octets. (answer : List ℕ) → Answers is_value enc words octets answer → MatchResult outcome (λ _. Appends before after answer) IsOutside)
-  -- nothing is written before a refusal, but for one of the writing of an answer, before which all of the input is read
+  -- nothing is written where there is an error, but for one of writing a result, before which all of the input is read
   pub kept : IfErr outcome (λ e. Keeps before after ⊎ ((e ≡ Write) × IsAtEnd rest × IfSome input (λ octets. (answer : List ℕ) × Answers is_value enc words octets answer)))
-  -- each refusal has its reason
+  -- each error has its reason
   pub because : IfErr outcome (IsReason is_value enc first fault words input)

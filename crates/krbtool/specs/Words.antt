@@ -28,7 +28,7 @@ pub record IsUnknownEtype (word : List ℕ) (n : ℕ) : Type 0 where
   pub number : IsNumber word n
   pub unknown : (suite : CipherSuite) → suites.etype suite ≢ n
 
--- the word is the usage: decimal digits, with a minus in front or nothing, and an `i32` holds it
+-- the word is the usage: decimal digits, with a minus before or nothing, and an `i32` holds it
 pub record IsUsage (word : List ℕ) (usage : ℤ) : Type 0 where
   pub no_plus : slice_index word 0 ≢ 43
   pub digits : IsNumeral 10 (without_leading_sign word)
@@ -75,12 +75,12 @@ NameUnknown words n = ⊥
 abbrev pub AreNoWords : List (List ℕ) → Type 0
 AreNoWords words = (AreWords words → ⊥) × ((n : ℕ) → NameUnknown words n → ⊥)
 
--- why words are refused
+-- why words are rejected
 abbrev pub RefusesWords : List (List ℕ) → Failure → Type 0
 RefusesWords words e =
     (e ≡ failure.Memory) ⊎ ((n : ℕ) × (e ≡ failure.Crypto (crypto.AlgorithmIdentifier n)) × NameUnknown words n) ⊎ ((e ≡ failure.Words) × AreNoWords words)
 
--- why ETYPE alone, and why ETYPE KEYHEX USAGE are refused
+-- why ETYPE alone, and why ETYPE KEYHEX USAGE are rejected
 abbrev pub RefusesEtype : List ℕ → Failure → Type 0
 RefusesEtype word e =
     ((e ≡ failure.Words) × ((n : ℕ) → IsNumber word n → ⊥)) ⊎ ((n : ℕ) × (e ≡ failure.Crypto (crypto.AlgorithmIdentifier n)) × IsUnknownEtype word n)
@@ -90,7 +90,7 @@ RefusesKeyWords etype keyhex usage e =
     (e ≡ failure.Memory) ⊎ ((n : ℕ) × (e ≡ failure.Crypto (crypto.AlgorithmIdentifier n)) × IsUnknownEtype etype n)
     ⊎ ((e ≡ failure.Words) × ((n : ℕ) → IsUnknownEtype etype n → ⊥) × ((suite : CipherSuite) (key : List ℕ) (number : ℤ) → AreKeyWords etype keyhex usage suite key number → ⊥))
 
--- what these words answer to an input
+-- what these words return for an input
 abbrev pub Answers : {V : Type 0} → (V → Type 0) → (V → List ℕ) → List (List ℕ) → List ℕ → List ℕ → Type 0
 Answers is_value enc (command ∷ []) input answer = (command ≡ codes "check") × IsChecked is_value enc input answer
 Answers is_value enc (command ∷ etype ∷ keyhex ∷ usage ∷ []) input answer =

@@ -1,9 +1,9 @@
-//! What a command answers to an input.
+//! What a command returns for an input.
 
 ghost use Rattle.std.specs.Prelude.{◌≡◌, ℕ, List, length, IfOk, IfErr, MatchResult};
 ghost use Rattle.krb_crypto_message.specs.Sealing.{IsGiven};
-ghost use Rattle.krb_crypto_suite.specs.BySuite.{IsSealed, key_octets_of, fill_octets_of, confounder_octets_of, refusal_of};
-ghost use Rattle.krbtool.specs.Commands.{IsChecked, IsSealing, IsOpening, IsAnswer, IsUnread, IsUnsealed, IsUnopened, IsRefusal, HasConfounder};
+ghost use Rattle.krb_crypto_suite.specs.BySuite.{key_octets_of, confounder_octets_of};
+ghost use Rattle.krbtool.specs.Commands.{IsChecked, IsSealing, IsOpening, IsAnswer, IsReadError, IsSealError, IsOpenError, IsOpenErrorUnder, IsRefusal, HasConfounder};
 ghost use Rattle.krbtool.specs.Outcome.{IsOutside};
 
 use crate::command::{Command, SealingKey};
@@ -21,13 +21,13 @@ fn checked<T: Der + Drop>(alloc: Global, input: &[u8]) -> Result<Vec<u8>, Failur
     ensures found { IfOk result (λ made. IsChecked T.is_value T.enc input.now made.items) }
     ensures only { (answer : List ℕ) → IsChecked T.is_value T.enc input.now answer
         → MatchResult result (λ made. made.items ≡ answer) IsOutside }
-    ensures refused { IfErr result (IsUnread T.is_value T.enc T.first T.fault input.now) }
+    ensures refused { IfErr result (IsReadError T.is_value T.enc T.first T.fault input.now) }
 {
     let value: T = from_bytes(alloc, input)?;
     Ok(to_vec(alloc, &value)?)
 }
 
-/// What the input, the encoding of a value, is sealed to by the lent cipher.
+/// The input, the encoding of a value, sealed under the cipher.
 fn sealed<T: Der + Drop>(
     alloc: Global,
     cipher: &dyn Cipher,
@@ -36,33 +36,43 @@ fn sealed<T: Der + Drop>(
     input: &[u8],
 ) -> Result<Vec<u8>, Failure>
     requires { length confounder.now ≡ confounder_octets cipher.now }
-    ensures found { IfOk result (λ made. (v : T) × T.is_value v × (input.now ≡ T.enc v) × (length key.now.octets.items ≡ key_octets cipher.now) × meaning cipher.now key.now.octets.items key.now.usage confounder.now (T.enc v) made.items) }
-    ensures only { (v : T) (answer : List ℕ) → T.is_value v → input.now ≡ T.enc v → length key.now.octets.items ≡ key_octets cipher.now → meaning cipher.now key.now.octets.items key.now.usage confounder.now (T.enc v) answer
+    ensures found { IfOk result (λ made. (v : T) × T.is_value v × (input.now ≡ T.enc v)
+        × (length key.now.octets.items ≡ key_octets cipher.now)
+        × meaning cipher.now key.now.octets.items key.now.usage confounder.now (T.enc v) made.items) }
+    ensures only { (v : T) (answer : List ℕ) → T.is_value v → input.now ≡ T.enc v
+        → length key.now.octets.items ≡ key_octets cipher.now
+        → meaning cipher.now key.now.octets.items key.now.usage confounder.now (T.enc v) answer
         → MatchResult result (λ made. made.items ≡ answer) IsOutside }
-    ensures refused { IfErr result (IsUnsealed T.is_value T.enc T.first T.fault (key_octets cipher.now) key.now.octets.items input.now) }
+    ensures refused { IfErr result (IsSealError T.is_value T.enc T.first T.fault (key_octets cipher.now) key.now.octets.items input.now) }
 {
     let value: T = from_bytes(alloc, input)?;
     let made = seal_part(alloc, cipher, &key.octets, key.usage, confounder, &value)?;
     Ok(made)
 }
 
-/// The encoding of the value that the lent cipher sealed to the input.
+/// The encoding of the value that was sealed under the cipher to the input.
 fn opened<T: Der + Drop>(
     alloc: Global,
     cipher: &dyn Cipher,
     key: &SealingKey,
     input: &[u8],
 ) -> Result<Vec<u8>, Failure>
-    ensures found { IfOk result (λ made. (v : T) × T.is_value v × (made.items ≡ T.enc v) × (length key.now.octets.items ≡ key_octets cipher.now) × IsGiven (meaning cipher.now key.now.octets.items key.now.usage) (confounder_octets cipher.now) input.now (T.enc v)) }
-    ensures only { (v : T) → T.is_value v → length key.now.octets.items ≡ key_octets cipher.now → IsGiven (meaning cipher.now key.now.octets.items key.now.usage) (confounder_octets cipher.now) input.now (T.enc v)
+    ensures found { IfOk result (λ made. (v : T) × T.is_value v × (made.items ≡ T.enc v)
+        × (length key.now.octets.items ≡ key_octets cipher.now)
+        × IsGiven (meaning cipher.now key.now.octets.items key.now.usage) (confounder_octets cipher.now) input.now (T.enc v)) }
+    ensures only { (v : T) → T.is_value v → length key.now.octets.items ≡ key_octets cipher.now
+        → IsGiven (meaning cipher.now key.now.octets.items key.now.usage) (confounder_octets cipher.now) input.now (T.enc v)
         → MatchResult result (λ made. made.items ≡ T.enc v) IsOutside }
-    ensures refused { IfErr result (IsUnopened T.is_value T.enc T.first T.fault (fill_octets cipher.now) (IsGiven (meaning cipher.now key.now.octets.items key.now.usage) (confounder_octets cipher.now) input.now) (length key.now.octets.items ≡ key_octets cipher.now) (unopened cipher.now key.now.octets.items key.now.usage input.now)) }
+    ensures refused { IfErr result (IsOpenError T.is_value T.enc T.first T.fault (fill_octets cipher.now)
+        (IsGiven (meaning cipher.now key.now.octets.items key.now.usage) (confounder_octets cipher.now) input.now)
+        (length key.now.octets.items ≡ key_octets cipher.now)
+        (unopened cipher.now key.now.octets.items key.now.usage input.now)) }
 {
     let value: T = open_part(alloc, cipher, &key.octets, key.usage, input)?;
     Ok(to_vec(alloc, &value)?)
 }
 
-/// What the input is sealed to under the key.
+/// The input, sealed under the key.
 fn sealed_under<T: Der + Drop>(
     alloc: Global,
     key: &SealingKey,
@@ -73,7 +83,7 @@ fn sealed_under<T: Der + Drop>(
     ensures found { IfOk result (λ made. IsSealing T.is_value T.enc key.now.suite key.now.octets.items key.now.usage confounder.now input.now made.items) }
     ensures only { (answer : List ℕ) → IsSealing T.is_value T.enc key.now.suite key.now.octets.items key.now.usage confounder.now input.now answer
         → MatchResult result (λ made. made.items ≡ answer) IsOutside }
-    ensures refused { IfErr result (IsUnsealed T.is_value T.enc T.first T.fault (key_octets_of key.now.suite) key.now.octets.items input.now) }
+    ensures refused { IfErr result (IsSealError T.is_value T.enc T.first T.fault (key_octets_of key.now.suite) key.now.octets.items input.now) }
 {
     match key.suite {
         CipherSuite::Aes128CtsHmacSha196 => {
@@ -106,7 +116,7 @@ fn sealed_under<T: Der + Drop>(
     }
 }
 
-/// What was sealed to the input under the key.
+/// The encoding that was sealed under the key to the input.
 fn opened_under<T: Der + Drop>(
     alloc: Global,
     key: &SealingKey,
@@ -115,7 +125,7 @@ fn opened_under<T: Der + Drop>(
     ensures found { IfOk result (λ made. IsOpening T.is_value T.enc key.now.suite key.now.octets.items key.now.usage input.now made.items) }
     ensures only { (answer : List ℕ) → IsOpening T.is_value T.enc key.now.suite key.now.octets.items key.now.usage input.now answer
         → MatchResult result (λ made. made.items ≡ answer) IsOutside }
-    ensures refused { IfErr result (IsUnopened T.is_value T.enc T.first T.fault (fill_octets_of key.now.suite) (IsGiven (IsSealed key.now.suite key.now.octets.items key.now.usage) (confounder_octets_of key.now.suite) input.now) (length key.now.octets.items ≡ key_octets_of key.now.suite) (λ why. why ≡ refusal_of key.now.suite key.now.octets.items input.now)) }
+    ensures refused { IfErr result (IsOpenErrorUnder T.is_value T.enc T.first T.fault key.now.suite key.now.octets.items key.now.usage input.now) }
 {
     match key.suite {
         CipherSuite::Aes128CtsHmacSha196 => {
@@ -134,7 +144,7 @@ fn opened_under<T: Der + Drop>(
     }
 }
 
-/// What the command answers to the input.
+/// What the command returns for the input.
 pub fn answer<T: Der + Drop>(
     alloc: Global,
     command: &Command,

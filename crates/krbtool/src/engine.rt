@@ -4,7 +4,7 @@ ghost use Rattle.std.specs.Prelude.{◌≡◌, ◌⊎◌, ℕ, ⊤, map, take, I
 ghost use Rattle.std.specs.Io.KnownBytes.{Keeps, Appends, IsAtEnd};
 ghost use Rattle.std.specs.String.{string_bytes};
 ghost use Rattle.krbtool.specs.declared.failure.Failure.{Failure};
-ghost use Rattle.krbtool.specs.Outcome.{status_of, refusal_status, IsTold, IsRun};
+ghost use Rattle.krbtool.specs.Outcome.{status_of, refusal_status, IsLineWritten, IsRun};
 
 use crate::answer::answer;
 use crate::failure::{Failure, read_failure};
@@ -36,7 +36,7 @@ fn write_out<W: Write>(output: &mut W, octets: &[u8]) -> Result<(), Failure>
     Ok(())
 }
 
-/// Reads all of the input, and writes the answer to it.
+/// Reads all of the input, and writes the result to it.
 fn perform<R: Read, W: Write>(
     alloc: Global,
     words: &[String],
@@ -75,16 +75,16 @@ fn write_front<W: Write>(output: &mut W, octets: &[u8])
     }
 }
 
-/// Tells a refusal by one line, and gives its status. A failed write of that line changes nothing.
+/// Tells an error by one line, and gives its status. A failed write of that line changes nothing.
 pub fn refuse<E: Write>(failure: &Failure, faults: &mut E) -> u8
     ensures status { result ≡ refusal_status failure.now }
-    ensures told { IsTold (E.contents faults.old) (E.contents faults.new) (Err failure.now) }
+    ensures told { IsLineWritten (E.contents faults.old) (E.contents faults.new) (Err failure.now) }
 {
     write_front(faults, failure.line().as_bytes());
     failure.status()
 }
 
-/// One run of the program: its status, and one line to `faults` where it refuses.
+/// One run of the program: its status, and one line to `faults` where it rejects.
 pub fn run<R: Read, W: Write, E: Write>(
     alloc: Global,
     words: &[String],
@@ -93,7 +93,7 @@ pub fn run<R: Read, W: Write, E: Write>(
     faults: &mut E,
 ) -> u8
     ensures ran { (outcome : Result ⊤ Failure) × (result ≡ status_of outcome)
-        × IsTold (E.contents faults.old) (E.contents faults.new) outcome
+        × IsLineWritten (E.contents faults.old) (E.contents faults.new) outcome
         × IsRun ⟦<EncTicketPart as DerEncode>⟧.is_value ⟦<EncTicketPart as DerEncode>⟧.enc ⟦<EncTicketPart as DerEncode>⟧.first ⟦<EncTicketPart as DerEncode>⟧.fault
         (map string_bytes words.now) (R.remaining input.old) (R.remaining input.new)
         (W.contents output.old) (W.contents output.new) outcome }

@@ -1,4 +1,4 @@
-//! Why a run is refused.
+//! Why a run is rejected.
 
 ghost use Rattle.std.specs.Prelude.{◌≡◌, ◌⊎◌};
 ghost use Rattle.krbtool.specs.Failures.{of_der, of_part, der_line, crypto_line, line_of};
@@ -9,14 +9,14 @@ use krb_der::Asn1DerError;
 use krb_seal::PartError;
 use std::io;
 
-/// Why a run is refused.
+/// Why a run is rejected.
 #[derive(Debug, Drop)]
 pub enum Failure {
     /// The words are no command.
     Words,
     /// The octets are no encoding, for this reason.
     Der(Asn1DerError),
-    /// The encryption type is not known, or the cipher refused the key or the octets, for this reason.
+    /// The encryption type is not known, or the cipher rejected the key or the octets, for this reason.
     Crypto(KerberosCryptoError),
     /// Memory was wanting.
     Memory,
@@ -53,7 +53,7 @@ impl Failure {
     }
 }
 
-/// The line of a refusal by the type of a value.
+/// The line of an error by the type of a value.
 fn der_line(error: &Asn1DerError) -> &'static str
     ensures { result.now ≡ der_line error.now }
 {
@@ -66,7 +66,7 @@ fn der_line(error: &Asn1DerError) -> &'static str
     }
 }
 
-/// The line of a refusal by the cipher.
+/// The line of an error by the cipher.
 fn crypto_line(error: &KerberosCryptoError) -> &'static str
     ensures { result.now ≡ crypto_line error.now }
 {
@@ -86,7 +86,7 @@ fn crypto_line(error: &KerberosCryptoError) -> &'static str
     }
 }
 
-/// The refusal of a part that was not sealed or not opened. Want of memory is `Memory`.
+/// The error of a part that was not sealed or not opened. Want of memory is `Memory`.
 impl From<PartError> for Failure {
     ghost from_gives = { λ error failure. failure ≡ of_part error };
 
@@ -99,7 +99,7 @@ impl From<PartError> for Failure {
     }
 }
 
-/// The refusal of octets that are no encoding. Want of memory is `Memory`.
+/// The error of octets that are no encoding. Want of memory is `Memory`.
 impl From<Asn1DerError> for Failure {
     ghost from_gives = { λ error failure. failure ≡ of_der error };
 
@@ -111,7 +111,7 @@ impl From<Asn1DerError> for Failure {
     }
 }
 
-/// The refusal of a reader that failed. Want of memory is `Memory`.
+/// The error of a reader that failed. Want of memory is `Memory`.
 pub fn read_failure(error: io::Error) -> Failure
     ensures { (result ≡ Failure.Memory) ⊎ (result ≡ Failure.Read) }
 {
@@ -122,7 +122,7 @@ pub fn read_failure(error: io::Error) -> Failure
     }
 }
 
-/// The refusal of words that could not be had: want of memory, or a word that is no text and so of no command.
+/// The error of words that could not be had: an allocation failure, or a word that is no text and so of no command.
 pub fn words_failure(error: io::Error) -> Failure
     ensures { (result ≡ Failure.Memory) ⊎ (result ≡ Failure.Words) }
 {

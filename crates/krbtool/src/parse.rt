@@ -109,7 +109,7 @@ fn suite_of(text: &str) -> Result<CipherSuite, Failure>
     }
 }
 
-/// USAGE: decimal digits, with a minus in front or nothing, of a number that an `i32` holds.
+/// USAGE: decimal digits, with a minus before or nothing, of a number that an `i32` holds.
 fn usage_of(text: &str) -> Result<i32, Failure>
     ensures found { IfOk result (IsUsage text.now) }
     ensures refused { IfErr result (λ e. (e ≡ Failure.Words) × ((usage : ℤ) → ¬ IsUsage text.now usage)) }

@@ -1,9 +1,9 @@
 //! Runs of the program over a part and over short octets, a line each.
 //!
-//! The columns: a sweep (`once`; `steps`, over devices that fail; `fronts`, each proper front of the input; `flips`, each single bit
+//! The columns: a sweep (`once`; `steps`, over devices that fail; `fronts`, each proper prefix of the input; `flips`, each single bit
 //! flipped), its number (octets a call; or how many flips are told by the line), the words with the program's name, the input (the first
-//! octets of the part with 00 behind it, zeros, or hexadecimal digits), how many of its octets are left unread, the status, and the line of
-//! a fault of status 1. At status 0 the output is the part; at status 2 the line is the usage.
+//! octets of the part with 00 after it, zeros, or hexadecimal digits), how many of its octets are left unread, the status, and the line of
+//! an error of status 1. At status 0 the output is the part; at status 2 the line is the usage.
 
 /// The part.
 pub const PART: [u8; 128] = [

@@ -204,7 +204,7 @@ fn front_of(octets: &[u8], count: usize) -> &[u8] {
 }
 
 /// Whether a run is as the row says where the call number `failing` of one device fails: of the reader (0), of the writer (1) or of
-/// that of the faults (2). No call has the number 0.
+/// that of the errors (2). No call has the number 0.
 fn is_told(alloc: Global, row: &Row, place: u8, failing: usize, is_interrupted: bool) -> bool {
     let step = row.number;
     let failing_at = [
@@ -256,7 +256,7 @@ fn is_told_over_devices(alloc: Global, row: &Row) -> bool {
     is_told(alloc, row, 0, 0, false)
 }
 
-/// Whether the run of this input, of which one bit was flipped, is told by the row's line. `None` where it is neither refused with a line
+/// Whether the run of this input, of which one bit was flipped, is told by the row's line. `None` where it is neither rejected with a line
 /// nor written back.
 fn is_flip_told(alloc: Global, row: &Row, flipped: &[u8]) -> Option<bool> {
     let mut input = Device::new(alloc, flipped, 4096, 0, false);
@@ -291,7 +291,7 @@ fn flips_told(alloc: Global, row: &Row) -> Option<usize> {
     Some(told)
 }
 
-/// Whether each proper front of the input is told as the row says.
+/// Whether each proper prefix of the input is told as the row says.
 fn are_fronts_told(alloc: Global, row: &mut Row) -> bool {
     for _ in 0..row.input.len() {
         row.input.pop();

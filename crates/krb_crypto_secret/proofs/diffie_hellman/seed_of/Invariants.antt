@@ -2,7 +2,7 @@ use Rattle.std.proofs.Common.{◌≡◌, ◌++◌, length, take, ◌*◌}
 use Rattle.krb_crypto_secret.specs.Agreement.{digests}
 use Rattle.krb_crypto_secret.proofs.diffie_hellman.seed_of.Given as goal
 
--- the front of the digests so far
+-- the prefix of the digests so far
 abbrev pub invariant-loop-i : goal.invariant-loop-i
 invariant-loop-i l = record {
   front : l.seed.items ≡ take l.size (digests (l.secret ++ l.client_nonce ++ l.server_nonce) l.i);
