@@ -6,6 +6,7 @@
 //! tested. `test_crypto` calls what else `picky_krb` gives out of the cryptography.
 #![tactic(auto)]
 
+pub mod conversions;
 mod listed_words;
 pub mod note;
 pub mod reseal;

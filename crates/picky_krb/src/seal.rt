@@ -1,3 +1,3 @@
-//! Sealing and opening the encoding of a value, by whatever cipher is lent.
+//! Sealing and opening the encoding of a value, by any cipher.
 
 pub use krb_seal::{PartError, open_part, seal_part};

@@ -1,4 +1,4 @@
-//! Constructors of the leaves and what they give back, equality, and the texts of refusals.
+//! Constructors of the primitive types and their accessors, equality, and the texts of errors.
 
 use krb_der::{
     Asn1DerError, BitStringAsn1, ExplicitContextTag0, GeneralStringAsn1, GeneralizedTimeAsn1,
@@ -116,7 +116,7 @@ fn integers(rt: HostRuntime) -> Result<(), Fail> {
     Ok(())
 }
 
-/// Whether the bits are made of octets and of this many spare bits, and give them back. `None` where they are refused.
+/// Whether the bits are made of these octets with this many unused bits, and return them. `None` where they are rejected.
 fn bits(alloc: Global, octets: &[u8], spare: u8) -> Result<Option<bool>, Asn1DerError> {
     match BitStringAsn1::new(octets.to_vec(alloc)?, spare) {
         Ok(bits) => Ok(Some(bits.octets() == octets && bits.spare_bits() == spare)),
@@ -124,7 +124,7 @@ fn bits(alloc: Global, octets: &[u8], spare: u8) -> Result<Option<bool>, Asn1Der
     }
 }
 
-/// Whether a text is made, and given back. `None` where it is refused.
+/// Whether a text is made, and returned. `None` where it is rejected.
 fn text(alloc: Global, text: &str) -> Result<Option<bool>, Asn1DerError> {
     match GeneralStringAsn1::from_string(String::from_str(alloc, text)?) {
         Ok(made) => Ok(Some(made.as_str() == text)),
@@ -132,7 +132,7 @@ fn text(alloc: Global, text: &str) -> Result<Option<bool>, Asn1DerError> {
     }
 }
 
-/// Whether a value of any type is made of these octets, and gives them back. `None` where they are refused.
+/// Whether a value of any type is made of these octets, and returns them. `None` where they are rejected.
 fn raw(alloc: Global, octets: &[u8]) -> Result<Option<bool>, Asn1DerError> {
     match Asn1RawDer::new(octets.to_vec(alloc)?) {
         Ok(made) => Ok(Some(made.as_bytes() == octets)),
@@ -215,7 +215,7 @@ fn dates_that_are_not_real(rt: HostRuntime) {
     }
 }
 
-/// Whether these arcs have this text and these octets, and are read from them. `None` where they are refused.
+/// Whether these arcs have this text and these octets, and are read from them. `None` where they are rejected.
 fn identifies(
     alloc: Global,
     arcs: &[u64],

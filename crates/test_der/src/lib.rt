@@ -1,5 +1,5 @@
-//! Tests of what no row of the program `test_messages` can reach: a value that is built field by field, constructors of leaves,
-//! equality, the texts of refusals and of the codes of a KRB-ERROR. The crate holds tests alone.
+//! Tests of what no test vector of the program `test_messages` can reach: a value that is built field by field, constructors of
+//! primitive types, equality, the texts of errors and of the codes of a KRB-ERROR. The crate holds tests alone.
 #![tactic(auto)]
 
 #[cfg(test)]
