@@ -8,8 +8,8 @@ use Rattle.std.specs.List.{take-map}
 use Rattle.krb_crypto_hash.specs.CryptoError.{IsMemoryOr}
 use Rattle.krb_crypto_hash.specs.declared.error.KerberosCryptoError.{KerberosCryptoError}
 use Rattle.krb_der.specs.Encoding.{IsOctets}
-use Rattle.krb_crypto_block.specs.Modes.{IsFill}
-use Rattle.krb_crypto_message.specs.Sealing.{IsGiven, IsOfNone, IsSplit, Enciphers, Deciphers, Opens}
+use Rattle.krb_crypto_block.specs.Modes.{IsPadding}
+use Rattle.krb_crypto_message.specs.Sealing.{IsGiven, IsOfNone, IsSplit, Encrypts, Decrypts, Opens}
 use Rattle.examples.specs.Toy.{IsToy}
 
 -- ---- octets
@@ -50,24 +50,24 @@ only_octet k xs e all = let P : List ℕ → Type 0 = λ ys. slice_index ys 0 < 
 -- ---- fills
 
 -- the list with so many zeros behind it is its fill
-pub fill_is : (front filled : List ℕ) (zeros : ℕ) → zeros < 4 → (length front + zeros) % 4 ≡ 0 → filled ≡ front ++ replicate zeros 0 → IsFill 4 front filled
-fill_is front filled zeros few even e = record {
+pub padding_is : (prefix padded : List ℕ) (zeros : ℕ) → zeros < 4 → (length prefix + zeros) % 4 ≡ 0 → padded ≡ prefix ++ replicate zeros 0 → IsPadding 4 prefix padded
+padding_is prefix padded zeros few even e = record {
   zeros = zeros;
   fewer = few;
-  joined = e;
+  concatenated = e;
   whole = ap (λ (l : List ℕ). length l % 4) e ∙ simp (length-append, length-replicate) even;
 }
 
 -- and so is the list, made as long as the next multiple of four
-pub resized_fill : (front filled : List ℕ) (n len : ℕ) → filled ≡ take n front ++ replicate (n - len) 0 → len ≡ length front → n ≡ len + (4 - len % 4) % 4 → IsFill 4 front filled
-resized_fill front filled n len e same next =
-    let zeros : n - len ≡ (4 - length front % 4) % 4 = omega (arith, same, next) in
-    let long : length front ≤ n = omega (arith, same, next) in
-    fill_is front filled ((4 - length front % 4) % 4) (omega arith) (omega arith)
-    (e ∙ ap (λ l. l ++ replicate (n - len) 0) (take_all n front long) ∙ ap (λ k. front ++ replicate k 0) zeros)
+pub resized_padding : (prefix padded : List ℕ) (n len : ℕ) → padded ≡ take n prefix ++ replicate (n - len) 0 → len ≡ length prefix → n ≡ len + (4 - len % 4) % 4 → IsPadding 4 prefix padded
+resized_padding prefix padded n len e same next =
+    let zeros : n - len ≡ (4 - length prefix % 4) % 4 = omega (arith, same, next) in
+    let long : length prefix ≤ n = omega (arith, same, next) in
+    padding_is prefix padded ((4 - length prefix % 4) % 4) (omega arith) (omega arith)
+    (e ∙ ap (λ l. l ++ replicate (n - len) 0) (take_all n prefix long) ∙ ap (λ k. prefix ++ replicate k 0) zeros)
 
-pub fill_octets : (size : ℕ) (front filled : List ℕ) → IsFill size front filled → IsOctets front → IsOctets filled
-fill_octets size front filled fill all = subst IsOctets (sym fill.joined) (octets-append front (replicate fill.zeros 0) all (octets_zeros fill.zeros))
+pub padding_octets : (size : ℕ) (prefix padded : List ℕ) → IsPadding size prefix padded → IsOctets prefix → IsOctets padded
+padding_octets size prefix padded fill all = subst IsOctets (sym fill.concatenated) (octets-append prefix (replicate fill.zeros 0) all (octets_zeros fill.zeros))
 
 -- ---- deciphering
 
@@ -76,11 +76,11 @@ no_octets [] e = refl
 no_octets (x ∷ xs) e = absurd (omega (arith, e))
 
 -- no checksum stands behind the octets
-pub without_checksum : (meaning : List ℕ → List ℕ → List ℕ → Type 0) (confounder payload octets : List ℕ) → Enciphers meaning 0 confounder payload octets → meaning confounder payload octets
+pub without_checksum : (meaning : List ℕ → List ℕ → List ℕ → Type 0) (confounder payload octets : List ℕ) → Encrypts meaning 0 confounder payload octets → meaning confounder payload octets
 without_checksum meaning confounder payload octets e =
     subst (meaning confounder payload) (ap (λ rest. octets ++ rest) (no_octets e.checksum e.size_is) ∙ append-nil octets) e.means
 
-pub with_checksum : (meaning : List ℕ → List ℕ → List ℕ → Type 0) (confounder payload octets : List ℕ) → meaning confounder payload octets → Enciphers meaning 0 confounder payload octets
+pub with_checksum : (meaning : List ℕ → List ℕ → List ℕ → Type 0) (confounder payload octets : List ℕ) → meaning confounder payload octets → Encrypts meaning 0 confounder payload octets
 with_checksum meaning confounder payload octets means = record { checksum = []; size_is = refl; means = subst (meaning confounder payload) (sym (append-nil octets)) means }
 
 -- the octets that are opened, combined with the key's octet, are the confounder, the payload and its fill
@@ -88,48 +88,48 @@ pub opened_is : (k : ℕ) (key confounder payload octets : List ℕ) → key ≡
     → map (λ x. bit_xor x k) octets ≡ confounder ++ (payload ++ replicate means.fill.zeros 0)
 opened_is k key confounder payload octets key_is four means =
     let same : means.octet ≡ k = cc (sym means.key_is ∙ key_is) in
-    ap (map (λ x. bit_xor x k)) (means.xored ∙ ap (λ o. map (λ x. bit_xor x o) means.filled) same) ∙ map_twice k means.filled
-    ∙ means.fill.joined ∙ append_assoc confounder payload (replicate means.fill.zeros 0)
+    ap (map (λ x. bit_xor x k)) (means.xored ∙ ap (λ o. map (λ x. bit_xor x o) means.padded) same) ∙ map_twice k means.padded
+    ∙ means.fill.concatenated ∙ append_assoc confounder payload (replicate means.fill.zeros 0)
 
-pub front_is : (k : ℕ) (octets front back : List ℕ) → length front ≡ 4 → map (λ x. bit_xor x k) octets ≡ front ++ back → front ≡ map (λ x. bit_xor x k) (take 4 octets)
-front_is k octets front back four e =
-    sym (subst (λ n. take n (front ++ back) ≡ front) four (take-append_seam front back)) ∙ ap (take 4) (sym e) ∙ take-map (λ x. bit_xor x k) 4 octets
+pub prefix_is : (k : ℕ) (octets prefix back : List ℕ) → length prefix ≡ 4 → map (λ x. bit_xor x k) octets ≡ prefix ++ back → prefix ≡ map (λ x. bit_xor x k) (take 4 octets)
+prefix_is k octets prefix back four e =
+    sym (subst (λ n. take n (prefix ++ back) ≡ prefix) four (take-append_seam prefix back)) ∙ ap (take 4) (sym e) ∙ take-map (λ x. bit_xor x k) 4 octets
 
-pub back_is : (k : ℕ) (octets front back : List ℕ) → length front ≡ 4 → map (λ x. bit_xor x k) octets ≡ front ++ back → map (λ x. bit_xor x k) (drop 4 octets) ≡ back
-back_is k octets front back four e =
-    sym (drop-map (λ x. bit_xor x k) 4 octets) ∙ ap (drop 4) e ∙ subst (λ n. drop n (front ++ back) ≡ back) four (drop-append_seam front back)
+pub back_is : (k : ℕ) (octets prefix back : List ℕ) → length prefix ≡ 4 → map (λ x. bit_xor x k) octets ≡ prefix ++ back → map (λ x. bit_xor x k) (drop 4 octets) ≡ back
+back_is k octets prefix back four e =
+    sym (drop-map (λ x. bit_xor x k) 4 octets) ∙ ap (drop 4) e ∙ subst (λ n. drop n (prefix ++ back) ≡ back) four (drop-append_seam prefix back)
 
 -- whole blocks of four octets are those of one confounder and of each payload that the rest is the fill of
-pub toy_deciphers : (k : ℕ) (key octets : List ℕ) → k < 256 → IsOctets octets → key ≡ k ∷ [] → 4 ≤ length octets → length octets % 4 ≡ 0
-    → Deciphers 4 4 (Enciphers (λ confounder payload bytes. IsToy key confounder payload bytes) 0) octets (map (λ x. bit_xor x k) (take 4 octets)) (map (λ x. bit_xor x k) (drop 4 octets))
-toy_deciphers k key octets small all key_is long whole =
+pub toy_decrypts : (k : ℕ) (key octets : List ℕ) → k < 256 → IsOctets octets → key ≡ k ∷ [] → 4 ≤ length octets → length octets % 4 ≡ 0
+    → Decrypts 4 4 (Encrypts (λ confounder payload bytes. IsToy key confounder payload bytes) 0) octets (map (λ x. bit_xor x k) (take 4 octets)) (map (λ x. bit_xor x k) (drop 4 octets))
+toy_decrypts k key octets small all key_is long whole =
     let xor : List ℕ → List ℕ = map (λ x. bit_xor x k) in
     let size : length (xor (drop 4 octets)) + 4 ≡ length octets = simp (length-map, length-drop) (omega (arith, long)) in
     let even : length (xor (drop 4 octets)) % 4 ≡ 0 = omega (arith, size, whole) in
     record {
       size_is = simp (length-map, length-take) (omega (arith, long));
-      whole = record { zeros = 0; fewer = omega arith; joined = sym (append-nil (xor (drop 4 octets))); whole = even };
+      whole = record { zeros = 0; fewer = omega arith; concatenated = sym (append-nil (xor (drop 4 octets))); whole = even };
       exactly = λ other payload four. (
-        (λ enciphers.
-            let means = without_checksum (λ confounder payload bytes. IsToy key confounder payload bytes) other payload octets enciphers in
+        (λ encrypts.
+            let means = without_checksum (λ confounder payload bytes. IsToy key confounder payload bytes) other payload octets encrypts in
             let e = opened_is k key other payload octets key_is four means in (
-              front_is k octets other (payload ++ replicate means.fill.zeros 0) four e,
+              prefix_is k octets other (payload ++ replicate means.fill.zeros 0) four e,
               record {
                 zeros = means.fill.zeros;
                 fewer = means.fill.fewer;
-                joined = back_is k octets other (payload ++ replicate means.fill.zeros 0) four e;
+                concatenated = back_is k octets other (payload ++ replicate means.fill.zeros 0) four e;
                 whole = even;
               },
             )),
         (λ both. with_checksum (λ confounder payload bytes. IsToy key confounder payload bytes) other payload octets (record {
           octet = k;
-          filled = xor octets;
+          padded = xor octets;
           key_is = key_is;
           fill = record {
             zeros = both.1.zeros;
             fewer = both.1.fewer;
-            joined = ap xor (sym (take-append-drop 4 octets)) ∙ map-append (λ x. bit_xor x k) (take 4 octets) (drop 4 octets)
-                ∙ cc (both.0, both.1.joined) ∙ sym (append_assoc other payload (replicate both.1.zeros 0));
+            concatenated = ap xor (sym (take-append-drop 4 octets)) ∙ map-append (λ x. bit_xor x k) (take 4 octets) (drop 4 octets)
+                ∙ cc (both.0, both.1.concatenated) ∙ sym (append_assoc other payload (replicate both.1.zeros 0));
             whole = simp length-map whole;
           };
           of_octets = xor_octets k octets small all;
@@ -142,29 +142,29 @@ toy_deciphers k key octets small all key_is long whole =
 
 module _ (meaning : List ℕ → List ℕ → List ℕ → Type 0) (confounder_size fill_size : ℕ) (octets : List ℕ) where
   -- octets that are refused whatever checksum stands behind are refused
-  pub refused_without : (e : KerberosCryptoError) → IsMemoryOr e ((encrypted checksum : List ℕ) → IsSplit 0 octets encrypted checksum → IsOfNone (IsGiven (Enciphers meaning 0) confounder_size encrypted))
+  pub rejected_without : (e : KerberosCryptoError) → IsMemoryOr e ((encrypted checksum : List ℕ) → IsSplit 0 octets encrypted checksum → IsOfNone (IsGiven (Encrypts meaning 0) confounder_size encrypted))
       → IsMemoryOr e (IsOfNone (IsGiven meaning confounder_size octets))
-  refused_without e why = elim why [
+  rejected_without e why = elim why [
     | inl memory ↦ inl memory
-    | inr none ↦ inr (λ payload given. none octets [] (record { joined = sym (append-nil octets); size_is = refl }) payload
+    | inr none ↦ inr (λ payload given. none octets [] (record { concatenated = sym (append-nil octets); size_is = refl }) payload
         (record { confounder = given.confounder; size_is = given.size_is; means = with_checksum meaning given.confounder payload octets given.means }))
   ]
 
   -- what is deciphered is what is opened
-  pub opens_without : (encrypted checksum confounder plaintext : List ℕ) → IsSplit 0 octets encrypted checksum → Deciphers fill_size confounder_size (Enciphers meaning 0) encrypted confounder plaintext
+  pub opens_without : (encrypted checksum confounder plaintext : List ℕ) → IsSplit 0 octets encrypted checksum → Decrypts fill_size confounder_size (Encrypts meaning 0) encrypted confounder plaintext
       → Opens fill_size (IsGiven meaning confounder_size octets) plaintext
-  opens_without encrypted checksum confounder plaintext split deciphers =
-      let same : octets ≡ encrypted = split.joined ∙ ap (λ rest. encrypted ++ rest) (no_octets checksum split.size_is) ∙ append-nil encrypted in
+  opens_without encrypted checksum confounder plaintext split decrypts =
+      let same : octets ≡ encrypted = split.concatenated ∙ ap (λ rest. encrypted ++ rest) (no_octets checksum split.size_is) ∙ append-nil encrypted in
       record {
-        whole = deciphers.whole;
+        whole = decrypts.whole;
         exactly = λ payload. (
-          (λ given. ((deciphers.exactly given.confounder payload given.size_is).0
+          (λ given. ((decrypts.exactly given.confounder payload given.size_is).0
               (with_checksum meaning given.confounder payload encrypted (subst (meaning given.confounder payload) same given.means))).1),
           (λ fill. record {
             confounder = confounder;
-            size_is = deciphers.size_is;
+            size_is = decrypts.size_is;
             means = subst (meaning confounder payload) (sym same)
-                (without_checksum meaning confounder payload encrypted ((deciphers.exactly confounder payload deciphers.size_is).1 (refl, fill)));
+                (without_checksum meaning confounder payload encrypted ((decrypts.exactly confounder payload decrypts.size_is).1 (refl, fill)));
           }),
         );
       }

@@ -3,8 +3,8 @@
 ghost use Rattle.std.specs.Prelude.{◌==◌, ◌++◌, refl}; // with one field alone no ◌++◌
 ghost use Rattle.krb_der.specs.Asn1.{boolean, explicit, integer, octet_string, sequence}; // the words of `enc`
 ghost use Rattle.krb_der.specs.Encoding.{optional}; // only for fields that may be absent
-ghost use Rattle.krb_der.specs.FieldFaults.{sequence_fault};
-ghost use Rattle.krb_der.specs.FieldFaultLaws.{sequence_fault_laws};
+ghost use Rattle.krb_der.specs.FieldErrors.{sequence_error};
+ghost use Rattle.krb_der.specs.FieldErrorLaws.{sequence_error_laws};
 ghost use Rattle.krb_der.specs.SequenceLaws.{one_value_of, values_of};
 ghost use Rattle.krb_der.specs.TlvLaws.{only_tag, tagged_element}; // only_tag: only for fields that may be absent
 
@@ -56,9 +56,9 @@ impl DerEncode for Note {
 
     ghost one_value = { one_value_of ⟦<Self as Sequence>⟧ ⟦<<Self as Sequence>::Fields as Fields>⟧ (λ v. refl) (tt, only_tag 161 _ refl, tt) };
 
-    ghost fault = { sequence_fault ⟦<<Self as Sequence>::Fields as Fields>⟧ };
+    ghost error = { sequence_error ⟦<<Self as Sequence>::Fields as Fields>⟧ };
 
-    ghost fault_laws = { sequence_fault_laws ⟦<Self as Sequence>⟧ ⟦<<Self as Sequence>::Fields as Fields>⟧ (tt, only_tag 161 _ refl, tt) };
+    ghost error_laws = { sequence_error_laws ⟦<Self as Sequence>⟧ ⟦<<Self as Sequence>::Fields as Fields>⟧ (tt, only_tag 161 _ refl, tt) };
 
     fn starts(octet: u8) -> bool {
         octet == SEQUENCE

@@ -2,8 +2,8 @@
 
 ghost use Rattle.std.specs.Prelude.{◌≡◌, ◌≢◌, ◌<◌, ◌≤◌, ◌+◌, ◌*◌, ◌%◌, ℕ, List, [], ◌∷◌, ◌++◌, length, take, map, bit_xor, replicate, IfOk, MatchResult};
 ghost use Rattle.krb_der.specs.Encoding.{IsOctets};
-ghost use Rattle.krb_crypto_block.specs.Modes.{IsFill};
-ghost use Rattle.examples.specs.Toy.{IsToy, IsToyRefusal, IsToyUnopened};
+ghost use Rattle.krb_crypto_block.specs.Modes.{IsPadding};
+ghost use Rattle.examples.specs.Toy.{IsToy, IsToyRejection, IsToyUnopened};
 
 use picky_krb::crypto::{
     ChecksumSuite, Cipher, CipherSuite, DecryptWithoutChecksum, EncryptWithoutChecksum,
@@ -44,8 +44,8 @@ fn xored(alloc: Global, octet: u8, octets: &[u8]) -> Result<Vec<u8>, AllocError>
 }
 
 /// The confounder and the payload, with the fewest zeros to a multiple of four octets.
-fn filled(alloc: Global, confounder: &[u8], payload: &[u8]) -> Result<Vec<u8>, AllocError>
-    ensures fill { IfOk result (λ v. IsFill 4 (confounder.now ++ payload.now) v.items) }
+fn padded(alloc: Global, confounder: &[u8], payload: &[u8]) -> Result<Vec<u8>, AllocError>
+    ensures fill { IfOk result (λ v. IsPadding 4 (confounder.now ++ payload.now) v.items) }
     ensures octets { IfOk result (λ v. IsOctets v.items) }
 {
     let mut all = Vec::from_slice(alloc, confounder)?;
@@ -57,7 +57,7 @@ fn filled(alloc: Global, confounder: &[u8], payload: &[u8]) -> Result<Vec<u8>, A
 
 /// Whether these are a confounder and whole blocks: `CipherLength` or `CipherUnpad` where they are not.
 fn check_blocks(octets: &[u8]) -> KerberosCryptoResult<()>
-    ensures { MatchResult result (λ _. (4 ≤ length octets.now) × (length octets.now % 4 ≡ 0)) (λ e. IsToyRefusal (length octets.now) e) }
+    ensures { MatchResult result (λ _. (4 ≤ length octets.now) × (length octets.now % 4 ≡ 0)) (λ e. IsToyRejection (length octets.now) e) }
 {
     if octets.len() < CONFOUNDER_SIZE {
         return Err(KerberosCryptoError::CipherLength(octets.len(), CONFOUNDER_SIZE));
@@ -78,7 +78,7 @@ impl Cipher for Toy {
 
     ghost confounder_octets = { λ _. 4 };
 
-    ghost fill_octets = { λ _. 4 };
+    ghost padding_octets = { λ _. 4 };
 
     ghost checksum_octets = { λ _. 0 };
 
@@ -133,7 +133,7 @@ impl Cipher for Toy {
         confounder: &[u8],
     ) -> KerberosCryptoResult<Vec<u8>> {
         let octet = key_octet(key)?;
-        let all = filled(alloc, confounder, payload)?;
+        let all = padded(alloc, confounder, payload)?;
         Ok(xored(alloc, octet, &all)?)
     }
 

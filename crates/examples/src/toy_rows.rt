@@ -26,7 +26,7 @@ const CONFOUNDER: [u8; 4] = *b"\x01\x02\x03\x04";
 const PAYLOAD: [u8; 7] = *b"\x30\x05\xa0\x03\x01\x01\xff";
 
 /// The same, filled with a zero to whole blocks.
-const FILLED: [u8; 8] = *b"\x30\x05\xa0\x03\x01\x01\xff\x00";
+const PADDED: [u8; 8] = *b"\x30\x05\xa0\x03\x01\x01\xff\x00";
 
 /// What it is sealed to.
 const SEALED: [u8; 12] = *b"\x5b\x58\x59\x5e\x6a\x5f\xfa\x59\x5b\x5b\xa5\x5a";
@@ -38,8 +38,8 @@ fn request() -> KerbPaPacRequest {
 }
 
 /// The name of a refusal.
-fn word_of(refusal: &PartError) -> &'static str {
-    match refusal {
+fn word_of(rejection: &PartError) -> &'static str {
+    match rejection {
         PartError::Der(Asn1DerError::InvalidData) => "InvalidData",
         PartError::Der(Asn1DerError::TruncatedData) => "TruncatedData",
         PartError::Crypto(KerberosCryptoError::KeyLength(2, 1)) => "KeyLength of two",
@@ -58,7 +58,7 @@ fn opened(alloc: Global, key: &[u8], octets: &[u8]) -> &'static str {
         } else {
             "another part"
         },
-        Err(refusal) => word_of(&refusal),
+        Err(rejection) => word_of(&rejection),
     }
 }
 
@@ -70,7 +70,7 @@ fn sealed(alloc: Global, key: &[u8]) -> &'static str {
         } else {
             "another part"
         },
-        Err(refusal) => word_of(&refusal),
+        Err(rejection) => word_of(&rejection),
     }
 }
 
@@ -95,11 +95,11 @@ fn has_octets(alloc: Global, cipher: &dyn Cipher) -> KerberosCryptoResult<bool> 
     let read = cipher.decrypt_no_checksum(alloc, &KEY, KEY_USAGE, &SEALED)?;
     Ok(
         encrypted.as_slice() == SEALED.as_slice()
-            && decrypted.as_slice() == FILLED.as_slice()
+            && decrypted.as_slice() == PADDED.as_slice()
             && bare.encrypted.as_slice() == SEALED.as_slice()
             && bare.confounder.as_slice() == CONFOUNDER.as_slice()
             && bare.ki.is_empty()
-            && read.plaintext.as_slice() == FILLED.as_slice()
+            && read.plaintext.as_slice() == PADDED.as_slice()
             && read.confounder.as_slice() == CONFOUNDER.as_slice()
             && read.checksum.is_empty()
             && read.ki.is_empty(),
@@ -149,8 +149,8 @@ fn is_generated(alloc: Global, key: &[u8], payload: &[u8], sealed: &[u8]) -> boo
     );
     let is_made = match made {
         Ok(octets) => octets.as_slice() == sealed,
-        Err(refusal) => {
-            sealed.is_empty() && matches!(refusal, KerberosCryptoError::KeyLength(15, 16))
+        Err(rejection) => {
+            sealed.is_empty() && matches!(rejection, KerberosCryptoError::KeyLength(15, 16))
         }
     };
     is_made && rng.next_u32() == 0x0302_0100

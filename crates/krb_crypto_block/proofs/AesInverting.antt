@@ -2,7 +2,7 @@
 use Rattle.std.proofs.Common.{◌≡◌, ℕ, zero, suc, ◌-◌, List, refl, ap, ◌∙◌}
 use Rattle.krb_crypto_block.specs.Modes.{IsOctets}
 use Rattle.krb_crypto_block.specs.Aes.{sub_bytes, shift_rows, mix_columns, add_round_key, round, rounds, last_round, cipher}
-use Rattle.krb_crypto_block.specs.InverseCipher.{inverse_sub_bytes, inverse_shift_rows, inverse_mix_columns, inverse_round, inverse_last_round, inverse_rounds, decipher}
+use Rattle.krb_crypto_block.specs.InverseCipher.{inverse_sub_bytes, inverse_shift_rows, inverse_mix_columns, inverse_round, inverse_last_round, inverse_rounds, decrypt}
 use Rattle.krb_crypto_block.proofs.AesStates.{IsState, sub_bytes-IsState, inverse_sub_bytes-IsState, shift_rows-IsState, inverse_shift_rows-IsState, mix_columns-IsState, inverse_mix_columns-IsState, add_round_key-IsState, add_round_key_twice, inverse_sub_bytes-sub_bytes, sub_bytes-inverse_sub_bytes, inverse_shift_rows-shift_rows, shift_rows-inverse_shift_rows, inverse_mix_columns-mix_columns, mix_columns-inverse_mix_columns}
 
 module _ (w : List ℕ) (octets : IsOctets w) where
@@ -78,13 +78,13 @@ module _ (w : List ℕ) (octets : IsOctets w) where
       ap (λ (t : List ℕ). inverse_rounds w t n) (inverse_round-round (suc n) (rounds w q n) (rounds-IsState q n is))
       ∙ forth n q is
 
-  pub cipher-decipher : (nr : ℕ) (c : List ℕ) → IsState c → cipher w nr (decipher w nr c) ≡ c
-  cipher-decipher nr c is =
+  pub cipher-decrypt : (nr : ℕ) (c : List ℕ) → IsState c → cipher w nr (decrypt w nr c) ≡ c
+  cipher-decrypt nr c is =
       ap (last_round w nr) (back (nr - 1) (inverse_last_round w nr c) (inverse_last_round-IsState nr c is))
       ∙ last_round-inverse_last_round nr c is
 
-  pub decipher-cipher : (nr : ℕ) (q : List ℕ) → IsState q → decipher w nr (cipher w nr q) ≡ q
-  decipher-cipher nr q is =
+  pub decrypt-cipher : (nr : ℕ) (q : List ℕ) → IsState q → decrypt w nr (cipher w nr q) ≡ q
+  decrypt-cipher nr q is =
       ap (λ (t : List ℕ). add_round_key w 0 (inverse_rounds w t (nr - 1))) (inverse_last_round-last_round nr (rounds w q (nr - 1)) (rounds-IsState q (nr - 1) is))
       ∙ ap (add_round_key w 0) (forth (nr - 1) q is)
       ∙ add_round_key_twice w 0 q is
@@ -92,5 +92,5 @@ module _ (w : List ℕ) (octets : IsOctets w) where
   pub cipher-IsState : (nr : ℕ) (p : List ℕ) → IsState p → IsState (cipher w nr p)
   cipher-IsState nr p is = last_round-IsState nr _ (rounds-IsState p (nr - 1) is)
 
-  pub decipher-IsState : (nr : ℕ) (c : List ℕ) → IsState c → IsState (decipher w nr c)
-  decipher-IsState nr c is = add_round_key-IsState w 0 _ octets (inverse_rounds-IsState (nr - 1) _ (inverse_last_round-IsState nr c is))
+  pub decrypt-IsState : (nr : ℕ) (c : List ℕ) → IsState c → IsState (decrypt w nr c)
+  decrypt-IsState nr c is = add_round_key-IsState w 0 _ octets (inverse_rounds-IsState (nr - 1) _ (inverse_last_round-IsState nr c is))

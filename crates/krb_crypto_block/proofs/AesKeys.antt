@@ -2,7 +2,7 @@
 use Rattle.std.proofs.Common.{◌≡◌, ℕ, zero, suc, ◌+◌, ◌-◌, ◌*◌, ◌≤◌, min, List, length, take, refl, sym, ap, ◌∙◌, subst, arith, inl, inr, length-take}
 use Rattle.krb_crypto_block.specs.Modes.{IsOctets, AreInverse}
 use Rattle.krb_crypto_block.specs.Aes.{key_expansion, key_words, round_count, add_round_key, cipher, aes_block, IsKeySize}
-use Rattle.krb_crypto_block.specs.InverseCipher.{inverse_sub_bytes, inverse_shift_rows, inverse_rounds, decipher, aes_undo}
+use Rattle.krb_crypto_block.specs.InverseCipher.{inverse_sub_bytes, inverse_shift_rows, inverse_rounds, decrypt, aes_undo}
 use Rattle.krb_crypto_block.specs.AesWords.{HasRoundKey, HasInverseKeys, IsKept, inverse_cipher_round, inverse_cipher_rounds, inverse_cipher_last}
 use Rattle.krb_crypto_block.proofs.Below.{AreBelow-take}
 use Rattle.krb_crypto_block.proofs.AesUndoing.{IsOctets-expanded, are_inverse}
@@ -31,9 +31,9 @@ module _ (octets words inverse_words v : List ℕ) (nr : ℕ) (kept : IsKept oct
   unfolding aes_block
   cipher_is p = ap (λ (m : ℕ). cipher (key_expansion v) m p) rounds_are
 
-  pub decipher_is : (c : List ℕ) → aes_undo v c ≡ decipher (key_expansion v) nr c
+  pub decrypt_is : (c : List ℕ) → aes_undo v c ≡ decrypt (key_expansion v) nr c
   unfolding aes_undo
-  decipher_is c = ap (λ (m : ℕ). decipher (key_expansion v) m c) rounds_are
+  decrypt_is c = ap (λ (m : ℕ). decrypt (key_expansion v) m c) rounds_are
 
   pub keys_undo : AreInverse 16 (aes_block v) (aes_undo v)
   keys_undo = are_inverse v value_octets
@@ -43,11 +43,11 @@ pub is_kept : (key octets words inverse_words : List ℕ) (nk : ℕ) → IsKeySi
     → ((n : ℕ) → n ≤ nk + 6 → HasRoundKey (key_expansion key) words n)
     → ((w : List ℕ) → IsOctets w → ((n : ℕ) → n ≤ nk + 6 → HasRoundKey w words n) → HasInverseKeys w inverse_words (nk + 6))
     → IsKept octets words inverse_words (nk + 6)
-is_kept key octets words inverse_words nk size long are_octets front keys inverse =
+is_kept key octets words inverse_words nk size long are_octets prefix keys inverse =
     let same : nk + 6 - 6 ≡ nk = omega arith in
     let whole : 4 * (nk + 6 - 6) ≡ length key = omega arith in
-    let value : take (4 * (nk + 6 - 6)) octets ≡ key = rw whole front in
-    let key_octets : IsOctets key = subst IsOctets front (AreBelow-take (length key) octets are_octets) in
+    let value : take (4 * (nk + 6 - 6)) octets ≡ key = rw whole prefix in
+    let key_octets : IsOctets key = subst IsOctets prefix (AreBelow-take (length key) octets are_octets) in
     record {
       size = rw same size;
       are_octets = are_octets;
@@ -63,5 +63,5 @@ unfolding inverse_rounds inverse_cipher_rounds
 inverse_rounds_by_steps w st zero = refl
 inverse_rounds_by_steps w st (suc n) = inverse_rounds_by_steps w (inverse_cipher_round w (suc n) st) n
 
-pub decipher_by_steps : (w c : List ℕ) (nr : ℕ) → inverse_cipher_last w (inverse_cipher_rounds w (add_round_key w nr c) (nr - 1)) ≡ decipher w nr c
-decipher_by_steps w c nr = ap (add_round_key w 0) (inverse_rounds_by_steps w (add_round_key w nr c) (nr - 1))
+pub decrypt_by_steps : (w c : List ℕ) (nr : ℕ) → inverse_cipher_last w (inverse_cipher_rounds w (add_round_key w nr c) (nr - 1)) ≡ decrypt w nr c
+decrypt_by_steps w c nr = ap (add_round_key w 0) (inverse_rounds_by_steps w (add_round_key w nr c) (nr - 1))

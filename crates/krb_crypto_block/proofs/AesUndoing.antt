@@ -7,7 +7,7 @@ use Rattle.krb_crypto_block.specs.InverseCipher.{aes_undo}
 use Rattle.krb_crypto_block.proofs.Below.{AreBelow-append}
 use Rattle.krb_crypto_block.proofs.AesTables.{s_box_octet}
 use Rattle.krb_crypto_block.proofs.AesStates.{IsState, times_octet}
-use Rattle.krb_crypto_block.proofs.AesInverting.{cipher-decipher, decipher-cipher, cipher-IsState, decipher-IsState}
+use Rattle.krb_crypto_block.proofs.AesInverting.{cipher-decrypt, decrypt-cipher, cipher-IsState, decrypt-IsState}
 
 -- ---- the round keys are octets
 
@@ -73,10 +73,10 @@ inverse_under key octets =
     let w = key_expansion key in
     let nr = round_count (key_words key) in
     record {
-      enciphered = λ b h. block_of_state _ (cipher-IsState w octets nr b (state_of_block b h));
-      deciphered = λ b h. block_of_state _ (decipher-IsState w octets nr b (state_of_block b h));
-      left = λ b h. decipher-cipher w octets nr b (state_of_block b h);
-      right = λ b h. cipher-decipher w octets nr b (state_of_block b h);
+      encrypted_octets = λ b h. block_of_state _ (cipher-IsState w octets nr b (state_of_block b h));
+      decrypted = λ b h. block_of_state _ (decrypt-IsState w octets nr b (state_of_block b h));
+      left = λ b h. decrypt-cipher w octets nr b (state_of_block b h);
+      right = λ b h. cipher-decrypt w octets nr b (state_of_block b h);
     }
 
 pub are_inverse : (key : List ℕ) → IsOctets key → AreInverse 16 (aes_block key) (aes_undo key)

@@ -71,8 +71,8 @@ module _ (w keys : List ℕ) (n : ℕ) (octets : IsOctets w) where
       → Holds (r0 ∷ r1 ∷ r2 ∷ r3 ∷ []) (add_round_key w n t)
   unfolding add_round_key
   added_is t r0 r1 r2 r3 has is e0 e1 e2 e3 =
-      let front : 4 * n + 0 ≡ 4 * n = omega arith in
-      let made : r0 ≡ bit_xor (word_of (column_of t 0)) (slice_index keys (4 * n + 0)) = e0 ∙ ap (λ (k : ℕ). bit_xor (word_of (column_of t 0)) (slice_index keys k)) (sym front) in (
+      let prefix : 4 * n + 0 ≡ 4 * n = omega arith in
+      let made : r0 ≡ bit_xor (word_of (column_of t 0)) (slice_index keys (4 * n + 0)) = e0 ∙ ap (λ (k : ℕ). bit_xor (word_of (column_of t 0)) (slice_index keys k)) (sym prefix) in (
         block_of_state _ (add_round_key-IsState w n t octets is),
         same4 _ _ _ _ _ _ _ _
             (added_column has t 0 r0 is (lit< tt) made) (added_column has t 1 r1 is (lit< tt) e1)
@@ -119,9 +119,9 @@ module _ (w keys : List ℕ) (n : ℕ) (octets : IsOctets w) where
   inverse_round_is st r0 r1 r2 r3 has block e0 e1 e2 e3 =
       let t = inverse_sub_bytes (inverse_shift_rows st) in
       let is : IsState t = inverse_sub_bytes-IsState _ (inverse_shift_rows-IsState st (state_of_block st block)) in
-      let front : 4 * n + 0 ≡ 4 * n = omega arith in
+      let prefix : 4 * n + 0 ≡ 4 * n = omega arith in
       let made : r0 ≡ bit_xor (word_of (product_of_columns unmix_polynomial (column_of t 0))) (slice_index keys (4 * n + 0)) =
-      e0 ∙ ap (λ (k : ℕ). bit_xor (word_of (product_of_columns unmix_polynomial (column_of t 0))) (slice_index keys k)) (sym front) in (
+      e0 ∙ ap (λ (k : ℕ). bit_xor (word_of (product_of_columns unmix_polynomial (column_of t 0))) (slice_index keys k)) (sym prefix) in (
         block_of_state _ (inverse_mix_columns-IsState _ (add_round_key-IsState w n t octets is)),
         same4 _ _ _ _ _ _ _ _
             (unmixed_column_is has t 0 r0 is (lit< tt) made) (unmixed_column_is has t 1 r1 is (lit< tt) e1)

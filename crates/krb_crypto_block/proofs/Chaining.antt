@@ -4,11 +4,11 @@ use Rattle.std.proofs.lemmas.List.{length-append, length-take-le, length-drop, t
 use Rattle.std.proofs.Math.Arith.{digits_div, digits_mod}
 use Rattle.std.proofs.Math.Nat.{mul-suc, mul_comm, mul-le-mul_left, div-add-mod'}
 use Rattle.std.specs.List.{concat}
-use Rattle.krb_crypto_hash.specs.Xor.{xor_lists, filled_to}
+use Rattle.krb_crypto_hash.specs.Xor.{xor_lists, padded_to}
 use Rattle.krb_crypto_block.specs.Linked.{linked, last_linked, unlinked, last_block}
-use Rattle.krb_crypto_block.specs.Modes.{IsOctets, IsBlock, AreInverse, zero_block, first_blocks, filled_blocks, IsCbc}
+use Rattle.krb_crypto_block.specs.Modes.{IsOctets, IsBlock, AreInverse, zero_block, first_blocks, padded_blocks, IsCbc}
 use Rattle.krb_crypto_block.proofs.Below.{AreBelow-append, AreBelow-drop, AreBelow-take, AreBelow-xor_lists, AreBelow-zeros}
-use Rattle.krb_crypto_hash.proofs.XorLists.{length-xor_lists, xor_lists-twice, filled_whole}
+use Rattle.krb_crypto_hash.proofs.XorLists.{length-xor_lists, xor_lists-twice, padded_whole}
 use Rattle.krb_crypto_block.proofs.Chains.{chained, chained_from, CbcFrom-chained}
 
 module _ (size : ℕ) where
@@ -33,9 +33,9 @@ module _ (size : ℕ) where
     xor_block : (b v : List ℕ) → IsBlock size b → IsBlock size v → IsBlock size (xor_lists b v)
     xor_block b v hb hv = (length-xor_lists b v (hb.0 ∙ sym hv.0) ∙ hb.0, AreBelow-xor_lists 8 b v hb.1 hv.1)
 
-    joined_whole : (n : ℕ) (b rest : List ℕ) → length b ≡ size → IsWhole n rest → IsWhole (suc n) (b ++ rest)
+    concatenated_whole : (n : ℕ) (b rest : List ℕ) → length b ≡ size → IsWhole n rest → IsWhole (suc n) (b ++ rest)
     unfolding IsWhole
-    joined_whole n b rest e h = (omega (arith, length-append b rest, e), rw (drop_at b rest size e) h)
+    concatenated_whole n b rest e h = (omega (arith, length-append b rest, e), rw (drop_at b rest size e) h)
 
     -- what is chained is of as many whole blocks of octets
     pub linked_whole : (n : ℕ) (v p : List ℕ) → IsBlock size v → IsOctets p → IsWhole n p → IsWhole n (linked size E n v p) × IsOctets (linked size E n v p)
@@ -44,9 +44,9 @@ module _ (size : ℕ) where
     linked_whole (suc n) v p hv all h =
         let b : List ℕ = take size p in
         let c : List ℕ = E (xor_lists b v) in
-        let hc : IsBlock size c = inv.enciphered (xor_lists b v) (xor_block b v (first_block n p h all) hv) in
+        let hc : IsBlock size c = inv.encrypted_octets (xor_lists b v) (xor_block b v (first_block n p h all) hv) in
         let rest = linked_whole n c (drop size p) hc (AreBelow-drop size p all) h.1 in
-        (joined_whole n c (linked size E n c (drop size p)) hc.0 rest.0, AreBelow-append c (linked size E n c (drop size p)) hc.1 rest.1)
+        (concatenated_whole n c (linked size E n c (drop size p)) hc.0 rest.0, AreBelow-append c (linked size E n c (drop size p)) hc.1 rest.1)
 
     pub unlinked-linked : (n : ℕ) (v p : List ℕ) → IsBlock size v → IsOctets p → IsWhole n p → unlinked size D n v (linked size E n v p) ≡ p
     unfolding IsWhole linked unlinked
@@ -57,7 +57,7 @@ module _ (size : ℕ) where
         let c : List ℕ = E (xor_lists b v) in
         let rest : List ℕ = linked size E n c (drop size p) in
         let hx : IsBlock size (xor_lists b v) = xor_block b v hb hv in
-        let hc : IsBlock size c = inv.enciphered (xor_lists b v) hx in
+        let hc : IsBlock size c = inv.encrypted_octets (xor_lists b v) hx in
         let plain : xor_lists (D c) v ≡ b = ap (λ (d : List ℕ). xor_lists d v) (inv.left (xor_lists b v) hx) ∙ xor_lists-twice b v (hb.0 ∙ sym hv.0) in
         rw (take_at c rest size hc.0, drop_at c rest size hc.0, plain, unlinked-linked n c (drop size p) hc (AreBelow-drop size p all) h.1) (take-append-drop size p)
 
@@ -67,7 +67,7 @@ module _ (size : ℕ) where
     linked-unlinked (suc n) v c hv all h =
         let x : List ℕ = take size c in
         let hx : IsBlock size x = first_block n c h all in
-        let hd : IsBlock size (D x) = inv.deciphered x hx in
+        let hd : IsBlock size (D x) = inv.decrypted x hx in
         let b : List ℕ = xor_lists (D x) v in
         let hb : IsBlock size b = xor_block (D x) v hd hv in
         let rest : List ℕ = unlinked size D n x (drop size c) in
@@ -81,9 +81,9 @@ module _ (size : ℕ) where
     unlinked-octets (suc n) v c hv all h =
         let x : List ℕ = take size c in
         let hx : IsBlock size x = first_block n c h all in
-        let hb : IsBlock size (xor_lists (D x) v) = xor_block (D x) v (inv.deciphered x hx) hv in
+        let hb : IsBlock size (xor_lists (D x) v) = xor_block (D x) v (inv.decrypted x hx) hv in
         let rest = unlinked-octets n x (drop size c) hx (AreBelow-drop size c all) h.1 in
-        (joined_whole n (xor_lists (D x) v) (unlinked size D n x (drop size c)) hb.0 rest.0, AreBelow-append (xor_lists (D x) v) (unlinked size D n x (drop size c)) hb.1 rest.1)
+        (concatenated_whole n (xor_lists (D x) v) (unlinked size D n x (drop size c)) hb.0 rest.0, AreBelow-append (xor_lists (D x) v) (unlinked size D n x (drop size c)) hb.1 rest.1)
 
   pub no_octets : (p : List ℕ) → length p ≡ 0 → p ≡ []
   no_octets [] e = refl
@@ -110,15 +110,15 @@ module _ (size : ℕ) where
   -- the relation comes to the function
   pub linked_from : (E : List ℕ → List ℕ) (n : ℕ) (p c : List ℕ) → length p ≡ size * n → (length p + (size - 1)) / size ≡ n → IsCbc size E p c → c ≡ linked size E n (zero_block size) p
   linked_from E n p c len count is =
-      is.joined ∙ ap concat (chained_from E (zero_block size) (filled_blocks size p) is.blocks is.chained)
+      is.concatenated ∙ ap concat (chained_from E (zero_block size) (padded_blocks size p) is.blocks is.chained)
       ∙ ap (λ (k : ℕ). concat (chained E (zero_block size) (first_blocks size k p))) count ∙ linked_is E n (zero_block size) p (IsWhole-of_length n p len)
 
   pub IsCbc-linked : (E : List ℕ → List ℕ) (n : ℕ) (p c : List ℕ) → length p ≡ size * n → (length p + (size - 1)) / size ≡ n → length p % size ≡ 0 → c ≡ linked size E n (zero_block size) p → IsCbc size E p c
   IsCbc-linked E n p c len count whole e = record {
     whole = whole;
-    blocks = chained E (zero_block size) (filled_blocks size p);
-    chained = CbcFrom-chained E (zero_block size) (filled_blocks size p);
-    joined = e ∙ sym (linked_is E n (zero_block size) p (IsWhole-of_length n p len)) ∙ ap (λ (k : ℕ). concat (chained E (zero_block size) (first_blocks size k p))) (sym count);
+    blocks = chained E (zero_block size) (padded_blocks size p);
+    chained = CbcFrom-chained E (zero_block size) (padded_blocks size p);
+    concatenated = e ∙ sym (linked_is E n (zero_block size) p (IsWhole-of_length n p len)) ∙ ap (λ (k : ℕ). concat (chained E (zero_block size) (first_blocks size k p))) (sym count);
   }
 
   -- ---- steps of the loops over blocks
@@ -139,26 +139,26 @@ module _ (size : ℕ) where
       omega (arith, up, more, all, turned)
 
   pub link_step : (E : List ℕ → List ℕ) (count i : ℕ) (v p out out2 c part target : List ℕ) → i < count → size * i + size ≤ length p
-      → part ≡ take size (drop (size * i) p) → c ≡ E (xor_lists (filled_to size part) v) → out2 ≡ out ++ c → out ++ linked size E (count - i) v (drop (size * i) p) ≡ target
+      → part ≡ take size (drop (size * i) p) → c ≡ E (xor_lists (padded_to size part) v) → out2 ≡ out ++ c → out ++ linked size E (count - i) v (drop (size * i) p) ≡ target
       → out2 ++ linked size E (count - (i + 1)) c (drop (size * (i + 1)) p) ≡ target
   unfolding linked
   link_step E count i v p out out2 c part target lt long ep ec eo inv =
       let m : count - i ≡ suc (count - (i + 1)) = omega arith in
       let q : List ℕ = drop (size * i) p in
       let k : ℕ = count - (i + 1) in
-      let whole : c ≡ E (xor_lists (take size q) v) = ec ∙ ap (λ (j : List ℕ). E (xor_lists (filled_to size j) v)) ep ∙ ap (λ (j : List ℕ). E (xor_lists j v)) (filled_whole size (take size q) (part_length p i long)) in
+      let whole : c ≡ E (xor_lists (take size q) v) = ec ∙ ap (λ (j : List ℕ). E (xor_lists (padded_to size j) v)) ep ∙ ap (λ (j : List ℕ). E (xor_lists j v)) (padded_whole size (take size q) (part_length p i long)) in
       let before : out ++ (E (xor_lists (take size q) v) ++ linked size E k (E (xor_lists (take size q) v)) (drop size q)) ≡ target = rw m at inv in
       rw (eo, whole, ← next_part p i) (append_assoc out (E (xor_lists (take size q) v)) (linked size E k (E (xor_lists (take size q) v)) (drop size q)) ∙ before)
 
   pub unlink_step : (D : List ℕ → List ℕ) (count i : ℕ) (v c out out2 x d b target : List ℕ) → i < count
-      → x ≡ take size (drop (size * i) c) → d ≡ D x → length d ≡ size → b ≡ xor_lists (filled_to size d) v → out2 ≡ out ++ b → out ++ unlinked size D (count - i) v (drop (size * i) c) ≡ target
+      → x ≡ take size (drop (size * i) c) → d ≡ D x → length d ≡ size → b ≡ xor_lists (padded_to size d) v → out2 ≡ out ++ b → out ++ unlinked size D (count - i) v (drop (size * i) c) ≡ target
       → out2 ++ unlinked size D (count - (i + 1)) x (drop (size * (i + 1)) c) ≡ target
   unfolding unlinked
   unlink_step D count i v c out out2 x d b target lt ex ed l eb eo inv =
       let m : count - i ≡ suc (count - (i + 1)) = omega arith in
       let q : List ℕ = drop (size * i) c in
       let k : ℕ = count - (i + 1) in
-      let whole : b ≡ xor_lists (D x) v = eb ∙ ap (λ (j : List ℕ). xor_lists j v) (filled_whole size d l) ∙ ap (λ (j : List ℕ). xor_lists j v) ed in
+      let whole : b ≡ xor_lists (D x) v = eb ∙ ap (λ (j : List ℕ). xor_lists j v) (padded_whole size d l) ∙ ap (λ (j : List ℕ). xor_lists j v) ed in
       let before : out ++ (xor_lists (D (take size q)) v ++ unlinked size D k (take size q) (drop size q)) ≡ target = rw m at inv in
       rw (eo, whole, ex, ← next_part c i) (append_assoc out (xor_lists (D (take size q)) v) (unlinked size D k (take size q) (drop size q)) ∙ before)
 
@@ -166,14 +166,14 @@ module _ (size : ℕ) where
   pub placed : (o o2 c : List ℕ) (i : ℕ) → length c ≡ size → size * i + size ≤ length o → o2 ≡ take (size * i) o ++ (c ++ drop size (drop (size * i) o))
       → (take (size * (i + 1)) o2 ≡ take (size * i) o ++ c) × (drop (size * (i + 1)) o2 ≡ drop (size * (i + 1)) o)
   placed o o2 c i l fits e =
-      let front : List ℕ = take (size * i) o in
+      let prefix : List ℕ = take (size * i) o in
       let rest : List ℕ = drop size (drop (size * i) o) in
       let more : size * suc i ≡ size * i + size = mul-suc size i in
       let next : size * (i + 1) ≡ size * i + size = ap (λ (k : ℕ). size * k) (add-one i) ∙ more in
-      let lf : length front ≡ size * i = length-take-le (size * i) o (omega (arith, fits)) in
-      let joined : o2 ≡ (front ++ c) ++ rest = e ∙ sym (append_assoc front c rest) in
-      let long : length (front ++ c) ≡ size * (i + 1) = length-append front c ∙ omega (arith, lf, l, next) in
-      (ap (take (size * (i + 1))) joined ∙ take_at (front ++ c) rest (size * (i + 1)) long, ap (drop (size * (i + 1))) joined ∙ drop_at (front ++ c) rest (size * (i + 1)) long ∙ next_part o i)
+      let lf : length prefix ≡ size * i = length-take-le (size * i) o (omega (arith, fits)) in
+      let concatenated : o2 ≡ (prefix ++ c) ++ rest = e ∙ sym (append_assoc prefix c rest) in
+      let long : length (prefix ++ c) ≡ size * (i + 1) = length-append prefix c ∙ omega (arith, lf, l, next) in
+      (ap (take (size * (i + 1))) concatenated ∙ take_at (prefix ++ c) rest (size * (i + 1)) long, ap (drop (size * (i + 1))) concatenated ∙ drop_at (prefix ++ c) rest (size * (i + 1)) long ∙ next_part o i)
 
   -- the same, of what a call wrote through a borrow of the place
   pub placed_at : (o o2 made c : List ℕ) (i : ℕ) → length c ≡ size → size * i + size ≤ length o → made ≡ c
@@ -193,13 +193,13 @@ module _ (size : ℕ) where
   drop_more o p i e = sym (next_part o i) ∙ ap (drop size) e ∙ next_part p i
 
   pub last_linked_step : (E : List ℕ → List ℕ) (count i : ℕ) (v p c part target : List ℕ) → i < count → size * i + size ≤ length p
-      → part ≡ take size (drop (size * i) p) → c ≡ E (xor_lists (filled_to size part) v) → last_linked size E (count - i) v (drop (size * i) p) ≡ target
+      → part ≡ take size (drop (size * i) p) → c ≡ E (xor_lists (padded_to size part) v) → last_linked size E (count - i) v (drop (size * i) p) ≡ target
       → last_linked size E (count - (i + 1)) c (drop (size * (i + 1)) p) ≡ target
   unfolding last_linked
   last_linked_step E count i v p c part target lt long ep ec inv =
       let m : count - i ≡ suc (count - (i + 1)) = omega arith in
       let q : List ℕ = drop (size * i) p in
-      let whole : c ≡ E (xor_lists (take size q) v) = ec ∙ ap (λ (j : List ℕ). E (xor_lists (filled_to size j) v)) ep ∙ ap (λ (j : List ℕ). E (xor_lists j v)) (filled_whole size (take size q) (part_length p i long)) in
+      let whole : c ≡ E (xor_lists (take size q) v) = ec ∙ ap (λ (j : List ℕ). E (xor_lists (padded_to size j) v)) ep ∙ ap (λ (j : List ℕ). E (xor_lists j v)) (padded_whole size (take size q) (part_length p i long)) in
       let before : last_linked size E (count - (i + 1)) (E (xor_lists (take size q) v)) (drop size q) ≡ target = rw m at inv in
       rw (whole, ← next_part p i) before
 
@@ -292,7 +292,7 @@ module _ (size : ℕ) where
   -- a list is chained to one list
   pub IsCbc-same : (E : List ℕ → List ℕ) (p c d : List ℕ) → IsCbc size E p c → IsCbc size E p d → c ≡ d
   IsCbc-same E p c d h k =
-      h.joined ∙ ap concat (chained_from E (zero_block size) (filled_blocks size p) h.blocks h.chained ∙ sym (chained_from E (zero_block size) (filled_blocks size p) k.blocks k.chained)) ∙ sym k.joined
+      h.concatenated ∙ ap concat (chained_from E (zero_block size) (padded_blocks size p) h.blocks h.chained ∙ sym (chained_from E (zero_block size) (padded_blocks size p) k.blocks k.chained)) ∙ sym k.concatenated
 
   -- what is chained is as long as the blocks
   pub IsCbc-length : 0 < size → (E D : List ℕ → List ℕ) → AreInverse size E D → (p c : List ℕ) → IsOctets p → IsCbc size E p c → length c ≡ length p

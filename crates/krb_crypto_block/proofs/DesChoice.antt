@@ -9,15 +9,15 @@ use Rattle.krb_crypto_block.proofs.Tables.{all_below, all_below_at}
 use Rattle.krb_crypto_hash.proofs.XorLists.{xor_lists-zeros}
 use Rattle.krb_crypto_block.proofs.DesBits.{length-bits, bits-append, bits-xor}
 use Rattle.krb_crypto_block.proofs.DesRounds.{bits_window, bits-split}
-use Rattle.krb_crypto_block.proofs.DesJoined.{same_list, same_list_is, permuted-xor, permuted_pieces, xor_lists-assoc, zeros_right}
+use Rattle.krb_crypto_block.proofs.DesCombined.{same_list, same_list_is, permuted-xor, permuted_pieces, xor_lists-assoc, zeros_right}
 
 -- ---- PC-1
 
 window : (n a b y : ℕ) (q : List ℕ) → a + (n + b) ≡ 64 → bits 64 y ≡ q → bits n (y / 2 ^ b % 2 ^ n) ≡ take n (drop a q)
 window n a b y q at e = sym (bits_window n a b y) ∙ ap (λ k. take n (drop a (bits k y))) at ∙ ap (λ (k : List ℕ). take n (drop a k)) e
 
-bits_behind : (a b x y : ℕ) (p q : List ℕ) → bits a x ≡ p → bits b y ≡ q → y < 2 ^ b → bits (a + b) (x * 2 ^ b + y) ≡ p ++ q
-bits_behind a b x y p q ex ey lt = bits-append a b x y lt ∙ rw (ex, ey) refl
+bits_trailing : (a b x y : ℕ) (p q : List ℕ) → bits a x ≡ p → bits b y ≡ q → y < 2 ^ b → bits (a + b) (x * 2 ^ b + y) ≡ p ++ q
+bits_trailing a b x y p q ex ey lt = bits-append a b x y lt ∙ rw (ex, ey) refl
 
 -- the columns in the order of PC-1
 abbrev columns_of : List ℕ → List ℕ
@@ -40,22 +40,22 @@ columns_value y = (sixth_part y * 256 + y / 2 ^ 8 % 256) * 16 + y / 2 ^ 48 % 16
 third_bits : (y : ℕ) (q : List ℕ) → bits 64 y ≡ q → bits 24 (third_part y) ≡ (take 8 (drop 32 q) ++ take 8 (drop 0 q)) ++ take 8 (drop 40 q)
 third_bits y q e =
     let one : bits 8 (y / 2 ^ 24 % 256) ≡ take 8 (drop 32 q) = window 8 32 24 y q refl e in
-    let two = bits_behind 8 8 (y / 2 ^ 24 % 256) (y / 2 ^ 56 % 256) _ _ one (window 8 0 56 y q refl e) (omega arith) in
-    bits_behind 16 8 (y / 2 ^ 24 % 256 * 256 + y / 2 ^ 56 % 256) (y / 2 ^ 16 % 256) _ _ two (window 8 40 16 y q refl e) (omega arith)
+    let two = bits_trailing 8 8 (y / 2 ^ 24 % 256) (y / 2 ^ 56 % 256) _ _ one (window 8 0 56 y q refl e) (omega arith) in
+    bits_trailing 16 8 (y / 2 ^ 24 % 256 * 256 + y / 2 ^ 56 % 256) (y / 2 ^ 16 % 256) _ _ two (window 8 40 16 y q refl e) (omega arith)
 
 sixth_bits : (y : ℕ) (q p : List ℕ) → bits 64 y ≡ q → bits 24 (third_part y) ≡ p → bits 44 (sixth_part y) ≡ ((p ++ take 4 (drop 8 q)) ++ take 8 (drop 56 q)) ++ take 8 (drop 16 q)
 sixth_bits y q p e three =
     let last : y % 256 ≡ y / 2 ^ 0 % 256 = omega arith in
-    let four = bits_behind 24 4 (third_part y) (y / 2 ^ 52 % 16) p _ three (window 4 8 52 y q refl e) (omega arith) in
-    let five = bits_behind 28 8 (third_part y * 16 + y / 2 ^ 52 % 16) (y % 256) _ _ four (ap (bits 8) last ∙ window 8 56 0 y q refl e) (omega arith) in
-    bits_behind 36 8 ((third_part y * 16 + y / 2 ^ 52 % 16) * 256 + y % 256) (y / 2 ^ 40 % 256) _ _ five (window 8 16 40 y q refl e) (omega arith)
+    let four = bits_trailing 24 4 (third_part y) (y / 2 ^ 52 % 16) p _ three (window 4 8 52 y q refl e) (omega arith) in
+    let five = bits_trailing 28 8 (third_part y * 16 + y / 2 ^ 52 % 16) (y % 256) _ _ four (ap (bits 8) last ∙ window 8 56 0 y q refl e) (omega arith) in
+    bits_trailing 36 8 ((third_part y * 16 + y / 2 ^ 52 % 16) * 256 + y % 256) (y / 2 ^ 40 % 256) _ _ five (window 8 16 40 y q refl e) (omega arith)
 
 pub columns_are : (x y : ℕ) → bits 64 y ≡ permuted initial_table (bits 64 x) → bits 56 (columns_value y) ≡ permuted first_choice (bits 64 x)
 columns_are x y e =
     let q : List ℕ = permuted initial_table (bits 64 x) in
     let six = sixth_bits y q _ e (third_bits y q e) in
-    let seven = bits_behind 44 8 (sixth_part y) (y / 2 ^ 8 % 256) _ _ six (window 8 48 8 y q refl e) (omega arith) in
-    bits_behind 52 4 (sixth_part y * 256 + y / 2 ^ 8 % 256) (y / 2 ^ 48 % 16) _ _ seven (window 4 12 48 y q refl e) (omega arith) ∙ columns_chosen (bits 64 x)
+    let seven = bits_trailing 44 8 (sixth_part y) (y / 2 ^ 8 % 256) _ _ six (window 8 48 8 y q refl e) (omega arith) in
+    bits_trailing 52 4 (sixth_part y * 256 + y / 2 ^ 8 % 256) (y / 2 ^ 48 % 16) _ _ seven (window 4 12 48 y q refl e) (omega arith) ∙ columns_chosen (bits 64 x)
 
 -- ---- PC-2, each entry by one computation
 
@@ -124,9 +124,9 @@ choice_more tables choice half i word target test few lt held =
     let at : 7 * i + (7 + (21 - 7 * i)) ≡ 28 = omega arith in
     let seven : take 7 (drop (7 * i) (bits 28 half)) ≡ bits 7 part = ap (λ k. take 7 (drop (7 * i) (bits k half))) (sym at) ∙ bits_window 7 (7 * i) (21 - 7 * i) half in
     let next : 7 * i + 7 ≡ 7 * (i + 1) = omega arith in
-    let behind : drop 7 (drop (7 * i) (bits 28 half)) ≡ drop (7 * (i + 1)) (bits 28 half) = drop-drop 7 (7 * i) x ∙ ap (λ k. drop k x) next in
+    let trailing : drop 7 (drop (7 * i) (bits 28 half)) ≡ drop (7 * (i + 1)) (bits 28 half) = drop-drop 7 (7 * i) x ∙ ap (λ k. drop k x) next in
     let cut : drop (7 * i) (bits 28 half) ≡ bits 7 part ++ drop (7 * (i + 1)) (bits 28 half) =
-    sym (take-append-drop 7 (drop (7 * i) x)) ∙ ap (λ (k : List ℕ). k ++ drop 7 (drop (7 * i) x)) seven ∙ ap (λ (k : List ℕ). bits 7 part ++ k) behind in
+    sym (take-append-drop 7 (drop (7 * i) x)) ∙ ap (λ (k : List ℕ). k ++ drop 7 (drop (7 * i) x)) seven ∙ ap (λ (k : List ℕ). bits 7 part ++ k) trailing in
     let long : length (drop (7 * (i + 1)) (bits 28 half)) ≡ 21 - 7 * i = length-drop (7 * (i + 1)) x ∙ omega (arith, length-bits 28 half) in
     let small : part < 128 = omega arith in
     let after : List ℕ = permuted choice (parts_from (i + 1) x) in
@@ -179,9 +179,9 @@ bits-interleaved a b ha hb =
     let tb : take 16 (bits 32 b) ≡ bits 16 (b / 2 ^ 16) = ap (take 16) cut_b ∙ take_at (bits 16 (b / 2 ^ 16)) (bits 16 (b % 2 ^ 16)) 16 (length-bits 16 (b / 2 ^ 16)) in
     let da : drop 16 (bits 32 a) ≡ bits 16 (a % 2 ^ 16) = ap (drop 16) cut_a ∙ drop_at (bits 16 (a / 2 ^ 16)) (bits 16 (a % 2 ^ 16)) 16 (length-bits 16 (a / 2 ^ 16)) in
     let db : drop 16 (bits 32 b) ≡ bits 16 (b % 2 ^ 16) = ap (drop 16) cut_b ∙ drop_at (bits 16 (b / 2 ^ 16)) (bits 16 (b % 2 ^ 16)) 16 (length-bits 16 (b / 2 ^ 16)) in
-    let low : bits 32 (a % 2 ^ 16 * 2 ^ 16 + b % 2 ^ 16) ≡ drop 16 (bits 32 a) ++ drop 16 (bits 32 b) = bits_behind 16 16 (a % 2 ^ 16) (b % 2 ^ 16) _ _ (sym da) (sym db) (omega arith) in
-    let high : bits 32 (a / 2 ^ 16 * 2 ^ 16 + b / 2 ^ 16) ≡ take 16 (bits 32 a) ++ take 16 (bits 32 b) = bits_behind 16 16 (a / 2 ^ 16) (b / 2 ^ 16) _ _ (sym ta) (sym tb) (omega arith) in
-    bits_behind 32 32 (a / 2 ^ 16 * 2 ^ 16 + b / 2 ^ 16) (a % 2 ^ 16 * 2 ^ 16 + b % 2 ^ 16) _ _ high low (omega arith)
+    let low : bits 32 (a % 2 ^ 16 * 2 ^ 16 + b % 2 ^ 16) ≡ drop 16 (bits 32 a) ++ drop 16 (bits 32 b) = bits_trailing 16 16 (a % 2 ^ 16) (b % 2 ^ 16) _ _ (sym da) (sym db) (omega arith) in
+    let high : bits 32 (a / 2 ^ 16 * 2 ^ 16 + b / 2 ^ 16) ≡ take 16 (bits 32 a) ++ take 16 (bits 32 b) = bits_trailing 16 16 (a / 2 ^ 16) (b / 2 ^ 16) _ _ (sym ta) (sym tb) (omega arith) in
+    bits_trailing 32 32 (a / 2 ^ 16 * 2 ^ 16 + b / 2 ^ 16) (a % 2 ^ 16 * 2 ^ 16 + b % 2 ^ 16) _ _ high low (omega arith)
 
 pub key_chosen : (c d a b : ℕ) → a < 2 ^ 32 → b < 2 ^ 32 → half_bits a ≡ permuted choice_of_c (bits 28 c) → half_bits b ≡ permuted choice_of_d (bits 28 d)
     → key_bits ((a / 2 ^ 16 * 2 ^ 16 + b / 2 ^ 16) * 2 ^ 32 + (a % 2 ^ 16 * 2 ^ 16 + b % 2 ^ 16)) ≡ permuted second_choice (bits 28 c ++ bits 28 d)

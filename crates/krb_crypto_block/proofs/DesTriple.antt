@@ -104,34 +104,34 @@ cipher-plain key b h =
 AreInverse-octets : (key : List ℕ) → AreInverse 8 (cipher_octets key) (plain_octets key)
 unfolding cipher_octets plain_octets des_block des_undo
 AreInverse-octets key = record {
-  enciphered = λ b h. block_of (round_keys (octet_bits key)) b;
-  deciphered = λ b h. block_of (reverse (round_keys (octet_bits key))) b;
+  encrypted_octets = λ b h. block_of (round_keys (octet_bits key)) b;
+  decrypted = λ b h. block_of (reverse (round_keys (octet_bits key))) b;
   left = plain-cipher key;
   right = cipher-plain key;
 }
 
 AreInverse-turned : (size : ℕ) (E D : List ℕ → List ℕ) → AreInverse size E D → AreInverse size D E
 AreInverse-turned size E D h = record {
-  enciphered = h.deciphered;
-  deciphered = h.enciphered;
+  encrypted_octets = h.decrypted;
+  decrypted = h.encrypted_octets;
   left = h.right;
   right = h.left;
 }
 
 -- one after the other
-AreInverse-joined : (size : ℕ) (E D F G : List ℕ → List ℕ) → AreInverse size E D → AreInverse size F G → AreInverse size (λ b. F (E b)) (λ b. D (G b))
-AreInverse-joined size E D F G h g = record {
-  enciphered = λ b is. g.enciphered (E b) (h.enciphered b is);
-  deciphered = λ b is. h.deciphered (G b) (g.deciphered b is);
-  left = λ b is. ap D (g.left (E b) (h.enciphered b is)) ∙ h.left b is;
-  right = λ b is. ap F (h.right (G b) (g.deciphered b is)) ∙ g.right b is;
+AreInverse-concatenated : (size : ℕ) (E D F G : List ℕ → List ℕ) → AreInverse size E D → AreInverse size F G → AreInverse size (λ b. F (E b)) (λ b. D (G b))
+AreInverse-concatenated size E D F G h g = record {
+  encrypted_octets = λ b is. g.encrypted_octets (E b) (h.encrypted_octets b is);
+  decrypted = λ b is. h.decrypted (G b) (g.decrypted b is);
+  left = λ b is. ap D (g.left (E b) (h.encrypted_octets b is)) ∙ h.left b is;
+  right = λ b is. ap F (h.right (G b) (g.decrypted b is)) ∙ g.right b is;
 }
 
 pub AreInverse-ede3 : (key : List ℕ) → AreInverse 8 (ede3 key) (ede3_undo key)
 unfolding ede3 ede3_undo
 AreInverse-ede3 key =
-    AreInverse-joined 8 (λ b. plain_octets (second_key key) (cipher_octets (first_key key) b)) (λ b. plain_octets (first_key key) (cipher_octets (second_key key) b)) (cipher_octets (third_key key)) (plain_octets (third_key key))
-    (AreInverse-joined 8 (cipher_octets (first_key key)) (plain_octets (first_key key)) (plain_octets (second_key key)) (cipher_octets (second_key key))
+    AreInverse-concatenated 8 (λ b. plain_octets (second_key key) (cipher_octets (first_key key) b)) (λ b. plain_octets (first_key key) (cipher_octets (second_key key) b)) (cipher_octets (third_key key)) (plain_octets (third_key key))
+    (AreInverse-concatenated 8 (cipher_octets (first_key key)) (plain_octets (first_key key)) (plain_octets (second_key key)) (cipher_octets (second_key key))
     (AreInverse-octets (first_key key))
     (AreInverse-turned 8 (cipher_octets (second_key key)) (plain_octets (second_key key)) (AreInverse-octets (second_key key))))
     (AreInverse-octets (third_key key))

@@ -32,7 +32,7 @@ common_step a b g n false e is pos le more = elim (cases_lt n g) [
       let same : g ≡ suc n = omega arith in
       let first : (a % suc n == 0) ≡ true = eq-eqb (a % suc n) 0 (mod-eq-zero_of_dvd (suc n) (rw same at is.0)) in
       let second : (b % suc n == 0) ≡ true = eq-eqb (b % suc n) 0 (mod-eq-zero_of_dvd (suc n) (rw same at is.1)) in
-      absurd (let told : true ≡ false = rw (first, second) at e in cc)
+      absurd (let reported : true ≡ false = rw (first, second) at e in cc)
   | inr below ↦ more (omega arith)
 ]
 

@@ -6,7 +6,7 @@ use Rattle.std.proofs.Math.Nat.{add-mul-div_right, div-add-mod', div-div-eq-div-
 use Rattle.std.proofs.lemmas.Nat.{pow-add, pow_pos, shr-shr, shr_below}
 use Rattle.std.proofs.lemmas.Bool.{cases_lt}
 use Rattle.krb_crypto_block.specs.Modes.{IsOctets}
-use Rattle.krb_crypto_block.specs.Fold.{number, turned, rot, joined}
+use Rattle.krb_crypto_block.specs.Fold.{number, turned, rot, concatenated}
 use Rattle.krb_crypto_block.proofs.FoldWorth.{worth, worth-zero, worth-suc, worth-add, worth_pos, worth_pow, number_lt, octet_of, octet-high}
 
 -- x twice in a row, shifted
@@ -99,37 +99,37 @@ rot_octet xs j e a n h en he ea =
     ∙ ap (λ (i : ℕ). (i * 256 + x / worth a % 256) / 2 ^ (5 * j % 8) % 256) high ∙ ap (λ (i : ℕ). (get_or xs (n - 1 - (a + 1) % n) 0 * 256 + i) / 2 ^ (5 * j % 8) % 256) low
 
 -- ---- the turns concatenated
-joined-suc : (x k c : ℕ) → joined x k (suc c) ≡ joined x k c * 2 ^ k + rot x k c
-unfolding joined
-joined-suc x k c = refl
+concatenated-suc : (x k c : ℕ) → concatenated x k (suc c) ≡ concatenated x k c * 2 ^ k + rot x k c
+unfolding concatenated
+concatenated-suc x k c = refl
 
-joined-zero : (x k : ℕ) → joined x k 0 ≡ 0
-unfolding joined
-joined-zero x k = refl
+concatenated-zero : (x k : ℕ) → concatenated x k 0 ≡ 0
+unfolding concatenated
+concatenated-zero x k = refl
 
-pub joined_lt : (x n c : ℕ) → 0 < n → x < worth n → joined x (8 * n) c < worth (c * n)
-joined_lt x n zero pos h = rw (joined-zero, zero-mul) (worth_pos 0)
-joined_lt x n (suc c) pos h =
+pub concatenated_lt : (x n c : ℕ) → 0 < n → x < worth n → concatenated x (8 * n) c < worth (c * n)
+concatenated_lt x n zero pos h = rw (concatenated-zero, zero-mul) (worth_pos 0)
+concatenated_lt x n (suc c) pos h =
     let e : suc c * n ≡ c * n + n = omega arith in
     let one : rot x (8 * n) c < worth n = rw (worth_pow n) (rot_lt x (8 * n) c (omega arith) (rw worth_pow at h)) in
-    rw (joined-suc, e, worth-add, ← worth_pow) (digits_lt (joined_lt x n c pos h) one)
+    rw (concatenated-suc, e, worth-add, ← worth_pow) (digits_lt (concatenated_lt x n c pos h) one)
 
-joined_shift : (x n i m : ℕ) → 0 < n → x < worth n → joined x (8 * n) (i + m) / worth (m * n) ≡ joined x (8 * n) i
-joined_shift x n i zero pos h = rw (add-zero, zero-mul, worth-zero) (div-one (joined x (8 * n) i))
-joined_shift x n i (suc m) pos h =
+concatenated_shift : (x n i m : ℕ) → 0 < n → x < worth n → concatenated x (8 * n) (i + m) / worth (m * n) ≡ concatenated x (8 * n) i
+concatenated_shift x n i zero pos h = rw (add-zero, zero-mul, worth-zero) (div-one (concatenated x (8 * n) i))
+concatenated_shift x n i (suc m) pos h =
     let e : suc m * n ≡ n + m * n = omega arith in
     let one : rot x (8 * n) (i + m) < worth n = rw (worth_pow n) (rot_lt x (8 * n) (i + m) (omega arith) (rw worth_pow at h)) in
     let w : worth (suc m * n) ≡ worth n * worth (m * n) = ap worth e ∙ worth-add n (m * n) in
-    let top : joined x (8 * n) (i + suc m) ≡ joined x (8 * n) (i + m) * worth n + rot x (8 * n) (i + m) = rw (add-suc, joined-suc, worth_pow) refl in
-    rw (w, top) (sym (div-div-eq-div-mul (joined x (8 * n) (i + m) * worth n + rot x (8 * n) (i + m)) (worth n) (worth (m * n)))
-    ∙ ap (λ (k : ℕ). k / worth (m * n)) (digits_div (joined x (8 * n) (i + m)) one) ∙ joined_shift x n i m pos h)
+    let top : concatenated x (8 * n) (i + suc m) ≡ concatenated x (8 * n) (i + m) * worth n + rot x (8 * n) (i + m) = rw (add-suc, concatenated-suc, worth_pow) refl in
+    rw (w, top) (sym (div-div-eq-div-mul (concatenated x (8 * n) (i + m) * worth n + rot x (8 * n) (i + m)) (worth n) (worth (m * n)))
+    ∙ ap (λ (k : ℕ). k / worth (m * n)) (digits_div (concatenated x (8 * n) (i + m)) one) ∙ concatenated_shift x n i m pos h)
 
 -- an octet of the turns concatenated is one of a turn
-pub joined_octet : (x n i m e : ℕ) → 0 < n → x < worth n → e < n → joined x (8 * n) (suc i + m) / worth (m * n + e) % 256 ≡ rot x (8 * n) i / worth e % 256
-joined_octet x n i m e pos h he =
-    let j : ℕ = joined x (8 * n) (suc i + m) in
+pub concatenated_octet : (x n i m e : ℕ) → 0 < n → x < worth n → e < n → concatenated x (8 * n) (suc i + m) / worth (m * n + e) % 256 ≡ rot x (8 * n) i / worth e % 256
+concatenated_octet x n i m e pos h he =
+    let j : ℕ = concatenated x (8 * n) (suc i + m) in
     let w : worth (m * n + e) ≡ worth (m * n) * worth e = worth-add (m * n) e in
-    let down : j / worth (m * n + e) ≡ joined x (8 * n) (suc i) / worth e =
-    rw w (sym (div-div-eq-div-mul j (worth (m * n)) (worth e)) ∙ ap (λ (k : ℕ). k / worth e) (joined_shift x n (suc i) m pos h)) in
-    let top : joined x (8 * n) (suc i) ≡ joined x (8 * n) i * worth n + rot x (8 * n) i = rw (joined-suc, worth_pow) refl in
-    ap (λ (k : ℕ). k % 256) down ∙ ap (λ (k : ℕ). k / worth e % 256) top ∙ octet-high (joined x (8 * n) i) n e (rot x (8 * n) i) he
+    let down : j / worth (m * n + e) ≡ concatenated x (8 * n) (suc i) / worth e =
+    rw w (sym (div-div-eq-div-mul j (worth (m * n)) (worth e)) ∙ ap (λ (k : ℕ). k / worth e) (concatenated_shift x n (suc i) m pos h)) in
+    let top : concatenated x (8 * n) (suc i) ≡ concatenated x (8 * n) i * worth n + rot x (8 * n) i = rw (concatenated-suc, worth_pow) refl in
+    ap (λ (k : ℕ). k % 256) down ∙ ap (λ (k : ℕ). k / worth e % 256) top ∙ octet-high (concatenated x (8 * n) i) n e (rot x (8 * n) i) he

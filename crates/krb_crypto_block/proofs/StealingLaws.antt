@@ -4,7 +4,7 @@ use Rattle.std.proofs.lemmas.List.{length-append, length-take-le, length-drop, l
 use Rattle.std.proofs.Math.Nat.{zero-add, suc-add}
 use Rattle.std.specs.List.{concat}
 use Rattle.krb_crypto_hash.specs.Xor.{xor_lists}
-use Rattle.krb_crypto_block.specs.Modes.{filled, IsOctets, IsBlock, AreInverse, zero_block, first_blocks, filled_blocks, exchanged, CtsFrom, Cts, HasOnePlain}
+use Rattle.krb_crypto_block.specs.Modes.{padded, IsOctets, IsBlock, AreInverse, zero_block, first_blocks, padded_blocks, exchanged, CtsFrom, Cts, HasOnePlain}
 use Rattle.krb_crypto_block.proofs.Below.{AreBelow-append, AreBelow-drop, AreBelow-take, AreBelow-xor_lists, AreBelow-zeros}
 use Rattle.krb_crypto_hash.proofs.XorLists.{length-xor_lists, xor_lists-twice, xor_lists-append, xor_lists-zeros}
 use Rattle.krb_crypto_block.proofs.Chains.{chained, chained_from, CbcFrom-chained}
@@ -16,7 +16,7 @@ InBlocks (suc n) p = (16 * suc n < length p) × (length p ≤ 16 * suc n + 16)
 
 -- one whole block b and then t
 abbrev pub two : (List ℕ → List ℕ) → List ℕ → List ℕ → List ℕ → List ℕ
-two E v b t = E (xor_lists (filled t) (E (xor_lists b v))) ++ take (length t) (E (xor_lists b v))
+two E v b t = E (xor_lists (padded t) (E (xor_lists b v))) ++ take (length t) (E (xor_lists b v))
 
 abbrev pub untwo : (List ℕ → List ℕ) → List ℕ → List ℕ → List ℕ → List ℕ
 untwo D v x y = xor_lists (D (y ++ drop (length y) (D x))) v ++ xor_lists (take (length y) (D x)) y
@@ -31,8 +31,8 @@ unstolen D zero v c = xor_lists (D c) v
 unstolen D (suc zero) v c = untwo D v (take 16 c) (drop 16 c)
 unstolen D (suc (suc n)) v c = xor_lists (D (take 16 c)) v ++ unstolen D (suc n) (take 16 c) (drop 16 c)
 
-IsBlock-filled : (t : List ℕ) → IsOctets t → length t ≤ 16 → IsBlock 16 (filled t)
-IsBlock-filled t h fits = (
+IsBlock-padded : (t : List ℕ) → IsOctets t → length t ≤ 16 → IsBlock 16 (padded t)
+IsBlock-padded t h fits = (
   rw (length-append, length-replicate) (omega arith),
   AreBelow-append t (replicate (16 - length t) 0) h (AreBelow-zeros (16 - length t) (omega arith)),
 )
@@ -72,75 +72,75 @@ InBlocks-some p long = ((length p - 1) / 16, InBlocks_at ((length p - 1) / 16) p
 
 module _ (E D : List ℕ → List ℕ) (inv : AreInverse 16 E D) where
   -- what the last block gives back
-  last_block : (t c : List ℕ) → IsBlock 16 c → IsOctets t → length t ≤ 16 → D (E (xor_lists (filled t) c)) ≡ xor_lists t (take (length t) c) ++ drop (length t) c
+  last_block : (t c : List ℕ) → IsBlock 16 c → IsOctets t → length t ≤ 16 → D (E (xor_lists (padded t) c)) ≡ xor_lists t (take (length t) c) ++ drop (length t) c
   last_block t c hc ht fits =
-      let b : IsBlock 16 (xor_lists (filled t) c) = IsBlock-xor_lists (filled t) c (IsBlock-filled t ht fits) hc in
+      let b : IsBlock 16 (xor_lists (padded t) c) = IsBlock-xor_lists (padded t) c (IsBlock-padded t ht fits) hc in
       let lt : length (take (length t) c) ≡ length t = length-take-le (length t) c (omega (arith, hc.0)) in
       let ld : length (drop (length t) c) ≡ 16 - length t = rw length-drop (omega (arith, hc.0)) in
-      let parts : xor_lists (filled t) (take (length t) c ++ drop (length t) c) ≡ xor_lists t (take (length t) c) ++ xor_lists (replicate (16 - length t) 0) (drop (length t) c) =
+      let parts : xor_lists (padded t) (take (length t) c ++ drop (length t) c) ≡ xor_lists t (take (length t) c) ++ xor_lists (replicate (16 - length t) 0) (drop (length t) c) =
       xor_lists-append t (take (length t) c) (replicate (16 - length t) 0) (drop (length t) c) (sym lt) in
-      let whole : xor_lists (filled t) c ≡ xor_lists t (take (length t) c) ++ drop (length t) c =
-      ap (λ (k : List ℕ). xor_lists (filled t) k) (sym (take-append-drop (length t) c)) ∙ parts
+      let whole : xor_lists (padded t) c ≡ xor_lists t (take (length t) c) ++ drop (length t) c =
+      ap (λ (k : List ℕ). xor_lists (padded t) k) (sym (take-append-drop (length t) c)) ∙ parts
       ∙ ap (λ (k : List ℕ). xor_lists t (take (length t) c) ++ k) (xor_lists-zeros (16 - length t) (drop (length t) c) ld) in
-      inv.left (xor_lists (filled t) c) b ∙ whole
+      inv.left (xor_lists (padded t) c) b ∙ whole
 
   two_left : (v b t : List ℕ) → IsBlock 16 v → IsBlock 16 b → IsOctets t → length t ≤ 16
-      → untwo D v (E (xor_lists (filled t) (E (xor_lists b v)))) (take (length t) (E (xor_lists b v))) ≡ b ++ t
+      → untwo D v (E (xor_lists (padded t) (E (xor_lists b v)))) (take (length t) (E (xor_lists b v))) ≡ b ++ t
   two_left v b t hv hb ht fits =
       let c : List ℕ = E (xor_lists b v) in
       let hbv : IsBlock 16 (xor_lists b v) = IsBlock-xor_lists b v hb hv in
-      let hc : IsBlock 16 c = inv.enciphered (xor_lists b v) hbv in
+      let hc : IsBlock 16 c = inv.encrypted_octets (xor_lists b v) hbv in
       let lt : length (take (length t) c) ≡ length t = length-take-le (length t) c (omega (arith, hc.0)) in
-      let u : D (E (xor_lists (filled t) c)) ≡ xor_lists t (take (length t) c) ++ drop (length t) c = last_block t c hc ht fits in
+      let u : D (E (xor_lists (padded t) c)) ≡ xor_lists t (take (length t) c) ++ drop (length t) c = last_block t c hc ht fits in
       let lx : length (xor_lists t (take (length t) c)) ≡ length t = length-xor_lists t (take (length t) c) (sym lt) in
-      let low : drop (length (take (length t) c)) (D (E (xor_lists (filled t) c))) ≡ drop (length t) c =
+      let low : drop (length (take (length t) c)) (D (E (xor_lists (padded t) c))) ≡ drop (length t) c =
       rw (lt, u) (drop_at (xor_lists t (take (length t) c)) (drop (length t) c) (length t) lx) in
-      let high : take (length (take (length t) c)) (D (E (xor_lists (filled t) c))) ≡ xor_lists t (take (length t) c) =
+      let high : take (length (take (length t) c)) (D (E (xor_lists (padded t) c))) ≡ xor_lists t (take (length t) c) =
       rw (lt, u) (take_at (xor_lists t (take (length t) c)) (drop (length t) c) (length t) lx) in
-      let first : take (length t) c ++ drop (length (take (length t) c)) (D (E (xor_lists (filled t) c))) ≡ c =
+      let first : take (length t) c ++ drop (length (take (length t) c)) (D (E (xor_lists (padded t) c))) ≡ c =
       ap (λ (k : List ℕ). take (length t) c ++ k) low ∙ take-append-drop (length t) c in
-      let one : xor_lists (D (take (length t) c ++ drop (length (take (length t) c)) (D (E (xor_lists (filled t) c))))) v ≡ b =
+      let one : xor_lists (D (take (length t) c ++ drop (length (take (length t) c)) (D (E (xor_lists (padded t) c))))) v ≡ b =
       ap (λ (k : List ℕ). xor_lists (D k) v) first ∙ ap (λ (k : List ℕ). xor_lists k v) (inv.left (xor_lists b v) hbv) ∙ xor_lists-twice b v (hb.0 ∙ sym hv.0) in
-      let other : xor_lists (take (length (take (length t) c)) (D (E (xor_lists (filled t) c)))) (take (length t) c) ≡ t =
+      let other : xor_lists (take (length (take (length t) c)) (D (E (xor_lists (padded t) c)))) (take (length t) c) ≡ t =
       ap (λ (k : List ℕ). xor_lists k (take (length t) c)) high ∙ xor_lists-twice t (take (length t) c) (sym lt) in
-      ap (λ (k : List ℕ). k ++ xor_lists (take (length (take (length t) c)) (D (E (xor_lists (filled t) c)))) (take (length t) c)) one ∙ ap (λ (k : List ℕ). b ++ k) other
+      ap (λ (k : List ℕ). k ++ xor_lists (take (length (take (length t) c)) (D (E (xor_lists (padded t) c)))) (take (length t) c)) one ∙ ap (λ (k : List ℕ). b ++ k) other
 
   -- the other way: from x and y
   two_right : (v x y : List ℕ) → IsBlock 16 v → IsBlock 16 x → IsOctets y → length y ≤ 16
       → two E v (xor_lists (D (y ++ drop (length y) (D x))) v) (xor_lists (take (length y) (D x)) y) ≡ x ++ y
   two_right v x y hv hx hy fits =
       let u : List ℕ = D x in
-      let hu : IsBlock 16 u = inv.deciphered x hx in
+      let hu : IsBlock 16 u = inv.decrypted x hx in
       let c : List ℕ = y ++ drop (length y) u in
       let lty : length (take (length y) u) ≡ length y = length-take-le (length y) u (omega (arith, hu.0)) in
       let hc : IsBlock 16 c = (rw (length-append, length-drop) (omega (arith, hu.0)), AreBelow-append y (drop (length y) u) hy (AreBelow-drop (length y) u hu.1)) in
-      let hdc : IsBlock 16 (D c) = inv.deciphered c hc in
+      let hdc : IsBlock 16 (D c) = inv.decrypted c hc in
       let first : E (xor_lists (xor_lists (D c) v) v) ≡ c = ap E (xor_lists-twice (D c) v (hdc.0 ∙ sym hv.0)) ∙ inv.right c hc in
       let t : List ℕ = xor_lists (take (length y) u) y in
       let lt : length t ≡ length y = length-xor_lists (take (length y) u) y lty ∙ lty in
       let ld : length (drop (length y) u) ≡ 16 - length y = rw length-drop (omega (arith, hu.0)) in
-      let fill : filled t ≡ t ++ replicate (16 - length y) 0 = ap (λ (k : ℕ). t ++ replicate (16 - k) 0) lt in
-      let whole : xor_lists (filled t) c ≡ u =
-      ap (λ (k : List ℕ). xor_lists k c) fill ∙ xor_lists-append t y (replicate (16 - length y) 0) (drop (length y) u) lt
+      let padding : padded t ≡ t ++ replicate (16 - length y) 0 = ap (λ (k : ℕ). t ++ replicate (16 - k) 0) lt in
+      let whole : xor_lists (padded t) c ≡ u =
+      ap (λ (k : List ℕ). xor_lists k c) padding ∙ xor_lists-append t y (replicate (16 - length y) 0) (drop (length y) u) lt
       ∙ ap (λ (k : List ℕ). k ++ xor_lists (replicate (16 - length y) 0) (drop (length y) u)) (xor_lists-twice (take (length y) u) y lty)
       ∙ ap (λ (k : List ℕ). take (length y) u ++ k) (xor_lists-zeros (16 - length y) (drop (length y) u) ld) ∙ take-append-drop (length y) u in
-      let high : E (xor_lists (filled t) (E (xor_lists (xor_lists (D c) v) v))) ≡ x =
-      ap (λ (k : List ℕ). E (xor_lists (filled t) k)) first ∙ ap E whole ∙ inv.right x hx in
+      let high : E (xor_lists (padded t) (E (xor_lists (xor_lists (D c) v) v))) ≡ x =
+      ap (λ (k : List ℕ). E (xor_lists (padded t) k)) first ∙ ap E whole ∙ inv.right x hx in
       let low : take (length t) (E (xor_lists (xor_lists (D c) v) v)) ≡ y =
       ap (λ (k : List ℕ). take (length t) k) first ∙ take_at y (drop (length y) u) (length t) (sym lt) in
       ap (λ (k : List ℕ). k ++ take (length t) (E (xor_lists (xor_lists (D c) v) v))) high ∙ ap (λ (k : List ℕ). x ++ k) low
 
   IsBlock-first : (v p : List ℕ) → IsBlock 16 v → IsOctets p → 16 ≤ length p → IsBlock 16 (E (xor_lists (take 16 p) v))
-  IsBlock-first v p hv hp long = inv.enciphered (xor_lists (take 16 p) v) (IsBlock-xor_lists (take 16 p) v (IsBlock-take p hp long) hv)
+  IsBlock-first v p hv hp long = inv.encrypted_octets (xor_lists (take 16 p) v) (IsBlock-xor_lists (take 16 p) v (IsBlock-take p hp long) hv)
 
   -- the length and the octets of what is encrypted
   two_length : (v b t : List ℕ) → IsBlock 16 v → IsBlock 16 b → IsOctets t → length t ≤ 16 → (length (two E v b t) ≡ 16 + length t) × IsOctets (two E v b t)
   two_length v b t hv hb ht fits =
-      let hc : IsBlock 16 (E (xor_lists b v)) = inv.enciphered (xor_lists b v) (IsBlock-xor_lists b v hb hv) in
-      let hx : IsBlock 16 (E (xor_lists (filled t) (E (xor_lists b v)))) = inv.enciphered (xor_lists (filled t) (E (xor_lists b v))) (IsBlock-xor_lists (filled t) (E (xor_lists b v)) (IsBlock-filled t ht fits) hc) in
+      let hc : IsBlock 16 (E (xor_lists b v)) = inv.encrypted_octets (xor_lists b v) (IsBlock-xor_lists b v hb hv) in
+      let hx : IsBlock 16 (E (xor_lists (padded t) (E (xor_lists b v)))) = inv.encrypted_octets (xor_lists (padded t) (E (xor_lists b v))) (IsBlock-xor_lists (padded t) (E (xor_lists b v)) (IsBlock-padded t ht fits) hc) in
       let lt : length (take (length t) (E (xor_lists b v))) ≡ length t = length-take-le (length t) (E (xor_lists b v)) (omega (arith, hc.0)) in (
-        length-append (E (xor_lists (filled t) (E (xor_lists b v)))) (take (length t) (E (xor_lists b v))) ∙ rw (lt, hx.0) refl,
-        AreBelow-append (E (xor_lists (filled t) (E (xor_lists b v)))) (take (length t) (E (xor_lists b v))) hx.1 (AreBelow-take (length t) (E (xor_lists b v)) hc.1),
+        length-append (E (xor_lists (padded t) (E (xor_lists b v)))) (take (length t) (E (xor_lists b v))) ∙ rw (lt, hx.0) refl,
+        AreBelow-append (E (xor_lists (padded t) (E (xor_lists b v)))) (take (length t) (E (xor_lists b v))) hx.1 (AreBelow-take (length t) (E (xor_lists b v)) hc.1),
       )
 
   InBlocks-rest : (n : ℕ) (p : List ℕ) → InBlocks (suc (suc n)) p → InBlocks (suc n) (drop 16 p)
@@ -150,7 +150,7 @@ module _ (E D : List ℕ → List ℕ) (inv : AreInverse 16 E D) where
   stolen_length : (n : ℕ) (v p : List ℕ) → IsBlock 16 v → IsOctets p → InBlocks n p → (length (stolen E n v p) ≡ length p) × IsOctets (stolen E n v p)
   unfolding InBlocks stolen
   stolen_length zero v p hv hp h =
-      let b : IsBlock 16 (E (xor_lists p v)) = inv.enciphered (xor_lists p v) (IsBlock-xor_lists p v (h, hp) hv) in
+      let b : IsBlock 16 (E (xor_lists p v)) = inv.encrypted_octets (xor_lists p v) (IsBlock-xor_lists p v (h, hp) hv) in
       (b.0 ∙ sym h, b.1)
   stolen_length (suc zero) v p hv hp h =
       let ld : length (drop 16 p) ≡ length p - 16 = length-drop 16 p in
@@ -176,10 +176,10 @@ module _ (E D : List ℕ → List ℕ) (inv : AreInverse 16 E D) where
       let c : List ℕ = E (xor_lists (take 16 p) v) in
       let hc : IsBlock 16 (E (xor_lists (take 16 p) v)) = IsBlock-first v p hv hp (omega (arith, h.0)) in
       let fits : length (drop 16 p) ≤ 16 = omega (arith, ld, h.1) in
-      let x : IsBlock 16 (E (xor_lists (filled t) c)) = inv.enciphered (xor_lists (filled t) c) (IsBlock-xor_lists (filled t) c (IsBlock-filled t (AreBelow-drop 16 p hp) fits) hc) in
-      let e1 : take 16 (two E v (take 16 p) t) ≡ E (xor_lists (filled t) c) = take_at (E (xor_lists (filled t) c)) (take (length t) c) 16 x.0 in
-      let e2 : drop 16 (two E v (take 16 p) t) ≡ take (length t) c = drop_at (E (xor_lists (filled t) c)) (take (length t) c) 16 x.0 in
-      ap (λ (k : List ℕ). untwo D v k (drop 16 (two E v (take 16 p) t))) e1 ∙ ap (λ (k : List ℕ). untwo D v (E (xor_lists (filled t) c)) k) e2
+      let x : IsBlock 16 (E (xor_lists (padded t) c)) = inv.encrypted_octets (xor_lists (padded t) c) (IsBlock-xor_lists (padded t) c (IsBlock-padded t (AreBelow-drop 16 p hp) fits) hc) in
+      let e1 : take 16 (two E v (take 16 p) t) ≡ E (xor_lists (padded t) c) = take_at (E (xor_lists (padded t) c)) (take (length t) c) 16 x.0 in
+      let e2 : drop 16 (two E v (take 16 p) t) ≡ take (length t) c = drop_at (E (xor_lists (padded t) c)) (take (length t) c) 16 x.0 in
+      ap (λ (k : List ℕ). untwo D v k (drop 16 (two E v (take 16 p) t))) e1 ∙ ap (λ (k : List ℕ). untwo D v (E (xor_lists (padded t) c)) k) e2
       ∙ two_left v (take 16 p) t hv hb (AreBelow-drop 16 p hp) fits ∙ take-append-drop 16 p
   unstolen_stolen (suc (suc n)) v p hv hp h =
       let hb : IsBlock 16 (take 16 p) = IsBlock-take p hp (omega (arith, h.0)) in
@@ -198,7 +198,7 @@ module _ (E D : List ℕ → List ℕ) (inv : AreInverse 16 E D) where
   unstolen_length : (n : ℕ) (v c : List ℕ) → IsBlock 16 v → IsOctets c → InBlocks n c → (length (unstolen D n v c) ≡ length c) × IsOctets (unstolen D n v c)
   unfolding InBlocks unstolen
   unstolen_length zero v c hv hp h =
-      let b : IsBlock 16 (xor_lists (D c) v) = IsBlock-xor_lists (D c) v (inv.deciphered c (h, hp)) hv in
+      let b : IsBlock 16 (xor_lists (D c) v) = IsBlock-xor_lists (D c) v (inv.decrypted c (h, hp)) hv in
       (b.0 ∙ sym h, b.1)
   unstolen_length (suc zero) v c hv hp h =
       let x : List ℕ = take 16 c in
@@ -206,17 +206,17 @@ module _ (E D : List ℕ → List ℕ) (inv : AreInverse 16 E D) where
       let hx : IsBlock 16 (take 16 c) = IsBlock-take c hp (omega (arith, h.0)) in
       let hy : IsOctets (drop 16 c) = AreBelow-drop 16 c hp in
       let ly : length (drop 16 c) ≡ length c - 16 = length-drop 16 c in
-      let hu : IsBlock 16 (D x) = inv.deciphered x hx in
+      let hu : IsBlock 16 (D x) = inv.decrypted x hx in
       let lty : length (take (length y) (D x)) ≡ length y = length-take-le (length y) (D x) (omega (arith, hu.0, ly, h.1)) in
       let hc : IsBlock 16 (y ++ drop (length y) (D x)) = (rw (length-append, length-drop (length y) (D x)) (omega (arith, hu.0, ly, h.1)), AreBelow-append y (drop (length y) (D x)) hy (AreBelow-drop (length y) (D x) hu.1)) in
-      let hb : IsBlock 16 (xor_lists (D (y ++ drop (length y) (D x))) v) = IsBlock-xor_lists (D (y ++ drop (length y) (D x))) v (inv.deciphered (y ++ drop (length y) (D x)) hc) hv in
+      let hb : IsBlock 16 (xor_lists (D (y ++ drop (length y) (D x))) v) = IsBlock-xor_lists (D (y ++ drop (length y) (D x))) v (inv.decrypted (y ++ drop (length y) (D x)) hc) hv in
       let lt : length (xor_lists (take (length y) (D x)) y) ≡ length y = length-xor_lists (take (length y) (D x)) y lty ∙ lty in (
         length-append (xor_lists (D (y ++ drop (length y) (D x))) v) (xor_lists (take (length y) (D x)) y) ∙ omega (arith, hb.0, lt, ly, h.0),
         AreBelow-append (xor_lists (D (y ++ drop (length y) (D x))) v) (xor_lists (take (length y) (D x)) y) hb.1 (AreBelow-xor_lists 8 (take (length y) (D x)) y (AreBelow-take (length y) (D x) hu.1) hy),
       )
   unstolen_length (suc (suc n)) v c hv hp h =
       let hx : IsBlock 16 (take 16 c) = IsBlock-take c hp (omega (arith, h.0)) in
-      let hb : IsBlock 16 (xor_lists (D (take 16 c)) v) = IsBlock-xor_lists (D (take 16 c)) v (inv.deciphered (take 16 c) hx) hv in
+      let hb : IsBlock 16 (xor_lists (D (take 16 c)) v) = IsBlock-xor_lists (D (take 16 c)) v (inv.decrypted (take 16 c) hx) hv in
       let r : (length (unstolen D (suc n) (take 16 c) (drop 16 c)) ≡ length (drop 16 c)) × IsOctets (unstolen D (suc n) (take 16 c) (drop 16 c)) =
       unstolen_length (suc n) (take 16 c) (drop 16 c) hx (AreBelow-drop 16 c hp) (InBlocks-rest n c h) in (
         rw (length-append, r.0, length-drop) (omega (arith, hb.0, h.0)),
@@ -226,7 +226,7 @@ module _ (E D : List ℕ → List ℕ) (inv : AreInverse 16 E D) where
   stolen_unstolen : (n : ℕ) (v c : List ℕ) → IsBlock 16 v → IsOctets c → InBlocks n c → stolen E n v (unstolen D n v c) ≡ c
   unfolding InBlocks stolen unstolen
   stolen_unstolen zero v c hv hp h =
-      let b : IsBlock 16 (D c) = inv.deciphered c (h, hp) in
+      let b : IsBlock 16 (D c) = inv.decrypted c (h, hp) in
       ap E (xor_lists-twice (D c) v (b.0 ∙ sym hv.0)) ∙ inv.right c (h, hp)
   stolen_unstolen (suc zero) v c hv hp h =
       let x : List ℕ = take 16 c in
@@ -234,11 +234,11 @@ module _ (E D : List ℕ → List ℕ) (inv : AreInverse 16 E D) where
       let hx : IsBlock 16 (take 16 c) = IsBlock-take c hp (omega (arith, h.0)) in
       let hy : IsOctets (drop 16 c) = AreBelow-drop 16 c hp in
       let ly : length (drop 16 c) ≡ length c - 16 = length-drop 16 c in
-      let hu : IsBlock 16 (D x) = inv.deciphered x hx in
+      let hu : IsBlock 16 (D x) = inv.decrypted x hx in
       let hc : IsBlock 16 (y ++ drop (length y) (D x)) = (rw (length-append, length-drop (length y) (D x)) (omega (arith, hu.0, ly, h.1)), AreBelow-append y (drop (length y) (D x)) hy (AreBelow-drop (length y) (D x) hu.1)) in
       let b : List ℕ = xor_lists (D (y ++ drop (length y) (D x))) v in
       let t : List ℕ = xor_lists (take (length y) (D x)) y in
-      let hb : IsBlock 16 b = IsBlock-xor_lists (D (y ++ drop (length y) (D x))) v (inv.deciphered (y ++ drop (length y) (D x)) hc) hv in
+      let hb : IsBlock 16 b = IsBlock-xor_lists (D (y ++ drop (length y) (D x))) v (inv.decrypted (y ++ drop (length y) (D x)) hc) hv in
       let e1 : take 16 (b ++ t) ≡ b = take_at b t 16 hb.0 in
       let e2 : drop 16 (b ++ t) ≡ t = drop_at b t 16 hb.0 in
       ap (λ (k : List ℕ). two E v k (drop 16 (b ++ t))) e1 ∙ ap (λ (k : List ℕ). two E v b k) e2
@@ -246,7 +246,7 @@ module _ (E D : List ℕ → List ℕ) (inv : AreInverse 16 E D) where
   stolen_unstolen (suc (suc n)) v c hv hp h =
       let x : List ℕ = take 16 c in
       let hx : IsBlock 16 (take 16 c) = IsBlock-take c hp (omega (arith, h.0)) in
-      let hd : IsBlock 16 (D x) = inv.deciphered x hx in
+      let hd : IsBlock 16 (D x) = inv.decrypted x hx in
       let b : List ℕ = xor_lists (D x) v in
       let hb : IsBlock 16 b = IsBlock-xor_lists (D x) v hd hv in
       let rest : List ℕ = unstolen D (suc n) x (drop 16 c) in
@@ -261,20 +261,20 @@ module _ (E D : List ℕ → List ℕ) (inv : AreInverse 16 E D) where
   first_whole : (p : List ℕ) → 16 ≤ length p → take 16 (p ++ (zero_block 16)) ≡ take 16 p
   first_whole p long = take-append-le 16 p (zero_block 16) long
 
-  filled_block : (t : List ℕ) → length t ≤ 16 → take 16 (t ++ (zero_block 16)) ≡ filled t
-  filled_block t fits =
+  padded_block : (t : List ℕ) → length t ≤ 16 → take 16 (t ++ (zero_block 16)) ≡ padded t
+  padded_block t fits =
       let sixteen : 16 ≡ 16 - length t + length t = omega arith in
       let split : (zero_block 16) ≡ replicate (16 - length t) 0 ++ replicate (length t) 0 =
       ap (λ (k : ℕ). replicate k 0) sixteen ∙ sym (replicate-append-replicate (16 - length t) (length t) 0) in
-      let len : length (filled t) ≡ 16 = rw (length-append, length-replicate) (omega arith) in
-      ap (λ (k : List ℕ). take 16 (t ++ k)) split ∙ ap (λ (k : List ℕ). take 16 k) (sym (append_assoc t (replicate (16 - length t) 0) (replicate (length t) 0))) ∙ take_at (filled t) (replicate (length t) 0) 16 len
+      let len : length (padded t) ≡ 16 = rw (length-append, length-replicate) (omega arith) in
+      ap (λ (k : List ℕ). take 16 (t ++ k)) split ∙ ap (λ (k : List ℕ). take 16 k) (sym (append_assoc t (replicate (16 - length t) 0) (replicate (length t) 0))) ∙ take_at (padded t) (replicate (length t) 0) 16 len
 
   -- the definition's lists come to the function
   stolen_is : (n : ℕ) (v p : List ℕ) → IsBlock 16 v → IsOctets p → InBlocks n p → take (length p) (concat (exchanged (chained E v (first_blocks 16 (suc n) p)))) ≡ stolen E n v p
   unfolding InBlocks stolen exchanged chained first_blocks
   stolen_is zero v p hv hp h =
       let whole : take 16 (p ++ (zero_block 16)) ≡ p = take_at p (zero_block 16) 16 h in
-      let hc : IsBlock 16 (E (xor_lists p v)) = inv.enciphered (xor_lists p v) (IsBlock-xor_lists p v (h, hp) hv) in
+      let hc : IsBlock 16 (E (xor_lists p v)) = inv.encrypted_octets (xor_lists p v) (IsBlock-xor_lists p v (h, hp) hv) in
       ap (λ (k : List ℕ). take (length p) (E (xor_lists k v) ++ [])) whole ∙ take_at (E (xor_lists p v)) [] (length p) (hc.0 ∙ sym h)
   stolen_is (suc zero) v p hv hp h =
       let t : List ℕ = drop 16 p in
@@ -283,10 +283,10 @@ module _ (E D : List ℕ → List ℕ) (inv : AreInverse 16 E D) where
       let hb : IsBlock 16 (take 16 p) = IsBlock-take p hp (omega (arith, h.0)) in
       let c : List ℕ = E (xor_lists (take 16 p) v) in
       let hc : IsBlock 16 (E (xor_lists (take 16 p) v)) = IsBlock-first v p hv hp (omega (arith, h.0)) in
-      let d : List ℕ = E (xor_lists (filled t) c) in
-      let hd : IsBlock 16 (E (xor_lists (filled t) c)) = inv.enciphered (xor_lists (filled t) c) (IsBlock-xor_lists (filled t) c (IsBlock-filled t (AreBelow-drop 16 p hp) fits) hc) in
+      let d : List ℕ = E (xor_lists (padded t) c) in
+      let hd : IsBlock 16 (E (xor_lists (padded t) c)) = inv.encrypted_octets (xor_lists (padded t) c) (IsBlock-xor_lists (padded t) c (IsBlock-padded t (AreBelow-drop 16 p hp) fits) hc) in
       let e1 : take 16 (p ++ (zero_block 16)) ≡ take 16 p = first_whole p (omega (arith, h.0)) in
-      let e2 : take 16 (t ++ (zero_block 16)) ≡ filled t = filled_block t fits in
+      let e2 : take 16 (t ++ (zero_block 16)) ≡ padded t = padded_block t fits in
       let len : length p ≡ length d + length t = omega (arith, hd.0, ld, h.0) in
       ap (λ (k : List ℕ). take (length p) (E (xor_lists (take 16 (t ++ (zero_block 16))) (E (xor_lists k v))) ++ (E (xor_lists k v) ++ []))) e1
       ∙ ap (λ (k : List ℕ). take (length p) (E (xor_lists k c) ++ (c ++ []))) e2
@@ -306,15 +306,15 @@ module _ (E D : List ℕ → List ℕ) (inv : AreInverse 16 E D) where
   CtsFrom_is : (n : ℕ) (v p c : List ℕ) → IsBlock 16 v → IsOctets p → InBlocks n p → CtsFrom E v p c → c ≡ stolen E n v p
   CtsFrom_is n v p c hv hp h cts =
       let count : (length p + 15) / 16 ≡ suc n = block_count n p h in
-      let cs : cts.1 ≡ chained E v (first_blocks 16 (suc n) p) = chained_from E v (filled_blocks 16 p) cts.1 cts.2 ∙ ap (λ (k : ℕ). chained E v (first_blocks 16 k p)) count in
+      let cs : cts.1 ≡ chained E v (first_blocks 16 (suc n) p) = chained_from E v (padded_blocks 16 p) cts.1 cts.2 ∙ ap (λ (k : ℕ). chained E v (first_blocks 16 k p)) count in
       cts.3 ∙ ap (λ (k : List (List ℕ)). take (length p) (concat (exchanged k))) cs ∙ stolen_is n v p hv hp h
 
   CtsFrom-stolen : (n : ℕ) (v p : List ℕ) → IsBlock 16 v → IsOctets p → InBlocks n p → CtsFrom E v p (stolen E n v p)
   CtsFrom-stolen n v p hv hp h =
       let count : (length p + 15) / 16 ≡ suc n = block_count n p h in
-      let same : take (length p) (concat (exchanged (chained E v (filled_blocks 16 p)))) ≡ stolen E n v p =
+      let same : take (length p) (concat (exchanged (chained E v (padded_blocks 16 p)))) ≡ stolen E n v p =
       ap (λ (k : ℕ). take (length p) (concat (exchanged (chained E v (first_blocks 16 k p))))) count ∙ stolen_is n v p hv hp h in
-      (InBlocks-long n p h, chained E v (filled_blocks 16 p), CbcFrom-chained E v (filled_blocks 16 p), sym same)
+      (InBlocks-long n p h, chained E v (padded_blocks 16 p), CbcFrom-chained E v (padded_blocks 16 p), sym same)
 
   same_length : (n : ℕ) (v p c : List ℕ) → IsBlock 16 v → IsOctets p → CtsFrom E v p c → InBlocks n c → InBlocks n p
   same_length n v p c hv hp cts h =

@@ -3,12 +3,12 @@ use Rattle.std.proofs.Common.{◌≡◌, ℕ, zero, suc, ◌+◌, ◌*◌, ◌/�
 use Rattle.std.proofs.lemmas.List.{length-take-le}
 use Rattle.std.specs.List.{concat}
 use Rattle.krb_crypto_hash.specs.Xor.{xor_lists}
-use Rattle.krb_crypto_block.specs.Modes.{zero_block, first_blocks, filled_blocks, exchanged, Cts}
+use Rattle.krb_crypto_block.specs.Modes.{zero_block, first_blocks, padded_blocks, exchanged, Cts}
 use Rattle.krb_crypto_block.proofs.Chains.{chained, chained_from, CbcFrom-chained}
 
 module _ (E : List ℕ → List ℕ) where
-  blocks_are : (p c : List ℕ) (h : Cts E p c) → c ≡ take (length p) (concat (exchanged (chained E (zero_block 16) (filled_blocks 16 p))))
-  blocks_are p c h = h.3 ∙ ap (λ (k : List (List ℕ)). take (length p) (concat (exchanged k))) (chained_from E (zero_block 16) (filled_blocks 16 p) h.1 h.2)
+  blocks_are : (p c : List ℕ) (h : Cts E p c) → c ≡ take (length p) (concat (exchanged (chained E (zero_block 16) (padded_blocks 16 p))))
+  blocks_are p c h = h.3 ∙ ap (λ (k : List (List ℕ)). take (length p) (concat (exchanged k))) (chained_from E (zero_block 16) (padded_blocks 16 p) h.1 h.2)
 
   -- a list is encrypted to one list
   pub Cts-same : (p c d : List ℕ) → Cts E p c → Cts E p d → c ≡ d
@@ -40,7 +40,7 @@ first_count (suc n) p = ap suc (first_count n _)
 -- what is encrypted is as long as the data
 pub Cts-length : (E : List ℕ → List ℕ) → ((b : List ℕ) → length (E b) ≡ 16) → (p c : List ℕ) → Cts E p c → length c ≡ length p
 Cts-length E sized p c h =
-    let cs : List (List ℕ) = chained E (zero_block 16) (filled_blocks 16 p) in
-    let count : length cs ≡ (length p + 15) / 16 = (CbcFrom-chained E (zero_block 16) (filled_blocks 16 p)).0 ∙ first_count ((length p + 15) / 16) p in
-    let all : length (concat (exchanged cs)) ≡ 16 * length cs = wide cs (chained_wide E sized (zero_block 16) (filled_blocks 16 p)) in
+    let cs : List (List ℕ) = chained E (zero_block 16) (padded_blocks 16 p) in
+    let count : length cs ≡ (length p + 15) / 16 = (CbcFrom-chained E (zero_block 16) (padded_blocks 16 p)).0 ∙ first_count ((length p + 15) / 16) p in
+    let all : length (concat (exchanged cs)) ≡ 16 * length cs = wide cs (chained_wide E sized (zero_block 16) (padded_blocks 16 p)) in
     ap length (blocks_are E p c h) ∙ length-take-le (length p) (concat (exchanged cs)) (omega (arith, count, all))

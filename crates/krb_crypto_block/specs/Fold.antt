@@ -29,9 +29,9 @@ abbrev pub rot : ℕ → ℕ → ℕ → ℕ
 rot x k j = turned x k (13 * j % k)
 
 -- the number whose k-bit digits, the highest first, are the first c turns of x
-unfoldable pub joined : ℕ → ℕ → ℕ → ℕ
-joined x k zero = 0
-joined x k (suc c) = joined x k c * 2 ^ k + rot x k c
+unfoldable pub concatenated : ℕ → ℕ → ℕ → ℕ
+concatenated x k zero = 0
+concatenated x k (suc c) = concatenated x k c * 2 ^ k + rot x k c
 
 -- 0 for 0, and else the number from 1 to m that is congruent modulo m
 abbrev pub residue : ℕ → ℕ → ℕ
@@ -40,7 +40,7 @@ residue m (suc j) = suc (j % m)
 
 -- the k-bit number x folded to n bits
 unfoldable pub folded_number : ℕ → ℕ → ℕ → ℕ
-folded_number x k n = residue (2 ^ n - 1) (joined x k (lcm n k / k))
+folded_number x k n = residue (2 ^ n - 1) (concatenated x k (lcm n k / k))
 
 -- the octets of xs folded to n bits, n being a multiple of 8
 unfoldable pub fold : List ℕ → ℕ → List ℕ

@@ -45,9 +45,9 @@ inverse_rounds w s zero = s
 inverse_rounds w s (suc n) = inverse_rounds w (inverse_round w (suc n) s) n
 
 -- the state before the first key is added, for the block c after nr rounds
-abbrev pub decipher : List ℕ → ℕ → List ℕ → List ℕ
-decipher w nr c = add_round_key w 0 (inverse_rounds w (inverse_last_round w nr c) (nr - 1))
+abbrev pub decrypt : List ℕ → ℕ → List ℕ → List ℕ
+decrypt w nr c = add_round_key w 0 (inverse_rounds w (inverse_last_round w nr c) (nr - 1))
 
 -- the block that the key takes to c
 unfoldable pub aes_undo : List ℕ → List ℕ → List ℕ
-aes_undo key c = decipher (key_expansion key) (round_count (key_words key)) c
+aes_undo key c = decrypt (key_expansion key) (round_count (key_words key)) c

@@ -1,7 +1,7 @@
 -- Cipher block chaining and ciphertext stealing over any block function (RFC 3962, 5), blocks being lists of size octets.
 use Rattle.std.specs.Prelude.{◌≡◌, ℕ, zero, suc, ◌+◌, ◌-◌, ◌/◌, ◌%◌, ◌<◌, ◌≤◌, List, [], ◌∷◌, ◌++◌, length, take, drop, replicate, slice_index, slice_index_or}
 use Rattle.std.specs.List.{concat}
-use Rattle.krb_crypto_hash.specs.Xor.{xor_lists, filled_to}
+use Rattle.krb_crypto_hash.specs.Xor.{xor_lists, padded_to}
 
 -- each is a number from 0 to 255
 abbrev pub IsOctets : List ℕ → Type 0
@@ -13,18 +13,18 @@ IsBlock size b = (length b ≡ size) × IsOctets b
 -- ---- padding (RFC 3961, 5.3, "pad"; RFC 3962, 5)
 
 -- the payload with the fewest zeros to a multiple of size octets
-pub record IsFill (size : ℕ) (payload filled : List ℕ) : Type 0 where
+pub record IsPadding (size : ℕ) (payload padded : List ℕ) : Type 0 where
   pub zeros : ℕ
   pub fewer : zeros < size
-  pub joined : filled ≡ payload ++ replicate zeros 0
-  pub whole : length filled % size ≡ 0
+  pub concatenated : padded ≡ payload ++ replicate zeros 0
+  pub whole : length padded % size ≡ 0
 
 -- ---- block functions
 
 -- E and D undo each other on blocks
 pub record AreInverse (size : ℕ) (E D : List ℕ → List ℕ) : Type 0 where
-  pub enciphered : (b : List ℕ) → IsBlock size b → IsBlock size (E b)
-  pub deciphered : (b : List ℕ) → IsBlock size b → IsBlock size (D b)
+  pub encrypted_octets : (b : List ℕ) → IsBlock size b → IsBlock size (E b)
+  pub decrypted : (b : List ℕ) → IsBlock size b → IsBlock size (D b)
   pub left : (b : List ℕ) → IsBlock size b → D (E b) ≡ b
   pub right : (b : List ℕ) → IsBlock size b → E (D b) ≡ b
 
@@ -53,15 +53,15 @@ first_blocks size zero p = []
 first_blocks size (suc n) p = take size (p ++ zero_block size) ∷ first_blocks size n (drop size p)
 
 -- the blocks of p, the last padded with zeros
-abbrev pub filled_blocks : ℕ → List ℕ → List (List ℕ)
-filled_blocks size p = first_blocks size ((length p + (size - 1)) / size) p
+abbrev pub padded_blocks : ℕ → List ℕ → List (List ℕ)
+padded_blocks size p = first_blocks size ((length p + (size - 1)) / size) p
 
 -- p is of whole blocks, and c is the blocks that it is chained to, concatenated
 pub record IsCbc (size : ℕ) (E : List ℕ → List ℕ) (p c : List ℕ) : Type 0 where
   pub whole : length p % size ≡ 0
   pub blocks : List (List ℕ)
-  pub chained : Cbc size E (filled_blocks size p) blocks
-  pub joined : c ≡ concat blocks
+  pub chained : Cbc size E (padded_blocks size p) blocks
+  pub concatenated : c ≡ concat blocks
 
 -- ---- stealing, over blocks of 16 octets
 
@@ -73,11 +73,11 @@ exchanged (x ∷ y ∷ []) = y ∷ x ∷ []
 exchanged (x ∷ y ∷ z ∷ rest) = x ∷ exchanged (y ∷ z ∷ rest)
 
 -- the octets t, padded with zeros to a block
-abbrev pub filled : List ℕ → List ℕ
-filled t = filled_to 16 t
+abbrev pub padded : List ℕ → List ℕ
+padded t = padded_to 16 t
 
 abbrev pub CtsFrom : (List ℕ → List ℕ) → List ℕ → List ℕ → List ℕ → Type 0
-CtsFrom E v p c = (16 ≤ length p) × (cs : List (List ℕ)) × CbcFrom E v (filled_blocks 16 p) cs × (c ≡ take (length p) (concat (exchanged cs)))
+CtsFrom E v p c = (16 ≤ length p) × (cs : List (List ℕ)) × CbcFrom E v (padded_blocks 16 p) cs × (c ≡ take (length p) (concat (exchanged cs)))
 
 -- the last two runs of 16 octets, exchanged
 abbrev pub with_last_two_swapped : List ℕ → List ℕ

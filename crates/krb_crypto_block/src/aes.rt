@@ -156,9 +156,9 @@ impl BlockCipher<AES_BLOCK_SIZE> for AesKey {
     ghost use Rattle.krb_crypto_block.specs.Aes.{aes_block};
     ghost use Rattle.krb_crypto_block.specs.InverseCipher.{aes_undo};
 
-    ghost enciphers = { aes_block };
+    ghost encrypts = { aes_block };
 
-    ghost deciphers = { aes_undo };
+    ghost decrypts = { aes_undo };
 
     fn encrypt_block(&self, block: &[u8; AES_BLOCK_SIZE]) -> [u8; AES_BLOCK_SIZE] {
         self.encrypt_block(*block)

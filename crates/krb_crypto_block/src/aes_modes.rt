@@ -2,7 +2,7 @@
 
 ghost use Rattle.std.specs.Prelude.{◌≡◌, ◌≢◌, ◌<◌, ◌%◌, ℕ, List, length, IfOk, IfErr};
 ghost use Rattle.krb_crypto_block.specs.Aes.{aes_block};
-ghost use Rattle.krb_crypto_hash.specs.CryptoError.{RefusesKeyOr, IsKeyOrCipherLengthError};
+ghost use Rattle.krb_crypto_hash.specs.CryptoError.{RejectsKeyOr, IsKeyOrCipherLengthError};
 ghost use Rattle.krb_crypto_block.specs.Modes.{Cts, IsCbc, IsOctets, with_last_two_swapped};
 ghost use Rattle.krb_crypto_block.specs.Size.{key_octets};
 
@@ -22,7 +22,7 @@ pub fn encrypt_aes_cbc(
 ) -> KerberosCryptoResult<Vec<u8>>
     ensures key { IfOk result (λ _. length key.now ≡ key_octets size.now) }
     ensures chained { IfOk result (λ c. IsCbc 16 (aes_block key.now) plaintext.now c.items) }
-    ensures refused { IfErr result (RefusesKeyOr (key_octets size.now) key.now (length plaintext.now % 16 ≢ 0) KerberosCryptoError.CipherPad) }
+    ensures rejected { IfErr result (RejectsKeyOr (key_octets size.now) key.now (length plaintext.now % 16 ≢ 0) KerberosCryptoError.CipherPad) }
 {
     let cipher = AesKey::new(key, size)?;
     if plaintext.len() % AES_BLOCK_SIZE != 0 {
@@ -44,7 +44,7 @@ pub fn decrypt_aes_cbc(
     ensures key { IfOk result (λ _. length key.now ≡ key_octets size.now) }
     ensures plain { IfOk result (λ p. IsCbc 16 (aes_block key.now) p.items cipher_text.now) }
     ensures only { IfOk result (λ p. (q : List ℕ) → IsOctets q → IsCbc 16 (aes_block key.now) q cipher_text.now → q ≡ p.items) }
-    ensures refused { IfErr result (RefusesKeyOr (key_octets size.now) key.now (length cipher_text.now % 16 ≢ 0) KerberosCryptoError.CipherUnpad) }
+    ensures rejected { IfErr result (RejectsKeyOr (key_octets size.now) key.now (length cipher_text.now % 16 ≢ 0) KerberosCryptoError.CipherUnpad) }
 {
     let cipher = AesKey::new(key, size)?;
     if cipher_text.len() % AES_BLOCK_SIZE != 0 {
@@ -65,8 +65,8 @@ pub fn encrypt_aes_cts(
     size: &AesSize,
 ) -> KerberosCryptoResult<Vec<u8>>
     ensures key { IfOk result (λ _. length key.now ≡ key_octets size.now) }
-    ensures enciphered { IfOk result (λ c. Cts (aes_block key.now) payload.now c.items) }
-    ensures refused { IfErr result (IsKeyOrCipherLengthError (key_octets size.now) key.now 16 payload.now) }
+    ensures encrypted_octets { IfOk result (λ c. Cts (aes_block key.now) payload.now c.items) }
+    ensures rejected { IfErr result (IsKeyOrCipherLengthError (key_octets size.now) key.now 16 payload.now) }
 {
     let cipher = AesKey::new(key, size)?;
     if payload.len() < AES_BLOCK_SIZE {
@@ -88,7 +88,7 @@ pub fn decrypt_aes_cts(
     ensures key { IfOk result (λ _. length key.now ≡ key_octets size.now) }
     ensures plain { IfOk result (λ p. Cts (aes_block key.now) p.items cipher_text.now) }
     ensures only { IfOk result (λ p. (q : List ℕ) → IsOctets q → Cts (aes_block key.now) q cipher_text.now → q ≡ p.items) }
-    ensures refused { IfErr result (IsKeyOrCipherLengthError (key_octets size.now) key.now 16 cipher_text.now) }
+    ensures rejected { IfErr result (IsKeyOrCipherLengthError (key_octets size.now) key.now 16 cipher_text.now) }
 {
     let cipher = AesKey::new(key, size)?;
     if cipher_text.len() < AES_BLOCK_SIZE {
@@ -103,7 +103,7 @@ pub fn decrypt_aes_cts(
 /// which then stay as they are. It allocates nothing.
 pub fn swap_two_last_blocks(octets: &mut [u8]) -> KerberosCryptoResult<()>
     ensures swapped { IfOk result (λ _. octets.new ≡ with_last_two_swapped octets.old) }
-    ensures refused { IfErr result (λ e. (length octets.old < 32) × (e ≡ KerberosCryptoError.CipherLength (length octets.old) 32) × (octets.new ≡ octets.old)) }
+    ensures rejected { IfErr result (λ e. (length octets.old < 32) × (e ≡ KerberosCryptoError.CipherLength (length octets.old) 32) × (octets.new ≡ octets.old)) }
 {
     const TWO_BLOCKS: usize = 2 * AES_BLOCK_SIZE;
     if octets.len() < TWO_BLOCKS {

@@ -5,14 +5,14 @@ ghost use Rattle.std.specs.Prelude.{◌≡◌, ℕ, List};
 /// A block cipher under a key. A block has `SIZE` octets.
 pub(crate) trait BlockCipher<const SIZE: usize> {
     /// The block that the cipher makes of one.
-    ghost enciphers: { Self → List ℕ → List ℕ };
+    ghost encrypts: { Self → List ℕ → List ℕ };
 
     /// The block that it makes one of.
-    ghost deciphers: { Self → List ℕ → List ℕ };
+    ghost decrypts: { Self → List ℕ → List ℕ };
 
     fn encrypt_block(&self, block: &[u8; SIZE]) -> [u8; SIZE]
-        ensures { result ≡ enciphers self.now block.now };
+        ensures { result ≡ encrypts self.now block.now };
 
     fn decrypt_block(&self, block: &[u8; SIZE]) -> [u8; SIZE]
-        ensures { result ≡ deciphers self.now block.now };
+        ensures { result ≡ decrypts self.now block.now };
 }

@@ -12,7 +12,7 @@ pub(crate) fn encrypt_cbc<const SIZE: usize, C: BlockCipher<SIZE>>(cipher: &C, o
     requires size { 0 < SIZE }
     requires room { SIZE < 2 ^ 63 }
     requires whole { length octets.old % SIZE ≡ 0 }
-    ensures { IsCbc SIZE (C.enciphers cipher.now) octets.old octets.new }
+    ensures { IsCbc SIZE (C.encrypts cipher.now) octets.old octets.new }
 {
     chain(cipher, &[0; SIZE], octets);
 }
@@ -22,9 +22,9 @@ pub(crate) fn decrypt_cbc<const SIZE: usize, C: BlockCipher<SIZE>>(cipher: &C, o
     requires size { 0 < SIZE }
     requires room { SIZE < 2 ^ 63 }
     requires whole { length octets.old % SIZE ≡ 0 }
-    requires inverse { AreInverse SIZE (C.enciphers cipher.now) (C.deciphers cipher.now) }
-    ensures plain { IsCbc SIZE (C.enciphers cipher.now) octets.new octets.old }
-    ensures only { (q : List ℕ) → IsOctets q → IsCbc SIZE (C.enciphers cipher.now) q octets.old → q ≡ octets.new }
+    requires inverse { AreInverse SIZE (C.encrypts cipher.now) (C.decrypts cipher.now) }
+    ensures plain { IsCbc SIZE (C.encrypts cipher.now) octets.new octets.old }
+    ensures only { (q : List ℕ) → IsOctets q → IsCbc SIZE (C.encrypts cipher.now) q octets.old → q ≡ octets.new }
 {
     unchain(cipher, &[0; SIZE], octets);
 }
@@ -38,8 +38,8 @@ pub(crate) fn chain<const SIZE: usize, C: BlockCipher<SIZE>>(
     requires size { 0 < SIZE }
     requires room { SIZE < 2 ^ 63 }
     requires whole { length octets.old % SIZE ≡ 0 }
-    ensures chained { octets.new ≡ linked SIZE (C.enciphers cipher.now) (length octets.old / SIZE) first.now octets.old }
-    ensures last { result ≡ last_linked SIZE (C.enciphers cipher.now) (length octets.old / SIZE) first.now octets.old }
+    ensures chained { octets.new ≡ linked SIZE (C.encrypts cipher.now) (length octets.old / SIZE) first.now octets.old }
+    ensures last { result ≡ last_linked SIZE (C.encrypts cipher.now) (length octets.old / SIZE) first.now octets.old }
 {
     let mut before = *first;
     for i in 0..octets.len() / SIZE {
@@ -60,7 +60,7 @@ pub(crate) fn unchain<const SIZE: usize, C: BlockCipher<SIZE>>(
     requires size { 0 < SIZE }
     requires room { SIZE < 2 ^ 63 }
     requires whole { length octets.old % SIZE ≡ 0 }
-    ensures plain { octets.new ≡ unlinked SIZE (C.deciphers cipher.now) (length octets.old / SIZE) first.now octets.old }
+    ensures plain { octets.new ≡ unlinked SIZE (C.decrypts cipher.now) (length octets.old / SIZE) first.now octets.old }
     ensures last { result ≡ last_block SIZE (length octets.old / SIZE) first.now octets.old }
 {
     let mut before = *first;

@@ -17,7 +17,7 @@ mod permutation;
 mod rounds;
 mod tables;
 
-pub use tables::JOINED;
+pub use tables::COMBINED;
 
 /// The octets of a block (FIPS 46-3): 64 bits.
 pub const DES3_BLOCK_SIZE: usize = 8;
@@ -100,9 +100,9 @@ impl DesKey {
 impl BlockCipher<DES3_BLOCK_SIZE> for DesKey {
     ghost use Rattle.krb_crypto_block.specs.Des.{ede3, ede3_undo};
 
-    ghost enciphers = { ede3 };
+    ghost encrypts = { ede3 };
 
-    ghost deciphers = { ede3_undo };
+    ghost decrypts = { ede3_undo };
 
     fn encrypt_block(&self, block: &[u8; DES3_BLOCK_SIZE]) -> [u8; DES3_BLOCK_SIZE] {
         self.encrypt_block(*block)

@@ -1,10 +1,10 @@
 //! Cipher block chaining under triple DES (RFC 3961, 6.3). Each call tests the key, then the length.
 
 ghost use Rattle.std.specs.Prelude.{◌≡◌, ◌≢◌, ◌%◌, ℕ, List, length, IfOk, IfErr};
-ghost use Rattle.krb_crypto_hash.specs.CryptoError.{RefusesKey, RefusesKeyOr};
+ghost use Rattle.krb_crypto_hash.specs.CryptoError.{RejectsKey, RejectsKeyOr};
 ghost use Rattle.krb_crypto_hash.specs.declared.error.KerberosCryptoError.TheVariants.{OutOfMemory};
 ghost use Rattle.krb_crypto_block.specs.Des.{ede3};
-ghost use Rattle.krb_crypto_block.specs.Modes.{IsCbc, IsFill, IsOctets};
+ghost use Rattle.krb_crypto_block.specs.Modes.{IsCbc, IsPadding, IsOctets};
 
 use crate::des::{DES3_BLOCK_SIZE, DesKey};
 use crate::in_place;
@@ -15,14 +15,14 @@ use std::alloc::Global;
 /// key has not 24 octets; an allocation failure is the only other error.
 pub fn encrypt_des(alloc: Global, key: &[u8], payload: &[u8]) -> KerberosCryptoResult<Vec<u8>>
     ensures key { IfOk result (λ _. length key.now ≡ 24) }
-    ensures chained { IfOk result (λ c. (filled : List ℕ) × IsFill 8 payload.now filled × IsCbc 8 (ede3 key.now) filled c.items) }
-    ensures refused { IfErr result (RefusesKey 24 key.now) }
+    ensures chained { IfOk result (λ c. (padded : List ℕ) × IsPadding 8 payload.now padded × IsCbc 8 (ede3 key.now) padded c.items) }
+    ensures rejected { IfErr result (RejectsKey 24 key.now) }
 {
     let cipher = DesKey::new(key)?;
     let whole = payload.len().next_multiple_of(DES3_BLOCK_SIZE);
     let mut octets = Vec::with_capacity(alloc, whole)?;
     octets.extend_from_slice(payload)?;
-    fill_blocks(&mut octets)?;
+    pad_blocks(&mut octets)?;
     in_place::encrypt_des(&cipher, &mut octets);
     Ok(octets)
 }
@@ -33,7 +33,7 @@ pub fn decrypt_des(alloc: Global, key: &[u8], cipher_text: &[u8]) -> KerberosCry
     ensures key { IfOk result (λ _. length key.now ≡ 24) }
     ensures plain { IfOk result (λ p. IsCbc 8 (ede3 key.now) p.items cipher_text.now) }
     ensures only { IfOk result (λ p. (q : List ℕ) → IsOctets q → IsCbc 8 (ede3 key.now) q cipher_text.now → q ≡ p.items) }
-    ensures refused { IfErr result (RefusesKeyOr 24 key.now (length cipher_text.now % 8 ≢ 0) KerberosCryptoError.CipherUnpad) }
+    ensures rejected { IfErr result (RejectsKeyOr 24 key.now (length cipher_text.now % 8 ≢ 0) KerberosCryptoError.CipherUnpad) }
 {
     let cipher = DesKey::new(key)?;
     if cipher_text.len() % DES3_BLOCK_SIZE != 0 {
@@ -45,9 +45,9 @@ pub fn decrypt_des(alloc: Global, key: &[u8], cipher_text: &[u8]) -> KerberosCry
 }
 
 /// Puts the fewest zeros to whole blocks of 8 after the octets, which are as before where an allocation fails.
-pub fn fill_blocks(octets: &mut Vec<u8>) -> KerberosCryptoResult<()>
-    ensures filled { IfOk result (λ _. IsFill 8 octets.old.items octets.new.items) }
-    ensures refused { IfErr result (λ e. (e ≡ OutOfMemory) × (octets.new.items ≡ octets.old.items)) }
+pub fn pad_blocks(octets: &mut Vec<u8>) -> KerberosCryptoResult<()>
+    ensures padded { IfOk result (λ _. IsPadding 8 octets.old.items octets.new.items) }
+    ensures rejected { IfErr result (λ e. (e ≡ OutOfMemory) × (octets.new.items ≡ octets.old.items)) }
 {
     let length = octets.len().next_multiple_of(DES3_BLOCK_SIZE);
     Ok(octets.resize(length, 0)?)

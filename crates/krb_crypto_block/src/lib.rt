@@ -20,7 +20,7 @@ pub use aes_modes::{
     decrypt_aes_cbc, decrypt_aes_cts, encrypt_aes_cbc, encrypt_aes_cts, swap_two_last_blocks,
 };
 pub use des::{DES3_BLOCK_SIZE, DES3_KEY_SIZE, DES3_MAC_SIZE, DES3_SEED_LEN, DesKey};
-pub use des_modes::{decrypt_des, encrypt_des, fill_blocks};
+pub use des_modes::{decrypt_des, encrypt_des, pad_blocks};
 pub use krb_crypto_hash::{
     KerberosCryptoError, KerberosCryptoResult, hmac_sha1, hmac_sha256, hmac_sha384,
     kdf_hmac_sha256, kdf_hmac_sha384, pbkdf2_hmac_sha1, pbkdf2_hmac_sha256, pbkdf2_hmac_sha384,

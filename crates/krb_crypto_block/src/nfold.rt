@@ -14,12 +14,12 @@ use std::alloc::Global;
 ///
 /// The input is not empty, and `n` is a positive multiple of 8. `OutOfMemory` is the only error.
 pub fn n_fold(alloc: Global, input: &[u8], n: usize) -> KerberosCryptoResult<Vec<u8>>
-    requires filled { 0 < length input.now }
+    requires padded { 0 < length input.now }
     requires whole { n % 8 ≡ 0 }
     requires some { 0 < n }
     ensures size { IfOk result (λ v. length v.items ≡ n / 8) }
     ensures value { IfOk result (λ v. v.items ≡ fold input.now n) }
-    ensures refused { IfErr result (λ e. e ≡ OutOfMemory) }
+    ensures rejected { IfErr result (λ e. e ≡ OutOfMemory) }
 {
     let mut folded = vec![in alloc; 0u8; n / 8]?;
     n_fold_into(input, &mut folded);
@@ -29,7 +29,7 @@ pub fn n_fold(alloc: Global, input: &[u8], n: usize) -> KerberosCryptoResult<Vec
 /// The octets folded to as many bits as the caller's octets have (RFC 3961, 5.1), which are written over and may have held
 /// anything. Neither is empty. It allocates nothing.
 pub fn n_fold_into(input: &[u8], out: &mut [u8])
-    requires filled { 0 < length input.now }
+    requires padded { 0 < length input.now }
     requires some { 0 < length out.old }
     ensures { out.new ≡ fold input.now (8 * length out.old) }
 {
@@ -40,7 +40,7 @@ pub fn n_fold_into(input: &[u8], out: &mut [u8])
 
 /// Adds the turns of the input to the sum, octet by octet from the right, round and round, with end-around carry.
 fn fold_into(sum: &mut [u8], input: &[u8])
-    requires filled { 0 < length input.now }
+    requires padded { 0 < length input.now }
     requires some { 0 < length sum.old }
     requires zero { number sum.old ≡ 0 }
     ensures { number sum.new ≡ folded_number (number input.now) (8 * length input.now) (8 * length sum.old) }

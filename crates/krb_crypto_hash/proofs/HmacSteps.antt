@@ -7,24 +7,24 @@ use Rattle.sha2.specs.Sha256.{sha256}
 use Rattle.sha2.specs.Sha256 as S256
 use Rattle.sha2.specs.Sha512.{sha384}
 use Rattle.sha2.specs.Sha512 as S512
-use Rattle.krb_crypto_hash.specs.Xor.{xor_lists, filled_to}
+use Rattle.krb_crypto_hash.specs.Xor.{xor_lists, padded_to}
 use Rattle.krb_crypto_hash.specs.Hmac.{block_key, padded, hmac_over, hmac, hmac_256, hmac_384}
-use Rattle.krb_crypto_hash.proofs.XorLists.{xor_lists-comm, filled_whole}
+use Rattle.krb_crypto_hash.proofs.XorLists.{xor_lists-comm, padded_whole}
 
 -- a key of at most a block is followed by zeros
-pub block_short : (hash : List ℕ → List ℕ) (block : ℕ) (key front : List ℕ) → front ≡ key → length key ≤ block → front ++ drop (length key) (replicate block 0) ≡ block_key hash block key
-block_short hash block key front e short = rw (le-ltb block (length key) short, e, drop-replicate {X = ℕ} (length key) block 0) refl
+pub block_short : (hash : List ℕ → List ℕ) (block : ℕ) (key prefix : List ℕ) → prefix ≡ key → length key ≤ block → prefix ++ drop (length key) (replicate block 0) ≡ block_key hash block key
+block_short hash block key prefix e short = rw (le-ltb block (length key) short, e, drop-replicate {X = ℕ} (length key) block 0) refl
 
 -- and the hash of a longer one
-pub block_long : (hash : List ℕ → List ℕ) (block size : ℕ) (key front : List ℕ) → front ≡ hash key → length front ≡ size → block < length key → front ++ drop size (replicate block 0) ≡ block_key hash block key
-block_long hash block size key front e len long =
+pub block_long : (hash : List ℕ → List ℕ) (block size : ℕ) (key prefix : List ℕ) → prefix ≡ hash key → length prefix ≡ size → block < length key → prefix ++ drop size (replicate block 0) ≡ block_key hash block key
+block_long hash block size key prefix e len long =
     let sized : length (hash key) ≡ size = ap length (sym e) ∙ len in
     rw (lt-ltb block (length key) long, sized, e, drop-replicate {X = ℕ} size block 0) refl
 
 -- the key's block, combined with a block of one octet
-pub padded_is : (hash : List ℕ → List ℕ) (block : ℕ) (key out b : List ℕ) (pad : ℕ) → out ≡ xor_lists (filled_to block (replicate block pad)) b → b ≡ block_key hash block key → out ≡ padded hash block key pad
+pub padded_is : (hash : List ℕ → List ℕ) (block : ℕ) (key out b : List ℕ) (pad : ℕ) → out ≡ xor_lists (padded_to block (replicate block pad)) b → b ≡ block_key hash block key → out ≡ padded hash block key pad
 padded_is hash block key out b pad e at =
-    e ∙ ap (λ (k : List ℕ). xor_lists k b) (filled_whole block (replicate block pad) (length-replicate block pad))
+    e ∙ ap (λ (k : List ℕ). xor_lists k b) (padded_whole block (replicate block pad) (length-replicate block pad))
     ∙ ap (xor_lists (replicate block pad)) at ∙ xor_lists-comm (replicate block pad) (block_key hash block key)
 
 -- the outer hash of the inner one

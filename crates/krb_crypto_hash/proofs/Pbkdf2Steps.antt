@@ -8,14 +8,14 @@ use Rattle.std.proofs.lemmas.Grind.{div_ceil_times}
 use Rattle.std.proofs.Math.Arith.{digits_div, digits_mod}
 use Rattle.std.proofs.Math.Nat.{mul_comm, mul-suc, mul-le-mul_right}
 use Rattle.std.proofs.lemmas.Nat.{xor_comm}
-use Rattle.krb_crypto_hash.specs.Xor.{xor_lists, filled_to}
+use Rattle.krb_crypto_hash.specs.Xor.{xor_lists, padded_to}
 use Rattle.krb_crypto_hash.specs.Pbkdf2.{chain, count_bits}
-use Rattle.krb_crypto_hash.proofs.XorLists.{get_or-xor_lists, filled_whole}
+use Rattle.krb_crypto_hash.proofs.XorLists.{get_or-xor_lists, padded_whole}
 
 -- two blocks, combined octet by octet
-pub xored_at : (size : ℕ) (new sum u : List ℕ) → length sum ≡ size → length u ≡ size → new ≡ xor_lists (filled_to size u) sum → (k : ℕ) → slice_index new k ≡ bit_xor (slice_index sum k) (slice_index u k)
+pub xored_at : (size : ℕ) (new sum u : List ℕ) → length sum ≡ size → length u ≡ size → new ≡ xor_lists (padded_to size u) sum → (k : ℕ) → slice_index new k ≡ bit_xor (slice_index sum k) (slice_index u k)
 xored_at size new sum u ls lu e k =
-    ap (λ (j : List ℕ). slice_index j k) (e ∙ ap (λ (j : List ℕ). xor_lists j sum) (filled_whole size u lu))
+    ap (λ (j : List ℕ). slice_index j k) (e ∙ ap (λ (j : List ℕ). xor_lists j sum) (padded_whole size u lu))
     ∙ get_or-xor_lists u sum k (lu ∙ sym ls) ∙ xor_comm (slice_index u k) (slice_index sum k)
 
 -- ---- the rounds

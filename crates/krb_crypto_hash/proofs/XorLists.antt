@@ -4,7 +4,7 @@ use Rattle.std.proofs.lemmas.List.{append-nil, length-append, get_or_past, ext_g
 use Rattle.std.proofs.lemmas.Nat.{xor_comm}
 use lib.Bits.{xor_assoc, xor_self, xor_zero_r, xor_zero_l}
 use Rattle.std.proofs.lemmas.Bool.{cases_lt}
-use Rattle.krb_crypto_hash.specs.Xor.{xor_lists, filled_to}
+use Rattle.krb_crypto_hash.specs.Xor.{xor_lists, padded_to}
 
 pub length-xor_lists : (xs ys : List ℕ) → length xs ≡ length ys → length (xor_lists xs ys) ≡ length xs
 length-xor_lists [] ys e = refl
@@ -57,19 +57,19 @@ get_or-then_zeros (x ∷ t) n zero = refl
 get_or-then_zeros (x ∷ t) n (suc k) = get_or-then_zeros t n k
 
 -- a whole block is padded with nothing
-pub filled_whole : (size : ℕ) (t : List ℕ) → length t ≡ size → filled_to size t ≡ t
-filled_whole size t e = let z : size - length t ≡ 0 = omega arith in rw z (append-nil t)
+pub padded_whole : (size : ℕ) (t : List ℕ) → length t ≡ size → padded_to size t ≡ t
+padded_whole size t e = let z : size - length t ≡ 0 = omega arith in rw z (append-nil t)
 
 -- a block written octet by octet
 pub xored_end : (size : ℕ) (block part b : List ℕ) (i : ℕ) → length block ≡ size → length b ≡ size → length part ≤ size → i ≡ length part
     → ((k : ℕ) → k < i → get_or block k 0 ≡ bit_xor (get_or part k 0) (get_or b k 0)) → ((k : ℕ) → i ≤ k → get_or block k 0 ≡ get_or b k 0)
-    → block ≡ xor_lists (filled_to size part) b
+    → block ≡ xor_lists (padded_to size part) b
 xored_end size block part b i lb l fits ei below above =
-    let lf : length (filled_to size part) ≡ size = rw (length-append, length-replicate) (omega arith) in
-    let lx : length (xor_lists (filled_to size part) b) ≡ size = length-xor_lists (filled_to size part) b (lf ∙ sym l) ∙ lf in
-    ext_get_or 0 block (xor_lists (filled_to size part) b) (lb ∙ sym lx) (λ k lt.
-    let at : get_or (xor_lists (filled_to size part) b) k 0 ≡ bit_xor (get_or part k 0) (get_or b k 0) =
-    get_or-xor_lists (filled_to size part) b k (lf ∙ sym l) ∙ ap (λ (j : ℕ). bit_xor j (get_or b k 0)) (get_or-then_zeros part (size - length part) k) in
+    let lf : length (padded_to size part) ≡ size = rw (length-append, length-replicate) (omega arith) in
+    let lx : length (xor_lists (padded_to size part) b) ≡ size = length-xor_lists (padded_to size part) b (lf ∙ sym l) ∙ lf in
+    ext_get_or 0 block (xor_lists (padded_to size part) b) (lb ∙ sym lx) (λ k lt.
+    let at : get_or (xor_lists (padded_to size part) b) k 0 ≡ bit_xor (get_or part k 0) (get_or b k 0) =
+    get_or-xor_lists (padded_to size part) b k (lf ∙ sym l) ∙ ap (λ (j : ℕ). bit_xor j (get_or b k 0)) (get_or-then_zeros part (size - length part) k) in
     elim (cases_lt k i) [
       | inl low ↦ below k low ∙ sym at
       | inr high ↦

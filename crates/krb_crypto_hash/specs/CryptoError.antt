@@ -12,13 +12,13 @@ abbrev pub IsKeyLengthError : ℕ → List ℕ → KerberosCryptoError → Type 
 IsKeyLengthError size key e = (length key ≢ size) × (e ≡ KeyLength (length key) size)
 
 -- the error of an allocation, or of a key that has not size octets
-abbrev pub RefusesKey : ℕ → List ℕ → KerberosCryptoError → Type 0
-RefusesKey size key e = IsMemoryOr e (IsKeyLengthError size key e)
+abbrev pub RejectsKey : ℕ → List ℕ → KerberosCryptoError → Type 0
+RejectsKey size key e = IsMemoryOr e (IsKeyLengthError size key e)
 
 -- and, under a key of size octets, the error for what is bad
-abbrev pub RefusesKeyOr : ℕ → List ℕ → Type 0 → KerberosCryptoError → KerberosCryptoError → Type 0
-RefusesKeyOr size key bad why e = IsMemoryOr e (IsKeyLengthError size key e ⊎ ((length key ≡ size) × bad × (e ≡ why)))
+abbrev pub RejectsKeyOr : ℕ → List ℕ → Type 0 → KerberosCryptoError → KerberosCryptoError → Type 0
+RejectsKeyOr size key bad why e = IsMemoryOr e (IsKeyLengthError size key e ⊎ ((length key ≡ size) × bad × (e ≡ why)))
 
 -- and, under a key of size octets, the error for fewer octets than the least
 abbrev pub IsKeyOrCipherLengthError : ℕ → List ℕ → ℕ → List ℕ → KerberosCryptoError → Type 0
-IsKeyOrCipherLengthError size key least octets e = RefusesKeyOr size key (length octets < least) (CipherLength (length octets) least) e
+IsKeyOrCipherLengthError size key least octets e = RejectsKeyOr size key (length octets < least) (CipherLength (length octets) least) e

@@ -8,5 +8,5 @@ xor_lists (x ∷ xs) [] = []
 xor_lists (x ∷ xs) (y ∷ ys) = bit_xor x y ∷ xor_lists xs ys
 
 -- at most size octets, padded with zeros to just so many (RFC 2104, 2; RFC 3961, 5.3, "pad"; RFC 3962, 5)
-abbrev pub filled_to : ℕ → List ℕ → List ℕ
-filled_to size t = t ++ replicate (size - length t) 0
+abbrev pub padded_to : ℕ → List ℕ → List ℕ
+padded_to size t = t ++ replicate (size - length t) 0

@@ -173,7 +173,7 @@ length-key_part octets = length-repaired (stretched octets)
 -- eight octets written after those that are done
 put_next : (done next rest : List ℕ) (n : ℕ) → length done ≡ n → put_mid n 8 (done ++ rest) next ≡ done ++ next ++ drop 8 rest
 put_next done next rest n l =
-    ap (λ (front : List ℕ). front ++ (next ++ drop 8 (drop n (done ++ rest)))) (take_at done rest n l)
+    ap (λ (prefix : List ℕ). prefix ++ (next ++ drop 8 (drop n (done ++ rest)))) (take_at done rest n l)
     ∙ ap (λ (back : List ℕ). done ++ (next ++ drop 8 back)) (drop_at done rest n l)
     ∙ sym (append_assoc done next (drop 8 rest))
 
@@ -194,6 +194,6 @@ three_parts p q r rest lp lq lrest =
     ∙ ap (λ (back : List ℕ). p ++ q ++ r ++ back) none
     ∙ append-nil (p ++ q ++ r)
 
-pub key_joined : (seed p q r : List ℕ) → p ≡ key_part (take 7 seed) → q ≡ key_part (take 7 (drop 7 seed)) → r ≡ key_part (take 7 (drop 14 seed)) → p ++ q ++ r ≡ random_to_key seed
+pub key_concatenated : (seed p q r : List ℕ) → p ≡ key_part (take 7 seed) → q ≡ key_part (take 7 (drop 7 seed)) → r ≡ key_part (take 7 (drop 14 seed)) → p ++ q ++ r ≡ random_to_key seed
 unfolding random_to_key
-key_joined seed p q r ep eq er = rw (ep, eq, er) refl
+key_concatenated seed p q r ep eq er = rw (ep, eq, er) refl

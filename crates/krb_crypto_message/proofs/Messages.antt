@@ -10,15 +10,15 @@ use Rattle.krb_crypto_hash.proofs.HmacSteps.{hmac_size}
 use Rattle.krb_crypto_block.proofs.StealingUses.{Cts-same, Cts-length}
 use Rattle.krb_crypto_block.specs.Aes.{aes_block}
 use Rattle.krb_crypto_block.specs.Des.{ede3, ede3_undo}
-use Rattle.krb_crypto_block.specs.Modes.{Cts, IsCbc, IsFill, IsOctets}
+use Rattle.krb_crypto_block.specs.Modes.{Cts, IsCbc, IsPadding, IsOctets}
 use Rattle.krb_crypto_block.proofs.Chaining.{IsCbc-same, IsCbc-length}
 use Rattle.krb_crypto_block.proofs.DesTriple.{AreInverse-ede3}
-use Rattle.krb_crypto_block.proofs.Filling.{IsFill-one, IsFill-whole}
+use Rattle.krb_crypto_block.proofs.Filling.{IsPadding-one, IsPadding-whole}
 use Rattle.krb_crypto_hash.specs.declared.error.KerberosCryptoError.{KerberosCryptoError}
 use Rattle.krb_crypto_hash.specs.declared.error.KerberosCryptoError.TheVariants.{IntegrityCheck}
-use Rattle.krb_crypto_message.specs.MessageSteps.{cut_mac, IsDeciphered}
-use Rattle.krb_crypto_message.proofs.Opening.{IsScheme, IsEnciphered}
-use Rattle.krb_crypto_message.specs.Sealed.{aes_ke, aes_ki, AesCts, mac_96, cts_refusal, des3_ke, des3_ki, Des3Cbc, des3_refusal}
+use Rattle.krb_crypto_message.specs.MessageSteps.{cut_mac, IsDecrypted}
+use Rattle.krb_crypto_message.proofs.Opening.{IsScheme, IsEncrypted}
+use Rattle.krb_crypto_message.specs.Sealed.{aes_ke, aes_ki, AesCts, mac_96, cts_error, des3_ke, des3_ki, Des3Cbc, des3_error}
 
 -- ---- AES
 
@@ -40,48 +40,48 @@ aes_scheme key usage =
     (λ m c. length-take-le 12 (hmac (aes_ki key usage) m) (omega (arith, hmac_size (aes_ki key usage) m))) (λ m c. refl)
 
 -- under a right key, octets enough are rejected for their checksum alone
-pub cts_intact : (h size : ℕ) (key bytes : List ℕ) → length key ≡ size → 16 + h ≤ length bytes → cts_refusal (16 + h) size key bytes ≡ IntegrityCheck
+pub cts_intact : (h size : ℕ) (key bytes : List ℕ) → length key ≡ size → 16 + h ≤ length bytes → cts_error (16 + h) size key bytes ≡ IntegrityCheck
 cts_intact h size key bytes right long = rw (le-ltb (length bytes) (16 + h) long, right, eq-eqb size size refl) refl
 
 -- and what is rejected for another reason is too short
-pub cts_short : (h size : ℕ) (key bytes : List ℕ) (e : KerberosCryptoError) → length key ≡ size → (e ≡ cts_refusal (16 + h) size key bytes) × (e ≢ IntegrityCheck)
+pub cts_short : (h size : ℕ) (key bytes : List ℕ) (e : KerberosCryptoError) → length key ≡ size → (e ≡ cts_error (16 + h) size key bytes) × (e ≢ IntegrityCheck)
     → ¬ ((h ≤ length bytes) × (16 ≤ length bytes - h))
-cts_short h size key bytes e right refused shape =
-    refused.1 (refused.0 ∙ cts_intact h size key bytes right (omega (arith, shape.0, shape.1)))
+cts_short h size key bytes e right rejected shape =
+    rejected.1 (rejected.0 ∙ cts_intact h size key bytes right (omega (arith, shape.0, shape.1)))
 
 -- what is written by the calls is confounder and payload, encrypted under the keys Ke and Ki
-pub cts_enciphered : (is_ke is_ki ke ki confounder payload filled c : List ℕ) → ke ≡ is_ke → ki ≡ is_ki → filled ≡ confounder ++ payload → IsOctets filled → Cts (aes_block ke) filled c
-    → IsEnciphered 1 (Cts (aes_block is_ke)) is_ki confounder payload filled c ki
-cts_enciphered is_ke is_ki ke ki confounder payload filled c eke eki joined octets made = record {
-  fill_is = subst (λ f. IsFill 1 (confounder ++ payload) f) (sym joined) (IsFill-whole 1 (omega arith) (confounder ++ payload) (omega arith));
+pub cts_encrypted : (is_ke is_ki ke ki confounder payload padded c : List ℕ) → ke ≡ is_ke → ki ≡ is_ki → padded ≡ confounder ++ payload → IsOctets padded → Cts (aes_block ke) padded c
+    → IsEncrypted 1 (Cts (aes_block is_ke)) is_ki confounder payload padded c ki
+cts_encrypted is_ke is_ki ke ki confounder payload padded c eke eki concatenated octets made = record {
+  padding_is = subst (λ f. IsPadding 1 (confounder ++ payload) f) (sym concatenated) (IsPadding-whole 1 (omega arith) (confounder ++ payload) (omega arith));
   octets = octets;
-  enciphered = subst (λ k. Cts (aes_block k) filled c) eke made;
+  encrypted_octets = subst (λ k. Cts (aes_block k) padded c) eke made;
   ki_is = eki;
 }
 
 -- and what is read is the one list that is encrypted so
-pub cts_deciphered : (h : ℕ) (ke ki bytes filled : List ℕ) → 16 + h ≤ length bytes → IsOctets filled → Cts (aes_block ke) filled (take (length bytes - h) bytes)
-    → ((q : List ℕ) → IsOctets q → Cts (aes_block ke) q (take (length bytes - h) bytes) → q ≡ filled)
-    → IsDeciphered 1 16 h (Cts (aes_block ke)) ki bytes filled ki
-cts_deciphered h ke ki bytes filled long octets made only = record {
+pub cts_decrypted : (h : ℕ) (ke ki bytes padded : List ℕ) → 16 + h ≤ length bytes → IsOctets padded → Cts (aes_block ke) padded (take (length bytes - h) bytes)
+    → ((q : List ℕ) → IsOctets q → Cts (aes_block ke) q (take (length bytes - h) bytes) → q ≡ padded)
+    → IsDecrypted 1 16 h (Cts (aes_block ke)) ki bytes padded ki
+cts_decrypted h ke ki bytes padded long octets made only = record {
   long = long;
-  front = made.0;
+  prefix = made.0;
   whole = omega arith;
   of_octets = octets;
-  enciphered = made;
+  encrypted_octets = made;
   only = only;
   ki_is = refl;
 }
 
 -- under the keys Ke and Ki
-pub deciphered_under : (h : ℕ) (is_ke is_ki ke ki bytes filled got : List ℕ) → ke ≡ is_ke → ki ≡ is_ki → IsDeciphered 1 16 h (Cts (aes_block ke)) ki bytes filled got
-    → IsDeciphered 1 16 h (Cts (aes_block is_ke)) is_ki bytes filled got
-deciphered_under h is_ke is_ki ke ki bytes filled got eke eki is =
-    subst (λ k. IsDeciphered 1 16 h (Cts (aes_block is_ke)) k bytes filled got) eki (subst (λ k. IsDeciphered 1 16 h (Cts (aes_block k)) ki bytes filled got) eke is)
+pub decrypted_under : (h : ℕ) (is_ke is_ki ke ki bytes padded got : List ℕ) → ke ≡ is_ke → ki ≡ is_ki → IsDecrypted 1 16 h (Cts (aes_block ke)) ki bytes padded got
+    → IsDecrypted 1 16 h (Cts (aes_block is_ke)) is_ki bytes padded got
+decrypted_under h is_ke is_ki ke ki bytes padded got eke eki is =
+    subst (λ k. IsDecrypted 1 16 h (Cts (aes_block is_ke)) k bytes padded got) eki (subst (λ k. IsDecrypted 1 16 h (Cts (aes_block k)) ki bytes padded got) eke is)
 
 -- what is opened, padded to a multiple of one octet, is the payload itself
-pub unfilled : (payload opened : List ℕ) → IsFill 1 payload opened → opened ≡ payload
-unfilled payload opened is = IsFill-one 1 payload opened payload is (IsFill-whole 1 (omega arith) payload (omega arith))
+pub unfilled : (payload opened : List ℕ) → IsPadding 1 payload opened → opened ≡ payload
+unfilled payload opened is = IsPadding-one 1 payload opened payload is (IsPadding-whole 1 (omega arith) payload (omega arith))
 
 -- ---- triple DES
 
@@ -106,51 +106,51 @@ des3_scheme key usage = record {
 }
 
 -- under a right key, whole blocks after a confounder are rejected for their checksum alone
-des3_intact : (key bytes : List ℕ) → length key ≡ 24 → 28 ≤ length bytes → (length bytes - 20) % 8 ≡ 0 → des3_refusal key bytes ≡ IntegrityCheck
+des3_intact : (key bytes : List ℕ) → length key ≡ 24 → 28 ≤ length bytes → (length bytes - 20) % 8 ≡ 0 → des3_error key bytes ≡ IntegrityCheck
 des3_intact key bytes right long whole = rw (eq-eqb (length key) 24 right, le-ltb (length bytes) 28 long, eq-eqb ((length bytes - 20) % 8) 0 whole) refl
 
 -- and what is rejected for another reason is too short, or not of whole blocks
-pub des3_unshaped : (key bytes : List ℕ) (e : KerberosCryptoError) → length key ≡ 24 → (e ≡ des3_refusal key bytes) × (e ≢ IntegrityCheck)
+pub des3_unshaped : (key bytes : List ℕ) (e : KerberosCryptoError) → length key ≡ 24 → (e ≡ des3_error key bytes) × (e ≢ IntegrityCheck)
     → ¬ ((20 ≤ length bytes) × ((8 ≤ length bytes - 20) × ((length bytes - 20) % 8 ≡ 0)))
-des3_unshaped key bytes e right refused shape =
-    refused.1 (refused.0 ∙ des3_intact key bytes right (omega (arith, shape.0, shape.1.0)) shape.1.1)
+des3_unshaped key bytes e right rejected shape =
+    rejected.1 (rejected.0 ∙ des3_intact key bytes right (omega (arith, shape.0, shape.1.0)) shape.1.1)
 
 -- what is written by the calls is confounder and payload, padded and encrypted
-pub des3_enciphered : (key : List ℕ) (usage : ℤ) (ke ki confounder payload filled c : List ℕ) → ke ≡ des3_ke key usage → ki ≡ des3_ki key usage
-    → IsFill 8 (confounder ++ payload) filled → IsOctets filled → IsCbc 8 (ede3 ke) filled c
-    → IsEnciphered 8 (Des3Cbc key usage) (des3_ki key usage) confounder payload filled c ki
-des3_enciphered key usage ke ki confounder payload filled c eke eki is octets made = record {
-  fill_is = is;
+pub des3_encrypted : (key : List ℕ) (usage : ℤ) (ke ki confounder payload padded c : List ℕ) → ke ≡ des3_ke key usage → ki ≡ des3_ki key usage
+    → IsPadding 8 (confounder ++ payload) padded → IsOctets padded → IsCbc 8 (ede3 ke) padded c
+    → IsEncrypted 8 (Des3Cbc key usage) (des3_ki key usage) confounder payload padded c ki
+des3_encrypted key usage ke ki confounder payload padded c eke eki is octets made = record {
+  padding_is = is;
   octets = octets;
-  enciphered = subst (λ k. IsCbc 8 (ede3 k) filled c) eke made;
+  encrypted_octets = subst (λ k. IsCbc 8 (ede3 k) padded c) eke made;
   ki_is = eki;
 }
 
 -- and what is read is the one list that is encrypted so
-pub des3_deciphered : (key : List ℕ) (usage : ℤ) (ke ki bytes filled : List ℕ) → ke ≡ des3_ke key usage → ki ≡ des3_ki key usage → 28 ≤ length bytes → IsOctets filled
-    → IsCbc 8 (ede3 ke) filled (take (length bytes - 20) bytes)
-    → ((q : List ℕ) → IsOctets q → IsCbc 8 (ede3 ke) q (take (length bytes - 20) bytes) → q ≡ filled)
-    → IsDeciphered 8 8 20 (Des3Cbc key usage) (des3_ki key usage) bytes filled ki
-des3_deciphered key usage ke ki bytes filled eke eki long octets made only =
-    let held : Des3Cbc key usage filled (take (length bytes - 20) bytes) = subst (λ k. IsCbc 8 (ede3 k) filled (take (length bytes - 20) bytes)) eke made in
-    let same : length (take (length bytes - 20) bytes) ≡ length filled = Des3Cbc-length key usage filled (take (length bytes - 20) bytes) octets held in
+pub des3_decrypted : (key : List ℕ) (usage : ℤ) (ke ki bytes padded : List ℕ) → ke ≡ des3_ke key usage → ki ≡ des3_ki key usage → 28 ≤ length bytes → IsOctets padded
+    → IsCbc 8 (ede3 ke) padded (take (length bytes - 20) bytes)
+    → ((q : List ℕ) → IsOctets q → IsCbc 8 (ede3 ke) q (take (length bytes - 20) bytes) → q ≡ padded)
+    → IsDecrypted 8 8 20 (Des3Cbc key usage) (des3_ki key usage) bytes padded ki
+des3_decrypted key usage ke ki bytes padded eke eki long octets made only =
+    let held : Des3Cbc key usage padded (take (length bytes - 20) bytes) = subst (λ k. IsCbc 8 (ede3 k) padded (take (length bytes - 20) bytes)) eke made in
+    let same : length (take (length bytes - 20) bytes) ≡ length padded = Des3Cbc-length key usage padded (take (length bytes - 20) bytes) octets held in
     record {
       long = long;
-      front = omega (arith, same, long, length-take-le (length bytes - 20) bytes (omega arith));
+      prefix = omega (arith, same, long, length-take-le (length bytes - 20) bytes (omega arith));
       whole = held.whole;
       of_octets = octets;
-      enciphered = held;
+      encrypted_octets = held;
       only = λ q is h. only q is (subst (λ k. IsCbc 8 (ede3 k) q (take (length bytes - 20) bytes)) (sym eke) h);
       ki_is = eki;
     }
 
 -- what is decrypted is rejected for its checksum alone
-pub des3_checked : (key : List ℕ) (usage : ℤ) (bytes filled ki : List ℕ) → length key ≡ 24 → IsDeciphered 8 8 20 (Des3Cbc key usage) (des3_ki key usage) bytes filled ki
-    → des3_refusal key bytes ≡ IntegrityCheck
-des3_checked key usage bytes filled ki right d =
-    let same : length (take (length bytes - 20) bytes) ≡ length filled = Des3Cbc-length key usage filled (take (length bytes - 20) bytes) d.of_octets d.enciphered in
-    let front : length bytes - 20 ≡ length filled = sym (length-take-le (length bytes - 20) bytes (omega arith)) ∙ same in
-    des3_intact key bytes right d.long (ap (λ (k : ℕ). k % 8) front ∙ d.whole)
+pub des3_checked : (key : List ℕ) (usage : ℤ) (bytes padded ki : List ℕ) → length key ≡ 24 → IsDecrypted 8 8 20 (Des3Cbc key usage) (des3_ki key usage) bytes padded ki
+    → des3_error key bytes ≡ IntegrityCheck
+des3_checked key usage bytes padded ki right d =
+    let same : length (take (length bytes - 20) bytes) ≡ length padded = Des3Cbc-length key usage padded (take (length bytes - 20) bytes) d.of_octets d.encrypted_octets in
+    let prefix : length bytes - 20 ≡ length padded = sym (length-take-le (length bytes - 20) bytes (omega arith)) ∙ same in
+    des3_intact key bytes right d.long (ap (λ (k : ℕ). k % 8) prefix ∙ d.whole)
 
 -- ---- calls in place
 

@@ -10,7 +10,7 @@ use Rattle.krb_crypto_block.specs.Size.{key_octets}
 use Rattle.krb_crypto_block.specs.declared.aes.AesSize.{AesSize}
 use Rattle.krb_crypto_block.specs.declared.aes.AesSize.TheVariants.{Aes256, Aes128}
 use Rattle.krb_crypto_message.specs.MessageSteps.{end_of}
-use Rattle.krb_crypto_message.specs.Sealed.{IsSealedBy, cts_refusal}
+use Rattle.krb_crypto_message.specs.Sealed.{IsSealedBy, cts_error}
 use Rattle.krb_crypto_message.specs.WellKnown.{usage_constant}
 
 -- ---- the suites (RFC 8009, 5)
@@ -80,12 +80,12 @@ EndsInSealMac size ki octets =
 -- the relation of the suites, which pad nothing, and whose checksum is that of what confounder and payload are encrypted to
 abbrev pub IsSealedSha2 : AesSize → List ℕ → ℤ → List ℕ → List ℕ → List ℕ → Type 0
 IsSealedSha2 size key usage confounder payload octets =
-    IsSealedBy 1 (Sha2Cts size key usage) (λ filled cipher. sha2_seal_mac size (sha2_ki size key usage) cipher) confounder payload octets
+    IsSealedBy 1 (Sha2Cts size key usage) (λ padded cipher. sha2_seal_mac size (sha2_ki size key usage) cipher) confounder payload octets
 
 -- the keyed checksum of a message that stands alone
 abbrev pub sha2_sum : AesSize → List ℕ → ℤ → List ℕ → List ℕ
 sha2_sum size key usage message = sha2_mac size (sha2_kc size key usage) message
 
 -- why octets are not opened: their number first, then the key's, then the checksum
-abbrev pub sha2_refusal : AesSize → List ℕ → List ℕ → KerberosCryptoError
-sha2_refusal size key octets = cts_refusal (16 + sha2_checksum_octets size) (key_octets size) key octets
+abbrev pub sha2_error : AesSize → List ℕ → List ℕ → KerberosCryptoError
+sha2_error size key octets = cts_error (16 + sha2_checksum_octets size) (key_octets size) key octets

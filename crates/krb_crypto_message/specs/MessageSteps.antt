@@ -17,11 +17,11 @@ EndsInMac size key message octets = end_of size octets ≡ cut_mac size key mess
 
 -- the one list that is encrypted to the octets without their last h, which holds n octets of a confounder and is a multiple of
 -- fill octets long, and the key Ki
-pub record IsDeciphered (fill n h : ℕ) (enciphers : List ℕ → List ℕ → Type 0) (integrity_key octets filled ki : List ℕ) : Type 0 where
+pub record IsDecrypted (padding n h : ℕ) (encrypts : List ℕ → List ℕ → Type 0) (integrity_key octets padded ki : List ℕ) : Type 0 where
   pub long : n + h ≤ length octets
-  pub front : n ≤ length filled
-  pub whole : length filled % fill ≡ 0
-  pub of_octets : IsOctets filled
-  pub enciphered : enciphers filled (take (length octets - h) octets)
-  pub only : (other : List ℕ) → IsOctets other → enciphers other (take (length octets - h) octets) → other ≡ filled
+  pub prefix : n ≤ length padded
+  pub whole : length padded % padding ≡ 0
+  pub of_octets : IsOctets padded
+  pub encrypted_octets : encrypts padded (take (length octets - h) octets)
+  pub only : (other : List ℕ) → IsOctets other → encrypts other (take (length octets - h) octets) → other ≡ padded
   pub ki_is : ki ≡ integrity_key

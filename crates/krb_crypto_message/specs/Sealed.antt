@@ -3,7 +3,7 @@ use Rattle.std.specs.Prelude.{◌≡◌, ℕ, ℤ, ◌-◌, ◌%◌, List, ◌++
 use Rattle.krb_crypto_block.specs.Aes.{aes_block}
 use Rattle.krb_crypto_block.specs.Des.{ede3}
 use Rattle.krb_crypto_hash.specs.Hmac.{hmac}
-use Rattle.krb_crypto_block.specs.Modes.{Cts, IsCbc, IsFill, IsOctets}
+use Rattle.krb_crypto_block.specs.Modes.{Cts, IsCbc, IsPadding, IsOctets}
 use Rattle.krb_crypto_hash.specs.declared.error.KerberosCryptoError.{KerberosCryptoError}
 use Rattle.krb_crypto_hash.specs.declared.error.KerberosCryptoError.TheVariants.{CipherLength, CipherUnpad, IntegrityCheck, KeyLength}
 use Rattle.krb_crypto_message.specs.Derive.{aes_dk, des3_dk}
@@ -12,13 +12,13 @@ use Rattle.krb_crypto_message.specs.WellKnown.{usage_constant}
 -- what confounder and payload, with the fewest zeros to a multiple of padding octets, are encrypted to, and after it the
 -- checksum, mac, of the padded octets and of what they are encrypted to. In the suites of RFC 3962 and of triple DES it is
 -- of the padded octets alone.
-pub record IsSealedBy (fill : ℕ) (enciphers : List ℕ → List ℕ → Type 0) (mac : List ℕ → List ℕ → List ℕ) (confounder payload octets : List ℕ) : Type 0 where
+pub record IsSealedBy (padding : ℕ) (encrypts : List ℕ → List ℕ → Type 0) (mac : List ℕ → List ℕ → List ℕ) (confounder payload octets : List ℕ) : Type 0 where
   pub of_octets : IsOctets (confounder ++ payload)
-  pub filled : List ℕ
-  pub fill_is : IsFill fill (confounder ++ payload) filled
+  pub padded : List ℕ
+  pub padding_is : IsPadding padding (confounder ++ payload) padded
   pub cipher : List ℕ
-  pub enciphered : enciphers filled cipher
-  pub joined : octets ≡ cipher ++ mac filled cipher
+  pub encrypted_octets : encrypts padded cipher
+  pub concatenated : octets ≡ cipher ++ mac padded cipher
 
 -- ---- AES (RFC 3962, 6)
 
@@ -42,7 +42,7 @@ AesCts key usage p c = Cts (aes_block (aes_ke key usage)) p c
 
 -- the relation of the AES suites, which pad nothing
 abbrev pub IsSealedAes : List ℕ → ℤ → List ℕ → List ℕ → List ℕ → Type 0
-IsSealedAes key usage confounder payload octets = IsSealedBy 1 (AesCts key usage) (λ filled cipher. mac_96 (aes_ki key usage) filled) confounder payload octets
+IsSealedAes key usage confounder payload octets = IsSealedBy 1 (AesCts key usage) (λ padded cipher. mac_96 (aes_ki key usage) padded) confounder payload octets
 
 -- the keyed checksum of a message that stands alone
 abbrev pub aes_sum : List ℕ → ℤ → List ℕ → List ℕ
@@ -50,15 +50,15 @@ aes_sum key usage message = mac_96 (aes_kc key usage) message
 
 -- why octets, of which there should be so many at least, are not opened under a key that should have size octets: their number
 -- first, then the key's, then the checksum
-abbrev pub cts_refusal : ℕ → ℕ → List ℕ → List ℕ → KerberosCryptoError
-cts_refusal shortest size key octets =
+abbrev pub cts_error : ℕ → ℕ → List ℕ → List ℕ → KerberosCryptoError
+cts_error shortest size key octets =
     if nat_lt (length octets) shortest then CipherLength (length octets) shortest
     else if length key == size then IntegrityCheck
     else KeyLength (length key) size
 
 -- a confounder of 16 octets and a checksum of 12 are the shortest
-abbrev pub aes_refusal : ℕ → List ℕ → List ℕ → KerberosCryptoError
-aes_refusal size key octets = cts_refusal 28 size key octets
+abbrev pub aes_error : ℕ → List ℕ → List ℕ → KerberosCryptoError
+aes_error size key octets = cts_error 28 size key octets
 
 -- ---- triple DES (RFC 3961, 6.3)
 
@@ -77,15 +77,15 @@ Des3Cbc key usage p c = IsCbc 8 (ede3 (des3_ke key usage)) p c
 
 -- the relation of the suite of triple DES, which fills to blocks of 8 octets and has a whole HMAC
 abbrev pub IsSealedDes3 : List ℕ → ℤ → List ℕ → List ℕ → List ℕ → Type 0
-IsSealedDes3 key usage confounder payload octets = IsSealedBy 8 (Des3Cbc key usage) (λ filled cipher. hmac (des3_ki key usage) filled) confounder payload octets
+IsSealedDes3 key usage confounder payload octets = IsSealedBy 8 (Des3Cbc key usage) (λ padded cipher. hmac (des3_ki key usage) padded) confounder payload octets
 
 -- the keyed checksum of a message that stands alone
 abbrev pub des3_sum : List ℕ → ℤ → List ℕ → List ℕ
 des3_sum key usage message = hmac (des3_kc key usage) message
 
 -- why octets are not opened: the key's length first, then their number, then whole blocks, then the checksum
-abbrev pub des3_refusal : List ℕ → List ℕ → KerberosCryptoError
-des3_refusal key octets =
+abbrev pub des3_error : List ℕ → List ℕ → KerberosCryptoError
+des3_error key octets =
     if length key == 24 then (
     if nat_lt (length octets) 28 then CipherLength (length octets) 28
     else if (length octets - 20) % 8 == 0 then IntegrityCheck

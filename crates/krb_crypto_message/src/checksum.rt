@@ -13,14 +13,14 @@ use krb_crypto_block::{KerberosCryptoError, KerberosCryptoResult};
 use std::alloc::Global;
 
 /// Confounder and payload, concatenated, with room for `spare` octets after them.
-pub(crate) fn joined(
+pub(crate) fn concatenated(
     alloc: Global,
     confounder: &[u8],
     payload: &[u8],
     spare: usize,
 ) -> KerberosCryptoResult<Vec<u8>>
     requires few { length confounder.now + spare ≤ 64 }
-    ensures joined { IfOk result (λ octets. octets.items ≡ confounder.now ++ payload.now) }
+    ensures concatenated { IfOk result (λ octets. octets.items ≡ confounder.now ++ payload.now) }
     ensures octets { IfOk result (λ octets. IsOctets octets.items) }
     ensures memory { IfErr result (λ e. e ≡ KerberosCryptoError.OutOfMemory) }
 {
@@ -54,57 +54,57 @@ pub(crate) fn without_checksum(
 
 /// What the encrypted octets decrypt to under Ke, and the key Ki.
 #[derive(Drop)]
-pub(crate) struct Deciphered {
-    pub(crate) filled: Vec<u8>,
+pub(crate) struct Decrypted {
+    pub(crate) padded: Vec<u8>,
     pub(crate) ki: ShortOctets,
 }
 
-impl Deciphered {
-    /// What is after the confounder, of `front` octets, where the last `mac_size` octets of the message are the
+impl Decrypted {
+    /// What is after the confounder, of `prefix` octets, where the last `mac_size` octets of the message are the
     /// checksum of all. Else `IntegrityCheck`; nothing is returned before it is compared.
     pub(crate) fn checked(
         self,
         cipher_data: &[u8],
-        front: usize,
+        prefix: usize,
         mac_size: usize,
     ) -> KerberosCryptoResult<Vec<u8>>
         requires cut { mac_size ≤ 20 }
         requires long { mac_size ≤ length cipher_data.now }
-        requires front { front ≤ length self.filled.items }
-        ensures payload { IfOk result (λ payload. EndsInMac mac_size self.ki self.filled.items cipher_data.now × (payload.items ≡ drop front self.filled.items)) }
-        ensures refused { IfErr result (λ e. (¬ EndsInMac mac_size self.ki self.filled.items cipher_data.now) × (e ≡ KerberosCryptoError.IntegrityCheck)) }
+        requires prefix { prefix ≤ length self.padded.items }
+        ensures payload { IfOk result (λ payload. EndsInMac mac_size self.ki self.padded.items cipher_data.now × (payload.items ≡ drop prefix self.padded.items)) }
+        ensures rejected { IfErr result (λ e. (¬ EndsInMac mac_size self.ki self.padded.items cipher_data.now) × (e ≡ KerberosCryptoError.IntegrityCheck)) }
     {
-        let mac = hmac_sha1(self.ki.as_slice(), &self.filled);
+        let mac = hmac_sha1(self.ki.as_slice(), &self.padded);
         let checksum = &cipher_data[cipher_data.len() - mac_size..];
         if &mac[..mac_size] != checksum {
             return Err(KerberosCryptoError::IntegrityCheck);
         }
-        Ok(behind(self.filled, front))
+        Ok(trailing(self.padded, prefix))
     }
 
-    /// The confounder, of `front` octets; what is after it; the last `mac_size` octets of the message; and Ki.
+    /// The confounder, of `prefix` octets; what is after it; the last `mac_size` octets of the message; and Ki.
     pub(crate) fn unchecked(
         self,
         alloc: Global,
         cipher_data: &[u8],
-        front: usize,
+        prefix: usize,
         mac_size: usize,
     ) -> KerberosCryptoResult<DecryptWithoutChecksum>
         requires long { mac_size ≤ length cipher_data.now }
-        requires front { front ≤ length self.filled.items }
-        ensures parts { IfOk result (λ made. (made.confounder.items ≡ take front self.filled.items)
-            × (made.plaintext.items ≡ drop front self.filled.items)
+        requires prefix { prefix ≤ length self.padded.items }
+        ensures parts { IfOk result (λ made. (made.confounder.items ≡ take prefix self.padded.items)
+            × (made.plaintext.items ≡ drop prefix self.padded.items)
             × (made.checksum.items ≡ end_of mac_size cipher_data.now)) }
         ensures ki { IfOk result (λ made. made.ki.items ≡ self.ki) }
         ensures memory { IfErr result (λ e. e ≡ KerberosCryptoError.OutOfMemory) }
     {
-        let before = &self.filled[..front];
+        let before = &self.padded[..prefix];
         let confounder = Vec::from_slice(alloc, before)?;
         let end = &cipher_data[cipher_data.len() - mac_size..];
         let checksum = Vec::from_slice(alloc, end)?;
         let ki = Vec::from_slice(alloc, self.ki.as_slice())?;
         Ok(DecryptWithoutChecksum {
-            plaintext: behind(self.filled, front),
+            plaintext: trailing(self.padded, prefix),
             confounder,
             checksum,
             ki,
@@ -112,14 +112,14 @@ impl Deciphered {
     }
 }
 
-/// The octets after the first `front`, moved to the beginning. It allocates nothing.
-pub(crate) fn behind(octets: Vec<u8>, front: usize) -> Vec<u8>
-    requires { front ≤ length octets.items }
-    ensures { result.items ≡ drop front octets.items }
+/// The octets after the first `prefix`, moved to the beginning. It allocates nothing.
+pub(crate) fn trailing(octets: Vec<u8>, prefix: usize) -> Vec<u8>
+    requires { prefix ≤ length octets.items }
+    ensures { result.items ≡ drop prefix octets.items }
 {
     let mut octets = octets;
-    let count = octets.len() - front;
-    octets.copy_within(front.., 0);
+    let count = octets.len() - prefix;
+    octets.copy_within(prefix.., 0);
     octets.truncate(count);
     octets
 }

@@ -3,7 +3,7 @@
 
 ghost use Rattle.std.specs.Prelude.{◌≡◌, ◌*◌, ◌<◌, ℕ, ℤ, List, length, take, drop};
 ghost use Rattle.std.specs.List.{All, Contains};
-ghost use Rattle.krb_crypto_block.specs.Modes.{IsFill};
+ghost use Rattle.krb_crypto_block.specs.Modes.{IsPadding};
 ghost use Rattle.krb_crypto_block.specs.declared.aes.AesSize.{AesSize};
 ghost use Rattle.krb_crypto_message.specs.AesSha2.{IsSealedSha2};
 ghost use Rattle.krb_crypto_message.specs.RandomToKey.{random_to_key, HasOddParity, weak_keys};
@@ -44,7 +44,7 @@ pub fn sha2_opens_what_was_sealed()
 pub fn des3_opens_what_was_sealed()
     ensures opened { (key : List ℕ) (usage : ℤ) (confounder payload octets opened : List ℕ) → length confounder ≡ 8
         → IsSealedDes3 key usage confounder payload octets
-        → Opens 8 (IsGiven (IsSealedDes3 key usage) 8 octets) opened → IsFill 8 payload opened }
+        → Opens 8 (IsGiven (IsSealedDes3 key usage) 8 octets) opened → IsPadding 8 payload opened }
     ensures kept { (key : List ℕ) (usage : ℤ) (confounder payload octets : List ℕ) → length confounder ≡ 8
         → IsSealedDes3 key usage confounder payload octets
         → ¬ (IsOfNone (IsGiven (IsSealedDes3 key usage) 8 octets)) }

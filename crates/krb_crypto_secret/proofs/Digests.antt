@@ -29,13 +29,13 @@ longer x n (suc k) size h =
     rw e (omega (arith, more, wide))
 
 -- more digests leave the prefix as it is
-pub same_front : (x : List ℕ) (size n k : ℕ) → size ≤ length (digests x n) → take size (digests x (n + k)) ≡ take size (digests x n)
+pub same_prefix : (x : List ℕ) (size n k : ℕ) → size ≤ length (digests x n) → take size (digests x (n + k)) ≡ take size (digests x n)
 unfolding digests
-same_front x size n zero h = let e : n + 0 ≡ n = omega arith in ap (λ j. take size (digests x j)) e
-same_front x size n (suc k) h =
+same_prefix x size n zero h = let e : n + 0 ≡ n = omega arith in ap (λ j. take size (digests x j)) e
+same_prefix x size n (suc k) h =
     let e : n + suc k ≡ suc (n + k) = omega arith in
     let wide : size ≤ length (digests x (n + k)) = longer x n k size h in
-    ap (λ j. take size (digests x j)) e ∙ take-append-le size (digests x (n + k)) (sha1 ((n + k) ∷ x)) wide ∙ same_front x size n k h
+    ap (λ j. take size (digests x j)) e ∙ take-append-le size (digests x (n + k)) (sha1 ((n + k) ∷ x)) wide ∙ same_prefix x size n k h
 
 -- at most 20 of 20 octets
 cut_so : (d : List ℕ) (kept m : ℕ) → length d ≡ 20 → kept ≡ min 20 m → take kept d ≡ take m d
@@ -45,16 +45,16 @@ cut_so d kept m ld e = elim (cases_lt m 20) [
 ]
 
 -- the prefix of the digests so far, and as much of the next as it still wants
-pub front_next : (size : ℕ) (a d front : List ℕ) (kept : ℕ) → length d ≡ 20 → front ≡ take size a → kept ≡ min 20 (size - length front) → front ++ take kept d ≡ take size (a ++ d)
-front_next size a d front kept ld e ek = elim (cases_lt (length a) size) [
+pub prefix_next : (size : ℕ) (a d prefix : List ℕ) (kept : ℕ) → length d ≡ 20 → prefix ≡ take size a → kept ≡ min 20 (size - length prefix) → prefix ++ take kept d ≡ take size (a ++ d)
+prefix_next size a d prefix kept ld e ek = elim (cases_lt (length a) size) [
   | inl lt ↦
-      let whole : front ≡ a = e ∙ take_all size a (omega (arith, lt)) in
-      let n : length front ≡ length a = ap length whole in
+      let whole : prefix ≡ a = e ∙ take_all size a (omega (arith, lt)) in
+      let n : length prefix ≡ length a = ap length whole in
       let at : size ≡ length a + (size - length a) = omega (arith, lt) in
       let same : take kept d ≡ take (size - length a) d = cut_so d kept (size - length a) ld (omega (arith, n, ek)) in
       ap (λ f. f ++ take kept d) whole ∙ ap (λ k. a ++ k) same ∙ sym (ap (λ j. take j (a ++ d)) at ∙ take-append-add a d (size - length a))
   | inr ge ↦
-      let n : length front ≡ size = ap length e ∙ length-take-le size a (omega (arith, ge)) in
+      let n : length prefix ≡ size = ap length e ∙ length-take-le size a (omega (arith, ge)) in
       let none : kept ≡ 0 = omega (arith, n, ek) in
-      ap (λ k. front ++ take k d) none ∙ append-nil front ∙ e ∙ sym (take-append-le size a d (omega (arith, ge)))
+      ap (λ k. prefix ++ take k d) none ∙ append-nil prefix ∙ e ∙ sym (take-append-le size a d (omega (arith, ge)))
 ]

@@ -72,7 +72,7 @@ pub fn generate_key_from_shared_secret(
         octets_to_key (key_of_seed cipher.now) (seed_bits cipher.now / 8) (dh_shared_secret.items ++ nonces nonce.entry)) }
     ensures size { IfOk result (λ key. length key.items ≡ key_octets cipher.now) }
     ensures long { 5120 < seed_bits cipher.now / 8 → result ≡ Err (DataLen (seed_bits cipher.now / 8) 5120) }
-    ensures refused { seed_bits cipher.now / 8 ≤ 5120 → IfErr result (λ e. e ≡ OutOfMemory) }
+    ensures rejected { seed_bits cipher.now / 8 ≤ 5120 → IfErr result (λ e. e ≡ OutOfMemory) }
 {
     let seed_len = cipher.seed_bit_len() / 8;
     if seed_len > LONGEST_SEED {
@@ -107,7 +107,7 @@ fn seed_of(
     requires { size ≤ 5120 }
     ensures seed { IfOk result (λ seed. seed.items ≡ take size (digests (secret.now ++ client_nonce.now ++ server_nonce.now) 256)) }
     ensures sized { IfOk result (λ seed. length seed.items ≡ size) }
-    ensures refused { IfErr result (λ e. e ≡ OutOfMemory) }
+    ensures rejected { IfErr result (λ e. e ≡ OutOfMemory) }
 {
     let mut seed = Vec::with_capacity(alloc, size)?;
     for i in 0..size.div_ceil(DIGEST_SIZE) {

@@ -1,7 +1,7 @@
 //! Encryption under a confounder that a generator gives.
 
 ghost use Rattle.std.specs.Prelude.{◌≡◌, ◌⊎◌, length, IfOk, IfErr, IsErrAnd};
-ghost use Rattle.krb_crypto_hash.specs.CryptoError.{RefusesKey};
+ghost use Rattle.krb_crypto_hash.specs.CryptoError.{RejectsKey};
 ghost use Rattle.krb_crypto_hash.specs.declared.error.KerberosCryptoError.TheVariants.{OutOfMemory};
 ghost use Rattle.krb_crypto_message.specs.Sealing.{IsTheOne};
 ghost use Rattle.rand_core.specs.Stream.{fill_bytes};
@@ -27,7 +27,7 @@ pub fn encrypt_with_rng<R: Rng>(
     ensures key { IfOk result (λ _. length key.now ≡ key_octets cipher.now) }
     ensures sealed { IfOk result (λ octets. IsTheOne
         (meaning cipher.now key.now key_usage (fill_bytes (confounder_octets cipher.now) (R.stream rng.old)).0 payload.now) octets.items) }
-    ensures refused { IfErr result (RefusesKey (key_octets cipher.now) key.now) }
+    ensures rejected { IfErr result (RejectsKey (key_octets cipher.now) key.now) }
     ensures stream { (R.stream rng.new ≡ (fill_bytes (confounder_octets cipher.now) (R.stream rng.old)).1)
         ⊎ (IsErrAnd result (λ e. e ≡ OutOfMemory) × (rng.new ≡ rng.old)) }
 {

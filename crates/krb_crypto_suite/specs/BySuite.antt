@@ -3,10 +3,10 @@ use Rattle.std.specs.Prelude.{ℕ, ℤ, List}
 use Rattle.krb_crypto_hash.specs.Hmac.{hmac}
 use Rattle.krb_crypto_hash.specs.declared.error.KerberosCryptoError.{KerberosCryptoError}
 use Rattle.krb_crypto_block.specs.declared.aes.AesSize.TheVariants.{Aes128, Aes256}
-use Rattle.krb_crypto_message.specs.AesSha2.{IsSealedSha2, IsSha2PasswordKey, sha2_ki, sha2_mac, sha2_refusal, sha2_sum}
+use Rattle.krb_crypto_message.specs.AesSha2.{IsSealedSha2, IsSha2PasswordKey, sha2_ki, sha2_mac, sha2_error, sha2_sum}
 use Rattle.krb_crypto_message.specs.Derive.{IsAesPasswordKey, IsDes3PasswordKey}
 use Rattle.krb_crypto_message.specs.RandomToKey.{random_to_key}
-use Rattle.krb_crypto_message.specs.Sealed.{IsSealedAes, aes_ki, aes_sum, mac_96, aes_refusal, IsSealedDes3, des3_ki, des3_sum, des3_refusal, IsNoDes3Password}
+use Rattle.krb_crypto_message.specs.Sealed.{IsSealedAes, aes_ki, aes_sum, mac_96, aes_error, IsSealedDes3, des3_ki, des3_sum, des3_error, IsNoDes3Password}
 use Rattle.krb_crypto_suite.specs.declared.cipher_suite.CipherSuite.{CipherSuite}
 use Rattle.krb_crypto_suite.specs.declared.cipher_suite.CipherSuite.TheVariants.{Aes128CtsHmacSha196, Aes256CtsHmacSha196, Des3CbcSha1Kd, Aes128CtsHmacSha256128, Aes256CtsHmacSha384192}
 use Rattle.krb_crypto_suite.specs.declared.checksum_suite.ChecksumSuite.{ChecksumSuite}
@@ -39,12 +39,12 @@ confounder_octets_of Aes128CtsHmacSha256128 = 16
 confounder_octets_of Aes256CtsHmacSha384192 = 16
 
 -- those to a multiple of which a payload is padded
-abbrev pub fill_octets_of : CipherSuite → ℕ
-fill_octets_of Aes128CtsHmacSha196 = 1
-fill_octets_of Aes256CtsHmacSha196 = 1
-fill_octets_of Des3CbcSha1Kd = 8
-fill_octets_of Aes128CtsHmacSha256128 = 1
-fill_octets_of Aes256CtsHmacSha384192 = 1
+abbrev pub padding_octets_of : CipherSuite → ℕ
+padding_octets_of Aes128CtsHmacSha196 = 1
+padding_octets_of Aes256CtsHmacSha196 = 1
+padding_octets_of Des3CbcSha1Kd = 8
+padding_octets_of Aes128CtsHmacSha256128 = 1
+padding_octets_of Aes256CtsHmacSha384192 = 1
 
 -- those of the checksum that is sealed in
 abbrev pub checksum_octets_of : CipherSuite → ℕ
@@ -93,12 +93,12 @@ IsPasswordKey Aes128CtsHmacSha256128 password salt key = IsSha2PasswordKey Aes12
 IsPasswordKey Aes256CtsHmacSha384192 password salt key = IsSha2PasswordKey Aes256 password salt key
 
 -- why octets are not opened under this key
-abbrev pub refusal_of : CipherSuite → List ℕ → List ℕ → KerberosCryptoError
-refusal_of Aes128CtsHmacSha196 key octets = aes_refusal 16 key octets
-refusal_of Aes256CtsHmacSha196 key octets = aes_refusal 32 key octets
-refusal_of Des3CbcSha1Kd key octets = des3_refusal key octets
-refusal_of Aes128CtsHmacSha256128 key octets = sha2_refusal Aes128 key octets
-refusal_of Aes256CtsHmacSha384192 key octets = sha2_refusal Aes256 key octets
+abbrev pub error_of : CipherSuite → List ℕ → List ℕ → KerberosCryptoError
+error_of Aes128CtsHmacSha196 key octets = aes_error 16 key octets
+error_of Aes256CtsHmacSha196 key octets = aes_error 32 key octets
+error_of Des3CbcSha1Kd key octets = des3_error key octets
+error_of Aes128CtsHmacSha256128 key octets = sha2_error Aes128 key octets
+error_of Aes256CtsHmacSha384192 key octets = sha2_error Aes256 key octets
 
 -- why a password and a salt give no key: under AES all do
 abbrev pub IsNoPassword : CipherSuite → List ℕ → List ℕ → KerberosCryptoError → Type 0

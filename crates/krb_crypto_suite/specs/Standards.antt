@@ -6,7 +6,7 @@ use Rattle.krb_crypto_block.specs.declared.aes.AesSize.{AesSize}
 use Rattle.krb_crypto_message.specs.AesSha2.{IsSealedSha2, IsSha2PasswordKey, sha2_ki, sha2_mac, sha2_sum}
 use Rattle.krb_crypto_message.specs.Derive.{IsAesPasswordKey, IsDes3PasswordKey}
 use Rattle.krb_crypto_message.specs.RandomToKey.{random_to_key}
-use Rattle.krb_crypto_message.specs.Sealed.{IsSealedAes, aes_ki, aes_sum, mac_96, aes_refusal, cts_refusal, IsSealedDes3, des3_ki, des3_sum, des3_refusal, IsNoDes3Password}
+use Rattle.krb_crypto_message.specs.Sealed.{IsSealedAes, aes_ki, aes_sum, mac_96, aes_error, cts_error, IsSealedDes3, des3_ki, des3_sum, des3_error, IsNoDes3Password}
 use Rattle.krb_crypto_suite.specs.Suites.{etype, checksum_type}
 use Rattle.krb_crypto_suite.specs.declared.cipher.Cipher.{Ghosts as CipherWords}
 use Rattle.krb_crypto_suite.specs.declared.checksum.Checksum.{Ghosts as ChecksumWords}
@@ -20,10 +20,10 @@ pub record IsAesSuite {S : Type 0} (words : CipherWords S) (suite : S) (size num
   pub key_octets : words.key_octets suite ≡ size
   pub seed_bits : words.seed_bits suite ≡ 8 * size
   pub confounder_octets : words.confounder_octets suite ≡ 16
-  pub fill_octets : words.fill_octets suite ≡ 1
+  pub padding_octets : words.padding_octets suite ≡ 1
   pub checksum_octets : words.checksum_octets suite ≡ 12
   pub meaning : (key : List ℕ) (usage : ℤ) (confounder payload octets : List ℕ) → words.meaning suite key usage confounder payload octets ↔ IsSealedAes key usage confounder payload octets
-  pub unopened : (key : List ℕ) (usage : ℤ) (octets : List ℕ) (e : KerberosCryptoError) → words.unopened suite key usage octets e ↔ e ≡ aes_refusal size key octets
+  pub unopened : (key : List ℕ) (usage : ℤ) (octets : List ℕ) (e : KerberosCryptoError) → words.unopened suite key usage octets e ↔ e ≡ aes_error size key octets
   pub integrity_key : (key : List ℕ) (usage : ℤ) → words.integrity_key suite key usage ≡ aes_ki key usage
   pub integrity_checksum : (key : List ℕ) (usage : ℤ) (message : List ℕ) → words.integrity_checksum suite key usage message ≡ mac_96 (aes_ki key usage) message
   pub key_of_seed : (seed : List ℕ) → words.key_of_seed suite seed ≡ seed
@@ -38,10 +38,10 @@ pub record IsAesSha2Suite {S : Type 0} (words : CipherWords S) (suite : S) (size
   pub key_octets : words.key_octets suite ≡ key_size
   pub seed_bits : words.seed_bits suite ≡ 8 * key_size
   pub confounder_octets : words.confounder_octets suite ≡ 16
-  pub fill_octets : words.fill_octets suite ≡ 1
+  pub padding_octets : words.padding_octets suite ≡ 1
   pub checksum_octets : words.checksum_octets suite ≡ checksum_size
   pub meaning : (key : List ℕ) (usage : ℤ) (confounder payload octets : List ℕ) → words.meaning suite key usage confounder payload octets ↔ IsSealedSha2 size key usage confounder payload octets
-  pub unopened : (key : List ℕ) (usage : ℤ) (octets : List ℕ) (e : KerberosCryptoError) → words.unopened suite key usage octets e ↔ e ≡ cts_refusal (16 + checksum_size) key_size key octets
+  pub unopened : (key : List ℕ) (usage : ℤ) (octets : List ℕ) (e : KerberosCryptoError) → words.unopened suite key usage octets e ↔ e ≡ cts_error (16 + checksum_size) key_size key octets
   pub integrity_key : (key : List ℕ) (usage : ℤ) → words.integrity_key suite key usage ≡ sha2_ki size key usage
   pub integrity_checksum : (key : List ℕ) (usage : ℤ) (message : List ℕ) → words.integrity_checksum suite key usage message ≡ sha2_mac size (sha2_ki size key usage) message
   pub key_of_seed : (seed : List ℕ) → words.key_of_seed suite seed ≡ seed
@@ -55,10 +55,10 @@ pub record IsDes3Suite {S : Type 0} (words : CipherWords S) (suite : S) : Type 0
   pub key_octets : words.key_octets suite ≡ 24
   pub seed_bits : words.seed_bits suite ≡ 168
   pub confounder_octets : words.confounder_octets suite ≡ 8
-  pub fill_octets : words.fill_octets suite ≡ 8
+  pub padding_octets : words.padding_octets suite ≡ 8
   pub checksum_octets : words.checksum_octets suite ≡ 20
   pub meaning : (key : List ℕ) (usage : ℤ) (confounder payload octets : List ℕ) → words.meaning suite key usage confounder payload octets ↔ IsSealedDes3 key usage confounder payload octets
-  pub unopened : (key : List ℕ) (usage : ℤ) (octets : List ℕ) (e : KerberosCryptoError) → words.unopened suite key usage octets e ↔ e ≡ des3_refusal key octets
+  pub unopened : (key : List ℕ) (usage : ℤ) (octets : List ℕ) (e : KerberosCryptoError) → words.unopened suite key usage octets e ↔ e ≡ des3_error key octets
   pub integrity_key : (key : List ℕ) (usage : ℤ) → words.integrity_key suite key usage ≡ des3_ki key usage
   pub integrity_checksum : (key : List ℕ) (usage : ℤ) (message : List ℕ) → words.integrity_checksum suite key usage message ≡ hmac (des3_ki key usage) message
   pub key_of_seed : (seed : List ℕ) → words.key_of_seed suite seed ≡ random_to_key seed

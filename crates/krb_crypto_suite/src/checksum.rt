@@ -1,7 +1,7 @@
 //! The trait of keyed checksums.
 
 ghost use Rattle.std.specs.Prelude.{◌≡◌, ℕ, ℤ, List, length, IfOk, IfErr};
-ghost use Rattle.krb_crypto_hash.specs.CryptoError.{RefusesKey};
+ghost use Rattle.krb_crypto_hash.specs.CryptoError.{RejectsKey};
 ghost use Rattle.krb_crypto_suite.specs.declared.checksum_suite.ChecksumSuite.{ChecksumSuite};
 
 use crate::checksum_suite::ChecksumSuite;
@@ -35,5 +35,5 @@ pub trait Checksum {
     ) -> KerberosCryptoResult<Vec<u8>>
         ensures key { IfOk result (λ _. length key.now ≡ key_octets self.now) }
         ensures checksum { IfOk result (λ checksum. checksum.items ≡ sum self.now key.now key_usage payload.now) }
-        ensures refused { IfErr result (RefusesKey (key_octets self.now) key.now) };
+        ensures rejected { IfErr result (RejectsKey (key_octets self.now) key.now) };
 }

@@ -1,10 +1,10 @@
 //! The trait of ciphers.
 
 ghost use Rattle.std.specs.Prelude.{◌≡◌, ◌≢◌, ℕ, ℤ, ◌<◌, ◌≤◌, ◌/◌, List, length, vec_len, MatchResult, IfOk, IfErr};
-ghost use Rattle.krb_crypto_hash.specs.CryptoError.{IsMemoryOr, RefusesKey};
+ghost use Rattle.krb_crypto_hash.specs.CryptoError.{IsMemoryOr, RejectsKey};
 ghost use Rattle.krb_crypto_hash.specs.declared.error.KerberosCryptoError.{KerberosCryptoError};
 ghost use Rattle.krb_crypto_hash.specs.declared.error.KerberosCryptoError.TheVariants.{OutOfMemory};
-ghost use Rattle.krb_crypto_message.specs.Sealing.{IsTheOne, IsOfNone, IsGiven, Opens, HasNoPayload, Enciphers, OpensUnchecked, HasNoPayloadUnchecked};
+ghost use Rattle.krb_crypto_message.specs.Sealing.{IsTheOne, IsOfNone, IsGiven, Opens, HasNoPayload, Encrypts, OpensUnchecked, HasNoPayloadUnchecked};
 ghost use Rattle.krb_crypto_suite.specs.declared.cipher_suite.CipherSuite.{CipherSuite};
 ghost use Rattle.krb_crypto_suite.specs.declared.checksum_suite.ChecksumSuite.{ChecksumSuite};
 
@@ -27,7 +27,7 @@ pub trait Cipher {
 
     ghost confounder_octets: { Self → ℕ };
 
-    ghost fill_octets: { Self → ℕ };
+    ghost padding_octets: { Self → ℕ };
 
     ghost checksum_octets: { Self → ℕ };
 
@@ -68,7 +68,7 @@ pub trait Cipher {
 
     /// The octets to a multiple of which a payload is padded with zeros, at least one.
     fn fill_size(&self) -> usize
-        ensures value { result ≡ fill_octets self.now }
+        ensures value { result ≡ padding_octets self.now }
         ensures positive { 0 < result };
 
     /// The suite whose number names the scheme in an EncryptedData.
@@ -93,7 +93,7 @@ pub trait Cipher {
         requires { length confounder.now ≡ confounder_octets self.now }
         ensures key { IfOk result (λ _. length key.now ≡ key_octets self.now) }
         ensures sealed { IfOk result (λ octets. IsTheOne (meaning self.now key.now key_usage confounder.now payload.now) octets.items) }
-        ensures refused { IfErr result (RefusesKey (key_octets self.now) key.now) };
+        ensures rejected { IfErr result (RejectsKey (key_octets self.now) key.now) };
 
     /// The payload that was encrypted to these octets, with the fewest zeros to a multiple of `fill_size` after it.
     ///
@@ -107,9 +107,9 @@ pub trait Cipher {
         cipher_data: &[u8],
     ) -> KerberosCryptoResult<Vec<u8>>
         ensures key { IfOk result (λ _. length key.now ≡ key_octets self.now) }
-        ensures opened { IfOk result (λ payload. Opens (fill_octets self.now)
+        ensures opened { IfOk result (λ payload. Opens (padding_octets self.now)
             (IsGiven (meaning self.now key.now key_usage) (confounder_octets self.now) cipher_data.now) payload.items) }
-        ensures refused { length key.now ≡ key_octets self.now
+        ensures rejected { length key.now ≡ key_octets self.now
             → IfErr result (λ e. IsMemoryOr e (HasNoPayload (meaning self.now key.now key_usage) (confounder_octets self.now) cipher_data.now)) }
         ensures exact { IfErr result (λ e. IsMemoryOr e (unopened self.now key.now key_usage cipher_data.now e)) };
 
@@ -125,10 +125,10 @@ pub trait Cipher {
         requires { length confounder.now ≡ confounder_octets self.now }
         ensures key { IfOk result (λ _. length key.now ≡ key_octets self.now) }
         ensures encrypted { IfOk result (λ made. IsTheOne
-            (Enciphers (meaning self.now key.now key_usage) (checksum_octets self.now) confounder.now payload.now) made.encrypted.items) }
+            (Encrypts (meaning self.now key.now key_usage) (checksum_octets self.now) confounder.now payload.now) made.encrypted.items) }
         ensures confounder { IfOk result (λ made. made.confounder.items ≡ confounder.now) }
         ensures ki { IfOk result (λ made. made.ki.items ≡ integrity_key self.now key.now key_usage) }
-        ensures refused { IfErr result (RefusesKey (key_octets self.now) key.now) };
+        ensures rejected { IfErr result (RejectsKey (key_octets self.now) key.now) };
 
     /// As `decrypt`, with the integrity checksum returned and not compared.
     ///
@@ -142,10 +142,10 @@ pub trait Cipher {
         cipher_data: &[u8],
     ) -> KerberosCryptoResult<DecryptWithoutChecksum>
         ensures key { IfOk result (λ _. length key.now ≡ key_octets self.now) }
-        ensures opened { IfOk result (λ made. OpensUnchecked (fill_octets self.now) (confounder_octets self.now) (checksum_octets self.now)
+        ensures opened { IfOk result (λ made. OpensUnchecked (padding_octets self.now) (confounder_octets self.now) (checksum_octets self.now)
             (meaning self.now key.now key_usage) cipher_data.now made.confounder.items made.plaintext.items made.checksum.items) }
         ensures ki { IfOk result (λ made. made.ki.items ≡ integrity_key self.now key.now key_usage) }
-        ensures refused { length key.now ≡ key_octets self.now → IfErr result (λ e. IsMemoryOr e
+        ensures rejected { length key.now ≡ key_octets self.now → IfErr result (λ e. IsMemoryOr e
             (HasNoPayloadUnchecked (confounder_octets self.now) (checksum_octets self.now) (meaning self.now key.now key_usage) cipher_data.now)) }
         ensures exact { IfErr result (λ e. IsMemoryOr e (unopened self.now key.now key_usage cipher_data.now e × (e ≢ KerberosCryptoError.IntegrityCheck))) };
 
@@ -164,7 +164,7 @@ pub trait Cipher {
     ) -> KerberosCryptoResult<Vec<u8>>
         ensures key { IfOk result (λ _. length key.now ≡ key_octets self.now) }
         ensures checksum { IfOk result (λ checksum. checksum.items ≡ integrity_checksum self.now key.now key_usage payload.now) }
-        ensures refused { IfErr result (RefusesKey (key_octets self.now) key.now) };
+        ensures rejected { IfErr result (RejectsKey (key_octets self.now) key.now) };
 
     /// The key that a password and a salt give (string-to-key). A password and a salt that give none are rejected.
     fn generate_key_from_password(
@@ -175,7 +175,7 @@ pub trait Cipher {
     ) -> KerberosCryptoResult<Vec<u8>>
         ensures size { IfOk result (λ key. length key.items ≡ key_octets self.now) }
         ensures made { IfOk result (λ key. IsTheOne (password_key self.now password.now salt.now) key.items) }
-        ensures refused { IfErr result (λ e. IsMemoryOr e (IsOfNone (password_key self.now password.now salt.now))) }
+        ensures rejected { IfErr result (λ e. IsMemoryOr e (IsOfNone (password_key self.now password.now salt.now))) }
         ensures exact { IfErr result (λ e. IsMemoryOr e (no_password_key self.now password.now salt.now e)) };
 
     /// The key that a seed gives (random-to-key). The seed has at least `seed_bit_len` / 8 octets; of just so many a

@@ -17,9 +17,9 @@ use std::alloc::Global;
 const AES_FILL_SIZE: usize = 1;
 
 impl Cipher for CipherSuite {
-    ghost use Rattle.krb_crypto_suite.specs.BySuite.{IsSealed, key_octets_of, confounder_octets_of, fill_octets_of, checksum_octets_of};
+    ghost use Rattle.krb_crypto_suite.specs.BySuite.{IsSealed, key_octets_of, confounder_octets_of, padding_octets_of, checksum_octets_of};
     ghost use Rattle.krb_crypto_suite.specs.BySuite.{integrity_key_of, integrity_checksum_of, seed_bits_of, key_of_seed_of};
-    ghost use Rattle.krb_crypto_suite.specs.BySuite.{IsPasswordKey, refusal_of, IsNoPassword, checksum_suite_of};
+    ghost use Rattle.krb_crypto_suite.specs.BySuite.{IsPasswordKey, error_of, IsNoPassword, checksum_suite_of};
 
     ghost meaning = { IsSealed };
 
@@ -27,7 +27,7 @@ impl Cipher for CipherSuite {
 
     ghost confounder_octets = { confounder_octets_of };
 
-    ghost fill_octets = { fill_octets_of };
+    ghost padding_octets = { padding_octets_of };
 
     ghost checksum_octets = { checksum_octets_of };
 
@@ -41,7 +41,7 @@ impl Cipher for CipherSuite {
 
     ghost password_key = { IsPasswordKey };
 
-    ghost unopened = { λ suite key _ octets e. e ≡ refusal_of suite key octets };
+    ghost unopened = { λ suite key _ octets e. e ≡ error_of suite key octets };
 
     ghost no_password_key = { IsNoPassword };
 

@@ -1,8 +1,8 @@
 pub mod WholeInput
 pub mod Rows
 pub mod FieldSteps
-pub mod FaultSteps
+pub mod ErrorSteps
 pub mod Streams
-pub mod ReaderFaults
+pub mod ReaderErrors
 pub mod Choices
 pub mod FieldNumbers

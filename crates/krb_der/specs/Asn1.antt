@@ -2,7 +2,7 @@
 use Rattle.std.specs.Prelude.{ℕ, ℤ, Bool, List, ◌+◌}
 use Rattle.std.specs.List.{flat_map}
 use Rattle.krb_der_core.specs.Tlv.{tlv}
-use Rattle.krb_der_core.specs.Leaf.{bool_content}
+use Rattle.krb_der_core.specs.Primitive.{bool_content}
 use Rattle.krb_der_core.specs.Integer.{shortest}
 use Rattle.krb_der_core.specs.BitString.{Bits, bits_content}
 use Rattle.krb_der_core.specs.GeneralizedTime.{Time, time_content}

@@ -16,7 +16,7 @@ IsChoice is_a is_b (inr v) = is_b v
 
 -- The first error of a choice of elements with the tags t and u: the tag is neither, or the error is that of the type with
 -- the tag.
-pub data ChoiceFault (t u : ℕ) (a b : ℕ → List ℕ → Asn1DerError → Type 0) (tag : ℕ) (content : List ℕ) : Asn1DerError → Type 0 where
-  neither : (tag ≡ t → ⊥) → (tag ≡ u → ⊥) → ChoiceFault t u a b tag content errors.InvalidData
-  of_first : (e : Asn1DerError) → tag ≡ t → a tag content e → ChoiceFault t u a b tag content e
-  of_second : (e : Asn1DerError) → tag ≡ u → b tag content e → ChoiceFault t u a b tag content e
+pub data ChoiceError (t u : ℕ) (a b : ℕ → List ℕ → Asn1DerError → Type 0) (tag : ℕ) (content : List ℕ) : Asn1DerError → Type 0 where
+  neither : (tag ≡ t → ⊥) → (tag ≡ u → ⊥) → ChoiceError t u a b tag content errors.InvalidData
+  of_first : (e : Asn1DerError) → tag ≡ t → a tag content e → ChoiceError t u a b tag content e
+  of_second : (e : Asn1DerError) → tag ≡ u → b tag content e → ChoiceError t u a b tag content e

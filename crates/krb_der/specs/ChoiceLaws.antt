@@ -4,9 +4,9 @@ use Rattle.krb_der_core.specs.Tlv.{tlv}
 use Rattle.krb_der_core.specs.Encoding.{IsElement, OneValue}
 use Rattle.krb_der_core.specs.TlvLaws.{tlv_apart}
 use Rattle.krb_der_core.specs.declared.error.Asn1DerError.{Asn1DerError}
-use Rattle.krb_der_core.specs.Faults.{FaultLaws}
+use Rattle.krb_der_core.specs.Errors.{ErrorLaws}
 use Rattle.krb_der.specs.Choice.{neither, of_first, of_second}
-use Rattle.krb_der.specs.Choice.{choice, IsChoice, ChoiceFault}
+use Rattle.krb_der.specs.Choice.{choice, IsChoice, ChoiceError}
 
 pub same_tags : (t u : ℕ) (c d : List ℕ) → tlv t c ≡ tlv u d → t ≡ u
 same_tags t u c d e = (tlv_apart t u c d [] [] (ap (λ (l : List ℕ). l ++ []) e)).tag
@@ -34,9 +34,9 @@ module _ {A B : Type 0} (t u : ℕ) (a : A → List ℕ) (b : B → List ℕ) wh
     pub choice_one_value : {E : Type 0} (held : E → A ⊎ B) → ((v w : E) → held v ≡ held w → v ≡ w) → OneValue (λ m. IsChoice is_a is_b (held m)) (λ m. choice (λ v. tlv t (a v)) (λ v. tlv u (b v)) (held m))
     choice_one_value held decides v w hv hw e = decides v w (same_held (held v) (held w) hv hw e)
 
-module _ {A B : Type 0} (t u : ℕ) (a : A → List ℕ) (b : B → List ℕ) (apart : t ≡ u → ⊥) (is_a : A → Type 0) (is_b : B → Type 0) (fault_a fault_b : ℕ → List ℕ → Asn1DerError → Type 0)
-    (laws_a : FaultLaws is_a (λ v. tlv t (a v)) fault_a) (laws_b : FaultLaws is_b (λ v. tlv u (b v)) fault_b) where
-  no_choice : (tag : ℕ) (content : List ℕ) (e : Asn1DerError) → length content < 2 ^ 64 → ChoiceFault t u fault_a fault_b tag content e → (m : A ⊎ B) → IsChoice is_a is_b m → tlv tag content ≡ choice (λ v. tlv t (a v)) (λ v. tlv u (b v)) m → ⊥
+module _ {A B : Type 0} (t u : ℕ) (a : A → List ℕ) (b : B → List ℕ) (apart : t ≡ u → ⊥) (is_a : A → Type 0) (is_b : B → Type 0) (error_a error_b : ℕ → List ℕ → Asn1DerError → Type 0)
+    (laws_a : ErrorLaws is_a (λ v. tlv t (a v)) error_a) (laws_b : ErrorLaws is_b (λ v. tlv u (b v)) error_b) where
+  no_choice : (tag : ℕ) (content : List ℕ) (e : Asn1DerError) → length content < 2 ^ 64 → ChoiceError t u error_a error_b tag content e → (m : A ⊎ B) → IsChoice is_a is_b m → tlv tag content ≡ choice (λ v. tlv t (a v)) (λ v. tlv u (b v)) m → ⊥
   no_choice tag content e lt (neither p q) (inl v) h k = p (same_tags tag t content (a v) k)
   no_choice tag content e lt (neither p q) (inr v) h k = q (same_tags tag u content (b v) k)
   no_choice tag content e lt (of_first d p f) (inl v) h k = laws_a.no_value tag content d lt f v h k
@@ -44,16 +44,16 @@ module _ {A B : Type 0} (t u : ℕ) (a : A → List ℕ) (b : B → List ℕ) (a
   no_choice tag content e lt (of_second d p f) (inl v) h k = apart (sym (same_tags tag t content (a v) k) ∙ p)
   no_choice tag content e lt (of_second d p f) (inr v) h k = laws_b.no_value tag content d lt f v h k
 
-  one_choice : (tag : ℕ) (content : List ℕ) (e d : Asn1DerError) → length content < 2 ^ 64 → ChoiceFault t u fault_a fault_b tag content e → ChoiceFault t u fault_a fault_b tag content d → e ≡ d
+  one_choice : (tag : ℕ) (content : List ℕ) (e d : Asn1DerError) → length content < 2 ^ 64 → ChoiceError t u error_a error_b tag content e → ChoiceError t u error_a error_b tag content d → e ≡ d
   one_choice tag content e d lt (neither p q) (neither r s) = refl
   one_choice tag content e d lt (neither p q) (of_first d2 r g) = absurd (p r)
   one_choice tag content e d lt (neither p q) (of_second d2 r g) = absurd (q r)
   one_choice tag content e d lt (of_first e2 p f) (neither r s) = absurd (r p)
-  one_choice tag content e d lt (of_first e2 p f) (of_first d2 r g) = laws_a.one_fault tag content e2 d2 lt f g
+  one_choice tag content e d lt (of_first e2 p f) (of_first d2 r g) = laws_a.one_error tag content e2 d2 lt f g
   one_choice tag content e d lt (of_first e2 p f) (of_second d2 r g) = absurd (apart (sym p ∙ r))
   one_choice tag content e d lt (of_second e2 p f) (neither r s) = absurd (s p)
   one_choice tag content e d lt (of_second e2 p f) (of_first d2 r g) = absurd (apart (sym r ∙ p))
-  one_choice tag content e d lt (of_second e2 p f) (of_second d2 r g) = laws_b.one_fault tag content e2 d2 lt f g
+  one_choice tag content e d lt (of_second e2 p f) (of_second d2 r g) = laws_b.one_error tag content e2 d2 lt f g
 
-  pub choice_fault_laws : {E : Type 0} (held : E → A ⊎ B) → FaultLaws (λ m. IsChoice is_a is_b (held m)) (λ m. choice (λ v. tlv t (a v)) (λ v. tlv u (b v)) (held m)) (ChoiceFault t u fault_a fault_b)
-  choice_fault_laws held = record { no_value = λ tag content e lt f m h k. no_choice tag content e lt f (held m) h k; one_fault = one_choice }
+  pub choice_error_laws : {E : Type 0} (held : E → A ⊎ B) → ErrorLaws (λ m. IsChoice is_a is_b (held m)) (λ m. choice (λ v. tlv t (a v)) (λ v. tlv u (b v)) (held m)) (ChoiceError t u error_a error_b)
+  choice_error_laws held = record { no_value = λ tag content e lt f m h k. no_choice tag content e lt f (held m) h k; one_error = one_choice }

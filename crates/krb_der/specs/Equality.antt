@@ -2,8 +2,8 @@
 use Rattle.std.specs.Prelude.{◌≡◌, ◌↔◌, Bool, IsTrue}
 
 -- the test is true for equal values and for no others
-abbrev pub TellsEqual : {A : Type 0} → (A → A → Bool) → Type 0
-TellsEqual {A} eq = (a b : A) → IsTrue (eq a b) ↔ (a ≡ b)
+abbrev pub DecidesEqual : {A : Type 0} → (A → A → Bool) → Type 0
+DecidesEqual {A} eq = (a b : A) → IsTrue (eq a b) ↔ (a ≡ b)
 
 -- a clone is the value again
 abbrev pub ClonesValue : {A : Type 0} → (A → A → Type 0) → Type 0

@@ -55,11 +55,11 @@ module _ {A : Type 0} (enc : A → List ℕ) (is_value : A → Type 0) (first : 
 
   module _ (one : OneValue is_value enc) where
     pub field_one_reading : OneReading (λ follow. Unit {0}) is_value enc
-    field_one_reading follow told v w x y hv hw hx hy e = field_apart enc is_value first element one v w x y hv hw e
+    field_one_reading follow is_apart v w x y hv hw hx hy e = field_apart enc is_value first element one v w x y hv hw e
 
     pub optional_one_reading : OneReading (λ follow. Apart first follow) (λ (v : Optional (Option A)). IfSome v.0 is_value) (λ v. optional enc v.0)
-    optional_one_reading follow told v w x y hv hw hx hy e =
-        let s = optional_apart enc is_value first follow element one told v.0 w.0 x y hv hw hx hy e in
+    optional_one_reading follow is_apart v w x y hv hw hx hy e =
+        let s = optional_apart enc is_value first follow element one is_apart v.0 w.0 x y hv hw hx hy e in
         (same_optional v w s.0, s.1)
 
 -- ---- fields after fields
@@ -68,22 +68,22 @@ module _ {A B : Type 0} (a_octets : A → List ℕ) (b_octets : B → List ℕ) 
   pub both_begins : BeginSo (λ (v : A × B). are_a v.0 × are_b v.1) (λ v. a_octets v.0 ++ b_octets v.1) (λ follow. a_begins (b_begins follow))
   both_begins follow v x h hx = rw append_assoc (a_so (b_begins follow) v.0 (b_octets v.1 ++ x) h.0 (b_so follow v.1 x h.1 hx))
 
-  pub both_one_reading : (a_told b_told : (ℕ → Bool) → Type 0) → OneReading a_told are_a a_octets → OneReading b_told are_b b_octets
-      → OneReading (λ follow. a_told (b_begins follow) × b_told follow) (λ (v : A × B). are_a v.0 × are_b v.1) (λ v. a_octets v.0 ++ b_octets v.1)
-  both_one_reading a_told b_told one_a one_b follow told v w x y hv hw hx hy e =
+  pub both_one_reading : (a_distinguished b_distinguished : (ℕ → Bool) → Type 0) → OneReading a_distinguished are_a a_octets → OneReading b_distinguished are_b b_octets
+      → OneReading (λ follow. a_distinguished (b_begins follow) × b_distinguished follow) (λ (v : A × B). are_a v.0 × are_b v.1) (λ v. a_octets v.0 ++ b_octets v.1)
+  both_one_reading a_distinguished b_distinguished one_a one_b follow is_apart v w x y hv hw hx hy e =
       let f : a_octets v.0 ++ (b_octets v.1 ++ x) ≡ a_octets w.0 ++ (b_octets w.1 ++ y) = sym (append_assoc (a_octets v.0) (b_octets v.1) x) ∙ e ∙ append_assoc (a_octets w.0) (b_octets w.1) y in
-      let s = one_a (b_begins follow) told.0 v.0 w.0 (b_octets v.1 ++ x) (b_octets w.1 ++ y) hv.0 hw.0 (b_so follow v.1 x hv.1 hx) (b_so follow w.1 y hw.1 hy) f in
-      let t = one_b follow told.1 v.1 w.1 x y hv.1 hw.1 hx hy s.1 in
+      let s = one_a (b_begins follow) is_apart.0 v.0 w.0 (b_octets v.1 ++ x) (b_octets w.1 ++ y) hv.0 hw.0 (b_so follow v.1 x hv.1 hx) (b_so follow w.1 y hw.1 hy) f in
+      let t = one_b follow is_apart.1 v.1 w.1 x y hv.1 hw.1 hx hy s.1 in
       (same_both v w s.0 t.0, t.1)
 
 -- ---- a whole sequence
 
 -- a sequence decides the struct that is made of its fields
 pub sequence_one_value : {A F : Type 0} (fields : A → F) (with_fields : F → A) → ((v : A) → with_fields (fields v) ≡ v)
-    → (told_apart : (ℕ → Bool) → Type 0) (are_values : F → Type 0) (octets : F → List ℕ) → OneReading told_apart are_values octets
-    → told_apart nothing
+    → (distinguished : (ℕ → Bool) → Type 0) (are_values : F → Type 0) (octets : F → List ℕ) → OneReading distinguished are_values octets
+    → distinguished nothing
     → OneValue (λ v. are_values (fields v)) (λ v. tlv 48 (octets (fields v)))
-sequence_one_value fields with_fields same told_apart are_values octets one told v w hv hw e =
+sequence_one_value fields with_fields same distinguished are_values octets one is_apart v w hv hw e =
     let k = tlv_same 48 48 (octets (fields v)) (octets (fields w)) e in
-    let s = one nothing told (fields v) (fields w) [] [] hv hw tt tt (ap (λ (l : List ℕ). l ++ []) k) in
+    let s = one nothing is_apart (fields v) (fields w) [] [] hv hw tt tt (ap (λ (l : List ℕ). l ++ []) k) in
     sym (same v) ∙ ap with_fields s.0 ∙ same w

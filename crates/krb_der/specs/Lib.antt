@@ -1,10 +1,10 @@
 pub use Rattle.krb_der_core.specs.Tlv
 pub use Rattle.krb_der_core.specs.Encoding
 pub use Rattle.krb_der_core.specs.Reading
-pub use Rattle.krb_der_core.specs.Faults
+pub use Rattle.krb_der_core.specs.Errors
 pub use Rattle.krb_der_core.specs.TlvLaws
-pub use Rattle.krb_der_core.specs.FaultLaws
-pub use Rattle.krb_der_core.specs.Leaf
+pub use Rattle.krb_der_core.specs.ErrorLaws
+pub use Rattle.krb_der_core.specs.Primitive
 pub use Rattle.krb_der_core.specs.BitString
 pub use Rattle.krb_der_core.specs.Integer
 pub use Rattle.krb_der_core.specs.GeneralizedTime
@@ -18,8 +18,8 @@ pub mod Asn1
 pub mod Equality
 pub mod EqualityLaws
 pub mod SequenceLaws
-pub mod FieldFaults
-pub mod FieldFaultLaws
+pub mod FieldErrors
+pub mod FieldErrorLaws
 pub mod Streaming
 pub mod Tags
 pub mod Choice

@@ -9,7 +9,7 @@ Answers r v = MatchResult r (λ w. w ≡ v) (λ e. e ≡ errors.OutOfMemory)
 
 -- the result is this error, unless an allocation fails
 abbrev pub FailsWith : {A : Type 0} → Result A Asn1DerError → Asn1DerError → Type 0
-FailsWith r fault = MatchResult r (λ w. ⊥) (λ e. (e ≡ fault) ⊎ (e ≡ errors.OutOfMemory))
+FailsWith r error = MatchResult r (λ w. ⊥) (λ e. (e ≡ error) ⊎ (e ≡ errors.OutOfMemory))
 
 -- the encoding of a value is read as that value
 abbrev pub ReadsValue : {A : Type 0} → (A → Type 0) → (A → List ℕ) → List ℕ → Result A Asn1DerError → Type 0
@@ -17,13 +17,13 @@ ReadsValue {A} is_value enc input r = (v : A) → is_value v → input ≡ enc v
 
 -- A proper prefix of an encoding is `TruncatedData`. The encoding has fewer than 2^64 octets: from there on the
 -- length octets are nine, and those of a proper prefix are rejected as a form that is not supported.
-abbrev pub TellsCut : {A : Type 0} → (A → Type 0) → (A → List ℕ) → List ℕ → Result A Asn1DerError → Type 0
-TellsCut {A} is_value enc input r =
+abbrev pub ReportsCut : {A : Type 0} → (A → Type 0) → (A → List ℕ) → List ℕ → Result A Asn1DerError → Type 0
+ReportsCut {A} is_value enc input r =
     (v : A) (rest : List ℕ) → is_value v → 0 < length rest → length (enc v) < 2 ^ 64 → enc v ≡ input ++ rest → FailsWith r errors.TruncatedData
 
 -- an encoding with trailing octets is `InvalidData`
-abbrev pub RefusesMore : {A : Type 0} → (A → Type 0) → (A → List ℕ) → List ℕ → Result A Asn1DerError → Type 0
-RefusesMore {A} is_value enc input r = (v : A) (rest : List ℕ) → is_value v → 0 < length rest → input ≡ enc v ++ rest → FailsWith r errors.InvalidData
+abbrev pub RejectsMore : {A : Type 0} → (A → Type 0) → (A → List ℕ) → List ℕ → Result A Asn1DerError → Type 0
+RejectsMore {A} is_value enc input r = (v : A) (rest : List ℕ) → is_value v → 0 < length rest → input ≡ enc v ++ rest → FailsWith r errors.InvalidData
 
 -- no reader or writer failed
 abbrev pub NoDevice : Asn1DerError → Type 0

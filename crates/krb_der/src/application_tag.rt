@@ -3,11 +3,11 @@
 ghost use Rattle.std.specs.Prelude.{◌≡◌, ◌==◌, ◌+◌, ◌≤◌, ◌&&◌, nat_le};
 ghost use Rattle.krb_der_core.specs.Tlv.{tlv};
 ghost use Rattle.krb_der_core.specs.TlvLaws.{tagged_one_value};
-ghost use Rattle.krb_der_core.specs.Faults.{TaggedFault, ValueFault};
-ghost use Rattle.krb_der.specs.FieldFaults.{NumberFault};
+ghost use Rattle.krb_der_core.specs.Errors.{TaggedError, ValueError};
+ghost use Rattle.krb_der.specs.FieldErrors.{NumberError};
 ghost use Rattle.krb_der.specs.ApplicationLaws.{application_element};
-ghost use Rattle.krb_der_core.specs.FaultLaws.{tagged_laws, value_laws};
-ghost use Rattle.krb_der.specs.FieldFaultLaws.{number_laws};
+ghost use Rattle.krb_der_core.specs.ErrorLaws.{tagged_laws, value_laws};
+ghost use Rattle.krb_der.specs.FieldErrorLaws.{number_laws};
 
 use crate::whole::{read_around, write_around};
 use krb_der_core::{Asn1DerError, Der, DerEncode, DerSequence};
@@ -42,12 +42,12 @@ impl<T: DerSequence, const N: u8> DerEncode for ApplicationTag<T, N> {
 
     ghost one_value = { λ v w hv hw e. tagged_one_value (96 + N) T.is_value T.enc T.one_value v w hv.0 hw.0 e };
 
-    ghost fault = { NumberFault N (TaggedFault (96 + N) (ValueFault T.is_value T.enc T.first T.fault)) };
+    ghost error = { NumberError N (TaggedError (96 + N) (ValueError T.is_value T.enc T.first T.error)) };
 
-    ghost fault_laws = { number_laws N T.is_value (λ v. tlv (96 + N) (T.enc v))
-        (TaggedFault (96 + N) (ValueFault T.is_value T.enc T.first T.fault))
-        (tagged_laws (96 + N) T.is_value T.enc (ValueFault T.is_value T.enc T.first T.fault)
-        (value_laws T.is_value T.enc T.first T.is_element T.fault T.fault_laws T.one_value)) };
+    ghost error_laws = { number_laws N T.is_value (λ v. tlv (96 + N) (T.enc v))
+        (TaggedError (96 + N) (ValueError T.is_value T.enc T.first T.error))
+        (tagged_laws (96 + N) T.is_value T.enc (ValueError T.is_value T.enc T.first T.error)
+        (value_laws T.is_value T.enc T.first T.is_element T.error T.error_laws T.one_value)) };
 
     fn starts(octet: u8) -> bool {
         N <= 30 && octet == 0x60 + N

@@ -50,7 +50,7 @@
 //!    ```
 //!
 //! 3. Implement `DerEncode`. `enc` is the ASN.1 text in the words of the table below, the fields in order, separated by
-//!    `++`. `write` names the fields. The last argument of `one_value` and of `fault_laws` has the shape of the tuple of
+//!    `++`. `write` names the fields. The last argument of `one_value` and of `error_laws` has the shape of the tuple of
 //!    fields: `tt` for a mandatory field, `only_tag TAG _ refl` for an optional one, where TAG is 160 plus the number of its
 //!    tag: the tag distinguishes the field from what follows. The other members are the same for every struct.
 //!
@@ -66,9 +66,9 @@
 //!
 //!        ghost one_value = { one_value_of ⟦<Self as Sequence>⟧ ⟦<<Self as Sequence>::Fields as Fields>⟧ (λ v. refl) (tt, only_tag 161 _ refl, tt) };
 //!
-//!        ghost fault = { sequence_fault ⟦<<Self as Sequence>::Fields as Fields>⟧ };
+//!        ghost error = { sequence_error ⟦<<Self as Sequence>::Fields as Fields>⟧ };
 //!
-//!        ghost fault_laws = { sequence_fault_laws ⟦<Self as Sequence>⟧ ⟦<<Self as Sequence>::Fields as Fields>⟧ (tt, only_tag 161 _ refl, tt) };
+//!        ghost error_laws = { sequence_error_laws ⟦<Self as Sequence>⟧ ⟦<<Self as Sequence>::Fields as Fields>⟧ (tt, only_tag 161 _ refl, tt) };
 //!
 //!        fn starts(octet: u8) -> bool {
 //!            octet == SEQUENCE
@@ -105,8 +105,8 @@
 //! ghost use Rattle.std.specs.Prelude.{◌==◌, ◌++◌, refl}; // with one field alone no ◌++◌
 //! ghost use Rattle.krb_der.specs.Asn1.{boolean, explicit, integer, octet_string, sequence}; // the words of `enc`
 //! ghost use Rattle.krb_der.specs.Encoding.{optional}; // only for fields that may be absent
-//! ghost use Rattle.krb_der.specs.FieldFaults.{sequence_fault};
-//! ghost use Rattle.krb_der.specs.FieldFaultLaws.{sequence_fault_laws};
+//! ghost use Rattle.krb_der.specs.FieldErrors.{sequence_error};
+//! ghost use Rattle.krb_der.specs.FieldErrorLaws.{sequence_error_laws};
 //! ghost use Rattle.krb_der.specs.SequenceLaws.{one_value_of, values_of};
 //! ghost use Rattle.krb_der.specs.TlvLaws.{only_tag, tagged_element}; // only_tag: only for fields that may be absent
 //!
@@ -144,7 +144,7 @@
 //! # One field; seven fields or more
 //!
 //! For one field, `Fields` is its type, without parentheses, and so are `fields`, `with_fields`, `from_fields` and the last
-//! argument of `one_value` and `fault_laws`: `λ v. v.name`, `λ f. record { name = f }`, `name: Self::Fields` and `tt`.
+//! argument of `one_value` and `error_laws`: `λ v. v.name`, `λ f. record { name = f }`, `name: Self::Fields` and `tt`.
 //!
 //! A tuple has up to six fields. Seven or more are grouped, as tuples in a tuple; `enc` and `field_refs!` have parentheses
 //! around each group. With `a` to `f` mandatory and `g [6]` optional:
@@ -162,7 +162,7 @@
 //!
 //! ghost one_value = { one_value_of .. (λ v. refl) ((tt, tt, tt, tt), (tt, tt, only_tag 166 _ refl)) };
 //!
-//! ghost fault_laws = { sequence_fault_laws .. ((tt, tt, tt, tt), (tt, tt, only_tag 166 _ refl)) };
+//! ghost error_laws = { sequence_error_laws .. ((tt, tt, tt, tt), (tt, tt, only_tag 166 _ refl)) };
 //!
 //! write_sequence(alloc, &field_refs!(self; (a, b, c, d), (e, f, g)), out)
 //! ```
@@ -177,11 +177,11 @@ pub use crate::sequence::{FieldRefs, Fields, SEQUENCE, Sequence, read_sequence, 
 macro_rules! field_refs {
     (@one $value:expr; ($($group:tt)+)) => { $crate::field_refs!($value; $($group)+) };
     (@one $value:expr; $name:ident) => { &$value.$name };
-    (@behind $value:expr; $fields:expr) => { $fields };
-    (@behind $value:expr; $fields:expr, $next:tt $(, $rest:tt)*) => {
-        $crate::field_refs!(@behind $value; ($fields, $crate::field_refs!(@one $value; $next)) $(, $rest)*)
+    (@trailing $value:expr; $fields:expr) => { $fields };
+    (@trailing $value:expr; $fields:expr, $next:tt $(, $rest:tt)*) => {
+        $crate::field_refs!(@trailing $value; ($fields, $crate::field_refs!(@one $value; $next)) $(, $rest)*)
     };
     ($value:expr; $first:tt $(, $rest:tt)*) => {
-        $crate::field_refs!(@behind $value; $crate::field_refs!(@one $value; $first) $(, $rest)*)
+        $crate::field_refs!(@trailing $value; $crate::field_refs!(@one $value; $first) $(, $rest)*)
     };
 }

@@ -3,8 +3,8 @@
 ghost use Rattle.std.specs.Prelude.{◌≡◌, ◌==◌, ◌+◌, ◌≤◌, ℕ, min};
 ghost use Rattle.krb_der_core.specs.Tlv.{tlv};
 ghost use Rattle.krb_der_core.specs.TlvLaws.{tagged_element, tagged_one_value};
-ghost use Rattle.krb_der_core.specs.Faults.{TaggedFault, ValueFault};
-ghost use Rattle.krb_der_core.specs.FaultLaws.{tagged_laws, value_laws};
+ghost use Rattle.krb_der_core.specs.Errors.{TaggedError, ValueError};
+ghost use Rattle.krb_der_core.specs.ErrorLaws.{tagged_laws, value_laws};
 
 use crate::whole::{read_around, write_around};
 use krb_der_core::{Asn1DerError, Der, DerEncode};
@@ -57,10 +57,10 @@ impl<T: DerEncode, N: TagNumber> DerEncode for ExplicitContextTag<T, N> {
 
     ghost one_value = { tagged_one_value (160 + N.number) T.is_value T.enc T.one_value };
 
-    ghost fault = { TaggedFault (160 + N.number) (ValueFault T.is_value T.enc T.first T.fault) };
+    ghost error = { TaggedError (160 + N.number) (ValueError T.is_value T.enc T.first T.error) };
 
-    ghost fault_laws = { tagged_laws (160 + N.number) T.is_value T.enc (ValueFault T.is_value T.enc T.first T.fault)
-        (value_laws T.is_value T.enc T.first T.is_element T.fault T.fault_laws T.one_value) };
+    ghost error_laws = { tagged_laws (160 + N.number) T.is_value T.enc (ValueError T.is_value T.enc T.first T.error)
+        (value_laws T.is_value T.enc T.first T.is_element T.error T.error_laws T.one_value) };
 
     fn starts(octet: u8) -> bool {
         octet == 0xa0 + N::get()

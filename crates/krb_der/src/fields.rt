@@ -5,10 +5,10 @@ ghost use Rattle.std.proofs.Common.{ap};
 ghost use Rattle.krb_der_core.specs.Tlv.{tlv};
 ghost use Rattle.krb_der_core.specs.TlvLaws.{tagged_element, tagged_one_value};
 ghost use Rattle.krb_der_core.specs.Encoding.{Apart, optional};
-ghost use Rattle.krb_der_core.specs.Faults.{FrontFault};
-ghost use Rattle.krb_der_core.specs.FaultLaws.{front_laws};
-ghost use Rattle.krb_der.specs.FieldFaults.{IsAbsent, OptionalFault, PairFault};
-ghost use Rattle.krb_der.specs.FieldFaultLaws.{optional_laws, optional_told, pair_laws, pair_told, regrouped_laws};
+ghost use Rattle.krb_der_core.specs.Errors.{PrefixError};
+ghost use Rattle.krb_der_core.specs.ErrorLaws.{prefix_laws};
+ghost use Rattle.krb_der.specs.FieldErrors.{IsAbsent, OptionalError, PairError};
+ghost use Rattle.krb_der.specs.FieldErrorLaws.{optional_laws, optional_distinguished, pair_laws, pair_distinguished, regrouped_laws};
 ghost use Rattle.krb_der.specs.FieldLaws.{field_begins, field_one_reading, optional_begins, optional_one_reading, both_begins, both_one_reading};
 
 use crate::context_tag::{ExplicitContextTag, TagNumber};
@@ -25,7 +25,7 @@ impl<T: Der + Drop, N: TagNumber> Fields for ExplicitContextTag<T, N> {
 
     ghost begins = { λ follow t. t == 160 + N.number };
 
-    ghost told_apart = { λ follow. Unit {0} };
+    ghost distinguished = { λ follow. Unit {0} };
 
     ghost begin_so = { field_begins (λ v. tlv (160 + N.number) (T.enc v)) T.is_value (λ t. t == 160 + N.number)
         (λ v h. tagged_element (160 + N.number) (T.enc v)) };
@@ -35,11 +35,11 @@ impl<T: Der + Drop, N: TagNumber> Fields for ExplicitContextTag<T, N> {
 
     ghost ends = { λ v rest. Unit {0} };
 
-    ghost fault = { FrontFault (λ t. t == 160 + N.number) ⟦<Self as DerEncode>⟧.fault };
+    ghost error = { PrefixError (λ t. t == 160 + N.number) ⟦<Self as DerEncode>⟧.error };
 
-    ghost fault_laws = { front_laws _ _ _ ⟦<Self as DerEncode>⟧.is_element _ ⟦<Self as DerEncode>⟧.fault_laws ⟦<Self as DerEncode>⟧.one_value };
+    ghost error_laws = { prefix_laws _ _ _ ⟦<Self as DerEncode>⟧.is_element _ ⟦<Self as DerEncode>⟧.error_laws ⟦<Self as DerEncode>⟧.one_value };
 
-    ghost told_ends = { λ follow told v x h hx. tt };
+    ghost distinguished_ends = { λ follow is_apart v x h hx. tt };
 
     fn read_fields(alloc: Global, input: &[u8]) -> Result<(Self, usize), Asn1DerError> {
         let (value, taken) = Self::read(alloc, input)?;
@@ -55,7 +55,7 @@ impl<T: Der + Drop> Fields for Optional<Option<T>> {
 
     ghost begins = { λ follow t. T.first t || follow t };
 
-    ghost told_apart = { λ follow. Apart T.first follow };
+    ghost distinguished = { λ follow. Apart T.first follow };
 
     ghost begin_so = { optional_begins T.enc T.is_value T.first T.is_element };
 
@@ -63,11 +63,11 @@ impl<T: Der + Drop> Fields for Optional<Option<T>> {
 
     ghost ends = { λ v rest. v.0 ≡ None → IsAbsent T.first rest };
 
-    ghost fault = { OptionalFault T.first T.fault };
+    ghost error = { OptionalError T.first T.error };
 
-    ghost fault_laws = { optional_laws T.enc T.is_value T.first T.is_element T.one_value T.fault T.fault_laws };
+    ghost error_laws = { optional_laws T.enc T.is_value T.first T.is_element T.one_value T.error T.error_laws };
 
-    ghost told_ends = { optional_told T.enc T.is_value T.first T.is_element };
+    ghost distinguished_ends = { optional_distinguished T.enc T.is_value T.first T.is_element };
 
     fn read_fields(alloc: Global, input: &[u8]) -> Result<(Self, usize), Asn1DerError> {
         if input.is_empty() || !T::starts(input[0]) {
@@ -86,21 +86,21 @@ impl<L: Fields + Drop, R: Fields> Fields for (L, R) {
 
     ghost begins = { λ follow. L.begins (R.begins follow) };
 
-    ghost told_apart = { λ follow. L.told_apart (R.begins follow) × R.told_apart follow };
+    ghost distinguished = { λ follow. L.distinguished (R.begins follow) × R.distinguished follow };
 
     ghost begin_so = { both_begins L.octets R.octets L.are_values R.are_values L.begins R.begins L.begin_so R.begin_so };
 
     ghost one_reading = { both_one_reading L.octets R.octets L.are_values R.are_values L.begins R.begins L.begin_so R.begin_so
-        L.told_apart R.told_apart L.one_reading R.one_reading };
+        L.distinguished R.distinguished L.one_reading R.one_reading };
 
     ghost ends = { λ v rest. L.ends v.0 (R.octets v.1 ++ rest) × R.ends v.1 rest };
 
-    ghost fault = { PairFault L.are_values L.octets L.ends L.fault R.fault };
+    ghost error = { PairError L.are_values L.octets L.ends L.error R.error };
 
-    ghost fault_laws = { pair_laws L.are_values L.octets L.ends L.fault L.fault_laws R.are_values R.octets R.ends R.fault R.fault_laws };
+    ghost error_laws = { pair_laws L.are_values L.octets L.ends L.error L.error_laws R.are_values R.octets R.ends R.error R.error_laws };
 
-    ghost told_ends = { pair_told L.are_values L.octets L.ends L.fault L.fault_laws R.are_values R.octets R.ends R.fault R.fault_laws
-        L.told_apart R.told_apart R.begins R.begin_so L.told_ends R.told_ends };
+    ghost distinguished_ends = { pair_distinguished L.are_values L.octets L.ends L.error L.error_laws R.are_values R.octets R.ends R.error R.error_laws
+        L.distinguished R.distinguished R.begins R.begin_so L.distinguished_ends R.distinguished_ends };
 
     fn read_fields(alloc: Global, input: &[u8]) -> Result<(Self, usize), Asn1DerError> {
         let (left, taken) = L::read_fields(alloc, input)?;
@@ -117,21 +117,21 @@ impl<A: Fields + Drop, B: Fields + Drop, C: Fields> Fields for (A, B, C) {
 
     ghost begins = { λ follow. A.begins (B.begins (C.begins follow)) };
 
-    ghost told_apart = { λ follow. A.told_apart (B.begins (C.begins follow)) × B.told_apart (C.begins follow) × C.told_apart follow };
+    ghost distinguished = { λ follow. A.distinguished (B.begins (C.begins follow)) × B.distinguished (C.begins follow) × C.distinguished follow };
 
     ghost begin_so = { λ follow v x h. ⟦<((A, B), C) as Fields>⟧.begin_so follow ((v.0, v.1), v.2) x ((h.0, h.1), h.2) };
 
-    ghost one_reading = { λ follow told v w x y hv hw hx hy e. let s = ⟦<((A, B), C) as Fields>⟧.one_reading follow
-        ((told.0, told.1), told.2) ((v.0, v.1), v.2) ((w.0, w.1), w.2) x y ((hv.0, hv.1), hv.2) ((hw.0, hw.1), hw.2) hx hy e
+    ghost one_reading = { λ follow is_apart v w x y hv hw hx hy e. let s = ⟦<((A, B), C) as Fields>⟧.one_reading follow
+        ((is_apart.0, is_apart.1), is_apart.2) ((v.0, v.1), v.2) ((w.0, w.1), w.2) x y ((hv.0, hv.1), hv.2) ((hw.0, hw.1), hw.2) hx hy e
         in (ap (λ p. (p.0.0, p.0.1, p.1)) s.0, s.1) };
 
     ghost ends = { λ v. ⟦<((A, B), C) as Fields>⟧.ends ((v.0, v.1), v.2) };
 
-    ghost fault = { ⟦<((A, B), C) as Fields>⟧.fault };
+    ghost error = { ⟦<((A, B), C) as Fields>⟧.error };
 
-    ghost fault_laws = { regrouped_laws (λ v. ((v.0, v.1), v.2)) _ _ _ _ _ ⟦<((A, B), C) as Fields>⟧.fault_laws (λ v h. ((h.0, h.1), h.2)) };
+    ghost error_laws = { regrouped_laws (λ v. ((v.0, v.1), v.2)) _ _ _ _ _ ⟦<((A, B), C) as Fields>⟧.error_laws (λ v h. ((h.0, h.1), h.2)) };
 
-    ghost told_ends = { λ follow told v x h hx. ⟦<((A, B), C) as Fields>⟧.told_ends follow ((told.0, told.1), told.2) ((v.0, v.1), v.2) x
+    ghost distinguished_ends = { λ follow is_apart v x h hx. ⟦<((A, B), C) as Fields>⟧.distinguished_ends follow ((is_apart.0, is_apart.1), is_apart.2) ((v.0, v.1), v.2) x
         ((h.0, h.1), h.2) hx };
 
     fn read_fields(alloc: Global, input: &[u8]) -> Result<(Self, usize), Asn1DerError> {
@@ -148,22 +148,22 @@ impl<A: Fields + Drop, B: Fields + Drop, C: Fields + Drop, D: Fields> Fields for
 
     ghost begins = { λ follow. A.begins (B.begins (C.begins (D.begins follow))) };
 
-    ghost told_apart = { λ follow. A.told_apart (B.begins (C.begins (D.begins follow))) × B.told_apart (C.begins (D.begins follow))
-        × C.told_apart (D.begins follow) × D.told_apart follow };
+    ghost distinguished = { λ follow. A.distinguished (B.begins (C.begins (D.begins follow))) × B.distinguished (C.begins (D.begins follow))
+        × C.distinguished (D.begins follow) × D.distinguished follow };
 
     ghost begin_so = { λ follow v x h. ⟦<((A, B, C), D) as Fields>⟧.begin_so follow ((v.0, v.1, v.2), v.3) x ((h.0, h.1, h.2), h.3) };
 
-    ghost one_reading = { λ follow told v w x y hv hw hx hy e. let s = ⟦<((A, B, C), D) as Fields>⟧.one_reading follow
-        ((told.0, told.1, told.2), told.3) ((v.0, v.1, v.2), v.3) ((w.0, w.1, w.2), w.3) x y ((hv.0, hv.1, hv.2), hv.3)
+    ghost one_reading = { λ follow is_apart v w x y hv hw hx hy e. let s = ⟦<((A, B, C), D) as Fields>⟧.one_reading follow
+        ((is_apart.0, is_apart.1, is_apart.2), is_apart.3) ((v.0, v.1, v.2), v.3) ((w.0, w.1, w.2), w.3) x y ((hv.0, hv.1, hv.2), hv.3)
         ((hw.0, hw.1, hw.2), hw.3) hx hy e in (ap (λ p. (p.0.0, p.0.1, p.0.2, p.1)) s.0, s.1) };
 
     ghost ends = { λ v. ⟦<((A, B, C), D) as Fields>⟧.ends ((v.0, v.1, v.2), v.3) };
 
-    ghost fault = { ⟦<((A, B, C), D) as Fields>⟧.fault };
+    ghost error = { ⟦<((A, B, C), D) as Fields>⟧.error };
 
-    ghost fault_laws = { regrouped_laws (λ v. ((v.0, v.1, v.2), v.3)) _ _ _ _ _ ⟦<((A, B, C), D) as Fields>⟧.fault_laws (λ v h. ((h.0, h.1, h.2), h.3)) };
+    ghost error_laws = { regrouped_laws (λ v. ((v.0, v.1, v.2), v.3)) _ _ _ _ _ ⟦<((A, B, C), D) as Fields>⟧.error_laws (λ v h. ((h.0, h.1, h.2), h.3)) };
 
-    ghost told_ends = { λ follow told v x h hx. ⟦<((A, B, C), D) as Fields>⟧.told_ends follow ((told.0, told.1, told.2), told.3)
+    ghost distinguished_ends = { λ follow is_apart v x h hx. ⟦<((A, B, C), D) as Fields>⟧.distinguished_ends follow ((is_apart.0, is_apart.1, is_apart.2), is_apart.3)
         ((v.0, v.1, v.2), v.3) x ((h.0, h.1, h.2), h.3) hx };
 
     fn read_fields(alloc: Global, input: &[u8]) -> Result<(Self, usize), Asn1DerError> {
@@ -181,25 +181,25 @@ impl<A: Fields + Drop, B: Fields + Drop, C: Fields + Drop, D: Fields + Drop, E: 
 
     ghost begins = { λ follow. A.begins (B.begins (C.begins (D.begins (E.begins follow)))) };
 
-    ghost told_apart = { λ follow. A.told_apart (B.begins (C.begins (D.begins (E.begins follow))))
-        × B.told_apart (C.begins (D.begins (E.begins follow))) × C.told_apart (D.begins (E.begins follow))
-        × D.told_apart (E.begins follow) × E.told_apart follow };
+    ghost distinguished = { λ follow. A.distinguished (B.begins (C.begins (D.begins (E.begins follow))))
+        × B.distinguished (C.begins (D.begins (E.begins follow))) × C.distinguished (D.begins (E.begins follow))
+        × D.distinguished (E.begins follow) × E.distinguished follow };
 
     ghost begin_so = { λ follow v x h. ⟦<((A, B, C, D), E) as Fields>⟧.begin_so follow ((v.0, v.1, v.2, v.3), v.4) x ((h.0, h.1, h.2, h.3), h.4) };
 
-    ghost one_reading = { λ follow told v w x y hv hw hx hy e. let s = ⟦<((A, B, C, D), E) as Fields>⟧.one_reading follow
-        ((told.0, told.1, told.2, told.3), told.4) ((v.0, v.1, v.2, v.3), v.4) ((w.0, w.1, w.2, w.3), w.4) x y
+    ghost one_reading = { λ follow is_apart v w x y hv hw hx hy e. let s = ⟦<((A, B, C, D), E) as Fields>⟧.one_reading follow
+        ((is_apart.0, is_apart.1, is_apart.2, is_apart.3), is_apart.4) ((v.0, v.1, v.2, v.3), v.4) ((w.0, w.1, w.2, w.3), w.4) x y
         ((hv.0, hv.1, hv.2, hv.3), hv.4) ((hw.0, hw.1, hw.2, hw.3), hw.4) hx hy e in (ap (λ p. (p.0.0, p.0.1, p.0.2, p.0.3, p.1)) s.0, s.1) };
 
     ghost ends = { λ v. ⟦<((A, B, C, D), E) as Fields>⟧.ends ((v.0, v.1, v.2, v.3), v.4) };
 
-    ghost fault = { ⟦<((A, B, C, D), E) as Fields>⟧.fault };
+    ghost error = { ⟦<((A, B, C, D), E) as Fields>⟧.error };
 
-    ghost fault_laws = { regrouped_laws (λ v. ((v.0, v.1, v.2, v.3), v.4)) _ _ _ _ _
-        ⟦<((A, B, C, D), E) as Fields>⟧.fault_laws (λ v h. ((h.0, h.1, h.2, h.3), h.4)) };
+    ghost error_laws = { regrouped_laws (λ v. ((v.0, v.1, v.2, v.3), v.4)) _ _ _ _ _
+        ⟦<((A, B, C, D), E) as Fields>⟧.error_laws (λ v h. ((h.0, h.1, h.2, h.3), h.4)) };
 
-    ghost told_ends = { λ follow told v x h hx. ⟦<((A, B, C, D), E) as Fields>⟧.told_ends follow
-        ((told.0, told.1, told.2, told.3), told.4) ((v.0, v.1, v.2, v.3), v.4) x ((h.0, h.1, h.2, h.3), h.4) hx };
+    ghost distinguished_ends = { λ follow is_apart v x h hx. ⟦<((A, B, C, D), E) as Fields>⟧.distinguished_ends follow
+        ((is_apart.0, is_apart.1, is_apart.2, is_apart.3), is_apart.4) ((v.0, v.1, v.2, v.3), v.4) x ((h.0, h.1, h.2, h.3), h.4) hx };
 
     fn read_fields(alloc: Global, input: &[u8]) -> Result<(Self, usize), Asn1DerError> {
         let (((a, b, c, d), e), taken) = <((A, B, C, D), E)>::read_fields(alloc, input)?;
@@ -222,26 +222,26 @@ impl<
 
     ghost begins = { λ follow. A.begins (B.begins (C.begins (D.begins (E.begins (F.begins follow))))) };
 
-    ghost told_apart = { λ follow. A.told_apart (B.begins (C.begins (D.begins (E.begins (F.begins follow)))))
-        × B.told_apart (C.begins (D.begins (E.begins (F.begins follow)))) × C.told_apart (D.begins (E.begins (F.begins follow)))
-        × D.told_apart (E.begins (F.begins follow)) × E.told_apart (F.begins follow) × F.told_apart follow };
+    ghost distinguished = { λ follow. A.distinguished (B.begins (C.begins (D.begins (E.begins (F.begins follow)))))
+        × B.distinguished (C.begins (D.begins (E.begins (F.begins follow)))) × C.distinguished (D.begins (E.begins (F.begins follow)))
+        × D.distinguished (E.begins (F.begins follow)) × E.distinguished (F.begins follow) × F.distinguished follow };
 
     ghost begin_so = { λ follow v x h. ⟦<((A, B, C, D, E), F) as Fields>⟧.begin_so follow ((v.0, v.1, v.2, v.3, v.4), v.5) x ((h.0, h.1, h.2, h.3, h.4), h.5) };
 
-    ghost one_reading = { λ follow told v w x y hv hw hx hy e. let s = ⟦<((A, B, C, D, E), F) as Fields>⟧.one_reading follow
-        ((told.0, told.1, told.2, told.3, told.4), told.5) ((v.0, v.1, v.2, v.3, v.4), v.5) ((w.0, w.1, w.2, w.3, w.4), w.5) x y
+    ghost one_reading = { λ follow is_apart v w x y hv hw hx hy e. let s = ⟦<((A, B, C, D, E), F) as Fields>⟧.one_reading follow
+        ((is_apart.0, is_apart.1, is_apart.2, is_apart.3, is_apart.4), is_apart.5) ((v.0, v.1, v.2, v.3, v.4), v.5) ((w.0, w.1, w.2, w.3, w.4), w.5) x y
         ((hv.0, hv.1, hv.2, hv.3, hv.4), hv.5) ((hw.0, hw.1, hw.2, hw.3, hw.4), hw.5) hx hy e
         in (ap (λ p. (p.0.0, p.0.1, p.0.2, p.0.3, p.0.4, p.1)) s.0, s.1) };
 
     ghost ends = { λ v. ⟦<((A, B, C, D, E), F) as Fields>⟧.ends ((v.0, v.1, v.2, v.3, v.4), v.5) };
 
-    ghost fault = { ⟦<((A, B, C, D, E), F) as Fields>⟧.fault };
+    ghost error = { ⟦<((A, B, C, D, E), F) as Fields>⟧.error };
 
-    ghost fault_laws = { regrouped_laws (λ v. ((v.0, v.1, v.2, v.3, v.4), v.5)) _ _ _ _ _
-        ⟦<((A, B, C, D, E), F) as Fields>⟧.fault_laws (λ v h. ((h.0, h.1, h.2, h.3, h.4), h.5)) };
+    ghost error_laws = { regrouped_laws (λ v. ((v.0, v.1, v.2, v.3, v.4), v.5)) _ _ _ _ _
+        ⟦<((A, B, C, D, E), F) as Fields>⟧.error_laws (λ v h. ((h.0, h.1, h.2, h.3, h.4), h.5)) };
 
-    ghost told_ends = { λ follow told v x h hx. ⟦<((A, B, C, D, E), F) as Fields>⟧.told_ends follow
-        ((told.0, told.1, told.2, told.3, told.4), told.5) ((v.0, v.1, v.2, v.3, v.4), v.5) x ((h.0, h.1, h.2, h.3, h.4), h.5) hx };
+    ghost distinguished_ends = { λ follow is_apart v x h hx. ⟦<((A, B, C, D, E), F) as Fields>⟧.distinguished_ends follow
+        ((is_apart.0, is_apart.1, is_apart.2, is_apart.3, is_apart.4), is_apart.5) ((v.0, v.1, v.2, v.3, v.4), v.5) x ((h.0, h.1, h.2, h.3, h.4), h.5) hx };
 
     fn read_fields(alloc: Global, input: &[u8]) -> Result<(Self, usize), Asn1DerError> {
         let (((a, b, c, d, e), f), taken) = <((A, B, C, D, E), F)>::read_fields(alloc, input)?;

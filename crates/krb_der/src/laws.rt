@@ -6,14 +6,14 @@ ghost use Rattle.std.specs.List.{flat_map};
 ghost use Rattle.krb_der_core.specs.Tlv.{tlv};
 ghost use Rattle.krb_der_core.specs.declared.error.Asn1DerError.{Asn1DerError};
 ghost use Rattle.krb_der_core.specs.Encoding.{Apart, BeginsWith, IsOctets, optional};
-ghost use Rattle.krb_der_core.specs.Faults.{FrontFault, LeafFault, RowFault, TaggedFault, ValueFault};
-ghost use Rattle.krb_der_core.specs.Leaf.{bool_content};
+ghost use Rattle.krb_der_core.specs.Errors.{PrefixError, PrimitiveError, RowError, TaggedError, ValueError};
+ghost use Rattle.krb_der_core.specs.Primitive.{bool_content};
 ghost use Rattle.krb_der_core.specs.Integer.{shortest};
 ghost use Rattle.krb_der_core.specs.BitString.{Bits, IsBits};
 ghost use Rattle.krb_der_core.specs.GeneralizedTime.{IsRealTime, Time, time_content};
-ghost use Rattle.krb_der.specs.FieldFaults.{IsAbsent, LastFault, OptionalFault};
+ghost use Rattle.krb_der.specs.FieldErrors.{IsAbsent, LastError, OptionalError};
 ghost use Rattle.krb_der.specs.declared.optional.Optional.{Optional as OptionalOf};
-ghost use Rattle.krb_der.specs.Equality.{ClonesValue, TellsEqual};
+ghost use Rattle.krb_der.specs.Equality.{ClonesValue, DecidesEqual};
 ghost use Rattle.krb_der.specs.Tags.{HasTag};
 
 use crate::application_tag::ApplicationTag;
@@ -35,7 +35,7 @@ use krb_der_core::{
 ///
 /// `element` is of one tag, length and content (X.690, 8.1.1) and a rest; `field` of a mandatory field and a rest;
 /// `optional` of an optional field and a rest that begins with none of the field's first octets.
-pub fn joined_encodings<T: DerEncode>()
+pub fn concatenated_encodings<T: DerEncode>()
     ensures element { (t u : ℕ) (c d x y : List ℕ) → tlv t c ++ x ≡ tlv u d ++ y → (t ≡ u) × (c ≡ d) × (x ≡ y) }
     ensures field { (v w : T) (x y : List ℕ) → T.is_value v → T.is_value w → T.enc v ++ x ≡ T.enc w ++ y → (v ≡ w) × (x ≡ y) }
     ensures optional { (begins : ℕ → Bool) → Apart T.first begins
@@ -44,7 +44,7 @@ pub fn joined_encodings<T: DerEncode>()
 {}
 
 /// The tag and the content of each primitive type (X.690, 8.2, 8.3, 8.6, 8.7, 8.23 and 8.25).
-pub fn leaf_encodings()
+pub fn primitive_encodings()
     ensures boolean { (v : Bool) → ⟦<bool as DerEncode>⟧.enc v ≡ tlv 1 (bool_content v) }
     ensures integer { (v : ℤ) → ⟦<IntegerAsn1 as DerEncode>⟧.enc v ≡ tlv 2 (shortest v) }
     ensures number { (v : ℕ) → ⟦<u32 as DerEncode>⟧.enc v ≡ tlv 2 (shortest (pos v)) }
@@ -89,38 +89,38 @@ pub fn context_tags<T: DerEncode>()
 
 /// The first error of octets: there is at most one, and none where the octets are a value's encoding.
 ///
-/// `front` and `read` are about a prefix of the octets, as `Der::read` takes it, `all` and `whole` about all of them, as `from_bytes`
+/// `prefix` and `read` are about a prefix of the octets, as `Der::read` takes it, `all` and `whole` about all of them, as `from_bytes`
 /// does. Octets have fewer than 2^64 octets, as those of any slice.
-pub fn first_fault<T: DerEncode>()
-    ensures front { (octets : List ℕ) (e d : Asn1DerError) → length octets < 2 ^ 64 → FrontFault T.first T.fault octets e
-        → FrontFault T.first T.fault octets d → e ≡ d }
+pub fn first_error<T: DerEncode>()
+    ensures prefix { (octets : List ℕ) (e d : Asn1DerError) → length octets < 2 ^ 64 → PrefixError T.first T.error octets e
+        → PrefixError T.first T.error octets d → e ≡ d }
     ensures read { (octets : List ℕ) (e : Asn1DerError) (v : T) (rest : List ℕ) → length octets < 2 ^ 64
-        → FrontFault T.first T.fault octets e → T.is_value v → octets ≡ T.enc v ++ rest → ⊥ }
-    ensures all { (octets : List ℕ) (e d : Asn1DerError) → length octets < 2 ^ 64 → ValueFault T.is_value T.enc T.first T.fault octets e
-        → ValueFault T.is_value T.enc T.first T.fault octets d → e ≡ d }
+        → PrefixError T.first T.error octets e → T.is_value v → octets ≡ T.enc v ++ rest → ⊥ }
+    ensures all { (octets : List ℕ) (e d : Asn1DerError) → length octets < 2 ^ 64 → ValueError T.is_value T.enc T.first T.error octets e
+        → ValueError T.is_value T.enc T.first T.error octets d → e ≡ d }
     ensures whole { (octets : List ℕ) (e : Asn1DerError) (v : T) → length octets < 2 ^ 64
-        → ValueFault T.is_value T.enc T.first T.fault octets e → T.is_value v → octets ≡ T.enc v → ⊥ }
+        → ValueError T.is_value T.enc T.first T.error octets e → T.is_value v → octets ≡ T.enc v → ⊥ }
 {}
 
 /// The error of a primitive type: an element with another tag, or with a content that no value has, is `InvalidData`. Its
 /// encodings begin with the tag, and with no other octet (X.690, 8.1.2).
-pub fn leaf_faults()
-    ensures boolean { (t : ℕ) (content : List ℕ) (e : Asn1DerError) → ⟦<bool as DerEncode>⟧.fault t content e
-        ↔ LeafFault 1 (λ (v : Bool). Unit {0}) bool_content t content e }
-    ensures integer { (t : ℕ) (content : List ℕ) (e : Asn1DerError) → ⟦<IntegerAsn1 as DerEncode>⟧.fault t content e
-        ↔ LeafFault 2 (λ (v : ℤ). Unit {0}) shortest t content e }
-    ensures number { (t : ℕ) (content : List ℕ) (e : Asn1DerError) → ⟦<u32 as DerEncode>⟧.fault t content e
-        ↔ LeafFault 2 (λ (v : ℕ). v < 2 ^ 32) (λ v. shortest (pos v)) t content e }
-    ensures bit_string { (t : ℕ) (content : List ℕ) (e : Asn1DerError) → ⟦<BitStringAsn1 as DerEncode>⟧.fault t content e
-        ↔ LeafFault 3 IsBits (λ (v : Bits). v.spare ∷ v.octets) t content e }
-    ensures octet_string { (t : ℕ) (content : List ℕ) (e : Asn1DerError) → ⟦<OctetStringAsn1 as DerEncode>⟧.fault t content e
-        ↔ LeafFault 4 IsOctets (λ (v : List ℕ). v) t content e }
-    ensures utf8_string { (t : ℕ) (content : List ℕ) (e : Asn1DerError) → ⟦<Utf8StringAsn1 as DerEncode>⟧.fault t content e
-        ↔ LeafFault 12 IsUtf8 (λ (v : List ℕ). v) t content e }
-    ensures generalized_time { (t : ℕ) (content : List ℕ) (e : Asn1DerError) → ⟦<GeneralizedTimeAsn1 as DerEncode>⟧.fault t content e
-        ↔ LeafFault 24 IsRealTime time_content t content e }
-    ensures general_string { (t : ℕ) (content : List ℕ) (e : Asn1DerError) → ⟦<GeneralStringAsn1 as DerEncode>⟧.fault t content e
-        ↔ LeafFault 27 IsAscii (λ (v : List ℕ). v) t content e }
+pub fn primitive_errors()
+    ensures boolean { (t : ℕ) (content : List ℕ) (e : Asn1DerError) → ⟦<bool as DerEncode>⟧.error t content e
+        ↔ PrimitiveError 1 (λ (v : Bool). Unit {0}) bool_content t content e }
+    ensures integer { (t : ℕ) (content : List ℕ) (e : Asn1DerError) → ⟦<IntegerAsn1 as DerEncode>⟧.error t content e
+        ↔ PrimitiveError 2 (λ (v : ℤ). Unit {0}) shortest t content e }
+    ensures number { (t : ℕ) (content : List ℕ) (e : Asn1DerError) → ⟦<u32 as DerEncode>⟧.error t content e
+        ↔ PrimitiveError 2 (λ (v : ℕ). v < 2 ^ 32) (λ v. shortest (pos v)) t content e }
+    ensures bit_string { (t : ℕ) (content : List ℕ) (e : Asn1DerError) → ⟦<BitStringAsn1 as DerEncode>⟧.error t content e
+        ↔ PrimitiveError 3 IsBits (λ (v : Bits). v.spare ∷ v.octets) t content e }
+    ensures octet_string { (t : ℕ) (content : List ℕ) (e : Asn1DerError) → ⟦<OctetStringAsn1 as DerEncode>⟧.error t content e
+        ↔ PrimitiveError 4 IsOctets (λ (v : List ℕ). v) t content e }
+    ensures utf8_string { (t : ℕ) (content : List ℕ) (e : Asn1DerError) → ⟦<Utf8StringAsn1 as DerEncode>⟧.error t content e
+        ↔ PrimitiveError 12 IsUtf8 (λ (v : List ℕ). v) t content e }
+    ensures generalized_time { (t : ℕ) (content : List ℕ) (e : Asn1DerError) → ⟦<GeneralizedTimeAsn1 as DerEncode>⟧.error t content e
+        ↔ PrimitiveError 24 IsRealTime time_content t content e }
+    ensures general_string { (t : ℕ) (content : List ℕ) (e : Asn1DerError) → ⟦<GeneralStringAsn1 as DerEncode>⟧.error t content e
+        ↔ PrimitiveError 27 IsAscii (λ (v : List ℕ). v) t content e }
     ensures boolean_tag { HasTag 1 ⟦<bool as DerEncode>⟧.first }
     ensures integer_tag { HasTag 2 ⟦<IntegerAsn1 as DerEncode>⟧.first }
     ensures number_tag { HasTag 2 ⟦<u32 as DerEncode>⟧.first }
@@ -133,32 +133,32 @@ pub fn leaf_faults()
 
 /// The error of a wrapper of values of T: first that of the tag, then that of the content, from the left. Its
 /// encodings begin with the tag, and with no other octet (X.690, 8.1.2).
-pub fn composite_faults<T: DerEncode, const N: u8>()
-    ensures sequence_of { (t : ℕ) (content : List ℕ) (e : Asn1DerError) → ⟦<Asn1SequenceOf<T> as DerEncode>⟧.fault t content e
-        ↔ TaggedFault 48 (RowFault T.is_value T.enc (FrontFault T.first T.fault)) t content e }
+pub fn composite_errors<T: DerEncode, const N: u8>()
+    ensures sequence_of { (t : ℕ) (content : List ℕ) (e : Asn1DerError) → ⟦<Asn1SequenceOf<T> as DerEncode>⟧.error t content e
+        ↔ TaggedError 48 (RowError T.is_value T.enc (PrefixError T.first T.error)) t content e }
     ensures explicit { N ≤ 30 → (t : ℕ) (content : List ℕ) (e : Asn1DerError)
-        → ⟦<ExplicitContextTag<T, Number<N>> as DerEncode>⟧.fault t content e
-        ↔ TaggedFault (160 + N) (ValueFault T.is_value T.enc T.first T.fault) t content e }
+        → ⟦<ExplicitContextTag<T, Number<N>> as DerEncode>⟧.error t content e
+        ↔ TaggedError (160 + N) (ValueError T.is_value T.enc T.first T.error) t content e }
     ensures sequence_of_tag { HasTag 48 ⟦<Asn1SequenceOf<T> as DerEncode>⟧.first }
     ensures explicit_tag { N ≤ 30 → HasTag (160 + N) ⟦<ExplicitContextTag<T, Number<N>> as DerEncode>⟧.first }
 {}
 
 /// The error of a sequence under an application tag, and the one octet with which its encodings begin.
-pub fn application_fault<T: DerSequence, const N: u8>()
+pub fn application_error<T: DerSequence, const N: u8>()
     ensures tag { N ≤ 30 → HasTag (96 + N) ⟦<ApplicationTag<T, N> as DerEncode>⟧.first }
-    ensures fault { N ≤ 30 → (t : ℕ) (content : List ℕ) (e : Asn1DerError) → ⟦<ApplicationTag<T, N> as DerEncode>⟧.fault t content e
-        ↔ TaggedFault (96 + N) (ValueFault T.is_value T.enc T.first T.fault) t content e }
+    ensures error { N ≤ 30 → (t : ℕ) (content : List ℕ) (e : Asn1DerError) → ⟦<ApplicationTag<T, N> as DerEncode>⟧.error t content e
+        ↔ TaggedError (96 + N) (ValueError T.is_value T.enc T.first T.error) t content e }
 {}
 
 /// The first error of a field of a sequence (X.690, 8.9 and 8.14), and where the field ends.
 ///
 /// A mandatory field is under its tag, and ends with its octets. An optional field is present where the octets begin as its
 /// encodings do, and absent elsewhere: with it and what may follow, octets begin as one or the other does.
-pub fn field_faults<T: Der + Drop, const N: u8>()
-    ensures mandatory { N ≤ 30 → (octets : List ℕ) (e : Asn1DerError) → ⟦<ExplicitContextTag<T, Number<N>> as Fields>⟧.fault octets e
-        ↔ FrontFault (λ t. t == 160 + N) (TaggedFault (160 + N) (ValueFault T.is_value T.enc T.first T.fault)) octets e }
+pub fn field_errors<T: Der + Drop, const N: u8>()
+    ensures mandatory { N ≤ 30 → (octets : List ℕ) (e : Asn1DerError) → ⟦<ExplicitContextTag<T, Number<N>> as Fields>⟧.error octets e
+        ↔ PrefixError (λ t. t == 160 + N) (TaggedError (160 + N) (ValueError T.is_value T.enc T.first T.error)) octets e }
     ensures mandatory_ends { (v : T) (rest : List ℕ) → ⟦<ExplicitContextTag<T, Number<N>> as Fields>⟧.ends v rest }
-    ensures optional { (octets : List ℕ) (e : Asn1DerError) → ⟦<Optional<Option<T>> as Fields>⟧.fault octets e ↔ OptionalFault T.first T.fault octets e }
+    ensures optional { (octets : List ℕ) (e : Asn1DerError) → ⟦<Optional<Option<T>> as Fields>⟧.error octets e ↔ OptionalError T.first T.error octets e }
     ensures optional_ends { (v : OptionalOf (Option T)) (rest : List ℕ) → ⟦<Optional<Option<T>> as Fields>⟧.ends v rest ↔ (v.0 ≡ None → IsAbsent T.first rest) }
     ensures mandatory_begins { N ≤ 30 → (follow : ℕ → Bool) → HasTag (160 + N) (⟦<ExplicitContextTag<T, Number<N>> as Fields>⟧.begins follow) }
     ensures optional_begins { (follow : ℕ → Bool) (t : ℕ) → ⟦<Optional<Option<T>> as Fields>⟧.begins follow t ≡ (T.first t || follow t) }
@@ -166,7 +166,7 @@ pub fn field_faults<T: Der + Drop, const N: u8>()
 
 /// The first error of fields (X.690, 8.9): that of the fields before the last; where these have none, that of the last in the
 /// octets after them. Tuples of two to six, of fields or of groups of fields.
-pub fn tuple_faults<
+pub fn tuple_errors<
     A: Fields + Drop,
     B: Fields + Drop,
     C: Fields + Drop,
@@ -174,31 +174,31 @@ pub fn tuple_faults<
     E: Fields + Drop,
     F: Fields + Drop,
 >()
-    ensures two { (octets : List ℕ) (e : Asn1DerError) → ⟦<(A, B) as Fields>⟧.fault octets e ↔ LastFault ⟦<A as Fields>⟧ B.fault octets e }
-    ensures three { (octets : List ℕ) (e : Asn1DerError) → ⟦<(A, B, C) as Fields>⟧.fault octets e ↔ LastFault ⟦<(A, B) as Fields>⟧ C.fault octets e }
-    ensures four { (octets : List ℕ) (e : Asn1DerError) → ⟦<(A, B, C, D) as Fields>⟧.fault octets e ↔ LastFault ⟦<(A, B, C) as Fields>⟧ D.fault octets e }
-    ensures five { (octets : List ℕ) (e : Asn1DerError) → ⟦<(A, B, C, D, E) as Fields>⟧.fault octets e ↔ LastFault ⟦<(A, B, C, D) as Fields>⟧ E.fault octets e }
-    ensures six { (octets : List ℕ) (e : Asn1DerError) → ⟦<(A, B, C, D, E, F) as Fields>⟧.fault octets e
-        ↔ LastFault ⟦<(A, B, C, D, E) as Fields>⟧ F.fault octets e }
+    ensures two { (octets : List ℕ) (e : Asn1DerError) → ⟦<(A, B) as Fields>⟧.error octets e ↔ LastError ⟦<A as Fields>⟧ B.error octets e }
+    ensures three { (octets : List ℕ) (e : Asn1DerError) → ⟦<(A, B, C) as Fields>⟧.error octets e ↔ LastError ⟦<(A, B) as Fields>⟧ C.error octets e }
+    ensures four { (octets : List ℕ) (e : Asn1DerError) → ⟦<(A, B, C, D) as Fields>⟧.error octets e ↔ LastError ⟦<(A, B, C) as Fields>⟧ D.error octets e }
+    ensures five { (octets : List ℕ) (e : Asn1DerError) → ⟦<(A, B, C, D, E) as Fields>⟧.error octets e ↔ LastError ⟦<(A, B, C, D) as Fields>⟧ E.error octets e }
+    ensures six { (octets : List ℕ) (e : Asn1DerError) → ⟦<(A, B, C, D, E, F) as Fields>⟧.error octets e
+        ↔ LastError ⟦<(A, B, C, D, E) as Fields>⟧ F.error octets e }
 {}
 
 /// `==` on each primitive type: it returns true for equal values and for no others.
-pub fn leaf_equality()
-    ensures integer { TellsEqual ⟦<IntegerAsn1 as PartialEq>⟧.eq }
-    ensures number { TellsEqual ⟦<u32 as PartialEq>⟧.eq }
-    ensures bit_string { TellsEqual ⟦<BitStringAsn1 as PartialEq>⟧.eq }
-    ensures octet_string { TellsEqual ⟦<OctetStringAsn1 as PartialEq>⟧.eq }
-    ensures utf8_string { TellsEqual ⟦<Utf8StringAsn1 as PartialEq>⟧.eq }
-    ensures generalized_time { TellsEqual ⟦<GeneralizedTimeAsn1 as PartialEq>⟧.eq }
-    ensures general_string { TellsEqual ⟦<GeneralStringAsn1 as PartialEq>⟧.eq }
+pub fn primitive_equality()
+    ensures integer { DecidesEqual ⟦<IntegerAsn1 as PartialEq>⟧.eq }
+    ensures number { DecidesEqual ⟦<u32 as PartialEq>⟧.eq }
+    ensures bit_string { DecidesEqual ⟦<BitStringAsn1 as PartialEq>⟧.eq }
+    ensures octet_string { DecidesEqual ⟦<OctetStringAsn1 as PartialEq>⟧.eq }
+    ensures utf8_string { DecidesEqual ⟦<Utf8StringAsn1 as PartialEq>⟧.eq }
+    ensures generalized_time { DecidesEqual ⟦<GeneralizedTimeAsn1 as PartialEq>⟧.eq }
+    ensures general_string { DecidesEqual ⟦<GeneralStringAsn1 as PartialEq>⟧.eq }
 {}
 
 /// `==` on a wrapper of values of T: it returns true for equal values and for no others, where that of T does.
 pub fn wrapper_equality<T: PartialEq, N: TagNumber, const M: u8>()
-    ensures explicit { TellsEqual T.eq → TellsEqual ⟦<ExplicitContextTag<T, N> as PartialEq>⟧.eq }
-    ensures application { TellsEqual T.eq → TellsEqual ⟦<ApplicationTag<T, M> as PartialEq>⟧.eq }
-    ensures optional { TellsEqual T.eq → TellsEqual ⟦<Optional<Option<T>> as PartialEq>⟧.eq }
-    ensures sequence_of { TellsEqual T.eq → TellsEqual ⟦<Asn1SequenceOf<T> as PartialEq>⟧.eq }
+    ensures explicit { DecidesEqual T.eq → DecidesEqual ⟦<ExplicitContextTag<T, N> as PartialEq>⟧.eq }
+    ensures application { DecidesEqual T.eq → DecidesEqual ⟦<ApplicationTag<T, M> as PartialEq>⟧.eq }
+    ensures optional { DecidesEqual T.eq → DecidesEqual ⟦<Optional<Option<T>> as PartialEq>⟧.eq }
+    ensures sequence_of { DecidesEqual T.eq → DecidesEqual ⟦<Asn1SequenceOf<T> as PartialEq>⟧.eq }
 {}
 
 /// A clone of a time equals it, and so does a clone of a wrapper of values of T, where a clone of a T does.

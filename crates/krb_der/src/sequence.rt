@@ -4,10 +4,10 @@ ghost use Rattle.std.specs.Prelude.{◌≡◌, ℕ, Bool, List, ◌++◌, drop, 
 ghost use Rattle.krb_der_core.specs.Tlv.{tlv};
 ghost use Rattle.krb_der_core.specs.declared.error.Asn1DerError.{Asn1DerError};
 ghost use Rattle.krb_der_core.specs.declared.error.Asn1DerError.TheVariants.{InvalidData};
-ghost use Rattle.krb_der_core.specs.Reading.{TakesFront, RefusesAll};
-ghost use Rattle.krb_der_core.specs.Faults.{FrontLaws, OrMemory, TaggedFault, WholeFault};
+ghost use Rattle.krb_der_core.specs.Reading.{TakesPrefix, RejectsAll};
+ghost use Rattle.krb_der_core.specs.Errors.{PrefixLaws, OrMemory, TaggedError, WholeError};
 ghost use Rattle.krb_der.specs.Composite.{nothing};
-ghost use Rattle.krb_der.specs.Grouping.{BeginSo, OneReading, ReadsFields, ToldEnds};
+ghost use Rattle.krb_der.specs.Grouping.{BeginSo, OneReading, ReadsFields, DistinguishedEnds};
 ghost use Rattle.krb_der.specs.Whole.{NoDevice};
 
 use krb_der_core::{Asn1DerError, close_tlv};
@@ -29,34 +29,34 @@ pub trait Fields {
     ghost begins: { (ℕ → Bool) → ℕ → Bool };
 
     /// The first octet of each optional field distinguishes it from what follows, given the octets that what follows begins with.
-    ghost told_apart: { (ℕ → Bool) → Type 0 };
+    ghost distinguished: { (ℕ → Bool) → Type 0 };
 
     /// Fields with octets after them begin as `begins` says.
     ghost begin_so: { BeginSo are_values octets begins };
 
     /// Where the fields are distinguished from what follows, the octets determine the fields and what follows.
-    ghost one_reading: { OneReading told_apart are_values octets };
+    ghost one_reading: { OneReading distinguished are_values octets };
 
     /// The fields end where these octets begin: no absent field at the end begins as they do.
     ghost ends: { Self → List ℕ → Type 0 };
 
     /// The first error of the fields at the start of these octets, from the left.
-    ghost fault: { List ℕ → Asn1DerError → Type 0 };
+    ghost error: { List ℕ → Asn1DerError → Type 0 };
 
     /// Octets with an error do not begin with fields, and have no other first error.
-    ghost fault_laws: { FrontLaws are_values octets ends fault };
+    ghost error_laws: { PrefixLaws are_values octets ends error };
 
     /// Fields that are distinguished from what follows end where that begins.
-    ghost told_ends: { ToldEnds told_apart are_values ends };
+    ghost distinguished_ends: { DistinguishedEnds distinguished are_values ends };
 
     /// The fields at the start of the input, and the number of their octets. What follows is not read.
     fn read_fields(alloc: Global, input: &[u8]) -> Result<(Self, usize), Asn1DerError>
         ensures valid { IfOk result (λ p. are_values p.0) }
-        ensures found { IfOk result (λ p. TakesFront (octets p.0) p.1 input.now) }
-        ensures reads { ReadsFields told_apart are_values octets input.now result }
+        ensures found { IfOk result (λ p. TakesPrefix (octets p.0) p.1 input.now) }
+        ensures reads { ReadsFields distinguished are_values octets input.now result }
         ensures no_device { IfErr result NoDevice }
         ensures ends { IfOk result (λ p. ends p.0 (drop p.1 input.now)) }
-        ensures first_fault { IfErr result (OrMemory (fault input.now)) };
+        ensures first_error { IfErr result (OrMemory (error input.now)) };
 }
 
 /// References to the fields of a sequence (X.690, 8.9) in order, for writing: `field_refs!` makes them.
@@ -95,13 +95,13 @@ pub trait Sequence {
 /// `InvalidData` where the tag is not `30`, then the first error of the fields, in order, and `InvalidData` where octets
 /// are left over.
 pub fn read_sequence<S: Sequence>(alloc: Global, tag: u8, content: &[u8]) -> Result<S, Asn1DerError>
-    requires { S.Fields.told_apart nothing }
+    requires { S.Fields.distinguished nothing }
     ensures valid { IfOk result (λ v. S.Fields.are_values (S.fields v)) }
     ensures found { IfOk result (λ v. tlv tag content.now ≡ tlv 48 (S.Fields.octets (S.fields v))) }
-    ensures refused { IfErr result (RefusesAll (λ v. S.Fields.are_values (S.fields v)) (λ v. tlv 48 (S.Fields.octets (S.fields v))) (tlv tag content.now)) }
+    ensures rejected { IfErr result (RejectsAll (λ v. S.Fields.are_values (S.fields v)) (λ v. tlv 48 (S.Fields.octets (S.fields v))) (tlv tag content.now)) }
     ensures other_tag { (tag ≡ 48 → ⊥) → result ≡ Err InvalidData }
-    ensures first_fault { IfErr result
-        (OrMemory (TaggedFault 48 (WholeFault S.Fields.are_values S.Fields.octets S.Fields.ends S.Fields.fault) tag content.now)) }
+    ensures first_error { IfErr result
+        (OrMemory (TaggedError 48 (WholeError S.Fields.are_values S.Fields.octets S.Fields.ends S.Fields.error) tag content.now)) }
 {
     if tag != SEQUENCE {
         return Err(Asn1DerError::InvalidData);
@@ -112,11 +112,11 @@ pub fn read_sequence<S: Sequence>(alloc: Global, tag: u8, content: &[u8]) -> Res
 
 /// The fields whose encoding is all of these octets.
 fn read_all_fields<F: Fields + Drop>(alloc: Global, content: &[u8]) -> Result<F, Asn1DerError>
-    requires { F.told_apart nothing }
+    requires { F.distinguished nothing }
     ensures valid { IfOk result F.are_values }
     ensures found { IfOk result (λ v. content.now ≡ F.octets v) }
-    ensures refused { IfErr result (RefusesAll F.are_values F.octets content.now) }
-    ensures first_fault { IfErr result (OrMemory (WholeFault F.are_values F.octets F.ends F.fault content.now)) }
+    ensures rejected { IfErr result (RejectsAll F.are_values F.octets content.now) }
+    ensures first_error { IfErr result (OrMemory (WholeError F.are_values F.octets F.ends F.error content.now)) }
 {
     let (parts, taken) = F::read_fields(alloc, content)?;
     if taken != content.len() {

@@ -5,10 +5,10 @@ ghost use Rattle.std.specs.List.{flat_map, AllByRecursion};
 ghost use Rattle.std.specs.Cmp.Lexicographic.{pointwise, lists_per, lists_equiv};
 ghost use Rattle.krb_der_core.specs.Tlv.{tlv};
 ghost use Rattle.krb_der_core.specs.TlvLaws.{tagged_element, tagged_one_value};
-ghost use Rattle.krb_der_core.specs.Reading.{RefusesAll};
-ghost use Rattle.krb_der_core.specs.Faults.{FrontFault, OrMemory, RowFault, TaggedFault};
+ghost use Rattle.krb_der_core.specs.Reading.{RejectsAll};
+ghost use Rattle.krb_der_core.specs.Errors.{PrefixError, OrMemory, RowError, TaggedError};
 ghost use Rattle.krb_der.specs.ListLaws.{list_one_content};
-ghost use Rattle.krb_der_core.specs.FaultLaws.{list_laws, tagged_laws};
+ghost use Rattle.krb_der_core.specs.ErrorLaws.{list_laws, tagged_laws};
 
 use crate::sequence::SEQUENCE;
 use krb_der_core::{Asn1DerError, Der, DerEncode, close_tlv};
@@ -45,8 +45,8 @@ impl<T: Eq> Eq for Asn1SequenceOf<T> {
 fn read_items<T: Der + Drop>(alloc: Global, octets: &[u8]) -> Result<Vec<T>, Asn1DerError>
     ensures valid { IfOk result (λ v. AllByRecursion T.is_value v.items) }
     ensures found { IfOk result (λ v. octets.now ≡ flat_map T.enc v.items) }
-    ensures refused { IfErr result (RefusesAll (AllByRecursion T.is_value) (flat_map T.enc) octets.now) }
-    ensures first_fault { IfErr result (OrMemory (RowFault T.is_value T.enc (FrontFault T.first T.fault) octets.now)) }
+    ensures rejected { IfErr result (RejectsAll (AllByRecursion T.is_value) (flat_map T.enc) octets.now) }
+    ensures first_error { IfErr result (OrMemory (RowError T.is_value T.enc (PrefixError T.first T.error) octets.now)) }
 {
     let mut items = Vec::new(alloc);
     let mut rest = octets;
@@ -89,11 +89,11 @@ impl<T: DerEncode> DerEncode for Asn1SequenceOf<T> {
 
     ghost one_value = { tagged_one_value 48 (AllByRecursion T.is_value) (flat_map T.enc) (list_one_content T.enc T.is_value T.first T.is_element T.one_value) };
 
-    ghost fault = { TaggedFault 48 (RowFault T.is_value T.enc (FrontFault T.first T.fault)) };
+    ghost error = { TaggedError 48 (RowError T.is_value T.enc (PrefixError T.first T.error)) };
 
-    ghost fault_laws = { tagged_laws 48 (AllByRecursion T.is_value) (flat_map T.enc)
-        (RowFault T.is_value T.enc (FrontFault T.first T.fault))
-        (list_laws T.is_value T.enc T.first T.is_element T.fault T.fault_laws T.one_value) };
+    ghost error_laws = { tagged_laws 48 (AllByRecursion T.is_value) (flat_map T.enc)
+        (RowError T.is_value T.enc (PrefixError T.first T.error))
+        (list_laws T.is_value T.enc T.first T.is_element T.error T.error_laws T.one_value) };
 
     fn starts(octet: u8) -> bool {
         octet == SEQUENCE

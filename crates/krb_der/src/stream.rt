@@ -4,9 +4,9 @@ ghost use Rattle.std.specs.Prelude.{◌≡◌, ◌≤◌, ◌<◌, IfOk, IfErr, 
 ghost use Rattle.std.specs.Io.KnownBytes.{Consumes, Appends, IsAtEnd};
 ghost use Rattle.krb_der_core.specs.Tlv.{len};
 ghost use Rattle.krb_der_core.specs.Reading.{Lengths, Encodings};
-ghost use Rattle.krb_der_core.specs.Faults.{FrontFault, LengthFault};
+ghost use Rattle.krb_der_core.specs.Errors.{PrefixError, LengthError};
 ghost use Rattle.krb_der_core.specs.declared.error.Asn1DerError.TheVariants.{OutOfMemory};
-ghost use Rattle.krb_der.specs.Streaming.{Gathers, IsFault, IsShort, ReaderFault, ReadsFront, RefusesReader, TellsEarlyEnd};
+ghost use Rattle.krb_der.specs.Streaming.{Gathers, IsError, IsShort, ReaderError, ReadsPrefix, RejectsReader, ReportsEarlyEnd};
 
 use crate::whole::to_vec;
 use krb_der_core::{Asn1DerError, Der, DerEncode, read_length};
@@ -26,7 +26,7 @@ fn gather_some<R: Read>(
     ensures ok { IfOk result (λ n. Gathers n out.old.items out.new.items (R.remaining reader.old) (R.remaining reader.new)) }
     ensures within { IfOk result (λ n. n ≤ wanted) }
     ensures end { IfOk result (λ n. n ≡ 0 → 0 < wanted → IsAtEnd (R.remaining reader.new)) }
-    ensures err { IfErr result IsFault }
+    ensures err { IfErr result IsError }
 {
     let mut octets = [0u8; MOST_AT_ONCE];
     let buffer = &mut octets[..wanted.min(MOST_AT_ONCE)];
@@ -55,7 +55,7 @@ fn gather<R: Read>(reader: &mut R, count: usize, out: &mut Vec<u8>) -> Result<()
 }
 
 /// How many octets of a length stand behind its first, where that begins one.
-fn count_behind(first: u8) -> usize
+fn count_trailing(first: u8) -> usize
     ensures short { first < 128 → result ≡ 0 }
     ensures long { 128 ≤ first → first ≤ 136 → result ≡ first - 128 }
     ensures other { 136 < first → result ≡ 0 }
@@ -69,25 +69,25 @@ fn count_behind(first: u8) -> usize
 /// Takes the octets of a length from the reader.
 fn gather_length<R: Read>(alloc: Global, reader: &mut R) -> Result<usize, Asn1DerError>
     ensures ok { IfOk result (λ n. Consumes (R.remaining reader.old) (R.remaining reader.new) (len n)) }
-    ensures err { IfErr result (RefusesReader Lengths (R.remaining reader.old)) }
+    ensures err { IfErr result (RejectsReader Lengths (R.remaining reader.old)) }
     ensures fits { IfOk result (λ n. n < 2 ^ 64) }
-    ensures first_fault { IfErr result (ReaderFault LengthFault (R.remaining reader.old)) }
+    ensures first_error { IfErr result (ReaderError LengthError (R.remaining reader.old)) }
 {
     let mut octets = Vec::new(alloc);
     gather(reader, 1, &mut octets)?;
     let first = octets[0];
-    let behind = count_behind(first);
-    gather(reader, behind, &mut octets)?;
+    let trailing = count_trailing(first);
+    gather(reader, trailing, &mut octets)?;
     let (length, _) = read_length(&octets)?;
     Ok(length)
 }
 
 /// The value whose encoding the reader's next octets are. They are taken, and no octet behind them.
-fn read_front<T: Der, R: Read>(alloc: Global, reader: &mut R) -> Result<T, Asn1DerError>
+fn read_prefix<T: Der, R: Read>(alloc: Global, reader: &mut R) -> Result<T, Asn1DerError>
     ensures valid { IfOk result T.is_value }
     ensures found { IfOk result (λ v. Consumes (R.remaining reader.old) (R.remaining reader.new) (T.enc v)) }
-    ensures refused { IfErr result (RefusesReader (Encodings T.is_value T.enc) (R.remaining reader.old)) }
-    ensures first_fault { IfErr result (ReaderFault (FrontFault T.first T.fault) (R.remaining reader.old)) }
+    ensures rejected { IfErr result (RejectsReader (Encodings T.is_value T.enc) (R.remaining reader.old)) }
+    ensures first_error { IfErr result (ReaderError (PrefixError T.first T.error) (R.remaining reader.old)) }
 {
     let mut first = Vec::new(alloc);
     gather(reader, 1, &mut first)?;
@@ -111,12 +111,12 @@ fn read_front<T: Der, R: Read>(alloc: Global, reader: &mut R) -> Result<T, Asn1D
 pub fn from_reader<T: Der, R: Read>(alloc: Global, reader: &mut R) -> Result<T, Asn1DerError>
     ensures valid { IfOk result T.is_value }
     ensures found { IfOk result (λ v. Consumes (R.remaining reader.old) (R.remaining reader.new) (T.enc v)) }
-    ensures refused { IfErr result (RefusesReader (Encodings T.is_value T.enc) (R.remaining reader.old)) }
-    ensures reads { ReadsFront T.is_value T.enc (R.remaining reader.old) result }
-    ensures cut { TellsEarlyEnd T.is_value T.enc (R.remaining reader.old) result }
-    ensures first_fault { IfErr result (ReaderFault (FrontFault T.first T.fault) (R.remaining reader.old)) }
+    ensures rejected { IfErr result (RejectsReader (Encodings T.is_value T.enc) (R.remaining reader.old)) }
+    ensures reads { ReadsPrefix T.is_value T.enc (R.remaining reader.old) result }
+    ensures cut { ReportsEarlyEnd T.is_value T.enc (R.remaining reader.old) result }
+    ensures first_error { IfErr result (ReaderError (PrefixError T.first T.error) (R.remaining reader.old)) }
 {
-    read_front(alloc, reader)
+    read_prefix(alloc, reader)
 }
 
 /// Writes the encoding of a value, and answers how many octets it has.
@@ -131,7 +131,7 @@ pub fn to_writer<T: DerEncode, W: Write>(
     ensures count { IfOk result (λ n. n ≡ length (T.enc value.now)) }
     ensures octets { OnOk result (Appends (W.contents writer.old) (W.contents writer.new) (T.enc value.now)) }
     ensures valid { OnOk result (T.is_value value.now) }
-    ensures err { IfErr result IsFault }
+    ensures err { IfErr result IsError }
     ensures kept { IfErr result (λ e. e ≡ OutOfMemory → writer.new ≡ writer.old) }
 {
     let octets = to_vec(alloc, value)?;

@@ -2,9 +2,9 @@
 
 ghost use Rattle.std.specs.Prelude.{◌≡◌, ◌++◌, Err, IfOk, IfErr, OnOk, OnErr};
 ghost use Rattle.krb_der_core.specs.Tlv.{tlv};
-ghost use Rattle.krb_der_core.specs.Reading.{RefusesAll};
-ghost use Rattle.krb_der_core.specs.Faults.{OrMemory, TaggedFault, ValueFault};
-ghost use Rattle.krb_der.specs.Whole.{Answers, ReadsValue, TellsCut, RefusesMore, NoDevice};
+ghost use Rattle.krb_der_core.specs.Reading.{RejectsAll};
+ghost use Rattle.krb_der_core.specs.Errors.{OrMemory, TaggedError, ValueError};
+ghost use Rattle.krb_der.specs.Whole.{Answers, ReadsValue, ReportsCut, RejectsMore, NoDevice};
 ghost use Rattle.krb_der_core.specs.declared.error.Asn1DerError.TheVariants.{InvalidData, OutOfMemory};
 
 use krb_der_core::{Asn1DerError, Der, DerEncode, close_tlv};
@@ -18,10 +18,10 @@ pub fn from_bytes<T: Der + Drop>(alloc: Global, input: &[u8]) -> Result<T, Asn1D
     ensures valid { IfOk result T.is_value }
     ensures found { IfOk result (λ v. input.now ≡ T.enc v) }
     ensures reads { ReadsValue T.is_value T.enc input.now result }
-    ensures cut { TellsCut T.is_value T.enc input.now result }
-    ensures more { RefusesMore T.is_value T.enc input.now result }
+    ensures cut { ReportsCut T.is_value T.enc input.now result }
+    ensures more { RejectsMore T.is_value T.enc input.now result }
     ensures no_device { IfErr result NoDevice }
-    ensures first_fault { IfErr result (OrMemory (ValueFault T.is_value T.enc T.first T.fault input.now)) }
+    ensures first_error { IfErr result (OrMemory (ValueError T.is_value T.enc T.first T.error input.now)) }
 {
     let (value, taken) = T::read(alloc, input)?;
     if taken != input.len() {
@@ -79,9 +79,9 @@ pub(crate) fn read_around<T: Der + Drop>(
 ) -> Result<T, Asn1DerError>
     ensures valid { IfOk result T.is_value }
     ensures found { IfOk result (λ v. tlv tag content.now ≡ tlv wanted (T.enc v)) }
-    ensures refused { IfErr result (RefusesAll T.is_value (λ v. tlv wanted (T.enc v)) (tlv tag content.now)) }
+    ensures rejected { IfErr result (RejectsAll T.is_value (λ v. tlv wanted (T.enc v)) (tlv tag content.now)) }
     ensures other_tag { (tag ≡ wanted → ⊥) → result ≡ Err InvalidData }
-    ensures first_fault { IfErr result (OrMemory (TaggedFault wanted (ValueFault T.is_value T.enc T.first T.fault) tag content.now)) }
+    ensures first_error { IfErr result (OrMemory (TaggedError wanted (ValueError T.is_value T.enc T.first T.error) tag content.now)) }
 {
     if tag != wanted {
         return Err(Asn1DerError::InvalidData);

@@ -10,15 +10,15 @@ use Rattle.std.proofs.lemmas.Int.Digits.{digits_of_step, length-digits_of_step}
 use Rattle.krb_der_core.specs.Tlv.{header, tlv}
 use Rattle.krb_der_core.specs.TlvLaws.{len-small, len-large}
 
-byte_behind : (k n : ℕ) → byte_at (suc k) n ≡ byte_at k (n / 256)
-byte_behind zero n = refl
-byte_behind (suc k) n =
+byte_trailing : (k n : ℕ) → byte_at (suc k) n ≡ byte_at k (n / 256)
+byte_trailing zero n = refl
+byte_trailing (suc k) n =
     let power : 256 ^ suc (suc k) ≡ 256 * 256 ^ suc k = simp unary_clauses (omega arith) in
     ap (λ p. n / p % 256) power ∙ ap (λ m. m % 256) (sym (div-div-eq-div-mul n 256 (256 ^ suc k)))
 
 last_octet : (k n : ℕ) → bytes_high_first (suc k) n ≡ bytes_high_first k (n / 256) ++ n % 256 ∷ []
 last_octet zero n = refl
-last_octet (suc k) n = ap (λ b. b ∷ bytes_high_first (suc k) n) (byte_behind k n) ∙ ap (λ l. byte_at k (n / 256) ∷ l) (last_octet k n)
+last_octet (suc k) n = ap (λ b. b ∷ bytes_high_first (suc k) n) (byte_trailing k n) ∙ ap (λ l. byte_at k (n / 256) ∷ l) (last_octet k n)
 
 octets_length : (k n : ℕ) → length (bytes_high_first k n) ≡ k
 octets_length zero n = refl
@@ -29,15 +29,15 @@ nothing [] h = refl
 nothing (x ∷ xs) h = absurd (omega arith)
 
 -- the k octets of a number that fits them end in its digits
-pub digits_behind : (k n : ℕ) → length (digits_of 256 n) ≤ k → drop (k - length (digits_of 256 n)) (bytes_high_first k n) ≡ digits_of 256 n
-digits_behind zero n few = rw (← nothing (digits_of 256 n) few) refl
-digits_behind (suc k) zero few = drop_all (suc k - 0) (bytes_high_first (suc k) zero) (omega (arith, octets_length (suc k) zero))
-digits_behind (suc k) (suc m) few =
+pub digits_trailing : (k n : ℕ) → length (digits_of 256 n) ≤ k → drop (k - length (digits_of 256 n)) (bytes_high_first k n) ≡ digits_of 256 n
+digits_trailing zero n few = rw (← nothing (digits_of 256 n) few) refl
+digits_trailing (suc k) zero few = drop_all (suc k - 0) (bytes_high_first (suc k) zero) (omega (arith, octets_length (suc k) zero))
+digits_trailing (suc k) (suc m) few =
     let n = suc m in
     let size = length-digits_of_step 256 n (omega arith) (omega arith) in
     let left : suc k - length (digits_of 256 n) ≡ k - length (digits_of 256 (n / 256)) = omega (arith, size) in
     let seam = drop-append-le (k - length (digits_of 256 (n / 256))) (bytes_high_first k (n / 256)) (n % 256 ∷ []) (omega (arith, octets_length k (n / 256))) in
-    rw (left, last_octet k n, seam, digits_behind k (n / 256) (omega (arith, size, few))) (sym (digits_of_step 256 n (omega arith) (omega arith)))
+    rw (left, last_octet k n, seam, digits_trailing k (n / 256) (omega (arith, size, few))) (sym (digits_of_step 256 n (omega arith) (omega arith)))
 
 -- the last k of a number's eight octets are its k digits
 pub digits_copied : (n k : ℕ) (octets copied : List ℕ) → k ≡ length (digits_of 256 n) → k ≤ 8 → octets ≡ bytes_high_first 8 n
@@ -45,7 +45,7 @@ pub digits_copied : (n k : ℕ) (octets copied : List ℕ) → k ≡ length (dig
 digits_copied n k octets copied count few all e =
     let size : length octets ≡ 8 = ap length all ∙ octets_length 8 n in
     let rest : take (8 - (8 - k)) (drop (8 - k) octets) ≡ drop (8 - k) octets = rw size at (take_rest octets (8 - k)) in
-    e ∙ rest ∙ ap (λ l. drop (8 - k) l) all ∙ ap (λ m. drop (8 - m) (bytes_high_first 8 n)) count ∙ digits_behind 8 n (omega (arith, count, few))
+    e ∙ rest ∙ ap (λ l. drop (8 - k) l) all ∙ ap (λ m. drop (8 - m) (bytes_high_first 8 n)) count ∙ digits_trailing 8 n (omega (arith, count, few))
 
 pub header_small : (tag n : ℕ) → n < 128 → tag ∷ n ∷ [] ≡ header tag n
 header_small tag n lt = rw (len-small n lt) refl
@@ -69,12 +69,12 @@ closed out longer moved octets written start tag end count le same size h e m w 
     let left : length content ≡ end - start = rw same (length-drop start out) in
     let total : length longer ≡ length out + count = omega (arith, ap length e, length-append out octets, size) in
     let lifted : take (end - start) (drop start longer) ≡ content = ap (λ (l : List ℕ). take (end - start) (drop start l)) e ∙ ap (λ (l : List ℕ). take (end - start) l) (drop-append-le start out octets le) ∙ take_at content octets (end - start) left in
-    let behind : drop (start + count + (end - start)) longer ≡ [] = drop_all (start + count + (end - start)) longer (omega (arith, total)) in
+    let trailing : drop (start + count + (end - start)) longer ≡ [] = drop_all (start + count + (end - start)) longer (omega (arith, total)) in
     let below : length (take (start + count) longer) ≡ start + count = length-take-le (start + count) longer (omega (arith, total)) in
-    let whole : moved ≡ take (start + count) longer ++ content = (rw (lifted, behind) at m) ∙ append-nil (take (start + count) longer ++ content) in
-    let front : take start moved ≡ take start out = ap (λ (l : List ℕ). take start l) whole ∙ take-append-le start (take (start + count) longer) content (omega (arith, below)) ∙ take-take start (start + count) longer (omega arith) ∙ ap (λ (l : List ℕ). take start l) e ∙ take-append-le start out octets le in
+    let whole : moved ≡ take (start + count) longer ++ content = (rw (lifted, trailing) at m) ∙ append-nil (take (start + count) longer ++ content) in
+    let prefix : take start moved ≡ take start out = ap (λ (l : List ℕ). take start l) whole ∙ take-append-le start (take (start + count) longer) content (omega (arith, below)) ∙ take-take start (start + count) longer (omega arith) ∙ ap (λ (l : List ℕ). take start l) e ∙ take-append-le start out octets le in
     let back : drop (start + count - start) (drop start moved) ≡ content = drop-drop (start + count - start) start moved ∙ ap (λ n. drop n moved) (sum start count) ∙ ap (λ (l : List ℕ). drop (start + count) l) whole ∙ drop_at (take (start + count) longer) content (start + count) below in
-    rw (front, back, w, h, left) refl
+    rw (prefix, back, w, h, left) refl
 
 pub written_length : (s written : List ℕ) (start k : ℕ) → start ≤ length s → length written ≡ length (take k (drop start s))
     → length (take start s ++ (written ++ drop k (drop start s))) ≡ length s

@@ -1,9 +1,9 @@
 pub mod Digits
 pub mod Elements
-pub mod FirstFaults
-pub mod TaggedFaults
+pub mod FirstErrors
+pub mod TaggedErrors
 pub mod Growth
-pub mod Refusals
+pub mod Rejections
 pub mod IntegerBounds
-pub mod TimesTold
+pub mod TimesRead
 pub mod Unsigned32

@@ -51,7 +51,7 @@ abbrev pub number_at : List ℕ → ℕ → ℕ
 number_at content i = 10 * (slice_index content i % 16) + slice_index content (i + 1) % 16
 
 -- the time that a content tells
-abbrev pub time_told : List ℕ → Time
-time_told content =
+abbrev pub time_read : List ℕ → Time
+time_read content =
     time (100 * number_at content 0 + number_at content 2) (number_at content 4) (number_at content 6)
     (number_at content 8) (number_at content 10) (number_at content 12)

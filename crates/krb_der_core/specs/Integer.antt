@@ -3,13 +3,13 @@ use Rattle.std.specs.Prelude.{◌≡◌, ℕ, ◌-◌, ◌<◌, ◌≤◌, List,
 use Rattle.std.specs.Int.Digits.{digits_of, number_from_digits}
 
 -- a zero before octets that would represent a negative number, or before none
-abbrev pub signed_front : List ℕ → List ℕ
-signed_front [] = 0 ∷ []
-signed_front (d ∷ ds) = if nat_lt d 128 then d ∷ ds else 0 ∷ d ∷ ds
+abbrev pub signed_prefix : List ℕ → List ℕ
+signed_prefix [] = 0 ∷ []
+signed_prefix (d ∷ ds) = if nat_lt d 128 then d ∷ ds else 0 ∷ d ∷ ds
 
 -- the shortest octets of a number that is not negative
 unfoldable pub unsigned : ℕ → List ℕ
-unsigned n = signed_front (digits_of 256 n)
+unsigned n = signed_prefix (digits_of 256 n)
 
 -- each bit the other way
 abbrev pub inverted : List ℕ → List ℕ

@@ -5,7 +5,7 @@ use Rattle.std.proofs.lemmas.List.{append-nil}
 use Rattle.std.specs.Int.Digits.{digits_of, number_from_digits, number_from_digits_after, AllBelowBase}
 use Rattle.std.proofs.lemmas.Int.Digits.{digits_of_step, number_digits_of, first_digits_of, all_below_base_digits_of}
 use Rattle.krb_der_core.specs.Encoding.{OneValue, IsOctets}
-use Rattle.krb_der_core.specs.Integer.{signed_front, unsigned, inverted, shortest, whole_number, IsShortest}
+use Rattle.krb_der_core.specs.Integer.{signed_prefix, unsigned, inverted, shortest, whole_number, IsShortest}
 
 pub octets_below : (c : List ℕ) → IsOctets c → AllBelowBase 256 c
 octets_below [] h = tt
@@ -27,19 +27,19 @@ after_digits n (d ∷ ds) p h = after_digits (n * 256 + d) ds (omega arith) h.1 
 pub digits_number : (d : ℕ) (ds : List ℕ) → 0 < d → AllBelowBase 256 (d ∷ ds) → digits_of 256 (number_from_digits 256 (d ∷ ds)) ≡ d ∷ ds
 digits_number d ds p h = after_digits (0 * 256 + d) ds (omega arith) h.1 ∙ ap (λ (l : List ℕ). l ++ ds) (one_digit 0 d (omega arith) h.0)
 
-front_small : (d : ℕ) (ds : List ℕ) → d < 128 → signed_front (d ∷ ds) ≡ d ∷ ds
-front_small d ds h = rw (lt-ltb d 128 h) refl
+prefix_small : (d : ℕ) (ds : List ℕ) → d < 128 → signed_prefix (d ∷ ds) ≡ d ∷ ds
+prefix_small d ds h = rw (lt-ltb d 128 h) refl
 
-front_large : (d : ℕ) (ds : List ℕ) → 128 ≤ d → signed_front (d ∷ ds) ≡ 0 ∷ d ∷ ds
-front_large d ds h = rw (le-ltb d 128 h) refl
+prefix_large : (d : ℕ) (ds : List ℕ) → 128 ≤ d → signed_prefix (d ∷ ds) ≡ 0 ∷ d ∷ ds
+prefix_large d ds h = rw (le-ltb d 128 h) refl
 
 plain_unsigned : (b : ℕ) (bs : List ℕ) → b < 128 → AllBelowBase 256 (b ∷ bs) → IsShortest (b ∷ bs) → unsigned (number_from_digits 256 (b ∷ bs)) ≡ b ∷ bs
 unfolding unsigned
 plain_unsigned zero [] lt h s = refl
 plain_unsigned zero (c ∷ cs) lt h s =
     let large : 128 ≤ c = s.positive (omega arith) refl in
-    ap signed_front (digits_number c cs (omega arith) h.1) ∙ front_large c cs large
-plain_unsigned (suc b) bs lt h s = ap signed_front (digits_number (suc b) bs (omega arith) h) ∙ front_small (suc b) bs lt
+    ap signed_prefix (digits_number c cs (omega arith) h.1) ∙ prefix_large c cs large
+plain_unsigned (suc b) bs lt h s = ap signed_prefix (digits_number (suc b) bs (omega arith) h) ∙ prefix_small (suc b) bs lt
 
 pub inverted_below : (c : List ℕ) → AllBelowBase 256 (inverted c)
 inverted_below [] = tt
@@ -89,13 +89,13 @@ pub record Plain (n : ℕ) (c : List ℕ) : Type 0 where
 short_small : (d : ℕ) (ds : List ℕ) → 0 < d → d < 128 → IsShortest (d ∷ ds)
 short_small d ds p h = record { some = omega arith; positive = λ l e. absurd (omega arith); negative = λ l e. absurd (omega arith) }
 
-front_plain : (ds : List ℕ) → AllBelowBase 256 ds → (0 < length ds → 0 < get_or ds 0 0) → Plain (number_from_digits 256 ds) (signed_front ds)
-front_plain [] h first = record { b = 0; bs = []; is = refl; small = omega arith; below = (omega arith, tt); short = record { some = omega arith; positive = λ l e. absurd (omega arith); negative = λ l e. absurd (omega arith) }; number = refl }
-front_plain (d ∷ ds) h first =
+prefix_plain : (ds : List ℕ) → AllBelowBase 256 ds → (0 < length ds → 0 < get_or ds 0 0) → Plain (number_from_digits 256 ds) (signed_prefix ds)
+prefix_plain [] h first = record { b = 0; bs = []; is = refl; small = omega arith; below = (omega arith, tt); short = record { some = omega arith; positive = λ l e. absurd (omega arith); negative = λ l e. absurd (omega arith) }; number = refl }
+prefix_plain (d ∷ ds) h first =
     let p : 0 < d = first (omega arith) in
     elim (cases_lt d 128) [
-      | inl lt ↦ record { b = d; bs = ds; is = front_small d ds lt; small = lt; below = h; short = short_small d ds p lt; number = refl }
-      | inr le ↦ record { b = 0; bs = d ∷ ds; is = front_large d ds le; small = omega arith; below = (omega arith, h); short = record { some = omega arith; positive = λ l e. le; negative = λ l e. absurd (omega arith) }; number = refl }
+      | inl lt ↦ record { b = d; bs = ds; is = prefix_small d ds lt; small = lt; below = h; short = short_small d ds p lt; number = refl }
+      | inr le ↦ record { b = 0; bs = d ∷ ds; is = prefix_large d ds le; small = omega arith; below = (omega arith, h); short = record { some = omega arith; positive = λ l e. le; negative = λ l e. absurd (omega arith) }; number = refl }
     ]
 
 first_digit : (n : ℕ) → 0 < length (digits_of 256 n) → 0 < get_or (digits_of 256 n) 0 0
@@ -104,7 +104,7 @@ first_digit (suc n) h = first_digits_of 256 (suc n) (omega arith) (omega arith)
 
 pub unsigned_plain : (n : ℕ) → Plain n (unsigned n)
 unfolding unsigned
-unsigned_plain n = subst (λ (m : ℕ). Plain m (signed_front (digits_of 256 n))) (number_digits_of 256 n (omega arith)) (front_plain (digits_of 256 n) (all_below_base_digits_of 256 n (omega arith)) (first_digit n))
+unsigned_plain n = subst (λ (m : ℕ). Plain m (signed_prefix (digits_of 256 n))) (number_digits_of 256 n (omega arith)) (prefix_plain (digits_of 256 n) (all_below_base_digits_of 256 n (omega arith)) (first_digit n))
 
 pub number_of_shortest : (z : ℤ) → whole_number (shortest z) ≡ z
 number_of_shortest (pos n) =

@@ -5,7 +5,7 @@ use Rattle.std.proofs.lemmas.List.{take_at, append-nil, length-append, length-ta
 use Rattle.std.specs.Int.Digits.{digits_of}
 use Rattle.std.proofs.lemmas.Int.Digits.{first_digits_of, length-digits_of-le}
 use Rattle.krb_der_core.specs.Tlv.{len}
-use Rattle.krb_der_core.specs.Reading.{TakesFront, NoFront, NoBeginning, Lengths}
+use Rattle.krb_der_core.specs.Reading.{TakesPrefix, NoPrefix, NoBeginning, Lengths}
 use Rattle.krb_der_core.specs.TlvLaws.{same_heads, len-small, len-large}
 
 pub same_conses : (i j : ℕ) (a b : List ℕ) → i ≡ j → a ≡ b → i ∷ a ≡ j ∷ b
@@ -15,33 +15,33 @@ same_conses i j a b e f = cc
 abbrev pub NoMeet : (List ℕ → Type 0) → List ℕ → Type 0
 NoMeet P input = (b x y : List ℕ) → P b → input ++ x ≡ b ++ y → ⊥
 
-pub front_from_meet : (P : List ℕ → Type 0) (input : List ℕ) → NoMeet P input → NoFront P input
-front_from_meet P input h b rest p e = h b [] rest p (append-nil input ∙ e)
+pub prefix_from_meet : (P : List ℕ → Type 0) (input : List ℕ) → NoMeet P input → NoPrefix P input
+prefix_from_meet P input h b rest p e = h b [] rest p (append-nil input ∙ e)
 
 pub beginning_from_meet : (P : List ℕ → Type 0) (input : List ℕ) → NoMeet P input → NoBeginning P input
 beginning_from_meet P input h b rest p e = h b rest [] p (sym e ∙ sym (append-nil b))
 
-pub refused_from_meet : (P : List ℕ → Type 0) (input : List ℕ) → NoMeet P input → NoFront P input × NoBeginning P input
-refused_from_meet P input h = (front_from_meet P input h, beginning_from_meet P input h)
+pub rejected_from_meet : (P : List ℕ → Type 0) (input : List ℕ) → NoMeet P input → NoPrefix P input × NoBeginning P input
+rejected_from_meet P input h = (prefix_from_meet P input h, beginning_from_meet P input h)
 
 pub positive : (n : ℕ) → eqb n 0 ≡ false → 0 < n
 positive zero e = absurd cc
 positive (suc n) e = omega arith
 
 -- of two prefixes of one list, one begins with the other
-pub fronts_split : (a b x y : List ℕ) → a ++ x ≡ b ++ y → ((r : List ℕ) × (a ≡ b ++ r)) ⊎ ((r : List ℕ) × (b ≡ a ++ r))
-fronts_split [] b x y e = inr (b, refl)
-fronts_split (i ∷ a) [] x y e = inl (i ∷ a, refl)
-fronts_split (i ∷ a) (j ∷ b) x y e =
+pub prefixes_split : (a b x y : List ℕ) → a ++ x ≡ b ++ y → ((r : List ℕ) × (a ≡ b ++ r)) ⊎ ((r : List ℕ) × (b ≡ a ++ r))
+prefixes_split [] b x y e = inr (b, refl)
+prefixes_split (i ∷ a) [] x y e = inl (i ∷ a, refl)
+prefixes_split (i ∷ a) (j ∷ b) x y e =
     let h = same_heads i j (a ++ x) (b ++ y) e in
-    elim (fronts_split a b x y h.1) [
+    elim (prefixes_split a b x y h.1) [
       | inl r ↦ inl (r.0, same_conses i j a (b ++ r.0) h.0 r.1)
       | inr r ↦ inr (r.0, same_conses j i b (a ++ r.0) (sym h.0) r.1)
     ]
 
-pub meet_from_both : (P : List ℕ → Type 0) (input : List ℕ) → NoFront P input × NoBeginning P input → NoMeet P input
+pub meet_from_both : (P : List ℕ → Type 0) (input : List ℕ) → NoPrefix P input × NoBeginning P input → NoMeet P input
 meet_from_both P input h b x y p e =
-    elim (fronts_split input b x y e) [
+    elim (prefixes_split input b x y e) [
       | inl r ↦ h.0 b r.0 p r.1
       | inr r ↦ h.1 b r.0 p r.1
     ]
@@ -83,13 +83,13 @@ pub by_first : (Q : ℕ → List ℕ → Type 0) → ((first : ℕ) (rest : List
 by_first Q h [] e = absurd cc
 by_first Q h (first ∷ rest) e = h first rest
 
-pub nothing_read : (input : List ℕ) → eqb (length input) 0 ≡ true → NoFront Lengths input
+pub nothing_read : (input : List ℕ) → eqb (length input) 0 ≡ true → NoPrefix Lengths input
 nothing_read [] h b rest p e = len-nonempty p.0 rest (e ∙ ap (λ (l : List ℕ). l ++ rest) p.2)
 nothing_read (i ∷ is) h b rest p e = absurd (omega (arith, eqb-true (length (i ∷ is)) 0 h))
 
-pub small_read : (input : List ℕ) → eqb (length input) 0 ≡ false → get_or input 0 0 < 128 → TakesFront (len (get_or input 0 0)) 1 input
+pub small_read : (input : List ℕ) → eqb (length input) 0 ≡ false → get_or input 0 0 < 128 → TakesPrefix (len (get_or input 0 0)) 1 input
 small_read [] h lt = absurd cc
-small_read (i ∷ is) h lt = rw (len-small i lt) (record { count = refl; front = refl })
+small_read (i ∷ is) h lt = rw (len-small i lt) (record { count = refl; prefix = refl })
 
 pub bad_first : (input : List ℕ) → eqb (length input) 0 ≡ false → 128 ≤ get_or input 0 0
     → (get_or input 0 0 ≡ 128) ⊎ ((get_or input 0 0 ≡ 128 → ⊥) × (136 < get_or input 0 0)) → NoMeet Lengths input
@@ -100,7 +100,7 @@ bad_first (i ∷ is) h ge bad b x y p e =
       | inr l ↦ elim bad [ inl a ↦ omega arith | inr a ↦ omega arith ]
     ]
 
-pub short_read : (input : List ℕ) → eqb (length input) 0 ≡ false → 128 ≤ get_or input 0 0 → length input - 1 < get_or input 0 0 - 128 → NoFront Lengths input
+pub short_read : (input : List ℕ) → eqb (length input) 0 ≡ false → 128 ≤ get_or input 0 0 → length input - 1 < get_or input 0 0 - 128 → NoPrefix Lengths input
 short_read [] h ge short b rest p e = absurd cc
 short_read (i ∷ is) h ge short b rest p e =
     elim (meets p.0 i is [] rest p.1 (append-nil (i ∷ is) ∙ e ∙ ap (λ (l : List ℕ). l ++ rest) p.2)) [
@@ -140,11 +140,11 @@ needless (i ∷ is) n h ge le d lt b x y p e =
 
 pub long_read : (input : List ℕ) (n : ℕ) → eqb (length input) 0 ≡ false → 128 ≤ get_or input 0 0
     → get_or input 0 0 - 128 ≤ length input - 1 → digits_of 256 n ≡ take (get_or input 0 0 - 128) (drop 1 input) → 128 ≤ n
-    → TakesFront (len n) (1 + (get_or input 0 0 - 128)) input
+    → TakesPrefix (len n) (1 + (get_or input 0 0 - 128)) input
 long_read [] n h ge le d big = absurd cc
 long_read (i ∷ is) n h ge le d big =
     let k : length (digits_of 256 n) ≡ i - 128 = omega (arith, ap length d, length-take-le (i - 128) is (omega arith)) in
     let head : 128 + length (digits_of 256 n) ≡ i = omega arith in
     let whole : i ∷ is ≡ (128 + length (digits_of 256 n)) ∷ (digits_of 256 n ++ drop (i - 128) is) = rw (head, d) (ap (λ (l : List ℕ). i ∷ l) (sym (take-append-drop (i - 128) is))) in
     let one : 1 + (i - 128) ≡ suc (i - 128) = omega arith in
-    rw (len-large n big, one) (record { count = omega arith; front = whole })
+    rw (len-large n big, one) (record { count = omega arith; prefix = whole })

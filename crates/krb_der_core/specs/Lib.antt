@@ -1,12 +1,12 @@
 pub mod Tlv
 pub mod Encoding
 pub mod Reading
-pub mod Faults
+pub mod Errors
 pub mod TlvLaws
 pub mod LengthLaws
-pub mod FaultLaws
-pub mod Leaf
-pub mod LeafLaws
+pub mod ErrorLaws
+pub mod Primitive
+pub mod PrimitiveLaws
 pub mod BitString
 pub mod BitStringLaws
 pub mod Integer

@@ -7,13 +7,13 @@ use Rattle.krb_der_core.specs.Tlv.{len, tlv}
 -- ---- the start of an input
 
 -- p is at the start of the input, and has n octets
-pub record TakesFront (p : List ℕ) (n : ℕ) (input : List ℕ) : Type 0 where
+pub record TakesPrefix (p : List ℕ) (n : ℕ) (input : List ℕ) : Type 0 where
   pub count : n ≡ length p
-  pub front : input ≡ p ++ drop n input
+  pub prefix : input ≡ p ++ drop n input
 
 -- nothing of P is at the start of the input
-abbrev pub NoFront : (List ℕ → Type 0) → List ℕ → Type 0
-NoFront P input = (b rest : List ℕ) → P b → input ≡ b ++ rest → ⊥
+abbrev pub NoPrefix : (List ℕ → Type 0) → List ℕ → Type 0
+NoPrefix P input = (b rest : List ℕ) → P b → input ≡ b ++ rest → ⊥
 
 -- the input is no prefix of anything of P
 abbrev pub NoBeginning : (List ℕ → Type 0) → List ℕ → Type 0
@@ -21,12 +21,12 @@ NoBeginning P input = (b rest : List ℕ) → P b → b ≡ input ++ rest → �
 
 -- When a reader of a prefix may return an error: on allocation failure always; because octets are missing only where nothing of P
 -- is at the start; another error only where the input is no prefix of anything of P either. No reader or writer fails.
-abbrev pub RefusesFront : (List ℕ → Type 0) → List ℕ → Asn1DerError → Type 0
-RefusesFront P input errors.OutOfMemory = Unit {0}
-RefusesFront P input errors.TruncatedData = NoFront P input
-RefusesFront P input errors.InvalidData = NoFront P input × NoBeginning P input
-RefusesFront P input errors.UnsupportedValue = NoFront P input × NoBeginning P input
-RefusesFront P input (errors.Io e) = ⊥
+abbrev pub RejectsPrefix : (List ℕ → Type 0) → List ℕ → Asn1DerError → Type 0
+RejectsPrefix P input errors.OutOfMemory = Unit {0}
+RejectsPrefix P input errors.TruncatedData = NoPrefix P input
+RejectsPrefix P input errors.InvalidData = NoPrefix P input × NoBeginning P input
+RejectsPrefix P input errors.UnsupportedValue = NoPrefix P input × NoBeginning P input
+RejectsPrefix P input (errors.Io e) = ⊥
 
 -- The encodings of the values of a type. Their lengths are below 2^64: from there on the length octets are nine, and
 -- those of a proper prefix are rejected as a form that is not supported.
@@ -44,9 +44,9 @@ Elements t b = (c : List ℕ) × (length b < 2 ^ 64) × (b ≡ tlv t c)
 -- ---- the whole input
 
 -- When a reader of the whole input may return an error: on allocation failure always; else only where no value has these octets.
-abbrev pub RefusesAll : {A : Type 0} → (A → Type 0) → (A → List ℕ) → List ℕ → Asn1DerError → Type 0
-RefusesAll is_value octets input errors.OutOfMemory = Unit {0}
-RefusesAll {A} is_value octets input errors.TruncatedData = (v : A) → is_value v → input ≡ octets v → ⊥
-RefusesAll {A} is_value octets input errors.InvalidData = (v : A) → is_value v → input ≡ octets v → ⊥
-RefusesAll {A} is_value octets input errors.UnsupportedValue = (v : A) → is_value v → input ≡ octets v → ⊥
-RefusesAll is_value octets input (errors.Io e) = ⊥
+abbrev pub RejectsAll : {A : Type 0} → (A → Type 0) → (A → List ℕ) → List ℕ → Asn1DerError → Type 0
+RejectsAll is_value octets input errors.OutOfMemory = Unit {0}
+RejectsAll {A} is_value octets input errors.TruncatedData = (v : A) → is_value v → input ≡ octets v → ⊥
+RejectsAll {A} is_value octets input errors.InvalidData = (v : A) → is_value v → input ≡ octets v → ⊥
+RejectsAll {A} is_value octets input errors.UnsupportedValue = (v : A) → is_value v → input ≡ octets v → ⊥
+RejectsAll is_value octets input (errors.Io e) = ⊥

@@ -9,8 +9,8 @@ use Rattle.krb_der_core.specs.Tlv.{len, tlv}
 use Rattle.krb_der_core.specs.Encoding.{IsElement, OneValue, BeginsWith, Apart, optional}
 
 -- prefixes of one length
-pub same_fronts : (a b x y : List ℕ) → length a ≡ length b → a ++ x ≡ b ++ y → (a ≡ b) × (x ≡ y)
-same_fronts a b x y h e = (
+pub same_prefixes : (a b x y : List ℕ) → length a ≡ length b → a ++ x ≡ b ++ y → (a ≡ b) × (x ≡ y)
+same_prefixes a b x y h e = (
   sym (take_at a x (length a) refl) ∙ ap (λ (l : List ℕ). take (length a) l) e ∙ take_at b y (length a) (sym h),
   sym (drop_at a x (length a) refl) ∙ ap (λ (l : List ℕ). drop (length a) l) e ∙ drop_at b y (length a) (sym h),
 )
@@ -43,7 +43,7 @@ len_apart m n x y e =
         | inr hn ↦
             (let f : (128 + length (digits_of 256 m)) ∷ (digits_of 256 m ++ x) ≡ (128 + length (digits_of 256 n)) ∷ (digits_of 256 n ++ y) = rw (len-large m hm, len-large n hn) at e in
             let h = same_heads _ _ _ _ f in
-            let k = same_fronts (digits_of 256 m) (digits_of 256 n) x y (omega (arith, h.0)) h.1 in
+            let k = same_prefixes (digits_of 256 m) (digits_of 256 n) x y (omega (arith, h.0)) h.1 in
             (same_from_digits_of 256 m n (omega arith) k.0, k.1))
       ]
     ]
@@ -60,7 +60,7 @@ tlv_apart t u c d x y e =
     let h = same_heads t u ((len (length c) ++ c) ++ x) ((len (length d) ++ d) ++ y) e in
     let f : len (length c) ++ (c ++ x) ≡ len (length d) ++ (d ++ y) = sym (append_assoc (len (length c)) c x) ∙ h.1 ∙ append_assoc (len (length d)) d y in
     let k = len_apart (length c) (length d) (c ++ x) (d ++ y) f in
-    let s = same_fronts c d x y k.0 k.1 in
+    let s = same_prefixes c d x y k.0 k.1 in
     record { tag = h.0; content = s.0; rest = s.1 }
 
 -- equal elements have equal contents

@@ -9,8 +9,8 @@ ghost use Rattle.krb_der_core.specs.TlvLaws.{tagged_element, tagged_one_value};
 ghost use Rattle.krb_der_core.specs.BitString.{Bits, IsBits, bits_content};
 ghost use Rattle.krb_der_core.specs.BitStringLaws.{bits_one_content};
 ghost use Rattle.krb_der_core.specs.declared.error.Asn1DerError.TheVariants.{InvalidData};
-ghost use Rattle.krb_der_core.specs.Faults.{LeafFault};
-ghost use Rattle.krb_der_core.specs.FaultLaws.{leaf_fault_laws};
+ghost use Rattle.krb_der_core.specs.Errors.{PrimitiveError};
+ghost use Rattle.krb_der_core.specs.ErrorLaws.{primitive_error_laws};
 
 use crate::content::{Content, read_tagged};
 use crate::der::{Der, DerEncode};
@@ -67,7 +67,7 @@ impl BitStringAsn1 {
     /// `InvalidData` where `spare` is more than 7, an unused bit is set, or there are unused bits and no octets.
     pub fn new(octets: Vec<u8>, spare: u8) -> Result<Self, Asn1DerError>
         ensures value { IfOk result (λ v. (v ≡ record { octets = octets.items; spare = spare }) × IsBits v) }
-        ensures refused { IfErr result (λ e. (e ≡ InvalidData) × (IsBits (record { octets = octets.items; spare = spare }) → ⊥)) }
+        ensures rejected { IfErr result (λ e. (e ≡ InvalidData) × (IsBits (record { octets = octets.items; spare = spare }) → ⊥)) }
     {
         if !are_bits(&octets, spare) {
             return Err(Asn1DerError::InvalidData);
@@ -145,9 +145,9 @@ impl DerEncode for BitStringAsn1 {
 
     ghost one_value = { tagged_one_value 3 IsBits bits_content bits_one_content };
 
-    ghost fault = { LeafFault 3 IsBits bits_content };
+    ghost error = { PrimitiveError 3 IsBits bits_content };
 
-    ghost fault_laws = { leaf_fault_laws 3 IsBits bits_content };
+    ghost error_laws = { primitive_error_laws 3 IsBits bits_content };
 
     fn starts(octet: u8) -> bool {
         octet == BIT_STRING

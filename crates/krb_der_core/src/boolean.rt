@@ -3,10 +3,10 @@
 ghost use Rattle.std.specs.Prelude.{◌==◌};
 ghost use Rattle.krb_der_core.specs.Tlv.{tlv};
 ghost use Rattle.krb_der_core.specs.TlvLaws.{tagged_element, tagged_one_value};
-ghost use Rattle.krb_der_core.specs.Leaf.{bool_content};
-ghost use Rattle.krb_der_core.specs.LeafLaws.{bool_one_content};
-ghost use Rattle.krb_der_core.specs.Faults.{LeafFault};
-ghost use Rattle.krb_der_core.specs.FaultLaws.{leaf_fault_laws};
+ghost use Rattle.krb_der_core.specs.Primitive.{bool_content};
+ghost use Rattle.krb_der_core.specs.PrimitiveLaws.{bool_one_content};
+ghost use Rattle.krb_der_core.specs.Errors.{PrimitiveError};
+ghost use Rattle.krb_der_core.specs.ErrorLaws.{primitive_error_laws};
 
 use crate::content::{Content, read_tagged};
 use crate::der::{Der, DerEncode};
@@ -45,9 +45,9 @@ impl DerEncode for bool {
 
     ghost one_value = { tagged_one_value 1 (λ v. Unit {0}) bool_content bool_one_content };
 
-    ghost fault = { LeafFault 1 (λ v. Unit {0}) bool_content };
+    ghost error = { PrimitiveError 1 (λ v. Unit {0}) bool_content };
 
-    ghost fault_laws = { leaf_fault_laws 1 (λ v. Unit {0}) bool_content };
+    ghost error_laws = { primitive_error_laws 1 (λ v. Unit {0}) bool_content };
 
     fn starts(octet: u8) -> bool {
         octet == BOOLEAN

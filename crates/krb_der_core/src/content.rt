@@ -3,8 +3,8 @@
 ghost use Rattle.std.specs.Prelude.{◌≡◌, ◌⊎◌, List, ℕ, IfOk, IfErr, IsErrAnd};
 ghost use Rattle.krb_der_core.specs.Tlv.{tlv};
 ghost use Rattle.krb_der_core.specs.Encoding.{OneValue};
-ghost use Rattle.krb_der_core.specs.Reading.{RefusesAll};
-ghost use Rattle.krb_der_core.specs.Faults.{LeafFault, OrMemory};
+ghost use Rattle.krb_der_core.specs.Reading.{RejectsAll};
+ghost use Rattle.krb_der_core.specs.Errors.{PrimitiveError, OrMemory};
 ghost use Rattle.krb_der_core.specs.declared.error.Asn1DerError.TheVariants as errors;
 
 use crate::error::Asn1DerError;
@@ -25,8 +25,8 @@ pub(crate) trait Content {
     fn read_content(alloc: Global, content: &[u8]) -> Result<Self, Asn1DerError>
         ensures valid { IfOk result has_content }
         ensures found { IfOk result (λ v. content.now ≡ octets v) }
-        ensures refused { IfErr result (RefusesAll has_content octets content.now) }
-        ensures fault { IfErr result (λ e. (e ≡ errors.InvalidData) ⊎ (e ≡ errors.OutOfMemory)) };
+        ensures rejected { IfErr result (RejectsAll has_content octets content.now) }
+        ensures error { IfErr result (λ e. (e ≡ errors.InvalidData) ⊎ (e ≡ errors.OutOfMemory)) };
 }
 
 /// The value whose element has this tag and content. Another tag than the expected one is `InvalidData`.
@@ -38,10 +38,10 @@ pub(crate) fn read_tagged<C: Content>(
 ) -> Result<C, Asn1DerError>
     ensures valid { IfOk result C.has_content }
     ensures found { IfOk result (λ v. tlv tag content.now ≡ tlv wanted (C.octets v)) }
-    ensures refused { IfErr result (RefusesAll C.has_content (λ v. tlv wanted (C.octets v)) (tlv tag content.now)) }
-    ensures fault { IfErr result (λ e. (e ≡ errors.InvalidData) ⊎ (e ≡ errors.OutOfMemory)) }
+    ensures rejected { IfErr result (RejectsAll C.has_content (λ v. tlv wanted (C.octets v)) (tlv tag content.now)) }
+    ensures error { IfErr result (λ e. (e ≡ errors.InvalidData) ⊎ (e ≡ errors.OutOfMemory)) }
     ensures wrong_tag { (tag ≡ wanted → ⊥) → IsErrAnd result (λ e. e ≡ errors.InvalidData) }
-    ensures first_fault { IfErr result (OrMemory (LeafFault wanted C.has_content C.octets tag content.now)) }
+    ensures first_error { IfErr result (OrMemory (PrimitiveError wanted C.has_content C.octets tag content.now)) }
 {
     if tag != wanted {
         return Err(Asn1DerError::InvalidData);

@@ -3,8 +3,8 @@
 ghost use Rattle.std.specs.Prelude.{◌≡◌, ◌<◌, ℕ, Bool, false, List, ◌++◌, length, slice_index, IfOk, IfErr, IsErrAnd, OnOk, OnErr};
 ghost use Rattle.krb_der_core.specs.Tlv.{tlv};
 ghost use Rattle.krb_der_core.specs.Encoding.{IsElement, IsSequence, OneValue};
-ghost use Rattle.krb_der_core.specs.Reading.{TakesFront, RefusesFront, RefusesAll, Encodings};
-ghost use Rattle.krb_der_core.specs.Faults.{FaultLaws, FrontFault, OrMemory};
+ghost use Rattle.krb_der_core.specs.Reading.{TakesPrefix, RejectsPrefix, RejectsAll, Encodings};
+ghost use Rattle.krb_der_core.specs.Errors.{ErrorLaws, PrefixError, OrMemory};
 ghost use Rattle.krb_der_core.specs.declared.error.Asn1DerError.{Asn1DerError};
 ghost use Rattle.krb_der_core.specs.declared.error.Asn1DerError.TheVariants.{InvalidData};
 
@@ -30,10 +30,10 @@ pub trait DerEncode {
     ghost one_value: { OneValue is_value enc };
 
     /// The first error of an element with this tag and content: that of the tag, then that of the content, from the left.
-    ghost fault: { ℕ → List ℕ → Asn1DerError → Type 0 };
+    ghost error: { ℕ → List ℕ → Asn1DerError → Type 0 };
 
     /// An element with an error is the encoding of no value, and has no other first error.
-    ghost fault_laws: { FaultLaws is_value enc fault };
+    ghost error_laws: { ErrorLaws is_value enc error };
 
     /// Whether a value's encoding may begin with this octet.
     fn starts(octet: u8) -> bool
@@ -54,9 +54,9 @@ pub trait Der: DerEncode {
     fn read_element(alloc: Global, tag: u8, content: &[u8]) -> Result<Self, Asn1DerError>
         ensures valid { IfOk result Self.is_value }
         ensures found { IfOk result (λ v. tlv tag content.now ≡ Self.enc v) }
-        ensures refused { IfErr result (RefusesAll Self.is_value Self.enc (tlv tag content.now)) }
+        ensures rejected { IfErr result (RejectsAll Self.is_value Self.enc (tlv tag content.now)) }
         ensures wrong_tag { Self.first tag ≡ false → IsErrAnd result (λ e. e ≡ InvalidData) }
-        ensures first_fault { IfErr result (OrMemory (Self.fault tag content.now)) };
+        ensures first_error { IfErr result (OrMemory (Self.error tag content.now)) };
 
     /// The value whose encoding is at the start of the input, and the number of its octets.
     ///
@@ -64,10 +64,10 @@ pub trait Der: DerEncode {
     /// (none is `TruncatedData`, another `InvalidData`), then that of the length, then that of the content.
     final fn read(alloc: Global, input: &[u8]) -> Result<(Self, usize), Asn1DerError>
         ensures valid { IfOk result (λ p. Self.is_value p.0) }
-        ensures found { IfOk result (λ p. TakesFront (Self.enc p.0) p.1 input.now) }
-        ensures refused { IfErr result (RefusesFront (Encodings Self.is_value Self.enc) input.now) }
+        ensures found { IfOk result (λ p. TakesPrefix (Self.enc p.0) p.1 input.now) }
+        ensures rejected { IfErr result (RejectsPrefix (Encodings Self.is_value Self.enc) input.now) }
         ensures wrong_tag { 0 < length input.now → Self.first (slice_index input.now 0) ≡ false → IsErrAnd result (λ e. e ≡ InvalidData) }
-        ensures first_fault { IfErr result (OrMemory (FrontFault Self.first Self.fault input.now)) }
+        ensures first_error { IfErr result (OrMemory (PrefixError Self.first Self.error input.now)) }
     {
         if input.is_empty() {
             return Err(Asn1DerError::TruncatedData);

@@ -8,10 +8,10 @@ ghost use Rattle.std.specs.Cmp.Rules.{comparing};
 ghost use Rattle.std.proofs.Common.{rules};
 ghost use Rattle.krb_der_core.specs.Tlv.{tlv};
 ghost use Rattle.krb_der_core.specs.TlvLaws.{tagged_element, tagged_one_value};
-ghost use Rattle.krb_der_core.specs.LeafLaws.{same_one_content};
+ghost use Rattle.krb_der_core.specs.PrimitiveLaws.{same_one_content};
 ghost use Rattle.krb_der_core.specs.declared.error.Asn1DerError.TheVariants.{InvalidData};
-ghost use Rattle.krb_der_core.specs.Faults.{LeafFault};
-ghost use Rattle.krb_der_core.specs.FaultLaws.{leaf_fault_laws};
+ghost use Rattle.krb_der_core.specs.Errors.{PrimitiveError};
+ghost use Rattle.krb_der_core.specs.ErrorLaws.{primitive_error_laws};
 
 use crate::content::{Content, read_tagged};
 use crate::der::{Der, DerEncode};
@@ -42,7 +42,7 @@ impl GeneralStringAsn1 {
     /// The text, without a copy. `InvalidData` where one of its octets is more than 127.
     pub fn from_string(text: String) -> Result<Self, Asn1DerError>
         ensures value { IfOk result (λ v. (v ≡ string_bytes text) × IsAscii v) }
-        ensures refused { IfErr result (λ e. (e ≡ InvalidData) × IsNotAscii (string_bytes text)) }
+        ensures rejected { IfErr result (λ e. (e ≡ InvalidData) × IsNotAscii (string_bytes text)) }
     {
         if !text.as_str().is_ascii() {
             return Err(Asn1DerError::InvalidData);
@@ -98,9 +98,9 @@ impl DerEncode for GeneralStringAsn1 {
 
     ghost one_value = { tagged_one_value 27 IsAscii (λ v. v) (same_one_content IsAscii) };
 
-    ghost fault = { LeafFault 27 IsAscii (λ v. v) };
+    ghost error = { PrimitiveError 27 IsAscii (λ v. v) };
 
-    ghost fault_laws = { leaf_fault_laws 27 IsAscii (λ v. v) };
+    ghost error_laws = { primitive_error_laws 27 IsAscii (λ v. v) };
 
     fn starts(octet: u8) -> bool {
         octet == GENERAL_STRING

@@ -4,10 +4,10 @@ ghost use Rattle.std.specs.Prelude.{◌==◌, ◌≡◌, ◌↔◌, ◌+◌, ◌
 ghost use Rattle.krb_der_core.specs.Tlv.{tlv};
 ghost use Rattle.krb_der_core.specs.TlvLaws.{tagged_element, tagged_one_value};
 ghost use Rattle.krb_der_core.specs.declared.error.Asn1DerError.TheVariants as errors;
-ghost use Rattle.krb_der_core.specs.GeneralizedTime.{Time, time, IsRealDate, IsTimeOfDay, IsRealTime, last_digit, time_content, number_at, time_told};
+ghost use Rattle.krb_der_core.specs.GeneralizedTime.{Time, time, IsRealDate, IsTimeOfDay, IsRealTime, last_digit, time_content, number_at, time_read};
 ghost use Rattle.krb_der_core.specs.GeneralizedTimeLaws.{time_one_content};
-ghost use Rattle.krb_der_core.specs.Faults.{LeafFault};
-ghost use Rattle.krb_der_core.specs.FaultLaws.{leaf_fault_laws};
+ghost use Rattle.krb_der_core.specs.Errors.{PrimitiveError};
+ghost use Rattle.krb_der_core.specs.ErrorLaws.{primitive_error_laws};
 
 use crate::content::{Content, read_tagged};
 use crate::der::{Der, DerEncode};
@@ -63,7 +63,7 @@ impl GeneralizedTimeAsn1 {
     ) -> Result<Self, Asn1DerError>
         ensures real { IsOk result ↔ IsRealTime (time year month day hour minute second) }
         ensures value { IfOk result (λ t. t ≡ time year month day hour minute second) }
-        ensures refused { IfErr result (λ e. e ≡ errors.InvalidData) }
+        ensures rejected { IfErr result (λ e. e ≡ errors.InvalidData) }
     {
         if !is_real_date(year, month, day) || !is_time_of_day(hour, minute, second) {
             return Err(Asn1DerError::InvalidData);
@@ -179,11 +179,11 @@ fn number_at(content: &[u8], index: usize) -> u8
 
 /// The time whose digits are at their places in a content, or `InvalidData` where the calendar has no such time. An octet
 /// that is no digit counts as some number too.
-fn time_told(content: &[u8]) -> Result<GeneralizedTimeAsn1, Asn1DerError>
+fn time_read(content: &[u8]) -> Result<GeneralizedTimeAsn1, Asn1DerError>
     requires { length content.now ≡ 15 }
-    ensures real { IsOk result ↔ IsRealTime (time_told content.now) }
-    ensures value { IfOk result (λ t. t ≡ time_told content.now) }
-    ensures refused { IfErr result (λ e. e ≡ errors.InvalidData) }
+    ensures real { IsOk result ↔ IsRealTime (time_read content.now) }
+    ensures value { IfOk result (λ t. t ≡ time_read content.now) }
+    ensures rejected { IfErr result (λ e. e ≡ errors.InvalidData) }
 {
     GeneralizedTimeAsn1::new(
         100 * u16::from(number_at(content, 0)) + u16::from(number_at(content, 2)),
@@ -206,7 +206,7 @@ impl Content for GeneralizedTimeAsn1 {
         if content.len() != CONTENT_LENGTH {
             return Err(Asn1DerError::InvalidData);
         }
-        let time = time_told(content)?;
+        let time = time_read(content)?;
         // The time's content equals these octets only where each is the digit or the `Z` of its place.
         if time.octets().as_slice() != content {
             return Err(Asn1DerError::InvalidData);
@@ -226,9 +226,9 @@ impl DerEncode for GeneralizedTimeAsn1 {
 
     ghost one_value = { tagged_one_value 24 IsRealTime time_content time_one_content };
 
-    ghost fault = { LeafFault 24 IsRealTime time_content };
+    ghost error = { PrimitiveError 24 IsRealTime time_content };
 
-    ghost fault_laws = { leaf_fault_laws 24 IsRealTime time_content };
+    ghost error_laws = { primitive_error_laws 24 IsRealTime time_content };
 
     fn starts(octet: u8) -> bool {
         octet == GENERALIZED_TIME

@@ -11,8 +11,8 @@ ghost use Rattle.krb_der_core.specs.TlvLaws.{tagged_element, tagged_one_value};
 ghost use Rattle.krb_der_core.specs.Integer.{inverted, shortest, whole_number, IsShortest};
 ghost use Rattle.krb_der_core.specs.IntegerLaws.{integer_one_content};
 ghost use Rattle.krb_der_core.specs.declared.error.Asn1DerError.TheVariants.{OutOfMemory};
-ghost use Rattle.krb_der_core.specs.Faults.{LeafFault};
-ghost use Rattle.krb_der_core.specs.FaultLaws.{leaf_fault_laws};
+ghost use Rattle.krb_der_core.specs.Errors.{PrimitiveError};
+ghost use Rattle.krb_der_core.specs.ErrorLaws.{primitive_error_laws};
 
 use crate::content::{Content, read_tagged};
 use crate::der::{Der, DerEncode};
@@ -92,9 +92,9 @@ impl IntegerAsn1 {
             return Ok(IntegerAsn1(Vec::from_slice(alloc, &[0])?));
         }
         let mut octets = octets;
-        let front = needless(&octets);
-        let kept = octets.len() - front;
-        octets.rotate_left(front);
+        let prefix = needless(&octets);
+        let kept = octets.len() - prefix;
+        octets.rotate_left(prefix);
         octets.truncate(kept);
         Ok(IntegerAsn1(octets))
     }
@@ -185,9 +185,9 @@ impl DerEncode for IntegerAsn1 {
 
     ghost one_value = { tagged_one_value 2 (λ v. Unit {0}) shortest integer_one_content };
 
-    ghost fault = { LeafFault 2 (λ v. Unit {0}) shortest };
+    ghost error = { PrimitiveError 2 (λ v. Unit {0}) shortest };
 
-    ghost fault_laws = { leaf_fault_laws 2 (λ v. Unit {0}) shortest };
+    ghost error_laws = { primitive_error_laws 2 (λ v. Unit {0}) shortest };
 
     fn starts(octet: u8) -> bool {
         octet == INTEGER

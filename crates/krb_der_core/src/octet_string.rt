@@ -7,9 +7,9 @@ ghost use Rattle.std.proofs.Common.{rules};
 ghost use Rattle.krb_der_core.specs.Tlv.{tlv};
 ghost use Rattle.krb_der_core.specs.TlvLaws.{tagged_element, tagged_one_value};
 ghost use Rattle.krb_der_core.specs.Encoding.{IsOctets};
-ghost use Rattle.krb_der_core.specs.LeafLaws.{same_one_content};
-ghost use Rattle.krb_der_core.specs.Faults.{LeafFault};
-ghost use Rattle.krb_der_core.specs.FaultLaws.{leaf_fault_laws};
+ghost use Rattle.krb_der_core.specs.PrimitiveLaws.{same_one_content};
+ghost use Rattle.krb_der_core.specs.Errors.{PrimitiveError};
+ghost use Rattle.krb_der_core.specs.ErrorLaws.{primitive_error_laws};
 
 use crate::content::{Content, read_tagged};
 use crate::der::{Der, DerEncode};
@@ -75,9 +75,9 @@ impl DerEncode for OctetStringAsn1 {
 
     ghost one_value = { tagged_one_value 4 IsOctets (λ v. v) (same_one_content IsOctets) };
 
-    ghost fault = { LeafFault 4 IsOctets (λ v. v) };
+    ghost error = { PrimitiveError 4 IsOctets (λ v. v) };
 
-    ghost fault_laws = { leaf_fault_laws 4 IsOctets (λ v. v) };
+    ghost error_laws = { primitive_error_laws 4 IsOctets (λ v. v) };
 
     fn starts(octet: u8) -> bool {
         octet == OCTET_STRING

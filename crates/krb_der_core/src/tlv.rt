@@ -3,8 +3,8 @@
 ghost use Rattle.std.specs.Prelude.{◌≡◌, ◌⊎◌, ℕ, ◌^◌, ◌-◌, ◌<◌, ◌≤◌, ◌++◌, length, take, drop, slice_index, IfOk, IfErr, OnOk, OnErr};
 ghost use Rattle.std.specs.Int.Digits.{digits_of, number_from_digits};
 ghost use Rattle.krb_der_core.specs.Tlv.{len, header, tlv};
-ghost use Rattle.krb_der_core.specs.Reading.{TakesFront, RefusesFront, Lengths, Elements};
-ghost use Rattle.krb_der_core.specs.Faults.{LengthFault, HeaderFault};
+ghost use Rattle.krb_der_core.specs.Reading.{TakesPrefix, RejectsPrefix, Lengths, Elements};
+ghost use Rattle.krb_der_core.specs.Errors.{LengthError, HeaderError};
 ghost use Rattle.krb_der_core.specs.declared.error.Asn1DerError.TheVariants as errors;
 
 use crate::error::Asn1DerError;
@@ -24,13 +24,13 @@ pub(crate) fn number_of(octets: &[u8]) -> usize
 
 /// The length at the start, and the number of its octets.
 pub fn read_length(input: &[u8]) -> Result<(usize, usize), Asn1DerError>
-    ensures found { IfOk result (λ p. TakesFront (len p.0) p.1 input.now) }
+    ensures found { IfOk result (λ p. TakesPrefix (len p.0) p.1 input.now) }
     ensures fits { IfOk result (λ p. p.0 < 2 ^ 64) }
-    ensures refused { IfErr result (RefusesFront Lengths input.now) }
+    ensures rejected { IfErr result (RejectsPrefix Lengths input.now) }
     ensures missing { IfErr result (λ e. e ≡ errors.TruncatedData → length input.now ≤ slice_index input.now 0 - 128) }
     ensures unsupported { IfErr result (λ e. e ≡ errors.UnsupportedValue → (slice_index input.now 0 ≡ 128) ⊎ (136 < slice_index input.now 0)) }
     ensures heapless { IfErr result (λ e. e ≡ errors.OutOfMemory → ⊥) }
-    ensures first_fault { IfErr result (LengthFault input.now) }
+    ensures first_error { IfErr result (LengthError input.now) }
 {
     if input.is_empty() {
         return Err(Asn1DerError::TruncatedData);
@@ -59,10 +59,10 @@ pub fn read_length(input: &[u8]) -> Result<(usize, usize), Asn1DerError>
 
 /// The content of the element with this tag at the start, and the number of the element's octets.
 pub fn read_tlv(tag: u8, input: &[u8]) -> Result<(&[u8], usize), Asn1DerError>
-    ensures found { IfOk result (λ p. TakesFront (tlv tag p.0.now) p.1 input.now) }
-    ensures refused { IfErr result (RefusesFront (Elements tag) input.now) }
+    ensures found { IfOk result (λ p. TakesPrefix (tlv tag p.0.now) p.1 input.now) }
+    ensures rejected { IfErr result (RejectsPrefix (Elements tag) input.now) }
     ensures heapless { IfErr result (λ e. e ≡ errors.OutOfMemory → ⊥) }
-    ensures first_fault { IfErr result (HeaderFault tag input.now) }
+    ensures first_error { IfErr result (HeaderError tag input.now) }
 {
     if input.is_empty() {
         return Err(Asn1DerError::TruncatedData);
@@ -70,9 +70,9 @@ pub fn read_tlv(tag: u8, input: &[u8]) -> Result<(&[u8], usize), Asn1DerError>
     if input[0] != tag {
         return Err(Asn1DerError::InvalidData);
     }
-    let behind = &input[1..];
-    let (length, taken) = read_length(behind)?;
-    let rest = &behind[taken..];
+    let trailing = &input[1..];
+    let (length, taken) = read_length(trailing)?;
+    let rest = &trailing[taken..];
     if rest.len() < length {
         return Err(Asn1DerError::TruncatedData);
     }

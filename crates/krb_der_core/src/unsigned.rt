@@ -6,8 +6,8 @@ ghost use Rattle.krb_der_core.specs.Tlv.{tlv};
 ghost use Rattle.krb_der_core.specs.TlvLaws.{tagged_element};
 ghost use Rattle.krb_der_core.specs.Integer.{unsigned, shortest};
 ghost use Rattle.krb_der_core.specs.UnsignedLaws.{unsigned_one_value};
-ghost use Rattle.krb_der_core.specs.Faults.{LeafFault};
-ghost use Rattle.krb_der_core.specs.FaultLaws.{leaf_fault_laws};
+ghost use Rattle.krb_der_core.specs.Errors.{PrimitiveError};
+ghost use Rattle.krb_der_core.specs.ErrorLaws.{primitive_error_laws};
 
 use crate::der::{Der, DerEncode};
 use crate::error::Asn1DerError;
@@ -53,9 +53,9 @@ impl DerEncode for u32 {
 
     ghost one_value = { unsigned_one_value (λ v. v < 2 ^ 32) };
 
-    ghost fault = { LeafFault 2 (λ v. v < 2 ^ 32) (λ v. shortest (pos v)) };
+    ghost error = { PrimitiveError 2 (λ v. v < 2 ^ 32) (λ v. shortest (pos v)) };
 
-    ghost fault_laws = { leaf_fault_laws 2 (λ v. v < 2 ^ 32) (λ v. shortest (pos v)) };
+    ghost error_laws = { primitive_error_laws 2 (λ v. v < 2 ^ 32) (λ v. shortest (pos v)) };
 
     fn starts(octet: u8) -> bool {
         octet == INTEGER

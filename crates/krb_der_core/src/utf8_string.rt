@@ -8,9 +8,9 @@ ghost use Rattle.std.specs.Cmp.Rules.{comparing};
 ghost use Rattle.std.proofs.Common.{rules};
 ghost use Rattle.krb_der_core.specs.Tlv.{tlv};
 ghost use Rattle.krb_der_core.specs.TlvLaws.{tagged_element, tagged_one_value};
-ghost use Rattle.krb_der_core.specs.LeafLaws.{same_one_content};
-ghost use Rattle.krb_der_core.specs.Faults.{LeafFault};
-ghost use Rattle.krb_der_core.specs.FaultLaws.{leaf_fault_laws};
+ghost use Rattle.krb_der_core.specs.PrimitiveLaws.{same_one_content};
+ghost use Rattle.krb_der_core.specs.Errors.{PrimitiveError};
+ghost use Rattle.krb_der_core.specs.ErrorLaws.{primitive_error_laws};
 
 use crate::content::{Content, read_tagged};
 use crate::der::{Der, DerEncode};
@@ -80,9 +80,9 @@ impl DerEncode for Utf8StringAsn1 {
 
     ghost one_value = { tagged_one_value 12 IsUtf8 (λ v. v) (same_one_content IsUtf8) };
 
-    ghost fault = { LeafFault 12 IsUtf8 (λ v. v) };
+    ghost error = { PrimitiveError 12 IsUtf8 (λ v. v) };
 
-    ghost fault_laws = { leaf_fault_laws 12 IsUtf8 (λ v. v) };
+    ghost error_laws = { primitive_error_laws 12 IsUtf8 (λ v. v) };
 
     fn starts(octet: u8) -> bool {
         octet == UTF8_STRING

@@ -7,9 +7,9 @@ use Rattle.std.specs.Int.Digits.{digits_of, number_from_digits_after}
 use Rattle.std.proofs.lemmas.Int.Digits.{digits_of_step, first_digits_of, number_after_append, number_after_ge, number_digits_of}
 use Rattle.krb_der_core.specs.declared.error.Asn1DerError.{Asn1DerError}
 use Rattle.krb_der_core.specs.declared.error.Asn1DerError.TheVariants as errors
-use Rattle.krb_der_core.specs.Reading.{TakesFront, RefusesAll}
+use Rattle.krb_der_core.specs.Reading.{TakesPrefix, RejectsAll}
 use Rattle.krb_der_x509.specs.ObjectIdentifier.{continued, sub_identifier, sub_identifiers, arcs_content, IsArcs}
-use Rattle.krb_der_x509.specs.ObjectIdentifierFaults.{IsTooLarge}
+use Rattle.krb_der_x509.specs.ObjectIdentifierErrors.{IsTooLarge}
 use Rattle.krb_der_x509.specs.ObjectIdentifierLaws.{decode, decode_more, decode_sub, decode_none, decode_large, sub_apart, sub_some}
 
 -- the octets taken so far are the digits of n with more after them
@@ -60,27 +60,27 @@ sub_step octets taken n m s first lt le fits e =
     let some : 0 < n * 128 + b = more_begun octets taken n s first le in
     let whole : 128 + b ≡ get_or octets taken 0 = omega arith in
     let digits : continued (digits_of 128 (n * 128 + b)) ≡ continued (digits_of 128 n) ++ get_or octets taken 0 ∷ [] = continued_more n b some (omega arith) ∙ ap (λ c. continued (digits_of 128 n) ++ c ∷ []) whole in
-    let behind : drop taken octets ≡ get_or octets taken 0 ∷ drop (taken + 1) octets = drop_more octets taken 0 lt in
+    let trailing : drop taken octets ≡ get_or octets taken 0 ∷ drop (taken + 1) octets = drop_more octets taken 0 lt in
     rw same (record {
       within = omega arith;
-      parts = s.parts ∙ ap (λ (l : List ℕ). continued (digits_of 128 n) ++ l) behind ∙ sym (ap (λ (l : List ℕ). l ++ drop (taken + 1) octets) digits ∙ append_assoc (continued (digits_of 128 n)) (get_or octets taken 0 ∷ []) (drop (taken + 1) octets));
+      parts = s.parts ∙ ap (λ (l : List ℕ). continued (digits_of 128 n) ++ l) trailing ∙ sym (ap (λ (l : List ℕ). l ++ drop (taken + 1) octets) digits ∙ append_assoc (continued (digits_of 128 n)) (get_or octets taken 0 ∷ []) (drop (taken + 1) octets));
       count = omega (arith, ap length digits, length-append (continued (digits_of 128 n)) (get_or octets taken 0 ∷ []), s.count);
-      same = s.same ∙ ap (λ (l : List ℕ). decode n l) behind ∙ decode_more n (get_or octets taken 0) (drop (taken + 1) octets) le;
+      same = s.same ∙ ap (λ (l : List ℕ). decode n l) trailing ∙ decode_more n (get_or octets taken 0) (drop (taken + 1) octets) le;
       begun = λ q. some;
     })
 
 -- the last octet ends a sub-identifier
-pub sub_read : (octets : List ℕ) (taken n m : ℕ) → SubSoFar octets taken n → taken < length octets → get_or octets taken 0 < 128 → m ≡ n * 128 + get_or octets taken 0 % 128 → TakesFront (sub_identifier m) (taken + 1) octets
+pub sub_read : (octets : List ℕ) (taken n m : ℕ) → SubSoFar octets taken n → taken < length octets → get_or octets taken 0 < 128 → m ≡ n * 128 + get_or octets taken 0 % 128 → TakesPrefix (sub_identifier m) (taken + 1) octets
 unfolding sub_identifier
 sub_read octets taken n m s lt small e =
     let c = get_or octets taken 0 in
     let q : m / 128 ≡ n = omega (arith, e) in
     let r : m % 128 ≡ c = omega (arith, e) in
     let whole : sub_identifier m ≡ continued (digits_of 128 n) ++ c ∷ [] = ap (λ k. continued (digits_of 128 k) ++ m % 128 ∷ []) q ∙ ap (λ k. continued (digits_of 128 n) ++ k ∷ []) r in
-    let behind : drop taken octets ≡ c ∷ drop (taken + 1) octets = drop_more octets taken 0 lt in
+    let trailing : drop taken octets ≡ c ∷ drop (taken + 1) octets = drop_more octets taken 0 lt in
     record {
       count = omega (arith, ap length whole, length-append (continued (digits_of 128 n)) (c ∷ []), s.count);
-      front = s.parts ∙ ap (λ (l : List ℕ). continued (digits_of 128 n) ++ l) behind ∙ sym (ap (λ (l : List ℕ). l ++ drop (taken + 1) octets) whole ∙ append_assoc (continued (digits_of 128 n)) (c ∷ []) (drop (taken + 1) octets));
+      prefix = s.parts ∙ ap (λ (l : List ℕ). continued (digits_of 128 n) ++ l) trailing ∙ sym (ap (λ (l : List ℕ). l ++ drop (taken + 1) octets) whole ∙ append_assoc (continued (digits_of 128 n)) (c ∷ []) (drop (taken + 1) octets));
     }
 
 pub sub_long : (octets : List ℕ) (taken n m : ℕ) (rest : List ℕ) → SubSoFar octets taken n → 2 ^ 57 ≤ n → m < 2 ^ 64 → octets ≡ sub_identifier m ++ rest → ⊥
@@ -124,9 +124,9 @@ more_digits (d ∷ ds) (e2 ∷ es) rest e some =
 digits_larger : (m n f : ℕ) (fs : List ℕ) → digits_of 128 n ≡ digits_of 128 m ++ f ∷ fs → 128 * m ≤ n
 digits_larger m n f fs e =
     let whole : number_from_digits_after 128 (number_from_digits_after 128 0 (digits_of 128 m)) (f ∷ fs) ≡ n = sym (number_after_append 128 0 (digits_of 128 m) (f ∷ fs)) ∙ ap (λ (l : List ℕ). number_from_digits_after 128 0 l) (sym e) ∙ number_digits_of 128 n (omega arith) in
-    let front : number_from_digits_after 128 0 (digits_of 128 m) ≡ m = number_digits_of 128 m (omega arith) in
+    let prefix : number_from_digits_after 128 0 (digits_of 128 m) ≡ m = number_digits_of 128 m (omega arith) in
     let more : m * 128 + f ≤ number_from_digits_after 128 (m * 128 + f) fs = number_after_ge 128 (m * 128 + f) fs (omega arith) in
-    let step : number_from_digits_after 128 (m * 128 + f) fs ≡ n = rw front at whole in
+    let step : number_from_digits_after 128 (m * 128 + f) fs ≡ n = rw prefix at whole in
     omega (arith, more, step)
 
 pub cut_small : (octets : List ℕ) (taken n : ℕ) → SubSoFar octets taken n → length octets ≤ taken → n < 2 ^ 64 → IsTooLarge octets → ⊥
@@ -156,7 +156,7 @@ subs_stuck (m ∷ numbers) [] rest some none below q = sub_some m (flat_map sub_
 subs_stuck (m ∷ numbers) (n ∷ v) rest some none below q =
     subs_stuck numbers v rest some none (below_tail n v below) (sub_apart m n (flat_map sub_identifier numbers ++ rest) (flat_map sub_identifier v) (sym (append_assoc (sub_identifier m) (flat_map sub_identifier numbers) rest) ∙ q)).1
 
-pub takes_some : (n taken : ℕ) (rest : List ℕ) → TakesFront (sub_identifier n) taken rest → 0 < taken
+pub takes_some : (n taken : ℕ) (rest : List ℕ) → TakesPrefix (sub_identifier n) taken rest → 0 < taken
 unfolding sub_identifier
 takes_some n taken rest f = omega (arith, f.count, length-append (continued (digits_of 128 (n / 128))) (n % 128 ∷ []))
 
@@ -170,14 +170,14 @@ cut out mid new x e f =
 
 -- ---- the arcs
 
-below_joined : (a b : ℕ) (arcs : List ℕ) → IsArcs (a ∷ b ∷ arcs) → (i : ℕ) → slice_index ((40 * a + b) ∷ arcs) i < 2 ^ 64
-below_joined a b arcs h zero = h.first
-below_joined a b arcs h (suc i) = h.each (suc (suc i))
+below_concatenated : (a b : ℕ) (arcs : List ℕ) → IsArcs (a ∷ b ∷ arcs) → (i : ℕ) → slice_index ((40 * a + b) ∷ arcs) i < 2 ^ 64
+below_concatenated a b arcs h zero = h.first
+below_concatenated a b arcs h (suc i) = h.each (suc (suc i))
 
 below : (arcs : List ℕ) → IsArcs arcs → (i : ℕ) → slice_index (sub_identifiers arcs) i < 2 ^ 64
 below [] h i = absurd (omega (arith, h.some))
 below (a ∷ []) h i = absurd (omega (arith, h.some))
-below (a ∷ b ∷ arcs) h i = below_joined a b arcs h i
+below (a ∷ b ∷ arcs) h i = below_concatenated a b arcs h i
 
 Stuck : List ℕ → Type 0
 Stuck content = (v : List ℕ) → ((i : ℕ) → slice_index v i < 2 ^ 64) → content ≡ flat_map sub_identifier v → ⊥
@@ -186,15 +186,15 @@ none_of : (content : List ℕ) (e : Asn1DerError) → (e ≡ errors.OutOfMemory 
 none_of content e other (inl m) v hv q = other m
 none_of content e other (inr f) v hv q = f (sub_identifiers v) (below v hv) q
 
-pub arcs_refused : (content : List ℕ) (e : Asn1DerError) → (e ≡ errors.OutOfMemory) ⊎ ((e ≡ errors.InvalidData) ⊎ (e ≡ errors.UnsupportedValue))
-    → (e ≡ errors.OutOfMemory) ⊎ ((v : List ℕ) → ((i : ℕ) → slice_index v i < 2 ^ 64) → content ≡ flat_map sub_identifier v → ⊥) → RefusesAll IsArcs arcs_content content e
-arcs_refused content errors.OutOfMemory f r = tt
-arcs_refused content errors.TruncatedData f r = none_of content errors.TruncatedData (λ k. cc) r
-arcs_refused content errors.InvalidData f r = none_of content errors.InvalidData (λ k. cc) r
-arcs_refused content errors.UnsupportedValue f r = none_of content errors.UnsupportedValue (λ k. cc) r
-arcs_refused content (errors.Io io) (inl k) r = absurd cc
-arcs_refused content (errors.Io io) (inr (inl k)) r = absurd cc
-arcs_refused content (errors.Io io) (inr (inr k)) r = absurd cc
+pub arcs_rejected : (content : List ℕ) (e : Asn1DerError) → (e ≡ errors.OutOfMemory) ⊎ ((e ≡ errors.InvalidData) ⊎ (e ≡ errors.UnsupportedValue))
+    → (e ≡ errors.OutOfMemory) ⊎ ((v : List ℕ) → ((i : ℕ) → slice_index v i < 2 ^ 64) → content ≡ flat_map sub_identifier v → ⊥) → RejectsAll IsArcs arcs_content content e
+arcs_rejected content errors.OutOfMemory f r = tt
+arcs_rejected content errors.TruncatedData f r = none_of content errors.TruncatedData (λ k. cc) r
+arcs_rejected content errors.InvalidData f r = none_of content errors.InvalidData (λ k. cc) r
+arcs_rejected content errors.UnsupportedValue f r = none_of content errors.UnsupportedValue (λ k. cc) r
+arcs_rejected content (errors.Io io) (inl k) r = absurd cc
+arcs_rejected content (errors.Io io) (inr (inl k)) r = absurd cc
+arcs_rejected content (errors.Io io) (inr (inr k)) r = absurd cc
 
 -- no sub-identifiers are no arcs
 pub no_arcs : (content numbers v : List ℕ) → length numbers ≡ 0 → content ≡ flat_map sub_identifier numbers → IsArcs v → content ≡ arcs_content v → ⊥
@@ -204,6 +204,6 @@ no_arcs content [] (a ∷ b ∷ arcs) e f hv q = sub_some (40 * a + b) (flat_map
 no_arcs content (n ∷ numbers) v e f hv q = omega (arith, e)
 
 -- the first sub-identifier is taken apart
-pub joined : (root second : ℕ) (numbers : List ℕ) → 0 < length numbers → slice_index numbers 0 ≡ 40 * root + second → sub_identifiers (root ∷ slice_set numbers 0 second) ≡ numbers
-joined root second [] h e = absurd (omega (arith, h))
-joined root second (n ∷ numbers) h e = let k : n ≡ 40 * root + second = e in cc
+pub concatenated : (root second : ℕ) (numbers : List ℕ) → 0 < length numbers → slice_index numbers 0 ≡ 40 * root + second → sub_identifiers (root ∷ slice_set numbers 0 second) ≡ numbers
+concatenated root second [] h e = absurd (omega (arith, h))
+concatenated root second (n ∷ numbers) h e = let k : n ≡ 40 * root + second = e in cc

@@ -2,5 +2,5 @@ pub mod Implicit
 pub mod ImplicitLaws
 pub mod ObjectIdentifier
 pub mod ObjectIdentifierLaws
-pub mod ObjectIdentifierFaults
+pub mod ObjectIdentifierErrors
 pub mod RawValue

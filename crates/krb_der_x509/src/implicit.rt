@@ -3,10 +3,10 @@
 ghost use Rattle.std.specs.Prelude.{◌≡◌, ◌==◌, ◌+◌};
 ghost use Rattle.krb_der_core.specs.Tlv.{tlv};
 ghost use Rattle.krb_der_core.specs.TlvLaws.{tagged_element};
-ghost use Rattle.krb_der_core.specs.Faults.{FrontFault, TaggedFault};
-ghost use Rattle.krb_der_core.specs.FaultLaws.{front_laws};
+ghost use Rattle.krb_der_core.specs.Errors.{PrefixError, TaggedError};
+ghost use Rattle.krb_der_core.specs.ErrorLaws.{prefix_laws};
 ghost use Rattle.krb_der.specs.FieldLaws.{field_begins, field_one_reading};
-ghost use Rattle.krb_der_x509.specs.ImplicitLaws.{retagged_fault_laws, retagged_one_value};
+ghost use Rattle.krb_der_x509.specs.ImplicitLaws.{retagged_error_laws, retagged_one_value};
 
 use crate::primitive::DerPrimitive;
 use krb_der::composite::{FieldRefs, Fields, Number, TagNumber};
@@ -58,9 +58,9 @@ impl<T: DerPrimitive, N: TagNumber> DerEncode for ImplicitContextTag<T, N> {
 
     ghost one_value = { retagged_one_value (128 + N.number) T.tag T.is_value T.enc T.inner T.one_value };
 
-    ghost fault = { TaggedFault (128 + N.number) (T.fault T.tag) };
+    ghost error = { TaggedError (128 + N.number) (T.error T.tag) };
 
-    ghost fault_laws = { retagged_fault_laws (128 + N.number) T.tag T.is_value T.enc T.inner T.fault T.fault_laws };
+    ghost error_laws = { retagged_error_laws (128 + N.number) T.tag T.is_value T.enc T.inner T.error T.error_laws };
 
     fn starts(octet: u8) -> bool {
         octet == 0x80 + N::get()
@@ -92,7 +92,7 @@ impl<T: DerPrimitive + Drop, N: TagNumber> Fields for ImplicitContextTag<T, N> {
 
     ghost begins = { λ follow t. t == 128 + N.number };
 
-    ghost told_apart = { λ follow. Unit {0} };
+    ghost distinguished = { λ follow. Unit {0} };
 
     ghost begin_so = { field_begins (λ v. tlv (128 + N.number) (T.inner v)) (λ v. T.is_value v × (T.enc v ≡ tlv T.tag (T.inner v)))
         (λ t. t == 128 + N.number) (λ v h. tagged_element (128 + N.number) (T.inner v)) };
@@ -103,11 +103,11 @@ impl<T: DerPrimitive + Drop, N: TagNumber> Fields for ImplicitContextTag<T, N> {
 
     ghost ends = { λ v rest. Unit {0} };
 
-    ghost fault = { FrontFault (λ t. t == 128 + N.number) ⟦<Self as DerEncode>⟧.fault };
+    ghost error = { PrefixError (λ t. t == 128 + N.number) ⟦<Self as DerEncode>⟧.error };
 
-    ghost fault_laws = { front_laws _ _ _ ⟦<Self as DerEncode>⟧.is_element _ ⟦<Self as DerEncode>⟧.fault_laws ⟦<Self as DerEncode>⟧.one_value };
+    ghost error_laws = { prefix_laws _ _ _ ⟦<Self as DerEncode>⟧.is_element _ ⟦<Self as DerEncode>⟧.error_laws ⟦<Self as DerEncode>⟧.one_value };
 
-    ghost told_ends = { λ follow told v x h hx. tt };
+    ghost distinguished_ends = { λ follow reported v x h hx. tt };
 
     fn read_fields(alloc: Global, input: &[u8]) -> Result<(Self, usize), Asn1DerError> {
         let (value, taken) = Self::read(alloc, input)?;

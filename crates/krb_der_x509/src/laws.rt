@@ -2,10 +2,10 @@
 
 ghost use Rattle.std.specs.Prelude.{◌≡◌, ◌↔◌, ◌==◌, ◌+◌, ◌≤◌, ℕ, Bool, List};
 ghost use Rattle.krb_der_core.specs.Tlv.{tlv};
-ghost use Rattle.krb_der_core.specs.Faults.{FrontFault, TaggedFault};
+ghost use Rattle.krb_der_core.specs.Errors.{PrefixError, TaggedError};
 ghost use Rattle.krb_der_core.specs.declared.error.Asn1DerError.{Asn1DerError};
-ghost use Rattle.krb_der.specs.FieldFaults.{HasFaultsOf, SameFault};
-ghost use Rattle.krb_der.specs.Equality.{ClonesValue, TellsEqual};
+ghost use Rattle.krb_der.specs.FieldErrors.{HasErrorsOf, SameError};
+ghost use Rattle.krb_der.specs.Equality.{ClonesValue, DecidesEqual};
 ghost use Rattle.krb_der.specs.Tags.{HasTag};
 
 pub mod identifiers;
@@ -36,9 +36,9 @@ pub fn any_implicit_tag<T: DerPrimitive, const N: u8>()
 
 /// The first error of each struct is that of a SEQUENCE of its fields (X.690, 8.9): its tag, then its fields in order, then
 /// trailing octets. Its encodings begin with that tag, and with no other octet (X.690, 8.1.2).
-pub fn faults()
-    ensures algorithm_identifier { HasFaultsOf ⟦<AlgorithmIdentifier as DerEncode>⟧.fault ⟦<<AlgorithmIdentifier as Sequence>::Fields as Fields>⟧ }
-    ensures subject_public_key_info { HasFaultsOf ⟦<SubjectPublicKeyInfo as DerEncode>⟧.fault ⟦<<SubjectPublicKeyInfo as Sequence>::Fields as Fields>⟧ }
+pub fn errors()
+    ensures algorithm_identifier { HasErrorsOf ⟦<AlgorithmIdentifier as DerEncode>⟧.error ⟦<<AlgorithmIdentifier as Sequence>::Fields as Fields>⟧ }
+    ensures subject_public_key_info { HasErrorsOf ⟦<SubjectPublicKeyInfo as DerEncode>⟧.error ⟦<<SubjectPublicKeyInfo as Sequence>::Fields as Fields>⟧ }
     ensures algorithm_identifier_tag { HasTag 48 ⟦<AlgorithmIdentifier as DerEncode>⟧.first }
     ensures subject_public_key_info_tag { HasTag 48 ⟦<SubjectPublicKeyInfo as DerEncode>⟧.first }
 {}
@@ -46,10 +46,10 @@ pub fn faults()
 /// The first error of a primitive type under an implicit tag (X.690, 8.14): another tag, or that of the primitive type's
 /// content under its own tag. As a field of a sequence it is that of the element at the start of the octets, and the field
 /// ends with its octets.
-pub fn implicit_faults<T: DerPrimitive + Drop, const N: u8>()
-    ensures element { N ≤ 30 → SameFault ⟦<ImplicitContextTag<T, Number<N>> as DerEncode>⟧.fault (TaggedFault (128 + N) (T.fault T.tag)) }
-    ensures field { N ≤ 30 → (octets : List ℕ) (e : Asn1DerError) → ⟦<ImplicitContextTag<T, Number<N>> as Fields>⟧.fault octets e
-        ↔ FrontFault (λ t. t == 128 + N) (TaggedFault (128 + N) (T.fault T.tag)) octets e }
+pub fn implicit_errors<T: DerPrimitive + Drop, const N: u8>()
+    ensures element { N ≤ 30 → SameError ⟦<ImplicitContextTag<T, Number<N>> as DerEncode>⟧.error (TaggedError (128 + N) (T.error T.tag)) }
+    ensures field { N ≤ 30 → (octets : List ℕ) (e : Asn1DerError) → ⟦<ImplicitContextTag<T, Number<N>> as Fields>⟧.error octets e
+        ↔ PrefixError (λ t. t == 128 + N) (TaggedError (128 + N) (T.error T.tag)) octets e }
     ensures field_ends { (v : T) (rest : List ℕ) → ⟦<ImplicitContextTag<T, Number<N>> as Fields>⟧.ends v rest }
     ensures tag { N ≤ 30 → HasTag (128 + N) ⟦<ImplicitContextTag<T, Number<N>> as DerEncode>⟧.first }
     ensures field_begins { N ≤ 30 → (follow : ℕ → Bool) → HasTag (128 + N) (⟦<ImplicitContextTag<T, Number<N>> as Fields>⟧.begins follow) }
@@ -57,23 +57,23 @@ pub fn implicit_faults<T: DerPrimitive + Drop, const N: u8>()
 
 /// The first error of a field with no tag of its own (X.690, 8.9): that of its element at the start of the octets. It ends with
 /// its octets.
-pub fn untagged_faults<T: Der + Drop>()
-    ensures field { (octets : List ℕ) (e : Asn1DerError) → ⟦<Field<T> as Fields>⟧.fault octets e ↔ FrontFault T.first T.fault octets e }
+pub fn untagged_errors<T: Der + Drop>()
+    ensures field { (octets : List ℕ) (e : Asn1DerError) → ⟦<Field<T> as Fields>⟧.error octets e ↔ PrefixError T.first T.error octets e }
     ensures field_ends { (v : T) (rest : List ℕ) → ⟦<Field<T> as Fields>⟧.ends v rest }
     ensures field_begins { (follow : ℕ → Bool) (t : ℕ) → ⟦<Field<T> as Fields>⟧.begins follow t ≡ T.first t }
 {}
 
 /// `==` on object identifiers, raw values and the structs that have them: it returns true for equal values and for no others.
 pub fn equality()
-    ensures object_identifier { TellsEqual ⟦<ObjectIdentifierAsn1 as PartialEq>⟧.eq }
-    ensures raw_value { TellsEqual ⟦<Asn1RawDer as PartialEq>⟧.eq }
-    ensures algorithm_identifier { TellsEqual ⟦<AlgorithmIdentifier as PartialEq>⟧.eq }
-    ensures subject_public_key_info { TellsEqual ⟦<SubjectPublicKeyInfo as PartialEq>⟧.eq }
+    ensures object_identifier { DecidesEqual ⟦<ObjectIdentifierAsn1 as PartialEq>⟧.eq }
+    ensures raw_value { DecidesEqual ⟦<Asn1RawDer as PartialEq>⟧.eq }
+    ensures algorithm_identifier { DecidesEqual ⟦<AlgorithmIdentifier as PartialEq>⟧.eq }
+    ensures subject_public_key_info { DecidesEqual ⟦<SubjectPublicKeyInfo as PartialEq>⟧.eq }
 {}
 
 /// `==` on primitive types under an implicit tag: it returns true for equal values and for no others, where that of T does.
 pub fn implicit_equality<T: PartialEq, N: TagNumber>()
-    ensures { TellsEqual T.eq → TellsEqual ⟦<ImplicitContextTag<T, N> as PartialEq>⟧.eq }
+    ensures { DecidesEqual T.eq → DecidesEqual ⟦<ImplicitContextTag<T, N> as PartialEq>⟧.eq }
 {}
 
 /// A clone of a primitive type under an implicit tag equals the value, where a clone of a T does.

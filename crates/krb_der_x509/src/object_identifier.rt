@@ -8,12 +8,12 @@ ghost use Rattle.std.specs.Int.Digits.{digits_of};
 ghost use Rattle.std.proofs.Common.{rules};
 ghost use Rattle.krb_der_core.specs.Tlv.{tlv};
 ghost use Rattle.krb_der_core.specs.TlvLaws.{tagged_element, tagged_one_value};
-ghost use Rattle.krb_der_core.specs.Reading.{TakesFront, RefusesAll};
-ghost use Rattle.krb_der_core.specs.Faults.{OrMemory, RowFault, TaggedFault};
-ghost use Rattle.krb_der_core.specs.FaultLaws.{tagged_laws};
+ghost use Rattle.krb_der_core.specs.Reading.{TakesPrefix, RejectsAll};
+ghost use Rattle.krb_der_core.specs.Errors.{OrMemory, RowError, TaggedError};
+ghost use Rattle.krb_der_core.specs.ErrorLaws.{tagged_laws};
 ghost use Rattle.krb_der_x509.specs.ObjectIdentifier.{continued, sub_identifier, sub_identifiers, arcs_content, dots_before, dotted, IsArcs};
 ghost use Rattle.krb_der_x509.specs.ObjectIdentifierLaws.{arcs_one_content};
-ghost use Rattle.krb_der_x509.specs.ObjectIdentifierFaults.{ArcsFault, SubIdentifierFault, arcs_laws};
+ghost use Rattle.krb_der_x509.specs.ObjectIdentifierErrors.{ArcsError, SubIdentifierError, arcs_laws};
 ghost use Rattle.krb_der_core.specs.declared.error.Asn1DerError.TheVariants as errors;
 
 use krb_der_core::{Asn1DerError, Der, DerEncode, close_tlv};
@@ -58,11 +58,11 @@ fn are_arcs(arcs: &[u64]) -> bool
 
 /// The sub-identifier at the start, and the number of its octets.
 fn read_sub_identifier(octets: &[u8]) -> Result<(u64, usize), Asn1DerError>
-    ensures found { IfOk result (λ p. TakesFront (sub_identifier p.0) p.1 octets.now) }
+    ensures found { IfOk result (λ p. TakesPrefix (sub_identifier p.0) p.1 octets.now) }
     ensures fits { IfOk result (λ p. p.0 < 2 ^ 64) }
-    ensures refused { IfErr result (λ e. (n : ℕ) (rest : List ℕ) → n < 2 ^ 64 → octets.now ≡ sub_identifier n ++ rest → ⊥) }
-    ensures fault { IfErr result (λ e. (e ≡ errors.InvalidData) ⊎ (e ≡ errors.UnsupportedValue)) }
-    ensures first_fault { IfErr result (SubIdentifierFault octets.now) }
+    ensures rejected { IfErr result (λ e. (n : ℕ) (rest : List ℕ) → n < 2 ^ 64 → octets.now ≡ sub_identifier n ++ rest → ⊥) }
+    ensures error { IfErr result (λ e. (e ≡ errors.InvalidData) ⊎ (e ≡ errors.UnsupportedValue)) }
+    ensures first_error { IfErr result (SubIdentifierError octets.now) }
 {
     if octets.is_empty() || octets[0] == 0x80 {
         return Err(Asn1DerError::InvalidData);
@@ -86,11 +86,11 @@ fn read_sub_identifier(octets: &[u8]) -> Result<(u64, usize), Asn1DerError>
 /// The sub-identifiers whose encodings are these octets.
 fn read_sub_identifiers(alloc: Global, octets: &[u8]) -> Result<Vec<u64>, Asn1DerError>
     ensures found { IfOk result (λ v. octets.now ≡ flat_map sub_identifier v.items) }
-    ensures refused { IfErr result (λ e. (e ≡ errors.OutOfMemory)
+    ensures rejected { IfErr result (λ e. (e ≡ errors.OutOfMemory)
         ⊎ ((v : List ℕ) → ((i : ℕ) → slice_index v i < 2 ^ 64) → octets.now ≡ flat_map sub_identifier v → ⊥)) }
-    ensures fault { IfErr result (λ e. (e ≡ errors.OutOfMemory) ⊎ ((e ≡ errors.InvalidData) ⊎ (e ≡ errors.UnsupportedValue))) }
+    ensures error { IfErr result (λ e. (e ≡ errors.OutOfMemory) ⊎ ((e ≡ errors.InvalidData) ⊎ (e ≡ errors.UnsupportedValue))) }
     ensures below { IfOk result (λ v. AllByRecursion (λ n. n < 2 ^ 64) v.items) }
-    ensures first_fault { IfErr result (OrMemory (RowFault (λ n. n < 2 ^ 64) sub_identifier SubIdentifierFault octets.now)) }
+    ensures first_error { IfErr result (OrMemory (RowError (λ n. n < 2 ^ 64) sub_identifier SubIdentifierError octets.now)) }
 {
     let mut numbers = Vec::new(alloc);
     let mut rest = octets;
@@ -106,8 +106,8 @@ fn read_sub_identifiers(alloc: Global, octets: &[u8]) -> Result<Vec<u64>, Asn1De
 fn read_arcs(alloc: Global, content: &[u8]) -> Result<Vec<u64>, Asn1DerError>
     ensures valid { IfOk result (λ v. IsArcs v.items) }
     ensures found { IfOk result (λ v. content.now ≡ arcs_content v.items) }
-    ensures refused { IfErr result (RefusesAll IsArcs arcs_content content.now) }
-    ensures first_fault { IfErr result (OrMemory (ArcsFault content.now)) }
+    ensures rejected { IfErr result (RejectsAll IsArcs arcs_content content.now) }
+    ensures first_error { IfErr result (OrMemory (ArcsError content.now)) }
 {
     let mut arcs = read_sub_identifiers(alloc, content)?;
     if arcs.is_empty() {
@@ -233,9 +233,9 @@ impl DerEncode for ObjectIdentifierAsn1 {
 
     ghost one_value = { tagged_one_value 6 IsArcs arcs_content arcs_one_content };
 
-    ghost fault = { TaggedFault 6 ArcsFault };
+    ghost error = { TaggedError 6 ArcsError };
 
-    ghost fault_laws = { tagged_laws 6 IsArcs arcs_content ArcsFault arcs_laws };
+    ghost error_laws = { tagged_laws 6 IsArcs arcs_content ArcsError arcs_laws };
 
     fn starts(octet: u8) -> bool {
         octet == OBJECT_IDENTIFIER

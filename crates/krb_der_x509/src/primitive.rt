@@ -4,7 +4,7 @@ ghost use Rattle.std.specs.Prelude.{◌≡◌, ℕ, List, refl, pos};
 ghost use Rattle.krb_der_core.specs.BitString.{bits_content};
 ghost use Rattle.krb_der_core.specs.GeneralizedTime.{time_content};
 ghost use Rattle.krb_der_core.specs.Integer.{shortest};
-ghost use Rattle.krb_der_core.specs.Leaf.{bool_content};
+ghost use Rattle.krb_der_core.specs.Primitive.{bool_content};
 ghost use Rattle.krb_der_core.specs.Tlv.{tlv};
 ghost use Rattle.krb_der_x509.specs.ObjectIdentifier.{arcs_content};
 

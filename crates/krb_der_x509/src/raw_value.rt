@@ -5,7 +5,7 @@ ghost use Rattle.std.specs.Cmp.Lexicographic.{pointwise};
 ghost use Rattle.std.specs.Cmp.Rules.{comparing};
 ghost use Rattle.std.proofs.Common.{rules};
 ghost use Rattle.krb_der_core.specs.Tlv.{tlv};
-ghost use Rattle.krb_der_x509.specs.RawValue.{RawFault, is_raw_first, raw_laws};
+ghost use Rattle.krb_der_x509.specs.RawValue.{RawError, is_raw_first, raw_laws};
 ghost use Rattle.krb_der_core.specs.Encoding.{IsElement};
 ghost use Rattle.krb_der_core.specs.declared.error.Asn1DerError.TheVariants as errors;
 
@@ -96,9 +96,9 @@ impl DerEncode for Asn1RawDer {
 
     ghost one_value = { λ v w hv hw e. e };
 
-    ghost fault = { RawFault };
+    ghost error = { RawError };
 
-    ghost fault_laws = { raw_laws };
+    ghost error_laws = { raw_laws };
 
     fn starts(octet: u8) -> bool {
         begins_value(octet)

@@ -4,8 +4,8 @@
 //! `FieldRef(&self.name)` for writing. An optional one is `Optional<Option<T>>`, as under a tag: its first octet
 //! distinguishes it from what follows.
 
-ghost use Rattle.krb_der_core.specs.Faults.{FrontFault};
-ghost use Rattle.krb_der_core.specs.FaultLaws.{front_laws};
+ghost use Rattle.krb_der_core.specs.Errors.{PrefixError};
+ghost use Rattle.krb_der_core.specs.ErrorLaws.{prefix_laws};
 ghost use Rattle.krb_der.specs.FieldLaws.{field_begins, field_one_reading};
 
 use krb_der::composite::{FieldRefs, Fields};
@@ -32,7 +32,7 @@ impl<T: Der + Drop> Fields for Field<T> {
 
     ghost begins = { λ follow. T.first };
 
-    ghost told_apart = { λ follow. Unit {0} };
+    ghost distinguished = { λ follow. Unit {0} };
 
     ghost begin_so = { field_begins T.enc T.is_value T.first T.is_element };
 
@@ -40,11 +40,11 @@ impl<T: Der + Drop> Fields for Field<T> {
 
     ghost ends = { λ v rest. Unit {0} };
 
-    ghost fault = { FrontFault T.first T.fault };
+    ghost error = { PrefixError T.first T.error };
 
-    ghost fault_laws = { front_laws T.is_value T.enc T.first T.is_element T.fault T.fault_laws T.one_value };
+    ghost error_laws = { prefix_laws T.is_value T.enc T.first T.is_element T.error T.error_laws T.one_value };
 
-    ghost told_ends = { λ follow told v x h hx. tt };
+    ghost distinguished_ends = { λ follow reported v x h hx. tt };
 
     fn read_fields(alloc: Global, input: &[u8]) -> Result<(Self, usize), Asn1DerError> {
         let (value, taken) = T::read(alloc, input)?;

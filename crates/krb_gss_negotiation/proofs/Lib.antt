@@ -1,5 +1,5 @@
 mod Retagging
-mod Faults
+mod Errors
 mod KrbTokens
 mod Proxies
-mod OneFaults
+mod OneErrors

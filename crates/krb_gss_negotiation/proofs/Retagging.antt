@@ -3,9 +3,9 @@ use Rattle.std.proofs.Common.{◌≡◌, ℕ, List, ◌++◌, length, slice_set,
 use Rattle.krb_der_core.specs.Tlv.{tlv}
 use Rattle.krb_der_core.specs.TlvLaws.{tlv_same}
 use Rattle.krb_der_core.specs.Encoding.{IsSequence}
-use Rattle.krb_der_core.specs.Reading.{RefusesAll}
+use Rattle.krb_der_core.specs.Reading.{RejectsAll}
 use Rattle.krb_der_core.specs.declared.error.Asn1DerError.{Asn1DerError}
-use Rattle.krb_der_core.proofs.Refusals.{refuses_other}
+use Rattle.krb_der_core.proofs.Rejections.{rejects_other}
 use Rattle.krb_der_x509.proofs.Retagging.{retagged}
 use Rattle.krb_gss_negotiation.specs.Token.{in_token, token}
 use Rattle.krb_gss_negotiation.specs.TokenLaws.{token_is}
@@ -17,8 +17,8 @@ sequence_is c b s e = ap (λ (l : List ℕ). tlv 48 l) (tlv_same 96 96 c s.0 (e 
 pub token_found : (c b : List ℕ) → tlv 48 c ≡ b → token c ≡ in_token b
 token_found c b e = sym (token_is b c (sym e))
 
-pub token_refused : {A : Type 0} (is_value : A → Type 0) (enc : A → List ℕ) (c : List ℕ) (e : Asn1DerError) → RefusesAll is_value enc (tlv 48 c) e → RefusesAll (λ v. is_value v × IsSequence (enc v)) (λ v. in_token (enc v)) (token c) e
-token_refused is_value enc c e r = refuses_other is_value enc (λ v. is_value v × IsSequence (enc v)) (λ v. in_token (enc v)) (tlv 48 c) (token c) e
+pub token_rejected : {A : Type 0} (is_value : A → Type 0) (enc : A → List ℕ) (c : List ℕ) (e : Asn1DerError) → RejectsAll is_value enc (tlv 48 c) e → RejectsAll (λ v. is_value v × IsSequence (enc v)) (λ v. in_token (enc v)) (token c) e
+token_rejected is_value enc c e r = rejects_other is_value enc (λ v. is_value v × IsSequence (enc v)) (λ v. in_token (enc v)) (tlv 48 c) (token c) e
     (λ none v hv k. none v hv.0 (sequence_is c (enc v) hv.1 k)) r
 
 pub token_written : (out b new : List ℕ) (start : ℕ) → start ≡ length out → IsSequence b → new ≡ slice_set (out ++ b) start 96 → new ≡ out ++ in_token b

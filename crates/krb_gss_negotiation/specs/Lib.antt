@@ -1,6 +1,6 @@
 pub mod Proxy
 pub mod ProxyLaws
-pub mod Refused
+pub mod Rejected
 pub mod Token
 pub mod TokenIdLaws
 pub mod TokenLaws

@@ -5,8 +5,8 @@ use Rattle.krb_der_core.specs.Tlv.{tlv}
 use Rattle.krb_der_core.specs.TlvLaws.{field_apart, tlv_same}
 use Rattle.krb_der_core.specs.declared.error.Asn1DerError.{Asn1DerError}
 use Rattle.krb_der_core.specs.Encoding.{OneValue}
-use Rattle.krb_der_core.specs.Faults.{LeafFault, FaultLaws}
-use Rattle.krb_der_core.specs.FaultLaws.{leaf_fault_laws}
+use Rattle.krb_der_core.specs.Errors.{PrimitiveError, ErrorLaws}
+use Rattle.krb_der_core.specs.ErrorLaws.{primitive_error_laws}
 use Rattle.krb_der_x509.specs.ObjectIdentifier.{object_identifier}
 use Rattle.krb_msg_iakerb.specs.declared.messages.header.IAKerbHeader.{IAKerbHeader}
 use Rattle.krb_der_core.specs.declared.der.DerEncode.{Ghosts as EncodingOf}
@@ -28,9 +28,9 @@ proxy_one_value h is_value enc one v w hv hw e =
     same_parts v w s.0 (one v.krb_msg w.krb_msg hv.1 hw.1 s.1)
 
 -- no `Der` reads these messages: an element that is none of theirs is invalid
-abbrev pub ProxyFault : {A : Type 0} → EncodingOf IAKerbHeader → (A → Type 0) → (A → List ℕ) → ℕ → List ℕ → Asn1DerError → Type 0
-ProxyFault {A} h is_value enc = LeafFault 48 (λ (v : IAKerbProxyMessage A). h.is_value v.header × is_value v.krb_msg) (λ (v : IAKerbProxyMessage A). object_identifier iakerb ++ (proxy_id ++ (h.enc v.header ++ enc v.krb_msg)))
+abbrev pub ProxyError : {A : Type 0} → EncodingOf IAKerbHeader → (A → Type 0) → (A → List ℕ) → ℕ → List ℕ → Asn1DerError → Type 0
+ProxyError {A} h is_value enc = PrimitiveError 48 (λ (v : IAKerbProxyMessage A). h.is_value v.header × is_value v.krb_msg) (λ (v : IAKerbProxyMessage A). object_identifier iakerb ++ (proxy_id ++ (h.enc v.header ++ enc v.krb_msg)))
 
-pub proxy_fault_laws : {A : Type 0} (h : EncodingOf IAKerbHeader) (is_value : A → Type 0) (enc : A → List ℕ)
-    → FaultLaws (λ (v : IAKerbProxyMessage A). h.is_value v.header × is_value v.krb_msg) (λ (v : IAKerbProxyMessage A). tlv 48 (object_identifier iakerb ++ (proxy_id ++ (h.enc v.header ++ enc v.krb_msg)))) (ProxyFault h is_value enc)
-proxy_fault_laws {A} h is_value enc = leaf_fault_laws 48 (λ (v : IAKerbProxyMessage A). h.is_value v.header × is_value v.krb_msg) (λ (v : IAKerbProxyMessage A). object_identifier iakerb ++ (proxy_id ++ (h.enc v.header ++ enc v.krb_msg)))
+pub proxy_error_laws : {A : Type 0} (h : EncodingOf IAKerbHeader) (is_value : A → Type 0) (enc : A → List ℕ)
+    → ErrorLaws (λ (v : IAKerbProxyMessage A). h.is_value v.header × is_value v.krb_msg) (λ (v : IAKerbProxyMessage A). tlv 48 (object_identifier iakerb ++ (proxy_id ++ (h.enc v.header ++ enc v.krb_msg)))) (ProxyError h is_value enc)
+proxy_error_laws {A} h is_value enc = primitive_error_laws 48 (λ (v : IAKerbProxyMessage A). h.is_value v.header × is_value v.krb_msg) (λ (v : IAKerbProxyMessage A). object_identifier iakerb ++ (proxy_id ++ (h.enc v.header ++ enc v.krb_msg)))

@@ -19,5 +19,5 @@ pub record IsTokenId (id : List ℕ) : Type 0 where
   pub octets : IsOctets id
 
 -- the error of these two octets: one or both are missing
-abbrev pub IdFault : List ℕ → Asn1DerError → Type 0
-IdFault octets e = (e ≡ errors.TruncatedData) × (length octets < 2)
+abbrev pub IdError : List ℕ → Asn1DerError → Type 0
+IdError octets e = (e ≡ errors.TruncatedData) × (length octets < 2)

@@ -2,9 +2,9 @@
 
 ghost use Rattle.std.specs.Prelude.{◌≡◌, ◌==◌};
 ghost use Rattle.krb_der.specs.Encoding.{IsSequence};
-ghost use Rattle.krb_der.specs.Faults.{TaggedFault};
+ghost use Rattle.krb_der.specs.Errors.{TaggedError};
 ghost use Rattle.krb_gss_negotiation.specs.Token.{in_token};
-ghost use Rattle.krb_gss_negotiation.specs.TokenLaws.{token_element, token_fault_laws, token_one_value};
+ghost use Rattle.krb_gss_negotiation.specs.TokenLaws.{token_element, token_error_laws, token_one_value};
 
 use krb_der::composite::SEQUENCE;
 use krb_der::{Asn1DerError, Der, DerEncode, DerSequence};
@@ -47,9 +47,9 @@ impl<T: DerSequence> DerEncode for ApplicationTag0<T> {
 
     ghost one_value = { token_one_value T.is_value T.enc T.one_value };
 
-    ghost fault = { TaggedFault 96 (T.fault 48) };
+    ghost error = { TaggedError 96 (T.error 48) };
 
-    ghost fault_laws = { token_fault_laws T.is_value T.enc T.fault T.fault_laws };
+    ghost error_laws = { token_error_laws T.is_value T.enc T.error T.error_laws };
 
     fn starts(octet: u8) -> bool {
         octet == TOKEN

@@ -7,9 +7,9 @@ ghost use Rattle.krb_der.specs.TlvLaws.{tagged_element};
 ghost use Rattle.krb_msg_iakerb.specs.Header.{HeaderReads};
 ghost use Rattle.krb_der_x509.specs.ObjectIdentifier.{dotted, object_identifier};
 ghost use Rattle.krb_gss_tokens.specs.declared.error.GssApiMessageError.TheVariants.{OutOfMemory};
-ghost use Rattle.krb_gss_negotiation.specs.Proxy.{HeaderRefused, IAKerbRefused, ProxyIdRefused, ProxyReads, ProxyRefused, iakerb, proxy_id};
-ghost use Rattle.krb_gss_negotiation.specs.ProxyLaws.{ProxyFault, proxy_fault_laws, proxy_one_value};
-ghost use Rattle.krb_gss_tokens.specs.Refused.{Answers, IsFault};
+ghost use Rattle.krb_gss_negotiation.specs.Proxy.{HeaderRejected, IAKerbRejected, ProxyIdRejected, ProxyReads, ProxyRejected, iakerb, proxy_id};
+ghost use Rattle.krb_gss_negotiation.specs.ProxyLaws.{ProxyError, proxy_error_laws, proxy_one_value};
+ghost use Rattle.krb_gss_tokens.specs.Rejected.{Answers, IsError};
 ghost use Rattle.krb_gss_negotiation.specs.Token.{token};
 
 use crate::application_tag_0::ApplicationTag0;
@@ -83,9 +83,9 @@ impl<T: Der + Drop> DerEncode for IAKerbProxyMessage<T> {
 
     ghost one_value = { proxy_one_value ⟦<IAKerbHeader as DerEncode>⟧ T.is_value T.enc T.one_value };
 
-    ghost fault = { ProxyFault ⟦<IAKerbHeader as DerEncode>⟧ T.is_value T.enc };
+    ghost error = { ProxyError ⟦<IAKerbHeader as DerEncode>⟧ T.is_value T.enc };
 
-    ghost fault_laws = { proxy_fault_laws ⟦<IAKerbHeader as DerEncode>⟧ T.is_value T.enc };
+    ghost error_laws = { proxy_error_laws ⟦<IAKerbHeader as DerEncode>⟧ T.is_value T.enc };
 
     fn starts(octet: u8) -> bool {
         octet == SEQUENCE
@@ -118,7 +118,7 @@ impl<T: Der + Drop> IAKerbProxyMessage<T> {
     pub fn encode<W: Write>(&self, alloc: Global, writer: &mut W) -> Result<(), GssApiMessageError>
         ensures octets { OnOk result (Appends (W.contents writer.old) (W.contents writer.new)
             (object_identifier iakerb ++ (proxy_id ++ (⟦<IAKerbHeader as DerEncode>⟧.enc self.now.header ++ T.enc self.now.krb_msg)))) }
-        ensures err { IfErr result IsFault }
+        ensures err { IfErr result IsError }
         ensures kept { IfErr result (λ e. e ≡ OutOfMemory → writer.new ≡ writer.old) }
     {
         let mut octets = Vec::new(alloc);
@@ -152,11 +152,11 @@ impl<T: Der + Drop> IAKerbProxyMessage<T> {
             × ProxyReads T.enc content m.header m.krb_msg) }
         ensures reads { (m : _) (content rest : List ℕ) → ⟦<IAKerbHeader as DerEncode>⟧.is_value m.header → T.is_value m.krb_msg
             → input.now ≡ token content ++ rest → ProxyReads T.enc content m.header m.krb_msg → Answers result m }
-        ensures first_fault { IfErr result (ProxyRefused ⟦<IAKerbHeader as DerEncode>⟧ ⟦<T as DerEncode>⟧ input.now) }
+        ensures first_error { IfErr result (ProxyRejected ⟦<IAKerbHeader as DerEncode>⟧ ⟦<T as DerEncode>⟧ input.now) }
     {
         let content = read_frame(input)?;
-        let behind = read_iakerb(alloc, content)?;
-        let rest = read_proxy_id(behind)?;
+        let trailing = read_iakerb(alloc, content)?;
+        let rest = read_proxy_id(trailing)?;
         let (header, message) = read_header(alloc, rest)?;
         let krb_msg = read_message(alloc, message)?;
         Ok(ApplicationTag0(IAKerbProxyMessage { header, krb_msg }))
@@ -196,21 +196,21 @@ fn mechanism_texts(
 
 /// What follows the mechanism IAKERB at the start of a token's content.
 fn read_iakerb(alloc: Global, content: &[u8]) -> Result<&[u8], GssApiMessageError>
-    ensures found { IfOk result (λ behind. content.now ≡ object_identifier iakerb ++ behind.now) }
-    ensures refused { IfErr result (IAKerbRefused content.now) }
+    ensures found { IfOk result (λ trailing. content.now ≡ object_identifier iakerb ++ trailing.now) }
+    ensures rejected { IfErr result (IAKerbRejected content.now) }
 {
-    let (mechanism, behind) = read_mechanism(alloc, content)?;
+    let (mechanism, trailing) = read_mechanism(alloc, content)?;
     if !is_iakerb(&mechanism) {
         let (expected, got) = mechanism_texts(alloc, &mechanism)?;
         return Err(GssApiMessageError::InvalidMechanismOid(expected, got));
     }
-    Ok(behind)
+    Ok(trailing)
 }
 
 /// What follows the token id of a proxy's message.
 fn read_proxy_id(octets: &[u8]) -> Result<&[u8], GssApiMessageError>
     ensures found { IfOk result (λ rest. octets.now ≡ proxy_id ++ rest.now) }
-    ensures refused { IfErr result (ProxyIdRefused octets.now) }
+    ensures rejected { IfErr result (ProxyIdRejected octets.now) }
 {
     let (id, rest) = read_token_id(octets)?;
     if id != IAKERB_PROXY_TOKEN_ID {
@@ -223,7 +223,7 @@ fn read_proxy_id(octets: &[u8]) -> Result<&[u8], GssApiMessageError>
 fn read_header(alloc: Global, octets: &[u8]) -> Result<(IAKerbHeader, &[u8]), GssApiMessageError>
     ensures valid { IfOk result (λ p. ⟦<IAKerbHeader as DerEncode>⟧.is_value p.0) }
     ensures found { IfOk result (λ p. (b : List ℕ) × HeaderReads b p.0 × (octets.now ≡ b ++ p.1.now)) }
-    ensures refused { IfErr result (HeaderRefused ⟦<IAKerbHeader as DerEncode>⟧ octets.now) }
+    ensures rejected { IfErr result (HeaderRejected ⟦<IAKerbHeader as DerEncode>⟧ octets.now) }
 {
     let (content, taken) = read_tlv(SEQUENCE, octets)?;
     let header = read_content(alloc, content)?;

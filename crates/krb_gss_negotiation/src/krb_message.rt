@@ -3,14 +3,14 @@
 ghost use Rattle.std.specs.Prelude.{◌≡◌, ◌==◌, ◌++◌, refl, List, ℕ, IfOk, IfErr, OnOk};
 ghost use Rattle.std.specs.Io.KnownBytes.{Appends};
 ghost use Rattle.krb_der.specs.Asn1.{sequence};
-ghost use Rattle.krb_der.specs.FieldFaults.{sequence_fault};
-ghost use Rattle.krb_der.specs.FieldFaultLaws.{sequence_fault_laws};
+ghost use Rattle.krb_der.specs.FieldErrors.{sequence_error};
+ghost use Rattle.krb_der.specs.FieldErrorLaws.{sequence_error_laws};
 ghost use Rattle.krb_der.specs.SequenceLaws.{one_value_of, values_of};
 ghost use Rattle.krb_der.specs.TlvLaws.{tagged_element};
 ghost use Rattle.krb_der_x509.specs.ObjectIdentifier.{object_identifier};
 ghost use Rattle.krb_gss_tokens.specs.declared.error.GssApiMessageError.TheVariants.{OutOfMemory};
-ghost use Rattle.krb_gss_negotiation.specs.Refused.{KrbMessageRefused};
-ghost use Rattle.krb_gss_tokens.specs.Refused.{Answers, IsFault};
+ghost use Rattle.krb_gss_negotiation.specs.Rejected.{KrbMessageRejected};
+ghost use Rattle.krb_gss_tokens.specs.Rejected.{Answers, IsError};
 ghost use Rattle.krb_gss_negotiation.specs.Token.{in_token};
 
 use crate::application_tag_0::ApplicationTag0;
@@ -73,9 +73,9 @@ impl<T: Der + Drop> DerEncode for KrbMessage<T> {
 
     ghost one_value = { one_value_of ⟦<Self as Sequence>⟧ ⟦<<Self as Sequence>::Fields as Fields>⟧ (λ v. refl) (tt, tt, tt) };
 
-    ghost fault = { sequence_fault ⟦<<Self as Sequence>::Fields as Fields>⟧ };
+    ghost error = { sequence_error ⟦<<Self as Sequence>::Fields as Fields>⟧ };
 
-    ghost fault_laws = { sequence_fault_laws ⟦<Self as Sequence>⟧ ⟦<<Self as Sequence>::Fields as Fields>⟧ (tt, tt, tt) };
+    ghost error_laws = { sequence_error_laws ⟦<Self as Sequence>⟧ ⟦<<Self as Sequence>::Fields as Fields>⟧ (tt, tt, tt) };
 
     fn starts(octet: u8) -> bool {
         octet == SEQUENCE
@@ -111,7 +111,7 @@ impl<T: Der + Drop> KrbMessage<T> {
     pub fn encode<W: Write>(&self, alloc: Global, writer: &mut W) -> Result<(), GssApiMessageError>
         ensures octets { OnOk result (Appends (W.contents writer.old) (W.contents writer.new)
             (object_identifier self.now.krb5_oid ++ (self.now.krb5_token_id ++ T.enc self.now.krb_msg))) }
-        ensures err { IfErr result IsFault }
+        ensures err { IfErr result IsError }
         ensures kept { IfErr result (λ e. e ≡ OutOfMemory → writer.new ≡ writer.old) }
     {
         let mut octets = Vec::new(alloc);
@@ -139,11 +139,11 @@ impl<T: Der + Drop> KrbMessage<T> {
         ensures found { IfOk result (λ m. (rest : List ℕ) × (input.now ≡ in_token (⟦<KrbMessage<T> as DerEncode>⟧.enc m) ++ rest)) }
         ensures reads { (m : _) (rest : List ℕ) → ⟦<KrbMessage<T> as DerEncode>⟧.is_value m
             → input.now ≡ in_token (⟦<KrbMessage<T> as DerEncode>⟧.enc m) ++ rest → Answers result m }
-        ensures first_fault { IfErr result (KrbMessageRefused ⟦<T as DerEncode>⟧ input.now) }
+        ensures first_error { IfErr result (KrbMessageRejected ⟦<T as DerEncode>⟧ input.now) }
     {
         let content = read_frame(input)?;
-        let (krb5_oid, behind) = read_mechanism(alloc, content)?;
-        let (krb5_token_id, rest) = read_token_id(behind)?;
+        let (krb5_oid, trailing) = read_mechanism(alloc, content)?;
+        let (krb5_token_id, rest) = read_token_id(trailing)?;
         let krb_msg = read_message(alloc, rest)?;
         Ok(ApplicationTag0(KrbMessage {
             krb5_oid,

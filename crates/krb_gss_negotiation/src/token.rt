@@ -2,7 +2,7 @@
 
 ghost use Rattle.std.specs.Prelude.{◌≡◌, ◌++◌, List, ℕ, IfOk, IfErr};
 ghost use Rattle.krb_der_x509.specs.ObjectIdentifier.{IsArcs, object_identifier};
-ghost use Rattle.krb_gss_negotiation.specs.Refused.{FrameRefused, IdRefused, MechanismRefused, MessageRefused};
+ghost use Rattle.krb_gss_negotiation.specs.Rejected.{FrameRejected, IdRejected, MechanismRejected, MessageRejected};
 ghost use Rattle.krb_gss_negotiation.specs.Token.{IsTokenId, token};
 
 use crate::application_tag_0::TOKEN;
@@ -17,7 +17,7 @@ use std::io::ErrorKind;
 /// The content of the token at the start of the input.
 pub(crate) fn read_frame(input: &[u8]) -> Result<&[u8], GssApiMessageError>
     ensures found { IfOk result (λ content. (rest : List ℕ) × (input.now ≡ token content.now ++ rest)) }
-    ensures refused { IfErr result (FrameRefused input.now) }
+    ensures rejected { IfErr result (FrameRejected input.now) }
 {
     if input.is_empty() || input[0] != TOKEN {
         return Err(GssApiMessageError::Asn1Error(Asn1DerError::InvalidData));
@@ -32,7 +32,7 @@ pub(crate) fn read_mechanism(
     content: &[u8],
 ) -> Result<(ObjectIdentifierAsn1, &[u8]), GssApiMessageError>
     ensures found { IfOk result (λ p. IsArcs p.0 × (content.now ≡ object_identifier p.0 ++ p.1.now)) }
-    ensures refused { IfErr result (MechanismRefused content.now) }
+    ensures rejected { IfErr result (MechanismRejected content.now) }
 {
     let (mechanism, taken) = ObjectIdentifierAsn1::read(alloc, content)?;
     Ok((mechanism, &content[taken..]))
@@ -41,7 +41,7 @@ pub(crate) fn read_mechanism(
 /// The token id at the start, and what follows it.
 pub(crate) fn read_token_id(octets: &[u8]) -> Result<([u8; 2], &[u8]), GssApiMessageError>
     ensures found { IfOk result (λ p. IsTokenId p.0 × (octets.now ≡ p.0 ++ p.1.now)) }
-    ensures refused { IfErr result (IdRefused octets.now) }
+    ensures rejected { IfErr result (IdRejected octets.now) }
 {
     if octets.len() < 2 {
         return Err(GssApiMessageError::IoError(io::Error::from(ErrorKind::UnexpectedEof)));
@@ -56,7 +56,7 @@ pub(crate) fn read_message<T: Der + Drop>(
 ) -> Result<T, GssApiMessageError>
     ensures valid { IfOk result T.is_value }
     ensures found { IfOk result (λ v. octets.now ≡ T.enc v) }
-    ensures refused { IfErr result (MessageRefused ⟦<T as DerEncode>⟧ octets.now) }
+    ensures rejected { IfErr result (MessageRejected ⟦<T as DerEncode>⟧ octets.now) }
 {
     let (message, taken) = T::read(alloc, octets)?;
     if taken != octets.len() {

@@ -1,8 +1,8 @@
 //! The token id, two octets after the mechanism in a token, as a field of a sequence.
 
 ghost use Rattle.std.specs.Prelude.{ℕ, List, true};
-ghost use Rattle.krb_gss_negotiation.specs.Token.{IdFault, IsTokenId};
-ghost use Rattle.krb_gss_negotiation.specs.TokenIdLaws.{id_begins, id_fault_laws, id_one_reading};
+ghost use Rattle.krb_gss_negotiation.specs.Token.{IdError, IsTokenId};
+ghost use Rattle.krb_gss_negotiation.specs.TokenIdLaws.{id_begins, id_error_laws, id_one_reading};
 
 use krb_der::Asn1DerError;
 use krb_der::composite::{FieldRefs, Fields};
@@ -33,7 +33,7 @@ impl Fields for TokenId {
 
     ghost begins = { λ follow t. true };
 
-    ghost told_apart = { λ follow. Unit {0} };
+    ghost distinguished = { λ follow. Unit {0} };
 
     ghost begin_so = { id_begins };
 
@@ -41,11 +41,11 @@ impl Fields for TokenId {
 
     ghost ends = { λ v rest. Unit {0} };
 
-    ghost fault = { IdFault };
+    ghost error = { IdError };
 
-    ghost fault_laws = { id_fault_laws };
+    ghost error_laws = { id_error_laws };
 
-    ghost told_ends = { λ follow told v x h hx. tt };
+    ghost distinguished_ends = { λ follow reported v x h hx. tt };
 
     fn read_fields(_alloc: Global, input: &[u8]) -> Result<(Self, usize), Asn1DerError> {
         if input.len() < 2 {

@@ -6,10 +6,10 @@ use Rattle.std.specs.Int.{w64, from_be_bytes, to_be_bytes}
 use Rattle.std.specs.Io.KnownBytes.{Consumes}
 use Rattle.krb_gss_tokens.specs.Layout.{mic_id, mic_filler, mic_header}
 use Rattle.krb_gss_tokens.specs.Mic.{Mic, MicIs, mic}
-use Rattle.krb_gss_tokens.specs.Refused.{AnswersUnlessFault, Begins, IsFault, MicIsCut, MicRefused, RefusesAsIo}
+use Rattle.krb_gss_tokens.specs.Rejected.{AnswersUnlessError, Begins, IsError, MicIsCut, MicRejected, RejectsAsIo}
 use Rattle.krb_gss_tokens.specs.declared.error.GssApiMessageError.{GssApiMessageError}
 use Rattle.krb_gss_tokens.specs.declared.error.GssApiMessageError.TheVariants as errors
-use Rattle.krb_gss_tokens.proofs.Streams.{consumes_then, begun, all_read, front_taken}
+use Rattle.krb_gss_tokens.proofs.Streams.{consumes_then, begun, all_read, prefix_taken}
 
 -- four reads are a header
 pub mic_header_read : (a b c d e : Option (List ℕ)) (id flags filler : List ℕ) (f n : ℕ) → id ≡ mic_id → flags ≡ f ∷ [] → filler ≡ mic_filler
@@ -30,15 +30,15 @@ mic_filler_read (Some l) b c d id flags filler f i p s t u =
     (f, begun (Some l) d (mic_id ++ (f ∷ []) ++ filler) (subst (λ (xs : List ℕ). Consumes (Some l) d xs) same taken))
 
 -- a fault behind the header
-pub mic_rest_refused : (a b : Option (List ℕ)) (f n : ℕ) (e : GssApiMessageError) → Consumes a b (mic_header f n) → IsFault e → MicRefused a e
-mic_rest_refused a b f n (errors.InvalidId x y) p h = absurd h
-mic_rest_refused a b f n (errors.InvalidMechanismOid x y) p h = absurd h
-mic_rest_refused a b f n (errors.IoError x) p h = tt
-mic_rest_refused a b f n (errors.InvalidMicFiller x) p h = absurd h
-mic_rest_refused a b f n (errors.InvalidWrapFiller x) p h = absurd h
-mic_rest_refused a b f n (errors.Asn1Error x) p h = absurd h
-mic_rest_refused None b f n errors.OutOfMemory p h = tt
-mic_rest_refused (Some l) b f n errors.OutOfMemory p h = (f, n, begun (Some l) b (mic_header f n) p)
+pub mic_rest_rejected : (a b : Option (List ℕ)) (f n : ℕ) (e : GssApiMessageError) → Consumes a b (mic_header f n) → IsError e → MicRejected a e
+mic_rest_rejected a b f n (errors.InvalidId x y) p h = absurd h
+mic_rest_rejected a b f n (errors.InvalidMechanismOid x y) p h = absurd h
+mic_rest_rejected a b f n (errors.IoError x) p h = tt
+mic_rest_rejected a b f n (errors.InvalidMicFiller x) p h = absurd h
+mic_rest_rejected a b f n (errors.InvalidWrapFiller x) p h = absurd h
+mic_rest_rejected a b f n (errors.Asn1Error x) p h = absurd h
+mic_rest_rejected None b f n errors.OutOfMemory p h = tt
+mic_rest_rejected (Some l) b f n errors.OutOfMemory p h = (f, n, begun (Some l) b (mic_header f n) p)
 
 -- a whole token was read
 pub mic_read : (a b : Option (List ℕ)) (f n : ℕ) (rest : List ℕ) → Consumes a b (mic_header f n) → IfSome b (λ left. rest ≡ left)
@@ -60,32 +60,32 @@ one_mic octets s t hs ht p q =
     ∙ ap (λ (x : Option (List ℕ)). mk t.flags t.seq_num x s.checksum) l ∙ ap (λ (x : List ℕ). mk t.flags t.seq_num t.payload x) c
 
 -- octets that begin with the id do not begin with another
-mic_id_read : (octets got behind : List ℕ) → Begins octets mic_id → length got ≡ 2 → octets ≡ got ++ behind → got ≡ mic_id
-mic_id_read octets got behind b e p = sym (front_taken got behind 2 e) ∙ ap (take 2) (sym p ∙ b.1)
+mic_id_read : (octets got trailing : List ℕ) → Begins octets mic_id → length got ≡ 2 → octets ≡ got ++ trailing → got ≡ mic_id
+mic_id_read octets got trailing b e p = sym (prefix_taken got trailing 2 e) ∙ ap (take 2) (sym p ∙ b.1)
 
 -- octets that have the filler behind the id and the flags have no other
-mic_filler_told : (octets got behind : List ℕ) (f g : ℕ) → Begins octets (mic_id ++ (f ∷ []) ++ mic_filler) → length got ≡ 5 → octets ≡ (mic_id ++ (g ∷ []) ++ got) ++ behind → got ≡ mic_filler
-mic_filler_told octets got behind f g b e p = sym (front_taken got behind 5 e) ∙ ap (λ (xs : List ℕ). take 5 (drop 3 xs)) (sym p ∙ b.1)
+mic_filler_reported : (octets got trailing : List ℕ) (f g : ℕ) → Begins octets (mic_id ++ (f ∷ []) ++ mic_filler) → length got ≡ 5 → octets ≡ (mic_id ++ (g ∷ []) ++ got) ++ trailing → got ≡ mic_filler
+mic_filler_reported octets got trailing f g b e p = sym (prefix_taken got trailing 5 e) ∙ ap (λ (xs : List ℕ). take 5 (drop 3 xs)) (sym p ∙ b.1)
 
 -- a whole header stands in front
 headed : (octets : List ℕ) (t : Mic) → octets ≡ mic t → Begins octets (mic_id ++ (t.flags ∷ []) ++ mic_filler)
 headed octets t p = (to_be_bytes w64 t.seq_num ++ t.checksum, p)
 
-mic_not_refused : (octets : List ℕ) (t : Mic) (e : GssApiMessageError) → MicIs octets t → MicRefused (Some octets) e → IsFault e
-mic_not_refused octets t (errors.InvalidId x y) p r = absurd (r.1 (mic_id_read octets y r.3.0 (_, p.0) r.2 r.3.1))
-mic_not_refused octets t (errors.InvalidMechanismOid x y) p r = absurd r
-mic_not_refused octets t (errors.IoError x) p r = tt
-mic_not_refused octets t (errors.InvalidMicFiller x) p r = absurd (r.0 (mic_filler_told octets x r.2.1.0 t.flags r.2.0 (headed octets t p.0) r.1 r.2.1.1))
-mic_not_refused octets t (errors.InvalidWrapFiller x) p r = absurd r
-mic_not_refused octets t (errors.Asn1Error x) p r = absurd r
-mic_not_refused octets t errors.OutOfMemory p r = tt
+mic_not_rejected : (octets : List ℕ) (t : Mic) (e : GssApiMessageError) → MicIs octets t → MicRejected (Some octets) e → IsError e
+mic_not_rejected octets t (errors.InvalidId x y) p r = absurd (r.1 (mic_id_read octets y r.3.0 (_, p.0) r.2 r.3.1))
+mic_not_rejected octets t (errors.InvalidMechanismOid x y) p r = absurd r
+mic_not_rejected octets t (errors.IoError x) p r = tt
+mic_not_rejected octets t (errors.InvalidMicFiller x) p r = absurd (r.0 (mic_filler_reported octets x r.2.1.0 t.flags r.2.0 (headed octets t p.0) r.1 r.2.1.1))
+mic_not_rejected octets t (errors.InvalidWrapFiller x) p r = absurd r
+mic_not_rejected octets t (errors.Asn1Error x) p r = absurd r
+mic_not_rejected octets t errors.OutOfMemory p r = tt
 
 -- where the octets are a token, it is the answer, but for a fault
-pub only_mic : (known : Option (List ℕ)) (r : Result Mic GssApiMessageError) → IfOk r (λ t. IfSome known (λ octets. MicIs octets t)) → IfOk r (λ t. t.seq_num < 2 ^ 64) → IfErr r (MicRefused known)
-    → IfSome known (λ octets. (t : Mic) → t.seq_num < 2 ^ 64 → MicIs octets t → AnswersUnlessFault r t)
+pub only_mic : (known : Option (List ℕ)) (r : Result Mic GssApiMessageError) → IfOk r (λ t. IfSome known (λ octets. MicIs octets t)) → IfOk r (λ t. t.seq_num < 2 ^ 64) → IfErr r (MicRejected known)
+    → IfSome known (λ octets. (t : Mic) → t.seq_num < 2 ^ 64 → MicIs octets t → AnswersUnlessError r t)
 only_mic None r x y z = tt
 only_mic (Some octets) (Ok s) x y z = λ t h p. one_mic octets s t y h x p
-only_mic (Some octets) (Err e) x y z = λ t h p. mic_not_refused octets t e p z
+only_mic (Some octets) (Err e) x y z = λ t h p. mic_not_rejected octets t e p z
 
 -- fewer octets than a header has
 short : (octets : List ℕ) → MicIsCut octets → length octets < 16
@@ -93,39 +93,39 @@ short octets (inl h) = omega arith
 short octets (inr (inl h)) = let k : length octets < 8 = h.1 in omega arith
 short octets (inr (inr h)) = h.1
 
-mic_cut_refused : (octets : List ℕ) (e : GssApiMessageError) → MicIsCut octets → MicRefused (Some octets) e → RefusesAsIo {A = Mic} (Err e)
-mic_cut_refused octets (errors.InvalidId x y) (inl h) r =
+mic_cut_rejected : (octets : List ℕ) (e : GssApiMessageError) → MicIsCut octets → MicRejected (Some octets) e → RejectsAsIo {A = Mic} (Err e)
+mic_cut_rejected octets (errors.InvalidId x y) (inl h) r =
     let e : length octets ≡ length y + length r.3.0 = ap length r.3.1 ∙ length-append y r.3.0 in
     let k : length y ≡ 2 = r.2 in
     absurd (omega arith)
-mic_cut_refused octets (errors.InvalidId x y) (inr (inl h)) r = absurd (r.1 (mic_id_read octets y r.3.0 h.0 r.2 r.3.1))
-mic_cut_refused octets (errors.InvalidId x y) (inr (inr h)) r = absurd (r.1 (mic_id_read octets y r.3.0 (_, h.0.1.1) r.2 r.3.1))
-mic_cut_refused octets (errors.InvalidMechanismOid x y) h r = absurd r
-mic_cut_refused octets (errors.IoError x) h r = tt
-mic_cut_refused octets (errors.InvalidMicFiller x) (inl h) r =
+mic_cut_rejected octets (errors.InvalidId x y) (inr (inl h)) r = absurd (r.1 (mic_id_read octets y r.3.0 h.0 r.2 r.3.1))
+mic_cut_rejected octets (errors.InvalidId x y) (inr (inr h)) r = absurd (r.1 (mic_id_read octets y r.3.0 (_, h.0.1.1) r.2 r.3.1))
+mic_cut_rejected octets (errors.InvalidMechanismOid x y) h r = absurd r
+mic_cut_rejected octets (errors.IoError x) h r = tt
+mic_cut_rejected octets (errors.InvalidMicFiller x) (inl h) r =
     let e : length octets ≡ length (mic_id ++ (r.2.0 ∷ []) ++ x) + length r.2.1.0 = ap length r.2.1.1 ∙ length-append (mic_id ++ (r.2.0 ∷ []) ++ x) r.2.1.0 in
     let f : length (mic_id ++ (r.2.0 ∷ []) ++ x) ≡ 3 + length x = length-append (mic_id ++ (r.2.0 ∷ [])) x in
     absurd (omega arith)
-mic_cut_refused octets (errors.InvalidMicFiller x) (inr (inl h)) r =
+mic_cut_rejected octets (errors.InvalidMicFiller x) (inr (inl h)) r =
     let e : length octets ≡ length (mic_id ++ (r.2.0 ∷ []) ++ x) + length r.2.1.0 = ap length r.2.1.1 ∙ length-append (mic_id ++ (r.2.0 ∷ []) ++ x) r.2.1.0 in
     let f : length (mic_id ++ (r.2.0 ∷ []) ++ x) ≡ 3 + length x = length-append (mic_id ++ (r.2.0 ∷ [])) x in
     let k : length x ≡ 5 = r.1 in
     let m : length octets < 8 = h.1 in
     absurd (omega arith)
-mic_cut_refused octets (errors.InvalidMicFiller x) (inr (inr h)) r = absurd (r.0 (mic_filler_told octets x r.2.1.0 h.0.0 r.2.0 h.0.1 r.1 r.2.1.1))
-mic_cut_refused octets (errors.InvalidWrapFiller x) h r = absurd r
-mic_cut_refused octets (errors.Asn1Error x) h r = absurd r
-mic_cut_refused octets errors.OutOfMemory h r =
+mic_cut_rejected octets (errors.InvalidMicFiller x) (inr (inr h)) r = absurd (r.0 (mic_filler_reported octets x r.2.1.0 h.0.0 r.2.0 h.0.1 r.1 r.2.1.1))
+mic_cut_rejected octets (errors.InvalidWrapFiller x) h r = absurd r
+mic_cut_rejected octets (errors.Asn1Error x) h r = absurd r
+mic_cut_rejected octets errors.OutOfMemory h r =
     let e : length octets ≡ 16 + length r.2.0 = ap length r.2.1 ∙ length-append (mic_header r.0 r.1) r.2.0 in
     let k : length octets < 16 = short octets h in
     absurd (omega arith)
 
 -- where a field is cut short, the answer is an `IoError`
-pub cut_mic : (known : Option (List ℕ)) (r : Result Mic GssApiMessageError) → IfOk r (λ t. IfSome known (λ octets. MicIs octets t)) → IfErr r (MicRefused known)
-    → IfSome known (λ octets. MicIsCut octets → RefusesAsIo r)
+pub cut_mic : (known : Option (List ℕ)) (r : Result Mic GssApiMessageError) → IfOk r (λ t. IfSome known (λ octets. MicIs octets t)) → IfErr r (MicRejected known)
+    → IfSome known (λ octets. MicIsCut octets → RejectsAsIo r)
 cut_mic None r x y = tt
 cut_mic (Some octets) (Ok s) x y = λ h.
     let e : length octets ≡ 16 + length s.checksum = ap length x.0 ∙ length-append (mic_header s.flags s.seq_num) s.checksum in
     let k : length octets < 16 = short octets h in
     absurd (omega arith)
-cut_mic (Some octets) (Err e) x y = λ h. mic_cut_refused octets e h y
+cut_mic (Some octets) (Err e) x y = λ h. mic_cut_rejected octets e h y

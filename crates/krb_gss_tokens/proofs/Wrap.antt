@@ -6,10 +6,10 @@ use Rattle.std.specs.Int.{w16, w64, from_be_bytes, to_be_bytes}
 use Rattle.std.specs.Io.KnownBytes.{Consumes}
 use Rattle.krb_gss_tokens.specs.Layout.{wrap_id, wrap_header}
 use Rattle.krb_gss_tokens.specs.Wrap.{FitsWrap, Wrap, WrapIs, wrap}
-use Rattle.krb_gss_tokens.specs.Refused.{AnswersUnlessFault, Begins, IsFault, RefusesAsIo, WrapIsCut, WrapRefused}
+use Rattle.krb_gss_tokens.specs.Rejected.{AnswersUnlessError, Begins, IsError, RejectsAsIo, WrapIsCut, WrapRejected}
 use Rattle.krb_gss_tokens.specs.declared.error.GssApiMessageError.{GssApiMessageError}
 use Rattle.krb_gss_tokens.specs.declared.error.GssApiMessageError.TheVariants as errors
-use Rattle.krb_gss_tokens.proofs.Streams.{consumes_then, begun, all_read, front_taken}
+use Rattle.krb_gss_tokens.proofs.Streams.{consumes_then, begun, all_read, prefix_taken}
 
 -- five reads are a header
 pub wrap_header_read : (a b c d e z : Option (List ℕ)) (id marks : List ℕ) (f x y n : ℕ) → id ≡ wrap_id → marks ≡ f ∷ 255 ∷ []
@@ -33,15 +33,15 @@ wrap_filler_read (Some l) b c id marks f x i p s t =
     (f, begun (Some l) c (wrap_id ++ (f ∷ x ∷ [])) (subst (λ (xs : List ℕ). Consumes (Some l) c xs) same taken))
 
 -- a fault behind the header
-pub wrap_rest_refused : (a b : Option (List ℕ)) (f x y n : ℕ) (e : GssApiMessageError) → Consumes a b (wrap_header f x y n) → IsFault e → WrapRefused a e
-wrap_rest_refused a b f x y n (errors.InvalidId v w) p h = absurd h
-wrap_rest_refused a b f x y n (errors.InvalidMechanismOid v w) p h = absurd h
-wrap_rest_refused a b f x y n (errors.IoError v) p h = tt
-wrap_rest_refused a b f x y n (errors.InvalidMicFiller v) p h = absurd h
-wrap_rest_refused a b f x y n (errors.InvalidWrapFiller v) p h = absurd h
-wrap_rest_refused a b f x y n (errors.Asn1Error v) p h = absurd h
-wrap_rest_refused None b f x y n errors.OutOfMemory p h = tt
-wrap_rest_refused (Some l) b f x y n errors.OutOfMemory p h = (f, x, y, n, begun (Some l) b (wrap_header f x y n) p)
+pub wrap_rest_rejected : (a b : Option (List ℕ)) (f x y n : ℕ) (e : GssApiMessageError) → Consumes a b (wrap_header f x y n) → IsError e → WrapRejected a e
+wrap_rest_rejected a b f x y n (errors.InvalidId v w) p h = absurd h
+wrap_rest_rejected a b f x y n (errors.InvalidMechanismOid v w) p h = absurd h
+wrap_rest_rejected a b f x y n (errors.IoError v) p h = tt
+wrap_rest_rejected a b f x y n (errors.InvalidMicFiller v) p h = absurd h
+wrap_rest_rejected a b f x y n (errors.InvalidWrapFiller v) p h = absurd h
+wrap_rest_rejected a b f x y n (errors.Asn1Error v) p h = absurd h
+wrap_rest_rejected None b f x y n errors.OutOfMemory p h = tt
+wrap_rest_rejected (Some l) b f x y n errors.OutOfMemory p h = (f, x, y, n, begun (Some l) b (wrap_header f x y n) p)
 
 -- a whole token was read
 pub wrap_read : (a b : Option (List ℕ)) (f x y n : ℕ) (rest : List ℕ) → Consumes a b (wrap_header f x y n) → IfSome b (λ left. rest ≡ left)
@@ -71,32 +71,32 @@ one_wrap octets s t hs ht p q =
     ∙ ap (λ (z : Option (List ℕ)). mk t.flags t.ec t.rrc t.seq_num z s.checksum) l ∙ ap (λ (z : List ℕ). mk t.flags t.ec t.rrc t.seq_num t.payload z) c
 
 -- octets that begin with the id do not begin with another
-wrap_id_read : (octets got behind : List ℕ) → Begins octets wrap_id → length got ≡ 2 → octets ≡ got ++ behind → got ≡ wrap_id
-wrap_id_read octets got behind b e p = sym (front_taken got behind 2 e) ∙ ap (take 2) (sym p ∙ b.1)
+wrap_id_read : (octets got trailing : List ℕ) → Begins octets wrap_id → length got ≡ 2 → octets ≡ got ++ trailing → got ≡ wrap_id
+wrap_id_read octets got trailing b e p = sym (prefix_taken got trailing 2 e) ∙ ap (take 2) (sym p ∙ b.1)
 
 -- octets that have the filler behind the id and the flags have no other
-wrap_filler_told : (octets behind : List ℕ) (f g got : ℕ) → Begins octets (wrap_id ++ (f ∷ 255 ∷ [])) → octets ≡ (wrap_id ++ (g ∷ got ∷ [])) ++ behind → got ≡ 255
-wrap_filler_told octets behind f g got b p = ap (λ (xs : List ℕ). get_or xs 3 0) (sym p ∙ b.1)
+wrap_filler_reported : (octets trailing : List ℕ) (f g got : ℕ) → Begins octets (wrap_id ++ (f ∷ 255 ∷ [])) → octets ≡ (wrap_id ++ (g ∷ got ∷ [])) ++ trailing → got ≡ 255
+wrap_filler_reported octets trailing f g got b p = ap (λ (xs : List ℕ). get_or xs 3 0) (sym p ∙ b.1)
 
 -- a whole header stands in front
 headed : (octets : List ℕ) (t : Wrap) → octets ≡ wrap t → Begins octets (wrap_id ++ (t.flags ∷ 255 ∷ []))
 headed octets t p = (to_be_bytes w16 t.ec ++ to_be_bytes w16 t.rrc ++ to_be_bytes w64 t.seq_num ++ t.checksum, p)
 
-wrap_not_refused : (octets : List ℕ) (t : Wrap) (e : GssApiMessageError) → WrapIs octets t → WrapRefused (Some octets) e → IsFault e
-wrap_not_refused octets t (errors.InvalidId x y) p r = absurd (r.1 (wrap_id_read octets y r.3.0 (_, p.0) r.2 r.3.1))
-wrap_not_refused octets t (errors.InvalidMechanismOid x y) p r = absurd r
-wrap_not_refused octets t (errors.IoError x) p r = tt
-wrap_not_refused octets t (errors.InvalidMicFiller x) p r = absurd r
-wrap_not_refused octets t (errors.InvalidWrapFiller x) p r = absurd (r.0 (wrap_filler_told octets r.1.1.0 t.flags r.1.0 x (headed octets t p.0) r.1.1.1))
-wrap_not_refused octets t (errors.Asn1Error x) p r = absurd r
-wrap_not_refused octets t errors.OutOfMemory p r = tt
+wrap_not_rejected : (octets : List ℕ) (t : Wrap) (e : GssApiMessageError) → WrapIs octets t → WrapRejected (Some octets) e → IsError e
+wrap_not_rejected octets t (errors.InvalidId x y) p r = absurd (r.1 (wrap_id_read octets y r.3.0 (_, p.0) r.2 r.3.1))
+wrap_not_rejected octets t (errors.InvalidMechanismOid x y) p r = absurd r
+wrap_not_rejected octets t (errors.IoError x) p r = tt
+wrap_not_rejected octets t (errors.InvalidMicFiller x) p r = absurd r
+wrap_not_rejected octets t (errors.InvalidWrapFiller x) p r = absurd (r.0 (wrap_filler_reported octets r.1.1.0 t.flags r.1.0 x (headed octets t p.0) r.1.1.1))
+wrap_not_rejected octets t (errors.Asn1Error x) p r = absurd r
+wrap_not_rejected octets t errors.OutOfMemory p r = tt
 
 -- where the octets are a token, it is the answer, but for a fault
-pub only_wrap : (known : Option (List ℕ)) (r : Result Wrap GssApiMessageError) → IfOk r (λ t. IfSome known (λ octets. WrapIs octets t)) → IfOk r FitsWrap → IfErr r (WrapRefused known)
-    → IfSome known (λ octets. (t : Wrap) → FitsWrap t → WrapIs octets t → AnswersUnlessFault r t)
+pub only_wrap : (known : Option (List ℕ)) (r : Result Wrap GssApiMessageError) → IfOk r (λ t. IfSome known (λ octets. WrapIs octets t)) → IfOk r FitsWrap → IfErr r (WrapRejected known)
+    → IfSome known (λ octets. (t : Wrap) → FitsWrap t → WrapIs octets t → AnswersUnlessError r t)
 only_wrap None r x y z = tt
 only_wrap (Some octets) (Ok s) x y z = λ t h p. one_wrap octets s t y h x p
-only_wrap (Some octets) (Err e) x y z = λ t h p. wrap_not_refused octets t e p z
+only_wrap (Some octets) (Err e) x y z = λ t h p. wrap_not_rejected octets t e p z
 
 -- fewer octets than a header has
 short : (octets : List ℕ) → WrapIsCut octets → length octets < 16
@@ -104,36 +104,36 @@ short octets (inl h) = omega arith
 short octets (inr (inl h)) = let k : length octets < 4 = h.1 in omega arith
 short octets (inr (inr h)) = h.1
 
-wrap_cut_refused : (octets : List ℕ) (e : GssApiMessageError) → WrapIsCut octets → WrapRefused (Some octets) e → RefusesAsIo {A = Wrap} (Err e)
-wrap_cut_refused octets (errors.InvalidId x y) (inl h) r =
+wrap_cut_rejected : (octets : List ℕ) (e : GssApiMessageError) → WrapIsCut octets → WrapRejected (Some octets) e → RejectsAsIo {A = Wrap} (Err e)
+wrap_cut_rejected octets (errors.InvalidId x y) (inl h) r =
     let e : length octets ≡ length y + length r.3.0 = ap length r.3.1 ∙ length-append y r.3.0 in
     let k : length y ≡ 2 = r.2 in
     absurd (omega arith)
-wrap_cut_refused octets (errors.InvalidId x y) (inr (inl h)) r = absurd (r.1 (wrap_id_read octets y r.3.0 h.0 r.2 r.3.1))
-wrap_cut_refused octets (errors.InvalidId x y) (inr (inr h)) r = absurd (r.1 (wrap_id_read octets y r.3.0 (_, h.0.1.1) r.2 r.3.1))
-wrap_cut_refused octets (errors.InvalidMechanismOid x y) h r = absurd r
-wrap_cut_refused octets (errors.IoError x) h r = tt
-wrap_cut_refused octets (errors.InvalidMicFiller x) h r = absurd r
-wrap_cut_refused octets (errors.InvalidWrapFiller x) (inl h) r =
+wrap_cut_rejected octets (errors.InvalidId x y) (inr (inl h)) r = absurd (r.1 (wrap_id_read octets y r.3.0 h.0 r.2 r.3.1))
+wrap_cut_rejected octets (errors.InvalidId x y) (inr (inr h)) r = absurd (r.1 (wrap_id_read octets y r.3.0 (_, h.0.1.1) r.2 r.3.1))
+wrap_cut_rejected octets (errors.InvalidMechanismOid x y) h r = absurd r
+wrap_cut_rejected octets (errors.IoError x) h r = tt
+wrap_cut_rejected octets (errors.InvalidMicFiller x) h r = absurd r
+wrap_cut_rejected octets (errors.InvalidWrapFiller x) (inl h) r =
     let e : length octets ≡ 4 + length r.1.1.0 = ap length r.1.1.1 ∙ length-append (wrap_id ++ (r.1.0 ∷ x ∷ [])) r.1.1.0 in
     absurd (omega arith)
-wrap_cut_refused octets (errors.InvalidWrapFiller x) (inr (inl h)) r =
+wrap_cut_rejected octets (errors.InvalidWrapFiller x) (inr (inl h)) r =
     let e : length octets ≡ 4 + length r.1.1.0 = ap length r.1.1.1 ∙ length-append (wrap_id ++ (r.1.0 ∷ x ∷ [])) r.1.1.0 in
     let m : length octets < 4 = h.1 in
     absurd (omega arith)
-wrap_cut_refused octets (errors.InvalidWrapFiller x) (inr (inr h)) r = absurd (r.0 (wrap_filler_told octets r.1.1.0 h.0.0 r.1.0 x h.0.1 r.1.1.1))
-wrap_cut_refused octets (errors.Asn1Error x) h r = absurd r
-wrap_cut_refused octets errors.OutOfMemory h r =
+wrap_cut_rejected octets (errors.InvalidWrapFiller x) (inr (inr h)) r = absurd (r.0 (wrap_filler_reported octets r.1.1.0 h.0.0 r.1.0 x h.0.1 r.1.1.1))
+wrap_cut_rejected octets (errors.Asn1Error x) h r = absurd r
+wrap_cut_rejected octets errors.OutOfMemory h r =
     let e : length octets ≡ 16 + length r.4.0 = ap length r.4.1 ∙ length-append (wrap_header r.0 r.1 r.2 r.3) r.4.0 in
     let k : length octets < 16 = short octets h in
     absurd (omega arith)
 
 -- where a field is cut short, the answer is an `IoError`
-pub cut_wrap : (known : Option (List ℕ)) (r : Result Wrap GssApiMessageError) → IfOk r (λ t. IfSome known (λ octets. WrapIs octets t)) → IfErr r (WrapRefused known)
-    → IfSome known (λ octets. WrapIsCut octets → RefusesAsIo r)
+pub cut_wrap : (known : Option (List ℕ)) (r : Result Wrap GssApiMessageError) → IfOk r (λ t. IfSome known (λ octets. WrapIs octets t)) → IfErr r (WrapRejected known)
+    → IfSome known (λ octets. WrapIsCut octets → RejectsAsIo r)
 cut_wrap None r x y = tt
 cut_wrap (Some octets) (Ok s) x y = λ h.
     let e : length octets ≡ 16 + length s.checksum = ap length x.0 ∙ length-append (wrap_header s.flags s.ec s.rrc s.seq_num) s.checksum in
     let k : length octets < 16 = short octets h in
     absurd (omega arith)
-cut_wrap (Some octets) (Err e) x y = λ h. wrap_cut_refused octets e h y
+cut_wrap (Some octets) (Err e) x y = λ h. wrap_cut_rejected octets e h y

@@ -3,5 +3,5 @@ pub mod Errors
 pub mod Layout
 pub mod Mic
 pub mod Octets
-pub mod Refused
+pub mod Rejected
 pub mod Wrap

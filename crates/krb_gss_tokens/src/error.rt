@@ -38,19 +38,19 @@ pub enum GssApiMessageError {
 }
 
 impl From<io::Error> for GssApiMessageError {
-    ghost from_gives = { λ fault e. e ≡ errors.IoError fault };
+    ghost from_gives = { λ error e. e ≡ errors.IoError error };
 
-    fn from(fault: io::Error) -> GssApiMessageError {
-        GssApiMessageError::IoError(fault)
+    fn from(error: io::Error) -> GssApiMessageError {
+        GssApiMessageError::IoError(error)
     }
 }
 
 /// An error of DER octets is kept as it is, but an allocation failure is `OutOfMemory` of this type.
 impl From<Asn1DerError> for GssApiMessageError {
-    ghost from_gives = { λ refusal e. e ≡ of_der refusal };
+    ghost from_gives = { λ rejection e. e ≡ of_der rejection };
 
-    fn from(refusal: Asn1DerError) -> GssApiMessageError {
-        match refusal {
+    fn from(rejection: Asn1DerError) -> GssApiMessageError {
+        match rejection {
             Asn1DerError::OutOfMemory => GssApiMessageError::OutOfMemory,
             other => GssApiMessageError::Asn1Error(other),
         }

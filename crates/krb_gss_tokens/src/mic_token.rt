@@ -6,7 +6,7 @@ ghost use Rattle.krb_gss_tokens.specs.Comparing.{same_mic_equiv, same_mic_per};
 ghost use Rattle.krb_gss_tokens.specs.Layout.{mic_header};
 ghost use Rattle.krb_gss_tokens.specs.Mic.{Mic, MicIs, mic, same_mic};
 ghost use Rattle.krb_gss_tokens.specs.Octets.{octets_of};
-ghost use Rattle.krb_gss_tokens.specs.Refused.{Answers, AnswersUnlessFault, IsIo, MicIsCut, MicRefused, RefusesAsIo};
+ghost use Rattle.krb_gss_tokens.specs.Rejected.{Answers, AnswersUnlessError, IsIo, MicIsCut, MicRejected, RejectsAsIo};
 
 use crate::error::GssApiMessageError;
 use crate::octets::{copy_payload, read_rest, read_u64, same_payload};
@@ -131,9 +131,9 @@ impl MicToken {
         ensures found { IfOk result (λ t. IfSome (R.remaining reader) (λ octets. MicIs octets t)) }
         ensures no_payload { IfOk result (λ t. t.payload ≡ None) }
         ensures fits { IfOk result (λ t. t.seq_num < 2 ^ 64) }
-        ensures refused { IfErr result (MicRefused (R.remaining reader)) }
-        ensures only { IfSome (R.remaining reader) (λ octets. (t : Mic) → t.seq_num < 2 ^ 64 → MicIs octets t → AnswersUnlessFault result t) }
-        ensures cut { IfSome (R.remaining reader) (λ octets. MicIsCut octets → RefusesAsIo result) }
+        ensures rejected { IfErr result (MicRejected (R.remaining reader)) }
+        ensures only { IfSome (R.remaining reader) (λ octets. (t : Mic) → t.seq_num < 2 ^ 64 → MicIs octets t → AnswersUnlessError result t) }
+        ensures cut { IfSome (R.remaining reader) (λ octets. MicIsCut octets → RejectsAsIo result) }
     {
         let mut reader = reader;
         read_fields(alloc, &mut reader)
@@ -174,7 +174,7 @@ fn read_fields<R: Read>(alloc: Global, reader: &mut R) -> Result<MicToken, GssAp
     ensures found { IfOk result (λ t. IfSome (R.remaining reader.old) (λ octets. MicIs octets t)) }
     ensures no_payload { IfOk result (λ t. t.payload ≡ None) }
     ensures fits { IfOk result (λ t. t.seq_num < 2 ^ 64) }
-    ensures refused { IfErr result (MicRefused (R.remaining reader.old)) }
+    ensures rejected { IfErr result (MicRejected (R.remaining reader.old)) }
 {
     let mut id = [0; 2];
     reader.read_exact(&mut id)?;

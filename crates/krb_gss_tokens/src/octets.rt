@@ -6,7 +6,7 @@ ghost use Rattle.std.specs.Io.KnownBytes.{Consumes};
 ghost use Rattle.std.specs.Cmp.Lexicographic.{pointwise};
 ghost use Rattle.std.specs.Option.{option_eq};
 ghost use Rattle.krb_gss_tokens.specs.Octets.{octets_of};
-ghost use Rattle.krb_gss_tokens.specs.Refused.{IsFault, IsIo};
+ghost use Rattle.krb_gss_tokens.specs.Rejected.{IsError, IsIo};
 
 use crate::error::GssApiMessageError;
 use krb_io::{ReadError, read_to_end};
@@ -53,7 +53,7 @@ pub(crate) fn read_rest<R: Read>(
     reader: &mut R,
 ) -> Result<Vec<u8>, GssApiMessageError>
     ensures all { IfOk result (λ rest. IfSome (R.remaining reader.old) (λ left. rest.items ≡ left)) }
-    ensures fault { IfErr result IsFault }
+    ensures error { IfErr result IsError }
 {
     match read_to_end(alloc, reader) {
         Ok(rest) => Ok(rest),

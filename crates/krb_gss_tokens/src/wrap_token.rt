@@ -5,7 +5,7 @@ ghost use Rattle.std.specs.Io.KnownBytes.{Appends};
 ghost use Rattle.krb_gss_tokens.specs.Comparing.{same_wrap_equiv, same_wrap_per};
 ghost use Rattle.krb_gss_tokens.specs.Layout.{wrap_header};
 ghost use Rattle.krb_gss_tokens.specs.Octets.{octets_of};
-ghost use Rattle.krb_gss_tokens.specs.Refused.{Answers, AnswersUnlessFault, IsIo, RefusesAsIo, WrapIsCut, WrapRefused};
+ghost use Rattle.krb_gss_tokens.specs.Rejected.{Answers, AnswersUnlessError, IsIo, RejectsAsIo, WrapIsCut, WrapRejected};
 ghost use Rattle.krb_gss_tokens.specs.Wrap.{FitsWrap, Wrap, WrapIs, same_wrap, wrap};
 
 use crate::error::GssApiMessageError;
@@ -128,9 +128,9 @@ impl WrapToken {
         ensures found { IfOk result (λ t. IfSome (R.remaining reader) (λ octets. WrapIs octets t)) }
         ensures no_payload { IfOk result (λ t. t.payload ≡ None) }
         ensures fits { IfOk result FitsWrap }
-        ensures refused { IfErr result (WrapRefused (R.remaining reader)) }
-        ensures only { IfSome (R.remaining reader) (λ octets. (t : Wrap) → FitsWrap t → WrapIs octets t → AnswersUnlessFault result t) }
-        ensures cut { IfSome (R.remaining reader) (λ octets. WrapIsCut octets → RefusesAsIo result) }
+        ensures rejected { IfErr result (WrapRejected (R.remaining reader)) }
+        ensures only { IfSome (R.remaining reader) (λ octets. (t : Wrap) → FitsWrap t → WrapIs octets t → AnswersUnlessError result t) }
+        ensures cut { IfSome (R.remaining reader) (λ octets. WrapIsCut octets → RejectsAsIo result) }
     {
         let mut reader = reader;
         read_fields(alloc, &mut reader)
@@ -175,7 +175,7 @@ fn read_fields<R: Read>(alloc: Global, reader: &mut R) -> Result<WrapToken, GssA
     ensures found { IfOk result (λ t. IfSome (R.remaining reader.old) (λ octets. WrapIs octets t)) }
     ensures no_payload { IfOk result (λ t. t.payload ≡ None) }
     ensures fits { IfOk result FitsWrap }
-    ensures refused { IfErr result (WrapRefused (R.remaining reader.old)) }
+    ensures rejected { IfErr result (WrapRejected (R.remaining reader.old)) }
 {
     let mut id = [0; 2];
     reader.read_exact(&mut id)?;

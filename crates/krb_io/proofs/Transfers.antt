@@ -8,7 +8,7 @@ use Rattle.std.specs.Io.KnownBytes.{Consumes, IsAtEnd, Keeps}
 use Rattle.std.proofs.KnownBytes.{Consumes-kept, Consumes-trans}
 use Rattle.krb_io.specs.declared.error.ReadError.{ReadError}
 use Rattle.krb_io.specs.declared.error.ReadError.TheVariants as errors
-use Rattle.krb_io.specs.Transfer.{IsPrefixRead, IsReadOnto, IsReadRefused, IsShortRead}
+use Rattle.krb_io.specs.Transfer.{IsPrefixRead, IsReadOnto, IsReadRejected, IsShortRead}
 
 -- octets came, and then none
 pub short_then_kept : (done count : ℕ) (xs : List ℕ) (a b c : Option (List ℕ)) → done < count → done ≤ length xs → Consumes a b (take done xs)
@@ -25,14 +25,14 @@ short_then_none done count n xs ys a b c less within none first second =
     record { octets = take done xs; fewer = omega arith; read = subst (Consumes a c) same (Consumes-trans a b c (take done xs) (take n ys) first second) }
 
 -- octets came, and then the reader failed before it gave the rest
-pub refused_after : (done count : ℕ) (old mid : List ℕ) (a b c : Option (List ℕ)) (e : ReadError) → IsReadOnto done old mid a b → done < count
-    → IsReadRefused (count - done) b c e → IsReadRefused count a c e
-refused_after done count old mid a b c (errors.Io x) first less why =
+pub rejected_after : (done count : ℕ) (old mid : List ℕ) (a b c : Option (List ℕ)) (e : ReadError) → IsReadOnto done old mid a b → done < count
+    → IsReadRejected (count - done) b c e → IsReadRejected count a c e
+rejected_after done count old mid a b c (errors.Io x) first less why =
     let short = why.1 in
     let long = length-append first.0 short.octets in
     let fewer = short.fewer in
     (why.0, record { octets = first.0 ++ short.octets; fewer = omega (arith, first.1); read = Consumes-trans a b c first.0 short.octets first.3 short.read })
-refused_after done count old mid a b c errors.OutOfMemory first less why = tt
+rejected_after done count old mid a b c errors.OutOfMemory first less why = tt
 
 -- what was read is the prefix that there was
 pub prefix_read : (n count : ℕ) (octets : List ℕ) (a b : Option (List ℕ)) → IsReadOnto n [] octets a b → n ≤ count → (n < count → IsAtEnd b)

@@ -34,9 +34,9 @@ abbrev pub IsPrefixRead : ℕ → List ℕ → Option (List ℕ) → Option (Lis
 IsPrefixRead count octets before after = IfSome before (λ all. (octets ≡ take count all) × (after ≡ Some (drop count all)))
 
 -- the reader failed before it gave so many octets, or a vector could not grow
-abbrev pub IsReadRefused : ℕ → Option (List ℕ) → Option (List ℕ) → ReadError → Type 0
-IsReadRefused count before after (errors.Io error) = IsNotInterrupted error × IsShortRead count before after
-IsReadRefused count before after errors.OutOfMemory = Unit {0}
+abbrev pub IsReadRejected : ℕ → Option (List ℕ) → Option (List ℕ) → ReadError → Type 0
+IsReadRejected count before after (errors.Io error) = IsNotInterrupted error × IsShortRead count before after
+IsReadRejected count before after errors.OutOfMemory = Unit {0}
 
 -- the same error as one of a reader: its own, or one of the kind `OutOfMemory`
 abbrev pub IsSameError : ReadError → Error → Type 0

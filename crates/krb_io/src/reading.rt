@@ -2,7 +2,7 @@
 
 ghost use Rattle.std.specs.Prelude.{◌≡◌, ◌≤◌, ◌<◌, length, take, IfOk, IfErr, IfSome, OnOk, OnErr};
 ghost use Rattle.std.specs.Io.KnownBytes.{Consumes, IsAtEnd, Keeps};
-ghost use Rattle.krb_io.specs.Transfer.{IsNotInterrupted, IsPrefixRead, IsReadOnto, IsReadRefused, IsShortRead};
+ghost use Rattle.krb_io.specs.Transfer.{IsNotInterrupted, IsPrefixRead, IsReadOnto, IsReadRejected, IsShortRead};
 
 use crate::error::ReadError;
 use std::alloc::Global;
@@ -61,7 +61,7 @@ fn read_some<R: Read>(reader: &mut R, wanted: usize, out: &mut Vec<u8>) -> Resul
     ensures octets { IfOk result (λ n. IsReadOnto n out.old.items out.new.items (R.remaining reader.old) (R.remaining reader.new)) }
     ensures within { IfOk result (λ n. n ≤ wanted) }
     ensures end { IfOk result (λ n. n ≡ 0 → 0 < wanted → IsAtEnd (R.remaining reader.new)) }
-    ensures refused { 0 < wanted → IfErr result (IsReadRefused wanted (R.remaining reader.old) (R.remaining reader.new)) }
+    ensures rejected { 0 < wanted → IfErr result (IsReadRejected wanted (R.remaining reader.old) (R.remaining reader.new)) }
 {
     let mut octets = [0u8; MOST_AT_ONCE];
     let buffer = &mut octets[..wanted.min(MOST_AT_ONCE)];
@@ -82,7 +82,7 @@ pub fn read_onto<R: Read>(
     ensures octets { IfOk result (λ n. IsReadOnto n out.old.items out.new.items (R.remaining reader.old) (R.remaining reader.new)) }
     ensures within { IfOk result (λ n. n ≤ count) }
     ensures end { IfOk result (λ n. n < count → IsAtEnd (R.remaining reader.new)) }
-    ensures refused { IfErr result (IsReadRefused count (R.remaining reader.old) (R.remaining reader.new)) }
+    ensures rejected { IfErr result (IsReadRejected count (R.remaining reader.old) (R.remaining reader.new)) }
 {
     let mut done = 0;
     while done < count {
@@ -105,7 +105,7 @@ pub fn read_up_to<R: Read>(
 ) -> Result<Vec<u8>, ReadError>
     ensures octets { IfOk result (λ v. IsPrefixRead count v.items (R.remaining reader.old) (R.remaining reader.new)) }
     ensures within { IfOk result (λ v. length v.items ≤ count) }
-    ensures refused { IfErr result (IsReadRefused count (R.remaining reader.old) (R.remaining reader.new)) }
+    ensures rejected { IfErr result (IsReadRejected count (R.remaining reader.old) (R.remaining reader.new)) }
 {
     let mut octets = Vec::new(alloc);
     read_onto(reader, count, &mut octets)?;
@@ -117,7 +117,7 @@ pub fn read_up_to<R: Read>(
 /// `OutOfMemory` where it cannot grow; every other error is the reader's.
 pub fn read_to_end<R: Read>(alloc: Global, reader: &mut R) -> Result<Vec<u8>, ReadError>
     ensures octets { IfOk result (λ v. IfSome (R.remaining reader.old) (λ all. v.items ≡ all)) }
-    ensures refused { IfErr result (IsReadRefused usize.MAX (R.remaining reader.old) (R.remaining reader.new)) }
+    ensures rejected { IfErr result (IsReadRejected usize.MAX (R.remaining reader.old) (R.remaining reader.new)) }
 {
     read_up_to(alloc, reader, usize::MAX)
 }

@@ -7,8 +7,8 @@ use Rattle.std.specs.Io.KnownBytes.{Consumes}
 use Rattle.krb_lsap.specs.TokenInfo.{IsTokenInfo, lsap_token_info}
 use Rattle.krb_lsap.specs.declared.token.LsapTokenInfoIntegrity.{LsapTokenInfoIntegrity}
 
-fronts : (a b x y : List ℕ) → length a ≡ length b → a ++ x ≡ b ++ y → (a ≡ b) × (x ≡ y)
-fronts a b x y same e = (
+prefixes : (a b x y : List ℕ) → length a ≡ length b → a ++ x ≡ b ++ y → (a ≡ b) × (x ≡ y)
+prefixes a b x y same e = (
   sym (take-append_seam a x) ∙ ap (λ (l : List ℕ). take (length a) l) e ∙ ap (λ (n : ℕ). take n (b ++ y)) same ∙ take-append_seam b y,
   sym (drop-append_seam a x) ∙ ap (λ (l : List ℕ). drop (length a) l) e ∙ ap (λ (n : ℕ). drop n (b ++ y)) same ∙ drop-append_seam b y,
 )
@@ -23,9 +23,9 @@ record_is r s e f g =
 
 pub one_record : (r s : LsapTokenInfoIntegrity) (x y : List ℕ) → IsTokenInfo r → IsTokenInfo s → lsap_token_info r ++ x ≡ lsap_token_info s ++ y → (r ≡ s) × (x ≡ y)
 one_record r s x y h k e =
-    let flags = fronts (to_le_bytes w32 r.flags) (to_le_bytes w32 s.flags) (to_le_bytes w32 r.token_il ++ (r.machine_id ++ x)) (to_le_bytes w32 s.token_il ++ (s.machine_id ++ y)) refl e in
-    let level = fronts (to_le_bytes w32 r.token_il) (to_le_bytes w32 s.token_il) (r.machine_id ++ x) (s.machine_id ++ y) refl flags.1 in
-    let machine = fronts r.machine_id s.machine_id x y (h.machine_id ∙ sym k.machine_id) level.1 in
+    let flags = prefixes (to_le_bytes w32 r.flags) (to_le_bytes w32 s.flags) (to_le_bytes w32 r.token_il ++ (r.machine_id ++ x)) (to_le_bytes w32 s.token_il ++ (s.machine_id ++ y)) refl e in
+    let level = prefixes (to_le_bytes w32 r.token_il) (to_le_bytes w32 s.token_il) (r.machine_id ++ x) (s.machine_id ++ y) refl flags.1 in
+    let machine = prefixes r.machine_id s.machine_id x y (h.machine_id ∙ sym k.machine_id) level.1 in
     (record_is r s (number_is r.flags s.flags h.flags k.flags flags.0) (number_is r.token_il s.token_il h.token_il k.token_il level.0) machine.0, machine.1)
 
 -- three parts taken in turn

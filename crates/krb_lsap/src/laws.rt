@@ -1,7 +1,7 @@
 //! Laws over the definitions, of functions that do nothing.
 
 ghost use Rattle.std.specs.Prelude.{◌≡◌, ◌++◌, List, ℕ};
-ghost use Rattle.krb_der.specs.Equality.{ClonesValue, TellsEqual};
+ghost use Rattle.krb_der.specs.Equality.{ClonesValue, DecidesEqual};
 ghost use Rattle.krb_lsap.specs.TokenInfo.{IsTokenInfo, lsap_token_info};
 
 use crate::token::LsapTokenInfoIntegrity;
@@ -14,7 +14,7 @@ pub fn one_reading()
 
 /// `==` on records: it answers true for equal values and for no others.
 pub fn equality()
-    ensures { TellsEqual ⟦<LsapTokenInfoIntegrity as PartialEq>⟧.eq }
+    ensures { DecidesEqual ⟦<LsapTokenInfoIntegrity as PartialEq>⟧.eq }
 {}
 
 /// A clone of a record is the value again.

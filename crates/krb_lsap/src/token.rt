@@ -40,7 +40,7 @@ impl LsapTokenInfoIntegrity {
     /// octets, and not all of them. A write that a signal interrupts is tried again.
     pub fn encode<W: Write>(&self, to: &mut W) -> io::Result<()>
         ensures octets { OnOk result (Appends (W.contents to.old) (W.contents to.new) (lsap_token_info self.now)) }
-        ensures front { OnErr result (IsPrefixWritten (lsap_token_info self.now) (W.contents to.old) (W.contents to.new)) }
+        ensures prefix { OnErr result (IsPrefixWritten (lsap_token_info self.now) (W.contents to.old) (W.contents to.new)) }
         ensures retried { IfErr result IsNotInterrupted }
     {
         write_all(to, &octets_of(self))

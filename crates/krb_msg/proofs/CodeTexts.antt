@@ -12,9 +12,9 @@ module _ (n : ℕ) (acc : List ℕ) where
   by_test : (k : ℕ) (b : Bool) → eqb (n / 16) 0 ≡ b → digits_onto (suc k) 16 true n acc ≡ cond b (hexadecimal_digit (n % 16) ∷ acc) (digits_onto k 16 true (n / 16) (hexadecimal_digit (n % 16) ∷ acc))
   by_test k b e = ap (λ (t : Bool). cond t (hexadecimal_digit (n % 16) ∷ acc) (digits_onto k 16 true (n / 16) (hexadecimal_digit (n % 16) ∷ acc))) e
 
-map_behind : (f : ℕ → ℕ) (xs ys : List ℕ) → map f (xs ++ ys) ≡ map f xs ++ map f ys
-map_behind f [] ys = refl
-map_behind f (x ∷ xs) ys = ap (λ (l : List ℕ). f x ∷ l) (map_behind f xs ys)
+map_trailing : (f : ℕ → ℕ) (xs ys : List ℕ) → map f (xs ++ ys) ≡ map f xs ++ map f ys
+map_trailing f [] ys = refl
+map_trailing f (x ∷ xs) ys = ap (λ (l : List ℕ). f x ∷ l) (map_trailing f xs ys)
 
 length_of_map : (f : ℕ → ℕ) (xs : List ℕ) → length (map f xs) ≡ length xs
 length_of_map f [] = refl
@@ -27,10 +27,10 @@ one_digit n some lt =
     digits_of_step 16 n (omega arith) some ∙ ap (λ (h : ℕ). digits_of 16 h ++ (n % 16) ∷ []) high ∙ ap (λ (d : ℕ). d ∷ []) low
 
 -- the last digit, and those in front
-digits_behind : (n : ℕ) (acc : List ℕ) → 0 < n → map hexadecimal_digit (digits_of 16 n) ++ acc ≡ map hexadecimal_digit (digits_of 16 (n / 16)) ++ hexadecimal_digit (n % 16) ∷ acc
-digits_behind n acc some =
+digits_trailing : (n : ℕ) (acc : List ℕ) → 0 < n → map hexadecimal_digit (digits_of 16 n) ++ acc ≡ map hexadecimal_digit (digits_of 16 (n / 16)) ++ hexadecimal_digit (n % 16) ∷ acc
+digits_trailing n acc some =
     ap (λ (l : List ℕ). map hexadecimal_digit l ++ acc) (digits_of_step 16 n (omega arith) some)
-    ∙ ap (λ (l : List ℕ). l ++ acc) (map_behind hexadecimal_digit (digits_of 16 (n / 16)) ((n % 16) ∷ []))
+    ∙ ap (λ (l : List ℕ). l ++ acc) (map_trailing hexadecimal_digit (digits_of 16 (n / 16)) ((n % 16) ∷ []))
     ∙ append_assoc (map hexadecimal_digit (digits_of 16 (n / 16))) (hexadecimal_digit (n % 16) ∷ []) acc
 
 digits_written : (k n : ℕ) (acc : List ℕ) → 0 < n → n < 16 ^ k → digits_onto k 16 true n acc ≡ map hexadecimal_digit (digits_of 16 n) ++ acc
@@ -43,7 +43,7 @@ digits_written (suc k) n acc some lt =
       | inr more ↦
           (by_test n acc k false (ne_eqb (n / 16) 0 (λ z. omega arith))
           ∙ digits_written k (n / 16) (hexadecimal_digit (n % 16) ∷ acc) (omega arith) (omega arith)
-          ∙ sym (digits_behind n acc some))
+          ∙ sym (digits_trailing n acc some))
     ]
 
 unpacked : (n : ℕ) → digits 16 true n ≡ digits_onto 64 16 true n []
@@ -66,7 +66,7 @@ long_written l h = let none : 2 - length l - 0 - 0 ≡ 0 = omega arith in rw non
 two_or_more : (n : ℕ) → 16 ≤ n → 2 ≤ length (digits_of 16 n)
 two_or_more n more =
     let last = length-append (digits_of 16 (n / 16)) ((n % 16) ∷ []) in
-    let front = length-append (digits_of 16 (n / 16 / 16)) ((n / 16 % 16) ∷ []) in
+    let prefix = length-append (digits_of 16 (n / 16 / 16)) ((n / 16 % 16) ∷ []) in
     omega (arith, ap length (digits_of_step 16 n (omega arith) (omega arith)), ap length (digits_of_step 16 (n / 16) (omega arith) (omega arith)))
 
 short_written : (n : ℕ) → n < 16 → hexadecimal_digit (n / 16) ∷ hexadecimal_digit (n % 16) ∷ [] ≡ map hexadecimal_digit (at_least_two (digits_of 16 n))

@@ -2,9 +2,9 @@
 
 ghost use Rattle.std.specs.Prelude.{◌≡◌};
 ghost use Rattle.krb_der.specs.Asn1.{application};
-ghost use Rattle.krb_der.specs.Choice.{ChoiceFault};
-ghost use Rattle.krb_der.specs.FieldFaults.{HasFaultsOf, SameFault};
-ghost use Rattle.krb_der.specs.Equality.{TellsEqual};
+ghost use Rattle.krb_der.specs.Choice.{ChoiceError};
+ghost use Rattle.krb_der.specs.FieldErrors.{HasErrorsOf, SameError};
+ghost use Rattle.krb_der.specs.Equality.{DecidesEqual};
 ghost use Rattle.krb_der.specs.Tags.{HasTag, HasTags};
 
 use crate::messages::{ApMessage, KdcProxyMessage, KrbError, KrbErrorInner};
@@ -27,25 +27,25 @@ pub fn ap_messages()
 
 /// The first error of each struct is that of a SEQUENCE of its fields (X.690, 8.9): its tag, then its fields in order, then
 /// trailing octets. Its encodings begin with that tag alone.
-pub fn faults()
-    ensures krb_error { HasFaultsOf ⟦<KrbErrorInner as DerEncode>⟧.fault ⟦<<KrbErrorInner as Sequence>::Fields as Fields>⟧ }
+pub fn errors()
+    ensures krb_error { HasErrorsOf ⟦<KrbErrorInner as DerEncode>⟧.error ⟦<<KrbErrorInner as Sequence>::Fields as Fields>⟧ }
     ensures krb_error_tag { HasTag 48 ⟦<KrbErrorInner as DerEncode>⟧.first }
-    ensures kdc_proxy_message { HasFaultsOf ⟦<KdcProxyMessage as DerEncode>⟧.fault ⟦<<KdcProxyMessage as Sequence>::Fields as Fields>⟧ }
+    ensures kdc_proxy_message { HasErrorsOf ⟦<KdcProxyMessage as DerEncode>⟧.error ⟦<<KdcProxyMessage as Sequence>::Fields as Fields>⟧ }
     ensures kdc_proxy_message_tag { HasTag 48 ⟦<KdcProxyMessage as DerEncode>⟧.first }
 {}
 
 /// The first error of a choice of two messages (X.690, 8.13): the tag is neither's, or it is that of the message whose tag
 /// it is.
-pub fn ap_message_faults()
-    ensures fault { SameFault ⟦<ApMessage as DerEncode>⟧.fault (ChoiceFault 110 111 ⟦<ApReq as DerEncode>⟧.fault ⟦<ApRep as DerEncode>⟧.fault) }
+pub fn ap_message_errors()
+    ensures error { SameError ⟦<ApMessage as DerEncode>⟧.error (ChoiceError 110 111 ⟦<ApReq as DerEncode>⟧.error ⟦<ApRep as DerEncode>⟧.error) }
     ensures tags { HasTags 110 111 ⟦<ApMessage as DerEncode>⟧.first }
 {}
 
 /// `==` on each struct and on the choice: it returns true for equal values and for no others.
 pub fn equality()
-    ensures ap_message { TellsEqual ⟦<ApMessage as PartialEq>⟧.eq }
-    ensures krb_error { TellsEqual ⟦<KrbErrorInner as PartialEq>⟧.eq }
-    ensures kdc_proxy_message { TellsEqual ⟦<KdcProxyMessage as PartialEq>⟧.eq }
+    ensures ap_message { DecidesEqual ⟦<ApMessage as PartialEq>⟧.eq }
+    ensures krb_error { DecidesEqual ⟦<KrbErrorInner as PartialEq>⟧.eq }
+    ensures kdc_proxy_message { DecidesEqual ⟦<KdcProxyMessage as PartialEq>⟧.eq }
 {
     shared_equality();
     application_equality();

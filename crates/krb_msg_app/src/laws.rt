@@ -2,8 +2,8 @@
 
 ghost use Rattle.std.specs.Prelude.{◌≡◌};
 ghost use Rattle.krb_der.specs.Asn1.{application};
-ghost use Rattle.krb_der.specs.FieldFaults.{HasFaultsOf};
-ghost use Rattle.krb_der.specs.Equality.{TellsEqual};
+ghost use Rattle.krb_der.specs.FieldErrors.{HasErrorsOf};
+ghost use Rattle.krb_der.specs.Equality.{DecidesEqual};
 ghost use Rattle.krb_der.specs.Tags.{HasTag};
 
 use crate::messages::{
@@ -24,13 +24,13 @@ pub fn application_tags()
 
 /// The first error of each struct is that of a SEQUENCE of its fields (X.690, 8.9): its tag, then its fields in order, then
 /// trailing octets. Its encodings begin with that tag, and with no other octet (X.690, 8.1.2).
-pub fn faults()
-    ensures ap_req { HasFaultsOf ⟦<ApReqInner as DerEncode>⟧.fault ⟦<<ApReqInner as Sequence>::Fields as Fields>⟧ }
-    ensures ap_rep { HasFaultsOf ⟦<ApRepInner as DerEncode>⟧.fault ⟦<<ApRepInner as Sequence>::Fields as Fields>⟧ }
-    ensures krb_cred { HasFaultsOf ⟦<KrbCredInner as DerEncode>⟧.fault ⟦<<KrbCredInner as Sequence>::Fields as Fields>⟧ }
-    ensures krb_priv { HasFaultsOf ⟦<KrbPrivInner as DerEncode>⟧.fault ⟦<<KrbPrivInner as Sequence>::Fields as Fields>⟧ }
-    ensures tgt_req { HasFaultsOf ⟦<TgtReq as DerEncode>⟧.fault ⟦<<TgtReq as Sequence>::Fields as Fields>⟧ }
-    ensures tgt_rep { HasFaultsOf ⟦<TgtRep as DerEncode>⟧.fault ⟦<<TgtRep as Sequence>::Fields as Fields>⟧ }
+pub fn errors()
+    ensures ap_req { HasErrorsOf ⟦<ApReqInner as DerEncode>⟧.error ⟦<<ApReqInner as Sequence>::Fields as Fields>⟧ }
+    ensures ap_rep { HasErrorsOf ⟦<ApRepInner as DerEncode>⟧.error ⟦<<ApRepInner as Sequence>::Fields as Fields>⟧ }
+    ensures krb_cred { HasErrorsOf ⟦<KrbCredInner as DerEncode>⟧.error ⟦<<KrbCredInner as Sequence>::Fields as Fields>⟧ }
+    ensures krb_priv { HasErrorsOf ⟦<KrbPrivInner as DerEncode>⟧.error ⟦<<KrbPrivInner as Sequence>::Fields as Fields>⟧ }
+    ensures tgt_req { HasErrorsOf ⟦<TgtReq as DerEncode>⟧.error ⟦<<TgtReq as Sequence>::Fields as Fields>⟧ }
+    ensures tgt_rep { HasErrorsOf ⟦<TgtRep as DerEncode>⟧.error ⟦<<TgtRep as Sequence>::Fields as Fields>⟧ }
     ensures ap_req_tag { HasTag 48 ⟦<ApReqInner as DerEncode>⟧.first }
     ensures ap_rep_tag { HasTag 48 ⟦<ApRepInner as DerEncode>⟧.first }
     ensures krb_cred_tag { HasTag 48 ⟦<KrbCredInner as DerEncode>⟧.first }
@@ -41,12 +41,12 @@ pub fn faults()
 
 /// `==` on each struct: it returns true for equal values and for no others.
 pub fn equality()
-    ensures ap_req { TellsEqual ⟦<ApReqInner as PartialEq>⟧.eq }
-    ensures ap_rep { TellsEqual ⟦<ApRepInner as PartialEq>⟧.eq }
-    ensures krb_cred { TellsEqual ⟦<KrbCredInner as PartialEq>⟧.eq }
-    ensures krb_priv { TellsEqual ⟦<KrbPrivInner as PartialEq>⟧.eq }
-    ensures tgt_req { TellsEqual ⟦<TgtReq as PartialEq>⟧.eq }
-    ensures tgt_rep { TellsEqual ⟦<TgtRep as PartialEq>⟧.eq }
+    ensures ap_req { DecidesEqual ⟦<ApReqInner as PartialEq>⟧.eq }
+    ensures ap_rep { DecidesEqual ⟦<ApRepInner as PartialEq>⟧.eq }
+    ensures krb_cred { DecidesEqual ⟦<KrbCredInner as PartialEq>⟧.eq }
+    ensures krb_priv { DecidesEqual ⟦<KrbPrivInner as PartialEq>⟧.eq }
+    ensures tgt_req { DecidesEqual ⟦<TgtReq as PartialEq>⟧.eq }
+    ensures tgt_rep { DecidesEqual ⟦<TgtRep as PartialEq>⟧.eq }
 {
     shared_equality();
 }

@@ -8,16 +8,16 @@ use Rattle.krb_der_core.specs.declared.error.Asn1DerError.{Asn1DerError}
 use Rattle.krb_der_core.specs.declared.error.Asn1DerError.TheVariants as errors
 use Rattle.krb_der_core.specs.Tlv.{tlv}
 use Rattle.krb_der_core.specs.Encoding.{IsOctets, OneValue, optional}
-use Rattle.krb_der_core.specs.Faults.{FrontLaws, OrMemory}
+use Rattle.krb_der_core.specs.Errors.{PrefixLaws, OrMemory}
 use Rattle.krb_der_core.specs.TlvLaws.{tagged_one_value, tlv_apart, tlv_same}
-use Rattle.krb_der_core.specs.LeafLaws.{same_one_content}
+use Rattle.krb_der_core.specs.PrimitiveLaws.{same_one_content}
 use Rattle.krb_der_core.specs.BitString.{Bits, IsBits, bits_content}
 use Rattle.krb_der_core.specs.BitStringLaws.{bits_one_content}
 use Rattle.krb_der.specs.declared.optional.Optional.{Optional}
-use Rattle.krb_der.specs.FieldFaults.{IsAbsent}
+use Rattle.krb_der.specs.FieldErrors.{IsAbsent}
 use Rattle.krb_der.specs.FieldLaws.{same_optional}
 use Rattle.krb_msg_iakerb.specs.declared.messages.header.IAKerbHeader.{IAKerbHeader}
-use Rattle.krb_msg_iakerb.specs.Fields.{Begins, IsTold}
+use Rattle.krb_msg_iakerb.specs.Fields.{Begins, IsDetermined}
 use Rattle.krb_msg_iakerb.specs.Header.{ContentReads, cookie, flags, realm}
 
 -- ---- octets
@@ -45,28 +45,28 @@ other_absent tag (t ∷ y) other = unequal t tag (eqb t tag) refl other
 -- ---- a field that may be absent
 
 module _ {A : Type 0} (enc : A → List ℕ) (is_value : A → Type 0) (tag : ℕ) where
-  pub told_apart : OneValue is_value enc → (v w : Option A) (x y : List ℕ) → IfSome v is_value → IfSome w is_value → IsTold tag v (optional (λ a. tlv tag (enc a)) v ++ x) → IsTold tag w (optional (λ a. tlv tag (enc a)) w ++ y)
+  pub distinguished : OneValue is_value enc → (v w : Option A) (x y : List ℕ) → IfSome v is_value → IfSome w is_value → IsDetermined tag v (optional (λ a. tlv tag (enc a)) v ++ x) → IsDetermined tag w (optional (λ a. tlv tag (enc a)) w ++ y)
       → optional (λ a. tlv tag (enc a)) v ++ x ≡ optional (λ a. tlv tag (enc a)) w ++ y → (v ≡ w) × (x ≡ y)
-  told_apart one None None x y hv hw tv tw e = (refl, e)
-  told_apart one None (Some w) x y hv hw tv tw e = absurd (false≢true (tv.1 (subst (λ (l : List ℕ). Begins tag l) (sym e) (element_begins tag (enc w) y))))
-  told_apart one (Some v) None x y hv hw tv tw e = absurd (false≢true (tw.1 (subst (λ (l : List ℕ). Begins tag l) e (element_begins tag (enc v) x))))
-  told_apart one (Some v) (Some w) x y hv hw tv tw e =
+  distinguished one None None x y hv hw tv tw e = (refl, e)
+  distinguished one None (Some w) x y hv hw tv tw e = absurd (false≢true (tv.1 (subst (λ (l : List ℕ). Begins tag l) (sym e) (element_begins tag (enc w) y))))
+  distinguished one (Some v) None x y hv hw tv tw e = absurd (false≢true (tw.1 (subst (λ (l : List ℕ). Begins tag l) e (element_begins tag (enc v) x))))
+  distinguished one (Some v) (Some w) x y hv hw tv tw e =
       let s = tlv_apart tag tag (enc v) (enc w) x y e in
       (ap Some (one v w hv hw s.content), s.rest)
 
   -- a field is told where it ends, and ends where it is told
-  pub told_of_end : (o : Option A) (y : List ℕ) → (o ≡ None → IsAbsent (λ t. eqb t tag) y) → IsTold tag o (optional (λ x. tlv tag (enc x)) o ++ y)
-  told_of_end None y end = (λ k. absurd (false≢true k), λ b. absurd (absent_other tag y (end refl) b))
-  told_of_end (Some v) y end = (λ k. element_begins tag (enc v) y, λ b. refl)
+  pub determined_by_end : (o : Option A) (y : List ℕ) → (o ≡ None → IsAbsent (λ t. eqb t tag) y) → IsDetermined tag o (optional (λ x. tlv tag (enc x)) o ++ y)
+  determined_by_end None y end = (λ k. absurd (false≢true k), λ b. absurd (absent_other tag y (end refl) b))
+  determined_by_end (Some v) y end = (λ k. element_begins tag (enc v) y, λ b. refl)
 
-  pub end_of_told : (o : Option A) (y : List ℕ) → IsTold tag o (optional (λ x. tlv tag (enc x)) o ++ y) → o ≡ None → IsAbsent (λ t. eqb t tag) y
-  end_of_told None y told e = other_absent tag y (λ b. false≢true (told.1 b))
-  end_of_told (Some v) y told e = absurd (let k : Some v ≡ None = e in cc)
+  pub end_when_determined : (o : Option A) (y : List ℕ) → IsDetermined tag o (optional (λ x. tlv tag (enc x)) o ++ y) → o ≡ None → IsAbsent (λ t. eqb t tag) y
+  end_when_determined None y reported e = other_absent tag y (λ b. false≢true (reported.1 b))
+  end_when_determined (Some v) y reported e = absurd (let k : Some v ≡ None = e in cc)
 
   -- a field that was written is told, where what follows it begins with another tag or is nothing
-  pub told_written : (o : Option A) (y : List ℕ) → (Begins tag y → ⊥) → IsTold tag o (optional (λ x. tlv tag (enc x)) o ++ y)
-  told_written None y other = (λ k. absurd (false≢true k), λ b. absurd (other b))
-  told_written (Some v) y other = (λ k. element_begins tag (enc v) y, λ b. refl)
+  pub determined_when_written : (o : Option A) (y : List ℕ) → (Begins tag y → ⊥) → IsDetermined tag o (optional (λ x. tlv tag (enc x)) o ++ y)
+  determined_when_written None y other = (λ k. absurd (false≢true k), λ b. absurd (other b))
+  determined_when_written (Some v) y other = (λ k. element_begins tag (enc v) y, λ b. refl)
 
   pub other_written : (other : ℕ) (o : Option A) (y : List ℕ) → (tag ≡ other → ⊥) → (Begins other y → ⊥) → Begins other (optional (λ x. tlv tag (enc x)) o ++ y) → ⊥
   other_written other None y ne none b = none b
@@ -105,14 +105,14 @@ content_found h p content rest same e ends =
     record {
       rest = rest;
       fields = subst (λ (q : KnownFields). content ≡ known_octets q ++ rest) (sym same) e ∙ in_order h rest;
-      cookie_told = told_of_end (λ (x : List ℕ). tlv 4 x) IsOctets 162 h.cookie.0 (flags h ++ rest) own.0.1;
-      flags_told = told_of_end (λ (x : Bits). tlv 3 (bits_content x)) IsBits 163 h.flags.0 rest own.1;
+      cookie_determined = determined_by_end (λ (x : List ℕ). tlv 4 x) IsOctets 162 h.cookie.0 (flags h ++ rest) own.0.1;
+      flags_determined = determined_by_end (λ (x : Bits). tlv 3 (bits_content x)) IsBits 163 h.flags.0 rest own.1;
     }
 
 content_ends : (h : IAKerbHeader) (content : List ℕ) (r : ContentReads content h) → known_ends (known_fields h) r.rest
 content_ends h content r =
-    let cookie_ends = end_of_told (λ (x : List ℕ). tlv 4 x) IsOctets 162 h.cookie.0 (flags h ++ r.rest) r.cookie_told in
-    let flags_end = end_of_told (λ (x : Bits). tlv 3 (bits_content x)) IsBits 163 h.flags.0 r.rest r.flags_told in
+    let cookie_ends = end_when_determined (λ (x : List ℕ). tlv 4 x) IsOctets 162 h.cookie.0 (flags h ++ r.rest) r.cookie_determined in
+    let flags_end = end_when_determined (λ (x : Bits). tlv 3 (bits_content x)) IsBits 163 h.flags.0 r.rest r.flags_determined in
     ((tt, cookie_ends), flags_end)
 
 octets_one : OneValue IsOctets (λ (x : List ℕ). tlv 4 x)
@@ -124,19 +124,19 @@ bits_one = tagged_one_value 3 IsBits bits_content bits_one_content
 pub content_decides : (c d : List ℕ) (v w : IAKerbHeader) → IfSome v.cookie.0 IsOctets → IfSome w.cookie.0 IsOctets → IfSome v.flags.0 IsBits → IfSome w.flags.0 IsBits → ContentReads c v → ContentReads d w → c ≡ d → v ≡ w
 content_decides c d v w cv cw fv fw r s e =
     let first = tlv_apart 161 161 (tlv 12 v.target_realm) (tlv 12 w.target_realm) _ _ (sym r.fields ∙ e ∙ s.fields) in
-    let second = told_apart (λ (x : List ℕ). tlv 4 x) IsOctets 162 octets_one v.cookie.0 w.cookie.0 (flags v ++ r.rest) (flags w ++ s.rest) cv cw r.cookie_told s.cookie_told first.rest in
-    let third = told_apart (λ (x : Bits). tlv 3 (bits_content x)) IsBits 163 bits_one v.flags.0 w.flags.0 r.rest s.rest fv fw r.flags_told s.flags_told second.1 in
+    let second = distinguished (λ (x : List ℕ). tlv 4 x) IsOctets 162 octets_one v.cookie.0 w.cookie.0 (flags v ++ r.rest) (flags w ++ s.rest) cv cw r.cookie_determined s.cookie_determined first.rest in
+    let third = distinguished (λ (x : Bits). tlv 3 (bits_content x)) IsBits 163 bits_one v.flags.0 w.flags.0 r.rest s.rest fv fw r.flags_determined s.flags_determined second.1 in
     same_header v w (tlv_same 12 12 v.target_realm w.target_realm first.content) second.0 third.0
 
 -- where the known fields have an error, no header is read
-pub none_reads : (fault : List ℕ → Asn1DerError → Type 0) → FrontLaws known_values known_octets known_ends fault → (content : List ℕ) (e : Asn1DerError) → length content < 2 ^ 64 → fault content e
+pub none_reads : (error : List ℕ → Asn1DerError → Type 0) → PrefixLaws known_values known_octets known_ends error → (content : List ℕ) (e : Asn1DerError) → length content < 2 ^ 64 → error content e
     → (h : IAKerbHeader) → known_values (known_fields h) → ContentReads content h → ⊥
-none_reads fault laws content e lt k h hv r = laws.no_value content e lt k (known_fields h) r.rest hv (r.fields ∙ sym (in_order h r.rest)) (content_ends h content r)
+none_reads error laws content e lt k h hv r = laws.no_value content e lt k (known_fields h) r.rest hv (r.fields ∙ sym (in_order h r.rest)) (content_ends h content r)
 
-pub only_memory : (fault : List ℕ → Asn1DerError → Type 0) → FrontLaws known_values known_octets known_ends fault → (content : List ℕ) (e : Asn1DerError) → length content < 2 ^ 64 → OrMemory (fault content) e
+pub only_memory : (error : List ℕ → Asn1DerError → Type 0) → PrefixLaws known_values known_octets known_ends error → (content : List ℕ) (e : Asn1DerError) → length content < 2 ^ 64 → OrMemory (error content) e
     → (h : IAKerbHeader) → known_values (known_fields h) → ContentReads content h → e ≡ errors.OutOfMemory
-only_memory fault laws content e lt (inl m) h hv r = m
-only_memory fault laws content e lt (inr k) h hv r = absurd (none_reads fault laws content e lt k h hv r)
+only_memory error laws content e lt (inl m) h hv r = m
+only_memory error laws content e lt (inr k) h hv r = absurd (none_reads error laws content e lt k h hv r)
 
 pub content_written : (h : IAKerbHeader) → ContentReads (realm h ++ cookie h ++ flags h) h
 content_written h =
@@ -144,6 +144,6 @@ content_written h =
     record {
       rest = [];
       fields = whole;
-      cookie_told = told_written (λ (x : List ℕ). tlv 4 x) IsOctets 162 h.cookie.0 (flags h ++ []) (other_written (λ (x : Bits). tlv 3 (bits_content x)) IsBits 163 162 h.flags.0 [] (λ e. omega (arith, e)) (λ b. b));
-      flags_told = told_written (λ (x : Bits). tlv 3 (bits_content x)) IsBits 163 h.flags.0 [] (λ b. b);
+      cookie_determined = determined_when_written (λ (x : List ℕ). tlv 4 x) IsOctets 162 h.cookie.0 (flags h ++ []) (other_written (λ (x : Bits). tlv 3 (bits_content x)) IsBits 163 162 h.flags.0 [] (λ e. omega (arith, e)) (λ b. b));
+      flags_determined = determined_when_written (λ (x : Bits). tlv 3 (bits_content x)) IsBits 163 h.flags.0 [] (λ b. b);
     }

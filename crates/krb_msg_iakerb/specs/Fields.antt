@@ -7,5 +7,5 @@ Begins tag [] = ⊥
 Begins tag (b ∷ bs) = b ≡ tag
 
 -- The field is there exactly where the octets, which are its own and those after it, begin with its tag.
-abbrev pub IsTold : {A : Type 0} → ℕ → Option A → List ℕ → Type 0
-IsTold tag v octets = IsSome v ↔ Begins tag octets
+abbrev pub IsDetermined : {A : Type 0} → ℕ → Option A → List ℕ → Type 0
+IsDetermined tag v octets = IsSome v ↔ Begins tag octets

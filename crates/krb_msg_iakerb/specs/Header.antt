@@ -3,7 +3,7 @@ use Rattle.std.specs.Prelude.{◌≡◌, ℕ, List, ◌++◌}
 use Rattle.krb_der.specs.Asn1.{bit_string, explicit, octet_string, sequence, utf8_string}
 use Rattle.krb_der.specs.Encoding.{optional}
 use Rattle.krb_msg_iakerb.specs.declared.messages.header.IAKerbHeader.{IAKerbHeader}
-use Rattle.krb_msg_iakerb.specs.Fields.{IsTold}
+use Rattle.krb_msg_iakerb.specs.Fields.{IsDetermined}
 
 -- target-realm [1] UTF8String
 abbrev pub realm : IAKerbHeader → List ℕ
@@ -23,8 +23,8 @@ flags h = optional (λ x. explicit 3 (bit_string x)) h.flags.0
 pub record ContentReads (content : List ℕ) (h : IAKerbHeader) : Type 0 where
   pub rest : List ℕ
   pub fields : content ≡ realm h ++ (cookie h ++ (flags h ++ rest))
-  pub cookie_told : IsTold 162 h.cookie.0 (cookie h ++ (flags h ++ rest))
-  pub flags_told : IsTold 163 h.flags.0 (flags h ++ rest)
+  pub cookie_determined : IsDetermined 162 h.cookie.0 (cookie h ++ (flags h ++ rest))
+  pub flags_determined : IsDetermined 163 h.flags.0 (flags h ++ rest)
 
 -- Octets are read as this header: they are a sequence whose content is.
 abbrev pub HeaderReads : List ℕ → IAKerbHeader → Type 0

@@ -1,3 +1,3 @@
 pub mod Fields
 pub mod Header
-pub mod HeaderFaults
+pub mod HeaderErrors

@@ -2,14 +2,14 @@
 
 ghost use Rattle.std.specs.Prelude.{◌≡◌, ◌<◌, ◌^◌, List, length, ℕ};
 ghost use Rattle.krb_der_core.specs.declared.error.Asn1DerError.{Asn1DerError};
-ghost use Rattle.krb_der.specs.FieldFaults.{SameFault};
-ghost use Rattle.krb_der.specs.Equality.{TellsEqual};
+ghost use Rattle.krb_der.specs.FieldErrors.{SameError};
+ghost use Rattle.krb_der.specs.Equality.{DecidesEqual};
 ghost use Rattle.krb_der.specs.Tags.{HasTag};
 ghost use Rattle.krb_msg_iakerb.specs.Header.{HeaderReads};
-ghost use Rattle.krb_msg_iakerb.specs.HeaderFaults.{IAKerbHeaderFault, extensible_fault};
+ghost use Rattle.krb_msg_iakerb.specs.HeaderErrors.{IAKerbHeaderError, extensible_error};
 
 use crate::messages::IAKerbHeader;
-use crate::reading::known_faults;
+use crate::reading::known_errors;
 use krb_der::DerEncode;
 use krb_der::composite::{Fields, Sequence};
 
@@ -24,18 +24,18 @@ pub fn header_readings()
 
 /// The first error of a header (draft-ietf-kitten-iakerb-03, 3): its tag, then its known fields in order. What follows them
 /// in the SEQUENCE is none, so that what is read as a header has no error.
-pub fn faults()
-    ensures iakerb_header { SameFault ⟦<IAKerbHeader as DerEncode>⟧.fault (extensible_fault ⟦<<IAKerbHeader as Sequence>::Fields as Fields>⟧) }
+pub fn errors()
+    ensures iakerb_header { SameError ⟦<IAKerbHeader as DerEncode>⟧.error (extensible_error ⟦<<IAKerbHeader as Sequence>::Fields as Fields>⟧) }
     ensures iakerb_header_tag { HasTag 48 ⟦<IAKerbHeader as DerEncode>⟧.first }
-    ensures one_fault { (octets : List ℕ) (e d : Asn1DerError) → length octets < 2 ^ 64
-        → IAKerbHeaderFault ⟦<IAKerbHeader as DerEncode>⟧ octets e → IAKerbHeaderFault ⟦<IAKerbHeader as DerEncode>⟧ octets d → e ≡ d }
+    ensures one_error { (octets : List ℕ) (e d : Asn1DerError) → length octets < 2 ^ 64
+        → IAKerbHeaderError ⟦<IAKerbHeader as DerEncode>⟧ octets e → IAKerbHeaderError ⟦<IAKerbHeader as DerEncode>⟧ octets d → e ≡ d }
     ensures none_where_read { (octets : List ℕ) (e : Asn1DerError) (h : IAKerbHeader) → length octets < 2 ^ 64
-        → IAKerbHeaderFault ⟦<IAKerbHeader as DerEncode>⟧ octets e → ⟦<IAKerbHeader as DerEncode>⟧.is_value h → HeaderReads octets h → ⊥ }
+        → IAKerbHeaderError ⟦<IAKerbHeader as DerEncode>⟧ octets e → ⟦<IAKerbHeader as DerEncode>⟧.is_value h → HeaderReads octets h → ⊥ }
 {
-    known_faults::<<IAKerbHeader as Sequence>::Fields>();
+    known_errors::<<IAKerbHeader as Sequence>::Fields>();
 }
 
 /// `==` on headers: it returns true for equal values and for no others.
 pub fn equality()
-    ensures iakerb_header { TellsEqual ⟦<IAKerbHeader as PartialEq>⟧.eq }
+    ensures iakerb_header { DecidesEqual ⟦<IAKerbHeader as PartialEq>⟧.eq }
 {}

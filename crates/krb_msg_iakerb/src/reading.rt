@@ -2,7 +2,7 @@
 
 ghost use Rattle.std.specs.Prelude.{◌≡◌, IfOk, IfErr};
 ghost use Rattle.krb_der.specs.Whole.{Answers, NoDevice};
-ghost use Rattle.krb_der_core.specs.Faults.{FrontLaws, OrMemory};
+ghost use Rattle.krb_der_core.specs.Errors.{PrefixLaws, OrMemory};
 ghost use Rattle.krb_msg_iakerb.specs.Header.{ContentReads};
 
 use crate::messages::IAKerbHeader;
@@ -11,8 +11,8 @@ use krb_der::{Asn1DerError, DerEncode};
 use std::alloc::Global;
 
 /// Lemma: octets with an error do not begin with the fields.
-pub(crate) fn known_faults<F: Fields>()
-    ensures { FrontLaws F.are_values F.octets F.ends F.fault }
+pub(crate) fn known_errors<F: Fields>()
+    ensures { PrefixLaws F.are_values F.octets F.ends F.error }
 {}
 
 /// The header that the content of a SEQUENCE is read as (draft-ietf-kitten-iakerb-03, 3): the realm, then the cookie if the
@@ -24,9 +24,9 @@ pub fn read_content(alloc: Global, content: &[u8]) -> Result<IAKerbHeader, Asn1D
     ensures found { IfOk result (ContentReads content.now) }
     ensures reads { (h : IAKerbHeader) → ⟦<IAKerbHeader as DerEncode>⟧.is_value h → ContentReads content.now h → Answers result h }
     ensures no_device { IfErr result NoDevice }
-    ensures first_fault { IfErr result (OrMemory (⟦<IAKerbHeader as DerEncode>⟧.fault 48 content.now)) }
+    ensures first_error { IfErr result (OrMemory (⟦<IAKerbHeader as DerEncode>⟧.error 48 content.now)) }
 {
-    known_faults::<<IAKerbHeader as Sequence>::Fields>();
+    known_errors::<<IAKerbHeader as Sequence>::Fields>();
     let (fields, _) = <IAKerbHeader as Sequence>::Fields::read_fields(alloc, content)?;
     Ok(IAKerbHeader::from_fields(fields))
 }

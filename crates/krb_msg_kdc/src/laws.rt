@@ -2,8 +2,8 @@
 
 ghost use Rattle.std.specs.Prelude.{◌≡◌};
 ghost use Rattle.krb_der.specs.Asn1.{application};
-ghost use Rattle.krb_der.specs.FieldFaults.{HasFaultsOf};
-ghost use Rattle.krb_der.specs.Equality.{TellsEqual};
+ghost use Rattle.krb_der.specs.FieldErrors.{HasErrorsOf};
+ghost use Rattle.krb_der.specs.Equality.{DecidesEqual};
 ghost use Rattle.krb_der.specs.Tags.{HasTag};
 
 use crate::messages::{
@@ -27,11 +27,11 @@ pub fn application_tags()
 
 /// The first error of each struct is that of a SEQUENCE of its fields (X.690, 8.9): its tag, then its fields in order, then
 /// trailing octets. Its encodings begin with that tag, and with no other octet (X.690, 8.1.2).
-pub fn faults()
-    ensures kdc_req_body { HasFaultsOf ⟦<KdcReqBody as DerEncode>⟧.fault ⟦<<KdcReqBody as Sequence>::Fields as Fields>⟧ }
-    ensures kdc_req { HasFaultsOf ⟦<KdcReq as DerEncode>⟧.fault ⟦<<KdcReq as Sequence>::Fields as Fields>⟧ }
-    ensures kdc_rep { HasFaultsOf ⟦<KdcRep as DerEncode>⟧.fault ⟦<<KdcRep as Sequence>::Fields as Fields>⟧ }
-    ensures enc_kdc_rep_part { HasFaultsOf ⟦<EncKdcRepPart as DerEncode>⟧.fault ⟦<<EncKdcRepPart as Sequence>::Fields as Fields>⟧ }
+pub fn errors()
+    ensures kdc_req_body { HasErrorsOf ⟦<KdcReqBody as DerEncode>⟧.error ⟦<<KdcReqBody as Sequence>::Fields as Fields>⟧ }
+    ensures kdc_req { HasErrorsOf ⟦<KdcReq as DerEncode>⟧.error ⟦<<KdcReq as Sequence>::Fields as Fields>⟧ }
+    ensures kdc_rep { HasErrorsOf ⟦<KdcRep as DerEncode>⟧.error ⟦<<KdcRep as Sequence>::Fields as Fields>⟧ }
+    ensures enc_kdc_rep_part { HasErrorsOf ⟦<EncKdcRepPart as DerEncode>⟧.error ⟦<<EncKdcRepPart as Sequence>::Fields as Fields>⟧ }
     ensures kdc_req_body_tag { HasTag 48 ⟦<KdcReqBody as DerEncode>⟧.first }
     ensures kdc_req_tag { HasTag 48 ⟦<KdcReq as DerEncode>⟧.first }
     ensures kdc_rep_tag { HasTag 48 ⟦<KdcRep as DerEncode>⟧.first }
@@ -40,10 +40,10 @@ pub fn faults()
 
 /// `==` on each struct: it returns true for equal values and for no others.
 pub fn equality()
-    ensures kdc_req_body { TellsEqual ⟦<KdcReqBody as PartialEq>⟧.eq }
-    ensures kdc_req { TellsEqual ⟦<KdcReq as PartialEq>⟧.eq }
-    ensures kdc_rep { TellsEqual ⟦<KdcRep as PartialEq>⟧.eq }
-    ensures enc_kdc_rep_part { TellsEqual ⟦<EncKdcRepPart as PartialEq>⟧.eq }
+    ensures kdc_req_body { DecidesEqual ⟦<KdcReqBody as PartialEq>⟧.eq }
+    ensures kdc_req { DecidesEqual ⟦<KdcReq as PartialEq>⟧.eq }
+    ensures kdc_rep { DecidesEqual ⟦<KdcRep as PartialEq>⟧.eq }
+    ensures enc_kdc_rep_part { DecidesEqual ⟦<EncKdcRepPart as PartialEq>⟧.eq }
 {
     shared_equality();
     padata_equality();

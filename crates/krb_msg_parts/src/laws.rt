@@ -2,8 +2,8 @@
 
 ghost use Rattle.std.specs.Prelude.{◌≡◌};
 ghost use Rattle.krb_der.specs.Asn1.{application};
-ghost use Rattle.krb_der.specs.FieldFaults.{HasFaultsOf};
-ghost use Rattle.krb_der.specs.Equality.{TellsEqual};
+ghost use Rattle.krb_der.specs.FieldErrors.{HasErrorsOf};
+ghost use Rattle.krb_der.specs.Equality.{DecidesEqual};
 ghost use Rattle.krb_der.specs.Tags.{HasTag};
 
 use crate::data_types::{
@@ -16,7 +16,7 @@ use krb_der::composite::{Fields, Sequence};
 use krb_msg_types::laws::equality as shared_equality;
 
 /// The encrypted parts, each under its application tag (RFC 4120, 5.3, 5.5.1, 5.5.2, 5.7.1 and 5.8.1).
-pub fn enciphered_parts()
+pub fn encrypted_parts()
     ensures authenticator { (v : _) → ⟦<Authenticator as DerEncode>⟧.enc v ≡ application 2 (⟦<AuthenticatorInner as DerEncode>⟧.enc v) }
     ensures enc_ap_rep_part { (v : _) → ⟦<EncApRepPart as DerEncode>⟧.enc v ≡ application 27 (⟦<EncApRepPartInner as DerEncode>⟧.enc v) }
     ensures enc_krb_priv_part { (v : _) → ⟦<EncKrbPrivPart as DerEncode>⟧.enc v ≡ application 28 (⟦<EncKrbPrivPartInner as DerEncode>⟧.enc v) }
@@ -26,13 +26,13 @@ pub fn enciphered_parts()
 
 /// The first error of each struct is that of a SEQUENCE of its fields (X.690, 8.9): its tag, then its fields in order, then
 /// trailing octets. Its encodings begin with that tag, and with no other octet (X.690, 8.1.2).
-pub fn faults()
-    ensures authenticator { HasFaultsOf ⟦<AuthenticatorInner as DerEncode>⟧.fault ⟦<<AuthenticatorInner as Sequence>::Fields as Fields>⟧ }
-    ensures enc_ap_rep_part { HasFaultsOf ⟦<EncApRepPartInner as DerEncode>⟧.fault ⟦<<EncApRepPartInner as Sequence>::Fields as Fields>⟧ }
-    ensures krb_cred_info { HasFaultsOf ⟦<KrbCredInfo as DerEncode>⟧.fault ⟦<<KrbCredInfo as Sequence>::Fields as Fields>⟧ }
-    ensures enc_krb_cred_part { HasFaultsOf ⟦<EncKrbCredPartInner as DerEncode>⟧.fault ⟦<<EncKrbCredPartInner as Sequence>::Fields as Fields>⟧ }
-    ensures enc_krb_priv_part { HasFaultsOf ⟦<EncKrbPrivPartInner as DerEncode>⟧.fault ⟦<<EncKrbPrivPartInner as Sequence>::Fields as Fields>⟧ }
-    ensures enc_ticket_part { HasFaultsOf ⟦<EncTicketPartInner as DerEncode>⟧.fault ⟦<<EncTicketPartInner as Sequence>::Fields as Fields>⟧ }
+pub fn errors()
+    ensures authenticator { HasErrorsOf ⟦<AuthenticatorInner as DerEncode>⟧.error ⟦<<AuthenticatorInner as Sequence>::Fields as Fields>⟧ }
+    ensures enc_ap_rep_part { HasErrorsOf ⟦<EncApRepPartInner as DerEncode>⟧.error ⟦<<EncApRepPartInner as Sequence>::Fields as Fields>⟧ }
+    ensures krb_cred_info { HasErrorsOf ⟦<KrbCredInfo as DerEncode>⟧.error ⟦<<KrbCredInfo as Sequence>::Fields as Fields>⟧ }
+    ensures enc_krb_cred_part { HasErrorsOf ⟦<EncKrbCredPartInner as DerEncode>⟧.error ⟦<<EncKrbCredPartInner as Sequence>::Fields as Fields>⟧ }
+    ensures enc_krb_priv_part { HasErrorsOf ⟦<EncKrbPrivPartInner as DerEncode>⟧.error ⟦<<EncKrbPrivPartInner as Sequence>::Fields as Fields>⟧ }
+    ensures enc_ticket_part { HasErrorsOf ⟦<EncTicketPartInner as DerEncode>⟧.error ⟦<<EncTicketPartInner as Sequence>::Fields as Fields>⟧ }
     ensures authenticator_tag { HasTag 48 ⟦<AuthenticatorInner as DerEncode>⟧.first }
     ensures enc_ap_rep_part_tag { HasTag 48 ⟦<EncApRepPartInner as DerEncode>⟧.first }
     ensures krb_cred_info_tag { HasTag 48 ⟦<KrbCredInfo as DerEncode>⟧.first }
@@ -43,12 +43,12 @@ pub fn faults()
 
 /// `==` on each struct: it returns true for equal values and for no others.
 pub fn equality()
-    ensures authenticator { TellsEqual ⟦<AuthenticatorInner as PartialEq>⟧.eq }
-    ensures enc_ap_rep_part { TellsEqual ⟦<EncApRepPartInner as PartialEq>⟧.eq }
-    ensures krb_cred_info { TellsEqual ⟦<KrbCredInfo as PartialEq>⟧.eq }
-    ensures enc_krb_cred_part { TellsEqual ⟦<EncKrbCredPartInner as PartialEq>⟧.eq }
-    ensures enc_krb_priv_part { TellsEqual ⟦<EncKrbPrivPartInner as PartialEq>⟧.eq }
-    ensures enc_ticket_part { TellsEqual ⟦<EncTicketPartInner as PartialEq>⟧.eq }
+    ensures authenticator { DecidesEqual ⟦<AuthenticatorInner as PartialEq>⟧.eq }
+    ensures enc_ap_rep_part { DecidesEqual ⟦<EncApRepPartInner as PartialEq>⟧.eq }
+    ensures krb_cred_info { DecidesEqual ⟦<KrbCredInfo as PartialEq>⟧.eq }
+    ensures enc_krb_cred_part { DecidesEqual ⟦<EncKrbCredPartInner as PartialEq>⟧.eq }
+    ensures enc_krb_priv_part { DecidesEqual ⟦<EncKrbPrivPartInner as PartialEq>⟧.eq }
+    ensures enc_ticket_part { DecidesEqual ⟦<EncTicketPartInner as PartialEq>⟧.eq }
 {
     shared_equality();
 }

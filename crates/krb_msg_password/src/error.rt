@@ -2,7 +2,7 @@
 
 ghost use Rattle.std.specs.Prelude.{◌≡◌};
 ghost use Rattle.std.specs.IoError.{error_kind};
-ghost use Rattle.krb_msg_password.specs.Refused.{frame_kind, told_in, unwritten_kind};
+ghost use Rattle.krb_msg_password.specs.Rejected.{frame_kind, reported_in, unwritten_kind};
 ghost use Rattle.krb_msg_password.specs.declared.error.WriteFrameError.TheVariants as unwritten;
 ghost use Rattle.krb_der.specs.Whole.{NoDevice};
 
@@ -14,7 +14,7 @@ use thiserror::Error;
 
 /// Why octets are no encoding of a message: the first fault, from the left, as `Asn1DerError` tells it.
 #[derive(Debug, Clone, Copy, PartialEq, Eq, Error)]
-pub enum MessageFault {
+pub enum MessageError {
     /// A wrong tag, a needless length or integer octet, a bad leaf, or octets left over.
     #[error("the octets are no encoding of the message")]
     InvalidData,
@@ -37,10 +37,10 @@ pub enum ReadFrameError {
     Version,
     /// What stands behind the six octets is no AP message.
     #[error("the AP message: {0}")]
-    ApMessage(MessageFault),
+    ApMessage(MessageError),
     /// What stands behind the AP message is no KRB-PRIV.
     #[error("the KRB-PRIV: {0}")]
-    KrbPriv(MessageFault),
+    KrbPriv(MessageError),
     /// A growth of memory was refused.
     #[error("out of memory")]
     OutOfMemory,
@@ -102,12 +102,12 @@ impl From<WriteFrameError> for io::Error {
 /// The refusal of an AP message, of octets that no device gave.
 pub(crate) fn ap_message_error(error: Asn1DerError) -> ReadFrameError
     requires { NoDevice error }
-    ensures { result ≡ told_in ReadFrameError.ApMessage error }
+    ensures { result ≡ reported_in ReadFrameError.ApMessage error }
 {
     match error {
-        Asn1DerError::InvalidData => ReadFrameError::ApMessage(MessageFault::InvalidData),
-        Asn1DerError::TruncatedData => ReadFrameError::ApMessage(MessageFault::TruncatedData),
-        Asn1DerError::UnsupportedValue => ReadFrameError::ApMessage(MessageFault::UnsupportedValue),
+        Asn1DerError::InvalidData => ReadFrameError::ApMessage(MessageError::InvalidData),
+        Asn1DerError::TruncatedData => ReadFrameError::ApMessage(MessageError::TruncatedData),
+        Asn1DerError::UnsupportedValue => ReadFrameError::ApMessage(MessageError::UnsupportedValue),
         Asn1DerError::OutOfMemory => ReadFrameError::OutOfMemory,
         Asn1DerError::Io(_) => unreachable!(),
     }
@@ -116,12 +116,12 @@ pub(crate) fn ap_message_error(error: Asn1DerError) -> ReadFrameError
 /// The refusal of a KRB-PRIV, of octets that no device gave.
 pub(crate) fn krb_priv_error(error: Asn1DerError) -> ReadFrameError
     requires { NoDevice error }
-    ensures { result ≡ told_in ReadFrameError.KrbPriv error }
+    ensures { result ≡ reported_in ReadFrameError.KrbPriv error }
 {
     match error {
-        Asn1DerError::InvalidData => ReadFrameError::KrbPriv(MessageFault::InvalidData),
-        Asn1DerError::TruncatedData => ReadFrameError::KrbPriv(MessageFault::TruncatedData),
-        Asn1DerError::UnsupportedValue => ReadFrameError::KrbPriv(MessageFault::UnsupportedValue),
+        Asn1DerError::InvalidData => ReadFrameError::KrbPriv(MessageError::InvalidData),
+        Asn1DerError::TruncatedData => ReadFrameError::KrbPriv(MessageError::TruncatedData),
+        Asn1DerError::UnsupportedValue => ReadFrameError::KrbPriv(MessageError::UnsupportedValue),
         Asn1DerError::OutOfMemory => ReadFrameError::OutOfMemory,
         Asn1DerError::Io(_) => unreachable!(),
     }

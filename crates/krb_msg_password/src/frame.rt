@@ -4,13 +4,13 @@ ghost use Rattle.std.specs.Prelude.{◌≡◌, ◌++◌, ◌<◌, ◌≤◌, ◌
 ghost use Rattle.std.specs.Io.KnownBytes.{Appends, Consumes};
 ghost use Rattle.std.specs.IoError.{error_kind};
 ghost use Rattle.krb_der.specs.Whole.{Answers};
-ghost use Rattle.krb_der_core.specs.Reading.{TakesFront};
+ghost use Rattle.krb_der_core.specs.Reading.{TakesPrefix};
 ghost use Rattle.krb_msg_password.specs.Frame.{HoldsValues, IsFrameOf, frame_of};
-ghost use Rattle.krb_msg_password.specs.Refused.{FrameRefused, IsAnswered, IsUnwritten, ReaderRefused, WriterRefused};
-ghost use Rattle.krb_msg_password.specs.declared.refusal.Refusal.{Refusal};
+ghost use Rattle.krb_msg_password.specs.Rejected.{FrameRejected, IsAnswered, IsUnwritten, ReaderRejected, WriterRejected};
+ghost use Rattle.krb_msg_password.specs.declared.rejection.Rejection.{Rejection};
 
 use crate::error::{ReadFrameError, WriteFrameError};
-use crate::front::front_messages;
+use crate::prefix::prefix_messages;
 use crate::reading::take_messages;
 use crate::transfer::give_all;
 use crate::writing::frame_octets;
@@ -56,8 +56,8 @@ impl KrbPrivMessage {
         ensures reads { (m : KrbPrivMessage) (octets rest : List ℕ) → HoldsValues ⟦<ApMessage as DerEncode>⟧ ⟦<KrbPriv as DerEncode>⟧ m
             → length octets < 2 ^ 64 → IsFrameOf ⟦<ApMessage as DerEncode>⟧ ⟦<KrbPriv as DerEncode>⟧ m octets
             → R.remaining reader.old ≡ Some (octets ++ rest) → IfOk result (λ n. (n ≡ m) × (R.remaining reader.new ≡ Some rest)) }
-        ensures refused { IfErr result (λ e. (why : Refusal) × IsAnswered why e
-            × ReaderRefused ⟦<ApMessage as DerEncode>⟧ ⟦<KrbPriv as DerEncode>⟧ (R.remaining reader.old) (R.remaining reader.new) why) }
+        ensures rejected { IfErr result (λ e. (why : Rejection) × IsAnswered why e
+            × ReaderRejected ⟦<ApMessage as DerEncode>⟧ ⟦<KrbPriv as DerEncode>⟧ (R.remaining reader.old) (R.remaining reader.new) why) }
     {
         let (ap_message, krb_priv) = take_messages(alloc, reader)?;
         Ok(KrbPrivMessage {
@@ -78,8 +78,8 @@ impl KrbPrivMessage {
         ensures valid { OnOk result (HoldsValues ⟦<ApMessage as DerEncode>⟧ ⟦<KrbPriv as DerEncode>⟧ self.now) }
         ensures too_long { 2 ^ 16 ≤ length (frame_of ⟦<ApMessage as DerEncode>⟧ ⟦<KrbPriv as DerEncode>⟧ self.now) → MatchResult result (λ _. ⊥)
             (λ e. ((error_kind e ≡ ErrorKind.InvalidInput) ⊎ (error_kind e ≡ ErrorKind.OutOfMemory)) × (writer.new ≡ writer.old)) }
-        ensures refused { IfErr result
-            (WriterRefused W.contents writer.old writer.new (frame_of ⟦<ApMessage as DerEncode>⟧ ⟦<KrbPriv as DerEncode>⟧ self.now)) }
+        ensures rejected { IfErr result
+            (WriterRejected W.contents writer.old writer.new (frame_of ⟦<ApMessage as DerEncode>⟧ ⟦<KrbPriv as DerEncode>⟧ self.now)) }
     {
         let octets = frame_octets(alloc, &self.ap_message, &self.krb_priv)?;
         give_all(writer, &octets)
@@ -103,13 +103,13 @@ impl KrbPrivMessage {
 /// message, then that of the KRB-PRIV. `OutOfMemory` may come in place of any answer behind these six octets.
 pub fn read_frame(alloc: Global, octets: &[u8]) -> Result<(KrbPrivMessage, usize), ReadFrameError>
     ensures valid { IfOk result (λ p. HoldsValues ⟦<ApMessage as DerEncode>⟧ ⟦<KrbPriv as DerEncode>⟧ p.0) }
-    ensures found { IfOk result (λ p. (x : List ℕ) × IsFrameOf ⟦<ApMessage as DerEncode>⟧ ⟦<KrbPriv as DerEncode>⟧ p.0 x × TakesFront x p.1 octets.now) }
+    ensures found { IfOk result (λ p. (x : List ℕ) × IsFrameOf ⟦<ApMessage as DerEncode>⟧ ⟦<KrbPriv as DerEncode>⟧ p.0 x × TakesPrefix x p.1 octets.now) }
     ensures reads { (m : KrbPrivMessage) (x rest : List ℕ) → HoldsValues ⟦<ApMessage as DerEncode>⟧ ⟦<KrbPriv as DerEncode>⟧ m
         → IsFrameOf ⟦<ApMessage as DerEncode>⟧ ⟦<KrbPriv as DerEncode>⟧ m x → octets.now ≡ x ++ rest
         → MatchResult result (λ p. p ≡ (m, length x)) (λ e. e ≡ ReadFrameError.OutOfMemory) }
-    ensures first_fault { IfErr result (FrameRefused ⟦<ApMessage as DerEncode>⟧ ⟦<KrbPriv as DerEncode>⟧ octets.now) }
+    ensures first_error { IfErr result (FrameRejected ⟦<ApMessage as DerEncode>⟧ ⟦<KrbPriv as DerEncode>⟧ octets.now) }
 {
-    let ((ap_message, krb_priv), taken) = front_messages(alloc, octets)?;
+    let ((ap_message, krb_priv), taken) = prefix_messages(alloc, octets)?;
     let message = KrbPrivMessage {
         ap_message,
         krb_priv,

@@ -1,9 +1,9 @@
 //! Laws over the definitions, of functions that do nothing.
 
 ghost use Rattle.std.specs.Prelude.{◌≡◌, ◌++◌, ◌<◌, ◌^◌, List, ℕ, length};
-ghost use Rattle.krb_der.specs.Equality.{TellsEqual};
+ghost use Rattle.krb_der.specs.Equality.{DecidesEqual};
 ghost use Rattle.krb_msg_password.specs.Frame.{HoldsValues, IsFrameOf, IsFramed, frame};
-ghost use Rattle.krb_msg_password.specs.Refused.{FrameFault};
+ghost use Rattle.krb_msg_password.specs.Rejected.{FrameError};
 ghost use Rattle.krb_msg_password.specs.declared.error.ReadFrameError.{ReadFrameError};
 
 use crate::frame::KrbPrivMessage;
@@ -20,28 +20,28 @@ pub fn written_frames()
 
 /// Octets have one first fault as a frame at most, and none where they begin with a frame. Octets have fewer than 2^64 octets, as
 /// those of any slice.
-pub fn first_fault()
+pub fn first_error()
     ensures one { (octets : List ℕ) (e d : ReadFrameError) → length octets < 2 ^ 64
-        → FrameFault ⟦<ApMessage as DerEncode>⟧ ⟦<KrbPriv as DerEncode>⟧ octets e
-        → FrameFault ⟦<ApMessage as DerEncode>⟧ ⟦<KrbPriv as DerEncode>⟧ octets d → e ≡ d }
+        → FrameError ⟦<ApMessage as DerEncode>⟧ ⟦<KrbPriv as DerEncode>⟧ octets e
+        → FrameError ⟦<ApMessage as DerEncode>⟧ ⟦<KrbPriv as DerEncode>⟧ octets d → e ≡ d }
     ensures frame { (m : KrbPrivMessage) (x rest : List ℕ) (e : ReadFrameError) → length x < 2 ^ 64
         → HoldsValues ⟦<ApMessage as DerEncode>⟧ ⟦<KrbPriv as DerEncode>⟧ m → IsFrameOf ⟦<ApMessage as DerEncode>⟧ ⟦<KrbPriv as DerEncode>⟧ m x
-        → FrameFault ⟦<ApMessage as DerEncode>⟧ ⟦<KrbPriv as DerEncode>⟧ (x ++ rest) e → ⊥ }
+        → FrameError ⟦<ApMessage as DerEncode>⟧ ⟦<KrbPriv as DerEncode>⟧ (x ++ rest) e → ⊥ }
 {
-    faults_of_frames::<ApMessage, KrbPriv>();
+    errors_of_frames::<ApMessage, KrbPriv>();
 }
 
 /// The same of frames of any two types.
-fn faults_of_frames<A: DerEncode, B: DerEncode>()
+fn errors_of_frames<A: DerEncode, B: DerEncode>()
     ensures one { (octets : List ℕ) (e d : ReadFrameError) → length octets < 2 ^ 64
-        → FrameFault ⟦<A as DerEncode>⟧ ⟦<B as DerEncode>⟧ octets e → FrameFault ⟦<A as DerEncode>⟧ ⟦<B as DerEncode>⟧ octets d → e ≡ d }
+        → FrameError ⟦<A as DerEncode>⟧ ⟦<B as DerEncode>⟧ octets e → FrameError ⟦<A as DerEncode>⟧ ⟦<B as DerEncode>⟧ octets d → e ≡ d }
     ensures frame { (a : A) (b : B) (x rest : List ℕ) (e : ReadFrameError) → A.is_value a → B.is_value b → length x < 2 ^ 64
-        → IsFramed x (A.enc a) (B.enc b) → FrameFault ⟦<A as DerEncode>⟧ ⟦<B as DerEncode>⟧ (x ++ rest) e → ⊥ }
+        → IsFramed x (A.enc a) (B.enc b) → FrameError ⟦<A as DerEncode>⟧ ⟦<B as DerEncode>⟧ (x ++ rest) e → ⊥ }
 {}
 
 /// `==` on frames: it answers true for equal values and for no others.
 pub fn equality()
-    ensures { TellsEqual ⟦<KrbPrivMessage as PartialEq>⟧.eq }
+    ensures { DecidesEqual ⟦<KrbPrivMessage as PartialEq>⟧.eq }
 {
     application_equality();
     message_equality();

@@ -3,12 +3,12 @@
 
 mod error;
 mod frame;
-mod front;
 pub mod laws;
+mod prefix;
 mod reading;
-mod refusal;
+mod rejection;
 mod transfer;
 mod writing;
 
-pub use error::{MessageFault, ReadFrameError, WriteFrameError};
+pub use error::{MessageError, ReadFrameError, WriteFrameError};
 pub use frame::{KrbPrivMessage, read_frame, write_frame};

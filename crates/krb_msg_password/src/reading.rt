@@ -3,10 +3,10 @@
 ghost use Rattle.std.specs.Prelude.{◌≡◌, ◌++◌, ◌∷◌, ◌<◌, ◌^◌, [], List, ℕ, length, Some, IfOk, IfErr, OnOk, MatchResult};
 ghost use Rattle.std.specs.Io.KnownBytes.{Consumes};
 ghost use Rattle.krb_msg_password.specs.Frame.{IsFramed};
-ghost use Rattle.krb_msg_password.specs.Refused.{EndsOrFails, HeaderRefused, HeaderTaken, IsFailure, IsShort, ReaderRefused};
+ghost use Rattle.krb_msg_password.specs.Rejected.{EndsOrFails, HeaderRejected, HeaderTaken, IsFailure, IsShort, ReaderRejected};
 
 use crate::error::ReadFrameError;
-use crate::refusal::{Refusal, ap_message_refusal, krb_priv_refusal};
+use crate::rejection::{Rejection, ap_message_rejection, krb_priv_rejection};
 use krb_constants::krb_priv::KRB_PRIV_VERSION;
 use krb_der::{Der, DerEncode, from_reader};
 use std::alloc::Global;
@@ -14,27 +14,27 @@ use std::io;
 use std::io::{ErrorKind, Read};
 
 /// The reader's next octet. A read that a signal interrupts is tried again.
-fn read_octet<R: Read>(reader: &mut R) -> Result<u8, Refusal>
+fn read_octet<R: Read>(reader: &mut R) -> Result<u8, Rejection>
     ensures ok { IfOk result (λ x. Consumes (R.remaining reader.old) (R.remaining reader.new) (x ∷ [])) }
     ensures err { IfErr result (EndsOrFails (R.remaining reader.old) (R.remaining reader.new)) }
 {
     let mut octet = [0; 1];
     for _ in 0..u64::MAX {
         match reader.read(&mut octet) {
-            Ok(0) => return Err(Refusal::Frame(ReadFrameError::Cut)),
+            Ok(0) => return Err(Rejection::Frame(ReadFrameError::Cut)),
             Ok(_) => return Ok(octet[0]),
-            Err(fault) => {
-                if fault.kind() != ErrorKind::Interrupted {
-                    return Err(Refusal::Device(fault));
+            Err(error) => {
+                if error.kind() != ErrorKind::Interrupted {
+                    return Err(Rejection::Device(error));
                 }
             }
         }
     }
-    Err(Refusal::Device(io::Error::from(ErrorKind::TimedOut)))
+    Err(Rejection::Device(io::Error::from(ErrorKind::TimedOut)))
 }
 
 /// The reader's next two octets.
-fn read_pair<R: Read>(reader: &mut R) -> Result<[u8; 2], Refusal>
+fn read_pair<R: Read>(reader: &mut R) -> Result<[u8; 2], Rejection>
     ensures ok { IfOk result (λ pair. Consumes (R.remaining reader.old) (R.remaining reader.new) pair) }
     ensures err { IfErr result (IsShort (R.remaining reader.old) (R.remaining reader.new)) }
 {
@@ -44,14 +44,14 @@ fn read_pair<R: Read>(reader: &mut R) -> Result<[u8; 2], Refusal>
 }
 
 /// Takes the six octets in front of the messages: a length, the version, and another length. The lengths are not looked at.
-fn read_header<R: Read>(reader: &mut R) -> Result<(), Refusal>
+fn read_header<R: Read>(reader: &mut R) -> Result<(), Rejection>
     ensures ok { OnOk result (HeaderTaken (R.remaining reader.old) (R.remaining reader.new)) }
-    ensures err { IfErr result (HeaderRefused (R.remaining reader.old) (R.remaining reader.new)) }
+    ensures err { IfErr result (HeaderRejected (R.remaining reader.old) (R.remaining reader.new)) }
 {
     let _whole = read_pair(reader)?;
     let version = read_pair(reader)?;
     if version != KRB_PRIV_VERSION {
-        return Err(Refusal::Frame(ReadFrameError::Version));
+        return Err(Rejection::Frame(ReadFrameError::Version));
     }
     let _first = read_pair(reader)?;
     Ok(())
@@ -61,20 +61,20 @@ fn read_header<R: Read>(reader: &mut R) -> Result<(), Refusal>
 fn read_messages<A: Der + Drop, B: Der, R: Read>(
     alloc: Global,
     reader: &mut R,
-) -> Result<(A, B), Refusal>
+) -> Result<(A, B), Rejection>
     ensures valid { IfOk result (λ p. A.is_value p.0 × B.is_value p.1) }
     ensures found { IfOk result (λ p. (octets : List ℕ) × IsFramed octets (A.enc p.0) (B.enc p.1)
         × Consumes (R.remaining reader.old) (R.remaining reader.new) octets) }
-    ensures refused { IfErr result (ReaderRefused ⟦<A as DerEncode>⟧ ⟦<B as DerEncode>⟧ (R.remaining reader.old) (R.remaining reader.new)) }
+    ensures rejected { IfErr result (ReaderRejected ⟦<A as DerEncode>⟧ ⟦<B as DerEncode>⟧ (R.remaining reader.old) (R.remaining reader.new)) }
 {
     read_header(reader)?;
     let first = match from_reader::<A, R>(alloc, reader) {
         Ok(message) => message,
-        Err(error) => return Err(ap_message_refusal(error)),
+        Err(error) => return Err(ap_message_rejection(error)),
     };
     let second = match from_reader::<B, R>(alloc, reader) {
         Ok(message) => message,
-        Err(error) => return Err(krb_priv_refusal(error)),
+        Err(error) => return Err(krb_priv_rejection(error)),
     };
     Ok((first, second))
 }
@@ -83,11 +83,11 @@ fn read_messages<A: Der + Drop, B: Der, R: Read>(
 pub(crate) fn take_messages<A: Der + Drop, B: Der, R: Read>(
     alloc: Global,
     reader: &mut R,
-) -> Result<(A, B), Refusal>
+) -> Result<(A, B), Rejection>
     ensures valid { IfOk result (λ p. A.is_value p.0 × B.is_value p.1) }
     ensures found { IfOk result (λ p. (octets : List ℕ) × IsFramed octets (A.enc p.0) (B.enc p.1)
         × Consumes (R.remaining reader.old) (R.remaining reader.new) octets) }
-    ensures refused { IfErr result (ReaderRefused ⟦<A as DerEncode>⟧ ⟦<B as DerEncode>⟧ (R.remaining reader.old) (R.remaining reader.new)) }
+    ensures rejected { IfErr result (ReaderRejected ⟦<A as DerEncode>⟧ ⟦<B as DerEncode>⟧ (R.remaining reader.old) (R.remaining reader.new)) }
     ensures reads { (a : A) (b : B) (octets rest : List ℕ) → A.is_value a → B.is_value b → length octets < 2 ^ 64 → IsFramed octets (A.enc a) (B.enc b)
         → R.remaining reader.old ≡ Some (octets ++ rest) → MatchResult result (λ p. (p ≡ (a, b)) × (R.remaining reader.new ≡ Some rest)) IsFailure }
 {

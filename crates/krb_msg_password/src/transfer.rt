@@ -3,7 +3,7 @@
 ghost use Rattle.std.specs.Prelude.{◌≡◌, ◌≢◌, ◌≤◌, ◌<◌, length, take, IfOk, IfErr, OnOk, OnErr};
 ghost use Rattle.std.specs.Io.KnownBytes.{Appends, Keeps};
 ghost use Rattle.std.specs.IoError.{error_kind};
-ghost use Rattle.krb_msg_password.specs.Refused.{GivesFront};
+ghost use Rattle.krb_msg_password.specs.Rejected.{GivesPrefix};
 
 use std::io;
 use std::io::{Error, ErrorKind, Write};
@@ -18,9 +18,9 @@ fn write_once<W: Write>(to: &mut W, octets: &[u8]) -> io::Result<usize>
     for _ in 0..u64::MAX {
         match to.write(octets) {
             Ok(n) => return Ok(n),
-            Err(fault) => {
-                if fault.kind() != ErrorKind::Interrupted {
-                    return Err(fault);
+            Err(error) => {
+                if error.kind() != ErrorKind::Interrupted {
+                    return Err(error);
                 }
             }
         }
@@ -31,7 +31,7 @@ fn write_once<W: Write>(to: &mut W, octets: &[u8]) -> io::Result<usize>
 /// Gives the writer all octets. A writer that takes none of them at a time is refused as `WriteZero`.
 pub(crate) fn give_all<W: Write>(to: &mut W, octets: &[u8]) -> io::Result<()>
     ensures octets { OnOk result (Appends (W.contents to.old) (W.contents to.new) octets.now) }
-    ensures front { OnErr result (GivesFront octets.now (W.contents to.old) (W.contents to.new)) }
+    ensures prefix { OnErr result (GivesPrefix octets.now (W.contents to.old) (W.contents to.new)) }
     ensures retried { IfErr result (λ e. error_kind e ≢ ErrorKind.Interrupted) }
 {
     let mut done = 0;

@@ -3,10 +3,10 @@
 ghost use Rattle.std.specs.Prelude.{◌≡◌, ◌<◌, ◌≤◌, ◌^◌, ◌⊎◌, ◌∷◌, ◌++◌, length, drop, IfOk, IfErr, OnOk};
 ghost use Rattle.std.specs.Int.{to_be_bytes, w16};
 ghost use Rattle.krb_msg_password.specs.Frame.{frame};
-ghost use Rattle.krb_msg_password.specs.Refused.{IsUnwritten};
+ghost use Rattle.krb_msg_password.specs.Rejected.{IsUnwritten};
 
 use crate::error::WriteFrameError;
-use crate::front::HEADER_LENGTH;
+use crate::prefix::HEADER_LENGTH;
 use krb_constants::krb_priv::KRB_PRIV_VERSION;
 use krb_der::DerEncode;
 use std::alloc::Global;

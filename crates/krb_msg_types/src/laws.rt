@@ -3,8 +3,8 @@
 ghost use Rattle.std.specs.Prelude.{◌≡◌, ℕ, ℤ, List};
 ghost use Rattle.krb_der.specs.Asn1.{application, bit_string, general_string, generalized_time, integer, sequence_of};
 ghost use Rattle.krb_der.specs.BitString.{Bits};
-ghost use Rattle.krb_der.specs.FieldFaults.{HasFaultsOf};
-ghost use Rattle.krb_der.specs.Equality.{TellsEqual};
+ghost use Rattle.krb_der.specs.FieldErrors.{HasErrorsOf};
+ghost use Rattle.krb_der.specs.Equality.{DecidesEqual};
 ghost use Rattle.krb_der.specs.GeneralizedTime.{Time};
 ghost use Rattle.krb_der.specs.Tags.{HasTag};
 
@@ -43,18 +43,18 @@ pub fn structs()
 
 /// The first error of each struct is that of a SEQUENCE of its fields (X.690, 8.9): its tag, then its fields in order, then
 /// trailing octets. Its encodings begin with that tag, and with no other octet (X.690, 8.1.2).
-pub fn faults()
-    ensures host_address { HasFaultsOf ⟦<HostAddress as DerEncode>⟧.fault ⟦<<HostAddress as Sequence>::Fields as Fields>⟧ }
-    ensures authorization_data { HasFaultsOf ⟦<AuthorizationDataInner as DerEncode>⟧.fault ⟦<<AuthorizationDataInner as Sequence>::Fields as Fields>⟧ }
-    ensures restriction { HasFaultsOf ⟦<KerbAdRestrictionEntry as DerEncode>⟧.fault ⟦<<KerbAdRestrictionEntry as Sequence>::Fields as Fields>⟧ }
-    ensures checksum { HasFaultsOf ⟦<Checksum as DerEncode>⟧.fault ⟦<<Checksum as Sequence>::Fields as Fields>⟧ }
-    ensures encrypted_data { HasFaultsOf ⟦<EncryptedData as DerEncode>⟧.fault ⟦<<EncryptedData as Sequence>::Fields as Fields>⟧ }
-    ensures encryption_key { HasFaultsOf ⟦<EncryptionKey as DerEncode>⟧.fault ⟦<<EncryptionKey as Sequence>::Fields as Fields>⟧ }
-    ensures last_req { HasFaultsOf ⟦<LastReqInner as DerEncode>⟧.fault ⟦<<LastReqInner as Sequence>::Fields as Fields>⟧ }
-    ensures principal_name { HasFaultsOf ⟦<PrincipalName as DerEncode>⟧.fault ⟦<<PrincipalName as Sequence>::Fields as Fields>⟧ }
-    ensures change_passwd_data { HasFaultsOf ⟦<ChangePasswdData as DerEncode>⟧.fault ⟦<<ChangePasswdData as Sequence>::Fields as Fields>⟧ }
-    ensures ticket { HasFaultsOf ⟦<TicketInner as DerEncode>⟧.fault ⟦<<TicketInner as Sequence>::Fields as Fields>⟧ }
-    ensures transited_encoding { HasFaultsOf ⟦<TransitedEncoding as DerEncode>⟧.fault ⟦<<TransitedEncoding as Sequence>::Fields as Fields>⟧ }
+pub fn errors()
+    ensures host_address { HasErrorsOf ⟦<HostAddress as DerEncode>⟧.error ⟦<<HostAddress as Sequence>::Fields as Fields>⟧ }
+    ensures authorization_data { HasErrorsOf ⟦<AuthorizationDataInner as DerEncode>⟧.error ⟦<<AuthorizationDataInner as Sequence>::Fields as Fields>⟧ }
+    ensures restriction { HasErrorsOf ⟦<KerbAdRestrictionEntry as DerEncode>⟧.error ⟦<<KerbAdRestrictionEntry as Sequence>::Fields as Fields>⟧ }
+    ensures checksum { HasErrorsOf ⟦<Checksum as DerEncode>⟧.error ⟦<<Checksum as Sequence>::Fields as Fields>⟧ }
+    ensures encrypted_data { HasErrorsOf ⟦<EncryptedData as DerEncode>⟧.error ⟦<<EncryptedData as Sequence>::Fields as Fields>⟧ }
+    ensures encryption_key { HasErrorsOf ⟦<EncryptionKey as DerEncode>⟧.error ⟦<<EncryptionKey as Sequence>::Fields as Fields>⟧ }
+    ensures last_req { HasErrorsOf ⟦<LastReqInner as DerEncode>⟧.error ⟦<<LastReqInner as Sequence>::Fields as Fields>⟧ }
+    ensures principal_name { HasErrorsOf ⟦<PrincipalName as DerEncode>⟧.error ⟦<<PrincipalName as Sequence>::Fields as Fields>⟧ }
+    ensures change_passwd_data { HasErrorsOf ⟦<ChangePasswdData as DerEncode>⟧.error ⟦<<ChangePasswdData as Sequence>::Fields as Fields>⟧ }
+    ensures ticket { HasErrorsOf ⟦<TicketInner as DerEncode>⟧.error ⟦<<TicketInner as Sequence>::Fields as Fields>⟧ }
+    ensures transited_encoding { HasErrorsOf ⟦<TransitedEncoding as DerEncode>⟧.error ⟦<<TransitedEncoding as Sequence>::Fields as Fields>⟧ }
     ensures host_address_tag { HasTag 48 ⟦<HostAddress as DerEncode>⟧.first }
     ensures authorization_data_tag { HasTag 48 ⟦<AuthorizationDataInner as DerEncode>⟧.first }
     ensures restriction_tag { HasTag 48 ⟦<KerbAdRestrictionEntry as DerEncode>⟧.first }
@@ -70,15 +70,15 @@ pub fn faults()
 
 /// `==` on each struct: it returns true for equal values and for no others.
 pub fn equality()
-    ensures host_address { TellsEqual ⟦<HostAddress as PartialEq>⟧.eq }
-    ensures authorization_data { TellsEqual ⟦<AuthorizationDataInner as PartialEq>⟧.eq }
-    ensures restriction { TellsEqual ⟦<KerbAdRestrictionEntry as PartialEq>⟧.eq }
-    ensures checksum { TellsEqual ⟦<Checksum as PartialEq>⟧.eq }
-    ensures encrypted_data { TellsEqual ⟦<EncryptedData as PartialEq>⟧.eq }
-    ensures encryption_key { TellsEqual ⟦<EncryptionKey as PartialEq>⟧.eq }
-    ensures last_req { TellsEqual ⟦<LastReqInner as PartialEq>⟧.eq }
-    ensures principal_name { TellsEqual ⟦<PrincipalName as PartialEq>⟧.eq }
-    ensures change_passwd_data { TellsEqual ⟦<ChangePasswdData as PartialEq>⟧.eq }
-    ensures ticket { TellsEqual ⟦<TicketInner as PartialEq>⟧.eq }
-    ensures transited_encoding { TellsEqual ⟦<TransitedEncoding as PartialEq>⟧.eq }
+    ensures host_address { DecidesEqual ⟦<HostAddress as PartialEq>⟧.eq }
+    ensures authorization_data { DecidesEqual ⟦<AuthorizationDataInner as PartialEq>⟧.eq }
+    ensures restriction { DecidesEqual ⟦<KerbAdRestrictionEntry as PartialEq>⟧.eq }
+    ensures checksum { DecidesEqual ⟦<Checksum as PartialEq>⟧.eq }
+    ensures encrypted_data { DecidesEqual ⟦<EncryptedData as PartialEq>⟧.eq }
+    ensures encryption_key { DecidesEqual ⟦<EncryptionKey as PartialEq>⟧.eq }
+    ensures last_req { DecidesEqual ⟦<LastReqInner as PartialEq>⟧.eq }
+    ensures principal_name { DecidesEqual ⟦<PrincipalName as PartialEq>⟧.eq }
+    ensures change_passwd_data { DecidesEqual ⟦<ChangePasswdData as PartialEq>⟧.eq }
+    ensures ticket { DecidesEqual ⟦<TicketInner as PartialEq>⟧.eq }
+    ensures transited_encoding { DecidesEqual ⟦<TransitedEncoding as PartialEq>⟧.eq }
 {}

@@ -6,7 +6,7 @@ use Rattle.std.proofs.lemmas.Grind.{take_at_read}
 use Rattle.std.proofs.lemmas.List.{drop-drop, append-nil, take-append-drop, drop_all}
 use Rattle.std.specs.declared.io.Error.{Error}
 use Rattle.byteorder.specs.Endian.{little_number}
-use Rattle.krb_negoex.specs.Refused.{ElementRefused}
+use Rattle.krb_negoex.specs.Rejected.{ElementRejected}
 use Rattle.krb_negoex.specs.Parts.{Elements, AllOf, total, fixeds, AllLaid, VectorLaid}
 
 pub record ElementsRead {A : Type 0} (part : List ℕ → List ℕ → A → Type 0) (width : ℕ) (m rest : List ℕ) (k i : ℕ) (vs : List A) : Type 0 where
@@ -27,18 +27,18 @@ module _ {A : Type 0} (part : List ℕ → List ℕ → A → Type 0) (width : �
       let count = x.count in
       let long : length ws ≡ length vs + 1 = ap length e ∙ length-append vs (v ∷ []) in
       let w : width * (length vs + 1) ≡ width * length vs + width = omega arith in
-      let behind : k + width * length vs + width ≡ k + width * length ws = omega (arith, ap (λ (j : ℕ). width * j) long) in
+      let trailing : k + width * length vs + width ≡ k + width * length ws = omega (arith, ap (λ (j : ℕ). width * j) long) in
       record {
         count = omega arith;
-        place = n ∙ ap (drop width) x.place ∙ drop-drop width (k + width * length vs) m ∙ ap (λ (j : ℕ). drop j m) behind;
+        place = n ∙ ap (drop width) x.place ∙ drop-drop width (k + width * length vs) m ∙ ap (λ (j : ℕ). drop j m) trailing;
         elements = subst (Elements part width m k) (sym e) (Elements-push m k vs v x.elements (subst (λ (z : List ℕ). part z m v) x.place y));
       }
 
 -- the element behind those that were read is refused
-pub element_refused : {A : Type 0} (part : List ℕ → List ℕ → A → Type 0) (refuses : List ℕ → List ℕ → Error → Type 0) (width : ℕ) (f behind m rest : List ℕ) (o n i : ℕ) (vs : List A) (e : Error)
-    → little_number 4 f ≡ o → behind ≡ drop 4 f → 4 ≤ length behind → little_number 4 behind ≡ n → o ≤ length m → i < n → ElementsRead part width m rest o i vs → refuses rest m e
-    → ElementRefused part refuses width f m e
-element_refused part refuses width f behind m rest o n i vs e at b room count inside more x r =
+pub element_rejected : {A : Type 0} (part : List ℕ → List ℕ → A → Type 0) (rejects : List ℕ → List ℕ → Error → Type 0) (width : ℕ) (f trailing m rest : List ℕ) (o n i : ℕ) (vs : List A) (e : Error)
+    → little_number 4 f ≡ o → trailing ≡ drop 4 f → 4 ≤ length trailing → little_number 4 trailing ≡ n → o ≤ length m → i < n → ElementsRead part width m rest o i vs → rejects rest m e
+    → ElementRejected part rejects width f m e
+element_rejected part rejects width f trailing m rest o n i vs e at b room count inside more x r =
     let long = ap length b ∙ length-drop 4 f in
     let many = x.count in
     let here : rest ≡ drop (little_number 4 f + width * length vs) m = x.place ∙ ap (λ (k : ℕ). drop (k + width * length vs) m) (sym at) in
@@ -49,7 +49,7 @@ element_refused part refuses width f behind m rest o n i vs e at b room count in
       before = vs;
       more = omega arith;
       elements = subst (λ (k : ℕ). Elements part width m k vs) (sym at) x.elements;
-      fault = subst (λ (z : List ℕ). refuses z m e) here r;
+      error = subst (λ (z : List ℕ). rejects z m e) here r;
     }
 
 -- the loop that lays the elements, after those in vs

@@ -3,19 +3,19 @@ use Rattle.std.specs.Prelude.{◌≡◌, ℕ, ◌⊎◌, List, take, drop, Optio
 use Rattle.std.specs.Io.KnownBytes.{Appends, Keeps}
 use Rattle.std.specs.declared.io.Error.{Error}
 use Rattle.krb_io.specs.Transfer.{IsNotInterrupted, IsPrefixWritten, IsShortRead}
-use Rattle.krb_negoex.specs.Refused.{IsMemory, LayRefused}
+use Rattle.krb_negoex.specs.Rejected.{IsMemory, LayRejected}
 
 -- an allocation failed, or the reader did before it gave n octets
-abbrev pub GatherRefused : ℕ → Option (List ℕ) → Option (List ℕ) → Error → Type 0
-GatherRefused n old new x = IsMemory x ⊎ (IsNotInterrupted x × IsShortRead n old new)
+abbrev pub GatherRejected : ℕ → Option (List ℕ) → Option (List ℕ) → Error → Type 0
+GatherRejected n old new x = IsMemory x ⊎ (IsNotInterrupted x × IsShortRead n old new)
 
 -- the reader's next octets, as many as a fixed part has or all that there were, were read, and have this error
-abbrev pub FrontRefused : ℕ → (List ℕ → Error → Type 0) → Option (List ℕ) → Option (List ℕ) → Error → Type 0
-FrontRefused n refuses old new x = (f : List ℕ) × refuses f x × IfSome old (λ b. (f ≡ take n b) × (new ≡ Some (drop n b)))
+abbrev pub PrefixRejected : ℕ → (List ℕ → Error → Type 0) → Option (List ℕ) → Option (List ℕ) → Error → Type 0
+PrefixRejected n rejects old new x = (f : List ℕ) × rejects f x × IfSome old (λ b. (f ≡ take n b) × (new ≡ Some (drop n b)))
 
 -- a value can not be laid and nothing was written; or it can, and the writer took a proper prefix of its octets
-abbrev pub EncodeRefused : Type 0 → List ℕ → Option (List ℕ) → Option (List ℕ) → Error → Type 0
-EncodeRefused laid octets old new x = (LayRefused laid x × Keeps old new) ⊎ (laid × IsNotInterrupted x × IsPrefixWritten octets old new)
+abbrev pub EncodeRejected : Type 0 → List ℕ → Option (List ℕ) → Option (List ℕ) → Error → Type 0
+EncodeRejected laid octets old new x = (LayRejected laid x × Keeps old new) ⊎ (laid × IsNotInterrupted x × IsPrefixWritten octets old new)
 
 -- one writer took a proper prefix of the fixed part, and the other nothing; or one took it all, and the other a proper prefix of
 -- the payload
@@ -24,5 +24,5 @@ PartsStopped fixed payload old new payload_old payload_new =
     (IsPrefixWritten fixed old new × Keeps payload_old payload_new) ⊎ (Appends old new fixed × IsPrefixWritten payload payload_old payload_new)
 
 -- an error made of one of which this holds
-abbrev pub IsToldBy : {E : Type 0} → (Error → E → Type 0) → (Error → Type 0) → E → Type 0
-IsToldBy gives P e = (x : Error) × gives x e × P x
+abbrev pub IsReportedBy : {E : Type 0} → (Error → E → Type 0) → (Error → Type 0) → E → Type 0
+IsReportedBy gives P e = (x : Error) × gives x e × P x

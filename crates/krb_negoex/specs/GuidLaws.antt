@@ -3,7 +3,7 @@ use Rattle.std.proofs.Common.{◌≡◌, ℕ, zero, suc, ◌≤◌, List, [], �
 use Rattle.std.proofs.lemmas.List.{length-take, take_all}
 use Rattle.std.specs.declared.io.Error.{Error}
 use Rattle.uuid.specs.Parts.{swap_fields}
-use Rattle.krb_negoex.specs.Refused.{IsCut, IsMemory}
+use Rattle.krb_negoex.specs.Rejected.{IsCut, IsMemory}
 
 pub record GuidPart (f m : List ℕ) (v : List ℕ) : Type 0 where
   pub room : 16 ≤ length f
@@ -42,14 +42,14 @@ as_sixteen xs e = is_by_place xs ∙ ap (λ (n : ℕ). by_place 0 n xs) e
 pub guid_back : (v m f : List ℕ) → length v ≡ 16 → GuidPart (swap_fields v ++ f) m v
 guid_back v m f e = record { room = omega arith; value = as_sixteen v e }
 
-pub guid_front : (f m v : List ℕ) → GuidPart (take 16 f) m v → GuidPart f m v
-guid_front f m v x =
+pub guid_prefix : (f m v : List ℕ) → GuidPart (take 16 f) m v → GuidPart f m v
+guid_prefix f m v x =
     let room = x.room in
     let long = length-take 16 f in
     record { room = omega arith; value = x.value ∙ ap swap_fields (take_all 16 (take 16 f) (omega arith)) }
 
-pub guid_behind : (f m v : List ℕ) → GuidPart f m v → GuidPart (take 16 f) m v
-guid_behind f m v x =
+pub guid_trailing : (f m v : List ℕ) → GuidPart f m v → GuidPart (take 16 f) m v
+guid_trailing f m v x =
     let room = x.room in
     let long = length-take 16 f in
     record { room = omega arith; value = x.value ∙ ap swap_fields (sym (take_all 16 (take 16 f) (omega arith))) }

@@ -1,9 +1,9 @@
 -- The layout of a GUID (MS-NEGOEX 2.2.2; MS-DTYP 2.3.4.2).
 use Rattle.std.proofs.Common.{◌≡◌, ℕ, List, length, lit<, refl}
 use Rattle.uuid.specs.Parts.{swap_fields}
-use Rattle.krb_negoex.specs.Refused.{IsCut}
+use Rattle.krb_negoex.specs.Rejected.{IsCut}
 use Rattle.krb_negoex.specs.Layouts.{Layout, plain, one_cut}
-use Rattle.krb_negoex.specs.GuidLaws.{GuidPart, guid_room, one_guid, no_guid, guid_back, guid_front, guid_behind}
+use Rattle.krb_negoex.specs.GuidLaws.{GuidPart, guid_room, one_guid, no_guid, guid_back, guid_prefix, guid_trailing}
 
 abbrev pub guid : Layout (List ℕ)
 guid = plain (record {
@@ -13,13 +13,13 @@ guid = plain (record {
   same = λ v w. v ≡ w;
   fixed = swap_fields;
   readable = λ v. length v ≡ 16;
-  refuses = λ f m e. IsCut 16 f e;
+  rejects = λ f m e. IsCut 16 f e;
   room = guid_room;
   no_part = no_guid;
   one_part = one_guid;
-  one_fault = λ f m. one_cut 16 f;
-  front = guid_front;
-  behind = guid_behind;
+  one_error = λ f m. one_cut 16 f;
+  prefix = guid_prefix;
+  trailing = guid_trailing;
   fixed_length = λ v. refl;
   reads_back = λ v m f r. guid_back v m f r;
 })

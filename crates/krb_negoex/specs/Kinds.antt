@@ -6,8 +6,8 @@ use Rattle.std.specs.declared.io.Error.{Error}
 use Rattle.std.specs.declared.io.ErrorKind.{ErrorKind}
 use Rattle.byteorder.specs.Endian.{little_number, little_bytes}
 use Rattle.byteorder.specs.Numbers.{length-bytes_low_first}
-use Rattle.krb_negoex.specs.Refused.{IsMemory, IsCut, OneFault}
-use Rattle.krb_negoex.specs.Layouts.{Layout, plain, NumberPart, number_front, number_behind, number_back, no_number, one_cut}
+use Rattle.krb_negoex.specs.Rejected.{IsMemory, IsCut, OneError}
+use Rattle.krb_negoex.specs.Layouts.{Layout, plain, NumberPart, number_prefix, number_trailing, number_back, no_number, one_cut}
 
 -- a number of n octets that is not taken is refused by this kind
 abbrev pub IsOther : ℕ → ErrorKind → (ℕ → Type 0) → List ℕ → Error → Type 0
@@ -17,7 +17,7 @@ IsOther n kind taken f e = (error_kind e ≡ kind) × (n ≤ length f) × (taken
 abbrev pub IsCode : {A : Type 0} → (A → ℕ) → ℕ → Type 0
 IsCode {A} code k = (v : A) × (code v ≡ k)
 
-pub one_other : (n : ℕ) (kind : ErrorKind) (taken : ℕ → Type 0) (f : List ℕ) (e g : Error) → IsCut n f e ⊎ IsOther n kind taken f e → IsCut n f g ⊎ IsOther n kind taken f g → OneFault e g
+pub one_other : (n : ℕ) (kind : ErrorKind) (taken : ℕ → Type 0) (f : List ℕ) (e g : Error) → IsCut n f e ⊎ IsOther n kind taken f e → IsCut n f g ⊎ IsOther n kind taken f g → OneError e g
 one_other n kind taken f e g x y = ⊎_elim (λ h. ⊎_elim (λ k. one_cut n f e g h k) (λ k. absurd (omega (arith, h.1, k.1))) y)
     (λ h. ⊎_elim (λ k. absurd (omega (arith, h.1, k.1))) (λ k. inr (inr (h.0 ∙ sym k.0))) y) x
 
@@ -34,13 +34,13 @@ module _ {A : Type 0} (n : ℕ) (wide : 0 < n) (kind : ErrorKind) (code : A → 
     same = λ v w. code v ≡ code w;
     fixed = λ v. little_bytes n (code v);
     readable = λ v. code v < 256 ^ n;
-    refuses = λ f m e. IsCut n f e ⊎ IsOther n kind (IsCode code) f e;
+    rejects = λ f m e. IsCut n f e ⊎ IsOther n kind (IsCode code) f e;
     room = λ f m v x. x.room;
     no_part = no_code;
     one_part = λ f m v w x y. sym x.value ∙ y.value;
-    one_fault = λ f m. one_other n kind (IsCode code) f;
-    front = λ f m v. number_front n f m (code v);
-    behind = λ f m v. number_behind n f m (code v);
+    one_error = λ f m. one_other n kind (IsCode code) f;
+    prefix = λ f m v. number_prefix n f m (code v);
+    trailing = λ f m v. number_trailing n f m (code v);
     fixed_length = λ v. length-bytes_low_first 0 n (code v);
     reads_back = λ v m f r. number_back n (code v) m f r;
   })
@@ -62,13 +62,13 @@ module _ (n : ℕ) (wide : 0 < n) (kind : ErrorKind) (k : ℕ) where
     same = λ v w. v ≡ w;
     fixed = little_bytes n;
     readable = λ v. (v ≡ k) × (v < 256 ^ n);
-    refuses = λ f m e. IsCut n f e ⊎ IsOther n kind (λ j. j ≡ k) f e;
+    rejects = λ f m e. IsCut n f e ⊎ IsOther n kind (λ j. j ≡ k) f e;
     room = λ f m v x. x.number.room;
     no_part = no_constant;
     one_part = λ f m v w x y. x.value ∙ sym y.value;
-    one_fault = λ f m. one_other n kind (λ j. j ≡ k) f;
-    front = λ f m v x. record { number = number_front n f m v x.number; value = x.value };
-    behind = λ f m v x. record { number = number_behind n f m v x.number; value = x.value };
+    one_error = λ f m. one_other n kind (λ j. j ≡ k) f;
+    prefix = λ f m v x. record { number = number_prefix n f m v x.number; value = x.value };
+    trailing = λ f m v x. record { number = number_trailing n f m v x.number; value = x.value };
     fixed_length = length-bytes_low_first 0 n;
     reads_back = λ v m f r. record { number = number_back n v m f r.1; value = r.0 };
   })
@@ -81,14 +81,14 @@ pub record OctetsPart (n : ℕ) (f m v : List ℕ) : Type 0 where
 pub no_octets : (n : ℕ) (f m : List ℕ) (e : Error) (v : List ℕ) → IsCut n f e → OctetsPart n f m v → IsMemory e
 no_octets n f m e v r x = let room = x.room in absurd (omega (arith, r.1))
 
-pub octets_front : (n : ℕ) (f m v : List ℕ) → OctetsPart n (take n f) m v → OctetsPart n f m v
-octets_front n f m v x =
+pub octets_prefix : (n : ℕ) (f m v : List ℕ) → OctetsPart n (take n f) m v → OctetsPart n f m v
+octets_prefix n f m v x =
     let room = x.room in
     let long = length-take n f in
     record { room = omega arith; value = x.value ∙ take_all n (take n f) (omega arith) }
 
-pub octets_behind : (n : ℕ) (f m v : List ℕ) → OctetsPart n f m v → OctetsPart n (take n f) m v
-octets_behind n f m v x =
+pub octets_trailing : (n : ℕ) (f m v : List ℕ) → OctetsPart n f m v → OctetsPart n (take n f) m v
+octets_trailing n f m v x =
     let room = x.room in
     let long = length-take n f in
     record { room = omega arith; value = x.value ∙ sym (take_all n (take n f) (omega arith)) }
@@ -119,13 +119,13 @@ octets n h = plain (record {
   same = λ v w. v ≡ w;
   fixed = exactly n;
   readable = λ v. length v ≡ n;
-  refuses = λ f m e. IsCut n f e;
+  rejects = λ f m e. IsCut n f e;
   room = λ f m v x. x.room;
   no_part = no_octets n;
   one_part = λ f m v w x y. x.value ∙ sym y.value;
-  one_fault = λ f m. one_cut n f;
-  front = octets_front n;
-  behind = octets_behind n;
+  one_error = λ f m. one_cut n f;
+  prefix = octets_prefix n;
+  trailing = octets_trailing n;
   fixed_length = exactly_length n;
   reads_back = λ v m f r. octets_back n v m f r;
 })

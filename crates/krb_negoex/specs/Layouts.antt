@@ -5,8 +5,8 @@ use Rattle.std.specs.declared.io.Error.{Error}
 use Rattle.byteorder.specs.Endian.{little_number, little_bytes}
 use Rattle.byteorder.specs.Numbers.{little_number-reads_back, length-bytes_low_first}
 use Rattle.krb_negoex.specs.Parts.{VectorPart, SameAll, AllOf, total, vector_fixed, vector_payload, VectorLaid}
-use Rattle.krb_negoex.specs.Refused.{IsMemory, IsCut, OneFault, VectorRefused}
-use Rattle.krb_negoex.specs.VectorLaws.{number-take, vector_room, one_vector, no_vector, one_vector_fault, vector_front, vector_behind, vector_back, vector_fits, vector_fixed_length, vector_payload_length}
+use Rattle.krb_negoex.specs.Rejected.{IsMemory, IsCut, OneError, VectorRejected}
+use Rattle.krb_negoex.specs.VectorLaws.{number-take, vector_room, one_vector, no_vector, one_vector_error, vector_prefix, vector_trailing, vector_back, vector_fits, vector_fixed_length, vector_payload_length}
 
 pub record Layout (A : Type 0) : Type 1 where
   -- the octets of the fixed part, of which there is one at least
@@ -27,13 +27,13 @@ pub record Layout (A : Type 0) : Type 1 where
   -- what is read again once it is written
   pub readable : A → Type 0
   -- the first fault of octets in a message
-  pub refuses : List ℕ → List ℕ → Error → Type 0
+  pub rejects : List ℕ → List ℕ → Error → Type 0
   pub room : (f m : List ℕ) (v : A) → part f m v → width ≤ length f
-  pub no_part : (f m : List ℕ) (e : Error) (v : A) → refuses f m e → part f m v → IsMemory e
+  pub no_part : (f m : List ℕ) (e : Error) (v : A) → rejects f m e → part f m v → IsMemory e
   pub one_part : (f m : List ℕ) (v w : A) → part f m v → part f m w → same v w
-  pub one_fault : (f m : List ℕ) (e g : Error) → refuses f m e → refuses f m g → OneFault e g
-  pub front : (f m : List ℕ) (v : A) → part (take width f) m v → part f m v
-  pub behind : (f m : List ℕ) (v : A) → part f m v → part (take width f) m v
+  pub one_error : (f m : List ℕ) (e g : Error) → rejects f m e → rejects f m g → OneError e g
+  pub prefix : (f m : List ℕ) (v : A) → part (take width f) m v → part f m v
+  pub trailing : (f m : List ℕ) (v : A) → part f m v → part (take width f) m v
   pub after_is : (o : ℕ) (v : A) → after o v ≡ o + payload_size v
   -- where the payload ends below 2^32 each offset and count fits its field
   pub fits : (o : ℕ) (v : A) → o + payload_size v < 2 ^ 32 → laid o v
@@ -57,13 +57,13 @@ seen {A} {B} s l = record {
   fits = λ o v. l.fits o (s v);
   laid = λ o v. l.laid o (s v);
   readable = λ v. l.readable (s v);
-  refuses = l.refuses;
+  rejects = l.rejects;
   room = λ f m v. l.room f m (s v);
   no_part = λ f m e v. l.no_part f m e (s v);
   one_part = λ f m v w. l.one_part f m (s v) (s w);
-  one_fault = l.one_fault;
-  front = λ f m v. l.front f m (s v);
-  behind = λ f m v. l.behind f m (s v);
+  one_error = l.one_error;
+  prefix = λ f m v. l.prefix f m (s v);
+  trailing = λ f m v. l.trailing f m (s v);
   fixed_length = λ o v. l.fixed_length o (s v);
   payload_length = λ o v. l.payload_length o (s v);
   reads_back = λ o v. l.reads_back o (s v);
@@ -84,13 +84,13 @@ vector {A} t = record {
   fits = vector_fits t.width t.payload_size t.laid t.wide t.fits;
   laid = λ o vs. VectorLaid t.laid t.payload_size t.width o vs;
   readable = AllOf t.readable;
-  refuses = VectorRefused t.part t.refuses t.width;
+  rejects = VectorRejected t.part t.rejects t.width;
   room = vector_room t.part t.width;
-  no_part = no_vector t.part t.width t.refuses t.no_part;
+  no_part = no_vector t.part t.width t.rejects t.no_part;
   one_part = one_vector t.part t.width t.same t.one_part;
-  one_fault = one_vector_fault t.part t.width t.refuses t.no_part t.one_fault;
-  front = vector_front t.part t.width;
-  behind = vector_behind t.part t.width;
+  one_error = one_vector_error t.part t.width t.rejects t.no_part t.one_error;
+  prefix = vector_prefix t.part t.width;
+  trailing = vector_trailing t.part t.width;
   fixed_length = vector_fixed_length;
   payload_length = vector_payload_length t.part t.width t.fixed t.payload t.payload_size t.laid t.readable t.fixed_length t.payload_length;
   reads_back = vector_back t.part t.width t.fixed t.payload t.payload_size t.laid t.readable t.fixed_length t.payload_length t.reads_back;
@@ -104,13 +104,13 @@ pub record Plain (A : Type 0) : Type 1 where
   pub same : A → A → Type 0
   pub fixed : A → List ℕ
   pub readable : A → Type 0
-  pub refuses : List ℕ → List ℕ → Error → Type 0
+  pub rejects : List ℕ → List ℕ → Error → Type 0
   pub room : (f m : List ℕ) (v : A) → part f m v → width ≤ length f
-  pub no_part : (f m : List ℕ) (e : Error) (v : A) → refuses f m e → part f m v → IsMemory e
+  pub no_part : (f m : List ℕ) (e : Error) (v : A) → rejects f m e → part f m v → IsMemory e
   pub one_part : (f m : List ℕ) (v w : A) → part f m v → part f m w → same v w
-  pub one_fault : (f m : List ℕ) (e g : Error) → refuses f m e → refuses f m g → OneFault e g
-  pub front : (f m : List ℕ) (v : A) → part (take width f) m v → part f m v
-  pub behind : (f m : List ℕ) (v : A) → part f m v → part (take width f) m v
+  pub one_error : (f m : List ℕ) (e g : Error) → rejects f m e → rejects f m g → OneError e g
+  pub prefix : (f m : List ℕ) (v : A) → part (take width f) m v → part f m v
+  pub trailing : (f m : List ℕ) (v : A) → part f m v → part (take width f) m v
   pub fixed_length : (v : A) → length (fixed v) ≡ width
   pub reads_back : (v : A) (m f : List ℕ) → readable v → part (fixed v ++ f) m v
 
@@ -129,13 +129,13 @@ plain p = record {
   after = λ o v. o;
   laid = λ o v. Unit {0};
   readable = p.readable;
-  refuses = p.refuses;
+  rejects = p.rejects;
   room = p.room;
   no_part = p.no_part;
   one_part = p.one_part;
-  one_fault = p.one_fault;
-  front = p.front;
-  behind = p.behind;
+  one_error = p.one_error;
+  prefix = p.prefix;
+  trailing = p.trailing;
   after_is = λ o v. same_place o;
   fits = λ o v h. tt;
   fixed_length = λ o v. p.fixed_length v;
@@ -148,14 +148,14 @@ pub record NumberPart (n : ℕ) (f m : List ℕ) (v : ℕ) : Type 0 where
   pub room : n ≤ length f
   pub value : little_number n f ≡ v
 
-pub number_front : (n : ℕ) (f m : List ℕ) (v : ℕ) → NumberPart n (take n f) m v → NumberPart n f m v
-number_front n f m v x =
+pub number_prefix : (n : ℕ) (f m : List ℕ) (v : ℕ) → NumberPart n (take n f) m v → NumberPart n f m v
+number_prefix n f m v x =
     let room = x.room in
     let long = length-take n f in
     record { room = omega arith; value = sym (number-take n n f (omega arith)) ∙ x.value }
 
-pub number_behind : (n : ℕ) (f m : List ℕ) (v : ℕ) → NumberPart n f m v → NumberPart n (take n f) m v
-number_behind n f m v x =
+pub number_trailing : (n : ℕ) (f m : List ℕ) (v : ℕ) → NumberPart n f m v → NumberPart n (take n f) m v
+number_trailing n f m v x =
     let room = x.room in
     let long = length-take n f in
     record { room = omega arith; value = number-take n n f (omega arith) ∙ x.value }
@@ -163,7 +163,7 @@ number_behind n f m v x =
 pub no_number : (n : ℕ) (f m : List ℕ) (e : Error) (v : ℕ) → IsCut n f e → NumberPart n f m v → IsMemory e
 no_number n f m e v r x = let room = x.room in absurd (omega (arith, r.1))
 
-pub one_cut : (n : ℕ) (f : List ℕ) (e g : Error) → IsCut n f e → IsCut n f g → OneFault e g
+pub one_cut : (n : ℕ) (f : List ℕ) (e g : Error) → IsCut n f e → IsCut n f g → OneError e g
 one_cut n f e g x y = inr (inr (x.0 ∙ sym y.0))
 
 pub number_back : (n v : ℕ) (m f : List ℕ) → v < 256 ^ n → NumberPart n (little_bytes n v ++ f) m v
@@ -180,13 +180,13 @@ number n h = plain (record {
   same = λ v w. v ≡ w;
   fixed = little_bytes n;
   readable = λ v. v < 256 ^ n;
-  refuses = λ f m e. IsCut n f e;
+  rejects = λ f m e. IsCut n f e;
   room = λ f m v x. x.room;
   no_part = no_number n;
   one_part = λ f m v w x y. sym x.value ∙ y.value;
-  one_fault = λ f m. one_cut n f;
-  front = number_front n;
-  behind = number_behind n;
+  one_error = λ f m. one_cut n f;
+  prefix = number_prefix n;
+  trailing = number_trailing n;
   fixed_length = length-bytes_low_first 0 n;
   reads_back = λ v m f r. number_back n v m f r;
 })
@@ -196,8 +196,8 @@ module _ {A B : Type 0} (a : Layout A) (b : Layout B) where
   abbrev pub ThenPart : List ℕ → List ℕ → A × B → Type 0
   ThenPart f m v = a.part f m v.0 × b.part (drop a.width f) m v.1
 
-  abbrev pub ThenRefused : List ℕ → List ℕ → Error → Type 0
-  ThenRefused f m e = a.refuses f m e ⊎ ((v : A) × a.part f m v × b.refuses (drop a.width f) m e)
+  abbrev pub ThenRejected : List ℕ → List ℕ → Error → Type 0
+  ThenRejected f m e = a.rejects f m e ⊎ ((v : A) × a.part f m v × b.rejects (drop a.width f) m e)
 
   pub then_room : (f m : List ℕ) (v : A × B) → ThenPart f m v → a.width + b.width ≤ length f
   then_room f m v x =
@@ -206,26 +206,26 @@ module _ {A B : Type 0} (a : Layout A) (b : Layout B) where
       let e = length-drop a.width f in
       omega arith
 
-  pub no_then : (f m : List ℕ) (e : Error) (v : A × B) → ThenRefused f m e → ThenPart f m v → IsMemory e
+  pub no_then : (f m : List ℕ) (e : Error) (v : A × B) → ThenRejected f m e → ThenPart f m v → IsMemory e
   no_then f m e v r x = ⊎_elim (λ h. a.no_part f m e v.0 h x.0) (λ h. b.no_part (drop a.width f) m e v.1 h.2 x.1) r
 
-  pub one_then : (f m : List ℕ) (e g : Error) → ThenRefused f m e → ThenRefused f m g → OneFault e g
-  one_then f m e g x y = ⊎_elim (λ h. ⊎_elim (λ k. a.one_fault f m e g h k) (λ k. inl (a.no_part f m e k.0 h k.1)) y)
-      (λ h. ⊎_elim (λ k. inr (inl (a.no_part f m g h.0 k h.1))) (λ k. b.one_fault (drop a.width f) m e g h.2 k.2) y) x
+  pub one_then : (f m : List ℕ) (e g : Error) → ThenRejected f m e → ThenRejected f m g → OneError e g
+  one_then f m e g x y = ⊎_elim (λ h. ⊎_elim (λ k. a.one_error f m e g h k) (λ k. inl (a.no_part f m e k.0 h k.1)) y)
+      (λ h. ⊎_elim (λ k. inr (inl (a.no_part f m g h.0 k h.1))) (λ k. b.one_error (drop a.width f) m e g h.2 k.2) y) x
 
   take_less : (n k : ℕ) (f : List ℕ) → take n (take (n + k) f) ≡ take n f
   take_less n k f = take-take n (n + k) f (omega arith)
 
-  pub then_front : (f m : List ℕ) (v : A × B) → ThenPart (take (a.width + b.width) f) m v → ThenPart f m v
-  then_front f m v x = (
-    a.front f m v.0 (subst (λ (z : List ℕ). a.part z m v.0) (take_less a.width b.width f) (a.behind (take (a.width + b.width) f) m v.0 x.0)),
-    b.front (drop a.width f) m v.1 (subst (λ (z : List ℕ). b.part z m v.1) (drop-take a.width b.width f) x.1),
+  pub then_prefix : (f m : List ℕ) (v : A × B) → ThenPart (take (a.width + b.width) f) m v → ThenPart f m v
+  then_prefix f m v x = (
+    a.prefix f m v.0 (subst (λ (z : List ℕ). a.part z m v.0) (take_less a.width b.width f) (a.trailing (take (a.width + b.width) f) m v.0 x.0)),
+    b.prefix (drop a.width f) m v.1 (subst (λ (z : List ℕ). b.part z m v.1) (drop-take a.width b.width f) x.1),
   )
 
-  pub then_behind : (f m : List ℕ) (v : A × B) → ThenPart f m v → ThenPart (take (a.width + b.width) f) m v
-  then_behind f m v x = (
-    a.front (take (a.width + b.width) f) m v.0 (subst (λ (z : List ℕ). a.part z m v.0) (sym (take_less a.width b.width f)) (a.behind f m v.0 x.0)),
-    subst (λ (z : List ℕ). b.part z m v.1) (sym (drop-take a.width b.width f)) (b.behind (drop a.width f) m v.1 x.1),
+  pub then_trailing : (f m : List ℕ) (v : A × B) → ThenPart f m v → ThenPart (take (a.width + b.width) f) m v
+  then_trailing f m v x = (
+    a.prefix (take (a.width + b.width) f) m v.0 (subst (λ (z : List ℕ). a.part z m v.0) (sym (take_less a.width b.width f)) (a.trailing f m v.0 x.0)),
+    subst (λ (z : List ℕ). b.part z m v.1) (sym (drop-take a.width b.width f)) (b.trailing (drop a.width f) m v.1 x.1),
   )
 
   pub then_fixed_length : (o : ℕ) (v : A × B) → length (a.fixed o v.0 ++ b.fixed (a.after o v.0) v.1) ≡ a.width + b.width
@@ -291,13 +291,13 @@ module _ {A B : Type 0} (a : Layout A) (b : Layout B) where
     fits = then_fits;
     laid = λ o v. a.laid o v.0 × b.laid (a.after o v.0) v.1;
     readable = λ v. a.readable v.0 × b.readable v.1;
-    refuses = ThenRefused;
+    rejects = ThenRejected;
     room = then_room;
     no_part = no_then;
     one_part = λ f m v w x y. (a.one_part f m v.0 w.0 x.0 y.0, b.one_part (drop a.width f) m v.1 w.1 x.1 y.1);
-    one_fault = one_then;
-    front = then_front;
-    behind = then_behind;
+    one_error = one_then;
+    prefix = then_prefix;
+    trailing = then_trailing;
     fixed_length = then_fixed_length;
     payload_length = then_payload_length;
     reads_back = then_back;

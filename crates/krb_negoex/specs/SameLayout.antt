@@ -15,7 +15,7 @@ pub record SameLayout {A : Type 0} (k l : Layout A) : Type 0 where
   pub after : (o : ℕ) (v : A) → k.after o v ≡ l.after o v
   pub laid : (o : ℕ) (v : A) → k.laid o v ↔ l.laid o v
   pub readable : (v : A) → k.readable v ↔ l.readable v
-  pub refuses : (f m : List ℕ) (e : Error) → k.refuses f m e ↔ l.refuses f m e
+  pub rejects : (f m : List ℕ) (e : Error) → k.rejects f m e ↔ l.rejects f m e
 
 pub same_layout : {A : Type 0} (l : Layout A) → SameLayout l l
 same_layout l = record {
@@ -28,5 +28,5 @@ same_layout l = record {
   after = λ o v. refl;
   laid = λ o v. (λ x. x, λ x. x);
   readable = λ v. (λ x. x, λ x. x);
-  refuses = λ f m e. (λ x. x, λ x. x);
+  rejects = λ f m e. (λ x. x, λ x. x);
 }

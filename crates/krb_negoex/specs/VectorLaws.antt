@@ -5,7 +5,7 @@ use Rattle.std.specs.declared.io.Error.{Error}
 use Rattle.byteorder.specs.Endian.{little_number, little_bytes}
 use Rattle.byteorder.specs.Numbers.{little_number-reads_back, little_from-take}
 use Rattle.krb_negoex.specs.Parts.{Elements, VectorPart, SameAll, AllOf, total, fixeds, AllLaid, vector_fixed, vector_payload, VectorLaid}
-use Rattle.krb_negoex.specs.Refused.{IsMemory, IsCut, IsOutside, OneFault, ElementRefused, VectorRefused}
+use Rattle.krb_negoex.specs.Rejected.{IsMemory, IsCut, IsOutside, OneError, ElementRejected, VectorRejected}
 
 in_order : (j k : ℕ) → (j < k) ⊎ ((k < j) ⊎ (j ≡ k))
 in_order zero zero = inr (inr refl)
@@ -21,15 +21,15 @@ drop-take_4 : (f : List ℕ) → little_number 4 (drop 4 (take 8 f)) ≡ little_
 drop-take_4 f = ap (little_number 4) (drop-take 4 4 f) ∙ number-take 4 4 (drop 4 f) (omega arith)
 
 module _ {A : Type 0} (part : List ℕ → List ℕ → A → Type 0) (width : ℕ) where
-  pub vector_front : (f m : List ℕ) (vs : List A) → VectorPart part width (take 8 f) m vs → VectorPart part width f m vs
-  vector_front f m vs x =
+  pub vector_prefix : (f m : List ℕ) (vs : List A) → VectorPart part width (take 8 f) m vs → VectorPart part width f m vs
+  vector_prefix f m vs x =
       let room = x.room in
       let long = length-take 8 f in
       let o : little_number 4 (take 8 f) ≡ little_number 4 f = number-take 4 8 f (omega arith) in
       record { room = omega arith; count = sym (drop-take_4 f) ∙ x.count; inside = subst (λ (k : ℕ). k ≤ length m) o x.inside; elements = subst (λ (k : ℕ). Elements part width m k vs) o x.elements }
 
-  pub vector_behind : (f m : List ℕ) (vs : List A) → VectorPart part width f m vs → VectorPart part width (take 8 f) m vs
-  vector_behind f m vs x =
+  pub vector_trailing : (f m : List ℕ) (vs : List A) → VectorPart part width f m vs → VectorPart part width (take 8 f) m vs
+  vector_trailing f m vs x =
       let room = x.room in
       let long = length-take 8 f in
       let o : little_number 4 f ≡ little_number 4 (take 8 f) = sym (number-take 4 8 f (omega arith)) in
@@ -57,31 +57,31 @@ module _ {A : Type 0} (part : List ℕ → List ℕ → A → Type 0) (width : �
       let e : k + width + width * i ≡ k + width * suc i = omega arith in
       (r.0, subst (λ (j : ℕ). part (drop j m) m r.0) e r.1)
 
-  module _ (refuses : List ℕ → List ℕ → Error → Type 0) (no : (f m : List ℕ) (e : Error) (v : A) → refuses f m e → part f m v → IsMemory e) where
-    pub no_vector : (f m : List ℕ) (e : Error) (vs : List A) → VectorRefused part refuses width f m e → VectorPart part width f m vs → IsMemory e
+  module _ (rejects : List ℕ → List ℕ → Error → Type 0) (no : (f m : List ℕ) (e : Error) (v : A) → rejects f m e → part f m v → IsMemory e) where
+    pub no_vector : (f m : List ℕ) (e : Error) (vs : List A) → VectorRejected part rejects width f m e → VectorPart part width f m vs → IsMemory e
     no_vector f m e vs r x = let room = x.room in let inside = x.inside in let count = x.count in ⊎_elim (λ h. h) (⊎_elim (λ h. absurd (omega (arith, h.1))) (⊎_elim (λ h. absurd (omega (arith, h.2)))
         (λ h. let one = nth m (little_number 4 f) (length h.before) vs x.elements (omega (arith, h.more)) in
-        no (drop (little_number 4 f + width * length h.before) m) m e one.0 h.fault one.1))) r
+        no (drop (little_number 4 f + width * length h.before) m) m e one.0 h.error one.1))) r
 
-    module _ (one_fault : (f m : List ℕ) (e g : Error) → refuses f m e → refuses f m g → OneFault e g) where
-      one_element_fault : (f m : List ℕ) (e g : Error) → ElementRefused part refuses width f m e → ElementRefused part refuses width f m g → OneFault e g
-      one_element_fault f m e g x y =
+    module _ (one_error : (f m : List ℕ) (e g : Error) → rejects f m e → rejects f m g → OneError e g) where
+      one_element_error : (f m : List ℕ) (e g : Error) → ElementRejected part rejects width f m e → ElementRejected part rejects width f m g → OneError e g
+      one_element_error f m e g x y =
           ⊎_elim (λ h. let v = nth m (little_number 4 f) (length x.before) y.before y.elements h in
-          inl (no (drop (little_number 4 f + width * length x.before) m) m e v.0 x.fault v.1))
+          inl (no (drop (little_number 4 f + width * length x.before) m) m e v.0 x.error v.1))
           (⊎_elim (λ h. let v = nth m (little_number 4 f) (length y.before) x.before x.elements h in
-          inr (inl (no (drop (little_number 4 f + width * length y.before) m) m g v.0 y.fault v.1)))
-          (λ h. one_fault (drop (little_number 4 f + width * length x.before) m) m e g x.fault
-          (subst (λ (k : ℕ). refuses (drop (little_number 4 f + width * k) m) m g) (sym h) y.fault))) (in_order (length x.before) (length y.before))
+          inr (inl (no (drop (little_number 4 f + width * length y.before) m) m g v.0 y.error v.1)))
+          (λ h. one_error (drop (little_number 4 f + width * length x.before) m) m e g x.error
+          (subst (λ (k : ℕ). rejects (drop (little_number 4 f + width * k) m) m g) (sym h) y.error))) (in_order (length x.before) (length y.before))
 
-      one_read_fault : (f m : List ℕ) (e g : Error) → IsCut 8 f e ⊎ (IsOutside f m e ⊎ ElementRefused part refuses width f m e)
-          → IsCut 8 f g ⊎ (IsOutside f m g ⊎ ElementRefused part refuses width f m g) → OneFault e g
-      one_read_fault f m e g x y = ⊎_elim
+      one_read_error : (f m : List ℕ) (e g : Error) → IsCut 8 f e ⊎ (IsOutside f m e ⊎ ElementRejected part rejects width f m e)
+          → IsCut 8 f g ⊎ (IsOutside f m g ⊎ ElementRejected part rejects width f m g) → OneError e g
+      one_read_error f m e g x y = ⊎_elim
           (λ h. ⊎_elim (λ k. inr (inr (h.0 ∙ sym k.0))) (⊎_elim (λ k. absurd (omega (arith, h.1, k.1))) (λ k. let room = k.room in absurd (omega (arith, h.1)))) y)
           (⊎_elim (λ h. ⊎_elim (λ k. absurd (omega (arith, h.1, k.1))) (⊎_elim (λ k. inr (inr (h.0 ∙ sym k.0))) (λ k. let inside = k.inside in absurd (omega (arith, h.2)))) y)
-          (λ h. ⊎_elim (λ k. let room = h.room in absurd (omega (arith, k.1))) (⊎_elim (λ k. let inside = h.inside in absurd (omega (arith, k.2))) (λ k. one_element_fault f m e g h k)) y)) x
+          (λ h. ⊎_elim (λ k. let room = h.room in absurd (omega (arith, k.1))) (⊎_elim (λ k. let inside = h.inside in absurd (omega (arith, k.2))) (λ k. one_element_error f m e g h k)) y)) x
 
-      pub one_vector_fault : (f m : List ℕ) (e g : Error) → VectorRefused part refuses width f m e → VectorRefused part refuses width f m g → OneFault e g
-      one_vector_fault f m e g x y = ⊎_elim (λ h. inl h) (λ h. ⊎_elim (λ k. inr (inl k)) (λ k. one_read_fault f m e g h k) y) x
+      pub one_vector_error : (f m : List ℕ) (e g : Error) → VectorRejected part rejects width f m e → VectorRejected part rejects width f m g → OneError e g
+      one_vector_error f m e g x y = ⊎_elim (λ h. inl h) (λ h. ⊎_elim (λ k. inr (inl k)) (λ k. one_read_error f m e g h k) y) x
 
   module _ (fixed payload : ℕ → A → List ℕ) (size : A → ℕ) (laid : ℕ → A → Type 0) (readable : A → Type 0)
       (fixed_length : (o : ℕ) (v : A) → length (fixed o v) ≡ width)
@@ -143,7 +143,7 @@ module _ {A : Type 0} (part : List ℕ → List ℕ → A → Type 0) (width : �
           let at_n : little_number 4 (drop 4 ((little_bytes 4 o ++ little_bytes 4 n) ++ f)) ≡ n = little_number-reads_back 4 n f l.1 in
           let whole : drop o m ≡ fs ++ (ps ++ g) = e ∙ append_assoc fs ps g in
           let width_all : length fs ≡ width * length (v ∷ vs) = length-fixeds (o + width * length (v ∷ vs)) (v ∷ vs) in
-          let behind : drop (o + width * length (v ∷ vs)) m ≡ ps ++ g =
+          let trailing : drop (o + width * length (v ∷ vs)) m ≡ ps ++ g =
           sym (drop-drop (width * length (v ∷ vs)) o m) ∙ ap (drop (width * length (v ∷ vs))) whole ∙ drop_at fs (ps ++ g) (width * length (v ∷ vs)) width_all in
           let long : length m - o ≡ length fs + length (ps ++ g) = sym (length-drop o m) ∙ ap length whole ∙ length-append fs (ps ++ g) in
           let room : o + width * length (v ∷ vs) ≤ length m = omega arith in
@@ -152,7 +152,7 @@ module _ {A : Type 0} (part : List ℕ → List ℕ → A → Type 0) (width : �
             count = at_n;
             inside = subst (λ (k : ℕ). k ≤ length m) (sym at_o) h;
             elements = subst (λ (k : ℕ). Elements part width m k (v ∷ vs)) (sym at_o)
-                (elements_back m o (o + width * length (v ∷ vs)) (v ∷ vs) (ps ++ g) g r l.2 room whole behind);
+                (elements_back m o (o + width * length (v ∷ vs)) (v ∷ vs) (ps ++ g) g r l.2 room whole trailing);
           }
 
 pub vector_fixed_length : {A : Type 0} (o : ℕ) (vs : List A) → length (vector_fixed o vs) ≡ 8

@@ -7,11 +7,11 @@ use Rattle.krb_negoex.specs.declared.header.MessageHeader.{MessageHeader}
 
 -- the header of a new message (MS-NEGOEX 2.2.6.2)
 abbrev pub new_header : MessageType → List ℕ → ℕ → ℕ → ℕ → MessageHeader
-new_header kind id number front size = record {
+new_header kind id number prefix size = record {
   signature = 0x535458454f47454e;
   message_type = kind;
   sequence_num = number;
-  header_len = front;
+  header_len = prefix;
   message_len = size;
   conversation_id = id;
 }

@@ -2,12 +2,12 @@
 
 ghost use Rattle.std.specs.Prelude.{◌≡◌, ◌+◌, ◌≤◌, ◌<◌, length, IfOk, IfErr};
 ghost use Rattle.krb_negoex.specs.Copies.{checksum_parts};
-ghost use Rattle.krb_negoex.specs.Refused.{IsMemory};
+ghost use Rattle.krb_negoex.specs.Rejected.{IsMemory};
 ghost use Rattle.std.specs.declared.io.ErrorKind.TheVariants.{InvalidInput};
 ghost use Rattle.krb_negoex.specs.Layouts.{seen};
 ghost use Rattle.krb_negoex.specs.Wire.{scheme_layout, checksum_layout};
 
-use crate::numbers::{invalid_input, put_u32, u32_front};
+use crate::numbers::{invalid_input, put_u32, u32_prefix};
 use crate::parts::{Both, Lay, Part, Placed};
 use crate::traits::NegoexDataType;
 use std::alloc::Global;
@@ -41,11 +41,11 @@ impl Part for Scheme {
         octets: &'a [u8],
         _message: &[u8],
     ) -> io::Result<(Scheme, &'a [u8])> {
-        let (scheme, behind) = u32_front(octets)?;
+        let (scheme, trailing) = u32_prefix(octets)?;
         if scheme != CHECKSUM_SCHEME_RFC3961 {
             return Err(invalid_input());
         }
-        Ok((Scheme(scheme), behind))
+        Ok((Scheme(scheme), trailing))
     }
 }
 
@@ -91,7 +91,7 @@ impl Part for Checksum {
         octets: &'a [u8],
         message: &[u8],
     ) -> io::Result<(Checksum, &'a [u8])> {
-        let (fields, behind) = ChecksumFields::read_part(alloc, octets, message)?;
+        let (fields, trailing) = ChecksumFields::read_part(alloc, octets, message)?;
         let Both(header_len, Both(Scheme(checksum_scheme), value)) = fields;
         let Both(checksum_type, checksum_value) = value;
         let checksum = Checksum {
@@ -100,7 +100,7 @@ impl Part for Checksum {
             checksum_type,
             checksum_value,
         };
-        Ok((checksum, behind))
+        Ok((checksum, trailing))
     }
 }
 

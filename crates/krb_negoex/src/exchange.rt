@@ -4,7 +4,7 @@ ghost use Rattle.std.specs.Prelude.{◌≡◌, ◌+◌, ◌≤◌, ◌<◌, ◌^
 ghost use Rattle.std.specs.IoError.{error_kind};
 ghost use Rattle.krb_negoex.specs.Copies.{exchange_parts};
 ghost use Rattle.krb_io.specs.Transfer.{IsNotInterrupted};
-ghost use Rattle.krb_negoex.specs.Refused.{IsMemory, IsUnfit};
+ghost use Rattle.krb_negoex.specs.Rejected.{IsMemory, IsUnfit};
 ghost use Rattle.krb_negoex.specs.Wire.{exchange_layout};
 ghost use Rattle.krb_negoex.specs.Whole.{new_header, written, HasOneReading};
 
@@ -54,7 +54,7 @@ impl Part for Exchange {
         octets: &'a [u8],
         message: &[u8],
     ) -> io::Result<(Exchange, &'a [u8])> {
-        let (Both(header, Both(auth_scheme, exchange)), behind) = Both::<
+        let (Both(header, Both(auth_scheme, exchange)), trailing) = Both::<
             MessageHeader,
             Both<Uuid, Vec<u8>>,
         >::read_part(alloc, octets, message)?;
@@ -63,7 +63,7 @@ impl Part for Exchange {
             auth_scheme,
             exchange,
         };
-        Ok((read, behind))
+        Ok((read, trailing))
     }
 }
 
@@ -74,13 +74,13 @@ impl NegoexMessage for Exchange {
 
     ghost start = { λ n. n.header.header_len };
 
-    ghost refused = { λ m e. exchange_layout.refuses m m e };
+    ghost rejected = { λ m e. exchange_layout.rejects m m e };
 
     ghost is_memory = { IsMemory };
 
     ghost is_unfit = { IsUnfit };
 
-    ghost is_fault = { IsNotInterrupted };
+    ghost is_error = { IsNotInterrupted };
 
     fn decode(alloc: Global, message: &[u8]) -> io::Result<Exchange> {
         decode_whole(alloc, message)

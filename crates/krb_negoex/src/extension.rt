@@ -2,7 +2,7 @@
 
 ghost use Rattle.std.specs.Prelude.{◌≡◌, ◌+◌, ◌≤◌, ◌<◌, length, map, IfOk, IfErr};
 ghost use Rattle.krb_negoex.specs.Copies.{extension_parts};
-ghost use Rattle.krb_negoex.specs.Refused.{IsMemory};
+ghost use Rattle.krb_negoex.specs.Rejected.{IsMemory};
 ghost use Rattle.krb_negoex.specs.Wire.{extension_layout};
 
 use crate::parts::{Both, Lay, Part, Placed};
@@ -47,14 +47,14 @@ impl Part for Extension {
         octets: &'a [u8],
         message: &[u8],
     ) -> io::Result<(Extension, &'a [u8])> {
-        let (Both(extension_type, extension_value), behind) = Both::<u32, Vec<u8>>::read_part(
+        let (Both(extension_type, extension_value), trailing) = Both::<u32, Vec<u8>>::read_part(
             alloc, octets, message,
         )?;
         let extension = Extension {
             extension_type,
             extension_value,
         };
-        Ok((extension, behind))
+        Ok((extension, trailing))
     }
 }
 

@@ -2,7 +2,7 @@
 
 ghost use Rattle.std.specs.Prelude.{◌≡◌, ◌<◌, ◌≤◌, [], length, refl};
 ghost use Rattle.uuid.specs.Parts.{swap_fields};
-ghost use Rattle.krb_negoex.specs.Refused.{IsCut};
+ghost use Rattle.krb_negoex.specs.Rejected.{IsCut};
 ghost use Rattle.krb_negoex.specs.GuidLayout.{guid};
 
 use crate::numbers::cut_short;
@@ -48,9 +48,9 @@ impl Part for Uuid {
             return Err(cut_short());
         }
         let mut id = [0u8; 16];
-        let (front, behind) = octets.split_at(16);
-        id.copy_from_slice(front);
-        Ok((Uuid::from_bytes_le(id), behind))
+        let (prefix, trailing) = octets.split_at(16);
+        id.copy_from_slice(prefix);
+        Ok((Uuid::from_bytes_le(id), trailing))
     }
 }
 

@@ -8,7 +8,7 @@ ghost use Rattle.krb_negoex.specs.Kinds.{IsCode};
 ghost use Rattle.krb_negoex.specs.Types.{type_code};
 ghost use Rattle.krb_negoex.specs.Wire.{type_layout, signature_layout, header_layout};
 
-use crate::numbers::{invalid_data, put_u32, put_u64, u32_front, u64_front};
+use crate::numbers::{invalid_data, put_u32, put_u64, u32_prefix, u64_prefix};
 use crate::parts::{Both, Lay, Part, Placed};
 use crate::traits::NegoexDataType;
 use std::alloc::Global;
@@ -97,8 +97,8 @@ impl Part for MessageType {
         octets: &'a [u8],
         _message: &[u8],
     ) -> io::Result<(MessageType, &'a [u8])> {
-        let (number, behind) = u32_front(octets)?;
-        Ok((MessageType::try_from(number)?, behind))
+        let (number, trailing) = u32_prefix(octets)?;
+        Ok((MessageType::try_from(number)?, trailing))
     }
 }
 
@@ -150,11 +150,11 @@ impl Part for Signature {
         octets: &'a [u8],
         _message: &[u8],
     ) -> io::Result<(Signature, &'a [u8])> {
-        let (signature, behind) = u64_front(octets)?;
+        let (signature, trailing) = u64_prefix(octets)?;
         if signature != NEGOEXTS_MESSAGE_SIGNATURE {
             return Err(invalid_data());
         }
-        Ok((Signature(signature), behind))
+        Ok((Signature(signature), trailing))
     }
 }
 
@@ -209,9 +209,9 @@ impl Part for MessageHeader {
         octets: &'a [u8],
         message: &[u8],
     ) -> io::Result<(MessageHeader, &'a [u8])> {
-        let (fields, behind) = match HeaderFields::read_part(alloc, octets, message) {
+        let (fields, trailing) = match HeaderFields::read_part(alloc, octets, message) {
             Ok(read) => read,
-            Err(fault) => return Err(fault),
+            Err(error) => return Err(error),
         };
         let Both(signature, Both(message_type, Both(sequence_num, lengths))) = fields;
         let Both(header_len, Both(message_len, conversation_id)) = lengths;
@@ -223,7 +223,7 @@ impl Part for MessageHeader {
             message_len,
             conversation_id,
         };
-        Ok((header, behind))
+        Ok((header, trailing))
     }
 }
 

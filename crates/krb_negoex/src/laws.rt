@@ -6,10 +6,10 @@ ghost use Rattle.std.specs.declared.alloc.Global.{Global};
 ghost use Rattle.std.specs.declared.io.Error.{Error};
 ghost use Rattle.krb_negoex.specs.Copies.{checksum_parts, exchange_parts, extension_parts, nego_parts, verify_parts};
 ghost use Rattle.krb_io.specs.Transfer.{IsNotInterrupted};
-ghost use Rattle.krb_negoex.specs.Equality.{ClonesValue, TellsEqual, TellsEqualBy};
+ghost use Rattle.krb_negoex.specs.Equality.{ClonesValue, DecidesEqual, DecidesEqualBy};
 ghost use Rattle.krb_negoex.specs.GuidLayout.{guid};
 ghost use Rattle.krb_negoex.specs.Layouts.{seen, vector};
-ghost use Rattle.krb_negoex.specs.Refused.{OneFault, IsMemory, IsUnfit};
+ghost use Rattle.krb_negoex.specs.Rejected.{OneError, IsMemory, IsUnfit};
 ghost use Rattle.krb_negoex.specs.SameLayout.{SameLayout};
 ghost use Rattle.krb_negoex.specs.Types.{type_code, IsTypeOf};
 ghost use Rattle.krb_negoex.specs.Wire.{nego_layout, exchange_layout, verify_layout, schemes_layout, extensions_layout, one_octet, type_layout, header_layout, extension_layout, checksum_layout};
@@ -45,10 +45,10 @@ pub fn lengths()
 {}
 
 /// Octets that are no message have one error: all errors of them are of one kind, allocation failures aside.
-pub fn refusals_are_of_one_kind()
-    ensures nego { (m : List ℕ) (e g : Error) → nego_layout.refuses m m e → nego_layout.refuses m m g → OneFault e g }
-    ensures exchange { (m : List ℕ) (e g : Error) → exchange_layout.refuses m m e → exchange_layout.refuses m m g → OneFault e g }
-    ensures verify { (m : List ℕ) (e g : Error) → verify_layout.refuses m m e → verify_layout.refuses m m g → OneFault e g }
+pub fn rejections_are_of_one_kind()
+    ensures nego { (m : List ℕ) (e g : Error) → nego_layout.rejects m m e → nego_layout.rejects m m g → OneError e g }
+    ensures exchange { (m : List ℕ) (e g : Error) → exchange_layout.rejects m m e → exchange_layout.rejects m m g → OneError e g }
+    ensures verify { (m : List ℕ) (e g : Error) → verify_layout.rejects m m e → verify_layout.rejects m m g → OneError e g }
 {}
 
 /// What `decode` and `encode` of a message speak of: its own layout (MS-NEGOEX 2.2.6.3 to 2.2.6.5), a payload at its header's
@@ -67,19 +67,19 @@ pub fn messages()
 
 /// What their errors are: the layout's first error, an allocation failure, a number that does not fit its field, and a writer's
 /// error that is not a call which a signal interrupted.
-pub fn refusals()
-    ensures nego { (m : List ℕ) (e : Error) → ⟦<Nego as NegoexMessage>⟧.refused m e ↔ nego_layout.refuses m m e }
+pub fn rejections()
+    ensures nego { (m : List ℕ) (e : Error) → ⟦<Nego as NegoexMessage>⟧.rejected m e ↔ nego_layout.rejects m m e }
     ensures nego_memory { (e : Error) → ⟦<Nego as NegoexMessage>⟧.is_memory e ↔ IsMemory e }
     ensures nego_unfit { (e : Error) → ⟦<Nego as NegoexMessage>⟧.is_unfit e ↔ IsUnfit e }
-    ensures nego_fault { (e : Error) → ⟦<Nego as NegoexMessage>⟧.is_fault e ↔ IsNotInterrupted e }
-    ensures exchange { (m : List ℕ) (e : Error) → ⟦<Exchange as NegoexMessage>⟧.refused m e ↔ exchange_layout.refuses m m e }
+    ensures nego_error { (e : Error) → ⟦<Nego as NegoexMessage>⟧.is_error e ↔ IsNotInterrupted e }
+    ensures exchange { (m : List ℕ) (e : Error) → ⟦<Exchange as NegoexMessage>⟧.rejected m e ↔ exchange_layout.rejects m m e }
     ensures exchange_memory { (e : Error) → ⟦<Exchange as NegoexMessage>⟧.is_memory e ↔ IsMemory e }
     ensures exchange_unfit { (e : Error) → ⟦<Exchange as NegoexMessage>⟧.is_unfit e ↔ IsUnfit e }
-    ensures exchange_fault { (e : Error) → ⟦<Exchange as NegoexMessage>⟧.is_fault e ↔ IsNotInterrupted e }
-    ensures verify { (m : List ℕ) (e : Error) → ⟦<Verify as NegoexMessage>⟧.refused m e ↔ verify_layout.refuses m m e }
+    ensures exchange_error { (e : Error) → ⟦<Exchange as NegoexMessage>⟧.is_error e ↔ IsNotInterrupted e }
+    ensures verify { (m : List ℕ) (e : Error) → ⟦<Verify as NegoexMessage>⟧.rejected m e ↔ verify_layout.rejects m m e }
     ensures verify_memory { (e : Error) → ⟦<Verify as NegoexMessage>⟧.is_memory e ↔ IsMemory e }
     ensures verify_unfit { (e : Error) → ⟦<Verify as NegoexMessage>⟧.is_unfit e ↔ IsUnfit e }
-    ensures verify_fault { (e : Error) → ⟦<Verify as NegoexMessage>⟧.is_fault e ↔ IsNotInterrupted e }
+    ensures verify_error { (e : Error) → ⟦<Verify as NegoexMessage>⟧.is_error e ↔ IsNotInterrupted e }
 {}
 
 /// What the calls of a type of data speak of: its own layout (MS-NEGOEX 2.2.5 and 2.2.6), and, where it is written by itself, a
@@ -114,13 +114,13 @@ pub fn numbers()
 
 /// `==`: it is true for equal values and for no others; where a value holds vectors, for values of equal fields and elements.
 pub fn equality()
-    ensures message_type { TellsEqual ⟦<MessageType as PartialEq>⟧.eq }
-    ensures header { TellsEqual ⟦<MessageHeader as PartialEq>⟧.eq }
-    ensures extension { TellsEqualBy extension_parts ⟦<Extension as PartialEq>⟧.eq }
-    ensures checksum { TellsEqualBy checksum_parts ⟦<Checksum as PartialEq>⟧.eq }
-    ensures nego { TellsEqualBy nego_parts ⟦<Nego as PartialEq>⟧.eq }
-    ensures exchange { TellsEqualBy exchange_parts ⟦<Exchange as PartialEq>⟧.eq }
-    ensures verify { TellsEqualBy verify_parts ⟦<Verify as PartialEq>⟧.eq }
+    ensures message_type { DecidesEqual ⟦<MessageType as PartialEq>⟧.eq }
+    ensures header { DecidesEqual ⟦<MessageHeader as PartialEq>⟧.eq }
+    ensures extension { DecidesEqualBy extension_parts ⟦<Extension as PartialEq>⟧.eq }
+    ensures checksum { DecidesEqualBy checksum_parts ⟦<Checksum as PartialEq>⟧.eq }
+    ensures nego { DecidesEqualBy nego_parts ⟦<Nego as PartialEq>⟧.eq }
+    ensures exchange { DecidesEqualBy exchange_parts ⟦<Exchange as PartialEq>⟧.eq }
+    ensures verify { DecidesEqualBy verify_parts ⟦<Verify as PartialEq>⟧.eq }
 {}
 
 /// A clone is the value again.

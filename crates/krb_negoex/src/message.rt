@@ -4,8 +4,8 @@ ghost use Rattle.std.specs.Prelude.{◌≡◌, ℕ, ◌+◌, ◌≤◌, ◌<◌,
 ghost use Rattle.std.specs.Io.KnownBytes.{Appends, Keeps};
 ghost use Rattle.std.specs.IoError.{error_kind};
 ghost use Rattle.krb_io.specs.Transfer.{IsPrefixWritten};
-ghost use Rattle.krb_negoex.specs.Devices.{EncodeRefused};
-ghost use Rattle.krb_negoex.specs.Refused.{IsMemory, IsUnfit};
+ghost use Rattle.krb_negoex.specs.Devices.{EncodeRejected};
+ghost use Rattle.krb_negoex.specs.Rejected.{IsMemory, IsUnfit};
 ghost use Rattle.krb_negoex.specs.Whole.{written, new_header};
 ghost use Rattle.krb_negoex.specs.Wire.{header_layout};
 
@@ -31,7 +31,7 @@ pub trait NegoexMessage: Part {
     ghost start: { Self → ℕ };
 
     /// The first error of octets that are no such message.
-    ghost refused: { List ℕ → Self.Error → Type 0 };
+    ghost rejected: { List ℕ → Self.Error → Type 0 };
 
     /// An allocation failed.
     ghost is_memory: { Self.Error → Type 0 };
@@ -40,7 +40,7 @@ pub trait NegoexMessage: Part {
     ghost is_unfit: { Self.Error → Type 0 };
 
     /// What an I/O error of the writer becomes.
-    ghost is_fault: { Self.Error → Type 0 };
+    ghost is_error: { Self.Error → Type 0 };
 
     /// The message that the octets begin with, what its vectors point to among them. The lengths in the header are not compared
     /// with the octets.
@@ -51,7 +51,7 @@ pub trait NegoexMessage: Part {
     /// an element does; `OutOfMemory` where an allocation failed.
     fn decode(alloc: Global, message: &[u8]) -> Result<Self, Self::Error>
         ensures found { IfOk result (Self.layout.part message.now message.now) }
-        ensures refused { IfErr result (refused message.now) }
+        ensures rejected { IfErr result (rejected message.now) }
         ensures only { (v : Self) → Self.layout.part message.now message.now v → MatchResult result (λ w. Self.layout.same w v) is_memory };
 
     /// Writes the message. Its vectors say that the payload stands at `header_len`, whatever that is, and it is written after
@@ -65,16 +65,16 @@ pub trait NegoexMessage: Part {
         ensures ok { OnOk result (Appends (W.contents to.old) (W.contents to.new) (written Self.layout (start self.now) between self.now)) }
         ensures unlaid { (Self.layout.laid (start self.now) self.now → ⊥) → MatchResult result (λ _. ⊥) (λ e. is_memory e ⊎ is_unfit e)
             × Keeps (W.contents to.old) (W.contents to.new) }
-        ensures refused { IfErr result (λ e. ((is_memory e ⊎ (is_unfit e × (Self.layout.laid (start self.now) self.now → ⊥)))
+        ensures rejected { IfErr result (λ e. ((is_memory e ⊎ (is_unfit e × (Self.layout.laid (start self.now) self.now → ⊥)))
             × Keeps (W.contents to.old) (W.contents to.new))
-            ⊎ (Self.layout.laid (start self.now) self.now × is_fault e
+            ⊎ (Self.layout.laid (start self.now) self.now × is_error e
             × IsPrefixWritten (written Self.layout (start self.now) between self.now) (W.contents to.old) (W.contents to.new))) };
 }
 
 /// The value that the octets of a message begin with.
 pub(crate) fn decode_whole<M: Part>(alloc: Global, message: &[u8]) -> io::Result<M>
     ensures found { IfOk result (M.layout.part message.now message.now) }
-    ensures refused { IfErr result (M.layout.refuses message.now message.now) }
+    ensures rejected { IfErr result (M.layout.rejects message.now message.now) }
     ensures only { (v : M) → M.layout.part message.now message.now v → MatchResult result (λ w. M.layout.same w v) IsMemory }
 {
     let (value, _) = M::read_part(alloc, message, message)?;
@@ -93,7 +93,7 @@ pub(crate) fn encode_whole<M: Lay, W: Write>(
     ensures ok { OnOk result (Appends (W.contents to.old) (W.contents to.new) (written M.layout start between.now value.now)) }
     ensures unlaid { (M.layout.laid start value.now → ⊥) → MatchResult result (λ _. ⊥) (λ e. IsMemory e ⊎ IsUnfit e)
         × Keeps (W.contents to.old) (W.contents to.new) }
-    ensures refused { IfErr result (EncodeRefused (M.layout.laid start value.now) (written M.layout start between.now value.now)
+    ensures rejected { IfErr result (EncodeRejected (M.layout.laid start value.now) (written M.layout start between.now value.now)
         (W.contents to.old) (W.contents to.new)) }
 {
     let mut octets = Vec::new(alloc);

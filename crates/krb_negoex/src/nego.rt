@@ -4,7 +4,7 @@ ghost use Rattle.std.specs.Prelude.{◌≡◌, ◌+◌, ◌≤◌, ◌<◌, ◌^
 ghost use Rattle.std.specs.IoError.{error_kind};
 ghost use Rattle.krb_negoex.specs.Copies.{nego_parts};
 ghost use Rattle.krb_io.specs.Transfer.{IsNotInterrupted};
-ghost use Rattle.krb_negoex.specs.Refused.{IsMemory, IsUnfit};
+ghost use Rattle.krb_negoex.specs.Rejected.{IsMemory, IsUnfit};
 ghost use Rattle.krb_negoex.specs.Wire.{nego_layout, schemes_layout, extensions_layout};
 ghost use Rattle.krb_negoex.specs.Whole.{new_header, written, HasOneReading};
 
@@ -73,9 +73,9 @@ impl Part for Nego {
         octets: &'a [u8],
         message: &[u8],
     ) -> io::Result<(Nego, &'a [u8])> {
-        let (fields, behind) = match NegoFields::read_part(alloc, octets, message) {
+        let (fields, trailing) = match NegoFields::read_part(alloc, octets, message) {
             Ok(read) => read,
-            Err(fault) => return Err(fault),
+            Err(error) => return Err(error),
         };
         let Both(header, Both(random, Both(protocol_version, vectors))) = fields;
         let Both(auth_schemes, extensions) = vectors;
@@ -86,7 +86,7 @@ impl Part for Nego {
             auth_schemes,
             extensions,
         };
-        Ok((nego, behind))
+        Ok((nego, trailing))
     }
 }
 
@@ -97,13 +97,13 @@ impl NegoexMessage for Nego {
 
     ghost start = { λ n. n.header.header_len };
 
-    ghost refused = { λ m e. nego_layout.refuses m m e };
+    ghost rejected = { λ m e. nego_layout.rejects m m e };
 
     ghost is_memory = { IsMemory };
 
     ghost is_unfit = { IsUnfit };
 
-    ghost is_fault = { IsNotInterrupted };
+    ghost is_error = { IsNotInterrupted };
 
     fn decode(alloc: Global, message: &[u8]) -> io::Result<Nego> {
         decode_whole(alloc, message)

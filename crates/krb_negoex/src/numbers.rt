@@ -2,7 +2,7 @@
 
 ghost use Rattle.std.specs.Prelude.{◌≡◌, ◌+◌, ◌≤◌, ◌<◌, length, drop, ◌++◌, IfOk, IfErr, OnOk, OnErr};
 ghost use Rattle.std.specs.IoError.{error_kind};
-ghost use Rattle.krb_negoex.specs.Refused.{IsCut};
+ghost use Rattle.krb_negoex.specs.Rejected.{IsCut};
 ghost use Rattle.krb_negoex.specs.Wire.{one_octet, four_octets, eight_octets, random_layout};
 ghost use Rattle.byteorder.specs.Endian.{little_number, little_bytes};
 
@@ -77,29 +77,29 @@ pub(crate) fn put_u64(out: &mut Vec<u8>, number: u64) -> Result<(), AllocError>
 }
 
 /// The number in the first four octets, and the octets after it.
-pub(crate) fn u32_front(octets: &[u8]) -> io::Result<(u32, &[u8])>
+pub(crate) fn u32_prefix(octets: &[u8]) -> io::Result<(u32, &[u8])>
     ensures number { IfOk result (λ p. (4 ≤ length octets.now) × (little_number 4 octets.now ≡ p.0)) }
-    ensures behind { IfOk result (λ p. p.1.now ≡ drop 4 octets.now) }
+    ensures trailing { IfOk result (λ p. p.1.now ≡ drop 4 octets.now) }
     ensures err { IfErr result (λ e. IsCut 4 octets.now e) }
 {
     if octets.len() < 4 {
         return Err(cut_short());
     }
-    let (_, behind) = octets.split_at(4);
-    Ok((LittleEndian::read_u32(octets), behind))
+    let (_, trailing) = octets.split_at(4);
+    Ok((LittleEndian::read_u32(octets), trailing))
 }
 
 /// The number in the first eight octets, and the octets after it.
-pub(crate) fn u64_front(octets: &[u8]) -> io::Result<(u64, &[u8])>
+pub(crate) fn u64_prefix(octets: &[u8]) -> io::Result<(u64, &[u8])>
     ensures number { IfOk result (λ p. (8 ≤ length octets.now) × (little_number 8 octets.now ≡ p.0)) }
-    ensures behind { IfOk result (λ p. p.1.now ≡ drop 8 octets.now) }
+    ensures trailing { IfOk result (λ p. p.1.now ≡ drop 8 octets.now) }
     ensures err { IfErr result (λ e. IsCut 8 octets.now e) }
 {
     if octets.len() < 8 {
         return Err(cut_short());
     }
-    let (_, behind) = octets.split_at(8);
-    Ok((LittleEndian::read_u64(octets), behind))
+    let (_, trailing) = octets.split_at(8);
+    Ok((LittleEndian::read_u64(octets), trailing))
 }
 
 impl Lay for u8 {
@@ -126,8 +126,8 @@ impl Part for u8 {
         if octets.is_empty() {
             return Err(cut_short());
         }
-        let (_, behind) = octets.split_at(1);
-        Ok((octets[0], behind))
+        let (_, trailing) = octets.split_at(1);
+        Ok((octets[0], trailing))
     }
 }
 
@@ -152,7 +152,7 @@ impl Part for u32 {
         octets: &'a [u8],
         _message: &[u8],
     ) -> io::Result<(u32, &'a [u8])> {
-        u32_front(octets)
+        u32_prefix(octets)
     }
 }
 
@@ -177,7 +177,7 @@ impl Part for u64 {
         octets: &'a [u8],
         _message: &[u8],
     ) -> io::Result<(u64, &'a [u8])> {
-        u64_front(octets)
+        u64_prefix(octets)
     }
 }
 
@@ -206,8 +206,8 @@ impl Part for [u8; 32] {
             return Err(cut_short());
         }
         let mut random = [0u8; 32];
-        let (front, behind) = octets.split_at(32);
-        random.copy_from_slice(front);
-        Ok((random, behind))
+        let (prefix, trailing) = octets.split_at(32);
+        random.copy_from_slice(prefix);
+        Ok((random, trailing))
     }
 }

@@ -7,7 +7,7 @@
 
 ghost use Rattle.std.specs.Prelude.{◌≡◌, ℕ, ◌++◌, ◌<◌, ◌≤◌, length, drop, IfOk, IfErr, OnOk, OnErr};
 ghost use Rattle.krb_negoex.specs.Layouts.{Layout, seen, followed};
-ghost use Rattle.krb_negoex.specs.Refused.{LayRefused};
+ghost use Rattle.krb_negoex.specs.Rejected.{LayRejected};
 
 use std::alloc::Global;
 use std::io;
@@ -33,7 +33,7 @@ pub trait Lay {
         ensures end { IfOk result (λ n. n ≡ layout.after offset self.now) }
         ensures fixed { OnOk result (fixed_part.new.items ≡ fixed_part.old.items ++ layout.fixed offset self.now) }
         ensures payload { OnOk result (payload_part.new.items ≡ payload_part.old.items ++ layout.payload offset self.now) }
-        ensures refused { IfErr result (LayRefused (layout.laid offset self.now)) }
+        ensures rejected { IfErr result (LayRejected (layout.laid offset self.now)) }
         ensures fixed_kept { OnErr result (fixed_part.new.items ≡ fixed_part.old.items) }
         ensures payload_kept { OnErr result (payload_part.new.items ≡ payload_part.old.items) };
 }
@@ -52,8 +52,8 @@ pub trait Part: Lay {
         message: &[u8],
     ) -> io::Result<(Self, &'a [u8])>
         ensures found { IfOk result (λ p. Self.layout.part octets.now message.now p.0) }
-        ensures behind { IfOk result (λ p. p.1.now ≡ drop Self.layout.width octets.now) }
-        ensures refused { IfErr result (Self.layout.refuses octets.now message.now) };
+        ensures trailing { IfOk result (λ p. p.1.now ≡ drop Self.layout.width octets.now) }
+        ensures rejected { IfErr result (Self.layout.rejects octets.now message.now) };
 }
 
 /// A part that can be written by itself.
@@ -113,8 +113,8 @@ impl<A: Part + Drop, B: Part> Part for Both<A, B> {
         octets: &'a [u8],
         message: &[u8],
     ) -> io::Result<(Both<A, B>, &'a [u8])> {
-        let (first, behind) = A::read_part(alloc, octets, message)?;
-        let (second, behind) = B::read_part(alloc, behind, message)?;
-        Ok((Both(first, second), behind))
+        let (first, trailing) = A::read_part(alloc, octets, message)?;
+        let (second, trailing) = B::read_part(alloc, trailing, message)?;
+        Ok((Both(first, second), trailing))
     }
 }

@@ -3,10 +3,10 @@
 ghost use Rattle.std.specs.Prelude.{◌≡◌, ℕ, ◌+◌, ◌^◌, ◌-◌, ◌⊎◌, min, ◌++◌, drop, Some, IfOk, IfErr, IfSome, OnOk, MatchResult};
 ghost use Rattle.std.specs.Io.KnownBytes.{Appends, Keeps};
 ghost use Rattle.krb_io.specs.Transfer.{IsNotInterrupted};
-ghost use Rattle.krb_negoex.specs.Devices.{EncodeRefused, FrontRefused, GatherRefused, IsToldBy, PartsStopped};
-ghost use Rattle.krb_negoex.specs.Refused.{IsUnlaidBy, LayRefused};
+ghost use Rattle.krb_negoex.specs.Devices.{EncodeRejected, PrefixRejected, GatherRejected, IsReportedBy, PartsStopped};
+ghost use Rattle.krb_negoex.specs.Rejected.{IsUnlaidBy, LayRejected};
 
-use crate::devices::read_front;
+use crate::devices::read_prefix;
 use crate::message::encode_whole;
 use crate::parts::{Lay, Part, Placed};
 use krb_io::write_all;
@@ -54,8 +54,8 @@ pub trait NegoexDataType: Placed {
         ensures payload_part { OnOk result (Appends (V.contents payload_to.old) (V.contents payload_to.new) (Self.layout.payload offset self.now)) }
         ensures unlaid { (Self.layout.laid offset self.now → ⊥) → MatchResult result (λ _. ⊥) (IsUnlaidBy Self.Error.from_gives)
             × Keeps (W.contents to.old) (W.contents to.new) × Keeps (V.contents payload_to.old) (V.contents payload_to.new) }
-        ensures refused { IfErr result (IsToldBy Self.Error.from_gives (λ x.
-            (LayRefused (Self.layout.laid offset self.now) x × Keeps (W.contents to.old) (W.contents to.new)
+        ensures rejected { IfErr result (IsReportedBy Self.Error.from_gives (λ x.
+            (LayRejected (Self.layout.laid offset self.now) x × Keeps (W.contents to.old) (W.contents to.new)
             × Keeps (V.contents payload_to.old) (V.contents payload_to.new))
             ⊎ (Self.layout.laid offset self.now × IsNotInterrupted x
             × PartsStopped (Self.layout.fixed offset self.now) (Self.layout.payload offset self.now)
@@ -83,7 +83,7 @@ pub trait NegoexDataType: Placed {
             (Self.layout.fixed (Self.start self.now) self.now ++ Self.layout.payload (Self.start self.now) self.now)) }
         ensures unlaid { (Self.layout.laid (Self.start self.now) self.now → ⊥) → MatchResult result (λ _. ⊥) (IsUnlaidBy Self.Error.from_gives)
             × Keeps (W.contents to.old) (W.contents to.new) }
-        ensures refused { IfErr result (IsToldBy Self.Error.from_gives (EncodeRefused (Self.layout.laid (Self.start self.now) self.now)
+        ensures rejected { IfErr result (IsReportedBy Self.Error.from_gives (EncodeRejected (Self.layout.laid (Self.start self.now) self.now)
             (Self.layout.fixed (Self.start self.now) self.now ++ Self.layout.payload (Self.start self.now) self.now) (W.contents to.old) (W.contents to.new))) }
     {
         encode_whole(self, alloc, self.payload_start(), &[], to)?;
@@ -107,10 +107,10 @@ pub trait NegoexDataType: Placed {
         ensures found { IfOk result (λ v. IfSome (R.remaining from.old) (λ f. Self.layout.part f message.now v)) }
         ensures rest { OnOk result (IfSome (R.remaining from.old) (λ f. R.remaining from.new ≡ Some (drop Self.layout.width f))) }
         ensures only { IfSome (R.remaining from.old) (λ f. (v : Self) → Self.layout.part f message.now v → IfOk result (λ w. Self.layout.same w v)) }
-        ensures refused { IfErr result (IsToldBy Self.Error.from_gives (λ x. GatherRefused Self.layout.width (R.remaining from.old) (R.remaining from.new) x
-            ⊎ FrontRefused Self.layout.width (λ f. Self.layout.refuses f message.now) (R.remaining from.old) (R.remaining from.new) x)) }
+        ensures rejected { IfErr result (IsReportedBy Self.Error.from_gives (λ x. GatherRejected Self.layout.width (R.remaining from.old) (R.remaining from.new) x
+            ⊎ PrefixRejected Self.layout.width (λ f. Self.layout.rejects f message.now) (R.remaining from.old) (R.remaining from.new) x)) }
     {
-        let octets = read_front(alloc, from, Self::fixed_len())?;
+        let octets = read_prefix(alloc, from, Self::fixed_len())?;
         let (value, _) = Self::read_part(alloc, &octets, message)?;
         Ok(value)
     }

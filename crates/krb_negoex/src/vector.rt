@@ -2,11 +2,11 @@
 
 ghost use Rattle.std.specs.Prelude.{◌≡◌, ℕ, ◌+◌, ◌*◌, ◌<◌, ◌≤◌, [], ◌∷◌, ◌++◌, length, refl, if◌then◌else◌, nat_eq, IfOk, IfErr, OnOk, OnErr};
 ghost use Rattle.krb_negoex.specs.Parts.{VectorPart, SameAll, AllOf, AllLaid, fixeds, total, vector_fixed, vector_payload, VectorLaid};
-ghost use Rattle.krb_negoex.specs.Refused.{VectorRefused, LayRefused};
+ghost use Rattle.krb_negoex.specs.Rejected.{VectorRejected, LayRejected};
 ghost use Rattle.krb_negoex.specs.Layouts.{seen, vector};
 
 use crate::extension::Extension;
-use crate::numbers::{invalid_data, invalid_input, out_of_memory, put_u32_pair, u32_front};
+use crate::numbers::{invalid_data, invalid_input, out_of_memory, put_u32_pair, u32_prefix};
 use crate::parts::{Lay, Part, Placed};
 use crate::traits::NegoexDataType;
 use std::alloc::Global;
@@ -70,7 +70,7 @@ fn lay_elements<T: NegoexDataType>(
     ensures end { IfOk result (λ n. n ≡ first + total T.layout.payload_size elements.now) }
     ensures appended { OnOk result (out.new.items ≡ out.old.items ++ (fixeds T.layout.fixed T.layout.payload_size first elements.now
         ++ fixeds T.layout.payload T.layout.payload_size first elements.now)) }
-    ensures refused { IfErr result (LayRefused (AllLaid T.layout.laid T.layout.payload_size first elements.now)) }
+    ensures rejected { IfErr result (LayRejected (AllLaid T.layout.laid T.layout.payload_size first elements.now)) }
     ensures kept { OnErr result (out.new.items ≡ out.old.items) }
 {
     let octets = out.len();
@@ -79,9 +79,9 @@ fn lay_elements<T: NegoexDataType>(
     'elements: for element in elements {
         match element.lay(alloc, end, out, &mut payloads) {
             Ok(next) => end = next,
-            Err(fault) => {
+            Err(error) => {
                 out.truncate(octets);
-                return Err(fault);
+                return Err(error);
             }
         }
     }
@@ -98,8 +98,8 @@ impl<T: NegoexDataType + Drop> Part for Vec<T> {
         octets: &'a [u8],
         message: &[u8],
     ) -> io::Result<(Vec<T>, &'a [u8])> {
-        let (offset, behind) = u32_front(octets)?;
-        let (count, behind) = u32_front(behind)?;
+        let (offset, trailing) = u32_prefix(octets)?;
+        let (count, trailing) = u32_prefix(trailing)?;
         let offset = offset as usize;
         if offset > message.len() {
             return Err(invalid_data());
@@ -111,7 +111,7 @@ impl<T: NegoexDataType + Drop> Part for Vec<T> {
             elements.push(element)?;
             rest = next;
         }
-        Ok((elements, behind))
+        Ok((elements, trailing))
     }
 }
 

@@ -4,7 +4,7 @@ ghost use Rattle.std.specs.Prelude.{◌≡◌, ◌+◌, ◌≤◌, ◌<◌, ◌^
 ghost use Rattle.std.specs.IoError.{error_kind};
 ghost use Rattle.krb_negoex.specs.Copies.{verify_parts};
 ghost use Rattle.krb_io.specs.Transfer.{IsNotInterrupted};
-ghost use Rattle.krb_negoex.specs.Refused.{IsMemory, IsUnfit};
+ghost use Rattle.krb_negoex.specs.Rejected.{IsMemory, IsUnfit};
 ghost use Rattle.krb_negoex.specs.Wire.{verify_layout};
 ghost use Rattle.krb_negoex.specs.Whole.{new_header, four_zeros, written, HasOneReading};
 
@@ -59,7 +59,7 @@ impl Part for Verify {
         octets: &'a [u8],
         message: &[u8],
     ) -> io::Result<(Verify, &'a [u8])> {
-        let (Both(header, Both(auth_scheme, checksum)), behind) = Both::<
+        let (Both(header, Both(auth_scheme, checksum)), trailing) = Both::<
             MessageHeader,
             Both<Uuid, Checksum>,
         >::read_part(alloc, octets, message)?;
@@ -68,7 +68,7 @@ impl Part for Verify {
             auth_scheme,
             checksum,
         };
-        Ok((verify, behind))
+        Ok((verify, trailing))
     }
 }
 
@@ -79,13 +79,13 @@ impl NegoexMessage for Verify {
 
     ghost start = { λ n. n.header.header_len };
 
-    ghost refused = { λ m e. verify_layout.refuses m m e };
+    ghost rejected = { λ m e. verify_layout.rejects m m e };
 
     ghost is_memory = { IsMemory };
 
     ghost is_unfit = { IsUnfit };
 
-    ghost is_fault = { IsNotInterrupted };
+    ghost is_error = { IsNotInterrupted };
 
     fn decode(alloc: Global, message: &[u8]) -> io::Result<Verify> {
         decode_whole(alloc, message)

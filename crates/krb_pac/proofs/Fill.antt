@@ -9,9 +9,9 @@ use Rattle.byteorder.specs.Numbers.{little_number-reads_back}
 use Rattle.krb_pac.specs.Kind.{code}
 use Rattle.krb_pac.specs.Layout.{EntryAt, Buffer, BufferAt, Buffers}
 use Rattle.krb_pac.specs.Stands.{Stands, KeepsOutside}
-use Rattle.krb_pac.specs.Written.{AllOf, AreApart, AllApart, IsBehind, IsFree, IsOutside, PacPut, HasRoom, PutTwice, BufferPut, entry_octets, FitsEntry, padded, head}
+use Rattle.krb_pac.specs.Written.{AllOf, AreApart, AllApart, IsTrailing, IsFree, IsOutside, PacPut, HasRoom, PutTwice, BufferPut, entry_octets, FitsEntry, padded, head}
 use Rattle.krb_pac.specs.Entry.{Entry}
-use Rattle.krb_pac.proofs.Lists.{AllOf-push, AllOf-front, AllOf-at}
+use Rattle.krb_pac.proofs.Lists.{AllOf-push, AllOf-prefix, AllOf-at}
 
 -- the entries and ranges of the buffers stand in b, from entry i on
 abbrev pub Placed : List ℕ → ℕ → List Buffer → Type 0
@@ -32,7 +32,7 @@ pub record Filled (total h n : ℕ) (b : List ℕ) (ps : List Buffer) : Type 0 w
   pub sized : AllOf IsSized ps
   pub fits : AllOf (λ (p : Buffer). FitsEntry p.info) ps
   pub within : AllOf (IsWithin total) ps
-  pub behind : AllOf (IsBehind h) ps
+  pub trailing : AllOf (IsTrailing h) ps
   pub apart : AllApart ps
   pub rest : (k : ℕ) → ((4 ≤ k) × (k < 8)) ⊎ (8 + 16 * length ps ≤ k) → IsFree k ps → slice_index b k ≡ 0
 
@@ -49,12 +49,12 @@ Buffers-at b i [] p qs x = (8 + 16 * i, x.0)
 Buffers-at b i (q ∷ ps) p qs x = Buffers-at b (suc i) ps p qs x.1
 
 -- an octet of the header is in no range behind it
-pub below : (h k : ℕ) (p : Buffer) → IsBehind h p → k < h → IsOutside k p
+pub below : (h k : ℕ) (p : Buffer) → IsTrailing h p → k < h → IsOutside k p
 below h k p x l = ⊎_elim
     (λ e. ⊎_elim (λ a. inl a) (λ a. inr (omega arith)) (cases_lt k p.info.offset))
     (λ e. inl (omega arith)) x
 
-pub all_below : (h k : ℕ) (ps : List Buffer) → AllOf (IsBehind h) ps → k < h → IsFree k ps
+pub all_below : (h k : ℕ) (ps : List Buffer) → AllOf (IsTrailing h) ps → k < h → IsFree k ps
 all_below h k [] x l = tt
 all_below h k (p ∷ ps) x l = (below h k p x.0 l, all_below h k ps x.1 l)
 
@@ -72,7 +72,7 @@ range_still old new p q e keep s a x = still old new p.info.offset p.info.cb_buf
     (⊎_elim (λ z. absurd (omega (arith, z))) (λ z. ⊎_elim (λ y. inl y) (λ y. inr (omega arith)) (cases_lt k p.info.offset)))
     (⊎_elim (λ z. inl (omega arith)) (λ z. inr (omega arith))) a) x
 
-placed_entry : (old new : List ℕ) (h i : ℕ) (at : ℕ) (ps : List Buffer) → length new ≡ length old → KeepsOutside at 16 old new → 8 + 16 * (i + length ps) ≤ at → at + 16 ≤ h → AllOf (IsBehind h) ps → AllOf IsSized ps → Placed old i ps → Placed new i ps
+placed_entry : (old new : List ℕ) (h i : ℕ) (at : ℕ) (ps : List Buffer) → length new ≡ length old → KeepsOutside at 16 old new → 8 + 16 * (i + length ps) ≤ at → at + 16 ≤ h → AllOf (IsTrailing h) ps → AllOf IsSized ps → Placed old i ps → Placed new i ps
 placed_entry old new h i at [] e keep l r b s x = tt
 placed_entry old new h i at (p ∷ ps) e keep l r b s x = (
   (
@@ -82,7 +82,7 @@ placed_entry old new h i at (p ∷ ps) e keep l r b s x = (
   placed_entry old new h (suc i) at ps e keep (omega arith) r b.1 s.1 x.1,
 )
 
-placed_range : (old new : List ℕ) (h i : ℕ) (p : Buffer) (ps : List Buffer) → length new ≡ length old → KeepsOutside p.info.offset p.info.cb_buffer_size old new → IsBehind h p → 8 + 16 * (i + length ps) ≤ h
+placed_range : (old new : List ℕ) (h i : ℕ) (p : Buffer) (ps : List Buffer) → length new ≡ length old → KeepsOutside p.info.offset p.info.cb_buffer_size old new → IsTrailing h p → 8 + 16 * (i + length ps) ≤ h
     → AllOf IsSized ps → AllOf (λ (q : Buffer). AreApart q p) ps → Placed old i ps → Placed new i ps
 placed_range old new h i p [] e keep bp l s a x = tt
 placed_range old new h i p (q ∷ ps) e keep bp l s a x = (
@@ -98,7 +98,7 @@ Placed-push b i [] p x y z = ((subst (λ (k : ℕ). Stands b (8 + 16 * k) (entry
 Placed-push b i (q ∷ ps) p x y z = (x.0, Placed-push b (suc i) ps p x.1 (subst (λ (k : ℕ). Stands b (8 + 16 * k) (entry_octets p.info)) (omega arith) y) z)
 
 -- one buffer more
-pub more_filled : (total h n : ℕ) (b d : List ℕ) (ps : List Buffer) (p : Buffer) (at : ℕ) → Filled total h n b ps → at ≡ 8 + 16 * length ps → at + 16 ≤ h → IsWithin total p → IsBehind h p
+pub more_filled : (total h n : ℕ) (b d : List ℕ) (ps : List Buffer) (p : Buffer) (at : ℕ) → Filled total h n b ps → at ≡ 8 + 16 * length ps → at + 16 ≤ h → IsWithin total p → IsTrailing h p
     → AllOf (λ (q : Buffer). AreApart q p) ps → PutTwice at b d p → Filled total h n d (ps ++ p ∷ [])
 more_filled total h n b d ps p at x place room w bp a put =
     let c = put.between in
@@ -115,7 +115,7 @@ more_filled total h n b d ps p at x place room w bp a put =
     let long : length (ps ++ p ∷ []) ≡ length ps + 1 = length-append ps (p ∷ []) in
     let e : Stands d at (entry_octets p.info) = still c d p.info.offset p.info.cb_buffer_size at (entry_octets p.info) ed kd (λ k y z. below h k p bp (omega arith)) hc in
     let count1 : Stands c 0 (little_bytes 4 n) = still b c at 16 0 (little_bytes 4 n) ec kc (λ k y z. inl (omega arith)) x.count in
-    let placed1 : Placed c 0 ps = placed_entry b c h 0 at ps ec kc (omega arith) room x.behind x.sized x.placed in
+    let placed1 : Placed c 0 ps = placed_entry b c h 0 at ps ec kc (omega arith) room x.trailing x.sized x.placed in
     let placed2 : Placed d 0 ps = placed_range c d h 0 p ps ed kd bp (omega arith) x.sized a placed1 in
     let at2 : at ≡ 8 + 16 * (0 + length ps) = omega arith in
     record {
@@ -126,13 +126,13 @@ more_filled total h n b d ps p at x place room w bp a put =
       sized = AllOf-push IsSized ps p x.sized s;
       fits = AllOf-push (λ (q : Buffer). FitsEntry q.info) ps p x.fits fe;
       within = AllOf-push (IsWithin total) ps p x.within w;
-      behind = AllOf-push (IsBehind h) ps p x.behind bp;
+      trailing = AllOf-push (IsTrailing h) ps p x.trailing bp;
       apart = AllApart-push ps p x.apart a;
       rest = λ k y f.
           let out : (k < at) ⊎ (at + 16 ≤ k) = ⊎_elim (λ z. inl (omega (arith, z.0, z.1))) (λ z. inr (omega arith)) y in
           let was : ((4 ≤ k) × (k < 8)) ⊎ (8 + 16 * length ps ≤ k) = ⊎_elim (λ z. inl z) (λ z. inr (omega arith)) y in
           kd k (AllOf-at (IsOutside k) ps p [] f) ∙ kc k out
-          ∙ x.rest k was (AllOf-front (IsOutside k) ps (p ∷ []) f);
+          ∙ x.rest k was (AllOf-prefix (IsOutside k) ps (p ∷ []) f);
     }
 
 -- before the first buffer
@@ -146,7 +146,7 @@ none_filled total h n a b e f g t s k z = record {
   sized = tt;
   fits = tt;
   within = tt;
-  behind = tt;
+  trailing = tt;
   apart = tt;
   rest = λ j y w. k j (inr (⊎_elim (λ l. omega (arith, l.0)) (λ l. omega arith) y)) ∙ z j;
 }
@@ -198,7 +198,7 @@ placed_read b i (p ∷ ps) s f w x = (
 pub all_filled : (total h n : ℕ) (b : List ℕ) (ps : List Buffer) → h ≡ head ps → n ≡ length ps → n < 2 ^ 32 → total ≡ head ps + padded ps → Filled total h n b ps → PacPut ps b
 all_filled total h n b ps eh en few et x =
     let len = x.len in
-    let zero_at : (k : ℕ) → 4 ≤ k → k < 8 → slice_index b k ≡ 0 = λ k l r. x.rest k (inl (l, r)) (all_below h k ps x.behind (omega arith)) in
+    let zero_at : (k : ℕ) → 4 ≤ k → k < 8 → slice_index b k ≡ 0 = λ k l r. x.rest k (inl (l, r)) (all_below h k ps x.trailing (omega arith)) in
     let z4 = get_or-drop 4 b 0 0 ∙ zero_at 4 (omega arith) (omega arith) in
     let z5 = get_or-drop 4 b 1 0 ∙ zero_at 5 (omega arith) (omega arith) in
     let z6 = get_or-drop 4 b 2 0 ∙ zero_at 6 (omega arith) (omega arith) in
@@ -212,7 +212,7 @@ all_filled total h n b ps eh en few et x =
         buffers = placed_read b 0 ps x.sized x.fits (subst (λ (k : ℕ). AllOf (IsWithin k) ps) (sym len) x.within) x.placed;
       };
       size = len ∙ et;
-      behind = subst (λ (k : ℕ). AllOf (IsBehind k) ps) eh x.behind;
+      trailing = subst (λ (k : ℕ). AllOf (IsTrailing k) ps) eh x.trailing;
       apart = x.apart;
       zero_else = λ k l f. x.rest k (inr (omega arith)) f;
     }
@@ -227,12 +227,12 @@ one_more {A = A} xs i x h e = let t = take_at_read xs i x h in t.1 ∙ ap (λ (z
 
 -- a range without a place
 pub without_place : (b : List ℕ) (pac ps qs : List Buffer) (p : Buffer) (h total : ℕ) → pac ≡ ps ++ p ∷ qs → h ≡ head pac → total ≡ head pac + padded pac → PacPut pac b
-    → (p.info.offset + p.info.cb_buffer_size ≤ total → IsBehind h p → ⊥) → ⊥
+    → (p.info.offset + p.info.cb_buffer_size ≤ total → IsTrailing h p → ⊥) → ⊥
 without_place b pac ps qs p h total e eh et x f =
     let size = x.size in
     let at = Buffers-at b 0 ps p qs (subst (Buffers b 0) e x.is.buffers) in
-    let behind : IsBehind h p = AllOf-at (IsBehind h) ps p qs (subst (AllOf (IsBehind h)) e (subst (λ (k : ℕ). AllOf (IsBehind k) pac) (sym eh) x.behind)) in
-    f (omega (arith, at.1.inside)) behind
+    let trailing : IsTrailing h p = AllOf-at (IsTrailing h) ps p qs (subst (AllOf (IsTrailing h)) e (subst (λ (k : ℕ). AllOf (IsTrailing k) pac) (sym eh) x.trailing)) in
+    f (omega (arith, at.1.inside)) trailing
 
 -- a range that meets an earlier one
 pub without_own : (b : List ℕ) (pac ps qs : List Buffer) (p : Buffer) → pac ≡ ps ++ p ∷ qs → PacPut pac b → (AllOf (λ (q : Buffer). AreApart q p) ps → ⊥) → ⊥

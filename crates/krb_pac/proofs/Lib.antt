@@ -5,4 +5,4 @@ pub mod EntriesRead
 pub mod Fill
 pub mod Lists
 pub mod Marks
-pub mod OneRefusal
+pub mod OneRejection

@@ -7,7 +7,7 @@ use mathlib.Core.Bool.{beq}
 use Rattle.krb_pac.specs.Layout.{Buffer}
 use Rattle.krb_pac.specs.Marks.{IsLeft, Takes}
 use Rattle.krb_pac.specs.Written.{AllOf, AreApart, IsFree, IsOutside}
-use Rattle.krb_pac.proofs.Lists.{AllOf-push, AllOf-front, AllOf-at}
+use Rattle.krb_pac.proofs.Lists.{AllOf-push, AllOf-prefix, AllOf-at}
 
 true_left : true ≡ false → ⊥
 true_left h = search rules
@@ -30,7 +30,7 @@ more_marked total old new ps p x e t =
           (λ b. AllOf-push (IsOutside k) ps p (x.free k (sym (t.kept k (inr b)) ∙ l)) (inr b))
           (cases_lt k (p.info.offset + p.info.cb_buffer_size)))
           (cases_lt k p.info.offset);
-      left = λ k f. t.kept k (AllOf-at (IsOutside k) ps p [] f) ∙ x.left k (AllOf-front (IsOutside k) ps (p ∷ []) f);
+      left = λ k f. t.kept k (AllOf-at (IsOutside k) ps p [] f) ∙ x.left k (AllOf-prefix (IsOutside k) ps (p ∷ []) f);
     }
 
 -- a range of which no octet is in the other's is apart from it
@@ -40,9 +40,9 @@ one_apart q p f = ⊎_elim
     (λ any. ⊎_elim
     (λ before. ⊎_elim
     (λ meets. absurd (⊎_elim (λ y. omega arith) (λ y. omega arith) (f q.info.offset (omega arith) meets)))
-    (λ behind. inr (inr behind))
+    (λ trailing. inr (inr trailing))
     (cases_lt q.info.offset (p.info.offset + p.info.cb_buffer_size)))
-    (λ behind. ⊎_elim (λ y. absurd (omega arith)) (λ y. inr (inl y)) (f p.info.offset (omega arith) (omega arith)))
+    (λ trailing. ⊎_elim (λ y. absurd (omega arith)) (λ y. inr (inl y)) (f p.info.offset (omega arith) (omega arith)))
     (cases_lt p.info.offset q.info.offset))
     (λ none. inl (inr (omega arith)))
     (cases_lt 0 p.info.cb_buffer_size))
@@ -85,7 +85,7 @@ pub taken_range : (xs ys : List Bool) (a n size : ℕ) → n ≡ size → a + si
 taken_range xs ys a n size e room all free =
     let dropped = length-drop a xs in
     let long : length (take n (drop a xs)) ≡ n = length-take-le n (drop a xs) (omega (arith, dropped)) in
-    let front : length (take a xs) ≡ a = length-take-le a xs (omega arith) in
+    let prefix : length (take a xs) ≡ a = length-take-le a xs (omega arith) in
     let filled : ys ≡ replicate n true = all ∙ ap (λ k. replicate k true) long in
     let size_of : length ys ≡ n = ap length filled ∙ length-replicate n true in
     record {
@@ -94,11 +94,11 @@ taken_range xs ys a n size e room all free =
           let same : a + (k - a) ≡ k = omega arith in
           sym (part_mark xs a n (k - a) within ∙ ap (λ z. slice_index_or xs z false) same) ∙ unmarked (slice_index_or (take n (drop a xs)) (k - a) false) (free (k - a) false (omega arith) (omega arith));
       taken = λ k l r.
-          get_or-append_right (take a xs) (ys ++ drop n (drop a xs)) a k false front l ∙ get_or_append_left ys (drop n (drop a xs)) false (k - a) (omega arith)
+          get_or-append_right (take a xs) (ys ++ drop n (drop a xs)) a k false prefix l ∙ get_or_append_left ys (drop n (drop a xs)) false (k - a) (omega arith)
           ∙ ap (λ z. slice_index_or z (k - a) false) filled ∙ get_or-replicate n (k - a) true false (omega arith);
       kept = λ k. ⊎_elim
           (λ l. get_or_append_left (take a xs) (ys ++ drop n (drop a xs)) false k (omega arith) ∙ get_or-take a xs k false l)
           (λ l. let same : a + (n + (k - a - n)) ≡ k = omega arith in
-          get_or-append_right (take a xs) (ys ++ drop n (drop a xs)) a k false front (omega arith) ∙ get_or-append_right ys (drop n (drop a xs)) n (k - a) false size_of (omega arith)
+          get_or-append_right (take a xs) (ys ++ drop n (drop a xs)) a k false prefix (omega arith) ∙ get_or-append_right ys (drop n (drop a xs)) n (k - a) false size_of (omega arith)
           ∙ get_or-drop n (drop a xs) (k - a - n) false ∙ get_or-drop a xs (n + (k - a - n)) false ∙ ap (λ z. slice_index_or xs z false) same);
     }

@@ -20,10 +20,10 @@ IsIo P (errors.IoError x) = P x
 IsIo P e = ⊥
 
 -- why an entry was not read: the reader gave fewer than 16 octets, or the first four, which alone were read, are no type's number
-abbrev pub EntryRefused : Option (List ℕ) → Option (List ℕ) → PacError → Type 0
-EntryRefused old new (errors.IoError x) = IsNotInterrupted x × IsShortRead 16 old new
-EntryRefused old new (errors.PacBufferType n) = IsUnlisted n × IfSome old (λ f. (4 ≤ length f) × (n ≡ little_number 4 f) × (new ≡ Some (drop 4 f)))
-EntryRefused old new e = ⊥
+abbrev pub EntryRejected : Option (List ℕ) → Option (List ℕ) → PacError → Type 0
+EntryRejected old new (errors.IoError x) = IsNotInterrupted x × IsShortRead 16 old new
+EntryRejected old new (errors.PacBufferType n) = IsUnlisted n × IfSome old (λ f. (4 ≤ length f) × (n ≡ little_number 4 f) × (new ≡ Some (drop 4 f)))
+EntryRejected old new e = ⊥
 
 -- an I/O error is the writer's, which took a proper prefix of octets of which this holds
 abbrev pub StopsInside : (List ℕ → Type 0) → Option (List ℕ) → Option (List ℕ) → PacError → Type 0

@@ -9,43 +9,43 @@ use Rattle.krb_pac.specs.Layout.{same_buffer}
 use Rattle.krb_pac.specs.declared.kind.PacBufferType.{PacBufferType}
 
 -- the test answers true for equal values and for no others
-abbrev pub TellsEqual : {A : Type 0} → (A → A → Bool) → Type 0
-TellsEqual {A} eq = (a b : A) → IsTrue (eq a b) ↔ (a ≡ b)
+abbrev pub DecidesEqual : {A : Type 0} → (A → A → Bool) → Type 0
+DecidesEqual {A} eq = (a b : A) → IsTrue (eq a b) ↔ (a ≡ b)
 
 and_both : (b c : Bool) → b ≡ true → c ≡ true → (b && c) ≡ true
 and_both true c e f = f
 and_both false c e f = e
 
-pub numbers_tell : TellsEqual nat_eq
-numbers_tell a b = (eqb-true a b, eq-eqb a b)
+pub numbers_decide : DecidesEqual nat_eq
+numbers_decide a b = (eqb-true a b, eq-eqb a b)
 
-octets_tell : TellsEqual (pointwise nat_eq)
-octets_tell a b = bytes_decides a b
+octets_decide : DecidesEqual (pointwise nat_eq)
+octets_decide a b = bytes_decides a b
 
 same_both : {A B : Type 0} (v w : A × B) → v.0 ≡ w.0 → v.1 ≡ w.1 → v ≡ w
 same_both {A} {B} v w d e = ap (λ (a : A). (a, v.1)) d ∙ ap (λ (b : B). (w.0, b)) e
 
-pub pair_tells : {A B : Type 0} {e : A → A → Bool} {f : B → B → Bool} → TellsEqual e → TellsEqual f → TellsEqual (λ (v w : A × B). e v.0 w.0 && f v.1 w.1)
-pair_tells {A} {B} {e} {f} g h v w = (
+pub pair_decides : {A B : Type 0} {e : A → A → Bool} {f : B → B → Bool} → DecidesEqual e → DecidesEqual f → DecidesEqual (λ (v w : A × B). e v.0 w.0 && f v.1 w.1)
+pair_decides {A} {B} {e} {f} g h v w = (
   λ k. same_both v w ((g v.0 w.0).0 (first_so (e v.0 w.0) (f v.1 w.1) k)) ((h v.1 w.1).0 (second_so (e v.0 w.0) (f v.1 w.1) k)),
   λ k. and_both (e v.0 w.0) (f v.1 w.1) ((g v.0 w.0).1 (ap (λ (p : A × B). p.0) k)) ((h v.1 w.1).1 (ap (λ (p : A × B). p.1) k)),
 )
 
 -- what is taken apart to its parts, and made of them again
-pub parts_tell : {A B : Type 0} {e : B → B → Bool} (parts : A → B) (made : B → A) → ((v : A) → made (parts v) ≡ v) → TellsEqual e → TellsEqual (λ (v w : A). e (parts v) (parts w))
-parts_tell parts made same h v w = (
+pub parts_decide : {A B : Type 0} {e : B → B → Bool} (parts : A → B) (made : B → A) → ((v : A) → made (parts v) ≡ v) → DecidesEqual e → DecidesEqual (λ (v w : A). e (parts v) (parts w))
+parts_decide parts made same h v w = (
   λ k. sym (same v) ∙ ap made ((h (parts v) (parts w)).0 k) ∙ same w,
   λ k. (h (parts v) (parts w)).1 (ap parts k),
 )
 
-pub buffers_tell : TellsEqual same_buffer
-buffers_tell = parts_tell (λ v. (code v.info.ul_type, (v.info.cb_buffer_size, (v.info.offset, v.octets))))
+pub buffers_decide : DecidesEqual same_buffer
+buffers_decide = parts_decide (λ v. (code v.info.ul_type, (v.info.cb_buffer_size, (v.info.offset, v.octets))))
     (λ p. record { info = record { ul_type = named p.0; cb_buffer_size = p.1.0; offset = p.1.1.0 }; octets = p.1.1.1 })
     (λ v. ap (λ (k : PacBufferType). record { info = record { ul_type = k; cb_buffer_size = v.info.cb_buffer_size; offset = v.info.offset }; octets = v.octets }) (named_code v.info.ul_type))
-    (pair_tells numbers_tell (pair_tells numbers_tell (pair_tells numbers_tell octets_tell)))
+    (pair_decides numbers_decide (pair_decides numbers_decide (pair_decides numbers_decide octets_decide)))
 
-pub pacs_tell : TellsEqual (pointwise same_buffer)
-pacs_tell = pointwise_decides buffers_tell
+pub pacs_decide : DecidesEqual (pointwise same_buffer)
+pacs_decide = pointwise_decides buffers_decide
 
 -- a clone is the value again
 abbrev pub ClonesValue : {A : Type 0} → (A → A → Type 0) → Type 0

@@ -6,6 +6,6 @@ pub mod Kind
 pub mod Layout
 pub mod Marks
 pub mod OnePac
-pub mod Refused
+pub mod Rejected
 pub mod Stands
 pub mod Written

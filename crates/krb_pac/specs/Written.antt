@@ -28,8 +28,8 @@ AllOf P [] = Unit {0}
 AllOf P (v ∷ vs) = P v × AllOf P vs
 
 -- an empty range, or one from h on
-abbrev pub IsBehind : ℕ → Buffer → Type 0
-IsBehind h p = (p.info.cb_buffer_size ≡ 0) ⊎ (h ≤ p.info.offset)
+abbrev pub IsTrailing : ℕ → Buffer → Type 0
+IsTrailing h p = (p.info.cb_buffer_size ≡ 0) ⊎ (h ≤ p.info.offset)
 
 -- the ranges share no octet
 abbrev pub AreApart : Buffer → Buffer → Type 0
@@ -53,7 +53,7 @@ IsFree k ps = AllOf (IsOutside k) ps
 pub record PacPut (pac : List Buffer) (b : List ℕ) : Type 0 where
   pub is : PacIs b pac
   pub size : length b ≡ head pac + padded pac
-  pub behind : AllOf (IsBehind (head pac)) pac
+  pub trailing : AllOf (IsTrailing (head pac)) pac
   pub apart : AllApart pac
   pub zero_else : (k : ℕ) → head pac ≤ k → IsFree k pac → slice_index b k ≡ 0
 

@@ -4,7 +4,7 @@ ghost use Rattle.std.specs.Prelude.{◌≡◌, ◌+◌, length, IfOk, IfErr, OnO
 ghost use Rattle.krb_pac.specs.Comparing.{same_buffer_per, same_buffer_equiv};
 ghost use Rattle.krb_pac.specs.Written.{HasRoom, BufferPut};
 ghost use Rattle.krb_pac.specs.Layout.{Buffer, BufferAt, same_buffer};
-ghost use Rattle.krb_pac.specs.Refused.{Answers, BufferRefused};
+ghost use Rattle.krb_pac.specs.Rejected.{Answers, BufferRejected};
 ghost use Rattle.krb_pac.specs.declared.error.PacError.TheVariants as errors;
 
 use crate::error::PacError;
@@ -67,7 +67,7 @@ impl PacBuffer {
     pub fn deserialize(alloc: Global, bytes: &[u8], position: &mut usize) -> Result<Self, PacError>
         ensures found { IfOk result (BufferAt bytes.now position.old) }
         ensures moved { OnOk result (position.new ≡ position.old + 16) }
-        ensures refused { IfErr result (BufferRefused bytes.now position.old) }
+        ensures rejected { IfErr result (BufferRejected bytes.now position.old) }
         ensures only { (p : Buffer) → BufferAt bytes.now position.old p → Answers result p }
         ensures kept { OnErr result (position.new ≡ position.old) }
     {
@@ -90,7 +90,7 @@ impl PacBuffer {
         ensures put { OnOk result (BufferPut position.old out.old out.new self.now) }
         ensures room { OnOk result (HasRoom position.old (length out.old) self.now) }
         ensures moved { OnOk result (position.new ≡ position.old + 16) }
-        ensures refused { IfErr result (λ e. (e ≡ errors.InvalidRange) × (HasRoom position.old (length out.old) self.now → ⊥)) }
+        ensures rejected { IfErr result (λ e. (e ≡ errors.InvalidRange) × (HasRoom position.old (length out.old) self.now → ⊥)) }
         ensures kept { OnErr result ((out.new ≡ out.old) × (position.new ≡ position.old)) }
     {
         if !has_room(self, *position, out.len()) {

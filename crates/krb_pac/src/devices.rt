@@ -13,7 +13,7 @@ use std::io::Read;
 /// The number in the reader's next four octets.
 pub(crate) fn read_u32<R: Read>(from: &mut R) -> Result<u32, PacError>
     ensures bytes { IfOk result (λ n. ReadsNumber little_number 4 (R.remaining from.old) (R.remaining from.new) n) }
-    ensures fault { IfErr result (IsIo (λ x. IsNotInterrupted x × IsShortRead 4 (R.remaining from.old) (R.remaining from.new))) }
+    ensures error { IfErr result (IsIo (λ x. IsNotInterrupted x × IsShortRead 4 (R.remaining from.old) (R.remaining from.new))) }
 {
     let mut octets = [0; 4];
     read_exact(from, &mut octets)?;

@@ -3,10 +3,10 @@
 ghost use Rattle.std.specs.Prelude.{◌≡◌, ℕ, ◌≤◌, length, drop, Some, IfOk, IfErr, IfSome, OnOk};
 ghost use Rattle.std.specs.Io.KnownBytes.{Appends};
 ghost use Rattle.krb_io.specs.Transfer.{IsNotInterrupted, IsPrefixWritten};
-ghost use Rattle.krb_pac.specs.Devices.{EntryRefused, IsIo};
+ghost use Rattle.krb_pac.specs.Devices.{EntryRejected, IsIo};
 ghost use Rattle.krb_pac.specs.Entry.{Entry};
 ghost use Rattle.krb_pac.specs.Layout.{EntryAt, entry_of_type};
-ghost use Rattle.krb_pac.specs.Refused.{AnswersUnlessFault};
+ghost use Rattle.krb_pac.specs.Rejected.{AnswersUnlessError};
 ghost use Rattle.krb_pac.specs.Written.{entry_octets};
 
 use crate::devices::read_u32;
@@ -95,9 +95,9 @@ impl PacInfoBuffer {
     /// octets may have been read.
     pub fn deserialize<R: Read>(reader: &mut R) -> Result<Self, PacError>
         ensures found { IfOk result (λ e. IfSome (R.remaining reader.old) (λ f. EntryAt f 0 e)) }
-        ensures behind { OnOk result (IfSome (R.remaining reader.old) (λ f. R.remaining reader.new ≡ Some (drop 16 f))) }
-        ensures refused { IfErr result (EntryRefused (R.remaining reader.old) (R.remaining reader.new)) }
-        ensures only { IfSome (R.remaining reader.old) (λ f. (e : Entry) → EntryAt f 0 e → AnswersUnlessFault result e) }
+        ensures trailing { OnOk result (IfSome (R.remaining reader.old) (λ f. R.remaining reader.new ≡ Some (drop 16 f))) }
+        ensures rejected { IfErr result (EntryRejected (R.remaining reader.old) (R.remaining reader.new)) }
+        ensures only { IfSome (R.remaining reader.old) (λ f. (e : Entry) → EntryAt f 0 e → AnswersUnlessError result e) }
     {
         let number = read_u32(reader)?;
         let ul_type = PacBufferType::try_from(number)?;
@@ -110,7 +110,7 @@ impl PacInfoBuffer {
     /// of them. A write that a signal interrupts is made again.
     pub fn serialize<W: Write>(&self, to: &mut W) -> Result<(), PacError>
         ensures ok { OnOk result (Appends (W.contents to.old) (W.contents to.new) (entry_octets self.now)) }
-        ensures fault { IfErr result (IsIo (λ x. IsNotInterrupted x × IsPrefixWritten (entry_octets self.now) (W.contents to.old) (W.contents to.new))) }
+        ensures error { IfErr result (IsIo (λ x. IsNotInterrupted x × IsPrefixWritten (entry_octets self.now) (W.contents to.old) (W.contents to.new))) }
     {
         write_all(to, &entry(self))?;
         Ok(())

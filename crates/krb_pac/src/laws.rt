@@ -1,10 +1,10 @@
 //! Laws over the definitions, of functions that do nothing.
 
 ghost use Rattle.std.specs.Prelude.{◌≡◌, ◌↔◌, ℕ, List, Result};
-ghost use Rattle.krb_pac.specs.Equality.{ClonesValue, TellsEqual};
+ghost use Rattle.krb_pac.specs.Equality.{ClonesValue, DecidesEqual};
 ghost use Rattle.krb_pac.specs.Kind.{code};
 ghost use Rattle.krb_pac.specs.Layout.{Buffer, PacIs};
-ghost use Rattle.krb_pac.specs.Refused.{AreOneOrMemory, IsTypeOf, PacRefused};
+ghost use Rattle.krb_pac.specs.Rejected.{AreOneOrMemory, IsTypeOf, PacRejected};
 ghost use Rattle.krb_pac.specs.Written.{PacPut};
 ghost use Rattle.krb_pac.specs.declared.error.PacError.TheVariants as errors;
 
@@ -21,17 +21,17 @@ pub fn readings()
 {}
 
 /// Octets that are a PAC have no refusal but for want of memory, and other octets have one first fault.
-pub fn refusals()
-    ensures no_pac { (b : List ℕ) (pac : List Buffer) (e : PacError) → PacIs b pac → PacRefused b e → e ≡ errors.OutOfMemory }
-    ensures one { (b : List ℕ) (e f : PacError) → PacRefused b e → PacRefused b f → AreOneOrMemory e f }
+pub fn rejections()
+    ensures no_pac { (b : List ℕ) (pac : List Buffer) (e : PacError) → PacIs b pac → PacRejected b e → e ≡ errors.OutOfMemory }
+    ensures one { (b : List ℕ) (e f : PacError) → PacRejected b e → PacRejected b f → AreOneOrMemory e f }
 {}
 
 /// `==`: it answers true for equal values and for no others.
 pub fn equality()
-    ensures kind { TellsEqual ⟦<PacBufferType as PartialEq>⟧.eq }
-    ensures info_buffer { TellsEqual ⟦<PacInfoBuffer as PartialEq>⟧.eq }
-    ensures buffer { TellsEqual ⟦<PacBuffer as PartialEq>⟧.eq }
-    ensures pac { TellsEqual ⟦<Pac as PartialEq>⟧.eq }
+    ensures kind { DecidesEqual ⟦<PacBufferType as PartialEq>⟧.eq }
+    ensures info_buffer { DecidesEqual ⟦<PacInfoBuffer as PartialEq>⟧.eq }
+    ensures buffer { DecidesEqual ⟦<PacBuffer as PartialEq>⟧.eq }
+    ensures pac { DecidesEqual ⟦<Pac as PartialEq>⟧.eq }
 {}
 
 /// The types by their numbers (MS-PAC 2.4): each number is read as its type, and no other number is; each type is written as its

@@ -8,7 +8,7 @@ ghost use Rattle.krb_pac.specs.Devices.{IfIo, StopsInside};
 ghost use Rattle.krb_io.specs.Transfer.{IsNotInterrupted};
 ghost use Rattle.krb_pac.specs.Comparing.{same_pac_per, same_pac_equiv};
 ghost use Rattle.krb_pac.specs.Layout.{Buffer, PacIs, same_buffer};
-ghost use Rattle.krb_pac.specs.Refused.{Answers, AnswersUnlessFault, RefusesUnlessFault, NamesOutside, PacRefused, IsFault};
+ghost use Rattle.krb_pac.specs.Rejected.{Answers, AnswersUnlessError, RejectsUnlessError, NamesOutside, PacRejected, IsError};
 
 use crate::buffer::PacBuffer;
 use crate::error::PacError;
@@ -65,7 +65,7 @@ impl Pac {
     /// The PAC that the octets are.
     fn from_octets(alloc: Global, bytes: &[u8]) -> Result<Self, PacError>
         ensures found { IfOk result (PacIs bytes.now) }
-        ensures refused { IfErr result (PacRefused bytes.now) }
+        ensures rejected { IfErr result (PacRejected bytes.now) }
         ensures only { (pac : List Buffer) → PacIs bytes.now pac → Answers result pac }
     {
         let count = u32_at(bytes, 0)?;
@@ -93,9 +93,9 @@ impl Pac {
         ensures ok { OnOk result ((b : List ℕ) × PacPut self.now b × Appends (W.contents out.old) (W.contents out.new) b) }
         ensures no_place { ((b : List ℕ) → PacPut self.now b → ⊥)
             → MatchResult result (λ _. ⊥) (λ e. (e ≡ PacError.InvalidRange) ⊎ (e ≡ PacError.OutOfMemory)) }
-        ensures refused { IfErr result (λ e. IsFault e ⊎ ((e ≡ PacError.InvalidRange) × ((b : List ℕ) → PacPut self.now b → ⊥))) }
+        ensures rejected { IfErr result (λ e. IsError e ⊎ ((e ≡ PacError.InvalidRange) × ((b : List ℕ) → PacPut self.now b → ⊥))) }
         ensures kept { IfErr result (λ e. (e ≡ PacError.InvalidRange) ⊎ (e ≡ PacError.OutOfMemory) → out.new ≡ out.old) }
-        ensures fault { IfErr result (StopsInside (PacPut self.now) (W.contents out.old) (W.contents out.new)) }
+        ensures error { IfErr result (StopsInside (PacPut self.now) (W.contents out.old) (W.contents out.new)) }
     {
         let octets = to_octets(alloc, self.buffers())?;
         write_all(out, &octets)?;
@@ -126,10 +126,10 @@ impl Pac {
     /// buffers share them: a caller that fears this bounds the octets that it hands in.
     pub fn deserialize<R: Read + Drop>(alloc: Global, reader: R) -> Result<Self, PacError>
         ensures found { IfOk result (λ pac. IfSome (R.remaining reader) (λ b. PacIs b pac)) }
-        ensures refused { IfErr result (λ e. IsFault e ⊎ IfSome (R.remaining reader) (λ b. PacRefused b e)) }
-        ensures range { IfSome (R.remaining reader) (λ b. NamesOutside b → RefusesUnlessFault result PacError.InvalidRange) }
+        ensures rejected { IfErr result (λ e. IsError e ⊎ IfSome (R.remaining reader) (λ b. PacRejected b e)) }
+        ensures range { IfSome (R.remaining reader) (λ b. NamesOutside b → RejectsUnlessError result PacError.InvalidRange) }
         ensures lasting { IfErr result (IfIo IsNotInterrupted) }
-        ensures only { IfSome (R.remaining reader) (λ b. (pac : List Buffer) → PacIs b pac → AnswersUnlessFault result pac) }
+        ensures only { IfSome (R.remaining reader) (λ b. (pac : List Buffer) → PacIs b pac → AnswersUnlessError result pac) }
     {
         let mut reader = reader;
         let octets = read_to_end(alloc, &mut reader)?;

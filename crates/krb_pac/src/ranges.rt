@@ -2,7 +2,7 @@
 
 ghost use Rattle.std.specs.Prelude.{◌≡◌, ℕ, ◌+◌, ◌≤◌, ◌<◌, true, false, length};
 ghost use Rattle.krb_pac.specs.Marks.{IsLeft, Takes};
-ghost use Rattle.krb_pac.specs.Written.{IsBehind, HasRoom};
+ghost use Rattle.krb_pac.specs.Written.{IsTrailing, HasRoom};
 
 use crate::buffer::PacBuffer;
 use crate::info::PacInfoBuffer;
@@ -18,8 +18,8 @@ pub(crate) fn is_within(info: &PacInfoBuffer, len: usize) -> bool
 
 /// Whether a range lies within the octets and after the header.
 pub(crate) fn has_place(p: &PacBuffer, head: usize, len: usize) -> bool
-    ensures yes { result ≡ true → (p.now.info.offset + p.now.info.cb_buffer_size ≤ len) × IsBehind head p.now }
-    ensures no { result ≡ false → p.now.info.offset + p.now.info.cb_buffer_size ≤ len → IsBehind head p.now → ⊥ }
+    ensures yes { result ≡ true → (p.now.info.offset + p.now.info.cb_buffer_size ≤ len) × IsTrailing head p.now }
+    ensures no { result ≡ false → p.now.info.offset + p.now.info.cb_buffer_size ≤ len → IsTrailing head p.now → ⊥ }
 {
     let info = p.info_buffer();
     is_within(info, len) && (info.cb_buffer_size() == 0 || info.offset() >= head as u64)

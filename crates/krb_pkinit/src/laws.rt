@@ -2,9 +2,9 @@
 
 ghost use Rattle.std.specs.Prelude.{◌≡◌, List, ℕ};
 ghost use Rattle.krb_der.specs.Asn1.{explicit, octet_string};
-ghost use Rattle.krb_der.specs.Choice.{ChoiceFault};
-ghost use Rattle.krb_der.specs.FieldFaults.{HasFaultsOf, SameFault};
-ghost use Rattle.krb_der.specs.Equality.{TellsEqual};
+ghost use Rattle.krb_der.specs.Choice.{ChoiceError};
+ghost use Rattle.krb_der.specs.FieldErrors.{HasErrorsOf, SameError};
+ghost use Rattle.krb_der.specs.Equality.{DecidesEqual};
 ghost use Rattle.krb_der.specs.Tags.{HasTag, HasTags};
 ghost use Rattle.krb_der_x509.specs.Implicit.{implicit};
 
@@ -35,13 +35,13 @@ pub fn answers()
 
 /// The first error of each struct is that of a SEQUENCE of its fields (X.690, 8.9): its tag, then its fields in order, then
 /// trailing octets. Its encodings begin with that tag, and with no other octet (X.690, 8.1.2).
-pub fn faults()
-    ensures external_principal_identifier { HasFaultsOf ⟦<ExternalPrincipalIdentifier as DerEncode>⟧.fault
+pub fn errors()
+    ensures external_principal_identifier { HasErrorsOf ⟦<ExternalPrincipalIdentifier as DerEncode>⟧.error
         ⟦<<ExternalPrincipalIdentifier as Sequence>::Fields as Fields>⟧ }
-    ensures pa_pk_as_req { HasFaultsOf ⟦<PaPkAsReq as DerEncode>⟧.fault ⟦<<PaPkAsReq as Sequence>::Fields as Fields>⟧ }
-    ensures pk_authenticator { HasFaultsOf ⟦<PkAuthenticator as DerEncode>⟧.fault ⟦<<PkAuthenticator as Sequence>::Fields as Fields>⟧ }
-    ensures dh_rep_info { HasFaultsOf ⟦<DhRepInfo as DerEncode>⟧.fault ⟦<<DhRepInfo as Sequence>::Fields as Fields>⟧ }
-    ensures kdc_dh_key_info { HasFaultsOf ⟦<KdcDhKeyInfo as DerEncode>⟧.fault ⟦<<KdcDhKeyInfo as Sequence>::Fields as Fields>⟧ }
+    ensures pa_pk_as_req { HasErrorsOf ⟦<PaPkAsReq as DerEncode>⟧.error ⟦<<PaPkAsReq as Sequence>::Fields as Fields>⟧ }
+    ensures pk_authenticator { HasErrorsOf ⟦<PkAuthenticator as DerEncode>⟧.error ⟦<<PkAuthenticator as Sequence>::Fields as Fields>⟧ }
+    ensures dh_rep_info { HasErrorsOf ⟦<DhRepInfo as DerEncode>⟧.error ⟦<<DhRepInfo as Sequence>::Fields as Fields>⟧ }
+    ensures kdc_dh_key_info { HasErrorsOf ⟦<KdcDhKeyInfo as DerEncode>⟧.error ⟦<<KdcDhKeyInfo as Sequence>::Fields as Fields>⟧ }
     ensures external_principal_identifier_tag { HasTag 48 ⟦<ExternalPrincipalIdentifier as DerEncode>⟧.first }
     ensures pa_pk_as_req_tag { HasTag 48 ⟦<PaPkAsReq as DerEncode>⟧.first }
     ensures pk_authenticator_tag { HasTag 48 ⟦<PkAuthenticator as DerEncode>⟧.first }
@@ -50,32 +50,32 @@ pub fn faults()
 {}
 
 /// The first error of what a client signs, with a public key of either kind (X.690, 8.9; RFC 4556, 3.2.1).
-pub fn auth_pack_faults<C: Der + Drop>()
-    ensures fault { HasFaultsOf ⟦<AuthPack<C> as DerEncode>⟧.fault ⟦<<AuthPack<C> as Sequence>::Fields as Fields>⟧ }
+pub fn auth_pack_errors<C: Der + Drop>()
+    ensures error { HasErrorsOf ⟦<AuthPack<C> as DerEncode>⟧.error ⟦<<AuthPack<C> as Sequence>::Fields as Fields>⟧ }
     ensures tag { HasTag 48 ⟦<AuthPack<C> as DerEncode>⟧.first }
 {}
 
 /// The first error of the choice of a KDC's reply (X.690, 8.13; RFC 4556, 3.2.3): the tag is neither's, or it is that of
 /// what has the tag. Its encodings begin with one of the two.
-pub fn pa_pk_as_rep_faults()
-    ensures fault { SameFault ⟦<PaPkAsRep as DerEncode>⟧.fault
-        (ChoiceFault 160 129 ⟦<ExplicitContextTag0<DhRepInfo> as DerEncode>⟧.fault ⟦<ImplicitContextTag1<OctetStringAsn1> as DerEncode>⟧.fault) }
+pub fn pa_pk_as_rep_errors()
+    ensures error { SameError ⟦<PaPkAsRep as DerEncode>⟧.error
+        (ChoiceError 160 129 ⟦<ExplicitContextTag0<DhRepInfo> as DerEncode>⟧.error ⟦<ImplicitContextTag1<OctetStringAsn1> as DerEncode>⟧.error) }
     ensures tags { HasTags 160 129 ⟦<PaPkAsRep as DerEncode>⟧.first }
 {}
 
 /// `==` on each struct and on the choice: it returns true for equal values and for no others.
 pub fn equality()
-    ensures external_principal_identifier { TellsEqual ⟦<ExternalPrincipalIdentifier as PartialEq>⟧.eq }
-    ensures pa_pk_as_req { TellsEqual ⟦<PaPkAsReq as PartialEq>⟧.eq }
-    ensures pk_authenticator { TellsEqual ⟦<PkAuthenticator as PartialEq>⟧.eq }
-    ensures dh_rep_info { TellsEqual ⟦<DhRepInfo as PartialEq>⟧.eq }
-    ensures kdc_dh_key_info { TellsEqual ⟦<KdcDhKeyInfo as PartialEq>⟧.eq }
-    ensures pa_pk_as_rep { TellsEqual ⟦<PaPkAsRep as PartialEq>⟧.eq }
+    ensures external_principal_identifier { DecidesEqual ⟦<ExternalPrincipalIdentifier as PartialEq>⟧.eq }
+    ensures pa_pk_as_req { DecidesEqual ⟦<PaPkAsReq as PartialEq>⟧.eq }
+    ensures pk_authenticator { DecidesEqual ⟦<PkAuthenticator as PartialEq>⟧.eq }
+    ensures dh_rep_info { DecidesEqual ⟦<DhRepInfo as PartialEq>⟧.eq }
+    ensures kdc_dh_key_info { DecidesEqual ⟦<KdcDhKeyInfo as PartialEq>⟧.eq }
+    ensures pa_pk_as_rep { DecidesEqual ⟦<PaPkAsRep as PartialEq>⟧.eq }
 {}
 
 /// `==` on what a client signs: it returns true for equal values and for no others, where that of the public key does.
 pub fn auth_pack_equality<C: PartialEq>()
-    ensures { TellsEqual C.eq → TellsEqual ⟦<AuthPack<C> as PartialEq>⟧.eq }
+    ensures { DecidesEqual C.eq → DecidesEqual ⟦<AuthPack<C> as PartialEq>⟧.eq }
 {
     equality();
     algorithm_equality();

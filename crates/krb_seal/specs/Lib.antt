@@ -1,2 +1,2 @@
 pub mod PartError
-pub mod Filled
+pub mod Padded

@@ -5,8 +5,8 @@ ghost use Rattle.krb_crypto_hash.specs.CryptoError.{IsMemoryOr};
 ghost use Rattle.krb_der.specs.Reading.{Encodings};
 ghost use Rattle.krb_der.specs.Whole.{Answers, FailsWith};
 ghost use Rattle.krb_crypto_message.specs.Sealing.{HasNoPayload, IsGiven, IsTheOne};
-ghost use Rattle.krb_der_core.specs.Faults.{OrMemory};
-ghost use Rattle.krb_seal.specs.Filled.{FilledFault, HasFirstError, IsFewZeros, RefusesFilled, RejectsOpened};
+ghost use Rattle.krb_der_core.specs.Errors.{OrMemory};
+ghost use Rattle.krb_seal.specs.Padded.{PaddedError, HasFirstError, IsFewZeros, RejectsPadded, RejectsOpened};
 ghost use Rattle.krb_seal.specs.PartError.{IsMemory, IsPartMemoryOr, IsPartKeyLengthError, IsCrypto, IfCrypto, IfDer};
 
 use crate::error::PartError;
@@ -29,7 +29,7 @@ pub fn seal_part<T: Der>(
     requires { length confounder.now ≡ confounder_octets cipher.now }
     ensures key { IfOk result (λ _. length key.now ≡ key_octets cipher.now) }
     ensures sealed { IfOk result (λ octets. IsTheOne (meaning cipher.now key.now key_usage confounder.now (T.enc value.now)) octets.items) }
-    ensures refused { IfErr result (λ e. IsPartMemoryOr e (IsPartKeyLengthError (key_octets cipher.now) key.now e)) }
+    ensures rejected { IfErr result (λ e. IsPartMemoryOr e (IsPartKeyLengthError (key_octets cipher.now) key.now e)) }
 {
     let payload = to_vec(alloc, value)?;
     Ok(cipher.encrypt(alloc, key, key_usage, &payload, confounder)?)
@@ -53,35 +53,35 @@ pub fn open_part<T: Der + Drop>(
     ensures only { length key.now ≡ key_octets cipher.now → (v : T) → T.is_value v
         → IsGiven (meaning cipher.now key.now key_usage) (confounder_octets cipher.now) bytes.now (T.enc v)
         → MatchResult result (λ w. w ≡ v) IsMemory }
-    ensures behind { length key.now ≡ key_octets cipher.now → (v : T) (rest : List ℕ) → T.is_value v
+    ensures trailing { length key.now ≡ key_octets cipher.now → (v : T) (rest : List ℕ) → T.is_value v
         → IsGiven (meaning cipher.now key.now key_usage) (confounder_octets cipher.now) bytes.now (T.enc v ++ rest)
-        → ¬ IsFewZeros (fill_octets cipher.now) rest
+        → ¬ IsFewZeros (padding_octets cipher.now) rest
         → IsErrAnd result (λ e. IsPartMemoryOr e (e ≡ PartError.Der Asn1DerError.InvalidData)) }
     ensures other_key { length key.now ≢ key_octets cipher.now → IsErrAnd result IsCrypto }
     ensures crypto { length key.now ≡ key_octets cipher.now → IfErr result (λ e. IfCrypto e
         (λ why. IsMemoryOr why (HasNoPayload (meaning cipher.now key.now key_usage) (confounder_octets cipher.now) bytes.now))) }
     ensures exact { IfErr result (λ e. IfCrypto e (λ why. IsMemoryOr why (unopened cipher.now key.now key_usage bytes.now why))) }
-    ensures der { IfErr result (λ e. IfDer e (RejectsOpened (Encodings T.is_value T.enc) (fill_octets cipher.now)
+    ensures der { IfErr result (λ e. IfDer e (RejectsOpened (Encodings T.is_value T.enc) (padding_octets cipher.now)
         (IsGiven (meaning cipher.now key.now key_usage) (confounder_octets cipher.now) bytes.now))) }
-    ensures first_fault { IfErr result (λ e. IfDer e (HasFirstError (Encodings T.is_value T.enc) T.first T.fault (fill_octets cipher.now)
+    ensures first_error { IfErr result (λ e. IfDer e (HasFirstError (Encodings T.is_value T.enc) T.first T.error (padding_octets cipher.now)
         (IsGiven (meaning cipher.now key.now key_usage) (confounder_octets cipher.now) bytes.now))) }
 {
-    let filled = cipher.decrypt(alloc, key, key_usage, bytes)?;
-    Ok(read_filled(alloc, &filled, cipher.fill_size())?)
+    let padded = cipher.decrypt(alloc, key, key_usage, bytes)?;
+    Ok(read_padded(alloc, &padded, cipher.fill_size())?)
 }
 
 /// The value whose encoding the octets begin with, with fewer than `size` zeros after it.
-fn read_filled<T: Der + Drop>(alloc: Global, filled: &[u8], size: usize) -> Result<T, Asn1DerError>
+fn read_padded<T: Der + Drop>(alloc: Global, padded: &[u8], size: usize) -> Result<T, Asn1DerError>
     ensures valid { IfOk result T.is_value }
-    ensures found { IfOk result (λ v. (rest : List ℕ) × (filled.now ≡ T.enc v ++ rest) × IsFewZeros size rest) }
-    ensures only { (v : T) (rest : List ℕ) → T.is_value v → filled.now ≡ T.enc v ++ rest → IsFewZeros size rest → Answers result v }
-    ensures behind { (v : T) (rest : List ℕ) → T.is_value v → filled.now ≡ T.enc v ++ rest → ¬ IsFewZeros size rest
+    ensures found { IfOk result (λ v. (rest : List ℕ) × (padded.now ≡ T.enc v ++ rest) × IsFewZeros size rest) }
+    ensures only { (v : T) (rest : List ℕ) → T.is_value v → padded.now ≡ T.enc v ++ rest → IsFewZeros size rest → Answers result v }
+    ensures trailing { (v : T) (rest : List ℕ) → T.is_value v → padded.now ≡ T.enc v ++ rest → ¬ IsFewZeros size rest
         → FailsWith result Asn1DerError.InvalidData }
-    ensures refused { IfErr result (RefusesFilled (Encodings T.is_value T.enc) size filled.now) }
-    ensures first_fault { IfErr result (OrMemory (FilledFault (Encodings T.is_value T.enc) T.first T.fault size filled.now)) }
+    ensures rejected { IfErr result (RejectsPadded (Encodings T.is_value T.enc) size padded.now) }
+    ensures first_error { IfErr result (OrMemory (PaddedError (Encodings T.is_value T.enc) T.first T.error size padded.now)) }
 {
-    let (value, taken) = T::read(alloc, filled)?;
-    if is_few_zeros(&filled[taken..], size) {
+    let (value, taken) = T::read(alloc, padded)?;
+    if is_few_zeros(&padded[taken..], size) {
         Ok(value)
     } else {
         Err(Asn1DerError::InvalidData)

@@ -4,12 +4,12 @@ use Rattle.std.specs.Prelude.{◌≡◌, ◌≢◌, ◌⊎◌, ℕ, ℤ, Bool, L
 use Rattle.krb_crypto_hash.specs.declared.error.KerberosCryptoError.{KerberosCryptoError}
 use Rattle.krb_crypto_hash.specs.declared.error.KerberosCryptoError.TheVariants.{KeyLength}
 use Rattle.krb_der_core.specs.declared.error.Asn1DerError.{Asn1DerError}
-use Rattle.krb_der_core.specs.Faults.{ValueFault}
+use Rattle.krb_der_core.specs.Errors.{ValueError}
 use Rattle.krb_der_core.specs.Reading.{Encodings}
-use Rattle.krb_der.specs.Whole.{ReadsValue, TellsCut, RefusesMore, NoDevice}
+use Rattle.krb_der.specs.Whole.{ReadsValue, ReportsCut, RejectsMore, NoDevice}
 use Rattle.krb_crypto_message.specs.Sealing.{IsGiven, IsOfNone, Opens}
-use Rattle.krb_seal.specs.Filled.{FilledFault, RefusesFilled}
-use Rattle.krb_crypto_suite.specs.BySuite.{IsSealed, key_octets_of, confounder_octets_of, fill_octets_of, refusal_of}
+use Rattle.krb_seal.specs.Padded.{PaddedError, RejectsPadded}
+use Rattle.krb_crypto_suite.specs.BySuite.{IsSealed, key_octets_of, confounder_octets_of, padding_octets_of, error_of}
 use Rattle.krb_crypto_suite.specs.declared.cipher_suite.CipherSuite.{CipherSuite}
 use Rattle.krbtool.specs.declared.command.Command.{Command}
 use Rattle.krbtool.specs.declared.command.Command.TheVariants.{Check, Seal, Open}
@@ -37,12 +37,12 @@ module _ {V : Type 0} (is_value : V → Type 0) (enc : V → List ℕ) where
   IsAnswer (Seal key confounder) input answer = IsSealing key.suite key.octets.items key.usage confounder.items input answer
   IsAnswer (Open key) input answer = IsOpening key.suite key.octets.items key.usage input answer
 
-module _ {V : Type 0} (is_value : V → Type 0) (enc : V → List ℕ) (first : ℕ → Bool) (fault : ℕ → List ℕ → Asn1DerError → Type 0) where
+module _ {V : Type 0} (is_value : V → Type 0) (enc : V → List ℕ) (first : ℕ → Bool) (error : ℕ → List ℕ → Asn1DerError → Type 0) where
   -- the error of octets that should be the encoding of a value: an allocation failure, or their first error
   abbrev pub IsReadError : List ℕ → Failure → Type 0
   IsReadError octets e = (e ≡ Memory) ⊎ ((why : Asn1DerError) × (e ≡ Der why)
-      × ReadsValue is_value enc octets (Err why) × TellsCut is_value enc octets (Err why) × RefusesMore is_value enc octets (Err why) × NoDevice why
-      × ValueFault is_value enc first fault octets why)
+      × ReadsValue is_value enc octets (Err why) × ReportsCut is_value enc octets (Err why) × RejectsMore is_value enc octets (Err why) × NoDevice why
+      × ValueError is_value enc first error octets why)
 
   -- or they are, and the key has not size octets: the value is read first
   abbrev pub IsSealError : ℕ → List ℕ → List ℕ → Failure → Type 0
@@ -52,23 +52,23 @@ module _ {V : Type 0} (is_value : V → Type 0) (enc : V → List ℕ) (first : 
   -- a right key only where they are given for no payload; or the first error of a payload that is opened and is no padded
   -- encoding.
   abbrev pub IsOpenError : ℕ → (List ℕ → Type 0) → Type 0 → (KerberosCryptoError → Type 0) → Failure → Type 0
-  IsOpenError fill given right unopened e =
+  IsOpenError padding given right unopened e =
       (e ≡ Memory)
       ⊎ ((why : KerberosCryptoError) × (e ≡ Crypto why) × unopened why × (right → IsOfNone given))
-      ⊎ ((why : Asn1DerError) × (e ≡ Der why) × (filled : List ℕ) × Opens fill given filled
-      × RefusesFilled (Encodings is_value enc) fill filled why × FilledFault (Encodings is_value enc) first fault fill filled why)
+      ⊎ ((why : Asn1DerError) × (e ≡ Der why) × (padded : List ℕ) × Opens padding given padded
+      × RejectsPadded (Encodings is_value enc) padding padded why × PaddedError (Encodings is_value enc) first error padding padded why)
 
   -- the error of octets that are not opened under the suite, the key and the usage
   abbrev pub IsOpenErrorUnder : CipherSuite → List ℕ → ℤ → List ℕ → Failure → Type 0
   IsOpenErrorUnder suite key usage input e =
-      IsOpenError (fill_octets_of suite) (IsGiven (IsSealed suite key usage) (confounder_octets_of suite) input)
-      (length key ≡ key_octets_of suite) (λ why. why ≡ refusal_of suite key input) e
+      IsOpenError (padding_octets_of suite) (IsGiven (IsSealed suite key usage) (confounder_octets_of suite) input)
+      (length key ≡ key_octets_of suite) (λ why. why ≡ error_of suite key input) e
 
   -- the command's error for the input
-  abbrev pub IsRefusal : Command → List ℕ → Failure → Type 0
-  IsRefusal Check input e = IsReadError input e
-  IsRefusal (Seal key confounder) input e = IsSealError (key_octets_of key.suite) key.octets.items input e
-  IsRefusal (Open key) input e = IsOpenErrorUnder key.suite key.octets.items key.usage input e
+  abbrev pub IsRejection : Command → List ℕ → Failure → Type 0
+  IsRejection Check input e = IsReadError input e
+  IsRejection (Seal key confounder) input e = IsSealError (key_octets_of key.suite) key.octets.items input e
+  IsRejection (Open key) input e = IsOpenErrorUnder key.suite key.octets.items key.usage input e
 
 -- what a command keeps of its arguments
 abbrev pub HasConfounder : Command → Type 0

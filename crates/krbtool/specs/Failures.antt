@@ -7,7 +7,7 @@ use Rattle.krb_der_core.specs.declared.error.Asn1DerError.TheVariants as der
 use Rattle.krb_seal.specs.declared.error.PartError.{PartError}
 use Rattle.krb_seal.specs.declared.error.PartError.TheVariants as part
 use Rattle.krbtool.specs.declared.failure.Failure.{Failure}
-use Rattle.krbtool.specs.declared.failure.Failure.TheVariants.{Words, Der, Crypto, Memory, Read, Write}
+use Rattle.krbtool.specs.declared.failure.Failure.TheVariants.{Arguments, Der, Crypto, Memory, Read, Write}
 
 -- an error of the type of a value is a failure of its own, and an allocation failure is one
 abbrev pub of_der : Asn1DerError → Failure
@@ -46,7 +46,7 @@ crypto_line (crypto.SeedBitLen text) = codes "krbtool: crypto SeedBitLen\n"
 crypto_line crypto.OutOfMemory = codes "krbtool: memory\n"
 
 abbrev pub line_of : Failure → List ℕ
-line_of Words = codes "usage: krbtool check | seal ETYPE KEYHEX USAGE CONFHEX | open ETYPE KEYHEX USAGE\n"
+line_of Arguments = codes "usage: krbtool check | seal ETYPE KEYHEX USAGE CONFHEX | open ETYPE KEYHEX USAGE\n"
 line_of (Der e) = der_line e
 line_of (Crypto e) = crypto_line e
 line_of Memory = codes "krbtool: memory\n"

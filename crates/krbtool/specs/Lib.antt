@@ -1,4 +1,4 @@
 pub mod Failures
 pub mod Commands
-pub mod Words
+pub mod Arguments
 pub mod Outcome

@@ -3,7 +3,7 @@
 ghost use Rattle.std.specs.Prelude.{◌≡◌, ℕ, List, length, IfOk, IfErr, MatchResult};
 ghost use Rattle.krb_crypto_message.specs.Sealing.{IsGiven};
 ghost use Rattle.krb_crypto_suite.specs.BySuite.{key_octets_of, confounder_octets_of};
-ghost use Rattle.krbtool.specs.Commands.{IsChecked, IsSealing, IsOpening, IsAnswer, IsReadError, IsSealError, IsOpenError, IsOpenErrorUnder, IsRefusal, HasConfounder};
+ghost use Rattle.krbtool.specs.Commands.{IsChecked, IsSealing, IsOpening, IsAnswer, IsReadError, IsSealError, IsOpenError, IsOpenErrorUnder, IsRejection, HasConfounder};
 ghost use Rattle.krbtool.specs.Outcome.{IsOutside};
 
 use crate::command::{Command, SealingKey};
@@ -21,7 +21,7 @@ fn checked<T: Der + Drop>(alloc: Global, input: &[u8]) -> Result<Vec<u8>, Failur
     ensures found { IfOk result (λ made. IsChecked T.is_value T.enc input.now made.items) }
     ensures only { (answer : List ℕ) → IsChecked T.is_value T.enc input.now answer
         → MatchResult result (λ made. made.items ≡ answer) IsOutside }
-    ensures refused { IfErr result (IsReadError T.is_value T.enc T.first T.fault input.now) }
+    ensures rejected { IfErr result (IsReadError T.is_value T.enc T.first T.error input.now) }
 {
     let value: T = from_bytes(alloc, input)?;
     Ok(to_vec(alloc, &value)?)
@@ -43,7 +43,7 @@ fn sealed<T: Der + Drop>(
         → length key.now.octets.items ≡ key_octets cipher.now
         → meaning cipher.now key.now.octets.items key.now.usage confounder.now (T.enc v) answer
         → MatchResult result (λ made. made.items ≡ answer) IsOutside }
-    ensures refused { IfErr result (IsSealError T.is_value T.enc T.first T.fault (key_octets cipher.now) key.now.octets.items input.now) }
+    ensures rejected { IfErr result (IsSealError T.is_value T.enc T.first T.error (key_octets cipher.now) key.now.octets.items input.now) }
 {
     let value: T = from_bytes(alloc, input)?;
     let made = seal_part(alloc, cipher, &key.octets, key.usage, confounder, &value)?;
@@ -63,7 +63,7 @@ fn opened<T: Der + Drop>(
     ensures only { (v : T) → T.is_value v → length key.now.octets.items ≡ key_octets cipher.now
         → IsGiven (meaning cipher.now key.now.octets.items key.now.usage) (confounder_octets cipher.now) input.now (T.enc v)
         → MatchResult result (λ made. made.items ≡ T.enc v) IsOutside }
-    ensures refused { IfErr result (IsOpenError T.is_value T.enc T.first T.fault (fill_octets cipher.now)
+    ensures rejected { IfErr result (IsOpenError T.is_value T.enc T.first T.error (padding_octets cipher.now)
         (IsGiven (meaning cipher.now key.now.octets.items key.now.usage) (confounder_octets cipher.now) input.now)
         (length key.now.octets.items ≡ key_octets cipher.now)
         (unopened cipher.now key.now.octets.items key.now.usage input.now)) }
@@ -83,7 +83,7 @@ fn sealed_under<T: Der + Drop>(
     ensures found { IfOk result (λ made. IsSealing T.is_value T.enc key.now.suite key.now.octets.items key.now.usage confounder.now input.now made.items) }
     ensures only { (answer : List ℕ) → IsSealing T.is_value T.enc key.now.suite key.now.octets.items key.now.usage confounder.now input.now answer
         → MatchResult result (λ made. made.items ≡ answer) IsOutside }
-    ensures refused { IfErr result (IsSealError T.is_value T.enc T.first T.fault (key_octets_of key.now.suite) key.now.octets.items input.now) }
+    ensures rejected { IfErr result (IsSealError T.is_value T.enc T.first T.error (key_octets_of key.now.suite) key.now.octets.items input.now) }
 {
     match key.suite {
         CipherSuite::Aes128CtsHmacSha196 => {
@@ -125,7 +125,7 @@ fn opened_under<T: Der + Drop>(
     ensures found { IfOk result (λ made. IsOpening T.is_value T.enc key.now.suite key.now.octets.items key.now.usage input.now made.items) }
     ensures only { (answer : List ℕ) → IsOpening T.is_value T.enc key.now.suite key.now.octets.items key.now.usage input.now answer
         → MatchResult result (λ made. made.items ≡ answer) IsOutside }
-    ensures refused { IfErr result (IsOpenErrorUnder T.is_value T.enc T.first T.fault key.now.suite key.now.octets.items key.now.usage input.now) }
+    ensures rejected { IfErr result (IsOpenErrorUnder T.is_value T.enc T.first T.error key.now.suite key.now.octets.items key.now.usage input.now) }
 {
     match key.suite {
         CipherSuite::Aes128CtsHmacSha196 => {
@@ -154,7 +154,7 @@ pub fn answer<T: Der + Drop>(
     ensures found { IfOk result (λ made. IsAnswer T.is_value T.enc command.now input.now made.items) }
     ensures only { (answer : List ℕ) → IsAnswer T.is_value T.enc command.now input.now answer
         → MatchResult result (λ made. made.items ≡ answer) IsOutside }
-    ensures refused { IfErr result (IsRefusal T.is_value T.enc T.first T.fault command.now input.now) }
+    ensures rejected { IfErr result (IsRejection T.is_value T.enc T.first T.error command.now input.now) }
 {
     match command {
         Command::Check => checked::<T>(alloc, input),

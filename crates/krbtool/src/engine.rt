@@ -4,7 +4,7 @@ ghost use Rattle.std.specs.Prelude.{◌≡◌, ◌⊎◌, ℕ, ⊤, map, take, I
 ghost use Rattle.std.specs.Io.KnownBytes.{Keeps, Appends, IsAtEnd};
 ghost use Rattle.std.specs.String.{string_bytes};
 ghost use Rattle.krbtool.specs.declared.failure.Failure.{Failure};
-ghost use Rattle.krbtool.specs.Outcome.{status_of, refusal_status, IsLineWritten, IsRun};
+ghost use Rattle.krbtool.specs.Outcome.{status_of, rejection_status, IsLineWritten, IsRun};
 
 use crate::answer::answer;
 use crate::failure::{Failure, read_failure};
@@ -18,7 +18,7 @@ use std::io::{ErrorKind, Read, Write};
 fn read_all<R: Read>(alloc: Global, input: &mut R) -> Result<Vec<u8>, Failure>
     ensures read { IfOk result (λ octets. IfSome (R.remaining input.old) (λ all. octets.items ≡ all)) }
     ensures end { OnOk result (IsAtEnd (R.remaining input.new)) }
-    ensures refused { IfErr result (λ e. (e ≡ Failure.Memory) ⊎ (e ≡ Failure.Read)) }
+    ensures rejected { IfErr result (λ e. (e ≡ Failure.Memory) ⊎ (e ≡ Failure.Read)) }
 {
     let mut octets = Vec::new(alloc);
     input.read_to_end(&mut octets).map_err(read_failure)?;
@@ -28,7 +28,7 @@ fn read_all<R: Read>(alloc: Global, input: &mut R) -> Result<Vec<u8>, Failure>
 /// Writes all of the octets, and lets none wait in the writer.
 fn write_out<W: Write>(output: &mut W, octets: &[u8]) -> Result<(), Failure>
     ensures written { OnOk result (Appends (W.contents output.old) (W.contents output.new) octets.now) }
-    ensures refused { IfErr result (λ e. e ≡ Failure.Write) }
+    ensures rejected { IfErr result (λ e. e ≡ Failure.Write) }
 {
     if output.write_all(octets).is_err() || output.flush().is_err() {
         return Err(Failure::Write);
@@ -39,15 +39,15 @@ fn write_out<W: Write>(output: &mut W, octets: &[u8]) -> Result<(), Failure>
 /// Reads all of the input, and writes the result to it.
 fn perform<R: Read, W: Write>(
     alloc: Global,
-    words: &[String],
+    arguments: &[String],
     input: &mut R,
     output: &mut W,
 ) -> Result<(), Failure>
-    ensures { IsRun ⟦<EncTicketPart as DerEncode>⟧.is_value ⟦<EncTicketPart as DerEncode>⟧.enc ⟦<EncTicketPart as DerEncode>⟧.first ⟦<EncTicketPart as DerEncode>⟧.fault
-        (map string_bytes words.now) (R.remaining input.old) (R.remaining input.new)
+    ensures { IsRun ⟦<EncTicketPart as DerEncode>⟧.is_value ⟦<EncTicketPart as DerEncode>⟧.enc ⟦<EncTicketPart as DerEncode>⟧.first ⟦<EncTicketPart as DerEncode>⟧.error
+        (map string_bytes arguments.now) (R.remaining input.old) (R.remaining input.new)
         (W.contents output.old) (W.contents output.new) result }
 {
-    let command = parse(alloc, words)?;
+    let command = parse(alloc, arguments)?;
     let octets = read_all(alloc, input)?;
     let made = answer::<EncTicketPart>(alloc, &command, &octets)?;
     write_out(output, &made)?;
@@ -55,7 +55,7 @@ fn perform<R: Read, W: Write>(
 }
 
 /// Writes the octets, as many of them as the writer takes.
-fn write_front<W: Write>(output: &mut W, octets: &[u8])
+fn write_prefix<W: Write>(output: &mut W, octets: &[u8])
     ensures { (count : ℕ) × Appends (W.contents output.old) (W.contents output.new) (take count octets.now) }
 {
     let mut rest = octets;
@@ -76,31 +76,31 @@ fn write_front<W: Write>(output: &mut W, octets: &[u8])
 }
 
 /// Tells an error by one line, and gives its status. A failed write of that line changes nothing.
-pub fn refuse<E: Write>(failure: &Failure, faults: &mut E) -> u8
-    ensures status { result ≡ refusal_status failure.now }
-    ensures told { IsLineWritten (E.contents faults.old) (E.contents faults.new) (Err failure.now) }
+pub fn reject<E: Write>(failure: &Failure, errors: &mut E) -> u8
+    ensures status { result ≡ rejection_status failure.now }
+    ensures told { IsLineWritten (E.contents errors.old) (E.contents errors.new) (Err failure.now) }
 {
-    write_front(faults, failure.line().as_bytes());
+    write_prefix(errors, failure.line().as_bytes());
     failure.status()
 }
 
-/// One run of the program: its status, and one line to `faults` where it rejects.
+/// One run of the program: its status, and one line to `errors` where it fails.
 pub fn run<R: Read, W: Write, E: Write>(
     alloc: Global,
-    words: &[String],
+    arguments: &[String],
     input: &mut R,
     output: &mut W,
-    faults: &mut E,
+    errors: &mut E,
 ) -> u8
     ensures ran { (outcome : Result ⊤ Failure) × (result ≡ status_of outcome)
-        × IsLineWritten (E.contents faults.old) (E.contents faults.new) outcome
-        × IsRun ⟦<EncTicketPart as DerEncode>⟧.is_value ⟦<EncTicketPart as DerEncode>⟧.enc ⟦<EncTicketPart as DerEncode>⟧.first ⟦<EncTicketPart as DerEncode>⟧.fault
-        (map string_bytes words.now) (R.remaining input.old) (R.remaining input.new)
+        × IsLineWritten (E.contents errors.old) (E.contents errors.new) outcome
+        × IsRun ⟦<EncTicketPart as DerEncode>⟧.is_value ⟦<EncTicketPart as DerEncode>⟧.enc ⟦<EncTicketPart as DerEncode>⟧.first ⟦<EncTicketPart as DerEncode>⟧.error
+        (map string_bytes arguments.now) (R.remaining input.old) (R.remaining input.new)
         (W.contents output.old) (W.contents output.new) outcome }
-    ensures quiet { result ≡ 0 → Keeps (E.contents faults.old) (E.contents faults.new) }
+    ensures quiet { result ≡ 0 → Keeps (E.contents errors.old) (E.contents errors.new) }
 {
-    match perform(alloc, words, input, output) {
+    match perform(alloc, arguments, input, output) {
         Ok(()) => 0,
-        Err(failure) => refuse(&failure, faults),
+        Err(failure) => reject(&failure, errors),
     }
 }

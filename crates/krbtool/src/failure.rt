@@ -2,7 +2,7 @@
 
 ghost use Rattle.std.specs.Prelude.{◌≡◌, ◌⊎◌};
 ghost use Rattle.krbtool.specs.Failures.{of_der, of_part, der_line, crypto_line, line_of};
-ghost use Rattle.krbtool.specs.Outcome.{refusal_status};
+ghost use Rattle.krbtool.specs.Outcome.{rejection_status};
 
 use krb_crypto_suite::KerberosCryptoError;
 use krb_der::Asn1DerError;
@@ -13,7 +13,7 @@ use std::io;
 #[derive(Debug, Drop)]
 pub enum Failure {
     /// The words are no command.
-    Words,
+    Arguments,
     /// The octets are no encoding, for this reason.
     Der(Asn1DerError),
     /// The encryption type is not known, or the cipher rejected the key or the octets, for this reason.
@@ -29,10 +29,10 @@ pub enum Failure {
 impl Failure {
     /// The status with which the program ends: 2 where the words are no command, else 1.
     pub fn status(&self) -> u8
-        ensures { result ≡ refusal_status self.now }
+        ensures { result ≡ rejection_status self.now }
     {
         match self {
-            Failure::Words => 2,
+            Failure::Arguments => 2,
             _ => 1,
         }
     }
@@ -42,7 +42,7 @@ impl Failure {
         ensures { result.now ≡ line_of self.now }
     {
         match self {
-            Failure::Words => {
+            Failure::Arguments => {
                 "usage: krbtool check | seal ETYPE KEYHEX USAGE CONFHEX | open ETYPE KEYHEX USAGE\n"
             }
             Failure::Der(error) => der_line(error),
@@ -123,12 +123,12 @@ pub fn read_failure(error: io::Error) -> Failure
 }
 
 /// The error of words that could not be had: an allocation failure, or a word that is no text and so of no command.
-pub fn words_failure(error: io::Error) -> Failure
-    ensures { (result ≡ Failure.Memory) ⊎ (result ≡ Failure.Words) }
+pub fn arguments_failure(error: io::Error) -> Failure
+    ensures { (result ≡ Failure.Memory) ⊎ (result ≡ Failure.Arguments) }
 {
     if error.kind() == io::ErrorKind::OutOfMemory {
         Failure::Memory
     } else {
-        Failure::Words
+        Failure::Arguments
     }
 }

@@ -13,32 +13,32 @@ mod sealed_parts;
 #[cfg(test)]
 mod tests;
 
-use engine::refuse;
+use engine::reject;
 pub use engine::run;
-use failure::words_failure;
+use failure::arguments_failure;
 use std::process::ExitCode;
 use std::{env, io};
 
 /// The words after the program's name.
-fn words(rt: &HostRuntime) -> io::Result<Vec<String>> {
+fn arguments(rt: &HostRuntime) -> io::Result<Vec<String>> {
     Ok(env::args(rt)?.skip(1).collect(rt.alloc())?)
 }
 
 fn main(rt: HostRuntime) -> ExitCode {
-    let mut faults = rt.stderr();
-    let status = match words(&rt) {
-        Ok(words) => {
+    let mut errors = rt.stderr();
+    let status = match arguments(&rt) {
+        Ok(arguments) => {
             let mut input = rt.stdin().lock();
             let mut output = rt.stdout();
             run(
                 rt.alloc(),
-                words.as_slice(),
+                arguments.as_slice(),
                 &mut input,
                 &mut output,
-                &mut faults,
+                &mut errors,
             )
         }
-        Err(error) => refuse(&words_failure(error), &mut faults),
+        Err(error) => reject(&arguments_failure(error), &mut errors),
     };
     ExitCode::from(status)
 }

@@ -26,7 +26,7 @@ steps;1;krbtool check;part 127;0;1;der TruncatedData\n\
 steps;1;krbtool seal;part 128;128;2;\n\
 once;128;krbtool check;part 128;0;0;\n\
 once;129;krbtool check;part 129;0;1;der InvalidData\n\
-fronts;4096;krbtool check;part 128;0;1;der TruncatedData\n\
+prefixes;4096;krbtool check;part 128;0;1;der TruncatedData\n\
 flips;374;krbtool check;part 128;0;1;\n\
 flips;467;krbtool check;part 128;0;1;der InvalidData\n\
 flips;165;krbtool check;part 128;0;1;der TruncatedData\n\

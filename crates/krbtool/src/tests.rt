@@ -84,51 +84,51 @@ impl<'a> Write for Device<'a> {
 struct Row<'a> {
     sweep: &'a str,
     number: usize,
-    words: Vec<String>,
+    arguments: Vec<String>,
     input: Vec<u8>,
     left: usize,
     status: u8,
     output: Vec<u8>,
-    faults: Vec<u8>,
+    errors: Vec<u8>,
 }
 
 /// The words of a line but its first.
-fn words_of(alloc: Global, line: &str) -> Result<Vec<String>, AllocError> {
-    let mut words = Vec::new(alloc);
+fn arguments_of(alloc: Global, line: &str) -> Result<Vec<String>, AllocError> {
+    let mut arguments = Vec::new(alloc);
     let mut rest = line.split_once(' ');
     for _ in 0..8 {
-        let Some((_, behind)) = rest else {
+        let Some((_, trailing)) = rest else {
             break;
         };
-        rest = behind.split_once(' ');
-        let word = match rest {
-            Some((word, _)) => word,
-            None => behind,
+        rest = trailing.split_once(' ');
+        let argument = match rest {
+            Some((argument, _)) => argument,
+            None => trailing,
         };
-        words.push(String::from_str(alloc, word)?)?;
+        arguments.push(String::from_str(alloc, argument)?)?;
     }
-    Ok(words)
+    Ok(arguments)
 }
 
 /// The row that a line is but for its output and its line.
 fn row_of(alloc: Global, line: &str) -> Option<(Row<'_>, &str)> {
     let (sweep, rest) = line.split_once(';')?;
     let (number, rest) = rest.split_once(';')?;
-    let (words, rest) = rest.split_once(';')?;
+    let (arguments, rest) = rest.split_once(';')?;
     let (input, rest) = rest.split_once(';')?;
     let (left, rest) = rest.split_once(';')?;
-    let (status, fault) = rest.split_once(';')?;
+    let (status, error) = rest.split_once(';')?;
     let row = Row {
         sweep,
         number: number.parse::<usize>().ok()?,
-        words: words_of(alloc, words).ok()?,
+        arguments: arguments_of(alloc, arguments).ok()?,
         input: input_of(alloc, input)?,
         left: left.parse::<usize>().ok()?,
         status: status.parse::<u8>().ok()?,
         output: Vec::new(alloc),
-        faults: Vec::new(alloc),
+        errors: Vec::new(alloc),
     };
-    Some((row, fault))
+    Some((row, error))
 }
 
 /// The input that a column says.
@@ -148,14 +148,14 @@ fn input_of(alloc: Global, column: &str) -> Option<Vec<u8>> {
 
 /// The row of a line, whole.
 fn whole_row_of(alloc: Global, line: &str) -> Option<Row<'_>> {
-    let (mut row, fault) = row_of(alloc, line)?;
+    let (mut row, error) = row_of(alloc, line)?;
     match row.status {
         0 => row.output.extend_from_slice(&PART).ok()?,
-        2 => row.faults.extend_from_slice(USAGE).ok()?,
+        2 => row.errors.extend_from_slice(USAGE).ok()?,
         _ => {
-            if !fault.is_empty() {
+            if !error.is_empty() {
                 let text = format!(in alloc; "krbtool: {fault}\n").ok()?;
-                row.faults.extend_from_slice(text.as_bytes()).ok()?;
+                row.errors.extend_from_slice(text.as_bytes()).ok()?;
             }
         }
     }
@@ -166,19 +166,19 @@ fn whole_row_of(alloc: Global, line: &str) -> Option<Row<'_>> {
 fn good_row<'a>(
     alloc: Global,
     number: usize,
-    words: &str,
+    arguments: &str,
     input: &[u8],
     output: &[u8],
 ) -> Result<Row<'a>, AllocError> {
     Ok(Row {
         sweep: "once",
         number,
-        words: words_of(alloc, words)?,
+        arguments: arguments_of(alloc, arguments)?,
         input: Vec::from_slice(alloc, input)?,
         left: 0,
         status: 0,
         output: Vec::from_slice(alloc, output)?,
-        faults: Vec::new(alloc),
+        errors: Vec::new(alloc),
     })
 }
 
@@ -199,13 +199,13 @@ fn writes_of(row: &Row) -> usize {
 }
 
 /// The first `count` of the octets, or all of them.
-fn front_of(octets: &[u8], count: usize) -> &[u8] {
+fn prefix_of(octets: &[u8], count: usize) -> &[u8] {
     &octets[..count.min(octets.len())]
 }
 
 /// Whether a run is as the row says where the call number `failing` of one device fails: of the reader (0), of the writer (1) or of
 /// that of the errors (2). No call has the number 0.
-fn is_told(alloc: Global, row: &Row, place: u8, failing: usize, is_interrupted: bool) -> bool {
+fn is_reported(alloc: Global, row: &Row, place: u8, failing: usize, is_interrupted: bool) -> bool {
     let step = row.number;
     let failing_at = [
         if place == 0 { failing } else { 0 },
@@ -214,13 +214,13 @@ fn is_told(alloc: Global, row: &Row, place: u8, failing: usize, is_interrupted: 
     ];
     let mut input = Device::new(alloc, &row.input, step, failing_at[0], is_interrupted);
     let mut output = Device::new(alloc, &[], step, failing_at[1], is_interrupted);
-    let mut faults = Device::new(alloc, &[], step, failing_at[2], is_interrupted);
-    let status = run(alloc, &row.words, &mut input, &mut output, &mut faults);
+    let mut errors = Device::new(alloc, &[], step, failing_at[2], is_interrupted);
+    let status = run(alloc, &row.arguments, &mut input, &mut output, &mut errors);
     let is_flush = place == 1 && failing == writes_of(row);
     if failing == 0 || (is_interrupted && !is_flush) {
         return status == row.status
             && output.taken == row.output
-            && faults.taken == row.faults
+            && errors.taken == row.errors
             && input.left.len() == row.left
             && (is_interrupted || output.calls == writes_of(row));
     }
@@ -228,51 +228,51 @@ fn is_told(alloc: Global, row: &Row, place: u8, failing: usize, is_interrupted: 
     if place == 2 {
         return status == row.status
             && output.taken == row.output
-            && faults.taken.as_slice() == front_of(&row.faults, before);
+            && errors.taken.as_slice() == prefix_of(&row.errors, before);
     }
     let taken = if place == 1 { before } else { 0 };
     status == 1
-        && output.taken.as_slice() == front_of(&row.output, taken)
-        && faults.taken.as_slice() == b"krbtool: io\n".as_slice()
+        && output.taken.as_slice() == prefix_of(&row.output, taken)
+        && errors.taken.as_slice() == b"krbtool: io\n".as_slice()
 }
 
 /// Each call of each device fails in turn, and is interrupted in turn. The reader's last call finds the end.
-fn is_told_over_devices(alloc: Global, row: &Row) -> bool {
+fn is_reported_over_devices(alloc: Global, row: &Row) -> bool {
     let mut reads = 0;
     if row.left == 0 {
         reads = calls_of(row.input.len(), row.number).saturating_add(1);
     }
-    let lines = calls_of(row.faults.len(), row.number);
+    let lines = calls_of(row.errors.len(), row.number);
     for (place, count) in [(0u8, reads), (1, writes_of(row)), (2, lines)] {
         for turn in 0..count {
             let failing = turn.saturating_add(1);
-            if !is_told(alloc, row, place, failing, false)
-                || !is_told(alloc, row, place, failing, true)
+            if !is_reported(alloc, row, place, failing, false)
+                || !is_reported(alloc, row, place, failing, true)
             {
                 return false;
             }
         }
     }
-    is_told(alloc, row, 0, 0, false)
+    is_reported(alloc, row, 0, 0, false)
 }
 
 /// Whether the run of this input, of which one bit was flipped, is told by the row's line. `None` where it is neither rejected with a line
 /// nor written back.
-fn is_flip_told(alloc: Global, row: &Row, flipped: &[u8]) -> Option<bool> {
+fn is_flip_reported(alloc: Global, row: &Row, flipped: &[u8]) -> Option<bool> {
     let mut input = Device::new(alloc, flipped, 4096, 0, false);
     let mut output = Device::new(alloc, &[], 4096, 0, false);
-    let mut faults = Device::new(alloc, &[], 4096, 0, false);
-    let status = run(alloc, &row.words, &mut input, &mut output, &mut faults);
-    let is_refused = status == 1 && output.taken.is_empty() && !faults.taken.is_empty();
-    let is_written = status == 0 && output.taken.as_slice() == flipped && faults.taken.is_empty();
-    if is_refused || is_written {
-        return Some(faults.taken == row.faults);
+    let mut errors = Device::new(alloc, &[], 4096, 0, false);
+    let status = run(alloc, &row.arguments, &mut input, &mut output, &mut errors);
+    let is_rejected = status == 1 && output.taken.is_empty() && !errors.taken.is_empty();
+    let is_written = status == 0 && output.taken.as_slice() == flipped && errors.taken.is_empty();
+    if is_rejected || is_written {
+        return Some(errors.taken == row.errors);
     }
     None
 }
 
 /// How many of the single bit flips of the input are told by the row's line.
-fn flips_told(alloc: Global, row: &Row) -> Option<usize> {
+fn flips_reported(alloc: Global, row: &Row) -> Option<usize> {
     let mut flipped = Vec::from_slice(alloc, &row.input).ok()?;
     let mut told = 0usize;
     for position in 0..row.input.len() {
@@ -280,7 +280,7 @@ fn flips_told(alloc: Global, row: &Row) -> Option<usize> {
             if let Some(octet) = flipped.get_mut(position) {
                 *octet ^= bit;
             }
-            if is_flip_told(alloc, row, &flipped)? {
+            if is_flip_reported(alloc, row, &flipped)? {
                 told = told.saturating_add(1);
             }
             if let Some(octet) = flipped.get_mut(position) {
@@ -292,10 +292,10 @@ fn flips_told(alloc: Global, row: &Row) -> Option<usize> {
 }
 
 /// Whether each proper prefix of the input is told as the row says.
-fn are_fronts_told(alloc: Global, row: &mut Row) -> bool {
+fn are_prefixes_reported(alloc: Global, row: &mut Row) -> bool {
     for _ in 0..row.input.len() {
         row.input.pop();
-        if !is_told(alloc, row, 0, 0, false) {
+        if !is_reported(alloc, row, 0, 0, false) {
             return false;
         }
     }
@@ -303,15 +303,15 @@ fn are_fronts_told(alloc: Global, row: &mut Row) -> bool {
 }
 
 /// Whether the runs of a line are as it says.
-fn is_line_told(alloc: Global, line: &str) -> bool {
+fn is_line_reported(alloc: Global, line: &str) -> bool {
     let Some(mut row) = whole_row_of(alloc, line) else {
         return false;
     };
     match row.sweep {
-        "once" => is_told(alloc, &row, 0, 0, false),
-        "steps" => is_told_over_devices(alloc, &row),
-        "fronts" => are_fronts_told(alloc, &mut row),
-        "flips" => flips_told(alloc, &row) == Some(row.number),
+        "once" => is_reported(alloc, &row, 0, 0, false),
+        "steps" => is_reported_over_devices(alloc, &row),
+        "fronts" => are_prefixes_reported(alloc, &mut row),
+        "flips" => flips_reported(alloc, &row) == Some(row.number),
         _ => false,
     }
 }
@@ -339,80 +339,80 @@ fn part_of(alloc: Global, line: &str) -> Option<SealedPart<'_>> {
 }
 
 /// Whether a part is sealed, opened and written back, `step` octets a call. Without its last octet it is none.
-fn is_part_told(alloc: Global, part: &SealedPart, step: usize) -> Result<bool, AllocError> {
+fn is_part_reported(alloc: Global, part: &SealedPart, step: usize) -> Result<bool, AllocError> {
     let seal = good_row(alloc, step, part.sealing, &part.opened, &part.sealed)?;
     let open = good_row(alloc, step, part.opening, &part.sealed, &part.opened)?;
     let check = good_row(alloc, step, "krbtool check", &part.opened, &part.opened)?;
-    let front = &part.opened[..part.opened.len().saturating_sub(1)];
-    let mut short = good_row(alloc, step, "krbtool check", front, &[])?;
+    let prefix = &part.opened[..part.opened.len().saturating_sub(1)];
+    let mut short = good_row(alloc, step, "krbtool check", prefix, &[])?;
     short.status = 1;
-    short.faults.extend_from_slice(TRUNCATED)?;
+    short.errors.extend_from_slice(TRUNCATED)?;
     if step < 16 {
-        return Ok(is_told_over_devices(alloc, &seal) && is_told_over_devices(alloc, &open));
+        return Ok(is_reported_over_devices(alloc, &seal) && is_reported_over_devices(alloc, &open));
     }
     Ok(
-        is_told(alloc, &seal, 0, 0, false)
-            && is_told(alloc, &open, 0, 0, false)
-            && is_told(alloc, &check, 0, 0, false)
-            && is_told(alloc, &short, 0, 0, false),
+        is_reported(alloc, &seal, 0, 0, false)
+            && is_reported(alloc, &open, 0, 0, false)
+            && is_reported(alloc, &check, 0, 0, false)
+            && is_reported(alloc, &short, 0, 0, false),
     )
 }
 
 /// Whether each single bit flip of a sealed part is told by the checksum.
-fn are_flips_told(alloc: Global, part: &SealedPart) -> Result<bool, AllocError> {
+fn are_flips_reported(alloc: Global, part: &SealedPart) -> Result<bool, AllocError> {
     let mut row = good_row(alloc, 4096, part.opening, &part.sealed, &[])?;
-    row.faults.extend_from_slice(INTEGRITY)?;
-    Ok(flips_told(alloc, &row) == Some(part.sealed.len().saturating_mul(8)))
+    row.errors.extend_from_slice(INTEGRITY)?;
+    Ok(flips_reported(alloc, &row) == Some(part.sealed.len().saturating_mul(8)))
 }
 
 /// The first line that is not told, or nothing.
-fn fault_of_lines(alloc: Global) -> &'static str {
+fn error_of_lines(alloc: Global) -> &'static str {
     let mut rest = ROWS;
     for _ in 0..1000 {
-        let Some((line, behind)) = rest.split_once('\n') else {
+        let Some((line, trailing)) = rest.split_once('\n') else {
             return rest;
         };
-        if !is_line_told(alloc, line) {
+        if !is_line_reported(alloc, line) {
             return line;
         }
-        rest = behind;
+        rest = trailing;
     }
     rest
 }
 
 /// Whether a part is told as its line says, in steps of few octets too where it is the first.
-fn is_part_line_told(alloc: Global, line: &str, is_first: bool) -> bool {
+fn is_part_line_reported(alloc: Global, line: &str, is_first: bool) -> bool {
     let Some(part) = part_of(alloc, line) else {
         return false;
     };
-    if is_first && !matches!(is_part_told(alloc, &part, 1), Ok(true)) {
+    if is_first && !matches!(is_part_reported(alloc, &part, 1), Ok(true)) {
         return false;
     }
-    if is_first && !matches!(is_part_told(alloc, &part, 7), Ok(true)) {
+    if is_first && !matches!(is_part_reported(alloc, &part, 7), Ok(true)) {
         return false;
     }
-    matches!(is_part_told(alloc, &part, 4096), Ok(true))
-        && matches!(are_flips_told(alloc, &part), Ok(true))
+    matches!(is_part_reported(alloc, &part, 4096), Ok(true))
+        && matches!(are_flips_reported(alloc, &part), Ok(true))
 }
 
 /// The first line of a part that is not told, or nothing.
-fn fault_of_parts(alloc: Global) -> &'static str {
+fn error_of_parts(alloc: Global) -> &'static str {
     let mut rest = SEALED_PARTS;
     for turn in 0..1000 {
-        let Some((line, behind)) = rest.split_once('\n') else {
+        let Some((line, trailing)) = rest.split_once('\n') else {
             return rest;
         };
-        if !is_part_line_told(alloc, line, turn == 0) {
+        if !is_part_line_reported(alloc, line, turn == 0) {
             return line;
         }
-        rest = behind;
+        rest = trailing;
     }
     rest
 }
 
 #[test]
 fn rows(rt: HostRuntime) -> Result<(), Fail> {
-    assert_eq!(rt; fault_of_lines(rt.alloc()), "");
-    assert_eq!(rt; fault_of_parts(rt.alloc()), "");
+    assert_eq!(rt; error_of_lines(rt.alloc()), "");
+    assert_eq!(rt; error_of_parts(rt.alloc()), "");
     Ok(())
 }

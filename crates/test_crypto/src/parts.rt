@@ -11,8 +11,8 @@ use std::alloc::{AllocError, Global};
 fn opened(alloc: Global, cipher: &dyn Cipher, row: &Row) -> KerberosCryptoResult<String> {
     match open_part::<Asn1RawDer>(alloc, cipher, &row.key, row.number, &row.input) {
         Ok(part) => Ok(hex::encode(alloc, part.as_bytes())?),
-        Err(PartError::Crypto(refusal)) => Err(refusal),
-        Err(refusal) => Ok(format!(in alloc; "refused, {refusal:?}")?),
+        Err(PartError::Crypto(rejection)) => Err(rejection),
+        Err(rejection) => Ok(format!(in alloc; "refused, {refusal:?}")?),
     }
 }
 

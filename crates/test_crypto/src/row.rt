@@ -30,7 +30,7 @@ fn digits(alloc: Global, octets: &[u8]) -> KerberosCryptoResult<String> {
 pub fn answer_of(alloc: Global, octets: KerberosCryptoResult<Vec<u8>>) -> Answer {
     match octets {
         Ok(octets) => Some(digits(alloc, &octets)),
-        Err(refusal) => Some(Err(refusal)),
+        Err(rejection) => Some(Err(rejection)),
     }
 }
 

@@ -98,7 +98,7 @@ fn flips(
 }
 
 /// What each proper front of the input opens to, the empty one first.
-fn fronts(
+fn prefixes(
     alloc: Global,
     cipher: &dyn Cipher,
     fewest: usize,
@@ -106,8 +106,8 @@ fn fronts(
 ) -> KerberosCryptoResult<String> {
     let mut runs = Runs::new(alloc);
     for count in 0..row.input.len() {
-        let front = &row.input[..count];
-        runs.add(alloc, opened(alloc, cipher, fewest, row, front))?;
+        let prefix = &row.input[..count];
+        runs.add(alloc, opened(alloc, cipher, fewest, row, prefix))?;
     }
     runs.end(alloc)?;
     Ok(runs.text)
@@ -116,7 +116,7 @@ fn fronts(
 fn sweep(alloc: Global, cipher: &dyn Cipher, fewest: usize, row: &Row) -> Answer {
     match row.call {
         "flips" => Some(flips(alloc, cipher, fewest, row)),
-        "fronts" => Some(fronts(alloc, cipher, fewest, row)),
+        "fronts" => Some(prefixes(alloc, cipher, fewest, row)),
         _ => None,
     }
 }

@@ -1,7 +1,7 @@
 //! The tables of words by which AES and DES are computed.
 
 use crate::row::{Answer, Row, answer_of};
-use krb_crypto_block::word_tables::{D0, D1, D2, D3, JOINED, T0, T1, T2, T3};
+use krb_crypto_block::word_tables::{COMBINED, D0, D1, D2, D3, T0, T1, T2, T3};
 use picky_krb::crypto::KerberosCryptoResult;
 use std::alloc::Global;
 
@@ -26,14 +26,14 @@ fn table_of(name: &str) -> Option<&'static [u32]> {
         "D1" => Some(&D1),
         "D2" => Some(&D2),
         "D3" => Some(&D3),
-        "S1P" => Some(&JOINED[0]),
-        "S2P" => Some(&JOINED[1]),
-        "S3P" => Some(&JOINED[2]),
-        "S4P" => Some(&JOINED[3]),
-        "S5P" => Some(&JOINED[4]),
-        "S6P" => Some(&JOINED[5]),
-        "S7P" => Some(&JOINED[6]),
-        "S8P" => Some(&JOINED[7]),
+        "S1P" => Some(&COMBINED[0]),
+        "S2P" => Some(&COMBINED[1]),
+        "S3P" => Some(&COMBINED[2]),
+        "S4P" => Some(&COMBINED[3]),
+        "S5P" => Some(&COMBINED[4]),
+        "S6P" => Some(&COMBINED[5]),
+        "S7P" => Some(&COMBINED[6]),
+        "S8P" => Some(&COMBINED[7]),
         _ => None,
     }
 }

@@ -13,14 +13,14 @@ use std::io;
 use std::io::ErrorKind;
 
 /// The text of a refusal.
-fn text_of<E: Display + Drop>(alloc: Global, refusal: E) -> Answer {
-    match refusal.to_string(alloc) {
+fn text_of<E: Display + Drop>(alloc: Global, rejection: E) -> Answer {
+    match rejection.to_string(alloc) {
         Ok(text) => Some(Ok(text)),
         Err(_) => None,
     }
 }
 
-fn crypto_refusal(alloc: Global, name: &str) -> Option<KerberosCryptoError> {
+fn crypto_rejection(alloc: Global, name: &str) -> Option<KerberosCryptoError> {
     Some(match name {
         "KeyLength" => KerberosCryptoError::KeyLength(15, 16),
         "CipherLength" => KerberosCryptoError::CipherLength(27, 28),
@@ -40,7 +40,7 @@ fn crypto_refusal(alloc: Global, name: &str) -> Option<KerberosCryptoError> {
     })
 }
 
-fn der_refusal(name: &str) -> Option<Asn1DerError> {
+fn der_rejection(name: &str) -> Option<Asn1DerError> {
     match name {
         "InvalidData" => Some(Asn1DerError::InvalidData),
         "TruncatedData" => Some(Asn1DerError::TruncatedData),
@@ -50,7 +50,7 @@ fn der_refusal(name: &str) -> Option<Asn1DerError> {
     }
 }
 
-fn agreement_refusal(alloc: Global, name: &str) -> Option<DiffieHellmanError> {
+fn agreement_rejection(alloc: Global, name: &str) -> Option<DiffieHellmanError> {
     match name {
         "BitLen" => Some(DiffieHellmanError::BitLen(String::from_str(alloc, "13").ok()?)),
         "DataLen" => Some(DiffieHellmanError::DataLen(5121, 5120)),
@@ -59,7 +59,7 @@ fn agreement_refusal(alloc: Global, name: &str) -> Option<DiffieHellmanError> {
     }
 }
 
-fn pac_refusal(name: &str) -> Option<PacError> {
+fn pac_rejection(name: &str) -> Option<PacError> {
     match name {
         "Version" => Some(PacError::Version(3)),
         "PacBufferType" => Some(PacError::PacBufferType(20)),
@@ -71,7 +71,7 @@ fn pac_refusal(name: &str) -> Option<PacError> {
     }
 }
 
-fn token_refusal(alloc: Global, name: &str) -> Option<GssApiMessageError> {
+fn token_rejection(alloc: Global, name: &str) -> Option<GssApiMessageError> {
     Some(match name {
         "InvalidId" => GssApiMessageError::InvalidId([4, 4], [5, 4]),
         "InvalidMechanismOid" => GssApiMessageError::InvalidMechanismOid(
@@ -91,16 +91,16 @@ fn token_refusal(alloc: Global, name: &str) -> Option<GssApiMessageError> {
 pub fn try_text(alloc: Global, name: &str) -> Answer {
     let (family, name) = name.split_once(' ')?;
     match family {
-        "crypto" => text_of(alloc, crypto_refusal(alloc, name)?),
+        "crypto" => text_of(alloc, crypto_rejection(alloc, name)?),
         "part" => {
-            if let Some(refusal) = crypto_refusal(alloc, name) {
-                return text_of(alloc, PartError::from(refusal));
+            if let Some(rejection) = crypto_rejection(alloc, name) {
+                return text_of(alloc, PartError::from(rejection));
             }
-            text_of(alloc, PartError::from(der_refusal(name)?))
+            text_of(alloc, PartError::from(der_rejection(name)?))
         }
-        "agreement" => text_of(alloc, agreement_refusal(alloc, name)?),
-        "pac" => text_of(alloc, pac_refusal(name)?),
-        "token" => text_of(alloc, token_refusal(alloc, name)?),
+        "agreement" => text_of(alloc, agreement_rejection(alloc, name)?),
+        "pac" => text_of(alloc, pac_rejection(name)?),
+        "token" => text_of(alloc, token_rejection(alloc, name)?),
         _ => None,
     }
 }

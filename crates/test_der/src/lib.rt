@@ -7,4 +7,4 @@ mod code_texts;
 #[cfg(test)]
 mod first_rows;
 #[cfg(test)]
-mod leaf_rows;
+mod primitive_rows;

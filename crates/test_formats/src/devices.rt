@@ -6,7 +6,7 @@ use std::io::{ErrorKind, Read, Write};
 
 /// Which calls of a device fail.
 #[derive(Clone, Copy, PartialEq, Eq)]
-pub enum Fault {
+pub enum Failure {
     None,
     /// The one before which so many stand.
     At(usize),
@@ -15,10 +15,10 @@ pub enum Fault {
 }
 
 /// The fault of the call before which so many stand.
-fn fault_at(fault: Fault, before: usize) -> io::Result<()> {
-    match fault {
-        Fault::At(turn) if turn == before => Err(io::Error::from(ErrorKind::BrokenPipe)),
-        Fault::Interrupted if before % 2 == 0 => Err(io::Error::from(ErrorKind::Interrupted)),
+fn error_at(error: Failure, before: usize) -> io::Result<()> {
+    match error {
+        Failure::At(turn) if turn == before => Err(io::Error::from(ErrorKind::BrokenPipe)),
+        Failure::Interrupted if before % 2 == 0 => Err(io::Error::from(ErrorKind::Interrupted)),
         _ => Ok(()),
     }
 }
@@ -29,16 +29,16 @@ pub struct Source<'a> {
     pub left: &'a [u8],
     /// The most octets that a read gives.
     at_once: usize,
-    fault: Fault,
+    error: Failure,
     pub reads: usize,
 }
 
 impl<'a> Source<'a> {
-    pub fn new(left: &'a [u8], at_once: usize, fault: Fault) -> Source<'a> {
+    pub fn new(left: &'a [u8], at_once: usize, error: Failure) -> Source<'a> {
         Source {
             left,
             at_once,
-            fault,
+            error,
             reads: 0,
         }
     }
@@ -48,10 +48,10 @@ impl<'a> Read for Source<'a> {
     fn read(&mut self, buf: &mut [u8]) -> io::Result<usize> {
         let before = self.reads;
         self.reads = before.saturating_add(1);
-        fault_at(self.fault, before)?;
+        error_at(self.error, before)?;
         let count = buf.len().min(self.at_once).min(self.left.len());
-        let (front, rest) = self.left.split_at(count);
-        buf[..count].copy_from_slice(front);
+        let (prefix, rest) = self.left.split_at(count);
+        buf[..count].copy_from_slice(prefix);
         self.left = rest;
         Ok(count)
     }
@@ -62,16 +62,16 @@ impl<'a> Read for Source<'a> {
 pub struct Sink {
     pub taken: Vec<u8>,
     room: usize,
-    fault: Fault,
+    error: Failure,
     writes: usize,
 }
 
 impl Sink {
-    pub fn new(alloc: Global, room: usize, fault: Fault) -> Sink {
+    pub fn new(alloc: Global, room: usize, error: Failure) -> Sink {
         Sink {
             taken: Vec::new(alloc),
             room,
-            fault,
+            error,
             writes: 0,
         }
     }
@@ -81,7 +81,7 @@ impl Write for Sink {
     fn write(&mut self, buf: &[u8]) -> io::Result<usize> {
         let before = self.writes;
         self.writes = before.saturating_add(1);
-        fault_at(self.fault, before)?;
+        error_at(self.error, before)?;
         let left = self.room.saturating_sub(self.taken.len());
         if left == 0 {
             return Err(io::Error::from(ErrorKind::BrokenPipe));

@@ -2,7 +2,7 @@
 
 use krb_der::Asn1DerError;
 use krb_gss_tokens::GssApiMessageError;
-use krb_msg_password::{MessageFault, ReadFrameError, WriteFrameError};
+use krb_msg_password::{MessageError, ReadFrameError, WriteFrameError};
 use krb_pac::PacError;
 use std::alloc::{AllocError, AllocFailed, Global};
 use std::io;
@@ -52,7 +52,7 @@ impl Findings {
     }
 
     /// Appends the word of what was tried, with `not` before it where it did not hold.
-    pub fn tell(&mut self, word: &str, held: bool) -> Result<(), AllocError> {
+    pub fn decide(&mut self, word: &str, held: bool) -> Result<(), AllocError> {
         self.text.push_str(if held { ", " } else { ", not " })?;
         self.text.push_str(word)?;
         self.held = self.held && held;
@@ -62,7 +62,7 @@ impl Findings {
 
 /// Why octets were not read, or a value not written.
 #[derive(Debug, Drop)]
-pub enum Refusal {
+pub enum Rejection {
     Der(Asn1DerError),
     Token(GssApiMessageError),
     Pac(PacError),
@@ -77,103 +77,103 @@ pub enum Refusal {
 }
 
 /// What is found of a row, or how its octets are refused. `None` where no format has the row's name.
-pub type Attempt = Option<Result<Findings, Refusal>>;
+pub type Attempt = Option<Result<Findings, Rejection>>;
 
-impl From<Asn1DerError> for Refusal {
-    fn from(error: Asn1DerError) -> Refusal {
+impl From<Asn1DerError> for Rejection {
+    fn from(error: Asn1DerError) -> Rejection {
         match error {
-            Asn1DerError::OutOfMemory => Refusal::OutOfMemory,
-            Asn1DerError::Io(fault) => Refusal::from(fault),
-            error => Refusal::Der(error),
+            Asn1DerError::OutOfMemory => Rejection::OutOfMemory,
+            Asn1DerError::Io(error) => Rejection::from(error),
+            error => Rejection::Der(error),
         }
     }
 }
 
-impl From<GssApiMessageError> for Refusal {
-    fn from(error: GssApiMessageError) -> Refusal {
+impl From<GssApiMessageError> for Rejection {
+    fn from(error: GssApiMessageError) -> Rejection {
         match error {
-            GssApiMessageError::OutOfMemory => Refusal::OutOfMemory,
-            GssApiMessageError::IoError(fault) => Refusal::from(fault),
-            GssApiMessageError::Asn1Error(error) => Refusal::from(error),
-            error => Refusal::Token(error),
+            GssApiMessageError::OutOfMemory => Rejection::OutOfMemory,
+            GssApiMessageError::IoError(error) => Rejection::from(error),
+            GssApiMessageError::Asn1Error(error) => Rejection::from(error),
+            error => Rejection::Token(error),
         }
     }
 }
 
-impl From<PacError> for Refusal {
-    fn from(error: PacError) -> Refusal {
+impl From<PacError> for Rejection {
+    fn from(error: PacError) -> Rejection {
         match error {
-            PacError::OutOfMemory => Refusal::OutOfMemory,
-            PacError::IoError(fault) => Refusal::from(fault),
-            error => Refusal::Pac(error),
+            PacError::OutOfMemory => Rejection::OutOfMemory,
+            PacError::IoError(error) => Rejection::from(error),
+            error => Rejection::Pac(error),
         }
     }
 }
 
-impl From<ReadFrameError> for Refusal {
-    fn from(error: ReadFrameError) -> Refusal {
+impl From<ReadFrameError> for Rejection {
+    fn from(error: ReadFrameError) -> Rejection {
         match error {
-            ReadFrameError::OutOfMemory => Refusal::OutOfMemory,
-            error => Refusal::ReadFrame(error),
+            ReadFrameError::OutOfMemory => Rejection::OutOfMemory,
+            error => Rejection::ReadFrame(error),
         }
     }
 }
 
-impl From<WriteFrameError> for Refusal {
-    fn from(error: WriteFrameError) -> Refusal {
+impl From<WriteFrameError> for Rejection {
+    fn from(error: WriteFrameError) -> Rejection {
         match error {
-            WriteFrameError::OutOfMemory => Refusal::OutOfMemory,
-            error => Refusal::WriteFrame(error),
+            WriteFrameError::OutOfMemory => Rejection::OutOfMemory,
+            error => Rejection::WriteFrame(error),
         }
     }
 }
 
-impl From<io::Error> for Refusal {
-    fn from(error: io::Error) -> Refusal {
+impl From<io::Error> for Rejection {
+    fn from(error: io::Error) -> Rejection {
         match error.kind() {
-            ErrorKind::OutOfMemory => Refusal::OutOfMemory,
-            _ => Refusal::Device(error),
+            ErrorKind::OutOfMemory => Rejection::OutOfMemory,
+            _ => Rejection::Device(error),
         }
     }
 }
 
-impl From<AllocError> for Refusal {
-    fn from(_error: AllocError) -> Refusal {
-        Refusal::OutOfMemory
+impl From<AllocError> for Rejection {
+    fn from(_error: AllocError) -> Rejection {
+        Rejection::OutOfMemory
     }
 }
 
-impl<T: Drop> From<AllocFailed<T>> for Refusal {
-    fn from(_failed: AllocFailed<T>) -> Refusal {
-        Refusal::OutOfMemory
+impl<T: Drop> From<AllocFailed<T>> for Rejection {
+    fn from(_failed: AllocFailed<T>) -> Rejection {
+        Rejection::OutOfMemory
     }
 }
 
-impl Refusal {
+impl Rejection {
     /// The name of the refusal, and of a fault that of its kind.
     pub fn name(&self) -> &'static str {
         match self {
-            Refusal::Der(error) => der_name(error),
-            Refusal::Token(error) => token_name(error),
-            Refusal::Pac(error) => pac_name(error),
-            Refusal::ReadFrame(error) => frame_name(error),
-            Refusal::WriteFrame(_) => "TooLong",
-            Refusal::Device(fault) => kind_name(fault.kind()),
-            Refusal::Lost => "a vector that did not stay",
-            Refusal::Otherwise => "otherwise of a slow reader",
-            Refusal::OutOfMemory => "OutOfMemory",
+            Rejection::Der(error) => der_name(error),
+            Rejection::Token(error) => token_name(error),
+            Rejection::Pac(error) => pac_name(error),
+            Rejection::ReadFrame(error) => frame_name(error),
+            Rejection::WriteFrame(_) => "TooLong",
+            Rejection::Device(error) => kind_name(error.kind()),
+            Rejection::Lost => "a vector that did not stay",
+            Rejection::Otherwise => "otherwise of a slow reader",
+            Rejection::OutOfMemory => "OutOfMemory",
         }
     }
 }
 
-impl Refusal {
+impl Rejection {
     /// The refusal, with what it tells of the octets.
-    pub fn told(&self, alloc: Global) -> Result<String, AllocError> {
+    pub fn reported(&self, alloc: Global) -> Result<String, AllocError> {
         match self {
-            Refusal::Token(error) => format!(in alloc; "{error:?}"),
-            Refusal::Pac(error) => format!(in alloc; "{error:?}"),
-            Refusal::ReadFrame(error) => format!(in alloc; "{}: {error}", frame_name(error)),
-            Refusal::WriteFrame(error) => format!(in alloc; "TooLong: {error}"),
+            Rejection::Token(error) => format!(in alloc; "{error:?}"),
+            Rejection::Pac(error) => format!(in alloc; "{error:?}"),
+            Rejection::ReadFrame(error) => format!(in alloc; "{}: {error}", frame_name(error)),
+            Rejection::WriteFrame(error) => format!(in alloc; "TooLong: {error}"),
             _ => String::from_str(alloc, self.name()),
         }
     }
@@ -211,11 +211,11 @@ fn frame_name(error: &ReadFrameError) -> &'static str {
     match error {
         ReadFrameError::Cut => "Cut",
         ReadFrameError::Version => "Version",
-        ReadFrameError::ApMessage(MessageFault::InvalidData) => "ApMessageInvalidData",
-        ReadFrameError::ApMessage(MessageFault::TruncatedData) => "ApMessageTruncatedData",
+        ReadFrameError::ApMessage(MessageError::InvalidData) => "ApMessageInvalidData",
+        ReadFrameError::ApMessage(MessageError::TruncatedData) => "ApMessageTruncatedData",
         ReadFrameError::ApMessage(_) => "ApMessageUnsupportedValue",
-        ReadFrameError::KrbPriv(MessageFault::InvalidData) => "KrbPrivInvalidData",
-        ReadFrameError::KrbPriv(MessageFault::TruncatedData) => "KrbPrivTruncatedData",
+        ReadFrameError::KrbPriv(MessageError::InvalidData) => "KrbPrivInvalidData",
+        ReadFrameError::KrbPriv(MessageError::TruncatedData) => "KrbPrivTruncatedData",
         ReadFrameError::KrbPriv(_) => "KrbPrivUnsupportedValue",
         ReadFrameError::OutOfMemory => "OutOfMemory",
     }
@@ -232,9 +232,9 @@ fn kind_name(kind: ErrorKind) -> &'static str {
 }
 
 /// The name of the refusal, or `read`.
-pub fn name_of<T>(outcome: &Result<T, Refusal>) -> &'static str {
+pub fn name_of<T>(outcome: &Result<T, Rejection>) -> &'static str {
     match outcome {
         Ok(_) => "read",
-        Err(refusal) => refusal.name(),
+        Err(rejection) => rejection.name(),
     }
 }

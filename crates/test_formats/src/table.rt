@@ -1,7 +1,7 @@
 //! The rows of the table, and what is told of each.
 
 use crate::formats::try_format;
-use crate::row::{Attempt, Refusal, Row, Trial};
+use crate::row::{Attempt, Rejection, Row, Trial};
 use hex::FromHexError;
 use std::alloc::{AllocError, Global};
 
@@ -20,7 +20,7 @@ fn columns(line: &str) -> Option<(&str, &str, &str)> {
 }
 
 /// Whether a row of this origin is to be refused: it has the name of the refusal in the origin's place.
-fn is_refused(origin: &str) -> bool {
+fn is_rejected(origin: &str) -> bool {
     matches!(
         origin,
         "InvalidData" | "TruncatedData" | "UnsupportedValue" | "UnexpectedEof" | "InvalidRange"
@@ -72,13 +72,13 @@ fn push_outcome(
         Some(Ok(found)) => {
             text.push_str(" read")?;
             text.push_str(found.text.as_str())?;
-            Ok(found.held && !is_refused(origin))
+            Ok(found.held && !is_rejected(origin))
         }
-        Some(Err(Refusal::OutOfMemory)) => Err(AllocError),
-        Some(Err(refusal)) => {
+        Some(Err(Rejection::OutOfMemory)) => Err(AllocError),
+        Some(Err(rejection)) => {
             text.push_str(" refused, ")?;
-            text.push_str(refusal.told(alloc)?.as_str())?;
-            Ok(origin == refusal.name())
+            text.push_str(rejection.reported(alloc)?.as_str())?;
+            Ok(origin == rejection.name())
         }
         None => {
             text.push_str(" no such format")?;
@@ -93,13 +93,13 @@ pub fn report_of(alloc: Global, line: &str) -> Result<Report, AllocError> {
         let text = format!(in alloc; "no row: {line}")?;
         return Ok(Report { text, held: false });
     };
-    let (digits, behind) = digits.split_once('=').unwrap_or((digits, digits));
+    let (digits, trailing) = digits.split_once('=').unwrap_or((digits, digits));
     let Some(octets) = octets_of(alloc, digits)? else {
         let text = format!(in alloc; "{origin} {name}: no hexadecimal digits")?;
         return Ok(Report { text, held: false });
     };
-    let written = octets_of(alloc, behind)?;
-    let unwritten = if written.is_none() { behind } else { "" };
+    let written = octets_of(alloc, trailing)?;
+    let unwritten = if written.is_none() { trailing } else { "" };
     let mut text = format!(in alloc; "{origin} {name} {} octets:", octets.len())?;
     let found = try_format(&Row {
         alloc,

@@ -1,12 +1,12 @@
 //! What is tried of a format, by its calls.
 
-use crate::devices::{Fault, Sink, Source};
-use crate::row::{Findings, Refusal, Row, Trial, name_of};
+use crate::devices::{Failure, Sink, Source};
+use crate::row::{Findings, Rejection, Row, Trial, name_of};
 use std::alloc::Global;
 use std::io::Write;
 
 /// What stands in the vector that octets are written to.
-const FRONT: [u8; 3] = [0xde, 0xad, 0x01];
+const PREFIX: [u8; 3] = [0xde, 0xad, 0x01];
 
 /// The octets that a writer has room for.
 const ROOM: usize = 4096;
@@ -14,21 +14,21 @@ const ROOM: usize = 4096;
 /// A value that is read, cloned and written.
 pub trait Format: PartialEq + Drop {
     /// The value that the octets are.
-    fn read_from(alloc: Global, octets: &[u8]) -> Result<Self, Refusal>;
+    fn read_from(alloc: Global, octets: &[u8]) -> Result<Self, Rejection>;
 
     /// An equal value.
-    fn again(&self, alloc: Global) -> Result<Self, Refusal>;
+    fn again(&self, alloc: Global) -> Result<Self, Rejection>;
 
     /// Writes the value.
-    fn write_to<W: Write>(&self, alloc: Global, writer: &mut W) -> Result<(), Refusal>;
+    fn write_to<W: Write>(&self, alloc: Global, writer: &mut W) -> Result<(), Rejection>;
 
     /// The octets that are read as what was written so.
-    fn readable(alloc: Global, written: &[u8]) -> Result<Vec<u8>, Refusal> {
+    fn readable(alloc: Global, written: &[u8]) -> Result<Vec<u8>, Rejection> {
         Ok(Vec::from_slice(alloc, written)?)
     }
 
     /// The value's fields.
-    fn shown(&self, alloc: Global) -> Result<String, Refusal> {
+    fn shown(&self, alloc: Global) -> Result<String, Rejection> {
         Ok(String::new(alloc))
     }
 }
@@ -36,11 +36,15 @@ pub trait Format: PartialEq + Drop {
 /// A format that is read from a reader.
 pub trait Streamed: Format {
     /// The value at the front of what the reader gives of the octets.
-    fn read_slowly(alloc: Global, octets: &[u8], reader: &mut Source<'_>) -> Result<Self, Refusal>;
+    fn read_slowly(
+        alloc: Global,
+        octets: &[u8],
+        reader: &mut Source<'_>,
+    ) -> Result<Self, Rejection>;
 }
 
 /// What is found of a row whose octets are read as a value, which is cloned and written.
-pub fn tried<F: Format>(row: &Row<'_>) -> Result<Findings, Refusal> {
+pub fn tried<F: Format>(row: &Row<'_>) -> Result<Findings, Rejection> {
     let value = F::read_from(row.alloc, row.octets)?;
     let mut found = Findings::new(row.alloc);
     if row.trial == Trial::Shown {
@@ -51,16 +55,18 @@ pub fn tried<F: Format>(row: &Row<'_>) -> Result<Findings, Refusal> {
     let again = value.again(row.alloc)?;
     match written(row.alloc, &again) {
         Ok(made) => try_written(row, &again, &made, &mut found)?,
-        Err(Refusal::OutOfMemory) => return Err(Refusal::OutOfMemory),
-        Err(refusal) => {
+        Err(Rejection::OutOfMemory) => return Err(Rejection::OutOfMemory),
+        Err(rejection) => {
             found.text.push_str(", not written, ")?;
-            found.text.push_str(refusal.told(row.alloc)?.as_str())?;
-            found.held = row.unwritten == refusal.name();
+            found
+                .text
+                .push_str(rejection.reported(row.alloc)?.as_str())?;
+            found.held = row.unwritten == rejection.name();
         }
     }
     if row.trial == Trial::Whole {
-        found.tell("equal", again == value)?;
-        push_fronts::<F>(row, &mut found)?;
+        found.decide("equal", again == value)?;
+        push_prefixes::<F>(row, &mut found)?;
     }
     Ok(found)
 }
@@ -71,54 +77,54 @@ fn try_written<F: Format>(
     again: &F,
     made: &[u8],
     found: &mut Findings,
-) -> Result<(), Refusal> {
-    found.tell("copied", made == row.written && row.unwritten.is_empty())?;
+) -> Result<(), Rejection> {
+    found.decide("copied", made == row.written && row.unwritten.is_empty())?;
     if row.trial != Trial::Large {
-        found.tell("kept", send(row.alloc, again)?)?;
+        found.decide("kept", send(row.alloc, again)?)?;
     }
     if row.trial != Trial::Once {
         let read = F::read_from(row.alloc, &F::readable(row.alloc, made)?)?;
-        found.tell("read again", read == *again)?;
+        found.decide("read again", read == *again)?;
     }
     if row.trial == Trial::Whole {
-        found.tell("sent", is_sent(row.alloc, again, made))?;
-        found.tell("sent again", is_sent_again(row.alloc, again, made))?;
+        found.decide("sent", is_sent(row.alloc, again, made))?;
+        found.decide("sent again", is_sent_again(row.alloc, again, made))?;
     }
     Ok(())
 }
 
 /// Writes to a writer that takes no memory, and answers whether it was as before where that was refused for another reason than
 /// want of memory.
-fn send<F: Format>(alloc: Global, value: &F) -> Result<bool, Refusal> {
+fn send<F: Format>(alloc: Global, value: &F) -> Result<bool, Rejection> {
     let mut room = [0u8; ROOM];
     let mut left = room.as_mut_slice();
     match value.write_to(alloc, &mut left) {
         Ok(()) => Ok(true),
         Err(_) if left.len() != ROOM => Ok(false),
-        Err(refusal) => Err(refusal),
+        Err(rejection) => Err(rejection),
     }
 }
 
 /// What is written of the value to a vector, behind what stands there. A refusal is to leave the vector as it was, but where the
 /// vector itself wanted memory: a token is written in two pieces.
-fn written<F: Format>(alloc: Global, value: &F) -> Result<Vec<u8>, Refusal> {
-    let mut octets = Vec::from_slice(alloc, &FRONT)?;
+fn written<F: Format>(alloc: Global, value: &F) -> Result<Vec<u8>, Rejection> {
+    let mut octets = Vec::from_slice(alloc, &PREFIX)?;
     let outcome = value.write_to(alloc, &mut octets);
-    let Some(behind) = octets.strip_prefix(FRONT.as_slice()) else {
-        return Err(Refusal::Lost);
+    let Some(trailing) = octets.strip_prefix(PREFIX.as_slice()) else {
+        return Err(Rejection::Lost);
     };
-    if let Err(refusal) = outcome {
-        let is_kept = behind.is_empty() || matches!(&refusal, Refusal::OutOfMemory);
-        return Err(if is_kept { refusal } else { Refusal::Lost });
+    if let Err(rejection) = outcome {
+        let is_kept = trailing.is_empty() || matches!(&rejection, Rejection::OutOfMemory);
+        return Err(if is_kept { rejection } else { Rejection::Lost });
     }
-    Ok(Vec::from_slice(alloc, behind)?)
+    Ok(Vec::from_slice(alloc, trailing)?)
 }
 
 /// Whether a writer with room for fewer octets than these gets a front of them and its fault is told, and one with room for all gets
 /// them.
 fn is_sent<F: Format>(alloc: Global, value: &F, octets: &[u8]) -> bool {
     for room in 0..=octets.len() {
-        let mut sink = Sink::new(alloc, room, Fault::None);
+        let mut sink = Sink::new(alloc, room, Failure::None);
         let outcome = value.write_to(alloc, &mut sink);
         let wanted = if room < octets.len() {
             "BrokenPipe"
@@ -134,14 +140,14 @@ fn is_sent<F: Format>(alloc: Global, value: &F, octets: &[u8]) -> bool {
 
 /// Whether a writer gets these octets where signals interrupt each write.
 fn is_sent_again<F: Format>(alloc: Global, value: &F, octets: &[u8]) -> bool {
-    let mut sink = Sink::new(alloc, octets.len(), Fault::Interrupted);
+    let mut sink = Sink::new(alloc, octets.len(), Failure::Interrupted);
     let outcome = value.write_to(alloc, &mut sink);
     outcome.is_ok() && sink.taken.as_slice() == octets
 }
 
 /// Tells how the fronts of the octets are read: at the number of octets from which on that is another, its name. And how they are
 /// read with an octet behind.
-fn push_fronts<F: Format>(row: &Row<'_>, found: &mut Findings) -> Result<(), Refusal> {
+fn push_prefixes<F: Format>(row: &Row<'_>, found: &mut Findings) -> Result<(), Rejection> {
     found.text.push_str("; fronts")?;
     let mut last = "";
     for n in 0..row.octets.len() {
@@ -163,7 +169,7 @@ fn push_fronts<F: Format>(row: &Row<'_>, found: &mut Findings) -> Result<(), Ref
 }
 
 /// What is found of a row whose octets are read by readers too. A refusal is to be that of a reader whose reads are interrupted, too.
-pub fn tried_slowly<F: Streamed>(row: &Row<'_>) -> Result<Findings, Refusal> {
+pub fn tried_slowly<F: Streamed>(row: &Row<'_>) -> Result<Findings, Rejection> {
     let outcome = tried::<F>(row);
     if row.trial != Trial::Whole {
         return outcome;
@@ -173,41 +179,41 @@ pub fn tried_slowly<F: Streamed>(row: &Row<'_>) -> Result<Findings, Refusal> {
             push_readings::<F>(row, &mut found)?;
             Ok(found)
         }
-        Err(refusal) if is_read_so::<F>(row, row.octets, refusal.name()) => Err(refusal),
-        Err(_) => Err(Refusal::Otherwise),
+        Err(rejection) if is_read_so::<F>(row, row.octets, rejection.name()) => Err(rejection),
+        Err(_) => Err(Rejection::Otherwise),
     }
 }
 
 /// Whether a reader of one octet at a time, whose reads are interrupted, is read so.
 fn is_read_so<F: Streamed>(row: &Row<'_>, octets: &[u8], name: &str) -> bool {
-    let mut source = Source::new(octets, 1, Fault::Interrupted);
+    let mut source = Source::new(octets, 1, Failure::Interrupted);
     name_of(&F::read_slowly(row.alloc, octets, &mut source)) == name
 }
 
 /// Tells whether readers give the same value, whatever they give at a time, whether their faults are told, and how many octets are
 /// left in them.
-fn push_readings<F: Streamed>(row: &Row<'_>, found: &mut Findings) -> Result<(), Refusal> {
-    let mut source = Source::new(row.octets, usize::MAX, Fault::None);
+fn push_readings<F: Streamed>(row: &Row<'_>, found: &mut Findings) -> Result<(), Rejection> {
+    let mut source = Source::new(row.octets, usize::MAX, Failure::None);
     let value = F::read_slowly(row.alloc, row.octets, &mut source)?;
     let left = source.left.len();
     found
         .text
         .push_str(format!(in row.alloc; "; left {left}")?.as_str())?;
-    found.tell("streamed", is_streamed(row, &value, left))?;
-    found.tell("faulted", is_faulted::<F>(row))?;
-    found.tell("cut so", are_fronts_alike::<F>(row))?;
+    found.decide("streamed", is_streamed(row, &value, left))?;
+    found.decide("faulted", is_failed::<F>(row))?;
+    found.decide("cut so", are_prefixes_alike::<F>(row))?;
     Ok(())
 }
 
 /// Whether readers give the same value, and leave so many octets.
 fn is_streamed<F: Streamed>(row: &Row<'_>, value: &F, left: usize) -> bool {
-    for (at_once, fault) in [
-        (1, Fault::None),
-        (7, Fault::None),
-        (1, Fault::Interrupted),
-        (usize::MAX, Fault::Interrupted),
+    for (at_once, error) in [
+        (1, Failure::None),
+        (7, Failure::None),
+        (1, Failure::Interrupted),
+        (usize::MAX, Failure::Interrupted),
     ] {
-        let mut source = Source::new(row.octets, at_once, fault);
+        let mut source = Source::new(row.octets, at_once, error);
         let outcome = F::read_slowly(row.alloc, row.octets, &mut source);
         let is_same = matches!(&outcome, Ok(read) if *read == *value);
         if !is_same || source.left.len() != left {
@@ -218,13 +224,13 @@ fn is_streamed<F: Streamed>(row: &Row<'_>, value: &F, left: usize) -> bool {
 }
 
 /// Whether a reader's fault is told, at each read in turn.
-fn is_faulted<F: Streamed>(row: &Row<'_>) -> bool {
-    let mut all = Source::new(row.octets, 1, Fault::None);
+fn is_failed<F: Streamed>(row: &Row<'_>) -> bool {
+    let mut all = Source::new(row.octets, 1, Failure::None);
     if F::read_slowly(row.alloc, row.octets, &mut all).is_err() {
         return false;
     }
     for turn in 0..all.reads {
-        let mut source = Source::new(row.octets, 1, Fault::At(turn));
+        let mut source = Source::new(row.octets, 1, Failure::At(turn));
         let outcome = F::read_slowly(row.alloc, row.octets, &mut source);
         if name_of(&outcome) != "BrokenPipe" {
             return false;
@@ -234,11 +240,11 @@ fn is_faulted<F: Streamed>(row: &Row<'_>) -> bool {
 }
 
 /// Whether fronts are read so by readers whose reads are interrupted.
-fn are_fronts_alike<F: Streamed>(row: &Row<'_>) -> bool {
+fn are_prefixes_alike<F: Streamed>(row: &Row<'_>) -> bool {
     for n in 0..row.octets.len() {
-        let front = &row.octets[..n];
-        let outcome = F::read_from(row.alloc, front);
-        if !is_read_so::<F>(row, front, name_of(&outcome)) {
+        let prefix = &row.octets[..n];
+        let outcome = F::read_from(row.alloc, prefix);
+        if !is_read_so::<F>(row, prefix, name_of(&outcome)) {
             return false;
         }
     }
@@ -246,9 +252,9 @@ fn are_fronts_alike<F: Streamed>(row: &Row<'_>) -> bool {
 }
 
 /// What is found of the octets that a call made of a row's.
-pub fn made(row: &Row<'_>, octets: Result<Vec<u8>, Refusal>) -> Result<Findings, Refusal> {
+pub fn made(row: &Row<'_>, octets: Result<Vec<u8>, Rejection>) -> Result<Findings, Rejection> {
     let octets = octets?;
     let mut found = Findings::new(row.alloc);
-    found.tell("made", octets.as_slice() == row.written)?;
+    found.decide("made", octets.as_slice() == row.written)?;
     Ok(found)
 }

@@ -33,8 +33,8 @@ impl<'a> Read for Dribble<'a> {
             Signals::Later => self.signals = Signals::Next,
         }
         let count = buf.len().min(self.left.len()).min(self.at_once);
-        let (front, rest) = self.left.split_at(count);
-        buf[..count].copy_from_slice(front);
+        let (prefix, rest) = self.left.split_at(count);
+        buf[..count].copy_from_slice(prefix);
         self.left = rest;
         Ok(count)
     }

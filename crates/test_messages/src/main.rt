@@ -12,12 +12,12 @@
 mod certificates;
 mod delegation;
 mod dribble;
-mod faulty;
-mod leaves;
+mod failing;
 mod messages;
 mod negotiation;
 mod parts;
 mod pre_authentication;
+mod primitives;
 mod row;
 mod shared;
 mod table;

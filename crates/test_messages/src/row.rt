@@ -43,7 +43,7 @@ pub struct Findings {
     pub sent: Option<bool>,
     /// Where a reader fails at one of its reads, each in turn, its fault is the answer; so is that of a writer which has room for
     /// fewer octets, of each number of them (of many octets, each sixteenth), and it is filled.
-    pub faulted: Option<bool>,
+    pub failed: Option<bool>,
     /// A copy of the value is equal, and what is written of it is these octets.
     pub copied: Option<bool>,
     /// A vector keeps what stands in front of what is appended, and a writer what it had, where the writing is refused.
@@ -60,7 +60,7 @@ impl Findings {
         longer: None,
         streamed: None,
         sent: None,
-        faulted: None,
+        failed: None,
         copied: None,
         kept: None,
         shown: None,
@@ -69,50 +69,50 @@ impl Findings {
 
 /// Why octets were not read, or a value not written.
 #[derive(Debug, Drop)]
-pub enum Refusal {
+pub enum Rejection {
     Der(Asn1DerError),
     Device(io::Error),
     OutOfMemory,
 }
 
 /// What is found of a row, or how its octets are refused. `None` where no type has the row's name.
-pub type Attempt = Option<Result<Findings, Refusal>>;
+pub type Attempt = Option<Result<Findings, Rejection>>;
 
-impl From<Asn1DerError> for Refusal {
-    fn from(error: Asn1DerError) -> Refusal {
+impl From<Asn1DerError> for Rejection {
+    fn from(error: Asn1DerError) -> Rejection {
         match error {
-            Asn1DerError::OutOfMemory => Refusal::OutOfMemory,
-            Asn1DerError::Io(fault) => Refusal::from(fault),
-            error => Refusal::Der(error),
+            Asn1DerError::OutOfMemory => Rejection::OutOfMemory,
+            Asn1DerError::Io(error) => Rejection::from(error),
+            error => Rejection::Der(error),
         }
     }
 }
 
-impl From<io::Error> for Refusal {
-    fn from(error: io::Error) -> Refusal {
+impl From<io::Error> for Rejection {
+    fn from(error: io::Error) -> Rejection {
         match error.kind() {
-            ErrorKind::OutOfMemory => Refusal::OutOfMemory,
-            _ => Refusal::Device(error),
+            ErrorKind::OutOfMemory => Rejection::OutOfMemory,
+            _ => Rejection::Device(error),
         }
     }
 }
 
-impl From<AllocError> for Refusal {
-    fn from(_error: AllocError) -> Refusal {
-        Refusal::OutOfMemory
+impl From<AllocError> for Rejection {
+    fn from(_error: AllocError) -> Rejection {
+        Rejection::OutOfMemory
     }
 }
 
-impl Refusal {
+impl Rejection {
     /// The name of the refusal, and of a fault that of its kind.
     pub fn name(&self) -> &'static str {
         match self {
-            Refusal::Der(Asn1DerError::InvalidData) => "InvalidData",
-            Refusal::Der(Asn1DerError::TruncatedData) => "TruncatedData",
-            Refusal::Der(Asn1DerError::UnsupportedValue) => "UnsupportedValue",
-            Refusal::Der(_) => "another refusal of DER",
-            Refusal::Device(fault) => kind_name(fault.kind()),
-            Refusal::OutOfMemory => "OutOfMemory",
+            Rejection::Der(Asn1DerError::InvalidData) => "InvalidData",
+            Rejection::Der(Asn1DerError::TruncatedData) => "TruncatedData",
+            Rejection::Der(Asn1DerError::UnsupportedValue) => "UnsupportedValue",
+            Rejection::Der(_) => "another refusal of DER",
+            Rejection::Device(error) => kind_name(error.kind()),
+            Rejection::OutOfMemory => "OutOfMemory",
         }
     }
 }

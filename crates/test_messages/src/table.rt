@@ -4,12 +4,12 @@ use crate::certificates::{
     try_certificate_reply, try_certificate_request, try_pku2u, try_public_key,
 };
 use crate::delegation::try_delegated;
-use crate::leaves::{try_leaf, try_tagged};
 use crate::messages::{try_message, try_reply, try_request};
 use crate::negotiation::{try_negotiation, try_token};
 use crate::parts::{try_credentials, try_part};
 use crate::pre_authentication::try_pre_authentication;
-use crate::row::{Attempt, Findings, Refusal, Row, Trial};
+use crate::primitives::{try_primitive, try_tagged};
+use crate::row::{Attempt, Findings, Rejection, Row, Trial};
 use crate::shared::{try_list, try_shared, try_simple};
 use hex::FromHexError;
 use std::alloc::{AllocError, Global};
@@ -60,7 +60,7 @@ fn try_kerberos(row: &Row<'_>) -> Attempt {
 
 /// What is found of the octets as those of another type, by its name. `None` where none has it.
 fn try_other(row: &Row<'_>) -> Attempt {
-    if let Some(found) = try_leaf(row) {
+    if let Some(found) = try_primitive(row) {
         return Some(found);
     }
     if let Some(found) = try_tagged(row) {
@@ -96,7 +96,7 @@ fn try_type(row: &Row<'_>) -> Attempt {
 }
 
 /// Whether a row of this origin is to be refused: it has the name of the refusal in the origin's place.
-fn is_refused(origin: &str) -> bool {
+fn is_rejected(origin: &str) -> bool {
     matches!(origin, "InvalidData" | "TruncatedData" | "UnsupportedValue")
 }
 
@@ -149,7 +149,7 @@ fn push_findings(text: &mut String, found: &Findings) -> Result<bool, AllocError
         ("longer", found.longer),
         ("streamed", found.streamed),
         ("sent", found.sent),
-        ("faulted", found.faulted),
+        ("faulted", found.failed),
         ("copied", found.copied),
         ("kept", found.kept),
         ("shown", found.shown),
@@ -166,12 +166,12 @@ fn push_findings(text: &mut String, found: &Findings) -> Result<bool, AllocError
 /// Appends what is found of the row. Answers whether that is as it should be.
 fn push_outcome(text: &mut String, origin: &str, found: &Attempt) -> Result<bool, AllocError> {
     match found {
-        Some(Ok(findings)) => Ok(push_findings(text, findings)? && !is_refused(origin)),
-        Some(Err(Refusal::OutOfMemory)) => Err(AllocError),
-        Some(Err(refusal)) => {
+        Some(Ok(findings)) => Ok(push_findings(text, findings)? && !is_rejected(origin)),
+        Some(Err(Rejection::OutOfMemory)) => Err(AllocError),
+        Some(Err(rejection)) => {
             text.push_str(" refused, ")?;
-            text.push_str(refusal.name())?;
-            Ok(origin == refusal.name())
+            text.push_str(rejection.name())?;
+            Ok(origin == rejection.name())
         }
         None => {
             text.push_str(" no such type")?;

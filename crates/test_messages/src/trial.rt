@@ -1,8 +1,8 @@
 //! What is tried of octets that should be the encoding of a value of a type.
 
 use crate::dribble::{Dribble, Signals};
-use crate::faulty::{FaultyReader, FullWriter};
-use crate::row::{Findings, Refusal, Row, Trial};
+use crate::failing::{FailingReader, FullWriter};
+use crate::row::{Findings, Rejection, Row, Trial};
 use krb_der::{Asn1DerError, Der, copy, from_bytes, from_reader, to_vec, to_writer};
 use std::alloc::Global;
 use std::fmt::Debug;
@@ -30,10 +30,12 @@ const PACES: [(usize, Signals); 4] = [
 
 /// Reads the octets as a T, and says what holds of them. A refusal to read them is answered as it is, where a reader of them is
 /// refused so.
-pub fn findings_of<T: Der + Debug + PartialEq + Drop>(row: &Row<'_>) -> Result<Findings, Refusal> {
+pub fn findings_of<T: Der + Debug + PartialEq + Drop>(
+    row: &Row<'_>,
+) -> Result<Findings, Rejection> {
     let value: T = match from_bytes(row.alloc, row.octets) {
         Ok(value) => value,
-        Err(refusal) => return refused::<T>(row, refusal),
+        Err(rejection) => return rejected::<T>(row, rejection),
     };
     let mut found = match row.trial {
         Trial::Once => made_once::<T>(row.alloc, &value, row.octets)?,
@@ -47,8 +49,8 @@ pub fn findings_of<T: Der + Debug + PartialEq + Drop>(row: &Row<'_>) -> Result<F
 }
 
 /// The refusal of the octets. Where a reader of them is not refused so, that is found.
-fn refused<T: Der + Drop>(row: &Row<'_>, refusal: Asn1DerError) -> Result<Findings, Refusal> {
-    let refusal = Refusal::from(refusal);
+fn rejected<T: Der + Drop>(row: &Row<'_>, rejection: Asn1DerError) -> Result<Findings, Rejection> {
+    let rejection = Rejection::from(rejection);
     if row.trial != Trial::Once {
         for (at_once, signals) in PACES {
             let mut reader = Dribble {
@@ -59,7 +61,7 @@ fn refused<T: Der + Drop>(row: &Row<'_>, refusal: Asn1DerError) -> Result<Findin
             let read = from_reader::<T, _>(row.alloc, &mut reader);
             let same = match read {
                 Ok(_) => false,
-                Err(other) => Refusal::from(other).name() == refusal.name(),
+                Err(other) => Rejection::from(other).name() == rejection.name(),
             };
             if !same {
                 return Ok(Findings {
@@ -69,7 +71,7 @@ fn refused<T: Der + Drop>(row: &Row<'_>, refusal: Asn1DerError) -> Result<Findin
             }
         }
     }
-    Err(refusal)
+    Err(rejection)
 }
 
 fn tried_wholly<T: Der + PartialEq + Drop>(
@@ -79,8 +81,8 @@ fn tried_wholly<T: Der + PartialEq + Drop>(
 ) -> Result<Findings, Asn1DerError> {
     let mut found = tried_at_length::<T>(alloc, value, octets)?;
     found.streamed = Some(is_streamed::<T>(alloc, octets, &PACES)?);
-    let read = is_faulted_in_reading::<T>(alloc, octets)?;
-    found.faulted = Some(read && is_faulted_in_writing(alloc, value, octets));
+    let read = is_failed_in_reading::<T>(alloc, octets)?;
+    found.failed = Some(read && is_failed_in_writing(alloc, value, octets));
     found.cut = Some(is_cut::<T>(alloc, octets));
     Ok(found)
 }
@@ -92,7 +94,7 @@ fn tried_at_length<T: Der + PartialEq + Drop>(
 ) -> Result<Findings, Asn1DerError> {
     Ok(Findings {
         written: Some(is_written(alloc, value, octets)?),
-        longer: Some(is_refused_longer::<T>(alloc, octets)?),
+        longer: Some(is_rejected_longer::<T>(alloc, octets)?),
         streamed: Some(is_streamed::<T>(alloc, octets, &[PACE])?),
         sent: Some(is_sent(alloc, value, octets)?),
         copied: Some(is_copied(alloc, value, octets)?),
@@ -135,7 +137,7 @@ fn is_sent_whole<T: Der + Drop>(alloc: Global, value: &T) -> Result<bool, Asn1De
     match to_writer(alloc, value, &mut left) {
         Ok(_) => Ok(true),
         Err(_) if left.len() != ROOM => Ok(false),
-        Err(refusal) => Err(refusal),
+        Err(rejection) => Err(rejection),
     }
 }
 
@@ -151,11 +153,11 @@ fn is_written<T: Der + Drop>(
 /// Whether each proper front is cut short, and so in a reader that gives all of it at once.
 fn is_cut<T: Der + Drop>(alloc: Global, octets: &[u8]) -> bool {
     for count in 0..octets.len() {
-        let mut front = &octets[..count];
-        if !is_truncated(&from_bytes::<T>(alloc, front)) {
+        let mut prefix = &octets[..count];
+        if !is_truncated(&from_bytes::<T>(alloc, prefix)) {
             return false;
         }
-        if is_tried(count, octets) && !is_truncated(&from_reader::<T, _>(alloc, &mut front)) {
+        if is_tried(count, octets) && !is_truncated(&from_reader::<T, _>(alloc, &mut prefix)) {
             return false;
         }
     }
@@ -171,7 +173,7 @@ fn is_truncated<T>(outcome: &Result<T, Asn1DerError>) -> bool {
     matches!(outcome, Err(Asn1DerError::TruncatedData))
 }
 
-fn is_refused_longer<T: Der + Drop>(alloc: Global, octets: &[u8]) -> Result<bool, Asn1DerError> {
+fn is_rejected_longer<T: Der + Drop>(alloc: Global, octets: &[u8]) -> Result<bool, Asn1DerError> {
     let mut longer = Vec::from_slice(alloc, octets)?;
     longer.push(0)?;
     let read = from_bytes::<T>(alloc, &longer);
@@ -206,17 +208,14 @@ fn is_sent<T: Der + Drop>(alloc: Global, value: &T, octets: &[u8]) -> Result<boo
 }
 
 /// Whether this is the fault of a device.
-fn is_fault<T>(outcome: &Result<T, Asn1DerError>, kind: ErrorKind) -> bool {
-    matches!(outcome, Err(Asn1DerError::Io(fault)) if fault.kind() == kind)
+fn is_error<T>(outcome: &Result<T, Asn1DerError>, kind: ErrorKind) -> bool {
+    matches!(outcome, Err(Asn1DerError::Io(error)) if error.kind() == kind)
 }
 
 /// Reads until no read is the one that fails.
-fn is_faulted_in_reading<T: Der + Drop>(
-    alloc: Global,
-    octets: &[u8],
-) -> Result<bool, Asn1DerError> {
+fn is_failed_in_reading<T: Der + Drop>(alloc: Global, octets: &[u8]) -> Result<bool, Asn1DerError> {
     for before in 0..=octets.len() {
-        let mut reader = FaultyReader {
+        let mut reader = FailingReader {
             left: octets,
             before,
             failed: false,
@@ -225,7 +224,7 @@ fn is_faulted_in_reading<T: Der + Drop>(
         if !reader.failed {
             return is_written(alloc, &read?, octets);
         }
-        if !is_fault(&read, ErrorKind::BrokenPipe) {
+        if !is_error(&read, ErrorKind::BrokenPipe) {
             return Ok(false);
         }
     }
@@ -233,19 +232,19 @@ fn is_faulted_in_reading<T: Der + Drop>(
 }
 
 /// Writes to writers of each room up to as much as the value wants: each is filled.
-fn is_faulted_in_writing<T: Der + Drop>(alloc: Global, value: &T, octets: &[u8]) -> bool {
+fn is_failed_in_writing<T: Der + Drop>(alloc: Global, value: &T, octets: &[u8]) -> bool {
     for room in 0..=octets.len() {
         if !is_tried(room, octets) {
             continue;
         }
         let mut writer = FullWriter { room };
         let sent = to_writer(alloc, value, &mut writer);
-        let told = if room < octets.len() {
-            is_fault(&sent, ErrorKind::OutOfMemory)
+        let reported = if room < octets.len() {
+            is_error(&sent, ErrorKind::OutOfMemory)
         } else {
             matches!(sent, Ok(count) if count == room)
         };
-        if !told || writer.room != 0 {
+        if !reported || writer.room != 0 {
             return false;
         }
     }

@@ -2,7 +2,7 @@
 
 use crate::cryptography::try_cryptography;
 use crate::keys::try_key;
-use crate::outcome::Refusal;
+use crate::outcome::Rejection;
 use crate::parts::try_part;
 use crate::suites::{suite_of, try_suite};
 use std::alloc::Global;
@@ -23,15 +23,15 @@ fn split(input: &[u8]) -> Option<(&str, &[u8])> {
 
 /// What the call that the input names answers of its octets. A name is a call's, or a call's and a suite's number with a blank
 /// between.
-pub fn made_of(alloc: Global, input: &[u8]) -> Result<Vec<u8>, Refusal> {
+pub fn made_of(alloc: Global, input: &[u8]) -> Result<Vec<u8>, Rejection> {
     let Some((name, octets)) = split(input) else {
-        return Err(Refusal::NoCall);
+        return Err(Rejection::NoCall);
     };
     let Some((call, number)) = name.split_once(' ') else {
         return try_cryptography(alloc, name, octets);
     };
     let Some(suite) = suite_of(number) else {
-        return Err(Refusal::NoCall);
+        return Err(Rejection::NoCall);
     };
     match call {
         "seal_part" | "open_part" => try_part(alloc, call, &suite, octets),

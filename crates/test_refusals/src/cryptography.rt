@@ -1,9 +1,9 @@
 //! The calls of the cryptography that are no suite's.
 
-use crate::outcome::Refusal;
+use crate::outcome::Rejection;
 use krb_crypto_block::{
     AesSize, decrypt_aes_cbc, decrypt_aes_cts, decrypt_des, encrypt_aes_cbc, encrypt_aes_cts,
-    encrypt_des, fill_blocks, hmac_sha1, hmac_sha256, hmac_sha384, n_fold,
+    encrypt_des, hmac_sha1, hmac_sha256, hmac_sha384, n_fold, pad_blocks,
 };
 use std::alloc::Global;
 
@@ -12,11 +12,11 @@ const KEY_OF_AES: &[u8] = b"a key of AES128.";
 const KEY_OF_TRIPLE_DES: &[u8] = b"a key of triple DES, 24.";
 
 /// The call of this name on these octets.
-pub fn try_cryptography(alloc: Global, call: &str, octets: &[u8]) -> Result<Vec<u8>, Refusal> {
+pub fn try_cryptography(alloc: Global, call: &str, octets: &[u8]) -> Result<Vec<u8>, Rejection> {
     let made = match call {
         "n_fold" => {
             if octets.is_empty() {
-                return Err(Refusal::NoCall);
+                return Err(Rejection::NoCall);
             }
             n_fold(alloc, octets, 64)?
         }
@@ -30,17 +30,17 @@ pub fn try_cryptography(alloc: Global, call: &str, octets: &[u8]) -> Result<Vec<
         "encrypt_des" => encrypt_des(alloc, KEY_OF_TRIPLE_DES, octets)?,
         "decrypt_des" => decrypt_des(alloc, KEY_OF_TRIPLE_DES, octets)?,
         "fill_blocks" => return filled(alloc, octets),
-        _ => return Err(Refusal::NoCall),
+        _ => return Err(Rejection::NoCall),
     };
     Ok(made)
 }
 
 /// The octets with zeros behind them, to whole blocks; where that is refused, they are to be as before.
-fn filled(alloc: Global, octets: &[u8]) -> Result<Vec<u8>, Refusal> {
+fn filled(alloc: Global, octets: &[u8]) -> Result<Vec<u8>, Rejection> {
     let mut blocks = Vec::from_slice(alloc, octets)?;
-    match fill_blocks(&mut blocks) {
+    match pad_blocks(&mut blocks) {
         Ok(()) => Ok(blocks),
-        Err(_) if blocks.as_slice() != octets => Err(Refusal::Changed),
-        Err(refusal) => Err(Refusal::from(refusal)),
+        Err(_) if blocks.as_slice() != octets => Err(Rejection::Changed),
+        Err(rejection) => Err(Rejection::from(rejection)),
     }
 }

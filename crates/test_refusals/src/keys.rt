@@ -1,6 +1,6 @@
 //! The keys of each suite.
 
-use crate::outcome::Refusal;
+use crate::outcome::Rejection;
 use crate::suites::key_of;
 use krb_crypto_block::{AesSize, kdf_hmac_sha256, kdf_hmac_sha384};
 use krb_crypto_message::{KERBEROS, aes, des};
@@ -14,18 +14,18 @@ pub fn try_key(
     call: &str,
     suite: &CipherSuite,
     octets: &[u8],
-) -> Result<Vec<u8>, Refusal> {
+) -> Result<Vec<u8>, Rejection> {
     match call {
         "derive_key" => derived(alloc, suite),
         "password_key" => Ok(suite.generate_key_from_password(alloc, octets, b"EXAMPLE.COMtest1")?),
         "random_to_key" => made_of_seed(alloc, suite, octets),
         "shared_secret" => agreed(alloc, suite, octets),
-        _ => Err(Refusal::NoCall),
+        _ => Err(Rejection::NoCall),
     }
 }
 
 /// The key that the suite's key derives under the constant `kerberos`.
-fn derived(alloc: Global, suite: &CipherSuite) -> Result<Vec<u8>, Refusal> {
+fn derived(alloc: Global, suite: &CipherSuite) -> Result<Vec<u8>, Rejection> {
     let key = key_of(suite);
     let made = match suite {
         CipherSuite::Des3CbcSha1Kd => des::derive_key(alloc, key, KERBEROS)?,
@@ -41,15 +41,15 @@ fn derived(alloc: Global, suite: &CipherSuite) -> Result<Vec<u8>, Refusal> {
     Ok(made)
 }
 
-fn made_of_seed(alloc: Global, suite: &CipherSuite, octets: &[u8]) -> Result<Vec<u8>, Refusal> {
+fn made_of_seed(alloc: Global, suite: &CipherSuite, octets: &[u8]) -> Result<Vec<u8>, Rejection> {
     let seed = Vec::from_slice(alloc, octets)?;
     if seed.len() < suite.seed_bit_len() / 8 {
-        return Err(Refusal::NoCall);
+        return Err(Rejection::NoCall);
     }
     Ok(suite.random_to_key(alloc, seed)?)
 }
 
-fn agreed(alloc: Global, suite: &CipherSuite, octets: &[u8]) -> Result<Vec<u8>, Refusal> {
+fn agreed(alloc: Global, suite: &CipherSuite, octets: &[u8]) -> Result<Vec<u8>, Rejection> {
     let secret = Vec::from_slice(alloc, octets)?;
     let nonce = DhNonce {
         client_nonce: b"client",

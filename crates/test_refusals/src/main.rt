@@ -13,7 +13,7 @@ mod parts;
 mod suites;
 
 use call::made_of;
-use outcome::Refusal;
+use outcome::Rejection;
 use std::io;
 use std::io::{Read, Write};
 use std::process::ExitCode;
@@ -37,19 +37,19 @@ fn fill<R: Read>(reader: &mut R, room: &mut [u8]) -> io::Result<usize> {
 fn main(rt: HostRuntime) -> ExitCode {
     let mut room = [0u8; ROOM];
     let Ok(count) = fill(&mut rt.reader(), &mut room) else {
-        return ExitCode::from(Refusal::NoCall.status());
+        return ExitCode::from(Rejection::NoCall.status());
     };
     let Some(input) = room.get(..count) else {
-        return ExitCode::from(Refusal::NoCall.status());
+        return ExitCode::from(Rejection::NoCall.status());
     };
     let status = match made_of(rt.alloc(), input) {
         Ok(octets) => {
             match io::writer(&rt).write_all(&octets) {
                 Ok(()) => 0,
-                Err(_) => Refusal::NoCall.status(),
+                Err(_) => Rejection::NoCall.status(),
             }
         }
-        Err(refusal) => refusal.status(),
+        Err(rejection) => rejection.status(),
     };
     ExitCode::from(status)
 }

@@ -8,7 +8,7 @@ use std::alloc::{AllocError, AllocFailed};
 
 /// Why a call made nothing.
 #[derive(Debug, Drop)]
-pub enum Refusal {
+pub enum Rejection {
     /// A request for memory was refused.
     OutOfMemory,
     /// The call refused for another reason.
@@ -19,62 +19,62 @@ pub enum Refusal {
     NoCall,
 }
 
-impl Refusal {
+impl Rejection {
     /// The status with which the program ends.
     pub fn status(&self) -> u8 {
         match self {
-            Refusal::OutOfMemory => 1,
-            Refusal::Other => 2,
-            Refusal::Changed => 3,
-            Refusal::NoCall => 4,
+            Rejection::OutOfMemory => 1,
+            Rejection::Other => 2,
+            Rejection::Changed => 3,
+            Rejection::NoCall => 4,
         }
     }
 }
 
-impl From<AllocError> for Refusal {
-    fn from(_error: AllocError) -> Refusal {
-        Refusal::OutOfMemory
+impl From<AllocError> for Rejection {
+    fn from(_error: AllocError) -> Rejection {
+        Rejection::OutOfMemory
     }
 }
 
-impl<T: Drop> From<AllocFailed<T>> for Refusal {
-    fn from(_error: AllocFailed<T>) -> Refusal {
-        Refusal::OutOfMemory
+impl<T: Drop> From<AllocFailed<T>> for Rejection {
+    fn from(_error: AllocFailed<T>) -> Rejection {
+        Rejection::OutOfMemory
     }
 }
 
-impl From<KerberosCryptoError> for Refusal {
-    fn from(error: KerberosCryptoError) -> Refusal {
+impl From<KerberosCryptoError> for Rejection {
+    fn from(error: KerberosCryptoError) -> Rejection {
         match error {
-            KerberosCryptoError::OutOfMemory => Refusal::OutOfMemory,
-            _ => Refusal::Other,
+            KerberosCryptoError::OutOfMemory => Rejection::OutOfMemory,
+            _ => Rejection::Other,
         }
     }
 }
 
-impl From<Asn1DerError> for Refusal {
-    fn from(error: Asn1DerError) -> Refusal {
+impl From<Asn1DerError> for Rejection {
+    fn from(error: Asn1DerError) -> Rejection {
         match error {
-            Asn1DerError::OutOfMemory => Refusal::OutOfMemory,
-            _ => Refusal::Other,
+            Asn1DerError::OutOfMemory => Rejection::OutOfMemory,
+            _ => Rejection::Other,
         }
     }
 }
 
-impl From<PartError> for Refusal {
-    fn from(error: PartError) -> Refusal {
+impl From<PartError> for Rejection {
+    fn from(error: PartError) -> Rejection {
         match error {
-            PartError::Crypto(error) => Refusal::from(error),
-            PartError::Der(error) => Refusal::from(error),
+            PartError::Crypto(error) => Rejection::from(error),
+            PartError::Der(error) => Rejection::from(error),
         }
     }
 }
 
-impl From<DiffieHellmanError> for Refusal {
-    fn from(error: DiffieHellmanError) -> Refusal {
+impl From<DiffieHellmanError> for Rejection {
+    fn from(error: DiffieHellmanError) -> Rejection {
         match error {
-            DiffieHellmanError::OutOfMemory => Refusal::OutOfMemory,
-            _ => Refusal::Other,
+            DiffieHellmanError::OutOfMemory => Rejection::OutOfMemory,
+            _ => Rejection::Other,
         }
     }
 }

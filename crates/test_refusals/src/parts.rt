@@ -1,6 +1,6 @@
 //! The part of a ticket, sealed and opened.
 
-use crate::outcome::Refusal;
+use crate::outcome::Rejection;
 use crate::suites::{TICKET, confounder_of, key_of};
 use krb_crypto_suite::{Cipher, CipherSuite};
 use krb_der::{from_bytes, to_vec};
@@ -14,24 +14,24 @@ pub fn try_part(
     call: &str,
     suite: &CipherSuite,
     octets: &[u8],
-) -> Result<Vec<u8>, Refusal> {
+) -> Result<Vec<u8>, Rejection> {
     match call {
         "seal_part" => sealed(alloc, suite, octets),
         "open_part" => opened(alloc, suite, octets),
-        _ => Err(Refusal::NoCall),
+        _ => Err(Rejection::NoCall),
     }
 }
 
-fn sealed(alloc: Global, suite: &CipherSuite, octets: &[u8]) -> Result<Vec<u8>, Refusal> {
+fn sealed(alloc: Global, suite: &CipherSuite, octets: &[u8]) -> Result<Vec<u8>, Rejection> {
     let confounder = confounder_of(suite);
     if confounder.len() != suite.confounder_size() {
-        return Err(Refusal::NoCall);
+        return Err(Rejection::NoCall);
     }
     let part: EncTicketPart = from_bytes(alloc, octets)?;
     Ok(seal_part(alloc, suite, key_of(suite), TICKET, confounder, &part)?)
 }
 
-fn opened(alloc: Global, suite: &CipherSuite, octets: &[u8]) -> Result<Vec<u8>, Refusal> {
+fn opened(alloc: Global, suite: &CipherSuite, octets: &[u8]) -> Result<Vec<u8>, Rejection> {
     let part: EncTicketPart = open_part(alloc, suite, key_of(suite), TICKET, octets)?;
     Ok(to_vec(alloc, &part)?)
 }

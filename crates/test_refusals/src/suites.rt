@@ -1,6 +1,6 @@
 //! Messages and checksums under each suite.
 
-use crate::outcome::Refusal;
+use crate::outcome::Rejection;
 use krb_crypto_suite::{Checksum, Cipher, CipherSuite};
 use std::alloc::Global;
 
@@ -46,7 +46,7 @@ pub fn try_suite(
     call: &str,
     suite: &CipherSuite,
     octets: &[u8],
-) -> Result<Vec<u8>, Refusal> {
+) -> Result<Vec<u8>, Rejection> {
     let key = key_of(suite);
     match call {
         "encrypt" => encrypted(alloc, suite, octets),
@@ -55,37 +55,45 @@ pub fn try_suite(
         "decrypt_no_checksum" => decrypted_alone(alloc, suite, octets),
         "encryption_checksum" => Ok(suite.encryption_checksum(alloc, key, TICKET, octets)?),
         "checksum" => Ok(suite.checksum_type().checksum(alloc, key, TICKET, octets)?),
-        _ => Err(Refusal::NoCall),
+        _ => Err(Rejection::NoCall),
     }
 }
 
-fn encrypted(alloc: Global, suite: &CipherSuite, payload: &[u8]) -> Result<Vec<u8>, Refusal> {
+fn encrypted(alloc: Global, suite: &CipherSuite, payload: &[u8]) -> Result<Vec<u8>, Rejection> {
     let confounder = confounder_of(suite);
     if confounder.len() != suite.confounder_size() {
-        return Err(Refusal::NoCall);
+        return Err(Rejection::NoCall);
     }
     Ok(suite.encrypt(alloc, key_of(suite), TICKET, payload, confounder)?)
 }
 
 /// What `encrypt_no_checksum` makes, joined.
-fn encrypted_alone(alloc: Global, suite: &CipherSuite, payload: &[u8]) -> Result<Vec<u8>, Refusal> {
+fn encrypted_alone(
+    alloc: Global,
+    suite: &CipherSuite,
+    payload: &[u8],
+) -> Result<Vec<u8>, Rejection> {
     let confounder = confounder_of(suite);
     if confounder.len() != suite.confounder_size() {
-        return Err(Refusal::NoCall);
+        return Err(Rejection::NoCall);
     }
     let made = suite.encrypt_no_checksum(alloc, key_of(suite), TICKET, payload, confounder)?;
-    let mut joined = made.encrypted;
-    joined.extend_from_slice(&made.confounder)?;
-    joined.extend_from_slice(&made.ki)?;
-    Ok(joined)
+    let mut concatenated = made.encrypted;
+    concatenated.extend_from_slice(&made.confounder)?;
+    concatenated.extend_from_slice(&made.ki)?;
+    Ok(concatenated)
 }
 
 /// What `decrypt_no_checksum` makes, joined.
-fn decrypted_alone(alloc: Global, suite: &CipherSuite, sealed: &[u8]) -> Result<Vec<u8>, Refusal> {
+fn decrypted_alone(
+    alloc: Global,
+    suite: &CipherSuite,
+    sealed: &[u8],
+) -> Result<Vec<u8>, Rejection> {
     let made = suite.decrypt_no_checksum(alloc, key_of(suite), TICKET, sealed)?;
-    let mut joined = made.plaintext;
-    joined.extend_from_slice(&made.confounder)?;
-    joined.extend_from_slice(&made.checksum)?;
-    joined.extend_from_slice(&made.ki)?;
-    Ok(joined)
+    let mut concatenated = made.plaintext;
+    concatenated.extend_from_slice(&made.confounder)?;
+    concatenated.extend_from_slice(&made.checksum)?;
+    concatenated.extend_from_slice(&made.ki)?;
+    Ok(concatenated)
 }

@@ -76,7 +76,7 @@ fn unmixed(word: u32) -> u32
 /// The octets of a key, and zeros after them.
 pub(super) fn kept_octets(key: &[u8]) -> [u8; 32]
     requires { length key.now ≤ 32 }
-    ensures front { take (length key.now) result ≡ key.now }
+    ensures prefix { take (length key.now) result ≡ key.now }
     ensures octets { IsOctets result }
 {
     let mut octets = [0; 32];

@@ -3,7 +3,7 @@
 ghost use Rattle.std.specs.Prelude.{◌≡◌, map, reverse, take, drop};
 ghost use Rattle.krb_crypto_block.specs.Des.{bits, round_value, rounds, key_bits};
 
-use super::tables::JOINED;
+use super::tables::COMBINED;
 
 /// What the rounds with these round keys make of the two halves of a block: the right half, and after it the left half.
 pub(super) fn rounds(keys: &[u64; 16], block: u64) -> u64
@@ -45,7 +45,7 @@ fn round_value(right: u32, key: u64) -> u32
     'boxes: for i in 0..4 {
         let odd = (mixed >> (56 - 8 * i)) % 64;
         let even = (mixed >> (24 - 8 * i)) % 64;
-        value = value ^ JOINED[2 * i][odd as usize] ^ JOINED[2 * i + 1][even as usize];
+        value = value ^ COMBINED[2 * i][odd as usize] ^ COMBINED[2 * i + 1][even as usize];
     }
     value
 }

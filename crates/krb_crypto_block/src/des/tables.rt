@@ -5,7 +5,7 @@ pub(super) const TURNS: [u8; 16] = [1, 1, 2, 2, 2, 2, 2, 2, 1, 2, 2, 2, 2, 2, 2,
 
 /// S1 to S8, each joined with P (FIPS 46-3, The Cipher Function f). Entry `six` of table `i` is P of the 32 bits among which
 /// the box S(i + 1) has its four bits for these six, all others being 0; f is the exclusive or of one entry of each.
-pub static JOINED: [[u32; 64]; 8] = [
+pub static COMBINED: [[u32; 64]; 8] = [
     [
         0x00808200, 0x00000000, 0x00008000, 0x00808202, 0x00808002, 0x00008202, 0x00000002,
         0x00008000, 0x00000200, 0x00808200, 0x00808202, 0x00000200, 0x00800202, 0x00808002,

@@ -1,7 +1,7 @@
 //! Checksums under AES (RFC 3961, 5.3 and 5.4; RFC 3962, 6).
 
 ghost use Rattle.std.specs.Prelude.{◌≡◌, length, IfOk, IfErr};
-ghost use Rattle.krb_crypto_hash.specs.CryptoError.{RefusesKey};
+ghost use Rattle.krb_crypto_hash.specs.CryptoError.{RejectsKey};
 ghost use Rattle.krb_crypto_block.specs.Size.{key_octets};
 ghost use Rattle.krb_crypto_message.specs.Sealed.{mac_96, aes_ki, aes_sum};
 
@@ -22,7 +22,7 @@ pub fn integrity_checksum(
 ) -> KerberosCryptoResult<Vec<u8>>
     ensures key { IfOk result (λ _. length key.now ≡ key_octets size.now) }
     ensures checksum { IfOk result (λ checksum. checksum.items ≡ mac_96 (aes_ki key.now key_usage) payload.now) }
-    ensures refused { IfErr result (RefusesKey (key_octets size.now) key.now) }
+    ensures rejected { IfErr result (RejectsKey (key_octets size.now) key.now) }
 {
     let base = AesKey::new(key, size)?;
     let ki = derived_key(&base, &usage_ki(key_usage), size);
@@ -41,7 +41,7 @@ pub fn checksum_sha_aes(
 ) -> KerberosCryptoResult<Vec<u8>>
     ensures key { IfOk result (λ _. length key.now ≡ key_octets size.now) }
     ensures checksum { IfOk result (λ checksum. checksum.items ≡ aes_sum key.now key_usage payload.now) }
-    ensures refused { IfErr result (RefusesKey (key_octets size.now) key.now) }
+    ensures rejected { IfErr result (RejectsKey (key_octets size.now) key.now) }
 {
     let base = AesKey::new(key, size)?;
     let kc = derived_key(&base, &usage_kc(key_usage), size);

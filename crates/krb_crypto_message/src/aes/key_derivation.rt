@@ -5,7 +5,7 @@ ghost use Rattle.krb_crypto_block.specs.Size.{key_octets};
 ghost use Rattle.krb_crypto_hash.specs.declared.error.KerberosCryptoError.TheVariants.{OutOfMemory};
 ghost use Rattle.krb_crypto_message.specs.Derive.{aes_dk, IsAesPasswordKey};
 ghost use Rattle.krb_crypto_message.specs.Sealing.{IsTheOne};
-ghost use Rattle.krb_crypto_hash.specs.CryptoError.{RefusesKey};
+ghost use Rattle.krb_crypto_hash.specs.CryptoError.{RejectsKey};
 
 use crate::short_octets::ShortOctets;
 use crate::well_known::KERBEROS;
@@ -30,7 +30,7 @@ pub fn derive_key(
     ensures key { IfOk result (λ _. length key.now ≡ key_octets size.now) }
     ensures size { IfOk result (λ derived. length derived.items ≡ key_octets size.now) }
     ensures derived { IfOk result (λ derived. derived.items ≡ aes_dk key.now well_known.now) }
-    ensures refused { IfErr result (RefusesKey (key_octets size.now) key.now) }
+    ensures rejected { IfErr result (RejectsKey (key_octets size.now) key.now) }
 {
     let cipher = AesKey::new(key, size)?;
     let derived = derived_key(&cipher, well_known, size);
@@ -65,7 +65,7 @@ pub fn derive_key_from_password(
 ) -> KerberosCryptoResult<Vec<u8>>
     ensures size { IfOk result (λ key. length key.items ≡ key_octets size.now) }
     ensures made { IfOk result (λ key. IsTheOne (IsAesPasswordKey (key_octets size.now) password.now salt.now) key.items) }
-    ensures refused { IfErr result (λ e. e ≡ OutOfMemory) }
+    ensures rejected { IfErr result (λ e. e ≡ OutOfMemory) }
 {
     let mut seed = vec![in alloc; 0u8; size.key_length()]?;
     pbkdf2_hmac_sha1(password, salt, PBKDF2_ROUNDS, &mut seed);

@@ -1,15 +1,15 @@
 //! Messages under AES (RFC 3961, 5.3; RFC 3962, 6), stated once over the size of the key.
 
 ghost use Rattle.std.specs.Prelude.{◌≡◌, ◌≢◌, length, IfOk, IfErr};
-ghost use Rattle.krb_crypto_hash.specs.CryptoError.{IsMemoryOr, RefusesKey};
+ghost use Rattle.krb_crypto_hash.specs.CryptoError.{IsMemoryOr, RejectsKey};
 ghost use Rattle.krb_crypto_block.specs.Size.{key_octets};
-ghost use Rattle.krb_crypto_message.specs.MessageSteps.{IsDeciphered};
-ghost use Rattle.krb_crypto_message.specs.Sealed.{IsSealedAes, AesCts, aes_ki, aes_refusal};
-ghost use Rattle.krb_crypto_message.specs.Sealing.{IsTheOne, IsGiven, Opens, HasNoPayload, Enciphers, OpensUnchecked, HasNoPayloadUnchecked};
+ghost use Rattle.krb_crypto_message.specs.MessageSteps.{IsDecrypted};
+ghost use Rattle.krb_crypto_message.specs.Sealed.{IsSealedAes, AesCts, aes_ki, aes_error};
+ghost use Rattle.krb_crypto_message.specs.Sealing.{IsTheOne, IsGiven, Opens, HasNoPayload, Encrypts, OpensUnchecked, HasNoPayloadUnchecked};
 
 use super::message_keys::MessageKeys;
-use crate::checksum::{Deciphered, joined, without_checksum};
-use crate::cts::{deciphered, enciphered};
+use crate::checksum::{Decrypted, concatenated, without_checksum};
+use crate::cts::{decrypted, encrypted_octets};
 use crate::without_checksum::{DecryptWithoutChecksum, EncryptWithoutChecksum};
 use krb_crypto_block::in_place::{encrypt_aes_cts, hmac_sha1};
 use krb_crypto_block::{
@@ -33,10 +33,10 @@ pub fn encrypt_message(
 ) -> KerberosCryptoResult<Vec<u8>>
     ensures key { IfOk result (λ _. length key.now ≡ key_octets size.now) }
     ensures sealed { IfOk result (λ octets. IsTheOne (IsSealedAes key.now key_usage confounder payload.now) octets.items) }
-    ensures refused { IfErr result (RefusesKey (key_octets size.now) key.now) }
+    ensures rejected { IfErr result (RejectsKey (key_octets size.now) key.now) }
 {
     let keys = MessageKeys::new(key, key_usage, size)?;
-    let mut octets = joined(alloc, &confounder, payload, AES_MAC_SIZE)?;
+    let mut octets = concatenated(alloc, &confounder, payload, AES_MAC_SIZE)?;
     let mac = hmac_sha1(keys.ki.as_slice(), &octets);
     encrypt_aes_cts(&keys.ke, &mut octets);
     octets.extend_from_slice(&mac[..AES_MAC_SIZE])?;
@@ -56,11 +56,11 @@ pub fn decrypt_message(
 ) -> KerberosCryptoResult<Vec<u8>>
     ensures key { IfOk result (λ _. length key.now ≡ key_octets size.now) }
     ensures opened { IfOk result (λ payload. Opens 1 (IsGiven (IsSealedAes key.now key_usage) 16 cipher_data.now) payload.items) }
-    ensures refused { length key.now ≡ key_octets size.now → IfErr result (λ e. IsMemoryOr e (HasNoPayload (IsSealedAes key.now key_usage) 16 cipher_data.now)) }
-    ensures exact { IfErr result (λ e. IsMemoryOr e (e ≡ aes_refusal (key_octets size.now) key.now cipher_data.now)) }
+    ensures rejected { length key.now ≡ key_octets size.now → IfErr result (λ e. IsMemoryOr e (HasNoPayload (IsSealedAes key.now key_usage) 16 cipher_data.now)) }
+    ensures exact { IfErr result (λ e. IsMemoryOr e (e ≡ aes_error (key_octets size.now) key.now cipher_data.now)) }
 {
-    let deciphered = decipher(alloc, key, key_usage, cipher_data, size)?;
-    deciphered.checked(cipher_data, AES_BLOCK_SIZE, AES_MAC_SIZE)
+    let decrypted = decrypt(alloc, key, key_usage, cipher_data, size)?;
+    decrypted.checked(cipher_data, AES_BLOCK_SIZE, AES_MAC_SIZE)
 }
 
 /// What `encrypt_message` makes, without the checksum; with it the confounder and Ki.
@@ -73,13 +73,13 @@ pub fn encrypt_message_no_checksum(
     confounder: [u8; AES_BLOCK_SIZE],
 ) -> KerberosCryptoResult<EncryptWithoutChecksum>
     ensures key { IfOk result (λ _. length key.now ≡ key_octets size.now) }
-    ensures encrypted { IfOk result (λ made. IsTheOne (Enciphers (IsSealedAes key.now key_usage) 12 confounder payload.now) made.encrypted.items) }
+    ensures encrypted { IfOk result (λ made. IsTheOne (Encrypts (IsSealedAes key.now key_usage) 12 confounder payload.now) made.encrypted.items) }
     ensures confounder { IfOk result (λ made. made.confounder.items ≡ confounder) }
     ensures ki { IfOk result (λ made. made.ki.items ≡ aes_ki key.now key_usage) }
-    ensures refused { IfErr result (RefusesKey (key_octets size.now) key.now) }
+    ensures rejected { IfErr result (RejectsKey (key_octets size.now) key.now) }
 {
     let keys = MessageKeys::new(key, key_usage, size)?;
-    let octets = enciphered(alloc, &keys.ke, &confounder, payload, 0)?;
+    let octets = encrypted_octets(alloc, &keys.ke, &confounder, payload, 0)?;
     without_checksum(alloc, octets, &confounder, &keys.ki)
 }
 
@@ -97,30 +97,30 @@ pub fn decrypt_message_no_checksum(
     ensures opened { IfOk result (λ made. OpensUnchecked 1 16 12 (IsSealedAes key.now key_usage) cipher_data.now
         made.confounder.items made.plaintext.items made.checksum.items) }
     ensures ki { IfOk result (λ made. made.ki.items ≡ aes_ki key.now key_usage) }
-    ensures refused { length key.now ≡ key_octets size.now → IfErr result (λ e. IsMemoryOr e (HasNoPayloadUnchecked 16 12 (IsSealedAes key.now key_usage) cipher_data.now)) }
-    ensures exact { IfErr result (λ e. IsMemoryOr e ((e ≡ aes_refusal (key_octets size.now) key.now cipher_data.now)
+    ensures rejected { length key.now ≡ key_octets size.now → IfErr result (λ e. IsMemoryOr e (HasNoPayloadUnchecked 16 12 (IsSealedAes key.now key_usage) cipher_data.now)) }
+    ensures exact { IfErr result (λ e. IsMemoryOr e ((e ≡ aes_error (key_octets size.now) key.now cipher_data.now)
         × (e ≢ KerberosCryptoError.IntegrityCheck))) }
 {
-    let deciphered = decipher(alloc, key, key_usage, cipher_data, size)?;
-    deciphered.unchecked(alloc, cipher_data, AES_BLOCK_SIZE, AES_MAC_SIZE)
+    let decrypted = decrypt(alloc, key, key_usage, cipher_data, size)?;
+    decrypted.unchecked(alloc, cipher_data, AES_BLOCK_SIZE, AES_MAC_SIZE)
 }
 
 /// What the octets without their last 12 decrypt to under Ke.
-fn decipher(
+fn decrypt(
     alloc: Global,
     key: &[u8],
     key_usage: i32,
     cipher_data: &[u8],
     size: &AesSize,
-) -> KerberosCryptoResult<Deciphered>
+) -> KerberosCryptoResult<Decrypted>
     ensures key { IfOk result (λ _. length key.now ≡ key_octets size.now) }
-    ensures deciphered { IfOk result (λ r. IsDeciphered 1 16 12 (AesCts key.now key_usage) (aes_ki key.now key_usage) cipher_data.now r.filled.items r.ki) }
-    ensures exact { IfErr result (λ e. IsMemoryOr e ((e ≡ aes_refusal (key_octets size.now) key.now cipher_data.now)
+    ensures decrypted { IfOk result (λ r. IsDecrypted 1 16 12 (AesCts key.now key_usage) (aes_ki key.now key_usage) cipher_data.now r.padded.items r.ki) }
+    ensures exact { IfErr result (λ e. IsMemoryOr e ((e ≡ aes_error (key_octets size.now) key.now cipher_data.now)
         × (e ≢ KerberosCryptoError.IntegrityCheck))) }
 {
     if cipher_data.len() < SHORTEST {
         return Err(KerberosCryptoError::CipherLength(cipher_data.len(), SHORTEST));
     }
     let keys = MessageKeys::new(key, key_usage, size)?;
-    deciphered(alloc, keys, cipher_data, AES_MAC_SIZE)
+    decrypted(alloc, keys, cipher_data, AES_MAC_SIZE)
 }

@@ -1,7 +1,7 @@
 //! The two keys of a message under AES (RFC 3961, 5.3).
 
 ghost use Rattle.std.specs.Prelude.{◌≡◌, length, IfOk, IfErr};
-ghost use Rattle.krb_crypto_hash.specs.CryptoError.{RefusesKey};
+ghost use Rattle.krb_crypto_hash.specs.CryptoError.{RejectsKey};
 ghost use Rattle.krb_crypto_block.specs.Size.{key_octets};
 ghost use Rattle.krb_crypto_message.specs.Sealed.{aes_ke, aes_ki};
 
@@ -27,7 +27,7 @@ impl MessageKeys {
         ensures key { IfOk result (λ _. length key.now ≡ key_octets size.now) }
         ensures ke { IfOk result (λ keys. keys.ke ≡ aes_ke key.now key_usage) }
         ensures ki { IfOk result (λ keys. keys.ki ≡ aes_ki key.now key_usage) }
-        ensures refused { IfErr result (RefusesKey (key_octets size.now) key.now) }
+        ensures rejected { IfErr result (RejectsKey (key_octets size.now) key.now) }
     {
         let base = AesKey::new(key, size)?;
         let ke = derived_key(&base, &usage_ke(key_usage), size);

@@ -1,7 +1,7 @@
 //! Checksums under the suites of RFC 8009.
 
 ghost use Rattle.std.specs.Prelude.{◌≡◌, length, IfOk, IfErr};
-ghost use Rattle.krb_crypto_hash.specs.CryptoError.{RefusesKey};
+ghost use Rattle.krb_crypto_hash.specs.CryptoError.{RejectsKey};
 ghost use Rattle.krb_crypto_block.specs.Size.{key_octets};
 ghost use Rattle.krb_crypto_message.specs.AesSha2.{sha2_mac, sha2_ki, sha2_sum};
 
@@ -24,7 +24,7 @@ pub fn integrity_checksum(
 ) -> KerberosCryptoResult<Vec<u8>>
     ensures key { IfOk result (λ _. length key.now ≡ key_octets size.now) }
     ensures checksum { IfOk result (λ checksum. checksum.items ≡ sha2_mac size.now (sha2_ki size.now key.now key_usage) payload.now) }
-    ensures refused { IfErr result (RefusesKey (key_octets size.now) key.now) }
+    ensures rejected { IfErr result (RejectsKey (key_octets size.now) key.now) }
 {
     test_key(key, size)?;
     let ki = derived_key(key, &usage_ki(key_usage), checksum_size(size), size);
@@ -44,7 +44,7 @@ pub fn keyed_checksum(
 ) -> KerberosCryptoResult<Vec<u8>>
     ensures key { IfOk result (λ _. length key.now ≡ key_octets size.now) }
     ensures checksum { IfOk result (λ checksum. checksum.items ≡ sha2_sum size.now key.now key_usage payload.now) }
-    ensures refused { IfErr result (RefusesKey (key_octets size.now) key.now) }
+    ensures rejected { IfErr result (RejectsKey (key_octets size.now) key.now) }
 {
     test_key(key, size)?;
     let kc = derived_key(key, &usage_kc(key_usage), checksum_size(size), size);

@@ -60,7 +60,7 @@ pub fn derive_key_from_password(
 ) -> KerberosCryptoResult<Vec<u8>>
     ensures size { IfOk result (λ key. length key.items ≡ key_octets size.now) }
     ensures made { IfOk result (λ key. IsTheOne (IsSha2PasswordKey size.now password.now salt.now) key.items) }
-    ensures refused { IfErr result (λ e. e ≡ OutOfMemory) }
+    ensures rejected { IfErr result (λ e. e ≡ OutOfMemory) }
 {
     let named = named_salt(alloc, salt, size)?;
     let mut seed = vec![in alloc; 0u8; size.key_length()]?;

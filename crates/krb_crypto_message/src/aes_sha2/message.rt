@@ -1,16 +1,16 @@
 //! Messages under the suites of RFC 8009, 5, stated once over the size of the key.
 
 ghost use Rattle.std.specs.Prelude.{◌≡◌, ◌≢◌, ◌+◌, ◌≤◌, length, IfOk, IfErr};
-ghost use Rattle.krb_crypto_hash.specs.CryptoError.{IsMemoryOr, RefusesKey};
+ghost use Rattle.krb_crypto_hash.specs.CryptoError.{IsMemoryOr, RejectsKey};
 ghost use Rattle.krb_crypto_block.specs.Size.{key_octets};
-ghost use Rattle.krb_crypto_message.specs.AesSha2.{IsSealedSha2, EndsInSealMac, sha2_ke, sha2_ki, sha2_checksum_octets, sha2_refusal};
-ghost use Rattle.krb_crypto_message.specs.Sealing.{IsTheOne, IsGiven, Opens, HasNoPayload, Enciphers, OpensUnchecked, HasNoPayloadUnchecked};
+ghost use Rattle.krb_crypto_message.specs.AesSha2.{IsSealedSha2, EndsInSealMac, sha2_ke, sha2_ki, sha2_checksum_octets, sha2_error};
+ghost use Rattle.krb_crypto_message.specs.Sealing.{IsTheOne, IsGiven, Opens, HasNoPayload, Encrypts, OpensUnchecked, HasNoPayloadUnchecked};
 
 use super::mac::{checksum_size, mac};
 use super::message_keys::message_keys;
 use crate::aes::message_keys::MessageKeys;
-use crate::checksum::{behind, without_checksum};
-use crate::cts::{deciphered, enciphered};
+use crate::checksum::{trailing, without_checksum};
+use crate::cts::{decrypted, encrypted_octets};
 use crate::without_checksum::{DecryptWithoutChecksum, EncryptWithoutChecksum};
 use krb_crypto_block::{AES_BLOCK_SIZE, AesSize, KerberosCryptoError, KerberosCryptoResult};
 use std::alloc::Global;
@@ -32,10 +32,10 @@ pub fn encrypt_message(
 ) -> KerberosCryptoResult<Vec<u8>>
     ensures key { IfOk result (λ _. length key.now ≡ key_octets size.now) }
     ensures sealed { IfOk result (λ octets. IsTheOne (IsSealedSha2 size.now key.now key_usage confounder payload.now) octets.items) }
-    ensures refused { IfErr result (RefusesKey (key_octets size.now) key.now) }
+    ensures rejected { IfErr result (RejectsKey (key_octets size.now) key.now) }
 {
     let keys = message_keys(key, key_usage, size)?;
-    let mut octets = enciphered(alloc, &keys.ke, &confounder, payload, checksum_size(size))?;
+    let mut octets = encrypted_octets(alloc, &keys.ke, &confounder, payload, checksum_size(size))?;
     let mac = mac(keys.ki.as_slice(), &CIPHER_STATE, &octets, size);
     octets.extend_from_slice(mac.as_slice())?;
     Ok(octets)
@@ -54,13 +54,13 @@ pub fn decrypt_message(
 ) -> KerberosCryptoResult<Vec<u8>>
     ensures key { IfOk result (λ _. length key.now ≡ key_octets size.now) }
     ensures opened { IfOk result (λ payload. Opens 1 (IsGiven (IsSealedSha2 size.now key.now key_usage) 16 cipher_data.now) payload.items) }
-    ensures refused { length key.now ≡ key_octets size.now → IfErr result (λ e. IsMemoryOr e (HasNoPayload (IsSealedSha2 size.now key.now key_usage) 16 cipher_data.now)) }
-    ensures exact { IfErr result (λ e. IsMemoryOr e (e ≡ sha2_refusal size.now key.now cipher_data.now)) }
+    ensures rejected { length key.now ≡ key_octets size.now → IfErr result (λ e. IsMemoryOr e (HasNoPayload (IsSealedSha2 size.now key.now key_usage) 16 cipher_data.now)) }
+    ensures exact { IfErr result (λ e. IsMemoryOr e (e ≡ sha2_error size.now key.now cipher_data.now)) }
 {
     let keys = opening_keys(key, key_usage, cipher_data, size)?;
     compare(keys.ki.as_slice(), cipher_data, size)?;
-    let opened = deciphered(alloc, keys, cipher_data, checksum_size(size))?;
-    Ok(behind(opened.filled, AES_BLOCK_SIZE))
+    let opened = decrypted(alloc, keys, cipher_data, checksum_size(size))?;
+    Ok(trailing(opened.padded, AES_BLOCK_SIZE))
 }
 
 /// What `encrypt_message` makes, without the checksum; with it the confounder and Ki.
@@ -74,13 +74,13 @@ pub fn encrypt_message_no_checksum(
 ) -> KerberosCryptoResult<EncryptWithoutChecksum>
     ensures key { IfOk result (λ _. length key.now ≡ key_octets size.now) }
     ensures encrypted { IfOk result (λ made. IsTheOne
-        (Enciphers (IsSealedSha2 size.now key.now key_usage) (sha2_checksum_octets size.now) confounder payload.now) made.encrypted.items) }
+        (Encrypts (IsSealedSha2 size.now key.now key_usage) (sha2_checksum_octets size.now) confounder payload.now) made.encrypted.items) }
     ensures confounder { IfOk result (λ made. made.confounder.items ≡ confounder) }
     ensures ki { IfOk result (λ made. made.ki.items ≡ sha2_ki size.now key.now key_usage) }
-    ensures refused { IfErr result (RefusesKey (key_octets size.now) key.now) }
+    ensures rejected { IfErr result (RejectsKey (key_octets size.now) key.now) }
 {
     let keys = message_keys(key, key_usage, size)?;
-    let octets = enciphered(alloc, &keys.ke, &confounder, payload, 0)?;
+    let octets = encrypted_octets(alloc, &keys.ke, &confounder, payload, 0)?;
     without_checksum(alloc, octets, &confounder, &keys.ki)
 }
 
@@ -98,13 +98,13 @@ pub fn decrypt_message_no_checksum(
     ensures opened { IfOk result (λ made. OpensUnchecked 1 16 (sha2_checksum_octets size.now) (IsSealedSha2 size.now key.now key_usage) cipher_data.now
         made.confounder.items made.plaintext.items made.checksum.items) }
     ensures ki { IfOk result (λ made. made.ki.items ≡ sha2_ki size.now key.now key_usage) }
-    ensures refused { length key.now ≡ key_octets size.now → IfErr result (λ e. IsMemoryOr e
+    ensures rejected { length key.now ≡ key_octets size.now → IfErr result (λ e. IsMemoryOr e
         (HasNoPayloadUnchecked 16 (sha2_checksum_octets size.now) (IsSealedSha2 size.now key.now key_usage) cipher_data.now)) }
-    ensures exact { IfErr result (λ e. IsMemoryOr e ((e ≡ sha2_refusal size.now key.now cipher_data.now) × (e ≢ KerberosCryptoError.IntegrityCheck))) }
+    ensures exact { IfErr result (λ e. IsMemoryOr e ((e ≡ sha2_error size.now key.now cipher_data.now) × (e ≢ KerberosCryptoError.IntegrityCheck))) }
 {
     let keys = opening_keys(key, key_usage, cipher_data, size)?;
     let mac_size = checksum_size(size);
-    let opened = deciphered(alloc, keys, cipher_data, mac_size)?;
+    let opened = decrypted(alloc, keys, cipher_data, mac_size)?;
     opened.unchecked(alloc, cipher_data, AES_BLOCK_SIZE, mac_size)
 }
 
@@ -119,7 +119,7 @@ fn opening_keys(
     ensures long { IfOk result (λ _. 16 + sha2_checksum_octets size.now ≤ length cipher_data.now) }
     ensures ke { IfOk result (λ keys. keys.ke ≡ sha2_ke size.now key.now key_usage) }
     ensures ki { IfOk result (λ keys. keys.ki ≡ sha2_ki size.now key.now key_usage) }
-    ensures exact { IfErr result (λ e. IsMemoryOr e ((e ≡ sha2_refusal size.now key.now cipher_data.now) × (e ≢ KerberosCryptoError.IntegrityCheck))) }
+    ensures exact { IfErr result (λ e. IsMemoryOr e ((e ≡ sha2_error size.now key.now cipher_data.now) × (e ≢ KerberosCryptoError.IntegrityCheck))) }
 {
     let shortest = AES_BLOCK_SIZE + checksum_size(size);
     if cipher_data.len() < shortest {
@@ -132,7 +132,7 @@ fn opening_keys(
 fn compare(ki: &[u8], cipher_data: &[u8], size: &AesSize) -> KerberosCryptoResult<()>
     requires long { sha2_checksum_octets size.now ≤ length cipher_data.now }
     ensures alike { IfOk result (λ _. EndsInSealMac size.now ki.now cipher_data.now) }
-    ensures refused { IfErr result (λ e. (¬ EndsInSealMac size.now ki.now cipher_data.now) × (e ≡ KerberosCryptoError.IntegrityCheck)) }
+    ensures rejected { IfErr result (λ e. (¬ EndsInSealMac size.now ki.now cipher_data.now) × (e ≡ KerberosCryptoError.IntegrityCheck)) }
 {
     let (encrypted, checksum) = cipher_data.split_at(cipher_data.len() - checksum_size(size));
     let mac = mac(ki, &CIPHER_STATE, encrypted, size);

@@ -1,7 +1,7 @@
 //! The two keys of a message under the suites of RFC 8009.
 
 ghost use Rattle.std.specs.Prelude.{◌≡◌, length, IfOk, IfErr};
-ghost use Rattle.krb_crypto_hash.specs.CryptoError.{RefusesKey};
+ghost use Rattle.krb_crypto_hash.specs.CryptoError.{RejectsKey};
 ghost use Rattle.krb_crypto_block.specs.Size.{key_octets};
 ghost use Rattle.krb_crypto_message.specs.AesSha2.{sha2_ke, sha2_ki};
 
@@ -20,7 +20,7 @@ pub(crate) fn message_keys(
     ensures key { IfOk result (λ _. length key.now ≡ key_octets size.now) }
     ensures ke { IfOk result (λ keys. keys.ke ≡ sha2_ke size.now key.now key_usage) }
     ensures ki { IfOk result (λ keys. keys.ki ≡ sha2_ki size.now key.now key_usage) }
-    ensures refused { IfErr result (RefusesKey (key_octets size.now) key.now) }
+    ensures rejected { IfErr result (RejectsKey (key_octets size.now) key.now) }
 {
     test_key(key, size)?;
     let ke = derived_key(key, &usage_ke(key_usage), size.key_length(), size);

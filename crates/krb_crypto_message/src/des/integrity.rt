@@ -1,7 +1,7 @@
 //! Checksums under triple DES (RFC 3961, 5.3, 5.4 and 6.3).
 
 ghost use Rattle.std.specs.Prelude.{◌≡◌, length, IfOk, IfErr};
-ghost use Rattle.krb_crypto_hash.specs.CryptoError.{RefusesKey};
+ghost use Rattle.krb_crypto_hash.specs.CryptoError.{RejectsKey};
 ghost use Rattle.krb_crypto_hash.specs.Hmac.{hmac};
 ghost use Rattle.krb_crypto_message.specs.Sealed.{des3_ki, des3_sum};
 
@@ -21,7 +21,7 @@ pub fn integrity_checksum(
 ) -> KerberosCryptoResult<Vec<u8>>
     ensures key { IfOk result (λ _. length key.now ≡ 24) }
     ensures checksum { IfOk result (λ checksum. checksum.items ≡ hmac (des3_ki key.now key_usage) payload.now) }
-    ensures refused { IfErr result (RefusesKey 24 key.now) }
+    ensures rejected { IfErr result (RejectsKey 24 key.now) }
 {
     let base = DesKey::new(key)?;
     let ki = derived_key(&base, &usage_ki(key_usage));
@@ -39,7 +39,7 @@ pub fn keyed_checksum(
 ) -> KerberosCryptoResult<Vec<u8>>
     ensures key { IfOk result (λ _. length key.now ≡ 24) }
     ensures checksum { IfOk result (λ checksum. checksum.items ≡ des3_sum key.now key_usage payload.now) }
-    ensures refused { IfErr result (RefusesKey 24 key.now) }
+    ensures rejected { IfErr result (RejectsKey 24 key.now) }
 {
     let base = DesKey::new(key)?;
     let kc = derived_key(&base, &usage_kc(key_usage));

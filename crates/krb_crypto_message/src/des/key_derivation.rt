@@ -1,7 +1,7 @@
 //! Keys of triple DES from keys, from passwords and from random octets (RFC 3961, 5.1 and 6.3.1).
 
 ghost use Rattle.std.specs.Prelude.{◌≡◌, ◌<◌, ◌≤◌, ◌++◌, length, IfOk, IfErr};
-ghost use Rattle.krb_crypto_hash.specs.CryptoError.{IsMemoryOr, RefusesKey};
+ghost use Rattle.krb_crypto_hash.specs.CryptoError.{IsMemoryOr, RejectsKey};
 ghost use Rattle.krb_crypto_hash.specs.declared.error.KerberosCryptoError.TheVariants.{OutOfMemory};
 ghost use Rattle.krb_crypto_message.specs.Derive.{des3_dk, IsDes3PasswordKey};
 ghost use Rattle.krb_crypto_message.specs.RandomToKey.{random_to_key};
@@ -9,7 +9,7 @@ ghost use Rattle.krb_crypto_message.specs.Sealed.{IsNoDes3Password};
 ghost use Rattle.krb_crypto_message.specs.Sealing.{IsTheOne};
 
 use super::key_of_seed::key_of_seed;
-use super::parts::joined;
+use super::parts::concatenated;
 use crate::well_known::KERBEROS;
 use krb_crypto_block::in_place::n_fold_into;
 use krb_crypto_block::{
@@ -27,7 +27,7 @@ pub fn derive_key(alloc: Global, key: &[u8], well_known: &[u8]) -> KerberosCrypt
     ensures key { IfOk result (λ _. length key.now ≡ 24) }
     ensures size { IfOk result (λ derived. length derived.items ≡ 24) }
     ensures derived { IfOk result (λ derived. derived.items ≡ des3_dk key.now well_known.now) }
-    ensures refused { IfErr result (RefusesKey 24 key.now) }
+    ensures rejected { IfErr result (RejectsKey 24 key.now) }
 {
     let cipher = DesKey::new(key)?;
     let derived = derived_key(&cipher, well_known);
@@ -44,7 +44,7 @@ pub(crate) fn derived_key(cipher: &DesKey, well_known: &[u8]) -> [u8; DES3_KEY_S
     let first = cipher.encrypt_block(block);
     let second = cipher.encrypt_block(first);
     let third = cipher.encrypt_block(second);
-    let blocks = joined(&first, &second, &third);
+    let blocks = concatenated(&first, &second, &third);
     key_of_seed(&blocks[..DES3_SEED_LEN])
 }
 
@@ -59,7 +59,7 @@ pub fn derive_key_from_password(
 ) -> KerberosCryptoResult<Vec<u8>>
     ensures size { IfOk result (λ key. length key.items ≡ 24) }
     ensures made { IfOk result (λ key. IsTheOne (IsDes3PasswordKey password.now salt.now) key.items) }
-    ensures refused { IfErr result (λ e. IsMemoryOr e (IsNoDes3Password password.now salt.now e)) }
+    ensures rejected { IfErr result (λ e. IsMemoryOr e (IsNoDes3Password password.now salt.now e)) }
 {
     if password.is_empty() && salt.is_empty() {
         return Err(KerberosCryptoError::KeyLength(0, 1));
@@ -78,7 +78,7 @@ pub fn random_to_key(alloc: Global, seed: &[u8]) -> KerberosCryptoResult<Vec<u8>
     requires { 21 ≤ length seed.now }
     ensures made { IfOk result (λ key. key.items ≡ random_to_key seed.now) }
     ensures size { IfOk result (λ key. length key.items ≡ 24) }
-    ensures refused { IfErr result (λ e. e ≡ OutOfMemory) }
+    ensures rejected { IfErr result (λ e. e ≡ OutOfMemory) }
 {
     let key = key_of_seed(seed);
     Ok(Vec::from_slice(alloc, &key)?)

@@ -3,7 +3,7 @@
 ghost use Rattle.std.specs.Prelude.{◌≡◌, ◌≤◌, length};
 ghost use Rattle.krb_crypto_message.specs.RandomToKey.{random_to_key, key_part, stretched, with_parity, upper_bits, repaired, is_weak, is_weak_pair};
 
-use super::parts::joined;
+use super::parts::concatenated;
 
 /// What is added by exclusive or to the last octet of a weak key (RFC 3961, 6.2 and 6.3.1).
 const REPAIR: u8 = 0xf0;
@@ -16,7 +16,7 @@ pub(crate) fn key_of_seed(seed: &[u8]) -> [u8; 24]
     let first = key_part(&seed[..7]);
     let second = key_part(&seed[7..14]);
     let third = key_part(&seed[14..21]);
-    joined(&first, &second, &third)
+    concatenated(&first, &second, &third)
 }
 
 /// The key of DES that seven octets give.

@@ -1,19 +1,19 @@
 //! Messages under triple DES (RFC 3961, 5.3 and 6.3).
 
 ghost use Rattle.std.specs.Prelude.{◌≡◌, ◌≢◌, ◌≤◌, ◌++◌, ℕ, List, length, IfOk, IfErr};
-ghost use Rattle.krb_crypto_block.specs.Modes.{IsFill, IsOctets};
-ghost use Rattle.krb_crypto_hash.specs.CryptoError.{IsMemoryOr, RefusesKey};
-ghost use Rattle.krb_crypto_message.specs.MessageSteps.{IsDeciphered};
-ghost use Rattle.krb_crypto_message.specs.Sealed.{IsSealedDes3, Des3Cbc, des3_ki, des3_refusal};
-ghost use Rattle.krb_crypto_message.specs.Sealing.{IsTheOne, IsGiven, Opens, HasNoPayload, Enciphers, OpensUnchecked, HasNoPayloadUnchecked};
+ghost use Rattle.krb_crypto_block.specs.Modes.{IsPadding, IsOctets};
+ghost use Rattle.krb_crypto_hash.specs.CryptoError.{IsMemoryOr, RejectsKey};
+ghost use Rattle.krb_crypto_message.specs.MessageSteps.{IsDecrypted};
+ghost use Rattle.krb_crypto_message.specs.Sealed.{IsSealedDes3, Des3Cbc, des3_ki, des3_error};
+ghost use Rattle.krb_crypto_message.specs.Sealing.{IsTheOne, IsGiven, Opens, HasNoPayload, Encrypts, OpensUnchecked, HasNoPayloadUnchecked};
 
 use super::message_keys::MessageKeys;
-use crate::checksum::{Deciphered, joined, without_checksum};
+use crate::checksum::{Decrypted, concatenated, without_checksum};
 use crate::octets::are_octets;
 use crate::without_checksum::{DecryptWithoutChecksum, EncryptWithoutChecksum};
 use krb_crypto_block::in_place::{decrypt_des, encrypt_des, hmac_sha1};
 use krb_crypto_block::{
-    DES3_BLOCK_SIZE, DES3_MAC_SIZE, DesKey, KerberosCryptoError, KerberosCryptoResult, fill_blocks,
+    DES3_BLOCK_SIZE, DES3_MAC_SIZE, DesKey, KerberosCryptoError, KerberosCryptoResult, pad_blocks,
 };
 use std::alloc::Global;
 
@@ -33,11 +33,11 @@ pub fn encrypt_message(
 ) -> KerberosCryptoResult<Vec<u8>>
     ensures key { IfOk result (λ _. length key.now ≡ 24) }
     ensures sealed { IfOk result (λ octets. IsTheOne (IsSealedDes3 key.now key_usage confounder payload.now) octets.items) }
-    ensures refused { IfErr result (RefusesKey 24 key.now) }
+    ensures rejected { IfErr result (RejectsKey 24 key.now) }
 {
     let base = DesKey::new(key)?;
     let keys = MessageKeys::new(&base, key_usage)?;
-    let mut octets = filled(alloc, &confounder, payload, DES3_MAC_SIZE)?;
+    let mut octets = padded(alloc, &confounder, payload, DES3_MAC_SIZE)?;
     let mac = hmac_sha1(keys.ki.as_slice(), &octets);
     encrypt_des(&keys.ke, &mut octets);
     octets.extend_from_slice(&mac)?;
@@ -57,11 +57,11 @@ pub fn decrypt_message(
 ) -> KerberosCryptoResult<Vec<u8>>
     ensures key { IfOk result (λ _. length key.now ≡ 24) }
     ensures opened { IfOk result (λ payload. Opens 8 (IsGiven (IsSealedDes3 key.now key_usage) 8 cipher_data.now) payload.items) }
-    ensures refused { length key.now ≡ 24 → IfErr result (λ e. IsMemoryOr e (HasNoPayload (IsSealedDes3 key.now key_usage) 8 cipher_data.now)) }
-    ensures exact { IfErr result (λ e. IsMemoryOr e (e ≡ des3_refusal key.now cipher_data.now)) }
+    ensures rejected { length key.now ≡ 24 → IfErr result (λ e. IsMemoryOr e (HasNoPayload (IsSealedDes3 key.now key_usage) 8 cipher_data.now)) }
+    ensures exact { IfErr result (λ e. IsMemoryOr e (e ≡ des3_error key.now cipher_data.now)) }
 {
-    let deciphered = decipher(alloc, key, key_usage, cipher_data)?;
-    deciphered.checked(cipher_data, DES3_BLOCK_SIZE, DES3_MAC_SIZE)
+    let decrypted = decrypt(alloc, key, key_usage, cipher_data)?;
+    decrypted.checked(cipher_data, DES3_BLOCK_SIZE, DES3_MAC_SIZE)
 }
 
 /// What `encrypt_message` makes, without the checksum; with it the confounder and Ki.
@@ -73,14 +73,14 @@ pub fn encrypt_message_no_checksum(
     confounder: [u8; DES3_BLOCK_SIZE],
 ) -> KerberosCryptoResult<EncryptWithoutChecksum>
     ensures key { IfOk result (λ _. length key.now ≡ 24) }
-    ensures encrypted { IfOk result (λ made. IsTheOne (Enciphers (IsSealedDes3 key.now key_usage) 20 confounder payload.now) made.encrypted.items) }
+    ensures encrypted { IfOk result (λ made. IsTheOne (Encrypts (IsSealedDes3 key.now key_usage) 20 confounder payload.now) made.encrypted.items) }
     ensures confounder { IfOk result (λ made. made.confounder.items ≡ confounder) }
     ensures ki { IfOk result (λ made. made.ki.items ≡ des3_ki key.now key_usage) }
-    ensures refused { IfErr result (RefusesKey 24 key.now) }
+    ensures rejected { IfErr result (RejectsKey 24 key.now) }
 {
     let base = DesKey::new(key)?;
     let keys = MessageKeys::new(&base, key_usage)?;
-    let mut octets = filled(alloc, &confounder, payload, 0)?;
+    let mut octets = padded(alloc, &confounder, payload, 0)?;
     encrypt_des(&keys.ke, &mut octets);
     without_checksum(alloc, octets, &confounder, &keys.ki)
 }
@@ -99,41 +99,41 @@ pub fn decrypt_message_no_checksum(
     ensures opened { IfOk result (λ made. OpensUnchecked 8 8 20 (IsSealedDes3 key.now key_usage) cipher_data.now
         made.confounder.items made.plaintext.items made.checksum.items) }
     ensures ki { IfOk result (λ made. made.ki.items ≡ des3_ki key.now key_usage) }
-    ensures refused { length key.now ≡ 24 → IfErr result (λ e. IsMemoryOr e (HasNoPayloadUnchecked 8 20 (IsSealedDes3 key.now key_usage) cipher_data.now)) }
-    ensures exact { IfErr result (λ e. IsMemoryOr e ((e ≡ des3_refusal key.now cipher_data.now) × (e ≢ KerberosCryptoError.IntegrityCheck))) }
+    ensures rejected { length key.now ≡ 24 → IfErr result (λ e. IsMemoryOr e (HasNoPayloadUnchecked 8 20 (IsSealedDes3 key.now key_usage) cipher_data.now)) }
+    ensures exact { IfErr result (λ e. IsMemoryOr e ((e ≡ des3_error key.now cipher_data.now) × (e ≢ KerberosCryptoError.IntegrityCheck))) }
 {
-    let deciphered = decipher(alloc, key, key_usage, cipher_data)?;
-    deciphered.unchecked(alloc, cipher_data, DES3_BLOCK_SIZE, DES3_MAC_SIZE)
+    let decrypted = decrypt(alloc, key, key_usage, cipher_data)?;
+    decrypted.unchecked(alloc, cipher_data, DES3_BLOCK_SIZE, DES3_MAC_SIZE)
 }
 
 /// Confounder and payload, padded to whole blocks, with room for `spare` octets after them.
-fn filled(
+fn padded(
     alloc: Global,
     confounder: &[u8; DES3_BLOCK_SIZE],
     payload: &[u8],
     spare: usize,
 ) -> KerberosCryptoResult<Vec<u8>>
     requires { spare ≤ 20 }
-    ensures filled { IfOk result (λ octets. IsFill 8 (confounder.now ++ payload.now) octets.items) }
+    ensures padded { IfOk result (λ octets. IsPadding 8 (confounder.now ++ payload.now) octets.items) }
     ensures octets { IfOk result (λ octets. IsOctets octets.items) }
     ensures memory { IfErr result (λ e. e ≡ KerberosCryptoError.OutOfMemory) }
 {
-    let mut octets = joined(alloc, confounder, payload, DES3_BLOCK_SIZE + spare)?;
-    fill_blocks(&mut octets)?;
+    let mut octets = concatenated(alloc, confounder, payload, DES3_BLOCK_SIZE + spare)?;
+    pad_blocks(&mut octets)?;
     are_octets(&octets);
     Ok(octets)
 }
 
 /// What the octets without their last 20 decrypt to under Ke.
-fn decipher(
+fn decrypt(
     alloc: Global,
     key: &[u8],
     key_usage: i32,
     cipher_data: &[u8],
-) -> KerberosCryptoResult<Deciphered>
+) -> KerberosCryptoResult<Decrypted>
     ensures key { IfOk result (λ _. length key.now ≡ 24) }
-    ensures deciphered { IfOk result (λ r. IsDeciphered 8 8 20 (Des3Cbc key.now key_usage) (des3_ki key.now key_usage) cipher_data.now r.filled.items r.ki) }
-    ensures exact { IfErr result (λ e. IsMemoryOr e ((e ≡ des3_refusal key.now cipher_data.now) × (e ≢ KerberosCryptoError.IntegrityCheck))) }
+    ensures decrypted { IfOk result (λ r. IsDecrypted 8 8 20 (Des3Cbc key.now key_usage) (des3_ki key.now key_usage) cipher_data.now r.padded.items r.ki) }
+    ensures exact { IfErr result (λ e. IsMemoryOr e ((e ≡ des3_error key.now cipher_data.now) × (e ≢ KerberosCryptoError.IntegrityCheck))) }
 {
     let base = DesKey::new(key)?;
     if cipher_data.len() < SHORTEST {
@@ -144,11 +144,11 @@ fn decipher(
         return Err(KerberosCryptoError::CipherUnpad);
     }
     let keys = MessageKeys::new(&base, key_usage)?;
-    let mut filled = Vec::from_slice(alloc, encrypted)?;
-    decrypt_des(&keys.ke, &mut filled);
-    are_octets(&filled);
-    Ok(Deciphered {
-        filled,
+    let mut padded = Vec::from_slice(alloc, encrypted)?;
+    decrypt_des(&keys.ke, &mut padded);
+    are_octets(&padded);
+    Ok(Decrypted {
+        padded,
         ki: keys.ki,
     })
 }

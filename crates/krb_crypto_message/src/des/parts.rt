@@ -5,7 +5,7 @@ ghost use Rattle.std.specs.Prelude.{◌≡◌, ◌++◌};
 use krb_crypto_block::{DES3_BLOCK_SIZE, DES3_KEY_SIZE};
 
 /// The three parts, concatenated. It allocates nothing.
-pub(crate) fn joined(
+pub(crate) fn concatenated(
     first: &[u8; DES3_BLOCK_SIZE],
     second: &[u8; DES3_BLOCK_SIZE],
     third: &[u8; DES3_BLOCK_SIZE],

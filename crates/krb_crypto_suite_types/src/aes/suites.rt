@@ -21,7 +21,7 @@ impl Aes128CtsHmacSha196 {
 
 impl Cipher for Aes128CtsHmacSha196 {
     ghost use Rattle.krb_crypto_message.specs.Derive.{IsAesPasswordKey};
-    ghost use Rattle.krb_crypto_message.specs.Sealed.{IsSealedAes, aes_ki, mac_96, aes_refusal};
+    ghost use Rattle.krb_crypto_message.specs.Sealed.{IsSealedAes, aes_ki, mac_96, aes_error};
     ghost use Rattle.krb_crypto_suite.specs.declared.cipher_suite.CipherSuite.TheVariants as cipher;
     ghost use Rattle.krb_crypto_suite.specs.declared.checksum_suite.ChecksumSuite.TheVariants as checksum;
 
@@ -31,7 +31,7 @@ impl Cipher for Aes128CtsHmacSha196 {
 
     ghost confounder_octets = { λ _. 16 };
 
-    ghost fill_octets = { λ _. 1 };
+    ghost padding_octets = { λ _. 1 };
 
     ghost checksum_octets = { λ _. 12 };
 
@@ -45,7 +45,7 @@ impl Cipher for Aes128CtsHmacSha196 {
 
     ghost password_key = { λ _ password salt key. IsAesPasswordKey 16 password salt key };
 
-    ghost unopened = { λ _ key _ octets e. e ≡ aes_refusal 16 key octets };
+    ghost unopened = { λ _ key _ octets e. e ≡ aes_error 16 key octets };
 
     ghost no_password_key = { λ _ _ _ _. ⊥ };
 
@@ -158,7 +158,7 @@ impl Aes256CtsHmacSha196 {
 
 impl Cipher for Aes256CtsHmacSha196 {
     ghost use Rattle.krb_crypto_message.specs.Derive.{IsAesPasswordKey};
-    ghost use Rattle.krb_crypto_message.specs.Sealed.{IsSealedAes, aes_ki, mac_96, aes_refusal};
+    ghost use Rattle.krb_crypto_message.specs.Sealed.{IsSealedAes, aes_ki, mac_96, aes_error};
     ghost use Rattle.krb_crypto_suite.specs.declared.cipher_suite.CipherSuite.TheVariants as cipher;
     ghost use Rattle.krb_crypto_suite.specs.declared.checksum_suite.ChecksumSuite.TheVariants as checksum;
 
@@ -168,7 +168,7 @@ impl Cipher for Aes256CtsHmacSha196 {
 
     ghost confounder_octets = { λ _. 16 };
 
-    ghost fill_octets = { λ _. 1 };
+    ghost padding_octets = { λ _. 1 };
 
     ghost checksum_octets = { λ _. 12 };
 
@@ -182,7 +182,7 @@ impl Cipher for Aes256CtsHmacSha196 {
 
     ghost password_key = { λ _ password salt key. IsAesPasswordKey 32 password salt key };
 
-    ghost unopened = { λ _ key _ octets e. e ≡ aes_refusal 32 key octets };
+    ghost unopened = { λ _ key _ octets e. e ≡ aes_error 32 key octets };
 
     ghost no_password_key = { λ _ _ _ _. ⊥ };
 

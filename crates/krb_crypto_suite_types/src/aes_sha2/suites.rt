@@ -21,7 +21,7 @@ impl Aes128CtsHmacSha256128 {
 
 impl Cipher for Aes128CtsHmacSha256128 {
     ghost use Rattle.krb_crypto_block.specs.declared.aes.AesSize.TheVariants as size;
-    ghost use Rattle.krb_crypto_message.specs.AesSha2.{IsSealedSha2, IsSha2PasswordKey, sha2_ki, sha2_mac, sha2_refusal};
+    ghost use Rattle.krb_crypto_message.specs.AesSha2.{IsSealedSha2, IsSha2PasswordKey, sha2_ki, sha2_mac, sha2_error};
     ghost use Rattle.krb_crypto_suite.specs.declared.cipher_suite.CipherSuite.TheVariants as cipher;
     ghost use Rattle.krb_crypto_suite.specs.declared.checksum_suite.ChecksumSuite.TheVariants as checksum;
 
@@ -31,7 +31,7 @@ impl Cipher for Aes128CtsHmacSha256128 {
 
     ghost confounder_octets = { λ _. 16 };
 
-    ghost fill_octets = { λ _. 1 };
+    ghost padding_octets = { λ _. 1 };
 
     ghost checksum_octets = { λ _. 16 };
 
@@ -45,7 +45,7 @@ impl Cipher for Aes128CtsHmacSha256128 {
 
     ghost password_key = { λ _ password salt key. IsSha2PasswordKey size.Aes128 password salt key };
 
-    ghost unopened = { λ _ key _ octets e. e ≡ sha2_refusal size.Aes128 key octets };
+    ghost unopened = { λ _ key _ octets e. e ≡ sha2_error size.Aes128 key octets };
 
     ghost no_password_key = { λ _ _ _ _. ⊥ };
 
@@ -158,7 +158,7 @@ impl Aes256CtsHmacSha384192 {
 
 impl Cipher for Aes256CtsHmacSha384192 {
     ghost use Rattle.krb_crypto_block.specs.declared.aes.AesSize.TheVariants as size;
-    ghost use Rattle.krb_crypto_message.specs.AesSha2.{IsSealedSha2, IsSha2PasswordKey, sha2_ki, sha2_mac, sha2_refusal};
+    ghost use Rattle.krb_crypto_message.specs.AesSha2.{IsSealedSha2, IsSha2PasswordKey, sha2_ki, sha2_mac, sha2_error};
     ghost use Rattle.krb_crypto_suite.specs.declared.cipher_suite.CipherSuite.TheVariants as cipher;
     ghost use Rattle.krb_crypto_suite.specs.declared.checksum_suite.ChecksumSuite.TheVariants as checksum;
 
@@ -168,7 +168,7 @@ impl Cipher for Aes256CtsHmacSha384192 {
 
     ghost confounder_octets = { λ _. 16 };
 
-    ghost fill_octets = { λ _. 1 };
+    ghost padding_octets = { λ _. 1 };
 
     ghost checksum_octets = { λ _. 24 };
 
@@ -182,7 +182,7 @@ impl Cipher for Aes256CtsHmacSha384192 {
 
     ghost password_key = { λ _ password salt key. IsSha2PasswordKey size.Aes256 password salt key };
 
-    ghost unopened = { λ _ key _ octets e. e ≡ sha2_refusal size.Aes256 key octets };
+    ghost unopened = { λ _ key _ octets e. e ≡ sha2_error size.Aes256 key octets };
 
     ghost no_password_key = { λ _ _ _ _. ⊥ };
 

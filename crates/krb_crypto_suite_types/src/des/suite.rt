@@ -24,7 +24,7 @@ impl Cipher for Des3CbcSha1Kd {
     ghost use Rattle.krb_crypto_hash.specs.Hmac.{hmac};
     ghost use Rattle.krb_crypto_message.specs.Derive.{IsDes3PasswordKey};
     ghost use Rattle.krb_crypto_message.specs.RandomToKey.{random_to_key};
-    ghost use Rattle.krb_crypto_message.specs.Sealed.{IsSealedDes3, des3_ki, des3_refusal, IsNoDes3Password};
+    ghost use Rattle.krb_crypto_message.specs.Sealed.{IsSealedDes3, des3_ki, des3_error, IsNoDes3Password};
     ghost use Rattle.krb_crypto_suite.specs.declared.cipher_suite.CipherSuite.TheVariants as cipher;
     ghost use Rattle.krb_crypto_suite.specs.declared.checksum_suite.ChecksumSuite.TheVariants as checksum;
 
@@ -34,7 +34,7 @@ impl Cipher for Des3CbcSha1Kd {
 
     ghost confounder_octets = { λ _. 8 };
 
-    ghost fill_octets = { λ _. 8 };
+    ghost padding_octets = { λ _. 8 };
 
     ghost checksum_octets = { λ _. 20 };
 
@@ -48,7 +48,7 @@ impl Cipher for Des3CbcSha1Kd {
 
     ghost password_key = { λ _ password salt key. IsDes3PasswordKey password salt key };
 
-    ghost unopened = { λ _ key _ octets e. e ≡ des3_refusal key octets };
+    ghost unopened = { λ _ key _ octets e. e ≡ des3_error key octets };
 
     ghost no_password_key = { λ _ password salt e. IsNoDes3Password password salt e };
 

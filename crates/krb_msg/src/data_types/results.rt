@@ -2,10 +2,10 @@
 
 ghost use Rattle.std.specs.Prelude.{◌≡◌, ◌++◌, ◌<◌, ◌^◌, List, ℕ, length, Ok, Err, IfOk, IfErr, MatchResult};
 ghost use Rattle.krb_der.specs.Whole.{Answers, FailsWith, NoDevice};
-ghost use Rattle.krb_der_core.specs.Faults.{OrMemory};
+ghost use Rattle.krb_der_core.specs.Errors.{OrMemory};
 ghost use Rattle.krb_der_core.specs.declared.error.Asn1DerError.{Asn1DerError};
 ghost use Rattle.krb_der_core.specs.declared.error.Asn1DerError.TheVariants.{InvalidData, TruncatedData};
-ghost use Rattle.krb_msg.specs.Results.{FaultOf, FaultOfBoth, IsNoEncoding};
+ghost use Rattle.krb_msg.specs.Results.{ErrorOf, ErrorOfBoth, IsNoEncoding};
 
 use crate::messages::KrbError;
 use krb_der::{Asn1DerError, Der, DerEncode, from_bytes};
@@ -34,8 +34,8 @@ pub trait ResultExt<T: Der + Drop> {
         ensures more { IsNoEncoding T.is_value T.enc octets.now → (e : _) (rest : List ℕ) → ⟦<KrbError as DerEncode>⟧.is_value e → 0 < length rest
             → octets.now ≡ ⟦<KrbError as DerEncode>⟧.enc e ++ rest → FailsWith result InvalidData }
         ensures no_device { IfErr result NoDevice }
-        ensures faulty_value { IfOk result (λ r. IfErr r (λ e. (d : Asn1DerError) × FaultOf ⟦<T as DerEncode>⟧ octets.now d)) }
-        ensures first_fault { IfErr result (OrMemory (FaultOfBoth ⟦<T as DerEncode>⟧ ⟦<KrbError as DerEncode>⟧ octets.now)) };
+        ensures wrong_value { IfOk result (λ r. IfErr r (λ e. (d : Asn1DerError) × ErrorOf ⟦<T as DerEncode>⟧ octets.now d)) }
+        ensures first_error { IfErr result (OrMemory (ErrorOfBoth ⟦<T as DerEncode>⟧ ⟦<KrbError as DerEncode>⟧ octets.now)) };
 }
 
 impl<T: Der + Drop> ResultExt<T> for KrbResult<T> {

@@ -1,8 +1,8 @@
 //! Either message of an exchange with a server.
 
 ghost use Rattle.std.specs.Prelude.{◌==◌, ◌||◌};
-ghost use Rattle.krb_der.specs.Choice.{ChoiceFault, IsChoice, choice};
-ghost use Rattle.krb_der.specs.ChoiceLaws.{choice_element, choice_fault_laws, choice_one_value};
+ghost use Rattle.krb_der.specs.Choice.{ChoiceError, IsChoice, choice};
+ghost use Rattle.krb_der.specs.ChoiceLaws.{choice_element, choice_error_laws, choice_one_value};
 ghost use Rattle.krb_msg.specs.ApMessage.{held, held_decides, tags_apart};
 
 use krb_der::{Asn1DerError, Der, DerEncode};
@@ -44,9 +44,9 @@ impl DerEncode for ApMessage {
 
     ghost one_value = { choice_one_value 110 111 _ _ tags_apart _ _ ⟦<ApReq as DerEncode>⟧.one_value ⟦<ApRep as DerEncode>⟧.one_value held held_decides };
 
-    ghost fault = { ChoiceFault 110 111 ⟦<ApReq as DerEncode>⟧.fault ⟦<ApRep as DerEncode>⟧.fault };
+    ghost error = { ChoiceError 110 111 ⟦<ApReq as DerEncode>⟧.error ⟦<ApRep as DerEncode>⟧.error };
 
-    ghost fault_laws = { choice_fault_laws 110 111 _ _ tags_apart _ _ _ _ ⟦<ApReq as DerEncode>⟧.fault_laws ⟦<ApRep as DerEncode>⟧.fault_laws held };
+    ghost error_laws = { choice_error_laws 110 111 _ _ tags_apart _ _ _ _ ⟦<ApReq as DerEncode>⟧.error_laws ⟦<ApRep as DerEncode>⟧.error_laws held };
 
     fn starts(octet: u8) -> bool {
         octet == AP_REQ || octet == AP_REP

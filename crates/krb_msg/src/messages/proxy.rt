@@ -3,12 +3,12 @@
 ghost use Rattle.std.specs.Prelude.{◌≡◌, ◌==◌, ◌++◌, refl, List, ℕ, None, IfOk, IfErr, OnOk};
 ghost use Rattle.krb_der.specs.Asn1.{explicit, general_string, integer, octet_string, sequence};
 ghost use Rattle.krb_der.specs.Encoding.{optional};
-ghost use Rattle.krb_der.specs.FieldFaults.{sequence_fault};
-ghost use Rattle.krb_der.specs.FieldFaultLaws.{sequence_fault_laws};
+ghost use Rattle.krb_der.specs.FieldErrors.{sequence_error};
+ghost use Rattle.krb_der.specs.FieldErrorLaws.{sequence_error_laws};
 ghost use Rattle.krb_der.specs.SequenceLaws.{one_value_of, values_of};
 ghost use Rattle.krb_der.specs.TlvLaws.{only_tag, tagged_element};
-ghost use Rattle.krb_der.specs.Whole.{Answers, NoDevice, TellsCut};
-ghost use Rattle.krb_der_core.specs.Faults.{FrontFault, OrMemory};
+ghost use Rattle.krb_der.specs.Whole.{Answers, NoDevice, ReportsCut};
+ghost use Rattle.krb_der_core.specs.Errors.{PrefixError, OrMemory};
 ghost use Rattle.krb_der_core.specs.declared.error.Asn1DerError.TheVariants.{OutOfMemory};
 
 use krb_der::composite::{Fields, SEQUENCE, Sequence, read_sequence, write_sequence};
@@ -70,9 +70,9 @@ impl DerEncode for KdcProxyMessage {
 
     ghost one_value = { one_value_of ⟦<Self as Sequence>⟧ ⟦<<Self as Sequence>::Fields as Fields>⟧ (λ v. refl) (tt, only_tag 161 _ refl, only_tag 162 _ refl) };
 
-    ghost fault = { sequence_fault ⟦<<Self as Sequence>::Fields as Fields>⟧ };
+    ghost error = { sequence_error ⟦<<Self as Sequence>::Fields as Fields>⟧ };
 
-    ghost fault_laws = { sequence_fault_laws ⟦<Self as Sequence>⟧ ⟦<<Self as Sequence>::Fields as Fields>⟧ (tt, only_tag 161 _ refl, only_tag 162 _ refl) };
+    ghost error_laws = { sequence_error_laws ⟦<Self as Sequence>⟧ ⟦<<Self as Sequence>::Fields as Fields>⟧ (tt, only_tag 161 _ refl, only_tag 162 _ refl) };
 
     fn starts(octet: u8) -> bool {
         octet == SEQUENCE
@@ -107,11 +107,11 @@ impl KdcProxyMessage {
         ensures found { IfOk result (λ v. (rest : List ℕ) × (raw.now ≡ ⟦<KdcProxyMessage as DerEncode>⟧.enc v ++ rest)) }
         ensures reads { (v : KdcProxyMessage) (rest : List ℕ) → ⟦<KdcProxyMessage as DerEncode>⟧.is_value v
             → raw.now ≡ ⟦<KdcProxyMessage as DerEncode>⟧.enc v ++ rest → Answers result v }
-        ensures cut { TellsCut ⟦<KdcProxyMessage as DerEncode>⟧.is_value ⟦<KdcProxyMessage as DerEncode>⟧.enc raw.now result }
+        ensures cut { ReportsCut ⟦<KdcProxyMessage as DerEncode>⟧.is_value ⟦<KdcProxyMessage as DerEncode>⟧.enc raw.now result }
         ensures no_device { IfErr result NoDevice }
-        ensures first_fault { IfErr result (OrMemory (FrontFault ⟦<KdcProxyMessage as DerEncode>⟧.first ⟦<KdcProxyMessage as DerEncode>⟧.fault raw.now)) }
+        ensures first_error { IfErr result (OrMemory (PrefixError ⟦<KdcProxyMessage as DerEncode>⟧.first ⟦<KdcProxyMessage as DerEncode>⟧.error raw.now)) }
     {
-        read_front(alloc, raw)
+        read_prefix(alloc, raw)
     }
 
     /// A message that holds these octets, and names neither a realm nor how to look for a KDC.
@@ -142,13 +142,13 @@ impl KdcProxyMessage {
 }
 
 /// The value whose encoding is at the start of the octets, whatever is after it.
-fn read_front<T: Der>(alloc: Global, octets: &[u8]) -> Result<T, Asn1DerError>
+fn read_prefix<T: Der>(alloc: Global, octets: &[u8]) -> Result<T, Asn1DerError>
     ensures valid { IfOk result T.is_value }
     ensures found { IfOk result (λ v. (rest : List ℕ) × (octets.now ≡ T.enc v ++ rest)) }
     ensures reads { (v : T) (rest : List ℕ) → T.is_value v → octets.now ≡ T.enc v ++ rest → Answers result v }
-    ensures cut { TellsCut T.is_value T.enc octets.now result }
+    ensures cut { ReportsCut T.is_value T.enc octets.now result }
     ensures no_device { IfErr result NoDevice }
-    ensures first_fault { IfErr result (OrMemory (FrontFault T.first T.fault octets.now)) }
+    ensures first_error { IfErr result (OrMemory (PrefixError T.first T.error octets.now)) }
 {
     let (value, _) = T::read(alloc, octets)?;
     Ok(value)

@@ -2,8 +2,8 @@
 
 ghost use Rattle.std.specs.Prelude.{◌==◌, ◌++◌, refl};
 ghost use Rattle.krb_der.specs.Asn1.{explicit, integer, sequence};
-ghost use Rattle.krb_der.specs.FieldFaults.{sequence_fault};
-ghost use Rattle.krb_der.specs.FieldFaultLaws.{sequence_fault_laws};
+ghost use Rattle.krb_der.specs.FieldErrors.{sequence_error};
+ghost use Rattle.krb_der.specs.FieldErrorLaws.{sequence_error_laws};
 ghost use Rattle.krb_der.specs.SequenceLaws.{one_value_of, values_of};
 ghost use Rattle.krb_der.specs.TlvLaws.{tagged_element};
 
@@ -68,9 +68,9 @@ impl DerEncode for TgtReq {
 
     ghost one_value = { one_value_of ⟦<Self as Sequence>⟧ ⟦<<Self as Sequence>::Fields as Fields>⟧ (λ v. refl) (tt, tt, tt) };
 
-    ghost fault = { sequence_fault ⟦<<Self as Sequence>::Fields as Fields>⟧ };
+    ghost error = { sequence_error ⟦<<Self as Sequence>::Fields as Fields>⟧ };
 
-    ghost fault_laws = { sequence_fault_laws ⟦<Self as Sequence>⟧ ⟦<<Self as Sequence>::Fields as Fields>⟧ (tt, tt, tt) };
+    ghost error_laws = { sequence_error_laws ⟦<Self as Sequence>⟧ ⟦<<Self as Sequence>::Fields as Fields>⟧ (tt, tt, tt) };
 
     fn starts(octet: u8) -> bool {
         octet == SEQUENCE
@@ -141,9 +141,9 @@ impl DerEncode for TgtRep {
 
     ghost one_value = { one_value_of ⟦<Self as Sequence>⟧ ⟦<<Self as Sequence>::Fields as Fields>⟧ (λ v. refl) (tt, tt, tt) };
 
-    ghost fault = { sequence_fault ⟦<<Self as Sequence>::Fields as Fields>⟧ };
+    ghost error = { sequence_error ⟦<<Self as Sequence>::Fields as Fields>⟧ };
 
-    ghost fault_laws = { sequence_fault_laws ⟦<Self as Sequence>⟧ ⟦<<Self as Sequence>::Fields as Fields>⟧ (tt, tt, tt) };
+    ghost error_laws = { sequence_error_laws ⟦<Self as Sequence>⟧ ⟦<<Self as Sequence>::Fields as Fields>⟧ (tt, tt, tt) };
 
     fn starts(octet: u8) -> bool {
         octet == SEQUENCE

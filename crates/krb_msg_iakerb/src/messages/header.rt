@@ -7,9 +7,9 @@ ghost use Rattle.krb_der.specs.SequenceLaws.{one_value_of, values_of};
 ghost use Rattle.krb_der.specs.TlvLaws.{only_tag, tagged_element};
 ghost use Rattle.krb_der.specs.Whole.{Answers, FailsWith, NoDevice};
 ghost use Rattle.krb_der_core.specs.declared.error.Asn1DerError.TheVariants.{InvalidData, OutOfMemory, TruncatedData};
-ghost use Rattle.krb_der_core.specs.Faults.{OrMemory};
+ghost use Rattle.krb_der_core.specs.Errors.{OrMemory};
 ghost use Rattle.krb_msg_iakerb.specs.Header.{HeaderReads};
-ghost use Rattle.krb_msg_iakerb.specs.HeaderFaults.{IAKerbHeaderFault, extensible_fault, extensible_fault_laws};
+ghost use Rattle.krb_msg_iakerb.specs.HeaderErrors.{IAKerbHeaderError, extensible_error, extensible_error_laws};
 
 use crate::reading::read_content;
 use krb_der::composite::{Fields, SEQUENCE, Sequence, write_sequence};
@@ -78,9 +78,9 @@ impl DerEncode for IAKerbHeader {
 
     ghost one_value = { one_value_of ⟦<Self as Sequence>⟧ ⟦<<Self as Sequence>::Fields as Fields>⟧ (λ v. refl) (tt, only_tag 162 _ refl, only_tag 163 _ refl) };
 
-    ghost fault = { extensible_fault ⟦<<Self as Sequence>::Fields as Fields>⟧ };
+    ghost error = { extensible_error ⟦<<Self as Sequence>::Fields as Fields>⟧ };
 
-    ghost fault_laws = { extensible_fault_laws ⟦<Self as Sequence>⟧ ⟦<<Self as Sequence>::Fields as Fields>⟧ (tt, only_tag 162 _ refl, only_tag 163 _ refl) };
+    ghost error_laws = { extensible_error_laws ⟦<Self as Sequence>⟧ ⟦<<Self as Sequence>::Fields as Fields>⟧ (tt, only_tag 162 _ refl, only_tag 163 _ refl) };
 
     fn starts(octet: u8) -> bool {
         octet == SEQUENCE
@@ -111,7 +111,7 @@ impl IAKerbHeader {
         ensures more { (h : IAKerbHeader) (b rest : List ℕ) → ⟦<IAKerbHeader as DerEncode>⟧.is_value h → HeaderReads b h → 0 < length rest
             → octets.now ≡ b ++ rest → FailsWith result InvalidData }
         ensures no_device { IfErr result NoDevice }
-        ensures first_fault { IfErr result (OrMemory (IAKerbHeaderFault ⟦<IAKerbHeader as DerEncode>⟧ octets.now)) }
+        ensures first_error { IfErr result (OrMemory (IAKerbHeaderError ⟦<IAKerbHeader as DerEncode>⟧ octets.now)) }
     {
         let (content, taken) = read_tlv(SEQUENCE, octets)?;
         let header = read_content(alloc, content)?;

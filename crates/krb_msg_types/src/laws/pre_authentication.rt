@@ -2,8 +2,8 @@
 
 ghost use Rattle.std.specs.Prelude.{◌≡◌};
 ghost use Rattle.krb_der.specs.Asn1.{sequence_of};
-ghost use Rattle.krb_der.specs.FieldFaults.{HasFaultsOf};
-ghost use Rattle.krb_der.specs.Equality.{ClonesValue, TellsEqual};
+ghost use Rattle.krb_der.specs.FieldErrors.{HasErrorsOf};
+ghost use Rattle.krb_der.specs.Equality.{ClonesValue, DecidesEqual};
 ghost use Rattle.krb_der.specs.Tags.{HasTag};
 
 use crate::data_types::{
@@ -21,13 +21,13 @@ pub fn aliases()
 
 /// The first error of each struct is that of a SEQUENCE of its fields (X.690, 8.9): its tag, then its fields in order, then
 /// trailing octets. Its encodings begin with that tag, and with no other octet (X.690, 8.1.2).
-pub fn faults()
-    ensures pa_data { HasFaultsOf ⟦<PaData as DerEncode>⟧.fault ⟦<<PaData as Sequence>::Fields as Fields>⟧ }
-    ensures pa_enc_ts_enc { HasFaultsOf ⟦<PaEncTsEnc as DerEncode>⟧.fault ⟦<<PaEncTsEnc as Sequence>::Fields as Fields>⟧ }
-    ensures kerb_pa_pac_request { HasFaultsOf ⟦<KerbPaPacRequest as DerEncode>⟧.fault ⟦<<KerbPaPacRequest as Sequence>::Fields as Fields>⟧ }
-    ensures pa_pac_options { HasFaultsOf ⟦<PaPacOptions as DerEncode>⟧.fault ⟦<<PaPacOptions as Sequence>::Fields as Fields>⟧ }
-    ensures etype_info2_entry { HasFaultsOf ⟦<EtypeInfo2Entry as DerEncode>⟧.fault ⟦<<EtypeInfo2Entry as Sequence>::Fields as Fields>⟧ }
-    ensures kerb_error_data { HasFaultsOf ⟦<KerbErrorData as DerEncode>⟧.fault ⟦<<KerbErrorData as Sequence>::Fields as Fields>⟧ }
+pub fn errors()
+    ensures pa_data { HasErrorsOf ⟦<PaData as DerEncode>⟧.error ⟦<<PaData as Sequence>::Fields as Fields>⟧ }
+    ensures pa_enc_ts_enc { HasErrorsOf ⟦<PaEncTsEnc as DerEncode>⟧.error ⟦<<PaEncTsEnc as Sequence>::Fields as Fields>⟧ }
+    ensures kerb_pa_pac_request { HasErrorsOf ⟦<KerbPaPacRequest as DerEncode>⟧.error ⟦<<KerbPaPacRequest as Sequence>::Fields as Fields>⟧ }
+    ensures pa_pac_options { HasErrorsOf ⟦<PaPacOptions as DerEncode>⟧.error ⟦<<PaPacOptions as Sequence>::Fields as Fields>⟧ }
+    ensures etype_info2_entry { HasErrorsOf ⟦<EtypeInfo2Entry as DerEncode>⟧.error ⟦<<EtypeInfo2Entry as Sequence>::Fields as Fields>⟧ }
+    ensures kerb_error_data { HasErrorsOf ⟦<KerbErrorData as DerEncode>⟧.error ⟦<<KerbErrorData as Sequence>::Fields as Fields>⟧ }
     ensures pa_data_tag { HasTag 48 ⟦<PaData as DerEncode>⟧.first }
     ensures pa_enc_ts_enc_tag { HasTag 48 ⟦<PaEncTsEnc as DerEncode>⟧.first }
     ensures kerb_pa_pac_request_tag { HasTag 48 ⟦<KerbPaPacRequest as DerEncode>⟧.first }
@@ -38,12 +38,12 @@ pub fn faults()
 
 /// `==` on each struct: it returns true for equal values and for no others.
 pub fn equality()
-    ensures pa_data { TellsEqual ⟦<PaData as PartialEq>⟧.eq }
-    ensures pa_enc_ts_enc { TellsEqual ⟦<PaEncTsEnc as PartialEq>⟧.eq }
-    ensures kerb_pa_pac_request { TellsEqual ⟦<KerbPaPacRequest as PartialEq>⟧.eq }
-    ensures pa_pac_options { TellsEqual ⟦<PaPacOptions as PartialEq>⟧.eq }
-    ensures etype_info2_entry { TellsEqual ⟦<EtypeInfo2Entry as PartialEq>⟧.eq }
-    ensures kerb_error_data { TellsEqual ⟦<KerbErrorData as PartialEq>⟧.eq }
+    ensures pa_data { DecidesEqual ⟦<PaData as PartialEq>⟧.eq }
+    ensures pa_enc_ts_enc { DecidesEqual ⟦<PaEncTsEnc as PartialEq>⟧.eq }
+    ensures kerb_pa_pac_request { DecidesEqual ⟦<KerbPaPacRequest as PartialEq>⟧.eq }
+    ensures pa_pac_options { DecidesEqual ⟦<PaPacOptions as PartialEq>⟧.eq }
+    ensures etype_info2_entry { DecidesEqual ⟦<EtypeInfo2Entry as PartialEq>⟧.eq }
+    ensures kerb_error_data { DecidesEqual ⟦<KerbErrorData as PartialEq>⟧.eq }
 {}
 
 /// A clone of each struct that has one equals the value.

@@ -2,8 +2,8 @@
 
 ghost use Rattle.std.specs.Prelude.{◌==◌, ◌||◌};
 ghost use Rattle.krb_der.specs.Asn1.{explicit};
-ghost use Rattle.krb_der.specs.Choice.{ChoiceFault, IsChoice, choice};
-ghost use Rattle.krb_der.specs.ChoiceLaws.{choice_element, choice_fault_laws, choice_one_value};
+ghost use Rattle.krb_der.specs.Choice.{ChoiceError, IsChoice, choice};
+ghost use Rattle.krb_der.specs.ChoiceLaws.{choice_element, choice_error_laws, choice_one_value};
 ghost use Rattle.krb_der_x509.specs.Implicit.{implicit};
 ghost use Rattle.krb_pkinit.specs.Replies.{held, held_decides, tags_apart};
 
@@ -49,10 +49,10 @@ impl DerEncode for PaPkAsRep {
     ghost one_value = { choice_one_value 160 129 _ _ tags_apart _ _ ⟦<ExplicitContextTag0<DhRepInfo> as DerEncode>⟧.one_value
         ⟦<ImplicitContextTag1<OctetStringAsn1> as DerEncode>⟧.one_value held held_decides };
 
-    ghost fault = { ChoiceFault 160 129 ⟦<ExplicitContextTag0<DhRepInfo> as DerEncode>⟧.fault ⟦<ImplicitContextTag1<OctetStringAsn1> as DerEncode>⟧.fault };
+    ghost error = { ChoiceError 160 129 ⟦<ExplicitContextTag0<DhRepInfo> as DerEncode>⟧.error ⟦<ImplicitContextTag1<OctetStringAsn1> as DerEncode>⟧.error };
 
-    ghost fault_laws = { choice_fault_laws 160 129 _ _ tags_apart _ _ _ _ ⟦<ExplicitContextTag0<DhRepInfo> as DerEncode>⟧.fault_laws
-        ⟦<ImplicitContextTag1<OctetStringAsn1> as DerEncode>⟧.fault_laws held };
+    ghost error_laws = { choice_error_laws 160 129 _ _ tags_apart _ _ _ _ ⟦<ExplicitContextTag0<DhRepInfo> as DerEncode>⟧.error_laws
+        ⟦<ImplicitContextTag1<OctetStringAsn1> as DerEncode>⟧.error_laws held };
 
     fn starts(octet: u8) -> bool {
         octet == DH_INFO || octet == ENC_KEY_PACK

@@ -1,6 +1,6 @@
 //! Messages of Kerberos and IAKERB in tokens of the GSS-API (RFC 2743, 3.1).
 
-use crate::row::{Attempt, Findings, Refusal, Row};
+use crate::row::{Attempt, Findings, Rejection, Row};
 use crate::trials::{Format, tried};
 use krb_der::{Der, DerSequence, copy, to_vec};
 use krb_gss_negotiation::gss_api::{ApplicationTag0, IAKerbProxyMessage, KrbMessage};
@@ -11,41 +11,41 @@ use std::alloc::{AllocError, Global};
 use std::io::Write;
 
 impl<T: Der + Drop + PartialEq> Format for KrbMessage<T> {
-    fn read_from(alloc: Global, octets: &[u8]) -> Result<KrbMessage<T>, Refusal> {
+    fn read_from(alloc: Global, octets: &[u8]) -> Result<KrbMessage<T>, Rejection> {
         let token = KrbMessage::<T>::decode_application_krb_message(alloc, octets)?;
         Ok(token.0)
     }
 
-    fn again(&self, alloc: Global) -> Result<KrbMessage<T>, Refusal> {
+    fn again(&self, alloc: Global) -> Result<KrbMessage<T>, Rejection> {
         Ok(copy(alloc, self)?)
     }
 
-    fn write_to<W: Write>(&self, alloc: Global, writer: &mut W) -> Result<(), Refusal> {
+    fn write_to<W: Write>(&self, alloc: Global, writer: &mut W) -> Result<(), Rejection> {
         Ok(self.encode(alloc, writer)?)
     }
 
-    fn readable(alloc: Global, written: &[u8]) -> Result<Vec<u8>, Refusal> {
+    fn readable(alloc: Global, written: &[u8]) -> Result<Vec<u8>, Rejection> {
         Ok(token_of(alloc, written)?)
     }
 }
 
 impl<T: Der + Drop + PartialEq> Format for IAKerbProxyMessage<T> {
-    fn read_from(alloc: Global, octets: &[u8]) -> Result<IAKerbProxyMessage<T>, Refusal> {
+    fn read_from(alloc: Global, octets: &[u8]) -> Result<IAKerbProxyMessage<T>, Rejection> {
         let token = IAKerbProxyMessage::<T>::decode_application_iakerb_proxy_message(
             alloc, octets,
         )?;
         Ok(token.0)
     }
 
-    fn again(&self, alloc: Global) -> Result<IAKerbProxyMessage<T>, Refusal> {
+    fn again(&self, alloc: Global) -> Result<IAKerbProxyMessage<T>, Rejection> {
         Ok(self.clone(alloc)?)
     }
 
-    fn write_to<W: Write>(&self, alloc: Global, writer: &mut W) -> Result<(), Refusal> {
+    fn write_to<W: Write>(&self, alloc: Global, writer: &mut W) -> Result<(), Rejection> {
         Ok(self.encode(alloc, writer)?)
     }
 
-    fn readable(alloc: Global, written: &[u8]) -> Result<Vec<u8>, Refusal> {
+    fn readable(alloc: Global, written: &[u8]) -> Result<Vec<u8>, Rejection> {
         Ok(token_of(alloc, written)?)
     }
 }
@@ -66,11 +66,11 @@ fn token_of(alloc: Global, octets: &[u8]) -> Result<Vec<u8>, AllocError> {
 
 /// What is found of the message in the token at the front of a row's octets, which is put in a token again: that is the row's written
 /// octets in one.
-fn framed<F: Format + DerSequence>(row: &Row<'_>) -> Result<Findings, Refusal> {
+fn framed<F: Format + DerSequence>(row: &Row<'_>) -> Result<Findings, Rejection> {
     let mut found = tried::<F>(row)?;
     let message = F::read_from(row.alloc, row.octets)?;
     let token = to_vec(row.alloc, &ApplicationTag0(message))?;
-    found.tell("framed", token == token_of(row.alloc, row.written)?)?;
+    found.decide("framed", token == token_of(row.alloc, row.written)?)?;
     Ok(found)
 }
 

@@ -1,6 +1,6 @@
 //! Messages of NEGOEX (MS-NEGOEX, 2.2.6).
 
-use crate::row::{Attempt, Refusal, Row};
+use crate::row::{Attempt, Rejection, Row};
 use crate::trials::{Format, made, tried};
 use krb_negoex::negoex::NegoexMessage;
 use krb_negoex::negoex::messages::{Exchange, Nego, Verify};
@@ -8,61 +8,61 @@ use std::alloc::Global;
 use std::io::Write;
 
 impl Format for Nego {
-    fn read_from(alloc: Global, octets: &[u8]) -> Result<Nego, Refusal> {
+    fn read_from(alloc: Global, octets: &[u8]) -> Result<Nego, Rejection> {
         Ok(Nego::decode(alloc, octets)?)
     }
 
-    fn again(&self, alloc: Global) -> Result<Nego, Refusal> {
+    fn again(&self, alloc: Global) -> Result<Nego, Rejection> {
         Ok(self.clone(alloc)?)
     }
 
-    fn write_to<W: Write>(&self, alloc: Global, writer: &mut W) -> Result<(), Refusal> {
+    fn write_to<W: Write>(&self, alloc: Global, writer: &mut W) -> Result<(), Rejection> {
         Ok(self.encode(alloc, writer)?)
     }
 
-    fn shown(&self, alloc: Global) -> Result<String, Refusal> {
+    fn shown(&self, alloc: Global) -> Result<String, Rejection> {
         Ok(format!(in alloc; "{self:?}")?)
     }
 }
 
 impl Format for Exchange {
-    fn read_from(alloc: Global, octets: &[u8]) -> Result<Exchange, Refusal> {
+    fn read_from(alloc: Global, octets: &[u8]) -> Result<Exchange, Rejection> {
         Ok(Exchange::decode(alloc, octets)?)
     }
 
-    fn again(&self, alloc: Global) -> Result<Exchange, Refusal> {
+    fn again(&self, alloc: Global) -> Result<Exchange, Rejection> {
         Ok(self.clone(alloc)?)
     }
 
-    fn write_to<W: Write>(&self, alloc: Global, writer: &mut W) -> Result<(), Refusal> {
+    fn write_to<W: Write>(&self, alloc: Global, writer: &mut W) -> Result<(), Rejection> {
         Ok(self.encode(alloc, writer)?)
     }
 
-    fn shown(&self, alloc: Global) -> Result<String, Refusal> {
+    fn shown(&self, alloc: Global) -> Result<String, Rejection> {
         Ok(format!(in alloc; "{self:?}")?)
     }
 }
 
 impl Format for Verify {
-    fn read_from(alloc: Global, octets: &[u8]) -> Result<Verify, Refusal> {
+    fn read_from(alloc: Global, octets: &[u8]) -> Result<Verify, Rejection> {
         Ok(Verify::decode(alloc, octets)?)
     }
 
-    fn again(&self, alloc: Global) -> Result<Verify, Refusal> {
+    fn again(&self, alloc: Global) -> Result<Verify, Rejection> {
         Ok(self.clone(alloc)?)
     }
 
-    fn write_to<W: Write>(&self, alloc: Global, writer: &mut W) -> Result<(), Refusal> {
+    fn write_to<W: Write>(&self, alloc: Global, writer: &mut W) -> Result<(), Rejection> {
         Ok(self.encode(alloc, writer)?)
     }
 
-    fn shown(&self, alloc: Global) -> Result<String, Refusal> {
+    fn shown(&self, alloc: Global) -> Result<String, Rejection> {
         Ok(format!(in alloc; "{self:?}")?)
     }
 }
 
 /// What is written of the message that is made of the parts of the row's.
-fn nego_anew(row: &Row<'_>) -> Result<Vec<u8>, Refusal> {
+fn nego_again(row: &Row<'_>) -> Result<Vec<u8>, Rejection> {
     let Nego {
         header,
         random,
@@ -84,7 +84,7 @@ fn nego_anew(row: &Row<'_>) -> Result<Vec<u8>, Refusal> {
 }
 
 /// What is written of the message that is made of the parts of the row's.
-fn exchange_anew(row: &Row<'_>) -> Result<Vec<u8>, Refusal> {
+fn exchange_again(row: &Row<'_>) -> Result<Vec<u8>, Rejection> {
     let Exchange {
         header,
         auth_scheme,
@@ -103,7 +103,7 @@ fn exchange_anew(row: &Row<'_>) -> Result<Vec<u8>, Refusal> {
 }
 
 /// What is written of the message that is made of the parts of the row's.
-fn verify_anew(row: &Row<'_>) -> Result<Vec<u8>, Refusal> {
+fn verify_again(row: &Row<'_>) -> Result<Vec<u8>, Rejection> {
     let Verify {
         header,
         auth_scheme,
@@ -124,7 +124,7 @@ fn verify_anew(row: &Row<'_>) -> Result<Vec<u8>, Refusal> {
 }
 
 /// What is written of the row's message where its header says that the payload stands four octets before, in the padding.
-fn early(row: &Row<'_>) -> Result<Vec<u8>, Refusal> {
+fn early(row: &Row<'_>) -> Result<Vec<u8>, Rejection> {
     let mut message = Verify::decode(row.alloc, row.octets)?;
     message.header.header_len = message.header.header_len.saturating_sub(4);
     message.header.message_len = message.header.message_len.saturating_sub(4);
@@ -134,11 +134,11 @@ fn early(row: &Row<'_>) -> Result<Vec<u8>, Refusal> {
 }
 
 /// What is found of what is made of a message's parts, by the call.
-fn try_anew(row: &Row<'_>) -> Attempt {
+fn try_again(row: &Row<'_>) -> Attempt {
     match row.name {
-        "Exchange::new" => Some(made(row, exchange_anew(row))),
-        "Nego::new" => Some(made(row, nego_anew(row))),
-        "Verify::new" => Some(made(row, verify_anew(row))),
+        "Exchange::new" => Some(made(row, exchange_again(row))),
+        "Nego::new" => Some(made(row, nego_again(row))),
+        "Verify::new" => Some(made(row, verify_again(row))),
         "Verify, four octets before" => Some(made(row, early(row))),
         _ => None,
     }
@@ -150,6 +150,6 @@ pub fn try_negoex(row: &Row<'_>) -> Attempt {
         "Exchange" => Some(tried::<Exchange>(row)),
         "Nego" => Some(tried::<Nego>(row)),
         "Verify" => Some(tried::<Verify>(row)),
-        _ => try_anew(row),
+        _ => try_again(row),
     }
 }

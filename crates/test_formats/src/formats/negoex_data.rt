@@ -1,7 +1,7 @@
 //! Types of data of NEGOEX (MS-NEGOEX, 2.2.5).
 
-use crate::devices::{Fault, Sink, Source};
-use crate::row::{Attempt, Findings, Refusal, Row, Trial, name_of};
+use crate::devices::{Failure, Sink, Source};
+use crate::row::{Attempt, Findings, Rejection, Row, Trial, name_of};
 use crate::trials::{Format, Streamed, made, tried_slowly};
 use krb_negoex::negoex::NegoexDataType;
 use krb_negoex::negoex::data_types::{
@@ -18,23 +18,23 @@ use std::io::Write;
 struct Data<T>(T);
 
 impl<T: NegoexDataType<Error = io::Error> + PartialEq + Debug + Drop> Format for Data<T> {
-    fn read_from(alloc: Global, octets: &[u8]) -> Result<Data<T>, Refusal> {
+    fn read_from(alloc: Global, octets: &[u8]) -> Result<Data<T>, Rejection> {
         let mut reader = octets;
         Ok(Data(T::decode(alloc, &mut reader, octets)?))
     }
 
-    fn again(&self, alloc: Global) -> Result<Data<T>, Refusal> {
+    fn again(&self, alloc: Global) -> Result<Data<T>, Rejection> {
         let mut octets = Vec::new(alloc);
         self.0.encode(alloc, &mut octets)?;
         let mut reader = octets.as_slice();
         Ok(Data(T::decode(alloc, &mut reader, &octets)?))
     }
 
-    fn write_to<W: Write>(&self, alloc: Global, writer: &mut W) -> Result<(), Refusal> {
+    fn write_to<W: Write>(&self, alloc: Global, writer: &mut W) -> Result<(), Rejection> {
         Ok(self.0.encode(alloc, writer)?)
     }
 
-    fn shown(&self, alloc: Global) -> Result<String, Refusal> {
+    fn shown(&self, alloc: Global) -> Result<String, Rejection> {
         Ok(format!(in alloc; "{:?}", self.0)?)
     }
 }
@@ -44,7 +44,7 @@ impl<T: NegoexDataType<Error = io::Error> + PartialEq + Debug + Drop> Streamed f
         alloc: Global,
         octets: &[u8],
         reader: &mut Source<'_>,
-    ) -> Result<Data<T>, Refusal> {
+    ) -> Result<Data<T>, Rejection> {
         Ok(Data(T::decode(alloc, reader, octets)?))
     }
 }
@@ -54,10 +54,10 @@ fn sent_apart<T: NegoexDataType<Error = io::Error>>(
     alloc: Global,
     value: &T,
     rooms: (usize, usize),
-    fault: Fault,
-) -> (Sink, Sink, Result<usize, Refusal>) {
-    let mut writer = Sink::new(alloc, rooms.0, fault);
-    let mut payload_writer = Sink::new(alloc, rooms.1, fault);
+    error: Failure,
+) -> (Sink, Sink, Result<usize, Rejection>) {
+    let mut writer = Sink::new(alloc, rooms.0, error);
+    let mut payload_writer = Sink::new(alloc, rooms.1, error);
     let outcome = value.encode_with_payload(
         alloc,
         T::fixed_len(),
@@ -66,7 +66,7 @@ fn sent_apart<T: NegoexDataType<Error = io::Error>>(
     );
     match outcome {
         Ok(size) => (writer, payload_writer, Ok(size)),
-        Err(fault) => (writer, payload_writer, Err(Refusal::from(fault))),
+        Err(error) => (writer, payload_writer, Err(Rejection::from(error))),
     }
 }
 
@@ -77,8 +77,8 @@ fn is_apart<T: NegoexDataType<Error = io::Error>>(alloc: Global, value: &T, octe
         return false;
     };
     let rooms = (fixed.len(), payload.len());
-    for fault in [Fault::None, Fault::Interrupted] {
-        let (writer, other, outcome) = sent_apart(alloc, value, rooms, fault);
+    for error in [Failure::None, Failure::Interrupted] {
+        let (writer, other, outcome) = sent_apart(alloc, value, rooms, error);
         let is_whole = matches!(outcome, Ok(size) if size == payload.len());
         if !is_whole || writer.taken.as_slice() != fixed || other.taken.as_slice() != payload {
             return false;
@@ -88,7 +88,7 @@ fn is_apart<T: NegoexDataType<Error = io::Error>>(alloc: Global, value: &T, octe
 }
 
 /// Whether a full writer's fault is told.
-fn is_full_told<T: NegoexDataType<Error = io::Error>>(
+fn is_full_reported<T: NegoexDataType<Error = io::Error>>(
     alloc: Global,
     value: &T,
     octets: &[u8],
@@ -98,7 +98,12 @@ fn is_full_told<T: NegoexDataType<Error = io::Error>>(
     };
     for room in 0..octets.len() {
         let payload_room = room.saturating_sub(fixed.len());
-        let (writer, other, outcome) = sent_apart(alloc, value, (room, payload_room), Fault::None);
+        let (writer, other, outcome) = sent_apart(
+            alloc,
+            value,
+            (room, payload_room),
+            Failure::None,
+        );
         if name_of(&outcome) != "BrokenPipe"
             || !fixed.starts_with(&writer.taken)
             || writer.taken.len() != room.min(fixed.len())
@@ -114,12 +119,12 @@ fn is_full_told<T: NegoexDataType<Error = io::Error>>(
 /// What is found of a row whose octets are a value of a type of data.
 fn tried_apart<T: NegoexDataType<Error = io::Error> + PartialEq + Debug + Drop>(
     row: &Row<'_>,
-) -> Result<Findings, Refusal> {
+) -> Result<Findings, Rejection> {
     let mut found = tried_slowly::<Data<T>>(row)?;
     if row.trial == Trial::Whole {
         let value = Data::<T>::read_from(row.alloc, row.octets)?;
-        found.tell("apart", is_apart(row.alloc, &value.0, row.octets))?;
-        found.tell("full", is_full_told(row.alloc, &value.0, row.octets))?;
+        found.decide("apart", is_apart(row.alloc, &value.0, row.octets))?;
+        found.decide("full", is_full_reported(row.alloc, &value.0, row.octets))?;
     }
     Ok(found)
 }
@@ -155,11 +160,11 @@ fn try_payload(row: &Row<'_>) -> Attempt {
 }
 
 /// What is written of a clone.
-fn checksum_cloned(row: &Row<'_>) -> Result<Vec<u8>, Refusal> {
+fn checksum_cloned(row: &Row<'_>) -> Result<Vec<u8>, Rejection> {
     let value = Data::<Checksum>::read_from(row.alloc, row.octets)?;
     let again = value.0.clone(row.alloc)?;
     if again != value.0 {
-        return Err(Refusal::Otherwise);
+        return Err(Rejection::Otherwise);
     }
     let mut octets = Vec::new(row.alloc);
     again.encode(row.alloc, &mut octets)?;
@@ -167,11 +172,11 @@ fn checksum_cloned(row: &Row<'_>) -> Result<Vec<u8>, Refusal> {
 }
 
 /// What is written of a clone.
-fn extension_cloned(row: &Row<'_>) -> Result<Vec<u8>, Refusal> {
+fn extension_cloned(row: &Row<'_>) -> Result<Vec<u8>, Rejection> {
     let value = Data::<Extension>::read_from(row.alloc, row.octets)?;
     let again = value.0.clone(row.alloc)?;
     if again != value.0 {
-        return Err(Refusal::Otherwise);
+        return Err(Rejection::Otherwise);
     }
     let mut octets = Vec::new(row.alloc);
     again.encode(row.alloc, &mut octets)?;
@@ -180,13 +185,13 @@ fn extension_cloned(row: &Row<'_>) -> Result<Vec<u8>, Refusal> {
 
 /// What two vectors get, which stand one octet long before, of a vector of a row's octets whose payload stands at 2^32: the fixed part,
 /// and then the payload. Both are to stay where that is refused.
-fn far(row: &Row<'_>) -> Result<Vec<u8>, Refusal> {
+fn far(row: &Row<'_>) -> Result<Vec<u8>, Rejection> {
     let octets: ByteVector = Vec::from_slice(row.alloc, row.octets)?;
     let mut fixed = Vec::from_slice(row.alloc, &[1])?;
     let mut payload = Vec::from_slice(row.alloc, &[2])?;
     let outcome = octets.encode_with_payload(row.alloc, 0x1_0000_0000, &mut fixed, &mut payload);
     if outcome.is_err() && (fixed.len() != 1 || payload.len() != 1) {
-        return Err(Refusal::Lost);
+        return Err(Rejection::Lost);
     }
     outcome?;
     fixed.extend_from_slice(&payload)?;

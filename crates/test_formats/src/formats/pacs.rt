@@ -1,7 +1,7 @@
 //! PACs, their entries and their buffers (MS-PAC, 2.3 to 2.4).
 
 use crate::devices::Source;
-use crate::row::{Attempt, Findings, Refusal, Row};
+use crate::row::{Attempt, Findings, Rejection, Row};
 use crate::trials::{Format, Streamed, made, tried_slowly};
 use krb_pac::{Pac, PacBuffer, PacInfoBuffer};
 use std::alloc::Global;
@@ -14,19 +14,19 @@ const HEADER_LENGTH: usize = 8;
 const ENTRY_LENGTH: usize = 16;
 
 impl Format for Pac {
-    fn read_from(alloc: Global, octets: &[u8]) -> Result<Pac, Refusal> {
+    fn read_from(alloc: Global, octets: &[u8]) -> Result<Pac, Rejection> {
         Ok(Pac::deserialize(alloc, octets)?)
     }
 
-    fn again(&self, alloc: Global) -> Result<Pac, Refusal> {
+    fn again(&self, alloc: Global) -> Result<Pac, Rejection> {
         Ok(self.clone(alloc)?)
     }
 
-    fn write_to<W: Write>(&self, alloc: Global, writer: &mut W) -> Result<(), Refusal> {
+    fn write_to<W: Write>(&self, alloc: Global, writer: &mut W) -> Result<(), Rejection> {
         Ok(self.serialize(alloc, writer)?)
     }
 
-    fn shown(&self, alloc: Global) -> Result<String, Refusal> {
+    fn shown(&self, alloc: Global) -> Result<String, Rejection> {
         let mut text = String::new(alloc);
         for buffer in self.buffers() {
             let info = buffer.info_buffer();
@@ -44,26 +44,30 @@ impl Format for Pac {
 }
 
 impl Streamed for Pac {
-    fn read_slowly(alloc: Global, _octets: &[u8], reader: &mut Source<'_>) -> Result<Pac, Refusal> {
+    fn read_slowly(
+        alloc: Global,
+        _octets: &[u8],
+        reader: &mut Source<'_>,
+    ) -> Result<Pac, Rejection> {
         Ok(Pac::deserialize(alloc, reader)?)
     }
 }
 
 impl Format for PacInfoBuffer {
-    fn read_from(_alloc: Global, octets: &[u8]) -> Result<PacInfoBuffer, Refusal> {
+    fn read_from(_alloc: Global, octets: &[u8]) -> Result<PacInfoBuffer, Rejection> {
         let mut reader = octets;
         Ok(PacInfoBuffer::deserialize(&mut reader)?)
     }
 
-    fn again(&self, _alloc: Global) -> Result<PacInfoBuffer, Refusal> {
+    fn again(&self, _alloc: Global) -> Result<PacInfoBuffer, Rejection> {
         Ok(PacInfoBuffer::new(self.ul_type(), self.cb_buffer_size(), self.offset()))
     }
 
-    fn write_to<W: Write>(&self, _alloc: Global, writer: &mut W) -> Result<(), Refusal> {
+    fn write_to<W: Write>(&self, _alloc: Global, writer: &mut W) -> Result<(), Rejection> {
         Ok(self.serialize(writer)?)
     }
 
-    fn shown(&self, alloc: Global) -> Result<String, Refusal> {
+    fn shown(&self, alloc: Global) -> Result<String, Rejection> {
         let kind = self.ul_type();
         Ok(format!(in alloc; "{} {kind:?}", u32::from(kind))?)
     }
@@ -74,7 +78,7 @@ impl Streamed for PacInfoBuffer {
         _alloc: Global,
         _octets: &[u8],
         reader: &mut Source<'_>,
-    ) -> Result<PacInfoBuffer, Refusal> {
+    ) -> Result<PacInfoBuffer, Rejection> {
         Ok(PacInfoBuffer::deserialize(reader)?)
     }
 }
@@ -87,7 +91,7 @@ fn blank(octets: &mut [u8], from: usize, count: usize) {
 }
 
 /// The octets of a PAC in which other octets stand where this entry stood, and where its buffer did.
-fn blanked(row: &Row<'_>, from: usize, info: &PacInfoBuffer) -> Result<Vec<u8>, Refusal> {
+fn blanked(row: &Row<'_>, from: usize, info: &PacInfoBuffer) -> Result<Vec<u8>, Rejection> {
     let mut octets = Vec::from_slice(row.alloc, row.octets)?;
     blank(&mut octets, from, ENTRY_LENGTH);
     blank(
@@ -100,11 +104,11 @@ fn blanked(row: &Row<'_>, from: usize, info: &PacInfoBuffer) -> Result<Vec<u8>, 
 
 /// The PAC's octets, from which the entry and the buffer at one position are taken, and into which a clone of them is put at another.
 /// Where that is refused, the position and the octets are to be as before.
-fn moved(row: &Row<'_>, from: usize, to: usize) -> Result<Vec<u8>, Refusal> {
+fn moved(row: &Row<'_>, from: usize, to: usize) -> Result<Vec<u8>, Rejection> {
     let mut position = from;
     let read = PacBuffer::deserialize(row.alloc, row.octets, &mut position);
     if read.is_err() && position != from {
-        return Err(Refusal::Lost);
+        return Err(Rejection::Lost);
     }
     let again = read?.clone(row.alloc)?;
     let before = blanked(row, from, again.info_buffer())?;
@@ -112,22 +116,22 @@ fn moved(row: &Row<'_>, from: usize, to: usize) -> Result<Vec<u8>, Refusal> {
     let mut position = to;
     let outcome = again.serialize(&mut octets, &mut position);
     if outcome.is_err() && (position != to || octets != before) {
-        return Err(Refusal::Lost);
+        return Err(Rejection::Lost);
     }
     outcome?;
     Ok(octets)
 }
 
 /// What is found of the first buffer of a PAC's octets, which is put where it stood.
-fn put_again(row: &Row<'_>) -> Result<Findings, Refusal> {
+fn put_again(row: &Row<'_>) -> Result<Findings, Rejection> {
     let octets = moved(row, HEADER_LENGTH, HEADER_LENGTH)?;
     let mut found = Findings::new(row.alloc);
-    found.tell("made", octets.as_slice() == row.octets)?;
+    found.decide("made", octets.as_slice() == row.octets)?;
     Ok(found)
 }
 
 /// The octets of the buffer that is made of an entry at the front of a row's and of what stands behind it.
-fn buffer_anew(row: &Row<'_>) -> Result<Vec<u8>, Refusal> {
+fn buffer_again(row: &Row<'_>) -> Result<Vec<u8>, Rejection> {
     let mut reader = row.octets;
     let info = PacInfoBuffer::deserialize(&mut reader)?;
     let buffer = PacBuffer::new(info, Vec::from_slice(row.alloc, reader)?)?;
@@ -135,7 +139,7 @@ fn buffer_anew(row: &Row<'_>) -> Result<Vec<u8>, Refusal> {
 }
 
 /// What is written of the PAC that is made of clones of the buffers of the row's.
-fn pac_anew(row: &Row<'_>) -> Result<Vec<u8>, Refusal> {
+fn pac_again(row: &Row<'_>) -> Result<Vec<u8>, Rejection> {
     let read = Pac::deserialize(row.alloc, row.octets)?;
     let mut buffers = Vec::new(row.alloc);
     for buffer in read.buffers() {
@@ -161,10 +165,10 @@ fn try_buffer(row: &Row<'_>) -> Attempt {
 pub fn try_pac(row: &Row<'_>) -> Attempt {
     match row.name {
         "Pac" => Some(tried_slowly::<Pac>(row)),
-        "Pac::new" => Some(made(row, pac_anew(row))),
+        "Pac::new" => Some(made(row, pac_again(row))),
         "PacInfoBuffer" => Some(tried_slowly::<PacInfoBuffer>(row)),
         "PacBuffer" => Some(put_again(row)),
-        "PacBuffer::new" => Some(made(row, buffer_anew(row))),
+        "PacBuffer::new" => Some(made(row, buffer_again(row))),
         _ => try_buffer(row),
     }
 }

@@ -1,7 +1,7 @@
 //! The frames that change passwords (RFC 3244, 2), and records of a caller's integrity level and machine (MS-KILE, 2.2.5).
 
 use crate::devices::Source;
-use crate::row::{Attempt, Refusal, Row};
+use crate::row::{Attempt, Rejection, Row};
 use crate::trials::{Format, Streamed, made, tried, tried_slowly};
 use krb_lsap::{LsapTokenInfoIntegrity, octets_of, record_of};
 use krb_msg_password::{KrbPrivMessage, ReadFrameError, WriteFrameError, read_frame, write_frame};
@@ -9,16 +9,16 @@ use std::alloc::Global;
 use std::io::Write;
 
 impl Format for KrbPrivMessage {
-    fn read_from(alloc: Global, octets: &[u8]) -> Result<KrbPrivMessage, Refusal> {
+    fn read_from(alloc: Global, octets: &[u8]) -> Result<KrbPrivMessage, Rejection> {
         let mut reader = octets;
         Ok(KrbPrivMessage::deserialize(alloc, &mut reader)?)
     }
 
-    fn again(&self, alloc: Global) -> Result<KrbPrivMessage, Refusal> {
+    fn again(&self, alloc: Global) -> Result<KrbPrivMessage, Rejection> {
         Ok(self.clone(alloc)?)
     }
 
-    fn write_to<W: Write>(&self, alloc: Global, writer: &mut W) -> Result<(), Refusal> {
+    fn write_to<W: Write>(&self, alloc: Global, writer: &mut W) -> Result<(), Rejection> {
         Ok(self.serialize(alloc, writer)?)
     }
 }
@@ -28,7 +28,7 @@ impl Streamed for KrbPrivMessage {
         alloc: Global,
         _octets: &[u8],
         reader: &mut Source<'_>,
-    ) -> Result<KrbPrivMessage, Refusal> {
+    ) -> Result<KrbPrivMessage, Rejection> {
         Ok(KrbPrivMessage::deserialize(alloc, reader)?)
     }
 }
@@ -38,47 +38,47 @@ impl Streamed for KrbPrivMessage {
 struct Frame(KrbPrivMessage);
 
 impl Format for Frame {
-    fn read_from(alloc: Global, octets: &[u8]) -> Result<Frame, Refusal> {
+    fn read_from(alloc: Global, octets: &[u8]) -> Result<Frame, Rejection> {
         let (message, taken) = read_frame(alloc, octets)?;
         if taken > octets.len() {
-            return Err(Refusal::Lost);
+            return Err(Rejection::Lost);
         }
         Ok(Frame(message))
     }
 
-    fn again(&self, alloc: Global) -> Result<Frame, Refusal> {
+    fn again(&self, alloc: Global) -> Result<Frame, Rejection> {
         Ok(Frame(self.0.clone(alloc)?))
     }
 
-    fn write_to<W: Write>(&self, alloc: Global, writer: &mut W) -> Result<(), Refusal> {
+    fn write_to<W: Write>(&self, alloc: Global, writer: &mut W) -> Result<(), Rejection> {
         let mut octets = Vec::from_slice(alloc, &[0x5a])?;
         let outcome = write_frame(alloc, &self.0, &mut octets);
-        let Some(behind) = octets.strip_prefix([0x5a].as_slice()) else {
-            return Err(Refusal::Lost);
+        let Some(trailing) = octets.strip_prefix([0x5a].as_slice()) else {
+            return Err(Rejection::Lost);
         };
-        if outcome.is_err() && !behind.is_empty() {
-            return Err(Refusal::Lost);
+        if outcome.is_err() && !trailing.is_empty() {
+            return Err(Rejection::Lost);
         }
         outcome?;
-        Ok(writer.write_all(behind)?)
+        Ok(writer.write_all(trailing)?)
     }
 }
 
 impl Format for LsapTokenInfoIntegrity {
-    fn read_from(_alloc: Global, octets: &[u8]) -> Result<LsapTokenInfoIntegrity, Refusal> {
+    fn read_from(_alloc: Global, octets: &[u8]) -> Result<LsapTokenInfoIntegrity, Rejection> {
         let mut reader = octets;
         Ok(LsapTokenInfoIntegrity::decode(&mut reader)?)
     }
 
-    fn again(&self, _alloc: Global) -> Result<LsapTokenInfoIntegrity, Refusal> {
+    fn again(&self, _alloc: Global) -> Result<LsapTokenInfoIntegrity, Rejection> {
         Ok(self.clone()?)
     }
 
-    fn write_to<W: Write>(&self, _alloc: Global, writer: &mut W) -> Result<(), Refusal> {
+    fn write_to<W: Write>(&self, _alloc: Global, writer: &mut W) -> Result<(), Rejection> {
         Ok(self.encode(writer)?)
     }
 
-    fn shown(&self, alloc: Global) -> Result<String, Refusal> {
+    fn shown(&self, alloc: Global) -> Result<String, Rejection> {
         Ok(format!(in alloc; "{self:?}")?)
     }
 }
@@ -88,27 +88,27 @@ impl Streamed for LsapTokenInfoIntegrity {
         _alloc: Global,
         _octets: &[u8],
         reader: &mut Source<'_>,
-    ) -> Result<LsapTokenInfoIntegrity, Refusal> {
+    ) -> Result<LsapTokenInfoIntegrity, Rejection> {
         Ok(LsapTokenInfoIntegrity::decode(reader)?)
     }
 }
 
 /// The octets of the record that these are, with no device.
-fn recorded(row: &Row<'_>) -> Result<Vec<u8>, Refusal> {
+fn recorded(row: &Row<'_>) -> Result<Vec<u8>, Rejection> {
     let mut octets = [0; 40];
     if row.octets.len() != octets.len() {
-        return Err(Refusal::Lost);
+        return Err(Rejection::Lost);
     }
     octets.copy_from_slice(row.octets);
     let record = record_of(&octets);
     if record != LsapTokenInfoIntegrity::read_from(row.alloc, row.octets)? {
-        return Err(Refusal::Otherwise);
+        return Err(Rejection::Otherwise);
     }
     Ok(Vec::from_slice(row.alloc, &octets_of(&record))?)
 }
 
 /// The texts of want of memory.
-fn texts(alloc: Global) -> Result<Vec<u8>, Refusal> {
+fn texts(alloc: Global) -> Result<Vec<u8>, Rejection> {
     let read = ReadFrameError::OutOfMemory;
     let written = WriteFrameError::OutOfMemory;
     let text = format!(in alloc; "{read}, {written}")?;

@@ -1,6 +1,6 @@
 //! Messages, or the KRB-ERRORs that come in their place.
 
-use crate::row::{Attempt, Refusal, Row};
+use crate::row::{Attempt, Rejection, Row};
 use crate::trials::{Format, tried};
 use krb_der::{Der, copy, to_vec};
 use krb_msg::data_types::{KrbResult, ResultExt};
@@ -17,21 +17,21 @@ enum Answer<T> {
 }
 
 impl<T: Der + Drop + PartialEq> Format for Answer<T> {
-    fn read_from(alloc: Global, octets: &[u8]) -> Result<Answer<T>, Refusal> {
+    fn read_from(alloc: Global, octets: &[u8]) -> Result<Answer<T>, Rejection> {
         match KrbResult::<T>::deserialize(alloc, octets)? {
             Ok(message) => Ok(Answer::Message(message)),
             Err(error) => Ok(Answer::Error(error)),
         }
     }
 
-    fn again(&self, alloc: Global) -> Result<Answer<T>, Refusal> {
+    fn again(&self, alloc: Global) -> Result<Answer<T>, Rejection> {
         match self {
             Answer::Message(message) => Ok(Answer::Message(copy(alloc, message)?)),
             Answer::Error(error) => Ok(Answer::Error(copy(alloc, error)?)),
         }
     }
 
-    fn write_to<W: Write>(&self, alloc: Global, writer: &mut W) -> Result<(), Refusal> {
+    fn write_to<W: Write>(&self, alloc: Global, writer: &mut W) -> Result<(), Rejection> {
         let octets = match self {
             Answer::Message(message) => to_vec(alloc, message)?,
             Answer::Error(error) => to_vec(alloc, error)?,
@@ -39,7 +39,7 @@ impl<T: Der + Drop + PartialEq> Format for Answer<T> {
         Ok(writer.write_all(&octets)?)
     }
 
-    fn shown(&self, alloc: Global) -> Result<String, Refusal> {
+    fn shown(&self, alloc: Global) -> Result<String, Rejection> {
         let name = match self {
             Answer::Message(_) => "a message",
             Answer::Error(_) => "a KRB-ERROR",

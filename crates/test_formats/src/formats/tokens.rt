@@ -1,7 +1,7 @@
 //! MIC and Wrap tokens (RFC 4121, 4.2.6).
 
 use crate::devices::Source;
-use crate::row::{Attempt, Refusal, Row};
+use crate::row::{Attempt, Rejection, Row};
 use crate::trials::{Format, Streamed, made, tried_slowly};
 use krb_gss_tokens::{MicToken, WrapToken};
 use std::alloc::Global;
@@ -14,21 +14,21 @@ const PAYLOAD: &[u8] = b"a payload";
 const SENT_BY_ACCEPTOR: u8 = 1;
 
 impl Format for MicToken {
-    fn read_from(alloc: Global, octets: &[u8]) -> Result<MicToken, Refusal> {
+    fn read_from(alloc: Global, octets: &[u8]) -> Result<MicToken, Rejection> {
         let mut token = MicToken::decode(alloc, octets)?;
         token.set_payload(Vec::from_slice(alloc, PAYLOAD)?);
         Ok(token)
     }
 
-    fn again(&self, alloc: Global) -> Result<MicToken, Refusal> {
+    fn again(&self, alloc: Global) -> Result<MicToken, Rejection> {
         Ok(self.clone(alloc)?)
     }
 
-    fn write_to<W: Write>(&self, _alloc: Global, writer: &mut W) -> Result<(), Refusal> {
+    fn write_to<W: Write>(&self, _alloc: Global, writer: &mut W) -> Result<(), Rejection> {
         Ok(self.encode(writer)?)
     }
 
-    fn shown(&self, alloc: Global) -> Result<String, Refusal> {
+    fn shown(&self, alloc: Global) -> Result<String, Rejection> {
         Ok(format!(in alloc; "{self:?}")?)
     }
 }
@@ -38,7 +38,7 @@ impl Streamed for MicToken {
         alloc: Global,
         _octets: &[u8],
         reader: &mut Source<'_>,
-    ) -> Result<MicToken, Refusal> {
+    ) -> Result<MicToken, Rejection> {
         let mut token = MicToken::decode(alloc, reader)?;
         token.set_payload(Vec::from_slice(alloc, PAYLOAD)?);
         Ok(token)
@@ -46,21 +46,21 @@ impl Streamed for MicToken {
 }
 
 impl Format for WrapToken {
-    fn read_from(alloc: Global, octets: &[u8]) -> Result<WrapToken, Refusal> {
+    fn read_from(alloc: Global, octets: &[u8]) -> Result<WrapToken, Rejection> {
         let mut token = WrapToken::decode(alloc, octets)?;
         token.payload = Some(Vec::from_slice(alloc, PAYLOAD)?);
         Ok(token)
     }
 
-    fn again(&self, alloc: Global) -> Result<WrapToken, Refusal> {
+    fn again(&self, alloc: Global) -> Result<WrapToken, Rejection> {
         Ok(self.clone(alloc)?)
     }
 
-    fn write_to<W: Write>(&self, _alloc: Global, writer: &mut W) -> Result<(), Refusal> {
+    fn write_to<W: Write>(&self, _alloc: Global, writer: &mut W) -> Result<(), Rejection> {
         Ok(self.encode(writer)?)
     }
 
-    fn shown(&self, alloc: Global) -> Result<String, Refusal> {
+    fn shown(&self, alloc: Global) -> Result<String, Rejection> {
         Ok(format!(in alloc; "{self:?}")?)
     }
 }
@@ -70,7 +70,7 @@ impl Streamed for WrapToken {
         alloc: Global,
         _octets: &[u8],
         reader: &mut Source<'_>,
-    ) -> Result<WrapToken, Refusal> {
+    ) -> Result<WrapToken, Rejection> {
         let mut token = WrapToken::decode(alloc, reader)?;
         token.payload = Some(Vec::from_slice(alloc, PAYLOAD)?);
         Ok(token)
@@ -78,7 +78,7 @@ impl Streamed for WrapToken {
 }
 
 /// What is written of a MIC token that is made of the parts of the row's, and its header in front of that.
-fn mic_anew(row: &Row<'_>) -> Result<Vec<u8>, Refusal> {
+fn mic_again(row: &Row<'_>) -> Result<Vec<u8>, Rejection> {
     let read = MicToken::decode(row.alloc, row.octets)?;
     let token = if read.flags & SENT_BY_ACCEPTOR == 0 {
         MicToken::with_initiator_flags(row.alloc)
@@ -93,7 +93,7 @@ fn mic_anew(row: &Row<'_>) -> Result<Vec<u8>, Refusal> {
 }
 
 /// What is written of a Wrap token that is made of the parts of the row's, and its header in front of that.
-fn wrap_anew(row: &Row<'_>) -> Result<Vec<u8>, Refusal> {
+fn wrap_again(row: &Row<'_>) -> Result<Vec<u8>, Rejection> {
     let read = WrapToken::decode(row.alloc, row.octets)?;
     let mut token = WrapToken::with_seq_number(row.alloc, read.seq_num);
     let mut octets = Vec::from_slice(row.alloc, &token.header())?;
@@ -109,9 +109,9 @@ fn wrap_anew(row: &Row<'_>) -> Result<Vec<u8>, Refusal> {
 pub fn try_token(row: &Row<'_>) -> Attempt {
     match row.name {
         "MicToken" => Some(tried_slowly::<MicToken>(row)),
-        "MicToken::with_seq_number" => Some(made(row, mic_anew(row))),
+        "MicToken::with_seq_number" => Some(made(row, mic_again(row))),
         "WrapToken" => Some(tried_slowly::<WrapToken>(row)),
-        "WrapToken::with_seq_number" => Some(made(row, wrap_anew(row))),
+        "WrapToken::with_seq_number" => Some(made(row, wrap_again(row))),
         _ => None,
     }
 }

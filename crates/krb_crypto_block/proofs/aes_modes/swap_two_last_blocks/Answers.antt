@@ -13,7 +13,7 @@ returns-clause-swapped c =
     let at : n - 32 + 16 ≡ n - 16 = omega (arith, long) in
     let half : drop 16 tail ≡ drop (n - 16) octets = drop-drop 16 (n - 32) octets ∙ ap (λ (k : ℕ). drop k octets) at in
     let turned : c.rotate_left.new.self ≡ drop (n - 16) octets ++ take 16 tail =
-    c.rotate_left.ensures.after ∙ ap (λ (old : List ℕ). drop 16 old ++ take 16 old) whole ∙ ap (λ (front : List ℕ). front ++ take 16 tail) half in
+    c.rotate_left.ensures.after ∙ ap (λ (old : List ℕ). drop 16 old ++ take 16 old) whole ∙ ap (λ (prefix : List ℕ). prefix ++ take 16 tail) half in
     ap (λ (middle : List ℕ). take (n - 32) octets ++ (middle ++ drop (n - (n - 32)) tail)) turned
     ∙ ap (λ (rest : List ℕ). take (n - 32) octets ++ ((drop (n - 16) octets ++ take 16 tail) ++ rest)) none
     ∙ ap (λ (rest : List ℕ). take (n - 32) octets ++ rest) (append-nil (drop (n - 16) octets ++ take 16 tail))

@@ -1,5 +1,5 @@
 use Rattle.std.proofs.Common.{◌≡◌, ℕ, ◌+◌, ◌-◌, ◌*◌, ◌/◌, ◌<◌, ◌≤◌, List, length, take, drop, refl, ap, ◌∙◌, arith, rules}
-use Rattle.krb_crypto_hash.specs.Xor.{xor_lists, filled_to}
+use Rattle.krb_crypto_hash.specs.Xor.{xor_lists, padded_to}
 use Rattle.krb_crypto_block.specs.Linked.{linked, last_linked}
 use Rattle.krb_crypto_block.proofs.Chaining.{part_inside, part_at, placed_at, drop_more, link_step, last_linked_step, linked_all, last_linked_end}
 use Rattle.krb_crypto_block.proofs.cbc.chain.Goals as goal
@@ -7,7 +7,7 @@ use Rattle.krb_crypto_block.proofs.cbc.chain.Goals as goal
 pub loop-i-preserved : goal.loop-i-preserved
 loop-i-preserved g c =
     let size : ℕ = g.row.SIZE in
-    let E : List ℕ → List ℕ = g.C.BlockCipher.enciphers c.args.cipher.now in
+    let E : List ℕ → List ℕ = g.C.BlockCipher.encrypts c.args.cipher.now in
     let p : List ℕ = c.args.octets.now in
     let o : List ℕ = c.loop-i.octets in
     let i : ℕ = c.loop-i.i in
@@ -17,7 +17,7 @@ loop-i-preserved g c =
     let low : i < length p / size = c.loop-i-test.true in
     let inside : size * i + size ≤ length p = part_inside size p i low in
     let at : part ≡ take size (drop (size * i) p) = part_at size p o i c.loop-i.invariant.1 in
-    let is : made ≡ E (xor_lists (filled_to size part) c.loop-i.before) = c.encrypt_block-before.ensures ∙ ap E c.xored_with-mixed.ensures in
+    let is : made ≡ E (xor_lists (padded_to size part) c.loop-i.before) = c.encrypt_block-before.ensures ∙ ap E c.xored_with-mixed.ensures in
     let long : length made ≡ size = search rules in
     let fits : size * i + size ≤ length o = omega (arith, inside, c.loop-i.auto.octets) in
     let next = placed_at size o _ c.copy_from_slice.new.self made i long fits c.copy_from_slice.ensures.after refl in
@@ -30,13 +30,13 @@ loop-i-preserved g c =
 pub returns-clause-chained : goal.returns-clause-chained
 returns-clause-chained g c =
     let size : ℕ = g.row.SIZE in
-    let E : List ℕ → List ℕ = g.C.BlockCipher.enciphers c.args.cipher.now in
+    let E : List ℕ → List ℕ = g.C.BlockCipher.encrypts c.args.cipher.now in
     let p : List ℕ = c.args.octets.now in
     linked_all size E c.loop-i.i c.loop-i.before p c.loop-i.octets (linked size E (length p / size) c.args.first.now p) c.requires.whole c.loop-i-test.false c.loop-i.auto.octets c.loop-i.invariant.0
 
 pub returns-clause-last : goal.returns-clause-last
 returns-clause-last g c =
     let size : ℕ = g.row.SIZE in
-    let E : List ℕ → List ℕ = g.C.BlockCipher.enciphers c.args.cipher.now in
+    let E : List ℕ → List ℕ = g.C.BlockCipher.encrypts c.args.cipher.now in
     let p : List ℕ = c.args.octets.now in
     last_linked_end size E (length p / size) c.loop-i.i c.loop-i.before _ (last_linked size E (length p / size) c.args.first.now p) c.loop-i-test.false c.loop-i.invariant.2

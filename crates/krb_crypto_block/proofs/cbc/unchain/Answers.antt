@@ -6,7 +6,7 @@ use Rattle.krb_crypto_block.proofs.cbc.unchain.Goals as goal
 pub loop-i-preserved : goal.loop-i-preserved
 loop-i-preserved g c =
     let size : ℕ = g.row.SIZE in
-    let D : List ℕ → List ℕ = g.C.BlockCipher.deciphers c.args.cipher.now in
+    let D : List ℕ → List ℕ = g.C.BlockCipher.decrypts c.args.cipher.now in
     let p : List ℕ = c.args.octets.now in
     let o : List ℕ = c.loop-i.octets in
     let i : ℕ = c.loop-i.i in
@@ -28,7 +28,7 @@ loop-i-preserved g c =
 pub returns-clause-plain : goal.returns-clause-plain
 returns-clause-plain g c =
     let size : ℕ = g.row.SIZE in
-    let D : List ℕ → List ℕ = g.C.BlockCipher.deciphers c.args.cipher.now in
+    let D : List ℕ → List ℕ = g.C.BlockCipher.decrypts c.args.cipher.now in
     let p : List ℕ = c.args.octets.now in
     unlinked_all size D c.loop-i.i c.loop-i.before p c.loop-i.octets (unlinked size D (length p / size) c.args.first.now p) c.requires.whole c.loop-i-test.false c.loop-i.auto.octets c.loop-i.invariant.0
 

@@ -24,10 +24,10 @@ octets-init c = record {
 }
 
 pub turned_octet-octet-requires-clause-inside : goal.turned_octet-octet-requires-clause-inside
-turned_octet-octet-requires-clause-inside c = omega (arith, c.octets.invariant.from, mod-lt (((length c.args.sum.now / c.greatest_common_divisor.result - 1 - c.turns.back) + 5 * (length c.args.sum.now / c.greatest_common_divisor.result - 1 - c.turns.back) / 8) % length c.args.input.now + c.octets.e) c.requires.filled)
+turned_octet-octet-requires-clause-inside c = omega (arith, c.octets.invariant.from, mod-lt (((length c.args.sum.now / c.greatest_common_divisor.result - 1 - c.turns.back) + 5 * (length c.args.sum.now / c.greatest_common_divisor.result - 1 - c.turns.back) / 8) % length c.args.input.now + c.octets.e) c.requires.padded)
 
 pub overflow_add-from-in-octets : goal.overflow_add-from-in-octets
-overflow_add-from-in-octets c = omega (arith, c.octets.invariant.from, mod-lt (((length c.args.sum.now / c.greatest_common_divisor.result - 1 - c.turns.back) + 5 * (length c.args.sum.now / c.greatest_common_divisor.result - 1 - c.turns.back) / 8) % length c.args.input.now + c.octets.e) c.requires.filled)
+overflow_add-from-in-octets c = omega (arith, c.octets.invariant.from, mod-lt (((length c.args.sum.now / c.greatest_common_divisor.result - 1 - c.turns.back) + 5 * (length c.args.sum.now / c.greatest_common_divisor.result - 1 - c.turns.back) / 8) % length c.args.input.now + c.octets.e) c.requires.padded)
 
 pub octets-preserved : goal.octets-preserved
 unfolding worth
@@ -38,9 +38,9 @@ octets-preserved c =
     record {
       from = elim c.if-from-input.branch [
         | then-from-input w ↦
-            place_wraps (length c.args.input.now) start c.octets.e c.octets.from c.if-from-input.from c.requires.filled c.octets.invariant.from w.if-from-input.true w.from-is
+            place_wraps (length c.args.input.now) start c.octets.e c.octets.from c.if-from-input.from c.requires.padded c.octets.invariant.from w.if-from-input.true w.from-is
         | else-from-input w ↦
-            place_moves (length c.args.input.now) start c.octets.e c.octets.from c.if-from-input.from c.requires.filled c.octets.invariant.from w.if-from-input.false w.from-is
+            place_moves (length c.args.input.now) start c.octets.e c.octets.from c.if-from-input.from c.requires.padded c.octets.invariant.from w.if-from-input.false w.from-is
       ];
       at = elim c.if-place-size.branch [
         | then-place-size w ↦
@@ -58,7 +58,7 @@ pub last-init : goal.last-init
 last-init c = record {
   one = c.turns.invariant.folding.carry;
   value = turns_end (length c.args.sum.now) c.turns.back (length c.args.sum.now / c.greatest_common_divisor.result) c.turns.carry (number c.turns.sum) c.args.input.now
-      c.requires.some c.requires.filled (search rules) (ap (λ (k : ℕ). length c.args.sum.now / k) c.greatest_common_divisor.ensures) (omega arith) c.turns.invariant.folding;
+      c.requires.some c.requires.padded (search rules) (ap (λ (k : ℕ). length c.args.sum.now / k) c.greatest_common_divisor.ensures) (omega arith) c.turns.invariant.folding;
 }
 
 pub last-preserved : goal.last-preserved
@@ -68,4 +68,4 @@ last-preserved c = record { one = c.add_octet-carry-in-last.ensures.carry; value
 pub returns : goal.returns
 returns c =
     fold_end (length c.args.sum.now) (length c.args.input.now) (length c.args.sum.now / c.greatest_common_divisor.result) c.last.carry c.last.i (number c.last.sum) (number c.args.input.now)
-    c.requires.some c.requires.filled (ap (λ (k : ℕ). length c.args.sum.now / k) c.greatest_common_divisor.ensures) (omega arith) c.last.invariant.value
+    c.requires.some c.requires.padded (ap (λ (k : ℕ). length c.args.sum.now / k) c.greatest_common_divisor.ensures) (omega arith) c.last.invariant.value

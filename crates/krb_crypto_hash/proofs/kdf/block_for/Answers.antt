@@ -13,7 +13,7 @@ returns g c =
     let counter : c.to_be_bytes.result ≡ to_be_bytes w32 1 = c.to_be_bytes.ensures in
     let bits : c.to_be_bytes-2.result ≡ to_be_bytes w32 c.args.bits = c.to_be_bytes-2.ensures in
     let digest = c.finish.ensures _ (c.absorb-4.ensures _ (c.absorb-3.ensures _ (c.absorb-2.ensures _ (c.absorb.ensures _ c.keyed-inner.ensures.0)))) in
-    let joined = four_parts (padded hash g.row.BLOCK key 0x36) c.to_be_bytes.result label (0 ∷ []) c.to_be_bytes-2.result in
+    let concatenated = four_parts (padded hash g.row.BLOCK key 0x36) c.to_be_bytes.result label (0 ∷ []) c.to_be_bytes-2.result in
     let mac = c.finish-2.ensures _ (c.absorb-5.ensures _ c.keyed-inner.ensures.1) in
     let message : c.to_be_bytes.result ++ (label ++ (0 ∷ c.to_be_bytes-2.result)) ≡ kdf_message label c.args.bits = rw (counter, bits) refl in
-    hmac_whole hash g.row.BLOCK key _ c.finish.result c.finish-2.result (digest ∙ ap hash joined) mac ∙ ap (hmac_over hash g.row.BLOCK key) message
+    hmac_whole hash g.row.BLOCK key _ c.finish.result c.finish-2.result (digest ∙ ap hash concatenated) mac ∙ ap (hmac_over hash g.row.BLOCK key) message

@@ -21,9 +21,9 @@ loop-i-preserved g c = λ k b lt kt.
     let last : (end ≡ length out) ⊎ (end ≡ start + size) = elim (is_least c.min.result size (length out - start) (search rules)) [ inl full ↦ inr (omega arith) | inr rest ↦ inl (omega (arith, first)) ] in
     let at : start + (end - start) ≡ end = omega (arith, low) in
     let after : c.copy_from_slice.new.self ≡ take (end - start) block = c.copy_from_slice.ensures.after in
-    let behind : drop (end - start) (drop start out) ≡ drop end out = drop-drop (end - start) start out ∙ ap (λ (n : ℕ). drop n out) at in
+    let trailing : drop (end - start) (drop start out) ≡ drop end out = drop-drop (end - start) start out ∙ ap (λ (n : ℕ). drop n out) at in
     let written = ap (λ (mid : List ℕ). take start out ++ (mid ++ drop (end - start) (drop start out))) after
-    ∙ ap (λ (rest : List ℕ). take start out ++ (take (end - start) block ++ rest)) behind in
+    ∙ ap (λ (rest : List ℕ). take start out ++ (take (end - start) block ++ rest)) trailing in
     derived_more (λ j. count_bits (hmac_over g.H.HashFunction.hash g.row.BLOCK) c.args.password.now c.args.salt.now j c.args.rounds) size out block c.loop-i.i _ start end refl c.loop-i.invariant here (omega arith) sized low high wide _ written last k b lt kt
 
 pub returns : goal.returns

@@ -5,6 +5,6 @@ use Rattle.krb_crypto_secret.proofs.diffie_hellman.seed_of.Given as goal
 -- the prefix of the digests so far
 abbrev pub invariant-loop-i : goal.invariant-loop-i
 invariant-loop-i l = record {
-  front : l.seed.items ≡ take l.size (digests (l.secret ++ l.client_nonce ++ l.server_nonce) l.i);
+  prefix : l.seed.items ≡ take l.size (digests (l.secret ++ l.client_nonce ++ l.server_nonce) l.i);
   long : length (digests (l.secret ++ l.client_nonce ++ l.server_nonce) l.i) ≡ 20 * l.i;
 }

@@ -1,9 +1,9 @@
 use Rattle.std.proofs.Common.{◌-◌, get_or, arith}
-use Rattle.krb_der_core.proofs.Digits.{inverted_front_fits}
+use Rattle.krb_der_core.proofs.Digits.{inverted_prefix_fits}
 use Rattle.krb_der_core.proofs.integer.number_of_inverted.Goals as goal
 
 pub overflow_mul-n : goal.overflow_mul-n
-overflow_mul-n c = omega (arith, inverted_front_fits c.args.octets.now c.loop-octet.octet-index c.loop-octet.n 0 c.requires c.loop-octet-test.true c.loop-octet.invariant (omega arith))
+overflow_mul-n c = omega (arith, inverted_prefix_fits c.args.octets.now c.loop-octet.octet-index c.loop-octet.n 0 c.requires c.loop-octet-test.true c.loop-octet.invariant (omega arith))
 
 pub overflow_add-n : goal.overflow_add-n
-overflow_add-n c = omega (arith, inverted_front_fits c.args.octets.now c.loop-octet.octet-index c.loop-octet.n (255 - get_or c.args.octets.now c.loop-octet.octet-index 0) c.requires c.loop-octet-test.true c.loop-octet.invariant (omega arith))
+overflow_add-n c = omega (arith, inverted_prefix_fits c.args.octets.now c.loop-octet.octet-index c.loop-octet.n (255 - get_or c.args.octets.now c.loop-octet.octet-index 0) c.requires c.loop-octet-test.true c.loop-octet.invariant (omega arith))

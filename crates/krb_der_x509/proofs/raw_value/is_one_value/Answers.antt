@@ -1,7 +1,7 @@
 use Rattle.std.proofs.Common.{length, get_or, refl, sym, arith}
 use Rattle.std.proofs.lemmas.Bool.{eqb-true}
 use Rattle.krb_der_x509.specs.RawValue.{is_raw_first}
-use Rattle.krb_der_x509.proofs.RawValues.{match_equal, raw_empty, raw_tag, raw_whole, raw_more, raw_refused}
+use Rattle.krb_der_x509.proofs.RawValues.{match_equal, raw_empty, raw_tag, raw_whole, raw_more, raw_rejected}
 use Rattle.krb_der_x509.proofs.raw_value.is_one_value.Goals as goal
 
 pub returns-then-is_empty : goal.returns-then-is_empty
@@ -19,4 +19,4 @@ returns-in-Ok c =
 
 pub returns-in-Err : goal.returns-in-Err
 returns-in-Err c =
-    raw_refused is_raw_first c.args.octets.now (get_or c.args.octets.now 0 0) c.in-Err.field-0 refl (omega arith) (λ k. c.in-Err.ensures.heapless k) c.in-Err.ensures.refused
+    raw_rejected is_raw_first c.args.octets.now (get_or c.args.octets.now 0 0) c.in-Err.field-0 refl (omega arith) (λ k. c.in-Err.ensures.heapless k) c.in-Err.ensures.rejected

@@ -8,9 +8,9 @@ use Rattle.krb_io.proofs.Transfers.{short_then_kept, short_then_none}
 use Rattle.krb_io.proofs.reading.read_exact.Goals as goal
 
 take_split : (a b : ℕ) (old new : List ℕ) → a ≤ b → take a new ≡ take a old → take a old ++ slice_range new a b ≡ take b new
-take_split a b old new h front =
+take_split a b old new h prefix =
     let same : a + (b - a) ≡ b = omega arith in
-    ap (λ l. l ++ slice_range new a b) (sym front) ∙ sym (take-add a (b - a) new) ∙ ap (λ n. take n new) same
+    ap (λ l. l ++ slice_range new a b) (sym prefix) ∙ sym (take-add a (b - a) new) ∙ ap (λ n. take n new) same
 
 slice_range-put_mid : (a k n : ℕ) (xs ys : List ℕ) → a ≤ length xs → n ≤ length ys → slice_range (put_mid a k xs ys) a (a + n) ≡ take n ys
 slice_range-put_mid a k n xs ys within fits =
@@ -24,8 +24,8 @@ loop-done-preserved g c =
     let room = length c.loop-done.buffer - from in
     let within = c.loop-done.invariant.1 in
     let part = slice_range-put_mid from room c.in_ok-n.n c.loop-done.buffer c.read_once.new.buffer within c.in_ok-n.ensures.within in
-    let joined = take_split from (from + c.in_ok-n.n) c.loop-done.buffer (put_mid from room c.loop-done.buffer c.read_once.new.buffer) (omega arith) (take-put_mid_below _ _ _ _ _ (le_refl _) within) in
-    (search rules, search rules, subst (Consumes _ _) (ap (λ l. take from c.loop-done.buffer ++ l) (sym part) ∙ joined) (Consumes-trans _ _ _ _ _ c.loop-done.invariant.2 c.in_ok-n.ensures.octets))
+    let concatenated = take_split from (from + c.in_ok-n.n) c.loop-done.buffer (put_mid from room c.loop-done.buffer c.read_once.new.buffer) (omega arith) (take-put_mid_below _ _ _ _ _ (le_refl _) within) in
+    (search rules, search rules, subst (Consumes _ _) (ap (λ l. take from c.loop-done.buffer ++ l) (sym part) ∙ concatenated) (Consumes-trans _ _ _ _ _ c.loop-done.invariant.2 c.in_ok-n.ensures.octets))
 
 pub returns-in_err-n-clause-fewer : goal.returns-in_err-n-clause-fewer
 returns-in_err-n-clause-fewer g c =

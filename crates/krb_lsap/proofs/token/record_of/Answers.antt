@@ -7,9 +7,9 @@ cut_at_eight : (xs : List ℕ) → 8 ≤ length xs
 cut_at_eight (a ∷ b ∷ c ∷ d ∷ e ∷ f ∷ g ∷ h ∷ xs) le = refl
 cut_at_eight xs le = absurd (omega (arith, le))
 
-parts_joined : (p r q s m n : List ℕ) → p ≡ r → q ≡ s → m ≡ n → p ++ (q ++ m) ≡ r ++ (s ++ n)
-parts_joined p r q s m n e f g = cc
+parts_concatenated : (p r q s m n : List ℕ) → p ≡ r → q ≡ s → m ≡ n → p ++ (q ++ m) ≡ r ++ (s ++ n)
+parts_concatenated p r q s m n e f g = cc
 
 pub returns-clause-octets : goal.returns-clause-octets
 returns-clause-octets c =
-    parts_joined _ _ _ _ c.copy_from_slice.new.self (drop 8 c.args.octets.now) c.number_of.ensures c.number_of-2.ensures (c.copy_from_slice.ensures.after ∙ take_all 32 (drop 8 c.args.octets.now) (omega (arith, length-drop 8 c.args.octets.now, c.fits-octets))) ∙ cut_at_eight c.args.octets.now (search rules)
+    parts_concatenated _ _ _ _ c.copy_from_slice.new.self (drop 8 c.args.octets.now) c.number_of.ensures c.number_of-2.ensures (c.copy_from_slice.ensures.after ∙ take_all 32 (drop 8 c.args.octets.now) (omega (arith, length-drop 8 c.args.octets.now, c.fits-octets))) ∙ cut_at_eight c.args.octets.now (search rules)

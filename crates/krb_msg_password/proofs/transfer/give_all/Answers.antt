@@ -11,8 +11,8 @@ grown all done n = ap (λ (l : List ℕ). take done all ++ take n l) (take_rest 
 no_more : (all : List ℕ) (done n : ℕ) → n ≡ 0 → take done all ++ take n (take (length all - done) (drop done all)) ≡ take done all
 no_more all done n e = ap (λ (m : ℕ). take done all ++ take m (take (length all - done) (drop done all))) e ∙ append-nil (take done all)
 
-pub returns-then-n-eq0-clause-front : goal.returns-then-n-eq0-clause-front
-returns-then-n-eq0-clause-front g c =
+pub returns-then-n-eq0-clause-prefix : goal.returns-then-n-eq0-clause-prefix
+returns-then-n-eq0-clause-prefix g c =
     let all = c.args.octets.now in
     let done = c.loop-done.done in (
       take done all,

@@ -2,14 +2,14 @@ use Rattle.std.proofs.Common.{◌+◌, ◌∙◌, take, inl, inr, ⊎_elim}
 use Rattle.krb_negoex.proofs.Steps.{more_laid, one_more, no_place}
 use Rattle.krb_negoex.proofs.vector.lay_elements.Goals as goal
 
-pub returns-in-Err-clause-refused : goal.returns-in-Err-clause-refused
-returns-in-Err-clause-refused g c =
+pub returns-in-Err-clause-rejected : goal.returns-in-Err-clause-rejected
+returns-in-Err-clause-rejected g c =
     let T = g.T.Lay.layout in
     ⊎_elim (λ m. inl m) (λ r. inr (
       r.0,
       no_place T.fixed T.payload T.payload_size T.laid c.args.first c.args.elements.now c.elements.element-index c.element-item.result c.elements.end
           c.elements-test.true c.element-item.is c.elements.invariant.place r.1,
-    )) c.in-Err.ensures.refused
+    )) c.in-Err.ensures.rejected
 
 pub elements-preserved : goal.elements-preserved
 elements-preserved g c =

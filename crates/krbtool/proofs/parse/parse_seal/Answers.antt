@@ -1,8 +1,8 @@
 use Rattle.std.proofs.Common.{rules}
-use Rattle.krbtool.proofs.Parsing.{seal_refused}
+use Rattle.krbtool.proofs.Parsing.{seal_rejected}
 use Rattle.krbtool.proofs.parse.parse_seal.Goals as goal
 
-pub returns-in_err-key-clause-refused : goal.returns-in_err-key-clause-refused
-returns-in_err-key-clause-refused c =
-    let refused = seal_refused c.args.etype.now c.args.key.now c.args.usage.now c.args.confounder.now c.in_err-key.field-0.0 c.in_err-key.ensures.refused in
-    search (rules, refused)
+pub returns-in_err-key-clause-rejected : goal.returns-in_err-key-clause-rejected
+returns-in_err-key-clause-rejected c =
+    let rejected = seal_rejected c.args.etype.now c.args.key.now c.args.usage.now c.args.confounder.now c.in_err-key.field-0.0 c.in_err-key.ensures.rejected in
+    search (rules, rejected)

@@ -2,7 +2,7 @@ use Rattle.std.proofs.Common.{◌≡◌, ◌-◌, length, ap, sym, ◌∙◌, ar
 use Rattle.krb_crypto_block.specs.Aes.{key_expansion, add_round_key, aes_block}
 use Rattle.krb_crypto_block.specs.InverseCipher.{aes_undo}
 use Rattle.krb_crypto_block.specs.AesWords.{Holds, inverse_cipher_rounds}
-use Rattle.krb_crypto_block.proofs.AesKeys.{inverse_keys_are, expansion_octets, decipher_by_steps, decipher_is, keys_undo}
+use Rattle.krb_crypto_block.proofs.AesKeys.{inverse_keys_are, expansion_octets, decrypt_by_steps, decrypt_is, keys_undo}
 use Rattle.krb_crypto_block.proofs.aes.AesKey.decrypt_block.Goals as goal
 use Rattle.krb_crypto_block.proofs.aes.AesKey.decrypt_block.Goals.{then-self-eq10, else-self-eq10}
 
@@ -29,8 +29,8 @@ value c =
           (w'.add_round_key.ensures w octets (rw fourteen at has.last) (long, c.are_octets.ensures)))))
     ] in
     c.inverse_last_round.ensures w _ octets has.first held
-    ∙ decipher_by_steps w c.args.block nr
-    ∙ sym (decipher_is k.octets k.round_keys k.inverse_keys v nr c.self.invariant c.self.told.0 c.self.view_is c.args.block)
+    ∙ decrypt_by_steps w c.args.block nr
+    ∙ sym (decrypt_is k.octets k.round_keys k.inverse_keys v nr c.self.invariant c.self.told.0 c.self.view_is c.args.block)
 
 pub returns-clause-undone : goal.returns-clause-undone
 returns-clause-undone c =

@@ -12,9 +12,9 @@ invariant_of-result c =
       | in-Aes256 w ↦
           let long : length key ≡ 4 * 8 = c.if-key-wanted.false ∙ c.key_length-wanted.ensures ∙ ap key_octets w.in-Aes256.is in
           let rounds : length key / 4 + 6 ≡ 8 + 6 = omega arith in
-          rw (rounds, w.round_keys-is) (is_kept key kept _ c.invert.result 8 (inr refl) long c.kept_octets.ensures.octets c.kept_octets.ensures.front w.expand-round_keys.ensures (rw (rounds, w.round_keys-is) at c.invert.ensures))
+          rw (rounds, w.round_keys-is) (is_kept key kept _ c.invert.result 8 (inr refl) long c.kept_octets.ensures.octets c.kept_octets.ensures.prefix w.expand-round_keys.ensures (rw (rounds, w.round_keys-is) at c.invert.ensures))
       | in-Aes128 w ↦
           let long : length key ≡ 4 * 4 = c.if-key-wanted.false ∙ c.key_length-wanted.ensures ∙ ap key_octets w.in-Aes128.is in
           let rounds : length key / 4 + 6 ≡ 4 + 6 = omega arith in
-          rw (rounds, w.round_keys-is) (is_kept key kept _ c.invert.result 4 (inl refl) long c.kept_octets.ensures.octets c.kept_octets.ensures.front w.expand-round_keys-in-Aes128.ensures (rw (rounds, w.round_keys-is) at c.invert.ensures))
+          rw (rounds, w.round_keys-is) (is_kept key kept _ c.invert.result 4 (inl refl) long c.kept_octets.ensures.octets c.kept_octets.ensures.prefix w.expand-round_keys-in-Aes128.ensures (rw (rounds, w.round_keys-is) at c.invert.ensures))
     ]

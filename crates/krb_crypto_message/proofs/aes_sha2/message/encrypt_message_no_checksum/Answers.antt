@@ -2,8 +2,8 @@ use Rattle.std.proofs.Common.{◌≡◌, ◌++◌, ℕ, List, refl, ◌∙◌}
 use Rattle.std.proofs.lemmas.Int.{to_z-of_z}
 use Rattle.std.proofs.lemmas.Result.{IfOk-weaker}
 use Rattle.krb_crypto_message.specs.AesSha2.{Sha2Cts, sha2_ke, sha2_ki}
-use Rattle.krb_crypto_message.proofs.Opening.{IsEnciphered, enciphers_one}
-use Rattle.krb_crypto_message.proofs.Messages.{cts_enciphered}
+use Rattle.krb_crypto_message.proofs.Opening.{IsEncrypted, encrypts_one}
+use Rattle.krb_crypto_message.proofs.Messages.{cts_encrypted}
 use Rattle.krb_crypto_message.proofs.Sha2Messages.{sha2_scheme}
 use Rattle.krb_crypto_message.proofs.aes_sha2.message.encrypt_message_no_checksum.Goals as goal
 
@@ -14,13 +14,13 @@ returns-clause-encrypted c =
     let key = c.args.key.now in
     let usage = c.args.key_usage in
     let keys = c.in_ok-keys.keys in
-    let filled : List ℕ = c.args.confounder ++ c.args.payload.now in
+    let padded : List ℕ = c.args.confounder ++ c.args.payload.now in
     let made : List ℕ = c.in_ok-octets.octets.items in
     let ke : keys.ke ≡ sha2_ke size key usage = simp to_z-of_z at c.in_ok-keys.ensures.ke in
     let ki : keys.ki ≡ sha2_ki size key usage = simp to_z-of_z at c.in_ok-keys.ensures.ki in
-    let e : IsEnciphered 1 (Sha2Cts size key usage) (sha2_ki size key usage) c.args.confounder c.args.payload.now filled made keys.ki =
-    cts_enciphered (sha2_ke size key usage) (sha2_ki size key usage) keys.ke keys.ki c.args.confounder c.args.payload.now filled made ke ki refl c.in_ok-octets.ensures.octets c.in_ok-octets.ensures.enciphered in
-    IfOk-weaker c.without_checksum.result _ _ (λ sealed same. rw same (enciphers_one (sha2_scheme size key usage) c.args.confounder c.args.payload.now filled made keys.ki e)) c.without_checksum.ensures.encrypted
+    let e : IsEncrypted 1 (Sha2Cts size key usage) (sha2_ki size key usage) c.args.confounder c.args.payload.now padded made keys.ki =
+    cts_encrypted (sha2_ke size key usage) (sha2_ki size key usage) keys.ke keys.ki c.args.confounder c.args.payload.now padded made ke ki refl c.in_ok-octets.ensures.octets c.in_ok-octets.ensures.encrypted_octets in
+    IfOk-weaker c.without_checksum.result _ _ (λ sealed same. rw same (encrypts_one (sha2_scheme size key usage) c.args.confounder c.args.payload.now padded made keys.ki e)) c.without_checksum.ensures.encrypted
 
 pub returns-clause-ki : goal.returns-clause-ki
 returns-clause-ki c =

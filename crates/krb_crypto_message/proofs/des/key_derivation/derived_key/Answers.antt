@@ -7,6 +7,6 @@ use Rattle.krb_crypto_message.proofs.des.key_derivation.derived_key.Goals as goa
 pub returns : goal.returns
 returns c =
     let input : c.n_fold_into.new.out ≡ fold c.args.well_known.now 64 = search rules in
-    c.key_of_seed.ensures ∙ ap (λ (k : List ℕ). random_to_key (take 21 k)) c.joined-blocks.ensures
+    c.key_of_seed.ensures ∙ ap (λ (k : List ℕ). random_to_key (take 21 k)) c.concatenated-blocks.ensures
     ∙ des3_derived c.args.cipher.now c.args.well_known.now c.n_fold_into.new.out c.encrypt_block-first.result c.encrypt_block-second.result c.encrypt_block-third.result
     input c.encrypt_block-first.ensures c.encrypt_block-second.ensures c.encrypt_block-third.ensures

@@ -4,20 +4,20 @@ use Rattle.krb_crypto_suite.proofs.suite_ciphers.CipherSuiteCipher.decrypt_no_ch
 pub returns-in-Aes128CtsHmacSha196-clause-opened : goal.returns-in-Aes128CtsHmacSha196-clause-opened
 returns-in-Aes128CtsHmacSha196-clause-opened c = let fits = c.ranges.key_usage in rw c.in-Aes128CtsHmacSha196.is (simp to_z-of_z at c.decrypt_message_no_checksum.ensures.opened)
 
-pub returns-in-Aes128CtsHmacSha196-clause-refused : goal.returns-in-Aes128CtsHmacSha196-clause-refused
-returns-in-Aes128CtsHmacSha196-clause-refused c = let fits = c.ranges.key_usage in rw c.in-Aes128CtsHmacSha196.is (simp to_z-of_z at c.decrypt_message_no_checksum.ensures.refused)
+pub returns-in-Aes128CtsHmacSha196-clause-rejected : goal.returns-in-Aes128CtsHmacSha196-clause-rejected
+returns-in-Aes128CtsHmacSha196-clause-rejected c = let fits = c.ranges.key_usage in rw c.in-Aes128CtsHmacSha196.is (simp to_z-of_z at c.decrypt_message_no_checksum.ensures.rejected)
 
 pub returns-in-Aes256CtsHmacSha196-clause-opened : goal.returns-in-Aes256CtsHmacSha196-clause-opened
 returns-in-Aes256CtsHmacSha196-clause-opened c = let fits = c.ranges.key_usage in rw c.in-Aes256CtsHmacSha196.is (simp to_z-of_z at c.decrypt_message_no_checksum-in-Aes256CtsHmacSha196.ensures.opened)
 
-pub returns-in-Aes256CtsHmacSha196-clause-refused : goal.returns-in-Aes256CtsHmacSha196-clause-refused
-returns-in-Aes256CtsHmacSha196-clause-refused c = let fits = c.ranges.key_usage in rw c.in-Aes256CtsHmacSha196.is (simp to_z-of_z at c.decrypt_message_no_checksum-in-Aes256CtsHmacSha196.ensures.refused)
+pub returns-in-Aes256CtsHmacSha196-clause-rejected : goal.returns-in-Aes256CtsHmacSha196-clause-rejected
+returns-in-Aes256CtsHmacSha196-clause-rejected c = let fits = c.ranges.key_usage in rw c.in-Aes256CtsHmacSha196.is (simp to_z-of_z at c.decrypt_message_no_checksum-in-Aes256CtsHmacSha196.ensures.rejected)
 
 pub returns-in-Des3CbcSha1Kd-clause-opened : goal.returns-in-Des3CbcSha1Kd-clause-opened
 returns-in-Des3CbcSha1Kd-clause-opened c = let fits = c.ranges.key_usage in rw c.in-Des3CbcSha1Kd.is (simp to_z-of_z at c.decrypt_message_no_checksum-in-Des3CbcSha1Kd.ensures.opened)
 
-pub returns-in-Des3CbcSha1Kd-clause-refused : goal.returns-in-Des3CbcSha1Kd-clause-refused
-returns-in-Des3CbcSha1Kd-clause-refused c = let fits = c.ranges.key_usage in rw c.in-Des3CbcSha1Kd.is (simp to_z-of_z at c.decrypt_message_no_checksum-in-Des3CbcSha1Kd.ensures.refused)
+pub returns-in-Des3CbcSha1Kd-clause-rejected : goal.returns-in-Des3CbcSha1Kd-clause-rejected
+returns-in-Des3CbcSha1Kd-clause-rejected c = let fits = c.ranges.key_usage in rw c.in-Des3CbcSha1Kd.is (simp to_z-of_z at c.decrypt_message_no_checksum-in-Des3CbcSha1Kd.ensures.rejected)
 
 pub returns-in-Aes128CtsHmacSha256128-clause-opened : goal.returns-in-Aes128CtsHmacSha256128-clause-opened
 returns-in-Aes128CtsHmacSha256128-clause-opened c = let fits = c.ranges.key_usage in rw c.in-Aes128CtsHmacSha256128.is (simp to_z-of_z at c.decrypt_message_no_checksum-in-Aes128CtsHmacSha256128.ensures.opened)
@@ -25,8 +25,8 @@ returns-in-Aes128CtsHmacSha256128-clause-opened c = let fits = c.ranges.key_usag
 pub returns-in-Aes128CtsHmacSha256128-clause-ki : goal.returns-in-Aes128CtsHmacSha256128-clause-ki
 returns-in-Aes128CtsHmacSha256128-clause-ki c = let fits = c.ranges.key_usage in rw c.in-Aes128CtsHmacSha256128.is (simp to_z-of_z at c.decrypt_message_no_checksum-in-Aes128CtsHmacSha256128.ensures.ki)
 
-pub returns-in-Aes128CtsHmacSha256128-clause-refused : goal.returns-in-Aes128CtsHmacSha256128-clause-refused
-returns-in-Aes128CtsHmacSha256128-clause-refused c = let fits = c.ranges.key_usage in rw c.in-Aes128CtsHmacSha256128.is (simp to_z-of_z at c.decrypt_message_no_checksum-in-Aes128CtsHmacSha256128.ensures.refused)
+pub returns-in-Aes128CtsHmacSha256128-clause-rejected : goal.returns-in-Aes128CtsHmacSha256128-clause-rejected
+returns-in-Aes128CtsHmacSha256128-clause-rejected c = let fits = c.ranges.key_usage in rw c.in-Aes128CtsHmacSha256128.is (simp to_z-of_z at c.decrypt_message_no_checksum-in-Aes128CtsHmacSha256128.ensures.rejected)
 
 pub returns-in-Aes256CtsHmacSha384192-clause-opened : goal.returns-in-Aes256CtsHmacSha384192-clause-opened
 returns-in-Aes256CtsHmacSha384192-clause-opened c = let fits = c.ranges.key_usage in rw c.in-Aes256CtsHmacSha384192.is (simp to_z-of_z at c.decrypt_message_no_checksum-in-Aes256CtsHmacSha384192.ensures.opened)
@@ -34,5 +34,5 @@ returns-in-Aes256CtsHmacSha384192-clause-opened c = let fits = c.ranges.key_usag
 pub returns-in-Aes256CtsHmacSha384192-clause-ki : goal.returns-in-Aes256CtsHmacSha384192-clause-ki
 returns-in-Aes256CtsHmacSha384192-clause-ki c = let fits = c.ranges.key_usage in rw c.in-Aes256CtsHmacSha384192.is (simp to_z-of_z at c.decrypt_message_no_checksum-in-Aes256CtsHmacSha384192.ensures.ki)
 
-pub returns-in-Aes256CtsHmacSha384192-clause-refused : goal.returns-in-Aes256CtsHmacSha384192-clause-refused
-returns-in-Aes256CtsHmacSha384192-clause-refused c = let fits = c.ranges.key_usage in rw c.in-Aes256CtsHmacSha384192.is (simp to_z-of_z at c.decrypt_message_no_checksum-in-Aes256CtsHmacSha384192.ensures.refused)
+pub returns-in-Aes256CtsHmacSha384192-clause-rejected : goal.returns-in-Aes256CtsHmacSha384192-clause-rejected
+returns-in-Aes256CtsHmacSha384192-clause-rejected c = let fits = c.ranges.key_usage in rw c.in-Aes256CtsHmacSha384192.is (simp to_z-of_z at c.decrypt_message_no_checksum-in-Aes256CtsHmacSha384192.ensures.rejected)

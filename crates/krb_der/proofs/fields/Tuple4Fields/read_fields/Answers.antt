@@ -5,7 +5,7 @@ use Rattle.krb_der.proofs.fields.Tuple4Fields.read_fields.Goals as goal
 pub returns-in_err-a-clause-reads : goal.returns-in_err-a-clause-reads
 returns-in_err-a-clause-reads g c =
     let p = err_from_is_err_and c.from_residual.result c.from_residual.ensures.1 in
-    rw (p.1, p.2) (λ follow told w y h hy q. c.in_err-a.ensures.reads follow ((told.0, told.1, told.2), told.3) ((w.0, w.1, w.2), w.3) y ((h.0, h.1, h.2), h.3) hy q)
+    rw (p.1, p.2) (λ follow is_apart w y h hy q. c.in_err-a.ensures.reads follow ((is_apart.0, is_apart.1, is_apart.2), is_apart.3) ((w.0, w.1, w.2), w.3) y ((h.0, h.1, h.2), h.3) hy q)
 
 pub returns-clause-reads : goal.returns-clause-reads
-returns-clause-reads g c = λ follow told w y h hy q. ap (λ p. (p.0.0, p.0.1, p.0.2, p.1)) (c.in_ok-a.ensures.reads follow ((told.0, told.1, told.2), told.3) ((w.0, w.1, w.2), w.3) y ((h.0, h.1, h.2), h.3) hy q)
+returns-clause-reads g c = λ follow is_apart w y h hy q. ap (λ p. (p.0.0, p.0.1, p.0.2, p.1)) (c.in_ok-a.ensures.reads follow ((is_apart.0, is_apart.1, is_apart.2), is_apart.3) ((w.0, w.1, w.2), w.3) y ((h.0, h.1, h.2), h.3) hy q)

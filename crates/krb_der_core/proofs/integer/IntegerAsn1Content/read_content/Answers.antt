@@ -3,8 +3,8 @@ use Rattle.krb_der_core.specs.Integer.{IsShortest}
 use Rattle.krb_der_core.specs.IntegerLaws.{octets_below, shortest_is, shortest_of_number}
 use Rattle.krb_der_core.proofs.integer.IntegerAsn1Content.read_content.Goals as goal
 
-pub returns-then-not-is_shortest-clause-refused : goal.returns-then-not-is_shortest-clause-refused
-returns-then-not-is_shortest-clause-refused c = λ v u e. c.if-not-is_shortest.ensures (subst IsShortest (sym e) (shortest_is v))
+pub returns-then-not-is_shortest-clause-rejected : goal.returns-then-not-is_shortest-clause-rejected
+returns-then-not-is_shortest-clause-rejected c = λ v u e. c.if-not-is_shortest.ensures (subst IsShortest (sym e) (shortest_is v))
 
 pub returns-clause-found : goal.returns-clause-found
 returns-clause-found c = rw c.in_ok-from_slice.ensures.items (sym (shortest_of_number c.args.content.now (octets_below c.args.content.now (λ i. omega (arith, c.type_inv.content i))) c.if-not-is_shortest.ensures))

@@ -6,7 +6,7 @@ use Rattle.krb_der_x509.specs.ImplicitLaws.{retagged_one_value}
 use Rattle.krb_der_x509.proofs.implicit.ImplicitContextTagFields.read_fields.Goals as goal
 
 pub returns-clause-reads : goal.returns-clause-reads
-returns-clause-reads g c = λ follow told w y h hy q.
+returns-clause-reads g c = λ follow reported w y h hy q.
     let tag = 128 + g.N.TagNumber.number in
     let p = g.T.DerPrimitive in
     let d = g.T.DerEncode in

@@ -4,8 +4,8 @@ use Rattle.std.proofs.lemmas.Result.{err_from_is_err_and}
 use Rattle.krb_io.specs.Transfer.{IsPrefixWritten}
 use Rattle.krb_negoex.proofs.traits.NegoexDataType.encode_with_payload.Goals as goal
 
-pub returns-in_err-write_all-clause-refused : goal.returns-in_err-write_all-clause-refused
-returns-in_err-write_all-clause-refused g c =
+pub returns-in_err-write_all-clause-rejected : goal.returns-in_err-write_all-clause-rejected
+returns-in_err-write_all-clause-rejected g c =
     let p = err_from_is_err_and c.from_residual-in_err-write_all.result c.from_residual-in_err-write_all.ensures.1 in
     let fixed : c.deref.result.now ≡ g.Self.Lay.layout.fixed c.args.offset c.args.self.now = search rules in
     let error = c.in_err-write_all.ensures in

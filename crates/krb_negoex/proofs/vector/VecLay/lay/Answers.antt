@@ -4,8 +4,8 @@ use Rattle.krb_negoex.specs.Parts.{AllLaid, fixeds, total}
 use Rattle.krb_negoex.proofs.Steps.{parts_are, vector_laid, all_laid}
 use Rattle.krb_negoex.proofs.vector.VecLay.lay.Goals as goal
 
-pub returns-in_err-end-clause-refused : goal.returns-in_err-end-clause-refused
-returns-in_err-end-clause-refused g c =
+pub returns-in_err-end-clause-rejected : goal.returns-in_err-end-clause-rejected
+returns-in_err-end-clause-rejected g c =
     let T = g.T.Lay.layout in
     let p = err_from_is_err_and c.from_residual-in_err-end.result c.from_residual-in_err-end.ensures.1 in
     let items = c.args.self.now.items in
@@ -18,7 +18,7 @@ returns-in_err-end-clause-refused g c =
       r.0,
       λ l. r.1 (subst (λ z. AllLaid T.laid T.payload_size first z) (sym d) (subst (λ k. AllLaid T.laid T.payload_size k items) (sym f)
           (all_laid T.fixed T.payload T.payload_size T.laid T.width c.args.offset c.in-Some.fixed_parts items n some l))),
-    )) c.in_err-end.ensures.refused)
+    )) c.in_err-end.ensures.rejected)
 
 pub returns-clause-laid : goal.returns-clause-laid
 returns-clause-laid g c =

@@ -2,8 +2,8 @@ use Rattle.std.proofs.Common.{◌≡◌, ℕ, ◌+◌, ◌*◌, ◌++◌, ◌∷
 use Rattle.std.proofs.lemmas.Result.{err_from_is_err_and}
 use Rattle.krb_pac.specs.Layout.{BufferAt}
 use Rattle.krb_pac.specs.OnePac.{one_pac}
-use Rattle.krb_pac.specs.Refused.{Before, BufferRefused}
-use Rattle.krb_pac.proofs.Entries.{more_read, no_pac, refused_there}
+use Rattle.krb_pac.specs.Rejected.{Before, BufferRejected}
+use Rattle.krb_pac.proofs.Entries.{more_read, no_pac, rejected_there}
 use Rattle.krb_pac.proofs.pac.Pac.from_octets.Goals as goal
 
 pub returns-in_err-deserialize-clause-only : goal.returns-in_err-deserialize-clause-only
@@ -11,7 +11,7 @@ returns-in_err-deserialize-clause-only c = λ pac h.
     let p = err_from_is_err_and c.from_residual-in_err-deserialize.result c.from_residual-in_err-deserialize.ensures.1 in
     let e = c.in_err-deserialize.field-0.0 in
     let at = c.entries.invariant.place in
-    let refused : BufferRefused c.args.bytes.now (8 + 16 * length c.entries.buffers.items) e = subst (λ (k : ℕ). BufferRefused c.args.bytes.now k e) at c.in_err-deserialize.ensures.refused in
+    let rejected : BufferRejected c.args.bytes.now (8 + 16 * length c.entries.buffers.items) e = subst (λ (k : ℕ). BufferRejected c.args.bytes.now k e) at c.in_err-deserialize.ensures.rejected in
     let count = c.in_ok-count.ensures.ok in
     let version = c.in_ok-version.ensures.ok in
     let before : Before c.args.bytes.now c.entries.buffers.items = record {
@@ -20,7 +20,7 @@ returns-in_err-deserialize-clause-only c = λ pac h.
       buffers = c.entries.invariant.buffers;
       more = omega (arith, count.1);
     } in
-    rw (p.1, p.2) (no_pac c.args.bytes.now pac e h (refused_there c.args.bytes.now c.entries.buffers.items e before refused))
+    rw (p.1, p.2) (no_pac c.args.bytes.now pac e h (rejected_there c.args.bytes.now c.entries.buffers.items e before rejected))
 
 pub entries-preserved : goal.entries-preserved
 entries-preserved c =

@@ -1,5 +1,5 @@
 use Rattle.std.proofs.lemmas.Int.{to_z-of_z}
 use Rattle.krb_crypto_suite_types.proofs.aes.suites.Aes128CtsHmacSha196Cipher.decrypt.Goals as goal
 
-pub returns-clause-refused : goal.returns-clause-refused
-returns-clause-refused c = let fits = c.ranges.key_usage in simp to_z-of_z at c.decrypt.ensures.refused
+pub returns-clause-rejected : goal.returns-clause-rejected
+returns-clause-rejected c = let fits = c.ranges.key_usage in simp to_z-of_z at c.decrypt.ensures.rejected

@@ -4,5 +4,5 @@ use Rattle.krb_crypto_suite_types.proofs.des.suite.Des3CbcSha1KdCipher.decrypt_n
 pub returns-clause-opened : goal.returns-clause-opened
 returns-clause-opened c = let fits = c.ranges.key_usage in simp to_z-of_z at c.decrypt_no_checksum.ensures.opened
 
-pub returns-clause-refused : goal.returns-clause-refused
-returns-clause-refused c = let fits = c.ranges.key_usage in simp to_z-of_z at c.decrypt_no_checksum.ensures.refused
+pub returns-clause-rejected : goal.returns-clause-rejected
+returns-clause-rejected c = let fits = c.ranges.key_usage in simp to_z-of_z at c.decrypt_no_checksum.ensures.rejected

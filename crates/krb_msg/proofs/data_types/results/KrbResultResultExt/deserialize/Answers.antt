@@ -4,17 +4,17 @@ use Rattle.std.specs.Prelude.{◌≡◌}
 use Rattle.krb_der_core.specs.declared.error.Asn1DerError.TheVariants as errors
 use Rattle.krb_msg.proofs.data_types.results.KrbResultResultExt.deserialize.Goals as goal
 
-fault_of : {M P : Type 0} → M ⊎ P → (M → ⊥) → P
-fault_of (inl m) n = absurd (n m)
-fault_of (inr p) n = p
+error_of : {M P : Type 0} → M ⊎ P → (M → ⊥) → P
+error_of (inl m) n = absurd (n m)
+error_of (inr p) n = p
 
 beside : {M P Q : Type 0} → P → M ⊎ Q → M ⊎ (P × Q)
 beside p (inl m) = inl m
 beside p (inr q) = inr (p, q)
 
-pub returns-in_err-from_bytes-in-Err-clause-first_fault : goal.returns-in_err-from_bytes-in-Err-clause-first_fault
-returns-in_err-from_bytes-in-Err-clause-first_fault g c =
+pub returns-in_err-from_bytes-in-Err-clause-first_error : goal.returns-in_err-from_bytes-in-Err-clause-first_error
+returns-in_err-from_bytes-in-Err-clause-first_error g c =
     let p = err_from_is_err_and c.from_residual.result c.from_residual.ensures.1 in
     let other : c.in-Err.field-0 ≡ errors.OutOfMemory → ⊥ = search rules in
-    let fault = fault_of c.in-Err.ensures.first_fault other in
-    rw (p.1, p.2) (beside (c.in-Err.field-0, fault) c.in_err-from_bytes-in-Err.ensures.first_fault)
+    let error = error_of c.in-Err.ensures.first_error other in
+    rw (p.1, p.2) (beside (c.in-Err.field-0, error) c.in_err-from_bytes-in-Err.ensures.first_error)
