@@ -20,7 +20,7 @@ mic_header_read a b c d e id flags filler f n i p q s t u v =
     let same : id ++ (flags ++ (filler ++ number)) ≡ mic_header f n = rw (i, p, q) refl in
     subst (λ (xs : List ℕ). Consumes a e xs) same taken
 
--- a wrong filler behind the id and the flags
+-- a wrong filler after the id and the flags
 pub mic_filler_read : (a b c d : Option (List ℕ)) (id flags filler : List ℕ) (f : ℕ) → id ≡ mic_id → flags ≡ f ∷ []
     → Consumes a b id → Consumes b c flags → Consumes c d filler → IfSome a (λ octets. (g : ℕ) × Begins octets (mic_id ++ (g ∷ []) ++ filler))
 mic_filler_read None b c d id flags filler f i p s t u = tt
@@ -29,7 +29,7 @@ mic_filler_read (Some l) b c d id flags filler f i p s t u =
     let same : id ++ (flags ++ filler) ≡ mic_id ++ (f ∷ []) ++ filler = rw (i, p) refl in
     (f, begun (Some l) d (mic_id ++ (f ∷ []) ++ filler) (subst (λ (xs : List ℕ). Consumes (Some l) d xs) same taken))
 
--- a fault behind the header
+-- an error after the header
 pub mic_rest_rejected : (a b : Option (List ℕ)) (f n : ℕ) (e : GssApiMessageError) → Consumes a b (mic_header f n) → IsError e → MicRejected a e
 mic_rest_rejected a b f n (errors.InvalidId x y) p h = absurd h
 mic_rest_rejected a b f n (errors.InvalidMechanismOid x y) p h = absurd h
@@ -63,11 +63,11 @@ one_mic octets s t hs ht p q =
 mic_id_read : (octets got trailing : List ℕ) → Begins octets mic_id → length got ≡ 2 → octets ≡ got ++ trailing → got ≡ mic_id
 mic_id_read octets got trailing b e p = sym (prefix_taken got trailing 2 e) ∙ ap (take 2) (sym p ∙ b.1)
 
--- octets that have the filler behind the id and the flags have no other
+-- octets that have the filler after the id and the flags have no other
 mic_filler_reported : (octets got trailing : List ℕ) (f g : ℕ) → Begins octets (mic_id ++ (f ∷ []) ++ mic_filler) → length got ≡ 5 → octets ≡ (mic_id ++ (g ∷ []) ++ got) ++ trailing → got ≡ mic_filler
 mic_filler_reported octets got trailing f g b e p = sym (prefix_taken got trailing 5 e) ∙ ap (λ (xs : List ℕ). take 5 (drop 3 xs)) (sym p ∙ b.1)
 
--- a whole header stands in front
+-- the octets begin with a whole header
 headed : (octets : List ℕ) (t : Mic) → octets ≡ mic t → Begins octets (mic_id ++ (t.flags ∷ []) ++ mic_filler)
 headed octets t p = (to_be_bytes w64 t.seq_num ++ t.checksum, p)
 
@@ -80,7 +80,7 @@ mic_not_rejected octets t (errors.InvalidWrapFiller x) p r = absurd r
 mic_not_rejected octets t (errors.Asn1Error x) p r = absurd r
 mic_not_rejected octets t errors.OutOfMemory p r = tt
 
--- where the octets are a token, it is the answer, but for a fault
+-- where the octets are a token, it is the result, but for an error
 pub only_mic : (known : Option (List ℕ)) (r : Result Mic GssApiMessageError) → IfOk r (λ t. IfSome known (λ octets. MicIs octets t)) → IfOk r (λ t. t.seq_num < 2 ^ 64) → IfErr r (MicRejected known)
     → IfSome known (λ octets. (t : Mic) → t.seq_num < 2 ^ 64 → MicIs octets t → AnswersUnlessError r t)
 only_mic None r x y z = tt
@@ -120,7 +120,7 @@ mic_cut_rejected octets errors.OutOfMemory h r =
     let k : length octets < 16 = short octets h in
     absurd (omega arith)
 
--- where a field is cut short, the answer is an `IoError`
+-- where a field is cut short, the result is an `IoError`
 pub cut_mic : (known : Option (List ℕ)) (r : Result Mic GssApiMessageError) → IfOk r (λ t. IfSome known (λ octets. MicIs octets t)) → IfErr r (MicRejected known)
     → IfSome known (λ octets. MicIsCut octets → RejectsAsIo r)
 cut_mic None r x y = tt

@@ -10,7 +10,7 @@ appends_then (Some l) None c xs ys p q = absurd p
 appends_then (Some l) (Some m) None xs ys p q = q
 appends_then (Some l) (Some m) (Some n) xs ys p q = q ∙ ap (λ z. z ++ ys) p ∙ append_assoc l xs ys
 
--- a header and what stands behind it, each told by an equation
+-- a header and what follows it, each given by an equation
 pub appends_parts : (a b c : Option (List ℕ)) (header prefix rest octets : List ℕ) → header ≡ prefix → rest ≡ octets → Appends a b header → Appends b c rest → Appends a c (prefix ++ octets)
 appends_parts a b c header prefix rest octets e f p q =
     rw (← e, ← f) (appends_then a b c header rest p q)
@@ -21,7 +21,7 @@ consumes_then (Some l) None c xs ys p q = absurd p
 consumes_then (Some l) (Some m) None xs ys p q = q
 consumes_then (Some l) (Some m) (Some n) xs ys p q = p ∙ ap (λ z. xs ++ z) q ∙ sym (append_assoc xs ys n)
 
--- what was read stands at the front of what was there
+-- what was read is at the start of what was there
 pub begun : (a b : Option (List ℕ)) (prefix : List ℕ) → Consumes a b prefix → IfSome a (λ octets. Begins octets prefix)
 begun None b prefix p = tt
 begun (Some l) None prefix p = absurd p
@@ -46,6 +46,6 @@ two_octets (x ∷ []) e = absurd (omega arith)
 two_octets (x ∷ y ∷ []) e = refl
 two_octets (x ∷ y ∷ z ∷ xs) e = absurd (omega arith)
 
--- so many octets at the front are the front itself
+-- so many octets at the start are the prefix itself
 pub prefix_taken : (prefix rest : List ℕ) (n : ℕ) → length prefix ≡ n → take n (prefix ++ rest) ≡ prefix
 prefix_taken prefix rest n e = rw (← e) (take-append_seam prefix rest)

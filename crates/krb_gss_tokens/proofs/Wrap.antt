@@ -23,7 +23,7 @@ wrap_header_read a b c d e z id marks f x y n i p t u v w o =
     let same : id ++ (marks ++ (ec ++ (rrc ++ number))) ≡ wrap_header f x y n = rw (i, p) refl in
     subst (λ (xs : List ℕ). Consumes a z xs) same taken
 
--- a filler behind the id and the flags
+-- a filler after the id and the flags
 pub wrap_filler_read : (a b c : Option (List ℕ)) (id marks : List ℕ) (f x : ℕ) → id ≡ wrap_id → marks ≡ f ∷ x ∷ []
     → Consumes a b id → Consumes b c marks → IfSome a (λ octets. (g : ℕ) × Begins octets (wrap_id ++ (g ∷ x ∷ [])))
 wrap_filler_read None b c id marks f x i p s t = tt
@@ -32,7 +32,7 @@ wrap_filler_read (Some l) b c id marks f x i p s t =
     let same : id ++ marks ≡ wrap_id ++ (f ∷ x ∷ []) = rw (i, p) refl in
     (f, begun (Some l) c (wrap_id ++ (f ∷ x ∷ [])) (subst (λ (xs : List ℕ). Consumes (Some l) c xs) same taken))
 
--- a fault behind the header
+-- an error after the header
 pub wrap_rest_rejected : (a b : Option (List ℕ)) (f x y n : ℕ) (e : GssApiMessageError) → Consumes a b (wrap_header f x y n) → IsError e → WrapRejected a e
 wrap_rest_rejected a b f x y n (errors.InvalidId v w) p h = absurd h
 wrap_rest_rejected a b f x y n (errors.InvalidMechanismOid v w) p h = absurd h
@@ -74,11 +74,11 @@ one_wrap octets s t hs ht p q =
 wrap_id_read : (octets got trailing : List ℕ) → Begins octets wrap_id → length got ≡ 2 → octets ≡ got ++ trailing → got ≡ wrap_id
 wrap_id_read octets got trailing b e p = sym (prefix_taken got trailing 2 e) ∙ ap (take 2) (sym p ∙ b.1)
 
--- octets that have the filler behind the id and the flags have no other
+-- octets that have the filler after the id and the flags have no other
 wrap_filler_reported : (octets trailing : List ℕ) (f g got : ℕ) → Begins octets (wrap_id ++ (f ∷ 255 ∷ [])) → octets ≡ (wrap_id ++ (g ∷ got ∷ [])) ++ trailing → got ≡ 255
 wrap_filler_reported octets trailing f g got b p = ap (λ (xs : List ℕ). get_or xs 3 0) (sym p ∙ b.1)
 
--- a whole header stands in front
+-- the octets begin with a whole header
 headed : (octets : List ℕ) (t : Wrap) → octets ≡ wrap t → Begins octets (wrap_id ++ (t.flags ∷ 255 ∷ []))
 headed octets t p = (to_be_bytes w16 t.ec ++ to_be_bytes w16 t.rrc ++ to_be_bytes w64 t.seq_num ++ t.checksum, p)
 
@@ -91,7 +91,7 @@ wrap_not_rejected octets t (errors.InvalidWrapFiller x) p r = absurd (r.0 (wrap_
 wrap_not_rejected octets t (errors.Asn1Error x) p r = absurd r
 wrap_not_rejected octets t errors.OutOfMemory p r = tt
 
--- where the octets are a token, it is the answer, but for a fault
+-- where the octets are a token, it is the result, but for an error
 pub only_wrap : (known : Option (List ℕ)) (r : Result Wrap GssApiMessageError) → IfOk r (λ t. IfSome known (λ octets. WrapIs octets t)) → IfOk r FitsWrap → IfErr r (WrapRejected known)
     → IfSome known (λ octets. (t : Wrap) → FitsWrap t → WrapIs octets t → AnswersUnlessError r t)
 only_wrap None r x y z = tt
@@ -128,7 +128,7 @@ wrap_cut_rejected octets errors.OutOfMemory h r =
     let k : length octets < 16 = short octets h in
     absurd (omega arith)
 
--- where a field is cut short, the answer is an `IoError`
+-- where a field is cut short, the result is an `IoError`
 pub cut_wrap : (known : Option (List ℕ)) (r : Result Wrap GssApiMessageError) → IfOk r (λ t. IfSome known (λ octets. WrapIs octets t)) → IfErr r (WrapRejected known)
     → IfSome known (λ octets. WrapIsCut octets → RejectsAsIo r)
 cut_wrap None r x y = tt

@@ -12,7 +12,7 @@ pub record Mic : Type 0 where
   pub payload : Option (List ℕ)
   pub checksum : List ℕ
 
--- the octets of a token: its header, and behind it the checksum (RFC 4121, 4.2.6.1). The payload is no part of them.
+-- the octets of a token: its header, and after it the checksum (RFC 4121, 4.2.6.1). The payload is no part of them.
 abbrev pub mic : Mic → List ℕ
 mic t = mic_header t.flags t.seq_num ++ t.checksum
 

@@ -1,10 +1,10 @@
--- Which octets are refused as a token, by the first field that is wrong (RFC 4121, 4.2.6).
+-- Which octets are rejected as a token, by the first field that is wrong (RFC 4121, 4.2.6).
 use Rattle.std.specs.Prelude.{◌≡◌, ℕ, ◌<◌, List, [], ◌∷◌, ◌++◌, length, Option, IfSome, ◌⊎◌, Result, MatchResult}
 use Rattle.krb_gss_tokens.specs.Layout.{mic_id, mic_filler, mic_header, wrap_id, wrap_header}
 use Rattle.krb_gss_tokens.specs.declared.error.GssApiMessageError.{GssApiMessageError}
 use Rattle.krb_gss_tokens.specs.declared.error.GssApiMessageError.TheVariants as errors
 
--- these octets stand at the front
+-- these octets are at the start
 abbrev pub Begins : List ℕ → List ℕ → Type 0
 Begins octets prefix = (rest : List ℕ) × (octets ≡ prefix ++ rest)
 
@@ -13,8 +13,8 @@ Begins octets prefix = (rest : List ℕ) × (octets ≡ prefix ++ rest)
 abbrev pub MicIsCut : List ℕ → Type 0
 MicIsCut octets = (length octets < 2) ⊎ ((Begins octets mic_id × (length octets < 8)) ⊎ (((flags : ℕ) × Begins octets (mic_id ++ (flags ∷ []) ++ mic_filler)) × (length octets < 16)))
 
--- How a MIC token is refused whose octets are these, where they are known: the id is another, the filler is another, or memory
--- ran out behind a whole header. A device's fault, and a field that is cut short, are an `IoError`.
+-- How a MIC token is rejected whose octets are these, where they are known: the id is another, the filler is another, or memory
+-- ran out after a whole header. An I/O error, and a field that is cut short, are an `IoError`.
 abbrev pub MicRejected : Option (List ℕ) → GssApiMessageError → Type 0
 MicRejected known (errors.InvalidId expected got) = (expected ≡ mic_id) × (got ≡ mic_id → ⊥) × (length got ≡ 2) × IfSome known (λ octets. Begins octets got)
 MicRejected known (errors.InvalidMechanismOid expected got) = ⊥
@@ -29,7 +29,7 @@ MicRejected known errors.OutOfMemory = IfSome known (λ octets. (flags number : 
 abbrev pub WrapIsCut : List ℕ → Type 0
 WrapIsCut octets = (length octets < 2) ⊎ ((Begins octets wrap_id × (length octets < 4)) ⊎ (((flags : ℕ) × Begins octets (wrap_id ++ (flags ∷ 255 ∷ []))) × (length octets < 16)))
 
--- How a Wrap token is refused whose octets are these, where they are known.
+-- How a Wrap token is rejected whose octets are these, where they are known.
 abbrev pub WrapRejected : Option (List ℕ) → GssApiMessageError → Type 0
 WrapRejected known (errors.InvalidId expected got) = (expected ≡ wrap_id) × (got ≡ wrap_id → ⊥) × (length got ≡ 2) × IfSome known (λ octets. Begins octets got)
 WrapRejected known (errors.InvalidMechanismOid expected got) = ⊥
@@ -39,25 +39,25 @@ WrapRejected known (errors.InvalidWrapFiller got) = (got ≡ 255 → ⊥) × IfS
 WrapRejected known (errors.Asn1Error e) = ⊥
 WrapRejected known errors.OutOfMemory = IfSome known (λ octets. (flags ec rrc number : ℕ) × Begins octets (wrap_header flags ec rrc number))
 
--- a reader's or a writer's fault
+-- a reader's or a writer's error
 abbrev pub IsIo : GssApiMessageError → Type 0
 IsIo (errors.IoError error) = Unit {0}
 IsIo e = ⊥
 
--- a reader's fault, or want of memory
+-- a reader's error, or an allocation failure
 abbrev pub IsError : GssApiMessageError → Type 0
 IsError errors.OutOfMemory = Unit {0}
 IsError (errors.IoError error) = Unit {0}
 IsError e = ⊥
 
--- the answer is this value, unless memory ran out
+-- the result is this value, unless memory ran out
 abbrev pub Answers : {A : Type 0} → Result A GssApiMessageError → A → Type 0
 Answers answer v = MatchResult answer (λ w. w ≡ v) (λ e. e ≡ errors.OutOfMemory)
 
--- the answer is this value, unless the reader failed or memory ran out
+-- the result is this value, unless the reader failed or memory ran out
 abbrev pub AnswersUnlessError : {A : Type 0} → Result A GssApiMessageError → A → Type 0
 AnswersUnlessError answer v = MatchResult answer (λ w. w ≡ v) IsError
 
--- the answer is an `IoError`
+-- the result is an `IoError`
 abbrev pub RejectsAsIo : {A : Type 0} → Result A GssApiMessageError → Type 0
 RejectsAsIo answer = MatchResult answer (λ w. ⊥) IsIo

@@ -14,7 +14,7 @@ pub record Wrap : Type 0 where
   pub payload : Option (List ℕ)
   pub checksum : List ℕ
 
--- the octets of a token: its header, and behind it the data (RFC 4121, 4.2.6.2). The payload is no part of them.
+-- the octets of a token: its header, and after it the data (RFC 4121, 4.2.6.2). The payload is no part of them.
 abbrev pub wrap : Wrap → List ℕ
 wrap t = wrap_header t.flags t.ec t.rrc t.seq_num ++ t.checksum
 

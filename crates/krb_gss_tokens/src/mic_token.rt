@@ -139,7 +139,7 @@ impl MicToken {
         read_fields(alloc, &mut reader)
     }
 
-    /// An equal token. `OutOfMemory` alone is answered in its place.
+    /// An equal token, or `OutOfMemory`.
     pub fn clone(&self, alloc: Global) -> Result<MicToken, GssApiMessageError>
         ensures { Answers result self.now }
     {

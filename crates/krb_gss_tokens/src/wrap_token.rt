@@ -38,7 +38,7 @@ const WRAP_HEADER_LEN: usize = 16;
 pub struct WrapToken {
     /// Who sent the token, whether its data is sealed, and under which key (RFC 4121, 4.2.2).
     pub flags: u8,
-    /// The extra count: the octets of the checksum of data that is not sealed, and of the fill of data that is (RFC 4121, 4.2.3).
+    /// The extra count: the octets of the checksum of data that is not sealed, and of the padding of data that is (RFC 4121, 4.2.3).
     pub ec: u16,
     /// By how many octets the data is rotated to the right (RFC 4121, 4.2.5).
     pub rrc: u16,
@@ -136,7 +136,7 @@ impl WrapToken {
         read_fields(alloc, &mut reader)
     }
 
-    /// An equal token. `OutOfMemory` alone is answered in its place.
+    /// An equal token, or `OutOfMemory`.
     pub fn clone(&self, alloc: Global) -> Result<WrapToken, GssApiMessageError>
         ensures { Answers result self.now }
     {

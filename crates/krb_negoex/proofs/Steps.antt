@@ -34,7 +34,7 @@ module _ {A : Type 0} (part : List ℕ → List ℕ → A → Type 0) (width : �
         elements = subst (Elements part width m k) (sym e) (Elements-push m k vs v x.elements (subst (λ (z : List ℕ). part z m v) x.place y));
       }
 
--- the element behind those that were read is refused
+-- the element after those that were read is rejected
 pub element_rejected : {A : Type 0} (part : List ℕ → List ℕ → A → Type 0) (rejects : List ℕ → List ℕ → Error → Type 0) (width : ℕ) (f trailing m rest : List ℕ) (o n i : ℕ) (vs : List A) (e : Error)
     → little_number 4 f ≡ o → trailing ≡ drop 4 f → 4 ≤ length trailing → little_number 4 trailing ≡ n → o ≤ length m → i < n → ElementsRead part width m rest o i vs → rejects rest m e
     → ElementRejected part rejects width f m e

@@ -1,14 +1,14 @@
--- What comparisons tell.
+-- When comparisons are true.
 use Rattle.std.proofs.Common.{◌≡◌, ◌↔◌, List, [], ◌∷◌, map, drop, length, slice_index_or, Bool, true, false, ◌&&◌, IsTrue, nat_eq, refl, sym, ap, ◌∙◌, arith, rules, eq-eqb}
 use Rattle.std.proofs.lemmas.Bool.{eqb-true}
 use Rattle.std.specs.Cmp.{first_so, second_so}
 use Rattle.std.specs.Cmp.Lexicographic.{pointwise, bytes_decides}
 
--- the test answers true for equal values and for no others
+-- the test returns true for equal values and for no others
 abbrev pub DecidesEqual : {A : Type 0} → (A → A → Bool) → Type 0
 DecidesEqual {A} eq = (a b : A) → IsTrue (eq a b) ↔ (a ≡ b)
 
--- the test answers true for values of equal parts and for no others
+-- the test returns true for values of equal parts and for no others
 abbrev pub DecidesEqualBy : {A P : Type 0} → (A → P) → (A → A → Bool) → Type 0
 DecidesEqualBy {A} parts eq = (a b : A) → IsTrue (eq a b) ↔ (parts a ≡ parts b)
 

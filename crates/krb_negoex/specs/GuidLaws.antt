@@ -1,4 +1,4 @@
--- A GUID in its little-endian form (MS-DTYP 2.3.4.2): four octets, two and two turned, and eight as they stand.
+-- A GUID in its little-endian form (MS-DTYP 2.3.4.2): four octets, two and two turned, and eight as they are.
 use Rattle.std.proofs.Common.{◌≡◌, ℕ, zero, suc, ◌≤◌, List, [], ◌∷◌, ◌++◌, length, take, slice_index, refl, sym, ap, ◌∙◌, arith}
 use Rattle.std.proofs.lemmas.List.{length-take, take_all}
 use Rattle.std.specs.declared.io.Error.{Error}

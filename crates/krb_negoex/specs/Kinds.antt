@@ -1,4 +1,4 @@
--- Layouts that take some numbers alone, and octets as they stand.
+-- Layouts that take some numbers alone, and octets as they are.
 use Rattle.std.proofs.Common.{◌≡◌, ℕ, ◌^◌, ◌<◌, ◌≤◌, ◌⊎◌, inr, ⊎_elim, List, ◌++◌, length, take, sym, ◌∙◌, length-append, replicate, arith}
 use Rattle.std.proofs.lemmas.List.{take_at, take_all, length-take, length-replicate}
 use Rattle.std.specs.IoError.{error_kind}
@@ -9,7 +9,7 @@ use Rattle.byteorder.specs.Numbers.{length-bytes_low_first}
 use Rattle.krb_negoex.specs.Rejected.{IsMemory, IsCut, OneError}
 use Rattle.krb_negoex.specs.Layouts.{Layout, plain, NumberPart, number_prefix, number_trailing, number_back, no_number, one_cut}
 
--- a number of n octets that is not taken is refused by this kind
+-- a number of n octets that is not taken is rejected by this kind
 abbrev pub IsOther : ℕ → ErrorKind → (ℕ → Type 0) → List ℕ → Error → Type 0
 IsOther n kind taken f e = (error_kind e ≡ kind) × (n ≤ length f) × (taken (little_number n f) → ⊥)
 
@@ -21,7 +21,7 @@ pub one_other : (n : ℕ) (kind : ErrorKind) (taken : ℕ → Type 0) (f : List 
 one_other n kind taken f e g x y = ⊎_elim (λ h. ⊎_elim (λ k. one_cut n f e g h k) (λ k. absurd (omega (arith, h.1, k.1))) y)
     (λ h. ⊎_elim (λ k. absurd (omega (arith, h.1, k.1))) (λ k. inr (inr (h.0 ∙ sym k.0))) y) x
 
--- the number of n octets of a value, where other numbers are refused
+-- the number of n octets of a value, where other numbers are rejected
 module _ {A : Type 0} (n : ℕ) (wide : 0 < n) (kind : ErrorKind) (code : A → ℕ) where
   pub no_code : (f m : List ℕ) (e : Error) (v : A) → IsCut n f e ⊎ IsOther n kind (IsCode code) f e → NumberPart n f m (code v) → IsMemory e
   no_code f m e v r x = ⊎_elim (λ h. no_number n f m e (code v) h x) (λ h. absurd (h.2 (v, sym x.value))) r
@@ -73,7 +73,7 @@ module _ (n : ℕ) (wide : 0 < n) (kind : ErrorKind) (k : ℕ) where
     reads_back = λ v m f r. record { number = number_back n v m f r.1; value = r.0 };
   })
 
--- n octets as they stand
+-- n octets as they are
 pub record OctetsPart (n : ℕ) (f m v : List ℕ) : Type 0 where
   pub room : n ≤ length f
   pub value : v ≡ take n f

@@ -26,7 +26,7 @@ pub record Layout (A : Type 0) : Type 1 where
   pub laid : ℕ → A → Type 0
   -- what is read again once it is written
   pub readable : A → Type 0
-  -- the first fault of octets in a message
+  -- the first error of octets in a message
   pub rejects : List ℕ → List ℕ → Error → Type 0
   pub room : (f m : List ℕ) (v : A) → part f m v → width ≤ length f
   pub no_part : (f m : List ℕ) (e : Error) (v : A) → rejects f m e → part f m v → IsMemory e
@@ -191,7 +191,7 @@ number n h = plain (record {
   reads_back = λ v m f r. number_back n v m f r;
 })
 
--- two layouts, one behind the other
+-- two layouts, one after the other
 module _ {A B : Type 0} (a : Layout A) (b : Layout B) where
   abbrev pub ThenPart : List ℕ → List ℕ → A × B → Type 0
   ThenPart f m v = a.part f m v.0 × b.part (drop a.width f) m v.1

@@ -3,7 +3,7 @@
 use Rattle.std.specs.Prelude.{◌≡◌, ℕ, ◌+◌, ◌*◌, ◌^◌, ◌<◌, ◌≤◌, List, [], ◌∷◌, ◌++◌, length, drop}
 use Rattle.byteorder.specs.Endian.{little_number, little_bytes}
 
--- these are the values whose fixed parts stand one behind the other in m, from k on
+-- these are the values whose fixed parts are one after the other in m, from k on
 abbrev pub Elements : {A : Type 0} → (List ℕ → List ℕ → A → Type 0) → ℕ → List ℕ → ℕ → List A → Type 0
 Elements part width m k [] = Unit {0}
 Elements part width m k (v ∷ vs) = part (drop k m) m v × Elements part width m (k + width) vs

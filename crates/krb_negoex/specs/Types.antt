@@ -20,6 +20,6 @@ type_code Alert = 7
 abbrev pub IsUnlisted : ℕ → Type 0
 IsUnlisted n = (k : MessageType) → type_code k ≡ n → ⊥
 
--- a number is answered by its type, and one that no type has is `InvalidData`
+-- a number is read as its type, and one that no type has is `InvalidData`
 abbrev pub IsTypeOf : ℕ → Result MessageType Error → Type 0
 IsTypeOf n answer = MatchResult answer (λ k. type_code k ≡ n) (λ e. (error_kind e ≡ InvalidData) × IsUnlisted n)

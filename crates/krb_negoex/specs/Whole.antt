@@ -40,7 +40,7 @@ pub record HasOneReading {A : Type 0} (l : Layout A) (o : ℕ) (between : List �
   pub is : l.part (written l o between v) (written l o between v) v
   pub alone : (w : A) → l.part (written l o between v) (written l o between v) w → l.same w v
 
--- what is laid behind its fixed part is read as that value alone
+-- what is laid after its fixed part is read as that value alone
 pub one_reading : {A : Type 0} (l : Layout A) (o : ℕ) (between : List ℕ) (v : A) → l.readable v → l.laid o v → l.width + length between ≡ o → HasOneReading l o between v
 one_reading {A = A} l o between v r d e =
     let m = l.fixed o v ++ (between ++ l.payload o v) in

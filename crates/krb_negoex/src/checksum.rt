@@ -56,7 +56,7 @@ impl Part for Scheme {
 /// `UnexpectedEof`. The header length is not compared.
 #[derive(Debug, PartialEq, Eq, Drop)]
 pub struct Checksum {
-    /// How many octets stand before the value; 20 in what `Verify::new` makes. `encode` lays the value there.
+    /// How many octets are before the value; 20 in what `Verify::new` makes. `encode` lays the value there.
     pub header_len: u32,
     /// The scheme of checksums.
     pub checksum_scheme: u32,

@@ -170,7 +170,7 @@ pub struct MessageHeader {
     pub message_type: MessageType,
     /// The number of the message in its conversation, from 0 on.
     pub sequence_num: u32,
-    /// How many octets stand before the payload, where `encode` lays it.
+    /// How many octets are before the payload, where `encode` lays it.
     pub header_len: u32,
     /// How many octets the message has.
     pub message_len: u32,

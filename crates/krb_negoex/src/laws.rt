@@ -1,4 +1,4 @@
-//! Laws over the definitions, of functions that do nothing.
+//! Lemmas: functions with no body, whose contracts state what holds of the definitions.
 
 ghost use Rattle.std.specs.Prelude.{◌≡◌, ◌↔◌, ℕ, ◌+◌, List, [], Vec, length, Result};
 ghost use Rattle.std.specs.Borrow.{Bor};

@@ -54,7 +54,7 @@ pub trait NegoexMessage: Part {
         ensures rejected { IfErr result (rejected message.now) }
         ensures only { (v : Self) → Self.layout.part message.now message.now v → MatchResult result (λ w. Self.layout.same w v) is_memory };
 
-    /// Writes the message. Its vectors say that the payload stands at `header_len`, whatever that is, and it is written after
+    /// Writes the message. Its vectors say that the payload is at `header_len`, whatever that is, and it is written after
     /// the fixed part.
     ///
     /// `InvalidInput` where an offset or a count does not fit its 32 bits, and `OutOfMemory` where an allocation failed; the

@@ -1,7 +1,7 @@
 //! MS-NEGOEX: messages by which two parties agree on a security mechanism.
 //!
-//! All numbers are little-endian, and GUIDs stand in their little-endian form. A value has a fixed part and a payload; a vector's
-//! fixed part says by an offset from the message's first octet, and a count, where its elements stand.
+//! All numbers are little-endian, and GUIDs are in their little-endian form. A value has a fixed part and a payload; a vector's
+//! fixed part says by an offset from the message's first octet, and a count, where its elements are.
 
 pub mod data_types;
 pub mod messages;

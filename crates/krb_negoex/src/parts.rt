@@ -12,13 +12,13 @@ ghost use Rattle.krb_negoex.specs.Rejected.{LayRejected};
 use std::alloc::Global;
 use std::io;
 
-/// What can be laid in a message: a fixed part, and a payload that stands elsewhere (MS-NEGOEX 2.2.5).
+/// What can be laid in a message: a fixed part, and a payload that is elsewhere (MS-NEGOEX 2.2.5).
 pub trait Lay {
     /// What octets say in a message, and how values are laid.
     ghost layout: { Layout Self };
 
     /// Appends the fixed part to one vector, and the payload, which starts at the offset, to the other; returns where the
-    /// payload ends. The offset and the answer count octets from the message's first.
+    /// payload ends. The offset and the result count octets from the message's first.
     ///
     /// `InvalidInput` where an offset or a count does not fit its 32 bits, and `OutOfMemory` where an allocation failed; both
     /// vectors are then as before.
@@ -58,15 +58,15 @@ pub trait Part: Lay {
 
 /// A part that can be written by itself.
 pub trait Placed: Part {
-    /// Where the payload stands when the value is written by itself.
+    /// Where the payload is when the value is written by itself.
     ghost start: { Self → ℕ };
 
-    /// Where the payload stands when the value is written by itself, in octets from the first.
+    /// Where the payload is when the value is written by itself, in octets from the first.
     fn payload_start(&self) -> usize
         ensures { result ≡ start self.now };
 }
 
-/// A part that is lent.
+/// A part that is borrowed.
 impl<T: Lay> Lay for &T {
     ghost layout = { seen (λ v. v.now) T.layout };
 

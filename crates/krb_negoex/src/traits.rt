@@ -14,7 +14,7 @@ use std::alloc::Global;
 use std::io;
 use std::io::{Read, Write};
 
-/// A type of data of MS-NEGOEX 2.2: a fixed part, and a payload that stands elsewhere in the message. It is an octet, a GUID, a
+/// A type of data of MS-NEGOEX 2.2: a fixed part, and a payload that is elsewhere in the message. It is an octet, a GUID, a
 /// message type, a header, an extension, a checksum, or a vector of a type of data.
 pub trait NegoexDataType: Placed {
     /// The errors.
@@ -34,7 +34,7 @@ pub trait NegoexDataType: Placed {
         ensures known { known self.now };
 
     /// Writes the fixed part to one writer, and the payload to the other; returns how many octets the payload has. The payload
-    /// stands in the message at the offset, which counts octets from the message's first.
+    /// is in the message at the offset, which counts octets from the message's first.
     ///
     /// `InvalidInput` where an offset or a count does not fit its 32 bits, and `OutOfMemory` where an allocation failed; both
     /// writers are then as before. An I/O error of the writer is returned; the writers have then taken a prefix of the fixed part
@@ -90,7 +90,7 @@ pub trait NegoexDataType: Placed {
         Ok(())
     }
 
-    /// The value whose fixed part the reader gives next; the reader then stands after that. What the fixed part points to is
+    /// The value whose fixed part the reader gives next; the reader is then just after it. What the fixed part points to is
     /// read out of the message.
     ///
     /// `UnexpectedEof` where the reader or the message ends before a fixed part does, `InvalidData` where a vector's offset lies

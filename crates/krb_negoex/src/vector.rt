@@ -58,7 +58,7 @@ impl<T: NegoexDataType + Drop> Lay for Vec<T> {
     }
 }
 
-/// Appends the elements' fixed parts and then their payloads, of which the first stands at that octet of the message; answers
+/// Appends the elements' fixed parts and then their payloads, of which the first is at that octet of the message; returns
 /// where the last one ends.
 fn lay_elements<T: NegoexDataType>(
     alloc: Global,

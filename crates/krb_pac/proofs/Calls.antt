@@ -37,7 +37,7 @@ abbrev prefix_of : Option (List ℕ) → List ℕ
 prefix_of None = []
 prefix_of (Some xs) = xs
 
--- two numbers came, one behind the other
+-- two numbers came, one after the other
 pub both_came : (n m x y : ℕ) (a b c : Option (List ℕ)) → ReadsNumber little_number n a b x → ReadsNumber little_number m b c y
     → ReadsNumber little_number (n + m) a c (little_number (n + m) (prefix_of a))
 both_came n m x y None b c r s = tt

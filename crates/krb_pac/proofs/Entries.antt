@@ -1,4 +1,4 @@
--- Reading the buffers one after the other, and what a refusal rules out.
+-- Reading the buffers one after the other, and what an error rules out.
 use Rattle.std.proofs.Common.{◌≡◌, ℕ, zero, suc, ◌+◌, ◌*◌, ◌<◌, ◌≤◌, ◌⊎◌, inl, inr, List, [], ◌∷◌, ◌++◌, length, refl, sym, ap, ◌∙◌, subst, ⊎_elim, arith, length-append, Result, Ok, Err, IfOk, IfErr}
 use Rattle.std.proofs.lemmas.Bool.{cases_lt}
 use Rattle.krb_pac.specs.Entry.{Entry}
@@ -21,7 +21,7 @@ nth b i (suc k) (p ∷ ps) x h =
     let r = nth b (suc i) k ps x.1 (omega arith) in
     (r.0, subst (λ (j : ℕ). BufferAt b (8 + 16 * j) r.0) (omega arith) r.1)
 
--- a buffer that is there is refused for want of memory alone
+-- where there is a buffer, the only error is an allocation failure
 pub no_buffer : (b : List ℕ) (at : ℕ) (p : Buffer) (e : PacError) → BufferAt b at p → BufferRejected b at e → e ≡ errors.OutOfMemory
 no_buffer b at p errors.OutOfMemory x r = refl
 no_buffer b at p (errors.IoError err) x r = let room = x.entry.room in absurd (⊎_elim (λ h. omega arith) (λ h. omega arith) r.1)
@@ -38,7 +38,7 @@ before_none b ps pac e x y r =
     let one = nth b 0 (length ps) pac x.buffers (omega (arith, x.count, y.more)) in
     no_buffer b (8 + 16 * length ps) one.0 e (subst (λ (j : ℕ). BufferAt b (8 + 16 * j) one.0) (omega arith) one.1) r
 
--- where there is a PAC the refusal is for want of memory alone
+-- where there is a PAC, the only error is an allocation failure
 pub no_pac : (b : List ℕ) (pac : List Buffer) (e : PacError) → PacIs b pac → PacRejected b e → e ≡ errors.OutOfMemory
 no_pac b pac errors.OutOfMemory x r = refl
 no_pac b pac (errors.InvalidVersion n) x r = absurd (omega (arith, r.1, r.2, x.version))
@@ -47,7 +47,7 @@ no_pac b pac (errors.PacBufferType n) x r = before_none b r.0 pac (errors.PacBuf
 no_pac b pac errors.InvalidRange x r = before_none b r.0 pac errors.InvalidRange x r.1 r.2
 no_pac b pac (errors.Version n) x r = absurd r
 
--- a buffer's first fault is the PAC's
+-- a buffer's first error is the PAC's
 pub rejected_there : (b : List ℕ) (ps : List Buffer) (e : PacError) → Before b ps → BufferRejected b (8 + 16 * length ps) e → PacRejected b e
 rejected_there b ps errors.OutOfMemory x r = tt
 rejected_there b ps (errors.IoError err) x r = inr (ps, x, r)
@@ -65,7 +65,7 @@ more_read b at next i ps p qs e moved x found =
     let all : Buffers b 0 (ps ++ p ∷ []) = Buffers-push b 0 ps p x.buffers (subst (λ (k : ℕ). BufferAt b k p) (omega arith) found) in
     record { place = omega arith; count = omega arith; buffers = subst (Buffers b 0) (sym e) all }
 
--- a range outside is the fault that is told
+-- a range outside is the error that is reported
 outside_there : (b : List ℕ) (at : ℕ) (i : Entry) (e : PacError) → EntryAt b at i → length b < i.offset + i.cb_buffer_size → BufferRejected b at e → (e ≡ errors.InvalidRange) ⊎ (e ≡ errors.OutOfMemory)
 outside_there b at i errors.OutOfMemory x o r = inr refl
 outside_there b at i (errors.IoError err) x o r = let room = x.room in absurd (⊎_elim (λ h. omega arith) (λ h. omega arith) r.1)
@@ -80,7 +80,7 @@ not_a_buffer b at i p x o y =
     let inside : i.offset + i.cb_buffer_size ≤ length b = rw (← e) y.inside in
     omega arith
 
--- the first fault behind some buffers, where the range behind others is outside
+-- the first error after some buffers, where the range after others is outside
 outside_before : (b : List ℕ) (qs : List Buffer) (e : PacError) → (x : NamesOutside b) → Before b qs → BufferRejected b (8 + 16 * length qs) e → (e ≡ errors.InvalidRange) ⊎ (e ≡ errors.OutOfMemory)
 outside_before b qs e x y r = ⊎_elim
     (λ less. let one = nth b 0 (length qs) x.earlier x.before.buffers less in
@@ -108,7 +108,7 @@ outside_no_pac b pac x y =
     let one = nth b 0 (length x.earlier) pac y.buffers (omega arith) in
     not_a_buffer b (8 + 16 * length x.earlier) x.info one.0 x.entry x.outside (subst (λ (j : ℕ). BufferAt b (8 + 16 * j) one.0) (omega arith) one.1)
 
--- the answer where a range is outside
+-- the result where a range is outside
 pub outside_answers : (b : List ℕ) (r : Result (List Buffer) PacError) → IfOk r (PacIs b) → IfErr r (PacRejected b) → NamesOutside b → RejectsUnlessError r errors.InvalidRange
 outside_answers b (Ok pac) found rejected x = outside_no_pac b pac x found
 outside_answers b (Err e) found rejected x = ⊎_elim (λ y. inl y) (λ y. inr (rw y tt)) (outside_rejected b e x rejected)

@@ -13,7 +13,7 @@ use Rattle.krb_pac.specs.Written.{AllOf, AreApart, AllApart, IsTrailing, IsFree,
 use Rattle.krb_pac.specs.Entry.{Entry}
 use Rattle.krb_pac.proofs.Lists.{AllOf-push, AllOf-prefix, AllOf-at}
 
--- the entries and ranges of the buffers stand in b, from entry i on
+-- the entries and ranges of the buffers are in b, from entry i on
 abbrev pub Placed : List ℕ → ℕ → List Buffer → Type 0
 Placed b i [] = Unit {0}
 Placed b i (p ∷ ps) = (Stands b (8 + 16 * i) (entry_octets p.info) × Stands b p.info.offset p.octets) × Placed b (suc i) ps
@@ -48,7 +48,7 @@ pub Buffers-at : (b : List ℕ) (i : ℕ) (ps : List Buffer) (p : Buffer) (qs : 
 Buffers-at b i [] p qs x = (8 + 16 * i, x.0)
 Buffers-at b i (q ∷ ps) p qs x = Buffers-at b (suc i) ps p qs x.1
 
--- an octet of the header is in no range behind it
+-- an octet of the header is in no range after it
 pub below : (h k : ℕ) (p : Buffer) → IsTrailing h p → k < h → IsOutside k p
 below h k p x l = ⊎_elim
     (λ e. ⊎_elim (λ a. inl a) (λ a. inr (omega arith)) (cases_lt k p.info.offset))
@@ -58,7 +58,7 @@ pub all_below : (h k : ℕ) (ps : List Buffer) → AllOf (IsTrailing h) ps → k
 all_below h k [] x l = tt
 all_below h k (p ∷ ps) x l = (below h k p x.0 l, all_below h k ps x.1 l)
 
--- octets that a write left alone stand where they stood
+-- octets that a write left alone are where they were
 pub still : (old new : List ℕ) (at n place : ℕ) (xs : List ℕ) → length new ≡ length old → KeepsOutside at n old new → ((k : ℕ) → place ≤ k → k < place + length xs → (k < at) ⊎ (at + n ≤ k))
     → Stands old place xs → Stands new place xs
 still old new at n place xs e keep out x =
@@ -151,7 +151,7 @@ none_filled total h n a b e f g t s k z = record {
   rest = λ j y w. k j (inr (⊎_elim (λ l. omega (arith, l.0)) (λ l. omega arith) y)) ∙ z j;
 }
 
--- octets that stand in b are read out of it
+-- octets that are in b are read out of it
 number_from : (i n : ℕ) (b xs : List ℕ) (at j : ℕ) → Stands b at xs → j + i + n ≤ length xs → little_from i n (drop (at + j) b) ≡ little_from i n (drop j xs)
 number_from i zero b xs at j x h = refl
 number_from i (suc n) b xs at j x h =
@@ -194,7 +194,7 @@ placed_read b i (p ∷ ps) s f w x = (
   placed_read b (suc i) ps s.1 f.1 w.1 x.1,
 )
 
--- behind the last buffer
+-- after the last buffer
 pub all_filled : (total h n : ℕ) (b : List ℕ) (ps : List Buffer) → h ≡ head ps → n ≡ length ps → n < 2 ^ 32 → total ≡ head ps + padded ps → Filled total h n b ps → PacPut ps b
 all_filled total h n b ps eh en few et x =
     let len = x.len in

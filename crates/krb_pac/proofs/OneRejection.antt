@@ -1,4 +1,4 @@
--- Octets have one first fault.
+-- Octets have one first error.
 use Rattle.std.proofs.Common.{◌≡◌, ℕ, ◌+◌, ◌*◌, ◌<◌, ◌≤◌, ◌⊎◌, inl, inr, List, length, drop, refl, sym, ap, ◌∙◌, subst, ⊎_elim, arith}
 use Rattle.std.proofs.lemmas.Bool.{cases_lt}
 use Rattle.byteorder.specs.Endian.{little_number}
@@ -58,13 +58,13 @@ one_before b ps qs e f x y r s = ⊎_elim
     (cases_lt (length qs) (length ps)))
     (cases_lt (length ps) (length qs))
 
--- refused before the first entry
+-- rejected before the first entry
 abbrev pub IsEarly : List ℕ → PacError → Type 0
 IsEarly b (errors.IoError x) = IsEof (errors.IoError x) × (length b < 8)
 IsEarly b (errors.InvalidVersion n) = (8 ≤ length b) × (0 < n) × (n ≡ little_number 4 (drop 4 b))
 IsEarly b e = ⊥
 
--- refused at an entry, or at the slice that it names
+-- rejected at an entry, or at the slice that it names
 abbrev pub IsLate : List ℕ → PacError → Type 0
 IsLate b e = (ps : List Buffer) × Before b ps × BufferRejected b (8 + 16 * length ps) e
 

@@ -1,4 +1,4 @@
--- What comparisons tell.
+-- When comparisons are true.
 use Rattle.std.proofs.Common.{◌≡◌, ◌↔◌, Bool, true, false, ◌&&◌, IsTrue, nat_eq, sym, ap, ◌∙◌}
 use Rattle.std.proofs.lemmas.Bool.{eqb-true}
 use Rattle.std.proofs.Common.{eq-eqb}
@@ -8,7 +8,7 @@ use Rattle.krb_pac.specs.Kind.{code, named, named_code}
 use Rattle.krb_pac.specs.Layout.{same_buffer}
 use Rattle.krb_pac.specs.declared.kind.PacBufferType.{PacBufferType}
 
--- the test answers true for equal values and for no others
+-- the test returns true for equal values and for no others
 abbrev pub DecidesEqual : {A : Type 0} → (A → A → Bool) → Type 0
 DecidesEqual {A} eq = (a b : A) → IsTrue (eq a b) ↔ (a ≡ b)
 

@@ -1,4 +1,4 @@
--- Where the parts of a PAC stand in its octets (MS-PAC 2.3 and 2.4).
+-- Where the parts of a PAC are in its octets (MS-PAC 2.3 and 2.4).
 use Rattle.std.specs.Cmp.Lexicographic.{pointwise}
 use Rattle.std.specs.Ordering.{on, eq_of_both}
 use Rattle.std.specs.Prelude.{◌≡◌, Bool, nat_eq, ℕ, suc, ◌+◌, ◌*◌, ◌≤◌, List, [], ◌∷◌, length, take, drop}
@@ -34,7 +34,7 @@ abbrev pub Buffers : List ℕ → ℕ → List Buffer → Type 0
 Buffers b i [] = Unit {0}
 Buffers b i (p ∷ ps) = BufferAt b (8 + 16 * i) p × Buffers b (suc i) ps
 
--- the octets are the PAC of these buffers (MS-PAC 2.3, PACTYPE): count and version 0, and the entries behind them
+-- the octets are the PAC of these buffers (MS-PAC 2.3, PACTYPE): count and version 0, and the entries after them
 pub record PacIs (b : List ℕ) (pac : List Buffer) : Type 0 where
   pub room : 8 ≤ length b
   pub count : little_number 4 b ≡ length pac

@@ -57,7 +57,7 @@ pub record PacPut (pac : List Buffer) (b : List ℕ) : Type 0 where
   pub apart : AllApart pac
   pub zero_else : (k : ℕ) → head pac ≤ k → IsFree k pac → slice_index b k ≡ 0
 
--- an entry and then its range were put over what stood there
+-- an entry and then its range were put over what was there
 pub record PutTwice (at : ℕ) (old new : List ℕ) (p : Buffer) : Type 0 where
   pub between : List ℕ
   pub sized : length p.octets ≡ p.info.cb_buffer_size

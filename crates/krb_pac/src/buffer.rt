@@ -50,7 +50,7 @@ impl PacBuffer {
         &self.info
     }
 
-    /// The octets that the entry names, without the zeros behind them.
+    /// The octets that the entry names, without the zeros after them.
     pub fn octets(&self) -> &[u8]
         ensures octets { result.now ≡ self.now.octets }
         ensures size { length result.now ≡ self.now.info.cb_buffer_size }
@@ -58,11 +58,11 @@ impl PacBuffer {
         &self.octets
     }
 
-    /// The buffer whose entry stands at the position, which is then 16 octets further.
+    /// The buffer whose entry is at the position, which is then 16 octets further.
     ///
     /// `bytes` is the whole PAC, since the entry names its octets from the PAC's first octet on. The entry's fields are looked
     /// at in their order: an entry that is cut short is `IoError` of `UnexpectedEof`, the number of no type `PacBufferType`,
-    /// octets that are not all within `bytes` `InvalidRange`. They may end where `bytes` ends. A refusal leaves the position
+    /// octets that are not all within `bytes` `InvalidRange`. They may end where `bytes` ends. An error leaves the position
     /// where it was.
     pub fn deserialize(alloc: Global, bytes: &[u8], position: &mut usize) -> Result<Self, PacError>
         ensures found { IfOk result (BufferAt bytes.now position.old) }
@@ -85,7 +85,7 @@ impl PacBuffer {
     /// Puts the buffer into the octets of a PAC, its entry at the position, which is then 16 octets further, and its octets
     /// where the entry says. No other octet changes.
     ///
-    /// `InvalidRange` where the entry or the octets do not fit, or share an octet. A refusal changes nothing.
+    /// `InvalidRange` where the entry or the octets do not fit, or share an octet. An error changes nothing.
     pub fn serialize(&self, out: &mut [u8], position: &mut usize) -> Result<(), PacError>
         ensures put { OnOk result (BufferPut position.old out.old out.new self.now) }
         ensures room { OnOk result (HasRoom position.old (length out.old) self.now) }
@@ -101,7 +101,7 @@ impl PacBuffer {
         Ok(())
     }
 
-    /// An equal buffer. `OutOfMemory` alone is answered in its place.
+    /// An equal buffer, or `OutOfMemory`.
     pub fn clone(&self, alloc: Global) -> Result<PacBuffer, PacError>
         ensures ok { IfOk result (λ p. p ≡ self.now) }
         ensures err { IfErr result (λ e. e ≡ errors.OutOfMemory) }

@@ -12,7 +12,7 @@ use thiserror::Error;
 /// Why octets were not read as a PAC, or a PAC was not made or written.
 #[derive(Debug, Drop, Error)]
 pub enum PacError {
-    /// Another version than 0. No call answers it: `InvalidVersion` does.
+    /// Another version than 0. No call returns it: they return `InvalidVersion`.
     #[error("the version must be 0, and is {0}")]
     Version(u32),
     /// The number of no type of a buffer.
@@ -27,7 +27,7 @@ pub enum PacError {
     /// A buffer names octets that are not there, or, on writing, octets that have another place already.
     #[error("a buffer has no place where its entry says")]
     InvalidRange,
-    /// A growth of memory was refused.
+    /// An allocation failed.
     #[error("out of memory")]
     OutOfMemory,
 }

@@ -23,7 +23,7 @@ use std::marker::Model;
 /// ```text
 /// ulType       4 octets
 /// cbBufferSize 4 octets, how many octets the buffer has
-/// Offset       8 octets, how many octets of the PAC stand before it
+/// Offset       8 octets, how many octets of the PAC are before it
 /// ```
 #[derive(Debug, Clone, Copy, PartialEq, Eq)]
 pub struct PacInfoBuffer {
@@ -81,17 +81,17 @@ impl PacInfoBuffer {
         self.cb_buffer_size
     }
 
-    /// How many octets of the PAC stand before the buffer.
+    /// How many octets of the PAC are before the buffer.
     pub fn offset(&self) -> u64
         ensures { result ≡ self.now.offset }
     {
         self.offset
     }
 
-    /// The entry that the reader's next 16 octets are, read field by field. What stands behind them is left unread.
+    /// The entry that the reader's next 16 octets are, read field by field. What follows them is left unread.
     ///
-    /// The number of no type is `PacBufferType`, told once its four octets are read. A reader that ends or fails before it gave all 16 is
-    /// `IoError`, an early end of the kind `UnexpectedEof`; a read that a signal interrupts is made again. After a refusal some
+    /// The number of no type is `PacBufferType`, reported once its four octets are read. A reader that ends or fails before it gave all 16 is
+    /// `IoError`, an early end of the kind `UnexpectedEof`; a read that a signal interrupts is made again. After an error some
     /// octets may have been read.
     pub fn deserialize<R: Read>(reader: &mut R) -> Result<Self, PacError>
         ensures found { IfOk result (λ e. IfSome (R.remaining reader.old) (λ f. EntryAt f 0 e)) }
@@ -106,7 +106,7 @@ impl PacInfoBuffer {
         Ok(PacInfoBuffer::of_type(ul_type, &rest))
     }
 
-    /// Writes the 16 octets of the entry. A fault of the writer is `IoError`; it has then taken a front of these octets, and not all
+    /// Writes the 16 octets of the entry. An error of the writer is `IoError`; it has then taken a prefix of these octets, and not all
     /// of them. A write that a signal interrupts is made again.
     pub fn serialize<W: Write>(&self, to: &mut W) -> Result<(), PacError>
         ensures ok { OnOk result (Appends (W.contents to.old) (W.contents to.new) (entry_octets self.now)) }

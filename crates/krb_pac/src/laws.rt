@@ -1,4 +1,4 @@
-//! Laws over the definitions, of functions that do nothing.
+//! Lemmas: functions with no body, whose contracts state what holds of the definitions.
 
 ghost use Rattle.std.specs.Prelude.{◌≡◌, ◌↔◌, ℕ, List, Result};
 ghost use Rattle.krb_pac.specs.Equality.{ClonesValue, DecidesEqual};
@@ -20,13 +20,13 @@ pub fn readings()
     ensures read_back { (b : List ℕ) (pac read : List Buffer) → PacPut pac b → PacIs b read → read ≡ pac }
 {}
 
-/// Octets that are a PAC have no refusal but for want of memory, and other octets have one first fault.
+/// Octets that are a PAC have no error but `OutOfMemory`, and other octets have one first error.
 pub fn rejections()
     ensures no_pac { (b : List ℕ) (pac : List Buffer) (e : PacError) → PacIs b pac → PacRejected b e → e ≡ errors.OutOfMemory }
     ensures one { (b : List ℕ) (e f : PacError) → PacRejected b e → PacRejected b f → AreOneOrMemory e f }
 {}
 
-/// `==`: it answers true for equal values and for no others.
+/// `==` is true of equal values, and of no others.
 pub fn equality()
     ensures kind { DecidesEqual ⟦<PacBufferType as PartialEq>⟧.eq }
     ensures info_buffer { DecidesEqual ⟦<PacInfoBuffer as PartialEq>⟧.eq }

@@ -27,7 +27,7 @@ use std::marker::Model;
 /// Buffers  16 octets for each buffer, its entry
 /// ```
 ///
-/// The buffers' octets stand where the entries say. The numbers are in little-endian order.
+/// The buffers' octets are where the entries say. The numbers are in little-endian order.
 #[derive(Debug, Drop)]
 pub struct Pac {
     buffers: Vec<PacBuffer>,
@@ -84,9 +84,9 @@ impl Pac {
     /// Writes the PAC: count, version 0, the entries, and each buffer's octets where
     /// its entry says, in 8 + 16 * count octets and the buffers' sizes, each rounded up to 8. All other octets are zeros.
     ///
-    /// `InvalidRange` where a buffer's octets are not all within this length, or share an octet with the entries and what stands
+    /// `InvalidRange` where a buffer's octets are not all within this length, or share an octet with the entries and what is
     /// before them, or with another buffer's. All growths of memory come before the first write: after `OutOfMemory` and
-    /// `InvalidRange` nothing was written. A fault of the writer is `IoError`; it has then taken a front of the PAC's octets, and not
+    /// `InvalidRange` nothing was written. An error of the writer is `IoError`; it has then taken a prefix of the PAC's octets, and not
     /// all of them. A write that a signal interrupts is made again. The steps that it takes grow with the octets that it writes
     /// alone, whatever the number of buffers.
     pub fn serialize<W: Write>(&self, alloc: Global, out: &mut W) -> Result<(), PacError>
@@ -102,7 +102,7 @@ impl Pac {
         Ok(())
     }
 
-    /// An equal PAC. `OutOfMemory` alone is answered in its place.
+    /// An equal PAC, or `OutOfMemory`.
     pub fn clone(&self, alloc: Global) -> Result<Pac, PacError>
         ensures ok { IfOk result (λ p. p ≡ self.now) }
         ensures err { IfErr result (λ e. e ≡ PacError.OutOfMemory) }
@@ -116,14 +116,14 @@ impl Pac {
 
     /// The PAC that all octets up to the reader's end are.
     ///
-    /// They are looked at in their order, and each buffer's octets right after its entry: the first fault decides. Another
+    /// They are read in order, and each buffer's octets right after its entry: the first error is returned. Another
     /// version than 0 is `InvalidVersion`, the number of no type `PacBufferType`, a buffer whose octets are not all there
     /// `InvalidRange`, and a count, a version or an entry that is cut short `IoError` of `UnexpectedEof`. A buffer may end where
-    /// the octets end; buffers may share octets, and octets that no buffer names are not looked at. A fault of the reader is
+    /// the octets end; buffers may share octets, and octets that no buffer names are not looked at. An error of the reader is
     /// `IoError` too; a read that a signal interrupts is tried again.
     ///
     /// No memory is taken for buffers that are claimed and not there. Each buffer holds a copy of its octets, also where
-    /// buffers share them: a caller that fears this bounds the octets that it hands in.
+    /// buffers share them: bound the octets that you pass in.
     pub fn deserialize<R: Read + Drop>(alloc: Global, reader: R) -> Result<Self, PacError>
         ensures found { IfOk result (λ pac. IfSome (R.remaining reader) (λ b. PacIs b pac)) }
         ensures rejected { IfErr result (λ e. IsError e ⊎ IfSome (R.remaining reader) (λ b. PacRejected b e)) }

@@ -46,7 +46,7 @@ fn padded_size(buffers: &[PacBuffer]) -> Option<usize>
     Some(total)
 }
 
-/// Puts the header and the buffers into zeros; answers whether each range has a place of its own.
+/// Writes the header and the buffers over zeros, and returns whether each range has a place of its own.
 ///
 /// Each octet of a range is marked, so the steps are as many as the octets, however many buffers there are.
 fn fill(out: &mut [u8], marks: &mut [bool], buffers: &[PacBuffer]) -> bool
