@@ -1,4 +1,4 @@
-//! What a proof is told of octets.
+//! What a proof knows of octets.
 
 ghost use Rattle.krb_crypto_block.specs.Modes.{IsOctets};
 

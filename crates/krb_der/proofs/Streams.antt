@@ -78,7 +78,7 @@ nothing_trailing : (xs : List ℕ) → length xs ≡ 0 → xs ≡ []
 nothing_trailing [] e = refl
 nothing_trailing (x ∷ xs) e = absurd (omega (arith, e))
 
--- how many octets of a length stand behind its first
+-- how many octets of a length follow its first
 abbrev pub Trailing : ℕ → ℕ → Type 0
 Trailing first count = (first < 128 → count ≡ 0) × (128 ≤ first → first ≤ 136 → count ≡ first - 128)
 
@@ -114,7 +114,7 @@ none_trailing first count L bs rest k long lt e =
           omega (arith, k.1 ge le, long, l.count, ap length l.digits, length-append bs [], length-append (digits_of 256 L) rest))
     ]
 
--- the first octet and those behind it
+-- the first octet and those after it
 pub first_and : (f new bs cs : List ℕ) → f ≡ [] ++ bs → length bs ≡ 1 → new ≡ f ++ cs → new ≡ get_or f 0 0 ∷ cs
 first_and f new bs cs e one h =
     let x = one_octet bs one in
@@ -228,7 +228,7 @@ module _ {A : Type 0} (is_value : A → Type 0) (enc : A → List ℕ) (first : 
   reader_element (Some p) (Some s) t content errors.UnsupportedValue h r = trailing_element is_value enc first element t (length (tlv t content)) content p errors.UnsupportedValue (took (tlv t content) p s h) r
   reader_element (Some p) (Some s) t content (errors.Io e) h r = tt
 
--- ---- what was read is the value that stood at the front
+-- ---- what was read is the value at the start
 module _ {A : Type 0} (is_value : A → Type 0) (enc : A → List ℕ) where
   error_alone : (input : List ℕ) (e : Asn1DerError) → RejectsReader (Encodings is_value enc) (Some input) e → (v : A) (rest : List ℕ) → is_value v → length (enc v) < 2 ^ 64 → input ≡ enc v ++ rest → IsError e
   error_alone input errors.OutOfMemory r v rest hv lt q = tt

@@ -1,4 +1,4 @@
--- Comparisons that tell equal values, and what is made of them.
+-- Comparisons that are true of equal values alone, and what is made of them.
 use Rattle.std.proofs.Common.{◌≡◌, ℤ, Bool, true, false, ◌&&◌, nat_eq, Option, Some, None, refl, sym, ap, ◌∙◌}
 use Rattle.std.proofs.lemmas.Bool.{eqb-true, false≢true}
 use Rattle.std.proofs.Common.{eq-eqb}

@@ -5,7 +5,7 @@ use Rattle.krb_der_core.specs.declared.error.Asn1DerError.{Asn1DerError}
 use Rattle.krb_der_core.specs.declared.error.Asn1DerError.TheVariants as errors
 use Rattle.krb_der_core.specs.Reading.{RejectsPrefix}
 
--- a growth of memory was refused, or a device failed
+-- an allocation failed, or a reader or a writer
 abbrev pub IsError : Asn1DerError → Type 0
 IsError errors.OutOfMemory = Unit {0}
 IsError errors.TruncatedData = ⊥
@@ -13,7 +13,7 @@ IsError errors.InvalidData = ⊥
 IsError errors.UnsupportedValue = ⊥
 IsError (errors.Io e) = Unit {0}
 
--- so many octets were taken from the reader, and stand behind those that were there
+-- so many octets were taken from the reader, and appended to those that were there
 abbrev pub Gathers : ℕ → List ℕ → List ℕ → Option (List ℕ) → Option (List ℕ) → Type 0
 Gathers count old new before after = (bs : List ℕ) × (length bs ≡ count) × (new ≡ old ++ bs) × Consumes before after bs
 
@@ -26,7 +26,7 @@ IsShort count (Some xs) errors.InvalidData = ⊥
 IsShort count (Some xs) errors.UnsupportedValue = ⊥
 IsShort count (Some xs) (errors.Io e) = Unit {0}
 
--- Which octets of a reader are refused so, unless it failed.
+-- Which octets of a reader have this error, unless it failed.
 abbrev pub RejectsReader : (List ℕ → Type 0) → Option (List ℕ) → Asn1DerError → Type 0
 RejectsReader P None e = Unit {0}
 RejectsReader P (Some xs) errors.OutOfMemory = Unit {0}
@@ -35,18 +35,18 @@ RejectsReader P (Some xs) errors.InvalidData = RejectsPrefix P xs errors.Invalid
 RejectsReader P (Some xs) errors.UnsupportedValue = RejectsPrefix P xs errors.UnsupportedValue
 RejectsReader P (Some xs) (errors.Io e) = Unit {0}
 
--- Where the octets that are left begin with the encoding of a value, that value is read, but for a fault. The encoding has
+-- Where the octets that are left begin with the encoding of a value, that value is read, unless the reader or an allocation fails. The encoding has
 -- fewer than 2^64 octets: from there on the length octets are nine, which is a form that is not supported.
 abbrev pub ReadsPrefix : {A : Type 0} → (A → Type 0) → (A → List ℕ) → Option (List ℕ) → Result A Asn1DerError → Type 0
 ReadsPrefix {A} is_value enc left r = (v : A) (rest : List ℕ) → is_value v → length (enc v) < 2 ^ 64 → left ≡ Some (enc v ++ rest) → MatchResult r (λ w. w ≡ v) IsError
 
--- where the octets that are left are a proper front of an encoding, octets are missing, but for a fault
+-- where the octets that are left are a proper prefix of an encoding, octets are missing, unless the reader or an allocation fails
 abbrev pub ReportsEarlyEnd : {A : Type 0} → (A → Type 0) → (A → List ℕ) → Option (List ℕ) → Result A Asn1DerError → Type 0
 ReportsEarlyEnd {A} is_value enc left r =
     (v : A) (prefix rest : List ℕ) → is_value v → 0 < length rest → length (enc v) < 2 ^ 64 → left ≡ Some prefix → enc v ≡ prefix ++ rest
     → MatchResult r (λ w. ⊥) (λ e. (e ≡ errors.TruncatedData) ⊎ IsError e)
 
--- Unless the reader failed, the fault is the first of the octets that it had left.
+-- Unless the reader failed, the error is the first one of the octets that it had left.
 abbrev pub ReaderError : (List ℕ → Asn1DerError → Type 0) → Option (List ℕ) → Asn1DerError → Type 0
 ReaderError error None e = Unit {0}
 ReaderError error (Some xs) e = IsError e ⊎ error xs e

@@ -17,7 +17,7 @@ use std::io::{Read, Write};
 /// The most octets that are asked of a reader at once.
 const MOST_AT_ONCE: usize = 512;
 
-/// Appends the octets of one read, at most `wanted`, and answers how many: none only where the reader is at its end.
+/// Appends the octets of one read, at most `wanted`, and returns how many: none only where the reader is at its end.
 fn gather_some<R: Read>(
     reader: &mut R,
     wanted: usize,
@@ -54,7 +54,7 @@ fn gather<R: Read>(reader: &mut R, count: usize, out: &mut Vec<u8>) -> Result<()
     Ok(())
 }
 
-/// How many octets of a length stand behind its first, where that begins one.
+/// How many octets of a length follow its first, where that begins one.
 fn count_trailing(first: u8) -> usize
     ensures short { first < 128 → result ≡ 0 }
     ensures long { 128 ≤ first → first ≤ 136 → result ≡ first - 128 }
@@ -82,7 +82,7 @@ fn gather_length<R: Read>(alloc: Global, reader: &mut R) -> Result<usize, Asn1De
     Ok(length)
 }
 
-/// The value whose encoding the reader's next octets are. They are taken, and no octet behind them.
+/// The value whose encoding the reader's next octets are. They are read, and no octet after them.
 fn read_prefix<T: Der, R: Read>(alloc: Global, reader: &mut R) -> Result<T, Asn1DerError>
     ensures valid { IfOk result T.is_value }
     ensures found { IfOk result (λ v. Consumes (R.remaining reader.old) (R.remaining reader.new) (T.enc v)) }
@@ -101,13 +101,13 @@ fn read_prefix<T: Der, R: Read>(alloc: Global, reader: &mut R) -> Result<T, Asn1
     T::read_element(alloc, tag, &content)
 }
 
-/// The value whose encoding the reader's next octets are. Exactly these are taken: what stands behind them is left
+/// The value whose encoding the reader's next octets are. Exactly these are read: what follows them is left
 /// unread.
 ///
-/// Where the reader ends inside an encoding, and where it is at its end, the answer is `TruncatedData`. On other octets
-/// the first fault decides, from the left, as in `from_bytes`. A fault of the reader is `Io`; a read that a signal
-/// interrupts is tried again. The memory that is taken grows only with the octets that came, whatever length they claim.
-/// After a refusal some octets may have been taken, and the reader is to be given up.
+/// Where the reader ends inside an encoding, and where it is at its end, the error is `TruncatedData`. On other octets
+/// it is the first one, from the left, as in `from_bytes`. An I/O error of the reader is `Io`; a read that a signal
+/// interrupts is tried again. Memory grows only with the octets that came, whatever length they claim.
+/// After an error some octets may have been read: give up the reader.
 pub fn from_reader<T: Der, R: Read>(alloc: Global, reader: &mut R) -> Result<T, Asn1DerError>
     ensures valid { IfOk result T.is_value }
     ensures found { IfOk result (λ v. Consumes (R.remaining reader.old) (R.remaining reader.new) (T.enc v)) }
@@ -119,10 +119,10 @@ pub fn from_reader<T: Der, R: Read>(alloc: Global, reader: &mut R) -> Result<T, 
     read_prefix(alloc, reader)
 }
 
-/// Writes the encoding of a value, and answers how many octets it has.
+/// Writes the encoding of a value, and returns how many octets it has.
 ///
-/// The encoding is made first: where the answer is `OutOfMemory`, nothing was written. A fault of the writer is `Io`
-/// always, and some octets may have been written then.
+/// The encoding is made first: on `OutOfMemory` nothing was written. Every I/O error of the writer is `Io`, and some octets may
+/// have been written then.
 pub fn to_writer<T: DerEncode, W: Write>(
     alloc: Global,
     value: &T,

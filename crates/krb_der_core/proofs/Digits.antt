@@ -45,7 +45,7 @@ digits_number_of : (octets : List ℕ) → IsOctets octets → (get_or octets 0 
 digits_number_of [] h first = absurd (first refl)
 digits_number_of (d ∷ ds) h first = digits_number d ds (omega (arith, first)) (octets_below (d ∷ ds) h)
 
--- the octets after the first, with no zero in front, are the digits of their number
+-- the octets after the first, with no leading zero, are the digits of their number
 pub digits_read : (input : List ℕ) (j k n : ℕ) → j ≡ k → IsOctets input → (get_or (take j (drop 1 input)) 0 0 ≡ 0 → ⊥)
     → n ≡ number_from_digits 256 (take j (drop 1 input)) → digits_of 256 n ≡ take k (drop 1 input)
 digits_read input j k n same h first e =

@@ -5,11 +5,11 @@ use Rattle.std.specs.Cmp.Lexicographic.{pointwise, bytes_decides}
 use Rattle.krb_der_core.specs.GeneralizedTime.{Time, IsRealTime, time_content, time_read}
 use Rattle.krb_der_core.specs.GeneralizedTimeLaws.{time_read-time_content}
 
--- octets that are the content of a real time tell that time
+-- octets that are the content of a real time are read as that time
 time_read_of_content : (content : List ℕ) (v : Time) → IsRealTime v → content ≡ time_content v → time_read content ≡ v
 time_read_of_content content v real same = ap time_read same ∙ time_read-time_content v real
 
--- what tells no real time is the content of none
+-- what is read as no real time is the content of none
 pub none_reported : (content : List ℕ) → (IsRealTime (time_read content) → ⊥) → (v : Time) → IsRealTime v → content ≡ time_content v → ⊥
 none_reported content unreal v real same =
     unreal (subst (λ (t : Time). IsRealTime t) (sym (time_read_of_content content v real same)) real)

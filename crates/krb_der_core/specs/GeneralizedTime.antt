@@ -16,7 +16,7 @@ time y m d h n s = record { year = y; month = m; day = d; hour = h; minute = n; 
 
 -- ---- the times that are real
 
--- the Gregorian calendar has this day, and four digits tell its year
+-- the Gregorian calendar has this day, and its year has four digits
 abbrev pub IsRealDate : ℕ → ℕ → ℕ → Type 0
 IsRealDate year month day = (year ≤ 9999) × IsDate (pos year) (pos month) (pos day)
 
@@ -50,7 +50,7 @@ time_content t =
 abbrev pub number_at : List ℕ → ℕ → ℕ
 number_at content i = 10 * (slice_index content i % 16) + slice_index content (i + 1) % 16
 
--- the time that a content tells
+-- the time that a content stands for
 abbrev pub time_read : List ℕ → Time
 time_read content =
     time (100 * number_at content 0 + number_at content 2) (number_at content 4) (number_at content 6)

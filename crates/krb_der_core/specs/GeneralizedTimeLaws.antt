@@ -4,11 +4,11 @@ use Rattle.std.proofs.lemmas.Int.{ints}
 use Rattle.krb_der_core.specs.Encoding.{OneValue}
 use Rattle.krb_der_core.specs.GeneralizedTime.{Time, time, IsRealDate, IsRealTime, last_digit, time_content, time_read}
 
--- two digits tell a number below 100
+-- two digits give back a number below 100
 number_read_back : (n : ℕ) → n ≤ 99 → 10 * (last_digit (n / 10) % 16) + last_digit n % 16 ≡ n
 number_read_back n h = omega arith
 
--- four digits tell a year
+-- four digits give back a year
 year_read_back : (n : ℕ) → n ≤ 9999
     → 100 * (10 * (last_digit (n / 1000) % 16) + last_digit (n / 100) % 16) + (10 * (last_digit (n / 10) % 16) + last_digit n % 16) ≡ n
 year_read_back n h = omega arith
@@ -24,7 +24,7 @@ day_bound y m d real = grind (arith, ints)
 same_times : (t : Time) (y m d h n s : ℕ) → y ≡ t.year → m ≡ t.month → d ≡ t.day → h ≡ t.hour → n ≡ t.minute → s ≡ t.second → time y m d h n s ≡ t
 same_times t y m d h n s ey em ed eh en es = rw (ey, em, ed, eh, en, es) refl
 
--- the content of a real time tells that time
+-- the content of a real time is read as that time
 pub time_read-time_content : (t : Time) → IsRealTime t → time_read (time_content t) ≡ t
 time_read-time_content t real =
     same_times t _ _ _ _ _ _

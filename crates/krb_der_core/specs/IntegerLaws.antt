@@ -125,7 +125,7 @@ needless_zero (suc b) c cs lt none = absurd (none (record { some = omega arith; 
 needless_ones : (b c : ℕ) (cs : List ℕ) → b ≡ 255 → 128 ≤ c → whole_number (c ∷ cs) ≡ whole_number (b ∷ c ∷ cs)
 needless_ones b c cs e le = number_large c cs le ∙ sym (ap (λ (d : ℕ). whole_number (d ∷ c ∷ cs)) e)
 
--- a needless octet in front does not change the number
+-- a needless leading octet does not change the number
 pub needless_first : (c : List ℕ) → 0 < length c → AllBelowBase 256 c → (IsShortest c → ⊥) → (1 < length c) × (whole_number (drop 1 c) ≡ whole_number c)
 needless_first [] some h none = absurd (omega arith)
 needless_first (b ∷ []) some h none = absurd (none (record { some = omega arith; positive = λ l e. absurd (omega arith); negative = λ l e. absurd (omega arith) }))

@@ -3,7 +3,7 @@ use Rattle.std.specs.Prelude.{ℕ, ◌+◌, List, [], ◌∷◌, ◌++◌, lengt
 use Rattle.std.specs.Int.Digits.{digits_of}
 
 -- The length octets of n (X.690, 8.1.3 and 10.1): n itself below 128; else 128 more than the number of the octets that
--- follow, and those octets, which are n in base 256 with no zero in front.
+-- follow, and those octets, which are n in base 256 with no leading zero.
 unfoldable pub len : ℕ → List ℕ
 len n = if nat_lt n 128 then n ∷ [] else (128 + length (digits_of 256 n)) ∷ digits_of 256 n
 

@@ -162,7 +162,7 @@ takes_some n taken rest f = omega (arith, f.count, length-append (continued (dig
 
 -- ---- writing
 
--- the front stays where some of more octets are written
+-- the prefix stays where some of more octets are written
 pub cut : (out mid new x : List ℕ) → mid ≡ out ++ x → take (length mid) new ≡ mid → take (length out) new ≡ out
 cut out mid new x e f =
     let long : length mid ≡ length out + length x = ap length e ∙ length-append out x in

@@ -26,7 +26,7 @@ one_digit n some lt =
     let high : n / 16 ≡ 0 = omega arith in
     digits_of_step 16 n (omega arith) some ∙ ap (λ (h : ℕ). digits_of 16 h ++ (n % 16) ∷ []) high ∙ ap (λ (d : ℕ). d ∷ []) low
 
--- the last digit, and those in front
+-- the last digit, and those before it
 digits_trailing : (n : ℕ) (acc : List ℕ) → 0 < n → map hexadecimal_digit (digits_of 16 n) ++ acc ≡ map hexadecimal_digit (digits_of 16 (n / 16)) ++ hexadecimal_digit (n % 16) ∷ acc
 digits_trailing n acc some =
     ap (λ (l : List ℕ). map hexadecimal_digit l ++ acc) (digits_of_step 16 n (omega arith) some)

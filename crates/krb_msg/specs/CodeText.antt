@@ -6,7 +6,7 @@ use Rattle.std.specs.Int.Digits.{digits_of}
 abbrev pub hexadecimal_digit : ℕ → ℕ
 hexadecimal_digit d = if nat_lt d 10 then 48 + d else 55 + d
 
--- at least two digits, by zeros in front
+-- at least two digits, by leading zeros
 abbrev pub at_least_two : List ℕ → List ℕ
 at_least_two [] = 0 ∷ 0 ∷ []
 at_least_two (a ∷ []) = 0 ∷ a ∷ []

@@ -54,7 +54,7 @@ module _ {A : Type 0} (enc : A → List ℕ) (is_value : A → Type 0) (tag : �
       let s = tlv_apart tag tag (enc v) (enc w) x y e in
       (ap Some (one v w hv hw s.content), s.rest)
 
-  -- a field is told where it ends, and ends where it is told
+  -- a field is determined where it ends, and ends where it is determined
   pub determined_by_end : (o : Option A) (y : List ℕ) → (o ≡ None → IsAbsent (λ t. eqb t tag) y) → IsDetermined tag o (optional (λ x. tlv tag (enc x)) o ++ y)
   determined_by_end None y end = (λ k. absurd (false≢true k), λ b. absurd (absent_other tag y (end refl) b))
   determined_by_end (Some v) y end = (λ k. element_begins tag (enc v) y, λ b. refl)
@@ -63,7 +63,7 @@ module _ {A : Type 0} (enc : A → List ℕ) (is_value : A → Type 0) (tag : �
   end_when_determined None y reported e = other_absent tag y (λ b. false≢true (reported.1 b))
   end_when_determined (Some v) y reported e = absurd (let k : Some v ≡ None = e in cc)
 
-  -- a field that was written is told, where what follows it begins with another tag or is nothing
+  -- a field that was written is determined, where what follows it begins with another tag or is nothing
   pub determined_when_written : (o : Option A) (y : List ℕ) → (Begins tag y → ⊥) → IsDetermined tag o (optional (λ x. tlv tag (enc x)) o ++ y)
   determined_when_written None y other = (λ k. absurd (false≢true k), λ b. absurd (other b))
   determined_when_written (Some v) y other = (λ k. element_begins tag (enc v) y, λ b. refl)

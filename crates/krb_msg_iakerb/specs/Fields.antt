@@ -1,4 +1,4 @@
--- How a field that may be absent is told, whatever follows it (draft-ietf-kitten-iakerb-03, 3; X.690, 8.1.2).
+-- How it is determined whether an optional field is there, whatever follows it (draft-ietf-kitten-iakerb-03, 3; X.690, 8.1.2).
 use Rattle.std.specs.Prelude.{◌≡◌, ◌↔◌, ℕ, List, [], ◌∷◌, Option, IsSome}
 
 -- there is a first octet, and it is this one

@@ -7,7 +7,7 @@ use krb_crypto_suite::KerberosCryptoError;
 use krb_der::Asn1DerError;
 use thiserror::Error;
 
-/// Why a part was not sealed or not opened. Want of memory is told by the half that met it.
+/// Why a part was not sealed or not opened. An allocation failure is `OutOfMemory` of the half that met it.
 #[derive(Debug, Drop, Error)]
 pub enum PartError {
     /// The cipher rejected the key or the octets.

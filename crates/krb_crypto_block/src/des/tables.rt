@@ -3,7 +3,7 @@
 /// How far C and D are turned left before each of the 16 rounds.
 pub(super) const TURNS: [u8; 16] = [1, 1, 2, 2, 2, 2, 2, 2, 1, 2, 2, 2, 2, 2, 2, 1];
 
-/// S1 to S8, each joined with P (FIPS 46-3, The Cipher Function f). Entry `six` of table `i` is P of the 32 bits among which
+/// S1 to S8, each combined with P (FIPS 46-3, The Cipher Function f). Entry `six` of table `i` is P of the 32 bits among which
 /// the box S(i + 1) has its four bits for these six, all others being 0; f is the exclusive or of one entry of each.
 pub static COMBINED: [[u32; 64]; 8] = [
     [
@@ -104,8 +104,8 @@ pub static COMBINED: [[u32; 64]; 8] = [
     ],
 ];
 
-/// PC-2 of C by parts of seven bits. Entry `part` of table `i` is what PC-2 chooses of the 28 bits of C where these seven stand
-/// behind 7 `i` others and all others are 0: six bits in an octet, for S1, S3, S2 and S4. A round key has the exclusive or of
+/// PC-2 of C by parts of seven bits. Entry `part` of table `i` is what PC-2 chooses of the 28 bits of C where these seven follow
+/// 7 `i` others and all others are 0: six bits in an octet, for S1, S3, S2 and S4. A round key has the exclusive or of
 /// one entry of each.
 pub(super) static CHOSEN_OF_C: [[u32; 128]; 4] = [
     [
