@@ -1,4 +1,4 @@
-/* Known answers. A library that gives another is told, and nothing is printed of it. */
+/* Known results. A library that returns another is reported, and nothing is printed of it. */
 #ifndef ANSWERS_H
 #define ANSWERS_H
 #include "part.h"

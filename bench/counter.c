@@ -1,4 +1,4 @@
-/* Counts the requests for memory of what is linked with it: the linker turns malloc, realloc and free to
+/* Counts the allocations of what is linked with it: the linker turns malloc, realloc and free to
  * these
  * (--wrap), and the C library's own calls stay as they are. */
 #include "counter.h"

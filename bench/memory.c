@@ -1,4 +1,4 @@
-/* Prints the requests for memory and the peak of octets of each call, a line a call: its name and the two
+/* Prints the allocations and the peak of octets of each call, a line a call: its name and the two
  * numbers, with tabs between. */
 #include "answers.h"
 #include "counter.h"
@@ -56,7 +56,7 @@ static void count_part(const struct part *part) {
     COUNT(bench_open_part(part->etype, it.key, it.key_size, 2, it.sealed, it.sealed_size));
 }
 
-/* Puts a tag and a length in front of the last `count` octets that stand before `end`, and answers the new front. */
+/* Puts a tag and a length before the last `count` octets before `end`, and returns the new start. */
 static uint8_t *close_element(uint8_t tag, const uint8_t *end, uint8_t *front) {
     size_t count = end - front, digits = 0;
     uint8_t length[8];
@@ -71,7 +71,7 @@ static uint8_t *close_element(uint8_t tag, const uint8_t *end, uint8_t *front) {
     return front;
 }
 
-/* Counts the reading of a part that is made of a field with these octets in front of it and behind it. */
+/* Counts the reading of a part that is made of a field with these octets before it and after it. */
 static void count_grown(const char *what, octets before, size_t before_size, octets behind, size_t behind_size,
                         uint8_t *front, uint8_t *end) {
     memcpy(end, behind, behind_size);
@@ -91,7 +91,7 @@ static void count_grown(const char *what, octets before, size_t before_size, oct
     print(counted);
 }
 
-/* The small part's fields in front of its client's name, that name, and those behind it. */
+/* The small part's fields before its client's name, that name, and those after it. */
 enum { CONTENT = 6, NAME = 59, NAME_SIZE = 20 };
 
 /* Reads parts with more and more authorization data in one entry, and parts whose client has more and more names of no

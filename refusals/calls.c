@@ -1,8 +1,8 @@
-/* Makes each call of the cryptography with its requests for memory refused. */
+/* Makes each call of the cryptography with its allocations failing. */
 #include "calls.h"
 #include "runs.h"
 
-/* The status of crates/refusals where a call answers. */
+/* The status of crates/test_refusals where a call succeeds. */
 enum { DONE };
 
 /* What the program takes for a call on these octets: the length of the name, the name, and they. */

@@ -3,8 +3,8 @@
 #define CALLS_H
 #include "c_library.h"
 
-/* A call of crates/refusals by its name. It is made on the octets of these digits, or on one octet so many times, or else on
- * what the call before it answered. The most requests that it may make, and the answer's digits where they are known. */
+/* A call of crates/test_refusals by its name. It is made on the octets of these digits, or on one octet so many times, or else on
+ * what the call before it returned. The most allocations that it may make, and the result's digits where they are known. */
 struct call {
     const char *name, *digits;
     size_t count;

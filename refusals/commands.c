@@ -1,7 +1,7 @@
-/* Runs each command of krbtool, a process a run, with its requests for memory refused, each in turn: that one alone, and that one
+/* Runs each command of krbtool, a process a run, with its allocations failing, each in turn: that one alone, and that one
  * with all after it. A command that succeeds is run over devices that fail, too. Prints a line a command: its first words, how many
  * requests it makes, and in how many runs it was run. Ends with status 1 at the first run that holds a block when it ends, or
- * answers neither what its row says nor, after a refusal or over a device that failed, the line that tells that alone. */
+ * gives neither what its row says nor, after an error or over a device that failed, the line that reports that alone. */
 #include "c_library.h"
 #include "commands.h"
 #include "memory.h"
@@ -10,7 +10,7 @@
 /* The program's, which the linker turned from main (--wrap). */
 int __real_main(int count, char **words);
 
-/* Where a process tells of its requests: behind its three streams. */
+/* Where a process reports its allocations: after its three streams. */
 enum { COUNTS = 3 };
 
 /* The status of a process that could not run the command, and what stands for a device that is closed. */
@@ -28,10 +28,10 @@ struct answer {
     long requests, held;
 };
 
-/* The files behind the streams, where no device fails. */
+/* The files of the streams, where no device fails. */
 static int files[3], counts_file;
 
-/* Runs the command that the words are, as a request of the environment's number is refused, and tells of its requests. */
+/* Runs the command of these arguments, as the allocation of the environment's number fails, and reports its allocations. */
 static int run_here(int count, char **words, const char *refused) {
     long number, counts[2];
     int on;
@@ -93,7 +93,7 @@ static struct answer run(const struct command *command, const struct devices *de
     return answer;
 }
 
-/* Whether an answer is this one: the status, the line, and the digits of the output. */
+/* Whether a result is this one: the status, the line, and the digits of the output. */
 static int is_answer(const struct answer *it, int status, const char *line, const char *output) {
     struct octets wanted = octets_of(output);
     return it->status == status && it->held == 0 && are_equal(&it->output, &wanted) &&
@@ -116,7 +116,7 @@ static void fail(const struct command *command, const char *when, long refused, 
     exit(1);
 }
 
-/* Refuses each request in turn, until a run meets none, and answers how many runs that took. */
+/* Makes each allocation fail in turn, until a run meets none, and returns how many runs that took. */
 static long refuse_each(const struct command *command, const struct devices *devices, int on) {
     for (long refused = 1;; refused++) {
         struct answer it = run(command, devices, refused, on);
@@ -146,7 +146,7 @@ static int device(const char *path, int flags) {
     return opened;
 }
 
-/* Runs a command over each device that fails, and answers in how many runs. */
+/* Runs a command over each device that fails, and returns how many runs that took. */
 static long try_devices(const struct command *command) {
     int ends[2];
     if (pipe(ends) || close(ends[0])) {
@@ -170,7 +170,7 @@ static long try_devices(const struct command *command) {
     return runs;
 }
 
-/* Runs a command that is refused where its line can't be told: its status stays. */
+/* Runs a command that fails where its line cannot be written: its status stays. */
 static void try_without_line(const struct command *command) {
     int full = device("/dev/full", O_WRONLY);
     struct devices devices = {"a full standard error", {files[0], files[1], full}};
@@ -208,7 +208,7 @@ int __wrap_main(int count, char **words) {
     if (refused) {
         return run_here(count, words, refused);
     }
-    /* The first, so that no other has the place at which a process tells of its requests. */
+    /* The first, so that no other has the place at which a process reports its allocations. */
     counts_file = file();
     for (int i = 0; i < 3; i++) {
         files[i] = file();

@@ -3,7 +3,7 @@
 #define OCTETS_H
 #include "c_library.h"
 
-/* The most octets that crates/refusals reads. */
+/* The most octets that crates/test_refusals reads. */
 enum { ROOM = 16384 };
 
 struct octets {
@@ -16,10 +16,10 @@ void die(const char *why) __attribute__((noreturn));
 
 struct octets octets_of(const char *digits);
 
-/* What stands in a file. */
+/* What is in a file. */
 struct octets octets_in(int descriptor);
 
-/* Makes a file hold these alone, and sets it back to its front. */
+/* Makes a file hold these alone, and sets it back to its start. */
 void hold(int descriptor, const struct octets *octets);
 
 int are_equal(const struct octets *one, const struct octets *other);

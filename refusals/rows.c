@@ -1,13 +1,13 @@
-/* Has the program test_messages or test_formats read, copy and write the octets of each row of its table, with its requests for memory
- * refused, and of a PAC its first buffer alone too. The argument is that table. */
+/* Has the program test_messages or test_formats read, copy and write the octets of each row of its table, with its allocations
+ * failing, and of a PAC its first buffer alone too. The argument is that table. */
 #include "runs.h"
 
-/* The statuses of these programs on a row of the origin `once`: it was read and all held, or it was refused. */
+/* The statuses of these programs on a row of the origin `once`: it was read and all held, or it was rejected. */
 enum { HELD, REFUSED };
 
 static char line[4 * ROOM];
 
-/* Whether a refusal's name stands in the origin's place: one word that begins with a capital. */
+/* Whether an error's name is in the origin's place: one word that begins with a capital. */
 static int is_refusal(const char *origin) {
     size_t letters = 0;
     while (('A' <= origin[letters] && origin[letters] <= 'Z') || ('a' <= origin[letters] && origin[letters] <= 'z')) {
@@ -16,7 +16,7 @@ static int is_refusal(const char *origin) {
     return 'A' <= *origin && *origin <= 'Z' && letters == strlen(origin);
 }
 
-/* Tries the row of these columns. Where a refusal's name stands in the origin's place, the octets are refused. */
+/* Tries the row of these columns. Where an error's name is in the origin's place, the octets are rejected. */
 static void try_row(const char *origin, const char *name, const char *digits) {
     struct octets input;
     int count = snprintf((char *)input.at, ROOM, "once\t%s\t%s\n", name, digits);

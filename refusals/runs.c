@@ -1,7 +1,7 @@
 #include "runs.h"
 #include "memory.h"
 
-/* The status with which a program ends for want of memory. */
+/* The status with which a program ends where an allocation fails. */
 enum { OUT_OF_MEMORY = 1 };
 
 /* The program's, which the linker turned from main (--wrap). */
@@ -41,14 +41,14 @@ static struct answer run(long refused, int on) {
     return answer;
 }
 
-/* Whether a run with refusals ended well: as the undisturbed one, or for want of memory with nothing written. */
+/* Whether a run with failing allocations ended well: as the undisturbed one, or as a failed allocation with nothing written. */
 static int is_well(const struct answer *it, const struct answer *undisturbed) {
     int is_wanting = it->status == OUT_OF_MEMORY && it->octets.count == 0 && it->requests > 0;
     int is_same = it->status == undisturbed->status && are_equal(&it->octets, &undisturbed->octets);
     return it->held == 0 && (is_wanting || is_same);
 }
 
-/* Refuses each request in turn, until a run meets none, and answers how many runs that took. */
+/* Makes each allocation fail in turn, until a run meets none, and returns how many runs that took. */
 static long refuse_each(const char *name, const struct answer *undisturbed, int on) {
     for (long refused = 1;; refused++) {
         struct answer it = run(refused, on);

@@ -6,13 +6,17 @@
 //! tested. `test_crypto` calls what else `picky_krb` gives out of the cryptography.
 #![tactic(auto)]
 
+pub mod buffer_count;
 pub mod conversions;
 mod listed_words;
 pub mod note;
+pub mod offered_schemes;
 pub mod reseal;
+pub mod sealed_octets;
 mod toy;
 #[cfg(test)]
 mod toy_rows;
+pub mod written_again;
 
 pub use listed_words::ListedWords;
 pub use toy::Toy;
