@@ -103,7 +103,8 @@ pub fn decrypt_aes_cts(
 /// which then stay as they are. It allocates nothing.
 pub fn swap_two_last_blocks(octets: &mut [u8]) -> KerberosCryptoResult<()>
     ensures swapped { IfOk result (λ _. octets.new ≡ with_last_two_swapped octets.old) }
-    ensures rejected { IfErr result (λ e. (length octets.old < 32) × (e ≡ KerberosCryptoError.CipherLength (length octets.old) 32) × (octets.new ≡ octets.old)) }
+    ensures rejected { IfErr result (λ e. (length octets.old < 32) × (e ≡ KerberosCryptoError.CipherLength (length octets.old) 32)
+        × (octets.new ≡ octets.old)) }
 {
     const TWO_BLOCKS: usize = 2 * AES_BLOCK_SIZE;
     if octets.len() < TWO_BLOCKS {

@@ -107,7 +107,8 @@ pub trait NegoexDataType: Placed {
         ensures found { IfOk result (λ v. IfSome (R.remaining from.old) (λ f. Self.layout.part f message.now v)) }
         ensures rest { OnOk result (IfSome (R.remaining from.old) (λ f. R.remaining from.new ≡ Some (drop Self.layout.width f))) }
         ensures only { IfSome (R.remaining from.old) (λ f. (v : Self) → Self.layout.part f message.now v → IfOk result (λ w. Self.layout.same w v)) }
-        ensures rejected { IfErr result (IsReportedBy Self.Error.from_gives (λ x. GatherRejected Self.layout.width (R.remaining from.old) (R.remaining from.new) x
+        ensures rejected { IfErr result (IsReportedBy Self.Error.from_gives
+            (λ x. GatherRejected Self.layout.width (R.remaining from.old) (R.remaining from.new) x
             ⊎ PrefixRejected Self.layout.width (λ f. Self.layout.rejects f message.now) (R.remaining from.old) (R.remaining from.new) x)) }
     {
         let octets = read_prefix(alloc, from, Self::fixed_len())?;
