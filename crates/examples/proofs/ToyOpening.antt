@@ -49,7 +49,7 @@ only_octet k xs e all = let P : List ℕ → Type 0 = λ ys. slice_index ys 0 < 
 
 -- ---- fills
 
--- the list with so many zeros behind it is its fill
+-- the list with so many zeros after it is its padding
 pub padding_is : (prefix padded : List ℕ) (zeros : ℕ) → zeros < 4 → (length prefix + zeros) % 4 ≡ 0 → padded ≡ prefix ++ replicate zeros 0 → IsPadding 4 prefix padded
 padding_is prefix padded zeros few even e = record {
   zeros = zeros;
@@ -69,13 +69,13 @@ resized_padding prefix padded n len e same next =
 pub padding_octets : (size : ℕ) (prefix padded : List ℕ) → IsPadding size prefix padded → IsOctets prefix → IsOctets padded
 padding_octets size prefix padded fill all = subst IsOctets (sym fill.concatenated) (octets-append prefix (replicate fill.zeros 0) all (octets_zeros fill.zeros))
 
--- ---- deciphering
+-- ---- decrypting
 
 no_octets : (xs : List ℕ) → length xs ≡ 0 → xs ≡ []
 no_octets [] e = refl
 no_octets (x ∷ xs) e = absurd (omega (arith, e))
 
--- no checksum stands behind the octets
+-- no checksum is after the octets
 pub without_checksum : (meaning : List ℕ → List ℕ → List ℕ → Type 0) (confounder payload octets : List ℕ) → Encrypts meaning 0 confounder payload octets → meaning confounder payload octets
 without_checksum meaning confounder payload octets e =
     subst (meaning confounder payload) (ap (λ rest. octets ++ rest) (no_octets e.checksum e.size_is) ∙ append-nil octets) e.means
@@ -83,7 +83,7 @@ without_checksum meaning confounder payload octets e =
 pub with_checksum : (meaning : List ℕ → List ℕ → List ℕ → Type 0) (confounder payload octets : List ℕ) → meaning confounder payload octets → Encrypts meaning 0 confounder payload octets
 with_checksum meaning confounder payload octets means = record { checksum = []; size_is = refl; means = subst (meaning confounder payload) (sym (append-nil octets)) means }
 
--- the octets that are opened, combined with the key's octet, are the confounder, the payload and its fill
+-- the octets that are opened, combined with the key's octet, are the confounder, the payload and its padding
 pub opened_is : (k : ℕ) (key confounder payload octets : List ℕ) → key ≡ k ∷ [] → length confounder ≡ 4 → (means : IsToy key confounder payload octets)
     → map (λ x. bit_xor x k) octets ≡ confounder ++ (payload ++ replicate means.fill.zeros 0)
 opened_is k key confounder payload octets key_is four means =
@@ -99,7 +99,7 @@ pub back_is : (k : ℕ) (octets prefix back : List ℕ) → length prefix ≡ 4 
 back_is k octets prefix back four e =
     sym (drop-map (λ x. bit_xor x k) 4 octets) ∙ ap (drop 4) e ∙ subst (λ n. drop n (prefix ++ back) ≡ back) four (drop-append_seam prefix back)
 
--- whole blocks of four octets are those of one confounder and of each payload that the rest is the fill of
+-- whole blocks of four octets are those of one confounder and of each payload that the rest is the padded form of
 pub toy_decrypts : (k : ℕ) (key octets : List ℕ) → k < 256 → IsOctets octets → key ≡ k ∷ [] → 4 ≤ length octets → length octets % 4 ≡ 0
     → Decrypts 4 4 (Encrypts (λ confounder payload bytes. IsToy key confounder payload bytes) 0) octets (map (λ x. bit_xor x k) (take 4 octets)) (map (λ x. bit_xor x k) (drop 4 octets))
 toy_decrypts k key octets small all key_is long whole =
@@ -141,7 +141,7 @@ toy_decrypts k key octets small all key_is long whole =
 -- ---- the calls with a checksum, by those without
 
 module _ (meaning : List ℕ → List ℕ → List ℕ → Type 0) (confounder_size fill_size : ℕ) (octets : List ℕ) where
-  -- octets that are refused whatever checksum stands behind are refused
+  -- octets that are rejected whatever the checksum after them are rejected
   pub rejected_without : (e : KerberosCryptoError) → IsMemoryOr e ((encrypted checksum : List ℕ) → IsSplit 0 octets encrypted checksum → IsOfNone (IsGiven (Encrypts meaning 0) confounder_size encrypted))
       → IsMemoryOr e (IsOfNone (IsGiven meaning confounder_size octets))
   rejected_without e why = elim why [
@@ -150,7 +150,7 @@ module _ (meaning : List ℕ → List ℕ → List ℕ → Type 0) (confounder_s
         (record { confounder = given.confounder; size_is = given.size_is; means = with_checksum meaning given.confounder payload octets given.means }))
   ]
 
-  -- what is deciphered is what is opened
+  -- what is decrypted is what is opened
   pub opens_without : (encrypted checksum confounder plaintext : List ℕ) → IsSplit 0 octets encrypted checksum → Decrypts fill_size confounder_size (Encrypts meaning 0) encrypted confounder plaintext
       → Opens fill_size (IsGiven meaning confounder_size octets) plaintext
   opens_without encrypted checksum confounder plaintext split decrypts =

@@ -5,7 +5,7 @@ use Rattle.krb_crypto_hash.specs.declared.error.KerberosCryptoError.TheVariants.
 use Rattle.krb_der.specs.Encoding.{IsOctets}
 use Rattle.krb_crypto_block.specs.Modes.{IsPadding}
 
--- The confounder and the payload, filled to a multiple of four octets, each combined with the key's one octet.
+-- The confounder and the payload, padded to a multiple of four octets, each combined with the key's one octet.
 pub record IsToy (key confounder payload octets : List ℕ) : Type 0 where
   pub octet : ℕ
   pub padded : List ℕ

@@ -3,7 +3,7 @@
 //! `reseal` is the file of the README, and `note` the type at the head of `composite.rt` of `krb_der`; `./test` compares their texts. `toy` is
 //! a cipher of a caller's own, which hides nothing, and `listed_words` a generator, which gives words from a list: the whole law of
 //! `Cipher` is proved of the one, and that of `Rng` of the other. Sealing and opening by the one and encryption under the other's words are
-//! tested. `test_crypto` calls what else `picky_krb` gives out of the cryptography.
+//! tested. `test_crypto` calls what else `picky_krb` re-exports of the cryptography.
 #![tactic(auto)]
 
 pub mod buffer_count;

@@ -1,4 +1,4 @@
-//! Tickets, sealed anew.
+//! Tickets, sealed again.
 #![tactic(auto)]
 
 ghost use Rattle.std.specs.Prelude.{◌≡◌, ℕ, List, pos, length, IfOk};

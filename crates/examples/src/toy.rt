@@ -17,11 +17,11 @@ const CONFOUNDER_SIZE: usize = 4;
 
 const FILL_SIZE: usize = 4;
 
-/// The confounder and the payload, filled with zeros to a multiple of four octets, each combined with the key's one
+/// The confounder and the payload, padded with zeros to a multiple of four octets, each combined with the key's one
 /// octet by exclusive or. There is no checksum.
 #[derive(Debug, Drop)]
 pub struct Toy {
-    /// The octets of a seed that no key is made of: those behind its first.
+    /// The octets of a seed that no key is made of: those after its first.
     pub spare_seed: u16,
 }
 

@@ -1,4 +1,4 @@
-//! Calls of a caller's own cipher, lent, and of a caller's own generator.
+//! Calls of a caller's own cipher and of a caller's own generator.
 
 use crate::listed_words::ListedWords;
 use crate::toy::Toy;
@@ -25,7 +25,7 @@ const CONFOUNDER: [u8; 4] = *b"\x01\x02\x03\x04";
 /// The encoding of a KerbPaPacRequest that is true.
 const PAYLOAD: [u8; 7] = *b"\x30\x05\xa0\x03\x01\x01\xff";
 
-/// The same, filled with a zero to whole blocks.
+/// The same, padded with a zero to whole blocks.
 const PADDED: [u8; 8] = *b"\x30\x05\xa0\x03\x01\x01\xff\x00";
 
 /// What it is sealed to.
@@ -37,7 +37,7 @@ fn request() -> KerbPaPacRequest {
     }
 }
 
-/// The name of a refusal.
+/// The name of an error.
 fn word_of(rejection: &PartError) -> &'static str {
     match rejection {
         PartError::Der(Asn1DerError::InvalidData) => "InvalidData",
@@ -50,7 +50,7 @@ fn word_of(rejection: &PartError) -> &'static str {
     }
 }
 
-/// What opening answers, in a word.
+/// What opening returns, in a word.
 fn opened(alloc: Global, key: &[u8], octets: &[u8]) -> &'static str {
     match open_part::<KerbPaPacRequest>(alloc, &TOY, key, KEY_USAGE, octets) {
         Ok(part) => if part == request() {
@@ -62,7 +62,7 @@ fn opened(alloc: Global, key: &[u8], octets: &[u8]) -> &'static str {
     }
 }
 
-/// What sealing answers, in a word.
+/// What sealing returns, in a word.
 fn sealed(alloc: Global, key: &[u8]) -> &'static str {
     match seal_part(alloc, &TOY, key, KEY_USAGE, &CONFOUNDER, &request()) {
         Ok(octets) => if octets.as_slice() == SEALED.as_slice() {
@@ -74,7 +74,7 @@ fn sealed(alloc: Global, key: &[u8]) -> &'static str {
     }
 }
 
-/// Whether the lent calls that name sizes and types answer Toy's.
+/// Whether the calls through the trait that name sizes and types return Toy's.
 fn has_sizes(cipher: &dyn Cipher) -> bool {
     cipher.key_size() == 1
         && cipher.seed_bit_len() == 8
@@ -84,7 +84,7 @@ fn has_sizes(cipher: &dyn Cipher) -> bool {
         && cipher.checksum_type() == ChecksumSuite::HmacSha196Aes128
 }
 
-/// Whether the lent calls that encrypt and decrypt answer Toy's octets.
+/// Whether the calls through the trait that encrypt and decrypt return Toy's octets.
 fn has_octets(alloc: Global, cipher: &dyn Cipher) -> KerberosCryptoResult<bool> {
     if cipher.confounder_size() != CONFOUNDER.len() {
         return Ok(false);
@@ -106,7 +106,7 @@ fn has_octets(alloc: Global, cipher: &dyn Cipher) -> KerberosCryptoResult<bool> 
     )
 }
 
-/// Whether the lent calls of keys and checksums answer Toy's octets.
+/// Whether the calls through the trait of keys and checksums return Toy's octets.
 fn has_keys(alloc: Global, cipher: &dyn Cipher) -> KerberosCryptoResult<bool> {
     let checksum = cipher.encryption_checksum(alloc, &KEY, KEY_USAGE, &PAYLOAD)?;
     let password_key = cipher.generate_key_from_password(alloc, b"password", b"salt")?;
@@ -135,7 +135,7 @@ fn has_longest_seed(alloc: Global) -> bool {
 
 const AES_KEY: [u8; 16] = *b"\xc7\xc4\x16\x66\x44\x5d\x3a\x66\x93\x13\x77\x39\x1e\x8a\x3f\xe6";
 
-/// Whether the payload is encrypted so under the confounder that the generator gives first. No octets: the key is refused. Each call takes
+/// Whether the payload is encrypted so under the confounder that the generator gives first. No octets: the key is rejected. Each call takes
 /// one confounder from the generator.
 fn is_generated(alloc: Global, key: &[u8], payload: &[u8], sealed: &[u8]) -> bool {
     let mut rng = ListedWords(0);
@@ -172,7 +172,7 @@ const GENERATED: [(&[u8], &[u8]); 3] = [
     ),
 ];
 
-/// Octets that are opened or refused: one behind, five zeros behind, another key, too few, no whole blocks, and an early end.
+/// Octets that are opened or rejected: one trailing octet, five trailing zeros, another key, too few, no whole blocks, and an early end.
 #[test]
 fn toy_rows(rt: HostRuntime) -> Result<(), Fail> {
     let alloc = rt.alloc();

@@ -3,8 +3,8 @@
 //! Its standard input is a table. A row is a line of six columns with tabs between: a call, a suite or a size, a number in
 //! decimal digits (mostly a key usage), and three octet strings in hexadecimal digits: a key or a password, what stands beside
 //! the input (a confounder, a salt or a constant), and the input. A line that begins with `#` is none. For each row the program
-//! prints the call, the suite and what is answered: octets in hexadecimal digits, or the refusal. A row of `flips` or `fronts`
-//! opens what its input gives with each bit flipped in turn, or each proper front of it, and tells how often each answer came.
+//! prints the call, the suite and what is returned: octets in hexadecimal digits, or the error. A row of `flips` or `fronts`
+//! opens what its input gives with each bit flipped in turn, or each proper prefix of it, and tells how often each result came.
 #![tactic(auto)]
 
 mod aes_sha2;

@@ -1,4 +1,4 @@
-//! Sealed parts, and keys of shared secrets, by a cipher that is lent.
+//! Sealed parts, and keys of shared secrets, under the caller's cipher.
 
 use crate::row::{Answer, Row, answer_of};
 use picky_krb::crypto::diffie_hellman::{DhNonce, generate_key_from_shared_secret};

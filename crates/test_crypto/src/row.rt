@@ -19,14 +19,14 @@ pub struct Row<'a> {
     pub input: Vec<u8>,
 }
 
-/// What a call answers, in hexadecimal digits. `None` where there is no such call, or none of such arguments.
+/// What a call returns, in hexadecimal digits. `None` where there is no such call, or none of such arguments.
 pub type Answer = Option<KerberosCryptoResult<String>>;
 
 fn digits(alloc: Global, octets: &[u8]) -> KerberosCryptoResult<String> {
     Ok(hex::encode(alloc, octets)?)
 }
 
-/// The answer of a call that answers octets.
+/// The result of a call that returns octets.
 pub fn answer_of(alloc: Global, octets: KerberosCryptoResult<Vec<u8>>) -> Answer {
     match octets {
         Ok(octets) => Some(digits(alloc, &octets)),

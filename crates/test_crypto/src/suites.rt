@@ -1,4 +1,4 @@
-//! Calls of a suite that is lent, by its name or its number.
+//! Calls of a suite, by its name or its number.
 
 use crate::numbers::{number_of, sizes_of};
 use crate::parts::{try_agreement, try_part};

@@ -15,7 +15,7 @@ struct Runs {
 }
 
 impl Runs {
-    /// No answer yet.
+    /// No result yet.
     fn new(alloc: Global) -> Self {
         Runs {
             text: String::new(alloc),
@@ -24,7 +24,7 @@ impl Runs {
         }
     }
 
-    /// Ends the run that the last answer is of.
+    /// Ends the run that the last result is of.
     fn end(&mut self, alloc: Global) -> Result<(), AllocError> {
         if self.count == 0 {
             return Ok(());
@@ -38,7 +38,7 @@ impl Runs {
         Ok(())
     }
 
-    /// One more answer.
+    /// One more result.
     fn add(&mut self, alloc: Global, word: &'static str) -> Result<(), AllocError> {
         if self.word != word {
             self.end(alloc)?;
@@ -49,7 +49,7 @@ impl Runs {
     }
 }
 
-/// What opening octets answers, in a word. The fewest that are opened are a confounder and a checksum.
+/// What opening octets returns, in a word. The fewest that are opened are a confounder and a checksum.
 fn opened(
     alloc: Global,
     cipher: &dyn Cipher,
@@ -97,7 +97,7 @@ fn flips(
     Ok(runs.text)
 }
 
-/// What each proper front of the input opens to, the empty one first.
+/// What each proper prefix of the input opens to, the empty one first.
 fn prefixes(
     alloc: Global,
     cipher: &dyn Cipher,

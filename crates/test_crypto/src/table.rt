@@ -40,7 +40,7 @@ fn row_of(alloc: Global, line: &str) -> Option<Row<'_>> {
     })
 }
 
-/// What the call of a row answers.
+/// What the call of a row returns.
 fn try_row(alloc: Global, row: &Row) -> Answer {
     match row.call {
         "encrypt_block" | "decrypt_block" => try_block(alloc, row),

@@ -1,4 +1,4 @@
-//! The texts of the refusals.
+//! The texts of the errors.
 
 use crate::row::Answer;
 use picky_krb::crypto::KerberosCryptoError;
@@ -12,7 +12,7 @@ use std::fmt::Display;
 use std::io;
 use std::io::ErrorKind;
 
-/// The text of a refusal.
+/// The text of an error.
 fn text_of<E: Display + Drop>(alloc: Global, rejection: E) -> Answer {
     match rejection.to_string(alloc) {
         Ok(text) => Some(Ok(text)),
@@ -87,7 +87,7 @@ fn token_rejection(alloc: Global, name: &str) -> Option<GssApiMessageError> {
     })
 }
 
-/// The text of the refusal of this family and name. A part's has the text of the half that refused.
+/// The text of the error of this family and name. A part's has the text of the half that returned it.
 pub fn try_text(alloc: Global, name: &str) -> Answer {
     let (family, name) = name.split_once(' ')?;
     match family {

@@ -7,7 +7,7 @@ use crate::parts::try_part;
 use crate::suites::{suite_of, try_suite};
 use std::alloc::Global;
 
-/// The name in front of the input, and the octets behind it.
+/// The name before the input, and the octets after it.
 fn split(input: &[u8]) -> Option<(&str, &[u8])> {
     let (length, rest) = input.split_first()?;
     let length = *length as usize;
@@ -21,7 +21,7 @@ fn split(input: &[u8]) -> Option<(&str, &[u8])> {
     }
 }
 
-/// What the call that the input names answers of its octets. A name is a call's, or a call's and a suite's number with a blank
+/// What the call that the input names returns of its octets. A name is a call's, or a call's and a suite's number with a blank
 /// between.
 pub fn made_of(alloc: Global, input: &[u8]) -> Result<Vec<u8>, Rejection> {
     let Some((name, octets)) = split(input) else {

@@ -35,7 +35,7 @@ pub fn try_cryptography(alloc: Global, call: &str, octets: &[u8]) -> Result<Vec<
     Ok(made)
 }
 
-/// The octets with zeros behind them, to whole blocks; where that is refused, they are to be as before.
+/// The octets with zeros after them, to whole blocks; where that fails, they are to be as before.
 fn filled(alloc: Global, octets: &[u8]) -> Result<Vec<u8>, Rejection> {
     let mut blocks = Vec::from_slice(alloc, octets)?;
     match pad_blocks(&mut blocks) {

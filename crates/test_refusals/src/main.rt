@@ -1,7 +1,7 @@
 //! The program `refusals`: makes one call of the cryptography, and takes no memory but what that call takes.
 //!
 //! Its standard input is an octet, a name of so many octets, and the octets that the call is made on. It writes the octets that
-//! the call answers, and ends with status 0, or with that of its `Refusal`. `refusals/run` links it with C that refuses its requests
+//! the call returns, and ends with status 0, or with that of its `Rejection`. `refusals/run` links it with C that fails its requests
 //! for memory, each in turn.
 #![tactic(auto)]
 
@@ -21,7 +21,7 @@ use std::process::ExitCode;
 /// The most octets that are read.
 const ROOM: usize = 16384;
 
-/// Reads to the reader's end or until there is no more room, and answers how many octets came.
+/// Reads to the reader's end or until there is no more room, and returns how many octets came.
 fn fill<R: Read>(reader: &mut R, room: &mut [u8]) -> io::Result<usize> {
     let mut filled = 0;
     for _ in 0..ROOM {

@@ -9,13 +9,13 @@ use std::alloc::{AllocError, AllocFailed};
 /// Why a call made nothing.
 #[derive(Debug, Drop)]
 pub enum Rejection {
-    /// A request for memory was refused.
+    /// An allocation failed.
     OutOfMemory,
-    /// The call refused for another reason.
+    /// The call returned another error.
     Other,
-    /// The call refused, and what it was to append to is not as before.
+    /// The call returned an error, and what it was to append to is not as before.
     Changed,
-    /// The input names no call, or could not be read, or the answer not be written.
+    /// The input names no call or could not be read, or the result could not be written.
     NoCall,
 }
 

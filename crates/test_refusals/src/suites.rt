@@ -67,7 +67,7 @@ fn encrypted(alloc: Global, suite: &CipherSuite, payload: &[u8]) -> Result<Vec<u
     Ok(suite.encrypt(alloc, key_of(suite), TICKET, payload, confounder)?)
 }
 
-/// What `encrypt_no_checksum` makes, joined.
+/// What `encrypt_no_checksum` makes, concatenated.
 fn encrypted_alone(
     alloc: Global,
     suite: &CipherSuite,
@@ -84,7 +84,7 @@ fn encrypted_alone(
     Ok(concatenated)
 }
 
-/// What `decrypt_no_checksum` makes, joined.
+/// What `decrypt_no_checksum` makes, concatenated.
 fn decrypted_alone(
     alloc: Global,
     suite: &CipherSuite,
