@@ -1,4 +1,4 @@
-//! What the documents show, by the public calls of `picky_krb` alone, and tests of these calls. No crate stands on this one.
+//! What the documents show, by the public calls of `picky_krb` alone, and tests of these calls. No crate depends on this one.
 //!
 //! `reseal` is the file of the README, and `note` the type at the head of `composite.rt` of `krb_der`; `./test` compares their texts. `toy` is
 //! a cipher of a caller's own, which hides nothing, and `listed_words` a generator, which gives words from a list: the whole law of

@@ -71,7 +71,8 @@ impl Decrypted {
         requires cut { mac_size ≤ 20 }
         requires long { mac_size ≤ length cipher_data.now }
         requires prefix { prefix ≤ length self.padded.items }
-        ensures payload { IfOk result (λ payload. EndsInMac mac_size self.ki self.padded.items cipher_data.now × (payload.items ≡ drop prefix self.padded.items)) }
+        ensures payload { IfOk result (λ payload. EndsInMac mac_size self.ki self.padded.items cipher_data.now
+            × (payload.items ≡ drop prefix self.padded.items)) }
         ensures rejected { IfErr result (λ e. (¬ EndsInMac mac_size self.ki self.padded.items cipher_data.now) × (e ≡ KerberosCryptoError.IntegrityCheck)) }
     {
         let mac = hmac_sha1(self.ki.as_slice(), &self.padded);

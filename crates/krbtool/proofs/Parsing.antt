@@ -1,4 +1,4 @@
--- Words and the commands that they are.
+-- Arguments and the commands that they are.
 use Rattle.std.proofs.Common.{◌≡◌, ◌≢◌, ℕ, ℤ, List, [], ◌∷◌, codes, map, length, get_or, slice_index_or, ◌-◌, Result, Ok, Err, refl, sym, ap, ◌∙◌, inl, inr, arith}
 use Rattle.hex.specs.Hex.{decode_of}
 use Rattle.hex.specs.declared.error.FromHexError.{FromHexError}
@@ -11,7 +11,7 @@ use Rattle.krbtool.specs.declared.command.Command.TheVariants.{Check, Seal, Open
 use Rattle.krbtool.specs.Commands.{IsSealing, IsOpening, IsAnswer}
 use Rattle.krbtool.specs.Arguments.{IsEtype, IsUsage, AreArguments, IsCommand, NameUnknown, AreNoArguments, RejectsEtype, RejectsKeyArguments, RejectsArguments, Answers}
 
--- each word says one thing alone
+-- each argument says one thing alone
 
 -- the suite of a number
 named : ℕ → CipherSuite
@@ -39,7 +39,7 @@ octets_same argument xs ys one other = ap octets_or_none (sym one ∙ other)
 usage_same : (argument : List ℕ) (z y : ℤ) → IsUsage argument z → IsUsage argument y → z ≡ y
 usage_same argument z y one other = one.value ∙ sym other.value
 
--- words that are rejected by the first of them
+-- arguments that are rejected by the first of them
 
 pub etype_rejected : (etype keyhex usage : List ℕ) (e : Failure) → RejectsEtype etype e → RejectsKeyArguments etype keyhex usage e
 etype_rejected etype keyhex usage e (inr unknown) = inr (inl unknown)
@@ -56,7 +56,7 @@ seal_rejected etype keyhex usage confhex e (inl memory) = inl memory
 seal_rejected etype keyhex usage confhex e (inr (inl unknown)) = inr (inl (unknown.0, unknown.1, (refl, unknown.2)))
 seal_rejected etype keyhex usage confhex e (inr (inr none)) = inr (inr (none.0, (λ are. none.2 are.1 are.2 are.3 are.5, λ n is. none.1 n is.1)))
 
--- what words say of which a command is known
+-- what arguments say of which a command is known
 
 pub command_arguments : (arguments : List (List ℕ)) (command : Command) → IsCommand arguments command → AreArguments arguments
 command_arguments (argument ∷ []) Check is = is
@@ -83,7 +83,7 @@ names_none (argument ∷ (etype ∷ [])) n are is = elim are [ ]
 names_none (argument ∷ (etype ∷ (keyhex ∷ []))) n are is = elim are [ ]
 names_none (argument ∷ (etype ∷ (keyhex ∷ (usage ∷ (confhex ∷ (_ ∷ _)))))) n are is = elim are [ ]
 
--- a word is the numeral of one number
+-- an argument is the numeral of one number
 pub names_same : (arguments : List (List ℕ)) (n m : ℕ) → NameUnknown arguments n → NameUnknown arguments m → n ≡ m
 names_same (argument ∷ etype ∷ keyhex ∷ usage ∷ []) n m one other = sym one.1.number.value ∙ other.1.number.value
 names_same (argument ∷ etype ∷ keyhex ∷ usage ∷ confhex ∷ []) n m one other = sym one.1.number.value ∙ other.1.number.value
@@ -102,7 +102,7 @@ module _ {V : Type 0} (is_value : V → Type 0) (enc : V → List ℕ) where
       → IsSealing is_value enc s k z f input answer → IsSealing is_value enc t l y g input answer
   sealing_same s t k l z y f g input answer es ek ez ef is = rw (← es, ← ek, ← ez, ← ef) is
 
-  -- words that have a result are a command's
+  -- arguments that have a result are a command's
   pub answers_arguments : (arguments : List (List ℕ)) (input answer : List ℕ) → Answers is_value enc arguments input answer → AreArguments arguments
   answers_arguments (argument ∷ []) input answer held = held.0
   answers_arguments (argument ∷ etype ∷ keyhex ∷ usage ∷ []) input answer held = (held.0, held.1, held.2, held.3, held.5)
@@ -112,7 +112,7 @@ module _ {V : Type 0} (is_value : V → Type 0) (enc : V → List ℕ) where
   answers_arguments (argument ∷ (etype ∷ (keyhex ∷ []))) input answer held = elim held [ ]
   answers_arguments (argument ∷ (etype ∷ (keyhex ∷ (usage ∷ (confhex ∷ (_ ∷ _)))))) input answer held = elim held [ ]
 
-  -- the words and their command result the same
+  -- the arguments and their command give the same output
   pub answers_to : (arguments : List (List ℕ)) (command : Command) (input answer : List ℕ) → IsCommand arguments command
       → Answers is_value enc arguments input answer → IsAnswer is_value enc command input answer
   answers_to (argument ∷ []) Check input answer is held = held.1
@@ -152,7 +152,7 @@ module _ {V : Type 0} (is_value : V → Type 0) (enc : V → List ℕ) where
   answers_from (argument ∷ (etype ∷ (keyhex ∷ (usage ∷ (confhex ∷ []))))) (Open key) input answer is held = elim is [ ]
   answers_from (argument ∷ (etype ∷ (keyhex ∷ (usage ∷ (confhex ∷ (_ ∷ _)))))) command input answer is held = elim is [ ]
 
--- the words of a list of so many
+-- the arguments of a list of so many
 
 pub texts_1 : {X : Type 0} (f : X → List ℕ) (ws : List X) (a : X) → length ws ≡ 1 → a ≡ get_or ws 0 a → map f ws ≡ f a ∷ []
 texts_1 f [] a long ea = absurd (omega (arith, long))
@@ -178,7 +178,7 @@ texts_5 f (x ∷ y ∷ z ∷ w ∷ []) a b c d e long ea eb ec ed ee = absurd (o
 texts_5 f (x ∷ y ∷ z ∷ w ∷ v ∷ []) a b c d e long ea eb ec ed ee = rw (ea, eb, ec, ed, ee) refl
 texts_5 f (x ∷ y ∷ z ∷ w ∷ v ∷ u ∷ rest) a b c d e long ea eb ec ed ee = absurd (omega (arith, long))
 
--- words that are of no command
+-- arguments that are of no command
 pub not_so_many : {X : Type 0} (f : X → List ℕ) (ws : List X) → length ws ≢ 1 → length ws ≢ 4 → length ws ≢ 5 → AreNoArguments (map f ws)
 not_so_many f [] h1 h4 h5 = (λ are. are, λ n is. is)
 not_so_many f (x ∷ []) h1 h4 h5 = absurd (h1 refl)

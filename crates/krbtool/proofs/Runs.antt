@@ -13,7 +13,7 @@ use Rattle.krbtool.specs.Arguments.{AreArguments, IsCommand, NameUnknown, AreNoA
 use Rattle.krbtool.proofs.Parsing.{command_arguments, names_none, names_same, answers_arguments, answers_to, answers_from}
 use Rattle.krbtool.proofs.Rejections.{rejection_not_arguments}
 
--- ---- words that are rejected
+-- ---- arguments that are rejected
 
 arguments_reported : (arguments : List (List ℕ)) (e : Failure) → RejectsArguments arguments e → AreNoArguments arguments → (e ≡ Arguments) ⊎ (e ≡ Memory)
 arguments_reported arguments e (inl memory) none = inr memory
@@ -57,7 +57,7 @@ module _ {V : Type 0} (is_value : V → Type 0) (enc : V → List ℕ) (first : 
     because = inr (inl why);
   }
 
-  -- a run whose words are a command's, and which is rejected for no words
+  -- a run whose arguments are a command's, and which is not rejected for its arguments
   command_run : (arguments : List (List ℕ)) (command : Command) (e : Failure) (input rest before after : Option (List ℕ)) → IsCommand arguments command → (e ≡ Arguments → ⊥)
       → IfSome input (λ octets. (answer : List ℕ) → Answers is_value enc arguments octets answer → IsOutside e)
       → (Keeps before after ⊎ ((e ≡ Write) × IsAtEnd rest × IfSome input (λ octets. (answer : List ℕ) × Answers is_value enc arguments octets answer)))

@@ -1,4 +1,4 @@
--- What an error of the library is told as, and the line that the program tells.
+-- What an error of the library is reported as, and the line that the program writes.
 use Rattle.std.specs.Prelude.{List, ℕ, codes}
 use Rattle.krb_crypto_hash.specs.declared.error.KerberosCryptoError.{KerberosCryptoError}
 use Rattle.krb_crypto_hash.specs.declared.error.KerberosCryptoError.TheVariants as crypto

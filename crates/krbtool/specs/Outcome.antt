@@ -38,7 +38,7 @@ IsReason is_value enc first error arguments input e =
     ⊎ ((e ≡ Write) × IfSome input (λ octets. (answer : List ℕ) × Answers is_value enc arguments octets answer))
     ⊎ IfSome input (λ octets. (command : Command) × IsCommand arguments command × IsRejection is_value enc first error command octets e)
 
--- With these words: what was read of the input, where its octets are known (`rest` of it is left), and what was
+-- With these arguments: what was read of the input, where its octets are known (`rest` of it is left), and what was
 -- written, where the octets of the output are known (before and after).
 pub record IsRun {V : Type 0} (is_value : V → Type 0) (enc : V → List ℕ) (first : ℕ → Bool) (error : ℕ → List ℕ → Asn1DerError → Type 0) (arguments : List (List ℕ)) (input rest before after : Option (List ℕ)) (outcome : Result ⊤ Failure) : Type 0 where
   -- the arguments are an error only where they are of no command, and then they are, but for an allocation failure

@@ -2,7 +2,7 @@
 
 use krb_crypto_suite::CipherSuite;
 
-/// The words ETYPE KEYHEX USAGE: a suite, the octets of a key, which may be of any number, and a key usage.
+/// The arguments ETYPE KEYHEX USAGE: a suite, the octets of a key, which may be of any number, and a key usage.
 #[derive(Drop)]
 pub struct SealingKey {
     pub suite: CipherSuite,
@@ -13,7 +13,7 @@ pub struct SealingKey {
 /// What the program is asked to do, each time to an `EncTicketPart`.
 #[derive(Drop)]
 pub enum Command {
-    /// Read one and write it again: the word `check`, alone.
+    /// Read one and write it again: the argument `check`, alone.
     Check,
     /// Seal one under a confounder: `seal ETYPE KEYHEX USAGE CONFHEX`.
     Seal {

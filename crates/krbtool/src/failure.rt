@@ -12,7 +12,7 @@ use std::io;
 /// Why a run is rejected.
 #[derive(Debug, Drop)]
 pub enum Failure {
-    /// The words are no command.
+    /// The arguments are no command.
     Arguments,
     /// The octets are no encoding, for this reason.
     Der(Asn1DerError),
@@ -27,7 +27,7 @@ pub enum Failure {
 }
 
 impl Failure {
-    /// The status with which the program ends: 2 where the words are no command, else 1.
+    /// The status with which the program ends: 2 where the arguments are no command, else 1.
     pub fn status(&self) -> u8
         ensures { result ≡ rejection_status self.now }
     {
@@ -37,7 +37,7 @@ impl Failure {
         }
     }
 
-    /// The line that the program tells, with its newline.
+    /// The line that the program writes, with its newline.
     pub fn line(&self) -> &'static str
         ensures { result.now ≡ line_of self.now }
     {
@@ -122,7 +122,7 @@ pub fn read_failure(error: io::Error) -> Failure
     }
 }
 
-/// The error of words that could not be had: an allocation failure, or a word that is no text and so of no command.
+/// The error of arguments that could not be had: an allocation failure, or an argument that is no text and so of no command.
 pub fn arguments_failure(error: io::Error) -> Failure
     ensures { (result ≡ Failure.Memory) ⊎ (result ≡ Failure.Arguments) }
 {

@@ -19,7 +19,7 @@ use failure::arguments_failure;
 use std::process::ExitCode;
 use std::{env, io};
 
-/// The words after the program's name.
+/// The arguments after the program's name.
 fn arguments(rt: &HostRuntime) -> io::Result<Vec<String>> {
     Ok(env::args(rt)?.skip(1).collect(rt.alloc())?)
 }

@@ -1,4 +1,4 @@
-//! The command that words are. They are counted, then tested from the left.
+//! The command that arguments are. They are counted, then tested from the left.
 
 ghost use Rattle.std.specs.Prelude.{◌≡◌, ◌≢◌, ◌⊎◌, ℕ, ℤ, List, [], ◌∷◌, codes, map, IfOk, IfErr, Ok};
 ghost use Rattle.std.specs.String.{string_bytes};
@@ -11,8 +11,8 @@ use hex::FromHexError;
 use krb_crypto_suite::{Cipher, CipherSuite};
 use std::alloc::Global;
 
-/// The command that the words are. `Words` where they are none, and `Crypto(AlgorithmIdentifier)` where they name an
-/// encryption type that the program does not know, whatever words follow.
+/// The command that the arguments are. `Arguments` where they are none, and `Crypto(AlgorithmIdentifier)` where they name an
+/// encryption type that the program does not know, whatever arguments follow.
 pub fn parse(alloc: Global, arguments: &[String]) -> Result<Command, Failure>
     ensures found { IfOk result (IsCommand (map string_bytes arguments.now)) }
     ensures rejected { IfErr result (RejectsArguments (map string_bytes arguments.now)) }
@@ -80,7 +80,7 @@ fn parse_seal(
     Ok(Command::Seal { key, confounder })
 }
 
-/// The words ETYPE KEYHEX USAGE.
+/// The arguments ETYPE KEYHEX USAGE.
 fn parse_key(alloc: Global, etype: &str, key: &str, usage: &str) -> Result<SealingKey, Failure>
     ensures found { IfOk result (λ k. AreKeyArguments etype.now key.now usage.now k.suite k.octets.items k.usage) }
     ensures rejected { IfErr result (RejectsKeyArguments etype.now key.now usage.now) }
@@ -109,7 +109,7 @@ fn suite_of(text: &str) -> Result<CipherSuite, Failure>
     }
 }
 
-/// USAGE: decimal digits, with a minus before or nothing, of a number that an `i32` holds.
+/// USAGE: decimal digits, with or without a minus, of a number that an `i32` holds.
 fn usage_of(text: &str) -> Result<i32, Failure>
     ensures found { IfOk result (IsUsage text.now) }
     ensures rejected { IfErr result (λ e. (e ≡ Failure.Arguments) × ((usage : ℤ) → ¬ IsUsage text.now usage)) }

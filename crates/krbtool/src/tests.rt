@@ -92,7 +92,7 @@ struct Row<'a> {
     errors: Vec<u8>,
 }
 
-/// The words of a line but its first.
+/// The arguments of a line but its first.
 fn arguments_of(alloc: Global, line: &str) -> Result<Vec<String>, AllocError> {
     let mut arguments = Vec::new(alloc);
     let mut rest = line.split_once(' ');
@@ -256,7 +256,7 @@ fn is_reported_over_devices(alloc: Global, row: &Row) -> bool {
     is_reported(alloc, row, 0, 0, false)
 }
 
-/// Whether the run of this input, of which one bit was flipped, is told by the row's line. `None` where it is neither rejected with a line
+/// Whether the run of this input, of which one bit was flipped, ends as the row's line says. `None` where it is neither rejected with a line
 /// nor written back.
 fn is_flip_reported(alloc: Global, row: &Row, flipped: &[u8]) -> Option<bool> {
     let mut input = Device::new(alloc, flipped, 4096, 0, false);
@@ -271,7 +271,7 @@ fn is_flip_reported(alloc: Global, row: &Row, flipped: &[u8]) -> Option<bool> {
     None
 }
 
-/// How many of the single bit flips of the input are told by the row's line.
+/// How many of the single bit flips of the input end as the row's line says.
 fn flips_reported(alloc: Global, row: &Row) -> Option<usize> {
     let mut flipped = Vec::from_slice(alloc, &row.input).ok()?;
     let mut told = 0usize;
@@ -291,7 +291,7 @@ fn flips_reported(alloc: Global, row: &Row) -> Option<usize> {
     Some(told)
 }
 
-/// Whether each proper prefix of the input is told as the row says.
+/// Whether each proper prefix of the input ends as the row says.
 fn are_prefixes_reported(alloc: Global, row: &mut Row) -> bool {
     for _ in 0..row.input.len() {
         row.input.pop();
@@ -316,7 +316,7 @@ fn is_line_reported(alloc: Global, line: &str) -> bool {
     }
 }
 
-/// A part, and the words that open and that seal it.
+/// A part, and the arguments that open and that seal it.
 #[derive(Drop)]
 struct SealedPart<'a> {
     opening: &'a str,
@@ -358,14 +358,14 @@ fn is_part_reported(alloc: Global, part: &SealedPart, step: usize) -> Result<boo
     )
 }
 
-/// Whether each single bit flip of a sealed part is told by the checksum.
+/// Whether each single bit flip of a sealed part is found by the checksum.
 fn are_flips_reported(alloc: Global, part: &SealedPart) -> Result<bool, AllocError> {
     let mut row = good_row(alloc, 4096, part.opening, &part.sealed, &[])?;
     row.errors.extend_from_slice(INTEGRITY)?;
     Ok(flips_reported(alloc, &row) == Some(part.sealed.len().saturating_mul(8)))
 }
 
-/// The first line that is not told, or nothing.
+/// The first line that does not end as it says, or nothing.
 fn error_of_lines(alloc: Global) -> &'static str {
     let mut rest = ROWS;
     for _ in 0..1000 {
@@ -380,7 +380,7 @@ fn error_of_lines(alloc: Global) -> &'static str {
     rest
 }
 
-/// Whether a part is told as its line says, in steps of few octets too where it is the first.
+/// Whether a part ends as its line says, in steps of few octets too where it is the first.
 fn is_part_line_reported(alloc: Global, line: &str, is_first: bool) -> bool {
     let Some(part) = part_of(alloc, line) else {
         return false;
@@ -395,7 +395,7 @@ fn is_part_line_reported(alloc: Global, line: &str, is_first: bool) -> bool {
         && matches!(are_flips_reported(alloc, &part), Ok(true))
 }
 
-/// The first line of a part that is not told, or nothing.
+/// The first line of a part that does not end as it says, or nothing.
 fn error_of_parts(alloc: Global) -> &'static str {
     let mut rest = SEALED_PARTS;
     for turn in 0..1000 {

@@ -56,7 +56,8 @@ pub fn decrypt_message(
 ) -> KerberosCryptoResult<Vec<u8>>
     ensures key { IfOk result (λ _. length key.now ≡ key_octets size.now) }
     ensures opened { IfOk result (λ payload. Opens 1 (IsGiven (IsSealedAes key.now key_usage) 16 cipher_data.now) payload.items) }
-    ensures rejected { length key.now ≡ key_octets size.now → IfErr result (λ e. IsMemoryOr e (HasNoPayload (IsSealedAes key.now key_usage) 16 cipher_data.now)) }
+    ensures rejected { length key.now ≡ key_octets size.now
+        → IfErr result (λ e. IsMemoryOr e (HasNoPayload (IsSealedAes key.now key_usage) 16 cipher_data.now)) }
     ensures exact { IfErr result (λ e. IsMemoryOr e (e ≡ aes_error (key_octets size.now) key.now cipher_data.now)) }
 {
     let decrypted = decrypt(alloc, key, key_usage, cipher_data, size)?;
@@ -97,7 +98,8 @@ pub fn decrypt_message_no_checksum(
     ensures opened { IfOk result (λ made. OpensUnchecked 1 16 12 (IsSealedAes key.now key_usage) cipher_data.now
         made.confounder.items made.plaintext.items made.checksum.items) }
     ensures ki { IfOk result (λ made. made.ki.items ≡ aes_ki key.now key_usage) }
-    ensures rejected { length key.now ≡ key_octets size.now → IfErr result (λ e. IsMemoryOr e (HasNoPayloadUnchecked 16 12 (IsSealedAes key.now key_usage) cipher_data.now)) }
+    ensures rejected { length key.now ≡ key_octets size.now
+        → IfErr result (λ e. IsMemoryOr e (HasNoPayloadUnchecked 16 12 (IsSealedAes key.now key_usage) cipher_data.now)) }
     ensures exact { IfErr result (λ e. IsMemoryOr e ((e ≡ aes_error (key_octets size.now) key.now cipher_data.now)
         × (e ≢ KerberosCryptoError.IntegrityCheck))) }
 {

@@ -54,7 +54,8 @@ pub fn decrypt_message(
 ) -> KerberosCryptoResult<Vec<u8>>
     ensures key { IfOk result (λ _. length key.now ≡ key_octets size.now) }
     ensures opened { IfOk result (λ payload. Opens 1 (IsGiven (IsSealedSha2 size.now key.now key_usage) 16 cipher_data.now) payload.items) }
-    ensures rejected { length key.now ≡ key_octets size.now → IfErr result (λ e. IsMemoryOr e (HasNoPayload (IsSealedSha2 size.now key.now key_usage) 16 cipher_data.now)) }
+    ensures rejected { length key.now ≡ key_octets size.now
+        → IfErr result (λ e. IsMemoryOr e (HasNoPayload (IsSealedSha2 size.now key.now key_usage) 16 cipher_data.now)) }
     ensures exact { IfErr result (λ e. IsMemoryOr e (e ≡ sha2_error size.now key.now cipher_data.now)) }
 {
     let keys = opening_keys(key, key_usage, cipher_data, size)?;
