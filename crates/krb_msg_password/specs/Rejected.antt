@@ -1,6 +1,6 @@
 -- Which octets are read as no frame, each by its first fault (RFC 3244, 2), and what a reader's and a writer's refusals say.
-use Rattle.std.specs.Prelude.{◌≡◌, ◌≢◌, ℕ, ◌<◌, ◌≤◌, ◌^◌, List, [], ◌∷◌, ◌++◌, length, Option, Some, None, ◌⊎◌}
-use Rattle.std.specs.Io.KnownBytes.{Appends, Consumes, Keeps}
+use Rattle.std.specs.Prelude.{◌≡◌, ℕ, ◌<◌, ◌≤◌, ◌^◌, List, [], ◌∷◌, ◌++◌, length, Option, Some, None, ◌⊎◌}
+use Rattle.std.specs.Io.KnownBytes.{Consumes, Keeps}
 use Rattle.std.specs.IoError.{error_kind}
 use Rattle.std.specs.declared.io.Error.{Error}
 use Rattle.std.specs.declared.io.ErrorKind.{ErrorKind}
@@ -10,6 +10,7 @@ use Rattle.krb_der_core.specs.declared.error.Asn1DerError.{Asn1DerError}
 use Rattle.krb_der_core.specs.declared.error.Asn1DerError.TheVariants as errors
 use Rattle.krb_der_core.specs.Errors.{PrefixError}
 use Rattle.krb_der_core.specs.Reading.{Encodings, RejectsPrefix}
+use Rattle.krb_io.specs.Transfer.{IsNotInterrupted, IsPrefixWritten}
 use Rattle.krb_msg_password.specs.declared.error.MessageError.{MessageError}
 use Rattle.krb_msg_password.specs.declared.error.MessageError.TheVariants as message_errors
 use Rattle.krb_msg_password.specs.declared.error.ReadFrameError.{ReadFrameError}
@@ -167,13 +168,9 @@ unwritten_kind unwritten.OutOfMemory = kinds.OutOfMemory
 abbrev pub IsUnwritten : List ℕ → WriteFrameError → Type 0
 IsUnwritten octets e = (e ≡ unwritten.OutOfMemory) ⊎ ((e ≡ unwritten.TooLong) × (2 ^ 16 ≤ length octets))
 
--- the writer took a proper front of the octets
-abbrev pub GivesPrefix : List ℕ → Option (List ℕ) → Option (List ℕ) → Type 0
-GivesPrefix octets before after = (prefix rest : List ℕ) × (octets ≡ prefix ++ rest) × (0 < length rest) × Appends before after prefix
-
 -- Why a frame of these octets was not written: memory ran out, or it is too long, and the writer is as before; or it fits, and
 -- the writer failed, which had taken a proper front of it.
 pub data WriterRejected {W : Type 0} (contents : W → Option (List ℕ)) (before after : W) (octets : List ℕ) (e : Error) : Type 0 where
   no_memory : error_kind e ≡ kinds.OutOfMemory → after ≡ before → WriterRejected contents before after octets e
   too_long : error_kind e ≡ kinds.InvalidInput → 2 ^ 16 ≤ length octets → after ≡ before → WriterRejected contents before after octets e
-  writer_failed : length octets < 2 ^ 16 → error_kind e ≢ kinds.Interrupted → GivesPrefix octets (contents before) (contents after) → WriterRejected contents before after octets e
+  writer_failed : length octets < 2 ^ 16 → IsNotInterrupted e → IsPrefixWritten octets (contents before) (contents after) → WriterRejected contents before after octets e

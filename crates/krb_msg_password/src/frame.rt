@@ -12,9 +12,9 @@ ghost use Rattle.krb_msg_password.specs.declared.rejection.Rejection.{Rejection}
 use crate::error::{ReadFrameError, WriteFrameError};
 use crate::prefix::prefix_messages;
 use crate::reading::take_messages;
-use crate::transfer::give_all;
 use crate::writing::frame_octets;
 use krb_der::{Asn1DerError, DerEncode, copy};
+use krb_io::write_all;
 use krb_msg::messages::ApMessage;
 use krb_msg_app::messages::KrbPriv;
 use std::alloc::Global;
@@ -82,7 +82,7 @@ impl KrbPrivMessage {
             (WriterRejected W.contents writer.old writer.new (frame_of ⟦<ApMessage as DerEncode>⟧ ⟦<KrbPriv as DerEncode>⟧ self.now)) }
     {
         let octets = frame_octets(alloc, &self.ap_message, &self.krb_priv)?;
-        give_all(writer, &octets)
+        write_all(writer, &octets)
     }
 
     /// An equal value. `OutOfMemory` alone is answered in its place.
