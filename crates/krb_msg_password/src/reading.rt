@@ -36,7 +36,7 @@ fn read_pair<R: Read>(reader: &mut R) -> Result<[u8; 2], Rejection>
     Ok([first, second])
 }
 
-/// Takes the six octets in front of the messages: a length, the version, and another length. The lengths are not looked at.
+/// Reads the six octets before the messages: a length, the version, and another length. The lengths are not looked at.
 fn read_header<R: Read>(reader: &mut R) -> Result<(), Rejection>
     ensures ok { OnOk result (HeaderTaken (R.remaining reader.old) (R.remaining reader.new)) }
     ensures err { IfErr result (HeaderRejected (R.remaining reader.old) (R.remaining reader.new)) }
@@ -50,7 +50,7 @@ fn read_header<R: Read>(reader: &mut R) -> Result<(), Rejection>
     Ok(())
 }
 
-/// Takes the frame that the reader's next octets are.
+/// The two messages of the frame that the reader's next octets are.
 fn read_messages<A: Der + Drop, B: Der, R: Read>(
     alloc: Global,
     reader: &mut R,
@@ -72,7 +72,8 @@ fn read_messages<A: Der + Drop, B: Der, R: Read>(
     Ok((first, second))
 }
 
-/// Takes the frame that the reader's next octets are. They are taken, and no octet behind them.
+/// The two messages of the frame that the reader's next octets are. Exactly these are read. A frame is an error only where the reader
+/// or an allocation fails.
 pub(crate) fn take_messages<A: Der + Drop, B: Der, R: Read>(
     alloc: Global,
     reader: &mut R,
