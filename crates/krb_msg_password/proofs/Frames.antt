@@ -1,4 +1,4 @@
--- Frames taken from a reader.
+-- Frames that were read.
 use Rattle.std.proofs.Common.{◌≡◌, ℕ, ◌+◌, ◌<◌, ◌≤◌, ◌^◌, List, [], ◌∷◌, ◌++◌, length, take, drop, get_or, Option, None, Some, refl, sym, ap, ◌∙◌, subst, append_assoc, arith, inl, inr}
 use Rattle.std.proofs.lemmas.List.{length-append}
 use Rattle.std.proofs.Math.Seq.{drop-append_seam, take-append_seam}
@@ -23,7 +23,7 @@ use Rattle.krb_msg_password.specs.declared.error.ReadFrameError.TheVariants as u
 use Rattle.krb_msg_password.specs.declared.rejection.Rejection.{Rejection}
 use Rattle.krb_msg_password.specs.declared.rejection.Rejection.TheVariants as rejections
 
--- ---- what was taken
+-- ---- what was read
 
 rejoined : (whole first p q t : List ℕ) → whole ++ (0 ∷ 1 ∷ (first ++ (p ++ (q ++ t)))) ≡ (whole ++ (0 ∷ 1 ∷ (first ++ (p ++ q)))) ++ t
 rejoined whole first p q t = sym (simp append_assoc)
@@ -48,7 +48,7 @@ prefixes a b x y same e = (
   sym (drop-append_seam a x) ∙ ap (λ (l : List ℕ). drop (length a) l) e ∙ ap (λ (n : ℕ). drop n (b ++ y)) same ∙ drop-append_seam b y,
 )
 
--- what follows the six octets in front is one list
+-- what follows the six octets before the messages is one list
 one_rest : (o r s : List ℕ) → TrailingHeader o r → TrailingHeader o s → r ≡ s
 one_rest o r s h k =
     let prefix = prefixes h.whole k.whole (0 ∷ 1 ∷ (h.first ++ r)) (0 ∷ 1 ∷ (k.first ++ s)) (h.whole_long ∙ sym k.whole_long) (sym h.parts ∙ k.parts) in
@@ -75,7 +75,7 @@ one_version o r h v =
     let prefix = prefixes v.2.whole h.whole (v.0 ++ v.1) (0 ∷ 1 ∷ (h.first ++ r)) (v.2.whole_long ∙ sym h.whole_long) (sym v.2.parts ∙ h.parts) in
     v.4 (prefixes v.0 (0 ∷ 1 ∷ []) v.1 (h.first ++ r) v.3 prefix.1).0
 
--- ---- the six octets in front of octets
+-- ---- the six octets before the messages, of a slice
 
 pub header_stands : (octets : List ℕ) → 6 ≤ length octets → get_or octets 2 0 ∷ get_or octets 3 0 ∷ [] ≡ 0 ∷ 1 ∷ [] → TrailingHeader octets (drop 6 octets)
 header_stands (a ∷ b ∷ c ∷ d ∷ e ∷ f ∷ rest) le v = record { whole = a ∷ b ∷ []; first = e ∷ f ∷ []; whole_long = refl; first_long = refl; parts = cc }
@@ -89,7 +89,7 @@ pub header_other : (octets : List ℕ) → 4 ≤ length octets → (get_or octet
 header_other (a ∷ b ∷ c ∷ d ∷ rest) le v = (c ∷ d ∷ [], rest, record { whole = a ∷ b ∷ []; whole_long = refl; parts = refl }, refl, v)
 header_other octets le v = absurd (omega (arith, le))
 
--- ---- refusals
+-- ---- errors
 
 error_is : (e d : MessageError) → der_error e ≡ der_error d → e ≡ d
 error_is message_errors.InvalidData message_errors.InvalidData p = refl
@@ -184,9 +184,9 @@ module _ {A B : Type 0} (a : EncodingOf A) (b : EncodingOf B) where
   second_untaken (Some o) (Some p) (Some q) after v errors.UnsupportedValue h i k r (inr f) = inr (v, (q, i, trailing_first o p q v h k, (f, r)))
   second_untaken (Some o) (Some p) (Some q) after v (errors.Io e) h i k r f = inr (p, h)
 
-  -- ---- one reading, and one fault
+  -- ---- one reading, and one error
 
-  -- where a frame stands at the front, there is no fault
+  -- where a frame is at the start, there is no error
   pub no_error : (o : List ℕ) (why : ReadFrameError) (v : A) (w : B) (rest : List ℕ) → a.is_value v → b.is_value w → length (a.enc v) < 2 ^ 64 → length (b.enc w) < 2 ^ 64
       → TrailingHeader o (a.enc v ++ (b.enc w ++ rest)) → FrameError a b o why → ⊥
   no_error o unread.Cut v w rest iv iw lv lw h r = never_cut o _ h r
@@ -258,7 +258,7 @@ module _ {A B : Type 0} (a : EncodingOf A) (b : EncodingOf B) where
       let long = frame_length x (a.enc v) (b.enc w) f in
       no_error (x ++ rest) e v w rest iv iw (omega (arith, long, lt)) (omega (arith, long, lt)) (trailing_frame (x ++ rest) x (a.enc v) (b.enc w) rest f refl) g
 
-  -- octets have one first fault
+  -- octets have one first error
   pub one_error : (o : List ℕ) (e d : ReadFrameError) → length o < 2 ^ 64 → FrameError a b o e → FrameError a b o d → e ≡ d
   one_error o unread.Cut unread.Cut lt f g = refl
   one_error o unread.Cut unread.Version lt f g = absurd (cut_version o f g)
@@ -283,7 +283,7 @@ module _ {A B : Type 0} (a : EncodingOf A) (b : EncodingOf B) where
   one_error o unread.OutOfMemory d lt f g = absurd f
   one_error o e unread.OutOfMemory lt f g = absurd g
 
--- ---- what was taken from a frame at the front
+-- ---- what was read of a frame at the start
 
 prefix_of : (x t o : List ℕ) (n : ℕ) → n ≡ length x → o ≡ x ++ t → TakesPrefix x n o
 prefix_of x t o n e q = record { count = e; prefix = q ∙ ap (λ (l : List ℕ). x ++ l) (sym (ap (drop n) q ∙ ap (λ (k : ℕ). drop k (x ++ t)) e ∙ drop-append_seam x t)) }
@@ -298,7 +298,7 @@ prefix_taken o trailing p q n m h k l =
     let size : 6 + n + m ≡ length x = omega (arith, k.count, l.count, length-append h.whole (0 ∷ 1 ∷ (h.first ++ (p ++ q))), length-append h.first (p ++ q), length-append p q, h.whole_long, h.first_long) in
     (x, record { whole = h.whole; first = h.first; whole_long = h.whole_long; first_long = h.first_long; parts = refl }, prefix_of x t o (6 + n + m) size whole)
 
--- ---- the six octets in front, from a reader
+-- ---- the six octets before the messages, from a reader
 
 pub second_short : (before mid after : Option (List ℕ)) (whole : List ℕ) (why : Rejection) → length whole ≡ 2 → Consumes before mid whole → IsShort mid after why → HeaderRejected before after why
 second_short None mid after whole why two k s = tt

@@ -15,8 +15,8 @@ pub record IsFramed (octets ap priv : List ℕ) : Type 0 where
   pub first_long : length first ≡ 2
   pub parts : octets ≡ whole ++ (0 ∷ 1 ∷ (first ++ (ap ++ priv)))
 
--- The frame with its lengths, the highest octet first. That of the frame counts its six octets in front of the messages too, and
--- the other those of the first message alone.
+-- The frame with its lengths, the highest octet first. The frame's length counts the six octets before the messages too, the other
+-- one the first message alone.
 abbrev pub frame : List ℕ → List ℕ → List ℕ
 frame ap priv = to_be_bytes w16 (6 + (length ap + length priv)) ++ (0 ∷ 1 ∷ (to_be_bytes w16 (length ap) ++ (ap ++ priv)))
 

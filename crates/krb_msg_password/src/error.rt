@@ -12,10 +12,10 @@ use std::io;
 use std::io::ErrorKind;
 use thiserror::Error;
 
-/// Why octets are no encoding of a message: the first fault, from the left, as `Asn1DerError` tells it.
+/// Why octets are no encoding of a message: the first error, from the left, as `Asn1DerError` reports it.
 #[derive(Debug, Clone, Copy, PartialEq, Eq, Error)]
 pub enum MessageError {
-    /// A wrong tag, a needless length or integer octet, a bad leaf, or octets left over.
+    /// A wrong tag, a needless length or integer octet, a malformed primitive type, or octets left over.
     #[error("the octets are no encoding of the message")]
     InvalidData,
     /// Tag, length or content octets are missing, or a mandatory field is.
@@ -26,33 +26,33 @@ pub enum MessageError {
     UnsupportedValue,
 }
 
-/// Why octets begin with no frame (RFC 3244, 2): the first fault, from the left, or want of memory. No device has a part in it.
+/// Why octets begin with no frame (RFC 3244, 2): the first error, from the left, or an allocation failure. It is never an I/O error.
 #[derive(Debug, Clone, Copy, PartialEq, Eq, Error)]
 pub enum ReadFrameError {
-    /// The octets end in the six in front of the messages, before another version was met.
+    /// The octets end in the six before the messages, and hold no other version.
     #[error("the frame ends in front of its messages")]
     Cut,
     /// The version is another than 1.
     #[error("the version of the frame is another")]
     Version,
-    /// What stands behind the six octets is no AP message.
+    /// What follows the six octets is no AP message.
     #[error("the AP message: {0}")]
     ApMessage(MessageError),
-    /// What stands behind the AP message is no KRB-PRIV.
+    /// What follows the AP message is no KRB-PRIV.
     #[error("the KRB-PRIV: {0}")]
     KrbPriv(MessageError),
-    /// A growth of memory was refused.
+    /// An allocation failed.
     #[error("out of memory")]
     OutOfMemory,
 }
 
-/// Why a frame was not written. No device has a part in it.
+/// Why a frame was not written. It is never an I/O error.
 #[derive(Debug, Clone, Copy, PartialEq, Eq, Error)]
 pub enum WriteFrameError {
     /// The frame has more than 65535 octets.
     #[error("the frame is too long")]
     TooLong,
-    /// A growth of memory was refused.
+    /// An allocation failed.
     #[error("out of memory")]
     OutOfMemory,
 }
@@ -73,7 +73,7 @@ impl<T: Drop> From<AllocFailed<T>> for WriteFrameError {
     }
 }
 
-/// `UnexpectedEof` where the six octets in front are cut short, `OutOfMemory` for want of memory, and else `InvalidData`.
+/// `UnexpectedEof` where the first six octets are cut short, `OutOfMemory` where an allocation failed, and else `InvalidData`.
 impl From<ReadFrameError> for io::Error {
     ghost from_gives = { λ why e. error_kind e ≡ frame_kind why };
 
@@ -87,7 +87,7 @@ impl From<ReadFrameError> for io::Error {
     }
 }
 
-/// `InvalidInput` for a frame that is too long, and `OutOfMemory` for want of memory.
+/// `InvalidInput` for a frame that is too long, and `OutOfMemory` where an allocation failed.
 impl From<WriteFrameError> for io::Error {
     ghost from_gives = { λ why e. error_kind e ≡ unwritten_kind why };
 
@@ -99,7 +99,7 @@ impl From<WriteFrameError> for io::Error {
     }
 }
 
-/// The refusal of an AP message, of octets that no device gave.
+/// The error of an AP message, for an error of reading a slice.
 pub(crate) fn ap_message_error(error: Asn1DerError) -> ReadFrameError
     requires { NoDevice error }
     ensures { result ≡ reported_in ReadFrameError.ApMessage error }
@@ -113,7 +113,7 @@ pub(crate) fn ap_message_error(error: Asn1DerError) -> ReadFrameError
     }
 }
 
-/// The refusal of a KRB-PRIV, of octets that no device gave.
+/// The error of a KRB-PRIV, for an error of reading a slice.
 pub(crate) fn krb_priv_error(error: Asn1DerError) -> ReadFrameError
     requires { NoDevice error }
     ensures { result ≡ reported_in ReadFrameError.KrbPriv error }

@@ -1,4 +1,4 @@
-//! The frame of a request to change a password, and of its answer.
+//! The frame of a request to change a password, and of the reply.
 
 ghost use Rattle.std.specs.Prelude.{◌≡◌, ◌++◌, ◌<◌, ◌≤◌, ◌^◌, ◌⊎◌, List, ℕ, length, Some, Err, IfOk, IfErr, OnOk, OnErr, MatchResult};
 ghost use Rattle.std.specs.Io.KnownBytes.{Appends, Consumes};
@@ -12,16 +12,16 @@ ghost use Rattle.krb_msg_password.specs.declared.rejection.Rejection.{Rejection}
 use crate::error::{ReadFrameError, WriteFrameError};
 use crate::prefix::prefix_messages;
 use crate::reading::take_messages;
-use crate::transfer::give_all;
 use crate::writing::frame_octets;
 use krb_der::{Asn1DerError, DerEncode, copy};
+use krb_io::write_all;
 use krb_msg::messages::ApMessage;
 use krb_msg_app::messages::KrbPriv;
 use std::alloc::Global;
 use std::io;
 use std::io::{ErrorKind, Read, Write};
 
-/// The frame of a request to change a password, and of its answer (RFC 3244, 2).
+/// The frame of a request to change a password, and of the reply (RFC 3244, 2).
 ///
 /// ```text
 /// message length:    2 octets, of the whole frame
@@ -34,21 +34,22 @@ use std::io::{ErrorKind, Read, Write};
 /// The numbers have their highest octet first. A frame has at most 65535 octets.
 #[derive(Debug, Drop, PartialEq, Eq)]
 pub struct KrbPrivMessage {
-    /// What shows who asks, or that the server is the one that was asked.
+    /// In a request, this authenticates the client; in a reply, the server.
     pub ap_message: ApMessage,
-    /// What is asked, or answered: its encrypted part holds a `ChangePasswdData` or a result.
+    /// The request or the reply: its encrypted part holds a `ChangePasswdData` or a result.
     pub krb_priv: KrbPriv,
 }
 
 impl KrbPrivMessage {
-    /// The frame that the reader's next octets are. Exactly these are taken: what stands behind the KRB-PRIV is left unread.
+    /// The frame that the reader's next octets are. Exactly these are read: octets after the KRB-PRIV stay unread.
     ///
-    /// Both lengths are read, and compared with nothing. The fields are read and checked in order. Octets that end in the six in
-    /// front of the messages are `UnexpectedEof`, unless the version was refused before. Another version is `InvalidData`, and so
-    /// are a message that is no encoding and one that is cut short: the fault is the first, from the left, as `read_frame` tells it.
-    /// A fault of the reader is passed on: what it gave before is cut short in these six octets, or they stand there. A read that a
-    /// signal interrupts is tried again. Want of memory, behind these six octets alone, is `OutOfMemory`. After a refusal some octets
-    /// may have been taken, and the reader is to be given up. `read_frame` reads a slice, with no device.
+    /// Both lengths are read, and compared with nothing. The fields are read and checked in order. Octets that end in the six
+    /// before the messages are `UnexpectedEof`, unless they hold another version. Another version is `InvalidData`, and so are a
+    /// message that is no encoding and one that is cut short: the error is the first, from the left, as `read_frame` reports it.
+    /// An I/O error of the reader is returned as it is: the reader had then given octets that are cut short in these six, or all
+    /// six of them. A read that a signal interrupts is tried again. An allocation failure, which comes only after these six octets,
+    /// is `OutOfMemory`. After an error some octets may have been read, and the reader is of no further use. `read_frame` reads a
+    /// slice.
     pub fn deserialize<R: Read>(alloc: Global, reader: &mut R) -> io::Result<Self>
         ensures valid { IfOk result (HoldsValues ⟦<ApMessage as DerEncode>⟧ ⟦<KrbPriv as DerEncode>⟧) }
         ensures found { IfOk result (λ m. (octets : List ℕ) × IsFrameOf ⟦<ApMessage as DerEncode>⟧ ⟦<KrbPriv as DerEncode>⟧ m octets
@@ -68,10 +69,10 @@ impl KrbPrivMessage {
 
     /// Writes the frame.
     ///
-    /// A frame of more than 65535 octets is `InvalidInput`, and nothing was written. The frame is made first: where its growth is
-    /// refused, which is `OutOfMemory`, nothing was written. Every other refusal is a fault of the writer, or `WriteZero` where it
-    /// takes none: it has taken a front of the frame then, and not all of it. A write that a signal interrupts is tried again.
-    /// `write_frame` appends to a vector, with no device.
+    /// A frame of more than 65535 octets is `InvalidInput`, and nothing was written. The frame is made first: where that allocation
+    /// fails, the error is `OutOfMemory`, and nothing was written. Every other error is an I/O error of the writer, or `WriteZero`
+    /// where it takes no octets: it has then taken a prefix of the frame, and not all of it. A write that a signal interrupts is
+    /// tried again. `write_frame` appends to a vector.
     pub fn serialize<W: Write>(&self, alloc: Global, writer: &mut W) -> io::Result<()>
         ensures octets { OnOk result
             (Appends (W.contents writer.old) (W.contents writer.new) (frame_of ⟦<ApMessage as DerEncode>⟧ ⟦<KrbPriv as DerEncode>⟧ self.now)) }
@@ -82,10 +83,10 @@ impl KrbPrivMessage {
             (WriterRejected W.contents writer.old writer.new (frame_of ⟦<ApMessage as DerEncode>⟧ ⟦<KrbPriv as DerEncode>⟧ self.now)) }
     {
         let octets = frame_octets(alloc, &self.ap_message, &self.krb_priv)?;
-        give_all(writer, &octets)
+        write_all(writer, &octets)
     }
 
-    /// An equal value. `OutOfMemory` alone is answered in its place.
+    /// An equal value. The only error is `OutOfMemory`.
     pub fn clone(&self, alloc: Global) -> Result<Self, Asn1DerError>
         ensures { Answers result self.now }
     {
@@ -96,11 +97,11 @@ impl KrbPrivMessage {
     }
 }
 
-/// The frame at the front of the octets, and how many octets it has. What stands behind it is not looked at.
+/// The frame at the start of the octets, and how many octets it has. Trailing octets are not looked at.
 ///
-/// Both lengths are read, and compared with nothing. On other octets the refusal is the first fault, from the left: the six octets in
-/// front are cut short, unless the version is another, which is told before the second length is missed; then that of the AP
-/// message, then that of the KRB-PRIV. `OutOfMemory` may come in place of any answer behind these six octets.
+/// Both lengths are read, and compared with nothing. On other octets the error is the first, from the left: `Cut` where the six
+/// octets before the messages are cut short, but `Version` where the version is another, even if the second length is missing; then
+/// the error of the AP message, then that of the KRB-PRIV. `OutOfMemory` may come in place of any result after these six octets.
 pub fn read_frame(alloc: Global, octets: &[u8]) -> Result<(KrbPrivMessage, usize), ReadFrameError>
     ensures valid { IfOk result (λ p. HoldsValues ⟦<ApMessage as DerEncode>⟧ ⟦<KrbPriv as DerEncode>⟧ p.0) }
     ensures found { IfOk result (λ p. (x : List ℕ) × IsFrameOf ⟦<ApMessage as DerEncode>⟧ ⟦<KrbPriv as DerEncode>⟧ p.0 x × TakesPrefix x p.1 octets.now) }
@@ -117,9 +118,9 @@ pub fn read_frame(alloc: Global, octets: &[u8]) -> Result<(KrbPrivMessage, usize
     Ok((message, taken))
 }
 
-/// Appends the frame to `out`, which is as before after a refusal.
+/// Appends the frame to `out`, which is as before after an error.
 ///
-/// `TooLong` exactly where the frame has more than 65535 octets; else `OutOfMemory` alone is answered in its place.
+/// A frame of more than 65535 octets is `TooLong`, unless an allocation fails before; every other error is `OutOfMemory`.
 pub fn write_frame(
     alloc: Global,
     message: &KrbPrivMessage,

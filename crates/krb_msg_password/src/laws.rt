@@ -1,4 +1,4 @@
-//! Laws over the definitions, of functions that do nothing.
+//! Lemmas about the definitions.
 
 ghost use Rattle.std.specs.Prelude.{◌≡◌, ◌++◌, ◌<◌, ◌^◌, List, ℕ, length};
 ghost use Rattle.krb_der.specs.Equality.{DecidesEqual};
@@ -13,13 +13,13 @@ use krb_msg::messages::ApMessage;
 use krb_msg_app::laws::equality as application_equality;
 use krb_msg_app::messages::KrbPriv;
 
-/// A frame that is written is read as the messages that it was made of.
+/// A frame with its lengths is a frame of the messages that it is made of.
 pub fn written_frames()
     ensures { (ap priv : List ℕ) → IsFramed (frame ap priv) ap priv }
 {}
 
-/// Octets have one first fault as a frame at most, and none where they begin with a frame. Octets have fewer than 2^64 octets, as
-/// those of any slice.
+/// Octets have at most one first error as a frame, and none where they begin with a frame. There are fewer than 2^64 octets, as in
+/// any slice.
 pub fn first_error()
     ensures one { (octets : List ℕ) (e d : ReadFrameError) → length octets < 2 ^ 64
         → FrameError ⟦<ApMessage as DerEncode>⟧ ⟦<KrbPriv as DerEncode>⟧ octets e
@@ -39,7 +39,7 @@ fn errors_of_frames<A: DerEncode, B: DerEncode>()
         → IsFramed x (A.enc a) (B.enc b) → FrameError ⟦<A as DerEncode>⟧ ⟦<B as DerEncode>⟧ (x ++ rest) e → ⊥ }
 {}
 
-/// `==` on frames: it answers true for equal values and for no others.
+/// `==` on frames is true exactly of equal values.
 pub fn equality()
     ensures { DecidesEqual ⟦<KrbPrivMessage as PartialEq>⟧.eq }
 {

@@ -7,7 +7,6 @@ pub mod laws;
 mod prefix;
 mod reading;
 mod rejection;
-mod transfer;
 mod writing;
 
 pub use error::{MessageError, ReadFrameError, WriteFrameError};

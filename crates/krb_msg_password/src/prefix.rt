@@ -1,4 +1,4 @@
-//! Frames of two messages, at the front of octets.
+//! Frames of two messages, at the start of octets.
 
 ghost use Rattle.std.specs.Prelude.{◌≡◌, ◌++◌, ◌+◌, List, ℕ, length, IfOk, IfErr, MatchResult};
 ghost use Rattle.krb_der_core.specs.Reading.{TakesPrefix};
@@ -10,13 +10,13 @@ use krb_constants::krb_priv::KRB_PRIV_VERSION;
 use krb_der::{Der, DerEncode};
 use std::alloc::Global;
 
-/// How many octets stand in front of the messages: a length, the version, and another length.
+/// How many octets come before the messages: a length, the version, and another length.
 pub(crate) const HEADER_LENGTH: usize = 6;
 
 /// How many octets end with the version.
 const VERSION_END: usize = 4;
 
-/// What follows the six octets in front of the messages. The lengths are not looked at.
+/// What follows the six octets before the messages. The lengths are not looked at.
 fn trailing_header(octets: &[u8]) -> Result<&[u8], ReadFrameError>
     ensures ok { IfOk result (λ rest. TrailingHeader octets.now rest.now) }
     ensures err { IfErr result (HeaderError octets.now) }
@@ -33,7 +33,7 @@ fn trailing_header(octets: &[u8]) -> Result<&[u8], ReadFrameError>
     Ok(&octets[HEADER_LENGTH..])
 }
 
-/// The two messages of the frame at the front of the octets, and how many octets it has.
+/// The two messages of the frame at the start of the octets, and how many octets the frame has.
 fn messages<A: Der + Drop, B: Der>(
     alloc: Global,
     octets: &[u8],
@@ -54,7 +54,7 @@ fn messages<A: Der + Drop, B: Der>(
     Ok(((first, second), HEADER_LENGTH + n + m))
 }
 
-/// The two messages of the frame at the front of the octets, and how many octets it has.
+/// The two messages of the frame at the start of the octets, and how many octets the frame has.
 pub(crate) fn prefix_messages<A: Der + Drop, B: Der>(
     alloc: Global,
     octets: &[u8],

@@ -9,9 +9,9 @@ use crate::error::ReadFrameError;
 use crate::rejection::{Rejection, ap_message_rejection, krb_priv_rejection};
 use krb_constants::krb_priv::KRB_PRIV_VERSION;
 use krb_der::{Der, DerEncode, from_reader};
+use krb_io::read_once;
 use std::alloc::Global;
-use std::io;
-use std::io::{ErrorKind, Read};
+use std::io::Read;
 
 /// The reader's next octet. A read that a signal interrupts is tried again.
 fn read_octet<R: Read>(reader: &mut R) -> Result<u8, Rejection>
@@ -19,18 +19,11 @@ fn read_octet<R: Read>(reader: &mut R) -> Result<u8, Rejection>
     ensures err { IfErr result (EndsOrFails (R.remaining reader.old) (R.remaining reader.new)) }
 {
     let mut octet = [0; 1];
-    for _ in 0..u64::MAX {
-        match reader.read(&mut octet) {
-            Ok(0) => return Err(Rejection::Frame(ReadFrameError::Cut)),
-            Ok(_) => return Ok(octet[0]),
-            Err(error) => {
-                if error.kind() != ErrorKind::Interrupted {
-                    return Err(Rejection::Device(error));
-                }
-            }
-        }
+    match read_once(reader, &mut octet) {
+        Ok(0) => Err(Rejection::Frame(ReadFrameError::Cut)),
+        Ok(_) => Ok(octet[0]),
+        Err(error) => Err(Rejection::Device(error)),
     }
-    Err(Rejection::Device(io::Error::from(ErrorKind::TimedOut)))
 }
 
 /// The reader's next two octets.
@@ -43,7 +36,7 @@ fn read_pair<R: Read>(reader: &mut R) -> Result<[u8; 2], Rejection>
     Ok([first, second])
 }
 
-/// Takes the six octets in front of the messages: a length, the version, and another length. The lengths are not looked at.
+/// Reads the six octets before the messages: a length, the version, and another length. The lengths are not looked at.
 fn read_header<R: Read>(reader: &mut R) -> Result<(), Rejection>
     ensures ok { OnOk result (HeaderTaken (R.remaining reader.old) (R.remaining reader.new)) }
     ensures err { IfErr result (HeaderRejected (R.remaining reader.old) (R.remaining reader.new)) }
@@ -57,7 +50,7 @@ fn read_header<R: Read>(reader: &mut R) -> Result<(), Rejection>
     Ok(())
 }
 
-/// Takes the frame that the reader's next octets are.
+/// The two messages of the frame that the reader's next octets are.
 fn read_messages<A: Der + Drop, B: Der, R: Read>(
     alloc: Global,
     reader: &mut R,
@@ -79,7 +72,8 @@ fn read_messages<A: Der + Drop, B: Der, R: Read>(
     Ok((first, second))
 }
 
-/// The two messages of the frame that the reader's next octets are. They are taken, and no octet behind them.
+/// The two messages of the frame that the reader's next octets are. Exactly these are read. A frame is an error only where the reader
+/// or an allocation fails.
 pub(crate) fn take_messages<A: Der + Drop, B: Der, R: Read>(
     alloc: Global,
     reader: &mut R,

@@ -10,13 +10,13 @@ use std::io;
 /// Why no frame was read from a reader.
 #[derive(Drop)]
 pub(crate) enum Rejection {
-    /// The octets that the reader has left begin with no frame, or memory ran out.
+    /// The octets that the reader has left begin with no frame, or an allocation failed.
     Frame(ReadFrameError),
     /// The reader failed.
     Device(io::Error),
 }
 
-/// The reader's own fault where it failed, and else the error of the frame's refusal.
+/// The reader's own error where it failed, and else that of the frame.
 impl From<Rejection> for io::Error {
     ghost from_gives = { IsAnswered };
 
@@ -28,7 +28,7 @@ impl From<Rejection> for io::Error {
     }
 }
 
-/// The refusal of an AP message that a reader gave.
+/// The error of an AP message, for an error of reading from a reader.
 pub(crate) fn ap_message_rejection(error: Asn1DerError) -> Rejection
     ensures { result ≡ reader_reported_in ReadFrameError.ApMessage error }
 {
@@ -38,7 +38,7 @@ pub(crate) fn ap_message_rejection(error: Asn1DerError) -> Rejection
     }
 }
 
-/// The refusal of a KRB-PRIV that a reader gave.
+/// The error of a KRB-PRIV, for an error of reading from a reader.
 pub(crate) fn krb_priv_rejection(error: Asn1DerError) -> Rejection
     ensures { result ≡ reader_reported_in ReadFrameError.KrbPriv error }
 {

@@ -22,7 +22,7 @@ fn two_octets(n: usize) -> Result<u16, WriteFrameError>
     }
 }
 
-/// What stands in front of the messages: the length of the frame, the version, and the length of the first message.
+/// The octets before the messages: the length of the frame, the version, and the length of the first message.
 fn header(whole: u16, first: u16) -> [u8; HEADER_LENGTH]
     ensures { result ≡ to_be_bytes w16 whole ++ (0 ∷ 1 ∷ to_be_bytes w16 first) }
 {
@@ -39,7 +39,7 @@ fn header(whole: u16, first: u16) -> [u8; HEADER_LENGTH]
     ]
 }
 
-/// Puts the header in place of the first six octets.
+/// Replaces the first six octets by the header.
 fn put_header(octets: &mut [u8], whole: u16, first: u16)
     requires { 6 ≤ length octets.old }
     ensures { octets.new ≡ (to_be_bytes w16 whole ++ (0 ∷ 1 ∷ to_be_bytes w16 first)) ++ drop 6 octets.old }
@@ -49,7 +49,7 @@ fn put_header(octets: &mut [u8], whole: u16, first: u16)
 
 /// The frame of two messages.
 ///
-/// `TooLong` exactly where it has more than 65535 octets; else `OutOfMemory` alone is answered in its place.
+/// A frame of more than 65535 octets is `TooLong`, unless an allocation fails before; every other error is `OutOfMemory`.
 pub(crate) fn frame_octets<A: DerEncode, B: DerEncode>(
     alloc: Global,
     first: &A,

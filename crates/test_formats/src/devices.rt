@@ -4,17 +4,17 @@ use std::alloc::Global;
 use std::io;
 use std::io::{ErrorKind, Read, Write};
 
-/// Which calls of a device fail.
+/// Which calls of a reader or a writer fail.
 #[derive(Clone, Copy, PartialEq, Eq)]
 pub enum Failure {
     None,
-    /// The one before which so many stand.
+    /// The call after so many others.
     At(usize),
-    /// Each second one, from the first on, is interrupted by a signal.
+    /// Every second call, from the first on: a signal interrupts it.
     Interrupted,
 }
 
-/// The fault of the call before which so many stand.
+/// The error, if any, of the call after `before` others.
 fn error_at(error: Failure, before: usize) -> io::Result<()> {
     match error {
         Failure::At(turn) if turn == before => Err(io::Error::from(ErrorKind::BrokenPipe)),
@@ -23,7 +23,7 @@ fn error_at(error: Failure, before: usize) -> io::Result<()> {
     }
 }
 
-/// A reader.
+/// A reader of few octets at a time.
 #[derive(Drop)]
 pub struct Source<'a> {
     pub left: &'a [u8],

@@ -19,7 +19,7 @@ use passwords::try_password;
 use results::try_result;
 use tokens::try_token;
 
-/// What is found of the octets of a token, by the name of their format. `None` where none has it.
+/// The findings of a token's octets, by the name of their format. `None` where no format has the name.
 fn try_gss_api(row: &Row<'_>) -> Attempt {
     if let Some(found) = try_token(row) {
         return Some(found);
@@ -27,7 +27,7 @@ fn try_gss_api(row: &Row<'_>) -> Attempt {
     try_frame(row)
 }
 
-/// What is found of the octets of a PAC or of NEGOEX, by the name of their format. `None` where none has it.
+/// The findings of the octets of a PAC or of NEGOEX, by the name of their format. `None` where no format has the name.
 fn try_windows(row: &Row<'_>) -> Attempt {
     if let Some(found) = try_pac(row) {
         return Some(found);
@@ -38,7 +38,7 @@ fn try_windows(row: &Row<'_>) -> Attempt {
     try_data(row)
 }
 
-/// What is found of the octets, by the name of their format. `None` where none has it.
+/// The findings of the octets, by the name of their format. `None` where no format has the name.
 pub fn try_format(row: &Row<'_>) -> Attempt {
     if let Some(found) = try_result(row) {
         return Some(found);

@@ -1,11 +1,12 @@
 //! The program `test_formats`: reads and writes formats that have calls of their own: tokens of the GSS-API, frames that change
 //! passwords, records of a caller's integrity, headers of IAKERB, messages for proxies, PACs and the messages of NEGOEX.
 //!
-//! Its standard input is a table. A row is a line of an origin, a format or a call and octets in hexadecimal digits, with tabs
-//! between; a line that begins with `#` is none. Behind `=` stands what is written, where it is not these octets, or the refusal
-//! to write it. A row with the name of a refusal in the origin's place is to be refused so; of a row of the origin `shown` the
-//! value is printed. For each row the program prints a line that says what holds of its octets: how the value is read, cloned,
-//! written and streamed, and how each front of the octets is read. The status is 0 where all that should hold does, of every row.
+//! Its standard input is a table of test vectors. A test vector is a line of an origin, a format or a call, and octets in
+//! hexadecimal digits, with tabs between; a line that begins with `#` is a comment. After `=` come the octets that writing the
+//! value gives, where they are others, or the name of the error of writing it. Where the name of an error is in the origin's
+//! place, reading the octets returns this error; of a test vector of the origin `shown` the program prints the value. For each
+//! test vector the program prints a line that says what holds of its octets: how it reads, clones, writes and streams the value,
+//! and how it reads each prefix of the octets. The status is 0 where every test vector has what it should.
 #![tactic(auto)]
 
 mod devices;

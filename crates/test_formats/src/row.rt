@@ -1,4 +1,4 @@
-//! A row, and what is found of it.
+//! A test vector, and its findings.
 
 use krb_der::Asn1DerError;
 use krb_gss_tokens::GssApiMessageError;
@@ -8,20 +8,20 @@ use std::alloc::{AllocError, AllocFailed, Global};
 use std::io;
 use std::io::ErrorKind;
 
-/// How much is tried of a row's octets.
+/// How much a run tries of a test vector's octets.
 #[derive(Clone, Copy, PartialEq, Eq)]
 pub enum Trial {
-    /// All.
+    /// Everything.
     Whole,
-    /// They are read, and the value is printed.
+    /// One reading; the program prints the value.
     Shown,
-    /// They are read, copied and written: there are many of them.
+    /// Readings, copies and writings alone: there are many octets.
     Large,
-    /// They are read, copied and written, each once: requests for memory are refused.
+    /// One reading, one copy and one writing: the run makes allocations fail.
     Once,
 }
 
-/// Octets, the format that they are read as, and what is tried of them.
+/// Octets, their format, and what a run tries of them.
 #[derive(Drop)]
 pub struct Row<'a> {
     pub alloc: Global,
@@ -29,13 +29,13 @@ pub struct Row<'a> {
     /// A format, or a call.
     pub name: &'a str,
     pub octets: &'a [u8],
-    /// What is to be written of the value.
+    /// The octets that writing the value should give.
     pub written: &'a [u8],
-    /// The name of the refusal to write the value, or nothing.
+    /// The name of the error of writing the value, or nothing.
     pub unwritten: &'a str,
 }
 
-/// What is told of octets that were read, and whether all that was tried held.
+/// What the program reports of octets that it read, and whether all that it tried held.
 #[derive(Drop)]
 pub struct Findings {
     pub text: String,
@@ -43,7 +43,7 @@ pub struct Findings {
 }
 
 impl Findings {
-    /// Nothing was tried.
+    /// The run tried nothing.
     pub fn new(alloc: Global) -> Findings {
         Findings {
             text: String::new(alloc),
@@ -51,7 +51,7 @@ impl Findings {
         }
     }
 
-    /// Appends the word of what was tried, with `not` before it where it did not hold.
+    /// Appends the word of what the run tried, with `not` before it where it did not hold.
     pub fn decide(&mut self, word: &str, held: bool) -> Result<(), AllocError> {
         self.text.push_str(if held { ", " } else { ", not " })?;
         self.text.push_str(word)?;
@@ -60,7 +60,7 @@ impl Findings {
     }
 }
 
-/// Why octets were not read, or a value not written.
+/// Why octets were not read, or a value was not written.
 #[derive(Debug, Drop)]
 pub enum Rejection {
     Der(Asn1DerError),
@@ -69,14 +69,14 @@ pub enum Rejection {
     ReadFrame(ReadFrameError),
     WriteFrame(WriteFrameError),
     Device(io::Error),
-    /// A vector that was written to did not stay as it was.
+    /// A vector did not stay as it was where writing to it was an error.
     Lost,
-    /// A reader of few octets at a time is refused otherwise.
+    /// A reader of few octets at a time gives another error.
     Otherwise,
     OutOfMemory,
 }
 
-/// What is found of a row, or how its octets are refused. `None` where no format has the row's name.
+/// The findings of a test vector, or the error of reading its octets. `None` where no format has the test vector's name.
 pub type Attempt = Option<Result<Findings, Rejection>>;
 
 impl From<Asn1DerError> for Rejection {
@@ -150,7 +150,7 @@ impl<T: Drop> From<AllocFailed<T>> for Rejection {
 }
 
 impl Rejection {
-    /// The name of the refusal, and of a fault that of its kind.
+    /// The name of the error, and of an I/O error that of its kind.
     pub fn name(&self) -> &'static str {
         match self {
             Rejection::Der(error) => der_name(error),
@@ -167,7 +167,7 @@ impl Rejection {
 }
 
 impl Rejection {
-    /// The refusal, with what it tells of the octets.
+    /// The error, with what it reports of the octets.
     pub fn reported(&self, alloc: Global) -> Result<String, AllocError> {
         match self {
             Rejection::Token(error) => format!(in alloc; "{error:?}"),
@@ -231,7 +231,7 @@ fn kind_name(kind: ErrorKind) -> &'static str {
     }
 }
 
-/// The name of the refusal, or `read`.
+/// The name of the error, or `read`.
 pub fn name_of<T>(outcome: &Result<T, Rejection>) -> &'static str {
     match outcome {
         Ok(_) => "read",

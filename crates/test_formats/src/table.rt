@@ -1,25 +1,25 @@
-//! The rows of the table, and what is told of each.
+//! The test vectors of the table, and what the program reports of each.
 
 use crate::formats::try_format;
 use crate::row::{Attempt, Rejection, Row, Trial};
 use hex::FromHexError;
 use std::alloc::{AllocError, Global};
 
-/// What is told of a row, and whether all that was tried held.
+/// What the program reports of a test vector, and whether all that it tried held.
 #[derive(Drop)]
 pub struct Report {
     pub text: String,
     pub held: bool,
 }
 
-/// The origin, the name and the digits of a row.
+/// The origin, the name and the digits of a test vector.
 fn columns(line: &str) -> Option<(&str, &str, &str)> {
     let (origin, rest) = line.split_once('\t')?;
     let (name, digits) = rest.split_once('\t')?;
     Some((origin, name, digits))
 }
 
-/// Whether a row of this origin is to be refused: it has the name of the refusal in the origin's place.
+/// Whether reading a test vector of this origin should be an error: the name of the error is in the origin's place.
 fn is_rejected(origin: &str) -> bool {
     matches!(
         origin,
@@ -27,7 +27,7 @@ fn is_rejected(origin: &str) -> bool {
     )
 }
 
-/// What is tried of a row of this origin.
+/// What a run tries of a test vector of this origin.
 fn trial_of(origin: &str) -> Trial {
     match origin {
         "shown" | "large, shown" => Trial::Shown,
@@ -37,7 +37,7 @@ fn trial_of(origin: &str) -> Trial {
     }
 }
 
-/// Octets in hexadecimal digits, with blanks between parts. A part is digits, or digits, `*` and how many times they stand there.
+/// The octets of hexadecimal digits, with blanks between parts. A part is digits, or digits, `*` and how many times they repeat.
 fn octets_of(alloc: Global, digits: &str) -> Result<Option<Vec<u8>>, AllocError> {
     let mut octets = Vec::new(alloc);
     for part in digits.split(' ') {
@@ -52,7 +52,7 @@ fn octets_of(alloc: Global, digits: &str) -> Result<Option<Vec<u8>>, AllocError>
     Ok(Some(octets))
 }
 
-/// Octets in hexadecimal digits.
+/// The octets of hexadecimal digits.
 fn decoded(alloc: Global, digits: &str) -> Result<Option<Vec<u8>>, AllocError> {
     match hex::decode(alloc, digits) {
         Ok(octets) => Ok(Some(octets)),
@@ -61,7 +61,7 @@ fn decoded(alloc: Global, digits: &str) -> Result<Option<Vec<u8>>, AllocError> {
     }
 }
 
-/// Appends what is found of the row. Answers whether that is as it should be.
+/// Appends the findings of the test vector. Returns whether they are as they should be.
 fn push_outcome(
     alloc: Global,
     text: &mut String,
@@ -87,7 +87,7 @@ fn push_outcome(
     }
 }
 
-/// What is told of the row that a line is. Want of memory is answered as itself, in each of its calls.
+/// What the program reports of the test vector in a line. An allocation failure in any of its calls is returned as such.
 pub fn report_of(alloc: Global, line: &str) -> Result<Report, AllocError> {
     let Some((origin, name, digits)) = columns(line) else {
         let text = format!(in alloc; "no row: {line}")?;

@@ -1,17 +1,17 @@
-//! What is tried of a format, by its calls.
+//! The trials of a format, by its calls.
 
 use crate::devices::{Failure, Sink, Source};
 use crate::row::{Findings, Rejection, Row, Trial, name_of};
 use std::alloc::Global;
 use std::io::Write;
 
-/// What stands in the vector that octets are written to.
+/// The octets that a vector holds before a call writes to it.
 const PREFIX: [u8; 3] = [0xde, 0xad, 0x01];
 
-/// The octets that a writer has room for.
+/// How many octets a writer has room for.
 const ROOM: usize = 4096;
 
-/// A value that is read, cloned and written.
+/// A value that the program reads, clones and writes.
 pub trait Format: PartialEq + Drop {
     /// The value that the octets are.
     fn read_from(alloc: Global, octets: &[u8]) -> Result<Self, Rejection>;
@@ -22,7 +22,7 @@ pub trait Format: PartialEq + Drop {
     /// Writes the value.
     fn write_to<W: Write>(&self, alloc: Global, writer: &mut W) -> Result<(), Rejection>;
 
-    /// The octets that are read as what was written so.
+    /// The octets that the format reads, from those that it wrote.
     fn readable(alloc: Global, written: &[u8]) -> Result<Vec<u8>, Rejection> {
         Ok(Vec::from_slice(alloc, written)?)
     }
@@ -33,9 +33,9 @@ pub trait Format: PartialEq + Drop {
     }
 }
 
-/// A format that is read from a reader.
+/// A format with a call that reads from a reader.
 pub trait Streamed: Format {
-    /// The value at the front of what the reader gives of the octets.
+    /// The value at the start of what the reader gives of the octets.
     fn read_slowly(
         alloc: Global,
         octets: &[u8],
@@ -43,7 +43,7 @@ pub trait Streamed: Format {
     ) -> Result<Self, Rejection>;
 }
 
-/// What is found of a row whose octets are read as a value, which is cloned and written.
+/// Reads a test vector's octets as a value, clones and writes it, and returns the findings.
 pub fn tried<F: Format>(row: &Row<'_>) -> Result<Findings, Rejection> {
     let value = F::read_from(row.alloc, row.octets)?;
     let mut found = Findings::new(row.alloc);
@@ -71,7 +71,7 @@ pub fn tried<F: Format>(row: &Row<'_>) -> Result<Findings, Rejection> {
     Ok(found)
 }
 
-/// What is found of what is written of a clone.
+/// Adds the findings of what a clone was written as.
 fn try_written<F: Format>(
     row: &Row<'_>,
     again: &F,
@@ -93,8 +93,8 @@ fn try_written<F: Format>(
     Ok(())
 }
 
-/// Writes to a writer that takes no memory, and answers whether it was as before where that was refused for another reason than
-/// want of memory.
+/// Writes to a writer that needs no memory. Returns false where that is an error and the writer has taken octets; an error that left
+/// the writer as it was is returned.
 fn send<F: Format>(alloc: Global, value: &F) -> Result<bool, Rejection> {
     let mut room = [0u8; ROOM];
     let mut left = room.as_mut_slice();
@@ -105,8 +105,8 @@ fn send<F: Format>(alloc: Global, value: &F) -> Result<bool, Rejection> {
     }
 }
 
-/// What is written of the value to a vector, behind what stands there. A refusal is to leave the vector as it was, but where the
-/// vector itself wanted memory: a token is written in two pieces.
+/// The octets that writing the value appends to a vector. An error should leave the vector as it was, except where the vector itself
+/// could not grow: a token is written in two pieces.
 fn written<F: Format>(alloc: Global, value: &F) -> Result<Vec<u8>, Rejection> {
     let mut octets = Vec::from_slice(alloc, &PREFIX)?;
     let outcome = value.write_to(alloc, &mut octets);
@@ -120,8 +120,8 @@ fn written<F: Format>(alloc: Global, value: &F) -> Result<Vec<u8>, Rejection> {
     Ok(Vec::from_slice(alloc, trailing)?)
 }
 
-/// Whether a writer with room for fewer octets than these gets a front of them and its fault is told, and one with room for all gets
-/// them.
+/// Whether a writer with room for fewer octets than these gets a prefix of them and its error is returned, and one with room for all
+/// gets them.
 fn is_sent<F: Format>(alloc: Global, value: &F, octets: &[u8]) -> bool {
     for room in 0..=octets.len() {
         let mut sink = Sink::new(alloc, room, Failure::None);
@@ -145,8 +145,8 @@ fn is_sent_again<F: Format>(alloc: Global, value: &F, octets: &[u8]) -> bool {
     outcome.is_ok() && sink.taken.as_slice() == octets
 }
 
-/// Tells how the fronts of the octets are read: at the number of octets from which on that is another, its name. And how they are
-/// read with an octet behind.
+/// Reports how each prefix of the octets is read: the name of the outcome, at each length where it changes. Then how the octets are
+/// read with one trailing octet.
 fn push_prefixes<F: Format>(row: &Row<'_>, found: &mut Findings) -> Result<(), Rejection> {
     found.text.push_str("; fronts")?;
     let mut last = "";
@@ -168,7 +168,8 @@ fn push_prefixes<F: Format>(row: &Row<'_>, found: &mut Findings) -> Result<(), R
     Ok(())
 }
 
-/// What is found of a row whose octets are read by readers too. A refusal is to be that of a reader whose reads are interrupted, too.
+/// The findings of a test vector whose octets come from readers too. An error should be the same from a reader whose reads are
+/// interrupted.
 pub fn tried_slowly<F: Streamed>(row: &Row<'_>) -> Result<Findings, Rejection> {
     let outcome = tried::<F>(row);
     if row.trial != Trial::Whole {
@@ -184,14 +185,14 @@ pub fn tried_slowly<F: Streamed>(row: &Row<'_>) -> Result<Findings, Rejection> {
     }
 }
 
-/// Whether a reader of one octet at a time, whose reads are interrupted, is read so.
+/// Whether reading from a reader of one octet at a time, whose reads are interrupted, has the outcome of this name.
 fn is_read_so<F: Streamed>(row: &Row<'_>, octets: &[u8], name: &str) -> bool {
     let mut source = Source::new(octets, 1, Failure::Interrupted);
     name_of(&F::read_slowly(row.alloc, octets, &mut source)) == name
 }
 
-/// Tells whether readers give the same value, whatever they give at a time, whether their faults are told, and how many octets are
-/// left in them.
+/// Reports how many octets are left in readers, and whether they give the same value, however many octets they give at a time, and
+/// whether their errors are returned.
 fn push_readings<F: Streamed>(row: &Row<'_>, found: &mut Findings) -> Result<(), Rejection> {
     let mut source = Source::new(row.octets, usize::MAX, Failure::None);
     let value = F::read_slowly(row.alloc, row.octets, &mut source)?;
@@ -223,7 +224,7 @@ fn is_streamed<F: Streamed>(row: &Row<'_>, value: &F, left: usize) -> bool {
     true
 }
 
-/// Whether a reader's fault is told, at each read in turn.
+/// Whether a reader's error is returned, at each read in turn.
 fn is_failed<F: Streamed>(row: &Row<'_>) -> bool {
     let mut all = Source::new(row.octets, 1, Failure::None);
     if F::read_slowly(row.alloc, row.octets, &mut all).is_err() {
@@ -239,7 +240,7 @@ fn is_failed<F: Streamed>(row: &Row<'_>) -> bool {
     true
 }
 
-/// Whether fronts are read so by readers whose reads are interrupted.
+/// Whether prefixes have the same outcome from readers whose reads are interrupted.
 fn are_prefixes_alike<F: Streamed>(row: &Row<'_>) -> bool {
     for n in 0..row.octets.len() {
         let prefix = &row.octets[..n];
@@ -251,7 +252,7 @@ fn are_prefixes_alike<F: Streamed>(row: &Row<'_>) -> bool {
     true
 }
 
-/// What is found of the octets that a call made of a row's.
+/// The findings of the octets that a call made of a test vector's.
 pub fn made(row: &Row<'_>, octets: Result<Vec<u8>, Rejection>) -> Result<Findings, Rejection> {
     let octets = octets?;
     let mut found = Findings::new(row.alloc);

@@ -10,7 +10,7 @@ use krb_pkinit::pkinit::{
     Pku2uNegoBody, Pku2uNegoRep, Pku2uNegoReq, Pku2uNegoReqMetadata, ValidationParams,
 };
 
-/// What is found of the octets as those of an algorithm or a public key, by its name. `None` where none has it.
+/// Reads the octets as an algorithm or a public key of this name, and returns the findings. `None` where no type has the name.
 pub fn try_public_key(row: &Row<'_>) -> Attempt {
     match row.name {
         "AlgorithmIdentifier" => Some(findings_of::<AlgorithmIdentifier>(row)),
@@ -26,7 +26,7 @@ pub fn try_public_key(row: &Row<'_>) -> Attempt {
     }
 }
 
-/// What is found of the octets as those of a message of PKU2U, by its name. `None` where none has it.
+/// Reads the octets as a message of PKU2U of this name, and returns the findings. `None` where no type has the name.
 pub fn try_pku2u(row: &Row<'_>) -> Attempt {
     match row.name {
         "KrbFinished" => Some(findings_of::<KrbFinished>(row)),
@@ -38,7 +38,7 @@ pub fn try_pku2u(row: &Row<'_>) -> Attempt {
     }
 }
 
-/// What is found of the octets as those of a client with a certificate, by the name of their type. `None` where none has it.
+/// Reads the octets as a client's type of PKINIT of this name, and returns the findings. `None` where no type has the name.
 pub fn try_certificate_request(row: &Row<'_>) -> Attempt {
     match row.name {
         "DhAuthPack" => Some(findings_of::<DhAuthPack>(row)),
@@ -51,7 +51,7 @@ pub fn try_certificate_request(row: &Row<'_>) -> Attempt {
     }
 }
 
-/// What is found of the octets as those of a KDC, by the name of their type. `None` where none has it.
+/// Reads the octets as a KDC's type of PKINIT of this name, and returns the findings. `None` where no type has the name.
 pub fn try_certificate_reply(row: &Row<'_>) -> Attempt {
     match row.name {
         "DhRepInfo" => Some(findings_of::<DhRepInfo>(row)),

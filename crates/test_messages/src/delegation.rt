@@ -7,7 +7,7 @@ use krb_credssp::credssp::{
     TsSmartCardCreds,
 };
 
-/// What is found of the octets as those of delegated credentials, by the name of their type. `None` where none has it.
+/// Reads the octets as delegated credentials of this name, and returns the findings. `None` where no type has the name.
 pub fn try_delegated(row: &Row<'_>) -> Attempt {
     match row.name {
         "TsCredentials" => Some(findings_of::<TsCredentials>(row)),

@@ -3,7 +3,7 @@
 use std::io;
 use std::io::{ErrorKind, Read};
 
-/// A reader that gives at most `at_once` of its octets at a time. Where a signal is to come, it interrupts the next read.
+/// A reader that gives at most `at_once` of its octets at a time. `signals` says which of its reads a signal interrupts.
 #[derive(Drop)]
 pub struct Dribble<'a> {
     pub left: &'a [u8],
@@ -11,14 +11,14 @@ pub struct Dribble<'a> {
     pub signals: Signals,
 }
 
-/// Whether signals interrupt reads.
+/// Which reads a signal interrupts.
 #[derive(Clone, Copy, PartialEq, Eq)]
 pub enum Signals {
-    /// None of them.
+    /// No read.
     Never,
-    /// The next one, and then each other one.
+    /// The next read, and every second one after it.
     Next,
-    /// The one after the next one, and then each other one.
+    /// The read after the next one, and every second one after it.
     Later,
 }
 

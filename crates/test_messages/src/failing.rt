@@ -3,10 +3,10 @@
 use std::io;
 use std::io::{ErrorKind, Read, Write};
 
-/// The most octets that are given or taken at a time.
+/// The most octets that one read gives or one write takes.
 const AT_ONCE: usize = 16;
 
-/// A reader that gives few octets at a time, and fails at a read: `before` reads stand before that one.
+/// A reader that gives few octets at a time, and fails after `before` reads.
 #[derive(Drop)]
 pub struct FailingReader<'a> {
     pub left: &'a [u8],
@@ -29,7 +29,7 @@ impl<'a> Read for FailingReader<'a> {
     }
 }
 
-/// A writer that takes few octets at a time, has room for so many of them, and then fails: it wants memory of its own.
+/// A writer that takes few octets at a time, has room for `room` of them, and then fails with `OutOfMemory`.
 #[derive(Drop)]
 pub struct FullWriter {
     pub room: usize,

@@ -1,12 +1,12 @@
 //! The program `test_messages`: reads and writes octets that come from outside this library.
 //!
-//! Its standard input is a table. A row is a line of an origin, a type, octets in hexadecimal digits and, in some rows, the
-//! text that `{:?}` writes of the value, with tabs between; a line that begins with `#` is none. The rows of servers and clients
-//! (MIT Kerberos, Heimdal, Samba) were sent by them, or stood within what they sent; those of no options, of all options and of
-//! distinct fields were made by an encoder that has nothing of this library, or by hand; worked rows are single examples of an
-//! encoding. A row with the name of a refusal in the origin's place is to be refused so, also by a reader that gives its octets.
-//! For each row the program prints a line that says what holds of its octets, in the words of `Findings`, or how they are
-//! refused. The status is 0 where all that should hold does, of every row.
+//! Its standard input is a table of test vectors. A test vector is a line of an origin, a type, octets in hexadecimal digits and,
+//! in some lines, the text that `{:?}` writes of the value, with tabs between; a line that begins with `#` is a comment. Servers
+//! and clients (MIT Kerberos, Heimdal, Samba) sent the test vectors that name them, alone or as a part of a message. An encoder
+//! that shares no code with this library, or a person, made those of no options, of all options and of distinct fields. Worked
+//! test vectors are single examples of an encoding. Where the name of an error is in the origin's place, reading the octets
+//! returns this error, also from a reader. For each test vector the program prints a line with the fields of `Findings` that
+//! hold of its octets, or with the error. The status is 0 where every test vector has what it should.
 #![tactic(auto)]
 
 mod certificates;

@@ -11,7 +11,7 @@ use krb_msg_kdc::messages::{
     TgsReq,
 };
 
-/// What is found of the octets as those of a request to a KDC, by its name. `None` where none has it.
+/// Reads the octets as a request to a KDC of this name, and returns the findings. `None` where no type has the name.
 pub fn try_request(row: &Row<'_>) -> Attempt {
     match row.name {
         "AsReq" => Some(findings_of::<AsReq>(row)),
@@ -22,7 +22,8 @@ pub fn try_request(row: &Row<'_>) -> Attempt {
     }
 }
 
-/// What is found of the octets as those of a KDC's answer or its part that is enciphered, by its name. `None` where none has it.
+/// Reads the octets as a KDC's reply, or its encrypted part, of this name, and returns the findings. `None` where no type has the
+/// name.
 pub fn try_reply(row: &Row<'_>) -> Attempt {
     match row.name {
         "AsRep" => Some(findings_of::<AsRep>(row)),
@@ -35,7 +36,7 @@ pub fn try_reply(row: &Row<'_>) -> Attempt {
     }
 }
 
-/// What is found of the octets as those of another message, by its name. `None` where none has it.
+/// Reads the octets as another message of this name, and returns the findings. `None` where no type has the name.
 pub fn try_message(row: &Row<'_>) -> Attempt {
     match row.name {
         "ApMessage" => Some(findings_of::<ApMessage>(row)),

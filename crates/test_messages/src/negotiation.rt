@@ -10,7 +10,7 @@ use krb_gss_negotiation::gss_api::{
 use krb_msg::messages::{ApRep, ApReq, TgtReq};
 use krb_msg_types::data_types::{KerbPaPacRequest, PrincipalName};
 
-/// What is found of the octets as those of a message of SPNEGO, by its name. `None` where none has it.
+/// Reads the octets as a message of SPNEGO of this name, and returns the findings. `None` where no type has the name.
 pub fn try_negotiation(row: &Row<'_>) -> Attempt {
     match row.name {
         "ApplicationTag0<GssApiNegInit>" => Some(findings_of::<ApplicationTag0<GssApiNegInit>>(
@@ -29,7 +29,8 @@ pub fn try_negotiation(row: &Row<'_>) -> Attempt {
     }
 }
 
-/// What is found of the octets as those of a message of Kerberos in a token, by its name. `None` where none has it.
+/// Reads the octets as a token with a message of Kerberos of this name, and returns the findings. `None` where no type has the
+/// name.
 pub fn try_token(row: &Row<'_>) -> Attempt {
     match row.name {
         "ApplicationTag0<KrbMessage<ApRep>>" => Some(findings_of::<

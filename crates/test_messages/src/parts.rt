@@ -1,4 +1,4 @@
-//! The parts of tickets and messages that are enciphered, by their names.
+//! The encrypted parts of tickets and messages, by their names.
 
 use crate::row::{Attempt, Row};
 use crate::trial::findings_of;
@@ -8,7 +8,7 @@ use krb_msg_parts::data_types::{
     KrbCredInfo,
 };
 
-/// What is found of the octets as those of a part, by its name. `None` where none has it.
+/// Reads the octets as a part of this name, and returns the findings. `None` where no type has the name.
 pub fn try_part(row: &Row<'_>) -> Attempt {
     match row.name {
         "Authenticator" => Some(findings_of::<Authenticator>(row)),
@@ -23,7 +23,7 @@ pub fn try_part(row: &Row<'_>) -> Attempt {
     }
 }
 
-/// What is found of the octets as those of credentials that are passed on, by its name. `None` where none has it.
+/// Reads the octets as forwarded credentials of this name, and returns the findings. `None` where no type has the name.
 pub fn try_credentials(row: &Row<'_>) -> Attempt {
     match row.name {
         "EncKrbCredPart" => Some(findings_of::<EncKrbCredPart>(row)),

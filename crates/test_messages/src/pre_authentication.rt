@@ -8,7 +8,7 @@ use krb_msg_types::data_types::{
     PaEncTsEnc, PaPacOptions,
 };
 
-/// What is found of the octets as those of a type of pre-authentication, by its name. `None` where none has it.
+/// Reads the octets as a type of pre-authentication of this name, and returns the findings. `None` where no type has the name.
 pub fn try_pre_authentication(row: &Row<'_>) -> Attempt {
     match row.name {
         "EtypeInfo2" => Some(findings_of::<EtypeInfo2>(row)),

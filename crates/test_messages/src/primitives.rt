@@ -1,4 +1,4 @@
-//! Leaves, by their names.
+//! The primitive types, by their names.
 
 use crate::row::{Attempt, Row};
 use crate::trial::findings_of;
@@ -11,7 +11,7 @@ use krb_der_x509::{
 };
 use krb_msg_types::data_types::KerbPaPacRequest;
 
-/// What is found of the octets as those of a leaf, by its name. `None` where none has it.
+/// Reads the octets as a primitive type of this name, and returns the findings. `None` where no type has the name.
 pub fn try_primitive(row: &Row<'_>) -> Attempt {
     match row.name {
         "Asn1RawDer" => Some(findings_of::<Asn1RawDer>(row)),
@@ -28,7 +28,7 @@ pub fn try_primitive(row: &Row<'_>) -> Attempt {
     }
 }
 
-/// What is found of the octets as those of a leaf under a tag, by its name. `None` where none has it.
+/// Reads the octets as a tagged primitive type of this name, and returns the findings. `None` where no type has the name.
 pub fn try_tagged(row: &Row<'_>) -> Attempt {
     match row.name {
         "ApplicationTag<KerbPaPacRequest, 31>" => Some(findings_of::<

@@ -1,23 +1,23 @@
-//! A row, and what is found of it.
+//! A test vector, and its findings.
 
 use krb_der::Asn1DerError;
 use std::alloc::{AllocError, Global};
 use std::io;
 use std::io::ErrorKind;
 
-/// How much is tried of a row's octets.
+/// How much a run tries of a test vector's octets.
 #[derive(Clone, Copy, PartialEq, Eq)]
 pub enum Trial {
-    /// All that `Findings` has.
+    /// Every field of `Findings`.
     Whole,
-    /// What takes time by the number of octets, and no more: there are many of them.
+    /// What takes time linear in the number of octets, which is large.
     Large,
-    /// They are read, copied and written, each once: requests for memory are refused.
+    /// One reading, one copy and one writing: the run makes allocations fail.
     Once,
 }
 
-/// Octets, the name of the type that they are read as, and what is tried of them. The text is what `{:?}` writes of the value;
-/// none stands where that is not tried.
+/// Octets, the name of their type, and what a run tries of them. The text is what `{:?}` writes of the value; it is empty where
+/// the run does not try that.
 #[derive(Drop)]
 pub struct Row<'a> {
     pub alloc: Global,
@@ -27,33 +27,33 @@ pub struct Row<'a> {
     pub text: &'a str,
 }
 
-/// What holds of octets that were read as a value. `None` where it was not tried.
+/// What holds of octets that were read as a value. A field is `None` where the run did not try it.
 #[derive(Clone, Copy)]
 pub struct Findings {
-    /// What is written of the value is these octets.
+    /// Writing the value gives these octets.
     pub written: Option<bool>,
-    /// Each proper front of them is `TruncatedData`, and so is a reader of it; of many octets, of each sixteenth front.
+    /// Each proper prefix of them is `TruncatedData`, also from a reader; of many octets, every sixteenth prefix.
     pub cut: Option<bool>,
-    /// With one octet more they are `InvalidData`.
+    /// With one trailing octet they are `InvalidData`.
     pub longer: Option<bool>,
     /// Readers that give one octet at a time, seven, or all at once give the same value, also where signals interrupt them, and
-    /// what stands behind it stays unread. Octets that are refused are refused so by readers, too.
+    /// trailing octets stay unread. Where reading the octets is an error, a reader of them gives the same error.
     pub streamed: Option<bool>,
-    /// A writer gets these octets, behind what it had, and their number is answered.
+    /// A writer gets these octets after those that it had, and the call returns their number.
     pub sent: Option<bool>,
-    /// Where a reader fails at one of its reads, each in turn, its fault is the answer; so is that of a writer which has room for
-    /// fewer octets, of each number of them (of many octets, each sixteenth), and it is filled.
+    /// Where a reader fails at one of its reads, each in turn, the call returns the reader's error. Where a writer has room for
+    /// fewer octets, each number of them in turn (of many octets, every sixteenth), the call fills it and returns its error.
     pub failed: Option<bool>,
-    /// A copy of the value is equal, and what is written of it is these octets.
+    /// A copy of the value is equal, and writing it gives these octets.
     pub copied: Option<bool>,
-    /// A vector keeps what stands in front of what is appended, and a writer what it had, where the writing is refused.
+    /// A vector keeps the octets before those that a call appends, and a writer keeps what it had where the writing is an error.
     pub kept: Option<bool>,
-    /// What `{:?}` writes of the value is the row's text.
+    /// What `{:?}` writes of the value is the test vector's text.
     pub shown: Option<bool>,
 }
 
 impl Findings {
-    /// Nothing was tried.
+    /// The run tried nothing.
     pub const NONE: Findings = Findings {
         written: None,
         cut: None,
@@ -67,7 +67,7 @@ impl Findings {
     };
 }
 
-/// Why octets were not read, or a value not written.
+/// Why octets were not read, or a value was not written.
 #[derive(Debug, Drop)]
 pub enum Rejection {
     Der(Asn1DerError),
@@ -75,7 +75,7 @@ pub enum Rejection {
     OutOfMemory,
 }
 
-/// What is found of a row, or how its octets are refused. `None` where no type has the row's name.
+/// The findings of a test vector, or the error of reading its octets. `None` where no type has the test vector's name.
 pub type Attempt = Option<Result<Findings, Rejection>>;
 
 impl From<Asn1DerError> for Rejection {
@@ -104,7 +104,7 @@ impl From<AllocError> for Rejection {
 }
 
 impl Rejection {
-    /// The name of the refusal, and of a fault that of its kind.
+    /// The name of the error, and of an I/O error that of its kind.
     pub fn name(&self) -> &'static str {
         match self {
             Rejection::Der(Asn1DerError::InvalidData) => "InvalidData",

@@ -9,7 +9,7 @@ use krb_msg_types::data_types::{
     PrincipalName, Realm, Ticket, TicketInner, TransitedEncoding,
 };
 
-/// What is found of the octets as those of a type that is no sequence, by its name. `None` where none has it.
+/// Reads the octets as a type that is no sequence, of this name, and returns the findings. `None` where no type has the name.
 pub fn try_simple(row: &Row<'_>) -> Attempt {
     match row.name {
         "ApOptions" => Some(findings_of::<ApOptions>(row)),
@@ -22,7 +22,7 @@ pub fn try_simple(row: &Row<'_>) -> Attempt {
     }
 }
 
-/// What is found of the octets as those of a sequence of leaves, by its name. `None` where none has it.
+/// Reads the octets as a sequence of primitive types, of this name, and returns the findings. `None` where no type has the name.
 pub fn try_shared(row: &Row<'_>) -> Attempt {
     match row.name {
         "AuthorizationDataInner" => Some(findings_of::<AuthorizationDataInner>(row)),
@@ -38,7 +38,8 @@ pub fn try_shared(row: &Row<'_>) -> Attempt {
     }
 }
 
-/// What is found of the octets as those of a list, or of a sequence that holds one, by its name. `None` where none has it.
+/// Reads the octets as a list, or a sequence that holds one, of this name, and returns the findings. `None` where no type has the
+/// name.
 pub fn try_list(row: &Row<'_>) -> Attempt {
     match row.name {
         "AuthorizationData" => Some(findings_of::<AuthorizationData>(row)),

@@ -1,4 +1,4 @@
-//! The rows of the table, and what is told of each.
+//! The test vectors of the table, and what the program reports of each.
 
 use crate::certificates::{
     try_certificate_reply, try_certificate_request, try_pku2u, try_public_key,
@@ -14,14 +14,14 @@ use crate::shared::{try_list, try_shared, try_simple};
 use hex::FromHexError;
 use std::alloc::{AllocError, Global};
 
-/// What is told of a row, and whether all that was tried held.
+/// What the program reports of a test vector, and whether all that it tried held.
 #[derive(Drop)]
 pub struct Report {
     pub text: String,
     pub held: bool,
 }
 
-/// The origin, the type, the digits and the text of a row. The text is empty where none stands.
+/// The origin, the type, the digits and the text of a test vector. The text is empty where there is none.
 fn columns(line: &str) -> Option<(&str, &str, &str, &str)> {
     let (origin, rest) = line.split_once('\t')?;
     let (name, rest) = rest.split_once('\t')?;
@@ -29,7 +29,7 @@ fn columns(line: &str) -> Option<(&str, &str, &str, &str)> {
     Some((origin, name, digits, text))
 }
 
-/// What is found of the octets as those of a data type or a message, by its name. `None` where none has it.
+/// Reads the octets as a data type or a message of this name, and returns the findings. `None` where no type has the name.
 fn try_kerberos(row: &Row<'_>) -> Attempt {
     if let Some(found) = try_simple(row) {
         return Some(found);
@@ -58,7 +58,7 @@ fn try_kerberos(row: &Row<'_>) -> Attempt {
     try_message(row)
 }
 
-/// What is found of the octets as those of another type, by its name. `None` where none has it.
+/// Reads the octets as another type of this name, and returns the findings. `None` where no type has the name.
 fn try_other(row: &Row<'_>) -> Attempt {
     if let Some(found) = try_primitive(row) {
         return Some(found);
@@ -87,7 +87,7 @@ fn try_other(row: &Row<'_>) -> Attempt {
     try_delegated(row)
 }
 
-/// What is found of the octets as those of the type of this name. `None` where no type has it.
+/// Reads the octets as the type of this name, and returns the findings. `None` where no type has the name.
 fn try_type(row: &Row<'_>) -> Attempt {
     if let Some(found) = try_kerberos(row) {
         return Some(found);
@@ -95,12 +95,12 @@ fn try_type(row: &Row<'_>) -> Attempt {
     try_other(row)
 }
 
-/// Whether a row of this origin is to be refused: it has the name of the refusal in the origin's place.
+/// Whether reading a test vector of this origin should be an error: the name of the error is in the origin's place.
 fn is_rejected(origin: &str) -> bool {
     matches!(origin, "InvalidData" | "TruncatedData" | "UnsupportedValue")
 }
 
-/// What is tried of a row of this origin.
+/// What a run tries of a test vector of this origin.
 fn trial_of(origin: &str) -> Trial {
     match origin {
         "large" => Trial::Large,
@@ -109,7 +109,8 @@ fn trial_of(origin: &str) -> Trial {
     }
 }
 
-/// Octets in hexadecimal digits. Or, with blanks between: such octets, others, and how many times these follow, in decimal digits.
+/// The octets of hexadecimal digits; or, with blanks between, such octets, others, and how many times the others follow, in decimal
+/// digits.
 fn octets_of(alloc: Global, digits: &str) -> Result<Option<Vec<u8>>, AllocError> {
     let Some((head, rest)) = digits.split_once(' ') else {
         return decoded(alloc, digits);
@@ -130,7 +131,7 @@ fn octets_of(alloc: Global, digits: &str) -> Result<Option<Vec<u8>>, AllocError>
     Ok(Some(octets))
 }
 
-/// Octets in hexadecimal digits.
+/// The octets of hexadecimal digits.
 fn decoded(alloc: Global, digits: &str) -> Result<Option<Vec<u8>>, AllocError> {
     match hex::decode(alloc, digits) {
         Ok(octets) => Ok(Some(octets)),
@@ -139,7 +140,8 @@ fn decoded(alloc: Global, digits: &str) -> Result<Option<Vec<u8>>, AllocError> {
     }
 }
 
-/// Appends the word of each finding that was tried, with `not` before it where it did not hold. Answers whether all of them held.
+/// Appends the word of each finding that the run tried, with `not` before it where it did not hold. Returns whether all of them
+/// held.
 fn push_findings(text: &mut String, found: &Findings) -> Result<bool, AllocError> {
     text.push_str(" read")?;
     let mut all = true;
@@ -163,7 +165,7 @@ fn push_findings(text: &mut String, found: &Findings) -> Result<bool, AllocError
     Ok(all)
 }
 
-/// Appends what is found of the row. Answers whether that is as it should be.
+/// Appends the findings of the test vector. Returns whether they are as they should be.
 fn push_outcome(text: &mut String, origin: &str, found: &Attempt) -> Result<bool, AllocError> {
     match found {
         Some(Ok(findings)) => Ok(push_findings(text, findings)? && !is_rejected(origin)),
@@ -180,7 +182,7 @@ fn push_outcome(text: &mut String, origin: &str, found: &Attempt) -> Result<bool
     }
 }
 
-/// What is told of the row that a line is. Want of memory is answered as itself, in each of its calls.
+/// What the program reports of the test vector in a line. An allocation failure in any of its calls is returned as such.
 pub fn report_of(alloc: Global, line: &str) -> Result<Report, AllocError> {
     let Some((origin, name, digits, shown)) = columns(line) else {
         let text = format!(in alloc; "no row: {line}")?;

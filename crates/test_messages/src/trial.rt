@@ -1,4 +1,4 @@
-//! What is tried of octets that should be the encoding of a value of a type.
+//! The trials of octets that should be the encoding of a value of a type.
 
 use crate::dribble::{Dribble, Signals};
 use crate::failing::{FailingReader, FullWriter};
@@ -8,19 +8,19 @@ use std::alloc::Global;
 use std::fmt::Debug;
 use std::io::ErrorKind;
 
-/// What stands behind the octets that a reader gives, and in the vector that octets are appended to.
+/// The octets that a reader gives after the encoding, and that a vector holds before a call appends to it.
 const OTHERS: [u8; 2] = [0x30, 0x00];
 
-/// The octets that a writer has room for which takes no memory.
+/// How many octets a writer that needs no memory has room for.
 const ROOM: usize = 4096;
 
-/// Of how many octets each front is given by a reader, and taken by a writer.
+/// Up to how many octets the trials take each prefix, and not every sixteenth.
 const FEW: usize = 256;
 
 /// How many octets a reader gives at a time, and the signals that interrupt its reads.
 const PACE: (usize, Signals) = (1, Signals::Never);
 
-/// And of few octets.
+/// The same for few octets.
 const PACES: [(usize, Signals); 4] = [
     PACE,
     (1, Signals::Next),
@@ -28,8 +28,8 @@ const PACES: [(usize, Signals); 4] = [
     (usize::MAX, Signals::Never),
 ];
 
-/// Reads the octets as a T, and says what holds of them. A refusal to read them is answered as it is, where a reader of them is
-/// refused so.
+/// Reads the octets as a `T`, and returns what holds of them. An error is returned as it is, where a reader of the octets gives the
+/// same.
 pub fn findings_of<T: Der + Debug + PartialEq + Drop>(
     row: &Row<'_>,
 ) -> Result<Findings, Rejection> {
@@ -48,7 +48,7 @@ pub fn findings_of<T: Der + Debug + PartialEq + Drop>(
     Ok(found)
 }
 
-/// The refusal of the octets. Where a reader of them is not refused so, that is found.
+/// The error of reading the octets, or the finding that a reader of them does not give the same error.
 fn rejected<T: Der + Drop>(row: &Row<'_>, rejection: Asn1DerError) -> Result<Findings, Rejection> {
     let rejection = Rejection::from(rejection);
     if row.trial != Trial::Once {
@@ -103,7 +103,7 @@ fn tried_at_length<T: Der + PartialEq + Drop>(
     })
 }
 
-/// The value is copied, appended to a vector, given to a writer that takes no memory, and written.
+/// Copies the value, appends it to a vector, writes it to a writer that needs no memory, and encodes it.
 fn made_once<T: Der + Drop>(
     alloc: Global,
     value: &T,
@@ -150,7 +150,7 @@ fn is_written<T: Der + Drop>(
     Ok(written.as_slice() == octets)
 }
 
-/// Whether each proper front is cut short, and so in a reader that gives all of it at once.
+/// Whether each proper prefix is `TruncatedData`, also from a reader that gives all of it at once.
 fn is_cut<T: Der + Drop>(alloc: Global, octets: &[u8]) -> bool {
     for count in 0..octets.len() {
         let mut prefix = &octets[..count];
@@ -164,7 +164,7 @@ fn is_cut<T: Der + Drop>(alloc: Global, octets: &[u8]) -> bool {
     true
 }
 
-/// Whether fronts of this many octets are given and taken: of few octets each, of more each sixteenth.
+/// Whether the trials take the prefix of this many octets: each one of few octets, every sixteenth one of more.
 fn is_tried(count: usize, octets: &[u8]) -> bool {
     octets.len() <= FEW || count % 16 == 0 || count == octets.len()
 }
@@ -207,12 +207,12 @@ fn is_sent<T: Der + Drop>(alloc: Global, value: &T, octets: &[u8]) -> Result<boo
     Ok(count == octets.len() && sent.strip_prefix(OTHERS.as_slice()) == Some(octets))
 }
 
-/// Whether this is the fault of a device.
+/// Whether this is an I/O error of the reader or the writer.
 fn is_error<T>(outcome: &Result<T, Asn1DerError>, kind: ErrorKind) -> bool {
     matches!(outcome, Err(Asn1DerError::Io(error)) if error.kind() == kind)
 }
 
-/// Reads until no read is the one that fails.
+/// Reads from readers that fail at each read in turn, until none of their reads fails.
 fn is_failed_in_reading<T: Der + Drop>(alloc: Global, octets: &[u8]) -> Result<bool, Asn1DerError> {
     for before in 0..=octets.len() {
         let mut reader = FailingReader {
@@ -231,7 +231,7 @@ fn is_failed_in_reading<T: Der + Drop>(alloc: Global, octets: &[u8]) -> Result<b
     Ok(false)
 }
 
-/// Writes to writers of each room up to as much as the value wants: each is filled.
+/// Writes to writers with room for each number of octets up to the value's: each is filled.
 fn is_failed_in_writing<T: Der + Drop>(alloc: Global, value: &T, octets: &[u8]) -> bool {
     for room in 0..=octets.len() {
         if !is_tried(room, octets) {
@@ -251,7 +251,7 @@ fn is_failed_in_writing<T: Der + Drop>(alloc: Global, value: &T, octets: &[u8]) 
     true
 }
 
-/// Whether a copy of the value is equal, and what is written of it is the octets.
+/// Whether a copy of the value is equal, and writing it gives the octets.
 fn is_copied<T: Der + PartialEq + Drop>(
     alloc: Global,
     value: &T,

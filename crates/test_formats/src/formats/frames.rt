@@ -64,8 +64,8 @@ fn token_of(alloc: Global, octets: &[u8]) -> Result<Vec<u8>, AllocError> {
     Ok(token)
 }
 
-/// What is found of the message in the token at the front of a row's octets, which is put in a token again: that is the row's written
-/// octets in one.
+/// The findings of the message in the token at the start of a test vector's octets. Written in a token again, the message gives the
+/// test vector's written octets in a token.
 fn framed<F: Format + DerSequence>(row: &Row<'_>) -> Result<Findings, Rejection> {
     let mut found = tried::<F>(row)?;
     let message = F::read_from(row.alloc, row.octets)?;
@@ -74,7 +74,7 @@ fn framed<F: Format + DerSequence>(row: &Row<'_>) -> Result<Findings, Rejection>
     Ok(found)
 }
 
-/// What is found of a token of Kerberos, by the call that reads it.
+/// The findings of a token of Kerberos, by the call that reads it.
 fn try_kerberos(row: &Row<'_>) -> Attempt {
     match row.name {
         "decode_application_krb_message<ApRep>" => Some(framed::<KrbMessage<ApRep>>(row)),
@@ -85,7 +85,7 @@ fn try_kerberos(row: &Row<'_>) -> Attempt {
     }
 }
 
-/// What is found of a token of Kerberos or IAKERB, by the call that reads it.
+/// The findings of a token of Kerberos or IAKERB, by the call that reads it.
 pub fn try_frame(row: &Row<'_>) -> Attempt {
     match row.name {
         "decode_application_iakerb_proxy_message<AsReq>" => {

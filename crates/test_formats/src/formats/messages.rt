@@ -44,7 +44,7 @@ fn holding(row: &Row<'_>) -> Result<Vec<u8>, Rejection> {
     Ok(message.to_vec(row.alloc)?)
 }
 
-/// What is found of a message for a proxy, by its name.
+/// The findings of a message for a proxy, by its name.
 pub fn try_message(row: &Row<'_>) -> Attempt {
     match row.name {
         "IAKerbHeader" => Some(tried::<IAKerbHeader>(row)),

@@ -61,7 +61,7 @@ impl Format for Verify {
     }
 }
 
-/// What is written of the message that is made of the parts of the row's.
+/// The octets of the message that is made of the parts of the test vector's.
 fn nego_again(row: &Row<'_>) -> Result<Vec<u8>, Rejection> {
     let Nego {
         header,
@@ -83,7 +83,7 @@ fn nego_again(row: &Row<'_>) -> Result<Vec<u8>, Rejection> {
     Ok(octets)
 }
 
-/// What is written of the message that is made of the parts of the row's.
+/// The octets of the message that is made of the parts of the test vector's.
 fn exchange_again(row: &Row<'_>) -> Result<Vec<u8>, Rejection> {
     let Exchange {
         header,
@@ -102,7 +102,7 @@ fn exchange_again(row: &Row<'_>) -> Result<Vec<u8>, Rejection> {
     Ok(octets)
 }
 
-/// What is written of the message that is made of the parts of the row's.
+/// The octets of the message that is made of the parts of the test vector's.
 fn verify_again(row: &Row<'_>) -> Result<Vec<u8>, Rejection> {
     let Verify {
         header,
@@ -123,7 +123,7 @@ fn verify_again(row: &Row<'_>) -> Result<Vec<u8>, Rejection> {
     Ok(octets)
 }
 
-/// What is written of the row's message where its header says that the payload stands four octets before, in the padding.
+/// The octets of the test vector's message where its header puts the payload four octets earlier, in the padding.
 fn early(row: &Row<'_>) -> Result<Vec<u8>, Rejection> {
     let mut message = Verify::decode(row.alloc, row.octets)?;
     message.header.header_len = message.header.header_len.saturating_sub(4);
@@ -133,7 +133,7 @@ fn early(row: &Row<'_>) -> Result<Vec<u8>, Rejection> {
     Ok(octets)
 }
 
-/// What is found of what is made of a message's parts, by the call.
+/// The findings of what a call makes of a message's parts, by the call's name.
 fn try_again(row: &Row<'_>) -> Attempt {
     match row.name {
         "Exchange::new" => Some(made(row, exchange_again(row))),
@@ -144,7 +144,7 @@ fn try_again(row: &Row<'_>) -> Attempt {
     }
 }
 
-/// What is found of a message of NEGOEX, by the name of its type.
+/// The findings of a message of NEGOEX, by the name of its type.
 pub fn try_negoex(row: &Row<'_>) -> Attempt {
     match row.name {
         "Exchange" => Some(tried::<Exchange>(row)),

@@ -49,7 +49,7 @@ impl<T: NegoexDataType<Error = io::Error> + PartialEq + Debug + Drop> Streamed f
     }
 }
 
-/// What two writers of so much room get of a value's fixed part and its payload.
+/// What two writers with so much room get of a value's fixed part and its payload.
 fn sent_apart<T: NegoexDataType<Error = io::Error>>(
     alloc: Global,
     value: &T,
@@ -70,8 +70,8 @@ fn sent_apart<T: NegoexDataType<Error = io::Error>>(
     }
 }
 
-/// Whether the fixed part of a value and its payload, which are a row's octets, go to two writers, also where each write is
-/// interrupted. A writer that is full has taken a front of its part, and the payload's then nothing where the other is it.
+/// Whether the fixed part of a value and its payload, which are a test vector's octets, go to two writers, also where each write is
+/// interrupted.
 fn is_apart<T: NegoexDataType<Error = io::Error>>(alloc: Global, value: &T, octets: &[u8]) -> bool {
     let Some((fixed, payload)) = octets.split_at_checked(T::fixed_len()) else {
         return false;
@@ -87,7 +87,8 @@ fn is_apart<T: NegoexDataType<Error = io::Error>>(alloc: Global, value: &T, octe
     value.size() == octets.len()
 }
 
-/// Whether a full writer's fault is told.
+/// Whether a full writer's error is returned, at each room. Each writer has then taken a prefix of its part, and the payload's
+/// nothing where the fixed part does not fit.
 fn is_full_reported<T: NegoexDataType<Error = io::Error>>(
     alloc: Global,
     value: &T,
@@ -116,7 +117,7 @@ fn is_full_reported<T: NegoexDataType<Error = io::Error>>(
     true
 }
 
-/// What is found of a row whose octets are a value of a type of data.
+/// The findings of a test vector whose octets are a value of a type of data.
 fn tried_apart<T: NegoexDataType<Error = io::Error> + PartialEq + Debug + Drop>(
     row: &Row<'_>,
 ) -> Result<Findings, Rejection> {
@@ -129,7 +130,7 @@ fn tried_apart<T: NegoexDataType<Error = io::Error> + PartialEq + Debug + Drop>(
     Ok(found)
 }
 
-/// What is found of a type of data that has no payload, by its name.
+/// The findings of a type of data that has no payload, by its name.
 fn try_fixed(row: &Row<'_>) -> Attempt {
     match row.name {
         "data_types::Guid" => Some(tried_apart::<Guid>(row)),
@@ -139,7 +140,7 @@ fn try_fixed(row: &Row<'_>) -> Attempt {
     }
 }
 
-/// What is found of a vector, by its name.
+/// The findings of a vector, by its name.
 fn try_vector(row: &Row<'_>) -> Attempt {
     match row.name {
         "data_types::AuthSchemeVector" => Some(tried_apart::<AuthSchemeVector>(row)),
@@ -149,7 +150,7 @@ fn try_vector(row: &Row<'_>) -> Attempt {
     }
 }
 
-/// What is found of a type of data that has a payload and is no vector, by its name.
+/// The findings of a type of data that has a payload and is no vector, by its name.
 fn try_payload(row: &Row<'_>) -> Attempt {
     match row.name {
         "data_types::Checksum" => Some(tried_apart::<Checksum>(row)),
@@ -159,7 +160,7 @@ fn try_payload(row: &Row<'_>) -> Attempt {
     }
 }
 
-/// What is written of a clone.
+/// The octets that a clone is written as.
 fn checksum_cloned(row: &Row<'_>) -> Result<Vec<u8>, Rejection> {
     let value = Data::<Checksum>::read_from(row.alloc, row.octets)?;
     let again = value.0.clone(row.alloc)?;
@@ -171,7 +172,7 @@ fn checksum_cloned(row: &Row<'_>) -> Result<Vec<u8>, Rejection> {
     Ok(octets)
 }
 
-/// What is written of a clone.
+/// The octets that a clone is written as.
 fn extension_cloned(row: &Row<'_>) -> Result<Vec<u8>, Rejection> {
     let value = Data::<Extension>::read_from(row.alloc, row.octets)?;
     let again = value.0.clone(row.alloc)?;
@@ -183,8 +184,8 @@ fn extension_cloned(row: &Row<'_>) -> Result<Vec<u8>, Rejection> {
     Ok(octets)
 }
 
-/// What two vectors get, which stand one octet long before, of a vector of a row's octets whose payload stands at 2^32: the fixed part,
-/// and then the payload. Both are to stay where that is refused.
+/// What two vectors of one octet each get of a vector of a test vector's octets whose payload is at the offset 2^32: the fixed part,
+/// and then the payload. Both should stay as they are where writing is an error.
 fn far(row: &Row<'_>) -> Result<Vec<u8>, Rejection> {
     let octets: ByteVector = Vec::from_slice(row.alloc, row.octets)?;
     let mut fixed = Vec::from_slice(row.alloc, &[1])?;
@@ -198,7 +199,7 @@ fn far(row: &Row<'_>) -> Result<Vec<u8>, Rejection> {
     Ok(fixed)
 }
 
-/// What is found of a call of a type of data.
+/// The findings of a call of a type of data.
 fn try_call(row: &Row<'_>) -> Attempt {
     match row.name {
         "Checksum::clone" => Some(made(row, checksum_cloned(row))),
@@ -208,7 +209,7 @@ fn try_call(row: &Row<'_>) -> Attempt {
     }
 }
 
-/// What is found of a type of data of NEGOEX, by its name.
+/// The findings of a type of data of NEGOEX, by its name.
 pub fn try_data(row: &Row<'_>) -> Attempt {
     if let Some(found) = try_fixed(row) {
         return Some(found);

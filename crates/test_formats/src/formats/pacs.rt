@@ -7,10 +7,10 @@ use krb_pac::{Pac, PacBuffer, PacInfoBuffer};
 use std::alloc::Global;
 use std::io::Write;
 
-/// The octets in front of a PAC's entries: a count, and the version.
+/// How many octets come before a PAC's entries: a count, and the version.
 const HEADER_LENGTH: usize = 8;
 
-/// The octets of an entry: a type, a size and an offset.
+/// How many octets an entry has: a type, a size and an offset.
 const ENTRY_LENGTH: usize = 16;
 
 impl Format for Pac {
@@ -83,14 +83,14 @@ impl Streamed for PacInfoBuffer {
     }
 }
 
-/// Has other octets stand in so many from there on.
+/// Overwrites `count` octets, from the offset `from` on.
 fn blank(octets: &mut [u8], from: usize, count: usize) {
     for octet in octets.iter_mut().skip(from).take(count) {
         *octet = b'z';
     }
 }
 
-/// The octets of a PAC in which other octets stand where this entry stood, and where its buffer did.
+/// The octets of a PAC in which other octets replace this entry and its buffer.
 fn blanked(row: &Row<'_>, from: usize, info: &PacInfoBuffer) -> Result<Vec<u8>, Rejection> {
     let mut octets = Vec::from_slice(row.alloc, row.octets)?;
     blank(&mut octets, from, ENTRY_LENGTH);
@@ -102,8 +102,8 @@ fn blanked(row: &Row<'_>, from: usize, info: &PacInfoBuffer) -> Result<Vec<u8>, 
     Ok(octets)
 }
 
-/// The PAC's octets, from which the entry and the buffer at one position are taken, and into which a clone of them is put at another.
-/// Where that is refused, the position and the octets are to be as before.
+/// The PAC's octets after a clone of the entry and the buffer at one position is written at another. Where that is an error, the
+/// position and the octets should be as before.
 fn moved(row: &Row<'_>, from: usize, to: usize) -> Result<Vec<u8>, Rejection> {
     let mut position = from;
     let read = PacBuffer::deserialize(row.alloc, row.octets, &mut position);
@@ -122,7 +122,7 @@ fn moved(row: &Row<'_>, from: usize, to: usize) -> Result<Vec<u8>, Rejection> {
     Ok(octets)
 }
 
-/// What is found of the first buffer of a PAC's octets, which is put where it stood.
+/// The findings of the first buffer of a PAC's octets, written where it was.
 fn put_again(row: &Row<'_>) -> Result<Findings, Rejection> {
     let octets = moved(row, HEADER_LENGTH, HEADER_LENGTH)?;
     let mut found = Findings::new(row.alloc);
@@ -130,7 +130,7 @@ fn put_again(row: &Row<'_>) -> Result<Findings, Rejection> {
     Ok(found)
 }
 
-/// The octets of the buffer that is made of an entry at the front of a row's and of what stands behind it.
+/// The octets of the buffer that is made of an entry at the start of a test vector's octets and of those after it.
 fn buffer_again(row: &Row<'_>) -> Result<Vec<u8>, Rejection> {
     let mut reader = row.octets;
     let info = PacInfoBuffer::deserialize(&mut reader)?;
@@ -138,7 +138,7 @@ fn buffer_again(row: &Row<'_>) -> Result<Vec<u8>, Rejection> {
     Ok(Vec::from_slice(row.alloc, buffer.octets())?)
 }
 
-/// What is written of the PAC that is made of clones of the buffers of the row's.
+/// The octets of the PAC that is made of clones of the buffers of the test vector's.
 fn pac_again(row: &Row<'_>) -> Result<Vec<u8>, Rejection> {
     let read = Pac::deserialize(row.alloc, row.octets)?;
     let mut buffers = Vec::new(row.alloc);
@@ -150,7 +150,7 @@ fn pac_again(row: &Row<'_>) -> Result<Vec<u8>, Rejection> {
     Ok(octets)
 }
 
-/// What is found of a buffer at a position, or into one.
+/// The findings of a buffer that is read at a position, or written at one.
 fn try_buffer(row: &Row<'_>) -> Attempt {
     if let Some(position) = row.name.strip_prefix("PacBuffer at ") {
         let from = position.parse::<usize>().ok()?;
@@ -161,7 +161,7 @@ fn try_buffer(row: &Row<'_>) -> Attempt {
     Some(made(row, moved(row, HEADER_LENGTH, to)))
 }
 
-/// What is found of a PAC, an entry or a buffer, by its name.
+/// The findings of a PAC, an entry or a buffer, by its name.
 pub fn try_pac(row: &Row<'_>) -> Attempt {
     match row.name {
         "Pac" => Some(tried_slowly::<Pac>(row)),

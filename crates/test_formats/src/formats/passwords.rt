@@ -33,7 +33,7 @@ impl Streamed for KrbPrivMessage {
     }
 }
 
-/// A frame that is read from a slice and written to a vector, with no device.
+/// A frame that is read from a slice and written to a vector.
 #[derive(Drop, PartialEq)]
 struct Frame(KrbPrivMessage);
 
@@ -93,7 +93,7 @@ impl Streamed for LsapTokenInfoIntegrity {
     }
 }
 
-/// The octets of the record that these are, with no device.
+/// The octets of the record that these are, by the calls on arrays.
 fn recorded(row: &Row<'_>) -> Result<Vec<u8>, Rejection> {
     let mut octets = [0; 40];
     if row.octets.len() != octets.len() {
@@ -107,7 +107,7 @@ fn recorded(row: &Row<'_>) -> Result<Vec<u8>, Rejection> {
     Ok(Vec::from_slice(row.alloc, &octets_of(&record))?)
 }
 
-/// The texts of want of memory.
+/// The texts of the errors for allocation failures.
 fn texts(alloc: Global) -> Result<Vec<u8>, Rejection> {
     let read = ReadFrameError::OutOfMemory;
     let written = WriteFrameError::OutOfMemory;
@@ -115,7 +115,7 @@ fn texts(alloc: Global) -> Result<Vec<u8>, Rejection> {
     Ok(Vec::from_slice(alloc, text.as_bytes())?)
 }
 
-/// What is found of a frame or a record, by its name.
+/// The findings of a frame or a record, by its name.
 pub fn try_password(row: &Row<'_>) -> Attempt {
     match row.name {
         "KrbPrivMessage" => Some(tried_slowly::<KrbPrivMessage>(row)),

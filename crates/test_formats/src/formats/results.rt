@@ -9,7 +9,7 @@ use krb_msg_kdc::messages::{AsRep, TgsRep};
 use std::alloc::Global;
 use std::io::Write;
 
-/// What a client takes for an answer.
+/// What a client accepts as a reply.
 #[derive(Drop, PartialEq)]
 enum Answer<T> {
     Message(T),
@@ -48,7 +48,7 @@ impl<T: Der + Drop + PartialEq> Format for Answer<T> {
     }
 }
 
-/// What is found of what a client takes for an answer, by the name of its type.
+/// The findings of what a client accepts as a reply, by the name of its type.
 pub fn try_result(row: &Row<'_>) -> Attempt {
     match row.name {
         "KrbResult<ApRep>" => Some(tried::<Answer<ApRep>>(row)),

@@ -7,7 +7,7 @@ use krb_gss_tokens::{MicToken, WrapToken};
 use std::alloc::Global;
 use std::io::Write;
 
-/// What a token has for its payload, so that a clone copies it.
+/// The octets that a token has as its payload, so that a clone copies them.
 const PAYLOAD: &[u8] = b"a payload";
 
 /// The flag of a token that an acceptor sent.
@@ -77,7 +77,7 @@ impl Streamed for WrapToken {
     }
 }
 
-/// What is written of a MIC token that is made of the parts of the row's, and its header in front of that.
+/// The octets of a MIC token that is made of the parts of the test vector's, after those of its header alone.
 fn mic_again(row: &Row<'_>) -> Result<Vec<u8>, Rejection> {
     let read = MicToken::decode(row.alloc, row.octets)?;
     let token = if read.flags & SENT_BY_ACCEPTOR == 0 {
@@ -92,7 +92,7 @@ fn mic_again(row: &Row<'_>) -> Result<Vec<u8>, Rejection> {
     Ok(octets)
 }
 
-/// What is written of a Wrap token that is made of the parts of the row's, and its header in front of that.
+/// The octets of a Wrap token that is made of the parts of the test vector's, after those of its header alone.
 fn wrap_again(row: &Row<'_>) -> Result<Vec<u8>, Rejection> {
     let read = WrapToken::decode(row.alloc, row.octets)?;
     let mut token = WrapToken::with_seq_number(row.alloc, read.seq_num);
@@ -105,7 +105,7 @@ fn wrap_again(row: &Row<'_>) -> Result<Vec<u8>, Rejection> {
     Ok(octets)
 }
 
-/// What is found of a token, by the name of its type.
+/// The findings of a token, by the name of its type.
 pub fn try_token(row: &Row<'_>) -> Attempt {
     match row.name {
         "MicToken" => Some(tried_slowly::<MicToken>(row)),

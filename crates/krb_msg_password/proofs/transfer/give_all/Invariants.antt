@@ -1,9 +1,0 @@
-use Rattle.std.proofs.Common.{◌-◌, ◌≤◌, length, take}
-use Rattle.std.specs.Io.KnownBytes.{Appends}
-use Rattle.krb_msg_password.proofs.transfer.give_all.Given as goal
-
-abbrev pub invariant-loop-done : goal.invariant-loop-done
-invariant-loop-done g l = (l.done ≤ length l.octets) × Appends (g.W.Write.contents l.initial.to) (g.W.Write.contents l.to) (take l.done l.octets)
-
-abbrev pub decreases-loop-done : goal.decreases-loop-done
-decreases-loop-done g l = length l.octets - l.done
