@@ -51,4 +51,4 @@ pub use Rattle.krb_crypto_suite.specs.BySuite
 pub use Rattle.krb_crypto_suite.specs.Standards
 pub use Rattle.krb_crypto_secret.specs.Agreement
 pub use Rattle.krb_seal.specs.PartError
-pub use Rattle.krb_seal.specs.Filled
+pub use Rattle.krb_seal.specs.Padded
