@@ -154,7 +154,7 @@ fn whole_row_of(alloc: Global, line: &str) -> Option<Row<'_>> {
         2 => row.errors.extend_from_slice(USAGE).ok()?,
         _ => {
             if !error.is_empty() {
-                let text = format!(in alloc; "krbtool: {fault}\n").ok()?;
+                let text = format!(in alloc; "krbtool: {error}\n").ok()?;
                 row.errors.extend_from_slice(text.as_bytes()).ok()?;
             }
         }

@@ -12,7 +12,7 @@ fn opened(alloc: Global, cipher: &dyn Cipher, row: &Row) -> KerberosCryptoResult
     match open_part::<Asn1RawDer>(alloc, cipher, &row.key, row.number, &row.input) {
         Ok(part) => Ok(hex::encode(alloc, part.as_bytes())?),
         Err(PartError::Crypto(rejection)) => Err(rejection),
-        Err(rejection) => Ok(format!(in alloc; "refused, {refusal:?}")?),
+        Err(rejection) => Ok(format!(in alloc; "refused, {rejection:?}")?),
     }
 }
 

@@ -88,7 +88,7 @@ pub fn report_of(alloc: Global, line: &str) -> Result<String, AllocError> {
     let (call, suite) = (row.call, row.suite);
     match try_row(alloc, &row) {
         Some(Ok(text)) => format!(in alloc; "{call} {suite}: {text}"),
-        Some(Err(rejection)) => format!(in alloc; "{call} {suite}: refused, {refusal:?}"),
+        Some(Err(rejection)) => format!(in alloc; "{call} {suite}: refused, {rejection:?}"),
         None => format!(in alloc; "{call} {suite}: no such call"),
     }
 }

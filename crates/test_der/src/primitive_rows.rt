@@ -27,7 +27,7 @@ fn texts_of_rejections(rt: HostRuntime) -> Result<(), Fail> {
         (Asn1DerError::OutOfMemory, "out of memory"),
         (Asn1DerError::Io(device), reported.as_str()),
     ] {
-        assert_eq!(rt; format!(in rt.alloc(); "{refusal}")?.as_str(), text);
+        assert_eq!(rt; format!(in rt.alloc(); "{rejection}")?.as_str(), text);
     }
     Ok(())
 }
