@@ -76,7 +76,7 @@ fn write_prefix<W: Write>(output: &mut W, octets: &[u8])
     }
 }
 
-/// Tells an error by one line, and gives its status. A failed write of that line changes nothing.
+/// Writes the line of an error, and returns its status. A failed write of that line changes nothing.
 pub fn reject<E: Write>(failure: &Failure, errors: &mut E) -> u8
     ensures status { result ≡ rejection_status failure.now }
     ensures told { IsLineWritten (E.contents errors.old) (E.contents errors.new) (Err failure.now) }
@@ -95,7 +95,8 @@ pub fn run<R: Read, W: Write, E: Write>(
 ) -> u8
     ensures ran { (outcome : Result ⊤ Failure) × (result ≡ status_of outcome)
         × IsLineWritten (E.contents errors.old) (E.contents errors.new) outcome
-        × IsRun ⟦<EncTicketPart as DerEncode>⟧.is_value ⟦<EncTicketPart as DerEncode>⟧.enc ⟦<EncTicketPart as DerEncode>⟧.first ⟦<EncTicketPart as DerEncode>⟧.error
+        × IsRun ⟦<EncTicketPart as DerEncode>⟧.is_value ⟦<EncTicketPart as DerEncode>⟧.enc
+        ⟦<EncTicketPart as DerEncode>⟧.first ⟦<EncTicketPart as DerEncode>⟧.error
         (map string_bytes arguments.now) (R.remaining input.old) (R.remaining input.new)
         (W.contents output.old) (W.contents output.new) outcome }
     ensures quiet { result ≡ 0 → Keeps (E.contents errors.old) (E.contents errors.new) }

@@ -18,7 +18,7 @@ pub enum Failure {
     Der(Asn1DerError),
     /// The encryption type is not known, or the cipher rejected the key or the octets, for this reason.
     Crypto(KerberosCryptoError),
-    /// Memory was wanting.
+    /// An allocation failed.
     Memory,
     /// The input could not be read.
     Read,
@@ -86,7 +86,7 @@ fn crypto_line(error: &KerberosCryptoError) -> &'static str
     }
 }
 
-/// The error of a part that was not sealed or not opened. Want of memory is `Memory`.
+/// The error of a part that was not sealed or not opened. A failed allocation is `Memory`.
 impl From<PartError> for Failure {
     ghost from_gives = { λ error failure. failure ≡ of_part error };
 
@@ -99,7 +99,7 @@ impl From<PartError> for Failure {
     }
 }
 
-/// The error of octets that are no encoding. Want of memory is `Memory`.
+/// The error of octets that are no encoding. A failed allocation is `Memory`.
 impl From<Asn1DerError> for Failure {
     ghost from_gives = { λ error failure. failure ≡ of_der error };
 
@@ -111,7 +111,7 @@ impl From<Asn1DerError> for Failure {
     }
 }
 
-/// The error of a reader that failed. Want of memory is `Memory`.
+/// The error of a reader that failed. A failed allocation is `Memory`.
 pub fn read_failure(error: io::Error) -> Failure
     ensures { (result ≡ Failure.Memory) ⊎ (result ≡ Failure.Read) }
 {
