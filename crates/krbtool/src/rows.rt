@@ -1,6 +1,6 @@
 //! Runs of the program over a part and over short octets, a line each.
 //!
-//! The columns: a sweep (`once`; `steps`, over devices that fail; `fronts`, each proper prefix of the input; `flips`, each single bit
+//! The columns: a sweep (`once`; `steps`, over devices that fail; `prefixes`, each proper prefix of the input; `flips`, each single bit
 //! flipped), its number (octets a call; or how many flips end as the line says), the arguments with the program's name, the input (the first
 //! octets of the part with 00 after it, zeros, or hexadecimal digits), how many of its octets are left unread, the status, and the line of
 //! an error of status 1. At status 0 the output is the part; at status 2 the line is the usage.

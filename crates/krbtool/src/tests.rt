@@ -310,7 +310,7 @@ fn is_line_reported(alloc: Global, line: &str) -> bool {
     match row.sweep {
         "once" => is_reported(alloc, &row, 0, 0, false),
         "steps" => is_reported_over_devices(alloc, &row),
-        "fronts" => are_prefixes_reported(alloc, &mut row),
+        "prefixes" => are_prefixes_reported(alloc, &mut row),
         "flips" => flips_reported(alloc, &row) == Some(row.number),
         _ => false,
     }
