@@ -10,5 +10,5 @@ mod reading;
 mod writing;
 
 pub use error::ReadError;
-pub use reading::{read_exact, read_once, read_onto, read_to_end, read_up_to};
-pub use writing::{write_all, write_once};
+pub use reading::{read_exact, read_once, read_to_end, read_up_to};
+pub use writing::write_all;

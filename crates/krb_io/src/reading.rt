@@ -74,11 +74,7 @@ fn read_some<R: Read>(reader: &mut R, wanted: usize, out: &mut Vec<u8>) -> Resul
 /// grows only with the octets that came.
 ///
 /// `OutOfMemory` where the vector cannot grow; every other error is the reader's, which has then given fewer than `count` octets.
-pub fn read_onto<R: Read>(
-    reader: &mut R,
-    count: usize,
-    out: &mut Vec<u8>,
-) -> Result<usize, ReadError>
+fn read_onto<R: Read>(reader: &mut R, count: usize, out: &mut Vec<u8>) -> Result<usize, ReadError>
     ensures octets { IfOk result (λ n. IsReadOnto n out.old.items out.new.items (R.remaining reader.old) (R.remaining reader.new)) }
     ensures within { IfOk result (λ n. n ≤ count) }
     ensures end { IfOk result (λ n. n < count → IsAtEnd (R.remaining reader.new)) }

@@ -10,7 +10,7 @@ use std::io::{Error, ErrorKind, Write};
 /// One write, tried again where a signal interrupts it: how many octets from the start the writer took.
 ///
 /// An error is the writer's, which has taken nothing.
-pub fn write_once<W: Write>(writer: &mut W, octets: &[u8]) -> io::Result<usize>
+fn write_once<W: Write>(writer: &mut W, octets: &[u8]) -> io::Result<usize>
     ensures within { IfOk result (λ n. n ≤ length octets.now) }
     ensures octets { IfOk result (λ n. Appends (W.contents writer.old) (W.contents writer.new) (take n octets.now)) }
     ensures kept { OnErr result (Keeps (W.contents writer.old) (W.contents writer.new)) }
