@@ -89,7 +89,7 @@ copies a b ha hb =
     let per : 8 * a / gcd (8 * a) (8 * b) ≡ a / gcd a b = rw (gcd-scaled a b ha) (mul-div-mul_left a (gcd a b) eight) in
     rw per (mul-div_cancel (a / gcd a b) big)
 
--- the copies padding whole turns
+-- the copies fill whole turns
 pub whole_turns : (a b : ℕ) → 0 < a → 0 < b → (a / gcd a b * b) % a ≡ 0
 whole_turns a b ha hb =
     let d : gcd a b * (a / gcd a b) ≡ a = mul-div_cancel' (gcd a b) (IsGcd-gcd a b ha).0 in

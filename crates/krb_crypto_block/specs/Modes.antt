@@ -79,7 +79,7 @@ padded t = padded_to 16 t
 abbrev pub CtsFrom : (List ℕ → List ℕ) → List ℕ → List ℕ → List ℕ → Type 0
 CtsFrom E v p c = (16 ≤ length p) × (cs : List (List ℕ)) × CbcFrom E v (padded_blocks 16 p) cs × (c ≡ take (length p) (concat (exchanged cs)))
 
--- the last two runs of 16 octets, exchanged
+-- the last two runs of 16 octets, exchanged (RFC 3962, 5)
 abbrev pub with_last_two_swapped : List ℕ → List ℕ
 with_last_two_swapped octets = take (length octets - 32) octets ++ (drop (length octets - 16) octets ++ take 16 (drop (length octets - 32) octets))
 

@@ -54,7 +54,7 @@ one_more size i = rw add-one (mul-suc size i)
 pub is_least : (m x y : ℕ) → m ≡ min x y → (m ≡ x) ⊎ (m ≡ y)
 is_least m x y e = elim (cases_lt x y) [ inl lt ↦ inl (omega arith) | inr ge ↦ inr (omega arith) ]
 
--- where block i begins, there are octets left to padding
+-- where block i begins, there are octets left to fill
 pub begins : (size count i n : ℕ) → 0 < size → count ≡ n / size + min 1 (n % size) → i < count → size * i < n
 begins size count i n some is low =
     let bound = div_ceil_times n size some in

@@ -36,7 +36,7 @@ hmac_256 key message = hmac_over sha256 64 key message
 abbrev pub hmac_384 : List ℕ → List ℕ → List ℕ
 hmac_384 key message = hmac_over sha384 128 key message
 
--- the first mac_size octets of a MAC of size octets; past these they are zeros
+-- the first mac_size octets of a MAC of size octets (RFC 2104, 5); past these they are zeros
 abbrev pub resized : ℕ → ℕ → List ℕ → List ℕ
 resized size mac_size mac = take mac_size (mac ++ replicate (mac_size - size) 0)
 

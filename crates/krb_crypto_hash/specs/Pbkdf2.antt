@@ -13,7 +13,7 @@ unfoldable pub count_bits : (List ℕ → List ℕ → List ℕ) → List ℕ �
 count_bits prf password salt i zero k b = 0
 count_bits prf password salt i (suc c) k b = count_bits prf password salt i c k b + bit_at (slice_index (chain prf password salt i c) k) b
 
--- The octets are block i, T_i: a bit is set exactly where an odd number of the first c of its chain have it.
+-- The octets are block i, T_i (RFC 8018, 5.2): a bit is set exactly where an odd number of the first c of its chain have it.
 abbrev pub IsBlockOf : (List ℕ → List ℕ → List ℕ) → List ℕ → List ℕ → ℕ → ℕ → List ℕ → Type 0
 IsBlockOf prf password salt i c octets = (k b : ℕ) → bit_at (slice_index octets k) b ≡ count_bits prf password salt i c k b % 2
 

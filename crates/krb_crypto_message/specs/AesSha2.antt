@@ -72,7 +72,7 @@ Sha2Cts size key usage p c = Cts (aes_block (sha2_ke size key usage)) p c
 abbrev pub sha2_seal_mac : AesSize → List ℕ → List ℕ → List ℕ
 sha2_seal_mac size ki cipher = sha2_mac size ki (replicate 16 0 ++ cipher)
 
--- the octets end in the checksum of those before it
+-- the octets end in the checksum of those before it (RFC 8009, 5)
 abbrev pub EndsInSealMac : AesSize → List ℕ → List ℕ → Type 0
 EndsInSealMac size ki octets =
     end_of (sha2_checksum_octets size) octets ≡ sha2_seal_mac size ki (take (length octets - sha2_checksum_octets size) octets)

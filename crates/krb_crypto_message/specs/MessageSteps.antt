@@ -11,12 +11,12 @@ cut_mac size key message = take size (hmac key message)
 abbrev pub end_of : ℕ → List ℕ → List ℕ
 end_of size octets = drop (length octets - size) octets
 
--- the octets end in the first size octets of the HMAC of the message
+-- the octets end in the first size octets of the HMAC of the message (RFC 3961, 5.3)
 abbrev pub EndsInMac : ℕ → List ℕ → List ℕ → List ℕ → Type 0
 EndsInMac size key message octets = end_of size octets ≡ cut_mac size key message
 
 -- the one list that is encrypted to the octets without their last h, which holds n octets of a confounder and is a multiple of
--- fill octets long, and the key Ki
+-- padding octets long, and the key Ki
 pub record IsDecrypted (padding n h : ℕ) (encrypts : List ℕ → List ℕ → Type 0) (integrity_key octets padded ki : List ℕ) : Type 0 where
   pub long : n + h ≤ length octets
   pub prefix : n ≤ length padded

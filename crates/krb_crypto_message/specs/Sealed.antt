@@ -75,7 +75,7 @@ des3_kc key usage = des3_dk key (usage_constant usage 0x99)
 abbrev pub Des3Cbc : List ℕ → ℤ → List ℕ → List ℕ → Type 0
 Des3Cbc key usage p c = IsCbc 8 (ede3 (des3_ke key usage)) p c
 
--- the relation of the suite of triple DES, which fills to blocks of 8 octets and has a whole HMAC
+-- the relation of the suite of triple DES, which pads to blocks of 8 octets and has a whole HMAC
 abbrev pub IsSealedDes3 : List ℕ → ℤ → List ℕ → List ℕ → List ℕ → Type 0
 IsSealedDes3 key usage confounder payload octets = IsSealedBy 8 (Des3Cbc key usage) (λ padded cipher. hmac (des3_ki key usage) padded) confounder payload octets
 

@@ -22,7 +22,7 @@ pub record IsGiven (meaning : List ℕ → List ℕ → List ℕ → Type 0) (si
   pub size_is : length confounder ≡ size
   pub means : meaning confounder payload octets
 
--- under no confounder of size octets a payload gives these octets
+-- under no confounder of size octets a payload gives these octets (RFC 3961, 5.3)
 abbrev pub HasNoPayload : (List ℕ → List ℕ → List ℕ → Type 0) → ℕ → List ℕ → Type 0
 HasNoPayload meaning size octets = IsOfNone (IsGiven meaning size octets)
 
@@ -51,14 +51,14 @@ pub record Decrypts (fill_size confounder_size : ℕ) (encrypts : List ℕ → L
   pub whole : IsPadding fill_size plaintext plaintext
   pub exactly : (other payload : List ℕ) → length other ≡ confounder_size → encrypts other payload encrypted ↔ ((other ≡ confounder) × IsPadding fill_size payload plaintext)
 
--- the octets are encrypted ones and, after them, this checksum of mac_size octets; the encrypted octets are decrypted to this
+-- The octets (RFC 3961, 5.3) are encrypted ones and, after them, this checksum of mac_size octets; the encrypted octets are decrypted to this
 -- confounder and plaintext
 abbrev pub OpensUnchecked : (fill_size confounder_size mac_size : ℕ) → (List ℕ → List ℕ → List ℕ → Type 0) → (octets confounder plaintext checksum : List ℕ) → Type 0
 OpensUnchecked fill_size confounder_size mac_size meaning octets confounder plaintext checksum =
     (encrypted : List ℕ) × IsSplit mac_size octets encrypted checksum
     × Decrypts fill_size confounder_size (Encrypts meaning mac_size) encrypted confounder plaintext
 
--- whatever their last mac_size octets, no payload is encrypted to the octets before these
+-- whatever their last mac_size octets, the checksum (RFC 3961, 5.3), no payload is encrypted to the octets before these
 abbrev pub HasNoPayloadUnchecked : (confounder_size mac_size : ℕ) → (List ℕ → List ℕ → List ℕ → Type 0) → List ℕ → Type 0
 HasNoPayloadUnchecked confounder_size mac_size meaning octets =
     (encrypted checksum : List ℕ) → IsSplit mac_size octets encrypted checksum → HasNoPayload (Encrypts meaning mac_size) confounder_size encrypted

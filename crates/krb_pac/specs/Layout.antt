@@ -14,7 +14,7 @@ pub record EntryAt (b : List ℕ) (at : ℕ) (e : Entry) : Type 0 where
   pub size : little_number 4 (drop (at + 4) b) ≡ e.cb_buffer_size
   pub offset : little_number 8 (drop (at + 8) b) ≡ e.offset
 
--- the entry of this type, whose size and offset the octets after its type begin with
+-- the entry of this type, whose size and offset the octets after its type begin with (MS-PAC 2.4, PAC_INFO_BUFFER)
 abbrev pub entry_of_type : PacBufferType → List ℕ → Entry
 entry_of_type kind rest = record { ul_type = kind; cb_buffer_size = little_number 4 rest; offset = little_number 8 (drop 4 rest) }
 
