@@ -1,6 +1,7 @@
 -- Octets taken from a reader.
 use Rattle.std.proofs.Common.{◌≡◌, ℕ, ◌+◌, ◌-◌, ◌<◌, ◌≤◌, ◌^◌, Bool, true, false, eqb, List, [], ◌∷◌, ◌++◌, length, drop, inl, inr, ◌⊎◌, get_or, Option, None, Some, refl, sym, ap, ◌∙◌, append_assoc, arith}
-use Rattle.std.proofs.lemmas.List.{append-nil, length-append, drop_at, get_or_read}
+use Rattle.std.proofs.KnownBytes.{Consumes-nil, Consumes-trans}
+use Rattle.std.proofs.lemmas.List.{append-nil, length-append, drop_at, get_or_read, nil_from_length}
 use Rattle.std.proofs.lemmas.Bool.{eqb-true}
 use Rattle.std.specs.Prelude.{Result, Ok, Err, IfOk, IfErr}
 use Rattle.std.specs.Int.Digits.{digits_of}
@@ -16,22 +17,12 @@ use Rattle.krb_der_core.specs.LengthLaws.{NoMeet, meet_from_both, meets, nothing
 use Rattle.krb_der_core.proofs.Elements.{bad_length, short_content}
 use Rattle.krb_der_core.proofs.Rejections.{none_read, wrong_first, no_element, trailing_element}
 
-pub consumes_none : (a : Option (List ℕ)) → Consumes a a []
-consumes_none None = tt
-consumes_none (Some xs) = refl
-
-pub consumes_then : (a b c : Option (List ℕ)) (xs ys : List ℕ) → Consumes a b xs → Consumes b c ys → Consumes a c (xs ++ ys)
-consumes_then None b c xs ys h k = tt
-consumes_then (Some p) None c xs ys h k = absurd h
-consumes_then (Some p) (Some q) None xs ys h k = absurd k
-consumes_then (Some p) (Some q) (Some r) xs ys h k = h ∙ ap (λ (l : List ℕ). xs ++ l) k ∙ sym (append_assoc xs ys r)
-
 pub gathers_none : (out : List ℕ) (a : Option (List ℕ)) → Gathers 0 out out a a
-gathers_none out a = ([], refl, sym (append-nil out), consumes_none a)
+gathers_none out a = ([], refl, sym (append-nil out), Consumes-nil a)
 
 pub gathers_more : (n m : ℕ) (old mid new : List ℕ) (a b c : Option (List ℕ)) → Gathers n old mid a b → Gathers m mid new b c → Gathers (n + m) old new a c
 gathers_more n m old mid new a b c g h =
-    (g.0 ++ h.0, omega (arith, length-append g.0 h.0, g.1, h.1), h.2 ∙ ap (λ (l : List ℕ). l ++ h.0) g.2 ∙ append_assoc old g.0 h.0, consumes_then a b c g.0 h.0 g.3 h.3)
+    (g.0 ++ h.0, omega (arith, length-append g.0 h.0, g.1, h.1), h.2 ∙ ap (λ (l : List ℕ). l ++ h.0) g.2 ∙ append_assoc old g.0 h.0, Consumes-trans a b c g.0 h.0 g.3 h.3)
 
 pub short_end : (n m count : ℕ) (old mid new : List ℕ) (a b c : Option (List ℕ)) → Gathers n old mid a b → n < count → Gathers m mid new b c → m ≡ 0 → IsAtEnd c → IsShort count a errors.TruncatedData
 short_end n m count old mid new None b c g lt h none end = tt
@@ -73,10 +64,6 @@ tag_prefix f bs p q e one h =
     let x = one_octet bs one in
     let k : f ≡ x.0 ∷ [] = e ∙ x.1 in
     rw k (h ∙ ap (λ (l : List ℕ). l ++ q) x.1)
-
-nothing_trailing : (xs : List ℕ) → length xs ≡ 0 → xs ≡ []
-nothing_trailing [] e = refl
-nothing_trailing (x ∷ xs) e = absurd (omega (arith, e))
 
 -- how many octets of a length follow its first
 abbrev pub Trailing : ℕ → ℕ → Type 0
@@ -124,9 +111,9 @@ first_and f new bs cs e one h =
 pub length_read : (a b c : Option (List ℕ)) (f new : List ℕ) (count n L : ℕ) → Gathers 1 [] f a b → Trailing (get_or f 0 0) count → Gathers count f new b c → L < 2 ^ 64 → TakesPrefix (len L) n new → Consumes a c (len L)
 length_read a b c f new count n L g k h lt t =
     let whole : new ≡ get_or f 0 0 ∷ h.0 = first_and f new g.0 h.0 g.2 g.1 h.2 in
-    let none : drop n new ≡ [] = nothing_trailing (drop n new) (none_trailing (get_or f 0 0) count L h.0 (drop n new) k h.1 lt (sym whole ∙ t.prefix)) in
+    let none : drop n new ≡ [] = nil_from_length (drop n new) (none_trailing (get_or f 0 0) count L h.0 (drop n new) k h.1 lt (sym whole ∙ t.prefix)) in
     let same : new ≡ len L = t.prefix ∙ ap (λ (l : List ℕ). len L ++ l) none ∙ append-nil (len L) in
-    let all : Consumes a c (g.0 ++ h.0) = consumes_then a b c g.0 h.0 g.3 h.3 in
+    let all : Consumes a c (g.0 ++ h.0) = Consumes-trans a b c g.0 h.0 g.3 h.3 in
     rw (sym same ∙ h.2 ∙ ap (λ (l : List ℕ). l ++ h.0) g.2) all
 
 cut_length : (first count : ℕ) (cs r : List ℕ) → Trailing first count → length cs ≡ count → 1 + length cs ≤ first - 128 → NoPrefix Lengths (first ∷ (cs ++ r))
@@ -169,7 +156,7 @@ pub element_taken : (a b d z : Option (List ℕ)) (f content : List ℕ) (L : �
 unfolding tlv
 element_taken a b d z f content L g h k =
     let x = one_octet g.0 g.1 in
-    let all : Consumes a z (g.0 ++ (len L ++ k.0)) = consumes_then a b z g.0 (len L ++ k.0) g.3 (consumes_then b d z (len L) k.0 h k.3) in
+    let all : Consumes a z (g.0 ++ (len L ++ k.0)) = Consumes-trans a b z g.0 (len L ++ k.0) g.3 (Consumes-trans b d z (len L) k.0 h k.3) in
     let same : f ≡ x.0 ∷ [] = g.2 ∙ x.1 in
     let size : length content ≡ L = ap length k.2 ∙ k.1 in
     rw (same, size, k.2) (rw x.1 at all)

@@ -2,11 +2,8 @@
 use Rattle.std.proofs.Common.{◌≡◌, ℕ, ◌<◌, Bool, List, [], ◌∷◌, ◌++◌, length, refl, sym, ap, ◌∙◌, append_assoc, arith}
 use Rattle.std.specs.List.{flat_map, AllByRecursion}
 use Rattle.krb_der_core.specs.Encoding.{IsElement, OneValue, BeginsWith}
-use Rattle.krb_der_core.specs.TlvLaws.{field_apart}
+use Rattle.krb_der_core.specs.TlvLaws.{field_apart, same_conses}
 use Rattle.krb_der.specs.FieldLaws.{element_first, element_long}
-
-same_cons : {A : Type 0} (v w : A) (vs ws : List A) → v ≡ w → vs ≡ ws → v ∷ vs ≡ w ∷ ws
-same_cons v w vs ws p q = cc
 
 module _ {A : Type 0} (enc : A → List ℕ) (is_value : A → Type 0) (first : ℕ → Bool) (element : (v : A) → is_value v → IsElement first (enc v)) where
   pub list_begins_so : (v : List A) → AllByRecursion is_value v → BeginsWith first (flat_map enc v)
@@ -30,4 +27,4 @@ module _ {A : Type 0} (enc : A → List ℕ) (is_value : A → Type 0) (first : 
     list_one_content (v ∷ vs) [] hv hw e = absurd (omega (arith, row_long v (flat_map enc vs) hv.0, ap length e))
     list_one_content (v ∷ vs) (w ∷ ws) hv hw e =
         let s = field_apart enc is_value first element one v w (flat_map enc vs) (flat_map enc ws) hv.0 hw.0 e in
-        same_cons v w vs ws s.0 (list_one_content vs ws hv.1 hw.1 s.1)
+        same_conses v w vs ws s.0 (list_one_content vs ws hv.1 hw.1 s.1)

@@ -6,8 +6,8 @@ use Rattle.krb_der_core.specs.declared.error.Asn1DerError.{Asn1DerError}
 use Rattle.krb_der_core.specs.declared.error.Asn1DerError.TheVariants as errors
 use Rattle.krb_der_core.specs.Tlv.{len, tlv}
 use Rattle.krb_der_core.specs.Reading.{TakesPrefix, NoPrefix, NoBeginning, RejectsPrefix, Lengths, Elements}
-use Rattle.krb_der_core.specs.TlvLaws.{same_heads, len_apart}
-use Rattle.krb_der_core.specs.LengthLaws.{NoMeet, meet_from_both, same_conses}
+use Rattle.krb_der_core.specs.TlvLaws.{same_heads, same_conses, len_apart}
+use Rattle.krb_der_core.specs.LengthLaws.{NoMeet, meet_from_both}
 
 pub nothing_read : (t : ℕ) (input : List ℕ) → eqb (length input) 0 ≡ true → NoPrefix (Elements t) input
 unfolding tlv

@@ -1,17 +1,14 @@
 -- The first digit of a number.
-use Rattle.std.proofs.Common.{◌≡◌, ℕ, zero, suc, ◌/◌, ◌%◌, ◌<◌, ◌≤◌, List, [], ◌∷◌, ◌++◌, get_or, refl, sym, ap, ◌∙◌, arith}
+use Rattle.std.proofs.Common.{◌≡◌, ℕ, zero, suc, ◌+◌, ◌*◌, ◌/◌, ◌%◌, ◌<◌, ◌≤◌, List, [], ◌∷◌, ◌++◌, get_or, refl, sym, ap, ◌∙◌, arith}
 use Rattle.std.specs.Int.Digits.{digits_of}
 use Rattle.std.proofs.lemmas.Int.Digits.{digits_of_step, first_digits_of}
-
-split : (x y n b : ℕ) → x ≡ n → y ≡ b → digits_of 256 x ++ (y ∷ []) ≡ digits_of 256 n ++ (b ∷ [])
-split x y n b p q = cc
+use Rattle.krb_der_core.specs.DigitLaws.{digits_more}
 
 pub small_digit : (n : ℕ) → n < 256 → n ≡ get_or (digits_of 256 n) 0 0
 small_digit zero h = refl
 small_digit (suc n) h =
-    let q : suc n / 256 ≡ 0 = omega (arith, h) in
-    let r : suc n % 256 ≡ suc n = omega (arith, h) in
-    sym (ap (λ (l : List ℕ). get_or l 0 0) (digits_of_step 256 (suc n) (omega arith) (omega arith) ∙ split _ _ 0 (suc n) q r))
+    let same : 0 * 256 + suc n ≡ suc n = omega arith in
+    sym (ap (λ (l : List ℕ). get_or l 0 0) (ap (digits_of 256) (sym same) ∙ digits_more 256 0 (suc n) (omega arith) (omega arith) h))
 
 kept : (ds x : List ℕ) → 0 < get_or ds 0 0 → get_or ds 0 0 ≡ get_or (ds ++ x) 0 0
 kept [] x h = absurd (omega (arith, h))

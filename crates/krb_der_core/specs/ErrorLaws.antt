@@ -59,7 +59,7 @@ pub content_fits : (t : ℕ) (content rest octets : List ℕ) → octets ≡ tlv
 unfolding tlv
 content_fits t content rest octets e lt = omega (arith, ap length e, length-append (t ∷ (len (length content) ++ content)) rest, length-append (len (length content)) content)
 
-clash : (b : Bool) → b ≡ true → b ≡ false → ⊥
+pub clash : (b : Bool) → b ≡ true → b ≡ false → ⊥
 clash b p q = let k : true ≡ false = sym p ∙ q in cc
 
 cut_stands : (n m : ℕ) (r c rest : List ℕ) → length r < n → m ≡ length c → len n ++ r ≡ len m ++ (c ++ rest) → ⊥

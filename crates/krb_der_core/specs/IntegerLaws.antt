@@ -1,31 +1,24 @@
 -- The shortest octets of a number are the only shortest octets that represent it.
-use Rattle.std.proofs.Common.{◌≡◌, ℕ, zero, suc, ◌+◌, ◌-◌, ◌*◌, ◌/◌, ◌%◌, ◌<◌, ◌≤◌, List, [], ◌∷◌, ◌++◌, length, get_or, ℤ, pos, negsuc, refl, sym, ap, subst, ◌∙◌, append_assoc, arith, inl, inr, drop}
+use Rattle.std.proofs.Common.{◌≡◌, ℕ, zero, suc, ◌+◌, ◌-◌, ◌*◌, ◌<◌, ◌≤◌, List, [], ◌∷◌, ◌++◌, length, get_or, ℤ, pos, negsuc, refl, sym, ap, subst, ◌∙◌, append_assoc, arith, inl, inr, drop}
 use Rattle.std.proofs.lemmas.Bool.{cases_lt, le-ltb, lt-ltb}
 use Rattle.std.proofs.lemmas.List.{append-nil}
 use Rattle.std.specs.Int.Digits.{digits_of, number_from_digits, number_from_digits_after, AllBelowBase}
-use Rattle.std.proofs.lemmas.Int.Digits.{digits_of_step, number_digits_of, first_digits_of, all_below_base_digits_of}
+use Rattle.std.proofs.lemmas.Int.Digits.{number_digits_of, all_below_base_digits_of}
+use Rattle.krb_der_core.specs.DigitLaws.{digits_more, first_digit}
 use Rattle.krb_der_core.specs.Encoding.{OneValue, IsOctets}
+use Rattle.krb_der_core.specs.TlvLaws.{same_conses}
 use Rattle.krb_der_core.specs.Integer.{signed_prefix, unsigned, inverted, shortest, whole_number, IsShortest}
 
 pub octets_below : (c : List ℕ) → IsOctets c → AllBelowBase 256 c
 octets_below [] h = tt
 octets_below (b ∷ bs) h = (h 0, octets_below bs (λ i. h (suc i)))
 
-split : (x y n b : ℕ) → x ≡ n → y ≡ b → digits_of 256 x ++ (y ∷ []) ≡ digits_of 256 n ++ (b ∷ [])
-split x y n b p q = cc
-
-one_digit : (n b : ℕ) → 0 < n * 256 + b → b < 256 → digits_of 256 (n * 256 + b) ≡ digits_of 256 n ++ (b ∷ [])
-one_digit n b p h =
-    let q : (n * 256 + b) / 256 ≡ n = omega arith in
-    let m : (n * 256 + b) % 256 ≡ b = omega arith in
-    digits_of_step 256 (n * 256 + b) (omega arith) p ∙ split _ _ n b q m
-
 after_digits : (n : ℕ) (ds : List ℕ) → 0 < n → AllBelowBase 256 ds → digits_of 256 (number_from_digits_after 256 n ds) ≡ digits_of 256 n ++ ds
 after_digits n [] p h = sym (append-nil (digits_of 256 n))
-after_digits n (d ∷ ds) p h = after_digits (n * 256 + d) ds (omega arith) h.1 ∙ ap (λ (l : List ℕ). l ++ ds) (one_digit n d (omega arith) h.0) ∙ append_assoc (digits_of 256 n) (d ∷ []) ds
+after_digits n (d ∷ ds) p h = after_digits (n * 256 + d) ds (omega arith) h.1 ∙ ap (λ (l : List ℕ). l ++ ds) (digits_more 256 n d (omega arith) (omega arith) h.0) ∙ append_assoc (digits_of 256 n) (d ∷ []) ds
 
 pub digits_number : (d : ℕ) (ds : List ℕ) → 0 < d → AllBelowBase 256 (d ∷ ds) → digits_of 256 (number_from_digits 256 (d ∷ ds)) ≡ d ∷ ds
-digits_number d ds p h = after_digits (0 * 256 + d) ds (omega arith) h.1 ∙ ap (λ (l : List ℕ). l ++ ds) (one_digit 0 d (omega arith) h.0)
+digits_number d ds p h = after_digits (0 * 256 + d) ds (omega arith) h.1 ∙ ap (λ (l : List ℕ). l ++ ds) (digits_more 256 0 d (omega arith) (omega arith) h.0)
 
 prefix_small : (d : ℕ) (ds : List ℕ) → d < 128 → signed_prefix (d ∷ ds) ≡ d ∷ ds
 prefix_small d ds h = rw (lt-ltb d 128 h) refl
@@ -45,12 +38,9 @@ pub inverted_below : (c : List ℕ) → AllBelowBase 256 (inverted c)
 inverted_below [] = tt
 inverted_below (d ∷ ds) = (omega arith, inverted_below ds)
 
-same_cons : (a b : ℕ) (xs ys : List ℕ) → a ≡ b → xs ≡ ys → a ∷ xs ≡ b ∷ ys
-same_cons a b xs ys p q = cc
-
 inverted_twice : (c : List ℕ) → AllBelowBase 256 c → inverted (inverted c) ≡ c
 inverted_twice [] h = refl
-inverted_twice (d ∷ ds) h = same_cons (255 - (255 - d)) d (inverted (inverted ds)) ds (omega (arith, h.0)) (inverted_twice ds h.1)
+inverted_twice (d ∷ ds) h = same_conses (255 - (255 - d)) d (inverted (inverted ds)) ds (omega (arith, h.0)) (inverted_twice ds h.1)
 
 inverted_shortest : (c : List ℕ) → AllBelowBase 256 c → IsShortest c → IsShortest (inverted c)
 inverted_shortest [] h s = absurd (omega (arith, s.some))
@@ -98,13 +88,9 @@ prefix_plain (d ∷ ds) h first =
       | inr le ↦ record { b = 0; bs = d ∷ ds; is = prefix_large d ds le; small = omega arith; below = (omega arith, h); short = record { some = omega arith; positive = λ l e. le; negative = λ l e. absurd (omega arith) }; number = refl }
     ]
 
-first_digit : (n : ℕ) → 0 < length (digits_of 256 n) → 0 < get_or (digits_of 256 n) 0 0
-first_digit zero h = absurd (omega arith)
-first_digit (suc n) h = first_digits_of 256 (suc n) (omega arith) (omega arith)
-
 pub unsigned_plain : (n : ℕ) → Plain n (unsigned n)
 unfolding unsigned
-unsigned_plain n = subst (λ (m : ℕ). Plain m (signed_prefix (digits_of 256 n))) (number_digits_of 256 n (omega arith)) (prefix_plain (digits_of 256 n) (all_below_base_digits_of 256 n (omega arith)) (first_digit n))
+unsigned_plain n = subst (λ (m : ℕ). Plain m (signed_prefix (digits_of 256 n))) (number_digits_of 256 n (omega arith)) (prefix_plain (digits_of 256 n) (all_below_base_digits_of 256 n (omega arith)) (first_digit 256 n (omega arith)))
 
 pub number_of_shortest : (z : ℤ) → whole_number (shortest z) ≡ z
 number_of_shortest (pos n) =

@@ -6,10 +6,7 @@ use Rattle.std.specs.Int.Digits.{digits_of}
 use Rattle.std.proofs.lemmas.Int.Digits.{first_digits_of, length-digits_of-le}
 use Rattle.krb_der_core.specs.Tlv.{len}
 use Rattle.krb_der_core.specs.Reading.{TakesPrefix, NoPrefix, NoBeginning, Lengths}
-use Rattle.krb_der_core.specs.TlvLaws.{same_heads, len-small, len-large}
-
-pub same_conses : (i j : ℕ) (a b : List ℕ) → i ≡ j → a ≡ b → i ∷ a ≡ j ∷ b
-same_conses i j a b e f = cc
+use Rattle.krb_der_core.specs.TlvLaws.{same_heads, same_conses, len-small, len-large}
 
 -- no encoding and the input are prefixes of one list
 abbrev pub NoMeet : (List ℕ → Type 0) → List ℕ → Type 0

@@ -10,6 +10,7 @@ pub mod PrimitiveLaws
 pub mod BitString
 pub mod BitStringLaws
 pub mod Integer
+pub mod DigitLaws
 pub mod IntegerLaws
 pub mod UnsignedLaws
 pub mod GeneralizedTime

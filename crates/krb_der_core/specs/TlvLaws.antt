@@ -18,6 +18,9 @@ same_prefixes a b x y h e = (
 pub same_heads : (a b : ℕ) (x y : List ℕ) → a ∷ x ≡ b ∷ y → (a ≡ b) × (x ≡ y)
 same_heads a b x y e = (cc, cc)
 
+pub same_conses : {A : Type 0} (a b : A) (x y : List A) → a ≡ b → x ≡ y → a ∷ x ≡ b ∷ y
+same_conses a b x y p q = cc
+
 pub len-small : (n : ℕ) → n < 128 → len n ≡ n ∷ []
 unfolding len
 len-small n h = rw (lt-ltb n 128 h) refl

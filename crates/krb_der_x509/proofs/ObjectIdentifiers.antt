@@ -4,10 +4,12 @@ use Rattle.std.proofs.lemmas.Bool.{cases_lt}
 use Rattle.std.proofs.lemmas.List.{append-nil, drop_more, drop_all, take_at, take-take, length-append}
 use Rattle.std.specs.List.{flat_map, AllByRecursion}
 use Rattle.std.specs.Int.Digits.{digits_of, number_from_digits_after}
-use Rattle.std.proofs.lemmas.Int.Digits.{digits_of_step, first_digits_of, number_after_append, number_after_ge, number_digits_of}
+use Rattle.std.proofs.lemmas.Int.Digits.{first_digits_of, number_after_append, number_after_ge, number_digits_of}
 use Rattle.krb_der_core.specs.declared.error.Asn1DerError.{Asn1DerError}
 use Rattle.krb_der_core.specs.declared.error.Asn1DerError.TheVariants as errors
+use Rattle.krb_der_core.specs.DigitLaws.{digits_more}
 use Rattle.krb_der_core.specs.Reading.{TakesPrefix, RejectsAll}
+use Rattle.krb_der_core.specs.TlvLaws.{same_heads, same_conses}
 use Rattle.krb_der_x509.specs.ObjectIdentifier.{continued, sub_identifier, sub_identifiers, arcs_content, IsArcs}
 use Rattle.krb_der_x509.specs.ObjectIdentifierErrors.{IsTooLarge}
 use Rattle.krb_der_x509.specs.ObjectIdentifierLaws.{decode, decode_more, decode_sub, decode_none, decode_large, sub_apart, sub_some}
@@ -20,28 +22,13 @@ pub record SubSoFar (octets : List ℕ) (taken n : ℕ) : Type 0 where
   pub same : decode 0 octets ≡ decode n (drop taken octets)
   pub begun : 0 < taken → 0 < n
 
-heads : (a b : ℕ) (x y : List ℕ) → a ∷ x ≡ b ∷ y → (a ≡ b) × (x ≡ y)
-heads a b x y e = (cc, cc)
-
-same_conses : (a b : ℕ) (x y : List ℕ) → a ≡ b → x ≡ y → a ∷ x ≡ b ∷ y
-same_conses a b x y e f = cc
-
 pub continued-append : (ds es : List ℕ) → continued (ds ++ es) ≡ continued ds ++ continued es
 continued-append [] es = refl
 continued-append (d ∷ ds) es = ap (λ (l : List ℕ). (128 + d) ∷ l) (continued-append ds es)
 
 -- one digit more
-split : (x y n b : ℕ) → x ≡ n → y ≡ b → digits_of 128 x ++ (y ∷ []) ≡ digits_of 128 n ++ (b ∷ [])
-split x y n b p q = cc
-
-one_digit : (n b : ℕ) → 0 < n * 128 + b → b < 128 → digits_of 128 (n * 128 + b) ≡ digits_of 128 n ++ (b ∷ [])
-one_digit n b p h =
-    let q : (n * 128 + b) / 128 ≡ n = omega arith in
-    let m : (n * 128 + b) % 128 ≡ b = omega arith in
-    digits_of_step 128 (n * 128 + b) (omega arith) p ∙ split _ _ n b q m
-
 continued_more : (n b : ℕ) → 0 < n * 128 + b → b < 128 → continued (digits_of 128 (n * 128 + b)) ≡ continued (digits_of 128 n) ++ (128 + b) ∷ []
-continued_more n b p h = ap continued (one_digit n b p h) ∙ continued-append (digits_of 128 n) (b ∷ [])
+continued_more n b p h = ap continued (digits_more 128 n b (omega arith) p h) ∙ continued-append (digits_of 128 n) (b ∷ [])
 
 pub sub_begins : (octets : List ℕ) → SubSoFar octets 0 0
 sub_begins octets = record { within = omega arith; parts = refl; count = refl; same = refl; begun = λ lt. absurd (omega (arith, lt)) }
@@ -116,7 +103,7 @@ more_digits [] [] rest e some = absurd (omega (arith, ap length e, some))
 more_digits (d ∷ ds) [] rest e some = (d, ds, refl)
 more_digits [] (e2 ∷ es) rest e some = absurd (omega (arith, ap length e))
 more_digits (d ∷ ds) (e2 ∷ es) rest e some =
-    let k = heads (128 + d) (128 + e2) (continued ds) (continued es ++ rest) e in
+    let k = same_heads (128 + d) (128 + e2) (continued ds) (continued es ++ rest) e in
     let m = more_digits ds es rest k.1 some in
     (m.0, m.1, same_conses d e2 ds (es ++ m.0 ∷ m.1) (omega (arith, k.0)) m.2)
 

@@ -1,10 +1,12 @@
 -- A content determines its sub-identifiers.
-use Rattle.std.proofs.Common.{◌≡◌, ℕ, zero, suc, ◌+◌, ◌-◌, ◌*◌, ◌/◌, ◌%◌, ◌<◌, ◌≤◌, List, [], ◌∷◌, ◌++◌, length, get_or, slice_index, Option, Some, None, refl, sym, ap, ◌∙◌, append_assoc, arith, inl, inr, nat_lt, if◌then◌else◌}
+use Rattle.std.proofs.Common.{◌≡◌, ℕ, ◌+◌, ◌-◌, ◌*◌, ◌/◌, ◌%◌, ◌<◌, ◌≤◌, List, [], ◌∷◌, ◌++◌, length, get_or, slice_index, Option, Some, None, refl, sym, ap, ◌∙◌, append_assoc, arith, inl, inr, nat_lt, if◌then◌else◌}
 use Rattle.std.proofs.lemmas.Bool.{cases_lt, le-ltb, lt-ltb}
 use Rattle.std.specs.List.{flat_map}
 use Rattle.std.specs.Int.Digits.{digits_of, number_from_digits, number_from_digits_after}
-use Rattle.std.proofs.lemmas.Int.Digits.{number_digits_of, first_digits_of}
+use Rattle.std.proofs.lemmas.Int.Digits.{number_digits_of}
+use Rattle.krb_der_core.specs.DigitLaws.{first_digit}
 use Rattle.krb_der_core.specs.Encoding.{OneValue}
+use Rattle.krb_der_core.specs.TlvLaws.{same_heads}
 use Rattle.krb_der_x509.specs.ObjectIdentifier.{continued, sub_identifier, arcs_content, IsArcs}
 
 -- the number that is read on from n, and what follows it
@@ -69,15 +71,11 @@ first_apart : (ds : List ℕ) (b : ℕ) (x : List ℕ) → b < 128 → (0 < leng
 first_apart [] b x lt p e = let k : b ≡ 128 = e in omega arith
 first_apart (d ∷ ds) b x lt p e = let k : 128 + d ≡ 128 = e in let q : 0 < d = p (omega arith) in omega arith
 
-first_some : (k : ℕ) → 0 < length (digits_of 128 k) → 0 < get_or (digits_of 128 k) 0 0
-first_some zero h = absurd (omega (arith, h))
-first_some (suc k) h = first_digits_of 128 (suc k) (omega arith) (omega arith)
-
 -- no sub-identifier begins with 80
 pub sub_first : (n : ℕ) (x octets : List ℕ) → octets ≡ sub_identifier n ++ x → slice_index octets 0 ≡ 128 → ⊥
 unfolding sub_identifier
 sub_first n x octets q e =
-    first_apart (digits_of 128 (n / 128)) (n % 128) x (omega arith) (first_some (n / 128)) (ap (λ (l : List ℕ). slice_index l 0) (sym (q ∙ append_assoc (continued (digits_of 128 (n / 128))) (n % 128 ∷ []) x)) ∙ e)
+    first_apart (digits_of 128 (n / 128)) (n % 128) x (omega arith) (first_digit 128 (n / 128) (omega arith)) (ap (λ (l : List ℕ). slice_index l 0) (sym (q ∙ append_assoc (continued (digits_of 128 (n / 128))) (n % 128 ∷ []) x)) ∙ e)
 
 pub flat_one : (v w : List ℕ) → flat_map sub_identifier v ≡ flat_map sub_identifier w → v ≡ w
 flat_one [] [] e = refl
@@ -88,9 +86,6 @@ flat_one (m ∷ v) (n ∷ w) e =
     let t = flat_one v w s.1 in
     let p : m ≡ n = s.0 in
     cc
-
-heads : (a b : ℕ) (x y : List ℕ) → a ∷ x ≡ b ∷ y → (a ≡ b) × (x ≡ y)
-heads a b x y e = (cc, cc)
 
 low : (a b c d : ℕ) → 40 * a + b ≡ 40 * c + d → (a < 2 → b ≤ 39) → c ≤ 2 → a < c → ⊥
 low a b c d k fa rc lt = omega (arith, k, fa (omega (arith, lt, rc)))
@@ -114,7 +109,7 @@ arcs_one_content (a ∷ []) w hv hw e = absurd (omega (arith, hv.some))
 arcs_one_content (a ∷ b ∷ x) [] hv hw e = absurd (omega (arith, hw.some))
 arcs_one_content (a ∷ b ∷ x) (c ∷ []) hv hw e = absurd (omega (arith, hw.some))
 arcs_one_content (a ∷ b ∷ x) (c ∷ d ∷ y) hv hw e =
-    let s = heads (40 * a + b) (40 * c + d) x y (flat_one ((40 * a + b) ∷ x) ((40 * c + d) ∷ y) e) in
+    let s = same_heads (40 * a + b) (40 * c + d) x y (flat_one ((40 * a + b) ∷ x) ((40 * c + d) ∷ y) e) in
     let k : 40 * a + b ≡ 40 * c + d = s.0 in
     let ra : a ≤ 2 = hv.root in
     let rc : c ≤ 2 = hw.root in

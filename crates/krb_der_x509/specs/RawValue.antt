@@ -1,9 +1,10 @@
 -- One value of any type, in the octets of its encoding.
-use Rattle.std.proofs.Common.{◌≡◌, ℕ, Bool, true, false, not, ◌&&◌, ◌%◌, List, [], ◌++◌, sym, ap, ◌∙◌}
+use Rattle.std.proofs.Common.{◌≡◌, ℕ, Bool, false, not, ◌&&◌, ◌%◌, List, [], ◌++◌, sym, ap, ◌∙◌}
 use Rattle.std.specs.Prelude.{◌==◌}
 use Rattle.krb_der_core.specs.declared.error.Asn1DerError.{Asn1DerError}
 use Rattle.krb_der_core.specs.declared.error.Asn1DerError.TheVariants as errors
 use Rattle.krb_der_core.specs.Encoding.{IsElement}
+use Rattle.krb_der_core.specs.ErrorLaws.{clash}
 use Rattle.krb_der_core.specs.Errors.{ErrorLaws}
 use Rattle.krb_der_core.specs.TlvLaws.{tlv_apart}
 
@@ -14,9 +15,6 @@ is_raw_first t = not (t == 0) && not (t % 32 == 31)
 -- the error of an element of this tag: no value begins with it
 abbrev pub RawError : ℕ → List ℕ → Asn1DerError → Type 0
 RawError t content e = (e ≡ errors.InvalidData) × (is_raw_first t ≡ false)
-
-clash : (b : Bool) → b ≡ true → b ≡ false → ⊥
-clash b p q = let k : true ≡ false = sym p ∙ q in cc
 
 pub raw_laws : ErrorLaws (IsElement is_raw_first) (λ v. v) RawError
 raw_laws = record {

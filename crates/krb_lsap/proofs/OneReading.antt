@@ -1,17 +1,12 @@
 -- Octets have one reading as a record.
-use Rattle.std.proofs.Common.{◌≡◌, ℕ, ◌<◌, ◌^◌, List, ◌++◌, length, take, drop, Option, Some, None, refl, sym, ap, ◌∙◌, append_assoc}
-use Rattle.std.proofs.Math.Seq.{drop-append_seam, take-append_seam}
+use Rattle.std.proofs.Common.{◌≡◌, ℕ, ◌<◌, ◌^◌, List, ◌++◌, Option, Some, None, refl, sym, ap, ◌∙◌}
+use Rattle.std.proofs.KnownBytes.{Consumes-trans}
 use Rattle.std.proofs.lemmas.Nat.{from_le_bytes-to_le_bytes_4}
 use Rattle.std.specs.Int.{from_le_bytes, to_le_bytes, w32}
 use Rattle.std.specs.Io.KnownBytes.{Consumes}
+use Rattle.krb_der.specs.TlvLaws.{same_prefixes}
 use Rattle.krb_lsap.specs.TokenInfo.{IsTokenInfo, lsap_token_info}
 use Rattle.krb_lsap.specs.declared.token.LsapTokenInfoIntegrity.{LsapTokenInfoIntegrity}
-
-prefixes : (a b x y : List ℕ) → length a ≡ length b → a ++ x ≡ b ++ y → (a ≡ b) × (x ≡ y)
-prefixes a b x y same e = (
-  sym (take-append_seam a x) ∙ ap (λ (l : List ℕ). take (length a) l) e ∙ ap (λ (n : ℕ). take n (b ++ y)) same ∙ take-append_seam b y,
-  sym (drop-append_seam a x) ∙ ap (λ (l : List ℕ). drop (length a) l) e ∙ ap (λ (n : ℕ). drop n (b ++ y)) same ∙ drop-append_seam b y,
-)
 
 number_is : (m n : ℕ) → m < 2 ^ 32 → n < 2 ^ 32 → to_le_bytes w32 m ≡ to_le_bytes w32 n → m ≡ n
 number_is m n h k e = sym (from_le_bytes-to_le_bytes_4 m h) ∙ ap (from_le_bytes w32) e ∙ from_le_bytes-to_le_bytes_4 n k
@@ -23,20 +18,14 @@ record_is r s e f g =
 
 pub one_record : (r s : LsapTokenInfoIntegrity) (x y : List ℕ) → IsTokenInfo r → IsTokenInfo s → lsap_token_info r ++ x ≡ lsap_token_info s ++ y → (r ≡ s) × (x ≡ y)
 one_record r s x y h k e =
-    let flags = prefixes (to_le_bytes w32 r.flags) (to_le_bytes w32 s.flags) (to_le_bytes w32 r.token_il ++ (r.machine_id ++ x)) (to_le_bytes w32 s.token_il ++ (s.machine_id ++ y)) refl e in
-    let level = prefixes (to_le_bytes w32 r.token_il) (to_le_bytes w32 s.token_il) (r.machine_id ++ x) (s.machine_id ++ y) refl flags.1 in
-    let machine = prefixes r.machine_id s.machine_id x y (h.machine_id ∙ sym k.machine_id) level.1 in
+    let flags = same_prefixes (to_le_bytes w32 r.flags) (to_le_bytes w32 s.flags) (to_le_bytes w32 r.token_il ++ (r.machine_id ++ x)) (to_le_bytes w32 s.token_il ++ (s.machine_id ++ y)) refl e in
+    let level = same_prefixes (to_le_bytes w32 r.token_il) (to_le_bytes w32 s.token_il) (r.machine_id ++ x) (s.machine_id ++ y) refl flags.1 in
+    let machine = same_prefixes r.machine_id s.machine_id x y (h.machine_id ∙ sym k.machine_id) level.1 in
     (record_is r s (number_is r.flags s.flags h.flags k.flags flags.0) (number_is r.token_il s.token_il h.token_il k.token_il level.0) machine.0, machine.1)
 
 -- three parts taken in turn
 pub taken : (a b c d : Option (List ℕ)) (xs ys zs : List ℕ) → Consumes a b xs → Consumes b c ys → Consumes c d zs → Consumes a d (xs ++ (ys ++ zs))
-taken None b c d xs ys zs h k l = tt
-taken (Some p) None c d xs ys zs h k l = absurd h
-taken (Some p) (Some q) None d xs ys zs h k l = absurd k
-taken (Some p) (Some q) (Some r) None xs ys zs h k l = absurd l
-taken (Some p) (Some q) (Some r) (Some s) xs ys zs h k l =
-    h ∙ ap (λ (t : List ℕ). xs ++ t) (k ∙ ap (λ (t : List ℕ). ys ++ t) l)
-    ∙ ap (λ (t : List ℕ). xs ++ t) (sym (append_assoc ys zs s)) ∙ sym (append_assoc xs (ys ++ zs) s)
+taken a b c d xs ys zs h k l = Consumes-trans a b d xs (ys ++ zs) h (Consumes-trans b c d ys zs k l)
 
 pub read_so : (r w : LsapTokenInfoIntegrity) (rest : List ℕ) (a d : Option (List ℕ)) → IsTokenInfo r → IsTokenInfo w → Consumes a d (lsap_token_info w) → a ≡ Some (lsap_token_info r ++ rest) → (w ≡ r) × (d ≡ Some rest)
 read_so r w rest None d h k c e = absurd cc

@@ -1,21 +1,21 @@
 -- Frames that were read.
-use Rattle.std.proofs.Common.{◌≡◌, ℕ, ◌+◌, ◌<◌, ◌≤◌, ◌^◌, List, [], ◌∷◌, ◌++◌, length, take, drop, get_or, Option, None, Some, refl, sym, ap, ◌∙◌, subst, append_assoc, arith, inl, inr}
+use Rattle.std.proofs.Common.{◌≡◌, ℕ, ◌+◌, ◌<◌, ◌≤◌, ◌^◌, List, [], ◌∷◌, ◌++◌, length, drop, get_or, Option, None, Some, refl, sym, ap, ◌∙◌, subst, append_assoc, arith, inl, inr}
 use Rattle.std.proofs.lemmas.List.{length-append}
-use Rattle.std.proofs.Math.Seq.{drop-append_seam, take-append_seam}
+use Rattle.std.proofs.Math.Seq.{drop-append_seam}
 use Rattle.std.specs.Prelude.{Result, Ok, Err, IfOk, IfErr, MatchResult}
 use Rattle.std.specs.Io.KnownBytes.{Consumes}
 use Rattle.std.proofs.KnownBytes.{Consumes-trans}
 use Rattle.krb_der_core.specs.Errors.{PrefixError, OrMemory}
 use Rattle.krb_der_core.specs.ErrorLaws.{prefix_laws}
 use Rattle.krb_der_core.specs.Reading.{Encodings, RejectsPrefix, TakesPrefix}
-use Rattle.krb_der_core.specs.TlvLaws.{field_apart}
+use Rattle.krb_der_core.specs.TlvLaws.{field_apart, same_prefixes}
 use Rattle.krb_der_core.specs.declared.der.DerEncode.{Ghosts as EncodingOf}
 use Rattle.krb_der_core.specs.declared.error.Asn1DerError.{Asn1DerError}
 use Rattle.krb_der_core.specs.declared.error.Asn1DerError.TheVariants as errors
 use Rattle.krb_der.specs.FieldLaws.{same_both}
 use Rattle.krb_der.specs.Streaming.{ReaderError, RejectsReader}
 use Rattle.krb_msg_password.specs.Frame.{IsFramed}
-use Rattle.krb_msg_password.specs.Rejected.{TrailingHeader, FrameError, FrameRejected, HeaderRejected, HeaderTaken, IsCut, IsFailure, IsOfOtherVersion, IsShort, MessageRejected, ReaderRejected, der_error, reader_reported_in, reported_in}
+use Rattle.krb_msg_password.specs.Rejected.{TrailingHeader, FrameError, FrameRejected, HeaderRejected, HeaderTaken, IsCut, IsFailure, IsOfOtherVersion, IsShort, MessageRejected, ReaderFailed, ReaderRejected, der_error, reader_reported_in, reported_in}
 use Rattle.krb_msg_password.specs.declared.error.MessageError.{MessageError}
 use Rattle.krb_msg_password.specs.declared.error.MessageError.TheVariants as message_errors
 use Rattle.krb_msg_password.specs.declared.error.ReadFrameError.{ReadFrameError}
@@ -42,17 +42,11 @@ frame_taken (Some o) (Some r) (Some s) (Some t) p q h k l =
 
 -- ---- one reading
 
-prefixes : (a b x y : List ℕ) → length a ≡ length b → a ++ x ≡ b ++ y → (a ≡ b) × (x ≡ y)
-prefixes a b x y same e = (
-  sym (take-append_seam a x) ∙ ap (λ (l : List ℕ). take (length a) l) e ∙ ap (λ (n : ℕ). take n (b ++ y)) same ∙ take-append_seam b y,
-  sym (drop-append_seam a x) ∙ ap (λ (l : List ℕ). drop (length a) l) e ∙ ap (λ (n : ℕ). drop n (b ++ y)) same ∙ drop-append_seam b y,
-)
-
 -- what follows the six octets before the messages is one list
 one_rest : (o r s : List ℕ) → TrailingHeader o r → TrailingHeader o s → r ≡ s
 one_rest o r s h k =
-    let prefix = prefixes h.whole k.whole (0 ∷ 1 ∷ (h.first ++ r)) (0 ∷ 1 ∷ (k.first ++ s)) (h.whole_long ∙ sym k.whole_long) (sym h.parts ∙ k.parts) in
-    (prefixes h.first k.first r s (h.first_long ∙ sym k.first_long) (ap (λ (l : List ℕ). drop 2 l) prefix.1)).1
+    let prefix = same_prefixes h.whole k.whole (0 ∷ 1 ∷ (h.first ++ r)) (0 ∷ 1 ∷ (k.first ++ s)) (h.whole_long ∙ sym k.whole_long) (sym h.parts ∙ k.parts) in
+    (same_prefixes h.first k.first r s (h.first_long ∙ sym k.first_long) (ap (λ (l : List ℕ). drop 2 l) prefix.1)).1
 
 trailing_frame : (o x p q t : List ℕ) → IsFramed x p q → o ≡ x ++ t → TrailingHeader o (p ++ (q ++ t))
 trailing_frame o x p q t f e = record {
@@ -72,8 +66,8 @@ never_cut o r h (inr cut) = omega (arith, header_length o r h, ap length cut.1.p
 
 one_version : (o r : List ℕ) → TrailingHeader o r → IsOfOtherVersion o → ⊥
 one_version o r h v =
-    let prefix = prefixes v.2.whole h.whole (v.0 ++ v.1) (0 ∷ 1 ∷ (h.first ++ r)) (v.2.whole_long ∙ sym h.whole_long) (sym v.2.parts ∙ h.parts) in
-    v.4 (prefixes v.0 (0 ∷ 1 ∷ []) v.1 (h.first ++ r) v.3 prefix.1).0
+    let prefix = same_prefixes v.2.whole h.whole (v.0 ++ v.1) (0 ∷ 1 ∷ (h.first ++ r)) (v.2.whole_long ∙ sym h.whole_long) (sym v.2.parts ∙ h.parts) in
+    v.4 (same_prefixes v.0 (0 ∷ 1 ∷ []) v.1 (h.first ++ r) v.3 prefix.1).0
 
 -- ---- the six octets before the messages, of a slice
 
@@ -119,31 +113,30 @@ rest_fits octets rest h lt = omega (arith, header_length octets rest h)
 cut_version : (o : List ℕ) → IsCut o → IsOfOtherVersion o → ⊥
 cut_version o (inl short) v = omega (arith, short, ap length v.2.parts, length-append v.2.whole (v.0 ++ v.1), length-append v.0 v.1, v.2.whole_long, v.3)
 cut_version o (inr cut) v =
-    let prefix = prefixes v.2.whole cut.1.whole (v.0 ++ v.1) (0 ∷ 1 ∷ cut.0) (v.2.whole_long ∙ sym cut.1.whole_long) (sym v.2.parts ∙ cut.1.parts) in
-    v.4 (prefixes v.0 (0 ∷ 1 ∷ []) v.1 cut.0 v.3 prefix.1).0
+    let prefix = same_prefixes v.2.whole cut.1.whole (v.0 ++ v.1) (0 ∷ 1 ∷ cut.0) (v.2.whole_long ∙ sym cut.1.whole_long) (sym v.2.parts ∙ cut.1.parts) in
+    v.4 (same_prefixes v.0 (0 ∷ 1 ∷ []) v.1 cut.0 v.3 prefix.1).0
 
 module _ {A B : Type 0} (a : EncodingOf A) (b : EncodingOf B) where
+  -- the error of the message in this place, whose encoding is not at the start of the rest
+  unread_at : {C : Type 0} (c : EncodingOf C) (place : MessageError → ReadFrameError) (octets rest : List ℕ) (e : Asn1DerError) → FrameRejected a b octets unread.OutOfMemory
+      → ((why : MessageError) → MessageRejected c rest why → FrameRejected a b octets (place why)) → RejectsPrefix (Encodings c.is_value c.enc) rest e → OrMemory (PrefixError c.first c.error rest) e
+      → FrameRejected a b octets (reported_in place e)
+  unread_at c place octets rest errors.OutOfMemory memory at r f = memory
+  unread_at c place octets rest errors.TruncatedData memory at r (inl m) = absurd cc
+  unread_at c place octets rest errors.TruncatedData memory at r (inr f) = at message_errors.TruncatedData (f, r)
+  unread_at c place octets rest errors.InvalidData memory at r (inl m) = absurd cc
+  unread_at c place octets rest errors.InvalidData memory at r (inr f) = at message_errors.InvalidData (f, r)
+  unread_at c place octets rest errors.UnsupportedValue memory at r (inl m) = absurd cc
+  unread_at c place octets rest errors.UnsupportedValue memory at r (inr f) = at message_errors.UnsupportedValue (f, r)
+  unread_at c place octets rest (errors.Io e) memory at r f = absurd r
+
   pub first_unread : (octets rest : List ℕ) (e : Asn1DerError) → TrailingHeader octets rest → RejectsPrefix (Encodings a.is_value a.enc) rest e → OrMemory (PrefixError a.first a.error rest) e
       → FrameRejected a b octets (reported_in unread.ApMessage e)
-  first_unread octets rest errors.OutOfMemory h r f = inl (refl, (rest, h))
-  first_unread octets rest errors.TruncatedData h r (inl m) = absurd cc
-  first_unread octets rest errors.TruncatedData h r (inr f) = inr (rest, h, (f, r))
-  first_unread octets rest errors.InvalidData h r (inl m) = absurd cc
-  first_unread octets rest errors.InvalidData h r (inr f) = inr (rest, h, (f, r))
-  first_unread octets rest errors.UnsupportedValue h r (inl m) = absurd cc
-  first_unread octets rest errors.UnsupportedValue h r (inr f) = inr (rest, h, (f, r))
-  first_unread octets rest (errors.Io e) h r f = absurd r
+  first_unread octets rest e h = unread_at a unread.ApMessage octets rest e (inl (refl, (rest, h))) (λ why none. inr (rest, h, none))
 
   pub second_unread : (octets rest : List ℕ) (v : A) (e : Asn1DerError) → a.is_value v → TrailingHeader octets (a.enc v ++ rest) → RejectsPrefix (Encodings b.is_value b.enc) rest e → OrMemory (PrefixError b.first b.error rest) e
       → FrameRejected a b octets (reported_in unread.KrbPriv e)
-  second_unread octets rest v errors.OutOfMemory i h r f = inl (refl, (a.enc v ++ rest, h))
-  second_unread octets rest v errors.TruncatedData i h r (inl m) = absurd cc
-  second_unread octets rest v errors.TruncatedData i h r (inr f) = inr (v, (rest, i, h, (f, r)))
-  second_unread octets rest v errors.InvalidData i h r (inl m) = absurd cc
-  second_unread octets rest v errors.InvalidData i h r (inr f) = inr (v, (rest, i, h, (f, r)))
-  second_unread octets rest v errors.UnsupportedValue i h r (inl m) = absurd cc
-  second_unread octets rest v errors.UnsupportedValue i h r (inr f) = inr (v, (rest, i, h, (f, r)))
-  second_unread octets rest v (errors.Io e) i h r f = absurd r
+  second_unread octets rest v e i h = unread_at b unread.KrbPriv octets rest e (inl (refl, (a.enc v ++ rest, h))) (λ why none. inr (v, (rest, i, h, none)))
 
   pub header_untaken : (before after : Option (List ℕ)) (why : Rejection) → HeaderRejected before after why → ReaderRejected a b before after why
   header_untaken None after why h = tt
@@ -154,35 +147,32 @@ module _ {A B : Type 0} (a : EncodingOf A) (b : EncodingOf B) where
   header_untaken (Some o) after (rejections.Frame unread.OutOfMemory) h = absurd h
   header_untaken (Some o) after (rejections.Device e) h = inl h
 
+  -- the same of what a reader has left after the header
+  untaken_at : {C : Type 0} (c : EncodingOf C) (place : MessageError → ReadFrameError) (octets rest : List ℕ) (after : Option (List ℕ)) (e : Asn1DerError) → FrameRejected a b octets unread.OutOfMemory
+      → ReaderFailed octets after → ((why : MessageError) → MessageRejected c rest why → FrameRejected a b octets (place why))
+      → RejectsReader (Encodings c.is_value c.enc) (Some rest) e → ReaderError (PrefixError c.first c.error) (Some rest) e → ReaderRejected a b (Some octets) after (reader_reported_in place e)
+  untaken_at c place octets rest after errors.OutOfMemory memory failed at r f = memory
+  untaken_at c place octets rest after errors.TruncatedData memory failed at r (inl m) = absurd m
+  untaken_at c place octets rest after errors.TruncatedData memory failed at r (inr f) = at message_errors.TruncatedData (f, r)
+  untaken_at c place octets rest after errors.InvalidData memory failed at r (inl m) = absurd m
+  untaken_at c place octets rest after errors.InvalidData memory failed at r (inr f) = at message_errors.InvalidData (f, r)
+  untaken_at c place octets rest after errors.UnsupportedValue memory failed at r (inl m) = absurd m
+  untaken_at c place octets rest after errors.UnsupportedValue memory failed at r (inr f) = at message_errors.UnsupportedValue (f, r)
+  untaken_at c place octets rest after (errors.Io e) memory failed at r f = failed
+
   pub first_untaken : (before mid after : Option (List ℕ)) (e : Asn1DerError) → HeaderTaken before mid → RejectsReader (Encodings a.is_value a.enc) mid e → ReaderError (PrefixError a.first a.error) mid e
       → ReaderRejected a b before after (reader_reported_in unread.ApMessage e)
   first_untaken None mid after e h r f = tt
   first_untaken (Some o) None after e h r f = absurd h
-  first_untaken (Some o) (Some p) after errors.OutOfMemory h r f = inl (refl, (p, h))
-  first_untaken (Some o) (Some p) after errors.TruncatedData h r (inl m) = absurd m
-  first_untaken (Some o) (Some p) after errors.TruncatedData h r (inr f) = inr (p, h, (f, r))
-  first_untaken (Some o) (Some p) after errors.InvalidData h r (inl m) = absurd m
-  first_untaken (Some o) (Some p) after errors.InvalidData h r (inr f) = inr (p, h, (f, r))
-  first_untaken (Some o) (Some p) after errors.UnsupportedValue h r (inl m) = absurd m
-  first_untaken (Some o) (Some p) after errors.UnsupportedValue h r (inr f) = inr (p, h, (f, r))
-  first_untaken (Some o) (Some p) after (errors.Io e) h r f = inr (p, h)
-
-  trailing_first : (o p q : List ℕ) (v : A) → TrailingHeader o p → p ≡ a.enc v ++ q → TrailingHeader o (a.enc v ++ q)
-  trailing_first o p q v h k = subst (TrailingHeader o) k h
+  first_untaken (Some o) (Some p) after e h r f = untaken_at a unread.ApMessage o p after e (inl (refl, (p, h))) (inr (p, h)) (λ why none. inr (p, h, none)) r f
 
   pub second_untaken : (before mid next after : Option (List ℕ)) (v : A) (e : Asn1DerError) → HeaderTaken before mid → a.is_value v → Consumes mid next (a.enc v)
       → RejectsReader (Encodings b.is_value b.enc) next e → ReaderError (PrefixError b.first b.error) next e → ReaderRejected a b before after (reader_reported_in unread.KrbPriv e)
   second_untaken None mid next after v e h i k r f = tt
   second_untaken (Some o) None next after v e h i k r f = absurd h
   second_untaken (Some o) (Some p) None after v e h i k r f = absurd k
-  second_untaken (Some o) (Some p) (Some q) after v errors.OutOfMemory h i k r f = inl (refl, (p, h))
-  second_untaken (Some o) (Some p) (Some q) after v errors.TruncatedData h i k r (inl m) = absurd m
-  second_untaken (Some o) (Some p) (Some q) after v errors.TruncatedData h i k r (inr f) = inr (v, (q, i, trailing_first o p q v h k, (f, r)))
-  second_untaken (Some o) (Some p) (Some q) after v errors.InvalidData h i k r (inl m) = absurd m
-  second_untaken (Some o) (Some p) (Some q) after v errors.InvalidData h i k r (inr f) = inr (v, (q, i, trailing_first o p q v h k, (f, r)))
-  second_untaken (Some o) (Some p) (Some q) after v errors.UnsupportedValue h i k r (inl m) = absurd m
-  second_untaken (Some o) (Some p) (Some q) after v errors.UnsupportedValue h i k r (inr f) = inr (v, (q, i, trailing_first o p q v h k, (f, r)))
-  second_untaken (Some o) (Some p) (Some q) after v (errors.Io e) h i k r f = inr (p, h)
+  second_untaken (Some o) (Some p) (Some q) after v e h i k r f =
+      untaken_at b unread.KrbPriv o q after e (inl (refl, (p, h))) (inr (p, h)) (λ why none. inr (v, (q, i, subst (TrailingHeader o) k h, none))) r f
 
   -- ---- one reading, and one error
 

@@ -1,28 +1,15 @@
 -- Octets of which a writer has taken a prefix.
-use Rattle.std.proofs.Common.{◌≡◌, ℕ, ◌+◌, List, [], ◌++◌, Option, None, Some, take, drop, refl, sym, ap, subst, append_assoc, append-nil, ◌∙◌}
+use Rattle.std.proofs.Common.{◌≡◌, ℕ, ◌+◌, List, Option, None, Some, take, drop, refl, ap, subst, ◌∙◌}
+use Rattle.std.proofs.KnownBytes.{Appends-nil, Appends-trans}
 use Rattle.std.proofs.Math.Seq.{take-add}
 use Rattle.std.proofs.lemmas.List.{drop-drop}
 use Rattle.std.specs.Io.KnownBytes.{Keeps, Appends}
-
-pub Keeps-refl : (known : Option (List ℕ)) → Keeps known known
-Keeps-refl None = tt
-Keeps-refl (Some xs) = refl
-
-Appends-trans : (a b c : Option (List ℕ)) (xs ys : List ℕ) → Appends a b xs → Appends b c ys → Appends a c (xs ++ ys)
-Appends-trans None b c xs ys p q = tt
-Appends-trans (Some l) None c xs ys p q = absurd p
-Appends-trans (Some l) (Some m) None xs ys p q = absurd q
-Appends-trans (Some l) (Some m) (Some n) xs ys p q = q ∙ ap (λ (k : List ℕ). k ++ ys) p ∙ append_assoc l xs ys
 
 Appends-kept : (a b c : Option (List ℕ)) (xs : List ℕ) → Appends a b xs → Keeps b c → Appends a c xs
 Appends-kept None b c xs p q = tt
 Appends-kept (Some l) None c xs p q = absurd p
 Appends-kept (Some l) (Some m) None xs p q = absurd q
 Appends-kept (Some l) (Some m) (Some n) xs p q = q ∙ p
-
-Appends-none : (a : Option (List ℕ)) → Appends a a []
-Appends-none None = tt
-Appends-none (Some l) = sym (append-nil l)
 
 -- the writer's octets, known before and after, have grown by a prefix of these, and this is the rest
 pub record HasPrefix (before after : Option (List ℕ)) (octets rest : List ℕ) : Type 0 where
@@ -31,7 +18,7 @@ pub record HasPrefix (before after : Option (List ℕ)) (octets rest : List ℕ)
   pub appended : Appends before after (take count octets)
 
 pub prefix_start : (known : Option (List ℕ)) (octets : List ℕ) → HasPrefix known known octets octets
-prefix_start known octets = record { count = 0; rest_is = refl; appended = Appends-none known }
+prefix_start known octets = record { count = 0; rest_is = refl; appended = Appends-nil known }
 
 pub prefix_more : (before between after : Option (List ℕ)) (octets rest : List ℕ) (n : ℕ) → HasPrefix before between octets rest → Appends between after (take n rest)
     → HasPrefix before after octets (drop n rest)

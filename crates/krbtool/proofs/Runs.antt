@@ -1,7 +1,7 @@
 -- The ways in which a run ends.
 use Rattle.std.proofs.Common.{◌≡◌, ℕ, Bool, List, Option, None, Some, IfSome, Ok, Err, refl, sym, subst, inl, inr, ◌⊎◌}
 use Rattle.std.specs.Io.KnownBytes.{Keeps, Appends, IsAtEnd}
-use Rattle.krbtool.proofs.Prefixes.{Keeps-refl}
+use Rattle.std.proofs.KnownBytes.{Keeps-refl}
 use Rattle.krb_crypto_hash.specs.declared.error.KerberosCryptoError.TheVariants.{AlgorithmIdentifier}
 use Rattle.krb_der_core.specs.declared.error.Asn1DerError.{Asn1DerError}
 use Rattle.krbtool.specs.declared.command.Command.{Command}

@@ -8,10 +8,7 @@ ghost use Rattle.krbtool.specs.Outcome.{IsOutside};
 
 use crate::command::{Command, SealingKey};
 use crate::failure::Failure;
-use krb_crypto_suite::{Cipher, CipherSuite};
-use krb_crypto_suite_types::aes::{Aes128CtsHmacSha196, Aes256CtsHmacSha196};
-use krb_crypto_suite_types::aes_sha2::{Aes128CtsHmacSha256128, Aes256CtsHmacSha384192};
-use krb_crypto_suite_types::des::Des3CbcSha1Kd;
+use krb_crypto_suite::Cipher;
 use krb_der::{Der, from_bytes, to_vec};
 use krb_seal::{open_part, seal_part};
 use std::alloc::Global;
@@ -85,35 +82,7 @@ fn sealed_under<T: Der + Drop>(
         → MatchResult result (λ made. made.items ≡ answer) IsOutside }
     ensures rejected { IfErr result (IsSealError T.is_value T.enc T.first T.error (key_octets_of key.now.suite) key.now.octets.items input.now) }
 {
-    match key.suite {
-        CipherSuite::Aes128CtsHmacSha196 => {
-            sealed::<T>(alloc, &Aes128CtsHmacSha196::new(), key, confounder, input)
-        }
-        CipherSuite::Aes256CtsHmacSha196 => {
-            sealed::<T>(alloc, &Aes256CtsHmacSha196::new(), key, confounder, input)
-        }
-        CipherSuite::Des3CbcSha1Kd => {
-            sealed::<T>(alloc, &Des3CbcSha1Kd::new(), key, confounder, input)
-        }
-        CipherSuite::Aes128CtsHmacSha256128 => {
-            sealed::<T>(
-                alloc,
-                &Aes128CtsHmacSha256128::new(),
-                key,
-                confounder,
-                input,
-            )
-        }
-        CipherSuite::Aes256CtsHmacSha384192 => {
-            sealed::<T>(
-                alloc,
-                &Aes256CtsHmacSha384192::new(),
-                key,
-                confounder,
-                input,
-            )
-        }
-    }
+    sealed::<T>(alloc, &key.suite, key, confounder, input)
 }
 
 /// The encoding that was sealed under the key to the input.
@@ -127,21 +96,7 @@ fn opened_under<T: Der + Drop>(
         → MatchResult result (λ made. made.items ≡ answer) IsOutside }
     ensures rejected { IfErr result (IsOpenErrorUnder T.is_value T.enc T.first T.error key.now.suite key.now.octets.items key.now.usage input.now) }
 {
-    match key.suite {
-        CipherSuite::Aes128CtsHmacSha196 => {
-            opened::<T>(alloc, &Aes128CtsHmacSha196::new(), key, input)
-        }
-        CipherSuite::Aes256CtsHmacSha196 => {
-            opened::<T>(alloc, &Aes256CtsHmacSha196::new(), key, input)
-        }
-        CipherSuite::Des3CbcSha1Kd => { opened::<T>(alloc, &Des3CbcSha1Kd::new(), key, input) }
-        CipherSuite::Aes128CtsHmacSha256128 => {
-            opened::<T>(alloc, &Aes128CtsHmacSha256128::new(), key, input)
-        }
-        CipherSuite::Aes256CtsHmacSha384192 => {
-            opened::<T>(alloc, &Aes256CtsHmacSha384192::new(), key, input)
-        }
-    }
+    opened::<T>(alloc, &key.suite, key, input)
 }
 
 /// What the command returns for the input.

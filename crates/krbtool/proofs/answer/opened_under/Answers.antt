@@ -1,16 +1,12 @@
+use Rattle.std.proofs.Common.{◌∙◌, sym, ap, subst}
+use Rattle.krb_crypto_message.specs.Sealing.{IsGiven}
+use Rattle.krb_crypto_suite.specs.BySuite.{IsSealed, key_octets_of, confounder_octets_of}
+use Rattle.krb_crypto_suite.specs.declared.cipher_suite.CipherSuite.{CipherSuite}
+use Rattle.krbtool.proofs.Borrowed.{borrowed_suite}
 use Rattle.krbtool.proofs.answer.opened_under.Goals as goal
 
-pub returns-in-Aes128CtsHmacSha196-clause-rejected : goal.returns-in-Aes128CtsHmacSha196-clause-rejected
-returns-in-Aes128CtsHmacSha196-clause-rejected g c = rw c.in-Aes128CtsHmacSha196.is c.opened.ensures.rejected
-
-pub returns-in-Aes256CtsHmacSha196-clause-rejected : goal.returns-in-Aes256CtsHmacSha196-clause-rejected
-returns-in-Aes256CtsHmacSha196-clause-rejected g c = rw c.in-Aes256CtsHmacSha196.is c.opened-in-Aes256CtsHmacSha196.ensures.rejected
-
-pub returns-in-Des3CbcSha1Kd-clause-rejected : goal.returns-in-Des3CbcSha1Kd-clause-rejected
-returns-in-Des3CbcSha1Kd-clause-rejected g c = rw c.in-Des3CbcSha1Kd.is c.opened-in-Des3CbcSha1Kd.ensures.rejected
-
-pub returns-in-Aes128CtsHmacSha256128-clause-rejected : goal.returns-in-Aes128CtsHmacSha256128-clause-rejected
-returns-in-Aes128CtsHmacSha256128-clause-rejected g c = rw c.in-Aes128CtsHmacSha256128.is c.opened-in-Aes128CtsHmacSha256128.ensures.rejected
-
-pub returns-in-Aes256CtsHmacSha384192-clause-rejected : goal.returns-in-Aes256CtsHmacSha384192-clause-rejected
-returns-in-Aes256CtsHmacSha384192-clause-rejected g c = rw c.in-Aes256CtsHmacSha384192.is c.opened-in-Aes256CtsHmacSha384192.ensures.rejected
+pub returns-clause-only : goal.returns-clause-only
+returns-clause-only g c answer is =
+    let key = c.args.key.now in
+    rw is.2 (c.opened.ensures.only is.0 is.1 (is.3 ∙ sym (ap key_octets_of (borrowed_suite _ _ _ _)))
+    (subst (λ (suite : CipherSuite). IsGiven (IsSealed suite key.octets.items key.usage) (confounder_octets_of suite) c.args.input.now (g.T.DerEncode.enc is.0)) (sym (borrowed_suite _ _ _ _)) is.4))
