@@ -1,3 +1,4 @@
 mod Mic
+mod Slices
 mod Streams
 mod Wrap

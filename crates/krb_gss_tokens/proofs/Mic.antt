@@ -6,7 +6,7 @@ use Rattle.std.specs.Int.{w64, from_be_bytes, to_be_bytes}
 use Rattle.std.specs.Io.KnownBytes.{Consumes}
 use Rattle.krb_gss_tokens.specs.Layout.{mic_id, mic_filler, mic_header}
 use Rattle.krb_gss_tokens.specs.Mic.{Mic, MicIs, mic}
-use Rattle.krb_gss_tokens.specs.Rejected.{AnswersUnlessError, Begins, IsError, MicIsCut, MicRejected, RejectsAsIo}
+use Rattle.krb_gss_tokens.specs.Rejected.{Answers, AnswersUnlessError, Begins, IsError, MicFirstError, MicIsCut, MicRejected, RejectsAsEof, RejectsAsIo}
 use Rattle.krb_gss_tokens.specs.declared.error.GssApiMessageError.{GssApiMessageError}
 use Rattle.krb_gss_tokens.specs.declared.error.GssApiMessageError.TheVariants as errors
 use Rattle.krb_gss_tokens.proofs.Streams.{consumes_then, begun, all_read, prefix_taken}
@@ -129,3 +129,36 @@ cut_mic (Some octets) (Ok s) x y = λ h.
     let k : length octets < 16 = short octets h in
     absurd (omega arith)
 cut_mic (Some octets) (Err e) x y = λ h. mic_cut_rejected octets e h y
+
+-- octets that are a token are not cut short
+whole : (octets : List ℕ) (t : Mic) → MicIs octets t → MicIsCut octets → ⊥
+whole octets t p h =
+    let e : length octets ≡ 16 + length t.checksum = ap length p.0 ∙ length-append (mic_header t.flags t.seq_num) t.checksum in
+    let k : length octets < 16 = short octets h in
+    omega arith
+
+mic_slice_not_rejected : (octets : List ℕ) (t : Mic) (e : GssApiMessageError) → MicIs octets t → MicFirstError octets e → e ≡ errors.OutOfMemory
+mic_slice_not_rejected octets t (errors.InvalidId x y) p r = absurd (mic_not_rejected octets t (errors.InvalidId x y) p r)
+mic_slice_not_rejected octets t (errors.InvalidMechanismOid x y) p r = absurd r
+mic_slice_not_rejected octets t (errors.IoError x) p r = absurd (whole octets t p r.1)
+mic_slice_not_rejected octets t (errors.InvalidMicFiller x) p r = absurd (mic_not_rejected octets t (errors.InvalidMicFiller x) p r)
+mic_slice_not_rejected octets t (errors.InvalidWrapFiller x) p r = absurd r
+mic_slice_not_rejected octets t (errors.Asn1Error x) p r = absurd r
+mic_slice_not_rejected octets t errors.OutOfMemory p r = refl
+
+-- where the octets of a slice are a token, it is the result, unless memory ran out
+pub only_mic_slice : (octets : List ℕ) (r : Result Mic GssApiMessageError) → IfOk r (MicIs octets) → IfOk r (λ t. t.seq_num < 2 ^ 64) → IfErr r (MicFirstError octets)
+    → (t : Mic) → t.seq_num < 2 ^ 64 → MicIs octets t → Answers r t
+only_mic_slice octets (Ok s) x y z t h p = one_mic octets s t y h x p
+only_mic_slice octets (Err e) x y z t h p = mic_slice_not_rejected octets t e p z
+
+-- where a field of a slice is cut short, the result is an early end
+pub cut_mic_slice : (octets : List ℕ) (r : Result Mic GssApiMessageError) → IfOk r (MicIs octets) → IfErr r (MicFirstError octets) → MicIsCut octets → RejectsAsEof r
+cut_mic_slice octets (Ok s) x y h = absurd (whole octets s x h)
+cut_mic_slice octets (Err (errors.InvalidId v w)) x y h = absurd (mic_cut_rejected octets (errors.InvalidId v w) h y)
+cut_mic_slice octets (Err (errors.InvalidMechanismOid v w)) x y h = absurd y
+cut_mic_slice octets (Err (errors.IoError v)) x y h = y.0
+cut_mic_slice octets (Err (errors.InvalidMicFiller v)) x y h = absurd (mic_cut_rejected octets (errors.InvalidMicFiller v) h y)
+cut_mic_slice octets (Err (errors.InvalidWrapFiller v)) x y h = absurd y
+cut_mic_slice octets (Err (errors.Asn1Error v)) x y h = absurd y
+cut_mic_slice octets (Err errors.OutOfMemory) x y h = absurd (mic_cut_rejected octets errors.OutOfMemory h y)

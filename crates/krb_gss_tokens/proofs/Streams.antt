@@ -15,6 +15,9 @@ pub appends_parts : (a b c : Option (List ℕ)) (header prefix rest octets : Lis
 appends_parts a b c header prefix rest octets e f p q =
     rw (← e, ← f) (appends_then a b c header rest p q)
 
+pub joined_parts : (header prefix rest octets : List ℕ) → header ≡ prefix → rest ≡ octets → header ++ rest ≡ prefix ++ octets
+joined_parts header prefix rest octets e f = cc
+
 pub consumes_then : (a b c : Option (List ℕ)) (xs ys : List ℕ) → Consumes a b xs → Consumes b c ys → Consumes a c (xs ++ ys)
 consumes_then None b c xs ys p q = tt
 consumes_then (Some l) None c xs ys p q = absurd p

@@ -6,7 +6,7 @@ use Rattle.std.specs.Int.{w16, w64, from_be_bytes, to_be_bytes}
 use Rattle.std.specs.Io.KnownBytes.{Consumes}
 use Rattle.krb_gss_tokens.specs.Layout.{wrap_id, wrap_header}
 use Rattle.krb_gss_tokens.specs.Wrap.{FitsWrap, Wrap, WrapIs, wrap}
-use Rattle.krb_gss_tokens.specs.Rejected.{AnswersUnlessError, Begins, IsError, RejectsAsIo, WrapIsCut, WrapRejected}
+use Rattle.krb_gss_tokens.specs.Rejected.{Answers, AnswersUnlessError, Begins, IsError, RejectsAsEof, RejectsAsIo, WrapFirstError, WrapIsCut, WrapRejected}
 use Rattle.krb_gss_tokens.specs.declared.error.GssApiMessageError.{GssApiMessageError}
 use Rattle.krb_gss_tokens.specs.declared.error.GssApiMessageError.TheVariants as errors
 use Rattle.krb_gss_tokens.proofs.Streams.{consumes_then, begun, all_read, prefix_taken}
@@ -137,3 +137,36 @@ cut_wrap (Some octets) (Ok s) x y = λ h.
     let k : length octets < 16 = short octets h in
     absurd (omega arith)
 cut_wrap (Some octets) (Err e) x y = λ h. wrap_cut_rejected octets e h y
+
+-- octets that are a token are not cut short
+whole : (octets : List ℕ) (t : Wrap) → WrapIs octets t → WrapIsCut octets → ⊥
+whole octets t p h =
+    let e : length octets ≡ 16 + length t.checksum = ap length p.0 ∙ length-append (wrap_header t.flags t.ec t.rrc t.seq_num) t.checksum in
+    let k : length octets < 16 = short octets h in
+    omega arith
+
+wrap_slice_not_rejected : (octets : List ℕ) (t : Wrap) (e : GssApiMessageError) → WrapIs octets t → WrapFirstError octets e → e ≡ errors.OutOfMemory
+wrap_slice_not_rejected octets t (errors.InvalidId x y) p r = absurd (wrap_not_rejected octets t (errors.InvalidId x y) p r)
+wrap_slice_not_rejected octets t (errors.InvalidMechanismOid x y) p r = absurd r
+wrap_slice_not_rejected octets t (errors.IoError x) p r = absurd (whole octets t p r.1)
+wrap_slice_not_rejected octets t (errors.InvalidWrapFiller x) p r = absurd (wrap_not_rejected octets t (errors.InvalidWrapFiller x) p r)
+wrap_slice_not_rejected octets t (errors.InvalidMicFiller x) p r = absurd r
+wrap_slice_not_rejected octets t (errors.Asn1Error x) p r = absurd r
+wrap_slice_not_rejected octets t errors.OutOfMemory p r = refl
+
+-- where the octets of a slice are a token, it is the result, unless memory ran out
+pub only_wrap_slice : (octets : List ℕ) (r : Result Wrap GssApiMessageError) → IfOk r (WrapIs octets) → IfOk r FitsWrap → IfErr r (WrapFirstError octets)
+    → (t : Wrap) → FitsWrap t → WrapIs octets t → Answers r t
+only_wrap_slice octets (Ok s) x y z t h p = one_wrap octets s t y h x p
+only_wrap_slice octets (Err e) x y z t h p = wrap_slice_not_rejected octets t e p z
+
+-- where a field of a slice is cut short, the result is an early end
+pub cut_wrap_slice : (octets : List ℕ) (r : Result Wrap GssApiMessageError) → IfOk r (WrapIs octets) → IfErr r (WrapFirstError octets) → WrapIsCut octets → RejectsAsEof r
+cut_wrap_slice octets (Ok s) x y h = absurd (whole octets s x h)
+cut_wrap_slice octets (Err (errors.InvalidId v w)) x y h = absurd (wrap_cut_rejected octets (errors.InvalidId v w) h y)
+cut_wrap_slice octets (Err (errors.InvalidMechanismOid v w)) x y h = absurd y
+cut_wrap_slice octets (Err (errors.IoError v)) x y h = y.0
+cut_wrap_slice octets (Err (errors.InvalidWrapFiller v)) x y h = absurd (wrap_cut_rejected octets (errors.InvalidWrapFiller v) h y)
+cut_wrap_slice octets (Err (errors.InvalidMicFiller v)) x y h = absurd y
+cut_wrap_slice octets (Err (errors.Asn1Error v)) x y h = absurd y
+cut_wrap_slice octets (Err errors.OutOfMemory) x y h = absurd (wrap_cut_rejected octets errors.OutOfMemory h y)

@@ -1,15 +1,18 @@
 //! The MIC token.
 
-ghost use Rattle.std.specs.Prelude.{◌≡◌, ◌<◌, ◌^◌, [], IfErr, IfOk, IfSome, None, OnOk, Some};
+ghost use Rattle.std.specs.Prelude.{◌≡◌, ◌<◌, ◌≤◌, ◌^◌, ◌++◌, [], drop, length, IfErr, IfOk, IfSome, None, OnOk, Some};
 ghost use Rattle.std.specs.Io.KnownBytes.{Appends};
 ghost use Rattle.krb_gss_tokens.specs.Comparing.{same_mic_equiv, same_mic_per};
 ghost use Rattle.krb_gss_tokens.specs.Layout.{mic_header};
 ghost use Rattle.krb_gss_tokens.specs.Mic.{Mic, MicIs, mic, same_mic};
 ghost use Rattle.krb_gss_tokens.specs.Octets.{octets_of};
-ghost use Rattle.krb_gss_tokens.specs.Rejected.{Answers, AnswersUnlessError, IsIo, MicIsCut, MicRejected, RejectsAsIo};
+ghost use Rattle.krb_gss_tokens.specs.Rejected.{Answers, AnswersUnlessError, IsIo, IsUnwritten, MicFirstError, MicIsCut, MicRejected};
+ghost use Rattle.krb_gss_tokens.specs.Rejected.{RejectsAsEof, RejectsAsIo};
 
 use crate::error::GssApiMessageError;
-use crate::octets::{copy_payload, read_rest, read_u64, same_payload};
+use crate::octets::{
+    big_u64, copy_payload, cut_short, joined, read_rest, read_u64, same_payload, write_joined,
+};
 use krb_constants::gss_api::{MIC_FILLER, MIC_TOKEN_ID};
 use std::alloc::Global;
 use std::io::{Read, Write};
@@ -20,6 +23,9 @@ const MIC_TOKEN_INITIATOR_DEFAULT_FLAGS: u8 = 4;
 
 /// The flags of an acceptor's token: sent by the acceptor, under a subkey that it asserted (RFC 4121, 4.2.2).
 const MIC_TOKEN_ACCEPTOR_DEFAULT_FLAGS: u8 = 5;
+
+/// The number of octets before the checksum (RFC 4121, 4.2.6.1).
+const MIC_HEADER_LEN: usize = 16;
 
 /// A MIC token: the checksum of a message that goes another way (RFC 4121, 4.2.6.1).
 ///
@@ -110,16 +116,43 @@ impl MicToken {
         self.payload = Some(payload);
     }
 
-    /// Writes the header and the checksum. The payload is not written.
+    /// The octets of the token: the header and the checksum. The payload is no part of them.
     ///
-    /// Every error is `IoError` of the writer; some octets may have been written then.
+    /// The only error is `OutOfMemory`.
+    pub fn to_vec(&self, alloc: Global) -> Result<Vec<u8>, GssApiMessageError>
+        ensures ok { IfOk result (λ octets. octets.items ≡ mic self.now) }
+        ensures err { IfErr result (λ e. e ≡ GssApiMessageError.OutOfMemory) }
+    {
+        joined(alloc, &self.header(), &self.checksum)
+    }
+
+    /// Writes the header and the checksum in one piece. The payload is not written.
+    ///
+    /// The octets of the token are made first, in memory of the checksum's allocator. Every error is an `IoError`: of the kind
+    /// `OutOfMemory` where that memory could not be had, and then nothing was written; or that of the writer, which has then taken a
+    /// prefix of these octets, and not all of them. So a vector that cannot grow is as before. A write that a signal interrupts is
+    /// tried again.
     pub fn encode<W: Write>(&self, to: &mut W) -> Result<(), GssApiMessageError>
         ensures ok { OnOk result (Appends (W.contents to.old) (W.contents to.new) (mic self.now)) }
         ensures err { IfErr result IsIo }
+        ensures unwritten { IfErr result (IsUnwritten W.contents to.old to.new (mic self.now)) }
     {
-        to.write_all(&self.header())?;
-        to.write_all(&self.checksum)?;
-        Ok(())
+        write_joined(&self.header(), &self.checksum, to)
+    }
+
+    /// The token that the octets are. All octets after the first 16 are the checksum; there is no payload.
+    ///
+    /// The fields are looked at in their order: another id is `InvalidId`, another filler `InvalidMicFiller`, and each is returned
+    /// before a later field is looked at. A field that the octets' end cuts short is an `IoError` of kind `UnexpectedEof`, and there is
+    /// no other. `OutOfMemory` comes only where the checksum is copied.
+    pub fn from_slice(alloc: Global, octets: &[u8]) -> Result<MicToken, GssApiMessageError>
+        ensures found { IfOk result (MicIs octets.now) }
+        ensures fits { IfOk result (λ t. t.seq_num < 2 ^ 64) }
+        ensures first_error { IfErr result (MicFirstError octets.now) }
+        ensures only { (t : Mic) → t.seq_num < 2 ^ 64 → MicIs octets.now t → Answers result t }
+        ensures cut { MicIsCut octets.now → RejectsAsEof result }
+    {
+        token_of(alloc, octets)
     }
 
     /// The token that the octets are, up to the reader's end. All octets after the first 16 are the checksum; there is no payload.
@@ -192,6 +225,51 @@ fn read_fields<R: Read>(alloc: Global, reader: &mut R) -> Result<MicToken, GssAp
     let checksum = read_rest(alloc, reader)?;
     Ok(MicToken {
         flags: flags[0],
+        seq_num,
+        payload: None,
+        checksum,
+    })
+}
+
+/// The flags and the sequence number of the header that the octets begin with: its fields are looked at in their order.
+fn header_of(octets: &[u8]) -> Result<(u8, u64), GssApiMessageError>
+    ensures ok { IfOk result (λ h. octets.now ≡ mic_header h.0 h.1 ++ drop 16 octets.now) }
+    ensures whole { OnOk result (16 ≤ length octets.now) }
+    ensures fits { IfOk result (λ h. h.1 < 2 ^ 64) }
+    ensures err { IfErr result (MicFirstError octets.now) }
+{
+    if octets.len() < 2 {
+        return Err(cut_short());
+    }
+    let id = [octets[0], octets[1]];
+    if id != MIC_TOKEN_ID {
+        return Err(GssApiMessageError::InvalidId(MIC_TOKEN_ID, id));
+    }
+    if octets.len() < 8 {
+        return Err(cut_short());
+    }
+    let filler = [octets[3], octets[4], octets[5], octets[6], octets[7]];
+    if filler != MIC_FILLER {
+        return Err(GssApiMessageError::InvalidMicFiller(filler));
+    }
+    if octets.len() < 16 {
+        return Err(cut_short());
+    }
+    let mut number = [0; 8];
+    number.copy_from_slice(&octets[8..16]);
+    Ok((octets[2], big_u64(number)))
+}
+
+/// The token that the octets are: its fields are looked at in their order.
+fn token_of(alloc: Global, octets: &[u8]) -> Result<MicToken, GssApiMessageError>
+    ensures found { IfOk result (MicIs octets.now) }
+    ensures fits { IfOk result (λ t. t.seq_num < 2 ^ 64) }
+    ensures first_error { IfErr result (MicFirstError octets.now) }
+{
+    let (flags, seq_num) = header_of(octets)?;
+    let checksum = Vec::from_slice(alloc, &octets[MIC_HEADER_LEN..])?;
+    Ok(MicToken {
+        flags,
         seq_num,
         payload: None,
         checksum,

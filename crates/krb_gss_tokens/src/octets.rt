@@ -1,27 +1,67 @@
 //! Numbers and vectors of octets.
 
-ghost use Rattle.std.specs.Prelude.{◌≡◌, IfErr, IfOk, IfSome, nat_eq};
+ghost use Rattle.std.specs.Prelude.{◌≡◌, ◌++◌, IfErr, IfOk, IfSome, OnOk, nat_eq};
 ghost use Rattle.std.specs.Int.{to_be_bytes, w16, w64};
-ghost use Rattle.std.specs.Io.KnownBytes.{Consumes};
+ghost use Rattle.std.specs.Io.KnownBytes.{Appends, Consumes};
 ghost use Rattle.std.specs.Cmp.Lexicographic.{pointwise};
 ghost use Rattle.std.specs.Option.{option_eq};
 ghost use Rattle.krb_gss_tokens.specs.Octets.{octets_of};
-ghost use Rattle.krb_gss_tokens.specs.Rejected.{IsError, IsIo};
+ghost use Rattle.krb_gss_tokens.specs.Rejected.{IsEof, IsError, IsIo, IsUnwritten};
 
 use crate::error::GssApiMessageError;
-use krb_io::{ReadError, read_to_end};
+use krb_io::{ReadError, read_to_end, write_all};
 use std::alloc::Global;
-use std::io::Read;
+use std::io;
+use std::io::{ErrorKind, Read, Write};
+
+/// The error of octets that end inside a field.
+pub(crate) fn cut_short() -> GssApiMessageError
+    ensures { IsEof result }
+{
+    GssApiMessageError::IoError(io::Error::new(ErrorKind::UnexpectedEof, "a token is cut short"))
+}
+
+/// A header and the octets after it, in one vector.
+pub(crate) fn joined(
+    alloc: Global,
+    header: &[u8; 16],
+    rest: &[u8],
+) -> Result<Vec<u8>, GssApiMessageError>
+    ensures ok { IfOk result (λ octets. octets.items ≡ header.now ++ rest.now) }
+    ensures err { IfErr result (λ e. e ≡ GssApiMessageError.OutOfMemory) }
+{
+    let mut octets = Vec::with_capacity(alloc, rest.len().saturating_add(header.len()))?;
+    octets.extend_from_slice(header)?;
+    octets.extend_from_slice(rest)?;
+    Ok(octets)
+}
+
+/// Writes a header and the octets after it in one piece, which is made in memory of the vector's allocator.
+pub(crate) fn write_joined<W: Write>(
+    header: &[u8; 16],
+    rest: &Vec<u8>,
+    to: &mut W,
+) -> Result<(), GssApiMessageError>
+    ensures ok { OnOk result (Appends (W.contents to.old) (W.contents to.new) (header.now ++ rest.now.items)) }
+    ensures err { IfErr result IsIo }
+    ensures unwritten { IfErr result (IsUnwritten W.contents to.old to.new (header.now ++ rest.now.items)) }
+{
+    let Ok(octets) = joined(*rest.allocator(), header, rest) else {
+        return Err(GssApiMessageError::IoError(io::Error::from(ErrorKind::OutOfMemory)));
+    };
+    write_all(to, &octets)?;
+    Ok(())
+}
 
 /// The number that two octets are, the greater first.
-fn big_u16(octets: [u8; 2]) -> u16
+pub(crate) fn big_u16(octets: [u8; 2]) -> u16
     ensures { to_be_bytes w16 result ≡ octets }
 {
     u16::from_be_bytes(octets)
 }
 
 /// The number that eight octets are, the greatest first.
-fn big_u64(octets: [u8; 8]) -> u64
+pub(crate) fn big_u64(octets: [u8; 8]) -> u64
     ensures { to_be_bytes w64 result ≡ octets }
 {
     u64::from_be_bytes(octets)

@@ -1,15 +1,19 @@
 //! The Wrap token.
 
-ghost use Rattle.std.specs.Prelude.{◌≡◌, [], IfErr, IfOk, IfSome, None, OnOk};
+ghost use Rattle.std.specs.Prelude.{◌≡◌, ◌<◌, ◌≤◌, ◌^◌, ◌∷◌, ◌++◌, [], drop, length, IfErr, IfOk, IfSome, None, OnOk};
 ghost use Rattle.std.specs.Io.KnownBytes.{Appends};
 ghost use Rattle.krb_gss_tokens.specs.Comparing.{same_wrap_equiv, same_wrap_per};
-ghost use Rattle.krb_gss_tokens.specs.Layout.{wrap_header};
+ghost use Rattle.krb_gss_tokens.specs.Layout.{wrap_header, wrap_id};
 ghost use Rattle.krb_gss_tokens.specs.Octets.{octets_of};
-ghost use Rattle.krb_gss_tokens.specs.Rejected.{Answers, AnswersUnlessError, IsIo, RejectsAsIo, WrapIsCut, WrapRejected};
+ghost use Rattle.krb_gss_tokens.specs.Rejected.{Answers, AnswersUnlessError, IsIo, IsUnwritten, RejectsAsEof, RejectsAsIo};
+ghost use Rattle.krb_gss_tokens.specs.Rejected.{WrapFirstError, WrapIsCut, WrapRejected};
 ghost use Rattle.krb_gss_tokens.specs.Wrap.{FitsWrap, Wrap, WrapIs, same_wrap, wrap};
 
 use crate::error::GssApiMessageError;
-use crate::octets::{copy_payload, read_rest, read_u16, read_u64, same_payload};
+use crate::octets::{
+    big_u16, big_u64, copy_payload, cut_short, joined, read_rest, read_u16, read_u64, same_payload,
+    write_joined,
+};
 use krb_constants::gss_api::{WRAP_FILLER, WRAP_TOKEN_ID};
 use std::alloc::Global;
 use std::io::{Read, Write};
@@ -107,16 +111,43 @@ impl WrapToken {
         self.checksum = checksum;
     }
 
-    /// Writes the header and the data. The payload is not written.
+    /// The octets of the token: the header and the data. The payload is no part of them.
     ///
-    /// Every error is `IoError` of the writer; some octets may have been written then.
+    /// The only error is `OutOfMemory`.
+    pub fn to_vec(&self, alloc: Global) -> Result<Vec<u8>, GssApiMessageError>
+        ensures ok { IfOk result (λ octets. octets.items ≡ wrap self.now) }
+        ensures err { IfErr result (λ e. e ≡ GssApiMessageError.OutOfMemory) }
+    {
+        joined(alloc, &self.header(), &self.checksum)
+    }
+
+    /// Writes the header and the data in one piece. The payload is not written.
+    ///
+    /// The octets of the token are made first, in memory of the data's allocator. Every error is an `IoError`: of the kind
+    /// `OutOfMemory` where that memory could not be had, and then nothing was written; or that of the writer, which has then taken a
+    /// prefix of these octets, and not all of them. So a vector that cannot grow is as before. A write that a signal interrupts is
+    /// tried again.
     pub fn encode<W: Write>(&self, to: &mut W) -> Result<(), GssApiMessageError>
         ensures ok { OnOk result (Appends (W.contents to.old) (W.contents to.new) (wrap self.now)) }
         ensures err { IfErr result IsIo }
+        ensures unwritten { IfErr result (IsUnwritten W.contents to.old to.new (wrap self.now)) }
     {
-        to.write_all(&self.header())?;
-        to.write_all(&self.checksum)?;
-        Ok(())
+        write_joined(&self.header(), &self.checksum, to)
+    }
+
+    /// The token that the octets are. All octets after the first 16 are the data; there is no payload.
+    ///
+    /// The fields are looked at in their order: another id is `InvalidId`, another filler `InvalidWrapFiller`, and each is returned
+    /// before a later field is looked at. A field that the octets' end cuts short is an `IoError` of kind `UnexpectedEof`, and there is
+    /// no other. `OutOfMemory` comes only where the data is copied.
+    pub fn from_slice(alloc: Global, octets: &[u8]) -> Result<WrapToken, GssApiMessageError>
+        ensures found { IfOk result (WrapIs octets.now) }
+        ensures fits { IfOk result FitsWrap }
+        ensures first_error { IfErr result (WrapFirstError octets.now) }
+        ensures only { (t : Wrap) → FitsWrap t → WrapIs octets.now t → Answers result t }
+        ensures cut { WrapIsCut octets.now → RejectsAsEof result }
+    {
+        token_of(alloc, octets)
     }
 
     /// The token that the octets are, up to the reader's end. All octets after the first 16 are the data; there is no payload.
@@ -192,6 +223,64 @@ fn read_fields<R: Read>(alloc: Global, reader: &mut R) -> Result<WrapToken, GssA
     let rrc = read_u16(reader)?;
     let seq_num = read_u64(reader)?;
     let checksum = read_rest(alloc, reader)?;
+    Ok(WrapToken {
+        flags,
+        ec,
+        rrc,
+        seq_num,
+        payload: None,
+        checksum,
+    })
+}
+
+/// The flags that the octets begin with, after the id and before the filler.
+fn flags_of(octets: &[u8]) -> Result<u8, GssApiMessageError>
+    ensures ok { IfOk result (λ flags. octets.now ≡ wrap_id ++ (flags ∷ 255 ∷ []) ++ drop 4 octets.now) }
+    ensures whole { OnOk result (4 ≤ length octets.now) }
+    ensures err { IfErr result (WrapFirstError octets.now) }
+{
+    if octets.len() < 2 {
+        return Err(cut_short());
+    }
+    let id = [octets[0], octets[1]];
+    if id != WRAP_TOKEN_ID {
+        return Err(GssApiMessageError::InvalidId(WRAP_TOKEN_ID, id));
+    }
+    if octets.len() < 4 {
+        return Err(cut_short());
+    }
+    if octets[3] != WRAP_FILLER {
+        return Err(GssApiMessageError::InvalidWrapFiller(octets[3]));
+    }
+    Ok(octets[2])
+}
+
+/// The flags, the two counts and the sequence number of the header that the octets begin with.
+fn header_of(octets: &[u8]) -> Result<(u8, u16, u16, u64), GssApiMessageError>
+    ensures ok { IfOk result (λ h. octets.now ≡ wrap_header h.0 h.1 h.2 h.3 ++ drop 16 octets.now) }
+    ensures whole { OnOk result (16 ≤ length octets.now) }
+    ensures fits { IfOk result (λ h. (h.1 < 2 ^ 16) × (h.2 < 2 ^ 16) × (h.3 < 2 ^ 64)) }
+    ensures err { IfErr result (WrapFirstError octets.now) }
+{
+    let flags = flags_of(octets)?;
+    if octets.len() < WRAP_HEADER_LEN {
+        return Err(cut_short());
+    }
+    let ec = big_u16([octets[4], octets[5]]);
+    let rrc = big_u16([octets[6], octets[7]]);
+    let mut number = [0; 8];
+    number.copy_from_slice(&octets[8..WRAP_HEADER_LEN]);
+    Ok((flags, ec, rrc, big_u64(number)))
+}
+
+/// The token that the octets are: its fields are looked at in their order.
+fn token_of(alloc: Global, octets: &[u8]) -> Result<WrapToken, GssApiMessageError>
+    ensures found { IfOk result (WrapIs octets.now) }
+    ensures fits { IfOk result FitsWrap }
+    ensures first_error { IfErr result (WrapFirstError octets.now) }
+{
+    let (flags, ec, rrc, seq_num) = header_of(octets)?;
+    let checksum = Vec::from_slice(alloc, &octets[WRAP_HEADER_LEN..])?;
     Ok(WrapToken {
         flags,
         ec,

@@ -6,3 +6,4 @@ pub mod Fill
 pub mod Lists
 pub mod Marks
 pub mod OneRejection
+pub mod Viewed

@@ -8,4 +8,5 @@ pub mod Marks
 pub mod OnePac
 pub mod Rejected
 pub mod Stands
+pub mod View
 pub mod Written

@@ -1,5 +1,5 @@
 -- What octets are no PAC, each by its first error.
-use Rattle.std.specs.Prelude.{◌≡◌, ℕ, ◌+◌, ◌*◌, ◌<◌, ◌≤◌, ◌⊎◌, List, length, drop, Result, MatchResult}
+use Rattle.std.specs.Prelude.{◌≡◌, ℕ, ◌+◌, ◌*◌, ◌<◌, ◌≤◌, ◌⊎◌, List, length, drop, Result, Ok, Err, MatchResult}
 use Rattle.std.specs.IoError.{error_kind}
 use Rattle.std.specs.declared.io.ErrorKind.TheVariants.{UnexpectedEof}
 use Rattle.byteorder.specs.Endian.{little_number}
@@ -17,6 +17,11 @@ IsListed b at = (at + 4 ≤ length b) × ((k : PacBufferType) × (code k ≡ lit
 -- the entry at `at` is cut short, and no field of it before the cut is rejected
 abbrev pub IsCut : List ℕ → ℕ → Type 0
 IsCut b at = (length b < at + 4) ⊎ (IsListed b at × (length b < at + 16))
+
+-- not an allocation failure
+abbrev pub IsNotMemory : PacError → Type 0
+IsNotMemory errors.OutOfMemory = ⊥
+IsNotMemory e = Unit {0}
 
 abbrev pub IsEof : PacError → Type 0
 IsEof (errors.IoError x) = error_kind x ≡ UnexpectedEof
@@ -84,3 +89,10 @@ AreOne e f = e ≡ f
 -- the errors are one, or one of them is an allocation failure
 abbrev pub AreOneOrMemory : PacError → PacError → Type 0
 AreOneOrMemory e f = AreOne e f ⊎ ((e ≡ errors.OutOfMemory) ⊎ (f ≡ errors.OutOfMemory))
+
+-- Two calls read the same: equal values, or one error; or memory ran out in one of them.
+abbrev pub AreAlike : {A : Type 0} → Result A PacError → Result A PacError → Type 0
+AreAlike (Ok v) (Ok w) = v ≡ w
+AreAlike (Ok v) (Err f) = f ≡ errors.OutOfMemory
+AreAlike (Err e) (Ok w) = e ≡ errors.OutOfMemory
+AreAlike (Err e) (Err f) = AreOneOrMemory e f

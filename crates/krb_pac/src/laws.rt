@@ -1,10 +1,10 @@
 //! Lemmas: functions with no body, whose contracts state what holds of the definitions.
 
-ghost use Rattle.std.specs.Prelude.{◌≡◌, ◌↔◌, ℕ, List, Result};
+ghost use Rattle.std.specs.Prelude.{◌≡◌, ◌↔◌, ℕ, List, Result, IfOk, IfErr};
 ghost use Rattle.krb_pac.specs.Equality.{ClonesValue, DecidesEqual};
 ghost use Rattle.krb_pac.specs.Kind.{code};
 ghost use Rattle.krb_pac.specs.Layout.{Buffer, PacIs};
-ghost use Rattle.krb_pac.specs.Rejected.{AreOneOrMemory, IsTypeOf, PacRejected};
+ghost use Rattle.krb_pac.specs.Rejected.{AreAlike, AreOneOrMemory, IsTypeOf, PacRejected};
 ghost use Rattle.krb_pac.specs.Written.{PacPut};
 ghost use Rattle.krb_pac.specs.declared.error.PacError.TheVariants as errors;
 
@@ -24,6 +24,13 @@ pub fn readings()
 pub fn rejections()
     ensures no_pac { (b : List ℕ) (pac : List Buffer) (e : PacError) → PacIs b pac → PacRejected b e → e ≡ errors.OutOfMemory }
     ensures one { (b : List ℕ) (e f : PacError) → PacRejected b e → PacRejected b f → AreOneOrMemory e f }
+{}
+
+/// What `Pac::deserialize` reads of octets and what `PacView::new` reads of them is one PAC, or both return one error, allocation
+/// failures aside.
+pub fn views()
+    ensures { (b : List ℕ) (read view : Result (List Buffer) PacError) → IfOk read (PacIs b) → IfErr read (PacRejected b)
+        → IfOk view (PacIs b) → IfErr view (PacRejected b) → AreAlike read view }
 {}
 
 /// `==` is true of equal values, and of no others.

@@ -14,6 +14,7 @@ pub mod laws;
 mod pac;
 mod ranges;
 mod reading;
+mod view;
 mod writing;
 
 pub use buffer::PacBuffer;
@@ -21,3 +22,4 @@ pub use error::PacError;
 pub use info::PacInfoBuffer;
 pub use kind::PacBufferType;
 pub use pac::Pac;
+pub use view::{PacBufferView, PacBuffers, PacView};

@@ -3,7 +3,7 @@
 ghost use Rattle.std.specs.Prelude.{◌≡◌, ◌+◌, ◌≤◌, ◌<◌, length, drop, IfOk, IfErr};
 ghost use Rattle.byteorder.specs.Endian.{little_number};
 ghost use Rattle.krb_pac.specs.Layout.{EntryAt};
-ghost use Rattle.krb_pac.specs.Rejected.{IsEof, BufferRejected};
+ghost use Rattle.krb_pac.specs.Rejected.{IsEof, IsNotMemory, BufferRejected};
 
 use crate::error::PacError;
 use crate::info::PacInfoBuffer;
@@ -34,6 +34,7 @@ pub(crate) fn u32_at(bytes: &[u8], at: usize) -> Result<u32, PacError>
 pub(crate) fn entry_at(bytes: &[u8], at: usize) -> Result<PacInfoBuffer, PacError>
     ensures ok { IfOk result (EntryAt bytes.now at) }
     ensures err { IfErr result (BufferRejected bytes.now at) }
+    ensures memory { IfErr result IsNotMemory }
 {
     let ul_type = PacBufferType::try_from(u32_at(bytes, at)?)?;
     if bytes.len() - at < 16 {

@@ -73,6 +73,8 @@ pub enum Rejection {
     Lost,
     /// A reader of few octets at a time gives another error.
     Otherwise,
+    /// A call over a slice, or a view, gives another outcome.
+    Unlike,
     OutOfMemory,
 }
 
@@ -161,6 +163,7 @@ impl Rejection {
             Rejection::Device(error) => kind_name(error.kind()),
             Rejection::Lost => "a vector that did not stay",
             Rejection::Otherwise => "otherwise of a slow reader",
+            Rejection::Unlike => "otherwise of a slice",
             Rejection::OutOfMemory => "OutOfMemory",
         }
     }

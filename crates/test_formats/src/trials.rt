@@ -43,6 +43,30 @@ pub trait Streamed: Format {
     ) -> Result<Self, Rejection>;
 }
 
+/// The outcome of two calls that read the same octets, one of them over a slice: they should give equal values, or one error.
+pub fn of_both<V: PartialEq + Drop>(
+    alloc: Global,
+    one: Result<V, Rejection>,
+    other: Result<V, Rejection>,
+) -> Result<V, Rejection> {
+    match (one, other) {
+        (Err(Rejection::OutOfMemory), _) | (_, Err(Rejection::OutOfMemory)) => Err(
+            Rejection::OutOfMemory,
+        ),
+        (Ok(one), Ok(other)) => if one == other {
+            Ok(one)
+        } else {
+            Err(Rejection::Unlike)
+        },
+        (Err(one), Err(other)) => if one.reported(alloc)? == other.reported(alloc)? {
+            Err(one)
+        } else {
+            Err(Rejection::Unlike)
+        },
+        _ => Err(Rejection::Unlike),
+    }
+}
+
 /// Reads a test vector's octets as a value, clones and writes it, and returns the findings.
 pub fn tried<F: Format>(row: &Row<'_>) -> Result<Findings, Rejection> {
     let value = F::read_from(row.alloc, row.octets)?;
@@ -105,8 +129,7 @@ fn send<F: Format>(alloc: Global, value: &F) -> Result<bool, Rejection> {
     }
 }
 
-/// The octets that writing the value appends to a vector. An error should leave the vector as it was, except where the vector itself
-/// could not grow: a token is written in two pieces.
+/// The octets that writing the value appends to a vector. An error should leave the vector as it was.
 fn written<F: Format>(alloc: Global, value: &F) -> Result<Vec<u8>, Rejection> {
     let mut octets = Vec::from_slice(alloc, &PREFIX)?;
     let outcome = value.write_to(alloc, &mut octets);
@@ -114,8 +137,11 @@ fn written<F: Format>(alloc: Global, value: &F) -> Result<Vec<u8>, Rejection> {
         return Err(Rejection::Lost);
     };
     if let Err(rejection) = outcome {
-        let is_kept = trailing.is_empty() || matches!(&rejection, Rejection::OutOfMemory);
-        return Err(if is_kept { rejection } else { Rejection::Lost });
+        return Err(if trailing.is_empty() {
+            rejection
+        } else {
+            Rejection::Lost
+        });
     }
     Ok(Vec::from_slice(alloc, trailing)?)
 }

@@ -2,8 +2,8 @@
 
 use crate::devices::Source;
 use crate::row::{Attempt, Findings, Rejection, Row};
-use crate::trials::{Format, Streamed, made, tried_slowly};
-use krb_pac::{Pac, PacBuffer, PacInfoBuffer};
+use crate::trials::{Format, Streamed, made, of_both, tried_slowly};
+use krb_pac::{Pac, PacBuffer, PacBufferView, PacInfoBuffer, PacView};
 use std::alloc::Global;
 use std::io::Write;
 
@@ -13,9 +13,50 @@ const HEADER_LENGTH: usize = 8;
 /// How many octets an entry has: a type, a size and an offset.
 const ENTRY_LENGTH: usize = 16;
 
+/// Whether two views are of one buffer.
+fn is_same(one: &PacBufferView<'_>, other: &PacBufferView<'_>) -> bool {
+    *one.info_buffer() == *other.info_buffer() && one.octets() == other.octets()
+}
+
+/// The buffer of a view. Its place and its type should find it, or an earlier buffer of that type.
+fn viewed_buffer(
+    alloc: Global,
+    view: &PacView<'_>,
+    n: usize,
+    buffer: &PacBufferView<'_>,
+) -> Result<PacBuffer, Rejection> {
+    let Some(again) = view.get(n) else {
+        return Err(Rejection::Unlike);
+    };
+    let ul_type = buffer.info_buffer().ul_type();
+    let Some(first) = view.find(ul_type) else {
+        return Err(Rejection::Unlike);
+    };
+    if !is_same(&again, buffer) || first.info_buffer().ul_type() != ul_type {
+        return Err(Rejection::Unlike);
+    }
+    let octets = Vec::from_slice(alloc, buffer.octets())?;
+    Ok(PacBuffer::new(*buffer.info_buffer(), octets)?)
+}
+
+/// The PAC of the buffers of a view.
+fn viewed(alloc: Global, octets: &[u8]) -> Result<Pac, Rejection> {
+    let view = PacView::new(octets)?;
+    let mut buffers = Vec::new(alloc);
+    for buffer in view.buffers() {
+        let n = buffers.len();
+        buffers.push(viewed_buffer(alloc, &view, n, &buffer)?)?;
+    }
+    if buffers.len() != view.len() || view.is_empty() != buffers.is_empty() {
+        return Err(Rejection::Unlike);
+    }
+    Ok(Pac::new(buffers)?)
+}
+
 impl Format for Pac {
     fn read_from(alloc: Global, octets: &[u8]) -> Result<Pac, Rejection> {
-        Ok(Pac::deserialize(alloc, octets)?)
+        let read = Pac::deserialize(alloc, octets);
+        of_both(alloc, read.map_err(Rejection::from), viewed(alloc, octets))
     }
 
     fn again(&self, alloc: Global) -> Result<Pac, Rejection> {

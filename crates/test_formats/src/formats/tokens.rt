@@ -2,7 +2,7 @@
 
 use crate::devices::Source;
 use crate::row::{Attempt, Rejection, Row};
-use crate::trials::{Format, Streamed, made, tried_slowly};
+use crate::trials::{Format, Streamed, made, of_both, tried_slowly};
 use krb_gss_tokens::{MicToken, WrapToken};
 use std::alloc::Global;
 use std::io::Write;
@@ -15,7 +15,13 @@ const SENT_BY_ACCEPTOR: u8 = 1;
 
 impl Format for MicToken {
     fn read_from(alloc: Global, octets: &[u8]) -> Result<MicToken, Rejection> {
-        let mut token = MicToken::decode(alloc, octets)?;
+        let slice = MicToken::from_slice(alloc, octets);
+        let read = MicToken::decode(alloc, octets);
+        let mut token = of_both(
+            alloc,
+            read.map_err(Rejection::from),
+            slice.map_err(Rejection::from),
+        )?;
         token.set_payload(Vec::from_slice(alloc, PAYLOAD)?);
         Ok(token)
     }
@@ -47,7 +53,13 @@ impl Streamed for MicToken {
 
 impl Format for WrapToken {
     fn read_from(alloc: Global, octets: &[u8]) -> Result<WrapToken, Rejection> {
-        let mut token = WrapToken::decode(alloc, octets)?;
+        let slice = WrapToken::from_slice(alloc, octets);
+        let read = WrapToken::decode(alloc, octets);
+        let mut token = of_both(
+            alloc,
+            read.map_err(Rejection::from),
+            slice.map_err(Rejection::from),
+        )?;
         token.payload = Some(Vec::from_slice(alloc, PAYLOAD)?);
         Ok(token)
     }
@@ -88,7 +100,7 @@ fn mic_again(row: &Row<'_>) -> Result<Vec<u8>, Rejection> {
     let mut token = token.with_seq_number(read.seq_num);
     let mut octets = Vec::from_slice(row.alloc, &token.header())?;
     token.set_checksum(read.checksum);
-    token.encode(&mut octets)?;
+    octets.extend_from_slice(&token.to_vec(row.alloc)?)?;
     Ok(octets)
 }
 
@@ -101,7 +113,7 @@ fn wrap_again(row: &Row<'_>) -> Result<Vec<u8>, Rejection> {
     token.ec = read.ec;
     token.set_rrc(read.rrc);
     token.set_checksum(read.checksum);
-    token.encode(&mut octets)?;
+    octets.extend_from_slice(&token.to_vec(row.alloc)?)?;
     Ok(octets)
 }
 

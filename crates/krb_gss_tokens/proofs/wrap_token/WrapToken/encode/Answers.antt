@@ -1,8 +1,16 @@
-use Rattle.std.proofs.Common.{ap, ◌∙◌}
+use Rattle.std.proofs.Common.{ap, subst, ℕ, List, OnOk, IfErr}
+use Rattle.std.specs.Io.KnownBytes.{Appends}
 use Rattle.krb_gss_tokens.specs.Wrap.{Wrap}
-use Rattle.krb_gss_tokens.proofs.Streams.{appends_parts}
+use Rattle.krb_gss_tokens.specs.Rejected.{IsUnwritten}
+use Rattle.krb_gss_tokens.proofs.Streams.{joined_parts}
 use Rattle.krb_gss_tokens.proofs.wrap_token.WrapToken.encode.Goals as goal
 
 pub returns-clause-ok : goal.returns-clause-ok
 returns-clause-ok g c =
-    appends_parts _ _ _ _ _ _ _ c.header.ensures (c.deref.ensures.value ∙ ap (λ (t : Wrap). t.checksum) c.self.view_is) c.in_ok-write_all.ensures.bytes c.in_ok-write_all-2.ensures.bytes
+    let e = joined_parts _ _ _ _ c.header.ensures (ap (λ (t : Wrap). t.checksum) c.self.view_is) in
+    subst (λ (xs : List ℕ). OnOk c.write_joined.result (Appends (g.W.Write.contents c.args.to.now) (g.W.Write.contents c.write_joined.new.to) xs)) e c.write_joined.ensures.ok
+
+pub returns-clause-unwritten : goal.returns-clause-unwritten
+returns-clause-unwritten g c =
+    let e = joined_parts _ _ _ _ c.header.ensures (ap (λ (t : Wrap). t.checksum) c.self.view_is) in
+    subst (λ (xs : List ℕ). IfErr c.write_joined.result (IsUnwritten g.W.Write.contents c.args.to.now c.write_joined.new.to xs)) e c.write_joined.ensures.unwritten
