@@ -1,31 +1,31 @@
--- What a key's calls result, from what is kept of the key.
-use Rattle.std.proofs.Common.{◌≡◌, ℕ, zero, suc, ◌+◌, ◌-◌, ◌*◌, ◌≤◌, min, List, length, take, refl, sym, ap, ◌∙◌, subst, arith, inl, inr, length-take}
-use Rattle.krb_crypto_block.specs.Modes.{IsOctets, AreInverse}
-use Rattle.krb_crypto_block.specs.Aes.{key_expansion, key_words, round_count, add_round_key, cipher, aes_block, IsKeySize}
+-- What a key's calls return, from what is kept of the key.
+use Rattle.std.proofs.Common.{◌≡◌, ℕ, zero, suc, ◌+◌, ◌-◌, ◌*◌, ◌<◌, ◌≤◌, min, List, [], length, take, get_or, refl, sym, ap, ◌∙◌, subst, arith, inl, inr, length-take}
+use Rattle.std.proofs.lemmas.List.{get_or-map}
+use Rattle.krb_crypto_block.specs.Modes.{IsOctets, IsBlock, AreInverse}
+use Rattle.krb_crypto_block.specs.Aes.{add_round_key, key_expansion, key_words, round_count, round, rounds, cipher, aes_block, IsKeySize}
+use Rattle.krb_crypto_block.specs.AesWords.{HasRoundKey, inverse_cipher_round, inverse_cipher_rounds, inverse_cipher_last}
 use Rattle.krb_crypto_block.specs.InverseCipher.{inverse_sub_bytes, inverse_shift_rows, inverse_rounds, decrypt, aes_undo}
-use Rattle.krb_crypto_block.specs.AesWords.{HasRoundKey, HasInverseKeys, IsKept, inverse_cipher_round, inverse_cipher_rounds, inverse_cipher_last}
+use Rattle.krb_crypto_block.specs.AesLanes.{lanes_at, key_prefix, IsKeyPrefix, IsExpanded}
+use Rattle.krb_crypto_block.specs.declared.aes.round_keys.RoundKey.{RoundKey}
 use Rattle.krb_crypto_block.proofs.Below.{AreBelow-take}
-use Rattle.krb_crypto_block.proofs.AesUndoing.{IsOctets-expanded, are_inverse}
-use Rattle.krb_crypto_block.proofs.AesWordKeys.{key_expansion-octets}
+use Rattle.krb_crypto_block.proofs.AesStates.{IsState, sub_bytes-IsState, shift_rows-IsState, mix_columns-IsState, add_round_key-IsState, inverse_mix_columns-IsState, inverse_sub_bytes-IsState, inverse_shift_rows-IsState}
+use Rattle.krb_crypto_block.proofs.AesUndoing.{IsOctets-expanded, state_of_block, block_of_state, are_inverse}
 
-module _ (octets words inverse_words v : List ℕ) (nr : ℕ) (kept : IsKept octets words inverse_words nr) (long : length octets ≡ 32) (view : take (4 * (nr - 6)) octets ≡ v) where
-  pub value_octets : IsOctets v
-  value_octets = subst IsOctets view (AreBelow-take (4 * (nr - 6)) octets kept.are_octets)
+-- ---- the key
+
+-- a key of octets that is the prefix of a list
+module _ (octets v : List ℕ) (nr : ℕ) (is : IsKeyPrefix octets nr) (long : length octets ≡ 32) (view : key_prefix octets nr ≡ v) where
+  value_octets : IsOctets v
+  value_octets = subst IsOctets view (AreBelow-take (4 * (nr - 6)) octets is.are_octets)
 
   pub expansion_octets : IsOctets (key_expansion v)
   unfolding key_expansion
   expansion_octets = IsOctets-expanded (key_words v) v (4 * (round_count (key_words v) + 1) - key_words v) value_octets
 
-  pub keys_are : (n : ℕ) → n ≤ nr → HasRoundKey (key_expansion v) words n
-  keys_are = rw view at kept.keys
-
-  pub inverse_keys_are : HasInverseKeys (key_expansion v) inverse_words nr
-  inverse_keys_are = rw view at kept.inverse_keys
-
   rounds_are : round_count (key_words v) ≡ nr
   rounds_are =
       let len : length v ≡ min (4 * (nr - 6)) (length octets) = ap length (sym view) ∙ length-take (4 * (nr - 6)) octets in
-      elim kept.size [ inl four ↦ omega arith | inr eight ↦ omega arith ]
+      elim is.size [ inl four ↦ omega arith | inr eight ↦ omega arith ]
 
   pub cipher_is : (p : List ℕ) → aes_block v p ≡ cipher (key_expansion v) nr p
   unfolding aes_block
@@ -38,22 +38,61 @@ module _ (octets words inverse_words v : List ℕ) (nr : ℕ) (kept : IsKept oct
   pub keys_undo : AreInverse 16 (aes_block v) (aes_undo v)
   keys_undo = are_inverse v value_octets
 
--- a key of nk words is kept
-pub is_kept : (key octets words inverse_words : List ℕ) (nk : ℕ) → IsKeySize nk → length key ≡ 4 * nk → IsOctets octets → take (length key) octets ≡ key
-    → ((n : ℕ) → n ≤ nk + 6 → HasRoundKey (key_expansion key) words n)
-    → ((w : List ℕ) → IsOctets w → ((n : ℕ) → n ≤ nk + 6 → HasRoundKey w words n) → HasInverseKeys w inverse_words (nk + 6))
-    → IsKept octets words inverse_words (nk + 6)
-is_kept key octets words inverse_words nk size long are_octets prefix keys inverse =
+-- the rounds of a key
+pub most_rounds : (octets : List ℕ) (nr : ℕ) → IsKeyPrefix octets nr → (1 ≤ nr) × (nr ≤ 14)
+most_rounds octets nr is = elim is.size [ inl four ↦ (omega arith, omega arith) | inr eight ↦ (omega arith, omega arith) ]
+
+-- a key of nk words, and the words of its round keys
+pub is_expanded : (key octets words : List ℕ) (nk : ℕ) → IsKeySize nk → length key ≡ 4 * nk → IsOctets octets → take (length key) octets ≡ key
+    → ((n : ℕ) → n ≤ nk + 6 → HasRoundKey (key_expansion key) words n) → IsExpanded octets words (nk + 6)
+is_expanded key octets words nk size long are_octets prefix has =
     let same : nk + 6 - 6 ≡ nk = omega arith in
     let whole : 4 * (nk + 6 - 6) ≡ length key = omega arith in
-    let value : take (4 * (nk + 6 - 6)) octets ≡ key = rw whole prefix in
-    let key_octets : IsOctets key = subst IsOctets prefix (AreBelow-take (length key) octets are_octets) in
+    let value : key_prefix octets (nk + 6) ≡ key = rw whole prefix in
     record {
-      size = rw same size;
-      are_octets = are_octets;
-      keys = rw value keys;
-      inverse_keys = rw value (inverse (key_expansion key) (key_expansion-octets nk key size long key_octets) keys);
+      key = record { size = rw same size; are_octets = are_octets };
+      words_are = rw value has;
     }
+
+pub lanes_are : (keys : List RoundKey) (n : ℕ) (d : RoundKey) → n < length keys → lanes_at keys n ≡ (get_or keys n d).lanes
+lanes_are keys n d h = get_or-map (λ (x : RoundKey). x.lanes) keys n d [] h
+
+-- ---- rounds
+
+rounds_state : (w p : List ℕ) (n : ℕ) → IsOctets w → IsState p → IsState (rounds w p n)
+unfolding rounds
+rounds_state w p zero octets is = add_round_key-IsState w 0 p octets is
+rounds_state w p (suc n) octets is =
+    add_round_key-IsState w (suc n) _ octets (mix_columns-IsState _ (shift_rows-IsState _ (sub_bytes-IsState _ (rounds_state w p n octets is))))
+
+pub rounds_block : (w p : List ℕ) (n : ℕ) → IsOctets w → IsBlock 16 p → IsBlock 16 (rounds w p n)
+rounds_block w p n octets is = block_of_state _ (rounds_state w p n octets (state_of_block p is))
+
+pub rounds_step : (w p : List ℕ) (n : ℕ) → 1 ≤ n → round w n (rounds w p (n - 1)) ≡ rounds w p (n + 1 - 1)
+unfolding rounds
+rounds_step w p zero h = absurd (omega arith)
+rounds_step w p (suc n) h =
+    let a : suc n - 1 ≡ n = omega arith in
+    let b : suc n + 1 - 1 ≡ suc n = omega arith in
+    rw (a, b) refl
+
+-- ---- rounds of the inverse cipher
+
+-- a round of the inverse cipher gives a block
+pub inverse_block : (w st : List ℕ) (n : ℕ) → IsOctets w → IsBlock 16 st → IsBlock 16 (inverse_cipher_round w n st)
+inverse_block w st n octets is =
+    block_of_state _ (inverse_mix_columns-IsState _ (add_round_key-IsState w n _ octets (inverse_sub_bytes-IsState _ (inverse_shift_rows-IsState st (state_of_block st is)))))
+
+pub added_block : (w st : List ℕ) (n : ℕ) → IsOctets w → IsBlock 16 st → IsBlock 16 (add_round_key w n st)
+added_block w st n octets is = block_of_state _ (add_round_key-IsState w n st octets (state_of_block st is))
+
+-- one of its rounds
+pub inverse_step : (w st : List ℕ) (n m : ℕ) → 1 ≤ n → m ≡ n - 1 → inverse_cipher_rounds w (inverse_cipher_round w n st) m ≡ inverse_cipher_rounds w st n
+unfolding inverse_cipher_rounds
+inverse_step w st zero m h e = absurd (omega arith)
+inverse_step w st (suc n) m h e =
+    let same : m ≡ n = omega arith in
+    rw same refl
 
 -- ---- the inverse cipher, in the order of its steps
 

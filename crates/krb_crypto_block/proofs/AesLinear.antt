@@ -16,7 +16,7 @@ xor_medial a b c d =
     ∙ sym (xor_assoc a c (bit_xor b d))
 
 -- a coefficient that is a sum of two
-scale_xor : (b c m : ℕ) → b < 2 → c < 2 → (b + c) % 2 * m ≡ bit_xor (b * m) (c * m)
+pub scale_xor : (b c m : ℕ) → b < 2 → c < 2 → (b + c) % 2 * m ≡ bit_xor (b * m) (c * m)
 scale_xor zero zero m p q = rw zero-mul refl
 scale_xor zero (suc zero) m p q = rw zero-mul refl
 scale_xor (suc zero) zero m p q = rw zero-mul (sym (xor_zero_r (1 * m)))

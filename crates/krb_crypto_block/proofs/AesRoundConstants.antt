@@ -3,7 +3,7 @@ use Rattle.std.proofs.Common.{◌≡◌, ℕ, ◌<◌, true, refl, slice_index}
 use Rattle.krb_crypto_block.specs.Polynomial.{times}
 use Rattle.krb_crypto_block.specs.Aes.{power_of_x}
 use Rattle.krb_crypto_block.specs.AesWords.{word}
-use Rattle.krb_crypto_block.specs.declared.aes.key_expansion.TheConstants.{ROUND_CONSTANTS}
+use Rattle.krb_crypto_block.specs.declared.aes_key_expansion.TheConstants.{ROUND_CONSTANTS}
 use Rattle.krb_crypto_block.proofs.Tables.{same_below, same_below_at}
 
 abbrev constant : ℕ → ℕ

@@ -1,8 +1,8 @@
--- Columns and round keys as words of 32 bits, first octet highest, and what is kept of a key (FIPS 197, 3.5, 5.2 and 5.3.5).
-use Rattle.std.specs.Prelude.{◌≡◌, ℕ, zero, suc, ◌+◌, ◌-◌, ◌*◌, ◌^◌, ◌<◌, ◌≤◌, List, [], ◌∷◌, take, slice_index}
+-- Columns and round keys as words of 32 bits, first octet highest (FIPS 197, 3.5 and 5.2), and the inverse cipher by its steps (5.3).
+use Rattle.std.specs.Prelude.{◌≡◌, ℕ, zero, suc, ◌+◌, ◌*◌, ◌^◌, ◌<◌, List, [], ◌∷◌, slice_index}
 use Rattle.krb_crypto_block.specs.Modes.{IsOctets, IsBlock}
-use Rattle.krb_crypto_block.specs.Aes.{column_of, product_of_columns, add_round_key, key_expansion, IsKeySize}
-use Rattle.krb_crypto_block.specs.InverseCipher.{unmix_polynomial, inverse_sub_bytes, inverse_shift_rows, inverse_mix_columns}
+use Rattle.krb_crypto_block.specs.Aes.{column_of, add_round_key}
+use Rattle.krb_crypto_block.specs.InverseCipher.{inverse_sub_bytes, inverse_shift_rows, inverse_mix_columns}
 
 -- four octets as a word
 abbrev pub word : ℕ → ℕ → ℕ → ℕ → ℕ
@@ -30,11 +30,6 @@ key_column w n c =
 unfoldable pub HasRoundKey : List ℕ → List ℕ → ℕ → Type 0
 HasRoundKey w words n = (c : ℕ) → c < 4 → slice_index words (4 * n + c) ≡ word_of (key_column w n c)
 
--- the words have what InvMixColumns takes that round key to (5.3.5)
-unfoldable pub HasUnmixedKey : List ℕ → List ℕ → ℕ → Type 0
-HasUnmixedKey w words n =
-    (c : ℕ) → c < 4 → slice_index words (4 * n + c) ≡ word_of (product_of_columns unmix_polynomial (key_column w n c))
-
 -- round n of the inverse cipher, in the order of its steps (5.3)
 abbrev pub inverse_cipher_round : List ℕ → ℕ → List ℕ → List ℕ
 inverse_cipher_round w n s = inverse_mix_columns (add_round_key w n (inverse_sub_bytes (inverse_shift_rows s)))
@@ -47,17 +42,3 @@ inverse_cipher_rounds w s (suc n) = inverse_cipher_rounds w (inverse_cipher_roun
 -- its last round
 abbrev pub inverse_cipher_last : List ℕ → List ℕ → List ℕ
 inverse_cipher_last w s = add_round_key w 0 (inverse_sub_bytes (inverse_shift_rows s))
-
--- the round keys of the equivalent inverse cipher for nr rounds (5.3.5): all but the first and the last are unmixed
-pub record HasInverseKeys (w words : List ℕ) (nr : ℕ) : Type 0 where
-  pub first : HasRoundKey w words 0
-  pub between : (n : ℕ) → 1 ≤ n → n < nr → HasUnmixedKey w words n
-  pub last : HasRoundKey w words nr
-
--- the octets of a key that is a prefix of a list, the words of its round keys, and those of the equivalent inverse cipher,
--- for this number of rounds
-pub record IsKept (octets words inverse_words : List ℕ) (nr : ℕ) : Type 0 where
-  pub size : IsKeySize (nr - 6)
-  pub are_octets : IsOctets octets
-  pub keys : (n : ℕ) → n ≤ nr → HasRoundKey (key_expansion (take (4 * (nr - 6)) octets)) words n
-  pub inverse_keys : HasInverseKeys (key_expansion (take (4 * (nr - 6)) octets)) inverse_words nr

@@ -4,6 +4,7 @@ pub mod SBox
 pub mod Aes
 pub mod InverseCipher
 pub mod AesWords
+pub mod AesLanes
 pub mod Size
 pub mod Linked
 pub mod Modes

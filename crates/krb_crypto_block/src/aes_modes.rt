@@ -6,7 +6,7 @@ ghost use Rattle.krb_crypto_hash.specs.CryptoError.{RejectsKeyOr, IsKeyOrCipherL
 ghost use Rattle.krb_crypto_block.specs.Modes.{Cts, IsCbc, IsOctets, with_last_two_swapped};
 ghost use Rattle.krb_crypto_block.specs.Size.{key_octets};
 
-use crate::aes::{AES_BLOCK_SIZE, AesKey, AesSize};
+use crate::aes::{AES_BLOCK_SIZE, AesDecryptionKey, AesEncryptionKey, AesSize};
 use crate::cbc::{decrypt_cbc, encrypt_cbc};
 use crate::in_place;
 use krb_crypto_hash::{KerberosCryptoError, KerberosCryptoResult};
@@ -24,7 +24,7 @@ pub fn encrypt_aes_cbc(
     ensures chained { IfOk result (λ c. IsCbc 16 (aes_block key.now) plaintext.now c.items) }
     ensures rejected { IfErr result (RejectsKeyOr (key_octets size.now) key.now (length plaintext.now % 16 ≢ 0) KerberosCryptoError.CipherPad) }
 {
-    let cipher = AesKey::new(key, size)?;
+    let cipher = AesEncryptionKey::new(key, size)?;
     if plaintext.len() % AES_BLOCK_SIZE != 0 {
         return Err(KerberosCryptoError::CipherPad);
     }
@@ -46,7 +46,7 @@ pub fn decrypt_aes_cbc(
     ensures only { IfOk result (λ p. (q : List ℕ) → IsOctets q → IsCbc 16 (aes_block key.now) q cipher_text.now → q ≡ p.items) }
     ensures rejected { IfErr result (RejectsKeyOr (key_octets size.now) key.now (length cipher_text.now % 16 ≢ 0) KerberosCryptoError.CipherUnpad) }
 {
-    let cipher = AesKey::new(key, size)?;
+    let cipher = AesDecryptionKey::new(key, size)?;
     if cipher_text.len() % AES_BLOCK_SIZE != 0 {
         return Err(KerberosCryptoError::CipherUnpad);
     }
@@ -68,7 +68,7 @@ pub fn encrypt_aes_cts(
     ensures encrypted_octets { IfOk result (λ c. Cts (aes_block key.now) payload.now c.items) }
     ensures rejected { IfErr result (IsKeyOrCipherLengthError (key_octets size.now) key.now 16 payload.now) }
 {
-    let cipher = AesKey::new(key, size)?;
+    let cipher = AesEncryptionKey::new(key, size)?;
     if payload.len() < AES_BLOCK_SIZE {
         return Err(KerberosCryptoError::CipherLength(payload.len(), AES_BLOCK_SIZE));
     }
@@ -90,7 +90,7 @@ pub fn decrypt_aes_cts(
     ensures only { IfOk result (λ p. (q : List ℕ) → IsOctets q → Cts (aes_block key.now) q cipher_text.now → q ≡ p.items) }
     ensures rejected { IfErr result (IsKeyOrCipherLengthError (key_octets size.now) key.now 16 cipher_text.now) }
 {
-    let cipher = AesKey::new(key, size)?;
+    let cipher = AesDecryptionKey::new(key, size)?;
     if cipher_text.len() < AES_BLOCK_SIZE {
         return Err(KerberosCryptoError::CipherLength(cipher_text.len(), AES_BLOCK_SIZE));
     }

@@ -5,7 +5,7 @@ ghost use Rattle.krb_crypto_block.specs.Des.{bits, octet_bits, ede3, ede3_undo, 
 ghost use Rattle.krb_crypto_block.specs.Modes.{AreInverse, IsOctets};
 ghost use Rattle.krb_crypto_hash.specs.CryptoError.{IsKeyLengthError};
 
-use crate::block_cipher::BlockCipher;
+use crate::block_cipher::{BlockDecrypt, BlockEncrypt};
 use key_schedule::round_keys;
 use krb_crypto_hash::{KerberosCryptoError, KerberosCryptoResult};
 use permutation::{permute_first, permute_last};
@@ -97,7 +97,7 @@ impl DesKey {
     {}
 }
 
-impl BlockCipher<DES3_BLOCK_SIZE> for DesKey {
+impl BlockEncrypt<DES3_BLOCK_SIZE> for DesKey {
     ghost use Rattle.krb_crypto_block.specs.Des.{ede3, ede3_undo};
 
     ghost encrypts = { ede3 };
@@ -107,9 +107,25 @@ impl BlockCipher<DES3_BLOCK_SIZE> for DesKey {
     fn encrypt_block(&self, block: &[u8; DES3_BLOCK_SIZE]) -> [u8; DES3_BLOCK_SIZE] {
         self.encrypt_block(*block)
     }
+}
+
+impl BlockDecrypt<DES3_BLOCK_SIZE> for DesKey {
+    ghost use Rattle.krb_crypto_block.specs.Des.{ede3, ede3_undo};
+
+    ghost encrypts = { ede3 };
+
+    ghost decrypts = { ede3_undo };
 
     fn decrypt_block(&self, block: &[u8; DES3_BLOCK_SIZE]) -> [u8; DES3_BLOCK_SIZE] {
         self.decrypt_block(*block)
+    }
+
+    fn decrypt_two(
+        &self,
+        first: &[u8; DES3_BLOCK_SIZE],
+        second: &[u8; DES3_BLOCK_SIZE],
+    ) -> ([u8; DES3_BLOCK_SIZE], [u8; DES3_BLOCK_SIZE]) {
+        (self.decrypt_block(*first), self.decrypt_block(*second))
     }
 }
 

@@ -6,14 +6,13 @@ ghost use Rattle.krb_crypto_block.specs.Aes.{aes_block};
 ghost use Rattle.krb_crypto_block.specs.Des.{ede3};
 ghost use Rattle.krb_crypto_block.specs.Modes.{Cts, IsCbc, IsOctets};
 
-use crate::aes::AesKey;
+use crate::aes::{AesDecryptionKey, AesEncryptionKey};
 use crate::des::DesKey;
 pub use crate::nfold::n_fold_into;
 use crate::{cbc, stealing};
-pub use krb_crypto_hash::in_place::hmac_sha1;
 
 /// Makes of the octets what CBC with ciphertext stealing makes of them under AES (RFC 3962, 5).
-pub fn encrypt_aes_cts(key: &AesKey, octets: &mut [u8])
+pub fn encrypt_aes_cts(key: &AesEncryptionKey, octets: &mut [u8])
     requires { 16 ≤ length octets.old }
     ensures { Cts (aes_block key.now) octets.old octets.new }
 {
@@ -22,7 +21,7 @@ pub fn encrypt_aes_cts(key: &AesKey, octets: &mut [u8])
 }
 
 /// Makes of the octets the one list of octets that `encrypt_aes_cts` makes them of.
-pub fn decrypt_aes_cts(key: &AesKey, octets: &mut [u8])
+pub fn decrypt_aes_cts(key: &AesDecryptionKey, octets: &mut [u8])
     requires { 16 ≤ length octets.old }
     ensures plain { Cts (aes_block key.now) octets.new octets.old }
     ensures only { (q : List ℕ) → IsOctets q → Cts (aes_block key.now) q octets.old → q ≡ octets.new }

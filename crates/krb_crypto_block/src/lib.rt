@@ -3,6 +3,7 @@
 #![tactic(auto)]
 
 mod aes;
+pub mod aes_key_expansion;
 mod aes_modes;
 mod block_cipher;
 mod cbc;
@@ -11,11 +12,14 @@ mod des_modes;
 pub mod in_place;
 pub mod laws;
 mod nfold;
-mod octets;
+pub mod octets;
 mod stealing;
 pub mod word_tables;
 
-pub use aes::{AES_BLOCK_SIZE, AES_MAC_SIZE, AES128_KEY_SIZE, AES256_KEY_SIZE, AesKey, AesSize};
+pub use aes::{
+    AES_BLOCK_SIZE, AES_MAC_SIZE, AES128_KEY_SIZE, AES256_KEY_SIZE, AesDecryptionKey,
+    AesEncryptionKey, AesKey, AesSize,
+};
 pub use aes_modes::{
     decrypt_aes_cbc, decrypt_aes_cts, encrypt_aes_cbc, encrypt_aes_cts, swap_two_last_blocks,
 };

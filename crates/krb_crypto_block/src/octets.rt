@@ -3,6 +3,6 @@
 ghost use Rattle.krb_crypto_block.specs.Modes.{IsOctets};
 
 /// A lemma: the elements are octets.
-pub(crate) fn are_octets(elements: &[u8])
+pub fn are_octets(elements: &[u8])
     ensures { IsOctets elements.now }
 {}

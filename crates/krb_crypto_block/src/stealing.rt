@@ -4,7 +4,7 @@ ghost use Rattle.std.specs.Prelude.{◌≡◌, ℕ, ◌+◌, ◌-◌, ◌*◌, �
 ghost use Rattle.krb_crypto_block.specs.Modes.{IsOctets, AreInverse, Cts, padded};
 ghost use Rattle.krb_crypto_hash.specs.Xor.{xor_lists};
 
-use crate::block_cipher::BlockCipher;
+use crate::block_cipher::{BlockDecrypt, BlockEncrypt};
 use crate::cbc::{chain, unchain};
 use krb_crypto_hash::xor::xored_with;
 
@@ -12,7 +12,7 @@ use krb_crypto_hash::xor::xored_with;
 const BLOCK_SIZE: usize = 16;
 
 /// Encrypts the octets in place: the last two blocks are written in reversed order, and the stolen one is cut.
-pub(crate) fn encrypt_cts<C: BlockCipher<BLOCK_SIZE>>(cipher: &C, octets: &mut [u8])
+pub(crate) fn encrypt_cts<C: BlockEncrypt<BLOCK_SIZE>>(cipher: &C, octets: &mut [u8])
     requires long { 16 ≤ length octets.old }
     requires inverse { AreInverse 16 (C.encrypts cipher.now) (C.decrypts cipher.now) }
     ensures { Cts (C.encrypts cipher.now) octets.old octets.new }
@@ -27,7 +27,7 @@ pub(crate) fn encrypt_cts<C: BlockCipher<BLOCK_SIZE>>(cipher: &C, octets: &mut [
 }
 
 /// Decrypts the octets in place: they become the one list of octets that is encrypted to them.
-pub(crate) fn decrypt_cts<C: BlockCipher<BLOCK_SIZE>>(cipher: &C, octets: &mut [u8])
+pub(crate) fn decrypt_cts<C: BlockDecrypt<BLOCK_SIZE>>(cipher: &C, octets: &mut [u8])
     requires long { 16 ≤ length octets.old }
     requires inverse { AreInverse 16 (C.encrypts cipher.now) (C.decrypts cipher.now) }
     ensures plain { Cts (C.encrypts cipher.now) octets.new octets.old }
@@ -54,7 +54,7 @@ fn prefix_size(size: usize) -> usize
 
 /// Encrypts a whole block and one to 16 octets after it: the block of the last octets comes first, and after it as many octets
 /// as they are of the block that their padding is stolen from.
-fn encrypt_last_two<C: BlockCipher<BLOCK_SIZE>>(
+fn encrypt_last_two<C: BlockEncrypt<BLOCK_SIZE>>(
     cipher: &C,
     before: &[u8; BLOCK_SIZE],
     rest: &mut [u8],
@@ -72,7 +72,7 @@ fn encrypt_last_two<C: BlockCipher<BLOCK_SIZE>>(
 }
 
 /// Decrypts a block and one to 16 octets of the stolen one after it.
-fn decrypt_last_two<C: BlockCipher<BLOCK_SIZE>>(
+fn decrypt_last_two<C: BlockDecrypt<BLOCK_SIZE>>(
     cipher: &C,
     before: &[u8; BLOCK_SIZE],
     rest: &mut [u8],

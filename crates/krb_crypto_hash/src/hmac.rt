@@ -71,7 +71,7 @@ fn block_of<const BLOCK: usize, const SIZE: usize, H: HashFunction<BLOCK, SIZE>>
 }
 
 /// The HMAC of the payload under the key (RFC 2104, 2).
-pub(crate) fn digest_of<const BLOCK: usize, const SIZE: usize, H: HashFunction<BLOCK, SIZE>>(
+fn digest_of<const BLOCK: usize, const SIZE: usize, H: HashFunction<BLOCK, SIZE>>(
     key: &[u8],
     payload: &[u8],
 ) -> [u8; SIZE]
@@ -80,19 +80,6 @@ pub(crate) fn digest_of<const BLOCK: usize, const SIZE: usize, H: HashFunction<B
 {
     let (inner, outer) = keyed::<BLOCK, SIZE, H>(key);
     mac(&inner, &outer, payload, &[])
-}
-
-/// The HMAC of two parts, concatenated, under the key (RFC 2104, 2).
-pub(crate) fn digest_of_parts<const BLOCK: usize, const SIZE: usize, H: HashFunction<BLOCK, SIZE>>(
-    key: &[u8],
-    first: &[u8],
-    second: &[u8],
-) -> [u8; SIZE]
-    requires { AreSizes BLOCK SIZE }
-    ensures { result ≡ hmac_over H.hash BLOCK key.now (first.now ++ second.now) }
-{
-    let (inner, outer) = keyed::<BLOCK, SIZE, H>(key);
-    mac(&inner, &outer, first, second)
 }
 
 /// The first `mac_size` octets of the HMAC; past these they are zeros.

@@ -1,7 +1,7 @@
 //! Keys from keys by HMAC with SHA-2 (RFC 8009, 3).
 
-ghost use Rattle.std.specs.Prelude.{◌≡◌, ◌*◌, ◌/◌, ◌%◌, ◌≤◌, length, IfOk, MatchResult};
-ghost use Rattle.krb_crypto_hash.specs.Hmac.{AreSizes, hmac_over};
+ghost use Rattle.std.specs.Prelude.{◌≡◌, ℕ, List, ◌*◌, ◌/◌, ◌%◌, ◌≤◌, length, IfOk, MatchResult};
+ghost use Rattle.krb_crypto_hash.specs.Hmac.{AreSizes, hmac_over, IsReady};
 ghost use Rattle.krb_crypto_hash.specs.Kdf.{kdf_message, kdf_256, kdf_384};
 ghost use Rattle.krb_crypto_hash.specs.declared.error.KerberosCryptoError.TheVariants.{OutOfMemory};
 
@@ -56,7 +56,7 @@ pub fn kdf_hmac_sha384(
 }
 
 /// The HMAC under the key whose first octets are the key for this label (RFC 8009, 3). It allocates nothing.
-pub(crate) fn block_for<const BLOCK: usize, const SIZE: usize, H: HashFunction<BLOCK, SIZE>>(
+fn block_for<const BLOCK: usize, const SIZE: usize, H: HashFunction<BLOCK, SIZE>>(
     key: &[u8],
     label: &[u8],
     bits: u32,
@@ -64,11 +64,27 @@ pub(crate) fn block_for<const BLOCK: usize, const SIZE: usize, H: HashFunction<B
     requires { AreSizes BLOCK SIZE }
     ensures { result ≡ hmac_over H.hash BLOCK key.now (kdf_message label.now bits) }
 {
-    let (mut inner, mut outer) = keyed::<BLOCK, SIZE, H>(key);
+    let (inner, outer) = keyed::<BLOCK, SIZE, H>(key);
+    block_under(&inner, &outer, label, bits)
+}
+
+/// The same, under the key that the hashes have absorbed.
+pub(crate) fn block_under<const BLOCK: usize, const SIZE: usize, H: HashFunction<BLOCK, SIZE>>(
+    inner: &H,
+    outer: &H,
+    label: &[u8],
+    bits: u32,
+) -> [u8; SIZE]
+    requires { AreSizes BLOCK SIZE }
+    ensures { (key : List ℕ) → IsReady (H.holds inner.now) (H.holds outer.now) H.hash BLOCK key
+        → result ≡ hmac_over H.hash BLOCK key (kdf_message label.now bits) }
+{
+    let mut inner = inner.copy();
     inner.absorb(&COUNTER.to_be_bytes());
     inner.absorb(label);
     inner.absorb(&[LABEL_END]);
     inner.absorb(&bits.to_be_bytes());
+    let mut outer = outer.copy();
     outer.absorb(&inner.finish());
     outer.finish()
 }

@@ -2,11 +2,12 @@
 //! derivation function of RFC 8009, and the errors of the cryptography.
 #![tactic(auto)]
 
+pub mod comparison;
 mod error;
-mod hash;
+pub mod hash;
 mod hmac;
-pub mod in_place;
 mod kdf;
+pub mod keyed;
 mod pbkdf2;
 pub mod xor;
 

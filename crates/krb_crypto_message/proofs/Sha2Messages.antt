@@ -1,11 +1,13 @@
 -- The steps of the calls under the suites of RFC 8009.
-use Rattle.std.proofs.Common.{◌≡◌, ℕ, ℤ, ◌≤◌, List, ◌++◌, length, codes, replicate, refl, sym, ap, ◌∙◌, arith}
+use Rattle.std.proofs.Common.{◌≡◌, ℕ, ◌≤◌, List, ◌++◌, length, codes, replicate, refl, sym, ap, ◌∙◌, arith}
 use Rattle.std.proofs.lemmas.List.{length-take-le}
 use Rattle.krb_crypto_hash.proofs.HmacSteps.{hmac_256-size, hmac_384-size}
+use Rattle.krb_crypto_block.specs.Aes.{aes_block}
+use Rattle.krb_crypto_block.specs.Modes.{Cts}
 use Rattle.krb_crypto_block.specs.Size.{key_octets}
 use Rattle.krb_crypto_block.specs.declared.aes.AesSize.{AesSize}
 use Rattle.krb_crypto_block.specs.declared.aes.AesSize.TheVariants.{Aes256, Aes128}
-use Rattle.krb_crypto_message.specs.AesSha2.{sha2_hmac, sha2_hmac_octets, sha2_checksum_octets, sha2_mac, sha2_kdf, sha2_ke, sha2_ki, sha2_salt, Sha2Cts, sha2_seal_mac, IsSha2PasswordKey}
+use Rattle.krb_crypto_message.specs.AesSha2.{sha2_hmac, sha2_hmac_octets, sha2_checksum_octets, sha2_mac, sha2_kdf, sha2_salt, sha2_seal_mac, IsSha2PasswordKey}
 use Rattle.krb_crypto_message.specs.Sealing.{IsTheOne}
 use Rattle.krb_crypto_message.proofs.Deriving.{pbkdf2_one}
 use Rattle.krb_crypto_message.proofs.Messages.{cts_scheme}
@@ -41,8 +43,8 @@ sha2_mac_size size key m = length-take-le (sha2_checksum_octets size) (sha2_hmac
 
 -- ---- messages
 
-pub sha2_scheme : (size : AesSize) (key : List ℕ) (usage : ℤ)
-    → IsScheme 1 16 (sha2_checksum_octets size) (Sha2Cts size key usage) (λ p c. sha2_seal_mac size (sha2_ki size key usage) c) (λ ki p c. sha2_seal_mac size ki c) (sha2_ki size key usage) (λ n. 16 ≤ n)
-sha2_scheme size key usage =
-    cts_scheme (sha2_checksum_octets size) (sha2_ke size key usage) (sha2_ki size key usage) (λ p c. sha2_seal_mac size (sha2_ki size key usage) c) (λ ki p c. sha2_seal_mac size ki c)
-    (λ p c. sha2_mac_size size (sha2_ki size key usage) (replicate 16 0 ++ c)) (λ p c. refl)
+pub sha2_scheme : (size : AesSize) (ke ki : List ℕ)
+    → IsScheme 1 16 (sha2_checksum_octets size) (Cts (aes_block ke)) (λ p c. sha2_seal_mac size ki c) (λ ki p c. sha2_seal_mac size ki c) ki (λ n. 16 ≤ n)
+sha2_scheme size ke ki =
+    cts_scheme (sha2_checksum_octets size) ke ki (λ p c. sha2_seal_mac size ki c) (λ ki p c. sha2_seal_mac size ki c)
+    (λ p c. sha2_mac_size size ki (replicate 16 0 ++ c)) (λ p c. refl)

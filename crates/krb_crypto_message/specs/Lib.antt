@@ -4,4 +4,7 @@ pub mod RandomToKey
 pub mod Sealed
 pub mod Sealing
 pub mod AesSha2
+pub mod DerivedKeys
+pub mod SizedKeys
+pub mod KeyedHash
 pub mod WellKnown

@@ -3,9 +3,11 @@
 
 mod integrity;
 mod key_derivation;
+mod keyed_hash;
 mod mac;
 mod message;
 mod message_keys;
+mod prepared;
 
 pub use crate::aes::random_to_key;
 pub use integrity::{integrity_checksum, keyed_checksum};
@@ -14,3 +16,4 @@ pub use mac::checksum_size;
 pub use message::{
     decrypt_message, decrypt_message_no_checksum, encrypt_message, encrypt_message_no_checksum,
 };
+pub use prepared::{Sha2ChecksumKey, Sha2OpeningKey, Sha2SealingKey};

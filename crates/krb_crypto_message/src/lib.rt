@@ -7,7 +7,6 @@ mod checksum;
 mod cts;
 pub mod des;
 pub mod laws;
-mod octets;
 mod short_octets;
 mod well_known;
 mod without_checksum;

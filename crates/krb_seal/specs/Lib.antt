@@ -1,2 +1,3 @@
 pub mod PartError
 pub mod Padded
+pub mod Prepared

@@ -3,6 +3,7 @@
 
 mod error;
 mod part;
+pub mod prepared;
 
 pub use error::PartError;
 pub use part::{open_part, seal_part};

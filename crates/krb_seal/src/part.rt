@@ -71,7 +71,11 @@ pub fn open_part<T: Der + Drop>(
 }
 
 /// The value whose encoding the octets begin with, with fewer than `size` zeros after it.
-fn read_padded<T: Der + Drop>(alloc: Global, padded: &[u8], size: usize) -> Result<T, Asn1DerError>
+pub(crate) fn read_padded<T: Der + Drop>(
+    alloc: Global,
+    padded: &[u8],
+    size: usize,
+) -> Result<T, Asn1DerError>
     ensures valid { IfOk result T.is_value }
     ensures found { IfOk result (λ v. (rest : List ℕ) × (padded.now ≡ T.enc v ++ rest) × IsFewZeros size rest) }
     ensures only { (v : T) (rest : List ℕ) → T.is_value v → padded.now ≡ T.enc v ++ rest → IsFewZeros size rest → Answers result v }

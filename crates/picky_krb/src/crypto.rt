@@ -1,6 +1,7 @@
 //! Cryptography of Kerberos (RFC 3961, RFC 3962, RFC 8009).
 
 pub mod aes;
+pub mod prepared;
 
 pub use krb_crypto_block::n_fold;
 pub use krb_crypto_hash::{

@@ -14,6 +14,7 @@ mod keys;
 mod messages;
 mod numbers;
 mod parts;
+mod prepared;
 mod row;
 mod suites;
 mod sweeps;

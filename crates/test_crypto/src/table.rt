@@ -1,11 +1,12 @@
 //! The rows of the table, and what is told of each.
 
 use crate::aes_sha2::try_aes_sha2;
-use crate::blocks::{try_block, try_mode};
+use crate::blocks::{try_block, try_forms, try_mode};
 use crate::hashes::{try_fold, try_hmac, try_kdf, try_stretching};
 use crate::keys::try_key;
 use crate::messages::try_message;
 use crate::numbers::try_number;
+use crate::prepared::try_prepared;
 use crate::row::{Answer, Row};
 use crate::suites::{try_checksum, try_suite};
 use crate::sweeps::try_sweep;
@@ -44,6 +45,7 @@ fn row_of(alloc: Global, line: &str) -> Option<Row<'_>> {
 fn try_row(alloc: Global, row: &Row) -> Answer {
     match row.call {
         "encrypt_block" | "decrypt_block" => try_block(alloc, row),
+        "alike" => try_forms(alloc, row),
         "n_fold" => try_fold(alloc, row),
         "hmac_sha1" | "hmac_sha256" | "hmac_sha384" => try_hmac(alloc, row),
         "pbkdf2_hmac_sha1" | "pbkdf2_hmac_sha256" | "pbkdf2_hmac_sha384" => {
@@ -60,6 +62,9 @@ fn try_row(alloc: Global, row: &Row) -> Answer {
         "checksum" | "checksum_type" => try_checksum(alloc, row),
         "cipher_suite" | "checksum_suite" | "usage_ke" | "usage_ki" | "usage_kc" | "constants" => {
             try_number(alloc, row)
+        }
+        "prepared encrypt" | "prepared decrypt" | "prepared checksum" | "verify" => {
+            try_prepared(alloc, row)
         }
         "text" => try_text(alloc, row.suite),
         "flips" | "fronts" => try_sweep(alloc, row),

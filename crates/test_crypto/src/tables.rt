@@ -1,7 +1,8 @@
 //! The tables of words by which AES and DES are computed.
 
 use crate::row::{Answer, Row, answer_of};
-use krb_crypto_block::word_tables::{COMBINED, D0, D1, D2, D3, T0, T1, T2, T3};
+use krb_crypto_aes_tables::word_tables::{D0, D1, D2, D3, T0, T1, T2, T3};
+use krb_crypto_block::word_tables::COMBINED;
 use picky_krb::crypto::KerberosCryptoResult;
 use std::alloc::Global;
 

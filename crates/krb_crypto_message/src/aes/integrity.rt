@@ -6,8 +6,9 @@ ghost use Rattle.krb_crypto_block.specs.Size.{key_octets};
 ghost use Rattle.krb_crypto_message.specs.Sealed.{mac_96, aes_ki, aes_sum};
 
 use super::key_derivation::derived_key;
-use crate::well_known::{usage_kc, usage_ki};
-use krb_crypto_block::{AES_MAC_SIZE, AesKey, AesSize, KerberosCryptoResult, hmac_sha1};
+use super::prepared::AesChecksumKey;
+use crate::well_known::usage_ki;
+use krb_crypto_block::{AES_MAC_SIZE, AesEncryptionKey, AesSize, KerberosCryptoResult, hmac_sha1};
 use std::alloc::Global;
 
 /// The checksum that is sealed in with a payload: its HMAC under Ki, cut to 12 octets.
@@ -24,7 +25,7 @@ pub fn integrity_checksum(
     ensures checksum { IfOk result (λ checksum. checksum.items ≡ mac_96 (aes_ki key.now key_usage) payload.now) }
     ensures rejected { IfErr result (RejectsKey (key_octets size.now) key.now) }
 {
-    let base = AesKey::new(key, size)?;
+    let base = AesEncryptionKey::new(key, size)?;
     let ki = derived_key(&base, &usage_ki(key_usage), size);
     hmac_sha1(alloc, ki.as_slice(), payload, AES_MAC_SIZE)
 }
@@ -43,7 +44,5 @@ pub fn checksum_sha_aes(
     ensures checksum { IfOk result (λ checksum. checksum.items ≡ aes_sum key.now key_usage payload.now) }
     ensures rejected { IfErr result (RejectsKey (key_octets size.now) key.now) }
 {
-    let base = AesKey::new(key, size)?;
-    let kc = derived_key(&base, &usage_kc(key_usage), size);
-    hmac_sha1(alloc, kc.as_slice(), payload, AES_MAC_SIZE)
+    AesChecksumKey::new(key, key_usage, size)?.checksum(alloc, payload)
 }

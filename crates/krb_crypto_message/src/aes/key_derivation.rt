@@ -10,7 +10,9 @@ ghost use Rattle.krb_crypto_hash.specs.CryptoError.{RejectsKey};
 use crate::short_octets::ShortOctets;
 use crate::well_known::KERBEROS;
 use krb_crypto_block::in_place::n_fold_into;
-use krb_crypto_block::{AES_BLOCK_SIZE, AesKey, AesSize, KerberosCryptoResult, pbkdf2_hmac_sha1};
+use krb_crypto_block::{
+    AES_BLOCK_SIZE, AesEncryptionKey, AesSize, KerberosCryptoResult, pbkdf2_hmac_sha1,
+};
 use std::alloc::Global;
 
 /// The rounds of PBKDF2 by default (RFC 3962, 4).
@@ -32,13 +34,17 @@ pub fn derive_key(
     ensures derived { IfOk result (λ derived. derived.items ≡ aes_dk key.now well_known.now) }
     ensures rejected { IfErr result (RejectsKey (key_octets size.now) key.now) }
 {
-    let cipher = AesKey::new(key, size)?;
+    let cipher = AesEncryptionKey::new(key, size)?;
     let derived = derived_key(&cipher, well_known, size);
     Ok(Vec::from_slice(alloc, derived.as_slice())?)
 }
 
 /// The key that `derive_key` gives, from a key that is ready for use. It allocates nothing.
-pub(crate) fn derived_key(cipher: &AesKey, well_known: &[u8], size: &AesSize) -> ShortOctets
+pub(crate) fn derived_key(
+    cipher: &AesEncryptionKey,
+    well_known: &[u8],
+    size: &AesSize,
+) -> ShortOctets
     requires some { 0 < length well_known.now }
     requires size { length cipher.now ≡ key_octets size.now }
     ensures derived { result ≡ aes_dk cipher.now well_known.now }

@@ -1,24 +1,15 @@
 //! Messages under AES (RFC 3961, 5.3; RFC 3962, 6), stated once over the size of the key.
 
-ghost use Rattle.std.specs.Prelude.{◌≡◌, ◌≢◌, length, IfOk, IfErr};
+ghost use Rattle.std.specs.Prelude.{◌≡◌, ◌≢◌, ◌≤◌, length, IfOk, IfErr};
 ghost use Rattle.krb_crypto_hash.specs.CryptoError.{IsMemoryOr, RejectsKey};
 ghost use Rattle.krb_crypto_block.specs.Size.{key_octets};
-ghost use Rattle.krb_crypto_message.specs.MessageSteps.{IsDecrypted};
-ghost use Rattle.krb_crypto_message.specs.Sealed.{IsSealedAes, AesCts, aes_ki, aes_error};
+ghost use Rattle.krb_crypto_message.specs.Sealed.{IsSealedAes, aes_ke, aes_ki, aes_error};
 ghost use Rattle.krb_crypto_message.specs.Sealing.{IsTheOne, IsGiven, Opens, HasNoPayload, Encrypts, OpensUnchecked, HasNoPayloadUnchecked};
 
-use super::message_keys::MessageKeys;
-use crate::checksum::{Decrypted, concatenated, without_checksum};
-use crate::cts::{decrypted, encrypted_octets};
+use super::prepared::{AesOpeningKey, AesSealingKey, SHORTEST};
 use crate::without_checksum::{DecryptWithoutChecksum, EncryptWithoutChecksum};
-use krb_crypto_block::in_place::{encrypt_aes_cts, hmac_sha1};
-use krb_crypto_block::{
-    AES_BLOCK_SIZE, AES_MAC_SIZE, AesSize, KerberosCryptoError, KerberosCryptoResult,
-};
+use krb_crypto_block::{AES_BLOCK_SIZE, AesSize, KerberosCryptoError, KerberosCryptoResult};
 use std::alloc::Global;
-
-/// The octets of a message with an empty payload: the confounder and the checksum.
-const SHORTEST: usize = AES_BLOCK_SIZE + AES_MAC_SIZE;
 
 /// The payload, encrypted with the confounder before it under Ke, and the HMAC of both under Ki, cut to 12 octets.
 ///
@@ -35,12 +26,8 @@ pub fn encrypt_message(
     ensures sealed { IfOk result (λ octets. IsTheOne (IsSealedAes key.now key_usage confounder payload.now) octets.items) }
     ensures rejected { IfErr result (RejectsKey (key_octets size.now) key.now) }
 {
-    let keys = MessageKeys::new(key, key_usage, size)?;
-    let mut octets = concatenated(alloc, &confounder, payload, AES_MAC_SIZE)?;
-    let mac = hmac_sha1(keys.ki.as_slice(), &octets);
-    encrypt_aes_cts(&keys.ke, &mut octets);
-    octets.extend_from_slice(&mac[..AES_MAC_SIZE])?;
-    Ok(octets)
+    let keys = AesSealingKey::new(key, key_usage, size)?;
+    keys.encrypt(alloc, payload, confounder)
 }
 
 /// The payload that was encrypted to these octets.
@@ -60,8 +47,8 @@ pub fn decrypt_message(
         → IfErr result (λ e. IsMemoryOr e (HasNoPayload (IsSealedAes key.now key_usage) 16 cipher_data.now)) }
     ensures exact { IfErr result (λ e. IsMemoryOr e (e ≡ aes_error (key_octets size.now) key.now cipher_data.now)) }
 {
-    let decrypted = decrypt(alloc, key, key_usage, cipher_data, size)?;
-    decrypted.checked(cipher_data, AES_BLOCK_SIZE, AES_MAC_SIZE)
+    let keys = opening_keys(key, key_usage, cipher_data, size)?;
+    keys.decrypt(alloc, cipher_data)
 }
 
 /// What `encrypt_message` makes, without the checksum; with it the confounder and Ki.
@@ -79,9 +66,8 @@ pub fn encrypt_message_no_checksum(
     ensures ki { IfOk result (λ made. made.ki.items ≡ aes_ki key.now key_usage) }
     ensures rejected { IfErr result (RejectsKey (key_octets size.now) key.now) }
 {
-    let keys = MessageKeys::new(key, key_usage, size)?;
-    let octets = encrypted_octets(alloc, &keys.ke, &confounder, payload, 0)?;
-    without_checksum(alloc, octets, &confounder, &keys.ki)
+    let keys = AesSealingKey::new(key, key_usage, size)?;
+    keys.encrypt_no_checksum(alloc, payload, confounder)
 }
 
 /// What the octets without their last 12 decrypt to, these 12 octets, which are not compared, and Ki.
@@ -103,26 +89,23 @@ pub fn decrypt_message_no_checksum(
     ensures exact { IfErr result (λ e. IsMemoryOr e ((e ≡ aes_error (key_octets size.now) key.now cipher_data.now)
         × (e ≢ KerberosCryptoError.IntegrityCheck))) }
 {
-    let decrypted = decrypt(alloc, key, key_usage, cipher_data, size)?;
-    decrypted.unchecked(alloc, cipher_data, AES_BLOCK_SIZE, AES_MAC_SIZE)
+    let keys = opening_keys(key, key_usage, cipher_data, size)?;
+    keys.decrypt_no_checksum(alloc, cipher_data)
 }
 
-/// What the octets without their last 12 decrypt to under Ke.
-fn decrypt(
-    alloc: Global,
+/// The keys of octets that are long enough for a confounder and a checksum.
+fn opening_keys(
     key: &[u8],
     key_usage: i32,
     cipher_data: &[u8],
     size: &AesSize,
-) -> KerberosCryptoResult<Decrypted>
-    ensures key { IfOk result (λ _. length key.now ≡ key_octets size.now) }
-    ensures decrypted { IfOk result (λ r. IsDecrypted 1 16 12 (AesCts key.now key_usage) (aes_ki key.now key_usage) cipher_data.now r.padded.items r.ki) }
-    ensures exact { IfErr result (λ e. IsMemoryOr e ((e ≡ aes_error (key_octets size.now) key.now cipher_data.now)
-        × (e ≢ KerberosCryptoError.IntegrityCheck))) }
+) -> KerberosCryptoResult<AesOpeningKey>
+    ensures made { IfOk result (λ k. (length key.now ≡ key_octets size.now) × (k.ke ≡ aes_ke key.now key_usage) × (k.ki ≡ aes_ki key.now key_usage)) }
+    ensures long { IfOk result (λ _. 28 ≤ length cipher_data.now) }
+    ensures exact { IfErr result (λ e. (e ≡ aes_error (key_octets size.now) key.now cipher_data.now) × (e ≢ KerberosCryptoError.IntegrityCheck)) }
 {
     if cipher_data.len() < SHORTEST {
         return Err(KerberosCryptoError::CipherLength(cipher_data.len(), SHORTEST));
     }
-    let keys = MessageKeys::new(key, key_usage, size)?;
-    decrypted(alloc, keys, cipher_data, AES_MAC_SIZE)
+    AesOpeningKey::new(key, key_usage, size)
 }

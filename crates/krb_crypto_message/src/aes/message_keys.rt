@@ -1,19 +1,19 @@
 //! The two keys of a message under AES (RFC 3961, 5.3).
 
 ghost use Rattle.std.specs.Prelude.{◌≡◌, length, IfOk, IfErr};
-ghost use Rattle.krb_crypto_hash.specs.CryptoError.{RejectsKey};
+ghost use Rattle.krb_crypto_hash.specs.CryptoError.{IsKeyLengthError};
 ghost use Rattle.krb_crypto_block.specs.Size.{key_octets};
 ghost use Rattle.krb_crypto_message.specs.Sealed.{aes_ke, aes_ki};
 
 use super::key_derivation::derived_key;
 use crate::short_octets::ShortOctets;
 use crate::well_known::{usage_ke, usage_ki};
-use krb_crypto_block::{AesKey, AesSize, KerberosCryptoResult};
+use krb_crypto_block::{AesEncryptionKey, AesSize, KerberosCryptoResult};
 
-/// Ke, ready for use, and Ki.
+/// Ke and Ki.
 #[derive(Drop)]
 pub(crate) struct MessageKeys {
-    pub(crate) ke: AesKey,
+    pub(crate) ke: ShortOctets,
     pub(crate) ki: ShortOctets,
 }
 
@@ -27,14 +27,13 @@ impl MessageKeys {
         ensures key { IfOk result (λ _. length key.now ≡ key_octets size.now) }
         ensures ke { IfOk result (λ keys. keys.ke ≡ aes_ke key.now key_usage) }
         ensures ki { IfOk result (λ keys. keys.ki ≡ aes_ki key.now key_usage) }
-        ensures rejected { IfErr result (RejectsKey (key_octets size.now) key.now) }
+        ensures size { IfOk result (λ keys. (length keys.ke ≡ key_octets size.now) × (length keys.ki ≡ key_octets size.now)) }
+        ensures rejected { IfErr result (IsKeyLengthError (key_octets size.now) key.now) }
     {
-        let base = AesKey::new(key, size)?;
-        let ke = derived_key(&base, &usage_ke(key_usage), size);
-        let ki = derived_key(&base, &usage_ki(key_usage), size);
+        let base = AesEncryptionKey::new(key, size)?;
         Ok(MessageKeys {
-            ke: AesKey::new(ke.as_slice(), size)?,
-            ki,
+            ke: derived_key(&base, &usage_ke(key_usage), size),
+            ki: derived_key(&base, &usage_ki(key_usage), size),
         })
     }
 }

@@ -5,9 +5,11 @@ ghost use Rattle.krb_crypto_hash.specs.CryptoError.{RejectsKey};
 ghost use Rattle.krb_crypto_block.specs.Size.{key_octets};
 ghost use Rattle.krb_crypto_message.specs.AesSha2.{sha2_mac, sha2_ki, sha2_sum};
 
-use super::key_derivation::{derived_key, test_key};
-use super::mac::{checksum_size, mac};
-use crate::well_known::{usage_kc, usage_ki};
+use super::key_derivation::test_key;
+use super::keyed_hash::KeyedHash;
+use super::mac::checksum_size;
+use super::prepared::Sha2ChecksumKey;
+use crate::well_known::usage_ki;
 use krb_crypto_block::{AesSize, KerberosCryptoResult};
 use std::alloc::Global;
 
@@ -27,8 +29,8 @@ pub fn integrity_checksum(
     ensures rejected { IfErr result (RejectsKey (key_octets size.now) key.now) }
 {
     test_key(key, size)?;
-    let ki = derived_key(key, &usage_ki(key_usage), checksum_size(size), size);
-    let checksum = mac(ki.as_slice(), &[], payload, size);
+    let ki = KeyedHash::new(key, size).derived(&usage_ki(key_usage), checksum_size(size));
+    let checksum = KeyedHash::new(ki.as_slice(), size).mac(&[], payload);
     Ok(Vec::from_slice(alloc, checksum.as_slice())?)
 }
 
@@ -46,8 +48,5 @@ pub fn keyed_checksum(
     ensures checksum { IfOk result (λ checksum. checksum.items ≡ sha2_sum size.now key.now key_usage payload.now) }
     ensures rejected { IfErr result (RejectsKey (key_octets size.now) key.now) }
 {
-    test_key(key, size)?;
-    let kc = derived_key(key, &usage_kc(key_usage), checksum_size(size), size);
-    let checksum = mac(kc.as_slice(), &[], payload, size);
-    Ok(Vec::from_slice(alloc, checksum.as_slice())?)
+    Sha2ChecksumKey::new(key, key_usage, size)?.checksum(alloc, payload)
 }

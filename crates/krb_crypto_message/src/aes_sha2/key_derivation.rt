@@ -5,13 +5,12 @@ ghost use Rattle.krb_crypto_hash.specs.CryptoError.{IsKeyLengthError};
 ghost use Rattle.krb_crypto_hash.specs.Pbkdf2.{IsPbkdf2Over};
 ghost use Rattle.krb_crypto_hash.specs.declared.error.KerberosCryptoError.TheVariants.{OutOfMemory};
 ghost use Rattle.krb_crypto_block.specs.Size.{key_octets};
-ghost use Rattle.krb_crypto_message.specs.AesSha2.{sha2_kdf, sha2_hmac, sha2_hmac_octets, sha2_salt, IsSha2PasswordKey};
+ghost use Rattle.krb_crypto_message.specs.AesSha2.{sha2_hmac, sha2_hmac_octets, sha2_salt, IsSha2PasswordKey};
 ghost use Rattle.krb_crypto_message.specs.Sealing.{IsTheOne};
 
-use crate::short_octets::ShortOctets;
+use super::keyed_hash::KeyedHash;
 use crate::well_known::KERBEROS;
 use krb_crypto_block::{AesSize, KerberosCryptoError, KerberosCryptoResult};
-use krb_crypto_hash::in_place::{kdf_block_sha256, kdf_block_sha384};
 use krb_crypto_hash::{pbkdf2_hmac_sha256, pbkdf2_hmac_sha384};
 use std::alloc::Global;
 
@@ -34,21 +33,6 @@ pub(crate) fn test_key(key: &[u8], size: &AesSize) -> KerberosCryptoResult<()>
     Ok(())
 }
 
-/// The key of so many octets that a key gives for a label (KDF-HMAC-SHA2 of RFC 8009, 3). It allocates nothing.
-pub(crate) fn derived_key(key: &[u8], label: &[u8], octets: usize, size: &AesSize) -> ShortOctets
-    requires { octets ≤ 32 }
-    ensures derived { result ≡ sha2_kdf size.now key.now label.now octets }
-    ensures size { length result ≡ octets }
-{
-    let bits = 8 * octets as u32;
-    let mut derived = ShortOctets::empty();
-    match size {
-        AesSize::Aes128 => derived.push(&kdf_block_sha256(key, label, bits)[..octets]),
-        AesSize::Aes256 => derived.push(&kdf_block_sha384(key, label, bits)[..octets]),
-    }
-    derived
-}
-
 /// The key that a password and a salt give (string-to-key of RFC 8009, 4): PBKDF2 with the suite's HMAC, 32768 rounds and the
 /// suite's name before the salt, and the key that is derived from it with the label "kerberos". `OutOfMemory` is the only
 /// error.
@@ -65,7 +49,7 @@ pub fn derive_key_from_password(
     let named = named_salt(alloc, salt, size)?;
     let mut seed = vec![in alloc; 0u8; size.key_length()]?;
     stretch(password, &named, &mut seed, size);
-    let key = derived_key(&seed, KERBEROS, size.key_length(), size);
+    let key = KeyedHash::new(&seed, size).derived(KERBEROS, size.key_length());
     Ok(Vec::from_slice(alloc, key.as_slice())?)
 }
 

@@ -3,20 +3,14 @@
 ghost use Rattle.std.specs.Prelude.{◌≡◌, ◌≢◌, ◌+◌, ◌≤◌, length, IfOk, IfErr};
 ghost use Rattle.krb_crypto_hash.specs.CryptoError.{IsMemoryOr, RejectsKey};
 ghost use Rattle.krb_crypto_block.specs.Size.{key_octets};
-ghost use Rattle.krb_crypto_message.specs.AesSha2.{IsSealedSha2, EndsInSealMac, sha2_ke, sha2_ki, sha2_checksum_octets, sha2_error};
+ghost use Rattle.krb_crypto_message.specs.AesSha2.{IsSealedSha2, sha2_ke, sha2_ki, sha2_checksum_octets, sha2_error};
 ghost use Rattle.krb_crypto_message.specs.Sealing.{IsTheOne, IsGiven, Opens, HasNoPayload, Encrypts, OpensUnchecked, HasNoPayloadUnchecked};
 
-use super::mac::{checksum_size, mac};
-use super::message_keys::message_keys;
-use crate::aes::message_keys::MessageKeys;
-use crate::checksum::{trailing, without_checksum};
-use crate::cts::{decrypted, encrypted_octets};
+use super::mac::checksum_size;
+use super::prepared::{Sha2OpeningKey, Sha2SealingKey};
 use crate::without_checksum::{DecryptWithoutChecksum, EncryptWithoutChecksum};
 use krb_crypto_block::{AES_BLOCK_SIZE, AesSize, KerberosCryptoError, KerberosCryptoResult};
 use std::alloc::Global;
-
-/// The cipher state that stands before the encrypted octets in the HMAC, and is the initial vector (RFC 8009, 5).
-const CIPHER_STATE: [u8; AES_BLOCK_SIZE] = [0; AES_BLOCK_SIZE];
 
 /// The payload, encrypted with the confounder before it under Ke, and the HMAC of 16 zero octets and the encrypted octets
 /// under Ki, cut to 16 or 24 octets.
@@ -34,11 +28,8 @@ pub fn encrypt_message(
     ensures sealed { IfOk result (λ octets. IsTheOne (IsSealedSha2 size.now key.now key_usage confounder payload.now) octets.items) }
     ensures rejected { IfErr result (RejectsKey (key_octets size.now) key.now) }
 {
-    let keys = message_keys(key, key_usage, size)?;
-    let mut octets = encrypted_octets(alloc, &keys.ke, &confounder, payload, checksum_size(size))?;
-    let mac = mac(keys.ki.as_slice(), &CIPHER_STATE, &octets, size);
-    octets.extend_from_slice(mac.as_slice())?;
-    Ok(octets)
+    let keys = Sha2SealingKey::new(key, key_usage, size)?;
+    keys.encrypt(alloc, payload, confounder)
 }
 
 /// The payload that was encrypted to these octets.
@@ -59,9 +50,7 @@ pub fn decrypt_message(
     ensures exact { IfErr result (λ e. IsMemoryOr e (e ≡ sha2_error size.now key.now cipher_data.now)) }
 {
     let keys = opening_keys(key, key_usage, cipher_data, size)?;
-    compare(keys.ki.as_slice(), cipher_data, size)?;
-    let opened = decrypted(alloc, keys, cipher_data, checksum_size(size))?;
-    Ok(trailing(opened.padded, AES_BLOCK_SIZE))
+    keys.decrypt(alloc, cipher_data)
 }
 
 /// What `encrypt_message` makes, without the checksum; with it the confounder and Ki.
@@ -80,9 +69,8 @@ pub fn encrypt_message_no_checksum(
     ensures ki { IfOk result (λ made. made.ki.items ≡ sha2_ki size.now key.now key_usage) }
     ensures rejected { IfErr result (RejectsKey (key_octets size.now) key.now) }
 {
-    let keys = message_keys(key, key_usage, size)?;
-    let octets = encrypted_octets(alloc, &keys.ke, &confounder, payload, 0)?;
-    without_checksum(alloc, octets, &confounder, &keys.ki)
+    let keys = Sha2SealingKey::new(key, key_usage, size)?;
+    keys.encrypt_no_checksum(alloc, payload, confounder)
 }
 
 /// What the octets without their last 16 or 24 decrypt to, these last octets, which are not compared, and Ki.
@@ -104,9 +92,7 @@ pub fn decrypt_message_no_checksum(
     ensures exact { IfErr result (λ e. IsMemoryOr e ((e ≡ sha2_error size.now key.now cipher_data.now) × (e ≢ KerberosCryptoError.IntegrityCheck))) }
 {
     let keys = opening_keys(key, key_usage, cipher_data, size)?;
-    let mac_size = checksum_size(size);
-    let opened = decrypted(alloc, keys, cipher_data, mac_size)?;
-    opened.unchecked(alloc, cipher_data, AES_BLOCK_SIZE, mac_size)
+    keys.decrypt_no_checksum(alloc, cipher_data)
 }
 
 /// The keys of octets that are long enough for a confounder and a checksum.
@@ -115,30 +101,17 @@ fn opening_keys(
     key_usage: i32,
     cipher_data: &[u8],
     size: &AesSize,
-) -> KerberosCryptoResult<MessageKeys>
+) -> KerberosCryptoResult<Sha2OpeningKey>
     ensures key { IfOk result (λ _. length key.now ≡ key_octets size.now) }
     ensures long { IfOk result (λ _. 16 + sha2_checksum_octets size.now ≤ length cipher_data.now) }
-    ensures ke { IfOk result (λ keys. keys.ke ≡ sha2_ke size.now key.now key_usage) }
-    ensures ki { IfOk result (λ keys. keys.ki ≡ sha2_ki size.now key.now key_usage) }
-    ensures exact { IfErr result (λ e. IsMemoryOr e ((e ≡ sha2_error size.now key.now cipher_data.now) × (e ≢ KerberosCryptoError.IntegrityCheck))) }
+    ensures size { IfOk result (λ k. k.size ≡ size.now) }
+    ensures ke { IfOk result (λ k. k.keys.ke ≡ sha2_ke size.now key.now key_usage) }
+    ensures ki { IfOk result (λ k. k.keys.ki ≡ sha2_ki size.now key.now key_usage) }
+    ensures exact { IfErr result (λ e. (e ≡ sha2_error size.now key.now cipher_data.now) × (e ≢ KerberosCryptoError.IntegrityCheck)) }
 {
     let shortest = AES_BLOCK_SIZE + checksum_size(size);
     if cipher_data.len() < shortest {
         return Err(KerberosCryptoError::CipherLength(cipher_data.len(), shortest));
     }
-    message_keys(key, key_usage, size)
-}
-
-/// Whether the octets end in the checksum of those before it. Else `IntegrityCheck`.
-fn compare(ki: &[u8], cipher_data: &[u8], size: &AesSize) -> KerberosCryptoResult<()>
-    requires long { sha2_checksum_octets size.now ≤ length cipher_data.now }
-    ensures alike { IfOk result (λ _. EndsInSealMac size.now ki.now cipher_data.now) }
-    ensures rejected { IfErr result (λ e. (¬ EndsInSealMac size.now ki.now cipher_data.now) × (e ≡ KerberosCryptoError.IntegrityCheck)) }
-{
-    let (encrypted, checksum) = cipher_data.split_at(cipher_data.len() - checksum_size(size));
-    let mac = mac(ki, &CIPHER_STATE, encrypted, size);
-    if mac.as_slice() != checksum {
-        return Err(KerberosCryptoError::IntegrityCheck);
-    }
-    Ok(())
+    Sha2OpeningKey::new(key, key_usage, size)
 }

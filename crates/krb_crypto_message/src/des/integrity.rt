@@ -6,7 +6,8 @@ ghost use Rattle.krb_crypto_hash.specs.Hmac.{hmac};
 ghost use Rattle.krb_crypto_message.specs.Sealed.{des3_ki, des3_sum};
 
 use super::key_derivation::derived_key;
-use crate::well_known::{usage_kc, usage_ki};
+use super::prepared::Des3ChecksumKey;
+use crate::well_known::usage_ki;
 use krb_crypto_block::{DES3_MAC_SIZE, DesKey, KerberosCryptoResult, hmac_sha1};
 use std::alloc::Global;
 
@@ -41,7 +42,5 @@ pub fn keyed_checksum(
     ensures checksum { IfOk result (λ checksum. checksum.items ≡ des3_sum key.now key_usage payload.now) }
     ensures rejected { IfErr result (RejectsKey 24 key.now) }
 {
-    let base = DesKey::new(key)?;
-    let kc = derived_key(&base, &usage_kc(key_usage));
-    Ok(hmac_sha1(alloc, &kc, payload, DES3_MAC_SIZE)?)
+    Des3ChecksumKey::new(key, key_usage)?.checksum(alloc, payload)
 }

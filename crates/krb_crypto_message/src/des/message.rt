@@ -1,24 +1,14 @@
 //! Messages under triple DES (RFC 3961, 5.3 and 6.3).
 
-ghost use Rattle.std.specs.Prelude.{◌≡◌, ◌≢◌, ◌≤◌, ◌++◌, ℕ, List, length, IfOk, IfErr};
-ghost use Rattle.krb_crypto_block.specs.Modes.{IsPadding, IsOctets};
+ghost use Rattle.std.specs.Prelude.{◌≡◌, ◌≢◌, length, IfOk, IfErr};
 ghost use Rattle.krb_crypto_hash.specs.CryptoError.{IsMemoryOr, RejectsKey};
-ghost use Rattle.krb_crypto_message.specs.MessageSteps.{IsDecrypted};
-ghost use Rattle.krb_crypto_message.specs.Sealed.{IsSealedDes3, Des3Cbc, des3_ki, des3_error};
+ghost use Rattle.krb_crypto_message.specs.Sealed.{IsSealedDes3, des3_ki, des3_error};
 ghost use Rattle.krb_crypto_message.specs.Sealing.{IsTheOne, IsGiven, Opens, HasNoPayload, Encrypts, OpensUnchecked, HasNoPayloadUnchecked};
 
-use super::message_keys::MessageKeys;
-use crate::checksum::{Decrypted, concatenated, without_checksum};
-use crate::octets::are_octets;
+use super::prepared::Des3MessageKey;
 use crate::without_checksum::{DecryptWithoutChecksum, EncryptWithoutChecksum};
-use krb_crypto_block::in_place::{decrypt_des, encrypt_des, hmac_sha1};
-use krb_crypto_block::{
-    DES3_BLOCK_SIZE, DES3_MAC_SIZE, DesKey, KerberosCryptoError, KerberosCryptoResult, pad_blocks,
-};
+use krb_crypto_block::{DES3_BLOCK_SIZE, KerberosCryptoError, KerberosCryptoResult};
 use std::alloc::Global;
-
-/// The octets of a message with an empty payload: the confounder and the checksum.
-const SHORTEST: usize = DES3_BLOCK_SIZE + DES3_MAC_SIZE;
 
 /// The payload, encrypted with the confounder before it and zeros to whole blocks after it under Ke, and the HMAC of
 /// all this under Ki, of 20 octets.
@@ -35,13 +25,8 @@ pub fn encrypt_message(
     ensures sealed { IfOk result (λ octets. IsTheOne (IsSealedDes3 key.now key_usage confounder payload.now) octets.items) }
     ensures rejected { IfErr result (RejectsKey 24 key.now) }
 {
-    let base = DesKey::new(key)?;
-    let keys = MessageKeys::new(&base, key_usage)?;
-    let mut octets = padded(alloc, &confounder, payload, DES3_MAC_SIZE)?;
-    let mac = hmac_sha1(keys.ki.as_slice(), &octets);
-    encrypt_des(&keys.ke, &mut octets);
-    octets.extend_from_slice(&mac)?;
-    Ok(octets)
+    let keys = Des3MessageKey::new(key, key_usage)?;
+    keys.encrypt(alloc, payload, confounder)
 }
 
 /// The payload that was encrypted to these octets, with its padding, whatever that is.
@@ -60,8 +45,8 @@ pub fn decrypt_message(
     ensures rejected { length key.now ≡ 24 → IfErr result (λ e. IsMemoryOr e (HasNoPayload (IsSealedDes3 key.now key_usage) 8 cipher_data.now)) }
     ensures exact { IfErr result (λ e. IsMemoryOr e (e ≡ des3_error key.now cipher_data.now)) }
 {
-    let decrypted = decrypt(alloc, key, key_usage, cipher_data)?;
-    decrypted.checked(cipher_data, DES3_BLOCK_SIZE, DES3_MAC_SIZE)
+    let keys = Des3MessageKey::new(key, key_usage)?;
+    keys.decrypt(alloc, cipher_data)
 }
 
 /// What `encrypt_message` makes, without the checksum; with it the confounder and Ki.
@@ -78,11 +63,8 @@ pub fn encrypt_message_no_checksum(
     ensures ki { IfOk result (λ made. made.ki.items ≡ des3_ki key.now key_usage) }
     ensures rejected { IfErr result (RejectsKey 24 key.now) }
 {
-    let base = DesKey::new(key)?;
-    let keys = MessageKeys::new(&base, key_usage)?;
-    let mut octets = padded(alloc, &confounder, payload, 0)?;
-    encrypt_des(&keys.ke, &mut octets);
-    without_checksum(alloc, octets, &confounder, &keys.ki)
+    let keys = Des3MessageKey::new(key, key_usage)?;
+    keys.encrypt_no_checksum(alloc, payload, confounder)
 }
 
 /// What the octets without their last 20 decrypt to, with the padding, whatever that is, these 20 octets, which are not
@@ -102,53 +84,6 @@ pub fn decrypt_message_no_checksum(
     ensures rejected { length key.now ≡ 24 → IfErr result (λ e. IsMemoryOr e (HasNoPayloadUnchecked 8 20 (IsSealedDes3 key.now key_usage) cipher_data.now)) }
     ensures exact { IfErr result (λ e. IsMemoryOr e ((e ≡ des3_error key.now cipher_data.now) × (e ≢ KerberosCryptoError.IntegrityCheck))) }
 {
-    let decrypted = decrypt(alloc, key, key_usage, cipher_data)?;
-    decrypted.unchecked(alloc, cipher_data, DES3_BLOCK_SIZE, DES3_MAC_SIZE)
-}
-
-/// Confounder and payload, padded to whole blocks, with room for `spare` octets after them.
-fn padded(
-    alloc: Global,
-    confounder: &[u8; DES3_BLOCK_SIZE],
-    payload: &[u8],
-    spare: usize,
-) -> KerberosCryptoResult<Vec<u8>>
-    requires { spare ≤ 20 }
-    ensures padded { IfOk result (λ octets. IsPadding 8 (confounder.now ++ payload.now) octets.items) }
-    ensures octets { IfOk result (λ octets. IsOctets octets.items) }
-    ensures memory { IfErr result (λ e. e ≡ KerberosCryptoError.OutOfMemory) }
-{
-    let mut octets = concatenated(alloc, confounder, payload, DES3_BLOCK_SIZE + spare)?;
-    pad_blocks(&mut octets)?;
-    are_octets(&octets);
-    Ok(octets)
-}
-
-/// What the octets without their last 20 decrypt to under Ke.
-fn decrypt(
-    alloc: Global,
-    key: &[u8],
-    key_usage: i32,
-    cipher_data: &[u8],
-) -> KerberosCryptoResult<Decrypted>
-    ensures key { IfOk result (λ _. length key.now ≡ 24) }
-    ensures decrypted { IfOk result (λ r. IsDecrypted 8 8 20 (Des3Cbc key.now key_usage) (des3_ki key.now key_usage) cipher_data.now r.padded.items r.ki) }
-    ensures exact { IfErr result (λ e. IsMemoryOr e ((e ≡ des3_error key.now cipher_data.now) × (e ≢ KerberosCryptoError.IntegrityCheck))) }
-{
-    let base = DesKey::new(key)?;
-    if cipher_data.len() < SHORTEST {
-        return Err(KerberosCryptoError::CipherLength(cipher_data.len(), SHORTEST));
-    }
-    let encrypted = &cipher_data[..cipher_data.len() - DES3_MAC_SIZE];
-    if encrypted.len() % DES3_BLOCK_SIZE != 0 {
-        return Err(KerberosCryptoError::CipherUnpad);
-    }
-    let keys = MessageKeys::new(&base, key_usage)?;
-    let mut padded = Vec::from_slice(alloc, encrypted)?;
-    decrypt_des(&keys.ke, &mut padded);
-    are_octets(&padded);
-    Ok(Decrypted {
-        padded,
-        ki: keys.ki,
-    })
+    let keys = Des3MessageKey::new(key, key_usage)?;
+    keys.decrypt_no_checksum(alloc, cipher_data)
 }

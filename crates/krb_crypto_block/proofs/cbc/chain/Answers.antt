@@ -7,7 +7,7 @@ use Rattle.krb_crypto_block.proofs.cbc.chain.Goals as goal
 pub loop-i-preserved : goal.loop-i-preserved
 loop-i-preserved g c =
     let size : ℕ = g.row.SIZE in
-    let E : List ℕ → List ℕ = g.C.BlockCipher.encrypts c.args.cipher.now in
+    let E : List ℕ → List ℕ = g.C.BlockEncrypt.encrypts c.args.cipher.now in
     let p : List ℕ = c.args.octets.now in
     let o : List ℕ = c.loop-i.octets in
     let i : ℕ = c.loop-i.i in
@@ -30,13 +30,13 @@ loop-i-preserved g c =
 pub returns-clause-chained : goal.returns-clause-chained
 returns-clause-chained g c =
     let size : ℕ = g.row.SIZE in
-    let E : List ℕ → List ℕ = g.C.BlockCipher.encrypts c.args.cipher.now in
+    let E : List ℕ → List ℕ = g.C.BlockEncrypt.encrypts c.args.cipher.now in
     let p : List ℕ = c.args.octets.now in
     linked_all size E c.loop-i.i c.loop-i.before p c.loop-i.octets (linked size E (length p / size) c.args.first.now p) c.requires.whole c.loop-i-test.false c.loop-i.auto.octets c.loop-i.invariant.0
 
 pub returns-clause-last : goal.returns-clause-last
 returns-clause-last g c =
     let size : ℕ = g.row.SIZE in
-    let E : List ℕ → List ℕ = g.C.BlockCipher.encrypts c.args.cipher.now in
+    let E : List ℕ → List ℕ = g.C.BlockEncrypt.encrypts c.args.cipher.now in
     let p : List ℕ = c.args.octets.now in
     last_linked_end size E (length p / size) c.loop-i.i c.loop-i.before _ (last_linked size E (length p / size) c.args.first.now p) c.loop-i-test.false c.loop-i.invariant.2

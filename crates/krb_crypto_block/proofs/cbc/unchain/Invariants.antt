@@ -4,8 +4,8 @@ use Rattle.krb_crypto_block.proofs.cbc.unchain.Given as goal
 
 abbrev pub invariant-loop-i : goal.invariant-loop-i
 invariant-loop-i g l =
-    (take (g.row.SIZE * l.i) l.octets ++ unlinked g.row.SIZE (g.C.BlockCipher.decrypts l.cipher) (length l.fn.octets / g.row.SIZE - l.i) l.before (drop (g.row.SIZE * l.i) l.fn.octets)
-    ≡ unlinked g.row.SIZE (g.C.BlockCipher.decrypts l.cipher) (length l.fn.octets / g.row.SIZE) l.first l.fn.octets)
-    × (drop (g.row.SIZE * l.i) l.octets ≡ drop (g.row.SIZE * l.i) l.fn.octets)
-    × (last_block g.row.SIZE (length l.fn.octets / g.row.SIZE - l.i) l.before (drop (g.row.SIZE * l.i) l.fn.octets)
+    (take (2 * g.row.SIZE * l.i) l.octets ++ unlinked g.row.SIZE (g.C.BlockDecrypt.decrypts l.cipher) (length l.fn.octets / g.row.SIZE - 2 * l.i) l.before (drop (2 * g.row.SIZE * l.i) l.fn.octets)
+    ≡ unlinked g.row.SIZE (g.C.BlockDecrypt.decrypts l.cipher) (length l.fn.octets / g.row.SIZE) l.first l.fn.octets)
+    × (drop (2 * g.row.SIZE * l.i) l.octets ≡ drop (2 * g.row.SIZE * l.i) l.fn.octets)
+    × (last_block g.row.SIZE (length l.fn.octets / g.row.SIZE - 2 * l.i) l.before (drop (2 * g.row.SIZE * l.i) l.fn.octets)
     ≡ last_block g.row.SIZE (length l.fn.octets / g.row.SIZE) l.first l.fn.octets)

@@ -7,7 +7,7 @@ use Rattle.krb_crypto_block.proofs.stealing.decrypt_last_two.Goals as goal
 
 pub returns : goal.returns
 returns g c =
-    let D : List ℕ → List ℕ = g.C.BlockCipher.decrypts c.args.cipher.now in
+    let D : List ℕ → List ℕ = g.C.BlockDecrypt.decrypts c.args.cipher.now in
     let rest : List ℕ = c.args.rest.now in
     let n : ℕ = length rest - 16 in
     let last : List ℕ = D (take 16 rest) in

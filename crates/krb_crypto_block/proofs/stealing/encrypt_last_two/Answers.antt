@@ -8,7 +8,7 @@ use Rattle.krb_crypto_block.proofs.stealing.encrypt_last_two.Goals as goal
 
 pub returns : goal.returns
 returns g c =
-    let E : List ℕ → List ℕ = g.C.BlockCipher.encrypts c.args.cipher.now in
+    let E : List ℕ → List ℕ = g.C.BlockEncrypt.encrypts c.args.cipher.now in
     let rest : List ℕ = c.args.rest.now in
     let stolen : List ℕ = E (xor_lists (take 16 rest) c.args.before.now) in
     let whole : length (take 16 rest) ≡ 16 = search rules in

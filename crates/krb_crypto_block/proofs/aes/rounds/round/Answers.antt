@@ -1,16 +1,17 @@
-use Rattle.std.proofs.Common.{◌*◌, ◌+◌, ap, ℕ, bit_xor, slice_index}
-use Rattle.krb_crypto_block.specs.Aes.{sub_bytes, shift_rows}
-use Rattle.krb_crypto_block.proofs.AesWordRounds.{state_bytes, round_is}
+use Rattle.std.proofs.Common.{◌∙◌}
+use Rattle.krb_crypto_block.specs.declared.aes.tables.TheConstants.{ONCE_U, ONCE_V, TWICE_U, TWICE_V}
+use Rattle.krb_crypto_block.proofs.AesVectors.{are_inversion_indices, looked_up_is}
+use Rattle.krb_crypto_block.proofs.AesRoundLanes.{round_is}
 use Rattle.krb_crypto_block.proofs.aes.rounds.round.Goals as goal
 
+pub looked_up-once-requires : goal.looked_up-once-requires
+looked_up-once-requires c = are_inversion_indices c.args.x _ _ c.fits-x.1 c.inversion_indices.ensures
+
+pub looked_up-twice-requires : goal.looked_up-twice-requires
+looked_up-twice-requires c = are_inversion_indices c.args.x _ _ c.fits-x.1 c.inversion_indices.ensures
+
 pub returns : goal.returns
-unfolding sub_bytes shift_rows
-returns c = λ w st octets has held.
-    let k = c.args.keys.now in
-    let n = c.args.n in
-    let b = state_bytes c.args.s st _ _ _ _ held c.to_be_bytes.ensures c.to_be_bytes-2.ensures c.to_be_bytes-3.ensures c.to_be_bytes-4.ensures in
-    round_is w k n octets st _ _ _ _ has held.0
-    (ap (λ (x : ℕ). bit_xor x (slice_index k (4 * n))) (rw (b.0, b.1, b.2, b.3) at c.mixed_column.ensures))
-    (ap (λ (x : ℕ). bit_xor x (slice_index k (4 * n + 1))) (rw (b.0, b.1, b.2, b.3) at c.mixed_column-2.ensures))
-    (ap (λ (x : ℕ). bit_xor x (slice_index k (4 * n + 2))) (rw (b.0, b.1, b.2, b.3) at c.mixed_column-3.ensures))
-    (ap (λ (x : ℕ). bit_xor x (slice_index k (4 * n + 3))) (rw (b.0, b.1, b.2, b.3) at c.mixed_column-4.ensures))
+returns c = λ w st n is held has.
+    round_is w st n is c.args.x c.args.key _ _ held has
+    (c.looked_up-once.ensures ∙ looked_up_is ONCE_U ONCE_V c.args.x _ _ c.inversion_indices.ensures)
+    (c.looked_up-twice.ensures ∙ looked_up_is TWICE_U TWICE_V c.args.x _ _ c.inversion_indices.ensures)

@@ -1,14 +1,13 @@
 use Rattle.std.proofs.Common.{◌≡◌, ℕ, List, ap, ◌∙◌}
 use Rattle.std.proofs.lemmas.Int.{to_z-of_z}
-use Rattle.krb_crypto_message.specs.AesSha2.{sha2_mac, sha2_kc}
-use Rattle.krb_crypto_message.specs.WellKnown.{usage_constant}
-use Rattle.krb_crypto_message.proofs.Sha2Messages.{derived_for}
+use Rattle.std.proofs.lemmas.Result.{IfOk-weaker}
+use Rattle.krb_crypto_message.specs.AesSha2.{sha2_kc, sha2_mac}
 use Rattle.krb_crypto_message.proofs.aes_sha2.integrity.keyed_checksum.Goals as goal
 
 pub returns-clause-checksum : goal.returns-clause-checksum
 returns-clause-checksum c =
     let fits = c.ranges.key_usage in
-    let label : c.usage_kc.result ≡ usage_constant c.args.key_usage 0x99 = simp to_z-of_z at c.usage_kc.ensures in
-    let kc : c.as_slice.result.now ≡ sha2_kc c.args.size.now c.args.key.now c.args.key_usage =
-    c.as_slice.ensures ∙ derived_for c.args.size.now c.args.key.now _ _ _ _ _ c.derived_key-kc.ensures.derived label c.checksum_size.ensures in
-    c.in_ok-from_slice.ensures.items ∙ c.as_slice-2.ensures ∙ c.mac-checksum.ensures.mac ∙ ap (λ (k : List ℕ). sha2_mac c.args.size.now k c.args.payload.now) kc
+    let key = c.in_ok-new.field-0 in
+    let size : key.size ≡ c.args.size.now = c.in_ok-new.ensures.made.1 in
+    let kc : key.octets ≡ sha2_kc c.args.size.now c.args.key.now c.args.key_usage = simp to_z-of_z at c.in_ok-new.ensures.made.2 in
+    IfOk-weaker c.checksum.result _ _ (λ made is. rw (size, kc) at is) c.checksum.ensures.checksum

@@ -17,6 +17,7 @@ returns-clause-made c =
     let salt : c.deref.result.now ≡ sha2_salt size c.args.salt.now = c.deref.ensures.value ∙ c.in_ok-named.ensures in
     let stretched : IsPbkdf2Over (sha2_hmac size) (sha2_hmac_octets size) c.args.password.now (sha2_salt size c.args.salt.now) 32768 out =
     subst (λ s. IsPbkdf2Over (sha2_hmac size) (sha2_hmac_octets size) c.args.password.now s 32768 out) salt c.stretch.ensures in
-    let derived = derived_for size c.deref-2.result.now _ (codes "kerberos") _ _ _ c.derived_key-key.ensures.derived refl c.key_length-2.ensures
+    let under = rw (c.new.ensures.size, c.new.ensures.key) at c.derived-key.ensures.derived in
+    let derived = derived_for size c.deref-2.result.now _ (codes "kerberos") _ _ _ under refl c.key_length-2.ensures
     ∙ ap (λ (s : List ℕ). sha2_kdf size s (codes "kerberos") (key_octets size)) seen in
     sha2_password_one size c.args.password.now c.args.salt.now c.in_ok-from_slice.field-0.items (out, long, stretched, c.in_ok-from_slice.ensures.items ∙ c.as_slice.ensures ∙ derived)

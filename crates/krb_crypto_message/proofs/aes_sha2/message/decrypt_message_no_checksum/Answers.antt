@@ -1,27 +1,31 @@
-use Rattle.std.proofs.Common.{◌≡◌, ℕ, List, ◌∙◌, inl, inr}
+use Rattle.std.proofs.Common.{◌≡◌, ◌++◌, ◌-◌, ℕ, List, length, take, drop, ap, sym, subst, ◌∙◌, refl, rules, inl, inr}
+use Rattle.std.specs.Prelude.{IfOk, IfErr}
 use Rattle.std.proofs.lemmas.Int.{to_z-of_z}
-use Rattle.std.proofs.lemmas.Result.{err_from_is_err_and, IfOk-weaker}
+use Rattle.std.proofs.lemmas.Result.{err_from_is_err_and, IfOk-weaker, IfErr-weaker}
+use Rattle.std.proofs.lemmas.Slice.{pushed}
 use Rattle.krb_crypto_block.specs.Aes.{aes_block}
 use Rattle.krb_crypto_block.specs.Modes.{Cts}
 use Rattle.krb_crypto_block.specs.Size.{key_octets}
-use Rattle.krb_crypto_message.specs.AesSha2.{Sha2Cts, sha2_ke, sha2_ki, sha2_checksum_octets}
-use Rattle.krb_crypto_message.specs.MessageSteps.{IsDecrypted}
-use Rattle.krb_crypto_message.proofs.Opening.{splits, none_split}
-use Rattle.krb_crypto_message.proofs.Messages.{cts_short, decrypted_under}
-use Rattle.krb_crypto_message.proofs.Sha2Messages.{sha2_scheme}
+use Rattle.krb_crypto_hash.specs.CryptoError.{IsMemoryOr}
+use Rattle.krb_crypto_message.specs.AesSha2.{IsSealedSha2, sha2_ke, sha2_ki, sha2_kc, sha2_mac, sha2_seal_mac, sha2_checksum_octets, EndsInSealMac}
+use Rattle.krb_crypto_message.specs.DerivedKeys.{IsSealedUnderSha2}
+use Rattle.krb_crypto_message.specs.KeyedHash.{size_of, key_of}
+use Rattle.krb_crypto_message.specs.WellKnown.{usage_constant}
+use Rattle.krb_crypto_message.specs.MessageSteps.{IsDecrypted, end_of}
+use Rattle.krb_crypto_message.specs.Sealing.{IsTheOne, IsGiven, Opens, HasNoPayload, Encrypts, OpensUnchecked, HasNoPayloadUnchecked}
+use Rattle.krb_crypto_message.proofs.Opening.{IsEncrypted, seals, encrypts_one, seal_opens, none_sealed, none_ends, none_shaped, splits, none_split}
+use Rattle.krb_crypto_message.proofs.Messages.{cts_encrypted, cts_short, cts_unshaped, as_sha2}
+use Rattle.krb_crypto_message.proofs.Sha2Messages.{sha2_scheme, derived_for}
 use Rattle.krb_crypto_message.proofs.aes_sha2.message.decrypt_message_no_checksum.Goals as goal
 
 pub returns-in_err-keys-clause-rejected : goal.returns-in_err-keys-clause-rejected
 returns-in_err-keys-clause-rejected c = λ right.
     let size = c.args.size.now in
     let key = c.args.key.now in
+    let usage = c.args.key_usage in
     let bytes = c.args.cipher_data.now in
     let p = err_from_is_err_and c.from_residual.result c.from_residual.ensures.1 in
-    rw (p.1, p.2)
-    (elim c.in_err-keys.ensures.exact [
-      | inl memory ↦ inl memory
-      | inr other ↦ inr (none_split (sha2_scheme size key c.args.key_usage) bytes (cts_short (sha2_checksum_octets size) (key_octets size) key bytes _ right other))
-    ])
+    rw (p.1, p.2) (inr (none_split (sha2_scheme size (sha2_ke size key usage) (sha2_ki size key usage)) bytes (cts_unshaped (sha2_checksum_octets size) (key_octets size) key bytes _ right c.in_err-keys.ensures.exact)))
 
 pub returns-clause-opened : goal.returns-clause-opened
 returns-clause-opened c =
@@ -29,19 +33,28 @@ returns-clause-opened c =
     let size = c.args.size.now in
     let key = c.args.key.now in
     let usage = c.args.key_usage in
-    let bytes : List ℕ = c.args.cipher_data.now in
     let keys = c.in_ok-keys.keys in
-    let made = c.in_ok-opened.opened in
-    let ke : keys.ke ≡ sha2_ke size key usage = simp to_z-of_z at c.in_ok-keys.ensures.ke in
-    let ki : keys.ki ≡ sha2_ki size key usage = simp to_z-of_z at c.in_ok-keys.ensures.ki in
-    let made_by : IsDecrypted 1 16 (sha2_checksum_octets size) (Cts (aes_block keys.ke)) keys.ki bytes made.padded.items made.ki = rw c.checksum_size-mac_size.ensures at c.in_ok-opened.ensures.decrypted in
-    let d : IsDecrypted 1 16 (sha2_checksum_octets size) (Sha2Cts size key usage) (sha2_ki size key usage) bytes made.padded.items made.ki =
-    decrypted_under (sha2_checksum_octets size) (sha2_ke size key usage) (sha2_ki size key usage) keys.ke keys.ki bytes made.padded.items made.ki ke ki made_by in
-    let parts = rw c.checksum_size-mac_size.ensures at c.unchecked.ensures.parts in
-    IfOk-weaker c.unchecked.result _ _ (λ split is. splits (sha2_scheme size key usage) bytes made.padded.items made.ki split.confounder.items split.plaintext.items split.checksum.items d is) parts
+    let is : keys.size ≡ size = c.in_ok-keys.ensures.size in
+    let ke : keys.keys.ke ≡ sha2_ke size key usage = simp to_z-of_z at c.in_ok-keys.ensures.ke in
+    let ki : keys.keys.ki ≡ sha2_ki size key usage = simp to_z-of_z at c.in_ok-keys.ensures.ki in
+    subst (λ s. IfOk c.decrypt_no_checksum.result (λ made. OpensUnchecked 1 16 (sha2_checksum_octets s) (IsSealedSha2 size key usage) c.args.cipher_data.now made.confounder.items made.plaintext.items made.checksum.items)) is
+    (as_sha2 (λ m. IfOk c.decrypt_no_checksum.result (λ made. OpensUnchecked 1 16 (sha2_checksum_octets keys.size) m c.args.cipher_data.now made.confounder.items made.plaintext.items made.checksum.items)) keys size key usage is ke ki c.decrypt_no_checksum.ensures.opened)
+
+pub returns-clause-rejected : goal.returns-clause-rejected
+returns-clause-rejected c = λ right.
+    let fits = c.ranges.key_usage in
+    let size = c.args.size.now in
+    let key = c.args.key.now in
+    let usage = c.args.key_usage in
+    let keys = c.in_ok-keys.keys in
+    let is : keys.size ≡ size = c.in_ok-keys.ensures.size in
+    let ke : keys.keys.ke ≡ sha2_ke size key usage = simp to_z-of_z at c.in_ok-keys.ensures.ke in
+    let ki : keys.keys.ki ≡ sha2_ki size key usage = simp to_z-of_z at c.in_ok-keys.ensures.ki in
+    subst (λ s. IfErr c.decrypt_no_checksum.result (λ e. IsMemoryOr e (HasNoPayloadUnchecked 16 (sha2_checksum_octets s) (IsSealedSha2 size key usage) c.args.cipher_data.now))) is
+    (as_sha2 (λ m. IfErr c.decrypt_no_checksum.result (λ e. IsMemoryOr e (HasNoPayloadUnchecked 16 (sha2_checksum_octets keys.size) m c.args.cipher_data.now))) keys size key usage is ke ki c.decrypt_no_checksum.ensures.rejected)
 
 pub returns-clause-ki : goal.returns-clause-ki
 returns-clause-ki c =
     let fits = c.ranges.key_usage in
-    let ki : c.in_ok-keys.keys.ki ≡ sha2_ki c.args.size.now c.args.key.now c.args.key_usage = simp to_z-of_z at c.in_ok-keys.ensures.ki in
-    IfOk-weaker c.unchecked.result _ _ (λ made same. same ∙ c.in_ok-opened.ensures.decrypted.ki_is ∙ ki) c.unchecked.ensures.ki
+    let ki : c.in_ok-keys.keys.keys.ki ≡ sha2_ki c.args.size.now c.args.key.now c.args.key_usage = simp to_z-of_z at c.in_ok-keys.ensures.ki in
+    IfOk-weaker c.decrypt_no_checksum.result _ _ (λ made same. same ∙ ki) c.decrypt_no_checksum.ensures.ki

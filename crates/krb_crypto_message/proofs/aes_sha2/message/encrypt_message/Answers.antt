@@ -1,10 +1,21 @@
-use Rattle.std.proofs.Common.{rules, ◌≡◌, ◌++◌, ℕ, List, refl, ap, ◌∙◌}
+use Rattle.std.proofs.Common.{◌≡◌, ◌++◌, ◌-◌, ℕ, List, length, take, drop, ap, sym, subst, ◌∙◌, refl, rules, inl, inr}
+use Rattle.std.specs.Prelude.{IfOk, IfErr}
 use Rattle.std.proofs.lemmas.Int.{to_z-of_z}
+use Rattle.std.proofs.lemmas.Result.{err_from_is_err_and, IfOk-weaker, IfErr-weaker}
 use Rattle.std.proofs.lemmas.Slice.{pushed}
-use Rattle.krb_crypto_message.specs.AesSha2.{Sha2Cts, sha2_ke, sha2_ki, sha2_seal_mac}
-use Rattle.krb_crypto_message.proofs.Opening.{IsEncrypted, seals}
-use Rattle.krb_crypto_message.proofs.Messages.{cts_encrypted}
-use Rattle.krb_crypto_message.proofs.Sha2Messages.{sha2_scheme}
+use Rattle.krb_crypto_block.specs.Aes.{aes_block}
+use Rattle.krb_crypto_block.specs.Modes.{Cts}
+use Rattle.krb_crypto_block.specs.Size.{key_octets}
+use Rattle.krb_crypto_hash.specs.CryptoError.{IsMemoryOr}
+use Rattle.krb_crypto_message.specs.AesSha2.{sha2_ke, sha2_ki, sha2_kc, sha2_mac, sha2_seal_mac, sha2_checksum_octets, EndsInSealMac}
+use Rattle.krb_crypto_message.specs.DerivedKeys.{IsSealedUnderSha2}
+use Rattle.krb_crypto_message.specs.KeyedHash.{size_of, key_of}
+use Rattle.krb_crypto_message.specs.WellKnown.{usage_constant}
+use Rattle.krb_crypto_message.specs.MessageSteps.{IsDecrypted, end_of}
+use Rattle.krb_crypto_message.specs.Sealing.{IsTheOne, IsGiven, Opens, HasNoPayload, Encrypts, OpensUnchecked, HasNoPayloadUnchecked}
+use Rattle.krb_crypto_message.proofs.Opening.{IsEncrypted, seals, encrypts_one, seal_opens, none_sealed, none_ends, none_shaped, splits, none_split}
+use Rattle.krb_crypto_message.proofs.Messages.{cts_encrypted, cts_short, cts_unshaped, as_sha2}
+use Rattle.krb_crypto_message.proofs.Sha2Messages.{sha2_scheme, derived_for}
 use Rattle.krb_crypto_message.proofs.aes_sha2.message.encrypt_message.Goals as goal
 
 pub returns-clause-sealed : goal.returns-clause-sealed
@@ -14,13 +25,7 @@ returns-clause-sealed c =
     let key = c.args.key.now in
     let usage = c.args.key_usage in
     let keys = c.in_ok-keys.keys in
-    let padded : List ℕ = c.args.confounder ++ c.args.payload.now in
-    let made : List ℕ = c.in_ok-octets.octets.items in
-    let ke : keys.ke ≡ sha2_ke size key usage = simp to_z-of_z at c.in_ok-keys.ensures.ke in
-    let ki : keys.ki ≡ sha2_ki size key usage = simp to_z-of_z at c.in_ok-keys.ensures.ki in
-    let e : IsEncrypted 1 (Sha2Cts size key usage) (sha2_ki size key usage) c.args.confounder c.args.payload.now padded made keys.ki =
-    cts_encrypted (sha2_ke size key usage) (sha2_ki size key usage) keys.ke keys.ki c.args.confounder c.args.payload.now padded made ke ki refl c.in_ok-octets.ensures.octets c.in_ok-octets.ensures.encrypted_octets in
-    let mac : List ℕ = c.as_slice-2.result.now in
-    let mac_is : mac ≡ sha2_seal_mac size keys.ki made = search rules in
-    let all : c.extend_from_slice.new.self.items ≡ made ++ mac = pushed mac refl c.in_ok-extend_from_slice.was c.extend_from_slice.ensures.items in
-    seals (sha2_scheme size key usage) c.args.confounder c.args.payload.now padded made keys.ki c.extend_from_slice.new.self.items e (all ∙ ap (λ (k : List ℕ). made ++ k) mac_is)
+    let is : keys.size ≡ size = c.in_ok-keys.ensures.made.1 in
+    let ke : keys.keys.ke ≡ sha2_ke size key usage = simp to_z-of_z at c.in_ok-keys.ensures.made.2 in
+    let ki : keys.keys.ki ≡ sha2_ki size key usage = simp to_z-of_z at c.in_ok-keys.ensures.made.3 in
+    as_sha2 (λ m. IfOk c.encrypt.result (λ octets. IsTheOne (m c.args.confounder c.args.payload.now) octets.items)) keys size key usage is ke ki c.encrypt.ensures.sealed

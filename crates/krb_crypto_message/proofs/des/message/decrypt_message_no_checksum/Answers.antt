@@ -1,29 +1,37 @@
-use Rattle.std.proofs.Common.{inl, inr}
+use Rattle.std.proofs.Common.{◌≡◌, ◌++◌, ◌-◌, ◌≤◌, ℕ, List, length, take, drop, ap, sym, subst, ◌∙◌, refl, rules, arith, inl, inr}
+use Rattle.std.specs.Prelude.{IfOk, IfErr}
 use Rattle.std.proofs.lemmas.Int.{to_z-of_z}
-use Rattle.std.proofs.lemmas.Result.{err_from_is_err_and, IfOk-weaker}
-use Rattle.krb_crypto_message.specs.Sealed.{Des3Cbc, des3_ki}
-use Rattle.krb_crypto_message.specs.MessageSteps.{IsDecrypted}
-use Rattle.krb_crypto_message.proofs.Opening.{splits, none_split}
-use Rattle.krb_crypto_message.proofs.Messages.{des3_scheme, des3_unshaped}
+use Rattle.std.proofs.lemmas.Result.{err_from_is_err_and, IfOk-weaker, IfErr-weaker}
+use Rattle.std.proofs.lemmas.Slice.{pushed}
+use Rattle.std.proofs.lemmas.List.{take_all}
+use Rattle.krb_crypto_hash.specs.Hmac.{hmac}
+use Rattle.krb_crypto_block.specs.Des.{ede3}
+use Rattle.krb_crypto_block.specs.Modes.{IsCbc, IsOctets}
+use Rattle.krb_crypto_hash.specs.CryptoError.{IsMemoryOr}
+use Rattle.krb_crypto_message.specs.DerivedKeys.{IsSealedUnderDes3}
+use Rattle.krb_crypto_message.specs.Sealed.{des3_ke, des3_ki}
+use Rattle.krb_crypto_message.specs.MessageSteps.{IsDecrypted, cut_mac}
+use Rattle.krb_crypto_message.specs.Sealing.{IsTheOne, IsGiven, Opens, HasNoPayload, Encrypts, OpensUnchecked, HasNoPayloadUnchecked}
+use Rattle.krb_crypto_message.proofs.Opening.{IsEncrypted, seals, encrypts_one, seal_opens, none_sealed, none_ends, none_shaped, splits, none_split}
+use Rattle.krb_crypto_message.proofs.Messages.{des3_scheme, des3_encrypted, des3_decrypted, des3_unshaped, des3_checked, written, as_des3}
 use Rattle.krb_crypto_message.proofs.des.message.decrypt_message_no_checksum.Goals as goal
-
-pub returns-in_err-decrypted-clause-rejected : goal.returns-in_err-decrypted-clause-rejected
-returns-in_err-decrypted-clause-rejected c = λ right.
-    let key = c.args.key.now in
-    let bytes = c.args.cipher_data.now in
-    let p = err_from_is_err_and c.from_residual.result c.from_residual.ensures.1 in
-    rw (p.1, p.2)
-    (elim c.in_err-decrypted.ensures.exact [
-      | inl memory ↦ inl memory
-      | inr other ↦ inr (none_split (des3_scheme key c.args.key_usage) bytes (des3_unshaped key bytes _ right other))
-    ])
 
 pub returns-clause-opened : goal.returns-clause-opened
 returns-clause-opened c =
     let fits = c.ranges.key_usage in
     let key = c.args.key.now in
-    let bytes = c.args.cipher_data.now in
     let usage = c.args.key_usage in
-    let made = c.in_ok-decrypted.decrypted in
-    let d : IsDecrypted 8 8 20 (Des3Cbc key usage) (des3_ki key usage) bytes made.padded.items made.ki = simp to_z-of_z at c.in_ok-decrypted.ensures.decrypted in
-    IfOk-weaker c.unchecked.result _ _ (λ split is. splits (des3_scheme key usage) bytes made.padded.items made.ki split.confounder.items split.plaintext.items split.checksum.items d is) c.unchecked.ensures.parts
+    let keys = c.in_ok-keys.keys in
+    let ke : keys.ke ≡ des3_ke key usage = simp to_z-of_z at c.in_ok-keys.ensures.made.1 in
+    let ki : keys.ki ≡ des3_ki key usage = simp to_z-of_z at c.in_ok-keys.ensures.made.2 in
+    as_des3 (λ m. IfOk c.decrypt_no_checksum.result (λ made. OpensUnchecked 8 8 20 m c.args.cipher_data.now made.confounder.items made.plaintext.items made.checksum.items)) keys key usage ke ki c.decrypt_no_checksum.ensures.opened
+
+pub returns-clause-rejected : goal.returns-clause-rejected
+returns-clause-rejected c = λ right.
+    let fits = c.ranges.key_usage in
+    let key = c.args.key.now in
+    let usage = c.args.key_usage in
+    let keys = c.in_ok-keys.keys in
+    let ke : keys.ke ≡ des3_ke key usage = simp to_z-of_z at c.in_ok-keys.ensures.made.1 in
+    let ki : keys.ki ≡ des3_ki key usage = simp to_z-of_z at c.in_ok-keys.ensures.made.2 in
+    as_des3 (λ m. IfErr c.decrypt_no_checksum.result (λ e. IsMemoryOr e (HasNoPayloadUnchecked 8 20 m c.args.cipher_data.now))) keys key usage ke ki c.decrypt_no_checksum.ensures.rejected

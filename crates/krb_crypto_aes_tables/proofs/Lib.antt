@@ -1,0 +1,4 @@
+pub mod WordTables
+pub mod WordRounds
+pub mod InverseKeys
+pub mod Keys

@@ -1,0 +1,31 @@
+use Rattle.std.proofs.Common.{◌≡◌, ◌++◌, ◌-◌, ◌≤◌, ℕ, List, length, take, drop, ap, sym, subst, ◌∙◌, refl, rules, arith, inl, inr}
+use Rattle.std.specs.Prelude.{IfOk, IfErr}
+use Rattle.std.proofs.lemmas.Int.{to_z-of_z}
+use Rattle.std.proofs.lemmas.Result.{err_from_is_err_and, IfOk-weaker, IfErr-weaker}
+use Rattle.std.proofs.lemmas.Slice.{pushed}
+use Rattle.std.proofs.lemmas.List.{take_all}
+use Rattle.krb_crypto_hash.specs.Hmac.{hmac}
+use Rattle.krb_crypto_block.specs.Des.{ede3}
+use Rattle.krb_crypto_block.specs.Modes.{IsCbc, IsOctets}
+use Rattle.krb_crypto_hash.specs.CryptoError.{IsMemoryOr}
+use Rattle.krb_crypto_message.specs.DerivedKeys.{IsSealedUnderDes3}
+use Rattle.krb_crypto_message.specs.Sealed.{des3_ke, des3_ki}
+use Rattle.krb_crypto_message.specs.MessageSteps.{IsDecrypted, cut_mac}
+use Rattle.krb_crypto_message.specs.Sealing.{IsTheOne, IsGiven, Opens, HasNoPayload, Encrypts, OpensUnchecked, HasNoPayloadUnchecked}
+use Rattle.krb_crypto_message.proofs.Opening.{IsEncrypted, seals, encrypts_one, seal_opens, none_sealed, none_ends, none_shaped, splits, none_split}
+use Rattle.krb_crypto_message.proofs.Messages.{des3_scheme, des3_encrypted, des3_decrypted, des3_unshaped, des3_checked, written, as_des3}
+use Rattle.krb_crypto_message.proofs.des.prepared.Des3MessageKey.encrypt_no_checksum.Goals as goal
+
+pub returns-clause-encrypted : goal.returns-clause-encrypted
+returns-clause-encrypted c =
+    let k = c.self.inside in
+    let confounder : List ℕ = c.args.confounder in
+    let payload : List ℕ = c.args.payload.now in
+    let padded : List ℕ = c.in_ok-octets.octets.items in
+    let made : List ℕ = c.encrypt_des.new.octets in
+    let encrypted_octets : IsCbc 8 (ede3 k.ke) padded made = subst (λ p. IsCbc 8 (ede3 k.ke) p made) c.deref_mut.ensures.value c.encrypt_des.ensures in
+    let e : IsEncrypted 8 (IsCbc 8 (ede3 k.ke)) k.ki confounder payload padded made k.ki =
+    des3_encrypted k.ke k.ki confounder payload padded made c.in_ok-octets.ensures.padded c.in_ok-octets.ensures.octets encrypted_octets in
+    let back : take c.in_ok-octets.octets.len (made ++ drop (length made) padded) ≡ made = written padded made c.in_ok-octets.octets.len (c.encrypt_des.auto.octets ∙ c.deref_mut.ensures.len) in
+    subst (λ v. IfOk c.without_checksum.result (λ sealed. IsTheOne (Encrypts (IsSealedUnderDes3 v) 20 confounder payload) sealed.encrypted.items)) c.self.view_is
+    (IfOk-weaker c.without_checksum.result _ _ (λ sealed same. let is : sealed.encrypted.items ≡ made = same ∙ back in rw is (encrypts_one (des3_scheme k.ke k.ki) confounder payload padded made k.ki e)) c.without_checksum.ensures.encrypted)
