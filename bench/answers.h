@@ -1,6 +1,7 @@
 /* Known results. A library that returns another is reported, and nothing is printed of it. */
 #ifndef ANSWERS_H
 #define ANSWERS_H
+#include "octets.h"
 #include "part.h"
 #include <stdlib.h>
 #include <string.h>
@@ -57,6 +58,25 @@ static void expect_keys(void) {
     for (size_t i = 0; i < sizeof keys / sizeof *keys; i++) {
         expect("string to key, a suite of AES",
                bench_string_to_key(17 + i, TEXT("5hYYSAfFJp"), TEXT("EXAMPLE.COMtest1"), ARRAY(out)), out, keys[i]);
+    }
+}
+
+/* AES by permutes and AES by word tables, which are proved to be the same, under random keys: both sizes, both directions. */
+static void expect_tables(void) {
+    uint8_t key[32], block[16], one[16], other[16];
+    for (int turn = 0; turn < 2 * TRIES; turn++) {
+        size_t size = turn % 2 ? 32 : 16;
+        draw_any(key, size);
+        draw_any(ARRAY(block));
+        memcpy(one, block, 16);
+        memcpy(other, block, 16);
+        if (bench_aes_encrypt(key, size, 1, ARRAY(one)) != 16 || bench_table_encrypt(key, size, 1, ARRAY(other)) != 16 ||
+            memcmp(one, other, 16) != 0 || bench_table_decrypt(key, size, 1, ARRAY(one)) != 16 ||
+            bench_aes_decrypt(key, size, 1, ARRAY(other)) != 16 || memcmp(one, other, 16) != 0 ||
+            memcmp(one, block, 16) != 0) {
+            fprintf(stderr, "AES by word tables answers otherwise\n");
+            exit(1);
+        }
     }
 }
 

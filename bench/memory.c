@@ -38,6 +38,12 @@ static void count_messages(size_t etype, size_t key_size, size_t confounder_size
               bench_seal(etype, key, key_size, 2, confounder, confounder_size, payload, size, ARRAY(sealed)));
     snprintf(name, sizeof name, "open %zu octets, suite %zu", size, etype);
     COUNT(bench_open(etype, key, key_size, 2, sealed, total, NO_ROOM));
+    if (bench_kept_seal) {
+        snprintf(name, sizeof name, "seal %zu octets, suite %zu, key kept", size, etype);
+        COUNT(bench_kept_seal(etype, key, key_size, 2, confounder, confounder_size, payload, size, 1, NO_ROOM));
+        snprintf(name, sizeof name, "open %zu octets, suite %zu, key kept", size, etype);
+        COUNT(bench_kept_open(etype, key, key_size, 2, sealed, total, 1, NO_ROOM));
+    }
 }
 
 static void count_part(const struct part *part) {
