@@ -120,6 +120,14 @@ impl GeneralizedTimeAsn1 {
         self.second
     }
 
+    /// A lemma: the numbers of a value are those of a real time.
+    pub fn is_real(&self)
+        ensures { IsRealTime self.now }
+    {
+        // A field in use shows the proof what holds of all of them.
+        let _ = &self.year;
+    }
+
     /// The content.
     fn octets(&self) -> [u8; CONTENT_LENGTH]
         ensures { result ≡ time_content self.now }

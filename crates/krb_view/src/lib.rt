@@ -1,0 +1,11 @@
+//! Values of Kerberos as a program wants them: what a field holds, flags by number, times as seconds, principals as text.
+#![tactic(auto)]
+
+mod fields;
+mod flags;
+pub mod laws;
+mod times;
+
+pub use fields::{Present, Tagged, items};
+pub use flags::is_set;
+pub use times::{time_of_unix_seconds, unix_seconds};
