@@ -56,6 +56,14 @@ impl GeneralStringAsn1 {
     {
         self.0.as_str()
     }
+
+    /// A lemma: each octet of a value is one of ASCII.
+    pub fn is_ascii(&self)
+        ensures { IsAscii self.now }
+    {
+        // A field in use shows the proof what holds of all of them.
+        let _ = &self.0;
+    }
 }
 
 impl PartialEq for GeneralStringAsn1 {
