@@ -10,7 +10,7 @@ use Rattle.krb_crypto_block.specs.Fold.{number, turned, rot, concatenated}
 use Rattle.krb_crypto_block.proofs.FoldWorth.{worth, worth-zero, worth-suc, worth-add, worth_pos, worth_pow, number_lt, octet_of, octet-high}
 
 -- x twice in a row, shifted
-turned_twice : (x d r : ℕ) → (x * 2 ^ (d + r) + x) / 2 ^ r ≡ x / 2 ^ r * 2 ^ (d + r) + ((x % 2 ^ r) * 2 ^ d + x / 2 ^ r)
+pub turned_twice : (x d r : ℕ) → (x * 2 ^ (d + r) + x) / 2 ^ r ≡ x / 2 ^ r * 2 ^ (d + r) + ((x % 2 ^ r) * 2 ^ d + x / 2 ^ r)
 turned_twice x d r =
     let pos : 0 < 2 ^ r = pow_pos r in
     let parts : x / 2 ^ r * 2 ^ r + x % 2 ^ r ≡ x = div-add-mod' x (2 ^ r) in
@@ -99,11 +99,11 @@ rot_octet xs j e a n h en he ea =
     ∙ ap (λ (i : ℕ). (i * 256 + x / worth a % 256) / 2 ^ (5 * j % 8) % 256) high ∙ ap (λ (i : ℕ). (get_or xs (n - 1 - (a + 1) % n) 0 * 256 + i) / 2 ^ (5 * j % 8) % 256) low
 
 -- ---- the turns concatenated
-concatenated-suc : (x k c : ℕ) → concatenated x k (suc c) ≡ concatenated x k c * 2 ^ k + rot x k c
+pub concatenated-suc : (x k c : ℕ) → concatenated x k (suc c) ≡ concatenated x k c * 2 ^ k + rot x k c
 unfolding concatenated
 concatenated-suc x k c = refl
 
-concatenated-zero : (x k : ℕ) → concatenated x k 0 ≡ 0
+pub concatenated-zero : (x k : ℕ) → concatenated x k 0 ≡ 0
 unfolding concatenated
 concatenated-zero x k = refl
 

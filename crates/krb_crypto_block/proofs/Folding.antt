@@ -119,7 +119,7 @@ Folding-step s m j t v c x v2 c2 em inside f ex es ec fits =
           wrapped s m j (t + 1) v2 c2 (f.times + x * w) e em ec fits (rw turn at whole) (rw turn at zero_only) (rw turn at below)
     ]
 
-residue_from : (m j u q : ℕ) → j ≡ u + q * m → u < m + 1 → (u ≡ 0 → q ≡ 0) → u ≡ residue m j
+pub residue_from : (m j u q : ℕ) → j ≡ u + q * m → u < m + 1 → (u ≡ 0 → q ≡ 0) → u ≡ residue m j
 residue_from m j zero q e lt hz =
     let q0 : q ≡ 0 = hz refl in
     let j0 : j ≡ 0 = rw (e, q0) (omega arith) in

@@ -8,6 +8,9 @@ use crate::octets::are_octets;
 use krb_crypto_hash::KerberosCryptoResult;
 use std::alloc::Global;
 
+/// The octets of a word, in which short inputs are folded.
+const WORD_SIZE: usize = 16;
+
 /// The octets folded to `n` bits (RFC 3961, 5.1): the copies of the input, each turned right by 13 bits more than the one
 /// before, as many as fill a common multiple of both lengths, are cut into pieces of `n` bits and added in
 /// ones'-complement arithmetic.
@@ -33,9 +36,91 @@ pub fn n_fold_into(input: &[u8], out: &mut [u8])
     requires some { 0 < length out.old }
     ensures { out.new ≡ fold input.now (8 * length out.old) }
 {
+    if out.len() == WORD_SIZE && 2 <= input.len() && input.len() <= 8 {
+        out.copy_from_slice(&word_of(input).to_be_bytes());
+        return;
+    }
     out.fill(0);
     fold_into(out, input);
     are_octets(out);
+}
+
+/// Two to eight octets folded to a word. With the five octets of a usage's constant the compiler knows by how much each turn is moved.
+fn word_of(input: &[u8]) -> u128
+    requires two { 2 ≤ length input.now }
+    requires eight { length input.now ≤ 8 }
+    ensures { result ≡ folded_number (number input.now) (8 * length input.now) 128 }
+{
+    if input.len() == 5 {
+        return fold_to_word(input, 5, 16);
+    }
+    let turns = WORD_SIZE / greatest_common_divisor(WORD_SIZE, input.len());
+    fold_to_word(input, input.len(), turns)
+}
+
+/// Octets folded to a word, with the number of their turns: before each turn is added, the sum is multiplied by two to the power of a
+/// turn's bits, modulo 2^128 - 1.
+#[inline(always)]
+fn fold_to_word(input: &[u8], size: usize, count: usize) -> u128
+    requires all { size ≡ length input.now }
+    requires two { 2 ≤ size }
+    requires eight { size ≤ 8 }
+    requires turns { count ≡ 16 / gcd 16 size }
+    ensures { result ≡ folded_number (number input.now) (8 * length input.now) 128 }
+{
+    let bits = 8 * size;
+    let whole = number_of(input) as u128;
+    let twice = (whole << bits) + whole;
+    let mut sum = 0;
+    let mut shift = 0;
+    'turns: for turn in 0..count {
+        let turned = low_bits(twice >> shift, bits);
+        sum = add_with_carry(turn_left(sum, bits), turned);
+        shift += 13;
+        if shift >= bits {
+            shift -= bits;
+        }
+    }
+    sum
+}
+
+/// The number whose octets these are, highest first.
+fn number_of(octets: &[u8]) -> u64
+    requires { length octets.now ≤ 8 }
+    ensures { result ≡ number octets.now }
+{
+    let mut n = 0;
+    for octet in octets {
+        n = n * 256 + *octet as u64;
+    }
+    n
+}
+
+/// The lowest bits of a word.
+fn low_bits(word: u128, bits: usize) -> u128
+    requires { bits < 128 }
+    ensures { result ≡ word % 2 ^ bits }
+{
+    word & ((1 << bits) - 1)
+}
+
+/// The word turned left: multiplied by two to the power of the bits, modulo 2^128 - 1.
+fn turn_left(word: u128, bits: usize) -> u128
+    requires some { 0 < bits }
+    requires few { bits < 128 }
+    ensures value { word * 2 ^ bits ≡ result + word / 2 ^ (128 - bits) * (2 ^ 128 - 1) }
+    ensures above { word / 2 ^ (128 - bits) ≤ result }
+{
+    (word << bits) + (word >> (128 - bits))
+}
+
+/// The sum, with the carry added to it.
+fn add_with_carry(a: u128, b: u128) -> u128
+    ensures small { a + b < 2 ^ 128 → result ≡ a + b }
+    ensures large { 2 ^ 128 ≤ a + b → result + (2 ^ 128 - 1) ≡ a + b }
+{
+    let left = u128::MAX - b;
+    if a > left { a - left } else { a + b }
 }
 
 /// Adds the turns of the input to the sum, octet by octet from the right, round and round, with end-around carry.

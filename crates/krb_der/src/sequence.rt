@@ -10,7 +10,7 @@ ghost use Rattle.krb_der.specs.Composite.{nothing};
 ghost use Rattle.krb_der.specs.Grouping.{BeginSo, OneReading, ReadsFields, DistinguishedEnds};
 ghost use Rattle.krb_der.specs.Whole.{NoDevice};
 
-use krb_der_core::{Asn1DerError, close_tlv};
+use krb_der_core::{Asn1DerError, begin_tlv, end_tlv};
 use std::alloc::{AllocError, Global};
 
 /// The tag of a SEQUENCE: universal 16, constructed (X.690, 8.9).
@@ -135,7 +135,10 @@ pub fn write_sequence<R: FieldRefs>(
     ensures valid { OnOk result (R.are_values fields.now) }
     ensures err { OnErr result (out.new.items ≡ out.old.items) }
 {
-    let start = out.len();
-    fields.write_refs(alloc, out)?;
-    close_tlv(SEQUENCE, start, out)
+    let start = begin_tlv(out)?;
+    if let Err(error) = fields.write_refs(alloc, out) {
+        out.truncate(start);
+        return Err(error);
+    }
+    end_tlv(SEQUENCE, start, out)
 }

@@ -11,7 +11,7 @@ ghost use Rattle.krb_der.specs.ListLaws.{list_one_content};
 ghost use Rattle.krb_der_core.specs.ErrorLaws.{list_laws, tagged_laws};
 
 use crate::sequence::SEQUENCE;
-use krb_der_core::{Asn1DerError, Der, DerEncode, close_tlv};
+use krb_der_core::{Asn1DerError, Der, DerEncode, begin_tlv, end_tlv};
 use std::alloc::{AllocError, Global};
 use std::marker::Model;
 
@@ -100,9 +100,12 @@ impl<T: DerEncode> DerEncode for Asn1SequenceOf<T> {
     }
 
     fn write(&self, alloc: Global, out: &mut Vec<u8>) -> Result<(), AllocError> {
-        let start = out.len();
-        write_items(alloc, self.0.as_slice(), out)?;
-        close_tlv(SEQUENCE, start, out)
+        let start = begin_tlv(out)?;
+        if let Err(error) = write_items(alloc, self.0.as_slice(), out) {
+            out.truncate(start);
+            return Err(error);
+        }
+        end_tlv(SEQUENCE, start, out)
     }
 }
 

@@ -7,7 +7,7 @@ ghost use Rattle.krb_der_core.specs.Errors.{OrMemory, TaggedError, ValueError};
 ghost use Rattle.krb_der.specs.Whole.{Answers, ReadsValue, ReportsCut, RejectsMore, NoDevice};
 ghost use Rattle.krb_der_core.specs.declared.error.Asn1DerError.TheVariants.{InvalidData, OutOfMemory};
 
-use krb_der_core::{Asn1DerError, Der, DerEncode, close_tlv};
+use krb_der_core::{Asn1DerError, Der, DerEncode, begin_tlv, end_tlv};
 use std::alloc::{AllocError, Global};
 
 /// The value whose encoding is the whole input.
@@ -63,9 +63,12 @@ pub(crate) fn write_around<T: DerEncode>(
     ensures valid { OnOk result (T.is_value value.now) }
     ensures err { OnErr result (out.new.items ≡ out.old.items) }
 {
-    let start = out.len();
-    value.write(alloc, out)?;
-    close_tlv(tag, start, out)
+    let start = begin_tlv(out)?;
+    if let Err(error) = value.write(alloc, out) {
+        out.truncate(start);
+        return Err(error);
+    }
+    end_tlv(tag, start, out)
 }
 
 /// The value whose encoding is the content of an element with the expected tag.

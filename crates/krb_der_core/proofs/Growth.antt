@@ -58,23 +58,32 @@ header_large tag n k digits room le count e =
 sum : (start count : ℕ) → start + (start + count - start) ≡ start + count
 sum start count = omega arith
 
--- a content that was moved up by as many octets as its header has, and the header in the place that it left
-pub closed : (out longer moved octets written : List ℕ) (start tag end count : ℕ) → start ≤ length out → end ≡ length out
-    → count ≡ length octets → octets ≡ header tag (end - start)
-    → longer ≡ out ++ octets → moved ≡ (take (start + count) longer ++ take (end - start) (drop start longer)) ++ drop (start + count + (end - start)) longer → written ≡ octets
-    → take start moved ++ (written ++ drop (start + count - start) (drop start moved)) ≡ take start out ++ tlv tag (drop start out)
+-- a content that was moved up to where its header ends, and the header in the place before it
+pub closed : (out longer moved octets more written : List ℕ) (start from tag end count : ℕ) → start ≤ from → from ≤ start + 2 → 2 ≤ count → from ≤ length out → end ≡ length out
+    → count ≡ length octets → length more ≡ count - (from - start) → octets ≡ header tag (end - from)
+    → longer ≡ out ++ more → moved ≡ (take (start + count) longer ++ take (end - from) (drop from longer)) ++ drop (start + count + (end - from)) longer → written ≡ octets
+    → take start moved ++ (written ++ drop (start + count - start) (drop start moved)) ≡ take start out ++ tlv tag (drop from out)
 unfolding tlv
-closed out longer moved octets written start tag end count le same size h e m w =
-    let content = drop start out in
-    let left : length content ≡ end - start = rw same (length-drop start out) in
-    let total : length longer ≡ length out + count = omega (arith, ap length e, length-append out octets, size) in
-    let lifted : take (end - start) (drop start longer) ≡ content = ap (λ (l : List ℕ). take (end - start) (drop start l)) e ∙ ap (λ (l : List ℕ). take (end - start) l) (drop-append-le start out octets le) ∙ take_at content octets (end - start) left in
-    let trailing : drop (start + count + (end - start)) longer ≡ [] = drop_all (start + count + (end - start)) longer (omega (arith, total)) in
+closed out longer moved octets more written start from tag end count order room two le same size left_over h e m w =
+    let content = drop from out in
+    let left : length content ≡ end - from = rw same (length-drop from out) in
+    let total : length longer ≡ length out + (count - (from - start)) = omega (arith, ap length e, length-append out more, left_over) in
+    let lifted : take (end - from) (drop from longer) ≡ content = ap (λ (l : List ℕ). take (end - from) (drop from l)) e ∙ ap (λ (l : List ℕ). take (end - from) l) (drop-append-le from out more le) ∙ take_at content more (end - from) left in
+    let trailing : drop (start + count + (end - from)) longer ≡ [] = drop_all (start + count + (end - from)) longer (omega (arith, total)) in
     let below : length (take (start + count) longer) ≡ start + count = length-take-le (start + count) longer (omega (arith, total)) in
     let whole : moved ≡ take (start + count) longer ++ content = (rw (lifted, trailing) at m) ∙ append-nil (take (start + count) longer ++ content) in
-    let prefix : take start moved ≡ take start out = ap (λ (l : List ℕ). take start l) whole ∙ take-append-le start (take (start + count) longer) content (omega (arith, below)) ∙ take-take start (start + count) longer (omega arith) ∙ ap (λ (l : List ℕ). take start l) e ∙ take-append-le start out octets le in
+    let prefix : take start moved ≡ take start out = ap (λ (l : List ℕ). take start l) whole ∙ take-append-le start (take (start + count) longer) content (omega (arith, below)) ∙ take-take start (start + count) longer (omega arith) ∙ ap (λ (l : List ℕ). take start l) e ∙ take-append-le start out more (omega arith) in
     let back : drop (start + count - start) (drop start moved) ≡ content = drop-drop (start + count - start) start moved ∙ ap (λ n. drop n moved) (sum start count) ∙ ap (λ (l : List ℕ). drop (start + count) l) whole ∙ drop_at (take (start + count) longer) content (start + count) below in
     rw (prefix, back, w, h, left) refl
+
+-- the header of a short content in its room
+pub filled : (out written : List ℕ) (start tag : ℕ) → start + 2 ≤ length out → length out - start - 2 < 128 → written ≡ tag ∷ (length out - start - 2) ∷ []
+    → take start out ++ (written ++ drop (start + 2 - start) (drop start out)) ≡ take start out ++ tlv tag (drop (start + 2) out)
+unfolding tlv
+filled out written start tag le lt w =
+    let left : length (drop (start + 2) out) ≡ length out - start - 2 = omega (arith, length-drop (start + 2) out) in
+    let back : drop (start + 2 - start) (drop start out) ≡ drop (start + 2) out = drop-drop (start + 2 - start) start out ∙ ap (λ n. drop n out) (sum start 2) in
+    rw (back, w, left, len-small (length out - start - 2) lt) refl
 
 pub written_length : (s written : List ℕ) (start k : ℕ) → start ≤ length s → length written ≡ length (take k (drop start s))
     → length (take start s ++ (written ++ drop k (drop start s))) ≡ length s

@@ -1,6 +1,6 @@
 //! BIT STRING.
 
-ghost use Rattle.std.specs.Prelude.{◌≡◌, ◌==◌, ◌&&◌, ◌≤◌, ◌^◌, List, ℕ, MatchBool, IfOk, IfErr};
+ghost use Rattle.std.specs.Prelude.{◌≡◌, ◌==◌, ◌&&◌, ◌≤◌, ◌^◌, ◌∷◌, ◌++◌, List, ℕ, length, take, MatchBool, IfOk, IfErr, OnOk, OnErr};
 ghost use Rattle.std.specs.Cmp.Lexicographic.{pointwise};
 ghost use Rattle.std.specs.Cmp.Rules.{comparing};
 ghost use Rattle.std.proofs.Common.{rules};
@@ -15,7 +15,7 @@ ghost use Rattle.krb_der_core.specs.ErrorLaws.{primitive_error_laws};
 use crate::content::{Content, read_tagged};
 use crate::der::{Der, DerEncode};
 use crate::error::Asn1DerError;
-use crate::tlv::close_tlv;
+use crate::tlv::{begin_tlv, end_tlv};
 use std::alloc::{AllocError, Global};
 use std::marker::Model;
 
@@ -134,6 +134,15 @@ impl Content for BitStringAsn1 {
     }
 }
 
+/// Appends the number of spare bits and the octets. Where an allocation fails, the number may have been appended.
+fn push_content(spare: u8, octets: &[u8], out: &mut Vec<u8>) -> Result<(), AllocError>
+    ensures ok { OnOk result (out.new.items ≡ out.old.items ++ spare ∷ octets.now) }
+    ensures err { OnErr result (take (length out.old.items) out.new.items ≡ out.old.items) }
+{
+    out.push(spare)?;
+    out.extend_from_slice(octets)
+}
+
 impl DerEncode for BitStringAsn1 {
     ghost enc = { λ v. tlv 3 (bits_content v) };
 
@@ -154,13 +163,12 @@ impl DerEncode for BitStringAsn1 {
     }
 
     fn write(&self, _alloc: Global, out: &mut Vec<u8>) -> Result<(), AllocError> {
-        let start = out.len();
-        out.push(self.spare)?;
-        if let Err(error) = out.extend_from_slice(&self.octets) {
+        let start = begin_tlv(out)?;
+        if let Err(error) = push_content(self.spare, &self.octets, out) {
             out.truncate(start);
             return Err(error);
         }
-        close_tlv(BIT_STRING, start, out)
+        end_tlv(BIT_STRING, start, out)
     }
 }
 

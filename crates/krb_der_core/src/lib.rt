@@ -24,5 +24,5 @@ pub use general_string::GeneralStringAsn1;
 pub use generalized_time::GeneralizedTimeAsn1;
 pub use integer::IntegerAsn1;
 pub use octet_string::OctetStringAsn1;
-pub use tlv::{close_tlv, read_length, read_tlv, write_tlv};
+pub use tlv::{begin_tlv, close_tlv, end_tlv, read_length, read_tlv, write_tlv};
 pub use utf8_string::Utf8StringAsn1;

@@ -1,6 +1,6 @@
 //! Tags, lengths and contents.
 
-ghost use Rattle.std.specs.Prelude.{◌≡◌, ◌⊎◌, ℕ, ◌^◌, ◌-◌, ◌<◌, ◌≤◌, ◌++◌, length, take, drop, slice_index, IfOk, IfErr, OnOk, OnErr};
+ghost use Rattle.std.specs.Prelude.{◌≡◌, ◌⊎◌, ℕ, ◌^◌, ◌+◌, ◌-◌, ◌<◌, ◌≤◌, [], ◌∷◌, ◌++◌, length, take, drop, slice_index, IfOk, IfErr, OnOk, OnErr};
 ghost use Rattle.std.specs.Int.Digits.{digits_of, number_from_digits};
 ghost use Rattle.krb_der_core.specs.Tlv.{len, header, tlv};
 ghost use Rattle.krb_der_core.specs.Reading.{TakesPrefix, RejectsPrefix, Lengths, Elements};
@@ -107,6 +107,7 @@ pub(crate) fn push_digits(n: usize, out: &mut Vec<u8>) -> Result<(), AllocError>
 fn header_octets(tag: u8, n: usize) -> ([u8; 10], usize)
     ensures octets { take result.1 result.0 ≡ header tag n }
     ensures count { result.1 ≤ 10 }
+    ensures two { 2 ≤ result.1 }
 {
     if n < 128 {
         return ([tag, n as u8, 0, 0, 0, 0, 0, 0, 0, 0], 2);
@@ -118,19 +119,57 @@ fn header_octets(tag: u8, n: usize) -> ([u8; 10], usize)
     (octets, 2 + count)
 }
 
+/// Appends the header of an element whose content has n octets.
+fn append_header(tag: u8, n: usize, out: &mut Vec<u8>) -> Result<(), AllocError>
+    ensures ok { OnOk result (out.new.items ≡ out.old.items ++ header tag n) }
+    ensures err { OnErr result (out.new.items ≡ out.old.items) }
+{
+    if n < 128 {
+        return out.extend_from_slice(&[tag, n as u8]);
+    }
+    let (octets, count) = header_octets(tag, n);
+    out.extend_from_slice(&octets[..count])
+}
+
 /// Appends an element.
 pub fn write_tlv(tag: u8, content: &[u8], out: &mut Vec<u8>) -> Result<(), AllocError>
     ensures ok { OnOk result (out.new.items ≡ out.old.items ++ tlv tag content.now) }
     ensures err { OnErr result (out.new.items ≡ out.old.items) }
 {
     let start = out.len();
-    let (octets, count) = header_octets(tag, content.len());
-    out.extend_from_slice(&octets[..count])?;
+    append_header(tag, content.len(), out)?;
     if let Err(e) = out.extend_from_slice(content) {
         out.truncate(start);
         return Err(e);
     }
     Ok(())
+}
+
+/// Appends room for the header of an element whose content is to follow, and returns where it begins. `end_tlv` puts the header
+/// there.
+pub fn begin_tlv(out: &mut Vec<u8>) -> Result<usize, AllocError>
+    ensures start { IfOk result (λ start. start ≡ length out.old.items) }
+    ensures ok { OnOk result (out.new.items ≡ out.old.items ++ 0 ∷ 0 ∷ []) }
+    ensures err { OnErr result (out.new.items ≡ out.old.items) }
+{
+    let start = out.len();
+    out.extend_from_slice(&[0, 0])?;
+    Ok(start)
+}
+
+/// Makes the octets after the room for a header, which begins at `start`, the content of an element. Where an allocation fails,
+/// the room and they are removed.
+pub fn end_tlv(tag: u8, start: usize, out: &mut Vec<u8>) -> Result<(), AllocError>
+    requires { start + 2 ≤ length out.old.items }
+    ensures ok { OnOk result (out.new.items ≡ take start out.old.items ++ tlv tag (drop (start + 2) out.old.items)) }
+    ensures err { OnErr result (out.new.items ≡ take start out.old.items) }
+{
+    let size = out.len() - start - 2;
+    if size < 128 {
+        out[start..start + 2].copy_from_slice(&[tag, size as u8]);
+        return Ok(());
+    }
+    put_header(tag, start, start + 2, out)
 }
 
 /// Makes the octets from `start` on the content of an element, and inserts its header before them. Where an allocation fails,
@@ -140,13 +179,24 @@ pub fn close_tlv(tag: u8, start: usize, out: &mut Vec<u8>) -> Result<(), AllocEr
     ensures ok { OnOk result (out.new.items ≡ take start out.old.items ++ tlv tag (drop start out.old.items)) }
     ensures err { OnErr result (out.new.items ≡ take start out.old.items) }
 {
+    put_header(tag, start, start, out)
+}
+
+/// Makes the octets from `from` on the content of an element that begins at `start`, over at most two octets between them.
+fn put_header(tag: u8, start: usize, from: usize, out: &mut Vec<u8>) -> Result<(), AllocError>
+    requires order { start ≤ from }
+    requires room { from ≤ start + 2 }
+    requires inside { from ≤ length out.old.items }
+    ensures ok { OnOk result (out.new.items ≡ take start out.old.items ++ tlv tag (drop from out.old.items)) }
+    ensures err { OnErr result (out.new.items ≡ take start out.old.items) }
+{
     let end = out.len();
-    let (octets, count) = header_octets(tag, end - start);
-    if let Err(e) = out.extend_from_slice(&octets[..count]) {
+    let (octets, count) = header_octets(tag, end - from);
+    if let Err(e) = out.extend_from_slice(&octets[from - start..count]) {
         out.truncate(start);
         return Err(e);
     }
-    out.copy_within(start..end, start + count);
+    out.copy_within(from..end, start + count);
     out[start..start + count].copy_from_slice(&octets[..count]);
     Ok(())
 }
