@@ -119,8 +119,8 @@ fn add_with_carry(a: u128, b: u128) -> u128
     ensures small { a + b < 2 ^ 128 → result ≡ a + b }
     ensures large { 2 ^ 128 ≤ a + b → result + (2 ^ 128 - 1) ≡ a + b }
 {
-    let left = u128::MAX - b;
-    if a > left { a - left } else { a + b }
+    let sum = a.wrapping_add(b);
+    sum + u128::from(sum < a)
 }
 
 /// Adds the turns of the input to the sum, octet by octet from the right, round and round, with end-around carry.
