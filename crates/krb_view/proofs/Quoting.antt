@@ -94,8 +94,8 @@ slashes_stop [] (d ∷ ds) a b e f g p q = absurd (subst (IsNotFirst 47) e p ref
 slashes_stop (c ∷ cs) [] a b e f g p q = absurd (subst (IsNotFirst 47) (sym e) q refl)
 slashes_stop (c ∷ cs) (d ∷ ds) a b e f g p q =
     let parts = one_part c d (after_slashes cs ++ a) (after_slashes ds ++ b)
-        (sym (append_assoc (quoted c) (after_slashes cs) a) ∙ tail _ _ _ _ e ∙ append_assoc (quoted d) (after_slashes ds) b)
-        (end_of_slashes cs a f) (end_of_slashes ds b g) in
+    (sym (append_assoc (quoted c) (after_slashes cs) a) ∙ tail _ _ _ _ e ∙ append_assoc (quoted d) (after_slashes ds) b)
+    (end_of_slashes cs a f) (end_of_slashes ds b g) in
     let rest = slashes_stop cs ds a b parts.1 f g p q in
     (ap (λ x. x ∷ cs) parts.0 ∙ ap (λ (l : List (List ℕ)). d ∷ l) rest.0, rest.1)
 
@@ -129,8 +129,8 @@ text_goes_on (c ∷ cs) [] rest None e = absurd (omega (arith, ap length e))
 text_goes_on (c ∷ cs) [] rest (Some s) e = absurd (omega (arith, head _ _ _ _ e))
 text_goes_on (c ∷ cs) (d ∷ ds) rest s e =
     let parts = one_part c d (after_slashes cs ++ 47 ∷ rest) (after_slashes ds ++ realm_text s)
-        (sym (append_assoc (quoted c) (after_slashes cs) (47 ∷ rest)) ∙ tail _ _ _ _ e ∙ append_assoc (quoted d) (after_slashes ds) (realm_text s))
-        (slash_end cs rest) (slashes_end ds s) in
+    (sym (append_assoc (quoted c) (after_slashes cs) (47 ∷ rest)) ∙ tail _ _ _ _ e ∙ append_assoc (quoted d) (after_slashes ds) (realm_text s))
+    (slash_end cs rest) (slashes_end ds s) in
     let more = text_goes_on cs ds rest s parts.1 in
     (more.0, more.1, more.2, ap (λ x. x ∷ ds) (sym parts.0) ∙ ap (λ (l : List (List ℕ)). c ∷ l) more.3)
 
@@ -151,10 +151,11 @@ no_part text part taken read no_end no_octet q b ascii end e =
 -- an octet more of the part
 pub one_more : (text part : List ℕ) (taken count o : ℕ) → take taken text ≡ quoted part → IsAscii part → o < 128 → take count (drop taken text) ≡ quoted_octet o
     → (take (taken + count) text ≡ quoted (part ++ o ∷ [])) × IsAscii (part ++ o ∷ [])
-one_more text part taken count o read ascii small octet =
-    (take-add taken count text ∙ ap (λ x. x ++ take count (drop taken text)) read ∙ ap (λ (x : List ℕ). quoted part ++ x) (octet ∙ sym (append-nil (quoted_octet o)))
-     ∙ sym (flat_map-append quoted_octet part (o ∷ [])),
-     IsAscii-append part (o ∷ []) ascii (IsAscii-cons o [] small IsAscii-nil))
+one_more text part taken count o read ascii small octet = (
+  take-add taken count text ∙ ap (λ x. x ++ take count (drop taken text)) read ∙ ap (λ (x : List ℕ). quoted part ++ x) (octet ∙ sym (append-nil (quoted_octet o)))
+      ∙ sym (flat_map-append quoted_octet part (o ∷ [])),
+  IsAscii-append part (o ∷ []) ascii (IsAscii-cons o [] small IsAscii-nil),
+)
 
 -- what is left of a text as a slice of it
 pub rest_of : (text : List ℕ) (n : ℕ) → take (length text - n) (drop n text) ≡ drop n text

@@ -20,5 +20,4 @@ pub fn times_are_ordered(first: &GeneralizedTimeAsn1, second: &GeneralizedTimeAs
 pub fn texts_are_of_one_principal(text: &str)
     ensures { (components others : List (List ℕ)) (realm other : Option (List ℕ)) → IsTextOf components realm text.now → IsTextOf others other text.now
         → (components ≡ others) × (realm ≡ other) }
-{
-}
+{}

@@ -103,10 +103,7 @@ fn push_quoted(out: &mut String, text: &GeneralStringAsn1) -> Result<(), AllocEr
 }
 
 /// Appends components, each after a `/`.
-fn push_after_slashes(
-    out: &mut String,
-    components: &[GeneralStringAsn1],
-) -> Result<(), AllocError>
+fn push_after_slashes(out: &mut String, components: &[GeneralStringAsn1]) -> Result<(), AllocError>
     ensures { OnOk result (string_bytes out.new ≡ string_bytes out.old ++ after_slashes components.now) }
 {
     for component in components {

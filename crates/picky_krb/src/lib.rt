@@ -12,6 +12,7 @@ pub mod gss_api;
 pub mod messages;
 pub mod pac;
 pub mod seal;
+pub mod view;
 
 pub use krb_credssp::credssp;
 pub use krb_negoex::negoex;

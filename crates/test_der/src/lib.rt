@@ -8,3 +8,5 @@ mod code_texts;
 mod first_rows;
 #[cfg(test)]
 mod primitive_rows;
+#[cfg(test)]
+mod view_rows;
