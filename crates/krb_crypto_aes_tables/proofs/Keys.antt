@@ -1,5 +1,5 @@
 -- What a key's calls return, from what is kept of the key.
-use Rattle.std.proofs.Common.{◌≡◌, ℕ, ◌+◌, ◌-◌, ◌*◌, ◌≤◌, min, List, length, take, refl, sym, ap, ◌∙◌, subst, arith, inl, inr, length-take}
+use Rattle.std.proofs.Common.{◌≡◌, ℕ, ◌+◌, ◌-◌, ◌*◌, ◌≤◌, min, List, length, take, sym, ap, ◌∙◌, subst, arith, inl, inr, length-take}
 use Rattle.krb_crypto_block.specs.Modes.{IsOctets, AreInverse}
 use Rattle.krb_crypto_block.specs.Aes.{key_expansion, key_words, round_count, cipher, aes_block, IsKeySize}
 use Rattle.krb_crypto_block.specs.InverseCipher.{decrypt, aes_undo}

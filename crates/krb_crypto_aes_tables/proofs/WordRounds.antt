@@ -1,15 +1,11 @@
 -- A round over words is the round, both ways.
-use Rattle.std.proofs.Common.{◌≡◌, ℕ, ◌+◌, ◌*◌, ◌<◌, bit_xor, List, [], ◌∷◌, slice_index, refl, sym, ap, ◌∙◌, arith, lit<}
-use Rattle.std.specs.Int.{w32, to_be_bytes, from_be_bytes}
-use Rattle.std.specs.List.{All}
-use Rattle.std.proofs.lemmas.List.Elements.{All-from_recursion}
-use Rattle.std.proofs.lemmas.Nat.{be_bytes_4}
+use Rattle.std.proofs.Common.{◌≡◌, ℕ, ◌+◌, ◌*◌, ◌<◌, bit_xor, List, [], ◌∷◌, slice_index, sym, ap, ◌∙◌, arith, lit<}
 use Rattle.krb_crypto_block.specs.Modes.{IsOctets, IsBlock}
 use Rattle.krb_crypto_block.specs.Aes.{octet_at, column_of, product_of_columns, mix_polynomial, sub_bytes, shift_rows, mix_columns, add_round_key, round}
 use Rattle.krb_crypto_block.specs.InverseCipher.{unmix_polynomial, inverse_sub_bytes, inverse_shift_rows, inverse_mix_columns}
 use Rattle.krb_crypto_block.specs.AesWords.{word, word_of, Holds, HasRoundKey, inverse_cipher_round}
 use Rattle.krb_crypto_aes_tables.specs.RoundKeys.{HasUnmixedKey}
-use Rattle.krb_crypto_block.proofs.AesStates.{IsState, octets_at, mix_columns-IsState, sub_bytes-IsState, shift_rows-IsState, add_round_key-IsState, unmix_octet, unmix_lt, inverse_mix_columns-IsState, inverse_sub_bytes-IsState, inverse_shift_rows-IsState}
+use Rattle.krb_crypto_block.proofs.AesStates.{IsState, mix_columns-IsState, sub_bytes-IsState, shift_rows-IsState, add_round_key-IsState, unmix_octet, unmix_lt, inverse_mix_columns-IsState, inverse_sub_bytes-IsState, inverse_shift_rows-IsState}
 use Rattle.krb_crypto_block.proofs.AesColumns.{product_xor}
 use Rattle.krb_crypto_block.proofs.AesUndoing.{state_of_block, block_of_state}
 use Rattle.krb_crypto_block.proofs.AesWords.{same4, word_xor}

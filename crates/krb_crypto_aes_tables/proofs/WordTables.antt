@@ -1,6 +1,6 @@
 -- The word tables: each entry is compared with its products by computation, and the four of a column add up to it.
-use Rattle.std.proofs.Common.{◌≡◌, ℕ, ◌+◌, ◌*◌, ◌^◌, ◌<◌, true, bit_xor, [], ◌∷◌, slice_index, refl, ap, ◌∙◌}
-use Rattle.std.proofs.lemmas.Nat.{xor_block, xor_lt}
+use Rattle.std.proofs.Common.{◌≡◌, ℕ, ◌<◌, true, bit_xor, [], ◌∷◌, slice_index, refl, ap, ◌∙◌}
+use Rattle.std.proofs.lemmas.Nat.{xor_lt}
 use Rattle.krb_crypto_block.specs.Polynomial.{times}
 use Rattle.krb_crypto_block.specs.SBox.{s_box}
 use Rattle.krb_crypto_block.specs.Aes.{product_of_columns}

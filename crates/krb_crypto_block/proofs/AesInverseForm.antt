@@ -1,13 +1,11 @@
 -- What the tables of the inverse cipher hold, as rules on octets.
-use Rattle.std.proofs.Common.{◌≡◌, ℕ, zero, suc, ◌*◌, ◌<◌, true, List, [], ◌∷◌, bit_xor, slice_index, refl, sym, ap, ◌∙◌}
-use Rattle.std.specs.Int.{bit_at}
+use Rattle.std.proofs.Common.{◌≡◌, ℕ, ◌<◌, true, bit_xor, slice_index, refl, sym, ap, ◌∙◌}
 use Rattle.std.proofs.lemmas.Nat.{xor_comm}
-use Rattle.std.proofs.lemmas.Nat.Bits.{bit_at_xor, bit_at-lt}
 use lib.Bits.{xor_assoc}
 use Rattle.krb_crypto_block.specs.Polynomial.{times}
 use Rattle.krb_crypto_block.specs.InverseCipher.{inverse_s_box}
 use Rattle.krb_crypto_block.proofs.Tables.{same_below, same_below_at}
-use Rattle.krb_crypto_block.proofs.AesLinear.{xor_medial, times_xor}
+use Rattle.krb_crypto_block.proofs.AesLinear.{times_xor}
 use Rattle.krb_crypto_block.specs.AesLanes.{inverse_images, inverse_linear, inverse_form, looked_up_at, linear_of}
 use Rattle.krb_crypto_block.specs.declared.aes.tables.TheConstants.{D9_U, D9_V, DB_U, DB_V, DD_U, DD_V, DE_U, DE_V, E9_LOW, E9_HIGH, EB_LOW, EB_HIGH, ED_LOW, ED_HIGH, EE_LOW, EE_HIGH, INVERTED_U, INVERTED_V, INVERSE_LINEAR_LOW, INVERSE_LINEAR_HIGH}
 use Rattle.krb_crypto_block.proofs.AesTables.{INVERSE_S_BOX, inverse_s_box_entry}

@@ -1,9 +1,9 @@
 -- What the tables hold, as rules on octets.
-use Rattle.std.proofs.Common.{◌≡◌, ℕ, zero, suc, ◌*◌, ◌<◌, true, List, [], ◌∷◌, bit_xor, slice_index, refl, sym, ap, ◌∙◌}
+use Rattle.std.proofs.Common.{◌≡◌, ℕ, zero, suc, ◌*◌, ◌<◌, true, List, bit_xor, slice_index, refl, sym, ap, ◌∙◌}
 use Rattle.std.specs.Int.{bit_at}
 use Rattle.std.proofs.lemmas.Nat.{xor_comm}
 use Rattle.std.proofs.lemmas.Nat.Bits.{bit_at_xor, bit_at-lt}
-use lib.Bits.{xor_assoc, xor_self, xor_zero_r, xor_zero_l}
+use lib.Bits.{xor_assoc, xor_self, xor_zero_l}
 use Rattle.krb_crypto_block.specs.Polynomial.{times}
 use Rattle.krb_crypto_block.specs.SBox.{s_box}
 use Rattle.krb_crypto_block.proofs.Tables.{same_below, same_below_at}

@@ -1,6 +1,6 @@
 -- Columns and round keys as words of 32 bits, first octet highest (FIPS 197, 3.5 and 5.2), and the inverse cipher by its steps (5.3).
 use Rattle.std.specs.Prelude.{◌≡◌, ℕ, zero, suc, ◌+◌, ◌*◌, ◌^◌, ◌<◌, List, [], ◌∷◌, slice_index}
-use Rattle.krb_crypto_block.specs.Modes.{IsOctets, IsBlock}
+use Rattle.krb_crypto_block.specs.Modes.{IsBlock}
 use Rattle.krb_crypto_block.specs.Aes.{column_of, add_round_key}
 use Rattle.krb_crypto_block.specs.InverseCipher.{inverse_sub_bytes, inverse_shift_rows, inverse_mix_columns}
 

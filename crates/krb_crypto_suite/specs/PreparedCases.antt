@@ -1,5 +1,5 @@
 -- What a prepared key is of, by the suite that it holds the keys of (RFC 3961, 6.3; RFC 3962, 6; RFC 8009, 5).
-use Rattle.std.specs.Prelude.{◌≡◌, List, ℕ}
+use Rattle.std.specs.Prelude.{◌≡◌}
 use Rattle.krb_crypto_block.specs.declared.aes.AesSize.TheVariants.{Aes128, Aes256}
 use Rattle.krb_crypto_suite.specs.PreparedKeys.{PreparedKeys, PreparedChecksum}
 use Rattle.krb_crypto_suite.specs.declared.cipher_suite.CipherSuite.TheVariants as suite

@@ -1,6 +1,6 @@
 -- A text is that of one principal at most.
-use Rattle.std.proofs.Common.{◌≡◌, ◌≢◌, ℕ, suc, ◌+◌, ◌⊎◌, inl, inr, refl, sym, ap, subst, ◌∙◌, arith, Option, None, Some, List, [], ◌∷◌, ◌++◌, get_or, drop, take, length, length-drop, length-append, MatchOption, ◌-◌, ◌<◌, ◌≤◌, slice_index}
-use Rattle.std.specs.List.{flat_map, AllByRecursion}
+use Rattle.std.proofs.Common.{◌≡◌, ◌≢◌, ℕ, suc, ◌+◌, inl, inr, refl, sym, ap, subst, ◌∙◌, arith, Option, None, Some, List, [], ◌∷◌, ◌++◌, get_or, drop, take, length, length-drop, length-append, MatchOption, ◌-◌, ◌<◌, ◌≤◌}
+use Rattle.std.specs.List.{AllByRecursion}
 use Rattle.std.specs.Option.{IfSome}
 use Rattle.std.proofs.lemmas.List.{append_assoc, append-nil, take-append-drop, take_all}
 use Rattle.std.specs.Str.{IsAscii}
@@ -8,7 +8,7 @@ use Rattle.std.proofs.lemmas.Grind.{common_steps, flat_map-append}
 use Rattle.std.proofs.lemmas.Str.{IsAscii-append}
 use Rattle.std.proofs.lemmas.Str.Ascii.{IsAscii-nil, IsAscii-cons}
 use Rattle.std.proofs.Math.Seq.{take-add}
-use Rattle.krb_view.specs.Principals.{quotation, marked, quoted_octet, quoted, after_slashes, components_text, realm_text, principal_text, IsEnd, IsNotFirst, IsTextOf, IsMemoryOr, HasNoPart}
+use Rattle.krb_view.specs.Principals.{quotation, marked, quoted_octet, quoted, after_slashes, realm_text, principal_text, IsEnd, IsNotFirst, IsTextOf, IsMemoryOr, HasNoPart}
 use Rattle.krb_view.specs.declared.principals.PrincipalError.{PrincipalError}
 
 -- what is written as itself ends nothing and marks nothing

@@ -1,5 +1,5 @@
 -- Days and seconds of real times.
-use Rattle.std.proofs.Common.{◌≡◌, ◌≢◌, ℕ, ◌<◌, ◌≤◌, ◌↔◌, ◌⊎◌, inl, inr, refl, sym, ◌∙◌, ap, arith, ℤ, pos, ◌+ℤ◌, ◌*ℤ◌, ◌<ℤ◌}
+use Rattle.std.proofs.Common.{◌≡◌, ◌≢◌, ◌<◌, ◌≤◌, ◌↔◌, inl, inr, arith, ℤ, pos, ◌<ℤ◌}
 use Rattle.std.specs.Int.{int_div_euclid, int_rem_euclid}
 use Rattle.jiff_core.specs.declared.civil.date.Date.{Date}
 use Rattle.jiff_core.specs.Calendar.{IsEpochDay}
@@ -9,7 +9,6 @@ use Rattle.jiff_core.proofs.CalendarLemmas.{days_in_month_bounds}
 use Rattle.jiff_core.proofs.SignedLemmas.{signed_arith, int_div_euclid-parts, int_rem_euclid-parts}
 use Rattle.krb_der_core.specs.GeneralizedTime.{Time, IsRealTime}
 use Rattle.krb_view.specs.Times.{unix_day, second_of_day, unix_seconds, clock_number}
-use borrow.Author.Differences.{up, down}
 
 -- the date of a real time
 date_of : (t : Time) → IsRealTime t → Date

@@ -1,4 +1,4 @@
-use Rattle.std.proofs.Common.{◌≡◌, ℕ, suc, ◌+◌, ◌-◌, ◌*◌, ◌/◌, ◌<◌, ◌≤◌, List, ◌++◌, length, take, drop, refl, ap, ◌∙◌, arith, rules}
+use Rattle.std.proofs.Common.{◌≡◌, ℕ, ◌+◌, ◌-◌, ◌*◌, ◌/◌, ◌≤◌, List, ◌++◌, length, take, drop, refl, ap, ◌∙◌, arith, rules}
 use Rattle.std.proofs.lemmas.List.{length-drop, take_rest}
 use Rattle.krb_crypto_block.specs.Linked.{unlinked, last_block}
 use Rattle.krb_crypto_block.proofs.Chaining.{part_at, placed_at, drop_more, next_part}

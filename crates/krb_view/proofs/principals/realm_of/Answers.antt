@@ -1,6 +1,5 @@
-use Rattle.std.proofs.Common.{inr, refl, subst, sym, ◌∙◌}
+use Rattle.std.proofs.Common.{inr, refl, sym, ◌∙◌}
 use Rattle.std.proofs.lemmas.Result.{err_from_is_err_and}
-use Rattle.krb_view.specs.Principals.{HasNoPart, IsMemoryOr}
 use Rattle.krb_view.proofs.Quoting.{memory_or, no_realm_part, no_long_realm}
 use Rattle.krb_view.proofs.principals.realm_of.Goals as goal
 

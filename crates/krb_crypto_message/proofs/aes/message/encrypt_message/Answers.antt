@@ -1,13 +1,9 @@
-use Rattle.std.proofs.Common.{◌≡◌, inl, inr}
-use Rattle.std.specs.Prelude.{IfOk, IfErr}
+use Rattle.std.proofs.Common.{◌≡◌}
+use Rattle.std.specs.Prelude.{IfOk}
 use Rattle.std.proofs.lemmas.Int.{to_z-of_z}
-use Rattle.std.proofs.lemmas.Result.{err_from_is_err_and}
-use Rattle.krb_crypto_block.specs.Size.{key_octets}
-use Rattle.krb_crypto_hash.specs.CryptoError.{IsMemoryOr}
 use Rattle.krb_crypto_message.specs.Sealed.{aes_ke, aes_ki}
-use Rattle.krb_crypto_message.specs.Sealing.{IsTheOne, IsGiven, Opens, HasNoPayload, Encrypts, OpensUnchecked, HasNoPayloadUnchecked}
-use Rattle.krb_crypto_message.proofs.Opening.{none_shaped, none_split}
-use Rattle.krb_crypto_message.proofs.Messages.{aes_scheme, cts_unshaped, as_aes}
+use Rattle.krb_crypto_message.specs.Sealing.{IsTheOne}
+use Rattle.krb_crypto_message.proofs.Messages.{as_aes}
 use Rattle.krb_crypto_message.proofs.aes.message.encrypt_message.Goals as goal
 
 pub returns-clause-sealed : goal.returns-clause-sealed

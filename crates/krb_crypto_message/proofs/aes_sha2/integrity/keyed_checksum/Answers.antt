@@ -1,7 +1,7 @@
-use Rattle.std.proofs.Common.{◌≡◌, ℕ, List, ap, ◌∙◌}
+use Rattle.std.proofs.Common.{◌≡◌}
 use Rattle.std.proofs.lemmas.Int.{to_z-of_z}
 use Rattle.std.proofs.lemmas.Result.{IfOk-weaker}
-use Rattle.krb_crypto_message.specs.AesSha2.{sha2_kc, sha2_mac}
+use Rattle.krb_crypto_message.specs.AesSha2.{sha2_kc}
 use Rattle.krb_crypto_message.proofs.aes_sha2.integrity.keyed_checksum.Goals as goal
 
 pub returns-clause-checksum : goal.returns-clause-checksum

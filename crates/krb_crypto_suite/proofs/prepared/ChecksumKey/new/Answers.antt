@@ -1,5 +1,4 @@
 use Rattle.std.proofs.lemmas.Int.{to_z-of_z}
-use Rattle.krb_crypto_suite.specs.PreparedKeys.{IsChecksumPreparedFor}
 use Rattle.krb_crypto_suite.proofs.prepared.ChecksumKey.new.Goals as goal
 use Rattle.krb_crypto_suite.proofs.prepared.ChecksumKey.new.Goals.{in-HmacSha196Aes256+in_ok-new-in-HmacSha196Aes256, in-HmacSha196Aes128+in_ok-new-in-HmacSha196Aes128, in-HmacSha1Des3Kd+in_ok-new-in-HmacSha1Des3Kd, in-HmacSha256128Aes128+in_ok-new-in-HmacSha256128Aes128, in-HmacSha384192Aes256+in_ok-new-in-HmacSha384192Aes256}
 

@@ -1,10 +1,10 @@
-use Rattle.std.proofs.Common.{◌≡◌, ℕ, ℤ, List, ap, sym, subst, ◌∙◌}
+use Rattle.std.proofs.Common.{◌≡◌, ap, sym, subst, ◌∙◌}
 use Rattle.std.specs.Prelude.{IfOk, IfErr}
 use Rattle.krb_crypto_block.specs.declared.aes.AesSize.TheVariants.{Aes128, Aes256}
 use Rattle.krb_crypto_hash.specs.CryptoError.{IsMemoryOr}
-use Rattle.krb_crypto_message.specs.Sealing.{IsTheOne, IsGiven, Opens, HasNoPayload}
+use Rattle.krb_crypto_message.specs.Sealing.{IsGiven, Opens, HasNoPayload}
 use Rattle.krb_crypto_message.proofs.Messages.{as_aes, as_des3, as_sha2}
-use Rattle.krb_crypto_suite.specs.BySuite.{IsSealed, confounder_octets_of, padding_octets_of, error_of}
+use Rattle.krb_crypto_suite.specs.BySuite.{IsSealed, confounder_octets_of, padding_octets_of}
 use Rattle.krb_crypto_suite.specs.PreparedKeys.{IsPreparedFor}
 use Rattle.krb_crypto_suite.specs.PreparedCases.{opening_keys, AreOpeningKeys}
 use Rattle.krb_crypto_suite.proofs.prepared.OpeningKey.decrypt.Goals as goal

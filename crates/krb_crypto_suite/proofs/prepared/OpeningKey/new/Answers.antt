@@ -1,5 +1,4 @@
 use Rattle.std.proofs.lemmas.Int.{to_z-of_z}
-use Rattle.krb_crypto_suite.specs.PreparedKeys.{IsPreparedFor}
 use Rattle.krb_crypto_suite.proofs.prepared.OpeningKey.new.Goals as goal
 use Rattle.krb_crypto_suite.proofs.prepared.OpeningKey.new.Goals.{in-Aes128CtsHmacSha196+in_ok-new-in-Aes128CtsHmacSha196, in-Aes256CtsHmacSha196+in_ok-new-in-Aes256CtsHmacSha196, in-Des3CbcSha1Kd+in_ok-new-in-Des3CbcSha1Kd, in-Aes128CtsHmacSha256128+in_ok-new-in-Aes128CtsHmacSha256128, in-Aes256CtsHmacSha384192+in_ok-new-in-Aes256CtsHmacSha384192}
 

@@ -1,10 +1,9 @@
-use Rattle.std.proofs.Common.{◌≡◌, ℕ, ℤ, List, ap, sym, subst, ◌∙◌}
-use Rattle.std.specs.Prelude.{IfOk, IfErr}
+use Rattle.std.proofs.Common.{◌≡◌, ap, sym, subst, ◌∙◌}
+use Rattle.std.specs.Prelude.{IfOk}
 use Rattle.krb_crypto_block.specs.declared.aes.AesSize.TheVariants.{Aes128, Aes256}
-use Rattle.krb_crypto_hash.specs.CryptoError.{IsMemoryOr}
-use Rattle.krb_crypto_message.specs.Sealing.{IsTheOne, IsGiven, Opens, HasNoPayload}
+use Rattle.krb_crypto_message.specs.Sealing.{IsTheOne}
 use Rattle.krb_crypto_message.proofs.Messages.{as_aes, as_des3, as_sha2}
-use Rattle.krb_crypto_suite.specs.BySuite.{IsSealed, confounder_octets_of, padding_octets_of, error_of}
+use Rattle.krb_crypto_suite.specs.BySuite.{IsSealed}
 use Rattle.krb_crypto_suite.specs.PreparedKeys.{IsPreparedFor}
 use Rattle.krb_crypto_suite.specs.PreparedCases.{sealing_keys, AreSealingKeys}
 use Rattle.krb_crypto_suite.proofs.prepared.SealingKey.encrypt.Goals as goal

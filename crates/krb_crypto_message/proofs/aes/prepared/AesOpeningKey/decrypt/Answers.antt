@@ -1,4 +1,4 @@
-use Rattle.std.proofs.Common.{inl, inr, subst}
+use Rattle.std.proofs.Common.{inr, subst}
 use Rattle.std.specs.Prelude.{IfOk, IfErr}
 use Rattle.std.proofs.lemmas.Result.{IfOk-weaker, IfErr-weaker}
 use Rattle.krb_crypto_block.specs.Aes.{aes_block}
@@ -6,8 +6,8 @@ use Rattle.krb_crypto_block.specs.Modes.{Cts}
 use Rattle.krb_crypto_hash.specs.CryptoError.{IsMemoryOr}
 use Rattle.krb_crypto_message.specs.DerivedKeys.{IsSealedUnderAes}
 use Rattle.krb_crypto_message.specs.MessageSteps.{IsDecrypted}
-use Rattle.krb_crypto_message.specs.Sealing.{IsGiven, Opens, OpensUnchecked, HasNoPayload}
-use Rattle.krb_crypto_message.proofs.Opening.{seal_opens, none_sealed, none_shaped, splits, none_split}
+use Rattle.krb_crypto_message.specs.Sealing.{IsGiven, Opens, HasNoPayload}
+use Rattle.krb_crypto_message.proofs.Opening.{seal_opens, none_sealed, none_shaped}
 use Rattle.krb_crypto_message.proofs.Messages.{aes_scheme, cts_short}
 use Rattle.krb_crypto_message.proofs.aes.prepared.AesOpeningKey.decrypt.Goals as goal
 

@@ -1,13 +1,12 @@
-use Rattle.std.proofs.Common.{inl, inr, subst}
-use Rattle.std.specs.Prelude.{IfOk, IfErr}
-use Rattle.std.proofs.lemmas.Result.{IfOk-weaker, IfErr-weaker}
+use Rattle.std.proofs.Common.{inr, subst}
+use Rattle.std.specs.Prelude.{IfOk}
+use Rattle.std.proofs.lemmas.Result.{IfOk-weaker}
 use Rattle.krb_crypto_block.specs.Aes.{aes_block}
 use Rattle.krb_crypto_block.specs.Modes.{Cts}
-use Rattle.krb_crypto_hash.specs.CryptoError.{IsMemoryOr}
 use Rattle.krb_crypto_message.specs.DerivedKeys.{IsSealedUnderAes}
 use Rattle.krb_crypto_message.specs.MessageSteps.{IsDecrypted}
-use Rattle.krb_crypto_message.specs.Sealing.{IsGiven, Opens, OpensUnchecked, HasNoPayload}
-use Rattle.krb_crypto_message.proofs.Opening.{seal_opens, none_sealed, none_shaped, splits, none_split}
+use Rattle.krb_crypto_message.specs.Sealing.{OpensUnchecked}
+use Rattle.krb_crypto_message.proofs.Opening.{splits, none_split}
 use Rattle.krb_crypto_message.proofs.Messages.{aes_scheme, cts_short}
 use Rattle.krb_crypto_message.proofs.aes.prepared.AesOpeningKey.decrypt_no_checksum.Goals as goal
 

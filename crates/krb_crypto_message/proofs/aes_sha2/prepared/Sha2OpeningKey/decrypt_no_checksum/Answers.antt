@@ -1,21 +1,16 @@
-use Rattle.std.proofs.Common.{◌≡◌, ◌++◌, ◌-◌, ◌+◌, ◌<◌, ℕ, List, length, take, drop, ap, sym, subst, ◌∙◌, refl, rules, inl, inr}
-use Rattle.std.specs.Prelude.{IfOk, IfErr}
-use Rattle.std.proofs.lemmas.Int.{to_z-of_z}
-use Rattle.std.proofs.lemmas.Result.{err_from_is_err_and, IfOk-weaker, IfErr-weaker}
-use Rattle.std.proofs.lemmas.Slice.{pushed}
+use Rattle.std.proofs.Common.{◌≡◌, ◌+◌, ◌<◌, ℕ, List, length, subst, rules, inr}
+use Rattle.std.specs.Prelude.{IfOk}
+use Rattle.std.proofs.lemmas.Result.{IfOk-weaker}
 use Rattle.krb_crypto_block.specs.Aes.{aes_block}
 use Rattle.krb_crypto_block.specs.Modes.{Cts}
-use Rattle.krb_crypto_block.specs.Size.{key_octets}
-use Rattle.krb_crypto_hash.specs.CryptoError.{IsMemoryOr}
-use Rattle.krb_crypto_message.specs.AesSha2.{sha2_ke, sha2_ki, sha2_kc, sha2_mac, sha2_seal_mac, sha2_checksum_octets, EndsInSealMac}
+use Rattle.krb_crypto_message.specs.AesSha2.{sha2_checksum_octets}
 use Rattle.krb_crypto_message.specs.DerivedKeys.{IsSealedUnderSha2}
 use Rattle.krb_crypto_message.specs.KeyedHash.{size_of, key_of}
-use Rattle.krb_crypto_message.specs.WellKnown.{usage_constant}
-use Rattle.krb_crypto_message.specs.MessageSteps.{IsDecrypted, end_of}
-use Rattle.krb_crypto_message.specs.Sealing.{IsTheOne, IsGiven, Opens, HasNoPayload, Encrypts, OpensUnchecked, HasNoPayloadUnchecked}
-use Rattle.krb_crypto_message.proofs.Opening.{IsEncrypted, seals, encrypts_one, seal_opens, none_sealed, none_ends, none_shaped, splits, none_split}
-use Rattle.krb_crypto_message.proofs.Messages.{cts_encrypted, cts_short, cts_unshaped, as_sha2}
-use Rattle.krb_crypto_message.proofs.Sha2Messages.{sha2_scheme, derived_for}
+use Rattle.krb_crypto_message.specs.MessageSteps.{IsDecrypted}
+use Rattle.krb_crypto_message.specs.Sealing.{OpensUnchecked, HasNoPayloadUnchecked}
+use Rattle.krb_crypto_message.proofs.Opening.{splits, none_split}
+use Rattle.krb_crypto_message.proofs.Messages.{cts_short}
+use Rattle.krb_crypto_message.proofs.Sha2Messages.{sha2_scheme}
 use Rattle.krb_crypto_message.proofs.aes_sha2.prepared.Sha2OpeningKey.decrypt_no_checksum.Goals as goal
 
 pub returns-then-cipher_data-mac_size-clause-rejected : goal.returns-then-cipher_data-mac_size-clause-rejected

@@ -1,19 +1,14 @@
-use Rattle.std.proofs.Common.{◌≡◌, ◌++◌, ◌-◌, ◌≤◌, ℕ, List, length, take, drop, ap, sym, subst, ◌∙◌, refl, rules, arith, inl, inr}
-use Rattle.std.specs.Prelude.{IfOk, IfErr}
-use Rattle.std.proofs.lemmas.Int.{to_z-of_z}
-use Rattle.std.proofs.lemmas.Result.{err_from_is_err_and, IfOk-weaker, IfErr-weaker}
+use Rattle.std.proofs.Common.{◌≡◌, ◌++◌, ℕ, List, length, take, drop, ap, sym, subst, ◌∙◌, refl, rules, arith}
 use Rattle.std.proofs.lemmas.Slice.{pushed}
 use Rattle.std.proofs.lemmas.List.{take_all}
 use Rattle.krb_crypto_hash.specs.Hmac.{hmac}
 use Rattle.krb_crypto_block.specs.Des.{ede3}
-use Rattle.krb_crypto_block.specs.Modes.{IsCbc, IsOctets}
-use Rattle.krb_crypto_hash.specs.CryptoError.{IsMemoryOr}
+use Rattle.krb_crypto_block.specs.Modes.{IsCbc}
 use Rattle.krb_crypto_message.specs.DerivedKeys.{IsSealedUnderDes3}
-use Rattle.krb_crypto_message.specs.Sealed.{des3_ke, des3_ki}
-use Rattle.krb_crypto_message.specs.MessageSteps.{IsDecrypted, cut_mac}
-use Rattle.krb_crypto_message.specs.Sealing.{IsTheOne, IsGiven, Opens, HasNoPayload, Encrypts, OpensUnchecked, HasNoPayloadUnchecked}
-use Rattle.krb_crypto_message.proofs.Opening.{IsEncrypted, seals, encrypts_one, seal_opens, none_sealed, none_ends, none_shaped, splits, none_split}
-use Rattle.krb_crypto_message.proofs.Messages.{des3_scheme, des3_encrypted, des3_decrypted, des3_unshaped, des3_checked, written, as_des3}
+use Rattle.krb_crypto_message.specs.MessageSteps.{cut_mac}
+use Rattle.krb_crypto_message.specs.Sealing.{IsTheOne}
+use Rattle.krb_crypto_message.proofs.Opening.{IsEncrypted, seals}
+use Rattle.krb_crypto_message.proofs.Messages.{des3_scheme, des3_encrypted, written}
 use Rattle.krb_crypto_message.proofs.des.prepared.Des3MessageKey.encrypt.Goals as goal
 
 pub returns-clause-sealed : goal.returns-clause-sealed
