@@ -1,8 +1,8 @@
 -- Headers, and contents that are moved up after them.
-use Rattle.std.proofs.Common.{◌≡◌, ℕ, ◌+◌, ◌-◌, ◌*◌, ◌/◌, ◌%◌, ◌^◌, zero, suc, length-drop, ◌<◌, ◌≤◌, List, [], ◌∷◌, ◌++◌, length, take, drop, refl, sym, ap, ◌∙◌, arith}
+use Rattle.std.proofs.Common.{◌≡◌, ℕ, ◌+◌, ◌-◌, ◌*◌, ◌/◌, ◌%◌, ◌^◌, zero, suc, length-drop, ◌<◌, ◌≤◌, List, [], ◌∷◌, ◌++◌, length, take, drop, refl, sym, ap, ◌∙◌, arith, add-one}
 use native.Mathlib.Numerals.{unary_clauses}
 use Rattle.std.proofs.Math.Nat.{div-div-eq-div-mul}
-use Rattle.std.proofs.lemmas.List.{take_at, drop_at, take_rest, take-take, take-append-drop, length-append, length-take-le, drop-append-le, drop_all, take-append-le, append-nil}
+use Rattle.std.proofs.lemmas.List.{take_at, drop_at, take_rest, take-take, take-append-drop, length-append, length-take-le, drop-append-le, drop_all}
 use lib.Seq.{drop-drop}
 use Rattle.std.specs.Int.{byte_at, bytes_high_first}
 use Rattle.std.specs.Int.Digits.{digits_of}
@@ -58,23 +58,27 @@ header_large tag n k digits room le count e =
 sum : (start count : ℕ) → start + (start + count - start) ≡ start + count
 sum start count = omega arith
 
--- a content that was moved up to where its header ends, and the header in the place before it
-pub closed : (out longer moved octets more written : List ℕ) (start from tag end count : ℕ) → start ≤ from → from ≤ start + 2 → 2 ≤ count → from ≤ length out → end ≡ length out
-    → count ≡ length octets → length more ≡ count - (from - start) → octets ≡ header tag (end - from)
-    → longer ≡ out ++ more → moved ≡ (take (start + count) longer ++ take (end - from) (drop from longer)) ++ drop (start + count + (end - from)) longer → written ≡ octets
+-- a header in the place before a content that was moved up to where it ends
+pub closed : (out moved written : List ℕ) (start from tag count : ℕ) → start ≤ from → take from moved ≡ take from out → drop (start + count) moved ≡ drop from out
+    → written ≡ header tag (length out - from)
     → take start moved ++ (written ++ drop (start + count - start) (drop start moved)) ≡ take start out ++ tlv tag (drop from out)
 unfolding tlv
-closed out longer moved octets more written start from tag end count order room two le same size left_over h e m w =
-    let content = drop from out in
-    let left : length content ≡ end - from = rw same (length-drop from out) in
-    let total : length longer ≡ length out + (count - (from - start)) = omega (arith, ap length e, length-append out more, left_over) in
-    let lifted : take (end - from) (drop from longer) ≡ content = ap (λ (l : List ℕ). take (end - from) (drop from l)) e ∙ ap (λ (l : List ℕ). take (end - from) l) (drop-append-le from out more le) ∙ take_at content more (end - from) left in
-    let trailing : drop (start + count + (end - from)) longer ≡ [] = drop_all (start + count + (end - from)) longer (omega (arith, total)) in
-    let below : length (take (start + count) longer) ≡ start + count = length-take-le (start + count) longer (omega (arith, total)) in
-    let whole : moved ≡ take (start + count) longer ++ content = (rw (lifted, trailing) at m) ∙ append-nil (take (start + count) longer ++ content) in
-    let prefix : take start moved ≡ take start out = ap (λ (l : List ℕ). take start l) whole ∙ take-append-le start (take (start + count) longer) content (omega (arith, below)) ∙ take-take start (start + count) longer (omega arith) ∙ ap (λ (l : List ℕ). take start l) e ∙ take-append-le start out more (omega arith) in
-    let back : drop (start + count - start) (drop start moved) ≡ content = drop-drop (start + count - start) start moved ∙ ap (λ n. drop n moved) (sum start count) ∙ ap (λ (l : List ℕ). drop (start + count) l) whole ∙ drop_at (take (start + count) longer) content (start + count) below in
-    rw (prefix, back, w, h, left) refl
+closed out moved written start from tag count order before after w =
+    let left : length (drop from out) ≡ length out - from = length-drop from out in
+    let prefix : take start moved ≡ take start out = sym (take-take start from moved order) ∙ ap (λ (l : List ℕ). take start l) before ∙ take-take start from out order in
+    let back : drop (start + count - start) (drop start moved) ≡ drop from out = drop-drop (start + count - start) start moved ∙ ap (λ n. drop n moved) (sum start count) ∙ after in
+    rw (prefix, back, w, left) refl
+
+-- one octet more before a content
+pub raised : (out old : List ℕ) (place i x : ℕ) → place ≤ length out → take place out ≡ take place old → drop (place + i) out ≡ drop place old
+    → (take place (take place out ++ x ∷ drop place out) ≡ take place old) × (drop (place + (i + 1)) (take place out ++ x ∷ drop place out) ≡ drop place old)
+raised out old place i x le before after =
+    let size : length (take place out) ≡ place = length-take-le place out le in
+    let rest : drop place (take place out ++ x ∷ drop place out) ≡ x ∷ drop place out = drop_at (take place out) (x ∷ drop place out) place size in
+    let one : drop (i + 1) (x ∷ drop place out) ≡ drop i (drop place out) = ap (λ n. drop n (x ∷ drop place out)) (add-one i) in (
+      take_at (take place out) (x ∷ drop place out) place size ∙ before,
+      sym (drop-drop (i + 1) place (take place out ++ x ∷ drop place out)) ∙ ap (λ (l : List ℕ). drop (i + 1) l) rest ∙ one ∙ drop-drop i place out ∙ after,
+    )
 
 -- the header of a short content in its room
 pub filled : (out written : List ℕ) (start tag : ℕ) → start + 2 ≤ length out → length out - start - 2 < 128 → written ≡ tag ∷ (length out - start - 2) ∷ []

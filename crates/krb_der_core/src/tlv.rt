@@ -183,6 +183,8 @@ pub fn close_tlv(tag: u8, start: usize, out: &mut Vec<u8>) -> Result<(), AllocEr
 }
 
 /// Makes the octets from `from` on the content of an element that begins at `start`, over at most two octets between them.
+/// Out of line, so that `end_tlv` stays short where the content is.
+#[inline(never)]
 fn put_header(tag: u8, start: usize, from: usize, out: &mut Vec<u8>) -> Result<(), AllocError>
     requires order { start ≤ from }
     requires room { from ≤ start + 2 }
@@ -190,13 +192,24 @@ fn put_header(tag: u8, start: usize, from: usize, out: &mut Vec<u8>) -> Result<(
     ensures ok { OnOk result (out.new.items ≡ take start out.old.items ++ tlv tag (drop from out.old.items)) }
     ensures err { OnErr result (out.new.items ≡ take start out.old.items) }
 {
-    let end = out.len();
-    let (octets, count) = header_octets(tag, end - from);
-    if let Err(e) = out.extend_from_slice(&octets[from - start..count]) {
+    let (octets, count) = header_octets(tag, out.len() - from);
+    if let Err(e) = make_room(from, start + count - from, out) {
         out.truncate(start);
         return Err(e);
     }
-    out.copy_within(from..end, start + count);
     out[start..start + count].copy_from_slice(&octets[..count]);
+    Ok(())
+}
+
+/// Moves the octets from a place on up by so many places. Those before it stay, also where an allocation fails.
+fn make_room(place: usize, count: usize, out: &mut Vec<u8>) -> Result<(), AllocError>
+    requires { place ≤ length out.old.items }
+    ensures before { take place out.new.items ≡ take place out.old.items }
+    ensures after { OnOk result (drop (place + count) out.new.items ≡ drop place out.old.items) }
+    ensures size { OnOk result (length out.new.items ≡ length out.old.items + count) }
+{
+    for moved in 0..count {
+        out.insert(place, 0)?;
+    }
     Ok(())
 }

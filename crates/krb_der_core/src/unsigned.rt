@@ -12,7 +12,7 @@ ghost use Rattle.krb_der_core.specs.ErrorLaws.{primitive_error_laws};
 use crate::der::{Der, DerEncode};
 use crate::error::Asn1DerError;
 use crate::integer::{INTEGER, IntegerAsn1};
-use crate::tlv::{close_tlv, push_digits};
+use crate::tlv::{begin_tlv, end_tlv, push_digits};
 use std::alloc::{AllocError, Global};
 
 /// The first digit of the number in base 256, and 0 of 0.
@@ -62,12 +62,12 @@ impl DerEncode for u32 {
     }
 
     fn write(&self, _alloc: Global, out: &mut Vec<u8>) -> Result<(), AllocError> {
-        let start = out.len();
+        let start = begin_tlv(out)?;
         if let Err(error) = push_unsigned(*self as usize, out) {
             out.truncate(start);
             return Err(error);
         }
-        close_tlv(INTEGER, start, out)
+        end_tlv(INTEGER, start, out)
     }
 }
 

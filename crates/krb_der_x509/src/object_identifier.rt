@@ -16,7 +16,7 @@ ghost use Rattle.krb_der_x509.specs.ObjectIdentifierLaws.{arcs_one_content};
 ghost use Rattle.krb_der_x509.specs.ObjectIdentifierErrors.{ArcsError, SubIdentifierError, arcs_laws};
 ghost use Rattle.krb_der_core.specs.declared.error.Asn1DerError.TheVariants as errors;
 
-use krb_der_core::{Asn1DerError, Der, DerEncode, close_tlv};
+use krb_der_core::{Asn1DerError, Der, DerEncode, begin_tlv, end_tlv};
 use std::alloc::{AllocError, Global};
 use std::marker::Model;
 
@@ -242,12 +242,12 @@ impl DerEncode for ObjectIdentifierAsn1 {
     }
 
     fn write(&self, _alloc: Global, out: &mut Vec<u8>) -> Result<(), AllocError> {
-        let start = out.len();
+        let start = begin_tlv(out)?;
         if let Err(error) = push_arcs(self.0.as_slice(), out) {
             out.truncate(start);
             return Err(error);
         }
-        close_tlv(OBJECT_IDENTIFIER, start, out)
+        end_tlv(OBJECT_IDENTIFIER, start, out)
     }
 }
 
