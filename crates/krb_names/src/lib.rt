@@ -2,7 +2,10 @@
 #![tactic(auto)]
 
 mod kind;
+pub mod laws;
 mod names;
+#[cfg(test)]
+mod rows_of_standards;
 mod tables;
 
 pub use kind::Kind;

@@ -1,10 +1,17 @@
 //! Numbers to names, and names to numbers.
 
-ghost use Rattle.std.specs.Prelude.{◌≡◌, IfSome, IfNone, All};
+ghost use Rattle.std.specs.Prelude.{◌≡◌, ◌↔◌, IsTrue, IfSome, IfNone, All};
 ghost use Rattle.krb_names.specs.Names.{table, mechanisms, IsRow, IsMechanism};
 
 use crate::kind::Kind;
 use crate::tables::{mechanism_rows, rows};
+
+/// Whether these are the same octets.
+fn is_same(first: &str, second: &str) -> bool
+    ensures { IsTrue result ↔ first.now ≡ second.now }
+{
+    first == second
+}
 
 /// The name of this number, as the standards of its kind spell it (`Kind` has them); printable ASCII without blanks. `None`
 /// where they name no such number.
@@ -26,7 +33,7 @@ pub fn number(kind: Kind, name: &str) -> Option<i64>
     ensures unknown { IfNone result (All (λ row. ¬ row.1 ≡ name.now) (table kind)) }
 {
     for row in rows(kind) {
-        if row.1 == name {
+        if is_same(row.1, name) {
             return Some(row.0);
         }
     }
@@ -40,7 +47,7 @@ pub fn mechanism_name(identifier: &str) -> Option<&'static str>
     ensures unnamed { IfNone result (All (λ row. ¬ row.0 ≡ identifier.now) mechanisms) }
 {
     for row in mechanism_rows() {
-        if row.0 == identifier {
+        if is_same(row.0, identifier) {
             return Some(row.1);
         }
     }
@@ -54,7 +61,7 @@ pub fn mechanism_identifier(name: &str) -> Option<&'static str>
     ensures unknown { IfNone result (All (λ row. ¬ row.1 ≡ name.now) mechanisms) }
 {
     for row in mechanism_rows() {
-        if row.1 == name {
+        if is_same(row.1, name) {
             return Some(row.0);
         }
     }

@@ -285,9 +285,7 @@ static ADDRESS_TYPES: [(i64, &str); 9] = [
 ];
 
 /// RFC 4120, 7.5.5.
-static TRANSITED_ENCODING_TYPES: [(i64, &str); 1] = [
-    (1, "DOMAIN-X500-COMPRESS"),
-];
+static TRANSITED_ENCODING_TYPES: [(i64, &str); 1] = [(1, "DOMAIN-X500-COMPRESS")];
 
 /// RFC 4120, 5.4.2, which gives the numbers; the names are those of Heimdal and Wireshark.
 static LAST_REQUEST_TYPES: [(i64, &str); 8] = [

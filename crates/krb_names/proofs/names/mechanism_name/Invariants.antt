@@ -1,4 +1,4 @@
-use Rattle.std.proofs.Common.{◌≡◌, ℕ, ℤ, List, Bor, ◌<◌, slice_index_or}
+use Rattle.std.proofs.Common.{◌≡◌, ℕ, List, Bor, ◌<◌, slice_index_or}
 use Rattle.krb_names.proofs.names.mechanism_name.Given as goal
 
 abbrev pub invariant-loop-row : goal.invariant-loop-row
