@@ -10,7 +10,8 @@ use Rattle.krb_names.specs.Names.{table, mechanisms, IsPlain}
 use Rattle.std.proofs.Math.Dec.{leb}
 use Rattle.std.proofs.lemmas.Bool.{le-leb, leb-true}
 use Rattle.krb_names.specs.declared.kind.Kind.{Kind}
-use Rattle.krb_names.specs.declared.kind.Kind.TheVariants.{EncryptionType, ChecksumType, NameType, MessageType, ErrorCode, PaDataType, AuthorizationDataType, AddressType, TransitedEncodingType, LastRequestType, TicketFlag, KdcOption, ApOption, KeyUsage, PacBufferType, NegotiationState}
+use Rattle.krb_names.specs.declared.kind.Kind.TheVariants.{EncryptionType, ChecksumType, NameType, MessageType, ErrorCode, PaDataType, AuthorizationDataType, AddressType}
+use Rattle.krb_names.specs.declared.kind.Kind.TheVariants.{TransitedEncodingType, LastRequestType, TicketFlag, KdcOption, ApOption, KeyUsage, PacBufferType, NegotiationState}
 
 -- ---- the test
 
@@ -34,10 +35,11 @@ are_once key value same same_value none rows = every (λ row. same_value (value_
 pub one_value : {R K V : Type 0} (key : R → K) (value : R → V) (same : K → K → Bool) (same_value : V → V → Bool)
     (decides : (v w : V) → Decides (same_value v w) (v ≡ w)) (none : V) (rows : List R) → are_once key value same same_value none rows ≡ true
     → (r s : R) → key r ≡ key s → Contains rows r → Contains rows s → value r ≡ value s
-one_value {K = K} {V = V} key value same same_value decides none rows test r s e has_r has_s =
+one_value {R = R} {K = K} {V = V} key value same same_value decides none rows test r s e has_r has_s =
     let found : K → V = λ k. value_of key value same none k rows in
-    let all = of_every (λ row. same_value (found (key row)) (value row)) (λ row. found (key row) ≡ value row) (λ row. decides (found (key row)) (value row)) rows test in
-    sym (All-contains (λ row. found (key row) ≡ value row) rows r all has_r) ∙ ap found e ∙ All-contains (λ row. found (key row) ≡ value row) rows s all has_s
+    let IsFound : R → Type 0 = λ row. found (key row) ≡ value row in
+    let all = of_every (λ row. same_value (found (key row)) (value row)) IsFound (λ row. decides (found (key row)) (value row)) rows test in
+    sym (All-contains IsFound rows r all has_r) ∙ ap found e ∙ All-contains IsFound rows s all has_s
 
 -- ---- the tables
 

@@ -1,7 +1,8 @@
 -- The names of numbers, one table a kind, each with the standard that has it: a row is a number and its name.
-use Rattle.std.specs.Prelude.{ℕ, ◌≤◌, ℤ, pos, negsuc, List, [], ◌∷◌, codes, Contains, All}
+use Rattle.std.specs.Prelude.{◌≡◌, ℕ, ◌≤◌, ℤ, pos, negsuc, List, [], ◌∷◌, codes, Contains, All}
 use Rattle.krb_names.specs.declared.kind.Kind.{Kind}
-use Rattle.krb_names.specs.declared.kind.Kind.TheVariants.{EncryptionType, ChecksumType, NameType, MessageType, ErrorCode, PaDataType, AuthorizationDataType, AddressType, TransitedEncodingType, LastRequestType, TicketFlag, KdcOption, ApOption, KeyUsage, PacBufferType, NegotiationState}
+use Rattle.krb_names.specs.declared.kind.Kind.TheVariants.{EncryptionType, ChecksumType, NameType, MessageType, ErrorCode, PaDataType, AuthorizationDataType, AddressType}
+use Rattle.krb_names.specs.declared.kind.Kind.TheVariants.{TransitedEncodingType, LastRequestType, TicketFlag, KdcOption, ApOption, KeyUsage, PacBufferType, NegotiationState}
 
 -- RFC 3961, 8; RFC 3962, 7; RFC 4757; RFC 6803, 9; RFC 8009, 7; IANA, Kerberos Encryption Type Numbers
 abbrev pub encryption_types : List (ℤ × List ℕ)
@@ -432,8 +433,8 @@ negotiation_states =
     ∷ (pos 3, codes "request-mic")
     ∷ []
 
--- object identifiers of mechanisms, as dotted numbers (RFC 4121; draft-swift-win2k-krb-user2user-03; MS-SPNG; MS-NLMP; MS-NEGOEX; draft-ietf-kitten-
--- iakerb-03; draft-zhu-pku2u-09; RFC 4178; the names are this library's)
+-- object identifiers of mechanisms, as dotted numbers (RFC 4121; draft-swift-win2k-krb-user2user-03; MS-SPNG; MS-NLMP; MS-NEGOEX;
+-- draft-ietf-kitten-iakerb-03; draft-zhu-pku2u-09; RFC 4178; the names are this library's)
 unfoldable pub mechanisms : List (List ℕ × List ℕ)
 mechanisms =
     (codes "1.2.840.113554.1.2.2", codes "KRB5")

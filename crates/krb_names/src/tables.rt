@@ -352,9 +352,9 @@ static AP_OPTIONS: [(i64, &str); 3] = [
     (2, "mutual-required"),
 ];
 
-/// 1 to 19: RFC 4120, 7.5.1; 22 to 25: RFC 4121, 2; 26, 27: MS-SFU; 41: draft-zhu-pku2u-04, 6; 42: draft-ietf-kitten-
-/// iakerb; 44: RFC 6112; 45: RFC 6560; 50 to 56: RFC 6113; 64: RFC 7751; 65: RFC 9588; where these give no name, that of
-/// krb5.h of MIT Kerberos.
+/// 1 to 19: RFC 4120, 7.5.1; 22 to 25: RFC 4121, 2; 26, 27: MS-SFU; 41: draft-zhu-pku2u-04, 6; 42:
+/// draft-ietf-kitten-iakerb; 44: RFC 6112; 45: RFC 6560; 50 to 56: RFC 6113; 64: RFC 7751; 65: RFC 9588; where these give
+/// no name, that of krb5.h of MIT Kerberos.
 static KEY_USAGES: [(i64, &str); 35] = [
     (1, "KRB5_KEYUSAGE_AS_REQ_PA_ENC_TS"),
     (2, "KRB5_KEYUSAGE_KDC_REP_TICKET"),
