@@ -1,9 +1,9 @@
-//! Rows typed from the standards' documents.
+//! Rows of the standards' tables, typed apart from the tables of this crate.
 
 use crate::kind::Kind;
 use crate::{mechanism_identifier, mechanism_name, name, number};
 
-/// A row or two of each table, among them its last.
+/// One to three rows of each table.
 const ROWS: [(Kind, i64, &str); 32] = [
     (Kind::EncryptionType, 18, "aes256-cts-hmac-sha1-96"),
     (Kind::EncryptionType, 23, "rc4-hmac"),
