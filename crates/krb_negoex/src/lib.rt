@@ -8,6 +8,7 @@ mod checksum;
 mod devices;
 mod exchange;
 mod extension;
+mod fixed;
 mod guid;
 mod header;
 pub mod laws;
