@@ -21,3 +21,4 @@ pub mod parts;
 mod traits;
 mod vector;
 mod verify;
+mod view;
