@@ -7,7 +7,7 @@ use Rattle.std.specs.declared.io.Error.{Error}
 use Rattle.std.specs.declared.io.ErrorKind.TheVariants.{UnexpectedEof}
 use Rattle.std.proofs.lemmas.List.{drop-drop, length-take}
 use Rattle.byteorder.specs.Endian.{little_number}
-use Rattle.krb_negoex.specs.Layouts.{Layout, NumberPart}
+use Rattle.krb_negoex.specs.Layouts.{Layout, NumberPart, ThenPart, ThenRejected}
 use Rattle.krb_negoex.specs.Parts.{Elements, VectorPart}
 use Rattle.krb_negoex.specs.Rejected.{IsCut, ElementRejected}
 use Rattle.krb_negoex.specs.View.{ExtensionSeen, IsNotMemory, extension_view_layout, octets_of, extension_of, elements_of}
@@ -157,3 +157,10 @@ module _ {A : Type 0} (l : Layout A) (read : List ℕ → List ℕ → A) (is : 
       ap Some (is (drop (o + l.width * n) m) m v x) ∙ sym (get_elements read l.width m o count n h) ∙ ap (λ (z : List A). slice_get z n) e
   looked_up m g o n count xs (Err f) e h there here found rejected memory =
       absurd (memory (l.no_part (drop (o + l.width * n) m) m f (read (drop (o + l.width * n) m) m) (subst (λ (z : List ℕ). l.rejects z m f) here rejected) (there n h)))
+
+-- the error of what comes after a part
+pub then_rejected : {A B : Type 0} (a : Layout A) (b : Layout B) (f g m : List ℕ) (v : A) (e : Error) → a.part f m v → g ≡ drop a.width f → b.rejects g m e → ThenRejected a b f m e
+then_rejected a b f g m v e x here r = inr (v, x, subst (λ (z : List ℕ). b.rejects z m e) here r)
+
+pub then_found : {A B : Type 0} (a : Layout A) (b : Layout B) (f g m : List ℕ) (v : A) (w : B) → a.part f m v → g ≡ drop a.width f → b.part g m w → ThenPart a b f m (v, w)
+then_found a b f g m v w x here y = (x, subst (λ (z : List ℕ). b.part z m w) here y)

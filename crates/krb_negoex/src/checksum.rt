@@ -19,7 +19,7 @@ pub const CHECKSUM_SCHEME_RFC3961: u32 = 1;
 
 /// The number of a scheme of checksums, of which one is read.
 #[derive(Clone, Copy)]
-pub(crate) struct Scheme(u32);
+pub(crate) struct Scheme(pub(crate) u32);
 
 impl Lay for Scheme {
     ghost layout = { seen (λ v. v.0) scheme_layout };

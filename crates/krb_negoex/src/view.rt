@@ -1,15 +1,16 @@
 //! Messages over the octets that the caller holds.
 
-ghost use Rattle.std.specs.Prelude.{◌≡◌, ◌==◌, ℕ, ◌+◌, ◌*◌, ◌<◌, ◌≤◌, ◌^◌, List, length, drop, slice_get, IfOk, IfErr, MatchResult};
+ghost use Rattle.std.specs.Prelude.{◌≡◌, ◌==◌, ℕ, ◌+◌, ◌*◌, ◌<◌, ◌≤◌, ◌^◌, List, length, drop, slice_get, IfOk, IfErr};
 ghost use Rattle.krb_negoex.specs.GuidLayout.{guid};
 ghost use Rattle.krb_negoex.specs.Layouts.{vector};
-ghost use Rattle.krb_negoex.specs.View.{ExtensionSeen, ExchangeSeen, NegoSeen, IsNotMemory, elements_of, scheme_of, extension_of};
-ghost use Rattle.krb_negoex.specs.View.{extension_view_layout, exchange_view_layout, nego_view_layout};
+ghost use Rattle.krb_negoex.specs.View.{ChecksumSeen, ExchangeSeen, ExtensionSeen, NegoSeen, VerifySeen, IsNotMemory, elements_of, scheme_of, extension_of};
+ghost use Rattle.krb_negoex.specs.View.{checksum_view_layout, exchange_view_layout, extension_view_layout, nego_view_layout, verify_view_layout};
 ghost use Rattle.krb_negoex.specs.Wire.{byte_vector};
 
+use crate::checksum::Scheme;
 use crate::fixed::Fixed;
 use crate::header::MessageHeader;
-use crate::numbers::{cut_short, invalid_data, u32_prefix};
+use crate::numbers::{cut_short, invalid_data, u32_prefix, u64_prefix};
 use std::io;
 use std::marker::Model;
 use uuid::Uuid;
@@ -293,5 +294,219 @@ impl<'a> ExchangeView<'a> {
         ensures { result.now ≡ self.now.exchange }
     {
         self.exchange
+    }
+}
+
+/// A checksum (MS-NEGOEX 2.2.5.1.3) whose value is a slice of the message.
+#[derive(Debug, Drop)]
+pub struct ChecksumView<'a> {
+    header_len: u32,
+    checksum_scheme: u32,
+    checksum_type: u32,
+    checksum_value: &'a [u8],
+}
+
+impl<'a> Model for ChecksumView<'a> {
+    ghost Value = { ChecksumSeen };
+
+    ghost view = { λ v. record { header_len = v.header_len; checksum_scheme = v.checksum_scheme; checksum_type = v.checksum_type;
+      checksum_value = v.checksum_value.now } };
+}
+
+impl<'a> ChecksumView<'a> {
+    /// How many octets the checksum says are before its value.
+    pub fn header_len(&self) -> u32
+        ensures { result ≡ self.now.header_len }
+    {
+        self.header_len
+    }
+
+    /// The scheme of checksums.
+    pub fn checksum_scheme(&self) -> u32
+        ensures { result ≡ self.now.checksum_scheme }
+    {
+        self.checksum_scheme
+    }
+
+    /// RFC 3961's number of a type of checksum.
+    pub fn checksum_type(&self) -> u32
+        ensures { result ≡ self.now.checksum_type }
+    {
+        self.checksum_type
+    }
+
+    /// The octets of the checksum. They live as long as the message's octets.
+    pub fn checksum_value(&self) -> &'a [u8]
+        ensures { result.now ≡ self.now.checksum_value }
+    {
+        self.checksum_value
+    }
+}
+
+/// The checksum that the octets begin with.
+fn checksum_view<'a>(octets: &[u8], message: &'a [u8]) -> io::Result<ChecksumView<'a>>
+    ensures found { IfOk result (checksum_view_layout.part octets.now message.now) }
+    ensures rejected { IfErr result (checksum_view_layout.rejects octets.now message.now) }
+    ensures memory { IfErr result IsNotMemory }
+{
+    let (header_len, trailing) = u32_prefix(octets)?;
+    let (scheme, trailing) = match Scheme::fixed_prefix(trailing, message) {
+        Ok(read) => read,
+        Err(error) => return Err(error),
+    };
+    let (checksum_type, trailing) = u32_prefix(trailing)?;
+    let checksum_value = octets_view(trailing, message)?;
+    Ok(ChecksumView {
+        header_len,
+        checksum_scheme: scheme.0,
+        checksum_type,
+        checksum_value,
+    })
+}
+
+/// A `Verify` (MS-NEGOEX 2.2.6.5) over the octets that the caller holds. It takes no memory.
+#[derive(Debug, Drop)]
+pub struct VerifyView<'a> {
+    header: MessageHeader,
+    auth_scheme: Uuid,
+    checksum: ChecksumView<'a>,
+}
+
+impl<'a> Model for VerifyView<'a> {
+    ghost Value = { VerifySeen };
+
+    ghost view = { λ v. record { header = v.header; auth_scheme = v.auth_scheme; checksum = v.checksum } };
+}
+
+impl<'a> VerifyView<'a> {
+    /// The message that the octets begin with: that which `Verify::decode` reads from them, and its first error where there is none.
+    ///
+    /// `InvalidData` at another signature or message type, and where the value's offset lies past the octets; `InvalidInput` at
+    /// another checksum scheme; `UnexpectedEof` where the octets end before a fixed part or the value does. There is no other
+    /// error, since no memory is taken.
+    pub fn new(octets: &'a [u8]) -> io::Result<Self>
+        ensures found { IfOk result (verify_view_layout.part octets.now octets.now) }
+        ensures rejected { IfErr result (verify_view_layout.rejects octets.now octets.now) }
+        ensures memory { IfErr result IsNotMemory }
+    {
+        let (header, trailing) = match MessageHeader::fixed_prefix(octets, octets) {
+            Ok(read) => read,
+            Err(error) => return Err(error),
+        };
+        let (auth_scheme, trailing) = match Uuid::fixed_prefix(trailing, octets) {
+            Ok(read) => read,
+            Err(error) => return Err(error),
+        };
+        let checksum = checksum_view(trailing, octets)?;
+        Ok(VerifyView {
+            header,
+            auth_scheme,
+            checksum,
+        })
+    }
+
+    /// What the message begins with.
+    pub fn header(&self) -> MessageHeader
+        ensures { result ≡ self.now.header }
+    {
+        self.header
+    }
+
+    /// The scheme whose key the checksum is made with.
+    pub fn auth_scheme(&self) -> Uuid
+        ensures { result ≡ self.now.auth_scheme }
+    {
+        self.auth_scheme
+    }
+
+    /// The checksum.
+    pub fn checksum(&self) -> &ChecksumView<'a>
+        ensures { result.now ≡ self.now.checksum }
+    {
+        &self.checksum
+    }
+}
+
+/// A `Nego` (MS-NEGOEX 2.2.6.3) over the octets that the caller holds. It takes no memory.
+#[derive(Debug, Drop)]
+pub struct NegoView<'a> {
+    header: MessageHeader,
+    random: [u8; 32],
+    protocol_version: u64,
+    auth_schemes: AuthSchemesView<'a>,
+    extensions: ExtensionsView<'a>,
+}
+
+impl<'a> Model for NegoView<'a> {
+    ghost Value = { NegoSeen };
+
+    ghost view = { λ v. record { header = v.header; random = v.random; protocol_version = v.protocol_version;
+      auth_schemes = v.auth_schemes; extensions = v.extensions } };
+}
+
+impl<'a> NegoView<'a> {
+    /// The message that the octets begin with: that which `Nego::decode` reads from them, and its first error where there is none.
+    ///
+    /// `InvalidData` at another signature or message type, and where a vector's offset lies past the octets; `UnexpectedEof` where
+    /// the octets end before a fixed part or an element does. There is no other error, since no memory is taken. The steps grow
+    /// with the elements that are there.
+    pub fn new(octets: &'a [u8]) -> io::Result<Self>
+        ensures found { IfOk result (nego_view_layout.part octets.now octets.now) }
+        ensures rejected { IfErr result (nego_view_layout.rejects octets.now octets.now) }
+        ensures memory { IfErr result IsNotMemory }
+    {
+        let (header, trailing) = match MessageHeader::fixed_prefix(octets, octets) {
+            Ok(read) => read,
+            Err(error) => return Err(error),
+        };
+        let (random, trailing) = match <[u8; 32]>::fixed_prefix(trailing, octets) {
+            Ok(read) => read,
+            Err(error) => return Err(error),
+        };
+        let (protocol_version, trailing) = u64_prefix(trailing)?;
+        let auth_schemes = schemes_view(trailing, octets)?;
+        let extensions = extensions_view(octets_from(trailing, 8), octets)?;
+        Ok(NegoView {
+            header,
+            random,
+            protocol_version,
+            auth_schemes,
+            extensions,
+        })
+    }
+
+    /// What the message begins with.
+    pub fn header(&self) -> MessageHeader
+        ensures { result ≡ self.now.header }
+    {
+        self.header
+    }
+
+    /// Random octets of the party.
+    pub fn random(&self) -> &[u8; 32]
+        ensures { result.now ≡ self.now.random }
+    {
+        &self.random
+    }
+
+    /// The version of the protocol.
+    pub fn protocol_version(&self) -> u64
+        ensures { result ≡ self.now.protocol_version }
+    {
+        self.protocol_version
+    }
+
+    /// The schemes, the best liked first.
+    pub fn auth_schemes(&self) -> &AuthSchemesView<'a>
+        ensures { result.now ≡ self.now.auth_schemes }
+    {
+        &self.auth_schemes
+    }
+
+    /// The extensions.
+    pub fn extensions(&self) -> &ExtensionsView<'a>
+        ensures { result.now ≡ self.now.extensions }
+    {
+        &self.extensions
     }
 }

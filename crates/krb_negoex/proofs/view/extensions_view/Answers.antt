@@ -14,3 +14,8 @@ returns-in_err-extension_view-clause-rejected c =
     rw (p.1, p.2) (inr (inr (inr (vector_rejected extension_view_layout extension_of is_extension c.args.octets.now c.in_ok-offset.trailing.now c.args.message.now c.octets_from.result.now c.in_ok-offset.offset c.in_ok-count.count c.elements.n
     c.in_err-extension_view.field-0.0 c.in_ok-offset.ensures.number.1 c.in_ok-offset.ensures.trailing c.in_ok-count.ensures.number.0 c.in_ok-count.ensures.number.1 (omega arith) (omega arith)
     c.elements.invariant c.octets_from.ensures c.in_err-extension_view.ensures.rejected))))
+
+pub returns-clause-found : goal.returns-clause-found
+returns-clause-found c =
+    vector_found extension_view_layout extension_of is_extension c.args.octets.now c.in_ok-offset.trailing.now c.args.message.now c.in_ok-offset.offset c.in_ok-count.count c.in_ok-offset.ensures.number.1
+    c.in_ok-offset.ensures.trailing c.in_ok-count.ensures.number.0 c.in_ok-count.ensures.number.1 (omega arith) (λ k h. let below : k < c.elements.n = omega arith in c.elements.invariant k below)
