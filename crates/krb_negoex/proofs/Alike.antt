@@ -118,8 +118,19 @@ nego_part : (f m : List ℕ) (v : Nego) → nego_layout.part f m v → nego_view
 nego_part f m v x = (x.0, (x.1.0, (x.1.1.0, (x.1.1.1.0, vector_seen (drop 8 (drop 8 (drop 32 (drop 40 f)))) m v.extensions.items x.1.1.1.1))))
 
 nego_rejected : (f m : List ℕ) (e : Error) → nego_layout.rejects f m e → nego_view_layout.rejects f m e
-nego_rejected f m e r = ⊎_elim (λ h. inl h) (λ h. inr (h.0, h.1, ⊎_elim (λ i. inl i) (λ i. inr (i.0, i.1, ⊎_elim (λ j. inl j) (λ j. inr (j.0, j.1,
-    ⊎_elim (λ k. inl k) (λ k. inr (k.0.items, k.1, rejected_seen (drop 8 (drop 8 (drop 32 (drop 40 f)))) m e k.2)) j.2)) i.2)) h.2)) r
+nego_rejected f m e r = ⊎_elim (λ h. inl h) (λ h. inr (
+  h.0,
+  h.1,
+  ⊎_elim (λ i. inl i) (λ i. inr (
+    i.0,
+    i.1,
+    ⊎_elim (λ j. inl j) (λ j. inr (
+      j.0,
+      j.1,
+      ⊎_elim (λ k. inl k) (λ k. inr (k.0.items, k.1, rejected_seen (drop 8 (drop 8 (drop 32 (drop 40 f)))) m e k.2)) j.2,
+    )) i.2,
+  )) h.2,
+)) r
 
 alike : {A B : Type 0} (k : Layout A) (l : Layout B) (see : A → B) → ((f m : List ℕ) (v : A) → k.part f m v → l.part f m (see v)) → ((f m : List ℕ) (e : Error) → k.rejects f m e → l.rejects f m e)
     → ((v w : B) → l.same v w → v ≡ w) → (m : List ℕ) (read : Result A Error) (view : Result B Error) → IfOk read (k.part m m) → IfErr read (k.rejects m m) → IfOk view (l.part m m) → IfErr view (l.rejects m m)

@@ -102,12 +102,11 @@ elements_there : {A : Type 0} (part : List ℕ → List ℕ → A → Type 0) (r
 unfolding elements_of
 elements_there part read width m o zero f = tt
 elements_there part read width m o (suc n) f =
-    let e : o + width * 0 ≡ o = omega arith in
-    (
+    let e : o + width * 0 ≡ o = omega arith in (
       subst (λ (j : ℕ). part (drop j m) m (read (drop j m) m)) e (f 0 (omega arith)),
       elements_there part read width m (o + width) n (λ k h.
-      let g : o + width * suc k ≡ o + width + width * k = omega arith in
-      subst (λ (j : ℕ). part (drop j m) m (read (drop j m) m)) g (f (suc k) (omega arith))),
+          let g : o + width * suc k ≡ o + width + width * k = omega arith in
+          subst (λ (j : ℕ). part (drop j m) m (read (drop j m) m)) g (f (suc k) (omega arith))),
     )
 
 module _ {A : Type 0} (l : Layout A) (read : List ℕ → List ℕ → A) (is : (f m : List ℕ) (v : A) → l.part f m v → v ≡ read f m) where

@@ -128,7 +128,11 @@ impl<'a> ExtensionsView<'a> {
         if n >= self.count {
             return None;
         }
-        extension_view(octets_from(self.message, self.offset + 12 * n), self.message).ok()
+        extension_view(
+            octets_from(self.message, self.offset + 12 * n),
+            self.message,
+        )
+        .ok()
     }
 }
 
@@ -196,7 +200,11 @@ impl<'a> AuthSchemesView<'a> {
         if n >= self.count {
             return None;
         }
-        scheme_view(octets_from(self.message, self.offset + 16 * n), self.message).ok()
+        scheme_view(
+            octets_from(self.message, self.offset + 16 * n),
+            self.message,
+        )
+        .ok()
     }
 }
 
@@ -250,7 +258,8 @@ impl<'a> Model for ExchangeView<'a> {
 }
 
 impl<'a> ExchangeView<'a> {
-    /// The message that the octets begin with: that which `Exchange::decode` reads from them, and its first error where there is none.
+    /// The message that the octets begin with: that which `Exchange::decode` reads from them, and its first error where there is
+    /// none.
     ///
     /// `InvalidData` at another signature or message type, and where the token's offset lies past the octets; `UnexpectedEof` where
     /// the octets end before a fixed part or the token does. There is no other error, since no memory is taken.
@@ -309,8 +318,12 @@ pub struct ChecksumView<'a> {
 impl<'a> Model for ChecksumView<'a> {
     ghost Value = { ChecksumSeen };
 
-    ghost view = { λ v. record { header_len = v.header_len; checksum_scheme = v.checksum_scheme; checksum_type = v.checksum_type;
-      checksum_value = v.checksum_value.now } };
+    ghost view = { λ v. record {
+      header_len = v.header_len;
+      checksum_scheme = v.checksum_scheme;
+      checksum_type = v.checksum_type;
+      checksum_value = v.checksum_value.now;
+    } };
 }
 
 impl<'a> ChecksumView<'a> {
@@ -379,7 +392,8 @@ impl<'a> Model for VerifyView<'a> {
 }
 
 impl<'a> VerifyView<'a> {
-    /// The message that the octets begin with: that which `Verify::decode` reads from them, and its first error where there is none.
+    /// The message that the octets begin with: that which `Verify::decode` reads from them, and its first error where there is
+    /// none.
     ///
     /// `InvalidData` at another signature or message type, and where the value's offset lies past the octets; `InvalidInput` at
     /// another checksum scheme; `UnexpectedEof` where the octets end before a fixed part or the value does. There is no other
@@ -440,12 +454,18 @@ pub struct NegoView<'a> {
 impl<'a> Model for NegoView<'a> {
     ghost Value = { NegoSeen };
 
-    ghost view = { λ v. record { header = v.header; random = v.random; protocol_version = v.protocol_version;
-      auth_schemes = v.auth_schemes; extensions = v.extensions } };
+    ghost view = { λ v. record {
+      header = v.header;
+      random = v.random;
+      protocol_version = v.protocol_version;
+      auth_schemes = v.auth_schemes;
+      extensions = v.extensions;
+    } };
 }
 
 impl<'a> NegoView<'a> {
-    /// The message that the octets begin with: that which `Nego::decode` reads from them, and its first error where there is none.
+    /// The message that the octets begin with: that which `Nego::decode` reads from them, and its first error where there is
+    /// none.
     ///
     /// `InvalidData` at another signature or message type, and where a vector's offset lies past the octets; `UnexpectedEof` where
     /// the octets end before a fixed part or an element does. There is no other error, since no memory is taken. The steps grow
