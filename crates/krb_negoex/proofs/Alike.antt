@@ -17,16 +17,17 @@ use Rattle.krb_negoex.specs.declared.exchange.Exchange.{Exchange}
 use Rattle.krb_negoex.specs.declared.verify.Verify.{Verify}
 
 named : ℕ → MessageType
-named 0 = kinds.InitiatorNego
-named 1 = kinds.AcceptorNego
-named 2 = kinds.InitiatorMetaData
-named 3 = kinds.AcceptorMetaData
-named 4 = kinds.Challenge
-named 5 = kinds.ApRequest
-named 6 = kinds.Verify
+named zero = kinds.InitiatorNego
+named (suc zero) = kinds.AcceptorNego
+named (suc (suc zero)) = kinds.InitiatorMetaData
+named (suc (suc (suc zero))) = kinds.AcceptorMetaData
+named (suc (suc (suc (suc zero)))) = kinds.Challenge
+named (suc (suc (suc (suc (suc zero))))) = kinds.ApRequest
+named (suc (suc (suc (suc (suc (suc zero)))))) = kinds.Verify
 named n = kinds.Alert
 
 named_code : (k : MessageType) → named (type_code k) ≡ k
+unfolding named
 named_code kinds.InitiatorNego = refl
 named_code kinds.AcceptorNego = refl
 named_code kinds.InitiatorMetaData = refl
