@@ -1,10 +1,10 @@
 -- A message that is decoded and its view are of one reading.
-use Rattle.std.proofs.Common.{◌≡◌, ℕ, ◌+◌, ◌*◌, ◌<◌, ◌⊎◌, inl, inr, ⊎_elim, List, [], ◌∷◌, length, map, drop, Vec, Result, Ok, Err, IfOk, IfErr, refl, sym, ap, ◌∙◌, subst, zero, suc, arith}
+use Rattle.std.proofs.Common.{◌≡◌, ℕ, ◌+◌, ◌*◌, ◌<◌, inl, inr, ⊎_elim, List, [], ◌∷◌, length, map, drop, Result, Ok, Err, IfOk, IfErr, refl, sym, ap, ◌∙◌, subst, zero, suc}
 use Rattle.std.specs.declared.io.Error.{Error}
 use Rattle.byteorder.specs.Endian.{little_number}
 use Rattle.krb_negoex.specs.Layouts.{Layout}
 use Rattle.krb_negoex.specs.Parts.{Elements, VectorPart, SameAll}
-use Rattle.krb_negoex.specs.Rejected.{VectorRejected, ElementRejected}
+use Rattle.krb_negoex.specs.Rejected.{VectorRejected}
 use Rattle.krb_negoex.specs.Types.{type_code}
 use Rattle.krb_negoex.specs.Wire.{header_layout, extension_layout, nego_layout, exchange_layout, verify_layout}
 use Rattle.krb_negoex.specs.View.{ExtensionSeen, ChecksumSeen, NegoSeen, ExchangeSeen, VerifySeen, IsNotMemory, AreAlike, extension_seen, nego_seen, exchange_seen, verify_seen, extension_view_layout, checksum_view_layout, nego_view_layout, exchange_view_layout, verify_view_layout}

@@ -1,4 +1,4 @@
-use Rattle.std.proofs.Common.{◌≤◌, ◌<◌, length, inr, arith}
+use Rattle.std.proofs.Common.{inr, arith}
 use Rattle.krb_negoex.proofs.Viewed.{octets_found, octets_cut}
 use Rattle.krb_negoex.proofs.view.octets_view.Goals as goal
 

@@ -1,4 +1,4 @@
-use Rattle.std.proofs.Common.{◌≤◌, ◌<◌, length, inr, arith}
+use Rattle.std.proofs.Common.{◌<◌, inr, arith}
 use Rattle.std.proofs.lemmas.Result.{err_from_is_err_and}
 use Rattle.krb_negoex.specs.GuidLayout.{guid}
 use Rattle.krb_negoex.specs.View.{scheme_of}
