@@ -10,7 +10,7 @@ use Rattle.byteorder.specs.Endian.{little_number}
 use Rattle.krb_negoex.specs.Layouts.{Layout, NumberPart, ThenPart, ThenRejected}
 use Rattle.krb_negoex.specs.Parts.{Elements, VectorPart}
 use Rattle.krb_negoex.specs.Rejected.{IsCut, ElementRejected}
-use Rattle.krb_negoex.specs.View.{ExtensionSeen, IsNotMemory, extension_view_layout, octets_of, extension_of, elements_of}
+use Rattle.krb_negoex.specs.View.{ExtensionSeen, IsNotMemory, extension_view_layout, octets_of, extension_of, elements_of, AreThere}
 
 octet_at : (xs : List ℕ) → 1 ≤ length xs → xs ≡ little_number 1 xs ∷ drop 1 xs
 octet_at [] h = absurd (omega arith)
@@ -92,10 +92,6 @@ get_elements read width m o (suc n) zero h = ap (λ (j : ℕ). Some (read (drop 
 get_elements read width m o (suc n) (suc k) h =
     let e : o + width + width * k ≡ o + width * suc k = omega arith in
     get_elements read width m (o + width) n k (omega arith) ∙ ap (λ (j : ℕ). Some (read (drop j m) m)) e
-
--- the first n elements from o on are there, as they are computed
-abbrev pub AreThere : {A : Type 0} → (List ℕ → List ℕ → A → Type 0) → (List ℕ → List ℕ → A) → ℕ → List ℕ → ℕ → ℕ → Type 0
-AreThere part read width m o n = (k : ℕ) → k < n → part (drop (o + width * k) m) m (read (drop (o + width * k) m) m)
 
 elements_there : {A : Type 0} (part : List ℕ → List ℕ → A → Type 0) (read : List ℕ → List ℕ → A) (width : ℕ) (m : List ℕ) (o n : ℕ) → AreThere part read width m o n
     → Elements part width m o (elements_of read width m o n)

@@ -1,5 +1,5 @@
 -- What a view shows of a message, the octets of a value as a list, and what is computed of the octets (MS-NEGOEX 2.2.5 and 2.2.6).
-use Rattle.std.specs.Prelude.{◌≡◌, ℕ, zero, suc, ◌+◌, ◌⊎◌, List, [], ◌∷◌, map, take, drop, Result, Ok, Err}
+use Rattle.std.specs.Prelude.{◌≡◌, ℕ, zero, suc, ◌+◌, ◌<◌, ◌*◌, ◌⊎◌, List, [], ◌∷◌, map, take, drop, Result, Ok, Err}
 use Rattle.std.specs.IoError.{error_kind}
 use Rattle.std.specs.declared.io.Error.{Error}
 use Rattle.byteorder.specs.Endian.{little_number}
@@ -112,6 +112,10 @@ extension_of f m = record { extension_type = little_number 4 f; extension_value 
 unfoldable pub elements_of : {A : Type 0} → (List ℕ → List ℕ → A) → ℕ → List ℕ → ℕ → ℕ → List A
 elements_of read width m k zero = []
 elements_of read width m k (suc n) = read (drop k m) m ∷ elements_of read width m (k + width) n
+
+-- the first n elements from o on are there, as they are computed
+abbrev pub AreThere : {A : Type 0} → (List ℕ → List ℕ → A → Type 0) → (List ℕ → List ℕ → A) → ℕ → List ℕ → ℕ → ℕ → Type 0
+AreThere part read width m o n = (k : ℕ) → k < n → part (drop (o + width * k) m) m (read (drop (o + width * k) m) m)
 
 -- A message that is decoded and its view are of one reading: equal fields, or errors of one kind. Decoding alone may run out of
 -- memory.

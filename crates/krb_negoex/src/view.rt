@@ -3,7 +3,7 @@
 ghost use Rattle.std.specs.Prelude.{◌≡◌, ◌==◌, ℕ, ◌+◌, ◌*◌, ◌<◌, ◌≤◌, ◌^◌, List, length, drop, slice_get, IfOk, IfErr};
 ghost use Rattle.krb_negoex.specs.GuidLayout.{guid};
 ghost use Rattle.krb_negoex.specs.Layouts.{vector};
-ghost use Rattle.krb_negoex.specs.View.{ChecksumSeen, ExchangeSeen, ExtensionSeen, NegoSeen, VerifySeen, IsNotMemory, elements_of, scheme_of, extension_of};
+ghost use Rattle.krb_negoex.specs.View.{ChecksumSeen, ExchangeSeen, ExtensionSeen, NegoSeen, VerifySeen, AreThere, IsNotMemory, elements_of, scheme_of, extension_of};
 ghost use Rattle.krb_negoex.specs.View.{checksum_view_layout, exchange_view_layout, extension_view_layout, nego_view_layout, verify_view_layout};
 ghost use Rattle.krb_negoex.specs.Wire.{byte_vector};
 
@@ -102,8 +102,7 @@ impl<'a> Model for ExtensionsView<'a> {
 
     ghost view = { λ v. elements_of extension_of 12 v.message.now v.offset v.count };
 
-    ghost invariant = { λ v. (v.count < 2 ^ 32) × (v.offset < 2 ^ 32) × ((k : ℕ) → k < v.count
-        → extension_view_layout.part (drop (v.offset + 12 * k) v.message.now) v.message.now (extension_of (drop (v.offset + 12 * k) v.message.now) v.message.now)) };
+    ghost invariant = { λ v. (v.count < 2 ^ 32) × (v.offset < 2 ^ 32) × AreThere extension_view_layout.part extension_of 12 v.message.now v.offset v.count };
 }
 
 impl<'a> ExtensionsView<'a> {
@@ -174,8 +173,7 @@ impl<'a> Model for AuthSchemesView<'a> {
 
     ghost view = { λ v. elements_of scheme_of 16 v.message.now v.offset v.count };
 
-    ghost invariant = { λ v. (v.count < 2 ^ 32) × (v.offset < 2 ^ 32) × ((k : ℕ) → k < v.count
-        → guid.part (drop (v.offset + 16 * k) v.message.now) v.message.now (scheme_of (drop (v.offset + 16 * k) v.message.now) v.message.now)) };
+    ghost invariant = { λ v. (v.count < 2 ^ 32) × (v.offset < 2 ^ 32) × AreThere guid.part scheme_of 16 v.message.now v.offset v.count };
 }
 
 impl<'a> AuthSchemesView<'a> {

@@ -1,6 +1,6 @@
 use Rattle.krb_negoex.specs.View.{extension_view_layout}
 use Rattle.krb_negoex.specs.View.{extension_of}
-use Rattle.krb_negoex.proofs.Viewed.{AreThere}
+use Rattle.krb_negoex.specs.View.{AreThere}
 use Rattle.krb_negoex.proofs.view.extensions_view.Given as goal
 
 abbrev pub invariant-elements : goal.invariant-elements

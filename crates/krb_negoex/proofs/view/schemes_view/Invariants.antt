@@ -1,6 +1,6 @@
 use Rattle.krb_negoex.specs.GuidLayout.{guid}
 use Rattle.krb_negoex.specs.View.{scheme_of}
-use Rattle.krb_negoex.proofs.Viewed.{AreThere}
+use Rattle.krb_negoex.specs.View.{AreThere}
 use Rattle.krb_negoex.proofs.view.schemes_view.Given as goal
 
 abbrev pub invariant-elements : goal.invariant-elements
