@@ -7,6 +7,7 @@ ghost use Rattle.std.specs.declared.io.ErrorKind.TheVariants.{InvalidInput};
 ghost use Rattle.krb_negoex.specs.Layouts.{seen};
 ghost use Rattle.krb_negoex.specs.Wire.{scheme_layout, checksum_layout};
 
+use crate::fixed::Fixed;
 use crate::numbers::{invalid_input, put_u32, u32_prefix};
 use crate::parts::{Both, Lay, Part, Placed};
 use crate::traits::NegoexDataType;
@@ -18,7 +19,7 @@ pub const CHECKSUM_SCHEME_RFC3961: u32 = 1;
 
 /// The number of a scheme of checksums, of which one is read.
 #[derive(Clone, Copy)]
-struct Scheme(u32);
+pub(crate) struct Scheme(pub(crate) u32);
 
 impl Lay for Scheme {
     ghost layout = { seen (λ v. v.0) scheme_layout };
@@ -39,8 +40,14 @@ impl Part for Scheme {
     fn read_part<'a>(
         _alloc: Global,
         octets: &'a [u8],
-        _message: &[u8],
+        message: &[u8],
     ) -> io::Result<(Scheme, &'a [u8])> {
+        Scheme::fixed_prefix(octets, message)
+    }
+}
+
+impl Fixed for Scheme {
+    fn fixed_prefix<'a>(octets: &'a [u8], _message: &[u8]) -> io::Result<(Scheme, &'a [u8])> {
         let (scheme, trailing) = u32_prefix(octets)?;
         if scheme != CHECKSUM_SCHEME_RFC3961 {
             return Err(invalid_input());

@@ -5,6 +5,7 @@ ghost use Rattle.uuid.specs.Parts.{swap_fields};
 ghost use Rattle.krb_negoex.specs.Rejected.{IsCut};
 ghost use Rattle.krb_negoex.specs.GuidLayout.{guid};
 
+use crate::fixed::Fixed;
 use crate::numbers::cut_short;
 use crate::parts::{Lay, Part, Placed};
 use crate::traits::NegoexDataType;
@@ -42,8 +43,14 @@ impl Part for Uuid {
     fn read_part<'a>(
         _alloc: Global,
         octets: &'a [u8],
-        _message: &[u8],
+        message: &[u8],
     ) -> io::Result<(Uuid, &'a [u8])> {
+        Uuid::fixed_prefix(octets, message)
+    }
+}
+
+impl Fixed for Uuid {
+    fn fixed_prefix<'a>(octets: &'a [u8], _message: &[u8]) -> io::Result<(Uuid, &'a [u8])> {
         if octets.len() < 16 {
             return Err(cut_short());
         }

@@ -8,6 +8,7 @@ ghost use Rattle.krb_negoex.specs.Kinds.{IsCode};
 ghost use Rattle.krb_negoex.specs.Types.{type_code};
 ghost use Rattle.krb_negoex.specs.Wire.{type_layout, signature_layout, header_layout};
 
+use crate::fixed::Fixed;
 use crate::numbers::{invalid_data, put_u32, put_u64, u32_prefix, u64_prefix};
 use crate::parts::{Both, Lay, Part, Placed};
 use crate::traits::NegoexDataType;
@@ -95,8 +96,14 @@ impl Part for MessageType {
     fn read_part<'a>(
         _alloc: Global,
         octets: &'a [u8],
-        _message: &[u8],
+        message: &[u8],
     ) -> io::Result<(MessageType, &'a [u8])> {
+        MessageType::fixed_prefix(octets, message)
+    }
+}
+
+impl Fixed for MessageType {
+    fn fixed_prefix<'a>(octets: &'a [u8], _message: &[u8]) -> io::Result<(MessageType, &'a [u8])> {
         let (number, trailing) = u32_prefix(octets)?;
         Ok((MessageType::try_from(number)?, trailing))
     }
@@ -144,12 +151,8 @@ impl Lay for Signature {
     }
 }
 
-impl Part for Signature {
-    fn read_part<'a>(
-        _alloc: Global,
-        octets: &'a [u8],
-        _message: &[u8],
-    ) -> io::Result<(Signature, &'a [u8])> {
+impl Fixed for Signature {
+    fn fixed_prefix<'a>(octets: &'a [u8], _message: &[u8]) -> io::Result<(Signature, &'a [u8])> {
         let (signature, trailing) = u64_prefix(octets)?;
         if signature != NEGOEXTS_MESSAGE_SIGNATURE {
             return Err(invalid_data());
@@ -205,11 +208,17 @@ impl Lay for MessageHeader {
 
 impl Part for MessageHeader {
     fn read_part<'a>(
-        alloc: Global,
+        _alloc: Global,
         octets: &'a [u8],
         message: &[u8],
     ) -> io::Result<(MessageHeader, &'a [u8])> {
-        let (fields, trailing) = match HeaderFields::read_part(alloc, octets, message) {
+        MessageHeader::fixed_prefix(octets, message)
+    }
+}
+
+impl Fixed for MessageHeader {
+    fn fixed_prefix<'a>(octets: &'a [u8], message: &[u8]) -> io::Result<(MessageHeader, &'a [u8])> {
+        let (fields, trailing) = match HeaderFields::fixed_prefix(octets, message) {
             Ok(read) => read,
             Err(error) => return Err(error),
         };

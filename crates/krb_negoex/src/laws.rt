@@ -1,6 +1,6 @@
 //! Lemmas: functions with no body, whose contracts state what holds of the definitions.
 
-ghost use Rattle.std.specs.Prelude.{◌≡◌, ◌↔◌, ℕ, ◌+◌, List, [], Vec, length, Result};
+ghost use Rattle.std.specs.Prelude.{◌≡◌, ◌↔◌, ℕ, ◌+◌, List, [], Vec, length, IfOk, IfErr, Result};
 ghost use Rattle.std.specs.Borrow.{Bor};
 ghost use Rattle.std.specs.declared.alloc.Global.{Global};
 ghost use Rattle.std.specs.declared.io.Error.{Error};
@@ -12,6 +12,8 @@ ghost use Rattle.krb_negoex.specs.Layouts.{seen, vector};
 ghost use Rattle.krb_negoex.specs.Rejected.{OneError, IsMemory, IsUnfit};
 ghost use Rattle.krb_negoex.specs.SameLayout.{SameLayout};
 ghost use Rattle.krb_negoex.specs.Types.{type_code, IsTypeOf};
+ghost use Rattle.krb_negoex.specs.View.{AreAlike, IsNotMemory, NegoSeen, ExchangeSeen, VerifySeen, nego_seen, exchange_seen, verify_seen};
+ghost use Rattle.krb_negoex.specs.View.{nego_view_layout, exchange_view_layout, verify_view_layout};
 ghost use Rattle.krb_negoex.specs.Wire.{nego_layout, exchange_layout, verify_layout, schemes_layout, extensions_layout, one_octet, type_layout, header_layout, extension_layout, checksum_layout};
 ghost use Rattle.krb_negoex.specs.Whole.{four_zeros, written, HasOneReading};
 ghost use Rattle.krb_negoex.specs.declared.nego.Nego.{Nego};
@@ -49,6 +51,20 @@ pub fn rejections_are_of_one_kind()
     ensures nego { (m : List ℕ) (e g : Error) → nego_layout.rejects m m e → nego_layout.rejects m m g → OneError e g }
     ensures exchange { (m : List ℕ) (e g : Error) → exchange_layout.rejects m m e → exchange_layout.rejects m m g → OneError e g }
     ensures verify { (m : List ℕ) (e g : Error) → verify_layout.rejects m m e → verify_layout.rejects m m g → OneError e g }
+{}
+
+/// A message and its view, `Nego::decode` and `NegoView::new` and so on, are of one reading: where one is read so is the other, of
+/// equal fields, and where there is no message both return one error, allocation failures of `decode` aside.
+pub fn views()
+    ensures nego { (m : List ℕ) (read : Result Nego Error) (view : Result NegoSeen Error) → IfOk read (nego_layout.part m m)
+        → IfErr read (nego_layout.rejects m m) → IfOk view (nego_view_layout.part m m) → IfErr view (nego_view_layout.rejects m m)
+        → IfErr view IsNotMemory → AreAlike nego_seen read view }
+    ensures exchange { (m : List ℕ) (read : Result Exchange Error) (view : Result ExchangeSeen Error) → IfOk read (exchange_layout.part m m)
+        → IfErr read (exchange_layout.rejects m m) → IfOk view (exchange_view_layout.part m m) → IfErr view (exchange_view_layout.rejects m m)
+        → IfErr view IsNotMemory → AreAlike exchange_seen read view }
+    ensures verify { (m : List ℕ) (read : Result Verify Error) (view : Result VerifySeen Error) → IfOk read (verify_layout.part m m)
+        → IfErr read (verify_layout.rejects m m) → IfOk view (verify_view_layout.part m m) → IfErr view (verify_view_layout.rejects m m)
+        → IfErr view IsNotMemory → AreAlike verify_seen read view }
 {}
 
 /// What `decode` and `encode` of a message speak of: its own layout (MS-NEGOEX 2.2.6.3 to 2.2.6.5), a payload at its header's

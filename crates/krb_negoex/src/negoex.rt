@@ -5,6 +5,7 @@
 
 pub mod data_types;
 pub mod messages;
+pub mod views;
 
 pub use crate::checksum::CHECKSUM_SCHEME_RFC3961;
 pub use crate::header::NEGOEXTS_MESSAGE_SIGNATURE;

@@ -6,6 +6,7 @@ ghost use Rattle.krb_negoex.specs.Rejected.{IsCut};
 ghost use Rattle.krb_negoex.specs.Wire.{one_octet, four_octets, eight_octets, random_layout};
 ghost use Rattle.byteorder.specs.Endian.{little_number, little_bytes};
 
+use crate::fixed::Fixed;
 use crate::parts::{Lay, Part};
 use byteorder::{ByteOrder, LittleEndian};
 use std::alloc::{AllocError, Global};
@@ -200,8 +201,14 @@ impl Part for [u8; 32] {
     fn read_part<'a>(
         _alloc: Global,
         octets: &'a [u8],
-        _message: &[u8],
+        message: &[u8],
     ) -> io::Result<([u8; 32], &'a [u8])> {
+        <[u8; 32]>::fixed_prefix(octets, message)
+    }
+}
+
+impl Fixed for [u8; 32] {
+    fn fixed_prefix<'a>(octets: &'a [u8], _message: &[u8]) -> io::Result<([u8; 32], &'a [u8])> {
         if octets.len() < 32 {
             return Err(cut_short());
         }

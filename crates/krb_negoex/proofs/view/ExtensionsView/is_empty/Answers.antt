@@ -1,0 +1,7 @@
+use Rattle.std.proofs.Common.{ℕ, sym, ap, ◌∙◌, length, nat_eq}
+use Rattle.krb_negoex.specs.View.{extension_of}
+use Rattle.krb_negoex.proofs.Viewed.{length_elements}
+use Rattle.krb_negoex.proofs.view.ExtensionsView.is_empty.Goals as goal
+
+pub returns : goal.returns
+returns c = ap (λ (n : ℕ). nat_eq n 0) (sym (length_elements extension_of 12 c.self.inside.message.now c.self.inside.offset c.self.inside.count) ∙ ap length c.self.view_is)
