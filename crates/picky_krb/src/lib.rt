@@ -10,6 +10,7 @@ pub mod data_types;
 pub mod der;
 pub mod gss_api;
 pub mod messages;
+pub mod names;
 pub mod pac;
 pub mod seal;
 pub mod view;

@@ -1,15 +1,87 @@
 //! Messages of NEGOEX (MS-NEGOEX, 2.2.6).
 
 use crate::row::{Attempt, Rejection, Row};
-use crate::trials::{Format, made, tried};
+use crate::trials::{Format, made, of_both, tried};
 use krb_negoex::negoex::NegoexMessage;
+use krb_negoex::negoex::data_types::{AuthScheme, Checksum, Extension};
 use krb_negoex::negoex::messages::{Exchange, Nego, Verify};
+use krb_negoex::negoex::views::{ExchangeView, NegoView, VerifyView};
 use std::alloc::Global;
 use std::io::Write;
 
+/// The schemes of a view.
+fn viewed_schemes(alloc: Global, view: &NegoView<'_>) -> Result<Vec<AuthScheme>, Rejection> {
+    let mut schemes = Vec::new(alloc);
+    for n in 0..view.auth_schemes().len() {
+        let Some(scheme) = view.auth_schemes().get(n) else {
+            return Err(Rejection::Unlike);
+        };
+        schemes.push(scheme)?;
+    }
+    Ok(schemes)
+}
+
+/// The extensions of a view.
+fn viewed_extensions(alloc: Global, view: &NegoView<'_>) -> Result<Vec<Extension>, Rejection> {
+    let mut extensions = Vec::new(alloc);
+    for n in 0..view.extensions().len() {
+        let Some(extension) = view.extensions().get(n) else {
+            return Err(Rejection::Unlike);
+        };
+        extensions.push(Extension {
+            extension_type: extension.extension_type(),
+            extension_value: Vec::from_slice(alloc, extension.extension_value())?,
+        })?;
+    }
+    Ok(extensions)
+}
+
+/// The message of a view's fields.
+fn viewed_nego(alloc: Global, octets: &[u8]) -> Result<Nego, Rejection> {
+    let view = NegoView::new(octets)?;
+    Ok(Nego {
+        header: view.header(),
+        random: *view.random(),
+        protocol_version: view.protocol_version(),
+        auth_schemes: viewed_schemes(alloc, &view)?,
+        extensions: viewed_extensions(alloc, &view)?,
+    })
+}
+
+/// The message of a view's fields.
+fn viewed_exchange(alloc: Global, octets: &[u8]) -> Result<Exchange, Rejection> {
+    let view = ExchangeView::new(octets)?;
+    Ok(Exchange {
+        header: view.header(),
+        auth_scheme: view.auth_scheme(),
+        exchange: Vec::from_slice(alloc, view.exchange())?,
+    })
+}
+
+/// The message of a view's fields.
+fn viewed_verify(alloc: Global, octets: &[u8]) -> Result<Verify, Rejection> {
+    let view = VerifyView::new(octets)?;
+    let checksum = view.checksum();
+    Ok(Verify {
+        header: view.header(),
+        auth_scheme: view.auth_scheme(),
+        checksum: Checksum {
+            header_len: checksum.header_len(),
+            checksum_scheme: checksum.checksum_scheme(),
+            checksum_type: checksum.checksum_type(),
+            checksum_value: Vec::from_slice(alloc, checksum.checksum_value())?,
+        },
+    })
+}
+
 impl Format for Nego {
     fn read_from(alloc: Global, octets: &[u8]) -> Result<Nego, Rejection> {
-        Ok(Nego::decode(alloc, octets)?)
+        let read = Nego::decode(alloc, octets);
+        of_both(
+            alloc,
+            read.map_err(Rejection::from),
+            viewed_nego(alloc, octets),
+        )
     }
 
     fn again(&self, alloc: Global) -> Result<Nego, Rejection> {
@@ -27,7 +99,12 @@ impl Format for Nego {
 
 impl Format for Exchange {
     fn read_from(alloc: Global, octets: &[u8]) -> Result<Exchange, Rejection> {
-        Ok(Exchange::decode(alloc, octets)?)
+        let read = Exchange::decode(alloc, octets);
+        of_both(
+            alloc,
+            read.map_err(Rejection::from),
+            viewed_exchange(alloc, octets),
+        )
     }
 
     fn again(&self, alloc: Global) -> Result<Exchange, Rejection> {
@@ -45,7 +122,12 @@ impl Format for Exchange {
 
 impl Format for Verify {
     fn read_from(alloc: Global, octets: &[u8]) -> Result<Verify, Rejection> {
-        Ok(Verify::decode(alloc, octets)?)
+        let read = Verify::decode(alloc, octets);
+        of_both(
+            alloc,
+            read.map_err(Rejection::from),
+            viewed_verify(alloc, octets),
+        )
     }
 
     fn again(&self, alloc: Global) -> Result<Verify, Rejection> {
