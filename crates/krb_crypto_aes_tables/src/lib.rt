@@ -3,13 +3,14 @@
 //! the processor's cache can watch; the suites do not use it.
 #![tactic(auto)]
 
+mod agreement;
 mod encrypting_tables;
 mod key;
 mod key_expansion;
-pub mod laws;
 mod opening_tables;
 mod rounds;
 mod tables;
 pub mod word_tables;
 
+pub use agreement::agree;
 pub use key::AesTableKey;

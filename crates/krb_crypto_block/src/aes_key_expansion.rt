@@ -25,7 +25,7 @@ pub trait SubstitutesColumns {
         ensures { result ≡ word_of (s_box a ∷ s_box b ∷ s_box c ∷ s_box d ∷ []) };
 }
 
-/// The words of the round keys of a key of `NK` words, and zeros after them.
+/// The words of the round keys of a key of `NK` words, `4 * NK + 28` of them. No contract speaks of the words after them.
 pub fn expand<const NK: usize, S: SubstitutesColumns>(key: &[u8]) -> [u32; ROUND_KEY_WORDS]
     requires size { IsKeySize NK }
     requires whole { length key.now ≡ 4 * NK }
@@ -59,7 +59,7 @@ fn key_term<const NK: usize, S: SubstitutesColumns>(i: usize, before: u32) -> u3
     }
 }
 
-/// The octets of a key, and zeros after them.
+/// The octets of a key first. No contract speaks of the octets after them, but that they are octets.
 pub fn kept_octets(key: &[u8]) -> [u8; 32]
     requires { length key.now ≤ 32 }
     ensures prefix { take (length key.now) result ≡ key.now }

@@ -1,7 +1,7 @@
 //! Blocks, and their modes.
 
 use crate::row::{Answer, Row, aes_block, answer_of, des_block, size_of};
-use krb_crypto_aes_tables::laws::agree;
+use krb_crypto_aes_tables::agree;
 use picky_krb::crypto::KerberosCryptoResult;
 use picky_krb::crypto::aes::{
     AesKey, AesSize, AesTableKey, decrypt_aes_cbc, decrypt_aes_cts, encrypt_aes_cbc,

@@ -1,4 +1,4 @@
-//! The law that ties the word tables to the vector permutes.
+//! What ties the word tables to the vector permutes.
 
 ghost use Rattle.std.specs.Prelude.{◌≡◌, true};
 
