@@ -8,10 +8,8 @@ ghost use Rattle.krb_view.specs.Times.{clock_number, unix_seconds};
 /// Seconds order times as the calendar and the clock do: as the number YYYYMMDDHHMMSS orders them.
 #[tactic(auto, using(crate::proofs::Seconds::ordered))]
 pub fn times_are_ordered()
-    ensures {
-        (first second : Time) → IsRealTime first → IsRealTime second
-        → (clock_number first < clock_number second) ↔ (unix_seconds first <ℤ unix_seconds second)
-    }
+    ensures { (first second : Time) → IsRealTime first → IsRealTime second
+        → (clock_number first < clock_number second) ↔ (unix_seconds first <ℤ unix_seconds second) }
 {}
 
 /// A text is of one principal at most, so what `principal_of_text` returns is the only one.

@@ -1,0 +1,4 @@
+pub mod Growing
+pub mod Lines
+pub mod Printable
+pub mod PrintableJson

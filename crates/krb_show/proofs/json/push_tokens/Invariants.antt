@@ -1,0 +1,9 @@
+use Rattle.std.proofs.Common.{◌≡◌, ◌++◌, take, true}
+use Rattle.krb_show.specs.Json.{json_tokens, first_behind}
+use Rattle.krb_show.specs.Text.{ArePrintable}
+use Rattle.krb_show.proofs.json.push_tokens.Given as goal
+
+abbrev pub invariant-loop-token : goal.invariant-loop-token
+invariant-loop-token l =
+    (l.out.items ≡ l.fn.out.items ++ json_tokens true (take l.token-index l.page)) × ArePrintable (json_tokens true (take l.token-index l.page))
+    × (l.first ≡ first_behind true (take l.token-index l.page))

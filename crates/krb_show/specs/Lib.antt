@@ -1,0 +1,5 @@
+pub mod Tokens
+pub mod Pages
+pub mod Leaves
+pub mod Text
+pub mod Json

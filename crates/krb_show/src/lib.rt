@@ -1,0 +1,24 @@
+//! Values as tokens, and tokens as text and as JSON.
+//!
+//! A type that is `Show` says by the ghost member `shows` which tokens its values have, and appends them to a page. `text_of_page`
+//! writes a page as indented lines and `json_of_page` as JSON, in printable ASCII alone, whatever the tokens hold.
+#![tactic(auto)]
+
+mod digits;
+mod escape;
+mod fields;
+mod json;
+mod leaves;
+mod notes;
+mod show;
+mod text;
+mod token;
+mod wrappers;
+
+pub use fields::{Field, ShowFields, show_struct};
+pub use json::json_of_page;
+pub use leaves::{show_number, show_octets, show_text};
+pub use show::Show;
+pub use text::text_of_page;
+pub use token::{Form, Label, Page, Token};
+pub use wrappers::show_list;

@@ -1,0 +1,191 @@
+//! Tokens.
+
+ghost use Rattle.std.specs.Prelude.{◌≡◌, ℕ, Bool, true, false, Option, None, Some, List, [], ◌∷◌, ◌++◌, take, length, OnOk, OnErr};
+ghost use Rattle.krb_show.specs.Tokens.{Label, Token, item_of, mark, Begins, adds};
+
+use krb_names::Kind;
+use std::alloc::{AllocError, Global};
+use std::marker::Model;
+
+/// What a token is.
+#[derive(Clone, Copy, PartialEq, Eq, Debug)]
+pub enum Form {
+    /// A struct begins: its fields follow, up to its `StructEnd`.
+    Struct,
+    /// The struct ends that began last.
+    StructEnd,
+    /// A list begins: its items follow, up to its `ListEnd`. The octets are their number, in decimal.
+    List,
+    /// The list ends that began last.
+    ListEnd,
+    /// A number or a truth value: the octets are its digits, or `true` or `false`. The note is the number's name, if it has one.
+    Number,
+    /// Flags: the octets are `0x` and digits. The note has the names of the flags that are set.
+    Flags,
+    /// A word that has no blanks, as a time.
+    Word,
+    /// An object identifier: the octets are its dotted numbers. The note is its name, if it has one.
+    Identifier,
+    /// A text of the input: any octets.
+    Text,
+    /// Octets of the input.
+    Octets,
+}
+
+/// What a value is called, and what a number in it is of.
+#[derive(Debug, Drop)]
+pub struct Label {
+    text: &'static str,
+    kind: Option<Kind>,
+    is_item: bool,
+}
+
+impl Model for Label {
+    ghost Value = { Label };
+
+    ghost view = { λ l. record { text = l.text.now; kind = l.kind; is_item = l.is_item } };
+}
+
+impl Label {
+    /// The label of a field with this name, whose numbers have no names.
+    pub fn new(text: &'static str) -> Label
+        ensures { result ≡ record { text = text.now; kind = None; is_item = false } }
+    {
+        Label {
+            text,
+            kind: None,
+            is_item: false,
+        }
+    }
+
+    /// The label of a field with this name, whose numbers are of this kind.
+    pub fn of_kind(text: &'static str, kind: Kind) -> Label
+        ensures { result ≡ record { text = text.now; kind = Some kind; is_item = false } }
+    {
+        Label {
+            text,
+            kind: Some(kind),
+            is_item: false,
+        }
+    }
+
+    /// The label of an item of a list with this label.
+    pub fn item(&self) -> Label
+        ensures { result ≡ item_of self.now }
+    {
+        Label {
+            text: self.text,
+            kind: self.kind,
+            is_item: true,
+        }
+    }
+
+    /// The name.
+    pub fn text(&self) -> &'static str
+        ensures { result.now ≡ self.now.text }
+    {
+        self.text
+    }
+
+    /// What its numbers are of, where they have names.
+    pub fn kind(&self) -> Option<Kind>
+        ensures { result ≡ self.now.kind }
+    {
+        self.kind
+    }
+
+    /// Whether it is an item of a list.
+    pub fn is_item(&self) -> bool
+        ensures { result ≡ self.now.is_item }
+    {
+        self.is_item
+    }
+}
+
+/// A leaf of a value, or where a struct or a list begins or ends.
+#[derive(Debug, Drop)]
+pub struct Token {
+    form: Form,
+    label: Label,
+    octets: Vec<u8>,
+    note: Vec<u8>,
+}
+
+impl Model for Token {
+    ghost Value = { Token };
+
+    ghost view = { λ t. record { form = t.form; label = t.label; octets = t.octets.items; note = t.note.items } };
+}
+
+impl Token {
+    /// What it is.
+    pub fn form(&self) -> Form
+        ensures { result ≡ self.now.form }
+    {
+        self.form
+    }
+
+    /// What it is called.
+    pub fn label(&self) -> &Label
+        ensures { result.now ≡ self.now.label }
+    {
+        &self.label
+    }
+
+    /// What it holds, which `Form` says.
+    pub fn octets(&self) -> &[u8]
+        ensures { result.now ≡ self.now.octets }
+    {
+        self.octets.as_slice()
+    }
+
+    /// What stands beside it: names, each behind a blank.
+    pub fn note(&self) -> &[u8]
+        ensures { result.now ≡ self.now.note }
+    {
+        self.note.as_slice()
+    }
+}
+
+/// Tokens in their order.
+pub type Page = Vec<Token>;
+
+/// Appends a token.
+pub fn push_token(
+    form: Form,
+    label: &Label,
+    octets: Vec<u8>,
+    note: Vec<u8>,
+    page: &mut Page,
+) -> Result<(), AllocError>
+    ensures ok { OnOk result (adds (record { form = form; label = label.now; octets = octets.items; note = note.items }) page.old.items page.new.items) }
+    ensures kept { OnOk result (Begins page.old.items page.new.items) }
+    ensures err { OnErr result (page.new.items ≡ page.old.items) }
+{
+    let label = Label {
+        text: label.text,
+        kind: label.kind,
+        is_item: label.is_item,
+    };
+    page.push(Token {
+        form,
+        label,
+        octets,
+        note,
+    })?;
+    Ok(())
+}
+
+/// Appends a token that holds nothing.
+pub fn push_mark(
+    alloc: Global,
+    form: Form,
+    label: &Label,
+    page: &mut Page,
+) -> Result<(), AllocError>
+    ensures ok { OnOk result (adds (mark form label.now) page.old.items page.new.items) }
+    ensures kept { OnOk result (Begins page.old.items page.new.items) }
+    ensures err { OnErr result (page.new.items ≡ page.old.items) }
+{
+    push_token(form, label, Vec::new(alloc), Vec::new(alloc), page)
+}
