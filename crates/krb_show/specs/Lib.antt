@@ -3,3 +3,5 @@ pub mod Pages
 pub mod Leaves
 pub mod Text
 pub mod Json
+pub mod Opened
+pub mod Told

@@ -24,7 +24,7 @@ pub trait ShowFields {
 /// A field and its label.
 #[derive(Drop)]
 pub struct Field<'a, K, T> {
-    pub label: Label,
+    pub label: Label<'a>,
     pub value: &'a T,
     pub shown: PhantomData<K>,
 }
@@ -98,14 +98,22 @@ fn show_to_end<F: ShowFields>(
 macro_rules! show_fields {
     (@one $value:expr; $shown:ty; $name:literal = $field:ident) => {
         $crate::Field {
-            label: $crate::Label::new($name),
+            label: $crate::Label {
+                text: $name,
+                kind: None,
+                is_item: false,
+            },
             value: &$value.$field,
             shown: std::marker::PhantomData::<$shown>,
         }
     };
     (@one $value:expr; $shown:ty; $name:literal $kind:ident = $field:ident) => {
         $crate::Field {
-            label: $crate::Label::of_kind($name, krb_names::Kind::$kind),
+            label: $crate::Label {
+                text: $name,
+                kind: Some(krb_names::Kind::$kind),
+                is_item: false,
+            },
             value: &$value.$field,
             shown: std::marker::PhantomData::<$shown>,
         }

@@ -9,7 +9,7 @@ ghost use Rattle.krb_show.specs.Text.{ArePrintable};
 
 use crate::digits::{are_octets, push_hex};
 use crate::escape::{Style, push_escaped, push_escaped_octet, push_quoted};
-use crate::token::{Form, Label, Token};
+use crate::token::{Form, Token};
 use std::alloc::{AllocError, Global};
 
 /// Appends an octet of names: a blank ends a name and begins the next.
@@ -60,7 +60,7 @@ fn push_name(out: &mut Vec<u8>, note: &[u8]) -> Result<(), AllocError>
 fn push_number(out: &mut Vec<u8>, token: &Token) -> Result<(), AllocError>
     ensures { OnOk result (out.new.items ≡ out.old.items ++ json_number token.now.label.kind token.now) }
 {
-    if token.label().kind().is_none() {
+    if token.kind().is_none() {
         return push_escaped(out, Style::Json, token.octets());
     }
     out.extend_from_slice(b"{\"number\":")?;
@@ -74,7 +74,7 @@ fn push_number(out: &mut Vec<u8>, token: &Token) -> Result<(), AllocError>
 fn push_flags(out: &mut Vec<u8>, token: &Token) -> Result<(), AllocError>
     ensures { OnOk result (out.new.items ≡ out.old.items ++ json_flags token.now.label.kind token.now) }
 {
-    if token.label().kind().is_none() {
+    if token.kind().is_none() {
         return push_quoted(out, Style::Json, token.octets());
     }
     out.extend_from_slice(b"{\"flags\":")?;
@@ -146,13 +146,13 @@ fn begins(form: Form) -> bool
 }
 
 /// Appends the key of a value, if it has one.
-fn push_key(out: &mut Vec<u8>, label: &Label) -> Result<(), AllocError>
-    ensures { OnOk result (out.new.items ≡ out.old.items ++ json_key label.now) }
+fn push_key(out: &mut Vec<u8>, token: &Token) -> Result<(), AllocError>
+    ensures { OnOk result (out.new.items ≡ out.old.items ++ json_key token.now.label) }
 {
-    if label.is_item() {
+    if token.is_item() {
         return Ok(());
     }
-    push_quoted(out, Style::Json, label.text().as_bytes())?;
+    push_quoted(out, Style::Json, token.text())?;
     out.push(b':')?;
     Ok(())
 }
@@ -167,7 +167,7 @@ fn push_before(out: &mut Vec<u8>, first: bool, token: &Token) -> Result<(), Allo
     if !first {
         out.push(b',')?;
     }
-    push_key(out, token.label())
+    push_key(out, token)
 }
 
 /// A lemma: what a token adds is printable.
@@ -175,7 +175,7 @@ fn push_before(out: &mut Vec<u8>, first: bool, token: &Token) -> Result<(), Allo
 fn is_printable_in_json(token: &Token)
     ensures { (first : Bool) → ArePrintable (json_token first token.now) }
 {
-    are_octets(token.label().text().as_bytes());
+    are_octets(token.text());
     are_octets(token.octets());
     are_octets(token.note());
 }

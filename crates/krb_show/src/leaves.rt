@@ -29,7 +29,7 @@ fn push_leaf(
 {
     let mut copy = Vec::with_capacity(alloc, octets.len())?;
     copy.extend_from_slice(octets)?;
-    push_token(form, label, copy, Vec::new(alloc), page)
+    push_token(alloc, form, label, copy, Vec::new(alloc), page)
 }
 
 /// Appends a text of the input.
@@ -71,9 +71,9 @@ pub fn show_number(
     ensures kept { OnOk result (Begins page.old.items page.new.items) }
     ensures err { OnErr result (page.new.items ≡ page.old.items) }
 {
-    let note = note_of_number(alloc, label.kind(), number)?;
+    let note = note_of_number(alloc, label.kind, number)?;
     let digits = format!(in alloc; "{number}")?;
-    push_token(Form::Number, label, digits.into_bytes(), note, page)
+    push_token(alloc, Form::Number, label, digits.into_bytes(), note, page)
 }
 
 impl<K> Show<K> for IntegerAsn1 {
@@ -152,9 +152,9 @@ impl<K> Show<K> for BitStringAsn1 {
     ghost shows = { flags_of };
 
     fn show(&self, alloc: Global, label: &Label, page: &mut Page) -> Result<(), AllocError> {
-        let note = note_of_flags(alloc, label.kind(), self)?;
+        let note = note_of_flags(alloc, label.kind, self)?;
         let word = flags_word(alloc, self)?;
-        push_token(Form::Flags, label, word, note, page)
+        push_token(alloc, Form::Flags, label, word, note, page)
     }
 }
 
@@ -189,6 +189,6 @@ impl<K> Show<K> for GeneralizedTimeAsn1 {
 
     fn show(&self, alloc: Global, label: &Label, page: &mut Page) -> Result<(), AllocError> {
         let word = time_word(alloc, self)?;
-        push_token(Form::Word, label, word, Vec::new(alloc), page)
+        push_token(alloc, Form::Word, label, word, Vec::new(alloc), page)
     }
 }

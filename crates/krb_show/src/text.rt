@@ -96,7 +96,7 @@ fn push_line(
 {
     has_printable_line(token);
     push_indent(out, depth)?;
-    push_escaped(out, Style::Name, token.label().text().as_bytes())?;
+    push_escaped(out, Style::Name, token.text())?;
     push_value(out, alloc, token)?;
     out.push(b'\n')?;
     Ok(())
@@ -107,7 +107,7 @@ fn push_line(
 fn has_printable_line(token: &Token)
     ensures { (depth : ℕ) → ArePrintable (line depth token.now) }
 {
-    are_octets(token.label().text().as_bytes());
+    are_octets(token.text());
     are_octets(token.octets());
     are_octets(token.note());
 }

@@ -34,21 +34,24 @@ pub enum Form {
 
 /// What a value is called, and what a number in it is of.
 #[derive(Debug, Drop)]
-pub struct Label {
-    text: &'static str,
-    kind: Option<Kind>,
-    is_item: bool,
+pub struct Label<'l> {
+    /// The name.
+    pub text: &'l str,
+    /// What its numbers are of, where they have names.
+    pub kind: Option<Kind>,
+    /// Whether it is an item of a list.
+    pub is_item: bool,
 }
 
-impl Model for Label {
+impl<'l> Model for Label<'l> {
     ghost Value = { Label };
 
     ghost view = { λ l. record { text = l.text.now; kind = l.kind; is_item = l.is_item } };
 }
 
-impl Label {
+impl<'l> Label<'l> {
     /// The label of a field with this name, whose numbers have no names.
-    pub fn new(text: &'static str) -> Label
+    pub fn new(text: &'l str) -> Label<'l>
         ensures { result ≡ record { text = text.now; kind = None; is_item = false } }
     {
         Label {
@@ -59,7 +62,7 @@ impl Label {
     }
 
     /// The label of a field with this name, whose numbers are of this kind.
-    pub fn of_kind(text: &'static str, kind: Kind) -> Label
+    pub fn of_kind(text: &'l str, kind: Kind) -> Label<'l>
         ensures { result ≡ record { text = text.now; kind = Some kind; is_item = false } }
     {
         Label {
@@ -70,7 +73,7 @@ impl Label {
     }
 
     /// The label of an item of a list with this label.
-    pub fn item(&self) -> Label
+    pub fn item(&self) -> Label<'l>
         ensures { result ≡ item_of self.now }
     {
         Label {
@@ -79,34 +82,15 @@ impl Label {
             is_item: true,
         }
     }
-
-    /// The name.
-    pub fn text(&self) -> &'static str
-        ensures { result.now ≡ self.now.text }
-    {
-        self.text
-    }
-
-    /// What its numbers are of, where they have names.
-    pub fn kind(&self) -> Option<Kind>
-        ensures { result ≡ self.now.kind }
-    {
-        self.kind
-    }
-
-    /// Whether it is an item of a list.
-    pub fn is_item(&self) -> bool
-        ensures { result ≡ self.now.is_item }
-    {
-        self.is_item
-    }
 }
 
 /// A leaf of a value, or where a struct or a list begins or ends.
 #[derive(Debug, Drop)]
 pub struct Token {
     form: Form,
-    label: Label,
+    text: Vec<u8>,
+    kind: Option<Kind>,
+    is_item: bool,
     octets: Vec<u8>,
     note: Vec<u8>,
 }
@@ -114,7 +98,7 @@ pub struct Token {
 impl Model for Token {
     ghost Value = { Token };
 
-    ghost view = { λ t. record { form = t.form; label = t.label; octets = t.octets.items; note = t.note.items } };
+    ghost view = { λ t. record { form = t.form; label = record { text = t.text.items; kind = t.kind; is_item = t.is_item }; octets = t.octets.items; note = t.note.items } };
 }
 
 impl Token {
@@ -126,10 +110,24 @@ impl Token {
     }
 
     /// What it is called.
-    pub fn label(&self) -> &Label
-        ensures { result.now ≡ self.now.label }
+    pub fn text(&self) -> &[u8]
+        ensures { result.now ≡ self.now.label.text }
     {
-        &self.label
+        self.text.as_slice()
+    }
+
+    /// What its numbers are of, where they have names.
+    pub fn kind(&self) -> Option<Kind>
+        ensures { result ≡ self.now.label.kind }
+    {
+        self.kind
+    }
+
+    /// Whether it is an item of a list.
+    pub fn is_item(&self) -> bool
+        ensures { result ≡ self.now.label.is_item }
+    {
+        self.is_item
     }
 
     /// What it holds, which `Form` says.
@@ -152,6 +150,7 @@ pub type Page = Vec<Token>;
 
 /// Appends a token.
 pub fn push_token(
+    alloc: Global,
     form: Form,
     label: &Label,
     octets: Vec<u8>,
@@ -162,14 +161,13 @@ pub fn push_token(
     ensures kept { OnOk result (Begins page.old.items page.new.items) }
     ensures err { OnErr result (page.new.items ≡ page.old.items) }
 {
-    let label = Label {
-        text: label.text,
-        kind: label.kind,
-        is_item: label.is_item,
-    };
+    let mut text = Vec::with_capacity(alloc, label.text.len())?;
+    text.extend_from_slice(label.text.as_bytes())?;
     page.push(Token {
         form,
-        label,
+        text,
+        kind: label.kind,
+        is_item: label.is_item,
         octets,
         note,
     })?;
@@ -187,5 +185,5 @@ pub fn push_mark(
     ensures kept { OnOk result (Begins page.old.items page.new.items) }
     ensures err { OnErr result (page.new.items ≡ page.old.items) }
 {
-    push_token(form, label, Vec::new(alloc), Vec::new(alloc), page)
+    push_token(alloc, form, label, Vec::new(alloc), Vec::new(alloc), page)
 }

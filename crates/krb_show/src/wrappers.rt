@@ -96,7 +96,14 @@ pub fn show_list<K, T: Show<K>>(
 {
     let start = page.len();
     let count = format!(in alloc; "{}", items.len())?;
-    push_token(Form::List, label, count.into_bytes(), Vec::new(alloc), page)?;
+    push_token(
+        alloc,
+        Form::List,
+        label,
+        count.into_bytes(),
+        Vec::new(alloc),
+        page,
+    )?;
     let shown = show_to_end(alloc, label, items, page);
     if shown.is_err() {
         page.truncate(start);

@@ -9,5 +9,7 @@ mod times;
 
 pub use fields::{Present, Tagged, items};
 pub use flags::is_set;
-pub use principals::{PrincipalError, TextPrincipal, principal_of_text, text_of_principal};
+pub use principals::{
+    PrincipalError, TextPrincipal, principal_of_text, text_of_components, text_of_principal,
+};
 pub use times::{time_of_unix_seconds, unix_seconds};

@@ -124,6 +124,16 @@ fn push_components(out: &mut String, components: &[GeneralStringAsn1]) -> Result
     Ok(())
 }
 
+/// The components of a principal as text (RFC 1964, 2.1.1), with `/` between them and no realm; escaped as `text_of_principal` has them.
+/// None and one empty component are the empty text. The only error is an allocation failure.
+pub fn text_of_components(alloc: Global, name: &PrincipalName) -> Result<String, AllocError>
+    ensures { IfOk result (λ s. string_bytes s ≡ components_text name.now.name_string) }
+{
+    let mut out = String::new(alloc);
+    push_components(&mut out, name.name_string.0.0.as_slice())?;
+    Ok(out)
+}
+
 /// A principal as text (RFC 1964, 2.1.1): its components with `/` between them, `@`, and its realm. A `/`, `@` or `\` within one of these is
 /// after a `\`, and a line feed, a tabulator, a backspace and a NUL are `\n`, `\t`, `\b` and `\0`. The only error is an allocation failure.
 pub fn text_of_principal(
