@@ -4,6 +4,7 @@
 mod application;
 mod errors;
 mod kdc;
+mod messages;
 mod names;
 mod others;
 mod padata;
