@@ -12,6 +12,7 @@ mod parts;
 mod pre_authentication;
 mod shared;
 
+pub use messages::{page_of_message, page_of_part};
 pub use padata::{AuthorizationDataValues, PaDataValues};
 
 /// The way in which this crate shows: octet strings that hold known encodings are opened.
