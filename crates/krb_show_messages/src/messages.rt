@@ -35,46 +35,26 @@ fn page_as<T: Der + Show<Message> + Drop>(
 pub fn page_of_message(alloc: Global, octets: &[u8]) -> Result<Page, Asn1DerError>
     ensures empty { octets.now ≡ [] → result ≡ Err TruncatedData }
     ensures other { 0 < length octets.now → is_message (slice_index octets.now 0) ≡ false → result ≡ Err InvalidData }
-    ensures ticket {
-        slice_index octets.now 0 ≡ 97
-        → IsToldBy ⟦<Ticket as DerEncode>⟧ ⟦<Ticket as Show<Message>>⟧ (plain (codes "Ticket")) (λ p. p.items) octets.now result
-    }
-    ensures as_req {
-        slice_index octets.now 0 ≡ 106
-        → IsToldBy ⟦<AsReq as DerEncode>⟧ ⟦<AsReq as Show<Message>>⟧ (plain (codes "AS-REQ")) (λ p. p.items) octets.now result
-    }
-    ensures as_rep {
-        slice_index octets.now 0 ≡ 107
-        → IsToldBy ⟦<AsRep as DerEncode>⟧ ⟦<AsRep as Show<Message>>⟧ (plain (codes "AS-REP")) (λ p. p.items) octets.now result
-    }
-    ensures tgs_req {
-        slice_index octets.now 0 ≡ 108
-        → IsToldBy ⟦<TgsReq as DerEncode>⟧ ⟦<TgsReq as Show<Message>>⟧ (plain (codes "TGS-REQ")) (λ p. p.items) octets.now result
-    }
-    ensures tgs_rep {
-        slice_index octets.now 0 ≡ 109
-        → IsToldBy ⟦<TgsRep as DerEncode>⟧ ⟦<TgsRep as Show<Message>>⟧ (plain (codes "TGS-REP")) (λ p. p.items) octets.now result
-    }
-    ensures ap_req {
-        slice_index octets.now 0 ≡ 110
-        → IsToldBy ⟦<ApReq as DerEncode>⟧ ⟦<ApReq as Show<Message>>⟧ (plain (codes "AP-REQ")) (λ p. p.items) octets.now result
-    }
-    ensures ap_rep {
-        slice_index octets.now 0 ≡ 111
-        → IsToldBy ⟦<ApRep as DerEncode>⟧ ⟦<ApRep as Show<Message>>⟧ (plain (codes "AP-REP")) (λ p. p.items) octets.now result
-    }
-    ensures krb_priv {
-        slice_index octets.now 0 ≡ 117
-        → IsToldBy ⟦<KrbPriv as DerEncode>⟧ ⟦<KrbPriv as Show<Message>>⟧ (plain (codes "KRB-PRIV")) (λ p. p.items) octets.now result
-    }
-    ensures krb_cred {
-        slice_index octets.now 0 ≡ 118
-        → IsToldBy ⟦<KrbCred as DerEncode>⟧ ⟦<KrbCred as Show<Message>>⟧ (plain (codes "KRB-CRED")) (λ p. p.items) octets.now result
-    }
-    ensures krb_error {
-        slice_index octets.now 0 ≡ 126
-        → IsToldBy ⟦<KrbError as DerEncode>⟧ ⟦<KrbError as Show<Message>>⟧ (plain (codes "KRB-ERROR")) (λ p. p.items) octets.now result
-    }
+    ensures ticket { slice_index octets.now 0 ≡ 97
+        → IsToldBy ⟦<Ticket as DerEncode>⟧ ⟦<Ticket as Show<Message>>⟧ (plain (codes "Ticket")) (λ p. p.items) octets.now result }
+    ensures as_req { slice_index octets.now 0 ≡ 106
+        → IsToldBy ⟦<AsReq as DerEncode>⟧ ⟦<AsReq as Show<Message>>⟧ (plain (codes "AS-REQ")) (λ p. p.items) octets.now result }
+    ensures as_rep { slice_index octets.now 0 ≡ 107
+        → IsToldBy ⟦<AsRep as DerEncode>⟧ ⟦<AsRep as Show<Message>>⟧ (plain (codes "AS-REP")) (λ p. p.items) octets.now result }
+    ensures tgs_req { slice_index octets.now 0 ≡ 108
+        → IsToldBy ⟦<TgsReq as DerEncode>⟧ ⟦<TgsReq as Show<Message>>⟧ (plain (codes "TGS-REQ")) (λ p. p.items) octets.now result }
+    ensures tgs_rep { slice_index octets.now 0 ≡ 109
+        → IsToldBy ⟦<TgsRep as DerEncode>⟧ ⟦<TgsRep as Show<Message>>⟧ (plain (codes "TGS-REP")) (λ p. p.items) octets.now result }
+    ensures ap_req { slice_index octets.now 0 ≡ 110
+        → IsToldBy ⟦<ApReq as DerEncode>⟧ ⟦<ApReq as Show<Message>>⟧ (plain (codes "AP-REQ")) (λ p. p.items) octets.now result }
+    ensures ap_rep { slice_index octets.now 0 ≡ 111
+        → IsToldBy ⟦<ApRep as DerEncode>⟧ ⟦<ApRep as Show<Message>>⟧ (plain (codes "AP-REP")) (λ p. p.items) octets.now result }
+    ensures krb_priv { slice_index octets.now 0 ≡ 117
+        → IsToldBy ⟦<KrbPriv as DerEncode>⟧ ⟦<KrbPriv as Show<Message>>⟧ (plain (codes "KRB-PRIV")) (λ p. p.items) octets.now result }
+    ensures krb_cred { slice_index octets.now 0 ≡ 118
+        → IsToldBy ⟦<KrbCred as DerEncode>⟧ ⟦<KrbCred as Show<Message>>⟧ (plain (codes "KRB-CRED")) (λ p. p.items) octets.now result }
+    ensures krb_error { slice_index octets.now 0 ≡ 126
+        → IsToldBy ⟦<KrbError as DerEncode>⟧ ⟦<KrbError as Show<Message>>⟧ (plain (codes "KRB-ERROR")) (λ p. p.items) octets.now result }
 {
     if octets.is_empty() {
         return Err(Asn1DerError::TruncatedData);
@@ -99,34 +79,20 @@ pub fn page_of_message(alloc: Global, octets: &[u8]) -> Result<Page, Asn1DerErro
 pub fn page_of_part(alloc: Global, octets: &[u8]) -> Result<Page, Asn1DerError>
     ensures empty { octets.now ≡ [] → result ≡ Err TruncatedData }
     ensures other { 0 < length octets.now → is_part (slice_index octets.now 0) ≡ false → result ≡ Err InvalidData }
-    ensures authenticator {
-        slice_index octets.now 0 ≡ 98
-        → IsToldBy ⟦<Authenticator as DerEncode>⟧ ⟦<Authenticator as Show<Message>>⟧ (plain (codes "Authenticator")) (λ p. p.items) octets.now result
-    }
-    ensures ticket_part {
-        slice_index octets.now 0 ≡ 99
-        → IsToldBy ⟦<EncTicketPart as DerEncode>⟧ ⟦<EncTicketPart as Show<Message>>⟧ (plain (codes "EncTicketPart")) (λ p. p.items) octets.now result
-    }
-    ensures as_rep_part {
-        slice_index octets.now 0 ≡ 121
-        → IsToldBy ⟦<EncAsRepPart as DerEncode>⟧ ⟦<EncAsRepPart as Show<Message>>⟧ (plain (codes "EncASRepPart")) (λ p. p.items) octets.now result
-    }
-    ensures tgs_rep_part {
-        slice_index octets.now 0 ≡ 122
-        → IsToldBy ⟦<EncTgsRepPart as DerEncode>⟧ ⟦<EncTgsRepPart as Show<Message>>⟧ (plain (codes "EncTGSRepPart")) (λ p. p.items) octets.now result
-    }
-    ensures ap_rep_part {
-        slice_index octets.now 0 ≡ 123
-        → IsToldBy ⟦<EncApRepPart as DerEncode>⟧ ⟦<EncApRepPart as Show<Message>>⟧ (plain (codes "EncAPRepPart")) (λ p. p.items) octets.now result
-    }
-    ensures priv_part {
-        slice_index octets.now 0 ≡ 124
-        → IsToldBy ⟦<EncKrbPrivPart as DerEncode>⟧ ⟦<EncKrbPrivPart as Show<Message>>⟧ (plain (codes "EncKrbPrivPart")) (λ p. p.items) octets.now result
-    }
-    ensures cred_part {
-        slice_index octets.now 0 ≡ 125
-        → IsToldBy ⟦<EncKrbCredPart as DerEncode>⟧ ⟦<EncKrbCredPart as Show<Message>>⟧ (plain (codes "EncKrbCredPart")) (λ p. p.items) octets.now result
-    }
+    ensures authenticator { slice_index octets.now 0 ≡ 98
+        → IsToldBy ⟦<Authenticator as DerEncode>⟧ ⟦<Authenticator as Show<Message>>⟧ (plain (codes "Authenticator")) (λ p. p.items) octets.now result }
+    ensures ticket_part { slice_index octets.now 0 ≡ 99
+        → IsToldBy ⟦<EncTicketPart as DerEncode>⟧ ⟦<EncTicketPart as Show<Message>>⟧ (plain (codes "EncTicketPart")) (λ p. p.items) octets.now result }
+    ensures as_rep_part { slice_index octets.now 0 ≡ 121
+        → IsToldBy ⟦<EncAsRepPart as DerEncode>⟧ ⟦<EncAsRepPart as Show<Message>>⟧ (plain (codes "EncASRepPart")) (λ p. p.items) octets.now result }
+    ensures tgs_rep_part { slice_index octets.now 0 ≡ 122
+        → IsToldBy ⟦<EncTgsRepPart as DerEncode>⟧ ⟦<EncTgsRepPart as Show<Message>>⟧ (plain (codes "EncTGSRepPart")) (λ p. p.items) octets.now result }
+    ensures ap_rep_part { slice_index octets.now 0 ≡ 123
+        → IsToldBy ⟦<EncApRepPart as DerEncode>⟧ ⟦<EncApRepPart as Show<Message>>⟧ (plain (codes "EncAPRepPart")) (λ p. p.items) octets.now result }
+    ensures priv_part { slice_index octets.now 0 ≡ 124
+        → IsToldBy ⟦<EncKrbPrivPart as DerEncode>⟧ ⟦<EncKrbPrivPart as Show<Message>>⟧ (plain (codes "EncKrbPrivPart")) (λ p. p.items) octets.now result }
+    ensures cred_part { slice_index octets.now 0 ≡ 125
+        → IsToldBy ⟦<EncKrbCredPart as DerEncode>⟧ ⟦<EncKrbCredPart as Show<Message>>⟧ (plain (codes "EncKrbCredPart")) (λ p. p.items) octets.now result }
 {
     if octets.is_empty() {
         return Err(Asn1DerError::TruncatedData);

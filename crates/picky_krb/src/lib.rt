@@ -13,6 +13,7 @@ pub mod messages;
 pub mod names;
 pub mod pac;
 pub mod seal;
+pub mod show;
 pub mod view;
 
 pub use krb_credssp::credssp;

@@ -3,5 +3,5 @@
 
 pub use krb_view::{
     Present, PrincipalError, Tagged, TextPrincipal, is_set, items, principal_of_text,
-    text_of_principal, time_of_unix_seconds, unix_seconds,
+    text_of_components, text_of_principal, time_of_unix_seconds, unix_seconds,
 };

@@ -5,6 +5,9 @@
 //! the page's text and its JSON, or the error.
 #![tactic(auto)]
 
+#[cfg(test)]
+mod large;
+
 use krb_der::Asn1DerError;
 use krb_show::{Page, json_of_page, text_of_page};
 use krb_show_messages::{page_of_message, page_of_part};
