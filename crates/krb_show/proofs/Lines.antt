@@ -5,7 +5,12 @@ use Rattle.std.proofs.lemmas.Grind.{flat_map-append}
 use Rattle.krb_show.specs.declared.token.Form.{Form}
 use Rattle.krb_show.specs.declared.token.Form.TheVariants as form
 use Rattle.krb_show.specs.Tokens.{Token}
-use Rattle.krb_show.specs.Text.{lines_of, depth_after, page_lines, depth_behind, text_of_lines, page_text, AreLines}
+use Rattle.krb_show.specs.Text.{lines_of, depth_after, page_lines, text_of_lines, page_text, AreLines}
+
+-- how far in what follows a page is
+abbrev pub depth_behind : ℕ → List Token → ℕ
+depth_behind depth [] = depth
+depth_behind depth (t ∷ ts) = depth_behind (depth_after depth t.form) ts
 
 pub lines_more : (depth : ℕ) (page : List Token) (t : Token) → page_lines depth (page ++ t ∷ []) ≡ page_lines depth page ++ lines_of (depth_behind depth page) t.form t
 lines_more depth [] t = append-nil (lines_of depth t.form t)

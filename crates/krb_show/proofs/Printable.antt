@@ -15,7 +15,7 @@ use Rattle.krb_show.specs.declared.token.Form.{Form}
 use Rattle.krb_show.specs.declared.token.Form.TheVariants as form
 use Rattle.krb_show.specs.Tokens.{Token}
 use Rattle.krb_show.specs.Leaves.{digit, hex_octet, hex}
-use Rattle.krb_show.specs.Text.{IsPrintable, ArePrintable, is_printable, itself_or, escaped_octet, escaped, quoted, indent, IsOctetsToken, spaced_hex, octets_text, word_text, value_text, line, AreLines, text_of_lines}
+use Rattle.krb_show.specs.Text.{IsPrintable, ArePrintable, is_printable, itself_or, escaped_octet, escaped, quoted, indent, spaced_hex, octets_text, word_text, value_text, line, AreLines, text_of_lines}
 
 pub printable_append : (xs ys : List ℕ) → ArePrintable xs → ArePrintable ys → ArePrintable (xs ++ ys)
 printable_append [] ys p q = q
@@ -91,6 +91,13 @@ printable_digits (d ∷ ds) h = ((omega (arith, h.0), omega (arith, h.0)), print
 pub printable_decimal : (n : ℕ) → n < 2 ^ 64 → ArePrintable (decimal n)
 printable_decimal zero fits = subst ArePrintable (sym (decimal_digit 0 (omega arith))) ((omega arith, omega arith), tt)
 printable_decimal (suc n) fits = subst ArePrintable (sym (decimal-digits_of (suc n) (omega arith) fits)) (printable_digits (digits_of 10 (suc n)) (all_below_base_digits_of 10 (suc n) (omega arith)))
+
+-- what a token holds are octets, and so many that their number fits 64 bits
+pub record IsOctetsToken (t : Token) : Type 0 where
+  pub text : IsOctets t.label.text
+  pub octets : IsOctets t.octets
+  pub note : IsOctets t.note
+  pub count : length t.octets < 2 ^ 64
 
 printable_word : (t : Token) → IsOctetsToken t → ArePrintable (word_text t)
 printable_word t h = printable_append (escaped style.Plain t.octets) (escaped style.Plain t.note) (printable_escaped style.Plain t.octets h.octets) (printable_escaped style.Plain t.note h.note)

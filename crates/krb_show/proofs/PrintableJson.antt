@@ -10,9 +10,9 @@ use Rattle.krb_show.specs.declared.token.Form.{Form}
 use Rattle.krb_show.specs.declared.token.Form.TheVariants as form
 use Rattle.krb_show.specs.Tokens.{Token}
 use Rattle.krb_show.specs.Leaves.{hex}
-use Rattle.krb_show.specs.Text.{ArePrintable, IsOctetsToken, escaped, escaped_octet, quoted}
-use Rattle.krb_show.specs.Json.{name_octet, json_names, json_name, json_number, json_flags, json_identifier, json_value, json_key, json_before, json_token, json_tokens, first_behind, begins, ends, json_line}
-use Rattle.krb_show.proofs.Printable.{printable_append, printable_choice, printable_octet, printable_escaped, printable_hex, printable_quoted, line_is_utf8}
+use Rattle.krb_show.specs.Text.{ArePrintable, escaped, escaped_octet, quoted}
+use Rattle.krb_show.specs.Json.{name_octet, json_names, json_name, json_number, json_flags, json_identifier, json_value, json_key, json_before, json_token, json_tokens, begins, ends, json_line}
+use Rattle.krb_show.proofs.Printable.{IsOctetsToken, printable_append, printable_choice, printable_octet, printable_escaped, printable_hex, printable_quoted, line_is_utf8}
 
 name_octet_printable : (octet : ℕ) → octet < 256 → ArePrintable (name_octet octet)
 name_octet_printable octet small =
@@ -79,6 +79,11 @@ before_printable first t h =
 
 pub printable_json_token : (first : Bool) (t : Token) → IsOctetsToken t → ArePrintable (json_token first t)
 printable_json_token first t h = printable_append (json_before first t) (json_value t.form t) (before_printable first t h) (value_printable t.form t h)
+
+-- whether what follows a page is the first of its struct or list
+abbrev pub first_behind : Bool → List Token → Bool
+first_behind first [] = first
+first_behind first (t ∷ ts) = first_behind (begins t.form) ts
 
 -- a page with one more token
 pub json_more : (first : Bool) (page : List Token) (t : Token)

@@ -86,11 +86,6 @@ abbrev pub json_tokens : Bool → List Token → List ℕ
 json_tokens first [] = []
 json_tokens first (t ∷ ts) = json_token first t ++ json_tokens (begins t.form) ts
 
--- whether what follows a page is the first of its struct or list
-abbrev pub first_behind : Bool → List Token → Bool
-first_behind first [] = first
-first_behind first (t ∷ ts) = first_behind (begins t.form) ts
-
 -- an object whose one member is the page's value
 abbrev pub json_line : List Token → List ℕ
 json_line page = 123 ∷ json_tokens true page ++ 125 ∷ []

@@ -86,7 +86,8 @@ truth_of label value = adds (leaf form.Number label (truth_word value))
 
 -- YYYY-MM-DDTHH:MM:SSZ (ISO 8601)
 abbrev pub time_word : Time → List ℕ
-time_word t = two (t.year / 100) ++ two (t.year % 100) ++ 45 ∷ two t.month ++ 45 ∷ two t.day ++ 84 ∷ two t.hour ++ 58 ∷ two t.minute ++ 58 ∷ two t.second ++ 90 ∷ []
+time_word t =
+    two (t.year / 100) ++ two (t.year % 100) ++ 45 ∷ two t.month ++ 45 ∷ two t.day ++ 84 ∷ two t.hour ++ 58 ∷ two t.minute ++ 58 ∷ two t.second ++ 90 ∷ []
 
 abbrev pub time_of : Label → Time → List Token → List Token → Type 0
 time_of label t = adds (leaf form.Word label (time_word t))

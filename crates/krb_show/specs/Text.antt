@@ -1,8 +1,7 @@
 -- The text of a page: a line for each value, indented by how far in it is.
-use Rattle.std.specs.Prelude.{ℕ, zero, suc, ◌-◌, ◌+◌, ◌<◌, ◌≤◌, ◌^◌, nat_le, nat_eq, if◌then◌else◌, Bool, ◌&&◌, ◌||◌, List, [], ◌∷◌, ◌++◌, codes, length}
+use Rattle.std.specs.Prelude.{ℕ, zero, suc, ◌-◌, ◌+◌, ◌≤◌, nat_le, nat_eq, if◌then◌else◌, Bool, ◌&&◌, ◌||◌, List, [], ◌∷◌, ◌++◌, codes, length}
 use Rattle.std.specs.List.{flat_map, AllByRecursion}
 use Rattle.std.specs.Fmt.{decimal}
-use Rattle.krb_der_core.specs.Encoding.{IsOctets}
 use Rattle.krb_show.specs.declared.escape.Style.{Style}
 use Rattle.krb_show.specs.declared.escape.Style.TheVariants as style
 use Rattle.krb_show.specs.declared.token.Form.{Form}
@@ -109,11 +108,6 @@ abbrev pub page_lines : ℕ → List Token → List (List ℕ)
 page_lines depth [] = []
 page_lines depth (t ∷ ts) = lines_of depth t.form t ++ page_lines (depth_after depth t.form) ts
 
--- how far in what follows a page is
-abbrev pub depth_behind : ℕ → List Token → ℕ
-depth_behind depth [] = depth
-depth_behind depth (t ∷ ts) = depth_behind (depth_after depth t.form) ts
-
 -- lines, each with a line feed behind it
 abbrev pub text_of_lines : List (List ℕ) → List ℕ
 text_of_lines lines = flat_map (λ l. l ++ 10 ∷ []) lines
@@ -125,10 +119,3 @@ AreLines lines = AllByRecursion ArePrintable lines
 -- the text of a page
 abbrev pub page_text : List Token → List ℕ
 page_text page = text_of_lines (page_lines 0 page)
-
--- what a token holds are octets, and so many that their number fits 64 bits
-pub record IsOctetsToken (t : Token) : Type 0 where
-  pub text : IsOctets t.label.text
-  pub octets : IsOctets t.octets
-  pub note : IsOctets t.note
-  pub count : length t.octets < 2 ^ 64

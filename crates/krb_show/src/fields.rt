@@ -91,9 +91,10 @@ fn show_to_end<F: ShowFields>(
     shown
 }
 
-/// The fields of a struct with their labels, lent for showing: `show_fields!(self; "etype" EncryptionType = etype, "kvno" = kvno)`. What
-/// stands before `=` is the name that the standard gives the field, and the `Kind` of its numbers where they have names; behind it is
-/// the field, and in parentheses a type of the crate that shows it, where that is not the default.
+/// The fields of a struct with their labels, lent for showing: `show_fields!(Message; self; "etype" EncryptionType = etype, "kvno" =
+/// kvno)`. First stands the `K` of the fields' `Show<K>`, then the value, then of each field the name that the standard gives it, the
+/// `Kind` of its numbers where they have names, and behind `=` the field. The caller's crate lists `krb_names`. The fields are pairs, those
+/// before in the first half.
 #[macro_export]
 macro_rules! show_fields {
     (@one $value:expr; $shown:ty; $name:literal = $field:ident) => {

@@ -1,7 +1,5 @@
 //! Octets, as the page of the value that they encode.
 
-ghost use Rattle.std.specs.Prelude.{IfErr};
-ghost use Rattle.krb_der_core.specs.Errors.{OrMemory, ValueError};
 ghost use Rattle.krb_show.specs.Told.{IsTold};
 
 use crate::show::Show;
@@ -16,8 +14,7 @@ pub fn page_of_octets<K, T: Der + Show<K> + Drop>(
     label: &Label,
     octets: &[u8],
 ) -> Result<Page, Asn1DerError>
-    ensures told { IsTold T.is_value T.enc (T.shows label.now) (λ page. page.items) octets.now result }
-    ensures first_error { IfErr result (OrMemory (ValueError T.is_value T.enc T.first T.error octets.now)) }
+    ensures told { IsTold T.is_value T.enc T.first T.error (T.shows label.now) (λ page. page.items) octets.now result }
 {
     let value: T = from_bytes(alloc, octets)?;
     let mut page = Vec::new(alloc);

@@ -3,7 +3,7 @@
 ghost use Rattle.std.specs.Prelude.{◌≡◌, ◌<◌, ◌+◌, ◌-◌, ◌^◌, ℕ, List, [], ◌∷◌, ◌++◌, codes, IfOk, OnOk};
 ghost use Rattle.std.specs.String.{string_bytes};
 ghost use Rattle.krb_der_core.specs.Encoding.{IsOctets};
-ghost use Rattle.krb_show.specs.Text.{AreLines, ArePrintable, IsOctetsToken, escaped, depth_after, indent, line, lines_of, octets_text, page_lines, page_text, spaced_hex, text_of_lines, value_text, word_text};
+ghost use Rattle.krb_show.specs.Text.{AreLines, ArePrintable, escaped, depth_after, indent, line, lines_of, octets_text, page_lines, page_text, spaced_hex, text_of_lines, value_text, word_text};
 ghost use Rattle.krb_show.specs.declared.escape.Style.TheVariants as style;
 
 use crate::digits::{are_octets, push_hex};

@@ -25,7 +25,14 @@ impl Show<Message> for ApReqInner {
         show_struct(
             alloc,
             label,
-            &show_fields!(Message; self; "pvno" = pvno, "msg-type" MessageType = msg_type, "ap-options" ApOption = ap_options, "ticket" = ticket, "authenticator" = authenticator),
+            &show_fields!(
+                Message; self;
+                "pvno" = pvno,
+                "msg-type" MessageType = msg_type,
+                "ap-options" ApOption = ap_options,
+                "ticket" = ticket,
+                "authenticator" = authenticator
+            ),
             page,
         )
     }
@@ -42,7 +49,12 @@ impl Show<Message> for ApRepInner {
         show_struct(
             alloc,
             label,
-            &show_fields!(Message; self; "pvno" = pvno, "msg-type" MessageType = msg_type, "enc-part" = enc_part),
+            &show_fields!(
+                Message; self;
+                "pvno" = pvno,
+                "msg-type" MessageType = msg_type,
+                "enc-part" = enc_part
+            ),
             page,
         )
     }
@@ -60,7 +72,13 @@ impl Show<Message> for KrbCredInner {
         show_struct(
             alloc,
             label,
-            &show_fields!(Message; self; "pvno" = pvno, "msg-type" MessageType = msg_type, "tickets" = tickets, "enc-part" = enc_part),
+            &show_fields!(
+                Message; self;
+                "pvno" = pvno,
+                "msg-type" MessageType = msg_type,
+                "tickets" = tickets,
+                "enc-part" = enc_part
+            ),
             page,
         )
     }
@@ -77,7 +95,12 @@ impl Show<Message> for KrbPrivInner {
         show_struct(
             alloc,
             label,
-            &show_fields!(Message; self; "pvno" = pvno, "msg-type" MessageType = msg_type, "enc-part" = enc_part),
+            &show_fields!(
+                Message; self;
+                "pvno" = pvno,
+                "msg-type" MessageType = msg_type,
+                "enc-part" = enc_part
+            ),
             page,
         )
     }
@@ -94,7 +117,12 @@ impl Show<Message> for TgtReq {
         show_struct(
             alloc,
             label,
-            &show_fields!(Message; self; "pvno" = pvno, "msg-type" MessageType = msg_type, "server-name" = server_name),
+            &show_fields!(
+                Message; self;
+                "pvno" = pvno,
+                "msg-type" MessageType = msg_type,
+                "server-name" = server_name
+            ),
             page,
         )
     }

@@ -46,7 +46,8 @@ struct ErrorData<'a> {
 }
 
 impl<'a> ShowFields for ErrorData<'a> {
-    ghost shows = { λ f. optional_of (λ octets. opened_or ⟦<MethodData as DerEncode>⟧.is_value ⟦<MethodData as DerEncode>⟧.enc (⟦<MethodData as Show<Message>>⟧.shows f.label)
+    ghost shows = { λ f. optional_of (λ octets. opened_or ⟦<MethodData as DerEncode>⟧.is_value ⟦<MethodData as DerEncode>⟧.enc
+        (⟦<MethodData as Show<Message>>⟧.shows f.label)
         (opened_by ⟦<KerbErrorData as DerEncode>⟧.is_value ⟦<KerbErrorData as DerEncode>⟧.enc ⟦<KerbErrorData as Show<Message>>⟧.shows f.label octets)
         octets) f.value.now.0 };
 
@@ -74,8 +75,10 @@ impl Show<Message> for KrbErrorInner {
         then text_of (plain (codes "realm")) v.realm
         then ⟦<PrincipalName as Show<Message>>⟧.shows (plain (codes "sname")) v.sname
         then optional_of (text_of (plain (codes "e-text"))) v.e_text.0
-        then optional_of (λ octets. opened_or ⟦<MethodData as DerEncode>⟧.is_value ⟦<MethodData as DerEncode>⟧.enc (⟦<MethodData as Show<Message>>⟧.shows (plain (codes "e-data")))
-        (opened_by ⟦<KerbErrorData as DerEncode>⟧.is_value ⟦<KerbErrorData as DerEncode>⟧.enc ⟦<KerbErrorData as Show<Message>>⟧.shows (plain (codes "e-data")) octets)
+        then optional_of (λ octets. opened_or ⟦<MethodData as DerEncode>⟧.is_value ⟦<MethodData as DerEncode>⟧.enc
+        (⟦<MethodData as Show<Message>>⟧.shows (plain (codes "e-data")))
+        (opened_by ⟦<KerbErrorData as DerEncode>⟧.is_value ⟦<KerbErrorData as DerEncode>⟧.enc
+        ⟦<KerbErrorData as Show<Message>>⟧.shows (plain (codes "e-data")) octets)
         octets) v.e_data.0) };
 
     fn show(&self, alloc: Global, label: &Label, page: &mut Page) -> Result<(), AllocError> {
@@ -91,7 +94,21 @@ impl Show<Message> for KrbErrorInner {
             alloc,
             label,
             &(
-                show_fields!(Message; self; "pvno" = pvno, "msg-type" MessageType = msg_type, "ctime" = ctime, "cusec" = cusec, "stime" = stime, "susec" = susec, "error-code" ErrorCode = error_code, "crealm" = crealm, "cname" = cname, "realm" = realm, "sname" = sname, "e-text" = e_text),
+                show_fields!(
+                    Message; self;
+                    "pvno" = pvno,
+                    "msg-type" MessageType = msg_type,
+                    "ctime" = ctime,
+                    "cusec" = cusec,
+                    "stime" = stime,
+                    "susec" = susec,
+                    "error-code" ErrorCode = error_code,
+                    "crealm" = crealm,
+                    "cname" = cname,
+                    "realm" = realm,
+                    "sname" = sname,
+                    "e-text" = e_text
+                ),
                 data,
             ),
             page,

@@ -27,7 +27,16 @@ impl Show<Message> for KdcRep {
         show_struct(
             alloc,
             label,
-            &show_fields!(Message; self; "pvno" = pvno, "msg-type" MessageType = msg_type, "padata" = padata, "crealm" = crealm, "cname" = cname, "ticket" = ticket, "enc-part" = enc_part),
+            &show_fields!(
+                Message; self;
+                "pvno" = pvno,
+                "msg-type" MessageType = msg_type,
+                "padata" = padata,
+                "crealm" = crealm,
+                "cname" = cname,
+                "ticket" = ticket,
+                "enc-part" = enc_part
+            ),
             page,
         )
     }
@@ -53,7 +62,21 @@ impl Show<Message> for KdcReqBody {
         show_struct(
             alloc,
             label,
-            &show_fields!(Message; self; "kdc-options" KdcOption = kdc_options, "cname" = cname, "realm" = realm, "sname" = sname, "from" = from, "till" = till, "rtime" = rtime, "nonce" = nonce, "etype" EncryptionType = etype, "addresses" = addresses, "enc-authorization-data" = enc_authorization_data, "additional-tickets" = additional_tickets),
+            &show_fields!(
+                Message; self;
+                "kdc-options" KdcOption = kdc_options,
+                "cname" = cname,
+                "realm" = realm,
+                "sname" = sname,
+                "from" = from,
+                "till" = till,
+                "rtime" = rtime,
+                "nonce" = nonce,
+                "etype" EncryptionType = etype,
+                "addresses" = addresses,
+                "enc-authorization-data" = enc_authorization_data,
+                "additional-tickets" = additional_tickets
+            ),
             page,
         )
     }
@@ -71,7 +94,13 @@ impl Show<Message> for KdcReq {
         show_struct(
             alloc,
             label,
-            &show_fields!(Message; self; "pvno" = pvno, "msg-type" MessageType = msg_type, "padata" = padata, "req-body" = req_body),
+            &show_fields!(
+                Message; self;
+                "pvno" = pvno,
+                "msg-type" MessageType = msg_type,
+                "padata" = padata,
+                "req-body" = req_body
+            ),
             page,
         )
     }

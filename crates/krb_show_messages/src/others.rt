@@ -24,7 +24,12 @@ impl Show<Message> for ChangePasswdData {
         show_struct(
             alloc,
             label,
-            &show_fields!(Message; self; "newpasswd" = new_passwd, "targname" = target_name, "targrealm" = target_realm),
+            &show_fields!(
+                Message; self;
+                "newpasswd" = new_passwd,
+                "targname" = target_name,
+                "targrealm" = target_realm
+            ),
             page,
         )
     }

@@ -27,11 +27,15 @@ use std::marker::PhantomData;
 pub struct PaDataValues;
 
 impl OpensValues for PaDataValues {
-    ghost opened = { λ label number octets. by_number number 1 (opened_by ⟦<ApReq as DerEncode>⟧.is_value ⟦<ApReq as DerEncode>⟧.enc ⟦<ApReq as Show<Message>>⟧.shows label octets)
-        (by_number number 2 (opened_by ⟦<EncryptedData as DerEncode>⟧.is_value ⟦<EncryptedData as DerEncode>⟧.enc ⟦<EncryptedData as Show<Message>>⟧.shows label octets)
+    ghost opened = { λ label number octets. by_number number 1 (opened_by ⟦<ApReq as DerEncode>⟧.is_value ⟦<ApReq as DerEncode>⟧.enc
+        ⟦<ApReq as Show<Message>>⟧.shows label octets)
+        (by_number number 2 (opened_by ⟦<EncryptedData as DerEncode>⟧.is_value ⟦<EncryptedData as DerEncode>⟧.enc
+        ⟦<EncryptedData as Show<Message>>⟧.shows label octets)
         (by_number number 19 (opened_by ⟦<EtypeInfo2 as DerEncode>⟧.is_value ⟦<EtypeInfo2 as DerEncode>⟧.enc ⟦<EtypeInfo2 as Show<Message>>⟧.shows label octets)
-        (by_number number 128 (opened_by ⟦<KerbPaPacRequest as DerEncode>⟧.is_value ⟦<KerbPaPacRequest as DerEncode>⟧.enc ⟦<KerbPaPacRequest as Show<Message>>⟧.shows label octets)
-        (by_number number 167 (opened_by ⟦<PaPacOptions as DerEncode>⟧.is_value ⟦<PaPacOptions as DerEncode>⟧.enc ⟦<PaPacOptions as Show<Message>>⟧.shows label octets)
+        (by_number number 128 (opened_by ⟦<KerbPaPacRequest as DerEncode>⟧.is_value ⟦<KerbPaPacRequest as DerEncode>⟧.enc
+        ⟦<KerbPaPacRequest as Show<Message>>⟧.shows label octets)
+        (by_number number 167 (opened_by ⟦<PaPacOptions as DerEncode>⟧.is_value ⟦<PaPacOptions as DerEncode>⟧.enc
+        ⟦<PaPacOptions as Show<Message>>⟧.shows label octets)
         (octets_of label octets))))) };
 
     fn show_value(
@@ -94,7 +98,8 @@ impl Show<Message> for PaData {
 pub struct AuthorizationDataValues;
 
 impl OpensValues for AuthorizationDataValues {
-    ghost opened = { λ label number octets. by_number number 1 (opened_by ⟦<AuthorizationData as DerEncode>⟧.is_value ⟦<AuthorizationData as DerEncode>⟧.enc ⟦<AuthorizationData as Show<Nested>>⟧.shows label octets)
+    ghost opened = { λ label number octets. by_number number 1 (opened_by ⟦<AuthorizationData as DerEncode>⟧.is_value ⟦<AuthorizationData as DerEncode>⟧.enc
+        ⟦<AuthorizationData as Show<Nested>>⟧.shows label octets)
         (octets_of label octets) };
 
     fn show_value(

@@ -36,7 +36,18 @@ impl Show<Message> for AuthenticatorInner {
         show_struct(
             alloc,
             label,
-            &show_fields!(Message; self; "authenticator-vno" = authenticator_vno, "crealm" = crealm, "cname" = cname, "cksum" = cksum, "cusec" = cusec, "ctime" = ctime, "subkey" = subkey, "seq-number" = seq_number, "authorization-data" = authorization_data),
+            &show_fields!(
+                Message; self;
+                "authenticator-vno" = authenticator_vno,
+                "crealm" = crealm,
+                "cname" = cname,
+                "cksum" = cksum,
+                "cusec" = cusec,
+                "ctime" = ctime,
+                "subkey" = subkey,
+                "seq-number" = seq_number,
+                "authorization-data" = authorization_data
+            ),
             page,
         )
     }
@@ -54,7 +65,13 @@ impl Show<Message> for EncApRepPartInner {
         show_struct(
             alloc,
             label,
-            &show_fields!(Message; self; "ctime" = ctime, "cusec" = cusec, "subkey" = subkey, "seq-number" = seq_number),
+            &show_fields!(
+                Message; self;
+                "ctime" = ctime,
+                "cusec" = cusec,
+                "subkey" = subkey,
+                "seq-number" = seq_number
+            ),
             page,
         )
     }
@@ -79,7 +96,20 @@ impl Show<Message> for KrbCredInfo {
         show_struct(
             alloc,
             label,
-            &show_fields!(Message; self; "key" = key, "prealm" = prealm, "pname" = pname, "flags" TicketFlag = flags, "authtime" = auth_time, "starttime" = start_time, "endtime" = end_time, "renew-till" = renew_till, "srealm" = srealm, "sname" = sname, "caddr" = caddr),
+            &show_fields!(
+                Message; self;
+                "key" = key,
+                "prealm" = prealm,
+                "pname" = pname,
+                "flags" TicketFlag = flags,
+                "authtime" = auth_time,
+                "starttime" = start_time,
+                "endtime" = end_time,
+                "renew-till" = renew_till,
+                "srealm" = srealm,
+                "sname" = sname,
+                "caddr" = caddr
+            ),
             page,
         )
     }
@@ -99,7 +129,15 @@ impl Show<Message> for EncKrbCredPartInner {
         show_struct(
             alloc,
             label,
-            &show_fields!(Message; self; "ticket-info" = ticket_info, "nonce" = nonce, "timestamp" = timestamp, "usec" = usec, "s-address" = s_address, "r-address" = r_address),
+            &show_fields!(
+                Message; self;
+                "ticket-info" = ticket_info,
+                "nonce" = nonce,
+                "timestamp" = timestamp,
+                "usec" = usec,
+                "s-address" = s_address,
+                "r-address" = r_address
+            ),
             page,
         )
     }
@@ -119,7 +157,15 @@ impl Show<Message> for EncKrbPrivPartInner {
         show_struct(
             alloc,
             label,
-            &show_fields!(Message; self; "user-data" = user_data, "timestamp" = timestamp, "usec" = usec, "seq-number" = seq_number, "s-address" = s_address, "r-address" = r_address),
+            &show_fields!(
+                Message; self;
+                "user-data" = user_data,
+                "timestamp" = timestamp,
+                "usec" = usec,
+                "seq-number" = seq_number,
+                "s-address" = s_address,
+                "r-address" = r_address
+            ),
             page,
         )
     }
@@ -144,7 +190,20 @@ impl Show<Message> for EncTicketPartInner {
         show_struct(
             alloc,
             label,
-            &show_fields!(Message; self; "flags" TicketFlag = flags, "key" = key, "crealm" = crealm, "cname" = cname, "transited" = transited, "authtime" = auth_time, "starttime" = starttime, "endtime" = endtime, "renew-till" = renew_till, "caddr" = caddr, "authorization-data" = authorization_data),
+            &show_fields!(
+                Message; self;
+                "flags" TicketFlag = flags,
+                "key" = key,
+                "crealm" = crealm,
+                "cname" = cname,
+                "transited" = transited,
+                "authtime" = auth_time,
+                "starttime" = starttime,
+                "endtime" = endtime,
+                "renew-till" = renew_till,
+                "caddr" = caddr,
+                "authorization-data" = authorization_data
+            ),
             page,
         )
     }
@@ -187,7 +246,22 @@ impl Show<Message> for EncKdcRepPart {
         show_struct(
             alloc,
             label,
-            &show_fields!(Message; self; "key" = key, "last-req" = last_req, "nonce" = nonce, "key-expiration" = key_expiration, "flags" TicketFlag = flags, "authtime" = auth_time, "starttime" = start_time, "endtime" = end_time, "renew-till" = renew_till, "srealm" = srealm, "sname" = sname, "caddr" = caddr, "encrypted-pa-data" = encrypted_pa_data),
+            &show_fields!(
+                Message; self;
+                "key" = key,
+                "last-req" = last_req,
+                "nonce" = nonce,
+                "key-expiration" = key_expiration,
+                "flags" TicketFlag = flags,
+                "authtime" = auth_time,
+                "starttime" = start_time,
+                "endtime" = end_time,
+                "renew-till" = renew_till,
+                "srealm" = srealm,
+                "sname" = sname,
+                "caddr" = caddr,
+                "encrypted-pa-data" = encrypted_pa_data
+            ),
             page,
         )
     }

@@ -22,7 +22,12 @@ impl Show<Message> for EtypeInfo2Entry {
         show_struct(
             alloc,
             label,
-            &show_fields!(Message; self; "etype" EncryptionType = etype, "salt" = salt, "s2kparams" = s2kparams),
+            &show_fields!(
+                Message; self;
+                "etype" EncryptionType = etype,
+                "salt" = salt,
+                "s2kparams" = s2kparams
+            ),
             page,
         )
     }

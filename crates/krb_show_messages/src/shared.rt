@@ -107,7 +107,13 @@ impl Show<Message> for TicketInner {
         show_struct(
             alloc,
             label,
-            &show_fields!(Message; self; "tkt-vno" = tkt_vno, "realm" = realm, "sname" = sname, "enc-part" = enc_part),
+            &show_fields!(
+                Message; self;
+                "tkt-vno" = tkt_vno,
+                "realm" = realm,
+                "sname" = sname,
+                "enc-part" = enc_part
+            ),
             page,
         )
     }

@@ -1,8 +1,8 @@
 use Rattle.std.proofs.Common.{take, sym, ◌∙◌, true}
 use Rattle.std.proofs.lemmas.List.{take_more, append_assoc}
-use Rattle.krb_show.specs.Json.{json_tokens, json_token, first_behind}
+use Rattle.krb_show.specs.Json.{json_tokens, json_token}
 use Rattle.krb_show.proofs.Printable.{printable_append}
-use Rattle.krb_show.proofs.PrintableJson.{json_more, first_more}
+use Rattle.krb_show.proofs.PrintableJson.{first_behind, json_more, first_more}
 use Rattle.krb_show.proofs.json.push_tokens.Goals as goal
 
 pub loop-token-preserved : goal.loop-token-preserved

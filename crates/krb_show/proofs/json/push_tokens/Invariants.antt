@@ -1,5 +1,6 @@
 use Rattle.std.proofs.Common.{◌≡◌, ◌++◌, take, true}
-use Rattle.krb_show.specs.Json.{json_tokens, first_behind}
+use Rattle.krb_show.specs.Json.{json_tokens}
+use Rattle.krb_show.proofs.PrintableJson.{first_behind}
 use Rattle.krb_show.specs.Text.{ArePrintable}
 use Rattle.krb_show.proofs.json.push_tokens.Given as goal
 

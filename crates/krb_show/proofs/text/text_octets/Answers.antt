@@ -1,7 +1,7 @@
 use Rattle.std.proofs.Common.{take, arith, sym, ◌∙◌}
 use Rattle.std.proofs.lemmas.List.{take_more, length-take}
-use Rattle.krb_show.specs.Text.{page_lines, depth_behind, lines_of}
-use Rattle.krb_show.proofs.Lines.{lines_more, text_more, depth_more, depth_small, are_lines_append}
+use Rattle.krb_show.specs.Text.{page_lines, lines_of}
+use Rattle.krb_show.proofs.Lines.{depth_behind, lines_more, text_more, depth_more, depth_small, are_lines_append}
 use Rattle.krb_show.proofs.text.text_octets.Goals as goal
 
 pub depth_after-depth-requires : goal.depth_after-depth-requires

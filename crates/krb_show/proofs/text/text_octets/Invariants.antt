@@ -1,5 +1,6 @@
 use Rattle.std.proofs.Common.{◌≡◌, take}
-use Rattle.krb_show.specs.Text.{page_text, page_lines, depth_behind, AreLines}
+use Rattle.krb_show.specs.Text.{page_text, page_lines, AreLines}
+use Rattle.krb_show.proofs.Lines.{depth_behind}
 use Rattle.krb_show.proofs.text.text_octets.Given as goal
 
 abbrev pub invariant-loop-token : goal.invariant-loop-token
