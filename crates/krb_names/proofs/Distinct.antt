@@ -11,7 +11,8 @@ use Rattle.std.proofs.Math.Dec.{leb}
 use Rattle.std.proofs.lemmas.Bool.{le-leb, leb-true}
 use Rattle.krb_names.specs.declared.kind.Kind.{Kind}
 use Rattle.krb_names.specs.declared.kind.Kind.TheVariants.{EncryptionType, ChecksumType, NameType, MessageType, ErrorCode, PaDataType, AuthorizationDataType, AddressType}
-use Rattle.krb_names.specs.declared.kind.Kind.TheVariants.{TransitedEncodingType, LastRequestType, TicketFlag, KdcOption, ApOption, KeyUsage, PacBufferType, NegotiationState}
+use Rattle.krb_names.specs.declared.kind.Kind.TheVariants.{TransitedEncodingType, LastRequestType, TicketFlag, KdcOption, ApOption, KeyUsage, PacBufferType, GssFlag}
+use Rattle.krb_names.specs.declared.kind.Kind.TheVariants.{NegotiationState, ContextFlag, TokenFlag}
 
 -- ---- the test
 
@@ -72,7 +73,10 @@ numbers_are_once KdcOption = refl
 numbers_are_once ApOption = refl
 numbers_are_once KeyUsage = refl
 numbers_are_once PacBufferType = refl
+numbers_are_once GssFlag = refl
 numbers_are_once NegotiationState = refl
+numbers_are_once ContextFlag = refl
+numbers_are_once TokenFlag = refl
 
 names_are_once : (kind : Kind) → are_once name_of number_of bytes_eq int_eq (pos 0) (table kind) ≡ true
 unfolding table
@@ -91,7 +95,10 @@ names_are_once KdcOption = refl
 names_are_once ApOption = refl
 names_are_once KeyUsage = refl
 names_are_once PacBufferType = refl
+names_are_once GssFlag = refl
 names_are_once NegotiationState = refl
+names_are_once ContextFlag = refl
+names_are_once TokenFlag = refl
 
 identifiers_are_once : are_once identifier_of mechanism_of bytes_eq bytes_eq [] mechanisms ≡ true
 unfolding mechanisms
@@ -147,7 +154,10 @@ are_plain KdcOption = refl
 are_plain ApOption = refl
 are_plain KeyUsage = refl
 are_plain PacBufferType = refl
+are_plain GssFlag = refl
 are_plain NegotiationState = refl
+are_plain ContextFlag = refl
+are_plain TokenFlag = refl
 
 pub names_are_plain : (kind : Kind) → All (λ row. IsPlain row.1) (table kind)
 names_are_plain kind = of_every (λ row. is_plain row.1) (λ row. IsPlain row.1) (λ row. decides_plain row.1) (table kind) (are_plain kind)

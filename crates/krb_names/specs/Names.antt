@@ -2,7 +2,8 @@
 use Rattle.std.specs.Prelude.{◌≡◌, ℕ, ◌≤◌, ℤ, pos, negsuc, List, [], ◌∷◌, codes, Contains, All}
 use Rattle.krb_names.specs.declared.kind.Kind.{Kind}
 use Rattle.krb_names.specs.declared.kind.Kind.TheVariants.{EncryptionType, ChecksumType, NameType, MessageType, ErrorCode, PaDataType, AuthorizationDataType, AddressType}
-use Rattle.krb_names.specs.declared.kind.Kind.TheVariants.{TransitedEncodingType, LastRequestType, TicketFlag, KdcOption, ApOption, KeyUsage, PacBufferType, NegotiationState}
+use Rattle.krb_names.specs.declared.kind.Kind.TheVariants.{TransitedEncodingType, LastRequestType, TicketFlag, KdcOption, ApOption, KeyUsage, PacBufferType, GssFlag}
+use Rattle.krb_names.specs.declared.kind.Kind.TheVariants.{NegotiationState, ContextFlag, TokenFlag}
 
 -- RFC 3961, 8; RFC 3962, 7; RFC 4757; RFC 6803, 9; RFC 8009, 7; IANA, Kerberos Encryption Type Numbers
 abbrev pub encryption_types : List (ℤ × List ℕ)
@@ -424,6 +425,20 @@ pac_buffer_types =
     ∷ (pos 19, codes "KRB5_PAC_FULL_CHECKSUM")
     ∷ []
 
+-- RFC 4121, 4.1.1.1; 17 to 19: RFC 4757, 7.1
+abbrev pub gss_flags : List (ℤ × List ℕ)
+gss_flags =
+    (pos 17, codes "GSS_C_EXTENDED_ERROR_FLAG")
+    ∷ (pos 18, codes "GSS_C_IDENTIFY_FLAG")
+    ∷ (pos 19, codes "GSS_C_DCE_STYLE")
+    ∷ (pos 26, codes "GSS_C_INTEG_FLAG")
+    ∷ (pos 27, codes "GSS_C_CONF_FLAG")
+    ∷ (pos 28, codes "GSS_C_SEQUENCE_FLAG")
+    ∷ (pos 29, codes "GSS_C_REPLAY_FLAG")
+    ∷ (pos 30, codes "GSS_C_MUTUAL_FLAG")
+    ∷ (pos 31, codes "GSS_C_DELEG_FLAG")
+    ∷ []
+
 -- RFC 4178, 4.2.2
 abbrev pub negotiation_states : List (ℤ × List ℕ)
 negotiation_states =
@@ -431,6 +446,26 @@ negotiation_states =
     ∷ (pos 1, codes "accept-incomplete")
     ∷ (pos 2, codes "reject")
     ∷ (pos 3, codes "request-mic")
+    ∷ []
+
+-- RFC 4178, 4.2.1
+abbrev pub context_flags : List (ℤ × List ℕ)
+context_flags =
+    (pos 0, codes "delegFlag")
+    ∷ (pos 1, codes "mutualFlag")
+    ∷ (pos 2, codes "replayFlag")
+    ∷ (pos 3, codes "sequenceFlag")
+    ∷ (pos 4, codes "anonFlag")
+    ∷ (pos 5, codes "confFlag")
+    ∷ (pos 6, codes "integFlag")
+    ∷ []
+
+-- RFC 4121, 4.2.2
+abbrev pub token_flags : List (ℤ × List ℕ)
+token_flags =
+    (pos 0, codes "SentByAcceptor")
+    ∷ (pos 1, codes "Sealed")
+    ∷ (pos 2, codes "AcceptorSubkey")
     ∷ []
 
 -- object identifiers of mechanisms, as dotted numbers (RFC 4121; draft-swift-win2k-krb-user2user-03; MS-SPNG; MS-NLMP; MS-NEGOEX;
@@ -464,7 +499,10 @@ table KdcOption = kdc_options
 table ApOption = ap_options
 table KeyUsage = key_usages
 table PacBufferType = pac_buffer_types
+table GssFlag = gss_flags
 table NegotiationState = negotiation_states
+table ContextFlag = context_flags
+table TokenFlag = token_flags
 
 -- the table of this kind has this number with this name
 abbrev pub IsRow : Kind → ℤ → List ℕ → Type 0

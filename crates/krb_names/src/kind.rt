@@ -48,6 +48,16 @@ pub enum Kind {
     /// Types of a PAC's buffers, as `ulType` of a PAC_INFO_BUFFER has them: `KRB5_PAC_LOGON_INFO` (MS-PAC, 2.4, which gives the
     /// numbers; the names are those of krb5.h of MIT Kerberos).
     PacBufferType,
+    /// Flags of a context of the GSS-API, by the number of their bit in the 32 bits of Flags of an authenticator's checksum, the highest
+    /// octet first, counted from 0 at the left, so that 31 is the flag of the value 1: `GSS_C_DELEG_FLAG` (RFC 4121, 4.1.1.1;
+    /// GSS_C_DCE_STYLE, GSS_C_IDENTIFY_FLAG and GSS_C_EXTENDED_ERROR_FLAG: RFC 4757, 7.1).
+    GssFlag,
     /// States of a negotiation, as `negState` of a NegTokenResp has them: `accept-completed` (RFC 4178, 4.2.2).
     NegotiationState,
+    /// Flags that the initiator of a negotiation asks for, by the number of their bit in ContextFlags, counted from 0 at the left:
+    /// `mutualFlag` (RFC 4178, 4.2.1).
+    ContextFlag,
+    /// Flags of a MIC or Wrap token, by the number of their bit in its octet, the least significant is 0: `Sealed` (RFC 4121,
+    /// 4.2.2).
+    TokenFlag,
 }

@@ -4,7 +4,7 @@ use crate::kind::Kind;
 use crate::{mechanism_identifier, mechanism_name, name, number};
 
 /// One to three rows of each table.
-const ROWS: [(Kind, i64, &str); 32] = [
+const ROWS: [(Kind, i64, &str); 38] = [
     (Kind::EncryptionType, 18, "aes256-cts-hmac-sha1-96"),
     (Kind::EncryptionType, 23, "rc4-hmac"),
     (Kind::EncryptionType, 65, "subkey-keymaterial"),
@@ -35,8 +35,14 @@ const ROWS: [(Kind, i64, &str); 32] = [
     (Kind::KeyUsage, 65, "KEY_USAGE_SPAKE"),
     (Kind::PacBufferType, 1, "KRB5_PAC_LOGON_INFO"),
     (Kind::PacBufferType, 19, "KRB5_PAC_FULL_CHECKSUM"),
+    (Kind::GssFlag, 31, "GSS_C_DELEG_FLAG"),
+    (Kind::GssFlag, 17, "GSS_C_EXTENDED_ERROR_FLAG"),
     (Kind::NegotiationState, 0, "accept-completed"),
     (Kind::NegotiationState, 3, "request-mic"),
+    (Kind::ContextFlag, 1, "mutualFlag"),
+    (Kind::ContextFlag, 6, "integFlag"),
+    (Kind::TokenFlag, 0, "SentByAcceptor"),
+    (Kind::TokenFlag, 2, "AcceptorSubkey"),
 ];
 
 #[test]

@@ -411,12 +411,43 @@ static PAC_BUFFER_TYPES: [(i64, &str); 14] = [
     (19, "KRB5_PAC_FULL_CHECKSUM"),
 ];
 
+/// RFC 4121, 4.1.1.1; 17 to 19: RFC 4757, 7.1.
+static GSS_FLAGS: [(i64, &str); 9] = [
+    (17, "GSS_C_EXTENDED_ERROR_FLAG"),
+    (18, "GSS_C_IDENTIFY_FLAG"),
+    (19, "GSS_C_DCE_STYLE"),
+    (26, "GSS_C_INTEG_FLAG"),
+    (27, "GSS_C_CONF_FLAG"),
+    (28, "GSS_C_SEQUENCE_FLAG"),
+    (29, "GSS_C_REPLAY_FLAG"),
+    (30, "GSS_C_MUTUAL_FLAG"),
+    (31, "GSS_C_DELEG_FLAG"),
+];
+
 /// RFC 4178, 4.2.2.
 static NEGOTIATION_STATES: [(i64, &str); 4] = [
     (0, "accept-completed"),
     (1, "accept-incomplete"),
     (2, "reject"),
     (3, "request-mic"),
+];
+
+/// RFC 4178, 4.2.1.
+static CONTEXT_FLAGS: [(i64, &str); 7] = [
+    (0, "delegFlag"),
+    (1, "mutualFlag"),
+    (2, "replayFlag"),
+    (3, "sequenceFlag"),
+    (4, "anonFlag"),
+    (5, "confFlag"),
+    (6, "integFlag"),
+];
+
+/// RFC 4121, 4.2.2.
+static TOKEN_FLAGS: [(i64, &str); 3] = [
+    (0, "SentByAcceptor"),
+    (1, "Sealed"),
+    (2, "AcceptorSubkey"),
 ];
 
 /// Mechanisms (RFC 4121; draft-swift-win2k-krb-user2user-03; MS-SPNG; MS-NLMP; MS-NEGOEX; draft-ietf-kitten-iakerb-03;
@@ -453,7 +484,10 @@ pub(crate) fn rows(kind: Kind) -> &'static [(i64, &'static str)]
         Kind::ApOption => &AP_OPTIONS,
         Kind::KeyUsage => &KEY_USAGES,
         Kind::PacBufferType => &PAC_BUFFER_TYPES,
+        Kind::GssFlag => &GSS_FLAGS,
         Kind::NegotiationState => &NEGOTIATION_STATES,
+        Kind::ContextFlag => &CONTEXT_FLAGS,
+        Kind::TokenFlag => &TOKEN_FLAGS,
     }
 }
 
