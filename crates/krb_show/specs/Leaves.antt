@@ -7,7 +7,7 @@ use Rattle.krb_der_core.specs.Integer.{shortest}
 use Rattle.krb_der_core.specs.BitString.{Bits}
 use Rattle.krb_der_core.specs.GeneralizedTime.{Time}
 use Rattle.krb_names.specs.declared.kind.Kind.{Kind}
-use Rattle.krb_names.specs.Names.{table, IsRow}
+use Rattle.krb_names.specs.Names.{table, mechanisms, IsRow, IsMechanism}
 use Rattle.krb_view.specs.Flags.{is_set}
 use Rattle.krb_show.specs.declared.token.Form.TheVariants as form
 use Rattle.krb_show.specs.Tokens.{Label, Token, adds, leaf}
@@ -44,6 +44,10 @@ number_of label z old new =
     × (new ≡ old ++ record { form = form.Number; label = label; octets = signed_decimal z; note = note } ∷ []))
     ⊎ ((FitsSigned w64 z → ⊥) × (new ≡ old ++ leaf form.Octets label (shortest z) ∷ []))
 
+-- an unsigned number, in decimal and without a name
+abbrev pub unsigned_of : Label → ℕ → List Token → List Token → Type 0
+unsigned_of label n = adds (leaf form.Number label (decimal n))
+
 -- ---- flags
 
 -- the name of a flag is that of its kind, or its number where the kind has none
@@ -74,6 +78,18 @@ abbrev pub flags_of : Label → Bits → List Token → List Token → Type 0
 flags_of label bits old new = (note : List ℕ) × IsFlagsNote label.kind bits.octets note
     × (new ≡ old ++ record { form = form.Flags; label = label; octets = flags_word bits; note = note } ∷ [])
 
+-- ---- object identifiers
+
+-- the note of an object identifier is a blank and the name of the mechanism that has it, or nothing where none has
+unfoldable pub IsIdentifierNote : List ℕ → List ℕ → Type 0
+IsIdentifierNote dotted note =
+    ((name : List ℕ) × IsMechanism dotted name × (note ≡ 32 ∷ name)) ⊎ (All (λ row. row.0 ≢ dotted) mechanisms × (note ≡ []))
+
+-- the dotted numbers of an object identifier, with its name
+abbrev pub identifier_of : Label → List ℕ → List Token → List Token → Type 0
+identifier_of label dotted old new = (note : List ℕ) × IsIdentifierNote dotted note
+    × (new ≡ old ++ record { form = form.Identifier; label = label; octets = dotted; note = note } ∷ [])
+
 -- ---- the rest
 
 -- `true` or `false`
@@ -94,6 +110,10 @@ time_of label t = adds (leaf form.Word label (time_word t))
 
 abbrev pub text_of : Label → List ℕ → List Token → List Token → Type 0
 text_of label octets = adds (leaf form.Text label octets)
+
+-- a word, which has no blanks
+abbrev pub word_of : Label → List ℕ → List Token → List Token → Type 0
+word_of label word = adds (leaf form.Word label word)
 
 abbrev pub octets_of : Label → List ℕ → List Token → List Token → Type 0
 octets_of label bytes = adds (leaf form.Octets label bytes)

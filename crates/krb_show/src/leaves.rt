@@ -2,11 +2,11 @@
 
 ghost use Rattle.std.specs.Prelude.{◌≡◌, ◌<◌, ◌+◌, ◌%◌, ◌/◌, ℕ, pos, List, [], ◌∷◌, ◌++◌, IfOk, OnOk, OnErr, codes};
 ghost use Rattle.krb_show.specs.Tokens.{Begins, adds, leaf};
-ghost use Rattle.krb_show.specs.Leaves.{flags_of, flags_word, number_of, octets_of, text_of, time_of, time_word, truth_of, two};
+ghost use Rattle.krb_show.specs.Leaves.{flags_of, flags_word, identifier_of, number_of, octets_of, text_of, time_of, time_word, truth_of, two, unsigned_of, word_of};
 ghost use Rattle.krb_show.specs.declared.token.Form.TheVariants as form;
 
 use crate::digits::{push_hex, push_two};
-use crate::notes::{note_of_flags, note_of_number};
+use crate::notes::{note_of_flags, note_of_identifier, note_of_number};
 use crate::show::Show;
 use crate::token::{Form, Label, Page, push_token};
 use krb_der::{
@@ -60,6 +60,20 @@ pub fn show_octets(
     push_leaf(alloc, Form::Octets, label, octets, page)
 }
 
+/// Appends a word that has no blanks.
+pub fn show_word(
+    alloc: Global,
+    label: &Label,
+    word: &[u8],
+    page: &mut Page,
+) -> Result<(), AllocError>
+    ensures ok { OnOk result (word_of label.now word.now page.old.items page.new.items) }
+    ensures kept { OnOk result (Begins page.old.items page.new.items) }
+    ensures err { OnErr result (page.new.items ≡ page.old.items) }
+{
+    push_leaf(alloc, Form::Word, label, word, page)
+}
+
 /// Appends a number of 64 bits.
 pub fn show_number(
     alloc: Global,
@@ -74,6 +88,23 @@ pub fn show_number(
     let note = note_of_number(alloc, label.kind, number)?;
     let digits = format!(in alloc; "{number}")?;
     push_token(alloc, Form::Number, label, digits.into_bytes(), note, page)
+}
+
+/// Appends an object identifier, which is given in dotted numbers, as `1.2.840.113554.1.2.2`, and the name of the mechanism that has it.
+pub fn show_identifier(
+    alloc: Global,
+    label: &Label,
+    dotted: &str,
+    page: &mut Page,
+) -> Result<(), AllocError>
+    ensures ok { OnOk result (identifier_of label.now dotted.now page.old.items page.new.items) }
+    ensures kept { OnOk result (Begins page.old.items page.new.items) }
+    ensures err { OnErr result (page.new.items ≡ page.old.items) }
+{
+    let note = note_of_identifier(alloc, dotted)?;
+    let mut word = Vec::with_capacity(alloc, dotted.len())?;
+    word.extend_from_slice(dotted.as_bytes())?;
+    push_token(alloc, Form::Identifier, label, word, note, page)
 }
 
 impl<K> Show<K> for IntegerAsn1 {
@@ -93,6 +124,17 @@ impl<K> Show<K> for u32 {
 
     fn show(&self, alloc: Global, label: &Label, page: &mut Page) -> Result<(), AllocError> {
         show_number(alloc, label, i64::from(*self), page)
+    }
+}
+
+/// An unsigned number of 64 bits, which has no name.
+impl<K> Show<K> for u64 {
+    ghost shows = { unsigned_of };
+
+    fn show(&self, alloc: Global, label: &Label, page: &mut Page) -> Result<(), AllocError> {
+        let number = *self;
+        let digits = format!(in alloc; "{number}")?;
+        push_leaf(alloc, Form::Number, label, digits.as_bytes(), page)
     }
 }
 

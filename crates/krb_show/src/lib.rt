@@ -18,13 +18,14 @@ mod text;
 mod token;
 mod wrappers;
 
+pub use digits::push_hex;
 pub use fields::{Field, ShowFields, show_struct};
 pub use json::json_of_page;
-pub use leaves::{show_number, show_octets, show_text};
+pub use leaves::{show_identifier, show_number, show_octets, show_text, show_word};
 pub use numbers::{OpensValues, TypedValue, is_number};
 pub use opened::{open, show_opened};
 pub use page::page_of_octets;
 pub use show::Show;
 pub use text::text_of_page;
-pub use token::{Form, Label, Page, Token};
+pub use token::{Form, Label, Page, Token, push_token};
 pub use wrappers::show_list;

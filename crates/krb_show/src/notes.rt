@@ -3,10 +3,10 @@
 ghost use Rattle.std.specs.Prelude.{◌≡◌, ◌++◌, ◌∷◌, [], List, ℕ, ℤ, pos, Some, All, IfOk, OnOk};
 ghost use Rattle.std.specs.Fmt.{decimal};
 ghost use Rattle.krb_names.specs.Names.{table, IsRow};
-ghost use Rattle.krb_show.specs.Leaves.{adds_flag, AreFlags, IsFlagName, IsFlagsNote, IsNote};
+ghost use Rattle.krb_show.specs.Leaves.{adds_flag, AreFlags, IsFlagName, IsFlagsNote, IsIdentifierNote, IsNote};
 
 use krb_der::BitStringAsn1;
-use krb_names::{Kind, name};
+use krb_names::{Kind, mechanism_name, name};
 use krb_view::is_set;
 use std::alloc::{AllocError, Global};
 
@@ -23,6 +23,19 @@ pub fn note_of_number(alloc: Global, kind: Option<Kind>, number: i64) -> Result<
             note.push(b' ')?;
             note.extend_from_slice(name.as_bytes())?;
         }
+    }
+    Ok(note)
+}
+
+/// The note of an object identifier in dotted numbers.
+#[tactic(auto, unfolding(crate::specs::Leaves::IsIdentifierNote))]
+pub fn note_of_identifier(alloc: Global, dotted: &str) -> Result<Vec<u8>, AllocError>
+    ensures { IfOk result (λ note. IsIdentifierNote dotted.now note.items) }
+{
+    let mut note = Vec::new(alloc);
+    if let Some(name) = mechanism_name(dotted) {
+        note.push(b' ')?;
+        note.extend_from_slice(name.as_bytes())?;
     }
     Ok(note)
 }
