@@ -1,0 +1,13 @@
+//! The forms in which people have Kerberos octets: as they are, in hexadecimal, in base64, between the lines of PEM, and behind a scheme of
+//! HTTP.
+//!
+//! `octets_of_input` is one rule for all; its doc comment states it, and `specs/Forms.antt` is its definition.
+#![tactic(auto)]
+
+mod blanks;
+mod forms;
+mod headers;
+mod pem;
+mod words;
+
+pub use forms::{InputError, octets_of_input};
