@@ -1,0 +1,2 @@
+mod Elements
+mod Told

@@ -1,0 +1,110 @@
+-- The messages of NEGOEX as tokens (MS-NEGOEX, 2.2.5 and 2.2.6), and what octets are told as.
+use Rattle.std.specs.Prelude.{◌≡◌, ◌≢◌, ℕ, pos, List, [], drop, length, ◌⊎◌, Result, IfOk, IfErr, MatchResult, codes}
+use Rattle.std.specs.IoError.{error_kind}
+use Rattle.std.specs.declared.io.Error.{Error}
+use Rattle.std.specs.declared.io.ErrorKind.TheVariants.{InvalidData}
+use Rattle.byteorder.specs.Endian.{little_number}
+use Rattle.uuid.specs.Text.{hyphenated_text, lower}
+use Rattle.krb_names.specs.declared.kind.Kind.TheVariants.{ChecksumType}
+use Rattle.krb_negoex.specs.Layouts.{Layout}
+use Rattle.krb_negoex.specs.Rejected.{IsMemory}
+use Rattle.krb_negoex.specs.View.{ChecksumSeen, ExchangeSeen, ExtensionSeen, NegoSeen, VerifySeen}
+use Rattle.krb_negoex.specs.declared.header.MessageHeader.{MessageHeader}
+use Rattle.krb_negoex.specs.declared.header.MessageType.{MessageType}
+use Rattle.krb_negoex.specs.declared.header.MessageType.TheVariants as types
+use Rattle.krb_show.specs.Leaves.{number_of, octets_of, unsigned_of, word_of}
+use Rattle.krb_show.specs.Pages.{◌then◌, list_of, struct_of}
+use Rattle.krb_show.specs.Tokens.{Label, Token, of_kind, plain}
+
+-- ---- tokens
+
+-- a GUID in the text of RFC 9562, 4, in lower case: `v` is its 16 octets in that order
+abbrev pub guid_of : Label → List ℕ → List Token → List Token → Type 0
+guid_of label v = word_of label (hyphenated_text lower v)
+
+-- the names of the types of messages (MS-NEGOEX, 2.2.6.1, MESSAGE_TYPE)
+abbrev pub type_name : MessageType → List ℕ
+type_name types.InitiatorNego = codes "MESSAGE_TYPE_INITIATOR_NEGO"
+type_name types.AcceptorNego = codes "MESSAGE_TYPE_ACCEPTOR_NEGO"
+type_name types.InitiatorMetaData = codes "MESSAGE_TYPE_INITIATOR_META_DATA"
+type_name types.AcceptorMetaData = codes "MESSAGE_TYPE_ACCEPTOR_META_DATA"
+type_name types.Challenge = codes "MESSAGE_TYPE_CHALLENGE"
+type_name types.ApRequest = codes "MESSAGE_TYPE_AP_REQUEST"
+type_name types.Verify = codes "MESSAGE_TYPE_VERIFY"
+type_name types.Alert = codes "MESSAGE_TYPE_ALERT"
+
+-- MESSAGE_HEADER (MS-NEGOEX, 2.2.6.2), without its signature, which is fixed
+abbrev pub header_of : Label → MessageHeader → List Token → List Token → Type 0
+header_of label v = struct_of label (
+    word_of (plain (codes "MessageType")) (type_name v.message_type)
+    then number_of (plain (codes "SequenceNum")) (pos v.sequence_num)
+    then number_of (plain (codes "cbHeaderLength")) (pos v.header_len)
+    then number_of (plain (codes "cbMessageLength")) (pos v.message_len)
+    then guid_of (plain (codes "ConversationId")) v.conversation_id)
+
+-- EXTENSION (MS-NEGOEX, 2.2.5.1.4)
+abbrev pub extension_of : Label → ExtensionSeen → List Token → List Token → Type 0
+extension_of label v = struct_of label (
+    number_of (plain (codes "ExtensionType")) (pos v.extension_type)
+    then octets_of (plain (codes "ExtensionValue")) v.extension_value)
+
+-- CHECKSUM (MS-NEGOEX, 2.2.5.1.3)
+abbrev pub checksum_of : Label → ChecksumSeen → List Token → List Token → Type 0
+checksum_of label v = struct_of label (
+    number_of (plain (codes "cbHeaderLength")) (pos v.header_len)
+    then number_of (plain (codes "ChecksumScheme")) (pos v.checksum_scheme)
+    then number_of (of_kind (codes "ChecksumType") ChecksumType) (pos v.checksum_type)
+    then octets_of (plain (codes "ChecksumValue")) v.checksum_value)
+
+-- NEGO_MESSAGE (MS-NEGOEX, 2.2.6.3)
+abbrev pub nego_of : Label → NegoSeen → List Token → List Token → Type 0
+nego_of label v = struct_of label (
+    header_of (plain (codes "Header")) v.header
+    then octets_of (plain (codes "Random")) v.random
+    then unsigned_of (plain (codes "ProtocolVersion")) v.protocol_version
+    then list_of guid_of (plain (codes "AuthSchemes")) v.auth_schemes
+    then list_of extension_of (plain (codes "Extensions")) v.extensions)
+
+-- EXCHANGE_MESSAGE (MS-NEGOEX, 2.2.6.4)
+abbrev pub exchange_of : Label → ExchangeSeen → List Token → List Token → Type 0
+exchange_of label v = struct_of label (
+    header_of (plain (codes "Header")) v.header
+    then guid_of (plain (codes "AuthScheme")) v.auth_scheme
+    then octets_of (plain (codes "Exchange")) v.exchange)
+
+-- VERIFY_MESSAGE (MS-NEGOEX, 2.2.6.5)
+abbrev pub verify_of : Label → VerifySeen → List Token → List Token → Type 0
+verify_of label v = struct_of label (
+    header_of (plain (codes "Header")) v.header
+    then guid_of (plain (codes "AuthScheme")) v.auth_scheme
+    then checksum_of (plain (codes "Checksum")) v.checksum)
+
+-- ---- octets
+
+-- the number of the message's type, where the octets reach so far (MS-NEGOEX, 2.2.6.2)
+abbrev pub type_number : List ℕ → ℕ
+type_number octets = little_number 4 (drop 8 octets)
+
+-- all of the octets are this message, by its own length
+pub record IsWhole {A : Type 0} (layout : Layout A) (header : A → MessageHeader) (octets : List ℕ) (v : A) : Type 0 where
+  pub is : layout.part octets octets v
+  pub size : (header v).message_len ≡ length octets
+
+-- the octets begin with a message that has another length than they
+pub record IsOfOtherLength {A : Type 0} (layout : Layout A) (header : A → MessageHeader) (octets : List ℕ) (e : Error) : Type 0 where
+  pub kind : error_kind e ≡ InvalidData
+  pub message : A
+  pub is : layout.part octets octets message
+  pub other : (header message).message_len ≢ length octets
+
+-- the message's own first error; where there is none, that its length is another than that of the octets; or an allocation failure
+abbrev pub IsUntold : {A : Type 0} → Layout A → (A → MessageHeader) → List ℕ → Error → Type 0
+IsUntold layout header octets e = IsMemory e ⊎ (layout.rejects octets octets e ⊎ IsOfOtherLength layout header octets e)
+
+-- Where a page is answered it is that of the message that the octets are; where they are one it is answered, but for want of memory; and else
+-- they are refused.
+pub record IsToldAs {A P : Type 0} (layout : Layout A) (header : A → MessageHeader) (shows : A → List Token → List Token → Type 0) (tokens : P → List Token)
+    (octets : List ℕ) (result : Result P Error) : Type 0 where
+  pub found : IfOk result (λ p. (v : A) × IsWhole layout header octets v × shows v [] (tokens p))
+  pub reads : (v : A) → IsWhole layout header octets v → MatchResult result (λ p. Unit {0}) IsMemory
+  pub refused : IfErr result (IsUntold layout header octets)

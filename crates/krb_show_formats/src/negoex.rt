@@ -1,0 +1,408 @@
+//! The messages of NEGOEX (MS-NEGOEX, 2.2.6).
+
+ghost use Rattle.std.specs.Prelude.{◌≡◌, ◌≢◌, ◌<◌, ◌≤◌, ◌⊎◌, [], length, IfOk, IfErr, MatchResult, codes};
+ghost use Rattle.std.specs.IoError.{error_kind};
+ghost use Rattle.krb_show.specs.Leaves.{octets_of, word_of};
+ghost use Rattle.krb_show.specs.Pages.{list_of};
+ghost use Rattle.krb_show.specs.Tokens.{plain};
+ghost use Rattle.krb_negoex.specs.Rejected.{IsMemory};
+ghost use Rattle.krb_negoex.specs.View.{exchange_view_layout, nego_view_layout, verify_view_layout};
+ghost use Rattle.krb_negoex.specs.Wire.{header_layout};
+ghost use Rattle.krb_show_formats.specs.Negoex.{IsToldAs, type_name, type_number};
+ghost use Rattle.krb_show_formats.specs.Negoex.{checksum_of, exchange_of, extension_of, guid_of, header_of, nego_of, verify_of};
+
+use crate::Format;
+use byteorder::{ByteOrder, LittleEndian};
+use krb_negoex::negoex::data_types::{MessageHeader, MessageType};
+use krb_negoex::negoex::views::{
+    AuthSchemesView, ChecksumView, ExchangeView, ExtensionView, ExtensionsView, NegoView,
+    VerifyView,
+};
+use krb_show::{
+    Field, Label, Page, Show, show_fields, show_list, show_octets, show_struct, show_word,
+};
+use std::alloc::{AllocError, Global};
+use std::io;
+use std::io::ErrorKind;
+use std::marker::PhantomData;
+use uuid::Uuid;
+
+/// A GUID, in the text of RFC 9562, 4.
+impl Show<Format> for Uuid {
+    ghost shows = { guid_of };
+
+    fn show(&self, alloc: Global, label: &Label, page: &mut Page) -> Result<(), AllocError> {
+        let mut buffer = Uuid::encode_buffer();
+        let text = self.hyphenated().encode_lower(&mut buffer);
+        show_word(alloc, label, text.as_bytes(), page)
+    }
+}
+
+/// The items of a list.
+impl<T: Show<Format>> Show<Format> for Vec<T> {
+    ghost shows = { λ label v. list_of T.shows label v.items };
+
+    fn show(&self, alloc: Global, label: &Label, page: &mut Page) -> Result<(), AllocError> {
+        show_list(alloc, label, self.as_slice(), page)
+    }
+}
+
+/// Random octets.
+impl Show<Format> for [u8; 32] {
+    ghost shows = { octets_of };
+
+    fn show(&self, alloc: Global, label: &Label, page: &mut Page) -> Result<(), AllocError> {
+        show_octets(alloc, label, self.as_slice(), page)
+    }
+}
+
+/// The name of a type of message (MS-NEGOEX, 2.2.6.1).
+fn type_name(message_type: MessageType) -> &'static str
+    ensures { result.now ≡ type_name message_type }
+{
+    match message_type {
+        MessageType::InitiatorNego => "MESSAGE_TYPE_INITIATOR_NEGO",
+        MessageType::AcceptorNego => "MESSAGE_TYPE_ACCEPTOR_NEGO",
+        MessageType::InitiatorMetaData => "MESSAGE_TYPE_INITIATOR_META_DATA",
+        MessageType::AcceptorMetaData => "MESSAGE_TYPE_ACCEPTOR_META_DATA",
+        MessageType::Challenge => "MESSAGE_TYPE_CHALLENGE",
+        MessageType::ApRequest => "MESSAGE_TYPE_AP_REQUEST",
+        MessageType::Verify => "MESSAGE_TYPE_VERIFY",
+        MessageType::Alert => "MESSAGE_TYPE_ALERT",
+    }
+}
+
+/// The name of a type of message, which stands for its number.
+impl Show<Format> for MessageType {
+    ghost shows = { λ label v. word_of label (type_name v) };
+
+    fn show(&self, alloc: Global, label: &Label, page: &mut Page) -> Result<(), AllocError> {
+        show_word(alloc, label, type_name(*self).as_bytes(), page)
+    }
+}
+
+/// What a message begins with (MS-NEGOEX, 2.2.6.2).
+impl Show<Format> for MessageHeader {
+    ghost shows = { header_of };
+
+    fn show(&self, alloc: Global, label: &Label, page: &mut Page) -> Result<(), AllocError> {
+        show_struct(
+            alloc,
+            label,
+            &show_fields!(
+                Format; self;
+                "MessageType" = message_type,
+                "SequenceNum" = sequence_num,
+                "cbHeaderLength" = header_len,
+                "cbMessageLength" = message_len,
+                "ConversationId" = conversation_id
+            ),
+            page,
+        )
+    }
+}
+
+/// The fields of an extension.
+#[derive(Drop)]
+struct ExtensionFields<'a> {
+    extension_type: u32,
+    extension_value: &'a [u8],
+}
+
+/// An extension (MS-NEGOEX, 2.2.5.1.4).
+impl<'a> Show<Format> for ExtensionView<'a> {
+    ghost shows = { extension_of };
+
+    fn show(&self, alloc: Global, label: &Label, page: &mut Page) -> Result<(), AllocError> {
+        let fields = ExtensionFields {
+            extension_type: self.extension_type(),
+            extension_value: self.extension_value(),
+        };
+        show_struct(
+            alloc,
+            label,
+            &show_fields!(Format; fields; "ExtensionType" = extension_type, "ExtensionValue" = extension_value),
+            page,
+        )
+    }
+}
+
+/// The fields of a checksum.
+#[derive(Drop)]
+struct ChecksumFields<'a> {
+    header_len: u32,
+    checksum_scheme: u32,
+    checksum_type: u32,
+    checksum_value: &'a [u8],
+}
+
+/// A checksum (MS-NEGOEX, 2.2.5.1.3).
+impl<'a> Show<Format> for ChecksumView<'a> {
+    ghost shows = { checksum_of };
+
+    fn show(&self, alloc: Global, label: &Label, page: &mut Page) -> Result<(), AllocError> {
+        let fields = ChecksumFields {
+            header_len: self.header_len(),
+            checksum_scheme: self.checksum_scheme(),
+            checksum_type: self.checksum_type(),
+            checksum_value: self.checksum_value(),
+        };
+        show_struct(
+            alloc,
+            label,
+            &show_fields!(
+                Format; fields;
+                "cbHeaderLength" = header_len,
+                "ChecksumScheme" = checksum_scheme,
+                "ChecksumType" ChecksumType = checksum_type,
+                "ChecksumValue" = checksum_value
+            ),
+            page,
+        )
+    }
+}
+
+/// The schemes of a message.
+fn schemes(alloc: Global, view: &AuthSchemesView) -> Result<Vec<Uuid>, AllocError>
+    ensures { IfOk result (λ schemes. schemes.items ≡ view.now) }
+{
+    let mut schemes = Vec::new(alloc);
+    for n in 0..view.len() {
+        match view.get(n) {
+            Some(scheme) => schemes.push(scheme)?,
+            None => unreachable!(),
+        }
+    }
+    Ok(schemes)
+}
+
+/// The extensions of a message.
+fn extensions<'a>(
+    alloc: Global,
+    view: &ExtensionsView<'a>,
+) -> Result<Vec<ExtensionView<'a>>, AllocError>
+    ensures { IfOk result (λ extensions. extensions.items ≡ view.now) }
+{
+    let mut extensions = Vec::new(alloc);
+    for n in 0..view.len() {
+        match view.get(n) {
+            Some(extension) => extensions.push(extension)?,
+            None => unreachable!(),
+        }
+    }
+    Ok(extensions)
+}
+
+/// The fields of a `Nego` before its extensions.
+#[derive(Drop)]
+struct NegoFields {
+    header: MessageHeader,
+    random: [u8; 32],
+    protocol_version: u64,
+    auth_schemes: Vec<Uuid>,
+}
+
+/// A party's schemes (MS-NEGOEX, 2.2.6.3).
+impl<'a> Show<Format> for NegoView<'a> {
+    ghost shows = { nego_of };
+
+    fn show(&self, alloc: Global, label: &Label, page: &mut Page) -> Result<(), AllocError> {
+        let fields = NegoFields {
+            header: self.header(),
+            random: *self.random(),
+            protocol_version: self.protocol_version(),
+            auth_schemes: schemes(alloc, self.auth_schemes())?,
+        };
+        let items = extensions(alloc, self.extensions())?;
+        let extensions = Field {
+            label: Label {
+                text: "Extensions",
+                kind: None,
+                is_item: false,
+            },
+            value: &items,
+            shown: PhantomData::<Format>,
+        };
+        show_struct(
+            alloc,
+            label,
+            &(
+                show_fields!(
+                    Format; fields;
+                    "Header" = header,
+                    "Random" = random,
+                    "ProtocolVersion" = protocol_version,
+                    "AuthSchemes" = auth_schemes
+                ),
+                extensions,
+            ),
+            page,
+        )
+    }
+}
+
+/// The fields of an `Exchange`.
+#[derive(Drop)]
+struct ExchangeFields<'a> {
+    header: MessageHeader,
+    auth_scheme: Uuid,
+    exchange: &'a [u8],
+}
+
+/// A token of a scheme (MS-NEGOEX, 2.2.6.4).
+impl<'a> Show<Format> for ExchangeView<'a> {
+    ghost shows = { exchange_of };
+
+    fn show(&self, alloc: Global, label: &Label, page: &mut Page) -> Result<(), AllocError> {
+        let fields = ExchangeFields {
+            header: self.header(),
+            auth_scheme: self.auth_scheme(),
+            exchange: self.exchange(),
+        };
+        show_struct(
+            alloc,
+            label,
+            &show_fields!(
+                Format; fields;
+                "Header" = header,
+                "AuthScheme" = auth_scheme,
+                "Exchange" = exchange
+            ),
+            page,
+        )
+    }
+}
+
+/// The fields of a `Verify` before its checksum.
+#[derive(Drop)]
+struct VerifyFields {
+    header: MessageHeader,
+    auth_scheme: Uuid,
+}
+
+/// A checksum of the conversation (MS-NEGOEX, 2.2.6.5).
+impl<'a> Show<Format> for VerifyView<'a> {
+    ghost shows = { verify_of };
+
+    fn show(&self, alloc: Global, label: &Label, page: &mut Page) -> Result<(), AllocError> {
+        let fields = VerifyFields {
+            header: self.header(),
+            auth_scheme: self.auth_scheme(),
+        };
+        let checksum = Field {
+            label: Label {
+                text: "Checksum",
+                kind: None,
+                is_item: false,
+            },
+            value: self.checksum(),
+            shown: PhantomData::<Format>,
+        };
+        show_struct(
+            alloc,
+            label,
+            &(
+                show_fields!(Format; fields; "Header" = header, "AuthScheme" = auth_scheme),
+                checksum,
+            ),
+            page,
+        )
+    }
+}
+
+/// The page of a message with this header, where its length is that of the octets.
+fn page_with<T: Show<Format>>(
+    alloc: Global,
+    name: &str,
+    header: MessageHeader,
+    message: &T,
+    octets: &[u8],
+) -> io::Result<Page>
+    ensures found { IfOk result (λ page. (header.message_len ≡ length octets.now) × T.shows (plain name.now) message.now [] page.items) }
+    ensures refused { IfErr result (λ e. IsMemory e ⊎ ((error_kind e ≡ ErrorKind.InvalidData) × (header.message_len ≢ length octets.now))) }
+{
+    if header.message_len as usize != octets.len() {
+        return Err(io::Error::from(ErrorKind::InvalidData));
+    }
+    let label = Label::new(name);
+    let mut page = Vec::new(alloc);
+    match message.show(alloc, &label, &mut page) {
+        Ok(()) => Ok(page),
+        Err(_) => Err(io::Error::from(ErrorKind::OutOfMemory)),
+    }
+}
+
+/// The page of a `Nego`.
+fn page_of_nego(alloc: Global, octets: &[u8]) -> io::Result<Page>
+    ensures { IsToldAs nego_view_layout (λ v. v.header) (nego_of (plain (codes "NEGO_MESSAGE"))) (λ page. page.items) octets.now result }
+{
+    match NegoView::new(octets) {
+        Ok(message) => page_with(alloc, "NEGO_MESSAGE", message.header(), &message, octets),
+        Err(error) => Err(error),
+    }
+}
+
+/// The page of an `Exchange`.
+fn page_of_exchange(alloc: Global, octets: &[u8]) -> io::Result<Page>
+    ensures { IsToldAs exchange_view_layout (λ v. v.header) (exchange_of (plain (codes "EXCHANGE_MESSAGE"))) (λ page. page.items) octets.now result }
+{
+    match ExchangeView::new(octets) {
+        Ok(message) => page_with(
+            alloc,
+            "EXCHANGE_MESSAGE",
+            message.header(),
+            &message,
+            octets,
+        ),
+        Err(error) => Err(error),
+    }
+}
+
+/// The page of a `Verify`.
+fn page_of_verify(alloc: Global, octets: &[u8]) -> io::Result<Page>
+    ensures { IsToldAs verify_view_layout (λ v. v.header) (verify_of (plain (codes "VERIFY_MESSAGE"))) (λ page. page.items) octets.now result }
+{
+    match VerifyView::new(octets) {
+        Ok(message) => page_with(alloc, "VERIFY_MESSAGE", message.header(), &message, octets),
+        Err(error) => Err(error),
+    }
+}
+
+/// The page of the one message of NEGOEX that all of the octets are, told by its MessageType (MS-NEGOEX, 2.2.6.1): a `NEGO_MESSAGE` of 0 and 1,
+/// an `EXCHANGE_MESSAGE` of 2 to 5, a `VERIFY_MESSAGE` of 6. The fields have the standard's names, but the signature, which is fixed, is not
+/// shown; GUIDs are in the text of RFC 9562, 4.
+///
+/// An alert and an unknown type are `InvalidData`. Else the first error is that of `NegoView::new`, `ExchangeView::new` and `VerifyView::new`;
+/// where the octets end before the type, that of the header. A message whose own length is not that of the octets, as where another message
+/// follows it, is `InvalidData`: cut a token of several messages by their lengths first. An allocation failure is `OutOfMemory`.
+pub fn page_of_negoex(alloc: Global, octets: &[u8]) -> io::Result<Page>
+    ensures short { length octets.now < 12 → MatchResult result (λ page. ⊥) (header_layout.rejects octets.now octets.now) }
+    ensures nego { 12 ≤ length octets.now → type_number octets.now ≤ 1
+        → IsToldAs nego_view_layout (λ v. v.header) (nego_of (plain (codes "NEGO_MESSAGE"))) (λ page. page.items) octets.now result }
+    ensures exchange { 12 ≤ length octets.now → 2 ≤ type_number octets.now → type_number octets.now ≤ 5
+        → IsToldAs exchange_view_layout (λ v. v.header) (exchange_of (plain (codes "EXCHANGE_MESSAGE"))) (λ page. page.items) octets.now result }
+    ensures verify { 12 ≤ length octets.now → type_number octets.now ≡ 6
+        → IsToldAs verify_view_layout (λ v. v.header) (verify_of (plain (codes "VERIFY_MESSAGE"))) (λ page. page.items) octets.now result }
+    ensures other { 12 ≤ length octets.now → 7 ≤ type_number octets.now → MatchResult result (λ page. ⊥) (λ e. error_kind e ≡ ErrorKind.InvalidData) }
+{
+    if octets.len() < 12 {
+        return Err(header_error(octets));
+    }
+    match LittleEndian::read_u32(&octets[8..]) {
+        0..=1 => page_of_nego(alloc, octets),
+        2..=5 => page_of_exchange(alloc, octets),
+        6 => page_of_verify(alloc, octets),
+        _ => Err(io::Error::from(ErrorKind::InvalidData)),
+    }
+}
+
+/// The error of a header that is cut short.
+fn header_error(octets: &[u8]) -> io::Error
+    requires { length octets.now < 12 }
+    ensures { header_layout.rejects octets.now octets.now result }
+{
+    match ExchangeView::new(octets) {
+        Ok(_view) => unreachable!(),
+        Err(error) => error,
+    }
+}
