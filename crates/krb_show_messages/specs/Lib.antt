@@ -1,2 +1,5 @@
+pub mod GssChecksum
+pub mod Kinds
 pub mod Names
+pub mod Proxy
 pub mod Told

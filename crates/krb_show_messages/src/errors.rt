@@ -15,7 +15,7 @@ use krb_show::{Label, Page, Show, ShowFields, open, show_fields, show_opened, sh
 use std::alloc::{AllocError, Global};
 
 /// METHOD-DATA (RFC 4120, 5.9.1).
-type MethodData = Asn1SequenceOf<PaData>;
+pub(crate) type MethodData = Asn1SequenceOf<PaData>;
 
 /// Appends the tokens of the data of an error: METHOD-DATA, or KERB-ERROR-DATA (MS-KILE, 2.2.1), or octets.
 fn show_error_data(

@@ -3,7 +3,8 @@
 ghost use Rattle.std.specs.Prelude.{◌≡◌, ◌<◌, false, [], Err, codes, length, slice_index};
 ghost use Rattle.krb_der_core.specs.declared.error.Asn1DerError.TheVariants.{InvalidData, TruncatedData};
 ghost use Rattle.krb_show.specs.Tokens.{plain};
-ghost use Rattle.krb_show_messages.specs.Told.{IsToldBy, is_message, is_part};
+ghost use Rattle.krb_show.specs.Told.{IsToldBy};
+ghost use Rattle.krb_show_messages.specs.Told.{is_message, is_part};
 
 use crate::Message;
 use krb_der::{Asn1DerError, Der, DerEncode};
@@ -18,7 +19,7 @@ use krb_show::{Label, Page, Show, page_of_octets};
 use std::alloc::Global;
 
 /// The page of a value of this type, under a name.
-fn page_as<T: Der + Show<Message> + Drop>(
+pub(crate) fn page_as<T: Der + Show<Message> + Drop>(
     alloc: Global,
     name: &str,
     octets: &[u8],

@@ -7,12 +7,14 @@ ghost use Rattle.krb_show.specs.Pages.{◌then◌, optional_of, struct_of};
 ghost use Rattle.krb_show.specs.Tokens.{of_kind, plain};
 
 use crate::Message;
+use crate::gss_checksum::ChecksumValues;
 use krb_msg_types::data_types::{
     Checksum, EncryptedData, EncryptionKey, HostAddress, PrincipalName, TicketInner,
     TransitedEncoding,
 };
-use krb_show::{Label, Page, Show, show_fields, show_struct};
+use krb_show::{Label, OpensValues, Page, Show, TypedValue, show_fields, show_struct};
 use std::alloc::{AllocError, Global};
+use std::marker::PhantomData;
 
 /// The address of a host (RFC 4120, 5.2.5 and 7.5.3).
 impl Show<Message> for HostAddress {
@@ -30,17 +32,26 @@ impl Show<Message> for HostAddress {
     }
 }
 
-/// A checksum, under a key or without one (RFC 4120, 5.2.9).
+/// A checksum, under a key or without one (RFC 4120, 5.2.9). That of the GSS-API in an authenticator (RFC 4121, 4.1.1) is opened.
 impl Show<Message> for Checksum {
     ghost shows = { λ label v. struct_of label (
         number_of (of_kind (codes "cksumtype") ChecksumType) v.cksumtype
-        then octets_of (plain (codes "checksum")) v.checksum) };
+        then ⟦<ChecksumValues as OpensValues>⟧.opened (plain (codes "checksum")) v.cksumtype v.checksum) };
 
     fn show(&self, alloc: Global, label: &Label, page: &mut Page) -> Result<(), AllocError> {
+        let value = TypedValue {
+            label: Label::new("checksum"),
+            number: &self.cksumtype,
+            octets: &self.checksum,
+            values: PhantomData::<ChecksumValues>,
+        };
         show_struct(
             alloc,
             label,
-            &show_fields!(Message; self; "cksumtype" ChecksumType = cksumtype, "checksum" = checksum),
+            &(
+                show_fields!(Message; self; "cksumtype" ChecksumType = cksumtype),
+                value,
+            ),
             page,
         )
     }

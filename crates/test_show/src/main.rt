@@ -1,37 +1,58 @@
 //! The program `test_show`: shows octets that come from outside this library.
 //!
-//! Its standard input is a table. A row is a line of an origin, a type and the octets of a message or of an opened part in hexadecimal
-//! digits, with tabs between; a line that begins with `#` is a comment. For each row the program prints a line of the origin and the type,
-//! the page's text and its JSON, or the error.
+//! Its standard input is a table. A row is a line of an origin, a type and octets in hexadecimal digits, with tabs between; a line that
+//! begins with `#` is a comment. The octets are of the kind that the type names, of a token of the GSS-API where the type begins with
+//! `token: `, and else of the message or the opened part that their first octet names. For each row the program prints a line of the origin
+//! and the type, the page's text and its JSON, or the error.
 #![tactic(auto)]
 
 #[cfg(test)]
 mod large;
 
-use krb_der::Asn1DerError;
+use krb_pac::PacError;
 use krb_show::{Page, json_of_page, text_of_page};
-use krb_show_messages::{page_of_message, page_of_part};
-use std::alloc::Global;
+use krb_show_any::{Everything, Kind, PageError, Pages, kind_of_name};
+use std::alloc::{AllocError, Global};
 use std::io;
 use std::io::{BufRead, BufReader};
 
-/// The page of a message or of a part.
-fn page_of(alloc: Global, octets: &[u8]) -> Result<Page, Asn1DerError> {
-    match octets {
-        [0x62 | 0x63 | 0x79 | 0x7a | 0x7b | 0x7c | 0x7d, ..] => page_of_part(alloc, octets),
-        _ => page_of_message(alloc, octets),
+/// The kind of a row's octets.
+fn kind_of(name: &str, octets: &[u8]) -> Kind {
+    if name.starts_with("token: ") {
+        return Kind::Token;
+    }
+    if name == "password frame" {
+        return Kind::PasswordFrame;
+    }
+    let first = octets.first().copied().unwrap_or(0);
+    kind_of_name(name).unwrap_or(Kind::Application(first))
+}
+
+/// What is printed of a page.
+fn printed(alloc: Global, page: &Page) -> Result<String, AllocError> {
+    let text = text_of_page(alloc, page)?;
+    let json = json_of_page(alloc, page)?;
+    format!(in alloc; "{text}{json}")
+}
+
+/// What is printed of an error.
+fn reported(alloc: Global, error: PageError) -> Result<String, AllocError> {
+    match error {
+        PageError::Der(error) => format!(in alloc; "{error:?}\n"),
+        PageError::Token(error) => format!(in alloc; "{error:?}\n"),
+        PageError::Pac(PacError::IoError(error)) => format!(in alloc; "{:?}\n", error.kind()),
+        PageError::Pac(error) => format!(in alloc; "{error:?}\n"),
+        PageError::Negoex(error) => format!(in alloc; "{:?}\n", error.kind()),
+        PageError::PasswordFrame(error) => format!(in alloc; "{error:?}\n"),
+        PageError::OutOfMemory => Err(AllocError),
     }
 }
 
 /// What is printed of octets.
-fn shown(alloc: Global, octets: &[u8]) -> io::Result<String> {
-    match page_of(alloc, octets) {
-        Ok(page) => {
-            let text = text_of_page(alloc, &page)?;
-            let json = json_of_page(alloc, &page)?;
-            Ok(format!(in alloc; "{text}{json}")?)
-        }
-        Err(error) => Ok(format!(in alloc; "{error:?}\n")?),
+fn shown(alloc: Global, name: &str, octets: &[u8]) -> Result<String, AllocError> {
+    match Everything::page_of(alloc, kind_of(name, octets), octets) {
+        Ok(page) => printed(alloc, &page),
+        Err(error) => reported(alloc, error),
     }
 }
 
@@ -44,7 +65,7 @@ fn answer(alloc: Global, row: &str) -> io::Result<String> {
     };
     match hex::decode(alloc, digits) {
         Ok(octets) => {
-            let text = shown(alloc, &octets)?;
+            let text = shown(alloc, name, &octets)?;
             Ok(format!(in alloc; "{origin} {name}\n{text}")?)
         }
         Err(_) => Ok(String::from_str(alloc, "no digits\n")?),

@@ -1,0 +1,35 @@
+use Rattle.krb_show_any.proofs.data.DataPagesDataKindAsn1DerError.page_of.Goals as goal
+
+pub returns : goal.returns
+returns c =
+    let e = c.page_of_data.ensures in (
+      e.principal_name,
+      e.host_address,
+      e.host_addresses,
+      e.authorization_data,
+      e.encrypted_data,
+      e.encryption_key,
+      e.checksum,
+      e.transited_encoding,
+      e.last_req,
+      e.pa_data,
+      e.method_data,
+      e.pa_enc_ts_enc,
+      e.etype_info2_entry,
+      e.etype_info2,
+      e.kerb_pa_pac_request,
+      e.pa_pac_options,
+      e.kdc_req_body,
+      e.krb_cred_info,
+      e.kerb_error_data,
+      e.kerb_ad_restriction_entry,
+      e.change_passwd_data,
+      e.tgt_req,
+      e.tgt_rep,
+      e.kdc_proxy_message,
+      e.pku2u_nego_req_metadata,
+      e.pku2u_nego_body,
+      e.pku2u_nego_req,
+      e.pku2u_nego_rep,
+      e.krb_finished,
+    )

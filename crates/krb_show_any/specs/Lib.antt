@@ -1,0 +1,4 @@
+pub mod Kinds
+pub mod Names
+pub mod Errors
+pub mod Told

@@ -1,0 +1,172 @@
+//! Why octets have no page.
+
+ghost use Rattle.std.specs.Prelude.{◌≡◌};
+ghost use Rattle.krb_show_any.specs.Errors.{der_reason, frame_reason, of_der, of_exchange, of_frame, of_pac, of_token, pac_reason, reason, token_reason};
+
+use krb_der::Asn1DerError;
+use krb_gss_tokens::GssApiMessageError;
+use krb_msg_password::ReadFrameError;
+use krb_pac::PacError;
+use krb_show::Page;
+use krb_show_password::PasswordFrameError;
+use std::io;
+use thiserror::Error;
+
+/// Why octets have no page.
+#[derive(Debug, Drop, Error)]
+pub enum PageError {
+    /// The octets are no encoding of a value of the type, for this reason.
+    #[error("{0}")]
+    Der(Asn1DerError),
+    /// The octets are no token of the GSS-API, for this reason.
+    #[error("{0}")]
+    Token(GssApiMessageError),
+    /// The octets are no PAC, for this reason.
+    #[error("{0}")]
+    Pac(PacError),
+    /// The octets are no message of NEGOEX, for this reason.
+    #[error("{0}")]
+    Negoex(io::Error),
+    /// The octets are no frame in which a password is changed, for this reason.
+    #[error("{0}")]
+    PasswordFrame(PasswordFrameError),
+    /// An allocation failed.
+    #[error("out of memory")]
+    OutOfMemory,
+}
+
+/// The result of reading a value by DER.
+pub fn of_der(outcome: Result<Page, Asn1DerError>) -> Result<Page, PageError>
+    ensures { result ≡ of_der outcome }
+{
+    match outcome {
+        Ok(page) => Ok(page),
+        Err(Asn1DerError::OutOfMemory) => Err(PageError::OutOfMemory),
+        Err(error) => Err(PageError::Der(error)),
+    }
+}
+
+/// The result of reading a token.
+pub fn of_token(outcome: Result<Page, GssApiMessageError>) -> Result<Page, PageError>
+    ensures { result ≡ of_token outcome }
+{
+    match outcome {
+        Ok(page) => Ok(page),
+        Err(GssApiMessageError::OutOfMemory) => Err(PageError::OutOfMemory),
+        Err(error) => Err(PageError::Token(error)),
+    }
+}
+
+/// The result of reading a PAC.
+pub fn of_pac(outcome: Result<Page, PacError>) -> Result<Page, PageError>
+    ensures { result ≡ of_pac outcome }
+{
+    match outcome {
+        Ok(page) => Ok(page),
+        Err(PacError::OutOfMemory) => Err(PageError::OutOfMemory),
+        Err(error) => Err(PageError::Pac(error)),
+    }
+}
+
+/// The result of reading a message of NEGOEX.
+pub fn of_exchange(outcome: io::Result<Page>) -> Result<Page, PageError>
+    ensures { of_exchange outcome result }
+{
+    match outcome {
+        Ok(page) => Ok(page),
+        Err(error) => match error.kind() {
+            io::ErrorKind::OutOfMemory => Err(PageError::OutOfMemory),
+            _ => Err(PageError::Negoex(error)),
+        },
+    }
+}
+
+/// The result of reading a frame.
+pub fn of_frame(outcome: Result<Page, PasswordFrameError>) -> Result<Page, PageError>
+    ensures { result ≡ of_frame outcome }
+{
+    match outcome {
+        Ok(page) => Ok(page),
+        Err(PasswordFrameError::Frame(ReadFrameError::OutOfMemory)) => Err(PageError::OutOfMemory),
+        Err(error) => Err(PageError::PasswordFrame(error)),
+    }
+}
+
+/// Why octets are no DER encoding.
+fn der_reason(error: &Asn1DerError) -> &'static str
+    ensures { result.now ≡ der_reason error.now }
+{
+    match error {
+        Asn1DerError::InvalidData => "InvalidData: the octets are no DER encoding of this type",
+        Asn1DerError::TruncatedData =>
+            "TruncatedData: the octets end too early, or a field is missing",
+        Asn1DerError::UnsupportedValue =>
+            "UnsupportedValue: a length is indefinite or has more than eight octets",
+        Asn1DerError::Io(_) => "reading failed",
+        Asn1DerError::OutOfMemory => "out of memory",
+    }
+}
+
+/// Why octets are no token.
+fn token_reason(error: &GssApiMessageError) -> &'static str
+    ensures { result.now ≡ token_reason error.now }
+{
+    match error {
+        GssApiMessageError::InvalidId(_, _) =>
+            "InvalidId: the token id is of no message that is known",
+        GssApiMessageError::InvalidMechanismOid(_, _) =>
+            "InvalidMechanismOid: the mechanism is another",
+        GssApiMessageError::IoError(_) => "UnexpectedEof: the octets end within the token",
+        GssApiMessageError::InvalidMicFiller(_) => "InvalidMicFiller: octets 3 to 7 are not all ff",
+        GssApiMessageError::InvalidWrapFiller(_) => "InvalidWrapFiller: octet 3 is not ff",
+        GssApiMessageError::Asn1Error(why) => der_reason(why),
+        GssApiMessageError::OutOfMemory => "out of memory",
+    }
+}
+
+/// Why octets are no PAC.
+fn pac_reason(error: &PacError) -> &'static str
+    ensures { result.now ≡ pac_reason error.now }
+{
+    match error {
+        PacError::Version(_) => "InvalidVersion: the version is not 0",
+        PacError::PacBufferType(_) => "PacBufferType: the number of no type of a buffer",
+        PacError::IoError(_) => "UnexpectedEof: the octets end within the directory",
+        PacError::InvalidVersion(_) => "InvalidVersion: the version is not 0",
+        PacError::InvalidRange => "InvalidRange: a buffer's octets are not all there",
+        PacError::OutOfMemory => "out of memory",
+    }
+}
+
+/// Why octets are no frame.
+fn frame_reason(error: &PasswordFrameError) -> &'static str
+    ensures { result.now ≡ frame_reason error.now }
+{
+    match error {
+        PasswordFrameError::TrailingOctets => "TrailingOctets: octets follow the frame",
+        PasswordFrameError::Frame(why) => match why {
+            ReadFrameError::Cut => "Cut: the octets end before the messages",
+            ReadFrameError::Version => "Version: the version is not 1",
+            ReadFrameError::ApMessage(_) =>
+                "ApMessage: the first message is no AP-REQ and no AP-REP",
+            ReadFrameError::KrbPriv(_) => "KrbPriv: the second message is no KRB-PRIV",
+            ReadFrameError::OutOfMemory => "out of memory",
+        },
+    }
+}
+
+impl PageError {
+    /// The error and what it means, in a few words of ASCII, without a line feed.
+    pub fn reason(&self) -> &'static str
+        ensures { result.now ≡ reason self.now }
+    {
+        match self {
+            PageError::Der(error) => der_reason(error),
+            PageError::Token(error) => token_reason(error),
+            PageError::Pac(error) => pac_reason(error),
+            PageError::Negoex(_) => "the octets are no message of NEGOEX",
+            PageError::PasswordFrame(error) => frame_reason(error),
+            PageError::OutOfMemory => "out of memory",
+        }
+    }
+}

@@ -1,0 +1,110 @@
+//! All kinds that the library reads.
+
+ghost use Rattle.std.specs.Prelude.{◌≡◌, Result, Vec};
+ghost use Rattle.std.specs.declared.alloc.Global.{Global};
+ghost use Rattle.std.specs.declared.io.Error.{Error};
+ghost use Rattle.krb_der_core.specs.declared.error.Asn1DerError.{Asn1DerError};
+ghost use Rattle.krb_gss_tokens.specs.declared.error.GssApiMessageError.{GssApiMessageError};
+ghost use Rattle.krb_pac.specs.declared.error.PacError.{PacError};
+ghost use Rattle.krb_show.specs.Tokens.{Token};
+ghost use Rattle.krb_show_password.specs.declared.error.PasswordFrameError.{PasswordFrameError};
+ghost use Rattle.krb_show_any.specs.Told.{IsPacTold};
+ghost use Rattle.krb_show_any.specs.Kinds.{by_kind};
+ghost use Rattle.krb_show_any.specs.Errors.{of_der, of_exchange, of_frame, of_pac, of_token};
+
+use crate::applications::Applications;
+use crate::certificates::Certificates;
+use crate::data::Data;
+use crate::error::{PageError, of_der, of_exchange, of_frame, of_pac, of_token};
+use crate::exchanges::Exchanges;
+use crate::kind::Kind;
+use crate::pages::Pages;
+use crate::password_frames::PasswordFrames;
+use crate::tokens::Tokens;
+use krb_der::Asn1DerError;
+use krb_gss_tokens::GssApiMessageError;
+use krb_show::Page;
+use krb_show_formats::page_of_pac;
+use krb_show_messages::DataKind;
+use krb_show_password::PasswordFrameError;
+use krb_show_pkinit::CertificateKind;
+use std::alloc::Global;
+use std::io;
+
+/// The page of a message or an opened part.
+fn application_page(alloc: Global, tag: u8, octets: &[u8]) -> Result<Page, PageError>
+    ensures { (r : Result (Vec Token Global) Asn1DerError) × (result ≡ of_der r) × ⟦<Applications as Pages<u8, Asn1DerError>>⟧.tells tag octets.now r }
+{
+    of_der(Applications::page_of(alloc, tag, octets))
+}
+
+/// The page of a token.
+fn token_page(alloc: Global, octets: &[u8]) -> Result<Page, PageError>
+    ensures { (r : Result (Vec Token Global) GssApiMessageError) × (result ≡ of_token r)
+        × ⟦<Tokens as Pages<(), GssApiMessageError>>⟧.tells tt octets.now r }
+{
+    of_token(Tokens::page_of(alloc, (), octets))
+}
+
+/// The page of a PAC.
+fn pac_page(alloc: Global, octets: &[u8]) -> Result<Page, PageError>
+    ensures { (r : Result (Vec Token Global) PacError) × (result ≡ of_pac r) × IsPacTold octets.now r }
+{
+    of_pac(page_of_pac(alloc, octets))
+}
+
+/// The page of a message of NEGOEX.
+fn exchange_page(alloc: Global, octets: &[u8]) -> Result<Page, PageError>
+    ensures { (r : Result (Vec Token Global) Error) × of_exchange r result × ⟦<Exchanges as Pages<(), io::Error>>⟧.tells tt octets.now r }
+{
+    of_exchange(Exchanges::page_of(alloc, (), octets))
+}
+
+/// The page of a frame in which a password is changed.
+fn frame_page(alloc: Global, octets: &[u8]) -> Result<Page, PageError>
+    ensures { (r : Result (Vec Token Global) PasswordFrameError) × (result ≡ of_frame r)
+        × ⟦<PasswordFrames as Pages<(), PasswordFrameError>>⟧.tells tt octets.now r }
+{
+    of_frame(PasswordFrames::page_of(alloc, (), octets))
+}
+
+/// The page of a type that its first octet does not tell.
+fn data_page(alloc: Global, kind: DataKind, octets: &[u8]) -> Result<Page, PageError>
+    ensures { (r : Result (Vec Token Global) Asn1DerError) × (result ≡ of_der r) × ⟦<Data as Pages<DataKind, Asn1DerError>>⟧.tells kind octets.now r }
+{
+    of_der(Data::page_of(alloc, kind, octets))
+}
+
+/// The page of a type of PKINIT or of CredSSP.
+fn certificate_page(alloc: Global, kind: CertificateKind, octets: &[u8]) -> Result<Page, PageError>
+    ensures { (r : Result (Vec Token Global) Asn1DerError) × (result ≡ of_der r) × ⟦<Certificates as Pages<CertificateKind, Asn1DerError>>⟧.tells kind octets.now r }
+{
+    of_der(Certificates::page_of(alloc, kind, octets))
+}
+
+/// All kinds that the library reads.
+#[derive(Drop)]
+pub struct Everything;
+
+impl Pages<Kind, PageError> for Everything {
+    ghost tells = { λ kind octets result. by_kind kind
+        (λ tag. (r : Result (Vec Token Global) Asn1DerError) × (result ≡ of_der r) × ⟦<Applications as Pages<u8, Asn1DerError>>⟧.tells tag octets r)
+        ((r : Result (Vec Token Global) GssApiMessageError) × (result ≡ of_token r) × ⟦<Tokens as Pages<(), GssApiMessageError>>⟧.tells tt octets r)
+        ((r : Result (Vec Token Global) PacError) × (result ≡ of_pac r) × IsPacTold octets r)
+        ((r : Result (Vec Token Global) Error) × of_exchange r result × ⟦<Exchanges as Pages<(), io::Error>>⟧.tells tt octets r)
+        ((r : Result (Vec Token Global) PasswordFrameError) × (result ≡ of_frame r) × ⟦<PasswordFrames as Pages<(), PasswordFrameError>>⟧.tells tt octets r)
+        (λ k. (r : Result (Vec Token Global) Asn1DerError) × (result ≡ of_der r) × ⟦<Data as Pages<DataKind, Asn1DerError>>⟧.tells k octets r)
+        (λ k. (r : Result (Vec Token Global) Asn1DerError) × (result ≡ of_der r) × ⟦<Certificates as Pages<CertificateKind, Asn1DerError>>⟧.tells k octets r) };
+
+    fn page_of(alloc: Global, kind: Kind, octets: &[u8]) -> Result<Page, PageError> {
+        match kind {
+            Kind::Application(tag) => application_page(alloc, tag, octets),
+            Kind::Token => token_page(alloc, octets),
+            Kind::Pac => pac_page(alloc, octets),
+            Kind::Negoex => exchange_page(alloc, octets),
+            Kind::PasswordFrame => frame_page(alloc, octets),
+            Kind::Data(kind) => data_page(alloc, kind, octets),
+            Kind::Certificate(kind) => certificate_page(alloc, kind, octets),
+        }
+    }
+}

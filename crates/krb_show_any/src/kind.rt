@@ -1,0 +1,127 @@
+//! Kinds of octets, told by their first octets.
+
+ghost use Rattle.std.specs.Prelude.{◌≡◌};
+ghost use Rattle.krb_show_any.specs.Kinds.{is_application, is_frame, is_negoex, is_per_message, is_token_tag, is_zeros, kind_of, kind_without_tag};
+
+use krb_show_messages::DataKind;
+use krb_show_pkinit::CertificateKind;
+
+/// What octets are.
+#[derive(Clone, Copy, PartialEq, Eq, Debug)]
+pub enum Kind {
+    /// The message or the opened part of a message (RFC 4120, 5.3 to 5.9) whose first octet this is.
+    Application(u8),
+    /// A token of the GSS-API, of Kerberos or of SPNEGO, which its first octet names.
+    Token,
+    /// A PAC (MS-PAC, 2.3).
+    Pac,
+    /// A message of NEGOEX (MS-NEGOEX, 2.2.6).
+    Negoex,
+    /// A frame in which a password is changed (RFC 3244, 2).
+    PasswordFrame,
+    /// A type that its first octet does not tell.
+    Data(DataKind),
+    /// A type of PKINIT or of CredSSP, which its first octet does not tell.
+    Certificate(CertificateKind),
+}
+
+/// Whether the encodings of a message or of an opened part begin with this octet (RFC 4120, 5.10).
+pub fn is_application(octet: u8) -> bool
+    ensures { result ≡ is_application octet }
+{
+    octet == 0x61
+        || (0x6a <= octet && octet <= 0x6f)
+        || octet == 0x75
+        || octet == 0x76
+        || octet == 0x7e
+        || octet == 0x62
+        || octet == 0x63
+        || (0x79 <= octet && octet <= 0x7d)
+}
+
+/// Whether a token of the GSS-API begins with this octet, which is one of a DER encoding.
+fn is_token_tag(octet: u8) -> bool
+    ensures { result ≡ is_token_tag octet }
+{
+    octet == 0x60 || octet == 0xa0 || octet == 0xa1
+}
+
+/// Whether octets begin as a MIC or a Wrap token.
+fn is_per_message(octets: &[u8]) -> bool
+    ensures { result ≡ is_per_message octets.now }
+{
+    match octets {
+        [0x04, 0x04, ..] => true,
+        [0x05, 0x04, ..] => true,
+        _ => false,
+    }
+}
+
+/// Whether zeros follow the first octet, seven of them.
+fn is_zeros(octets: &[u8]) -> bool
+    ensures { result ≡ is_zeros octets.now }
+{
+    match octets {
+        [_, 0, 0, 0, 0, 0, 0, 0, ..] => true,
+        _ => false,
+    }
+}
+
+/// Whether octets begin as a message of NEGOEX.
+fn is_negoex(octets: &[u8]) -> bool
+    ensures { result ≡ is_negoex octets.now }
+{
+    match octets {
+        [b'N', b'E', b'G', b'O', b'E', b'X', b'T', b'S', ..] => true,
+        _ => false,
+    }
+}
+
+/// Whether octets begin as a frame of version 1 whose length is theirs.
+fn is_frame(octets: &[u8]) -> bool
+    ensures { result ≡ is_frame octets.now }
+{
+    match octets {
+        [high, low, 0, 1, ..] => *high as usize * 256 + *low as usize == octets.len(),
+        _ => false,
+    }
+}
+
+/// The kind that octets begin as, where no tag tells it.
+fn kind_without_tag(octets: &[u8]) -> Option<Kind>
+    ensures { result ≡ kind_without_tag octets.now }
+{
+    if is_per_message(octets) {
+        return Some(Kind::Token);
+    }
+    if is_negoex(octets) {
+        return Some(Kind::Negoex);
+    }
+    if is_zeros(octets) {
+        return Some(Kind::Pac);
+    }
+    if is_frame(octets) {
+        return Some(Kind::PasswordFrame);
+    }
+    None
+}
+
+/// The kind that octets begin as; the first rule that fits decides, and `None` is returned where none does.
+///
+/// 1. A first octet of RFC 4120, 5.10: that message or opened part.
+/// 2. `60`, `a0`, `a1`, or `04 04` and `05 04`: a token of the GSS-API.
+/// 3. `NEGOEXTS` in ASCII: a message of NEGOEX.
+/// 4. Seven zeros behind the first octet: a PAC of fewer than 256 buffers.
+/// 5. Two octets that are the number of all octets, then `00 01`: a frame in which a password is changed.
+pub fn kind_of_octets(octets: &[u8]) -> Option<Kind>
+    ensures { result ≡ kind_of octets.now }
+{
+    let (first, _rest) = octets.split_first()?;
+    if is_application(*first) {
+        return Some(Kind::Application(*first));
+    }
+    if is_token_tag(*first) {
+        return Some(Kind::Token);
+    }
+    kind_without_tag(octets)
+}

@@ -1,0 +1,28 @@
+//! Octets of any kind that the library reads, as pages.
+//!
+//! `kind_of_octets` says what octets begin as, `kind_of_name` what a name is of, and `Everything::page_of` makes the page of octets of a kind.
+#![tactic(auto)]
+
+mod applications;
+mod certificates;
+mod data;
+mod error;
+mod everything;
+mod exchanges;
+mod kind;
+mod names;
+mod pages;
+mod password_frames;
+mod tokens;
+
+pub use applications::Applications;
+pub use certificates::Certificates;
+pub use data::Data;
+pub use error::PageError;
+pub use everything::Everything;
+pub use exchanges::Exchanges;
+pub use kind::{Kind, is_application, kind_of_octets};
+pub use names::{kind_of_name, name_of_kind};
+pub use pages::Pages;
+pub use password_frames::PasswordFrames;
+pub use tokens::Tokens;

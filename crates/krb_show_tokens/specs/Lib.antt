@@ -1,0 +1,5 @@
+pub mod Frames
+pub mod Heads
+pub mod Leaves
+pub mod Opened
+pub mod Told

@@ -1,0 +1,24 @@
+//! Tokens of the GSS-API as pages: the frame of RFC 2743 around messages of Kerberos (RFC 4121, 4.1), SPNEGO (RFC 4178), MIC and Wrap
+//! (RFC 4121, 4.2.6).
+#![tactic(auto)]
+
+mod elements;
+mod frames;
+mod heads;
+mod leaves;
+mod negotiation;
+mod opened;
+mod per_message;
+mod tokens;
+
+pub use frames::InnerMessage;
+pub use leaves::{show_identifier, show_token_flags, show_token_id, show_unsigned};
+pub use opened::{
+    FramedApRep, FramedApReq, FramedError, FramedTgtRep, FramedTgtReq, LoneMessages, MechListMics,
+    MechTokens, OpenedAs, OpenedOctets, OpensOctets, PlainOctets, UserToUserTokens,
+};
+pub use tokens::page_of_token;
+
+/// The way in which this crate shows: octet strings of a negotiation that hold known tokens are opened.
+#[derive(Drop)]
+pub struct GssToken;

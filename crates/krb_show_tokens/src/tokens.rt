@@ -1,0 +1,195 @@
+//! Tokens, told by their first octet.
+
+ghost use Rattle.std.specs.Prelude.{◌≡◌, ◌<◌, ◌∷◌, false, ℕ, [], Err, codes, length, slice_index};
+ghost use Rattle.krb_der_core.specs.declared.error.Asn1DerError.TheVariants.{InvalidData, TruncatedData};
+ghost use Rattle.krb_gss_tokens.specs.declared.error.GssApiMessageError.TheVariants.{Asn1Error, InvalidId};
+ghost use Rattle.krb_show.specs.Tokens.{plain};
+ghost use Rattle.krb_show_tokens.specs.declared.heads.Head.TheVariants.{Kerberos, Negotiation, Unknown};
+ghost use Rattle.krb_show_tokens.specs.Frames.{HasId, HasNone, IsNegotiation, RefusesId, is_known_id, is_token};
+ghost use Rattle.krb_show_tokens.specs.Told.{IsMicTold, IsToldBy, IsWrapTold};
+
+use crate::GssToken;
+use crate::heads::{Head, head_of};
+use crate::opened::{FramedApRep, FramedApReq, FramedError, FramedTgtRep, FramedTgtReq};
+use krb_constants::gss_api::AP_REQ_TOKEN_ID;
+use krb_der::{Asn1DerError, Der, DerEncode, ExplicitContextTag0};
+use krb_gss_negotiation::gss_api::{ApplicationTag0, GssApiNegInit, NegTokenInit, NegTokenTarg1};
+use krb_gss_tokens::{GssApiMessageError, MicToken, WrapToken};
+use krb_show::{Label, Page, Show, page_of_octets};
+use std::alloc::Global;
+
+/// The token that begins a negotiation (RFC 4178, 4.2).
+type FramedNegInit = ApplicationTag0<GssApiNegInit>;
+
+/// The first message of a negotiation without a frame: `negTokenInit [0]` of the choice `NegotiationToken` (RFC 4178, 4.2).
+type NegTokenInit0 = ExplicitContextTag0<NegTokenInit>;
+
+/// The page of a value of this type, under a name.
+fn page_as<T: Der + Show<GssToken> + Drop>(
+    alloc: Global,
+    name: &str,
+    octets: &[u8],
+) -> Result<Page, GssApiMessageError>
+    ensures { IsToldBy ⟦<T as DerEncode>⟧ ⟦<T as Show<GssToken>>⟧ (plain name.now) (λ p. p.items) octets.now result }
+{
+    let label = Label::new(name);
+    let page = page_of_octets::<GssToken, T>(alloc, &label, octets)?;
+    Ok(page)
+}
+
+/// The page of a MIC token.
+fn page_of_mic(alloc: Global, octets: &[u8]) -> Result<Page, GssApiMessageError>
+    ensures { IsMicTold ⟦<MicToken as Show<GssToken>>⟧ (plain (codes "MIC")) (λ p. p.items) octets.now result }
+{
+    let token = MicToken::from_slice(alloc, octets)?;
+    let label = Label::new("MIC");
+    let mut page = Vec::new(alloc);
+    token.show(alloc, &label, &mut page)?;
+    Ok(page)
+}
+
+/// The page of a Wrap token.
+fn page_of_wrap(alloc: Global, octets: &[u8]) -> Result<Page, GssApiMessageError>
+    ensures { IsWrapTold ⟦<WrapToken as Show<GssToken>>⟧ (plain (codes "Wrap")) (λ p. p.items) octets.now result }
+{
+    let token = WrapToken::from_slice(alloc, octets)?;
+    let label = Label::new("Wrap");
+    let mut page = Vec::new(alloc);
+    token.show(alloc, &label, &mut page)?;
+    Ok(page)
+}
+
+/// The page of a token of Kerberos with this token id.
+fn page_of_id(
+    alloc: Global,
+    first: u8,
+    second: u8,
+    octets: &[u8],
+) -> Result<Page, GssApiMessageError>
+    ensures ap_req { first ≡ 1 → second ≡ 0 → IsToldBy ⟦<FramedApReq as DerEncode>⟧ ⟦<FramedApReq as Show<GssToken>>⟧
+        (plain (codes "InitialContextToken")) (λ p. p.items) octets.now result }
+    ensures ap_rep { first ≡ 2 → second ≡ 0 → IsToldBy ⟦<FramedApRep as DerEncode>⟧ ⟦<FramedApRep as Show<GssToken>>⟧
+        (plain (codes "InitialContextToken")) (λ p. p.items) octets.now result }
+    ensures krb_error { first ≡ 3 → second ≡ 0 → IsToldBy ⟦<FramedError as DerEncode>⟧ ⟦<FramedError as Show<GssToken>>⟧
+        (plain (codes "InitialContextToken")) (λ p. p.items) octets.now result }
+    ensures tgt_req { first ≡ 4 → second ≡ 0 → IsToldBy ⟦<FramedTgtReq as DerEncode>⟧ ⟦<FramedTgtReq as Show<GssToken>>⟧
+        (plain (codes "InitialContextToken")) (λ p. p.items) octets.now result }
+    ensures tgt_rep { first ≡ 4 → second ≡ 1 → IsToldBy ⟦<FramedTgtRep as DerEncode>⟧ ⟦<FramedTgtRep as Show<GssToken>>⟧
+        (plain (codes "InitialContextToken")) (λ p. p.items) octets.now result }
+    ensures other_id { is_known_id first second ≡ false → result ≡ Err (InvalidId (1 ∷ 0 ∷ []) (first ∷ second ∷ [])) }
+{
+    match (first, second) {
+        (1, 0) => page_as::<FramedApReq>(alloc, "InitialContextToken", octets),
+        (2, 0) => page_as::<FramedApRep>(alloc, "InitialContextToken", octets),
+        (3, 0) => page_as::<FramedError>(alloc, "InitialContextToken", octets),
+        (4, 0) => page_as::<FramedTgtReq>(alloc, "InitialContextToken", octets),
+        (4, 1) => page_as::<FramedTgtRep>(alloc, "InitialContextToken", octets),
+        _ => Err(GssApiMessageError::InvalidId(AP_REQ_TOKEN_ID, [first, second])),
+    }
+}
+
+/// The page of a token whose frame says that it holds this.
+fn page_of_head(alloc: Global, head: Head, octets: &[u8]) -> Result<Page, GssApiMessageError>
+    ensures negotiation { head ≡ Negotiation → IsToldBy ⟦<FramedNegInit as DerEncode>⟧ ⟦<FramedNegInit as Show<GssToken>>⟧
+        (plain (codes "InitialContextToken")) (λ p. p.items) octets.now result }
+    ensures ap_req { head ≡ Kerberos 1 0 → IsToldBy ⟦<FramedApReq as DerEncode>⟧ ⟦<FramedApReq as Show<GssToken>>⟧
+        (plain (codes "InitialContextToken")) (λ p. p.items) octets.now result }
+    ensures ap_rep { head ≡ Kerberos 2 0 → IsToldBy ⟦<FramedApRep as DerEncode>⟧ ⟦<FramedApRep as Show<GssToken>>⟧
+        (plain (codes "InitialContextToken")) (λ p. p.items) octets.now result }
+    ensures krb_error { head ≡ Kerberos 3 0 → IsToldBy ⟦<FramedError as DerEncode>⟧ ⟦<FramedError as Show<GssToken>>⟧
+        (plain (codes "InitialContextToken")) (λ p. p.items) octets.now result }
+    ensures tgt_req { head ≡ Kerberos 4 0 → IsToldBy ⟦<FramedTgtReq as DerEncode>⟧ ⟦<FramedTgtReq as Show<GssToken>>⟧
+        (plain (codes "InitialContextToken")) (λ p. p.items) octets.now result }
+    ensures tgt_rep { head ≡ Kerberos 4 1 → IsToldBy ⟦<FramedTgtRep as DerEncode>⟧ ⟦<FramedTgtRep as Show<GssToken>>⟧
+        (plain (codes "InitialContextToken")) (λ p. p.items) octets.now result }
+    ensures other_id { (first second : ℕ) → head ≡ Kerberos first second → is_known_id first second ≡ false → RefusesId first second result }
+    ensures no_id { head ≡ Unknown → IsToldBy ⟦<FramedApReq as DerEncode>⟧ ⟦<FramedApReq as Show<GssToken>>⟧
+        (plain (codes "InitialContextToken")) (λ p. p.items) octets.now result }
+{
+    match head {
+        Head::Negotiation => page_as::<FramedNegInit>(alloc, "InitialContextToken", octets),
+        Head::Kerberos(first, second) => page_of_id(alloc, first, second, octets),
+        Head::Unknown => page_as::<FramedApReq>(alloc, "InitialContextToken", octets),
+    }
+}
+
+/// The page of a token in a frame (RFC 2743, 3.1).
+fn page_of_frame(alloc: Global, octets: &[u8]) -> Result<Page, GssApiMessageError>
+    ensures negotiation { IsNegotiation octets.now → IsToldBy ⟦<FramedNegInit as DerEncode>⟧ ⟦<FramedNegInit as Show<GssToken>>⟧
+        (plain (codes "InitialContextToken")) (λ p. p.items) octets.now result }
+    ensures ap_req { HasId 1 0 octets.now → IsToldBy ⟦<FramedApReq as DerEncode>⟧ ⟦<FramedApReq as Show<GssToken>>⟧
+        (plain (codes "InitialContextToken")) (λ p. p.items) octets.now result }
+    ensures ap_rep { HasId 2 0 octets.now → IsToldBy ⟦<FramedApRep as DerEncode>⟧ ⟦<FramedApRep as Show<GssToken>>⟧
+        (plain (codes "InitialContextToken")) (λ p. p.items) octets.now result }
+    ensures krb_error { HasId 3 0 octets.now → IsToldBy ⟦<FramedError as DerEncode>⟧ ⟦<FramedError as Show<GssToken>>⟧
+        (plain (codes "InitialContextToken")) (λ p. p.items) octets.now result }
+    ensures tgt_req { HasId 4 0 octets.now → IsToldBy ⟦<FramedTgtReq as DerEncode>⟧ ⟦<FramedTgtReq as Show<GssToken>>⟧
+        (plain (codes "InitialContextToken")) (λ p. p.items) octets.now result }
+    ensures tgt_rep { HasId 4 1 octets.now → IsToldBy ⟦<FramedTgtRep as DerEncode>⟧ ⟦<FramedTgtRep as Show<GssToken>>⟧
+        (plain (codes "InitialContextToken")) (λ p. p.items) octets.now result }
+    ensures other_id { (first second : ℕ) → HasId first second octets.now → is_known_id first second ≡ false → RefusesId first second result }
+    ensures no_id { HasNone octets.now → IsToldBy ⟦<FramedApReq as DerEncode>⟧ ⟦<FramedApReq as Show<GssToken>>⟧
+        (plain (codes "InitialContextToken")) (λ p. p.items) octets.now result }
+{
+    let head = head_of(alloc, octets)?;
+    page_of_head(alloc, head, octets)
+}
+
+/// The page of a token of the GSS-API, told by its first octet.
+///
+/// | First octet | Token |
+/// |---|---|
+/// | `60` | in a frame (RFC 2743, 3.1), as below |
+/// | `a0` | NegTokenInit without a frame (RFC 4178, 4.2.1) |
+/// | `a1` | NegTokenResp (RFC 4178, 4.2.2) |
+/// | `04` | MIC (RFC 4121, 4.2.6.1) |
+/// | `05` | Wrap (RFC 4121, 4.2.6.2) |
+///
+/// In a frame under the mechanism SPNEGO is a NegTokenInit (RFC 4178, 4.2.1), and under each other mechanism the message that the token id
+/// says, two octets: `01 00` KRB-AP-REQ, `02 00` KRB-AP-REP, `03 00` KRB-ERROR (RFC 4121, 4.1), `04 00` KRB-TGT-REQ, `04 01` KRB-TGT-REP
+/// (draft-swift-win2k-krb-user2user-03).
+///
+/// All octets are the token's: trailing ones are refused. No octet is `Asn1Error(TruncatedData)`, and another first octet
+/// `Asn1Error(InvalidData)`. A token of DER that is none is refused with the error of `from_bytes`, as `Asn1Error`; one whose frame ends
+/// before a token id is refused as a KRB-AP-REQ. Another token id in a frame is `InvalidId`, with `01 00` in the expected one's place. MIC and
+/// Wrap tokens are refused as by `MicToken::from_slice` and `WrapToken::from_slice`. `OutOfMemory` comes where an allocation fails.
+pub fn page_of_token(alloc: Global, octets: &[u8]) -> Result<Page, GssApiMessageError>
+    ensures empty { octets.now ≡ [] → result ≡ Err (Asn1Error TruncatedData) }
+    ensures other { 0 < length octets.now → is_token (slice_index octets.now 0) ≡ false → result ≡ Err (Asn1Error InvalidData) }
+    ensures mic { slice_index octets.now 0 ≡ 4
+        → IsMicTold ⟦<MicToken as Show<GssToken>>⟧ (plain (codes "MIC")) (λ p. p.items) octets.now result }
+    ensures wrap { slice_index octets.now 0 ≡ 5
+        → IsWrapTold ⟦<WrapToken as Show<GssToken>>⟧ (plain (codes "Wrap")) (λ p. p.items) octets.now result }
+    ensures neg_token_init { slice_index octets.now 0 ≡ 160
+        → IsToldBy ⟦<NegTokenInit0 as DerEncode>⟧ ⟦<NegTokenInit0 as Show<GssToken>>⟧ (plain (codes "NegTokenInit")) (λ p. p.items) octets.now result }
+    ensures neg_token_resp { slice_index octets.now 0 ≡ 161
+        → IsToldBy ⟦<NegTokenTarg1 as DerEncode>⟧ ⟦<NegTokenTarg1 as Show<GssToken>>⟧ (plain (codes "NegTokenResp")) (λ p. p.items) octets.now result }
+    ensures negotiation { slice_index octets.now 0 ≡ 96 → IsNegotiation octets.now → IsToldBy ⟦<FramedNegInit as DerEncode>⟧ ⟦<FramedNegInit as Show<GssToken>>⟧
+        (plain (codes "InitialContextToken")) (λ p. p.items) octets.now result }
+    ensures ap_req { slice_index octets.now 0 ≡ 96 → HasId 1 0 octets.now → IsToldBy ⟦<FramedApReq as DerEncode>⟧ ⟦<FramedApReq as Show<GssToken>>⟧
+        (plain (codes "InitialContextToken")) (λ p. p.items) octets.now result }
+    ensures ap_rep { slice_index octets.now 0 ≡ 96 → HasId 2 0 octets.now → IsToldBy ⟦<FramedApRep as DerEncode>⟧ ⟦<FramedApRep as Show<GssToken>>⟧
+        (plain (codes "InitialContextToken")) (λ p. p.items) octets.now result }
+    ensures krb_error { slice_index octets.now 0 ≡ 96 → HasId 3 0 octets.now → IsToldBy ⟦<FramedError as DerEncode>⟧ ⟦<FramedError as Show<GssToken>>⟧
+        (plain (codes "InitialContextToken")) (λ p. p.items) octets.now result }
+    ensures tgt_req { slice_index octets.now 0 ≡ 96 → HasId 4 0 octets.now → IsToldBy ⟦<FramedTgtReq as DerEncode>⟧ ⟦<FramedTgtReq as Show<GssToken>>⟧
+        (plain (codes "InitialContextToken")) (λ p. p.items) octets.now result }
+    ensures tgt_rep { slice_index octets.now 0 ≡ 96 → HasId 4 1 octets.now → IsToldBy ⟦<FramedTgtRep as DerEncode>⟧ ⟦<FramedTgtRep as Show<GssToken>>⟧
+        (plain (codes "InitialContextToken")) (λ p. p.items) octets.now result }
+    ensures no_id { slice_index octets.now 0 ≡ 96 → HasNone octets.now → IsToldBy ⟦<FramedApReq as DerEncode>⟧ ⟦<FramedApReq as Show<GssToken>>⟧
+        (plain (codes "InitialContextToken")) (λ p. p.items) octets.now result }
+    ensures other_id { slice_index octets.now 0 ≡ 96 → (first second : ℕ) → HasId first second octets.now → is_known_id first second ≡ false
+        → RefusesId first second result }
+{
+    if octets.is_empty() {
+        return Err(GssApiMessageError::Asn1Error(Asn1DerError::TruncatedData));
+    }
+    match octets[0] {
+        0x04 => page_of_mic(alloc, octets),
+        0x05 => page_of_wrap(alloc, octets),
+        0x60 => page_of_frame(alloc, octets),
+        0xa0 => page_as::<NegTokenInit0>(alloc, "NegTokenInit", octets),
+        0xa1 => page_as::<NegTokenTarg1>(alloc, "NegTokenResp", octets),
+        _ => Err(GssApiMessageError::Asn1Error(Asn1DerError::InvalidData)),
+    }
+}
