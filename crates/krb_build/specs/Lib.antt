@@ -1,0 +1,4 @@
+pub mod Errors
+pub mod Flags
+pub mod Mechanisms
+pub mod Times
