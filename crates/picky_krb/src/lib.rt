@@ -4,6 +4,7 @@
 //! original takes its ASN.1 types from.
 #![tactic(auto)]
 
+pub mod build;
 pub mod constants;
 pub mod crypto;
 pub mod data_types;

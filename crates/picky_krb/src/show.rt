@@ -1,7 +1,16 @@
-//! Values as text and as JSON: tokens, pages, and the messages of Kerberos as pages. The original has no such module.
+//! Values as text and as JSON: tokens, pages, and octets of any kind as pages. The original has no such module.
 
+pub use krb_input::{InputError, octets_of_input};
 pub use krb_show::{
-    Field, Form, Label, Page, Show, ShowFields, Token, json_of_page, page_of_octets, show_list, show_number,
-    show_octets, show_opened, show_struct, show_text, text_of_page,
+    Field, Form, Label, Page, Show, ShowFields, Token, json_of_page, page_of_octets,
+    show_identifier, show_list, show_number, show_octets, show_opened, show_struct, show_text,
+    show_word, text_of_page,
 };
-pub use krb_show_messages::{Message, page_of_message, page_of_part};
+pub use krb_show_any::{
+    Everything, Kind, PageError, Pages, kind_of_name, kind_of_octets, name_of_kind,
+};
+pub use krb_show_formats::{page_of_negoex, page_of_pac, show_pac};
+pub use krb_show_messages::{DataKind, Message, page_of_data, page_of_message, page_of_part};
+pub use krb_show_password::{PasswordFrameError, page_of_password_frame};
+pub use krb_show_pkinit::{Certificate, CertificateKind, page_of_certificate_data};
+pub use krb_show_tokens::{GssToken, page_of_token};
