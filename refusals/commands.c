@@ -1,9 +1,9 @@
-/* Runs each command of krbtool, a process a run, with its allocations failing, each in turn: that one alone, and that one
+/* Runs each command of a program, krbtool or jolmurig, a process a run, with its allocations failing, each in turn: that one alone, and that one
  * with all after it. A command that succeeds is run over devices that fail, too. Prints a line a command: its first words, how many
  * requests it makes, and in how many runs it was run. Ends with status 1 at the first run that holds a block when it ends, or
  * gives neither what its row says nor, after an error or over a device that failed, the line that reports that alone. */
 #include "c_library.h"
-#include "commands.h"
+#include COMMANDS
 #include "memory.h"
 #include "octets.h"
 
@@ -47,7 +47,7 @@ static int run_here(int count, char **words, const char *refused) {
 
 /* Turns this process to one that runs the command. */
 static void become(const struct command *command, const struct devices *devices, long refused, int on) {
-    char variable[64], *environment[] = {variable, 0}, *words[8] = {"krbtool"};
+    char variable[64], *environment[] = {variable, 0}, *words[8] = {PROGRAM};
     for (int i = 0; i < 6 && command->words[i]; i++) {
         words[1 + i] = (char *)command->words[i];
     }
@@ -110,7 +110,7 @@ static const char *second(const struct command *command) {
 }
 
 static void fail(const struct command *command, const char *when, long refused, const struct answer *it) {
-    fprintf(stderr, "refusals: krbtool %s %s: %s (%ld): status %d, %zu octets, %ld blocks held, %.*s\n",
+    fprintf(stderr, "refusals: " PROGRAM " %s %s: %s (%ld): status %d, %zu octets, %ld blocks held, %.*s\n",
             command->words[0], second(command), when, refused, it->status, it->output.count, it->held,
             (int)it->line.count, (const char *)it->line.at);
     exit(1);
@@ -121,7 +121,9 @@ static long refuse_each(const struct command *command, const struct devices *dev
     for (long refused = 1;; refused++) {
         struct answer it = run(command, devices, refused, on);
         int is_met = it.requests >= refused;
-        if (!is_as_told(command, &it) && !(is_met && is_answer(&it, 1, "krbtool: memory\n", ""))) {
+        /* The line of an error may be what could not be made. */
+        int is_reported = is_answer(&it, 1, MEMORY_LINE, "") || (command->status != 0 && is_answer(&it, command->status, MEMORY_LINE, ""));
+        if (!is_as_told(command, &it) && !(is_met && is_reported)) {
             fail(command, on ? "this request refused and each after it" : "this request refused", refused, &it);
         }
         if (!is_met) {
@@ -131,9 +133,9 @@ static long refuse_each(const struct command *command, const struct devices *dev
 }
 
 /* Runs a command that succeeds over a device that fails. */
-static void try_device(const struct command *command, const struct devices *devices) {
+static void try_device(const struct command *command, const struct devices *devices, const char *line) {
     struct answer it = run(command, devices, 0, 0);
-    if (!is_answer(&it, 1, "krbtool: io\n", "")) {
+    if (!is_answer(&it, 1, line, "")) {
         fail(command, devices->name, 0, &it);
     }
 }
@@ -153,17 +155,24 @@ static long try_devices(const struct command *command) {
         die("no pipe");
     }
     int directory = device("/", O_RDONLY), full = device("/dev/full", O_WRONLY);
-    struct devices failing[] = {
+    struct devices unread[] = {
         {"an input that is closed", {CLOSED, files[1], files[2]}},
         {"an input that is a directory", {directory, files[1], files[2]}},
+    };
+    struct devices unwritten[] = {
         {"an output that is closed", {files[0], CLOSED, files[2]}},
         {"an output that is full", {files[0], full, files[2]}},
         {"an output that nobody reads", {files[0], ends[1], files[2]}},
     };
-    long runs = sizeof failing / sizeof *failing;
-    for (long i = 0; i < runs; i++) {
-        try_device(command, &failing[i]);
+    long reads = command->reads ? sizeof unread / sizeof *unread : 0;
+    for (long i = 0; i < reads; i++) {
+        try_device(command, &unread[i], READ_LINE);
     }
+    long writes = sizeof unwritten / sizeof *unwritten;
+    for (long i = 0; i < writes; i++) {
+        try_device(command, &unwritten[i], WRITE_LINE);
+    }
+    long runs = reads + writes;
     close(directory);
     close(full);
     close(ends[1]);
@@ -192,7 +201,7 @@ static void try_command(const struct command *command) {
     if (command->status == 0) {
         runs += try_devices(command);
     }
-    printf("krbtool %s %s\t%ld\t%ld\n", command->words[0], second(command), undisturbed.requests, runs);
+    printf(PROGRAM " %s %s\t%ld\t%ld\n", command->words[0], second(command), undisturbed.requests, runs);
 }
 
 static int file(void) {

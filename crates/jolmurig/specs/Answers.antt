@@ -1,0 +1,65 @@
+-- What is written for an input, and why nothing is.
+use Rattle.std.specs.Prelude.{◌≡◌, ◌⊎◌, ℕ, ◌-◌, List, [], ◌∷◌, ◌++◌, length, take, Option, Some, None, Result, Ok, Err, Vec}
+use Rattle.std.specs.declared.alloc.Global.{Global}
+use Rattle.krb_input.specs.Forms.{octets_of}
+use Rattle.krb_show.specs.Tokens.{Token}
+use Rattle.krb_show.specs.Text.{AreLines, page_text, text_of_lines}
+use Rattle.krb_show.specs.Json.{json_line}
+use Rattle.krb_show_any.specs.declared.kind.Kind.{Kind}
+use Rattle.krb_show_any.specs.declared.error.PageError.{PageError}
+use Rattle.krb_show_any.specs.Kinds.{kind_of}
+use Rattle.jolmurig.specs.declared.command.Output.{Output}
+use Rattle.jolmurig.specs.declared.command.Output.TheVariants as output
+use Rattle.jolmurig.specs.declared.failure.Failure.{Failure}
+use Rattle.jolmurig.specs.declared.failure.Failure.TheVariants as failure
+
+-- lines of printable ASCII, each with a line feed behind it
+abbrev pub ArePrintableLines : List ℕ → Type 0
+ArePrintableLines made = (lines : List (List ℕ)) × (made ≡ text_of_lines lines) × AreLines lines
+
+-- the first line of a page's text, without the colon and the line feed at its end, and a line feed
+abbrev pub type_line : List Token → List ℕ
+type_line page = take (length (page_text (take 1 page)) - 2) (page_text (take 1 page)) ++ 10 ∷ []
+
+-- what is written of a page
+abbrev pub output_text : Output → List Token → List ℕ
+output_text output.Text page = page_text page
+output_text output.Json page = json_line page ++ 10 ∷ []
+output_text output.Type page = type_line page
+
+-- the kind that is asked for, or that which octets begin as
+abbrev pub chosen : Option Kind → List ℕ → Option Kind
+chosen None octets = kind_of octets
+chosen (Some kind) octets = Some kind
+
+-- What octets of a kind are told as: the page that they have, or the error.
+module _ (tells : Kind → List ℕ → Result (Vec Token Global) PageError → Type 0) where
+  -- the octets are of a kind and have a page, and this is written of it
+  pub record IsWritten (asked : Option Kind) (form : Output) (octets made : List ℕ) : Type 0 where
+    pub kind : Kind
+    pub is_kind : chosen asked octets ≡ Some kind
+    pub page : Vec Token Global
+    pub told : tells kind octets (Ok page)
+    pub is_made : made ≡ output_text form page.items
+
+  -- the octets are of a kind and have no page
+  pub record HasNoPage (asked : Option Kind) (octets : List ℕ) (e : Failure) : Type 0 where
+    pub kind : Kind
+    pub is_kind : chosen asked octets ≡ Some kind
+    pub why : PageError
+    pub told : tells kind octets (Err why)
+    pub is : e ≡ failure.Octets kind why
+
+  -- or they begin as no kind
+  abbrev pub IsRefused : Option Kind → List ℕ → Failure → Type 0
+  IsRefused asked octets e = ((e ≡ failure.UnknownKind) × (chosen asked octets ≡ None)) ⊎ HasNoPage asked octets e
+
+  -- this is written of the octets that the input stands for
+  abbrev pub IsShown : Option Kind → Output → List ℕ → List ℕ → Type 0
+  IsShown asked form input made = (octets : List ℕ) × (octets_of input ≡ Some octets) × IsWritten asked form octets made
+
+  -- why nothing is written for an input
+  abbrev pub IsRejected : Option Kind → List ℕ → Failure → Type 0
+  IsRejected asked input e =
+      (e ≡ failure.Memory) ⊎ ((e ≡ failure.NotBase64) × (octets_of input ≡ None))
+      ⊎ ((octets : List ℕ) × (octets_of input ≡ Some octets) × IsRefused asked octets e)

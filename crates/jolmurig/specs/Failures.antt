@@ -1,0 +1,41 @@
+-- The line and the status of a failure.
+use Rattle.std.specs.Prelude.{◌≡◌, ℕ, List, [], ◌∷◌, ◌++◌, codes}
+use Rattle.krb_input.specs.declared.forms.InputError.{InputError}
+use Rattle.krb_input.specs.declared.forms.InputError.TheVariants as input
+use Rattle.krb_show_any.specs.Errors.{reason as page_reason}
+use Rattle.krb_show_any.specs.Names.{kind_name}
+use Rattle.jolmurig.specs.declared.failure.Failure.{Failure}
+use Rattle.jolmurig.specs.declared.failure.Failure.TheVariants.{Arguments, NotBase64, UnknownKind, Octets, Memory, Read, Write}
+
+abbrev pub status_of_failure : Failure → ℕ
+status_of_failure Arguments = 2
+status_of_failure e = 1
+
+-- what the failure is of
+abbrev pub subject : Failure → List ℕ
+subject Arguments = codes "wrong arguments"
+subject NotBase64 = codes "base64"
+subject UnknownKind = codes "unknown kind"
+subject (Octets kind why) = kind_name kind
+subject Memory = codes "memory"
+subject Read = codes "reading"
+subject Write = codes "writing"
+
+-- what happened
+abbrev pub reason : Failure → List ℕ
+reason Arguments = codes "usage: jolmurig show [--as TYPE] [--json | --type]; see jolmurig --help"
+reason NotBase64 = codes "the input begins as PEM or as a header of HTTP, and no base64 follows"
+reason UnknownKind = codes "the octets begin as no kind that is known; --as TYPE names one"
+reason (Octets kind why) = page_reason why
+reason Memory = codes "an allocation failed"
+reason Read = codes "the input could not be read"
+reason Write = codes "the output could not be written"
+
+-- jolmurig: SUBJECT: REASON
+abbrev pub line_of : Failure → List ℕ
+line_of e = codes "jolmurig: " ++ subject e ++ codes ": " ++ reason e ++ 10 ∷ []
+
+-- what an error of the input is reported as
+abbrev pub of_input : InputError → Failure → Type 0
+of_input input.NotBase64 e = e ≡ NotBase64
+of_input input.OutOfMemory e = e ≡ Memory

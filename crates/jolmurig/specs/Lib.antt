@@ -1,0 +1,4 @@
+pub mod Arguments
+pub mod Failures
+pub mod Answers
+pub mod Outcome

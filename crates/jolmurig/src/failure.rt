@@ -1,0 +1,115 @@
+//! Why a run is rejected.
+
+ghost use Rattle.std.specs.Prelude.{◌≡◌, IfOk};
+ghost use Rattle.jolmurig.specs.declared.failure.Failure.TheVariants as failures;
+ghost use Rattle.jolmurig.specs.Failures.{line_of, of_input, reason, status_of_failure, subject};
+
+use krb_input::InputError;
+use krb_show_any::{Kind, PageError, name_of_kind};
+use std::alloc::{AllocError, Global};
+use std::io;
+
+/// Why a run is rejected.
+#[derive(Debug, Drop)]
+pub enum Failure {
+    /// The arguments are no command.
+    Arguments,
+    /// The input begins as PEM or as a header of HTTP, and what follows is no base64.
+    NotBase64,
+    /// The octets begin as no kind that is told by first octets.
+    UnknownKind,
+    /// The octets are none of this kind, for this reason.
+    Octets { kind: Kind, why: PageError },
+    /// An allocation failed.
+    Memory,
+    /// The input could not be read.
+    Read,
+    /// The output could not be written.
+    Write,
+}
+
+impl Failure {
+    /// The status with which the program ends: 2 where the arguments are no command, else 1.
+    pub fn status(&self) -> u8
+        ensures { result ≡ status_of_failure self.now }
+    {
+        match self {
+            Failure::Arguments => 2,
+            _ => 1,
+        }
+    }
+
+    /// What the failure is of.
+    fn subject(&self) -> &'static str
+        ensures { result.now ≡ subject self.now }
+    {
+        match self {
+            Failure::Arguments => "wrong arguments",
+            Failure::NotBase64 => "base64",
+            Failure::UnknownKind => "unknown kind",
+            Failure::Octets { kind, why: _ } => name_of_kind(*kind),
+            Failure::Memory => "memory",
+            Failure::Read => "reading",
+            Failure::Write => "writing",
+        }
+    }
+
+    /// What happened.
+    fn reason(&self) -> &'static str
+        ensures { result.now ≡ reason self.now }
+    {
+        match self {
+            Failure::Arguments =>
+                "usage: jolmurig show [--as TYPE] [--json | --type]; see jolmurig --help",
+            Failure::NotBase64 =>
+                "the input begins as PEM or as a header of HTTP, and no base64 follows",
+            Failure::UnknownKind =>
+                "the octets begin as no kind that is known; --as TYPE names one",
+            Failure::Octets { kind: _, why } => why.reason(),
+            Failure::Memory => "an allocation failed",
+            Failure::Read => "the input could not be read",
+            Failure::Write => "the output could not be written",
+        }
+    }
+
+    /// The line that the program writes, with its newline.
+    pub fn line(&self, alloc: Global) -> Result<Vec<u8>, AllocError>
+        ensures { IfOk result (λ line. line.items ≡ line_of self.now) }
+    {
+        let mut line = Vec::new(alloc);
+        line.extend_from_slice(b"jolmurig: ")?;
+        line.extend_from_slice(self.subject().as_bytes())?;
+        line.extend_from_slice(b": ")?;
+        line.extend_from_slice(self.reason().as_bytes())?;
+        line.push(b'\n')?;
+        Ok(line)
+    }
+}
+
+impl From<AllocError> for Failure {
+    ghost from_gives = { λ _ e. e ≡ failures.Memory };
+
+    fn from(_error: AllocError) -> Failure {
+        Failure::Memory
+    }
+}
+
+impl From<InputError> for Failure {
+    ghost from_gives = { of_input };
+
+    fn from(error: InputError) -> Failure {
+        match error {
+            InputError::NotBase64 => Failure::NotBase64,
+            InputError::OutOfMemory => Failure::Memory,
+        }
+    }
+}
+
+/// The error of arguments that could not be had: an allocation failure, or an argument that is no text and so of no command.
+pub fn arguments_failure(error: io::Error) -> Failure {
+    if error.kind() == io::ErrorKind::OutOfMemory {
+        Failure::Memory
+    } else {
+        Failure::Arguments
+    }
+}

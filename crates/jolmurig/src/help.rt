@@ -1,0 +1,49 @@
+//! The help.
+
+/// What `--help` writes.
+pub const HELP: &str =
+    "Shows what Kerberos octets hold, read from standard input, and refuses what is no strict encoding.
+
+usage:
+    jolmurig show [--as TYPE] [--json | --type]
+    jolmurig --help
+
+options:
+    --as TYPE    read the octets as this type, and not as the one that they begin as
+    --json       write a line of JSON
+    --type       write the name of the type alone
+    --help       write this help
+
+input, by the first rule that fits:
+    -----BEGIN LABEL-----    PEM: the base64 up to the line -----END LABEL-----
+    Negotiate BASE64         a token of HTTP, also behind Authorization:, WWW-Authenticate: and their kin
+    hexadecimal              digits in pairs, with or without blanks and line breaks
+    base64                   also that of URLs, with or without padding, blanks and line breaks
+    anything else            the octets themselves
+
+types that are told by how the octets begin, letters of either case:
+    Ticket, Authenticator, EncTicketPart, AS-REQ, AS-REP, TGS-REQ, TGS-REP, AP-REQ, AP-REP,
+    KRB-PRIV, KRB-CRED, EncASRepPart, EncTGSRepPart, EncAPRepPart, EncKrbPrivPart, EncKrbCredPart,
+    KRB-ERROR, token, PAC, NEGOEX, password-frame
+
+types that --as has to name:
+    PrincipalName, HostAddress, HostAddresses, AuthorizationData, EncryptedData, EncryptionKey,
+    Checksum, TransitedEncoding, LastReq, KDC-REQ-BODY, KrbCredInfo, PA-DATA, METHOD-DATA,
+    PA-ENC-TS-ENC, ETYPE-INFO2-ENTRY, ETYPE-INFO2, KERB-PA-PAC-REQUEST, PA-PAC-OPTIONS,
+    KERB-ERROR-DATA, KERB-AD-RESTRICTION-ENTRY, ChangePasswdData, TGT-REQ, TGT-REP,
+    KDC-PROXY-MESSAGE, PKU2U-NEGO-REQ-METADATA, PKU2U-NEGO-BODY, PKU2U-NEGO-REQ, PKU2U-NEGO-REP,
+    KRB-FINISHED, PA-PK-AS-REQ, PA-PK-AS-REP, DHAuthPack, ECAuthPack, PKAuthenticator,
+    ExternalPrincipalIdentifier, DHRepInfo, KDCDHKeyInfo, AlgorithmIdentifier, SubjectPublicKeyInfo,
+    DHSubjectPublicKeyInfo, DomainParameters, ValidationParms, TSCredentials, TSPasswordCreds,
+    TSSmartCardCreds, TSCspDataDetail, TSRemoteGuardCreds, TSRemoteGuardPackageCred
+
+exit statuses:
+    0    the output is written
+    1    an error, which a line on standard error names, and nothing on standard output
+    2    wrong arguments
+
+examples:
+    jolmurig show <as-req.der
+    jolmurig show --json <ticket.kirbi
+    jolmurig show --as KDC-REQ-BODY <body.hex
+";
