@@ -3,11 +3,14 @@
 ghost use Rattle.std.specs.Prelude.{◌≡◌, ◌⊎◌, Some, None, IfOk, IfErr, MatchOption};
 ghost use Rattle.base64.specs.Engines.{standard, standard_no_pad, url_safe, url_safe_no_pad};
 ghost use Rattle.krb_input.specs.Blanks.{without_blanks};
-ghost use Rattle.krb_input.specs.Forms.{base64, base64_by, hexadecimal, octets_of, of_pem, of_scheme, of_text};
+ghost use Rattle.krb_input.specs.Forms.{base64, base64_by, hexadecimal, octets_of, of_dump, of_pem, of_scheme, of_text, of_words};
+ghost use Rattle.krb_input.specs.Marks.{unmarked};
 ghost use Rattle.krb_input.specs.declared.forms.InputError.TheVariants.{NotBase64, OutOfMemory};
 
 use crate::blanks::{skip_blanks, without_blanks};
+use crate::dump::{dump_digits, is_dump};
 use crate::headers::behind_scheme;
+use crate::marks::unmarked;
 use crate::pem::between_lines;
 use crate::words::after_text;
 use base64::DecodeAllocError;
@@ -100,15 +103,48 @@ fn copied(alloc: Global, octets: &[u8]) -> Result<Vec<u8>, AllocError>
     Ok(copy)
 }
 
+/// What the digits of a dump stand for; `None` where the input is no dump.
+fn dump_of(alloc: Global, input: &[u8]) -> Result<Option<Vec<u8>>, AllocError>
+    ensures { IfOk result (λ found. MatchOption found (of_dump input.now ≡ None) (λ octets. of_dump input.now ≡ Some octets.items)) }
+{
+    let start = skip_blanks(input);
+    if !is_dump(start) {
+        return Ok(None);
+    }
+    let digits = dump_digits(alloc, start)?;
+    hexadecimal_of(alloc, &digits)
+}
+
+/// What digits stand for that have marks before and between them; `None` where they are none.
+fn marked_of(alloc: Global, text: &[u8]) -> Result<Option<Vec<u8>>, AllocError>
+    ensures { IfOk result (λ found. MatchOption found (hexadecimal (unmarked text.now) ≡ None) (λ octets. hexadecimal (unmarked text.now) ≡ Some octets.items)) }
+{
+    let digits = unmarked(alloc, text)?;
+    hexadecimal_of(alloc, &digits)
+}
+
+/// What a text without blanks stands for; `None` where it is neither digits nor base64.
+fn words_of(alloc: Global, text: &[u8]) -> Result<Option<Vec<u8>>, AllocError>
+    ensures { IfOk result (λ found. MatchOption found (of_words text.now ≡ None) (λ octets. of_words text.now ≡ Some octets.items)) }
+{
+    if let Some(octets) = hexadecimal_of(alloc, text)? {
+        return Ok(Some(octets));
+    }
+    if let Some(octets) = marked_of(alloc, text)? {
+        return Ok(Some(octets));
+    }
+    base64_of(alloc, text)
+}
+
 /// What an input stands for that begins neither as PEM nor with a scheme.
 fn of_text(alloc: Global, input: &[u8]) -> Result<Vec<u8>, AllocError>
-    ensures { IfOk result (λ octets. of_text (without_blanks input.now) input.now ≡ octets.items) }
+    ensures { IfOk result (λ octets. of_text input.now ≡ octets.items) }
 {
-    let text = without_blanks(alloc, input)?;
-    if let Some(octets) = hexadecimal_of(alloc, &text)? {
+    if let Some(octets) = dump_of(alloc, input)? {
         return Ok(octets);
     }
-    match base64_of(alloc, &text)? {
+    let text = without_blanks(alloc, input)?;
+    match words_of(alloc, &text)? {
         Some(octets) => Ok(octets),
         None => copied(alloc, input),
     }
@@ -120,9 +156,11 @@ fn of_text(alloc: Global, input: &[u8]) -> Result<Vec<u8>, AllocError>
 /// 1. the input begins with `-----BEGIN ` (RFC 7468): the base64 between the two lines, behind the second of which only blanks follow;
 /// 2. it begins with a scheme of HTTP, `Negotiate` (RFC 4559) or `Kerberos`, or with a scheme behind the name of a field, as
 ///    `Authorization:` or `WWW-Authenticate:`, letters in either case: the base64 behind the scheme;
-/// 3. it is hexadecimal digits in pairs, in either case;
-/// 4. it is base64 (RFC 4648, 4 or 5), with its padding or without;
-/// 5. else it is the octets themselves, blanks and all.
+/// 3. it begins with an offset of four zeros or more: a dump, as Wireshark, `hexdump -C` and `xxd` print it, whose lines have an offset, hexadecimal digits
+///    in pairs, and perhaps a text that repeats them, which does not count;
+/// 4. it is hexadecimal digits in pairs, in either case, before which `0x` or `\x` and between which a colon, a comma or a hyphen may stand;
+/// 5. it is base64 (RFC 4648, 4 or 5), with its padding or without;
+/// 6. else it is the octets themselves, blanks and all.
 ///
 /// `NotBase64` where one of the first two fits and what follows is no base64.
 pub fn octets_of_input(alloc: Global, input: &[u8]) -> Result<Vec<u8>, InputError>

@@ -5,8 +5,10 @@
 #![tactic(auto)]
 
 mod blanks;
+mod dump;
 mod forms;
 mod headers;
+mod marks;
 mod pem;
 mod words;
 
