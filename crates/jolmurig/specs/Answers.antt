@@ -7,6 +7,8 @@ use Rattle.krb_show.specs.Text.{AreLines, page_text, text_of_lines}
 use Rattle.krb_show.specs.Json.{json_line}
 use Rattle.krb_show_any.specs.declared.kind.Kind.{Kind}
 use Rattle.krb_show_any.specs.declared.error.PageError.{PageError}
+use Rattle.krb_show_any.specs.Places.{IsPlaceIfAny}
+use Rattle.krb_show_any.specs.declared.place.Place.{Place}
 use Rattle.krb_show_any.specs.Kinds.{kind_of}
 use Rattle.jolmurig.specs.declared.command.Output.{Output}
 use Rattle.jolmurig.specs.declared.command.Output.TheVariants as output
@@ -42,13 +44,15 @@ module _ (tells : Kind → List ℕ → Result (Vec Token Global) PageError → 
     pub told : tells kind octets (Ok page)
     pub is_made : made ≡ output_text form page.items
 
-  -- the octets are of a kind and have no page
+  -- the octets are of a kind and have no page, for this reason, at this place
   pub record HasNoPage (asked : Option Kind) (octets : List ℕ) (e : Failure) : Type 0 where
     pub kind : Kind
     pub is_kind : chosen asked octets ≡ Some kind
     pub why : PageError
     pub told : tells kind octets (Err why)
-    pub is : e ≡ failure.Octets kind why
+    pub place : Option Place
+    pub is_place : IsPlaceIfAny tells kind why octets place
+    pub is : e ≡ failure.Octets kind why place
 
   -- or they begin as no kind
   abbrev pub IsRefused : Option Kind → List ℕ → Failure → Type 0

@@ -2,6 +2,7 @@
 use Rattle.std.specs.Prelude.{◌≡◌, ℕ, nat_eq, Bool, ◌||◌, if◌then◌else◌, Option, Some, None, List, [], ◌∷◌, codes}
 use Rattle.std.specs.Cmp.Lexicographic.{pointwise}
 use Rattle.krb_show_any.specs.declared.kind.Kind.{Kind}
+use Rattle.krb_show_any.specs.declared.kind.Kind.TheVariants as kind
 use Rattle.krb_show_any.specs.Names.{IsNamed}
 use Rattle.jolmurig.specs.declared.command.Output.{Output}
 use Rattle.jolmurig.specs.declared.command.Output.TheVariants as output
@@ -33,13 +34,23 @@ abbrev pub show_by : Option Output → Option Command
 show_by None = None
 show_by (Some found) = Some (Show None found)
 
--- show OUTPUT, show --help
-abbrev pub with_one : List ℕ → Option Command
-with_one option = if is_help option then Some Help else show_by (output_of option)
+abbrev pub is_tree : List ℕ → Bool
+is_tree argument = is_word argument (codes "--tree")
 
--- show --as TYPE, where TYPE is the name of this kind
-abbrev pub with_two : List ℕ → Option Kind → Option Command
-with_two option named = if is_word option (codes "--as") then show_as named (Some output.Text) else None
+-- show OUTPUT, show --tree, show --help
+abbrev pub with_one : List ℕ → Option Command
+with_one option =
+    if is_help option then Some Help
+    else if is_tree option then Some (Show (Some kind.Tree) output.Text)
+    else show_by (output_of option)
+
+-- show --as TYPE, where TYPE is the name of this kind; show --tree OUTPUT, show OUTPUT --tree
+abbrev pub with_two : List ℕ → List ℕ → Option Kind → Option Command
+with_two first second named =
+    if is_word first (codes "--as") then show_as named (Some output.Text)
+    else if is_tree first then show_as (Some kind.Tree) (output_of second)
+    else if is_tree second then show_as (Some kind.Tree) (output_of first)
+    else None
 
 -- show --as TYPE OUTPUT, show OUTPUT --as TYPE, where the second and the third argument are the names of these kinds
 abbrev pub with_three : List ℕ → List ℕ → List ℕ → Option Kind → Option Kind → Option Command
@@ -58,7 +69,7 @@ IsCommand [] found = found ≡ None
 IsCommand (only ∷ []) found = found ≡ (if is_help only then Some Help else where_show only (Some (Show None output.Text)))
 IsCommand (command ∷ first ∷ []) found = found ≡ where_show command (with_one first)
 IsCommand (command ∷ first ∷ second ∷ []) found =
-    (named : Option Kind) × IsNamed second named × (found ≡ where_show command (with_two first named))
+    (named : Option Kind) × IsNamed second named × (found ≡ where_show command (with_two first second named))
 IsCommand (command ∷ first ∷ second ∷ third ∷ []) found =
     (named_second : Option Kind) × IsNamed second named_second × (named_third : Option Kind) × IsNamed third named_third
     × (found ≡ where_show command (with_three first second third named_second named_third))

@@ -1,9 +1,12 @@
 -- The line and the status of a failure.
-use Rattle.std.specs.Prelude.{◌≡◌, ℕ, List, [], ◌∷◌, ◌++◌, codes}
+use Rattle.std.specs.Prelude.{◌≡◌, ℕ, Option, Some, None, List, [], ◌∷◌, ◌++◌, codes}
+use Rattle.std.specs.Fmt.{decimal}
 use Rattle.krb_input.specs.declared.forms.InputError.{InputError}
 use Rattle.krb_input.specs.declared.forms.InputError.TheVariants as input
 use Rattle.krb_show_any.specs.Errors.{reason as page_reason}
 use Rattle.krb_show_any.specs.Names.{kind_name}
+use Rattle.krb_show_any.specs.declared.place.Place.{Place}
+use Rattle.krb_show_any.specs.declared.place.Place.TheVariants as places
 use Rattle.jolmurig.specs.declared.failure.Failure.{Failure}
 use Rattle.jolmurig.specs.declared.failure.Failure.TheVariants.{Arguments, NotBase64, UnknownKind, Octets, Memory, Read, Write}
 
@@ -16,24 +19,34 @@ abbrev pub subject : Failure → List ℕ
 subject Arguments = codes "wrong arguments"
 subject NotBase64 = codes "base64"
 subject UnknownKind = codes "unknown kind"
-subject (Octets kind why) = kind_name kind
+subject (Octets kind why place) = kind_name kind
 subject Memory = codes "memory"
 subject Read = codes "reading"
 subject Write = codes "writing"
 
 -- what happened
 abbrev pub reason : Failure → List ℕ
-reason Arguments = codes "usage: jolmurig show [--as TYPE] [--json | --type]; see jolmurig --help"
+reason Arguments = codes "usage: jolmurig show [--as TYPE | --tree] [--json | --type]; see jolmurig --help"
 reason NotBase64 = codes "the input begins as PEM or as a header of HTTP, and no base64 follows"
 reason UnknownKind = codes "the octets begin as no kind that is known; --as TYPE names one"
-reason (Octets kind why) = page_reason why
+reason (Octets kind why place) = page_reason why
 reason Memory = codes "an allocation failed"
 reason Read = codes "the input could not be read"
 reason Write = codes "the output could not be written"
 
--- jolmurig: SUBJECT: REASON
+-- where the error is, if that is known
+abbrev pub place : Failure → Option Place
+place (Octets kind why found) = found
+place e = None
+
+abbrev pub place_text : Option Place → List ℕ
+place_text None = []
+place_text (Some (places.InElement at)) = codes ", in the element at octet " ++ decimal at
+place_text (Some (places.AtTag at)) = codes ", at the tag at octet " ++ decimal at
+
+-- jolmurig: SUBJECT: REASON, and where that is known the place
 abbrev pub line_of : Failure → List ℕ
-line_of e = codes "jolmurig: " ++ subject e ++ codes ": " ++ reason e ++ 10 ∷ []
+line_of e = codes "jolmurig: " ++ subject e ++ codes ": " ++ reason e ++ place_text (place e) ++ 10 ∷ []
 
 -- what an error of the input is reported as
 abbrev pub of_input : InputError → Failure → Type 0

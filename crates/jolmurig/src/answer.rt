@@ -10,7 +10,7 @@ use crate::command::Output;
 use crate::failure::Failure;
 use krb_input::octets_of_input;
 use krb_show::{Token, json_of_page, text_of_page};
-use krb_show_any::{Kind, PageError, Pages, kind_of_octets};
+use krb_show_any::{Kind, PageError, Pages, kind_of_octets, place_of_error};
 use std::alloc::{AllocError, Global};
 
 /// The octets of a text.
@@ -101,7 +101,10 @@ fn shown<S: Pages<Kind, PageError>>(
     match S::page_of(alloc, kind, octets) {
         Ok(page) => Ok(written(alloc, output, &page)?),
         Err(PageError::OutOfMemory) => Err(Failure::Memory),
-        Err(why) => Err(Failure::Octets { kind, why }),
+        Err(why) => {
+            let place = place_of_error::<Kind, S>(alloc, kind, &why, octets)?;
+            Err(Failure::Octets { kind, why, place })
+        }
     }
 }
 

@@ -1,11 +1,12 @@
 //! Why a run is rejected.
 
-ghost use Rattle.std.specs.Prelude.{◌≡◌, IfOk};
+ghost use Rattle.std.specs.Prelude.{◌≡◌, ◌++◌, IfOk, OnOk};
+ghost use Rattle.std.specs.Fmt.{decimal};
 ghost use Rattle.jolmurig.specs.declared.failure.Failure.TheVariants as failures;
-ghost use Rattle.jolmurig.specs.Failures.{line_of, of_input, reason, status_of_failure, subject};
+ghost use Rattle.jolmurig.specs.Failures.{line_of, of_input, place, place_text, reason, status_of_failure, subject};
 
 use krb_input::InputError;
-use krb_show_any::{Kind, PageError, name_of_kind};
+use krb_show_any::{Kind, PageError, Place, name_of_kind};
 use std::alloc::{AllocError, Global};
 use std::io;
 
@@ -18,14 +19,45 @@ pub enum Failure {
     NotBase64,
     /// The octets begin as no kind that is told by first octets.
     UnknownKind,
-    /// The octets are none of this kind, for this reason.
-    Octets { kind: Kind, why: PageError },
+    /// The octets are none of this kind, for this reason, which is at this place where it is an error of DER.
+    Octets {
+        kind: Kind,
+        why: PageError,
+        place: Option<Place>,
+    },
     /// An allocation failed.
     Memory,
     /// The input could not be read.
     Read,
     /// The output could not be written.
     Write,
+}
+
+/// Appends some words and a number.
+fn push_numbered(
+    line: &mut Vec<u8>,
+    alloc: Global,
+    words: &[u8],
+    number: usize,
+) -> Result<(), AllocError>
+    ensures { OnOk result (line.new.items ≡ line.old.items ++ words.now ++ decimal number) }
+{
+    let digits = format!(in alloc; "{number}")?;
+    line.extend_from_slice(words)?;
+    line.extend_from_slice(digits.as_bytes())
+}
+
+/// Appends where an error is, if that is known.
+fn push_place(line: &mut Vec<u8>, alloc: Global, place: Option<Place>) -> Result<(), AllocError>
+    ensures { OnOk result (line.new.items ≡ line.old.items ++ place_text place) }
+{
+    match place {
+        None => Ok(()),
+        Some(Place::InElement(at)) => {
+            push_numbered(line, alloc, b", in the element at octet ", at)
+        }
+        Some(Place::AtTag(at)) => push_numbered(line, alloc, b", at the tag at octet ", at),
+    }
 }
 
 impl Failure {
@@ -47,7 +79,11 @@ impl Failure {
             Failure::Arguments => "wrong arguments",
             Failure::NotBase64 => "base64",
             Failure::UnknownKind => "unknown kind",
-            Failure::Octets { kind, why: _ } => name_of_kind(*kind),
+            Failure::Octets {
+                kind,
+                why: _,
+                place: _,
+            } => name_of_kind(*kind),
             Failure::Memory => "memory",
             Failure::Read => "reading",
             Failure::Write => "writing",
@@ -60,15 +96,33 @@ impl Failure {
     {
         match self {
             Failure::Arguments =>
-                "usage: jolmurig show [--as TYPE] [--json | --type]; see jolmurig --help",
+                "usage: jolmurig show [--as TYPE | --tree] [--json | --type]; see jolmurig --help",
             Failure::NotBase64 =>
                 "the input begins as PEM or as a header of HTTP, and no base64 follows",
             Failure::UnknownKind =>
                 "the octets begin as no kind that is known; --as TYPE names one",
-            Failure::Octets { kind: _, why } => why.reason(),
+            Failure::Octets {
+                kind: _,
+                why,
+                place: _,
+            } => why.reason(),
             Failure::Memory => "an allocation failed",
             Failure::Read => "the input could not be read",
             Failure::Write => "the output could not be written",
+        }
+    }
+
+    /// Where the error is, if that is known.
+    fn place(&self) -> Option<Place>
+        ensures { result ≡ place self.now }
+    {
+        match self {
+            Failure::Octets {
+                kind: _,
+                why: _,
+                place,
+            } => *place,
+            _ => None,
         }
     }
 
@@ -81,6 +135,7 @@ impl Failure {
         line.extend_from_slice(self.subject().as_bytes())?;
         line.extend_from_slice(b": ")?;
         line.extend_from_slice(self.reason().as_bytes())?;
+        push_place(&mut line, alloc, self.place())?;
         line.push(b'\n')?;
         Ok(line)
     }

@@ -5,11 +5,12 @@ pub const HELP: &str =
     "Shows what Kerberos octets hold, read from standard input, and refuses what is no strict encoding.
 
 usage:
-    jolmurig show [--as TYPE] [--json | --type]
+    jolmurig show [--as TYPE | --tree] [--json | --type]
     jolmurig --help
 
 options:
     --as TYPE    read the octets as this type, and not as the one that they begin as
+    --tree       show the tags, lengths and contents of the elements, whatever they are, as far as they go
     --json       write a line of JSON
     --type       write the name of the type alone
     --help       write this help
@@ -39,11 +40,13 @@ types that --as has to name:
 
 exit statuses:
     0    the output is written
-    1    an error, which a line on standard error names, and nothing on standard output
+    1    an error, which a line on standard error names, with its place where it is one of DER, and nothing on
+         standard output
     2    wrong arguments
 
 examples:
     jolmurig show <as-req.der
     jolmurig show --json <ticket.kirbi
     jolmurig show --as KDC-REQ-BODY <body.hex
+    jolmurig show --tree <refused.der
 ";

@@ -2,7 +2,7 @@
 
 ghost use Rattle.std.specs.Prelude.{◌≡◌, [], ◌∷◌, map};
 ghost use Rattle.std.specs.String.{string_bytes};
-ghost use Rattle.jolmurig.specs.Arguments.{IsCommand, is_help, is_word, output_of, show_as, show_by, where_show, with_one, with_three, with_two};
+ghost use Rattle.jolmurig.specs.Arguments.{IsCommand, is_help, is_tree, is_word, output_of, show_as, show_by, where_show, with_one, with_three, with_two};
 
 use crate::command::{Command, Output};
 use krb_show_any::{Kind, kind_of_name};
@@ -54,23 +54,36 @@ fn show_by(output: Option<Output>) -> Option<Command>
     Some(Command::Show { kind: None, output })
 }
 
+/// Whether an argument asks for the tree.
+fn is_tree(argument: &str) -> bool
+    ensures { result ≡ is_tree argument.now }
+{
+    is_word(argument, "--tree")
+}
+
 /// `show` with one argument.
 fn with_one(option: &str) -> Option<Command>
     ensures { result ≡ with_one option.now }
 {
     if is_help(option) {
         Some(Command::Help)
+    } else if is_tree(option) {
+        show_as(Some(Kind::Tree), Some(Output::Text))
     } else {
         show_by(output_of(option))
     }
 }
 
 /// `show` with two arguments.
-fn with_two(option: &str, named: Option<Kind>) -> Option<Command>
-    ensures { result ≡ with_two option.now named }
+fn with_two(first: &str, second: &str, named: Option<Kind>) -> Option<Command>
+    ensures { result ≡ with_two first.now second.now named }
 {
-    if is_word(option, "--as") {
+    if is_word(first, "--as") {
         show_as(named, Some(Output::Text))
+    } else if is_tree(first) {
+        show_as(Some(Kind::Tree), output_of(second))
+    } else if is_tree(second) {
+        show_as(Some(Kind::Tree), output_of(first))
     } else {
         None
     }
@@ -125,7 +138,7 @@ fn of_two(command: &str, first: &str, second: &str) -> Option<Command>
     ensures { IsCommand (command.now ∷ first.now ∷ second.now ∷ []) result }
 {
     let named = kind_of_name(second);
-    where_show(command, with_two(first, named))
+    where_show(command, with_two(first, second, named))
 }
 
 /// The command with three arguments.

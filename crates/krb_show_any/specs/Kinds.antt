@@ -55,11 +55,12 @@ kind_of (tag ∷ octets) =
     if is_application tag then Some (kind.Application tag) else if is_token_tag tag then Some kind.Token else kind_without_tag (tag ∷ octets)
 
 -- one fact for each kind
-abbrev pub by_kind : Kind → (ℕ → Type 0) → Type 0 → Type 0 → Type 0 → Type 0 → (DataKind → Type 0) → (CertificateKind → Type 0) → Type 0
-by_kind (kind.Application tag) application token pac negoex frame bare certificate = application tag
-by_kind kind.Token application token pac negoex frame bare certificate = token
-by_kind kind.Pac application token pac negoex frame bare certificate = pac
-by_kind kind.Negoex application token pac negoex frame bare certificate = negoex
-by_kind kind.PasswordFrame application token pac negoex frame bare certificate = frame
-by_kind (kind.Data k) application token pac negoex frame bare certificate = bare k
-by_kind (kind.Certificate k) application token pac negoex frame bare certificate = certificate k
+abbrev pub by_kind : Kind → (ℕ → Type 0) → Type 0 → Type 0 → Type 0 → Type 0 → (DataKind → Type 0) → (CertificateKind → Type 0) → Type 0 → Type 0
+by_kind (kind.Application tag) application token pac negoex frame bare certificate tree = application tag
+by_kind kind.Token application token pac negoex frame bare certificate tree = token
+by_kind kind.Pac application token pac negoex frame bare certificate tree = pac
+by_kind kind.Negoex application token pac negoex frame bare certificate tree = negoex
+by_kind kind.PasswordFrame application token pac negoex frame bare certificate tree = frame
+by_kind (kind.Data k) application token pac negoex frame bare certificate tree = bare k
+by_kind (kind.Certificate k) application token pac negoex frame bare certificate tree = certificate k
+by_kind kind.Tree application token pac negoex frame bare certificate tree = tree

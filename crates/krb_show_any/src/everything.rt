@@ -8,7 +8,7 @@ ghost use Rattle.krb_gss_tokens.specs.declared.error.GssApiMessageError.{GssApiM
 ghost use Rattle.krb_pac.specs.declared.error.PacError.{PacError};
 ghost use Rattle.krb_show.specs.Tokens.{Token};
 ghost use Rattle.krb_show_password.specs.declared.error.PasswordFrameError.{PasswordFrameError};
-ghost use Rattle.krb_show_any.specs.Told.{IsPacTold};
+ghost use Rattle.krb_show_any.specs.Told.{IsPacTold, IsTreeTold};
 ghost use Rattle.krb_show_any.specs.Kinds.{by_kind};
 ghost use Rattle.krb_show_any.specs.Errors.{of_der, of_exchange, of_frame, of_pac, of_token};
 
@@ -28,6 +28,7 @@ use krb_show_formats::page_of_pac;
 use krb_show_messages::DataKind;
 use krb_show_password::PasswordFrameError;
 use krb_show_pkinit::CertificateKind;
+use krb_tree::page_of_tree;
 use std::alloc::Global;
 use std::io;
 
@@ -82,6 +83,16 @@ fn certificate_page(alloc: Global, kind: CertificateKind, octets: &[u8]) -> Resu
     of_der(Certificates::page_of(alloc, kind, octets))
 }
 
+/// The page of octets as a tree of elements.
+fn tree_page(alloc: Global, octets: &[u8]) -> Result<Page, PageError>
+    ensures { IsTreeTold octets.now result }
+{
+    match page_of_tree(alloc, octets) {
+        Ok(page) => Ok(page),
+        Err(_) => Err(PageError::OutOfMemory),
+    }
+}
+
 /// All kinds that the library reads.
 #[derive(Drop)]
 pub struct Everything;
@@ -94,7 +105,8 @@ impl Pages<Kind, PageError> for Everything {
         ((r : Result (Vec Token Global) Error) × of_exchange r result × ⟦<Exchanges as Pages<(), io::Error>>⟧.tells tt octets r)
         ((r : Result (Vec Token Global) PasswordFrameError) × (result ≡ of_frame r) × ⟦<PasswordFrames as Pages<(), PasswordFrameError>>⟧.tells tt octets r)
         (λ k. (r : Result (Vec Token Global) Asn1DerError) × (result ≡ of_der r) × ⟦<Data as Pages<DataKind, Asn1DerError>>⟧.tells k octets r)
-        (λ k. (r : Result (Vec Token Global) Asn1DerError) × (result ≡ of_der r) × ⟦<Certificates as Pages<CertificateKind, Asn1DerError>>⟧.tells k octets r) };
+        (λ k. (r : Result (Vec Token Global) Asn1DerError) × (result ≡ of_der r) × ⟦<Certificates as Pages<CertificateKind, Asn1DerError>>⟧.tells k octets r)
+        (IsTreeTold octets result) };
 
     fn page_of(alloc: Global, kind: Kind, octets: &[u8]) -> Result<Page, PageError> {
         match kind {
@@ -105,6 +117,7 @@ impl Pages<Kind, PageError> for Everything {
             Kind::PasswordFrame => frame_page(alloc, octets),
             Kind::Data(kind) => data_page(alloc, kind, octets),
             Kind::Certificate(kind) => certificate_page(alloc, kind, octets),
+            Kind::Tree => tree_page(alloc, octets),
         }
     }
 }

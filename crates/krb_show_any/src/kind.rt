@@ -23,6 +23,8 @@ pub enum Kind {
     Data(DataKind),
     /// A type of PKINIT or of CredSSP, which its first octet does not tell.
     Certificate(CertificateKind),
+    /// Any octets, as elements by their tags and lengths alone (X.690, 8.1).
+    Tree,
 }
 
 /// Whether the encodings of a message or of an opened part begin with this octet (RFC 4120, 5.10).

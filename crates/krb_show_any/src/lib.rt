@@ -13,6 +13,7 @@ mod kind;
 mod names;
 mod pages;
 mod password_frames;
+mod place;
 mod tokens;
 
 pub use applications::Applications;
@@ -25,4 +26,5 @@ pub use kind::{Kind, is_application, kind_of_octets};
 pub use names::{kind_of_name, name_of_kind};
 pub use pages::Pages;
 pub use password_frames::PasswordFrames;
+pub use place::{Place, place_of_error};
 pub use tokens::Tokens;

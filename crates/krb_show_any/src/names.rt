@@ -86,12 +86,15 @@ fn other_named(name: &str) -> Option<Kind>
         Some(Kind::Negoex)
     } else if is_same(b"password-frame", name.as_bytes()) {
         Some(Kind::PasswordFrame)
+    } else if is_same(b"tree", name.as_bytes()) {
+        Some(Kind::Tree)
     } else {
         None
     }
 }
 
-/// The kind of this name, letters of either case alike: the name that the standard gives a type, or `token`, `PAC`, `NEGOEX` or `password-frame`.
+/// The kind of this name, letters of either case alike: the name that the standard gives a type, or `token`, `PAC`, `NEGOEX`, `password-frame`
+/// or `tree`.
 /// `None` where no kind has it.
 pub fn kind_of_name(name: &str) -> Option<Kind>
     ensures { IsNamed name.now result }
@@ -124,6 +127,7 @@ pub fn name_of_kind(kind: Kind) -> &'static str
         Kind::Pac => "PAC",
         Kind::Negoex => "NEGOEX",
         Kind::PasswordFrame => "password-frame",
+        Kind::Tree => "tree",
         Kind::Data(kind) => kind.name(),
         Kind::Certificate(kind) => kind.name(),
     }

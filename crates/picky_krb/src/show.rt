@@ -7,10 +7,12 @@ pub use krb_show::{
     show_word, text_of_page,
 };
 pub use krb_show_any::{
-    Everything, Kind, PageError, Pages, kind_of_name, kind_of_octets, name_of_kind,
+    Everything, Kind, PageError, Pages, Place, kind_of_name, kind_of_octets, name_of_kind,
+    place_of_error,
 };
 pub use krb_show_formats::{page_of_negoex, page_of_pac, show_pac};
 pub use krb_show_messages::{DataKind, Message, page_of_data, page_of_message, page_of_part};
 pub use krb_show_password::{PasswordFrameError, page_of_password_frame};
 pub use krb_show_pkinit::{Certificate, CertificateKind, page_of_certificate_data};
 pub use krb_show_tokens::{GssToken, page_of_token};
+pub use krb_tree::{page_of_tree, tag_name};

@@ -1,0 +1,13 @@
+use Rattle.std.proofs.Common.{ℕ, ◌+◌, ◌-◌, ◌≤◌, length}
+use Rattle.std.specs.Prelude.{All}
+use Rattle.krb_show_any.proofs.place.places_behind.Given as goal
+
+abbrev pub invariant-behind : goal.invariant-behind
+invariant-behind l = record {
+  order : l.from ≤ l.at;
+  inside : l.at ≤ length l.octets;
+  places : All (λ at. (l.from ≤ at) × (at + 2 ≤ length l.octets)) l.places.items;
+}
+
+abbrev pub decreases-behind : goal.decreases-behind
+decreases-behind l = length l.octets - l.at
