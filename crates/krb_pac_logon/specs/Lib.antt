@@ -1,0 +1,5 @@
+pub mod Fixed
+pub mod Logon
+pub mod Referents
+pub mod Sid
+pub mod Steps
