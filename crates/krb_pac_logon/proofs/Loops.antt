@@ -2,7 +2,8 @@
 use Rattle.std.proofs.Common.{◌≡◌, ℕ, suc, List, drop, Ok, Err, refl}
 use Rattle.krb_pac_logon.specs.declared.error.LogonError.{LogonError}
 use Rattle.krb_pac_logon.specs.Steps.{Read}
-use Rattle.krb_pac_logon.specs.Fixed.{long_at, needed_pointer_of}
+use Rattle.krb_pac_logon.specs.Fixed.{needed_pointer_of}
+use Rattle.krb_pac_logon.specs.Numbers.{long_at}
 use Rattle.krb_pac_logon.specs.Sid.{sid_of}
 use Rattle.krb_pac_logon.specs.Referents.{element_pointers_of, after_sids}
 

@@ -1,16 +1,9 @@
 -- The pointers of the fixed part of KERB_VALIDATION_INFO (MS-PAC 2.5), looked at in the order of its octets.
-use Rattle.std.specs.Prelude.{ℕ, ◌+◌, ◌%◌, ◌&&◌, ◌||◌, not, ◌==◌, nat_lt, nat_le, List, [], ◌∷◌, drop, Result, if◌then◌else◌}
-use Rattle.byteorder.specs.Endian.{little_number}
+use Rattle.std.specs.Prelude.{ℕ, ◌+◌, ◌%◌, ◌&&◌, ◌||◌, not, ◌==◌, nat_lt, nat_le, List, [], ◌∷◌, Result, if◌then◌else◌}
+use Rattle.krb_pac_logon.specs.Numbers.{short_at, long_at}
 use Rattle.krb_pac_logon.specs.Steps.{first_fault, ◌>>=◌}
 use Rattle.krb_pac_logon.specs.declared.error.LogonError.{LogonError}
 use Rattle.krb_pac_logon.specs.declared.error.LogonError.TheVariants as errors
-
--- the number of two octets, and of four, at a place
-abbrev pub short_at : ℕ → List ℕ → ℕ
-short_at at b = little_number 2 (drop at b)
-
-abbrev pub long_at : ℕ → List ℕ → ℕ
-long_at at b = little_number 4 (drop at b)
 
 -- the greatest referent id so far, once this one is read after it (C706, 14.3.11.3): 0 is null, and others count up
 unfoldable pub pointer_of : ℕ → ℕ → Result ℕ LogonError

@@ -1,6 +1,7 @@
 -- The logon information (MS-PAC 2.5, KERB_VALIDATION_INFO): which octets are it, and their first error.
 use Rattle.std.specs.Prelude.{ℕ, ◌+◌, ◌-◌, ◌*◌, ◌/◌, not, ◌==◌, nat_lt, List, [], ◌∷◌, length, take, drop, slice_index, Result, Ok}
-use Rattle.krb_pac_logon.specs.Fixed.{short_at, long_at, needed_pointer_of, pointers_of}
+use Rattle.krb_pac_logon.specs.Fixed.{needed_pointer_of, pointers_of}
+use Rattle.krb_pac_logon.specs.Numbers.{short_at, long_at}
 use Rattle.krb_pac_logon.specs.Referents.{string_at, array_at, ExtraSids, extra_sids_at, MaybeSid, resource_sid_at}
 use Rattle.krb_pac_logon.specs.Sid.{sid_of}
 use Rattle.krb_pac_logon.specs.Steps.{Read, first_fault, ◌>>=◌}

@@ -1,6 +1,7 @@
 -- What pointers point to, in NDR (C706, chapter 14), each at a multiple of 4 octets.
 use Rattle.std.specs.Prelude.{ℕ, zero, suc, ◌+◌, ◌-◌, ◌*◌, ◌/◌, ◌%◌, not, ◌==◌, nat_lt, List, [], ◌∷◌, length, take, drop, Option, Some, None, Result, Ok, if◌then◌else◌}
-use Rattle.krb_pac_logon.specs.Fixed.{short_at, long_at, needed_pointer_of}
+use Rattle.krb_pac_logon.specs.Fixed.{needed_pointer_of}
+use Rattle.krb_pac_logon.specs.Numbers.{short_at, long_at}
 use Rattle.krb_pac_logon.specs.Sid.{sid_of}
 use Rattle.krb_pac_logon.specs.Steps.{Read, first_fault, ◌>>=◌}
 use Rattle.krb_pac_logon.specs.declared.error.LogonError.{LogonError}

@@ -5,13 +5,16 @@
 //! `logon_of`, whose parts are the layouts of NDR (C706, chapter 14): which information octets are, or their first error.
 #![tactic(auto)]
 
+mod elements;
 mod error;
+mod fields;
 mod fixed;
 mod logon;
 mod numbers;
 mod referents;
 mod sid;
 
+pub use elements::{ExtraSids, Membership, Memberships, SidAndAttributes};
 pub use error::LogonError;
 pub use logon::LogonView;
-pub use sid::SidView;
+pub use sid::{SidView, SubAuthorities};

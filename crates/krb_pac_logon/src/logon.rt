@@ -51,12 +51,12 @@ impl<'a> Model for DomainRead<'a> {
 /// The logon information of a PAC (MS-PAC 2.5, KERB_VALIDATION_INFO) over the octets that the caller holds. It takes no memory.
 #[derive(Drop)]
 pub struct LogonView<'a> {
-    fixed: &'a [u8],
-    names: NamesRead<'a>,
-    domain: DomainRead<'a>,
-    extra: ExtraSidsRead<'a>,
-    resource: MaybeSidRead<'a>,
-    resource_groups: Part<'a>,
+    pub(crate) fixed: &'a [u8],
+    pub(crate) names: NamesRead<'a>,
+    pub(crate) domain: DomainRead<'a>,
+    pub(crate) extra: ExtraSidsRead<'a>,
+    pub(crate) resource: MaybeSidRead<'a>,
+    pub(crate) resource_groups: Part<'a>,
 }
 
 impl<'a> Model for LogonView<'a> {

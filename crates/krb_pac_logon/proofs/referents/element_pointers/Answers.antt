@@ -1,6 +1,7 @@
 use Rattle.std.proofs.Common.{◌≡◌, ◌+◌, ◌-◌, suc, Ok, Err, sym, ap, ◌∙◌, arith, length-drop}
 use Rattle.std.proofs.lemmas.Result.{err_from_is_err_and}
-use Rattle.krb_pac_logon.specs.Fixed.{long_at, needed_pointer_of}
+use Rattle.krb_pac_logon.specs.Fixed.{needed_pointer_of}
+use Rattle.krb_pac_logon.specs.Numbers.{long_at}
 use Rattle.krb_pac_logon.proofs.Loops.{element_read, element_refused, elements_end}
 use Rattle.krb_pac_logon.proofs.referents.element_pointers.Goals as goal
 
