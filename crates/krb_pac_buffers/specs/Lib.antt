@@ -1,0 +1,4 @@
+pub mod Attributes
+pub mod Client
+pub mod Steps
+pub mod Upn

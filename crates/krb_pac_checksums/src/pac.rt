@@ -1,0 +1,54 @@
+//! The checksums of a PAC.
+
+ghost use Rattle.std.specs.Prelude.{IfOk};
+ghost use Rattle.krb_pac_signatures.specs.Signatures.{server_message, full_message};
+ghost use Rattle.krb_pac_checksums.specs.Verdict.{IsVerdictOf, IsKdcVerdict};
+
+use crate::verdict::{Verdict, verify};
+use krb_pac_signatures::PacSignatures;
+use std::alloc::{AllocError, Global};
+
+/// What is known of the server's checksum (MS-PAC 2.8.1) under the key of the service: it is over the PAC, with the octets of the server's
+/// and the KDC's signature zeroed. The one allocation is as large as the PAC; `AllocError` where it failed.
+pub fn server_verdict(
+    alloc: Global,
+    signatures: &PacSignatures,
+    key: &[u8],
+) -> Result<Verdict, AllocError>
+    ensures { IfOk result (IsVerdictOf signatures.now.server key.now (server_message signatures.now)) }
+{
+    let Some(server) = signatures.server() else {
+        return Ok(Verdict::Absent);
+    };
+    let message = signatures.server_message(alloc)?;
+    Ok(verify(&server, key, &message))
+}
+
+/// What is known of the KDC's checksum (MS-PAC 2.8.2) under the key of the KDC: it is over the server's signature. It allocates nothing.
+pub fn kdc_verdict(signatures: &PacSignatures, key: &[u8]) -> Verdict
+    ensures { IsKdcVerdict signatures.now.kdc signatures.now.server key.now result }
+{
+    let Some(server) = signatures.server() else {
+        return Verdict::Absent;
+    };
+    let Some(kdc) = signatures.kdc() else {
+        return Verdict::Absent;
+    };
+    verify(&kdc, key, server.signature())
+}
+
+/// What is known of the checksum over the whole PAC (MS-PAC 2.8.4) under the key of the KDC: it is over the PAC, with the octets of the
+/// server's, the KDC's and its own signature zeroed. The one allocation is as large as the PAC; `AllocError` where it failed.
+pub fn full_verdict(
+    alloc: Global,
+    signatures: &PacSignatures,
+    key: &[u8],
+) -> Result<Verdict, AllocError>
+    ensures { IfOk result (IsVerdictOf signatures.now.full key.now (full_message signatures.now)) }
+{
+    let Some(full) = signatures.full() else {
+        return Ok(Verdict::Absent);
+    };
+    let message = signatures.full_message(alloc)?;
+    Ok(verify(&full, key, &message))
+}

@@ -1,0 +1,2 @@
+pub mod FirstLeft
+pub mod Loops
