@@ -1,0 +1,17 @@
+//! Fields at the front of octets: numbers, counted octets and names, the most significant octet first, as the files of MIT
+//! Kerberos have them.
+//!
+//! Each call reads one field and returns it with the octets after it, a slice of the caller's. It takes no memory. A contract says
+//! by a function on lists what is read (`specs/Reading.antt`), and `specs/Laws.antt` that this is what is written.
+#![tactic(auto)]
+
+mod error;
+mod name;
+mod number;
+mod writing;
+
+pub use error::FieldError;
+pub use name::{NameView, PartsView};
+pub use name::name_at;
+pub use number::{LengthSize, counted_at, length_at, u16_at, u32_at, u8_at};
+pub use writing::{NameParts, fits, fits_name, push_counted, push_name, push_number};
