@@ -10,8 +10,8 @@ use Rattle.byteorder.specs.Endian.{big_number, big_bytes}
 use Rattle.byteorder.specs.Numbers.{big_number-reads_back, length-bytes_high_first, big_from-lt, big_from-take}
 use Rattle.krb_fields.specs.declared.error.FieldError.{FieldError}
 use Rattle.krb_fields.specs.declared.error.FieldError.TheVariants.{Truncated, LengthPastEnd, CountPastEnd}
-use Rattle.krb_fields.specs.Reading.{◌>>=◌, number_at, counted_at, list_at, Name, name_at, followed_at, seen_at}
-use Rattle.krb_fields.specs.Written.{counted_octets, name_octets, FitsNumber, FitsCounted, FitsName}
+use Rattle.krb_fields.specs.Reading.{◌>>=◌, number_at, counted_at, list_at, Principal, principal_at, followed_at, seen_at}
+use Rattle.krb_fields.specs.Written.{counted_octets, principal_octets, FitsNumber, FitsCounted, FitsPrincipal}
 
 abbrev pub IsOctets : List ℕ → Type 0
 IsOctets b = (i : ℕ) → get_or b i 0 < 256
@@ -161,11 +161,11 @@ enough octets some (x ∷ xs) =
 pub counted_some : (n : ℕ) → IsWide n → (x : List ℕ) → 0 < length (counted_octets n x)
 counted_some n wide x = omega (arith, wide.some, length-bytes_high_first n (length x), length-append (big_bytes n (length x)) x)
 
-name_takes : (n : ℕ) → IsWide n → (b : List ℕ) (x : Name) (rest : List ℕ) → IsOctets b → name_at n b ≡ Ok (x, rest) → Takes b (name_octets n x) rest × FitsName n x
-unfolding name_at
-name_takes n wide b x rest fits e =
+principal_takes : (n : ℕ) → IsWide n → (b : List ℕ) (x : Principal) (rest : List ℕ) → IsOctets b → principal_at n b ≡ Ok (x, rest) → Takes b (principal_octets n x) rest × FitsPrincipal n x
+unfolding principal_at
+principal_takes n wide b x rest fits e =
     let later : ℕ → List ℕ → Result (List (List ℕ) × List ℕ) FieldError = λ count c. cond (ltb (length c) count) (Err CountPastEnd) (list_at (counted_at n) count c) in
-    let make : List ℕ → List (List ℕ) × List ℕ → Result (Name × List ℕ) FieldError = λ realm parts. Ok (record { realm = realm; parts = parts.0 }, parts.1) in
+    let make : List ℕ → List (List ℕ) × List ℕ → Result (Principal × List ℕ) FieldError = λ realm parts. Ok (record { realm = realm; components = parts.0 }, parts.1) in
     let a = bind_ok (number_at n b) (λ count. counted_at n count.1 >>= λ realm. later count.0 realm.1 >>= make realm.0) (x, rest) e in
     let r = bind_ok (counted_at n a.0.1) (λ realm. later a.0.0 realm.1 >>= make realm.0) (x, rest) a.2 in
     let p = bind_ok (later a.0.0 r.0.1) (make r.0.0) (x, rest) r.2 in
@@ -175,24 +175,24 @@ name_takes n wide b x rest fits e =
     let t2 = list_takes (counted_at n) (counted_octets n) (FitsCounted n) (counted_reading n wide) a.0.0 r.0.1 p.0 t1.0.rest_fits g.1 in
     let e12 = Takes-then a.0.1 (counted_octets n r.0.0) r.0.1 (flat_map (counted_octets n) p.0.0) p.0.1 t1.0 t2.0 in
     let e02 = Takes-then b (big_bytes n a.0.0) a.0.1 (counted_octets n r.0.0 ++ flat_map (counted_octets n) p.0.0) p.0.1 t0.0 e12 in
-    let made : Name × List ℕ = (record { realm = r.0.0; parts = p.0.0 }, p.0.1) in
-    let whole : Takes b (name_octets n made.0) p.0.1 = subst (λ (k : ℕ). Takes b (big_bytes n k ++ (counted_octets n r.0.0 ++ flat_map (counted_octets n) p.0.0)) p.0.1) (sym t2.1) e02 in
-    subst (λ (y : Name × List ℕ). Takes b (name_octets n y.0) y.1 × FitsName n y.0) (ok_is FieldError made (x, rest) p.2)
-    (whole, record { count = subst (FitsNumber n) (sym t2.1) t0.1; realm = t1.1; parts = t2.2 })
+    let made : Principal × List ℕ = (record { realm = r.0.0; components = p.0.0 }, p.0.1) in
+    let whole : Takes b (principal_octets n made.0) p.0.1 = subst (λ (k : ℕ). Takes b (big_bytes n k ++ (counted_octets n r.0.0 ++ flat_map (counted_octets n) p.0.0)) p.0.1) (sym t2.1) e02 in
+    subst (λ (y : Principal × List ℕ). Takes b (principal_octets n y.0) y.1 × FitsPrincipal n y.0) (ok_is FieldError made (x, rest) p.2)
+    (whole, record { count = subst (FitsNumber n) (sym t2.1) t0.1; realm = t1.1; components = t2.2 })
 
-name_again : (n : ℕ) → IsWide n → (x : Name) (rest : List ℕ) → FitsName n x → name_at n (name_octets n x ++ rest) ≡ Ok (x, rest)
-unfolding name_at
-name_again n wide x rest fits =
-    let parts = flat_map (counted_octets n) x.parts in
+principal_again : (n : ℕ) → IsWide n → (x : Principal) (rest : List ℕ) → FitsPrincipal n x → principal_at n (principal_octets n x ++ rest) ≡ Ok (x, rest)
+unfolding principal_at
+principal_again n wide x rest fits =
+    let parts = flat_map (counted_octets n) x.components in
     let tail = parts ++ rest in
-    let regrouped : name_octets n x ++ rest ≡ big_bytes n (length x.parts) ++ (counted_octets n x.realm ++ tail) =
-    append_assoc (big_bytes n (length x.parts)) (counted_octets n x.realm ++ parts) rest ∙ ap (λ (l : List ℕ). big_bytes n (length x.parts) ++ l) (append_assoc (counted_octets n x.realm) parts rest) in
-    let long : ltb (length tail) (length x.parts) ≡ false = le-ltb _ _ (omega (arith, enough (counted_octets n) (counted_some n wide) x.parts, length-append parts rest)) in
-    let list = list_again (counted_at n) (counted_octets n) (FitsCounted n) (counted_reading n wide) x.parts rest fits.parts in
-    ap (name_at n) regrouped ∙ rw (number_again n (length x.parts) (counted_octets n x.realm ++ tail) fits.count, counted_again n x.realm tail fits.realm, long, list) refl
+    let regrouped : principal_octets n x ++ rest ≡ big_bytes n (length x.components) ++ (counted_octets n x.realm ++ tail) =
+    append_assoc (big_bytes n (length x.components)) (counted_octets n x.realm ++ parts) rest ∙ ap (λ (l : List ℕ). big_bytes n (length x.components) ++ l) (append_assoc (counted_octets n x.realm) parts rest) in
+    let long : ltb (length tail) (length x.components) ≡ false = le-ltb _ _ (omega (arith, enough (counted_octets n) (counted_some n wide) x.components, length-append parts rest)) in
+    let list = list_again (counted_at n) (counted_octets n) (FitsCounted n) (counted_reading n wide) x.components rest fits.components in
+    ap (principal_at n) regrouped ∙ rw (number_again n (length x.components) (counted_octets n x.realm ++ tail) fits.count, counted_again n x.realm tail fits.realm, long, list) refl
 
-pub name_reading : (n : ℕ) → IsWide n → IsReading (name_at n) (name_octets n) (FitsName n)
-name_reading n wide = record { takes = name_takes n wide; again = name_again n wide }
+pub principal_reading : (n : ℕ) → IsWide n → IsReading (principal_at n) (principal_octets n) (FitsPrincipal n)
+principal_reading n wide = record { takes = principal_takes n wide; again = principal_again n wide }
 
 -- a value, and one behind it
 pub followed_reading : {A B E : Type 0} {first : List ℕ → Result (A × List ℕ) E} {second : List ℕ → Result (B × List ℕ) E} {p : A → List ℕ} {q : B → List ℕ} {F : A → Type 0} {G : B → Type 0}

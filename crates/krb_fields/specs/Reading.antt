@@ -50,21 +50,21 @@ unfoldable pub shown_list : {A E : Type 0} → (List ℕ → Result (A × List �
 shown_list read zero b = []
 shown_list read (suc k) b = shown_first (read b) (shown_list read k)
 
-abbrev pub parts_of : ℕ → ℕ → List ℕ → List (List ℕ)
-parts_of n k b = shown_list (counted_at n) k b
+abbrev pub components_of : ℕ → ℕ → List ℕ → List (List ℕ)
+components_of n k b = shown_list (counted_at n) k b
 
--- a realm and the parts of a name
-pub record Name : Type 0 where
+-- a realm and the components of a principal
+pub record Principal : Type 0 where
   pub realm : List ℕ
-  pub parts : List (List ℕ)
+  pub components : List (List ℕ)
 
--- how many parts there are, the realm, and the parts
-unfoldable pub name_at : ℕ → List ℕ → Result (Name × List ℕ) FieldError
-name_at n b = do
+-- how many components there are, the realm, and the components
+unfoldable pub principal_at : ℕ → List ℕ → Result (Principal × List ℕ) FieldError
+principal_at n b = do
   count ← number_at n b
   realm ← counted_at n count.1
-  parts ← if nat_lt (length realm.1) count.0 then Err CountPastEnd else counted_list_at n count.0 realm.1
-  Ok (record { realm = realm.0; parts = parts.0 }, parts.1)
+  components ← if nat_lt (length realm.1) count.0 then Err CountPastEnd else counted_list_at n count.0 realm.1
+  Ok (record { realm = realm.0; components = components.0 }, components.1)
 
 -- elements up to where none is to come, at most n of them
 unfoldable pub all_at : {A E : Type 0} → (List ℕ → Bool) → (List ℕ → Result (A × List ℕ) E) → ℕ → List ℕ → Result (List A) E

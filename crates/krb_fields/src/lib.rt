@@ -6,12 +6,12 @@
 #![tactic(auto)]
 
 mod error;
-mod name;
+mod principal;
 mod number;
 mod writing;
 
 pub use error::FieldError;
-pub use name::{NameView, PartsView};
-pub use name::name_at;
+pub use principal::{PrincipalView, ComponentsView};
+pub use principal::principal_at;
 pub use number::{LengthSize, counted_at, length_at, u16_at, u32_at, u8_at};
-pub use writing::{NameParts, fits, fits_name, push_counted, push_name, push_number};
+pub use writing::{PrincipalParts, fits, fits_principal, push_counted, push_principal, push_number};

@@ -2,20 +2,20 @@
 
 ghost use Rattle.std.specs.Prelude.{◌≡◌, ◌++◌, ◌<◌, ◌^◌, ◌↔◌, IsTrue, length, OnOk};
 ghost use Rattle.byteorder.specs.Endian.{big_bytes};
-ghost use Rattle.krb_fields.specs.Names.{name_of};
+ghost use Rattle.krb_fields.specs.Principals.{principal_of};
 ghost use Rattle.krb_fields.specs.Reading.{size_of};
-ghost use Rattle.krb_fields.specs.Written.{counted_octets, name_octets, FitsName};
+ghost use Rattle.krb_fields.specs.Written.{counted_octets, principal_octets, FitsPrincipal};
 
 use crate::number::LengthSize;
 use std::alloc::AllocError;
 
-/// A realm and the parts of a name, each as octets.
+/// A realm and the components of a principal, each as octets.
 #[derive(Clone, Copy, Debug)]
-pub struct NameParts<'a> {
+pub struct PrincipalParts<'a> {
     /// The realm's octets.
     pub realm: &'a [u8],
-    /// The parts of the name, in their order.
-    pub parts: &'a [&'a [u8]],
+    /// The components of the principal, in their order.
+    pub components: &'a [&'a [u8]],
 }
 
 /// Whether a length or a count has a place in a field of this size.
@@ -50,30 +50,30 @@ pub fn push_counted(out: &mut Vec<u8>, size: LengthSize, octets: &[u8]) -> Resul
     Ok(())
 }
 
-/// Whether the count of the parts and each length of a name has a place in a field of this size.
-pub fn fits_name(size: LengthSize, name: &NameParts) -> bool
-    ensures { IsTrue result ↔ FitsName (size_of size) (name_of name.now) }
+/// Whether the count of the components and each length of a principal has a place in a field of this size.
+pub fn fits_principal(size: LengthSize, principal: &PrincipalParts) -> bool
+    ensures { IsTrue result ↔ FitsPrincipal (size_of size) (principal_of principal.now) }
 {
-    if !fits(size, name.parts.len()) || !fits(size, name.realm.len()) {
+    if !fits(size, principal.components.len()) || !fits(size, principal.realm.len()) {
         return false;
     }
-    'parts: for part in name.parts {
-        if !fits(size, part.len()) {
+    'components: for component in principal.components {
+        if !fits(size, component.len()) {
             return false;
         }
     }
     true
 }
 
-/// Appends a name: how many parts it has, the realm, and the parts, each of these octets behind their length.
-pub fn push_name(out: &mut Vec<u8>, size: LengthSize, name: &NameParts) -> Result<(), AllocError>
-    requires { FitsName (size_of size) (name_of name.now) }
-    ensures { OnOk result (out.new.items ≡ out.old.items ++ name_octets (size_of size) (name_of name.now)) }
+/// Appends a principal: how many components it has, the realm, and the components, each of these octets behind their length.
+pub fn push_principal(out: &mut Vec<u8>, size: LengthSize, principal: &PrincipalParts) -> Result<(), AllocError>
+    requires { FitsPrincipal (size_of size) (principal_of principal.now) }
+    ensures { OnOk result (out.new.items ≡ out.old.items ++ principal_octets (size_of size) (principal_of principal.now)) }
 {
-    push_number(out, size, name.parts.len() as u32)?;
-    push_counted(out, size, name.realm)?;
-    'parts: for part in name.parts {
-        push_counted(out, size, part)?;
+    push_number(out, size, principal.components.len() as u32)?;
+    push_counted(out, size, principal.realm)?;
+    'components: for component in principal.components {
+        push_counted(out, size, component)?;
     }
     Ok(())
 }
