@@ -1,0 +1,3 @@
+pub mod Entry
+pub mod Keytab
+pub mod Reading

@@ -1,0 +1,18 @@
+//! Why octets are no keytab.
+
+use krb_fields::FieldError;
+use thiserror::Error;
+
+/// Why octets were not read as a keytab.
+#[derive(Clone, Copy, Debug, PartialEq, Eq, Error)]
+pub enum KeytabError {
+    /// The first two octets are not those of version 2, 05 02, but this number.
+    #[error("the keytab's version is {0}, and version 2 is 1282")]
+    InvalidVersion(u16),
+    /// The octets end inside the version, the length of a record, or a record.
+    #[error("the keytab is cut short")]
+    Truncated,
+    /// A record holds no entry: a field of the entry runs past the record's end.
+    #[error("a record holds no entry: {0}")]
+    InvalidRecord(FieldError),
+}
