@@ -1,1 +1,3 @@
 pub mod Records
+pub mod Steps
+pub mod Whole

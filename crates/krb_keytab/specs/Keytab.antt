@@ -31,13 +31,9 @@ record_octets (live f rest) = counted_octets 4 (fields_octets f ++ rest)
 record_octets (hole octets) = big_bytes 4 (2 ^ 32 - length octets) ++ octets
 
 -- each field has a place
-pub record FitsFields (f : Fields) : Type 0 where
-  pub principal : FitsPrincipal 2 f.principal
-  pub name_type : FitsNumber 4 f.name_type
-  pub timestamp : FitsNumber 4 f.timestamp
-  pub short_kvno : FitsNumber 1 f.short_kvno
-  pub etype : FitsNumber 2 f.etype
-  pub key : FitsCounted 2 f.key
+abbrev pub FitsFields : Fields → Type 0
+FitsFields f =
+    FitsPrincipal 2 f.principal × (FitsNumber 4 f.name_type × (FitsNumber 4 f.timestamp × (FitsNumber 1 f.short_kvno × (FitsNumber 2 f.etype × FitsCounted 2 f.key))))
 
 -- the length is a positive number of 32 bits with a sign, or a negative one
 abbrev pub FitsRecord : Record → Type 0

@@ -41,12 +41,13 @@ octets_at n b = if nat_lt (length b) n then Err Truncated else Ok (take n b, dro
 abbrev pub live_at : List ℕ → List ℕ → Result (Record × List ℕ) KeytabError
 live_at body after = in_record (fields_at body) >>= λ f. Ok (live f.0 f.1, after)
 
+-- a hole of so many octets
+abbrev pub hole_at : ℕ → List ℕ → Result (Record × List ℕ) KeytabError
+hole_at n b = octets_at n b >>= λ x. Ok (hole x.0, x.1)
+
 -- a record that is an entry, or a hole
 abbrev pub body_at : ℕ → List ℕ → Result (Record × List ℕ) KeytabError
-body_at n b =
-    if nat_lt n (2 ^ 31)
-    then (octets_at n b >>= λ x. live_at x.0 x.1)
-    else (octets_at (2 ^ 32 - n) b >>= λ x. Ok (hole x.0, x.1))
+body_at n b = if nat_lt n (2 ^ 31) then (octets_at n b >>= λ x. live_at x.0 x.1) else hole_at (2 ^ 32 - n) b
 
 -- a record: its length, and its octets
 unfoldable pub record_at : List ℕ → Result (Record × List ℕ) KeytabError

@@ -7,8 +7,10 @@
 mod entry;
 mod error;
 mod record;
+mod view;
 
 
 pub use entry::EntryView;
 pub use error::KeytabError;
+pub use view::{EntriesView, KeytabView};
 
