@@ -1,11 +1,15 @@
 //! Names: a count of components, a realm, and the components.
 
-ghost use Rattle.std.specs.Prelude.{◌≡◌, ◌<◌, ◌^◌, ℕ, List, length};
+ghost use Rattle.std.specs.Prelude.{◌≡◌, map};
 ghost use Rattle.std.specs.Iterator.{YieldsFirstRef, item_count};
-ghost use Rattle.krb_fields.specs.Reading.{Gives, Principal, counted_list_at, principal_at as principal_fields_at, components_of, size_of};
+ghost use Rattle.std.specs.Str.{bytes_eq};
+ghost use Rattle.std.specs.Cmp.Lexicographic.{pointwise};
+ghost use Rattle.krb_fields.specs.Principals.{principal_of, same_principal};
+ghost use Rattle.krb_fields.specs.Reading.{Gives, counted_list_at, principal_at as principal_fields_at, components_of, size_of};
 
 use crate::error::FieldError;
 use crate::number::{LengthSize, counted_at, length_at};
+use crate::writing::PrincipalParts;
 use std::marker::Model;
 
 /// Counted octets, one after the other. An iterator over them; a contract sees the list of those that are left.
@@ -92,6 +96,31 @@ impl<'a> PrincipalView<'a> {
     {
         self.components.again()
     }
+
+    /// Whether this is the same principal: the same realm and components, octet by octet.
+    pub fn is_same(&self, principal: &PrincipalParts) -> bool
+        ensures { result ≡ same_principal self.now (principal_of principal.now) }
+    {
+        self.realm == principal.realm && has_components(&self.components, principal.components)
+    }
+}
+
+/// Whether the components are these, in this order.
+fn has_components(name: &ComponentsView, parts: &[&[u8]]) -> bool
+    ensures { result ≡ pointwise bytes_eq name.now (map (λ p. p.now) parts.now) }
+{
+    let mut components = name.again();
+    'parts: for part in parts {
+        match components.next() {
+            Some(component) => {
+                if component != *part {
+                    return false;
+                }
+            }
+            None => return false,
+        }
+    }
+    components.next().is_none()
 }
 
 /// The octets after so many counted octets.
