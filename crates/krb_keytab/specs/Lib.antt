@@ -1,3 +1,4 @@
 pub mod Entry
+pub mod Find
 pub mod Keytab
 pub mod Reading

@@ -33,6 +33,13 @@ impl<'a> Model for EntryView<'a> {
 }
 
 impl<'a> EntryView<'a> {
+    /// The principal.
+    pub fn principal(&self) -> &PrincipalView<'a>
+        ensures { result.now ≡ self.now.principal }
+    {
+        &self.principal
+    }
+
     /// The octets of the principal's realm.
     pub fn realm(&self) -> &'a [u8]
         ensures { result.now ≡ self.now.principal.realm }

@@ -6,6 +6,7 @@
 
 mod entry;
 mod error;
+mod find;
 mod record;
 mod view;
 
