@@ -14,4 +14,4 @@ pub use error::FieldError;
 pub use principal::{PrincipalView, ComponentsView};
 pub use principal::principal_at;
 pub use number::{LengthSize, counted_at, length_at, u16_at, u32_at, u8_at};
-pub use writing::{PrincipalParts, fits, fits_principal, push_counted, push_principal, push_number};
+pub use writing::{PrincipalParts, fits, fits_principal, push_counted, push_number, push_octet, push_principal};

@@ -40,6 +40,14 @@ pub fn push_number(out: &mut Vec<u8>, size: LengthSize, number: u32) -> Result<(
     Ok(())
 }
 
+/// Appends a number of one octet.
+pub fn push_octet(out: &mut Vec<u8>, number: u8) -> Result<(), AllocError>
+    ensures { OnOk result (out.new.items ≡ out.old.items ++ big_bytes 1 number) }
+{
+    out.extend_from_slice(&[number])?;
+    Ok(())
+}
+
 /// Appends octets behind their length.
 pub fn push_counted(out: &mut Vec<u8>, size: LengthSize, octets: &[u8]) -> Result<(), AllocError>
     requires { length octets.now < 256 ^ size_of size }

@@ -9,9 +9,11 @@ mod error;
 mod find;
 mod record;
 mod view;
+mod writing;
 
 
 pub use entry::EntryView;
-pub use error::KeytabError;
+pub use error::{KeytabError, KeytabWriteError};
 pub use view::{EntriesView, KeytabView};
+pub use writing::{NewEntry, push_entry, write};
 
