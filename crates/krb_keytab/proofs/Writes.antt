@@ -76,3 +76,17 @@ plain_record (live f rest) p =
     ap (λ (g : Fields). record_octets (live g rest)) fields ∙ ap (λ (l : List ℕ). record_octets (live (written_fields (entry_of f rest)) l)) behind
     ∙ sym (append-nil (entry_octets (entry_of f rest)))
 plain_record (hole octets) p = absurd p
+
+plain_records : (rs : List Record) → AllByRecursion IsPlain rs → flat_map entry_octets (entries_of rs) ≡ flat_map record_octets rs
+plain_records [] p = refl
+plain_records (live f rest ∷ rs) p =
+    let one : record_octets (live f rest) ≡ entry_octets (entry_of f rest) = plain_record (live f rest) p.0 ∙ append-nil (entry_octets (entry_of f rest)) in
+    flat_map-cons entry_octets (entry_of f rest) (entries_of rs) ∙ ap (λ (l : List ℕ). l ++ flat_map entry_octets (entries_of rs)) (sym one)
+    ∙ ap (λ (l : List ℕ). record_octets (live f rest) ++ l) (plain_records rs p.1) ∙ sym (flat_map-cons record_octets (live f rest) rs)
+plain_records (hole octets ∷ rs) p = absurd p.0
+
+pub written_back : (b : List ℕ) (es : List Entry) (k : KeytabIs b es) → k.end ≡ [] → AllByRecursion IsPlain k.records → keytab_octets es ≡ b
+written_back b es k none plain =
+    ap keytab_octets (sym k.shown)
+    ∙ ap (λ (l : List ℕ). 5 ∷ 2 ∷ l) (plain_records k.records plain ∙ sym (append-nil (flat_map record_octets k.records)) ∙ ap (λ (l : List ℕ). flat_map record_octets k.records ++ l) (sym none))
+    ∙ sym k.octets

@@ -7,6 +7,7 @@
 mod entry;
 mod error;
 mod find;
+pub mod laws;
 mod record;
 mod view;
 mod writing;
