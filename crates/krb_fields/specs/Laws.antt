@@ -1,17 +1,17 @@
 -- What is read is what is written, for each field, and for fields made of others.
-use Rattle.std.proofs.Common.{◌≡◌, ℕ, zero, suc, ◌+◌, ◌*◌, ◌%◌, ◌^◌, ◌<◌, ◌≤◌, Bool, true, false, cond, ltb, List, [], ◌∷◌, ◌++◌, length, get_or, take, drop, Result, Ok, Err, refl, sym, ap, subst, ◌∙◌, append_assoc, arith, inl, inr}
+use Rattle.std.proofs.Common.{◌≡◌, ℕ, zero, suc, ◌+◌, ◌*◌, ◌%◌, ◌^◌, ◌<◌, ◌≤◌, Bool, true, false, cond, eqb, ltb, eq-eqb, List, [], ◌∷◌, ◌++◌, length, get_or, take, drop, Result, Ok, Err, refl, sym, ap, subst, ◌∙◌, append_assoc, arith, inl, inr}
 use Rattle.std.specs.Int.{w16, w32}
 use Rattle.std.specs.List.{flat_map, AllByRecursion}
-use Rattle.std.proofs.lemmas.Bool.{cases_lt, ltb-false, le-ltb}
+use Rattle.std.proofs.lemmas.Bool.{cases_lt, eqb-true, ltb-false, le-ltb}
 use Rattle.std.proofs.lemmas.List.{append-nil, take_at, drop_at, take-append-drop, length-append, length-take, length-drop, get_or-drop, get_or-take, get_or_past}
 use Rattle.std.proofs.lemmas.List.Concat.{flat_map-cons}
 use Rattle.std.proofs.lemmas.Nat.{be_bytes_2, be_bytes_4}
 use Rattle.byteorder.specs.Endian.{big_number, big_bytes}
 use Rattle.byteorder.specs.Numbers.{big_number-reads_back, length-bytes_high_first, big_from-lt, big_from-take}
 use Rattle.krb_fields.specs.declared.error.FieldError.{FieldError}
-use Rattle.krb_fields.specs.declared.error.FieldError.TheVariants.{Truncated, LengthPastEnd, CountPastEnd}
-use Rattle.krb_fields.specs.Reading.{◌>>=◌, number_at, counted_at, list_at, Principal, principal_at, followed_at, seen_at}
-use Rattle.krb_fields.specs.Written.{counted_octets, principal_octets, FitsNumber, FitsCounted, FitsPrincipal}
+use Rattle.krb_fields.specs.declared.error.FieldError.TheVariants.{Truncated, LengthPastEnd, CountPastEnd, RepetitionDiffers}
+use Rattle.krb_fields.specs.Reading.{◌>>=◌, number_at, counted_at, list_at, Principal, principal_at, followed_at, seen_at, Typed, typed_from, typed_at, typed_list_at, twice_at}
+use Rattle.krb_fields.specs.Written.{counted_octets, principal_octets, FitsNumber, FitsCounted, FitsPrincipal, typed_octets, FitsTyped, typed_list_octets, FitsTypedList, twice_octets}
 
 abbrev pub IsOctets : List ℕ → Type 0
 IsOctets b = (i : ℕ) → get_or b i 0 < 256
@@ -201,14 +201,14 @@ followed_reading {A = A} {B = B} {E = E} {first = first} {second = second} {p = 
     let Both : List ℕ → (A × B) × List ℕ → Type 0 = λ b y. Takes b (p y.0.0 ++ q y.0.1) y.1 × (F y.0.0 × G y.0.1) in
     record {
       takes = λ b x rest fits e.
-      let a = bind_ok (first b) (λ x. second x.1 >>= λ y. Ok ((x.0, y.0), y.1)) (x, rest) e in
-      let c = bind_ok (second a.0.1) (λ y. Ok ((a.0.0, y.0), y.1)) (x, rest) a.2 in
-      let t = r.takes b a.0.0 a.0.1 fits a.1 in
-      let u = s.takes a.0.1 c.0.0 c.0.1 t.0.rest_fits c.1 in
-      let made : (A × B) × List ℕ = ((a.0.0, c.0.0), c.0.1) in
-      subst (Both b) (ok_is E made (x, rest) c.2) (Takes-then b (p a.0.0) a.0.1 (q c.0.0) c.0.1 t.0 u.0, (t.1, u.1));
+          let a = bind_ok (first b) (λ x. second x.1 >>= λ y. Ok ((x.0, y.0), y.1)) (x, rest) e in
+          let c = bind_ok (second a.0.1) (λ y. Ok ((a.0.0, y.0), y.1)) (x, rest) a.2 in
+          let t = r.takes b a.0.0 a.0.1 fits a.1 in
+          let u = s.takes a.0.1 c.0.0 c.0.1 t.0.rest_fits c.1 in
+          let made : (A × B) × List ℕ = ((a.0.0, c.0.0), c.0.1) in
+          subst (Both b) (ok_is E made (x, rest) c.2) (Takes-then b (p a.0.0) a.0.1 (q c.0.0) c.0.1 t.0 u.0, (t.1, u.1));
       again = λ x rest fits.
-      ap (followed_at first second) (append_assoc (p x.0) (q x.1) rest) ∙ rw (r.again x.0 (q x.1 ++ rest) fits.0, s.again x.1 rest fits.1) refl;
+          ap (followed_at first second) (append_assoc (p x.0) (q x.1) rest) ∙ rw (r.again x.0 (q x.1 ++ rest) fits.0, s.again x.1 rest fits.1) refl;
     }
 
 -- a value, seen as another
@@ -218,9 +218,64 @@ seen_reading {A = A} {B = B} {E = E} see back there here {read = read} {p = p} {
     let Seen : List ℕ → B × List ℕ → Type 0 = λ b y. Takes b (p (back y.0)) y.1 × F (back y.0) in
     record {
       takes = λ b x rest fits e.
-      let a = bind_ok (read b) (λ x. Ok (see x.0, x.1)) (x, rest) e in
-      let t = r.takes b a.0.0 a.0.1 fits a.1 in
-      let made : B × List ℕ = (see a.0.0, a.0.1) in
-      subst (Seen b) (ok_is E made (x, rest) a.2) (subst (λ (v : A). Takes b (p v) a.0.1 × F v) (sym (here a.0.0)) t);
+          let a = bind_ok (read b) (λ x. Ok (see x.0, x.1)) (x, rest) e in
+          let t = r.takes b a.0.0 a.0.1 fits a.1 in
+          let made : B × List ℕ = (see a.0.0, a.0.1) in
+          subst (Seen b) (ok_is E made (x, rest) a.2) (subst (λ (v : A). Takes b (p v) a.0.1 × F v) (sym (here a.0.0)) t);
       again = λ x rest fits. rw (r.again (back x) rest fits, there x) refl;
     }
+
+-- octets with their type
+pub typed_reading : (n : ℕ) → IsWide n → IsReading (typed_at n) (typed_octets n) (FitsTyped n)
+typed_reading n wide = seen_reading typed_from (λ (t : Typed). (t.kind, t.octets)) (λ t. refl) (λ p. refl) (followed_reading (number_reading 2 wide2) (counted_reading n wide))
+
+pub typed_some : (n : ℕ) → (t : Typed) → 0 < length (typed_octets n t)
+typed_some n t = omega (arith, length-bytes_high_first 2 t.kind, length-append (big_bytes 2 t.kind) (counted_octets n t.octets))
+
+typed_list_takes : (b : List ℕ) (x : List Typed) (rest : List ℕ) → IsOctets b → typed_list_at b ≡ Ok (x, rest) → Takes b (typed_list_octets x) rest × FitsTypedList x
+unfolding typed_list_at
+typed_list_takes b x rest fits e =
+    let a = bind_ok (number_at 4 b) (λ count. cond (ltb (length count.1) count.0) (Err CountPastEnd) (list_at (typed_at 4) count.0 count.1)) (x, rest) e in
+    let g = guard_ok (ltb (length a.0.1) a.0.0) CountPastEnd (list_at (typed_at 4) a.0.0 a.0.1) (x, rest) a.2 in
+    let t = number_takes 4 wide4 b a.0.0 a.0.1 fits a.1 in
+    let u = list_takes (typed_at 4) (typed_octets 4) (FitsTyped 4) (typed_reading 4 wide4) a.0.0 a.0.1 (x, rest) t.0.rest_fits g.1 in
+    let both = Takes-then b (big_bytes 4 a.0.0) a.0.1 (flat_map (typed_octets 4) x) rest t.0 u.0 in
+    (subst (λ (k : ℕ). Takes b (big_bytes 4 k ++ flat_map (typed_octets 4) x) rest) (sym u.1) both, (subst (FitsNumber 4) (sym u.1) t.1, u.2))
+
+typed_list_again : (x : List Typed) (rest : List ℕ) → FitsTypedList x → typed_list_at (typed_list_octets x ++ rest) ≡ Ok (x, rest)
+unfolding typed_list_at
+typed_list_again x rest fits =
+    let all = flat_map (typed_octets 4) x in
+    let regrouped : typed_list_octets x ++ rest ≡ big_bytes 4 (length x) ++ (all ++ rest) = append_assoc (big_bytes 4 (length x)) all rest in
+    let long : ltb (length (all ++ rest)) (length x) ≡ false = le-ltb _ _ (omega (arith, enough (typed_octets 4) (typed_some 4) x, length-append all rest)) in
+    ap typed_list_at regrouped ∙ rw (number_again 4 (length x) (all ++ rest) fits.0, long, list_again (typed_at 4) (typed_octets 4) (FitsTyped 4) (typed_reading 4 wide4) x rest fits.1) refl
+
+pub typed_list_reading : IsReading typed_list_at typed_list_octets FitsTypedList
+typed_list_reading = record { takes = typed_list_takes; again = typed_list_again }
+
+-- a number twice
+same_number : {A : Type 0} (s : Bool) (r : Result A FieldError) (e : FieldError) (y : A) → cond s r (Err e) ≡ Ok y → (s ≡ true) × (r ≡ Ok y)
+same_number true r e y h = (refl, h)
+same_number false r e y h = absurd cc
+
+twice_takes : (b : List ℕ) (x : ℕ) (rest : List ℕ) → IsOctets b → twice_at b ≡ Ok (x, rest) → Takes b (twice_octets x) rest × FitsNumber 2 x
+unfolding twice_at
+twice_takes b x rest fits e =
+    let a = bind_ok (number_at 2 b) (λ first. number_at 2 first.1 >>= λ second. cond (eqb second.0 first.0) (Ok (first.0, second.1)) (Err RepetitionDiffers)) (x, rest) e in
+    let o = bind_ok (number_at 2 a.0.1) (λ second. cond (eqb second.0 a.0.0) (Ok (a.0.0, second.1)) (Err RepetitionDiffers)) (x, rest) a.2 in
+    let made : ℕ × List ℕ = (a.0.0, o.0.1) in
+    let g = same_number (eqb o.0.0 a.0.0) (Ok made) RepetitionDiffers (x, rest) o.2 in
+    let t = number_takes 2 wide2 b a.0.0 a.0.1 fits a.1 in
+    let u = number_takes 2 wide2 a.0.1 o.0.0 o.0.1 t.0.rest_fits o.1 in
+    let second : Takes a.0.1 (big_bytes 2 a.0.0) o.0.1 = subst (λ (k : ℕ). Takes a.0.1 (big_bytes 2 k) o.0.1) (eqb-true _ _ g.0) u.0 in
+    let both = Takes-then b (big_bytes 2 a.0.0) a.0.1 (big_bytes 2 a.0.0) o.0.1 t.0 second in
+    subst (λ (y : ℕ × List ℕ). Takes b (twice_octets y.0) y.1 × FitsNumber 2 y.0) (ok_is FieldError made (x, rest) g.1) (both, t.1)
+
+twice_again : (x : ℕ) (rest : List ℕ) → FitsNumber 2 x → twice_at (twice_octets x ++ rest) ≡ Ok (x, rest)
+unfolding twice_at
+twice_again x rest fits =
+    let same : eqb x x ≡ true = eq-eqb x x refl in
+    ap twice_at (append_assoc (big_bytes 2 x) (big_bytes 2 x) rest) ∙ rw (number_again 2 x (big_bytes 2 x ++ rest) fits, number_again 2 x rest fits, same) refl
+
+pub twice_reading : IsReading twice_at twice_octets (FitsNumber 2)
+twice_reading = record { takes = twice_takes; again = twice_again }

@@ -1,9 +1,9 @@
 -- What is read from the front of octets: a value and the octets after it, or the first error. Numbers have the most significant
 -- octet first.
-use Rattle.std.specs.Prelude.{◌≡◌, ℕ, zero, suc, List, [], ◌∷◌, length, take, drop, Bool, Result, Ok, Err, nat_lt, if◌then◌else◌}
+use Rattle.std.specs.Prelude.{◌≡◌, ℕ, zero, suc, List, [], ◌∷◌, length, take, drop, Bool, true, false, Result, Ok, Err, nat_lt, ◌==◌, if◌then◌else◌}
 use Rattle.byteorder.specs.Endian.{big_number}
 use Rattle.krb_fields.specs.declared.error.FieldError.{FieldError}
-use Rattle.krb_fields.specs.declared.error.FieldError.TheVariants.{Truncated, LengthPastEnd, CountPastEnd}
+use Rattle.krb_fields.specs.declared.error.FieldError.TheVariants.{Truncated, LengthPastEnd, CountPastEnd, RepetitionDiffers}
 use Rattle.krb_fields.specs.declared.number.LengthSize.{LengthSize}
 use Rattle.krb_fields.specs.declared.number.LengthSize.TheVariants.{Two, Four}
 
@@ -83,3 +83,33 @@ followed_at first second b = first b >>= λ x. second x.1 >>= λ y. Ok ((x.0, y.
 -- a value, seen as another
 abbrev pub seen_at : {A B E : Type 0} → (A → B) → (List ℕ → Result (A × List ℕ) E) → List ℕ → Result (B × List ℕ) E
 seen_at see read b = read b >>= λ x. Ok (see x.0, x.1)
+
+-- octets and the number of their type
+pub record Typed : Type 0 where
+  pub kind : ℕ
+  pub octets : List ℕ
+
+abbrev pub typed_from : ℕ × List ℕ → Typed
+typed_from p = record { kind = p.0; octets = p.1 }
+
+-- a type of 16 bits, and octets behind a length of n octets
+abbrev pub typed_at : ℕ → List ℕ → Result (Typed × List ℕ) FieldError
+typed_at n = seen_at typed_from (followed_at (number_at 2) (counted_at n))
+
+-- a count of 32 bits, and so many octets with their types, their lengths of 32 bits
+unfoldable pub typed_list_at : List ℕ → Result (List Typed × List ℕ) FieldError
+typed_list_at b = do
+  count ← number_at 4 b
+  if nat_lt (length count.1) count.0 then Err CountPastEnd else list_at (typed_at 4) count.0 count.1
+
+-- the octets are at their end
+abbrev pub is_nil : List ℕ → Bool
+is_nil [] = true
+is_nil (x ∷ b) = false
+
+-- a number of 16 bits that stands twice
+unfoldable pub twice_at : List ℕ → Result (ℕ × List ℕ) FieldError
+twice_at b = do
+  first ← number_at 2 b
+  second ← number_at 2 first.1
+  if second.0 == first.0 then Ok (first.0, second.1) else Err RepetitionDiffers

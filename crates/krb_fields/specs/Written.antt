@@ -2,7 +2,7 @@
 use Rattle.std.specs.Prelude.{◌≡◌, ℕ, ◌<◌, ◌^◌, List, ◌++◌, length}
 use Rattle.std.specs.List.{flat_map, AllByRecursion}
 use Rattle.byteorder.specs.Endian.{big_bytes}
-use Rattle.krb_fields.specs.Reading.{Principal}
+use Rattle.krb_fields.specs.Reading.{Principal, Typed}
 
 -- octets behind a length of n octets
 abbrev pub counted_octets : ℕ → List ℕ → List ℕ
@@ -25,3 +25,21 @@ pub record FitsPrincipal (n : ℕ) (v : Principal) : Type 0 where
   pub count : length v.components < 256 ^ n
   pub realm : FitsCounted n v.realm
   pub components : AllByRecursion (FitsCounted n) v.components
+
+-- a type of 16 bits, and octets behind a length of n octets
+abbrev pub typed_octets : ℕ → Typed → List ℕ
+typed_octets n t = big_bytes 2 t.kind ++ counted_octets n t.octets
+
+abbrev pub FitsTyped : ℕ → Typed → Type 0
+FitsTyped n t = FitsNumber 2 t.kind × FitsCounted n t.octets
+
+-- a count of 32 bits, and so many octets with their types
+abbrev pub typed_list_octets : List Typed → List ℕ
+typed_list_octets ts = big_bytes 4 (length ts) ++ flat_map (typed_octets 4) ts
+
+abbrev pub FitsTypedList : List Typed → Type 0
+FitsTypedList ts = FitsNumber 4 (length ts) × AllByRecursion (FitsTyped 4) ts
+
+-- a number of 16 bits, twice
+abbrev pub twice_octets : ℕ → List ℕ
+twice_octets x = big_bytes 2 x ++ big_bytes 2 x

@@ -14,4 +14,7 @@ pub enum FieldError {
     /// A count says more elements than there are octets for them.
     #[error("a count says more elements than there are octets")]
     CountPastEnd,
+    /// A number that stands twice is not the same twice.
+    #[error("a number that stands twice is not the same twice")]
+    RepetitionDiffers,
 }

@@ -6,12 +6,15 @@
 #![tactic(auto)]
 
 mod error;
-mod principal;
 mod number;
+mod principal;
+mod typed;
 mod writing;
 
 pub use error::FieldError;
-pub use principal::{PrincipalView, ComponentsView};
-pub use principal::principal_at;
-pub use number::{LengthSize, counted_at, length_at, u16_at, u32_at, u8_at};
-pub use writing::{PrincipalParts, fits, fits_principal, push_counted, push_number, push_octet, push_principal};
+pub use number::{LengthSize, counted_at, length_at, twice_at, u8_at, u16_at, u32_at};
+pub use principal::{ComponentsView, PrincipalView, principal_at};
+pub use typed::{TypedListView, TypedOctets, typed_at, typed_list_at};
+pub use writing::{
+    PrincipalParts, fits, fits_principal, push_counted, push_number, push_octet, push_principal,
+};

@@ -1,6 +1,6 @@
 //! Numbers and counted octets.
 
-ghost use Rattle.krb_fields.specs.Reading.{Gives, number_at, counted_at as counted_octets_at, size_of};
+ghost use Rattle.krb_fields.specs.Reading.{Gives, number_at, counted_at as counted_octets_at, size_of, twice_at as repeated_at};
 
 use crate::error::FieldError;
 use byteorder::{BigEndian, ByteOrder};
@@ -72,4 +72,18 @@ pub fn counted_at(size: LengthSize, octets: &[u8]) -> Result<(&[u8], &[u8]), Fie
         return Err(FieldError::LengthPastEnd);
     }
     Ok(rest.split_at(len))
+}
+
+/// A number of 16 bits that stands twice, and the octets after it. `Truncated` where one of them is not whole, `RepetitionDiffers` where
+/// they are two numbers.
+#[tactic(auto, unfolding(crate::specs::Reading::twice_at))]
+pub fn twice_at(octets: &[u8]) -> Result<(u16, &[u8]), FieldError>
+    ensures { Gives (λ x. (x.0, x.1.now)) result (repeated_at octets.now) }
+{
+    let (first, rest) = u16_at(octets)?;
+    let (second, rest) = u16_at(rest)?;
+    if second != first {
+        return Err(FieldError::RepetitionDiffers);
+    }
+    Ok((first, rest))
 }

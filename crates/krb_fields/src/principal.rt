@@ -97,6 +97,16 @@ impl<'a> PrincipalView<'a> {
         self.components.again()
     }
 
+    /// The same principal again.
+    pub fn again(&self) -> PrincipalView<'a>
+        ensures { result ≡ self.now }
+    {
+        PrincipalView {
+            realm: self.realm,
+            components: self.components.again(),
+        }
+    }
+
     /// Whether this is the same principal: the same realm and components, octet by octet.
     pub fn is_same(&self, principal: &PrincipalParts) -> bool
         ensures { result ≡ same_principal self.now (principal_of principal.now) }
@@ -142,7 +152,10 @@ fn after_components(size: LengthSize, count: u32, octets: &[u8]) -> Result<&[u8]
 /// more octets than there are after it, and `CountPastEnd` where the count says more components than there are octets after the realm,
 /// so that what a count claims costs nothing.
 #[tactic(auto, unfolding(crate::specs::Reading::principal_at))]
-pub fn principal_at(size: LengthSize, octets: &[u8]) -> Result<(PrincipalView<'_>, &[u8]), FieldError>
+pub fn principal_at(
+    size: LengthSize,
+    octets: &[u8],
+) -> Result<(PrincipalView<'_>, &[u8]), FieldError>
     ensures { Gives (λ x. (x.0, x.1.now)) result (principal_fields_at (size_of size) octets.now) }
 {
     let (count, rest) = length_at(size, octets)?;

@@ -74,7 +74,11 @@ pub fn fits_principal(size: LengthSize, principal: &PrincipalParts) -> bool
 }
 
 /// Appends a principal: how many components it has, the realm, and the components, each of these octets behind their length.
-pub fn push_principal(out: &mut Vec<u8>, size: LengthSize, principal: &PrincipalParts) -> Result<(), AllocError>
+pub fn push_principal(
+    out: &mut Vec<u8>,
+    size: LengthSize,
+    principal: &PrincipalParts,
+) -> Result<(), AllocError>
     requires { FitsPrincipal (size_of size) (principal_of principal.now) }
     ensures { OnOk result (out.new.items ≡ out.old.items ++ principal_octets (size_of size) (principal_of principal.now)) }
 {

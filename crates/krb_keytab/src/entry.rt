@@ -6,8 +6,8 @@ ghost use Rattle.krb_keytab.specs.Reading.{entry_in, kvno_of};
 
 use byteorder::{BigEndian, ByteOrder};
 use krb_fields::{
-    ComponentsView, FieldError, LengthSize, PrincipalView, counted_at, principal_at, u16_at,
-    u32_at, u8_at,
+    ComponentsView, FieldError, LengthSize, PrincipalView, counted_at, principal_at, u8_at, u16_at,
+    u32_at,
 };
 use std::marker::Model;
 
@@ -28,7 +28,12 @@ impl<'a> Model for EntryView<'a> {
     ghost Value = { Entry };
 
     ghost view = { λ e. record {
-        principal = e.principal; name_type = e.name_type; timestamp = e.timestamp; kvno = e.kvno; etype = e.etype; key = e.key.now
+      principal = e.principal;
+      name_type = e.name_type;
+      timestamp = e.timestamp;
+      kvno = e.kvno;
+      etype = e.etype;
+      key = e.key.now;
     } };
 }
 

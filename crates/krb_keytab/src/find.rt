@@ -14,7 +14,12 @@ impl<'a> KeytabView<'a> {
     ///
     /// The type of the name does not count. MIT Kerberos takes a lower version for higher where it is below 128 and the other one
     /// above 240, since versions of 8 bits begin again at 0: this call does not.
-    pub fn find(&self, principal: &PrincipalParts, etype: Option<u16>, kvno: u32) -> Option<EntryView<'a>>
+    pub fn find(
+        &self,
+        principal: &PrincipalParts,
+        etype: Option<u16>,
+        kvno: u32,
+    ) -> Option<EntryView<'a>>
         ensures { result ≡ found_entry (principal_of principal.now) etype kvno self.now }
     {
         let mut best = None;

@@ -13,5 +13,4 @@ pub fn readings()
     ensures one { (b : List ℕ) (es fs : List Entry) → KeytabIs b es → KeytabIs b fs → es ≡ fs }
     ensures written { (es : List Entry) → AllByRecursion FitsEntry es → KeytabIs (keytab_octets es) es }
     ensures written_back { (b : List ℕ) (es : List Entry) (k : KeytabIs b es) → k.end ≡ [] → AllByRecursion IsPlain k.records → keytab_octets es ≡ b }
-{
-}
+{}

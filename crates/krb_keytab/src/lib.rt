@@ -12,9 +12,7 @@ mod record;
 mod view;
 mod writing;
 
-
 pub use entry::EntryView;
 pub use error::{KeytabError, KeytabWriteError};
 pub use view::{EntriesView, KeytabView};
 pub use writing::{NewEntry, push_entry, write};
-

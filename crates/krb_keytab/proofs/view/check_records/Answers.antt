@@ -13,8 +13,8 @@ records-smaller c = less_left c.records.rest.now c.in_ok-after.field-0-0 c.in_ok
 
 pub records-preserved : goal.records-preserved
 records-preserved c = (
-    more_read c.args.octets.now c.records.rest.now c.in_ok-after.field-0-0 c.in_ok-after.after.now c.records.invariant.1 (sym c.records-test.ensures) c.in_ok-after.ensures c.records.invariant.0,
-    octets_left c.records.rest.now c.in_ok-after.field-0-0 c.in_ok-after.after.now c.records.invariant.1 c.in_ok-after.ensures,
+  more_read c.args.octets.now c.records.rest.now c.in_ok-after.field-0-0 c.in_ok-after.after.now c.records.invariant.1 (sym c.records-test.ensures) c.in_ok-after.ensures c.records.invariant.0,
+  octets_left c.records.rest.now c.in_ok-after.field-0-0 c.in_ok-after.after.now c.records.invariant.1 c.in_ok-after.ensures,
 )
 
 pub returns-in_err-after : goal.returns-in_err-after

@@ -17,8 +17,8 @@ records-smaller c = less_left c.records.rest.now c.in-Ok.entry c.in-Ok.after.now
 
 pub records-preserved : goal.records-preserved
 records-preserved c = (
-    c.records.invariant.0 ∙ shows_hole c.records.rest.now c.in-Ok.after.now c.records.invariant.1 (sym c.records-test.ensures) (c.in-Ok.ensures ∙ ap (λ o. Ok (o, c.in-Ok.after.now)) c.in_default-entry.is),
-    octets_left c.records.rest.now c.in-Ok.entry c.in-Ok.after.now c.records.invariant.1 c.in-Ok.ensures,
+  c.records.invariant.0 ∙ shows_hole c.records.rest.now c.in-Ok.after.now c.records.invariant.1 (sym c.records-test.ensures) (c.in-Ok.ensures ∙ ap (λ o. Ok (o, c.in-Ok.after.now)) c.in_default-entry.is),
+  octets_left c.records.rest.now c.in-Ok.entry c.in-Ok.after.now c.records.invariant.1 c.in-Ok.ensures,
 )
 
 pub returns : goal.returns
