@@ -136,7 +136,8 @@ impl<'a> CredentialView<'a> {
     pub fn is_config(&self) -> bool
         ensures { result ≡ is_config self.now }
     {
-        self.server.realm() == b"X-CACHECONF:" && is_first(self.server.components(), b"krb5_ccache_conf_data")
+        self.server.realm() == b"X-CACHECONF:".as_slice()
+            && is_first(self.server.components(), b"krb5_ccache_conf_data")
     }
 }
 
