@@ -112,10 +112,10 @@ fn kvno(short: u8, rest: &[u8]) -> u32
 
 /// The entry in a record. The error is that of the first field that runs past the record's end.
 #[tactic(auto, unfolding(crate::specs::Reading::entry_in))]
-pub(crate) fn entry_of(record: &[u8]) -> Result<EntryView<'_>, FieldError>
-    ensures { Gives (λ e. e) result (entry_in record.now) }
+pub(crate) fn entry_of(body: &[u8]) -> Result<EntryView<'_>, FieldError>
+    ensures { Gives (λ e. e) result (entry_in body.now) }
 {
-    let (principal, rest) = principal_at(LengthSize::Two, record)?;
+    let (principal, rest) = principal_at(LengthSize::Two, body)?;
     let (name_type, rest) = u32_at(rest)?;
     let (timestamp, rest) = u32_at(rest)?;
     let (short, rest) = u8_at(rest)?;
