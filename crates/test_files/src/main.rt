@@ -135,6 +135,14 @@ fn ccache_text(alloc: Global, octets: &[u8]) -> Result<String, AllocError> {
     }
 }
 
+/// What is printed of octets of a kind.
+fn file_text(alloc: Global, kind: &str, octets: &[u8]) -> Result<String, AllocError> {
+    if kind == "keytab" {
+        return keytab_text(alloc, octets);
+    }
+    ccache_text(alloc, octets)
+}
+
 /// What is printed of a row.
 fn answer(alloc: Global, row: &str) -> io::Result<String> {
     let mut columns = row.split('\t');
@@ -142,15 +150,13 @@ fn answer(alloc: Global, row: &str) -> io::Result<String> {
     else {
         return Ok(String::from_str(alloc, "no row\n")?);
     };
-    let Ok(octets) = hex::decode(alloc, digits) else {
-        return Ok(String::from_str(alloc, "no digits\n")?);
-    };
-    let text = if kind == "keytab" {
-        keytab_text(alloc, &octets)?
-    } else {
-        ccache_text(alloc, &octets)?
-    };
-    Ok(format!(in alloc; "{origin} {kind}\n{text}")?)
+    match hex::decode(alloc, digits) {
+        Ok(octets) => {
+            let text = file_text(alloc, kind, &octets)?;
+            Ok(format!(in alloc; "{origin} {kind}\n{text}")?)
+        }
+        Err(_) => Ok(String::from_str(alloc, "no digits\n")?),
+    }
 }
 
 fn main(rt: HostRuntime) -> io::Result<()> {
