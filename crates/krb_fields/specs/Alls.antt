@@ -1,10 +1,10 @@
 -- Elements up to where none is to come.
-use Rattle.std.proofs.Common.{◌≡◌, ℕ, zero, suc, ◌-◌, ◌+◌, ◌≤◌, ◌<◌, Bool, true, false, cond, List, [], ◌∷◌, ◌++◌, length, Result, Ok, Err, refl, sym, ap, ◌∙◌, append_assoc, arith, subst}
+use Rattle.std.proofs.Common.{◌≡◌, ℕ, zero, suc, ◌≤◌, ◌<◌, Bool, true, false, cond, List, [], ◌∷◌, ◌++◌, length, Result, Ok, Err, refl, sym, ap, ◌∙◌, append_assoc, arith, subst}
 use Rattle.std.specs.List.{flat_map, AllByRecursion}
-use Rattle.std.proofs.lemmas.List.{append-nil, length-append, nil_from_length}
+use Rattle.std.proofs.lemmas.List.{length-append, nil_from_length}
 use Rattle.std.proofs.lemmas.List.Concat.{flat_map-cons}
 use Rattle.krb_fields.specs.Reading.{◌>>=◌, all_at, shown_all, shown_first}
-use Rattle.krb_fields.specs.Laws.{IsOctets, IsReading, Takes, bind_ok, ok_is}
+use Rattle.krb_fields.specs.Laws.{IsOctets, IsReading, bind_ok, ok_is}
 
 -- Elements of an octet or more each, and a test of where none is to come, as at the end.
 pub record IsSequence {A E : Type 0} (stop : List ℕ → Bool) (read : List ℕ → Result (A × List ℕ) E) (octets : A → List ℕ) (Fits : A → Type 0) : Type 0 where

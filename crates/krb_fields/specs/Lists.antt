@@ -1,7 +1,7 @@
 -- Elements that are read one after the other, as a loop reads them.
 use Rattle.std.proofs.Common.{◌≡◌, ℕ, zero, suc, ◌-◌, ◌+◌, ◌≤◌, ◌<◌, List, [], ◌∷◌, ◌++◌, Result, Ok, Err, refl, sym, ap, ◌∙◌, append_assoc, arith}
 use Rattle.std.proofs.lemmas.List.{append-nil}
-use Rattle.krb_fields.specs.Reading.{◌>>=◌, list_at, shown_first, shown_list}
+use Rattle.krb_fields.specs.Reading.{◌>>=◌, list_at, shown_list}
 
 -- what is shown of elements: none, or the first and the others, or none where the first is not read
 pub shown-none : {A E : Type 0} (read : List ℕ → Result (A × List ℕ) E) (k : ℕ) (b : List ℕ) → k ≡ 0 → shown_list read k b ≡ []

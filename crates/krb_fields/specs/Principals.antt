@@ -1,5 +1,5 @@
 -- A principal that a caller has, and whether two are the same.
-use Rattle.std.specs.Prelude.{List, ℕ, Bool, ◌&&◌, map}
+use Rattle.std.specs.Prelude.{Bool, ◌&&◌, map}
 use Rattle.std.specs.Str.{bytes_eq}
 use Rattle.std.specs.Cmp.Lexicographic.{pointwise}
 use Rattle.krb_fields.specs.declared.writing.PrincipalParts.{PrincipalParts}

@@ -1,5 +1,5 @@
 -- Octets that were appended one after the other.
-use Rattle.std.proofs.Common.{◌≡◌, ℕ, List, [], ◌++◌, refl, sym, ap, ◌∙◌, append_assoc}
+use Rattle.std.proofs.Common.{◌≡◌, ℕ, List, [], ◌++◌, refl, ◌∙◌, append_assoc}
 use Rattle.krb_fields.specs.Written.{counted_octets}
 
 pub seven : (a b c d e f g r0 r1 r2 r3 r4 r5 r6 r7 : List ℕ) → r0 ≡ [] → r1 ≡ r0 ++ a → r2 ≡ r1 ++ b → r3 ≡ r2 ++ c → r4 ≡ r3 ++ d → r5 ≡ r4 ++ e → r6 ≡ r5 ++ f

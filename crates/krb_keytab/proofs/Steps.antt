@@ -1,7 +1,7 @@
 -- Records one after the other, as a loop reads them, and the entries that are shown of them.
-use Rattle.std.proofs.Common.{◌≡◌, ℕ, ◌<◌, Bool, true, false, List, [], ◌∷◌, length, Option, Some, None, Result, Ok, Err, refl, sym, ap, ◌∙◌, arith}
+use Rattle.std.proofs.Common.{◌≡◌, ℕ, ◌<◌, true, false, List, [], ◌∷◌, length, Option, Some, None, Result, Ok, Err, refl, ap, ◌∙◌, arith}
 use Rattle.krb_fields.specs.Alls.{IsReadTo, reads-more, reads-error, shorter, shows-first, shows-none, shows-error}
-use Rattle.krb_fields.specs.Laws.{IsOctets, bind_ok, ok_is}
+use Rattle.krb_fields.specs.Laws.{IsOctets, ok_is}
 use Rattle.krb_fields.specs.Reading.{◌>>=◌, seen_at, all_at, shown_all}
 use Rattle.krb_keytab.specs.Entry.{Entry}
 use Rattle.krb_keytab.specs.Keytab.{Record, live, hole, entries_of, record_octets, FitsRecord}

@@ -1,13 +1,12 @@
 -- A whole keytab: what is read is one, and one is read.
-use Rattle.std.proofs.Common.{◌≡◌, ℕ, ◌+◌, ◌-◌, ◌^◌, ◌<◌, ◌≤◌, ◌⊎◌, inl, inr, Bool, true, false, cond, eqb, ltb, List, [], ◌∷◌, ◌++◌, length, take, drop, Result, Ok, Err, refl, sym, ap, subst, ◌∙◌, append_assoc, arith}
-use Rattle.std.specs.List.{flat_map, AllByRecursion}
+use Rattle.std.proofs.Common.{◌≡◌, ℕ, ◌-◌, ◌^◌, ◌<◌, ◌≤◌, inl, inr, Bool, true, false, cond, eqb, ltb, List, [], ◌∷◌, ◌++◌, length, Result, Ok, Err, refl, ap, ◌∙◌, append_assoc, arith}
+use Rattle.std.specs.List.{flat_map}
 use Rattle.std.proofs.lemmas.Bool.{eqb-true, ltb-false, le-ltb}
 use Rattle.std.proofs.lemmas.List.{length-append, nil_from_length}
 use Rattle.byteorder.specs.Endian.{big_bytes, big_number}
 use Rattle.byteorder.specs.Numbers.{big_number-reads_back, length-bytes_high_first}
-use Rattle.krb_fields.specs.declared.error.FieldError.{FieldError}
 use Rattle.krb_fields.specs.Alls.{all-takes, all-again}
-use Rattle.krb_fields.specs.Laws.{IsOctets, bind_ok, ok_is, Takes, wide2, wide4, number_reading, counted_some, enough}
+use Rattle.krb_fields.specs.Laws.{IsOctets, bind_ok, ok_is, wide2, number_reading, enough}
 use Rattle.std.specs.Prelude.{IfOk}
 use Rattle.krb_fields.specs.Reading.{◌>>=◌, Gives, number_at, all_at}
 use Rattle.krb_keytab.specs.Entry.{Entry}

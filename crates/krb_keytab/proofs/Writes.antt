@@ -1,12 +1,12 @@
 -- What is written is a keytab of the same entries, and a keytab of plain records is written as it was.
-use Rattle.std.proofs.Common.{◌≡◌, ℕ, zero, ◌%◌, ◌^◌, ◌<◌, ◌≤◌, ◌⊎◌, inl, inr, Bool, true, false, cond, eqb, ltb, List, [], ◌∷◌, ◌++◌, length, map, take, get_or, refl, sym, ap, subst, ◌∙◌, arith}
+use Rattle.std.proofs.Common.{◌≡◌, ℕ, ◌%◌, ◌^◌, ◌<◌, ◌≤◌, ◌⊎◌, inl, inr, Bool, true, false, cond, eqb, List, [], ◌∷◌, ◌++◌, length, map, take, get_or, refl, sym, ap, subst, ◌∙◌, arith}
 use Rattle.std.specs.List.{flat_map, AllByRecursion}
-use Rattle.std.proofs.lemmas.Bool.{eqb-true, le-ltb}
+use Rattle.std.proofs.lemmas.Bool.{eqb-true}
 use Rattle.std.proofs.lemmas.List.{append-nil, take_all}
 use Rattle.std.proofs.lemmas.List.Concat.{flat_map-cons}
 use Rattle.std.proofs.lemmas.List.Elements.{All-from_recursion}
 use Rattle.byteorder.specs.Endian.{big_number, big_bytes}
-use Rattle.byteorder.specs.Numbers.{big_number-reads_back, length-bytes_high_first}
+use Rattle.byteorder.specs.Numbers.{big_number-reads_back}
 use Rattle.krb_keytab.specs.Entry.{Entry}
 use Rattle.krb_keytab.specs.Keytab.{Fields, Record, live, hole, entry_of, entries_of, kvno_of, record_octets, FitsRecord, KeytabIs}
 use Rattle.krb_keytab.specs.Written.{written_fields, written_record, entry_octets, FitsEntry, keytab_octets, IsPlain}

@@ -1,5 +1,5 @@
 -- What is read of a keytab, from left to right: its entries, or the first error.
-use Rattle.std.specs.Prelude.{◌≡◌, ◌==◌, ℕ, ◌+◌, ◌-◌, ◌^◌, Bool, true, false, List, [], ◌∷◌, length, take, drop, Option, Some, None, Result, Ok, Err, nat_lt, if◌then◌else◌}
+use Rattle.std.specs.Prelude.{◌==◌, ℕ, ◌-◌, ◌^◌, Bool, true, false, List, length, take, drop, Option, Some, None, Result, Ok, Err, nat_lt, if◌then◌else◌}
 use Rattle.byteorder.specs.Endian.{big_number}
 use Rattle.krb_fields.specs.declared.error.FieldError.{FieldError}
 use Rattle.krb_fields.specs.Reading.{◌>>=◌, Principal, number_at, counted_at, principal_at, followed_at, seen_at, all_at, shown_all}

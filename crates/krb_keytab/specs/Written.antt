@@ -1,7 +1,7 @@
 -- The octets that a keytab is written as, in the form that MIT Kerberos writes: the version of a key in 8 bits, its low octet, and
 -- in 32 bits.
-use Rattle.std.specs.Prelude.{◌≡◌, ℕ, ◌%◌, ◌^◌, ◌<◌, List, [], ◌∷◌, ◌++◌, map}
-use Rattle.std.specs.List.{flat_map, AllByRecursion}
+use Rattle.std.specs.Prelude.{◌≡◌, ℕ, ◌%◌, ◌^◌, ◌<◌, List, ◌∷◌}
+use Rattle.std.specs.List.{flat_map}
 use Rattle.byteorder.specs.Endian.{big_bytes}
 use Rattle.krb_fields.specs.Principals.{principal_of}
 use Rattle.krb_keytab.specs.Entry.{Entry}

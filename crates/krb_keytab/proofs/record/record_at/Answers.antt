@@ -1,4 +1,4 @@
-use Rattle.std.proofs.Common.{Some, Ok, Err, ap, ◌∙◌, arith}
+use Rattle.std.proofs.Common.{ap, ◌∙◌, arith}
 use Rattle.krb_keytab.specs.Reading.{in_record}
 use Rattle.krb_keytab.proofs.Records.{record_live, entry_and}
 use Rattle.krb_keytab.proofs.record.record_at.Goals as goal

@@ -1,5 +1,5 @@
-use Rattle.std.proofs.Common.{◌≡◌, None, Some, Ok, refl, sym, ap, ◌∙◌, arith}
-use Rattle.krb_keytab.proofs.Steps.{seen, shows_entry, shows_hole, shows_none, shows_error, less_left, octets_left}
+use Rattle.std.proofs.Common.{Ok, refl, sym, ap, ◌∙◌, arith}
+use Rattle.krb_keytab.proofs.Steps.{shows_entry, shows_hole, shows_none, shows_error, less_left, octets_left}
 use Rattle.krb_keytab.proofs.view.next_entry.Goals as goal
 
 pub records-init : goal.records-init

@@ -1,4 +1,3 @@
-use Rattle.std.proofs.Common.{arith}
 use Rattle.krb_keytab.proofs.Joined.{seven}
 use Rattle.krb_keytab.proofs.writing.body_of.Goals as goal
 

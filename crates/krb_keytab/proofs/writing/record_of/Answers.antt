@@ -1,4 +1,4 @@
-use Rattle.std.proofs.Common.{length, ap, ◌∙◌, arith}
+use Rattle.std.proofs.Common.{length, ap, arith}
 use Rattle.krb_keytab.proofs.Joined.{counted_alone}
 use Rattle.krb_keytab.proofs.writing.record_of.Goals as goal
 

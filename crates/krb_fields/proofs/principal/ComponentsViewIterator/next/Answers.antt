@@ -1,6 +1,6 @@
-use Rattle.std.proofs.Common.{◌≡◌, ◌∷◌, [], ◌<◌, ◌-◌, length, sym, ap, ◌∙◌, arith}
+use Rattle.std.proofs.Common.{length, sym, ap, ◌∙◌, arith}
 use Rattle.krb_fields.specs.Lists.{shown-none, shown-first, shown-error}
-use Rattle.krb_fields.specs.Reading.{counted_at, components_of, size_of}
+use Rattle.krb_fields.specs.Reading.{counted_at, size_of}
 use Rattle.krb_fields.proofs.principal.ComponentsViewIterator.next.Goals as goal
 
 pub returns-then-self-eq0-clause-steps : goal.returns-then-self-eq0-clause-steps
