@@ -95,8 +95,11 @@ rest_again : (c : Ccache) → FitsCcache c → rest_of c.version (behind c) ≡ 
 unfolding rest_of
 rest_again c fits =
     let all = flat_map (credential_octets c.version) c.credentials in
-    rw (header_again c.version c.header (principal_octets c.principal ++ all) fits.header, principal_reading.again c.principal all fits.principal,
-    all_read_again (credential_at c.version) (credential_octets c.version) FitsCredential (credentials c.version) c.credentials fits.credentials) refl
+    rw (
+      header_again c.version c.header (principal_octets c.principal ++ all) fits.header,
+      principal_reading.again c.principal all fits.principal,
+      all_read_again (credential_at c.version) (credential_octets c.version) FitsCredential (credentials c.version) c.credentials fits.credentials,
+    ) refl
 
 field_ok : {A : Type 0} (r : Result A FieldError) (x : A) → in_field r ≡ Ok x → r ≡ Ok x
 field_ok (Ok y) x e = cc

@@ -9,7 +9,7 @@ use crate::principal::{CcachePrincipalView, principal_at};
 use crate::view::CcacheVersion;
 use krb_fields::{
     ComponentsView, FieldError, LengthSize, TypedListView, counted_at, twice_at, typed_list_at,
-    u16_at, u32_at, u8_at,
+    u8_at, u16_at, u32_at,
 };
 use std::marker::Model;
 
@@ -48,8 +48,17 @@ impl<'a> Model for CredentialView<'a> {
     ghost Value = { Credential };
 
     ghost view = { λ c. record {
-        client = c.client; server = c.server; etype = c.etype; key = c.key.now; times = c.times; is_skey = c.is_skey; flags = c.flags;
-        addresses = c.addresses; authorization_data = c.authorization_data; ticket = c.ticket.now; second_ticket = c.second_ticket.now
+      client = c.client;
+      server = c.server;
+      etype = c.etype;
+      key = c.key.now;
+      times = c.times;
+      is_skey = c.is_skey;
+      flags = c.flags;
+      addresses = c.addresses;
+      authorization_data = c.authorization_data;
+      ticket = c.ticket.now;
+      second_ticket = c.second_ticket.now;
     } };
 }
 

@@ -7,6 +7,7 @@
 
 mod credential;
 mod error;
+pub mod laws;
 mod principal;
 mod view;
 

@@ -4,7 +4,8 @@ ghost use Rattle.std.specs.Prelude.{◌≡◌, List, Ok, [], ◌∷◌, IfOk, Ma
 ghost use Rattle.std.specs.Iterator.{YieldsFirst, item_count};
 ghost use Rattle.krb_fields.specs.Reading.{Gives};
 ghost use Rattle.krb_ccache.specs.Ccache.{Ccache, CcacheIs};
-ghost use Rattle.krb_ccache.specs.Reading.{ccache_of, credentials_of, fields_of, header_at as header_fields_at, rest_of as cache_rest_of, shown_credentials, shown_fields};
+ghost use Rattle.krb_ccache.specs.Reading.{ccache_of, credentials_of, fields_of};
+ghost use Rattle.krb_ccache.specs.Reading.{header_at as header_fields_at, rest_of as cache_rest_of, shown_credentials, shown_fields};
 
 use crate::credential::{CredentialView, credential_at};
 use crate::error::CcacheError;
@@ -38,7 +39,10 @@ impl<'a> Model for CcacheView<'a> {
     ghost use Rattle.krb_ccache.specs.Reading.{shown_credentials, shown_fields};
 
     ghost view = { λ c. record {
-        version = c.version; header = shown_fields c.header.now; principal = c.principal; credentials = shown_credentials c.version c.credentials.now
+      version = c.version;
+      header = shown_fields c.header.now;
+      principal = c.principal;
+      credentials = shown_credentials c.version c.credentials.now;
     } };
 }
 
@@ -246,11 +250,9 @@ impl<'a> Iterator for CredentialsView<'a> {
 }
 
 /// The first credential, and the octets after it.
-fn first_credential(
-    version: CcacheVersion,
-    octets: &[u8],
-) -> Option<(CredentialView<'_>, &[u8])>
-    ensures { MatchOption result (shown_credentials version octets.now ≡ []) (λ x. shown_credentials version octets.now ≡ x.0 ∷ shown_credentials version x.1.now) }
+fn first_credential(version: CcacheVersion, octets: &[u8]) -> Option<(CredentialView<'_>, &[u8])>
+    ensures { MatchOption result (shown_credentials version octets.now ≡ [])
+        (λ x. shown_credentials version octets.now ≡ x.0 ∷ shown_credentials version x.1.now) }
 {
     if octets.is_empty() {
         return None;

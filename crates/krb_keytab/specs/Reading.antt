@@ -62,11 +62,19 @@ live_entry (hole octets) = None
 abbrev pub is_end : List ℕ → Bool
 is_end b = if length b == 0 then true else (if nat_lt (length b) 4 then false else big_number 4 b == 0)
 
+-- all records up to the end, or the first error
+abbrev pub records_of : List ℕ → Result (List Record) KeytabError
+records_of b = all_at is_end record_at (length b) b
+
+-- the records that are there, up to the first error
+abbrev pub shown_records : List ℕ → List Record
+shown_records b = shown_all is_end record_at (length b) b
+
 -- the entries that are there, up to the first error
 unfoldable pub shown_entries : List ℕ → List Entry
-shown_entries b = entries_of (shown_all is_end record_at (length b) b)
+shown_entries b = entries_of (shown_records b)
 
 -- a version, and then records
 unfoldable pub keytab_of : List ℕ → Result (List Entry) KeytabError
 keytab_of b = before_record (number_at 2 b) >>= λ v.
-    if v.0 == 0x0502 then (all_at is_end record_at (length v.1) v.1 >>= λ rs. Ok (entries_of rs)) else Err (InvalidVersion v.0)
+    if v.0 == 0x0502 then (records_of v.1 >>= λ rs. Ok (entries_of rs)) else Err (InvalidVersion v.0)

@@ -1,13 +1,11 @@
 //! A keytab over the octets that the caller holds.
 
-ghost use Rattle.std.specs.Prelude.{◌≡◌, List, [], ◌∷◌, IfOk, MatchOption};
+ghost use Rattle.std.specs.Prelude.{◌≡◌, List, Ok, [], ◌∷◌, IfOk, MatchOption};
 ghost use Rattle.std.specs.Iterator.{YieldsFirst, item_count};
 ghost use Rattle.krb_fields.specs.Reading.{Gives};
 ghost use Rattle.krb_keytab.specs.Entry.{Entry};
 ghost use Rattle.krb_keytab.specs.Keytab.{KeytabIs};
-ghost use Rattle.std.specs.Prelude.{length, Ok};
-ghost use Rattle.krb_fields.specs.Reading.{all_at, shown_all};
-ghost use Rattle.krb_keytab.specs.Reading.{is_end, keytab_of, record_at as record_fields_at, shown_entries};
+ghost use Rattle.krb_keytab.specs.Reading.{keytab_of, records_of, shown_entries, shown_records};
 
 use crate::entry::EntryView;
 use crate::error::KeytabError;
@@ -79,7 +77,7 @@ fn keytab_at(octets: &[u8]) -> Result<KeytabView<'_>, KeytabError>
 
 /// Whether all records up to the end are such, or the first error.
 fn check_records(octets: &[u8]) -> Result<(), KeytabError>
-    ensures { Gives (λ _. shown_all is_end record_fields_at (length octets.now) octets.now) result (all_at is_end record_fields_at (length octets.now) octets.now) }
+    ensures { Gives (λ _. shown_records octets.now) result (records_of octets.now) }
 {
     let mut rest = octets;
     'records: while !is_end(rest) {
