@@ -5,7 +5,7 @@ use Rattle.byteorder.specs.Endian.{big_bytes}
 use Rattle.byteorder.specs.Numbers.{length-bytes_high_first}
 use Rattle.krb_fields.specs.Alls.{IsSequence}
 use Rattle.krb_fields.specs.Laws.{IsReading, wide1, wide2, wide4, number_reading, counted_reading, principal_reading as name_reading, followed_reading, seen_reading, typed_reading, typed_some, typed_list_reading, twice_reading}
-use Rattle.krb_fields.specs.Reading.{Principal, is_nil, typed_at}
+use Rattle.krb_fields.specs.Reading.{is_nil, typed_at}
 use Rattle.krb_fields.specs.Written.{typed_octets, FitsTyped, FitsNumber, principal_octets as name_octets}
 use Rattle.krb_ccache.specs.Ccache.{TypedPrincipal, Credential, principal_octets, etype_octets, times_octets, credential_octets, FitsPrincipal, FitsTimes, FitsCredential}
 use Rattle.krb_ccache.specs.Reading.{principal_from, principal_at, etype_at, times_from, times_at, CredentialParts, credential_from, credential_at}

@@ -1,12 +1,12 @@
 -- Elements up to the end of the octets, as a loop reads them.
-use Rattle.std.proofs.Common.{◌≡◌, ℕ, ◌<◌, Bool, true, false, eqb, List, [], ◌∷◌, length, take, drop, Result, Ok, Err, refl, sym, ap, ◌∙◌, arith}
+use Rattle.std.proofs.Common.{◌≡◌, ℕ, ◌<◌, true, false, eqb, List, [], ◌∷◌, length, take, drop, Result, Ok, Err, refl, ◌∙◌, arith}
 use Rattle.krb_fields.specs.declared.error.FieldError.{FieldError}
 use Rattle.krb_fields.specs.Alls.{IsSequence, IsReadTo, shorter, reads-more, reads-error, reads-all, shows-first, shows-none, shows-error}
 use Rattle.krb_fields.specs.Laws.{IsOctets}
 use Rattle.krb_fields.specs.Reading.{typed_at, is_nil, all_at, shown_all}
 use Rattle.krb_ccache.specs.Reading.{header_at, shown_fields}
 use Rattle.krb_ccache.specs.declared.view.CcacheVersion.{CcacheVersion}
-use Rattle.krb_ccache.specs.declared.view.CcacheVersion.TheVariants.{Three, Four}
+use Rattle.krb_ccache.specs.declared.view.CcacheVersion.TheVariants.{Three}
 
 goes_on : (b : List ℕ) → false ≡ eqb (length b) 0 → is_nil b ≡ false
 goes_on [] e = absurd cc

@@ -1,22 +1,22 @@
 -- A whole credential cache: what is read is one, and one is read.
-use Rattle.std.proofs.Common.{◌≡◌, ℕ, ◌<◌, ◌≤◌, Bool, true, false, cond, eqb, List, [], ◌∷◌, ◌++◌, length, take, drop, Result, Ok, Err, refl, sym, ap, subst, ◌∙◌, append_assoc, arith}
+use Rattle.std.proofs.Common.{◌≡◌, ℕ, ◌<◌, Bool, true, false, cond, eqb, List, [], ◌∷◌, ◌++◌, length, Result, Ok, Err, refl, sym, ap, subst, ◌∙◌, arith}
 use Rattle.std.specs.Prelude.{IfOk}
 use Rattle.std.specs.List.{flat_map, AllByRecursion}
 use Rattle.std.proofs.lemmas.Bool.{eqb-true}
-use Rattle.std.proofs.lemmas.List.{append-nil, take_at, drop_at, length-append}
+use Rattle.std.proofs.lemmas.List.{append-nil, take_at, drop_at}
 use Rattle.byteorder.specs.Endian.{big_bytes}
 use Rattle.krb_fields.specs.declared.error.FieldError.{FieldError}
-use Rattle.krb_fields.specs.Alls.{IsSequence, TakesAll, all-takes, all-again}
-use Rattle.krb_fields.specs.Laws.{IsOctets, IsOctets-take, IsOctets-drop, IsReading, bind_ok, ok_is, Takes, Takes-then, enough, wide2, number_reading, counted_reading, typed_reading, typed_some}
+use Rattle.krb_fields.specs.Alls.{IsSequence, all-takes, all-again}
+use Rattle.krb_fields.specs.Laws.{IsOctets, IsOctets-take, IsOctets-drop, bind_ok, ok_is, Takes, enough, wide2, number_reading, counted_reading}
 use Rattle.krb_fields.specs.Reading.{◌>>=◌, Gives, number_at, counted_at, Typed, typed_at, is_nil, all_at}
 use Rattle.krb_fields.specs.Written.{counted_octets, typed_octets, FitsTyped, FitsCounted}
-use Rattle.krb_ccache.specs.Ccache.{Credential, Ccache, version_octet, principal_octets, credential_octets, header_octets, ccache_octets, FitsCredential, FitsHeader, FitsCcache, CcacheIs}
+use Rattle.krb_ccache.specs.Ccache.{Ccache, version_octet, principal_octets, credential_octets, header_octets, FitsCredential, FitsHeader, FitsCcache, CcacheIs}
 use Rattle.krb_ccache.specs.Reading.{principal_at, credential_at, fields_of, credentials_of, header_at, rest_of, in_field, ccache_of}
 use Rattle.krb_ccache.specs.declared.error.CcacheError.{CcacheError}
 use Rattle.krb_ccache.specs.declared.error.CcacheError.TheVariants.{InvalidVersion}
 use Rattle.krb_ccache.specs.declared.view.CcacheVersion.{CcacheVersion}
 use Rattle.krb_ccache.specs.declared.view.CcacheVersion.TheVariants.{Three, Four}
-use Rattle.krb_ccache.proofs.Credentials.{principal_reading, credential_reading, credentials, fields}
+use Rattle.krb_ccache.proofs.Credentials.{principal_reading, credentials, fields}
 
 -- octets in the middle of octets
 middle : (x y z : List ℕ) → IsOctets ((x ++ y) ++ z) → IsOctets y
