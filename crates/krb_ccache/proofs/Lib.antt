@@ -1,0 +1,3 @@
+pub mod Credentials
+pub mod Steps
+pub mod Whole

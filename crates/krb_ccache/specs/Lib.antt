@@ -1,0 +1,3 @@
+pub mod Ccache
+pub mod Config
+pub mod Reading

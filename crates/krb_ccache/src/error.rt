@@ -1,0 +1,26 @@
+//! Why octets are no credential cache.
+
+ghost use Rattle.std.specs.Prelude.{◌≡◌};
+ghost use Rattle.krb_ccache.specs.declared.error.CcacheError.TheVariants as errors;
+
+use krb_fields::FieldError;
+use thiserror::Error;
+
+/// Why octets were not read as a credential cache.
+#[derive(Clone, Copy, Debug, PartialEq, Eq, Error)]
+pub enum CcacheError {
+    /// The first two octets are not those of version 3 or 4, 05 03 or 05 04, but this number.
+    #[error("the cache's version is {0}, and versions 3 and 4 are 1283 and 1284")]
+    InvalidVersion(u16),
+    /// A field is not whole, or what it says is not there.
+    #[error("a field is not whole: {0}")]
+    InvalidField(FieldError),
+}
+
+impl From<FieldError> for CcacheError {
+    ghost from_gives = { λ x e. e ≡ errors.InvalidField x };
+
+    fn from(error: FieldError) -> CcacheError {
+        CcacheError::InvalidField(error)
+    }
+}

@@ -1,0 +1,17 @@
+//! Credential caches of versions 3 and 4 (MIT Kerberos, "Credential cache file format"): read over the octets that the caller holds, and
+//! written.
+//!
+//! A contract sees a cache as a value, `CcacheIs b cache` says that the octets `b` are this cache (`specs/Ccache.antt`). No file is
+//! opened here.
+#![tactic(auto)]
+
+mod credential;
+mod error;
+pub mod laws;
+mod principal;
+mod view;
+
+pub use credential::{CredentialView, Times};
+pub use error::CcacheError;
+pub use principal::CcachePrincipalView;
+pub use view::{CcacheVersion, CcacheView, CredentialsView, HeaderFieldsView};

@@ -1,0 +1,91 @@
+//! Writing of fields at the end of a vector.
+
+ghost use Rattle.std.specs.Prelude.{◌≡◌, ◌++◌, ◌<◌, ◌^◌, ◌↔◌, IsTrue, length, OnOk};
+ghost use Rattle.byteorder.specs.Endian.{big_bytes};
+ghost use Rattle.krb_fields.specs.Principals.{principal_of};
+ghost use Rattle.krb_fields.specs.Reading.{size_of};
+ghost use Rattle.krb_fields.specs.Written.{counted_octets, principal_octets, FitsPrincipal};
+
+use crate::number::LengthSize;
+use std::alloc::AllocError;
+
+/// A realm and the components of a principal, each as octets.
+#[derive(Clone, Copy, Debug)]
+pub struct PrincipalParts<'a> {
+    /// The realm's octets.
+    pub realm: &'a [u8],
+    /// The components of the principal, in their order.
+    pub components: &'a [&'a [u8]],
+}
+
+/// Whether a length or a count has a place in a field of this size.
+pub fn fits(size: LengthSize, len: usize) -> bool
+    ensures { IsTrue result ↔ (len < 256 ^ size_of size) }
+{
+    match size {
+        LengthSize::Two => len < 0x1_0000,
+        LengthSize::Four => len < 0x1_0000_0000,
+    }
+}
+
+/// Appends a number of two or four octets.
+pub fn push_number(out: &mut Vec<u8>, size: LengthSize, number: u32) -> Result<(), AllocError>
+    requires { number < 256 ^ size_of size }
+    ensures { OnOk result (out.new.items ≡ out.old.items ++ big_bytes (size_of size) number) }
+{
+    match size {
+        LengthSize::Two => out.extend_from_slice(&(number as u16).to_be_bytes())?,
+        LengthSize::Four => out.extend_from_slice(&number.to_be_bytes())?,
+    }
+    Ok(())
+}
+
+/// Appends a number of one octet.
+pub fn push_octet(out: &mut Vec<u8>, number: u8) -> Result<(), AllocError>
+    ensures { OnOk result (out.new.items ≡ out.old.items ++ big_bytes 1 number) }
+{
+    out.extend_from_slice(&[number])?;
+    Ok(())
+}
+
+/// Appends octets behind their length.
+pub fn push_counted(out: &mut Vec<u8>, size: LengthSize, octets: &[u8]) -> Result<(), AllocError>
+    requires { length octets.now < 256 ^ size_of size }
+    ensures { OnOk result (out.new.items ≡ out.old.items ++ counted_octets (size_of size) octets.now) }
+{
+    push_number(out, size, octets.len() as u32)?;
+    out.extend_from_slice(octets)?;
+    Ok(())
+}
+
+/// Whether the count of the components and each length of a principal has a place in a field of this size.
+pub fn fits_principal(size: LengthSize, principal: &PrincipalParts) -> bool
+    ensures { IsTrue result ↔ FitsPrincipal (size_of size) (principal_of principal.now) }
+{
+    if !fits(size, principal.components.len()) || !fits(size, principal.realm.len()) {
+        return false;
+    }
+    'components: for component in principal.components {
+        if !fits(size, component.len()) {
+            return false;
+        }
+    }
+    true
+}
+
+/// Appends a principal: how many components it has, the realm, and the components, each of these octets behind their length.
+pub fn push_principal(
+    out: &mut Vec<u8>,
+    size: LengthSize,
+    principal: &PrincipalParts,
+) -> Result<(), AllocError>
+    requires { FitsPrincipal (size_of size) (principal_of principal.now) }
+    ensures { OnOk result (out.new.items ≡ out.old.items ++ principal_octets (size_of size) (principal_of principal.now)) }
+{
+    push_number(out, size, principal.components.len() as u32)?;
+    push_counted(out, size, principal.realm)?;
+    'components: for component in principal.components {
+        push_counted(out, size, component)?;
+    }
+    Ok(())
+}

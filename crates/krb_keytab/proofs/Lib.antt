@@ -1,0 +1,5 @@
+pub mod Records
+pub mod Joined
+pub mod Steps
+pub mod Whole
+pub mod Writes

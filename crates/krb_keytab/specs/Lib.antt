@@ -1,0 +1,5 @@
+pub mod Entry
+pub mod Find
+pub mod Keytab
+pub mod Reading
+pub mod Written
