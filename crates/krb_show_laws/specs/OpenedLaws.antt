@@ -1,0 +1,127 @@
+-- Octet strings that hold encodings, and names of principals.
+use Rattle.std.proofs.Common.{◌≡◌, ◌≢◌, ◌⊎◌, ℕ, zero, suc, ◌<◌, ◌+◌, Bool, true, false, inl, inr, refl, sym, ap, subst, ◌∙◌, ℤ, pos, List, [], ◌∷◌, ◌++◌, length, Option, None, Some, arith}
+use Rattle.std.specs.List.{AllByRecursion}
+use Rattle.std.specs.Str.{IsAscii}
+use Rattle.std.proofs.lemmas.List.{append-nil}
+use Rattle.std.proofs.lemmas.Grind.{common_steps}
+use Rattle.krb_der_core.specs.Encoding.{IsOctets, OneValue}
+use Rattle.krb_show.specs.Leaves.{octets_of, text_of}
+use Rattle.krb_show.specs.Opened.{IsNone, opened_or, opened_by, by_number}
+use Rattle.krb_show.specs.Text.{page_lines}
+use Rattle.krb_show.specs.Tokens.{Label, Token}
+use Rattle.krb_show_laws.specs.Telling.{is_name}
+use Rattle.krb_show_laws.specs.SplitLaws.{head, tail}
+use Rattle.krb_show_laws.specs.Blocks.{Follow, Adds, Blocks, HasHead, Heads, Tells, TellsValues, IsStruct, IsList, IsLeaf}
+use Rattle.krb_show_laws.specs.BlockLaws.{head_blocks}
+use Rattle.krb_show_laws.specs.FieldLaws.{one_head, tells_so}
+use Rattle.krb_show_laws.specs.LeafLaws.{tells_octets}
+
+-- ---- what stands behind names
+
+pub struct_no_leaf : (s : List ℕ) → IsStruct s → IsLeaf s → ⊥
+struct_no_leaf s e (rest, f) = omega (arith, ap length e, ap length f)
+
+pub list_no_leaf : (s : List ℕ) → IsList s → IsLeaf s → ⊥
+list_no_leaf s (more, e) (rest, f) = omega (arith, head _ _ _ _ (sym e ∙ f))
+
+pub list_no_struct : (s : List ℕ) → IsList s → IsStruct s → ⊥
+list_no_struct s (more, e) f = omega (arith, head _ _ _ _ (sym e ∙ f))
+
+-- what stands behind the name is of this kind, or of that
+abbrev pub IsEither : (List ℕ → Type 0) → (List ℕ → Type 0) → List ℕ → Type 0
+IsEither V W s = V s ⊎ W s
+
+head_so : {V W : List ℕ → Type 0} {n : List ℕ} {old new : List Token} → ((s : List ℕ) → V s → W s) → HasHead n V old new → HasHead n W old new
+head_so w h = record {
+  token = h.token;
+  rest = h.rest;
+  added = h.added;
+  named = h.named;
+  ends = h.ends;
+  value = w _ h.value;
+  lines = h.lines;
+  level = h.level;
+}
+
+-- ---- values or octets
+
+pub opened_heads : {A : Type 0} {V W : List ℕ → Type 0} (is_value : A → Type 0) (enc : A → List ℕ) (shows : A → List Token → List Token → Type 0)
+    (other : List Token → List Token → Type 0) (n octets : List ℕ) → ((v : A) → is_value v → Heads n V (shows v)) → Heads n W other
+    → Heads n (IsEither V W) (opened_or is_value enc shows other octets)
+opened_heads {A} {V} {W} is_value enc shows other n octets p q = record { head = head_of }
+  where
+    head_of : (old new : List Token) → opened_or is_value enc shows other octets old new → HasHead n (IsEither V W) old new
+    head_of old new (inl (v, h, e, k)) = head_so (λ s x. inl x) ((p v h).head old new k)
+    head_of old new (inr (none, k)) = head_so (λ s x. inr x) (q.head old new k)
+
+-- Octets that are shown as the value that they encode, and else in a way whose first lines are others: either tells the octets.
+pub tells_opened_or : {A : Type 0} {V W : List ℕ → Type 0} {is_value : A → Type 0} {shows : Label → A → List Token → List Token → Type 0}
+    (enc : A → List ℕ) (label : Label) (octets others : List ℕ) (other another : List Token → List Token → Type 0)
+    → is_name label.text ≡ true → TellsValues is_value V shows → Heads label.text W other → Heads label.text W another → ((s : List ℕ) → V s → W s → ⊥)
+    → Tells (λ names. label.text ∷ []) (λ names. true) (Unit {0}) (octets ≡ others) other another
+    → Tells (λ names. label.text ∷ []) (λ names. true) (Unit {0}) (octets ≡ others) (opened_or is_value enc (shows label) other octets)
+    (opened_or is_value enc (shows label) another others)
+tells_opened_or {A} {V} {W} {is_value} {shows} enc label octets others other another name t p q apart u = record {
+  left = head_blocks label.text (IsEither V W) (opened_or is_value enc (shows label) other octets) name
+      (opened_heads is_value enc (shows label) other label.text octets (λ v h. t.heads label v name h) p);
+  right = head_blocks label.text (IsEither V W) (opened_or is_value enc (shows label) another others) name
+      (opened_heads is_value enc (shows label) another label.text others (λ v h. t.heads label v name h) q);
+  tells = tells;
+}
+  where
+    tells : (old before ts us : List Token) → opened_or is_value enc (shows label) other octets old (old ++ ts)
+        → opened_or is_value enc (shows label) another others before (before ++ us) → Unit {0} → (names : List (List ℕ)) (d : ℕ) (rest following : List (List ℕ))
+        → true ≡ true → Follow names d rest → Follow names d following → page_lines d ts ++ rest ≡ page_lines d us ++ following → (octets ≡ others) × (rest ≡ following)
+    tells old before ts us (inl (v, h, e, a)) (inl (w, k, f, b)) known names d rest following fit m o same =
+        let told = (t.tells label v w name h k).tells old before ts us a b known names d rest following fit m o same in
+        (e ∙ ap enc told.0 ∙ sym f, told.1)
+    tells old before ts us (inl (v, h, e, a)) (inr (none, b)) known names d rest following fit m o same =
+        let both = one_head label.text V W (shows label v) another (t.heads label v name h) q old before ts us a b d rest following same in
+        absurd (apart both.0 both.1 both.2)
+    tells old before ts us (inr (none, a)) (inl (w, k, f, b)) known names d rest following fit m o same =
+        let both = one_head label.text W V other (shows label w) p (t.heads label w name k) old before ts us a b d rest following same in
+        absurd (apart both.0 both.2 both.1)
+    tells old before ts us (inr (none, a)) (inr (nothing, b)) known names d rest following fit m o same =
+        u.tells old before ts us a b known names d rest following fit m o same
+
+-- octets that are shown as the value that they encode, and else as octets, tell themselves
+pub tells_opened : {A : Type 0} {V : List ℕ → Type 0} {is_value : A → Type 0} {shows : Label → A → List Token → List Token → Type 0} (enc : A → List ℕ)
+    → TellsValues is_value V shows → ((s : List ℕ) → V s → IsLeaf s → ⊥) → TellsValues IsOctets (IsEither V IsLeaf) (opened_by is_value enc shows)
+tells_opened {A} {V} {is_value} {shows} enc t apart = record {
+  heads = λ label octets name h. opened_heads is_value enc (shows label) (octets_of label octets) label.text octets (λ v k. t.heads label v name k) (tells_octets.heads label octets name h);
+  tells = λ label octets others name h k. tells_opened_or enc label octets others (octets_of label octets) (octets_of label others) name t
+      (tells_octets.heads label octets name h) (tells_octets.heads label others name k) apart (tells_octets.tells label octets others name h k);
+}
+
+-- ---- by the number beside them
+
+number_blocks : {f : List (List ℕ) → List (List ℕ)} {this other : List Token → List Token → Type 0} (z : ℤ) (wanted : ℕ) → Blocks f this → Blocks f other
+    → Blocks f (by_number z wanted this other)
+number_blocks {f} {this} {other} z wanted p q = record { block = block }
+  where
+    block : (old new : List Token) → by_number z wanted this other old new → Adds f old new
+    block old new (inl (e, h)) = p.block old new h
+    block old new (inr (n, h)) = q.block old new h
+
+-- where the number is told before, its ways of showing need to tell alone
+pub tells_by_number : {f : List (List ℕ) → List (List ℕ)} {fit : List (List ℕ) → Bool} {P : Type 0} {this that other another : List Token → List Token → Type 0}
+    {y z : ℤ} (wanted : ℕ) → Tells f fit (Unit {0}) P this that → Tells f fit (y ≡ z) P other another
+    → Tells f fit (y ≡ z) P (by_number y wanted this other) (by_number z wanted that another)
+tells_by_number {f} {fit} {P} {this} {that} {other} {another} {y} {z} wanted s t = record {
+  left = number_blocks y wanted s.left t.left;
+  right = number_blocks z wanted s.right t.right;
+  tells = tells;
+}
+  where
+    tells : (old before ts us : List Token) → by_number y wanted this other old (old ++ ts) → by_number z wanted that another before (before ++ us) → y ≡ z
+        → (names : List (List ℕ)) (d : ℕ) (rest following : List (List ℕ)) → fit names ≡ true → Follow names d rest → Follow names d following
+        → page_lines d ts ++ rest ≡ page_lines d us ++ following → P × (rest ≡ following)
+    tells old before ts us (inl (e, a)) (inl (f, b)) known names d rest following is_fit m o same = s.tells old before ts us a b tt names d rest following is_fit m o same
+    tells old before ts us (inl (e, a)) (inr (n, b)) known names d rest following is_fit m o same = absurd (n (sym known ∙ e))
+    tells old before ts us (inr (n, a)) (inl (f, b)) known names d rest following is_fit m o same = absurd (n (known ∙ f))
+    tells old before ts us (inr (n, a)) (inr (g, b)) known names d rest following is_fit m o same = t.tells old before ts us a b known names d rest following is_fit m o same
+
+-- and for each other number
+pub tells_at_last : {f : List (List ℕ) → List (List ℕ)} {fit : List (List ℕ) → Bool} {H P : Type 0} {a b : List Token → List Token → Type 0}
+    → Tells f fit (Unit {0}) P a b → Tells f fit H P a b
+tells_at_last t = tells_so (λ h. tt) (λ p. p) t
