@@ -1,16 +1,14 @@
 -- Lines of fields.
-use Rattle.std.proofs.Common.{◌≡◌, ◌≢◌, ◌⊎◌, ℕ, zero, suc, ◌+◌, ◌*◌, ◌<◌, ◌≤◌, nat_eq, Bool, true, false, ◌&&◌, ◌||◌, inl, inr, refl, sym, ap, subst, ◌∙◌, List, [], ◌∷◌, ◌++◌, length, length-append, arith, Option, None, Some}
-use Rattle.std.proofs.lemmas.List.{append_assoc, append_cancel_left, append-nil}
+use Rattle.std.proofs.Common.{◌≡◌, ◌⊎◌, ℕ, zero, suc, ◌+◌, ◌*◌, ◌<◌, true, false, inl, inr, refl, sym, ap, subst, ◌∙◌, List, [], ◌∷◌, ◌++◌, length, length-append, arith}
+use Rattle.std.proofs.lemmas.List.{append_assoc, append_cancel_left}
 use Rattle.std.proofs.lemmas.Grind.{common_steps}
-use Rattle.std.specs.Option.{IfSome}
 use Rattle.krb_show.specs.declared.escape.Style.TheVariants as style
-use Rattle.krb_show.specs.Text.{is_printable, indent, line, lines_of, depth_after, page_lines, value_text, escaped}
-use Rattle.krb_show.specs.Tokens.{Label, Token, adds}
-use Rattle.krb_show.specs.Pages.{◌then◌, optional_of}
+use Rattle.krb_show.specs.Text.{indent, line, lines_of, depth_after, page_lines, value_text, escaped}
+use Rattle.krb_show.specs.Tokens.{Token}
 use Rattle.krb_show_laws.specs.Telling.{all_of, Stops, other_than, is_name_octet, is_name, is_blank}
-use Rattle.krb_show_laws.specs.SplitLaws.{and_left, and_right, and_both, tail, split, all_append}
+use Rattle.krb_show_laws.specs.SplitLaws.{and_left, and_right, split, all_append}
 use Rattle.krb_show_laws.specs.WordLaws.{name_itself, name_all, of_other}
-use Rattle.krb_show_laws.specs.Blocks.{depth_behind, Among, same_octets, is_apart, IsAt, Precedes, Follow, IsBlock, Adds, Blocks, HasHead, Heads, Tells, TellsValues}
+use Rattle.krb_show_laws.specs.Blocks.{depth_behind, Among, same_octets, is_apart, IsAt, Precedes, Follow, Adds, Blocks, HasHead, Heads}
 
 -- ---- one line has one depth and one name
 

@@ -1,17 +1,14 @@
 -- Fields one after another, and structs and lists of them.
-use Rattle.std.proofs.Common.{◌≡◌, ◌≢◌, ◌⊎◌, ℕ, zero, suc, ◌+◌, ◌-◌, ◌<◌, ◌≤◌, Bool, true, false, ◌&&◌, inl, inr, refl, sym, ap, subst, ◌∙◌, List, [], ◌∷◌, ◌++◌, length, length-append, arith, Option, None, Some}
+use Rattle.std.proofs.Common.{◌≡◌, ◌⊎◌, ℕ, ◌<◌, Bool, true, ◌&&◌, inl, inr, refl, sym, ap, subst, ◌∙◌, List, [], ◌∷◌, ◌++◌, Option, None, Some}
 use Rattle.std.proofs.lemmas.List.{append_assoc, append_cancel_left, append-nil}
 use Rattle.std.specs.Option.{IfSome}
-use Rattle.std.specs.List.{AllByRecursion}
-use Rattle.std.specs.Fmt.{decimal}
-use Rattle.krb_show.specs.declared.token.Form.TheVariants as form
-use Rattle.krb_show.specs.Text.{line, page_lines, value_text, escaped}
-use Rattle.krb_show.specs.Tokens.{Label, Token, adds, item_of, leaf, mark}
-use Rattle.krb_show.specs.Pages.{◌then◌, optional_of, each_of, ends_list, list_of, ends_struct, struct_of}
-use Rattle.krb_show_laws.specs.Telling.{Stops, is_name_octet, is_name}
-use Rattle.krb_show_laws.specs.SplitLaws.{and_left, and_right, tail}
-use Rattle.krb_show_laws.specs.Blocks.{depth_behind, Among, is_apart, IsAt, Precedes, Follow, IsBlock, Adds, Blocks, HasHead, Heads, Tells, TellsValues}
-use Rattle.krb_show_laws.specs.BlockLaws.{lines_append, depth_append, line_at, one_value_text, head_block, head_blocks, not_following, follow_deeper}
+use Rattle.krb_show.specs.Text.{line, page_lines, value_text}
+use Rattle.krb_show.specs.Tokens.{Label, Token}
+use Rattle.krb_show.specs.Pages.{◌then◌, optional_of}
+use Rattle.krb_show_laws.specs.Telling.{is_name}
+use Rattle.krb_show_laws.specs.SplitLaws.{and_left, and_right}
+use Rattle.krb_show_laws.specs.Blocks.{depth_behind, Among, is_apart, Follow, IsBlock, Adds, Blocks, HasHead, Heads, Tells, TellsValues}
+use Rattle.krb_show_laws.specs.BlockLaws.{lines_append, depth_append, line_at, one_value_text, head_block, not_following}
 
 -- ---- the first element of lists of lines
 

@@ -1,13 +1,12 @@
 -- Leaves tell what they show.
-use Rattle.std.proofs.Common.{◌≡◌, ◌⊎◌, ℕ, ◌<◌, ◌^◌, Bool, true, false, inl, inr, refl, sym, ap, subst, ◌∙◌, ℤ, pos, negsuc, FitsSigned, List, [], ◌∷◌, ◌++◌, codes, length, Option, None, Some, arith}
+use Rattle.std.proofs.Common.{◌≡◌, ◌⊎◌, ℕ, ◌<◌, ◌^◌, Bool, true, inl, inr, refl, sym, ap, subst, ◌∙◌, ℤ, pos, FitsSigned, List, [], ◌∷◌, ◌++◌, arith}
 use Rattle.std.specs.Int.{w64}
 use Rattle.std.specs.Str.{IsAscii}
 use Rattle.std.specs.Fmt.{decimal, signed_decimal}
 use Rattle.std.proofs.lemmas.Fmt.{decimal_injective, signed_decimal_injective}
-use Rattle.std.proofs.lemmas.List.{append_assoc, append-nil}
 use Rattle.krb_der_core.specs.Encoding.{IsOctets}
 use Rattle.krb_der_core.specs.BitString.{Bits, IsBits}
-use Rattle.krb_der_core.specs.GeneralizedTime.{Time, IsRealTime}
+use Rattle.krb_der_core.specs.GeneralizedTime.{IsRealTime}
 use Rattle.krb_der_core.specs.Integer.{shortest}
 use Rattle.krb_der_core.specs.IntegerLaws.{integer_one_content}
 use Rattle.krb_show.specs.declared.escape.Style.TheVariants as style
@@ -20,7 +19,7 @@ use Rattle.krb_show_laws.specs.SplitLaws.{tail}
 use Rattle.krb_show_laws.specs.WordLaws.{word_itself, signed_word, decimal_word, one_word, one_octets, word_or_octets, name_beside}
 use Rattle.krb_show_laws.specs.NameLaws.{note_beside, flags_beside, identifier_beside}
 use Rattle.krb_show_laws.specs.ValueLaws.{one_text, shortest_octets, truth_is_word, one_truth, one_time, time_is_word, flags_are_word, one_flags}
-use Rattle.krb_show_laws.specs.Blocks.{depth_behind, Follow, Blocks, HasHead, Heads, Tells, TellsValues, IsLeaf}
+use Rattle.krb_show_laws.specs.Blocks.{depth_behind, Follow, HasHead, Heads, Tells, TellsValues, IsLeaf}
 use Rattle.krb_show_laws.specs.BlockLaws.{one_value_text, head_blocks}
 use Rattle.krb_show_laws.specs.FieldLaws.{tells_so, same_added}
 

@@ -1,9 +1,9 @@
 -- The lines of a text.
-use Rattle.std.proofs.Common.{◌≡◌, ℕ, Bool, true, false, ◌&&◌, nat_eq, nat_le, refl, sym, ap, ◌∙◌, List, [], ◌∷◌, ◌++◌, length, arith}
+use Rattle.std.proofs.Common.{◌≡◌, ℕ, true, refl, sym, ap, ◌∙◌, List, [], ◌∷◌, ◌++◌, arith}
 use Rattle.std.proofs.lemmas.List.{append_assoc}
 use Rattle.std.proofs.lemmas.Grind.{common_steps}
 use Rattle.krb_show.specs.Text.{IsPrintable, ArePrintable, AreLines, is_printable, text_of_lines}
-use Rattle.krb_show_laws.specs.Telling.{all_of, Stops}
+use Rattle.krb_show_laws.specs.Telling.{all_of}
 use Rattle.krb_show_laws.specs.SplitLaws.{and_both, split, tail}
 
 passes_printable : (x : ℕ) → IsPrintable x → is_printable x ≡ true

@@ -1,14 +1,13 @@
 -- Names beside numbers and flags.
-use Rattle.std.proofs.Common.{◌≡◌, ◌⊎◌, ℕ, suc, zero, ◌<◌, ◌≤◌, ◌+◌, ℤ, pos, nat_eq, nat_le, Bool, true, false, ◌&&◌, inl, inr, refl, sym, ap, subst, ◌∙◌, List, [], ◌∷◌, ◌++◌, length, get_or, Option, None, Some, arith}
-use Rattle.std.proofs.lemmas.Grind.{common_steps}
+use Rattle.std.proofs.Common.{◌≡◌, ◌⊎◌, ℕ, suc, zero, ◌<◌, ℤ, Bool, true, false, ◌&&◌, inl, inr, refl, sym, ap, subst, ◌∙◌, List, [], ◌∷◌, ◌++◌, length, get_or, Option, None, Some, arith}
 use Rattle.krb_names.specs.declared.kind.Kind.{Kind}
 use Rattle.krb_names.specs.declared.kind.Kind.TheVariants.{EncryptionType, ChecksumType, NameType, MessageType, ErrorCode, PaDataType, AuthorizationDataType, AddressType}
 use Rattle.krb_names.specs.declared.kind.Kind.TheVariants.{TransitedEncodingType, LastRequestType, TicketFlag, KdcOption, ApOption, KeyUsage, PacBufferType, GssFlag}
 use Rattle.krb_names.specs.declared.kind.Kind.TheVariants.{NegotiationState, ContextFlag, TokenFlag}
 use Rattle.krb_names.specs.Names.{table, IsRow}
 use Rattle.krb_show.specs.declared.escape.Style.TheVariants as style
-use Rattle.krb_show.specs.Leaves.{IsNote, IsFlagsNote, AreFlags, adds_flag, IsFlagName, IsIdentifierNote}
-use Rattle.krb_show.specs.Text.{is_printable, escaped}
+use Rattle.krb_show.specs.Leaves.{IsNote, IsFlagsNote, AreFlags, IsIdentifierNote}
+use Rattle.krb_show.specs.Text.{escaped}
 use Rattle.krb_show_laws.specs.Telling.{all_of, other_than, is_word_octet, begins_as_octets, IsBeside, IsNameBeside}
 use Rattle.krb_show_laws.specs.SplitLaws.{and_left, and_right}
 use Rattle.krb_show_laws.specs.WordLaws.{word_itself, of_other}

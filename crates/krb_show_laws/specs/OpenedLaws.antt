@@ -1,16 +1,12 @@
 -- Octet strings that hold encodings, and names of principals.
-use Rattle.std.proofs.Common.{◌≡◌, ◌≢◌, ◌⊎◌, ℕ, zero, suc, ◌<◌, ◌+◌, Bool, true, false, inl, inr, refl, sym, ap, subst, ◌∙◌, ℤ, pos, List, [], ◌∷◌, ◌++◌, length, Option, None, Some, arith}
-use Rattle.std.specs.List.{AllByRecursion}
-use Rattle.std.specs.Str.{IsAscii}
-use Rattle.std.proofs.lemmas.List.{append-nil}
-use Rattle.std.proofs.lemmas.Grind.{common_steps}
-use Rattle.krb_der_core.specs.Encoding.{IsOctets, OneValue}
-use Rattle.krb_show.specs.Leaves.{octets_of, text_of}
-use Rattle.krb_show.specs.Opened.{IsNone, opened_or, opened_by, by_number}
+use Rattle.std.proofs.Common.{◌≡◌, ◌⊎◌, ℕ, Bool, true, inl, inr, sym, ap, ◌∙◌, ℤ, List, [], ◌∷◌, ◌++◌, length, arith}
+use Rattle.krb_der_core.specs.Encoding.{IsOctets}
+use Rattle.krb_show.specs.Leaves.{octets_of}
+use Rattle.krb_show.specs.Opened.{opened_or, opened_by, by_number}
 use Rattle.krb_show.specs.Text.{page_lines}
 use Rattle.krb_show.specs.Tokens.{Label, Token}
 use Rattle.krb_show_laws.specs.Telling.{is_name}
-use Rattle.krb_show_laws.specs.SplitLaws.{head, tail}
+use Rattle.krb_show_laws.specs.SplitLaws.{head}
 use Rattle.krb_show_laws.specs.Blocks.{Follow, Adds, Blocks, HasHead, Heads, Tells, TellsValues, IsStruct, IsList, IsLeaf}
 use Rattle.krb_show_laws.specs.BlockLaws.{head_blocks}
 use Rattle.krb_show_laws.specs.FieldLaws.{one_head, tells_so}
@@ -31,7 +27,7 @@ list_no_struct s (more, e) f = omega (arith, head _ _ _ _ (sym e ∙ f))
 abbrev pub IsEither : (List ℕ → Type 0) → (List ℕ → Type 0) → List ℕ → Type 0
 IsEither V W s = V s ⊎ W s
 
-head_so : {V W : List ℕ → Type 0} {n : List ℕ} {old new : List Token} → ((s : List ℕ) → V s → W s) → HasHead n V old new → HasHead n W old new
+pub head_so : {V W : List ℕ → Type 0} {n : List ℕ} {old new : List Token} → ((s : List ℕ) → V s → W s) → HasHead n V old new → HasHead n W old new
 head_so w h = record {
   token = h.token;
   rest = h.rest;
@@ -41,6 +37,19 @@ head_so w h = record {
   value = w _ h.value;
   lines = h.lines;
   level = h.level;
+}
+
+pub heads_so : {V W : List ℕ → Type 0} {n : List ℕ} {shows : List Token → List Token → Type 0} → ((s : List ℕ) → V s → W s) → Heads n V shows → Heads n W shows
+heads_so w h = record { head = λ old new k. head_so w (h.head old new k) }
+
+-- two whose first lines differ have no lines in common
+pub tells_never : {H P : Type 0} (n : List ℕ) (V W : List ℕ → Type 0) (shows other : List Token → List Token → Type 0) → is_name n ≡ true
+    → Heads n V shows → Heads n W other → ((s : List ℕ) → V s → W s → ⊥) → Tells (λ names. n ∷ []) (λ names. true) H P shows other
+tells_never n V W shows other name p q apart = record {
+  left = head_blocks n V shows name p;
+  right = head_blocks n W other name q;
+  tells = λ old before ts us a b known names d rest following fit m o same.
+      let both = one_head n V W shows other p q old before ts us a b d rest following same in absurd (apart both.0 both.1 both.2);
 }
 
 -- ---- values or octets
@@ -125,3 +134,20 @@ tells_by_number {f} {fit} {P} {this} {that} {other} {another} {y} {z} wanted s t
 pub tells_at_last : {f : List (List ℕ) → List (List ℕ)} {fit : List (List ℕ) → Bool} {H P : Type 0} {a b : List Token → List Token → Type 0}
     → Tells f fit (Unit {0}) P a b → Tells f fit H P a b
 tells_at_last t = tells_so (λ h. tt) (λ p. p) t
+
+-- octets that are shown as a value of the one type or of the other that they encode, and else as octets
+pub tells_opened_either : {A B : Type 0} {V W : List ℕ → Type 0} {is_value : A → Type 0} {is_other : B → Type 0}
+    {shows : Label → A → List Token → List Token → Type 0} {other : Label → B → List Token → List Token → Type 0} (enc : A → List ℕ) (encoded : B → List ℕ)
+    → TellsValues is_value V shows → TellsValues is_other W other → ((s : List ℕ) → V s → IsEither W IsLeaf s → ⊥) → ((s : List ℕ) → W s → IsLeaf s → ⊥)
+    → TellsValues IsOctets (IsEither V (IsEither W IsLeaf)) (λ label octets. opened_or is_value enc (shows label) (opened_by is_other encoded other label octets) octets)
+tells_opened_either {A} {B} {V} {W} {is_value} {is_other} {shows} {other} enc encoded t u apart again = record {
+  heads = λ label octets name h. opened_heads is_value enc (shows label) (opened_by is_other encoded other label octets) label.text octets
+      (λ v k. t.heads label v name k) ((tells_opened encoded u again).heads label octets name h);
+  tells = λ label octets others name h k. tells_opened_or enc label octets others (opened_by is_other encoded other label octets)
+      (opened_by is_other encoded other label others) name t ((tells_opened encoded u again).heads label octets name h)
+      ((tells_opened encoded u again).heads label others name k) apart ((tells_opened encoded u again).tells label octets others name h k);
+}
+
+pub list_no_other : (s : List ℕ) → IsList s → IsEither IsStruct IsLeaf s → ⊥
+list_no_other s h (inl e) = list_no_struct s h e
+list_no_other s h (inr e) = list_no_leaf s h e

@@ -1,6 +1,5 @@
 -- Octets that all pass a test, up to one that does not.
-use Rattle.std.proofs.Common.{◌≡◌, ℕ, Bool, true, false, ◌&&◌, nat_eq, refl, sym, ap, subst, ◌∙◌, List, [], ◌∷◌, ◌++◌, get_or, drop, arith}
-use Rattle.std.proofs.lemmas.Grind.{common_steps}
+use Rattle.std.proofs.Common.{◌≡◌, ℕ, Bool, true, false, ◌&&◌, refl, sym, ap, subst, ◌∙◌, List, [], ◌∷◌, ◌++◌, get_or, drop}
 use Rattle.krb_show_laws.specs.Telling.{all_of, Stops}
 
 pub and_left : (a b : Bool) → a && b ≡ true → a ≡ true

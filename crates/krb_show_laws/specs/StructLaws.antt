@@ -1,17 +1,17 @@
 -- Structs and lists: what stands between a first line and the end.
-use Rattle.std.proofs.Common.{◌≡◌, ◌≢◌, ◌⊎◌, ℕ, zero, suc, ◌+◌, ◌-◌, ◌<◌, ◌≤◌, Bool, true, false, ◌&&◌, inl, inr, refl, sym, ap, subst, ◌∙◌, List, [], ◌∷◌, ◌++◌, length, arith, Option, None, Some}
-use Rattle.std.proofs.lemmas.List.{append_assoc, append_cancel_left, append-nil}
+use Rattle.std.proofs.Common.{◌≡◌, ℕ, ◌+◌, ◌-◌, Bool, true, refl, sym, ap, subst, ◌∙◌, List, [], ◌∷◌, ◌++◌, length, arith}
+use Rattle.std.proofs.lemmas.List.{append_assoc, append-nil}
 use Rattle.std.specs.List.{AllByRecursion}
 use Rattle.std.specs.Fmt.{decimal}
 use Rattle.krb_show.specs.declared.token.Form.TheVariants as form
 use Rattle.krb_show.specs.Text.{line, page_lines, value_text}
 use Rattle.krb_show.specs.Tokens.{Label, Token, adds, item_of, leaf, mark}
-use Rattle.krb_show.specs.Pages.{◌then◌, each_of, ends_list, list_of, ends_struct, struct_of}
+use Rattle.krb_show.specs.Pages.{◌then◌, each_of, list_of, struct_of}
 use Rattle.krb_show_laws.specs.Telling.{Stops, is_name_octet, is_name}
-use Rattle.krb_show_laws.specs.SplitLaws.{and_left, and_right, tail}
-use Rattle.krb_show_laws.specs.Blocks.{depth_behind, Among, is_apart, IsAt, Precedes, Follow, IsBlock, Adds, Blocks, HasHead, Heads, Tells, TellsValues, IsStruct, IsList}
+use Rattle.krb_show_laws.specs.SplitLaws.{tail}
+use Rattle.krb_show_laws.specs.Blocks.{depth_behind, is_apart, Follow, IsBlock, Adds, Blocks, HasHead, Heads, Tells, TellsValues, IsStruct, IsList}
 use Rattle.krb_show_laws.specs.BlockLaws.{lines_append, depth_append, head_blocks, follow_deeper}
-use Rattle.krb_show_laws.specs.FieldLaws.{both_blocks, then_by, tells_so, not_first, nothing_added, same_added, more_among, one_among, head_block_among, empty_block}
+use Rattle.krb_show_laws.specs.FieldLaws.{both_blocks, then_by, tells_so, not_first, nothing_added, same_added, one_among, empty_block}
 
 -- a first line that what follows is further in than
 pub record Opens (n : List ℕ) (V : List ℕ → Type 0) (t : Token) : Type 0 where

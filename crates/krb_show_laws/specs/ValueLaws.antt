@@ -1,22 +1,22 @@
 -- Texts, times, flags and numbers are told apart by what is written of them.
-use Rattle.std.proofs.Common.{◌≡◌, ◌≢◌, ◌⊎◌, ℕ, zero, suc, ◌+◌, ◌*◌, ◌/◌, ◌%◌, ◌<◌, ◌≤◌, ◌^◌, nat_eq, nat_le, nat_lt, Bool, true, false, ◌&&◌, ◌||◌, if◌then◌else◌, inl, inr, refl, sym, ap, subst, ◌∙◌, ℤ, pos, negsuc, List, [], ◌∷◌, ◌++◌, codes, length, get_or, drop, arith}
+use Rattle.std.proofs.Common.{◌≡◌, ◌≢◌, ◌⊎◌, ℕ, zero, suc, ◌/◌, ◌%◌, ◌<◌, ◌≤◌, nat_eq, Bool, true, false, ◌&&◌, ◌||◌, if◌then◌else◌, inl, inr, refl, sym, ap, subst, ◌∙◌, ℤ, pos, negsuc, List, [], ◌∷◌, ◌++◌, codes, get_or, arith}
 use Rattle.std.specs.Fmt.{decimal}
 use Rattle.std.specs.Int.Digits.{AllBelowBase}
 use Rattle.std.proofs.lemmas.Fmt.{decimal_injective}
-use Rattle.std.proofs.lemmas.List.{append_assoc, append-nil, append_cancel_left}
+use Rattle.std.proofs.lemmas.List.{append_assoc, append_cancel_left}
 use Rattle.std.proofs.lemmas.Grind.{common_steps}
 use Rattle.std.proofs.lemmas.Int.{ints}
 use Rattle.krb_der_core.specs.Encoding.{IsOctets}
 use Rattle.krb_der_core.specs.BitString.{Bits, IsBits}
-use Rattle.krb_der_core.specs.GeneralizedTime.{Time, time, IsRealDate, IsRealTime}
+use Rattle.krb_der_core.specs.GeneralizedTime.{Time, IsRealDate, IsRealTime}
 use Rattle.krb_der_core.specs.Integer.{unsigned, inverted, shortest}
-use Rattle.krb_der_core.specs.IntegerLaws.{Plain, unsigned_plain, inverted_below, integer_one_content}
+use Rattle.krb_der_core.specs.IntegerLaws.{unsigned_plain, inverted_below}
 use Rattle.krb_show.specs.declared.escape.Style.TheVariants as style
 use Rattle.krb_show.specs.Leaves.{digit, hex_octet, hex, two, time_word, flags_word, truth_word}
-use Rattle.krb_show.specs.Text.{is_printable, itself_or, escaped_octet, escaped, quoted}
-use Rattle.krb_show_laws.specs.Telling.{all_of, Stops, other_than, is_word_octet, is_digit}
-use Rattle.krb_show_laws.specs.SplitLaws.{and_left, and_right, and_both, head, tail, split, all_append, all_weaker}
-use Rattle.krb_show_laws.specs.WordLaws.{chosen, other, digit_injective, decimal_word, one_hex}
+use Rattle.krb_show.specs.Text.{is_printable, escaped_octet, escaped, quoted}
+use Rattle.krb_show_laws.specs.Telling.{all_of, Stops, other_than, is_word_octet}
+use Rattle.krb_show_laws.specs.SplitLaws.{and_left, and_both, head, tail, split, all_append, all_weaker}
+use Rattle.krb_show_laws.specs.WordLaws.{digit_injective, decimal_word, one_hex}
 
 -- ---- texts in quotation marks
 

@@ -1,15 +1,14 @@
 -- Words, and what stands beside them.
-use Rattle.std.proofs.Common.{◌≡◌, ◌≢◌, ℕ, zero, suc, ◌+◌, ◌*◌, ◌/◌, ◌%◌, ◌<◌, ◌≤◌, ◌^◌, nat_eq, nat_le, nat_lt, Bool, true, false, ◌&&◌, ◌||◌, cond, if◌then◌else◌, refl, sym, ap, subst, ◌∙◌, ℤ, pos, negsuc, List, [], ◌∷◌, ◌++◌, codes, length, arith}
+use Rattle.std.proofs.Common.{◌≡◌, ℕ, zero, suc, ◌/◌, ◌%◌, ◌<◌, nat_eq, Bool, true, false, ◌||◌, if◌then◌else◌, refl, sym, ap, ◌∙◌, ℤ, pos, negsuc, List, [], ◌∷◌, ◌++◌, codes, length, arith}
 use Rattle.std.specs.Fmt.{decimal, digits, digits_onto, digit_glyph, signed_decimal}
-use Rattle.std.proofs.lemmas.Fmt.{decimal_injective, signed_decimal_injective}
-use Rattle.std.proofs.lemmas.List.{append_assoc, append_cancel_left, append-nil}
+use Rattle.std.proofs.lemmas.List.{append_assoc, append_cancel_left}
 use Rattle.std.proofs.lemmas.Grind.{common_steps}
 use Rattle.krb_der_core.specs.Encoding.{IsOctets}
 use Rattle.krb_show.specs.declared.escape.Style.TheVariants as style
-use Rattle.krb_show.specs.Leaves.{digit, hex_octet, hex, two}
+use Rattle.krb_show.specs.Leaves.{digit, hex_octet, hex}
 use Rattle.krb_show.specs.Text.{is_printable, itself_or, escaped_octet, escaped, spaced_hex, octets_text}
 use Rattle.krb_show_laws.specs.Telling.{all_of, Stops, other_than, is_name_octet, is_name, is_word_octet, is_digit, IsBeside, IsNameBeside, begins_as_octets}
-use Rattle.krb_show_laws.specs.SplitLaws.{and_left, and_right, and_both, head, tail, split, all_append, all_weaker}
+use Rattle.krb_show_laws.specs.SplitLaws.{and_left, and_right, and_both, head, tail, split, all_weaker}
 
 -- ---- choices
 
