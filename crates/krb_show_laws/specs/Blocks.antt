@@ -1,6 +1,6 @@
 -- What the lines of fields tell of them, whatever lines follow.
 use Rattle.std.specs.Prelude.{◌≡◌, ℕ, ◌<◌, ◌⊎◌, Bool, true, false, nat_eq, ◌&&◌, List, [], ◌∷◌, ◌++◌}
-use Rattle.krb_show.specs.Text.{depth_after, indent, line, page_lines, value_text, AreLines, page_text}
+use Rattle.krb_show.specs.Text.{depth_after, indent, line, page_lines, value_text}
 use Rattle.krb_show.specs.Tokens.{Label, Token}
 use Rattle.krb_show_laws.specs.Telling.{Stops, is_name_octet, is_name, other_than}
 
@@ -100,8 +100,3 @@ pub record TellsValues {A : Type 0} (is_value : A → Type 0) (IsValue : List �
   pub heads : (label : Label) (v : A) → is_name label.text ≡ true → is_value v → Heads label.text IsValue (shows label v)
   pub tells : (label : Label) (v w : A) → is_name label.text ≡ true → is_value v → is_value w
       → Tells (λ names. label.text ∷ []) (λ names. true) (Unit {0}) (v ≡ w) (shows label v) (shows label w)
-
--- two values whose pages have one text are equal
-abbrev pub OneText : {A : Type 0} → (A → Type 0) → (A → List Token → List Token → Type 0) → Type 0
-OneText {A} is_value shows = (v w : A) (page other : List Token) → is_value v → is_value w → shows v [] page → shows w [] other
-    → AreLines (page_lines 0 page) → AreLines (page_lines 0 other) → page_text page ≡ page_text other → v ≡ w

@@ -282,3 +282,11 @@ tells_ascii = tells_by IsAscii (λ xs. xs) ascii_octets (λ v w h k e. e) tells_
 -- numbers of 32 bits, which are whole numbers
 pub tells_naturals : {is_value : ℕ → Type 0} → TellsValues is_value IsLeaf (λ label n. number_of label (pos n))
 tells_naturals {is_value} = tells_by is_value pos (λ n h. tt) (λ m n h k e. cc) tells_numbers
+
+-- values of which more is known
+pub tells_within : {A : Type 0} {is_value : A → Type 0} {V : List ℕ → Type 0} {shows : Label → A → List Token → List Token → Type 0} (is_other : A → Type 0)
+    → ((v : A) → is_other v → is_value v) → TellsValues is_value V shows → TellsValues is_other V shows
+tells_within is_other valid t = record {
+  heads = λ label v name h. t.heads label v name (valid v h);
+  tells = λ label v w name h k. t.tells label v w name (valid v h) (valid w k);
+}

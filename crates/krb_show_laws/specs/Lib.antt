@@ -3,6 +3,7 @@ pub mod SplitLaws
 pub mod LineLaws
 pub mod WordLaws
 pub mod Blocks
+pub mod Texts
 pub mod BlockLaws
 pub mod FieldLaws
 pub mod StructLaws

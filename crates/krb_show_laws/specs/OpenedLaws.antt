@@ -1,15 +1,15 @@
 -- Octet strings that hold encodings, and names of principals.
-use Rattle.std.proofs.Common.{◌≡◌, ◌⊎◌, ℕ, Bool, true, inl, inr, sym, ap, ◌∙◌, ℤ, List, [], ◌∷◌, ◌++◌, length, arith}
+use Rattle.std.proofs.Common.{◌≡◌, ◌⊎◌, ℕ, Bool, true, inl, inr, sym, ap, subst, ◌∙◌, ℤ, List, [], ◌∷◌, ◌++◌, length, arith}
 use Rattle.krb_der_core.specs.Encoding.{IsOctets}
 use Rattle.krb_show.specs.Leaves.{octets_of}
 use Rattle.krb_show.specs.Opened.{opened_or, opened_by, by_number}
-use Rattle.krb_show.specs.Text.{page_lines}
+use Rattle.krb_show.specs.Text.{line, page_lines}
 use Rattle.krb_show.specs.Tokens.{Label, Token}
 use Rattle.krb_show_laws.specs.Telling.{is_name}
 use Rattle.krb_show_laws.specs.SplitLaws.{head}
-use Rattle.krb_show_laws.specs.Blocks.{Follow, Adds, Blocks, HasHead, Heads, Tells, TellsValues, IsStruct, IsList, IsLeaf}
-use Rattle.krb_show_laws.specs.BlockLaws.{head_blocks}
-use Rattle.krb_show_laws.specs.FieldLaws.{one_head, tells_so}
+use Rattle.krb_show_laws.specs.Blocks.{Follow, Adds, Blocks, HasHead, Heads, Tells, TellsValues, IsStruct, IsList, IsLeaf, IsAt, is_apart}
+use Rattle.krb_show_laws.specs.BlockLaws.{head_blocks, line_at, one_at, not_among}
+use Rattle.krb_show_laws.specs.FieldLaws.{one_head, same_added, tells_so}
 use Rattle.krb_show_laws.specs.LeafLaws.{tells_octets}
 
 -- ---- what stands behind names
@@ -51,6 +51,26 @@ tells_never n V W shows other name p q apart = record {
   tells = λ old before ts us a b known names d rest following fit m o same.
       let both = one_head n V W shows other p q old before ts us a b d rest following same in absurd (apart both.0 both.1 both.2);
 }
+
+-- the first line of what has one
+head_at : (n : List ℕ) (V : List ℕ → Type 0) (shows : List Token → List Token → Type 0) → is_name n ≡ true → Heads n V shows → (old ts : List Token) → shows old (old ++ ts)
+    → (d : ℕ) → (l : List ℕ) × (ls : List (List ℕ)) × (page_lines d ts ≡ l ∷ ls) × IsAt d n l
+head_at n V shows name p old ts h d =
+    let t = p.head old (old ++ ts) h in
+    (line d t.token, (t.lines d).0, ap (page_lines d) (same_added old ts (t.token ∷ t.rest) t.added) ∙ (t.lines d).1, line_at d n t.token name t.named t.ends)
+
+-- two whose first lines are under different names have no lines in common
+pub tells_not : (n m : List ℕ) (V W : List ℕ → Type 0) (shows other : List Token → List Token → Type 0) → is_name n ≡ true → is_name m ≡ true
+    → is_apart n (m ∷ []) ≡ true → Heads n V shows → Heads m W other → (old before ts us : List Token) → shows old (old ++ ts) → other before (before ++ us)
+    → (d : ℕ) (rest following : List (List ℕ)) → page_lines d ts ++ rest ≡ page_lines d us ++ following → ⊥
+tells_not n m V W shows other name named apart p q old before ts us a b d rest following same =
+    let t = head_at n V shows name p old ts a d in
+    let u = head_at m W other named q before us b d in
+    let lines : t.0 ∷ (t.1 ++ rest) ≡ u.0 ∷ (u.1 ++ following) =
+    ap (λ (ls : List (List ℕ)). ls ++ rest) (sym t.2) ∙ same ∙ ap (λ (ls : List (List ℕ)). ls ++ following) u.2 in
+    let first : t.0 ≡ u.0 = cc in
+    let names = one_at d d n m u.0 (subst (IsAt d n) first t.3) u.3 in
+    not_among n (m ∷ []) apart (inl names.1)
 
 -- ---- values or octets
 

@@ -4,7 +4,8 @@ use Rattle.std.proofs.lemmas.List.{append-nil}
 use Rattle.krb_show.specs.Text.{page_lines}
 use Rattle.krb_show.specs.Tokens.{Label, Token}
 use Rattle.krb_show_laws.specs.Telling.{is_name}
-use Rattle.krb_show_laws.specs.Blocks.{TellsValues, OneText}
+use Rattle.krb_show_laws.specs.Blocks.{TellsValues}
+use Rattle.krb_show_laws.specs.Texts.{OneText}
 use Rattle.krb_show_laws.specs.LineLaws.{one_lines}
 
 -- values of a way of showing that tells them have one text only if they are one

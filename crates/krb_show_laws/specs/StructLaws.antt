@@ -134,7 +134,7 @@ closes_list : (label : Label) → Closes (mark form.ListEnd label)
 closes_list label = record { lines = λ d. refl; behind = one_less }
 
 -- more names may be first
-blocks_wider : {f g : List (List ℕ) → List (List ℕ)} {a : List Token → List Token → Type 0}
+pub blocks_wider : {f g : List (List ℕ) → List (List ℕ)} {a : List Token → List Token → Type 0}
     → ((names : List (List ℕ)) (d : ℕ) (ls : List (List ℕ)) → Follow (f names) d ls → Follow (g names) d ls) → Blocks f a → Blocks g a
 blocks_wider {f} {g} {a} w b = record { block = block }
   where
@@ -143,7 +143,7 @@ blocks_wider {f} {g} {a} w b = record { block = block }
         let k = b.block old new h in
         (k.0, k.1, record { level = k.2.level; starts = λ names d rest m. w names d (page_lines d k.0 ++ rest) (k.2.starts names d rest m) })
 
-tells_wider : {f g : List (List ℕ) → List (List ℕ)} {fit : List (List ℕ) → Bool} {H P : Type 0} {a b : List Token → List Token → Type 0}
+pub tells_wider : {f g : List (List ℕ) → List (List ℕ)} {fit : List (List ℕ) → Bool} {H P : Type 0} {a b : List Token → List Token → Type 0}
     → ((names : List (List ℕ)) (d : ℕ) (ls : List (List ℕ)) → Follow (f names) d ls → Follow (g names) d ls) → Tells f fit H P a b → Tells g fit H P a b
 tells_wider w t = record { left = blocks_wider w t.left; right = blocks_wider w t.right; tells = t.tells }
 

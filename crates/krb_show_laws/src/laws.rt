@@ -7,12 +7,8 @@ ghost use Rattle.krb_der_core.specs.GeneralizedTime.{IsRealTime};
 ghost use Rattle.krb_show.specs.Leaves.{flags_of, identifier_of, number_of, octets_of, text_of, time_of, truth_of, unsigned_of, word_of};
 ghost use Rattle.krb_show.specs.Text.{AreLines, text_of_lines};
 ghost use Rattle.krb_show.specs.Tokens.{Label};
-ghost use Rattle.krb_show_laws.specs.Blocks.{OneText};
+ghost use Rattle.krb_show_laws.specs.Texts.{OneText};
 ghost use Rattle.krb_show_laws.specs.Telling.{all_of, is_name, is_word_octet};
-
-use crate::told::Told;
-use krb_der::DerEncode;
-use krb_show::Show;
 
 /// Lines of printable ASCII are told apart by their text: a line feed ends each, and stands in none.
 #[tactic(auto, using(crate::specs::LineLaws::one_lines))]
@@ -32,9 +28,4 @@ pub fn texts_tell_leaves()
     ensures words { (l : Label) → is_name l.text ≡ true → OneText (λ w. all_of is_word_octet w ≡ true) (word_of l) }
     ensures octets { (l : Label) → is_name l.text ≡ true → OneText IsOctets (octets_of l) }
     ensures texts { (l : Label) → is_name l.text ≡ true → OneText IsOctets (text_of l) }
-{}
-
-/// Two values of such a type whose pages have one text are equal, under whatever name they are shown.
-pub fn texts_tell_values<K, T: Told<K>>()
-    ensures { (label : Label) → is_name label.text ≡ true → OneText ⟦<T as DerEncode>⟧.is_value (⟦<T as Show<K>>⟧.shows label) }
 {}
