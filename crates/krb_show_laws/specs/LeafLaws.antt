@@ -1,7 +1,7 @@
 -- Leaves tell what they show.
 use Rattle.std.proofs.Common.{◌≡◌, ◌⊎◌, ℕ, ◌<◌, ◌^◌, Bool, true, inl, inr, refl, sym, ap, subst, ◌∙◌, ℤ, pos, FitsSigned, List, [], ◌∷◌, ◌++◌, arith}
 use Rattle.std.specs.Int.{w64}
-use Rattle.std.specs.Str.{IsAscii}
+use Rattle.std.specs.Str.{IsAscii, IsUtf8}
 use Rattle.std.specs.Fmt.{decimal, signed_decimal}
 use Rattle.std.proofs.lemmas.Fmt.{decimal_injective, signed_decimal_injective}
 use Rattle.krb_der_core.specs.Encoding.{IsOctets}
@@ -18,6 +18,7 @@ use Rattle.krb_show_laws.specs.Telling.{all_of, Stops, is_name_octet, is_name, i
 use Rattle.krb_show_laws.specs.SplitLaws.{tail}
 use Rattle.krb_show_laws.specs.WordLaws.{word_itself, signed_word, decimal_word, one_word, one_octets, word_or_octets, name_beside}
 use Rattle.krb_show_laws.specs.NameLaws.{note_beside, flags_beside, identifier_beside}
+use Rattle.krb_show_laws.specs.Utf8Laws.{utf8_octets}
 use Rattle.krb_show_laws.specs.ValueLaws.{one_text, shortest_octets, truth_is_word, one_truth, one_time, time_is_word, flags_are_word, one_flags}
 use Rattle.krb_show_laws.specs.Blocks.{depth_behind, Follow, HasHead, Heads, Tells, TellsValues, IsLeaf}
 use Rattle.krb_show_laws.specs.BlockLaws.{one_value_text, head_blocks}
@@ -290,3 +291,6 @@ tells_within is_other valid t = record {
   heads = λ label v name h. t.heads label v name (valid v h);
   tells = λ label v w name h k. t.tells label v w name (valid v h) (valid w k);
 }
+
+pub tells_utf8 : TellsValues IsUtf8 IsLeaf text_of
+tells_utf8 = tells_within IsUtf8 utf8_octets tells_texts

@@ -9,6 +9,7 @@ pub mod FieldLaws
 pub mod StructLaws
 pub mod NameLaws
 pub mod ValueLaws
+pub mod Utf8Laws
 pub mod LeafLaws
 pub mod OpenedLaws
 pub mod PageLaws

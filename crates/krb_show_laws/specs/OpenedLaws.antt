@@ -10,7 +10,7 @@ use Rattle.krb_show_laws.specs.SplitLaws.{head}
 use Rattle.krb_show_laws.specs.Blocks.{Follow, Adds, Blocks, HasHead, Heads, Tells, TellsValues, IsStruct, IsList, IsLeaf, IsAt, is_apart}
 use Rattle.krb_show_laws.specs.BlockLaws.{head_blocks, line_at, one_at, not_among}
 use Rattle.krb_show_laws.specs.FieldLaws.{one_head, same_added, tells_so}
-use Rattle.krb_show_laws.specs.LeafLaws.{tells_octets}
+use Rattle.krb_show_laws.specs.LeafLaws.{tells_octets, tells_within}
 
 -- ---- what stands behind names
 
@@ -171,3 +171,8 @@ tells_opened_either {A} {B} {V} {W} {is_value} {is_other} {shows} {other} enc en
 pub list_no_other : (s : List ℕ) → IsList s → IsEither IsStruct IsLeaf s → ⊥
 list_no_other s h (inl e) = list_no_struct s h e
 list_no_other s h (inr e) = list_no_leaf s h e
+
+-- the same of values of which more is known, as of those under an application tag
+pub tells_opened_within : {A : Type 0} {V : List ℕ → Type 0} {P Q : A → Type 0} {shows : Label → A → List Token → List Token → Type 0} (enc : A → List ℕ)
+    → TellsValues P V shows → ((s : List ℕ) → V s → IsLeaf s → ⊥) → TellsValues IsOctets (IsEither V IsLeaf) (opened_by (λ v. P v × Q v) enc shows)
+tells_opened_within {P = P} {Q = Q} enc t apart = tells_opened enc (tells_within (λ v. P v × Q v) (λ v h. h.0) t) apart

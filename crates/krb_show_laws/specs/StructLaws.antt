@@ -1,7 +1,8 @@
 -- Structs and lists: what stands between a first line and the end.
-use Rattle.std.proofs.Common.{◌≡◌, ℕ, ◌+◌, ◌-◌, Bool, true, refl, sym, ap, subst, ◌∙◌, List, [], ◌∷◌, ◌++◌, length, arith}
+use Rattle.std.proofs.Common.{◌≡◌, ℕ, ◌+◌, ◌-◌, Bool, true, refl, sym, ap, subst, ◌∙◌, List, [], ◌∷◌, ◌++◌, length, arith, Option, None, Some}
 use Rattle.std.proofs.lemmas.List.{append_assoc, append-nil}
 use Rattle.std.specs.List.{AllByRecursion}
+use Rattle.std.specs.Option.{IfSome}
 use Rattle.std.specs.Fmt.{decimal}
 use Rattle.krb_show.specs.declared.token.Form.TheVariants as form
 use Rattle.krb_show.specs.Text.{line, page_lines, value_text}
@@ -235,3 +236,12 @@ tells_structs each is_fit one = record {
   heads = λ label v name h. struct_heads label (each v v h h).left;
   tells = λ label v w name h k. tells_so (λ u. u) (λ p. one v w p) (tells_struct label name (each v w h k) is_fit);
 }
+
+-- of values of which more is known
+pub all_so : {A : Type 0} (P Q : A → Type 0) → ((v : A) → P v → Q v) → (vs : List A) → AllByRecursion P vs → AllByRecursion Q vs
+all_so P Q f [] h = tt
+all_so P Q f (v ∷ vs) h = (f v h.0, all_so P Q f vs h.1)
+
+pub some_so : {A : Type 0} (P Q : A → Type 0) → ((v : A) → P v → Q v) → (o : Option (List A)) → IfSome o (AllByRecursion P) → IfSome o (AllByRecursion Q)
+some_so P Q f None h = tt
+some_so P Q f (Some vs) h = all_so P Q f vs h
