@@ -238,10 +238,10 @@ tells_structs each is_fit one = record {
 }
 
 -- of values of which more is known
-pub all_so : {A : Type 0} (P Q : A → Type 0) → ((v : A) → P v → Q v) → (vs : List A) → AllByRecursion P vs → AllByRecursion Q vs
-all_so P Q f [] h = tt
-all_so P Q f (v ∷ vs) h = (f v h.0, all_so P Q f vs h.1)
+pub all_first : {A : Type 0} (P Q : A → Type 0) (vs : List A) → AllByRecursion (λ v. P v × Q v) vs → AllByRecursion P vs
+all_first P Q [] h = tt
+all_first P Q (v ∷ vs) h = (h.0.0, all_first P Q vs h.1)
 
-pub some_so : {A : Type 0} (P Q : A → Type 0) → ((v : A) → P v → Q v) → (o : Option (List A)) → IfSome o (AllByRecursion P) → IfSome o (AllByRecursion Q)
-some_so P Q f None h = tt
-some_so P Q f (Some vs) h = all_so P Q f vs h
+pub some_first : {A : Type 0} (P Q : A → Type 0) (o : Option (List A)) → IfSome o (AllByRecursion (λ v. P v × Q v)) → IfSome o (AllByRecursion P)
+some_first P Q None h = tt
+some_first P Q (Some vs) h = all_first P Q vs h
