@@ -1,0 +1,15 @@
+pub mod Telling
+pub mod SplitLaws
+pub mod LineLaws
+pub mod WordLaws
+pub mod Blocks
+pub mod Texts
+pub mod BlockLaws
+pub mod FieldLaws
+pub mod StructLaws
+pub mod NameLaws
+pub mod ValueLaws
+pub mod Utf8Laws
+pub mod LeafLaws
+pub mod OpenedLaws
+pub mod PageLaws

@@ -1,0 +1,131 @@
+//! Laws of the definitions.
+
+ghost use Rattle.std.specs.Prelude.{◌≡◌, ◌≢◌, None, pos};
+ghost use Rattle.krb_show.specs.Tokens.{Label};
+ghost use Rattle.krb_show_laws.specs.Texts.{HaveOnePage, TextTells, TextTellsWhere};
+ghost use Rattle.krb_show_messages_laws.specs.Pacs.{no_buffers, no_buffers_and_more};
+
+use crate::told::{Told, ToldWhere};
+use krb_der::DerEncode;
+use krb_msg_app::messages::{ApRep, ApReq, KrbPriv, TgtRep, TgtReq};
+use krb_msg_iakerb::messages::IAKerbHeader;
+use krb_msg_parts::data_types::{
+    EncApRepPart, EncKrbCredPart, EncKrbPrivPart, EncTicketPart, KrbCredInfo,
+};
+use krb_msg_types::data_types::{
+    AuthorizationDataInner, ChangePasswdData, EncryptedData, EncryptionKey, EtypeInfo2Entry,
+    HostAddress, KerbAdRestrictionEntry, KerbErrorData, KerbPaPacRequest, LastReqInner, PaEncTsEnc,
+    PaPacOptions, PrincipalName, Ticket, TransitedEncoding,
+};
+use krb_pkinit::pkinit::{DhRepInfo, ExternalPrincipalIdentifier, PaPkAsRep, PaPkAsReq};
+use krb_show::Show;
+use krb_show_messages::Message;
+use krb_show_pkinit::Certificate;
+
+/// Two values of such a type whose pages have one text are equal, under whatever name they are shown.
+pub fn texts_tell_values<K, T: Told<K>>()
+    ensures { TextTells ⟦<T as DerEncode>⟧ ⟦<T as Show<K>>⟧ }
+{}
+
+/// Two values of a type that messages share (RFC 4120, 5.2 and 5.3; MS-KILE; RFC 3244) are equal where their pages have one text.
+pub fn shared_types()
+    ensures principal_name { TextTells ⟦<PrincipalName as DerEncode>⟧ ⟦<PrincipalName as Show<Message>>⟧ }
+    ensures host_address { TextTells ⟦<HostAddress as DerEncode>⟧ ⟦<HostAddress as Show<Message>>⟧ }
+    ensures encrypted_data { TextTells ⟦<EncryptedData as DerEncode>⟧ ⟦<EncryptedData as Show<Message>>⟧ }
+    ensures encryption_key { TextTells ⟦<EncryptionKey as DerEncode>⟧ ⟦<EncryptionKey as Show<Message>>⟧ }
+    ensures transited_encoding { TextTells ⟦<TransitedEncoding as DerEncode>⟧ ⟦<TransitedEncoding as Show<Message>>⟧ }
+    ensures ticket { TextTells ⟦<Ticket as DerEncode>⟧ ⟦<Ticket as Show<Message>>⟧ }
+    ensures last_req_entry { TextTells ⟦<LastReqInner as DerEncode>⟧ ⟦<LastReqInner as Show<Message>>⟧ }
+    ensures change_passwd_data { TextTells ⟦<ChangePasswdData as DerEncode>⟧ ⟦<ChangePasswdData as Show<Message>>⟧ }
+    ensures kerb_error_data { TextTells ⟦<KerbErrorData as DerEncode>⟧ ⟦<KerbErrorData as Show<Message>>⟧ }
+    ensures kerb_ad_restriction_entry { TextTells ⟦<KerbAdRestrictionEntry as DerEncode>⟧ ⟦<KerbAdRestrictionEntry as Show<Message>>⟧ }
+{
+    texts_tell_values::<Message, PrincipalName>();
+    texts_tell_values::<Message, HostAddress>();
+    texts_tell_values::<Message, EncryptedData>();
+    texts_tell_values::<Message, EncryptionKey>();
+    texts_tell_values::<Message, TransitedEncoding>();
+    texts_tell_values::<Message, Ticket>();
+    texts_tell_values::<Message, LastReqInner>();
+    texts_tell_values::<Message, ChangePasswdData>();
+    texts_tell_values::<Message, KerbErrorData>();
+    texts_tell_values::<Message, KerbAdRestrictionEntry>();
+}
+
+/// The same of values of pre-authentication data (RFC 4120, 5.2.7; MS-KILE, 2.2).
+pub fn pre_authentication()
+    ensures pa_enc_ts_enc { TextTells ⟦<PaEncTsEnc as DerEncode>⟧ ⟦<PaEncTsEnc as Show<Message>>⟧ }
+    ensures etype_info2_entry { TextTells ⟦<EtypeInfo2Entry as DerEncode>⟧ ⟦<EtypeInfo2Entry as Show<Message>>⟧ }
+    ensures kerb_pa_pac_request { TextTells ⟦<KerbPaPacRequest as DerEncode>⟧ ⟦<KerbPaPacRequest as Show<Message>>⟧ }
+    ensures pa_pac_options { TextTells ⟦<PaPacOptions as DerEncode>⟧ ⟦<PaPacOptions as Show<Message>>⟧ }
+{
+    texts_tell_values::<Message, PaEncTsEnc>();
+    texts_tell_values::<Message, EtypeInfo2Entry>();
+    texts_tell_values::<Message, KerbPaPacRequest>();
+    texts_tell_values::<Message, PaPacOptions>();
+}
+
+/// The same of the messages between a client and a service (RFC 4120, 5.5 to 5.8; draft-swift-win2k-krb-user2user-03), and of the
+/// header of IAKERB (draft-ietf-kitten-iakerb-03, 3).
+pub fn messages_to_a_service()
+    ensures ap_req { TextTells ⟦<ApReq as DerEncode>⟧ ⟦<ApReq as Show<Message>>⟧ }
+    ensures ap_rep { TextTells ⟦<ApRep as DerEncode>⟧ ⟦<ApRep as Show<Message>>⟧ }
+    ensures krb_priv { TextTells ⟦<KrbPriv as DerEncode>⟧ ⟦<KrbPriv as Show<Message>>⟧ }
+    ensures tgt_req { TextTells ⟦<TgtReq as DerEncode>⟧ ⟦<TgtReq as Show<Message>>⟧ }
+    ensures tgt_rep { TextTells ⟦<TgtRep as DerEncode>⟧ ⟦<TgtRep as Show<Message>>⟧ }
+    ensures iakerb_header { TextTells ⟦<IAKerbHeader as DerEncode>⟧ ⟦<IAKerbHeader as Show<Message>>⟧ }
+{
+    texts_tell_values::<Message, ApReq>();
+    texts_tell_values::<Message, ApRep>();
+    texts_tell_values::<Message, KrbPriv>();
+    texts_tell_values::<Message, TgtReq>();
+    texts_tell_values::<Message, TgtRep>();
+    texts_tell_values::<Message, IAKerbHeader>();
+}
+
+/// The same of enciphered parts, opened (RFC 4120, 5.5.2, 5.7.1 and 5.8.1).
+pub fn opened_parts()
+    ensures enc_ap_rep_part { TextTells ⟦<EncApRepPart as DerEncode>⟧ ⟦<EncApRepPart as Show<Message>>⟧ }
+    ensures enc_krb_priv_part { TextTells ⟦<EncKrbPrivPart as DerEncode>⟧ ⟦<EncKrbPrivPart as Show<Message>>⟧ }
+    ensures enc_krb_cred_part { TextTells ⟦<EncKrbCredPart as DerEncode>⟧ ⟦<EncKrbCredPart as Show<Message>>⟧ }
+    ensures krb_cred_info { TextTells ⟦<KrbCredInfo as DerEncode>⟧ ⟦<KrbCredInfo as Show<Message>>⟧ }
+{
+    texts_tell_values::<Message, EncApRepPart>();
+    texts_tell_values::<Message, EncKrbPrivPart>();
+    texts_tell_values::<Message, EncKrbCredPart>();
+    texts_tell_values::<Message, KrbCredInfo>();
+}
+
+/// The same of what a client and a KDC send where the client has a certificate (RFC 4556, 3.2).
+pub fn certificates()
+    ensures pa_pk_as_req { TextTells ⟦<PaPkAsReq as DerEncode>⟧ ⟦<PaPkAsReq as Show<Certificate>>⟧ }
+    ensures pa_pk_as_rep { TextTells ⟦<PaPkAsRep as DerEncode>⟧ ⟦<PaPkAsRep as Show<Certificate>>⟧ }
+    ensures external_principal_identifier { TextTells ⟦<ExternalPrincipalIdentifier as DerEncode>⟧ ⟦<ExternalPrincipalIdentifier as Show<Certificate>>⟧ }
+    ensures dh_rep_info { TextTells ⟦<DhRepInfo as DerEncode>⟧ ⟦<DhRepInfo as Show<Certificate>>⟧ }
+{
+    texts_tell_values::<Certificate, PaPkAsReq>();
+    texts_tell_values::<Certificate, PaPkAsRep>();
+    texts_tell_values::<Certificate, ExternalPrincipalIdentifier>();
+    texts_tell_values::<Certificate, DhRepInfo>();
+}
+
+/// Two such values of a type of which some are told are equal where their pages have one text.
+pub fn texts_tell_some<K, T: ToldWhere<K>>()
+    ensures { TextTellsWhere T.is_told ⟦<T as DerEncode>⟧ ⟦<T as Show<K>>⟧ }
+{}
+
+/// Two opened tickets are equal where their pages have one text and neither has authorization data (RFC 4120, 5.3). `pacs_are_not_told` says
+/// why others need not be.
+pub fn without_authorization_data()
+    ensures { TextTellsWhere (λ v. v.authorization_data.0 ≡ None) ⟦<EncTicketPart as DerEncode>⟧ ⟦<EncTicketPart as Show<Message>>⟧ }
+{
+    texts_tell_some::<Message, EncTicketPart>();
+}
+
+/// What is not told: octets of a PAC (MS-PAC, 2.3) that no entry names, since a PAC is shown as its buffers. So two elements of
+/// authorization data have one page: eight octets `00` under the type 128 (AD-WIN2K-PAC), a PAC of no buffer, and nine.
+pub fn pacs_are_not_told()
+    ensures one_page { (label : Label) → HaveOnePage (⟦<AuthorizationDataInner as Show<Message>>⟧.shows label)
+        (record { ad_type = pos 128; ad_data = no_buffers }) (record { ad_type = pos 128; ad_data = no_buffers_and_more }) }
+    ensures other_octets { no_buffers ≢ no_buffers_and_more }
+{}

@@ -1,0 +1,22 @@
+//! The text of a message of Kerberos (RFC 4120) tells the message: laws of the definitions of `krb_show_messages`.
+//!
+//! A type that is `Told` is told by its text: no two of its values are shown as one text. An `impl` cites those of the types of its fields,
+//! which stand in other files.
+#![tactic(auto)]
+
+mod absent;
+mod application;
+mod headers;
+mod identifiers;
+pub mod laws;
+mod names;
+mod others;
+mod parts;
+mod parts_of_lists;
+mod pkinit;
+mod pre_authentication;
+mod shared;
+mod tickets;
+mod told;
+
+pub use told::{Told, ToldWhere};
