@@ -77,7 +77,7 @@ impl<'a> UpnDnsView<'a> {
         self.dns_domain_name.octets
     }
 
-    /// The SAM name, in UTF-16, little endian, with flag S; no octets without it, as `has_sid` tells.
+    /// The SAM name, in UTF-16, little endian, with flag S; no octets without it, and then `sid` is `None`.
     pub fn sam_name(&self) -> &'a [u8]
         ensures { result.now ≡ unwrap_or self.now.sam_name [] }
     {
