@@ -39,10 +39,13 @@ abbrev pub place : Failure → Option Place
 place (Octets kind why found) = found
 place e = None
 
+abbrev pub placed : List ℕ → ℕ → List ℕ
+placed words at = codes ", " ++ words ++ codes " at octet " ++ decimal at
+
 abbrev pub place_text : Option Place → List ℕ
 place_text None = []
-place_text (Some (places.InElement at)) = codes ", in the element at octet " ++ decimal at
-place_text (Some (places.AtTag at)) = codes ", at the tag at octet " ++ decimal at
+place_text (Some (places.InElement at)) = placed (codes "in the element") at
+place_text (Some (places.AtTag at)) = placed (codes "at the tag") at
 
 -- jolmurig: SUBJECT: REASON, and where that is known the place
 abbrev pub line_of : Failure → List ℕ

@@ -1,9 +1,8 @@
 //! Why a run is rejected.
 
 ghost use Rattle.std.specs.Prelude.{◌≡◌, ◌++◌, IfOk, OnOk};
-ghost use Rattle.std.specs.Fmt.{decimal};
 ghost use Rattle.jolmurig.specs.declared.failure.Failure.TheVariants as failures;
-ghost use Rattle.jolmurig.specs.Failures.{line_of, of_input, place, place_text, reason, status_of_failure, subject};
+ghost use Rattle.jolmurig.specs.Failures.{line_of, of_input, place, place_text, placed, reason, status_of_failure, subject};
 
 use krb_input::InputError;
 use krb_show_any::{Kind, PageError, Place, name_of_kind};
@@ -33,17 +32,14 @@ pub enum Failure {
     Write,
 }
 
-/// Appends some words and a number.
-fn push_numbered(
-    line: &mut Vec<u8>,
-    alloc: Global,
-    words: &[u8],
-    number: usize,
-) -> Result<(), AllocError>
-    ensures { OnOk result (line.new.items ≡ line.old.items ++ words.now ++ decimal number) }
+/// Appends these words, and how many octets stand before a place.
+fn push_placed(line: &mut Vec<u8>, alloc: Global, words: &[u8], at: usize) -> Result<(), AllocError>
+    ensures { OnOk result (line.new.items ≡ line.old.items ++ placed words.now at) }
 {
-    let digits = format!(in alloc; "{number}")?;
+    let digits = format!(in alloc; "{at}")?;
+    line.extend_from_slice(b", ")?;
     line.extend_from_slice(words)?;
+    line.extend_from_slice(b" at octet ")?;
     line.extend_from_slice(digits.as_bytes())
 }
 
@@ -53,10 +49,8 @@ fn push_place(line: &mut Vec<u8>, alloc: Global, place: Option<Place>) -> Result
 {
     match place {
         None => Ok(()),
-        Some(Place::InElement(at)) => {
-            push_numbered(line, alloc, b", in the element at octet ", at)
-        }
-        Some(Place::AtTag(at)) => push_numbered(line, alloc, b", at the tag at octet ", at),
+        Some(Place::InElement(at)) => push_placed(line, alloc, b"in the element", at),
+        Some(Place::AtTag(at)) => push_placed(line, alloc, b"at the tag", at),
     }
 }
 
