@@ -1,13 +1,14 @@
 -- Elements at places of octets.
-use Rattle.std.proofs.Common.{◌≡◌, ℕ, ◌+◌, ◌-◌, ◌<◌, ◌≤◌, ◌^◌, refl, sym, ap, ◌∙◌, subst, List, [], ◌∷◌, ◌++◌, take, drop, length, arith, slice_index_or, ◌/◌, ◌%◌, Option, Some, None}
-use Rattle.std.specs.Prelude.{IfSome}
+use Rattle.std.proofs.Common.{◌≡◌, ℕ, ◌+◌, ◌-◌, ◌<◌, ◌≤◌, ◌^◌, refl, sym, ap, ◌∙◌, subst, List, ◌∷◌, ◌++◌, take, drop, length, arith, slice_index_or, ◌/◌, ◌%◌, Option, Some, None, ◌⊎◌, inl, inr}
+use Rattle.std.specs.Prelude.{Bool, true, false, nat_eq, if◌then◌else◌, IfSome}
+use Rattle.std.proofs.lemmas.Bool.{eqb-true}
 use Rattle.std.proofs.lemmas.List.{length-append, length-drop, take_all, get_or-drop}
 use Rattle.krb_der_core.specs.Tlv.{header, len, tlv}
 use Rattle.krb_der_core.specs.TlvLaws.{tlv_apart}
-use Rattle.krb_der_core.specs.Reading.{Elements, NoPrefix, RejectsPrefix, TakesPrefix}
+use Rattle.krb_der_core.specs.Reading.{Elements, RejectsPrefix, TakesPrefix}
 use Rattle.krb_der_core.specs.declared.error.Asn1DerError.{Asn1DerError}
 use Rattle.krb_der_core.specs.declared.error.Asn1DerError.TheVariants as errors
-use Rattle.krb_show_any.specs.Places.{IsElementAt, inside_of, next_of, sizes_of}
+use Rattle.krb_show_any.specs.Places.{AreStarts, HasNext, HasSizes, IsBehindHeader, IsElementAt, IsStart, first_start, start_behind, start_inside, inside_of, next_of, sizes_of}
 
 pub all_behind : (octets : List ℕ) (n : ℕ) → take (length octets - n) (drop n octets) ≡ drop n octets
 all_behind octets n = take_all (length octets - n) (drop n octets) (omega (arith, length-drop n octets))
@@ -51,7 +52,7 @@ no_element octets at tag content why small heapless refused is =
     refuses_none (drop at octets) tag content is.0 why (omega (arith, small, length-drop at octets)) heapless
     (subst (λ t. RejectsPrefix (Elements t) (drop at octets) why) (tag_of_element octets at tag content is) refused) here
 
-some_same : {A : Type 0} (a b : A) → Some a ≡ Some b → a ≡ b
+pub some_same : {A : Type 0} (a b : A) → Some a ≡ Some b → a ≡ b
 some_same a b e = cc
 
 same_sizes : (p q : ℕ × ℕ) → Some p ≡ Some q → (p.0 ≡ q.0) × (p.1 ≡ q.1)
@@ -96,3 +97,39 @@ ends_within P octets at inside behind found within none tag content is =
     let start = at + length (header tag (length content)) in
     let same = same_next (inside, behind) (next_of at tag content) (found tag content is) in
     (λ bit. subst (λ o. IfSome o P) (same.0 ∙ constructed tag start bit) within, subst P same.1 none)
+
+-- from a place where an element may begin, the places next to the element there are such places
+
+pub behind_start : (octets : List ℕ) (at head whole : ℕ) → HasSizes octets at (head, whole) → IsStart octets at → IsStart octets (at + whole)
+behind_start octets at head whole (tag, content, is, e) start =
+    subst (λ n. IsStart octets (at + n)) (sym (ap (λ (r : ℕ × ℕ). r.1) e)) (start_behind at tag content start is)
+
+if_one : (P : ℕ → Type 0) (bit start : ℕ) (b : Bool) → nat_eq bit 1 ≡ b → (bit ≡ 1 → P start) → IfSome (if b then Some start else None) P
+if_one P bit start true e h = h (eqb-true bit 1 e)
+if_one P bit start false e h = tt
+
+inside_start : (octets : List ℕ) (at tag : ℕ) (content : List ℕ) → IsElementAt octets at tag content → IsStart octets at
+    → IfSome (inside_of tag (at + length (header tag (length content)))) (IsStart octets)
+inside_start octets at tag content is start =
+    if_one (IsStart octets) (tag / 32 % 2) (at + length (header tag (length content))) (nat_eq (tag / 32 % 2) 1) refl (start_inside at tag content start is)
+
+pub next_starts : (octets : List ℕ) (at : ℕ) (inside : Option ℕ) (behind : ℕ) → HasNext octets at (inside, behind) → IsStart octets at
+    → AreStarts octets (inside, behind)
+next_starts octets at inside behind (tag, content, is, e) start = (
+  subst (λ o. IfSome o (IsStart octets)) (sym (ap (λ (r : Option ℕ × ℕ). r.0) e)) (inside_start octets at tag content is start),
+  subst (IsStart octets) (sym (ap (λ (r : Option ℕ × ℕ). r.1) e)) (start_behind at tag content start is),
+)
+
+-- every such place but the first is behind the header of the element at the first octet
+
+further : (octets : List ℕ) (at tag : ℕ) (content : List ℕ) (more : ℕ) → IsElementAt octets at tag content → length (header tag (length content)) ≤ more
+    → (at ≡ 0) ⊎ IsBehindHeader octets at → (at + more ≡ 0) ⊎ IsBehindHeader octets (at + more)
+further octets at tag content more is room (inl e) = inr (tag, content, subst (λ n. IsElementAt octets n tag content) e is, omega (arith, room))
+further octets at tag content more is room (inr (t, c, there, below)) = inr (t, c, there, omega (arith, below))
+
+pub start_behind_header : (octets : List ℕ) (at : ℕ) → IsStart octets at → (at ≡ 0) ⊎ IsBehindHeader octets at
+start_behind_header octets _ first_start = inl refl
+start_behind_header octets _ (start_behind at tag content start is) =
+    further octets at tag content (length (tlv tag content)) is (omega (arith, header_size tag (length (tlv tag content)) content refl)) (start_behind_header octets at start)
+start_behind_header octets _ (start_inside at tag content start is bit) =
+    further octets at tag content (length (header tag (length content))) is (omega arith) (start_behind_header octets at start)

@@ -1,5 +1,5 @@
 -- Where the first error of octets is: asked of the reader itself, by octets that differ at one place.
-use Rattle.std.specs.Prelude.{◌≡◌, ◌⊎◌, ℕ, ◌+◌, ◌<◌, ◌≤◌, ◌/◌, ◌%◌, nat_eq, if◌then◌else◌, Bool, true, false, List, ◌++◌, length, drop, slice_set, Option, None, Some, Result, Ok, Err, Vec}
+use Rattle.std.specs.Prelude.{◌≡◌, ◌⊎◌, ℕ, ◌+◌, ◌<◌, ◌≤◌, ◌/◌, ◌%◌, IfSome, nat_eq, if◌then◌else◌, Bool, true, false, List, ◌++◌, length, drop, slice_set, Option, None, Some, Result, Ok, Err, Vec}
 use Rattle.std.specs.Cmp.Lexicographic.{pointwise}
 use Rattle.std.specs.declared.alloc.Global.{Global}
 use Rattle.krb_der_core.specs.Tlv.{header, tlv}
@@ -48,6 +48,18 @@ IsSame e (Err d) = is_same_error e d ≡ true
 abbrev pub IsElementAt : List ℕ → ℕ → ℕ → List ℕ → Type 0
 IsElementAt octets at tag content = (rest : List ℕ) × (drop at octets ≡ tlv tag content ++ rest)
 
+-- An element may begin at a place: at the first octet; behind an element; and, in one whose tag says that it holds elements (X.690, 8.1.2.5),
+-- behind the octets before its content.
+pub data IsStart (octets : List ℕ) : ℕ → Type 0 where
+  first_start : IsStart octets 0
+  start_behind : (at tag : ℕ) (content : List ℕ) → IsStart octets at → IsElementAt octets at tag content → IsStart octets (at + length (tlv tag content))
+  start_inside : (at tag : ℕ) (content : List ℕ) → IsStart octets at → IsElementAt octets at tag content → tag / 32 % 2 ≡ 1
+      → IsStart octets (at + length (header tag (length content)))
+
+-- an element stands at the first octet, and this place is not before its content
+abbrev pub IsBehindHeader : List ℕ → ℕ → Type 0
+IsBehindHeader octets at = (tag : ℕ) × (content : List ℕ) × IsElementAt octets 0 tag content × (length (header tag (length content)) ≤ at)
+
 -- What octets of a kind are told as: the page that they have, or the error.
 module _ {K : Type 0} (tells : K → List ℕ → Result (Vec Token Global) PageError → Type 0) (kind : K) (e : PageError) where
   -- The reader gets as far as the length of the element at a place: were that wrong, the result would be another. It does not: that would
@@ -74,11 +86,12 @@ module _ {K : Type 0} (tells : K → List ℕ → Result (Vec Token Global) Page
   EndsWithin octets at tag content =
       (tag / 32 % 2 ≡ 1 → HasNone octets (at + length (header tag (length content)))) × HasNone octets (at + length (tlv tag content))
 
-  -- The place of the first error. In an element: its length is looked at, and no tag is sought at the next two places. At a tag: with
-  -- this one the element is not read, and with some other it would be.
+  -- The place of the first error, where an element may begin. In an element: its length is looked at, and no tag is sought at the next two
+  -- places. At a tag: with this one the element is not read, and with some other it would be.
   abbrev pub IsPlace : List ℕ → Place → Type 0
-  IsPlace octets (InElement at) = IsReached octets at × ((tag : ℕ) (content : List ℕ) → IsElementAt octets at tag content → EndsWithin octets at tag content)
-  IsPlace octets (AtTag at) = IsNotReached octets at × (tag : ℕ) × IsSought octets at tag
+  IsPlace octets (InElement at) =
+      IsStart octets at × IsReached octets at × ((tag : ℕ) (content : List ℕ) → IsElementAt octets at tag content → EndsWithin octets at tag content)
+  IsPlace octets (AtTag at) = IsStart octets at × IsNotReached octets at × (tag : ℕ) × IsSought octets at tag
 
   -- where it is, if the error is one of DER and the octets are looked at as DER
   abbrev pub IsPlaceIfAny : List ℕ → Option Place → Type 0
@@ -98,6 +111,17 @@ inside_of tag start = if nat_eq (tag / 32 % 2) 1 then Some start else None
 abbrev pub next_of : ℕ → ℕ → List ℕ → Option ℕ × ℕ
 next_of at tag content = (inside_of tag (at + length (header tag (length content))), at + length (tlv tag content))
 
+-- an element stands at a place, and these are its sizes; and these are the places next to it
+abbrev pub HasSizes : List ℕ → ℕ → ℕ × ℕ → Type 0
+HasSizes octets at sizes = (tag : ℕ) × (content : List ℕ) × IsElementAt octets at tag content × (sizes ≡ sizes_of tag content)
+
+abbrev pub HasNext : List ℕ → ℕ → Option ℕ × ℕ → Type 0
+HasNext octets at next = (tag : ℕ) × (content : List ℕ) × IsElementAt octets at tag content × (next ≡ next_of at tag content)
+
+-- elements may begin at the next places
+abbrev pub AreStarts : List ℕ → Option ℕ × ℕ → Type 0
+AreStarts octets next = IfSome next.0 (IsStart octets) × IsStart octets next.1
+
 module _ {K : Type 0} (tells : K → List ℕ → Result (Vec Token Global) PageError → Type 0) (kind : K) (e : PageError) (octets : List ℕ) (at : ℕ) where
   -- what the reader does at a place
   abbrev pub IsLook : Look → Type 0
@@ -107,5 +131,5 @@ module _ {K : Type 0} (tells : K → List ℕ → Result (Vec Token Global) Page
 
   -- where the search goes on, or ends
   abbrev pub IsStep : Step → Type 0
-  IsStep (step.To next) = (at < next) × (next + 2 ≤ length octets) × IsReached tells kind e octets next
+  IsStep (step.To next) = (at < next) × (next + 2 ≤ length octets) × IsStart octets next × IsReached tells kind e octets next
   IsStep (step.End place) = IsPlace tells kind e octets place

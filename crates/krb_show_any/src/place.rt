@@ -1,7 +1,7 @@
 //! Where the first error of octets is.
 
-ghost use Rattle.std.specs.Prelude.{◌≡◌, ◌+◌, ◌<◌, ◌≤◌, ℕ, List, Some, All, IfOk, IfSome, MatchBool, drop, length, slice_set};
-ghost use Rattle.krb_show_any.specs.Places.{IsElementAt, IsLook, IsNotReached, IsNotSought, IsPlace, IsPlaceIfAny, IsReached, IsSought, IsStep, is_of_der, inside_of, is_same_error, next_of, sizes_of, wrong_length};
+ghost use Rattle.std.specs.Prelude.{◌≡◌, ◌⊎◌, ◌+◌, ◌<◌, ◌≤◌, ℕ, List, Some, All, IfOk, IfSome, MatchBool, drop, length, slice_set};
+ghost use Rattle.krb_show_any.specs.Places.{AreStarts, HasNext, HasSizes, IsBehindHeader, IsElementAt, IsLook, IsNotReached, IsNotSought, IsPlace, IsPlaceIfAny, IsReached, IsSought, IsStart, IsStep, is_of_der, inside_of, is_same_error, next_of, sizes_of, wrong_length};
 ghost use Rattle.krb_der_core.specs.Tlv.{header, tlv};
 
 use crate::error::PageError;
@@ -118,8 +118,10 @@ fn is_sought<K: Copy, S: Pages<K, PageError>>(
 
 /// Where elements begin behind the one at a place, one after another, as far as there are elements.
 fn places_behind(alloc: Global, octets: &[u8], from: usize) -> Result<Vec<usize>, AllocError>
-    requires { from + 2 ≤ length octets.now }
-    ensures { IfOk result (λ places. All (λ at. (from ≤ at) × (at + 2 ≤ length octets.now)) places.items) }
+    requires room { from + 2 ≤ length octets.now }
+    requires start { IsStart octets.now from }
+    ensures room { IfOk result (λ places. All (λ at. (from ≤ at) × (at + 2 ≤ length octets.now)) places.items) }
+    ensures starts { IfOk result (λ places. All (IsStart octets.now) places.items) }
 {
     let mut places = Vec::new(alloc);
     let mut at = from;
@@ -145,7 +147,9 @@ fn last_reached<K: Copy, S: Pages<K, PageError>>(
     from: usize,
 ) -> Result<usize, AllocError>
     requires room { from + 2 ≤ length octets.now }
+    requires start { IsStart octets.now from }
     requires reached { IsReached S.tells kind error.now octets.now from }
+    ensures start { IfOk result (λ at. IsStart octets.now at) }
     ensures reached { IfOk result (λ at. IsReached S.tells kind error.now octets.now at) }
     ensures room { IfOk result (λ at. at + 2 ≤ length octets.now) }
     ensures order { IfOk result (λ at. from ≤ at) }
@@ -181,6 +185,7 @@ fn from_place(octets: &[u8], at: usize) -> &[u8]
 fn element_sizes(octets: &[u8], at: usize) -> Option<(usize, usize)>
     requires { at < length octets.now }
     ensures found { (tag : ℕ) (content : List ℕ) → IsElementAt octets.now at tag content → result ≡ Some (sizes_of tag content) }
+    ensures element { IfSome result (HasSizes octets.now at) }
     ensures room { IfSome result (λ sizes. (0 < sizes.0) × (sizes.0 ≤ sizes.1) × (at + sizes.1 ≤ length octets.now)) }
 {
     let rest = from_place(octets, at);
@@ -200,6 +205,13 @@ fn has_header(tag: u8, content: &[u8], taken: usize)
     ensures begins { 0 < length (header tag (length content.now)) }
 {}
 
+/// A lemma: of the places from the first octet up to the content of the element there, an element may begin at the first octet alone, and not
+/// within the length, say. Where no element stands there, an element may begin nowhere else.
+#[tactic(auto, using(crate::proofs::Elements::start_behind_header))]
+fn starts_behind_header(octets: &[u8])
+    ensures { (at : ℕ) → IsStart octets.now at → (at ≡ 0) ⊎ IsBehindHeader octets.now at }
+{}
+
 /// Where the content of an element begins, if its tag says that it holds elements.
 fn inside_of(tag: u8, start: usize) -> Option<usize>
     ensures { result ≡ inside_of tag start }
@@ -212,6 +224,8 @@ fn inside_of(tag: u8, start: usize) -> Option<usize>
 fn next_places(octets: &[u8], at: usize) -> Option<(Option<usize>, usize)>
     requires { at < length octets.now }
     ensures next { (tag : ℕ) (content : List ℕ) → IsElementAt octets.now at tag content → result ≡ Some (next_of at tag content) }
+    ensures element { IfSome result (HasNext octets.now at) }
+    ensures starts { IsStart octets.now at → IfSome result (AreStarts octets.now) }
     ensures order { IfSome result (λ next. (at < next.1) × IfSome next.0 (λ inside. at < inside)) }
 {
     let (header, whole) = element_sizes(octets, at)?;
@@ -266,6 +280,7 @@ fn step_from<K: Copy, S: Pages<K, PageError>>(
     at: usize,
 ) -> Result<Step, AllocError>
     requires room { at + 2 ≤ length octets.now }
+    requires start { IsStart octets.now at }
     requires reached { IsReached S.tells kind error.now octets.now at }
     ensures { IfOk result (IsStep S.tells kind error.now octets.now at) }
 {
@@ -309,9 +324,10 @@ fn place_within<K: Copy, S: Pages<K, PageError>>(
 
 /// Where the first error of octets is, if it is one of DER: octets that differ at one place are read as the same kind, and where the
 /// answer is another, the reader looks at that place. So it is the reader itself that says where it stops, whatever the kind: in the last
-/// element whose length it looks at, or at the tag behind it, if some other tag could stand there. `None` for an error that is not one of
-/// DER, and where the reader does not look for an element at the first octet. It reads the octets some twenty times, and, for
-/// the tag, up to 512 times more.
+/// element whose length it looks at, or at the tag behind it, if some other tag could stand there. An element may begin at that place: it is
+/// the first octet, or behind another element, or first in one whose tag says that it holds elements (X.690, 8.1.2.5). `None` for an error that
+/// is not one of DER, and where the reader does not look for an element at the first octet. It reads the octets some twenty times, and, for the
+/// tag, up to 512 times more.
 ///
 /// The only error is an allocation failure.
 pub fn place_of_error<K: Copy, S: Pages<K, PageError>>(

@@ -1,4 +1,4 @@
-use Rattle.std.proofs.Common.{ℕ, below_more, subst, slice_set}
+use Rattle.std.proofs.Common.{below_more, subst, slice_set}
 use Rattle.std.specs.Prelude.{MatchBool}
 use Rattle.krb_show_any.specs.Places.{IsNotReached, IsReached}
 use Rattle.krb_show_any.proofs.place.is_sought.Goals as goal

@@ -18,4 +18,4 @@ returns-in-No-2 g c =
           (subst (λ l. look w.in-Some-inside.inside l) w.in-No.is w.in_ok-look_at-in-Some-inside.ensures)
     ] in
     let behind : none c.in-Some.behind = subst (λ l. look c.in-Some.behind l) c.in-No-2.is c.in_ok-look_at.ensures in
-    (c.requires.reached, ends_within none octets c.args.at inside c.in-Some.behind c.in-Some.ensures.next within behind)
+    (c.requires.start, c.requires.reached, ends_within none octets c.args.at inside c.in-Some.behind c.in-Some.ensures.next within behind)
