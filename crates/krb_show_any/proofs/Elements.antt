@@ -130,6 +130,7 @@ further octets at tag content more is room (inr (t, c, there, below)) = inr (t, 
 pub start_behind_header : (octets : List ℕ) (at : ℕ) → IsStart octets at → (at ≡ 0) ⊎ IsBehindHeader octets at
 start_behind_header octets _ first_start = inl refl
 start_behind_header octets _ (start_behind at tag content start is) =
-    further octets at tag content (length (tlv tag content)) is (omega (arith, header_size tag (length (tlv tag content)) content refl)) (start_behind_header octets at start)
+    let whole = length (tlv tag content) in
+    further octets at tag content whole is (omega (arith, header_size tag whole content refl)) (start_behind_header octets at start)
 start_behind_header octets _ (start_inside at tag content start is bit) =
     further octets at tag content (length (header tag (length content))) is (omega arith) (start_behind_header octets at start)
