@@ -1,2 +1,3 @@
 mod Elements
+mod Plain
 mod Told

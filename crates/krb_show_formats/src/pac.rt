@@ -1,14 +1,18 @@
 //! The PAC of a ticket (MS-PAC) as its directory.
 
-ghost use Rattle.std.specs.Prelude.{◌≡◌, [], List, IfOk, IfErr, OnOk, OnErr, MatchResult, codes};
+ghost use Rattle.std.specs.Prelude.{◌≡◌, ◌≢◌, ◌≤◌, ℕ, [], ◌++◌, List, length, replicate, IfOk, IfErr, OnOk, OnErr, MatchBool, MatchOption, MatchResult, codes};
+ghost use Rattle.std.specs.List.{flat_map};
+ghost use Rattle.byteorder.specs.Endian.{little_number};
 ghost use Rattle.krb_pac.specs.Layout.{Buffer, PacIs};
 ghost use Rattle.krb_pac.specs.Rejected.{PacRejected};
+ghost use Rattle.krb_pac.specs.Written.{entry_octets};
 ghost use Rattle.krb_show.specs.Leaves.{octets_of};
 ghost use Rattle.krb_show.specs.Tokens.{Begins, plain};
-ghost use Rattle.krb_show_formats.specs.Pac.{buffer_of, buffers_of, pac_of};
+ghost use Rattle.krb_show_formats.specs.Pac.{buffer_of, directory_of, entries_octets, entries_of, entry_of, head_octets, other_of, pac_of, padded_octets, padding, plain_octets};
 
 use crate::Format;
-use krb_pac::{PacBufferView, PacError, PacView};
+use byteorder::{ByteOrder, LittleEndian};
+use krb_pac::{PacBufferView, PacError, PacInfoBuffer, PacView};
 use krb_show::{Label, Page, Show, show_fields, show_list, show_octets, show_struct};
 use std::alloc::{AllocError, Global};
 
@@ -68,23 +72,192 @@ fn buffers<'a>(alloc: Global, pac: &PacView<'a>) -> Result<Vec<PacBufferView<'a>
     Ok(buffers)
 }
 
-/// Appends the tokens of the buffers of a PAC.
-fn show_buffers(
+/// The octets behind these, where the others begin with them.
+#[tactic(auto, using(crate::proofs::Plain::behind_is))]
+fn behind<'a>(octets: &'a [u8], first: &[u8]) -> Option<&'a [u8]>
+    ensures { MatchOption result ((rest : List ℕ) → octets.now ≢ first.now ++ rest) (λ rest. octets.now ≡ first.now ++ rest.now) }
+{
+    octets.strip_prefix(first)
+}
+
+/// The octets before the entries of a PAC with so many buffers as these octets say.
+fn head_of(octets: &[u8]) -> [u8; 8]
+    requires { 4 ≤ length octets.now }
+    ensures { result ≡ head_octets (little_number 4 octets.now) }
+{
+    let mut head = [0u8; 8];
+    LittleEndian::write_u32(&mut head[..4], LittleEndian::read_u32(octets));
+    head
+}
+
+/// The octets of an entry (MS-PAC, 2.4, PAC_INFO_BUFFER).
+fn octets_of_entry(info: &PacInfoBuffer) -> [u8; 16]
+    ensures { result ≡ entry_octets info.now }
+{
+    let mut octets = [0u8; 16];
+    LittleEndian::write_u32(&mut octets[..4], u32::from(info.ul_type()));
+    LittleEndian::write_u32(&mut octets[4..8], info.cb_buffer_size());
+    LittleEndian::write_u64(&mut octets[8..16], info.offset());
+    octets
+}
+
+/// The octets behind the entries of the buffers, where the others begin with these entries, one behind another.
+fn behind_entries<'a>(octets: &'a [u8], buffers: &[PacBufferView]) -> Option<&'a [u8]>
+    ensures { MatchOption result ((rest : List ℕ) → octets.now ≢ entries_octets buffers.now ++ rest) (λ rest. octets.now ≡ entries_octets buffers.now ++ rest.now) }
+{
+    let mut rest = octets;
+    'entries: for buffer in buffers {
+        match behind(rest, &octets_of_entry(buffer.info_buffer())) {
+            Some(behind) => rest = behind,
+            None => return None,
+        }
+    }
+    Some(rest)
+}
+
+/// The octets behind a buffer and the zeros behind it up to a multiple of eight, where the others begin with these.
+fn behind_buffer<'a>(octets: &'a [u8], buffer: &PacBufferView) -> Option<&'a [u8]>
+    ensures { MatchOption result ((rest : List ℕ) → octets.now ≢ padded_octets buffer.now ++ rest) (λ rest. octets.now ≡ padded_octets buffer.now ++ rest.now) }
+{
+    let size = buffer.octets().len();
+    let zeros = [0u8; 8];
+    match behind(octets, buffer.octets()) {
+        Some(rest) => behind(rest, &zeros[..(8 - size % 8) % 8]),
+        None => None,
+    }
+}
+
+/// The octets behind the buffers, where the others begin with these, one behind another, each with zeros behind it up to a multiple of eight.
+fn behind_buffers<'a>(octets: &'a [u8], buffers: &[PacBufferView]) -> Option<&'a [u8]>
+    ensures { MatchOption result ((rest : List ℕ) → octets.now ≢ flat_map padded_octets buffers.now ++ rest)
+        (λ rest. octets.now ≡ flat_map padded_octets buffers.now ++ rest.now) }
+{
+    let mut rest = octets;
+    'buffers: for buffer in buffers {
+        match behind_buffer(rest, buffer) {
+            Some(behind) => rest = behind,
+            None => return None,
+        }
+    }
+    Some(rest)
+}
+
+/// Whether the buffers of a PAC stand one behind another in the order of their entries, and nothing else is in its octets.
+fn is_plain(octets: &[u8], buffers: &[PacBufferView]) -> bool
+    requires { PacIs octets.now buffers.now }
+    ensures { MatchBool result (octets.now ≡ plain_octets buffers.now) (octets.now ≢ plain_octets buffers.now) }
+{
+    let Some(rest) = behind(octets, &head_of(octets)) else {
+        return false;
+    };
+    let Some(rest) = behind_entries(rest, buffers) else {
+        return false;
+    };
+    match behind_buffers(rest, buffers) {
+        Some(rest) => rest.is_empty(),
+        None => false,
+    }
+}
+
+/// The fields of an entry.
+#[derive(Drop)]
+struct EntryFields {
+    ul_type: u32,
+    cb_buffer_size: u32,
+    offset: u64,
+}
+
+/// The entry of a buffer (MS-PAC, 2.4, PAC_INFO_BUFFER) alone.
+impl Show<Format> for PacInfoBuffer {
+    ghost shows = { entry_of };
+
+    fn show(&self, alloc: Global, label: &Label, page: &mut Page) -> Result<(), AllocError> {
+        let fields = EntryFields {
+            ul_type: u32::from(self.ul_type()),
+            cb_buffer_size: self.cb_buffer_size(),
+            offset: self.offset(),
+        };
+        show_struct(
+            alloc,
+            label,
+            &show_fields!(
+                Format; fields;
+                "ulType" PacBufferType = ul_type,
+                "cbBufferSize" = cb_buffer_size,
+                "Offset" = offset
+            ),
+            page,
+        )
+    }
+}
+
+/// The entries of buffers.
+fn entries(alloc: Global, buffers: &[PacBufferView]) -> Result<Vec<PacInfoBuffer>, AllocError>
+    ensures { IfOk result (λ made. made.items ≡ entries_of buffers.now) }
+{
+    let mut entries = Vec::with_capacity(alloc, buffers.len())?;
+    for buffer in buffers {
+        entries.push(*buffer.info_buffer())?;
+    }
+    Ok(entries)
+}
+
+/// The fields of a PAC whose octets are not those of its buffers alone.
+#[derive(Drop)]
+struct OtherFields<'a> {
+    buffers: Vec<PacInfoBuffer>,
+    octets: &'a [u8],
+}
+
+/// Appends the tokens of a PAC whose octets are not those of its buffers alone: its entries and its octets.
+fn show_other(
     alloc: Global,
     label: &Label,
+    octets: &[u8],
+    buffers: &[PacBufferView],
+    page: &mut Page,
+) -> Result<(), AllocError>
+    ensures ok { OnOk result (other_of label.now octets.now buffers.now page.old.items page.new.items) }
+    ensures kept { OnOk result (Begins page.old.items page.new.items) }
+    ensures err { OnErr result (page.new.items ≡ page.old.items) }
+{
+    let fields = OtherFields {
+        buffers: entries(alloc, buffers)?,
+        octets,
+    };
+    show_struct(
+        alloc,
+        label,
+        &show_fields!(Format; fields; "buffers" = buffers, "octets" = octets),
+        page,
+    )
+}
+
+/// Appends the tokens of a PAC.
+fn show_directory(
+    alloc: Global,
+    label: &Label,
+    octets: &[u8],
     pac: &PacView,
     page: &mut Page,
 ) -> Result<(), AllocError>
-    ensures ok { OnOk result (buffers_of label.now pac.now page.old.items page.new.items) }
+    requires { PacIs octets.now pac.now }
+    ensures ok { OnOk result (directory_of label.now octets.now pac.now page.old.items page.new.items) }
     ensures kept { OnOk result (Begins page.old.items page.new.items) }
     ensures err { OnErr result (page.new.items ≡ page.old.items) }
 {
     let buffers = buffers(alloc, pac)?;
-    show_list::<Format, _>(alloc, label, &buffers, page)
+    if is_plain(octets, &buffers) {
+        show_list::<Format, _>(alloc, label, &buffers, page)
+    } else {
+        show_other(alloc, label, octets, &buffers, page)
+    }
 }
 
-/// Appends the tokens of the buffers of the PAC (MS-PAC, 2.3, PACTYPE) that the octets are, of each buffer its type, its size and its
-/// offset in octets, and its octets; and octets where they are no PAC. The only error is an allocation failure.
+/// Appends the tokens of the PAC (MS-PAC, 2.3, PACTYPE) that the octets are: of each buffer its type, its size and its offset in octets, and
+/// its octets. Where the buffers do not stand one behind another in the order of their entries, each with zeros behind it up to a multiple of
+/// eight, or other octets are there, the entries are shown, and then all octets. Octets that are no PAC are shown as octets. The only error
+/// is an allocation failure.
 pub fn show_pac(
     alloc: Global,
     label: &Label,
@@ -96,15 +269,15 @@ pub fn show_pac(
     ensures err { OnErr result (page.new.items ≡ page.old.items) }
 {
     match PacView::new(octets) {
-        Ok(pac) => show_buffers(alloc, label, &pac, page),
+        Ok(pac) => show_directory(alloc, label, octets, &pac, page),
         Err(_) => show_octets(alloc, label, octets, page),
     }
 }
 
-/// The page of the PAC that the octets are: its buffers, each as by `show_pac`, under the name `PAC`. Other octets are refused with their
+/// The page of the PAC that the octets are, as by `show_pac`, under the name `PAC`. Other octets are refused with their
 /// first error, as by `PacView::new`; an allocation failure is `OutOfMemory`, and comes only where they are a PAC.
 pub fn page_of_pac(alloc: Global, octets: &[u8]) -> Result<Page, PacError>
-    ensures found { IfOk result (λ page. (pac : List Buffer) × PacIs octets.now pac × buffers_of (plain (codes "PAC")) pac [] page.items) }
+    ensures found { IfOk result (λ page. (pac : List Buffer) × PacIs octets.now pac × directory_of (plain (codes "PAC")) octets.now pac [] page.items) }
     ensures reads { (pac : List Buffer) → PacIs octets.now pac → MatchResult result (λ page. Unit {0}) (λ e. e ≡ PacError.OutOfMemory) }
     ensures rejected { IfErr result (PacRejected octets.now) }
     ensures memory { IfErr result (λ e. e ≡ PacError.OutOfMemory → (pac : List Buffer) × PacIs octets.now pac) }
@@ -112,6 +285,6 @@ pub fn page_of_pac(alloc: Global, octets: &[u8]) -> Result<Page, PacError>
     let pac = PacView::new(octets)?;
     let label = Label::new("PAC");
     let mut page = Vec::new(alloc);
-    show_buffers(alloc, &label, &pac, &mut page)?;
+    show_directory(alloc, &label, octets, &pac, &mut page)?;
     Ok(page)
 }

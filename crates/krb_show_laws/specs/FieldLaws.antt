@@ -204,19 +204,3 @@ tells_optional {A} {is_value} {V} {shows} t label o p name h k = record {
     tells (Some v) (Some w) i j old before ts us a b known names d rest following fit m n same =
         let told = (t.tells label v w name i j).tells old before ts us a b known names d rest following refl m n same in
         (ap Some told.0, told.1)
-
--- two that are absent
-absent_blocks : {A : Type 0} (shows : A → List Token → List Token → Type 0) (o : Option A) → o ≡ None → Blocks (λ names. names) (optional_of shows o)
-absent_blocks shows None e = record { block = λ old new h. ([], h ∙ sym (append-nil old), record { level = λ d. refl; starts = λ names d rest f. f }) }
-absent_blocks shows (Some v) e = absurd (cc)
-
-pub tells_absent : {A : Type 0} (shows : A → List Token → List Token → Type 0) (o p : Option A) → o ≡ None → p ≡ None
-    → Tells (λ names. names) (λ names. true) (Unit {0}) (o ≡ p) (optional_of shows o) (optional_of shows p)
-tells_absent shows None None e f = record {
-  left = absent_blocks shows None refl;
-  right = absent_blocks shows None refl;
-  tells = λ old before ts us a b known names d rest following fit m n same.
-      (refl, sym (ap (λ (l : List Token). page_lines d l ++ rest) (nothing_added old ts a)) ∙ same ∙ ap (λ (l : List Token). page_lines d l ++ following) (nothing_added before us b));
-}
-tells_absent shows None (Some w) e f = absurd (cc)
-tells_absent shows (Some v) p e f = absurd (cc)

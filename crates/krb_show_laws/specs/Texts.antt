@@ -14,12 +14,3 @@ OneText {A} is_value shows = (v w : A) (page other : List Token) → is_value v 
 -- the same of values of a type and a way of showing it, under whatever name
 abbrev pub TextTells : {K A : Type 0} → EncodingOf A → ShowingOf A K → Type 0
 TextTells encoding showing = (label : Label) → is_name label.text ≡ true → OneText encoding.is_value (showing.shows label)
-
--- one page is that of both
-abbrev pub HaveOnePage : {A : Type 0} → (A → List Token → List Token → Type 0) → A → A → Type 0
-HaveOnePage shows v w = (page : List Token) × shows v [] page × shows w [] page
-
--- the same of those values of which this holds
-abbrev pub TextTellsWhere : {K A : Type 0} → (A → Type 0) → EncodingOf A → ShowingOf A K → Type 0
-TextTellsWhere is_told encoding showing =
-    (label : Label) → is_name label.text ≡ true → OneText (λ v. encoding.is_value v × is_told v) (showing.shows label)

@@ -1,12 +1,12 @@
 -- The checksum of the GSS-API in an authenticator tells its octets.
-use Rattle.std.proofs.Common.{◌≡◌, ◌≢◌, ◌⊎◌, ℕ, zero, suc, ◌<◌, ◌≤◌, ◌+◌, ◌*◌, ◌-◌, ◌%◌, nat_eq, Bool, true, false, ◌&&◌, inl, inr, refl, sym, ap, subst, ◌∙◌, pos, List, [], ◌∷◌, ◌++◌, length, take, drop, get_or, codes, Option, None, Some, length-drop, arith}
-use Rattle.std.proofs.lemmas.List.{append_assoc, append-nil, take-append-drop, drop-drop, get_or-drop}
+use Rattle.std.proofs.Common.{◌≡◌, ℕ, zero, suc, ◌<◌, ◌≤◌, ◌+◌, ◌*◌, ◌%◌, nat_eq, true, inl, inr, refl, sym, ap, subst, ◌∙◌, pos, List, [], ◌∷◌, ◌++◌, length, take, drop, codes, None, Some, length-drop, arith}
+use Rattle.std.proofs.lemmas.List.{take-append-drop, drop-drop, get_or-drop}
 use Rattle.std.specs.Prelude.{slice_index}
 use Rattle.byteorder.specs.Endian.{little_from, little_number}
 use Rattle.krb_der_core.specs.BitString.{Bits, IsBits}
 use Rattle.krb_der_core.specs.Encoding.{IsOctets}
 use Rattle.krb_names.specs.declared.kind.Kind.TheVariants.{GssFlag}
-use Rattle.krb_show.specs.Leaves.{flags_of, number_of, octets_of}
+use Rattle.krb_show.specs.Leaves.{octets_of}
 use Rattle.krb_show.specs.Pages.{◌then◌, struct_of}
 use Rattle.krb_show.specs.Text.{page_lines}
 use Rattle.krb_show.specs.Tokens.{Label, Token, of_kind, plain}
@@ -21,7 +21,7 @@ use Rattle.krb_show_messages.specs.GssChecksum.{delegates, dlgth, IsDelegation, 
 
 -- ---- numbers of octets, the lowest first, tell them
 
-little_shift : (i n x : ℕ) (xs : List ℕ) → little_from (suc i) n (x ∷ xs) ≡ little_from i n xs
+pub little_shift : (i n x : ℕ) (xs : List ℕ) → little_from (suc i) n (x ∷ xs) ≡ little_from i n xs
 little_shift i zero x xs = refl
 little_shift i (suc n) x xs = ap (λ k. slice_index xs i + 256 * k) (little_shift (suc i) n x xs)
 
@@ -43,10 +43,10 @@ pub by_parts : (n : ℕ) (xs ys : List ℕ) → take n xs ≡ take n ys → drop
 by_parts n xs ys e f =
     sym (take-append-drop n xs) ∙ ap (λ (l : List ℕ). l ++ drop n xs) e ∙ ap (λ (l : List ℕ). take n ys ++ l) f ∙ take-append-drop n ys
 
-dropped_octets : (n : ℕ) (xs : List ℕ) → IsOctets xs → IsOctets (drop n xs)
+pub dropped_octets : (n : ℕ) (xs : List ℕ) → IsOctets xs → IsOctets (drop n xs)
 dropped_octets n xs h i = subst (λ k. k < 256) (sym (get_or-drop n xs i 0)) (h (n + i))
 
-taken_octets : (n : ℕ) (xs : List ℕ) → IsOctets xs → IsOctets (take n xs)
+pub taken_octets : (n : ℕ) (xs : List ℕ) → IsOctets xs → IsOctets (take n xs)
 taken_octets zero xs h zero = omega arith
 taken_octets zero xs h (suc i) = omega arith
 taken_octets (suc n) [] h zero = omega arith

@@ -1,8 +1,7 @@
 -- The components of a name tell themselves.
-use Rattle.std.proofs.Common.{◌≡◌, ◌≢◌, ◌⊎◌, ℕ, suc, ◌<◌, ◌+◌, Bool, true, false, ◌==◌, ◌||◌, if◌then◌else◌, inl, inr, refl, sym, ap, subst, ◌∙◌, List, [], ◌∷◌, ◌++◌, length, Option, None, Some, arith}
-use Rattle.std.specs.List.{AllByRecursion, flat_map}
+use Rattle.std.proofs.Common.{◌≡◌, ◌≢◌, ℕ, suc, ◌<◌, true, inl, inr, refl, ap, List, [], ◌∷◌, ◌++◌, length, Option, None, Some, arith}
+use Rattle.std.specs.List.{AllByRecursion}
 use Rattle.std.specs.Str.{IsAscii}
-use Rattle.std.proofs.lemmas.List.{append-nil}
 use Rattle.std.proofs.lemmas.Grind.{common_steps}
 use Rattle.std.proofs.lemmas.Str.{IsAscii-append}
 use Rattle.std.proofs.lemmas.Str.Ascii.{IsAscii-nil, IsAscii-cons}
@@ -10,7 +9,7 @@ use Rattle.krb_view.specs.Principals.{quotation, marked, quoted_octet, quoted, a
 use Rattle.krb_view.proofs.Quoting.{one_principal}
 use Rattle.krb_show.specs.Leaves.{text_of}
 use Rattle.krb_show.specs.Pages.{list_of}
-use Rattle.krb_show.specs.Tokens.{Label, Token}
+use Rattle.krb_show.specs.Tokens.{Label}
 use Rattle.krb_show_laws.specs.Telling.{is_name}
 use Rattle.krb_show_laws.specs.Blocks.{Heads, Tells, TellsValues, IsList, IsLeaf}
 use Rattle.krb_show_laws.specs.FieldLaws.{tells_so}

@@ -1,5 +1,5 @@
 -- A choice of two that are shown under different names.
-use Rattle.std.proofs.Common.{◌≡◌, ◌⊎◌, ℕ, Bool, true, inl, inr, refl, sym, ap, ◌∙◌, List, [], ◌∷◌, ◌++◌}
+use Rattle.std.proofs.Common.{◌≡◌, ◌⊎◌, ℕ, true, inl, inr, sym, ap, List, [], ◌∷◌, ◌++◌}
 use Rattle.krb_der.specs.Choice.{IsChoice}
 use Rattle.krb_show.specs.Text.{page_lines}
 use Rattle.krb_show.specs.Tokens.{Label, Token}

@@ -1,5 +1,5 @@
 pub mod ChecksumLaws
 pub mod ComponentLaws
 pub mod HeldLaws
+pub mod NumberLaws
 pub mod PacLaws
-pub mod Pacs

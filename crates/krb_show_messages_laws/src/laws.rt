@@ -1,25 +1,28 @@
 //! Laws of the definitions.
 
-ghost use Rattle.std.specs.Prelude.{◌≡◌, ◌≢◌, None, pos};
-ghost use Rattle.krb_show.specs.Tokens.{Label};
-ghost use Rattle.krb_show_laws.specs.Texts.{HaveOnePage, TextTells, TextTellsWhere};
-ghost use Rattle.krb_show_messages_laws.specs.Pacs.{no_buffers, no_buffers_and_more};
+ghost use Rattle.krb_der_core.specs.Encoding.{IsOctets};
+ghost use Rattle.krb_show_formats.specs.Pac.{pac_of};
+ghost use Rattle.krb_show_laws.specs.Blocks.{TellsValues};
+ghost use Rattle.krb_show_laws.specs.Texts.{TextTells};
+ghost use Rattle.krb_show_messages_laws.specs.PacLaws.{IsPacHead};
 
-use crate::told::{Told, ToldWhere};
+use crate::told::Told;
 use krb_der::DerEncode;
-use krb_msg_app::messages::{ApRep, ApReq, KrbPriv, TgtRep, TgtReq};
+use krb_msg::messages::KrbError;
+use krb_msg_app::messages::{ApRep, ApReq, KrbCred, KrbPriv, TgtRep, TgtReq};
 use krb_msg_iakerb::messages::IAKerbHeader;
+use krb_msg_kdc::messages::{AsRep, AsReq, EncAsRepPart, EncTgsRepPart, TgsRep, TgsReq};
 use krb_msg_parts::data_types::{
-    EncApRepPart, EncKrbCredPart, EncKrbPrivPart, EncTicketPart, KrbCredInfo,
+    Authenticator, EncApRepPart, EncKrbCredPart, EncKrbPrivPart, EncTicketPart, KrbCredInfo,
 };
 use krb_msg_types::data_types::{
-    AuthorizationDataInner, ChangePasswdData, EncryptedData, EncryptionKey, EtypeInfo2Entry,
-    HostAddress, KerbAdRestrictionEntry, KerbErrorData, KerbPaPacRequest, LastReqInner, PaEncTsEnc,
-    PaPacOptions, PrincipalName, Ticket, TransitedEncoding,
+    AuthorizationDataInner, ChangePasswdData, Checksum, EncryptedData, EncryptionKey,
+    EtypeInfo2Entry, HostAddress, KerbAdRestrictionEntry, KerbErrorData, KerbPaPacRequest,
+    LastReqInner, PaData, PaEncTsEnc, PaPacOptions, PrincipalName, Ticket, TransitedEncoding,
 };
 use krb_pkinit::pkinit::{DhRepInfo, ExternalPrincipalIdentifier, PaPkAsRep, PaPkAsReq};
 use krb_show::Show;
-use krb_show_messages::Message;
+use krb_show_messages::{Message, Nested};
 use krb_show_pkinit::Certificate;
 
 /// Two values of such a type whose pages have one text are equal, under whatever name they are shown.
@@ -109,23 +112,48 @@ pub fn certificates()
     texts_tell_values::<Certificate, DhRepInfo>();
 }
 
-/// Two such values of a type of which some are told are equal where their pages have one text.
-pub fn texts_tell_some<K, T: ToldWhere<K>>()
-    ensures { TextTellsWhere T.is_told ⟦<T as DerEncode>⟧ ⟦<T as Show<K>>⟧ }
-{}
-
-/// Two opened tickets are equal where their pages have one text and neither has authorization data (RFC 4120, 5.3). `pacs_are_not_told` says
-/// why others need not be.
-pub fn without_authorization_data()
-    ensures { TextTellsWhere (λ v. v.authorization_data.0 ≡ None) ⟦<EncTicketPart as DerEncode>⟧ ⟦<EncTicketPart as Show<Message>>⟧ }
+/// The same of requests to a KDC and of its replies (RFC 4120, 5.4), of credentials that are passed on (5.8), and of errors (5.9).
+pub fn messages_of_a_kdc()
+    ensures as_req { TextTells ⟦<AsReq as DerEncode>⟧ ⟦<AsReq as Show<Message>>⟧ }
+    ensures as_rep { TextTells ⟦<AsRep as DerEncode>⟧ ⟦<AsRep as Show<Message>>⟧ }
+    ensures tgs_req { TextTells ⟦<TgsReq as DerEncode>⟧ ⟦<TgsReq as Show<Message>>⟧ }
+    ensures tgs_rep { TextTells ⟦<TgsRep as DerEncode>⟧ ⟦<TgsRep as Show<Message>>⟧ }
+    ensures enc_as_rep_part { TextTells ⟦<EncAsRepPart as DerEncode>⟧ ⟦<EncAsRepPart as Show<Message>>⟧ }
+    ensures enc_tgs_rep_part { TextTells ⟦<EncTgsRepPart as DerEncode>⟧ ⟦<EncTgsRepPart as Show<Message>>⟧ }
+    ensures krb_cred { TextTells ⟦<KrbCred as DerEncode>⟧ ⟦<KrbCred as Show<Message>>⟧ }
+    ensures krb_error { TextTells ⟦<KrbError as DerEncode>⟧ ⟦<KrbError as Show<Message>>⟧ }
+    ensures pa_data { TextTells ⟦<PaData as DerEncode>⟧ ⟦<PaData as Show<Message>>⟧ }
 {
-    texts_tell_some::<Message, EncTicketPart>();
+    texts_tell_values::<Message, AsReq>();
+    texts_tell_values::<Message, AsRep>();
+    texts_tell_values::<Message, TgsReq>();
+    texts_tell_values::<Message, TgsRep>();
+    texts_tell_values::<Message, EncAsRepPart>();
+    texts_tell_values::<Message, EncTgsRepPart>();
+    texts_tell_values::<Message, KrbCred>();
+    texts_tell_values::<Message, KrbError>();
+    texts_tell_values::<Message, PaData>();
 }
 
-/// What is not told: octets of a PAC (MS-PAC, 2.3) that no entry names, since a PAC is shown as its buffers. So two elements of
-/// authorization data have one page: eight octets `00` under the type 128 (AD-WIN2K-PAC), a PAC of no buffer, and nine.
-pub fn pacs_are_not_told()
-    ensures one_page { (label : Label) → HaveOnePage (⟦<AuthorizationDataInner as Show<Message>>⟧.shows label)
-        (record { ad_type = pos 128; ad_data = no_buffers }) (record { ad_type = pos 128; ad_data = no_buffers_and_more }) }
-    ensures other_octets { no_buffers ≢ no_buffers_and_more }
+/// The same of what holds authorization data: opened tickets (RFC 4120, 5.3), authenticators (5.5.1) and its elements (5.2.6), those in
+/// another element too.
+pub fn authorization()
+    ensures enc_ticket_part { TextTells ⟦<EncTicketPart as DerEncode>⟧ ⟦<EncTicketPart as Show<Message>>⟧ }
+    ensures authenticator { TextTells ⟦<Authenticator as DerEncode>⟧ ⟦<Authenticator as Show<Message>>⟧ }
+    ensures element { TextTells ⟦<AuthorizationDataInner as DerEncode>⟧ ⟦<AuthorizationDataInner as Show<Message>>⟧ }
+    ensures nested { TextTells ⟦<AuthorizationDataInner as DerEncode>⟧ ⟦<AuthorizationDataInner as Show<Nested>>⟧ }
+    ensures checksum { TextTells ⟦<Checksum as DerEncode>⟧ ⟦<Checksum as Show<Message>>⟧ }
+{
+    texts_tell_values::<Message, EncTicketPart>();
+    texts_tell_values::<Message, Authenticator>();
+    texts_tell_values::<Message, AuthorizationDataInner>();
+    texts_tell_values::<Nested, AuthorizationDataInner>();
+    texts_tell_values::<Message, Checksum>();
+}
+
+/// Octets that are a PAC (MS-PAC, 2.3) or none are told by the text in which `show_pac` shows them, whatever lines follow: octets that no entry
+/// names among them.
+#[tactic(auto, using(crate::specs::PacLaws::tells_pac))]
+pub fn pacs()
+    ensures { TellsValues IsOctets IsPacHead pac_of }
 {}

@@ -4,19 +4,33 @@
 //! which stand in other files.
 #![tactic(auto)]
 
-mod absent;
 mod application;
+mod authenticators;
+mod authorization;
+mod authorization_elements;
+mod authorization_values;
+mod bodies;
+mod checksum_values;
+mod checksums;
+mod credentials;
+mod errors;
 mod headers;
 mod identifiers;
 pub mod laws;
 mod names;
+mod nested;
+mod opened_tickets;
 mod others;
+mod padata;
+mod padata_values;
 mod parts;
 mod parts_of_lists;
 mod pkinit;
 mod pre_authentication;
+mod replies;
+mod requests;
 mod shared;
 mod tickets;
 mod told;
 
-pub use told::{Told, ToldWhere};
+pub use told::{Told, ToldByNumber};
