@@ -16,5 +16,7 @@ pub use number::{LengthSize, counted_at, length_at, twice_at, u8_at, u16_at, u32
 pub use principal::{ComponentsView, PrincipalView, principal_at};
 pub use typed::{TypedListView, TypedOctets, typed_at, typed_list_at};
 pub use writing::{
-    PrincipalParts, fits, fits_principal, push_counted, push_number, push_octet, push_principal,
+    PrincipalParts, fits, fits_each_typed, fits_principal, fits_typed_list, push_counted,
+    push_each_typed, push_number, push_octet, push_principal, push_twice, push_typed,
+    push_typed_list,
 };

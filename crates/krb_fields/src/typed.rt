@@ -1,11 +1,13 @@
 //! Octets behind the number of their type.
 
-ghost use Rattle.std.specs.Prelude.{◌≡◌};
+ghost use Rattle.std.specs.Prelude.{◌≡◌, ◌↔◌, IsTrue};
 ghost use Rattle.std.specs.Iterator.{YieldsFirst, item_count};
 ghost use Rattle.krb_fields.specs.Reading.{Gives, list_at, shown_list, size_of, typed_at as typed_octets_at, typed_list_at as typed_octets_list_at};
+ghost use Rattle.krb_fields.specs.Written.{FitsTyped};
 
 use crate::error::FieldError;
 use crate::number::{LengthSize, counted_at, u16_at, u32_at};
+use crate::writing::fits;
 use std::marker::Model;
 
 /// Octets and the number of their type.
@@ -16,11 +18,14 @@ pub struct TypedOctets<'a> {
 }
 
 impl<'a> Model for TypedOctets<'a> {
+    ghost use Rattle.std.specs.Prelude.{◌<◌, ◌^◌};
     ghost use Rattle.krb_fields.specs.Reading.{Typed};
 
     ghost Value = { Typed };
 
     ghost view = { λ t. record { kind = t.kind; octets = t.octets.now } };
+
+    ghost invariant = { λ t. t.kind < 2 ^ 16 };
 }
 
 impl<'a> TypedOctets<'a> {
@@ -43,6 +48,13 @@ impl<'a> TypedOctets<'a> {
         ensures { result.now ≡ self.now.octets }
     {
         self.octets
+    }
+
+    /// Whether the length of the octets has a place in a field of this size.
+    pub fn fits(&self, size: LengthSize) -> bool
+        ensures { IsTrue result ↔ FitsTyped (size_of size) self.now }
+    {
+        fits(size, self.octets.len())
     }
 }
 

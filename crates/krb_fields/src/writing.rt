@@ -1,12 +1,14 @@
 //! Writing of fields at the end of a vector.
 
 ghost use Rattle.std.specs.Prelude.{◌≡◌, ◌++◌, ◌<◌, ◌^◌, ◌↔◌, IsTrue, length, OnOk};
+ghost use Rattle.std.specs.List.{flat_map, AllByRecursion};
 ghost use Rattle.byteorder.specs.Endian.{big_bytes};
 ghost use Rattle.krb_fields.specs.Principals.{principal_of};
 ghost use Rattle.krb_fields.specs.Reading.{size_of};
-ghost use Rattle.krb_fields.specs.Written.{counted_octets, principal_octets, FitsPrincipal};
+ghost use Rattle.krb_fields.specs.Written.{counted_octets, principal_octets, twice_octets, typed_octets, typed_list_octets, FitsPrincipal, FitsTyped, FitsTypedList};
 
 use crate::number::LengthSize;
+use crate::typed::TypedOctets;
 use std::alloc::AllocError;
 
 /// A realm and the components of a principal, each as octets.
@@ -88,4 +90,68 @@ pub fn push_principal(
         push_counted(out, size, component)?;
     }
     Ok(())
+}
+
+/// Appends octets behind their type of 16 bits and their length.
+pub fn push_typed(
+    out: &mut Vec<u8>,
+    size: LengthSize,
+    typed: &TypedOctets,
+) -> Result<(), AllocError>
+    requires { FitsTyped (size_of size) typed.now }
+    ensures { OnOk result (out.new.items ≡ out.old.items ++ typed_octets (size_of size) typed.now) }
+{
+    push_number(out, LengthSize::Two, u32::from(typed.kind()))?;
+    push_counted(out, size, typed.octets())
+}
+
+/// Appends a number of 16 bits twice.
+pub fn push_twice(out: &mut Vec<u8>, number: u16) -> Result<(), AllocError>
+    ensures { OnOk result (out.new.items ≡ out.old.items ++ twice_octets number) }
+{
+    push_number(out, LengthSize::Two, u32::from(number))?;
+    push_number(out, LengthSize::Two, u32::from(number))
+}
+
+/// Whether the length of each of these octets has a place in a field of this size.
+pub fn fits_each_typed(size: LengthSize, list: &[TypedOctets]) -> bool
+    ensures { IsTrue result ↔ AllByRecursion (FitsTyped (size_of size)) list.now }
+{
+    'typed: for typed in list {
+        if !typed.fits(size) {
+            return false;
+        }
+    }
+    true
+}
+
+/// Appends octets one after the other, each behind their type of 16 bits and their length.
+pub fn push_each_typed(
+    out: &mut Vec<u8>,
+    size: LengthSize,
+    list: &[TypedOctets],
+) -> Result<(), AllocError>
+    requires { AllByRecursion (FitsTyped (size_of size)) list.now }
+    ensures { OnOk result (out.new.items ≡ out.old.items ++ flat_map (typed_octets (size_of size)) list.now) }
+{
+    'typed: for typed in list {
+        push_typed(out, size, typed)?;
+    }
+    Ok(())
+}
+
+/// Whether the count of a list and the length of each of its octets has a place in a field of 32 bits.
+pub fn fits_typed_list(list: &[TypedOctets]) -> bool
+    ensures { IsTrue result ↔ FitsTypedList list.now }
+{
+    fits(LengthSize::Four, list.len()) && fits_each_typed(LengthSize::Four, list)
+}
+
+/// Appends a list: its count of 32 bits, and its octets, each behind their type of 16 bits and their length of 32 bits.
+pub fn push_typed_list(out: &mut Vec<u8>, list: &[TypedOctets]) -> Result<(), AllocError>
+    requires { FitsTypedList list.now }
+    ensures { OnOk result (out.new.items ≡ out.old.items ++ typed_list_octets list.now) }
+{
+    push_number(out, LengthSize::Four, list.len() as u32)?;
+    push_each_typed(out, LengthSize::Four, list)
 }
