@@ -1,3 +1,4 @@
 pub mod Credentials
 pub mod Steps
 pub mod Whole
+pub mod Writes

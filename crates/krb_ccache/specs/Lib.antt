@@ -1,3 +1,4 @@
 pub mod Ccache
 pub mod Config
 pub mod Reading
+pub mod Written

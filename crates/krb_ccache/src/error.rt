@@ -1,9 +1,11 @@
-//! Why octets are no credential cache.
+//! Why octets are no credential cache, and why a cache was not written.
 
 ghost use Rattle.std.specs.Prelude.{◌≡◌};
 ghost use Rattle.krb_ccache.specs.declared.error.CcacheError.TheVariants as errors;
+ghost use Rattle.krb_ccache.specs.declared.error.CcacheWriteError.TheVariants as write_errors;
 
 use krb_fields::FieldError;
+use std::alloc::AllocError;
 use thiserror::Error;
 
 /// Why octets were not read as a credential cache.
@@ -22,5 +24,27 @@ impl From<FieldError> for CcacheError {
 
     fn from(error: FieldError) -> CcacheError {
         CcacheError::InvalidField(error)
+    }
+}
+
+/// Why a credential cache or a credential was not written.
+#[derive(Clone, Copy, Debug, PartialEq, Eq, Error)]
+pub enum CcacheWriteError {
+    /// A header's field was given for a cache of version 3, which has no header.
+    #[error("a cache of version 3 has no header")]
+    HeaderInVersion3,
+    /// A length or a count does not fit its field.
+    #[error("a length or a count does not fit its field")]
+    TooLong,
+    /// An allocation failed.
+    #[error("out of memory")]
+    OutOfMemory,
+}
+
+impl From<AllocError> for CcacheWriteError {
+    ghost from_gives = { λ _ e. e ≡ write_errors.OutOfMemory };
+
+    fn from(_error: AllocError) -> CcacheWriteError {
+        CcacheWriteError::OutOfMemory
     }
 }

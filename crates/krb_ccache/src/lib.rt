@@ -10,8 +10,10 @@ mod error;
 pub mod laws;
 mod principal;
 mod view;
+mod writing;
 
 pub use credential::{CredentialView, Times};
-pub use error::CcacheError;
+pub use error::{CcacheError, CcacheWriteError};
 pub use principal::CcachePrincipalView;
 pub use view::{CcacheVersion, CcacheView, CredentialsView, HeaderFieldsView};
+pub use writing::{CcachePrincipalParts, NewCcache, NewCredential, push_credential, write};
