@@ -8,7 +8,7 @@ use Rattle.byteorder.specs.Endian.{big_bytes}
 use Rattle.krb_fields.specs.Reading.{Typed}
 use Rattle.krb_fields.specs.Written.{counted_octets, typed_list_octets}
 use Rattle.krb_ccache.specs.Ccache.{Credential, Ccache, version_octet, principal_octets, etype_octets, times_octets, credential_octets, header_octets, ccache_octets, FitsHeader, FitsCredential, FitsPrincipal, FitsCcache, CcacheIs}
-use Rattle.krb_ccache.specs.Written.{front_octets, back_octets, head_octets, HasHeader, CredentialIsRefused, IsRefused}
+use Rattle.krb_ccache.specs.Written.{front_octets, back_octets, head_octets, with_credential, HasHeader, CredentialIsRefused, IsRefused}
 use Rattle.krb_ccache.specs.declared.error.CcacheWriteError.{CcacheWriteError}
 use Rattle.krb_ccache.specs.declared.error.CcacheWriteError.TheVariants.{HeaderInVersion3, TooLong, OutOfMemory}
 use Rattle.krb_ccache.specs.declared.view.CcacheVersion.{CcacheVersion}
@@ -77,3 +77,24 @@ pub refused : {X : Type 0} (c : Ccache) (f : X → Credential) (xs : List X) (i 
 refused c f xs i x e lt is header r =
     refused_of (cache_of c (map f xs)) (f x) e header
     (λ fits. subst (λ y. FitsCredential (f y)) (sym is) (All-from_recursion (λ y. FitsCredential (f y)) xs (under FitsCredential f xs fits.credentials) i x lt)) r
+
+-- ---- a credential more
+
+regroup : (h p a z : List ℕ) → (h ++ (p ++ a)) ++ z ≡ h ++ (p ++ (a ++ z))
+regroup h p a z = simp append_assoc
+
+last_fits : {X : Type 0} (P : X → Type 0) (xs : List X) (x : X) → AllByRecursion P xs → P x → AllByRecursion P (xs ++ x ∷ [])
+last_fits P [] x all h = (h, tt)
+last_fits P (y ∷ xs) x all h = (all.0, last_fits P xs x all.1 h)
+
+pub appended : (b : List ℕ) (c : Ccache) (x : Credential) → CcacheIs b c → FitsCredential x → CcacheIs (b ++ credential_octets c.version x) (with_credential c x)
+appended b c x is fits =
+    let octets = credential_octets c.version in
+    let all : flat_map octets (c.credentials ++ x ∷ []) ≡ flat_map octets c.credentials ++ octets x =
+    flat_map-append octets c.credentials (x ∷ []) ∙ ap (λ l. flat_map octets c.credentials ++ l) (append-nil (octets x)) in
+    (
+      ap (λ l. l ++ octets x) is.0
+      ∙ ap (λ (l : List ℕ). 5 ∷ version_octet c.version ∷ l) (regroup (header_octets c.version c.header) (principal_octets c.principal) (flat_map octets c.credentials) (octets x))
+      ∙ ap (λ (l : List ℕ). 5 ∷ version_octet c.version ∷ (header_octets c.version c.header ++ (principal_octets c.principal ++ l))) (sym all),
+      record { header = is.1.header; principal = is.1.principal; credentials = last_fits FitsCredential c.credentials x is.1.credentials fits },
+    )

@@ -8,11 +8,12 @@ use Rattle.krb_ccache.specs.declared.credential.Times.{Times}
 use Rattle.krb_ccache.specs.declared.view.CcacheVersion.{CcacheVersion}
 use Rattle.krb_ccache.specs.declared.view.CcacheVersion.TheVariants.{Three, Four}
 
--- a principal and the type of its name
+-- "Principal format": a principal and the type of its name
 pub record TypedPrincipal : Type 0 where
   pub name_type : ℕ
   pub principal : Principal
 
+-- "Credential format"
 pub record Credential : Type 0 where
   pub client : TypedPrincipal
   pub server : TypedPrincipal
@@ -38,24 +39,27 @@ abbrev pub version_octet : CcacheVersion → ℕ
 version_octet Three = 3
 version_octet Four = 4
 
--- name type, and then how many components there are, realm and components
+-- "Principal format": name type, and then how many components there are, realm and components
 abbrev pub principal_octets : TypedPrincipal → List ℕ
 principal_octets p = big_bytes 4 p.name_type ++ name_octets 4 p.principal
 
--- "enctype (16 bits) [repeated twice in version 3]"
+-- "Credential format": "enctype (16 bits) [repeated twice in version 3]"
 abbrev pub etype_octets : CcacheVersion → ℕ → List ℕ
 etype_octets Three etype = twice_octets etype
 etype_octets Four etype = big_bytes 2 etype
 
+-- "Credential format": authtime, starttime, endtime and renew_till, of 32 bits each
 abbrev pub times_octets : Times → List ℕ
 times_octets t = big_bytes 4 t.authtime ++ (big_bytes 4 t.starttime ++ (big_bytes 4 t.endtime ++ big_bytes 4 t.renew_till))
 
+-- "Credential format": client, server, encryption type and key, times, is_skey of one octet, flags, addresses, authorization data, ticket,
+-- second ticket
 abbrev pub credential_octets : CcacheVersion → Credential → List ℕ
 credential_octets v c =
     principal_octets c.client ++ (principal_octets c.server ++ (etype_octets v c.etype ++ (counted_octets 4 c.key ++ (times_octets c.times ++ (big_bytes 1 c.is_skey
     ++ (big_bytes 4 c.flags ++ (typed_list_octets c.addresses ++ (typed_list_octets c.authorization_data ++ (counted_octets 4 c.ticket ++ counted_octets 4 c.second_ticket)))))))))
 
--- "The header appears only in format version 4": its length, and fields of a tag, a length and octets
+-- "Header format": "The header appears only in format version 4": its length, and fields of a tag, a length and octets
 abbrev pub header_octets : CcacheVersion → List Typed → List ℕ
 header_octets Three fields = []
 header_octets Four fields = counted_octets 2 (flat_map (typed_octets 2) fields)

@@ -59,7 +59,7 @@ head_octets c = 5 ∷ version_octet c.version ∷ (header_octets c.version c.hea
 
 -- ---- what is refused
 
--- "The header appears only in format version 4": the version has a place for these fields, however long
+-- "Header format": "The header appears only in format version 4": the version has a place for these fields, however long
 abbrev pub HasHeader : CcacheVersion → List Typed → Type 0
 HasHeader Three fields = fields ≡ []
 HasHeader Four fields = Unit {0}
@@ -81,3 +81,9 @@ abbrev pub IsRefused : Ccache → CcacheWriteError → Type 0
 IsRefused c HeaderInVersion3 = HasHeader c.version c.header → ⊥
 IsRefused c TooLong = HasHeader c.version c.header × (FitsCcache c → ⊥)
 IsRefused c OutOfMemory = Unit {0}
+
+-- ---- a credential more
+
+-- the cache with this credential behind the others
+abbrev pub with_credential : Ccache → Credential → Ccache
+with_credential c x = record c { credentials = c.credentials ++ x ∷ [] }
