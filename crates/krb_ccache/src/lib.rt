@@ -5,6 +5,7 @@
 //! opened here.
 #![tactic(auto)]
 
+mod collected;
 mod credential;
 mod error;
 pub mod laws;
@@ -12,6 +13,7 @@ mod principal;
 mod view;
 mod writing;
 
+pub use collected::{CollectedCredential, CollectedPrincipal};
 pub use credential::{CredentialView, Times};
 pub use error::{CcacheError, CcacheWriteError};
 pub use principal::CcachePrincipalView;
