@@ -1,8 +1,9 @@
 -- What is written is a keytab of the same entries, and a keytab of plain records is written as it was.
-use Rattle.std.proofs.Common.{◌≡◌, ℕ, ◌%◌, ◌^◌, ◌<◌, ◌≤◌, ◌⊎◌, inl, inr, Bool, true, false, cond, eqb, List, [], ◌∷◌, ◌++◌, length, map, take, get_or, refl, sym, ap, subst, ◌∙◌, arith}
+use Rattle.std.proofs.Common.{◌≡◌, ℕ, ◌%◌, ◌^◌, ◌<◌, ◌≤◌, ◌⊎◌, inl, inr, Bool, true, false, cond, eqb, List, [], ◌∷◌, ◌++◌, length, map, take, get_or, refl, sym, ap, subst, ◌∙◌, append_assoc, arith}
 use Rattle.std.specs.List.{flat_map, AllByRecursion}
 use Rattle.std.proofs.lemmas.Bool.{eqb-true}
 use Rattle.std.proofs.lemmas.List.{append-nil, take_all}
+use Rattle.std.proofs.lemmas.Grind.{flat_map-append}
 use Rattle.std.proofs.lemmas.List.Concat.{flat_map-cons}
 use Rattle.std.proofs.lemmas.List.Elements.{All-from_recursion}
 use Rattle.byteorder.specs.Endian.{big_number, big_bytes}
@@ -90,3 +91,31 @@ written_back b es k none plain =
     ap keytab_octets (sym k.shown)
     ∙ ap (λ (l : List ℕ). 5 ∷ 2 ∷ l) (plain_records k.records plain ∙ sym (append-nil (flat_map record_octets k.records)) ∙ ap (λ (l : List ℕ). flat_map record_octets k.records ++ l) (sym none))
     ∙ sym k.octets
+
+-- ---- an entry more
+
+entries_more : (rs : List Record) (e : Entry) → e.kvno < 2 ^ 32 → entries_of (rs ++ written_record e ∷ []) ≡ entries_of rs ++ e ∷ []
+entries_more [] e lt = ap (λ (x : Entry). x ∷ []) (entry_again e lt)
+entries_more (live f rest ∷ rs) e lt = ap (λ (l : List Entry). entry_of f rest ∷ l) (entries_more rs e lt)
+entries_more (hole octets ∷ rs) e lt = entries_more rs e lt
+
+last_fits : (rs : List Record) (r : Record) → AllByRecursion FitsRecord rs → FitsRecord r → AllByRecursion FitsRecord (rs ++ r ∷ [])
+last_fits [] r all h = (h, tt)
+last_fits (x ∷ rs) r all h = (all.0, last_fits rs r all.1 h)
+
+pub appended : (b : List ℕ) (es : List Entry) (e : Entry) (k : KeytabIs b es) → k.end ≡ [] → FitsEntry e → KeytabIs (b ++ entry_octets e) (es ++ e ∷ [])
+appended b es e k none fits =
+    let front = flat_map record_octets k.records in
+    let all : flat_map record_octets (k.records ++ written_record e ∷ []) ≡ front ++ entry_octets e =
+    flat_map-append record_octets k.records (written_record e ∷ []) ∙ ap (λ (l : List ℕ). front ++ l) (append-nil (entry_octets e)) in
+    let whole : b ≡ 5 ∷ 2 ∷ front = k.octets ∙ ap (λ (l : List ℕ). 5 ∷ 2 ∷ (front ++ l)) none ∙ ap (λ (l : List ℕ). 5 ∷ 2 ∷ l) (append-nil front) in
+    record {
+      records = k.records ++ written_record e ∷ [];
+      end = [];
+      octets =
+          ap (λ (l : List ℕ). l ++ entry_octets e) whole
+          ∙ ap (λ (l : List ℕ). 5 ∷ 2 ∷ l) (sym all ∙ sym (append-nil (flat_map record_octets (k.records ++ written_record e ∷ []))));
+      ends = inl refl;
+      fits = last_fits k.records (written_record e) k.fits fits.0;
+      shown = entries_more k.records e fits.1 ∙ ap (λ (l : List Entry). l ++ e ∷ []) k.shown;
+    }

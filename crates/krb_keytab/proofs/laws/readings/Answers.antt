@@ -3,7 +3,7 @@ use Rattle.krb_fields.specs.Laws.{ok_is}
 use Rattle.krb_keytab.specs.declared.error.KeytabError.{KeytabError}
 use Rattle.krb_keytab.specs.Written.{keytab_octets}
 use Rattle.krb_keytab.proofs.Whole.{keytab_again}
-use Rattle.krb_keytab.proofs.Writes.{written_is, written_back}
+use Rattle.krb_keytab.proofs.Writes.{written_is, written_back, appended}
 use Rattle.krb_keytab.proofs.laws.readings.Goals as goal
 
 pub returns-clause-one : goal.returns-clause-one
@@ -14,3 +14,6 @@ returns-clause-written c = λ es fits. written_is (keytab_octets es) es refl fit
 
 pub returns-clause-written_back : goal.returns-clause-written_back
 returns-clause-written_back c = written_back
+
+pub returns-clause-appended : goal.returns-clause-appended
+returns-clause-appended c = appended
