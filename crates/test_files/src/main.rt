@@ -2,15 +2,24 @@
 //!
 //! Its standard input is a table. A row is a line of an origin, `keytab` or `ccache`, and octets in hexadecimal digits, with tabs between; a
 //! line that begins with `#` is a comment. For each row the program prints a line of the origin and the kind, and then each entry or
-//! credential, or the error. Octets are printed in hexadecimal digits.
+//! credential, or the error. Behind the entries or credentials it prints what the library writes of them. Octets are printed in
+//! hexadecimal digits.
 #![tactic(auto)]
+
+#[cfg(test)]
+mod built_ccache;
+#[cfg(test)]
+mod built_keytab;
+mod written;
 
 use krb_ccache::{CcachePrincipalView, CcacheVersion, CcacheView, CredentialView};
 use krb_fields::{ComponentsView, TypedOctets};
 use krb_keytab::{EntryView, KeytabView};
 use std::alloc::{AllocError, Global};
+use std::fmt::Debug;
 use std::io;
 use std::io::{BufRead, BufReader};
+use written::{written_ccache, written_keytab};
 
 /// A realm and components.
 fn name_text(
@@ -39,6 +48,20 @@ fn entry_text(alloc: Global, entry: &EntryView) -> Result<String, AllocError> {
     )
 }
 
+/// What is printed of octets that were written, or of the error.
+fn written_text<E: Debug + Drop>(
+    alloc: Global,
+    written: Result<Vec<u8>, E>,
+) -> Result<String, AllocError> {
+    match written {
+        Ok(octets) => {
+            let digits = hex::encode(alloc, &octets)?;
+            format!(in alloc; "written {digits}\n")
+        }
+        Err(error) => format!(in alloc; "{error:?}\n"),
+    }
+}
+
 /// What is printed of a keytab.
 fn keytab_text(alloc: Global, octets: &[u8]) -> Result<String, AllocError> {
     match KeytabView::new(octets) {
@@ -47,6 +70,7 @@ fn keytab_text(alloc: Global, octets: &[u8]) -> Result<String, AllocError> {
             for entry in keytab.entries() {
                 text.push_str(entry_text(alloc, &entry)?.as_str())?;
             }
+            text.push_str(written_text(alloc, written_keytab(alloc, &keytab))?.as_str())?;
             Ok(text)
         }
         Err(error) => format!(in alloc; "{error:?}\n"),
@@ -129,6 +153,7 @@ fn ccache_text(alloc: Global, octets: &[u8]) -> Result<String, AllocError> {
             for credential in cache.credentials() {
                 text.push_str(credential_text(alloc, &credential)?.as_str())?;
             }
+            text.push_str(written_text(alloc, written_ccache(alloc, &cache))?.as_str())?;
             Ok(text)
         }
         Err(error) => format!(in alloc; "{error:?}\n"),
