@@ -1,12 +1,11 @@
 -- What is written part by part, and what is refused.
-use Rattle.std.proofs.Common.{◌≡◌, ℕ, ◌+◌, ◌<◌, ◌≤◌, List, [], ◌∷◌, ◌++◌, length, map, take, get_or, All, refl, sym, ap, subst, ◌∙◌, append_assoc}
+use Rattle.std.proofs.Common.{◌≡◌, ℕ, ◌+◌, ◌<◌, ◌≤◌, List, [], ◌∷◌, ◌++◌, length, map, take, get_or, All, sym, ap, subst, ◌∙◌, append_assoc}
 use Rattle.std.specs.List.{flat_map, AllByRecursion}
 use Rattle.std.proofs.lemmas.Grind.{flat_map-append}
 use Rattle.std.proofs.lemmas.List.{append-nil, map-append, take_all, take_more}
 use Rattle.std.proofs.lemmas.List.Elements.{All-from_recursion, recursion_from_All, All-map, All-more, All-same}
-use Rattle.byteorder.specs.Endian.{big_bytes}
 use Rattle.krb_fields.specs.Reading.{Typed}
-use Rattle.krb_fields.specs.Written.{counted_octets, typed_list_octets}
+use Rattle.krb_fields.specs.Written.{counted_octets}
 use Rattle.krb_ccache.specs.Ccache.{Credential, Ccache, version_octet, principal_octets, etype_octets, times_octets, credential_octets, header_octets, ccache_octets, FitsHeader, FitsCredential, FitsPrincipal, FitsCcache, CcacheIs}
 use Rattle.krb_ccache.specs.Written.{front_octets, back_octets, head_octets, with_credential, HasHeader, CredentialIsRefused, IsRefused}
 use Rattle.krb_ccache.specs.declared.error.CcacheWriteError.{CcacheWriteError}
@@ -91,10 +90,9 @@ pub appended : (b : List ℕ) (c : Ccache) (x : Credential) → CcacheIs b c →
 appended b c x is fits =
     let octets = credential_octets c.version in
     let all : flat_map octets (c.credentials ++ x ∷ []) ≡ flat_map octets c.credentials ++ octets x =
-    flat_map-append octets c.credentials (x ∷ []) ∙ ap (λ l. flat_map octets c.credentials ++ l) (append-nil (octets x)) in
-    (
+    flat_map-append octets c.credentials (x ∷ []) ∙ ap (λ l. flat_map octets c.credentials ++ l) (append-nil (octets x)) in (
       ap (λ l. l ++ octets x) is.0
-      ∙ ap (λ (l : List ℕ). 5 ∷ version_octet c.version ∷ l) (regroup (header_octets c.version c.header) (principal_octets c.principal) (flat_map octets c.credentials) (octets x))
-      ∙ ap (λ (l : List ℕ). 5 ∷ version_octet c.version ∷ (header_octets c.version c.header ++ (principal_octets c.principal ++ l))) (sym all),
+          ∙ ap (λ (l : List ℕ). 5 ∷ version_octet c.version ∷ l) (regroup (header_octets c.version c.header) (principal_octets c.principal) (flat_map octets c.credentials) (octets x))
+          ∙ ap (λ (l : List ℕ). 5 ∷ version_octet c.version ∷ (header_octets c.version c.header ++ (principal_octets c.principal ++ l))) (sym all),
       record { header = is.1.header; principal = is.1.principal; credentials = last_fits FitsCredential c.credentials x is.1.credentials fits },
     )

@@ -1,11 +1,10 @@
 -- What is written of a credential cache, and what is refused (MIT Kerberos, "Credential cache file format").
 use Rattle.std.specs.Prelude.{◌≡◌, ℕ, List, [], ◌∷◌, ◌++◌, map}
-use Rattle.std.specs.List.{flat_map, AllByRecursion}
 use Rattle.byteorder.specs.Endian.{big_bytes}
 use Rattle.krb_fields.specs.Principals.{principal_of as name_of}
 use Rattle.krb_fields.specs.Reading.{Typed}
 use Rattle.krb_fields.specs.Written.{counted_octets, typed_list_octets}
-use Rattle.krb_ccache.specs.Ccache.{TypedPrincipal, Credential, Ccache, version_octet, principal_octets, etype_octets, times_octets, header_octets, FitsPrincipal, FitsHeader, FitsCredential, FitsCcache}
+use Rattle.krb_ccache.specs.Ccache.{TypedPrincipal, Credential, Ccache, version_octet, principal_octets, etype_octets, times_octets, header_octets, FitsHeader, FitsCredential, FitsCcache}
 use Rattle.krb_ccache.specs.declared.error.CcacheWriteError.{CcacheWriteError}
 use Rattle.krb_ccache.specs.declared.error.CcacheWriteError.TheVariants.{HeaderInVersion3, TooLong, OutOfMemory}
 use Rattle.krb_ccache.specs.declared.view.CcacheVersion.{CcacheVersion}

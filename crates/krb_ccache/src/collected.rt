@@ -134,7 +134,10 @@ impl<'a> CredentialView<'a> {
 }
 
 /// The components, in their order.
-fn components_of<'a>(alloc: Global, components: ComponentsView<'a>) -> Result<Vec<&'a [u8]>, AllocError>
+fn components_of<'a>(
+    alloc: Global,
+    components: ComponentsView<'a>,
+) -> Result<Vec<&'a [u8]>, AllocError>
     ensures { IfOk result (λ v. map (λ x. x.now) v.items ≡ components.entry) }
 {
     components.collect(alloc)

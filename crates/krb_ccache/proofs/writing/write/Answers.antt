@@ -13,7 +13,7 @@ returns-in_err-push_credential-clause-err c =
 pub credentials-preserved : goal.credentials-preserved
 credentials-preserved c = (
   more_octets (credential_octets c.args.cache.now.version) credential_from c.args.cache.now.credentials.now c.credentials.credential-index c.credential-item.result
-  (head_octets (ccache_from c.args.cache.now)) c.credentials.out.items c.push_credential.new.out.items c.credentials-test.true c.credential-item.is c.credentials.invariant.0 c.in_ok-push_credential.ensures.ok,
+      (head_octets (ccache_from c.args.cache.now)) c.credentials.out.items c.push_credential.new.out.items c.credentials-test.true c.credential-item.is c.credentials.invariant.0 c.in_ok-push_credential.ensures.ok,
   more_fit FitsCredential credential_from c.args.cache.now.credentials.now c.credentials.credential-index c.credential-item.result c.credentials-test.true c.credential-item.is c.in_ok-push_credential.ensures.fits c.credentials.invariant.1,
 )
 
