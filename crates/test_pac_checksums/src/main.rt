@@ -1,0 +1,116 @@
+//! The program `test_pac_checksums`: verifies the checksums of real PACs, and of each of these with one bit flipped.
+//!
+//! Its standard input is a table. A row is a line of an origin, a key and a PAC in hexadecimal digits, with tabs between; a line that begins
+//! with `#` is a comment. For each row the program prints the origin, what is known of the checksums of the server, of the KDC and of the
+//! whole PAC under this key, and of how many PACs that differ from this one in one bit the server's checksum holds, and all that are
+//! there.
+#![tactic(auto)]
+
+use krb_pac_checksums::{Verdict, full_verdict, kdc_verdict, server_verdict};
+use krb_pac_signatures::PacSignatures;
+use std::alloc::{AllocError, Global};
+use std::io;
+use std::io::{BufRead, BufReader};
+
+/// What is known of the three checksums.
+#[derive(Drop)]
+struct Verdicts {
+    server: Verdict,
+    kdc: Verdict,
+    full: Verdict,
+}
+
+/// What is known of the checksums of a PAC; `None` where the octets are none, or have no signatures that can be read.
+fn verdicts(alloc: Global, key: &[u8], octets: &[u8]) -> Result<Option<Verdicts>, AllocError> {
+    let Ok(signatures) = PacSignatures::new(octets) else {
+        return Ok(None);
+    };
+    let server = server_verdict(alloc, &signatures, key)?;
+    let kdc = kdc_verdict(&signatures, key);
+    let full = full_verdict(alloc, &signatures, key)?;
+    Ok(Some(Verdicts { server, kdc, full }))
+}
+
+/// Whether a checksum holds.
+fn holds(verdict: &Verdict) -> bool {
+    match verdict {
+        Verdict::Holds => true,
+        _ => false,
+    }
+}
+
+/// Whether a checksum holds or is not there.
+fn holds_if_any(verdict: &Verdict) -> bool {
+    match verdict {
+        Verdict::Holds | Verdict::Absent => true,
+        _ => false,
+    }
+}
+
+/// The line of the PACs that differ in one bit: how many, of how many of them the server's checksum holds, and of how many each that is there.
+fn flipped(alloc: Global, key: &[u8], octets: &[u8]) -> Result<String, AllocError> {
+    let mut changed = Vec::from_slice(alloc, octets)?;
+    let mut with_server = 0u32;
+    let mut with_all = 0u32;
+    for place in 0..octets.len() {
+        for bit in 0..8u32 {
+            changed[place] = octets[place] ^ (1u8 << bit);
+            if let Some(found) = verdicts(alloc, key, &changed)? {
+                if holds(&found.server) {
+                    with_server = with_server.saturating_add(1);
+                    if holds_if_any(&found.kdc) && holds_if_any(&found.full) {
+                        with_all = with_all.saturating_add(1);
+                    }
+                }
+            }
+        }
+        changed[place] = octets[place];
+    }
+    format!(in alloc;
+        "of {} octets with a bit flipped: server {with_server}, all {with_all}\n",
+        octets.len()
+    )
+}
+
+/// What is printed of a PAC.
+fn answer(alloc: Global, key: &[u8], octets: &[u8]) -> Result<String, AllocError> {
+    match verdicts(alloc, key, octets)? {
+        Some(found) => {
+            let line = flipped(alloc, key, octets)?;
+            format!(in alloc;
+                "server {:?}, KDC {:?}, full {:?}\n{line}",
+                found.server, found.kdc, found.full
+            )
+        }
+        None => String::from_str(alloc, "no signatures\n"),
+    }
+}
+
+/// What is printed of a row.
+fn row(alloc: Global, line: &str) -> io::Result<String> {
+    let mut columns = line.split('\t');
+    let (Some(origin), Some(key), Some(digits)) = (columns.next(), columns.next(), columns.next())
+    else {
+        return Ok(String::from_str(alloc, "no row\n")?);
+    };
+    match (hex::decode(alloc, key), hex::decode(alloc, digits)) {
+        (Ok(key), Ok(octets)) => {
+            let text = answer(alloc, &key, &octets)?;
+            Ok(format!(in alloc; "{origin}\n{text}")?)
+        }
+        _ => Ok(String::from_str(alloc, "no digits\n")?),
+    }
+}
+
+fn main(rt: HostRuntime) -> io::Result<()> {
+    let alloc = rt.alloc();
+    for line in BufReader::new(alloc, rt.reader())?.lines(alloc) {
+        let line = line?;
+        if line.starts_with('#') {
+            continue;
+        }
+        let text = row(alloc, line.as_str())?;
+        print!(rt; "{text}")?;
+    }
+    Ok(())
+}
