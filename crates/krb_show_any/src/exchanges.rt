@@ -1,12 +1,10 @@
 //! Messages of NEGOEX.
 
-ghost use Rattle.std.specs.Prelude.{◌≡◌, ◌<◌, ◌≤◌, length, MatchResult, codes};
+ghost use Rattle.std.specs.Prelude.{◌≡◌, ◌<◌, ◌≤◌, length, MatchResult};
 ghost use Rattle.std.specs.IoError.{error_kind};
 ghost use Rattle.std.specs.declared.io.ErrorKind.TheVariants as ErrorKind;
-ghost use Rattle.krb_negoex.specs.View.{exchange_view_layout, nego_view_layout, verify_view_layout};
 ghost use Rattle.krb_negoex.specs.Wire.{header_layout};
-ghost use Rattle.krb_show.specs.Tokens.{plain};
-ghost use Rattle.krb_show_formats.specs.Negoex.{IsToldAs, exchange_of, nego_of, type_number, verify_of};
+ghost use Rattle.krb_show_formats.specs.Negoex.{IsExchangeTold, IsNegoTold, IsVerifyTold, type_number};
 
 use crate::pages::Pages;
 use krb_show::Page;
@@ -20,12 +18,9 @@ pub struct Exchanges;
 
 impl Pages<(), io::Error> for Exchanges {
     ghost tells = { λ _ octets result. (length octets < 12 → MatchResult result (λ page. ⊥) (header_layout.rejects octets octets))
-        × (12 ≤ length octets → type_number octets ≤ 1
-        → IsToldAs nego_view_layout (λ v. v.header) (nego_of (plain (codes "NEGO_MESSAGE"))) (λ page. page.items) octets result)
-        × (12 ≤ length octets → 2 ≤ type_number octets → type_number octets ≤ 5
-        → IsToldAs exchange_view_layout (λ v. v.header) (exchange_of (plain (codes "EXCHANGE_MESSAGE"))) (λ page. page.items) octets result)
-        × (12 ≤ length octets → type_number octets ≡ 6
-        → IsToldAs verify_view_layout (λ v. v.header) (verify_of (plain (codes "VERIFY_MESSAGE"))) (λ page. page.items) octets result)
+        × (12 ≤ length octets → type_number octets ≤ 1 → IsNegoTold (λ page. page.items) octets result)
+        × (12 ≤ length octets → 2 ≤ type_number octets → type_number octets ≤ 5 → IsExchangeTold (λ page. page.items) octets result)
+        × (12 ≤ length octets → type_number octets ≡ 6 → IsVerifyTold (λ page. page.items) octets result)
         × (12 ≤ length octets → 7 ≤ type_number octets → MatchResult result (λ page. ⊥) (λ e. error_kind e ≡ ErrorKind.InvalidData)) };
 
     fn page_of(alloc: Global, _kind: (), octets: &[u8]) -> Result<Page, io::Error> {

@@ -1,3 +1,4 @@
 mod Elements
+mod Pieces
 mod Plain
 mod Told

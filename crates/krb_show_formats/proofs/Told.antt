@@ -1,5 +1,5 @@
 -- What is told of octets of NEGOEX.
-use Rattle.std.proofs.Common.{◌≡◌, ◌≢◌, ℕ, ◌<◌, ◌≤◌, ◌⊎◌, inl, inr, ⊎_elim, List, [], length, sym, ◌∙◌, Result, Ok, Err, IfOk, IfErr, arith}
+use Rattle.std.proofs.Common.{◌≡◌, ◌≢◌, ℕ, ◌<◌, ◌≤◌, ◌⊎◌, inl, inr, ⊎_elim, List, [], length, Option, sym, ◌∙◌, Result, Ok, Err, IfOk, IfErr, arith}
 use Rattle.std.specs.IoError.{error_kind}
 use Rattle.std.specs.declared.io.Error.{Error}
 use Rattle.std.specs.declared.io.ErrorKind.TheVariants.{InvalidData}
@@ -9,20 +9,22 @@ use Rattle.krb_negoex.specs.View.{ExchangeSeen, NegoSeen, VerifySeen, exchange_v
 use Rattle.krb_negoex.specs.Wire.{header_layout}
 use Rattle.krb_negoex.specs.declared.header.MessageHeader.{MessageHeader}
 use Rattle.krb_show.specs.Tokens.{Token}
-use Rattle.krb_show_formats.specs.Negoex.{IsToldAs}
+use Rattle.krb_show_formats.specs.Negoex.{IsToldAs, IsUnsaid, told}
 
-module _ {A P : Type 0} (layout : Layout A) (header : A → MessageHeader) (shows : A → List Token → List Token → Type 0) (tokens : P → List Token) (octets : List ℕ) where
-  pub told_rejected : (e : Error) → layout.rejects octets octets e → IsToldAs layout header shows tokens octets (Err e)
+module _ {A P : Type 0} (layout : Layout A) (header : A → MessageHeader) (written : A → List ℕ) (shows : A → Option (List ℕ) → List Token → List Token → Type 0)
+    (tokens : P → List Token) (octets : List ℕ) where
+  pub told_rejected : (e : Error) → layout.rejects octets octets e → IsToldAs layout header (told written shows octets) tokens octets (Err e)
   told_rejected e r = record { found = tt; reads = λ v w. layout.no_part octets octets e v r w.is; refused = inr (inl r) }
 
-  pub told_message : (v : A) (result : Result P Error) → layout.part octets octets v
+  pub told_message : (v : A) (unsaid : Option (List ℕ)) (result : Result P Error) → layout.part octets octets v
       → ((w : A) → layout.part octets octets w → (header w).message_len ≡ (header v).message_len)
-      → IfOk result (λ p. ((header v).message_len ≡ length octets) × shows v [] (tokens p))
+      → IsUnsaid octets (written v) unsaid
+      → IfOk result (λ p. ((header v).message_len ≡ length octets) × shows v unsaid [] (tokens p))
       → IfErr result (λ e. IsMemory e ⊎ ((error_kind e ≡ InvalidData) × ((header v).message_len ≢ length octets)))
-      → IsToldAs layout header shows tokens octets result
-  told_message v (Ok p) is one found refused =
-      record { found = (v, record { is = is; size = found.0 }, found.1); reads = λ w x. tt; refused = tt }
-  told_message v (Err e) is one found refused = record {
+      → IsToldAs layout header (told written shows octets) tokens octets result
+  told_message v unsaid (Ok p) is one rest found refused =
+      record { found = (v, record { is = is; size = found.0 }, (unsaid, rest, found.1)); reads = λ w x. tt; refused = tt }
+  told_message v unsaid (Err e) is one rest found refused = record {
     found = tt;
     reads = λ w x. ⊎_elim (λ m. m) (λ h. absurd (h.1 (sym (one w x.is) ∙ x.size))) refused;
     refused = ⊎_elim (λ m. inl m) (λ h. inr (inr (record { kind = h.0; message = v; is = is; other = h.1 }))) refused;

@@ -1,19 +1,23 @@
 -- The messages of NEGOEX as tokens (MS-NEGOEX, 2.2.5 and 2.2.6), and what octets are told as.
-use Rattle.std.specs.Prelude.{◌≡◌, ◌≢◌, ℕ, pos, List, [], drop, length, ◌⊎◌, Result, IfOk, IfErr, MatchResult, codes}
+use Rattle.std.specs.Prelude.{◌≡◌, ◌≢◌, ℕ, zero, suc, ◌+◌, ◌*◌, pos, List, [], ◌∷◌, ◌++◌, drop, length, Option, ◌⊎◌, Result, IfOk, IfErr, MatchResult, MatchOption, codes}
+use Rattle.std.specs.List.{flat_map}
+use Rattle.std.specs.Borrow.{Bor}
 use Rattle.std.specs.IoError.{error_kind}
 use Rattle.std.specs.declared.io.Error.{Error}
 use Rattle.std.specs.declared.io.ErrorKind.TheVariants.{InvalidData}
-use Rattle.byteorder.specs.Endian.{little_number}
+use Rattle.byteorder.specs.Endian.{little_bytes, little_number}
+use Rattle.uuid.specs.Parts.{swap_fields}
 use Rattle.uuid.specs.Text.{hyphenated_text, lower}
 use Rattle.krb_names.specs.declared.kind.Kind.TheVariants.{ChecksumType}
 use Rattle.krb_negoex.specs.Layouts.{Layout}
 use Rattle.krb_negoex.specs.Rejected.{IsMemory}
-use Rattle.krb_negoex.specs.View.{ChecksumSeen, ExchangeSeen, ExtensionSeen, NegoSeen, VerifySeen}
+use Rattle.krb_negoex.specs.Types.{type_code}
+use Rattle.krb_negoex.specs.View.{ChecksumSeen, ExchangeSeen, ExtensionSeen, NegoSeen, VerifySeen, exchange_view_layout, nego_view_layout, verify_view_layout}
 use Rattle.krb_negoex.specs.declared.header.MessageHeader.{MessageHeader}
 use Rattle.krb_negoex.specs.declared.header.MessageType.{MessageType}
 use Rattle.krb_negoex.specs.declared.header.MessageType.TheVariants as types
 use Rattle.krb_show.specs.Leaves.{number_of, octets_of, unsigned_of, word_of}
-use Rattle.krb_show.specs.Pages.{◌then◌, list_of, struct_of}
+use Rattle.krb_show.specs.Pages.{◌then◌, list_of, optional_of, struct_of}
 use Rattle.krb_show.specs.Tokens.{Label, Token, of_kind, plain}
 
 -- ---- tokens
@@ -56,28 +60,88 @@ checksum_of label v = struct_of label (
     then number_of (of_kind (codes "ChecksumType") ChecksumType) (pos v.checksum_type)
     then octets_of (plain (codes "ChecksumValue")) v.checksum_value)
 
+-- all octets of a message, where they are not what it is written as
+abbrev pub unsaid_of : Option (List ℕ) → List Token → List Token → Type 0
+unsaid_of = optional_of (octets_of (plain (codes "octets")))
+
 -- NEGO_MESSAGE (MS-NEGOEX, 2.2.6.3)
-abbrev pub nego_of : Label → NegoSeen → List Token → List Token → Type 0
-nego_of label v = struct_of label (
+abbrev pub nego_of : Label → NegoSeen → Option (List ℕ) → List Token → List Token → Type 0
+nego_of label v unsaid = struct_of label (
     header_of (plain (codes "Header")) v.header
     then octets_of (plain (codes "Random")) v.random
     then unsigned_of (plain (codes "ProtocolVersion")) v.protocol_version
     then list_of guid_of (plain (codes "AuthSchemes")) v.auth_schemes
-    then list_of extension_of (plain (codes "Extensions")) v.extensions)
+    then list_of extension_of (plain (codes "Extensions")) v.extensions
+    then unsaid_of unsaid)
 
 -- EXCHANGE_MESSAGE (MS-NEGOEX, 2.2.6.4)
-abbrev pub exchange_of : Label → ExchangeSeen → List Token → List Token → Type 0
-exchange_of label v = struct_of label (
+abbrev pub exchange_of : Label → ExchangeSeen → Option (List ℕ) → List Token → List Token → Type 0
+exchange_of label v unsaid = struct_of label (
     header_of (plain (codes "Header")) v.header
     then guid_of (plain (codes "AuthScheme")) v.auth_scheme
-    then octets_of (plain (codes "Exchange")) v.exchange)
+    then octets_of (plain (codes "Exchange")) v.exchange
+    then unsaid_of unsaid)
 
 -- VERIFY_MESSAGE (MS-NEGOEX, 2.2.6.5)
-abbrev pub verify_of : Label → VerifySeen → List Token → List Token → Type 0
-verify_of label v = struct_of label (
+abbrev pub verify_of : Label → VerifySeen → Option (List ℕ) → List Token → List Token → Type 0
+verify_of label v unsaid = struct_of label (
     header_of (plain (codes "Header")) v.header
     then guid_of (plain (codes "AuthScheme")) v.auth_scheme
-    then checksum_of (plain (codes "Checksum")) v.checksum)
+    then checksum_of (plain (codes "Checksum")) v.checksum
+    then unsaid_of unsaid)
+
+-- ---- what a message is written as: numbers are little-endian, offsets count from the message's first octet
+
+-- MESSAGE_HEADER (MS-NEGOEX, 2.2.6.2)
+abbrev pub header_octets : MessageHeader → List ℕ
+header_octets v = little_bytes 8 v.signature ++ (little_bytes 4 (type_code v.message_type) ++ (little_bytes 4 v.sequence_num
+    ++ (little_bytes 4 v.header_len ++ (little_bytes 4 v.message_len ++ swap_fields v.conversation_id))))
+
+-- the offset of a vector's elements and their count (MS-NEGOEX, 2.2.5.2); zeros where there are none
+abbrev pub place_octets : ℕ → ℕ → List ℕ
+place_octets offset zero = 0 ∷ 0 ∷ 0 ∷ 0 ∷ 0 ∷ 0 ∷ 0 ∷ 0 ∷ []
+place_octets offset (suc n) = little_bytes 4 offset ++ little_bytes 4 (suc n)
+
+-- the fixed parts of extensions (MS-NEGOEX, 2.2.5.1.4), the first value standing at an offset and each behind the one before
+abbrev pub heads_octets : ℕ → List ExtensionSeen → List ℕ
+heads_octets offset [] = []
+heads_octets offset (v ∷ vs) = (little_bytes 4 v.extension_type ++ place_octets offset (length v.extension_value))
+    ++ heads_octets (offset + length v.extension_value) vs
+
+-- the values of extensions
+abbrev pub values_octets : List ExtensionSeen → List ℕ
+values_octets = flat_map (λ v. v.extension_value)
+
+-- NEGO_MESSAGE (MS-NEGOEX, 2.2.6.3): 96 octets, the schemes, the extensions' fixed parts and their values
+abbrev pub nego_octets : NegoSeen → List ℕ
+nego_octets v =
+    let schemes = length v.auth_schemes in
+    let extensions = length v.extensions in
+    header_octets v.header ++ (v.random ++ (little_bytes 8 v.protocol_version
+    ++ ((place_octets 96 schemes ++ place_octets (96 + 16 * schemes) extensions)
+    ++ (flat_map swap_fields v.auth_schemes ++ (heads_octets (96 + 16 * schemes + 12 * extensions) v.extensions ++ values_octets v.extensions)))))
+
+-- EXCHANGE_MESSAGE (MS-NEGOEX, 2.2.6.4): 64 octets, and the token
+abbrev pub exchange_octets : ExchangeSeen → List ℕ
+exchange_octets v = header_octets v.header ++ (swap_fields v.auth_scheme ++ (place_octets 64 (length v.exchange) ++ v.exchange))
+
+-- VERIFY_MESSAGE (MS-NEGOEX, 2.2.6.5): 76 octets, four zeros, and the checksum's value
+abbrev pub verify_octets : VerifySeen → List ℕ
+verify_octets v = header_octets v.header ++ (swap_fields v.auth_scheme
+    ++ ((little_bytes 4 v.checksum.header_len ++ (little_bytes 4 v.checksum.checksum_scheme ++ little_bytes 4 v.checksum.checksum_type))
+    ++ (place_octets 80 (length v.checksum.checksum_value) ++ ((0 ∷ 0 ∷ 0 ∷ 0 ∷ []) ++ v.checksum.checksum_value))))
+
+-- octets begin with a piece, and these are behind it; or they do not
+abbrev pub IsBehind : List ℕ → List ℕ → Option (Bor (List ℕ)) → Type 0
+IsBehind octets piece result = MatchOption result ((rest : List ℕ) → octets ≢ piece ++ rest) (λ rest. octets ≡ piece ++ rest.now)
+
+-- what of a message's octets the other lines do not tell: nothing, where the octets are what it is written as, and else all of them
+abbrev pub IsUnsaid : List ℕ → List ℕ → Option (List ℕ) → Type 0
+IsUnsaid octets written unsaid = MatchOption unsaid (octets ≡ written) (λ all. (all ≡ octets) × (octets ≢ written))
+
+-- a message, and of its octets what the other lines do not tell
+abbrev pub told : {A : Type 0} → (A → List ℕ) → (A → Option (List ℕ) → List Token → List Token → Type 0) → List ℕ → A → List Token → List Token → Type 0
+told written shows octets v old new = (unsaid : Option (List ℕ)) × IsUnsaid octets (written v) unsaid × shows v unsaid old new
 
 -- ---- octets
 
@@ -108,3 +172,16 @@ pub record IsToldAs {A P : Type 0} (layout : Layout A) (header : A → MessageHe
   pub found : IfOk result (λ p. (v : A) × IsWhole layout header octets v × shows v [] (tokens p))
   pub reads : (v : A) → IsWhole layout header octets v → MatchResult result (λ p. Unit {0}) IsMemory
   pub refused : IfErr result (IsUntold layout header octets)
+
+-- octets that are one message: its page, or its error
+abbrev pub IsNegoTold : {P : Type 0} → (P → List Token) → List ℕ → Result P Error → Type 0
+IsNegoTold tokens octets result =
+    IsToldAs nego_view_layout (λ v. v.header) (told nego_octets (nego_of (plain (codes "NEGO_MESSAGE"))) octets) tokens octets result
+
+abbrev pub IsExchangeTold : {P : Type 0} → (P → List Token) → List ℕ → Result P Error → Type 0
+IsExchangeTold tokens octets result =
+    IsToldAs exchange_view_layout (λ v. v.header) (told exchange_octets (exchange_of (plain (codes "EXCHANGE_MESSAGE"))) octets) tokens octets result
+
+abbrev pub IsVerifyTold : {P : Type 0} → (P → List Token) → List ℕ → Result P Error → Type 0
+IsVerifyTold tokens octets result =
+    IsToldAs verify_view_layout (λ v. v.header) (told verify_octets (verify_of (plain (codes "VERIFY_MESSAGE"))) octets) tokens octets result

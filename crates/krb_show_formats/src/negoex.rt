@@ -6,12 +6,14 @@ ghost use Rattle.krb_show.specs.Leaves.{octets_of, word_of};
 ghost use Rattle.krb_show.specs.Pages.{list_of};
 ghost use Rattle.krb_show.specs.Tokens.{plain};
 ghost use Rattle.krb_negoex.specs.Rejected.{IsMemory};
-ghost use Rattle.krb_negoex.specs.View.{exchange_view_layout, nego_view_layout, verify_view_layout};
 ghost use Rattle.krb_negoex.specs.Wire.{header_layout};
-ghost use Rattle.krb_show_formats.specs.Negoex.{IsToldAs, type_name, type_number};
+ghost use Rattle.krb_show_formats.specs.Negoex.{IsExchangeTold, IsNegoTold, IsVerifyTold, type_name, type_number};
 ghost use Rattle.krb_show_formats.specs.Negoex.{checksum_of, exchange_of, extension_of, guid_of, header_of, nego_of, verify_of};
 
+mod pieces;
+
 use crate::Format;
+use crate::negoex::pieces::{Unsaid, unsaid_exchange, unsaid_nego, unsaid_verify};
 use byteorder::{ByteOrder, LittleEndian};
 use krb_negoex::negoex::data_types::{MessageHeader, MessageType};
 use krb_negoex::negoex::views::{
@@ -193,6 +195,13 @@ fn extensions<'a>(
     Ok(extensions)
 }
 
+/// A message, and all of its octets where they are not what it is written as.
+#[derive(Drop)]
+struct Seen<'v, V> {
+    message: &'v V,
+    octets: Unsaid<'v>,
+}
+
 /// The fields of a `Nego` before its extensions.
 #[derive(Drop)]
 struct NegoFields {
@@ -203,17 +212,18 @@ struct NegoFields {
 }
 
 /// A party's schemes (MS-NEGOEX, 2.2.6.3).
-impl<'a> Show<Format> for NegoView<'a> {
-    ghost shows = { nego_of };
+impl<'v, 'a> Show<Format> for Seen<'v, NegoView<'a>> {
+    ghost shows = { λ label v. nego_of label v.message.now v.octets };
 
     fn show(&self, alloc: Global, label: &Label, page: &mut Page) -> Result<(), AllocError> {
+        let message = self.message;
         let fields = NegoFields {
-            header: self.header(),
-            random: *self.random(),
-            protocol_version: self.protocol_version(),
-            auth_schemes: schemes(alloc, self.auth_schemes())?,
+            header: message.header(),
+            random: *message.random(),
+            protocol_version: message.protocol_version(),
+            auth_schemes: schemes(alloc, message.auth_schemes())?,
         };
-        let items = extensions(alloc, self.extensions())?;
+        let items = extensions(alloc, message.extensions())?;
         let extensions = Field {
             label: Label {
                 text: "Extensions",
@@ -223,21 +233,18 @@ impl<'a> Show<Format> for NegoView<'a> {
             value: &items,
             shown: PhantomData::<Format>,
         };
-        show_struct(
-            alloc,
-            label,
-            &(
-                show_fields!(
-                    Format; fields;
-                    "Header" = header,
-                    "Random" = random,
-                    "ProtocolVersion" = protocol_version,
-                    "AuthSchemes" = auth_schemes
-                ),
-                extensions,
+        let fields = (
+            show_fields!(
+                Format; fields;
+                "Header" = header,
+                "Random" = random,
+                "ProtocolVersion" = protocol_version,
+                "AuthSchemes" = auth_schemes
             ),
-            page,
-        )
+            extensions,
+        );
+        let octets = show_fields!(Format; self; "octets" = octets);
+        show_struct(alloc, label, &(fields, octets), page)
     }
 }
 
@@ -250,26 +257,24 @@ struct ExchangeFields<'a> {
 }
 
 /// A token of a scheme (MS-NEGOEX, 2.2.6.4).
-impl<'a> Show<Format> for ExchangeView<'a> {
-    ghost shows = { exchange_of };
+impl<'v, 'a> Show<Format> for Seen<'v, ExchangeView<'a>> {
+    ghost shows = { λ label v. exchange_of label v.message.now v.octets };
 
     fn show(&self, alloc: Global, label: &Label, page: &mut Page) -> Result<(), AllocError> {
+        let message = self.message;
         let fields = ExchangeFields {
-            header: self.header(),
-            auth_scheme: self.auth_scheme(),
-            exchange: self.exchange(),
+            header: message.header(),
+            auth_scheme: message.auth_scheme(),
+            exchange: message.exchange(),
         };
-        show_struct(
-            alloc,
-            label,
-            &show_fields!(
-                Format; fields;
-                "Header" = header,
-                "AuthScheme" = auth_scheme,
-                "Exchange" = exchange
-            ),
-            page,
-        )
+        let fields = show_fields!(
+            Format; fields;
+            "Header" = header,
+            "AuthScheme" = auth_scheme,
+            "Exchange" = exchange
+        );
+        let octets = show_fields!(Format; self; "octets" = octets);
+        show_struct(alloc, label, &(fields, octets), page)
     }
 }
 
@@ -281,13 +286,14 @@ struct VerifyFields {
 }
 
 /// A checksum of the conversation (MS-NEGOEX, 2.2.6.5).
-impl<'a> Show<Format> for VerifyView<'a> {
-    ghost shows = { verify_of };
+impl<'v, 'a> Show<Format> for Seen<'v, VerifyView<'a>> {
+    ghost shows = { λ label v. verify_of label v.message.now v.octets };
 
     fn show(&self, alloc: Global, label: &Label, page: &mut Page) -> Result<(), AllocError> {
+        let message = self.message;
         let fields = VerifyFields {
-            header: self.header(),
-            auth_scheme: self.auth_scheme(),
+            header: message.header(),
+            auth_scheme: message.auth_scheme(),
         };
         let checksum = Field {
             label: Label {
@@ -295,18 +301,15 @@ impl<'a> Show<Format> for VerifyView<'a> {
                 kind: None,
                 is_item: false,
             },
-            value: self.checksum(),
+            value: message.checksum(),
             shown: PhantomData::<Format>,
         };
-        show_struct(
-            alloc,
-            label,
-            &(
-                show_fields!(Format; fields; "Header" = header, "AuthScheme" = auth_scheme),
-                checksum,
-            ),
-            page,
-        )
+        let fields = (
+            show_fields!(Format; fields; "Header" = header, "AuthScheme" = auth_scheme),
+            checksum,
+        );
+        let octets = show_fields!(Format; self; "octets" = octets);
+        show_struct(alloc, label, &(fields, octets), page)
     }
 }
 
@@ -334,36 +337,48 @@ fn page_with<T: Show<Format>>(
 
 /// The page of a `Nego`.
 fn page_of_nego(alloc: Global, octets: &[u8]) -> io::Result<Page>
-    ensures { IsToldAs nego_view_layout (λ v. v.header) (nego_of (plain (codes "NEGO_MESSAGE"))) (λ page. page.items) octets.now result }
+    ensures { IsNegoTold (λ page. page.items) octets.now result }
 {
     match NegoView::new(octets) {
-        Ok(message) => page_with(alloc, "NEGO_MESSAGE", message.header(), &message, octets),
+        Ok(message) => {
+            let seen = Seen {
+                message: &message,
+                octets: unsaid_nego(octets, &message),
+            };
+            page_with(alloc, "NEGO_MESSAGE", message.header(), &seen, octets)
+        }
         Err(error) => Err(error),
     }
 }
 
 /// The page of an `Exchange`.
 fn page_of_exchange(alloc: Global, octets: &[u8]) -> io::Result<Page>
-    ensures { IsToldAs exchange_view_layout (λ v. v.header) (exchange_of (plain (codes "EXCHANGE_MESSAGE"))) (λ page. page.items) octets.now result }
+    ensures { IsExchangeTold (λ page. page.items) octets.now result }
 {
     match ExchangeView::new(octets) {
-        Ok(message) => page_with(
-            alloc,
-            "EXCHANGE_MESSAGE",
-            message.header(),
-            &message,
-            octets,
-        ),
+        Ok(message) => {
+            let seen = Seen {
+                message: &message,
+                octets: unsaid_exchange(octets, &message),
+            };
+            page_with(alloc, "EXCHANGE_MESSAGE", message.header(), &seen, octets)
+        }
         Err(error) => Err(error),
     }
 }
 
 /// The page of a `Verify`.
 fn page_of_verify(alloc: Global, octets: &[u8]) -> io::Result<Page>
-    ensures { IsToldAs verify_view_layout (λ v. v.header) (verify_of (plain (codes "VERIFY_MESSAGE"))) (λ page. page.items) octets.now result }
+    ensures { IsVerifyTold (λ page. page.items) octets.now result }
 {
     match VerifyView::new(octets) {
-        Ok(message) => page_with(alloc, "VERIFY_MESSAGE", message.header(), &message, octets),
+        Ok(message) => {
+            let seen = Seen {
+                message: &message,
+                octets: unsaid_verify(octets, &message),
+            };
+            page_with(alloc, "VERIFY_MESSAGE", message.header(), &seen, octets)
+        }
         Err(error) => Err(error),
     }
 }
@@ -372,17 +387,19 @@ fn page_of_verify(alloc: Global, octets: &[u8]) -> io::Result<Page>
 /// an `EXCHANGE_MESSAGE` of 2 to 5, a `VERIFY_MESSAGE` of 6. The fields have the standard's names, but the signature, which is fixed, is not
 /// shown; GUIDs are in the text of RFC 9562, 4.
 ///
+/// A message names where its vectors are. Where they stand as they are written, one behind another behind the fixed part (and four zeros, in a
+/// `VERIFY_MESSAGE`), an empty vector at offset zero, the fields tell all octets. Where they do not, as with a gap, with octets behind them or
+/// with vectors that overlap, the struct has one more field at its end, `octets`: all octets of the message.
+///
 /// An alert and an unknown type are `InvalidData`. Else the first error is that of `NegoView::new`, `ExchangeView::new` and `VerifyView::new`;
 /// where the octets end before the type, that of the header. A message whose own length is not that of the octets, as where another message
 /// follows it, is `InvalidData`: cut a token of several messages by their lengths first. An allocation failure is `OutOfMemory`.
 pub fn page_of_negoex(alloc: Global, octets: &[u8]) -> io::Result<Page>
     ensures short { length octets.now < 12 → MatchResult result (λ page. ⊥) (header_layout.rejects octets.now octets.now) }
-    ensures nego { 12 ≤ length octets.now → type_number octets.now ≤ 1
-        → IsToldAs nego_view_layout (λ v. v.header) (nego_of (plain (codes "NEGO_MESSAGE"))) (λ page. page.items) octets.now result }
+    ensures nego { 12 ≤ length octets.now → type_number octets.now ≤ 1 → IsNegoTold (λ page. page.items) octets.now result }
     ensures exchange { 12 ≤ length octets.now → 2 ≤ type_number octets.now → type_number octets.now ≤ 5
-        → IsToldAs exchange_view_layout (λ v. v.header) (exchange_of (plain (codes "EXCHANGE_MESSAGE"))) (λ page. page.items) octets.now result }
-    ensures verify { 12 ≤ length octets.now → type_number octets.now ≡ 6
-        → IsToldAs verify_view_layout (λ v. v.header) (verify_of (plain (codes "VERIFY_MESSAGE"))) (λ page. page.items) octets.now result }
+        → IsExchangeTold (λ page. page.items) octets.now result }
+    ensures verify { 12 ≤ length octets.now → type_number octets.now ≡ 6 → IsVerifyTold (λ page. page.items) octets.now result }
     ensures other { 12 ≤ length octets.now → 7 ≤ type_number octets.now → MatchResult result (λ page. ⊥) (λ e. error_kind e ≡ ErrorKind.InvalidData) }
 {
     if octets.len() < 12 {

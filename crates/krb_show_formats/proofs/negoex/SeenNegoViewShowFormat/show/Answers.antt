@@ -1,4 +1,4 @@
-use Rattle.krb_show_formats.proofs.negoex.NegoViewShowFormat.show.Goals as goal
+use Rattle.krb_show_formats.proofs.negoex.SeenNegoViewShowFormat.show.Goals as goal
 
 pub returns-clause-ok : goal.returns-clause-ok
 returns-clause-ok c =
