@@ -1,4 +1,5 @@
 mod Elements
 mod Pieces
 mod Plain
+mod Several
 mod Told

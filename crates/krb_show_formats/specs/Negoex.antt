@@ -1,7 +1,8 @@
 -- The messages of NEGOEX as tokens (MS-NEGOEX, 2.2.5 and 2.2.6), and what octets are told as.
-use Rattle.std.specs.Prelude.{◌≡◌, ◌≢◌, ℕ, zero, suc, ◌+◌, ◌*◌, pos, List, [], ◌∷◌, ◌++◌, drop, length, Option, ◌⊎◌, Result, IfOk, IfErr, MatchResult, MatchOption, codes}
+use Rattle.std.specs.Prelude.{Bool, Err, IfErr, IfOk, List, MatchOption, MatchResult, None, Ok, Option, Result, [], codes, drop, length, pos, suc, take, true, zero, ℕ, ◌*◌, ◌++◌, ◌+◌, ◌<◌, ◌∷◌, ◌≡◌, ◌≢◌, ◌≤◌, ◌⊎◌}
 use Rattle.std.specs.List.{flat_map}
 use Rattle.std.specs.Borrow.{Bor}
+use Rattle.std.specs.Fmt.{decimal}
 use Rattle.std.specs.IoError.{error_kind}
 use Rattle.std.specs.declared.io.Error.{Error}
 use Rattle.std.specs.declared.io.ErrorKind.TheVariants.{InvalidData}
@@ -16,9 +17,11 @@ use Rattle.krb_negoex.specs.View.{ChecksumSeen, ExchangeSeen, ExtensionSeen, Neg
 use Rattle.krb_negoex.specs.declared.header.MessageHeader.{MessageHeader}
 use Rattle.krb_negoex.specs.declared.header.MessageType.{MessageType}
 use Rattle.krb_negoex.specs.declared.header.MessageType.TheVariants as types
+use Rattle.krb_negoex.specs.Wire.{header_layout}
+use Rattle.krb_show.specs.declared.token.Form.TheVariants as form
 use Rattle.krb_show.specs.Leaves.{number_of, octets_of, unsigned_of, word_of}
 use Rattle.krb_show.specs.Pages.{◌then◌, list_of, optional_of, struct_of}
-use Rattle.krb_show.specs.Tokens.{Label, Token, of_kind, plain}
+use Rattle.krb_show.specs.Tokens.{Label, Token, leaf, mark, of_kind, plain}
 
 -- ---- tokens
 
@@ -173,15 +176,88 @@ pub record IsToldAs {A P : Type 0} (layout : Layout A) (header : A → MessageHe
   pub reads : (v : A) → IsWhole layout header octets v → MatchResult result (λ p. Unit {0}) IsMemory
   pub refused : IfErr result (IsUntold layout header octets)
 
--- octets that are one message: its page, or its error
-abbrev pub IsNegoTold : {P : Type 0} → (P → List Token) → List ℕ → Result P Error → Type 0
-IsNegoTold tokens octets result =
-    IsToldAs nego_view_layout (λ v. v.header) (told nego_octets (nego_of (plain (codes "NEGO_MESSAGE"))) octets) tokens octets result
+-- the label of a message, which is an item where others stand beside it
+abbrev pub named : Bool → List ℕ → Label
+named is_item text = record { text = text; kind = None; is_item = is_item }
 
-abbrev pub IsExchangeTold : {P : Type 0} → (P → List Token) → List ℕ → Result P Error → Type 0
-IsExchangeTold tokens octets result =
-    IsToldAs exchange_view_layout (λ v. v.header) (told exchange_octets (exchange_of (plain (codes "EXCHANGE_MESSAGE"))) octets) tokens octets result
+-- octets that are one message of this type: its page, or its error
+abbrev pub IsNegoTold : {P : Type 0} → Bool → (P → List Token) → List ℕ → Result P Error → Type 0
+IsNegoTold is_item tokens octets result =
+    IsToldAs nego_view_layout (λ v. v.header) (told nego_octets (nego_of (named is_item (codes "NEGO_MESSAGE"))) octets) tokens octets result
 
-abbrev pub IsVerifyTold : {P : Type 0} → (P → List Token) → List ℕ → Result P Error → Type 0
-IsVerifyTold tokens octets result =
-    IsToldAs verify_view_layout (λ v. v.header) (told verify_octets (verify_of (plain (codes "VERIFY_MESSAGE"))) octets) tokens octets result
+abbrev pub IsExchangeTold : {P : Type 0} → Bool → (P → List Token) → List ℕ → Result P Error → Type 0
+IsExchangeTold is_item tokens octets result =
+    IsToldAs exchange_view_layout (λ v. v.header) (told exchange_octets (exchange_of (named is_item (codes "EXCHANGE_MESSAGE"))) octets) tokens octets result
+
+abbrev pub IsVerifyTold : {P : Type 0} → Bool → (P → List Token) → List ℕ → Result P Error → Type 0
+IsVerifyTold is_item tokens octets result =
+    IsToldAs verify_view_layout (λ v. v.header) (told verify_octets (verify_of (named is_item (codes "VERIFY_MESSAGE"))) octets) tokens octets result
+
+-- octets that are one message, told by its type (MS-NEGOEX, 2.2.6.1): its page, or its error
+pub record IsMessageTold {P : Type 0} (is_item : Bool) (tokens : P → List Token) (octets : List ℕ) (result : Result P Error) : Type 0 where
+  pub short : length octets < 12 → MatchResult result (λ page. ⊥) (header_layout.rejects octets octets)
+  pub nego : 12 ≤ length octets → type_number octets ≤ 1 → IsNegoTold is_item tokens octets result
+  pub exchange : 12 ≤ length octets → 2 ≤ type_number octets → type_number octets ≤ 5 → IsExchangeTold is_item tokens octets result
+  pub verify : 12 ≤ length octets → type_number octets ≡ 6 → IsVerifyTold is_item tokens octets result
+  pub other : 12 ≤ length octets → 7 ≤ type_number octets → MatchResult result (λ page. ⊥) (λ e. error_kind e ≡ InvalidData)
+
+-- octets that are one message
+abbrev pub IsMessage : List ℕ → Type 0
+IsMessage octets = (12 ≤ length octets)
+    × (((type_number octets ≤ 1) × (v : NegoSeen) × IsWhole nego_view_layout (λ v. v.header) octets v)
+    ⊎ (((2 ≤ type_number octets) × (type_number octets ≤ 5) × (v : ExchangeSeen) × IsWhole exchange_view_layout (λ v. v.header) octets v)
+    ⊎ ((type_number octets ≡ 6) × (v : VerifySeen) × IsWhole verify_view_layout (λ v. v.header) octets v)))
+
+-- ---- several messages, one behind another (MS-NEGOEX, 2.2.6)
+
+-- the length that the first message says, cbMessageLength (MS-NEGOEX, 2.2.6.2)
+abbrev pub own_length : List ℕ → ℕ
+own_length octets = little_number 4 (drop 20 octets)
+
+-- behind the first message stands another: its length is that of a header at least, and less than that of the octets
+abbrev pub IsFollowed : List ℕ → Type 0
+IsFollowed octets = (40 ≤ own_length octets) × (own_length octets < length octets)
+
+-- these are the first message's octets: so many as it says, where another follows it, and else all
+abbrev pub IsFirst : List ℕ → List ℕ → Type 0
+IsFirst octets first = (IsFollowed octets × (first ≡ take (own_length octets) octets)) ⊎ ((IsFollowed octets → ⊥) × (first ≡ octets))
+
+-- messages with these pages stand before the rest, each followed
+abbrev pub StandBefore : {P : Type 0} → (P → List Token) → List ℕ → List P → List ℕ → Type 0
+StandBefore tokens octets [] rest = octets ≡ rest
+StandBefore tokens octets (page ∷ pages) rest = IsFollowed octets × IsMessageTold true tokens (take (own_length octets) octets) (Ok page)
+    × StandBefore tokens (drop (own_length octets) octets) pages rest
+
+-- all of the octets are so many messages and one more
+abbrev pub AreMessages : ℕ → List ℕ → Type 0
+AreMessages zero octets = (IsFollowed octets → ⊥) × IsMessage octets
+AreMessages (suc n) octets = IsFollowed octets × IsMessage (take (own_length octets) octets) × AreMessages n (drop (own_length octets) octets)
+
+-- the list of messages: their number, in decimal, and the pages of the messages
+abbrev pub list_tokens : ℕ → List Token → List Token
+list_tokens n items = leaf form.List (plain (codes "NEGOEX")) (decimal n) ∷ (items ++ mark form.ListEnd (plain (codes "NEGOEX")) ∷ [])
+
+-- pages of all messages, the last one's too
+pub record IsListOf {P : Type 0} (tokens : P → List Token) (octets : List ℕ) (page : List Token) : Type 0 where
+  pub pages : List P
+  pub last : P
+  pub rest : List ℕ
+  pub before : StandBefore tokens octets pages rest
+  pub alone : IsFollowed rest → ⊥
+  pub told_last : IsMessageTold true tokens rest (Ok last)
+  pub is : page ≡ list_tokens (length pages + 1) (flat_map tokens pages ++ tokens last)
+
+-- the error of the first message that has one
+pub record IsFirstError {P : Type 0} (tokens : P → List Token) (octets : List ℕ) (e : Error) : Type 0 where
+  pub pages : List P
+  pub rest : List ℕ
+  pub first : List ℕ
+  pub before : StandBefore tokens octets pages rest
+  pub is_first : IsFirst rest first
+  pub error : IsMessageTold true tokens first (Err e)
+
+-- the list of the messages, answered where all are messages, but for want of memory; or the first one's error
+pub record AreTold {P : Type 0} (tokens : P → List Token) (octets : List ℕ) (result : Result P Error) : Type 0 where
+  pub found : IfOk result (λ page. IsListOf tokens octets (tokens page))
+  pub reads : (n : ℕ) → AreMessages n octets → MatchResult result (λ page. Unit {0}) IsMemory
+  pub refused : IfErr result (λ e. IsMemory e ⊎ IsFirstError tokens octets e)

@@ -1,13 +1,13 @@
 //! The messages of NEGOEX (MS-NEGOEX, 2.2.6).
 
-ghost use Rattle.std.specs.Prelude.{◌≡◌, ◌≢◌, ◌<◌, ◌≤◌, ◌⊎◌, [], length, IfOk, IfErr, MatchResult, codes};
+ghost use Rattle.std.specs.Prelude.{◌≡◌, ◌≢◌, ◌<◌, ◌≤◌, ◌⊎◌, [], length, IfOk, IfErr, MatchBool, MatchResult, true, false, codes};
 ghost use Rattle.std.specs.IoError.{error_kind};
 ghost use Rattle.krb_show.specs.Leaves.{octets_of, word_of};
 ghost use Rattle.krb_show.specs.Pages.{list_of};
 ghost use Rattle.krb_show.specs.Tokens.{plain};
 ghost use Rattle.krb_negoex.specs.Rejected.{IsMemory};
 ghost use Rattle.krb_negoex.specs.Wire.{header_layout};
-ghost use Rattle.krb_show_formats.specs.Negoex.{IsExchangeTold, IsNegoTold, IsVerifyTold, type_name, type_number};
+ghost use Rattle.krb_show_formats.specs.Negoex.{AreTold, IsExchangeTold, IsFollowed, IsMessageTold, IsNegoTold, IsVerifyTold, list_tokens, own_length, type_name, type_number};
 ghost use Rattle.krb_show_formats.specs.Negoex.{checksum_of, exchange_of, extension_of, guid_of, header_of, nego_of, verify_of};
 
 mod pieces;
@@ -21,7 +21,8 @@ use krb_negoex::negoex::views::{
     VerifyView,
 };
 use krb_show::{
-    Field, Label, Page, Show, show_fields, show_list, show_octets, show_struct, show_word,
+    Field, Form, Label, Page, Show, push_token, show_fields, show_list, show_octets, show_struct,
+    show_word,
 };
 use std::alloc::{AllocError, Global};
 use std::io;
@@ -316,28 +317,27 @@ impl<'v, 'a> Show<Format> for Seen<'v, VerifyView<'a>> {
 /// The page of a message with this header, where its length is that of the octets.
 fn page_with<T: Show<Format>>(
     alloc: Global,
-    name: &str,
+    label: &Label,
     header: MessageHeader,
     message: &T,
     octets: &[u8],
 ) -> io::Result<Page>
-    ensures found { IfOk result (λ page. (header.message_len ≡ length octets.now) × T.shows (plain name.now) message.now [] page.items) }
+    ensures found { IfOk result (λ page. (header.message_len ≡ length octets.now) × T.shows label.now message.now [] page.items) }
     ensures refused { IfErr result (λ e. IsMemory e ⊎ ((error_kind e ≡ ErrorKind.InvalidData) × (header.message_len ≢ length octets.now))) }
 {
     if header.message_len as usize != octets.len() {
         return Err(io::Error::from(ErrorKind::InvalidData));
     }
-    let label = Label::new(name);
     let mut page = Vec::new(alloc);
-    match message.show(alloc, &label, &mut page) {
+    match message.show(alloc, label, &mut page) {
         Ok(()) => Ok(page),
         Err(_) => Err(io::Error::from(ErrorKind::OutOfMemory)),
     }
 }
 
 /// The page of a `Nego`.
-fn page_of_nego(alloc: Global, octets: &[u8]) -> io::Result<Page>
-    ensures { IsNegoTold (λ page. page.items) octets.now result }
+fn page_of_nego(alloc: Global, is_item: bool, octets: &[u8]) -> io::Result<Page>
+    ensures { IsNegoTold is_item (λ page. page.items) octets.now result }
 {
     match NegoView::new(octets) {
         Ok(message) => {
@@ -345,15 +345,20 @@ fn page_of_nego(alloc: Global, octets: &[u8]) -> io::Result<Page>
                 message: &message,
                 octets: unsaid_nego(octets, &message),
             };
-            page_with(alloc, "NEGO_MESSAGE", message.header(), &seen, octets)
+            let label = Label {
+                text: "NEGO_MESSAGE",
+                kind: None,
+                is_item,
+            };
+            page_with(alloc, &label, message.header(), &seen, octets)
         }
         Err(error) => Err(error),
     }
 }
 
 /// The page of an `Exchange`.
-fn page_of_exchange(alloc: Global, octets: &[u8]) -> io::Result<Page>
-    ensures { IsExchangeTold (λ page. page.items) octets.now result }
+fn page_of_exchange(alloc: Global, is_item: bool, octets: &[u8]) -> io::Result<Page>
+    ensures { IsExchangeTold is_item (λ page. page.items) octets.now result }
 {
     match ExchangeView::new(octets) {
         Ok(message) => {
@@ -361,15 +366,20 @@ fn page_of_exchange(alloc: Global, octets: &[u8]) -> io::Result<Page>
                 message: &message,
                 octets: unsaid_exchange(octets, &message),
             };
-            page_with(alloc, "EXCHANGE_MESSAGE", message.header(), &seen, octets)
+            let label = Label {
+                text: "EXCHANGE_MESSAGE",
+                kind: None,
+                is_item,
+            };
+            page_with(alloc, &label, message.header(), &seen, octets)
         }
         Err(error) => Err(error),
     }
 }
 
 /// The page of a `Verify`.
-fn page_of_verify(alloc: Global, octets: &[u8]) -> io::Result<Page>
-    ensures { IsVerifyTold (λ page. page.items) octets.now result }
+fn page_of_verify(alloc: Global, is_item: bool, octets: &[u8]) -> io::Result<Page>
+    ensures { IsVerifyTold is_item (λ page. page.items) octets.now result }
 {
     match VerifyView::new(octets) {
         Ok(message) => {
@@ -377,39 +387,140 @@ fn page_of_verify(alloc: Global, octets: &[u8]) -> io::Result<Page>
                 message: &message,
                 octets: unsaid_verify(octets, &message),
             };
-            page_with(alloc, "VERIFY_MESSAGE", message.header(), &seen, octets)
+            let label = Label {
+                text: "VERIFY_MESSAGE",
+                kind: None,
+                is_item,
+            };
+            page_with(alloc, &label, message.header(), &seen, octets)
         }
         Err(error) => Err(error),
     }
 }
 
-/// The page of the one message of NEGOEX that all of the octets are, told by its MessageType (MS-NEGOEX, 2.2.6.1): a `NEGO_MESSAGE` of 0 and 1,
-/// an `EXCHANGE_MESSAGE` of 2 to 5, a `VERIFY_MESSAGE` of 6. The fields have the standard's names, but the signature, which is fixed, is not
-/// shown; GUIDs are in the text of RFC 9562, 4.
-///
-/// A message names where its vectors are. Where they stand as they are written, one behind another behind the fixed part (and four zeros, in a
-/// `VERIFY_MESSAGE`), an empty vector at offset zero, the fields tell all octets. Where they do not, as with a gap, with octets behind them or
-/// with vectors that overlap, the struct has one more field at its end, `octets`: all octets of the message.
-///
-/// An alert and an unknown type are `InvalidData`. Else the first error is that of `NegoView::new`, `ExchangeView::new` and `VerifyView::new`;
-/// where the octets end before the type, that of the header. A message whose own length is not that of the octets, as where another message
-/// follows it, is `InvalidData`: cut a token of several messages by their lengths first. An allocation failure is `OutOfMemory`.
-pub fn page_of_negoex(alloc: Global, octets: &[u8]) -> io::Result<Page>
+/// The page of the one message that the octets are.
+fn page_of_message(alloc: Global, is_item: bool, octets: &[u8]) -> io::Result<Page>
     ensures short { length octets.now < 12 → MatchResult result (λ page. ⊥) (header_layout.rejects octets.now octets.now) }
-    ensures nego { 12 ≤ length octets.now → type_number octets.now ≤ 1 → IsNegoTold (λ page. page.items) octets.now result }
+    ensures nego { 12 ≤ length octets.now → type_number octets.now ≤ 1 → IsNegoTold is_item (λ page. page.items) octets.now result }
     ensures exchange { 12 ≤ length octets.now → 2 ≤ type_number octets.now → type_number octets.now ≤ 5
-        → IsExchangeTold (λ page. page.items) octets.now result }
-    ensures verify { 12 ≤ length octets.now → type_number octets.now ≡ 6 → IsVerifyTold (λ page. page.items) octets.now result }
+        → IsExchangeTold is_item (λ page. page.items) octets.now result }
+    ensures verify { 12 ≤ length octets.now → type_number octets.now ≡ 6 → IsVerifyTold is_item (λ page. page.items) octets.now result }
     ensures other { 12 ≤ length octets.now → 7 ≤ type_number octets.now → MatchResult result (λ page. ⊥) (λ e. error_kind e ≡ ErrorKind.InvalidData) }
 {
     if octets.len() < 12 {
         return Err(header_error(octets));
     }
     match LittleEndian::read_u32(&octets[8..]) {
-        0..=1 => page_of_nego(alloc, octets),
-        2..=5 => page_of_exchange(alloc, octets),
-        6 => page_of_verify(alloc, octets),
+        0..=1 => page_of_nego(alloc, is_item, octets),
+        2..=5 => page_of_exchange(alloc, is_item, octets),
+        6 => page_of_verify(alloc, is_item, octets),
         _ => Err(io::Error::from(ErrorKind::InvalidData)),
+    }
+}
+
+/// Whether another message stands behind the first one, by the length that this one says.
+fn is_followed(octets: &[u8]) -> bool
+    ensures { MatchBool result (IsFollowed octets.now) (IsFollowed octets.now → ⊥) }
+{
+    if octets.len() < 24 {
+        return false;
+    }
+    let size = own_length(octets);
+    40 <= size && size < octets.len()
+}
+
+/// The length that the first message says (MS-NEGOEX, 2.2.6.2, cbMessageLength).
+fn own_length(octets: &[u8]) -> usize
+    requires { 24 ≤ length octets.now }
+    ensures { result ≡ own_length octets.now }
+{
+    LittleEndian::read_u32(&octets[20..]) as usize
+}
+
+/// The page of several messages.
+fn page_of_several(alloc: Global, octets: &[u8]) -> io::Result<Page>
+    ensures { AreTold (λ page. page.items) octets.now result }
+{
+    let mut items = Vec::new(alloc);
+    let mut count = 0;
+    let mut rest = octets;
+    while is_followed(rest) {
+        let (first, others) = rest.split_at(own_length(rest));
+        let mut page = match page_of_message(alloc, true, first) {
+            Ok(page) => page,
+            Err(error) => return Err(error),
+        };
+        if items.append(&mut page).is_err() {
+            return Err(io::Error::from(ErrorKind::OutOfMemory));
+        }
+        count += 1;
+        rest = others;
+    }
+    let mut page = match page_of_message(alloc, true, rest) {
+        Ok(page) => page,
+        Err(error) => return Err(error),
+    };
+    if items.append(&mut page).is_err() {
+        return Err(io::Error::from(ErrorKind::OutOfMemory));
+    }
+    match listed(alloc, count + 1, items) {
+        Ok(page) => Ok(page),
+        Err(_) => Err(io::Error::from(ErrorKind::OutOfMemory)),
+    }
+}
+
+/// The list of so many messages with these tokens.
+fn listed(alloc: Global, count: usize, items: Page) -> Result<Page, AllocError>
+    ensures { IfOk result (λ page. page.items ≡ list_tokens count items.items) }
+{
+    let label = Label::new("NEGOEX");
+    let digits = format!(in alloc; "{}", count)?;
+    let mut items = items;
+    let mut page = Vec::new(alloc);
+    push_token(
+        alloc,
+        Form::List,
+        &label,
+        digits.into_bytes(),
+        Vec::new(alloc),
+        &mut page,
+    )?;
+    page.append(&mut items)?;
+    push_token(
+        alloc,
+        Form::ListEnd,
+        &label,
+        Vec::new(alloc),
+        Vec::new(alloc),
+        &mut page,
+    )?;
+    Ok(page)
+}
+
+/// The page of the messages of NEGOEX that the octets are, told by their MessageTypes (MS-NEGOEX, 2.2.6.1): a `NEGO_MESSAGE` of 0 and 1, an
+/// `EXCHANGE_MESSAGE` of 2 to 5, a `VERIFY_MESSAGE` of 6. The fields have the standard's names, but the signature, which is fixed, is not
+/// shown; GUIDs are in the text of RFC 9562, 4.
+///
+/// A token has one message or several, one behind another (MS-NEGOEX, 2.2.6). Where the first one's own length (2.2.6.2, cbMessageLength) is
+/// a header's 40 octets at least and less than that of the octets, another message begins behind it, and so on; the page is then a list
+/// `NEGOEX` of the messages, in their order.
+///
+/// A message names where its vectors are. Where they stand as they are written, one behind another behind the fixed part (and four zeros, in a
+/// `VERIFY_MESSAGE`), an empty vector at offset zero, the fields tell all octets. Where they do not, as with a gap, with octets behind them or
+/// with vectors that overlap, the struct has one more field at its end, `octets`: all octets of the message.
+///
+/// The first error of the first message that has one decides. An alert and an unknown type are `InvalidData`. Else it is that of
+/// `NegoView::new`, `ExchangeView::new` and `VerifyView::new` over the message's octets; where they end before the type, that of the header. A
+/// last message whose own length is not that of its octets is `InvalidData`. An allocation failure is `OutOfMemory`. The steps grow with the
+/// octets.
+pub fn page_of_negoex(alloc: Global, octets: &[u8]) -> io::Result<Page>
+    ensures one { (IsFollowed octets.now → ⊥) → IsMessageTold false (λ page. page.items) octets.now result }
+    ensures several { IsFollowed octets.now → AreTold (λ page. page.items) octets.now result }
+{
+    if is_followed(octets) {
+        page_of_several(alloc, octets)
+    } else {
+        page_of_message(alloc, false, octets)
     }
 }
 
