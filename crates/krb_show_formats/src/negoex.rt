@@ -511,8 +511,8 @@ fn listed(alloc: Global, count: usize, items: Page) -> Result<Page, AllocError>
 ///
 /// The first error of the first message that has one decides. An alert and an unknown type are `InvalidData`. Else it is that of
 /// `NegoView::new`, `ExchangeView::new` and `VerifyView::new` over the message's octets; where they end before the type, that of the header. A
-/// last message whose own length is not that of its octets is `InvalidData`. An allocation failure is `OutOfMemory`. The steps grow with the
-/// octets.
+/// last message whose own length is not that of its octets is `InvalidData`. An allocation failure is `OutOfMemory`. The steps grow
+/// with the octets and the page, on which extensions that share their octets have them each.
 pub fn page_of_negoex(alloc: Global, octets: &[u8]) -> io::Result<Page>
     ensures one { (IsFollowed octets.now → ⊥) → IsMessageTold false (λ page. page.items) octets.now result }
     ensures several { IsFollowed octets.now → AreTold (λ page. page.items) octets.now result }
