@@ -2,7 +2,8 @@
 //!
 //! What is expected was made by a writer in Python that shares nothing with this library: `struct.pack` of each field in the order of MIT
 //! Kerberos's "Credential cache file format" (sections "Header format", "Principal format" and "Credential format"), of the same values
-//! as here.
+//! as here. That writer makes the files of MIT Kerberos of what they hold. `klist -C -f -a -n -d` of MIT Kerberos 1.20.1 shows of `FOUR`
+//! and `THREE` these principals, times, flags, addresses, types of authorization data, and the value of the configuration entry.
 
 use krb_ccache::{
     CcachePrincipalParts, CcacheVersion, CcacheWriteError, NewCcache, NewCredential, Times,

@@ -2,8 +2,9 @@
 //!
 //! `KTUTIL` and `KADMIN` are files of MIT Kerberos 1.20.1, made by its `ktutil` and `kadmin` with a KDC of a made-up realm on 127.0.0.1:
 //! the rows of these names. `BUILT` and `SMALL` were made by a writer in Python that shares nothing with this library: `struct.pack` of
-//! each field in the order of MIT Kerberos's "Keytab file format", of the same values as here. Which entry of a name is found was read
-//! off that document and the manual of `krb5_kt_get_entry`: a version of 0 asks for the highest.
+//! each field in the order of MIT Kerberos's "Keytab file format", of the same values as here. `klist -k -t -e -K` of MIT Kerberos 1.20.1
+//! shows these values of the first three entries of `BUILT`, and takes the fourth, which has no component, for the end. Which entry of a
+//! name is found was read off that document and the manual of `krb5_kt_get_entry`: a version of 0 asks for the highest.
 
 use krb_fields::PrincipalParts;
 use krb_keytab::{KeytabView, KeytabWriteError, NewEntry, push_entry, write};
@@ -26,12 +27,12 @@ const KADMIN: &str =
     13ce89668300000003000000470002000b4c41422e4558414d504c45000448545450000f7765622e6c61622e6578616d706c\
     65000000016b07355a030011001050ea25f5ea10bdfb5699d80a9a98877900000003";
 
-/// Four entries: among them one of zeros alone, and one whose numbers are as high as they can be.
+/// Four entries: one whose numbers are as high as they can be, and the last one of zeros alone.
 const BUILT: &str =
     "0502000000570002000b4c41422e4558414d504c45000448545450000f7765622e6c61622e6578616d706c65000000026553\
-    f1012c00120020000102030405060708090a0b0c0d0e0f101112131415161718191a1b1c1d1e1f0000012c00000015000000\
-    0000000000000000000000000000000000000000001c000200015200000001fffffffffffffffffefffffd000180ffffffff\
-    0000001a0001000152000161000000010000000200001700016b00000100";
+    f1012c00120020000102030405060708090a0b0c0d0e0f101112131415161718191a1b1c1d1e1f0000012c0000001d000200\
+    01520001780001fffffffffffffffffefffffd000180ffffffff0000001a0001000152000161000000010000000200001700\
+    016b0000010000000015000000000000000000000000000000000000000000";
 
 /// The record of a small entry.
 const SMALL: &str = "0000001a0001000152000161000000010000000203000400016b00000003";
@@ -58,7 +59,7 @@ fn built(rt: HostRuntime) -> Result<(), Fail> {
         key.push(octet)?;
     }
     let web = components(alloc, "HTTP web.lab.example")?;
-    let mut two = components(alloc, "")?;
+    let mut two = components(alloc, "x")?;
     two.push(&[0xff])?;
     let one = components(alloc, "a")?;
     let mut entries = Vec::new(alloc);
@@ -69,14 +70,6 @@ fn built(rt: HostRuntime) -> Result<(), Fail> {
         kvno: 300,
         etype: 18,
         key: &key,
-    })?;
-    entries.push(NewEntry {
-        principal: principal(b"", &[]),
-        name_type: 0,
-        timestamp: 0,
-        kvno: 0,
-        etype: 0,
-        key: b"",
     })?;
     entries.push(NewEntry {
         principal: principal(b"R", &two),
@@ -93,6 +86,14 @@ fn built(rt: HostRuntime) -> Result<(), Fail> {
         kvno: 256,
         etype: 23,
         key: b"k",
+    })?;
+    entries.push(NewEntry {
+        principal: principal(b"", &[]),
+        name_type: 0,
+        timestamp: 0,
+        kvno: 0,
+        etype: 0,
+        key: b"",
     })?;
     let octets = write(alloc, &entries)?;
     assert_eq!(rt; hex::encode(alloc, &octets)?.as_str(), BUILT);
