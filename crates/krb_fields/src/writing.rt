@@ -5,7 +5,8 @@ ghost use Rattle.std.specs.List.{flat_map, AllByRecursion};
 ghost use Rattle.byteorder.specs.Endian.{big_bytes};
 ghost use Rattle.krb_fields.specs.Principals.{principal_of};
 ghost use Rattle.krb_fields.specs.Reading.{size_of};
-ghost use Rattle.krb_fields.specs.Written.{counted_octets, principal_octets, twice_octets, typed_octets, typed_list_octets, FitsPrincipal, FitsTyped, FitsTypedList};
+ghost use Rattle.krb_fields.specs.Written.{counted_octets, principal_octets, twice_octets, typed_octets, typed_list_octets};
+ghost use Rattle.krb_fields.specs.Written.{FitsPrincipal, FitsTyped, FitsTypedList};
 
 use crate::number::LengthSize;
 use crate::typed::TypedOctets;
