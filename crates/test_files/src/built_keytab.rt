@@ -3,8 +3,8 @@
 //! `KTUTIL` and `KADMIN` are files of MIT Kerberos 1.20.1, made by its `ktutil` and `kadmin` with a KDC of a made-up realm on 127.0.0.1:
 //! the rows of these names. `BUILT` and `SMALL` were made by a writer in Python that shares nothing with this library: `struct.pack` of
 //! each field in the order of MIT Kerberos's "Keytab file format", of the same values as here. `klist -k -t -e -K` of MIT Kerberos 1.20.1
-//! shows these values of the first three entries of `BUILT`, and takes the fourth, which has no component, for the end. Which entry of a
-//! name is found was read off that document and the manual of `krb5_kt_get_entry`: a version of 0 asks for the highest.
+//! shows these values of the first three entries of `BUILT`, and takes the fourth, which has no component, for the end. Of a name the
+//! entry of the highest version is expected where a version of 0 is asked for, as `krb5_kt_get_entry` of MIT Kerberos has it.
 
 use krb_fields::PrincipalParts;
 use krb_keytab::{KeytabView, KeytabWriteError, NewEntry, push_entry, write};
