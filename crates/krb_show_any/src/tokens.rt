@@ -13,7 +13,8 @@ use krb_gss_negotiation::gss_api::{ApplicationTag0, GssApiNegInit, NegTokenInit,
 use krb_gss_tokens::{GssApiMessageError, MicToken, WrapToken};
 use krb_show::{Page, Show};
 use krb_show_tokens::{
-    FramedApRep, FramedApReq, FramedError, FramedTgtRep, FramedTgtReq, GssToken, page_of_token,
+    FramedApRep, FramedApReq, FramedAsRep, FramedAsReq, FramedError, FramedTgtRep, FramedTgtReq,
+    GssToken, page_of_token,
 };
 use std::alloc::Global;
 
@@ -55,6 +56,12 @@ impl Pages<(), GssApiMessageError> for Tokens {
         (plain (codes "InitialContextToken")) (λ p. p.items) octets result)
         × (slice_index octets 0 ≡ 96 → HasId 4 1 octets
         → IsToldBy ⟦<FramedTgtRep as DerEncode>⟧ ⟦<FramedTgtRep as Show<GssToken>>⟧
+        (plain (codes "InitialContextToken")) (λ p. p.items) octets result)
+        × (slice_index octets 0 ≡ 96 → HasId 5 0 octets
+        → IsToldBy ⟦<FramedAsReq as DerEncode>⟧ ⟦<FramedAsReq as Show<GssToken>>⟧
+        (plain (codes "InitialContextToken")) (λ p. p.items) octets result)
+        × (slice_index octets 0 ≡ 96 → HasId 6 0 octets
+        → IsToldBy ⟦<FramedAsRep as DerEncode>⟧ ⟦<FramedAsRep as Show<GssToken>>⟧
         (plain (codes "InitialContextToken")) (λ p. p.items) octets result)
         × (slice_index octets 0 ≡ 96 → HasNone octets
         → IsToldBy ⟦<FramedApReq as DerEncode>⟧ ⟦<FramedApReq as Show<GssToken>>⟧

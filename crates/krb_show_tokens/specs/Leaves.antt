@@ -19,8 +19,8 @@ identifier_of label arcs = dotted_of label (dotted arcs)
 abbrev pub is_id : ℕ → ℕ → List ℕ → Bool
 is_id first second id = nat_eq (slice_index id 0) first && nat_eq (slice_index id 1) second
 
--- The names of token ids, each behind a blank: RFC 4121, 4.1 and 4.2.6; 04 00 and 04 01: draft-swift-win2k-krb-user2user-03; 05 01:
--- draft-ietf-kitten-iakerb-03, 3.
+-- The names of token ids, each behind a blank: RFC 4121, 4.1 and 4.2.6; 04 00 and 04 01: draft-swift-win2k-krb-user2user-03; 05 00 and
+-- 06 00: draft-zhu-pku2u-09, 6; 05 01: draft-ietf-kitten-iakerb-03, 3.
 abbrev pub token_id_note : List ℕ → List ℕ
 token_id_note id =
     if is_id 1 0 id then codes " KRB_AP_REQ"
@@ -29,9 +29,11 @@ token_id_note id =
     else (if is_id 4 0 id then codes " KRB_TGT_REQ"
     else (if is_id 4 1 id then codes " KRB_TGT_REP"
     else (if is_id 4 4 id then codes " MIC"
+    else (if is_id 5 0 id then codes " KRB_AS_REQ"
     else (if is_id 5 1 id then codes " IAKERB_PROXY"
     else (if is_id 5 4 id then codes " Wrap"
-    else [])))))))
+    else (if is_id 6 0 id then codes " KRB_AS_REP"
+    else [])))))))))
 
 -- the digits of the two octets, with the name
 abbrev pub token_id_of : Label → List ℕ → List Token → List Token → Type 0

@@ -10,6 +10,7 @@ use crate::leaves::show_token_id;
 use krb_gss_negotiation::gss_api::{ApplicationTag0, KrbMessage};
 use krb_msg::messages::KrbError;
 use krb_msg_app::messages::{ApRep, ApReq, TgtRep, TgtReq};
+use krb_msg_kdc::messages::{AsRep, AsReq};
 use krb_show::{Field, Label, Page, Show, ShowFields, show_fields, show_struct};
 use krb_show_messages::Message;
 use std::alloc::{AllocError, Global};
@@ -62,6 +63,22 @@ impl InnerMessage for TgtRep {
 
     fn name() -> &'static str {
         "TGT-REP"
+    }
+}
+
+impl InnerMessage for AsReq {
+    ghost name = { codes "AS-REQ" };
+
+    fn name() -> &'static str {
+        "AS-REQ"
+    }
+}
+
+impl InnerMessage for AsRep {
+    ghost name = { codes "AS-REP" };
+
+    fn name() -> &'static str {
+        "AS-REP"
     }
 }
 

@@ -43,8 +43,10 @@ fn note_of_token_id(id: [u8; 2]) -> &'static str
         (0x04, 0x00) => " KRB_TGT_REQ",
         (0x04, 0x01) => " KRB_TGT_REP",
         (0x04, 0x04) => " MIC",
+        (0x05, 0x00) => " KRB_AS_REQ",
         (0x05, 0x01) => " IAKERB_PROXY",
         (0x05, 0x04) => " Wrap",
+        (0x06, 0x00) => " KRB_AS_REP",
         _ => "",
     }
 }

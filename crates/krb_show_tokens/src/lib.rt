@@ -1,5 +1,5 @@
-//! Tokens of the GSS-API as pages: the frame of RFC 2743 around messages of Kerberos (RFC 4121, 4.1), SPNEGO (RFC 4178), MIC and Wrap
-//! (RFC 4121, 4.2.6).
+//! Tokens of the GSS-API as pages: the frame of RFC 2743 around messages of Kerberos (RFC 4121, 4.1) and of PKU2U
+//! (draft-zhu-pku2u-09), SPNEGO (RFC 4178), MIC and Wrap (RFC 4121, 4.2.6).
 #![tactic(auto)]
 
 mod elements;
@@ -14,8 +14,9 @@ mod tokens;
 pub use frames::InnerMessage;
 pub use leaves::{show_identifier, show_token_flags, show_token_id, show_unsigned};
 pub use opened::{
-    FramedApRep, FramedApReq, FramedError, FramedTgtRep, FramedTgtReq, LoneMessages, MechListMics,
-    MechTokens, OpenedAs, OpenedOctets, OpensOctets, PlainOctets, UserToUserTokens,
+    FramedApRep, FramedApReq, FramedAsRep, FramedAsReq, FramedError, FramedTgtRep, FramedTgtReq,
+    LoneMessages, MechListMics, MechTokens, OpenedAs, OpenedOctets, OpensOctets, Pku2uTokens,
+    PlainOctets, UserToUserTokens,
 };
 pub use tokens::page_of_token;
 

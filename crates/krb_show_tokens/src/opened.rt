@@ -15,6 +15,7 @@ use krb_gss_negotiation::gss_api::{ApplicationTag0, KrbMessage};
 use krb_gss_tokens::{GssApiMessageError, MicToken};
 use krb_msg::messages::KrbError;
 use krb_msg_app::messages::{ApRep, ApReq, TgtRep, TgtReq};
+use krb_msg_kdc::messages::{AsRep, AsReq};
 use krb_show::{Label, Page, Show, ShowFields, open, show_octets};
 use krb_show_messages::Message;
 use std::alloc::{AllocError, Global};
@@ -34,6 +35,12 @@ pub type FramedTgtReq = ApplicationTag0<KrbMessage<TgtReq>>;
 
 /// A KRB-TGT-REP in a frame (draft-swift-win2k-krb-user2user-03).
 pub type FramedTgtRep = ApplicationTag0<KrbMessage<TgtRep>>;
+
+/// A KRB-AS-REQ in a frame (draft-zhu-pku2u-09, 6).
+pub type FramedAsReq = ApplicationTag0<KrbMessage<AsReq>>;
+
+/// A KRB-AS-REP in a frame (draft-zhu-pku2u-09, 6).
+pub type FramedAsRep = ApplicationTag0<KrbMessage<AsRep>>;
 
 /// Octet strings that may hold a token.
 pub trait OpensOctets {
@@ -131,12 +138,20 @@ pub type UserToUserTokens = OpenedAs<
     OpenedAs<GssToken, FramedTgtRep, LoneMessages>,
 >;
 
+/// Tokens of PKU2U: a KRB-AS-REQ or KRB-AS-REP in a frame (draft-zhu-pku2u-09, 6) is shown as such a token, and other octets as
+/// `UserToUserTokens` are.
+pub type Pku2uTokens = OpenedAs<
+    GssToken,
+    FramedAsReq,
+    OpenedAs<GssToken, FramedAsRep, UserToUserTokens>,
+>;
+
 /// Tokens of mechanisms, `mechToken` and `responseToken` (RFC 4178, 4.2): a KRB-AP-REQ, KRB-AP-REP or KRB-ERROR in a frame (RFC 4121, 4.1) is
-/// shown as such a token, whatever its mechanism and its token id, and other octets as `UserToUserTokens` are.
+/// shown as such a token, whatever its mechanism and its token id, and other octets as `Pku2uTokens` are.
 pub type MechTokens = OpenedAs<
     GssToken,
     FramedApReq,
-    OpenedAs<GssToken, FramedApRep, OpenedAs<GssToken, FramedError, UserToUserTokens>>,
+    OpenedAs<GssToken, FramedApRep, OpenedAs<GssToken, FramedError, Pku2uTokens>>,
 >;
 
 /// MICs over a list of mechanisms, `mechListMIC` (RFC 4178, 4.2 and 5): a MIC token of RFC 4121, 4.2.6.1, is shown as that token, and other

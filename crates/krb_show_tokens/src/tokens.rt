@@ -10,7 +10,9 @@ ghost use Rattle.krb_show_tokens.specs.Told.{IsMicTold, IsToldBy, IsWrapTold};
 
 use crate::GssToken;
 use crate::heads::{Head, head_of};
-use crate::opened::{FramedApRep, FramedApReq, FramedError, FramedTgtRep, FramedTgtReq};
+use crate::opened::{
+    FramedApRep, FramedApReq, FramedAsRep, FramedAsReq, FramedError, FramedTgtRep, FramedTgtReq,
+};
 use krb_constants::gss_api::AP_REQ_TOKEN_ID;
 use krb_der::{Asn1DerError, Der, DerEncode, ExplicitContextTag0};
 use krb_gss_negotiation::gss_api::{ApplicationTag0, GssApiNegInit, NegTokenInit, NegTokenTarg1};
@@ -76,6 +78,10 @@ fn page_of_id(
         (plain (codes "InitialContextToken")) (λ p. p.items) octets.now result }
     ensures tgt_rep { first ≡ 4 → second ≡ 1 → IsToldBy ⟦<FramedTgtRep as DerEncode>⟧ ⟦<FramedTgtRep as Show<GssToken>>⟧
         (plain (codes "InitialContextToken")) (λ p. p.items) octets.now result }
+    ensures as_req { first ≡ 5 → second ≡ 0 → IsToldBy ⟦<FramedAsReq as DerEncode>⟧ ⟦<FramedAsReq as Show<GssToken>>⟧
+        (plain (codes "InitialContextToken")) (λ p. p.items) octets.now result }
+    ensures as_rep { first ≡ 6 → second ≡ 0 → IsToldBy ⟦<FramedAsRep as DerEncode>⟧ ⟦<FramedAsRep as Show<GssToken>>⟧
+        (plain (codes "InitialContextToken")) (λ p. p.items) octets.now result }
     ensures other_id { is_known_id first second ≡ false → result ≡ Err (InvalidId (1 ∷ 0 ∷ []) (first ∷ second ∷ [])) }
 {
     match (first, second) {
@@ -84,6 +90,8 @@ fn page_of_id(
         (3, 0) => page_as::<FramedError>(alloc, "InitialContextToken", octets),
         (4, 0) => page_as::<FramedTgtReq>(alloc, "InitialContextToken", octets),
         (4, 1) => page_as::<FramedTgtRep>(alloc, "InitialContextToken", octets),
+        (5, 0) => page_as::<FramedAsReq>(alloc, "InitialContextToken", octets),
+        (6, 0) => page_as::<FramedAsRep>(alloc, "InitialContextToken", octets),
         _ => Err(GssApiMessageError::InvalidId(AP_REQ_TOKEN_ID, [first, second])),
     }
 }
@@ -101,6 +109,10 @@ fn page_of_head(alloc: Global, head: Head, octets: &[u8]) -> Result<Page, GssApi
     ensures tgt_req { head ≡ Kerberos 4 0 → IsToldBy ⟦<FramedTgtReq as DerEncode>⟧ ⟦<FramedTgtReq as Show<GssToken>>⟧
         (plain (codes "InitialContextToken")) (λ p. p.items) octets.now result }
     ensures tgt_rep { head ≡ Kerberos 4 1 → IsToldBy ⟦<FramedTgtRep as DerEncode>⟧ ⟦<FramedTgtRep as Show<GssToken>>⟧
+        (plain (codes "InitialContextToken")) (λ p. p.items) octets.now result }
+    ensures as_req { head ≡ Kerberos 5 0 → IsToldBy ⟦<FramedAsReq as DerEncode>⟧ ⟦<FramedAsReq as Show<GssToken>>⟧
+        (plain (codes "InitialContextToken")) (λ p. p.items) octets.now result }
+    ensures as_rep { head ≡ Kerberos 6 0 → IsToldBy ⟦<FramedAsRep as DerEncode>⟧ ⟦<FramedAsRep as Show<GssToken>>⟧
         (plain (codes "InitialContextToken")) (λ p. p.items) octets.now result }
     ensures other_id { (first second : ℕ) → head ≡ Kerberos first second → is_known_id first second ≡ false → RefusesId first second result }
     ensures no_id { head ≡ Unknown → IsToldBy ⟦<FramedApReq as DerEncode>⟧ ⟦<FramedApReq as Show<GssToken>>⟧
@@ -127,6 +139,10 @@ fn page_of_frame(alloc: Global, octets: &[u8]) -> Result<Page, GssApiMessageErro
         (plain (codes "InitialContextToken")) (λ p. p.items) octets.now result }
     ensures tgt_rep { HasId 4 1 octets.now → IsToldBy ⟦<FramedTgtRep as DerEncode>⟧ ⟦<FramedTgtRep as Show<GssToken>>⟧
         (plain (codes "InitialContextToken")) (λ p. p.items) octets.now result }
+    ensures as_req { HasId 5 0 octets.now → IsToldBy ⟦<FramedAsReq as DerEncode>⟧ ⟦<FramedAsReq as Show<GssToken>>⟧
+        (plain (codes "InitialContextToken")) (λ p. p.items) octets.now result }
+    ensures as_rep { HasId 6 0 octets.now → IsToldBy ⟦<FramedAsRep as DerEncode>⟧ ⟦<FramedAsRep as Show<GssToken>>⟧
+        (plain (codes "InitialContextToken")) (λ p. p.items) octets.now result }
     ensures other_id { (first second : ℕ) → HasId first second octets.now → is_known_id first second ≡ false → RefusesId first second result }
     ensures no_id { HasNone octets.now → IsToldBy ⟦<FramedApReq as DerEncode>⟧ ⟦<FramedApReq as Show<GssToken>>⟧
         (plain (codes "InitialContextToken")) (λ p. p.items) octets.now result }
@@ -147,7 +163,7 @@ fn page_of_frame(alloc: Global, octets: &[u8]) -> Result<Page, GssApiMessageErro
 ///
 /// In a frame under the mechanism SPNEGO is a NegTokenInit (RFC 4178, 4.2.1), and under each other mechanism the message that the token id
 /// says, two octets: `01 00` KRB-AP-REQ, `02 00` KRB-AP-REP, `03 00` KRB-ERROR (RFC 4121, 4.1), `04 00` KRB-TGT-REQ, `04 01` KRB-TGT-REP
-/// (draft-swift-win2k-krb-user2user-03).
+/// (draft-swift-win2k-krb-user2user-03), `05 00` KRB-AS-REQ, `06 00` KRB-AS-REP (draft-zhu-pku2u-09, 6).
 ///
 /// All octets are the token's: trailing ones are refused. No octet is `Asn1Error(TruncatedData)`, and another first octet
 /// `Asn1Error(InvalidData)`. A token of DER that is none is refused with the error of `from_bytes`, as `Asn1Error`; one whose frame ends
@@ -175,6 +191,10 @@ pub fn page_of_token(alloc: Global, octets: &[u8]) -> Result<Page, GssApiMessage
     ensures tgt_req { slice_index octets.now 0 ≡ 96 → HasId 4 0 octets.now → IsToldBy ⟦<FramedTgtReq as DerEncode>⟧ ⟦<FramedTgtReq as Show<GssToken>>⟧
         (plain (codes "InitialContextToken")) (λ p. p.items) octets.now result }
     ensures tgt_rep { slice_index octets.now 0 ≡ 96 → HasId 4 1 octets.now → IsToldBy ⟦<FramedTgtRep as DerEncode>⟧ ⟦<FramedTgtRep as Show<GssToken>>⟧
+        (plain (codes "InitialContextToken")) (λ p. p.items) octets.now result }
+    ensures as_req { slice_index octets.now 0 ≡ 96 → HasId 5 0 octets.now → IsToldBy ⟦<FramedAsReq as DerEncode>⟧ ⟦<FramedAsReq as Show<GssToken>>⟧
+        (plain (codes "InitialContextToken")) (λ p. p.items) octets.now result }
+    ensures as_rep { slice_index octets.now 0 ≡ 96 → HasId 6 0 octets.now → IsToldBy ⟦<FramedAsRep as DerEncode>⟧ ⟦<FramedAsRep as Show<GssToken>>⟧
         (plain (codes "InitialContextToken")) (λ p. p.items) octets.now result }
     ensures no_id { slice_index octets.now 0 ≡ 96 → HasNone octets.now → IsToldBy ⟦<FramedApReq as DerEncode>⟧ ⟦<FramedApReq as Show<GssToken>>⟧
         (plain (codes "InitialContextToken")) (λ p. p.items) octets.now result }

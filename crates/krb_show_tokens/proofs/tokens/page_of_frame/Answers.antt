@@ -26,5 +26,11 @@ returns-clause-tgt_req c h = c.page_of_head.ensures.tgt_req (c.in_ok-head.ensure
 pub returns-clause-tgt_rep : goal.returns-clause-tgt_rep
 returns-clause-tgt_rep c h = c.page_of_head.ensures.tgt_rep (c.in_ok-head.ensures.kerberos 4 1 h)
 
+pub returns-clause-as_req : goal.returns-clause-as_req
+returns-clause-as_req c h = c.page_of_head.ensures.as_req (c.in_ok-head.ensures.kerberos 5 0 h)
+
+pub returns-clause-as_rep : goal.returns-clause-as_rep
+returns-clause-as_rep c h = c.page_of_head.ensures.as_rep (c.in_ok-head.ensures.kerberos 6 0 h)
+
 pub returns-clause-other_id : goal.returns-clause-other_id
 returns-clause-other_id c first second h e = c.page_of_head.ensures.other_id first second (c.in_ok-head.ensures.kerberos first second h) e
