@@ -14,7 +14,7 @@ use krb_gss_tokens::{GssApiMessageError, MicToken, WrapToken};
 use krb_show::{Page, Show};
 use krb_show_tokens::{
     FramedApRep, FramedApReq, FramedAsRep, FramedAsReq, FramedError, FramedTgtRep, FramedTgtReq,
-    GssToken, page_of_token,
+    GssToken, ProxyMessages, TokenPages, page_of_token,
 };
 use std::alloc::Global;
 
@@ -63,6 +63,7 @@ impl Pages<(), GssApiMessageError> for Tokens {
         × (slice_index octets 0 ≡ 96 → HasId 6 0 octets
         → IsToldBy ⟦<FramedAsRep as DerEncode>⟧ ⟦<FramedAsRep as Show<GssToken>>⟧
         (plain (codes "InitialContextToken")) (λ p. p.items) octets result)
+        × (slice_index octets 0 ≡ 96 → HasId 5 1 octets → ⟦<ProxyMessages as TokenPages>⟧.tells octets result)
         × (slice_index octets 0 ≡ 96 → HasNone octets
         → IsToldBy ⟦<FramedApReq as DerEncode>⟧ ⟦<FramedApReq as Show<GssToken>>⟧
         (plain (codes "InitialContextToken")) (λ p. p.items) octets result)

@@ -1,1 +1,2 @@
 mod OneFrame
+mod OneMessage

@@ -99,3 +99,8 @@ mic_memory octets t h = (t.flags, t.seq_num, (t.checksum, h.0))
 
 pub wrap_memory : (octets : List ℕ) (t : Wrap) → WrapIs octets t → WrapFirstError octets gss.OutOfMemory
 wrap_memory octets t h = (t.flags, t.ec, t.rrc, t.seq_num, (t.checksum, h.0))
+
+-- ---- token ids
+
+pub same_ids : (head : Head) (a b first second : ℕ) → head ≡ heads.Kerberos a b → head ≡ heads.Kerberos first second → (a ≡ first) × (b ≡ second)
+same_ids head a b first second e f = (cc, cc)

@@ -34,11 +34,12 @@ pub record HasNone (octets : List ℕ) : Type 0 where
   pub no_id : (first second : ℕ) → HasId first second octets → ⊥
 
 -- the token ids of KRB-AP-REQ, KRB-AP-REP and KRB-ERROR (RFC 4121, 4.1), of KRB-TGT-REQ and KRB-TGT-REP (draft-swift-win2k-krb-user2user-03)
--- and of KRB-AS-REQ and KRB-AS-REP (draft-zhu-pku2u-09, 6)
+-- of KRB-AS-REQ and KRB-AS-REP (draft-zhu-pku2u-09, 6), and of messages of IAKERB (draft-ietf-kitten-iakerb-03, 3)
 abbrev pub is_known_id : ℕ → ℕ → Bool
 is_known_id first second =
     (nat_eq first 1 && nat_eq second 0) || (nat_eq first 2 && nat_eq second 0) || (nat_eq first 3 && nat_eq second 0)
-    || (nat_eq first 4 && (nat_eq second 0 || nat_eq second 1)) || (nat_eq first 5 && nat_eq second 0) || (nat_eq first 6 && nat_eq second 0)
+    || (nat_eq first 4 && (nat_eq second 0 || nat_eq second 1)) || (nat_eq first 5 && (nat_eq second 0 || nat_eq second 1))
+    || (nat_eq first 6 && nat_eq second 0)
 
 -- the first octet of a token: frame, NegTokenInit [0], NegTokenResp [1], and the first of the ids of MIC and Wrap
 abbrev pub is_token : ℕ → Bool

@@ -2,4 +2,5 @@ pub mod Frames
 pub mod Heads
 pub mod Leaves
 pub mod Opened
+pub mod Proxies
 pub mod Told

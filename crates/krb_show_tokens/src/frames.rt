@@ -10,7 +10,7 @@ use crate::leaves::show_token_id;
 use krb_gss_negotiation::gss_api::{ApplicationTag0, KrbMessage};
 use krb_msg::messages::KrbError;
 use krb_msg_app::messages::{ApRep, ApReq, TgtRep, TgtReq};
-use krb_msg_kdc::messages::{AsRep, AsReq};
+use krb_msg_kdc::messages::{AsRep, AsReq, TgsRep, TgsReq};
 use krb_show::{Field, Label, Page, Show, ShowFields, show_fields, show_struct};
 use krb_show_messages::Message;
 use std::alloc::{AllocError, Global};
@@ -79,6 +79,22 @@ impl InnerMessage for AsRep {
 
     fn name() -> &'static str {
         "AS-REP"
+    }
+}
+
+impl InnerMessage for TgsReq {
+    ghost name = { codes "TGS-REQ" };
+
+    fn name() -> &'static str {
+        "TGS-REQ"
+    }
+}
+
+impl InnerMessage for TgsRep {
+    ghost name = { codes "TGS-REP" };
+
+    fn name() -> &'static str {
+        "TGS-REP"
     }
 }
 

@@ -1,5 +1,5 @@
-//! Tokens of the GSS-API as pages: the frame of RFC 2743 around messages of Kerberos (RFC 4121, 4.1) and of PKU2U
-//! (draft-zhu-pku2u-09), SPNEGO (RFC 4178), MIC and Wrap (RFC 4121, 4.2.6).
+//! Tokens of the GSS-API as pages: the frame of RFC 2743 around messages of Kerberos (RFC 4121, 4.1), of PKU2U
+//! (draft-zhu-pku2u-09) and of IAKERB (draft-ietf-kitten-iakerb-03), SPNEGO (RFC 4178), MIC and Wrap (RFC 4121, 4.2.6).
 #![tactic(auto)]
 
 mod elements;
@@ -9,6 +9,7 @@ mod leaves;
 mod negotiation;
 mod opened;
 mod per_message;
+mod proxies;
 mod tokens;
 
 pub use frames::InnerMessage;
@@ -18,6 +19,7 @@ pub use opened::{
     LoneMessages, MechListMics, MechTokens, OpenedAs, OpenedOctets, OpensOctets, Pku2uTokens,
     PlainOctets, UserToUserTokens,
 };
+pub use proxies::{FramedProxy, ProxyMessages, TokenPages};
 pub use tokens::page_of_token;
 
 /// The way in which this crate shows: octet strings of a negotiation that hold known tokens are opened.

@@ -13,6 +13,7 @@ use crate::heads::{Head, head_of};
 use crate::opened::{
     FramedApRep, FramedApReq, FramedAsRep, FramedAsReq, FramedError, FramedTgtRep, FramedTgtReq,
 };
+use crate::proxies::{ProxyMessages, TokenPages};
 use krb_constants::gss_api::AP_REQ_TOKEN_ID;
 use krb_der::{Asn1DerError, Der, DerEncode, ExplicitContextTag0};
 use krb_gss_negotiation::gss_api::{ApplicationTag0, GssApiNegInit, NegTokenInit, NegTokenTarg1};
@@ -82,6 +83,7 @@ fn page_of_id(
         (plain (codes "InitialContextToken")) (λ p. p.items) octets.now result }
     ensures as_rep { first ≡ 6 → second ≡ 0 → IsToldBy ⟦<FramedAsRep as DerEncode>⟧ ⟦<FramedAsRep as Show<GssToken>>⟧
         (plain (codes "InitialContextToken")) (λ p. p.items) octets.now result }
+    ensures iakerb { first ≡ 5 → second ≡ 1 → ⟦<ProxyMessages as TokenPages>⟧.tells octets.now result }
     ensures other_id { is_known_id first second ≡ false → result ≡ Err (InvalidId (1 ∷ 0 ∷ []) (first ∷ second ∷ [])) }
 {
     match (first, second) {
@@ -91,6 +93,7 @@ fn page_of_id(
         (4, 0) => page_as::<FramedTgtReq>(alloc, "InitialContextToken", octets),
         (4, 1) => page_as::<FramedTgtRep>(alloc, "InitialContextToken", octets),
         (5, 0) => page_as::<FramedAsReq>(alloc, "InitialContextToken", octets),
+        (5, 1) => ProxyMessages::page_of(alloc, octets),
         (6, 0) => page_as::<FramedAsRep>(alloc, "InitialContextToken", octets),
         _ => Err(GssApiMessageError::InvalidId(AP_REQ_TOKEN_ID, [first, second])),
     }
@@ -114,6 +117,7 @@ fn page_of_head(alloc: Global, head: Head, octets: &[u8]) -> Result<Page, GssApi
         (plain (codes "InitialContextToken")) (λ p. p.items) octets.now result }
     ensures as_rep { head ≡ Kerberos 6 0 → IsToldBy ⟦<FramedAsRep as DerEncode>⟧ ⟦<FramedAsRep as Show<GssToken>>⟧
         (plain (codes "InitialContextToken")) (λ p. p.items) octets.now result }
+    ensures iakerb { head ≡ Kerberos 5 1 → ⟦<ProxyMessages as TokenPages>⟧.tells octets.now result }
     ensures other_id { (first second : ℕ) → head ≡ Kerberos first second → is_known_id first second ≡ false → RefusesId first second result }
     ensures no_id { head ≡ Unknown → IsToldBy ⟦<FramedApReq as DerEncode>⟧ ⟦<FramedApReq as Show<GssToken>>⟧
         (plain (codes "InitialContextToken")) (λ p. p.items) octets.now result }
@@ -143,6 +147,7 @@ fn page_of_frame(alloc: Global, octets: &[u8]) -> Result<Page, GssApiMessageErro
         (plain (codes "InitialContextToken")) (λ p. p.items) octets.now result }
     ensures as_rep { HasId 6 0 octets.now → IsToldBy ⟦<FramedAsRep as DerEncode>⟧ ⟦<FramedAsRep as Show<GssToken>>⟧
         (plain (codes "InitialContextToken")) (λ p. p.items) octets.now result }
+    ensures iakerb { HasId 5 1 octets.now → ⟦<ProxyMessages as TokenPages>⟧.tells octets.now result }
     ensures other_id { (first second : ℕ) → HasId first second octets.now → is_known_id first second ≡ false → RefusesId first second result }
     ensures no_id { HasNone octets.now → IsToldBy ⟦<FramedApReq as DerEncode>⟧ ⟦<FramedApReq as Show<GssToken>>⟧
         (plain (codes "InitialContextToken")) (λ p. p.items) octets.now result }
@@ -163,12 +168,17 @@ fn page_of_frame(alloc: Global, octets: &[u8]) -> Result<Page, GssApiMessageErro
 ///
 /// In a frame under the mechanism SPNEGO is a NegTokenInit (RFC 4178, 4.2.1), and under each other mechanism the message that the token id
 /// says, two octets: `01 00` KRB-AP-REQ, `02 00` KRB-AP-REP, `03 00` KRB-ERROR (RFC 4121, 4.1), `04 00` KRB-TGT-REQ, `04 01` KRB-TGT-REP
-/// (draft-swift-win2k-krb-user2user-03), `05 00` KRB-AS-REQ, `06 00` KRB-AS-REP (draft-zhu-pku2u-09, 6).
+/// (draft-swift-win2k-krb-user2user-03), `05 00` KRB-AS-REQ, `06 00` KRB-AS-REP (draft-zhu-pku2u-09, 6),
+/// `05 01` a message of IAKERB (draft-ietf-kitten-iakerb-03, 3). In that is a message of Kerberos, which its tag tells (RFC 4120, 5.10): `6a`
+/// AS-REQ, `6b` AS-REP, `6c` TGS-REQ, `6d` TGS-REP, `6e` AP-REQ, `6f` AP-REP, `7e` KRB-ERROR.
 ///
 /// All octets are the token's: trailing ones are refused. No octet is `Asn1Error(TruncatedData)`, and another first octet
 /// `Asn1Error(InvalidData)`. A token of DER that is none is refused with the error of `from_bytes`, as `Asn1Error`; one whose frame ends
 /// before a token id is refused as a KRB-AP-REQ. Another token id in a frame is `InvalidId`, with `01 00` in the expected one's place. MIC and
-/// Wrap tokens are refused as by `MicToken::from_slice` and `WrapToken::from_slice`. `OutOfMemory` comes where an allocation fails.
+/// Wrap tokens are refused as by `MicToken::from_slice` and `WrapToken::from_slice`. A message of IAKERB is refused as by
+/// `IAKerbProxyMessage::decode_application_iakerb_proxy_message` of the type that the tag tells, or of `AsReq` where no message stands behind the
+/// header or one with another tag; and with `Asn1Error(InvalidData)` where that call skips octets, behind the token or behind the known fields of
+/// the header: no octet is left out of a page. `OutOfMemory` comes where an allocation fails.
 pub fn page_of_token(alloc: Global, octets: &[u8]) -> Result<Page, GssApiMessageError>
     ensures empty { octets.now ≡ [] → result ≡ Err (Asn1Error TruncatedData) }
     ensures other { 0 < length octets.now → is_token (slice_index octets.now 0) ≡ false → result ≡ Err (Asn1Error InvalidData) }
@@ -196,6 +206,7 @@ pub fn page_of_token(alloc: Global, octets: &[u8]) -> Result<Page, GssApiMessage
         (plain (codes "InitialContextToken")) (λ p. p.items) octets.now result }
     ensures as_rep { slice_index octets.now 0 ≡ 96 → HasId 6 0 octets.now → IsToldBy ⟦<FramedAsRep as DerEncode>⟧ ⟦<FramedAsRep as Show<GssToken>>⟧
         (plain (codes "InitialContextToken")) (λ p. p.items) octets.now result }
+    ensures iakerb { slice_index octets.now 0 ≡ 96 → HasId 5 1 octets.now → ⟦<ProxyMessages as TokenPages>⟧.tells octets.now result }
     ensures no_id { slice_index octets.now 0 ≡ 96 → HasNone octets.now → IsToldBy ⟦<FramedApReq as DerEncode>⟧ ⟦<FramedApReq as Show<GssToken>>⟧
         (plain (codes "InitialContextToken")) (λ p. p.items) octets.now result }
     ensures other_id { slice_index octets.now 0 ≡ 96 → (first second : ℕ) → HasId first second octets.now → is_known_id first second ≡ false

@@ -1,0 +1,255 @@
+//! Messages of IAKERB (draft-ietf-kitten-iakerb-03, 3).
+
+ghost use Rattle.std.specs.Prelude.{◌≡◌, ◌++◌, ◌∷◌, false, ℕ, List, Result, Some, Vec, codes, IfErr, IfOk, MatchOption};
+ghost use Rattle.std.specs.declared.alloc.Global.{Global};
+ghost use Rattle.krb_der.specs.Asn1.{sequence};
+ghost use Rattle.krb_gss_negotiation.specs.Proxy.{iakerb, proxy_id};
+ghost use Rattle.krb_gss_tokens.specs.declared.error.GssApiMessageError.{GssApiMessageError};
+ghost use Rattle.krb_gss_tokens.specs.Rejected.{Answers};
+ghost use Rattle.krb_show.specs.Opened.{IsOf};
+ghost use Rattle.krb_show.specs.Pages.{◌then◌, struct_of};
+ghost use Rattle.krb_show.specs.Tokens.{Token, plain};
+ghost use Rattle.krb_show_tokens.specs.Frames.{IsFramed};
+ghost use Rattle.krb_show_tokens.specs.Leaves.{identifier_of, token_id_of};
+ghost use Rattle.krb_show_tokens.specs.Proxies.{HasMessage, HasOther, IsProxyError, IsProxyTold, IsTag, is_proxied_tag};
+
+use crate::GssToken;
+use crate::frames::{InnerMessage, TokenIdField};
+use crate::heads::read_mechanism;
+use krb_constants::gss_api::IAKERB_PROXY_TOKEN_ID;
+use krb_der::{Asn1DerError, Der, DerEncode, to_vec};
+use krb_der_core::read_tlv;
+use krb_der_x509::ObjectIdentifierAsn1;
+use krb_gss_negotiation::gss_api::{ApplicationTag0, IAKerbProxyMessage};
+use krb_gss_tokens::GssApiMessageError;
+use krb_msg::messages::KrbError;
+use krb_msg_app::messages::{ApRep, ApReq};
+use krb_msg_iakerb::messages::IAKerbHeader;
+use krb_msg_kdc::messages::{AsRep, AsReq, TgsRep, TgsReq};
+use krb_show::{Field, Label, Page, Show, ShowFields, show_identifier, show_struct};
+use krb_show_messages::Message;
+use std::alloc::{AllocError, Global};
+use std::marker::PhantomData;
+
+/// The mechanism IAKERB (draft-ietf-kitten-iakerb-03, 3) in decimal.
+const IAKERB: &str = "1.3.6.1.5.2.5";
+
+/// The tag of a SEQUENCE, which a header is (X.690, 8.9).
+const SEQUENCE: u8 = 0x30;
+
+/// A message of IAKERB in a frame (draft-ietf-kitten-iakerb-03, 3; RFC 2743, 3.1). `T` is the type of the message in it, such as `AsReq`.
+pub type FramedProxy<T> = ApplicationTag0<IAKerbProxyMessage<T>>;
+
+/// The name of the mechanism IAKERB, for showing.
+#[derive(Drop)]
+struct IAKerbField<'a> {
+    label: Label<'a>,
+}
+
+impl<'a> ShowFields for IAKerbField<'a> {
+    ghost shows = { λ f. identifier_of f.label iakerb };
+
+    #[tactic(auto, using(crate::proofs::OneMessage::iakerb_text))]
+    fn show_fields(&self, alloc: Global, page: &mut Page) -> Result<(), AllocError> {
+        show_identifier(alloc, &self.label, IAKERB, page)
+    }
+}
+
+/// The mechanism, the token id, the header and the message, under its name (draft-ietf-kitten-iakerb-03, 3).
+impl<T: Show<Message> + InnerMessage> Show<GssToken> for IAKerbProxyMessage<T> {
+    ghost shows = { λ label v. struct_of label (
+        identifier_of (plain (codes "thisMech")) iakerb
+        then token_id_of (plain (codes "TOK_ID")) proxy_id
+        then ⟦<IAKerbHeader as Show<Message>>⟧.shows (plain (codes "IAKERB-HEADER")) v.header
+        then ⟦<T as Show<Message>>⟧.shows (plain ⟦<T as InnerMessage>⟧.name) v.krb_msg) };
+
+    fn show(&self, alloc: Global, label: &Label, page: &mut Page) -> Result<(), AllocError> {
+        let mechanism = IAKerbField {
+            label: Label {
+                text: "thisMech",
+                kind: None,
+                is_item: false,
+            },
+        };
+        let id = TokenIdField {
+            label: Label {
+                text: "TOK_ID",
+                kind: None,
+                is_item: false,
+            },
+            id: IAKERB_PROXY_TOKEN_ID,
+        };
+        let header = Field {
+            label: Label {
+                text: "IAKERB-HEADER",
+                kind: None,
+                is_item: false,
+            },
+            value: &self.header,
+            shown: PhantomData::<Message>,
+        };
+        let message = Field {
+            label: Label {
+                text: T::name(),
+                kind: None,
+                is_item: false,
+            },
+            value: &self.krb_msg,
+            shown: PhantomData::<Message>,
+        };
+        show_struct(alloc, label, &(((mechanism, id), header), message), page)
+    }
+}
+
+/// A kind of token, whose octets have a page.
+pub trait TokenPages {
+    /// Which page octets have, or which error.
+    ghost tells: { List ℕ → Result (Vec Token Global) GssApiMessageError → Type 0 };
+
+    /// The page of octets.
+    fn page_of(alloc: Global, octets: &[u8]) -> Result<Page, GssApiMessageError>
+        ensures { tells octets.now result };
+}
+
+/// The message whose one encoding the octets are.
+fn read_proxy<T: Der + Drop>(
+    alloc: Global,
+    octets: &[u8],
+) -> Result<FramedProxy<T>, GssApiMessageError>
+    ensures found { IfOk result (IsOf ⟦<FramedProxy<T> as DerEncode>⟧.is_value ⟦<FramedProxy<T> as DerEncode>⟧.enc octets.now) }
+    ensures reads { (v : _) → IsOf ⟦<FramedProxy<T> as DerEncode>⟧.is_value ⟦<FramedProxy<T> as DerEncode>⟧.enc octets.now v → Answers result v }
+    ensures first_error { IfErr result (IsProxyError ⟦<IAKerbHeader as DerEncode>⟧ ⟦<T as DerEncode>⟧ ⟦<FramedProxy<T> as DerEncode>⟧ octets.now) }
+{
+    let token: FramedProxy<T> = IAKerbProxyMessage::<T>::decode_application_iakerb_proxy_message(
+        alloc, octets,
+    )?;
+    let written = to_vec(alloc, &token)?;
+    if written.as_slice() != octets {
+        return Err(GssApiMessageError::Asn1Error(Asn1DerError::InvalidData));
+    }
+    Ok(token)
+}
+
+/// A message of IAKERB in a frame, whose one encoding the octets are.
+///
+/// Octets that are none are refused with the first error, as by `decode_application_iakerb_proxy_message`. Where that reads a message, but
+/// octets follow the token or, in its header, the known fields, the error is `Asn1Error(InvalidData)`: no octet is left out of a page.
+impl<T: Der + Show<Message> + InnerMessage + Drop> TokenPages for FramedProxy<T> {
+    ghost tells = { λ octets result. IsProxyTold ⟦<IAKerbHeader as DerEncode>⟧ ⟦<T as DerEncode>⟧ ⟦<FramedProxy<T> as DerEncode>⟧
+        ⟦<FramedProxy<T> as Show<GssToken>>⟧ (plain (codes "InitialContextToken")) (λ p. p.items) octets result };
+
+    fn page_of(alloc: Global, octets: &[u8]) -> Result<Page, GssApiMessageError> {
+        let token = read_proxy::<T>(alloc, octets)?;
+        let label = Label::new("InitialContextToken");
+        let mut page = Vec::new(alloc);
+        token.show(alloc, &label, &mut page)?;
+        Ok(page)
+    }
+}
+
+/// What follows a token id.
+fn behind_id(octets: &[u8]) -> Option<&[u8]>
+    ensures { MatchOption result ((first second : ℕ) (rest : List ℕ) → octets.now ≡ first ∷ second ∷ rest → ⊥)
+        (λ rest. (first : ℕ) × (second : ℕ) × (octets.now ≡ first ∷ second ∷ rest.now)) }
+{
+    if octets.len() < 2 {
+        return None;
+    }
+    Some(&octets[2..])
+}
+
+/// What follows a header.
+fn behind_header(octets: &[u8]) -> Option<&[u8]>
+    ensures { MatchOption result ((header rest : List ℕ) → octets.now ≡ sequence header ++ rest → ⊥)
+        (λ rest. (header : List ℕ) × (octets.now ≡ sequence header ++ rest.now)) }
+{
+    match read_tlv(SEQUENCE, octets) {
+        Ok((_, taken)) => Some(&octets[taken..]),
+        Err(_) => None,
+    }
+}
+
+/// The tag of the message behind a token id and a header.
+fn tag_behind(inner: &[u8]) -> Option<u8>
+    ensures { MatchOption result
+        ((first second tag : ℕ) (header rest : List ℕ) → inner.now ≡ first ∷ second ∷ (sequence header ++ tag ∷ rest) → ⊥)
+        (λ tag. (first : ℕ) × (second : ℕ) × (header : List ℕ) × (rest : List ℕ) × (inner.now ≡ first ∷ second ∷ (sequence header ++ tag ∷ rest))) }
+{
+    let header = behind_id(inner)?;
+    let message = behind_header(header)?;
+    if message.is_empty() {
+        return None;
+    }
+    Some(message[0])
+}
+
+/// The tag of the message in a token of this mechanism, with these octets behind it.
+fn tag_in(mechanism: &ObjectIdentifierAsn1, inner: &[u8], octets: &[u8]) -> Option<u8>
+    requires { IsFramed mechanism.now inner.now octets.now }
+    ensures { IsTag octets.now result }
+{
+    tag_behind(inner)
+}
+
+/// The tag of the message in a token.
+fn read_tag(alloc: Global, octets: &[u8]) -> Result<Option<u8>, AllocError>
+    ensures { IfOk result (IsTag octets.now) }
+{
+    match read_mechanism(alloc, octets)? {
+        Some((mechanism, inner)) => Ok(tag_in(&mechanism, inner, octets)),
+        None => Ok(None),
+    }
+}
+
+/// The tag of the message in a token.
+#[tactic(auto, using(crate::proofs::OneMessage::only_tag, crate::proofs::OneMessage::other_tag))]
+fn tag_of(alloc: Global, octets: &[u8]) -> Result<Option<u8>, AllocError>
+    ensures known { (t : ℕ) → HasMessage t octets.now → IfOk result (λ tag. tag ≡ Some t) }
+    ensures other { HasOther octets.now → IfOk result (λ tag. is_proxied_tag tag ≡ false) }
+{
+    let tag = read_tag(alloc, octets)?;
+    Ok(tag)
+}
+
+/// The page of a message of IAKERB, whose message has this tag.
+fn page_of_tag(alloc: Global, tag: Option<u8>, octets: &[u8]) -> Result<Page, GssApiMessageError>
+    ensures as_req { tag ≡ Some 106 → ⟦<FramedProxy<AsReq> as TokenPages>⟧.tells octets.now result }
+    ensures as_rep { tag ≡ Some 107 → ⟦<FramedProxy<AsRep> as TokenPages>⟧.tells octets.now result }
+    ensures tgs_req { tag ≡ Some 108 → ⟦<FramedProxy<TgsReq> as TokenPages>⟧.tells octets.now result }
+    ensures tgs_rep { tag ≡ Some 109 → ⟦<FramedProxy<TgsRep> as TokenPages>⟧.tells octets.now result }
+    ensures ap_req { tag ≡ Some 110 → ⟦<FramedProxy<ApReq> as TokenPages>⟧.tells octets.now result }
+    ensures ap_rep { tag ≡ Some 111 → ⟦<FramedProxy<ApRep> as TokenPages>⟧.tells octets.now result }
+    ensures krb_error { tag ≡ Some 126 → ⟦<FramedProxy<KrbError> as TokenPages>⟧.tells octets.now result }
+    ensures other { is_proxied_tag tag ≡ false → ⟦<FramedProxy<AsReq> as TokenPages>⟧.tells octets.now result }
+{
+    match tag {
+        Some(0x6b) => <FramedProxy<AsRep>>::page_of(alloc, octets),
+        Some(0x6c) => <FramedProxy<TgsReq>>::page_of(alloc, octets),
+        Some(0x6d) => <FramedProxy<TgsRep>>::page_of(alloc, octets),
+        Some(0x6e) => <FramedProxy<ApReq>>::page_of(alloc, octets),
+        Some(0x6f) => <FramedProxy<ApRep>>::page_of(alloc, octets),
+        Some(0x7e) => <FramedProxy<KrbError>>::page_of(alloc, octets),
+        _ => <FramedProxy<AsReq>>::page_of(alloc, octets),
+    }
+}
+
+/// Messages of IAKERB in frames, told by the tag of the message in it (RFC 4120, 5.10): `6a` AS-REQ, `6b` AS-REP, `6c` TGS-REQ, `6d` TGS-REP,
+/// `6e` AP-REQ, `6f` AP-REP, `7e` KRB-ERROR. Where there is none, or another tag, the octets are refused as an AS-REQ.
+#[derive(Drop)]
+pub struct ProxyMessages;
+
+impl TokenPages for ProxyMessages {
+    ghost tells = { λ octets result. (HasMessage 106 octets → ⟦<FramedProxy<AsReq> as TokenPages>⟧.tells octets result)
+        × (HasMessage 107 octets → ⟦<FramedProxy<AsRep> as TokenPages>⟧.tells octets result)
+        × (HasMessage 108 octets → ⟦<FramedProxy<TgsReq> as TokenPages>⟧.tells octets result)
+        × (HasMessage 109 octets → ⟦<FramedProxy<TgsRep> as TokenPages>⟧.tells octets result)
+        × (HasMessage 110 octets → ⟦<FramedProxy<ApReq> as TokenPages>⟧.tells octets result)
+        × (HasMessage 111 octets → ⟦<FramedProxy<ApRep> as TokenPages>⟧.tells octets result)
+        × (HasMessage 126 octets → ⟦<FramedProxy<KrbError> as TokenPages>⟧.tells octets result)
+        × (HasOther octets → ⟦<FramedProxy<AsReq> as TokenPages>⟧.tells octets result) };
+
+    fn page_of(alloc: Global, octets: &[u8]) -> Result<Page, GssApiMessageError> {
+        let tag = tag_of(alloc, octets)?;
+        page_of_tag(alloc, tag, octets)
+    }
+}
