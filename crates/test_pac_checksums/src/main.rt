@@ -21,7 +21,7 @@ struct Verdicts {
 }
 
 /// What is known of the checksums of a PAC; `None` where the octets are none, or have no signatures that can be read.
-fn verdicts(alloc: Global, key: &[u8], octets: &[u8]) -> Result<Option<Verdicts>, AllocError> {
+fn verify_all(alloc: Global, key: &[u8], octets: &[u8]) -> Result<Option<Verdicts>, AllocError> {
     let Ok(signatures) = PacSignatures::new(octets) else {
         return Ok(None);
     };
@@ -55,7 +55,7 @@ fn flipped(alloc: Global, key: &[u8], octets: &[u8]) -> Result<String, AllocErro
     for place in 0..octets.len() {
         for bit in 0..8u32 {
             changed[place] = octets[place] ^ (1u8 << bit);
-            if let Some(found) = verdicts(alloc, key, &changed)? {
+            if let Some(found) = verify_all(alloc, key, &changed)? {
                 if holds(&found.server) {
                     with_server = with_server.saturating_add(1);
                     if holds_if_any(&found.kdc) && holds_if_any(&found.full) {
@@ -74,7 +74,7 @@ fn flipped(alloc: Global, key: &[u8], octets: &[u8]) -> Result<String, AllocErro
 
 /// What is printed of a PAC.
 fn answer(alloc: Global, key: &[u8], octets: &[u8]) -> Result<String, AllocError> {
-    match verdicts(alloc, key, octets)? {
+    match verify_all(alloc, key, octets)? {
         Some(found) => {
             let line = flipped(alloc, key, octets)?;
             format!(in alloc;
