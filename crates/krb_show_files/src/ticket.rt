@@ -1,0 +1,176 @@
+//! Keys, flags, tickets and octets with their types, as a credential has them (MIT Kerberos, "Credential cache file format", "Credential format").
+
+ghost use Rattle.std.specs.Prelude.{◌≡◌, IfOk};
+ghost use Rattle.krb_show.specs.Leaves.{flags_of};
+ghost use Rattle.krb_show.specs.Opened.{opened_by};
+ghost use Rattle.krb_show.specs.Pages.{list_of};
+ghost use Rattle.krb_show_files.specs.Files.{address_of, authorization_element_of, flag_bits, header_field_of, key_of};
+
+use crate::{Address, AuthorizationElement, File, HeaderField};
+use byteorder::{BigEndian, ByteOrder};
+use krb_der::{BitStringAsn1, DerEncode};
+use krb_fields::{TypedListView, TypedOctets};
+use krb_msg_types::data_types::Ticket;
+use krb_show::{Label, Page, Show, show_fields, show_list, show_opened, show_struct};
+use krb_show_messages::Message;
+use std::alloc::{AllocError, Global};
+
+/// The fields of octets with their type.
+#[derive(Drop)]
+struct TypedFields<'a> {
+    kind: u32,
+    octets: &'a [u8],
+}
+
+/// The fields of these octets.
+fn typed_fields<'a>(typed: &TypedOctets<'a>) -> TypedFields<'a>
+    ensures kind { result.kind ≡ typed.now.kind }
+    ensures octets { result.octets.now ≡ typed.now.octets }
+{
+    TypedFields {
+        kind: u32::from(typed.kind()),
+        octets: typed.octets(),
+    }
+}
+
+/// A field of a cache's header.
+impl<'a> Show<HeaderField> for TypedOctets<'a> {
+    ghost shows = { header_field_of };
+
+    fn show(&self, alloc: Global, label: &Label, page: &mut Page) -> Result<(), AllocError> {
+        let fields = typed_fields(self);
+        show_struct(
+            alloc,
+            label,
+            &show_fields!(File; fields; "tag" = kind, "octets" = octets),
+            page,
+        )
+    }
+}
+
+/// An address (RFC 4120, 5.2.5 and 7.5.3).
+impl<'a> Show<Address> for TypedOctets<'a> {
+    ghost shows = { address_of };
+
+    fn show(&self, alloc: Global, label: &Label, page: &mut Page) -> Result<(), AllocError> {
+        let fields = typed_fields(self);
+        show_struct(
+            alloc,
+            label,
+            &show_fields!(File; fields; "addr-type" AddressType = kind, "address" = octets),
+            page,
+        )
+    }
+}
+
+/// An element of authorization data (RFC 4120, 5.2.6).
+impl<'a> Show<AuthorizationElement> for TypedOctets<'a> {
+    ghost shows = { authorization_element_of };
+
+    fn show(&self, alloc: Global, label: &Label, page: &mut Page) -> Result<(), AllocError> {
+        let fields = typed_fields(self);
+        show_struct(
+            alloc,
+            label,
+            &show_fields!(File; fields; "ad-type" AuthorizationDataType = kind, "ad-data" = octets),
+            page,
+        )
+    }
+}
+
+/// Octets with their types, in their order.
+fn typed_of<'a>(alloc: Global, typed: TypedListView<'a>) -> Result<Vec<TypedOctets<'a>>, AllocError>
+    ensures { IfOk result (λ v. v.items ≡ typed.entry) }
+{
+    typed.collect(alloc)
+}
+
+/// The addresses of a credential, in their order.
+#[derive(Drop)]
+pub(crate) struct Addresses<'a> {
+    pub(crate) list: TypedListView<'a>,
+}
+
+impl<'a> Show<File> for Addresses<'a> {
+    ghost shows = { λ label v. list_of address_of label v.list };
+
+    fn show(&self, alloc: Global, label: &Label, page: &mut Page) -> Result<(), AllocError> {
+        let items = typed_of(alloc, self.list.again())?;
+        show_list::<Address, _>(alloc, label, &items, page)
+    }
+}
+
+/// The authorization data of a credential, in its order.
+#[derive(Drop)]
+pub(crate) struct AuthorizationElements<'a> {
+    pub(crate) list: TypedListView<'a>,
+}
+
+impl<'a> Show<File> for AuthorizationElements<'a> {
+    ghost shows = { λ label v. list_of authorization_element_of label v.list };
+
+    fn show(&self, alloc: Global, label: &Label, page: &mut Page) -> Result<(), AllocError> {
+        let items = typed_of(alloc, self.list.again())?;
+        show_list::<AuthorizationElement, _>(alloc, label, &items, page)
+    }
+}
+
+/// A key: its encryption type and its octets.
+#[derive(Drop)]
+pub(crate) struct Key<'a> {
+    pub(crate) keytype: u32,
+    pub(crate) keyvalue: &'a [u8],
+}
+
+impl<'a> Show<File> for Key<'a> {
+    ghost shows = { λ label v. key_of label v.keytype v.keyvalue.now };
+
+    fn show(&self, alloc: Global, label: &Label, page: &mut Page) -> Result<(), AllocError> {
+        show_struct(
+            alloc,
+            label,
+            &show_fields!(File; self; "keytype" EncryptionType = keytype, "keyvalue" = keyvalue),
+            page,
+        )
+    }
+}
+
+/// Flags of 32 bits as a bit string, bit 0 the most significant (RFC 4120, 5.2.8).
+fn flag_bits(alloc: Global, flags: u32) -> Result<BitStringAsn1, AllocError>
+    ensures { IfOk result (λ v. v ≡ flag_bits flags) }
+{
+    let mut octets = [0u8; 4];
+    BigEndian::write_u32(&mut octets, flags);
+    let mut bits = Vec::with_capacity(alloc, 4)?;
+    bits.extend_from_slice(&octets)?;
+    Ok(BitStringAsn1::with_bytes(bits))
+}
+
+/// The flags of a ticket (RFC 4120, 5.3).
+#[derive(Drop)]
+pub(crate) struct TicketFlags {
+    pub(crate) flags: u32,
+}
+
+impl Show<File> for TicketFlags {
+    ghost shows = { λ label v. flags_of label (flag_bits v.flags) };
+
+    fn show(&self, alloc: Global, label: &Label, page: &mut Page) -> Result<(), AllocError> {
+        let bits = flag_bits(alloc, self.flags)?;
+        Show::<File>::show(&bits, alloc, label, page)
+    }
+}
+
+/// Octets in a ticket's place: a Ticket (RFC 4120, 5.3) is opened.
+#[derive(Drop)]
+pub(crate) struct TicketOctets<'a> {
+    pub(crate) octets: &'a [u8],
+}
+
+impl<'a> Show<File> for TicketOctets<'a> {
+    ghost shows = { λ label v. opened_by ⟦<Ticket as DerEncode>⟧.is_value ⟦<Ticket as DerEncode>⟧.enc ⟦<Ticket as Show<Message>>⟧.shows label v.octets.now };
+
+    fn show(&self, alloc: Global, label: &Label, page: &mut Page) -> Result<(), AllocError> {
+        show_opened::<Message, Ticket>(alloc, label, self.octets, page)
+    }
+}
