@@ -1,10 +1,10 @@
 -- The files of MIT Kerberos as tokens, and which octets are none.
 use Rattle.std.specs.Prelude.{◌≡◌, ◌≢◌, ℕ, pos, List, Err, ◌⊎◌, codes}
-use Rattle.krb_der_core.specs.GeneralizedTime.{Time, IsRealTime}
 use Rattle.byteorder.specs.Endian.{big_bytes}
 use Rattle.krb_ccache.specs.Ccache.{Ccache, CcacheIs, Credential, TypedPrincipal, version_octet}
 use Rattle.krb_ccache.specs.Reading.{ccache_of as ccache_read}
 use Rattle.krb_der_core.specs.BitString.{Bits}
+use Rattle.krb_der_core.specs.GeneralizedTime.{Time, IsRealTime}
 use Rattle.krb_fields.specs.Reading.{Typed}
 use Rattle.krb_keytab.specs.Entry.{Entry}
 use Rattle.krb_keytab.specs.Keytab.{KeytabIs}
@@ -17,9 +17,9 @@ use Rattle.krb_show_files.specs.declared.error.FilePageError.{FilePageError}
 use Rattle.krb_show_files.specs.declared.error.FilePageError.TheVariants as errors
 use Rattle.krb_view.specs.Times.{unix_seconds}
 
--- ---- values of both files
+-- ---- values of both files (MIT Kerberos, "Keytab file format" and "Credential cache file format")
 
--- texts, which are any octets
+-- components ("Keytab file format"; "Credential cache file format", "Principal format"), which are texts of any octets
 abbrev pub texts_of : Label → List (List ℕ) → List Token → List Token → Type 0
 texts_of label texts = list_of text_of label texts
 
@@ -27,14 +27,15 @@ texts_of label texts = list_of text_of label texts
 abbrev pub IsNoTime : ℕ → Type 0
 IsNoTime seconds = (t : Time) → IsRealTime t → unix_seconds t ≢ pos seconds
 
--- "the number of seconds since the epoch": the time, or the number where there is no such time
+-- a time of 32 bits, in seconds since 1970 ("Keytab file format", timestamp; "Credential cache file format", "Credential format", authtime and those
+-- behind it): the time, or the number where there is no such time
 abbrev pub time_or_number_of : Label → ℕ → List Token → List Token → Type 0
 time_or_number_of label seconds old new =
     ((t : Time) × IsRealTime t × (unix_seconds t ≡ pos seconds) × time_of label t old new) ⊎ (IsNoTime seconds × number_of label (pos seconds) old new)
 
 -- ---- keytabs
 
--- "Keytab file format", "keytab entry": the principal, when the key was written, the version of the key, and the key
+-- "Keytab file format", an entry: the principal, when the key was written, the version of the key, and the key
 abbrev pub entry_of : Label → Entry → List Token → List Token → Type 0
 entry_of label e = struct_of label (
     number_of (of_kind (codes "name-type") NameType) (pos e.name_type)
@@ -68,7 +69,7 @@ principal_of label p = struct_of label (
     then text_of (plain (codes "realm")) p.principal.realm
     then texts_of (plain (codes "components")) p.principal.components)
 
--- "Credential cache file format", "Header format": a field, "tag (16 bits)" and octets
+-- "Credential cache file format", "Header format": a field, its tag of 16 bits and its octets
 abbrev pub header_field_of : ShowsAs Typed
 header_field_of label t = struct_of label (number_of (plain (codes "tag")) (pos t.kind) then octets_of (plain (codes "octets")) t.octets)
 

@@ -8,16 +8,16 @@ use krb_keytab::KeytabError;
 use std::alloc::AllocError;
 use thiserror::Error;
 
-/// Why octets are no keytab or no credential cache, or why one has no page.
+/// Why octets have no page as a keytab or as a credential cache (MIT Kerberos, "Keytab file format" and "Credential cache file format").
 #[derive(Debug, Clone, Copy, PartialEq, Eq, Error)]
 pub enum FilePageError {
-    /// They are no keytab.
+    /// They are no keytab: their first error from the left.
     #[error("{0}")]
     Keytab(KeytabError),
-    /// They are no credential cache.
+    /// They are no credential cache: their first error from the left.
     #[error("{0}")]
     Ccache(CcacheError),
-    /// An allocation failed.
+    /// They are a keytab or a credential cache, and an allocation failed.
     #[error("out of memory")]
     OutOfMemory,
 }
