@@ -1,1 +1,2 @@
+mod FileTimes
 mod Units
