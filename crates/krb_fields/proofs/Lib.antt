@@ -1,1 +1,2 @@
 pub mod Components
+mod Kept

@@ -1,5 +1,5 @@
 -- The octets that fields are written as, and which values have a field.
-use Rattle.std.specs.Prelude.{ℕ, ◌<◌, ◌^◌, List, ◌++◌, length}
+use Rattle.std.specs.Prelude.{◌≡◌, ℕ, ◌<◌, ◌^◌, List, ◌++◌, length, take}
 use Rattle.std.specs.List.{flat_map, AllByRecursion}
 use Rattle.byteorder.specs.Endian.{big_bytes}
 use Rattle.krb_fields.specs.Reading.{Principal, Typed}
@@ -43,3 +43,7 @@ FitsTypedList ts = FitsNumber 4 (length ts) × AllByRecursion (FitsTyped 4) ts
 -- a number of 16 bits, twice
 abbrev pub twice_octets : ℕ → List ℕ
 twice_octets x = big_bytes 2 x ++ big_bytes 2 x
+
+-- the second octets begin with the first
+abbrev pub Begins : List ℕ → List ℕ → Type 0
+Begins old new = take (length old) new ≡ old

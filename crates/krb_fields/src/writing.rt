@@ -1,12 +1,12 @@
 //! Writing of fields at the end of a vector.
 
-ghost use Rattle.std.specs.Prelude.{◌≡◌, ◌++◌, ◌<◌, ◌^◌, ◌↔◌, IsTrue, length, OnOk};
+ghost use Rattle.std.specs.Prelude.{◌≡◌, ◌++◌, ◌<◌, ◌^◌, ◌↔◌, IsTrue, length, OnOk, IfErr};
 ghost use Rattle.std.specs.List.{flat_map, AllByRecursion};
 ghost use Rattle.byteorder.specs.Endian.{big_bytes};
 ghost use Rattle.krb_fields.specs.Principals.{principal_of};
 ghost use Rattle.krb_fields.specs.Reading.{size_of};
 ghost use Rattle.krb_fields.specs.Written.{counted_octets, principal_octets, twice_octets, typed_octets, typed_list_octets};
-ghost use Rattle.krb_fields.specs.Written.{FitsPrincipal, FitsTyped, FitsTypedList};
+ghost use Rattle.krb_fields.specs.Written.{Begins, FitsPrincipal, FitsTyped, FitsTypedList};
 
 use crate::number::LengthSize;
 use crate::typed::TypedOctets;
@@ -34,7 +34,8 @@ pub fn fits(size: LengthSize, len: usize) -> bool
 /// Appends a number of two or four octets.
 pub fn push_number(out: &mut Vec<u8>, size: LengthSize, number: u32) -> Result<(), AllocError>
     requires { number < 256 ^ size_of size }
-    ensures { OnOk result (out.new.items ≡ out.old.items ++ big_bytes (size_of size) number) }
+    ensures ok { OnOk result (out.new.items ≡ out.old.items ++ big_bytes (size_of size) number) }
+    ensures kept { IfErr result (λ _. Begins out.old.items out.new.items) }
 {
     match size {
         LengthSize::Two => out.extend_from_slice(&(number as u16).to_be_bytes())?,
@@ -45,7 +46,8 @@ pub fn push_number(out: &mut Vec<u8>, size: LengthSize, number: u32) -> Result<(
 
 /// Appends a number of one octet.
 pub fn push_octet(out: &mut Vec<u8>, number: u8) -> Result<(), AllocError>
-    ensures { OnOk result (out.new.items ≡ out.old.items ++ big_bytes 1 number) }
+    ensures ok { OnOk result (out.new.items ≡ out.old.items ++ big_bytes 1 number) }
+    ensures kept { IfErr result (λ _. Begins out.old.items out.new.items) }
 {
     out.extend_from_slice(&[number])?;
     Ok(())
@@ -54,7 +56,8 @@ pub fn push_octet(out: &mut Vec<u8>, number: u8) -> Result<(), AllocError>
 /// Appends octets behind their length.
 pub fn push_counted(out: &mut Vec<u8>, size: LengthSize, octets: &[u8]) -> Result<(), AllocError>
     requires { length octets.now < 256 ^ size_of size }
-    ensures { OnOk result (out.new.items ≡ out.old.items ++ counted_octets (size_of size) octets.now) }
+    ensures ok { OnOk result (out.new.items ≡ out.old.items ++ counted_octets (size_of size) octets.now) }
+    ensures kept { IfErr result (λ _. Begins out.old.items out.new.items) }
 {
     push_number(out, size, octets.len() as u32)?;
     out.extend_from_slice(octets)?;
@@ -83,7 +86,8 @@ pub fn push_principal(
     principal: &PrincipalParts,
 ) -> Result<(), AllocError>
     requires { FitsPrincipal (size_of size) (principal_of principal.now) }
-    ensures { OnOk result (out.new.items ≡ out.old.items ++ principal_octets (size_of size) (principal_of principal.now)) }
+    ensures ok { OnOk result (out.new.items ≡ out.old.items ++ principal_octets (size_of size) (principal_of principal.now)) }
+    ensures kept { IfErr result (λ _. Begins out.old.items out.new.items) }
 {
     push_number(out, size, principal.components.len() as u32)?;
     push_counted(out, size, principal.realm)?;
@@ -100,7 +104,8 @@ pub fn push_typed(
     typed: &TypedOctets,
 ) -> Result<(), AllocError>
     requires { FitsTyped (size_of size) typed.now }
-    ensures { OnOk result (out.new.items ≡ out.old.items ++ typed_octets (size_of size) typed.now) }
+    ensures ok { OnOk result (out.new.items ≡ out.old.items ++ typed_octets (size_of size) typed.now) }
+    ensures kept { IfErr result (λ _. Begins out.old.items out.new.items) }
 {
     push_number(out, LengthSize::Two, u32::from(typed.kind()))?;
     push_counted(out, size, typed.octets())
@@ -108,7 +113,8 @@ pub fn push_typed(
 
 /// Appends a number of 16 bits twice.
 pub fn push_twice(out: &mut Vec<u8>, number: u16) -> Result<(), AllocError>
-    ensures { OnOk result (out.new.items ≡ out.old.items ++ twice_octets number) }
+    ensures ok { OnOk result (out.new.items ≡ out.old.items ++ twice_octets number) }
+    ensures kept { IfErr result (λ _. Begins out.old.items out.new.items) }
 {
     push_number(out, LengthSize::Two, u32::from(number))?;
     push_number(out, LengthSize::Two, u32::from(number))
@@ -133,7 +139,8 @@ pub fn push_each_typed(
     list: &[TypedOctets],
 ) -> Result<(), AllocError>
     requires { AllByRecursion (FitsTyped (size_of size)) list.now }
-    ensures { OnOk result (out.new.items ≡ out.old.items ++ flat_map (typed_octets (size_of size)) list.now) }
+    ensures ok { OnOk result (out.new.items ≡ out.old.items ++ flat_map (typed_octets (size_of size)) list.now) }
+    ensures kept { IfErr result (λ _. Begins out.old.items out.new.items) }
 {
     'typed: for typed in list {
         push_typed(out, size, typed)?;
@@ -151,7 +158,8 @@ pub fn fits_typed_list(list: &[TypedOctets]) -> bool
 /// Appends a list: its count of 32 bits, and its octets, each behind their type of 16 bits and their length of 32 bits.
 pub fn push_typed_list(out: &mut Vec<u8>, list: &[TypedOctets]) -> Result<(), AllocError>
     requires { FitsTypedList list.now }
-    ensures { OnOk result (out.new.items ≡ out.old.items ++ typed_list_octets list.now) }
+    ensures ok { OnOk result (out.new.items ≡ out.old.items ++ typed_list_octets list.now) }
+    ensures kept { IfErr result (λ _. Begins out.old.items out.new.items) }
 {
     push_number(out, LengthSize::Four, list.len() as u32)?;
     push_each_typed(out, LengthSize::Four, list)

@@ -2,6 +2,7 @@
 use Rattle.std.specs.Prelude.{ℕ, ◌+◌, ◌/◌, ◌%◌, ◌^◌, nat_lt, List, [], ◌∷◌, ◌++◌, codes, if◌then◌else◌}
 use Rattle.std.specs.List.{flat_map}
 use Rattle.std.specs.Fmt.{decimal}
+use Rattle.byteorder.specs.Endian.{big_bytes}
 use Rattle.krb_pac_logon.specs.Sid.{identifier_authority, sub_authorities}
 
 -- HEXDIG of a number below 16 (RFC 5234, B.1), a capital from 10 on
@@ -14,9 +15,7 @@ octet_text o = hex_digit (o / 16) ∷ hex_digit (o % 16) ∷ []
 
 -- twelve digits of a number: those of its six octets, the highest first
 unfoldable pub hex_text : ℕ → List ℕ
-hex_text n =
-    octet_text (n / 0x100_0000_0000 % 256) ++ octet_text (n / 0x1_0000_0000 % 256) ++ octet_text (n / 0x100_0000 % 256)
-    ++ octet_text (n / 0x1_0000 % 256) ++ octet_text (n / 0x100 % 256) ++ octet_text (n % 256)
+hex_text n = flat_map octet_text (big_bytes 6 n)
 
 -- IdentifierAuthority: below 2^32 in decimal, else `0x` and twelve digits
 abbrev pub authority_text : ℕ → List ℕ
