@@ -7,10 +7,18 @@ use Rattle.krb_der_core.specs.declared.error.Asn1DerError.{Asn1DerError}
 use Rattle.krb_der_core.specs.declared.error.Asn1DerError.TheVariants as errors
 use Rattle.krb_gss_tokens.specs.declared.error.GssApiMessageError.{GssApiMessageError}
 use Rattle.krb_gss_tokens.specs.declared.error.GssApiMessageError.TheVariants as gss
+use Rattle.krb_ccache.specs.declared.error.CcacheError.{CcacheError}
+use Rattle.krb_ccache.specs.declared.error.CcacheError.TheVariants as ccache
+use Rattle.krb_fields.specs.declared.error.FieldError.{FieldError}
+use Rattle.krb_fields.specs.declared.error.FieldError.TheVariants as field
+use Rattle.krb_keytab.specs.declared.error.KeytabError.{KeytabError}
+use Rattle.krb_keytab.specs.declared.error.KeytabError.TheVariants as keytab
 use Rattle.krb_msg_password.specs.declared.error.ReadFrameError.{ReadFrameError}
 use Rattle.krb_msg_password.specs.declared.error.ReadFrameError.TheVariants as unread
 use Rattle.krb_pac.specs.declared.error.PacError.{PacError}
 use Rattle.krb_pac.specs.declared.error.PacError.TheVariants as pac
+use Rattle.krb_show_files.specs.declared.error.FilePageError.{FilePageError}
+use Rattle.krb_show_files.specs.declared.error.FilePageError.TheVariants as files
 use Rattle.krb_show_password.specs.declared.error.PasswordFrameError.{PasswordFrameError}
 use Rattle.krb_show_password.specs.declared.error.PasswordFrameError.TheVariants as frame
 use Rattle.krb_show_any.specs.declared.error.PageError.{PageError}
@@ -41,6 +49,12 @@ abbrev pub of_frame : {P : Type 0} → Result P PasswordFrameError → Result P 
 of_frame (Ok p) = Ok p
 of_frame (Err (frame.Frame unread.OutOfMemory)) = Err page.OutOfMemory
 of_frame (Err e) = Err (page.PasswordFrame e)
+
+abbrev pub of_file : {P : Type 0} → Result P FilePageError → Result P PageError
+of_file (Ok p) = Ok p
+of_file (Err (files.Keytab e)) = Err (page.Keytab e)
+of_file (Err (files.Ccache e)) = Err (page.Ccache e)
+of_file (Err files.OutOfMemory) = Err page.OutOfMemory
 
 -- ---- the error and what it means
 
@@ -76,10 +90,33 @@ frame_reason (frame.Frame (unread.ApMessage e)) = codes "ApMessage: the first me
 frame_reason (frame.Frame (unread.KrbPriv e)) = codes "KrbPriv: the second message is no KRB-PRIV"
 frame_reason (frame.Frame unread.OutOfMemory) = codes "out of memory"
 
+abbrev pub record_reason : FieldError → List ℕ
+record_reason field.Truncated = codes "InvalidRecord: a record ends within a number"
+record_reason field.LengthPastEnd = codes "InvalidRecord: a length says more octets than a record has left"
+record_reason field.CountPastEnd = codes "InvalidRecord: a count says more elements than a record has octets left"
+record_reason field.RepetitionDiffers = codes "InvalidRecord: a number that stands twice differs"
+
+abbrev pub keytab_reason : KeytabError → List ℕ
+keytab_reason (keytab.InvalidVersion n) = codes "InvalidVersion: the version is not 2, octets 05 02"
+keytab_reason keytab.Truncated = codes "Truncated: the octets end within the version, a record's length or a record"
+keytab_reason (keytab.InvalidRecord e) = record_reason e
+
+abbrev pub field_reason : FieldError → List ℕ
+field_reason field.Truncated = codes "InvalidField: the octets end within a number"
+field_reason field.LengthPastEnd = codes "InvalidField: a length says more octets than there are"
+field_reason field.CountPastEnd = codes "InvalidField: a count says more elements than there are octets"
+field_reason field.RepetitionDiffers = codes "InvalidField: a number that stands twice differs"
+
+abbrev pub ccache_reason : CcacheError → List ℕ
+ccache_reason (ccache.InvalidVersion n) = codes "InvalidVersion: the version is not 3 or 4, octets 05 03 or 05 04"
+ccache_reason (ccache.InvalidField e) = field_reason e
+
 abbrev pub reason : PageError → List ℕ
 reason (page.Der e) = der_reason e
 reason (page.Token e) = token_reason e
 reason (page.Pac e) = pac_reason e
 reason (page.Negoex e) = codes "the octets are no message of NEGOEX"
 reason (page.PasswordFrame e) = frame_reason e
+reason (page.Keytab e) = keytab_reason e
+reason (page.Ccache e) = ccache_reason e
 reason page.OutOfMemory = codes "out of memory"

@@ -1,5 +1,5 @@
 -- What octets begin as.
-use Rattle.std.specs.Prelude.{ℕ, nat_eq, nat_le, ◌+◌, ◌*◌, length, slice_index, ◌||◌, ◌&&◌, Bool, if◌then◌else◌, Option, Some, None, List, [], ◌∷◌}
+use Rattle.std.specs.Prelude.{ℕ, nat_eq, nat_le, ◌+◌, ◌*◌, length, slice_index, ◌||◌, ◌&&◌, Bool, true, if◌then◌else◌, Option, Some, None, List, [], ◌∷◌}
 use Rattle.krb_show_messages.specs.declared.kinds.DataKind.{DataKind}
 use Rattle.krb_show_messages.specs.Told.{is_message, is_part}
 use Rattle.krb_show_pkinit.specs.declared.kinds.CertificateKind.{CertificateKind}
@@ -18,9 +18,13 @@ is_token_tag tag = nat_eq tag 96 || nat_eq tag 160 || nat_eq tag 161
 abbrev pub is_at : List ℕ → ℕ → ℕ → Bool
 is_at octets place octet = nat_eq (slice_index octets place) octet
 
--- the token id of MIC or of Wrap (RFC 4121, 4.2.6)
+-- the fourth octet is the filler of a Wrap token, ff (RFC 4121, 4.2.6.2), or there is none
+abbrev pub is_filler : List ℕ → Bool
+is_filler octets = if nat_le 4 (length octets) then is_at octets 3 255 else true
+
+-- the token id of MIC or of Wrap (RFC 4121, 4.2.6), behind which Wrap has its filler
 abbrev pub is_per_message : List ℕ → Bool
-is_per_message octets = nat_le 2 (length octets) && (is_at octets 0 4 || is_at octets 0 5) && is_at octets 1 4
+is_per_message octets = nat_le 2 (length octets) && is_at octets 1 4 && (is_at octets 0 4 || (is_at octets 0 5 && is_filler octets))
 
 -- seven zeros behind the first octet: the other octets of a PAC's count, and its version (MS-PAC, 2.3)
 abbrev pub is_zeros : List ℕ → Bool
@@ -39,6 +43,14 @@ abbrev pub is_frame : List ℕ → Bool
 is_frame octets =
     nat_le 4 (length octets) && is_at octets 2 0 && is_at octets 3 1 && nat_eq (slice_index octets 0 * 256 + slice_index octets 1) (length octets)
 
+-- version 2 (MIT Kerberos, "Keytab file format")
+abbrev pub is_keytab : List ℕ → Bool
+is_keytab octets = nat_le 2 (length octets) && is_at octets 0 5 && is_at octets 1 2
+
+-- version 3 or 4 (MIT Kerberos, "Credential cache file format")
+abbrev pub is_ccache : List ℕ → Bool
+is_ccache octets = nat_le 2 (length octets) && is_at octets 0 5 && (is_at octets 1 3 || is_at octets 1 4)
+
 -- what octets begin as, where no tag tells it
 abbrev pub kind_without_tag : List ℕ → Option Kind
 kind_without_tag octets =
@@ -46,6 +58,8 @@ kind_without_tag octets =
     else if is_negoex octets then Some kind.Negoex
     else if is_zeros octets then Some kind.Pac
     else if is_frame octets then Some kind.PasswordFrame
+    else if is_keytab octets then Some kind.Keytab
+    else if is_ccache octets then Some kind.Ccache
     else None
 
 -- what octets begin as
@@ -55,12 +69,15 @@ kind_of (tag ∷ octets) =
     if is_application tag then Some (kind.Application tag) else if is_token_tag tag then Some kind.Token else kind_without_tag (tag ∷ octets)
 
 -- one fact for each kind
-abbrev pub by_kind : Kind → (ℕ → Type 0) → Type 0 → Type 0 → Type 0 → Type 0 → (DataKind → Type 0) → (CertificateKind → Type 0) → Type 0 → Type 0
-by_kind (kind.Application tag) application token pac negoex frame bare certificate tree = application tag
-by_kind kind.Token application token pac negoex frame bare certificate tree = token
-by_kind kind.Pac application token pac negoex frame bare certificate tree = pac
-by_kind kind.Negoex application token pac negoex frame bare certificate tree = negoex
-by_kind kind.PasswordFrame application token pac negoex frame bare certificate tree = frame
-by_kind (kind.Data k) application token pac negoex frame bare certificate tree = bare k
-by_kind (kind.Certificate k) application token pac negoex frame bare certificate tree = certificate k
-by_kind kind.Tree application token pac negoex frame bare certificate tree = tree
+abbrev pub by_kind : Kind → (ℕ → Type 0) → Type 0 → Type 0 → Type 0 → Type 0 → Type 0 → Type 0 → (DataKind → Type 0) → (CertificateKind → Type 0)
+    → Type 0 → Type 0
+by_kind (kind.Application tag) application token pac negoex frame keytab ccache bare certificate tree = application tag
+by_kind kind.Token application token pac negoex frame keytab ccache bare certificate tree = token
+by_kind kind.Pac application token pac negoex frame keytab ccache bare certificate tree = pac
+by_kind kind.Negoex application token pac negoex frame keytab ccache bare certificate tree = negoex
+by_kind kind.PasswordFrame application token pac negoex frame keytab ccache bare certificate tree = frame
+by_kind kind.Keytab application token pac negoex frame keytab ccache bare certificate tree = keytab
+by_kind kind.Ccache application token pac negoex frame keytab ccache bare certificate tree = ccache
+by_kind (kind.Data k) application token pac negoex frame keytab ccache bare certificate tree = bare k
+by_kind (kind.Certificate k) application token pac negoex frame keytab ccache bare certificate tree = certificate k
+by_kind kind.Tree application token pac negoex frame keytab ccache bare certificate tree = tree

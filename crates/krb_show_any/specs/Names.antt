@@ -52,6 +52,8 @@ other_named name =
     else if is_same (codes "PAC") name then Some kind.Pac
     else if is_same (codes "NEGOEX") name then Some kind.Negoex
     else if is_same (codes "password-frame") name then Some kind.PasswordFrame
+    else if is_same (codes "keytab") name then Some kind.Keytab
+    else if is_same (codes "ccache") name then Some kind.Ccache
     else if is_same (codes "tree") name then Some kind.Tree
     else None
 
@@ -82,6 +84,8 @@ kind_name kind.Token = codes "token"
 kind_name kind.Pac = codes "PAC"
 kind_name kind.Negoex = codes "NEGOEX"
 kind_name kind.PasswordFrame = codes "password-frame"
+kind_name kind.Keytab = codes "keytab"
+kind_name kind.Ccache = codes "ccache"
 kind_name kind.Tree = codes "tree"
 kind_name (kind.Data k) = data_name k
 kind_name (kind.Certificate k) = certificate_name k

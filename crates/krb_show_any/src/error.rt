@@ -1,13 +1,17 @@
 //! Why octets have no page.
 
 ghost use Rattle.std.specs.Prelude.{◌≡◌};
-ghost use Rattle.krb_show_any.specs.Errors.{der_reason, frame_reason, of_der, of_exchange, of_frame, of_pac, of_token, pac_reason, reason, token_reason};
+ghost use Rattle.krb_show_any.specs.Errors.{ccache_reason, der_reason, field_reason, frame_reason, keytab_reason, of_der, of_exchange, of_file, of_frame, of_pac, of_token, pac_reason, reason, record_reason, token_reason};
 
+use krb_ccache::CcacheError;
 use krb_der::Asn1DerError;
+use krb_fields::FieldError;
 use krb_gss_tokens::GssApiMessageError;
+use krb_keytab::KeytabError;
 use krb_msg_password::ReadFrameError;
 use krb_pac::PacError;
 use krb_show::Page;
+use krb_show_files::FilePageError;
 use krb_show_password::PasswordFrameError;
 use std::io;
 use thiserror::Error;
@@ -30,6 +34,12 @@ pub enum PageError {
     /// The octets are no frame in which a password is changed, for this reason.
     #[error("{0}")]
     PasswordFrame(PasswordFrameError),
+    /// The octets are no keytab, for this reason.
+    #[error("{0}")]
+    Keytab(KeytabError),
+    /// The octets are no credential cache, for this reason.
+    #[error("{0}")]
+    Ccache(CcacheError),
     /// An allocation failed.
     #[error("out of memory")]
     OutOfMemory,
@@ -89,6 +99,18 @@ pub fn of_frame(outcome: Result<Page, PasswordFrameError>) -> Result<Page, PageE
         Ok(page) => Ok(page),
         Err(PasswordFrameError::Frame(ReadFrameError::OutOfMemory)) => Err(PageError::OutOfMemory),
         Err(error) => Err(PageError::PasswordFrame(error)),
+    }
+}
+
+/// The result of reading a keytab or a credential cache.
+pub fn of_file(outcome: Result<Page, FilePageError>) -> Result<Page, PageError>
+    ensures { result ≡ of_file outcome }
+{
+    match outcome {
+        Ok(page) => Ok(page),
+        Err(FilePageError::OutOfMemory) => Err(PageError::OutOfMemory),
+        Err(FilePageError::Keytab(error)) => Err(PageError::Keytab(error)),
+        Err(FilePageError::Ccache(error)) => Err(PageError::Ccache(error)),
     }
 }
 
@@ -155,6 +177,56 @@ fn frame_reason(error: &PasswordFrameError) -> &'static str
     }
 }
 
+/// Why the record of a keytab holds no entry.
+fn record_reason(error: &FieldError) -> &'static str
+    ensures { result.now ≡ record_reason error.now }
+{
+    match error {
+        FieldError::Truncated => "InvalidRecord: a record ends within a number",
+        FieldError::LengthPastEnd =>
+            "InvalidRecord: a length says more octets than a record has left",
+        FieldError::CountPastEnd =>
+            "InvalidRecord: a count says more elements than a record has octets left",
+        FieldError::RepetitionDiffers => "InvalidRecord: a number that stands twice differs",
+    }
+}
+
+/// Why octets are no keytab.
+fn keytab_reason(error: &KeytabError) -> &'static str
+    ensures { result.now ≡ keytab_reason error.now }
+{
+    match error {
+        KeytabError::InvalidVersion(_) => "InvalidVersion: the version is not 2, octets 05 02",
+        KeytabError::Truncated =>
+            "Truncated: the octets end within the version, a record's length or a record",
+        KeytabError::InvalidRecord(why) => record_reason(why),
+    }
+}
+
+/// Why the field of a credential cache is not whole.
+fn field_reason(error: &FieldError) -> &'static str
+    ensures { result.now ≡ field_reason error.now }
+{
+    match error {
+        FieldError::Truncated => "InvalidField: the octets end within a number",
+        FieldError::LengthPastEnd => "InvalidField: a length says more octets than there are",
+        FieldError::CountPastEnd =>
+            "InvalidField: a count says more elements than there are octets",
+        FieldError::RepetitionDiffers => "InvalidField: a number that stands twice differs",
+    }
+}
+
+/// Why octets are no credential cache.
+fn ccache_reason(error: &CcacheError) -> &'static str
+    ensures { result.now ≡ ccache_reason error.now }
+{
+    match error {
+        CcacheError::InvalidVersion(_) =>
+            "InvalidVersion: the version is not 3 or 4, octets 05 03 or 05 04",
+        CcacheError::InvalidField(why) => field_reason(why),
+    }
+}
+
 impl PageError {
     /// The error and what it means, in a few words of ASCII, without a line feed.
     pub fn reason(&self) -> &'static str
@@ -166,6 +238,8 @@ impl PageError {
             PageError::Pac(error) => pac_reason(error),
             PageError::Negoex(_) => "the octets are no message of NEGOEX",
             PageError::PasswordFrame(error) => frame_reason(error),
+            PageError::Keytab(error) => keytab_reason(error),
+            PageError::Ccache(error) => ccache_reason(error),
             PageError::OutOfMemory => "out of memory",
         }
     }

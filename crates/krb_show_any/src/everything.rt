@@ -7,16 +7,18 @@ ghost use Rattle.krb_der_core.specs.declared.error.Asn1DerError.{Asn1DerError};
 ghost use Rattle.krb_gss_tokens.specs.declared.error.GssApiMessageError.{GssApiMessageError};
 ghost use Rattle.krb_pac.specs.declared.error.PacError.{PacError};
 ghost use Rattle.krb_show.specs.Tokens.{Token};
+ghost use Rattle.krb_show_files.specs.declared.error.FilePageError.{FilePageError};
 ghost use Rattle.krb_show_password.specs.declared.error.PasswordFrameError.{PasswordFrameError};
 ghost use Rattle.krb_show_any.specs.Told.{IsPacTold, IsTreeTold};
 ghost use Rattle.krb_show_any.specs.Kinds.{by_kind};
-ghost use Rattle.krb_show_any.specs.Errors.{of_der, of_exchange, of_frame, of_pac, of_token};
+ghost use Rattle.krb_show_any.specs.Errors.{of_der, of_exchange, of_file, of_frame, of_pac, of_token};
 
 use crate::applications::Applications;
 use crate::certificates::Certificates;
 use crate::data::Data;
-use crate::error::{PageError, of_der, of_exchange, of_frame, of_pac, of_token};
+use crate::error::{PageError, of_der, of_exchange, of_file, of_frame, of_pac, of_token};
 use crate::exchanges::Exchanges;
+use crate::files::{Ccaches, Keytabs};
 use crate::kind::Kind;
 use crate::pages::Pages;
 use crate::password_frames::PasswordFrames;
@@ -24,6 +26,7 @@ use crate::tokens::Tokens;
 use krb_der::Asn1DerError;
 use krb_gss_tokens::GssApiMessageError;
 use krb_show::Page;
+use krb_show_files::FilePageError;
 use krb_show_formats::page_of_pac;
 use krb_show_messages::DataKind;
 use krb_show_password::PasswordFrameError;
@@ -69,6 +72,22 @@ fn frame_page(alloc: Global, octets: &[u8]) -> Result<Page, PageError>
     of_frame(PasswordFrames::page_of(alloc, (), octets))
 }
 
+/// The page of a keytab.
+fn keytab_page(alloc: Global, octets: &[u8]) -> Result<Page, PageError>
+    ensures { (r : Result (Vec Token Global) FilePageError) × (result ≡ of_file r)
+        × ⟦<Keytabs as Pages<(), FilePageError>>⟧.tells tt octets.now r }
+{
+    of_file(Keytabs::page_of(alloc, (), octets))
+}
+
+/// The page of a credential cache.
+fn ccache_page(alloc: Global, octets: &[u8]) -> Result<Page, PageError>
+    ensures { (r : Result (Vec Token Global) FilePageError) × (result ≡ of_file r)
+        × ⟦<Ccaches as Pages<(), FilePageError>>⟧.tells tt octets.now r }
+{
+    of_file(Ccaches::page_of(alloc, (), octets))
+}
+
 /// The page of a type that its first octet does not tell.
 fn data_page(alloc: Global, kind: DataKind, octets: &[u8]) -> Result<Page, PageError>
     ensures { (r : Result (Vec Token Global) Asn1DerError) × (result ≡ of_der r) × ⟦<Data as Pages<DataKind, Asn1DerError>>⟧.tells kind octets.now r }
@@ -104,6 +123,8 @@ impl Pages<Kind, PageError> for Everything {
         ((r : Result (Vec Token Global) PacError) × (result ≡ of_pac r) × IsPacTold octets r)
         ((r : Result (Vec Token Global) Error) × of_exchange r result × ⟦<Exchanges as Pages<(), io::Error>>⟧.tells tt octets r)
         ((r : Result (Vec Token Global) PasswordFrameError) × (result ≡ of_frame r) × ⟦<PasswordFrames as Pages<(), PasswordFrameError>>⟧.tells tt octets r)
+        ((r : Result (Vec Token Global) FilePageError) × (result ≡ of_file r) × ⟦<Keytabs as Pages<(), FilePageError>>⟧.tells tt octets r)
+        ((r : Result (Vec Token Global) FilePageError) × (result ≡ of_file r) × ⟦<Ccaches as Pages<(), FilePageError>>⟧.tells tt octets r)
         (λ k. (r : Result (Vec Token Global) Asn1DerError) × (result ≡ of_der r) × ⟦<Data as Pages<DataKind, Asn1DerError>>⟧.tells k octets r)
         (λ k. (r : Result (Vec Token Global) Asn1DerError) × (result ≡ of_der r) × ⟦<Certificates as Pages<CertificateKind, Asn1DerError>>⟧.tells k octets r)
         (IsTreeTold octets result) };
@@ -115,6 +136,8 @@ impl Pages<Kind, PageError> for Everything {
             Kind::Pac => pac_page(alloc, octets),
             Kind::Negoex => exchange_page(alloc, octets),
             Kind::PasswordFrame => frame_page(alloc, octets),
+            Kind::Keytab => keytab_page(alloc, octets),
+            Kind::Ccache => ccache_page(alloc, octets),
             Kind::Data(kind) => data_page(alloc, kind, octets),
             Kind::Certificate(kind) => certificate_page(alloc, kind, octets),
             Kind::Tree => tree_page(alloc, octets),

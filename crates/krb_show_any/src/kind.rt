@@ -1,7 +1,7 @@
 //! Kinds of octets, told by their first octets.
 
 ghost use Rattle.std.specs.Prelude.{◌≡◌};
-ghost use Rattle.krb_show_any.specs.Kinds.{is_application, is_frame, is_negoex, is_per_message, is_token_tag, is_zeros, kind_of, kind_without_tag};
+ghost use Rattle.krb_show_any.specs.Kinds.{is_application, is_ccache, is_frame, is_keytab, is_negoex, is_per_message, is_token_tag, is_zeros, kind_of, kind_without_tag};
 
 use krb_show_messages::DataKind;
 use krb_show_pkinit::CertificateKind;
@@ -19,6 +19,10 @@ pub enum Kind {
     Negoex,
     /// A frame in which a password is changed (RFC 3244, 2).
     PasswordFrame,
+    /// A keytab of version 2 (MIT Kerberos, "Keytab file format").
+    Keytab,
+    /// A credential cache of version 3 or 4 (MIT Kerberos, "Credential cache file format").
+    Ccache,
     /// A type that its first octet does not tell.
     Data(DataKind),
     /// A type of PKINIT or of CredSSP, which its first octet does not tell.
@@ -48,13 +52,16 @@ fn is_token_tag(octet: u8) -> bool
     octet == 0x60 || octet == 0xa0 || octet == 0xa1
 }
 
-/// Whether octets begin as a MIC or a Wrap token.
+/// Whether octets begin as a MIC or a Wrap token. A credential cache of version 4 has in its first two octets the token id of Wrap, and in its fourth
+/// the low octet of its header's length, where a Wrap token has `ff`.
 fn is_per_message(octets: &[u8]) -> bool
     ensures { result ≡ is_per_message octets.now }
 {
     match octets {
         [0x04, 0x04, ..] => true,
-        [0x05, 0x04, ..] => true,
+        [0x05, 0x04, _, 0xff, ..] => true,
+        [0x05, 0x04] => true,
+        [0x05, 0x04, _] => true,
         _ => false,
     }
 }
@@ -89,6 +96,27 @@ fn is_frame(octets: &[u8]) -> bool
     }
 }
 
+/// Whether octets begin as a keytab of version 2.
+fn is_keytab(octets: &[u8]) -> bool
+    ensures { result ≡ is_keytab octets.now }
+{
+    match octets {
+        [0x05, 0x02, ..] => true,
+        _ => false,
+    }
+}
+
+/// Whether octets begin as a credential cache of version 3 or 4.
+fn is_ccache(octets: &[u8]) -> bool
+    ensures { result ≡ is_ccache octets.now }
+{
+    match octets {
+        [0x05, 0x03, ..] => true,
+        [0x05, 0x04, ..] => true,
+        _ => false,
+    }
+}
+
 /// The kind that octets begin as, where no tag tells it.
 fn kind_without_tag(octets: &[u8]) -> Option<Kind>
     ensures { result ≡ kind_without_tag octets.now }
@@ -105,16 +133,24 @@ fn kind_without_tag(octets: &[u8]) -> Option<Kind>
     if is_frame(octets) {
         return Some(Kind::PasswordFrame);
     }
+    if is_keytab(octets) {
+        return Some(Kind::Keytab);
+    }
+    if is_ccache(octets) {
+        return Some(Kind::Ccache);
+    }
     None
 }
 
 /// The kind that octets begin as; the first rule that fits decides, and `None` is returned where none does.
 ///
 /// 1. A first octet of RFC 4120, 5.10: that message or opened part.
-/// 2. `60`, `a0`, `a1`, or `04 04` and `05 04`: a token of the GSS-API.
+/// 2. `60`, `a0`, `a1`, or `04 04`, or `05 04` with a fourth octet of `ff` or with none: a token of the GSS-API.
 /// 3. `NEGOEXTS` in ASCII: a message of NEGOEX.
 /// 4. Seven zeros behind the first octet: a PAC of fewer than 256 buffers.
 /// 5. Two octets that are the number of all octets, then `00 01`: a frame in which a password is changed.
+/// 6. `05 02`: a keytab of version 2.
+/// 7. `05 03` or `05 04`: a credential cache of version 3 or 4. One of version 4 whose header's length has the low octet `ff` is a token by rule 2.
 pub fn kind_of_octets(octets: &[u8]) -> Option<Kind>
     ensures { result ≡ kind_of octets.now }
 {

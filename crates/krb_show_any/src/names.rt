@@ -86,6 +86,10 @@ fn other_named(name: &str) -> Option<Kind>
         Some(Kind::Negoex)
     } else if is_same(b"password-frame", name.as_bytes()) {
         Some(Kind::PasswordFrame)
+    } else if is_same(b"keytab", name.as_bytes()) {
+        Some(Kind::Keytab)
+    } else if is_same(b"ccache", name.as_bytes()) {
+        Some(Kind::Ccache)
     } else if is_same(b"tree", name.as_bytes()) {
         Some(Kind::Tree)
     } else {
@@ -93,8 +97,8 @@ fn other_named(name: &str) -> Option<Kind>
     }
 }
 
-/// The kind of this name, letters of either case alike: the name that the standard gives a type, or `token`, `PAC`, `NEGOEX`, `password-frame`
-/// or `tree`.
+/// The kind of this name, letters of either case alike: the name that the standard gives a type, or `token`, `PAC`, `NEGOEX`, `password-frame`,
+/// `keytab`, `ccache` or `tree`.
 /// `None` where no kind has it.
 pub fn kind_of_name(name: &str) -> Option<Kind>
     ensures { IsNamed name.now result }
@@ -127,6 +131,8 @@ pub fn name_of_kind(kind: Kind) -> &'static str
         Kind::Pac => "PAC",
         Kind::Negoex => "NEGOEX",
         Kind::PasswordFrame => "password-frame",
+        Kind::Keytab => "keytab",
+        Kind::Ccache => "ccache",
         Kind::Tree => "tree",
         Kind::Data(kind) => kind.name(),
         Kind::Certificate(kind) => kind.name(),

@@ -1,0 +1,4 @@
+use Rattle.krb_show_any.proofs.everything.ccache_page.Goals as goal
+
+pub returns : goal.returns
+returns c = (c.page_of.result, c.of_file.ensures, c.page_of.ensures)

@@ -1,0 +1,37 @@
+//! Keytabs and credential caches.
+
+ghost use Rattle.krb_show.specs.Opened.{opened_by};
+ghost use Rattle.krb_show_any.specs.Told.{IsCcacheTold, IsKeytabTold};
+
+use crate::pages::Pages;
+use krb_der::DerEncode;
+use krb_msg_types::data_types::Ticket;
+use krb_show::{Page, Show};
+use krb_show_files::{FilePageError, page_of_ccache, page_of_keytab};
+use krb_show_messages::Message;
+use std::alloc::Global;
+
+/// Keytabs of version 2 (MIT Kerberos, "Keytab file format").
+#[derive(Drop)]
+pub struct Keytabs;
+
+impl Pages<(), FilePageError> for Keytabs {
+    ghost tells = { λ _ octets result. IsKeytabTold octets result };
+
+    fn page_of(alloc: Global, _kind: (), octets: &[u8]) -> Result<Page, FilePageError> {
+        page_of_keytab(alloc, octets)
+    }
+}
+
+/// Credential caches of versions 3 and 4 (MIT Kerberos, "Credential cache file format").
+#[derive(Drop)]
+pub struct Ccaches;
+
+impl Pages<(), FilePageError> for Ccaches {
+    ghost tells = { λ _ octets result. IsCcacheTold
+        (opened_by ⟦<Ticket as DerEncode>⟧.is_value ⟦<Ticket as DerEncode>⟧.enc ⟦<Ticket as Show<Message>>⟧.shows) octets result };
+
+    fn page_of(alloc: Global, _kind: (), octets: &[u8]) -> Result<Page, FilePageError> {
+        page_of_ccache(alloc, octets)
+    }
+}
