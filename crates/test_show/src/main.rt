@@ -3,7 +3,8 @@
 //! Its standard input is a table. A row is a line of an origin, a type and octets in hexadecimal digits, with tabs between; a line that
 //! begins with `#` is a comment. The octets are of the kind that the type names, of a token of the GSS-API where the type begins with
 //! `token: `, and else of the message or the opened part that their first octet names. For each row the program prints a line of the origin
-//! and the type, the page's text and its JSON, or the error.
+//! and the type, the page's text and its JSON, or the error. Where the type is `told` the octets are of the kind that they begin as: behind the
+//! line stands the name of this kind, or `none`, and an error is the reason that it gives.
 #![tactic(auto)]
 
 #[cfg(test)]
@@ -11,7 +12,9 @@ mod large;
 
 use krb_pac::PacError;
 use krb_show::{Page, json_of_page, text_of_page};
-use krb_show_any::{Everything, Kind, PageError, Pages, kind_of_name};
+use krb_show_any::{
+    Everything, Kind, PageError, Pages, kind_of_name, kind_of_octets, name_of_kind,
+};
 use std::alloc::{AllocError, Global};
 use std::io;
 use std::io::{BufRead, BufReader};
@@ -44,12 +47,30 @@ fn reported(alloc: Global, error: PageError) -> Result<String, AllocError> {
         PageError::Pac(error) => format!(in alloc; "{error:?}\n"),
         PageError::Negoex(error) => format!(in alloc; "{:?}\n", error.kind()),
         PageError::PasswordFrame(error) => format!(in alloc; "{error:?}\n"),
+        PageError::Keytab(error) => format!(in alloc; "{error:?}\n"),
+        PageError::Ccache(error) => format!(in alloc; "{error:?}\n"),
         PageError::OutOfMemory => Err(AllocError),
     }
 }
 
+/// What is printed of octets of the kind that they begin as.
+fn told(alloc: Global, octets: &[u8]) -> Result<String, AllocError> {
+    let Some(kind) = kind_of_octets(octets) else {
+        return String::from_str(alloc, "none\n");
+    };
+    let text = match Everything::page_of(alloc, kind, octets) {
+        Ok(page) => printed(alloc, &page)?,
+        Err(PageError::OutOfMemory) => return Err(AllocError),
+        Err(error) => format!(in alloc; "{}\n", error.reason())?,
+    };
+    format!(in alloc; "{}\n{text}", name_of_kind(kind))
+}
+
 /// What is printed of octets.
 fn shown(alloc: Global, name: &str, octets: &[u8]) -> Result<String, AllocError> {
+    if name == "told" {
+        return told(alloc, octets);
+    }
     match Everything::page_of(alloc, kind_of(name, octets), octets) {
         Ok(page) => printed(alloc, &page),
         Err(error) => reported(alloc, error),
