@@ -5,14 +5,18 @@
 #![tactic(auto)]
 
 pub mod build;
+pub mod ccache;
 pub mod constants;
 pub mod crypto;
 pub mod data_types;
 pub mod der;
+pub mod fields;
 pub mod gss_api;
+pub mod keytab;
 pub mod messages;
 pub mod names;
 pub mod pac;
+pub mod pac_contents;
 pub mod seal;
 pub mod show;
 pub mod view;

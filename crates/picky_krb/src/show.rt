@@ -10,6 +10,7 @@ pub use krb_show_any::{
     Everything, Kind, PageError, Pages, Place, kind_of_name, kind_of_octets, name_of_kind,
     place_of_error,
 };
+pub use krb_show_files::{FilePageError, page_of_ccache, page_of_keytab};
 pub use krb_show_formats::{page_of_negoex, page_of_pac, show_pac};
 pub use krb_show_messages::{DataKind, Message, page_of_data, page_of_message, page_of_part};
 pub use krb_show_password::{PasswordFrameError, page_of_password_frame};
