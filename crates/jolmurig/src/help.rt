@@ -25,7 +25,7 @@ input, by the first rule that fits:
 types that are told by how the octets begin, letters of either case:
     Ticket, Authenticator, EncTicketPart, AS-REQ, AS-REP, TGS-REQ, TGS-REP, AP-REQ, AP-REP,
     KRB-PRIV, KRB-CRED, EncASRepPart, EncTGSRepPart, EncAPRepPart, EncKrbPrivPart, EncKrbCredPart,
-    KRB-ERROR, token, PAC, NEGOEX, password-frame
+    KRB-ERROR, token, PAC, NEGOEX, password-frame, keytab, ccache
 
 types that --as has to name:
     PrincipalName, HostAddress, HostAddresses, AuthorizationData, EncryptedData, EncryptionKey,
