@@ -24,7 +24,7 @@ pub(crate) enum FlagSet {
     PacAttributes,
 }
 
-/// MS-PAC 2.2.1 and 2.2.2, which have five of them, and MS-DTYP 2.4.4.1, whose names of the others are those of winnt.h.
+/// MS-PAC 2.2.1 and 2.2.2, Attributes, which have five of them; the others, and their names, are those of TOKEN_GROUPS in winnt.h.
 static GROUP_ATTRIBUTES: [(u32, &str); 9] = [
     (0x0000_0001, "SE_GROUP_MANDATORY"),
     (0x0000_0002, "SE_GROUP_ENABLED_BY_DEFAULT"),
