@@ -3,6 +3,7 @@
 
 mod contents;
 mod flags;
+mod inserted;
 mod logon;
 mod signature;
 mod small;
@@ -11,6 +12,7 @@ mod times;
 mod unread;
 
 pub use contents::show_contents;
+pub use inserted::page_with_contents;
 
 /// The way in which this crate shows.
 #[derive(Drop)]
