@@ -1,0 +1,5 @@
+mod Lists
+mod Seals
+mod LastTokens
+mod Places
+mod Results

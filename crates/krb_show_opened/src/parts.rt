@@ -1,0 +1,77 @@
+//! What is sealed in the messages of Kerberos (RFC 4120, 5.3 to 5.8).
+
+ghost use Rattle.std.specs.Prelude.{codes};
+ghost use Rattle.krb_show.specs.Opened.{IsNone};
+ghost use Rattle.krb_show_opened.specs.Opened.{by_usage, encoded_as, no_encoding, value_or};
+
+use crate::key::Key;
+use crate::opened::{OpensParts, insert_by_usage, insert_encoded};
+use crate::usage::Usage;
+use krb_der::DerEncode;
+use krb_msg_kdc::messages::{EncAsRepPart, EncTgsRepPart};
+use krb_msg_parts::data_types::{
+    Authenticator, EncApRepPart, EncKrbCredPart, EncKrbPrivPart, EncTicketPart,
+};
+use krb_msg_types::data_types::{AuthorizationData, PaEncTsEnc};
+use krb_show::{Page, Show};
+use krb_show_messages::Message;
+use std::alloc::{AllocError, Global};
+
+/// The parts of messages of Kerberos, under the names that the standard gives their types.
+#[derive(Drop)]
+pub struct MessageParts;
+
+impl OpensParts for MessageParts {
+    ghost opened = { by_usage (record {
+        time_stamp = value_or ⟦<PaEncTsEnc as DerEncode>⟧.is_value ⟦<PaEncTsEnc as DerEncode>⟧.enc
+            ⟦<PaEncTsEnc as Show<Message>>⟧.shows (codes "PA-ENC-TS-ENC") no_encoding;
+        ticket = value_or ⟦<EncTicketPart as DerEncode>⟧.is_value ⟦<EncTicketPart as DerEncode>⟧.enc
+            ⟦<EncTicketPart as Show<Message>>⟧.shows (codes "EncTicketPart") no_encoding;
+        as_rep = value_or ⟦<EncAsRepPart as DerEncode>⟧.is_value ⟦<EncAsRepPart as DerEncode>⟧.enc
+            ⟦<EncAsRepPart as Show<Message>>⟧.shows (codes "EncASRepPart")
+            (value_or ⟦<EncTgsRepPart as DerEncode>⟧.is_value ⟦<EncTgsRepPart as DerEncode>⟧.enc
+            ⟦<EncTgsRepPart as Show<Message>>⟧.shows (codes "EncTGSRepPart") no_encoding);
+        elements = value_or ⟦<AuthorizationData as DerEncode>⟧.is_value ⟦<AuthorizationData as DerEncode>⟧.enc
+            ⟦<AuthorizationData as Show<Message>>⟧.shows (codes "AuthorizationData") no_encoding;
+        authenticator = value_or ⟦<Authenticator as DerEncode>⟧.is_value ⟦<Authenticator as DerEncode>⟧.enc
+            ⟦<Authenticator as Show<Message>>⟧.shows (codes "Authenticator") no_encoding;
+        tgs_rep = value_or ⟦<EncTgsRepPart as DerEncode>⟧.is_value ⟦<EncTgsRepPart as DerEncode>⟧.enc
+            ⟦<EncTgsRepPart as Show<Message>>⟧.shows (codes "EncTGSRepPart") no_encoding;
+        ap_rep = value_or ⟦<EncApRepPart as DerEncode>⟧.is_value ⟦<EncApRepPart as DerEncode>⟧.enc
+            ⟦<EncApRepPart as Show<Message>>⟧.shows (codes "EncAPRepPart") no_encoding;
+        krb_priv = value_or ⟦<EncKrbPrivPart as DerEncode>⟧.is_value ⟦<EncKrbPrivPart as DerEncode>⟧.enc
+            ⟦<EncKrbPrivPart as Show<Message>>⟧.shows (codes "EncKrbPrivPart") no_encoding;
+        krb_cred = value_or ⟦<EncKrbCredPart as DerEncode>⟧.is_value ⟦<EncKrbCredPart as DerEncode>⟧.enc
+            ⟦<EncKrbCredPart as Show<Message>>⟧.shows (codes "EncKrbCredPart") no_encoding
+    }) };
+
+    ghost clear = { encoded_as ⟦<EncKrbCredPart as DerEncode>⟧.is_value ⟦<EncKrbCredPart as DerEncode>⟧.enc
+        ⟦<EncKrbCredPart as Show<Message>>⟧.shows (codes "EncKrbCredPart") };
+
+    ghost no_clear = { IsNone ⟦<EncKrbCredPart as DerEncode>⟧.is_value ⟦<EncKrbCredPart as DerEncode>⟧.enc };
+
+    fn insert_opened(
+        alloc: Global,
+        key: &Key,
+        usage: Usage,
+        cipher: &[u8],
+        page: &mut Page,
+    ) -> Result<Vec<Key>, AllocError> {
+        insert_by_usage::<
+            Message,
+            PaEncTsEnc,
+            EncTicketPart,
+            EncAsRepPart,
+            AuthorizationData,
+            Authenticator,
+            EncTgsRepPart,
+            EncApRepPart,
+            EncKrbPrivPart,
+            EncKrbCredPart,
+        >(alloc, key, usage, cipher, page)
+    }
+
+    fn insert_clear(alloc: Global, octets: &[u8], page: &mut Page) -> Result<bool, AllocError> {
+        insert_encoded::<Message, EncKrbCredPart>(alloc, "EncKrbCredPart", octets, page)
+    }
+}
