@@ -13,3 +13,4 @@ mod pem;
 mod words;
 
 pub use forms::{InputError, octets_of_input};
+pub use words::after_text;

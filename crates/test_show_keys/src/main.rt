@@ -1,0 +1,94 @@
+//! The program `test_show_keys`: keys from texts and keytabs, and pages without keys.
+//!
+//! Its standard input is a table. A row is a line of a word and its octets, with a tab between: `key` and a text, `keytab` and a keytab in
+//! hexadecimal digits, `hidden` and such a keytab, whose page is then shown without keys; a line that begins with `#` is a comment. For each row
+//! the program prints the keys, or the page's text and its JSON, or the error.
+#![tactic(auto)]
+
+
+use krb_crypto_suite::CipherSuite;
+use krb_show::{json_of_page, text_of_page};
+use krb_show_files::page_of_keytab;
+use krb_show_keys::{Key, KeytabKeysError, key_of_text, keys_of_keytab, without_keys};
+use std::alloc::{AllocError, Global};
+use std::io;
+use std::io::{BufRead, BufReader};
+
+/// The line of a key.
+fn line_of(alloc: Global, key: &Key) -> Result<String, AllocError> {
+    let number = u8::from(&key.suite);
+    let digits = hex::encode(alloc, &key.octets)?;
+    let name = String::from_utf8_lossy(alloc, &key.name)?;
+    format!(in alloc; "{number} {digits} {name}\n")
+}
+
+/// What is printed of a text.
+fn key(alloc: Global, text: &str) -> Result<String, AllocError> {
+    let mut name = Vec::new(alloc);
+    name.extend_from_slice(b"a name")?;
+    match key_of_text(alloc, text.as_bytes(), name)? {
+        Some(key) => line_of(alloc, &key),
+        None => String::from_str(alloc, "no key\n"),
+    }
+}
+
+/// What is printed of a keytab.
+fn keytab(alloc: Global, octets: &[u8]) -> Result<String, AllocError> {
+    let keys = match keys_of_keytab(alloc, octets) {
+        Ok(keys) => keys,
+        Err(KeytabKeysError::OutOfMemory) => return Err(AllocError),
+        Err(KeytabKeysError::Keytab(_)) => return String::from_str(alloc, "no keytab\n"),
+    };
+    let mut text = String::new(alloc);
+    for key in &keys {
+        let line = line_of(alloc, key)?;
+        text.push_str(line.as_str())?;
+    }
+    Ok(text)
+}
+
+/// What is printed of the page of a keytab without its keys.
+fn hidden(alloc: Global, octets: &[u8]) -> Result<String, AllocError> {
+    match page_of_keytab(alloc, octets) {
+        Ok(page) => {
+            let page = without_keys(alloc, page)?;
+            let text = text_of_page(alloc, &page)?;
+            let json = json_of_page(alloc, &page)?;
+            format!(in alloc; "{text}{json}")
+        }
+        Err(_) => String::from_str(alloc, "no page\n"),
+    }
+}
+
+/// What is printed of a row.
+fn answer(alloc: Global, row: &str) -> io::Result<String> {
+    let Some((kind, rest)) = row.split_once('\t') else {
+        return Ok(String::from_str(alloc, "no row\n")?);
+    };
+    if kind == "key" {
+        return Ok(key(alloc, rest)?);
+    }
+    match hex::decode(alloc, rest) {
+        Ok(octets) => {
+            if kind == "keytab" {
+                Ok(keytab(alloc, &octets)?)
+            } else {
+                Ok(hidden(alloc, &octets)?)
+            }
+        }
+        Err(_) => Ok(String::from_str(alloc, "no digits\n")?),
+    }
+}
+
+fn main(rt: HostRuntime) -> io::Result<()> {
+    let alloc = rt.alloc();
+    for line in BufReader::new(alloc, rt.reader())?.lines(alloc) {
+        let line = line?;
+        if line.starts_with('#') {
+            continue;
+        }
+        let text = answer(alloc, line.as_str())?;
+        print!(rt; "{text}")?;
+    }
+    Ok(())
+}
