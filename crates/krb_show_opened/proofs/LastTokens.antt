@@ -5,7 +5,7 @@ use Rattle.krb_show.specs.Tokens.{Token}
 use Rattle.krb_show.specs.declared.token.Form.{Form}
 use Rattle.krb_show.specs.declared.token.Form.TheVariants as form
 use Rattle.krb_show_opened.specs.Keys.{NamedKey, digits_of}
-use Rattle.krb_show_opened.specs.Ends.{EndsWith, EndsWithLeaf, EndsWithNoLeaf, EndsWithType, IsKey, IsNoKey, IsNoPart, IsPart}
+use Rattle.krb_show_opened.specs.Ends.{EndsWith, EndsWithLeaf, EndsWithNoLeaf, EndsWithType, IsKey, IsNoKey, IsNoPart}
 
 snoc_front : {A : Type 0} (xs ys : List A) (x y : A) → xs ++ x ∷ [] ≡ ys ++ y ∷ [] → xs ≡ ys
 snoc_front [] [] x y e = refl
@@ -42,7 +42,7 @@ pub no_type_behind : {tokens middle : List Token} {kvno : List ℕ} → EndsWith
     → (digits : List ℕ) → EndsWithType tokens digits → ⊥
 no_type_behind {tokens} {middle} typed version behind digits e =
     elim e [
-      inl h ↦ typed digits h.0 h.1
+      | inl h ↦ typed digits h.0 h.1
       | inr h ↦ behind digits h.2 (subst (λ front. EndsWithLeaf form.Number (codes "etype") front digits h.2) (leaf_front h.3 version) h.4)
     ]
 
@@ -63,7 +63,7 @@ pub no_key_type : {kind : List ℕ} {tokens middle : List Token} {octets : List 
     → EndsWithNoLeaf form.Number (codes "keytype") middle → IsNoKey kind tokens
 no_key_type {kind} {tokens} {middle} leaf none =
     λ key is. none (digits_of key.suite) is.front
-        (subst (λ m. EndsWithLeaf form.Number (codes "keytype") m (digits_of key.suite) is.front) (leaf_front is.ends leaf) is.typed)
+    (subst (λ m. EndsWithLeaf form.Number (codes "keytype") m (digits_of key.suite) is.front) (leaf_front is.ends leaf) is.typed)
 
 -- a key's type and what stands before it, where these are known
 type_at : {kind : List ℕ} {tokens middle : List Token} {octets : List ℕ} (key : NamedKey) (is : IsKey kind tokens key)
@@ -77,7 +77,7 @@ pub no_key_struct : {kind : List ℕ} {tokens middle front : List Token} {octets
     → ((t : Token) (earlier : List Token) → EndsWith form.Struct front t earlier → ⊥) → IsNoKey kind tokens
 no_key_struct {kind} {tokens} {middle} {front} leaf typed none =
     λ key is. none is.begin is.earlier
-        (subst (λ f. EndsWith form.Struct f is.begin is.earlier) (leaf_front (type_at key is leaf) typed) is.begins)
+    (subst (λ f. EndsWith form.Struct f is.begin is.earlier) (leaf_front (type_at key is leaf) typed) is.begins)
 
 pub no_key_suite : {kind : List ℕ} {tokens middle front : List Token} {octets digits : List ℕ}
     → EndsWithLeaf form.Octets (codes "keyvalue") tokens octets middle → EndsWithLeaf form.Number (codes "keytype") middle digits front

@@ -1,9 +1,8 @@
 -- What a prepared key says of the key that it was prepared from.
-use Rattle.std.proofs.Common.{◌≡◌, ℕ, ℤ, Bool, true, false, List, subst, sym, ap, ◌∙◌, length}
+use Rattle.std.proofs.Common.{◌≡◌, ℕ, ℤ, false, List, subst, sym, ap, ◌∙◌, length}
 use Rattle.krb_crypto_message.specs.Sealing.{HasNoPayload, IsGiven, Opens}
 use Rattle.krb_crypto_suite.specs.BySuite.{IsSealed, confounder_octets_of, key_octets_of, padding_octets_of}
 use Rattle.krb_crypto_suite.specs.PreparedKeys.{IsPreparedFor, PreparedKeys}
-use Rattle.krb_crypto_suite.specs.declared.cipher_suite.CipherSuite.{CipherSuite}
 use Rattle.krb_crypto_hash.specs.declared.error.KerberosCryptoError.{KerberosCryptoError}
 use Rattle.krb_crypto_hash.specs.declared.error.KerberosCryptoError.TheVariants as crypto
 use Rattle.krb_seal.specs.PartError.{IsMemory}

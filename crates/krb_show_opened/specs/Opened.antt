@@ -1,12 +1,12 @@
 -- What is inserted at sealed parts.
-use Rattle.std.specs.Prelude.{◌≡◌, ◌≢◌, ◌⊎◌, ℕ, pos, List, [], ◌∷◌, ◌++◌, codes}
+use Rattle.std.specs.Prelude.{◌≡◌, ◌≢◌, ◌⊎◌, ℕ, List, [], ◌++◌, codes}
 use Rattle.krb_crypto_suite.specs.declared.cipher_suite.CipherSuite.{CipherSuite}
 use Rattle.krb_show.specs.Leaves.{number_of, text_of}
 use Rattle.krb_show.specs.Opened.{IsOf}
 use Rattle.krb_show.specs.Pages.{◌then◌}
 use Rattle.krb_show.specs.Tokens.{Label, Token, plain}
 use Rattle.krb_show.specs.declared.token.Form.TheVariants as form
-use Rattle.krb_show_opened.specs.Ends.{IsPart, IsNoPart, KeysIn}
+use Rattle.krb_show_opened.specs.Ends.{IsPart, KeysIn}
 use Rattle.krb_show_opened.specs.Found.{IsFirstKey, NoneIsOf, NoneOpens, OneIsOf}
 use Rattle.krb_show_opened.specs.Keys.{NamedKey, digits_of, HasNoValue, IsValueUnder}
 use Rattle.krb_show_opened.specs.Usages.{integer_of, no_encoding_text, usages_of}

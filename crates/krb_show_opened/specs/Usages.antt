@@ -1,5 +1,5 @@
 -- Key usages (RFC 4120, 7.5.1).
-use Rattle.std.specs.Prelude.{ℕ, ℤ, pos, List, [], ◌∷◌, ◌++◌, codes, if◌then◌else◌}
+use Rattle.std.specs.Prelude.{ℕ, ℤ, pos, List, [], ◌∷◌, codes, if◌then◌else◌}
 use Rattle.std.specs.Str.{bytes_eq}
 use Rattle.krb_show_opened.specs.declared.usage.Usage.{Usage}
 use Rattle.krb_show_opened.specs.declared.usage.Usage.TheVariants as usage
@@ -26,34 +26,34 @@ integer_of u = pos (number_of u)
 abbrev pub usages_of : List ℕ → List Usage
 usages_of label =
     if bytes_eq label (codes "enc-part") then
-        usage.Ticket
-        ∷ usage.AsRep
-        ∷ usage.TgsRepSession
-        ∷ usage.TgsRepSubkey
-        ∷ usage.ApRep
-        ∷ usage.KrbPriv
-        ∷ usage.KrbCred
-        ∷ []
+    usage.Ticket
+    ∷ usage.AsRep
+    ∷ usage.TgsRepSession
+    ∷ usage.TgsRepSubkey
+    ∷ usage.ApRep
+    ∷ usage.KrbPriv
+    ∷ usage.KrbCred
+    ∷ []
     else (if bytes_eq label (codes "authenticator") then
-        usage.ApReqAuthenticator ∷ usage.TgsReqAuthenticator ∷ []
+    usage.ApReqAuthenticator ∷ usage.TgsReqAuthenticator ∷ []
     else (if bytes_eq label (codes "enc-authorization-data") then
-        usage.TgsReqDataSession ∷ usage.TgsReqDataSubkey ∷ []
+    usage.TgsReqDataSession ∷ usage.TgsReqDataSubkey ∷ []
     else (if bytes_eq label (codes "padata-value") then
-        usage.PaEncTimestamp ∷ []
+    usage.PaEncTimestamp ∷ []
     else (if bytes_eq label (codes "EncryptedData") then
-        usage.PaEncTimestamp
-        ∷ usage.Ticket
-        ∷ usage.AsRep
-        ∷ usage.TgsReqDataSession
-        ∷ usage.TgsReqDataSubkey
-        ∷ usage.TgsReqAuthenticator
-        ∷ usage.TgsRepSession
-        ∷ usage.TgsRepSubkey
-        ∷ usage.ApReqAuthenticator
-        ∷ usage.ApRep
-        ∷ usage.KrbPriv
-        ∷ usage.KrbCred
-        ∷ []
+    usage.PaEncTimestamp
+    ∷ usage.Ticket
+    ∷ usage.AsRep
+    ∷ usage.TgsReqDataSession
+    ∷ usage.TgsReqDataSubkey
+    ∷ usage.TgsReqAuthenticator
+    ∷ usage.TgsRepSession
+    ∷ usage.TgsRepSubkey
+    ∷ usage.ApReqAuthenticator
+    ∷ usage.ApRep
+    ∷ usage.KrbPriv
+    ∷ usage.KrbCred
+    ∷ []
     else []))))
 
 -- what is told of a part that a key opens, and whose octets are no encoding of what is sealed for the usage

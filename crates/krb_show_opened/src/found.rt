@@ -43,7 +43,8 @@ pub(crate) fn first_key(
     cipher: &[u8],
 ) -> Result<Option<Found>, AllocError>
     ensures { IfOk result (λ found. MatchOption found (NoneOpens suite.now cipher.now usages.now keys.now)
-        (λ f. (f.index < length keys.now) × ((other : NamedKey) → IsFirstKey suite.now cipher.now usages.now keys.now (slice_index_or keys.now f.index other) f.usage))) }
+        (λ f. (f.index < length keys.now) × ((other : NamedKey)
+        → IsFirstKey suite.now cipher.now usages.now keys.now (slice_index_or keys.now f.index other) f.usage))) }
 {
     for (index, key) in keys.iter().enumerate() {
         if key.suite == *suite {

@@ -115,7 +115,8 @@ fn insert_or_tell<K, T: Der + Show<K> + Drop>(
     cipher: &[u8],
     page: &mut Page,
 ) -> Result<Vec<Key>, AllocError>
-    ensures ok { IfOk result (λ found. value_or T.is_value T.enc T.shows kind.now no_encoding key.now usage cipher.now page.old.items found.items page.new.items) }
+    ensures ok { IfOk result (λ found. value_or T.is_value T.enc T.shows kind.now no_encoding
+        key.now usage cipher.now page.old.items found.items page.new.items) }
     ensures kept { OnOk result (Begins page.old.items page.new.items) }
 {
     match insert_value::<K, T>(alloc, key, usage, kind, cipher, page)? {
@@ -169,17 +170,17 @@ pub(crate) fn insert_by_usage<
     page: &mut Page,
 ) -> Result<Vec<Key>, AllocError>
     ensures ok { IfOk result (λ found. by_usage (record {
-        time_stamp = value_or TimeStamp.is_value TimeStamp.enc TimeStamp.shows (codes "PA-ENC-TS-ENC") no_encoding;
-        ticket = value_or TicketPart.is_value TicketPart.enc TicketPart.shows (codes "EncTicketPart") no_encoding;
-        as_rep = value_or AsPart.is_value AsPart.enc AsPart.shows (codes "EncASRepPart")
-            (value_or TgsPart.is_value TgsPart.enc TgsPart.shows (codes "EncTGSRepPart") no_encoding);
-        elements = value_or Elements.is_value Elements.enc Elements.shows (codes "AuthorizationData") no_encoding;
-        authenticator = value_or Auth.is_value Auth.enc Auth.shows (codes "Authenticator") no_encoding;
-        tgs_rep = value_or TgsPart.is_value TgsPart.enc TgsPart.shows (codes "EncTGSRepPart") no_encoding;
-        ap_rep = value_or ApPart.is_value ApPart.enc ApPart.shows (codes "EncAPRepPart") no_encoding;
-        krb_priv = value_or PrivPart.is_value PrivPart.enc PrivPart.shows (codes "EncKrbPrivPart") no_encoding;
-        krb_cred = value_or CredPart.is_value CredPart.enc CredPart.shows (codes "EncKrbCredPart") no_encoding
-        }) key.now usage cipher.now page.old.items found.items page.new.items) }
+      time_stamp = value_or TimeStamp.is_value TimeStamp.enc TimeStamp.shows (codes "PA-ENC-TS-ENC") no_encoding;
+      ticket = value_or TicketPart.is_value TicketPart.enc TicketPart.shows (codes "EncTicketPart") no_encoding;
+      as_rep = value_or AsPart.is_value AsPart.enc AsPart.shows (codes "EncASRepPart")
+          (value_or TgsPart.is_value TgsPart.enc TgsPart.shows (codes "EncTGSRepPart") no_encoding);
+      elements = value_or Elements.is_value Elements.enc Elements.shows (codes "AuthorizationData") no_encoding;
+      authenticator = value_or Auth.is_value Auth.enc Auth.shows (codes "Authenticator") no_encoding;
+      tgs_rep = value_or TgsPart.is_value TgsPart.enc TgsPart.shows (codes "EncTGSRepPart") no_encoding;
+      ap_rep = value_or ApPart.is_value ApPart.enc ApPart.shows (codes "EncAPRepPart") no_encoding;
+      krb_priv = value_or PrivPart.is_value PrivPart.enc PrivPart.shows (codes "EncKrbPrivPart") no_encoding;
+      krb_cred = value_or CredPart.is_value CredPart.enc CredPart.shows (codes "EncKrbCredPart") no_encoding;
+    }) key.now usage cipher.now page.old.items found.items page.new.items) }
     ensures kept { OnOk result (Begins page.old.items page.new.items) }
 {
     match usage {

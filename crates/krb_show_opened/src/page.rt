@@ -23,7 +23,6 @@ pub struct Opening {
 
 impl Model for Opening {
     ghost use Rattle.std.specs.Prelude.{List};
-
     ghost use Rattle.krb_show_opened.specs.Keys.{NamedKey};
 
     ghost Value = { List NamedKey };

@@ -23,26 +23,26 @@ pub struct MessageParts;
 
 impl OpensParts for MessageParts {
     ghost opened = { by_usage (record {
-        time_stamp = value_or ⟦<PaEncTsEnc as DerEncode>⟧.is_value ⟦<PaEncTsEnc as DerEncode>⟧.enc
-            ⟦<PaEncTsEnc as Show<Message>>⟧.shows (codes "PA-ENC-TS-ENC") no_encoding;
-        ticket = value_or ⟦<EncTicketPart as DerEncode>⟧.is_value ⟦<EncTicketPart as DerEncode>⟧.enc
-            ⟦<EncTicketPart as Show<Message>>⟧.shows (codes "EncTicketPart") no_encoding;
-        as_rep = value_or ⟦<EncAsRepPart as DerEncode>⟧.is_value ⟦<EncAsRepPart as DerEncode>⟧.enc
-            ⟦<EncAsRepPart as Show<Message>>⟧.shows (codes "EncASRepPart")
-            (value_or ⟦<EncTgsRepPart as DerEncode>⟧.is_value ⟦<EncTgsRepPart as DerEncode>⟧.enc
-            ⟦<EncTgsRepPart as Show<Message>>⟧.shows (codes "EncTGSRepPart") no_encoding);
-        elements = value_or ⟦<AuthorizationData as DerEncode>⟧.is_value ⟦<AuthorizationData as DerEncode>⟧.enc
-            ⟦<AuthorizationData as Show<Message>>⟧.shows (codes "AuthorizationData") no_encoding;
-        authenticator = value_or ⟦<Authenticator as DerEncode>⟧.is_value ⟦<Authenticator as DerEncode>⟧.enc
-            ⟦<Authenticator as Show<Message>>⟧.shows (codes "Authenticator") no_encoding;
-        tgs_rep = value_or ⟦<EncTgsRepPart as DerEncode>⟧.is_value ⟦<EncTgsRepPart as DerEncode>⟧.enc
-            ⟦<EncTgsRepPart as Show<Message>>⟧.shows (codes "EncTGSRepPart") no_encoding;
-        ap_rep = value_or ⟦<EncApRepPart as DerEncode>⟧.is_value ⟦<EncApRepPart as DerEncode>⟧.enc
-            ⟦<EncApRepPart as Show<Message>>⟧.shows (codes "EncAPRepPart") no_encoding;
-        krb_priv = value_or ⟦<EncKrbPrivPart as DerEncode>⟧.is_value ⟦<EncKrbPrivPart as DerEncode>⟧.enc
-            ⟦<EncKrbPrivPart as Show<Message>>⟧.shows (codes "EncKrbPrivPart") no_encoding;
-        krb_cred = value_or ⟦<EncKrbCredPart as DerEncode>⟧.is_value ⟦<EncKrbCredPart as DerEncode>⟧.enc
-            ⟦<EncKrbCredPart as Show<Message>>⟧.shows (codes "EncKrbCredPart") no_encoding
+      time_stamp = value_or ⟦<PaEncTsEnc as DerEncode>⟧.is_value ⟦<PaEncTsEnc as DerEncode>⟧.enc
+          ⟦<PaEncTsEnc as Show<Message>>⟧.shows (codes "PA-ENC-TS-ENC") no_encoding;
+      ticket = value_or ⟦<EncTicketPart as DerEncode>⟧.is_value ⟦<EncTicketPart as DerEncode>⟧.enc
+          ⟦<EncTicketPart as Show<Message>>⟧.shows (codes "EncTicketPart") no_encoding;
+      as_rep = value_or ⟦<EncAsRepPart as DerEncode>⟧.is_value ⟦<EncAsRepPart as DerEncode>⟧.enc
+          ⟦<EncAsRepPart as Show<Message>>⟧.shows (codes "EncASRepPart")
+          (value_or ⟦<EncTgsRepPart as DerEncode>⟧.is_value ⟦<EncTgsRepPart as DerEncode>⟧.enc
+          ⟦<EncTgsRepPart as Show<Message>>⟧.shows (codes "EncTGSRepPart") no_encoding);
+      elements = value_or ⟦<AuthorizationData as DerEncode>⟧.is_value ⟦<AuthorizationData as DerEncode>⟧.enc
+          ⟦<AuthorizationData as Show<Message>>⟧.shows (codes "AuthorizationData") no_encoding;
+      authenticator = value_or ⟦<Authenticator as DerEncode>⟧.is_value ⟦<Authenticator as DerEncode>⟧.enc
+          ⟦<Authenticator as Show<Message>>⟧.shows (codes "Authenticator") no_encoding;
+      tgs_rep = value_or ⟦<EncTgsRepPart as DerEncode>⟧.is_value ⟦<EncTgsRepPart as DerEncode>⟧.enc
+          ⟦<EncTgsRepPart as Show<Message>>⟧.shows (codes "EncTGSRepPart") no_encoding;
+      ap_rep = value_or ⟦<EncApRepPart as DerEncode>⟧.is_value ⟦<EncApRepPart as DerEncode>⟧.enc
+          ⟦<EncApRepPart as Show<Message>>⟧.shows (codes "EncAPRepPart") no_encoding;
+      krb_priv = value_or ⟦<EncKrbPrivPart as DerEncode>⟧.is_value ⟦<EncKrbPrivPart as DerEncode>⟧.enc
+          ⟦<EncKrbPrivPart as Show<Message>>⟧.shows (codes "EncKrbPrivPart") no_encoding;
+      krb_cred = value_or ⟦<EncKrbCredPart as DerEncode>⟧.is_value ⟦<EncKrbCredPart as DerEncode>⟧.enc
+          ⟦<EncKrbCredPart as Show<Message>>⟧.shows (codes "EncKrbCredPart") no_encoding;
     }) };
 
     ghost clear = { encoded_as ⟦<EncKrbCredPart as DerEncode>⟧.is_value ⟦<EncKrbCredPart as DerEncode>⟧.enc

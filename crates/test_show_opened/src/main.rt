@@ -29,8 +29,7 @@ fn page_of(alloc: Global, kind: &str, octets: &[u8]) -> Result<Page, Asn1DerErro
 /// The key of a column.
 fn key_of(alloc: Global, column: &str) -> Result<Option<Key>, AllocError> {
     let mut parts = column.split(':');
-    let (Some(number), Some(digits), Some(name)) = (parts.next(), parts.next(), parts.next())
-    else {
+    let (Some(number), Some(digits), Some(name)) = (parts.next(), parts.next(), parts.next()) else {
         return Ok(None);
     };
     let Ok(number) = number.parse::<usize>() else {
@@ -103,9 +102,12 @@ fn with_opened(alloc: Global, text: String, digits: &str) -> Result<String, Allo
 /// What is printed of a row.
 fn answer(alloc: Global, row: &str) -> io::Result<String> {
     let mut columns = row.split('\t');
-    let (Some(origin), Some(keys), Some(kind), Some(digits)) =
-        (columns.next(), columns.next(), columns.next(), columns.next())
-    else {
+    let (Some(origin), Some(keys), Some(kind), Some(digits)) = (
+        columns.next(),
+        columns.next(),
+        columns.next(),
+        columns.next(),
+    ) else {
         return Ok(String::from_str(alloc, "no row\n")?);
     };
     match hex::decode(alloc, digits) {

@@ -13,6 +13,8 @@ returns-in-Some c =
       first = c.loop-index.invariant;
       of_suite = search rules;
       usage = rw c.in-Some.is at c.in_ok-usage.ensures;
-    } in
-    (c.loop-index-test.true, λ other. subst (λ k. IsFirstKey c.args.suite.now c.args.cipher.now c.args.usages.now c.args.keys.now k c.in-Some.usage)
-    (c.index-keys-index.is ∙ get_or_default c.args.keys.now c.loop-index.index c.index-keys-index.result other c.loop-index-test.true) first)
+    } in (
+      c.loop-index-test.true,
+      λ other. subst (λ k. IsFirstKey c.args.suite.now c.args.cipher.now c.args.usages.now c.args.keys.now k c.in-Some.usage)
+          (c.index-keys-index.is ∙ get_or_default c.args.keys.now c.loop-index.index c.index-keys-index.result other c.loop-index-test.true) first,
+    )

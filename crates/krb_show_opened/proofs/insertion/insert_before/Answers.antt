@@ -13,7 +13,7 @@ pub returns-clause-ok : goal.returns-clause-ok
 returns-clause-ok g c =
     let ends : c.args.next.now.form ≡ form.StructEnd = search rules in
     let some : usages_of c.args.next.now.label.text ≢ [] =
-        rw (sym c.text.ensures, sym c.usages_of.ensures) (not_nil c.usages_of.result.now (search rules)) in
+    rw (sym c.text.ensures, sym c.usages_of.ensures) (not_nil c.usages_of.result.now (search rules)) in
     let part = rw (c.deref.ensures.value, sym c.in_ok-digits.ensures.items, sym c.in_ok-cipher.ensures.items) at c.in-Some.ensures in
     let at = rw (c.text-2.ensures, c.deref-2.ensures.value, c.deref-3.ensures.value) at c.insert_at_part.ensures.ok in
     on_ok c.insert_at_part.result

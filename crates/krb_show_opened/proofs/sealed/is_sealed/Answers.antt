@@ -8,6 +8,6 @@ pub returns-else-is_memory : goal.returns-else-is_memory
 returns-else-is_memory c =
     let other : is_memory c.in-Err.error ≡ false = cc in
     elim (c.in-Err.ensures.rejected c.args.key.now.octets (integer_of c.args.usage) c.in-Some.ensures.some) [
-      inl h ↦ absurd (not_memory c.in-Err.error other h)
+      | inl h ↦ absurd (not_memory c.in-Err.error other h)
       | inr h ↦ none_of c.args.key.now (integer_of c.args.usage) c.args.cipher.now c.in-Some.prepared c.in-Some.ensures.none h
     ]
