@@ -5,11 +5,13 @@
 //! the program prints the keys, or the page's text and its JSON, or the error.
 #![tactic(auto)]
 
+#[cfg(test)]
+mod large;
 
-use krb_crypto_suite::CipherSuite;
 use krb_show::{json_of_page, text_of_page};
 use krb_show_files::page_of_keytab;
-use krb_show_keys::{Key, KeytabKeysError, key_of_text, keys_of_keytab, without_keys};
+use krb_show_keys::{KeytabKeysError, key_of_text, keys_of_keytab, without_keys};
+use krb_show_opened::Key;
 use std::alloc::{AllocError, Global};
 use std::io;
 use std::io::{BufRead, BufReader};
