@@ -1,11 +1,15 @@
 -- What is written for an input, and why nothing is.
-use Rattle.std.specs.Prelude.{◌≡◌, ◌⊎◌, ℕ, ◌-◌, List, [], ◌∷◌, ◌++◌, length, take, Option, Some, None, Result, Ok, Err, Vec}
+use Rattle.std.specs.Prelude.{◌≡◌, ◌⊎◌, ℕ, ◌-◌, Bool, true, false, map, List, [], ◌∷◌, ◌++◌, length, take, Option, Some, None, Result, Ok, Err, Vec}
 use Rattle.std.specs.declared.alloc.Global.{Global}
 use Rattle.krb_input.specs.Forms.{octets_of}
 use Rattle.krb_show.specs.Tokens.{Token}
 use Rattle.krb_show.specs.Text.{AreLines, page_text, text_of_lines}
 use Rattle.krb_show.specs.Json.{json_line}
 use Rattle.krb_show_any.specs.declared.kind.Kind.{Kind}
+use Rattle.krb_show_keys.specs.Hidden.{hidden}
+use Rattle.krb_show_insertions.specs.Walk.{Insertion, walk_of}
+use Rattle.krb_show_opened.specs.Keys.{NamedKey}
+use Rattle.krb_show_pac.specs.Inserted.{IsWithContents}
 use Rattle.krb_show_any.specs.declared.error.PageError.{PageError}
 use Rattle.krb_show_any.specs.Places.{IsPlaceIfAny}
 use Rattle.krb_show_any.specs.declared.place.Place.{Place}
@@ -29,20 +33,41 @@ output_text output.Text page = page_text page
 output_text output.Json page = json_line page ++ 10 ∷ []
 output_text output.Type page = type_line page
 
+-- a page with the octets of its keys, or without
+abbrev pub shown_keys : Bool → List Token → List Token
+shown_keys true page = page
+shown_keys false page = map hidden page
+
 -- the kind that is asked for, or that which octets begin as
 abbrev pub chosen : Option Kind → List ℕ → Option Kind
 chosen None octets = kind_of octets
 chosen (Some kind) octets = Some kind
 
+-- what is opened in a page: the keys, the page before and after
+abbrev pub Opens : Type 1
+Opens = List NamedKey → List Token → List Token → Type 0
+
+-- what keys open in a page, as an insertion says
+abbrev pub opened_by_keys : Insertion (List NamedKey) → Opens
+opened_by_keys inserts keys page made = (after : List NamedKey) × walk_of inserts keys page [] after made
+
+-- this is written of a page: with what the keys open in it, and then with what the buffers of PACs hold
+pub record IsWrittenOf (opens : Opens) (keys : List NamedKey) (page : List Token) (form : Output) (shows_keys : Bool) (made : List ℕ) : Type 0 where
+  pub opened : List Token
+  pub is_opened : opens keys page opened
+  pub detailed : List Token
+  pub is_detailed : IsWithContents opened detailed
+  pub is_made : made ≡ output_text form (shown_keys shows_keys detailed)
+
 -- What octets of a kind are told as: the page that they have, or the error.
-module _ (tells : Kind → List ℕ → Result (Vec Token Global) PageError → Type 0) where
+module _ (tells : Kind → List ℕ → Result (Vec Token Global) PageError → Type 0) (opens : Opens) where
   -- the octets are of a kind and have a page, and this is written of it
-  pub record IsWritten (asked : Option Kind) (form : Output) (octets made : List ℕ) : Type 0 where
+  pub record IsWritten (asked : Option Kind) (form : Output) (shows_keys : Bool) (keys : List NamedKey) (octets made : List ℕ) : Type 0 where
     pub kind : Kind
     pub is_kind : chosen asked octets ≡ Some kind
     pub page : Vec Token Global
     pub told : tells kind octets (Ok page)
-    pub is_made : made ≡ output_text form page.items
+    pub is_written : IsWrittenOf opens keys page.items form shows_keys made
 
   -- the octets are of a kind and have no page, for this reason, at this place
   pub record HasNoPage (asked : Option Kind) (octets : List ℕ) (e : Failure) : Type 0 where
@@ -59,8 +84,8 @@ module _ (tells : Kind → List ℕ → Result (Vec Token Global) PageError → 
   IsRefused asked octets e = ((e ≡ failure.UnknownKind) × (chosen asked octets ≡ None)) ⊎ HasNoPage asked octets e
 
   -- this is written of the octets that the input stands for
-  abbrev pub IsShown : Option Kind → Output → List ℕ → List ℕ → Type 0
-  IsShown asked form input made = (octets : List ℕ) × (octets_of input ≡ Some octets) × IsWritten asked form octets made
+  abbrev pub IsShown : Option Kind → Output → Bool → List NamedKey → List ℕ → List ℕ → Type 0
+  IsShown asked form shows_keys keys input made = (octets : List ℕ) × (octets_of input ≡ Some octets) × IsWritten asked form shows_keys keys octets made
 
   -- why nothing is written for an input
   abbrev pub IsRejected : Option Kind → List ℕ → Failure → Type 0

@@ -8,15 +8,18 @@ use Rattle.krb_show_any.specs.Names.{kind_name}
 use Rattle.krb_show_any.specs.declared.place.Place.{Place}
 use Rattle.krb_show_any.specs.declared.place.Place.TheVariants as places
 use Rattle.jolmurig.specs.declared.failure.Failure.{Failure}
-use Rattle.jolmurig.specs.declared.failure.Failure.TheVariants.{Arguments, NotBase64, UnknownKind, Octets, Memory, Read, Write}
+use Rattle.jolmurig.specs.declared.failure.Failure.TheVariants.{Arguments, Key, KeytabFile, NotBase64, UnknownKind, Octets, Memory, Read, Write}
 
 abbrev pub status_of_failure : Failure → ℕ
 status_of_failure Arguments = 2
+status_of_failure Key = 2
 status_of_failure e = 1
 
 -- what the failure is of
 abbrev pub subject : Failure → List ℕ
 subject Arguments = codes "wrong arguments"
+subject Key = codes "--key"
+subject KeytabFile = codes "--keytab"
 subject NotBase64 = codes "base64"
 subject UnknownKind = codes "unknown kind"
 subject (Octets kind why place) = kind_name kind
@@ -26,7 +29,11 @@ subject Write = codes "writing"
 
 -- what happened
 abbrev pub reason : Failure → List ℕ
-reason Arguments = codes "usage: jolmurig show [--as TYPE | --tree] [--json | --type]; see jolmurig --help"
+reason Arguments =
+    codes "usage: jolmurig show [--as TYPE | --tree] [--json | --type] [--key ETYPE:HEX].. [--keytab FILE].. [--show-keys] [FILE]; see jolmurig --help"
+reason Key =
+    codes "a key is ETYPE:HEX, where ETYPE is 16 to 20 or the name of such an encryption type, and HEX the octets of a key of its length"
+reason KeytabFile = codes "the file could not be read"
 reason NotBase64 = codes "the input begins as PEM or as a header of HTTP, and no base64 follows"
 reason UnknownKind = codes "the octets begin as no kind that is known; --as TYPE names one"
 reason (Octets kind why place) = page_reason why

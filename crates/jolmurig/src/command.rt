@@ -1,6 +1,6 @@
 //! What the program is asked to do.
 
-use krb_show_any::Kind;
+use std::marker::Model;
 
 /// What is written of a page.
 #[derive(Clone, Copy, PartialEq, Eq, Debug)]
@@ -13,11 +13,70 @@ pub enum Output {
     Type,
 }
 
-/// What is asked for by the arguments.
+/// Where keys are.
 #[derive(Clone, Copy, PartialEq, Eq, Debug)]
-pub enum Command {
-    /// Help: the argument `--help`.
+pub enum SourceKind {
+    /// A key, as a text: the option `--key`.
+    Key,
+    /// A keytab, by the name of its file: the option `--keytab`.
+    Keytab,
+}
+
+/// A key, or the name of a file of keys.
+#[derive(Debug, Drop)]
+pub struct Source<'a> {
+    /// What the text is.
+    pub kind: SourceKind,
+    /// The key, or the name of the file.
+    pub text: &'a str,
+}
+
+impl<'a> Model for Source<'a> {
+    ghost use Rattle.jolmurig.specs.Shows.{Source};
+
+    ghost Value = { Source };
+
+    ghost view = { λ s. record { kind = s.kind; text = s.text.now } };
+}
+
+/// What is asked to be shown, and how.
+#[derive(Debug, Drop)]
+pub struct Show<'a> {
+    /// The name of the type as which octets are read: the option `--as`.
+    pub type_name: Option<&'a str>,
+    /// Whether octets are shown as a tree of elements: the option `--tree`.
+    pub is_tree: bool,
+    /// What is written, where an option names it.
+    pub output: Option<Output>,
+    /// Whether the octets of keys are shown: the option `--show-keys`.
+    pub shows_keys: bool,
+    /// Where the keys are that open what is sealed.
+    pub sources: Vec<Source<'a>>,
+    /// The name of the file that is read; standard input where there is none.
+    pub file: Option<&'a str>,
+}
+
+impl<'a> Model for Show<'a> {
+    ghost use Rattle.std.specs.Option.{option_copied};
+    ghost use Rattle.jolmurig.specs.Shows.{Show};
+
+    ghost Value = { Show };
+
+    ghost view = { λ s. record {
+      type_name = option_copied s.type_name;
+      is_tree = s.is_tree;
+      output = s.output;
+      shows_keys = s.shows_keys;
+      sources = s.sources.items;
+      file = option_copied s.file;
+    } };
+}
+
+/// What is asked for by the arguments.
+#[derive(Debug, Drop)]
+pub enum Command<'a> {
+    /// Help: the option `--help`.
     Help,
-    /// What the input holds: `show`. Its kind is told by its first octets, or named by the option `--as`.
-    Show { kind: Option<Kind>, output: Output },
+    /// What a file or standard input holds: `show`.
+    Show(Show<'a>),
 }

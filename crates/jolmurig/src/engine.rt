@@ -1,22 +1,25 @@
 //! The program over any reader and any writers.
 
-ghost use Rattle.std.specs.Prelude.{◌≡◌, ◌⊎◌, ⊤, map, IfOk, IfErr, OnOk, IfSome, MatchResult, Option, Result, Err};
+ghost use Rattle.std.specs.Prelude.{◌≡◌, ◌⊎◌, ⊤, map, option_copied, IfOk, IfErr, OnOk, IfSome, MatchResult, Result, Err};
 ghost use Rattle.std.specs.Io.KnownBytes.{Appends};
 ghost use Rattle.std.specs.String.{string_bytes};
-ghost use Rattle.jolmurig.specs.Arguments.{IsCommand};
 ghost use Rattle.jolmurig.specs.Failures.{line_of, status_of_failure};
-ghost use Rattle.jolmurig.specs.Outcome.{HasTaken, IsLineWritten, IsRun, IsShowRun, status_of};
-ghost use Rattle.jolmurig.specs.declared.command.Command.{Command};
+ghost use Rattle.jolmurig.specs.Answers.{ArePrintableLines};
+ghost use Rattle.jolmurig.specs.Outcome.{HasTaken, IsInput, IsKindOf, IsLineWritten, IsMade, IsNotMade, IsOfNoKind, IsRun, IsRunOf, IsShowRun, output_of, status_of};
 ghost use Rattle.jolmurig.specs.declared.failure.Failure.{Failure};
 
 use crate::answer::answer;
-use crate::command::{Command, Output};
+use crate::command::{Command, Output, Show};
 use crate::failure::Failure;
+use crate::files::Files;
 use crate::help::HELP;
+use crate::keys::keys_of_sources;
+use crate::opens::Opens;
 use crate::parse::parse;
 use krb_io::{ReadError, read_to_end, write_all};
-use krb_show_any::{Kind, PageError, Pages};
+use krb_show_any::{Kind, PageError, Pages, kind_of_name};
 use std::alloc::Global;
+use std::io;
 use std::io::{Read, Write};
 
 /// All that the reader has left.
@@ -53,51 +56,125 @@ fn write_text<W: Write>(output: &mut W, text: &str) -> Result<(), Failure>
     write_out(output, text.as_bytes())
 }
 
-/// Shows the input.
-fn show<S: Pages<Kind, PageError>, R: Read, W: Write>(
-    alloc: Global,
-    kind: Option<Kind>,
-    form: Output,
-    input: &mut R,
-    output: &mut W,
-) -> Result<(), Failure>
-    ensures { IsShowRun S.tells kind form (R.remaining input.old) (W.contents output.old) (W.contents output.new) result }
+/// The kind of the type that is asked for.
+fn kind_asked(show: &Show) -> Result<Option<Kind>, Failure>
+    ensures found { IfOk result (IsKindOf show.now) }
+    ensures rejected { IfErr result (λ e. (e ≡ Failure.Arguments) × IsOfNoKind show.now) }
 {
-    let all = read_all(alloc, input)?;
-    let made = answer::<S>(alloc, kind, form, &all)?;
-    write_out(output, &made)
-}
-
-/// Does what a command asks for.
-fn obey<S: Pages<Kind, PageError>, R: Read, W: Write>(
-    alloc: Global,
-    command: Option<Command>,
-    input: &mut R,
-    output: &mut W,
-) -> Result<(), Failure>
-    ensures { IsRun S.tells command HELP.now (R.remaining input.old) (R.remaining input.new) (W.contents output.old) (W.contents output.new) result }
-{
-    match command {
-        None => Err(Failure::Arguments),
-        Some(Command::Help) => write_text(output, HELP),
-        Some(Command::Show { kind, output: form }) => {
-            show::<S, R, W>(alloc, kind, form, input, output)
+    match show.type_name {
+        Some(name) => match kind_of_name(name) {
+            Some(kind) => Ok(Some(kind)),
+            None => Err(Failure::Arguments),
+        },
+        None => {
+            if show.is_tree {
+                Ok(Some(Kind::Tree))
+            } else {
+                Ok(None)
+            }
         }
     }
 }
 
-/// Does what the arguments ask for.
-fn perform<S: Pages<Kind, PageError>, R: Read, W: Write>(
+/// The output that is asked for.
+fn output_asked(show: &Show) -> Output
+    ensures { result ≡ output_of show.now }
+{
+    show.output.unwrap_or(Output::Text)
+}
+
+/// What a file holds.
+fn read_file<F: Files>(alloc: Global, files: &F, name: &str) -> Result<Vec<u8>, Failure>
+    ensures read { IfOk result (λ octets. F.holds files.now name.now octets.items) }
+    ensures rejected { IfErr result (λ e. (e ≡ Failure.Memory) ⊎ (e ≡ Failure.Read)) }
+{
+    match files.octets_of(alloc, name) {
+        Ok(octets) => Ok(octets),
+        Err(error) => match error.kind() {
+            io::ErrorKind::OutOfMemory => Err(Failure::Memory),
+            _ => Err(Failure::Read),
+        },
+    }
+}
+
+/// What is read: the file of this name, or all that the reader has left.
+fn read_input<F: Files, R: Read>(
     alloc: Global,
-    arguments: &[String],
+    files: &F,
+    file: Option<&str>,
+    input: &mut R,
+) -> Result<Vec<u8>, Failure>
+    ensures read { IfOk result (λ octets. IsInput (F.holds files.now) (option_copied file.entry) (R.remaining input.old) octets.items) }
+    ensures rejected { IfErr result (λ e. (e ≡ Failure.Memory) ⊎ (e ≡ Failure.Read)) }
+{
+    match file {
+        Some(name) => read_file(alloc, files, name),
+        None => read_all(alloc, input),
+    }
+}
+
+/// What is written of what is asked to be shown.
+fn make<S: Pages<Kind, PageError>, O: Opens, F: Files, R: Read>(
+    alloc: Global,
+    show: &Show,
+    files: &F,
+    input: &mut R,
+) -> Result<Vec<u8>, Failure>
+    ensures found { IfOk result (λ made. IsMade S.tells O.opens (F.holds files.now) show.now (R.remaining input.old) made.items) }
+    ensures printable { IfOk result (λ made. ArePrintableLines made.items) }
+    ensures rejected { IfErr result (IsNotMade S.tells O.opens (F.holds files.now) show.now (R.remaining input.old)) }
+{
+    let kind = kind_asked(show)?;
+    let keys = keys_of_sources(alloc, files, &show.sources)?;
+    let all = read_input(alloc, files, show.file, input)?;
+    answer::<S, O>(alloc, kind, output_asked(show), show.shows_keys, keys, &all)
+}
+
+/// Shows a file or the input.
+fn show<S: Pages<Kind, PageError>, O: Opens, F: Files, R: Read, W: Write>(
+    alloc: Global,
+    show: &Show,
+    files: &F,
     input: &mut R,
     output: &mut W,
 ) -> Result<(), Failure>
-    ensures { (command : Option Command) × IsCommand (map string_bytes arguments.now) command
-        × IsRun S.tells command HELP.now (R.remaining input.old) (R.remaining input.new) (W.contents output.old) (W.contents output.new) result }
+    ensures { IsShowRun S.tells O.opens (F.holds files.now) show.now (R.remaining input.old) (W.contents output.old) (W.contents output.new) result }
 {
-    let command = parse(arguments);
-    obey::<S, R, W>(alloc, command, input, output)
+    let made = make::<S, O, F, R>(alloc, show, files, input)?;
+    write_out(output, &made)
+}
+
+/// Does what a command asks for.
+fn obey<S: Pages<Kind, PageError>, O: Opens, F: Files, R: Read, W: Write>(
+    alloc: Global,
+    command: Option<Command>,
+    files: &F,
+    input: &mut R,
+    output: &mut W,
+) -> Result<(), Failure>
+    ensures { IsRun S.tells O.opens (F.holds files.now) command.entry HELP.now (R.remaining input.old) (R.remaining input.new)
+        (W.contents output.old) (W.contents output.new) result }
+{
+    match command {
+        None => Err(Failure::Arguments),
+        Some(Command::Help) => write_text(output, HELP),
+        Some(Command::Show(asked)) => show::<S, O, F, R, W>(alloc, &asked, files, input, output),
+    }
+}
+
+/// Does what the arguments ask for.
+fn perform<S: Pages<Kind, PageError>, O: Opens, F: Files, R: Read, W: Write>(
+    alloc: Global,
+    arguments: &[String],
+    files: &F,
+    input: &mut R,
+    output: &mut W,
+) -> Result<(), Failure>
+    ensures { IsRunOf S.tells O.opens (F.holds files.now) (map string_bytes arguments.now) HELP.now (R.remaining input.old) (R.remaining input.new)
+        (W.contents output.old) (W.contents output.new) result }
+{
+    let command = parse(alloc, arguments)?;
+    obey::<S, O, F, R, W>(alloc, command, files, input, output)
 }
 
 /// Writes as much of a line as the writer takes.
@@ -130,19 +207,20 @@ pub fn reject<E: Write>(alloc: Global, failure: &Failure, errors: &mut E) -> u8
 }
 
 /// One run of the program: its status, and one line to `errors` where it fails.
-pub fn run<S: Pages<Kind, PageError>, R: Read, W: Write, E: Write>(
+pub fn run<S: Pages<Kind, PageError>, O: Opens, F: Files, R: Read, W: Write, E: Write>(
     alloc: Global,
     arguments: &[String],
+    files: &F,
     input: &mut R,
     output: &mut W,
     errors: &mut E,
 ) -> u8
     ensures ran { (outcome : Result ⊤ Failure) × (result ≡ status_of outcome)
         × IsLineWritten (E.contents errors.old) (E.contents errors.new) outcome
-        × (command : Option Command) × IsCommand (map string_bytes arguments.now) command
-        × IsRun S.tells command HELP.now (R.remaining input.old) (R.remaining input.new) (W.contents output.old) (W.contents output.new) outcome }
+        × IsRunOf S.tells O.opens (F.holds files.now) (map string_bytes arguments.now) HELP.now (R.remaining input.old) (R.remaining input.new)
+        (W.contents output.old) (W.contents output.new) outcome }
 {
-    match perform::<S, R, W>(alloc, arguments, input, output) {
+    match perform::<S, O, F, R, W>(alloc, arguments, files, input, output) {
         Ok(()) => 0,
         Err(failure) => reject(alloc, &failure, errors),
     }

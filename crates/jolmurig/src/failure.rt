@@ -14,6 +14,10 @@ use std::io;
 pub enum Failure {
     /// The arguments are no command.
     Arguments,
+    /// The text of an option `--key` is no key.
+    Key,
+    /// The file of an option `--keytab` could not be read.
+    KeytabFile,
     /// The input begins as PEM or as a header of HTTP, and what follows is no base64.
     NotBase64,
     /// The octets begin as no kind that is told by first octets.
@@ -55,12 +59,12 @@ fn push_place(line: &mut Vec<u8>, alloc: Global, place: Option<Place>) -> Result
 }
 
 impl Failure {
-    /// The status with which the program ends: 2 where the arguments are no command, else 1.
+    /// The status with which the program ends: 2 where the arguments are no command or name no key, else 1.
     pub fn status(&self) -> u8
         ensures { result ≡ status_of_failure self.now }
     {
         match self {
-            Failure::Arguments => 2,
+            Failure::Arguments | Failure::Key => 2,
             _ => 1,
         }
     }
@@ -71,6 +75,8 @@ impl Failure {
     {
         match self {
             Failure::Arguments => "wrong arguments",
+            Failure::Key => "--key",
+            Failure::KeytabFile => "--keytab",
             Failure::NotBase64 => "base64",
             Failure::UnknownKind => "unknown kind",
             Failure::Octets {
@@ -90,7 +96,10 @@ impl Failure {
     {
         match self {
             Failure::Arguments =>
-                "usage: jolmurig show [--as TYPE | --tree] [--json | --type]; see jolmurig --help",
+                "usage: jolmurig show [--as TYPE | --tree] [--json | --type] [--key ETYPE:HEX].. [--keytab FILE].. [--show-keys] [FILE]; see jolmurig --help",
+            Failure::Key =>
+                "a key is ETYPE:HEX, where ETYPE is 16 to 20 or the name of such an encryption type, and HEX the octets of a key of its length",
+            Failure::KeytabFile => "the file could not be read",
             Failure::NotBase64 =>
                 "the input begins as PEM or as a header of HTTP, and no base64 follows",
             Failure::UnknownKind =>

@@ -2,18 +2,28 @@
 
 /// What `--help` writes.
 pub const HELP: &str =
-    "Shows what Kerberos octets hold, read from standard input, and refuses what is no strict encoding.
+    "Shows what Kerberos octets hold, those of a file or of standard input, and refuses what is no strict encoding.
 
 usage:
-    jolmurig show [--as TYPE | --tree] [--json | --type]
+    jolmurig show [--as TYPE | --tree] [--json | --type] [--key ETYPE:HEX].. [--keytab FILE].. [--show-keys] [FILE]
     jolmurig --help
 
+FILE is the file that is read; without it standard input is.
+
 options:
-    --as TYPE    read the octets as this type, and not as the one that they begin as
-    --tree       show the tags, lengths and contents of the elements, whatever they are, as far as they go
-    --json       write a line of JSON
-    --type       write the name of the type alone
-    --help       write this help
+    --as TYPE          read the octets as this type, and not as the one that they begin as
+    --tree             show the tags, lengths and contents of the elements, whatever they are, as far as they go
+    --json             write a line of JSON
+    --type             write the name of the type alone
+    --key ETYPE:HEX    open what is sealed with this key, as often as wanted: ETYPE is 16 to 20 or the name of
+                       such an encryption type, HEX the octets of the key; others see it in the list of processes
+    --keytab FILE      open what is sealed with the keys of this keytab, as often as wanted
+    --show-keys        write the octets of keys
+    --no-keys          write `hidden` in the place of the octets of keys, as without these two
+    --help             write this help
+
+what is opened stands in its place, with the key that opened it and the key usage; keys within it open what
+follows
 
 input, by the first rule that fits:
     -----BEGIN LABEL-----    PEM: the base64 up to the line -----END LABEL-----
@@ -42,11 +52,12 @@ exit statuses:
     0    the output is written
     1    an error, which a line on standard error names, with its place where it is one of DER, and nothing on
          standard output
-    2    wrong arguments
+    2    wrong arguments, a key among them
 
 examples:
     jolmurig show <as-req.der
     jolmurig show --json <ticket.kirbi
     jolmurig show --as KDC-REQ-BODY <body.hex
     jolmurig show --tree <refused.der
+    jolmurig show --keytab /etc/krb5.keytab /tmp/krb5cc_0
 ";

@@ -1,11 +1,12 @@
 //! The command that arguments are.
 
-ghost use Rattle.std.specs.Prelude.{◌≡◌, [], ◌∷◌, map};
+ghost use Rattle.std.specs.Prelude.{◌≡◌, ◌++◌, ◌∷◌, [], map, IfOk};
 ghost use Rattle.std.specs.String.{string_bytes};
-ghost use Rattle.jolmurig.specs.Arguments.{IsCommand, is_help, is_tree, is_word, output_of, show_as, show_by, where_show, with_one, with_three, with_two};
+ghost use Rattle.jolmurig.specs.Arguments.{asked_by, is_help, is_valued, is_word, options_of, with_file, with_flag, with_output, with_source, with_tree, with_type, with_value};
+ghost use Rattle.jolmurig.specs.Shows.{nothing_asked};
 
-use crate::command::{Command, Output};
-use krb_show_any::{Kind, kind_of_name};
+use crate::command::{Command, Output, Show, Source, SourceKind};
+use std::alloc::{AllocError, Global};
 
 /// Whether an argument is this word.
 fn is_word(argument: &str, word: &str) -> bool
@@ -21,160 +22,180 @@ fn is_help(argument: &str) -> bool
     is_word(argument, "--help") || is_word(argument, "-h")
 }
 
-/// The output that an argument asks for.
-fn output_of(argument: &str) -> Option<Output>
-    ensures { result ≡ output_of argument.now }
+/// As a tree, where neither this nor a type was asked for.
+fn with_tree<'a>(show: Show<'a>) -> Option<Show<'a>>
+    ensures { result ≡ with_tree show.entry }
 {
-    if is_word(argument, "--json") {
-        Some(Output::Json)
-    } else if is_word(argument, "--type") {
-        Some(Output::Type)
-    } else {
-        None
+    if show.type_name.is_some() || show.is_tree {
+        return None;
     }
-}
-
-/// The command with this type and this output, where there are both.
-fn show_as(kind: Option<Kind>, output: Option<Output>) -> Option<Command>
-    ensures { result ≡ show_as kind output }
-{
-    let kind = kind?;
-    let output = output?;
-    Some(Command::Show {
-        kind: Some(kind),
-        output,
+    Some(Show {
+        is_tree: true,
+        ..show
     })
 }
 
-/// The command without a type, where there is an output.
-fn show_by(output: Option<Output>) -> Option<Command>
-    ensures { result ≡ show_by output }
+/// With an output, where none was asked for.
+fn with_output<'a>(form: Output, show: Show<'a>) -> Option<Show<'a>>
+    ensures { result ≡ with_output form show.entry }
 {
-    let output = output?;
-    Some(Command::Show { kind: None, output })
+    if show.output.is_some() {
+        return None;
+    }
+    Some(Show {
+        output: Some(form),
+        ..show
+    })
 }
 
-/// Whether an argument asks for the tree.
-fn is_tree(argument: &str) -> bool
-    ensures { result ≡ is_tree argument.now }
+/// Of this file, where none was asked for; its name does not begin with `-`.
+fn with_file<'a>(name: &'a str, show: Show<'a>) -> Option<Show<'a>>
+    ensures { result ≡ with_file name.now show.entry }
 {
-    is_word(argument, "--tree")
+    let (first, _rest) = name.as_bytes().split_first()?;
+    if *first == b'-' || show.file.is_some() {
+        return None;
+    }
+    Some(Show {
+        file: Some(name),
+        ..show
+    })
 }
 
-/// `show` with one argument.
-fn with_one(option: &str) -> Option<Command>
-    ensures { result ≡ with_one option.now }
+/// With an option that has no value, or a file.
+fn with_flag<'a>(word: &'a str, show: Show<'a>) -> Option<Show<'a>>
+    ensures { result ≡ with_flag word.now show.entry }
 {
-    if is_help(option) {
-        Some(Command::Help)
-    } else if is_tree(option) {
-        show_as(Some(Kind::Tree), Some(Output::Text))
+    if is_word(word, "--tree") {
+        with_tree(show)
+    } else if is_word(word, "--json") {
+        with_output(Output::Json, show)
+    } else if is_word(word, "--type") {
+        with_output(Output::Type, show)
+    } else if is_word(word, "--show-keys") {
+        Some(Show {
+            shows_keys: true,
+            ..show
+        })
+    } else if is_word(word, "--no-keys") {
+        Some(Show {
+            shows_keys: false,
+            ..show
+        })
     } else {
-        show_by(output_of(option))
+        with_file(word, show)
     }
 }
 
-/// `show` with two arguments.
-fn with_two(first: &str, second: &str, named: Option<Kind>) -> Option<Command>
-    ensures { result ≡ with_two first.now second.now named }
+/// As this type, where neither this nor a tree was asked for.
+fn with_type<'a>(name: &'a str, show: Show<'a>) -> Option<Show<'a>>
+    ensures { result ≡ with_type name.now show.entry }
 {
-    if is_word(first, "--as") {
-        show_as(named, Some(Output::Text))
-    } else if is_tree(first) {
-        show_as(Some(Kind::Tree), output_of(second))
-    } else if is_tree(second) {
-        show_as(Some(Kind::Tree), output_of(first))
+    if show.type_name.is_some() || show.is_tree {
+        return None;
+    }
+    Some(Show {
+        type_name: Some(name),
+        ..show
+    })
+}
+
+/// With one more key, or file of keys.
+fn with_source<'a>(
+    kind: SourceKind,
+    text: &'a str,
+    show: Show<'a>,
+) -> Result<Option<Show<'a>>, AllocError>
+    ensures { IfOk result (λ found. found ≡ with_source kind text.now show.entry) }
+{
+    let mut sources = show.sources;
+    sources.push(Source { kind, text })?;
+    Ok(Some(Show {
+        type_name: show.type_name,
+        is_tree: show.is_tree,
+        output: show.output,
+        shows_keys: show.shows_keys,
+        sources,
+        file: show.file,
+    }))
+}
+
+/// Whether an argument is an option with a value.
+fn is_valued(argument: &str) -> bool
+    ensures { result ≡ is_valued argument.now }
+{
+    is_word(argument, "--as") || is_word(argument, "--key") || is_word(argument, "--keytab")
+}
+
+/// With an option that has a value.
+fn with_value<'a>(
+    option: &str,
+    value: &'a str,
+    show: Show<'a>,
+) -> Result<Option<Show<'a>>, AllocError>
+    ensures { IfOk result (λ found. found ≡ with_value option.now value.now show.entry) }
+{
+    if is_word(option, "--as") {
+        Ok(with_type(value, show))
+    } else if is_word(option, "--key") {
+        with_source(SourceKind::Key, value, show)
     } else {
-        None
+        with_source(SourceKind::Keytab, value, show)
     }
 }
 
-/// `show` with three arguments.
-fn with_three(
-    first: &str,
-    second: &str,
-    third: &str,
-    named_second: Option<Kind>,
-    named_third: Option<Kind>,
-) -> Option<Command>
-    ensures { result ≡ with_three first.now second.now third.now named_second named_third }
+/// What options ask for, behind those that asked for this.
+fn with_options<'a>(show: Show<'a>, words: &'a [String]) -> Result<Option<Command<'a>>, AllocError>
+    ensures { IfOk result (λ found. found ≡ options_of show.entry (map string_bytes words.now)) }
 {
-    if is_word(first, "--as") {
-        show_as(named_second, output_of(third))
-    } else if is_word(second, "--as") {
-        show_as(named_third, output_of(first))
-    } else {
-        None
-    }
-}
-
-/// The command, where the first argument is `show`.
-fn where_show(command: &str, found: Option<Command>) -> Option<Command>
-    ensures { result ≡ where_show command.now found }
-{
-    if is_word(command, "show") {
-        found
-    } else {
-        None
-    }
-}
-
-/// The command without arguments of its own.
-fn alone(only: &str) -> Option<Command>
-    ensures { IsCommand (only.now ∷ []) result }
-{
-    if is_help(only) {
-        return Some(Command::Help);
-    }
-    let show = Command::Show {
-        kind: None,
-        output: Output::Text,
+    let Some((word, rest)) = words.split_first() else {
+        return Ok(Some(Command::Show(show)));
     };
-    where_show(only, Some(show))
-}
-
-/// The command with two arguments.
-fn of_two(command: &str, first: &str, second: &str) -> Option<Command>
-    ensures { IsCommand (command.now ∷ first.now ∷ second.now ∷ []) result }
-{
-    let named = kind_of_name(second);
-    where_show(command, with_two(first, second, named))
-}
-
-/// The command with three arguments.
-fn of_three(command: &str, first: &str, second: &str, third: &str) -> Option<Command>
-    ensures { IsCommand (command.now ∷ first.now ∷ second.now ∷ third.now ∷ []) result }
-{
-    let named_second = kind_of_name(second);
-    let named_third = kind_of_name(third);
-    where_show(
-        command,
-        with_three(first, second, third, named_second, named_third),
-    )
-}
-
-/// The command of this word and these options.
-fn with_options(command: &str, options: &[String]) -> Option<Command>
-    ensures { IsCommand (command.now ∷ map string_bytes options.now) result }
-{
-    match options {
-        [] => alone(command),
-        [first] => where_show(command, with_one(first.as_str())),
-        [first, second] => of_two(command, first.as_str(), second.as_str()),
-        [first, second, third] => of_three(
-            command,
-            first.as_str(),
-            second.as_str(),
-            third.as_str(),
-        ),
-        _ => None,
+    if is_help(word.as_str()) {
+        return Ok(Some(Command::Help));
+    }
+    if is_valued(word.as_str()) {
+        let Some((value, behind)) = rest.split_first() else {
+            return Ok(None);
+        };
+        return match with_value(word.as_str(), value.as_str(), show)? {
+            Some(next) => with_options(next, behind),
+            None => Ok(None),
+        };
+    }
+    match with_flag(word.as_str(), show) {
+        Some(next) => with_options(next, rest),
+        None => Ok(None),
     }
 }
 
-/// The command that the arguments are; `None` where they are none.
-pub fn parse(arguments: &[String]) -> Option<Command>
-    ensures { IsCommand (map string_bytes arguments.now) result }
+/// Without any option.
+fn nothing_asked<'a>(alloc: Global) -> Show<'a>
+    ensures { result ≡ nothing_asked }
 {
-    let (command, options) = arguments.split_first()?;
-    with_options(command.as_str(), options)
+    Show {
+        type_name: None,
+        is_tree: false,
+        output: None,
+        shows_keys: false,
+        sources: Vec::new(alloc),
+        file: None,
+    }
+}
+
+/// The command that the arguments are; `None` where they are none. The only error is an allocation failure.
+pub fn parse<'a>(alloc: Global, arguments: &'a [String]) -> Result<Option<Command<'a>>, AllocError>
+    ensures { IfOk result (λ found. found ≡ asked_by (map string_bytes arguments.now)) }
+{
+    let Some((command, rest)) = arguments.split_first() else {
+        return Ok(None);
+    };
+    if rest.is_empty() && is_help(command.as_str()) {
+        return Ok(Some(Command::Help));
+    }
+    if is_word(command.as_str(), "show") {
+        with_options(nothing_asked(alloc), rest)
+    } else {
+        Ok(None)
+    }
 }

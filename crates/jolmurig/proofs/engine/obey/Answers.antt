@@ -1,0 +1,5 @@
+use Rattle.std.proofs.KnownBytes.{Keeps-refl}
+use Rattle.jolmurig.proofs.engine.obey.Goals as goal
+
+pub returns-in-Some-Help : goal.returns-in-Some-Help
+returns-in-Some-Help g c = rw (c.in-Some-Help.is, c.in-Some-Help.field-0-is) (Keeps-refl _, c.write_text.ensures)
