@@ -1,12 +1,12 @@
 -- What is written for an input, and why nothing is.
-use Rattle.std.specs.Prelude.{◌≡◌, ◌⊎◌, ℕ, ◌-◌, Bool, true, false, map, List, [], ◌∷◌, ◌++◌, length, take, Option, Some, None, Result, Ok, Err, Vec}
+use Rattle.std.specs.Prelude.{◌≡◌, ◌⊎◌, ℕ, ◌-◌, Bool, true, false, List, [], ◌∷◌, ◌++◌, length, take, Option, Some, None, Result, Ok, Err, Vec}
 use Rattle.std.specs.declared.alloc.Global.{Global}
 use Rattle.krb_input.specs.Forms.{octets_of}
 use Rattle.krb_show.specs.Tokens.{Token}
 use Rattle.krb_show.specs.Text.{AreLines, page_text, text_of_lines}
 use Rattle.krb_show.specs.Json.{json_line}
 use Rattle.krb_show_any.specs.declared.kind.Kind.{Kind}
-use Rattle.krb_show_keys.specs.Hidden.{hidden}
+use Rattle.krb_show_keys.specs.Hidden.{hidden_page}
 use Rattle.krb_show_insertions.specs.Walk.{Insertion, walk_of}
 use Rattle.krb_show_opened.specs.Keys.{NamedKey}
 use Rattle.krb_show_pac.specs.Inserted.{IsWithContents}
@@ -36,7 +36,7 @@ output_text output.Type page = type_line page
 -- a page with the octets of its keys, or without
 abbrev pub shown_keys : Bool → List Token → List Token
 shown_keys true page = page
-shown_keys false page = map hidden page
+shown_keys false page = hidden_page page
 
 -- the kind that is asked for, or that which octets begin as
 abbrev pub chosen : Option Kind → List ℕ → Option Kind

@@ -1,14 +1,14 @@
 //! Pages without the octets of keys.
 
-ghost use Rattle.std.specs.Prelude.{◌≡◌, ◌++◌, ◌∷◌, [], map, IfOk, OnOk};
-ghost use Rattle.krb_show_keys.specs.Hidden.{hidden, hiding, key_label};
+ghost use Rattle.std.specs.Prelude.{◌≡◌, ◌++◌, ◌∷◌, [], IfOk, OnOk};
+ghost use Rattle.krb_show_keys.specs.Hidden.{clear_after, hidden, hidden_page, hiding, key_label};
 
 use krb_show::{Form, Label, Page, Token, push_token};
 use std::alloc::{AllocError, Global};
 
-/// The label of the octets of a key; `None` for any other token.
-fn key_label(token: &Token) -> Option<Label<'static>>
-    ensures { result ≡ key_label token.now }
+/// The label of the octets of a key, or of octets in the clear that may hold one; `None` for any other token.
+fn key_label(token: &Token, is_clear: bool) -> Option<Label<'static>>
+    ensures { result ≡ key_label is_clear token.now }
 {
     if token.form() != Form::Octets {
         return None;
@@ -17,6 +17,8 @@ fn key_label(token: &Token) -> Option<Label<'static>>
         "keyvalue"
     } else if token.text() == b"UserSessionKey".as_slice() {
         "UserSessionKey"
+    } else if is_clear && token.text() == b"cipher".as_slice() {
+        "cipher"
     } else {
         return None;
     };
@@ -25,6 +27,22 @@ fn key_label(token: &Token) -> Option<Label<'static>>
         kind: token.kind(),
         is_item: token.is_item(),
     })
+}
+
+/// Whether a `cipher` behind this token is in the clear, by the encryption type that stands before it.
+fn clear_after(token: &Token, is_clear: bool) -> bool
+    ensures { result ≡ clear_after is_clear token.now }
+{
+    match token.form() {
+        Form::Number => {
+            if token.text() == b"etype".as_slice() {
+                token.octets() == b"0".as_slice()
+            } else {
+                is_clear
+            }
+        }
+        _ => is_clear,
+    }
 }
 
 /// Appends the word that stands for the octets of a key.
@@ -36,18 +54,38 @@ fn push_hidden(alloc: Global, label: &Label, page: &mut Page) -> Result<(), Allo
     push_token(alloc, Form::Word, label, word, Vec::new(alloc), page)
 }
 
+/// Appends a token, or the word that stands for the octets of a key.
+fn push_shown(
+    alloc: Global,
+    token: Token,
+    is_clear: bool,
+    page: &mut Page,
+) -> Result<(), AllocError>
+    ensures { OnOk result (page.new.items ≡ page.old.items ++ hidden is_clear token ∷ []) }
+{
+    match key_label(&token, is_clear) {
+        Some(label) => push_hidden(alloc, &label, page),
+        None => {
+            page.push(token)?;
+            Ok(())
+        }
+    }
+}
+
 /// The page without the octets of keys: in the place of octets under the labels `keyvalue` (RFC 4120, 5.2.9, EncryptionKey; keytabs and
-/// credential caches) and `UserSessionKey` (MS-PAC, 2.5) stands the word `hidden`. Other tokens stay as they are; octets that hold a key
-/// within them, as those of a tree, are among these. The only error is an allocation failure.
+/// credential caches) and `UserSessionKey` (MS-PAC, 2.5) stands the word `hidden`, and so it does in the place of a `cipher` of encryption type
+/// 0, which is in the clear and may hold keys (RFC 4120, 5.8.1). Other tokens stay as they are; octets that hold a key within them, as those of a
+/// tree, are among these. The only error is an allocation failure.
+#[tactic(auto, using(crate::proofs::Walks::hidden_more, crate::proofs::Walks::clear_more))]
 pub fn without_keys(alloc: Global, page: Page) -> Result<Page, AllocError>
-    ensures { IfOk result (λ made. made.items ≡ map hidden page.items) }
+    ensures { IfOk result (λ made. made.items ≡ hidden_page page.items) }
 {
     let mut made = Vec::with_capacity(alloc, page.len())?;
+    let mut is_clear = false;
     'tokens: for token in page {
-        match key_label(&token) {
-            Some(label) => push_hidden(alloc, &label, &mut made)?,
-            None => made.push(token)?,
-        }
+        let was_clear = is_clear;
+        is_clear = clear_after(&token, was_clear);
+        push_shown(alloc, token, was_clear, &mut made)?;
     }
     Ok(made)
 }

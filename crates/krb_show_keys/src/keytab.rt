@@ -42,10 +42,7 @@ impl From<AllocError> for KeytabKeysError {
 }
 
 /// The components of a name, in their order.
-fn parts_of<'a>(
-    alloc: Global,
-    components: ComponentsView<'a>,
-) -> Result<Vec<&'a [u8]>, AllocError>
+fn parts_of<'a>(alloc: Global, components: ComponentsView<'a>) -> Result<Vec<&'a [u8]>, AllocError>
     ensures { IfOk result (λ v. map (λ x. x.now) v.items ≡ components.entry) }
 {
     components.collect(alloc)

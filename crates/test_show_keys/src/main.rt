@@ -1,8 +1,9 @@
 //! The program `test_show_keys`: keys from texts and keytabs, and pages without keys.
 //!
 //! Its standard input is a table. A row is a line of a word and its octets, with a tab between: `key` and a text, `keytab` and a keytab in
-//! hexadecimal digits, `hidden` and such a keytab, whose page is then shown without keys; a line that begins with `#` is a comment. For each row
-//! the program prints the keys, or the page's text and its JSON, or the error.
+//! hexadecimal digits, `hidden` and such a keytab, whose page is then shown without keys, `message` and a message in hexadecimal digits, whose page
+//! is too; a line that begins with `#` is a comment. For each row the program prints the keys, or the page's text and, of a keytab, its JSON, or
+//! the error.
 #![tactic(auto)]
 
 #[cfg(test)]
@@ -11,6 +12,7 @@ mod large;
 use krb_show::{json_of_page, text_of_page};
 use krb_show_files::page_of_keytab;
 use krb_show_keys::{KeytabKeysError, key_of_text, keys_of_keytab, without_keys};
+use krb_show_messages::page_of_message;
 use krb_show_opened::Key;
 use std::alloc::{AllocError, Global};
 use std::io;
@@ -62,6 +64,17 @@ fn hidden(alloc: Global, octets: &[u8]) -> Result<String, AllocError> {
     }
 }
 
+/// What is printed of the page of a message without its keys.
+fn message(alloc: Global, octets: &[u8]) -> Result<String, AllocError> {
+    match page_of_message(alloc, octets) {
+        Ok(page) => {
+            let page = without_keys(alloc, page)?;
+            text_of_page(alloc, &page)
+        }
+        Err(_) => String::from_str(alloc, "no page\n"),
+    }
+}
+
 /// What is printed of a row.
 fn answer(alloc: Global, row: &str) -> io::Result<String> {
     let Some((kind, rest)) = row.split_once('\t') else {
@@ -74,6 +87,8 @@ fn answer(alloc: Global, row: &str) -> io::Result<String> {
         Ok(octets) => {
             if kind == "keytab" {
                 Ok(keytab(alloc, &octets)?)
+            } else if kind == "message" {
+                Ok(message(alloc, &octets)?)
             } else {
                 Ok(hidden(alloc, &octets)?)
             }
