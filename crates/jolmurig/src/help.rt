@@ -19,7 +19,8 @@ options:
                        such an encryption type, HEX the octets of the key; others see it in the list of processes
     --keytab FILE      open what is sealed with the keys of this keytab, as often as wanted
     --show-keys        write the octets of keys
-    --no-keys          write `hidden` in the place of the octets of keys, as without these two
+    --no-keys          write `hidden` in the place of keys, as without these two; other octets that hold a key stay,
+                       as those of a tree
     --help             write this help
 
 what is opened stands in its place, with the key that opened it and the key usage; keys within it open what
