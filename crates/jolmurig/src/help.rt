@@ -60,5 +60,5 @@ examples:
     jolmurig show --json <ticket.kirbi
     jolmurig show --as KDC-REQ-BODY <body.hex
     jolmurig show --tree <refused.der
-    jolmurig show --keytab /etc/krb5.keytab /tmp/krb5cc_0
+    jolmurig show --keytab krb5.keytab krb5cc
 ";
