@@ -71,8 +71,9 @@ fn base64_of(alloc: Global, text: &[u8]) -> Result<Option<Vec<u8>>, AllocError>
     base64_by(alloc, &URL_SAFE_NO_PAD, text)
 }
 
-/// What digits in pairs stand for; `None` where a text is no such digits.
-fn hexadecimal_of(alloc: Global, text: &[u8]) -> Result<Option<Vec<u8>>, AllocError>
+/// The octets that hexadecimal digits in pairs, of either case, stand for; `None` where a text is no such digits. The only error is an allocation
+/// failure.
+pub fn hexadecimal_of(alloc: Global, text: &[u8]) -> Result<Option<Vec<u8>>, AllocError>
     ensures { IfOk result (λ found. MatchOption found (hexadecimal text.now ≡ None) (λ octets. hexadecimal text.now ≡ Some octets.items)) }
 {
     match hex::decode(alloc, text) {

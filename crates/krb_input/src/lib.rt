@@ -12,5 +12,6 @@ mod marks;
 mod pem;
 mod words;
 
-pub use forms::{InputError, octets_of_input};
+pub use blanks::without_blanks;
+pub use forms::{InputError, hexadecimal_of, octets_of_input};
 pub use words::after_text;

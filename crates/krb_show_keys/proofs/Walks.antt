@@ -1,13 +1,31 @@
 -- One token more.
-use Rattle.std.proofs.Common.{ap, refl, ◌≡◌, Bool, List, [], ◌∷◌, ◌++◌}
+use Rattle.std.proofs.Common.{ap, refl, sym, ◌∙◌, ◌≡◌, if◌then◌else◌, Bool, true, false, List, [], ◌∷◌, ◌++◌}
+use Rattle.std.proofs.lemmas.List.{append-nil, append_assoc}
+use Rattle.std.proofs.lemmas.List.Elements.{filter-append}
+use Rattle.std.specs.List.{filter}
 use Rattle.krb_show.specs.Tokens.{Token}
-use Rattle.krb_show_keys.specs.Hidden.{clear_after, clear_behind, hidden, hidden_from}
+use Rattle.krb_show_keys.specs.Hidden.{hidden, hidden_from, hidden_page, is_clear_behind, is_etype, is_zero, last_is_zero}
 
-pub hidden_more : (is_clear : Bool) (ts : List Token) (t : Token)
-    → hidden_from is_clear (ts ++ t ∷ []) ≡ hidden_from is_clear ts ++ hidden (clear_behind is_clear ts) t ∷ []
-hidden_more is_clear [] t = refl
-hidden_more is_clear (s ∷ ts) t = ap (λ made. hidden is_clear s ∷ made) (hidden_more (clear_after is_clear s) ts t)
+hidden_behind : (before ts : List Token) (t : Token)
+    → hidden_from before (ts ++ t ∷ []) ≡ hidden_from before ts ++ hidden (is_clear_behind (before ++ ts)) t ∷ []
+hidden_behind before [] t = ap (λ b. hidden (is_clear_behind b) t ∷ []) (sym (append-nil before))
+hidden_behind before (s ∷ ts) t =
+    let later = ap (λ b. hidden_from (before ++ s ∷ []) ts ++ hidden (is_clear_behind b) t ∷ []) (append_assoc before (s ∷ []) ts) in
+    ap (λ made. hidden (is_clear_behind before) s ∷ made) (hidden_behind (before ++ s ∷ []) ts t ∙ later)
 
-pub clear_more : (is_clear : Bool) (ts : List Token) (t : Token) → clear_behind is_clear (ts ++ t ∷ []) ≡ clear_after (clear_behind is_clear ts) t
-clear_more is_clear [] t = refl
-clear_more is_clear (s ∷ ts) t = clear_more (clear_after is_clear s) ts t
+pub hidden_more : (ts : List Token) (t : Token) → hidden_page (ts ++ t ∷ []) ≡ hidden_page ts ++ hidden (is_clear_behind ts) t ∷ []
+hidden_more ts t = hidden_behind [] ts t
+
+last_of_more : (ts : List Token) (t : Token) → last_is_zero (ts ++ t ∷ []) ≡ is_zero t
+last_of_more [] t = refl
+last_of_more (s ∷ []) t = refl
+last_of_more (s ∷ u ∷ ts) t = last_of_more (u ∷ ts) t
+
+clear_by : (b : Bool) (before : List Token) (t : Token) → is_etype t ≡ b
+    → is_clear_behind (before ++ t ∷ []) ≡ (if b then is_zero t else is_clear_behind before)
+clear_by true before t p = ap last_is_zero (filter-append is_etype before (t ∷ [])) ∙ rw p (last_of_more (filter is_etype before) t)
+clear_by false before t p = ap last_is_zero (filter-append is_etype before (t ∷ [])) ∙ rw p (ap last_is_zero (append-nil (filter is_etype before)))
+
+pub clear_more : (before : List Token) (t : Token)
+    → is_clear_behind (before ++ t ∷ []) ≡ (if is_etype t then is_zero t else is_clear_behind before)
+clear_more before t = clear_by (is_etype t) before t refl

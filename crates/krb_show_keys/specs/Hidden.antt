@@ -1,6 +1,7 @@
 -- Pages without the octets of keys.
-use Rattle.std.specs.Prelude.{ℕ, nat_eq, Bool, false, ◌&&◌, if◌then◌else◌, List, [], ◌∷◌, Option, None, Some, codes}
+use Rattle.std.specs.Prelude.{ℕ, nat_eq, Bool, false, ◌&&◌, if◌then◌else◌, List, [], ◌∷◌, ◌++◌, Option, None, Some, codes}
 use Rattle.std.specs.Cmp.Lexicographic.{pointwise}
+use Rattle.std.specs.List.{filter}
 use Rattle.krb_show.specs.declared.token.Form.{Form}
 use Rattle.krb_show.specs.declared.token.Form.TheVariants as form
 use Rattle.krb_show.specs.Tokens.{Label, Token, leaf}
@@ -33,24 +34,32 @@ hidden is_clear t = hiding_or (key_label is_clear t)
     hiding_or None = t
     hiding_or (Some label) = hiding label
 
--- whether a `cipher` behind a token is in the clear: the encryption type that stands last before it is 0, NULL (RFC 4120, 5.8.1)
-abbrev pub clear_after : Bool → Token → Bool
-clear_after is_clear t = of_form t.form
+-- the number of an encryption type, and whether it is 0, NULL (RFC 4120, 5.8.1)
+abbrev pub is_etype : Token → Bool
+is_etype t = of_form t.form
   where
     of_form : Form → Bool
-    of_form form.Number = if pointwise nat_eq t.label.text (codes "etype") then pointwise nat_eq t.octets (codes "0") else is_clear
-    of_form f = is_clear
+    of_form form.Number = pointwise nat_eq t.label.text (codes "etype")
+    of_form f = false
 
--- the same behind tokens
-abbrev pub clear_behind : Bool → List Token → Bool
-clear_behind is_clear [] = is_clear
-clear_behind is_clear (t ∷ ts) = clear_behind (clear_after is_clear t) ts
+abbrev pub is_zero : Token → Bool
+is_zero t = pointwise nat_eq t.octets (codes "0")
 
--- tokens behind those that leave this
-abbrev pub hidden_from : Bool → List Token → List Token
-hidden_from is_clear [] = []
-hidden_from is_clear (t ∷ ts) = hidden is_clear t ∷ hidden_from (clear_after is_clear t) ts
+-- whether the last of tokens is such a number
+abbrev pub last_is_zero : List Token → Bool
+last_is_zero [] = false
+last_is_zero (t ∷ []) = is_zero t
+last_is_zero (t ∷ u ∷ ts) = last_is_zero (u ∷ ts)
+
+-- whether a `cipher` behind these tokens is in the clear: the last encryption type among them is 0
+abbrev pub is_clear_behind : List Token → Bool
+is_clear_behind before = last_is_zero (filter is_etype before)
+
+-- tokens without the octets of keys, where these stand before them
+abbrev pub hidden_from : List Token → List Token → List Token
+hidden_from before [] = []
+hidden_from before (t ∷ ts) = hidden (is_clear_behind before) t ∷ hidden_from (before ++ t ∷ []) ts
 
 -- a page without the octets of keys
 abbrev pub hidden_page : List Token → List Token
-hidden_page page = hidden_from false page
+hidden_page page = hidden_from [] page

@@ -4,7 +4,6 @@ use Rattle.std.specs.Fmt.{decimal}
 use Rattle.std.specs.List.{flat_map}
 use Rattle.krb_crypto_suite.specs.BySuite.{key_octets_of}
 use Rattle.krb_crypto_suite.specs.declared.cipher_suite.CipherSuite.{CipherSuite}
-use Rattle.krb_fields.specs.Reading.{Principal}
 use Rattle.krb_input.specs.Forms.{hexadecimal}
 use Rattle.krb_keytab.specs.Entry.{Entry}
 use Rattle.krb_keytab.specs.Keytab.{KeytabIs}

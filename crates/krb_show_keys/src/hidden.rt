@@ -1,7 +1,7 @@
 //! Pages without the octets of keys.
 
-ghost use Rattle.std.specs.Prelude.{◌≡◌, ◌++◌, ◌∷◌, [], IfOk, OnOk};
-ghost use Rattle.krb_show_keys.specs.Hidden.{clear_after, hidden, hidden_page, hiding, key_label};
+ghost use Rattle.std.specs.Prelude.{◌≡◌, ◌++◌, ◌∷◌, [], if◌then◌else◌, IfOk, OnOk};
+ghost use Rattle.krb_show_keys.specs.Hidden.{hidden, hidden_page, hiding, is_etype, is_zero, key_label};
 
 use krb_show::{Form, Label, Page, Token, push_token};
 use std::alloc::{AllocError, Global};
@@ -29,19 +29,24 @@ fn key_label(token: &Token, is_clear: bool) -> Option<Label<'static>>
     })
 }
 
-/// Whether a `cipher` behind this token is in the clear, by the encryption type that stands before it.
-fn clear_after(token: &Token, is_clear: bool) -> bool
-    ensures { result ≡ clear_after is_clear token.now }
+/// Whether a token is the number of an encryption type.
+fn is_etype(token: &Token) -> bool
+    ensures { result ≡ is_etype token.now }
 {
     match token.form() {
-        Form::Number => {
-            if token.text() == b"etype".as_slice() {
-                token.octets() == b"0".as_slice()
-            } else {
-                is_clear
-            }
-        }
-        _ => is_clear,
+        Form::Number => token.text() == b"etype".as_slice(),
+        _ => false,
+    }
+}
+
+/// Whether a `cipher` behind this token is in the clear, where `is_clear` says so of one before it.
+fn clear_after(token: &Token, is_clear: bool) -> bool
+    ensures { result ≡ (if is_etype token.now then is_zero token.now else is_clear) }
+{
+    if is_etype(token) {
+        token.octets() == b"0".as_slice()
+    } else {
+        is_clear
     }
 }
 

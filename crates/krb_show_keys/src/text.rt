@@ -1,25 +1,13 @@
 //! A key as text.
 
 ghost use Rattle.std.specs.Prelude.{◌≡◌, None, Some, IfOk, MatchOption};
-ghost use Rattle.krb_input.specs.Forms.{hexadecimal};
 ghost use Rattle.krb_show_keys.specs.Keys.{key_of_suite, key_in};
 
 use crate::suites::{digits_of, suite_of_text};
-use hex::FromHexError;
 use krb_crypto_suite::{Cipher, CipherSuite};
+use krb_input::hexadecimal_of;
 use krb_show_opened::Key;
 use std::alloc::{AllocError, Global};
-
-/// What digits in pairs stand for; `None` where a text is no such digits.
-fn hexadecimal_of(alloc: Global, text: &[u8]) -> Result<Option<Vec<u8>>, AllocError>
-    ensures { IfOk result (λ found. MatchOption found (hexadecimal text.now ≡ None) (λ octets. hexadecimal text.now ≡ Some octets.items)) }
-{
-    match hex::decode(alloc, text) {
-        Ok(octets) => Ok(Some(octets)),
-        Err(FromHexError::OutOfMemory) => Err(AllocError),
-        Err(_) => Ok(None),
-    }
-}
 
 /// The octets of the key of this suite in a text that begins with the suite.
 fn octets_of_suite(
