@@ -4,7 +4,7 @@ use Rattle.krb_crypto_suite.specs.BySuite.{checksum_key_octets_of, sum_of}
 use Rattle.krb_crypto_suite.specs.Suites.{checksum_type, NoSuite}
 use Rattle.krb_crypto_suite.specs.declared.checksum_suite.ChecksumSuite.{ChecksumSuite}
 use Rattle.krb_pac_signatures.specs.Signature.{signature_type, signature}
-use Rattle.krb_pac_signatures.specs.Signatures.{Placed}
+use Rattle.krb_pac_signatures.specs.Signatures.{Placed, Signatures, full_message}
 use Rattle.krb_pac_checksums.specs.declared.verdict.Verdict.{Verdict}
 use Rattle.krb_pac_checksums.specs.declared.verdict.Verdict.TheVariants as verdict
 
@@ -32,3 +32,10 @@ IsVerdictOf (Some p) key message v = IsVerdict (signature_type p.octets) (signat
 abbrev pub IsKdcVerdict : Option Placed → Option Placed → List ℕ → Verdict → Type 0
 IsKdcVerdict kdc None key v = v ≡ verdict.Absent
 IsKdcVerdict kdc (Some p) key v = IsVerdictOf kdc key (signature p.octets) v
+
+-- what is said of the KDC's two checksums (MS-PAC 2.8.2 and 2.8.4) under its key, and nothing without a key
+abbrev pub AreKdcVerdicts : Signatures → Option (List ℕ) → Option Verdict → Option Verdict → Type 0
+AreKdcVerdicts s None kdc full = (kdc ≡ None) × (full ≡ None)
+AreKdcVerdicts s (Some key) None full = ⊥
+AreKdcVerdicts s (Some key) (Some kdc) None = ⊥
+AreKdcVerdicts s (Some key) (Some kdc) (Some full) = IsKdcVerdict s.kdc s.server key kdc × IsVerdictOf s.full key (full_message s) full

@@ -4,5 +4,5 @@
 mod pac;
 mod verdict;
 
-pub use pac::{full_verdict, kdc_verdict, server_verdict};
+pub use pac::{PacVerdicts, full_verdict, kdc_verdict, server_verdict, verdicts};
 pub use verdict::{Verdict, verify};

@@ -16,13 +16,14 @@ use std::alloc::{AllocError, Global};
 /// Inserts what the keys of a suite open, or why none does. The keys in it are appended to the keys.
 fn insert_under_suite<V: OpensParts>(
     alloc: Global,
+    parts: &V,
     suite: &CipherSuite,
     usages: &[Usage],
     cipher: &[u8],
     keys: &mut Vec<Key>,
     page: &mut Page,
 ) -> Result<(), AllocError>
-    ensures ok { OnOk result (under_suite V.opened suite.now usages.now cipher.now keys.old.items page.old.items keys.new.items page.new.items) }
+    ensures ok { OnOk result (under_suite (V.opened parts.now) suite.now usages.now cipher.now keys.old.items page.old.items keys.new.items page.new.items) }
     ensures kept { OnOk result (Begins page.old.items page.new.items) }
 {
     if !is_of_one(keys, suite) {
@@ -31,27 +32,28 @@ fn insert_under_suite<V: OpensParts>(
     let Some(found) = first_key(alloc, keys, suite, usages, cipher)? else {
         return tell(alloc, "no key of this encryption type opens it", page);
     };
-    let mut more = V::insert_opened(alloc, &keys[found.index], found.usage, cipher, page)?;
+    let mut more = parts.insert_opened(alloc, &keys[found.index], found.usage, cipher, page)?;
     keys.append(&mut more)
 }
 
 /// Inserts what keys open, or why none does, by the encryption type; nothing where there is no key.
 fn insert_under_keys<V: OpensParts>(
     alloc: Global,
+    parts: &V,
     usages: &[Usage],
     digits: &[u8],
     cipher: &[u8],
     keys: &mut Vec<Key>,
     page: &mut Page,
 ) -> Result<(), AllocError>
-    ensures ok { OnOk result (under_keys V.opened usages.now digits.now cipher.now keys.old.items page.old.items keys.new.items page.new.items) }
+    ensures ok { OnOk result (under_keys (V.opened parts.now) usages.now digits.now cipher.now keys.old.items page.old.items keys.new.items page.new.items) }
     ensures kept { OnOk result (Begins page.old.items page.new.items) }
 {
     if keys.is_empty() {
         return Ok(());
     }
     match suite_of_digits(digits) {
-        Some(suite) => insert_under_suite::<V>(alloc, &suite, usages, cipher, keys, page),
+        Some(suite) => insert_under_suite::<V>(alloc, parts, &suite, usages, cipher, keys, page),
         None => tell(alloc, "the encryption type is not supported", page),
     }
 }
@@ -86,30 +88,34 @@ fn insert_if_clear<V: OpensParts>(
 /// the square of its size.
 pub(crate) fn insert_at_part<V: OpensParts>(
     alloc: Global,
+    parts: &V,
     label: &[u8],
     digits: &[u8],
     cipher: &[u8],
     keys: &mut Vec<Key>,
     page: &mut Page,
 ) -> Result<(), AllocError>
-    ensures ok { OnOk result (at_part V.opened V.clear V.no_clear label.now digits.now cipher.now
+    ensures ok { OnOk result (at_part (V.opened parts.now) V.clear V.no_clear label.now digits.now cipher.now
         keys.old.items page.old.items keys.new.items page.new.items) }
     ensures kept { OnOk result (Begins page.old.items page.new.items) }
 {
     if insert_if_clear::<V>(alloc, label, digits, cipher, page)? {
         return Ok(());
     }
-    insert_under_keys::<V>(alloc, usages_of(label), digits, cipher, keys, page)
+    insert_under_keys::<V>(alloc, parts, usages_of(label), digits, cipher, keys, page)
 }
 
-/// Inserts what stands before a token.
-pub(crate) fn insert_before<V: OpensParts>(
+/// Inserts what stands before a token: the sealed part that the page ends with, where the token ends its struct, opened by the keys, or why none
+/// opens it. The keys in what is opened are appended to the keys. `AllocError` where an allocation failed; then tokens and keys may have been
+/// appended, and nothing else has changed.
+pub fn insert_before<V: OpensParts>(
     alloc: Global,
+    parts: &V,
     next: &Token,
     keys: &mut Vec<Key>,
     page: &mut Page,
 ) -> Result<(), AllocError>
-    ensures ok { OnOk result (opened_before V.opened V.clear V.no_clear keys.old.items next.now page.old.items keys.new.items page.new.items) }
+    ensures ok { OnOk result (opened_before (V.opened parts.now) V.clear V.no_clear keys.old.items next.now page.old.items keys.new.items page.new.items) }
     ensures kept { OnOk result (Begins page.old.items page.new.items) }
 {
     if next.form() != Form::StructEnd {
@@ -123,5 +129,5 @@ pub(crate) fn insert_before<V: OpensParts>(
     };
     let digits = Vec::from_slice(alloc, part.digits)?;
     let cipher = Vec::from_slice(alloc, part.cipher)?;
-    insert_at_part::<V>(alloc, next.text(), &digits, &cipher, keys, page)
+    insert_at_part::<V>(alloc, parts, next.text(), &digits, &cipher, keys, page)
 }

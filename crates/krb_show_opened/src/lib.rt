@@ -13,8 +13,10 @@ mod parts;
 mod sealed;
 mod usage;
 
+pub use insertion::insert_before;
 pub use key::Key;
 pub use opened::OpensParts;
 pub use page::{Opening, page_with_opened};
 pub use parts::MessageParts;
+pub use sealed::value_under;
 pub use usage::{Usage, usages_of};

@@ -18,8 +18,9 @@ use std::alloc::{AllocError, Global};
 
 /// What is sealed for each usage.
 pub trait OpensParts {
-    /// What is inserted where a key opens a part: the key, the usage, the ciphertext, the page before, the keys that are found, the page after.
-    ghost opened: { NamedKey → Usage → List ℕ → List Token → List NamedKey → List Token → Type 0 };
+    /// What is inserted where a key opens a part: this value, the key, the usage, the ciphertext, the page before, the keys that are found, the
+    /// page after.
+    ghost opened: { Self → NamedKey → Usage → List ℕ → List Token → List NamedKey → List Token → Type 0 };
 
     /// What is inserted at octets in the clear: the octets, the page before and the page after.
     ghost clear: { List ℕ → List Token → List Token → Type 0 };
@@ -29,13 +30,14 @@ pub trait OpensParts {
 
     /// Appends what the key opens for this usage, and which opened it, to the page. Returned are the keys in it.
     fn insert_opened(
+        &self,
         alloc: Global,
         key: &Key,
         usage: Usage,
         cipher: &[u8],
         page: &mut Page,
     ) -> Result<Vec<Key>, AllocError>
-        ensures ok { IfOk result (λ found. opened key.now usage cipher.now page.old.items found.items page.new.items) }
+        ensures ok { IfOk result (λ found. opened self.now key.now usage cipher.now page.old.items found.items page.new.items) }
         ensures kept { OnOk result (Begins page.old.items page.new.items) };
 
     /// Appends what octets in the clear hold to the page. Returned is whether they hold such a value.

@@ -33,21 +33,22 @@ impl Model for Opening {
 /// Inserts what stands before a token.
 fn insert_opened<V: OpensParts>(
     alloc: Global,
+    parts: &V,
     next: &Token,
     opening: &mut Opening,
     page: &mut Page,
 ) -> Result<(), AllocError>
-    ensures ok { OnOk result (opened_before V.opened V.clear V.no_clear opening.old next.now page.old.items opening.new page.new.items) }
+    ensures ok { OnOk result (opened_before (V.opened parts.now) V.clear V.no_clear opening.old next.now page.old.items opening.new page.new.items) }
     ensures kept { OnOk result (Begins page.old.items page.new.items) }
 {
-    insert_before::<V>(alloc, next, &mut opening.keys, page)
+    insert_before::<V>(alloc, parts, next, &mut opening.keys, page)
 }
 
 impl Insert for Opening {
-    ghost inserts = { opened_before ⟦<MessageParts as OpensParts>⟧.opened ⟦<MessageParts as OpensParts>⟧.clear ⟦<MessageParts as OpensParts>⟧.no_clear };
+    ghost inserts = { opened_before (⟦<MessageParts as OpensParts>⟧.opened tt) ⟦<MessageParts as OpensParts>⟧.clear ⟦<MessageParts as OpensParts>⟧.no_clear };
 
     fn insert(&mut self, alloc: Global, next: &Token, page: &mut Page) -> Result<(), AllocError> {
-        insert_opened::<MessageParts>(alloc, next, self, page)
+        insert_opened::<MessageParts>(alloc, &MessageParts, next, self, page)
     }
 }
 

@@ -16,13 +16,22 @@ use krb_msg_types::data_types::{AuthorizationData, PaEncTsEnc};
 use krb_show::{Page, Show};
 use krb_show_messages::Message;
 use std::alloc::{AllocError, Global};
+use std::marker::Model;
 
 /// The parts of messages of Kerberos, under the names that the standard gives their types.
 #[derive(Drop)]
 pub struct MessageParts;
 
+impl Model for MessageParts {
+    ghost use Rattle.std.specs.Prelude.{⊤};
+
+    ghost Value = { ⊤ };
+
+    ghost view = { λ _. tt };
+}
+
 impl OpensParts for MessageParts {
-    ghost opened = { by_usage (record {
+    ghost opened = { λ _. by_usage (record {
       time_stamp = value_or ⟦<PaEncTsEnc as DerEncode>⟧.is_value ⟦<PaEncTsEnc as DerEncode>⟧.enc
           ⟦<PaEncTsEnc as Show<Message>>⟧.shows (codes "PA-ENC-TS-ENC") no_encoding;
       ticket = value_or ⟦<EncTicketPart as DerEncode>⟧.is_value ⟦<EncTicketPart as DerEncode>⟧.enc
@@ -51,6 +60,7 @@ impl OpensParts for MessageParts {
     ghost no_clear = { IsNone ⟦<EncKrbCredPart as DerEncode>⟧.is_value ⟦<EncKrbCredPart as DerEncode>⟧.enc };
 
     fn insert_opened(
+        &self,
         alloc: Global,
         key: &Key,
         usage: Usage,

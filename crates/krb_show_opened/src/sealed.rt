@@ -80,8 +80,9 @@ pub(crate) fn is_sealed(
     }
 }
 
-/// The value whose encoding is sealed to the octets under the key for this usage; `None` where there is none.
-pub(crate) fn value_under<T: Der + Drop>(
+/// The value whose encoding is sealed to the octets under the key for this usage; `None` where there is none, as for a key that has not as many
+/// octets as its suite's keys. `AllocError` where an allocation failed.
+pub fn value_under<T: Der + Drop>(
     alloc: Global,
     key: &Key,
     usage: Usage,

@@ -2,11 +2,11 @@
 //!
 //! Its standard input is a table. A row is a line of an origin, a key and a PAC in hexadecimal digits, with tabs between; a line that begins
 //! with `#` is a comment. For each row the program prints the origin, what is known of the checksums of the server, of the KDC and of the
-//! whole PAC under this key, and of how many PACs that differ from this one in one bit the server's checksum holds, and all that are
-//! there.
+//! whole PAC under this key, whether one call answers the same, and of how many PACs that differ from this one in one bit the server's
+//! checksum holds, and all that are there.
 #![tactic(auto)]
 
-use krb_pac_checksums::{Verdict, full_verdict, kdc_verdict, server_verdict};
+use krb_pac_checksums::{Verdict, full_verdict, kdc_verdict, server_verdict, verdicts};
 use krb_pac_signatures::PacSignatures;
 use std::alloc::{AllocError, Global};
 use std::io;
@@ -29,6 +29,28 @@ fn verify_all(alloc: Global, key: &[u8], octets: &[u8]) -> Result<Option<Verdict
     let kdc = kdc_verdict(&signatures, key);
     let full = full_verdict(alloc, &signatures, key)?;
     Ok(Some(Verdicts { server, kdc, full }))
+}
+
+/// Whether one call under both keys answers the same.
+fn answers_in_one(
+    alloc: Global,
+    key: &[u8],
+    octets: &[u8],
+    found: &Verdicts,
+) -> Result<bool, AllocError> {
+    let Ok(signatures) = PacSignatures::new(octets) else {
+        return Ok(false);
+    };
+    let both = verdicts(alloc, &signatures, key, Some(key))?;
+    let alone = verdicts(alloc, &signatures, key, None)?;
+    Ok(
+        both.server == found.server
+            && both.kdc == Some(found.kdc)
+            && both.full == Some(found.full)
+            && alone.server == found.server
+            && alone.kdc.is_none()
+            && alone.full.is_none(),
+    )
 }
 
 /// Whether a checksum holds.
@@ -77,8 +99,9 @@ fn answer(alloc: Global, key: &[u8], octets: &[u8]) -> Result<String, AllocError
     match verify_all(alloc, key, octets)? {
         Some(found) => {
             let line = flipped(alloc, key, octets)?;
+            let same = answers_in_one(alloc, key, octets, &found)?;
             format!(in alloc;
-                "server {:?}, KDC {:?}, full {:?}\n{line}",
+                "server {:?}, KDC {:?}, full {:?}, in one call the same: {same}\n{line}",
                 found.server, found.kdc, found.full
             )
         }

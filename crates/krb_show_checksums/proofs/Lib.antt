@@ -1,0 +1,3 @@
+mod Insertions
+mod Lists
+mod Results

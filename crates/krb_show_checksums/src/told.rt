@@ -1,0 +1,134 @@
+//! What is told of one checksum.
+
+ghost use Rattle.std.specs.Prelude.{◌≡◌, ◌⊎◌, MatchBool, OnOk};
+ghost use Rattle.krb_crypto_suite.specs.Suites.{checksum_type, NoSuite};
+ghost use Rattle.krb_crypto_suite.specs.declared.checksum_suite.ChecksumSuite.{ChecksumSuite};
+ghost use Rattle.krb_pac_checksums.specs.declared.verdict.Verdict.TheVariants as verdict;
+ghost use Rattle.krb_show.specs.Leaves.{text_of};
+ghost use Rattle.krb_show.specs.Pages.{◌then◌};
+ghost use Rattle.krb_show.specs.Tokens.{Begins};
+ghost use Rattle.krb_show_checksums.specs.Told.{told, under_key, under_keys, under_none};
+
+use crate::checksum::Checksum;
+use crate::holders::{first_holder, is_one_of};
+use krb_crypto_suite::ChecksumSuite;
+use krb_pac_checksums::Verdict;
+use krb_show::{Label, Page, show_text, show_word};
+use krb_show_opened::Key;
+use std::alloc::{AllocError, Global};
+
+/// Tells a verdict.
+fn tell(alloc: Global, label: &Label, verdict: Verdict, page: &mut Page) -> Result<(), AllocError>
+    ensures ok { OnOk result (told label.now verdict page.old.items page.new.items) }
+    ensures kept { OnOk result (Begins page.old.items page.new.items) }
+{
+    match verdict {
+        Verdict::Absent => show_word(alloc, label, b"absent", page),
+        Verdict::NotVerified => {
+            show_text(
+                alloc,
+                label,
+                b"not verified: its type is not supported",
+                page,
+            )
+        }
+        Verdict::KeyLength => {
+            show_text(
+                alloc,
+                label,
+                b"not verified: the key is of another type",
+                page,
+            )
+        }
+        Verdict::Holds => show_word(alloc, label, b"holds", page),
+        Verdict::Differs => show_word(alloc, label, b"differs", page),
+    }
+}
+
+/// Tells of a checksum under the key that opened the ticket, where that is one of the caller's own.
+pub(crate) fn tell_under_key(
+    alloc: Global,
+    label: &Label,
+    own: &[Key],
+    key: &Key,
+    checksum: &Option<Checksum>,
+    page: &mut Page,
+) -> Result<(), AllocError>
+    ensures ok { OnOk result (under_key label.now own.now key.now checksum.now page.old.items page.new.items) }
+    ensures kept { OnOk result (Begins page.old.items page.new.items) }
+{
+    let Some(checksum) = checksum else {
+        return tell(alloc, label, Verdict::Absent, page);
+    };
+    if !is_one_of(key, own) {
+        return show_text(
+            alloc,
+            label,
+            b"not verified: the key was found in another part",
+            page,
+        );
+    }
+    tell(alloc, label, checksum.verdict(&key.octets), page)
+}
+
+/// Whether a suite has the number.
+fn is_supported(number: u32) -> bool
+    ensures { MatchBool result ((suite : ChecksumSuite) × (checksum_type suite ≡ number)) (NoSuite checksum_type number) }
+{
+    match ChecksumSuite::try_from(number as usize) {
+        Ok(_suite) => true,
+        Err(_error) => false,
+    }
+}
+
+/// Tells why a checksum holds under none of the keys.
+fn tell_none(
+    alloc: Global,
+    label: &Label,
+    checksum: &Checksum,
+    page: &mut Page,
+) -> Result<(), AllocError>
+    ensures ok { OnOk result (under_none label.now checksum.now page.old.items page.new.items) }
+    ensures kept { OnOk result (Begins page.old.items page.new.items) }
+{
+    if is_supported(checksum.number()) {
+        return show_text(alloc, label, b"holds under none of the keys", page);
+    }
+    tell(alloc, label, Verdict::NotVerified, page)
+}
+
+/// Tells that a checksum holds, and under which key.
+fn tell_holder(
+    alloc: Global,
+    label: &Label,
+    key_label: &Label,
+    key: &Key,
+    page: &mut Page,
+) -> Result<(), AllocError>
+    ensures ok { OnOk result ((told label.now verdict.Holds then text_of key_label.now key.now.name) page.old.items page.new.items) }
+    ensures kept { OnOk result (Begins page.old.items page.new.items) }
+{
+    tell(alloc, label, Verdict::Holds, page)?;
+    show_text(alloc, key_label, &key.name, page)
+}
+
+/// Tells of a checksum of the KDC under the first of the caller's keys under which it holds.
+pub(crate) fn tell_under_keys(
+    alloc: Global,
+    label: &Label,
+    key_label: &Label,
+    own: &[Key],
+    checksum: &Option<Checksum>,
+    page: &mut Page,
+) -> Result<(), AllocError>
+    ensures ok { OnOk result (under_keys label.now key_label.now own.now checksum.now page.old.items page.new.items) }
+    ensures kept { OnOk result (Begins page.old.items page.new.items) }
+{
+    let Some(checksum) = checksum else {
+        return tell(alloc, label, Verdict::Absent, page);
+    };
+    match first_holder(checksum, own) {
+        Some(key) => tell_holder(alloc, label, key_label, key, page),
+        None => tell_none(alloc, label, checksum, page),
+    }
+}
