@@ -1,0 +1,5 @@
+pub mod Listing
+pub mod Names
+pub mod Pieces
+pub mod Printable
+pub mod Unique
