@@ -1,9 +1,9 @@
-//! The program `test_show_keys`: keys from texts and keytabs, and pages without keys.
+//! The program `test_show_keys`: keys from texts, keytabs and passwords, and pages without keys.
 //!
 //! Its standard input is a table. A row is a line of a word and its octets, with a tab between: `key` and a text, `keytab` and a keytab in
 //! hexadecimal digits, `hidden` and such a keytab, whose page is then shown without keys, `message` and a message in hexadecimal digits, whose page
-//! is too; a line that begins with `#` is a comment. For each row the program prints the keys, or the page's text and, of a keytab, its JSON, or
-//! the error.
+//! is too; `password`, a password, a tab and a message in hexadecimal digits, whose salts give its keys; a line that begins with `#` is a comment.
+//! For each row the program prints the keys, or the page's text and, of a keytab, its JSON, or the error.
 #![tactic(auto)]
 
 #[cfg(test)]
@@ -14,6 +14,7 @@ use krb_show_files::page_of_keytab;
 use krb_show_keys::{KeytabKeysError, key_of_text, keys_of_keytab, without_keys};
 use krb_show_messages::page_of_message;
 use krb_show_opened::Key;
+use krb_show_passwords::keys_of_passwords;
 use std::alloc::{AllocError, Global};
 use std::io;
 use std::io::{BufRead, BufReader};
@@ -75,6 +76,31 @@ fn message(alloc: Global, octets: &[u8]) -> Result<String, AllocError> {
     }
 }
 
+/// What is printed of the keys that a password gives with the salts of a message.
+fn password(alloc: Global, row: &str) -> Result<String, AllocError> {
+    let Some((password, digits)) = row.split_once('\t') else {
+        return String::from_str(alloc, "no row\n");
+    };
+    let Ok(octets) = hex::decode(alloc, digits) else {
+        return String::from_str(alloc, "no digits\n");
+    };
+    let Ok(page) = page_of_message(alloc, &octets) else {
+        return String::from_str(alloc, "no page\n");
+    };
+    let mut passwords = Vec::new(alloc);
+    passwords.push(Vec::from_slice(alloc, password.as_bytes())?)?;
+    let keys = keys_of_passwords(alloc, &passwords, &page)?;
+    if keys.is_empty() {
+        return String::from_str(alloc, "no keys\n");
+    }
+    let mut text = String::new(alloc);
+    for key in &keys {
+        let line = line_of(alloc, key)?;
+        text.push_str(line.as_str())?;
+    }
+    Ok(text)
+}
+
 /// What is printed of a row.
 fn answer(alloc: Global, row: &str) -> io::Result<String> {
     let Some((kind, rest)) = row.split_once('\t') else {
@@ -82,6 +108,9 @@ fn answer(alloc: Global, row: &str) -> io::Result<String> {
     };
     if kind == "key" {
         return Ok(key(alloc, rest)?);
+    }
+    if kind == "password" {
+        return Ok(password(alloc, rest)?);
     }
     match hex::decode(alloc, rest) {
         Ok(octets) => {

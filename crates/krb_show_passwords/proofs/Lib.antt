@@ -1,0 +1,2 @@
+mod SaltLists
+mod KeyLists

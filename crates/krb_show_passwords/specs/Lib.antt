@@ -1,0 +1,2 @@
+pub mod Salts
+pub mod Keys
