@@ -7,7 +7,7 @@ typedef __UINT8_TYPE__ uint8_t;
 typedef struct file FILE;
 
 enum { STDIN_FILENO, STDOUT_FILENO, STDERR_FILENO };
-enum { SEEK_SET };
+enum { SEEK_SET, SEEK_CUR };
 enum { O_RDONLY, O_WRONLY };
 
 extern FILE *stderr;

@@ -1,7 +1,8 @@
-/* Runs each command of a program, krbtool or jolmurig, a process a run, with its allocations failing, each in turn: that one alone, and that one
- * with all after it. A command that succeeds is run over devices that fail, too. Prints a line a command: its first words, how many
- * requests it makes, and in how many runs it was run. Ends with status 1 at the first run that holds a block when it ends, or
- * gives neither what its row says nor, after an error or over a device that failed, the line that reports that alone. */
+/* Runs each command of a program, krbtool or jolmurig, a process a run, with its allocations failing, each in turn: that one alone, and
+ * that one with all after it. Each is run over a standard error that fails, too, and a command that succeeds over the other devices. Prints
+ * a line a command: its first words, how many requests it makes, and in how many runs it was run. Ends with status 1 at the first run that
+ * holds a block when it ends, takes of an input that is not read, or gives neither what its row says nor, after an error or over a device
+ * that failed, the line that reports that alone. */
 #include "c_library.h"
 #include COMMANDS
 #include "memory.h"
@@ -24,12 +25,14 @@ struct devices {
 
 struct answer {
     int status;
-    struct octets output, line;
+    struct octets output, lines;
     long requests, held;
+    /* How many octets of its input were taken. */
+    long taken;
 };
 
-/* The files of the streams, where no device fails. */
-static int files[3], counts_file;
+/* The files of the streams, where no device fails, that of the allocations' report, and the one that arguments name. */
+static int files[3], counts_file, named_file;
 
 /* Runs the command of these arguments, as the allocation of the environment's number fails, and reports its allocations. */
 static int run_here(int count, char **words, const char *refused) {
@@ -47,12 +50,12 @@ static int run_here(int count, char **words, const char *refused) {
 
 /* Turns this process to one that runs the command. */
 static void become(const struct command *command, const struct devices *devices, long refused, int on) {
-    char variable[64], *environment[] = {variable, 0}, *words[8] = {PROGRAM};
-    for (int i = 0; i < 6 && command->words[i]; i++) {
+    char variable[64], *environment[] = {variable, 0}, *words[WORDS + 2] = {PROGRAM};
+    for (int i = 0; i < WORDS && command->words[i]; i++) {
         words[1 + i] = (char *)command->words[i];
     }
     snprintf(variable, sizeof variable, "REFUSED=%ld %d", refused, on);
-    if (dup2(counts_file, COUNTS) < 0) {
+    if (dup2(counts_file, COUNTS) < 0 || dup2(named_file, NAMED) < 0) {
         _exit(NOT_RUN);
     }
     for (int i = 0; i < 3; i++) {
@@ -68,13 +71,14 @@ static void become(const struct command *command, const struct devices *devices,
 
 static struct answer run(const struct command *command, const struct devices *devices, long refused, int on) {
     static const struct octets none;
-    struct octets input = octets_of(command->input);
+    struct octets input = octets_of(command->input), file = octets_of(command->file ? command->file : "");
     struct answer answer;
     long counts[2] = {-1, -1};
     hold(files[0], &input);
     hold(files[1], &none);
     hold(files[2], &none);
     hold(counts_file, &none);
+    hold(named_file, &file);
     int process = fork(), status;
     if (process == 0) {
         become(command, devices, refused, on);
@@ -87,32 +91,34 @@ static struct answer run(const struct command *command, const struct devices *de
     }
     answer.status = status & 0x7f ? NOT_RUN : status >> 8;
     answer.output = octets_in(files[1]);
-    answer.line = octets_in(files[2]);
+    answer.lines = octets_in(files[2]);
     answer.requests = counts[0];
     answer.held = counts[1];
+    answer.taken = lseek(files[0], 0, SEEK_CUR);
     return answer;
 }
 
-/* Whether a result is this one: the status, the line, and the digits of the output. */
-static int is_answer(const struct answer *it, int status, const char *line, const char *output) {
+/* Whether a command's result is this one: the status, the lines, and the digits of the output; and nothing is taken of an input that is not
+ * read. */
+static int is_answer(const struct command *command, const struct answer *it, int status, const char *lines, const char *output) {
     struct octets wanted = octets_of(output);
-    return it->status == status && it->held == 0 && are_equal(&it->output, &wanted) &&
-           it->line.count == strlen(line) && memcmp(it->line.at, line, it->line.count) == 0;
+    return it->status == status && it->held == 0 && (command->reads || it->taken == 0) && are_equal(&it->output, &wanted) &&
+           it->lines.count == strlen(lines) && memcmp(it->lines.at, lines, it->lines.count) == 0;
 }
 
 static int is_as_told(const struct command *command, const struct answer *it) {
-    return is_answer(it, command->status, command->line, command->output);
+    return is_answer(command, it, command->status, command->lines, command->output);
 }
 
-/* A command's second word, which is its encryption type where it has one. */
-static const char *second(const struct command *command) {
-    return command->words[1] ? command->words[1] : "";
+/* A command's word of this place, or nothing: its second is its encryption type where it has one. */
+static const char *word(const struct command *command, int place) {
+    return command->words[place] ? command->words[place] : "";
 }
 
 static void fail(const struct command *command, const char *when, long refused, const struct answer *it) {
-    fprintf(stderr, "refusals: " PROGRAM " %s %s: %s (%ld): status %d, %zu octets, %ld blocks held, %.*s\n",
-            command->words[0], second(command), when, refused, it->status, it->output.count, it->held,
-            (int)it->line.count, (const char *)it->line.at);
+    fprintf(stderr, "refusals: " PROGRAM " %s %s: %s (%ld): status %d, %ld octets taken, %zu octets, %ld blocks held, %.*s\n",
+            word(command, 0), word(command, 1), when, refused, it->status, it->taken, it->output.count, it->held,
+            (int)it->lines.count, (const char *)it->lines.at);
     exit(1);
 }
 
@@ -122,7 +128,8 @@ static long refuse_each(const struct command *command, const struct devices *dev
         struct answer it = run(command, devices, refused, on);
         int is_met = it.requests >= refused;
         /* The line of an error may be what could not be made. */
-        int is_reported = is_answer(&it, 1, MEMORY_LINE, "") || (command->status != 0 && is_answer(&it, command->status, MEMORY_LINE, ""));
+        int is_reported = is_answer(command, &it, 1, MEMORY_LINE, "") ||
+                          (command->status != 0 && is_answer(command, &it, command->status, MEMORY_LINE, ""));
         if (!is_as_told(command, &it) && !(is_met && is_reported)) {
             fail(command, on ? "this request refused and each after it" : "this request refused", refused, &it);
         }
@@ -135,7 +142,15 @@ static long refuse_each(const struct command *command, const struct devices *dev
 /* Runs a command that succeeds over a device that fails. */
 static void try_device(const struct command *command, const struct devices *devices, const char *line) {
     struct answer it = run(command, devices, 0, 0);
-    if (!is_answer(&it, 1, line, "")) {
+    if (!is_answer(command, &it, 1, line, "")) {
+        fail(command, devices->name, 0, &it);
+    }
+}
+
+/* Runs a command that does not read its input over one that fails: its result stays. */
+static void try_unread(const struct command *command, const struct devices *devices) {
+    struct answer it = run(command, devices, 0, 0);
+    if (!is_as_told(command, &it)) {
         fail(command, devices->name, 0, &it);
     }
 }
@@ -164,9 +179,13 @@ static long try_devices(const struct command *command) {
         {"an output that is full", {files[0], full, files[2]}},
         {"an output that nobody reads", {files[0], ends[1], files[2]}},
     };
-    long reads = command->reads ? sizeof unread / sizeof *unread : 0;
+    long reads = sizeof unread / sizeof *unread;
     for (long i = 0; i < reads; i++) {
-        try_device(command, &unread[i], READ_LINE);
+        if (command->reads) {
+            try_device(command, &unread[i], READ_LINE);
+        } else {
+            try_unread(command, &unread[i]);
+        }
     }
     long writes = sizeof unwritten / sizeof *unwritten;
     for (long i = 0; i < writes; i++) {
@@ -179,15 +198,29 @@ static long try_devices(const struct command *command) {
     return runs;
 }
 
-/* Runs a command that fails where its line cannot be written: its status stays. */
-static void try_without_line(const struct command *command) {
+/* Runs a command over each standard error that fails, and returns how many runs that took: where its lines cannot be written, its status and
+ * its output stay. */
+static long try_without_lines(const struct command *command) {
+    int ends[2];
+    if (pipe(ends) || close(ends[0])) {
+        die("no pipe");
+    }
     int full = device("/dev/full", O_WRONLY);
-    struct devices devices = {"a full standard error", {files[0], files[1], full}};
-    struct answer it = run(command, &devices, 0, 0);
-    if (!is_answer(&it, command->status, "", command->output)) {
-        fail(command, devices.name, 0, &it);
+    struct devices unwritten[] = {
+        {"a standard error that is closed", {files[0], files[1], CLOSED}},
+        {"a standard error that is full", {files[0], files[1], full}},
+        {"a standard error that nobody reads", {files[0], files[1], ends[1]}},
+    };
+    long runs = sizeof unwritten / sizeof *unwritten;
+    for (long i = 0; i < runs; i++) {
+        struct answer it = run(command, &unwritten[i], 0, 0);
+        if (!is_answer(command, &it, command->status, "", command->output)) {
+            fail(command, unwritten[i].name, 0, &it);
+        }
     }
     close(full);
+    close(ends[1]);
+    return runs;
 }
 
 static void try_command(const struct command *command) {
@@ -196,12 +229,11 @@ static void try_command(const struct command *command) {
     if (!is_as_told(command, &undisturbed)) {
         fail(command, "undisturbed", 0, &undisturbed);
     }
-    long runs = 2 + refuse_each(command, &devices, 0) + refuse_each(command, &devices, 1);
-    try_without_line(command);
+    long runs = 1 + refuse_each(command, &devices, 0) + refuse_each(command, &devices, 1) + try_without_lines(command);
     if (command->status == 0) {
         runs += try_devices(command);
     }
-    printf(PROGRAM " %s %s\t%ld\t%ld\n", command->words[0], second(command), undisturbed.requests, runs);
+    printf(PROGRAM " %s %s\t%ld\t%ld\n", word(command, 0), word(command, 1), undisturbed.requests, runs);
 }
 
 static int file(void) {
@@ -217,8 +249,9 @@ int __wrap_main(int count, char **words) {
     if (refused) {
         return run_here(count, words, refused);
     }
-    /* The first, so that no other has the place at which a process reports its allocations. */
+    /* The first, so that no other has the places of these in a process. */
     counts_file = file();
+    named_file = file();
     for (int i = 0; i < 3; i++) {
         files[i] = file();
     }

@@ -1,2 +1,5 @@
 mod Fronts
-mod Options
+mod Steps
+mod KeyLists
+mod PasswordLists
+mod Writes

@@ -1,15 +1,16 @@
 -- What is written for an input, and why nothing is.
 use Rattle.std.specs.Prelude.{◌≡◌, ◌⊎◌, ℕ, ◌-◌, Bool, true, false, List, [], ◌∷◌, ◌++◌, length, take, Option, Some, None, Result, Ok, Err, Vec}
 use Rattle.std.specs.declared.alloc.Global.{Global}
-use Rattle.krb_input.specs.Forms.{octets_of}
 use Rattle.krb_show.specs.Tokens.{Token}
 use Rattle.krb_show.specs.Text.{AreLines, page_text, text_of_lines}
 use Rattle.krb_show.specs.Json.{json_line}
 use Rattle.krb_show_any.specs.declared.kind.Kind.{Kind}
 use Rattle.krb_show_keys.specs.Hidden.{hidden_page}
-use Rattle.krb_show_insertions.specs.Walk.{Insertion, walk_of}
 use Rattle.krb_show_opened.specs.Keys.{NamedKey}
+use Rattle.jolmurig.specs.Calls.{Opens}
 use Rattle.krb_show_pac.specs.Inserted.{IsWithContents}
+use Rattle.krb_show_passwords.specs.Keys.{KeysOfPasswords}
+use Rattle.krb_show_passwords.specs.Salts.{salts_of}
 use Rattle.krb_show_any.specs.declared.error.PageError.{PageError}
 use Rattle.krb_show_any.specs.Places.{IsPlaceIfAny}
 use Rattle.krb_show_any.specs.declared.place.Place.{Place}
@@ -43,16 +44,19 @@ abbrev pub chosen : Option Kind → List ℕ → Option Kind
 chosen None octets = kind_of octets
 chosen (Some kind) octets = Some kind
 
--- what is opened in a page: the keys, the page before and after
-abbrev pub Opens : Type 1
-Opens = List NamedKey → List Token → List Token → Type 0
+-- what opens what is sealed: keys, and passwords
+pub record Openers : Type 0 where
+  pub keys : List NamedKey
+  pub passwords : List (List ℕ)
 
--- what keys open in a page, as an insertion says
-abbrev pub opened_by_keys : Insertion (List NamedKey) → Opens
-opened_by_keys inserts keys page made = (after : List NamedKey) × walk_of inserts keys page [] after made
+-- the keys, and behind them those that the passwords give with the salts of a page
+abbrev pub AreKeysFor : Openers → List Token → List NamedKey → Type 0
+AreKeysFor o page keys = (more : List NamedKey) × KeysOfPasswords o.passwords (salts_of page) more × (keys ≡ o.keys ++ more)
 
 -- this is written of a page: with what the keys open in it, and then with what the buffers of PACs hold
-pub record IsWrittenOf (opens : Opens) (keys : List NamedKey) (page : List Token) (form : Output) (shows_keys : Bool) (made : List ℕ) : Type 0 where
+pub record IsWrittenOf (opens : Opens) (openers : Openers) (page : List Token) (form : Output) (shows_keys : Bool) (made : List ℕ) : Type 0 where
+  pub keys : List NamedKey
+  pub are_keys : AreKeysFor openers page keys
   pub opened : List Token
   pub is_opened : opens keys page opened
   pub detailed : List Token
@@ -62,12 +66,12 @@ pub record IsWrittenOf (opens : Opens) (keys : List NamedKey) (page : List Token
 -- What octets of a kind are told as: the page that they have, or the error.
 module _ (tells : Kind → List ℕ → Result (Vec Token Global) PageError → Type 0) (opens : Opens) where
   -- the octets are of a kind and have a page, and this is written of it
-  pub record IsWritten (asked : Option Kind) (form : Output) (shows_keys : Bool) (keys : List NamedKey) (octets made : List ℕ) : Type 0 where
+  pub record IsWritten (asked : Option Kind) (form : Output) (shows_keys : Bool) (openers : Openers) (octets made : List ℕ) : Type 0 where
     pub kind : Kind
     pub is_kind : chosen asked octets ≡ Some kind
     pub page : Vec Token Global
     pub told : tells kind octets (Ok page)
-    pub is_written : IsWrittenOf opens keys page.items form shows_keys made
+    pub is_written : IsWrittenOf opens openers page.items form shows_keys made
 
   -- the octets are of a kind and have no page, for this reason, at this place
   pub record HasNoPage (asked : Option Kind) (octets : List ℕ) (e : Failure) : Type 0 where
@@ -82,13 +86,3 @@ module _ (tells : Kind → List ℕ → Result (Vec Token Global) PageError → 
   -- or they begin as no kind
   abbrev pub IsRefused : Option Kind → List ℕ → Failure → Type 0
   IsRefused asked octets e = ((e ≡ failure.UnknownKind) × (chosen asked octets ≡ None)) ⊎ HasNoPage asked octets e
-
-  -- this is written of the octets that the input stands for
-  abbrev pub IsShown : Option Kind → Output → Bool → List NamedKey → List ℕ → List ℕ → Type 0
-  IsShown asked form shows_keys keys input made = (octets : List ℕ) × (octets_of input ≡ Some octets) × IsWritten asked form shows_keys keys octets made
-
-  -- why nothing is written for an input
-  abbrev pub IsRejected : Option Kind → List ℕ → Failure → Type 0
-  IsRejected asked input e =
-      (e ≡ failure.Memory) ⊎ ((e ≡ failure.NotBase64) × (octets_of input ≡ None))
-      ⊎ ((octets : List ℕ) × (octets_of input ≡ Some octets) × IsRefused asked octets e)

@@ -1,14 +1,17 @@
 -- The line and the status of a failure.
 use Rattle.std.specs.Prelude.{◌≡◌, ℕ, Option, Some, None, List, [], ◌∷◌, ◌++◌, codes}
 use Rattle.std.specs.Fmt.{decimal}
+use Rattle.krb_convert.specs.declared.error.ConvertError.{ConvertError}
+use Rattle.krb_convert.specs.declared.error.ConvertError.TheVariants as rule
 use Rattle.krb_input.specs.declared.forms.InputError.{InputError}
 use Rattle.krb_input.specs.declared.forms.InputError.TheVariants as input
 use Rattle.krb_show_any.specs.Errors.{reason as page_reason}
+use Rattle.krb_show_any.specs.declared.error.PageError.TheVariants as page
 use Rattle.krb_show_any.specs.Names.{kind_name}
 use Rattle.krb_show_any.specs.declared.place.Place.{Place}
 use Rattle.krb_show_any.specs.declared.place.Place.TheVariants as places
 use Rattle.jolmurig.specs.declared.failure.Failure.{Failure}
-use Rattle.jolmurig.specs.declared.failure.Failure.TheVariants.{Arguments, Key, KeytabFile, NotBase64, UnknownKind, Octets, Memory, Read, Write}
+use Rattle.jolmurig.specs.declared.failure.Failure.TheVariants.{Arguments, Key, KeyFile, KeyInFile, KeytabFile, Keytab, PasswordFile, NotBase64, UnknownKind, NoEntries, Convert, Octets, Memory, Read, Write}
 
 abbrev pub status_of_failure : Failure → ℕ
 status_of_failure Arguments = 2
@@ -19,23 +22,55 @@ status_of_failure e = 1
 abbrev pub subject : Failure → List ℕ
 subject Arguments = codes "wrong arguments"
 subject Key = codes "--key"
+subject KeyFile = codes "--key-file"
+subject KeyInFile = codes "--key-file"
 subject KeytabFile = codes "--keytab"
+subject (Keytab why) = codes "--keytab"
+subject PasswordFile = codes "--password-file"
 subject NotBase64 = codes "base64"
 subject UnknownKind = codes "unknown kind"
+subject NoEntries = codes "list"
+subject (Convert rule) = codes "convert"
 subject (Octets kind why place) = kind_name kind
 subject Memory = codes "memory"
 subject Read = codes "reading"
 subject Write = codes "writing"
 
+-- the rule of a conversion that octets break
+abbrev pub rule_of : ConvertError → List ℕ
+rule_of rule.Pvno = codes "pvno is not 5"
+rule_of rule.MsgType = codes "msg-type is not 22"
+rule_of rule.Sealed = codes "enc-part is sealed: its etype is not 0"
+rule_of rule.TicketInfo = codes "there are not as many elements of ticket-info as tickets"
+rule_of rule.NoTicket = codes "there is no ticket"
+rule_of rule.NoPrealm = codes "prealm is absent, and a cache needs it"
+rule_of rule.NoPname = codes "pname is absent, and a cache needs it"
+rule_of rule.NameType = codes "a name-type does not fit 32 bits"
+rule_of rule.KeyType = codes "a keytype does not fit 16 bits"
+rule_of rule.Time = codes "a time is not of 1970 to 2106"
+rule_of rule.AddressType = codes "an addr-type does not fit 16 bits"
+rule_of rule.TooLong = codes "a length or a count does not fit 32 bits"
+rule_of rule.NoCredential = codes "there is no credential"
+rule_of rule.Name = codes "an octet of a name is past 127"
+rule_of rule.OutOfMemory = codes "an allocation failed"
+rule_of other = codes "the octets are of another format"
+
 -- what happened
 abbrev pub reason : Failure → List ℕ
 reason Arguments =
-    codes "usage: jolmurig show [--as TYPE | --tree] [--json | --type] [--key ETYPE:HEX].. [--keytab FILE].. [--show-keys] [FILE]; see jolmurig --help"
+    codes "usage: jolmurig show [OPTION].. [FILE], jolmurig list [FILE] or jolmurig convert kirbi|ccache [FILE]; see jolmurig --help"
 reason Key =
     codes "a key is ETYPE:HEX, where ETYPE is 16 to 20 or the name of such an encryption type, and HEX the octets of a key of its length"
+reason KeyFile = codes "the file could not be read"
+reason KeyInFile =
+    codes "the file holds no key ETYPE:HEX, where ETYPE is 16 to 20 or the name of such an encryption type, and HEX the octets of a key of its length"
 reason KeytabFile = codes "the file could not be read"
+reason PasswordFile = codes "the file could not be read"
+reason (Keytab why) = page_reason (page.Keytab why)
 reason NotBase64 = codes "the input begins as PEM or as a header of HTTP, and no base64 follows"
 reason UnknownKind = codes "the octets begin as no kind that is known; --as TYPE names one"
+reason NoEntries = codes "the octets begin as neither a keytab nor a credential cache"
+reason (Convert rule) = rule_of rule
 reason (Octets kind why place) = page_reason why
 reason Memory = codes "an allocation failed"
 reason Read = codes "the input could not be read"

@@ -1,12 +1,12 @@
 -- The keys that the options name.
-use Rattle.std.specs.Prelude.{◌≡◌, ◌⊎◌, ℕ, List, [], ◌∷◌, ◌++◌, Some, None, Err, codes}
+use Rattle.std.specs.Prelude.{◌≡◌, ◌⊎◌, ℕ, ◌+◌, List, [], ◌∷◌, ◌++◌, Option, Some, None, Err, codes}
+use Rattle.std.specs.Fmt.{decimal}
 use Rattle.std.specs.List.{flat_map}
+use Rattle.krb_input.specs.Blanks.{without_blanks}
 use Rattle.krb_keytab.specs.Entry.{Entry}
 use Rattle.krb_keytab.specs.Keytab.{KeytabIs}
 use Rattle.krb_keytab.specs.Reading.{keytab_of}
 use Rattle.krb_keytab.specs.declared.error.KeytabError.{KeytabError}
-use Rattle.krb_show_any.specs.declared.error.PageError.TheVariants as page
-use Rattle.krb_show_any.specs.declared.kind.Kind.TheVariants as kind
 use Rattle.krb_show_keys.specs.Keys.{key_in, keys_of_entry}
 use Rattle.krb_show_opened.specs.Keys.{NamedKey}
 use Rattle.jolmurig.specs.Shows.{Source}
@@ -15,61 +15,81 @@ use Rattle.jolmurig.specs.declared.command.SourceKind.TheVariants as source
 use Rattle.jolmurig.specs.declared.failure.Failure.{Failure}
 use Rattle.jolmurig.specs.declared.failure.Failure.TheVariants as failure
 
--- the name of a key that an option gives
-abbrev pub key_name : List ℕ
-key_name = codes "--key"
+-- ---- a key as text
+
+-- the name of the key of an option `--key`, by its number
+abbrev pub key_name : ℕ → List ℕ
+key_name number = codes "--key " ++ decimal number
+
+-- the one key that a text is, under a name
+abbrev pub text_gives : List ℕ → List ℕ → List NamedKey → Type 0
+text_gives text name keys = (key : NamedKey) × (key_in text name ≡ Some key) × (keys ≡ key ∷ [])
+
+-- a text is no key
+abbrev pub IsNoKeyIn : List ℕ → List ℕ → Failure → Failure → Type 0
+IsNoKeyIn text name no_key e = (e ≡ no_key) × (key_in text name ≡ None)
+
+-- ---- keytabs
 
 -- the keys of the keytab that octets are
 abbrev pub IsKeytabOf : List ℕ → List NamedKey → Type 0
 IsKeytabOf octets keys = (entries : List Entry) × KeytabIs octets entries × (keys ≡ flat_map keys_of_entry entries)
 
 -- octets are no keytab, and this is their first error
-abbrev pub IsNoKeyOf : List ℕ → Failure → Type 0
-IsNoKeyOf octets e = (why : KeytabError) × (keytab_of octets ≡ Err why) × (e ≡ failure.Octets kind.Keytab (page.Keytab why) None)
+abbrev pub IsNoKeytabOf : List ℕ → Failure → Type 0
+IsNoKeytabOf octets e = (why : KeytabError) × (keytab_of octets ≡ Err why) × (e ≡ failure.Keytab why)
 
--- the key that a text is
-abbrev pub is_key : List ℕ → List NamedKey → Type 0
-is_key text keys = (key : NamedKey) × (key_in text key_name ≡ Some key) × (keys ≡ key ∷ [])
-
-abbrev pub IsNoKeyText : List ℕ → Failure → Type 0
-IsNoKeyText text e = (e ≡ failure.Key) × (key_in text key_name ≡ None)
+-- ---- options
 
 -- more keys stand behind those that there were
 abbrev pub adds : (List NamedKey → Type 0) → List NamedKey → List NamedKey → Type 0
 adds are old new = (more : List NamedKey) × are more × (new ≡ old ++ more)
 
--- What files hold, by their names.
-module _ (holds : List ℕ → List ℕ → Type 0) where
-  -- the keys of the keytab that a file of this name holds
-  abbrev pub file_gives : List ℕ → List NamedKey → Type 0
-  file_gives name keys = (octets : List ℕ) × holds name octets × IsKeytabOf octets keys
+-- What files give, by their names: octets, or nothing where one cannot be read.
+module _ (gives : List ℕ → Option (List ℕ) → Type 0) where
+  -- the key that the text of a file is, without its blanks and line breaks, under the name of the file
+  abbrev pub key_file_gives : List ℕ → List NamedKey → Type 0
+  key_file_gives name keys = (octets : List ℕ) × gives name (Some octets) × text_gives (without_blanks octets) name keys
 
-  -- why it has none: it cannot be read, or is no keytab
-  abbrev pub IsNoFile : List ℕ → Failure → Type 0
-  IsNoFile name e = (e ≡ failure.KeytabFile) ⊎ ((octets : List ℕ) × holds name octets × IsNoKeyOf octets e)
+  -- why a file has none: it cannot be read, or its text is no key
+  abbrev pub IsNoKeyFile : List ℕ → Failure → Type 0
+  IsNoKeyFile name e =
+      ((e ≡ failure.KeyFile) × gives name None)
+      ⊎ ((octets : List ℕ) × gives name (Some octets) × IsNoKeyIn (without_blanks octets) name failure.KeyInFile e)
 
-  -- the keys of an option
-  abbrev pub gives : Source → List NamedKey → Type 0
-  gives s keys = by_kind s.kind
+  -- the keys of the keytab that a file is
+  abbrev pub keytab_gives : List ℕ → List NamedKey → Type 0
+  keytab_gives name keys = (octets : List ℕ) × gives name (Some octets) × IsKeytabOf octets keys
+
+  -- why a file has none: it cannot be read, or is no keytab
+  abbrev pub IsNoKeytab : List ℕ → Failure → Type 0
+  IsNoKeytab name e = ((e ≡ failure.KeytabFile) × gives name None) ⊎ ((octets : List ℕ) × gives name (Some octets) × IsNoKeytabOf octets e)
+
+  -- the keys of an option with this number
+  abbrev pub gives_keys : ℕ → Source → List NamedKey → Type 0
+  gives_keys number s keys = by_kind s.kind
     where
       by_kind : SourceKind → Type 0
-      by_kind source.Key = is_key s.text keys
-      by_kind source.Keytab = file_gives s.text keys
+      by_kind source.Key = text_gives s.text (key_name number) keys
+      by_kind source.KeyFile = key_file_gives s.text keys
+      by_kind source.Keytab = keytab_gives s.text keys
 
   -- why an option has none
-  abbrev pub IsNoSource : Source → Failure → Type 0
-  IsNoSource s e = by_kind s.kind
+  abbrev pub IsNoSource : ℕ → Source → Failure → Type 0
+  IsNoSource number s e = by_kind s.kind
     where
       by_kind : SourceKind → Type 0
-      by_kind source.Key = IsNoKeyText s.text e
-      by_kind source.Keytab = IsNoFile s.text e
+      by_kind source.Key = IsNoKeyIn s.text (key_name number) failure.Key e
+      by_kind source.KeyFile = IsNoKeyFile s.text e
+      by_kind source.Keytab = IsNoKeytab s.text e
 
-  -- the keys of the options, in their order
-  abbrev pub AreKeys : List Source → List NamedKey → Type 0
-  AreKeys [] keys = keys ≡ []
-  AreKeys (s ∷ ss) keys = (mine : List NamedKey) × (more : List NamedKey) × gives s mine × AreKeys ss more × (keys ≡ mine ++ more)
+  -- the keys of the options, in their order; they are numbered from this on
+  abbrev pub AreKeys : ℕ → List Source → List NamedKey → Type 0
+  AreKeys number [] keys = keys ≡ []
+  AreKeys number (s ∷ ss) keys =
+      (mine : List NamedKey) × (more : List NamedKey) × gives_keys number s mine × AreKeys (number + 1) ss more × (keys ≡ mine ++ more)
 
   -- why the options have none: the first of them that has none
-  abbrev pub HasNoKeys : List Source → Failure → Type 0
-  HasNoKeys [] e = ⊥
-  HasNoKeys (s ∷ ss) e = IsNoSource s e ⊎ ((mine : List NamedKey) × gives s mine × HasNoKeys ss e)
+  abbrev pub HasNoKeys : ℕ → List Source → Failure → Type 0
+  HasNoKeys number [] e = ⊥
+  HasNoKeys number (s ∷ ss) e = IsNoSource number s e ⊎ ((mine : List NamedKey) × gives_keys number s mine × HasNoKeys (number + 1) ss e)

@@ -2,5 +2,9 @@ pub mod Shows
 pub mod Arguments
 pub mod Failures
 pub mod Keys
+pub mod Passwords
+pub mod Calls
 pub mod Answers
+pub mod Lists
+pub mod Conversions
 pub mod Outcome

@@ -1,29 +1,40 @@
 -- What a run of the program did, and with which status it ended.
-use Rattle.std.specs.Prelude.{◌≡◌, ◌⊎◌, ℕ, Bool, true, false, List, ◌++◌, ⊤, unwrap_or, Option, None, Some, Result, Ok, Err, MatchResult, Vec}
+use Rattle.std.specs.Prelude.{◌≡◌, ◌⊎◌, ℕ, Bool, true, false, List, [], ◌∷◌, ◌++◌, unwrap_or, Option, None, Some, Result, Ok, Err, MatchResult, Vec}
 use Rattle.std.specs.declared.alloc.Global.{Global}
 use Rattle.std.specs.Io.KnownBytes.{Appends, Keeps}
+use Rattle.krb_input.specs.Forms.{octets_of}
 use Rattle.krb_show.specs.Tokens.{Token}
 use Rattle.krb_show_any.specs.declared.kind.Kind.{Kind}
 use Rattle.krb_show_any.specs.declared.error.PageError.{PageError}
-use Rattle.jolmurig.specs.Answers.{ArePrintableLines, Opens, IsRejected, IsShown}
-use Rattle.jolmurig.specs.Failures.{line_of, status_of_failure}
-use Rattle.jolmurig.specs.declared.command.Command.{Command}
-use Rattle.jolmurig.specs.declared.command.Command.TheVariants as command
-use Rattle.jolmurig.specs.declared.command.Command.TheVariants.{Help}
-use Rattle.jolmurig.specs.declared.command.Output.{Output}
-use Rattle.jolmurig.specs.declared.command.Output.TheVariants as output
-use Rattle.jolmurig.specs.Arguments.{asked_by}
-use Rattle.jolmurig.specs.Keys.{AreKeys, HasNoKeys}
-use Rattle.jolmurig.specs.Shows.{Show}
 use Rattle.krb_show_any.specs.Names.{IsNamed}
 use Rattle.krb_show_any.specs.declared.kind.Kind.TheVariants as kinds
 use Rattle.krb_show_opened.specs.Keys.{NamedKey}
+use Rattle.jolmurig.specs.Answers.{ArePrintableLines, IsRefused, IsWritten, Openers}
+use Rattle.jolmurig.specs.Calls.{Converts, Lists, Opens, Refuses}
+use Rattle.jolmurig.specs.Conversions.{IsConverted, IsUnconverted}
+use Rattle.jolmurig.specs.Lists.{IsListed, IsUnlisted}
+use Rattle.jolmurig.specs.Passwords.{ArePasswords, HasNoPassword}
+use Rattle.jolmurig.specs.Arguments.{asked_by}
+use Rattle.jolmurig.specs.Failures.{line_of, status_of_failure}
+use Rattle.jolmurig.specs.Keys.{AreKeys, HasNoKeys}
+use Rattle.jolmurig.specs.Shows.{Show}
+use Rattle.jolmurig.specs.declared.command.Command.{Command}
+use Rattle.jolmurig.specs.declared.command.Command.TheVariants as command
+use Rattle.jolmurig.specs.declared.command.Command.TheVariants.{Help}
+use Rattle.jolmurig.specs.declared.command.Format.{Format}
+use Rattle.jolmurig.specs.declared.command.Output.{Output}
+use Rattle.jolmurig.specs.declared.command.Output.TheVariants as output
 use Rattle.jolmurig.specs.declared.failure.Failure.{Failure}
-use Rattle.jolmurig.specs.declared.failure.Failure.TheVariants.{Arguments, Memory, Read, Write}
+use Rattle.jolmurig.specs.declared.failure.Failure.TheVariants.{Arguments, Memory, NotBase64, Read, Write}
 
--- the status of a run
-abbrev pub status_of : Result ⊤ Failure → ℕ
-status_of (Ok t) = 0
+-- ---- standard error, and the status
+
+-- what a run comes to: notes, none or lines, where it succeeds
+abbrev pub Outcome : Type 0
+Outcome = Result (Vec ℕ Global) Failure
+
+abbrev pub status_of : Outcome → ℕ
+status_of (Ok notes) = 0
 status_of (Err e) = status_of_failure e
 
 -- a writer whose octets are known has taken the front of these
@@ -33,11 +44,77 @@ pub record HasTaken (octets : List ℕ) (before after : Option (List ℕ)) : Typ
   pub whole : octets ≡ front ++ rest
   pub written : Appends before after front
 
--- What a run writes to standard error, where its octets are known (before and after): nothing where it succeeds; else the line of its error, or
--- as much of it as the writer took; or the line of an allocation failure, where that line could not be made.
-abbrev pub IsLineWritten : Option (List ℕ) → Option (List ℕ) → Result ⊤ Failure → Type 0
-IsLineWritten before after (Ok t) = Keeps before after
+-- What a run writes to standard error, where its octets are known (before and after): nothing where it succeeds and has no notes, else these; or the
+-- line of its error; or as much of it as the writer took; or the line of an allocation failure, where the line of an error could not be made.
+abbrev pub AreNotesWritten : Option (List ℕ) → Option (List ℕ) → List ℕ → Type 0
+AreNotesWritten before after [] = Keeps before after
+AreNotesWritten before after (first ∷ rest) = HasTaken (first ∷ rest) before after
+
+abbrev pub IsLineWritten : Option (List ℕ) → Option (List ℕ) → Outcome → Type 0
+IsLineWritten before after (Ok notes) = AreNotesWritten before after notes.items
 IsLineWritten before after (Err e) = HasTaken (line_of e) before after ⊎ HasTaken (line_of Memory) before after
+
+-- ---- standard output
+
+-- Where these octets are made, they are written, and the outcome has these notes; where there is an error nothing was written, or not all of them.
+abbrev pub IsWrittenRun : (List ℕ → List ℕ → Type 0) → (Failure → Type 0) → Option (List ℕ) → Option (List ℕ) → Outcome → Type 0
+IsWrittenRun makes fails before after outcome =
+    MatchResult outcome (λ notes. (made : List ℕ) × makes made notes.items × Appends before after made)
+    (λ e. (Keeps before after × fails e) ⊎ ((e ≡ Write) × ((made : List ℕ) × (notes : List ℕ) × makes made notes × HasTaken made before after)))
+
+-- ---- the input
+
+-- what a file gives, by its name: its octets, or nothing where it cannot be read
+abbrev pub Gives : Type 1
+Gives = List ℕ → Option (List ℕ) → Type 0
+
+-- what is read: what the file gives, where one is named, and else what standard input has left, where that is known
+abbrev pub IsInput : Gives → Option (List ℕ) → Option (List ℕ) → List ℕ → Type 0
+IsInput gives (Some name) left all = gives name (Some all)
+IsInput gives None None all = Unit {0}
+IsInput gives None (Some left) all = all ≡ left
+
+-- a file that is named cannot be read; standard input may fail at any time
+abbrev pub IsUnread : Gives → Option (List ℕ) → Type 0
+IsUnread gives (Some name) = gives name None
+IsUnread gives None = Unit {0}
+
+-- standard input is as it was where a file is named
+abbrev pub IsLeft : Option (List ℕ) → Option (List ℕ) → Option (List ℕ) → Type 0
+IsLeft (Some name) left rest = Keeps left rest
+IsLeft None left rest = Unit {0}
+
+-- the octets that the input stands for
+abbrev pub AreRead : Gives → Option (List ℕ) → Option (List ℕ) → List ℕ → Type 0
+AreRead gives file left octets = (all : List ℕ) × IsInput gives file left all × (octets_of all ≡ Some octets)
+
+-- why there are none
+abbrev pub AreNotRead : Gives → Option (List ℕ) → Option (List ℕ) → Failure → Type 0
+AreNotRead gives file left e =
+    (e ≡ Memory) ⊎ ((e ≡ Read) × IsUnread gives file)
+    ⊎ ((e ≡ NotBase64) × ((all : List ℕ) × IsInput gives file left all × (octets_of all ≡ None)))
+
+-- Where the octets of the input make these, they are written; and the input is as it was where a file is named.
+abbrev pub IsFileRun : Gives → Option (List ℕ) → (List ℕ → List ℕ → List ℕ → Type 0) → (List ℕ → Failure → Type 0)
+    → Option (List ℕ) → Option (List ℕ) → Option (List ℕ) → Option (List ℕ) → Outcome → Type 0
+IsFileRun gives file makes refuses left rest before after outcome =
+    IsLeft file left rest
+    × IsWrittenRun (λ made notes. (octets : List ℕ) × AreRead gives file left octets × makes octets made notes)
+    (λ e. AreNotRead gives file left e ⊎ ((octets : List ℕ) × AreRead gives file left octets × refuses octets e)) before after outcome
+
+-- ---- `list` and `convert`
+
+-- what is written is the list of the entries of a keytab or a cache
+abbrev pub IsListRun : Gives → Lists → Option (List ℕ)
+    → Option (List ℕ) → Option (List ℕ) → Option (List ℕ) → Option (List ℕ) → Outcome → Type 0
+IsListRun gives lists file = IsFileRun gives file (λ octets made notes. IsListed lists octets made × (notes ≡ [])) IsUnlisted
+
+-- what is written is the octets in the format, and the notes say what is left out
+abbrev pub IsConvertRun : Gives → Converts → Refuses → Format → Option (List ℕ)
+    → Option (List ℕ) → Option (List ℕ) → Option (List ℕ) → Option (List ℕ) → Outcome → Type 0
+IsConvertRun gives converts refuses to file = IsFileRun gives file (IsConverted converts to) (IsUnconverted refuses to)
+
+-- ---- `show`
 
 -- the type that is asked for has this kind: none where none is asked for
 abbrev pub IsKindOf : Show → Option Kind → Type 0
@@ -56,65 +133,68 @@ IsOfNoKind s = (name : List ℕ) × (s.type_name ≡ Some name) × IsNamed name 
 abbrev pub output_of : Show → Output
 output_of s = unwrap_or s.output output.Text
 
--- what is read: what the file holds, where one is named, and else what standard input has left, where that is known
-abbrev pub IsInput : (List ℕ → List ℕ → Type 0) → Option (List ℕ) → Option (List ℕ) → List ℕ → Type 0
-IsInput holds (Some name) left all = holds name all
-IsInput holds None None all = Unit {0}
-IsInput holds None (Some left) all = all ≡ left
+-- what is asked to be shown has a kind, and these open what is sealed
+pub record IsPrepared (gives : Gives) (s : Show) (kind : Option Kind) (openers : Openers) : Type 0 where
+  pub is_kind : IsKindOf s kind
+  pub are_keys : AreKeys gives 1 s.sources openers.keys
+  pub are_passwords : ArePasswords gives s.password_files openers.passwords
 
--- What octets of a kind are told as, what keys open in a page, and what files hold, by their names.
-module _ (tells : Kind → List ℕ → Result (Vec Token Global) PageError → Type 0) (opens : Opens) (holds : List ℕ → List ℕ → Type 0) where
-  -- this is written of what is asked to be shown
+-- it has a kind and keys, and the file of a password cannot be read
+pub record HasNoPasswords (gives : Gives) (s : Show) (e : Failure) : Type 0 where
+  pub kind : Option Kind
+  pub is_kind : IsKindOf s kind
+  pub keys : List NamedKey
+  pub are_keys : AreKeys gives 1 s.sources keys
+  pub none : HasNoPassword gives s.password_files e
+
+-- it has no kind; or no keys; or no passwords; or an allocation failed
+abbrev pub IsUnprepared : Gives → Show → Failure → Type 0
+IsUnprepared gives s e =
+    (e ≡ Memory) ⊎ ((e ≡ Arguments) × IsOfNoKind s) ⊎ ((kind : Option Kind) × IsKindOf s kind × HasNoKeys gives 1 s.sources e)
+    ⊎ HasNoPasswords gives s e
+
+-- What octets of a kind are told as, what keys open in a page, and what files give.
+module _ (tells : Kind → List ℕ → Result (Vec Token Global) PageError → Type 0) (opens : Opens) (gives : Gives) where
+  -- this is written of what is asked to be shown, in printable lines
   pub record IsMade (s : Show) (left : Option (List ℕ)) (made : List ℕ) : Type 0 where
     pub kind : Option Kind
-    pub is_kind : IsKindOf s kind
-    pub keys : List NamedKey
-    pub are_keys : AreKeys holds s.sources keys
-    pub all : List ℕ
-    pub is_input : IsInput holds s.file left all
-    pub is_shown : IsShown tells opens kind (output_of s) s.shows_keys keys all made
+    pub openers : Openers
+    pub prepared : IsPrepared gives s kind openers
+    pub octets : List ℕ
+    pub are_read : AreRead gives s.file left octets
+    pub is_written : IsWritten tells opens kind (output_of s) s.shows_keys openers octets made
+    pub printable : ArePrintableLines made
 
-  -- the octets of the input are rejected
+  -- the input is rejected: it is not read, or has no page
   pub record IsInputRejected (s : Show) (left : Option (List ℕ)) (e : Failure) : Type 0 where
     pub kind : Option Kind
-    pub is_kind : IsKindOf s kind
-    pub all : List ℕ
-    pub is_input : IsInput holds s.file left all
-    pub rejected : IsRejected tells opens kind all e
+    pub openers : Openers
+    pub prepared : IsPrepared gives s kind openers
+    pub rejected : AreNotRead gives s.file left e ⊎ ((octets : List ℕ) × AreRead gives s.file left octets × IsRefused tells opens kind octets e)
 
-  -- why nothing is written of it
-  abbrev pub IsNotMade : Show → Option (List ℕ) → Failure → Type 0
-  IsNotMade s left e =
-      (e ≡ Memory) ⊎ (e ≡ Read) ⊎ ((e ≡ Arguments) × IsOfNoKind s) ⊎ HasNoKeys holds s.sources e ⊎ IsInputRejected s left e
+  -- why nothing is written of it; where it has no kind or no keys, nothing is read from standard input
+  abbrev pub IsNotMade : Show → Option (List ℕ) → Option (List ℕ) → Failure → Type 0
+  IsNotMade s left rest e = (Keeps left rest × IsUnprepared gives s e) ⊎ IsInputRejected s left e
 
-  -- and the writer has taken some of it
-  pub record IsPartlyWritten (s : Show) (left before after : Option (List ℕ)) : Type 0 where
-    pub made : List ℕ
-    pub is_made : IsMade s left made
-    pub printable : ArePrintableLines made
-    pub taken : HasTaken made before after
+  -- what is written is what the input is shown as, and the input is as it was where a file is named
+  abbrev pub IsShowRun : Show → Option (List ℕ) → Option (List ℕ) → Option (List ℕ) → Option (List ℕ) → Outcome → Type 0
+  IsShowRun s left rest before after outcome =
+      IsLeft s.file left rest × IsWrittenRun (λ made notes. IsMade s left made × (notes ≡ [])) (IsNotMade s left rest) before after outcome
 
-  -- and it has taken all
-  pub record IsWhollyWritten (s : Show) (left before after : Option (List ℕ)) : Type 0 where
-    pub made : List ℕ
-    pub is_made : IsMade s left made
-    pub printable : ArePrintableLines made
-    pub written : Appends before after made
+  -- ---- the whole
 
-  -- `show`: what is written is what the input is shown as, in printable lines; and where there is an error nothing was written, or not all of that.
-  abbrev pub IsShowRun : Show → Option (List ℕ) → Option (List ℕ) → Option (List ℕ) → Result ⊤ Failure → Type 0
-  IsShowRun s left before after outcome =
-      MatchResult outcome (λ _. IsWhollyWritten s left before after)
-      (λ e. (Keeps before after × IsNotMade s left e) ⊎ ((e ≡ Write) × IsPartlyWritten s left before after))
+  module _ (lists : Lists) (converts : Converts) (refuses : Refuses) where
+    -- A run of this command over an input (`rest` of it is left), where its octets and those of the output (before and after) are known.
+    abbrev pub IsRun : Option Command → List ℕ → Option (List ℕ) → Option (List ℕ) → Option (List ℕ) → Option (List ℕ) → Outcome → Type 0
+    IsRun None help input rest before after outcome = (outcome ≡ Err Arguments) × Keeps input rest × Keeps before after
+    IsRun (Some Help) help input rest before after outcome =
+        Keeps input rest × IsWrittenRun (λ made notes. (made ≡ help) × (notes ≡ [])) (λ e. ⊥) before after outcome
+    IsRun (Some (command.Show s)) help input rest before after outcome = IsShowRun s input rest before after outcome
+    IsRun (Some (command.List file)) help input rest before after outcome = IsListRun gives lists file input rest before after outcome
+    IsRun (Some (command.Convert to file)) help input rest before after outcome =
+        IsConvertRun gives converts refuses to file input rest before after outcome
 
-  -- A run of this command over an input (`rest` of it is left), where its octets and those of the output (before and after) are known.
-  abbrev pub IsRun : Option Command → List ℕ → Option (List ℕ) → Option (List ℕ) → Option (List ℕ) → Option (List ℕ) → Result ⊤ Failure → Type 0
-  IsRun None help input rest before after outcome = (outcome ≡ Err Arguments) × Keeps input rest × Keeps before after
-  IsRun (Some Help) help input rest before after outcome =
-      Keeps input rest × MatchResult outcome (λ _. Appends before after help) (λ e. (e ≡ Write) × HasTaken help before after)
-  IsRun (Some (command.Show s)) help input rest before after outcome = IsShowRun s input before after outcome
-
-  -- A run with these arguments: that of the command that they ask for; or no memory was left to read them.
-  abbrev pub IsRunOf : List (List ℕ) → List ℕ → Option (List ℕ) → Option (List ℕ) → Option (List ℕ) → Option (List ℕ) → Result ⊤ Failure → Type 0
-  IsRunOf arguments help input rest before after outcome =
-      IsRun (asked_by arguments) help input rest before after outcome ⊎ ((outcome ≡ Err Memory) × Keeps input rest × Keeps before after)
+    -- A run with these arguments: that of the command that they ask for; or no memory was left to read them.
+    abbrev pub IsRunOf : List (List ℕ) → List ℕ → Option (List ℕ) → Option (List ℕ) → Option (List ℕ) → Option (List ℕ) → Outcome → Type 0
+    IsRunOf arguments help input rest before after outcome =
+        IsRun (asked_by arguments) help input rest before after outcome ⊎ ((outcome ≡ Err Memory) × Keeps input rest × Keeps before after)

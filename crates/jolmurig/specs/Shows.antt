@@ -14,8 +14,9 @@ pub record Show : Type 0 where
   pub output : Option Output
   pub shows_keys : Bool
   pub sources : List Source
+  pub password_files : List (List ℕ)
   pub file : Option (List ℕ)
 
 -- without any option
 abbrev pub nothing_asked : Show
-nothing_asked = record { type_name = None; is_tree = false; output = None; shows_keys = false; sources = []; file = None }
+nothing_asked = record { type_name = None; is_tree = false; output = None; shows_keys = false; sources = []; password_files = []; file = None }

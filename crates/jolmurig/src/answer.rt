@@ -2,19 +2,20 @@
 
 ghost use Rattle.std.specs.Prelude.{◌≡◌, ◌⊎◌, ◌-◌, ◌++◌, ◌∷◌, [], length, take, IfOk, IfErr};
 ghost use Rattle.std.specs.String.{string_bytes};
-ghost use Rattle.jolmurig.specs.Answers.{ArePrintableLines, chosen, IsRefused, IsRejected, IsShown, IsWritten, IsWrittenOf, output_text, shown_keys, type_line};
+ghost use Rattle.jolmurig.specs.Answers.{AreKeysFor, ArePrintableLines, chosen, IsRefused, IsWritten, IsWrittenOf, output_text, shown_keys, type_line};
 ghost use Rattle.jolmurig.specs.declared.command.Output.TheVariants as output;
 ghost use Rattle.jolmurig.specs.declared.failure.Failure.TheVariants as failure;
 
+use crate::calls::Calls;
 use crate::command::Output;
 use crate::failure::Failure;
-use crate::opens::Opens;
-use krb_input::octets_of_input;
+use crate::openers::Openers;
 use krb_show::{Page, Token, json_of_page, text_of_page};
 use krb_show_any::{Kind, PageError, Pages, kind_of_octets, place_of_error};
 use krb_show_keys::without_keys;
 use krb_show_opened::Key;
 use krb_show_pac::page_with_contents;
+use krb_show_passwords::keys_of_passwords;
 use std::alloc::{AllocError, Global};
 
 /// The octets of a text.
@@ -99,62 +100,57 @@ fn kept(alloc: Global, shows_keys: bool, page: Page) -> Result<Page, AllocError>
     }
 }
 
+/// The keys, and behind them those that the passwords give with the salts of a page.
+fn keys_for(alloc: Global, openers: Openers, page: &[Token]) -> Result<Vec<Key>, AllocError>
+    ensures { IfOk result (λ keys. AreKeysFor openers page.now keys.items) }
+{
+    let Openers { keys, passwords } = openers;
+    let mut all = keys;
+    let mut more = keys_of_passwords(alloc, &passwords, page)?;
+    all.append(&mut more)?;
+    Ok(all)
+}
+
 /// What is written of a page: what the keys open in it is shown in its place, and so is what the buffers of PACs hold.
-fn written_opened<O: Opens>(
+fn written_opened<C: Calls>(
     alloc: Global,
     output: Output,
     shows_keys: bool,
-    keys: Vec<Key>,
+    openers: Openers,
     page: Page,
 ) -> Result<Vec<u8>, AllocError>
-    ensures made { IfOk result (λ made. IsWrittenOf O.opens keys.items page.items output shows_keys made.items) }
+    ensures made { IfOk result (λ made. IsWrittenOf C.opens openers page.items output shows_keys made.items) }
     ensures printable { IfOk result (λ made. ArePrintableLines made.items) }
 {
-    let opened = O::opened(alloc, keys, page)?;
+    let keys = keys_for(alloc, openers, &page)?;
+    let opened = C::opened(alloc, keys, page)?;
     let detailed = page_with_contents(alloc, opened)?;
     let page = kept(alloc, shows_keys, detailed)?;
     written(alloc, output, &page)
 }
 
 /// What is written for octets.
-fn shown<S: Pages<Kind, PageError>, O: Opens>(
+pub fn shown<S: Pages<Kind, PageError>, C: Calls>(
     alloc: Global,
     kind: Option<Kind>,
     output: Output,
     shows_keys: bool,
-    keys: Vec<Key>,
+    openers: Openers,
     octets: &[u8],
 ) -> Result<Vec<u8>, Failure>
-    ensures found { IfOk result (λ made. IsWritten S.tells O.opens kind output shows_keys keys.items octets.now made.items) }
+    ensures found { IfOk result (λ made. IsWritten S.tells C.opens kind output shows_keys openers octets.now made.items) }
     ensures printable { IfOk result (λ made. ArePrintableLines made.items) }
-    ensures rejected { IfErr result (λ e. (e ≡ failure.Memory) ⊎ IsRefused S.tells O.opens kind octets.now e) }
+    ensures rejected { IfErr result (λ e. (e ≡ failure.Memory) ⊎ IsRefused S.tells C.opens kind octets.now e) }
 {
     let Some(kind) = chosen(kind, octets) else {
         return Err(Failure::UnknownKind);
     };
     match S::page_of(alloc, kind, octets) {
-        Ok(page) => Ok(written_opened::<O>(alloc, output, shows_keys, keys, page)?),
+        Ok(page) => Ok(written_opened::<C>(alloc, output, shows_keys, openers, page)?),
         Err(PageError::OutOfMemory) => Err(Failure::Memory),
         Err(why) => {
             let place = place_of_error::<Kind, S>(alloc, kind, &why, octets)?;
             Err(Failure::Octets { kind, why, place })
         }
     }
-}
-
-/// What is written for an input.
-pub fn answer<S: Pages<Kind, PageError>, O: Opens>(
-    alloc: Global,
-    kind: Option<Kind>,
-    output: Output,
-    shows_keys: bool,
-    keys: Vec<Key>,
-    input: &[u8],
-) -> Result<Vec<u8>, Failure>
-    ensures found { IfOk result (λ made. IsShown S.tells O.opens kind output shows_keys keys.items input.now made.items) }
-    ensures printable { IfOk result (λ made. ArePrintableLines made.items) }
-    ensures rejected { IfErr result (IsRejected S.tells O.opens kind input.now) }
-{
-    let octets = octets_of_input(alloc, input)?;
-    shown::<S, O>(alloc, kind, output, shows_keys, keys, &octets)
 }

@@ -18,6 +18,8 @@ pub enum Output {
 pub enum SourceKind {
     /// A key, as a text: the option `--key`.
     Key,
+    /// A file that holds a key as a text: the option `--key-file`.
+    KeyFile,
     /// A keytab, by the name of its file: the option `--keytab`.
     Keytab,
 }
@@ -39,6 +41,21 @@ impl<'a> Model for Source<'a> {
     ghost view = { λ s. record { kind = s.kind; text = s.text.now } };
 }
 
+/// The name of a file.
+#[derive(Debug, Drop)]
+pub struct FileName<'a> {
+    /// The name.
+    pub text: &'a str,
+}
+
+impl<'a> Model for FileName<'a> {
+    ghost use Rattle.std.specs.Prelude.{ℕ, List};
+
+    ghost Value = { List ℕ };
+
+    ghost view = { λ n. n.text.now };
+}
+
 /// What is asked to be shown, and how.
 #[derive(Debug, Drop)]
 pub struct Show<'a> {
@@ -52,6 +69,8 @@ pub struct Show<'a> {
     pub shows_keys: bool,
     /// Where the keys are that open what is sealed.
     pub sources: Vec<Source<'a>>,
+    /// The names of files that hold passwords: the option `--password-file`.
+    pub password_files: Vec<FileName<'a>>,
     /// The name of the file that is read; standard input where there is none.
     pub file: Option<&'a str>,
 }
@@ -68,8 +87,34 @@ impl<'a> Model for Show<'a> {
       output = s.output;
       shows_keys = s.shows_keys;
       sources = s.sources.items;
+      password_files = s.password_files.items;
       file = option_copied s.file;
     } };
+}
+
+/// A format of tickets with their keys.
+#[derive(Clone, Copy, PartialEq, Eq, Debug)]
+pub enum Format {
+    /// A KRB-CRED (RFC 4120, 5.8) whose part is in the clear: `kirbi`.
+    Kirbi,
+    /// A credential cache of MIT Kerberos: `ccache`.
+    Ccache,
+}
+
+/// What a command without options is of.
+#[derive(Debug, Drop)]
+pub struct Operand<'a> {
+    /// The name of the file that is read; standard input where there is none.
+    pub file: Option<&'a str>,
+}
+
+impl<'a> Model for Operand<'a> {
+    ghost use Rattle.std.specs.Prelude.{ℕ, List, Option};
+    ghost use Rattle.std.specs.Option.{option_copied};
+
+    ghost Value = { Option (List ℕ) };
+
+    ghost view = { λ o. option_copied o.file };
 }
 
 /// What is asked for by the arguments.
@@ -79,4 +124,8 @@ pub enum Command<'a> {
     Help,
     /// What a file or standard input holds: `show`.
     Show(Show<'a>),
+    /// A line for each entry of a keytab or a credential cache, that of a file or of standard input: `list`.
+    List(Operand<'a>),
+    /// The tickets of a file or of standard input in another format: `convert`.
+    Convert(Format, Operand<'a>),
 }

@@ -1,38 +1,30 @@
 //! The program over any reader and any writers.
 
-ghost use Rattle.std.specs.Prelude.{◌≡◌, ◌⊎◌, ⊤, map, option_copied, IfOk, IfErr, OnOk, IfSome, MatchResult, Result, Err};
-ghost use Rattle.std.specs.Io.KnownBytes.{Appends};
+ghost use Rattle.std.specs.Prelude.{◌≡◌, ◌⊎◌, [], map, option_copied, IfOk, IfErr, OnOk, MatchResult, Err};
+ghost use Rattle.std.specs.Io.KnownBytes.{Appends, Keeps};
 ghost use Rattle.std.specs.String.{string_bytes};
 ghost use Rattle.jolmurig.specs.Failures.{line_of, status_of_failure};
-ghost use Rattle.jolmurig.specs.Answers.{ArePrintableLines};
-ghost use Rattle.jolmurig.specs.Outcome.{HasTaken, IsInput, IsKindOf, IsLineWritten, IsMade, IsNotMade, IsOfNoKind, IsRun, IsRunOf, IsShowRun, output_of, status_of};
+ghost use Rattle.jolmurig.specs.Outcome.{AreNotesWritten, HasTaken, IsConvertRun, IsInputRejected, IsKindOf, IsLeft, IsLineWritten, IsListRun, IsMade};
+ghost use Rattle.jolmurig.specs.Outcome.{IsNotMade, IsOfNoKind, IsPrepared, IsRun, IsRunOf, IsShowRun, IsUnprepared, Outcome, output_of, status_of};
 ghost use Rattle.jolmurig.specs.declared.failure.Failure.{Failure};
 
-use crate::answer::answer;
-use crate::command::{Command, Output, Show};
+use crate::answer::shown;
+use crate::calls::Calls;
+use crate::command::{Command, Format, Output, Show};
+use crate::convert::{Conversion, conversion_of};
 use crate::failure::Failure;
 use crate::files::Files;
 use crate::help::HELP;
+use crate::input::read_octets;
 use crate::keys::keys_of_sources;
-use crate::opens::Opens;
+use crate::list::list_of;
+use crate::openers::Openers;
 use crate::parse::parse;
-use krb_io::{ReadError, read_to_end, write_all};
+use crate::passwords::passwords_of_files;
+use krb_io::write_all;
 use krb_show_any::{Kind, PageError, Pages, kind_of_name};
 use std::alloc::Global;
-use std::io;
 use std::io::{Read, Write};
-
-/// All that the reader has left.
-fn read_all<R: Read>(alloc: Global, input: &mut R) -> Result<Vec<u8>, Failure>
-    ensures read { IfOk result (λ octets. IfSome (R.remaining input.old) (λ all. octets.items ≡ all)) }
-    ensures rejected { IfErr result (λ e. (e ≡ Failure.Memory) ⊎ (e ≡ Failure.Read)) }
-{
-    match read_to_end(alloc, input) {
-        Ok(octets) => Ok(octets),
-        Err(ReadError::OutOfMemory) => Err(Failure::Memory),
-        Err(ReadError::Io(_)) => Err(Failure::Read),
-    }
-}
 
 /// Writes all of the octets, and lets none wait in the writer.
 fn write_out<W: Write>(output: &mut W, octets: &[u8]) -> Result<(), Failure>
@@ -46,14 +38,6 @@ fn write_out<W: Write>(output: &mut W, octets: &[u8]) -> Result<(), Failure>
         return Err(Failure::Write);
     }
     Ok(())
-}
-
-/// Writes a text.
-fn write_text<W: Write>(output: &mut W, text: &str) -> Result<(), Failure>
-    ensures { MatchResult result (λ _. Appends (W.contents output.old) (W.contents output.new) text.now)
-        (λ e. (e ≡ Failure.Write) × HasTaken text.now (W.contents output.old) (W.contents output.new)) }
-{
-    write_out(output, text.as_bytes())
 }
 
 /// The kind of the type that is asked for.
@@ -83,98 +67,180 @@ fn output_asked(show: &Show) -> Output
     show.output.unwrap_or(Output::Text)
 }
 
-/// What a file holds.
-fn read_file<F: Files>(alloc: Global, files: &F, name: &str) -> Result<Vec<u8>, Failure>
-    ensures read { IfOk result (λ octets. F.holds files.now name.now octets.items) }
-    ensures rejected { IfErr result (λ e. (e ≡ Failure.Memory) ⊎ (e ≡ Failure.Read)) }
-{
-    match files.octets_of(alloc, name) {
-        Ok(octets) => Ok(octets),
-        Err(error) => match error.kind() {
-            io::ErrorKind::OutOfMemory => Err(Failure::Memory),
-            _ => Err(Failure::Read),
-        },
-    }
+/// What is asked to be shown, looked up: the kind, and what opens what is sealed.
+#[derive(Drop)]
+struct Prepared {
+    kind: Option<Kind>,
+    openers: Openers,
 }
 
-/// What is read: the file of this name, or all that the reader has left.
-fn read_input<F: Files, R: Read>(
+/// The kind of what is asked to be shown, and what opens what is sealed.
+fn prepare<F: Files>(alloc: Global, files: &F, show: &Show) -> Result<Prepared, Failure>
+    ensures found { IfOk result (λ p. IsPrepared (F.gives files.now) show.now p.kind p.openers) }
+    ensures rejected { IfErr result (λ e. IsUnprepared (F.gives files.now) show.now e) }
+{
+    let kind = kind_asked(show)?;
+    let keys = keys_of_sources(alloc, files, &show.sources)?;
+    let passwords = passwords_of_files(alloc, files, &show.password_files)?;
+    Ok(Prepared {
+        kind,
+        openers: Openers { keys, passwords },
+    })
+}
+
+/// What is written of what is asked to be shown, once it is looked up.
+fn make_prepared<S: Pages<Kind, PageError>, C: Calls, F: Files, R: Read>(
     alloc: Global,
+    show: &Show,
+    prepared: Prepared,
     files: &F,
-    file: Option<&str>,
     input: &mut R,
 ) -> Result<Vec<u8>, Failure>
-    ensures read { IfOk result (λ octets. IsInput (F.holds files.now) (option_copied file.entry) (R.remaining input.old) octets.items) }
-    ensures rejected { IfErr result (λ e. (e ≡ Failure.Memory) ⊎ (e ≡ Failure.Read)) }
+    ensures found { IsPrepared (F.gives files.now) show.now prepared.kind prepared.openers
+        → IfOk result (λ made. IsMade S.tells C.opens (F.gives files.now) show.now (R.remaining input.old) made.items) }
+    ensures rejected { IsPrepared (F.gives files.now) show.now prepared.kind prepared.openers
+        → IfErr result (IsInputRejected S.tells C.opens (F.gives files.now) show.now (R.remaining input.old)) }
+    ensures left { IsLeft show.now.file (R.remaining input.old) (R.remaining input.new) }
 {
-    match file {
-        Some(name) => read_file(alloc, files, name),
-        None => read_all(alloc, input),
-    }
+    let octets = read_octets(alloc, files, show.file, input)?;
+    shown::<S, C>(
+        alloc,
+        prepared.kind,
+        output_asked(show),
+        show.shows_keys,
+        prepared.openers,
+        &octets,
+    )
 }
 
 /// What is written of what is asked to be shown.
-fn make<S: Pages<Kind, PageError>, O: Opens, F: Files, R: Read>(
+fn make<S: Pages<Kind, PageError>, C: Calls, F: Files, R: Read>(
     alloc: Global,
     show: &Show,
     files: &F,
     input: &mut R,
 ) -> Result<Vec<u8>, Failure>
-    ensures found { IfOk result (λ made. IsMade S.tells O.opens (F.holds files.now) show.now (R.remaining input.old) made.items) }
-    ensures printable { IfOk result (λ made. ArePrintableLines made.items) }
-    ensures rejected { IfErr result (IsNotMade S.tells O.opens (F.holds files.now) show.now (R.remaining input.old)) }
+    ensures found { IfOk result (λ made. IsMade S.tells C.opens (F.gives files.now) show.now (R.remaining input.old) made.items) }
+    ensures rejected { IfErr result (IsNotMade S.tells C.opens (F.gives files.now) show.now (R.remaining input.old) (R.remaining input.new)) }
+    ensures left { IsLeft show.now.file (R.remaining input.old) (R.remaining input.new) }
 {
-    let kind = kind_asked(show)?;
-    let keys = keys_of_sources(alloc, files, &show.sources)?;
-    let all = read_input(alloc, files, show.file, input)?;
-    answer::<S, O>(alloc, kind, output_asked(show), show.shows_keys, keys, &all)
+    let prepared = prepare(alloc, files, show)?;
+    make_prepared::<S, C, F, R>(alloc, show, prepared, files, input)
+}
+
+/// Writes all of the octets; there are no notes.
+fn write_made<W: Write>(alloc: Global, output: &mut W, made: &[u8]) -> Result<Vec<u8>, Failure>
+    ensures { MatchResult result (λ notes. (notes.items ≡ []) × Appends (W.contents output.old) (W.contents output.new) made.now)
+        (λ e. (e ≡ Failure.Write) × HasTaken made.now (W.contents output.old) (W.contents output.new)) }
+{
+    write_out(output, made)?;
+    Ok(Vec::new(alloc))
+}
+
+/// Writes the help.
+fn write_help<W: Write>(alloc: Global, output: &mut W) -> Result<Vec<u8>, Failure>
+    ensures { MatchResult result (λ notes. (notes.items ≡ []) × Appends (W.contents output.old) (W.contents output.new) HELP.now)
+        (λ e. (e ≡ Failure.Write) × HasTaken HELP.now (W.contents output.old) (W.contents output.new)) }
+{
+    write_made(alloc, output, HELP.as_bytes())
 }
 
 /// Shows a file or the input.
-fn show<S: Pages<Kind, PageError>, O: Opens, F: Files, R: Read, W: Write>(
+fn show<S: Pages<Kind, PageError>, C: Calls, F: Files, R: Read, W: Write>(
     alloc: Global,
     show: &Show,
     files: &F,
     input: &mut R,
     output: &mut W,
-) -> Result<(), Failure>
-    ensures { IsShowRun S.tells O.opens (F.holds files.now) show.now (R.remaining input.old) (W.contents output.old) (W.contents output.new) result }
+) -> Result<Vec<u8>, Failure>
+    ensures { IsShowRun S.tells C.opens (F.gives files.now) show.now (R.remaining input.old) (R.remaining input.new)
+        (W.contents output.old) (W.contents output.new) result }
 {
-    let made = make::<S, O, F, R>(alloc, show, files, input)?;
-    write_out(output, &made)
+    let made = make::<S, C, F, R>(alloc, show, files, input)?;
+    write_made(alloc, output, &made)
+}
+
+/// Lists the entries of a file or the input.
+fn list<C: Calls, F: Files, R: Read, W: Write>(
+    alloc: Global,
+    file: Option<&str>,
+    files: &F,
+    input: &mut R,
+    output: &mut W,
+) -> Result<Vec<u8>, Failure>
+    ensures { IsListRun (F.gives files.now) C.lists (option_copied file.entry) (R.remaining input.old) (R.remaining input.new)
+        (W.contents output.old) (W.contents output.new) result }
+{
+    let octets = read_octets(alloc, files, file, input)?;
+    let text = list_of::<C>(alloc, &octets)?;
+    write_made(alloc, output, &text)
+}
+
+/// Writes all of the octets, and gives back the notes.
+fn write_with_notes<W: Write>(
+    output: &mut W,
+    made: &[u8],
+    notes: Vec<u8>,
+) -> Result<Vec<u8>, Failure>
+    ensures { MatchResult result (λ told. (told.items ≡ notes.items) × Appends (W.contents output.old) (W.contents output.new) made.now)
+        (λ e. (e ≡ Failure.Write) × HasTaken made.now (W.contents output.old) (W.contents output.new)) }
+{
+    write_out(output, made)?;
+    Ok(notes)
+}
+
+/// Converts a file or the input.
+fn convert<C: Calls, F: Files, R: Read, W: Write>(
+    alloc: Global,
+    to: Format,
+    file: Option<&str>,
+    files: &F,
+    input: &mut R,
+    output: &mut W,
+) -> Result<Vec<u8>, Failure>
+    ensures { IsConvertRun (F.gives files.now) C.converts C.unconverted to (option_copied file.entry) (R.remaining input.old) (R.remaining input.new)
+        (W.contents output.old) (W.contents output.new) result }
+{
+    let octets = read_octets(alloc, files, file, input)?;
+    let Conversion { octets, notes } = conversion_of::<C>(alloc, to, &octets)?;
+    write_with_notes(output, &octets, notes)
 }
 
 /// Does what a command asks for.
-fn obey<S: Pages<Kind, PageError>, O: Opens, F: Files, R: Read, W: Write>(
+fn obey<S: Pages<Kind, PageError>, C: Calls, F: Files, R: Read, W: Write>(
     alloc: Global,
     command: Option<Command>,
     files: &F,
     input: &mut R,
     output: &mut W,
-) -> Result<(), Failure>
-    ensures { IsRun S.tells O.opens (F.holds files.now) command.entry HELP.now (R.remaining input.old) (R.remaining input.new)
-        (W.contents output.old) (W.contents output.new) result }
+) -> Result<Vec<u8>, Failure>
+    ensures { IsRun S.tells C.opens (F.gives files.now) C.lists C.converts C.unconverted command.entry HELP.now
+        (R.remaining input.old) (R.remaining input.new) (W.contents output.old) (W.contents output.new) result }
 {
     match command {
         None => Err(Failure::Arguments),
-        Some(Command::Help) => write_text(output, HELP),
-        Some(Command::Show(asked)) => show::<S, O, F, R, W>(alloc, &asked, files, input, output),
+        Some(Command::Help) => write_help(alloc, output),
+        Some(Command::Show(asked)) => show::<S, C, F, R, W>(alloc, &asked, files, input, output),
+        Some(Command::List(of)) => list::<C, F, R, W>(alloc, of.file, files, input, output),
+        Some(Command::Convert(to, of)) => {
+            convert::<C, F, R, W>(alloc, to, of.file, files, input, output)
+        }
     }
 }
 
-/// Does what the arguments ask for.
-fn perform<S: Pages<Kind, PageError>, O: Opens, F: Files, R: Read, W: Write>(
+/// Does what the arguments ask for. Returned are notes, none or lines.
+fn perform<S: Pages<Kind, PageError>, C: Calls, F: Files, R: Read, W: Write>(
     alloc: Global,
     arguments: &[String],
     files: &F,
     input: &mut R,
     output: &mut W,
-) -> Result<(), Failure>
-    ensures { IsRunOf S.tells O.opens (F.holds files.now) (map string_bytes arguments.now) HELP.now (R.remaining input.old) (R.remaining input.new)
-        (W.contents output.old) (W.contents output.new) result }
+) -> Result<Vec<u8>, Failure>
+    ensures { IsRunOf S.tells C.opens (F.gives files.now) C.lists C.converts C.unconverted (map string_bytes arguments.now) HELP.now
+        (R.remaining input.old) (R.remaining input.new) (W.contents output.old) (W.contents output.new) result }
 {
     let command = parse(alloc, arguments)?;
-    obey::<S, O, F, R, W>(alloc, command, files, input, output)
+    obey::<S, C, F, R, W>(alloc, command, files, input, output)
 }
 
 /// Writes as much of a line as the writer takes.
@@ -206,8 +272,18 @@ pub fn reject<E: Write>(alloc: Global, failure: &Failure, errors: &mut E) -> u8
     failure.status()
 }
 
-/// One run of the program: its status, and one line to `errors` where it fails.
-pub fn run<S: Pages<Kind, PageError>, O: Opens, F: Files, R: Read, W: Write, E: Write>(
+/// Writes notes, where there are any. A failed write of them changes nothing.
+fn note<E: Write>(notes: &[u8], errors: &mut E)
+    ensures { AreNotesWritten (E.contents errors.old) (E.contents errors.new) notes.now }
+{
+    if notes.is_empty() {
+        return;
+    }
+    write_line(errors, notes);
+}
+
+/// One run of the program: its status; and one line to `errors` where it fails, or its notes.
+pub fn run<S: Pages<Kind, PageError>, C: Calls, F: Files, R: Read, W: Write, E: Write>(
     alloc: Global,
     arguments: &[String],
     files: &F,
@@ -215,13 +291,16 @@ pub fn run<S: Pages<Kind, PageError>, O: Opens, F: Files, R: Read, W: Write, E: 
     output: &mut W,
     errors: &mut E,
 ) -> u8
-    ensures ran { (outcome : Result ⊤ Failure) × (result ≡ status_of outcome)
+    ensures ran { (outcome : Outcome) × (result ≡ status_of outcome)
         × IsLineWritten (E.contents errors.old) (E.contents errors.new) outcome
-        × IsRunOf S.tells O.opens (F.holds files.now) (map string_bytes arguments.now) HELP.now (R.remaining input.old) (R.remaining input.new)
-        (W.contents output.old) (W.contents output.new) outcome }
+        × IsRunOf S.tells C.opens (F.gives files.now) C.lists C.converts C.unconverted (map string_bytes arguments.now) HELP.now
+        (R.remaining input.old) (R.remaining input.new) (W.contents output.old) (W.contents output.new) outcome }
 {
-    match perform::<S, O, F, R, W>(alloc, arguments, files, input, output) {
-        Ok(()) => 0,
+    match perform::<S, C, F, R, W>(alloc, arguments, files, input, output) {
+        Ok(notes) => {
+            note(&notes, errors);
+            0
+        }
         Err(failure) => reject(alloc, &failure, errors),
     }
 }

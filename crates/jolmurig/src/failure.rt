@@ -2,9 +2,11 @@
 
 ghost use Rattle.std.specs.Prelude.{◌≡◌, ◌++◌, IfOk, OnOk};
 ghost use Rattle.jolmurig.specs.declared.failure.Failure.TheVariants as failures;
-ghost use Rattle.jolmurig.specs.Failures.{line_of, of_input, place, place_text, placed, reason, status_of_failure, subject};
+ghost use Rattle.jolmurig.specs.Failures.{line_of, of_input, place, place_text, placed, reason, rule_of, status_of_failure, subject};
 
+use krb_convert::ConvertError;
 use krb_input::InputError;
+use krb_keytab::KeytabError;
 use krb_show_any::{Kind, PageError, Place, name_of_kind};
 use std::alloc::{AllocError, Global};
 use std::io;
@@ -16,12 +18,24 @@ pub enum Failure {
     Arguments,
     /// The text of an option `--key` is no key.
     Key,
+    /// The file of an option `--key-file` could not be read.
+    KeyFile,
+    /// The text of such a file is no key.
+    KeyInFile,
     /// The file of an option `--keytab` could not be read.
     KeytabFile,
+    /// Such a file is no keytab: its first error.
+    Keytab(KeytabError),
+    /// The file of an option `--password-file` could not be read.
+    PasswordFile,
     /// The input begins as PEM or as a header of HTTP, and what follows is no base64.
     NotBase64,
     /// The octets begin as no kind that is told by first octets.
     UnknownKind,
+    /// The octets begin as neither a keytab nor a credential cache.
+    NoEntries,
+    /// The octets are not converted: the rule that they break.
+    Convert(ConvertError),
     /// The octets are none of this kind, for this reason, which is at this place where it is an error of DER.
     Octets {
         kind: Kind,
@@ -58,6 +72,33 @@ fn push_place(line: &mut Vec<u8>, alloc: Global, place: Option<Place>) -> Result
     }
 }
 
+/// The rule of a conversion that octets break; an error of octets that are of another format is told as that of these octets.
+fn rule_of(rule: &ConvertError) -> &'static str
+    ensures { result.now ≡ rule_of rule.now }
+{
+    match rule {
+        ConvertError::Pvno => "pvno is not 5",
+        ConvertError::MsgType => "msg-type is not 22",
+        ConvertError::Sealed => "enc-part is sealed: its etype is not 0",
+        ConvertError::TicketInfo => "there are not as many elements of ticket-info as tickets",
+        ConvertError::NoTicket => "there is no ticket",
+        ConvertError::NoPrealm => "prealm is absent, and a cache needs it",
+        ConvertError::NoPname => "pname is absent, and a cache needs it",
+        ConvertError::NameType => "a name-type does not fit 32 bits",
+        ConvertError::KeyType => "a keytype does not fit 16 bits",
+        ConvertError::Time => "a time is not of 1970 to 2106",
+        ConvertError::AddressType => "an addr-type does not fit 16 bits",
+        ConvertError::TooLong => "a length or a count does not fit 32 bits",
+        ConvertError::NoCredential => "there is no credential",
+        ConvertError::Name => "an octet of a name is past 127",
+        ConvertError::Kirbi(_)
+        | ConvertError::Part(_)
+        | ConvertError::Ticket(_)
+        | ConvertError::Ccache(_) => "the octets are of another format",
+        ConvertError::OutOfMemory => "an allocation failed",
+    }
+}
+
 impl Failure {
     /// The status with which the program ends: 2 where the arguments are no command or name no key, else 1.
     pub fn status(&self) -> u8
@@ -76,9 +117,13 @@ impl Failure {
         match self {
             Failure::Arguments => "wrong arguments",
             Failure::Key => "--key",
-            Failure::KeytabFile => "--keytab",
+            Failure::KeyFile | Failure::KeyInFile => "--key-file",
+            Failure::KeytabFile | Failure::Keytab(_) => "--keytab",
+            Failure::PasswordFile => "--password-file",
             Failure::NotBase64 => "base64",
             Failure::UnknownKind => "unknown kind",
+            Failure::NoEntries => "list",
+            Failure::Convert(_) => "convert",
             Failure::Octets {
                 kind,
                 why: _,
@@ -96,14 +141,21 @@ impl Failure {
     {
         match self {
             Failure::Arguments =>
-                "usage: jolmurig show [--as TYPE | --tree] [--json | --type] [--key ETYPE:HEX].. [--keytab FILE].. [--show-keys] [FILE]; see jolmurig --help",
+                "usage: jolmurig show [OPTION].. [FILE], jolmurig list [FILE] or jolmurig convert kirbi|ccache [FILE]; see jolmurig --help",
             Failure::Key =>
                 "a key is ETYPE:HEX, where ETYPE is 16 to 20 or the name of such an encryption type, and HEX the octets of a key of its length",
-            Failure::KeytabFile => "the file could not be read",
+            Failure::KeyFile | Failure::KeytabFile | Failure::PasswordFile => {
+                "the file could not be read"
+            }
+            Failure::KeyInFile =>
+                "the file holds no key ETYPE:HEX, where ETYPE is 16 to 20 or the name of such an encryption type, and HEX the octets of a key of its length",
+            Failure::Keytab(why) => PageError::Keytab(*why).reason(),
             Failure::NotBase64 =>
                 "the input begins as PEM or as a header of HTTP, and no base64 follows",
             Failure::UnknownKind =>
                 "the octets begin as no kind that is known; --as TYPE names one",
+            Failure::NoEntries => "the octets begin as neither a keytab nor a credential cache",
+            Failure::Convert(rule) => rule_of(rule),
             Failure::Octets {
                 kind: _,
                 why,

@@ -5,26 +5,36 @@ pub const HELP: &str =
     "Shows what Kerberos octets hold, those of a file or of standard input, and refuses what is no strict encoding.
 
 usage:
-    jolmurig show [--as TYPE | --tree] [--json | --type] [--key ETYPE:HEX].. [--keytab FILE].. [--show-keys] [FILE]
+    jolmurig show [OPTION].. [FILE]
+    jolmurig list [FILE]
+    jolmurig convert kirbi|ccache [FILE]
     jolmurig --help
+
+show       the type of the octets, and what they hold
+list       a line for each entry of a keytab, as `klist -kte` has them, or of a credential cache, as `klist -f -e`
+convert    a credential cache as a KRB-CRED in the clear (kirbi), or such a KRB-CRED as a credential cache (ccache);
+           what the format cannot hold is named on standard error
 
 FILE is the file that is read; without it standard input is.
 
-options:
-    --as TYPE          read the octets as this type, and not as the one that they begin as
-    --tree             show the tags, lengths and contents of the elements, whatever they are, as far as they go
-    --json             write a line of JSON
-    --type             write the name of the type alone
-    --key ETYPE:HEX    open what is sealed with this key, as often as wanted: ETYPE is 16 to 20 or the name of
-                       such an encryption type, HEX the octets of the key; others see it in the list of processes
-    --keytab FILE      open what is sealed with the keys of this keytab, as often as wanted
-    --show-keys        write the octets of keys
-    --no-keys          write `hidden` in the place of keys, as without these two; other octets that hold a key stay,
-                       as those of a tree
-    --help             write this help
+options of show:
+    --as TYPE               read the octets as this type, and not as the one that they begin as
+    --tree                  show the tags, lengths and contents of the elements, whatever they are, as far as they go
+    --json                  write a line of JSON
+    --type                  write the name of the type alone
+    --key ETYPE:HEX         open what is sealed with this key, as often as wanted: ETYPE is 16 to 20 or the name of
+                            such an encryption type, HEX the octets of the key; others see it in the list of processes
+    --key-file FILE         the same with the key that this file holds, in a line ETYPE:HEX
+    --keytab FILE           open what is sealed with the keys of this keytab, as often as wanted
+    --password-file FILE    open what is sealed with the keys of the password in the first line of this file, as often
+                            as wanted: the salts are those of the first 16 principals and ETYPE-INFO2s of the input
+    --show-keys             write the octets of keys
+    --no-keys               write `hidden` in the place of keys, as without these two; other octets that hold a key
+                            stay, as those of a tree
+    --help                  write this help
 
 what is opened stands in its place, with the key that opened it and the key usage; keys within it open what
-follows
+follows. Of a PAC in a ticket it is said which of its checksums hold
 
 input, by the first rule that fits:
     -----BEGIN LABEL-----    PEM: the base64 up to the line -----END LABEL-----
@@ -52,8 +62,8 @@ types that --as has to name:
 exit statuses:
     0    the output is written
     1    an error, which a line on standard error names, with its place where it is one of DER, and nothing on
-         standard output
-    2    wrong arguments, a key among them
+         standard output, or not all where the output cannot be written
+    2    wrong arguments, a key among them, and nothing was read from standard input
 
 examples:
     jolmurig show <as-req.der
@@ -61,4 +71,6 @@ examples:
     jolmurig show --as KDC-REQ-BODY <body.hex
     jolmurig show --tree <refused.der
     jolmurig show --keytab krb5.keytab krb5cc
+    jolmurig list krb5cc
+    jolmurig convert kirbi krb5cc >ticket.kirbi
 ";

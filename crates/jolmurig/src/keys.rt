@@ -1,134 +1,121 @@
 //! The keys that the options name.
 
-ghost use Rattle.std.specs.Prelude.{◌≡◌, ◌⊎◌, ◌++◌, ◌∷◌, [], Some, IfOk, IfErr, OnOk};
-ghost use Rattle.krb_show_keys.specs.Keys.{key_in};
-ghost use Rattle.jolmurig.specs.Keys.{AreKeys, HasNoKeys, IsKeytabOf, IsNoFile, IsNoKeyOf, IsNoKeyText, IsNoSource, adds, file_gives, gives, is_key, key_name};
+ghost use Rattle.std.specs.Prelude.{◌≡◌, ◌⊎◌, ◌++◌, ◌∷◌, ◌<◌, [], Some, IfOk, IfErr, OnOk};
+ghost use Rattle.krb_show_keys.specs.Keys.{key_in as key_of_octets};
+ghost use Rattle.jolmurig.specs.Keys.{AreKeys, HasNoKeys, IsKeytabOf, IsNoKeyFile, IsNoKeyIn, IsNoKeytab, IsNoKeytabOf, IsNoSource};
+ghost use Rattle.jolmurig.specs.Keys.{adds, gives_keys, key_file_gives, key_name, keytab_gives, text_gives};
 ghost use Rattle.jolmurig.specs.declared.failure.Failure.TheVariants as failure;
 
 use crate::command::{Source, SourceKind};
 use crate::failure::Failure;
-use crate::files::Files;
-use krb_show_any::{Kind, PageError};
+use crate::files::{Files, octets_of_file};
+use krb_input::without_blanks;
 use krb_show_keys::{KeytabKeysError, key_of_text, keys_of_keytab};
 use krb_show_opened::Key;
 use std::alloc::{AllocError, Global};
-use std::io;
 
-/// The key that the text of an option is.
-fn key_of(alloc: Global, text: &str) -> Result<Key, Failure>
-    ensures found { IfOk result (λ key. key_in text.now key_name ≡ Some key) }
-    ensures rejected { IfErr result (λ e. (e ≡ failure.Memory) ⊎ IsNoKeyText text.now e) }
+/// The name of the key of an option `--key`, by its number among the options that name keys.
+fn key_name(alloc: Global, number: usize) -> Result<Vec<u8>, AllocError>
+    ensures { IfOk result (λ name. name.items ≡ key_name number) }
 {
-    let name = Vec::from_slice(alloc, b"--key")?;
-    match key_of_text(alloc, text.as_bytes(), name)? {
-        Some(key) => Ok(key),
-        None => Err(Failure::Key),
-    }
+    let digits = format!(in alloc; "{number}")?;
+    let mut name = Vec::from_slice(alloc, b"--key ")?;
+    name.extend_from_slice(digits.as_bytes())?;
+    Ok(name)
 }
 
-/// The octets of a file of keys.
-fn octets_of<F: Files>(alloc: Global, files: &F, name: &str) -> Result<Vec<u8>, Failure>
-    ensures found { IfOk result (λ octets. F.holds files.now name.now octets.items) }
-    ensures rejected { IfErr result (λ e. (e ≡ failure.Memory) ⊎ (e ≡ failure.KeytabFile)) }
+/// One key alone.
+fn alone(alloc: Global, key: Key) -> Result<Vec<Key>, AllocError>
+    ensures { IfOk result (λ keys. keys.items ≡ key ∷ []) }
 {
-    match files.octets_of(alloc, name) {
-        Ok(octets) => Ok(octets),
-        Err(error) => match error.kind() {
-            io::ErrorKind::OutOfMemory => Err(Failure::Memory),
-            _ => Err(Failure::KeytabFile),
-        },
-    }
+    let mut keys = Vec::with_capacity(alloc, 1)?;
+    keys.push(key)?;
+    Ok(keys)
+}
+
+/// The one key that a text is, under a name.
+fn keys_in(alloc: Global, text: &[u8], name: Vec<u8>, no_key: Failure) -> Result<Vec<Key>, Failure>
+    ensures found { IfOk result (λ keys. text_gives text.now name.items keys.items) }
+    ensures rejected { IfErr result (λ e. (e ≡ failure.Memory) ⊎ IsNoKeyIn text.now name.items no_key e) }
+{
+    let Some(key) = key_of_text(alloc, text, name)? else {
+        return Err(no_key);
+    };
+    Ok(alone(alloc, key)?)
+}
+
+/// The key of an option `--key` with this number.
+fn keys_of_text(alloc: Global, number: usize, text: &str) -> Result<Vec<Key>, Failure>
+    ensures found { IfOk result (λ keys. text_gives text.now (key_name number) keys.items) }
+    ensures rejected { IfErr result (λ e. (e ≡ failure.Memory) ⊎ IsNoKeyIn text.now (key_name number) failure.Key e) }
+{
+    let name = key_name(alloc, number)?;
+    keys_in(alloc, text.as_bytes(), name, Failure::Key)
+}
+
+/// The key of a file that holds one as a text.
+fn keys_of_key_file<F: Files>(alloc: Global, files: &F, name: &str) -> Result<Vec<Key>, Failure>
+    ensures found { IfOk result (λ keys. key_file_gives (F.gives files.now) name.now keys.items) }
+    ensures rejected { IfErr result (λ e. (e ≡ failure.Memory) ⊎ IsNoKeyFile (F.gives files.now) name.now e) }
+{
+    let octets = octets_of_file(alloc, files, name, Failure::KeyFile)?;
+    let text = without_blanks(alloc, &octets)?;
+    let name = Vec::from_slice(alloc, name.as_bytes())?;
+    keys_in(alloc, &text, name, Failure::KeyInFile)
 }
 
 /// The keys of a keytab's octets.
 fn keys_of_octets(alloc: Global, octets: &[u8]) -> Result<Vec<Key>, Failure>
     ensures found { IfOk result (λ keys. IsKeytabOf octets.now keys.items) }
-    ensures rejected { IfErr result (λ e. (e ≡ failure.Memory) ⊎ IsNoKeyOf octets.now e) }
+    ensures rejected { IfErr result (λ e. (e ≡ failure.Memory) ⊎ IsNoKeytabOf octets.now e) }
 {
     match keys_of_keytab(alloc, octets) {
         Ok(keys) => Ok(keys),
         Err(KeytabKeysError::OutOfMemory) => Err(Failure::Memory),
-        Err(KeytabKeysError::Keytab(error)) => Err(Failure::Octets {
-            kind: Kind::Keytab,
-            why: PageError::Keytab(error),
-            place: None,
-        }),
+        Err(KeytabKeysError::Keytab(why)) => Err(Failure::Keytab(why)),
     }
 }
 
-/// Appends a key.
-fn push_key(keys: &mut Vec<Key>, key: Key) -> Result<(), AllocError>
-    ensures { OnOk result (keys.new.items ≡ keys.old.items ++ key ∷ []) }
-{
-    keys.push(key)?;
-    Ok(())
-}
-
-/// Appends the key that the text of an option is.
-fn push_text(alloc: Global, text: &str, keys: &mut Vec<Key>) -> Result<(), Failure>
-    ensures found { OnOk result (adds (is_key text.now) keys.old.items keys.new.items) }
-    ensures rejected { IfErr result (λ e. (e ≡ failure.Memory) ⊎ IsNoKeyText text.now e) }
-{
-    let key = key_of(alloc, text)?;
-    push_key(keys, key)?;
-    Ok(())
-}
-
-/// The keys of a file.
+/// The keys of a file that is a keytab.
 fn keys_of_file<F: Files>(alloc: Global, files: &F, name: &str) -> Result<Vec<Key>, Failure>
-    ensures found { IfOk result (λ keys. file_gives (F.holds files.now) name.now keys.items) }
-    ensures rejected { IfErr result (λ e. (e ≡ failure.Memory) ⊎ IsNoFile (F.holds files.now) name.now e) }
+    ensures found { IfOk result (λ keys. keytab_gives (F.gives files.now) name.now keys.items) }
+    ensures rejected { IfErr result (λ e. (e ≡ failure.Memory) ⊎ IsNoKeytab (F.gives files.now) name.now e) }
 {
-    let octets = octets_of(alloc, files, name)?;
+    let octets = octets_of_file(alloc, files, name, Failure::KeytabFile)?;
     keys_of_octets(alloc, &octets)
 }
 
-/// Appends the keys of a file.
-fn push_file<F: Files>(
+/// The keys of an option with this number.
+fn keys_of_source<F: Files>(
     alloc: Global,
     files: &F,
-    name: &str,
-    keys: &mut Vec<Key>,
-) -> Result<(), Failure>
-    ensures found { OnOk result (adds (file_gives (F.holds files.now) name.now) keys.old.items keys.new.items) }
-    ensures rejected { IfErr result (λ e. (e ≡ failure.Memory) ⊎ IsNoFile (F.holds files.now) name.now e) }
+    number: usize,
+    source: &Source,
+) -> Result<Vec<Key>, Failure>
+    ensures found { IfOk result (λ keys. gives_keys (F.gives files.now) number source.now keys.items) }
+    ensures rejected { IfErr result (λ e. (e ≡ failure.Memory) ⊎ IsNoSource (F.gives files.now) number source.now e) }
 {
-    let mut more = keys_of_file(alloc, files, name)?;
-    keys.append(&mut more)?;
-    Ok(())
+    match source.kind {
+        SourceKind::Key => keys_of_text(alloc, number, source.text),
+        SourceKind::KeyFile => keys_of_key_file(alloc, files, source.text),
+        SourceKind::Keytab => keys_of_file(alloc, files, source.text),
+    }
 }
 
 /// Appends the keys of an option.
 fn push_source<F: Files>(
     alloc: Global,
     files: &F,
+    number: usize,
     source: &Source,
     keys: &mut Vec<Key>,
 ) -> Result<(), Failure>
-    ensures found { OnOk result (adds (gives (F.holds files.now) source.now) keys.old.items keys.new.items) }
-    ensures rejected { IfErr result (λ e. (e ≡ failure.Memory) ⊎ IsNoSource (F.holds files.now) source.now e) }
+    ensures found { OnOk result (adds (gives_keys (F.gives files.now) number source.now) keys.old.items keys.new.items) }
+    ensures rejected { IfErr result (λ e. (e ≡ failure.Memory) ⊎ IsNoSource (F.gives files.now) number source.now e) }
 {
-    match source.kind {
-        SourceKind::Key => push_text(alloc, source.text, keys),
-        SourceKind::Keytab => push_file(alloc, files, source.text, keys),
-    }
-}
-
-/// Appends the keys of options, in their order.
-fn push_sources<F: Files>(
-    alloc: Global,
-    files: &F,
-    sources: &[Source],
-    keys: &mut Vec<Key>,
-) -> Result<(), Failure>
-    ensures found { OnOk result (adds (AreKeys (F.holds files.now) sources.now) keys.old.items keys.new.items) }
-    ensures rejected { IfErr result (λ e. (e ≡ failure.Memory) ⊎ HasNoKeys (F.holds files.now) sources.now e) }
-{
-    let Some((source, rest)) = sources.split_first() else {
-        return Ok(());
-    };
-    push_source(alloc, files, source, keys)?;
-    push_sources(alloc, files, rest, keys)
+    let mut more = keys_of_source(alloc, files, number, source)?;
+    keys.append(&mut more)?;
+    Ok(())
 }
 
 /// The keys of the options, in their order.
@@ -137,10 +124,14 @@ pub fn keys_of_sources<F: Files>(
     files: &F,
     sources: &[Source],
 ) -> Result<Vec<Key>, Failure>
-    ensures found { IfOk result (λ keys. AreKeys (F.holds files.now) sources.now keys.items) }
-    ensures rejected { IfErr result (λ e. (e ≡ failure.Memory) ⊎ HasNoKeys (F.holds files.now) sources.now e) }
+    ensures found { IfOk result (λ keys. AreKeys (F.gives files.now) 1 sources.now keys.items) }
+    ensures rejected { IfErr result (λ e. (e ≡ failure.Memory) ⊎ HasNoKeys (F.gives files.now) 1 sources.now e) }
 {
     let mut keys = Vec::new(alloc);
-    push_sources(alloc, files, sources, &mut keys)?;
+    let mut number = 1;
+    'sources: for source in sources {
+        push_source(alloc, files, number, source, &mut keys)?;
+        number += 1;
+    }
     Ok(keys)
 }

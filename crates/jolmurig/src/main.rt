@@ -2,21 +2,26 @@
 #![tactic(auto)]
 
 mod answer;
+mod calls;
 mod command;
+mod convert;
 mod engine;
 mod failure;
 mod files;
 mod help;
+mod input;
 mod keys;
-mod opens;
+mod list;
+mod openers;
 mod parse;
+mod passwords;
 
+use calls::Library;
 use engine::reject;
 pub use engine::run;
 use failure::arguments_failure;
-use files::Files;
+use files::{FileError, Files, file_error};
 use krb_show_any::Everything;
-use opens::MessageOpener;
 use std::alloc::Global;
 use std::process::ExitCode;
 use std::{env, fs, io};
@@ -28,10 +33,13 @@ struct HostFiles<'a> {
 }
 
 impl<'a> Files for HostFiles<'a> {
-    ghost holds = { λ _ _ _. Unit {0} };
+    ghost gives = { λ _ _ _. Unit {0} };
 
-    fn octets_of(&self, _alloc: Global, name: &str) -> io::Result<Vec<u8>> {
-        fs::read(self.rt, name)
+    fn octets_of(&self, _alloc: Global, name: &str) -> Result<Vec<u8>, FileError> {
+        match fs::read(self.rt, name) {
+            Ok(octets) => Ok(octets),
+            Err(error) => Err(file_error(&error)),
+        }
     }
 }
 
@@ -47,7 +55,7 @@ fn main(rt: HostRuntime) -> ExitCode {
             let mut input = rt.stdin().lock();
             let mut output = rt.stdout();
             let files = HostFiles { rt: &rt };
-            run::<Everything, MessageOpener, _, _, _, _>(
+            run::<Everything, Library, _, _, _, _>(
                 rt.alloc(),
                 arguments.as_slice(),
                 &files,

@@ -7,12 +7,14 @@
 pub mod build;
 pub mod ccache;
 pub mod constants;
+pub mod convert;
 pub mod crypto;
 pub mod data_types;
 pub mod der;
 pub mod fields;
 pub mod gss_api;
 pub mod keytab;
+pub mod list;
 pub mod messages;
 pub mod names;
 pub mod pac;

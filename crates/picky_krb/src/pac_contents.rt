@@ -2,7 +2,9 @@
 //! and whether they hold, and their text. The original has no such module.
 
 pub use krb_pac_buffers::{AttributesView, BufferError, ClientInfoView, UpnDnsView, requestor};
-pub use krb_pac_checksums::{Verdict, full_verdict, kdc_verdict, server_verdict, verify};
+pub use krb_pac_checksums::{
+    PacVerdicts, Verdict, full_verdict, kdc_verdict, server_verdict, verdicts, verify,
+};
 pub use krb_pac_logon::{
     ExtraSids, LogonError, LogonView, Membership, Memberships, SidAndAttributes, SidView,
     SubAuthorities,

@@ -1,0 +1,19 @@
+-- What options ask for behind the first of them.
+use Rattle.std.proofs.Common.{ap, arith, refl, ◌≡◌, suc, ◌≤◌, true, false, ℕ, List, [], ◌∷◌, map, length, Some}
+use Rattle.jolmurig.specs.Arguments.{is_help, is_valued, options_of, with_flag, with_value}
+use Rattle.jolmurig.specs.Shows.{Show}
+
+-- behind an option without a value, or a file
+pub behind_flag : (s next : Show) (w : List ℕ) (rest : List (List ℕ)) → is_help w ≡ false → is_valued w ≡ false → with_flag w s ≡ Some next
+    → options_of s (w ∷ rest) ≡ options_of next rest
+behind_flag s next w [] h v f = rw (h, v, f) refl
+behind_flag s next w (r ∷ rest) h v f = rw (h, v, f) refl
+
+-- behind an option and its value
+pub behind_value : {T : Type 0} (text : T → List ℕ) (s next : Show) (w : List ℕ) (rest behind : List T) (value : T) → rest ≡ value ∷ behind
+    → is_help w ≡ false → is_valued w ≡ true → with_value w (text value) s ≡ Some next → options_of s (w ∷ map text rest) ≡ options_of next (map text behind)
+behind_value text s next w rest behind value p h v f = rw (p, h, v, f) refl
+
+-- there are fewer of them
+pub fewer : {T : Type 0} (rest behind : List T) (value : T) → rest ≡ value ∷ behind → length behind ≤ length rest
+fewer rest behind value p = let n : length rest ≡ suc (length behind) = ap length p in omega (arith, n)

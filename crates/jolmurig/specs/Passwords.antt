@@ -1,0 +1,38 @@
+-- The passwords that the options name.
+use Rattle.std.specs.Prelude.{◌≡◌, ◌⊎◌, ℕ, ◌-◌, nat_eq, Bool, ◌||◌, if◌then◌else◌, List, [], ◌∷◌, ◌++◌, length, take, Option, Some, None}
+use Rattle.jolmurig.specs.declared.failure.Failure.{Failure}
+use Rattle.jolmurig.specs.declared.failure.Failure.TheVariants as failure
+
+-- a line feed (10) or a carriage return (13)
+abbrev pub is_line_end : ℕ → Bool
+is_line_end octet = nat_eq octet 10 || nat_eq octet 13
+
+-- the octets from the first of these on; and those before it
+abbrev pub from_line_end : List ℕ → List ℕ
+from_line_end [] = []
+from_line_end (octet ∷ octets) = if is_line_end octet then octet ∷ octets else from_line_end octets
+
+abbrev pub first_line : List ℕ → List ℕ
+first_line octets = take (length octets - length (from_line_end octets)) octets
+
+-- one more stands behind those that there were
+abbrev pub pushes : (List ℕ → Type 0) → List (List ℕ) → List (List ℕ) → Type 0
+pushes is old new = (one : List ℕ) × is one × (new ≡ old ++ one ∷ [])
+
+-- What files give, by their names: octets, or nothing where one cannot be read.
+module _ (gives : List ℕ → Option (List ℕ) → Type 0) where
+  -- the password that a file holds
+  abbrev pub password_gives : List ℕ → List ℕ → Type 0
+  password_gives name password = (octets : List ℕ) × gives name (Some octets) × (password ≡ first_line octets)
+
+  -- those of files, in their order
+  abbrev pub ArePasswords : List (List ℕ) → List (List ℕ) → Type 0
+  ArePasswords [] passwords = passwords ≡ []
+  ArePasswords (name ∷ names) passwords =
+      (one : List ℕ) × (more : List (List ℕ)) × password_gives name one × ArePasswords names more × (passwords ≡ one ∷ more)
+
+  -- the first file that cannot be read
+  abbrev pub HasNoPassword : List (List ℕ) → Failure → Type 0
+  HasNoPassword [] e = ⊥
+  HasNoPassword (name ∷ names) e =
+      ((e ≡ failure.PasswordFile) × gives name None) ⊎ ((octets : List ℕ) × gives name (Some octets) × HasNoPassword names e)

@@ -1,0 +1,95 @@
+//! What the program calls of the library.
+
+ghost use Rattle.std.specs.Prelude.{IfOk, IfErr, ℕ, List};
+ghost use Rattle.krb_convert.specs.Answers.{IsMemoryOr};
+ghost use Rattle.krb_convert.specs.declared.error.ConvertError.{ConvertError};
+ghost use Rattle.krb_convert.specs.declared.field.Field.{Field};
+ghost use Rattle.krb_show.specs.Tokens.{Token};
+ghost use Rattle.krb_show_opened.specs.Keys.{NamedKey};
+ghost use Rattle.krb_show_checksums.specs.Checked.{is_checked};
+ghost use Rattle.jolmurig.specs.Calls.{converted_to, listed_as, no_list, unconverted_to};
+ghost use Rattle.jolmurig.specs.declared.command.Format.{Format};
+ghost use Rattle.jolmurig.specs.declared.calls.Entries.{Entries};
+
+use crate::command::Format;
+use krb_convert::{ConvertError, Converted, ccache_of_kirbi, kirbi_of_ccache};
+use krb_der::DerEncode;
+use krb_list::{ListError, list_of_ccache, list_of_keytab};
+use krb_msg_app::messages::KrbCred;
+use krb_msg_parts::data_types::EncKrbCredPart;
+use krb_msg_types::data_types::Ticket;
+use krb_show::Page;
+use krb_show_checksums::{Checking, page_with_checked};
+use krb_show_insertions::Insert;
+use krb_show_opened::Key;
+use std::alloc::{AllocError, Global};
+
+/// What a file of entries is.
+#[derive(Clone, Copy, PartialEq, Eq, Debug)]
+pub enum Entries {
+    /// A keytab.
+    Keytab,
+    /// A credential cache.
+    Ccache,
+}
+
+/// What the program calls of the library.
+pub trait Calls {
+    /// What is opened: the keys, the page, and the page with what the keys open and what is known of checksums.
+    ghost opens: { List NamedKey → List Token → List Token → Type 0 };
+
+    /// What is listed: the octets of a file of entries, and the text.
+    ghost lists: { Entries → List ℕ → List ℕ → Type 0 };
+
+    /// What is converted to a format: the octets, those in that format, and what is left out.
+    ghost converts: { Format → List ℕ → List ℕ → List Field → Type 0 };
+
+    /// Why octets are not converted to a format.
+    ghost unconverted: { Format → List ℕ → ConvertError → Type 0 };
+
+    /// The page with what the keys open and what is known of checksums.
+    fn opened(alloc: Global, keys: Vec<Key>, page: Page) -> Result<Page, AllocError>
+        ensures { IfOk result (λ made. opens keys.items page.items made.items) };
+
+    /// The list of the entries that octets are.
+    fn listed(alloc: Global, entries: Entries, octets: &[u8]) -> Result<Vec<u8>, ListError>
+        ensures found { IfOk result (λ text. lists entries octets.now text.items) }
+        ensures rejected { IfErr result (no_list entries octets.now) };
+
+    /// Octets in a format.
+    fn converted(alloc: Global, to: Format, octets: &[u8]) -> Result<Converted, ConvertError>
+        ensures found { IfOk result (λ c. converts to octets.now c.octets.items c.left_out.items) }
+        ensures rejected { IfErr result (λ e. IsMemoryOr e (unconverted to octets.now e)) };
+}
+
+/// The calls of the library.
+#[derive(Drop)]
+pub struct Library;
+
+impl Calls for Library {
+    ghost opens = { is_checked ⟦<Checking as Insert>⟧.inserts };
+
+    ghost lists = { listed_as ⟦<Ticket as DerEncode>⟧ };
+
+    ghost converts = { converted_to ⟦<KrbCred as DerEncode>⟧ ⟦<EncKrbCredPart as DerEncode>⟧ ⟦<Ticket as DerEncode>⟧ };
+
+    ghost unconverted = { unconverted_to ⟦<KrbCred as DerEncode>⟧ ⟦<EncKrbCredPart as DerEncode>⟧ ⟦<Ticket as DerEncode>⟧ };
+
+    fn opened(alloc: Global, keys: Vec<Key>, page: Page) -> Result<Page, AllocError> {
+        page_with_checked(alloc, keys, page)
+    }
+
+    fn listed(alloc: Global, entries: Entries, octets: &[u8]) -> Result<Vec<u8>, ListError> {
+        match entries {
+            Entries::Keytab => list_of_keytab(alloc, octets),
+            Entries::Ccache => list_of_ccache(alloc, octets),
+        }
+    }
+
+    fn converted(alloc: Global, to: Format, octets: &[u8]) -> Result<Converted, ConvertError> {
+        match to {
+            Format::Kirbi => kirbi_of_ccache(alloc, octets),
+            Format::Ccache => ccache_of_kirbi(alloc, octets),
+        }
+    }
+}

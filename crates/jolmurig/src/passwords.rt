@@ -1,0 +1,88 @@
+//! The passwords that the options name.
+
+ghost use Rattle.std.specs.Prelude.{◌≡◌, ◌⊎◌, ◌++◌, ◌∷◌, [], map, IfOk, IfErr, OnOk};
+ghost use Rattle.jolmurig.specs.Passwords.{ArePasswords, HasNoPassword, first_line, from_line_end, is_line_end, password_gives, pushes};
+ghost use Rattle.jolmurig.specs.declared.failure.Failure.TheVariants as failure;
+
+use crate::command::FileName;
+use crate::failure::Failure;
+use crate::files::{Files, octets_of_file};
+use std::alloc::{AllocError, Global};
+
+/// Whether an octet is a line feed or a carriage return.
+fn is_line_end(octet: u8) -> bool
+    ensures { result ≡ is_line_end octet }
+{
+    octet == b'\n' || octet == b'\r'
+}
+
+/// The octets from the first line break on.
+fn from_line_end(octets: &[u8]) -> &[u8]
+    ensures { result.now ≡ from_line_end octets.now }
+{
+    let mut rest = octets;
+    while let Some((first, behind)) = rest.split_first() {
+        if is_line_end(*first) {
+            return rest;
+        }
+        rest = behind;
+    }
+    rest
+}
+
+/// The octets before the first line break.
+fn first_line(octets: &[u8]) -> &[u8]
+    ensures { result.now ≡ first_line octets.now }
+{
+    let end = octets.len().saturating_sub(from_line_end(octets).len());
+    &octets[..end]
+}
+
+/// The password that a file holds.
+fn password_of_file<F: Files>(alloc: Global, files: &F, name: &str) -> Result<Vec<u8>, Failure>
+    ensures found { IfOk result (λ password. password_gives (F.gives files.now) name.now password.items) }
+    ensures rejected { IfErr result (λ e. (e ≡ failure.Memory) ⊎ HasNoPassword (F.gives files.now) (name.now ∷ []) e) }
+{
+    let octets = octets_of_file(alloc, files, name, Failure::PasswordFile)?;
+    Ok(Vec::from_slice(alloc, first_line(&octets))?)
+}
+
+/// Appends a password.
+fn push(password: Vec<u8>, passwords: &mut Vec<Vec<u8>>) -> Result<(), AllocError>
+    ensures { OnOk result (map (λ p. p.items) passwords.new.items ≡ map (λ p. p.items) passwords.old.items ++ password.items ∷ []) }
+{
+    passwords.push(password)?;
+    Ok(())
+}
+
+/// Appends the password that a file holds.
+fn push_password<F: Files>(
+    alloc: Global,
+    files: &F,
+    name: &str,
+    passwords: &mut Vec<Vec<u8>>,
+) -> Result<(), Failure>
+    ensures found { OnOk result (pushes (password_gives (F.gives files.now) name.now)
+        (map (λ p. p.items) passwords.old.items) (map (λ p. p.items) passwords.new.items)) }
+    ensures rejected { IfErr result (λ e. (e ≡ failure.Memory) ⊎ HasNoPassword (F.gives files.now) (name.now ∷ []) e) }
+{
+    let password = password_of_file(alloc, files, name)?;
+    push(password, passwords)?;
+    Ok(())
+}
+
+/// The passwords that files hold, in their order.
+pub fn passwords_of_files<F: Files>(
+    alloc: Global,
+    files: &F,
+    names: &[FileName],
+) -> Result<Vec<Vec<u8>>, Failure>
+    ensures found { IfOk result (λ passwords. ArePasswords (F.gives files.now) names.now (map (λ p. p.items) passwords.items)) }
+    ensures rejected { IfErr result (λ e. (e ≡ failure.Memory) ⊎ HasNoPassword (F.gives files.now) names.now e) }
+{
+    let mut passwords = Vec::new(alloc);
+    'names: for name in names {
+        push_password(alloc, files, name.text, &mut passwords)?;
+    }
+    Ok(passwords)
+}
