@@ -12,7 +12,8 @@ pub fn is_blank(octet: u8) -> bool
     octet == b' ' || octet == b'\t' || octet == b'\n' || octet == b'\r'
 }
 
-/// The octets that are no blanks.
+/// The octets without the blanks among them: all that are no space, tabulator, line feed or carriage return, in their order. `AllocError` where an
+/// allocation failed, which is the only error.
 pub fn without_blanks(alloc: Global, octets: &[u8]) -> Result<Vec<u8>, AllocError>
     ensures { IfOk result (λ text. text.items ≡ without_blanks octets.now) }
 {

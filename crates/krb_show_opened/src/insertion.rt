@@ -106,8 +106,8 @@ pub(crate) fn insert_at_part<V: OpensParts>(
 }
 
 /// Inserts what stands before a token: the sealed part that the page ends with, where the token ends its struct, opened by the keys, or why none
-/// opens it. The keys in what is opened are appended to the keys. `AllocError` where an allocation failed; then tokens and keys may have been
-/// appended, and nothing else has changed.
+/// opens it. The keys in what is opened are appended to the keys. `AllocError` where an allocation failed; then the page and the keys are no longer of
+/// use, since a part of what was to be appended may stand in them.
 pub fn insert_before<V: OpensParts>(
     alloc: Global,
     parts: &V,
