@@ -3,8 +3,10 @@ use Rattle.std.specs.Prelude.{◌≡◌, ◌≢◌, ℕ, pos, List, length, Opti
 use Rattle.krb_crypto_suite.specs.BySuite.{checksum_key_octets_of, sum_of}
 use Rattle.krb_crypto_suite.specs.Suites.{checksum_type, NoSuite}
 use Rattle.krb_crypto_suite.specs.declared.checksum_suite.ChecksumSuite.{ChecksumSuite}
+use Rattle.std.specs.Option.{option_map, IsSomeAnd}
 use Rattle.krb_pac_signatures.specs.Signature.{signature_type, signature}
-use Rattle.krb_pac_signatures.specs.Signatures.{Placed, Signatures, full_message}
+use Rattle.krb_pac_signatures.specs.Signatures.{Placed, Signatures}
+use Rattle.krb_pac_checksums.specs.declared.pac.PacVerdicts.{PacVerdicts}
 use Rattle.krb_pac_checksums.specs.declared.verdict.Verdict.{Verdict}
 use Rattle.krb_pac_checksums.specs.declared.verdict.Verdict.TheVariants as verdict
 
@@ -33,9 +35,22 @@ abbrev pub IsKdcVerdict : Option Placed → Option Placed → List ℕ → Verdi
 IsKdcVerdict kdc None key v = v ≡ verdict.Absent
 IsKdcVerdict kdc (Some p) key v = IsVerdictOf kdc key (signature p.octets) v
 
--- what is said of the KDC's two checksums (MS-PAC 2.8.2 and 2.8.4) under its key, and nothing without a key
-abbrev pub AreKdcVerdicts : Signatures → Option (List ℕ) → Option Verdict → Option Verdict → Type 0
-AreKdcVerdicts s None kdc full = (kdc ≡ None) × (full ≡ None)
-AreKdcVerdicts s (Some key) None full = ⊥
-AreKdcVerdicts s (Some key) (Some kdc) None = ⊥
-AreKdcVerdicts s (Some key) (Some kdc) (Some full) = IsKdcVerdict s.kdc s.server key kdc × IsVerdictOf s.full key (full_message s) full
+-- what is said where a key is given, and nothing without one
+abbrev pub IsSaidUnder : Option (List ℕ) → (List ℕ → Verdict → Type 0) → Option Verdict → Type 0
+IsSaidUnder None says v = v ≡ None
+IsSaidUnder (Some key) says v = IsSomeAnd v (says key)
+
+-- what is said where a key and a message are given, and nothing else
+abbrev pub IsSaidOver : Option (List ℕ) → Option (List ℕ) → (List ℕ → List ℕ → Verdict → Type 0) → Option Verdict → Type 0
+IsSaidOver None message says v = v ≡ None
+IsSaidOver (Some key) None says v = v ≡ None
+IsSaidOver (Some key) (Some message) says v = IsSomeAnd v (says key message)
+
+-- the type of a checksum that may not be there
+abbrev pub type_in : Option Placed → Option ℕ
+type_in o = option_map signature_type (option_map (λ (p : Placed). p.octets) o)
+
+-- which checksums are there, and of which type
+abbrev pub HaveTypes : Signatures → PacVerdicts → Type 0
+HaveTypes s v = (v.server.signature_type ≡ type_in s.server) × (v.kdc.signature_type ≡ type_in s.kdc)
+    × (v.ticket.signature_type ≡ type_in s.ticket) × (v.full.signature_type ≡ type_in s.full)

@@ -4,5 +4,7 @@
 mod pac;
 mod verdict;
 
-pub use pac::{PacVerdicts, full_verdict, kdc_verdict, server_verdict, verdicts};
+pub use pac::{
+    PacChecksum, PacVerdicts, full_verdict, kdc_verdict, server_verdict, ticket_verdict, verdicts,
+};
 pub use verdict::{Verdict, verify};

@@ -112,8 +112,18 @@ impl<'a> PacSignatures<'a> {
         ensures { IfOk result (λ m. m.items ≡ full_message self.now) }
     {
         let mut message = self.server_message(alloc)?;
-        clear(&mut message, &self.full);
+        self.clear_full(&mut message);
         Ok(message)
+    }
+
+    /// Zeroes the octets of the signature over the whole PAC, where it is there, in octets that are as many as the PAC's. What the server's
+    /// checksum is over becomes what this one is over, with no second copy.
+    pub fn clear_full(&self, octets: &mut [u8])
+        requires { length octets.old ≡ length self.now.octets }
+        ensures cleared { octets.new ≡ cleared self.now.full octets.old }
+        ensures len { length octets.new ≡ length octets.old }
+    {
+        clear(octets, &self.full);
     }
 }
 

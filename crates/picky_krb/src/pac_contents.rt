@@ -3,7 +3,8 @@
 
 pub use krb_pac_buffers::{AttributesView, BufferError, ClientInfoView, UpnDnsView, requestor};
 pub use krb_pac_checksums::{
-    PacVerdicts, Verdict, full_verdict, kdc_verdict, server_verdict, verdicts, verify,
+    PacChecksum, PacVerdicts, Verdict, full_verdict, kdc_verdict, server_verdict, ticket_verdict,
+    verdicts, verify,
 };
 pub use krb_pac_logon::{
     ExtraSids, LogonError, LogonView, Membership, Memberships, SidAndAttributes, SidView,

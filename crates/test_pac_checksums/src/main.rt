@@ -1,12 +1,15 @@
 //! The program `test_pac_checksums`: verifies the checksums of real PACs, and of each of these with one bit flipped.
 //!
-//! Its standard input is a table. A row is a line of an origin, a key and a PAC in hexadecimal digits, with tabs between; a line that begins
-//! with `#` is a comment. For each row the program prints the origin, what is known of the checksums of the server, of the KDC and of the
-//! whole PAC under this key, whether one call answers the same, and of how many PACs that differ from this one in one bit the server's
+//! Its standard input is a table. A row is a line of an origin, and a key, a PAC and what its ticket's checksum is to be over, in hexadecimal
+//! digits, with tabs between; a line that begins with `#` is a comment. For each row the program prints the origin, what is known of the
+//! checksums of the server, of the KDC and of the whole PAC under this key, whether one call answers the same; the types of the four checksums,
+//! and what is known of the ticket's over these octets and over others; and of how many PACs that differ from this one in one bit the server's
 //! checksum holds, and all that are there.
 #![tactic(auto)]
 
-use krb_pac_checksums::{Verdict, full_verdict, kdc_verdict, server_verdict, verdicts};
+use krb_pac_checksums::{
+    Verdict, full_verdict, kdc_verdict, server_verdict, ticket_verdict, verdicts,
+};
 use krb_pac_signatures::PacSignatures;
 use std::alloc::{AllocError, Global};
 use std::io;
@@ -41,15 +44,34 @@ fn answers_in_one(
     let Ok(signatures) = PacSignatures::new(octets) else {
         return Ok(false);
     };
-    let both = verdicts(alloc, &signatures, key, Some(key))?;
-    let alone = verdicts(alloc, &signatures, key, None)?;
+    let both = verdicts(alloc, &signatures, key, Some(key), None)?;
+    let alone = verdicts(alloc, &signatures, key, None, Some(octets))?;
     Ok(
-        both.server == found.server
-            && both.kdc == Some(found.kdc)
-            && both.full == Some(found.full)
-            && alone.server == found.server
-            && alone.kdc.is_none()
-            && alone.full.is_none(),
+        both.server.verdict == Some(found.server)
+            && both.kdc.verdict == Some(found.kdc)
+            && both.full.verdict == Some(found.full)
+            && both.ticket.verdict.is_none()
+            && alone.server == both.server
+            && alone.kdc.verdict.is_none()
+            && alone.full.verdict.is_none()
+            && alone.ticket.verdict.is_none(),
+    )
+}
+
+/// The line of what one call knows of the types of the checksums, and of the ticket's over a message.
+fn types(alloc: Global, key: &[u8], octets: &[u8], message: &[u8]) -> Result<String, AllocError> {
+    let Ok(signatures) = PacSignatures::new(octets) else {
+        return String::from_str(alloc, "no signatures\n");
+    };
+    let found = verdicts(alloc, &signatures, key, Some(key), Some(message))?;
+    format!(in alloc;
+        "types: server {:?}, KDC {:?}, ticket {:?}, full {:?}; over the message the ticket's {:?}, over another {:?}\n",
+        found.server.signature_type,
+        found.kdc.signature_type,
+        found.ticket.signature_type,
+        found.full.signature_type,
+        found.ticket.verdict,
+        ticket_verdict(&signatures, key, key)
     )
 }
 
@@ -95,13 +117,14 @@ fn flipped(alloc: Global, key: &[u8], octets: &[u8]) -> Result<String, AllocErro
 }
 
 /// What is printed of a PAC.
-fn answer(alloc: Global, key: &[u8], octets: &[u8]) -> Result<String, AllocError> {
+fn answer(alloc: Global, key: &[u8], octets: &[u8], message: &[u8]) -> Result<String, AllocError> {
     match verify_all(alloc, key, octets)? {
         Some(found) => {
             let line = flipped(alloc, key, octets)?;
             let same = answers_in_one(alloc, key, octets, &found)?;
+            let types = types(alloc, key, octets, message)?;
             format!(in alloc;
-                "server {:?}, KDC {:?}, full {:?}, in one call the same: {same}\n{line}",
+                "server {:?}, KDC {:?}, full {:?}, in one call the same: {same}\n{types}{line}",
                 found.server, found.kdc, found.full
             )
         }
@@ -112,13 +135,21 @@ fn answer(alloc: Global, key: &[u8], octets: &[u8]) -> Result<String, AllocError
 /// What is printed of a row.
 fn row(alloc: Global, line: &str) -> io::Result<String> {
     let mut columns = line.split('\t');
-    let (Some(origin), Some(key), Some(digits)) = (columns.next(), columns.next(), columns.next())
-    else {
+    let (Some(origin), Some(key), Some(digits), Some(message)) = (
+        columns.next(),
+        columns.next(),
+        columns.next(),
+        columns.next(),
+    ) else {
         return Ok(String::from_str(alloc, "no row\n")?);
     };
-    match (hex::decode(alloc, key), hex::decode(alloc, digits)) {
-        (Ok(key), Ok(octets)) => {
-            let text = answer(alloc, &key, &octets)?;
+    match (
+        hex::decode(alloc, key),
+        hex::decode(alloc, digits),
+        hex::decode(alloc, message),
+    ) {
+        (Ok(key), Ok(octets), Ok(message)) => {
+            let text = answer(alloc, &key, &octets, &message)?;
             Ok(format!(in alloc; "{origin}\n{text}")?)
         }
         _ => Ok(String::from_str(alloc, "no digits\n")?),
