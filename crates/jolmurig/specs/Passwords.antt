@@ -1,5 +1,6 @@
 -- The passwords that the options name.
-use Rattle.std.specs.Prelude.{◌≡◌, ◌⊎◌, ℕ, ◌-◌, nat_eq, Bool, ◌||◌, if◌then◌else◌, List, [], ◌∷◌, ◌++◌, length, take, Option, Some, None}
+use Rattle.std.specs.List.{position_or_len}
+use Rattle.std.specs.Prelude.{◌≡◌, ◌⊎◌, ℕ, nat_eq, Bool, ◌||◌, List, [], ◌∷◌, ◌++◌, take, Option, Some, None}
 use Rattle.jolmurig.specs.declared.failure.Failure.{Failure}
 use Rattle.jolmurig.specs.declared.failure.Failure.TheVariants as failure
 
@@ -7,13 +8,9 @@ use Rattle.jolmurig.specs.declared.failure.Failure.TheVariants as failure
 abbrev pub is_line_end : ℕ → Bool
 is_line_end octet = nat_eq octet 10 || nat_eq octet 13
 
--- the octets from the first of these on; and those before it
-abbrev pub from_line_end : List ℕ → List ℕ
-from_line_end [] = []
-from_line_end (octet ∷ octets) = if is_line_end octet then octet ∷ octets else from_line_end octets
-
+-- the octets before the first of these
 abbrev pub first_line : List ℕ → List ℕ
-first_line octets = take (length octets - length (from_line_end octets)) octets
+first_line octets = take (position_or_len is_line_end octets) octets
 
 -- one more stands behind those that there were
 abbrev pub pushes : (List ℕ → Type 0) → List (List ℕ) → List (List ℕ) → Type 0

@@ -1,6 +1,8 @@
 //! Why a run is rejected.
 
-ghost use Rattle.std.specs.Prelude.{◌≡◌, ◌++◌, IfOk, OnOk};
+ghost use Rattle.std.specs.IoError.{error_kind};
+ghost use Rattle.std.specs.Prelude.{◌≡◌, ◌≢◌, ◌++◌, IfOk, OnOk};
+ghost use Rattle.std.specs.declared.io.ErrorKind.TheVariants as kinds;
 ghost use Rattle.jolmurig.specs.declared.failure.Failure.TheVariants as failures;
 ghost use Rattle.jolmurig.specs.Failures.{line_of, of_input, place, place_text, placed, reason, rule_of, status_of_failure, subject};
 
@@ -216,7 +218,10 @@ impl From<InputError> for Failure {
 }
 
 /// The error of arguments that could not be had: an allocation failure, or an argument that is no text and so of no command.
-pub fn arguments_failure(error: io::Error) -> Failure {
+pub fn arguments_failure(error: io::Error) -> Failure
+    ensures memory { error_kind error ≡ kinds.OutOfMemory → result ≡ failures.Memory }
+    ensures other { error_kind error ≢ kinds.OutOfMemory → result ≡ failures.Arguments }
+{
     if error.kind() == io::ErrorKind::OutOfMemory {
         Failure::Memory
     } else {

@@ -1,6 +1,8 @@
 //! Files by their names.
 
-ghost use Rattle.std.specs.Prelude.{◌≡◌, ◌⊎◌, ℕ, List, Option, None, Some, IfOk, IfErr};
+ghost use Rattle.std.specs.IoError.{error_kind};
+ghost use Rattle.std.specs.Prelude.{◌≡◌, ◌≢◌, ◌⊎◌, ℕ, List, Option, None, Some, IfOk, IfErr};
+ghost use Rattle.std.specs.declared.io.ErrorKind.TheVariants as kinds;
 ghost use Rattle.jolmurig.specs.declared.failure.Failure.TheVariants as failure;
 ghost use Rattle.jolmurig.specs.declared.files.FileError.TheVariants as errors;
 
@@ -46,7 +48,10 @@ pub fn octets_of_file<F: Files>(
 }
 
 /// The error of a file that an error of I/O is.
-pub fn file_error(error: &io::Error) -> FileError {
+pub fn file_error(error: &io::Error) -> FileError
+    ensures memory { error_kind error.now ≡ kinds.OutOfMemory → result ≡ errors.OutOfMemory }
+    ensures other { error_kind error.now ≢ kinds.OutOfMemory → result ≡ errors.Unreadable }
+{
     if error.kind() == io::ErrorKind::OutOfMemory {
         FileError::OutOfMemory
     } else {

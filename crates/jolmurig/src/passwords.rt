@@ -1,7 +1,8 @@
 //! The passwords that the options name.
 
-ghost use Rattle.std.specs.Prelude.{◌≡◌, ◌⊎◌, ◌++◌, ◌∷◌, [], map, IfOk, IfErr, OnOk};
-ghost use Rattle.jolmurig.specs.Passwords.{ArePasswords, HasNoPassword, first_line, from_line_end, is_line_end, password_gives, pushes};
+ghost use Rattle.std.specs.List.{position_or_len};
+ghost use Rattle.std.specs.Prelude.{◌≡◌, ◌≤◌, ◌⊎◌, ◌++◌, ◌∷◌, [], length, map, IfOk, IfErr, OnOk};
+ghost use Rattle.jolmurig.specs.Passwords.{ArePasswords, HasNoPassword, first_line, is_line_end, password_gives, pushes};
 ghost use Rattle.jolmurig.specs.declared.failure.Failure.TheVariants as failure;
 
 use crate::command::FileName;
@@ -16,26 +17,24 @@ fn is_line_end(octet: u8) -> bool
     octet == b'\n' || octet == b'\r'
 }
 
-/// The octets from the first line break on.
-fn from_line_end(octets: &[u8]) -> &[u8]
-    ensures { result.now ≡ from_line_end octets.now }
+/// How many octets stand before the first line break: all, where there is none.
+fn line_length(octets: &[u8]) -> usize
+    ensures length { result ≡ position_or_len is_line_end octets.now }
+    ensures within { result ≤ length octets.now }
 {
-    let mut rest = octets;
-    while let Some((first, behind)) = rest.split_first() {
-        if is_line_end(*first) {
-            return rest;
+    for (index, octet) in octets.iter().enumerate() {
+        if is_line_end(*octet) {
+            return index;
         }
-        rest = behind;
     }
-    rest
+    octets.len()
 }
 
 /// The octets before the first line break.
 fn first_line(octets: &[u8]) -> &[u8]
     ensures { result.now ≡ first_line octets.now }
 {
-    let end = octets.len().saturating_sub(from_line_end(octets).len());
-    &octets[..end]
+    &octets[..line_length(octets)]
 }
 
 /// The password that a file holds.
