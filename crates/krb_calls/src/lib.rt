@@ -1,0 +1,8 @@
+//! The library's calls as C makes them: numbers and octets in; a status out, and octets in the caller's memory.
+#![tactic(auto)]
+
+pub mod handing;
+mod refusal;
+pub mod suites;
+
+pub use refusal::Refusal;
