@@ -1,3 +1,4 @@
 pub mod Statuses
 pub mod Handing
 pub mod Numbers
+pub mod Calls
