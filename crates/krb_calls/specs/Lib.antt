@@ -2,3 +2,5 @@ pub mod Statuses
 pub mod Handing
 pub mod Numbers
 pub mod Calls
+pub mod Checksums
+pub mod Keys

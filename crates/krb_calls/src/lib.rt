@@ -1,10 +1,14 @@
 //! The library's calls as C makes them: numbers and octets in; a status out, and octets in the caller's memory.
 #![tactic(auto)]
 
-mod cipher;
+mod checksums;
 pub mod handing;
+mod keys;
+mod messages;
 mod refusal;
 pub mod suites;
 
-pub use cipher::{decrypt, decrypted, encrypt, encrypted};
+pub use checksums::{checksum, summed, verify_checksum};
+pub use keys::{n_fold, random_to_key, string_to_key};
+pub use messages::{decrypt, decrypted, encrypt, encrypted};
 pub use refusal::Refusal;

@@ -1,7 +1,7 @@
 use Rattle.std.proofs.Common.{◌≡◌, length, subst, ℤ, List, ℕ}
 use Rattle.std.proofs.lemmas.Int.{to_z-of_z}
 use Rattle.krb_calls.proofs.Answered.{refused_prepared}
-use Rattle.krb_calls.proofs.cipher.decrypted_by.Goals as goal
+use Rattle.krb_calls.proofs.messages.decrypted_by.Goals as goal
 
 pub returns-in-Err-decrypt : goal.returns-in-Err-decrypt
 returns-in-Err-decrypt c =

@@ -1,6 +1,6 @@
 use Rattle.std.proofs.lemmas.Int.{to_z-of_z}
 use Rattle.krb_calls.proofs.Answered.{decrypted_by_number}
-use Rattle.krb_calls.proofs.cipher.decrypted.Goals as goal
+use Rattle.krb_calls.proofs.messages.decrypted.Goals as goal
 
 pub returns : goal.returns
 returns c =

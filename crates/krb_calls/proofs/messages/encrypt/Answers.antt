@@ -1,7 +1,7 @@
 use Rattle.std.proofs.lemmas.Int.{to_z-of_z}
 use Rattle.krb_calls.specs.Calls.{IsEncryption, RefusesEncryption}
 use Rattle.krb_calls.proofs.Answered.{answered}
-use Rattle.krb_calls.proofs.cipher.encrypt.Goals as goal
+use Rattle.krb_calls.proofs.messages.encrypt.Goals as goal
 
 pub returns : goal.returns
 returns c =
