@@ -4,3 +4,4 @@ pub mod Numbers
 pub mod Calls
 pub mod Checksums
 pub mod Keys
+pub mod Sizes

@@ -58,11 +58,7 @@ pub fn string_to_key(
     hand_out(&key_of_password(alloc, etype, password, salt), out, size)
 }
 
-fn key_of_seed_by(
-    alloc: Global,
-    suite: &CipherSuite,
-    seed: &[u8],
-) -> Result<Vec<u8>, Refusal>
+fn key_of_seed_by(alloc: Global, suite: &CipherSuite, seed: &[u8]) -> Result<Vec<u8>, Refusal>
     ensures { MatchResult result
         (λ made. IsKeyOfSeedBy suite.now seed.now made.items)
         (λ e. RefusesSeedBy suite.now seed.now (refusal_status e)) }

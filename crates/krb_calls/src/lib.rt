@@ -6,9 +6,13 @@ pub mod handing;
 mod keys;
 mod messages;
 mod refusal;
+mod sizes;
 pub mod suites;
 
 pub use checksums::{checksum, summed, verify_checksum};
 pub use keys::{n_fold, random_to_key, string_to_key};
 pub use messages::{decrypt, decrypted, encrypt, encrypted};
 pub use refusal::Refusal;
+pub use sizes::{
+    checksum_key_size, checksum_size, confounder_size, encrypted_size, key_size, seed_size,
+};

@@ -1,0 +1,5 @@
+//! The library for C. Each export is a call of the crates below, and states its clause again; `krb.h` declares them.
+#![tactic(auto)]
+
+mod crypto;
+mod sizes;
