@@ -1,4 +1,3 @@
-use Rattle.std.proofs.Common.{◌≡◌, length, subst, ℤ, List, ℕ}
 use Rattle.std.proofs.lemmas.Int.{to_z-of_z}
 use Rattle.krb_calls.proofs.Answered.{refused_prepared}
 use Rattle.krb_calls.proofs.messages.decrypted_by.Goals as goal
