@@ -2,4 +2,5 @@
 #![tactic(auto)]
 
 mod crypto;
+mod parts;
 mod sizes;
