@@ -1,0 +1,70 @@
+/* Sixteen threads make all calls at once, each with its own octets; each answer is the one that the thread got alone before. */
+#include "calls.h"
+#include <pthread.h>
+#include <stdio.h>
+#include <stdlib.h>
+#include <string.h>
+
+enum { THREADS = 16, TURNS = 150, PAYLOAD = 1500 };
+
+struct task {
+    const struct suite *suite;
+    uint8_t key[32], confounder[16], payload[PAYLOAD], sealed[PAYLOAD + 64], sum[24], made[32];
+    size_t length, sealed_size, sum_size, made_size;
+    long wrong;
+};
+static struct task tasks[THREADS];
+static pthread_barrier_t all;
+
+static int is_same(const struct task *it, int first) {
+    const struct suite *suite = it->suite;
+    uint8_t sealed[PAYLOAD + 64], opened[PAYLOAD + 64], sum[24], made[32];
+    size_t size, opened_size, sum_size, made_size;
+    int well = krb_encrypt(suite->etype, it->key, suite->key, 7, it->confounder, suite->confounder, it->payload, it->length, sealed, sizeof sealed, &size) == KRB_DONE;
+    well = well && krb_decrypt(suite->etype, it->key, suite->key, 7, sealed, size, opened, sizeof opened, &opened_size) == KRB_DONE;
+    well = well && opened_size >= it->length && !memcmp(opened, it->payload, it->length);
+    well = well && krb_checksum(suite->cksumtype, it->key, suite->key, 7, it->payload, it->length, sum, sizeof sum, &sum_size) == KRB_DONE;
+    well = well && krb_verify_checksum(suite->cksumtype, it->key, suite->key, 7, it->payload, it->length, sum, sum_size) == KRB_DONE;
+    well = well && krb_verify_checksum(suite->cksumtype, it->key, suite->key, 8, it->payload, it->length, sum, sum_size) == KRB_INTEGRITY;
+    well = well && krb_random_to_key(suite->etype, it->payload, suite->seed, made, sizeof made, &made_size) == KRB_DONE;
+    sealed[size - 1] ^= 1;
+    well = well && krb_decrypt(suite->etype, it->key, suite->key, 7, sealed, size, opened, sizeof opened, &opened_size) == KRB_INTEGRITY;
+    sealed[size - 1] ^= 1;
+    if (first && well) {
+        struct task *kept = (struct task *)it;
+        memcpy(kept->sealed, sealed, size);
+        memcpy(kept->sum, sum, sum_size);
+        memcpy(kept->made, made, made_size);
+        kept->sealed_size = size, kept->sum_size = sum_size, kept->made_size = made_size;
+    }
+    return well && size == it->sealed_size && sum_size == it->sum_size && made_size == it->made_size && !memcmp(sealed, it->sealed, size) &&
+           !memcmp(sum, it->sum, sum_size) && !memcmp(made, it->made, made_size);
+}
+
+static void *work(void *argument) {
+    struct task *it = argument;
+    pthread_barrier_wait(&all);
+    for (int turn = 0; turn < TURNS; turn++) it->wrong += !is_same(it, 0);
+    return NULL;
+}
+
+int main(void) {
+    pthread_t threads[THREADS];
+    pthread_barrier_init(&all, NULL, THREADS);
+    for (int k = 0; k < THREADS; k++) {
+        struct task *it = &tasks[k];
+        it->suite = &suites[k % SUITES];
+        it->length = 40 + (size_t)drawn(PAYLOAD - 40);
+        draw(it->key, sizeof it->key);
+        draw(it->confounder, sizeof it->confounder);
+        draw(it->payload, sizeof it->payload);
+        EXPECT(is_same(it, 1), "thread %d, before the others", k);
+    }
+    for (int k = 0; k < THREADS; k++)
+        if (pthread_create(&threads[k], NULL, work, &tasks[k])) die("no thread");
+    for (int k = 0; k < THREADS; k++) {
+        pthread_join(threads[k], NULL);
+        EXPECT(tasks[k].wrong == 0, "thread %d: %ld of %d turns are wrong", k, tasks[k].wrong, TURNS);
+    }
+    return counted();
+}
