@@ -14,6 +14,7 @@ static uint8_t plain[LARGEST], ours[LARGEST + 99], theirs[LARGEST + 99], back[LA
 
 /* Exported by libkrb5 and declared by no header of it. */
 krb5_error_code decode_krb5_enc_tkt_part(const krb5_data *octets, krb5_enc_tkt_part **part);
+void krb5_free_enc_tkt_part(krb5_context context, krb5_enc_tkt_part *part);
 krb5_error_code decode_krb5_ticket(const krb5_data *octets, krb5_ticket **ticket);
 
 static krb5_data data_of(const uint8_t *at, size_t count) {

@@ -10,6 +10,7 @@
 enum { LARGEST = 65536, WINDOWS = 40 };
 
 krb5_error_code decode_krb5_enc_tkt_part(const krb5_data *octets, krb5_enc_tkt_part **part);
+void krb5_free_enc_tkt_part(krb5_context context, krb5_enc_tkt_part *part);
 
 static krb5_context context;
 static uint8_t plain[LARGEST], ours[LARGEST + 99], theirs[LARGEST + 99], back[LARGEST + 99];
