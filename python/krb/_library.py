@@ -1,0 +1,134 @@
+"""The shared object's calls, and what they answer."""
+
+import ctypes
+import enum
+import os
+import pathlib
+from typing import Any, List, Union
+
+Octets = Union[bytes, bytearray, memoryview]
+
+
+class Status(enum.IntEnum):
+    """The statuses of krb.h. `DONE` is of no refusal."""
+
+    DONE = 0
+    ROOM = 1
+    MEMORY = 2
+    NUMBER = 3
+    CONFOUNDER_SIZE = 4
+    KEY_SIZE = 5
+    SEALED_SIZE = 6
+    INTEGRITY = 7
+    PADDING = 8
+    INVALID = 9
+    TRUNCATED = 10
+    UNSUPPORTED = 11
+    NEVER = 12
+    SEED_SIZE = 13
+    EMPTY = 14
+
+
+TEXTS = {
+    Status.ROOM: "too little room for the answer",
+    Status.MEMORY: "out of memory",
+    Status.NUMBER: "an unknown number",
+    Status.CONFOUNDER_SIZE: "a confounder of another size",
+    Status.KEY_SIZE: "a key of another size",
+    Status.SEALED_SIZE: "too few sealed octets",
+    Status.INTEGRITY: "a wrong checksum",
+    Status.PADDING: "no whole blocks",
+    Status.INVALID: "no encoding of the type",
+    Status.TRUNCATED: "octets that end too early",
+    Status.UNSUPPORTED: "a length that is not supported",
+    Status.NEVER: "an error that no call meets",
+    Status.SEED_SIZE: "a seed of another size",
+    Status.EMPTY: "no octets to fold",
+}
+
+
+class Refused(ValueError):
+    """A call refused; `status` says why."""
+
+    status: Status
+
+    def __init__(self, status: int) -> None:
+        self.status = Status(status)
+        super().__init__("%s: %s" % (self.status.name, TEXTS[self.status]))
+
+    def __reduce__(self) -> Any:
+        return Refused, (int(self.status),)
+
+
+NUMBER, SIZE, IN = "number", "size", "in"
+_TYPES = {NUMBER: [ctypes.c_int32], SIZE: [ctypes.c_size_t], IN: [ctypes.c_char_p, ctypes.c_size_t]}
+_OUT = [ctypes.c_void_p, ctypes.c_size_t, ctypes.POINTER(ctypes.c_size_t)]
+
+
+def _load() -> ctypes.CDLL:
+    return ctypes.CDLL(os.environ.get("KRBC_LIBRARY") or str(pathlib.Path(__file__).with_name("libkrbc.so.0")))
+
+
+_library = _load()
+
+
+def _number(value: int) -> int:
+    """A number of 32 bits. ctypes would cut one that has more."""
+    if not -(2**31) <= value < 2**31:
+        raise Refused(Status.NUMBER)
+    return value
+
+
+def _given(kinds: List[str], arguments: Any) -> List[Any]:
+    given: List[Any] = []
+    for kind, argument in zip(kinds, arguments):
+        if kind == IN:
+            octets = argument if isinstance(argument, bytes) else bytes(memoryview(argument).cast("B"))
+            given += [octets, len(octets)]
+        elif kind == NUMBER:
+            given.append(_number(argument))
+        else:
+            given.append(argument)
+    return given
+
+
+class Call:
+    """A call of the library, by the kinds of its arguments before what it answers."""
+
+    def __init__(self, name: str, *kinds: str, answers: Any = ctypes.c_uint32, has_room: bool = False) -> None:
+        self._kinds = list(kinds)
+        self._call = getattr(_library, name)
+        self._call.argtypes = [kind for each in kinds for kind in _TYPES[each]] + (_OUT if has_room else [])
+        self._call.restype = answers
+
+    def size(self, *arguments: int) -> int:
+        """The size that the call answers. A number of more than 32 bits is that of no type."""
+        try:
+            return int(self._call(*_given(self._kinds, arguments)))
+        except Refused:
+            return 0
+
+    def status(self, *arguments: Any) -> Status:
+        """The status of a call that answers no octets."""
+        try:
+            return Status(self._call(*_given(self._kinds, arguments)))
+        except Refused as refused:
+            return refused.status
+
+    def octets(self, room: int, *arguments: Any) -> bytes:
+        """The octets that the call answers, which have at most so many; where they had more, it is made again with as many."""
+        given = _given(self._kinds, arguments)
+        size = ctypes.c_size_t()
+        while True:
+            out = ctypes.create_string_buffer(max(room, 1))
+            status = self._call(*given, out, room, ctypes.byref(size))
+            if status == Status.DONE:
+                return out.raw[: size.value]
+            if status != Status.ROOM or size.value <= room:
+                raise Refused(status)
+            room = size.value
+
+
+fold = _library.krb_n_fold
+fold.argtypes = [ctypes.c_char_p, ctypes.c_size_t, ctypes.c_void_p, ctypes.c_size_t]
+fold.restype = ctypes.c_uint32

@@ -1,0 +1,131 @@
+"""Encryption, checksums and keys of Kerberos (RFC 3961, RFC 3962, RFC 8009).
+
+Encryption types: 16 des3-cbc-hmac-sha1-kd (withdrawn by RFC 8429), 17 and 18 aes128- and aes256-cts-hmac-sha1-96, 19 aes128-cts-hmac-sha256-128,
+20 aes256-cts-hmac-sha384-192. Their checksum types: 12, 15, 16, 19, 20. A usage is a key usage (RFC 4120, 7.5.1), any number of 32 bits."""
+
+import ctypes
+import os
+from typing import Optional
+
+from krb._library import IN, NUMBER, SIZE, Call, Octets, Refused, Status, fold
+
+__all__ = [
+    "key_size",
+    "seed_size",
+    "confounder_size",
+    "encrypted_size",
+    "checksum_size",
+    "checksum_key_size",
+    "encrypt",
+    "decrypt",
+    "string_to_key",
+    "random_to_key",
+    "checksum",
+    "verify_checksum",
+    "n_fold",
+]
+
+_key_size = Call("krb_key_size", NUMBER, answers=ctypes.c_size_t)
+_seed_size = Call("krb_seed_size", NUMBER, answers=ctypes.c_size_t)
+_confounder_size = Call("krb_confounder_size", NUMBER, answers=ctypes.c_size_t)
+_encrypted_size = Call("krb_encrypted_size", NUMBER, SIZE, answers=ctypes.c_size_t)
+_checksum_size = Call("krb_checksum_size", NUMBER, answers=ctypes.c_size_t)
+_checksum_key_size = Call("krb_checksum_key_size", NUMBER, answers=ctypes.c_size_t)
+_encrypt = Call("krb_encrypt", NUMBER, IN, NUMBER, IN, IN, has_room=True)
+_decrypt = Call("krb_decrypt", NUMBER, IN, NUMBER, IN, has_room=True)
+_string_to_key = Call("krb_string_to_key", NUMBER, IN, IN, has_room=True)
+_random_to_key = Call("krb_random_to_key", NUMBER, IN, has_room=True)
+_checksum = Call("krb_checksum", NUMBER, IN, NUMBER, IN, has_room=True)
+_verify_checksum = Call("krb_verify_checksum", NUMBER, IN, NUMBER, IN, IN)
+
+
+def key_size(etype: int) -> int:
+    """The octets of a key; 0 where no type has the number."""
+    return _key_size.size(etype)
+
+
+def seed_size(etype: int) -> int:
+    """The octets of a seed of `random_to_key`; 0 where no type has the number."""
+    return _seed_size.size(etype)
+
+
+def confounder_size(etype: int) -> int:
+    """The octets of a confounder; 0 where no type has the number."""
+    return _confounder_size.size(etype)
+
+
+def encrypted_size(etype: int, payload_size: int) -> int:
+    """The octets that `encrypt` makes of so many; 0 where no type has the number, or where they are 2**64 and more."""
+    if payload_size < 0:
+        raise ValueError("a negative size")
+    return _encrypted_size.size(etype, payload_size) if payload_size < 2**64 else 0
+
+
+def checksum_size(cksumtype: int) -> int:
+    """The octets of a checksum; 0 where no type has the number."""
+    return _checksum_size.size(cksumtype)
+
+
+def checksum_key_size(cksumtype: int) -> int:
+    """The octets of a checksum's key; 0 where no type has the number."""
+    return _checksum_key_size.size(cksumtype)
+
+
+def encrypt(etype: int, key: Octets, usage: int, payload: Octets, confounder: Optional[Octets] = None) -> bytes:
+    """The payload, encrypted, with its checksum. Without a confounder one is drawn by os.urandom; give one for tests alone.
+
+    Refused: NUMBER, CONFOUNDER_SIZE, KEY_SIZE, MEMORY."""
+    if confounder is None:
+        confounder = os.urandom(confounder_size(etype))
+    return _encrypt.octets(encrypted_size(etype, len(payload)), etype, key, usage, confounder, payload)
+
+
+def decrypt(etype: int, key: Octets, usage: int, sealed: Octets) -> bytes:
+    """The payload that was encrypted to these octets, under etype 16 with the zeros that filled it.
+
+    Refused: NUMBER, KEY_SIZE, SEALED_SIZE, PADDING (etype 16), INTEGRITY, MEMORY."""
+    return _decrypt.octets(len(sealed), etype, key, usage, sealed)
+
+
+def string_to_key(etype: int, password: Octets, salt: Octets) -> bytes:
+    """The key of a password and a salt, with the parameters that are the default of the type.
+
+    Refused: NUMBER, KEY_SIZE (etype 16: neither has an octet), MEMORY."""
+    return _string_to_key.octets(key_size(etype), etype, password, salt)
+
+
+def random_to_key(etype: int, seed: Octets) -> bytes:
+    """The key of `seed_size` random octets.
+
+    Refused: NUMBER, SEED_SIZE, MEMORY."""
+    return _random_to_key.octets(key_size(etype), etype, seed)
+
+
+def checksum(cksumtype: int, key: Octets, usage: int, message: Octets) -> bytes:
+    """The checksum of a message.
+
+    Refused: NUMBER, KEY_SIZE, MEMORY."""
+    return _checksum.octets(checksum_size(cksumtype), cksumtype, key, usage, message)
+
+
+def verify_checksum(cksumtype: int, key: Octets, usage: int, message: Octets, checksum: Octets) -> None:
+    """Returns where the octets are the checksum of the message, and only there.
+
+    Refused: NUMBER, KEY_SIZE, INTEGRITY (they are not), MEMORY."""
+    status = _verify_checksum.status(cksumtype, key, usage, message, checksum)
+    if status != Status.DONE:
+        raise Refused(status)
+
+
+def n_fold(octets: Octets, size: int) -> bytes:
+    """The octets folded to `size` octets (RFC 3961, 5.1, where n is 8 times as many).
+
+    Refused: EMPTY (no octets, or to none)."""
+    if size < 0:
+        raise ValueError("a negative size")
+    given = bytes(memoryview(octets).cast("B"))
+    out = ctypes.create_string_buffer(max(size, 1))
+    status = fold(given, len(given), out, size)
+    if status != Status.DONE:
+        raise Refused(status)
+    return out.raw[:size]
