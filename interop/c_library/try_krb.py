@@ -1,0 +1,145 @@
+"""Tries the Python package: try_krb.py VECTORS MESSAGES, in an environment that has it installed. The last line is `N passed, N failed`."""
+
+import concurrent.futures
+import os
+import pickle
+import sys
+
+import krb
+from krb import Refused, Status
+from krb import crypto, messages
+
+PASSED = FAILED = 0
+SUITES = {16: (24, 8, 20, 12), 17: (16, 16, 12, 15), 18: (32, 16, 12, 16), 19: (16, 16, 16, 19), 20: (32, 16, 24, 20)}
+PARTS = {
+    3: messages.Part.TICKET_PART,
+    2: messages.Part.AUTHENTICATOR,
+    25: messages.Part.AS_REP_PART,
+    26: messages.Part.TGS_REP_PART,
+    27: messages.Part.AP_REP_PART,
+    28: messages.Part.PRIV_PART,
+    29: messages.Part.CRED_PART,
+}
+
+
+def expect(right, what):
+    global PASSED, FAILED
+    PASSED += bool(right)
+    FAILED += not right
+    if not right:
+        print("try_krb: %s" % what)
+
+
+def outcome(call, *arguments):
+    """What a call returns, or the status with which it refuses."""
+    try:
+        return call(*arguments)
+    except Refused as refused:
+        return refused.status
+
+
+def rows(name, count):
+    with open(name, encoding="ascii") as table:
+        for line in table:
+            if not line.startswith("#"):
+                yield (line.rstrip("\n").split("\t") + [""] * count)[:count]
+
+
+def try_row(row):
+    call, number, key, usage, beside, octets, status, answer = row
+    number, usage, wanted = int(number), int(usage or 0), Status[status]
+    size = call.endswith("_size")
+    key, beside, octets, answer = (bytes.fromhex(it) if not size else it for it in (key, beside, octets, answer))
+    if call == "encrypted_size":
+        expect(crypto.encrypted_size(number, int(octets)) == int(answer), row)
+    elif size:
+        expect(getattr(crypto, call)(number) == int(answer), row)
+    elif call == "encrypt":
+        expect(outcome(crypto.encrypt, number, key, usage, octets, beside) == (answer if wanted == Status.DONE else wanted), row)
+    elif call == "string_to_key":
+        expect(outcome(crypto.string_to_key, number, octets, beside) == (answer if wanted == Status.DONE else wanted), row)
+    elif call == "random_to_key":
+        expect(outcome(crypto.random_to_key, number, octets) == (answer if wanted == Status.DONE else wanted), row)
+    elif call in ("decrypt", "checksum"):
+        expect(outcome(getattr(crypto, call), number, key, usage, octets) == (answer if wanted == Status.DONE else wanted), row)
+    elif call == "verify_checksum":
+        expect(outcome(crypto.verify_checksum, number, key, usage, octets, beside) == (None if wanted == Status.DONE else wanted), row)
+    elif call == "n_fold":
+        expect(outcome(crypto.n_fold, octets, number) == (answer if wanted == Status.DONE else wanted), row)
+    elif call == "check":
+        expect(outcome(messages.check, number, octets) == (None if wanted == Status.DONE else wanted), row)
+    else:
+        expect(False, "no call %s" % call)
+
+
+def try_message(number, octets):
+    expect(outcome(messages.check, number, octets) is None and messages.is_message(number, octets), "message %d" % number)
+    for count in range(0, len(octets), 1 + len(octets) // 40):
+        expect(outcome(messages.check, number, octets[:count]) == Status.TRUNCATED, "message %d, cut" % number)
+    expect(outcome(messages.check, number, octets + b"\0") == Status.INVALID, "message %d, with an octet behind" % number)
+    expect(not messages.is_message(number, octets[1:]), "message %d, without its first octet" % number)
+    part = PARTS.get(number)
+    for etype, (key_size, _, _, _) in SUITES.items() if part else ():
+        key = os.urandom(key_size)
+        sealed = messages.seal(part, etype, key, 2, octets)
+        expect(sealed != messages.seal(part, etype, key, 2, octets), "one confounder twice")
+        expect(messages.open_part(part, etype, key, 2, sealed) == octets, "%s is opened otherwise" % part)
+        expect(crypto.decrypt(etype, key, 2, sealed).rstrip(b"\0") == octets.rstrip(b"\0"), "%s is decrypted otherwise" % part)
+        expect(outcome(messages.open_part, part, etype, key, 3, sealed) == Status.INTEGRITY, "%s under another usage" % part)
+        expect(outcome(messages.seal, part, etype, key, 2, octets[:-1]) == Status.TRUNCATED, "%s, cut" % part)
+        for other in PARTS.values():
+            if other != part:
+                expect(outcome(messages.open_part, other, etype, key, 2, sealed) == Status.INVALID, "%s as %s" % (part, other))
+
+
+def try_forms():
+    """Other objects with octets, numbers that do not fit, what a refusal is."""
+    key, payload = bytes(range(16)), b"octets of a payload"
+    sealed = crypto.encrypt(17, key, 2, payload, bytes(16))
+    for form in (bytearray, memoryview):
+        expect(crypto.encrypt(17, form(key), 2, form(payload), form(bytes(16))) == sealed, form)
+        expect(crypto.decrypt(17, form(key), 2, form(sealed)) == payload, form)
+    for number in (2**31, -(2**31) - 1, 2**32 + 17, 2**64 + 17, -(2**70)):
+        expect(outcome(crypto.decrypt, number, key, 2, sealed) == Status.NUMBER, number)
+        expect(crypto.key_size(number) == 0 and crypto.encrypted_size(number, 5) == 0, number)
+        expect(outcome(messages.check, number, b"") == Status.NUMBER, number)
+        expect(outcome(messages.is_message, number, b"") == Status.NUMBER, number)
+    for wrong in ("text", None, 5, [1, 2]):
+        try:
+            crypto.checksum(15, wrong, 2, b"")
+            expect(False, "%r is taken for octets" % (wrong,))
+        except TypeError:
+            expect(True, "")
+    refused = pickle.loads(pickle.dumps(Refused(7)))
+    expect(refused.status is Status.INTEGRITY and isinstance(refused, ValueError) and str(refused) == "INTEGRITY: a wrong checksum", "a refusal")
+    large = os.urandom(3_000_000)
+    expect(crypto.decrypt(18, bytes(32), 2, crypto.encrypt(18, bytes(32), 2, large)) == large, "three million octets")
+    expect(crypto.encrypted_size(17, 2**64) == 0, "a size that does not fit")
+    expect(os.path.exists(os.path.join(os.path.dirname(krb.__file__), "py.typed")), "py.typed")
+
+
+def turn(number):
+    etype = 16 + number % 5
+    key_size, confounder_size, sum_size, cksumtype = SUITES[etype]
+    key, payload = number.to_bytes(4, "big") * 8, number.to_bytes(4, "big") * 500
+    sealed = crypto.encrypt(etype, key[:key_size], number, payload)
+    total = crypto.checksum(cksumtype, key[:key_size], number, payload)
+    crypto.verify_checksum(cksumtype, key[:key_size], number, payload, total)
+    return crypto.decrypt(etype, key[:key_size], number, sealed) == payload and len(total) == sum_size
+
+
+def main():
+    for row in rows(sys.argv[1], 8):
+        try_row(row)
+    for number, octets in rows(sys.argv[2], 2):
+        try_message(int(number), bytes.fromhex(octets))
+    try_forms()
+    with concurrent.futures.ThreadPoolExecutor(16) as pool:
+        for number, right in enumerate(pool.map(turn, range(2000))):
+            expect(right, "turn %d of 16 threads" % number)
+    print("%d passed, %d failed" % (PASSED, FAILED))
+    return 1 if FAILED else 0
+
+
+if __name__ == "__main__":
+    sys.exit(main())
