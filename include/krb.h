@@ -185,8 +185,9 @@ krb_status krb_seal_cred_part(int32_t etype, const uint8_t *key, size_t key_size
 
 /* The one DER encoding of the part that was sealed to these octets, without zeros that fill it: KRB_DONE exactly where krb_seal_.. of it, with
    this key and usage and some confounder, gives them (out of memory and want of room aside).
-   As krb_decrypt; then, where what was encrypted is no such part with at most the zeros of the fill behind it, KRB_INVALID, KRB_TRUNCATED or
-   KRB_UNSUPPORTED. On each of these but KRB_NUMBER, KRB_KEY_SIZE and KRB_MEMORY no such part is sealed to the octets. */
+   KRB_NUMBER; then KRB_KEY_SIZE; KRB_SEALED_SIZE; for etype 16 KRB_PADDING; KRB_INTEGRITY; then, where what was encrypted is no such part with
+   fewer zeros behind it than a block of the fill has, KRB_INVALID, KRB_TRUNCATED or KRB_UNSUPPORTED; KRB_MEMORY. On each of these but KRB_NUMBER,
+   KRB_KEY_SIZE and KRB_MEMORY no such part is sealed to the octets under this key and usage. */
 krb_status krb_open_ticket_part(int32_t etype, const uint8_t *key, size_t key_size, int32_t usage, const uint8_t *sealed,
                                 size_t sealed_size, uint8_t *out, size_t room, size_t *size);
 krb_status krb_open_authenticator(int32_t etype, const uint8_t *key, size_t key_size, int32_t usage, const uint8_t *sealed,
