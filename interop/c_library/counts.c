@@ -84,7 +84,11 @@ int next_row(void *file, char **columns, int count) {
     static size_t size;
     static char nothing[1];
     do {
-        if (getline(&line, &size, file) < 0) return 0;
+        if (getline(&line, &size, file) < 0) {
+            free(line);
+            line = NULL;
+            return 0;
+        }
         line[strcspn(line, "\n")] = 0;
     } while (line[0] == '#' || line[0] == 0);
     char *rest = line;
