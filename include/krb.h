@@ -126,9 +126,8 @@ krb_status krb_encrypt(int32_t etype, const uint8_t *key, size_t key_size, int32
                        size_t confounder_size, const uint8_t *payload, size_t payload_size, uint8_t *out, size_t room, size_t *size);
 
 /* The payload that was encrypted to these octets, for etype 16 with the zeros that filled it; it has fewer octets than `sealed`.
-   KRB_NUMBER; then KRB_KEY_SIZE and KRB_SEALED_SIZE, of which etypes 17 to 20 look for the second first; etype 16: then KRB_PADDING; then
-   KRB_INTEGRITY; KRB_MEMORY. With a key of the right size each of these but KRB_NUMBER and KRB_MEMORY says that no payload under any
-   confounder is encrypted to the octets. */
+   KRB_NUMBER; then KRB_KEY_SIZE; then KRB_SEALED_SIZE; for etype 16 then KRB_PADDING; then KRB_INTEGRITY; KRB_MEMORY. KRB_SEALED_SIZE,
+   KRB_PADDING and KRB_INTEGRITY say that no payload under any confounder is encrypted to the octets under this key and usage. */
 krb_status krb_decrypt(int32_t etype, const uint8_t *key, size_t key_size, int32_t usage, const uint8_t *sealed, size_t sealed_size,
                        uint8_t *out, size_t room, size_t *size);
 
