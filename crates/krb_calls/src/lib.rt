@@ -4,6 +4,7 @@
 mod checksums;
 pub mod handing;
 mod keys;
+pub mod laws;
 mod messages;
 mod refusal;
 mod sizes;
