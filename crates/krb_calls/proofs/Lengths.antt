@@ -1,5 +1,5 @@
 -- How long what the calls make is.
-use Rattle.std.proofs.Common.{◌≡◌, ℕ, ℤ, pos, ◌+◌, ◌-◌, ◌*◌, ◌/◌, ◌%◌, ◌^◌, ◌<◌, ◌≤◌, List, ◌++◌, length, take, replicate, codes, zero, suc, [], nat_abs, ◌==◌, if◌then◌else◌, refl, sym, ap, subst, ◌∙◌, arith, inl, inr}
+use Rattle.std.proofs.Common.{◌≡◌, ℕ, ℤ, ◌+◌, ◌-◌, ◌*◌, ◌/◌, ◌%◌, ◌<◌, List, ◌++◌, length, replicate, codes, zero, suc, nat_abs, ◌==◌, if◌then◌else◌, refl, sym, ap, subst, ◌∙◌, arith, inl, inr}
 use Rattle.std.proofs.lemmas.List.{length-append, length-replicate, length-take-le}
 use Rattle.krb_crypto_hash.proofs.HmacSteps.{hmac_size, hmac_256-size, hmac_384-size}
 use Rattle.krb_crypto_hash.specs.Hmac.{hmac, hmac_256, hmac_384}
@@ -22,7 +22,6 @@ use Rattle.krb_crypto_message.specs.Derive.{blocks_from, dr, aes_dk, des3_dk}
 use Rattle.krb_crypto_message.specs.RandomToKey.{random_to_key}
 use Rattle.krb_crypto_message.specs.Sealed.{IsSealedBy, aes_ke, aes_ki, aes_kc, des3_ke, des3_ki, des3_kc, mac_96}
 use Rattle.krb_crypto_suite.specs.BySuite.{IsSealed, IsPasswordKey, key_octets_of, confounder_octets_of, key_of_seed_of, sum_of}
-use Rattle.krb_crypto_suite.specs.Suites.{NoSuite}
 use Rattle.krb_crypto_suite.specs.declared.cipher_suite.CipherSuite.{CipherSuite}
 use Rattle.krb_crypto_suite.specs.declared.cipher_suite.CipherSuite.TheVariants.{Aes128CtsHmacSha196, Aes256CtsHmacSha196, Des3CbcSha1Kd, Aes128CtsHmacSha256128, Aes256CtsHmacSha384192}
 use Rattle.krb_crypto_suite.specs.declared.checksum_suite.ChecksumSuite.{ChecksumSuite}

@@ -1,4 +1,4 @@
-use Rattle.std.proofs.Common.{length, ap, ◌∙◌}
+use Rattle.std.proofs.Common.{◌∙◌}
 use Rattle.krb_crypto_suite.specs.BySuite.{key_octets_of}
 use Rattle.krb_calls.specs.Keys.{seed_octets_of}
 use Rattle.krb_calls.proofs.Lengths.{password_length, seed_length, etype_size}
