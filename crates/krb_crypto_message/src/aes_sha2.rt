@@ -16,4 +16,5 @@ pub use mac::checksum_size;
 pub use message::{
     decrypt_message, decrypt_message_no_checksum, encrypt_message, encrypt_message_no_checksum,
 };
+pub use message_keys::derive_message_keys;
 pub use prepared::{Sha2ChecksumKey, Sha2OpeningKey, Sha2SealingKey};

@@ -25,6 +25,14 @@ encryption_key_of Des3CbcSha1Kd key usage = des3_ke key usage
 encryption_key_of Aes128CtsHmacSha256128 key usage = sha2_ke Aes128 key usage
 encryption_key_of Aes256CtsHmacSha384192 key usage = sha2_ke Aes256 key usage
 
+-- the octets of the key Ki: those of a key, and under RFC 8009 those of a checksum
+abbrev pub integrity_key_octets_of : CipherSuite → ℕ
+integrity_key_octets_of Aes128CtsHmacSha196 = 16
+integrity_key_octets_of Aes256CtsHmacSha196 = 32
+integrity_key_octets_of Des3CbcSha1Kd = 24
+integrity_key_octets_of Aes128CtsHmacSha256128 = 16
+integrity_key_octets_of Aes256CtsHmacSha384192 = 24
+
 -- they are those of this key, which has the suite's length, and of this usage
 pub record IsPreparedFor (key : List ℕ) (usage : ℤ) (prepared : PreparedKeys) : Type 0 where
   pub size : length key ≡ key_octets_of prepared.suite

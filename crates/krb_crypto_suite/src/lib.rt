@@ -8,6 +8,7 @@ mod cipher;
 mod cipher_suite;
 pub mod confounder;
 pub mod laws;
+pub mod message_keys;
 pub mod prepared;
 mod suite_checksums;
 mod suite_ciphers;

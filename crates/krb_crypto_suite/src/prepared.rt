@@ -1,7 +1,7 @@
 //! Keys that are derived once from a key for a usage (RFC 3961, 5.3 and 5.4), for callers that use one key often: a call over them derives
 //! nothing and expands no key. They hold no memory of their own, and allocate nothing but what a call returns.
 
-ghost use Rattle.std.specs.Prelude.{◌≡◌, ◌≢◌, ℕ, ℤ, List, length, IfOk, IfErr};
+ghost use Rattle.std.specs.Prelude.{◌≡◌, ◌≢◌, ◌≤◌, ℕ, ℤ, List, length, IfOk, IfErr};
 ghost use Rattle.krb_crypto_hash.specs.CryptoError.{IsMemoryOr, IsKeyLengthError};
 ghost use Rattle.krb_crypto_message.specs.Sealing.{IsTheOne, IsGiven, Opens, HasNoPayload};
 ghost use Rattle.krb_crypto_suite.specs.BySuite.{IsSealed, key_octets_of, confounder_octets_of, padding_octets_of, error_of, checksum_key_octets_of, sum_of};
@@ -10,6 +10,7 @@ ghost use Rattle.krb_crypto_suite.specs.PreparedKeys.{PreparedKeys, PreparedChec
 use crate::checksum_suite::ChecksumSuite;
 use crate::cipher_suite::CipherSuite;
 use crate::confounder::confounder_of;
+use crate::message_keys::derive_message_keys;
 use krb_crypto_block::{AesSize, KerberosCryptoError, KerberosCryptoResult};
 use krb_crypto_message::aes::{AesChecksumKey, AesOpeningKey, AesSealingKey};
 use krb_crypto_message::aes_sha2::{Sha2ChecksumKey, Sha2OpeningKey, Sha2SealingKey};
@@ -53,25 +54,36 @@ impl SealingKey {
         ensures prepared { IfOk result (IsPreparedFor key.now key_usage) }
         ensures rejected { IfErr result (IsKeyLengthError (key_octets_of suite.now) key.now) }
     {
+        let keys = derive_message_keys(suite, key, key_usage)?;
+        SealingKey::from_message_keys(suite, keys.ke(), keys.ki())
+    }
+
+    /// The key of these Ke and Ki. `KeyLength` where Ke has not as many octets as the suite's keys have; it allocates nothing.
+    pub fn from_message_keys(
+        suite: &CipherSuite,
+        ke: &[u8],
+        ki: &[u8],
+    ) -> KerberosCryptoResult<SealingKey>
+        requires { length ki.now ≤ 32 }
+        ensures size { IfOk result (λ _. length ke.now ≡ key_octets_of suite.now) }
+        ensures made { IfOk result (λ k. k ≡ record { suite = suite.now; keys = record { ke = ke.now; ki = ki.now } }) }
+        ensures rejected { IfErr result (IsKeyLengthError (key_octets_of suite.now) ke.now) }
+    {
         let keys = match suite {
-            CipherSuite::Aes128CtsHmacSha196 => SealingKeys::Aes128CtsHmacSha196(AesSealingKey::new(
-                key,
-                key_usage,
-                &AesSize::Aes128,
-            )?),
-            CipherSuite::Aes256CtsHmacSha196 => SealingKeys::Aes256CtsHmacSha196(AesSealingKey::new(
-                key,
-                key_usage,
-                &AesSize::Aes256,
-            )?),
+            CipherSuite::Aes128CtsHmacSha196 => SealingKeys::Aes128CtsHmacSha196(
+                AesSealingKey::from_message_keys(ke, ki, &AesSize::Aes128)?,
+            ),
+            CipherSuite::Aes256CtsHmacSha196 => SealingKeys::Aes256CtsHmacSha196(
+                AesSealingKey::from_message_keys(ke, ki, &AesSize::Aes256)?,
+            ),
             CipherSuite::Des3CbcSha1Kd => {
-                SealingKeys::Des3CbcSha1Kd(Des3MessageKey::new(key, key_usage)?)
+                SealingKeys::Des3CbcSha1Kd(Des3MessageKey::from_message_keys(ke, ki)?)
             }
             CipherSuite::Aes128CtsHmacSha256128 => SealingKeys::Aes128CtsHmacSha256128(
-                Sha2SealingKey::new(key, key_usage, &AesSize::Aes128)?,
+                Sha2SealingKey::from_message_keys(ke, ki, &AesSize::Aes128)?,
             ),
             CipherSuite::Aes256CtsHmacSha384192 => SealingKeys::Aes256CtsHmacSha384192(
-                Sha2SealingKey::new(key, key_usage, &AesSize::Aes256)?,
+                Sha2SealingKey::from_message_keys(ke, ki, &AesSize::Aes256)?,
             ),
         };
         Ok(SealingKey { keys })
@@ -159,25 +171,36 @@ impl OpeningKey {
         ensures prepared { IfOk result (IsPreparedFor key.now key_usage) }
         ensures rejected { IfErr result (IsKeyLengthError (key_octets_of suite.now) key.now) }
     {
+        let keys = derive_message_keys(suite, key, key_usage)?;
+        OpeningKey::from_message_keys(suite, keys.ke(), keys.ki())
+    }
+
+    /// The key of these Ke and Ki. `KeyLength` where Ke has not as many octets as the suite's keys have; it allocates nothing.
+    pub fn from_message_keys(
+        suite: &CipherSuite,
+        ke: &[u8],
+        ki: &[u8],
+    ) -> KerberosCryptoResult<OpeningKey>
+        requires { length ki.now ≤ 32 }
+        ensures size { IfOk result (λ _. length ke.now ≡ key_octets_of suite.now) }
+        ensures made { IfOk result (λ k. k ≡ record { suite = suite.now; keys = record { ke = ke.now; ki = ki.now } }) }
+        ensures rejected { IfErr result (IsKeyLengthError (key_octets_of suite.now) ke.now) }
+    {
         let keys = match suite {
-            CipherSuite::Aes128CtsHmacSha196 => OpeningKeys::Aes128CtsHmacSha196(AesOpeningKey::new(
-                key,
-                key_usage,
-                &AesSize::Aes128,
-            )?),
-            CipherSuite::Aes256CtsHmacSha196 => OpeningKeys::Aes256CtsHmacSha196(AesOpeningKey::new(
-                key,
-                key_usage,
-                &AesSize::Aes256,
-            )?),
+            CipherSuite::Aes128CtsHmacSha196 => OpeningKeys::Aes128CtsHmacSha196(
+                AesOpeningKey::from_message_keys(ke, ki, &AesSize::Aes128)?,
+            ),
+            CipherSuite::Aes256CtsHmacSha196 => OpeningKeys::Aes256CtsHmacSha196(
+                AesOpeningKey::from_message_keys(ke, ki, &AesSize::Aes256)?,
+            ),
             CipherSuite::Des3CbcSha1Kd => {
-                OpeningKeys::Des3CbcSha1Kd(Des3MessageKey::new(key, key_usage)?)
+                OpeningKeys::Des3CbcSha1Kd(Des3MessageKey::from_message_keys(ke, ki)?)
             }
             CipherSuite::Aes128CtsHmacSha256128 => OpeningKeys::Aes128CtsHmacSha256128(
-                Sha2OpeningKey::new(key, key_usage, &AesSize::Aes128)?,
+                Sha2OpeningKey::from_message_keys(ke, ki, &AesSize::Aes128)?,
             ),
             CipherSuite::Aes256CtsHmacSha384192 => OpeningKeys::Aes256CtsHmacSha384192(
-                Sha2OpeningKey::new(key, key_usage, &AesSize::Aes256)?,
+                Sha2OpeningKey::from_message_keys(ke, ki, &AesSize::Aes256)?,
             ),
         };
         Ok(OpeningKey { keys })

@@ -1,6 +1,6 @@
 //! Keys of messages under AES that are derived once for a usage (RFC 3961, 5.3; RFC 3962, 6). They hold no memory of their own.
 
-ghost use Rattle.std.specs.Prelude.{◌≡◌, ◌≢◌, ℕ, List, length, IfOk, IfErr};
+ghost use Rattle.std.specs.Prelude.{◌≡◌, ◌≢◌, ◌≤◌, ℕ, List, length, IfOk, IfErr};
 ghost use Rattle.krb_crypto_hash.specs.CryptoError.{IsMemoryOr, IsKeyLengthError};
 ghost use Rattle.krb_crypto_block.specs.Size.{key_octets};
 ghost use Rattle.krb_crypto_message.specs.DerivedKeys.{DerivedKeys, IsSealedUnderAes, unopened_error};
@@ -8,7 +8,7 @@ ghost use Rattle.krb_crypto_message.specs.Sealed.{aes_ke, aes_ki, aes_kc, mac_96
 ghost use Rattle.krb_crypto_message.specs.Sealing.{IsTheOne, IsGiven, Opens, HasNoPayload, Encrypts, OpensUnchecked, HasNoPayloadUnchecked};
 
 use super::key_derivation::derived_key;
-use super::message_keys::MessageKeys;
+use super::message_keys::derive_message_keys;
 use crate::checksum::{checked, compared, concatenated, unchecked, without_checksum};
 use crate::cts::{decrypted, encrypted_octets};
 use crate::well_known::usage_kc;
@@ -46,10 +46,23 @@ impl AesSealingKey {
         ensures made { IfOk result (λ k. (length key.now ≡ key_octets size.now) × (k.ke ≡ aes_ke key.now key_usage) × (k.ki ≡ aes_ki key.now key_usage)) }
         ensures rejected { IfErr result (IsKeyLengthError (key_octets size.now) key.now) }
     {
-        let keys = MessageKeys::new(key, key_usage, size)?;
+        let keys = derive_message_keys(key, key_usage, size)?;
+        AesSealingKey::from_message_keys(keys.ke(), keys.ki(), size)
+    }
+
+    /// The keys of these octets. `KeyLength` where Ke has not the size's length; it allocates nothing.
+    pub fn from_message_keys(
+        ke: &[u8],
+        ki: &[u8],
+        size: &AesSize,
+    ) -> KerberosCryptoResult<AesSealingKey>
+        requires { length ki.now ≤ 32 }
+        ensures made { IfOk result (λ k. (length ke.now ≡ key_octets size.now) × (k ≡ record { ke = ke.now; ki = ki.now })) }
+        ensures rejected { IfErr result (IsKeyLengthError (key_octets size.now) ke.now) }
+    {
         Ok(AesSealingKey {
-            ke: AesEncryptionKey::new(keys.ke.as_slice(), size)?,
-            ki: HmacSha1Key::new(keys.ki.as_slice()),
+            ke: AesEncryptionKey::new(ke, size)?,
+            ki: HmacSha1Key::new(ki),
         })
     }
 
@@ -109,10 +122,23 @@ impl AesOpeningKey {
         ensures made { IfOk result (λ k. (length key.now ≡ key_octets size.now) × (k.ke ≡ aes_ke key.now key_usage) × (k.ki ≡ aes_ki key.now key_usage)) }
         ensures rejected { IfErr result (IsKeyLengthError (key_octets size.now) key.now) }
     {
-        let keys = MessageKeys::new(key, key_usage, size)?;
+        let keys = derive_message_keys(key, key_usage, size)?;
+        AesOpeningKey::from_message_keys(keys.ke(), keys.ki(), size)
+    }
+
+    /// The keys of these octets. `KeyLength` where Ke has not the size's length; it allocates nothing.
+    pub fn from_message_keys(
+        ke: &[u8],
+        ki: &[u8],
+        size: &AesSize,
+    ) -> KerberosCryptoResult<AesOpeningKey>
+        requires { length ki.now ≤ 32 }
+        ensures made { IfOk result (λ k. (length ke.now ≡ key_octets size.now) × (k ≡ record { ke = ke.now; ki = ki.now })) }
+        ensures rejected { IfErr result (IsKeyLengthError (key_octets size.now) ke.now) }
+    {
         Ok(AesOpeningKey {
-            ke: AesDecryptionKey::new(keys.ke.as_slice(), size)?,
-            ki: HmacSha1Key::new(keys.ki.as_slice()),
+            ke: AesDecryptionKey::new(ke, size)?,
+            ki: HmacSha1Key::new(ki),
         })
     }
 

@@ -8,12 +8,13 @@ ghost use Rattle.krb_crypto_message.specs.AesSha2.{sha2_ke, sha2_ki, sha2_checks
 use super::key_derivation::test_key;
 use super::keyed_hash::KeyedHash;
 use super::mac::checksum_size;
-use crate::aes::message_keys::MessageKeys;
+use crate::message_keys::MessageKeys;
 use crate::well_known::{usage_ke, usage_ki};
 use krb_crypto_block::{AesSize, KerberosCryptoResult};
 
-/// Ke, of the key's length, and Ki, of a checksum's, of this usage (RFC 8009, 5), from one keyed hash. It allocates nothing.
-pub(crate) fn message_keys(
+/// Ke, of the key's length, and Ki, of a checksum's, of this usage (RFC 8009, 5), from one keyed hash. `KeyLength` where the key has not the
+/// size's length; it allocates nothing.
+pub fn derive_message_keys(
     key: &[u8],
     key_usage: i32,
     size: &AesSize,
@@ -26,8 +27,7 @@ pub(crate) fn message_keys(
 {
     test_key(key, size)?;
     let base = KeyedHash::new(key, size);
-    Ok(MessageKeys {
-        ke: base.derived(&usage_ke(key_usage), size.key_length()),
-        ki: base.derived(&usage_ki(key_usage), checksum_size(size)),
-    })
+    let ke = base.derived(&usage_ke(key_usage), size.key_length());
+    let ki = base.derived(&usage_ki(key_usage), checksum_size(size));
+    Ok(MessageKeys::new(ke, ki))
 }

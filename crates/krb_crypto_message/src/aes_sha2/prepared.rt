@@ -12,7 +12,7 @@ ghost use Rattle.krb_crypto_message.specs.SizedKeys.{SizedKeys, SizedKey};
 use super::key_derivation::test_key;
 use super::keyed_hash::KeyedHash;
 use super::mac::checksum_size;
-use super::message_keys::message_keys;
+use super::message_keys::derive_message_keys;
 use crate::checksum::{compared, trailing, unchecked, without_checksum};
 use crate::cts::{decrypted, encrypted_octets};
 use crate::well_known::usage_kc;
@@ -50,10 +50,23 @@ impl Sha2SealingKey {
             × (k.keys.ke ≡ sha2_ke size.now key.now key_usage) × (k.keys.ki ≡ sha2_ki size.now key.now key_usage)) }
         ensures rejected { IfErr result (IsKeyLengthError (key_octets size.now) key.now) }
     {
-        let keys = message_keys(key, key_usage, size)?;
+        let keys = derive_message_keys(key, key_usage, size)?;
+        Sha2SealingKey::from_message_keys(keys.ke(), keys.ki(), size)
+    }
+
+    /// The keys of these octets. `KeyLength` where Ke has not the size's length; it allocates nothing.
+    pub fn from_message_keys(
+        ke: &[u8],
+        ki: &[u8],
+        size: &AesSize,
+    ) -> KerberosCryptoResult<Sha2SealingKey>
+        requires { length ki.now ≤ 32 }
+        ensures made { IfOk result (λ k. (length ke.now ≡ key_octets size.now) × (k.size ≡ size.now) × (k.keys ≡ record { ke = ke.now; ki = ki.now })) }
+        ensures rejected { IfErr result (IsKeyLengthError (key_octets size.now) ke.now) }
+    {
         Ok(Sha2SealingKey {
-            ke: AesEncryptionKey::new(keys.ke.as_slice(), size)?,
-            ki: KeyedHash::new(keys.ki.as_slice(), size),
+            ke: AesEncryptionKey::new(ke, size)?,
+            ki: KeyedHash::new(ki, size),
         })
     }
 
@@ -116,10 +129,23 @@ impl Sha2OpeningKey {
             × (k.keys.ke ≡ sha2_ke size.now key.now key_usage) × (k.keys.ki ≡ sha2_ki size.now key.now key_usage)) }
         ensures rejected { IfErr result (IsKeyLengthError (key_octets size.now) key.now) }
     {
-        let keys = message_keys(key, key_usage, size)?;
+        let keys = derive_message_keys(key, key_usage, size)?;
+        Sha2OpeningKey::from_message_keys(keys.ke(), keys.ki(), size)
+    }
+
+    /// The keys of these octets. `KeyLength` where Ke has not the size's length; it allocates nothing.
+    pub fn from_message_keys(
+        ke: &[u8],
+        ki: &[u8],
+        size: &AesSize,
+    ) -> KerberosCryptoResult<Sha2OpeningKey>
+        requires { length ki.now ≤ 32 }
+        ensures made { IfOk result (λ k. (length ke.now ≡ key_octets size.now) × (k.size ≡ size.now) × (k.keys ≡ record { ke = ke.now; ki = ki.now })) }
+        ensures rejected { IfErr result (IsKeyLengthError (key_octets size.now) ke.now) }
+    {
         Ok(Sha2OpeningKey {
-            ke: AesDecryptionKey::new(keys.ke.as_slice(), size)?,
-            ki: KeyedHash::new(keys.ki.as_slice(), size),
+            ke: AesDecryptionKey::new(ke, size)?,
+            ki: KeyedHash::new(ki, size),
         })
     }
 

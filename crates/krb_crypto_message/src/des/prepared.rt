@@ -11,8 +11,9 @@ ghost use Rattle.krb_crypto_message.specs.Sealed.{des3_ke, des3_ki, des3_kc};
 ghost use Rattle.krb_crypto_message.specs.Sealing.{IsTheOne, IsGiven, Opens, HasNoPayload, Encrypts, OpensUnchecked, HasNoPayloadUnchecked};
 
 use super::key_derivation::derived_key;
+use super::message_keys::derive_message_keys;
 use crate::checksum::{checked, compared, concatenated, unchecked, without_checksum};
-use crate::well_known::{usage_kc, usage_ke, usage_ki};
+use crate::well_known::usage_kc;
 use crate::without_checksum::{DecryptWithoutChecksum, EncryptWithoutChecksum};
 use krb_crypto_block::in_place::{decrypt_des, encrypt_des};
 use krb_crypto_block::octets::are_octets;
@@ -47,12 +48,19 @@ impl Des3MessageKey {
         ensures made { IfOk result (λ k. (length key.now ≡ 24) × (k.ke ≡ des3_ke key.now key_usage) × (k.ki ≡ des3_ki key.now key_usage)) }
         ensures rejected { IfErr result (IsKeyLengthError 24 key.now) }
     {
-        let base = DesKey::new(key)?;
-        let ke = derived_key(&base, &usage_ke(key_usage));
-        let ki = derived_key(&base, &usage_ki(key_usage));
+        let keys = derive_message_keys(key, key_usage)?;
+        Des3MessageKey::from_message_keys(keys.ke(), keys.ki())
+    }
+
+    /// The keys of these octets. `KeyLength` where Ke has not 24 octets; it allocates nothing.
+    pub fn from_message_keys(ke: &[u8], ki: &[u8]) -> KerberosCryptoResult<Des3MessageKey>
+        requires { length ki.now ≤ 32 }
+        ensures made { IfOk result (λ k. (length ke.now ≡ 24) × (k ≡ record { ke = ke.now; ki = ki.now })) }
+        ensures rejected { IfErr result (IsKeyLengthError 24 ke.now) }
+    {
         Ok(Des3MessageKey {
-            ke: DesKey::new(&ke)?,
-            ki: HmacSha1Key::new(&ki),
+            ke: DesKey::new(ke)?,
+            ki: HmacSha1Key::new(ki),
         })
     }
 
