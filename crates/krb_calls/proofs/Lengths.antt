@@ -167,7 +167,7 @@ checksum_back checksum.HmacSha1Des3Kd = refl
 checksum_back checksum.HmacSha256128Aes128 = refl
 checksum_back checksum.HmacSha384192Aes256 = refl
 
-one_etype : (a b : CipherSuite) → etype_number a ≡ etype_number b → a ≡ b
+pub one_etype : (a b : CipherSuite) → etype_number a ≡ etype_number b → a ≡ b
 one_etype a b e = sym (etype_back a) ∙ ap (λ n. suite_of (nat_abs n)) e ∙ etype_back b
 
 one_checksum : (a b : ChecksumSuite) → checksum_number a ≡ checksum_number b → a ≡ b

@@ -5,3 +5,4 @@ pub mod Calls
 pub mod Checksums
 pub mod Keys
 pub mod Sizes
+pub mod Kept

@@ -3,6 +3,7 @@
 
 mod checksums;
 pub mod handing;
+mod kept;
 mod keys;
 pub mod laws;
 mod messages;
@@ -11,6 +12,7 @@ mod sizes;
 pub mod suites;
 
 pub use checksums::{checksum, summed, verify_checksum};
+pub use kept::{KeptKey, decrypt_kept, decrypted_kept, encrypt_kept, encrypted_kept, keep_key};
 pub use keys::{n_fold, random_to_key, string_to_key};
 pub use messages::{decrypt, decrypted, encrypt, encrypted};
 pub use refusal::Refusal;
