@@ -2,5 +2,6 @@
 #![tactic(auto)]
 
 mod crypto;
+mod kept;
 mod parts;
 mod sizes;

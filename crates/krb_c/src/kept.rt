@@ -1,0 +1,54 @@
+//! Kept keys.
+
+ghost use Rattle.std.specs.Prelude.{◌≡◌, ℕ, ℤ, List};
+ghost use Rattle.krb_crypto_suite.specs.Suites.{NoSuite};
+ghost use Rattle.krb_calls.specs.Calls.{IsEncryption, RefusesEncryption, IsDecryption, RefusesDecryption};
+ghost use Rattle.krb_calls.specs.Handing.{IsAnswered, IsKept};
+ghost use Rattle.krb_calls.specs.Kept.{IsKeeping, IsKeptKey};
+ghost use Rattle.krb_calls.specs.Numbers.{etype_number};
+
+use krb_calls::KeptKey;
+use std::alloc::Global;
+
+/// `krb_keep_key` of `krb.h`.
+#[unsafe(no_mangle)]
+pub extern "C" fn krb_keep_key(etype: i32, key: &[u8], usage: i32, kept: &mut KeptKey) -> u32
+    ensures { IsKeeping etype key.now usage kept.old kept.new result }
+{
+    krb_calls::keep_key(etype, key, usage, kept)
+}
+
+/// `krb_encrypt_kept` of `krb.h`.
+#[unsafe(no_mangle)]
+pub extern "C" fn krb_encrypt_kept(
+    alloc: Global,
+    kept: &KeptKey,
+    confounder: &[u8],
+    payload: &[u8],
+    out: &mut [u8],
+    size: &mut usize,
+) -> u32
+    ensures kept { (key : List ℕ) (usage : ℤ) → IsKeptKey key usage kept.now
+        → IsAnswered (IsEncryption kept.now.etype key usage confounder.now payload.now)
+        (RefusesEncryption kept.now.etype key confounder.now) out.old out.new size.new result }
+    ensures number { NoSuite etype_number kept.now.etype → (result ≡ 3) × IsKept out.old out.new size.new }
+{
+    krb_calls::encrypt_kept(alloc, kept, confounder, payload, out, size)
+}
+
+/// `krb_decrypt_kept` of `krb.h`.
+#[unsafe(no_mangle)]
+pub extern "C" fn krb_decrypt_kept(
+    alloc: Global,
+    kept: &KeptKey,
+    sealed: &[u8],
+    out: &mut [u8],
+    size: &mut usize,
+) -> u32
+    ensures kept { (key : List ℕ) (usage : ℤ) → IsKeptKey key usage kept.now
+        → IsAnswered (IsDecryption kept.now.etype key usage sealed.now)
+        (RefusesDecryption kept.now.etype key usage sealed.now) out.old out.new size.new result }
+    ensures number { NoSuite etype_number kept.now.etype → (result ≡ 3) × IsKept out.old out.new size.new }
+{
+    krb_calls::decrypt_kept(alloc, kept, sealed, out, size)
+}
