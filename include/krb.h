@@ -131,6 +131,26 @@ krb_status krb_encrypt(int32_t etype, const uint8_t *key, size_t key_size, int32
 krb_status krb_decrypt(int32_t etype, const uint8_t *key, size_t key_size, int32_t usage, const uint8_t *sealed, size_t sealed_size,
                        uint8_t *out, size_t room, size_t *size);
 
+/* A key that is kept: what an encryption type derives from a key for one key usage (RFC 3961, 5.3; RFC 8009, 5). It is made once by
+   krb_keep_key, and then saves each call that derivation. It is plain octets, with nothing to free: it may be copied, and is as secret as
+   the key. Its fields are the library's. */
+typedef struct krb_key {
+    int32_t etype;
+    uint8_t ke[32]; /* Ke, and zeros behind it */
+    uint8_t ki[32]; /* Ki, and zeros behind it */
+} krb_key;
+
+/* `kept` becomes the key of this encryption type and key usage. On another status than KRB_DONE it is as it was. It allocates nothing.
+   KRB_NUMBER; then KRB_KEY_SIZE. */
+krb_status krb_keep_key(int32_t etype, const uint8_t *key, size_t key_size, int32_t usage, krb_key *kept);
+
+/* What krb_encrypt, and krb_decrypt, answer under the key and usage that `kept` was made of. One kept key serves both, at once in any number
+   of threads. The caller owes a key that krb_keep_key made: of another it is said only that KRB_NUMBER comes where no encryption type has
+   its number. */
+krb_status krb_encrypt_kept(const krb_key *kept, const uint8_t *confounder, size_t confounder_size, const uint8_t *payload,
+                            size_t payload_size, uint8_t *out, size_t room, size_t *size);
+krb_status krb_decrypt_kept(const krb_key *kept, const uint8_t *sealed, size_t sealed_size, uint8_t *out, size_t room, size_t *size);
+
 /* The key of a password and a salt, with the parameters that are the default of the type: 4096 rounds of PBKDF2 (RFC 3962, 4), 32768 for
    etypes 19 and 20 (RFC 8009, 4); etype 16 takes none (RFC 3961, 6.3.1). The password is what the caller's client takes for it, UTF-8 in
    general. The answer has krb_key_size octets.

@@ -43,6 +43,11 @@ static void seal_here(const struct suite *suite, const krb5_keyblock *key, int32
     draw(confounder, sizeof confounder);
     krb_status status = krb_encrypt(suite->etype, key->contents, key->length, usage, confounder, suite->confounder, plain, length, ours, sizeof ours, &size);
     EXPECT(status == KRB_DONE && size == krb_encrypted_size(suite->etype, length), "etype %d: status %u", suite->etype, status);
+    krb_key kept;
+    status = krb_keep_key(suite->etype, key->contents, key->length, usage, &kept);
+    EXPECT(status == KRB_DONE, "etype %d: no key is kept, status %u", suite->etype, status);
+    status = krb_encrypt_kept(&kept, confounder, suite->confounder, plain, length, back, sizeof back, &told);
+    EXPECT(status == KRB_DONE && told == size && !memcmp(back, ours, size), "etype %d: otherwise under a kept key", suite->etype);
     EXPECT(!krb5_c_encrypt_length(context, suite->etype, length, &told) && told == size, "etype %d: %zu octets, and %zu by libkrb5", suite->etype, size, told);
     krb5_enc_data sealed = {.enctype = suite->etype, .ciphertext = data_of(ours, size)};
     krb5_data opened = data_of(back, sizeof back);
@@ -56,6 +61,12 @@ static void open_here(const struct suite *suite, const krb5_keyblock *key, int32
     if (krb5_c_encrypt(context, key, usage, NULL, &in, &sealed)) die("libkrb5 seals nothing");
     krb_status status = krb_decrypt(suite->etype, key->contents, key->length, usage, theirs, sealed.ciphertext.length, back, sizeof back, &size);
     EXPECT(status == KRB_DONE && size == filled && !memcmp(back, plain, length), "etype %d, %zu octets: ours opens libkrb5's otherwise, status %u", suite->etype, length, status);
+    krb_key kept;
+    status = krb_keep_key(suite->etype, key->contents, key->length, usage, &kept);
+    EXPECT(status == KRB_DONE, "etype %d: no key is kept, status %u", suite->etype, status);
+    memset(back, 0, length);
+    status = krb_decrypt_kept(&kept, theirs, sealed.ciphertext.length, back, sizeof back, &size);
+    EXPECT(status == KRB_DONE && size == filled && !memcmp(back, plain, length), "etype %d, %zu octets: a kept key opens libkrb5's otherwise, status %u", suite->etype, length, status);
     theirs[drawn(sealed.ciphertext.length)] ^= (uint8_t)(1u << drawn(8));
     memset(back, 0x5a, 256);
     status = krb_decrypt(suite->etype, key->contents, key->length, usage, theirs, sealed.ciphertext.length, back, sizeof back, &size);

@@ -23,8 +23,28 @@ static const struct part *part_of(const char *call, const char *verb) {
     return NULL;
 }
 
+/* The kept key of a row; it is untouched where it is refused. */
+static krb_status keep(const struct row *it, krb_key *kept) {
+    krb_key before;
+    memset(kept, 0x5a, sizeof *kept);
+    memset(&before, 0x5a, sizeof before);
+    krb_status status = krb_keep_key(it->number, it->key.at, it->key.count, it->usage, kept);
+    EXPECT(status == KRB_DONE ? kept->etype == it->number : !memcmp(kept, &before, sizeof before), "keep_key %d, status %u: another kept key", it->number, status);
+    return status;
+}
+
+static krb_status answered_kept(const struct row *it, struct octets *room, size_t *size) {
+    const struct octets *beside = &it->beside, *input = &it->input;
+    krb_key kept;
+    krb_status status = keep(it, &kept);
+    *size = 0;
+    if (status != KRB_DONE) return status;
+    if (!strcmp(it->call, "encrypt_kept")) return krb_encrypt_kept(&kept, beside->at, beside->count, input->at, input->count, room->at, room->count, size);
+    return krb_decrypt_kept(&kept, input->at, input->count, room->at, room->count, size);
+}
+
 int is_answering(const char *call) {
-    static const char *const names[] = {"encrypt", "decrypt", "string_to_key", "random_to_key", "checksum"};
+    static const char *const names[] = {"encrypt", "encrypt_kept", "decrypt", "decrypt_kept", "string_to_key", "random_to_key", "checksum"};
     for (unsigned k = 0; k < sizeof names / sizeof *names; k++)
         if (!strcmp(call, names[k])) return 1;
     return part_of(call, "seal_") || part_of(call, "open_");
@@ -37,6 +57,7 @@ krb_status answered(const struct row *it, struct octets *room, size_t *size) {
         return krb_encrypt(it->number, key->at, key->count, it->usage, beside->at, beside->count, input->at, input->count, room->at, room->count, size);
     if (!strcmp(it->call, "decrypt"))
         return krb_decrypt(it->number, key->at, key->count, it->usage, input->at, input->count, room->at, room->count, size);
+    if (!strcmp(it->call, "encrypt_kept") || !strcmp(it->call, "decrypt_kept")) return answered_kept(it, room, size);
     if (!strcmp(it->call, "string_to_key"))
         return krb_string_to_key(it->number, input->at, input->count, beside->at, beside->count, room->at, room->count, size);
     if (!strcmp(it->call, "random_to_key")) return krb_random_to_key(it->number, input->at, input->count, room->at, room->count, size);

@@ -33,7 +33,7 @@ struct row {
     struct octets key, beside, input;
 };
 
-/* Whether there is a call of this name that answers octets; it is made with this room. */
+/* Whether there is a call of this name that answers octets; it is made with this room. `encrypt_kept` and `decrypt_kept` keep the key first. */
 int is_answering(const char *call);
 krb_status answered(const struct row *row, struct octets *room, size_t *size);
 

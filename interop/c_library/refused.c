@@ -90,6 +90,10 @@ static void try_rows(const char *name) {
         if (strstr(columns[0], "_size") || !strcmp(columns[0], "n_fold") || strstr(columns[0], "string_to_key")) continue;
         struct row row = {columns[0], (int32_t)strtol(columns[1], NULL, 10), (int32_t)strtol(columns[3], NULL, 10), octets_of_text(columns[2]), octets_of_text(columns[4]), octets_of_text(columns[5])};
         try_call(&row);
+        if (!strcmp(columns[0], "encrypt") || !strcmp(columns[0], "decrypt")) {
+            row.call = columns[0][0] == 'e' ? "encrypt_kept" : "decrypt_kept";
+            try_call(&row);
+        }
         drop(&row.key), drop(&row.beside), drop(&row.input);
     }
     fclose(file);

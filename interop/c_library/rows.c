@@ -52,6 +52,18 @@ static size_t size_of(const struct row *row) {
     die("a table has a call that is none");
 }
 
+/* An answer or a refusal; the same under the key that was kept, of which a wrong size is refused before a confounder's. */
+static void try_answer(struct row *row, krb_status wanted, const struct octets *answer) {
+    const char *kept = !strcmp(row->call, "encrypt") ? "encrypt_kept" : !strcmp(row->call, "decrypt") ? "decrypt_kept" : NULL;
+    if (is_answering(row->call) && wanted == KRB_DONE)
+        try_rooms(row, answer);
+    else
+        try_refusal(row, wanted);
+    if (!kept) return;
+    row->call = kept;
+    try_answer(row, wanted == KRB_CONFOUNDER_SIZE && row->key.count != krb_key_size(row->number) ? KRB_KEY_SIZE : wanted, answer);
+}
+
 static void try_row(char **columns) {
     struct row row = {columns[0], (int32_t)strtol(columns[1], NULL, 10), (int32_t)strtol(columns[3], NULL, 10), octets_of_text(columns[2]), octets_of_text(columns[4]), {NULL, 0}};
     if (strstr(row.call, "_size")) {
@@ -70,10 +82,8 @@ static void try_row(char **columns) {
         } else if (!strcmp(row.call, "verify_checksum")) {
             krb_status status = krb_verify_checksum(row.number, row.key.at, row.key.count, row.usage, row.input.at, row.input.count, row.beside.at, row.beside.count);
             EXPECT(status == wanted, "verify_checksum %d: status %u", row.number, status);
-        } else if (is_answering(row.call) && wanted == KRB_DONE) {
-            try_rooms(&row, &answer);
         } else {
-            try_refusal(&row, wanted);
+            try_answer(&row, wanted, &answer);
         }
         drop(&answer);
     }

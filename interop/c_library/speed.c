@@ -1,5 +1,5 @@
 /* Times beside libkrb5, in microseconds of processor time a call, the least of many windows: speed MESSAGES. `krb5_c_*` takes the key each time, as ours
-   does; `krb5_k_*` keeps what is derived of it. */
+   does without a kept key; `krb5_k_*` keeps what is derived of it. */
 #include "calls.h"
 #include <krb5/krb5.h>
 #include <stdio.h>
@@ -42,6 +42,7 @@ struct turn {
     const struct suite *suite;
     krb5_keyblock key;
     krb5_key kept;
+    krb_key ours_kept;
     size_t length, ours_size;
     uint8_t confounder[16];
     krb5_data in;
@@ -58,6 +59,11 @@ static void seal_ours(void *what) {
     size_t size;
     need(krb_encrypt(it->suite->etype, it->key.contents, it->key.length, 2, it->confounder, it->suite->confounder, plain, it->length, ours, sizeof ours, &size) == KRB_DONE);
 }
+static void seal_kept(void *what) {
+    struct turn *it = what;
+    size_t size;
+    need(krb_encrypt_kept(&it->ours_kept, it->confounder, it->suite->confounder, plain, it->length, ours, sizeof ours, &size) == KRB_DONE);
+}
 static void seal_c(void *what) {
     struct turn *it = what;
     it->sealed.ciphertext.length = sizeof theirs;
@@ -72,6 +78,11 @@ static void open_ours(void *what) {
     struct turn *it = what;
     size_t size;
     need(krb_decrypt(it->suite->etype, it->key.contents, it->key.length, 2, theirs, it->sealed.ciphertext.length, back, sizeof back, &size) == KRB_DONE);
+}
+static void open_kept(void *what) {
+    struct turn *it = what;
+    size_t size;
+    need(krb_decrypt_kept(&it->ours_kept, theirs, it->sealed.ciphertext.length, back, sizeof back, &size) == KRB_DONE);
 }
 static void open_c(void *what) {
     struct turn *it = what;
@@ -124,21 +135,25 @@ static void decode_theirs(void *what) {
     krb5_free_enc_tkt_part(context, part);
 }
 
+/* Ours, then those of libkrb5; and behind them ours under a kept key, where there is such a call. */
 static void time_messages(const char *name, timed *const *calls) {
     static const size_t lengths[] = {64, 1024, 65536};
-    printf("\n%-9s %6s %7s %10s %10s %10s %8s %8s\n", name, "etype", "octets", "ours", "krb5_c_", "krb5_k_", "to c", "to k");
+    int count = calls[3] ? 4 : 3;
+    printf("\n%-9s %6s %7s %10s %10s %10s %10s %8s %8s\n", name, "etype", "octets", "ours", "krb5_c_", "kept", "krb5_k_", "to c", "kept/k");
     for (int s = 0; s < SUITES; s++)
         for (int n = 0; n < 3; n++) {
             struct turn it = {.suite = &suites[s], .length = lengths[n]};
-            double least[3];
+            double least[4];
             need(!krb5_c_make_random_key(context, it.suite->etype, &it.key) && !krb5_k_create_key(context, &it.key, &it.kept));
+            need(krb_keep_key(it.suite->etype, it.key.contents, it.key.length, 2, &it.ours_kept) == KRB_DONE);
             draw(it.confounder, sizeof it.confounder);
             draw(plain, it.length);
             it.in.data = (char *)plain, it.in.length = (unsigned)it.length;
             it.sealed.ciphertext.data = (char *)theirs;
             seal_c(&it);
-            time_all(calls, 3, &it, least);
-            printf("%-9s %6d %7zu %10.2f %10.2f %10.2f %8.2f %8.2f\n", name, it.suite->etype, it.length, least[0], least[1], least[2], least[0] / least[1], least[0] / least[2]);
+            time_all(calls, count, &it, least);
+            double kept = least[count == 4 ? 3 : 0];
+            printf("%-9s %6d %7zu %10.2f %10.2f %10.2f %10.2f %8.2f %8.2f\n", name, it.suite->etype, it.length, least[0], least[1], kept, least[2], least[0] / least[1], kept / least[2]);
             krb5_k_free_key(context, it.kept);
             krb5_free_keyblock_contents(context, &it.key);
         }
@@ -177,7 +192,7 @@ static void time_parts(const char *name) {
 }
 
 int main(int count, char **words) {
-    timed *const seals[] = {seal_ours, seal_c, seal_k}, *const opens[] = {open_ours, open_c, open_k}, *const sums[] = {sum_ours, sum_c, sum_k};
+    timed *const seals[] = {seal_ours, seal_c, seal_k, seal_kept}, *const opens[] = {open_ours, open_c, open_k, open_kept}, *const sums[] = {sum_ours, sum_c, sum_k, NULL};
     if (count != 2) die("speed MESSAGES");
     if (krb5_init_context(&context)) die("libkrb5 does not begin");
     printf("microseconds of processor time a call, the least of %d windows of 4 ms and more\n", WINDOWS);

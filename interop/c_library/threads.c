@@ -14,7 +14,20 @@ struct task {
     long wrong;
 };
 static struct task tasks[THREADS];
+static krb_key shared[SUITES]; /* kept keys that all threads of a suite use at once */
 static pthread_barrier_t all;
+
+/* What is sealed under the shared key is opened by it, and not by the key of the thread. */
+static int is_same_kept(const struct task *it, const uint8_t *sealed_alone, size_t size_alone) {
+    const krb_key *kept = &shared[it->suite - suites];
+    uint8_t sealed[PAYLOAD + 64], opened[PAYLOAD + 64];
+    size_t size, opened_size;
+    int well = krb_encrypt_kept(kept, it->confounder, it->suite->confounder, it->payload, it->length, sealed, sizeof sealed, &size) == KRB_DONE;
+    well = well && size == size_alone && memcmp(sealed, sealed_alone, size);
+    well = well && krb_decrypt_kept(kept, sealed, size, opened, sizeof opened, &opened_size) == KRB_DONE;
+    well = well && opened_size >= it->length && !memcmp(opened, it->payload, it->length);
+    return well && krb_decrypt_kept(kept, sealed_alone, size_alone, opened, sizeof opened, &opened_size) == KRB_INTEGRITY;
+}
 
 static int is_same(const struct task *it, int first) {
     const struct suite *suite = it->suite;
@@ -27,6 +40,7 @@ static int is_same(const struct task *it, int first) {
     well = well && krb_verify_checksum(suite->cksumtype, it->key, suite->key, 7, it->payload, it->length, sum, sum_size) == KRB_DONE;
     well = well && krb_verify_checksum(suite->cksumtype, it->key, suite->key, 8, it->payload, it->length, sum, sum_size) == KRB_INTEGRITY;
     well = well && krb_random_to_key(suite->etype, it->payload, suite->seed, made, sizeof made, &made_size) == KRB_DONE;
+    well = well && is_same_kept(it, sealed, size);
     sealed[size - 1] ^= 1;
     well = well && krb_decrypt(suite->etype, it->key, suite->key, 7, sealed, size, opened, sizeof opened, &opened_size) == KRB_INTEGRITY;
     sealed[size - 1] ^= 1;
@@ -51,6 +65,11 @@ static void *work(void *argument) {
 int main(void) {
     pthread_t threads[THREADS];
     pthread_barrier_init(&all, NULL, THREADS);
+    for (int k = 0; k < SUITES; k++) {
+        uint8_t key[32];
+        draw(key, sizeof key);
+        if (krb_keep_key(suites[k].etype, key, suites[k].key, 7, &shared[k]) != KRB_DONE) die("no key is kept");
+    }
     for (int k = 0; k < THREADS; k++) {
         struct task *it = &tasks[k];
         it->suite = &suites[k % SUITES];

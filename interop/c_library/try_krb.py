@@ -45,6 +45,13 @@ def rows(name, count):
                 yield (line.rstrip("\n").split("\t") + [""] * count)[:count]
 
 
+def kept_outcome(number, key, answer, wanted):
+    """A key's size is refused before a confounder's where the key is kept first."""
+    if wanted == Status.CONFOUNDER_SIZE and len(key) != SUITES[number][0]:
+        return Status.KEY_SIZE
+    return answer if wanted == Status.DONE else wanted
+
+
 def try_row(row):
     call, number, key, usage, beside, octets, status, answer = row
     number, usage, wanted = int(number), int(usage or 0), Status[status]
@@ -56,11 +63,14 @@ def try_row(row):
         expect(getattr(crypto, call)(number) == int(answer), row)
     elif call == "encrypt":
         expect(outcome(crypto.encrypt, number, key, usage, octets, beside) == (answer if wanted == Status.DONE else wanted), row)
+        expect(outcome(lambda: crypto.KeptKey(number, key, usage).encrypt(octets, beside)) == kept_outcome(number, key, answer, wanted), row)
     elif call == "string_to_key":
         expect(outcome(crypto.string_to_key, number, octets, beside) == (answer if wanted == Status.DONE else wanted), row)
     elif call == "random_to_key":
         expect(outcome(crypto.random_to_key, number, octets) == (answer if wanted == Status.DONE else wanted), row)
     elif call in ("decrypt", "checksum"):
+        if call == "decrypt":
+            expect(outcome(lambda: crypto.KeptKey(number, key, usage).decrypt(octets)) == kept_outcome(number, key, answer, wanted), row)
         expect(outcome(getattr(crypto, call), number, key, usage, octets) == (answer if wanted == Status.DONE else wanted), row)
     elif call == "verify_checksum":
         expect(outcome(crypto.verify_checksum, number, key, usage, octets, beside) == (None if wanted == Status.DONE else wanted), row)

@@ -60,8 +60,14 @@ class Refused(ValueError):
         return Refused, (int(self.status),)
 
 
-NUMBER, SIZE, IN = "number", "size", "in"
-_TYPES = {NUMBER: [ctypes.c_int32], SIZE: [ctypes.c_size_t], IN: [ctypes.c_char_p, ctypes.c_size_t]}
+class Key(ctypes.Structure):
+    """krb_key of krb.h."""
+
+    _fields_ = [("etype", ctypes.c_int32), ("ke", ctypes.c_uint8 * 32), ("ki", ctypes.c_uint8 * 32)]
+
+
+NUMBER, SIZE, IN, KEY = "number", "size", "in", "key"
+_TYPES = {NUMBER: [ctypes.c_int32], SIZE: [ctypes.c_size_t], IN: [ctypes.c_char_p, ctypes.c_size_t], KEY: [ctypes.POINTER(Key)]}
 _OUT = [ctypes.c_void_p, ctypes.c_size_t, ctypes.POINTER(ctypes.c_size_t)]
 
 

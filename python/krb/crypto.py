@@ -7,7 +7,7 @@ import ctypes
 import os
 from typing import Optional
 
-from krb._library import IN, NUMBER, SIZE, Call, Octets, Refused, Status, fold
+from krb._library import IN, KEY, NUMBER, SIZE, Call, Key, Octets, Refused, Status, fold
 
 __all__ = [
     "key_size",
@@ -18,6 +18,7 @@ __all__ = [
     "checksum_key_size",
     "encrypt",
     "decrypt",
+    "KeptKey",
     "string_to_key",
     "random_to_key",
     "checksum",
@@ -33,6 +34,9 @@ _checksum_size = Call("krb_checksum_size", NUMBER, answers=ctypes.c_size_t)
 _checksum_key_size = Call("krb_checksum_key_size", NUMBER, answers=ctypes.c_size_t)
 _encrypt = Call("krb_encrypt", NUMBER, IN, NUMBER, IN, IN, has_room=True)
 _decrypt = Call("krb_decrypt", NUMBER, IN, NUMBER, IN, has_room=True)
+_keep_key = Call("krb_keep_key", NUMBER, IN, NUMBER, KEY)
+_encrypt_kept = Call("krb_encrypt_kept", KEY, IN, IN, has_room=True)
+_decrypt_kept = Call("krb_decrypt_kept", KEY, IN, has_room=True)
 _string_to_key = Call("krb_string_to_key", NUMBER, IN, IN, has_room=True)
 _random_to_key = Call("krb_random_to_key", NUMBER, IN, has_room=True)
 _checksum = Call("krb_checksum", NUMBER, IN, NUMBER, IN, has_room=True)
@@ -85,6 +89,37 @@ def decrypt(etype: int, key: Octets, usage: int, sealed: Octets) -> bytes:
 
     Refused: NUMBER, KEY_SIZE, SEALED_SIZE, PADDING (etype 16), INTEGRITY, MEMORY."""
     return _decrypt.octets(len(sealed), etype, key, usage, sealed)
+
+
+class KeptKey:
+    """A key of an encryption type for one key usage, which is derived once and used often, in any number of threads.
+
+    Refused, when it is made: NUMBER, KEY_SIZE."""
+
+    def __init__(self, etype: int, key: Octets, usage: int) -> None:
+        self._key = Key()
+        status = _keep_key.status(etype, key, usage, self._key)
+        if status != Status.DONE:
+            raise Refused(status)
+        self.etype = etype
+        self.usage = usage
+
+    def __repr__(self) -> str:
+        return "KeptKey(etype=%d, usage=%d)" % (self.etype, self.usage)
+
+    def encrypt(self, payload: Octets, confounder: Optional[Octets] = None) -> bytes:
+        """What `encrypt` makes under this key and usage.
+
+        Refused: CONFOUNDER_SIZE, MEMORY."""
+        if confounder is None:
+            confounder = os.urandom(confounder_size(self.etype))
+        return _encrypt_kept.octets(encrypted_size(self.etype, len(payload)), self._key, confounder, payload)
+
+    def decrypt(self, sealed: Octets) -> bytes:
+        """What `decrypt` opens under this key and usage.
+
+        Refused: SEALED_SIZE, PADDING (etype 16), INTEGRITY, MEMORY."""
+        return _decrypt_kept.octets(len(sealed), self._key, sealed)
 
 
 def string_to_key(etype: int, password: Octets, salt: Octets) -> bytes:

@@ -1,5 +1,5 @@
 -- A kept key is prepared again, as the one that it was derived from.
-use Rattle.std.proofs.Common.{◌≡◌, ◌≤◌, ◌-◌, ◌++◌, ℕ, ℤ, List, Result, Ok, Err, MatchResult, length, take, drop, replicate, sym, ap, subst, ◌∙◌, inl, inr, le_refl}
+use Rattle.std.proofs.Common.{◌≡◌, ◌-◌, ◌++◌, ℕ, ℤ, List, Result, Ok, Err, MatchResult, length, take, drop, replicate, sym, ap, subst, ◌∙◌, inr, le_refl}
 use Rattle.std.proofs.lemmas.List.{drop-replicate}
 use Rattle.std.proofs.lemmas.Slice.{drop-append-drop}
 use Rattle.krb_crypto_message.specs.Sealing.{IsTheOne, IsGiven, Opens}
