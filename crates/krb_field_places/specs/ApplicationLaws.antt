@@ -1,17 +1,15 @@
 -- The paths lead to the fields of the messages of applications.
-use Rattle.std.proofs.Common.{◌≡◌, ℕ, pos, ◌+◌, List, [], ◌∷◌, ◌++◌, Option, Some, None, true, refl, sym, subst, append_assoc}
+use Rattle.std.proofs.Common.{◌≡◌, ℕ, ◌+◌, List, [], ◌∷◌, ◌++◌, Option, Some, None, true, refl, sym, subst, append_assoc}
 use Rattle.std.proofs.lemmas.List.{append-nil}
 use Rattle.std.specs.List.{flat_map, slice_get}
-use Rattle.std.specs.Option.{option_map, option_and_then}
+use Rattle.std.specs.Option.{option_map}
 use Rattle.krb_der_core.specs.Integer.{shortest}
 use Rattle.krb_der_core.specs.BitString.{bits_content}
-use Rattle.krb_der_core.specs.GeneralizedTime.{time_content}
-use Rattle.krb_der_core.specs.Encoding.{optional}
-use Rattle.krb_der.specs.Asn1.{bit_string, explicit, general_string, generalized_time, integer, octet_string, sequence, sequence_of}
+use Rattle.krb_der.specs.Asn1.{bit_string, explicit, integer, sequence, sequence_of}
 use Rattle.krb_places.specs.declared.place.Step.{Step}
 use Rattle.krb_places.specs.declared.place.Step.TheVariants.{Tag, Item}
 use Rattle.krb_places.specs.Rows.{Element}
-use Rattle.krb_places.specs.Contents.{Pins, PinsIn, Slot, content_of, distinct, in_each, in_some, may, must, optional_map, pins_element, pins_end, pins_item, slots_octets}
+use Rattle.krb_places.specs.Contents.{Pins, PinsIn, Slot, content_of, distinct, in_some, must, pins_element, pins_end, pins_item, slots_octets}
 use Rattle.krb_msg_types.specs.declared.data_types.tickets.TicketInner.{TicketInner}
 use Rattle.krb_msg_types.specs.declared.data_types.encryption.EncryptedData.{EncryptedData}
 use Rattle.krb_msg_app.specs.declared.messages.application.ApReqInner.{ApReqInner}
@@ -21,10 +19,10 @@ use Rattle.krb_msg_app.specs.declared.messages.credentials.KrbCredInner.{KrbCred
 use Rattle.krb_field_places.specs.declared.field.Field.{Field}
 use Rattle.krb_field_places.specs.declared.field.Field.TheVariants as field
 use Rattle.krb_field_places.specs.Found.{PinsField}
-use Rattle.krb_field_places.specs.Encodings.{name_encoding, sealed_encoding, ticket_encoding, ticket_octets}
-use Rattle.krb_field_places.specs.Fields.{component, enclosed_field, sealed_field, ap_request_field, ap_reply_field, private_field, credentials_field}
-use Rattle.krb_field_places.specs.Paths.{bits_path, component_path, in_sequence, integer_path, octets_path, text_path, time_path, within, enclosed_path, sealed_path, ap_request_path, ap_reply_path, private_path, credentials_path}
-use Rattle.krb_field_places.specs.TypeLaws.{component_pins, enclosed_pins, in_same, pins_in_sequence, pins_primitive, sealed_pins}
+use Rattle.krb_field_places.specs.Encodings.{sealed_encoding, ticket_encoding, ticket_octets}
+use Rattle.krb_field_places.specs.Fields.{component, sealed_field, ap_request_field, ap_reply_field, private_field, credentials_field}
+use Rattle.krb_field_places.specs.Paths.{bits_path, component_path, in_sequence, integer_path, octets_path, text_path, within, sealed_path, ap_request_path, ap_reply_path, private_path, credentials_path}
+use Rattle.krb_field_places.specs.TypeLaws.{enclosed_pins, pins_in_sequence, pins_primitive, sealed_pins}
 
 -- ---- KRB-AP-REQ
 

@@ -1,11 +1,10 @@
 -- What a path finds is the field.
-use Rattle.std.proofs.Common.{◌≡◌, ℕ, ◌+◌, ◌≤◌, List, ◌∷◌, Option, Some, None, refl, sym, ap, ◌∙◌}
+use Rattle.std.proofs.Common.{ℕ, List, ◌∷◌, Option, Some, None, refl, ap}
 use Rattle.krb_der_core.specs.Tlv.{tlv}
 use Rattle.krb_places.specs.declared.place.Place.{Place}
 use Rattle.krb_places.specs.declared.place.Step.{Step}
 use Rattle.krb_places.specs.declared.place.Step.TheVariants.{Tag}
 use Rattle.krb_places.specs.Places.{octets_at}
-use Rattle.krb_places.specs.Paths.{IsPlace, LeadsNowhere}
 use Rattle.krb_places.specs.PathLaws.{one_end}
 use Rattle.krb_places.specs.Contents.{Pins, pins_element}
 use Rattle.krb_field_places.specs.Found.{IsFieldAt, IsFoundAt, PinsField, under}

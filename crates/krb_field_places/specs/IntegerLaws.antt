@@ -1,5 +1,5 @@
 -- The fields that are INTEGERs hold one.
-use Rattle.std.proofs.Common.{◌≡◌, ℕ, ℤ, pos, List, Option, Some, None, Bool, true, false, refl}
+use Rattle.std.proofs.Common.{◌≡◌, ℕ, ℤ, pos, List, Option, Some, None, true, refl}
 use Rattle.std.specs.List.{slice_get}
 use Rattle.std.specs.Option.{option_map}
 use Rattle.krb_der_core.specs.Integer.{shortest}
@@ -15,7 +15,7 @@ use Rattle.krb_msg.specs.declared.messages.errors.KrbErrorInner.{KrbErrorInner}
 use Rattle.krb_field_places.specs.declared.field.Field.{Field}
 use Rattle.krb_field_places.specs.declared.field.Field.TheVariants as field
 use Rattle.krb_field_places.specs.Found.{HoldsInteger, is_integer}
-use Rattle.krb_field_places.specs.Fields.{ap_reply_field, ap_request_field, credentials_field, enclosed_field, error_field, private_field, reply_field, request_field, sealed_field, ticket_field}
+use Rattle.krb_field_places.specs.Fields.{ap_reply_field, ap_request_field, credentials_field, error_field, private_field, reply_field, request_field, sealed_field, ticket_field}
 
 -- every field that is an INTEGER holds one
 abbrev pub AreIntegers : (Field → Option (List ℕ)) → Type 0

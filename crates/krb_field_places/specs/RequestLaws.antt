@@ -1,5 +1,5 @@
 -- The paths lead to the fields of requests.
-use Rattle.std.proofs.Common.{◌≡◌, ℕ, ℤ, ◌+◌, List, [], ◌∷◌, ◌++◌, Option, Some, None, refl, append_assoc}
+use Rattle.std.proofs.Common.{◌≡◌, ℕ, ℤ, ◌+◌, List, [], ◌∷◌, ◌++◌, Option, Some, refl, append_assoc}
 use Rattle.std.proofs.lemmas.List.{append-nil}
 use Rattle.std.specs.List.{flat_map, slice_get}
 use Rattle.krb_der_core.specs.Integer.{shortest}
@@ -13,14 +13,13 @@ use Rattle.krb_places.specs.Rows.{Element}
 use Rattle.krb_places.specs.Contents.{Pins, PinsIn, Slot, content_of, in_each, in_some, may, must, optional_map, pins_element, pins_item, slots_octets}
 use Rattle.krb_msg_types.specs.declared.data_types.addresses.HostAddress.{HostAddress}
 use Rattle.krb_msg_types.specs.declared.data_types.pre_authentication.PaData.{PaData}
-use Rattle.krb_msg_types.specs.declared.data_types.tickets.TicketInner.{TicketInner}
 use Rattle.krb_msg_kdc.specs.declared.messages.requests.KdcReqBody.{KdcReqBody}
 use Rattle.krb_msg_kdc.specs.declared.messages.requests.KdcReq.{KdcReq}
 use Rattle.krb_field_places.specs.declared.field.Field.{Field}
 use Rattle.krb_field_places.specs.declared.field.Field.TheVariants as field
 use Rattle.krb_field_places.specs.Found.{PinsField}
 use Rattle.krb_field_places.specs.Fields.{component, request_field}
-use Rattle.krb_field_places.specs.Paths.{bits_path, component_path, in_body, in_sequence, integer_path, request_path, text_path, time_path}
+use Rattle.krb_field_places.specs.Paths.{bits_path, component_path, in_sequence, integer_path, request_path, text_path, time_path}
 use Rattle.krb_field_places.specs.TypeLaws.{component_pins, pins_in_sequence, pins_primitive}
 use Rattle.krb_field_places.specs.Encodings.{name_encoding, sealed_encoding, ticket_octets}
 

@@ -1,16 +1,16 @@
 -- The paths lead to the fields of names, sealed parts and tickets.
-use Rattle.std.proofs.Common.{◌≡◌, ℕ, ◌+◌, List, [], ◌∷◌, ◌++◌, Option, Some, None, true, refl, sym, ap, subst, ◌∙◌, append_assoc}
+use Rattle.std.proofs.Common.{◌≡◌, ℕ, ◌+◌, List, [], ◌∷◌, ◌++◌, Option, Some, None, true, refl, sym, subst, append_assoc}
 use Rattle.std.proofs.lemmas.List.{append-nil}
 use Rattle.std.specs.List.{flat_map, slice_get}
-use Rattle.std.specs.Option.{option_map, option_and_then}
+use Rattle.std.specs.Option.{option_map}
 use Rattle.krb_der_core.specs.Tlv.{tlv}
 use Rattle.krb_der_core.specs.Integer.{shortest}
 use Rattle.krb_der_core.specs.Encoding.{optional}
-use Rattle.krb_der.specs.Asn1.{explicit, general_string, integer, octet_string, sequence, sequence_of}
+use Rattle.krb_der.specs.Asn1.{explicit, general_string, integer, octet_string, sequence_of}
 use Rattle.krb_places.specs.declared.place.Step.{Step}
 use Rattle.krb_places.specs.declared.place.Step.TheVariants.{Tag, Item}
 use Rattle.krb_places.specs.Rows.{Element}
-use Rattle.krb_places.specs.Contents.{Pins, PinsIn, Slot, content_of, distinct, in_each, in_some, may, must, optional_map, pins_element, pins_end, pins_item, pins_tag, slots_hold, slots_octets}
+use Rattle.krb_places.specs.Contents.{Pins, PinsIn, Slot, content_of, distinct, in_some, may, must, optional_map, pins_element, pins_end, pins_item, pins_tag, slots_hold, slots_octets}
 use Rattle.krb_msg_types.specs.declared.data_types.names.PrincipalName.{PrincipalName}
 use Rattle.krb_msg_types.specs.declared.data_types.encryption.EncryptedData.{EncryptedData}
 use Rattle.krb_msg_types.specs.declared.data_types.tickets.TicketInner.{TicketInner}
@@ -19,7 +19,7 @@ use Rattle.krb_field_places.specs.declared.field.Field.TheVariants as field
 use Rattle.krb_field_places.specs.Found.{PinsField}
 use Rattle.krb_field_places.specs.Encodings.{name_encoding, sealed_encoding, ticket_encoding, ticket_octets}
 use Rattle.krb_field_places.specs.Fields.{component, enclosed_field, sealed_field, ticket_field}
-use Rattle.krb_field_places.specs.Paths.{component_path, enclosed_path, in_sequence, sealed_path, integer_path, octets_path, text_path, ticket_path, time_path}
+use Rattle.krb_field_places.specs.Paths.{component_path, enclosed_path, in_sequence, sealed_path, integer_path, octets_path, text_path, ticket_path}
 
 -- a SEQUENCE of what may stand in it, each with a tag of its own
 pub pins_in_sequence : (n : ℕ) (path : List Step) (slots : List Slot) (octets : List ℕ) (field : Option (List ℕ)) → octets ≡ slots_octets slots → distinct slots ≡ true

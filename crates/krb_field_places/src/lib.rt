@@ -12,4 +12,4 @@ mod steps;
 mod tickets;
 
 pub use field::{Field, field_of, is_number};
-pub use find::{Placed, place_in};
+pub use find::{Message, Placed, place_in};

@@ -1,5 +1,4 @@
-use Rattle.std.proofs.Common.{◌≡◌, ◌+◌, ℕ, List, min, ap, sym, subst, ◌∙◌, arith}
-use Rattle.krb_der_core.specs.Tlv.{tlv}
+use Rattle.std.proofs.Common.{◌≡◌, ◌+◌, ℕ, List, sym, subst, arith}
 use Rattle.krb_field_places.specs.Found.{IsFieldAt, IsFoundAt, under}
 use Rattle.krb_field_places.specs.FoundLaws.{found_under}
 use Rattle.krb_field_places.proofs.find.place_in.Goals as goal
