@@ -8,26 +8,26 @@ use crate::kind::{FieldMessage, message_of};
 use crate::numbers::get_number;
 use crate::octets::get_octets;
 use krb_calls::Refusal;
-use krb_der::{ApplicationTag, Der, DerEncode, DerSequence};
-use krb_field_places::{Field, Placed, field_of};
-use krb_msg::messages::{KrbError, KrbErrorInner};
-use krb_msg_app::messages::{
-    ApRep, ApRepInner, ApReq, ApReqInner, KrbCred, KrbCredInner, KrbPriv, KrbPrivInner,
-};
-use krb_msg_kdc::messages::{AsRep, AsReq, KdcRep, KdcReq, TgsRep, TgsReq};
-use krb_msg_types::data_types::{Ticket, TicketInner};
+use krb_der::{Der, DerEncode};
+use krb_field_places::{Field, Message, field_of};
+use krb_msg::messages::KrbError;
+use krb_msg_app::messages::{ApRep, ApReq, KrbCred, KrbPriv};
+use krb_msg_kdc::messages::{AsRep, AsReq, TgsRep, TgsReq};
+use krb_msg_types::data_types::Ticket;
 use std::alloc::Global;
 
-/// Where the field stands in the octets of this message.
+/// Where the field stands in the octets of this message: the messages, in the order of their tags.
 fn place_as<
-    TicketType: Placed + Der + DerSequence + Drop,
-    Request: Placed + Der + DerSequence + Drop,
-    Reply: Placed + Der + DerSequence + Drop,
-    ApRequest: Placed + Der + DerSequence + Drop,
-    ApReply: Placed + Der + DerSequence + Drop,
-    Private: Placed + Der + DerSequence + Drop,
-    Credentials: Placed + Der + DerSequence + Drop,
-    Error: Placed + Der + DerSequence + Drop,
+    TicketType: Message + Der + Drop,
+    AsRequest: Message + Der + Drop,
+    AsReply: Message + Der + Drop,
+    TgsRequest: Message + Der + Drop,
+    TgsReply: Message + Der + Drop,
+    ApRequest: Message + Der + Drop,
+    ApReply: Message + Der + Drop,
+    Private: Message + Der + Drop,
+    Credentials: Message + Der + Drop,
+    Error: Message + Der + Drop,
 >(
     alloc: Global,
     message: FieldMessage,
@@ -38,42 +38,46 @@ fn place_as<
     size: &mut usize,
 ) -> u32
     ensures { answer_of (record {
-      ticket = IsPlaceGiven ⟦<ApplicationTag<TicketType, 1> as DerEncode>⟧ TicketType.octets_of;
-      as_req = IsPlaceGiven ⟦<ApplicationTag<Request, 10> as DerEncode>⟧ Request.octets_of;
-      as_rep = IsPlaceGiven ⟦<ApplicationTag<Reply, 11> as DerEncode>⟧ Reply.octets_of;
-      tgs_req = IsPlaceGiven ⟦<ApplicationTag<Request, 12> as DerEncode>⟧ Request.octets_of;
-      tgs_rep = IsPlaceGiven ⟦<ApplicationTag<Reply, 13> as DerEncode>⟧ Reply.octets_of;
-      ap_req = IsPlaceGiven ⟦<ApplicationTag<ApRequest, 14> as DerEncode>⟧ ApRequest.octets_of;
-      ap_rep = IsPlaceGiven ⟦<ApplicationTag<ApReply, 15> as DerEncode>⟧ ApReply.octets_of;
-      krb_priv = IsPlaceGiven ⟦<ApplicationTag<Private, 21> as DerEncode>⟧ Private.octets_of;
-      krb_cred = IsPlaceGiven ⟦<ApplicationTag<Credentials, 22> as DerEncode>⟧ Credentials.octets_of;
-      krb_error = IsPlaceGiven ⟦<ApplicationTag<Error, 30> as DerEncode>⟧ Error.octets_of;
+      ticket = IsPlaceGiven ⟦<TicketType as DerEncode>⟧ TicketType.octets_of;
+      as_req = IsPlaceGiven ⟦<AsRequest as DerEncode>⟧ AsRequest.octets_of;
+      as_rep = IsPlaceGiven ⟦<AsReply as DerEncode>⟧ AsReply.octets_of;
+      tgs_req = IsPlaceGiven ⟦<TgsRequest as DerEncode>⟧ TgsRequest.octets_of;
+      tgs_rep = IsPlaceGiven ⟦<TgsReply as DerEncode>⟧ TgsReply.octets_of;
+      ap_req = IsPlaceGiven ⟦<ApRequest as DerEncode>⟧ ApRequest.octets_of;
+      ap_rep = IsPlaceGiven ⟦<ApReply as DerEncode>⟧ ApReply.octets_of;
+      krb_priv = IsPlaceGiven ⟦<Private as DerEncode>⟧ Private.octets_of;
+      krb_cred = IsPlaceGiven ⟦<Credentials as DerEncode>⟧ Credentials.octets_of;
+      krb_error = IsPlaceGiven ⟦<Error as DerEncode>⟧ Error.octets_of;
     }) message field index octets.now offset.new size.new result }
 {
     match message {
-        FieldMessage::Ticket => get_octets::<TicketType, 1>(alloc, field, index, octets, offset, size),
-        FieldMessage::AsReq => get_octets::<Request, 10>(alloc, field, index, octets, offset, size),
-        FieldMessage::AsRep => get_octets::<Reply, 11>(alloc, field, index, octets, offset, size),
-        FieldMessage::TgsReq => get_octets::<Request, 12>(alloc, field, index, octets, offset, size),
-        FieldMessage::TgsRep => get_octets::<Reply, 13>(alloc, field, index, octets, offset, size),
-        FieldMessage::ApReq => get_octets::<ApRequest, 14>(alloc, field, index, octets, offset, size),
-        FieldMessage::ApRep => get_octets::<ApReply, 15>(alloc, field, index, octets, offset, size),
-        FieldMessage::KrbPriv => get_octets::<Private, 21>(alloc, field, index, octets, offset, size),
-        FieldMessage::KrbCred => get_octets::<Credentials, 22>(alloc, field, index, octets, offset, size),
-        FieldMessage::KrbError => get_octets::<Error, 30>(alloc, field, index, octets, offset, size),
+        FieldMessage::Ticket => get_octets::<TicketType>(alloc, field, index, octets, offset, size),
+        FieldMessage::AsReq => get_octets::<AsRequest>(alloc, field, index, octets, offset, size),
+        FieldMessage::AsRep => get_octets::<AsReply>(alloc, field, index, octets, offset, size),
+        FieldMessage::TgsReq => get_octets::<TgsRequest>(alloc, field, index, octets, offset, size),
+        FieldMessage::TgsRep => get_octets::<TgsReply>(alloc, field, index, octets, offset, size),
+        FieldMessage::ApReq => get_octets::<ApRequest>(alloc, field, index, octets, offset, size),
+        FieldMessage::ApRep => get_octets::<ApReply>(alloc, field, index, octets, offset, size),
+        FieldMessage::KrbPriv => get_octets::<Private>(alloc, field, index, octets, offset, size),
+        FieldMessage::KrbCred => get_octets::<Credentials>(
+            alloc, field, index, octets, offset, size,
+        ),
+        FieldMessage::KrbError => get_octets::<Error>(alloc, field, index, octets, offset, size),
     }
 }
 
-/// The number that the field is, of this message.
+/// The number that the field is, of this message: the messages, in the order of their tags.
 fn number_as<
-    TicketType: Placed + Der + DerSequence + Drop,
-    Request: Placed + Der + DerSequence + Drop,
-    Reply: Placed + Der + DerSequence + Drop,
-    ApRequest: Placed + Der + DerSequence + Drop,
-    ApReply: Placed + Der + DerSequence + Drop,
-    Private: Placed + Der + DerSequence + Drop,
-    Credentials: Placed + Der + DerSequence + Drop,
-    Error: Placed + Der + DerSequence + Drop,
+    TicketType: Message + Der + Drop,
+    AsRequest: Message + Der + Drop,
+    AsReply: Message + Der + Drop,
+    TgsRequest: Message + Der + Drop,
+    TgsReply: Message + Der + Drop,
+    ApRequest: Message + Der + Drop,
+    ApReply: Message + Der + Drop,
+    Private: Message + Der + Drop,
+    Credentials: Message + Der + Drop,
+    Error: Message + Der + Drop,
 >(
     alloc: Global,
     message: FieldMessage,
@@ -83,29 +87,29 @@ fn number_as<
     number: &mut i64,
 ) -> u32
     ensures { answer_of (record {
-      ticket = IsNumberGiven ⟦<ApplicationTag<TicketType, 1> as DerEncode>⟧ TicketType.octets_of;
-      as_req = IsNumberGiven ⟦<ApplicationTag<Request, 10> as DerEncode>⟧ Request.octets_of;
-      as_rep = IsNumberGiven ⟦<ApplicationTag<Reply, 11> as DerEncode>⟧ Reply.octets_of;
-      tgs_req = IsNumberGiven ⟦<ApplicationTag<Request, 12> as DerEncode>⟧ Request.octets_of;
-      tgs_rep = IsNumberGiven ⟦<ApplicationTag<Reply, 13> as DerEncode>⟧ Reply.octets_of;
-      ap_req = IsNumberGiven ⟦<ApplicationTag<ApRequest, 14> as DerEncode>⟧ ApRequest.octets_of;
-      ap_rep = IsNumberGiven ⟦<ApplicationTag<ApReply, 15> as DerEncode>⟧ ApReply.octets_of;
-      krb_priv = IsNumberGiven ⟦<ApplicationTag<Private, 21> as DerEncode>⟧ Private.octets_of;
-      krb_cred = IsNumberGiven ⟦<ApplicationTag<Credentials, 22> as DerEncode>⟧ Credentials.octets_of;
-      krb_error = IsNumberGiven ⟦<ApplicationTag<Error, 30> as DerEncode>⟧ Error.octets_of;
+      ticket = IsNumberGiven ⟦<TicketType as DerEncode>⟧ TicketType.octets_of;
+      as_req = IsNumberGiven ⟦<AsRequest as DerEncode>⟧ AsRequest.octets_of;
+      as_rep = IsNumberGiven ⟦<AsReply as DerEncode>⟧ AsReply.octets_of;
+      tgs_req = IsNumberGiven ⟦<TgsRequest as DerEncode>⟧ TgsRequest.octets_of;
+      tgs_rep = IsNumberGiven ⟦<TgsReply as DerEncode>⟧ TgsReply.octets_of;
+      ap_req = IsNumberGiven ⟦<ApRequest as DerEncode>⟧ ApRequest.octets_of;
+      ap_rep = IsNumberGiven ⟦<ApReply as DerEncode>⟧ ApReply.octets_of;
+      krb_priv = IsNumberGiven ⟦<Private as DerEncode>⟧ Private.octets_of;
+      krb_cred = IsNumberGiven ⟦<Credentials as DerEncode>⟧ Credentials.octets_of;
+      krb_error = IsNumberGiven ⟦<Error as DerEncode>⟧ Error.octets_of;
     }) message field index octets.now number.new result }
 {
     match message {
-        FieldMessage::Ticket => get_number::<TicketType, 1>(alloc, field, index, octets, number),
-        FieldMessage::AsReq => get_number::<Request, 10>(alloc, field, index, octets, number),
-        FieldMessage::AsRep => get_number::<Reply, 11>(alloc, field, index, octets, number),
-        FieldMessage::TgsReq => get_number::<Request, 12>(alloc, field, index, octets, number),
-        FieldMessage::TgsRep => get_number::<Reply, 13>(alloc, field, index, octets, number),
-        FieldMessage::ApReq => get_number::<ApRequest, 14>(alloc, field, index, octets, number),
-        FieldMessage::ApRep => get_number::<ApReply, 15>(alloc, field, index, octets, number),
-        FieldMessage::KrbPriv => get_number::<Private, 21>(alloc, field, index, octets, number),
-        FieldMessage::KrbCred => get_number::<Credentials, 22>(alloc, field, index, octets, number),
-        FieldMessage::KrbError => get_number::<Error, 30>(alloc, field, index, octets, number),
+        FieldMessage::Ticket => get_number::<TicketType>(alloc, field, index, octets, number),
+        FieldMessage::AsReq => get_number::<AsRequest>(alloc, field, index, octets, number),
+        FieldMessage::AsRep => get_number::<AsReply>(alloc, field, index, octets, number),
+        FieldMessage::TgsReq => get_number::<TgsRequest>(alloc, field, index, octets, number),
+        FieldMessage::TgsRep => get_number::<TgsReply>(alloc, field, index, octets, number),
+        FieldMessage::ApReq => get_number::<ApRequest>(alloc, field, index, octets, number),
+        FieldMessage::ApRep => get_number::<ApReply>(alloc, field, index, octets, number),
+        FieldMessage::KrbPriv => get_number::<Private>(alloc, field, index, octets, number),
+        FieldMessage::KrbCred => get_number::<Credentials>(alloc, field, index, octets, number),
+        FieldMessage::KrbError => get_number::<Error>(alloc, field, index, octets, number),
     }
 }
 
@@ -144,9 +148,9 @@ pub fn place(
     let Some(field) = field_of(field) else {
         return Refusal::Number.status();
     };
-    place_as::<
-        TicketInner, KdcReq, KdcRep, ApReqInner, ApRepInner, KrbPrivInner, KrbCredInner, KrbErrorInner,
-    >(alloc, message, field, index, octets, offset, size)
+    place_as::<Ticket, AsReq, AsRep, TgsReq, TgsRep, ApReq, ApRep, KrbPriv, KrbCred, KrbError>(
+        alloc, message, field, index, octets, offset, size,
+    )
 }
 
 /// The number that a field of a message or a ticket is, as `place` finds it.
@@ -182,7 +186,7 @@ pub fn number(
     let Some(field) = field_of(field) else {
         return Refusal::Number.status();
     };
-    number_as::<
-        TicketInner, KdcReq, KdcRep, ApReqInner, ApRepInner, KrbPrivInner, KrbCredInner, KrbErrorInner,
-    >(alloc, message, field, index, octets, number)
+    number_as::<Ticket, AsReq, AsRep, TgsReq, TgsRep, ApReq, ApRep, KrbPriv, KrbCred, KrbError>(
+        alloc, message, field, index, octets, number,
+    )
 }

@@ -3,16 +3,16 @@
 ghost use Rattle.krb_field_calls.specs.Given.{IsPlaceGiven};
 
 use crate::statuses::ABSENT;
-use krb_der::{ApplicationTag, Der, DerEncode, DerSequence};
-use krb_field_places::{Field, Placed, place_in};
+use krb_der::{Der, DerEncode};
+use krb_field_places::{Field, Message};
 use krb_part_calls::read;
 use std::alloc::Global;
 
-/// Hands out where the field stands in the octets of a message under the application tag N: how many octets stand before it, and how many it has.
+/// Hands out where the field stands in the octets of a message: how many octets stand before it, and how many it has.
 ///
 /// Status 0 where the message has it, and 20 where it has no such field or no item of this index. Before that the octets are read strictly, and
 /// refused as `krb_part_calls::read` refuses them: 2, 9, 10 or 11. On every status but 0 `offset` and `size` become 0.
-pub fn get_octets<T: Placed + Der + DerSequence + Drop, const N: u8>(
+pub fn get_octets<M: Message + Der + Drop>(
     alloc: Global,
     field: Field,
     index: usize,
@@ -20,15 +20,15 @@ pub fn get_octets<T: Placed + Der + DerSequence + Drop, const N: u8>(
     offset: &mut usize,
     size: &mut usize,
 ) -> u32
-    ensures { IsPlaceGiven ⟦<ApplicationTag<T, N> as DerEncode>⟧ T.octets_of field index octets.now offset.new size.new result }
+    ensures { IsPlaceGiven ⟦<M as DerEncode>⟧ M.octets_of field index octets.now offset.new size.new result }
 {
     *offset = 0;
     *size = 0;
-    let status = read::<ApplicationTag<T, N>>(alloc, octets);
+    let status = read::<M>(alloc, octets);
     if status != 0 {
         return status;
     }
-    match place_in::<T, N>(field, index, octets) {
+    match M::place(field, index, octets) {
         Some(place) => {
             *offset = place.offset;
             *size = place.size;
