@@ -2,5 +2,6 @@
 #![tactic(auto)]
 
 mod crypto;
+mod fields;
 mod parts;
 mod sizes;
