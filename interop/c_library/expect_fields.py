@@ -1,7 +1,7 @@
 """What krb_get_octets and krb_get_number are to answer: expect_fields.py MESSAGES, whose rows have a message's number and its octets in hexadecimal.
 
-A row for each message, field and index: number, octets, field, index, status, offset, size, and the number where the field is one. It walks the
-elements (X.690, 8.1) by the ASN.1 of RFC 4120, and shares nothing with the library."""
+A row for each message, field and index: number, octets, field, index, status, offset, size, and the number where the field is one, or TOO_LARGE
+where 64 bits do not hold it. It walks the elements (X.690, 8.1) by the ASN.1 of RFC 4120, and shares nothing with the library."""
 
 import sys
 
@@ -121,6 +121,8 @@ def answers(number, octets):
                 yield field, index, "ABSENT", 0, 0, None
             else:
                 value = int.from_bytes(octets[place[0] : place[1]], "big", signed=True) if field in NUMBERS else None
+                if value is not None and not -(2**63) <= value < 2**63:
+                    value = "TOO_LARGE"
                 yield field, index, "DONE", place[0], place[1] - place[0], value
 
 

@@ -87,7 +87,9 @@ int main(int count, char **words) {
             EXPECT(is_refused(&it, KRB_ABSENT, is_number(field) ? KRB_ABSENT : KRB_NUMBER), "field %d of message %d, index %zu: %u, and not absent", field, message, index, it.place);
         } else {
             EXPECT(it.place == KRB_DONE && it.offset == strtoull(columns[5], NULL, 10) && it.size == strtoull(columns[6], NULL, 10), "field %d of message %d, index %zu: %u, %zu octets behind %zu", field, message, index, it.place, it.size, it.offset);
-            if (is_number(field))
+            if (!strcmp(columns[7], "TOO_LARGE"))
+                EXPECT(it.value == KRB_TOO_LARGE && it.number == 0, "number %d of message %d is too large: %u", field, message, it.value);
+            else if (is_number(field))
                 EXPECT(it.value == KRB_DONE && it.number == strtoll(columns[7], NULL, 10), "number %d of message %d, index %zu: %u, %lld", field, message, index, it.value, (long long)it.number);
             else
                 EXPECT(it.value == KRB_NUMBER && it.number == 0, "field %d as a number: %u", field, it.value);

@@ -103,10 +103,11 @@ def try_field(row):
         expect(messages.field(message, field, octets, index) is None, row[2:])
         return
     right = octets[offset : offset + size]
+    number = (Status.TOO_LARGE if value == "TOO_LARGE" else int(value)) if is_number else Status.NUMBER
     expect(messages.field_place(message, field, octets, index) == slice(offset, offset + size), row[2:])
     expect(messages.field_octets(message, field, octets, index) == right, row[2:])
-    expect(outcome(messages.field_number, message, field, octets, index) == (int(value) if is_number else Status.NUMBER), row[2:])
-    expect(messages.field(message, field, octets, index) == (int(value) if is_number else right), row[2:])
+    expect(outcome(messages.field_number, message, field, octets, index) == number, row[2:])
+    expect(outcome(messages.field, message, field, octets, index) == (number if is_number else right), row[2:])
 
 
 def try_other_fields(number, octets):
@@ -116,7 +117,7 @@ def try_other_fields(number, octets):
     for field in (0, -1, 28, 2**31, 2**64 + 1):
         expect(outcome(messages.field, number, field, octets) == Status.NUMBER, "field %d" % field)
     expect(outcome(messages.field, number, messages.Field.NONCE, octets[:-1]) == Status.TRUNCATED, "a field of a cut message")
-    expect(messages.field(number, messages.Field.NONCE, memoryview(octets)) == messages.field(number, messages.Field.NONCE, bytearray(octets)), "forms of octets")
+    expect(messages.field(number, messages.Field.REALM, memoryview(octets)) == messages.field(number, messages.Field.REALM, bytearray(octets)), "forms of octets")
 
 
 def try_forms():
