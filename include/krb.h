@@ -17,8 +17,8 @@
    So no octet of what was sealed is seen where the checksum is wrong. A call with too little room does the whole work before it answers
    KRB_ROOM; the sizes below say how much room suffices.
 
-   What the caller owes, and nothing checks: pointers and counts as said; `size` is not null; `out` and *size overlap nothing else that is
-   passed (inputs may overlap one another, so nothing is sealed in place); malloc, realloc and free, which the library calls, are of one
+   What the caller owes, and nothing checks: pointers and counts as said; `size`, `offset` and `number` are not null; `out` and what these
+   point to overlap nothing else that is passed (inputs may overlap one another, so nothing is sealed in place); malloc, realloc and free, which the library calls, are of one
    allocator; no call is made from a signal handler, nor in the forked child of a process with threads. Threads may make calls at once where
    none is passed another's `out` or `size`. Keys and opened octets are not wiped from memory that the library has freed, and no time of
    a call is promised: docs/SECURITY.md says what was measured. */
@@ -41,7 +41,7 @@ enum {
     KRB_DONE = 0,            /* the answer is given; what was asked is so */
     KRB_ROOM = 1,            /* the answer has more octets than `room` */
     KRB_MEMORY = 2,          /* an allocation was refused */
-    KRB_NUMBER = 3,          /* no encryption type, checksum type or message of the library has this number */
+    KRB_NUMBER = 3,          /* no encryption type, checksum type, message or field of the library has this number */
     KRB_CONFOUNDER_SIZE = 4, /* the confounder has not krb_confounder_size octets */
     KRB_KEY_SIZE = 5,        /* the key has not krb_key_size, or krb_checksum_key_size, octets; of a password: see krb_string_to_key */
     KRB_SEALED_SIZE = 6,     /* the sealed octets are fewer than those of a confounder and a checksum */
@@ -52,7 +52,9 @@ enum {
     KRB_UNSUPPORTED = 11,    /* a length of the indefinite form, or one of more than eight octets */
     KRB_NEVER = 12,          /* of an error that no call meets */
     KRB_SEED_SIZE = 13,      /* the seed has not krb_seed_size octets */
-    KRB_EMPTY = 14           /* n-fold of no octets, or to none */
+    KRB_EMPTY = 14,          /* n-fold of no octets, or to none */
+    KRB_ABSENT = 20,         /* the message has no such field, or no item of this index */
+    KRB_TOO_LARGE = 21       /* the number does not fit 64 bits */
 };
 
 /* Encryption types (RFC 3961, 8; RFC 3962, 7; RFC 8009, 7). */
@@ -92,6 +94,37 @@ enum {
     KRB_MESSAGE_ENC_KRB_PRIV_PART = 28, /* EncKrbPrivPart (5.7.1) */
     KRB_MESSAGE_ENC_KRB_CRED_PART = 29, /* EncKrbCredPart (5.8.1) */
     KRB_MESSAGE_KRB_ERROR = 30         /* KRB-ERROR (5.9.1) */
+};
+
+/* Fields of messages and tickets (RFC 4120, 5). Where a message has no such field krb_get_.. answers KRB_ABSENT. */
+enum {
+    KRB_FIELD_REALM = 1,                /* realm: of the server in a KDC-REQ (5.4.1) and a KRB-ERROR (5.9.1); of a ticket (5.3) */
+    KRB_FIELD_CLIENT_REALM = 2,         /* crealm: KDC-REP (5.4.2), KRB-ERROR */
+    KRB_FIELD_CLIENT_NAME = 3,          /* cname: KDC-REQ, KDC-REP, KRB-ERROR; its components by index */
+    KRB_FIELD_SERVER_NAME = 4,          /* sname: KDC-REQ, KRB-ERROR, ticket; its components by index */
+    KRB_FIELD_KDC_OPTIONS = 5,          /* kdc-options: KDC-REQ; the content of a BIT STRING (X.690, 8.6.2) */
+    KRB_FIELD_AP_OPTIONS = 6,           /* ap-options: AP-REQ (5.5.1); likewise */
+    KRB_FIELD_ETYPE = 7,                /* etype: KDC-REQ; by index, the preferred first; a number */
+    KRB_FIELD_NONCE = 8,                /* nonce: KDC-REQ; a number */
+    KRB_FIELD_FROM = 9,                 /* from: KDC-REQ; a time */
+    KRB_FIELD_TILL = 10,                /* till: KDC-REQ; a time */
+    KRB_FIELD_RENEW_TILL = 11,          /* rtime: KDC-REQ; a time */
+    KRB_FIELD_CLIENT_TIME = 12,         /* ctime: KRB-ERROR; a time */
+    KRB_FIELD_CLIENT_MICROSECONDS = 13, /* cusec: KRB-ERROR; a number */
+    KRB_FIELD_SERVER_TIME = 14,         /* stime: KRB-ERROR; a time */
+    KRB_FIELD_SERVER_MICROSECONDS = 15, /* susec: KRB-ERROR; a number */
+    KRB_FIELD_ERROR_CODE = 16,          /* error-code: KRB-ERROR; a number */
+    KRB_FIELD_ERROR_TEXT = 17,          /* e-text: KRB-ERROR */
+    KRB_FIELD_ERROR_DATA = 18,          /* e-data: KRB-ERROR */
+    KRB_FIELD_SEALED_ETYPE = 19,        /* etype of the sealed part (5.2.9): KDC-REP, AP-REQ, AP-REP, KRB-PRIV, KRB-CRED, ticket; a number */
+    KRB_FIELD_SEALED_KVNO = 20,         /* kvno of the sealed part; a number */
+    KRB_FIELD_SEALED_CIPHER = 21,       /* cipher of the sealed part: what krb_open_.. takes */
+    KRB_FIELD_TICKET = 22,              /* a whole ticket: KDC-REP, AP-REQ; KRB-CRED by index */
+    KRB_FIELD_TICKET_REALM = 23,        /* realm of the ticket in a KDC-REP or an AP-REQ */
+    KRB_FIELD_TICKET_SERVER_NAME = 24,  /* sname of that ticket; its components by index */
+    KRB_FIELD_TICKET_ETYPE = 25,        /* etype of that ticket's sealed part; a number */
+    KRB_FIELD_TICKET_KVNO = 26,         /* kvno of that part; a number */
+    KRB_FIELD_TICKET_CIPHER = 27        /* cipher of that part */
 };
 
 /* Sizes, in octets. Each is 0 where no type has the number.
@@ -222,6 +255,19 @@ krb_status krb_open_priv_part(int32_t etype, const uint8_t *key, size_t key_size
 krb_status krb_open_cred_part(int32_t etype, const uint8_t *key, size_t key_size, int32_t usage, const uint8_t *sealed,
                               size_t sealed_size, uint8_t *out, size_t room, size_t *size);
 
+/* Where a field stands in the octets of a message or a ticket (messages 1, 10 to 15, 21, 22 and 30): *offset octets before it, and *size of its
+   own, all within `octets`. By index, from 0 on, are the fields that say so; the others take any index. The octets are the content of the
+   field's element (X.690, 8.1.4): of a text and of an OCTET STRING the octets themselves; of a time YYYYMMDDHHMMSSZ; of a number its two's
+   complement. KRB_FIELD_TICKET alone hands out a whole element, which is a message again (KRB_MESSAGE_TICKET). The octets are first read as
+   krb_check reads them, so no field of a message that is not strictly DER is handed out; nothing is copied.
+   KRB_NUMBER; KRB_INVALID, KRB_TRUNCATED, KRB_UNSUPPORTED; then KRB_ABSENT; KRB_MEMORY. On each of these *offset and *size are 0. */
+krb_status krb_get_octets(int32_t message, int32_t field, size_t index, const uint8_t *octets, size_t octets_size, size_t *offset,
+                          size_t *size);
+
+/* The number that such a field is.
+   KRB_NUMBER, also for a field that is no number; then those of krb_get_octets; then KRB_TOO_LARGE. On each of these *number is 0. */
+krb_status krb_get_number(int32_t message, int32_t field, size_t index, const uint8_t *octets, size_t octets_size, int64_t *number);
+
 /* What a status says, in English words and without a line's end. It is not of the library: no export answers a pointer. */
 static inline const char *krb_status_text(krb_status status) {
     static const char *const texts[] = {"done",
@@ -239,6 +285,8 @@ static inline const char *krb_status_text(krb_status status) {
                                         "an error that no call meets",
                                         "a seed of another size",
                                         "no octets to fold"};
+    if (status == KRB_ABSENT) return "no such field, or no item of this index";
+    if (status == KRB_TOO_LARGE) return "a number of more than 64 bits";
     return status < sizeof texts / sizeof *texts ? texts[status] : "an unknown status";
 }
 

@@ -1,4 +1,4 @@
-"""Tries the Python package: try_krb.py VECTORS MESSAGES, in an environment that has it installed. The last line is `N passed, N failed`."""
+"""Tries the Python package: try_krb.py VECTORS MESSAGES FIELDS, in an environment that has it installed. The last line is `N passed, N failed`."""
 
 import concurrent.futures
 import os
@@ -102,6 +102,34 @@ def try_message(number, octets):
                 expect(outcome(messages.open_part, other, etype, key, 2, sealed) == Status.INVALID, "%s as %s" % (part, other))
 
 
+def try_field(row):
+    message, octets, field, index, status, offset, size, value = row
+    message, field, index, offset, size, octets = int(message), int(field), int(index), int(offset), int(size), bytes.fromhex(octets)
+    is_number = messages.Field(field) in messages.NUMBERS
+    if status == "ABSENT":
+        expect(outcome(messages.field_place, message, field, octets, index) == Status.ABSENT, row[2:])
+        expect(outcome(messages.field_octets, message, field, octets, index) == Status.ABSENT, row[2:])
+        expect(outcome(messages.field_number, message, field, octets, index) == (Status.ABSENT if is_number else Status.NUMBER), row[2:])
+        expect(messages.field(message, field, octets, index) is None, row[2:])
+        return
+    right = octets[offset : offset + size]
+    number = (Status.TOO_LARGE if value == "TOO_LARGE" else int(value)) if is_number else Status.NUMBER
+    expect(messages.field_place(message, field, octets, index) == slice(offset, offset + size), row[2:])
+    expect(messages.field_octets(message, field, octets, index) == right, row[2:])
+    expect(outcome(messages.field_number, message, field, octets, index) == number, row[2:])
+    expect(outcome(messages.field, message, field, octets, index) == (number if is_number else right), row[2:])
+
+
+def try_other_fields(number, octets):
+    """Indices that C does not hold, numbers of no field, octets that are cut."""
+    for index in (-1, 2**64, 2**70, -(2**70)):
+        expect(outcome(messages.field_octets, number, messages.Field.ETYPE, octets, index) == Status.ABSENT, "index %d" % index)
+    for field in (0, -1, 28, 2**31, 2**64 + 1):
+        expect(outcome(messages.field, number, field, octets) == Status.NUMBER, "field %d" % field)
+    expect(outcome(messages.field, number, messages.Field.NONCE, octets[:-1]) == Status.TRUNCATED, "a field of a cut message")
+    expect(messages.field(number, messages.Field.REALM, memoryview(octets)) == messages.field(number, messages.Field.REALM, bytearray(octets)), "forms of octets")
+
+
 def try_forms():
     """Other objects with octets, numbers that do not fit, what a refusal is."""
     key, payload = bytes(range(16)), b"octets of a payload"
@@ -143,6 +171,11 @@ def main():
         try_row(row)
     for number, octets in rows(sys.argv[2], 2):
         try_message(int(number), bytes.fromhex(octets))
+    for row in rows(sys.argv[3], 8):
+        try_field(row)
+    for number, octets in rows(sys.argv[2], 2):
+        if number == "10":
+            try_other_fields(10, bytes.fromhex(octets))
     try_forms()
     with concurrent.futures.ThreadPoolExecutor(16) as pool:
         for number, right in enumerate(pool.map(turn, range(2000))):

@@ -27,6 +27,8 @@ class Status(enum.IntEnum):
     NEVER = 12
     SEED_SIZE = 13
     EMPTY = 14
+    ABSENT = 20
+    TOO_LARGE = 21
 
 
 TEXTS = {
@@ -44,6 +46,8 @@ TEXTS = {
     Status.NEVER: "an error that no call meets",
     Status.SEED_SIZE: "a seed of another size",
     Status.EMPTY: "no octets to fold",
+    Status.ABSENT: "no such field, or no item of this index",
+    Status.TOO_LARGE: "a number of more than 64 bits",
 }
 
 
@@ -99,12 +103,14 @@ def _given(kinds: List[str], arguments: Any) -> List[Any]:
 
 
 class Call:
-    """A call of the library, by the kinds of its arguments before what it answers."""
+    """A call of the library, by the kinds of its arguments before what it answers: a status, octets with room for them, or numbers of C."""
 
-    def __init__(self, name: str, *kinds: str, answers: Any = ctypes.c_uint32, has_room: bool = False) -> None:
+    def __init__(self, name: str, *kinds: str, answers: Any = ctypes.c_uint32, has_room: bool = False, cells: Any = ()) -> None:
         self._kinds = list(kinds)
+        self._cells = list(cells)
         self._call = getattr(_library, name)
-        self._call.argtypes = [kind for each in kinds for kind in _TYPES[each]] + (_OUT if has_room else [])
+        answered = _OUT if has_room else [ctypes.POINTER(cell) for cell in cells]
+        self._call.argtypes = [kind for each in kinds for kind in _TYPES[each]] + answered
         self._call.restype = answers
 
     def size(self, *arguments: int) -> int:
@@ -120,6 +126,14 @@ class Call:
             return Status(self._call(*_given(self._kinds, arguments)))
         except Refused as refused:
             return refused.status
+
+    def numbers(self, *arguments: Any) -> List[int]:
+        """The numbers that the call answers."""
+        answers = [cell() for cell in self._cells]
+        status = self._call(*_given(self._kinds, arguments), *[ctypes.byref(answer) for answer in answers])
+        if status != Status.DONE:
+            raise Refused(status)
+        return [int(answer.value) for answer in answers]
 
     def octets(self, room: int, *arguments: Any) -> bytes:
         """The octets that the call answers, which have at most so many; where they had more, it is made again with as many."""

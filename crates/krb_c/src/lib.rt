@@ -2,6 +2,7 @@
 #![tactic(auto)]
 
 mod crypto;
+mod fields;
 mod kept;
 mod parts;
 mod sizes;

@@ -1,0 +1,12 @@
+pub mod Numbers
+pub mod Encodings
+pub mod Fields
+pub mod Paths
+pub mod Found
+pub mod FoundLaws
+pub mod TypeLaws
+pub mod RequestLaws
+pub mod ReplyLaws
+pub mod ApplicationLaws
+pub mod ErrorLaws
+pub mod IntegerLaws

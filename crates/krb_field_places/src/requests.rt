@@ -1,0 +1,71 @@
+//! Requests to a KDC (RFC 4120, 5.4.1).
+
+ghost use Rattle.std.specs.Prelude.{◌∷◌};
+ghost use Rattle.krb_places.specs.declared.place.Step.TheVariants.{Tag};
+ghost use Rattle.krb_field_places.specs.Found.{IsFoundAt};
+ghost use Rattle.krb_field_places.specs.IntegerLaws.{request_integers};
+ghost use Rattle.krb_field_places.specs.Fields.{request_field};
+ghost use Rattle.krb_field_places.specs.Paths.{component_path, request_path};
+ghost use Rattle.krb_field_places.specs.RequestLaws.{request_pins};
+
+use crate::field::Field;
+use crate::find::Placed;
+use crate::steps::{
+    BIT_STRING, INTEGER, SEQUENCE, TAG_0, TAG_1, TAG_2, TAG_3, TAG_4, TAG_5, TAG_6, TAG_7, TAG_8,
+    TEXT, TIME,
+};
+use krb_msg_kdc::messages::KdcReq;
+use krb_places::{Place, Step, place_of};
+
+/// A component of a name under this tag of the body.
+fn component(tag: u8, name: Step, index: usize, octets: &[u8]) -> Option<Place>
+    ensures { IsFoundAt (Some (Tag tag ∷ Tag 48 ∷ Tag 164 ∷ Tag 48 ∷ name ∷ component_path index)) octets.now result }
+{
+    let outer = Step::Tag(tag);
+    let item = Step::Item(index);
+    place_of(
+        &[
+            outer, SEQUENCE, TAG_4, SEQUENCE, name, SEQUENCE, TAG_1, SEQUENCE, item, TEXT,
+        ],
+        octets,
+    )
+}
+
+impl Placed for KdcReq {
+    ghost octets_of = { request_field };
+
+    ghost path = { request_path };
+
+    ghost pins = { request_pins };
+
+    ghost integers = { request_integers };
+
+    fn find(tag: u8, field: Field, index: usize, octets: &[u8]) -> Option<Place> {
+        let outer = Step::Tag(tag);
+        match field {
+            Field::KdcOptions => {
+                place_of(
+                    &[outer, SEQUENCE, TAG_4, SEQUENCE, TAG_0, BIT_STRING],
+                    octets,
+                )
+            }
+            Field::ClientName => component(tag, TAG_1, index, octets),
+            Field::Realm => place_of(&[outer, SEQUENCE, TAG_4, SEQUENCE, TAG_2, TEXT], octets),
+            Field::ServerName => component(tag, TAG_3, index, octets),
+            Field::From => place_of(&[outer, SEQUENCE, TAG_4, SEQUENCE, TAG_4, TIME], octets),
+            Field::Till => place_of(&[outer, SEQUENCE, TAG_4, SEQUENCE, TAG_5, TIME], octets),
+            Field::RenewTill => place_of(&[outer, SEQUENCE, TAG_4, SEQUENCE, TAG_6, TIME], octets),
+            Field::Nonce => place_of(&[outer, SEQUENCE, TAG_4, SEQUENCE, TAG_7, INTEGER], octets),
+            Field::Etype => {
+                let item = Step::Item(index);
+                place_of(
+                    &[
+                        outer, SEQUENCE, TAG_4, SEQUENCE, TAG_8, SEQUENCE, item, INTEGER,
+                    ],
+                    octets,
+                )
+            }
+            _ => None,
+        }
+    }
+}

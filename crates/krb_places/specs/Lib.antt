@@ -1,0 +1,6 @@
+pub mod Places
+pub mod Rows
+pub mod Paths
+pub mod RowLaws
+pub mod PathLaws
+pub mod Contents

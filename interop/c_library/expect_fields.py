@@ -1,0 +1,141 @@
+"""What krb_get_octets and krb_get_number are to answer: expect_fields.py MESSAGES, whose rows have a message's number and its octets in hexadecimal.
+
+A row for each message, field and index: number, octets, field, index, status, offset, size, and the number where the field is one, or TOO_LARGE
+where 64 bits do not hold it. It walks the elements (X.690, 8.1) by the ASN.1 of RFC 4120, and shares nothing with the library."""
+
+import sys
+
+TEXT, TIME, INTEGER, BITS, OCTETS = 0x1B, 0x18, 0x02, 0x03, 0x04
+# The fields of a ticket and of a sealed part, by the numbers of krb.h: the tags of the fields on the way, `[n]` of a SEQUENCE each, and what is there;
+# a list has its items by index.
+TICKET = {1: ([1], TEXT), 4: ([2, 1], [TEXT]), 19: ([3, 0], INTEGER), 20: ([3, 1], INTEGER), 21: ([3, 2], OCTETS)}
+SEALED = {19: 0, 20: 1, 21: 2}
+WITHIN = {23: 1, 24: 4, 25: 19, 26: 20, 27: 21}
+
+
+def sealed(tag):
+    return {field: ([tag, n], OCTETS if n == 2 else INTEGER) for field, n in SEALED.items()}
+
+
+def ticket(tag):
+    fields = {22: ([tag], None)}
+    for field, inner in WITHIN.items():
+        path, kind = TICKET[inner]
+        fields[field] = ([tag, "ticket", *path], kind)
+    return fields
+
+
+REQUEST = {
+    5: ([4, 0], BITS),
+    3: ([4, 1, 1], [TEXT]),
+    1: ([4, 2], TEXT),
+    4: ([4, 3, 1], [TEXT]),
+    9: ([4, 4], TIME),
+    10: ([4, 5], TIME),
+    11: ([4, 6], TIME),
+    8: ([4, 7], INTEGER),
+    7: ([4, 8], [INTEGER]),
+}
+REPLY = {2: ([3], TEXT), 3: ([4, 1], [TEXT]), **ticket(5), **sealed(6)}
+FIELDS = {
+    1: TICKET,
+    10: REQUEST,
+    12: REQUEST,
+    11: REPLY,
+    13: REPLY,
+    14: {6: ([2], BITS), **ticket(3), **sealed(4)},
+    15: sealed(2),
+    21: sealed(3),
+    22: {22: ([2], [None]), **sealed(3)},
+    30: {
+        12: ([2], TIME),
+        13: ([3], INTEGER),
+        14: ([4], TIME),
+        15: ([5], INTEGER),
+        16: ([6], INTEGER),
+        2: ([7], TEXT),
+        3: ([8, 1], [TEXT]),
+        1: ([9], TEXT),
+        4: ([10, 1], [TEXT]),
+        17: ([11], TEXT),
+        18: ([12], OCTETS),
+    },
+}
+NUMBERS = {7, 8, 13, 15, 16, 19, 20, 25, 26}
+MOST_FIELD = 27
+
+
+def element(octets, start):
+    """Tag, content and end of the element at a place."""
+    tag, length, content = octets[start], octets[start + 1], start + 2
+    if length >= 128:
+        content += length - 128
+        length = int.from_bytes(octets[start + 2 : content], "big")
+    return tag, content, content + length
+
+
+def items(octets, start, end):
+    while start < end:
+        tag, content, after = element(octets, start)
+        yield start, tag, content, after
+        start = after
+
+
+def tagged(octets, place, tag):
+    """The content of the element of this tag in a place, or nothing."""
+    for _, other, content, after in items(octets, *place):
+        if other == tag:
+            return content, after
+    return None
+
+
+def found(octets, number, path, kind, index):
+    """Where a field stands, or nothing."""
+    place = tagged(octets, (0, len(octets)), 0x60 + number)
+    for step in path:
+        if step == "ticket":
+            place = tagged(octets, place, 0x61)
+            continue
+        place = tagged(octets, tagged(octets, place, 0x30), 0xA0 + step)
+        if place is None:
+            return None
+    if isinstance(kind, list):
+        all_items = list(items(octets, *tagged(octets, place, 0x30)))
+        if index >= len(all_items):
+            return None
+        start, tag, content, after = all_items[index]
+        if kind[0] is None:
+            return start, after
+        assert tag == kind[0]
+        return content, after
+    return place if kind is None else tagged(octets, place, kind)
+
+
+def answers(number, octets):
+    """Field, index, status, offset, size and number, or nothing, of each field."""
+    for field in range(1, MOST_FIELD + 1):
+        path, kind = FIELDS[number].get(field, (None, None))
+        for index in (0, 1, 2, 3, 4, 5, 6, 7, 8, 1000, 2**63, 2**64 - 1):
+            place = None if path is None else found(octets, number, path, kind, index)
+            if place is None:
+                yield field, index, "ABSENT", 0, 0, None
+            else:
+                value = int.from_bytes(octets[place[0] : place[1]], "big", signed=True) if field in NUMBERS else None
+                if value is not None and not -(2**63) <= value < 2**63:
+                    value = "TOO_LARGE"
+                yield field, index, "DONE", place[0], place[1] - place[0], value
+
+
+def main():
+    with open(sys.argv[1], encoding="ascii") as table:
+        for line in table:
+            if line.startswith("#"):
+                continue
+            number, octets = line.split()
+            if int(number) in FIELDS:
+                for field, index, status, offset, size, value in answers(int(number), bytes.fromhex(octets)):
+                    print(number, octets, field, index, status, offset, size, "" if value is None else value, sep="\t")
+
+
+if __name__ == "__main__":
+    main()
