@@ -3,6 +3,8 @@
 ghost use Rattle.krb_field_calls.specs.Answers.{IsNumberAnswer, IsPlaceAnswer};
 ghost use Rattle.krb_field_calls.specs.Given.{IsNumberGiven, IsPlaceGiven};
 ghost use Rattle.krb_field_places.specs.Fields.{ap_reply_field, ap_request_field, credentials_field, error_field, private_field, reply_field, request_field, ticket_field};
+ghost use Rattle.krb_field_places.specs.Found.{in_message};
+ghost use Rattle.krb_field_places.specs.Paths.{ap_reply_path, ap_request_path, credentials_path, error_path, private_path, reply_path, request_path, ticket_path};
 
 use krb_der::DerEncode;
 use krb_msg::messages::KrbError;
@@ -23,16 +25,16 @@ pub extern "C" fn krb_get_octets(
     size: &mut usize,
 ) -> u32
     ensures { IsPlaceAnswer (record {
-      ticket = IsPlaceGiven ⟦<Ticket as DerEncode>⟧ ticket_field;
-      as_req = IsPlaceGiven ⟦<AsReq as DerEncode>⟧ request_field;
-      as_rep = IsPlaceGiven ⟦<AsRep as DerEncode>⟧ reply_field;
-      tgs_req = IsPlaceGiven ⟦<TgsReq as DerEncode>⟧ request_field;
-      tgs_rep = IsPlaceGiven ⟦<TgsRep as DerEncode>⟧ reply_field;
-      ap_req = IsPlaceGiven ⟦<ApReq as DerEncode>⟧ ap_request_field;
-      ap_rep = IsPlaceGiven ⟦<ApRep as DerEncode>⟧ ap_reply_field;
-      krb_priv = IsPlaceGiven ⟦<KrbPriv as DerEncode>⟧ private_field;
-      krb_cred = IsPlaceGiven ⟦<KrbCred as DerEncode>⟧ credentials_field;
-      krb_error = IsPlaceGiven ⟦<KrbError as DerEncode>⟧ error_field;
+      ticket = IsPlaceGiven ⟦<Ticket as DerEncode>⟧ ticket_field (in_message 1 ticket_path);
+      as_req = IsPlaceGiven ⟦<AsReq as DerEncode>⟧ request_field (in_message 10 request_path);
+      as_rep = IsPlaceGiven ⟦<AsRep as DerEncode>⟧ reply_field (in_message 11 reply_path);
+      tgs_req = IsPlaceGiven ⟦<TgsReq as DerEncode>⟧ request_field (in_message 12 request_path);
+      tgs_rep = IsPlaceGiven ⟦<TgsRep as DerEncode>⟧ reply_field (in_message 13 reply_path);
+      ap_req = IsPlaceGiven ⟦<ApReq as DerEncode>⟧ ap_request_field (in_message 14 ap_request_path);
+      ap_rep = IsPlaceGiven ⟦<ApRep as DerEncode>⟧ ap_reply_field (in_message 15 ap_reply_path);
+      krb_priv = IsPlaceGiven ⟦<KrbPriv as DerEncode>⟧ private_field (in_message 21 private_path);
+      krb_cred = IsPlaceGiven ⟦<KrbCred as DerEncode>⟧ credentials_field (in_message 22 credentials_path);
+      krb_error = IsPlaceGiven ⟦<KrbError as DerEncode>⟧ error_field (in_message 30 error_path);
     }) message field index octets.now offset.new size.new result }
 {
     krb_field_calls::place(alloc, message, field, index, octets, offset, size)

@@ -5,6 +5,7 @@ use Rattle.krb_der_core.specs.declared.error.Asn1DerError.{Asn1DerError}
 use Rattle.krb_der_core.specs.declared.error.Asn1DerError.TheVariants as der
 use Rattle.krb_calls.specs.Statuses.{der_status}
 use Rattle.krb_part_calls.specs.Messages.{IsEncoding, IsReading, RefusesReading}
+use Rattle.krb_places.specs.declared.place.Step.{Step}
 use Rattle.krb_places.specs.declared.place.Place.{Place}
 use Rattle.krb_places.specs.Places.{octets_at}
 use Rattle.krb_field_places.specs.declared.field.Field.{Field}
@@ -27,7 +28,7 @@ is_encoding : {A : Type 0} (t : EncodingOf A) (octets : List ℕ) (status : ℕ)
 is_encoding t octets status (inl read) e = read.1
 is_encoding t octets status (inr refuses) e = absurd (not_refused t octets status refuses e)
 
-module _ {A : Type 0} (t : EncodingOf A) (field_of : Field → ℕ → A → Option (List ℕ)) (field : Field) (index : ℕ) (octets : List ℕ) (place : Place) (number : ℤ) (status : ℕ) where
+module _ {A : Type 0} (t : EncodingOf A) (field_of : Field → ℕ → A → Option (List ℕ)) (path_of : Field → ℕ → Option (List Step)) (field : Field) (index : ℕ) (octets : List ℕ) (place : Place) (number : ℤ) (status : ℕ) where
   of_value : (v : A) → is_integer field ≡ true → t.is_value v → octets ≡ t.enc v → field_of field index v ≡ Some (octets_at octets place) → HoldsInteger (field_of field index v)
       → IsContentNumber (octets_at octets place) number status → IsNumberGiven t field_of field index octets number status
   of_value v int valid is e holds (inl whole) = inr (inl (int, (v, valid, is, subst (λ (o : Option (List ℕ)). IsNumberOf o number status) (sym e) whole)))
@@ -37,7 +38,7 @@ module _ {A : Type 0} (t : EncodingOf A) (field_of : Field → ℕ → A → Opt
   of_value v int valid is e holds (inr (inr memory)) = inr (inr (int, inl memory.0, memory.1))
 
   pub number_given : (read : ℕ) → is_integer field ≡ true → IsReading t octets read → read ≡ 0
-      → ((v : A) → t.is_value v → octets ≡ t.enc v → IsFieldAt (field_of field index v) octets (Some place)) → ((index : ℕ) (v : A) → AreIntegers (λ field. field_of field index v))
+      → ((v : A) → t.is_value v → octets ≡ t.enc v → IsFieldAt (field_of field index v) (path_of field index) octets (Some place)) → ((index : ℕ) (v : A) → AreIntegers (λ field. field_of field index v))
       → IsContentNumber (octets_at octets place) number status → IsNumberGiven t field_of field index octets number status
   number_given read int reading e at holds told =
       let v = is_encoding t octets read reading e in

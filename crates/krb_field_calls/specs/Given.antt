@@ -1,11 +1,12 @@
 -- What is handed out of a field of a message that is read: where it stands, or the number that it is.
-use Rattle.std.specs.Prelude.{◌≡◌, ◌⊎◌, ℕ, ℤ, pos, ◌+◌, ◌≤◌, true, false, List, length, take, drop, Option, Some, None, FitsSigned}
+use Rattle.std.specs.Prelude.{◌≡◌, ◌⊎◌, ℕ, ℤ, pos, true, false, List, take, drop, Option, Some, None, FitsSigned}
 use Rattle.std.specs.Int.{w64}
 use Rattle.krb_der_core.specs.declared.der.DerEncode.{Ghosts as EncodingOf}
 use Rattle.krb_der_core.specs.Integer.{shortest}
+use Rattle.krb_places.specs.declared.place.Step.{Step}
 use Rattle.krb_part_calls.specs.Messages.{RefusesReading}
 use Rattle.krb_field_places.specs.declared.field.Field.{Field}
-use Rattle.krb_field_places.specs.Found.{is_integer}
+use Rattle.krb_field_places.specs.Found.{IsPlaceAt, is_integer}
 
 -- the octets are those of a value of the type, of which this holds
 abbrev pub IsRead : {A : Type 0} → EncodingOf A → List ℕ → (A → Type 0) → Type 0
@@ -13,15 +14,16 @@ IsRead {A} t octets holds = (v : A) × t.is_value v × (octets ≡ t.enc v) × h
 
 -- ---- places
 
--- The field stands behind `offset` octets and has `size` of them (0), or there is none (20).
-abbrev pub IsPlaceOf : Option (List ℕ) → List ℕ → ℕ → ℕ → ℕ → Type 0
-IsPlaceOf None octets offset size status = (status ≡ 20) × (offset ≡ 0) × (size ≡ 0)
-IsPlaceOf (Some field) octets offset size status = (status ≡ 0) × (offset + size ≤ length octets) × (take size (drop offset octets) ≡ field)
+-- The field stands at the end of the path, behind `offset` octets, and has `size` of them (0); or there is none (20).
+abbrev pub IsPlaceOf : Option (List ℕ) → Option (List Step) → List ℕ → ℕ → ℕ → ℕ → Type 0
+IsPlaceOf None path octets offset size status = (status ≡ 20) × (offset ≡ 0) × (size ≡ 0)
+IsPlaceOf (Some field) path octets offset size status =
+    (status ≡ 0) × (take size (drop offset octets) ≡ field) × IsPlaceAt path octets (record { offset = offset; size = size })
 
 -- the field of the value whose octets these are is handed out, or they are refused
-abbrev pub IsPlaceGiven : {A : Type 0} → EncodingOf A → (Field → ℕ → A → Option (List ℕ)) → Field → ℕ → List ℕ → ℕ → ℕ → ℕ → Type 0
-IsPlaceGiven t field_of field index octets offset size status =
-    IsRead t octets (λ v. IsPlaceOf (field_of field index v) octets offset size status)
+abbrev pub IsPlaceGiven : {A : Type 0} → EncodingOf A → (Field → ℕ → A → Option (List ℕ)) → (Field → ℕ → Option (List Step)) → Field → ℕ → List ℕ → ℕ → ℕ → ℕ → Type 0
+IsPlaceGiven t field_of path_of field index octets offset size status =
+    IsRead t octets (λ v. IsPlaceOf (field_of field index v) (path_of field index) octets offset size status)
     ⊎ (RefusesReading t octets status × (offset ≡ 0) × (size ≡ 0))
 
 -- ---- numbers

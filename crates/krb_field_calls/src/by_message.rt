@@ -3,6 +3,8 @@
 ghost use Rattle.krb_field_calls.specs.Answers.{IsNumberAnswer, IsPlaceAnswer, answer_of};
 ghost use Rattle.krb_field_calls.specs.Given.{IsNumberGiven, IsPlaceGiven};
 ghost use Rattle.krb_field_places.specs.Fields.{ap_reply_field, ap_request_field, credentials_field, error_field, private_field, reply_field, request_field, ticket_field};
+ghost use Rattle.krb_field_places.specs.Found.{in_message};
+ghost use Rattle.krb_field_places.specs.Paths.{ap_reply_path, ap_request_path, credentials_path, error_path, private_path, reply_path, request_path, ticket_path};
 
 use crate::kind::{FieldMessage, message_of};
 use crate::numbers::get_number;
@@ -38,16 +40,16 @@ fn place_as<
     size: &mut usize,
 ) -> u32
     ensures { answer_of (record {
-      ticket = IsPlaceGiven ⟦<TicketType as DerEncode>⟧ TicketType.octets_of;
-      as_req = IsPlaceGiven ⟦<AsRequest as DerEncode>⟧ AsRequest.octets_of;
-      as_rep = IsPlaceGiven ⟦<AsReply as DerEncode>⟧ AsReply.octets_of;
-      tgs_req = IsPlaceGiven ⟦<TgsRequest as DerEncode>⟧ TgsRequest.octets_of;
-      tgs_rep = IsPlaceGiven ⟦<TgsReply as DerEncode>⟧ TgsReply.octets_of;
-      ap_req = IsPlaceGiven ⟦<ApRequest as DerEncode>⟧ ApRequest.octets_of;
-      ap_rep = IsPlaceGiven ⟦<ApReply as DerEncode>⟧ ApReply.octets_of;
-      krb_priv = IsPlaceGiven ⟦<Private as DerEncode>⟧ Private.octets_of;
-      krb_cred = IsPlaceGiven ⟦<Credentials as DerEncode>⟧ Credentials.octets_of;
-      krb_error = IsPlaceGiven ⟦<Error as DerEncode>⟧ Error.octets_of;
+      ticket = IsPlaceGiven ⟦<TicketType as DerEncode>⟧ TicketType.octets_of TicketType.path_of;
+      as_req = IsPlaceGiven ⟦<AsRequest as DerEncode>⟧ AsRequest.octets_of AsRequest.path_of;
+      as_rep = IsPlaceGiven ⟦<AsReply as DerEncode>⟧ AsReply.octets_of AsReply.path_of;
+      tgs_req = IsPlaceGiven ⟦<TgsRequest as DerEncode>⟧ TgsRequest.octets_of TgsRequest.path_of;
+      tgs_rep = IsPlaceGiven ⟦<TgsReply as DerEncode>⟧ TgsReply.octets_of TgsReply.path_of;
+      ap_req = IsPlaceGiven ⟦<ApRequest as DerEncode>⟧ ApRequest.octets_of ApRequest.path_of;
+      ap_rep = IsPlaceGiven ⟦<ApReply as DerEncode>⟧ ApReply.octets_of ApReply.path_of;
+      krb_priv = IsPlaceGiven ⟦<Private as DerEncode>⟧ Private.octets_of Private.path_of;
+      krb_cred = IsPlaceGiven ⟦<Credentials as DerEncode>⟧ Credentials.octets_of Credentials.path_of;
+      krb_error = IsPlaceGiven ⟦<Error as DerEncode>⟧ Error.octets_of Error.path_of;
     }) message field index octets.now offset.new size.new result }
 {
     match message {
@@ -128,16 +130,16 @@ pub fn place(
     size: &mut usize,
 ) -> u32
     ensures { IsPlaceAnswer (record {
-      ticket = IsPlaceGiven ⟦<Ticket as DerEncode>⟧ ticket_field;
-      as_req = IsPlaceGiven ⟦<AsReq as DerEncode>⟧ request_field;
-      as_rep = IsPlaceGiven ⟦<AsRep as DerEncode>⟧ reply_field;
-      tgs_req = IsPlaceGiven ⟦<TgsReq as DerEncode>⟧ request_field;
-      tgs_rep = IsPlaceGiven ⟦<TgsRep as DerEncode>⟧ reply_field;
-      ap_req = IsPlaceGiven ⟦<ApReq as DerEncode>⟧ ap_request_field;
-      ap_rep = IsPlaceGiven ⟦<ApRep as DerEncode>⟧ ap_reply_field;
-      krb_priv = IsPlaceGiven ⟦<KrbPriv as DerEncode>⟧ private_field;
-      krb_cred = IsPlaceGiven ⟦<KrbCred as DerEncode>⟧ credentials_field;
-      krb_error = IsPlaceGiven ⟦<KrbError as DerEncode>⟧ error_field;
+      ticket = IsPlaceGiven ⟦<Ticket as DerEncode>⟧ ticket_field (in_message 1 ticket_path);
+      as_req = IsPlaceGiven ⟦<AsReq as DerEncode>⟧ request_field (in_message 10 request_path);
+      as_rep = IsPlaceGiven ⟦<AsRep as DerEncode>⟧ reply_field (in_message 11 reply_path);
+      tgs_req = IsPlaceGiven ⟦<TgsReq as DerEncode>⟧ request_field (in_message 12 request_path);
+      tgs_rep = IsPlaceGiven ⟦<TgsRep as DerEncode>⟧ reply_field (in_message 13 reply_path);
+      ap_req = IsPlaceGiven ⟦<ApReq as DerEncode>⟧ ap_request_field (in_message 14 ap_request_path);
+      ap_rep = IsPlaceGiven ⟦<ApRep as DerEncode>⟧ ap_reply_field (in_message 15 ap_reply_path);
+      krb_priv = IsPlaceGiven ⟦<KrbPriv as DerEncode>⟧ private_field (in_message 21 private_path);
+      krb_cred = IsPlaceGiven ⟦<KrbCred as DerEncode>⟧ credentials_field (in_message 22 credentials_path);
+      krb_error = IsPlaceGiven ⟦<KrbError as DerEncode>⟧ error_field (in_message 30 error_path);
     }) message field index octets.now offset.new size.new result }
 {
     *offset = 0;

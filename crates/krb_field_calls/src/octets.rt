@@ -20,7 +20,7 @@ pub fn get_octets<M: Message + Der + Drop>(
     offset: &mut usize,
     size: &mut usize,
 ) -> u32
-    ensures { IsPlaceGiven ⟦<M as DerEncode>⟧ M.octets_of field index octets.now offset.new size.new result }
+    ensures { IsPlaceGiven ⟦<M as DerEncode>⟧ M.octets_of M.path_of field index octets.now offset.new size.new result }
 {
     *offset = 0;
     *size = 0;

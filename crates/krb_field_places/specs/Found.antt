@@ -11,10 +11,15 @@ use Rattle.krb_places.specs.Contents.{Pins}
 use Rattle.krb_field_places.specs.declared.field.Field.{Field}
 use Rattle.krb_field_places.specs.declared.field.Field.TheVariants as field
 
--- The field's octets stand at the place, which is within; there is no place where there is no field.
-abbrev pub IsFieldAt : Option (List ℕ) → List ℕ → Option Place → Type 0
-IsFieldAt field octets None = field ≡ None
-IsFieldAt field octets (Some place) = (field ≡ Some (octets_at octets place)) × (place.offset + place.size ≤ length octets)
+-- the place is the one at the end of the path
+abbrev pub IsPlaceAt : Option (List Step) → List ℕ → Place → Type 0
+IsPlaceAt None octets place = ⊥
+IsPlaceAt (Some path) octets place = IsPlace path octets place
+
+-- The field's octets stand at the end of the path; there is no place where there is no field.
+abbrev pub IsFieldAt : Option (List ℕ) → Option (List Step) → List ℕ → Option Place → Type 0
+IsFieldAt field path octets None = field ≡ None
+IsFieldAt field path octets (Some place) = (field ≡ Some (octets_at octets place)) × IsPlaceAt path octets place
 
 -- the path leads to the field's octets, and there is no field where there is no path
 abbrev pub PinsField : Option (List Step) → List ℕ → Option (List ℕ) → Type 0
@@ -29,6 +34,10 @@ IsFoundAt (Some path) octets place = MatchOption place (LeadsNowhere path octets
 -- the path within the element of this tag
 abbrev pub under : ℕ → Option (List Step) → Option (List Step)
 under tag path = option_map (λ (steps : List Step). Tag tag ∷ steps) path
+
+-- the same for the fields of a message, within its application tag
+abbrev pub in_message : ℕ → (Field → ℕ → Option (List Step)) → Field → ℕ → Option (List Step)
+in_message tag path field index = under (96 + tag) (path field index)
 
 -- ---- numbers
 

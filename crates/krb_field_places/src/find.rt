@@ -5,7 +5,7 @@ ghost use Rattle.krb_der_core.specs.Tlv.{tlv};
 ghost use Rattle.krb_places.specs.declared.place.Step.{Step};
 ghost use Rattle.krb_field_places.specs.declared.field.Field.{Field};
 ghost use Rattle.krb_field_places.specs.IntegerLaws.{AreIntegers};
-ghost use Rattle.krb_field_places.specs.Found.{IsFieldAt, IsFoundAt, PinsField, under};
+ghost use Rattle.krb_field_places.specs.Found.{IsFieldAt, IsFoundAt, PinsField, in_message, under};
 
 use crate::field::Field;
 use krb_der::{ApplicationTag, DerEncode, DerSequence};
@@ -32,7 +32,8 @@ pub trait Placed: DerEncode {
 
 /// Where a field stands in the octets of a message under the application tag N; `None` where the message has no such field.
 pub fn place_in<T: Placed, const N: u8>(field: Field, index: usize, octets: &[u8]) -> Option<Place>
-    ensures { (v : T) → N ≤ 30 → octets.now ≡ tlv (96 + N) (T.enc v) → IsFieldAt (T.octets_of field index v) octets.now result }
+    ensures { (v : T) → N ≤ 30 → octets.now ≡ tlv (96 + N) (T.enc v)
+        → IsFieldAt (T.octets_of field index v) (in_message N T.path field index) octets.now result }
 {
     T::find(0x60 + N.min(30), field, index, octets)
 }
@@ -42,9 +43,13 @@ pub trait Message: DerEncode {
     /// The octets of a field, where a value has it.
     ghost octets_of: { Field → ℕ → Self → Option (List ℕ) };
 
+    /// The path to a field, from the application tag on.
+    ghost path_of: { Field → ℕ → Option (List Step) };
+
     /// Where a field stands in the octets of the message; `None` where it has no such field.
     fn place(field: Field, index: usize, octets: &[u8]) -> Option<Place>
-        ensures { (v : Self) → Self.is_value v → octets.now ≡ Self.enc v → IsFieldAt (octets_of field index v) octets.now result };
+        ensures { (v : Self) → Self.is_value v → octets.now ≡ Self.enc v
+            → IsFieldAt (octets_of field index v) (path_of field index) octets.now result };
 
     /// The fields that are INTEGERs hold one.
     ghost integers: { (index : ℕ) (v : Self) → AreIntegers (λ field. Self.octets_of field index v) };
@@ -52,6 +57,8 @@ pub trait Message: DerEncode {
 
 impl<T: Placed + DerSequence, const N: u8> Message for ApplicationTag<T, N> {
     ghost octets_of = { T.octets_of };
+
+    ghost path_of = { in_message N T.path };
 
     ghost integers = { T.Placed.integers };
 

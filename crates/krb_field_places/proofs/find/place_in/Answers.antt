@@ -10,5 +10,5 @@ returns g c = λ v small e.
     let field = g.T.Placed.octets_of c.args.field c.args.index v in
     let content = g.T.DerEncode.enc v in
     let found = subst (λ (n : ℕ). IsFoundAt (under n path) c.args.octets.now c.find.result) is c.find.ensures in
-    subst (λ (l : List ℕ). IsFieldAt field l c.find.result) (sym e)
+    subst (λ (l : List ℕ). IsFieldAt field (under (96 + g.row.N) path) l c.find.result) (sym e)
     (found_under (96 + g.row.N) path content field c.find.result (g.met.T.Placed.pins c.args.field c.args.index v) (subst (λ (l : List ℕ). IsFoundAt (under (96 + g.row.N) path) l c.find.result) e found))
