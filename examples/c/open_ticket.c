@@ -2,8 +2,8 @@
 
    cc open_ticket.c $(pkg-config --cflags --libs krbc) -o open_ticket
 
-   krb_check says that the octets are the one DER encoding of a Ticket, and krb_open_ticket_part that the part is that of an EncTicketPart, so the walk
-   below meets no wrong length and misses no field that is not optional. */
+   krb_get_number and krb_get_octets hand out fields only of octets that are the one DER encoding of a Ticket. krb_open_ticket_part says that the part is
+   that of an EncTicketPart, so the walk below meets no wrong length and misses no field that is not optional. */
 #include <krb.h>
 #include <stdio.h>
 #include <stdlib.h>
@@ -54,14 +54,15 @@ int main(int count, char **words) {
     if (!digits || *digits != ':') return fputs("usage: open_ticket ETYPE:KEYHEX <TICKET\n", stderr), 2;
     for (digits++; key_size < sizeof key && sscanf(digits, "%2hhx", &key[key_size]) == 1; digits += 2) key_size++;
 
-    krb_status status = krb_check(KRB_MESSAGE_TICKET, ticket, ticket_size);
+    int64_t number;
+    size_t offset, size;
+    krb_status status = krb_get_number(KRB_MESSAGE_TICKET, KRB_FIELD_SEALED_ETYPE, 0, ticket, ticket_size, &number);
     if (status != KRB_DONE) return stop("no ticket", status);
-    struct element sealed = field_of(element_at(element_at(ticket).content), 3);
-    struct element cipher = field_of(sealed, 2);
-    struct element number = field_of(sealed, 0);
-    if (number.size != 1 || number.content[0] != etype) return fprintf(stderr, "open_ticket: the ticket is of another encryption type\n"), 1;
+    if (number != etype) return fprintf(stderr, "open_ticket: the ticket is of another encryption type\n"), 1;
+    status = krb_get_octets(KRB_MESSAGE_TICKET, KRB_FIELD_SEALED_CIPHER, 0, ticket, ticket_size, &offset, &size);
+    if (status != KRB_DONE) return stop("no cipher", status);
 
-    status = krb_open_ticket_part((int32_t)etype, key, key_size, TICKETS, cipher.content, cipher.size, part, sizeof part, &part_size);
+    status = krb_open_ticket_part((int32_t)etype, key, key_size, TICKETS, ticket + offset, size, part, sizeof part, &part_size);
     if (status != KRB_DONE) return stop("not opened", status);
     struct element opened = element_at(element_at(part).content);
     struct element realm = field_of(opened, 2), names = field_of(field_of(opened, 3), 1), until = field_of(opened, 7);
