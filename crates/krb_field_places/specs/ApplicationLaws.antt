@@ -20,8 +20,8 @@ use Rattle.krb_field_places.specs.declared.field.Field.{Field}
 use Rattle.krb_field_places.specs.declared.field.Field.TheVariants as field
 use Rattle.krb_field_places.specs.Found.{PinsField}
 use Rattle.krb_field_places.specs.Encodings.{sealed_encoding, ticket_encoding, ticket_octets}
-use Rattle.krb_field_places.specs.Fields.{component, sealed_field, ap_request_field, ap_reply_field, private_field, credentials_field}
-use Rattle.krb_field_places.specs.Paths.{bits_path, component_path, in_sequence, integer_path, octets_path, text_path, within, sealed_path, ap_request_path, ap_reply_path, private_path, credentials_path}
+use Rattle.krb_field_places.specs.Fields.{ap_reply_field, ap_request_field, component, credentials_field, name_type, private_field, sealed_field}
+use Rattle.krb_field_places.specs.Paths.{ap_reply_path, ap_request_path, bits_path, component_path, credentials_path, in_sequence, integer_path, name_type_path, octets_path, private_path, sealed_path, text_path, within}
 use Rattle.krb_field_places.specs.TypeLaws.{enclosed_pins, pins_in_sequence, pins_primitive, sealed_pins}
 
 -- ---- KRB-AP-REQ
@@ -43,6 +43,8 @@ ap_request_pins field.ApOptions index v = pins_in_ap_request 2 bits_path v (Some
 ap_request_pins field.Ticket index v = pins_in_ap_request 3 [] v (Some (ticket_octets v.ticket)) (enclosed_pins field.Ticket index v.ticket)
 ap_request_pins field.TicketRealm index v = pins_in_ap_request 3 (Tag 97 ∷ in_sequence 1 text_path) v (Some v.ticket.realm) (enclosed_pins field.TicketRealm index v.ticket)
 ap_request_pins field.TicketServerName index v = pins_in_ap_request 3 (Tag 97 ∷ in_sequence 2 (component_path index)) v (component index v.ticket.sname) (enclosed_pins field.TicketServerName index v.ticket)
+ap_request_pins field.TicketServerNameType index v =
+    pins_in_ap_request 3 (Tag 97 ∷ in_sequence 2 name_type_path) v (Some (name_type v.ticket.sname)) (enclosed_pins field.TicketServerNameType index v.ticket)
 ap_request_pins field.TicketEtype index v = pins_in_ap_request 3 (Tag 97 ∷ in_sequence 3 (in_sequence 0 integer_path)) v (Some (shortest v.ticket.enc_part.etype)) (enclosed_pins field.TicketEtype index v.ticket)
 ap_request_pins field.TicketKvno index v = pins_in_ap_request 3 (Tag 97 ∷ in_sequence 3 (in_sequence 1 integer_path)) v (option_map shortest v.ticket.enc_part.kvno.0) (enclosed_pins field.TicketKvno index v.ticket)
 ap_request_pins field.TicketCipher index v = pins_in_ap_request 3 (Tag 97 ∷ in_sequence 3 (in_sequence 2 octets_path)) v (Some v.ticket.enc_part.cipher) (enclosed_pins field.TicketCipher index v.ticket)

@@ -13,9 +13,9 @@ use Rattle.krb_field_places.specs.declared.field.Field.{Field}
 use Rattle.krb_field_places.specs.declared.field.Field.TheVariants as field
 use Rattle.krb_field_places.specs.Found.{PinsField}
 use Rattle.krb_field_places.specs.Encodings.{name_encoding}
-use Rattle.krb_field_places.specs.Fields.{component, error_field}
-use Rattle.krb_field_places.specs.Paths.{component_path, in_sequence, integer_path, octets_path, text_path, time_path, error_path}
-use Rattle.krb_field_places.specs.TypeLaws.{component_pins, in_same, pins_in_sequence, pins_primitive}
+use Rattle.krb_field_places.specs.Fields.{component, error_field, name_type}
+use Rattle.krb_field_places.specs.Paths.{component_path, error_path, in_sequence, integer_path, name_type_path, octets_path, text_path, time_path}
+use Rattle.krb_field_places.specs.TypeLaws.{component_pins, in_same, name_type_pins, pins_in_sequence, pins_primitive}
 
 abbrev pub error_slots : KrbErrorInner → List Slot
 error_slots v =
@@ -47,6 +47,8 @@ error_pins field.ServerMicroseconds index v = pins_in_error 5 integer_path v (So
 error_pins field.ErrorCode index v = pins_in_error 6 integer_path v (Some (shortest (pos v.error_code))) (pins_primitive 2 (shortest (pos v.error_code)))
 error_pins field.ClientRealm index v = pins_in_error 7 text_path v v.crealm.0 (in_same text_path general_string v.crealm.0 (λ s. pins_primitive 27 s))
 error_pins field.ClientName index v = pins_in_error 8 (component_path index) v (option_and_then (component index) v.cname.0) (in_each (component_path index) name_encoding (component index) v.cname.0 (component_pins index))
+error_pins field.ClientNameType index v = pins_in_error 8 name_type_path v _ (in_some name_type_path name_encoding name_type v.cname.0 name_type_pins)
+error_pins field.ServerNameType index v = pins_in_error 10 name_type_path v (Some (name_type v.sname)) (name_type_pins v.sname)
 error_pins field.Realm index v = pins_in_error 9 text_path v (Some v.realm) (pins_primitive 27 v.realm)
 error_pins field.ServerName index v = pins_in_error 10 (component_path index) v (component index v.sname) (component_pins index v.sname)
 error_pins field.ErrorText index v = pins_in_error 11 text_path v v.e_text.0 (in_same text_path general_string v.e_text.0 (λ s. pins_primitive 27 s))

@@ -52,6 +52,10 @@ is_integer field.SealedEtype = true
 is_integer field.SealedKvno = true
 is_integer field.TicketEtype = true
 is_integer field.TicketKvno = true
+is_integer field.ClientNameType = true
+is_integer field.ServerNameType = true
+is_integer field.TicketServerNameType = true
+is_integer field.DataType = true
 is_integer other = false
 
 -- the octets are the content of an INTEGER (X.690, 8.3), where there are any

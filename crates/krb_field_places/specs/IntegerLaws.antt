@@ -1,8 +1,10 @@
 -- The fields that are INTEGERs hold one.
 use Rattle.std.proofs.Common.{◌≡◌, ℕ, ℤ, pos, List, Option, Some, None, true, refl}
 use Rattle.std.specs.List.{slice_get}
-use Rattle.std.specs.Option.{option_map}
+use Rattle.std.specs.Option.{option_map, option_and_then}
 use Rattle.krb_der_core.specs.Integer.{shortest}
+use Rattle.krb_msg_types.specs.declared.data_types.names.PrincipalName.{PrincipalName}
+use Rattle.krb_msg_types.specs.declared.data_types.pre_authentication.PaData.{PaData}
 use Rattle.krb_msg_types.specs.declared.data_types.encryption.EncryptedData.{EncryptedData}
 use Rattle.krb_msg_types.specs.declared.data_types.tickets.TicketInner.{TicketInner}
 use Rattle.krb_msg_kdc.specs.declared.messages.requests.KdcReq.{KdcReq}
@@ -15,7 +17,7 @@ use Rattle.krb_msg.specs.declared.messages.errors.KrbErrorInner.{KrbErrorInner}
 use Rattle.krb_field_places.specs.declared.field.Field.{Field}
 use Rattle.krb_field_places.specs.declared.field.Field.TheVariants as field
 use Rattle.krb_field_places.specs.Found.{HoldsInteger, is_integer}
-use Rattle.krb_field_places.specs.Fields.{ap_reply_field, ap_request_field, credentials_field, error_field, private_field, reply_field, request_field, sealed_field, ticket_field}
+use Rattle.krb_field_places.specs.Fields.{ap_reply_field, ap_request_field, credentials_field, data_type, error_field, name_type, private_field, reply_field, request_field, sealed_field, ticket_field}
 
 -- every field that is an INTEGER holds one
 abbrev pub AreIntegers : (Field → Option (List ℕ)) → Type 0
@@ -24,6 +26,18 @@ AreIntegers field_of = (field : Field) → is_integer field ≡ true → HoldsIn
 maybe_integer : (value : Option ℤ) → HoldsInteger (option_map shortest value)
 maybe_integer None = tt
 maybe_integer (Some z) = (z, refl)
+
+maybe_name_type : (value : Option PrincipalName) → HoldsInteger (option_map name_type value)
+maybe_name_type None = tt
+maybe_name_type (Some name) = (name.name_type, refl)
+
+maybe_item : (value : Option PaData) → HoldsInteger (option_map (λ (it : PaData). shortest it.padata_type) value)
+maybe_item None = tt
+maybe_item (Some it) = (it.padata_type, refl)
+
+maybe_data_type : (index : ℕ) (value : Option (List PaData)) → HoldsInteger (option_and_then (data_type index) value)
+maybe_data_type index None = tt
+maybe_data_type index (Some items) = maybe_item (slice_get items index)
 
 pub sealed_integers : (v : EncryptedData) → AreIntegers (λ field. sealed_field field v)
 sealed_integers v field.SealedEtype h = (v.etype, refl)
@@ -34,6 +48,7 @@ sealed_integers v other h = tt
 pub ticket_integers : (index : ℕ) (v : TicketInner) → AreIntegers (λ field. ticket_field field index v)
 ticket_integers index v field.SealedEtype h = (v.enc_part.etype, refl)
 ticket_integers index v field.SealedKvno h = maybe_integer v.enc_part.kvno.0
+ticket_integers index v field.ServerNameType h = (v.sname.name_type, refl)
 ticket_integers index v field.SealedCipher h = absurd (cc)
 ticket_integers index v field.Realm h = absurd (cc)
 ticket_integers index v field.ServerName h = absurd (cc)
@@ -42,6 +57,10 @@ ticket_integers index v other h = tt
 pub request_integers : (index : ℕ) (v : KdcReq) → AreIntegers (λ field. request_field field index v)
 request_integers index v field.Nonce h = (v.req_body.nonce, refl)
 request_integers index v field.Etype h = maybe_integer (slice_get v.req_body.etype index)
+request_integers index v field.ClientNameType h = maybe_name_type v.req_body.cname.0
+request_integers index v field.ServerNameType h = maybe_name_type v.req_body.sname.0
+request_integers index v field.DataType h = maybe_data_type index v.padata.0
+request_integers index v field.DataValue h = absurd (cc)
 request_integers index v field.KdcOptions h = absurd (cc)
 request_integers index v field.ClientName h = absurd (cc)
 request_integers index v field.Realm h = absurd (cc)
@@ -56,6 +75,10 @@ reply_integers index v field.SealedEtype h = (v.enc_part.etype, refl)
 reply_integers index v field.SealedKvno h = maybe_integer v.enc_part.kvno.0
 reply_integers index v field.TicketEtype h = (v.ticket.enc_part.etype, refl)
 reply_integers index v field.TicketKvno h = maybe_integer v.ticket.enc_part.kvno.0
+reply_integers index v field.ClientNameType h = (v.cname.name_type, refl)
+reply_integers index v field.DataType h = maybe_data_type index v.padata.0
+reply_integers index v field.DataValue h = absurd (cc)
+reply_integers index v field.TicketServerNameType h = (v.ticket.sname.name_type, refl)
 reply_integers index v field.ClientRealm h = absurd (cc)
 reply_integers index v field.ClientName h = absurd (cc)
 reply_integers index v field.Ticket h = absurd (cc)
@@ -70,6 +93,7 @@ ap_request_integers index v field.SealedEtype h = (v.authenticator.etype, refl)
 ap_request_integers index v field.SealedKvno h = maybe_integer v.authenticator.kvno.0
 ap_request_integers index v field.TicketEtype h = (v.ticket.enc_part.etype, refl)
 ap_request_integers index v field.TicketKvno h = maybe_integer v.ticket.enc_part.kvno.0
+ap_request_integers index v field.TicketServerNameType h = (v.ticket.sname.name_type, refl)
 ap_request_integers index v field.ApOptions h = absurd (cc)
 ap_request_integers index v field.Ticket h = absurd (cc)
 ap_request_integers index v field.TicketRealm h = absurd (cc)
@@ -95,6 +119,8 @@ pub error_integers : (index : ℕ) (v : KrbErrorInner) → AreIntegers (λ field
 error_integers index v field.ClientMicroseconds h = maybe_integer v.cusec.0
 error_integers index v field.ServerMicroseconds h = (v.susec, refl)
 error_integers index v field.ErrorCode h = (pos v.error_code, refl)
+error_integers index v field.ClientNameType h = maybe_name_type v.cname.0
+error_integers index v field.ServerNameType h = (v.sname.name_type, refl)
 error_integers index v field.ClientTime h = absurd (cc)
 error_integers index v field.ServerTime h = absurd (cc)
 error_integers index v field.ClientRealm h = absurd (cc)

@@ -31,6 +31,11 @@ number_in field.TicketServerName = 24
 number_in field.TicketEtype = 25
 number_in field.TicketKvno = 26
 number_in field.TicketCipher = 27
+number_in field.ClientNameType = 28
+number_in field.ServerNameType = 29
+number_in field.TicketServerNameType = 30
+number_in field.DataType = 31
+number_in field.DataValue = 32
 
 abbrev pub number_of : Field → ℤ
 number_of field = pos (number_in field)

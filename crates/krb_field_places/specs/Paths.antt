@@ -28,6 +28,15 @@ octets_path = Tag 4 ∷ []
 abbrev pub component_path : ℕ → List Step
 component_path index = in_sequence 1 (Tag 48 ∷ Item index ∷ text_path)
 
+abbrev pub name_type_path : List Step
+name_type_path = in_sequence 0 integer_path
+
+abbrev pub data_type_path : ℕ → List Step
+data_type_path index = Tag 48 ∷ Item index ∷ in_sequence 1 integer_path
+
+abbrev pub data_value_path : ℕ → List Step
+data_value_path index = Tag 48 ∷ Item index ∷ in_sequence 2 octets_path
+
 -- within [n] of a SEQUENCE
 abbrev pub within : ℕ → Option (List Step) → Option (List Step)
 within n path = option_map (in_sequence n) path
@@ -41,6 +50,7 @@ sealed_path other = None
 abbrev pub ticket_path : Field → ℕ → Option (List Step)
 ticket_path field.Realm index = Some (in_sequence 1 text_path)
 ticket_path field.ServerName index = Some (in_sequence 2 (component_path index))
+ticket_path field.ServerNameType index = Some (in_sequence 2 name_type_path)
 ticket_path field.SealedEtype index = within 3 (sealed_path field.SealedEtype)
 ticket_path field.SealedKvno index = within 3 (sealed_path field.SealedKvno)
 ticket_path field.SealedCipher index = within 3 (sealed_path field.SealedCipher)
@@ -54,6 +64,7 @@ abbrev pub enclosed_path : Field → ℕ → Option (List Step)
 enclosed_path field.Ticket index = Some []
 enclosed_path field.TicketRealm index = in_ticket (ticket_path field.Realm index)
 enclosed_path field.TicketServerName index = in_ticket (ticket_path field.ServerName index)
+enclosed_path field.TicketServerNameType index = in_ticket (ticket_path field.ServerNameType index)
 enclosed_path field.TicketEtype index = in_ticket (ticket_path field.SealedEtype index)
 enclosed_path field.TicketKvno index = in_ticket (ticket_path field.SealedKvno index)
 enclosed_path field.TicketCipher index = in_ticket (ticket_path field.SealedCipher index)
@@ -65,6 +76,10 @@ in_body n path = Some (in_sequence 4 (in_sequence n path))
 abbrev pub request_path : Field → ℕ → Option (List Step)
 request_path field.KdcOptions index = in_body 0 bits_path
 request_path field.ClientName index = in_body 1 (component_path index)
+request_path field.ClientNameType index = in_body 1 name_type_path
+request_path field.ServerNameType index = in_body 3 name_type_path
+request_path field.DataType index = Some (in_sequence 3 (data_type_path index))
+request_path field.DataValue index = Some (in_sequence 3 (data_value_path index))
 request_path field.Realm index = in_body 2 text_path
 request_path field.ServerName index = in_body 3 (component_path index)
 request_path field.From index = in_body 4 time_path
@@ -77,9 +92,13 @@ request_path other index = None
 abbrev pub reply_path : Field → ℕ → Option (List Step)
 reply_path field.ClientRealm index = Some (in_sequence 3 text_path)
 reply_path field.ClientName index = Some (in_sequence 4 (component_path index))
+reply_path field.ClientNameType index = Some (in_sequence 4 name_type_path)
+reply_path field.DataType index = Some (in_sequence 2 (data_type_path index))
+reply_path field.DataValue index = Some (in_sequence 2 (data_value_path index))
 reply_path field.Ticket index = within 5 (enclosed_path field.Ticket index)
 reply_path field.TicketRealm index = within 5 (enclosed_path field.TicketRealm index)
 reply_path field.TicketServerName index = within 5 (enclosed_path field.TicketServerName index)
+reply_path field.TicketServerNameType index = within 5 (enclosed_path field.TicketServerNameType index)
 reply_path field.TicketEtype index = within 5 (enclosed_path field.TicketEtype index)
 reply_path field.TicketKvno index = within 5 (enclosed_path field.TicketKvno index)
 reply_path field.TicketCipher index = within 5 (enclosed_path field.TicketCipher index)
@@ -93,6 +112,7 @@ ap_request_path field.ApOptions index = Some (in_sequence 2 bits_path)
 ap_request_path field.Ticket index = within 3 (enclosed_path field.Ticket index)
 ap_request_path field.TicketRealm index = within 3 (enclosed_path field.TicketRealm index)
 ap_request_path field.TicketServerName index = within 3 (enclosed_path field.TicketServerName index)
+ap_request_path field.TicketServerNameType index = within 3 (enclosed_path field.TicketServerNameType index)
 ap_request_path field.TicketEtype index = within 3 (enclosed_path field.TicketEtype index)
 ap_request_path field.TicketKvno index = within 3 (enclosed_path field.TicketKvno index)
 ap_request_path field.TicketCipher index = within 3 (enclosed_path field.TicketCipher index)
@@ -122,6 +142,8 @@ error_path field.ServerMicroseconds index = Some (in_sequence 5 integer_path)
 error_path field.ErrorCode index = Some (in_sequence 6 integer_path)
 error_path field.ClientRealm index = Some (in_sequence 7 text_path)
 error_path field.ClientName index = Some (in_sequence 8 (component_path index))
+error_path field.ClientNameType index = Some (in_sequence 8 name_type_path)
+error_path field.ServerNameType index = Some (in_sequence 10 name_type_path)
 error_path field.Realm index = Some (in_sequence 9 text_path)
 error_path field.ServerName index = Some (in_sequence 10 (component_path index))
 error_path field.ErrorText index = Some (in_sequence 11 text_path)

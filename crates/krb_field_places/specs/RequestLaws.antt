@@ -18,16 +18,13 @@ use Rattle.krb_msg_kdc.specs.declared.messages.requests.KdcReq.{KdcReq}
 use Rattle.krb_field_places.specs.declared.field.Field.{Field}
 use Rattle.krb_field_places.specs.declared.field.Field.TheVariants as field
 use Rattle.krb_field_places.specs.Found.{PinsField}
-use Rattle.krb_field_places.specs.Fields.{component, request_field}
-use Rattle.krb_field_places.specs.Paths.{bits_path, component_path, in_sequence, integer_path, request_path, text_path, time_path}
-use Rattle.krb_field_places.specs.TypeLaws.{component_pins, pins_in_sequence, pins_primitive}
+use Rattle.krb_field_places.specs.Fields.{component, data_type, data_value, name_type, request_field}
+use Rattle.krb_field_places.specs.Paths.{bits_path, component_path, data_type_path, data_value_path, in_body, in_sequence, integer_path, name_type_path, request_path, text_path, time_path}
+use Rattle.krb_field_places.specs.TypeLaws.{component_pins, data_encoding, data_type_pins, data_value_pins, name_type_pins, pins_in_sequence, pins_primitive}
 use Rattle.krb_field_places.specs.Encodings.{name_encoding, sealed_encoding, ticket_octets}
 
 abbrev pub address_encoding : HostAddress → List ℕ
 address_encoding v = sequence (explicit 0 (integer v.addr_type) ++ explicit 1 (octet_string v.address))
-
-abbrev pub data_encoding : PaData → List ℕ
-data_encoding v = sequence (explicit 1 (integer v.padata_type) ++ explicit 2 (octet_string v.padata_data))
 
 abbrev pub body_slots : KdcReqBody → List Slot
 body_slots v =
@@ -57,11 +54,13 @@ abbrev pub request_encoding : KdcReq → List ℕ
 request_encoding v = sequence (explicit 1 (integer v.pvno) ++ explicit 2 (integer v.msg_type)
     ++ optional (λ x. explicit 3 (sequence_of data_encoding x)) v.padata.0 ++ explicit 4 (sequence (body_content v.req_body)))
 
+pins_in_request : (n : ℕ) (path : List Step) (v : KdcReq) (field : Option (List ℕ)) → PinsIn path (content_of (160 + n) (request_slots v)) field → Pins (in_sequence n path) (request_encoding v) field
+pins_in_request n path v field p = pins_in_sequence n path (request_slots v) _ field (simp (append_assoc, append-nil, optional_map)) refl p
+
 pins_in_body : (n : ℕ) (path : List Step) (v : KdcReq) (field : Option (List ℕ)) → PinsIn path (content_of (160 + n) (body_slots v.req_body)) field
     → Pins (in_sequence 4 (in_sequence n path)) (request_encoding v) field
 pins_in_body n path v field p =
-    pins_in_sequence 4 (in_sequence n path) (request_slots v) _ field (simp (append_assoc, append-nil, optional_map)) refl
-    (pins_in_sequence n path (body_slots v.req_body) (body_content v.req_body) field (body_slots_are v.req_body) refl p)
+    pins_in_request 4 (in_sequence n path) v field (pins_in_sequence n path (body_slots v.req_body) (body_content v.req_body) field (body_slots_are v.req_body) refl p)
 
 abbrev integer_element : ℤ → Element
 integer_element z = record { tag = 2; content = shortest z }
@@ -69,6 +68,12 @@ integer_element z = record { tag = 2; content = shortest z }
 pub request_pins : (field : Field) (index : ℕ) (v : KdcReq) → PinsField (request_path field index) (request_encoding v) (request_field field index v)
 request_pins field.KdcOptions index v = pins_in_body 0 bits_path v (Some (bits_content v.req_body.kdc_options)) (pins_primitive 3 (bits_content v.req_body.kdc_options))
 request_pins field.ClientName index v = pins_in_body 1 (component_path index) v _ (in_each (component_path index) name_encoding (component index) v.req_body.cname.0 (component_pins index))
+request_pins field.ClientNameType index v = pins_in_body 1 name_type_path v _ (in_some name_type_path name_encoding name_type v.req_body.cname.0 name_type_pins)
+request_pins field.ServerNameType index v = pins_in_body 3 name_type_path v _ (in_some name_type_path name_encoding name_type v.req_body.sname.0 name_type_pins)
+request_pins field.DataType index v =
+    pins_in_request 3 (data_type_path index) v _ (in_each (data_type_path index) (λ x. sequence_of data_encoding x) (data_type index) v.padata.0 (data_type_pins index))
+request_pins field.DataValue index v =
+    pins_in_request 3 (data_value_path index) v _ (in_each (data_value_path index) (λ x. sequence_of data_encoding x) (data_value index) v.padata.0 (data_value_pins index))
 request_pins field.Realm index v = pins_in_body 2 text_path v (Some v.req_body.realm) (pins_primitive 27 v.req_body.realm)
 request_pins field.ServerName index v = pins_in_body 3 (component_path index) v _ (in_each (component_path index) name_encoding (component index) v.req_body.sname.0 (component_pins index))
 request_pins field.From index v = pins_in_body 4 time_path v _ (in_some time_path generalized_time time_content v.req_body.from.0 (λ t. pins_primitive 24 (time_content t)))

@@ -27,6 +27,7 @@ impl Placed for ApReqInner {
             Field::Ticket => enclosed(tag, TAG_3, field, index, octets),
             Field::TicketRealm => enclosed(tag, TAG_3, field, index, octets),
             Field::TicketServerName => enclosed(tag, TAG_3, field, index, octets),
+            Field::TicketServerNameType => enclosed(tag, TAG_3, field, index, octets),
             Field::TicketEtype => enclosed(tag, TAG_3, field, index, octets),
             Field::TicketKvno => enclosed(tag, TAG_3, field, index, octets),
             Field::TicketCipher => enclosed(tag, TAG_3, field, index, octets),

@@ -7,7 +7,7 @@ ghost use Rattle.krb_field_places.specs.ErrorLaws.{error_pins};
 
 use crate::field::Field;
 use crate::find::Placed;
-use crate::parts::name;
+use crate::parts::{name, name_type};
 use crate::steps::{
     INTEGER, OCTET_STRING, SEQUENCE, TAG_2, TAG_3, TAG_4, TAG_5, TAG_6, TAG_7, TAG_8, TAG_9,
     TAG_10, TAG_11, TAG_12, TEXT, TIME,
@@ -34,6 +34,8 @@ impl Placed for KrbErrorInner {
             Field::ErrorCode => place_of(&[outer, SEQUENCE, TAG_6, INTEGER], octets),
             Field::ClientRealm => place_of(&[outer, SEQUENCE, TAG_7, TEXT], octets),
             Field::ClientName => name(tag, TAG_8, index, octets),
+            Field::ClientNameType => name_type(tag, TAG_8, octets),
+            Field::ServerNameType => name_type(tag, TAG_10, octets),
             Field::Realm => place_of(&[outer, SEQUENCE, TAG_9, TEXT], octets),
             Field::ServerName => name(tag, TAG_10, index, octets),
             Field::ErrorText => place_of(&[outer, SEQUENCE, TAG_11, TEXT], octets),

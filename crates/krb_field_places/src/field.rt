@@ -61,6 +61,16 @@ pub enum Field {
     TicketKvno,
     /// The cipher of the sealed part of the ticket within.
     TicketCipher,
+    /// The name-type of cname (5.2.2).
+    ClientNameType,
+    /// The name-type of sname.
+    ServerNameType,
+    /// The name-type of the server's name of the ticket within.
+    TicketServerNameType,
+    /// padata-type: the types of pre-authentication data, by index (5.2.7).
+    DataType,
+    /// padata-value: the values of pre-authentication data, by index (5.2.7).
+    DataValue,
 }
 
 /// The field that has this number; `None` where none has it.
@@ -95,6 +105,11 @@ pub fn field_of(number: i32) -> Option<Field>
         25 => Some(Field::TicketEtype),
         26 => Some(Field::TicketKvno),
         27 => Some(Field::TicketCipher),
+        28 => Some(Field::ClientNameType),
+        29 => Some(Field::ServerNameType),
+        30 => Some(Field::TicketServerNameType),
+        31 => Some(Field::DataType),
+        32 => Some(Field::DataValue),
         _ => None,
     }
 }
@@ -113,6 +128,10 @@ pub fn is_number(field: Field) -> bool
         Field::SealedKvno => true,
         Field::TicketEtype => true,
         Field::TicketKvno => true,
+        Field::ClientNameType => true,
+        Field::ServerNameType => true,
+        Field::TicketServerNameType => true,
+        Field::DataType => true,
         _ => false,
     }
 }

@@ -2,9 +2,9 @@
 
 ghost use Rattle.std.specs.Prelude.{[], ◌∷◌};
 ghost use Rattle.std.specs.Option.{option_map};
-ghost use Rattle.krb_places.specs.declared.place.Step.TheVariants.{Tag};
+ghost use Rattle.krb_places.specs.declared.place.Step.TheVariants.{Item, Tag};
 ghost use Rattle.krb_field_places.specs.Found.{IsFoundAt};
-ghost use Rattle.krb_field_places.specs.Paths.{component_path, enclosed_path, sealed_path};
+ghost use Rattle.krb_field_places.specs.Paths.{component_path, enclosed_path, name_type_path, sealed_path};
 
 use crate::field::Field;
 use crate::steps::{INTEGER, OCTET_STRING, SEQUENCE, TAG_0, TAG_1, TAG_2, TAG_3, TEXT, TICKET};
@@ -18,6 +18,33 @@ pub(crate) fn name(tag: u8, part: Step, index: usize, octets: &[u8]) -> Option<P
     let item = Step::Item(index);
     place_of(
         &[outer, SEQUENCE, part, SEQUENCE, TAG_1, SEQUENCE, item, TEXT],
+        octets,
+    )
+}
+
+/// The type of the name under this tag of the sequence.
+pub(crate) fn name_type(tag: u8, part: Step, octets: &[u8]) -> Option<Place>
+    ensures { IsFoundAt (Some (Tag tag ∷ Tag 48 ∷ part ∷ name_type_path)) octets.now result }
+{
+    let outer = Step::Tag(tag);
+    place_of(&[outer, SEQUENCE, part, SEQUENCE, TAG_0, INTEGER], octets)
+}
+
+/// What pre-authentication data under this tag of the sequence has: the tag in its item, and that of the type.
+pub(crate) fn data(
+    tag: u8,
+    part: Step,
+    index: usize,
+    inner: Step,
+    kind: Step,
+    octets: &[u8],
+) -> Option<Place>
+    ensures { IsFoundAt (Some (Tag tag ∷ Tag 48 ∷ part ∷ Tag 48 ∷ Item index ∷ Tag 48 ∷ inner ∷ kind ∷ [])) octets.now result }
+{
+    let outer = Step::Tag(tag);
+    let item = Step::Item(index);
+    place_of(
+        &[outer, SEQUENCE, part, SEQUENCE, item, SEQUENCE, inner, kind],
         octets,
     )
 }
@@ -81,6 +108,12 @@ pub(crate) fn enclosed(
             let path = [
                 outer, SEQUENCE, part, TICKET, SEQUENCE, TAG_2, SEQUENCE, TAG_1, SEQUENCE, item,
                 TEXT,
+            ];
+            place_of(&path, octets)
+        }
+        Field::TicketServerNameType => {
+            let path = [
+                outer, SEQUENCE, part, TICKET, SEQUENCE, TAG_2, SEQUENCE, TAG_0, INTEGER,
             ];
             place_of(&path, octets)
         }

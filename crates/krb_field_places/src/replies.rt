@@ -7,8 +7,10 @@ ghost use Rattle.krb_field_places.specs.ReplyLaws.{reply_pins};
 
 use crate::field::Field;
 use crate::find::Placed;
-use crate::parts::{enclosed, name, sealed};
-use crate::steps::{SEQUENCE, TAG_3, TAG_4, TAG_5, TAG_6, TEXT};
+use crate::parts::{data, enclosed, name, name_type, sealed};
+use crate::steps::{
+    INTEGER, OCTET_STRING, SEQUENCE, TAG_1, TAG_2, TAG_3, TAG_4, TAG_5, TAG_6, TEXT,
+};
 use krb_msg_kdc::messages::KdcRep;
 use krb_places::{Place, Step, place_of};
 
@@ -25,9 +27,13 @@ impl Placed for KdcRep {
         match field {
             Field::ClientRealm => place_of(&[Step::Tag(tag), SEQUENCE, TAG_3, TEXT], octets),
             Field::ClientName => name(tag, TAG_4, index, octets),
+            Field::ClientNameType => name_type(tag, TAG_4, octets),
+            Field::DataType => data(tag, TAG_2, index, TAG_1, INTEGER, octets),
+            Field::DataValue => data(tag, TAG_2, index, TAG_2, OCTET_STRING, octets),
             Field::Ticket => enclosed(tag, TAG_5, field, index, octets),
             Field::TicketRealm => enclosed(tag, TAG_5, field, index, octets),
             Field::TicketServerName => enclosed(tag, TAG_5, field, index, octets),
+            Field::TicketServerNameType => enclosed(tag, TAG_5, field, index, octets),
             Field::TicketEtype => enclosed(tag, TAG_5, field, index, octets),
             Field::TicketKvno => enclosed(tag, TAG_5, field, index, octets),
             Field::TicketCipher => enclosed(tag, TAG_5, field, index, octets),

@@ -5,14 +5,15 @@ ghost use Rattle.krb_places.specs.declared.place.Step.TheVariants.{Tag};
 ghost use Rattle.krb_field_places.specs.Found.{IsFoundAt};
 ghost use Rattle.krb_field_places.specs.IntegerLaws.{request_integers};
 ghost use Rattle.krb_field_places.specs.Fields.{request_field};
-ghost use Rattle.krb_field_places.specs.Paths.{component_path, request_path};
+ghost use Rattle.krb_field_places.specs.Paths.{component_path, name_type_path, request_path};
 ghost use Rattle.krb_field_places.specs.RequestLaws.{request_pins};
 
 use crate::field::Field;
 use crate::find::Placed;
+use crate::parts::data;
 use crate::steps::{
-    BIT_STRING, INTEGER, SEQUENCE, TAG_0, TAG_1, TAG_2, TAG_3, TAG_4, TAG_5, TAG_6, TAG_7, TAG_8,
-    TEXT, TIME,
+    BIT_STRING, INTEGER, OCTET_STRING, SEQUENCE, TAG_0, TAG_1, TAG_2, TAG_3, TAG_4, TAG_5, TAG_6,
+    TAG_7, TAG_8, TEXT, TIME,
 };
 use krb_msg_kdc::messages::KdcReq;
 use krb_places::{Place, Step, place_of};
@@ -26,6 +27,19 @@ fn component(tag: u8, name: Step, index: usize, octets: &[u8]) -> Option<Place>
     place_of(
         &[
             outer, SEQUENCE, TAG_4, SEQUENCE, name, SEQUENCE, TAG_1, SEQUENCE, item, TEXT,
+        ],
+        octets,
+    )
+}
+
+/// The type of a name under this tag of the body.
+fn body_name_type(tag: u8, name: Step, octets: &[u8]) -> Option<Place>
+    ensures { IsFoundAt (Some (Tag tag ∷ Tag 48 ∷ Tag 164 ∷ Tag 48 ∷ name ∷ name_type_path)) octets.now result }
+{
+    let outer = Step::Tag(tag);
+    place_of(
+        &[
+            outer, SEQUENCE, TAG_4, SEQUENCE, name, SEQUENCE, TAG_0, INTEGER,
         ],
         octets,
     )
@@ -50,6 +64,10 @@ impl Placed for KdcReq {
                 )
             }
             Field::ClientName => component(tag, TAG_1, index, octets),
+            Field::ClientNameType => body_name_type(tag, TAG_1, octets),
+            Field::ServerNameType => body_name_type(tag, TAG_3, octets),
+            Field::DataType => data(tag, TAG_3, index, TAG_1, INTEGER, octets),
+            Field::DataValue => data(tag, TAG_3, index, TAG_2, OCTET_STRING, octets),
             Field::Realm => place_of(&[outer, SEQUENCE, TAG_4, SEQUENCE, TAG_2, TEXT], octets),
             Field::ServerName => component(tag, TAG_3, index, octets),
             Field::From => place_of(&[outer, SEQUENCE, TAG_4, SEQUENCE, TAG_4, TIME], octets),

@@ -7,7 +7,7 @@ ghost use Rattle.krb_field_places.specs.TypeLaws.{ticket_pins};
 
 use crate::field::Field;
 use crate::find::Placed;
-use crate::parts::{name, sealed};
+use crate::parts::{name, name_type, sealed};
 use crate::steps::{SEQUENCE, TAG_1, TAG_2, TAG_3, TEXT};
 use krb_msg_types::data_types::TicketInner;
 use krb_places::{Place, Step, place_of};
@@ -25,6 +25,7 @@ impl Placed for TicketInner {
         match field {
             Field::Realm => place_of(&[Step::Tag(tag), SEQUENCE, TAG_1, TEXT], octets),
             Field::ServerName => name(tag, TAG_2, index, octets),
+            Field::ServerNameType => name_type(tag, TAG_2, octets),
             Field::SealedEtype => sealed(tag, TAG_3, field, octets),
             Field::SealedKvno => sealed(tag, TAG_3, field, octets),
             Field::SealedCipher => sealed(tag, TAG_3, field, octets),
