@@ -1,4 +1,4 @@
-mod Mic
+pub mod Mic
 mod Slices
 mod Streams
-mod Wrap
+pub mod Wrap

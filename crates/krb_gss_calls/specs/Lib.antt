@@ -1,0 +1,4 @@
+pub mod TokenStatuses
+pub mod TokenKeys
+pub mod Mics
+pub mod Wraps

@@ -1,0 +1,9 @@
+pub mod Rotations
+pub mod FlagBits
+pub mod Making
+pub mod Mics
+pub mod Newer
+pub mod Openings
+pub mod Plaintexts
+pub mod ShortSums
+pub mod Wraps

@@ -1,0 +1,20 @@
+//! MIC and Wrap tokens of Kerberos under the GSS-API, whole (RFC 4121, 4.2): checksums and encryption of the message and the header, by
+//! the key usages and the flags of the sender.
+#![tactic(auto)]
+
+mod error;
+mod flags;
+mod key;
+pub mod laws;
+mod mic;
+mod octets;
+mod rotation;
+mod sums;
+mod unwrapping;
+mod wrapping;
+
+pub use error::ProtectionError;
+pub use key::{Sender, TokenKey};
+pub use mic::{make_mic, verify_mic};
+pub use unwrapping::{Unwrapped, unwrap};
+pub use wrapping::{wrap, wrap_in_clear};
