@@ -2,5 +2,6 @@
 #![tactic(auto)]
 
 mod crypto;
+mod frames;
 mod parts;
 mod sizes;

@@ -1,0 +1,2 @@
+pub mod Pac
+pub mod Places
