@@ -14,6 +14,9 @@
      KRB_ROOM   the answer has *size octets, which are more than `room`; `out` is as it was
      another    there is no answer: *size is 0, and `out` is as it was
 
+   Where a call answers places, nothing is copied: a field of the input is told by how many octets are before it, `.._offset`, and how many it
+   has, `.._size`. On any status but KRB_DONE all that is told is 0.
+
    So no octet of what was sealed is seen where the checksum is wrong. A call with too little room does the whole work before it answers
    KRB_ROOM; the sizes below say how much room suffices.
 
@@ -52,7 +55,11 @@ enum {
     KRB_UNSUPPORTED = 11,    /* a length of the indefinite form, or one of more than eight octets */
     KRB_NEVER = 12,          /* of an error that no call meets */
     KRB_SEED_SIZE = 13,      /* the seed has not krb_seed_size octets */
-    KRB_EMPTY = 14           /* n-fold of no octets, or to none */
+    KRB_EMPTY = 14,          /* n-fold of no octets, or to none */
+    KRB_ABSENT = 20,         /* there is no such field, or not so many */
+    KRB_OTHER_VERSION = 25,  /* the version of the format is another */
+    KRB_PAC_TYPE = 26,       /* a buffer of a PAC is of a number that no type has */
+    KRB_PAC_RANGE = 27       /* a buffer of a PAC names octets that are not there */
 };
 
 /* Encryption types (RFC 3961, 8; RFC 3962, 7; RFC 8009, 7). */
@@ -202,24 +209,48 @@ krb_status krb_open_priv_part(int32_t etype, const uint8_t *key, size_t key_size
 krb_status krb_open_cred_part(int32_t etype, const uint8_t *key, size_t key_size, int32_t usage, const uint8_t *sealed,
                               size_t sealed_size, uint8_t *out, size_t room, size_t *size);
 
+/* PACs (MS-PAC 2.3 and 2.4): how many buffers there are, and buffer n, counted from 0 in the order of the entries: its type (ulType), and
+   the place of its octets. Each call looks at the whole directory; buffers may share octets. No memory is taken.
+   Of the first fault, in the order of count, version, and each entry with the octets that it names: KRB_TRUNCATED, KRB_OTHER_VERSION (not 0),
+   KRB_PAC_TYPE, KRB_PAC_RANGE; then KRB_ABSENT where there are not so many buffers. */
+krb_status krb_pac_count(const uint8_t *pac, size_t pac_size, size_t *count);
+krb_status krb_pac_buffer(const uint8_t *pac, size_t pac_size, size_t n, uint32_t *ul_type, size_t *offset, size_t *size);
+
+/* The frame of a GSS token (RFC 2743, 3.1; RFC 4121, 4.1), with nothing behind it: the places of the content of the mechanism's OBJECT IDENTIFIER,
+   and of the inner token, which is all that follows; a Kerberos token's begins with two octets of a token id. The mechanism is not compared.
+   Of the first fault, from the left: KRB_INVALID, KRB_TRUNCATED, KRB_UNSUPPORTED (of the mechanism: an arc past 64 bits); KRB_MEMORY. */
+krb_status krb_gss_token(const uint8_t *token, size_t token_size, size_t *mechanism_offset, size_t *mechanism_size, size_t *inner_offset,
+                         size_t *inner_size);
+
+/* The GSS token of the mechanism whose OBJECT IDENTIFIER has this content, around this inner token. krb_gss_token reads it as these.
+   KRB_INVALID, KRB_UNSUPPORTED where the octets are the content of no OBJECT IDENTIFIER; KRB_MEMORY. */
+krb_status krb_make_gss_token(const uint8_t *mechanism, size_t mechanism_size, const uint8_t *inner, size_t inner_size, uint8_t *out,
+                              size_t room, size_t *size);
+
 /* What a status says, in English words and without a line's end. It is not of the library: no export answers a pointer. */
 static inline const char *krb_status_text(krb_status status) {
-    static const char *const texts[] = {"done",
-                                        "too little room for the answer",
-                                        "out of memory",
-                                        "an unknown number",
-                                        "a confounder of another size",
-                                        "a key of another size",
-                                        "too few sealed octets",
-                                        "a wrong checksum",
-                                        "no whole blocks",
-                                        "no encoding of the type",
-                                        "octets that end too early",
-                                        "a length that is not supported",
-                                        "an error that no call meets",
-                                        "a seed of another size",
-                                        "no octets to fold"};
-    return status < sizeof texts / sizeof *texts ? texts[status] : "an unknown status";
+    switch (status) {
+    case KRB_DONE: return "done";
+    case KRB_ROOM: return "too little room for the answer";
+    case KRB_MEMORY: return "out of memory";
+    case KRB_NUMBER: return "an unknown number";
+    case KRB_CONFOUNDER_SIZE: return "a confounder of another size";
+    case KRB_KEY_SIZE: return "a key of another size";
+    case KRB_SEALED_SIZE: return "too few sealed octets";
+    case KRB_INTEGRITY: return "a wrong checksum";
+    case KRB_PADDING: return "no whole blocks";
+    case KRB_INVALID: return "no encoding of the type";
+    case KRB_TRUNCATED: return "octets that end too early";
+    case KRB_UNSUPPORTED: return "a length that is not supported";
+    case KRB_NEVER: return "an error that no call meets";
+    case KRB_SEED_SIZE: return "a seed of another size";
+    case KRB_EMPTY: return "no octets to fold";
+    case KRB_ABSENT: return "no such field";
+    case KRB_OTHER_VERSION: return "another version of the format";
+    case KRB_PAC_TYPE: return "a buffer of an unknown type";
+    case KRB_PAC_RANGE: return "a buffer of octets that are not there";
+    default: return "an unknown status";
+    }
 }
 
 #ifdef __cplusplus

@@ -27,6 +27,10 @@ class Status(enum.IntEnum):
     NEVER = 12
     SEED_SIZE = 13
     EMPTY = 14
+    ABSENT = 20
+    OTHER_VERSION = 25
+    PAC_TYPE = 26
+    PAC_RANGE = 27
 
 
 TEXTS = {
@@ -44,6 +48,10 @@ TEXTS = {
     Status.NEVER: "an error that no call meets",
     Status.SEED_SIZE: "a seed of another size",
     Status.EMPTY: "no octets to fold",
+    Status.ABSENT: "no such field",
+    Status.OTHER_VERSION: "another version of the format",
+    Status.PAC_TYPE: "a buffer of an unknown type",
+    Status.PAC_RANGE: "a buffer of octets that are not there",
 }
 
 

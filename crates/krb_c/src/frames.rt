@@ -1,6 +1,10 @@
 //! Frames of messages. `krb.h` declares these calls.
 
+ghost use Rattle.krb_calls.specs.Handing.{IsAnswered};
 ghost use Rattle.krb_frame_calls.specs.Pac.{IsPacBuffer, IsPacCount};
+ghost use Rattle.krb_frame_calls.specs.Token.{IsMadeToken, IsTokenAt, RefusesMechanism};
+
+use std::alloc::Global;
 
 /// `krb_pac_count` of `krb.h`: how many buffers a PAC has (MS-PAC 2.3).
 #[unsafe(no_mangle)]
@@ -22,4 +26,40 @@ pub extern "C" fn krb_pac_buffer(
     ensures { IsPacBuffer pac.now n ul_type.new offset.new size.new result }
 {
     krb_frame_calls::pac_buffer(pac, n, ul_type, offset, size)
+}
+
+/// `krb_gss_token` of `krb.h`: the places of the mechanism and of the inner token in a GSS token (RFC 2743, 3.1).
+#[unsafe(no_mangle)]
+pub extern "C" fn krb_gss_token(
+    alloc: Global,
+    token: &[u8],
+    mechanism_offset: &mut usize,
+    mechanism_size: &mut usize,
+    inner_offset: &mut usize,
+    inner_size: &mut usize,
+) -> u32
+    ensures { IsTokenAt token.now mechanism_offset.new mechanism_size.new inner_offset.new inner_size.new result }
+{
+    krb_frame_calls::gss_token(
+        alloc,
+        token,
+        mechanism_offset,
+        mechanism_size,
+        inner_offset,
+        inner_size,
+    )
+}
+
+/// `krb_make_gss_token` of `krb.h`: the GSS token of a mechanism around an inner token (RFC 2743, 3.1).
+#[unsafe(no_mangle)]
+pub extern "C" fn krb_make_gss_token(
+    alloc: Global,
+    mechanism: &[u8],
+    inner: &[u8],
+    out: &mut [u8],
+    size: &mut usize,
+) -> u32
+    ensures { IsAnswered (IsMadeToken mechanism.now inner.now) (RefusesMechanism mechanism.now) out.old out.new size.new result }
+{
+    krb_frame_calls::make_gss_token(alloc, mechanism, inner, out, size)
 }

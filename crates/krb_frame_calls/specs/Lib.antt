@@ -1,2 +1,4 @@
 pub mod Pac
 pub mod Places
+pub mod Statuses
+pub mod Token

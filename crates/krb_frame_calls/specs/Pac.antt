@@ -1,20 +1,11 @@
 -- What is asked of a PAC: how many buffers it has, and each of them (MS-PAC 2.3 and 2.4).
 use Rattle.std.specs.Prelude.{◌≡◌, ◌⊎◌, ℕ, ◌≤◌, List, length, Some, slice_get}
 use Rattle.krb_pac.specs.declared.error.PacError.{PacError}
-use Rattle.krb_pac.specs.declared.error.PacError.TheVariants as errors
 use Rattle.krb_pac.specs.Kind.{code}
 use Rattle.krb_pac.specs.Layout.{Buffer, PacIs}
 use Rattle.krb_pac.specs.Rejected.{IsNotMemory, PacRejected}
 use Rattle.krb_frame_calls.specs.Places.{StandsAt}
-
--- the status of each error
-abbrev pub pac_status : PacError → ℕ
-pac_status errors.OutOfMemory = 2
-pac_status (errors.IoError e) = 10
-pac_status (errors.Version n) = 25
-pac_status (errors.InvalidVersion n) = 25
-pac_status (errors.PacBufferType n) = 26
-pac_status errors.InvalidRange = 27
+use Rattle.krb_frame_calls.specs.Statuses.{pac_status}
 
 -- The octets are no PAC, and the status is that of their first error, which is never want of memory.
 pub record IsNoPac (octets : List ℕ) (status : ℕ) : Type 0 where

@@ -2,6 +2,12 @@
 //! caller's room.
 #![tactic(auto)]
 
+pub mod laws;
 mod pac;
+mod place;
+mod refusal;
+mod token;
 
 pub use pac::{pac_buffer, pac_count};
+pub use refusal::Refusal;
+pub use token::{gss_token, make_gss_token};

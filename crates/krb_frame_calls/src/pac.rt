@@ -1,24 +1,9 @@
 //! The directory of a PAC.
 
-ghost use Rattle.std.specs.Prelude.{◌≡◌, ◌<◌};
-ghost use Rattle.krb_frame_calls.specs.Pac.{IsPacBuffer, IsPacCount, pac_status};
+ghost use Rattle.krb_frame_calls.specs.Pac.{IsPacBuffer, IsPacCount};
 
-use krb_pac::{PacError, PacView};
-
-/// The status of an error of a PAC.
-fn status_of(error: &PacError) -> u32
-    ensures number { result ≡ pac_status error.now }
-    ensures refusal { 1 < result }
-{
-    match error {
-        PacError::OutOfMemory => 2,
-        PacError::IoError(_) => 10,
-        PacError::Version(_) => 25,
-        PacError::InvalidVersion(_) => 25,
-        PacError::PacBufferType(_) => 26,
-        PacError::InvalidRange => 27,
-    }
-}
+use crate::refusal::Refusal;
+use krb_pac::PacView;
 
 /// How many buffers the PAC has (MS-PAC 2.3, PACTYPE). No memory is taken.
 ///
@@ -35,7 +20,7 @@ pub fn pac_count(pac: &[u8], count: &mut usize) -> u32
         }
         Err(error) => {
             *count = 0;
-            status_of(&error)
+            Refusal::Pac(error).status()
         }
     }
 }
@@ -58,7 +43,7 @@ pub fn pac_buffer(
     *size = 0;
     let view = match PacView::new(pac) {
         Ok(view) => view,
-        Err(error) => return status_of(&error),
+        Err(error) => return Refusal::Pac(error).status(),
     };
     match view.get(n) {
         Some(buffer) => {
@@ -68,6 +53,6 @@ pub fn pac_buffer(
             *size = entry.cb_buffer_size() as usize;
             0
         }
-        None => 20,
+        None => Refusal::Absent.status(),
     }
 }

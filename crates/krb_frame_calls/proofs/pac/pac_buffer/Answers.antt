@@ -21,4 +21,4 @@ returns-in-Some c =
     )
 
 pub returns-in-None : goal.returns-in-None
-returns-in-None c = inl (c.in-Ok.view, c.in-Ok.ensures.found, inr (none_past c.in-Ok.view c.args.n c.in-None.ensures, refl, (refl, refl, refl)))
+returns-in-None c = inl (c.in-Ok.view, c.in-Ok.ensures.found, inr (none_past c.in-Ok.view c.args.n c.in-None.ensures, c.status-in-None.ensures.number, (refl, refl, refl)))
