@@ -59,7 +59,8 @@ enum {
     KRB_ABSENT = 20,         /* there is no such field, or not so many */
     KRB_OTHER_VERSION = 25,  /* the version of the format is another */
     KRB_PAC_TYPE = 26,       /* a buffer of a PAC is of a number that no type has */
-    KRB_PAC_RANGE = 27       /* a buffer of a PAC names octets that are not there */
+    KRB_PAC_RANGE = 27,      /* a buffer of a PAC names octets that are not there */
+    KRB_FRAME_SIZE = 28      /* a frame with lengths of 16 bits has more than 65535 octets */
 };
 
 /* Encryption types (RFC 3961, 8; RFC 3962, 7; RFC 8009, 7). */
@@ -227,6 +228,19 @@ krb_status krb_gss_token(const uint8_t *token, size_t token_size, size_t *mechan
 krb_status krb_make_gss_token(const uint8_t *mechanism, size_t mechanism_size, const uint8_t *inner, size_t inner_size, uint8_t *out,
                               size_t room, size_t *size);
 
+/* The frame of a request to change a password, and of the reply (RFC 3244, 2), at the start of the octets: the places of its AP message, a
+   KRB-AP-REQ or a KRB-AP-REP, and of its KRB-PRIV, with which it ends. What follows is not looked at, and the lengths in the frame are compared
+   with nothing.
+   Of the first fault, from the left: KRB_TRUNCATED in the six octets before the messages; KRB_OTHER_VERSION (not 1); of the AP message, then
+   of the KRB-PRIV: KRB_INVALID, KRB_TRUNCATED, KRB_UNSUPPORTED; KRB_MEMORY. */
+krb_status krb_password_frame(const uint8_t *frame, size_t frame_size, size_t *ap_offset, size_t *ap_size, size_t *priv_offset,
+                              size_t *priv_size);
+
+/* The frame of these messages, with its lengths and the version 1. It has 6 octets more than they.
+   What krb_check refuses of a KRB-AP-REQ or KRB-AP-REP, then of a KRB-PRIV; then KRB_FRAME_SIZE; KRB_MEMORY. */
+krb_status krb_make_password_frame(const uint8_t *ap_message, size_t ap_message_size, const uint8_t *krb_priv, size_t krb_priv_size,
+                                   uint8_t *out, size_t room, size_t *size);
+
 /* What a status says, in English words and without a line's end. It is not of the library: no export answers a pointer. */
 static inline const char *krb_status_text(krb_status status) {
     switch (status) {
@@ -249,6 +263,7 @@ static inline const char *krb_status_text(krb_status status) {
     case KRB_OTHER_VERSION: return "another version of the format";
     case KRB_PAC_TYPE: return "a buffer of an unknown type";
     case KRB_PAC_RANGE: return "a buffer of octets that are not there";
+    case KRB_FRAME_SIZE: return "a frame of too many octets";
     default: return "an unknown status";
     }
 }

@@ -31,6 +31,7 @@ class Status(enum.IntEnum):
     OTHER_VERSION = 25
     PAC_TYPE = 26
     PAC_RANGE = 27
+    FRAME_SIZE = 28
 
 
 TEXTS = {
@@ -52,6 +53,7 @@ TEXTS = {
     Status.OTHER_VERSION: "another version of the format",
     Status.PAC_TYPE: "a buffer of an unknown type",
     Status.PAC_RANGE: "a buffer of octets that are not there",
+    Status.FRAME_SIZE: "a frame of too many octets",
 }
 
 

@@ -2,8 +2,12 @@
 
 ghost use Rattle.krb_calls.specs.Handing.{IsAnswered};
 ghost use Rattle.krb_frame_calls.specs.Pac.{IsPacBuffer, IsPacCount};
+ghost use Rattle.krb_frame_calls.specs.Password.{IsFrameAt, IsMadeFrame, RefusesMaking};
 ghost use Rattle.krb_frame_calls.specs.Token.{IsMadeToken, IsTokenAt, RefusesMechanism};
 
+use krb_der::DerEncode;
+use krb_msg::messages::ApMessage;
+use krb_msg_app::messages::KrbPriv;
 use std::alloc::Global;
 
 /// `krb_pac_count` of `krb.h`: how many buffers a PAC has (MS-PAC 2.3).
@@ -62,4 +66,34 @@ pub extern "C" fn krb_make_gss_token(
     ensures { IsAnswered (IsMadeToken mechanism.now inner.now) (RefusesMechanism mechanism.now) out.old out.new size.new result }
 {
     krb_frame_calls::make_gss_token(alloc, mechanism, inner, out, size)
+}
+
+/// `krb_password_frame` of `krb.h`: the places of the messages in a frame that changes a password (RFC 3244, 2).
+#[unsafe(no_mangle)]
+pub extern "C" fn krb_password_frame(
+    alloc: Global,
+    frame: &[u8],
+    ap_offset: &mut usize,
+    ap_size: &mut usize,
+    priv_offset: &mut usize,
+    priv_size: &mut usize,
+) -> u32
+    ensures { IsFrameAt ⟦<ApMessage as DerEncode>⟧ ⟦<KrbPriv as DerEncode>⟧ frame.now ap_offset.new ap_size.new priv_offset.new priv_size.new result }
+{
+    krb_frame_calls::password_frame(alloc, frame, ap_offset, ap_size, priv_offset, priv_size)
+}
+
+/// `krb_make_password_frame` of `krb.h`: the frame of these messages (RFC 3244, 2).
+#[unsafe(no_mangle)]
+pub extern "C" fn krb_make_password_frame(
+    alloc: Global,
+    ap_message: &[u8],
+    krb_priv: &[u8],
+    out: &mut [u8],
+    size: &mut usize,
+) -> u32
+    ensures { IsAnswered (IsMadeFrame ⟦<ApMessage as DerEncode>⟧ ⟦<KrbPriv as DerEncode>⟧ ap_message.now krb_priv.now)
+        (RefusesMaking ⟦<ApMessage as DerEncode>⟧ ⟦<KrbPriv as DerEncode>⟧ ap_message.now krb_priv.now) out.old out.new size.new result }
+{
+    krb_frame_calls::make_password_frame(alloc, ap_message, krb_priv, out, size)
 }

@@ -2,12 +2,16 @@
 //! caller's room.
 #![tactic(auto)]
 
+mod element;
+mod handing;
 pub mod laws;
 mod pac;
+mod password;
 mod place;
 mod refusal;
 mod token;
 
 pub use pac::{pac_buffer, pac_count};
+pub use password::{make_password_frame, password_frame};
 pub use refusal::Refusal;
 pub use token::{gss_token, make_gss_token};
