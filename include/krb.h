@@ -60,7 +60,8 @@ enum {
     KRB_OTHER_VERSION = 25,  /* the version of the format is another */
     KRB_PAC_TYPE = 26,       /* a buffer of a PAC is of a number that no type has */
     KRB_PAC_RANGE = 27,      /* a buffer of a PAC names octets that are not there */
-    KRB_FRAME_SIZE = 28      /* a frame with lengths of 16 bits has more than 65535 octets */
+    KRB_FRAME_SIZE = 28,     /* a frame with lengths of 16 bits has more than 65535 octets */
+    KRB_LARGE = 29           /* an INTEGER that the number's type does not hold */
 };
 
 /* Encryption types (RFC 3961, 8; RFC 3962, 7; RFC 8009, 7). */
@@ -241,6 +242,15 @@ krb_status krb_password_frame(const uint8_t *frame, size_t frame_size, size_t *a
 krb_status krb_make_password_frame(const uint8_t *ap_message, size_t ap_message_size, const uint8_t *krb_priv, size_t krb_priv_size,
                                    uint8_t *out, size_t room, size_t *size);
 
+/* KDC-PROXY-MESSAGE (MS-KKDCP, 2.2.2), the one DER encoding of it with nothing behind it: the places of kerb-message, which begins with the four
+   octets of the message's length, and of target-domain. Where there is no target-domain both of its numbers are 0; its offset is 0 only then.
+   Of the first fault: KRB_INVALID, KRB_TRUNCATED, KRB_UNSUPPORTED; KRB_MEMORY. */
+krb_status krb_kdc_proxy_message(const uint8_t *octets, size_t octets_size, size_t *message_offset, size_t *message_size, size_t *domain_offset,
+                                 size_t *domain_size);
+
+/* Its dclocator-hint. As krb_kdc_proxy_message; then KRB_ABSENT where there is none, KRB_LARGE where 64 bits do not hold it. */
+krb_status krb_kdc_proxy_hint(const uint8_t *octets, size_t octets_size, int64_t *hint);
+
 /* What a status says, in English words and without a line's end. It is not of the library: no export answers a pointer. */
 static inline const char *krb_status_text(krb_status status) {
     switch (status) {
@@ -264,6 +274,7 @@ static inline const char *krb_status_text(krb_status status) {
     case KRB_PAC_TYPE: return "a buffer of an unknown type";
     case KRB_PAC_RANGE: return "a buffer of octets that are not there";
     case KRB_FRAME_SIZE: return "a frame of too many octets";
+    case KRB_LARGE: return "an INTEGER that does not fit";
     default: return "an unknown status";
     }
 }

@@ -32,6 +32,7 @@ class Status(enum.IntEnum):
     PAC_TYPE = 26
     PAC_RANGE = 27
     FRAME_SIZE = 28
+    LARGE = 29
 
 
 TEXTS = {
@@ -54,6 +55,7 @@ TEXTS = {
     Status.PAC_TYPE: "a buffer of an unknown type",
     Status.PAC_RANGE: "a buffer of octets that are not there",
     Status.FRAME_SIZE: "a frame of too many octets",
+    Status.LARGE: "an INTEGER that does not fit",
 }
 
 

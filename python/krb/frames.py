@@ -1,11 +1,11 @@
-"""Frames around messages: of password changes (RFC 3244, 2)."""
+"""Frames around messages: of password changes (RFC 3244, 2), and of messages that go through a proxy to a KDC (MS-KKDCP, 2.2.2)."""
 
-from typing import NamedTuple
+from typing import NamedTuple, Optional
 
-from krb._library import IN, Call, Octets
-from krb._places import SIZE_OUT, Telling
+from krb._library import IN, Call, Octets, Refused, Status
+from krb._places import I64_OUT, SIZE_OUT, Telling
 
-__all__ = ["PasswordFrame", "password_frame", "make_password_frame"]
+__all__ = ["PasswordFrame", "password_frame", "make_password_frame", "ProxyMessage", "proxy_message"]
 
 
 class PasswordFrame(NamedTuple):
@@ -34,3 +34,28 @@ def make_password_frame(ap_message: Octets, krb_priv: Octets) -> bytes:
 
     Refused: INVALID, TRUNCATED, UNSUPPORTED where one is no encoding; FRAME_SIZE past 65535 octets; MEMORY."""
     return _make_password_frame.octets(len(ap_message) + len(krb_priv) + 6, ap_message, krb_priv)
+
+
+class ProxyMessage(NamedTuple):
+    """A KDC-PROXY-MESSAGE: the message behind its length in four octets, the realm that it is for, how the proxy is to look for a KDC."""
+
+    kerb_message: bytes
+    target_domain: Optional[bytes]
+    dclocator_hint: Optional[int]
+
+
+_proxy_message = Telling("krb_kdc_proxy_message", [IN], [SIZE_OUT] * 4)
+_proxy_hint = Telling("krb_kdc_proxy_hint", [IN], [I64_OUT])
+
+
+def proxy_message(octets: Octets) -> ProxyMessage:
+    """The message whose one DER encoding the octets are. Refused: INVALID, TRUNCATED, UNSUPPORTED, LARGE (a hint past 64 bits), MEMORY."""
+    octets = bytes(memoryview(octets).cast("B"))
+    message, message_size, domain, domain_size = _proxy_message.told(octets)
+    hint: Optional[int] = None
+    try:
+        hint = _proxy_hint.told(octets)[0]
+    except Refused as refused:
+        if refused.status != Status.ABSENT:
+            raise
+    return ProxyMessage(octets[message : message + message_size], octets[domain : domain + domain_size] if domain else None, hint)

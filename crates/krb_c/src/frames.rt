@@ -3,10 +3,11 @@
 ghost use Rattle.krb_calls.specs.Handing.{IsAnswered};
 ghost use Rattle.krb_frame_calls.specs.Pac.{IsPacBuffer, IsPacCount};
 ghost use Rattle.krb_frame_calls.specs.Password.{IsFrameAt, IsMadeFrame, RefusesMaking};
+ghost use Rattle.krb_frame_calls.specs.Proxy.{IsProxyAt, IsProxyHint};
 ghost use Rattle.krb_frame_calls.specs.Token.{IsMadeToken, IsTokenAt, RefusesMechanism};
 
 use krb_der::DerEncode;
-use krb_msg::messages::ApMessage;
+use krb_msg::messages::{ApMessage, KdcProxyMessage};
 use krb_msg_app::messages::KrbPriv;
 use std::alloc::Global;
 
@@ -96,4 +97,34 @@ pub extern "C" fn krb_make_password_frame(
         (RefusesMaking ⟦<ApMessage as DerEncode>⟧ ⟦<KrbPriv as DerEncode>⟧ ap_message.now krb_priv.now) out.old out.new size.new result }
 {
     krb_frame_calls::make_password_frame(alloc, ap_message, krb_priv, out, size)
+}
+
+/// `krb_kdc_proxy_message` of `krb.h`: the places of the fields of a KDC-PROXY-MESSAGE (MS-KKDCP, 2.2.2).
+#[unsafe(no_mangle)]
+pub extern "C" fn krb_kdc_proxy_message(
+    alloc: Global,
+    octets: &[u8],
+    message_offset: &mut usize,
+    message_size: &mut usize,
+    domain_offset: &mut usize,
+    domain_size: &mut usize,
+) -> u32
+    ensures { IsProxyAt ⟦<KdcProxyMessage as DerEncode>⟧ octets.now message_offset.new message_size.new domain_offset.new domain_size.new result }
+{
+    krb_frame_calls::kdc_proxy_message(
+        alloc,
+        octets,
+        message_offset,
+        message_size,
+        domain_offset,
+        domain_size,
+    )
+}
+
+/// `krb_kdc_proxy_hint` of `krb.h`: dclocator-hint of a KDC-PROXY-MESSAGE (MS-KKDCP, 2.2.2).
+#[unsafe(no_mangle)]
+pub extern "C" fn krb_kdc_proxy_hint(alloc: Global, octets: &[u8], hint: &mut i64) -> u32
+    ensures { IsProxyHint ⟦<KdcProxyMessage as DerEncode>⟧ octets.now hint.new result }
+{
+    krb_frame_calls::kdc_proxy_hint(alloc, octets, hint)
 }

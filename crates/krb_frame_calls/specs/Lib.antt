@@ -1,5 +1,7 @@
+pub mod Elements
 pub mod Pac
 pub mod Password
 pub mod Places
+pub mod Proxy
 pub mod Statuses
 pub mod Token

@@ -8,10 +8,13 @@ pub mod laws;
 mod pac;
 mod password;
 mod place;
+mod proxy;
 mod refusal;
 mod token;
+mod value;
 
 pub use pac::{pac_buffer, pac_count};
 pub use password::{make_password_frame, password_frame};
+pub use proxy::{kdc_proxy_hint, kdc_proxy_message};
 pub use refusal::Refusal;
 pub use token::{gss_token, make_gss_token};

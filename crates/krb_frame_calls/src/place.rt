@@ -1,6 +1,7 @@
 //! Places in an input.
 
-ghost use Rattle.std.specs.Prelude.{◌≡◌, ◌+◌, ◌≤◌, length};
+ghost use Rattle.std.specs.Prelude.{◌≡◌, ◌+◌, ◌<◌, ◌≤◌, ◌++◌, length};
+ghost use Rattle.krb_frame_calls.specs.Places.{EndsInside, StandsBefore};
 
 /// Octets of an input, by how many are before them and how many they are.
 #[derive(Clone, Copy)]
@@ -23,5 +24,16 @@ impl Place {
             offset: input.len() - behind - field.len(),
             size: field.len(),
         }
+    }
+
+    /// The place of a field that has just these octets behind it to the end of the input.
+    pub(crate) fn within(input: &[u8], field: &[u8], behind: &[u8]) -> Place
+        ensures { EndsInside (field.now ++ behind.now) input.now
+            → (0 < result.offset) × StandsBefore field.now behind.now input.now result.offset result.size }
+    {
+        if behind.len() > input.len() || field.len() > input.len() - behind.len() {
+            return Place::NONE;
+        }
+        Place::before(input, field, behind.len())
     }
 }

@@ -15,6 +15,8 @@ pub enum Refusal {
     Absent,
     /// The frame has more than 65535 octets.
     TooLong,
+    /// An INTEGER that 64 bits do not hold.
+    Large,
     /// The error of a PAC.
     Pac(PacError),
     /// The error of a frame that changes a password.
@@ -31,6 +33,7 @@ impl Refusal {
             Refusal::Memory => 2,
             Refusal::Absent => 20,
             Refusal::TooLong => 28,
+            Refusal::Large => 29,
             Refusal::Pac(error) => pac_number(error),
             Refusal::Frame(error) => frame_number(error),
         }
