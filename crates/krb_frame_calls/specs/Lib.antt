@@ -1,4 +1,5 @@
 pub mod Elements
+pub mod Negotiation
 pub mod Pac
 pub mod Password
 pub mod Places

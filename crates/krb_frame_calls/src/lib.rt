@@ -5,6 +5,7 @@
 mod element;
 mod handing;
 pub mod laws;
+mod negotiation;
 mod pac;
 mod password;
 mod place;
@@ -13,6 +14,7 @@ mod refusal;
 mod token;
 mod value;
 
+pub use negotiation::neg_token_init;
 pub use pac::{pac_buffer, pac_count};
 pub use password::{make_password_frame, password_frame};
 pub use proxy::{kdc_proxy_hint, kdc_proxy_message};

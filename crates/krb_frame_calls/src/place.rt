@@ -1,7 +1,7 @@
 //! Places in an input.
 
-ghost use Rattle.std.specs.Prelude.{◌≡◌, ◌+◌, ◌<◌, ◌≤◌, ◌++◌, length};
-ghost use Rattle.krb_frame_calls.specs.Places.{EndsInside, StandsBefore};
+ghost use Rattle.std.specs.Prelude.{◌≡◌, ◌+◌, ◌<◌, ◌≤◌, ◌++◌, List, ℕ, Option, None, Some, MatchOption, length};
+ghost use Rattle.krb_frame_calls.specs.Places.{EndsInside, OptionalAt, StandsBefore};
 
 /// Octets of an input, by how many are before them and how many they are.
 #[derive(Clone, Copy)]
@@ -35,5 +35,17 @@ impl Place {
             return Place::NONE;
         }
         Place::before(input, field, behind.len())
+    }
+
+    /// The place of a field that may be absent, with just these octets behind it to the end of the input.
+    pub(crate) fn of(input: &[u8], field: Option<&[u8]>, behind: &[u8]) -> Place
+        ensures { (content : Option (List ℕ)) → MatchOption field.entry (content ≡ None) (λ found. content ≡ Some found.now)
+            → ((x : List ℕ) → content ≡ Some x → EndsInside (x ++ behind.now) input.now)
+            → OptionalAt content behind.now input.now result.offset result.size }
+    {
+        match field {
+            Some(field) => Place::within(input, field, behind),
+            None => Place::NONE,
+        }
     }
 }
