@@ -251,6 +251,27 @@ krb_status krb_kdc_proxy_message(const uint8_t *octets, size_t octets_size, size
 /* Its dclocator-hint. As krb_kdc_proxy_message; then KRB_ABSENT where there is none, KRB_LARGE where 64 bits do not hold it. */
 krb_status krb_kdc_proxy_hint(const uint8_t *octets, size_t octets_size, int64_t *hint);
 
+/* SPNEGO (RFC 4178, 4.2). A field that is absent has the place 0 and 0; the offset of one that is there is not 0.
+
+   The token that begins a negotiation, NegTokenInit in its frame (RFC 2743, 3.1), whose mechanism is not compared: the places of mechTypes, its
+   OBJECT IDENTIFIERs one behind the other, of mechToken and of mechListMIC. reqFlags are not told.
+   And a later message, negTokenResp [1]: negState (KRB_NEG_STATE_..), and the places of the content of supportedMech's OBJECT IDENTIFIER, of
+   responseToken and of mechListMIC. On any status but KRB_DONE the state is KRB_NEG_STATE_ABSENT.
+   Where the octets are not the one DER encoding of such a message, with nothing behind it, of the first fault: KRB_INVALID, KRB_TRUNCATED,
+   KRB_UNSUPPORTED; KRB_MEMORY. */
+enum {
+    KRB_NEG_STATE_ACCEPT_COMPLETED = 0,
+    KRB_NEG_STATE_ACCEPT_INCOMPLETE = 1,
+    KRB_NEG_STATE_REJECT = 2,
+    KRB_NEG_STATE_REQUEST_MIC = 3, /* other numbers below 128 are told as they are */
+    KRB_NEG_STATE_ABSENT = 256,
+    KRB_NEG_STATE_OTHER = 257      /* another element than an ENUMERATED in one octet below 128 */
+};
+krb_status krb_neg_token_init(const uint8_t *octets, size_t octets_size, size_t *mechanisms_offset, size_t *mechanisms_size,
+                              size_t *token_offset, size_t *token_size, size_t *mic_offset, size_t *mic_size);
+krb_status krb_neg_token_resp(const uint8_t *message, size_t message_size, uint32_t *state, size_t *mechanism_offset, size_t *mechanism_size,
+                              size_t *token_offset, size_t *token_size, size_t *mic_offset, size_t *mic_size);
+
 /* What a status says, in English words and without a line's end. It is not of the library: no export answers a pointer. */
 static inline const char *krb_status_text(krb_status status) {
     switch (status) {

@@ -1,12 +1,14 @@
 //! Frames of messages. `krb.h` declares these calls.
 
 ghost use Rattle.krb_calls.specs.Handing.{IsAnswered};
+ghost use Rattle.krb_frame_calls.specs.Negotiation.{IsAnswerAt, IsInitAt};
 ghost use Rattle.krb_frame_calls.specs.Pac.{IsPacBuffer, IsPacCount};
 ghost use Rattle.krb_frame_calls.specs.Password.{IsFrameAt, IsMadeFrame, RefusesMaking};
 ghost use Rattle.krb_frame_calls.specs.Proxy.{IsProxyAt, IsProxyHint};
 ghost use Rattle.krb_frame_calls.specs.Token.{IsMadeToken, IsTokenAt, RefusesMechanism};
 
 use krb_der::DerEncode;
+use krb_gss_negotiation::gss_api::{ApplicationTag0, GssApiNegInit, NegTokenTarg1};
 use krb_msg::messages::{ApMessage, KdcProxyMessage};
 use krb_msg_app::messages::KrbPriv;
 use std::alloc::Global;
@@ -127,4 +129,60 @@ pub extern "C" fn krb_kdc_proxy_hint(alloc: Global, octets: &[u8], hint: &mut i6
     ensures { IsProxyHint ⟦<KdcProxyMessage as DerEncode>⟧ octets.now hint.new result }
 {
     krb_frame_calls::kdc_proxy_hint(alloc, octets, hint)
+}
+
+/// `krb_neg_token_init` of `krb.h`: the places of the fields of the token that begins a negotiation (RFC 4178, 4.2.1).
+#[unsafe(no_mangle)]
+pub extern "C" fn krb_neg_token_init(
+    alloc: Global,
+    octets: &[u8],
+    mechanisms_offset: &mut usize,
+    mechanisms_size: &mut usize,
+    token_offset: &mut usize,
+    token_size: &mut usize,
+    mic_offset: &mut usize,
+    mic_size: &mut usize,
+) -> u32
+    ensures { IsInitAt ⟦<ApplicationTag0<GssApiNegInit> as DerEncode>⟧ octets.now mechanisms_offset.new mechanisms_size.new
+        token_offset.new token_size.new mic_offset.new mic_size.new result }
+{
+    krb_frame_calls::neg_token_init(
+        alloc,
+        octets,
+        mechanisms_offset,
+        mechanisms_size,
+        token_offset,
+        token_size,
+        mic_offset,
+        mic_size,
+    )
+}
+
+/// `krb_neg_token_resp` of `krb.h`: negState of a later message of a negotiation, and the places of its other fields (RFC 4178, 4.2.2).
+#[unsafe(no_mangle)]
+pub extern "C" fn krb_neg_token_resp(
+    alloc: Global,
+    message: &[u8],
+    state: &mut u32,
+    mechanism_offset: &mut usize,
+    mechanism_size: &mut usize,
+    token_offset: &mut usize,
+    token_size: &mut usize,
+    mic_offset: &mut usize,
+    mic_size: &mut usize,
+) -> u32
+    ensures { IsAnswerAt ⟦<NegTokenTarg1 as DerEncode>⟧ message.now state.new mechanism_offset.new mechanism_size.new
+        token_offset.new token_size.new mic_offset.new mic_size.new result }
+{
+    krb_frame_calls::neg_token_resp(
+        alloc,
+        message,
+        state,
+        mechanism_offset,
+        mechanism_size,
+        token_offset,
+        token_size,
+        mic_offset,
+        mic_size,
+    )
 }

@@ -1,5 +1,5 @@
 -- Elements at the start of octets.
-use Rattle.std.proofs.Common.{◌≡◌, ℕ, ◌+◌, ◌-◌, ◌<◌, ◌^◌, List, [], ◌∷◌, ◌++◌, length, take, drop, get_or, eqb, Option, None, Some, MatchOption, append_assoc, refl, sym, ap, ◌∙◌, arith}
+use Rattle.std.proofs.Common.{◌≡◌, ℕ, ◌-◌, ◌<◌, ◌^◌, List, [], ◌++◌, length, take, drop, get_or, Option, None, Some, refl, sym, ap, ◌∙◌, arith}
 use Rattle.std.proofs.lemmas.List.{append-nil, length-append, take_rest}
 use Rattle.krb_der_core.specs.declared.error.Asn1DerError.{Asn1DerError}
 use Rattle.krb_der_core.specs.declared.error.Asn1DerError.TheVariants as errors
@@ -69,3 +69,14 @@ none_before tag other content (Some x) rest apart none c r e = apart (tlv_apart 
 pub none_alone : {A : Type 0} (tag other : ℕ) (content : A → List ℕ) (field : Option A) → (tag ≡ other → ⊥) → NoElement other (optional (λ x. tlv tag (content x)) field)
 none_alone tag other content None apart = none_at_end other
 none_alone tag other content (Some x) apart = λ c r e. apart (tlv_apart tag other (content x) c [] r (append-nil (tlv tag (content x)) ∙ e)).tag
+
+-- the same of what stands under one tag
+pub element_there : (tag : ℕ) (octets content rest : List ℕ) → octets ≡ tlv tag content ++ rest
+    → (field : Option (List ℕ)) (r : List ℕ) → octets ≡ optional (λ c. tlv tag c) field ++ r → NoElement tag r → (rest ≡ r) × (field ≡ Some content)
+element_there tag octets content rest e None r q none = absurd (none content rest (sym q ∙ e))
+element_there tag octets content rest e (Some c) r q none = let s = same_inside tag octets content rest e c r q in (s.1, ap Some (sym s.0))
+
+pub element_absent : (tag : ℕ) (octets : List ℕ) → NoElement tag octets
+    → (field : Option (List ℕ)) (r : List ℕ) → octets ≡ optional (λ c. tlv tag c) field ++ r → NoElement tag r → (octets ≡ r) × (field ≡ None)
+element_absent tag octets absent None r q none = (q, refl)
+element_absent tag octets absent (Some c) r q none = absurd (absent c r q)

@@ -1,6 +1,6 @@
 -- Frames of password changes that were read, and octets that begin with none.
-use Rattle.std.proofs.Common.{◌≡◌, ◌⊎◌, ℕ, ◌+◌, ◌-◌, ◌<◌, ◌≤◌, ◌^◌, List, [], ◌∷◌, ◌++◌, length, take, drop, refl, sym, ap, ◌∙◌, append_assoc, subst, inl, inr, arith}
-use Rattle.std.proofs.lemmas.List.{append-nil, length-append, drop_at, take_rest}
+use Rattle.std.proofs.Common.{◌≡◌, ℕ, ◌+◌, ◌-◌, ◌<◌, ◌≤◌, ◌^◌, List, ◌∷◌, ◌++◌, length, take, drop, refl, sym, ap, ◌∙◌, append_assoc, subst, inl, inr, arith}
+use Rattle.std.proofs.lemmas.List.{length-append, drop_at, take_rest}
 use Rattle.krb_der_core.specs.Tlv.{tlv}
 use Rattle.krb_der_core.specs.Reading.{TakesPrefix}
 use Rattle.krb_der_core.specs.declared.der.DerEncode.{Ghosts as EncodingOf}

@@ -1,19 +1,20 @@
 -- The fields of messages of SPNEGO.
-use Rattle.std.proofs.Common.{◌≡◌, ℕ, ◌<◌, List, [], ◌∷◌, ◌++◌, length, Option, None, Some, MatchOption, refl, sym, ap, ◌∙◌, append_assoc, subst, arith}
+use Rattle.std.proofs.Common.{◌≡◌, ℕ, List, [], ◌∷◌, ◌++◌, length, Option, None, Some, MatchOption, refl, sym, ap, ◌∙◌, append_assoc, subst, arith, get_or}
 use Rattle.std.proofs.lemmas.List.{append-nil}
 use Rattle.std.specs.List.{flat_map}
 use Rattle.krb_der_core.specs.BitString.{Bits, bits_content}
 use Rattle.krb_der_core.specs.Encoding.{optional}
 use Rattle.krb_der_core.specs.Tlv.{tlv}
+use Rattle.krb_der_core.specs.TlvLaws.{len-small}
 use Rattle.krb_der_x509.specs.ObjectIdentifier.{arcs_content, object_identifier}
 use Rattle.krb_gss_negotiation.specs.Token.{in_token}
 use Rattle.krb_gss_negotiation.specs.TokenLaws.{token_is}
 use Rattle.krb_frame_calls.specs.Elements.{NoElement}
 use Rattle.krb_frame_calls.specs.Negotiation.{answer_octets, contents, field, init_octets, token_and_mic}
-use Rattle.krb_frame_calls.specs.Places.{EndsInside, OptionalAt, StandsBefore}
-use Rattle.krb_frame_calls.proofs.Elements.{none_alone, none_at_end, none_before}
+use Rattle.krb_frame_calls.specs.Places.{EndsInside, OptionalAt}
+use Rattle.krb_frame_calls.proofs.Elements.{none_alone, none_before}
 use Rattle.krb_frame_calls.proofs.Places.{Ends, ends_after, ends_field, ends_same, ends_tlv, inside_tlv}
-use Rattle.krb_frame_calls.proofs.Proxies.{IsInside, IsWithin}
+use Rattle.krb_frame_calls.proofs.Proxies.{IsInside}
 
 -- what `optional_field` tells
 abbrev pub IsField : {S : Type 0} → ℕ → ℕ → (S → List ℕ) → List ℕ → Option S → List ℕ → Type 0
@@ -95,3 +96,52 @@ pub place_told : (octets behind after : List ℕ) (f : Option (List ℕ)) (offse
     → (((x : List ℕ) → f ≡ Some x → EndsInside (x ++ behind) octets) → OptionalAt f behind octets offset size) → OptionalAt f after octets offset size
 place_told octets behind after f offset size same inside told =
     subst (λ (l : List ℕ). OptionalAt f l octets offset size) same (told (λ x there. subst (λ (l : List ℕ). EndsInside (x ++ l) octets) (sym same) (inside x there)))
+
+-- ---- a later message
+
+pub answer_fields_read : (octets sequence a fields b : List ℕ) → IsInside 161 octets sequence a → IsInside 48 sequence fields b → (f : List ℕ) → octets ≡ tlv 161 (tlv 48 f) → fields ≡ f
+answer_fields_read octets sequence a fields b first second f e =
+    let s = first (tlv 48 f) [] (e ∙ sym (append-nil (tlv 161 (tlv 48 f)))) in
+    (second f [] (s.0 ∙ sym (append-nil (tlv 48 f)))).0
+
+module _ (octets : List ℕ) (state mechanism token mic : Option (List ℕ)) (e : octets ≡ answer_octets state mechanism token mic) where
+  pub answer_order : octets ≡ tlv 161 (tlv 48 (optional (λ c. tlv 160 c) state ++ (field 161 6 mechanism ++ token_and_mic token mic)))
+  answer_order = e ∙ ap (λ (l : List ℕ). tlv 161 (tlv 48 l)) (in_order (optional (λ c. tlv 160 c) state) (field 161 6 mechanism) (field 162 4 token) (field 163 4 mic))
+
+  answer_inside : (tail : List ℕ) → Ends tail (optional (λ c. tlv 160 c) state ++ (field 161 6 mechanism ++ token_and_mic token mic)) → EndsInside tail octets
+  answer_inside tail ends =
+      let fields = optional (λ c. tlv 160 c) state ++ (field 161 6 mechanism ++ token_and_mic token mic) in
+      inside_tlv 161 tail (tlv 48 fields) octets answer_order (ends_tlv 48 tail fields ends)
+
+  pub supported_inside : (x : List ℕ) → mechanism ≡ Some x → EndsInside (x ++ token_and_mic token mic) octets
+  supported_inside x there =
+      let both = token_and_mic token mic in
+      answer_inside (x ++ both) (ends_after (optional (λ c. tlv 160 c) state) (x ++ both) (field 161 6 mechanism ++ both) (field_ends 161 6 mechanism both x there))
+
+  pub answer_token_inside : (x : List ℕ) → token ≡ Some x → EndsInside (x ++ field 163 4 mic) octets
+  answer_token_inside x there = answer_inside (x ++ field 163 4 mic) (token_ends (optional (λ c. tlv 160 c) state) (field 161 6 mechanism) token mic x there)
+
+  pub answer_mic_inside : (x : List ℕ) → mic ≡ Some x → EndsInside (x ++ []) octets
+  answer_mic_inside x there = answer_inside (x ++ []) (mic_ends (optional (λ c. tlv 160 c) state) (field 161 6 mechanism) token mic x there)
+
+pub answer_is : (state : Option (List ℕ)) (mechanism : Option (List ℕ)) (token mic : Option (List ℕ))
+    → tlv 161 (tlv 48 (optional (λ x. tlv 160 x) state ++ optional (λ x. tlv 161 (object_identifier x)) mechanism ++ optional (λ x. tlv 162 (tlv 4 x)) token ++ optional (λ x. tlv 163 (tlv 4 x)) mic))
+    ≡ answer_octets state (contents arcs_content mechanism) token mic
+answer_is state None token mic = refl
+answer_is state (Some x) token mic = refl
+
+-- ---- negState
+
+state_octets : (n : ℕ) → tlv 10 (n ∷ []) ≡ 10 ∷ 1 ∷ n ∷ []
+unfolding tlv
+state_octets n = ap (λ (l : List ℕ). 10 ∷ (l ++ (n ∷ []))) (len-small 1 (omega arith))
+
+pub state_is : (element : List ℕ) → length element ≡ 3 → get_or element 0 0 ≡ 10 → get_or element 1 0 ≡ 1 → element ≡ tlv 10 (get_or element 2 0 ∷ [])
+state_is (a ∷ b ∷ c ∷ []) long first second = let same : a ∷ b ∷ c ∷ [] ≡ 10 ∷ 1 ∷ c ∷ [] = cc in same ∙ sym (state_octets c)
+state_is element long first second = absurd (omega (arith, long))
+
+pub state_long : (element : List ℕ) (n : ℕ) → element ≡ tlv 10 (n ∷ []) → length element ≡ 3
+state_long element n e = ap length (e ∙ state_octets n)
+
+pub state_at : (element : List ℕ) (n k : ℕ) → element ≡ tlv 10 (n ∷ []) → get_or element k 0 ≡ get_or (10 ∷ 1 ∷ n ∷ []) k 0
+state_at element n k e = ap (λ (l : List ℕ). get_or l k 0) (e ∙ state_octets n)

@@ -1,7 +1,7 @@
 -- Places of fields that end an input.
-use Rattle.std.proofs.Common.{◌≡◌, ℕ, suc, ◌+◌, ◌<◌, ◌≤◌, ◌∷◌, List, [], ◌++◌, length, take, drop, refl, sym, ap, ◌∙◌, append_assoc, arith}
-use Rattle.std.proofs.lemmas.List.{append-nil, length-append, drop_at, take_at}
-use Rattle.krb_der_core.specs.Tlv.{len, header, tlv}
+use Rattle.std.proofs.Common.{◌≡◌, ℕ, ◌+◌, ◌<◌, ◌≤◌, List, [], ◌++◌, length, take, drop, refl, sym, ap, ◌∙◌, append_assoc, arith}
+use Rattle.std.proofs.lemmas.List.{length-append, drop_at, take_at}
+use Rattle.krb_der_core.specs.Tlv.{header, tlv}
 use Rattle.krb_frame_calls.specs.Places.{EndsInside, StandsBefore}
 
 -- the octets end with these

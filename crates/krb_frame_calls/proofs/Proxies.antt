@@ -1,10 +1,9 @@
 -- The fields of a KDC-PROXY-MESSAGE.
-use Rattle.std.proofs.Common.{◌≡◌, ℕ, ◌<◌, List, [], ◌++◌, length, Option, None, Some, MatchOption, refl, sym, ap, ◌∙◌, append_assoc, subst}
+use Rattle.std.proofs.Common.{◌≡◌, ℕ, ◌<◌, List, [], ◌++◌, Option, None, Some, refl, sym, ap, ◌∙◌, append_assoc, subst}
 use Rattle.std.proofs.lemmas.List.{append-nil}
 use Rattle.krb_der_core.specs.Encoding.{optional}
 use Rattle.krb_der_core.specs.Tlv.{tlv}
 use Rattle.krb_der.specs.Asn1.{explicit, general_string}
-use Rattle.krb_frame_calls.specs.Elements.{NoElement}
 use Rattle.krb_frame_calls.specs.Places.{EndsInside, OptionalAt, StandsBefore}
 use Rattle.krb_frame_calls.specs.Proxy.{proxy_octets}
 use Rattle.krb_frame_calls.proofs.Places.{Ends, ends_after, ends_field, ends_same, inside_tlv}

@@ -1,6 +1,5 @@
 -- What is made is read as what it was made of.
-use Rattle.std.proofs.Common.{◌≡◌, ◌⊎◌, ℕ, List, [], ◌++◌, refl, sym, ap, ◌∙◌, subst, inl, inr}
-use Rattle.std.proofs.lemmas.List.{append-nil}
+use Rattle.std.proofs.Common.{◌≡◌, ◌⊎◌, ℕ, List, [], ◌++◌, sym, ◌∙◌, subst, inl, inr}
 use Rattle.krb_der_core.specs.Tlv.{tlv}
 use Rattle.krb_der_core.specs.TlvLaws.{tlv_apart, tlv_same}
 use Rattle.krb_frame_calls.specs.Places.{StandsBefore}

@@ -12,7 +12,7 @@ use Rattle.krb_der_x509.specs.ObjectIdentifier.{IsArcs, arcs_content, object_ide
 use Rattle.krb_der_x509.specs.ObjectIdentifierErrors.{ArcsError}
 use Rattle.krb_frame_calls.proofs.Places.{Ends, ends_after, ends_here, ends_same, ends_size, ends_same_tail, ends_tlv, stands, tlv_split}
 use Rattle.krb_frame_calls.specs.Places.{StandsBefore}
-use Rattle.krb_frame_calls.specs.Token.{IsMechanism, IsNoMechanism, IsNoToken, IsToken, TokenError, in_frame, in_mechanism, left_over}
+use Rattle.krb_frame_calls.specs.Token.{IsMechanism, IsNoMechanism, IsNoToken, IsToken, in_frame, in_mechanism, left_over}
 
 pub prefix_memory : (P : List ℕ → Type 0) (octets : List ℕ) (e : Asn1DerError) → RejectsPrefix P octets e → (b rest : List ℕ) → P b → octets ≡ b ++ rest → e ≡ errors.OutOfMemory
 prefix_memory P octets errors.OutOfMemory r b rest h q = refl

@@ -1,5 +1,5 @@
 -- Messages of SPNEGO (RFC 4178, 4.2): their fields and the places of these.
-use Rattle.std.specs.Prelude.{◌≡◌, ◌⊎◌, ◌<◌, ℕ, ℤ, pos, negsuc, List, [], ◌∷◌, ◌++◌, Option, Some, None}
+use Rattle.std.specs.Prelude.{◌≡◌, ◌⊎◌, ◌<◌, ℕ, List, [], ◌∷◌, ◌++◌, Option, Some, None}
 use Rattle.std.specs.List.{flat_map}
 use Rattle.krb_der_core.specs.declared.der.DerEncode.{Ghosts as EncodingOf}
 use Rattle.krb_der_core.specs.BitString.{bits_content}
@@ -53,22 +53,22 @@ IsInitAt t octets mechanisms_offset mechanisms_size token_offset token_size mic_
     × OptionalAt v.neg_token_init.mech_list_mic.0 [] octets mic_offset mic_size)
     ⊎ (RefusesReading t octets status × (mechanisms_offset ≡ 0) × (mechanisms_size ≡ 0) × (token_offset ≡ 0) × (token_size ≡ 0) × (mic_offset ≡ 0) × (mic_size ≡ 0))
 
--- negState as a number: that of an ENUMERATED in one octet below 128; -1 where it is absent, and -2 where it is another element
-abbrev pub IsState : Option (List ℕ) → ℤ → Type 0
-IsState None state = state ≡ negsuc 0
+-- negState as a number: that of an ENUMERATED in one octet below 128; 256 where it is absent, and 257 where it is another element
+abbrev pub IsState : Option (List ℕ) → ℕ → Type 0
+IsState None state = state ≡ 256
 IsState (Some element) state =
-    ((n : ℕ) × (n < 128) × (element ≡ tlv 10 (n ∷ [])) × (state ≡ pos n))
-    ⊎ (((n : ℕ) → n < 128 → element ≡ tlv 10 (n ∷ []) → ⊥) × (state ≡ negsuc 1))
+    ((n : ℕ) × (n < 128) × (element ≡ tlv 10 (n ∷ [])) × (state ≡ n))
+    ⊎ (((n : ℕ) → n < 128 → element ≡ tlv 10 (n ∷ []) → ⊥) × (state ≡ 257))
 
 abbrev pub supported_of : NegTokenTarg → Option (List ℕ)
 supported_of m = contents arcs_content m.supported_mech.0
 
 -- The octets are the one encoding of a later message (0), with this negState, and these are the places of the content of supportedMech, of
--- responseToken and of mechListMIC; or they are refused, and all is 0.
-abbrev pub IsAnswerAt : EncodingOf NegTokenTarg → List ℕ → ℤ → ℕ → ℕ → ℕ → ℕ → ℕ → ℕ → ℕ → Type 0
+-- responseToken and of mechListMIC; or they are refused, and all is 0, but for the state, which is 256.
+abbrev pub IsAnswerAt : EncodingOf NegTokenTarg → List ℕ → ℕ → ℕ → ℕ → ℕ → ℕ → ℕ → ℕ → ℕ → Type 0
 IsAnswerAt t octets state mechanism_offset mechanism_size token_offset token_size mic_offset mic_size status =
     ((v : NegTokenTarg) × t.is_value v × (octets ≡ t.enc v) × (status ≡ 0) × IsState v.neg_result.0 state
     × OptionalAt (supported_of v) (token_and_mic v.response_token.0 v.mech_list_mic.0) octets mechanism_offset mechanism_size
     × OptionalAt v.response_token.0 (field 163 4 v.mech_list_mic.0) octets token_offset token_size
     × OptionalAt v.mech_list_mic.0 [] octets mic_offset mic_size)
-    ⊎ (RefusesReading t octets status × (state ≡ pos 0) × (mechanism_offset ≡ 0) × (mechanism_size ≡ 0) × (token_offset ≡ 0) × (token_size ≡ 0) × (mic_offset ≡ 0) × (mic_size ≡ 0))
+    ⊎ (RefusesReading t octets status × (state ≡ 256) × (mechanism_offset ≡ 0) × (mechanism_size ≡ 0) × (token_offset ≡ 0) × (token_size ≡ 0) × (mic_offset ≡ 0) × (mic_size ≡ 0))

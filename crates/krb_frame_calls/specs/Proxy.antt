@@ -3,7 +3,6 @@ use Rattle.std.specs.Prelude.{◌≡◌, ◌⊎◌, ℕ, ℤ, pos, List, ◌++�
 use Rattle.std.specs.Int.{w64}
 use Rattle.krb_der_core.specs.declared.der.DerEncode.{Ghosts as EncodingOf}
 use Rattle.krb_der_core.specs.Encoding.{optional}
-use Rattle.krb_der_core.specs.Tlv.{tlv}
 use Rattle.krb_der.specs.Asn1.{explicit, general_string, integer, octet_string, sequence}
 use Rattle.krb_msg.specs.declared.messages.proxy.KdcProxyMessage.{KdcProxyMessage}
 use Rattle.krb_part_calls.specs.Messages.{RefusesReading}

@@ -1,10 +1,10 @@
 -- The frame of a GSS token (RFC 2743, 3.1), and why octets are none.
-use Rattle.std.specs.Prelude.{◌≡◌, ◌==◌, ◌⊎◌, ℕ, ◌+◌, ◌<◌, List, [], ◌++◌, length}
+use Rattle.std.specs.Prelude.{◌≡◌, ◌==◌, ◌⊎◌, ℕ, ◌<◌, List, [], ◌++◌, length}
 use Rattle.krb_der_core.specs.declared.error.Asn1DerError.{Asn1DerError}
 use Rattle.krb_der_core.specs.declared.error.Asn1DerError.TheVariants as errors
 use Rattle.krb_der_core.specs.Errors.{HeaderError, PrefixError, TaggedError}
 use Rattle.krb_der_core.specs.Tlv.{tlv}
-use Rattle.krb_der_x509.specs.ObjectIdentifier.{IsArcs, arcs_content, object_identifier}
+use Rattle.krb_der_x509.specs.ObjectIdentifier.{IsArcs, arcs_content}
 use Rattle.krb_der_x509.specs.ObjectIdentifierErrors.{ArcsError}
 use Rattle.krb_calls.specs.Statuses.{der_status}
 use Rattle.krb_frame_calls.specs.Places.{StandsBefore}

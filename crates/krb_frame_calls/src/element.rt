@@ -50,3 +50,14 @@ pub(crate) fn optional_field(tag: u8, inner: u8, octets: &[u8]) -> (Option<&[u8]
         None => (None, octets),
     }
 }
+
+/// The content of an explicit tag at the start, which may be absent, and what follows it.
+pub(crate) fn optional_element(tag: u8, octets: &[u8]) -> (Option<&[u8]>, &[u8])
+    ensures { (field : Option (List ℕ)) (rest : List ℕ) → octets.now ≡ optional (λ c. tlv tag c) field ++ rest → NoElement tag rest
+        → (result.1.now ≡ rest) × MatchOption result.0 (field ≡ None) (λ content. field ≡ Some content.now) }
+{
+    match element(tag, octets) {
+        Some((content, rest)) => (Some(content), rest),
+        None => (None, octets),
+    }
+}

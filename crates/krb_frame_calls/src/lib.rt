@@ -14,7 +14,7 @@ mod refusal;
 mod token;
 mod value;
 
-pub use negotiation::neg_token_init;
+pub use negotiation::{neg_token_init, neg_token_resp};
 pub use pac::{pac_buffer, pac_count};
 pub use password::{make_password_frame, password_frame};
 pub use proxy::{kdc_proxy_hint, kdc_proxy_message};

@@ -1,5 +1,5 @@
 use Rattle.std.proofs.Common.{drop, arith}
-use Rattle.krb_frame_calls.proofs.Frames.{begins, room, sizes}
+use Rattle.krb_frame_calls.proofs.Frames.{begins, sizes}
 use Rattle.krb_frame_calls.proofs.password.sizes.Goals as goal
 
 pub overflow_sub-result-2 : goal.overflow_sub-result-2

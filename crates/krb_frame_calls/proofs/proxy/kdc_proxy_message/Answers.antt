@@ -1,4 +1,4 @@
-use Rattle.std.proofs.Common.{◌≡◌, refl, inl, arith}
+use Rattle.std.proofs.Common.{refl, inl, arith}
 use Rattle.krb_der_core.specs.Integer.{shortest}
 use Rattle.krb_der_core.specs.Tlv.{tlv}
 use Rattle.krb_frame_calls.proofs.Elements.{none_alone}

@@ -1,5 +1,4 @@
-use Rattle.std.proofs.Common.{◌≤◌, ◌+◌, length, arith}
-use Rattle.krb_frame_calls.proofs.Places.{inside_size, place_within}
+use Rattle.krb_frame_calls.proofs.Places.{place_within}
 use Rattle.krb_frame_calls.proofs.place.Place.within.Goals as goal
 
 pub returns : goal.returns
