@@ -14,6 +14,9 @@
      KRB_ROOM   the answer has *size octets, which are more than `room`; `out` is as it was
      another    there is no answer: *size is 0, and `out` is as it was
 
+   Where a call answers places, nothing is copied: a field of the input is told by how many octets are before it, `.._offset`, and how many it
+   has, `.._size`. On any status but KRB_DONE all that is told is 0.
+
    So no octet of what was sealed is seen where the checksum is wrong. A call with too little room does the whole work before it answers
    KRB_ROOM; the sizes below say how much room suffices.
 
@@ -53,8 +56,12 @@ enum {
     KRB_NEVER = 12,          /* of an error that no call meets */
     KRB_SEED_SIZE = 13,      /* the seed has not krb_seed_size octets */
     KRB_EMPTY = 14,          /* n-fold of no octets, or to none */
-    KRB_ABSENT = 20,         /* the message has no such field, or no item of this index */
-    KRB_TOO_LARGE = 21       /* the number does not fit 64 bits */
+    KRB_ABSENT = 20,         /* there is no such field, or no item of this index */
+    KRB_TOO_LARGE = 21,      /* 64 bits do not hold the number */
+    KRB_OTHER_VERSION = 25,  /* the version of the format is another */
+    KRB_PAC_TYPE = 26,       /* a buffer of a PAC is of a number that no type has */
+    KRB_PAC_RANGE = 27,      /* a buffer of a PAC names octets that are not there */
+    KRB_FRAME_SIZE = 28      /* a frame with lengths of 16 bits has more than 65535 octets */
 };
 
 /* Encryption types (RFC 3961, 8; RFC 3962, 7; RFC 8009, 7). */
@@ -268,26 +275,93 @@ krb_status krb_get_octets(int32_t message, int32_t field, size_t index, const ui
    KRB_NUMBER, also for a field that is no number; then those of krb_get_octets; then KRB_TOO_LARGE. On each of these *number is 0. */
 krb_status krb_get_number(int32_t message, int32_t field, size_t index, const uint8_t *octets, size_t octets_size, int64_t *number);
 
+/* PACs (MS-PAC 2.3 and 2.4): how many buffers there are, and buffer n, counted from 0 in the order of the entries: its type (ulType), and
+   the place of its octets. Each call looks at the whole directory; buffers may share octets. No memory is taken.
+   Of the first fault, in the order of count, version, and each entry with the octets that it names: KRB_TRUNCATED, KRB_OTHER_VERSION (not 0),
+   KRB_PAC_TYPE, KRB_PAC_RANGE; then KRB_ABSENT where there are not so many buffers. */
+krb_status krb_pac_count(const uint8_t *pac, size_t pac_size, size_t *count);
+krb_status krb_pac_buffer(const uint8_t *pac, size_t pac_size, size_t n, uint32_t *ul_type, size_t *offset, size_t *size);
+
+/* The frame of a GSS token (RFC 2743, 3.1; RFC 4121, 4.1), with nothing behind it: the places of the content of the mechanism's OBJECT IDENTIFIER,
+   and of the inner token, which is all that follows; a Kerberos token's begins with two octets of a token id. The mechanism is not compared.
+   Of the first fault, from the left: KRB_INVALID, KRB_TRUNCATED, KRB_UNSUPPORTED (of the mechanism: an arc past 64 bits); KRB_MEMORY. */
+krb_status krb_gss_token(const uint8_t *token, size_t token_size, size_t *mechanism_offset, size_t *mechanism_size, size_t *inner_offset,
+                         size_t *inner_size);
+
+/* The GSS token of the mechanism whose OBJECT IDENTIFIER has this content, around this inner token. krb_gss_token reads it as these.
+   KRB_INVALID, KRB_UNSUPPORTED where the octets are the content of no OBJECT IDENTIFIER; KRB_MEMORY. */
+krb_status krb_make_gss_token(const uint8_t *mechanism, size_t mechanism_size, const uint8_t *inner, size_t inner_size, uint8_t *out,
+                              size_t room, size_t *size);
+
+/* The frame of a request to change a password, and of the reply (RFC 3244, 2), at the start of the octets: the places of its AP message, a
+   KRB-AP-REQ or a KRB-AP-REP, and of its KRB-PRIV, with which it ends. What follows is not looked at, and the lengths in the frame are compared
+   with nothing.
+   Of the first fault, from the left: KRB_TRUNCATED in the six octets before the messages; KRB_OTHER_VERSION (not 1); of the AP message, then
+   of the KRB-PRIV: KRB_INVALID, KRB_TRUNCATED, KRB_UNSUPPORTED; KRB_MEMORY. */
+krb_status krb_password_frame(const uint8_t *frame, size_t frame_size, size_t *ap_offset, size_t *ap_size, size_t *priv_offset,
+                              size_t *priv_size);
+
+/* The frame of these messages, with its lengths and the version 1. It has 6 octets more than they.
+   What krb_check refuses of a KRB-AP-REQ or KRB-AP-REP, then of a KRB-PRIV; then KRB_FRAME_SIZE; KRB_MEMORY. */
+krb_status krb_make_password_frame(const uint8_t *ap_message, size_t ap_message_size, const uint8_t *krb_priv, size_t krb_priv_size,
+                                   uint8_t *out, size_t room, size_t *size);
+
+/* KDC-PROXY-MESSAGE (MS-KKDCP, 2.2.2), the one DER encoding of it with nothing behind it: the places of kerb-message, which begins with the four
+   octets of the message's length, and of target-domain. Where there is no target-domain both of its numbers are 0; its offset is 0 only then.
+   Of the first fault: KRB_INVALID, KRB_TRUNCATED, KRB_UNSUPPORTED; KRB_MEMORY. */
+krb_status krb_kdc_proxy_message(const uint8_t *octets, size_t octets_size, size_t *message_offset, size_t *message_size, size_t *domain_offset,
+                                 size_t *domain_size);
+
+/* Its dclocator-hint. As krb_kdc_proxy_message; then KRB_ABSENT where there is none, KRB_TOO_LARGE where 64 bits do not hold it. */
+krb_status krb_kdc_proxy_hint(const uint8_t *octets, size_t octets_size, int64_t *hint);
+
+/* SPNEGO (RFC 4178, 4.2). A field that is absent has the place 0 and 0; the offset of one that is there is not 0.
+
+   The token that begins a negotiation, NegTokenInit in its frame (RFC 2743, 3.1), whose mechanism is not compared: the places of mechTypes, its
+   OBJECT IDENTIFIERs one behind the other, of mechToken and of mechListMIC. reqFlags are not told.
+   And a later message, negTokenResp [1]: negState (KRB_NEG_STATE_..), and the places of the content of supportedMech's OBJECT IDENTIFIER, of
+   responseToken and of mechListMIC. On any status but KRB_DONE the state is KRB_NEG_STATE_ABSENT.
+   Where the octets are not the one DER encoding of such a message, with nothing behind it, of the first fault: KRB_INVALID, KRB_TRUNCATED,
+   KRB_UNSUPPORTED; KRB_MEMORY. */
+enum {
+    KRB_NEG_STATE_ACCEPT_COMPLETED = 0,
+    KRB_NEG_STATE_ACCEPT_INCOMPLETE = 1,
+    KRB_NEG_STATE_REJECT = 2,
+    KRB_NEG_STATE_REQUEST_MIC = 3, /* other numbers below 128 are told as they are */
+    KRB_NEG_STATE_ABSENT = 256,
+    KRB_NEG_STATE_OTHER = 257      /* another element than an ENUMERATED in one octet below 128 */
+};
+krb_status krb_neg_token_init(const uint8_t *octets, size_t octets_size, size_t *mechanisms_offset, size_t *mechanisms_size,
+                              size_t *token_offset, size_t *token_size, size_t *mic_offset, size_t *mic_size);
+krb_status krb_neg_token_resp(const uint8_t *message, size_t message_size, uint32_t *state, size_t *mechanism_offset, size_t *mechanism_size,
+                              size_t *token_offset, size_t *token_size, size_t *mic_offset, size_t *mic_size);
+
 /* What a status says, in English words and without a line's end. It is not of the library: no export answers a pointer. */
 static inline const char *krb_status_text(krb_status status) {
-    static const char *const texts[] = {"done",
-                                        "too little room for the answer",
-                                        "out of memory",
-                                        "an unknown number",
-                                        "a confounder of another size",
-                                        "a key of another size",
-                                        "too few sealed octets",
-                                        "a wrong checksum",
-                                        "no whole blocks",
-                                        "no encoding of the type",
-                                        "octets that end too early",
-                                        "a length that is not supported",
-                                        "an error that no call meets",
-                                        "a seed of another size",
-                                        "no octets to fold"};
-    if (status == KRB_ABSENT) return "no such field, or no item of this index";
-    if (status == KRB_TOO_LARGE) return "a number of more than 64 bits";
-    return status < sizeof texts / sizeof *texts ? texts[status] : "an unknown status";
+    switch (status) {
+    case KRB_DONE: return "done";
+    case KRB_ROOM: return "too little room for the answer";
+    case KRB_MEMORY: return "out of memory";
+    case KRB_NUMBER: return "an unknown number";
+    case KRB_CONFOUNDER_SIZE: return "a confounder of another size";
+    case KRB_KEY_SIZE: return "a key of another size";
+    case KRB_SEALED_SIZE: return "too few sealed octets";
+    case KRB_INTEGRITY: return "a wrong checksum";
+    case KRB_PADDING: return "no whole blocks";
+    case KRB_INVALID: return "no encoding of the type";
+    case KRB_TRUNCATED: return "octets that end too early";
+    case KRB_UNSUPPORTED: return "a length that is not supported";
+    case KRB_NEVER: return "an error that no call meets";
+    case KRB_SEED_SIZE: return "a seed of another size";
+    case KRB_EMPTY: return "no octets to fold";
+    case KRB_ABSENT: return "no such field, or no item of this index";
+    case KRB_TOO_LARGE: return "a number of more than 64 bits";
+    case KRB_OTHER_VERSION: return "another version of the format";
+    case KRB_PAC_TYPE: return "a buffer of an unknown type";
+    case KRB_PAC_RANGE: return "a buffer of octets that are not there";
+    case KRB_FRAME_SIZE: return "a frame of too many octets";
+    default: return "an unknown status";
+    }
 }
 
 #ifdef __cplusplus

@@ -29,6 +29,10 @@ class Status(enum.IntEnum):
     EMPTY = 14
     ABSENT = 20
     TOO_LARGE = 21
+    OTHER_VERSION = 25
+    PAC_TYPE = 26
+    PAC_RANGE = 27
+    FRAME_SIZE = 28
 
 
 TEXTS = {
@@ -48,6 +52,10 @@ TEXTS = {
     Status.EMPTY: "no octets to fold",
     Status.ABSENT: "no such field, or no item of this index",
     Status.TOO_LARGE: "a number of more than 64 bits",
+    Status.OTHER_VERSION: "another version of the format",
+    Status.PAC_TYPE: "a buffer of an unknown type",
+    Status.PAC_RANGE: "a buffer of octets that are not there",
+    Status.FRAME_SIZE: "a frame of too many octets",
 }
 
 

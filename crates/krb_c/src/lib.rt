@@ -3,6 +3,7 @@
 
 mod crypto;
 mod fields;
+mod frames;
 mod kept;
 mod parts;
 mod sizes;

@@ -1,0 +1,188 @@
+//! Frames of messages. `krb.h` declares these calls.
+
+ghost use Rattle.krb_calls.specs.Handing.{IsAnswered};
+ghost use Rattle.krb_frame_calls.specs.Negotiation.{IsAnswerAt, IsInitAt};
+ghost use Rattle.krb_frame_calls.specs.Pac.{IsPacBuffer, IsPacCount};
+ghost use Rattle.krb_frame_calls.specs.Password.{IsFrameAt, IsMadeFrame, RefusesMaking};
+ghost use Rattle.krb_frame_calls.specs.Proxy.{IsProxyAt, IsProxyHint};
+ghost use Rattle.krb_frame_calls.specs.Token.{IsMadeToken, IsTokenAt, RefusesMechanism};
+
+use krb_der::DerEncode;
+use krb_gss_negotiation::gss_api::{ApplicationTag0, GssApiNegInit, NegTokenTarg1};
+use krb_msg::messages::{ApMessage, KdcProxyMessage};
+use krb_msg_app::messages::KrbPriv;
+use std::alloc::Global;
+
+/// `krb_pac_count` of `krb.h`: how many buffers a PAC has (MS-PAC 2.3).
+#[unsafe(no_mangle)]
+pub extern "C" fn krb_pac_count(pac: &[u8], count: &mut usize) -> u32
+    ensures { IsPacCount pac.now count.new result }
+{
+    krb_frame_calls::pac_count(pac, count)
+}
+
+/// `krb_pac_buffer` of `krb.h`: a buffer of a PAC, by its type and its place (MS-PAC 2.4).
+#[unsafe(no_mangle)]
+pub extern "C" fn krb_pac_buffer(
+    pac: &[u8],
+    n: usize,
+    ul_type: &mut u32,
+    offset: &mut usize,
+    size: &mut usize,
+) -> u32
+    ensures { IsPacBuffer pac.now n ul_type.new offset.new size.new result }
+{
+    krb_frame_calls::pac_buffer(pac, n, ul_type, offset, size)
+}
+
+/// `krb_gss_token` of `krb.h`: the places of the mechanism and of the inner token in a GSS token (RFC 2743, 3.1).
+#[unsafe(no_mangle)]
+pub extern "C" fn krb_gss_token(
+    alloc: Global,
+    token: &[u8],
+    mechanism_offset: &mut usize,
+    mechanism_size: &mut usize,
+    inner_offset: &mut usize,
+    inner_size: &mut usize,
+) -> u32
+    ensures { IsTokenAt token.now mechanism_offset.new mechanism_size.new inner_offset.new inner_size.new result }
+{
+    krb_frame_calls::gss_token(
+        alloc,
+        token,
+        mechanism_offset,
+        mechanism_size,
+        inner_offset,
+        inner_size,
+    )
+}
+
+/// `krb_make_gss_token` of `krb.h`: the GSS token of a mechanism around an inner token (RFC 2743, 3.1).
+#[unsafe(no_mangle)]
+pub extern "C" fn krb_make_gss_token(
+    alloc: Global,
+    mechanism: &[u8],
+    inner: &[u8],
+    out: &mut [u8],
+    size: &mut usize,
+) -> u32
+    ensures { IsAnswered (IsMadeToken mechanism.now inner.now) (RefusesMechanism mechanism.now) out.old out.new size.new result }
+{
+    krb_frame_calls::make_gss_token(alloc, mechanism, inner, out, size)
+}
+
+/// `krb_password_frame` of `krb.h`: the places of the messages in a frame that changes a password (RFC 3244, 2).
+#[unsafe(no_mangle)]
+pub extern "C" fn krb_password_frame(
+    alloc: Global,
+    frame: &[u8],
+    ap_offset: &mut usize,
+    ap_size: &mut usize,
+    priv_offset: &mut usize,
+    priv_size: &mut usize,
+) -> u32
+    ensures { IsFrameAt ⟦<ApMessage as DerEncode>⟧ ⟦<KrbPriv as DerEncode>⟧ frame.now ap_offset.new ap_size.new priv_offset.new priv_size.new result }
+{
+    krb_frame_calls::password_frame(alloc, frame, ap_offset, ap_size, priv_offset, priv_size)
+}
+
+/// `krb_make_password_frame` of `krb.h`: the frame of these messages (RFC 3244, 2).
+#[unsafe(no_mangle)]
+pub extern "C" fn krb_make_password_frame(
+    alloc: Global,
+    ap_message: &[u8],
+    krb_priv: &[u8],
+    out: &mut [u8],
+    size: &mut usize,
+) -> u32
+    ensures { IsAnswered (IsMadeFrame ⟦<ApMessage as DerEncode>⟧ ⟦<KrbPriv as DerEncode>⟧ ap_message.now krb_priv.now)
+        (RefusesMaking ⟦<ApMessage as DerEncode>⟧ ⟦<KrbPriv as DerEncode>⟧ ap_message.now krb_priv.now) out.old out.new size.new result }
+{
+    krb_frame_calls::make_password_frame(alloc, ap_message, krb_priv, out, size)
+}
+
+/// `krb_kdc_proxy_message` of `krb.h`: the places of the fields of a KDC-PROXY-MESSAGE (MS-KKDCP, 2.2.2).
+#[unsafe(no_mangle)]
+pub extern "C" fn krb_kdc_proxy_message(
+    alloc: Global,
+    octets: &[u8],
+    message_offset: &mut usize,
+    message_size: &mut usize,
+    domain_offset: &mut usize,
+    domain_size: &mut usize,
+) -> u32
+    ensures { IsProxyAt ⟦<KdcProxyMessage as DerEncode>⟧ octets.now message_offset.new message_size.new domain_offset.new domain_size.new result }
+{
+    krb_frame_calls::kdc_proxy_message(
+        alloc,
+        octets,
+        message_offset,
+        message_size,
+        domain_offset,
+        domain_size,
+    )
+}
+
+/// `krb_kdc_proxy_hint` of `krb.h`: dclocator-hint of a KDC-PROXY-MESSAGE (MS-KKDCP, 2.2.2).
+#[unsafe(no_mangle)]
+pub extern "C" fn krb_kdc_proxy_hint(alloc: Global, octets: &[u8], hint: &mut i64) -> u32
+    ensures { IsProxyHint ⟦<KdcProxyMessage as DerEncode>⟧ octets.now hint.new result }
+{
+    krb_frame_calls::kdc_proxy_hint(alloc, octets, hint)
+}
+
+/// `krb_neg_token_init` of `krb.h`: the places of the fields of the token that begins a negotiation (RFC 4178, 4.2.1).
+#[unsafe(no_mangle)]
+pub extern "C" fn krb_neg_token_init(
+    alloc: Global,
+    octets: &[u8],
+    mechanisms_offset: &mut usize,
+    mechanisms_size: &mut usize,
+    token_offset: &mut usize,
+    token_size: &mut usize,
+    mic_offset: &mut usize,
+    mic_size: &mut usize,
+) -> u32
+    ensures { IsInitAt ⟦<ApplicationTag0<GssApiNegInit> as DerEncode>⟧ octets.now mechanisms_offset.new mechanisms_size.new
+        token_offset.new token_size.new mic_offset.new mic_size.new result }
+{
+    krb_frame_calls::neg_token_init(
+        alloc,
+        octets,
+        mechanisms_offset,
+        mechanisms_size,
+        token_offset,
+        token_size,
+        mic_offset,
+        mic_size,
+    )
+}
+
+/// `krb_neg_token_resp` of `krb.h`: negState of a later message of a negotiation, and the places of its other fields (RFC 4178, 4.2.2).
+#[unsafe(no_mangle)]
+pub extern "C" fn krb_neg_token_resp(
+    alloc: Global,
+    message: &[u8],
+    state: &mut u32,
+    mechanism_offset: &mut usize,
+    mechanism_size: &mut usize,
+    token_offset: &mut usize,
+    token_size: &mut usize,
+    mic_offset: &mut usize,
+    mic_size: &mut usize,
+) -> u32
+    ensures { IsAnswerAt ⟦<NegTokenTarg1 as DerEncode>⟧ message.now state.new mechanism_offset.new mechanism_size.new
+        token_offset.new token_size.new mic_offset.new mic_size.new result }
+{
+    krb_frame_calls::neg_token_resp(
+        alloc,
+        message,
+        state,
+        mechanism_offset,
+        mechanism_size,
+        token_offset,
+        token_size,
+        mic_offset,
+        mic_size,
+    )
+}

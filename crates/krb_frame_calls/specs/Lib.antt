@@ -1,0 +1,8 @@
+pub mod Elements
+pub mod Negotiation
+pub mod Pac
+pub mod Password
+pub mod Places
+pub mod Proxy
+pub mod Statuses
+pub mod Token

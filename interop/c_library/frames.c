@@ -1,0 +1,155 @@
+/* Reads frames of messages by places, cuts them, and makes them again: frames FILE, whose rows have a kind and octets in hexadecimal. */
+#include "calls.h"
+#include <stdio.h>
+#include <string.h>
+
+enum { NUMBERS = 6 };
+
+/* What a call told: a place is two numbers. */
+struct told {
+    krb_status status;
+    uint32_t kind;
+    size_t at[NUMBERS];
+};
+
+static struct told told_of(const char *kind, const struct octets *it) {
+    struct told told = {77777, 77777, {77777, 77777, 77777, 77777, 77777, 77777}};
+    size_t *at = told.at;
+    int64_t hint = 77777;
+    if (!strcmp(kind, "pac")) {
+        told.status = krb_pac_buffer(it->at, it->count, 0, &told.kind, &at[0], &at[1]);
+        at[2] = at[3] = at[4] = at[5] = 0;
+    } else if (!strcmp(kind, "token")) {
+        told.status = krb_gss_token(it->at, it->count, &at[0], &at[1], &at[2], &at[3]);
+        at[4] = at[5] = 0;
+    } else if (!strcmp(kind, "init")) {
+        told.status = krb_neg_token_init(it->at, it->count, &at[0], &at[1], &at[2], &at[3], &at[4], &at[5]);
+    } else if (!strcmp(kind, "resp")) {
+        told.status = krb_neg_token_resp(it->at, it->count, &told.kind, &at[0], &at[1], &at[2], &at[3], &at[4], &at[5]);
+    } else if (!strcmp(kind, "password")) {
+        told.status = krb_password_frame(it->at, it->count, &at[0], &at[1], &at[2], &at[3]);
+        at[4] = at[5] = 0;
+    } else if (!strcmp(kind, "proxy")) {
+        krb_status status = krb_kdc_proxy_hint(it->at, it->count, &hint);
+        told.status = krb_kdc_proxy_message(it->at, it->count, &at[0], &at[1], &at[2], &at[3]);
+        at[4] = at[5] = 0;
+        EXPECT(status == told.status || (told.status == KRB_DONE && (status == KRB_ABSENT || status == KRB_TOO_LARGE)), "the hint: status %u and %u", status, told.status);
+        EXPECT(status == KRB_DONE || hint == 0, "a hint is told with status %u", status);
+    } else {
+        die("a table has a kind that is none");
+    }
+    return told;
+}
+
+static void try_refused(const char *kind, const struct octets *it, krb_status wanted, const char *what) {
+    struct told told = told_of(kind, it);
+    EXPECT(told.status == wanted, "%s, %s at %zu octets: status %u", kind, what, it->count, told.status);
+    for (int k = 0; k < NUMBERS; k++) EXPECT(told.at[k] == 0, "%s, %s: a place is told", kind, what);
+    if (!strcmp(kind, "pac")) EXPECT(told.kind == 0, "a type is told");
+    if (!strcmp(kind, "resp")) EXPECT(told.kind == KRB_NEG_STATE_ABSENT, "a state is told");
+}
+
+/* The least octets of a PAC that has the buffers of this one: all up to the last that a buffer names. */
+static size_t least_of(const struct octets *pac) {
+    size_t count = 0, least = 8;
+    EXPECT(krb_pac_count(pac->at, pac->count, &count) == KRB_DONE, "a PAC is refused");
+    least += 16 * count;
+    for (size_t n = 0; n < count; n++) {
+        uint32_t kind = 0;
+        size_t offset = 0, size = 0;
+        EXPECT(krb_pac_buffer(pac->at, pac->count, n, &kind, &offset, &size) == KRB_DONE && kind && offset + size <= pac->count, "buffer %zu", n);
+        if (offset + size > least) least = offset + size;
+    }
+    uint32_t kind = 1;
+    size_t offset = 1, size = 1;
+    EXPECT(krb_pac_buffer(pac->at, pac->count, count, &kind, &offset, &size) == KRB_ABSENT && !kind && !offset && !size, "one buffer more");
+    EXPECT(krb_pac_buffer(pac->at, pac->count, SIZE_MAX, &kind, &offset, &size) == KRB_ABSENT, "the last number");
+    return least;
+}
+
+static void try_cuts(const char *kind, const struct octets *whole, size_t least) {
+    for (size_t count = 0; count < least; count += 1 + count / 700) {
+        struct octets cut = octets_of(whole->at, count);
+        krb_status wanted = KRB_TRUNCATED;
+        if (!strcmp(kind, "pac")) { /* a cut may leave out octets that an early entry names */
+            struct told told = told_of(kind, &cut);
+            wanted = told.status == KRB_PAC_RANGE ? KRB_PAC_RANGE : KRB_TRUNCATED;
+        }
+        try_refused(kind, &cut, wanted, "cut");
+        drop(&cut);
+    }
+}
+
+static int is_place(const struct octets *it, size_t offset, size_t size) { return offset <= it->count && size <= it->count - offset; }
+
+/* What was read is made again, also in too little room. */
+static void try_made(const char *kind, const struct octets *whole, const struct told *told) {
+    const uint8_t *first = whole->at + told->at[0], *second = whole->at + told->at[2];
+    int is_token = !strcmp(kind, "token");
+    size_t size = 77777, end = is_token ? whole->count : told->at[2] + told->at[3];
+    for (size_t less = 0; less <= end; less += less < 3 ? 1 : end - less ? end - less : 1) {
+        struct octets room = room_of(end - less);
+        krb_status status = is_token ? krb_make_gss_token(first, told->at[1], second, told->at[3], room.at, room.count, &size)
+                                     : krb_make_password_frame(first, told->at[1], second, told->at[3], room.at, room.count, &size);
+        EXPECT(status == (less ? KRB_ROOM : KRB_DONE) && size == end, "%s, made in %zu octets: status %u", kind, room.count, status);
+        EXPECT(less ? is_untouched(&room, 0) : is_token ? !memcmp(room.at, whole->at, end) : !memcmp(room.at + 6, whole->at + 6, end - 6), "%s is made otherwise", kind);
+        drop(&room);
+    }
+    struct octets room = room_of(end + 7), none = {NULL, 0};
+    krb_status status = is_token ? krb_make_gss_token(none.at, 0, second, told->at[3], room.at, room.count, &size)
+                                 : krb_make_password_frame(first, told->at[1] - 1, second, told->at[3], room.at, room.count, &size);
+    EXPECT(status == (is_token ? KRB_INVALID : KRB_TRUNCATED) && size == 0 && is_untouched(&room, 0), "%s of no message: status %u", kind, status);
+    if (!is_token) {
+        status = krb_make_password_frame(first, told->at[1], none.at, 0, room.at, room.count, &size);
+        EXPECT(status == KRB_TRUNCATED && size == 0 && is_untouched(&room, 0), "a frame of no KRB-PRIV: status %u", status);
+    }
+    drop(&room);
+}
+
+static void try_row(const char *kind, const struct octets *whole) {
+    struct told told = told_of(kind, whole);
+    EXPECT(told.status == KRB_DONE, "%s is refused: status %u", kind, told.status);
+    for (int k = 0; k < NUMBERS; k += 2) EXPECT(is_place(whole, told.at[k], told.at[k + 1]), "%s: a place outside", kind);
+    if (!strcmp(kind, "pac")) {
+        size_t least = least_of(whole);
+        try_cuts(kind, whole, least);
+        return;
+    }
+    try_cuts(kind, whole, !strcmp(kind, "password") ? told.at[2] + told.at[3] : whole->count);
+    struct octets other = room_of(whole->count + 1);
+    memcpy(other.at, whole->at, whole->count);
+    if (strcmp(kind, "password")) {
+        try_refused(kind, &other, KRB_INVALID, "with an octet behind");
+        other.count--;
+        other.at[1] = 0x80;
+        try_refused(kind, &other, KRB_UNSUPPORTED, "of indefinite length");
+        other.at[0] ^= 1;
+        try_refused(kind, &other, KRB_INVALID, "under another tag");
+    } else {
+        other.at[3] = 2;
+        try_refused(kind, &other, KRB_OTHER_VERSION, "of another version");
+    }
+    other.count = whole->count + 1;
+    drop(&other);
+    if (!strcmp(kind, "token") || !strcmp(kind, "password")) try_made(kind, whole, &told);
+}
+
+int main(int count, char **words) {
+    FILE *table = count == 2 ? fopen(words[1], "r") : NULL;
+    char *columns[2];
+    if (!table) die("usage: frames FILE");
+    while (next_row(table, columns, 2)) {
+        struct octets octets = octets_of_text(columns[1]);
+        char kind[16];
+        snprintf(kind, sizeof kind, "%s", columns[0]);
+        try_row(kind, &octets);
+        drop(&octets);
+    }
+    static const char *const kinds[] = {"pac", "token", "init", "resp", "password", "proxy"};
+    for (unsigned k = 0; k < sizeof kinds / sizeof *kinds; k++) {
+        struct octets none = {NULL, 0};
+        try_refused(kinds[k], &none, KRB_TRUNCATED, "nothing");
+    }
+    fclose(table);
+    return counted();
+}

@@ -1,0 +1,317 @@
+"""Tries the Python package on frames of messages: try_frames.py FRAMES, in an environment that has it installed.
+
+FRAMES has rows of a kind and octets in hexadecimal: pac, token, init, resp, password, proxy. What is expected is read out of the octets here, by code
+that shares nothing with the library. The last line is `N passed, N failed`."""
+
+import random
+import sys
+
+from krb import Refused, Status, frames, messages, pac, spnego
+
+PASSED = FAILED = 0
+TYPES = {1, 2, 6, 7, *range(10, 20)}
+
+
+def expect(right, what):
+    global PASSED, FAILED
+    PASSED += bool(right)
+    FAILED += not right
+    if not right:
+        print("try_frames: %s" % what)
+
+
+def outcome(call, *arguments):
+    """What a call returns, or the status with which it refuses."""
+    try:
+        return call(*arguments)
+    except Refused as refused:
+        return refused.status
+
+
+# The formats, read here.
+
+
+def pac_of(octets):
+    """The buffers (MS-PAC 2.3 and 2.4), or the first fault."""
+    if len(octets) < 4:
+        return Status.TRUNCATED
+    if len(octets) < 8:
+        return Status.TRUNCATED
+    count, version = int.from_bytes(octets[:4], "little"), int.from_bytes(octets[4:8], "little")
+    if version:
+        return Status.OTHER_VERSION
+    found = []
+    for at in range(8, 8 + 16 * count, 16):
+        if len(octets) < at + 4:
+            return Status.TRUNCATED
+        kind = int.from_bytes(octets[at : at + 4], "little")
+        if kind not in TYPES:
+            return Status.PAC_TYPE
+        if len(octets) < at + 16:
+            return Status.TRUNCATED
+        size, offset = int.from_bytes(octets[at + 4 : at + 8], "little"), int.from_bytes(octets[at + 8 : at + 16], "little")
+        if offset + size > len(octets):
+            return Status.PAC_RANGE
+        found.append((kind, offset, octets[offset : offset + size]))
+    return found
+
+
+def element(octets, at, end, tag):
+    """Where the content of the element of this tag begins and ends (X.690, 8.1 and 10.1)."""
+    if at == end:
+        raise Refused(Status.TRUNCATED)
+    if octets[at] != tag:
+        raise Refused(Status.INVALID)
+    if at + 1 == end:
+        raise Refused(Status.TRUNCATED)
+    size, start = octets[at + 1], at + 2
+    if size == 128 or size > 136:
+        raise Refused(Status.UNSUPPORTED)
+    if size > 128:
+        start += size - 128
+        if start > end:
+            raise Refused(Status.TRUNCATED)
+        digits = octets[at + 2 : start]
+        size = int.from_bytes(digits, "big")
+        if digits[0] == 0 or size < 128:
+            raise Refused(Status.INVALID)
+    if start + size > end:
+        raise Refused(Status.TRUNCATED)
+    return start, start + size
+
+
+def check_identifier(content):
+    """Refuses what is the content of no OBJECT IDENTIFIER (X.690, 8.19), whose sub-identifiers are of 64 bits."""
+    if not content:
+        raise Refused(Status.INVALID)
+    at = 0
+    while at < len(content):
+        number, first = 0, True
+        while True:
+            if at == len(content) or (first and content[at] == 0x80):
+                raise Refused(Status.INVALID)
+            if number >= 1 << 57:
+                raise Refused(Status.UNSUPPORTED)
+            number, first, at = number * 128 + content[at] % 128, False, at + 1
+            if content[at - 1] < 128:
+                break
+
+
+def token_of(octets):
+    start, end = element(octets, 0, len(octets), 0x60)
+    mechanism, inner = element(octets, start, end, 0x06)
+    check_identifier(octets[mechanism:inner])
+    if end != len(octets):
+        raise Refused(Status.INVALID)
+    return octets[mechanism:inner], octets[inner:]
+
+
+def fields_of(octets, at, end):
+    """The elements under [0] to [3], by their numbers."""
+    found = {}
+    while at < end:
+        start, after = element(octets, at, end, octets[at])
+        found[octets[at] - 0xA0], at = (start, after), after
+    return found
+
+
+def inside(octets, place, tag):
+    if place is None:
+        return None
+    start, end = element(octets, *place, tag)
+    return octets[start:end]
+
+
+def identifiers(octets):
+    found, at = [], 0
+    while at < len(octets):
+        start, at = element(octets, at, len(octets), 0x06)
+        found.append(octets[start:at])
+    return found
+
+
+def init_of(octets):
+    start, end = element(octets, 0, len(octets), 0x60)
+    _, at = element(octets, start, end, 0x06)
+    found = fields_of(octets, *element(octets, *element(octets, at, end, 0xA0), 0x30))
+    mechanisms = inside(octets, found.get(0), 0x30)
+    return mechanisms and identifiers(mechanisms), inside(octets, found.get(2), 0x04), inside(octets, found.get(3), 0x04)
+
+
+def resp_of(octets):
+    found = fields_of(octets, *element(octets, *element(octets, 0, len(octets), 0xA1), 0x30))
+    state = None
+    if 0 in found:
+        whole = octets[slice(*found[0])]
+        state = whole[2] if whole[:2] == b"\x0a\x01" and whole[2] < 128 else -1
+    return state, inside(octets, found.get(1), 0x06), inside(octets, found.get(2), 0x04), inside(octets, found.get(3), 0x04)
+
+
+def password_of(octets):
+    _, ap_end = element(octets, 6, len(octets), octets[6])
+    _, end = element(octets, ap_end, len(octets), 0x75)
+    return octets[6:ap_end], octets[ap_end:end], end
+
+
+def proxy_of(octets):
+    found = fields_of(octets, *element(octets, 0, len(octets), 0x30))
+    hint = inside(octets, found.get(2), 0x02)
+    return inside(octets, found[0], 0x04), inside(octets, found.get(1), 0x1B), None if hint is None else int.from_bytes(hint, "big", signed=True)
+
+
+# What is tried.
+
+
+def tried(call, octets):
+    found = outcome(call, octets)
+    return found if isinstance(found, Status) else tuple(found)
+
+
+def model(call, octets):
+    return outcome(call, octets)
+
+
+def changed(octets, count):
+    """The octets with one or two bits turned, cut, or with octets left out or put in."""
+    for _ in range(count):
+        other = bytearray(octets)
+        for _ in range(random.randrange(1, 3)):
+            other[random.randrange(min(len(other), 60) if random.random() < 0.8 else len(other))] ^= 1 << random.randrange(8)
+        if random.random() < 0.1:
+            del other[random.randrange(len(other)) :]
+        yield bytes(other)
+
+
+def try_pac(octets, count):
+    for each in [octets, *(octets[:n] for n in range(min(len(octets), 200))), octets + b"\0", *changed(octets, count)]:
+        right = pac_of(each)
+        found = outcome(pac.buffers, each)
+        expect(found == right if isinstance(right, Status) else [tuple(it) for it in found] == right, "a PAC: %s, and not %s" % (found, right))
+        if not isinstance(right, Status):
+            for n in (len(right), len(right) + 1, 2**32, 2**64 - 1, 2**64, -1):
+                expect(outcome(pac.buffer, each, n) == Status.ABSENT, "buffer %d of a PAC of %d" % (n, len(right)))
+            for kind in TYPES:
+                expect(pac.find(each, kind) == next((it[2] for it in right if it[0] == kind), None), "the buffer of type %d" % kind)
+
+
+def try_token(octets, count):
+    for each in [octets, *(octets[:n] for n in range(len(octets))), octets + b"\0", *changed(octets, count)]:
+        right, found = outcome(token_of, each), tried(spnego.token, each)
+        expect(found == right, "a token: %s, and not %s" % (found, right))
+        if not isinstance(right, Status):
+            expect(spnego.make_token(*right) == each, "a token is made otherwise")
+
+
+def try_cuts(call, octets, what):
+    for n in range(len(octets)):
+        expect(outcome(call, octets[:n]) == Status.TRUNCATED, "%s, cut to %d octets" % (what, n))
+    expect(outcome(call, octets + b"\0") == Status.INVALID, "%s, with an octet behind" % what)
+    expect(outcome(call, b"\x31" + octets[1:]) == Status.INVALID, "%s, under another tag" % what)
+    expect(outcome(call, octets[:1] + b"\x80" + octets[2:]) == Status.UNSUPPORTED, "%s, of indefinite length" % what)
+
+
+def try_changed(call, right, octets, count, what):
+    """Where changed octets are taken, the fields are those that stand in them."""
+    for each in changed(octets, count):
+        found = tried(call, each)
+        expect(isinstance(found, Status) or found == right(each), "%s, changed: %s" % (what, found))
+
+
+def try_password(octets, count):
+    right = password_of(octets)
+    expect(tried(frames.password_frame, octets) == right, "a password frame")
+    expect(tried(frames.password_frame, octets + b"behind") == right, "a password frame with octets behind it")
+    lengths = len(octets).to_bytes(2, "big") + b"\0\1" + len(right[0]).to_bytes(2, "big")
+    expect(frames.make_password_frame(*right[:2]) == lengths + octets[6:], "a password frame is made otherwise")
+    for n in range(len(octets)):
+        expect(outcome(frames.password_frame, octets[:n]) == Status.TRUNCATED, "a password frame, cut to %d octets" % n)
+    for version in (0, 2, 0xFF80):
+        expect(outcome(frames.password_frame, octets[:2] + version.to_bytes(2, "big") + octets[4:]) == Status.OTHER_VERSION, "version %d" % version)
+    expect(outcome(frames.make_password_frame, right[0][:-1], right[1]) == Status.TRUNCATED, "a cut AP message is framed")
+    expect(outcome(frames.make_password_frame, right[1], right[1]) == Status.INVALID, "a KRB-PRIV is framed as an AP message")
+    expect(outcome(frames.make_password_frame, right[0], right[1] + b"\0") == Status.INVALID, "a KRB-PRIV with an octet behind is framed")
+    for each in changed(octets, count):
+        found = tried(frames.password_frame, each)
+        if isinstance(found, Status):
+            expect(each[2:4] == b"\0\1" or len(each) < 4 or found == Status.OTHER_VERSION, "another version: %s" % found)
+        else:
+            expect(found == password_of(each) and messages.is_message(21, found[1]), "a changed password frame")
+
+
+def try_made():
+    """Sizes of frames, mechanisms that are none, long inner tokens."""
+    for size in (0, 1, 113, 114, 115, 127, 128, 240, 241, 255, 256, 65535, 65536, 1 << 20):
+        inner = random.randbytes(size)
+        made = spnego.make_token(spnego.KERBEROS, inner)
+        expect(token_of(made) == (spnego.KERBEROS, inner) and tuple(spnego.token(made)) == (spnego.KERBEROS, inner), "a token of %d octets" % size)
+    for mechanism, status in ((b"", 9), (b"\x80\x01", 9), (b"\x2a\x86", 9), (b"\x2a" + b"\xff" * 9 + b"\x7f", 11), (b"\x2a\x80\x01", 9)):
+        expect(outcome(spnego.make_token, mechanism, b"x") == status, "the mechanism %s" % mechanism.hex())
+        whole = b"\x06" + bytes([len(mechanism)]) + mechanism + b"x"
+        expect(outcome(spnego.token, b"\x60" + bytes([len(whole)]) + whole) == status, "a token of the mechanism %s" % mechanism.hex())
+    for call in (spnego.token, spnego.neg_token_init, spnego.neg_token_resp, frames.proxy_message, frames.password_frame, pac.buffers):
+        expect(outcome(call, b"") == Status.TRUNCATED, "%s of no octets" % call.__name__)
+        expect(isinstance(outcome(call, bytes(100000)), Status), "%s of zeros" % call.__name__)
+
+
+def try_lengths(octets):
+    """A frame of 65535 octets, and of one more: the KRB-PRIV's cipher is filled up."""
+    ap, _, _ = password_of(octets)
+
+    def der(tag, content):
+        size = len(content)
+        digits = size.to_bytes((size.bit_length() + 7) // 8, "big")
+        return bytes([tag]) + (bytes([size]) if size < 128 else bytes([128 + len(digits)]) + digits) + content
+
+    for more in range(2):
+        cipher = 65535 + more - 6 - len(ap) - 42
+        while True:
+            data = der(0x30, der(0xA0, b"\2\1\x12") + der(0xA2, der(4, bytes(cipher))))
+            private = der(0x75, der(0x30, der(0xA0, b"\2\1\5") + der(0xA1, b"\2\1\x15") + der(0xA3, data)))
+            if 6 + len(ap) + len(private) >= 65535 + more:
+                break
+            cipher += 1
+        found = outcome(frames.make_password_frame, ap, private)
+        expect(found == Status.FRAME_SIZE if more else isinstance(found, bytes) and len(found) == 65535 and tuple(frames.password_frame(found)) == (ap, private, 65535), "a frame of %d octets" % (6 + len(ap) + len(private)))
+
+
+def main():
+    random.seed(3244)
+    seen = dict.fromkeys(("pac", "token", "init", "resp", "password", "proxy"), 0)
+    with open(sys.argv[1], encoding="ascii") as table:
+        rows = [line.rstrip("\n").split("\t") for line in table]
+    for kind, digits in rows:
+        octets = bytes.fromhex(digits)
+        seen[kind] += 1
+        count = 400
+        if kind == "pac":
+            try_pac(octets, count)
+        elif kind == "token":
+            try_token(octets, count)
+        elif kind == "init":
+            expect(tried(spnego.neg_token_init, octets) == init_of(octets), "a NegTokenInit")
+            try_cuts(spnego.neg_token_init, octets, "a NegTokenInit")
+            try_changed(spnego.neg_token_init, init_of, octets, count, "a NegTokenInit")
+        elif kind == "resp":
+            expect(tried(spnego.neg_token_resp, octets) == resp_of(octets), "a negTokenResp")
+            try_cuts(spnego.neg_token_resp, octets, "a negTokenResp")
+            try_changed(spnego.neg_token_resp, resp_of, octets, count, "a negTokenResp")
+        elif kind == "password":
+            try_password(octets, count)
+            try_lengths(octets)
+        else:
+            expect(tried(frames.proxy_message, octets) == proxy_of(octets), "a KDC-PROXY-MESSAGE")
+            try_cuts(frames.proxy_message, octets, "a KDC-PROXY-MESSAGE")
+            try_changed(frames.proxy_message, proxy_of, octets, count, "a KDC-PROXY-MESSAGE")
+    try_made()
+    for hint, right in ((bytes(1), 0), (b"\x7f" + b"\xff" * 7, 2**63 - 1), (b"\x80" + bytes(7), -(2**63)), (b"\0\x80" + bytes(7), Status.TOO_LARGE), (b"\xff\x7f" + b"\xff" * 7, Status.TOO_LARGE)):
+        inner = b"\xa0\x03\x04\x01x\xa2" + bytes([2 + len(hint)]) + b"\x02" + bytes([len(hint)]) + hint
+        found = outcome(frames.proxy_message, b"\x30" + bytes([len(inner)]) + inner)
+        expect(found == right if isinstance(right, Status) else tuple(found) == (b"x", None, right), "the hint %s: %s" % (hint.hex(), found))
+    for kind, number in seen.items():
+        expect(number > 1, "%d rows of %s" % (number, kind))
+    print("%d passed, %d failed" % (PASSED, FAILED))
+    return 1 if FAILED else 0
+
+
+if __name__ == "__main__":
+    sys.exit(main())

@@ -1,0 +1,61 @@
+"""Frames around messages: of password changes (RFC 3244, 2), and of messages that go through a proxy to a KDC (MS-KKDCP, 2.2.2)."""
+
+from typing import NamedTuple, Optional
+
+from krb._library import IN, Call, Octets, Refused, Status
+from krb._places import I64_OUT, SIZE_OUT, Telling
+
+__all__ = ["PasswordFrame", "password_frame", "make_password_frame", "ProxyMessage", "proxy_message"]
+
+
+class PasswordFrame(NamedTuple):
+    """A request to change a password, or a reply: a KRB-AP-REQ or KRB-AP-REP, a KRB-PRIV, and how many octets the frame has."""
+
+    ap_message: bytes
+    krb_priv: bytes
+    size: int
+
+
+_password_frame = Telling("krb_password_frame", [IN], [SIZE_OUT] * 4)
+_make_password_frame = Call("krb_make_password_frame", IN, IN, has_room=True)
+
+
+def password_frame(octets: Octets) -> PasswordFrame:
+    """The frame at the start of the octets. Its lengths are compared with nothing; what follows its KRB-PRIV is not looked at.
+
+    Refused: TRUNCATED, OTHER_VERSION (not 1); INVALID, TRUNCATED, UNSUPPORTED of the messages; MEMORY."""
+    octets = bytes(memoryview(octets).cast("B"))
+    ap, ap_size, private, private_size = _password_frame.told(octets)
+    return PasswordFrame(octets[ap : ap + ap_size], octets[private : private + private_size], private + private_size)
+
+
+def make_password_frame(ap_message: Octets, krb_priv: Octets) -> bytes:
+    """The frame of these messages, with its lengths and the version 1.
+
+    Refused: INVALID, TRUNCATED, UNSUPPORTED where one is no encoding; FRAME_SIZE past 65535 octets; MEMORY."""
+    return _make_password_frame.octets(len(ap_message) + len(krb_priv) + 6, ap_message, krb_priv)
+
+
+class ProxyMessage(NamedTuple):
+    """A KDC-PROXY-MESSAGE: the message behind its length in four octets, the realm that it is for, how the proxy is to look for a KDC."""
+
+    kerb_message: bytes
+    target_domain: Optional[bytes]
+    dclocator_hint: Optional[int]
+
+
+_proxy_message = Telling("krb_kdc_proxy_message", [IN], [SIZE_OUT] * 4)
+_proxy_hint = Telling("krb_kdc_proxy_hint", [IN], [I64_OUT])
+
+
+def proxy_message(octets: Octets) -> ProxyMessage:
+    """The message whose one DER encoding the octets are. Refused: INVALID, TRUNCATED, UNSUPPORTED, TOO_LARGE (a hint past 64 bits), MEMORY."""
+    octets = bytes(memoryview(octets).cast("B"))
+    message, message_size, domain, domain_size = _proxy_message.told(octets)
+    hint: Optional[int] = None
+    try:
+        hint = _proxy_hint.told(octets)[0]
+    except Refused as refused:
+        if refused.status != Status.ABSENT:
+            raise
+    return ProxyMessage(octets[message : message + message_size], octets[domain : domain + domain_size] if domain else None, hint)
