@@ -25,6 +25,7 @@
 #ifndef KRB_H
 #define KRB_H
 
+#include <stdbool.h>
 #include <stddef.h>
 #include <stdint.h>
 
@@ -52,7 +53,12 @@ enum {
     KRB_UNSUPPORTED = 11,    /* a length of the indefinite form, or one of more than eight octets */
     KRB_NEVER = 12,          /* of an error that no call meets */
     KRB_SEED_SIZE = 13,      /* the seed has not krb_seed_size octets */
-    KRB_EMPTY = 14           /* n-fold of no octets, or to none */
+    KRB_EMPTY = 14,          /* n-fold of no octets, or to none */
+    KRB_DIRECTION = 15,      /* the other side sent the token: it came back to its sender */
+    KRB_TOKEN = 16,          /* the octets begin with no header of such a token */
+    KRB_SUBKEY = 17,         /* the token's flags say that it is under another key */
+    KRB_SEALED_MIC = 18,     /* a MIC token that is marked as sealed */
+    KRB_SEALED_HEADER = 19   /* what the token seals does not end in its own header */
 };
 
 /* Encryption types (RFC 3961, 8; RFC 3962, 7; RFC 8009, 7). */
@@ -202,6 +208,44 @@ krb_status krb_open_priv_part(int32_t etype, const uint8_t *key, size_t key_size
 krb_status krb_open_cred_part(int32_t etype, const uint8_t *key, size_t key_size, int32_t usage, const uint8_t *sealed,
                               size_t sealed_size, uint8_t *out, size_t room, size_t *size);
 
+/* MIC and Wrap tokens of a context of the GSS-API (RFC 4121, 4.2) under etypes 17 to 20; etype 16 has other tokens (RFC 1964), and is refused with
+   KRB_NUMBER. The key is the context's: the subkey that the acceptor asserted, and then `acceptor_subkey` is true; else the initiator's subkey, else
+   the session key of the ticket. `sent_by_acceptor` says whose tokens are made or taken: one's own to make them, the other side's to verify and to
+   unwrap. Which sequence numbers a context expects is the caller's to say. */
+
+/* The MIC token of a message, 16 octets and a checksum. It does not hold the message.
+   KRB_NUMBER; KRB_KEY_SIZE; KRB_MEMORY. */
+krb_status krb_make_mic(int32_t etype, const uint8_t *key, size_t key_size, bool sent_by_acceptor, bool acceptor_subkey,
+                        uint64_t sequence_number, const uint8_t *message, size_t message_size, uint8_t *out, size_t room, size_t *size);
+
+/* Whether a MIC token holds of the message: KRB_DONE exactly where its flags are those of such a token, and its checksum that of the message and its
+   header; then *sequence_number is the token's, and else 0. Reserved flags are ignored, but the checksum is over them.
+   KRB_NUMBER; then KRB_KEY_SIZE; then KRB_TOKEN, KRB_DIRECTION, KRB_SUBKEY, KRB_SEALED_MIC, KRB_INTEGRITY; KRB_MEMORY. */
+krb_status krb_verify_mic(int32_t etype, const uint8_t *key, size_t key_size, bool sent_by_acceptor, bool acceptor_subkey,
+                          const uint8_t *message, size_t message_size, const uint8_t *token, size_t token_size, uint64_t *sequence_number);
+
+/* The Wrap token of a message, encrypted: 16 octets, and what krb_encrypt answers to 16 octets more than the message's, rotated to the right by
+   `rotation` octets (the RRC, 0 in general). The caller draws a new confounder of 16 octets for each call, as for krb_encrypt.
+   KRB_CONFOUNDER_SIZE; then KRB_NUMBER; then KRB_KEY_SIZE; KRB_MEMORY. */
+krb_status krb_wrap(int32_t etype, const uint8_t *key, size_t key_size, bool sent_by_acceptor, bool acceptor_subkey,
+                    uint64_t sequence_number, uint16_t rotation, const uint8_t *confounder, size_t confounder_size,
+                    const uint8_t *message, size_t message_size, uint8_t *out, size_t room, size_t *size);
+
+/* The Wrap token of a message in the clear: 16 octets, and the message and its checksum, rotated likewise.
+   KRB_NUMBER; KRB_KEY_SIZE; KRB_MEMORY. */
+krb_status krb_wrap_in_clear(int32_t etype, const uint8_t *key, size_t key_size, bool sent_by_acceptor, bool acceptor_subkey,
+                             uint64_t sequence_number, uint16_t rotation, const uint8_t *message, size_t message_size, uint8_t *out,
+                             size_t room, size_t *size);
+
+/* The message that a Wrap token holds, encrypted or not, and whatever its rotation. *sequence_number is the token's, and *sealed whether it was
+   encrypted, where the status is KRB_DONE or KRB_ROOM; else they are 0 and false. The message has fewer octets than the token. `sequence_number` and
+   `sealed` overlap nothing else that is passed, as `size`.
+   KRB_NUMBER; then KRB_KEY_SIZE; then KRB_TOKEN, KRB_DIRECTION, KRB_SUBKEY; then of an encrypted token KRB_SEALED_SIZE, KRB_INTEGRITY, KRB_SEALED_HEADER,
+   and of another KRB_INTEGRITY; KRB_MEMORY. */
+krb_status krb_unwrap(int32_t etype, const uint8_t *key, size_t key_size, bool sent_by_acceptor, bool acceptor_subkey,
+                      const uint8_t *token, size_t token_size, uint64_t *sequence_number, bool *sealed, uint8_t *out, size_t room,
+                      size_t *size);
+
 /* What a status says, in English words and without a line's end. It is not of the library: no export answers a pointer. */
 static inline const char *krb_status_text(krb_status status) {
     static const char *const texts[] = {"done",
@@ -218,7 +262,12 @@ static inline const char *krb_status_text(krb_status status) {
                                         "a length that is not supported",
                                         "an error that no call meets",
                                         "a seed of another size",
-                                        "no octets to fold"};
+                                        "no octets to fold",
+                                        "a token of the other side",
+                                        "no header of such a token",
+                                        "a token under another key",
+                                        "a MIC token that is marked as sealed",
+                                        "another header sealed in"};
     return status < sizeof texts / sizeof *texts ? texts[status] : "an unknown status";
 }
 

@@ -1,6 +1,7 @@
 """Kerberos cryptography and messages, over code that is proved to meet its contracts.
 
 - `krb.crypto`: encryption, checksums, keys of passwords, sizes (RFC 3961, RFC 3962, RFC 8009).
+- `krb.gss`: MIC and Wrap tokens of the GSS-API (RFC 4121).
 - `krb.messages`: whether octets are the one encoding of a message, parts sealed and opened (RFC 4120).
 
 Octets come in as any object with a buffer of octets, as bytes, bytearray or memoryview, and go out as bytes. What a call refuses is
@@ -9,7 +10,7 @@ Octets come in as any object with a buffer of octets, as bytes, bytearray or mem
 The shared object is `libkrbc.so.0` beside this file, or what the variable KRBC_LIBRARY names."""
 
 from krb._library import Refused, Status
-from krb import crypto, messages
+from krb import crypto, gss, messages
 
-__all__ = ["Refused", "Status", "crypto", "messages"]
+__all__ = ["Refused", "Status", "crypto", "gss", "messages"]
 __version__ = "0.1.0"

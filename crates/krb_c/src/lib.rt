@@ -2,5 +2,6 @@
 #![tactic(auto)]
 
 mod crypto;
+mod gss;
 mod parts;
 mod sizes;
