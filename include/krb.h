@@ -28,6 +28,7 @@
 #ifndef KRB_H
 #define KRB_H
 
+#include <stdbool.h>
 #include <stddef.h>
 #include <stdint.h>
 
@@ -56,6 +57,11 @@ enum {
     KRB_NEVER = 12,          /* of an error that no call meets */
     KRB_SEED_SIZE = 13,      /* the seed has not krb_seed_size octets */
     KRB_EMPTY = 14,          /* n-fold of no octets, or to none */
+    KRB_DIRECTION = 15,      /* the other side sent the token: it came back to its sender */
+    KRB_TOKEN = 16,          /* the octets begin with no header of such a token */
+    KRB_SUBKEY = 17,         /* the token's flags say that it is under another key */
+    KRB_SEALED_MIC = 18,     /* a MIC token that is marked as sealed */
+    KRB_SEALED_HEADER = 19,  /* what the token seals does not end in its own header */
     KRB_ABSENT = 20,         /* there is no such field, or no item of this index */
     KRB_TOO_LARGE = 21,      /* 64 bits do not hold the number */
     KRB_OTHER_VERSION = 25,  /* the version of the format is another */
@@ -336,6 +342,44 @@ krb_status krb_neg_token_init(const uint8_t *octets, size_t octets_size, size_t 
 krb_status krb_neg_token_resp(const uint8_t *message, size_t message_size, uint32_t *state, size_t *mechanism_offset, size_t *mechanism_size,
                               size_t *token_offset, size_t *token_size, size_t *mic_offset, size_t *mic_size);
 
+/* MIC and Wrap tokens of a context of the GSS-API (RFC 4121, 4.2) under etypes 17 to 20; etype 16 has other tokens (RFC 1964), and is refused with
+   KRB_NUMBER. The key is the context's: the subkey that the acceptor asserted, and then `acceptor_subkey` is true; else the initiator's subkey, else
+   the session key of the ticket. `sent_by_acceptor` says whose tokens are made or taken: one's own to make them, the other side's to verify and to
+   unwrap. Which sequence numbers a context expects is the caller's to say. */
+
+/* The MIC token of a message, 16 octets and a checksum. It does not hold the message.
+   KRB_NUMBER; KRB_KEY_SIZE; KRB_MEMORY. */
+krb_status krb_make_mic(int32_t etype, const uint8_t *key, size_t key_size, bool sent_by_acceptor, bool acceptor_subkey,
+                        uint64_t sequence_number, const uint8_t *message, size_t message_size, uint8_t *out, size_t room, size_t *size);
+
+/* Whether a MIC token holds of the message: KRB_DONE exactly where its flags are those of such a token, and its checksum that of the message and its
+   header; then *sequence_number is the token's, and else 0. Reserved flags are ignored, but the checksum is over them.
+   KRB_NUMBER; then KRB_KEY_SIZE; then KRB_TOKEN, KRB_DIRECTION, KRB_SUBKEY, KRB_SEALED_MIC, KRB_INTEGRITY; KRB_MEMORY. */
+krb_status krb_verify_mic(int32_t etype, const uint8_t *key, size_t key_size, bool sent_by_acceptor, bool acceptor_subkey,
+                          const uint8_t *message, size_t message_size, const uint8_t *token, size_t token_size, uint64_t *sequence_number);
+
+/* The Wrap token of a message, encrypted: 16 octets, and what krb_encrypt answers to 16 octets more than the message's, rotated to the right by
+   `rotation` octets (the RRC, 0 in general). The caller draws a new confounder of 16 octets for each call, as for krb_encrypt.
+   KRB_CONFOUNDER_SIZE; then KRB_NUMBER; then KRB_KEY_SIZE; KRB_MEMORY. */
+krb_status krb_wrap(int32_t etype, const uint8_t *key, size_t key_size, bool sent_by_acceptor, bool acceptor_subkey,
+                    uint64_t sequence_number, uint16_t rotation, const uint8_t *confounder, size_t confounder_size,
+                    const uint8_t *message, size_t message_size, uint8_t *out, size_t room, size_t *size);
+
+/* The Wrap token of a message in the clear: 16 octets, and the message and its checksum, rotated likewise.
+   KRB_NUMBER; KRB_KEY_SIZE; KRB_MEMORY. */
+krb_status krb_wrap_in_clear(int32_t etype, const uint8_t *key, size_t key_size, bool sent_by_acceptor, bool acceptor_subkey,
+                             uint64_t sequence_number, uint16_t rotation, const uint8_t *message, size_t message_size, uint8_t *out,
+                             size_t room, size_t *size);
+
+/* The message that a Wrap token holds, encrypted or not, and whatever its rotation. *sequence_number is the token's, and *sealed whether it was
+   encrypted, where the status is KRB_DONE or KRB_ROOM; else they are 0 and false. The message has fewer octets than the token. `sequence_number` and
+   `sealed` overlap nothing else that is passed, as `size`.
+   KRB_NUMBER; then KRB_KEY_SIZE; then KRB_TOKEN, KRB_DIRECTION, KRB_SUBKEY; then of an encrypted token KRB_SEALED_SIZE, KRB_INTEGRITY, KRB_SEALED_HEADER,
+   and of another KRB_INTEGRITY; KRB_MEMORY. */
+krb_status krb_unwrap(int32_t etype, const uint8_t *key, size_t key_size, bool sent_by_acceptor, bool acceptor_subkey,
+                      const uint8_t *token, size_t token_size, uint64_t *sequence_number, bool *sealed, uint8_t *out, size_t room,
+                      size_t *size);
+
 /* What a status says, in English words and without a line's end. It is not of the library: no export answers a pointer. */
 static inline const char *krb_status_text(krb_status status) {
     switch (status) {
@@ -354,6 +398,11 @@ static inline const char *krb_status_text(krb_status status) {
     case KRB_NEVER: return "an error that no call meets";
     case KRB_SEED_SIZE: return "a seed of another size";
     case KRB_EMPTY: return "no octets to fold";
+    case KRB_DIRECTION: return "a token of the other side";
+    case KRB_TOKEN: return "no header of such a token";
+    case KRB_SUBKEY: return "a token under another key";
+    case KRB_SEALED_MIC: return "a MIC token that is marked as sealed";
+    case KRB_SEALED_HEADER: return "another header sealed in";
     case KRB_ABSENT: return "no such field, or no item of this index";
     case KRB_TOO_LARGE: return "a number of more than 64 bits";
     case KRB_OTHER_VERSION: return "another version of the format";

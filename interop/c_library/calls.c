@@ -72,7 +72,8 @@ krb_status answered(const struct row *it, struct octets *room, size_t *size) {
 
 krb_status status_of(const char *name) {
     static const char *const names[] = {"DONE", "ROOM", "MEMORY", "NUMBER", "CONFOUNDER_SIZE", "KEY_SIZE", "SEALED_SIZE", "INTEGRITY",
-                                        "PADDING", "INVALID", "TRUNCATED", "UNSUPPORTED", "NEVER", "SEED_SIZE", "EMPTY"};
+                                        "PADDING", "INVALID", "TRUNCATED", "UNSUPPORTED", "NEVER", "SEED_SIZE", "EMPTY",
+                                        "DIRECTION", "TOKEN", "SUBKEY", "SEALED_MIC", "SEALED_HEADER"};
     for (unsigned k = 0; k < sizeof names / sizeof *names; k++)
         if (!strcmp(name, names[k])) return k;
     die("a table has a status that is none");

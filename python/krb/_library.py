@@ -27,6 +27,11 @@ class Status(enum.IntEnum):
     NEVER = 12
     SEED_SIZE = 13
     EMPTY = 14
+    DIRECTION = 15
+    TOKEN = 16
+    SUBKEY = 17
+    SEALED_MIC = 18
+    SEALED_HEADER = 19
     ABSENT = 20
     TOO_LARGE = 21
     OTHER_VERSION = 25
@@ -50,6 +55,11 @@ TEXTS = {
     Status.NEVER: "an error that no call meets",
     Status.SEED_SIZE: "a seed of another size",
     Status.EMPTY: "no octets to fold",
+    Status.DIRECTION: "a token of the other side",
+    Status.TOKEN: "no header of such a token",
+    Status.SUBKEY: "a token under another key",
+    Status.SEALED_MIC: "a MIC token that is marked as sealed",
+    Status.SEALED_HEADER: "another header sealed in",
     Status.ABSENT: "no such field, or no item of this index",
     Status.TOO_LARGE: "a number of more than 64 bits",
     Status.OTHER_VERSION: "another version of the format",
@@ -78,8 +88,20 @@ class Key(ctypes.Structure):
     _fields_ = [("etype", ctypes.c_int32), ("ke", ctypes.c_uint8 * 32), ("ki", ctypes.c_uint8 * 32)]
 
 
-NUMBER, SIZE, IN, KEY = "number", "size", "in", "key"
-_TYPES = {NUMBER: [ctypes.c_int32], SIZE: [ctypes.c_size_t], IN: [ctypes.c_char_p, ctypes.c_size_t], KEY: [ctypes.POINTER(Key)]}
+NUMBER, SIZE, IN, KEY, BOOL, U16, WORD = "number", "size", "in", "key", "bool", "u16", "word"
+TELLS_WORD, TELLS_BOOL = "tells a word", "tells a bool"
+_TYPES = {
+    NUMBER: [ctypes.c_int32],
+    SIZE: [ctypes.c_size_t],
+    IN: [ctypes.c_char_p, ctypes.c_size_t],
+    KEY: [ctypes.POINTER(Key)],
+    BOOL: [ctypes.c_bool],
+    U16: [ctypes.c_uint16],
+    WORD: [ctypes.c_uint64],
+    TELLS_WORD: [ctypes.POINTER(ctypes.c_uint64)],
+    TELLS_BOOL: [ctypes.POINTER(ctypes.c_bool)],
+}
+_BITS = {U16: 16, WORD: 64}
 _OUT = [ctypes.c_void_p, ctypes.c_size_t, ctypes.POINTER(ctypes.c_size_t)]
 
 
@@ -97,6 +119,13 @@ def _number(value: int) -> int:
     return value
 
 
+def _unsigned(value: int, bits: int) -> int:
+    """A number of so many bits. ctypes would cut one that has more."""
+    if not 0 <= value < 2**bits:
+        raise ValueError("a number that has not %d bits" % bits)
+    return value
+
+
 def _given(kinds: List[str], arguments: Any) -> List[Any]:
     given: List[Any] = []
     for kind, argument in zip(kinds, arguments):
@@ -105,6 +134,8 @@ def _given(kinds: List[str], arguments: Any) -> List[Any]:
             given += [octets, len(octets)]
         elif kind == NUMBER:
             given.append(_number(argument))
+        elif kind in _BITS:
+            given.append(_unsigned(argument, _BITS[kind]))
         else:
             given.append(argument)
     return given

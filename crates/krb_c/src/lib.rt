@@ -4,6 +4,7 @@
 mod crypto;
 mod fields;
 mod frames;
+mod gss;
 mod kept;
 mod parts;
 mod sizes;
