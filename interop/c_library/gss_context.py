@@ -229,7 +229,8 @@ class Pair:
     def __init__(self, sender, receiver):
         from krb import gss
 
-        self.sender, self.receiver, self.number = sender, receiver, sender.number
+        # MIT counts the tokens that it makes; ours have numbers of their own, which a context without replay detection takes.
+        self.sender, self.receiver, self.number, self.own_number = sender, receiver, sender.number, 2**63
         self.key = gss.TokenKey(sender.etype, sender.key, gss.Sender(sender.acceptor), sender.subkey)
         self.other = self.key._replace(sender=gss.Sender(not sender.acceptor))
         self.name = "etype %d, %s, %s" % (sender.etype, self.key.sender.name.lower(), "acceptor's subkey" if sender.subkey else "initiator's subkey")
@@ -237,6 +238,10 @@ class Pair:
     def next_number(self):
         self.number += 1
         return self.number - 1
+
+    def next_own_number(self):
+        self.own_number += 1
+        return self.own_number
 
     def expect(self, right, what):
         expect(right, "%s: %s" % (self.name, what))
@@ -263,10 +268,10 @@ class Pair:
         """Our tokens, in MIT."""
         from krb import gss
 
-        self.receiver.mit.verify_signature(message, gss.make_mic(self.key, self.next_number(), message))
+        self.receiver.mit.verify_signature(message, gss.make_mic(self.key, self.next_own_number(), message))
         for count in (0, 1, 28, 1000):
             for sealed, make in ((False, gss.wrap_in_clear), (True, gss.wrap)):
-                held = self.receiver.mit.unwrap(make(self.key, self.next_number(), message, count))
+                held = self.receiver.mit.unwrap(make(self.key, self.next_own_number(), message, count))
                 self.expect(held.message == message and bool(held.encrypted) == sealed, "MIT finds another message in our token, rotated by %d" % count)
 
     def changed(self, message):
@@ -274,13 +279,13 @@ class Pair:
         from krb import gss
 
         for sealed in (False, True):
-            token = gss.wrap(self.key, self.number, message) if sealed else gss.wrap_in_clear(self.key, self.number, message)
+            token = gss.wrap(self.key, self.own_number, message) if sealed else gss.wrap_in_clear(self.key, self.own_number, message)
             for place, bad in flipped(token):
                 self.expect(not is_taken(gss.unwrap, self.key, bad), "a Wrap token is taken with octet %d another" % place)
                 self.expect(not is_taken(self.receiver.mit.unwrap, bad), "MIT takes a Wrap token with octet %d another" % place)
             for size in range(len(token)):
                 self.expect(not is_taken(gss.unwrap, self.key, token[:size]), "a Wrap token is taken of %d octets" % size)
-        token = gss.make_mic(self.key, self.number, message)
+        token = gss.make_mic(self.key, self.own_number, message)
         for place, bad in flipped(token):
             self.expect(not is_taken(gss.verify_mic, self.key, message, bad), "a MIC token is taken with octet %d another" % place)
             self.expect(not is_taken(self.receiver.mit.verify_signature, message, bad), "MIT takes a MIC token with octet %d another" % place)
