@@ -21,10 +21,10 @@
    KRB_ROOM; the sizes below say how much room suffices.
 
    What the caller owes, and nothing checks: pointers and counts as said; `size`, `offset` and `number` are not null; `out` and what these
-   point to overlap nothing else that is passed (inputs may overlap one another, so nothing is sealed in place); malloc, realloc and free, which the library calls, are of one
-   allocator; no call is made from a signal handler, nor in the forked child of a process with threads. Threads may make calls at once where
-   none is passed another's `out` or `size`. Keys and opened octets are not wiped from memory that the library has freed, and no time of
-   a call is promised: docs/SECURITY.md says what was measured. */
+   point to overlap nothing else that is passed (inputs may overlap one another, so nothing is sealed in place); malloc, realloc and free,
+   which the library calls, are of one allocator; no call is made from a signal handler, nor in the forked child of a process with threads.
+   Threads may make calls at once where none is passed another's `out` or `size`. Keys and opened octets are not wiped from memory that the
+   library has freed, and no time of a call is promised: docs/SECURITY.md says what was measured. */
 #ifndef KRB_H
 #define KRB_H
 
@@ -111,33 +111,38 @@ enum {
 
 /* Fields of messages and tickets (RFC 4120, 5). Where a message has no such field krb_get_.. answers KRB_ABSENT. */
 enum {
-    KRB_FIELD_REALM = 1,                /* realm: of the server in a KDC-REQ (5.4.1) and a KRB-ERROR (5.9.1); of a ticket (5.3) */
-    KRB_FIELD_CLIENT_REALM = 2,         /* crealm: KDC-REP (5.4.2), KRB-ERROR */
-    KRB_FIELD_CLIENT_NAME = 3,          /* cname: KDC-REQ, KDC-REP, KRB-ERROR; its components by index */
-    KRB_FIELD_SERVER_NAME = 4,          /* sname: KDC-REQ, KRB-ERROR, ticket; its components by index */
-    KRB_FIELD_KDC_OPTIONS = 5,          /* kdc-options: KDC-REQ; the content of a BIT STRING (X.690, 8.6.2) */
-    KRB_FIELD_AP_OPTIONS = 6,           /* ap-options: AP-REQ (5.5.1); likewise */
-    KRB_FIELD_ETYPE = 7,                /* etype: KDC-REQ; by index, the preferred first; a number */
-    KRB_FIELD_NONCE = 8,                /* nonce: KDC-REQ; a number */
-    KRB_FIELD_FROM = 9,                 /* from: KDC-REQ; a time */
-    KRB_FIELD_TILL = 10,                /* till: KDC-REQ; a time */
-    KRB_FIELD_RENEW_TILL = 11,          /* rtime: KDC-REQ; a time */
-    KRB_FIELD_CLIENT_TIME = 12,         /* ctime: KRB-ERROR; a time */
-    KRB_FIELD_CLIENT_MICROSECONDS = 13, /* cusec: KRB-ERROR; a number */
-    KRB_FIELD_SERVER_TIME = 14,         /* stime: KRB-ERROR; a time */
-    KRB_FIELD_SERVER_MICROSECONDS = 15, /* susec: KRB-ERROR; a number */
-    KRB_FIELD_ERROR_CODE = 16,          /* error-code: KRB-ERROR; a number */
-    KRB_FIELD_ERROR_TEXT = 17,          /* e-text: KRB-ERROR */
-    KRB_FIELD_ERROR_DATA = 18,          /* e-data: KRB-ERROR */
-    KRB_FIELD_SEALED_ETYPE = 19,        /* etype of the sealed part (5.2.9): KDC-REP, AP-REQ, AP-REP, KRB-PRIV, KRB-CRED, ticket; a number */
-    KRB_FIELD_SEALED_KVNO = 20,         /* kvno of the sealed part; a number */
-    KRB_FIELD_SEALED_CIPHER = 21,       /* cipher of the sealed part: what krb_open_.. takes */
-    KRB_FIELD_TICKET = 22,              /* a whole ticket: KDC-REP, AP-REQ; KRB-CRED by index */
-    KRB_FIELD_TICKET_REALM = 23,        /* realm of the ticket in a KDC-REP or an AP-REQ */
-    KRB_FIELD_TICKET_SERVER_NAME = 24,  /* sname of that ticket; its components by index */
-    KRB_FIELD_TICKET_ETYPE = 25,        /* etype of that ticket's sealed part; a number */
-    KRB_FIELD_TICKET_KVNO = 26,         /* kvno of that part; a number */
-    KRB_FIELD_TICKET_CIPHER = 27        /* cipher of that part */
+    KRB_FIELD_REALM = 1,                    /* realm: of the server in a KDC-REQ (5.4.1) and a KRB-ERROR (5.9.1); of a ticket (5.3) */
+    KRB_FIELD_CLIENT_REALM = 2,             /* crealm: KDC-REP (5.4.2), KRB-ERROR */
+    KRB_FIELD_CLIENT_NAME = 3,              /* cname: KDC-REQ, KDC-REP, KRB-ERROR; its components by index */
+    KRB_FIELD_SERVER_NAME = 4,              /* sname: KDC-REQ, KRB-ERROR, ticket; its components by index */
+    KRB_FIELD_KDC_OPTIONS = 5,              /* kdc-options: KDC-REQ; the content of a BIT STRING (X.690, 8.6.2) */
+    KRB_FIELD_AP_OPTIONS = 6,               /* ap-options: AP-REQ (5.5.1); likewise */
+    KRB_FIELD_ETYPE = 7,                    /* etype: KDC-REQ; by index, the preferred first; a number */
+    KRB_FIELD_NONCE = 8,                    /* nonce: KDC-REQ; a number */
+    KRB_FIELD_FROM = 9,                     /* from: KDC-REQ; a time */
+    KRB_FIELD_TILL = 10,                    /* till: KDC-REQ; a time */
+    KRB_FIELD_RENEW_TILL = 11,              /* rtime: KDC-REQ; a time */
+    KRB_FIELD_CLIENT_TIME = 12,             /* ctime: KRB-ERROR; a time */
+    KRB_FIELD_CLIENT_MICROSECONDS = 13,     /* cusec: KRB-ERROR; a number */
+    KRB_FIELD_SERVER_TIME = 14,             /* stime: KRB-ERROR; a time */
+    KRB_FIELD_SERVER_MICROSECONDS = 15,     /* susec: KRB-ERROR; a number */
+    KRB_FIELD_ERROR_CODE = 16,              /* error-code: KRB-ERROR; a number */
+    KRB_FIELD_ERROR_TEXT = 17,              /* e-text: KRB-ERROR */
+    KRB_FIELD_ERROR_DATA = 18,              /* e-data: KRB-ERROR */
+    KRB_FIELD_SEALED_ETYPE = 19,            /* etype of the sealed part (5.2.9): KDC-REP, AP-REQ, AP-REP, KRB-PRIV, KRB-CRED, ticket; a number */
+    KRB_FIELD_SEALED_KVNO = 20,             /* kvno of the sealed part; a number */
+    KRB_FIELD_SEALED_CIPHER = 21,           /* cipher of the sealed part: what krb_open_.. takes */
+    KRB_FIELD_TICKET = 22,                  /* a whole ticket: KDC-REP, AP-REQ; KRB-CRED by index */
+    KRB_FIELD_TICKET_REALM = 23,            /* realm of the ticket in a KDC-REP or an AP-REQ */
+    KRB_FIELD_TICKET_SERVER_NAME = 24,      /* sname of that ticket; its components by index */
+    KRB_FIELD_TICKET_ETYPE = 25,            /* etype of that ticket's sealed part; a number */
+    KRB_FIELD_TICKET_KVNO = 26,             /* kvno of that part; a number */
+    KRB_FIELD_TICKET_CIPHER = 27,           /* cipher of that part */
+    KRB_FIELD_CLIENT_NAME_TYPE = 28,        /* name-type of cname; a number */
+    KRB_FIELD_SERVER_NAME_TYPE = 29,        /* name-type of sname; a number */
+    KRB_FIELD_TICKET_SERVER_NAME_TYPE = 30, /* name-type of the sname of the ticket in a KDC-REP or an AP-REQ; a number */
+    KRB_FIELD_DATA_TYPE = 31,               /* padata-type: KDC-REQ, KDC-REP (5.2.7); by index; a number */
+    KRB_FIELD_DATA_VALUE = 32               /* padata-value: KDC-REQ, KDC-REP; by index */
 };
 
 /* Sizes, in octets. Each is 0 where no type has the number.

@@ -7,10 +7,10 @@ import sys
 
 TEXT, TIME, INTEGER, BITS, OCTETS = 0x1B, 0x18, 0x02, 0x03, 0x04
 # The fields of a ticket and of a sealed part, by the numbers of krb.h: the tags of the fields on the way, `[n]` of a SEQUENCE each, and what is there;
-# a list has its items by index.
-TICKET = {1: ([1], TEXT), 4: ([2, 1], [TEXT]), 19: ([3, 0], INTEGER), 20: ([3, 1], INTEGER), 21: ([3, 2], OCTETS)}
+# a list has its items by index, or a field of each.
+TICKET = {1: ([1], TEXT), 4: ([2, 1], [TEXT]), 29: ([2, 0], INTEGER), 19: ([3, 0], INTEGER), 20: ([3, 1], INTEGER), 21: ([3, 2], OCTETS)}
 SEALED = {19: 0, 20: 1, 21: 2}
-WITHIN = {23: 1, 24: 4, 25: 19, 26: 20, 27: 21}
+WITHIN = {23: 1, 24: 4, 30: 29, 25: 19, 26: 20, 27: 21}
 
 
 def sealed(tag):
@@ -35,8 +35,20 @@ REQUEST = {
     11: ([4, 6], TIME),
     8: ([4, 7], INTEGER),
     7: ([4, 8], [INTEGER]),
+    28: ([4, 1, 0], INTEGER),
+    29: ([4, 3, 0], INTEGER),
+    31: ([3], [(1, INTEGER)]),
+    32: ([3], [(2, OCTETS)]),
 }
-REPLY = {2: ([3], TEXT), 3: ([4, 1], [TEXT]), **ticket(5), **sealed(6)}
+REPLY = {
+    2: ([3], TEXT),
+    3: ([4, 1], [TEXT]),
+    28: ([4, 0], INTEGER),
+    31: ([2], [(1, INTEGER)]),
+    32: ([2], [(2, OCTETS)]),
+    **ticket(5),
+    **sealed(6),
+}
 FIELDS = {
     1: TICKET,
     10: REQUEST,
@@ -59,10 +71,12 @@ FIELDS = {
         4: ([10, 1], [TEXT]),
         17: ([11], TEXT),
         18: ([12], OCTETS),
+        28: ([8, 0], INTEGER),
+        29: ([10, 0], INTEGER),
     },
 }
-NUMBERS = {7, 8, 13, 15, 16, 19, 20, 25, 26}
-MOST_FIELD = 27
+NUMBERS = {7, 8, 13, 15, 16, 19, 20, 25, 26, 28, 29, 30, 31}
+MOST_FIELD = 32
 
 
 def element(octets, start):
@@ -106,6 +120,8 @@ def found(octets, number, path, kind, index):
         start, tag, content, after = all_items[index]
         if kind[0] is None:
             return start, after
+        if isinstance(kind[0], tuple):
+            return tagged(octets, tagged(octets, (content, after), 0xA0 + kind[0][0]), kind[0][1])
         assert tag == kind[0]
         return content, after
     return place if kind is None else tagged(octets, place, kind)

@@ -4,7 +4,7 @@
 #include <stdlib.h>
 #include <string.h>
 
-enum { MOST_FIELD = 27 };
+enum { MOST_FIELD = 32 };
 
 struct answer {
     size_t offset, size;
@@ -26,7 +26,8 @@ static int is_refused(const struct answer *it, krb_status place, krb_status valu
 static int is_number(int32_t field) {
     return field == KRB_FIELD_ETYPE || field == KRB_FIELD_NONCE || field == KRB_FIELD_CLIENT_MICROSECONDS || field == KRB_FIELD_SERVER_MICROSECONDS
         || field == KRB_FIELD_ERROR_CODE || field == KRB_FIELD_SEALED_ETYPE || field == KRB_FIELD_SEALED_KVNO || field == KRB_FIELD_TICKET_ETYPE
-        || field == KRB_FIELD_TICKET_KVNO;
+        || field == KRB_FIELD_TICKET_KVNO || field == KRB_FIELD_CLIENT_NAME_TYPE || field == KRB_FIELD_SERVER_NAME_TYPE
+        || field == KRB_FIELD_TICKET_SERVER_NAME_TYPE || field == KRB_FIELD_DATA_TYPE;
 }
 
 /* Each cut is refused, and so are octets behind, other numbers of messages and numbers of no field; the octets stay as they were. */
@@ -47,7 +48,7 @@ static void try_refusals(int32_t message, const struct octets *whole) {
         EXPECT(is_refused(&it, KRB_INVALID, is_number(field) ? KRB_INVALID : KRB_NUMBER), "field %d of message %d with an octet behind: %u", field, message, it.place);
     }
     drop(&more);
-    static const int32_t others[] = {0, -1, 28, 99, INT32_MIN, INT32_MAX, 256 + 1}, messages[] = {0, -1, 2, 3, 16, 20, 23, 25, 29, 31, 97, 256 + 10, INT32_MIN, INT32_MAX};
+    static const int32_t others[] = {0, -1, 33, 99, INT32_MIN, INT32_MAX, 256 + 1}, messages[] = {0, -1, 2, 3, 16, 20, 23, 25, 29, 31, 97, 256 + 10, INT32_MIN, INT32_MAX};
     for (unsigned k = 0; k < sizeof others / sizeof *others; k++) {
         struct answer it = answer_of(message, others[k], 0, whole);
         EXPECT(is_refused(&it, KRB_NUMBER, KRB_NUMBER), "field %d of message %d: %u", others[k], message, it.place);

@@ -124,7 +124,7 @@ def try_other_fields(number, octets):
     """Indices that C does not hold, numbers of no field, octets that are cut."""
     for index in (-1, 2**64, 2**70, -(2**70)):
         expect(outcome(messages.field_octets, number, messages.Field.ETYPE, octets, index) == Status.ABSENT, "index %d" % index)
-    for field in (0, -1, 28, 2**31, 2**64 + 1):
+    for field in (0, -1, 33, 2**31, 2**64 + 1):
         expect(outcome(messages.field, number, field, octets) == Status.NUMBER, "field %d" % field)
     expect(outcome(messages.field, number, messages.Field.NONCE, octets[:-1]) == Status.TRUNCATED, "a field of a cut message")
     expect(messages.field(number, messages.Field.REALM, memoryview(octets)) == messages.field(number, messages.Field.REALM, bytearray(octets)), "forms of octets")

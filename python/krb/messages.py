@@ -65,6 +65,11 @@ class Field(enum.IntEnum):
     TICKET_ETYPE = 25
     TICKET_KVNO = 26
     TICKET_CIPHER = 27
+    CLIENT_NAME_TYPE = 28
+    SERVER_NAME_TYPE = 29
+    TICKET_SERVER_NAME_TYPE = 30
+    DATA_TYPE = 31
+    DATA_VALUE = 32
 
 
 class Part(enum.Enum):
@@ -90,6 +95,10 @@ NUMBERS = frozenset(
         Field.SEALED_KVNO,
         Field.TICKET_ETYPE,
         Field.TICKET_KVNO,
+        Field.CLIENT_NAME_TYPE,
+        Field.SERVER_NAME_TYPE,
+        Field.TICKET_SERVER_NAME_TYPE,
+        Field.DATA_TYPE,
     }
 )
 """The fields that are numbers."""

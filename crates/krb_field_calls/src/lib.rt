@@ -6,8 +6,6 @@ mod kind;
 mod numbers;
 mod octets;
 mod statuses;
-#[cfg(test)]
-mod tests;
 
 pub use by_message::{number, place};
 pub use numbers::get_number;
