@@ -326,6 +326,11 @@ krb_status krb_kdc_proxy_message(const uint8_t *octets, size_t octets_size, size
 /* Its dclocator-hint. As krb_kdc_proxy_message; then KRB_ABSENT where there is none, KRB_TOO_LARGE where 64 bits do not hold it. */
 krb_status krb_kdc_proxy_hint(const uint8_t *octets, size_t octets_size, int64_t *hint);
 
+/* The KDC-PROXY-MESSAGE of this kerb-message and this target-domain, which is left out where it has no octets; it has no dclocator-hint.
+   KRB_INVALID where target-domain is not of ASCII; KRB_MEMORY. */
+krb_status krb_make_kdc_proxy_message(const uint8_t *message, size_t message_size, const uint8_t *domain, size_t domain_size, uint8_t *out,
+                                      size_t room, size_t *size);
+
 /* SPNEGO (RFC 4178, 4.2). A field that is absent has the place 0 and 0; the offset of one that is there is not 0.
 
    The token that begins a negotiation, NegTokenInit in its frame (RFC 2743, 3.1), whose mechanism is not compared: the places of mechTypes, its
@@ -346,6 +351,12 @@ krb_status krb_neg_token_init(const uint8_t *octets, size_t octets_size, size_t 
                               size_t *token_offset, size_t *token_size, size_t *mic_offset, size_t *mic_size);
 krb_status krb_neg_token_resp(const uint8_t *message, size_t message_size, uint32_t *state, size_t *mechanism_offset, size_t *mechanism_size,
                               size_t *token_offset, size_t *token_size, size_t *mic_offset, size_t *mic_size);
+
+/* The token that begins a negotiation: of the mechanisms' OBJECT IDENTIFIERs in DER, one behind the other, of mechToken and of mechListMIC. What has
+   no octets is left out, and reqFlags are.
+   Where the mechanisms are no such elements: KRB_INVALID, KRB_TRUNCATED, KRB_UNSUPPORTED; KRB_MEMORY. */
+krb_status krb_make_neg_token_init(const uint8_t *mechanisms, size_t mechanisms_size, const uint8_t *token, size_t token_size,
+                                   const uint8_t *mic, size_t mic_size, uint8_t *out, size_t room, size_t *size);
 
 /* MIC and Wrap tokens of a context of the GSS-API (RFC 4121, 4.2) under etypes 17 to 20; etype 16 has other tokens (RFC 1964), and is refused with
    KRB_NUMBER. The key is the context's: the subkey that the acceptor asserted, and then `acceptor_subkey` is true; else the initiator's subkey, else

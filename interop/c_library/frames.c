@@ -108,7 +108,9 @@ static void try_made(const char *kind, const struct octets *whole, const struct 
 
 static void try_row(const char *kind, const struct octets *whole) {
     struct told told = told_of(kind, whole);
-    EXPECT(told.status == KRB_DONE, "%s is refused: status %u", kind, told.status);
+    size_t count = 0;
+    int is_empty = !strcmp(kind, "pac") && krb_pac_count(whole->at, whole->count, &count) == KRB_DONE && count == 0;
+    EXPECT(told.status == (is_empty ? KRB_ABSENT : KRB_DONE), "%s is refused: status %u", kind, told.status);
     for (int k = 0; k < NUMBERS; k += 2) EXPECT(is_place(whole, told.at[k], told.at[k + 1]), "%s: a place outside", kind);
     if (!strcmp(kind, "pac")) {
         size_t least = least_of(whole);

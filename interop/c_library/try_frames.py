@@ -220,6 +220,7 @@ def try_changed(call, right, octets, count, what):
 def try_password(octets, count):
     right = password_of(octets)
     expect(tried(frames.password_frame, octets) == right, "a password frame")
+    octets = octets[: right[2]]
     expect(tried(frames.password_frame, octets + b"behind") == right, "a password frame with octets behind it")
     lengths = len(octets).to_bytes(2, "big") + b"\0\1" + len(right[0]).to_bytes(2, "big")
     expect(frames.make_password_frame(*right[:2]) == lengths + octets[6:], "a password frame is made otherwise")
@@ -250,7 +251,38 @@ def try_made():
         expect(outcome(spnego.token, b"\x60" + bytes([len(whole)]) + whole) == status, "a token of the mechanism %s" % mechanism.hex())
     for call in (spnego.token, spnego.neg_token_init, spnego.neg_token_resp, frames.proxy_message, frames.password_frame, pac.buffers):
         expect(outcome(call, b"") == Status.TRUNCATED, "%s of no octets" % call.__name__)
-        expect(isinstance(outcome(call, bytes(100000)), Status), "%s of zeros" % call.__name__)
+        expect(isinstance(outcome(call, bytes(100000)), Status) or call is pac.buffers, "%s of zeros" % call.__name__)
+    expect(pac.buffers(bytes(8)) == [], "a PAC of no buffers")
+
+
+def try_made_messages():
+    """A NegTokenInit and a KDC-PROXY-MESSAGE, of the octets that X.690 gives."""
+    both = bytes.fromhex("06092a864886f712010202060a2b06010401823702020a")
+    fields = {
+        ((), b"", b""): b"",
+        ((spnego.KERBEROS, bytes.fromhex("2b06010401823702020a")), b"", b""): b"\xa0\x19\x30\x17" + both,
+        ((), b"token", b""): b"\xa2\x07\x04\x05token",
+        ((), b"", b"mic"): b"\xa3\x05\x04\x03mic",
+        ((spnego.KERBEROS, bytes.fromhex("2b06010401823702020a")), b"token", b"mic"): b"\xa0\x19\x30\x17" + both + b"\xa2\x07\x04\x05token\xa3\x05\x04\x03mic",
+    }
+    for arguments, inner in fields.items():
+        tail = b"\xa0" + bytes([len(inner) + 2]) + b"\x30" + bytes([len(inner)]) + inner
+        whole = b"\x60" + bytes([len(tail) + 8]) + b"\x06\x06" + spnego.SPNEGO + tail
+        made = outcome(spnego.make_neg_token_init, *arguments)
+        expect(made == whole, "a NegTokenInit of %s: %s" % (arguments, made))
+        expect(tuple(spnego.neg_token_init(whole)) == (list(arguments[0]) or None, arguments[1] or None, arguments[2] or None), "a NegTokenInit of %s is read" % (arguments,))
+    for size in (113, 114, 127, 128, 65536):
+        made = spnego.make_neg_token_init([spnego.KERBEROS], bytes(size), b"m")
+        expect(init_of(made) == ([spnego.KERBEROS], bytes(size), b"m") and tuple(spnego.neg_token_init(made)) == init_of(made), "a mechToken of %d octets" % size)
+    for wrong, status in ((b"", 9), (b"\x80\x01", 9), (b"\x2a" + b"\xff" * 9 + b"\x7f", 11)):
+        expect(outcome(spnego.make_neg_token_init, [wrong]) == status, "a NegTokenInit of the mechanism %s" % wrong.hex())
+    for message, realm, whole in ((b"abc", b"", "3007a0050403616263"), (b"", b"EXAMPLE.COM", "3013a0020400a10d1b0b4558414d504c452e434f4d"), (b"x", b"R", "300aa003040178a1031b0152")):
+        made = frames.make_proxy_message(message, realm)
+        expect(made.hex() == whole and tuple(frames.proxy_message(made)) == (message, realm or None, None), "a KDC-PROXY-MESSAGE: %s" % made.hex())
+    for size in (114, 127, 128, 65536):
+        made = frames.make_proxy_message(bytes(size), b"EXAMPLE.COM")
+        expect(proxy_of(made) == (bytes(size), b"EXAMPLE.COM", None) and tuple(frames.proxy_message(made)) == proxy_of(made), "a message of %d octets" % size)
+    expect(outcome(frames.make_proxy_message, b"x", b"caf\xc3\xa9") == Status.INVALID, "a realm that is not of ASCII")
 
 
 def try_lengths(octets):
@@ -303,6 +335,7 @@ def main():
             try_cuts(frames.proxy_message, octets, "a KDC-PROXY-MESSAGE")
             try_changed(frames.proxy_message, proxy_of, octets, count, "a KDC-PROXY-MESSAGE")
     try_made()
+    try_made_messages()
     for hint, right in ((bytes(1), 0), (b"\x7f" + b"\xff" * 7, 2**63 - 1), (b"\x80" + bytes(7), -(2**63)), (b"\0\x80" + bytes(7), Status.TOO_LARGE), (b"\xff\x7f" + b"\xff" * 7, Status.TOO_LARGE)):
         inner = b"\xa0\x03\x04\x01x\xa2" + bytes([2 + len(hint)]) + b"\x02" + bytes([len(hint)]) + hint
         found = outcome(frames.proxy_message, b"\x30" + bytes([len(inner)]) + inner)

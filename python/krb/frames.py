@@ -5,7 +5,7 @@ from typing import NamedTuple, Optional
 from krb._library import IN, Call, Octets, Refused, Status
 from krb._places import I64_OUT, SIZE_OUT, Telling
 
-__all__ = ["PasswordFrame", "password_frame", "make_password_frame", "ProxyMessage", "proxy_message"]
+__all__ = ["PasswordFrame", "password_frame", "make_password_frame", "ProxyMessage", "proxy_message", "make_proxy_message"]
 
 
 class PasswordFrame(NamedTuple):
@@ -59,3 +59,13 @@ def proxy_message(octets: Octets) -> ProxyMessage:
         if refused.status != Status.ABSENT:
             raise
     return ProxyMessage(octets[message : message + message_size], octets[domain : domain + domain_size] if domain else None, hint)
+
+
+_make_proxy_message = Call("krb_make_kdc_proxy_message", IN, IN, has_room=True)
+
+
+def make_proxy_message(kerb_message: Octets, target_domain: Octets = b"") -> bytes:
+    """The KDC-PROXY-MESSAGE of this message, which begins with its length in four octets, for this realm, which is left out where it is empty.
+
+    Refused: INVALID where the realm is not of ASCII; MEMORY."""
+    return _make_proxy_message.octets(len(kerb_message) + len(target_domain) + 48, kerb_message, target_domain)

@@ -3,12 +3,12 @@
 A mechanism is the content of its OBJECT IDENTIFIER, as `KERBEROS` and `SPNEGO` are."""
 
 import enum
-from typing import List, NamedTuple, Optional, Union
+from typing import Iterable, List, NamedTuple, Optional, Union
 
 from krb._library import IN, Call, Octets
 from krb._places import SIZE_OUT, U32_OUT, Telling
 
-__all__ = ["KERBEROS", "SPNEGO", "Token", "token", "make_token", "NegState", "NegTokenInit", "NegTokenResp", "neg_token_init", "neg_token_resp"]
+__all__ = ["KERBEROS", "SPNEGO", "Token", "token", "make_token", "NegState", "NegTokenInit", "NegTokenResp", "neg_token_init", "neg_token_resp", "make_neg_token_init"]
 
 KERBEROS = bytes.fromhex("2a864886f712010202")
 SPNEGO = bytes.fromhex("2b0601050502")
@@ -102,3 +102,13 @@ def neg_token_resp(octets: Octets) -> NegTokenResp:
     state, *places = _resp.told(octets)
     named: Union[NegState, int, None] = None if state == 256 else -1 if state == 257 else NegState(state) if state < 4 else state
     return NegTokenResp(named, _field(octets, *places[0:2]), _field(octets, *places[2:4]), _field(octets, *places[4:6]))
+
+
+_make_init = Call("krb_make_neg_token_init", IN, IN, IN, has_room=True)
+
+
+def make_neg_token_init(mechanisms: Iterable[Octets], mech_token: Octets = b"", mech_list_mic: Octets = b"") -> bytes:
+    """The token that begins a negotiation, of the mechanisms, each shorter than 128 octets, and of a token and a MIC, which are left out where they
+    are empty. Refused: INVALID, UNSUPPORTED where a mechanism is none; MEMORY."""
+    listed = b"".join(b"\x06" + bytes([len(one)]) + bytes(one) for one in mechanisms)
+    return _make_init.octets(len(listed) + len(mech_token) + len(mech_list_mic) + 96, listed, mech_token, mech_list_mic)

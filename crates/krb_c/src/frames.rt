@@ -1,10 +1,13 @@
 //! Frames of messages. `krb.h` declares these calls.
 
+ghost use Rattle.std.specs.Prelude.{[]};
 ghost use Rattle.krb_calls.specs.Handing.{IsAnswered};
+ghost use Rattle.krb_part_calls.specs.Messages.{RefusesReading};
+ghost use Rattle.krb_frame_calls.specs.Making.{IsMade, made_init, present};
 ghost use Rattle.krb_frame_calls.specs.Negotiation.{IsAnswerAt, IsInitAt};
 ghost use Rattle.krb_frame_calls.specs.Pac.{IsPacBuffer, IsPacCount};
 ghost use Rattle.krb_frame_calls.specs.Password.{IsFrameAt, IsMadeFrame, RefusesMaking};
-ghost use Rattle.krb_frame_calls.specs.Proxy.{IsProxyAt, IsProxyHint};
+ghost use Rattle.krb_frame_calls.specs.Proxy.{IsProxyAt, IsProxyHint, proxy_octets};
 ghost use Rattle.krb_frame_calls.specs.Token.{IsMadeToken, IsTokenAt, RefusesMechanism};
 
 use krb_der::DerEncode;
@@ -185,4 +188,35 @@ pub extern "C" fn krb_neg_token_resp(
         mic_offset,
         mic_size,
     )
+}
+
+/// `krb_make_kdc_proxy_message` of `krb.h`: a KDC-PROXY-MESSAGE of these fields (MS-KKDCP, 2.2.2).
+#[unsafe(no_mangle)]
+pub extern "C" fn krb_make_kdc_proxy_message(
+    alloc: Global,
+    message: &[u8],
+    domain: &[u8],
+    out: &mut [u8],
+    size: &mut usize,
+) -> u32
+    ensures { IsAnswered (IsMade ⟦<KdcProxyMessage as DerEncode>⟧ (proxy_octets message.now (present domain.now) []))
+        (RefusesReading ⟦<KdcProxyMessage as DerEncode>⟧ (proxy_octets message.now (present domain.now) [])) out.old out.new size.new result }
+{
+    krb_frame_calls::make_kdc_proxy_message(alloc, message, domain, out, size)
+}
+
+/// `krb_make_neg_token_init` of `krb.h`: the token that begins a negotiation, of these fields (RFC 4178, 4.2.1).
+#[unsafe(no_mangle)]
+pub extern "C" fn krb_make_neg_token_init(
+    alloc: Global,
+    mechanisms: &[u8],
+    token: &[u8],
+    mic: &[u8],
+    out: &mut [u8],
+    size: &mut usize,
+) -> u32
+    ensures { IsAnswered (IsMade ⟦<ApplicationTag0<GssApiNegInit> as DerEncode>⟧ (made_init mechanisms.now token.now mic.now))
+        (RefusesReading ⟦<ApplicationTag0<GssApiNegInit> as DerEncode>⟧ (made_init mechanisms.now token.now mic.now)) out.old out.new size.new result }
+{
+    krb_frame_calls::make_neg_token_init(alloc, mechanisms, token, mic, out, size)
 }

@@ -1,4 +1,5 @@
 pub mod Elements
+pub mod Making
 pub mod Negotiation
 pub mod Pac
 pub mod Password

@@ -5,6 +5,7 @@
 mod element;
 mod handing;
 pub mod laws;
+mod making;
 mod negotiation;
 mod pac;
 mod password;
@@ -14,6 +15,7 @@ mod refusal;
 mod token;
 mod value;
 
+pub use making::{make_kdc_proxy_message, make_neg_token_init};
 pub use negotiation::{neg_token_init, neg_token_resp};
 pub use pac::{pac_buffer, pac_count};
 pub use password::{make_password_frame, password_frame};

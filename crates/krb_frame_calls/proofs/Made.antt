@@ -1,0 +1,14 @@
+-- Messages that were made.
+use Rattle.std.proofs.Common.{◌≡◌, ℕ, List, [], ◌++◌, take, drop, refl, sym, ap, ◌∙◌, None}
+use Rattle.krb_der_core.specs.Tlv.{tlv}
+use Rattle.krb_gss_negotiation.specs.TokenLaws.{token_is}
+use Rattle.krb_frame_calls.specs.Making.{made_init, present, spnego}
+use Rattle.krb_frame_calls.specs.Negotiation.{field}
+
+pub init_made : (a b made fields octets m t i : List ℕ) → a ≡ [] ++ tlv 6 spnego → b ≡ a ++ octets → octets ≡ fields
+    → fields ≡ tlv 160 (tlv 48 (field 160 48 (present m) ++ field 161 3 None ++ field 162 4 (present t) ++ field 163 4 (present i)))
+    → made ≡ take 0 b ++ tlv 96 (drop 0 b) → made ≡ made_init m t i
+init_made a b made fields octets m t i first second same whole last =
+    let inner = tlv 160 (tlv 48 (field 160 48 (present m) ++ field 161 3 None ++ field 162 4 (present t) ++ field 163 4 (present i))) in
+    let content = tlv 6 spnego ++ inner in
+    last ∙ ap (tlv 96) (second ∙ ap (λ (l : List ℕ). l ++ octets) first ∙ ap (λ (l : List ℕ). tlv 6 spnego ++ l) (same ∙ whole)) ∙ sym (token_is (tlv 48 content) content refl)
