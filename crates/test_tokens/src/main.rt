@@ -1,0 +1,41 @@
+//! The program `test_tokens`: MIC and Wrap tokens that MIT Kerberos made, made again, verified and opened.
+//!
+//! Its standard input is a table. A row is a line of an encryption type, a key, 1 where the acceptor sent the token, 1 where the key is the
+//! acceptor's subkey, a sequence number, the kind (`mic`, `clear` or `sealed`), a message and the token, with tabs between; octets are in
+//! hexadecimal digits. A line that begins with `#` is a comment. For each row the program prints the status and the token that is made of the
+//! message (of one that is not sealed, whose confounder is not known), what the token holds, and what is said of it as one of the other side's.
+#![tactic(auto)]
+
+#[cfg(test)]
+mod large;
+mod row;
+mod tokens;
+
+use crate::row::Row;
+use crate::tokens::{held, made};
+use std::alloc::Global;
+use std::io;
+use std::io::{BufRead, BufReader};
+
+/// What is printed of a line.
+fn answers(alloc: Global, line: &str) -> io::Result<String> {
+    let row = Row::read(alloc, line)?;
+    let made = made(alloc, &row)?;
+    let own = held(alloc, &row, row.by_acceptor)?;
+    let reflected = held(alloc, &row, !row.by_acceptor)?;
+    let (kind, etype) = (row.kind, row.etype);
+    Ok(format!(in alloc; "{kind} {etype}\n{made}{own}{reflected}")?)
+}
+
+fn main(rt: HostRuntime) -> io::Result<()> {
+    let alloc = rt.alloc();
+    for line in BufReader::new(alloc, rt.reader())?.lines(alloc) {
+        let line = line?;
+        if line.starts_with('#') {
+            continue;
+        }
+        let text = answers(alloc, line.as_str())?;
+        print!(rt; "{text}")?;
+    }
+    Ok(())
+}
