@@ -6,26 +6,10 @@ that shares nothing with the library. The last line is `N passed, N failed`."""
 import random
 import sys
 
+from counting import counted, expect, outcome
 from krb import Refused, Status, frames, messages, pac, spnego
 
-PASSED = FAILED = 0
 TYPES = {1, 2, 6, 7, *range(10, 20)}
-
-
-def expect(right, what):
-    global PASSED, FAILED
-    PASSED += bool(right)
-    FAILED += not right
-    if not right:
-        print("try_frames: %s" % what)
-
-
-def outcome(call, *arguments):
-    """What a call returns, or the status with which it refuses."""
-    try:
-        return call(*arguments)
-    except Refused as refused:
-        return refused.status
 
 
 # The formats, read here.
@@ -342,8 +326,7 @@ def main():
         expect(found == right if isinstance(right, Status) else tuple(found) == (b"x", None, right), "the hint %s: %s" % (hint.hex(), found))
     for kind, number in seen.items():
         expect(number > 1, "%d rows of %s" % (number, kind))
-    print("%d passed, %d failed" % (PASSED, FAILED))
-    return 1 if FAILED else 0
+    return counted()
 
 
 if __name__ == "__main__":

@@ -6,10 +6,10 @@ import pickle
 import sys
 
 import krb
+from counting import counted, expect, outcome
 from krb import Refused, Status
 from krb import crypto, messages
 
-PASSED = FAILED = 0
 SUITES = {16: (24, 8, 20, 12), 17: (16, 16, 12, 15), 18: (32, 16, 12, 16), 19: (16, 16, 16, 19), 20: (32, 16, 24, 20)}
 PARTS = {
     3: messages.Part.TICKET_PART,
@@ -20,22 +20,6 @@ PARTS = {
     28: messages.Part.PRIV_PART,
     29: messages.Part.CRED_PART,
 }
-
-
-def expect(right, what):
-    global PASSED, FAILED
-    PASSED += bool(right)
-    FAILED += not right
-    if not right:
-        print("try_krb: %s" % what)
-
-
-def outcome(call, *arguments):
-    """What a call returns, or the status with which it refuses."""
-    try:
-        return call(*arguments)
-    except Refused as refused:
-        return refused.status
 
 
 def rows(name, count):
@@ -180,8 +164,7 @@ def main():
     with concurrent.futures.ThreadPoolExecutor(16) as pool:
         for number, right in enumerate(pool.map(turn, range(2000))):
             expect(right, "turn %d of 16 threads" % number)
-    print("%d passed, %d failed" % (PASSED, FAILED))
-    return 1 if FAILED else 0
+    return counted()
 
 
 if __name__ == "__main__":
