@@ -197,7 +197,7 @@ krb_status krb_keep_key(int32_t etype, const uint8_t *key, size_t key_size, int3
 
 /* What krb_encrypt, and krb_decrypt, answer under the key and usage that `kept` was made of. One kept key serves both, at once in any number
    of threads. The caller owes a key that krb_keep_key made: of another it is said only that KRB_NUMBER comes where no encryption type has
-   its number. */
+   its number, and that on any status but KRB_DONE `out` is as it was. */
 krb_status krb_encrypt_kept(const krb_key *kept, const uint8_t *confounder, size_t confounder_size, const uint8_t *payload,
                             size_t payload_size, uint8_t *out, size_t room, size_t *size);
 krb_status krb_decrypt_kept(const krb_key *kept, const uint8_t *sealed, size_t sealed_size, uint8_t *out, size_t room, size_t *size);

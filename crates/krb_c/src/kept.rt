@@ -3,7 +3,7 @@
 ghost use Rattle.std.specs.Prelude.{◌≡◌, ℕ, ℤ, List};
 ghost use Rattle.krb_crypto_suite.specs.Suites.{NoSuite};
 ghost use Rattle.krb_calls.specs.Calls.{IsEncryption, RefusesEncryption, IsDecryption, RefusesDecryption};
-ghost use Rattle.krb_calls.specs.Handing.{IsAnswered, IsKept};
+ghost use Rattle.krb_calls.specs.Handing.{IsAnswered, IsHandedOut, IsKept};
 ghost use Rattle.krb_calls.specs.Kept.{IsKeeping, IsKeptKey};
 ghost use Rattle.krb_calls.specs.Numbers.{etype_number};
 
@@ -32,6 +32,7 @@ pub extern "C" fn krb_encrypt_kept(
         → IsAnswered (IsEncryption kept.now.etype key usage confounder.now payload.now)
         (RefusesEncryption kept.now.etype key confounder.now) out.old out.new size.new result }
     ensures number { NoSuite etype_number kept.now.etype → (result ≡ 3) × IsKept out.old out.new size.new }
+    ensures handed { IsHandedOut out.old out.new size.new result }
 {
     krb_calls::encrypt_kept(alloc, kept, confounder, payload, out, size)
 }
@@ -49,6 +50,7 @@ pub extern "C" fn krb_decrypt_kept(
         → IsAnswered (IsDecryption kept.now.etype key usage sealed.now)
         (RefusesDecryption kept.now.etype key usage sealed.now) out.old out.new size.new result }
     ensures number { NoSuite etype_number kept.now.etype → (result ≡ 3) × IsKept out.old out.new size.new }
+    ensures handed { IsHandedOut out.old out.new size.new result }
 {
     krb_calls::decrypt_kept(alloc, kept, sealed, out, size)
 }

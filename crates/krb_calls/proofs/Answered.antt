@@ -9,7 +9,7 @@ use Rattle.krb_crypto_suite.specs.PreparedKeys.{PreparedKeys, IsPreparedFor}
 use Rattle.krb_calls.specs.declared.refusal.Refusal.{Refusal}
 use Rattle.krb_calls.specs.Numbers.{etype_number}
 use Rattle.krb_calls.specs.Statuses.{crypto_status, refusal_status}
-use Rattle.krb_calls.specs.Handing.{IsPut, IsKept, IsAnswered}
+use Rattle.krb_calls.specs.Handing.{IsPut, IsKept, IsAnswered, IsHandedOut}
 use Rattle.krb_calls.specs.Calls.{IsDecryptionBy, RefusesDecryptionBy, IsDecryption, RefusesDecryption}
 
 pub answered : {V : Type 0} (made : Result V Refusal) (items : V → List ℕ) (is_right : List ℕ → Type 0) (refuses : ℕ → Type 0)
@@ -19,6 +19,13 @@ pub answered : {V : Type 0} (made : Result V Refusal) (items : V → List ℕ) (
     → IsAnswered is_right refuses before after size status
 answered (Ok v) items is_right refuses before after size status right put = inl (items v, right, put)
 answered (Err e) items is_right refuses before after size status right kept = inr (kept.1, subst refuses (sym kept.0) right, kept.2)
+
+-- the same, whatever was made
+pub handed_out : {V : Type 0} (made : Result V Refusal) (items : V → List ℕ) (before after : List ℕ) (size status : ℕ)
+    → MatchResult made (λ v. IsPut (items v) before after size status) (λ e. (status ≡ refusal_status e) × (1 < status) × IsKept before after size)
+    → IsHandedOut before after size status
+handed_out (Ok v) items before after size status put = inl (items v, tt, put)
+handed_out (Err e) items before after size status kept = inr (kept.1, tt, kept.2)
 
 -- a decryption's error that is not for want of memory is the suite's
 pub refused_decryption : (suite : CipherSuite) (key : List ℕ) (usage : ℤ) (octets : List ℕ) (e : KerberosCryptoError) → length key ≡ key_octets_of suite

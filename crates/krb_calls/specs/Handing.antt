@@ -17,3 +17,7 @@ abbrev pub IsAnswered : (List ℕ → Type 0) → (ℕ → Type 0) → List ℕ 
 IsAnswered is_right refuses before after size status =
     ((octets : List ℕ) × is_right octets × IsPut octets before after size status)
     ⊎ ((1 < status) × refuses status × IsKept before after size)
+
+-- Octets are put, or none are, whatever they are and for whatever reason.
+abbrev pub IsHandedOut : List ℕ → List ℕ → ℕ → ℕ → Type 0
+IsHandedOut before after size status = IsAnswered (λ octets. Unit {0}) (λ reason. Unit {0}) before after size status

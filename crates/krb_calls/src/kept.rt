@@ -4,7 +4,7 @@ ghost use Rattle.std.specs.Prelude.{◌≡◌, ◌≤◌, ◌-◌, ℕ, ℤ, Lis
 ghost use Rattle.krb_crypto_suite.specs.Suites.{NoSuite};
 ghost use Rattle.krb_calls.specs.Numbers.{etype_number};
 ghost use Rattle.krb_calls.specs.Statuses.{refusal_status};
-ghost use Rattle.krb_calls.specs.Handing.{IsAnswered, IsKept};
+ghost use Rattle.krb_calls.specs.Handing.{IsAnswered, IsHandedOut, IsKept};
 ghost use Rattle.krb_calls.specs.Calls.{IsEncryption, IsEncryptionBy, RefusesEncryption, RefusesEncryptionBy, IsDecryption, IsDecryptionBy, RefusesDecryption, RefusesDecryptionBy};
 ghost use Rattle.krb_calls.specs.Kept.{IsKeptBy, IsKeptKey, IsKeeping, RefusesKey};
 
@@ -126,7 +126,7 @@ pub fn encrypted_kept(
 }
 
 /// As `encrypt`, under a kept key. Status 3 where it has the number of no suite, else 4 for a confounder of another length than the suite's, else 2
-/// where an allocation failed.
+/// where an allocation failed. On any status but 0 `out` is as it was, whatever the struct holds.
 pub fn encrypt_kept(
     alloc: Global,
     kept: &KeptKey,
@@ -139,6 +139,7 @@ pub fn encrypt_kept(
         → IsAnswered (IsEncryption kept.now.etype key usage confounder.now payload.now)
         (RefusesEncryption kept.now.etype key confounder.now) out.old out.new size.new result }
     ensures number { NoSuite etype_number kept.now.etype → (result ≡ 3) × IsKept out.old out.new size.new }
+    ensures handed { IsHandedOut out.old out.new size.new result }
 {
     hand_out(&encrypted_kept(alloc, kept, confounder, payload), out, size)
 }
@@ -176,7 +177,7 @@ pub fn decrypted_kept(alloc: Global, kept: &KeptKey, sealed: &[u8]) -> Result<Ve
 }
 
 /// As `decrypt`, under a kept key. Status 3 where it has the number of no suite, else 2 where an allocation failed, 6 for too few octets, 8 for no
-/// whole blocks of triple DES, and 7 else.
+/// whole blocks of triple DES, and 7 else. On any status but 0 `out` is as it was, whatever the struct holds.
 pub fn decrypt_kept(
     alloc: Global,
     kept: &KeptKey,
@@ -188,6 +189,7 @@ pub fn decrypt_kept(
         → IsAnswered (IsDecryption kept.now.etype key usage sealed.now)
         (RefusesDecryption kept.now.etype key usage sealed.now) out.old out.new size.new result }
     ensures number { NoSuite etype_number kept.now.etype → (result ≡ 3) × IsKept out.old out.new size.new }
+    ensures handed { IsHandedOut out.old out.new size.new result }
 {
     hand_out(&decrypted_kept(alloc, kept, sealed), out, size)
 }
