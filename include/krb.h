@@ -352,10 +352,20 @@ krb_status krb_neg_token_init(const uint8_t *octets, size_t octets_size, size_t 
 krb_status krb_neg_token_resp(const uint8_t *message, size_t message_size, uint32_t *state, size_t *mechanism_offset, size_t *mechanism_size,
                               size_t *token_offset, size_t *token_size, size_t *mic_offset, size_t *mic_size);
 
+/* Mechanism n of mechTypes, counted from 0: the place of the content of its OBJECT IDENTIFIER, as krb_neg_token_init has them one behind the other.
+   Those of krb_neg_token_init; then KRB_ABSENT where there are not so many, or no mechTypes. On each of these *offset and *size are 0. */
+krb_status krb_neg_token_init_mechanism(const uint8_t *octets, size_t octets_size, size_t n, size_t *offset, size_t *size);
+
 /* The token that begins a negotiation: of the mechanisms' OBJECT IDENTIFIERs in DER, one behind the other, of mechToken and of mechListMIC. What has
    no octets is left out, and reqFlags are.
    Where the mechanisms are no such elements: KRB_INVALID, KRB_TRUNCATED, KRB_UNSUPPORTED; KRB_MEMORY. */
 krb_status krb_make_neg_token_init(const uint8_t *mechanisms, size_t mechanisms_size, const uint8_t *token, size_t token_size,
+                                   const uint8_t *mic, size_t mic_size, uint8_t *out, size_t room, size_t *size);
+
+/* The later message, negTokenResp [1]: of negState, 0 to 3, or KRB_NEG_STATE_ABSENT, and then it is left out; of the content of supportedMech's OBJECT
+   IDENTIFIER, of responseToken and of mechListMIC. What has no octets is left out.
+   KRB_NUMBER of another state; KRB_INVALID, KRB_UNSUPPORTED where the mechanism is the content of no OBJECT IDENTIFIER; KRB_MEMORY. */
+krb_status krb_make_neg_token_resp(uint32_t state, const uint8_t *mechanism, size_t mechanism_size, const uint8_t *token, size_t token_size,
                                    const uint8_t *mic, size_t mic_size, uint8_t *out, size_t room, size_t *size);
 
 /* MIC and Wrap tokens of a context of the GSS-API (RFC 4121, 4.2) under etypes 17 to 20; etype 16 has other tokens (RFC 1964), and is refused with

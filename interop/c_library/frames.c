@@ -24,6 +24,10 @@ static struct told told_of(const char *kind, const struct octets *it) {
         at[4] = at[5] = 0;
     } else if (!strcmp(kind, "init")) {
         told.status = krb_neg_token_init(it->at, it->count, &at[0], &at[1], &at[2], &at[3], &at[4], &at[5]);
+        size_t offset = 77777, size = 77777;
+        krb_status status = krb_neg_token_init_mechanism(it->at, it->count, 0, &offset, &size);
+        EXPECT(status == told.status || (told.status == KRB_DONE && status == KRB_ABSENT), "a mechanism: status %u and %u", status, told.status);
+        EXPECT(status == KRB_DONE || (!offset && !size), "a mechanism is told with status %u", status);
     } else if (!strcmp(kind, "resp")) {
         told.status = krb_neg_token_resp(it->at, it->count, &told.kind, &at[0], &at[1], &at[2], &at[3], &at[4], &at[5]);
     } else if (!strcmp(kind, "password")) {
@@ -106,6 +110,42 @@ static void try_made(const char *kind, const struct octets *whole, const struct 
     drop(&room);
 }
 
+/* Each mechanism stands behind the one before it, and the last ends the list. */
+static void try_mechanisms(const struct octets *whole, const struct told *told) {
+    size_t offset = 77777, size = 77777, end = told->at[0], n = 0;
+    while (krb_neg_token_init_mechanism(whole->at, whole->count, n, &offset, &size) == KRB_DONE) {
+        EXPECT(whole->at[end] == 6 && whole->at[end + 1] == size && offset == end + 2, "mechanism %zu", n);
+        end = offset + size;
+        n++;
+    }
+    EXPECT(end == told->at[0] + told->at[1] && !offset && !size, "%zu mechanisms", n);
+    offset = size = 77777;
+    EXPECT(krb_neg_token_init_mechanism(whole->at, whole->count, SIZE_MAX, &offset, &size) == KRB_ABSENT && !offset && !size, "the last number");
+}
+
+/* A negTokenResp is made of what was read of it, also in too little room. */
+static void try_made_answer(const struct octets *whole, const struct told *told) {
+    const size_t *at = told->at;
+    const uint8_t *mechanism = whole->at + at[0], *token = whole->at + at[2], *mic = whole->at + at[4];
+    size_t size = 77777;
+    for (size_t less = 0; less <= whole->count; less += less < 3 ? 1 : whole->count - less ? whole->count - less : 1) {
+        struct octets room = room_of(whole->count - less);
+        krb_status status = krb_make_neg_token_resp(told->kind, mechanism, at[1], token, at[3], mic, at[5], room.at, room.count, &size);
+        EXPECT(status == (less ? KRB_ROOM : KRB_DONE) && size == whole->count, "a negTokenResp in %zu octets: status %u", room.count, status);
+        EXPECT(less ? is_untouched(&room, 0) : !memcmp(room.at, whole->at, whole->count), "a negTokenResp is made otherwise");
+        drop(&room);
+    }
+    struct octets room = room_of(whole->count + 7);
+    static const uint32_t states[] = {4, 127, 128, 255, KRB_NEG_STATE_OTHER, UINT32_MAX};
+    for (unsigned k = 0; k < sizeof states / sizeof *states; k++) {
+        krb_status status = krb_make_neg_token_resp(states[k], mechanism, at[1], token, at[3], mic, at[5], room.at, room.count, &size);
+        EXPECT(status == KRB_NUMBER && size == 0 && is_untouched(&room, 0), "the state %u: status %u", states[k], status);
+    }
+    krb_status status = krb_make_neg_token_resp(0, (const uint8_t *)"\x80", 1, token, at[3], mic, at[5], room.at, room.count, &size);
+    EXPECT(status == KRB_INVALID && size == 0 && is_untouched(&room, 0), "a mechanism that is none: status %u", status);
+    drop(&room);
+}
+
 static void try_row(const char *kind, const struct octets *whole) {
     struct told told = told_of(kind, whole);
     size_t count = 0;
@@ -134,6 +174,8 @@ static void try_row(const char *kind, const struct octets *whole) {
     other.count = whole->count + 1;
     drop(&other);
     if (!strcmp(kind, "token") || !strcmp(kind, "password")) try_made(kind, whole, &told);
+    if (!strcmp(kind, "init")) try_mechanisms(whole, &told);
+    if (!strcmp(kind, "resp") && told.kind != KRB_NEG_STATE_OTHER) try_made_answer(whole, &told);
 }
 
 int main(int count, char **words) {

@@ -146,6 +146,17 @@ def proxy_of(octets):
 # What is tried.
 
 
+def try_mechanisms(octets):
+    """Each mechanism by its number, and none behind them."""
+    listed = init_of(octets)[0] or []
+    for n, right in enumerate(listed):
+        expect(outcome(spnego.neg_token_init_mechanism, octets, n) == right, "mechanism %d" % n)
+    for n in (len(listed), len(listed) + 1, 2**32, 2**63, 2**64 - 1, 2**64, -1):
+        expect(outcome(spnego.neg_token_init_mechanism, octets, n) == Status.ABSENT, "mechanism %d of %d" % (n, len(listed)))
+    for n in range(len(octets)):
+        expect(outcome(spnego.neg_token_init_mechanism, octets[:n], 0) == Status.TRUNCATED, "a mechanism of a NegTokenInit, cut to %d octets" % n)
+
+
 def tried(call, octets):
     found = outcome(call, octets)
     return found if isinstance(found, Status) else tuple(found)
@@ -258,6 +269,13 @@ def try_made_messages():
     for size in (113, 114, 127, 128, 65536):
         made = spnego.make_neg_token_init([spnego.KERBEROS], bytes(size), b"m")
         expect(init_of(made) == ([spnego.KERBEROS], bytes(size), b"m") and tuple(spnego.neg_token_init(made)) == init_of(made), "a mechToken of %d octets" % size)
+    many = [b"\x2b" + bytes([n % 128]) * (n % 50) for n in range(1, 2000)]
+    made = spnego.make_neg_token_init(many)
+    expect(spnego.neg_token_init(made).mechanisms == many, "two thousand mechanisms")
+    for n in (0, 1, 126, 127, 128, 1997, 1998):
+        expect(spnego.neg_token_init_mechanism(made, n) == many[n], "mechanism %d of two thousand" % n)
+    for whole in (spnego.make_neg_token_init([]), spnego.make_neg_token_init([], b"token", b"mic"), bytes.fromhex("601006062b0601050502a0063004a0023000")):
+        expect(outcome(spnego.neg_token_init_mechanism, whole, 0) == Status.ABSENT, "a mechanism of no mechTypes, or of none in them")
     for wrong, status in ((b"", 9), (b"\x80\x01", 9), (b"\x2a" + b"\xff" * 9 + b"\x7f", 11)):
         expect(outcome(spnego.make_neg_token_init, [wrong]) == status, "a NegTokenInit of the mechanism %s" % wrong.hex())
     for message, realm, whole in ((b"abc", b"", "3007a0050403616263"), (b"", b"EXAMPLE.COM", "3013a0020400a10d1b0b4558414d504c452e434f4d"), (b"x", b"R", "300aa003040178a1031b0152")):
@@ -267,6 +285,32 @@ def try_made_messages():
         made = frames.make_proxy_message(bytes(size), b"EXAMPLE.COM")
         expect(proxy_of(made) == (bytes(size), b"EXAMPLE.COM", None) and tuple(frames.proxy_message(made)) == proxy_of(made), "a message of %d octets" % size)
     expect(outcome(frames.make_proxy_message, b"x", b"caf\xc3\xa9") == Status.INVALID, "a realm that is not of ASCII")
+
+
+def try_made_answers():
+    """negTokenResp of the octets that X.690 gives."""
+    kerberos = b"\xa1\x0b\x06\x09" + spnego.KERBEROS
+    fields = {
+        (None, b"", b"", b""): b"",
+        (0, b"", b"", b""): b"\xa0\x03\x0a\x01\0",
+        (3, b"", b"", b"mic"): b"\xa0\x03\x0a\x01\3\xa3\x05\x04\x03mic",
+        (None, spnego.KERBEROS, b"", b""): kerberos,
+        (None, b"", b"token", b""): b"\xa2\x07\x04\x05token",
+        (1, spnego.KERBEROS, b"token", b""): b"\xa0\x03\x0a\x01\1" + kerberos + b"\xa2\x07\x04\x05token",
+        (2, spnego.KERBEROS, b"token", b"mic"): b"\xa0\x03\x0a\x01\2" + kerberos + b"\xa2\x07\x04\x05token\xa3\x05\x04\x03mic",
+    }
+    for arguments, inner in fields.items():
+        whole = b"\xa1" + bytes([len(inner) + 2]) + b"\x30" + bytes([len(inner)]) + inner
+        made = outcome(spnego.make_neg_token_resp, *arguments)
+        expect(made == whole, "a negTokenResp of %s: %s" % (arguments, made))
+        expect(tuple(spnego.neg_token_resp(whole)) == (arguments[0], *(it or None for it in arguments[1:])), "a negTokenResp of %s is read" % (arguments,))
+    for size in (101, 102, 127, 128, 65536, 1 << 20):
+        made = spnego.make_neg_token_resp(spnego.NegState.ACCEPT_INCOMPLETE, spnego.KERBEROS, bytes(size), b"m")
+        expect(resp_of(made) == (1, spnego.KERBEROS, bytes(size), b"m") and tuple(spnego.neg_token_resp(made)) == resp_of(made), "a responseToken of %d octets" % size)
+    for state in (4, 127, 128, 255, 256, 257, 2**32, -1):
+        expect(outcome(spnego.make_neg_token_resp, state) == Status.NUMBER, "a negTokenResp of the state %d" % state)
+    for wrong, status in ((b"\x80\x01", 9), (b"\x2a\x86", 9), (b"\x2a" + b"\xff" * 9 + b"\x7f", 11)):
+        expect(outcome(spnego.make_neg_token_resp, 0, wrong) == status, "a negTokenResp of the mechanism %s" % wrong.hex())
 
 
 def try_lengths(octets):
@@ -305,6 +349,7 @@ def main():
             try_token(octets, count)
         elif kind == "init":
             expect(tried(spnego.neg_token_init, octets) == init_of(octets), "a NegTokenInit")
+            try_mechanisms(octets)
             try_cuts(spnego.neg_token_init, octets, "a NegTokenInit")
             try_changed(spnego.neg_token_init, init_of, octets, count, "a NegTokenInit")
         elif kind == "resp":
@@ -320,6 +365,7 @@ def main():
             try_changed(frames.proxy_message, proxy_of, octets, count, "a KDC-PROXY-MESSAGE")
     try_made()
     try_made_messages()
+    try_made_answers()
     for hint, right in ((bytes(1), 0), (b"\x7f" + b"\xff" * 7, 2**63 - 1), (b"\x80" + bytes(7), -(2**63)), (b"\0\x80" + bytes(7), Status.TOO_LARGE), (b"\xff\x7f" + b"\xff" * 7, Status.TOO_LARGE)):
         inner = b"\xa0\x03\x04\x01x\xa2" + bytes([2 + len(hint)]) + b"\x02" + bytes([len(hint)]) + hint
         found = outcome(frames.proxy_message, b"\x30" + bytes([len(inner)]) + inner)

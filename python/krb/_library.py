@@ -88,7 +88,7 @@ class Key(ctypes.Structure):
     _fields_ = [("etype", ctypes.c_int32), ("ke", ctypes.c_uint8 * 32), ("ki", ctypes.c_uint8 * 32)]
 
 
-NUMBER, SIZE, IN, KEY, BOOL, U16, WORD = "number", "size", "in", "key", "bool", "u16", "word"
+NUMBER, SIZE, IN, KEY, BOOL, U16, U32, WORD = "number", "size", "in", "key", "bool", "u16", "u32", "word"
 TELLS_WORD, TELLS_BOOL = "tells a word", "tells a bool"
 _TYPES = {
     NUMBER: [ctypes.c_int32],
@@ -97,11 +97,12 @@ _TYPES = {
     KEY: [ctypes.POINTER(Key)],
     BOOL: [ctypes.c_bool],
     U16: [ctypes.c_uint16],
+    U32: [ctypes.c_uint32],
     WORD: [ctypes.c_uint64],
     TELLS_WORD: [ctypes.POINTER(ctypes.c_uint64)],
     TELLS_BOOL: [ctypes.POINTER(ctypes.c_bool)],
 }
-_BITS = {U16: 16, WORD: 64}
+_BITS = {U16: 16, U32: 32, WORD: 64}
 _OUT = [ctypes.c_void_p, ctypes.c_size_t, ctypes.POINTER(ctypes.c_size_t)]
 
 

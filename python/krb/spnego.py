@@ -5,10 +5,11 @@ A mechanism is the content of its OBJECT IDENTIFIER, as `KERBEROS` and `SPNEGO` 
 import enum
 from typing import Iterable, List, NamedTuple, Optional, Union
 
-from krb._library import IN, Call, Octets
+from krb._library import IN, SIZE, U32, Call, Octets, Refused, Status
 from krb._places import SIZE_OUT, U32_OUT, Telling
 
-__all__ = ["KERBEROS", "SPNEGO", "Token", "token", "make_token", "NegState", "NegTokenInit", "NegTokenResp", "neg_token_init", "neg_token_resp", "make_neg_token_init"]
+__all__ = ["KERBEROS", "SPNEGO", "Token", "token", "make_token", "NegState", "NegTokenInit", "NegTokenResp"]
+__all__ += ["neg_token_init", "neg_token_init_mechanism", "neg_token_resp", "make_neg_token_init", "make_neg_token_resp"]
 
 KERBEROS = bytes.fromhex("2a864886f712010202")
 SPNEGO = bytes.fromhex("2b0601050502")
@@ -96,6 +97,18 @@ def neg_token_init(octets: Octets) -> NegTokenInit:
     return NegTokenInit(None if mechanisms is None else _identifiers(mechanisms), _field(octets, *places[2:4]), _field(octets, *places[4:6]))
 
 
+_mechanism = Telling("krb_neg_token_init_mechanism", [IN, SIZE], [SIZE_OUT] * 2)
+
+
+def neg_token_init_mechanism(octets: Octets, n: int) -> bytes:
+    """Mechanism n, counted from 0, of the NegTokenInit in the token that begins a negotiation. `neg_token_init` has all of them.
+
+    Refused: INVALID, TRUNCATED, UNSUPPORTED, MEMORY; then ABSENT where there are not so many."""
+    octets = bytes(memoryview(octets).cast("B"))
+    offset, size = _mechanism.told(octets, n if 0 <= n < 2**64 else 2**64 - 1)
+    return octets[offset : offset + size]
+
+
 def neg_token_resp(octets: Octets) -> NegTokenResp:
     """The negTokenResp that the octets are. Refused: INVALID, TRUNCATED, UNSUPPORTED, MEMORY."""
     octets = bytes(memoryview(octets).cast("B"))
@@ -112,3 +125,15 @@ def make_neg_token_init(mechanisms: Iterable[Octets], mech_token: Octets = b"", 
     are empty. Refused: INVALID, UNSUPPORTED where a mechanism is none; MEMORY."""
     listed = b"".join(b"\x06" + bytes([len(one)]) + bytes(one) for one in mechanisms)
     return _make_init.octets(len(listed) + len(mech_token) + len(mech_list_mic) + 96, listed, mech_token, mech_list_mic)
+
+
+_make_resp = Call("krb_make_neg_token_resp", U32, IN, IN, IN, has_room=True)
+
+
+def make_neg_token_resp(neg_state: Optional[int] = None, supported_mech: Octets = b"", response_token: Octets = b"", mech_list_mic: Octets = b"") -> bytes:
+    """The later message of a negotiation, of a state of `NegState`, a mechanism, a token and a MIC. No state is None; the others are left out where they
+    are empty. Refused: NUMBER of another state; INVALID, UNSUPPORTED where the mechanism is none; MEMORY."""
+    if neg_state is not None and not 0 <= neg_state < 4:
+        raise Refused(Status.NUMBER)
+    room = len(supported_mech) + len(response_token) + len(mech_list_mic) + 64
+    return _make_resp.octets(room, 256 if neg_state is None else neg_state, supported_mech, response_token, mech_list_mic)

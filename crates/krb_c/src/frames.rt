@@ -3,7 +3,8 @@
 ghost use Rattle.std.specs.Prelude.{[]};
 ghost use Rattle.krb_calls.specs.Handing.{IsAnswered};
 ghost use Rattle.krb_part_calls.specs.Messages.{RefusesReading};
-ghost use Rattle.krb_frame_calls.specs.Making.{IsMade, made_init, present};
+ghost use Rattle.krb_frame_calls.specs.Making.{IsMade, IsMadeAnswer, RefusesAnswer, made_init, present};
+ghost use Rattle.krb_frame_calls.specs.Mechanism.{IsMechanism};
 ghost use Rattle.krb_frame_calls.specs.Negotiation.{IsAnswerAt, IsInitAt};
 ghost use Rattle.krb_frame_calls.specs.Pac.{IsPacBuffer, IsPacCount};
 ghost use Rattle.krb_frame_calls.specs.Password.{IsFrameAt, IsMadeFrame, RefusesMaking};
@@ -161,6 +162,20 @@ pub extern "C" fn krb_neg_token_init(
     )
 }
 
+/// `krb_neg_token_init_mechanism` of `krb.h`: the place of a mechanism in the token that begins a negotiation (RFC 4178, 4.2.1).
+#[unsafe(no_mangle)]
+pub extern "C" fn krb_neg_token_init_mechanism(
+    alloc: Global,
+    octets: &[u8],
+    n: usize,
+    offset: &mut usize,
+    size: &mut usize,
+) -> u32
+    ensures { IsMechanism ⟦<ApplicationTag0<GssApiNegInit> as DerEncode>⟧ octets.now n offset.new size.new result }
+{
+    krb_frame_calls::neg_token_init_mechanism(alloc, octets, n, offset, size)
+}
+
 /// `krb_neg_token_resp` of `krb.h`: negState of a later message of a negotiation, and the places of its other fields (RFC 4178, 4.2.2).
 #[unsafe(no_mangle)]
 pub extern "C" fn krb_neg_token_resp(
@@ -219,4 +234,21 @@ pub extern "C" fn krb_make_neg_token_init(
         (RefusesReading ⟦<ApplicationTag0<GssApiNegInit> as DerEncode>⟧ (made_init mechanisms.now token.now mic.now)) out.old out.new size.new result }
 {
     krb_frame_calls::make_neg_token_init(alloc, mechanisms, token, mic, out, size)
+}
+
+/// `krb_make_neg_token_resp` of `krb.h`: a later message of a negotiation, of these fields (RFC 4178, 4.2.2).
+#[unsafe(no_mangle)]
+pub extern "C" fn krb_make_neg_token_resp(
+    alloc: Global,
+    state: u32,
+    mechanism: &[u8],
+    token: &[u8],
+    mic: &[u8],
+    out: &mut [u8],
+    size: &mut usize,
+) -> u32
+    ensures { IsAnswered (IsMadeAnswer ⟦<NegTokenTarg1 as DerEncode>⟧ state mechanism.now token.now mic.now)
+        (RefusesAnswer ⟦<NegTokenTarg1 as DerEncode>⟧ state mechanism.now token.now mic.now) out.old out.new size.new result }
+{
+    krb_frame_calls::make_neg_token_resp(alloc, state, mechanism, token, mic, out, size)
 }

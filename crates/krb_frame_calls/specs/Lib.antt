@@ -1,5 +1,6 @@
 pub mod Elements
 pub mod Making
+pub mod Mechanism
 pub mod Negotiation
 pub mod Pac
 pub mod Password

@@ -6,6 +6,7 @@ mod element;
 mod handing;
 pub mod laws;
 mod making;
+mod mechanism;
 mod negotiation;
 mod pac;
 mod password;
@@ -15,7 +16,8 @@ mod refusal;
 mod token;
 mod value;
 
-pub use making::{make_kdc_proxy_message, make_neg_token_init};
+pub use making::{make_kdc_proxy_message, make_neg_token_init, make_neg_token_resp};
+pub use mechanism::neg_token_init_mechanism;
 pub use negotiation::{neg_token_init, neg_token_resp};
 pub use pac::{pac_buffer, pac_count};
 pub use password::{make_password_frame, password_frame};

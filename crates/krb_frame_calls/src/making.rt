@@ -1,17 +1,19 @@
 //! Messages made of the contents of their fields.
 
-ghost use Rattle.std.specs.Prelude.{◌≡◌, ◌++◌, List, [], None, IfOk, OnOk};
+ghost use Rattle.std.specs.Prelude.{◌≡◌, ◌<◌, ◌++◌, ◌∷◌, ℕ, List, [], Option, None, IfOk, OnOk, MatchResult};
+ghost use Rattle.krb_der_core.specs.Encoding.{optional};
 ghost use Rattle.krb_der_core.specs.Tlv.{tlv};
 ghost use Rattle.krb_calls.specs.Handing.{IsAnswered};
 ghost use Rattle.krb_part_calls.specs.Messages.{RefusesReading};
-ghost use Rattle.krb_frame_calls.specs.Making.{IsMade, made_init, present};
+ghost use Rattle.krb_frame_calls.specs.Making.{IsMade, IsMadeAnswer, IsStateNumber, NoStateNumber, RefusesAnswer, made_answer, made_init, present};
 ghost use Rattle.krb_frame_calls.specs.Negotiation.{field};
 ghost use Rattle.krb_frame_calls.specs.Proxy.{proxy_octets};
 
+use krb_calls::Refusal;
 use krb_calls::handing::put;
 use krb_der::{Der, DerEncode};
 use krb_der_core::{close_tlv, write_tlv};
-use krb_gss_negotiation::gss_api::{ApplicationTag0, GssApiNegInit};
+use krb_gss_negotiation::gss_api::{ApplicationTag0, GssApiNegInit, NegTokenTarg1};
 use krb_msg::messages::KdcProxyMessage;
 use krb_part_calls::read;
 use std::alloc::{AllocError, Global};
@@ -142,6 +144,83 @@ pub fn make_neg_token_init(
 {
     match init_of(alloc, mechanisms, token, mic) {
         Ok(made) => hand_out_checked::<ApplicationTag0<GssApiNegInit>>(alloc, &made, out, size),
+        Err(_) => {
+            *size = 0;
+            2
+        }
+    }
+}
+
+/// What stands for no negState.
+const ABSENT: u32 = 256;
+
+/// negState of its number.
+fn state_of(state: u32) -> Result<Option<u8>, Refusal>
+    ensures { MatchResult result (λ number. IsStateNumber state number) (λ e. (e ≡ Refusal.Number) × NoStateNumber state) }
+{
+    match state {
+        ABSENT => Ok(None),
+        0..=3 => Ok(Some(state as u8)),
+        _ => Err(Refusal::Number),
+    }
+}
+
+/// Appends negState, an ENUMERATED.
+fn push_state(state: Option<u8>, out: &mut Vec<u8>) -> Result<(), AllocError>
+    ensures { OnOk result (out.new.items ≡ out.old.items ++ optional (λ n. tlv 160 (tlv 10 (n ∷ []))) state) }
+{
+    match state {
+        Some(number) => push_field(0xa0, 0x0a, &[number], out),
+        None => Ok(()),
+    }
+}
+
+/// The negTokenResp of these contents.
+fn answer_of(
+    alloc: Global,
+    state: Option<u8>,
+    mechanism: &[u8],
+    token: &[u8],
+    mic: &[u8],
+) -> Result<Vec<u8>, AllocError>
+    ensures { IfOk result (λ made. made.items ≡ made_answer state mechanism.now token.now mic.now) }
+{
+    let mut made = Vec::new(alloc);
+    push_state(state, &mut made)?;
+    push_present(0xa1, 0x06, mechanism, &mut made)?;
+    push_present(0xa2, 0x04, token, &mut made)?;
+    push_present(0xa3, 0x04, mic, &mut made)?;
+    close_tlv(0x30, 0, &mut made)?;
+    close_tlv(0xa1, 0, &mut made)?;
+    Ok(made)
+}
+
+/// The later message of a negotiation, negTokenResp [1] (RFC 4178, 4.2.2): of negState by its number, 0 to 3, or 256 where it is left out; of the
+/// content of supportedMech's OBJECT IDENTIFIER, of responseToken and of mechListMIC. What has no octets is left out.
+///
+/// 3 for another number; 9 or 11 where the mechanism is the content of no OBJECT IDENTIFIER; 2 where memory was wanting. On a refusal `out` is as it
+/// was.
+pub fn make_neg_token_resp(
+    alloc: Global,
+    state: u32,
+    mechanism: &[u8],
+    token: &[u8],
+    mic: &[u8],
+    out: &mut [u8],
+    size: &mut usize,
+) -> u32
+    ensures { IsAnswered (IsMadeAnswer ⟦<NegTokenTarg1 as DerEncode>⟧ state mechanism.now token.now mic.now)
+        (RefusesAnswer ⟦<NegTokenTarg1 as DerEncode>⟧ state mechanism.now token.now mic.now) out.old out.new size.new result }
+{
+    let number = match state_of(state) {
+        Ok(number) => number,
+        Err(refusal) => {
+            *size = 0;
+            return refusal.status();
+        }
+    };
+    match answer_of(alloc, number, mechanism, token, mic) {
+        Ok(made) => hand_out_checked::<NegTokenTarg1>(alloc, &made, out, size),
         Err(_) => {
             *size = 0;
             2

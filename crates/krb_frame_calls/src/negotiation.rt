@@ -46,7 +46,7 @@ fn token_and_mic(octets: &[u8]) -> (Option<&[u8]>, &[u8], Option<&[u8]>, &[u8])
 }
 
 /// The fields of the NegTokenInit in its token.
-fn init_fields(octets: &[u8]) -> &[u8]
+pub(crate) fn init_fields(octets: &[u8]) -> &[u8]
     ensures { (mechanism fields : List ℕ) → octets.now ≡ in_token (tlv 48 (tlv 6 mechanism ++ tlv 160 (tlv 48 fields))) → result.now ≡ fields }
 {
     let (content, _) = inside(TOKEN, octets);

@@ -26,15 +26,23 @@ impl Place {
         }
     }
 
+    /// The place of a field that has so many octets behind it to the end of the input.
+    pub(crate) fn before_all(input: &[u8], field: &[u8], behind: usize) -> Place
+        ensures { (rest : List ℕ) → length rest ≡ behind → EndsInside (field.now ++ rest) input.now
+            → (0 < result.offset) × StandsBefore field.now rest input.now result.offset result.size }
+    {
+        if behind > input.len() || field.len() > input.len() - behind {
+            return Place::NONE;
+        }
+        Place::before(input, field, behind)
+    }
+
     /// The place of a field that has just these octets behind it to the end of the input.
     pub(crate) fn within(input: &[u8], field: &[u8], behind: &[u8]) -> Place
         ensures { EndsInside (field.now ++ behind.now) input.now
             → (0 < result.offset) × StandsBefore field.now behind.now input.now result.offset result.size }
     {
-        if behind.len() > input.len() || field.len() > input.len() - behind.len() {
-            return Place::NONE;
-        }
-        Place::before(input, field, behind.len())
+        Place::before_all(input, field, behind.len())
     }
 
     /// The place of a field that may be absent, with just these octets behind it to the end of the input.
