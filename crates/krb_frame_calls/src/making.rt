@@ -9,6 +9,7 @@ ghost use Rattle.krb_frame_calls.specs.Making.{IsMade, IsMadeAnswer, IsStateNumb
 ghost use Rattle.krb_frame_calls.specs.Negotiation.{field};
 ghost use Rattle.krb_frame_calls.specs.Proxy.{proxy_octets};
 
+use crate::negotiation::ABSENT;
 use krb_calls::Refusal;
 use krb_calls::handing::put;
 use krb_der::{Der, DerEncode};
@@ -150,9 +151,6 @@ pub fn make_neg_token_init(
         }
     }
 }
-
-/// What stands for no negState.
-const ABSENT: u32 = 256;
 
 /// negState of its number.
 fn state_of(state: u32) -> Result<Option<u8>, Refusal>

@@ -113,7 +113,7 @@ pub fn neg_token_init(
 }
 
 /// What stands for no negState, and for one that is another element than an ENUMERATED in one octet below 128.
-const ABSENT: u32 = 256;
+pub(crate) const ABSENT: u32 = 256;
 
 const OTHER: u32 = 257;
 
