@@ -127,8 +127,9 @@ static void try_mechanisms(const struct octets *whole, const struct told *told) 
 static void try_made_answer(const struct octets *whole, const struct told *told) {
     const size_t *at = told->at;
     const uint8_t *mechanism = whole->at + at[0], *token = whole->at + at[2], *mic = whole->at + at[4];
+    int is_state = told->kind <= KRB_NEG_STATE_REQUEST_MIC || told->kind == KRB_NEG_STATE_ABSENT; /* others are read, and not made */
     size_t size = 77777;
-    for (size_t less = 0; less <= whole->count; less += less < 3 ? 1 : whole->count - less ? whole->count - less : 1) {
+    for (size_t less = 0; is_state && less <= whole->count; less += less < 3 ? 1 : whole->count - less ? whole->count - less : 1) {
         struct octets room = room_of(whole->count - less);
         krb_status status = krb_make_neg_token_resp(told->kind, mechanism, at[1], token, at[3], mic, at[5], room.at, room.count, &size);
         EXPECT(status == (less ? KRB_ROOM : KRB_DONE) && size == whole->count, "a negTokenResp in %zu octets: status %u", room.count, status);
@@ -136,7 +137,7 @@ static void try_made_answer(const struct octets *whole, const struct told *told)
         drop(&room);
     }
     struct octets room = room_of(whole->count + 7);
-    static const uint32_t states[] = {4, 127, 128, 255, KRB_NEG_STATE_OTHER, UINT32_MAX};
+    const uint32_t states[] = {4, 127, 128, 255, KRB_NEG_STATE_OTHER, UINT32_MAX, is_state ? 5 : told->kind};
     for (unsigned k = 0; k < sizeof states / sizeof *states; k++) {
         krb_status status = krb_make_neg_token_resp(states[k], mechanism, at[1], token, at[3], mic, at[5], room.at, room.count, &size);
         EXPECT(status == KRB_NUMBER && size == 0 && is_untouched(&room, 0), "the state %u: status %u", states[k], status);
@@ -175,7 +176,7 @@ static void try_row(const char *kind, const struct octets *whole) {
     drop(&other);
     if (!strcmp(kind, "token") || !strcmp(kind, "password")) try_made(kind, whole, &told);
     if (!strcmp(kind, "init")) try_mechanisms(whole, &told);
-    if (!strcmp(kind, "resp") && told.kind != KRB_NEG_STATE_OTHER) try_made_answer(whole, &told);
+    if (!strcmp(kind, "resp")) try_made_answer(whole, &told);
 }
 
 int main(int count, char **words) {

@@ -1,5 +1,5 @@
-/* Refuses each allocation of the calls in turn: refused ROWS MESSAGES. Linked with the static library and --wrap=malloc, realloc and free. A call whose
-   allocation is refused answers KRB_MEMORY and touches nothing, or answers as it does else; no block is left. */
+/* Refuses each allocation of the calls in turn: refused ROWS MESSAGES FIELDS FRAMES TOKENS. Linked with the static library and --wrap=malloc,
+   realloc and free. A call whose allocation is refused answers KRB_MEMORY and touches nothing, or answers as it does else; no block is left. */
 #include "calls.h"
 #include <stdio.h>
 #include <stdlib.h>
@@ -36,11 +36,85 @@ void __wrap_free(void *block) {
     __real_free(block);
 }
 
+enum { NUMBERS = 7 };
+
+/* What a call answered: octets in the room, so many; or numbers, all of them 0 where it refused. */
 struct answer {
     krb_status status;
     size_t size;
+    uint64_t told[NUMBERS];
     long requests, held;
 };
+
+/* ---- calls that tell numbers, or make messages of more than two things */
+
+/* Numbers that a call tells are put here before it, and read after it. */
+struct cells {
+    size_t at[6];
+    uint32_t word;
+    int64_t number;
+    uint64_t sequence;
+    bool sealed;
+};
+
+static bool by_acceptor(const struct row *row) { return row->usage & 1; }
+
+static bool is_subkey(const struct row *row) { return row->usage & 2; }
+
+enum { SEQUENCE = 4711, ROTATION = 28 };
+
+static krb_status other_call(const struct row *row, struct octets *room, size_t *size, struct cells *to) {
+    const struct octets *key = &row->key, *beside = &row->beside, *input = &row->input;
+    const char *call = row->call;
+    size_t *at = to->at;
+    if (!strcmp(call, "get_octets")) return krb_get_octets(row->number, row->usage, beside->count, input->at, input->count, &at[0], &at[1]);
+    if (!strcmp(call, "get_number")) return krb_get_number(row->number, row->usage, beside->count, input->at, input->count, &to->number);
+    if (!strcmp(call, "token")) return krb_gss_token(input->at, input->count, &at[0], &at[1], &at[2], &at[3]);
+    if (!strcmp(call, "init")) return krb_neg_token_init(input->at, input->count, &at[0], &at[1], &at[2], &at[3], &at[4], &at[5]);
+    if (!strcmp(call, "mechanism")) return krb_neg_token_init_mechanism(input->at, input->count, 0, &at[0], &at[1]);
+    if (!strcmp(call, "resp")) return krb_neg_token_resp(input->at, input->count, &to->word, &at[0], &at[1], &at[2], &at[3], &at[4], &at[5]);
+    if (!strcmp(call, "password")) return krb_password_frame(input->at, input->count, &at[0], &at[1], &at[2], &at[3]);
+    if (!strcmp(call, "proxy")) return krb_kdc_proxy_message(input->at, input->count, &at[0], &at[1], &at[2], &at[3]);
+    if (!strcmp(call, "hint")) return krb_kdc_proxy_hint(input->at, input->count, &to->number);
+    if (!strcmp(call, "make_token")) return krb_make_gss_token(beside->at, beside->count, input->at, input->count, room->at, room->count, size);
+    if (!strcmp(call, "make_init")) return krb_make_neg_token_init(beside->at, beside->count, input->at, input->count, key->at, key->count,
+            room->at, room->count, size);
+    if (!strcmp(call, "make_resp")) return krb_make_neg_token_resp((uint32_t)row->number, beside->at, beside->count, input->at, input->count,
+            key->at, key->count, room->at, room->count, size);
+    if (!strcmp(call, "make_password")) return krb_make_password_frame(beside->at, beside->count, input->at, input->count, room->at, room->count, size);
+    if (!strcmp(call, "make_proxy")) return krb_make_kdc_proxy_message(input->at, input->count, beside->at, beside->count, room->at, room->count, size);
+    if (!strcmp(call, "make_mic")) return krb_make_mic(row->number, key->at, key->count, by_acceptor(row), is_subkey(row), SEQUENCE, input->at,
+            input->count, room->at, room->count, size);
+    if (!strcmp(call, "verify_mic")) return krb_verify_mic(row->number, key->at, key->count, by_acceptor(row), is_subkey(row), input->at,
+            input->count, beside->at, beside->count, &to->sequence);
+    if (!strcmp(call, "wrap")) return krb_wrap(row->number, key->at, key->count, by_acceptor(row), is_subkey(row), SEQUENCE, ROTATION, beside->at,
+            beside->count, input->at, input->count, room->at, room->count, size);
+    if (!strcmp(call, "wrap_in_clear")) return krb_wrap_in_clear(row->number, key->at, key->count, by_acceptor(row), is_subkey(row), SEQUENCE,
+            ROTATION, input->at, input->count, room->at, room->count, size);
+    if (!strcmp(call, "unwrap")) return krb_unwrap(row->number, key->at, key->count, by_acceptor(row), is_subkey(row), input->at, input->count,
+            &to->sequence, &to->sealed, room->at, room->count, size);
+    die("a call that is none");
+}
+
+/* Whether it answers octets in the room. */
+static int has_answer(const char *call) { return is_answering(call) || !strncmp(call, "make_", 5) || strstr(call, "wrap"); }
+
+static krb_status told_of(const struct row *row, struct octets *room, struct answer *it) {
+    struct cells to = {{77777, 77777, 77777, 77777, 77777, 77777}, 77777, 77777, 77777, true};
+    int is_resp = !strcmp(row->call, "resp"), places = !strcmp(row->call, "init") || is_resp ? 6 : !strcmp(row->call,
+            "get_octets") || !strcmp(row->call, "mechanism") ? 2 : 4;
+    krb_status status = other_call(row, room, &it->size, &to);
+    if (!strcmp(row->call, "unwrap") || !strcmp(row->call, "verify_mic"))
+        it->told[0] = to.sequence, it->told[1] = !strcmp(row->call, "unwrap") && to.sealed;
+    else if (!strcmp(row->call, "get_number") || !strcmp(row->call, "hint"))
+        it->told[0] = (uint64_t)to.number;
+    else if (!has_answer(row->call))
+        for (int k = 0; k < places; k++) it->told[k] = to.at[k];
+    if (is_resp) it->told[6] = to.word ^ KRB_NEG_STATE_ABSENT;
+    return status;
+}
+
+static int is_other(const char *call) { return !is_answering(call) && strcmp(call, "check") && strcmp(call, "verify_checksum"); }
 
 /* The calls with no octets to answer are made without room. */
 static struct answer run(const struct row *row, struct octets *room, long at, int on) {
@@ -51,6 +125,8 @@ static struct answer run(const struct row *row, struct octets *room, long at, in
     counts = 1;
     if (is_answering(row->call))
         it.status = answered(row, room, &it.size);
+    else if (is_other(row->call))
+        it.status = told_of(row, room, &it);
     else if (!strcmp(row->call, "check"))
         it.status = krb_check(row->number, row->input.at, row->input.count);
     else
@@ -64,17 +140,21 @@ static struct answer run(const struct row *row, struct octets *room, long at, in
 static long most, refusals;
 
 static void try_call(const struct row *row) {
-    size_t ample = row->input.count + 99;
+    size_t ample = has_answer(row->call) ? row->input.count + row->beside.count + row->key.count + 99 : 1;
     struct octets right = room_of(ample);
     struct answer whole = run(row, &right, 0, 0);
     EXPECT(whole.held == 0, "%s %d: %ld blocks are left", row->call, row->number, whole.held);
+    EXPECT(!is_other(row->call) || whole.status == KRB_DONE || whole.status == KRB_ABSENT, "%s %d: status %u", row->call, row->number, whole.status);
     most = whole.requests > most ? whole.requests : most;
     for (int on = 0; on < 2; on++)
         for (long at = 1; at <= whole.requests; at++) {
             struct octets room = room_of(ample);
             struct answer it = run(row, &room, at, on);
-            int is_memory = it.status == KRB_MEMORY && is_untouched(&room, 0) && (!is_answering(row->call) || it.size == 0);
-            int is_same = it.status == whole.status && it.size == whole.size && !memcmp(room.at, right.at, ample);
+            static const uint64_t none[NUMBERS];
+            int is_memory = it.status == KRB_MEMORY && is_untouched(&room, 0) && (!has_answer(row->call) || it.size == 0) && !memcmp(it.told, none,
+                    sizeof none);
+            int is_same = it.status == whole.status && it.size == whole.size && !memcmp(room.at, right.at, ample) && !memcmp(it.told, whole.told,
+                    sizeof whole.told);
             EXPECT((is_memory || is_same) && it.held == 0, "%s %d, request %ld of %ld refused: status %u, size %zu, %ld blocks left", row->call, row->number, at, whole.requests, it.status, it.size, it.held);
             refusals++;
             drop(&room);
@@ -136,11 +216,90 @@ static void try_passwords(void) {
     }
 }
 
+/* Fields that are handed out of messages: rows of a message, octets, a field, an index, and a status. */
+static void try_fields(const char *name) {
+    FILE *file = fopen(name, "r");
+    char *columns[8];
+    if (!file) die("a table is not there");
+    while (next_row(file, columns, 8)) {
+        if (strcmp(columns[4], "DONE")) continue;
+        /* the index goes as a count of octets, which none are */
+        struct row row = {"get_octets", (int32_t)strtol(columns[0], NULL, 10), (int32_t)strtol(columns[2], NULL, 10), {NULL, 0}, {NULL,
+                (size_t)strtoull(columns[3], NULL, 10)}, octets_of_text(columns[1])};
+        try_call(&row);
+        row.call = "get_number";
+        if (columns[7][0] && strcmp(columns[7], "TOO_LARGE")) try_call(&row);
+        drop(&row.input);
+    }
+    fclose(file);
+}
+
+static struct octets part_of(const struct octets *whole, const uint64_t *place) { return octets_of(whole->at + place[0], place[1]); }
+
+/* What frames hold, and the frames made of it. */
+static void try_frame(const char *kind, const struct octets *octets) {
+    struct octets none = {NULL, 0};
+    struct row row = {kind, 0, 0, none, none, *octets};
+    struct answer it = run(&row, &none, 0, 0);
+    const uint64_t *told = it.told;
+    try_call(&row);
+    struct octets first = part_of(octets, told), second = part_of(octets, told + 2), third = part_of(octets, told + 4);
+    struct row made = {"make_token", 0, 0, none, first, second};
+    if (!strcmp(kind, "init")) {
+        row.call = "mechanism";
+        try_call(&row);
+        made.call = "make_init", made.key = third;
+    } else if (!strcmp(kind, "resp")) {
+        made.call = "make_resp", made.key = third, made.number = (int32_t)(told[6] ^ KRB_NEG_STATE_ABSENT);
+    } else if (!strcmp(kind, "password")) {
+        made.call = "make_password";
+    } else if (!strcmp(kind, "proxy")) {
+        row.call = "hint";
+        try_call(&row);
+        made.call = "make_proxy", made.beside = second, made.input = first;
+    }
+    if (made.number <= KRB_NEG_STATE_REQUEST_MIC || made.number == KRB_NEG_STATE_ABSENT) try_call(&made);
+    drop(&first), drop(&second), drop(&third);
+}
+
+static void try_frames(const char *name) {
+    FILE *file = fopen(name, "r");
+    char *columns[2];
+    if (!file) die("a table is not there");
+    while (next_row(file, columns, 2)) {
+        struct octets octets = octets_of_text(columns[1]);
+        if (strcmp(columns[0], "pac")) try_frame(columns[0], &octets); /* a PAC takes no memory */
+        drop(&octets);
+    }
+    fclose(file);
+}
+
+/* Tokens verified and opened, and made of their messages: rows of an etype, a key, two flags, a number, a kind, a message and a token. */
+static void try_tokens(const char *name) {
+    FILE *file = fopen(name, "r");
+    char *columns[8];
+    if (!file) die("a table is not there");
+    while (next_row(file, columns, 8)) {
+        struct octets message = octets_of_text(columns[6]), token = octets_of_text(columns[7]), confounder = room_of(16), none = {NULL, 0};
+        int is_mic = !strcmp(columns[5], "mic"), is_sealed = !strcmp(columns[5], "sealed");
+        struct row row = {is_mic ? "make_mic" : is_sealed ? "wrap" : "wrap_in_clear", (int32_t)strtol(columns[0], NULL, 10),
+                (columns[2][0] == '1') | (columns[3][0] == '1') << 1, octets_of_text(columns[1]), is_sealed ? confounder : none, message};
+        try_call(&row);
+        row.call = is_mic ? "verify_mic" : "unwrap", row.beside = is_mic ? token : none, row.input = is_mic ? message : token;
+        try_call(&row);
+        drop(&message), drop(&token), drop(&confounder), drop(&row.key);
+    }
+    fclose(file);
+}
+
 int main(int count, char **words) {
-    if (count != 3) die("refused ROWS MESSAGES");
+    if (count != 6) die("refused ROWS MESSAGES FIELDS FRAMES TOKENS");
     try_rows(words[1]);
     try_messages(words[2]);
     try_passwords();
+    try_fields(words[3]);
+    try_frames(words[4]);
+    try_tokens(words[5]);
     printf("%ld allocations were refused, at most %ld a call\n", refusals, most);
     return counted();
 }
