@@ -13,6 +13,7 @@ pub mod data_types;
 pub mod der;
 pub mod fields;
 pub mod gss_api;
+pub mod kdc_proxy;
 pub mod keytab;
 pub mod list;
 pub mod messages;

@@ -1,0 +1,16 @@
+pub mod Arrivals
+pub mod Changes
+pub mod Checks
+pub mod FirstOctets
+pub mod Framing
+pub mod LenientLaws
+pub mod Letters
+pub mod OneFrame
+pub mod OneMessage
+pub mod OneReply
+pub mod OneRequest
+pub mod Postings
+pub mod ProxyReplies
+pub mod Proxies
+pub mod Requests
+pub mod Sizes

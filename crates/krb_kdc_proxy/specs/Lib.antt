@@ -1,0 +1,11 @@
+pub mod Asking
+pub mod Client
+pub mod Frames
+pub mod Lenient
+pub mod Messages
+pub mod Prefixed
+pub mod Refusals
+pub mod Replies
+pub mod Requests
+pub mod Standing
+pub mod Streams

@@ -1,0 +1,84 @@
+//! What a request asks for.
+
+ghost use Rattle.std.specs.Prelude.{◌≡◌};
+ghost use Rattle.krb_kdc_proxy.specs.Asking.{change_asked, kdc_asked};
+
+use krb_der::{ExplicitContextTag1, ExplicitContextTag3};
+use krb_msg_app::messages::ApReqInner;
+use krb_msg_kdc::messages::{KdcReq, KdcReqBody};
+use krb_msg_types::data_types::{PrincipalName, Realm};
+
+/// Whom a request is for.
+#[derive(Debug, Clone, Copy, PartialEq, Eq)]
+pub enum Service {
+    /// A KDC (RFC 4120, 7.2; port 88).
+    Kdc,
+    /// The server that changes passwords (RFC 3244, 2; port 464).
+    PasswordChange,
+}
+
+/// What a request asks for.
+#[derive(Drop)]
+pub struct Asked {
+    /// Whom it is for.
+    pub service: Service,
+    /// The realm that it names.
+    pub realm: Realm,
+    /// The client's name, where it has one in the clear.
+    pub client: Option<PrincipalName>,
+    /// The server's name, where it has one.
+    pub server: Option<PrincipalName>,
+}
+
+/// The client's name.
+fn client_of(field: Option<ExplicitContextTag1<PrincipalName>>) -> Option<PrincipalName>
+    ensures { result ≡ field }
+{
+    match field {
+        Some(name) => Some(name.0),
+        None => None,
+    }
+}
+
+/// The server's name.
+fn server_of(field: Option<ExplicitContextTag3<PrincipalName>>) -> Option<PrincipalName>
+    ensures { result ≡ field }
+{
+    match field {
+        Some(name) => Some(name.0),
+        None => None,
+    }
+}
+
+/// What a request to a KDC asks for.
+pub(crate) fn kdc_asked(request: KdcReq) -> Asked
+    ensures { result ≡ kdc_asked request }
+{
+    let KdcReq { req_body, .. } = request;
+    let body = req_body.0;
+    let KdcReqBody {
+        cname,
+        realm,
+        sname,
+        ..
+    } = body;
+    Asked {
+        service: Service::Kdc,
+        realm: realm.0,
+        client: client_of(cname.0),
+        server: server_of(sname.0),
+    }
+}
+
+/// What the AP-REQ of a password's change asks for: its ticket is for the server.
+pub(crate) fn change_asked(request: ApReqInner) -> Asked
+    ensures { result ≡ change_asked request }
+{
+    let ticket = request.ticket.0.0;
+    Asked {
+        service: Service::PasswordChange,
+        realm: ticket.realm.0,
+        client: None,
+        server: Some(ticket.sname.0),
+    }
+}
