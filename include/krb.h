@@ -67,7 +67,20 @@ enum {
     KRB_OTHER_VERSION = 25,  /* the version of the format is another */
     KRB_PAC_TYPE = 26,       /* a buffer of a PAC is of a number that no type has */
     KRB_PAC_RANGE = 27,      /* a buffer of a PAC names octets that are not there */
-    KRB_FRAME_SIZE = 28      /* a frame with lengths of 16 bits has more than 65535 octets */
+    KRB_FRAME_SIZE = 28,     /* a frame with lengths of 16 bits has more than 65535 octets */
+
+    /* of a message that goes through a proxy (krb_proxy_..), in the order in which the rules are looked at */
+    KRB_PROXY_TOO_LARGE = 30,    /* more octets than a proxy takes */
+    KRB_PROXY_NO_LENGTH = 31,    /* fewer than the four octets of a length in front of the message */
+    KRB_PROXY_OTHER_LENGTH = 32, /* the length in front of the message is not that of the message */
+    KRB_PROXY_NO_DOMAIN = 33,    /* there is no target-domain */
+    KRB_PROXY_OTHER_KIND = 34,   /* the message begins as none that goes this way */
+    KRB_PROXY_FRAME_LENGTH = 35, /* a frame of a password's change that ends in its first message */
+    KRB_PROXY_INVALID = 36,      /* the message is not the one DER encoding of its type */
+    KRB_PROXY_TRUNCATED = 37,    /* the message ends too early, or a field is missing */
+    KRB_PROXY_UNSUPPORTED = 38,  /* a length of the indefinite form, or one of more than eight octets, in the message */
+    KRB_PROXY_PVNO = 39,         /* pvno is not 5 */
+    KRB_PROXY_MSG_TYPE = 40      /* msg-type is not what the tag says */
 };
 
 /* Encryption types (RFC 3961, 8; RFC 3962, 7; RFC 8009, 7). */
@@ -331,6 +344,57 @@ krb_status krb_kdc_proxy_hint(const uint8_t *octets, size_t octets_size, int64_t
 krb_status krb_make_kdc_proxy_message(const uint8_t *message, size_t message_size, const uint8_t *domain, size_t domain_size, uint8_t *out,
                                       size_t room, size_t *size);
 
+/* A proxy in front of a KDC (MS-KKDCP). What these calls let through is exactly what is said here, out-of-memory aside; nothing is encoded anew.
+
+   A request that a client posts: the one DER encoding of a KDC-PROXY-MESSAGE of at most 131072 octets, with a target-domain, whose kerb-message is a
+   length in four octets (RFC 4120, 7.2.2) and so many octets. These are the one DER encoding of an AS-REQ or a TGS-REQ, for a KDC (KRB_PROXY_KDC); or a frame
+   in which a password is changed (RFC 3244, 2; version 1 or ff80), of an AP-REQ and a KRB-PRIV, for the server that changes passwords
+   (KRB_PROXY_KPASSWD). pvno is 5, and msg-type what the tag says. *names_one_realm: whether target-domain is the realm of the request's body, or of the
+   ticket with which a password is changed, ASCII letters of either case alike. The message stands at *message_offset without its length, for a
+   datagram; the four octets before it are its length, so that a stream takes four octets more from four octets before.
+   Of the first rule that is broken: KRB_PROXY_TOO_LARGE; of the KDC-PROXY-MESSAGE KRB_INVALID, KRB_TRUNCATED, KRB_UNSUPPORTED; KRB_PROXY_NO_LENGTH,
+   KRB_PROXY_OTHER_LENGTH, KRB_PROXY_NO_DOMAIN, KRB_PROXY_OTHER_KIND, KRB_PROXY_FRAME_LENGTH; of the message, or of the AP-REQ and then of the KRB-PRIV,
+   KRB_PROXY_INVALID, KRB_PROXY_TRUNCATED or KRB_PROXY_UNSUPPORTED, KRB_PROXY_PVNO, KRB_PROXY_MSG_TYPE; KRB_MEMORY. On any status but KRB_DONE all that is
+   told is 0 or false. */
+enum { KRB_PROXY_KDC = 1, KRB_PROXY_KPASSWD = 2 };
+krb_status krb_proxy_request(const uint8_t *octets, size_t octets_size, uint32_t *service, bool *names_one_realm, size_t *message_offset,
+                             size_t *message_size);
+
+/* The same, but of the message its first octets alone are looked at: 6a or 6c, or the length and the version of a frame. It lets messages through that are no
+   encoding, whatever stands in them: for clients whose messages strict DER refuses (docs/REAL_MESSAGES.md). It tells no realm. */
+krb_status krb_proxy_request_lenient(const uint8_t *octets, size_t octets_size, uint32_t *service, size_t *message_offset, size_t *message_size);
+
+/* What a KDC or the server that changes passwords sent over a stream, its length in four octets in front of it, as the KDC-PROXY-MESSAGE that goes back to the
+   client, with neither target-domain nor dclocator-hint; it has at most 20 octets more. A reply is the one DER encoding of an AS-REP, a TGS-REP or a
+   KRB-ERROR; or a frame (RFC 3244, 2; version 1) of an AP-REP and a KRB-PRIV, or with no first message and a KRB-ERROR. pvno is 5, and msg-type
+   what the tag says.
+   KRB_PROXY_NO_LENGTH, KRB_PROXY_OTHER_LENGTH; then as krb_proxy_request of the message; KRB_MEMORY. */
+krb_status krb_proxy_reply(const uint8_t *octets, size_t octets_size, uint8_t *out, size_t room, size_t *size);
+
+/* The same of what came in a datagram, which has no length in front of it. It has at most 24 octets more.
+   KRB_PROXY_TOO_LARGE of 2147483648 octets and more; then as krb_proxy_request of the message; KRB_MEMORY. */
+krb_status krb_proxy_reply_datagram(const uint8_t *octets, size_t octets_size, uint8_t *out, size_t room, size_t *size);
+
+/* Whether a reply over a stream has all its octets, where a message has at most `limit`: KRB_DONE; KRB_TRUNCATED where octets are missing yet;
+   KRB_PROXY_TOO_LARGE where it never will, since its length is past `limit` or 2147483647, or there are more octets than it says. */
+krb_status krb_proxy_is_whole(const uint8_t *octets, size_t octets_size, size_t limit);
+
+/* The client's half: what it posts of a message, which has no length in front of it, for this realm, with no dclocator-hint. It has at most 48 octets more than
+   both. krb_proxy_request reads it as this message and this realm.
+   KRB_INVALID where the realm is not of ASCII; else what krb_proxy_request answers to it; KRB_MEMORY. */
+krb_status krb_make_proxy_request(const uint8_t *message, size_t message_size, const uint8_t *domain, size_t domain_size, uint8_t *out, size_t room,
+                                  size_t *size);
+
+/* And where the reply stands that a proxy answered, without its length, which is in the four octets before it. krb_proxy_reply wrote it of that.
+   Of the KDC-PROXY-MESSAGE KRB_INVALID, KRB_TRUNCATED, KRB_UNSUPPORTED; then as krb_proxy_reply. On any status but KRB_DONE both numbers are 0. */
+krb_status krb_read_proxy_reply(const uint8_t *octets, size_t octets_size, size_t *message_offset, size_t *message_size);
+
+/* The status of HTTP that a server answers where krb_proxy_request refuses (RFC 9110, 15.5 and 15.6): 413 where it is too large, 503 where memory was wanting,
+   400 else. It is not of the library. */
+static inline int krb_proxy_http_status(krb_status status) {
+    return status == KRB_PROXY_TOO_LARGE ? 413 : status == KRB_MEMORY ? 503 : 400;
+}
+
 /* SPNEGO (RFC 4178, 4.2). A field that is absent has the place 0 and 0; the offset of one that is there is not 0.
 
    The token that begins a negotiation, NegTokenInit in its frame (RFC 2743, 3.1), whose mechanism is not compared: the places of mechTypes, its
@@ -435,6 +499,17 @@ static inline const char *krb_status_text(krb_status status) {
     case KRB_PAC_TYPE: return "a buffer of an unknown type";
     case KRB_PAC_RANGE: return "a buffer of octets that are not there";
     case KRB_FRAME_SIZE: return "a frame of too many octets";
+    case KRB_PROXY_TOO_LARGE: return "more octets than a proxy takes";
+    case KRB_PROXY_NO_LENGTH: return "no length in front of the message";
+    case KRB_PROXY_OTHER_LENGTH: return "another length in front of the message";
+    case KRB_PROXY_NO_DOMAIN: return "no target-domain";
+    case KRB_PROXY_OTHER_KIND: return "a message that does not go this way";
+    case KRB_PROXY_FRAME_LENGTH: return "a frame that ends in its first message";
+    case KRB_PROXY_INVALID: return "a message that is no encoding of its type";
+    case KRB_PROXY_TRUNCATED: return "a message that ends too early";
+    case KRB_PROXY_UNSUPPORTED: return "a message with a length that is not supported";
+    case KRB_PROXY_PVNO: return "another pvno than 5";
+    case KRB_PROXY_MSG_TYPE: return "the msg-type of another message";
     default: return "an unknown status";
     }
 }

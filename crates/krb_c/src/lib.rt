@@ -7,4 +7,5 @@ mod frames;
 mod gss;
 mod kept;
 mod parts;
+mod proxy;
 mod sizes;

@@ -1,0 +1,131 @@
+//! A proxy in front of a KDC, and its clients.
+
+ghost use Rattle.krb_calls.specs.Handing.{IsAnswered};
+ghost use Rattle.krb_kdc_proxy.specs.Replies.{reply_types};
+ghost use Rattle.krb_kdc_proxy.specs.Requests.{types};
+ghost use Rattle.krb_kdc_proxy.specs.Streams.{IsNoDatagramReply, IsNoStreamReply};
+ghost use Rattle.krb_proxy_calls.specs.Clients.{IsReplyTold, IsRequestMade, RefusesRequest};
+ghost use Rattle.krb_proxy_calls.specs.Replies.{IsArrivalTold, IsDatagramReplyMade, IsReplyMade};
+ghost use Rattle.krb_proxy_calls.specs.Requests.{IsLenientTold, IsRequestTold};
+ghost use Rattle.krb_proxy_calls.specs.Statuses.{Refuses};
+
+use krb_der::DerEncode;
+use krb_msg::messages::{KdcProxyMessage, KrbError};
+use krb_msg_app::messages::{ApRep, ApReq, KrbPriv};
+use krb_msg_kdc::messages::{AsRep, AsReq, TgsRep, TgsReq};
+use std::alloc::Global;
+
+/// `krb_proxy_request` of `krb.h`: a request that a client posts to a proxy (MS-KKDCP, 2.2.2 and 3.2.5.1).
+#[unsafe(no_mangle)]
+pub extern "C" fn krb_proxy_request(
+    alloc: Global,
+    octets: &[u8],
+    service: &mut u32,
+    names_one_realm: &mut bool,
+    message_offset: &mut usize,
+    message_size: &mut usize,
+) -> u32
+    ensures { IsRequestTold ⟦<KdcProxyMessage as DerEncode>⟧
+        (types ⟦<AsReq as DerEncode>⟧ ⟦<TgsReq as DerEncode>⟧ ⟦<ApReq as DerEncode>⟧ ⟦<KrbPriv as DerEncode>⟧)
+        octets.now service.new names_one_realm.new message_offset.new message_size.new result }
+{
+    krb_proxy_calls::proxy_request(
+        alloc,
+        octets,
+        service,
+        names_one_realm,
+        message_offset,
+        message_size,
+    )
+}
+
+/// `krb_proxy_request_lenient` of `krb.h`: the same, where the first octets of the message alone are looked at.
+#[unsafe(no_mangle)]
+pub extern "C" fn krb_proxy_request_lenient(
+    alloc: Global,
+    octets: &[u8],
+    service: &mut u32,
+    message_offset: &mut usize,
+    message_size: &mut usize,
+) -> u32
+    ensures { IsLenientTold ⟦<KdcProxyMessage as DerEncode>⟧ octets.now service.new message_offset.new message_size.new result }
+{
+    krb_proxy_calls::proxy_request_lenient(alloc, octets, service, message_offset, message_size)
+}
+
+/// `krb_proxy_reply` of `krb.h`: what goes back for a reply that came over a stream (MS-KKDCP, 3.2.5.2).
+#[unsafe(no_mangle)]
+pub extern "C" fn krb_proxy_reply(
+    alloc: Global,
+    octets: &[u8],
+    out: &mut [u8],
+    size: &mut usize,
+) -> u32
+    ensures { IsAnswered
+        (IsReplyMade ⟦<KdcProxyMessage as DerEncode>⟧ (reply_types ⟦<AsRep as DerEncode>⟧ ⟦<TgsRep as DerEncode>⟧
+        ⟦<KrbError as DerEncode>⟧ ⟦<ApRep as DerEncode>⟧ ⟦<KrbPriv as DerEncode>⟧) octets.now)
+        (Refuses (IsNoStreamReply (reply_types ⟦<AsRep as DerEncode>⟧ ⟦<TgsRep as DerEncode>⟧
+        ⟦<KrbError as DerEncode>⟧ ⟦<ApRep as DerEncode>⟧ ⟦<KrbPriv as DerEncode>⟧) octets.now))
+        out.old out.new size.new result }
+{
+    krb_proxy_calls::proxy_reply(alloc, octets, out, size)
+}
+
+/// `krb_proxy_reply_datagram` of `krb.h`: the same for a reply that came in a datagram.
+#[unsafe(no_mangle)]
+pub extern "C" fn krb_proxy_reply_datagram(
+    alloc: Global,
+    octets: &[u8],
+    out: &mut [u8],
+    size: &mut usize,
+) -> u32
+    ensures { IsAnswered
+        (IsDatagramReplyMade ⟦<KdcProxyMessage as DerEncode>⟧ (reply_types ⟦<AsRep as DerEncode>⟧ ⟦<TgsRep as DerEncode>⟧
+        ⟦<KrbError as DerEncode>⟧ ⟦<ApRep as DerEncode>⟧ ⟦<KrbPriv as DerEncode>⟧) octets.now)
+        (Refuses (IsNoDatagramReply (reply_types ⟦<AsRep as DerEncode>⟧ ⟦<TgsRep as DerEncode>⟧
+        ⟦<KrbError as DerEncode>⟧ ⟦<ApRep as DerEncode>⟧ ⟦<KrbPriv as DerEncode>⟧) octets.now))
+        out.old out.new size.new result }
+{
+    krb_proxy_calls::proxy_reply_datagram(alloc, octets, out, size)
+}
+
+/// `krb_proxy_is_whole` of `krb.h`: whether a reply over a stream has all its octets (RFC 4120, 7.2.2).
+#[unsafe(no_mangle)]
+pub extern "C" fn krb_proxy_is_whole(octets: &[u8], limit: usize) -> u32
+    ensures { IsArrivalTold octets.now limit result }
+{
+    krb_proxy_calls::proxy_is_whole(octets, limit)
+}
+
+/// `krb_make_proxy_request` of `krb.h`: what a client posts to a proxy (MS-KKDCP, 2.2.2).
+#[unsafe(no_mangle)]
+pub extern "C" fn krb_make_proxy_request(
+    alloc: Global,
+    message: &[u8],
+    domain: &[u8],
+    out: &mut [u8],
+    size: &mut usize,
+) -> u32
+    ensures { IsAnswered
+        (IsRequestMade ⟦<KdcProxyMessage as DerEncode>⟧
+        (types ⟦<AsReq as DerEncode>⟧ ⟦<TgsReq as DerEncode>⟧ ⟦<ApReq as DerEncode>⟧ ⟦<KrbPriv as DerEncode>⟧) message.now domain.now)
+        (RefusesRequest ⟦<KdcProxyMessage as DerEncode>⟧
+        (types ⟦<AsReq as DerEncode>⟧ ⟦<TgsReq as DerEncode>⟧ ⟦<ApReq as DerEncode>⟧ ⟦<KrbPriv as DerEncode>⟧) message.now domain.now)
+        out.old out.new size.new result }
+{
+    krb_proxy_calls::make_proxy_request(alloc, message, domain, out, size)
+}
+
+/// `krb_read_proxy_reply` of `krb.h`: the reply that a proxy answered (MS-KKDCP, 3.2.5.2).
+#[unsafe(no_mangle)]
+pub extern "C" fn krb_read_proxy_reply(
+    alloc: Global,
+    octets: &[u8],
+    message_offset: &mut usize,
+    message_size: &mut usize,
+) -> u32
+    ensures { IsReplyTold ⟦<KdcProxyMessage as DerEncode>⟧ (reply_types ⟦<AsRep as DerEncode>⟧ ⟦<TgsRep as DerEncode>⟧
+        ⟦<KrbError as DerEncode>⟧ ⟦<ApRep as DerEncode>⟧ ⟦<KrbPriv as DerEncode>⟧) octets.now message_offset.new message_size.new result }
+{
+    krb_proxy_calls::read_proxy_reply(alloc, octets, message_offset, message_size)
+}

@@ -1,0 +1,4 @@
+pub mod Statuses
+pub mod Requests
+pub mod Replies
+pub mod Clients
