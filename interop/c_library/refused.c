@@ -63,6 +63,30 @@ static bool is_subkey(const struct row *row) { return row->usage & 2; }
 
 enum { SEQUENCE = 4711, ROTATION = 28 };
 
+static krb_status proxy_call(const struct row *row, struct octets *room, size_t *size, struct cells *to) {
+    const struct octets *beside = &row->beside, *input = &row->input;
+    const char *call = row->call;
+    size_t *at = to->at;
+    if (!strcmp(call, "request")) {
+        krb_status status = krb_proxy_request(input->at, input->count, &to->word, &to->sealed, &at[0], &at[1]);
+        at[2] = to->word, at[3] = to->sealed;
+        return status;
+    }
+    if (!strcmp(call, "lenient")) {
+        krb_status status = krb_proxy_request_lenient(input->at, input->count, &to->word, &at[0], &at[1]);
+        at[2] = to->word, at[3] = 0;
+        return status;
+    }
+    if (!strcmp(call, "read")) {
+        at[2] = at[3] = 0;
+        return krb_read_proxy_reply(input->at, input->count, &at[0], &at[1]);
+    }
+    if (!strcmp(call, "make_reply")) return krb_proxy_reply(input->at, input->count, room->at, room->count, size);
+    if (!strcmp(call, "make_datagram")) return krb_proxy_reply_datagram(input->at, input->count, room->at, room->count, size);
+    if (!strcmp(call, "make_client")) return krb_make_proxy_request(input->at, input->count, beside->at, beside->count, room->at, room->count, size);
+    die("a call that is none");
+}
+
 static krb_status other_call(const struct row *row, struct octets *room, size_t *size, struct cells *to) {
     const struct octets *key = &row->key, *beside = &row->beside, *input = &row->input;
     const char *call = row->call;
@@ -93,7 +117,7 @@ static krb_status other_call(const struct row *row, struct octets *room, size_t 
             ROTATION, input->at, input->count, room->at, room->count, size);
     if (!strcmp(call, "unwrap")) return krb_unwrap(row->number, key->at, key->count, by_acceptor(row), is_subkey(row), input->at, input->count,
             &to->sequence, &to->sealed, room->at, room->count, size);
-    die("a call that is none");
+    return proxy_call(row, room, size, to);
 }
 
 /* Whether it answers octets in the room. */
@@ -292,14 +316,33 @@ static void try_tokens(const char *name) {
     fclose(file);
 }
 
+/* The calls of a KDC proxy, of rows that are taken: a call, octets, what else it takes, and the status. */
+static void try_proxies(const char *name) {
+    static const char *const calls[] = {"request", "lenient", "read", "make_reply", "make_datagram", "make_client"};
+    FILE *file = fopen(name, "r");
+    char *columns[4];
+    if (!file) die("a table is not there");
+    while (next_row(file, columns, 4)) {
+        for (size_t k = 0; k < sizeof calls / sizeof *calls; k++) {
+            if (strcmp(columns[3], "DONE") || strcmp(columns[0], calls[k] + (k > 2 ? 5 : 0))) continue;
+            struct octets none = {NULL, 0};
+            struct row row = {calls[k], 0, 0, none, octets_of_text(columns[2]), octets_of_text(columns[1])};
+            try_call(&row);
+            drop(&row.beside), drop(&row.input);
+        }
+    }
+    fclose(file);
+}
+
 int main(int count, char **words) {
-    if (count != 6) die("refused ROWS MESSAGES FIELDS FRAMES TOKENS");
+    if (count != 7) die("refused ROWS MESSAGES FIELDS FRAMES TOKENS PROXIES");
     try_rows(words[1]);
     try_messages(words[2]);
     try_passwords();
     try_fields(words[3]);
     try_frames(words[4]);
     try_tokens(words[5]);
+    try_proxies(words[6]);
     printf("%ld allocations were refused, at most %ld a call\n", refusals, most);
     return counted();
 }

@@ -306,7 +306,8 @@ def try_made_answers():
         expect(tuple(spnego.neg_token_resp(whole)) == (arguments[0], *(it or None for it in arguments[1:])), "a negTokenResp of %s is read" % (arguments,))
     for size in (101, 102, 127, 128, 65536, 1 << 20):
         made = spnego.make_neg_token_resp(spnego.NegState.ACCEPT_INCOMPLETE, spnego.KERBEROS, bytes(size), b"m")
-        expect(resp_of(made) == (1, spnego.KERBEROS, bytes(size), b"m") and tuple(spnego.neg_token_resp(made)) == resp_of(made), "a responseToken of %d octets" % size)
+        right = (1, spnego.KERBEROS, bytes(size), b"m")
+        expect(resp_of(made) == right and tuple(spnego.neg_token_resp(made)) == right, "a responseToken of %d octets" % size)
     for state in (4, 127, 128, 255, 256, 257, 2**32, -1):
         expect(outcome(spnego.make_neg_token_resp, state) == Status.NUMBER, "a negTokenResp of the state %d" % state)
     for wrong, status in ((b"\x80\x01", 9), (b"\x2a\x86", 9), (b"\x2a" + b"\xff" * 9 + b"\x7f", 11)):

@@ -4,6 +4,7 @@
 - `krb.gss`: MIC and Wrap tokens of the GSS-API (RFC 4121).
 - `krb.messages`: whether octets are the one encoding of a message, parts sealed and opened (RFC 4120).
 - `krb.frames`: frames of password changes (RFC 3244), messages through a proxy to a KDC (MS-KKDCP).
+- `krb.proxy`: the requests and replies that a KDC proxy passes on, and no others (MS-KKDCP).
 - `krb.pac`: the buffers of a PAC (MS-PAC). `krb.spnego`: tokens of the GSS-API (RFC 2743).
 
 Octets come in as any object with a buffer of octets, as bytes, bytearray or memoryview, and go out as bytes. What a call refuses is
@@ -12,7 +13,7 @@ Octets come in as any object with a buffer of octets, as bytes, bytearray or mem
 The shared object is `libkrbc.so.0` beside this file, or what the variable KRBC_LIBRARY names."""
 
 from krb._library import Refused, Status
-from krb import crypto, frames, gss, messages, pac, spnego
+from krb import crypto, frames, gss, messages, pac, proxy, spnego
 
-__all__ = ["Refused", "Status", "crypto", "frames", "gss", "messages", "pac", "spnego"]
+__all__ = ["Refused", "Status", "crypto", "frames", "gss", "messages", "pac", "proxy", "spnego"]
 __version__ = "0.1.0"

@@ -38,6 +38,17 @@ class Status(enum.IntEnum):
     PAC_TYPE = 26
     PAC_RANGE = 27
     FRAME_SIZE = 28
+    PROXY_TOO_LARGE = 30
+    PROXY_NO_LENGTH = 31
+    PROXY_OTHER_LENGTH = 32
+    PROXY_NO_DOMAIN = 33
+    PROXY_OTHER_KIND = 34
+    PROXY_FRAME_LENGTH = 35
+    PROXY_INVALID = 36
+    PROXY_TRUNCATED = 37
+    PROXY_UNSUPPORTED = 38
+    PROXY_PVNO = 39
+    PROXY_MSG_TYPE = 40
 
 
 TEXTS = {
@@ -66,6 +77,17 @@ TEXTS = {
     Status.PAC_TYPE: "a buffer of an unknown type",
     Status.PAC_RANGE: "a buffer of octets that are not there",
     Status.FRAME_SIZE: "a frame of too many octets",
+    Status.PROXY_TOO_LARGE: "more octets than a proxy takes",
+    Status.PROXY_NO_LENGTH: "no length in front of the message",
+    Status.PROXY_OTHER_LENGTH: "another length in front of the message",
+    Status.PROXY_NO_DOMAIN: "no target-domain",
+    Status.PROXY_OTHER_KIND: "a message that does not go this way",
+    Status.PROXY_FRAME_LENGTH: "a frame that ends in its first message",
+    Status.PROXY_INVALID: "a message that is no encoding of its type",
+    Status.PROXY_TRUNCATED: "a message that ends too early",
+    Status.PROXY_UNSUPPORTED: "a message with a length that is not supported",
+    Status.PROXY_PVNO: "another pvno than 5",
+    Status.PROXY_MSG_TYPE: "the msg-type of another message",
 }
 
 

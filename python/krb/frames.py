@@ -1,6 +1,6 @@
 """Frames around messages: of password changes (RFC 3244, 2), and of messages that go through a proxy to a KDC (MS-KKDCP, 2.2.2)."""
 
-from typing import NamedTuple, Optional
+from typing import NamedTuple, Optional, Tuple
 
 from krb._library import IN, Call, Octets, Refused, Status
 from krb._places import I64_OUT, SIZE_OUT, Telling
@@ -48,17 +48,26 @@ _proxy_message = Telling("krb_kdc_proxy_message", [IN], [SIZE_OUT] * 4)
 _proxy_hint = Telling("krb_kdc_proxy_hint", [IN], [I64_OUT])
 
 
+def proxy_places(octets: bytes) -> Tuple[int, ...]:
+    """The places of kerb-message and of target-domain, each an offset and a size. Refused: INVALID, TRUNCATED, UNSUPPORTED, MEMORY."""
+    return _proxy_message.told(octets)
+
+
+def proxy_hint(octets: bytes) -> Optional[int]:
+    """dclocator-hint, or None. Refused: INVALID, TRUNCATED, UNSUPPORTED, TOO_LARGE past 64 bits, MEMORY."""
+    try:
+        return _proxy_hint.told(octets)[0]
+    except Refused as refused:
+        if refused.status == Status.ABSENT:
+            return None
+        raise
+
+
 def proxy_message(octets: Octets) -> ProxyMessage:
     """The message whose one DER encoding the octets are. Refused: INVALID, TRUNCATED, UNSUPPORTED, TOO_LARGE (a hint past 64 bits), MEMORY."""
     octets = bytes(memoryview(octets).cast("B"))
-    message, message_size, domain, domain_size = _proxy_message.told(octets)
-    hint: Optional[int] = None
-    try:
-        hint = _proxy_hint.told(octets)[0]
-    except Refused as refused:
-        if refused.status != Status.ABSENT:
-            raise
-    return ProxyMessage(octets[message : message + message_size], octets[domain : domain + domain_size] if domain else None, hint)
+    message, message_size, domain, domain_size = proxy_places(octets)
+    return ProxyMessage(octets[message : message + message_size], octets[domain : domain + domain_size] if domain else None, proxy_hint(octets))
 
 
 _make_proxy_message = Call("krb_make_kdc_proxy_message", IN, IN, has_room=True)

@@ -1,0 +1,174 @@
+"""What passes through a KDC proxy (MS-KKDCP): requests to a KDC and to the server that changes passwords, and their replies.
+
+A request or a reply is the octets that HTTP carries, a KDC-PROXY-MESSAGE (2.2.2). What goes on is a slice of what came: nothing is encoded anew."""
+
+import ctypes
+import enum
+from typing import NamedTuple, Optional, Tuple
+
+from krb import messages
+from krb._library import IN, SIZE, Call, Octets, Refused, Status
+from krb._places import SIZE_OUT, U32_OUT, Telling
+from krb.frames import proxy_hint, proxy_places
+from krb.messages import Field, Message
+
+__all__ = ["Service", "ProxyRequest", "read_request", "read_request_lenient", "write_reply", "write_reply_datagram", "is_whole"]
+__all__ += ["write_request", "read_reply", "http_status"]
+
+
+class Service(enum.IntEnum):
+    """Whom a request is for: a KDC (RFC 4120), or the server that changes passwords (RFC 3244)."""
+
+    KDC = 1
+    KPASSWD = 2
+
+
+class ProxyRequest(NamedTuple):
+    """A request through a proxy, and what of it a server has to look at.
+
+    - `realm`: of an AS-REQ and a TGS-REQ that of the body, of a password change that of the AP-REQ's ticket.
+    - `target_domain`: the realm for which the proxy is to find a server, as the client named it; `names_one_realm` says whether it is `realm`, ASCII letters of
+      either case alike.
+    - `client`, `server`: the components of their names, for a log; None where there is no name, or one of no components. They hold any ASCII.
+    - `hint`: dclocator-hint; None where there is none, or 64 bits do not hold it.
+    - `stream`: the octets to send over a stream, the message behind its length in four octets; `datagram`: the message alone."""
+
+    service: Service
+    realm: Optional[bytes]
+    target_domain: bytes
+    names_one_realm: Optional[bool]
+    client: Optional[Tuple[bytes, ...]]
+    server: Optional[Tuple[bytes, ...]]
+    hint: Optional[int]
+    stream: bytes
+    datagram: bytes
+
+
+_request = Telling("krb_proxy_request", [IN], [U32_OUT, ctypes.c_bool, SIZE_OUT, SIZE_OUT])
+_request_lenient = Telling("krb_proxy_request_lenient", [IN], [U32_OUT, SIZE_OUT, SIZE_OUT])
+_reply = Call("krb_proxy_reply", IN, has_room=True)
+_reply_datagram = Call("krb_proxy_reply_datagram", IN, has_room=True)
+_is_whole = Call("krb_proxy_is_whole", IN, SIZE)
+_make_request = Call("krb_make_proxy_request", IN, IN, has_room=True)
+_read_reply = Telling("krb_read_proxy_reply", [IN], [SIZE_OUT, SIZE_OUT])
+
+_LENGTH = 4
+_FRAME = 48  # what a KDC-PROXY-MESSAGE has at most beside the octets of its fields
+_GENERAL_STRING = b"\x1b"
+
+
+def _name(number: int, field: int, octets: bytes) -> Optional[Tuple[bytes, ...]]:
+    """The components of a name in a message that is known to be whole. They stand behind one another, and no element behind them has their tag."""
+    try:
+        place = messages.field_place(number, field, octets)
+    except Refused as refused:
+        if refused.status == Status.ABSENT:
+            return None
+        raise
+    found = [octets[place]]
+    at = place.stop
+    while octets[at : at + 1] == _GENERAL_STRING:
+        size, at = octets[at + 1], at + 2
+        if size >= 128:
+            size, at = int.from_bytes(octets[at : at + size - 128], "big"), at + size - 128
+        found.append(octets[at : at + size])
+        at += size
+    return tuple(found)
+
+
+def _hint(octets: bytes) -> Optional[int]:
+    try:
+        return proxy_hint(octets)
+    except Refused as refused:
+        if refused.status == Status.TOO_LARGE:
+            return None
+        raise
+
+
+def read_request(octets: Octets) -> ProxyRequest:
+    """The request that the octets are: the one DER encoding of a KDC-PROXY-MESSAGE with a target-domain, whose kerb-message is a length and so many octets, and
+    these the one encoding of an AS-REQ or a TGS-REQ, or a frame in which a password is changed. Any other octets are refused.
+
+    Refused: PROXY_TOO_LARGE past 131072 octets; of the KDC-PROXY-MESSAGE INVALID, TRUNCATED, UNSUPPORTED; PROXY_NO_LENGTH, PROXY_OTHER_LENGTH,
+    PROXY_NO_DOMAIN, PROXY_OTHER_KIND, PROXY_FRAME_LENGTH; of the message PROXY_INVALID, PROXY_TRUNCATED, PROXY_UNSUPPORTED, PROXY_PVNO, PROXY_MSG_TYPE;
+    MEMORY. `http_status` says what to answer."""
+    octets = bytes(memoryview(octets).cast("B"))
+    service, names_one_realm, offset, size = _request.told(octets)
+    _, _, domain, domain_size = proxy_places(octets)
+    message = octets[offset : offset + size]
+    if service == Service.KDC:
+        number, asked = Message(message[0] - 0x60), message
+        realm, server = Field.REALM, Field.SERVER_NAME
+    else:
+        number, asked = Message.AP_REQ, message[6 : 6 + int.from_bytes(message[4:6], "big")]
+        realm, server = Field.TICKET_REALM, Field.TICKET_SERVER_NAME
+    return ProxyRequest(
+        Service(service),
+        messages.field_octets(number, realm, asked),
+        octets[domain : domain + domain_size],
+        bool(names_one_realm),
+        _name(number, Field.CLIENT_NAME, asked),
+        _name(number, server, asked),
+        _hint(octets),
+        octets[offset - _LENGTH : offset + size],
+        message,
+    )
+
+
+def read_request_lenient(octets: Octets) -> ProxyRequest:
+    """As `read_request`, but of the message its first octets alone are looked at: the application tag of an AS-REQ or a TGS-REQ, or the length and the version
+    of a frame. So messages pass that strict DER refuses, as those with a name past octet 127, and octets that are no message. `realm`, `names_one_realm`,
+    `client` and `server` are None, since nothing is read of them.
+
+    Refused: as `read_request` up to PROXY_OTHER_KIND; MEMORY."""
+    octets = bytes(memoryview(octets).cast("B"))
+    service, offset, size = _request_lenient.told(octets)
+    _, _, domain, domain_size = proxy_places(octets)
+    stream, message = octets[offset - _LENGTH : offset + size], octets[offset : offset + size]
+    return ProxyRequest(Service(service), None, octets[domain : domain + domain_size], None, None, None, _hint(octets), stream, message)
+
+
+def write_reply(octets: Octets) -> bytes:
+    """The KDC-PROXY-MESSAGE that goes back, of what a server sent over a stream: a length, and the one encoding of an AS-REP, a TGS-REP or a KRB-ERROR, or a
+    frame of the reply to a password change.
+
+    Refused: PROXY_NO_LENGTH, PROXY_OTHER_LENGTH; then as `read_request` of the message; MEMORY."""
+    return _reply.octets(len(octets) + _FRAME, octets)
+
+
+def write_reply_datagram(octets: Octets) -> bytes:
+    """As `write_reply`, of what a server sent in a datagram, without its length. Refused: as `read_request` of the message; MEMORY."""
+    return _reply_datagram.octets(len(octets) + _LENGTH + _FRAME, octets)
+
+
+def is_whole(octets: Octets, limit: int) -> bool:
+    """Whether what came of a stream's reply so far is all of it: its length, and so many octets.
+
+    Refused: PROXY_TOO_LARGE where it never will be: its length is past the limit or past 2147483647, or there are more octets than it says."""
+    if limit < 0:
+        raise ValueError("a limit below 0")
+    status = _is_whole.status(octets, min(limit, 2 ** (8 * ctypes.sizeof(ctypes.c_size_t)) - 1))
+    if status in (Status.DONE, Status.TRUNCATED):
+        return status == Status.DONE
+    raise Refused(status)
+
+
+def write_request(message: Octets, target_domain: Octets) -> bytes:
+    """The client's half: the request of this message, without its length, for this realm. `read_request` reads it as these.
+
+    Refused: INVALID where the realm is not of ASCII; else what `read_request` refuses of it; MEMORY."""
+    return _make_request.octets(len(message) + len(target_domain) + _LENGTH + _FRAME, message, target_domain)
+
+
+def read_reply(octets: Octets) -> bytes:
+    """The client's half: the message, without its length, that a proxy's reply holds.
+
+    Refused: of the KDC-PROXY-MESSAGE INVALID, TRUNCATED, UNSUPPORTED; then as `write_reply`."""
+    octets = bytes(memoryview(octets).cast("B"))
+    offset, size = _read_reply.told(octets)
+    return octets[offset : offset + size]
+
+
+def http_status(refused: Refused) -> int:
+    """The status of HTTP that a server answers to a request that is refused so: 413 where it is too large, 503 where memory was wanting, else 400."""
+    return {Status.PROXY_TOO_LARGE: 413, Status.MEMORY: 503}.get(refused.status, 400)
