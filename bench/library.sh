@@ -1,6 +1,7 @@
-# Builds the library that C calls; sourced by `run` and `secrets`, which set `here`, `kit` and `scratch`.
+# Builds the library that C calls; sourced by `run`, `secrets` and `proxy`, which set `here`, `kit` and `scratch`. `proxy` sets the next two anew.
 
 libraries="krb_crypto_block krb_crypto_message krb_der krb_msg_parts krb_seal krb_crypto_suite"
+source=lib.rt.in
 
 # The lines of a crates.txt (lowest first) for the libraries in `wanted`, and for what they depend on.
 lines_of() {
@@ -24,7 +25,7 @@ build_library() {
         cp "$LIBRARY" "$2/library.a"
         return
     fi
-    if [ -e "$1/crates/krb_crypto_suite/src/prepared.rt" ]; then
+    if [ $source = lib.rt.in ] && [ -e "$1/crates/krb_crypto_suite/src/prepared.rt" ]; then
         wanted="$libraries krb_crypto_aes_tables"
     else
         wanted=$libraries
@@ -34,7 +35,7 @@ build_library() {
         cp -Rp "$1/crates/$crate" "$2/crates/"
     done
     echo "bench staticlib: $wanted" >>"$2/crates.txt"
-    cp "$here/lib.rt.in" "$2/crates/bench/src/lib.rt"
+    cp "$here/$source" "$2/crates/bench/src/lib.rt"
     if [ "$wanted" != "$libraries" ]; then
         cp "$here/prepared.rt.in" "$2/crates/bench/src/prepared.rt"
         echo "mod prepared;" >>"$2/crates/bench/src/lib.rt"

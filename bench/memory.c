@@ -2,6 +2,7 @@
  * numbers, with tabs between. */
 #include "answers.h"
 #include "counter.h"
+#include "element.h"
 
 enum { LARGE = 1 << 20, FRAME = 64 };
 
@@ -60,21 +61,6 @@ static void count_part(const struct part *part) {
                                  it.plain, it.plain_size, 2, NO_ROOM));
     snprintf(name, sizeof name, "open a part of %zu octets, suite %zu", it.plain_size, part->etype);
     COUNT(bench_open_part(part->etype, it.key, it.key_size, 2, it.sealed, it.sealed_size));
-}
-
-/* Puts a tag and a length before the last `count` octets before `end`, and returns the new start. */
-static uint8_t *close_element(uint8_t tag, const uint8_t *end, uint8_t *front) {
-    size_t count = end - front, digits = 0;
-    uint8_t length[8];
-    for (size_t rest = count; rest && count > 127; rest >>= 8) {
-        length[digits++] = rest & 0xff;
-    }
-    for (size_t i = 0; i < digits; i++) {
-        *--front = length[i];
-    }
-    *--front = digits ? 0x80 | digits : count;
-    *--front = tag;
-    return front;
 }
 
 /* Counts the reading of a part that is made of a field with these octets before it and after it. */
