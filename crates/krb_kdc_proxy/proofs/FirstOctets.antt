@@ -8,7 +8,7 @@ use Rattle.krb_kdc_proxy.specs.Lenient.{IsLenientRequest, IsLookedAt, IsNoLenien
 use Rattle.krb_kdc_proxy.specs.Messages.{OrMemory}
 use Rattle.krb_kdc_proxy.specs.Prefixed.{IsNotPrefixed, IsPrefixed}
 use Rattle.krb_kdc_proxy.specs.Requests.{IsPosted}
-use Rattle.krb_kdc_proxy.specs.Standing.{StandsAt}
+use Rattle.krb_kdc_proxy.specs.Standing.{IsKerbMessage}
 use Rattle.krb_kdc_proxy.proofs.Requests.{stands_prefixed}
 
 -- kerb-message is no message behind its length
@@ -18,7 +18,7 @@ not_prefixed proxy octets stream message e posted same none = inr (inr (message,
 
 -- the request that a KDC-PROXY-MESSAGE holds
 pub looked_at : (proxy : EncodingOf KdcProxyMessage) (octets stream datagram : List ℕ) (start : ℕ) (message : KdcProxyMessage) (r : LenientRequest)
-    → IsPosted proxy octets message → (stream ≡ message.kerb_message) × StandsAt stream start octets → IsPrefixed stream datagram → IsLookedAt message stream datagram (start + 4) r
+    → IsPosted proxy octets message → (stream ≡ message.kerb_message) × IsKerbMessage stream start octets → IsPrefixed stream datagram → IsLookedAt message stream datagram (start + 4) r
     → IsLenientRequest proxy octets r
 looked_at proxy octets stream datagram start message r posted (same, stands) prefix is = record {
   message = message;
@@ -26,5 +26,5 @@ looked_at proxy octets stream datagram start message r posted (same, stands) pre
   datagram = datagram;
   prefix = subst (λ (l : List ℕ). IsPrefixed l datagram) same prefix;
   looked_at = record { domain = is.domain; hint = is.hint; looks = is.looks; stream_is = is.stream_is ∙ same; datagram_is = is.datagram_is; offset_is = refl };
-  stands = stands_prefixed octets datagram start r.offset is.offset_is (subst (λ (l : List ℕ). StandsAt l start octets) prefix.1 stands);
+  stands = stands_prefixed octets datagram start r.offset is.offset_is (subst (λ (l : List ℕ). IsKerbMessage l start octets) prefix.1 stands);
 }

@@ -11,7 +11,7 @@ use Rattle.krb_kdc_proxy.specs.declared.request.ProxyRequest.{ProxyRequest}
 use Rattle.krb_kdc_proxy.specs.Lenient.{IsLenientRequest, IsNoLenientRequest, LooksLike, LooksLikeNone}
 use Rattle.krb_kdc_proxy.specs.Prefixed.{IsPrefixed}
 use Rattle.krb_kdc_proxy.specs.Requests.{Asks, IsRequest, RequestTypes, asked_by}
-use Rattle.krb_kdc_proxy.proofs.OneMessage.{one_value, prefixed_is, tagged}
+use Rattle.krb_kdc_proxy.proofs.OneMessage.{one_offset, one_value, prefixed_is, tagged}
 use Rattle.krb_kdc_proxy.proofs.OneRequest.{RequestTags, not_posted, one_datagram}
 
 one_look : (octets : List ℕ) (a b : Service) → LooksLike octets a → LooksLike octets b → a ≡ b
@@ -35,6 +35,7 @@ module _ (t : RequestTypes) (tags : RequestTags t) where
   module _ (proxy : EncodingOf KdcProxyMessage) where
     pub same_lenient : (octets : List ℕ) (r : ProxyRequest) (s : LenientRequest) → IsRequest proxy t octets r → IsLenientRequest proxy octets s
         → (r.service ≡ s.service) × (r.target_domain ≡ s.target_domain) × (r.hint ≡ s.hint) × (r.stream.now ≡ s.stream.now) × (r.datagram.now ≡ s.datagram.now)
+        × (r.offset ≡ s.offset)
     same_lenient octets r s p q =
         let same = one_value proxy octets p.message q.message p.posted.1 q.posted.1 in
         let one = one_datagram t tags proxy octets p.datagram q.datagram p.message q.message p.posted.1 q.posted.1 p.prefix q.prefix in
@@ -44,6 +45,7 @@ module _ (t : RequestTypes) (tags : RequestTags t) where
           sym p.carried.hint ∙ ap (λ (v : KdcProxyMessage). v.dclocator_hint.0) same ∙ q.looked_at.hint,
           p.carried.stream_is ∙ ap (λ (v : KdcProxyMessage). v.kerb_message) same ∙ sym q.looked_at.stream_is,
           p.carried.datagram_is ∙ one ∙ sym q.looked_at.datagram_is,
+          one_offset octets p.datagram q.datagram r.offset s.offset p.stands q.stands,
         )
 
     pub lenient_takes : (octets : List ℕ) (r : ProxyRequest) (error : ProxyError) → IsRequest proxy t octets r → IsNoLenientRequest proxy octets error → ⊥

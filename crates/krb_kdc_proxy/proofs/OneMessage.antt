@@ -1,5 +1,5 @@
 -- Octets are one message of a kind, or none, and never both.
-use Rattle.std.proofs.Common.{◌≡◌, ℕ, List, ◌∷◌, ◌++◌, length, true, false, refl, sym, ap, ◌∙◌, arith, eqb, eq-eqb}
+use Rattle.std.proofs.Common.{◌≡◌, ℕ, ◌+◌, List, ◌∷◌, ◌++◌, length, true, false, refl, sym, ap, ◌∙◌, arith, eqb, eq-eqb}
 use Rattle.std.proofs.lemmas.Bool.{eqb-true}
 use Rattle.std.specs.Int.{to_be_bytes, w32}
 use Rattle.krb_der_core.specs.declared.der.DerEncode.{Ghosts as EncodingOf}
@@ -10,8 +10,10 @@ use Rattle.krb_kdc_proxy.specs.declared.error.ProxyError.{ProxyError}
 use Rattle.krb_kdc_proxy.specs.declared.error.ProxyError.TheVariants as errors
 use Rattle.krb_kdc_proxy.specs.declared.kind.MessageKind.{MessageKind}
 use Rattle.krb_kdc_proxy.specs.Messages.{Encodes, IsMessage, IsNoMessage, Numbers}
-use Rattle.krb_kdc_proxy.specs.Prefixed.{IsNotPrefixed, IsPrefixed}
+use Rattle.krb_kdc_proxy.specs.Prefixed.{IsNotPrefixed, IsPrefixed, prefixed}
 use Rattle.krb_kdc_proxy.specs.Requests.{IsTagged}
+use Rattle.krb_kdc_proxy.specs.Standing.{StandsPrefixed, kerb_message_path}
+use Rattle.krb_places.specs.PathLaws.{one_end}
 
 begins : (tag u : ℕ) (content : List ℕ) → u ≡ tag → IsTagged tag (tlv u content)
 unfolding tlv
@@ -52,6 +54,12 @@ module _ {A : Type 0} (t : EncodingOf A) where
 
 pub one_prefixed : (octets a b : List ℕ) → IsPrefixed octets a → IsPrefixed octets b → a ≡ b
 one_prefixed octets a b p q = (same_prefixes (to_be_bytes w32 (length a)) (to_be_bytes w32 (length b)) a b refl (sym p.1 ∙ q.1)).1
+
+-- kerb-message has one place
+pub one_offset : (octets a b : List ℕ) (m n : ℕ) → StandsPrefixed a m octets → StandsPrefixed b n octets → m ≡ n
+one_offset octets a b m n p q =
+    let same = one_end kerb_message_path octets p.start q.start (prefixed a) (prefixed b) p.whole.0 q.whole.0 in
+    p.behind ∙ ap (λ (k : ℕ). k + 4) same.0 ∙ sym q.behind
 
 pub prefixed_is : (octets message : List ℕ) (error : ProxyError) → IsPrefixed octets message → IsNotPrefixed octets error → ⊥
 prefixed_is octets message errors.TooLarge p n = n

@@ -16,7 +16,7 @@ use Rattle.krb_kdc_proxy.specs.Prefixed.{IsPrefixed}
 use Rattle.krb_kdc_proxy.specs.Requests.{Asks, AsksNothing, IsChange, IsKdcRequest, IsNoChange, IsNoKdcRequest, IsNoRequest, IsNotPosted, IsRequest, RequestTypes}
 use Rattle.krb_kdc_proxy.specs.Requests.{ap_request_numbers, asked_by, private_numbers, request_numbers}
 use Rattle.krb_kdc_proxy.proofs.OneFrame.{one_frame}
-use Rattle.krb_kdc_proxy.proofs.OneMessage.{apart, not_both, one_prefixed, one_value, prefixed_is, tagged}
+use Rattle.krb_kdc_proxy.proofs.OneMessage.{apart, not_both, one_offset, one_prefixed, one_value, prefixed_is, tagged}
 
 -- the first octets of the types
 pub record RequestTags (t : RequestTypes) : Type 0 where
@@ -119,6 +119,7 @@ module _ (t : RequestTypes) (tags : RequestTags t) where
     -- two requests of the same octets
     pub same_request : (octets : List ℕ) (r s : ProxyRequest) → IsRequest proxy t octets r → IsRequest proxy t octets s
         → (asked_by r ≡ asked_by s) × (r.target_domain ≡ s.target_domain) × (r.hint ≡ s.hint) × (r.stream.now ≡ s.stream.now) × (r.datagram.now ≡ s.datagram.now)
+        × (r.offset ≡ s.offset)
     same_request octets r s p q =
         let same = one_value proxy octets p.message q.message p.posted.1 q.posted.1 in
         let one = one_datagram octets p.datagram q.datagram p.message q.message p.posted.1 q.posted.1 p.prefix q.prefix in
@@ -128,6 +129,7 @@ module _ (t : RequestTypes) (tags : RequestTags t) where
           sym p.carried.hint ∙ ap (λ (v : KdcProxyMessage). v.dclocator_hint.0) same ∙ q.carried.hint,
           p.carried.stream_is ∙ ap (λ (v : KdcProxyMessage). v.kerb_message) same ∙ sym q.carried.stream_is,
           p.carried.datagram_is ∙ one ∙ sym q.carried.datagram_is,
+          one_offset octets p.datagram q.datagram r.offset s.offset p.stands q.stands,
         )
 
     -- ---- what a client writes

@@ -7,20 +7,20 @@ use Rattle.krb_kdc_proxy.specs.declared.error.ProxyError.{ProxyError}
 use Rattle.krb_kdc_proxy.specs.Client.{IsNoProxyReply, IsProxyReply}
 use Rattle.krb_kdc_proxy.specs.Messages.{Encodes, OrMemory}
 use Rattle.krb_kdc_proxy.specs.Replies.{ReplyTypes}
-use Rattle.krb_kdc_proxy.specs.Standing.{StandsAt}
+use Rattle.krb_kdc_proxy.specs.Standing.{IsKerbMessage}
 use Rattle.krb_kdc_proxy.specs.Streams.{IsNoStreamReply, IsStreamReply}
 use Rattle.krb_kdc_proxy.proofs.Requests.{stands_prefixed}
 
 -- the reply that a KDC-PROXY-MESSAGE holds
 pub held_reply : (proxy : EncodingOf KdcProxyMessage) (t : ReplyTypes) (octets : List ℕ) (start : ℕ) (message : KdcProxyMessage) (r : ProxyReply) → Encodes proxy octets message
-    → (r.stream.now ≡ message.kerb_message) × StandsAt r.stream.now start octets → IsStreamReply t r.stream.now r.datagram.now r.reply → r.offset ≡ start + 4
+    → (r.stream.now ≡ message.kerb_message) × IsKerbMessage r.stream.now start octets → IsStreamReply t r.stream.now r.datagram.now r.reply → r.offset ≡ start + 4
     → IsProxyReply proxy t octets r
 held_reply proxy t octets start message r encodes stream sent offset = record {
   message = message;
   encodes = encodes;
   sent = subst (λ (l : List ℕ). IsStreamReply t l r.datagram.now r.reply) stream.0 sent;
   stream_is = stream.0;
-  stands = stands_prefixed octets r.datagram.now start r.offset offset (subst (λ (l : List ℕ). StandsAt l start octets) sent.prefix.1 stream.1);
+  stands = stands_prefixed octets r.datagram.now start r.offset offset (subst (λ (l : List ℕ). IsKerbMessage l start octets) sent.prefix.1 stream.1);
 }
 
 -- what kerb-message is no reply

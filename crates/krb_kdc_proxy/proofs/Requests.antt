@@ -11,7 +11,7 @@ use Rattle.krb_kdc_proxy.specs.Frames.{IsFrame}
 use Rattle.krb_kdc_proxy.specs.Messages.{IsMessage, IsNoMessage, OrMemory}
 use Rattle.krb_kdc_proxy.specs.declared.request.ProxyRequest.{ProxyRequest}
 use Rattle.krb_kdc_proxy.specs.Prefixed.{IsNotPrefixed, IsPrefixed, prefixed}
-use Rattle.krb_kdc_proxy.specs.Standing.{StandsAt, StandsPrefixed}
+use Rattle.krb_kdc_proxy.specs.Standing.{IsKerbMessage, StandsAt, StandsPrefixed}
 use Rattle.std.proofs.lemmas.List.{drop-drop, drop-take}
 use Rattle.krb_kdc_proxy.specs.Requests.{AsksNothing, IsCarried, IsNoChange, IsNoRequest, IsNotCarried, IsPosted, IsRequest, RequestTypes, ap_request_numbers, private_numbers}
 
@@ -42,17 +42,17 @@ stands_behind octets datagram start s =
     let behind : take n (drop 4 (drop start octets)) ≡ datagram = sym (drop-take 4 n (drop start octets)) ∙ ap (drop 4) at in
     (ap (take n) (sym (drop-drop 4 start octets)) ∙ behind, omega (arith, long, s.1))
 
-pub stands_prefixed : (octets datagram : List ℕ) (start offset : ℕ) → offset ≡ start + 4 → StandsAt (prefixed datagram) start octets → StandsPrefixed datagram offset octets
+pub stands_prefixed : (octets datagram : List ℕ) (start offset : ℕ) → offset ≡ start + 4 → IsKerbMessage (prefixed datagram) start octets → StandsPrefixed datagram offset octets
 stands_prefixed octets datagram start offset behind whole = record {
   start = start;
   behind = behind;
   whole = whole;
-  alone = subst (λ (n : ℕ). StandsAt datagram n octets) (sym behind) (stands_behind octets datagram start whole);
+  alone = subst (λ (n : ℕ). StandsAt datagram n octets) (sym behind) (stands_behind octets datagram start whole.1);
 }
 
 -- the request that a KDC-PROXY-MESSAGE holds
 pub carried_request : (proxy : EncodingOf KdcProxyMessage) (t : RequestTypes) (octets stream datagram : List ℕ) (start : ℕ) (message : KdcProxyMessage) (r : ProxyRequest)
-    → IsPosted proxy octets message → (stream ≡ message.kerb_message) × StandsAt stream start octets → IsPrefixed stream datagram → IsCarried t message stream datagram (start + 4) r
+    → IsPosted proxy octets message → (stream ≡ message.kerb_message) × IsKerbMessage stream start octets → IsPrefixed stream datagram → IsCarried t message stream datagram (start + 4) r
     → IsRequest proxy t octets r
 carried_request proxy t octets stream datagram start message r posted (same, stands) prefix is = record {
   message = message;
@@ -60,5 +60,5 @@ carried_request proxy t octets stream datagram start message r posted (same, sta
   datagram = datagram;
   prefix = subst (λ (l : List ℕ). IsPrefixed l datagram) same prefix;
   carried = record { domain = is.domain; hint = is.hint; asks = is.asks; stream_is = is.stream_is ∙ same; datagram_is = is.datagram_is; offset_is = refl };
-  stands = stands_prefixed octets datagram start r.offset is.offset_is (subst (λ (l : List ℕ). StandsAt l start octets) prefix.1 stands);
+  stands = stands_prefixed octets datagram start r.offset is.offset_is (subst (λ (l : List ℕ). IsKerbMessage l start octets) prefix.1 stands);
 }

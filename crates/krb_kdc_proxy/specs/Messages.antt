@@ -23,6 +23,7 @@ number_of kind.ApRep = 15
 number_of kind.KrbPriv = 21
 number_of kind.KrbError = 30
 
+-- its name (5.4 to 5.9)
 abbrev pub name_of : MessageKind → List ℕ
 name_of kind.AsReq = codes "KRB-AS-REQ"
 name_of kind.AsRep = codes "KRB-AS-REP"
@@ -56,6 +57,7 @@ pub record IsNotRead {A : Type 0} (t : EncodingOf A) (octets : List ℕ) (error 
       → error ≡ der.TruncatedData
   pub more : (v : A) (rest : List ℕ) → t.is_value v → 0 < length rest → octets ≡ t.enc v ++ rest → error ≡ der.InvalidData
 
+-- the same, by one of the three errors that octets may have
 abbrev pub IsNoEncoding : {A : Type 0} → EncodingOf A → List ℕ → MessageError → Type 0
 IsNoEncoding t octets error = IsNotRead t octets (der_error error)
 

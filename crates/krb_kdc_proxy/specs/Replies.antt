@@ -91,6 +91,7 @@ IsReply t octets reply =
     (BeginsAsFrame direction.Reply octets × (reply ≡ replies.PasswordChange) × IsChangeReply t.ap_rep t.krb_priv t.krb_error octets)
     ⊎ ((BeginsAsFrame direction.Reply octets → ⊥) × IsKdcReply t.as_rep t.tgs_rep t.krb_error octets reply)
 
+-- why they are none: by the first rule that they break
 abbrev pub IsNoReply : ReplyTypes → List ℕ → ProxyError → Type 0
 IsNoReply t octets error =
     (BeginsAsFrame direction.Reply octets × IsNoChangeReply t.ap_rep t.krb_priv t.krb_error octets error)

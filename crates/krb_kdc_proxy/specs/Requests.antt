@@ -82,6 +82,7 @@ Asks t octets asked =
     (BeginsAsFrame direction.Request octets × IsChange t.ap_req t.krb_priv octets asked)
     ⊎ ((BeginsAsFrame direction.Request octets → ⊥) × IsKdcRequest t.as_req t.tgs_req octets asked)
 
+-- why it asks for nothing: by the first rule that it breaks
 abbrev pub AsksNothing : RequestTypes → List ℕ → ProxyError → Type 0
 AsksNothing t octets error =
     (BeginsAsFrame direction.Request octets × IsNoChange t.ap_req t.krb_priv octets error)
@@ -96,6 +97,7 @@ types as_req tgs_req ap_req krb_priv = record { as_req = as_req; tgs_req = tgs_r
 abbrev pub IsPosted : EncodingOf KdcProxyMessage → List ℕ → KdcProxyMessage → Type 0
 IsPosted proxy octets v = (length octets ≤ 131072) × Encodes proxy octets v
 
+-- they are more, or the encoding of none
 abbrev pub IsNotPosted : EncodingOf KdcProxyMessage → List ℕ → ProxyError → Type 0
 IsNotPosted proxy octets errors.TooLarge = 131072 < length octets
 IsNotPosted proxy octets (errors.ProxyMessage error) = (length octets ≤ 131072) × IsNoEncoding proxy octets error
@@ -115,6 +117,7 @@ pub record IsCarried (t : RequestTypes) (message : KdcProxyMessage) (stream data
   pub datagram_is : r.datagram.now ≡ datagram
   pub offset_is : r.offset ≡ offset
 
+-- there is no target-domain, or the message asks for nothing
 abbrev pub IsNotCarried : RequestTypes → KdcProxyMessage → List ℕ → ProxyError → Type 0
 IsNotCarried t message datagram error =
     ((error ≡ errors.NoTargetDomain) × (message.target_domain.0 ≡ None))

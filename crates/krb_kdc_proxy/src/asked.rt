@@ -3,7 +3,7 @@
 ghost use Rattle.std.specs.Prelude.{◌≡◌};
 ghost use Rattle.krb_kdc_proxy.specs.Asking.{change_asked, kdc_asked};
 
-use krb_der::{ExplicitContextTag1, ExplicitContextTag3};
+use krb_der::ExplicitContextTag;
 use krb_msg_app::messages::ApReqInner;
 use krb_msg_kdc::messages::{KdcReq, KdcReqBody};
 use krb_msg_types::data_types::{PrincipalName, Realm};
@@ -30,22 +30,12 @@ pub struct Asked {
     pub server: Option<PrincipalName>,
 }
 
-/// The client's name.
-fn client_of(field: Option<ExplicitContextTag1<PrincipalName>>) -> Option<PrincipalName>
+/// What a field holds behind its tag.
+pub(crate) fn untagged<T, N>(field: Option<ExplicitContextTag<T, N>>) -> Option<T>
     ensures { result ≡ field }
 {
     match field {
-        Some(name) => Some(name.0),
-        None => None,
-    }
-}
-
-/// The server's name.
-fn server_of(field: Option<ExplicitContextTag3<PrincipalName>>) -> Option<PrincipalName>
-    ensures { result ≡ field }
-{
-    match field {
-        Some(name) => Some(name.0),
+        Some(tagged) => Some(tagged.0),
         None => None,
     }
 }
@@ -65,8 +55,8 @@ pub(crate) fn kdc_asked(request: KdcReq) -> Asked
     Asked {
         service: Service::Kdc,
         realm: realm.0,
-        client: client_of(cname.0),
-        server: server_of(sname.0),
+        client: untagged(cname.0),
+        server: untagged(sname.0),
     }
 }
 

@@ -2,19 +2,18 @@
 
 ghost use Rattle.std.specs.Prelude.{◌≡◌, ◌<◌, ◌^◌, ℕ, ℤ, List, Option, Some, length, IfErr, IfOk, OnOk};
 ghost use Rattle.krb_kdc_proxy.specs.Client.{IsNoProxyReply, IsNotWritten, IsProxyReply, IsWritten, asking};
-ghost use Rattle.krb_kdc_proxy.specs.Messages.{Encodes, IsNoEncoding, OrMemory};
+ghost use Rattle.krb_kdc_proxy.specs.Messages.{Encodes, OrMemory};
 ghost use Rattle.krb_kdc_proxy.specs.Replies.{reply_types};
 ghost use Rattle.krb_kdc_proxy.specs.Requests.{IsNoRequest, IsRequest, types};
 ghost use Rattle.krb_kdc_proxy.specs.declared.error.ProxyError.TheVariants as errors;
 ghost use Rattle.krb_kdc_proxy.specs.declared.request.ProxyRequest.{ProxyRequest};
-ghost use Rattle.krb_msg_password.specs.declared.error.MessageError.{MessageError};
 
-use crate::error::{ProxyError, proxy_message_error};
+use crate::error::ProxyError;
 use crate::prefixed::LENGTH;
 use crate::replies::Reply;
 use crate::reply::{behind, encoding, stream_reply};
-use crate::request::{MAXIMUM_REQUEST, kerb_message, read_request};
-use krb_der::{DerEncode, IntegerAsn1, OctetStringAsn1, Optional, from_bytes};
+use crate::request::{MAXIMUM_REQUEST, kerb_message, proxy_message, read_request};
+use krb_der::{DerEncode, IntegerAsn1, OctetStringAsn1, Optional};
 use krb_msg::messages::{KdcProxyMessage, KrbError};
 use krb_msg_app::messages::{ApRep, ApReq, KrbPriv};
 use krb_msg_kdc::messages::{AsRep, AsReq, TgsRep, TgsReq};
@@ -32,18 +31,6 @@ pub struct ProxyReply<'a> {
     pub datagram: &'a [u8],
     /// How many octets stand before the reply.
     pub offset: usize,
-}
-
-/// The KDC-PROXY-MESSAGE whose one encoding the octets are.
-fn proxy_message(alloc: Global, octets: &[u8]) -> Result<KdcProxyMessage, ProxyError>
-    ensures found { IfOk result (Encodes ⟦<KdcProxyMessage as DerEncode>⟧ octets.now) }
-    ensures rejected { IfErr result (OrMemory
-        (λ e. (why : MessageError) × (e ≡ errors.ProxyMessage why) × IsNoEncoding ⟦<KdcProxyMessage as DerEncode>⟧ octets.now why)) }
-{
-    match from_bytes(alloc, octets) {
-        Ok(message) => Ok(message),
-        Err(error) => Err(proxy_message_error(error)),
-    }
 }
 
 /// The encoding of the message that holds this one behind its length, for this realm, with this hint.

@@ -12,7 +12,8 @@ use krb_msg_password::MessageError;
 use std::alloc::{AllocError, AllocFailed};
 use thiserror::Error;
 
-/// Why a message does not go through: the first rule that it breaks, in the order of the variants.
+/// Why a message does not go through: the first rule that it breaks, in the order of the variants; of a frame, those of its first message before those
+/// of its second.
 #[derive(Debug, Clone, Copy, PartialEq, Eq, Error)]
 pub enum ProxyError {
     /// It has more octets than a proxy takes: a request more than 131072, a reply 2147483648 or more.

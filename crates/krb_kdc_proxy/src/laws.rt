@@ -25,7 +25,7 @@ pub fn requests()
         → IsRequest ⟦<KdcProxyMessage as DerEncode>⟧
         (types ⟦<AsReq as DerEncode>⟧ ⟦<TgsReq as DerEncode>⟧ ⟦<ApReq as DerEncode>⟧ ⟦<KrbPriv as DerEncode>⟧) octets s
         → (asked_by r ≡ asked_by s) × (r.target_domain ≡ s.target_domain) × (r.hint ≡ s.hint)
-        × (r.stream.now ≡ s.stream.now) × (r.datagram.now ≡ s.datagram.now) }
+        × (r.stream.now ≡ s.stream.now) × (r.datagram.now ≡ s.datagram.now) × (r.offset ≡ s.offset) }
     ensures read { (octets : List ℕ) (r : ProxyRequest) (error : ProxyError)
         → IsRequest ⟦<KdcProxyMessage as DerEncode>⟧
         (types ⟦<AsReq as DerEncode>⟧ ⟦<TgsReq as DerEncode>⟧ ⟦<ApReq as DerEncode>⟧ ⟦<KrbPriv as DerEncode>⟧) octets r
@@ -41,7 +41,7 @@ pub fn lenient_requests()
         (types ⟦<AsReq as DerEncode>⟧ ⟦<TgsReq as DerEncode>⟧ ⟦<ApReq as DerEncode>⟧ ⟦<KrbPriv as DerEncode>⟧) octets r
         → IsLenientRequest ⟦<KdcProxyMessage as DerEncode>⟧ octets s
         → (r.service ≡ s.service) × (r.target_domain ≡ s.target_domain) × (r.hint ≡ s.hint)
-        × (r.stream.now ≡ s.stream.now) × (r.datagram.now ≡ s.datagram.now) }
+        × (r.stream.now ≡ s.stream.now) × (r.datagram.now ≡ s.datagram.now) × (r.offset ≡ s.offset) }
     ensures read { (octets : List ℕ) (r : ProxyRequest) (error : ProxyError)
         → IsRequest ⟦<KdcProxyMessage as DerEncode>⟧
         (types ⟦<AsReq as DerEncode>⟧ ⟦<TgsReq as DerEncode>⟧ ⟦<ApReq as DerEncode>⟧ ⟦<KrbPriv as DerEncode>⟧) octets r

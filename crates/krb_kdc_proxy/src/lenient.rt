@@ -1,15 +1,16 @@
 //! Requests of which the first octets alone are looked at.
 
-ghost use Rattle.std.specs.Prelude.{IfErr, IfOk, MatchOption};
+ghost use Rattle.std.specs.Prelude.{◌<◌, length, IfErr, IfOk, IsErrOf, MatchOption};
 ghost use Rattle.krb_kdc_proxy.specs.Lenient.{IsLenientRequest, IsLookedAt, IsNoLenientRequest, IsNotLookedAt, LooksLike, LooksLikeNone};
 ghost use Rattle.krb_kdc_proxy.specs.Messages.{OrMemory};
+ghost use Rattle.krb_kdc_proxy.specs.declared.error.ProxyError.TheVariants as errors;
 
-use crate::asked::Service;
+use crate::asked::{Service, untagged};
 use crate::error::ProxyError;
 use crate::frame::{Direction, begins_as_frame};
 use crate::kdc::{AS_REQ, TGS_REQ};
 use crate::prefixed::{LENGTH, behind_length};
-use crate::request::{hint_of, kerb_message, posted};
+use crate::request::{kerb_message, posted};
 use krb_der::{DerEncode, IntegerAsn1};
 use krb_msg::messages::KdcProxyMessage;
 use krb_msg_types::data_types::KerberosStringAsn1;
@@ -69,7 +70,7 @@ fn lenient_of<'a>(
     Ok(LenientRequest {
         service,
         target_domain: domain.0,
-        hint: hint_of(dclocator_hint.0),
+        hint: untagged(dclocator_hint.0),
         stream,
         datagram,
         offset,
@@ -86,6 +87,7 @@ fn lenient_of<'a>(
 pub fn read_request_lenient(alloc: Global, octets: &[u8]) -> Result<LenientRequest<'_>, ProxyError>
     ensures found { IfOk result (IsLenientRequest ⟦<KdcProxyMessage as DerEncode>⟧ octets.now) }
     ensures rejected { IfErr result (OrMemory (IsNoLenientRequest ⟦<KdcProxyMessage as DerEncode>⟧ octets.now)) }
+    ensures too_large { 131072 < length octets.now → IsErrOf result errors.TooLarge }
 {
     let message = posted(alloc, octets)?;
     let (start, stream) = kerb_message(octets);

@@ -1,18 +1,20 @@
 //! What a client posts to a proxy (MS-KKDCP, 2.2.2 and 3.2.5.1).
 
-ghost use Rattle.std.specs.Prelude.{◌≡◌, ◌+◌, ◌≤◌, ℕ, List, length, take, drop, map, Some, MatchBool, IfOk, IfErr};
+ghost use Rattle.std.specs.Prelude.{◌≡◌, ◌+◌, ◌<◌, ◌≤◌, ℕ, List, length, take, drop, map, Some, MatchBool, IfOk, IfErr, IsErrOf};
 ghost use Rattle.std.specs.Char.{to_ascii_lowercase};
-ghost use Rattle.krb_kdc_proxy.specs.Messages.{OrMemory};
+ghost use Rattle.krb_kdc_proxy.specs.Messages.{Encodes, IsNoEncoding, OrMemory};
 ghost use Rattle.krb_kdc_proxy.specs.Requests.{Asks, AsksNothing, IsCarried, IsNoRequest, IsNotCarried, IsNotPosted, IsPosted, IsRequest, types};
-ghost use Rattle.krb_kdc_proxy.specs.Standing.{StandsAt};
+ghost use Rattle.krb_kdc_proxy.specs.Standing.{IsKerbMessage};
+ghost use Rattle.krb_kdc_proxy.specs.declared.error.ProxyError.TheVariants as errors;
+ghost use Rattle.krb_msg_password.specs.declared.error.MessageError.{MessageError};
 
-use crate::asked::{Asked, Service};
+use crate::asked::{Asked, Service, untagged};
 use crate::change::change;
 use crate::error::{ProxyError, proxy_message_error};
 use crate::frame::{Direction, begins_as_frame};
 use crate::kdc::kdc_request;
 use crate::prefixed::{LENGTH, behind_length};
-use krb_der::{DerEncode, ExplicitContextTag2, IntegerAsn1, from_bytes};
+use krb_der::{DerEncode, IntegerAsn1, from_bytes};
 use krb_msg::messages::KdcProxyMessage;
 use krb_msg_app::messages::{ApReq, KrbPriv};
 use krb_msg_kdc::messages::{AsReq, TgsReq};
@@ -75,24 +77,34 @@ fn is_same(first: &[u8], second: &[u8]) -> bool
     true
 }
 
-/// The KDC-PROXY-MESSAGE whose one encoding the octets are, and which is not too large.
-pub(crate) fn posted(alloc: Global, octets: &[u8]) -> Result<KdcProxyMessage, ProxyError>
-    ensures found { IfOk result (IsPosted ⟦<KdcProxyMessage as DerEncode>⟧ octets.now) }
-    ensures rejected { IfErr result (OrMemory (IsNotPosted ⟦<KdcProxyMessage as DerEncode>⟧ octets.now)) }
+/// The KDC-PROXY-MESSAGE whose one encoding the octets are.
+pub(crate) fn proxy_message(alloc: Global, octets: &[u8]) -> Result<KdcProxyMessage, ProxyError>
+    ensures found { IfOk result (Encodes ⟦<KdcProxyMessage as DerEncode>⟧ octets.now) }
+    ensures rejected { IfErr result (OrMemory
+        (λ e. (why : MessageError) × (e ≡ errors.ProxyMessage why) × IsNoEncoding ⟦<KdcProxyMessage as DerEncode>⟧ octets.now why)) }
 {
-    if octets.len() > MAXIMUM_REQUEST {
-        return Err(ProxyError::TooLarge);
-    }
     match from_bytes(alloc, octets) {
         Ok(message) => Ok(message),
         Err(error) => Err(proxy_message_error(error)),
     }
 }
 
+/// The same, which is not too large.
+pub(crate) fn posted(alloc: Global, octets: &[u8]) -> Result<KdcProxyMessage, ProxyError>
+    ensures found { IfOk result (IsPosted ⟦<KdcProxyMessage as DerEncode>⟧ octets.now) }
+    ensures rejected { IfErr result (OrMemory (IsNotPosted ⟦<KdcProxyMessage as DerEncode>⟧ octets.now)) }
+    ensures too_large { 131072 < length octets.now → IsErrOf result errors.TooLarge }
+{
+    if octets.len() > MAXIMUM_REQUEST {
+        return Err(ProxyError::TooLarge);
+    }
+    proxy_message(alloc, octets)
+}
+
 /// The octets of kerb-message, and how many stand before them.
 pub(crate) fn kerb_message(octets: &[u8]) -> (usize, &[u8])
     ensures { (v : KdcProxyMessage) → octets.now ≡ ⟦<KdcProxyMessage as DerEncode>⟧.enc v
-        → (result.1.now ≡ v.kerb_message) × StandsAt result.1.now result.0 octets.now }
+        → (result.1.now ≡ v.kerb_message) × IsKerbMessage result.1.now result.0 octets.now }
 {
     let path = [Step::Tag(0x30), Step::Tag(0xa0), Step::Tag(0x04)];
     match place_of(&path, octets) {
@@ -115,16 +127,6 @@ pub(crate) fn asked(alloc: Global, octets: &[u8]) -> Result<Asked, ProxyError>
         change(alloc, octets)
     } else {
         kdc_request(alloc, octets)
-    }
-}
-
-/// How the proxy is to look for a KDC.
-pub(crate) fn hint_of(field: Option<ExplicitContextTag2<IntegerAsn1>>) -> Option<IntegerAsn1>
-    ensures { result ≡ field }
-{
-    match field {
-        Some(hint) => Some(hint.0),
-        None => None,
     }
 }
 
@@ -157,7 +159,7 @@ fn request_of<'a>(
         realm: asked.realm,
         client: asked.client,
         server: asked.server,
-        hint: hint_of(dclocator_hint.0),
+        hint: untagged(dclocator_hint.0),
         stream,
         datagram,
         offset,
@@ -177,6 +179,7 @@ pub fn read_request(alloc: Global, octets: &[u8]) -> Result<ProxyRequest<'_>, Pr
         (types ⟦<AsReq as DerEncode>⟧ ⟦<TgsReq as DerEncode>⟧ ⟦<ApReq as DerEncode>⟧ ⟦<KrbPriv as DerEncode>⟧) octets.now) }
     ensures rejected { IfErr result (OrMemory (IsNoRequest ⟦<KdcProxyMessage as DerEncode>⟧
         (types ⟦<AsReq as DerEncode>⟧ ⟦<TgsReq as DerEncode>⟧ ⟦<ApReq as DerEncode>⟧ ⟦<KrbPriv as DerEncode>⟧) octets.now)) }
+    ensures too_large { 131072 < length octets.now → IsErrOf result errors.TooLarge }
 {
     let message = posted(alloc, octets)?;
     let (start, stream) = kerb_message(octets);
