@@ -1,6 +1,7 @@
-"""What the Python tests of the package have alike: what passed and what failed is counted, and a refusal is an outcome."""
+"""What the Python tests of the package have alike: what passed and what failed is counted, a refusal is an outcome, and octets are changed."""
 
 import os
+import random
 import sys
 
 from krb import Refused
@@ -20,6 +21,17 @@ def outcome(call, *arguments):
         return call(*arguments)
     except Refused as refused:
         return refused.status
+
+
+def changed(octets, count, front=0.8):
+    """The octets with one or two bits turned, this part of them among the first 60 octets, and now and then cut."""
+    for _ in range(count):
+        other = bytearray(octets)
+        for _ in range(random.randrange(1, 3)):
+            other[random.randrange(min(len(other), 60) if random.random() < front else len(other))] ^= 1 << random.randrange(8)
+        if random.random() < 0.1:
+            del other[random.randrange(len(other)) :]
+        yield bytes(other)
 
 
 def counted():

@@ -6,7 +6,7 @@ that shares nothing with the library. The last line is `N passed, N failed`."""
 import random
 import sys
 
-from counting import counted, expect, outcome
+from counting import changed, counted, expect, outcome
 from krb import Refused, Status, frames, messages, pac, spnego
 
 TYPES = {1, 2, 6, 7, *range(10, 20)}
@@ -164,17 +164,6 @@ def tried(call, octets):
 
 def model(call, octets):
     return outcome(call, octets)
-
-
-def changed(octets, count):
-    """The octets with one or two bits turned, cut, or with octets left out or put in."""
-    for _ in range(count):
-        other = bytearray(octets)
-        for _ in range(random.randrange(1, 3)):
-            other[random.randrange(min(len(other), 60) if random.random() < 0.8 else len(other))] ^= 1 << random.randrange(8)
-        if random.random() < 0.1:
-            del other[random.randrange(len(other)) :]
-        yield bytes(other)
 
 
 def try_pac(octets, count):

@@ -11,7 +11,7 @@ sys.path.append(os.path.join(os.path.dirname(os.path.abspath(__file__)), "..", "
 
 import judge  # noqa: E402
 import rules  # noqa: E402
-from counting import counted, expect, outcome  # noqa: E402
+from counting import changed, counted, expect, outcome  # noqa: E402
 from expect_fields import FIELDS, found as place_of  # noqa: E402
 from krb import Refused, Status, proxy  # noqa: E402
 from mutants import Request, body, element, framed, password_frame, tree, written  # noqa: E402
@@ -65,17 +65,6 @@ def try_read(octets, what):
 # What is tried.
 
 
-def changed(octets, count):
-    """The octets with one or two bits turned, cut, or with octets left out or put in."""
-    for _ in range(count):
-        other = bytearray(octets)
-        for _ in range(random.randrange(1, 3)):
-            other[random.randrange(min(len(other), 60) if random.random() < 0.6 else len(other))] ^= 1 << random.randrange(8)
-        if random.random() < 0.1:
-            del other[random.randrange(len(other)) :]
-        yield bytes(other)
-
-
 def try_request(message, realm):
     """A message that goes on, and what it may not be."""
     octets = body(framed(message), realm)
@@ -97,9 +86,9 @@ def try_request(message, realm):
         try_read(body(framed(message + more), realm), "octets behind the message")
     for length in (0, len(message) - 1, len(message) + 1, 0x7FFFFFFF, 0x80000000, 0xFFFFFFFF):
         try_read(body(length.to_bytes(4, "big") + message, realm), "the length %d" % length)
-    for each in changed(octets, 400):
+    for each in changed(octets, 400, front=0.6):
         try_read(each, "a changed request")
-    for each in changed(message, 200):
+    for each in changed(message, 200, front=0.6):
         try_read(body(framed(each), realm), "a changed message")
     try_hints(message, realm)
 
@@ -133,7 +122,7 @@ def try_reply(message):
     for more in (b"\0", message):
         expect(isinstance(outcome(proxy.write_reply_datagram, message + more), Status), "octets behind a reply")
         expect(isinstance(outcome(proxy.write_reply, framed(message + more)), Status), "octets behind a reply, over a stream")
-    for each in changed(message, 300):
+    for each in changed(message, 300, front=0.6):
         broken_rules, right = {Status[name] for name in rules.of_what_goes(each, True)}, body(framed(each), None)
         for call, octets, answer in ((proxy.write_reply, framed(each), right), (proxy.write_reply_datagram, each, right), (proxy.read_reply, right, each)):
             found = outcome(call, octets)
