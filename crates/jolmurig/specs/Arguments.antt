@@ -5,6 +5,8 @@ use Rattle.std.specs.Cmp.Lexicographic.{pointwise}
 use Rattle.jolmurig.specs.Shows.{Show, nothing_asked}
 use Rattle.jolmurig.specs.declared.command.Command.{Command}
 use Rattle.jolmurig.specs.declared.command.Command.TheVariants as command
+use Rattle.jolmurig.specs.declared.command.Direction.{Direction}
+use Rattle.jolmurig.specs.declared.command.Direction.TheVariants as direction
 use Rattle.jolmurig.specs.declared.command.Format.{Format}
 use Rattle.jolmurig.specs.declared.command.Format.TheVariants as format
 use Rattle.jolmurig.specs.declared.command.Output.{Output}
@@ -138,12 +140,22 @@ abbrev pub conversion_of : List (List ℕ) → Option Command
 conversion_of [] = None
 conversion_of (w ∷ rest) = if is_help w then Some command.Help else option_and_then (λ to. of_operand (command.Convert to) rest) (format_of w)
 
+-- the direction of this name
+abbrev pub direction_of : List ℕ → Option Direction
+direction_of w = if is_word w (codes "request") then Some direction.Request else if is_word w (codes "reply") then Some direction.Reply else None
+
+-- `proxy DIRECTION`, with the file
+abbrev pub proxy_of : List (List ℕ) → Option Command
+proxy_of [] = None
+proxy_of (w ∷ rest) = if is_help w then Some command.Help else option_and_then (λ way. of_operand (command.Proxy way) rest) (direction_of w)
+
 -- what a command's name and the arguments behind it ask for
 abbrev pub command_of : List ℕ → List (List ℕ) → Option Command
 command_of name rest =
     if is_word name (codes "show") then options_of nothing_asked rest
     else if is_word name (codes "list") then of_operand command.List rest
     else if is_word name (codes "convert") then conversion_of rest
+    else if is_word name (codes "proxy") then proxy_of rest
     else None
 
 -- the arguments ask for this; none where they are no command

@@ -1,16 +1,22 @@
 -- What the program calls of the library.
-use Rattle.std.specs.Prelude.{ℕ, List}
+use Rattle.std.specs.Prelude.{◌≡◌, ℕ, List, []}
 use Rattle.krb_ccache.specs.Ccache.{Ccache, CcacheIs}
 use Rattle.krb_convert.specs.Back.{CcacheRefusal, IsKirbiOf}
 use Rattle.krb_convert.specs.Whole.{IsCacheOf, KirbiRefusal}
 use Rattle.krb_convert.specs.declared.error.ConvertError.{ConvertError}
 use Rattle.krb_convert.specs.declared.field.Field.{Field}
 use Rattle.krb_der_core.specs.declared.der.DerEncode.{Ghosts as EncodingOf}
+use Rattle.krb_kdc_proxy.specs.Replies.{ReplyTypes}
+use Rattle.krb_kdc_proxy.specs.Requests.{IsNoRequest, IsRequest, RequestTypes}
+use Rattle.krb_kdc_proxy.specs.Streams.{IsNoStreamReply, IsPosting}
+use Rattle.krb_kdc_proxy.specs.declared.error.ProxyError.{ProxyError}
+use Rattle.krb_kdc_proxy.specs.declared.request.ProxyRequest.{ProxyRequest}
 use Rattle.krb_keytab.specs.Entry.{Entry}
 use Rattle.krb_keytab.specs.Keytab.{KeytabIs}
 use Rattle.krb_list.specs.Lines.{IsCcacheListing, IsKeytabListing, IsNoCcache, IsNoKeytab}
 use Rattle.krb_list.specs.Texts.{IsEncodedEtypeText}
 use Rattle.krb_list.specs.declared.error.ListError.{ListError}
+use Rattle.krb_msg.specs.declared.messages.proxy.KdcProxyMessage.{KdcProxyMessage}
 use Rattle.krb_msg_app.specs.declared.messages.credentials.KrbCredInner.{KrbCredInner}
 use Rattle.krb_msg_parts.specs.declared.data_types.credentials.EncKrbCredPartInner.{EncKrbCredPartInner}
 use Rattle.krb_msg_types.specs.declared.data_types.tickets.TicketInner.{TicketInner}
@@ -18,6 +24,9 @@ use Rattle.krb_show.specs.Tokens.{Token}
 use Rattle.krb_show_opened.specs.Keys.{NamedKey}
 use Rattle.jolmurig.specs.declared.calls.Entries.{Entries}
 use Rattle.jolmurig.specs.declared.calls.Entries.TheVariants as entries
+use Rattle.jolmurig.specs.Requests.{IsLineOf}
+use Rattle.jolmurig.specs.declared.command.Direction.{Direction}
+use Rattle.jolmurig.specs.declared.command.Direction.TheVariants as direction
 use Rattle.jolmurig.specs.declared.command.Format.{Format}
 use Rattle.jolmurig.specs.declared.command.Format.TheVariants as format
 
@@ -52,3 +61,19 @@ converted_to message part ticket format.Ccache octets made left_out = IsCacheOf 
 abbrev pub unconverted_to : EncodingOf KrbCredInner → EncodingOf EncKrbCredPartInner → EncodingOf TicketInner → Refuses
 unconverted_to message part ticket format.Kirbi octets e = CcacheRefusal ticket octets e
 unconverted_to message part ticket format.Ccache octets e = KirbiRefusal message part ticket.enc octets e
+
+-- the octets that a proxy passes on, and the line that says for whom; why it passes on none
+abbrev pub Passes : Type 1
+Passes = Direction → List ℕ → List ℕ → List ℕ → Type 0
+
+abbrev pub Blocks : Type 1
+Blocks = Direction → List ℕ → ProxyError → Type 0
+
+-- of a request what goes over a stream, and a line; of what a KDC sent over a stream the KDC-PROXY-MESSAGE that goes back, and no line
+abbrev pub passed_on : EncodingOf KdcProxyMessage → RequestTypes → ReplyTypes → Passes
+passed_on proxy requests replies direction.Request octets made line = (r : ProxyRequest) × IsRequest proxy requests octets r × (made ≡ r.stream.now) × IsLineOf r line
+passed_on proxy requests replies direction.Reply octets made line = (datagram : List ℕ) × IsPosting proxy replies octets datagram made × (line ≡ [])
+
+abbrev pub blocked : EncodingOf KdcProxyMessage → RequestTypes → ReplyTypes → Blocks
+blocked proxy requests replies direction.Request octets e = IsNoRequest proxy requests octets e
+blocked proxy requests replies direction.Reply octets e = IsNoStreamReply replies octets e

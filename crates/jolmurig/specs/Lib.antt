@@ -3,8 +3,10 @@ pub mod Arguments
 pub mod Failures
 pub mod Keys
 pub mod Passwords
+pub mod Requests
 pub mod Calls
 pub mod Answers
 pub mod Lists
 pub mod Conversions
+pub mod Passages
 pub mod Outcome

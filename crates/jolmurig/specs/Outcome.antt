@@ -10,9 +10,10 @@ use Rattle.krb_show_any.specs.Names.{IsNamed}
 use Rattle.krb_show_any.specs.declared.kind.Kind.TheVariants as kinds
 use Rattle.krb_show_opened.specs.Keys.{NamedKey}
 use Rattle.jolmurig.specs.Answers.{ArePrintableLines, IsRefused, IsWritten, Openers}
-use Rattle.jolmurig.specs.Calls.{Converts, Lists, Opens, Refuses}
+use Rattle.jolmurig.specs.Calls.{Blocks, Converts, Lists, Opens, Passes, Refuses}
 use Rattle.jolmurig.specs.Conversions.{IsConverted, IsUnconverted}
 use Rattle.jolmurig.specs.Lists.{IsListed, IsUnlisted}
+use Rattle.jolmurig.specs.Passages.{IsBlocked}
 use Rattle.jolmurig.specs.Passwords.{ArePasswords, HasNoPassword}
 use Rattle.jolmurig.specs.Arguments.{asked_by}
 use Rattle.jolmurig.specs.Failures.{line_of, status_of_failure}
@@ -21,6 +22,7 @@ use Rattle.jolmurig.specs.Shows.{Show}
 use Rattle.jolmurig.specs.declared.command.Command.{Command}
 use Rattle.jolmurig.specs.declared.command.Command.TheVariants as command
 use Rattle.jolmurig.specs.declared.command.Command.TheVariants.{Help}
+use Rattle.jolmurig.specs.declared.command.Direction.{Direction}
 use Rattle.jolmurig.specs.declared.command.Format.{Format}
 use Rattle.jolmurig.specs.declared.command.Output.{Output}
 use Rattle.jolmurig.specs.declared.command.Output.TheVariants as output
@@ -88,6 +90,10 @@ IsLeft None left rest = Unit {0}
 abbrev pub AreRead : Gives → Option (List ℕ) → Option (List ℕ) → List ℕ → Type 0
 AreRead gives file left octets = (all : List ℕ) × IsInput gives file left all × (octets_of all ≡ Some octets)
 
+-- nothing is read
+abbrev pub IsNoInput : Gives → Option (List ℕ) → Failure → Type 0
+IsNoInput gives file e = (e ≡ Memory) ⊎ ((e ≡ Read) × IsUnread gives file)
+
 -- why there are none
 abbrev pub AreNotRead : Gives → Option (List ℕ) → Option (List ℕ) → Failure → Type 0
 AreNotRead gives file left e =
@@ -113,6 +119,16 @@ IsListRun gives lists file = IsFileRun gives file (λ octets made notes. IsListe
 abbrev pub IsConvertRun : Gives → Converts → Refuses → Format → Option (List ℕ)
     → Option (List ℕ) → Option (List ℕ) → Option (List ℕ) → Option (List ℕ) → Outcome → Type 0
 IsConvertRun gives converts refuses to file = IsFileRun gives file (IsConverted converts to) (IsUnconverted refuses to)
+
+-- ---- `proxy`
+
+-- What is written is what a proxy passes on of the octets that are read, as they are; and the note is the line that says for whom.
+abbrev pub IsProxyRun : Gives → Passes → Blocks → Direction → Option (List ℕ)
+    → Option (List ℕ) → Option (List ℕ) → Option (List ℕ) → Option (List ℕ) → Outcome → Type 0
+IsProxyRun gives passes blocks way file left rest before after outcome =
+    IsLeft file left rest
+    × IsWrittenRun (λ made notes. (octets : List ℕ) × IsInput gives file left octets × passes way octets made notes)
+    (λ e. IsNoInput gives file e ⊎ ((octets : List ℕ) × IsInput gives file left octets × IsBlocked blocks way octets e)) before after outcome
 
 -- ---- `show`
 
@@ -183,7 +199,7 @@ module _ (tells : Kind → List ℕ → Result (Vec Token Global) PageError → 
 
   -- ---- the whole
 
-  module _ (lists : Lists) (converts : Converts) (refuses : Refuses) where
+  module _ (lists : Lists) (converts : Converts) (refuses : Refuses) (passes : Passes) (blocks : Blocks) where
     -- A run of this command over an input (`rest` of it is left), where its octets and those of the output (before and after) are known.
     abbrev pub IsRun : Option Command → List ℕ → Option (List ℕ) → Option (List ℕ) → Option (List ℕ) → Option (List ℕ) → Outcome → Type 0
     IsRun None help input rest before after outcome = (outcome ≡ Err Arguments) × Keeps input rest × Keeps before after
@@ -193,6 +209,7 @@ module _ (tells : Kind → List ℕ → Result (Vec Token Global) PageError → 
     IsRun (Some (command.List file)) help input rest before after outcome = IsListRun gives lists file input rest before after outcome
     IsRun (Some (command.Convert to file)) help input rest before after outcome =
         IsConvertRun gives converts refuses to file input rest before after outcome
+    IsRun (Some (command.Proxy way file)) help input rest before after outcome = IsProxyRun gives passes blocks way file input rest before after outcome
 
     -- A run with these arguments: that of the command that they ask for; or no memory was left to read them.
     abbrev pub IsRunOf : List (List ℕ) → List ℕ → Option (List ℕ) → Option (List ℕ) → Option (List ℕ) → Option (List ℕ) → Outcome → Type 0

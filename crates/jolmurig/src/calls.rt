@@ -1,21 +1,30 @@
 //! What the program calls of the library.
 
 ghost use Rattle.std.specs.Prelude.{IfOk, IfErr, ℕ, List};
+ghost use Rattle.krb_kdc_proxy.specs.Messages.{OrMemory};
+ghost use Rattle.krb_kdc_proxy.specs.Replies.{reply_types};
+ghost use Rattle.krb_kdc_proxy.specs.Requests.{types};
+ghost use Rattle.krb_kdc_proxy.specs.declared.error.ProxyError.{ProxyError};
 ghost use Rattle.krb_convert.specs.Answers.{IsMemoryOr};
 ghost use Rattle.krb_convert.specs.declared.error.ConvertError.{ConvertError};
 ghost use Rattle.krb_convert.specs.declared.field.Field.{Field};
 ghost use Rattle.krb_show.specs.Tokens.{Token};
 ghost use Rattle.krb_show_opened.specs.Keys.{NamedKey};
 ghost use Rattle.krb_show_checksums.specs.Checked.{is_checked};
-ghost use Rattle.jolmurig.specs.Calls.{converted_to, listed_as, no_list, unconverted_to};
+ghost use Rattle.jolmurig.specs.Calls.{blocked, converted_to, listed_as, no_list, passed_on, unconverted_to};
+ghost use Rattle.jolmurig.specs.declared.command.Direction.{Direction};
 ghost use Rattle.jolmurig.specs.declared.command.Format.{Format};
 ghost use Rattle.jolmurig.specs.declared.calls.Entries.{Entries};
 
-use crate::command::Format;
+use crate::command::{Direction, Format};
+use crate::proxy::{Passed, reply_passed, request_passed};
 use krb_convert::{ConvertError, Converted, ccache_of_kirbi, kirbi_of_ccache};
 use krb_der::DerEncode;
+use krb_kdc_proxy::ProxyError;
 use krb_list::{ListError, list_of_ccache, list_of_keytab};
-use krb_msg_app::messages::KrbCred;
+use krb_msg::messages::{KdcProxyMessage, KrbError};
+use krb_msg_app::messages::{ApRep, ApReq, KrbCred, KrbPriv};
+use krb_msg_kdc::messages::{AsRep, AsReq, TgsRep, TgsReq};
 use krb_msg_parts::data_types::EncKrbCredPart;
 use krb_msg_types::data_types::Ticket;
 use krb_show::Page;
@@ -47,6 +56,12 @@ pub trait Calls {
     /// Why octets are not converted to a format.
     ghost unconverted: { Format → List ℕ → ConvertError → Type 0 };
 
+    /// What a proxy passes on: the octets, those that go on, and the line that says for whom.
+    ghost passes: { Direction → List ℕ → List ℕ → List ℕ → Type 0 };
+
+    /// Why it passes on none.
+    ghost blocks: { Direction → List ℕ → ProxyError → Type 0 };
+
     /// The page with what the keys open and what is known of checksums.
     fn opened(alloc: Global, keys: Vec<Key>, page: Page) -> Result<Page, AllocError>
         ensures { IfOk result (λ made. opens keys.items page.items made.items) };
@@ -60,6 +75,11 @@ pub trait Calls {
     fn converted(alloc: Global, to: Format, octets: &[u8]) -> Result<Converted, ConvertError>
         ensures found { IfOk result (λ c. converts to octets.now c.octets.items c.left_out.items) }
         ensures rejected { IfErr result (λ e. IsMemoryOr e (unconverted to octets.now e)) };
+
+    /// What a proxy passes on of the octets.
+    fn passed(alloc: Global, way: Direction, octets: &[u8]) -> Result<Passed, ProxyError>
+        ensures found { IfOk result (λ p. passes way octets.now p.octets.items p.line.items) }
+        ensures rejected { IfErr result (OrMemory (blocks way octets.now)) };
 }
 
 /// The calls of the library.
@@ -74,6 +94,14 @@ impl Calls for Library {
     ghost converts = { converted_to ⟦<KrbCred as DerEncode>⟧ ⟦<EncKrbCredPart as DerEncode>⟧ ⟦<Ticket as DerEncode>⟧ };
 
     ghost unconverted = { unconverted_to ⟦<KrbCred as DerEncode>⟧ ⟦<EncKrbCredPart as DerEncode>⟧ ⟦<Ticket as DerEncode>⟧ };
+
+    ghost passes = { passed_on ⟦<KdcProxyMessage as DerEncode>⟧
+        (types ⟦<AsReq as DerEncode>⟧ ⟦<TgsReq as DerEncode>⟧ ⟦<ApReq as DerEncode>⟧ ⟦<KrbPriv as DerEncode>⟧)
+        (reply_types ⟦<AsRep as DerEncode>⟧ ⟦<TgsRep as DerEncode>⟧ ⟦<KrbError as DerEncode>⟧ ⟦<ApRep as DerEncode>⟧ ⟦<KrbPriv as DerEncode>⟧) };
+
+    ghost blocks = { blocked ⟦<KdcProxyMessage as DerEncode>⟧
+        (types ⟦<AsReq as DerEncode>⟧ ⟦<TgsReq as DerEncode>⟧ ⟦<ApReq as DerEncode>⟧ ⟦<KrbPriv as DerEncode>⟧)
+        (reply_types ⟦<AsRep as DerEncode>⟧ ⟦<TgsRep as DerEncode>⟧ ⟦<KrbError as DerEncode>⟧ ⟦<ApRep as DerEncode>⟧ ⟦<KrbPriv as DerEncode>⟧) };
 
     fn opened(alloc: Global, keys: Vec<Key>, page: Page) -> Result<Page, AllocError> {
         page_with_checked(alloc, keys, page)
@@ -90,6 +118,13 @@ impl Calls for Library {
         match to {
             Format::Kirbi => kirbi_of_ccache(alloc, octets),
             Format::Ccache => ccache_of_kirbi(alloc, octets),
+        }
+    }
+
+    fn passed(alloc: Global, way: Direction, octets: &[u8]) -> Result<Passed, ProxyError> {
+        match way {
+            Direction::Request => request_passed(alloc, octets),
+            Direction::Reply => reply_passed(alloc, octets),
         }
     }
 }

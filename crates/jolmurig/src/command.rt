@@ -101,6 +101,15 @@ pub enum Format {
     Ccache,
 }
 
+/// Which way a message goes through a proxy in front of a KDC (MS-KKDCP).
+#[derive(Clone, Copy, PartialEq, Eq, Debug)]
+pub enum Direction {
+    /// From a client to a KDC: `request`.
+    Request,
+    /// From a KDC to a client: `reply`.
+    Reply,
+}
+
 /// What a command without options is of.
 #[derive(Debug, Drop)]
 pub struct Operand<'a> {
@@ -128,4 +137,6 @@ pub enum Command<'a> {
     List(Operand<'a>),
     /// The tickets of a file or of standard input in another format: `convert`.
     Convert(Format, Operand<'a>),
+    /// What a proxy passes on of the octets of a file or of standard input: `proxy`.
+    Proxy(Direction, Operand<'a>),
 }

@@ -1,26 +1,27 @@
 //! The program over any reader and any writers.
 
 ghost use Rattle.std.specs.Prelude.{◌≡◌, ◌⊎◌, [], map, option_copied, IfOk, IfErr, OnOk, MatchResult, Err};
-ghost use Rattle.std.specs.Io.KnownBytes.{Appends, Keeps};
+ghost use Rattle.std.specs.Io.KnownBytes.{Appends};
 ghost use Rattle.std.specs.String.{string_bytes};
 ghost use Rattle.jolmurig.specs.Failures.{line_of, status_of_failure};
 ghost use Rattle.jolmurig.specs.Outcome.{AreNotesWritten, HasTaken, IsConvertRun, IsInputRejected, IsKindOf, IsLeft, IsLineWritten, IsListRun, IsMade};
-ghost use Rattle.jolmurig.specs.Outcome.{IsNotMade, IsOfNoKind, IsPrepared, IsRun, IsRunOf, IsShowRun, IsUnprepared, Outcome, output_of, status_of};
+ghost use Rattle.jolmurig.specs.Outcome.{IsNotMade, IsOfNoKind, IsPrepared, IsProxyRun, IsRun, IsRunOf, IsShowRun, IsUnprepared, Outcome, output_of, status_of};
 ghost use Rattle.jolmurig.specs.declared.failure.Failure.{Failure};
 
 use crate::answer::shown;
 use crate::calls::Calls;
-use crate::command::{Command, Format, Output, Show};
+use crate::command::{Command, Direction, Format, Output, Show};
 use crate::convert::{Conversion, conversion_of};
 use crate::failure::Failure;
 use crate::files::Files;
 use crate::help::HELP;
-use crate::input::read_octets;
+use crate::input::{read_input, read_octets};
 use crate::keys::keys_of_sources;
 use crate::list::list_of;
 use crate::openers::Openers;
 use crate::parse::parse;
 use crate::passwords::passwords_of_files;
+use crate::proxy::{Passed, passed_of};
 use krb_io::write_all;
 use krb_show_any::{Kind, PageError, Pages, kind_of_name};
 use std::alloc::Global;
@@ -206,6 +207,23 @@ fn convert<C: Calls, F: Files, R: Read, W: Write>(
     write_with_notes(output, &octets, notes)
 }
 
+/// Passes a file or the input on through a proxy.
+fn pass_on<C: Calls, F: Files, R: Read, W: Write>(
+    alloc: Global,
+    way: Direction,
+    file: Option<&str>,
+    files: &F,
+    input: &mut R,
+    output: &mut W,
+) -> Result<Vec<u8>, Failure>
+    ensures { IsProxyRun (F.gives files.now) C.passes C.blocks way (option_copied file.entry) (R.remaining input.old) (R.remaining input.new)
+        (W.contents output.old) (W.contents output.new) result }
+{
+    let octets = read_input(alloc, files, file, input)?;
+    let Passed { octets, line } = passed_of::<C>(alloc, way, &octets)?;
+    write_with_notes(output, &octets, line)
+}
+
 /// Does what a command asks for.
 fn obey<S: Pages<Kind, PageError>, C: Calls, F: Files, R: Read, W: Write>(
     alloc: Global,
@@ -214,7 +232,7 @@ fn obey<S: Pages<Kind, PageError>, C: Calls, F: Files, R: Read, W: Write>(
     input: &mut R,
     output: &mut W,
 ) -> Result<Vec<u8>, Failure>
-    ensures { IsRun S.tells C.opens (F.gives files.now) C.lists C.converts C.unconverted command.entry HELP.now
+    ensures { IsRun S.tells C.opens (F.gives files.now) C.lists C.converts C.unconverted C.passes C.blocks command.entry HELP.now
         (R.remaining input.old) (R.remaining input.new) (W.contents output.old) (W.contents output.new) result }
 {
     match command {
@@ -224,6 +242,9 @@ fn obey<S: Pages<Kind, PageError>, C: Calls, F: Files, R: Read, W: Write>(
         Some(Command::List(of)) => list::<C, F, R, W>(alloc, of.file, files, input, output),
         Some(Command::Convert(to, of)) => {
             convert::<C, F, R, W>(alloc, to, of.file, files, input, output)
+        }
+        Some(Command::Proxy(way, of)) => {
+            pass_on::<C, F, R, W>(alloc, way, of.file, files, input, output)
         }
     }
 }
@@ -236,7 +257,7 @@ fn perform<S: Pages<Kind, PageError>, C: Calls, F: Files, R: Read, W: Write>(
     input: &mut R,
     output: &mut W,
 ) -> Result<Vec<u8>, Failure>
-    ensures { IsRunOf S.tells C.opens (F.gives files.now) C.lists C.converts C.unconverted (map string_bytes arguments.now) HELP.now
+    ensures { IsRunOf S.tells C.opens (F.gives files.now) C.lists C.converts C.unconverted C.passes C.blocks (map string_bytes arguments.now) HELP.now
         (R.remaining input.old) (R.remaining input.new) (W.contents output.old) (W.contents output.new) result }
 {
     let command = parse(alloc, arguments)?;
@@ -293,7 +314,7 @@ pub fn run<S: Pages<Kind, PageError>, C: Calls, F: Files, R: Read, W: Write, E: 
 ) -> u8
     ensures ran { (outcome : Outcome) × (result ≡ status_of outcome)
         × IsLineWritten (E.contents errors.old) (E.contents errors.new) outcome
-        × IsRunOf S.tells C.opens (F.gives files.now) C.lists C.converts C.unconverted (map string_bytes arguments.now) HELP.now
+        × IsRunOf S.tells C.opens (F.gives files.now) C.lists C.converts C.unconverted C.passes C.blocks (map string_bytes arguments.now) HELP.now
         (R.remaining input.old) (R.remaining input.new) (W.contents output.old) (W.contents output.new) outcome }
 {
     match perform::<S, C, F, R, W>(alloc, arguments, files, input, output) {

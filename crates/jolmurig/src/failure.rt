@@ -4,10 +4,11 @@ ghost use Rattle.std.specs.IoError.{error_kind};
 ghost use Rattle.std.specs.Prelude.{◌≡◌, ◌≢◌, ◌++◌, IfOk, OnOk};
 ghost use Rattle.std.specs.declared.io.ErrorKind.TheVariants as kinds;
 ghost use Rattle.jolmurig.specs.declared.failure.Failure.TheVariants as failures;
-ghost use Rattle.jolmurig.specs.Failures.{line_of, of_input, place, place_text, placed, reason, rule_of, status_of_failure, subject};
+ghost use Rattle.jolmurig.specs.Failures.{breaker, kind_of_message, line_of, of_input, place, place_text, placed, reason, rule_of, rule_of_proxy, status_of_failure, subject};
 
 use krb_convert::ConvertError;
 use krb_input::InputError;
+use krb_kdc_proxy::{MessageKind, ProxyError};
 use krb_keytab::KeytabError;
 use krb_show_any::{Kind, PageError, Place, name_of_kind};
 use std::alloc::{AllocError, Global};
@@ -38,6 +39,8 @@ pub enum Failure {
     NoEntries,
     /// The octets are not converted: the rule that they break.
     Convert(ConvertError),
+    /// Nothing of the octets passes through a proxy: the rule that they break.
+    Proxy(ProxyError),
     /// The octets are none of this kind, for this reason, which is at this place where it is an error of DER.
     Octets {
         kind: Kind,
@@ -101,6 +104,51 @@ fn rule_of(rule: &ConvertError) -> &'static str
     }
 }
 
+/// What a message begins as: its application tag, constructed (RFC 4120, 5.10; X.690, 8.1.2).
+pub fn kind_of_message(kind: MessageKind) -> Kind
+    ensures { result ≡ kind_of_message kind }
+{
+    Kind::Application(match kind {
+        MessageKind::AsReq => 0x6a,
+        MessageKind::AsRep => 0x6b,
+        MessageKind::TgsReq => 0x6c,
+        MessageKind::TgsRep => 0x6d,
+        MessageKind::ApReq => 0x6e,
+        MessageKind::ApRep => 0x6f,
+        MessageKind::KrbPriv => 0x75,
+        MessageKind::KrbError => 0x7e,
+    })
+}
+
+/// What breaks a rule of a proxy: a message, or what was to go through as a whole.
+fn breaker(rule: &ProxyError) -> &'static str
+    ensures { result.now ≡ breaker rule.now }
+{
+    match rule {
+        ProxyError::Pvno(kind) | ProxyError::MsgType(kind) => name_of_kind(kind_of_message(*kind)),
+        _ => "proxy",
+    }
+}
+
+/// The rule of a proxy that octets break; an error of an encoding is told as that of these octets.
+fn rule_of_proxy(rule: &ProxyError) -> &'static str
+    ensures { result.now ≡ rule_of_proxy rule.now }
+{
+    match rule {
+        ProxyError::TooLarge => "TooLarge: there are more than 131072 octets",
+        ProxyError::NoLength => "NoLength: the message has no length in front of it",
+        ProxyError::OtherLength =>
+            "OtherLength: the length in front of the message is not that of the message",
+        ProxyError::NoTargetDomain => "NoTargetDomain: target-domain is absent",
+        ProxyError::OtherKind => "OtherKind: the message is of no kind that goes this way",
+        ProxyError::FrameLength => "FrameLength: the frame is shorter than the message in it",
+        ProxyError::Pvno(_) => "Pvno: pvno is not 5",
+        ProxyError::MsgType(_) => "MsgType: msg-type is that of another message",
+        ProxyError::ProxyMessage(_) | ProxyError::Message(_, _) => "the octets are no encoding",
+        ProxyError::OutOfMemory => "an allocation failed",
+    }
+}
+
 impl Failure {
     /// The status with which the program ends: 2 where the arguments are no command or name no key, else 1.
     pub fn status(&self) -> u8
@@ -126,6 +174,7 @@ impl Failure {
             Failure::UnknownKind => "unknown kind",
             Failure::NoEntries => "list",
             Failure::Convert(_) => "convert",
+            Failure::Proxy(rule) => breaker(rule),
             Failure::Octets {
                 kind,
                 why: _,
@@ -143,7 +192,7 @@ impl Failure {
     {
         match self {
             Failure::Arguments =>
-                "usage: jolmurig show [OPTION].. [FILE], jolmurig list [FILE] or jolmurig convert kirbi|ccache [FILE]; see jolmurig --help",
+                "usage: jolmurig show [OPTION].. [FILE], jolmurig list [FILE], jolmurig convert kirbi|ccache [FILE] or jolmurig proxy request|reply [FILE]; see jolmurig --help",
             Failure::Key =>
                 "a key is ETYPE:HEX, where ETYPE is 16 to 20 or the name of such an encryption type, and HEX the octets of a key of its length",
             Failure::KeyFile | Failure::KeytabFile | Failure::PasswordFile => {
@@ -158,6 +207,7 @@ impl Failure {
                 "the octets begin as no kind that is known; --as TYPE names one",
             Failure::NoEntries => "the octets begin as neither a keytab nor a credential cache",
             Failure::Convert(rule) => rule_of(rule),
+            Failure::Proxy(rule) => rule_of_proxy(rule),
             Failure::Octets {
                 kind: _,
                 why,

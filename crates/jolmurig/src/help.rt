@@ -8,12 +8,16 @@ usage:
     jolmurig show [OPTION].. [FILE]
     jolmurig list [FILE]
     jolmurig convert kirbi|ccache [FILE]
+    jolmurig proxy request|reply [FILE]
     jolmurig --help
 
 show       the type of the octets, and what they hold
 list       a line for each entry of a keytab, as `klist -kte` has them, or of a credential cache, as `klist -f -e`
 convert    a credential cache as a KRB-CRED in the clear (kirbi), or such a KRB-CRED as a credential cache (ccache);
            what the format cannot hold is named on standard error
+proxy      what a proxy in front of a KDC passes on (MS-KKDCP), where the octets are one encoding of a message that
+           goes this way: of what a client posts (request) the message behind its length, as it goes over a stream,
+           and on standard error a line for whom; of what a KDC sent over a stream (reply) what goes back to the client
 
 FILE is the file that is read; without it standard input is.
 
@@ -36,7 +40,11 @@ options of show:
 what is opened stands in its place, with the key that opened it and the key usage; keys within it open what
 follows. Of a PAC in a ticket it is said which of its checksums hold
 
-input, by the first rule that fits:
+the line of a request is `kdc REALM`, or `kpasswd REALM` where a password is changed, with the target-domain that the
+client names; where the message names another realm `(the message names REALM)` stands behind it. In a realm the blank,
+`:`, the backslash and what is not printable are a backslash, `x` and two digits. A request has at most 131072 octets
+
+input of show, list and convert, by the first rule that fits; that of proxy is the octets themselves:
     -----BEGIN LABEL-----    PEM: the base64 up to the line -----END LABEL-----
     Negotiate BASE64         a token of HTTP, also behind Authorization:, WWW-Authenticate: and their kin
     hexadecimal              digits in pairs, with or without blanks and line breaks
@@ -73,4 +81,5 @@ examples:
     jolmurig show --keytab krb5.keytab krb5cc
     jolmurig list krb5cc
     jolmurig convert kirbi krb5cc >ticket.kirbi
+    jolmurig proxy request <posted | nc -q 5 kdc.example.com 88 | jolmurig proxy reply >answer
 ";

@@ -1,8 +1,7 @@
 //! The input of a command.
 
-ghost use Rattle.std.specs.Prelude.{◌≡◌, ◌⊎◌, ◌≢◌, None, Some, option_copied, IfOk, IfErr, IfSome};
-ghost use Rattle.krb_input.specs.Forms.{octets_of};
-ghost use Rattle.jolmurig.specs.Outcome.{AreNotRead, AreRead, IsInput, IsLeft, IsUnread};
+ghost use Rattle.std.specs.Prelude.{◌≡◌, ◌⊎◌, None, Some, option_copied, IfOk, IfErr, IfSome};
+ghost use Rattle.jolmurig.specs.Outcome.{AreNotRead, AreRead, IsInput, IsLeft, IsNoInput};
 ghost use Rattle.jolmurig.specs.declared.failure.Failure.TheVariants as failure;
 
 use crate::failure::Failure;
@@ -25,14 +24,14 @@ fn read_all<R: Read>(alloc: Global, input: &mut R) -> Result<Vec<u8>, Failure>
 }
 
 /// What is read: the file of this name, or all that the reader has left.
-fn read_input<F: Files, R: Read>(
+pub fn read_input<F: Files, R: Read>(
     alloc: Global,
     files: &F,
     file: Option<&str>,
     input: &mut R,
 ) -> Result<Vec<u8>, Failure>
     ensures read { IfOk result (λ all. IsInput (F.gives files.now) (option_copied file.entry) (R.remaining input.old) all.items) }
-    ensures rejected { IfErr result (λ e. (e ≡ failure.Memory) ⊎ ((e ≡ failure.Read) × IsUnread (F.gives files.now) (option_copied file.entry))) }
+    ensures rejected { IfErr result (IsNoInput (F.gives files.now) (option_copied file.entry)) }
     ensures left { IsLeft (option_copied file.entry) (R.remaining input.old) (R.remaining input.new) }
 {
     match file {

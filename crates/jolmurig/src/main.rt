@@ -15,6 +15,7 @@ mod list;
 mod openers;
 mod parse;
 mod passwords;
+mod proxy;
 
 use calls::Library;
 use engine::reject;

@@ -3,13 +3,15 @@
 ghost use Rattle.std.specs.Prelude.{◌≡◌, ◌≤◌, ◌∷◌, false, length, map, None, Some, IfOk, MatchOption};
 ghost use Rattle.std.specs.Option.{option_copied};
 ghost use Rattle.std.specs.String.{string_bytes};
-ghost use Rattle.jolmurig.specs.Arguments.{asked_by, begins_with_help, command_of, conversion_of, file_name, format_of, is_help, is_valued, is_word};
-ghost use Rattle.jolmurig.specs.Arguments.{of_operand, operand_of, options_of, source_kind, with_file, with_flag, with_output, with_source};
+ghost use Rattle.jolmurig.specs.Arguments.{asked_by, begins_with_help, command_of, conversion_of, direction_of, file_name, format_of, is_help, is_valued, is_word};
+ghost use Rattle.jolmurig.specs.Arguments.{of_operand, operand_of, options_of, proxy_of, source_kind, with_file, with_flag, with_output, with_source};
 ghost use Rattle.jolmurig.specs.Arguments.{with_password_file, with_tree, with_type, with_value};
 ghost use Rattle.jolmurig.specs.Shows.{nothing_asked};
 ghost use Rattle.jolmurig.specs.declared.command.Command.TheVariants as command;
 
-use crate::command::{Command, FileName, Format, Operand, Output, Show, Source, SourceKind};
+use crate::command::{
+    Command, Direction, FileName, Format, Operand, Output, Show, Source, SourceKind,
+};
 use std::alloc::{AllocError, Global};
 
 /// Whether an argument is this word.
@@ -333,6 +335,41 @@ fn conversion_of(words: &[String]) -> Option<Command<'_>>
     conversion_to(format, rest)
 }
 
+/// What the arguments of `proxy` ask for behind the direction.
+fn proxy_to(direction: Direction, words: &[String]) -> Option<Command<'_>>
+    ensures { result ≡ of_operand (command.Proxy direction) (map string_bytes words.now) }
+{
+    if begins_with_help(words) {
+        return Some(Command::Help);
+    }
+    Some(Command::Proxy(direction, operand_of(words)?))
+}
+
+/// The direction of this name.
+fn direction_of(name: &str) -> Option<Direction>
+    ensures { result ≡ direction_of name.now }
+{
+    if is_word(name, "request") {
+        Some(Direction::Request)
+    } else if is_word(name, "reply") {
+        Some(Direction::Reply)
+    } else {
+        None
+    }
+}
+
+/// What the arguments of `proxy` ask for.
+fn proxy_of(words: &[String]) -> Option<Command<'_>>
+    ensures { result ≡ proxy_of (map string_bytes words.now) }
+{
+    let (word, rest) = words.split_first()?;
+    if is_help(word.as_str()) {
+        return Some(Command::Help);
+    }
+    let direction = direction_of(word.as_str())?;
+    proxy_to(direction, rest)
+}
+
 /// What a command's name and the arguments behind it ask for.
 fn command_of<'a>(
     alloc: Global,
@@ -347,6 +384,8 @@ fn command_of<'a>(
         Ok(list_of(rest))
     } else if is_word(name, "convert") {
         Ok(conversion_of(rest))
+    } else if is_word(name, "proxy") {
+        Ok(proxy_of(rest))
     } else {
         Ok(None)
     }

@@ -19,6 +19,7 @@ mod token;
 mod wrappers;
 
 pub use digits::push_hex;
+pub use escape::{Style, push_escaped};
 pub use fields::{Field, ShowFields, show_struct};
 pub use json::json_of_page;
 pub use leaves::{show_identifier, show_number, show_octets, show_text, show_word};
