@@ -9,6 +9,7 @@ typedef struct file FILE;
 enum { STDIN_FILENO, STDOUT_FILENO, STDERR_FILENO };
 enum { SEEK_SET, SEEK_CUR };
 enum { O_RDONLY, O_WRONLY };
+#define RTLD_NEXT ((void *)-1L)
 
 extern FILE *stderr;
 FILE *fopen(const char *path, const char *mode);
@@ -36,6 +37,7 @@ int fork(void);
 int execve(const char *path, char *const *words, char *const *environment);
 int waitpid(int process, int *status, int options);
 char *getenv(const char *name);
+void *dlsym(void *objects, const char *name);
 void _exit(int status) __attribute__((noreturn));
 
 void exit(int status) __attribute__((noreturn));

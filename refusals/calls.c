@@ -1,5 +1,6 @@
 /* Makes each call of the cryptography with its allocations failing. */
 #include "calls.h"
+#include "program.h"
 #include "runs.h"
 
 /* The status of crates/test_refusals where a call succeeds. */
@@ -18,7 +19,7 @@ static struct octets input_of(const char *name, const struct octets *octets) {
     return input;
 }
 
-int __wrap_main(void) {
+int try_program(int count, char **words) {
     start_runs();
     struct octets octets = {.count = 0};
     for (size_t i = 0; i < sizeof calls / sizeof *calls; i++) {

@@ -5,17 +5,15 @@
  * that failed, the line that reports that alone. */
 #include "c_library.h"
 #include COMMANDS
-#include "memory.h"
 #include "octets.h"
-
-/* The program's, which the linker turned from main (--wrap). */
-int __real_main(int count, char **words);
+#include "program.h"
 
 /* Where a process reports its allocations: after its three streams. */
 enum { COUNTS = 3 };
 
-/* The status of a process that could not run the command, and what stands for a device that is closed. */
-enum { NOT_RUN = 99, CLOSED = -1 };
+/* The status of a process that could not run the command, what stands for a device that is closed,
+ * and the room for the path of this object. */
+enum { NOT_RUN = 99, CLOSED = -1, PATH = 4096 };
 
 /* What a process is given in place of its three streams. */
 struct devices {
@@ -36,25 +34,25 @@ static int files[3], counts_file, named_file;
 
 /* Runs the command of these arguments, as the allocation of the environment's number fails, and reports its allocations. */
 static int run_here(int count, char **words, const char *refused) {
-    long number, counts[2];
+    long number;
     int on;
     if (sscanf(refused, "%ld %d", &number, &on) != 2) {
         return NOT_RUN;
     }
-    start_requests(number, on);
-    int status = __real_main(count, words);
-    counts[0] = requests_made();
-    counts[1] = blocks_held();
-    return pwrite(COUNTS, counts, sizeof counts, 0) == sizeof counts ? status : NOT_RUN;
+    struct ended it = run_main(count, words, number, on);
+    long counts[] = {it.requests, it.held};
+    return pwrite(COUNTS, counts, sizeof counts, 0) == sizeof counts ? it.status : NOT_RUN;
 }
 
 /* Turns this process to one that runs the command. */
 static void become(const struct command *command, const struct devices *devices, long refused, int on) {
-    char variable[64], *environment[] = {variable, 0}, *words[WORDS + 2] = {PROGRAM};
+    char variable[64], preloaded[PATH], *environment[] = {variable, preloaded, 0};
+    char *words[WORDS + 2] = {PROGRAM};
     for (int i = 0; i < WORDS && command->words[i]; i++) {
         words[1 + i] = (char *)command->words[i];
     }
     snprintf(variable, sizeof variable, "REFUSED=%ld %d", refused, on);
+    snprintf(preloaded, sizeof preloaded, "LD_PRELOAD=%s", getenv("LD_PRELOAD"));
     if (dup2(counts_file, COUNTS) < 0 || dup2(named_file, NAMED) < 0) {
         _exit(NOT_RUN);
     }
@@ -223,7 +221,8 @@ static long try_without_lines(const struct command *command) {
     return runs;
 }
 
-static void try_command(const struct command *command) {
+/* Returns how many requests the command makes. */
+static long try_command(const struct command *command) {
     struct devices devices = {"files", {files[0], files[1], files[2]}};
     struct answer undisturbed = run(command, &devices, 0, 0);
     if (!is_as_told(command, &undisturbed)) {
@@ -234,6 +233,7 @@ static void try_command(const struct command *command) {
         runs += try_devices(command);
     }
     printf(PROGRAM " %s %s\t%ld\t%ld\n", word(command, 0), word(command, 1), undisturbed.requests, runs);
+    return undisturbed.requests;
 }
 
 static int file(void) {
@@ -244,7 +244,7 @@ static int file(void) {
     return fileno(made);
 }
 
-int __wrap_main(int count, char **words) {
+int try_program(int count, char **words) {
     const char *refused = getenv("REFUSED");
     if (refused) {
         return run_here(count, words, refused);
@@ -256,8 +256,12 @@ int __wrap_main(int count, char **words) {
         files[i] = file();
     }
     int passed = sizeof commands / sizeof *commands;
+    long requests = 0;
     for (int i = 0; i < passed; i++) {
-        try_command(&commands[i]);
+        requests += try_command(&commands[i]);
+    }
+    if (requests == 0) {
+        die("none of the requests of " PROGRAM " is seen");
     }
     printf("%d commands passed\n", passed);
     return 0;

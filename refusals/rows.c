@@ -1,8 +1,11 @@
-/* Has the program test_messages or test_formats read, copy and write the octets of each row of its table, with its allocations
- * failing, and of a PAC its first buffer alone too. The argument is that table. */
+/* Has the program test_messages or test_formats read, copy and write the octets of each row of its
+ * table, with its allocations failing, and of a PAC its first buffer alone too. The argument is
+ * that table. */
+#include "program.h"
 #include "runs.h"
 
-/* The statuses of these programs on a row of the origin `once`: it was read and all held, or it was rejected. */
+/* The statuses of these programs on a row of the origin `once`: it was read and all held, or it was
+ * rejected. */
 enum { HELD, REFUSED };
 
 static char line[4 * ROOM];
@@ -10,13 +13,15 @@ static char line[4 * ROOM];
 /* Whether an error's name is in the origin's place: one word that begins with a capital. */
 static int is_refusal(const char *origin) {
     size_t letters = 0;
-    while (('A' <= origin[letters] && origin[letters] <= 'Z') || ('a' <= origin[letters] && origin[letters] <= 'z')) {
+    while (('A' <= origin[letters] && origin[letters] <= 'Z') ||
+           ('a' <= origin[letters] && origin[letters] <= 'z')) {
         letters++;
     }
     return 'A' <= *origin && *origin <= 'Z' && letters == strlen(origin);
 }
 
-/* Tries the row of these columns. Where an error's name is in the origin's place, the octets are rejected. */
+/* Tries the row of these columns. Where an error's name is in the origin's place, the octets are
+ * rejected. */
 static void try_row(const char *origin, const char *name, const char *digits) {
     struct octets input;
     int count = snprintf((char *)input.at, ROOM, "once\t%s\t%s\n", name, digits);
@@ -27,7 +32,7 @@ static void try_row(const char *origin, const char *name, const char *digits) {
     try_runs(name, &input, is_refusal(origin) ? REFUSED : HELD);
 }
 
-int __wrap_main(int count, char **words) {
+int try_program(int count, char **words) {
     FILE *rows = count == 2 ? fopen(words[1], "r") : 0;
     if (!rows) {
         die("no such table");

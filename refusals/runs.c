@@ -1,14 +1,12 @@
 #include "runs.h"
-#include "memory.h"
+#include "program.h"
 
 /* The status with which a program ends where an allocation fails. */
 enum { OUT_OF_MEMORY = 1 };
 
-/* The program's, which the linker turned from main (--wrap). */
-int __real_main(int count, char **words);
-
 static FILE *report, *complaints;
 static int passed;
+static long requests;
 
 void start_runs(void) {
     FILE *input = tmpfile(), *output = tmpfile();
@@ -30,21 +28,24 @@ void fail(const char *name, const char *why) {
 static struct answer run(long refused, int on) {
     static char name[] = "refusals", *words[] = {name, 0};
     struct answer answer;
-    if (lseek(STDIN_FILENO, 0, SEEK_SET) || lseek(STDOUT_FILENO, 0, SEEK_SET) || ftruncate(STDOUT_FILENO, 0)) {
+    if (lseek(STDIN_FILENO, 0, SEEK_SET) || lseek(STDOUT_FILENO, 0, SEEK_SET) ||
+        ftruncate(STDOUT_FILENO, 0)) {
         fail("a run", "a file cannot be rewound");
     }
-    start_requests(refused, on);
-    answer.status = __real_main(1, words);
-    answer.requests = requests_made();
-    answer.held = blocks_held();
+    struct ended it = run_main(1, words, refused, on);
+    answer.status = it.status;
+    answer.requests = it.requests;
+    answer.held = it.held;
     answer.octets = octets_in(STDOUT_FILENO);
     return answer;
 }
 
-/* Whether a run with failing allocations ended well: as the undisturbed one, or as a failed allocation with nothing written. */
+/* Whether a run with failing allocations ended well: as the undisturbed one, or as a failed
+ * allocation with nothing written. */
 static int is_well(const struct answer *it, const struct answer *undisturbed) {
     int is_wanting = it->status == OUT_OF_MEMORY && it->octets.count == 0 && it->requests > 0;
-    int is_same = it->status == undisturbed->status && are_equal(&it->octets, &undisturbed->octets);
+    int is_same = it->status == undisturbed->status &&
+                  are_equal(&it->octets, &undisturbed->octets);
     return it->held == 0 && (is_wanting || is_same);
 }
 
@@ -73,10 +74,14 @@ struct answer try_runs(const char *name, const struct octets *octets, int status
     long runs = 1 + refuse_each(name, &undisturbed, 0) + refuse_each(name, &undisturbed, 1);
     fprintf(report, "%s\t%ld\t%ld\n", name, undisturbed.requests, runs);
     passed++;
+    requests += undisturbed.requests;
     return undisturbed;
 }
 
 void end_runs(void) {
+    if (requests == 0) {
+        fail("the program", "none of its requests is seen");
+    }
     fprintf(report, "%d passed, 0 failed\n", passed);
     fclose(report);
 }
