@@ -3,8 +3,9 @@
 #define CALLS_H
 #include "c_library.h"
 
-/* A call of crates/test_refusals by its name. It is made on the octets of these digits, or on one octet so many times, or else on
- * what the call before it returned. The most allocations that it may make, and the result's digits where they are known. */
+/* A call of crates/test_refusals by its name. It is made on the octets of these digits, or on one
+ * octet so many times, or else on what the call before it returned. The most allocations that it
+ * may make, and the result's digits where they are known. */
 struct call {
     const char *name, *digits;
     size_t count;
@@ -40,7 +41,8 @@ enum { ANY = 1000 };
     {.name = "shared_secret " number, .count = 128, .octet = 0xd1, .most = ANY}
 
 static const struct call calls[] = {
-    /* RFC 3961, 5.1: each piece is all ones, which is zero in ones'-complement arithmetic, and so is their sum. */
+    /* RFC 3961, 5.1: each piece is all ones, which is zero in ones'-complement arithmetic, and so
+     * is their sum. */
     {.name = "n_fold", .count = 1000, .octet = 0xff, .most = 1, .answer = "ffffffffffffffff"},
     SUITE("16", 21),
     SUITE("17", 16),

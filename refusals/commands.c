@@ -1,8 +1,10 @@
-/* Runs each command of a program, krbtool or jolmurig, a process a run, with its allocations failing, each in turn: that one alone, and
- * that one with all after it. Each is run over a standard error that fails, too, and a command that succeeds over the other devices. Prints
- * a line a command: its first words, how many requests it makes, and in how many runs it was run. Ends with status 1 at the first run that
- * holds a block when it ends, takes of an input that is not read, or gives neither what its row says nor, after an error or over a device
- * that failed, the line that reports that alone. */
+/* Runs each command of a program, krbtool or jolmurig, a process a run, with its allocations
+ * failing, each in turn: that one alone, and that one with all after it. Each is run over a
+ * standard error that fails, too, and a command that succeeds over the other devices. Prints a
+ * line a command: its first words, how many requests it makes, and in how many runs it was run.
+ * Ends with status 1 at the first run that holds a block when it ends, takes of an input that is
+ * not read, or gives neither what its row says nor, after an error or over a device that failed,
+ * the line that reports that alone. */
 #include "c_library.h"
 #include COMMANDS
 #include "octets.h"
@@ -29,10 +31,12 @@ struct answer {
     long taken;
 };
 
-/* The files of the streams, where no device fails, that of the allocations' report, and the one that arguments name. */
+/* The files of the streams, where no device fails, that of the allocations' report, and the one
+ * that arguments name. */
 static int files[3], counts_file, named_file;
 
-/* Runs the command of these arguments, as the allocation of the environment's number fails, and reports its allocations. */
+/* Runs the command of these arguments, as the allocation of the environment's number fails, and
+ * reports its allocations. */
 static int run_here(int count, char **words, const char *refused) {
     long number;
     int on;
@@ -45,7 +49,8 @@ static int run_here(int count, char **words, const char *refused) {
 }
 
 /* Turns this process to one that runs the command. */
-static void become(const struct command *command, const struct devices *devices, long refused, int on) {
+static void become(const struct command *command, const struct devices *devices, long refused,
+                   int on) {
     char variable[64], preloaded[PATH], *environment[] = {variable, preloaded, 0};
     char *words[WORDS + 2] = {PROGRAM};
     for (int i = 0; i < WORDS && command->words[i]; i++) {
@@ -67,9 +72,11 @@ static void become(const struct command *command, const struct devices *devices,
     _exit(NOT_RUN);
 }
 
-static struct answer run(const struct command *command, const struct devices *devices, long refused, int on) {
+static struct answer run(const struct command *command, const struct devices *devices, long refused,
+                         int on) {
     static const struct octets none;
-    struct octets input = octets_of(command->input), file = octets_of(command->file ? command->file : "");
+    struct octets input = octets_of(command->input);
+    struct octets file = octets_of(command->file ? command->file : "");
     struct answer answer;
     long counts[2] = {-1, -1};
     hold(files[0], &input);
@@ -96,40 +103,49 @@ static struct answer run(const struct command *command, const struct devices *de
     return answer;
 }
 
-/* Whether a command's result is this one: the status, the lines, and the digits of the output; and nothing is taken of an input that is not
- * read. */
-static int is_answer(const struct command *command, const struct answer *it, int status, const char *lines, const char *output) {
+/* Whether a command's result is this one: the status, the lines, and the digits of the output; and
+ * nothing is taken of an input that is not read. */
+static int is_answer(const struct command *command, const struct answer *it, int status,
+                     const char *lines, const char *output) {
     struct octets wanted = octets_of(output);
-    return it->status == status && it->held == 0 && (command->reads || it->taken == 0) && are_equal(&it->output, &wanted) &&
-           it->lines.count == strlen(lines) && memcmp(it->lines.at, lines, it->lines.count) == 0;
+    return it->status == status && it->held == 0 && (command->reads || it->taken == 0) &&
+           are_equal(&it->output, &wanted) && it->lines.count == strlen(lines) &&
+           memcmp(it->lines.at, lines, it->lines.count) == 0;
 }
 
 static int is_as_told(const struct command *command, const struct answer *it) {
     return is_answer(command, it, command->status, command->lines, command->output);
 }
 
-/* A command's word of this place, or nothing: its second is its encryption type where it has one. */
+/* A command's word of this place, or nothing: its second is its encryption type where it has
+ * one. */
 static const char *word(const struct command *command, int place) {
     return command->words[place] ? command->words[place] : "";
 }
 
-static void fail(const struct command *command, const char *when, long refused, const struct answer *it) {
-    fprintf(stderr, "refusals: " PROGRAM " %s %s: %s (%ld): status %d, %ld octets taken, %zu octets, %ld blocks held, %.*s\n",
-            word(command, 0), word(command, 1), when, refused, it->status, it->taken, it->output.count, it->held,
-            (int)it->lines.count, (const char *)it->lines.at);
+static void fail(const struct command *command, const char *when, long refused,
+                 const struct answer *it) {
+    fprintf(stderr,
+            "refusals: " PROGRAM " %s %s: %s (%ld): status %d, %ld octets taken, %zu octets, "
+            "%ld blocks held, %.*s\n",
+            word(command, 0), word(command, 1), when, refused, it->status, it->taken,
+            it->output.count, it->held, (int)it->lines.count, (const char *)it->lines.at);
     exit(1);
 }
 
-/* Makes each allocation fail in turn, until a run meets none, and returns how many runs that took. */
+/* Makes each allocation fail in turn, until a run meets none, and returns how many runs that
+ * took. */
 static long refuse_each(const struct command *command, const struct devices *devices, int on) {
     for (long refused = 1;; refused++) {
         struct answer it = run(command, devices, refused, on);
         int is_met = it.requests >= refused;
         /* The line of an error may be what could not be made. */
-        int is_reported = is_answer(command, &it, 1, MEMORY_LINE, "") ||
-                          (command->status != 0 && is_answer(command, &it, command->status, MEMORY_LINE, ""));
+        int is_reported =
+            is_answer(command, &it, 1, MEMORY_LINE, "") ||
+            (command->status != 0 && is_answer(command, &it, command->status, MEMORY_LINE, ""));
         if (!is_as_told(command, &it) && !(is_met && is_reported)) {
-            fail(command, on ? "this request refused and each after it" : "this request refused", refused, &it);
+            fail(command, on ? "this request refused and each after it" : "this request refused",
+                 refused, &it);
         }
         if (!is_met) {
             return refused;
@@ -138,7 +154,8 @@ static long refuse_each(const struct command *command, const struct devices *dev
 }
 
 /* Runs a command that succeeds over a device that fails. */
-static void try_device(const struct command *command, const struct devices *devices, const char *line) {
+static void try_device(const struct command *command, const struct devices *devices,
+                       const char *line) {
     struct answer it = run(command, devices, 0, 0);
     if (!is_answer(command, &it, 1, line, "")) {
         fail(command, devices->name, 0, &it);
@@ -196,8 +213,8 @@ static long try_devices(const struct command *command) {
     return runs;
 }
 
-/* Runs a command over each standard error that fails, and returns how many runs that took: where its lines cannot be written, its status and
- * its output stay. */
+/* Runs a command over each standard error that fails, and returns how many runs that took: where
+ * its lines cannot be written, its status and its output stay. */
 static long try_without_lines(const struct command *command) {
     int ends[2];
     if (pipe(ends) || close(ends[0])) {
@@ -228,11 +245,13 @@ static long try_command(const struct command *command) {
     if (!is_as_told(command, &undisturbed)) {
         fail(command, "undisturbed", 0, &undisturbed);
     }
-    long runs = 1 + refuse_each(command, &devices, 0) + refuse_each(command, &devices, 1) + try_without_lines(command);
+    long runs = 1 + refuse_each(command, &devices, 0) + refuse_each(command, &devices, 1) +
+                try_without_lines(command);
     if (command->status == 0) {
         runs += try_devices(command);
     }
-    printf(PROGRAM " %s %s\t%ld\t%ld\n", word(command, 0), word(command, 1), undisturbed.requests, runs);
+    printf(PROGRAM " %s %s\t%ld\t%ld\n", word(command, 0), word(command, 1),
+           undisturbed.requests, runs);
     return undisturbed.requests;
 }
 

@@ -49,12 +49,14 @@ static int is_well(const struct answer *it, const struct answer *undisturbed) {
     return it->held == 0 && (is_wanting || is_same);
 }
 
-/* Makes each allocation fail in turn, until a run meets none, and returns how many runs that took. */
+/* Makes each allocation fail in turn, until a run meets none, and returns how many runs that
+ * took. */
 static long refuse_each(const char *name, const struct answer *undisturbed, int on) {
     for (long refused = 1;; refused++) {
         struct answer it = run(refused, on);
         if (!is_well(&it, undisturbed)) {
-            fprintf(complaints, "refusals: request %ld refused%s: status %d, %zu octets, %ld blocks held\n",
+            fprintf(complaints,
+                    "refusals: request %ld refused%s: status %d, %zu octets, %ld blocks held\n",
                     refused, on ? " and each after it" : "", it.status, it.octets.count, it.held);
             fail(name, "a refused request");
         }
@@ -68,7 +70,8 @@ struct answer try_runs(const char *name, const struct octets *octets, int status
     hold(STDIN_FILENO, octets);
     struct answer undisturbed = run(0, 0);
     if (undisturbed.status != status || undisturbed.held != 0) {
-        fprintf(complaints, "refusals: status %d, %ld blocks held\n", undisturbed.status, undisturbed.held);
+        fprintf(complaints, "refusals: status %d, %ld blocks held\n", undisturbed.status,
+                undisturbed.held);
         fail(name, "the undisturbed run");
     }
     long runs = 1 + refuse_each(name, &undisturbed, 0) + refuse_each(name, &undisturbed, 1);
