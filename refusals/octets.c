@@ -5,14 +5,24 @@ void die(const char *why) {
     exit(1);
 }
 
+static int value_of(char digit) {
+    if ('0' <= digit && digit <= '9') {
+        return digit - '0';
+    }
+    if (digit < 'a' || 'f' < digit) {
+        die("octets have a letter that is not a digit");
+    }
+    return digit - 'a' + 10;
+}
+
 struct octets octets_of(const char *digits) {
-    struct octets made = {.count = 0};
-    unsigned octet;
-    for (; sscanf(digits, "%2x", &octet) == 1; digits += 2) {
+    struct octets made;
+    made.count = 0;
+    for (; *digits; digits += 2) {
         if (made.count == ROOM) {
             die("too many octets");
         }
-        made.at[made.count++] = octet;
+        made.at[made.count++] = 16 * value_of(digits[0]) + value_of(digits[1]);
     }
     return made;
 }
