@@ -1,6 +1,6 @@
 # Builds the library that C calls; sourced by `run`, `secrets` and `proxy`, which set `here`, `kit` and `scratch`. `proxy` sets the next two anew.
 
-libraries="krb_crypto_block krb_crypto_message krb_der krb_msg_parts krb_seal krb_crypto_suite"
+libraries="krb_crypto_block krb_crypto_message krb_der krb_enc_parts krb_crypto"
 source=lib.rt.in
 
 # The lines of a crates.txt (lowest first) for the libraries in `wanted`, and for what they depend on.
@@ -25,7 +25,7 @@ build_library() {
         cp "$LIBRARY" "$2/library.a"
         return
     fi
-    if [ $source = lib.rt.in ] && [ -e "$1/crates/krb_crypto_suite/src/prepared.rt" ]; then
+    if [ $source = lib.rt.in ] && [ -e "$1/crates/krb_crypto/src/prepared.rt" ]; then
         wanted="$libraries krb_crypto_aes_tables"
     else
         wanted=$libraries

@@ -12,7 +12,7 @@ that `gss_krb5_export_lucid_sec_context` gives. Of messages of 0 to some thousan
 - ours hold in MIT, rotated by any count and not;
 - each with one bit of each octet another, or cut, is refused here, and of the bits also by MIT; so is a token of the other side.
 
-`--rows` prints MIT's tokens instead, with their keys, as rows of the test of krb_gss_protection: etype, key, sender, whether it is the acceptor's subkey, sequence
+`--rows` prints MIT's tokens instead, with their keys, as rows of the test of krb_gss_per_message: etype, key, sender, whether it is the acceptor's subkey, sequence
 number, kind, message and token.
 
 It needs Python 3.9, of Debian krb5-kdc, krb5-admin-server, krb5-user and python3-gssapi, and the package `krb` with its shared object (KRBC_LIBRARY). The last

@@ -1,10 +1,10 @@
 //! The conversions of `picky_krb` by `From` and `TryFrom`, each once.
 //!
 //! The impl of a conversion to a number is in the crate of the type that is converted. A caller's line of crates.txt names
-//! that crate beside `picky_krb`: `krb_negoex` for message types, `krb_pac` for buffer types, `krb_crypto_suite` for suites.
+//! that crate beside `picky_krb`: `krb_negoex` for message types, `krb_pac` for buffer types, `krb_crypto` for suites.
 
 ghost use Rattle.std.specs.Prelude.{◌≡◌, IfOk};
-ghost use Rattle.krb_crypto_suite.specs.Suites.{checksum_type, etype};
+ghost use Rattle.krb_crypto.specs.Suites.{checksum_type, etype};
 ghost use Rattle.krb_negoex.specs.Types.{type_code};
 ghost use Rattle.krb_pac.specs.Kind.{code};
 

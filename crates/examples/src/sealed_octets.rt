@@ -3,7 +3,7 @@
 ghost use Rattle.std.specs.Prelude.{◌≡◌, pos, IfOk};
 ghost use Rattle.krb_crypto_message.specs.Sealed.{IsSealedAes};
 
-use krb_crypto_suite::{Cipher, CipherSuite, KerberosCryptoResult};
+use krb_crypto::{Cipher, CipherSuite, KerberosCryptoResult};
 use std::alloc::Global;
 
 /// What aes256-cts-hmac-sha1-96 makes of the octets of a ticket's part, whose key usage is 2.

@@ -69,8 +69,8 @@ fn check_blocks(octets: &[u8]) -> KerberosCryptoResult<()>
 }
 
 impl Cipher for Toy {
-    ghost use Rattle.krb_crypto_suite.specs.declared.cipher_suite.CipherSuite.TheVariants.{Aes128CtsHmacSha196};
-    ghost use Rattle.krb_crypto_suite.specs.declared.checksum_suite.ChecksumSuite.TheVariants.{HmacSha196Aes128};
+    ghost use Rattle.krb_crypto.specs.declared.cipher_suite.CipherSuite.TheVariants.{Aes128CtsHmacSha196};
+    ghost use Rattle.krb_crypto.specs.declared.checksum_suite.ChecksumSuite.TheVariants.{HmacSha196Aes128};
 
     ghost meaning = { λ _ key _ confounder payload octets. IsToy key confounder payload octets };
 

@@ -9,8 +9,8 @@ use Rattle.krb_show_keys.specs.Hidden.{hidden_page}
 use Rattle.krb_show_opened.specs.Keys.{NamedKey}
 use Rattle.jolmurig.specs.Calls.{Opens}
 use Rattle.krb_show_pac.specs.Inserted.{IsWithContents}
-use Rattle.krb_show_passwords.specs.Keys.{KeysOfPasswords}
-use Rattle.krb_show_passwords.specs.Salts.{salts_of}
+use Rattle.krb_show_keys.specs.PasswordKeys.{KeysOfPasswords}
+use Rattle.krb_show_keys.specs.Salts.{salts_of}
 use Rattle.krb_show_any.specs.declared.error.PageError.{PageError}
 use Rattle.krb_show_any.specs.Places.{IsPlaceIfAny}
 use Rattle.krb_show_any.specs.declared.place.Place.{Place}

@@ -1,25 +1,25 @@
 -- What the program calls of the library.
 use Rattle.std.specs.Prelude.{◌≡◌, ℕ, List, []}
-use Rattle.krb_ccache.specs.Ccache.{Ccache, CcacheIs}
-use Rattle.krb_convert.specs.Back.{CcacheRefusal, IsKirbiOf}
-use Rattle.krb_convert.specs.Whole.{IsCacheOf, KirbiRefusal}
-use Rattle.krb_convert.specs.declared.error.ConvertError.{ConvertError}
-use Rattle.krb_convert.specs.declared.field.Field.{Field}
+use Rattle.krb_files.specs.Ccache.{Ccache, CcacheIs}
+use Rattle.krb_file_tools.specs.Back.{CcacheRefusal, IsKirbiOf}
+use Rattle.krb_file_tools.specs.Whole.{IsCacheOf, KirbiRefusal}
+use Rattle.krb_file_tools.specs.declared.convert.error.ConvertError.{ConvertError}
+use Rattle.krb_file_tools.specs.declared.convert.field.Field.{Field}
 use Rattle.krb_der_core.specs.declared.der.DerEncode.{Ghosts as EncodingOf}
 use Rattle.krb_kdc_proxy.specs.Replies.{ReplyTypes}
 use Rattle.krb_kdc_proxy.specs.Requests.{IsNoRequest, IsRequest, RequestTypes}
 use Rattle.krb_kdc_proxy.specs.Streams.{IsNoStreamReply, IsPosting}
 use Rattle.krb_kdc_proxy.specs.declared.error.ProxyError.{ProxyError}
 use Rattle.krb_kdc_proxy.specs.declared.request.ProxyRequest.{ProxyRequest}
-use Rattle.krb_keytab.specs.Entry.{Entry}
-use Rattle.krb_keytab.specs.Keytab.{KeytabIs}
-use Rattle.krb_list.specs.Lines.{IsCcacheListing, IsKeytabListing, IsNoCcache, IsNoKeytab}
-use Rattle.krb_list.specs.Texts.{IsEncodedEtypeText}
-use Rattle.krb_list.specs.declared.error.ListError.{ListError}
-use Rattle.krb_msg.specs.declared.messages.proxy.KdcProxyMessage.{KdcProxyMessage}
-use Rattle.krb_msg_app.specs.declared.messages.credentials.KrbCredInner.{KrbCredInner}
-use Rattle.krb_msg_parts.specs.declared.data_types.credentials.EncKrbCredPartInner.{EncKrbCredPartInner}
-use Rattle.krb_msg_types.specs.declared.data_types.tickets.TicketInner.{TicketInner}
+use Rattle.krb_files.specs.Entry.{Entry}
+use Rattle.krb_files.specs.Keytab.{KeytabIs}
+use Rattle.krb_file_tools.specs.Lines.{IsCcacheListing, IsKeytabListing, IsNoCcache, IsNoKeytab}
+use Rattle.krb_file_tools.specs.Texts.{IsEncodedEtypeText}
+use Rattle.krb_file_tools.specs.declared.list.error.ListError.{ListError}
+use Rattle.krb_messages.specs.declared.messages.proxy.KdcProxyMessage.{KdcProxyMessage}
+use Rattle.krb_messages.specs.declared.messages.credentials.KrbCredInner.{KrbCredInner}
+use Rattle.krb_enc_parts.specs.declared.data_types.credentials.EncKrbCredPartInner.{EncKrbCredPartInner}
+use Rattle.krb_types.specs.declared.data_types.tickets.TicketInner.{TicketInner}
 use Rattle.krb_show.specs.Tokens.{Token}
 use Rattle.krb_show_opened.specs.Keys.{NamedKey}
 use Rattle.jolmurig.specs.declared.calls.Entries.{Entries}

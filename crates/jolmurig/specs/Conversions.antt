@@ -1,10 +1,10 @@
 -- The input in another format, and why there is none.
 use Rattle.std.specs.Prelude.{◌≡◌, ℕ, List, [], ◌∷◌, ◌++◌, None, codes}
 use Rattle.std.specs.List.{flat_map}
-use Rattle.krb_convert.specs.Fields.{name_of}
-use Rattle.krb_convert.specs.declared.error.ConvertError.{ConvertError}
-use Rattle.krb_convert.specs.declared.error.ConvertError.TheVariants as errors
-use Rattle.krb_convert.specs.declared.field.Field.{Field}
+use Rattle.krb_file_tools.specs.Fields.{name_of}
+use Rattle.krb_file_tools.specs.declared.convert.error.ConvertError.{ConvertError}
+use Rattle.krb_file_tools.specs.declared.convert.error.ConvertError.TheVariants as errors
+use Rattle.krb_file_tools.specs.declared.convert.field.Field.{Field}
 use Rattle.krb_show_any.specs.declared.error.PageError.TheVariants as page
 use Rattle.krb_show_any.specs.declared.kind.Kind.TheVariants as kind
 use Rattle.jolmurig.specs.Calls.{Converts, Refuses}

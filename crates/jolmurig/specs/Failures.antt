@@ -1,8 +1,8 @@
 -- The line and the status of a failure.
 use Rattle.std.specs.Prelude.{◌≡◌, ℕ, ◌+◌, Option, Some, None, List, [], ◌∷◌, ◌++◌, codes}
 use Rattle.std.specs.Fmt.{decimal}
-use Rattle.krb_convert.specs.declared.error.ConvertError.{ConvertError}
-use Rattle.krb_convert.specs.declared.error.ConvertError.TheVariants as rule
+use Rattle.krb_file_tools.specs.declared.convert.error.ConvertError.{ConvertError}
+use Rattle.krb_file_tools.specs.declared.convert.error.ConvertError.TheVariants as rule
 use Rattle.krb_kdc_proxy.specs.Messages.{number_of}
 use Rattle.krb_kdc_proxy.specs.declared.error.ProxyError.{ProxyError}
 use Rattle.krb_kdc_proxy.specs.declared.error.ProxyError.TheVariants as proxy

@@ -3,10 +3,10 @@ use Rattle.std.specs.Prelude.{◌≡◌, ◌⊎◌, ℕ, ◌+◌, List, [], ◌�
 use Rattle.std.specs.Fmt.{decimal}
 use Rattle.std.specs.List.{flat_map}
 use Rattle.krb_input.specs.Blanks.{without_blanks}
-use Rattle.krb_keytab.specs.Entry.{Entry}
-use Rattle.krb_keytab.specs.Keytab.{KeytabIs}
-use Rattle.krb_keytab.specs.Reading.{keytab_of}
-use Rattle.krb_keytab.specs.declared.error.KeytabError.{KeytabError}
+use Rattle.krb_files.specs.Entry.{Entry}
+use Rattle.krb_files.specs.Keytab.{KeytabIs}
+use Rattle.krb_files.specs.KeytabReading.{keytab_of}
+use Rattle.krb_files.specs.declared.keytab.error.KeytabError.{KeytabError}
 use Rattle.krb_show_keys.specs.Keys.{key_in, keys_of_entry}
 use Rattle.krb_show_opened.specs.Keys.{NamedKey}
 use Rattle.jolmurig.specs.Shows.{Source}

@@ -1,7 +1,7 @@
 -- The list of the input, and why there is none.
 use Rattle.std.specs.Prelude.{◌≡◌, ◌⊎◌, ℕ, List, Option, Some, None}
-use Rattle.krb_list.specs.declared.error.ListError.{ListError}
-use Rattle.krb_list.specs.declared.error.ListError.TheVariants as errors
+use Rattle.krb_file_tools.specs.declared.list.error.ListError.{ListError}
+use Rattle.krb_file_tools.specs.declared.list.error.ListError.TheVariants as errors
 use Rattle.krb_show_any.specs.Kinds.{kind_of}
 use Rattle.krb_show_any.specs.declared.error.PageError.TheVariants as page
 use Rattle.krb_show_any.specs.declared.kind.Kind.{Kind}

@@ -2,7 +2,7 @@
 use Rattle.std.specs.Prelude.{◌≡◌, ℕ, List, None}
 use Rattle.krb_kdc_proxy.specs.declared.error.ProxyError.{ProxyError}
 use Rattle.krb_kdc_proxy.specs.declared.error.ProxyError.TheVariants as errors
-use Rattle.krb_msg_password.specs.Rejected.{der_error}
+use Rattle.krb_messages.specs.Rejected.{der_error}
 use Rattle.krb_show_any.specs.declared.error.PageError.TheVariants as page
 use Rattle.krb_show_any.specs.declared.kind.Kind.TheVariants as kind
 use Rattle.krb_show_messages.specs.declared.kinds.DataKind.TheVariants as data_kind

@@ -12,10 +12,9 @@ use crate::failure::Failure;
 use crate::openers::Openers;
 use krb_show::{Page, Token, json_of_page, text_of_page};
 use krb_show_any::{Kind, PageError, Pages, kind_of_octets, place_of_error};
-use krb_show_keys::without_keys;
+use krb_show_keys::{keys_of_passwords, without_keys};
 use krb_show_opened::Key;
 use krb_show_pac::page_with_contents;
-use krb_show_passwords::keys_of_passwords;
 use std::alloc::{AllocError, Global};
 
 /// The octets of a text.

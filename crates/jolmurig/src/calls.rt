@@ -5,9 +5,9 @@ ghost use Rattle.krb_kdc_proxy.specs.Messages.{OrMemory};
 ghost use Rattle.krb_kdc_proxy.specs.Replies.{reply_types};
 ghost use Rattle.krb_kdc_proxy.specs.Requests.{types};
 ghost use Rattle.krb_kdc_proxy.specs.declared.error.ProxyError.{ProxyError};
-ghost use Rattle.krb_convert.specs.Answers.{IsMemoryOr};
-ghost use Rattle.krb_convert.specs.declared.error.ConvertError.{ConvertError};
-ghost use Rattle.krb_convert.specs.declared.field.Field.{Field};
+ghost use Rattle.krb_file_tools.specs.Answers.{IsMemoryOr};
+ghost use Rattle.krb_file_tools.specs.declared.convert.error.ConvertError.{ConvertError};
+ghost use Rattle.krb_file_tools.specs.declared.convert.field.Field.{Field};
 ghost use Rattle.krb_show.specs.Tokens.{Token};
 ghost use Rattle.krb_show_opened.specs.Keys.{NamedKey};
 ghost use Rattle.krb_show_checksums.specs.Checked.{is_checked};
@@ -18,19 +18,18 @@ ghost use Rattle.jolmurig.specs.declared.calls.Entries.{Entries};
 
 use crate::command::{Direction, Format};
 use crate::proxy::{Passed, reply_passed, request_passed};
-use krb_convert::{ConvertError, Converted, ccache_of_kirbi, kirbi_of_ccache};
 use krb_der::DerEncode;
+use krb_enc_parts::data_types::EncKrbCredPart;
+use krb_file_tools::convert::{ConvertError, Converted, ccache_of_kirbi, kirbi_of_ccache};
+use krb_file_tools::list::{ListError, list_of_ccache, list_of_keytab};
 use krb_kdc_proxy::ProxyError;
-use krb_list::{ListError, list_of_ccache, list_of_keytab};
-use krb_msg::messages::{KdcProxyMessage, KrbError};
-use krb_msg_app::messages::{ApRep, ApReq, KrbCred, KrbPriv};
-use krb_msg_kdc::messages::{AsRep, AsReq, TgsRep, TgsReq};
-use krb_msg_parts::data_types::EncKrbCredPart;
-use krb_msg_types::data_types::Ticket;
-use krb_show::Page;
+use krb_messages::messages::{
+    ApRep, ApReq, AsRep, AsReq, KdcProxyMessage, KrbCred, KrbError, KrbPriv, TgsRep, TgsReq,
+};
+use krb_show::{Insert, Page};
 use krb_show_checksums::{Checking, page_with_checked};
-use krb_show_insertions::Insert;
 use krb_show_opened::Key;
+use krb_types::data_types::Ticket;
 use std::alloc::{AllocError, Global};
 
 /// What a file of entries is.

@@ -8,7 +8,7 @@ ghost use Rattle.jolmurig.specs.declared.failure.Failure.TheVariants as failure;
 use crate::calls::Calls;
 use crate::command::Format;
 use crate::failure::Failure;
-use krb_convert::{ConvertError, Field};
+use krb_file_tools::convert::{ConvertError, Field};
 use krb_show_any::{Kind, PageError};
 use std::alloc::{AllocError, Global};
 

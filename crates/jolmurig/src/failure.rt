@@ -6,10 +6,10 @@ ghost use Rattle.std.specs.declared.io.ErrorKind.TheVariants as kinds;
 ghost use Rattle.jolmurig.specs.declared.failure.Failure.TheVariants as failures;
 ghost use Rattle.jolmurig.specs.Failures.{breaker, kind_of_message, line_of, of_input, place, place_text, placed, reason, rule_of, rule_of_proxy, status_of_failure, subject};
 
-use krb_convert::ConvertError;
+use krb_file_tools::convert::ConvertError;
+use krb_files::keytab::KeytabError;
 use krb_input::InputError;
 use krb_kdc_proxy::{MessageKind, ProxyError};
-use krb_keytab::KeytabError;
 use krb_show_any::{Kind, PageError, Place, name_of_kind};
 use std::alloc::{AllocError, Global};
 use std::io;

@@ -6,7 +6,7 @@ ghost use Rattle.jolmurig.specs.declared.failure.Failure.TheVariants as failure;
 
 use crate::calls::{Calls, Entries};
 use crate::failure::Failure;
-use krb_list::ListError;
+use krb_file_tools::list::ListError;
 use krb_show_any::{Kind, PageError, kind_of_octets};
 use std::alloc::Global;
 

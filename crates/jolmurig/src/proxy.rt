@@ -6,7 +6,7 @@ ghost use Rattle.jolmurig.specs.Passages.{IsBlocked, failure_of_proxy};
 ghost use Rattle.jolmurig.specs.Requests.{IsLineOf, destination, other_realm, service_name};
 ghost use Rattle.jolmurig.specs.declared.command.Direction.TheVariants as direction;
 ghost use Rattle.jolmurig.specs.declared.failure.Failure.TheVariants as failure;
-ghost use Rattle.krb_msg_password.specs.Rejected.{der_error};
+ghost use Rattle.krb_messages.specs.Rejected.{der_error};
 ghost use Rattle.krb_kdc_proxy.specs.Messages.{OrMemory};
 ghost use Rattle.krb_kdc_proxy.specs.Replies.{reply_types};
 ghost use Rattle.krb_kdc_proxy.specs.Requests.{types};
@@ -16,9 +16,9 @@ use crate::command::Direction;
 use crate::failure::{Failure, kind_of_message};
 use krb_der::{Asn1DerError, DerEncode};
 use krb_kdc_proxy::{MessageError, ProxyError, ProxyRequest, Service, read_request, write_reply};
-use krb_msg::messages::{KdcProxyMessage, KrbError};
-use krb_msg_app::messages::{ApRep, ApReq, KrbPriv};
-use krb_msg_kdc::messages::{AsRep, AsReq, TgsRep, TgsReq};
+use krb_messages::messages::{
+    ApRep, ApReq, AsRep, AsReq, KdcProxyMessage, KrbError, KrbPriv, TgsRep, TgsReq,
+};
 use krb_show::{Style, push_escaped};
 use krb_show_any::{Kind, PageError};
 use krb_show_messages::DataKind;

@@ -8,7 +8,7 @@ use Rattle.std.proofs.lemmas.List.Elements.{All-contains}
 use Rattle.std.proofs.lemmas.List.Folds.{list_any-from_Any}
 use Rattle.std.proofs.lemmas.Map.Views.{Contains-from_any}
 use Rattle.krb_der_core.specs.BitString.{Bits}
-use Rattle.krb_view.specs.Flags.{is_set}
+use Rattle.krb_types.specs.Flags.{is_set}
 use Rattle.krb_build.specs.Flags.{AreFlags, has, octet}
 
 abbrev pick : ℕ → ℕ → ℕ → ℕ → ℕ → ℕ → ℕ → ℕ → ℕ → ℕ

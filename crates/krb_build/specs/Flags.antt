@@ -2,7 +2,7 @@
 use Rattle.std.specs.Prelude.{◌≡◌, ◌↔◌, ℕ, ◌+◌, ◌*◌, ◌==◌, List, length, if◌then◌else◌, IsTrue, Contains}
 use Rattle.std.specs.List.{list_any}
 use Rattle.krb_der_core.specs.BitString.{Bits}
-use Rattle.krb_view.specs.Flags.{is_set}
+use Rattle.krb_types.specs.Flags.{is_set}
 
 -- 32 bits, of which those of these numbers are set and no others
 pub record AreFlags (numbers : List ℕ) (bits : Bits) : Type 0 where

@@ -1,7 +1,7 @@
 -- Times to the microsecond (RFC 4120, 5.2.3 and 5.2.4).
 use Rattle.std.specs.Prelude.{◌≡◌, ◌≢◌, ◌<◌, ◌≤◌, ◌⊎◌, ℕ, ℤ, pos}
 use Rattle.krb_der_core.specs.GeneralizedTime.{Time, IsRealTime}
-use Rattle.krb_view.specs.Times.{unix_seconds}
+use Rattle.krb_types.specs.Times.{unix_seconds}
 use Rattle.krb_build.specs.declared.error.BuildError.{BuildError}
 use Rattle.krb_build.specs.declared.error.BuildError.TheVariants as errors
 

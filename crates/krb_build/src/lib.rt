@@ -6,8 +6,6 @@ mod flags;
 mod integers;
 mod mechanisms;
 mod messages;
-#[cfg(test)]
-mod tests;
 mod times;
 
 pub use error::BuildError;

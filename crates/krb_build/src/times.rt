@@ -1,15 +1,15 @@
 //! Times to the microsecond (RFC 4120, 5.2.3 and 5.2.4).
 
 ghost use Rattle.std.specs.Prelude.{◌≡◌, ◌≤◌, pos, IfOk, IfErr};
-ghost use Rattle.krb_view.specs.Times.{unix_seconds};
+ghost use Rattle.krb_types.specs.Times.{unix_seconds};
 ghost use Rattle.krb_build.specs.Errors.{IsMemoryOr};
 ghost use Rattle.krb_build.specs.Times.{IsMicroseconds, IsNoTime, IsTime, IsTimeAt, IsTimeError};
 ghost use Rattle.krb_build.specs.declared.error.BuildError.TheVariants.{Microseconds, Time};
 
 use crate::error::BuildError;
 use crate::integers::integer_of;
-use krb_msg_types::data_types::{KerberosTime, Microseconds};
-use krb_view::{time_of_unix_seconds, unix_seconds};
+use krb_types::data_types::{KerberosTime, Microseconds};
+use krb_types::view::{time_of_unix_seconds, unix_seconds};
 use std::alloc::Global;
 
 /// The most microseconds (RFC 4120, 5.2.4).

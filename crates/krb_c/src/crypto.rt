@@ -1,9 +1,9 @@
 //! Cryptography.
 
-ghost use Rattle.krb_calls.specs.Handing.{IsAnswered};
-ghost use Rattle.krb_calls.specs.Calls.{IsEncryption, RefusesEncryption, IsDecryption, RefusesDecryption};
-ghost use Rattle.krb_calls.specs.Checksums.{IsChecksum, RefusesChecksum, IsVerification};
-ghost use Rattle.krb_calls.specs.Keys.{IsKeyOfPassword, RefusesPassword, IsKeyOfSeed, RefusesSeed, IsFolding};
+ghost use Rattle.krb_c_calls.specs.Handing.{IsAnswered};
+ghost use Rattle.krb_c_calls.specs.Calls.{IsEncryption, RefusesEncryption, IsDecryption, RefusesDecryption};
+ghost use Rattle.krb_c_calls.specs.Checksums.{IsChecksum, RefusesChecksum, IsVerification};
+ghost use Rattle.krb_c_calls.specs.Keys.{IsKeyOfPassword, RefusesPassword, IsKeyOfSeed, RefusesSeed, IsFolding};
 
 use std::alloc::Global;
 
@@ -22,7 +22,7 @@ pub extern "C" fn krb_encrypt(
     ensures { IsAnswered (IsEncryption etype key.now usage confounder.now payload.now)
         (RefusesEncryption etype key.now confounder.now) out.old out.new size.new result }
 {
-    krb_calls::encrypt(alloc, etype, key, usage, confounder, payload, out, size)
+    krb_c_calls::encrypt(alloc, etype, key, usage, confounder, payload, out, size)
 }
 
 /// `krb_decrypt` of `krb.h`.
@@ -39,7 +39,7 @@ pub extern "C" fn krb_decrypt(
     ensures { IsAnswered (IsDecryption etype key.now usage sealed.now)
         (RefusesDecryption etype key.now usage sealed.now) out.old out.new size.new result }
 {
-    krb_calls::decrypt(alloc, etype, key, usage, sealed, out, size)
+    krb_c_calls::decrypt(alloc, etype, key, usage, sealed, out, size)
 }
 
 /// `krb_string_to_key` of `krb.h`.
@@ -55,7 +55,7 @@ pub extern "C" fn krb_string_to_key(
     ensures { IsAnswered (IsKeyOfPassword etype password.now salt.now)
         (RefusesPassword etype password.now salt.now) out.old out.new size.new result }
 {
-    krb_calls::string_to_key(alloc, etype, password, salt, out, size)
+    krb_c_calls::string_to_key(alloc, etype, password, salt, out, size)
 }
 
 /// `krb_random_to_key` of `krb.h`.
@@ -69,7 +69,7 @@ pub extern "C" fn krb_random_to_key(
 ) -> u32
     ensures { IsAnswered (IsKeyOfSeed etype seed.now) (RefusesSeed etype seed.now) out.old out.new size.new result }
 {
-    krb_calls::random_to_key(alloc, etype, seed, out, size)
+    krb_c_calls::random_to_key(alloc, etype, seed, out, size)
 }
 
 /// `krb_checksum` of `krb.h`.
@@ -86,7 +86,7 @@ pub extern "C" fn krb_checksum(
     ensures { IsAnswered (IsChecksum cksumtype key.now usage message.now)
         (RefusesChecksum cksumtype key.now) out.old out.new size.new result }
 {
-    krb_calls::checksum(alloc, cksumtype, key, usage, message, out, size)
+    krb_c_calls::checksum(alloc, cksumtype, key, usage, message, out, size)
 }
 
 /// `krb_verify_checksum` of `krb.h`.
@@ -100,7 +100,7 @@ pub extern "C" fn krb_verify_checksum(
 ) -> u32
     ensures { IsVerification cksumtype key.now usage message.now checksum.now result }
 {
-    krb_calls::verify_checksum(cksumtype, key, usage, message, checksum)
+    krb_c_calls::verify_checksum(cksumtype, key, usage, message, checksum)
 }
 
 /// `krb_n_fold` of `krb.h`.
@@ -108,5 +108,5 @@ pub extern "C" fn krb_verify_checksum(
 pub extern "C" fn krb_n_fold(input: &[u8], out: &mut [u8]) -> u32
     ensures { IsFolding input.now out.old out.new result }
 {
-    krb_calls::n_fold(input, out)
+    krb_c_calls::n_fold(input, out)
 }

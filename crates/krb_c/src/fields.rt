@@ -1,16 +1,16 @@
 //! Fields of messages handed out, for C. `krb.h` declares these calls.
 
-ghost use Rattle.krb_field_calls.specs.Answers.{IsNumberAnswer, IsPlaceAnswer};
-ghost use Rattle.krb_field_calls.specs.Given.{IsNumberGiven, IsPlaceGiven};
-ghost use Rattle.krb_field_places.specs.Fields.{ap_reply_field, ap_request_field, credentials_field, error_field, private_field, reply_field, request_field, ticket_field};
-ghost use Rattle.krb_field_places.specs.Found.{in_message};
-ghost use Rattle.krb_field_places.specs.Paths.{ap_reply_path, ap_request_path, credentials_path, error_path, private_path, reply_path, request_path, ticket_path};
+ghost use Rattle.krb_c_calls.specs.Answers.{IsNumberAnswer, IsPlaceAnswer};
+ghost use Rattle.krb_c_calls.specs.Given.{IsNumberGiven, IsPlaceGiven};
+ghost use Rattle.krb_message_fields.specs.Fields.{ap_reply_field, ap_request_field, credentials_field, error_field, private_field, reply_field, request_field, ticket_field};
+ghost use Rattle.krb_message_fields.specs.Found.{in_message};
+ghost use Rattle.krb_message_fields.specs.FieldPaths.{ap_reply_path, ap_request_path, credentials_path, error_path, private_path, reply_path, request_path, ticket_path};
 
 use krb_der::DerEncode;
-use krb_msg::messages::KrbError;
-use krb_msg_app::messages::{ApRep, ApReq, KrbCred, KrbPriv};
-use krb_msg_kdc::messages::{AsRep, AsReq, TgsRep, TgsReq};
-use krb_msg_types::data_types::Ticket;
+use krb_messages::messages::{
+    ApRep, ApReq, AsRep, AsReq, KrbCred, KrbError, KrbPriv, TgsRep, TgsReq,
+};
+use krb_types::data_types::Ticket;
 use std::alloc::Global;
 
 /// `krb_get_octets` of `krb.h`: where a field stands in the octets of a message or a ticket (RFC 4120, 5).
@@ -37,7 +37,7 @@ pub extern "C" fn krb_get_octets(
       krb_error = IsPlaceGiven ⟦<KrbError as DerEncode>⟧ error_field (in_message 30 error_path);
     }) message field index octets.now offset.new size.new result }
 {
-    krb_field_calls::place(alloc, message, field, index, octets, offset, size)
+    krb_c_calls::fields::place(alloc, message, field, index, octets, offset, size)
 }
 
 /// `krb_get_number` of `krb.h`: the number that a field of a message or a ticket is (RFC 4120, 5).
@@ -63,5 +63,5 @@ pub extern "C" fn krb_get_number(
       krb_error = IsNumberGiven ⟦<KrbError as DerEncode>⟧ error_field;
     }) message field index octets.now number.new result }
 {
-    krb_field_calls::number(alloc, message, field, index, octets, number)
+    krb_c_calls::fields::number(alloc, message, field, index, octets, number)
 }

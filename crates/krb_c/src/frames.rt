@@ -1,20 +1,19 @@
 //! Frames of messages. `krb.h` declares these calls.
 
 ghost use Rattle.std.specs.Prelude.{[]};
-ghost use Rattle.krb_calls.specs.Handing.{IsAnswered};
-ghost use Rattle.krb_part_calls.specs.Messages.{RefusesReading};
-ghost use Rattle.krb_frame_calls.specs.Making.{IsMade, IsMadeAnswer, RefusesAnswer, made_init, present};
-ghost use Rattle.krb_frame_calls.specs.Mechanism.{IsMechanism};
-ghost use Rattle.krb_frame_calls.specs.Negotiation.{IsAnswerAt, IsInitAt};
-ghost use Rattle.krb_frame_calls.specs.Pac.{IsPacBuffer, IsPacCount};
-ghost use Rattle.krb_frame_calls.specs.Password.{IsFrameAt, IsMadeFrame, RefusesMaking};
-ghost use Rattle.krb_frame_calls.specs.Proxy.{IsProxyAt, IsProxyHint, proxy_octets};
-ghost use Rattle.krb_frame_calls.specs.Token.{IsMadeToken, IsTokenAt, RefusesMechanism};
+ghost use Rattle.krb_c_calls.specs.Handing.{IsAnswered};
+ghost use Rattle.krb_c_calls.specs.MessageRules.{RefusesReading};
+ghost use Rattle.krb_c_frames.specs.Making.{IsMade, IsMadeAnswer, RefusesAnswer, made_init, present};
+ghost use Rattle.krb_c_frames.specs.Mechanism.{IsMechanism};
+ghost use Rattle.krb_c_frames.specs.Negotiation.{IsAnswerAt, IsInitAt};
+ghost use Rattle.krb_c_frames.specs.Pac.{IsPacBuffer, IsPacCount};
+ghost use Rattle.krb_c_frames.specs.Password.{IsFrameAt, IsMadeFrame, RefusesMaking};
+ghost use Rattle.krb_c_frames.specs.Proxy.{IsProxyAt, IsProxyHint, proxy_octets};
+ghost use Rattle.krb_c_frames.specs.Token.{IsMadeToken, IsTokenAt, RefusesMechanism};
 
 use krb_der::DerEncode;
-use krb_gss_negotiation::gss_api::{ApplicationTag0, GssApiNegInit, NegTokenTarg1};
-use krb_msg::messages::{ApMessage, KdcProxyMessage};
-use krb_msg_app::messages::KrbPriv;
+use krb_gss_tokens::gss_api::{ApplicationTag0, GssApiNegInit, NegTokenTarg1};
+use krb_messages::messages::{ApMessage, KdcProxyMessage, KrbPriv};
 use std::alloc::Global;
 
 /// `krb_pac_count` of `krb.h`: how many buffers a PAC has (MS-PAC 2.3).
@@ -22,7 +21,7 @@ use std::alloc::Global;
 pub extern "C" fn krb_pac_count(pac: &[u8], count: &mut usize) -> u32
     ensures { IsPacCount pac.now count.new result }
 {
-    krb_frame_calls::pac_count(pac, count)
+    krb_c_frames::pac_count(pac, count)
 }
 
 /// `krb_pac_buffer` of `krb.h`: a buffer of a PAC, by its type and its place (MS-PAC 2.4).
@@ -36,7 +35,7 @@ pub extern "C" fn krb_pac_buffer(
 ) -> u32
     ensures { IsPacBuffer pac.now n ul_type.new offset.new size.new result }
 {
-    krb_frame_calls::pac_buffer(pac, n, ul_type, offset, size)
+    krb_c_frames::pac_buffer(pac, n, ul_type, offset, size)
 }
 
 /// `krb_gss_token` of `krb.h`: the places of the mechanism and of the inner token in a GSS token (RFC 2743, 3.1).
@@ -51,7 +50,7 @@ pub extern "C" fn krb_gss_token(
 ) -> u32
     ensures { IsTokenAt token.now mechanism_offset.new mechanism_size.new inner_offset.new inner_size.new result }
 {
-    krb_frame_calls::gss_token(
+    krb_c_frames::gss_token(
         alloc,
         token,
         mechanism_offset,
@@ -72,7 +71,7 @@ pub extern "C" fn krb_make_gss_token(
 ) -> u32
     ensures { IsAnswered (IsMadeToken mechanism.now inner.now) (RefusesMechanism mechanism.now) out.old out.new size.new result }
 {
-    krb_frame_calls::make_gss_token(alloc, mechanism, inner, out, size)
+    krb_c_frames::make_gss_token(alloc, mechanism, inner, out, size)
 }
 
 /// `krb_password_frame` of `krb.h`: the places of the messages in a frame that changes a password (RFC 3244, 2).
@@ -87,7 +86,7 @@ pub extern "C" fn krb_password_frame(
 ) -> u32
     ensures { IsFrameAt ⟦<ApMessage as DerEncode>⟧ ⟦<KrbPriv as DerEncode>⟧ frame.now ap_offset.new ap_size.new priv_offset.new priv_size.new result }
 {
-    krb_frame_calls::password_frame(alloc, frame, ap_offset, ap_size, priv_offset, priv_size)
+    krb_c_frames::password_frame(alloc, frame, ap_offset, ap_size, priv_offset, priv_size)
 }
 
 /// `krb_make_password_frame` of `krb.h`: the frame of these messages (RFC 3244, 2).
@@ -102,7 +101,7 @@ pub extern "C" fn krb_make_password_frame(
     ensures { IsAnswered (IsMadeFrame ⟦<ApMessage as DerEncode>⟧ ⟦<KrbPriv as DerEncode>⟧ ap_message.now krb_priv.now)
         (RefusesMaking ⟦<ApMessage as DerEncode>⟧ ⟦<KrbPriv as DerEncode>⟧ ap_message.now krb_priv.now) out.old out.new size.new result }
 {
-    krb_frame_calls::make_password_frame(alloc, ap_message, krb_priv, out, size)
+    krb_c_frames::make_password_frame(alloc, ap_message, krb_priv, out, size)
 }
 
 /// `krb_kdc_proxy_message` of `krb.h`: the places of the fields of a KDC-PROXY-MESSAGE (MS-KKDCP, 2.2.2).
@@ -117,7 +116,7 @@ pub extern "C" fn krb_kdc_proxy_message(
 ) -> u32
     ensures { IsProxyAt ⟦<KdcProxyMessage as DerEncode>⟧ octets.now message_offset.new message_size.new domain_offset.new domain_size.new result }
 {
-    krb_frame_calls::kdc_proxy_message(
+    krb_c_frames::kdc_proxy_message(
         alloc,
         octets,
         message_offset,
@@ -132,7 +131,7 @@ pub extern "C" fn krb_kdc_proxy_message(
 pub extern "C" fn krb_kdc_proxy_hint(alloc: Global, octets: &[u8], hint: &mut i64) -> u32
     ensures { IsProxyHint ⟦<KdcProxyMessage as DerEncode>⟧ octets.now hint.new result }
 {
-    krb_frame_calls::kdc_proxy_hint(alloc, octets, hint)
+    krb_c_frames::kdc_proxy_hint(alloc, octets, hint)
 }
 
 /// `krb_neg_token_init` of `krb.h`: the places of the fields of the token that begins a negotiation (RFC 4178, 4.2.1).
@@ -150,7 +149,7 @@ pub extern "C" fn krb_neg_token_init(
     ensures { IsInitAt ⟦<ApplicationTag0<GssApiNegInit> as DerEncode>⟧ octets.now mechanisms_offset.new mechanisms_size.new
         token_offset.new token_size.new mic_offset.new mic_size.new result }
 {
-    krb_frame_calls::neg_token_init(
+    krb_c_frames::neg_token_init(
         alloc,
         octets,
         mechanisms_offset,
@@ -173,7 +172,7 @@ pub extern "C" fn krb_neg_token_init_mechanism(
 ) -> u32
     ensures { IsMechanism ⟦<ApplicationTag0<GssApiNegInit> as DerEncode>⟧ octets.now n offset.new size.new result }
 {
-    krb_frame_calls::neg_token_init_mechanism(alloc, octets, n, offset, size)
+    krb_c_frames::neg_token_init_mechanism(alloc, octets, n, offset, size)
 }
 
 /// `krb_neg_token_resp` of `krb.h`: negState of a later message of a negotiation, and the places of its other fields (RFC 4178, 4.2.2).
@@ -192,7 +191,7 @@ pub extern "C" fn krb_neg_token_resp(
     ensures { IsAnswerAt ⟦<NegTokenTarg1 as DerEncode>⟧ message.now state.new mechanism_offset.new mechanism_size.new
         token_offset.new token_size.new mic_offset.new mic_size.new result }
 {
-    krb_frame_calls::neg_token_resp(
+    krb_c_frames::neg_token_resp(
         alloc,
         message,
         state,
@@ -217,7 +216,7 @@ pub extern "C" fn krb_make_kdc_proxy_message(
     ensures { IsAnswered (IsMade ⟦<KdcProxyMessage as DerEncode>⟧ (proxy_octets message.now (present domain.now) []))
         (RefusesReading ⟦<KdcProxyMessage as DerEncode>⟧ (proxy_octets message.now (present domain.now) [])) out.old out.new size.new result }
 {
-    krb_frame_calls::make_kdc_proxy_message(alloc, message, domain, out, size)
+    krb_c_frames::make_kdc_proxy_message(alloc, message, domain, out, size)
 }
 
 /// `krb_make_neg_token_init` of `krb.h`: the token that begins a negotiation, of these fields (RFC 4178, 4.2.1).
@@ -233,7 +232,7 @@ pub extern "C" fn krb_make_neg_token_init(
     ensures { IsAnswered (IsMade ⟦<ApplicationTag0<GssApiNegInit> as DerEncode>⟧ (made_init mechanisms.now token.now mic.now))
         (RefusesReading ⟦<ApplicationTag0<GssApiNegInit> as DerEncode>⟧ (made_init mechanisms.now token.now mic.now)) out.old out.new size.new result }
 {
-    krb_frame_calls::make_neg_token_init(alloc, mechanisms, token, mic, out, size)
+    krb_c_frames::make_neg_token_init(alloc, mechanisms, token, mic, out, size)
 }
 
 /// `krb_make_neg_token_resp` of `krb.h`: a later message of a negotiation, of these fields (RFC 4178, 4.2.2).
@@ -250,5 +249,5 @@ pub extern "C" fn krb_make_neg_token_resp(
     ensures { IsAnswered (IsMadeAnswer ⟦<NegTokenTarg1 as DerEncode>⟧ state mechanism.now token.now mic.now)
         (RefusesAnswer ⟦<NegTokenTarg1 as DerEncode>⟧ state mechanism.now token.now mic.now) out.old out.new size.new result }
 {
-    krb_frame_calls::make_neg_token_resp(alloc, state, mechanism, token, mic, out, size)
+    krb_c_frames::make_neg_token_resp(alloc, state, mechanism, token, mic, out, size)
 }

@@ -1,8 +1,8 @@
 //! Tokens of the GSS-API.
 
-ghost use Rattle.krb_calls.specs.Handing.{IsAnswered};
-ghost use Rattle.krb_gss_calls.specs.Mics.{IsMicMade, RefusesMaking, IsMicVerification};
-ghost use Rattle.krb_gss_calls.specs.Wraps.{IsSealedWrap, RefusesSealing, IsClearWrap, IsUnwrapping};
+ghost use Rattle.krb_c_calls.specs.Handing.{IsAnswered};
+ghost use Rattle.krb_c_calls.specs.Mics.{IsMicMade, RefusesMaking, IsMicVerification};
+ghost use Rattle.krb_c_calls.specs.Wraps.{IsSealedWrap, RefusesSealing, IsClearWrap, IsUnwrapping};
 
 use std::alloc::Global;
 
@@ -22,7 +22,7 @@ pub extern "C" fn krb_make_mic(
     ensures { IsAnswered (IsMicMade etype key.now sent_by_acceptor acceptor_subkey sequence_number message.now)
         (RefusesMaking etype key.now) out.old out.new size.new result }
 {
-    krb_gss_calls::make_mic(
+    krb_c_calls::tokens::make_mic(
         alloc,
         etype,
         key,
@@ -49,7 +49,7 @@ pub extern "C" fn krb_verify_mic(
 ) -> u32
     ensures { IsMicVerification etype key.now sent_by_acceptor acceptor_subkey message.now token.now sequence_number.new result }
 {
-    krb_gss_calls::verify_mic(
+    krb_c_calls::tokens::verify_mic(
         alloc,
         etype,
         key,
@@ -79,7 +79,7 @@ pub extern "C" fn krb_wrap(
     ensures { IsAnswered (IsSealedWrap etype key.now sent_by_acceptor acceptor_subkey sequence_number rotation confounder.now message.now)
         (RefusesSealing etype key.now confounder.now) out.old out.new size.new result }
 {
-    krb_gss_calls::wrap(
+    krb_c_calls::tokens::wrap(
         alloc,
         etype,
         key,
@@ -111,7 +111,7 @@ pub extern "C" fn krb_wrap_in_clear(
     ensures { IsAnswered (IsClearWrap etype key.now sent_by_acceptor acceptor_subkey sequence_number rotation message.now)
         (RefusesMaking etype key.now) out.old out.new size.new result }
 {
-    krb_gss_calls::wrap_in_clear(
+    krb_c_calls::tokens::wrap_in_clear(
         alloc,
         etype,
         key,
@@ -141,7 +141,7 @@ pub extern "C" fn krb_unwrap(
 ) -> u32
     ensures { IsUnwrapping etype key.now sent_by_acceptor acceptor_subkey token.now sequence_number.new sealed.new out.old out.new size.new result }
 {
-    krb_gss_calls::unwrap(
+    krb_c_calls::tokens::unwrap(
         alloc,
         etype,
         key,

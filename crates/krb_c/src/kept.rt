@@ -1,13 +1,13 @@
 //! Kept keys.
 
 ghost use Rattle.std.specs.Prelude.{◌≡◌, ℕ, ℤ, List};
-ghost use Rattle.krb_crypto_suite.specs.Suites.{NoSuite};
-ghost use Rattle.krb_calls.specs.Calls.{IsEncryption, RefusesEncryption, IsDecryption, RefusesDecryption};
-ghost use Rattle.krb_calls.specs.Handing.{IsAnswered, IsHandedOut, IsKept};
-ghost use Rattle.krb_calls.specs.Kept.{IsKeeping, IsKeptKey};
-ghost use Rattle.krb_calls.specs.Numbers.{etype_number};
+ghost use Rattle.krb_crypto.specs.Suites.{NoSuite};
+ghost use Rattle.krb_c_calls.specs.Calls.{IsEncryption, RefusesEncryption, IsDecryption, RefusesDecryption};
+ghost use Rattle.krb_c_calls.specs.Handing.{IsAnswered, IsHandedOut, IsKept};
+ghost use Rattle.krb_c_calls.specs.Kept.{IsKeeping, IsKeptKey};
+ghost use Rattle.krb_c_calls.specs.Numbers.{etype_number};
 
-use krb_calls::KeptKey;
+use krb_c_calls::KeptKey;
 use std::alloc::Global;
 
 /// `krb_keep_key` of `krb.h`.
@@ -15,7 +15,7 @@ use std::alloc::Global;
 pub extern "C" fn krb_keep_key(etype: i32, key: &[u8], usage: i32, kept: &mut KeptKey) -> u32
     ensures { IsKeeping etype key.now usage kept.old kept.new result }
 {
-    krb_calls::keep_key(etype, key, usage, kept)
+    krb_c_calls::keep_key(etype, key, usage, kept)
 }
 
 /// `krb_encrypt_kept` of `krb.h`.
@@ -34,7 +34,7 @@ pub extern "C" fn krb_encrypt_kept(
     ensures number { NoSuite etype_number kept.now.etype → (result ≡ 3) × IsKept out.old out.new size.new }
     ensures handed { IsHandedOut out.old out.new size.new result }
 {
-    krb_calls::encrypt_kept(alloc, kept, confounder, payload, out, size)
+    krb_c_calls::encrypt_kept(alloc, kept, confounder, payload, out, size)
 }
 
 /// `krb_decrypt_kept` of `krb.h`.
@@ -52,5 +52,5 @@ pub extern "C" fn krb_decrypt_kept(
     ensures number { NoSuite etype_number kept.now.etype → (result ≡ 3) × IsKept out.old out.new size.new }
     ensures handed { IsHandedOut out.old out.new size.new result }
 {
-    krb_calls::decrypt_kept(alloc, kept, sealed, out, size)
+    krb_c_calls::decrypt_kept(alloc, kept, sealed, out, size)
 }

@@ -1,19 +1,20 @@
 //! Messages checked, and their parts sealed and opened, for C. `krb.h` declares these calls.
 
-ghost use Rattle.krb_calls.specs.Handing.{IsAnswered};
-ghost use Rattle.krb_part_calls.specs.Kinds.{IsChecked};
-ghost use Rattle.krb_part_calls.specs.Messages.{IsReading};
-ghost use Rattle.krb_part_calls.specs.Parts.{IsOpening, IsSealing, RefusesOpening, RefusesSealing};
+ghost use Rattle.krb_c_calls.specs.Handing.{IsAnswered};
+ghost use Rattle.krb_c_calls.specs.Kinds.{IsChecked};
+ghost use Rattle.krb_c_calls.specs.MessageRules.{IsReading};
+ghost use Rattle.krb_c_calls.specs.Parts.{IsOpening, IsSealing, RefusesOpening, RefusesSealing};
 
+use krb_c_calls::parts::{check, open, seal};
 use krb_der::DerEncode;
-use krb_msg::messages::KrbError;
-use krb_msg_app::messages::{ApRep, ApReq, KrbCred, KrbPriv};
-use krb_msg_kdc::messages::{AsRep, AsReq, EncAsRepPart, EncTgsRepPart, TgsRep, TgsReq};
-use krb_msg_parts::data_types::{
+use krb_enc_parts::data_types::{
     Authenticator, EncApRepPart, EncKrbCredPart, EncKrbPrivPart, EncTicketPart,
 };
-use krb_msg_types::data_types::Ticket;
-use krb_part_calls::{check, open, seal};
+use krb_messages::messages::{
+    ApRep, ApReq, AsRep, AsReq, EncAsRepPart, EncTgsRepPart, KrbCred, KrbError, KrbPriv, TgsRep,
+    TgsReq,
+};
+use krb_types::data_types::Ticket;
 use std::alloc::Global;
 
 /// `krb_check` of `krb.h`: whether the octets are the one DER encoding of a message that has this application tag (RFC 4120, 5.10).

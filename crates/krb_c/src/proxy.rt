@@ -1,18 +1,18 @@
 //! A proxy in front of a KDC, and its clients.
 
-ghost use Rattle.krb_calls.specs.Handing.{IsAnswered};
+ghost use Rattle.krb_c_calls.specs.Handing.{IsAnswered};
 ghost use Rattle.krb_kdc_proxy.specs.Replies.{reply_types};
 ghost use Rattle.krb_kdc_proxy.specs.Requests.{types};
 ghost use Rattle.krb_kdc_proxy.specs.Streams.{IsNoDatagramReply, IsNoStreamReply};
-ghost use Rattle.krb_proxy_calls.specs.Clients.{IsReplyTold, IsRequestMade, RefusesRequest};
-ghost use Rattle.krb_proxy_calls.specs.Replies.{IsArrivalTold, IsDatagramReplyMade, IsReplyMade};
-ghost use Rattle.krb_proxy_calls.specs.Requests.{IsLenientTold, IsRequestTold};
-ghost use Rattle.krb_proxy_calls.specs.Statuses.{Refuses};
+ghost use Rattle.krb_c_calls.specs.Clients.{IsReplyTold, IsRequestMade, RefusesRequest};
+ghost use Rattle.krb_c_calls.specs.Replies.{IsArrivalTold, IsDatagramReplyMade, IsReplyMade};
+ghost use Rattle.krb_c_calls.specs.Requests.{IsLenientTold, IsRequestTold};
+ghost use Rattle.krb_c_calls.specs.ProxyStatuses.{Refuses};
 
 use krb_der::DerEncode;
-use krb_msg::messages::{KdcProxyMessage, KrbError};
-use krb_msg_app::messages::{ApRep, ApReq, KrbPriv};
-use krb_msg_kdc::messages::{AsRep, AsReq, TgsRep, TgsReq};
+use krb_messages::messages::{
+    ApRep, ApReq, AsRep, AsReq, KdcProxyMessage, KrbError, KrbPriv, TgsRep, TgsReq,
+};
 use std::alloc::Global;
 
 /// `krb_proxy_request` of `krb.h`: a request that a client posts to a proxy (MS-KKDCP, 2.2.2 and 3.2.5.1).
@@ -29,7 +29,7 @@ pub extern "C" fn krb_proxy_request(
         (types ⟦<AsReq as DerEncode>⟧ ⟦<TgsReq as DerEncode>⟧ ⟦<ApReq as DerEncode>⟧ ⟦<KrbPriv as DerEncode>⟧)
         octets.now service.new names_one_realm.new message_offset.new message_size.new result }
 {
-    krb_proxy_calls::proxy_request(
+    krb_c_calls::proxies::proxy_request(
         alloc,
         octets,
         service,
@@ -50,7 +50,13 @@ pub extern "C" fn krb_proxy_request_lenient(
 ) -> u32
     ensures { IsLenientTold ⟦<KdcProxyMessage as DerEncode>⟧ octets.now service.new message_offset.new message_size.new result }
 {
-    krb_proxy_calls::proxy_request_lenient(alloc, octets, service, message_offset, message_size)
+    krb_c_calls::proxies::proxy_request_lenient(
+        alloc,
+        octets,
+        service,
+        message_offset,
+        message_size,
+    )
 }
 
 /// `krb_proxy_reply` of `krb.h`: what goes back for a reply that came over a stream (MS-KKDCP, 3.2.5.2).
@@ -68,7 +74,7 @@ pub extern "C" fn krb_proxy_reply(
         ⟦<KrbError as DerEncode>⟧ ⟦<ApRep as DerEncode>⟧ ⟦<KrbPriv as DerEncode>⟧) octets.now))
         out.old out.new size.new result }
 {
-    krb_proxy_calls::proxy_reply(alloc, octets, out, size)
+    krb_c_calls::proxies::proxy_reply(alloc, octets, out, size)
 }
 
 /// `krb_proxy_reply_datagram` of `krb.h`: the same for a reply that came in a datagram.
@@ -86,7 +92,7 @@ pub extern "C" fn krb_proxy_reply_datagram(
         ⟦<KrbError as DerEncode>⟧ ⟦<ApRep as DerEncode>⟧ ⟦<KrbPriv as DerEncode>⟧) octets.now))
         out.old out.new size.new result }
 {
-    krb_proxy_calls::proxy_reply_datagram(alloc, octets, out, size)
+    krb_c_calls::proxies::proxy_reply_datagram(alloc, octets, out, size)
 }
 
 /// `krb_proxy_is_whole` of `krb.h`: whether a reply over a stream has all its octets (RFC 4120, 7.2.2).
@@ -94,7 +100,7 @@ pub extern "C" fn krb_proxy_reply_datagram(
 pub extern "C" fn krb_proxy_is_whole(octets: &[u8], limit: usize) -> u32
     ensures { IsArrivalTold octets.now limit result }
 {
-    krb_proxy_calls::proxy_is_whole(octets, limit)
+    krb_c_calls::proxies::proxy_is_whole(octets, limit)
 }
 
 /// `krb_make_proxy_request` of `krb.h`: what a client posts to a proxy (MS-KKDCP, 2.2.2).
@@ -113,7 +119,7 @@ pub extern "C" fn krb_make_proxy_request(
         (types ⟦<AsReq as DerEncode>⟧ ⟦<TgsReq as DerEncode>⟧ ⟦<ApReq as DerEncode>⟧ ⟦<KrbPriv as DerEncode>⟧) message.now domain.now)
         out.old out.new size.new result }
 {
-    krb_proxy_calls::make_proxy_request(alloc, message, domain, out, size)
+    krb_c_calls::proxies::make_proxy_request(alloc, message, domain, out, size)
 }
 
 /// `krb_read_proxy_reply` of `krb.h`: the reply that a proxy answered (MS-KKDCP, 3.2.5.2).
@@ -127,5 +133,5 @@ pub extern "C" fn krb_read_proxy_reply(
     ensures { IsReplyTold ⟦<KdcProxyMessage as DerEncode>⟧ (reply_types ⟦<AsRep as DerEncode>⟧ ⟦<TgsRep as DerEncode>⟧
         ⟦<KrbError as DerEncode>⟧ ⟦<ApRep as DerEncode>⟧ ⟦<KrbPriv as DerEncode>⟧) octets.now message_offset.new message_size.new result }
 {
-    krb_proxy_calls::read_proxy_reply(alloc, octets, message_offset, message_size)
+    krb_c_calls::proxies::read_proxy_reply(alloc, octets, message_offset, message_size)
 }

@@ -1,14 +1,14 @@
 //! Lemmas: each type is what the standard says of its suite, and so the same as the suite of its number.
 
-ghost use Rattle.krb_crypto_suite.specs.Standards.{IsAesSuite, IsDes3Suite, IsAesSha2Suite, IsAesChecksum, IsDes3Checksum, IsAesSha2Checksum};
+ghost use Rattle.krb_crypto.specs.Standards.{IsAesSuite, IsDes3Suite, IsAesSha2Suite, IsAesChecksum, IsDes3Checksum, IsAesSha2Checksum};
 
 use crate::aes::{Aes128CtsHmacSha196, Aes256CtsHmacSha196, HmacSha196Aes128, HmacSha196Aes256};
 use crate::aes_sha2::{
     Aes128CtsHmacSha256128, Aes256CtsHmacSha384192, HmacSha256128Aes128, HmacSha384192Aes256,
 };
 use crate::des::{Des3CbcSha1Kd, HmacSha1Des3Kd};
+use krb_crypto::{Checksum, Cipher};
 use krb_crypto_block::AesSize;
-use krb_crypto_suite::{Checksum, Cipher};
 
 /// aes128-cts-hmac-sha1-96, encryption type 17 with checksums of type 15, and keys of 16 octets (RFC 3962, 6 and 7).
 pub fn aes128_cts_hmac_sha1_96()

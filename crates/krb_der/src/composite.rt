@@ -138,7 +138,7 @@
 //! | `[N]` T OPTIONAL | `Optional<Option<ExplicitContextTagN<T>>>` | `optional (λ x. explicit N (w x)) v.name.0` |
 //! | `[APPLICATION N]` S | `ApplicationTag<S, N>` | `application N (w x)` |
 //!
-//! `krb_msg_types` has aliases for the types of RFC 4120 that are one of these: `KerberosTime` is `GeneralizedTimeAsn1`. The
+//! `krb_types` has aliases for the types of RFC 4120 that are one of these: `KerberosTime` is `GeneralizedTimeAsn1`. The
 //! word of an alias is that of its type.
 //!
 //! # One field; seven fields or more

@@ -6,7 +6,7 @@ use Rattle.std.specs.Int.{w64, from_be_bytes, to_be_bytes}
 use Rattle.std.specs.Io.KnownBytes.{Consumes}
 use Rattle.krb_gss_tokens.specs.Layout.{mic_id, mic_filler, mic_header}
 use Rattle.krb_gss_tokens.specs.Mic.{Mic, MicIs, mic}
-use Rattle.krb_gss_tokens.specs.Rejected.{Answers, AnswersUnlessError, Begins, IsError, MicFirstError, MicIsCut, MicRejected, RejectsAsEof, RejectsAsIo}
+use Rattle.krb_gss_tokens.specs.PerMessageRejected.{Answers, AnswersUnlessError, Begins, IsError, MicFirstError, MicIsCut, MicRejected, RejectsAsEof, RejectsAsIo}
 use Rattle.krb_gss_tokens.specs.declared.error.GssApiMessageError.{GssApiMessageError}
 use Rattle.krb_gss_tokens.specs.declared.error.GssApiMessageError.TheVariants as errors
 use Rattle.krb_gss_tokens.proofs.Streams.{consumes_then, begun, all_read, prefix_taken}

@@ -6,7 +6,7 @@ use Rattle.std.specs.Int.{w16, w64, from_be_bytes, to_be_bytes}
 use Rattle.std.specs.Io.KnownBytes.{Consumes}
 use Rattle.krb_gss_tokens.specs.Layout.{wrap_id, wrap_header}
 use Rattle.krb_gss_tokens.specs.Wrap.{FitsWrap, Wrap, WrapIs, wrap}
-use Rattle.krb_gss_tokens.specs.Rejected.{Answers, AnswersUnlessError, Begins, IsError, RejectsAsEof, RejectsAsIo, WrapFirstError, WrapIsCut, WrapRejected}
+use Rattle.krb_gss_tokens.specs.PerMessageRejected.{Answers, AnswersUnlessError, Begins, IsError, RejectsAsEof, RejectsAsIo, WrapFirstError, WrapIsCut, WrapRejected}
 use Rattle.krb_gss_tokens.specs.declared.error.GssApiMessageError.{GssApiMessageError}
 use Rattle.krb_gss_tokens.specs.declared.error.GssApiMessageError.TheVariants as errors
 use Rattle.krb_gss_tokens.proofs.Streams.{consumes_then, begun, all_read, prefix_taken}

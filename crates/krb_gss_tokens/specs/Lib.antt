@@ -1,7 +1,16 @@
+pub mod Fields
+pub mod Header
+pub mod HeaderErrors
 pub mod Comparing
 pub mod Errors
 pub mod Layout
 pub mod Mic
 pub mod Octets
-pub mod Rejected
+pub mod PerMessageRejected
 pub mod Wrap
+pub mod Proxy
+pub mod ProxyLaws
+pub mod Rejected
+pub mod Token
+pub mod TokenIdLaws
+pub mod TokenLaws

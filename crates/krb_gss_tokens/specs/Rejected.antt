@@ -1,102 +1,80 @@
--- Which octets are rejected as a token, by the first field that is wrong (RFC 4121, 4.2.6).
-use Rattle.std.specs.Prelude.{◌≡◌, ℕ, ◌<◌, List, [], ◌∷◌, ◌++◌, length, Option, Some, IfSome, ◌⊎◌, Result, MatchResult}
+-- Which octets are no token, and by which first error, from the left (RFC 2743, 3.1; RFC 4121, 4.1).
+use Rattle.std.specs.Prelude.{◌≡◌, ◌==◌, ◌⊎◌, ℕ, ◌<◌, ◌^◌, List, ◌++◌, length}
 use Rattle.std.specs.IoError.{error_kind}
-use Rattle.std.specs.declared.io.ErrorKind.TheVariants as kinds
-use Rattle.krb_io.specs.Transfer.{IsNotInterrupted, IsPrefixWritten}
-use Rattle.krb_gss_tokens.specs.Layout.{mic_id, mic_filler, mic_header, wrap_id, wrap_header}
+use Rattle.std.specs.declared.io.Error.{Error}
+use Rattle.std.specs.declared.io.ErrorKind.TheVariants.{UnexpectedEof}
+use Rattle.krb_der_core.specs.declared.error.Asn1DerError.{Asn1DerError}
+use Rattle.krb_der_core.specs.declared.error.Asn1DerError.TheVariants as errors
+use Rattle.krb_der_core.specs.declared.der.DerEncode.{Ghosts as EncodingOf}
+use Rattle.krb_der_core.specs.Errors.{PrefixError, HeaderError, OrMemory, TaggedError}
+use Rattle.krb_der_core.specs.Reading.{Elements, Encodings, RejectsPrefix}
+use Rattle.krb_der_x509.specs.ObjectIdentifier.{IsArcs, object_identifier}
+use Rattle.krb_der_x509.specs.ObjectIdentifierErrors.{ArcsError}
+use Rattle.krb_gss_tokens.specs.Fields.{Begins}
 use Rattle.krb_gss_tokens.specs.declared.error.GssApiMessageError.{GssApiMessageError}
-use Rattle.krb_gss_tokens.specs.declared.error.GssApiMessageError.TheVariants as errors
+use Rattle.krb_gss_tokens.specs.declared.error.GssApiMessageError.TheVariants as gss
+use Rattle.krb_gss_tokens.specs.Errors.{of_der}
+use Rattle.krb_gss_tokens.specs.Token.{IsTokenId, token}
 
--- these octets are at the start
-abbrev pub Begins : List ℕ → List ℕ → Type 0
-Begins octets prefix = (rest : List ℕ) × (octets ≡ prefix ++ rest)
+-- ---- what is before an error
 
--- The octets end inside a field of a MIC token, and no field before it is wrong: inside the id, inside the flags and the filler,
--- or inside the number.
-abbrev pub MicIsCut : List ℕ → Type 0
-MicIsCut octets = (length octets < 2) ⊎ ((Begins octets mic_id × (length octets < 8)) ⊎ (((flags : ℕ) × Begins octets (mic_id ++ (flags ∷ []) ++ mic_filler)) × (length octets < 16)))
+-- a token is at the start, whose content is so
+abbrev pub InToken : List ℕ → (List ℕ → Type 0) → Type 0
+InToken input P = (content : List ℕ) × (rest : List ℕ) × (input ≡ token content ++ rest) × P content
 
--- How a MIC token is rejected whose octets are these, where they are known: the id is another, the filler is another, or memory
--- ran out after a whole header. An I/O error, and a field that is cut short, are an `IoError`.
-abbrev pub MicRejected : Option (List ℕ) → GssApiMessageError → Type 0
-MicRejected known (errors.InvalidId expected got) = (expected ≡ mic_id) × (got ≡ mic_id → ⊥) × (length got ≡ 2) × IfSome known (λ octets. Begins octets got)
-MicRejected known (errors.InvalidMechanismOid expected got) = ⊥
-MicRejected known (errors.IoError error) = Unit {0}
-MicRejected known (errors.InvalidMicFiller got) = (got ≡ mic_filler → ⊥) × (length got ≡ 5) × IfSome known (λ octets. (flags : ℕ) × Begins octets (mic_id ++ (flags ∷ []) ++ got))
-MicRejected known (errors.InvalidWrapFiller got) = ⊥
-MicRejected known (errors.Asn1Error e) = ⊥
-MicRejected known errors.OutOfMemory = IfSome known (λ octets. (flags number : ℕ) × Begins octets (mic_header flags number))
+-- a mechanism is at the start, and what follows it is so
+abbrev pub TrailingMechanism : List ℕ → (List ℕ → List ℕ → Type 0) → Type 0
+TrailingMechanism content P = (oid : List ℕ) × (trailing : List ℕ) × IsArcs oid × (content ≡ object_identifier oid ++ trailing) × P oid trailing
 
--- The first error of octets that are no MIC token, or an allocation failure after a whole header. An I/O error is an early end.
-abbrev pub MicFirstError : List ℕ → GssApiMessageError → Type 0
-MicFirstError octets (errors.InvalidId expected got) = MicRejected (Some octets) (errors.InvalidId expected got)
-MicFirstError octets (errors.InvalidMechanismOid expected got) = ⊥
-MicFirstError octets (errors.IoError error) = (error_kind error ≡ kinds.UnexpectedEof) × MicIsCut octets
-MicFirstError octets (errors.InvalidMicFiller got) = MicRejected (Some octets) (errors.InvalidMicFiller got)
-MicFirstError octets (errors.InvalidWrapFiller got) = ⊥
-MicFirstError octets (errors.Asn1Error e) = ⊥
-MicFirstError octets errors.OutOfMemory = MicRejected (Some octets) errors.OutOfMemory
+-- a token id is at the start, and what follows it is so
+abbrev pub TrailingId : List ℕ → (List ℕ → List ℕ → Type 0) → Type 0
+TrailingId octets P = (id : List ℕ) × (trailing : List ℕ) × IsTokenId id × (octets ≡ id ++ trailing) × P id trailing
 
--- The octets end inside a field of a Wrap token, and no field before it is wrong: inside the id, inside the flags and the filler,
--- or inside the three numbers.
-abbrev pub WrapIsCut : List ℕ → Type 0
-WrapIsCut octets = (length octets < 2) ⊎ ((Begins octets wrap_id × (length octets < 4)) ⊎ (((flags : ℕ) × Begins octets (wrap_id ++ (flags ∷ 255 ∷ []))) × (length octets < 16)))
+-- ---- the errors
 
--- How a Wrap token is rejected whose octets are these, where they are known.
-abbrev pub WrapRejected : Option (List ℕ) → GssApiMessageError → Type 0
-WrapRejected known (errors.InvalidId expected got) = (expected ≡ wrap_id) × (got ≡ wrap_id → ⊥) × (length got ≡ 2) × IfSome known (λ octets. Begins octets got)
-WrapRejected known (errors.InvalidMechanismOid expected got) = ⊥
-WrapRejected known (errors.IoError error) = Unit {0}
-WrapRejected known (errors.InvalidMicFiller got) = ⊥
-WrapRejected known (errors.InvalidWrapFiller got) = (got ≡ 255 → ⊥) × IfSome known (λ octets. (flags : ℕ) × Begins octets (wrap_id ++ (flags ∷ got ∷ [])))
-WrapRejected known (errors.Asn1Error e) = ⊥
-WrapRejected known errors.OutOfMemory = IfSome known (λ octets. (flags ec rrc number : ℕ) × Begins octets (wrap_header flags ec rrc number))
+-- an error of DER: nothing of P is at the start of the octets, and their first error is returned, unless an allocation fails
+abbrev pub PrefixRejected : (List ℕ → Type 0) → (List ℕ → Asn1DerError → Type 0) → List ℕ → GssApiMessageError → Type 0
+PrefixRejected P error octets e = (f : Asn1DerError) × (e ≡ of_der f) × RejectsPrefix P octets f × OrMemory (error octets) f
 
--- The first error of octets that are no Wrap token, or an allocation failure after a whole header. An I/O error is an early end.
-abbrev pub WrapFirstError : List ℕ → GssApiMessageError → Type 0
-WrapFirstError octets (errors.InvalidId expected got) = WrapRejected (Some octets) (errors.InvalidId expected got)
-WrapFirstError octets (errors.InvalidMechanismOid expected got) = ⊥
-WrapFirstError octets (errors.IoError error) = (error_kind error ≡ kinds.UnexpectedEof) × WrapIsCut octets
-WrapFirstError octets (errors.InvalidMicFiller got) = ⊥
-WrapFirstError octets (errors.InvalidWrapFiller got) = WrapRejected (Some octets) (errors.InvalidWrapFiller got)
-WrapFirstError octets (errors.Asn1Error e) = ⊥
-WrapFirstError octets errors.OutOfMemory = WrapRejected (Some octets) errors.OutOfMemory
+-- no element of this tag is at the start: it is cut short, or has a wrong length, and its first error is returned
+abbrev pub ElementRejected : ℕ → List ℕ → Asn1DerError → Type 0
+ElementRejected tag octets f = (f ≡ errors.OutOfMemory → ⊥) × RejectsPrefix (Elements tag) octets f × HeaderError tag octets f
 
--- a reader's or a writer's error
-abbrev pub IsIo : GssApiMessageError → Type 0
-IsIo (errors.IoError error) = Unit {0}
-IsIo e = ⊥
+-- the first octet is not 60, or no element of that tag is at the start
+abbrev pub FrameRejected : List ℕ → GssApiMessageError → Type 0
+FrameRejected input e = ((Begins 96 input → ⊥) × (e ≡ gss.Asn1Error errors.InvalidData))
+    ⊎ (Begins 96 input × (f : Asn1DerError) × (e ≡ of_der f) × ElementRejected 96 input f)
 
--- a reader's error, or an allocation failure
-abbrev pub IsError : GssApiMessageError → Type 0
-IsError errors.OutOfMemory = Unit {0}
-IsError (errors.IoError error) = Unit {0}
-IsError e = ⊥
+-- no object identifier is at the start
+abbrev pub MechanismRejected : List ℕ → GssApiMessageError → Type 0
+MechanismRejected content e = PrefixRejected (Encodings IsArcs object_identifier) (PrefixError (λ t. t == 6) (TaggedError 6 ArcsError)) content e
 
--- the result is this value, unless memory ran out
-abbrev pub Answers : {A : Type 0} → Result A GssApiMessageError → A → Type 0
-Answers answer v = MatchResult answer (λ w. w ≡ v) (λ e. e ≡ errors.OutOfMemory)
+-- one octet, or none
+abbrev pub IdRejected : List ℕ → GssApiMessageError → Type 0
+IdRejected octets e = (x : Error) × (e ≡ gss.IoError x) × (error_kind x ≡ UnexpectedEof) × (length octets < 2)
 
--- the result is this value, unless the reader failed or memory ran out
-abbrev pub AnswersUnlessError : {A : Type 0} → Result A GssApiMessageError → A → Type 0
-AnswersUnlessError answer v = MatchResult answer (λ w. w ≡ v) IsError
+-- an encoding with trailing octets
+abbrev pub IsFollowed : {A : Type 0} → (A → Type 0) → (A → List ℕ) → List ℕ → Type 0
+IsFollowed {A} is_value enc octets = (v : A) × (more : List ℕ) × is_value v × (0 < length more) × (octets ≡ enc v ++ more)
 
--- the result is an `IoError`
-abbrev pub RejectsAsIo : {A : Type 0} → Result A GssApiMessageError → Type 0
-RejectsAsIo answer = MatchResult answer (λ w. ⊥) IsIo
+-- what is to be one encoding of this kind, all of it
+abbrev pub MessageRejected : {A : Type 0} → EncodingOf A → List ℕ → GssApiMessageError → Type 0
+MessageRejected m octets e = PrefixRejected (Encodings m.is_value m.enc) (PrefixError m.first m.error) octets e
+    ⊎ ((e ≡ gss.Asn1Error errors.InvalidData) × IsFollowed m.is_value m.enc octets)
 
--- octets that end too early
-abbrev pub IsEof : GssApiMessageError → Type 0
-IsEof (errors.IoError error) = error_kind error ≡ kinds.UnexpectedEof
-IsEof e = ⊥
+-- ---- a token of Kerberos: any mechanism, any id, and a message
 
--- the result is that the octets end too early
-abbrev pub RejectsAsEof : {A : Type 0} → Result A GssApiMessageError → Type 0
-RejectsAsEof answer = MatchResult answer (λ w. ⊥) IsEof
+-- The first error of a token, from the left: of its frame, its mechanism, its id, its message.
+abbrev pub KrbMessageRejected : {A : Type 0} → EncodingOf A → List ℕ → GssApiMessageError → Type 0
+KrbMessageRejected m input e =
+    FrameRejected input e ⊎ InToken input (λ content.
+    MechanismRejected content e ⊎ TrailingMechanism content (λ oid trailing.
+    IdRejected trailing e ⊎ TrailingId trailing (λ id last.
+    MessageRejected m last e)))
 
--- Why a token of these octets was not written: there was no memory for them, and the writer is as before; or the writer failed, which
--- had taken a proper prefix of them.
-abbrev pub IsUnwritten : {W : Type 0} → (W → Option (List ℕ)) → W → W → List ℕ → GssApiMessageError → Type 0
-IsUnwritten contents before after octets (errors.IoError error) =
-    ((error_kind error ≡ kinds.OutOfMemory) × (after ≡ before)) ⊎ (IsNotInterrupted error × IsPrefixWritten octets (contents before) (contents after))
-IsUnwritten contents before after octets e = ⊥
+-- ---- one error
+
+-- Where octets have an error of DER, they have no other error, unless an allocation fails.
+abbrev pub ReportsOneError : (List ℕ → GssApiMessageError → Type 0) → Type 0
+ReportsOneError rejected = (octets : List ℕ) (f : Asn1DerError) (e : GssApiMessageError) → length octets < 2 ^ 64
+    → rejected octets (gss.Asn1Error f) → rejected octets e → (e ≡ gss.OutOfMemory) ⊎ (e ≡ gss.Asn1Error f)

@@ -6,14 +6,14 @@ ghost use Rattle.krb_gss_tokens.specs.Comparing.{same_mic_equiv, same_mic_per};
 ghost use Rattle.krb_gss_tokens.specs.Layout.{mic_header};
 ghost use Rattle.krb_gss_tokens.specs.Mic.{Mic, MicIs, mic, same_mic};
 ghost use Rattle.krb_gss_tokens.specs.Octets.{octets_of};
-ghost use Rattle.krb_gss_tokens.specs.Rejected.{Answers, AnswersUnlessError, IsIo, IsUnwritten, MicFirstError, MicIsCut, MicRejected};
-ghost use Rattle.krb_gss_tokens.specs.Rejected.{RejectsAsEof, RejectsAsIo};
+ghost use Rattle.krb_gss_tokens.specs.PerMessageRejected.{Answers, AnswersUnlessError, IsIo, IsUnwritten, MicFirstError, MicIsCut, MicRejected};
+ghost use Rattle.krb_gss_tokens.specs.PerMessageRejected.{RejectsAsEof, RejectsAsIo};
 
 use crate::error::GssApiMessageError;
 use crate::octets::{
     big_u64, copy_payload, cut_short, joined, read_rest, read_u64, same_payload, write_joined,
 };
-use krb_constants::gss_api::{MIC_FILLER, MIC_TOKEN_ID};
+use krb_registry::gss_api::{MIC_FILLER, MIC_TOKEN_ID};
 use std::alloc::Global;
 use std::io::{Read, Write};
 use std::marker::Model;

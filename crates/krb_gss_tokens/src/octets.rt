@@ -6,7 +6,7 @@ ghost use Rattle.std.specs.Io.KnownBytes.{Appends, Consumes};
 ghost use Rattle.std.specs.Cmp.Lexicographic.{pointwise};
 ghost use Rattle.std.specs.Option.{option_eq};
 ghost use Rattle.krb_gss_tokens.specs.Octets.{octets_of};
-ghost use Rattle.krb_gss_tokens.specs.Rejected.{IsEof, IsError, IsIo, IsUnwritten};
+ghost use Rattle.krb_gss_tokens.specs.PerMessageRejected.{IsEof, IsError, IsIo, IsUnwritten};
 
 use crate::error::GssApiMessageError;
 use krb_io::{ReadError, read_to_end, write_all};

@@ -5,8 +5,8 @@ ghost use Rattle.std.specs.Io.KnownBytes.{Appends};
 ghost use Rattle.krb_gss_tokens.specs.Comparing.{same_wrap_equiv, same_wrap_per};
 ghost use Rattle.krb_gss_tokens.specs.Layout.{wrap_header, wrap_id};
 ghost use Rattle.krb_gss_tokens.specs.Octets.{octets_of};
-ghost use Rattle.krb_gss_tokens.specs.Rejected.{Answers, AnswersUnlessError, IsIo, IsUnwritten, RejectsAsEof, RejectsAsIo};
-ghost use Rattle.krb_gss_tokens.specs.Rejected.{WrapFirstError, WrapIsCut, WrapRejected};
+ghost use Rattle.krb_gss_tokens.specs.PerMessageRejected.{Answers, AnswersUnlessError, IsIo, IsUnwritten, RejectsAsEof, RejectsAsIo};
+ghost use Rattle.krb_gss_tokens.specs.PerMessageRejected.{WrapFirstError, WrapIsCut, WrapRejected};
 ghost use Rattle.krb_gss_tokens.specs.Wrap.{FitsWrap, Wrap, WrapIs, same_wrap, wrap};
 
 use crate::error::GssApiMessageError;
@@ -14,7 +14,7 @@ use crate::octets::{
     big_u16, big_u64, copy_payload, cut_short, joined, read_rest, read_u16, read_u64, same_payload,
     write_joined,
 };
-use krb_constants::gss_api::{WRAP_FILLER, WRAP_TOKEN_ID};
+use krb_registry::gss_api::{WRAP_FILLER, WRAP_TOKEN_ID};
 use std::alloc::Global;
 use std::io::{Read, Write};
 use std::marker::Model;

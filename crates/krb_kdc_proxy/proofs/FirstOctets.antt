@@ -1,7 +1,7 @@
 -- Requests that are looked at by their first octets, from what is known of their parts.
 use Rattle.std.proofs.Common.{◌≡◌, ℕ, ◌+◌, List, refl, ◌∙◌, subst, inl, inr}
 use Rattle.krb_der_core.specs.declared.der.DerEncode.{Ghosts as EncodingOf}
-use Rattle.krb_msg.specs.declared.messages.proxy.KdcProxyMessage.{KdcProxyMessage}
+use Rattle.krb_messages.specs.declared.messages.proxy.KdcProxyMessage.{KdcProxyMessage}
 use Rattle.krb_kdc_proxy.specs.declared.error.ProxyError.{ProxyError}
 use Rattle.krb_kdc_proxy.specs.declared.lenient.LenientRequest.{LenientRequest}
 use Rattle.krb_kdc_proxy.specs.Lenient.{IsLenientRequest, IsLookedAt, IsNoLenientRequest}

@@ -1,7 +1,7 @@
 -- What is taken as a request is taken by its first octets too, as the same.
 use Rattle.std.proofs.Common.{◌≡◌, ℕ, List, Some, None, refl, sym, ap, ◌∙◌, subst, inl, inr, arith}
 use Rattle.krb_der_core.specs.declared.der.DerEncode.{Ghosts as EncodingOf}
-use Rattle.krb_msg.specs.declared.messages.proxy.KdcProxyMessage.{KdcProxyMessage}
+use Rattle.krb_messages.specs.declared.messages.proxy.KdcProxyMessage.{KdcProxyMessage}
 use Rattle.krb_kdc_proxy.specs.declared.asked.Asked.{Asked}
 use Rattle.krb_kdc_proxy.specs.declared.asked.Service.{Service}
 use Rattle.krb_kdc_proxy.specs.declared.asked.Service.TheVariants as service

@@ -13,7 +13,7 @@ use Rattle.krb_kdc_proxy.specs.Messages.{Encodes, IsMessage, IsNoMessage, Number
 use Rattle.krb_kdc_proxy.specs.Prefixed.{IsNotPrefixed, IsPrefixed, prefixed}
 use Rattle.krb_kdc_proxy.specs.Requests.{IsTagged}
 use Rattle.krb_kdc_proxy.specs.Standing.{StandsPrefixed, kerb_message_path}
-use Rattle.krb_places.specs.PathLaws.{one_end}
+use Rattle.krb_message_fields.specs.PathLaws.{one_end}
 
 begins : (tag u : ℕ) (content : List ℕ) → u ≡ tag → IsTagged tag (tlv u content)
 unfolding tlv

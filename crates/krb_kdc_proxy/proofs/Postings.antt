@@ -1,7 +1,7 @@
 -- Replies that go back.
 use Rattle.std.proofs.Common.{◌≡◌, ℕ, List, Result, Ok, Err, subst, IfOk}
 use Rattle.krb_der_core.specs.declared.der.DerEncode.{Ghosts as EncodingOf}
-use Rattle.krb_msg.specs.declared.messages.proxy.KdcProxyMessage.{KdcProxyMessage}
+use Rattle.krb_messages.specs.declared.messages.proxy.KdcProxyMessage.{KdcProxyMessage}
 use Rattle.krb_kdc_proxy.specs.declared.error.ProxyError.{ProxyError}
 use Rattle.krb_kdc_proxy.specs.declared.replies.Reply.{Reply}
 use Rattle.krb_kdc_proxy.specs.Messages.{Encodes}

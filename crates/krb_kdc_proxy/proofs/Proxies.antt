@@ -3,14 +3,14 @@ use Rattle.std.proofs.Common.{◌≡◌, ℕ, ◌+◌, ◌≤◌, List, [], ◌�
 use Rattle.std.proofs.lemmas.List.{append-nil, length-drop, length-take-le}
 use Rattle.krb_der_core.specs.Encoding.{optional}
 use Rattle.krb_der.specs.Asn1.{explicit, general_string, integer, octet_string, sequence}
-use Rattle.krb_places.specs.declared.place.Place.{Place}
-use Rattle.krb_places.specs.Contents.{Pins, Slot, may, must, optional_map}
-use Rattle.krb_places.specs.Paths.{IsPlace, Leads, LeadsNowhere}
-use Rattle.krb_places.specs.PathLaws.{one_end}
-use Rattle.krb_places.specs.Places.{octets_at}
-use Rattle.krb_field_places.specs.Paths.{octets_path}
-use Rattle.krb_field_places.specs.TypeLaws.{pins_in_sequence, pins_primitive}
-use Rattle.krb_msg.specs.declared.messages.proxy.KdcProxyMessage.{KdcProxyMessage}
+use Rattle.krb_message_fields.specs.declared.places.place.Place.{Place}
+use Rattle.krb_message_fields.specs.Contents.{Pins, Slot, may, must, optional_map}
+use Rattle.krb_message_fields.specs.Paths.{IsPlace, Leads, LeadsNowhere}
+use Rattle.krb_message_fields.specs.PathLaws.{one_end}
+use Rattle.krb_message_fields.specs.Places.{octets_at}
+use Rattle.krb_message_fields.specs.FieldPaths.{octets_path}
+use Rattle.krb_message_fields.specs.TypeLaws.{pins_in_sequence, pins_primitive}
+use Rattle.krb_messages.specs.declared.messages.proxy.KdcProxyMessage.{KdcProxyMessage}
 use Rattle.krb_kdc_proxy.specs.Standing.{kerb_message_path}
 
 abbrev slots : KdcProxyMessage → List Slot

@@ -1,9 +1,9 @@
 -- Requests, from what is known of their parts.
 use Rattle.std.proofs.Common.{◌≡◌, ℕ, ◌+◌, List, length, take, drop, Some, refl, sym, ap, ◌∙◌, subst, inl, inr, arith}
 use Rattle.krb_der_core.specs.declared.der.DerEncode.{Ghosts as EncodingOf}
-use Rattle.krb_msg_app.specs.declared.messages.application.ApReqInner.{ApReqInner}
-use Rattle.krb_msg_app.specs.declared.messages.private.KrbPrivInner.{KrbPrivInner}
-use Rattle.krb_msg.specs.declared.messages.proxy.KdcProxyMessage.{KdcProxyMessage}
+use Rattle.krb_messages.specs.declared.messages.application.ApReqInner.{ApReqInner}
+use Rattle.krb_messages.specs.declared.messages.private.KrbPrivInner.{KrbPrivInner}
+use Rattle.krb_messages.specs.declared.messages.proxy.KdcProxyMessage.{KdcProxyMessage}
 use Rattle.krb_kdc_proxy.specs.declared.error.ProxyError.{ProxyError}
 use Rattle.krb_kdc_proxy.specs.declared.frame.Direction.TheVariants as direction
 use Rattle.krb_kdc_proxy.specs.declared.kind.MessageKind.TheVariants as kind

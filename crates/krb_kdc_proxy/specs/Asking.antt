@@ -1,7 +1,7 @@
 -- What requests ask for (RFC 4120, 5.4.1; RFC 3244, 2).
 use Rattle.std.specs.Prelude.{Some, None}
-use Rattle.krb_msg_kdc.specs.declared.messages.requests.KdcReq.{KdcReq}
-use Rattle.krb_msg_app.specs.declared.messages.application.ApReqInner.{ApReqInner}
+use Rattle.krb_messages.specs.declared.messages.requests.KdcReq.{KdcReq}
+use Rattle.krb_messages.specs.declared.messages.application.ApReqInner.{ApReqInner}
 use Rattle.krb_kdc_proxy.specs.declared.asked.Service.TheVariants as service
 use Rattle.krb_kdc_proxy.specs.declared.asked.Asked.{Asked}
 

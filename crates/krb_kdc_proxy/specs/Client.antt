@@ -1,8 +1,8 @@
 -- The client's half: requests that it posts to a proxy, and what it reads of the answer (MS-KKDCP, 2.2.2, 3.1.5.1 and 3.2.5.2).
 use Rattle.std.specs.Prelude.{◌≡◌, ◌⊎◌, ℕ, ℤ, ◌<◌, ◌≤◌, List, length, Option, Some}
 use Rattle.krb_der_core.specs.declared.der.DerEncode.{Ghosts as EncodingOf}
-use Rattle.krb_msg.specs.declared.messages.proxy.KdcProxyMessage.{KdcProxyMessage}
-use Rattle.krb_msg_password.specs.declared.error.MessageError.{MessageError}
+use Rattle.krb_messages.specs.declared.messages.proxy.KdcProxyMessage.{KdcProxyMessage}
+use Rattle.krb_messages.specs.declared.kpasswd.error.MessageError.{MessageError}
 use Rattle.krb_kdc_proxy.specs.declared.error.ProxyError.{ProxyError}
 use Rattle.krb_kdc_proxy.specs.declared.error.ProxyError.TheVariants as errors
 use Rattle.krb_kdc_proxy.specs.declared.client.ProxyReply.{ProxyReply}

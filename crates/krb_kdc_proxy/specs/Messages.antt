@@ -4,9 +4,9 @@ use Rattle.krb_der_core.specs.declared.der.DerEncode.{Ghosts as EncodingOf}
 use Rattle.krb_der_core.specs.declared.error.Asn1DerError.{Asn1DerError}
 use Rattle.krb_der_core.specs.declared.error.Asn1DerError.TheVariants as der
 use Rattle.krb_der_core.specs.Errors.{ValueError}
-use Rattle.krb_msg_password.specs.declared.error.MessageError.{MessageError}
-use Rattle.krb_msg_password.specs.declared.error.MessageError.TheVariants as why
-use Rattle.krb_msg_password.specs.Rejected.{der_error}
+use Rattle.krb_messages.specs.declared.kpasswd.error.MessageError.{MessageError}
+use Rattle.krb_messages.specs.declared.kpasswd.error.MessageError.TheVariants as why
+use Rattle.krb_messages.specs.Rejected.{der_error}
 use Rattle.krb_kdc_proxy.specs.declared.kind.MessageKind.{MessageKind}
 use Rattle.krb_kdc_proxy.specs.declared.kind.MessageKind.TheVariants as kind
 use Rattle.krb_kdc_proxy.specs.declared.error.ProxyError.{ProxyError}

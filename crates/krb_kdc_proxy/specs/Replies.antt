@@ -1,10 +1,10 @@
 -- What a proxy passes back to a client (RFC 4120, 5.4.2 and 5.9.1; RFC 3244, 2).
 use Rattle.std.specs.Prelude.{◌≡◌, ◌⊎◌, ℕ, ◌<◌, List, [], length}
 use Rattle.krb_der_core.specs.declared.der.DerEncode.{Ghosts as EncodingOf}
-use Rattle.krb_msg_kdc.specs.declared.messages.replies.KdcRep.{KdcRep}
-use Rattle.krb_msg_app.specs.declared.messages.application.ApRepInner.{ApRepInner}
-use Rattle.krb_msg_app.specs.declared.messages.private.KrbPrivInner.{KrbPrivInner}
-use Rattle.krb_msg.specs.declared.messages.errors.KrbErrorInner.{KrbErrorInner}
+use Rattle.krb_messages.specs.declared.messages.replies.KdcRep.{KdcRep}
+use Rattle.krb_messages.specs.declared.messages.application.ApRepInner.{ApRepInner}
+use Rattle.krb_messages.specs.declared.messages.private.KrbPrivInner.{KrbPrivInner}
+use Rattle.krb_messages.specs.declared.messages.errors.KrbErrorInner.{KrbErrorInner}
 use Rattle.krb_kdc_proxy.specs.declared.error.ProxyError.{ProxyError}
 use Rattle.krb_kdc_proxy.specs.declared.error.ProxyError.TheVariants as errors
 use Rattle.krb_kdc_proxy.specs.declared.frame.Direction.TheVariants as direction

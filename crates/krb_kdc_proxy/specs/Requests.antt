@@ -1,10 +1,10 @@
 -- What a proxy passes on to a KDC (MS-KKDCP, 2.2.2 and 3.2.5.1; RFC 4120, 5.4.1; RFC 3244, 2).
 use Rattle.std.specs.Prelude.{◌≡◌, ◌⊎◌, ℕ, ◌<◌, ◌≤◌, List, ◌∷◌, length, Some, None}
 use Rattle.krb_der_core.specs.declared.der.DerEncode.{Ghosts as EncodingOf}
-use Rattle.krb_msg_kdc.specs.declared.messages.requests.KdcReq.{KdcReq}
-use Rattle.krb_msg_app.specs.declared.messages.application.ApReqInner.{ApReqInner}
-use Rattle.krb_msg_app.specs.declared.messages.private.KrbPrivInner.{KrbPrivInner}
-use Rattle.krb_msg.specs.declared.messages.proxy.KdcProxyMessage.{KdcProxyMessage}
+use Rattle.krb_messages.specs.declared.messages.requests.KdcReq.{KdcReq}
+use Rattle.krb_messages.specs.declared.messages.application.ApReqInner.{ApReqInner}
+use Rattle.krb_messages.specs.declared.messages.private.KrbPrivInner.{KrbPrivInner}
+use Rattle.krb_messages.specs.declared.messages.proxy.KdcProxyMessage.{KdcProxyMessage}
 use Rattle.krb_kdc_proxy.specs.declared.error.ProxyError.{ProxyError}
 use Rattle.krb_kdc_proxy.specs.declared.error.ProxyError.TheVariants as errors
 use Rattle.krb_kdc_proxy.specs.declared.frame.Direction.TheVariants as direction

@@ -1,9 +1,9 @@
 -- Where octets stand among others, and messages in a KDC-PROXY-MESSAGE (MS-KKDCP, 2.2.2).
 use Rattle.std.specs.Prelude.{◌≡◌, ℕ, ◌+◌, ◌≤◌, List, [], ◌∷◌, length, take, drop}
 use Rattle.krb_kdc_proxy.specs.Prefixed.{prefixed}
-use Rattle.krb_places.specs.Paths.{Leads}
-use Rattle.krb_places.specs.declared.place.Step.{Step}
-use Rattle.krb_places.specs.declared.place.Step.TheVariants.{Tag}
+use Rattle.krb_message_fields.specs.Paths.{Leads}
+use Rattle.krb_message_fields.specs.declared.places.place.Step.{Step}
+use Rattle.krb_message_fields.specs.declared.places.place.Step.TheVariants.{Tag}
 
 -- they stand behind so many
 abbrev pub StandsAt : List ℕ → ℕ → List ℕ → Type 0

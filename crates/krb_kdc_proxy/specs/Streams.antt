@@ -2,7 +2,7 @@
 use Rattle.std.specs.Prelude.{◌≡◌, ◌⊎◌, ℕ, ◌<◌, ◌≤◌, ◌^◌, List, ◌++◌, length, None}
 use Rattle.std.specs.Int.{to_be_bytes, w32}
 use Rattle.krb_der_core.specs.declared.der.DerEncode.{Ghosts as EncodingOf}
-use Rattle.krb_msg.specs.declared.messages.proxy.KdcProxyMessage.{KdcProxyMessage}
+use Rattle.krb_messages.specs.declared.messages.proxy.KdcProxyMessage.{KdcProxyMessage}
 use Rattle.krb_kdc_proxy.specs.declared.error.ProxyError.{ProxyError}
 use Rattle.krb_kdc_proxy.specs.declared.error.ProxyError.TheVariants as errors
 use Rattle.krb_kdc_proxy.specs.declared.replies.Reply.{Reply}

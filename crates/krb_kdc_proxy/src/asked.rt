@@ -4,9 +4,8 @@ ghost use Rattle.std.specs.Prelude.{◌≡◌};
 ghost use Rattle.krb_kdc_proxy.specs.Asking.{change_asked, kdc_asked};
 
 use krb_der::ExplicitContextTag;
-use krb_msg_app::messages::ApReqInner;
-use krb_msg_kdc::messages::{KdcReq, KdcReqBody};
-use krb_msg_types::data_types::{PrincipalName, Realm};
+use krb_messages::messages::{ApReqInner, KdcReq, KdcReqBody};
+use krb_types::data_types::{PrincipalName, Realm};
 
 /// Whom a request is for.
 #[derive(Debug, Clone, Copy, PartialEq, Eq)]

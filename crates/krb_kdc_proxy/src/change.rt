@@ -12,7 +12,7 @@ use crate::error::ProxyError;
 use crate::frame::{Direction, messages_of};
 use crate::kind::MessageKind;
 use krb_der::DerEncode;
-use krb_msg_app::messages::{ApReq, KrbPriv};
+use krb_messages::messages::{ApReq, KrbPriv};
 use std::alloc::Global;
 
 /// What the frame in which a password is changed asks for.

@@ -3,7 +3,7 @@
 ghost use Rattle.std.specs.Prelude.{◌≡◌, ◌≢◌, ◌⊎◌, pos, IfOk, IfErr};
 ghost use Rattle.krb_kdc_proxy.specs.Messages.{Encodes, IsMessage, IsNoEncoding, IsNoMessage, OrMemory, number_of};
 ghost use Rattle.krb_kdc_proxy.specs.declared.error.ProxyError.TheVariants as errors;
-ghost use Rattle.krb_msg_password.specs.declared.error.MessageError.{MessageError};
+ghost use Rattle.krb_messages.specs.declared.kpasswd.error.MessageError.{MessageError};
 
 use crate::error::{ProxyError, message_error};
 use crate::kind::MessageKind;

@@ -14,10 +14,10 @@ use crate::replies::Reply;
 use crate::reply::{behind, encoding, stream_reply};
 use crate::request::{MAXIMUM_REQUEST, kerb_message, proxy_message, read_request};
 use krb_der::{DerEncode, IntegerAsn1, OctetStringAsn1, Optional};
-use krb_msg::messages::{KdcProxyMessage, KrbError};
-use krb_msg_app::messages::{ApRep, ApReq, KrbPriv};
-use krb_msg_kdc::messages::{AsRep, AsReq, TgsRep, TgsReq};
-use krb_msg_types::data_types::KerberosStringAsn1;
+use krb_messages::messages::{
+    ApRep, ApReq, AsRep, AsReq, KdcProxyMessage, KrbError, KrbPriv, TgsRep, TgsReq,
+};
+use krb_types::data_types::KerberosStringAsn1;
 use std::alloc::Global;
 
 /// A reply that comes back to a client.

@@ -8,7 +8,7 @@ ghost use Rattle.krb_der.specs.Whole.{NoDevice};
 
 use crate::kind::MessageKind;
 use krb_der::Asn1DerError;
-use krb_msg_password::MessageError;
+use krb_messages::kpasswd::MessageError;
 use std::alloc::{AllocError, AllocFailed};
 use thiserror::Error;
 

@@ -9,7 +9,7 @@ use crate::checked::message_of;
 use crate::error::ProxyError;
 use crate::kind::MessageKind;
 use krb_der::DerEncode;
-use krb_msg_kdc::messages::{AsReq, TgsReq};
+use krb_messages::messages::{AsReq, TgsReq};
 use std::alloc::Global;
 
 /// The first octet of an AS-REQ: application 10 (X.690, 8.1.2).

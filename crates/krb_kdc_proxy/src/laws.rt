@@ -12,9 +12,9 @@ ghost use Rattle.krb_kdc_proxy.specs.declared.lenient.LenientRequest.{LenientReq
 ghost use Rattle.krb_kdc_proxy.specs.declared.request.ProxyRequest.{ProxyRequest};
 
 use krb_der::DerEncode;
-use krb_msg::messages::{KdcProxyMessage, KrbError};
-use krb_msg_app::messages::{ApRep, ApReq, KrbPriv};
-use krb_msg_kdc::messages::{AsRep, AsReq, TgsRep, TgsReq};
+use krb_messages::messages::{
+    ApRep, ApReq, AsRep, AsReq, KdcProxyMessage, KrbError, KrbPriv, TgsRep, TgsReq,
+};
 
 /// Octets are one request at most, and where they are one they are not refused, unless memory is wanting. So what `write_request` writes `read_request` reads
 /// as the request for the same message, realm and hint.

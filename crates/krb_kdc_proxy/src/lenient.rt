@@ -12,8 +12,8 @@ use crate::kdc::{AS_REQ, TGS_REQ};
 use crate::prefixed::{LENGTH, behind_length};
 use crate::request::{kerb_message, posted};
 use krb_der::{DerEncode, IntegerAsn1};
-use krb_msg::messages::KdcProxyMessage;
-use krb_msg_types::data_types::KerberosStringAsn1;
+use krb_messages::messages::KdcProxyMessage;
+use krb_types::data_types::KerberosStringAsn1;
 use std::alloc::Global;
 
 /// A request whose message was looked at by its first octets alone.

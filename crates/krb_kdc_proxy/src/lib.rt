@@ -25,7 +25,7 @@ pub use asked::Service;
 pub use client::{ProxyReply, read_reply, write_request};
 pub use error::ProxyError;
 pub use kind::MessageKind;
-pub use krb_msg_password::MessageError;
+pub use krb_messages::kpasswd::MessageError;
 pub use lenient::{LenientRequest, read_request_lenient};
 pub use replies::Reply;
 pub use reply::{write_reply, write_reply_datagram};

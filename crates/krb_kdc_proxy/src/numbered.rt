@@ -5,8 +5,7 @@ ghost use Rattle.krb_kdc_proxy.specs.Messages.{Numbers};
 ghost use Rattle.krb_kdc_proxy.specs.Requests.{ap_request_numbers, private_numbers, request_numbers};
 
 use krb_der::{ApplicationTag, IntegerAsn1};
-use krb_msg_app::messages::{ApReqInner, KrbPrivInner};
-use krb_msg_kdc::messages::KdcReq;
+use krb_messages::messages::{ApReqInner, KdcReq, KrbPrivInner};
 
 /// A message that begins with pvno and msg-type.
 pub(crate) trait Numbered {

@@ -13,9 +13,9 @@ use crate::frame::{Direction, begins_as_frame, messages_of};
 use crate::kind::MessageKind;
 use crate::numbered::Numbered;
 use krb_der::{ApplicationTag, DerEncode, IntegerAsn1};
-use krb_msg::messages::{KrbError, KrbErrorInner};
-use krb_msg_app::messages::{ApRep, ApRepInner, KrbPriv};
-use krb_msg_kdc::messages::{AsRep, KdcRep, TgsRep};
+use krb_messages::messages::{
+    ApRep, ApRepInner, AsRep, KdcRep, KrbError, KrbErrorInner, KrbPriv, TgsRep,
+};
 use std::alloc::Global;
 
 /// What goes back to a client.

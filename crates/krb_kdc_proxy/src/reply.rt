@@ -11,9 +11,7 @@ use crate::error::ProxyError;
 use crate::prefixed::{LENGTH, behind_length};
 use crate::replies::{Reply, reply_of};
 use krb_der::{DerEncode, OctetStringAsn1, Optional};
-use krb_msg::messages::{KdcProxyMessage, KrbError};
-use krb_msg_app::messages::{ApRep, KrbPriv};
-use krb_msg_kdc::messages::{AsRep, TgsRep};
+use krb_messages::messages::{ApRep, AsRep, KdcProxyMessage, KrbError, KrbPriv, TgsRep};
 use std::alloc::{AllocError, Global};
 
 /// The encoding of a message.

@@ -6,7 +6,7 @@ ghost use Rattle.krb_kdc_proxy.specs.Messages.{Encodes, IsNoEncoding, OrMemory};
 ghost use Rattle.krb_kdc_proxy.specs.Requests.{Asks, AsksNothing, IsCarried, IsNoRequest, IsNotCarried, IsNotPosted, IsPosted, IsRequest, types};
 ghost use Rattle.krb_kdc_proxy.specs.Standing.{IsKerbMessage};
 ghost use Rattle.krb_kdc_proxy.specs.declared.error.ProxyError.TheVariants as errors;
-ghost use Rattle.krb_msg_password.specs.declared.error.MessageError.{MessageError};
+ghost use Rattle.krb_messages.specs.declared.kpasswd.error.MessageError.{MessageError};
 
 use crate::asked::{Asked, Service, untagged};
 use crate::change::change;
@@ -15,11 +15,9 @@ use crate::frame::{Direction, begins_as_frame};
 use crate::kdc::kdc_request;
 use crate::prefixed::{LENGTH, behind_length};
 use krb_der::{DerEncode, IntegerAsn1, from_bytes};
-use krb_msg::messages::KdcProxyMessage;
-use krb_msg_app::messages::{ApReq, KrbPriv};
-use krb_msg_kdc::messages::{AsReq, TgsReq};
-use krb_msg_types::data_types::{KerberosStringAsn1, PrincipalName, Realm};
-use krb_places::{Step, place_of};
+use krb_message_fields::places::{Step, place_of};
+use krb_messages::messages::{ApReq, AsReq, KdcProxyMessage, KrbPriv, TgsReq};
+use krb_types::data_types::{KerberosStringAsn1, PrincipalName, Realm};
 use std::alloc::Global;
 
 /// The most octets that a request has which a client posts, 128 KiB: as many as other proxies take.

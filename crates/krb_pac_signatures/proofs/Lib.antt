@@ -1,1 +1,2 @@
+pub mod Kdc
 pub mod Inside

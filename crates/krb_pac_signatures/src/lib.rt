@@ -1,14 +1,16 @@
-//! The signatures of a PAC (MS-PAC 2.8): which checksums are there, of which type, and which octets they are over.
-//!
-//! The server's checksum is over the PAC with the octets of the server's and the KDC's signature zeroed, the KDC's over the server's
-//! signature, the full one over the PAC with the octets of these three zeroed. The checksum of a ticket is over the ticket, which is
-//! not here.
+//! The signatures of a PAC (MS-PAC, 2.8): what each is over, and whether it holds under a key.
 #![tactic(auto)]
 
 mod error;
+mod pac;
 mod signature;
 mod signatures;
+mod verdict;
 
 pub use error::PacSignatureError;
+pub use pac::{
+    PacChecksum, PacVerdicts, full_verdict, kdc_verdict, server_verdict, ticket_verdict, verdicts,
+};
 pub use signature::SignatureView;
 pub use signatures::PacSignatures;
+pub use verdict::{Verdict, verify};

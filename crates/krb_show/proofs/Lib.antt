@@ -1,4 +1,6 @@
+mod Trees
 pub mod Growing
 pub mod Lines
 pub mod Printable
 pub mod PrintableJson
+mod Walks

@@ -4,7 +4,7 @@ use Rattle.std.specs.List.{flat_map}
 use Rattle.std.specs.Str.{IsUtf8}
 use Rattle.std.proofs.lemmas.List.{append_assoc, append-nil}
 use Rattle.krb_der_core.specs.Encoding.{IsOctets}
-use Rattle.krb_names.specs.declared.kind.Kind.{Kind}
+use Rattle.krb_registry.specs.declared.kind.Kind.{Kind}
 use Rattle.krb_show.specs.declared.escape.Style.TheVariants as style
 use Rattle.krb_show.specs.declared.token.Form.{Form}
 use Rattle.krb_show.specs.declared.token.Form.TheVariants as form

@@ -6,9 +6,9 @@ use Rattle.std.specs.Fmt.{decimal, signed_decimal}
 use Rattle.krb_der_core.specs.Integer.{shortest}
 use Rattle.krb_der_core.specs.BitString.{Bits}
 use Rattle.krb_der_core.specs.GeneralizedTime.{Time}
-use Rattle.krb_names.specs.declared.kind.Kind.{Kind}
-use Rattle.krb_names.specs.Names.{table, mechanisms, IsRow, IsMechanism}
-use Rattle.krb_view.specs.Flags.{is_set}
+use Rattle.krb_registry.specs.declared.kind.Kind.{Kind}
+use Rattle.krb_registry.specs.Names.{table, mechanisms, IsRow, IsMechanism}
+use Rattle.krb_types.specs.Flags.{is_set}
 use Rattle.krb_show.specs.declared.token.Form.TheVariants as form
 use Rattle.krb_show.specs.Tokens.{Label, Token, adds, leaf}
 

@@ -1,3 +1,5 @@
+pub mod Names
+pub mod Tree
 pub mod Tokens
 pub mod Pages
 pub mod Leaves
@@ -5,3 +7,4 @@ pub mod Text
 pub mod Json
 pub mod Opened
 pub mod Told
+pub mod Walk

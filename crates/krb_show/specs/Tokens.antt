@@ -1,6 +1,6 @@
 -- Labels, tokens and pages.
 use Rattle.std.specs.Prelude.{◌≡◌, ℕ, Bool, true, false, List, [], ◌∷◌, ◌++◌, Option, None, Some, take, length}
-use Rattle.krb_names.specs.declared.kind.Kind.{Kind}
+use Rattle.krb_registry.specs.declared.kind.Kind.{Kind}
 use Rattle.krb_show.specs.declared.token.Form.{Form}
 
 -- what a value is called, what a number in it is of, and whether it is an item of a list

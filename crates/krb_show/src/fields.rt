@@ -93,7 +93,7 @@ fn show_to_end<F: ShowFields>(
 
 /// The fields of a struct with their labels, lent for showing: `show_fields!(Message; self; "etype" EncryptionType = etype, "kvno" =
 /// kvno)`. First stands the `K` of the fields' `Show<K>`, then the value, then of each field the name that the standard gives it, the
-/// `Kind` of its numbers where they have names, and behind `=` the field. The caller's crate lists `krb_names`. The fields are pairs, those
+/// `Kind` of its numbers where they have names, and behind `=` the field. The caller's crate lists `krb_registry`. The fields are pairs, those
 /// before in the first half.
 #[macro_export]
 macro_rules! show_fields {
@@ -112,7 +112,7 @@ macro_rules! show_fields {
         $crate::Field {
             label: $crate::Label {
                 text: $name,
-                kind: Some(krb_names::Kind::$kind),
+                kind: Some(krb_registry::Kind::$kind),
                 is_item: false,
             },
             value: &$value.$field,

@@ -2,12 +2,12 @@
 
 ghost use Rattle.std.specs.Prelude.{◌≡◌, ◌++◌, ◌∷◌, [], List, ℕ, ℤ, pos, Some, All, IfOk, OnOk};
 ghost use Rattle.std.specs.Fmt.{decimal};
-ghost use Rattle.krb_names.specs.Names.{table, IsRow};
+ghost use Rattle.krb_registry.specs.Names.{table, IsRow};
 ghost use Rattle.krb_show.specs.Leaves.{adds_flag, AreFlags, IsFlagName, IsFlagsNote, IsIdentifierNote, IsNote};
 
 use krb_der::BitStringAsn1;
-use krb_names::{Kind, mechanism_name, name};
-use krb_view::is_set;
+use krb_registry::{Kind, mechanism_name, name};
+use krb_types::view::is_set;
 use std::alloc::{AllocError, Global};
 
 /// How many flags have names (RFC 4120, 5.2.8).

@@ -3,7 +3,7 @@
 ghost use Rattle.std.specs.Prelude.{◌≡◌, ℕ, Bool, true, false, Option, None, Some, List, [], ◌∷◌, ◌++◌, take, length, OnOk, OnErr};
 ghost use Rattle.krb_show.specs.Tokens.{Label, Token, item_of, mark, Begins, adds};
 
-use krb_names::Kind;
+use krb_registry::Kind;
 use std::alloc::{AllocError, Global};
 use std::marker::Model;
 

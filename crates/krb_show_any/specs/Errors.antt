@@ -7,20 +7,20 @@ use Rattle.krb_der_core.specs.declared.error.Asn1DerError.{Asn1DerError}
 use Rattle.krb_der_core.specs.declared.error.Asn1DerError.TheVariants as errors
 use Rattle.krb_gss_tokens.specs.declared.error.GssApiMessageError.{GssApiMessageError}
 use Rattle.krb_gss_tokens.specs.declared.error.GssApiMessageError.TheVariants as gss
-use Rattle.krb_ccache.specs.declared.error.CcacheError.{CcacheError}
-use Rattle.krb_ccache.specs.declared.error.CcacheError.TheVariants as ccache
-use Rattle.krb_fields.specs.declared.error.FieldError.{FieldError}
-use Rattle.krb_fields.specs.declared.error.FieldError.TheVariants as field
-use Rattle.krb_keytab.specs.declared.error.KeytabError.{KeytabError}
-use Rattle.krb_keytab.specs.declared.error.KeytabError.TheVariants as keytab
-use Rattle.krb_msg_password.specs.declared.error.ReadFrameError.{ReadFrameError}
-use Rattle.krb_msg_password.specs.declared.error.ReadFrameError.TheVariants as unread
+use Rattle.krb_files.specs.declared.ccache.error.CcacheError.{CcacheError}
+use Rattle.krb_files.specs.declared.ccache.error.CcacheError.TheVariants as ccache
+use Rattle.krb_files.specs.declared.fields.error.FieldError.{FieldError}
+use Rattle.krb_files.specs.declared.fields.error.FieldError.TheVariants as field
+use Rattle.krb_files.specs.declared.keytab.error.KeytabError.{KeytabError}
+use Rattle.krb_files.specs.declared.keytab.error.KeytabError.TheVariants as keytab
+use Rattle.krb_messages.specs.declared.kpasswd.error.ReadFrameError.{ReadFrameError}
+use Rattle.krb_messages.specs.declared.kpasswd.error.ReadFrameError.TheVariants as unread
 use Rattle.krb_pac.specs.declared.error.PacError.{PacError}
 use Rattle.krb_pac.specs.declared.error.PacError.TheVariants as pac
 use Rattle.krb_show_files.specs.declared.error.FilePageError.{FilePageError}
 use Rattle.krb_show_files.specs.declared.error.FilePageError.TheVariants as files
-use Rattle.krb_show_password.specs.declared.error.PasswordFrameError.{PasswordFrameError}
-use Rattle.krb_show_password.specs.declared.error.PasswordFrameError.TheVariants as frame
+use Rattle.krb_show_tokens.specs.declared.kpasswd.error.PasswordFrameError.{PasswordFrameError}
+use Rattle.krb_show_tokens.specs.declared.kpasswd.error.PasswordFrameError.TheVariants as frame
 use Rattle.krb_show_any.specs.declared.error.PageError.{PageError}
 use Rattle.krb_show_any.specs.declared.error.PageError.TheVariants as page
 

@@ -1,9 +1,9 @@
 -- What is told of octets that are no DER.
 use Rattle.std.specs.Prelude.{◌≡◌, List, ℕ, [], Vec, Result, IfOk, IfErr, MatchResult, codes}
 use Rattle.std.specs.declared.alloc.Global.{Global}
-use Rattle.krb_ccache.specs.Ccache.{Ccache, CcacheIs}
-use Rattle.krb_keytab.specs.Entry.{Entry}
-use Rattle.krb_keytab.specs.Keytab.{KeytabIs}
+use Rattle.krb_files.specs.Ccache.{Ccache, CcacheIs}
+use Rattle.krb_files.specs.Entry.{Entry}
+use Rattle.krb_files.specs.Keytab.{KeytabIs}
 use Rattle.krb_pac.specs.Layout.{Buffer, PacIs}
 use Rattle.krb_pac.specs.Rejected.{PacRejected}
 use Rattle.krb_pac.specs.declared.error.PacError.{PacError}
@@ -15,7 +15,7 @@ use Rattle.krb_show_files.specs.declared.error.FilePageError.TheVariants as file
 use Rattle.krb_show_formats.specs.Pac.{directory_of}
 use Rattle.krb_show_any.specs.declared.error.PageError.{PageError}
 use Rattle.krb_show_any.specs.declared.error.PageError.TheVariants as page_errors
-use Rattle.krb_tree.specs.Tree.{IsTreePage}
+use Rattle.krb_show.specs.Tree.{IsTreePage}
 
 -- Any octets have a page as a tree of elements (X.690, 8.1), but for want of memory.
 abbrev pub IsTreeTold : List ℕ → Result (Vec Token Global) PageError → Type 0

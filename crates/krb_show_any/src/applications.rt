@@ -8,15 +8,16 @@ ghost use Rattle.krb_show_any.specs.Kinds.{is_application};
 
 use crate::pages::Pages;
 use krb_der::{Asn1DerError, DerEncode};
-use krb_msg::messages::KrbError;
-use krb_msg_app::messages::{ApRep, ApReq, KrbCred, KrbPriv};
-use krb_msg_kdc::messages::{AsRep, AsReq, EncAsRepPart, EncTgsRepPart, TgsRep, TgsReq};
-use krb_msg_parts::data_types::{
+use krb_enc_parts::data_types::{
     Authenticator, EncApRepPart, EncKrbCredPart, EncKrbPrivPart, EncTicketPart,
 };
-use krb_msg_types::data_types::Ticket;
+use krb_messages::messages::{
+    ApRep, ApReq, AsRep, AsReq, EncAsRepPart, EncTgsRepPart, KrbCred, KrbError, KrbPriv, TgsRep,
+    TgsReq,
+};
 use krb_show::{Page, Show};
 use krb_show_messages::{Message, page_of_message, page_of_part};
+use krb_types::data_types::Ticket;
 use std::alloc::Global;
 
 /// Messages and opened parts (RFC 4120, 5.3 to 5.9) by their first octet.

@@ -7,20 +7,18 @@ ghost use Rattle.krb_show_messages.specs.declared.kinds.DataKind.TheVariants as 
 
 use crate::pages::Pages;
 use krb_der::{Asn1DerError, Asn1SequenceOf, DerEncode};
-use krb_msg::messages::KdcProxyMessage;
-use krb_msg_app::messages::{TgtRep, TgtReq};
-use krb_msg_kdc::messages::KdcReqBody;
-use krb_msg_parts::data_types::KrbCredInfo;
-use krb_msg_types::data_types::{
-    AuthorizationData, ChangePasswdData, Checksum, EncryptedData, EncryptionKey, EtypeInfo2,
-    EtypeInfo2Entry, HostAddress, HostAddresses, KerbAdRestrictionEntry, KerbErrorData,
-    KerbPaPacRequest, LastReq, PaData, PaEncTsEnc, PaPacOptions, PrincipalName, TransitedEncoding,
-};
+use krb_enc_parts::data_types::KrbCredInfo;
+use krb_messages::messages::{KdcProxyMessage, KdcReqBody, TgtRep, TgtReq};
 use krb_pkinit::pkinit::{
     KrbFinished, Pku2uNegoBody, Pku2uNegoRep, Pku2uNegoReq, Pku2uNegoReqMetadata,
 };
 use krb_show::{Page, Show};
 use krb_show_messages::{DataKind, Message, page_of_data};
+use krb_types::data_types::{
+    AuthorizationData, ChangePasswdData, Checksum, EncryptedData, EncryptionKey, EtypeInfo2,
+    EtypeInfo2Entry, HostAddress, HostAddresses, KerbAdRestrictionEntry, KerbErrorData,
+    KerbPaPacRequest, LastReq, PaData, PaEncTsEnc, PaPacOptions, PrincipalName, TransitedEncoding,
+};
 use std::alloc::Global;
 
 /// METHOD-DATA (RFC 4120, 5.9.1).

@@ -8,7 +8,7 @@ ghost use Rattle.krb_gss_tokens.specs.declared.error.GssApiMessageError.{GssApiM
 ghost use Rattle.krb_pac.specs.declared.error.PacError.{PacError};
 ghost use Rattle.krb_show.specs.Tokens.{Token};
 ghost use Rattle.krb_show_files.specs.declared.error.FilePageError.{FilePageError};
-ghost use Rattle.krb_show_password.specs.declared.error.PasswordFrameError.{PasswordFrameError};
+ghost use Rattle.krb_show_tokens.specs.declared.kpasswd.error.PasswordFrameError.{PasswordFrameError};
 ghost use Rattle.krb_show_any.specs.Told.{IsPacTold, IsTreeTold};
 ghost use Rattle.krb_show_any.specs.Kinds.{by_kind};
 ghost use Rattle.krb_show_any.specs.Errors.{of_der, of_exchange, of_file, of_frame, of_pac, of_token};
@@ -25,13 +25,12 @@ use crate::password_frames::PasswordFrames;
 use crate::tokens::Tokens;
 use krb_der::Asn1DerError;
 use krb_gss_tokens::GssApiMessageError;
-use krb_show::Page;
+use krb_show::{Page, page_of_tree};
 use krb_show_files::FilePageError;
 use krb_show_formats::page_of_pac;
 use krb_show_messages::DataKind;
-use krb_show_password::PasswordFrameError;
 use krb_show_pkinit::CertificateKind;
-use krb_tree::page_of_tree;
+use krb_show_tokens::kpasswd::PasswordFrameError;
 use std::alloc::Global;
 use std::io;
 

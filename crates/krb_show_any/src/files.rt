@@ -5,10 +5,10 @@ ghost use Rattle.krb_show_any.specs.Told.{IsCcacheTold, IsKeytabTold};
 
 use crate::pages::Pages;
 use krb_der::DerEncode;
-use krb_msg_types::data_types::Ticket;
 use krb_show::{Page, Show};
 use krb_show_files::{FilePageError, page_of_ccache, page_of_keytab};
 use krb_show_messages::Message;
+use krb_types::data_types::Ticket;
 use std::alloc::Global;
 
 /// Keytabs of version 2 (MIT Kerberos, "Keytab file format").

@@ -2,18 +2,17 @@
 
 ghost use Rattle.std.specs.Prelude.{codes, drop};
 ghost use Rattle.byteorder.specs.Endian.{big_number};
-ghost use Rattle.krb_msg_password.specs.Frame.{HoldsValues, IsFrameOf};
-ghost use Rattle.krb_msg_password.specs.Rejected.{FrameRejected};
+ghost use Rattle.krb_messages.specs.Frame.{HoldsValues, IsFrameOf};
+ghost use Rattle.krb_messages.specs.Rejected.{FrameRejected};
 ghost use Rattle.krb_show.specs.Tokens.{plain};
-ghost use Rattle.krb_show_password.specs.Frame.{IsFrameTold, frame_of};
+ghost use Rattle.krb_show_tokens.specs.Frame.{IsFrameTold, frame_of};
 
 use crate::pages::Pages;
 use krb_der::DerEncode;
-use krb_msg::messages::ApMessage;
-use krb_msg_app::messages::{ApRep, ApReq, KrbPriv};
+use krb_messages::messages::{ApMessage, ApRep, ApReq, KrbPriv};
 use krb_show::{Page, Show};
 use krb_show_messages::Message;
-use krb_show_password::{PasswordFrameError, page_of_password_frame};
+use krb_show_tokens::kpasswd::{PasswordFrameError, page_of_password_frame};
 use std::alloc::Global;
 
 /// Frames in which passwords are changed (RFC 3244, 2).

@@ -9,7 +9,7 @@ ghost use Rattle.krb_show_tokens.specs.Told.{IsMicTold, IsToldBy, IsWrapTold};
 
 use crate::pages::Pages;
 use krb_der::{DerEncode, ExplicitContextTag0};
-use krb_gss_negotiation::gss_api::{ApplicationTag0, GssApiNegInit, NegTokenInit, NegTokenTarg1};
+use krb_gss_tokens::gss_api::{ApplicationTag0, GssApiNegInit, NegTokenInit, NegTokenTarg1};
 use krb_gss_tokens::{GssApiMessageError, MicToken, WrapToken};
 use krb_show::{Page, Show};
 use krb_show_tokens::{

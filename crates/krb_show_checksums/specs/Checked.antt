@@ -1,7 +1,7 @@
 -- What is inserted behind a ticket that a key opens.
 use Rattle.std.specs.Prelude.{◌≡◌, ◌≢◌, ◌⊎◌, ℕ, List, []}
 use Rattle.krb_show.specs.Tokens.{Token}
-use Rattle.krb_show_insertions.specs.Walk.{walk_of}
+use Rattle.krb_show.specs.Walk.{walk_of}
 use Rattle.krb_show_opened.specs.Keys.{NamedKey, HasNoValue, IsValueUnder}
 use Rattle.krb_show_opened.specs.Opened.{Way, opened_before}
 use Rattle.krb_show_opened.specs.Usages.{integer_of}

@@ -1,8 +1,8 @@
 -- The checksums of a PAC, each with what it is over (MS-PAC 2.8.1, 2.8.2 and 2.8.4).
 use Rattle.std.specs.Prelude.{ℕ, List, Option, Some, None}
 use Rattle.std.specs.Option.{option_map}
-use Rattle.krb_pac_checksums.specs.Verdict.{IsVerdict}
-use Rattle.krb_pac_checksums.specs.declared.verdict.Verdict.{Verdict}
+use Rattle.krb_pac_signatures.specs.Verdict.{IsVerdict}
+use Rattle.krb_pac_signatures.specs.declared.verdict.Verdict.{Verdict}
 use Rattle.krb_pac_signatures.specs.Signature.{signature_type, signature}
 use Rattle.krb_pac_signatures.specs.Signatures.{Placed, Signatures, full_message, server_message}
 

@@ -1,7 +1,7 @@
 -- Keys under which a checksum holds, and keys among keys.
 use Rattle.std.specs.Prelude.{◌≡◌, List, ◌∷◌, ◌++◌}
 use Rattle.std.specs.List.{AllByRecursion}
-use Rattle.krb_pac_checksums.specs.declared.verdict.Verdict.TheVariants as verdict
+use Rattle.krb_pac_signatures.specs.declared.verdict.Verdict.TheVariants as verdict
 use Rattle.krb_show_opened.specs.Keys.{NamedKey}
 use Rattle.krb_show_checksums.specs.Checksums.{Checksum, HasVerdict}
 

@@ -1,8 +1,8 @@
 -- What the checksum of a ticket is over (MS-PAC 2.8.3).
 use Rattle.std.specs.Prelude.{◌≡◌, ◌≢◌, ◌⊎◌, ℕ, pos, List, [], ◌∷◌, ◌++◌, Some, unwrap_or}
 use Rattle.std.specs.List.{AllByRecursion}
-use Rattle.krb_msg_parts.specs.declared.data_types.ticket_part.EncTicketPartInner.{EncTicketPartInner}
-use Rattle.krb_msg_types.specs.declared.data_types.authorization_data.AuthorizationDataInner.{AuthorizationDataInner}
+use Rattle.krb_enc_parts.specs.declared.data_types.ticket_part.EncTicketPartInner.{EncTicketPartInner}
+use Rattle.krb_types.specs.declared.data_types.authorization_data.AuthorizationDataInner.{AuthorizationDataInner}
 use Rattle.krb_show.specs.Opened.{IsNone, IsOf}
 
 -- ---- the first PAC of a ticket

@@ -1,7 +1,7 @@
 -- What is told of the PAC of a ticket.
 use Rattle.std.specs.Prelude.{◌≡◌, ◌⊎◌, ℕ, List, codes}
-use Rattle.krb_msg_parts.specs.declared.data_types.ticket_part.EncTicketPartInner.{EncTicketPartInner}
-use Rattle.krb_msg_types.specs.declared.data_types.authorization_data.AuthorizationDataInner.{AuthorizationDataInner}
+use Rattle.krb_enc_parts.specs.declared.data_types.ticket_part.EncTicketPartInner.{EncTicketPartInner}
+use Rattle.krb_types.specs.declared.data_types.authorization_data.AuthorizationDataInner.{AuthorizationDataInner}
 use Rattle.krb_pac_signatures.specs.Signatures.{Signatures, SignaturesOf}
 use Rattle.krb_pac_signatures.specs.declared.error.PacSignatureError.{PacSignatureError}
 use Rattle.krb_show.specs.Pages.{◌then◌}

@@ -1,10 +1,10 @@
 -- What is told of the checksums of a PAC.
 use Rattle.std.specs.Prelude.{◌≡◌, ◌≢◌, ◌⊎◌, ℕ, List, Option, Some, None, codes}
-use Rattle.krb_crypto_suite.specs.Suites.{checksum_type, NoSuite}
-use Rattle.krb_crypto_suite.specs.declared.checksum_suite.ChecksumSuite.{ChecksumSuite}
+use Rattle.krb_crypto.specs.Suites.{checksum_type, NoSuite}
+use Rattle.krb_crypto.specs.declared.checksum_suite.ChecksumSuite.{ChecksumSuite}
 use Rattle.krb_pac.specs.declared.error.PacError.TheVariants as pac
-use Rattle.krb_pac_checksums.specs.declared.verdict.Verdict.{Verdict}
-use Rattle.krb_pac_checksums.specs.declared.verdict.Verdict.TheVariants as verdict
+use Rattle.krb_pac_signatures.specs.declared.verdict.Verdict.{Verdict}
+use Rattle.krb_pac_signatures.specs.declared.verdict.Verdict.TheVariants as verdict
 use Rattle.krb_pac_signatures.specs.Signature.{signature_type}
 use Rattle.krb_pac_signatures.specs.Signatures.{Signatures, SignaturesOf, SignaturesRejected}
 use Rattle.krb_pac_signatures.specs.declared.error.PacSignatureError.{PacSignatureError}

@@ -2,11 +2,10 @@
 
 ghost use Rattle.std.specs.Prelude.{◌≡◌, IfOk, MatchBool};
 ghost use Rattle.krb_pac_signatures.specs.Signature.{signature_type};
-ghost use Rattle.krb_pac_checksums.specs.declared.verdict.Verdict.TheVariants as verdict;
+ghost use Rattle.krb_pac_signatures.specs.declared.verdict.Verdict.TheVariants as verdict;
 ghost use Rattle.krb_show_checksums.specs.Checksums.{HasVerdict, full_checksum, kdc_checksum, over, server_checksum};
 
-use krb_pac_checksums::{Verdict, verify};
-use krb_pac_signatures::{PacSignatures, SignatureView};
+use krb_pac_signatures::{PacSignatures, SignatureView, Verdict, verify};
 use std::alloc::{AllocError, Global};
 use std::marker::Model;
 

@@ -1,7 +1,7 @@
 //! What the checksum of a ticket is over (MS-PAC 2.8.3).
 
 ghost use Rattle.std.specs.Prelude.{◌≡◌, ◌↔◌, ◌++◌, ◌∷◌, pos, IfOk, IsTrue, MatchOption, OnOk};
-ghost use Rattle.krb_msg_types.specs.declared.data_types.authorization_data.AuthorizationDataInner.{AuthorizationDataInner};
+ghost use Rattle.krb_types.specs.declared.data_types.authorization_data.AuthorizationDataInner.{AuthorizationDataInner};
 ghost use Rattle.krb_show_checksums.specs.Message.{HoldsNoPac, IsFirst, IsTicketMessage, IsZeroed, IsZeroedAmong, NoneHoldsPac, NoneIs};
 ghost use Rattle.krb_show_checksums.specs.Message.{with_data, with_elements};
 
@@ -9,9 +9,9 @@ use krb_der::{
     Asn1SequenceOf, Der, DerEncode, ExplicitContextTag1, ExplicitContextTag10, OctetStringAsn1,
     Optional, copy, to_vec,
 };
-use krb_msg_parts::data_types::EncTicketPart;
-use krb_msg_types::data_types::{AuthorizationData, AuthorizationDataInner};
+use krb_enc_parts::data_types::EncTicketPart;
 use krb_show::{is_number, open};
+use krb_types::data_types::{AuthorizationData, AuthorizationDataInner};
 use std::alloc::{AllocError, Global};
 
 /// An equal value.

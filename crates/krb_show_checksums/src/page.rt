@@ -4,8 +4,7 @@ ghost use Rattle.std.specs.Prelude.{◌≡◌, IfOk};
 ghost use Rattle.krb_show_checksums.specs.Checked.{IsInserted, is_checked};
 
 use crate::parts::CheckedParts;
-use krb_show::{Page, Token};
-use krb_show_insertions::{Insert, page_with};
+use krb_show::{Insert, Page, Token, page_with};
 use krb_show_opened::{Key, OpensParts, insert_before};
 use std::alloc::{AllocError, Global};
 use std::marker::Model;

@@ -6,7 +6,7 @@ ghost use Rattle.krb_show_checksums.specs.Checked.{if_ticket, opened_and_told, t
 
 use crate::ticket::Tells;
 use krb_der::{Der, DerEncode};
-use krb_msg_parts::data_types::EncTicketPart;
+use krb_enc_parts::data_types::EncTicketPart;
 use krb_show::Page;
 use krb_show_opened::{Key, MessageParts, OpensParts, Usage, value_under};
 use std::alloc::{AllocError, Global};

@@ -14,11 +14,11 @@ use crate::message::{Zeroed, zeroed_of};
 use crate::pac::{tell_pac, words_of};
 use crate::told::tell_under_keys;
 use krb_der::DerEncode;
-use krb_msg_parts::data_types::EncTicketPart;
-use krb_msg_types::data_types::AuthorizationData;
+use krb_enc_parts::data_types::EncTicketPart;
 use krb_pac_signatures::PacSignatures;
 use krb_show::{Label, Page};
 use krb_show_opened::Key;
+use krb_types::data_types::AuthorizationData;
 use std::alloc::{AllocError, Global};
 
 /// A value of which something is told under keys.

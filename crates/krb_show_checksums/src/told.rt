@@ -1,9 +1,9 @@
 //! What is told of one checksum.
 
 ghost use Rattle.std.specs.Prelude.{◌≡◌, ◌⊎◌, MatchBool, OnOk};
-ghost use Rattle.krb_crypto_suite.specs.Suites.{checksum_type, NoSuite};
-ghost use Rattle.krb_crypto_suite.specs.declared.checksum_suite.ChecksumSuite.{ChecksumSuite};
-ghost use Rattle.krb_pac_checksums.specs.declared.verdict.Verdict.TheVariants as verdict;
+ghost use Rattle.krb_crypto.specs.Suites.{checksum_type, NoSuite};
+ghost use Rattle.krb_crypto.specs.declared.checksum_suite.ChecksumSuite.{ChecksumSuite};
+ghost use Rattle.krb_pac_signatures.specs.declared.verdict.Verdict.TheVariants as verdict;
 ghost use Rattle.krb_show.specs.Leaves.{text_of};
 ghost use Rattle.krb_show.specs.Pages.{◌then◌};
 ghost use Rattle.krb_show.specs.Tokens.{Begins};
@@ -11,8 +11,8 @@ ghost use Rattle.krb_show_checksums.specs.Told.{told, under_key, under_keys, und
 
 use crate::checksum::Checksum;
 use crate::holders::{first_holder, is_one_of};
-use krb_crypto_suite::ChecksumSuite;
-use krb_pac_checksums::Verdict;
+use krb_crypto::ChecksumSuite;
+use krb_pac_signatures::Verdict;
 use krb_show::{Label, Page, show_text, show_word};
 use krb_show_opened::Key;
 use std::alloc::{AllocError, Global};

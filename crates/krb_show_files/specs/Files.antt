@@ -1,21 +1,21 @@
 -- The files of MIT Kerberos as tokens, and which octets are none.
 use Rattle.std.specs.Prelude.{◌≡◌, ◌≢◌, ℕ, pos, List, Err, ◌⊎◌, codes}
 use Rattle.byteorder.specs.Endian.{big_bytes}
-use Rattle.krb_ccache.specs.Ccache.{Ccache, CcacheIs, Credential, TypedPrincipal, version_octet}
-use Rattle.krb_ccache.specs.Reading.{ccache_of as ccache_read}
+use Rattle.krb_files.specs.Ccache.{Ccache, CcacheIs, Credential, TypedPrincipal, version_octet}
+use Rattle.krb_files.specs.CcacheReading.{ccache_of as ccache_read}
 use Rattle.krb_der_core.specs.BitString.{Bits}
 use Rattle.krb_der_core.specs.GeneralizedTime.{Time, IsRealTime}
-use Rattle.krb_fields.specs.Reading.{Typed}
-use Rattle.krb_keytab.specs.Entry.{Entry}
-use Rattle.krb_keytab.specs.Keytab.{KeytabIs}
-use Rattle.krb_keytab.specs.Reading.{keytab_of as keytab_read}
-use Rattle.krb_names.specs.declared.kind.Kind.TheVariants.{AddressType, AuthorizationDataType, EncryptionType, NameType, TicketFlag}
+use Rattle.krb_files.specs.FieldReading.{Typed}
+use Rattle.krb_files.specs.Entry.{Entry}
+use Rattle.krb_files.specs.Keytab.{KeytabIs}
+use Rattle.krb_files.specs.KeytabReading.{keytab_of as keytab_read}
+use Rattle.krb_registry.specs.declared.kind.Kind.TheVariants.{AddressType, AuthorizationDataType, EncryptionType, NameType, TicketFlag}
 use Rattle.krb_show.specs.Leaves.{flags_of, number_of, octets_of, text_of, time_of}
 use Rattle.krb_show.specs.Pages.{◌then◌, list_of, struct_of}
 use Rattle.krb_show.specs.Tokens.{Label, Token, of_kind, plain}
 use Rattle.krb_show_files.specs.declared.error.FilePageError.{FilePageError}
 use Rattle.krb_show_files.specs.declared.error.FilePageError.TheVariants as errors
-use Rattle.krb_view.specs.Times.{unix_seconds}
+use Rattle.krb_types.specs.Times.{unix_seconds}
 
 -- ---- values of both files (MIT Kerberos, "Keytab file format" and "Credential cache file format")
 

@@ -1,7 +1,7 @@
 //! Credential caches (MIT Kerberos, "Credential cache file format").
 
 ghost use Rattle.std.specs.Prelude.{◌≡◌, [], List, IfOk, IfErr, OnOk, OnErr, MatchResult, pos, codes};
-ghost use Rattle.krb_ccache.specs.Ccache.{Ccache, CcacheIs, version_octet};
+ghost use Rattle.krb_files.specs.Ccache.{Ccache, CcacheIs, version_octet};
 ghost use Rattle.krb_show.specs.Leaves.{number_of};
 ghost use Rattle.krb_show.specs.Opened.{opened_by};
 ghost use Rattle.krb_show.specs.Pages.{◌then◌, list_of, struct_of};
@@ -13,12 +13,12 @@ use crate::principal::PrincipalFields;
 use crate::ticket::{Addresses, AuthorizationElements, Key, TicketFlags, TicketOctets};
 use crate::values::{Items, Seconds};
 use crate::{File, HeaderField};
-use krb_ccache::{CcacheVersion, CcacheView, CredentialView, Times};
 use krb_der::DerEncode;
-use krb_fields::TypedOctets;
-use krb_msg_types::data_types::Ticket;
+use krb_files::ccache::{CcacheVersion, CcacheView, CredentialView, Times};
+use krb_files::fields::TypedOctets;
 use krb_show::{Field, Label, Page, Show, ShowFields, show_fields, show_struct};
 use krb_show_messages::Message;
+use krb_types::data_types::Ticket;
 use std::alloc::{AllocError, Global};
 use std::marker::PhantomData;
 

@@ -3,8 +3,8 @@
 ghost use Rattle.std.specs.Prelude.{◌≡◌};
 ghost use Rattle.krb_show_files.specs.declared.error.FilePageError.TheVariants as errors;
 
-use krb_ccache::CcacheError;
-use krb_keytab::KeytabError;
+use krb_files::ccache::CcacheError;
+use krb_files::keytab::KeytabError;
 use std::alloc::AllocError;
 use thiserror::Error;
 

@@ -1,16 +1,16 @@
 //! Keytabs (MIT Kerberos, "Keytab file format").
 
 ghost use Rattle.std.specs.Prelude.{◌≡◌, [], List, IfOk, IfErr, MatchResult, codes};
-ghost use Rattle.krb_keytab.specs.Entry.{Entry};
-ghost use Rattle.krb_keytab.specs.Keytab.{KeytabIs};
+ghost use Rattle.krb_files.specs.Entry.{Entry};
+ghost use Rattle.krb_files.specs.Keytab.{KeytabIs};
 ghost use Rattle.krb_show.specs.Tokens.{plain};
 ghost use Rattle.krb_show_files.specs.Files.{IsNoKeytab, entry_of, keytab_of};
 
 use crate::File;
 use crate::error::FilePageError;
 use crate::values::{Realm, Seconds};
-use krb_fields::ComponentsView;
-use krb_keytab::{EntryView, KeytabView};
+use krb_files::fields::ComponentsView;
+use krb_files::keytab::{EntryView, KeytabView};
 use krb_show::{Label, Page, Show, show_fields, show_list, show_struct};
 use std::alloc::{AllocError, Global};
 

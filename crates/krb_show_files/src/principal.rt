@@ -5,8 +5,8 @@ ghost use Rattle.krb_show_files.specs.Files.{principal_of};
 
 use crate::File;
 use crate::values::Realm;
-use krb_ccache::CcachePrincipalView;
-use krb_fields::ComponentsView;
+use krb_files::ccache::CcachePrincipalView;
+use krb_files::fields::ComponentsView;
 use krb_show::{Label, Page, Show, show_fields, show_struct};
 use std::alloc::{AllocError, Global};
 use std::marker::Model;
@@ -20,7 +20,7 @@ pub(crate) struct PrincipalFields<'a> {
 }
 
 impl<'a> Model for PrincipalFields<'a> {
-    ghost use Rattle.krb_ccache.specs.Ccache.{TypedPrincipal};
+    ghost use Rattle.krb_files.specs.Ccache.{TypedPrincipal};
 
     ghost Value = { TypedPrincipal };
 

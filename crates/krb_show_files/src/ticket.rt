@@ -9,10 +9,10 @@ ghost use Rattle.krb_show_files.specs.Files.{address_of, authorization_element_o
 use crate::{Address, AuthorizationElement, File, HeaderField};
 use byteorder::{BigEndian, ByteOrder};
 use krb_der::{BitStringAsn1, DerEncode};
-use krb_fields::{TypedListView, TypedOctets};
-use krb_msg_types::data_types::Ticket;
+use krb_files::fields::{TypedListView, TypedOctets};
 use krb_show::{Label, Page, Show, show_fields, show_list, show_opened, show_struct};
 use krb_show_messages::Message;
+use krb_types::data_types::Ticket;
 use std::alloc::{AllocError, Global};
 
 /// The fields of octets with their type.

@@ -6,9 +6,9 @@ ghost use Rattle.krb_show.specs.Pages.{list_of};
 ghost use Rattle.krb_show_files.specs.Files.{texts_of, time_or_number_of};
 
 use crate::{File, Text};
-use krb_fields::ComponentsView;
+use krb_files::fields::ComponentsView;
 use krb_show::{Label, Page, Show, ShowFields, show_list, show_octets, show_text};
-use krb_view::time_of_unix_seconds;
+use krb_types::view::time_of_unix_seconds;
 use std::alloc::{AllocError, Global};
 use std::marker::{Model, PhantomData};
 

@@ -9,7 +9,7 @@ use Rattle.std.specs.declared.io.ErrorKind.TheVariants.{InvalidData}
 use Rattle.byteorder.specs.Endian.{little_bytes, little_number}
 use Rattle.uuid.specs.Parts.{swap_fields}
 use Rattle.uuid.specs.Text.{hyphenated_text, lower}
-use Rattle.krb_names.specs.declared.kind.Kind.TheVariants.{ChecksumType}
+use Rattle.krb_registry.specs.declared.kind.Kind.TheVariants.{ChecksumType}
 use Rattle.krb_negoex.specs.Layouts.{Layout}
 use Rattle.krb_negoex.specs.Rejected.{IsMemory}
 use Rattle.krb_negoex.specs.Types.{type_code}

@@ -2,7 +2,7 @@
 use Rattle.std.specs.Prelude.{◌≡◌, ◌≢◌, ℕ, pos, ◌-◌, ◌%◌, List, ◌++◌, length, map, replicate, ◌⊎◌, codes}
 use Rattle.std.specs.List.{flat_map}
 use Rattle.byteorder.specs.Endian.{little_bytes}
-use Rattle.krb_names.specs.declared.kind.Kind.TheVariants.{PacBufferType}
+use Rattle.krb_registry.specs.declared.kind.Kind.TheVariants.{PacBufferType}
 use Rattle.krb_pac.specs.Entry.{Entry}
 use Rattle.krb_pac.specs.Kind.{code}
 use Rattle.krb_pac.specs.Layout.{Buffer, PacIs}

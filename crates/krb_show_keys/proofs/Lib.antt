@@ -1,1 +1,3 @@
+mod SaltLists
+mod KeyLists
 mod Walks

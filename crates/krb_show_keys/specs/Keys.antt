@@ -2,12 +2,12 @@
 use Rattle.std.specs.Prelude.{◌≡◌, ℕ, nat_eq, if◌then◌else◌, List, [], ◌∷◌, ◌++◌, length, Option, None, Some, Err, codes}
 use Rattle.std.specs.Fmt.{decimal}
 use Rattle.std.specs.List.{flat_map}
-use Rattle.krb_crypto_suite.specs.BySuite.{key_octets_of}
-use Rattle.krb_crypto_suite.specs.declared.cipher_suite.CipherSuite.{CipherSuite}
+use Rattle.krb_crypto.specs.BySuite.{key_octets_of}
+use Rattle.krb_crypto.specs.declared.cipher_suite.CipherSuite.{CipherSuite}
 use Rattle.krb_input.specs.Forms.{hexadecimal}
-use Rattle.krb_keytab.specs.Entry.{Entry}
-use Rattle.krb_keytab.specs.Keytab.{KeytabIs}
-use Rattle.krb_keytab.specs.Reading.{keytab_of}
+use Rattle.krb_files.specs.Entry.{Entry}
+use Rattle.krb_files.specs.Keytab.{KeytabIs}
+use Rattle.krb_files.specs.KeytabReading.{keytab_of}
 use Rattle.krb_show_opened.specs.Keys.{NamedKey}
 use Rattle.krb_show_keys.specs.Suites.{digits_of, suite_of_number, suite_of_text}
 use Rattle.krb_show_keys.specs.declared.keytab.KeytabKeysError.{KeytabKeysError}

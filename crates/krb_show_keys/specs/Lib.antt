@@ -1,3 +1,5 @@
+pub mod Salts
+pub mod PasswordKeys
 pub mod Hidden
 pub mod Keys
 pub mod Suites

@@ -1,7 +1,7 @@
 -- Suites by number and by name (RFC 3961, 8; RFC 3962, 7; RFC 8009, 7).
 use Rattle.std.specs.Prelude.{ℕ, nat_eq, if◌then◌else◌, List, Option, None, Some, is_some, codes}
-use Rattle.krb_crypto_suite.specs.declared.cipher_suite.CipherSuite.{CipherSuite}
-use Rattle.krb_crypto_suite.specs.declared.cipher_suite.CipherSuite.TheVariants.{Des3CbcSha1Kd, Aes128CtsHmacSha196, Aes256CtsHmacSha196, Aes128CtsHmacSha256128, Aes256CtsHmacSha384192}
+use Rattle.krb_crypto.specs.declared.cipher_suite.CipherSuite.{CipherSuite}
+use Rattle.krb_crypto.specs.declared.cipher_suite.CipherSuite.TheVariants.{Des3CbcSha1Kd, Aes128CtsHmacSha196, Aes256CtsHmacSha196, Aes128CtsHmacSha256128, Aes256CtsHmacSha384192}
 use Rattle.krb_input.specs.Words.{after_text}
 
 -- the suite of an encryption type

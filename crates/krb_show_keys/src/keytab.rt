@@ -2,14 +2,14 @@
 
 ghost use Rattle.std.specs.Prelude.{◌≡◌, ◌++◌, ◌∷◌, List, map, IfOk, IfErr, OnOk};
 ghost use Rattle.std.specs.List.{flat_map};
-ghost use Rattle.krb_keytab.specs.Entry.{Entry};
-ghost use Rattle.krb_keytab.specs.Keytab.{KeytabIs};
+ghost use Rattle.krb_files.specs.Entry.{Entry};
+ghost use Rattle.krb_files.specs.Keytab.{KeytabIs};
 ghost use Rattle.krb_show_keys.specs.Keys.{IsNoKeytab, components_text, entry_name, keys_of_entry};
 ghost use Rattle.krb_show_keys.specs.declared.keytab.KeytabKeysError.TheVariants as errors;
 
 use crate::suites::suite_of_number;
-use krb_fields::ComponentsView;
-use krb_keytab::{EntryView, KeytabError, KeytabView};
+use krb_files::fields::ComponentsView;
+use krb_files::keytab::{EntryView, KeytabError, KeytabView};
 use krb_show_opened::Key;
 use std::alloc::{AllocError, Global};
 use thiserror::Error;

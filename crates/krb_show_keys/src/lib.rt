@@ -2,10 +2,14 @@
 #![tactic(auto)]
 
 mod hidden;
+mod keys;
 mod keytab;
+mod salts;
 mod suites;
 mod text;
 
 pub use hidden::without_keys;
+pub use keys::keys_of_passwords;
 pub use keytab::{KeytabKeysError, keys_of_keytab};
+pub use salts::{MOST_SALTS, salts_of};
 pub use text::key_of_text;

@@ -4,7 +4,7 @@ ghost use Rattle.std.specs.Prelude.{◌≡◌};
 ghost use Rattle.std.specs.Option.{option_copied};
 ghost use Rattle.krb_show_keys.specs.Suites.{digits_of, name_mark, number_mark, suite_of_number, suite_of_text};
 
-use krb_crypto_suite::CipherSuite;
+use krb_crypto::CipherSuite;
 use krb_input::after_text;
 
 /// The suite of an encryption type (RFC 3961, 8; RFC 3962, 7; RFC 8009, 7).

@@ -4,7 +4,7 @@ ghost use Rattle.std.specs.Prelude.{◌≡◌, None, Some, IfOk, MatchOption};
 ghost use Rattle.krb_show_keys.specs.Keys.{key_of_suite, key_in};
 
 use crate::suites::{digits_of, suite_of_text};
-use krb_crypto_suite::{Cipher, CipherSuite};
+use krb_crypto::{Cipher, CipherSuite};
 use krb_input::hexadecimal_of;
 use krb_show_opened::Key;
 use std::alloc::{AllocError, Global};

@@ -1,3 +1,8 @@
+pub mod ChecksumLaws
+pub mod ComponentLaws
+pub mod HeldLaws
+pub mod NumberLaws
+pub mod PacLaws
 pub mod Telling
 pub mod SplitLaws
 pub mod LineLaws

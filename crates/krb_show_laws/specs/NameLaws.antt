@@ -1,10 +1,10 @@
 -- Names beside numbers and flags.
 use Rattle.std.proofs.Common.{◌≡◌, ◌⊎◌, ℕ, suc, zero, ◌<◌, ℤ, Bool, true, false, ◌&&◌, inl, inr, refl, sym, ap, subst, ◌∙◌, List, [], ◌∷◌, ◌++◌, length, get_or, Option, None, Some, arith}
-use Rattle.krb_names.specs.declared.kind.Kind.{Kind}
-use Rattle.krb_names.specs.declared.kind.Kind.TheVariants.{EncryptionType, ChecksumType, NameType, MessageType, ErrorCode, PaDataType, AuthorizationDataType, AddressType}
-use Rattle.krb_names.specs.declared.kind.Kind.TheVariants.{TransitedEncodingType, LastRequestType, TicketFlag, KdcOption, ApOption, KeyUsage, PacBufferType, GssFlag}
-use Rattle.krb_names.specs.declared.kind.Kind.TheVariants.{NegotiationState, ContextFlag, TokenFlag}
-use Rattle.krb_names.specs.Names.{table, IsRow}
+use Rattle.krb_registry.specs.declared.kind.Kind.{Kind}
+use Rattle.krb_registry.specs.declared.kind.Kind.TheVariants.{EncryptionType, ChecksumType, NameType, MessageType, ErrorCode, PaDataType, AuthorizationDataType, AddressType}
+use Rattle.krb_registry.specs.declared.kind.Kind.TheVariants.{TransitedEncodingType, LastRequestType, TicketFlag, KdcOption, ApOption, KeyUsage, PacBufferType, GssFlag}
+use Rattle.krb_registry.specs.declared.kind.Kind.TheVariants.{NegotiationState, ContextFlag, TokenFlag}
+use Rattle.krb_registry.specs.Names.{table, IsRow}
 use Rattle.krb_show.specs.declared.escape.Style.TheVariants as style
 use Rattle.krb_show.specs.Leaves.{IsNote, IsFlagsNote, AreFlags, IsIdentifierNote}
 use Rattle.krb_show.specs.Text.{escaped}

@@ -3,7 +3,7 @@
 use Rattle.std.specs.Prelude.{◌≡◌, ℕ, ◌+◌, ◌%◌, ◌≤◌, pos, nat_eq, Bool, true, false, List, [], ◌∷◌, length, take, drop, slice_index, codes, ◌⊎◌}
 use Rattle.byteorder.specs.Endian.{little_number}
 use Rattle.krb_der_core.specs.BitString.{Bits}
-use Rattle.krb_names.specs.declared.kind.Kind.TheVariants.{GssFlag}
+use Rattle.krb_registry.specs.declared.kind.Kind.TheVariants.{GssFlag}
 use Rattle.krb_show.specs.Leaves.{flags_of, number_of, octets_of}
 use Rattle.krb_show.specs.Pages.{◌then◌, struct_of}
 use Rattle.krb_show.specs.Tokens.{Label, Token, of_kind, plain}

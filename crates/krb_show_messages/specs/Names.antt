@@ -1,6 +1,6 @@
 -- How the components of a name are shown.
 use Rattle.std.specs.Prelude.{ℕ, List, [], ◌∷◌}
-use Rattle.krb_view.specs.Principals.{components_text}
+use Rattle.krb_types.specs.Principals.{components_text}
 use Rattle.krb_show.specs.Leaves.{text_of}
 use Rattle.krb_show.specs.Pages.{list_of}
 use Rattle.krb_show.specs.Tokens.{Label, Token}

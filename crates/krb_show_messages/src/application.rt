@@ -1,15 +1,15 @@
 //! The messages between a client and a service (RFC 4120, 5.5 to 5.8; draft-swift-win2k-krb-user2user-03).
 
 ghost use Rattle.std.specs.Prelude.{codes};
-ghost use Rattle.krb_names.specs.declared.kind.Kind.TheVariants.{ApOption, MessageType};
+ghost use Rattle.krb_registry.specs.declared.kind.Kind.TheVariants.{ApOption, MessageType};
 ghost use Rattle.krb_show.specs.Leaves.{flags_of, number_of};
 ghost use Rattle.krb_show.specs.Pages.{◌then◌, list_of, struct_of};
 ghost use Rattle.krb_show.specs.Tokens.{of_kind, plain};
 
 use crate::Message;
-use krb_msg_app::messages::{ApRepInner, ApReqInner, KrbCredInner, KrbPrivInner, TgtRep, TgtReq};
-use krb_msg_types::data_types::{EncryptedData, PrincipalName, TicketInner};
+use krb_messages::messages::{ApRepInner, ApReqInner, KrbCredInner, KrbPrivInner, TgtRep, TgtReq};
 use krb_show::{Label, Page, Show, show_fields, show_struct};
+use krb_types::data_types::{EncryptedData, PrincipalName, TicketInner};
 use std::alloc::{AllocError, Global};
 
 /// What a KRB-AP-REQ holds (RFC 4120, 5.5.1).

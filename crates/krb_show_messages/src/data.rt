@@ -10,19 +10,17 @@ use crate::errors::MethodData;
 use crate::kinds::DataKind;
 use crate::messages::page_as;
 use krb_der::{Asn1DerError, DerEncode};
-use krb_msg::messages::KdcProxyMessage;
-use krb_msg_app::messages::{TgtRep, TgtReq};
-use krb_msg_kdc::messages::KdcReqBody;
-use krb_msg_parts::data_types::KrbCredInfo;
-use krb_msg_types::data_types::{
-    AuthorizationData, ChangePasswdData, Checksum, EncryptedData, EncryptionKey, EtypeInfo2,
-    EtypeInfo2Entry, HostAddress, HostAddresses, KerbAdRestrictionEntry, KerbErrorData,
-    KerbPaPacRequest, LastReq, PaData, PaEncTsEnc, PaPacOptions, PrincipalName, TransitedEncoding,
-};
+use krb_enc_parts::data_types::KrbCredInfo;
+use krb_messages::messages::{KdcProxyMessage, KdcReqBody, TgtRep, TgtReq};
 use krb_pkinit::pkinit::{
     KrbFinished, Pku2uNegoBody, Pku2uNegoRep, Pku2uNegoReq, Pku2uNegoReqMetadata,
 };
 use krb_show::{Page, Show};
+use krb_types::data_types::{
+    AuthorizationData, ChangePasswdData, Checksum, EncryptedData, EncryptionKey, EtypeInfo2,
+    EtypeInfo2Entry, HostAddress, HostAddresses, KerbAdRestrictionEntry, KerbErrorData,
+    KerbPaPacRequest, LastReq, PaData, PaEncTsEnc, PaPacOptions, PrincipalName, TransitedEncoding,
+};
 use std::alloc::Global;
 
 /// The page of a value of a type that messages share (RFC 4120, 5.2 and 5.3); another kind is refused.

@@ -1,7 +1,7 @@
 //! Errors (RFC 4120, 5.9.1).
 
 ghost use Rattle.std.specs.Prelude.{◌≡◌, OnOk, OnErr, codes, pos};
-ghost use Rattle.krb_names.specs.declared.kind.Kind.TheVariants.{ErrorCode, MessageType};
+ghost use Rattle.krb_registry.specs.declared.kind.Kind.TheVariants.{ErrorCode, MessageType};
 ghost use Rattle.krb_show.specs.Leaves.{number_of, text_of, time_of};
 ghost use Rattle.krb_show.specs.Opened.{opened_by, opened_or};
 ghost use Rattle.krb_show.specs.Pages.{◌then◌, optional_of, struct_of};
@@ -9,9 +9,9 @@ ghost use Rattle.krb_show.specs.Tokens.{Begins, of_kind, plain};
 
 use crate::Message;
 use krb_der::{Asn1SequenceOf, DerEncode, ExplicitContextTag12, OctetStringAsn1, Optional};
-use krb_msg::messages::KrbErrorInner;
-use krb_msg_types::data_types::{KerbErrorData, PaData, PrincipalName};
+use krb_messages::messages::KrbErrorInner;
 use krb_show::{Label, Page, Show, ShowFields, open, show_fields, show_opened, show_struct};
+use krb_types::data_types::{KerbErrorData, PaData, PrincipalName};
 use std::alloc::{AllocError, Global};
 
 /// METHOD-DATA (RFC 4120, 5.9.1).

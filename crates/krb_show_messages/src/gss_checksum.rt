@@ -1,7 +1,7 @@
 //! The checksum of the GSS-API in an authenticator (RFC 4121, 4.1.1).
 
 ghost use Rattle.std.specs.Prelude.{◌≡◌, ◌+◌, ◌≤◌, pos, length, take, drop, codes, IfOk, MatchBool, OnOk, OnErr};
-ghost use Rattle.krb_names.specs.declared.kind.Kind.TheVariants.{GssFlag};
+ghost use Rattle.krb_registry.specs.declared.kind.Kind.TheVariants.{GssFlag};
 ghost use Rattle.krb_show.specs.Leaves.{flags_of, number_of, octets_of};
 ghost use Rattle.krb_show.specs.Opened.{by_number, opened_by};
 ghost use Rattle.krb_show.specs.Tokens.{Begins, of_kind, plain};
@@ -10,8 +10,8 @@ ghost use Rattle.krb_show_messages.specs.GssChecksum.{IsDelegation, IsGssChecksu
 use crate::Message;
 use byteorder::{ByteOrder, LittleEndian};
 use krb_der::{BitStringAsn1, DerEncode, IntegerAsn1};
-use krb_msg_app::messages::KrbCred;
-use krb_names::Kind;
+use krb_messages::messages::KrbCred;
+use krb_registry::Kind;
 use krb_show::{
     Label, OpensValues, Page, Show, ShowFields, is_number, show_octets, show_opened, show_struct,
 };

@@ -1,15 +1,15 @@
 //! The messages of a KDC (RFC 4120, 5.4).
 
 ghost use Rattle.std.specs.Prelude.{codes};
-ghost use Rattle.krb_names.specs.declared.kind.Kind.TheVariants.{EncryptionType, KdcOption, MessageType};
+ghost use Rattle.krb_registry.specs.declared.kind.Kind.TheVariants.{EncryptionType, KdcOption, MessageType};
 ghost use Rattle.krb_show.specs.Leaves.{flags_of, number_of, text_of, time_of};
 ghost use Rattle.krb_show.specs.Pages.{◌then◌, list_of, optional_of, struct_of};
 ghost use Rattle.krb_show.specs.Tokens.{of_kind, plain};
 
 use crate::Message;
-use krb_msg_kdc::messages::{KdcRep, KdcReq, KdcReqBody};
-use krb_msg_types::data_types::{EncryptedData, HostAddress, PaData, PrincipalName, TicketInner};
+use krb_messages::messages::{KdcRep, KdcReq, KdcReqBody};
 use krb_show::{Label, Page, Show, show_fields, show_struct};
+use krb_types::data_types::{EncryptedData, HostAddress, PaData, PrincipalName, TicketInner};
 use std::alloc::{AllocError, Global};
 
 /// The reply of a KDC that grants a ticket (RFC 4120, 5.4.2).

@@ -8,14 +8,15 @@ ghost use Rattle.krb_show_messages.specs.Told.{is_message, is_part};
 
 use crate::Message;
 use krb_der::{Asn1DerError, Der, DerEncode};
-use krb_msg::messages::KrbError;
-use krb_msg_app::messages::{ApRep, ApReq, KrbCred, KrbPriv};
-use krb_msg_kdc::messages::{AsRep, AsReq, EncAsRepPart, EncTgsRepPart, TgsRep, TgsReq};
-use krb_msg_parts::data_types::{
+use krb_enc_parts::data_types::{
     Authenticator, EncApRepPart, EncKrbCredPart, EncKrbPrivPart, EncTicketPart,
 };
-use krb_msg_types::data_types::Ticket;
+use krb_messages::messages::{
+    ApRep, ApReq, AsRep, AsReq, EncAsRepPart, EncTgsRepPart, KrbCred, KrbError, KrbPriv, TgsRep,
+    TgsReq,
+};
 use krb_show::{Label, Page, Show, page_of_octets};
+use krb_types::data_types::Ticket;
 use std::alloc::Global;
 
 /// The page of a value of this type, under a name.

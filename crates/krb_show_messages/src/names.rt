@@ -1,16 +1,16 @@
 //! Names of principals (RFC 4120, 5.2.2 and 6.2).
 
 ghost use Rattle.std.specs.Prelude.{codes};
-ghost use Rattle.krb_names.specs.declared.kind.Kind.TheVariants.{NameType};
+ghost use Rattle.krb_registry.specs.declared.kind.Kind.TheVariants.{NameType};
 ghost use Rattle.krb_show.specs.Leaves.{number_of};
 ghost use Rattle.krb_show.specs.Pages.{◌then◌, struct_of};
 ghost use Rattle.krb_show.specs.Tokens.{of_kind, plain};
 ghost use Rattle.krb_show_messages.specs.Names.{components_of};
 
 use crate::Message;
-use krb_msg_types::data_types::PrincipalName;
 use krb_show::{Label, Page, Show, ShowFields, show_fields, show_list, show_struct, show_text};
-use krb_view::text_of_components;
+use krb_types::data_types::PrincipalName;
+use krb_types::view::text_of_components;
 use std::alloc::{AllocError, Global};
 
 /// The components of a name, lent for showing.

@@ -6,11 +6,11 @@ ghost use Rattle.krb_show.specs.Pages.{◌then◌, optional_of, struct_of};
 ghost use Rattle.krb_show.specs.Tokens.{plain};
 
 use crate::Message;
-use krb_msg_iakerb::messages::IAKerbHeader;
-use krb_msg_types::data_types::{
+use krb_gss_tokens::iakerb_header::messages::IAKerbHeader;
+use krb_show::{Label, Page, Show, show_fields, show_struct};
+use krb_types::data_types::{
     ChangePasswdData, KerbAdRestrictionEntry, KerbErrorData, PrincipalName,
 };
-use krb_show::{Label, Page, Show, show_fields, show_struct};
 use std::alloc::{AllocError, Global};
 
 /// What a client asks for that sets a password (RFC 3244, 2).

@@ -1,7 +1,7 @@
 //! Pre-authentication data and authorization data (RFC 4120, 5.2.6 and 5.2.7), each value opened by its type.
 
 ghost use Rattle.std.specs.Prelude.{codes};
-ghost use Rattle.krb_names.specs.declared.kind.Kind.TheVariants.{AuthorizationDataType, PaDataType};
+ghost use Rattle.krb_registry.specs.declared.kind.Kind.TheVariants.{AuthorizationDataType, PaDataType};
 ghost use Rattle.krb_show.specs.Leaves.{number_of, octets_of};
 ghost use Rattle.krb_show.specs.Opened.{by_number, opened_by};
 ghost use Rattle.krb_show.specs.Pages.{◌then◌, struct_of};
@@ -10,11 +10,7 @@ ghost use Rattle.krb_show_formats.specs.Pac.{pac_of};
 
 use crate::{Message, Nested};
 use krb_der::{DerEncode, IntegerAsn1};
-use krb_msg_app::messages::ApReq;
-use krb_msg_types::data_types::{
-    AuthorizationData, AuthorizationDataInner, EncryptedData, EtypeInfo2, KerbPaPacRequest, PaData,
-    PaPacOptions,
-};
+use krb_messages::messages::ApReq;
 use krb_pkinit::pkinit::{PaPkAsRep, PaPkAsReq};
 use krb_show::{
     Label, OpensValues, Page, Show, TypedValue, is_number, show_fields, show_octets, show_opened,
@@ -22,6 +18,10 @@ use krb_show::{
 };
 use krb_show_formats::show_pac;
 use krb_show_pkinit::Certificate;
+use krb_types::data_types::{
+    AuthorizationData, AuthorizationDataInner, EncryptedData, EtypeInfo2, KerbPaPacRequest, PaData,
+    PaPacOptions,
+};
 use std::alloc::{AllocError, Global};
 use std::marker::PhantomData;
 

@@ -1,22 +1,22 @@
 //! Enciphered parts, opened (RFC 4120, 5.3 to 5.8).
 
 ghost use Rattle.std.specs.Prelude.{codes};
-ghost use Rattle.krb_names.specs.declared.kind.Kind.TheVariants.{LastRequestType, TicketFlag};
+ghost use Rattle.krb_registry.specs.declared.kind.Kind.TheVariants.{LastRequestType, TicketFlag};
 ghost use Rattle.krb_show.specs.Leaves.{flags_of, number_of, octets_of, text_of, time_of};
 ghost use Rattle.krb_show.specs.Pages.{◌then◌, list_of, optional_of, struct_of};
 ghost use Rattle.krb_show.specs.Tokens.{of_kind, plain};
 
 use crate::Message;
-use krb_msg_kdc::messages::EncKdcRepPart;
-use krb_msg_parts::data_types::{
+use krb_enc_parts::data_types::{
     AuthenticatorInner, EncApRepPartInner, EncKrbCredPartInner, EncKrbPrivPartInner,
     EncTicketPartInner, KrbCredInfo,
 };
-use krb_msg_types::data_types::{
+use krb_messages::messages::EncKdcRepPart;
+use krb_show::{Label, Page, Show, show_fields, show_struct};
+use krb_types::data_types::{
     AuthorizationDataInner, Checksum, EncryptionKey, HostAddress, LastReqInner, PaData,
     PrincipalName, TransitedEncoding,
 };
-use krb_show::{Label, Page, Show, show_fields, show_struct};
 use std::alloc::{AllocError, Global};
 
 /// What an authenticator holds (RFC 4120, 5.5.1).

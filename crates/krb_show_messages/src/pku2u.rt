@@ -6,12 +6,12 @@ ghost use Rattle.krb_show.specs.Pages.{◌then◌, list_of, struct_of};
 ghost use Rattle.krb_show.specs.Tokens.{plain};
 
 use crate::Message;
-use krb_msg_types::data_types::{Checksum, PrincipalName};
 use krb_pkinit::pkinit::{
     KrbFinished, Pku2uNegoBody, Pku2uNegoRep, Pku2uNegoReq, Pku2uNegoReqMetadata,
 };
 use krb_show::{Label, Page, Show, show_fields, show_struct};
 use krb_show_pkinit::Certificate;
+use krb_types::data_types::{Checksum, PrincipalName};
 use std::alloc::{AllocError, Global};
 
 /// A certificate authority that a side trusts.

@@ -1,14 +1,14 @@
 //! Pre-authentication (RFC 4120, 5.2.7).
 
 ghost use Rattle.std.specs.Prelude.{codes};
-ghost use Rattle.krb_names.specs.declared.kind.Kind.TheVariants.{EncryptionType};
+ghost use Rattle.krb_registry.specs.declared.kind.Kind.TheVariants.{EncryptionType};
 ghost use Rattle.krb_show.specs.Leaves.{flags_of, number_of, octets_of, text_of, time_of, truth_of};
 ghost use Rattle.krb_show.specs.Pages.{◌then◌, optional_of, struct_of};
 ghost use Rattle.krb_show.specs.Tokens.{of_kind, plain};
 
 use crate::Message;
-use krb_msg_types::data_types::{EtypeInfo2Entry, KerbPaPacRequest, PaEncTsEnc, PaPacOptions};
 use krb_show::{Label, Page, Show, show_fields, show_struct};
+use krb_types::data_types::{EtypeInfo2Entry, KerbPaPacRequest, PaEncTsEnc, PaPacOptions};
 use std::alloc::{AllocError, Global};
 
 /// An encryption type, and how a password becomes its key (RFC 4120, 5.2.7.5).

@@ -10,8 +10,7 @@ ghost use Rattle.krb_show_messages.specs.Proxy.{IsFramed, framed_of, framed_or, 
 use crate::Message;
 use byteorder::{BigEndian, ByteOrder};
 use krb_der::{Der, DerEncode, ExplicitContextTag, OctetStringAsn1};
-use krb_msg::messages::{KdcProxyMessage, KrbError};
-use krb_msg_kdc::messages::{AsRep, AsReq, TgsRep, TgsReq};
+use krb_messages::messages::{AsRep, AsReq, KdcProxyMessage, KrbError, TgsRep, TgsReq};
 use krb_show::{Field, Label, Page, Show, ShowFields, open, show_fields, show_octets, show_struct};
 use std::alloc::{AllocError, Global};
 use std::marker::PhantomData;

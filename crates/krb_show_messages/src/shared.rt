@@ -1,18 +1,18 @@
 //! The types that messages share (RFC 4120, 5.2 and 5.3).
 
 ghost use Rattle.std.specs.Prelude.{codes};
-ghost use Rattle.krb_names.specs.declared.kind.Kind.TheVariants.{AddressType, ChecksumType, EncryptionType, TransitedEncodingType};
+ghost use Rattle.krb_registry.specs.declared.kind.Kind.TheVariants.{AddressType, ChecksumType, EncryptionType, TransitedEncodingType};
 ghost use Rattle.krb_show.specs.Leaves.{number_of, octets_of, text_of};
 ghost use Rattle.krb_show.specs.Pages.{◌then◌, optional_of, struct_of};
 ghost use Rattle.krb_show.specs.Tokens.{of_kind, plain};
 
 use crate::Message;
 use crate::gss_checksum::ChecksumValues;
-use krb_msg_types::data_types::{
+use krb_show::{Label, OpensValues, Page, Show, TypedValue, show_fields, show_struct};
+use krb_types::data_types::{
     Checksum, EncryptedData, EncryptionKey, HostAddress, PrincipalName, TicketInner,
     TransitedEncoding,
 };
-use krb_show::{Label, OpensValues, Page, Show, TypedValue, show_fields, show_struct};
 use std::alloc::{AllocError, Global};
 use std::marker::PhantomData;
 

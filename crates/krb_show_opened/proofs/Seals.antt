@@ -1,13 +1,13 @@
 -- What a prepared key says of the key that it was prepared from.
 use Rattle.std.proofs.Common.{◌≡◌, ℕ, ℤ, false, List, subst, sym, ap, ◌∙◌, length}
 use Rattle.krb_crypto_message.specs.Sealing.{HasNoPayload, IsGiven, Opens}
-use Rattle.krb_crypto_suite.specs.BySuite.{IsSealed, confounder_octets_of, key_octets_of, padding_octets_of}
-use Rattle.krb_crypto_suite.specs.PreparedKeys.{IsPreparedFor, PreparedKeys}
+use Rattle.krb_crypto.specs.BySuite.{IsSealed, confounder_octets_of, key_octets_of, padding_octets_of}
+use Rattle.krb_crypto.specs.PreparedKeys.{IsPreparedFor, PreparedKeys}
 use Rattle.krb_crypto_hash.specs.declared.error.KerberosCryptoError.{KerberosCryptoError}
 use Rattle.krb_crypto_hash.specs.declared.error.KerberosCryptoError.TheVariants as crypto
-use Rattle.krb_seal.specs.PartError.{IsMemory}
-use Rattle.krb_seal.specs.declared.error.PartError.{PartError}
-use Rattle.krb_seal.specs.declared.error.PartError.TheVariants as part
+use Rattle.krb_crypto.specs.PartError.{IsMemory}
+use Rattle.krb_crypto.specs.declared.seal.error.PartError.{PartError}
+use Rattle.krb_crypto.specs.declared.seal.error.PartError.TheVariants as part
 use Rattle.krb_show_opened.specs.Memory.{is_der_memory, is_memory, is_part_memory}
 use Rattle.std.proofs.lemmas.Bool.{false≢true}
 use Rattle.krb_show_opened.specs.Keys.{NamedKey, IsSealedOf, SealsNone, SealsSome}

@@ -1,7 +1,7 @@
 -- The first key and key usage under which octets are sealed.
 use Rattle.std.specs.Prelude.{◌≡◌, ◌≢◌, ℕ, List, ◌∷◌, ◌++◌}
 use Rattle.std.specs.List.{AllByRecursion}
-use Rattle.krb_crypto_suite.specs.declared.cipher_suite.CipherSuite.{CipherSuite}
+use Rattle.krb_crypto.specs.declared.cipher_suite.CipherSuite.{CipherSuite}
 use Rattle.krb_show_opened.specs.Keys.{NamedKey, SealsSome, SealsNone}
 use Rattle.krb_show_opened.specs.Usages.{integer_of}
 use Rattle.krb_show_opened.specs.declared.usage.Usage.{Usage}

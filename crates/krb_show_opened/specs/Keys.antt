@@ -1,9 +1,9 @@
 -- Keys with names, and what is sealed under them (RFC 3961, 5.3).
 use Rattle.std.specs.Prelude.{◌≡◌, ℕ, ℤ, List, codes, length}
 use Rattle.krb_crypto_message.specs.Sealing.{IsGiven}
-use Rattle.krb_crypto_suite.specs.BySuite.{IsSealed, confounder_octets_of, key_octets_of}
-use Rattle.krb_crypto_suite.specs.declared.cipher_suite.CipherSuite.{CipherSuite}
-use Rattle.krb_crypto_suite.specs.declared.cipher_suite.CipherSuite.TheVariants as suites
+use Rattle.krb_crypto.specs.BySuite.{IsSealed, confounder_octets_of, key_octets_of}
+use Rattle.krb_crypto.specs.declared.cipher_suite.CipherSuite.{CipherSuite}
+use Rattle.krb_crypto.specs.declared.cipher_suite.CipherSuite.TheVariants as suites
 
 -- a key, and the name under which it is told that it opened a part
 pub record NamedKey : Type 0 where

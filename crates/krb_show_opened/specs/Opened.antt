@@ -1,6 +1,6 @@
 -- What is inserted at sealed parts.
 use Rattle.std.specs.Prelude.{◌≡◌, ◌≢◌, ◌⊎◌, ℕ, List, [], ◌++◌, codes}
-use Rattle.krb_crypto_suite.specs.declared.cipher_suite.CipherSuite.{CipherSuite}
+use Rattle.krb_crypto.specs.declared.cipher_suite.CipherSuite.{CipherSuite}
 use Rattle.krb_show.specs.Leaves.{number_of, text_of}
 use Rattle.krb_show.specs.Opened.{IsOf}
 use Rattle.krb_show.specs.Pages.{◌then◌}

@@ -7,7 +7,7 @@ ghost use Rattle.krb_show_opened.specs.Found.{IsFirstKey, IsFirstUsage, NoneIsOf
 use crate::key::Key;
 use crate::sealed::is_sealed;
 use crate::usage::Usage;
-use krb_crypto_suite::CipherSuite;
+use krb_crypto::CipherSuite;
 use std::alloc::{AllocError, Global};
 
 /// The first of these usages for which the octets are sealed under the key.

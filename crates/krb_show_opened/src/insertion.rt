@@ -9,7 +9,7 @@ use crate::found::{first_key, is_of_one};
 use crate::key::{Key, suite_of_digits};
 use crate::opened::{OpensParts, tell};
 use crate::usage::{Usage, usages_of};
-use krb_crypto_suite::CipherSuite;
+use krb_crypto::CipherSuite;
 use krb_show::{Form, Page, Token};
 use std::alloc::{AllocError, Global};
 

@@ -1,10 +1,10 @@
 //! Keys with names.
 
 ghost use Rattle.std.specs.Prelude.{◌≡◌, ◌≢◌, MatchOption};
-ghost use Rattle.krb_crypto_suite.specs.declared.cipher_suite.CipherSuite.{CipherSuite};
+ghost use Rattle.krb_crypto.specs.declared.cipher_suite.CipherSuite.{CipherSuite};
 ghost use Rattle.krb_show_opened.specs.Keys.{digits_of};
 
-use krb_crypto_suite::CipherSuite;
+use krb_crypto::CipherSuite;
 use std::marker::Model;
 
 /// A key, and the name under which a page tells that it opened a part: any octets.

@@ -2,7 +2,7 @@
 
 ghost use Rattle.std.specs.Prelude.{[], List, IfOk, OnOk};
 ghost use Rattle.krb_show.specs.Tokens.{Begins};
-ghost use Rattle.krb_show_insertions.specs.Walk.{walk_of};
+ghost use Rattle.krb_show.specs.Walk.{walk_of};
 ghost use Rattle.krb_show_opened.specs.Keys.{NamedKey};
 ghost use Rattle.krb_show_opened.specs.Opened.{opened_before};
 
@@ -10,8 +10,7 @@ use crate::insertion::insert_before;
 use crate::key::Key;
 use crate::opened::OpensParts;
 use crate::parts::MessageParts;
-use krb_show::{Page, Token};
-use krb_show_insertions::{Insert, page_with};
+use krb_show::{Insert, Page, Token, page_with};
 use std::alloc::{AllocError, Global};
 use std::marker::Model;
 

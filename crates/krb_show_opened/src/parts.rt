@@ -8,13 +8,13 @@ use crate::key::Key;
 use crate::opened::{OpensParts, insert_by_usage, insert_encoded};
 use crate::usage::Usage;
 use krb_der::DerEncode;
-use krb_msg_kdc::messages::{EncAsRepPart, EncTgsRepPart};
-use krb_msg_parts::data_types::{
+use krb_enc_parts::data_types::{
     Authenticator, EncApRepPart, EncKrbCredPart, EncKrbPrivPart, EncTicketPart,
 };
-use krb_msg_types::data_types::{AuthorizationData, PaEncTsEnc};
+use krb_messages::messages::{EncAsRepPart, EncTgsRepPart};
 use krb_show::{Page, Show};
 use krb_show_messages::Message;
+use krb_types::data_types::{AuthorizationData, PaEncTsEnc};
 use std::alloc::{AllocError, Global};
 use std::marker::Model;
 

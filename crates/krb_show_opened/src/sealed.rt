@@ -1,19 +1,19 @@
 //! What is sealed under a key (RFC 3961, 5.3).
 
 ghost use Rattle.std.specs.Prelude.{◌≡◌, ◌≢◌, ⊤, IfOk, MatchBool, MatchOption, length};
-ghost use Rattle.krb_crypto_suite.specs.BySuite.{key_octets_of};
-ghost use Rattle.krb_crypto_suite.specs.PreparedKeys.{IsPreparedFor};
+ghost use Rattle.krb_crypto.specs.BySuite.{key_octets_of};
+ghost use Rattle.krb_crypto.specs.PreparedKeys.{IsPreparedFor};
 ghost use Rattle.krb_show_opened.specs.Keys.{HasNoValue, IsValueUnder, SealsNone, SealsSome};
 ghost use Rattle.krb_show_opened.specs.Memory.{is_der_memory, is_memory, is_part_memory};
 ghost use Rattle.krb_show_opened.specs.Usages.{integer_of};
 
 use crate::key::Key;
 use crate::usage::Usage;
-use krb_crypto_suite::KerberosCryptoError;
-use krb_crypto_suite::prepared::OpeningKey;
+use krb_crypto::KerberosCryptoError;
+use krb_crypto::prepared::OpeningKey;
+use krb_crypto::seal::PartError;
+use krb_crypto::seal::prepared::open_part;
 use krb_der::{Asn1DerError, Der};
-use krb_seal::PartError;
-use krb_seal::prepared::open_part;
 use std::alloc::{AllocError, Global};
 
 /// The key, prepared for a usage, where its length is the suite's.

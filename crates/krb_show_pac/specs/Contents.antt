@@ -3,10 +3,10 @@ use Rattle.std.specs.Prelude.{◌≡◌, ℕ, true, false, List, ◌⊎◌, code
 use Rattle.krb_pac.specs.Kind.{code, IsUnlisted}
 use Rattle.krb_pac.specs.declared.kind.PacBufferType.{PacBufferType}
 use Rattle.krb_pac.specs.declared.kind.PacBufferType.TheVariants as kinds
-use Rattle.krb_pac_buffers.specs.Attributes.{attributes_of, requestor_of}
-use Rattle.krb_pac_buffers.specs.Client.{client_info_of}
-use Rattle.krb_pac_buffers.specs.Upn.{upn_dns_of}
-use Rattle.krb_pac_logon.specs.Logon.{logon_of}
+use Rattle.krb_pac_contents.specs.Attributes.{attributes_of, requestor_of}
+use Rattle.krb_pac_contents.specs.Client.{client_info_of}
+use Rattle.krb_pac_contents.specs.Upn.{upn_dns_of}
+use Rattle.krb_pac_contents.specs.Logon.{logon_of}
 use Rattle.krb_pac_signatures.specs.Signature.{is_signature}
 use Rattle.krb_show.specs.Tokens.{Token, plain}
 use Rattle.krb_show_pac.specs.Logon.{validation_info_of}

@@ -4,7 +4,7 @@ use Rattle.std.specs.Cmp.Lexicographic.{pointwise}
 use Rattle.krb_show.specs.Tokens.{Token}
 use Rattle.krb_show.specs.declared.token.Form.{Form}
 use Rattle.krb_show.specs.declared.token.Form.TheVariants as form
-use Rattle.krb_show_insertions.specs.Walk.{walk_of}
+use Rattle.krb_show.specs.Walk.{walk_of}
 use Rattle.krb_show_pac.specs.Contents.{contents_of}
 
 -- a buffer on a page: the number of its type (MS-PAC 2.4, ulType), and its octets

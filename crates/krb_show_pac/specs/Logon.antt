@@ -1,12 +1,12 @@
 -- The logon information as tokens (MS-PAC 2.5, KERB_VALIDATION_INFO).
 use Rattle.std.specs.Prelude.{pos, List, codes}
-use Rattle.krb_pac_logon.specs.Fields.{logon_time, logoff_time, kick_off_time, password_last_set, password_can_change, password_must_change, effective_name, full_name}
-use Rattle.krb_pac_logon.specs.Fields.{logon_script, profile_path, home_directory, home_directory_drive, logon_count, bad_password_count, user_id, primary_group_id}
-use Rattle.krb_pac_logon.specs.Fields.{groups, user_flags, user_session_key, logon_server, logon_domain_name, logon_domain_id, user_account_control, sub_auth_status}
-use Rattle.krb_pac_logon.specs.Fields.{last_successful_logon, last_failed_logon, failed_logon_count, extra_sids, resource_group_domain_sid, resource_groups}
-use Rattle.krb_pac_logon.specs.Logon.{Logon}
-use Rattle.krb_pac_logon.specs.declared.elements.Membership.{Membership}
-use Rattle.krb_pac_logon.specs.declared.elements.SidAndAttributes.{SidAndAttributes}
+use Rattle.krb_pac_contents.specs.Fields.{logon_time, logoff_time, kick_off_time, password_last_set, password_can_change, password_must_change, effective_name, full_name}
+use Rattle.krb_pac_contents.specs.Fields.{logon_script, profile_path, home_directory, home_directory_drive, logon_count, bad_password_count, user_id, primary_group_id}
+use Rattle.krb_pac_contents.specs.Fields.{groups, user_flags, user_session_key, logon_server, logon_domain_name, logon_domain_id, user_account_control, sub_auth_status}
+use Rattle.krb_pac_contents.specs.Fields.{last_successful_logon, last_failed_logon, failed_logon_count, extra_sids, resource_group_domain_sid, resource_groups}
+use Rattle.krb_pac_contents.specs.Logon.{Logon}
+use Rattle.krb_pac_contents.specs.declared.elements.Membership.{Membership}
+use Rattle.krb_pac_contents.specs.declared.elements.SidAndAttributes.{SidAndAttributes}
 use Rattle.krb_show.specs.Leaves.{number_of, octets_of}
 use Rattle.krb_show.specs.Pages.{◌then◌, list_of, optional_of, struct_of}
 use Rattle.krb_show.specs.Tokens.{Label, Token, plain}

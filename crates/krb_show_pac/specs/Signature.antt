@@ -1,6 +1,6 @@
 -- A signature of a PAC as tokens (MS-PAC 2.8, PAC_SIGNATURE_DATA).
 use Rattle.std.specs.Prelude.{ℕ, ℤ, pos, ◌-ℤ◌, nat_lt, if◌then◌else◌, List, codes}
-use Rattle.krb_names.specs.declared.kind.Kind.TheVariants.{ChecksumType}
+use Rattle.krb_registry.specs.declared.kind.Kind.TheVariants.{ChecksumType}
 use Rattle.krb_pac_signatures.specs.Signature.{rodc_identifier, signature, signature_type}
 use Rattle.krb_show.specs.Leaves.{number_of, octets_of}
 use Rattle.krb_show.specs.Pages.{◌then◌, optional_of, struct_of}

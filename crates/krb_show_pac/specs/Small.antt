@@ -1,9 +1,9 @@
 -- The small buffers of a PAC as tokens.
 use Rattle.std.specs.Prelude.{ℕ, pos, List, [], Option, unwrap_or, codes}
 use Rattle.byteorder.specs.Endian.{little_number}
-use Rattle.krb_pac_buffers.specs.Client.{client_name}
-use Rattle.krb_pac_buffers.specs.Upn.{UpnDns}
-use Rattle.krb_pac_logon.specs.Numbers.{long_at}
+use Rattle.krb_pac_contents.specs.Client.{client_name}
+use Rattle.krb_pac_contents.specs.Upn.{UpnDns}
+use Rattle.krb_pac_contents.specs.Numbers.{long_at}
 use Rattle.krb_show.specs.Leaves.{number_of}
 use Rattle.krb_show.specs.Pages.{◌then◌, optional_of, struct_of}
 use Rattle.krb_show.specs.Tokens.{Label, Token, plain}

@@ -1,9 +1,9 @@
 -- What is wrong with octets that are not read, in words.
 use Rattle.std.specs.Prelude.{◌≡◌, ℕ, List, ◌⊎◌, Result, Ok, Err, codes}
-use Rattle.krb_pac_buffers.specs.declared.error.BufferError.{BufferError}
-use Rattle.krb_pac_buffers.specs.declared.error.BufferError.TheVariants as buffer
-use Rattle.krb_pac_logon.specs.declared.error.LogonError.{LogonError}
-use Rattle.krb_pac_logon.specs.declared.error.LogonError.TheVariants as logon
+use Rattle.krb_pac_contents.specs.declared.buffers.error.BufferError.{BufferError}
+use Rattle.krb_pac_contents.specs.declared.buffers.error.BufferError.TheVariants as buffer
+use Rattle.krb_pac_contents.specs.declared.error.LogonError.{LogonError}
+use Rattle.krb_pac_contents.specs.declared.error.LogonError.TheVariants as logon
 use Rattle.krb_show.specs.Leaves.{text_of}
 use Rattle.krb_show.specs.Tokens.{Token, plain}
 

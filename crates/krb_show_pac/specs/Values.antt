@@ -1,9 +1,9 @@
 -- Times, names and identifiers of a PAC as tokens.
 use Rattle.std.specs.Prelude.{◌≡◌, ◌≢◌, ℕ, List, ◌⊎◌, None, Some, codes}
 use Rattle.krb_der_core.specs.GeneralizedTime.{Time}
-use Rattle.krb_pac_text.specs.Names.{name_of}
-use Rattle.krb_pac_text.specs.Sids.{sid_text_of}
-use Rattle.krb_pac_text.specs.Times.{IsTimeOf, never}
+use Rattle.krb_pac_contents.specs.Names.{name_of}
+use Rattle.krb_pac_contents.specs.Sids.{sid_text_of}
+use Rattle.krb_pac_contents.specs.Times.{IsTimeOf, never}
 use Rattle.krb_show.specs.Leaves.{octets_of, text_of, time_of, unsigned_of, word_of}
 use Rattle.krb_show.specs.Tokens.{Label, Token}
 

@@ -5,8 +5,7 @@ ghost use Rattle.krb_show.specs.Tokens.{Begins};
 ghost use Rattle.krb_show_pac.specs.Inserted.{IsWithContents, buffer_at, contents_at, buffer_in, contents_before, is_number, is_octets, number_of_digits};
 
 use crate::contents::show_contents;
-use krb_show::{Form, Page, Token};
-use krb_show_insertions::{Insert, page_with};
+use krb_show::{Form, Insert, Page, Token, page_with};
 use std::alloc::{AllocError, Global};
 use std::marker::Model;
 

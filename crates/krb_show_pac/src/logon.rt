@@ -1,7 +1,7 @@
 //! The logon information (MS-PAC 2.5, KERB_VALIDATION_INFO).
 
 ghost use Rattle.std.specs.Prelude.{◌≡◌, IfOk};
-ghost use Rattle.krb_pac_logon.specs.Fields.{extra_sids, groups, resource_groups};
+ghost use Rattle.krb_pac_contents.specs.Fields.{extra_sids, groups, resource_groups};
 ghost use Rattle.krb_show.specs.Pages.{list_of};
 ghost use Rattle.krb_show_pac.specs.Logon.{account_of, counts_of, domain_of, extra_of, extra_sid_of, membership_of, names_of, times_of, validation_info_of};
 
@@ -10,7 +10,7 @@ use crate::flags::{FlagSet, Flags};
 use crate::texts::Name;
 use crate::times::Moment;
 use krb_der::Optional;
-use krb_pac_logon::{LogonView, Membership, SidAndAttributes, SidView};
+use krb_pac_contents::{LogonView, Membership, SidAndAttributes, SidView};
 use krb_show::{Field, Label, Page, Show, ShowFields, show_fields, show_list, show_struct};
 use std::alloc::{AllocError, Global};
 use std::marker::PhantomData;

@@ -4,8 +4,8 @@ ghost use Rattle.krb_show.specs.Leaves.{octets_of};
 ghost use Rattle.krb_show_pac.specs.Values.{identifier_of, name_or_octets_of};
 
 use crate::Pac;
-use krb_pac_logon::SidView;
-use krb_pac_text::{name_text, sid_text};
+use krb_pac_contents::SidView;
+use krb_pac_contents::text::{name_text, sid_text};
 use krb_show::{Label, Page, Show, show_octets, show_text, show_word};
 use std::alloc::{AllocError, Global};
 use std::marker::Model;

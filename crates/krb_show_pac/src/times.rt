@@ -3,7 +3,7 @@
 ghost use Rattle.krb_show_pac.specs.Values.{filetime_of};
 
 use crate::Pac;
-use krb_pac_text::{FileTime, time_of_filetime};
+use krb_pac_contents::text::{FileTime, time_of_filetime};
 use krb_show::{Label, Page, Show, show_word};
 use std::alloc::{AllocError, Global};
 use std::marker::Model;

@@ -4,8 +4,8 @@ ghost use Rattle.std.specs.Prelude.{◌≡◌, OnOk, OnErr};
 ghost use Rattle.krb_show.specs.Tokens.{Begins};
 ghost use Rattle.krb_show_pac.specs.Unread.{buffer_words, logon_words, unread_of};
 
-use krb_pac_buffers::BufferError;
-use krb_pac_logon::LogonError;
+use krb_pac_contents::LogonError;
+use krb_pac_contents::buffers::BufferError;
 use krb_show::{Label, Page, show_text};
 use std::alloc::{AllocError, Global};
 

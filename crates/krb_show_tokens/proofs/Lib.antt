@@ -1,2 +1,3 @@
+mod KpasswdFrames
 mod OneFrame
 mod OneMessage

@@ -5,9 +5,9 @@ use Rattle.krb_der_core.specs.Reading.{TakesPrefix}
 use Rattle.krb_der_core.specs.TlvLaws.{tlv_apart}
 use Rattle.krb_der_x509.specs.ObjectIdentifier.{arcs_content, object_identifier}
 use Rattle.krb_der_x509.specs.ObjectIdentifierLaws.{arcs_one_content}
-use Rattle.krb_gss_negotiation.specs.Token.{token}
+use Rattle.krb_gss_tokens.specs.Token.{token}
 use Rattle.krb_gss_tokens.specs.Mic.{Mic, MicIs}
-use Rattle.krb_gss_tokens.specs.Rejected.{MicFirstError, WrapFirstError}
+use Rattle.krb_gss_tokens.specs.PerMessageRejected.{MicFirstError, WrapFirstError}
 use Rattle.krb_gss_tokens.specs.Wrap.{Wrap, WrapIs}
 use Rattle.krb_gss_tokens.specs.declared.error.GssApiMessageError.TheVariants as gss
 use Rattle.krb_show_tokens.specs.declared.heads.Head.{Head}

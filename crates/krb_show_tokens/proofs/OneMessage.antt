@@ -8,11 +8,11 @@ use Rattle.std.specs.Prelude.{MatchOption, nat_eq, not}
 use Rattle.krb_der_core.specs.Tlv.{len, tlv}
 use Rattle.krb_der_core.specs.TlvLaws.{same_heads, tlv_apart}
 use Rattle.krb_der_x509.specs.ObjectIdentifier.{dotted, object_identifier}
-use Rattle.krb_gss_negotiation.specs.Proxy.{ProxyReads, iakerb, proxy_id}
-use Rattle.krb_gss_negotiation.specs.Token.{in_token}
-use Rattle.krb_msg_iakerb.proofs.Readings.{content_written}
-use Rattle.krb_msg_iakerb.specs.declared.messages.header.IAKerbHeader.{IAKerbHeader}
-use Rattle.krb_msg_iakerb.specs.Header.{cookie, flags, realm}
+use Rattle.krb_gss_tokens.specs.Proxy.{ProxyReads, iakerb, proxy_id}
+use Rattle.krb_gss_tokens.specs.Token.{in_token}
+use Rattle.krb_gss_tokens.proofs.Readings.{content_written}
+use Rattle.krb_gss_tokens.specs.declared.iakerb_header.messages.header.IAKerbHeader.{IAKerbHeader}
+use Rattle.krb_gss_tokens.specs.Header.{cookie, flags, realm}
 use Rattle.krb_show_tokens.proofs.OneFrame.{one_frame}
 use Rattle.krb_show_tokens.specs.Frames.{IsFramed}
 use Rattle.krb_show_tokens.specs.Proxies.{HasMessage, HasOther, IsTag, is_proxied, is_proxied_tag}

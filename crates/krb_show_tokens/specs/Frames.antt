@@ -1,7 +1,7 @@
 -- What the frame of a token holds (RFC 2743, 3.1).
 use Rattle.std.specs.Prelude.{◌≡◌, nat_eq, ◌&&◌, ◌||◌, ◌⊎◌, Bool, ℕ, List, [], ◌∷◌, ◌++◌, Result, MatchResult}
 use Rattle.krb_der_x509.specs.ObjectIdentifier.{IsArcs, object_identifier}
-use Rattle.krb_gss_negotiation.specs.Token.{token}
+use Rattle.krb_gss_tokens.specs.Token.{token}
 use Rattle.krb_gss_tokens.specs.declared.error.GssApiMessageError.{GssApiMessageError}
 use Rattle.krb_gss_tokens.specs.declared.error.GssApiMessageError.TheVariants as gss
 

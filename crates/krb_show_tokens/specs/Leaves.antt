@@ -2,7 +2,7 @@
 use Rattle.std.specs.Prelude.{◌≡◌, ℕ, zero, suc, ◌/◌, ◌%◌, ◌^◌, ◌<◌, nat_eq, if◌then◌else◌, ◌&&◌, ◌⊎◌, Bool, true, false, pos}
 use Rattle.std.specs.Prelude.{List, [], ◌∷◌, ◌++◌, codes, slice_index}
 use Rattle.krb_der_x509.specs.ObjectIdentifier.{dotted}
-use Rattle.krb_names.specs.declared.kind.Kind.TheVariants.{TokenFlag}
+use Rattle.krb_registry.specs.declared.kind.Kind.TheVariants.{TokenFlag}
 use Rattle.krb_show.specs.declared.token.Form.TheVariants as form
 use Rattle.krb_show.specs.Leaves.{IsFlagName, hex, identifier_of as dotted_of, number_of, octets_of}
 use Rattle.krb_show.specs.Tokens.{Label, Token, adds}

@@ -1,3 +1,5 @@
+pub mod Frame
+pub mod Laws
 pub mod Frames
 pub mod Heads
 pub mod Leaves

@@ -3,12 +3,12 @@ use Rattle.std.specs.Prelude.{◌≡◌, ◌⊎◌, nat_eq, nat_le, ◌&&◌, �
 use Rattle.krb_der.specs.Asn1.{sequence}
 use Rattle.krb_der_core.specs.declared.der.DerEncode.{Ghosts as EncodingOf}
 use Rattle.krb_der_core.specs.declared.error.Asn1DerError.TheVariants as errors
-use Rattle.krb_gss_negotiation.specs.declared.iakerb.IAKerbProxyMessage.{IAKerbProxyMessage}
-use Rattle.krb_gss_negotiation.specs.Proxy.{ProxyReads, ProxyRejected}
-use Rattle.krb_gss_negotiation.specs.Token.{token}
+use Rattle.krb_gss_tokens.specs.declared.iakerb.IAKerbProxyMessage.{IAKerbProxyMessage}
+use Rattle.krb_gss_tokens.specs.Proxy.{ProxyReads, ProxyRejected}
+use Rattle.krb_gss_tokens.specs.Token.{token}
 use Rattle.krb_gss_tokens.specs.declared.error.GssApiMessageError.{GssApiMessageError}
 use Rattle.krb_gss_tokens.specs.declared.error.GssApiMessageError.TheVariants as gss
-use Rattle.krb_msg_iakerb.specs.declared.messages.header.IAKerbHeader.{IAKerbHeader}
+use Rattle.krb_gss_tokens.specs.declared.iakerb_header.messages.header.IAKerbHeader.{IAKerbHeader}
 use Rattle.krb_show.specs.declared.show.Show.{Ghosts as ShowingOf}
 use Rattle.krb_show.specs.Opened.{IsNone, IsOf}
 use Rattle.krb_show.specs.Tokens.{Label, Token}

@@ -8,7 +8,7 @@ use Rattle.krb_gss_tokens.specs.declared.error.GssApiMessageError.{GssApiMessage
 use Rattle.krb_gss_tokens.specs.declared.error.GssApiMessageError.TheVariants as gss
 use Rattle.krb_gss_tokens.specs.Errors.{of_der}
 use Rattle.krb_gss_tokens.specs.Mic.{Mic, MicIs}
-use Rattle.krb_gss_tokens.specs.Rejected.{MicFirstError, WrapFirstError}
+use Rattle.krb_gss_tokens.specs.PerMessageRejected.{MicFirstError, WrapFirstError}
 use Rattle.krb_gss_tokens.specs.Wrap.{FitsWrap, Wrap, WrapIs}
 use Rattle.krb_show.specs.declared.show.Show.{Ghosts as ShowingOf}
 use Rattle.krb_show.specs.Opened.{IsOf}

@@ -7,10 +7,10 @@ ghost use Rattle.krb_show_tokens.specs.Leaves.{identifier_of, token_id_of};
 
 use crate::GssToken;
 use crate::leaves::show_token_id;
-use krb_gss_negotiation::gss_api::{ApplicationTag0, KrbMessage};
-use krb_msg::messages::KrbError;
-use krb_msg_app::messages::{ApRep, ApReq, TgtRep, TgtReq};
-use krb_msg_kdc::messages::{AsRep, AsReq, TgsRep, TgsReq};
+use krb_gss_tokens::gss_api::{ApplicationTag0, KrbMessage};
+use krb_messages::messages::{
+    ApRep, ApReq, AsRep, AsReq, KrbError, TgsRep, TgsReq, TgtRep, TgtReq,
+};
 use krb_show::{Field, Label, Page, Show, ShowFields, show_fields, show_struct};
 use krb_show_messages::Message;
 use std::alloc::{AllocError, Global};

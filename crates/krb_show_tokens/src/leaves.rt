@@ -1,14 +1,14 @@
 //! The leaves that only tokens of the GSS-API have.
 
 ghost use Rattle.std.specs.Prelude.{◌≡◌, ◌<◌, ◌≤◌, ◌++◌, ◌∷◌, [], List, ℕ, IfOk, OnErr, OnOk};
-ghost use Rattle.krb_names.specs.declared.kind.Kind.TheVariants.{TokenFlag};
+ghost use Rattle.krb_registry.specs.declared.kind.Kind.TheVariants.{TokenFlag};
 ghost use Rattle.krb_show.specs.Leaves.{IsFlagName, unsigned_of};
 ghost use Rattle.krb_show.specs.Tokens.{Begins};
 ghost use Rattle.krb_show_tokens.specs.Leaves.{AreTokenFlags, adds_token_flag, has_bit, identifier_of};
 ghost use Rattle.krb_show_tokens.specs.Leaves.{token_flags_of, token_id_note, token_id_of};
 
 use krb_der_x509::ObjectIdentifierAsn1;
-use krb_names::{Kind, name};
+use krb_registry::{Kind, name};
 use krb_show::{Form, Label, Page, Show, push_hex, push_token, show_identifier as show_dotted};
 use std::alloc::{AllocError, Global};
 

@@ -5,6 +5,7 @@
 mod elements;
 mod frames;
 mod heads;
+pub mod kpasswd;
 mod leaves;
 mod negotiation;
 mod opened;

@@ -1,7 +1,7 @@
 //! SPNEGO (RFC 4178).
 
 ghost use Rattle.std.specs.Prelude.{codes};
-ghost use Rattle.krb_names.specs.declared.kind.Kind.TheVariants.{ContextFlag, NegotiationState};
+ghost use Rattle.krb_registry.specs.declared.kind.Kind.TheVariants.{ContextFlag, NegotiationState};
 ghost use Rattle.krb_show.specs.Leaves.{flags_of};
 ghost use Rattle.krb_show.specs.Pages.{◌then◌, list_of, optional_of, struct_of};
 ghost use Rattle.krb_show.specs.Tokens.{of_kind, plain};
@@ -9,7 +9,7 @@ ghost use Rattle.krb_show_tokens.specs.Leaves.{element_of, identifier_of};
 
 use crate::GssToken;
 use crate::opened::{MechListMics, MechTokens, OpenedOctets, OpensOctets};
-use krb_gss_negotiation::gss_api::{GssApiNegInit, NegTokenInit, NegTokenTarg};
+use krb_gss_tokens::gss_api::{GssApiNegInit, NegTokenInit, NegTokenTarg};
 use krb_show::{Label, Page, Show, show_fields, show_struct};
 use std::alloc::{AllocError, Global};
 use std::marker::PhantomData;

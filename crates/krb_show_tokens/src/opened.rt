@@ -11,11 +11,9 @@ ghost use Rattle.krb_show_tokens.specs.Told.{IsMicOf};
 
 use crate::GssToken;
 use krb_der::{Der, ExplicitContextTag, OctetStringAsn1, Optional};
-use krb_gss_negotiation::gss_api::{ApplicationTag0, KrbMessage};
+use krb_gss_tokens::gss_api::{ApplicationTag0, KrbMessage};
 use krb_gss_tokens::{GssApiMessageError, MicToken};
-use krb_msg::messages::KrbError;
-use krb_msg_app::messages::{ApRep, ApReq, TgtRep, TgtReq};
-use krb_msg_kdc::messages::{AsRep, AsReq};
+use krb_messages::messages::{ApRep, ApReq, AsRep, AsReq, KrbError, TgtRep, TgtReq};
 use krb_show::{Label, Page, Show, ShowFields, open, show_octets};
 use krb_show_messages::Message;
 use std::alloc::{AllocError, Global};

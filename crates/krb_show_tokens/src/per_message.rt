@@ -2,7 +2,7 @@
 
 ghost use Rattle.std.specs.Prelude.{codes};
 ghost use Rattle.krb_gss_tokens.specs.Layout.{mic_id, wrap_id};
-ghost use Rattle.krb_names.specs.declared.kind.Kind.TheVariants.{TokenFlag};
+ghost use Rattle.krb_registry.specs.declared.kind.Kind.TheVariants.{TokenFlag};
 ghost use Rattle.krb_show.specs.Leaves.{octets_of, unsigned_of};
 ghost use Rattle.krb_show.specs.Pages.{◌then◌, struct_of};
 ghost use Rattle.krb_show.specs.Tokens.{of_kind, plain};
@@ -11,9 +11,9 @@ ghost use Rattle.krb_show_tokens.specs.Leaves.{token_flags_of, token_id_of};
 use crate::GssToken;
 use crate::frames::TokenIdField;
 use crate::leaves::{show_token_flags, show_unsigned};
-use krb_constants::gss_api::{MIC_TOKEN_ID, WRAP_TOKEN_ID};
 use krb_gss_tokens::{MicToken, WrapToken};
-use krb_names::Kind;
+use krb_registry::Kind;
+use krb_registry::gss_api::{MIC_TOKEN_ID, WRAP_TOKEN_ID};
 use krb_show::{Label, Page, Show, ShowFields, show_octets, show_struct};
 use std::alloc::{AllocError, Global};
 

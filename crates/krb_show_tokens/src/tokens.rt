@@ -14,10 +14,10 @@ use crate::opened::{
     FramedApRep, FramedApReq, FramedAsRep, FramedAsReq, FramedError, FramedTgtRep, FramedTgtReq,
 };
 use crate::proxies::{ProxyMessages, TokenPages};
-use krb_constants::gss_api::AP_REQ_TOKEN_ID;
 use krb_der::{Asn1DerError, Der, DerEncode, ExplicitContextTag0};
-use krb_gss_negotiation::gss_api::{ApplicationTag0, GssApiNegInit, NegTokenInit, NegTokenTarg1};
+use krb_gss_tokens::gss_api::{ApplicationTag0, GssApiNegInit, NegTokenInit, NegTokenTarg1};
 use krb_gss_tokens::{GssApiMessageError, MicToken, WrapToken};
+use krb_registry::gss_api::AP_REQ_TOKEN_ID;
 use krb_show::{Label, Page, Show, page_of_octets};
 use std::alloc::Global;
 

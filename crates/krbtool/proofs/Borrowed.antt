@@ -3,10 +3,10 @@ use Rattle.std.proofs.Common.{◌≡◌, Bor}
 use borrow.Pointer.Hide.{carry_now, carried_same}
 use denote.Param.Table.{Entry}
 use mir.Syntax.{Dict}
-use Rattle.krb_crypto_suite.specs.contracts.cipher_suite.CipherSuite.{the_row}
-use Rattle.krb_crypto_suite.specs.contracts.suite_ciphers.CipherSuiteCipher.TheImpl.{ghosts}
-use Rattle.krb_crypto_suite.specs.declared.cipher.Cipher.{Ghosts}
-use Rattle.krb_crypto_suite.specs.declared.cipher_suite.CipherSuite.{CipherSuite}
+use Rattle.krb_crypto.specs.contracts.cipher_suite.CipherSuite.{the_row}
+use Rattle.krb_crypto.specs.contracts.suite_ciphers.CipherSuiteCipher.TheImpl.{ghosts}
+use Rattle.krb_crypto.specs.declared.cipher.Cipher.{Ghosts}
+use Rattle.krb_crypto.specs.declared.cipher_suite.CipherSuite.{CipherSuite}
 
 -- the cipher is the suite
 pub borrowed_suite : (cipher : Entry Ghosts Dict) (methods : Dict) (same : cipher ≡ (the_row, ghosts, methods)) (x : Bor cipher.0.Denot)

@@ -2,9 +2,9 @@
 use Rattle.std.proofs.Common.{◌≡◌, ◌≢◌, ℕ, ℤ, List, [], ◌∷◌, codes, map, length, get_or, slice_index_or, ◌-◌, Result, Ok, Err, refl, sym, ap, ◌∙◌, inl, inr, arith}
 use Rattle.hex.specs.Hex.{decode_of}
 use Rattle.hex.specs.declared.error.FromHexError.{FromHexError}
-use Rattle.krb_crypto_suite.specs.Suites as suites
-use Rattle.krb_crypto_suite.specs.declared.cipher_suite.CipherSuite.{CipherSuite}
-use Rattle.krb_crypto_suite.specs.declared.cipher_suite.CipherSuite.TheVariants.{Aes128CtsHmacSha196, Aes256CtsHmacSha196, Des3CbcSha1Kd, Aes128CtsHmacSha256128, Aes256CtsHmacSha384192}
+use Rattle.krb_crypto.specs.Suites as suites
+use Rattle.krb_crypto.specs.declared.cipher_suite.CipherSuite.{CipherSuite}
+use Rattle.krb_crypto.specs.declared.cipher_suite.CipherSuite.TheVariants.{Aes128CtsHmacSha196, Aes256CtsHmacSha196, Des3CbcSha1Kd, Aes128CtsHmacSha256128, Aes256CtsHmacSha384192}
 use Rattle.krbtool.specs.declared.failure.Failure.{Failure}
 use Rattle.krbtool.specs.declared.command.Command.{Command}
 use Rattle.krbtool.specs.declared.command.Command.TheVariants.{Check, Seal, Open}

@@ -8,10 +8,10 @@ use Rattle.krb_der_core.specs.Reading.{Encodings}
 use Rattle.krb_der_core.specs.declared.error.Asn1DerError.{Asn1DerError}
 use Rattle.krb_der_core.specs.declared.error.Asn1DerError.TheVariants as der
 use Rattle.krb_crypto_message.specs.Sealing.{IsOfNone, Opens}
-use Rattle.krb_seal.specs.Padded.{PaddedError, RejectsPadded}
-use Rattle.krb_seal.specs.PartError.{IfCrypto, IfDer}
-use Rattle.krb_seal.specs.declared.error.PartError.{PartError}
-use Rattle.krb_seal.specs.declared.error.PartError.TheVariants as part
+use Rattle.krb_crypto.specs.Padded.{PaddedError, RejectsPadded}
+use Rattle.krb_crypto.specs.PartError.{IfCrypto, IfDer}
+use Rattle.krb_crypto.specs.declared.seal.error.PartError.{PartError}
+use Rattle.krb_crypto.specs.declared.seal.error.PartError.TheVariants as part
 use Rattle.krbtool.specs.declared.failure.Failure.{Failure}
 use Rattle.krbtool.specs.Failures.{of_part}
 use Rattle.krbtool.specs.declared.failure.Failure.TheVariants.{Arguments, Der, Crypto}

@@ -8,9 +8,9 @@ use Rattle.krb_der_core.specs.Errors.{ValueError}
 use Rattle.krb_der_core.specs.Reading.{Encodings}
 use Rattle.krb_der.specs.Whole.{ReadsValue, ReportsCut, RejectsMore, NoDevice}
 use Rattle.krb_crypto_message.specs.Sealing.{IsGiven, IsOfNone, Opens}
-use Rattle.krb_seal.specs.Padded.{PaddedError, RejectsPadded}
-use Rattle.krb_crypto_suite.specs.BySuite.{IsSealed, key_octets_of, confounder_octets_of, padding_octets_of, error_of}
-use Rattle.krb_crypto_suite.specs.declared.cipher_suite.CipherSuite.{CipherSuite}
+use Rattle.krb_crypto.specs.Padded.{PaddedError, RejectsPadded}
+use Rattle.krb_crypto.specs.BySuite.{IsSealed, key_octets_of, confounder_octets_of, padding_octets_of, error_of}
+use Rattle.krb_crypto.specs.declared.cipher_suite.CipherSuite.{CipherSuite}
 use Rattle.krbtool.specs.declared.command.Command.{Command}
 use Rattle.krbtool.specs.declared.command.Command.TheVariants.{Check, Seal, Open}
 use Rattle.krbtool.specs.declared.failure.Failure.{Failure}

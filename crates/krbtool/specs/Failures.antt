@@ -4,8 +4,8 @@ use Rattle.krb_crypto_hash.specs.declared.error.KerberosCryptoError.{KerberosCry
 use Rattle.krb_crypto_hash.specs.declared.error.KerberosCryptoError.TheVariants as crypto
 use Rattle.krb_der_core.specs.declared.error.Asn1DerError.{Asn1DerError}
 use Rattle.krb_der_core.specs.declared.error.Asn1DerError.TheVariants as der
-use Rattle.krb_seal.specs.declared.error.PartError.{PartError}
-use Rattle.krb_seal.specs.declared.error.PartError.TheVariants as part
+use Rattle.krb_crypto.specs.declared.seal.error.PartError.{PartError}
+use Rattle.krb_crypto.specs.declared.seal.error.PartError.TheVariants as part
 use Rattle.krbtool.specs.declared.failure.Failure.{Failure}
 use Rattle.krbtool.specs.declared.failure.Failure.TheVariants.{Arguments, Der, Crypto, Memory, Read, Write}
 

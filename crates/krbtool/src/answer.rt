@@ -2,15 +2,15 @@
 
 ghost use Rattle.std.specs.Prelude.{◌≡◌, ℕ, List, length, IfOk, IfErr, MatchResult};
 ghost use Rattle.krb_crypto_message.specs.Sealing.{IsGiven};
-ghost use Rattle.krb_crypto_suite.specs.BySuite.{key_octets_of, confounder_octets_of};
+ghost use Rattle.krb_crypto.specs.BySuite.{key_octets_of, confounder_octets_of};
 ghost use Rattle.krbtool.specs.Commands.{IsChecked, IsSealing, IsOpening, IsAnswer, IsReadError, IsSealError, IsOpenError, IsOpenErrorUnder, IsRejection, HasConfounder};
 ghost use Rattle.krbtool.specs.Outcome.{IsOutside};
 
 use crate::command::{Command, SealingKey};
 use crate::failure::Failure;
-use krb_crypto_suite::Cipher;
+use krb_crypto::Cipher;
+use krb_crypto::seal::{open_part, seal_part};
 use krb_der::{Der, from_bytes, to_vec};
-use krb_seal::{open_part, seal_part};
 use std::alloc::Global;
 
 /// The input again, where it is the encoding of a value of the type.

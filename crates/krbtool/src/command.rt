@@ -1,6 +1,6 @@
 //! What the program is asked to do.
 
-use krb_crypto_suite::CipherSuite;
+use krb_crypto::CipherSuite;
 
 /// The arguments ETYPE KEYHEX USAGE: a suite, the octets of a key, which may be of any number, and a key usage.
 #[derive(Drop)]

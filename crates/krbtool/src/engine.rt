@@ -10,7 +10,7 @@ use crate::answer::answer;
 use crate::failure::{Failure, read_failure};
 use crate::parse::parse;
 use krb_der::DerEncode;
-use krb_msg_parts::data_types::EncTicketPart;
+use krb_enc_parts::data_types::EncTicketPart;
 use std::alloc::Global;
 use std::io::{ErrorKind, Read, Write};
 

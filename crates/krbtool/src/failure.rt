@@ -4,9 +4,9 @@ ghost use Rattle.std.specs.Prelude.{◌≡◌, ◌⊎◌};
 ghost use Rattle.krbtool.specs.Failures.{of_der, of_part, der_line, crypto_line, line_of};
 ghost use Rattle.krbtool.specs.Outcome.{rejection_status};
 
-use krb_crypto_suite::KerberosCryptoError;
+use krb_crypto::KerberosCryptoError;
+use krb_crypto::seal::PartError;
 use krb_der::Asn1DerError;
-use krb_seal::PartError;
 use std::io;
 
 /// Why a run is rejected.

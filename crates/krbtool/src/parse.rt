@@ -8,7 +8,7 @@ ghost use Rattle.krbtool.specs.Arguments.{IsEtype, IsUsage, AreKeyArguments, IsC
 use crate::command::{Command, SealingKey};
 use crate::failure::Failure;
 use hex::FromHexError;
-use krb_crypto_suite::{Cipher, CipherSuite};
+use krb_crypto::{Cipher, CipherSuite};
 use std::alloc::Global;
 
 /// The command that the arguments are. `Arguments` where they are none, and `Crypto(AlgorithmIdentifier)` where they name an

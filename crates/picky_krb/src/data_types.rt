@@ -1,7 +1,6 @@
 //! Data types (RFC 4120, 5.2 to 5.8), and the record of a caller's integrity level (MS-KILE, 2.2.5).
 
-pub use krb_lsap::{LsapTokenInfoIntegrity, MACHINE_ID_LENGTH};
-pub use krb_msg::data_types::{
+pub use krb_messages::data_types::{
     ApOptions, Authenticator, AuthenticatorInner, AuthorizationData, AuthorizationDataInner,
     ChangePasswdData, Checksum, EncApRepPart, EncApRepPartInner, EncKrbCredPart,
     EncKrbCredPartInner, EncKrbPrivPart, EncKrbPrivPartInner, EncTicketPart, EncTicketPartInner,
@@ -11,3 +10,4 @@ pub use krb_msg::data_types::{
     PaEncTimestamp, PaEncTsEnc, PaPacOptions, PrincipalName, Realm, ResultExt, Ticket, TicketInner,
     TransitedEncoding,
 };
+pub use krb_types::lsap::{LsapTokenInfoIntegrity, MACHINE_ID_LENGTH};

@@ -2,9 +2,9 @@
 
 pub use krb_input::{InputError, octets_of_input};
 pub use krb_show::{
-    Field, Form, Label, Page, Show, ShowFields, Token, json_of_page, page_of_octets,
+    Field, Form, Label, Page, Show, ShowFields, Token, json_of_page, page_of_octets, page_of_tree,
     show_identifier, show_list, show_number, show_octets, show_opened, show_struct, show_text,
-    show_word, text_of_page,
+    show_word, tag_name, text_of_page,
 };
 pub use krb_show_any::{
     Everything, Kind, PageError, Pages, Place, kind_of_name, kind_of_octets, name_of_kind,
@@ -13,7 +13,6 @@ pub use krb_show_any::{
 pub use krb_show_files::{FilePageError, page_of_ccache, page_of_keytab};
 pub use krb_show_formats::{page_of_negoex, page_of_pac, show_pac};
 pub use krb_show_messages::{DataKind, Message, page_of_data, page_of_message, page_of_part};
-pub use krb_show_password::{PasswordFrameError, page_of_password_frame};
 pub use krb_show_pkinit::{Certificate, CertificateKind, page_of_certificate_data};
+pub use krb_show_tokens::kpasswd::{PasswordFrameError, page_of_password_frame};
 pub use krb_show_tokens::{GssToken, page_of_token};
-pub use krb_tree::{page_of_tree, tag_name};

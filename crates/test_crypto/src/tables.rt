@@ -1,46 +1,44 @@
-//! The tables of words by which AES and DES are computed.
+//! The tables of the program.
 
-use crate::row::{Answer, Row, answer_of};
-use krb_crypto_aes_tables::word_tables::{D0, D1, D2, D3, T0, T1, T2, T3};
-use krb_crypto_block::word_tables::COMBINED;
-use picky_krb::crypto::KerberosCryptoResult;
+use crate::{c_calls, c_tokens, crypto, pac_checksums};
 use std::alloc::Global;
+use std::io;
 
-/// The octets of the words, the highest first.
-fn octets_of(alloc: Global, words: &[u32]) -> KerberosCryptoResult<Vec<u8>> {
-    let mut octets = Vec::new(alloc);
-    for word in words {
-        octets.extend_from_slice(&word.to_be_bytes())?;
-    }
-    Ok(octets)
+/// A table, and so what a row is.
+#[derive(Clone, Copy)]
+pub(crate) enum Table {
+    /// Cryptography, call by call.
+    Crypto,
+    /// The calls of the library for C.
+    Calls,
+    /// MIC and Wrap tokens, made, verified and opened.
+    Tokens,
+    /// The checksums of PACs, verified.
+    PacChecksums,
+    /// None of these: each row is told to have no table.
+    Unknown,
 }
 
-/// The table of this name: T0 to T3 of the S-box with MixColumns, D0 to D3 of their inverses, S1P to S8P of the boxes of DES with
-/// the permutation P.
-fn table_of(name: &str) -> Option<&'static [u32]> {
-    match name {
-        "T0" => Some(&T0),
-        "T1" => Some(&T1),
-        "T2" => Some(&T2),
-        "T3" => Some(&T3),
-        "D0" => Some(&D0),
-        "D1" => Some(&D1),
-        "D2" => Some(&D2),
-        "D3" => Some(&D3),
-        "S1P" => Some(&COMBINED[0]),
-        "S2P" => Some(&COMBINED[1]),
-        "S3P" => Some(&COMBINED[2]),
-        "S4P" => Some(&COMBINED[3]),
-        "S5P" => Some(&COMBINED[4]),
-        "S6P" => Some(&COMBINED[5]),
-        "S7P" => Some(&COMBINED[6]),
-        "S8P" => Some(&COMBINED[7]),
-        _ => None,
+impl Table {
+    /// The table of this name.
+    pub(crate) fn named(name: &str) -> Table {
+        match name {
+            "crypto" => Table::Crypto,
+            "calls" => Table::Calls,
+            "tokens" => Table::Tokens,
+            "pac checksums" => Table::PacChecksums,
+            _ => Table::Unknown,
+        }
     }
-}
 
-/// The words of a table, by its name in the place of the suite.
-pub fn try_table(alloc: Global, row: &Row) -> Answer {
-    let words = table_of(row.suite)?;
-    answer_of(alloc, octets_of(alloc, words))
+    /// What is printed of a row.
+    pub(crate) fn answer(self, alloc: Global, row: &str) -> io::Result<String> {
+        match self {
+            Table::Crypto => crypto::answer(alloc, row),
+            Table::Calls => c_calls::answer(alloc, row),
+            Table::Tokens => c_tokens::answer(alloc, row),
+            Table::PacChecksums => pac_checksums::answer(alloc, row),
+            Table::Unknown => Ok(String::from_str(alloc, "no table\n")?),
+        }
+    }
 }

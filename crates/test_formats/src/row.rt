@@ -2,7 +2,7 @@
 
 use krb_der::Asn1DerError;
 use krb_gss_tokens::GssApiMessageError;
-use krb_msg_password::{MessageError, ReadFrameError, WriteFrameError};
+use krb_messages::kpasswd::{MessageError, ReadFrameError, WriteFrameError};
 use krb_pac::PacError;
 use std::alloc::{AllocError, AllocFailed, Global};
 use std::io;

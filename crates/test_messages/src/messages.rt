@@ -2,13 +2,10 @@
 
 use crate::row::{Attempt, Row};
 use crate::trial::findings_of;
-use krb_msg::messages::{
-    ApMessage, ApRep, ApRepInner, ApReq, ApReqInner, KdcProxyMessage, KrbCred, KrbCredInner,
-    KrbError, KrbErrorInner, KrbPriv, KrbPrivInner, TgtRep, TgtReq,
-};
-use krb_msg_kdc::messages::{
-    AsRep, AsReq, EncAsRepPart, EncKdcRepPart, EncTgsRepPart, KdcRep, KdcReq, KdcReqBody, TgsRep,
-    TgsReq,
+use krb_messages::messages::{
+    ApMessage, ApRep, ApRepInner, ApReq, ApReqInner, AsRep, AsReq, EncAsRepPart, EncKdcRepPart,
+    EncTgsRepPart, KdcProxyMessage, KdcRep, KdcReq, KdcReqBody, KrbCred, KrbCredInner, KrbError,
+    KrbErrorInner, KrbPriv, KrbPrivInner, TgsRep, TgsReq, TgtRep, TgtReq,
 };
 
 /// Reads the octets as a request to a KDC of this name, and returns the findings. `None` where no type has the name.

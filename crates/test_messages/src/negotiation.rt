@@ -3,12 +3,12 @@
 use crate::row::{Attempt, Row};
 use crate::trial::findings_of;
 use krb_der::ExplicitContextTag0;
-use krb_gss_negotiation::gss_api::{
+use krb_gss_tokens::gss_api::{
     ApplicationTag0, GssApiNegInit, KrbMessage, MechType, MechTypeList, NegTokenInit, NegTokenTarg,
     NegTokenTarg1,
 };
-use krb_msg::messages::{ApRep, ApReq, TgtReq};
-use krb_msg_types::data_types::{KerbPaPacRequest, PrincipalName};
+use krb_messages::messages::{ApRep, ApReq, TgtReq};
+use krb_types::data_types::{KerbPaPacRequest, PrincipalName};
 
 /// Reads the octets as a message of SPNEGO of this name, and returns the findings. `None` where no type has the name.
 pub fn try_negotiation(row: &Row<'_>) -> Attempt {

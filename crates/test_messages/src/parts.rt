@@ -2,7 +2,7 @@
 
 use crate::row::{Attempt, Row};
 use crate::trial::findings_of;
-use krb_msg_parts::data_types::{
+use krb_enc_parts::data_types::{
     Authenticator, AuthenticatorInner, EncApRepPart, EncApRepPartInner, EncKrbCredPart,
     EncKrbCredPartInner, EncKrbPrivPart, EncKrbPrivPartInner, EncTicketPart, EncTicketPartInner,
     KrbCredInfo,

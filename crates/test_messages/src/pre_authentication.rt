@@ -3,7 +3,7 @@
 use crate::row::{Attempt, Row};
 use crate::trial::findings_of;
 use krb_der::Asn1SequenceOf;
-use krb_msg_types::data_types::{
+use krb_types::data_types::{
     EtypeInfo2, EtypeInfo2Entry, KerbErrorData, KerbPaPacRequest, PaData, PaEncTimestamp,
     PaEncTsEnc, PaPacOptions,
 };

@@ -9,7 +9,7 @@ use krb_der::{
 use krb_der_x509::{
     Asn1RawDer, ImplicitContextTag0, ImplicitContextTag1, ImplicitContextTag2, ObjectIdentifierAsn1,
 };
-use krb_msg_types::data_types::KerbPaPacRequest;
+use krb_types::data_types::KerbPaPacRequest;
 
 /// Reads the octets as a primitive type of this name, and returns the findings. `None` where no type has the name.
 pub fn try_primitive(row: &Row<'_>) -> Attempt {

@@ -2,7 +2,7 @@
 
 use crate::row::{Attempt, Row};
 use crate::trial::findings_of;
-use krb_msg_types::data_types::{
+use krb_types::data_types::{
     ApOptions, AuthorizationData, AuthorizationDataInner, ChangePasswdData, Checksum,
     EncryptedData, EncryptionKey, HostAddress, HostAddresses, KerbAdRestrictionEntry,
     KerberosFlags, KerberosStringAsn1, KerberosTime, LastReq, LastReqInner, Microseconds,

@@ -2,10 +2,10 @@
 
 use crate::outcome::Rejection;
 use crate::suites::key_of;
+use krb_crypto::diffie_hellman::{DhNonce, generate_key_from_shared_secret};
+use krb_crypto::{Cipher, CipherSuite};
 use krb_crypto_block::{AesSize, kdf_hmac_sha256, kdf_hmac_sha384};
 use krb_crypto_message::{KERBEROS, aes, des};
-use krb_crypto_secret::diffie_hellman::{DhNonce, generate_key_from_shared_secret};
-use krb_crypto_suite::{Cipher, CipherSuite};
 use std::alloc::Global;
 
 /// The call of this name that makes a key of the suite from the octets.

@@ -1,9 +1,9 @@
 //! Why a call made nothing.
 
+use krb_crypto::diffie_hellman::DiffieHellmanError;
+use krb_crypto::seal::PartError;
 use krb_crypto_block::KerberosCryptoError;
-use krb_crypto_secret::diffie_hellman::DiffieHellmanError;
 use krb_der::Asn1DerError;
-use krb_seal::PartError;
 use std::alloc::{AllocError, AllocFailed};
 
 /// Why a call made nothing.

@@ -2,10 +2,10 @@
 
 use crate::outcome::Rejection;
 use crate::suites::{TICKET, confounder_of, key_of};
-use krb_crypto_suite::{Cipher, CipherSuite};
+use krb_crypto::seal::{open_part, seal_part};
+use krb_crypto::{Cipher, CipherSuite};
 use krb_der::{from_bytes, to_vec};
-use krb_msg_parts::data_types::EncTicketPart;
-use krb_seal::{open_part, seal_part};
+use krb_enc_parts::data_types::EncTicketPart;
 use std::alloc::Global;
 
 /// The call of this name on a part: `seal_part` reads it from the octets first, `open_part` writes it afterwards.

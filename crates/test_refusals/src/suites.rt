@@ -1,7 +1,7 @@
 //! Messages and checksums under each suite.
 
 use crate::outcome::Rejection;
-use krb_crypto_suite::{Checksum, Cipher, CipherSuite};
+use krb_crypto::{Checksum, Cipher, CipherSuite};
 use std::alloc::Global;
 
 /// The key usage of a ticket's part (RFC 4120, 7.5.1).

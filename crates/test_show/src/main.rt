@@ -1,107 +1,37 @@
 //! The program `test_show`: shows octets that come from outside this library.
 //!
-//! Its standard input is a table. A row is a line of an origin, a type and octets in hexadecimal digits, with tabs between; a line that
-//! begins with `#` is a comment. The octets are of the kind that the type names, of a token of the GSS-API where the type begins with
-//! `token: `, and else of the message or the opened part that their first octet names. For each row the program prints a line of the origin
-//! and the type, the page's text and its JSON, or the error. Where the type is `told` the octets are of the kind that they begin as: behind the
-//! line stands the name of this kind, or `none`, and an error is the reason that it gives.
+//! Its standard input is tables of test vectors (`tables`). A line `== NAME` begins a table, a line that
+//! begins with `#` is a comment, and each other line is a row: columns with tabs between, octets in
+//! hexadecimal digits. The module of a table says what its rows are and what is printed of each.
 #![tactic(auto)]
 
-#[cfg(test)]
-mod large;
+mod checksums;
+mod files;
+mod keys;
+mod opened;
+mod pac;
+mod pages;
+mod tables;
 
-use krb_pac::PacError;
-use krb_show::{Page, json_of_page, text_of_page};
-use krb_show_any::{
-    Everything, Kind, PageError, Pages, kind_of_name, kind_of_octets, name_of_kind,
-};
-use std::alloc::{AllocError, Global};
 use std::io;
 use std::io::{BufRead, BufReader};
-
-/// The kind of a row's octets.
-fn kind_of(name: &str, octets: &[u8]) -> Kind {
-    if name.starts_with("token: ") {
-        return Kind::Token;
-    }
-    if name == "password frame" {
-        return Kind::PasswordFrame;
-    }
-    let first = octets.first().copied().unwrap_or(0);
-    kind_of_name(name).unwrap_or(Kind::Application(first))
-}
-
-/// What is printed of a page.
-fn printed(alloc: Global, page: &Page) -> Result<String, AllocError> {
-    let text = text_of_page(alloc, page)?;
-    let json = json_of_page(alloc, page)?;
-    format!(in alloc; "{text}{json}")
-}
-
-/// What is printed of an error.
-fn reported(alloc: Global, error: PageError) -> Result<String, AllocError> {
-    match error {
-        PageError::Der(error) => format!(in alloc; "{error:?}\n"),
-        PageError::Token(error) => format!(in alloc; "{error:?}\n"),
-        PageError::Pac(PacError::IoError(error)) => format!(in alloc; "{:?}\n", error.kind()),
-        PageError::Pac(error) => format!(in alloc; "{error:?}\n"),
-        PageError::Negoex(error) => format!(in alloc; "{:?}\n", error.kind()),
-        PageError::PasswordFrame(error) => format!(in alloc; "{error:?}\n"),
-        PageError::Keytab(error) => format!(in alloc; "{error:?}\n"),
-        PageError::Ccache(error) => format!(in alloc; "{error:?}\n"),
-        PageError::OutOfMemory => Err(AllocError),
-    }
-}
-
-/// What is printed of octets of the kind that they begin as.
-fn told(alloc: Global, octets: &[u8]) -> Result<String, AllocError> {
-    let Some(kind) = kind_of_octets(octets) else {
-        return String::from_str(alloc, "none\n");
-    };
-    let text = match Everything::page_of(alloc, kind, octets) {
-        Ok(page) => printed(alloc, &page)?,
-        Err(PageError::OutOfMemory) => return Err(AllocError),
-        Err(error) => format!(in alloc; "{}\n", error.reason())?,
-    };
-    format!(in alloc; "{}\n{text}", name_of_kind(kind))
-}
-
-/// What is printed of octets.
-fn shown(alloc: Global, name: &str, octets: &[u8]) -> Result<String, AllocError> {
-    if name == "told" {
-        return told(alloc, octets);
-    }
-    match Everything::page_of(alloc, kind_of(name, octets), octets) {
-        Ok(page) => printed(alloc, &page),
-        Err(error) => reported(alloc, error),
-    }
-}
-
-/// What is printed of a row.
-fn answer(alloc: Global, row: &str) -> io::Result<String> {
-    let mut columns = row.split('\t');
-    let (Some(origin), Some(name), Some(digits)) = (columns.next(), columns.next(), columns.next())
-    else {
-        return Ok(String::from_str(alloc, "no row\n")?);
-    };
-    match hex::decode(alloc, digits) {
-        Ok(octets) => {
-            let text = shown(alloc, name, &octets)?;
-            Ok(format!(in alloc; "{origin} {name}\n{text}")?)
-        }
-        Err(_) => Ok(String::from_str(alloc, "no digits\n")?),
-    }
-}
+use tables::Table;
 
 fn main(rt: HostRuntime) -> io::Result<()> {
     let alloc = rt.alloc();
+    let mut table = Table::Pages;
     for line in BufReader::new(alloc, rt.reader())?.lines(alloc) {
         let line = line?;
         if line.starts_with('#') {
             continue;
         }
-        let text = answer(alloc, line.as_str())?;
-        print!(rt; "{text}")?;
+        match line.strip_prefix("== ") {
+            Some(name) => table = Table::named(name),
+            None => {
+                let text = table.answer(alloc, line.as_str())?;
+                print!(rt; "{text}")?;
+            }
+        }
     }
     Ok(())
 }

@@ -8,13 +8,13 @@ use super::known::{known_ciphertext, known_ticket};
 use crate::error::BuildError;
 use crate::flags::bits_of;
 use crate::integers::integer_of;
-use krb_constants::types::AP_REQ_MSG_TYPE;
 use krb_der::{
     ApplicationTag, DerEncode, ExplicitContextTag0, ExplicitContextTag1, ExplicitContextTag2,
     ExplicitContextTag3, ExplicitContextTag4,
 };
-use krb_msg_app::messages::{ApReq, ApReqInner};
-use krb_msg_types::data_types::{EncryptedData, Ticket};
+use krb_messages::messages::{ApReq, ApReqInner};
+use krb_registry::types::AP_REQ_MSG_TYPE;
+use krb_types::data_types::{EncryptedData, Ticket};
 use std::alloc::Global;
 
 /// The AP-REQ of a ticket and an encrypted Authenticator (RFC 4120, 5.5.1), with the options of these numbers and no others (RFC 4120,

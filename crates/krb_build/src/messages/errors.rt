@@ -1,7 +1,7 @@
 //! KRB-ERROR.
 
 ghost use Rattle.std.specs.Prelude.{◌≡◌, pos, None, IfOk, IfErr};
-ghost use Rattle.krb_view.specs.Times.{unix_seconds};
+ghost use Rattle.krb_types.specs.Times.{unix_seconds};
 ghost use Rattle.krb_build.specs.Errors.{IsMemoryOr};
 ghost use Rattle.krb_build.specs.Times.{IsTimeAt, IsTimeError};
 
@@ -10,14 +10,14 @@ use super::known::{known_name, known_octet_string, known_text};
 use crate::error::BuildError;
 use crate::integers::integer_of;
 use crate::times::time_of_unix_microseconds;
-use krb_constants::types::KRB_ERROR_MSG_TYPE;
 use krb_der::{
     ApplicationTag, DerEncode, ExplicitContextTag0, ExplicitContextTag1, ExplicitContextTag4,
     ExplicitContextTag5, ExplicitContextTag6, ExplicitContextTag9, ExplicitContextTag10,
     OctetStringAsn1, Optional,
 };
-use krb_msg::messages::{KrbError, KrbErrorInner};
-use krb_msg_types::data_types::{KerberosStringAsn1, PrincipalName, Realm};
+use krb_messages::messages::{KrbError, KrbErrorInner};
+use krb_registry::types::KRB_ERROR_MSG_TYPE;
+use krb_types::data_types::{KerberosStringAsn1, PrincipalName, Realm};
 use std::alloc::Global;
 
 /// What a server or a KDC tells of an error (RFC 4120, 5.9.1).

@@ -7,7 +7,7 @@ ghost use Rattle.krb_der_core.specs.Encoding.{IsOctets};
 
 use crate::flags::known_octets;
 use krb_der::{Asn1SequenceOf, DerEncode, IntegerAsn1, OctetStringAsn1};
-use krb_msg_types::data_types::{EncryptedData, KerberosStringAsn1, PaData, PrincipalName, Ticket};
+use krb_types::data_types::{EncryptedData, KerberosStringAsn1, PaData, PrincipalName, Ticket};
 
 /// Lemma: a text is of ASCII.
 pub(crate) fn known_text(text: &Option<KerberosStringAsn1>)

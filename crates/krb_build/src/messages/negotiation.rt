@@ -8,7 +8,7 @@ use super::field;
 use super::known::known_octet_string;
 use crate::mechanisms::{Mechanism, known_identifiers};
 use krb_der::{Asn1SequenceOf, DerEncode, ExplicitContextTag0, OctetStringAsn1, Optional};
-use krb_gss_negotiation::gss_api::{GssApiNegInit, MechType, NegTokenInit};
+use krb_gss_tokens::gss_api::{GssApiNegInit, MechType, NegTokenInit};
 use std::alloc::{AllocError, Global};
 
 /// The object identifiers of mechanisms, in order.

@@ -13,14 +13,14 @@ use crate::error::BuildError;
 use crate::flags::bits_of;
 use crate::integers::integer_of;
 use crate::times::time_of_seconds;
-use krb_constants::types::AS_REQ_MSG_TYPE;
 use krb_der::{
     ApplicationTag, Asn1SequenceOf, DerEncode, ExplicitContextTag0, ExplicitContextTag1,
     ExplicitContextTag2, ExplicitContextTag4, ExplicitContextTag5, ExplicitContextTag7,
     ExplicitContextTag8, IntegerAsn1, Optional,
 };
-use krb_msg_kdc::messages::{AsReq, KdcReq, KdcReqBody};
-use krb_msg_types::data_types::{KerberosFlags, KerberosTime, PaData, PrincipalName, Realm};
+use krb_messages::messages::{AsReq, KdcReq, KdcReqBody};
+use krb_registry::types::AS_REQ_MSG_TYPE;
+use krb_types::data_types::{KerberosFlags, KerberosTime, PaData, PrincipalName, Realm};
 use std::alloc::{AllocError, Global};
 
 /// What a client asks a KDC for, to get its first ticket (RFC 4120, 5.4.1).

@@ -1,6 +1,6 @@
 //! The checksums of RFC 3962: HMAC-SHA1 under a key of AES, cut to 96 bits.
 
-use krb_crypto_suite::{Checksum, ChecksumSuite, KerberosCryptoResult};
+use krb_crypto::{Checksum, ChecksumSuite, KerberosCryptoResult};
 use std::alloc::Global;
 
 /// hmac-sha1-96-aes128, checksum type 15 (RFC 3962, 7): keys of 16 octets, checksums of 12.
@@ -9,7 +9,7 @@ pub struct HmacSha196Aes128;
 
 impl Checksum for HmacSha196Aes128 {
     ghost use Rattle.krb_crypto_message.specs.Sealed.{aes_sum};
-    ghost use Rattle.krb_crypto_suite.specs.declared.checksum_suite.ChecksumSuite.TheVariants as checksum;
+    ghost use Rattle.krb_crypto.specs.declared.checksum_suite.ChecksumSuite.TheVariants as checksum;
 
     ghost key_octets = { λ _. 16 };
 
@@ -38,7 +38,7 @@ pub struct HmacSha196Aes256;
 
 impl Checksum for HmacSha196Aes256 {
     ghost use Rattle.krb_crypto_message.specs.Sealed.{aes_sum};
-    ghost use Rattle.krb_crypto_suite.specs.declared.checksum_suite.ChecksumSuite.TheVariants as checksum;
+    ghost use Rattle.krb_crypto.specs.declared.checksum_suite.ChecksumSuite.TheVariants as checksum;
 
     ghost key_octets = { λ _. 32 };
 

@@ -2,7 +2,7 @@
 
 ghost use Rattle.std.specs.Prelude.{◌≡◌};
 
-use krb_crypto_suite::{
+use krb_crypto::{
     ChecksumSuite, Cipher, CipherSuite, DecryptWithoutChecksum, EncryptWithoutChecksum,
     KerberosCryptoResult,
 };
@@ -22,8 +22,8 @@ impl Aes128CtsHmacSha196 {
 impl Cipher for Aes128CtsHmacSha196 {
     ghost use Rattle.krb_crypto_message.specs.Derive.{IsAesPasswordKey};
     ghost use Rattle.krb_crypto_message.specs.Sealed.{IsSealedAes, aes_ki, mac_96, aes_error};
-    ghost use Rattle.krb_crypto_suite.specs.declared.cipher_suite.CipherSuite.TheVariants as cipher;
-    ghost use Rattle.krb_crypto_suite.specs.declared.checksum_suite.ChecksumSuite.TheVariants as checksum;
+    ghost use Rattle.krb_crypto.specs.declared.cipher_suite.CipherSuite.TheVariants as cipher;
+    ghost use Rattle.krb_crypto.specs.declared.checksum_suite.ChecksumSuite.TheVariants as checksum;
 
     ghost meaning = { λ _ key usage confounder payload octets. IsSealedAes key usage confounder payload octets };
 
@@ -159,8 +159,8 @@ impl Aes256CtsHmacSha196 {
 impl Cipher for Aes256CtsHmacSha196 {
     ghost use Rattle.krb_crypto_message.specs.Derive.{IsAesPasswordKey};
     ghost use Rattle.krb_crypto_message.specs.Sealed.{IsSealedAes, aes_ki, mac_96, aes_error};
-    ghost use Rattle.krb_crypto_suite.specs.declared.cipher_suite.CipherSuite.TheVariants as cipher;
-    ghost use Rattle.krb_crypto_suite.specs.declared.checksum_suite.ChecksumSuite.TheVariants as checksum;
+    ghost use Rattle.krb_crypto.specs.declared.cipher_suite.CipherSuite.TheVariants as cipher;
+    ghost use Rattle.krb_crypto.specs.declared.checksum_suite.ChecksumSuite.TheVariants as checksum;
 
     ghost meaning = { λ _ key usage confounder payload octets. IsSealedAes key usage confounder payload octets };
 

@@ -1,6 +1,6 @@
 //! The checksums of RFC 8009: HMAC-SHA256 and HMAC-SHA384 under a key of AES, cut to half their length.
 
-use krb_crypto_suite::{Checksum, ChecksumSuite, KerberosCryptoResult};
+use krb_crypto::{Checksum, ChecksumSuite, KerberosCryptoResult};
 use std::alloc::Global;
 
 /// hmac-sha256-128-aes128, checksum type 19 (RFC 8009, 6 and 7): keys of 16 octets, checksums of 16.
@@ -10,7 +10,7 @@ pub struct HmacSha256128Aes128;
 impl Checksum for HmacSha256128Aes128 {
     ghost use Rattle.krb_crypto_block.specs.declared.aes.AesSize.TheVariants as size;
     ghost use Rattle.krb_crypto_message.specs.AesSha2.{sha2_sum};
-    ghost use Rattle.krb_crypto_suite.specs.declared.checksum_suite.ChecksumSuite.TheVariants as checksum;
+    ghost use Rattle.krb_crypto.specs.declared.checksum_suite.ChecksumSuite.TheVariants as checksum;
 
     ghost key_octets = { λ _. 16 };
 
@@ -40,7 +40,7 @@ pub struct HmacSha384192Aes256;
 impl Checksum for HmacSha384192Aes256 {
     ghost use Rattle.krb_crypto_block.specs.declared.aes.AesSize.TheVariants as size;
     ghost use Rattle.krb_crypto_message.specs.AesSha2.{sha2_sum};
-    ghost use Rattle.krb_crypto_suite.specs.declared.checksum_suite.ChecksumSuite.TheVariants as checksum;
+    ghost use Rattle.krb_crypto.specs.declared.checksum_suite.ChecksumSuite.TheVariants as checksum;
 
     ghost key_octets = { λ _. 32 };
 

@@ -2,7 +2,7 @@
 
 ghost use Rattle.std.specs.Prelude.{◌≡◌};
 
-use krb_crypto_suite::{
+use krb_crypto::{
     ChecksumSuite, Cipher, CipherSuite, DecryptWithoutChecksum, EncryptWithoutChecksum,
     KerberosCryptoResult,
 };
@@ -22,8 +22,8 @@ impl Aes128CtsHmacSha256128 {
 impl Cipher for Aes128CtsHmacSha256128 {
     ghost use Rattle.krb_crypto_block.specs.declared.aes.AesSize.TheVariants as size;
     ghost use Rattle.krb_crypto_message.specs.AesSha2.{IsSealedSha2, IsSha2PasswordKey, sha2_ki, sha2_mac, sha2_error};
-    ghost use Rattle.krb_crypto_suite.specs.declared.cipher_suite.CipherSuite.TheVariants as cipher;
-    ghost use Rattle.krb_crypto_suite.specs.declared.checksum_suite.ChecksumSuite.TheVariants as checksum;
+    ghost use Rattle.krb_crypto.specs.declared.cipher_suite.CipherSuite.TheVariants as cipher;
+    ghost use Rattle.krb_crypto.specs.declared.checksum_suite.ChecksumSuite.TheVariants as checksum;
 
     ghost meaning = { λ _ key usage confounder payload octets. IsSealedSha2 size.Aes128 key usage confounder payload octets };
 
@@ -159,8 +159,8 @@ impl Aes256CtsHmacSha384192 {
 impl Cipher for Aes256CtsHmacSha384192 {
     ghost use Rattle.krb_crypto_block.specs.declared.aes.AesSize.TheVariants as size;
     ghost use Rattle.krb_crypto_message.specs.AesSha2.{IsSealedSha2, IsSha2PasswordKey, sha2_ki, sha2_mac, sha2_error};
-    ghost use Rattle.krb_crypto_suite.specs.declared.cipher_suite.CipherSuite.TheVariants as cipher;
-    ghost use Rattle.krb_crypto_suite.specs.declared.checksum_suite.ChecksumSuite.TheVariants as checksum;
+    ghost use Rattle.krb_crypto.specs.declared.cipher_suite.CipherSuite.TheVariants as cipher;
+    ghost use Rattle.krb_crypto.specs.declared.checksum_suite.ChecksumSuite.TheVariants as checksum;
 
     ghost meaning = { λ _ key usage confounder payload octets. IsSealedSha2 size.Aes256 key usage confounder payload octets };
 

@@ -1,6 +1,6 @@
 //! The checksum of triple DES (RFC 3961, 6.3): a whole HMAC-SHA1.
 
-use krb_crypto_suite::{Checksum, ChecksumSuite, KerberosCryptoResult};
+use krb_crypto::{Checksum, ChecksumSuite, KerberosCryptoResult};
 use std::alloc::Global;
 
 /// hmac-sha1-des3-kd, checksum type 12 (RFC 3961, 6.3): keys of 24 octets, checksums of 20.
@@ -9,7 +9,7 @@ pub struct HmacSha1Des3Kd;
 
 impl Checksum for HmacSha1Des3Kd {
     ghost use Rattle.krb_crypto_message.specs.Sealed.{des3_sum};
-    ghost use Rattle.krb_crypto_suite.specs.declared.checksum_suite.ChecksumSuite.TheVariants as checksum;
+    ghost use Rattle.krb_crypto.specs.declared.checksum_suite.ChecksumSuite.TheVariants as checksum;
 
     ghost key_octets = { λ _. 24 };
 

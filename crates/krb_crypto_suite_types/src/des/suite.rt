@@ -2,7 +2,7 @@
 
 ghost use Rattle.std.specs.Prelude.{◌≡◌};
 
-use krb_crypto_suite::{
+use krb_crypto::{
     ChecksumSuite, Cipher, CipherSuite, DecryptWithoutChecksum, EncryptWithoutChecksum,
     KerberosCryptoResult,
 };
@@ -25,8 +25,8 @@ impl Cipher for Des3CbcSha1Kd {
     ghost use Rattle.krb_crypto_message.specs.Derive.{IsDes3PasswordKey};
     ghost use Rattle.krb_crypto_message.specs.RandomToKey.{random_to_key};
     ghost use Rattle.krb_crypto_message.specs.Sealed.{IsSealedDes3, des3_ki, des3_error, IsNoDes3Password};
-    ghost use Rattle.krb_crypto_suite.specs.declared.cipher_suite.CipherSuite.TheVariants as cipher;
-    ghost use Rattle.krb_crypto_suite.specs.declared.checksum_suite.ChecksumSuite.TheVariants as checksum;
+    ghost use Rattle.krb_crypto.specs.declared.cipher_suite.CipherSuite.TheVariants as cipher;
+    ghost use Rattle.krb_crypto.specs.declared.checksum_suite.ChecksumSuite.TheVariants as checksum;
 
     ghost meaning = { λ _ key usage confounder payload octets. IsSealedDes3 key usage confounder payload octets };
 

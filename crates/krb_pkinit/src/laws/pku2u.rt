@@ -7,7 +7,7 @@ ghost use Rattle.krb_der.specs.Tags.{HasTag};
 use crate::pkinit::{KrbFinished, Pku2uNegoBody, Pku2uNegoRep, Pku2uNegoReq, Pku2uNegoReqMetadata};
 use krb_der::DerEncode;
 use krb_der::composite::{Fields, Sequence};
-use krb_msg_types::laws::equality as shared_equality;
+use krb_types::laws::equality as shared_equality;
 
 /// The first error of each struct is that of a SEQUENCE of its fields (X.690, 8.9): its tag, then its fields in order, then
 /// trailing octets. Its encodings begin with that tag, and with no other octet (X.690, 8.1.2).

@@ -14,7 +14,7 @@ use krb_der::{
     ExplicitContextTag1, OctetStringAsn1, field_refs,
 };
 use krb_der_x509::ImplicitContextTag0;
-use krb_msg_types::data_types::{Checksum, PrincipalName, Realm};
+use krb_types::data_types::{Checksum, PrincipalName, Realm};
 use std::alloc::{AllocError, Global};
 
 /// One certificate authority that a side of PKU2U trusts.

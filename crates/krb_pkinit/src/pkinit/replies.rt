@@ -16,7 +16,7 @@ use krb_der::{
     ExplicitContextTag1, ExplicitContextTag2, IntegerAsn1, OctetStringAsn1, Optional, field_refs,
 };
 use krb_der_x509::ImplicitContextTag0;
-use krb_msg_types::data_types::KerberosTime;
+use krb_types::data_types::KerberosTime;
 use std::alloc::{AllocError, Global};
 
 /// The public key of a KDC (RFC 4556, 3.2.3).

@@ -21,7 +21,7 @@ use krb_der_x509::{
     AlgorithmIdentifier, ImplicitContextTag0, ImplicitContextTag1, ImplicitContextTag2,
     SubjectPublicKeyInfo,
 };
-use krb_msg_types::data_types::KerberosTime;
+use krb_types::data_types::KerberosTime;
 use std::alloc::{AllocError, Global};
 
 /// By which a certificate is found (RFC 4556, 3.2.1). The octets are encodings, which are not read further.

@@ -3,10 +3,9 @@
 use crate::row::{Attempt, Findings, Rejection, Row};
 use crate::trials::{Format, tried};
 use krb_der::{Der, DerSequence, copy, to_vec};
-use krb_gss_negotiation::gss_api::{ApplicationTag0, IAKerbProxyMessage, KrbMessage};
-use krb_msg::messages::ApRep;
-use krb_msg_kdc::messages::AsReq;
-use krb_msg_types::data_types::KerbPaPacRequest;
+use krb_gss_tokens::gss_api::{ApplicationTag0, IAKerbProxyMessage, KrbMessage};
+use krb_messages::messages::{ApRep, AsReq};
+use krb_types::data_types::KerbPaPacRequest;
 use std::alloc::{AllocError, Global};
 use std::io::Write;
 

@@ -3,8 +3,8 @@
 use crate::row::{Attempt, Rejection, Row};
 use crate::trials::{Format, made, tried};
 use krb_der::{copy, to_writer};
-use krb_msg::messages::KdcProxyMessage;
-use krb_msg_iakerb::messages::IAKerbHeader;
+use krb_gss_tokens::iakerb_header::messages::IAKerbHeader;
+use krb_messages::messages::KdcProxyMessage;
 use std::alloc::Global;
 use std::io::Write;
 

@@ -3,8 +3,10 @@
 use crate::devices::Source;
 use crate::row::{Attempt, Rejection, Row};
 use crate::trials::{Format, Streamed, made, tried, tried_slowly};
-use krb_lsap::{LsapTokenInfoIntegrity, octets_of, record_of};
-use krb_msg_password::{KrbPrivMessage, ReadFrameError, WriteFrameError, read_frame, write_frame};
+use krb_messages::kpasswd::{
+    KrbPrivMessage, ReadFrameError, WriteFrameError, read_frame, write_frame,
+};
+use krb_types::lsap::{LsapTokenInfoIntegrity, octets_of, record_of};
 use std::alloc::Global;
 use std::io::Write;
 

@@ -3,9 +3,8 @@
 use crate::row::{Attempt, Rejection, Row};
 use crate::trials::{Format, tried};
 use krb_der::{Der, copy, to_vec};
-use krb_msg::data_types::{KrbResult, ResultExt};
-use krb_msg::messages::{ApRep, KrbError};
-use krb_msg_kdc::messages::{AsRep, TgsRep};
+use krb_messages::data_types::{KrbResult, ResultExt};
+use krb_messages::messages::{ApRep, AsRep, KrbError, TgsRep};
 use std::alloc::Global;
 use std::io::Write;
 

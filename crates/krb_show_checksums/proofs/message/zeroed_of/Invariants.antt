@@ -1,7 +1,7 @@
 use Rattle.std.proofs.Common.{take}
 use Rattle.krb_der.specs.contracts.sequence_of.Asn1SequenceOfDerEncode.TheImpl.{ghosts}
-use Rattle.krb_msg_types.specs.contracts.data_types.authorization_data.AuthorizationDataInner.{the_row}
-use Rattle.krb_msg_types.specs.contracts.data_types.authorization_data.AuthorizationDataInnerDerEncode.TheImpl as inner
+use Rattle.krb_types.specs.contracts.data_types.authorization_data.AuthorizationDataInner.{the_row}
+use Rattle.krb_types.specs.contracts.data_types.authorization_data.AuthorizationDataInnerDerEncode.TheImpl as inner
 use Rattle.krb_show_checksums.specs.Message.{NoneHoldsPac}
 use Rattle.krb_show_checksums.proofs.message.zeroed_of.Given as goal
 

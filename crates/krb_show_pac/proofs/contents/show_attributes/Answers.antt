@@ -2,7 +2,7 @@ use Rattle.std.proofs.Common.{sym, ◌∙◌, codes}
 use Rattle.krb_show.specs.Tokens.{plain}
 use Rattle.krb_show_pac.specs.Small.{attributes_info_of}
 use Rattle.krb_show_pac.specs.Unread.{buffer_words}
-use Rattle.krb_pac_buffers.specs.Attributes.{attributes_of}
+use Rattle.krb_pac_contents.specs.Attributes.{attributes_of}
 use Rattle.krb_show_pac.proofs.Readings.{read_shown}
 use Rattle.krb_show_pac.proofs.contents.show_attributes.Goals as goal
 

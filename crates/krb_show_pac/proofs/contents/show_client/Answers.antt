@@ -2,7 +2,7 @@ use Rattle.std.proofs.Common.{sym, ◌∙◌, codes}
 use Rattle.krb_show.specs.Tokens.{plain}
 use Rattle.krb_show_pac.specs.Small.{client_of}
 use Rattle.krb_show_pac.specs.Unread.{buffer_words}
-use Rattle.krb_pac_buffers.specs.Client.{client_info_of}
+use Rattle.krb_pac_contents.specs.Client.{client_info_of}
 use Rattle.krb_show_pac.proofs.Readings.{read_shown}
 use Rattle.krb_show_pac.proofs.contents.show_client.Goals as goal
 

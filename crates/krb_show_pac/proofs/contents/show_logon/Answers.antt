@@ -2,7 +2,7 @@ use Rattle.std.proofs.Common.{sym, ◌∙◌, codes}
 use Rattle.krb_show.specs.Tokens.{plain}
 use Rattle.krb_show_pac.specs.Logon.{validation_info_of}
 use Rattle.krb_show_pac.specs.Unread.{logon_words}
-use Rattle.krb_pac_logon.specs.Logon.{logon_of}
+use Rattle.krb_pac_contents.specs.Logon.{logon_of}
 use Rattle.krb_show_pac.proofs.Readings.{read_shown}
 use Rattle.krb_show_pac.proofs.contents.show_logon.Goals as goal
 

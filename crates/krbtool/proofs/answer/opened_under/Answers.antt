@@ -1,7 +1,7 @@
 use Rattle.std.proofs.Common.{◌∙◌, sym, ap, subst}
 use Rattle.krb_crypto_message.specs.Sealing.{IsGiven}
-use Rattle.krb_crypto_suite.specs.BySuite.{IsSealed, key_octets_of, confounder_octets_of}
-use Rattle.krb_crypto_suite.specs.declared.cipher_suite.CipherSuite.{CipherSuite}
+use Rattle.krb_crypto.specs.BySuite.{IsSealed, key_octets_of, confounder_octets_of}
+use Rattle.krb_crypto.specs.declared.cipher_suite.CipherSuite.{CipherSuite}
 use Rattle.krbtool.proofs.Borrowed.{borrowed_suite}
 use Rattle.krbtool.proofs.answer.opened_under.Goals as goal
 

@@ -1,7 +1,7 @@
 use Rattle.std.proofs.Common.{take}
 use Rattle.std.specs.List.{AllByRecursion}
 use Rattle.krb_der_core.specs.Encoding.{IsOctets}
-use Rattle.krb_msg_types.specs.declared.data_types.pre_authentication.PaData.{PaData}
+use Rattle.krb_types.specs.declared.data_types.pre_authentication.PaData.{PaData}
 use Rattle.krb_build.proofs.messages.known.known_elements.Given as goal
 
 -- the elements so far are values

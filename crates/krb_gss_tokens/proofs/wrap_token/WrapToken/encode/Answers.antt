@@ -1,7 +1,7 @@
 use Rattle.std.proofs.Common.{ap, subst, ℕ, List, OnOk, IfErr}
 use Rattle.std.specs.Io.KnownBytes.{Appends}
 use Rattle.krb_gss_tokens.specs.Wrap.{Wrap}
-use Rattle.krb_gss_tokens.specs.Rejected.{IsUnwritten}
+use Rattle.krb_gss_tokens.specs.PerMessageRejected.{IsUnwritten}
 use Rattle.krb_gss_tokens.proofs.Streams.{joined_parts}
 use Rattle.krb_gss_tokens.proofs.wrap_token.WrapToken.encode.Goals as goal
 

@@ -1,0 +1,7 @@
+pub mod TokensAnswered
+pub mod RequestsMade
+pub mod Answered
+mod KeptAgain
+mod Lengths
+mod Given
+mod Refused

@@ -1,0 +1,16 @@
+use Rattle.std.proofs.Common.{ℕ, inr, refl, subst, sym}
+use Rattle.std.proofs.lemmas.Int.{to_z-of_z}
+use Rattle.krb_c_calls.specs.Wraps.{RefusesUnwrapping}
+use Rattle.krb_c_calls.proofs.tokens.wraps.unwrap.Goals as goal
+
+pub returns-in-Err : goal.returns-in-Err
+returns-in-Err c =
+    let etype = c.ranges.etype in
+    let told = simp to_z-of_z at c.in-Err.ensures in
+    inr (
+      subst (λ (s : ℕ). RefusesUnwrapping c.args.etype c.args.key.now c.args.sent_by_acceptor c.args.acceptor_subkey c.args.token.now s) (sym c.status.ensures.number) told,
+      c.status.ensures.refusal,
+      (refl, refl),
+      refl,
+      refl,
+    )

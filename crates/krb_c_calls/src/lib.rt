@@ -1,0 +1,25 @@
+//! The calls of the library for C: of the cryptography; of messages and their parts, fields, per-message tokens and proxies.
+#![tactic(auto)]
+
+mod checksums;
+pub mod fields;
+pub mod handing;
+mod kept;
+mod keys;
+pub mod laws;
+mod messages;
+pub mod parts;
+pub mod proxies;
+mod refusal;
+mod sizes;
+pub mod suites;
+pub mod tokens;
+
+pub use checksums::{checksum, summed, verify_checksum};
+pub use kept::{KeptKey, decrypt_kept, decrypted_kept, encrypt_kept, encrypted_kept, keep_key};
+pub use keys::{n_fold, random_to_key, string_to_key};
+pub use messages::{decrypt, decrypted, encrypt, encrypted};
+pub use refusal::Refusal;
+pub use sizes::{
+    checksum_key_size, checksum_size, confounder_size, encrypted_size, key_size, seed_size,
+};

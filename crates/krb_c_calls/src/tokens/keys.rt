@@ -1,0 +1,41 @@
+//! The key of a token, as C names it.
+
+ghost use Rattle.std.specs.Prelude.{◌≡◌, MatchResult};
+ghost use Rattle.krb_c_calls.specs.TokenKeys.{IsKeyOf, RefusesKey, sender_of};
+ghost use Rattle.krb_c_calls.specs.TokenStatuses.{token_status};
+
+use crate::suites::cipher_suite_of;
+use crate::tokens::refusal::TokenRefusal;
+use krb_crypto::KerberosCryptoError;
+use krb_gss_per_message::{Sender, TokenKey};
+
+fn sender(sent_by_acceptor: bool) -> Sender
+    ensures { result ≡ sender_of sent_by_acceptor }
+{
+    if sent_by_acceptor {
+        Sender::Acceptor
+    } else {
+        Sender::Initiator
+    }
+}
+
+/// The key of the suite of this number. `Number` for a number of no suite, and for triple DES; else `KeySize`.
+pub(crate) fn token_key(
+    etype: i32,
+    octets: &[u8],
+    sent_by_acceptor: bool,
+    acceptor_subkey: bool,
+) -> Result<TokenKey<'_>, TokenRefusal>
+    ensures { MatchResult result
+        (λ key. IsKeyOf etype octets.now sent_by_acceptor acceptor_subkey key)
+        (λ e. RefusesKey etype octets.now (token_status e)) }
+{
+    let Ok(suite) = cipher_suite_of(etype) else {
+        return Err(TokenRefusal::Number);
+    };
+    match TokenKey::new(suite, octets, sender(sent_by_acceptor), acceptor_subkey) {
+        Ok(key) => Ok(key),
+        Err(KerberosCryptoError::KeyLength(_, _)) => Err(TokenRefusal::KeySize),
+        Err(_) => Err(TokenRefusal::Number),
+    }
+}

@@ -1,4 +1,0 @@
-pub mod Credentials
-pub mod Steps
-pub mod Whole
-pub mod Writes

@@ -1,4 +1,0 @@
-pub mod Ccache
-pub mod Config
-pub mod Reading
-pub mod Written

@@ -1,6 +1,0 @@
-pub mod Backs
-pub mod Entries
-pub mod Infos
-pub mod Lists
-pub mod Refusals
-pub mod Texts

@@ -1,8 +1,0 @@
-use Rattle.std.proofs.Common.{◌≡◌, drop}
-use Rattle.krb_convert.specs.Kirbi.{address_from, each_of}
-use Rattle.krb_convert.proofs.Lists.{after}
-use Rattle.krb_convert.proofs.credential.each_address.Given as goal
-
--- the addresses so far, before what is still to be done
-abbrev pub invariant-loop-address : goal.invariant-loop-address
-invariant-loop-address l = after l.typed.items (each_of address_from (drop l.address-index l.addresses)) ≡ each_of address_from l.addresses

@@ -1,0 +1,2 @@
+mod Digests
+pub mod Parts

@@ -1,0 +1,9 @@
+pub mod Suites
+pub mod BySuite
+pub mod PreparedKeys
+pub mod PreparedCases
+pub mod Standards
+pub mod Agreement
+pub mod PartError
+pub mod Padded
+pub mod Prepared

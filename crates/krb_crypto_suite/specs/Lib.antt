@@ -1,5 +1,0 @@
-pub mod Suites
-pub mod BySuite
-pub mod PreparedKeys
-pub mod PreparedCases
-pub mod Standards

@@ -1,6 +1,0 @@
-use Rattle.krb_fields.specs.Lists.{IsReadUpTo}
-use Rattle.krb_fields.specs.Reading.{counted_at, size_of}
-use Rattle.krb_fields.proofs.principal.after_components.Given as goal
-
-abbrev pub invariant-components : goal.invariant-components
-invariant-components l = IsReadUpTo (counted_at (size_of l.size)) l.count l.octets l.counter l.rest

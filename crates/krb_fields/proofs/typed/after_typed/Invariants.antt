@@ -1,6 +1,0 @@
-use Rattle.krb_fields.specs.Lists.{IsReadUpTo}
-use Rattle.krb_fields.specs.Reading.{typed_at}
-use Rattle.krb_fields.proofs.typed.after_typed.Given as goal
-
-abbrev pub invariant-typed : goal.invariant-typed
-invariant-typed l = IsReadUpTo (typed_at 4) l.count l.octets l.counter l.rest

@@ -1,8 +1,0 @@
-use Rattle.std.proofs.Common.{◌≡◌, ◌++◌, take}
-use Rattle.std.specs.List.{flat_map}
-use Rattle.krb_fields.specs.Reading.{size_of}
-use Rattle.krb_fields.specs.Written.{typed_octets}
-use Rattle.krb_fields.proofs.writing.push_each_typed.Given as goal
-
-abbrev pub invariant-typed : goal.invariant-typed
-invariant-typed l = l.out.items ≡ l.fn.out.items ++ flat_map (typed_octets (size_of l.size)) (take l.typed-index l.list)

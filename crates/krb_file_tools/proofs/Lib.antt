@@ -1,0 +1,11 @@
+pub mod Listing
+pub mod Names
+pub mod Pieces
+pub mod Printable
+pub mod Unique
+pub mod Backs
+pub mod Entries
+pub mod Infos
+pub mod Lists
+pub mod Refusals
+pub mod Texts

@@ -1,0 +1,9 @@
+pub mod Lines
+pub mod Principals
+pub mod Texts
+pub mod Answers
+pub mod Back
+pub mod Fields
+pub mod Kirbi
+pub mod Message
+pub mod Whole

@@ -1,0 +1,93 @@
+-- A whole KRB-CRED in the clear (RFC 4120, 5.8.1), the cache that it becomes, and why it becomes none.
+use Rattle.std.specs.Prelude.{◌≡◌, ◌≢◌, ◌⊎◌, ℕ, ℤ, pos, Bool, false, List, [], ◌∷◌, Result, Ok, Err, filter, is_some}
+use Rattle.std.specs.List.{list_any}
+use Rattle.krb_files.specs.Ccache.{Ccache, CcacheIs, FitsCcache}
+use Rattle.krb_der_core.specs.Errors.{ValueError}
+use Rattle.krb_der_core.specs.declared.der.DerEncode.{Ghosts as EncodingOf}
+use Rattle.krb_der_core.specs.declared.error.Asn1DerError.{Asn1DerError}
+use Rattle.krb_messages.specs.declared.messages.credentials.KrbCredInner.{KrbCredInner}
+use Rattle.krb_enc_parts.specs.declared.data_types.credentials.EncKrbCredPartInner.{EncKrbCredPartInner}
+use Rattle.krb_types.specs.declared.data_types.tickets.TicketInner.{TicketInner}
+use Rattle.krb_file_tools.specs.Answers.{IsOf}
+use Rattle.krb_file_tools.specs.Fields.{has_long_flags}
+use Rattle.krb_file_tools.specs.Kirbi.{cache_from}
+use Rattle.krb_file_tools.specs.declared.convert.error.ConvertError.{ConvertError}
+use Rattle.krb_file_tools.specs.declared.convert.error.ConvertError.TheVariants as errors
+use Rattle.krb_file_tools.specs.declared.convert.field.Field.{Field}
+use Rattle.krb_file_tools.specs.declared.convert.field.Field.TheVariants as field
+
+-- the first error of octets that are to be the encoding of a value
+abbrev pub FirstError : {A : Type 0} → EncodingOf A → List ℕ → Asn1DerError → Type 0
+FirstError t octets why = ValueError t.is_value t.enc t.first t.error octets why
+
+-- the octets are the encoding of this value
+abbrev pub IsValue : {A : Type 0} → EncodingOf A → List ℕ → A → Type 0
+IsValue t octets v = IsOf t.is_value t.enc octets v
+
+-- a message of these numbers is in the clear, and this is its part: an encryption type of 0 (RFC 4120, 5.8.1)
+pub record IsClear {P : Type 0} (part : EncodingOf P) (pvno msg_type etype : ℤ) (cipher : List ℕ) (p : P) : Type 0 where
+  pub protocol : pvno ≡ pos 5
+  pub kind : msg_type ≡ pos 22
+  pub clear : etype ≡ pos 0
+  pub opened : IsValue part cipher p
+
+-- the first rule that a message of these numbers breaks
+pub data ClearError {P : Type 0} (part : EncodingOf P) (pvno msg_type etype : ℤ) (cipher : List ℕ) : ConvertError → Type 0 where
+  other_pvno : pvno ≢ pos 5 → ClearError part pvno msg_type etype cipher errors.Pvno
+  other_type : pvno ≡ pos 5 → msg_type ≢ pos 22 → ClearError part pvno msg_type etype cipher errors.MsgType
+  other_etype : pvno ≡ pos 5 → msg_type ≡ pos 22 → etype ≢ pos 0 → ClearError part pvno msg_type etype cipher errors.Sealed
+  no_part : (why : Asn1DerError) → pvno ≡ pos 5 → msg_type ≡ pos 22 → etype ≡ pos 0 → FirstError part cipher why
+      → ClearError part pvno msg_type etype cipher (errors.Part why)
+
+-- the octets are the cache that is wanted
+abbrev pub IsWritten : List ℕ → Result Ccache ConvertError → Type 0
+IsWritten octets wanted = (cache : Ccache) × (wanted ≡ Ok cache) × CcacheIs octets cache
+
+-- a rule says that there is none, or a length or a count of it does not fit its field
+abbrev pub IsUnwritten : ConvertError → Result Ccache ConvertError → Type 0
+IsUnwritten e wanted = (wanted ≡ Err e) ⊎ ((e ≡ errors.TooLong) × ((cache : Ccache) × (wanted ≡ Ok cache) × (FitsCcache cache → ⊥)))
+
+-- what of a KRB-CRED has no place in a cache
+abbrev pub kirbi_has : KrbCredInner → EncKrbCredPartInner → Field → Bool
+kirbi_has k p field.Kvno = is_some k.enc_part.kvno.0
+kirbi_has k p field.Flags = list_any (λ info. has_long_flags info.flags.0) p.ticket_info
+kirbi_has k p field.Nonce = is_some p.nonce.0
+kirbi_has k p field.Timestamp = is_some p.timestamp.0
+kirbi_has k p field.Usec = is_some p.usec.0
+kirbi_has k p field.SAddress = is_some p.s_address.0
+kirbi_has k p field.RAddress = is_some p.r_address.0
+kirbi_has k p _ = false
+
+-- all that may have none, in the order in which it is told
+abbrev pub kirbi_fields : List Field
+kirbi_fields = field.Kvno ∷ field.Flags ∷ field.Nonce ∷ field.Timestamp ∷ field.Usec ∷ field.SAddress ∷ field.RAddress ∷ []
+
+-- a cache's octets, and what is left out, of a message and its part
+pub record IsCacheBy (ticket_octets : TicketInner → List ℕ) (k : KrbCredInner) (p : EncKrbCredPartInner) (written : List ℕ) (left_out : List Field) : Type 0 where
+  pub cache : IsWritten written (cache_from ticket_octets k.tickets p.ticket_info)
+  pub left : left_out ≡ filter (kirbi_has k p) kirbi_fields
+
+-- the same of a message
+pub record IsCacheFrom (part : EncodingOf EncKrbCredPartInner) (ticket_octets : TicketInner → List ℕ) (k : KrbCredInner) (written : List ℕ) (left_out : List Field) : Type 0 where
+  pub p : EncKrbCredPartInner
+  pub clear : IsClear part k.pvno k.msg_type k.enc_part.etype k.enc_part.cipher p
+  pub by_part : IsCacheBy ticket_octets k p written left_out
+
+-- the first rule that a message breaks
+pub data MessageError (part : EncodingOf EncKrbCredPartInner) (ticket_octets : TicketInner → List ℕ) (k : KrbCredInner) (e : ConvertError) : Type 0 where
+  not_clear : ClearError part k.pvno k.msg_type k.enc_part.etype k.enc_part.cipher e → MessageError part ticket_octets k e
+  no_cache : (p : EncKrbCredPartInner) → IsClear part k.pvno k.msg_type k.enc_part.etype k.enc_part.cipher p
+      → IsUnwritten e (cache_from ticket_octets k.tickets p.ticket_info) → MessageError part ticket_octets k e
+
+-- a cache's octets, and what is left out, of a KRB-CRED's octets
+pub record IsCacheOf (message : EncodingOf KrbCredInner) (part : EncodingOf EncKrbCredPartInner) (ticket_octets : TicketInner → List ℕ) (octets : List ℕ)
+    (written : List ℕ) (left_out : List Field) : Type 0 where
+  pub k : KrbCredInner
+  pub whole : IsValue message octets k
+  pub from_message : IsCacheFrom part ticket_octets k written left_out
+
+-- the first rule that a KRB-CRED's octets break
+pub data KirbiRefusal (message : EncodingOf KrbCredInner) (part : EncodingOf EncKrbCredPartInner) (ticket_octets : TicketInner → List ℕ) (octets : List ℕ)
+    (e : ConvertError) : Type 0 where
+  no_message : (why : Asn1DerError) → e ≡ errors.Kirbi why → FirstError message octets why → KirbiRefusal message part ticket_octets octets e
+  in_message : (k : KrbCredInner) → IsValue message octets k → MessageError part ticket_octets k e → KirbiRefusal message part ticket_octets octets e

@@ -1,0 +1,15 @@
+pub mod Alls
+pub mod Laws
+pub mod Lists
+pub mod Principals
+pub mod FieldReading
+pub mod FieldWritten
+pub mod Ccache
+pub mod Config
+pub mod CcacheReading
+pub mod CcacheWritten
+pub mod Entry
+pub mod Find
+pub mod Keytab
+pub mod KeytabReading
+pub mod KeytabWritten

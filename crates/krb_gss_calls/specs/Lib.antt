@@ -1,4 +1,0 @@
-pub mod TokenStatuses
-pub mod TokenKeys
-pub mod Mics
-pub mod Wraps

@@ -1,5 +1,0 @@
-mod Retagging
-mod Errors
-mod KrbTokens
-mod Proxies
-mod OneErrors

@@ -1,5 +1,0 @@
-use Rattle.krb_gss_negotiation.specs.TokenLaws.{token_is}
-use Rattle.krb_gss_negotiation.proofs.laws.tokens.Goals as goal
-
-pub returns-clause-content : goal.returns-clause-content
-returns-clause-content g c = λ v content e. token_is (g.T.DerEncode.enc v) content e

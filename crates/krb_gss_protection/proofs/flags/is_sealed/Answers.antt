@@ -1,5 +1,0 @@
-use Rattle.krb_gss_protection.proofs.FlagBits.{bit_1_tested}
-use Rattle.krb_gss_protection.proofs.flags.is_sealed.Goals as goal
-
-pub returns : goal.returns
-returns c = bit_1_tested c.args.flags

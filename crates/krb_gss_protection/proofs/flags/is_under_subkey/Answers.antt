@@ -1,5 +1,0 @@
-use Rattle.krb_gss_protection.proofs.FlagBits.{bit_2_tested}
-use Rattle.krb_gss_protection.proofs.flags.is_under_subkey.Goals as goal
-
-pub returns : goal.returns
-returns c = bit_2_tested c.args.flags

@@ -1,5 +1,0 @@
-pub mod Records
-pub mod Joined
-pub mod Steps
-pub mod Whole
-pub mod Writes

@@ -1,5 +1,0 @@
-pub mod Entry
-pub mod Find
-pub mod Keytab
-pub mod Reading
-pub mod Written

@@ -1,5 +1,0 @@
-pub mod Listing
-pub mod Names
-pub mod Pieces
-pub mod Printable
-pub mod Unique

@@ -1,8 +1,0 @@
-use Rattle.std.proofs.Common.{ℕ, List, []}
-use Rattle.krb_list.specs.Lines.{IsCredentialLine, IsListing, tickets_of}
-use Rattle.krb_list.proofs.ccache.push_tickets.Given as goal
-
-abbrev pub invariant-credentials : goal.invariant-credentials
-invariant-credentials g l =
-    (heads : List (List ℕ)) → IsListing heads (IsCredentialLine g.T.TicketEtypes.etype l.own) [] l.fn.text.items
-    → IsListing heads (IsCredentialLine g.T.TicketEtypes.etype l.own) (tickets_of l.yielded) l.text.items

@@ -1,0 +1,2 @@
+pub mod CodeTexts
+pub mod Frames

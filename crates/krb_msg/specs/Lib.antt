@@ -1,3 +1,0 @@
-pub mod ApMessage
-pub mod CodeText
-pub mod Results

@@ -1,4 +1,0 @@
-pub mod Attributes
-pub mod Client
-pub mod Steps
-pub mod Upn

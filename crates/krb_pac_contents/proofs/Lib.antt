@@ -1,0 +1,4 @@
+mod FileTimes
+mod Units
+pub mod FirstLeft
+pub mod Loops

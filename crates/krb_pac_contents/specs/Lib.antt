@@ -1,0 +1,15 @@
+pub mod Names
+pub mod Sids
+pub mod Times
+pub mod Elements
+pub mod Fields
+pub mod Fixed
+pub mod Logon
+pub mod Numbers
+pub mod Referents
+pub mod Sid
+pub mod Steps
+pub mod Attributes
+pub mod Client
+pub mod BufferSteps
+pub mod Upn

@@ -1,2 +1,0 @@
-pub mod FirstLeft
-pub mod Loops

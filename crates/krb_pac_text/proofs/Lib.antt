@@ -1,2 +1,0 @@
-mod FileTimes
-mod Units

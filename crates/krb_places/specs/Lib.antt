@@ -1,6 +1,0 @@
-pub mod Places
-pub mod Rows
-pub mod Paths
-pub mod RowLaws
-pub mod PathLaws
-pub mod Contents

@@ -1,6 +1,0 @@
-use Rattle.std.proofs.lemmas.Str.{IsUtf8-from_ascii}
-use Rattle.krb_proxy_calls.proofs.client.realm_of.Goals as goal
-
--- octets of ASCII are UTF-8
-pub returns-in_default : goal.returns-in_default
-returns-in_default c = λ ascii. c.in_default.ensures.cases.0 (IsUtf8-from_ascii c.args.octets.now ascii)

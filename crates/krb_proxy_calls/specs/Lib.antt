@@ -1,4 +1,0 @@
-pub mod Statuses
-pub mod Requests
-pub mod Replies
-pub mod Clients

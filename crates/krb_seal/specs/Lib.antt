@@ -1,3 +1,0 @@
-pub mod PartError
-pub mod Padded
-pub mod Prepared

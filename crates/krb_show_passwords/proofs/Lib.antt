@@ -1,2 +1,0 @@
-mod SaltLists
-mod KeyLists

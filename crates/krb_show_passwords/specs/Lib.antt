@@ -1,2 +1,0 @@
-pub mod Salts
-pub mod Keys

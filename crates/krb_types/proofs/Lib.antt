@@ -1,0 +1,3 @@
+pub mod OneReading
+pub mod Quoting
+pub mod Seconds

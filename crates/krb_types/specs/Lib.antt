@@ -1,0 +1,4 @@
+pub mod TokenInfo
+pub mod Flags
+pub mod Principals
+pub mod Times

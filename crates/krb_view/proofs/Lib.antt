@@ -1,2 +1,0 @@
-pub mod Quoting
-pub mod Seconds

@@ -1,3 +1,0 @@
-pub mod Flags
-pub mod Principals
-pub mod Times

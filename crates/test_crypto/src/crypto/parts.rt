@@ -1,0 +1,69 @@
+//! Sealed parts, and keys of shared secrets, under the caller's cipher.
+
+use crate::crypto::row::{Answer, Row, answer_of};
+use picky_krb::crypto::diffie_hellman::{DhNonce, generate_key_from_shared_secret};
+use picky_krb::crypto::{Cipher, KerberosCryptoResult};
+use picky_krb::der::{Asn1RawDer, OctetStringAsn1, from_bytes};
+use picky_krb::seal::{PartError, open_part, seal_part};
+use std::alloc::{AllocError, Global};
+
+/// The octets of the value that a part is opened to, of any type.
+fn opened(alloc: Global, cipher: &dyn Cipher, row: &Row) -> KerberosCryptoResult<String> {
+    match open_part::<Asn1RawDer>(alloc, cipher, &row.key, row.number, &row.input) {
+        Ok(part) => Ok(hex::encode(alloc, part.as_bytes())?),
+        Err(PartError::Crypto(rejection)) => Err(rejection),
+        Err(rejection) => Ok(format!(in alloc; "refused, {rejection:?}")?),
+    }
+}
+
+/// What the value of these octets, of any type, is sealed to.
+fn try_sealing(alloc: Global, cipher: &dyn Cipher, row: &Row) -> Answer {
+    if row.beside.len() != cipher.confounder_size() {
+        return None;
+    }
+    let part: Asn1RawDer = from_bytes(alloc, &row.input).ok()?;
+    let sealed = seal_part(alloc, cipher, &row.key, row.number, &row.beside, &part).ok()?;
+    answer_of(alloc, Ok(sealed))
+}
+
+/// An octet string of as many octets as the row's number, sealed under key usage 2: how many octets it has then, and whether it opens.
+fn try_large_part(alloc: Global, cipher: &dyn Cipher, row: &Row) -> Answer {
+    if row.beside.len() != cipher.confounder_size() {
+        return None;
+    }
+    let count = usize::try_from(row.number).ok()?;
+    let part = OctetStringAsn1(vec![in alloc; 0x5a; count].ok()?);
+    let sealed = seal_part(alloc, cipher, &row.key, 2, &row.beside, &part).ok()?;
+    let again: OctetStringAsn1 = open_part(alloc, cipher, &row.key, 2, &sealed).ok()?;
+    let (octets, is_opened) = (sealed.len(), again == part);
+    Some(Ok(format!(in alloc; "{octets} octets, opened: {is_opened}").ok()?))
+}
+
+/// Calls of parts.
+pub fn try_part(alloc: Global, cipher: &dyn Cipher, row: &Row) -> Answer {
+    match row.call {
+        "open_part" => Some(opened(alloc, cipher, row)),
+        "seal_part" => try_sealing(alloc, cipher, row),
+        "large_part" => try_large_part(alloc, cipher, row),
+        _ => None,
+    }
+}
+
+/// The key of a shared secret. A row of the number 1 has the client's nonce beside the input, which is the server's.
+fn agreed(alloc: Global, cipher: &dyn Cipher, row: &Row) -> Result<Option<Vec<u8>>, AllocError> {
+    let secret = Vec::from_slice(alloc, &row.key)?;
+    let nonce = if row.number == 1 {
+        Some(DhNonce {
+            client_nonce: &row.beside,
+            server_nonce: &row.input,
+        })
+    } else {
+        None
+    };
+    Ok(generate_key_from_shared_secret(alloc, secret, nonce, cipher).ok())
+}
+
+/// The call of a key of a shared secret: RFC 4556, 3.2.3.1.
+pub fn try_agreement(alloc: Global, cipher: &dyn Cipher, row: &Row) -> Answer {
+    answer_of(alloc, Ok(agreed(alloc, cipher, row).ok()??))
+}

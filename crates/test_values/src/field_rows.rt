@@ -1,0 +1,131 @@
+//! Fields of a KRB-ERROR that Heimdal made, of a request with two thousand encryption types, and of a part of 70,000 octets.
+
+use krb_c_calls::fields::{ABSENT, number, place};
+use std::alloc::Global;
+use std::test::Fail;
+
+/// A KRB-ERROR of Heimdal 7.8 (RFC 4120, 5.9.1).
+const ERROR: [u8; 124] = [
+    0x7e, 0x7a, 0x30, 0x78, 0xa0, 0x03, 0x02, 0x01, 0x05, 0xa1, 0x03, 0x02, 0x01, 0x1e, 0xa4, 0x11,
+    0x18, 0x0f, 0x32, 0x30, 0x32, 0x36, 0x31, 0x31, 0x32, 0x32, 0x30, 0x37, 0x30, 0x30, 0x30, 0x30,
+    0x5a, 0xa5, 0x05, 0x02, 0x03, 0x0c, 0x96, 0x56, 0xa6, 0x03, 0x02, 0x01, 0x06, 0xa7, 0x0b, 0x1b,
+    0x09, 0x48, 0x45, 0x49, 0x4d, 0x2e, 0x54, 0x45, 0x53, 0x54, 0xa8, 0x13, 0x30, 0x11, 0xa0, 0x03,
+    0x02, 0x01, 0x01, 0xa1, 0x0a, 0x30, 0x08, 0x1b, 0x06, 0x6e, 0x6f, 0x62, 0x6f, 0x64, 0x79, 0xa9,
+    0x0b, 0x1b, 0x09, 0x48, 0x45, 0x49, 0x4d, 0x2e, 0x54, 0x45, 0x53, 0x54, 0xaa, 0x1e, 0x30, 0x1c,
+    0xa0, 0x03, 0x02, 0x01, 0x02, 0xa1, 0x15, 0x30, 0x13, 0x1b, 0x06, 0x6b, 0x72, 0x62, 0x74, 0x67,
+    0x74, 0x1b, 0x09, 0x48, 0x45, 0x49, 0x4d, 0x2e, 0x54, 0x45, 0x53, 0x54,
+];
+
+/// An AS-REQ (RFC 4120, 5.4.1) before its 2,000 encryption types, each of them 18.
+const REQUEST: [u8; 72] = [
+    0x6a, 0x82, 0x17, 0xb4, 0x30, 0x82, 0x17, 0xb0, 0xa1, 0x03, 0x02, 0x01, 0x05, 0xa2, 0x03, 0x02,
+    0x01, 0x0a, 0xa4, 0x82, 0x17, 0xa2, 0x30, 0x82, 0x17, 0x9e, 0xa0, 0x07, 0x03, 0x05, 0x00, 0x00,
+    0x00, 0x00, 0x00, 0xa2, 0x03, 0x1b, 0x01, 0x52, 0xa5, 0x11, 0x18, 0x0f, 0x32, 0x30, 0x33, 0x37,
+    0x30, 0x39, 0x31, 0x33, 0x30, 0x32, 0x34, 0x38, 0x30, 0x35, 0x5a, 0xa7, 0x03, 0x02, 0x01, 0x05,
+    0xa8, 0x82, 0x17, 0x74, 0x30, 0x82, 0x17, 0x70,
+];
+
+/// A KRB-PRIV (RFC 4120, 5.7.1) before its 70,000 octets of cipher.
+const PRIVATE: [u8; 45] = [
+    0x75, 0x83, 0x01, 0x11, 0x98, 0x30, 0x83, 0x01, 0x11, 0x93, 0xa0, 0x03, 0x02, 0x01, 0x05, 0xa1,
+    0x03, 0x02, 0x01, 0x15, 0xa3, 0x83, 0x01, 0x11, 0x84, 0x30, 0x83, 0x01, 0x11, 0x7f, 0xa0, 0x03,
+    0x02, 0x01, 0x12, 0xa2, 0x83, 0x01, 0x11, 0x75, 0x04, 0x83, 0x01, 0x11, 0x70,
+];
+
+/// Status, offset and size.
+fn found(
+    message: i32,
+    field: i32,
+    index: usize,
+    octets: &[u8],
+    alloc: Global,
+) -> (u32, usize, usize) {
+    let mut offset = 0;
+    let mut size = 0;
+    let status = place(alloc, message, field, index, octets, &mut offset, &mut size);
+    (status, offset, size)
+}
+
+/// Status and number.
+fn counted(message: i32, field: i32, index: usize, octets: &[u8], alloc: Global) -> (u32, i64) {
+    let mut value = 0;
+    let status = number(alloc, message, field, index, octets, &mut value);
+    (status, value)
+}
+
+#[test]
+fn finds_fields_of_an_error(rt: HostRuntime) {
+    assert_eq!(rt; found(30, 1, 0, &ERROR, rt.alloc()), (0, 83, 9), "realm");
+    assert_eq!(rt;
+        found(30, 4, 1, &ERROR, rt.alloc()),
+        (0, 115, 9),
+        "the second component of sname"
+    );
+    assert_eq!(rt;
+        found(30, 4, 2, &ERROR, rt.alloc()),
+        (ABSENT, 0, 0),
+        "a third one"
+    );
+    assert_eq!(rt;
+        found(30, 17, 0, &ERROR, rt.alloc()),
+        (ABSENT, 0, 0),
+        "e-text"
+    );
+    assert_eq!(rt; found(30, 33, 0, &ERROR, rt.alloc()), (3, 0, 0), "no field");
+    assert_eq!(rt;
+        found(29, 1, 0, &ERROR, rt.alloc()),
+        (3, 0, 0),
+        "no message with fields"
+    );
+    assert_eq!(rt;
+        found(30, 1, 0, &ERROR[..123], rt.alloc()),
+        (10, 0, 0),
+        "cut"
+    );
+    assert_eq!(rt;
+        found(10, 1, 0, &ERROR, rt.alloc()),
+        (9, 0, 0),
+        "another message"
+    );
+    assert_eq!(rt;
+        counted(30, 16, 0, &ERROR, rt.alloc()),
+        (0, 6),
+        "error-code"
+    );
+    assert_eq!(rt;
+        counted(30, 15, 0, &ERROR, rt.alloc()),
+        (0, 824918),
+        "susec"
+    );
+    assert_eq!(rt;
+        counted(30, 13, 0, &ERROR, rt.alloc()),
+        (ABSENT, 0),
+        "cusec"
+    );
+    assert_eq!(rt;
+        counted(30, 1, 0, &ERROR, rt.alloc()),
+        (3, 0),
+        "realm is no number"
+    );
+}
+
+#[test]
+fn finds_one_of_two_thousand(rt: HostRuntime) -> Result<(), Fail> {
+    let mut octets = Vec::from_slice(rt.alloc(), &REQUEST)?;
+    for item in 0..2000u32 {
+        octets.extend_from_slice(&[0x02, 0x01, 0x12])?;
+    }
+    assert_eq!(rt; found(10, 7, 1999, &octets, rt.alloc()), (0, 6071, 1));
+    assert_eq!(rt; counted(10, 7, 1999, &octets, rt.alloc()), (0, 18));
+    assert_eq!(rt; found(10, 7, 2000, &octets, rt.alloc()), (ABSENT, 0, 0));
+    Ok(())
+}
+
+#[test]
+fn finds_a_large_part(rt: HostRuntime) -> Result<(), Fail> {
+    let mut octets = Vec::from_slice(rt.alloc(), &PRIVATE)?;
+    octets.resize(70045, 0)?;
+    assert_eq!(rt; found(21, 21, 0, &octets, rt.alloc()), (0, 45, 70000));
+    assert_eq!(rt; counted(21, 19, 0, &octets, rt.alloc()), (0, 18));
+    Ok(())
+}

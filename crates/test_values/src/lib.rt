@@ -1,0 +1,34 @@
+//! Tests of what no table of a program can hold: values that are built field by field, rows that are
+//! typed apart from the tables of a crate, frames that are taken apart and made, and calls of the
+//! library for C with octets past 64 KiB. The crate holds tests alone, so that no other crate is
+//! proved a second time for its own.
+#![tactic(auto)]
+
+#[cfg(test)]
+mod built_ccache;
+#[cfg(test)]
+mod built_keytab;
+#[cfg(test)]
+mod built_messages;
+#[cfg(test)]
+mod code_texts;
+#[cfg(test)]
+mod field_rows;
+#[cfg(test)]
+mod first_rows;
+#[cfg(test)]
+mod frames;
+#[cfg(test)]
+mod large_calls;
+#[cfg(test)]
+mod large_tokens;
+#[cfg(test)]
+mod negotiation;
+#[cfg(test)]
+mod places;
+#[cfg(test)]
+mod primitive_rows;
+#[cfg(test)]
+mod rows_of_standards;
+#[cfg(test)]
+mod view_rows;

@@ -1,0 +1,133 @@
+//! Messages of SPNEGO (RFC 4178, 4.2).
+
+use crate::frames::is_made;
+use krb_c_frames::{
+    make_neg_token_init, make_neg_token_resp, neg_token_init, neg_token_init_mechanism,
+    neg_token_resp,
+};
+use std::alloc::Global;
+use std::test::Fail;
+
+/// A NegTokenInit of Kerberos and NTLM, a token and a MIC, in its frame.
+const INIT: [u8; 57] = [
+    0x60, 0x37, 0x06, 0x06, 0x2b, 0x06, 0x01, 0x05, 0x05, 0x02, 0xa0, 0x2d, 0x30, 0x2b, 0xa0, 0x19,
+    0x30, 0x17, 0x06, 0x09, 0x2a, 0x86, 0x48, 0x86, 0xf7, 0x12, 0x01, 0x02, 0x02, 0x06, 0x0a, 0x2b,
+    0x06, 0x01, 0x04, 0x01, 0x82, 0x37, 0x02, 0x02, 0x0a, 0xa2, 0x07, 0x04, 0x05, 0x74, 0x6f, 0x6b,
+    0x65, 0x6e, 0xa3, 0x05, 0x04, 0x03, 0x6d, 0x69, 0x63,
+];
+
+/// The same of Kerberos alone, before a token of 70,000 octets.
+const LARGE_INIT: [u8; 48] = [
+    0x60, 0x83, 0x01, 0x11, 0x9b, 0x06, 0x06, 0x2b, 0x06, 0x01, 0x05, 0x05, 0x02, 0xa0, 0x83, 0x01,
+    0x11, 0x8e, 0x30, 0x83, 0x01, 0x11, 0x89, 0xa0, 0x0d, 0x30, 0x0b, 0x06, 0x09, 0x2a, 0x86, 0x48,
+    0x86, 0xf7, 0x12, 0x01, 0x02, 0x02, 0xa2, 0x83, 0x01, 0x11, 0x75, 0x04, 0x83, 0x01, 0x11, 0x70,
+];
+
+/// A negTokenResp of gokrb5.
+const RESP: [u8; 22] = [
+    0xa1, 0x14, 0x30, 0x12, 0xa0, 0x03, 0x0a, 0x01, 0x00, 0xa1, 0x0b, 0x06, 0x09, 0x2a, 0x86, 0x48,
+    0x86, 0xf7, 0x12, 0x01, 0x02, 0x02,
+];
+
+/// One that is not complete, before a token of 70,000 octets.
+const LARGE_RESP: [u8; 38] = [
+    0xa1, 0x83, 0x01, 0x11, 0x91, 0x30, 0x83, 0x01, 0x11, 0x8c, 0xa0, 0x03, 0x0a, 0x01, 0x01, 0xa1,
+    0x0b, 0x06, 0x09, 0x2a, 0x86, 0x48, 0x86, 0xf7, 0x12, 0x01, 0x02, 0x02, 0xa2, 0x83, 0x01, 0x11,
+    0x75, 0x04, 0x83, 0x01, 0x11, 0x70,
+];
+
+/// Status, and the offsets of three fields, and their sizes.
+type Places = (u32, (usize, usize, usize), (usize, usize, usize));
+
+fn init_places(alloc: Global, octets: &[u8]) -> Places {
+    let (mut a, mut b, mut c, mut d, mut e, mut f) = (7, 7, 7, 7, 7, 7);
+    let status = neg_token_init(
+        alloc, octets, &mut a, &mut b, &mut c, &mut d, &mut e, &mut f,
+    );
+    (status, (a, c, e), (b, d, f))
+}
+
+/// The same, and negState.
+fn resp_places(alloc: Global, octets: &[u8]) -> (u32, Places) {
+    let (mut state, mut a, mut b, mut c, mut d, mut e, mut f) = (7, 7, 7, 7, 7, 7, 7);
+    let status = neg_token_resp(
+        alloc, octets, &mut state, &mut a, &mut b, &mut c, &mut d, &mut e, &mut f,
+    );
+    (state, (status, (a, c, e), (b, d, f)))
+}
+
+/// Status, offset and size.
+fn mechanism(alloc: Global, octets: &[u8], n: usize) -> (u32, usize, usize) {
+    let (mut offset, mut size) = (7, 7);
+    let status = neg_token_init_mechanism(alloc, octets, n, &mut offset, &mut size);
+    (status, offset, size)
+}
+
+#[test]
+fn takes_the_first_message_apart(rt: HostRuntime) -> Result<(), Fail> {
+    let alloc = rt.alloc();
+    assert!(&rt; init_places(alloc, &INIT) == (0, (18, 45, 54), (23, 5, 3)));
+    assert!(&rt; init_places(alloc, &INIT[..56]) == (10, (0, 0, 0), (0, 0, 0)));
+    assert!(&rt; mechanism(alloc, &INIT, 0) == (0, 20, 9));
+    assert!(&rt; mechanism(alloc, &INIT, 1) == (0, 31, 10));
+    assert!(&rt; mechanism(alloc, &INIT, 2) == (20, 0, 0));
+    let mut large = Vec::from_slice(alloc, &LARGE_INIT)?;
+    large.resize(70048, 0)?;
+    assert!(&rt; init_places(alloc, &large) == (0, (27, 48, 0), (11, 70000, 0)));
+    assert!(&rt; mechanism(alloc, &large, 0) == (0, 29, 9));
+    Ok(())
+}
+
+#[test]
+fn makes_the_first_message(rt: HostRuntime) -> Result<(), Fail> {
+    let alloc = rt.alloc();
+    let (mut made, mut size) = (Vec::from_elem(alloc, 1, 70048)?, 7);
+    let status = make_neg_token_init(
+        alloc,
+        &INIT[18..41],
+        &INIT[45..50],
+        &INIT[54..],
+        &mut made,
+        &mut size,
+    );
+    assert!(&rt; is_made(status, size, &made, &INIT));
+    let mut large = Vec::from_slice(alloc, &LARGE_INIT)?;
+    large.resize(70048, 0)?;
+    let status = make_neg_token_init(
+        alloc,
+        &LARGE_INIT[27..38],
+        &large[48..],
+        &[],
+        &mut made,
+        &mut size,
+    );
+    assert!(&rt; is_made(status, size, &made, &large));
+    Ok(())
+}
+
+#[test]
+fn takes_a_later_message_apart(rt: HostRuntime) -> Result<(), Fail> {
+    let alloc = rt.alloc();
+    assert!(&rt; resp_places(alloc, &RESP) == (0, (0, (13, 0, 0), (9, 0, 0))));
+    assert!(&rt; resp_places(alloc, &RESP[..21]) == (256, (10, (0, 0, 0), (0, 0, 0))));
+    let mut large = Vec::from_slice(alloc, &LARGE_RESP)?;
+    large.resize(70038, 0)?;
+    assert!(&rt; resp_places(alloc, &large) == (1, (0, (19, 38, 0), (9, 70000, 0))));
+    Ok(())
+}
+
+#[test]
+fn makes_a_later_message(rt: HostRuntime) -> Result<(), Fail> {
+    let alloc = rt.alloc();
+    let (mut made, mut size) = (Vec::from_elem(alloc, 1, 70038)?, 7);
+    let status = make_neg_token_resp(alloc, 0, &RESP[13..], &[], &[], &mut made, &mut size);
+    assert!(&rt; is_made(status, size, &made, &RESP));
+    assert!(&rt; make_neg_token_resp(alloc, 4, &RESP[13..], &[], &[], &mut made, &mut size) == 3);
+    assert!(&rt; size == 0);
+    let mut large = Vec::from_slice(alloc, &LARGE_RESP)?;
+    large.resize(70038, 0)?;
+    let token = &large[38..];
+    let status = make_neg_token_resp(alloc, 1, &RESP[13..], token, &[], &mut made, &mut size);
+    assert!(&rt; is_made(status, size, &made, &large));
+    Ok(())
+}

@@ -1,0 +1,34 @@
+"""The rows of the test programs: crates/TEST/stdin, in which a line `== NAME` begins a table.
+
+A file with no such line is one table, of the name None."""
+
+import os
+
+TOP = os.path.dirname(os.path.dirname(os.path.abspath(__file__)))
+
+
+def lines_of(test, name=None):
+    """The lines of a table with their numbers in the file, among them comments, which begin with `#`."""
+    inside = None
+    with open(os.path.join(TOP, "crates", test, "stdin"), encoding="utf-8") as file:
+        found = []
+        for number, line in enumerate(file, 1):
+            line = line.rstrip("\n")
+            if line.startswith("== "):
+                inside = line[len("== ") :]
+            elif inside == name:
+                found.append((number, line))
+    if not found:
+        raise LookupError("crates/%s/stdin has no table %s" % (test, name))
+    return found
+
+
+def numbered_table_of(test, name=None, columns=1):
+    """The rows of a table that have so many columns, with their lines' numbers in the file."""
+    rows = [(number, line.split("\t")) for number, line in lines_of(test, name) if not line.startswith("#")]
+    return [(number, row) for number, row in rows if len(row) >= columns]
+
+
+def table_of(test, name=None, columns=1):
+    """The rows of a table that have so many columns."""
+    return [row for _, row in numbered_table_of(test, name, columns)]
