@@ -131,6 +131,13 @@ operand_of (w ∷ other ∷ rest) = None
 abbrev pub of_operand : (Option (List ℕ) → Command) → List (List ℕ) → Option Command
 of_operand made words = if begins_with_help words then Some command.Help else option_map made (operand_of words)
 
+-- `check --as TYPE`, with the file
+abbrev pub check_of : List (List ℕ) → Option Command
+check_of [] = None
+check_of (w ∷ []) = if is_help w then Some command.Help else None
+check_of (w ∷ name ∷ rest) =
+    if is_help w then Some command.Help else if is_word w (codes "--as") then of_operand (command.Check name) rest else None
+
 -- the format of this name
 abbrev pub format_of : List ℕ → Option Format
 format_of w = if is_word w (codes "kirbi") then Some format.Kirbi else if is_word w (codes "ccache") then Some format.Ccache else None
@@ -153,6 +160,7 @@ proxy_of (w ∷ rest) = if is_help w then Some command.Help else option_and_then
 abbrev pub command_of : List ℕ → List (List ℕ) → Option Command
 command_of name rest =
     if is_word name (codes "show") then options_of nothing_asked rest
+    else if is_word name (codes "check") then check_of rest
     else if is_word name (codes "list") then of_operand command.List rest
     else if is_word name (codes "convert") then conversion_of rest
     else if is_word name (codes "proxy") then proxy_of rest

@@ -88,7 +88,7 @@ rule_of_proxy other = codes "the octets are no encoding"
 -- what happened
 abbrev pub reason : Failure → List ℕ
 reason Arguments =
-    codes "usage: jolmurig show [OPTION].. [FILE], jolmurig list [FILE], jolmurig convert kirbi|ccache [FILE] or jolmurig proxy request|reply [FILE]; see jolmurig --help"
+    codes "usage: jolmurig show [OPTION].. [FILE], jolmurig check --as TYPE [FILE], jolmurig list [FILE], jolmurig convert kirbi|ccache [FILE] or jolmurig proxy request|reply [FILE]; see jolmurig --help"
 reason Key =
     codes "a key is ETYPE:HEX, where ETYPE is 16 to 20 or the name of such an encryption type, and HEX the octets of a key of its length"
 reason KeyFile = codes "the file could not be read"

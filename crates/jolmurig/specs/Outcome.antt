@@ -11,6 +11,7 @@ use Rattle.krb_show_any.specs.declared.kind.Kind.TheVariants as kinds
 use Rattle.krb_show_opened.specs.Keys.{NamedKey}
 use Rattle.jolmurig.specs.Answers.{ArePrintableLines, IsRefused, IsWritten, Openers}
 use Rattle.jolmurig.specs.Calls.{Blocks, Converts, Lists, Opens, Passes, Refuses}
+use Rattle.jolmurig.specs.Checks.{IsChecked, IsUnchecked}
 use Rattle.jolmurig.specs.Conversions.{IsConverted, IsUnconverted}
 use Rattle.jolmurig.specs.Lists.{IsListed, IsUnlisted}
 use Rattle.jolmurig.specs.Passages.{IsBlocked}
@@ -107,6 +108,21 @@ IsFileRun gives file makes refuses left rest before after outcome =
     IsLeft file left rest
     × IsWrittenRun (λ made notes. (octets : List ℕ) × AreRead gives file left octets × makes octets made notes)
     (λ e. AreNotRead gives file left e ⊎ ((octets : List ℕ) × AreRead gives file left octets × refuses octets e)) before after outcome
+
+-- ---- `check`
+
+-- what is written is the octets, if they are of the kind; else they have no page as it
+abbrev pub IsCheckRunAs : (Kind → List ℕ → Result (Vec Token Global) PageError → Type 0) → Gives → Kind → Option (List ℕ)
+    → Option (List ℕ) → Option (List ℕ) → Option (List ℕ) → Option (List ℕ) → Outcome → Type 0
+IsCheckRunAs tells gives kind file =
+    IsFileRun gives file (λ octets made notes. IsChecked tells kind octets made × (notes ≡ [])) (IsUnchecked tells kind)
+
+-- of the kind that has the name; if none has, the arguments are wrong, and nothing is read and nothing written
+abbrev pub IsCheckRun : (Kind → List ℕ → Result (Vec Token Global) PageError → Type 0) → Gives → List ℕ → Option (List ℕ)
+    → Option (List ℕ) → Option (List ℕ) → Option (List ℕ) → Option (List ℕ) → Outcome → Type 0
+IsCheckRun tells gives name file left rest before after outcome =
+    (IsNamed name None × (outcome ≡ Err Arguments) × Keeps left rest × Keeps before after)
+    ⊎ ((kind : Kind) × IsNamed name (Some kind) × IsCheckRunAs tells gives kind file left rest before after outcome)
 
 -- ---- `list` and `convert`
 
@@ -206,6 +222,7 @@ module _ (tells : Kind → List ℕ → Result (Vec Token Global) PageError → 
     IsRun (Some Help) help input rest before after outcome =
         Keeps input rest × IsWrittenRun (λ made notes. (made ≡ help) × (notes ≡ [])) (λ e. ⊥) before after outcome
     IsRun (Some (command.Show s)) help input rest before after outcome = IsShowRun s input rest before after outcome
+    IsRun (Some (command.Check name file)) help input rest before after outcome = IsCheckRun tells gives name file input rest before after outcome
     IsRun (Some (command.List file)) help input rest before after outcome = IsListRun gives lists file input rest before after outcome
     IsRun (Some (command.Convert to file)) help input rest before after outcome =
         IsConvertRun gives converts refuses to file input rest before after outcome

@@ -101,6 +101,21 @@ pub enum Format {
     Ccache,
 }
 
+/// The name of a type.
+#[derive(Debug, Drop)]
+pub struct TypeName<'a> {
+    /// The name.
+    pub text: &'a str,
+}
+
+impl<'a> Model for TypeName<'a> {
+    ghost use Rattle.std.specs.Prelude.{ℕ, List};
+
+    ghost Value = { List ℕ };
+
+    ghost view = { λ n. n.text.now };
+}
+
 /// Which way a message goes through a proxy in front of a KDC (MS-KKDCP).
 #[derive(Clone, Copy, PartialEq, Eq, Debug)]
 pub enum Direction {
@@ -133,6 +148,8 @@ pub enum Command<'a> {
     Help,
     /// What a file or standard input holds: `show`.
     Show(Show<'a>),
+    /// Whether a file or standard input is of the type of this name: `check`.
+    Check(TypeName<'a>, Operand<'a>),
     /// A line for each entry of a keytab or a credential cache, that of a file or of standard input: `list`.
     List(Operand<'a>),
     /// The tickets of a file or of standard input in another format: `convert`.

@@ -4,12 +4,13 @@ ghost use Rattle.std.specs.Prelude.{◌≡◌, ◌⊎◌, [], map, option_copied
 ghost use Rattle.std.specs.Io.KnownBytes.{Appends};
 ghost use Rattle.std.specs.String.{string_bytes};
 ghost use Rattle.jolmurig.specs.Failures.{line_of, status_of_failure};
-ghost use Rattle.jolmurig.specs.Outcome.{AreNotesWritten, HasTaken, IsConvertRun, IsInputRejected, IsKindOf, IsLeft, IsLineWritten, IsListRun, IsMade};
+ghost use Rattle.jolmurig.specs.Outcome.{AreNotesWritten, HasTaken, IsCheckRun, IsCheckRunAs, IsConvertRun, IsInputRejected, IsKindOf, IsLeft, IsLineWritten, IsListRun, IsMade};
 ghost use Rattle.jolmurig.specs.Outcome.{IsNotMade, IsOfNoKind, IsPrepared, IsProxyRun, IsRun, IsRunOf, IsShowRun, IsUnprepared, Outcome, output_of, status_of};
 ghost use Rattle.jolmurig.specs.declared.failure.Failure.{Failure};
 
 use crate::answer::shown;
 use crate::calls::Calls;
+use crate::check::check_octets;
 use crate::command::{Command, Direction, Format, Output, Show};
 use crate::convert::{Conversion, conversion_of};
 use crate::failure::Failure;
@@ -161,6 +162,41 @@ fn show<S: Pages<Kind, PageError>, C: Calls, F: Files, R: Read, W: Write>(
     write_made(alloc, output, &made)
 }
 
+/// Writes the octets of a file or the input, if they are of a kind.
+fn check_as<S: Pages<Kind, PageError>, F: Files, R: Read, W: Write>(
+    alloc: Global,
+    kind: Kind,
+    file: Option<&str>,
+    files: &F,
+    input: &mut R,
+    output: &mut W,
+) -> Result<Vec<u8>, Failure>
+    ensures { IsCheckRunAs S.tells (F.gives files.now) kind (option_copied file.entry) (R.remaining input.old) (R.remaining input.new)
+        (W.contents output.old) (W.contents output.new) result }
+{
+    let octets = read_octets(alloc, files, file, input)?;
+    check_octets::<S>(alloc, kind, &octets)?;
+    write_made(alloc, output, &octets)
+}
+
+/// Writes the octets of a file or the input, if they are of the type of this name.
+fn check<S: Pages<Kind, PageError>, F: Files, R: Read, W: Write>(
+    alloc: Global,
+    name: &str,
+    file: Option<&str>,
+    files: &F,
+    input: &mut R,
+    output: &mut W,
+) -> Result<Vec<u8>, Failure>
+    ensures { IsCheckRun S.tells (F.gives files.now) name.now (option_copied file.entry) (R.remaining input.old) (R.remaining input.new)
+        (W.contents output.old) (W.contents output.new) result }
+{
+    match kind_of_name(name) {
+        Some(kind) => check_as::<S, F, R, W>(alloc, kind, file, files, input, output),
+        None => Err(Failure::Arguments),
+    }
+}
+
 /// Lists the entries of a file or the input.
 fn list<C: Calls, F: Files, R: Read, W: Write>(
     alloc: Global,
@@ -239,6 +275,9 @@ fn obey<S: Pages<Kind, PageError>, C: Calls, F: Files, R: Read, W: Write>(
         None => Err(Failure::Arguments),
         Some(Command::Help) => write_help(alloc, output),
         Some(Command::Show(asked)) => show::<S, C, F, R, W>(alloc, &asked, files, input, output),
+        Some(Command::Check(name, of)) => {
+            check::<S, F, R, W>(alloc, name.text, of.file, files, input, output)
+        }
         Some(Command::List(of)) => list::<C, F, R, W>(alloc, of.file, files, input, output),
         Some(Command::Convert(to, of)) => {
             convert::<C, F, R, W>(alloc, to, of.file, files, input, output)

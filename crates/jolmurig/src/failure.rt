@@ -192,7 +192,7 @@ impl Failure {
     {
         match self {
             Failure::Arguments =>
-                "usage: jolmurig show [OPTION].. [FILE], jolmurig list [FILE], jolmurig convert kirbi|ccache [FILE] or jolmurig proxy request|reply [FILE]; see jolmurig --help",
+                "usage: jolmurig show [OPTION].. [FILE], jolmurig check --as TYPE [FILE], jolmurig list [FILE], jolmurig convert kirbi|ccache [FILE] or jolmurig proxy request|reply [FILE]; see jolmurig --help",
             Failure::Key =>
                 "a key is ETYPE:HEX, where ETYPE is 16 to 20 or the name of such an encryption type, and HEX the octets of a key of its length",
             Failure::KeyFile | Failure::KeytabFile | Failure::PasswordFile => {

@@ -6,12 +6,15 @@ pub const HELP: &str =
 
 usage:
     jolmurig show [OPTION].. [FILE]
+    jolmurig check --as TYPE [FILE]
     jolmurig list [FILE]
     jolmurig convert kirbi|ccache [FILE]
     jolmurig proxy request|reply [FILE]
     jolmurig --help
 
 show       the type of the octets, and what they hold
+check      the octets themselves, if they are of this type: those of a type of DER if they are the one encoding of a value;
+           else their first error, with its place
 list       a line for each entry of a keytab, as `klist -kte` has them, or of a credential cache, as `klist -f -e`
 convert    a credential cache as a KRB-CRED in the clear (kirbi), or such a KRB-CRED as a credential cache (ccache);
            what the format cannot hold is named on standard error
@@ -44,7 +47,7 @@ the line of a request is `kdc REALM`, or `kpasswd REALM` where a password is cha
 client names; where the message names another realm `(the message names REALM)` stands behind it. In a realm the blank,
 `:`, the backslash and what is not printable are a backslash, `x` and two digits. A request has at most 131072 octets
 
-input of show, list and convert, by the first rule that fits; that of proxy is the octets themselves:
+input of show, check, list and convert, by the first rule that fits; that of proxy is the octets themselves:
     -----BEGIN LABEL-----    PEM: the base64 up to the line -----END LABEL-----
     Negotiate BASE64         a token of HTTP, also behind Authorization:, WWW-Authenticate: and their kin
     hexadecimal              digits in pairs, with or without blanks and line breaks
@@ -78,6 +81,7 @@ examples:
     jolmurig show --json <ticket.kirbi
     jolmurig show --as KDC-REQ-BODY <body.hex
     jolmurig show --tree <refused.der
+    jolmurig check --as AS-REQ <as-req.der >checked.der
     jolmurig show --keytab krb5.keytab krb5cc
     jolmurig list krb5cc
     jolmurig convert kirbi krb5cc >ticket.kirbi

@@ -3,6 +3,7 @@
 
 mod answer;
 mod calls;
+mod check;
 mod command;
 mod convert;
 mod engine;

@@ -3,14 +3,14 @@
 ghost use Rattle.std.specs.Prelude.{◌≡◌, ◌≤◌, ◌∷◌, false, length, map, None, Some, IfOk, MatchOption};
 ghost use Rattle.std.specs.Option.{option_copied};
 ghost use Rattle.std.specs.String.{string_bytes};
-ghost use Rattle.jolmurig.specs.Arguments.{asked_by, begins_with_help, command_of, conversion_of, direction_of, file_name, format_of, is_help, is_valued, is_word};
+ghost use Rattle.jolmurig.specs.Arguments.{asked_by, begins_with_help, check_of, command_of, conversion_of, direction_of, file_name, format_of, is_help, is_valued, is_word};
 ghost use Rattle.jolmurig.specs.Arguments.{of_operand, operand_of, options_of, proxy_of, source_kind, with_file, with_flag, with_output, with_source};
 ghost use Rattle.jolmurig.specs.Arguments.{with_password_file, with_tree, with_type, with_value};
 ghost use Rattle.jolmurig.specs.Shows.{nothing_asked};
 ghost use Rattle.jolmurig.specs.declared.command.Command.TheVariants as command;
 
 use crate::command::{
-    Command, Direction, FileName, Format, Operand, Output, Show, Source, SourceKind,
+    Command, Direction, FileName, Format, Operand, Output, Show, Source, SourceKind, TypeName,
 };
 use std::alloc::{AllocError, Global};
 
@@ -370,6 +370,31 @@ fn proxy_of(words: &[String]) -> Option<Command<'_>>
     proxy_to(direction, rest)
 }
 
+/// What the arguments of `check` ask for behind the name of the type.
+fn check_as<'a>(name: &'a str, words: &'a [String]) -> Option<Command<'a>>
+    ensures { result ≡ of_operand (command.Check name.now) (map string_bytes words.now) }
+{
+    if begins_with_help(words) {
+        return Some(Command::Help);
+    }
+    Some(Command::Check(TypeName { text: name }, operand_of(words)?))
+}
+
+/// What the arguments of `check` ask for.
+fn check_of(words: &[String]) -> Option<Command<'_>>
+    ensures { result ≡ check_of (map string_bytes words.now) }
+{
+    let (word, rest) = words.split_first()?;
+    if is_help(word.as_str()) {
+        return Some(Command::Help);
+    }
+    if !is_word(word.as_str(), "--as") {
+        return None;
+    }
+    let (name, behind) = rest.split_first()?;
+    check_as(name.as_str(), behind)
+}
+
 /// What a command's name and the arguments behind it ask for.
 fn command_of<'a>(
     alloc: Global,
@@ -380,6 +405,8 @@ fn command_of<'a>(
 {
     if is_word(name, "show") {
         with_options(nothing_asked(alloc), rest)
+    } else if is_word(name, "check") {
+        Ok(check_of(rest))
     } else if is_word(name, "list") {
         Ok(list_of(rest))
     } else if is_word(name, "convert") {
