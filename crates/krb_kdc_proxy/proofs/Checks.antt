@@ -4,7 +4,8 @@ use Rattle.krb_der_core.specs.declared.der.DerEncode.{Ghosts as EncodingOf}
 use Rattle.krb_kdc_proxy.specs.declared.error.ProxyError.{ProxyError}
 use Rattle.krb_kdc_proxy.specs.declared.error.ProxyError.TheVariants as errors
 use Rattle.krb_kdc_proxy.specs.declared.kind.MessageKind.{MessageKind}
-use Rattle.krb_kdc_proxy.specs.Messages.{Encodes, IsNoMessage, Numbers, OrMemory, number_of}
+use Rattle.krb_der.specs.Whole.{Encodes}
+use Rattle.krb_kdc_proxy.specs.Messages.{IsNoMessage, Numbers, OrMemory, number_of}
 
 -- the error of the numbers
 pub numbers_refused : {A : Type 0} (t : EncodingOf A) (numbers : Numbers A) (kind : MessageKind) (octets : List ℕ) (v : A) → Encodes t octets v → (e : ProxyError) (pvno msg_type : ℤ)

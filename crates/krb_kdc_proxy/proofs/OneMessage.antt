@@ -9,7 +9,8 @@ use Rattle.krb_der.specs.Tags.{HasTag}
 use Rattle.krb_kdc_proxy.specs.declared.error.ProxyError.{ProxyError}
 use Rattle.krb_kdc_proxy.specs.declared.error.ProxyError.TheVariants as errors
 use Rattle.krb_kdc_proxy.specs.declared.kind.MessageKind.{MessageKind}
-use Rattle.krb_kdc_proxy.specs.Messages.{Encodes, IsMessage, IsNoMessage, Numbers}
+use Rattle.krb_der.specs.Whole.{Encodes}
+use Rattle.krb_kdc_proxy.specs.Messages.{IsMessage, IsNoMessage, Numbers}
 use Rattle.krb_kdc_proxy.specs.Prefixed.{IsNotPrefixed, IsPrefixed, prefixed}
 use Rattle.krb_kdc_proxy.specs.Requests.{IsTagged}
 use Rattle.krb_kdc_proxy.specs.Standing.{StandsPrefixed, kerb_message_path}

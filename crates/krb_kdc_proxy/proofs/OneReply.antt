@@ -10,7 +10,7 @@ use Rattle.krb_kdc_proxy.specs.declared.kind.MessageKind.TheVariants as kind
 use Rattle.krb_kdc_proxy.specs.declared.replies.Reply.{Reply}
 use Rattle.krb_kdc_proxy.specs.declared.replies.Reply.TheVariants as replies
 use Rattle.krb_kdc_proxy.specs.Client.{IsNoProxyReply, IsProxyReply}
-use Rattle.krb_kdc_proxy.specs.Messages.{Encodes}
+use Rattle.krb_der.specs.Whole.{Encodes}
 use Rattle.krb_kdc_proxy.specs.Prefixed.{IsPrefixed}
 use Rattle.krb_kdc_proxy.specs.Replies.{AreChangeReplies, AreNoChangeReplies, IsChangeReply, IsKdcReply, IsNoChangeReply, IsNoKdcReply, IsNoReply, IsReply, ReplyTypes}
 use Rattle.krb_kdc_proxy.specs.Replies.{ap_reply_numbers, error_numbers, reply_numbers}

@@ -11,7 +11,8 @@ use Rattle.krb_kdc_proxy.specs.declared.kind.MessageKind.TheVariants as kind
 use Rattle.krb_kdc_proxy.specs.declared.request.ProxyRequest.{ProxyRequest}
 use Rattle.krb_kdc_proxy.specs.Asking.{change_asked, kdc_asked}
 use Rattle.krb_kdc_proxy.specs.Client.{IsNotWritten, IsWritten, asking}
-use Rattle.krb_kdc_proxy.specs.Messages.{Encodes, IsMessage, OrMemory}
+use Rattle.krb_der.specs.Whole.{Encodes}
+use Rattle.krb_kdc_proxy.specs.Messages.{IsMessage, OrMemory}
 use Rattle.krb_kdc_proxy.specs.Prefixed.{IsPrefixed}
 use Rattle.krb_kdc_proxy.specs.Requests.{Asks, AsksNothing, IsChange, IsKdcRequest, IsNoChange, IsNoKdcRequest, IsNoRequest, IsNotPosted, IsRequest, RequestTypes}
 use Rattle.krb_kdc_proxy.specs.Requests.{ap_request_numbers, asked_by, private_numbers, request_numbers}

@@ -4,7 +4,7 @@ use Rattle.krb_der_core.specs.declared.der.DerEncode.{Ghosts as EncodingOf}
 use Rattle.krb_messages.specs.declared.messages.proxy.KdcProxyMessage.{KdcProxyMessage}
 use Rattle.krb_kdc_proxy.specs.declared.error.ProxyError.{ProxyError}
 use Rattle.krb_kdc_proxy.specs.declared.replies.Reply.{Reply}
-use Rattle.krb_kdc_proxy.specs.Messages.{Encodes}
+use Rattle.krb_der.specs.Whole.{Encodes}
 use Rattle.krb_kdc_proxy.specs.Replies.{ReplyTypes}
 use Rattle.krb_kdc_proxy.specs.Streams.{IsPosting, IsStreamReply, holding}
 

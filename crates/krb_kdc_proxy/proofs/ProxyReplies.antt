@@ -5,7 +5,8 @@ use Rattle.krb_messages.specs.declared.messages.proxy.KdcProxyMessage.{KdcProxyM
 use Rattle.krb_kdc_proxy.specs.declared.client.ProxyReply.{ProxyReply}
 use Rattle.krb_kdc_proxy.specs.declared.error.ProxyError.{ProxyError}
 use Rattle.krb_kdc_proxy.specs.Client.{IsNoProxyReply, IsProxyReply}
-use Rattle.krb_kdc_proxy.specs.Messages.{Encodes, OrMemory}
+use Rattle.krb_der.specs.Whole.{Encodes}
+use Rattle.krb_kdc_proxy.specs.Messages.{OrMemory}
 use Rattle.krb_kdc_proxy.specs.Replies.{ReplyTypes}
 use Rattle.krb_kdc_proxy.specs.Standing.{IsKerbMessage}
 use Rattle.krb_kdc_proxy.specs.Streams.{IsNoStreamReply, IsStreamReply}

@@ -7,7 +7,8 @@ use Rattle.krb_kdc_proxy.specs.declared.error.ProxyError.{ProxyError}
 use Rattle.krb_kdc_proxy.specs.declared.error.ProxyError.TheVariants as errors
 use Rattle.krb_kdc_proxy.specs.declared.client.ProxyReply.{ProxyReply}
 use Rattle.krb_kdc_proxy.specs.declared.request.ProxyRequest.{ProxyRequest}
-use Rattle.krb_kdc_proxy.specs.Messages.{Encodes, IsNoEncoding}
+use Rattle.krb_der.specs.Whole.{Encodes}
+use Rattle.krb_kdc_proxy.specs.Messages.{IsNoEncoding}
 use Rattle.krb_kdc_proxy.specs.Prefixed.{prefixed}
 use Rattle.krb_kdc_proxy.specs.Replies.{ReplyTypes}
 use Rattle.krb_kdc_proxy.specs.Requests.{AsksNothing, IsRequest, RequestTypes}

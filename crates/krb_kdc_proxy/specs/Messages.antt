@@ -1,9 +1,9 @@
 -- Messages of Kerberos that go through a proxy, by their kind (RFC 4120, 5.4 to 5.9).
-use Rattle.std.specs.Prelude.{◌≡◌, ◌≢◌, ◌⊎◌, ℕ, ℤ, pos, ◌<◌, ◌^◌, List, ◌++◌, length, codes}
+use Rattle.std.specs.Prelude.{◌≡◌, ◌≢◌, ◌⊎◌, ℕ, ℤ, pos, List, codes}
 use Rattle.krb_der_core.specs.declared.der.DerEncode.{Ghosts as EncodingOf}
 use Rattle.krb_der_core.specs.declared.error.Asn1DerError.{Asn1DerError}
 use Rattle.krb_der_core.specs.declared.error.Asn1DerError.TheVariants as der
-use Rattle.krb_der_core.specs.Errors.{ValueError}
+use Rattle.krb_der.specs.Whole.{Encodes, IsNotRead}
 use Rattle.krb_messages.specs.declared.kpasswd.error.MessageError.{MessageError}
 use Rattle.krb_messages.specs.declared.kpasswd.error.MessageError.TheVariants as why
 use Rattle.krb_messages.specs.Rejected.{der_error}
@@ -44,20 +44,7 @@ error_of place (der.Io e) = errors.OutOfMemory
 
 -- ---- encodings
 
--- the octets are the one encoding of this value (X.690, 10)
-abbrev pub Encodes : {A : Type 0} → EncodingOf A → List ℕ → A → Type 0
-Encodes t octets v = t.is_value v × (octets ≡ t.enc v)
-
--- Why octets are the encoding of no value of the type: their first error, from the left. That of a proper front of an encoding, which has
--- fewer than 2^64 octets, is that octets are missing; that of an encoding with octets behind it is invalid data.
-pub record IsNotRead {A : Type 0} (t : EncodingOf A) (octets : List ℕ) (error : Asn1DerError) : Type 0 where
-  pub none : (v : A) → Encodes t octets v → ⊥
-  pub first_error : ValueError t.is_value t.enc t.first t.error octets error
-  pub cut : (v : A) (rest : List ℕ) → t.is_value v → 0 < length rest → length (t.enc v) < 2 ^ 64 → t.enc v ≡ octets ++ rest
-      → error ≡ der.TruncatedData
-  pub more : (v : A) (rest : List ℕ) → t.is_value v → 0 < length rest → octets ≡ t.enc v ++ rest → error ≡ der.InvalidData
-
--- the same, by one of the three errors that octets may have
+-- Why octets are the encoding of no value of the type, by one of the three errors that octets may have.
 abbrev pub IsNoEncoding : {A : Type 0} → EncodingOf A → List ℕ → MessageError → Type 0
 IsNoEncoding t octets error = IsNotRead t octets (der_error error)
 

@@ -13,7 +13,8 @@ use Rattle.krb_kdc_proxy.specs.declared.asked.Asked.{Asked}
 use Rattle.krb_kdc_proxy.specs.declared.request.ProxyRequest.{ProxyRequest}
 use Rattle.krb_kdc_proxy.specs.Asking.{change_asked, kdc_asked}
 use Rattle.krb_kdc_proxy.specs.Frames.{BeginsAsFrame, IsFrame, IsNoFrame}
-use Rattle.krb_kdc_proxy.specs.Messages.{Encodes, IsMessage, IsNoEncoding, IsNoMessage, Numbers}
+use Rattle.krb_der.specs.Whole.{Encodes}
+use Rattle.krb_kdc_proxy.specs.Messages.{IsMessage, IsNoEncoding, IsNoMessage, Numbers}
 use Rattle.krb_kdc_proxy.specs.Prefixed.{IsNotPrefixed, IsPrefixed}
 use Rattle.krb_kdc_proxy.specs.Standing.{StandsPrefixed}
 

@@ -8,7 +8,7 @@ use Rattle.krb_kdc_proxy.specs.declared.error.ProxyError.TheVariants as errors
 use Rattle.krb_kdc_proxy.specs.declared.replies.Reply.{Reply}
 use Rattle.krb_kdc_proxy.specs.declared.stream.Whole.{Whole}
 use Rattle.krb_kdc_proxy.specs.declared.stream.Whole.TheVariants as whole
-use Rattle.krb_kdc_proxy.specs.Messages.{Encodes}
+use Rattle.krb_der.specs.Whole.{Encodes}
 use Rattle.krb_kdc_proxy.specs.Prefixed.{IsNotPrefixed, IsPrefixed}
 use Rattle.krb_kdc_proxy.specs.Replies.{IsNoReply, IsReply, ReplyTypes}
 

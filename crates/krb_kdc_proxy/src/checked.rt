@@ -1,7 +1,8 @@
 //! Messages, checked by their kind.
 
 ghost use Rattle.std.specs.Prelude.{◌≡◌, ◌≢◌, ◌⊎◌, pos, IfOk, IfErr};
-ghost use Rattle.krb_kdc_proxy.specs.Messages.{Encodes, IsMessage, IsNoEncoding, IsNoMessage, OrMemory, number_of};
+ghost use Rattle.krb_der.specs.Whole.{Encodes};
+ghost use Rattle.krb_kdc_proxy.specs.Messages.{IsMessage, IsNoEncoding, IsNoMessage, OrMemory, number_of};
 ghost use Rattle.krb_kdc_proxy.specs.declared.error.ProxyError.TheVariants as errors;
 ghost use Rattle.krb_messages.specs.declared.kpasswd.error.MessageError.{MessageError};
 

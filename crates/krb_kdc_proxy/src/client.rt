@@ -2,7 +2,8 @@
 
 ghost use Rattle.std.specs.Prelude.{◌≡◌, ◌<◌, ◌^◌, ℕ, ℤ, List, Option, Some, length, IfErr, IfOk, OnOk};
 ghost use Rattle.krb_kdc_proxy.specs.Client.{IsNoProxyReply, IsNotWritten, IsProxyReply, IsWritten, asking};
-ghost use Rattle.krb_kdc_proxy.specs.Messages.{Encodes, OrMemory};
+ghost use Rattle.krb_der.specs.Whole.{Encodes};
+ghost use Rattle.krb_kdc_proxy.specs.Messages.{OrMemory};
 ghost use Rattle.krb_kdc_proxy.specs.Replies.{reply_types};
 ghost use Rattle.krb_kdc_proxy.specs.Requests.{IsNoRequest, IsRequest, types};
 ghost use Rattle.krb_kdc_proxy.specs.declared.error.ProxyError.TheVariants as errors;

@@ -1,7 +1,8 @@
 //! What a proxy answers a client (MS-KKDCP, 3.2.5.2).
 
 ghost use Rattle.std.specs.Prelude.{◌≡◌, ◌++◌, ℕ, ◌<◌, ◌^◌, List, length, IfErr, IfOk};
-ghost use Rattle.krb_kdc_proxy.specs.Messages.{Encodes, OrMemory};
+ghost use Rattle.krb_der.specs.Whole.{Encodes};
+ghost use Rattle.krb_kdc_proxy.specs.Messages.{OrMemory};
 ghost use Rattle.krb_kdc_proxy.specs.Prefixed.{prefixed};
 ghost use Rattle.krb_kdc_proxy.specs.Replies.{reply_types};
 ghost use Rattle.krb_kdc_proxy.specs.Streams.{IsNoDatagramReply, IsNoStreamReply, IsPosting, IsStreamReply, holding};

@@ -2,7 +2,8 @@
 
 ghost use Rattle.std.specs.Prelude.{◌≡◌, ◌+◌, ◌<◌, ◌≤◌, ℕ, List, length, take, drop, map, Some, MatchBool, IfOk, IfErr, IsErrOf};
 ghost use Rattle.std.specs.Char.{to_ascii_lowercase};
-ghost use Rattle.krb_kdc_proxy.specs.Messages.{Encodes, IsNoEncoding, OrMemory};
+ghost use Rattle.krb_der.specs.Whole.{Encodes};
+ghost use Rattle.krb_kdc_proxy.specs.Messages.{IsNoEncoding, OrMemory};
 ghost use Rattle.krb_kdc_proxy.specs.Requests.{Asks, AsksNothing, IsCarried, IsNoRequest, IsNotCarried, IsNotPosted, IsPosted, IsRequest, types};
 ghost use Rattle.krb_kdc_proxy.specs.Standing.{IsKerbMessage};
 ghost use Rattle.krb_kdc_proxy.specs.declared.error.ProxyError.TheVariants as errors;
