@@ -1,2 +1,3 @@
 mod Digests
+pub mod MessageKeys
 pub mod Parts

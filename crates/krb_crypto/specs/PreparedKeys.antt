@@ -1,6 +1,8 @@
 -- Keys that are derived once from a key for a usage, and what they are of (RFC 3961, 5.3 and 5.4).
-use Rattle.std.specs.Prelude.{◌≡◌, ℕ, ℤ, List, length}
+use Rattle.std.specs.Prelude.{◌≡◌, ◌⊎◌, ℕ, ℤ, List, length}
 use Rattle.krb_crypto_block.specs.declared.aes.AesSize.TheVariants.{Aes128, Aes256}
+use Rattle.krb_crypto_hash.specs.CryptoError.{IsKeyLengthError}
+use Rattle.krb_crypto_hash.specs.declared.error.KerberosCryptoError.{KerberosCryptoError}
 use Rattle.krb_crypto_message.specs.AesSha2.{sha2_ke, sha2_kc}
 use Rattle.krb_crypto_message.specs.DerivedKeys.{DerivedKeys}
 use Rattle.krb_crypto_message.specs.Sealed.{aes_ke, aes_kc, des3_ke, des3_kc}
@@ -32,6 +34,12 @@ integrity_key_octets_of Aes256CtsHmacSha196 = 32
 integrity_key_octets_of Des3CbcSha1Kd = 24
 integrity_key_octets_of Aes128CtsHmacSha256128 = 16
 integrity_key_octets_of Aes256CtsHmacSha384192 = 24
+
+-- the error of a Ke that has not as many octets as a key, else of a Ki that has not so many
+abbrev pub RejectsMessageKeys : CipherSuite → List ℕ → List ℕ → KerberosCryptoError → Type 0
+RejectsMessageKeys suite ke ki e =
+    IsKeyLengthError (key_octets_of suite) ke e
+    ⊎ ((length ke ≡ key_octets_of suite) × IsKeyLengthError (integrity_key_octets_of suite) ki e)
 
 -- they are those of this key, which has the suite's length, and of this usage
 pub record IsPreparedFor (key : List ℕ) (usage : ℤ) (prepared : PreparedKeys) : Type 0 where

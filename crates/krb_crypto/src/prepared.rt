@@ -5,12 +5,12 @@ ghost use Rattle.std.specs.Prelude.{◌≡◌, ◌≢◌, ◌≤◌, ℕ, ℤ, L
 ghost use Rattle.krb_crypto_hash.specs.CryptoError.{IsMemoryOr, IsKeyLengthError};
 ghost use Rattle.krb_crypto_message.specs.Sealing.{IsTheOne, IsGiven, Opens, HasNoPayload};
 ghost use Rattle.krb_crypto.specs.BySuite.{IsSealed, key_octets_of, confounder_octets_of, padding_octets_of, error_of, checksum_key_octets_of, sum_of};
-ghost use Rattle.krb_crypto.specs.PreparedKeys.{PreparedKeys, PreparedChecksum, IsPreparedFor, IsChecksumPreparedFor};
+ghost use Rattle.krb_crypto.specs.PreparedKeys.{PreparedKeys, PreparedChecksum, IsPreparedFor, IsChecksumPreparedFor, RejectsMessageKeys, integrity_key_octets_of};
 
 use crate::checksum_suite::ChecksumSuite;
 use crate::cipher_suite::CipherSuite;
 use crate::confounder::confounder_of;
-use crate::message_keys::derive_message_keys;
+use crate::message_keys::{check_message_keys, derive_message_keys};
 use krb_crypto_block::{AesSize, KerberosCryptoError, KerberosCryptoResult};
 use krb_crypto_message::aes::{AesChecksumKey, AesOpeningKey, AesSealingKey};
 use krb_crypto_message::aes_sha2::{Sha2ChecksumKey, Sha2OpeningKey, Sha2SealingKey};
@@ -49,6 +49,7 @@ impl Model for SealingKey {
 
 impl SealingKey {
     /// The key of these octets for this usage. `KeyLength` where they are not as many as the suite's keys have; it allocates nothing.
+    #[tactic(auto, using(crate::proofs::MessageKeys::are_taken))]
     pub fn new(suite: &CipherSuite, key: &[u8], key_usage: i32) -> KerberosCryptoResult<SealingKey>
         ensures suite { IfOk result (λ k. k.suite ≡ suite.now) }
         ensures prepared { IfOk result (IsPreparedFor key.now key_usage) }
@@ -58,17 +59,20 @@ impl SealingKey {
         SealingKey::from_message_keys(suite, keys.ke(), keys.ki())
     }
 
-    /// The key of these Ke and Ki. `KeyLength` where Ke has not as many octets as the suite's keys have; it allocates nothing.
+    /// The key of these Ke and Ki. `KeyLength` if Ke has not as many octets as the suite's keys have
+    /// (`Cipher::key_size`); else, if Ki has not as many as its integrity keys (`integrity_key_size`).
+    /// It allocates nothing.
     pub fn from_message_keys(
         suite: &CipherSuite,
         ke: &[u8],
         ki: &[u8],
     ) -> KerberosCryptoResult<SealingKey>
-        requires { length ki.now ≤ 32 }
         ensures size { IfOk result (λ _. length ke.now ≡ key_octets_of suite.now) }
+        ensures integrity_size { IfOk result (λ _. length ki.now ≡ integrity_key_octets_of suite.now) }
         ensures made { IfOk result (λ k. k ≡ record { suite = suite.now; keys = record { ke = ke.now; ki = ki.now } }) }
-        ensures rejected { IfErr result (IsKeyLengthError (key_octets_of suite.now) ke.now) }
+        ensures rejected { IfErr result (RejectsMessageKeys suite.now ke.now ki.now) }
     {
+        check_message_keys(suite, ke, ki)?;
         let keys = match suite {
             CipherSuite::Aes128CtsHmacSha196 => SealingKeys::Aes128CtsHmacSha196(
                 AesSealingKey::from_message_keys(ke, ki, &AesSize::Aes128)?,
@@ -166,6 +170,7 @@ impl Model for OpeningKey {
 
 impl OpeningKey {
     /// The key of these octets for this usage. `KeyLength` where they are not as many as the suite's keys have; it allocates nothing.
+    #[tactic(auto, using(crate::proofs::MessageKeys::are_taken))]
     pub fn new(suite: &CipherSuite, key: &[u8], key_usage: i32) -> KerberosCryptoResult<OpeningKey>
         ensures suite { IfOk result (λ k. k.suite ≡ suite.now) }
         ensures prepared { IfOk result (IsPreparedFor key.now key_usage) }
@@ -175,17 +180,20 @@ impl OpeningKey {
         OpeningKey::from_message_keys(suite, keys.ke(), keys.ki())
     }
 
-    /// The key of these Ke and Ki. `KeyLength` where Ke has not as many octets as the suite's keys have; it allocates nothing.
+    /// The key of these Ke and Ki. `KeyLength` if Ke has not as many octets as the suite's keys have
+    /// (`Cipher::key_size`); else, if Ki has not as many as its integrity keys (`integrity_key_size`).
+    /// It allocates nothing.
     pub fn from_message_keys(
         suite: &CipherSuite,
         ke: &[u8],
         ki: &[u8],
     ) -> KerberosCryptoResult<OpeningKey>
-        requires { length ki.now ≤ 32 }
         ensures size { IfOk result (λ _. length ke.now ≡ key_octets_of suite.now) }
+        ensures integrity_size { IfOk result (λ _. length ki.now ≡ integrity_key_octets_of suite.now) }
         ensures made { IfOk result (λ k. k ≡ record { suite = suite.now; keys = record { ke = ke.now; ki = ki.now } }) }
-        ensures rejected { IfErr result (IsKeyLengthError (key_octets_of suite.now) ke.now) }
+        ensures rejected { IfErr result (RejectsMessageKeys suite.now ke.now ki.now) }
     {
+        check_message_keys(suite, ke, ki)?;
         let keys = match suite {
             CipherSuite::Aes128CtsHmacSha196 => OpeningKeys::Aes128CtsHmacSha196(
                 AesOpeningKey::from_message_keys(ke, ki, &AesSize::Aes128)?,
