@@ -1,3 +1,4 @@
+pub mod JsonTexts
 mod Trees
 pub mod Growing
 pub mod Lines

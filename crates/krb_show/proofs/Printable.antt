@@ -24,7 +24,7 @@ printable_append (x ∷ xs) ys p q = (p.0, printable_append xs ys p.1 q)
 printable_digit : (n : ℕ) → n < 16 → IsPrintable (digit n)
 printable_digit n small = grind (arith, common_steps)
 
-printable_hex_octet : (octet : ℕ) → octet < 256 → ArePrintable (hex_octet octet)
+pub printable_hex_octet : (octet : ℕ) → octet < 256 → ArePrintable (hex_octet octet)
 printable_hex_octet octet small = (printable_digit (octet / 16) (omega (arith, small)), (printable_digit (octet % 16) (omega (arith, small)), tt))
 
 printable_itself : (octet : ℕ) → is_printable octet ≡ true → IsPrintable octet

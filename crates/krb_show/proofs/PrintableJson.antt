@@ -12,6 +12,7 @@ use Rattle.krb_show.specs.Tokens.{Token}
 use Rattle.krb_show.specs.Leaves.{hex}
 use Rattle.krb_show.specs.Text.{ArePrintable, escaped, escaped_octet, quoted}
 use Rattle.krb_show.specs.Json.{name_octet, json_names, json_name, json_number, json_flags, json_identifier, json_value, json_key, json_before, json_token, json_tokens, begins, ends, json_line}
+use Rattle.krb_show.proofs.JsonTexts.{printable_text}
 use Rattle.krb_show.proofs.Printable.{IsOctetsToken, printable_append, printable_choice, printable_octet, printable_escaped, printable_hex, printable_quoted, line_is_utf8}
 
 name_octet_printable : (octet : ℕ) → octet < 256 → ArePrintable (name_octet octet)
@@ -63,7 +64,7 @@ value_printable form.Number t h = number_printable t.label.kind t h
 value_printable form.Flags t h = flags_printable t.label.kind t h
 value_printable form.Word t h = printable_quoted style.Json t.octets h.octets
 value_printable form.Identifier t h = identifier_printable t h
-value_printable form.Text t h = printable_quoted style.Json t.octets h.octets
+value_printable form.Text t h = printable_text t.octets h.octets
 value_printable form.Octets t h = printable_append (34 ∷ hex t.octets) (34 ∷ []) (grind arith, printable_hex t.octets h.octets) (grind arith)
 
 key_printable : (t : Token) → IsOctetsToken t → ArePrintable (json_key t.label)

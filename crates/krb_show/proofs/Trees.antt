@@ -1,5 +1,5 @@
 -- Elements at the start of octets, and trees that grow.
-use Rattle.std.proofs.Common.{◌≡◌, ℕ, zero, suc, ◌+◌, ◌-◌, ◌%◌, ◌<◌, nat_lt, ◌==◌, refl, sym, ap, ◌∙◌, subst, List, [], ◌∷◌, ◌++◌, length, take, drop, Bool, true, false, ◌&&◌, arith, sub-one, Result, Ok, Err, slice_index_or}
+use Rattle.std.proofs.Common.{◌≡◌, ℕ, zero, suc, ◌+◌, ◌-◌, ◌%◌, ◌<◌, ◌==◌, refl, sym, ap, ◌∙◌, subst, List, [], ◌∷◌, ◌++◌, length, take, drop, true, false, arith, sub-one, Result, Ok, Err, slice_index_or}
 use Rattle.std.specs.Prelude.{OnOk}
 use Rattle.std.proofs.lemmas.Grind.{common_steps}
 use Rattle.std.proofs.lemmas.List.{append-nil, append_assoc, length-append, length-drop, take_all}
@@ -9,7 +9,7 @@ use Rattle.krb_der_core.specs.declared.error.Asn1DerError.{Asn1DerError}
 use Rattle.krb_der_core.specs.declared.error.Asn1DerError.TheVariants as errors
 use Rattle.krb_show.specs.Tokens.{Token}
 use Rattle.krb_show.specs.declared.token.Form.TheVariants as form
-use Rattle.krb_show.specs.Tree.{IsElementShown, IsNoElement, IsTree, heading_of, is_constructed, is_opened, is_short, leaf_of, rest_of, nothing, shut, opened, no_element, alone, with_content}
+use Rattle.krb_show.specs.Tree.{IsElementShown, IsNoElement, IsTree, heading_of, is_constructed, is_opened, is_short, rest_of, nothing, shut, opened, no_element, alone, with_content}
 
 pub on_ok : {A E : Type 0} (r : Result A E) (P Q : Type 0) → (P → Q) → OnOk r P → OnOk r Q
 on_ok (Ok v) P Q f h = f h

@@ -1,13 +1,31 @@
 -- A page as JSON (RFC 8259).
-use Rattle.std.specs.Prelude.{ℕ, nat_eq, if◌then◌else◌, Bool, true, false, List, [], ◌∷◌, ◌++◌, codes, Option, None, Some}
+use Rattle.std.specs.Prelude.{ℕ, ◌/◌, ◌%◌, nat_eq, nat_lt, if◌then◌else◌, Bool, true, false, List, [], ◌∷◌, ◌++◌, codes, Option, None, Some}
 use Rattle.std.specs.List.{flat_map}
+use Rattle.std.specs.Char.Escape.{encode_utf16}
+use Rattle.std.specs.Str.{chars, is_utf8}
 use Rattle.krb_registry.specs.declared.kind.Kind.{Kind}
 use Rattle.krb_show.specs.declared.escape.Style.TheVariants as style
 use Rattle.krb_show.specs.declared.token.Form.{Form}
 use Rattle.krb_show.specs.declared.token.Form.TheVariants as form
 use Rattle.krb_show.specs.Tokens.{Label, Token}
-use Rattle.krb_show.specs.Leaves.{hex}
+use Rattle.krb_show.specs.Leaves.{hex, hex_octet}
 use Rattle.krb_show.specs.Text.{escaped, escaped_octet, quoted}
+
+-- a unit of UTF-16 by its four digits
+abbrev pub json_unit : ℕ → List ℕ
+json_unit unit = codes "\\u" ++ hex_octet (unit / 256) ++ hex_octet (unit % 256)
+
+-- a character in a string (RFC 8259, 7): one of ASCII as its octet, another by its one or two units of UTF-16
+abbrev pub json_character : ℕ → List ℕ
+json_character c = if nat_lt c 128 then escaped_octet style.Json c else flat_map json_unit (encode_utf16 c)
+
+-- The characters of a text if its octets are UTF-8 (RFC 3629, 3). Octets that are not have no characters: each is taken as the character
+-- of its number (ISO 8859-1).
+abbrev pub json_characters : List ℕ → List ℕ
+json_characters octets = if is_utf8 octets then flat_map json_character (chars octets) else escaped style.Json octets
+
+abbrev pub json_text : List ℕ → List ℕ
+json_text octets = 34 ∷ json_characters octets ++ 34 ∷ []
 
 -- names, each behind a blank, as an array of strings
 abbrev pub name_octet : ℕ → List ℕ
@@ -44,7 +62,7 @@ json_value form.Number t = json_number t.label.kind t
 json_value form.Flags t = json_flags t.label.kind t
 json_value form.Word t = quoted style.Json t.octets
 json_value form.Identifier t = json_identifier t
-json_value form.Text t = quoted style.Json t.octets
+json_value form.Text t = json_text t.octets
 json_value form.Octets t = 34 ∷ hex t.octets ++ 34 ∷ []
 
 abbrev pub ends : Form → Bool

@@ -1,5 +1,5 @@
 -- What tags are called (X.690, 8.1.2, and X.680, 8.6, table 1). A hyphen stands where the standard has a blank.
-use Rattle.std.specs.Prelude.{ℕ, ◌/◌, ◌%◌, nat_eq, nat_lt, if◌then◌else◌, Bool, ◌||◌, List, [], ◌∷◌, ◌++◌, codes}
+use Rattle.std.specs.Prelude.{ℕ, ◌%◌, nat_eq, nat_lt, if◌then◌else◌, Bool, ◌||◌, List, [], ◌∷◌, ◌++◌, codes}
 use Rattle.std.specs.Fmt.{decimal}
 
 -- a word and a number in brackets

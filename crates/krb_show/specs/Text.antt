@@ -26,7 +26,7 @@ abbrev pub itself_or : List ℕ → ℕ → List ℕ
 itself_or before octet = if is_printable octet then octet ∷ [] else before ++ hex_octet octet
 
 -- How an octet is written. In a name neither the blank nor `:` or `\` is itself; in quotation marks `"` and `\` stand behind a `\`; in
--- JSON (RFC 8259, 7) too, and what is not printable is the code point of its number.
+-- JSON (RFC 8259, 7) too, and what is not printable is the character of its number.
 abbrev pub escaped_octet : Style → ℕ → List ℕ
 escaped_octet style.Plain octet = itself_or (codes "\\x") octet
 escaped_octet style.Name octet =

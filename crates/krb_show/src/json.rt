@@ -7,6 +7,7 @@ ghost use Rattle.krb_show.specs.Json.{begins, ends, json_before, json_flags, jso
 ghost use Rattle.krb_show.specs.Leaves.{hex};
 ghost use Rattle.krb_show.specs.Text.{ArePrintable};
 
+use crate::characters::push_text;
 use crate::digits::{are_octets, push_hex};
 use crate::escape::{Style, push_escaped, push_escaped_octet, push_quoted};
 use crate::token::{Form, Token};
@@ -118,7 +119,7 @@ fn push_value(out: &mut Vec<u8>, token: &Token) -> Result<(), AllocError>
         Form::Flags => push_flags(out, token),
         Form::Word => push_quoted(out, Style::Json, token.octets()),
         Form::Identifier => push_identifier(out, token),
-        Form::Text => push_quoted(out, Style::Json, token.octets()),
+        Form::Text => push_text(out, token.octets()),
         Form::Octets => push_octets(out, token.octets()),
     }
 }
@@ -217,10 +218,11 @@ fn json_octets(alloc: Global, page: &[Token]) -> Result<Vec<u8>, AllocError>
     Ok(out)
 }
 
-/// A page as JSON (RFC 8259): an object whose one member is the page's value, on one line. A struct is an object, a list an array;
-/// octets are a string of hexadecimal digits, in a text each octet is the code point of its number, and what may have a name is an
-/// object with `number` and `name`, `flags` and `names` or `identifier` and `name`. All of it is printable ASCII, with a line feed at
-/// its end.
+/// A page as JSON (RFC 8259): an object whose one member is the page's value, on one line. A struct
+/// is an object, a list an array; octets are a string of hexadecimal digits. A text is a string of
+/// its characters if its octets are UTF-8; else each octet is the character of its number. What may
+/// have a name is an object with `number` and `name`, `flags` and `names` or `identifier` and
+/// `name`. All of it is printable ASCII, with a line feed at its end.
 #[tactic(auto, using(crate::proofs::PrintableJson::json_is_utf8))]
 pub fn json_of_page(alloc: Global, page: &[Token]) -> Result<String, AllocError>
     ensures json { IfOk result (λ json. string_bytes json ≡ json_line page.now ++ 10 ∷ []) }

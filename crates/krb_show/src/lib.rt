@@ -4,6 +4,7 @@
 //! writes a page as indented lines and `json_of_page` as JSON, in printable ASCII alone, whatever the tokens hold.
 #![tactic(auto)]
 
+mod characters;
 mod digits;
 mod escape;
 mod fields;

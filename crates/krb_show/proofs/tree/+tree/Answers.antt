@@ -1,4 +1,4 @@
-use Rattle.std.proofs.Common.{sym, ◌∙◌, refl, ap, [], ◌∷◌, ◌++◌, append_assoc, arith, rules, length}
+use Rattle.std.proofs.Common.{sym, ◌∙◌, refl, [], ◌∷◌, arith, rules}
 use Rattle.krb_show.specs.Tree.{leaf_of, alone}
 use Rattle.krb_show.proofs.Trees.{on_ok, element_shown, tree_ended, tree_longer, tree_stopped}
 use Rattle.krb_show.proofs.tree.+tree.Goals as goal
