@@ -1,7 +1,9 @@
 -- What a run of the program did, and with which status it ended.
-use Rattle.std.specs.Prelude.{◌≡◌, ◌⊎◌, ℕ, Bool, true, false, List, [], ◌∷◌, ◌++◌, unwrap_or, Option, None, Some, Result, Ok, Err, MatchResult, Vec}
+use Rattle.std.specs.Prelude.{◌≡◌, ◌⊎◌, ℕ, Bool, true, false, List, [], ◌∷◌, ◌++◌, unwrap_or, Option, None, Some, Result, Ok, Err, IsOk, MatchResult, Vec}
 use Rattle.std.specs.declared.alloc.Global.{Global}
 use Rattle.std.specs.Io.KnownBytes.{Appends, Keeps}
+use Rattle.std.specs.declared.io.Error.{Error}
+use Rattle.krb_io.specs.Transfer.{IsNotInterrupted, IsPrefixWritten}
 use Rattle.krb_input.specs.Forms.{octets_of}
 use Rattle.krb_show.specs.Tokens.{Token}
 use Rattle.krb_show_any.specs.declared.kind.Kind.{Kind}
@@ -47,15 +49,20 @@ pub record HasTaken (octets : List ℕ) (before after : Option (List ℕ)) : Typ
   pub whole : octets ≡ front ++ rest
   pub written : Appends before after front
 
--- What a run writes to standard error, where its octets are known (before and after): nothing where it succeeds and has no notes, else these; or the
--- line of its error; or as much of it as the writer took; or the line of an allocation failure, where the line of an error could not be made.
-abbrev pub AreNotesWritten : Option (List ℕ) → Option (List ℕ) → List ℕ → Type 0
-AreNotesWritten before after [] = Keeps before after
-AreNotesWritten before after (first ∷ rest) = HasTaken (first ∷ rest) before after
+-- What is for standard error is told, where its octets are known (before and after): all of it was written; or the writer failed, by this
+-- error, and has taken a proper prefix of it.
+abbrev pub IsTold : {A : Type 0} → List ℕ → Option (List ℕ) → Option (List ℕ) → Result A Error → Type 0
+IsTold octets before after told = MatchResult told (λ _. Appends before after octets) (λ e. IsNotInterrupted e × IsPrefixWritten octets before after)
 
-abbrev pub IsLineWritten : Option (List ℕ) → Option (List ℕ) → Outcome → Type 0
-IsLineWritten before after (Ok notes) = AreNotesWritten before after notes.items
-IsLineWritten before after (Err e) = HasTaken (line_of e) before after ⊎ HasTaken (line_of Memory) before after
+-- What a run writes to standard error: nothing if it succeeds and has no notes, else these; or the line of its error, or that of an allocation
+-- failure if the line of the error could not be made.
+abbrev pub AreNotesWritten : {A : Type 0} → Option (List ℕ) → Option (List ℕ) → Result A Error → List ℕ → Type 0
+AreNotesWritten before after told [] = IsOk told × Keeps before after
+AreNotesWritten before after told (first ∷ rest) = IsTold (first ∷ rest) before after told
+
+abbrev pub IsLineWritten : {A : Type 0} → Option (List ℕ) → Option (List ℕ) → Result A Error → Outcome → Type 0
+IsLineWritten before after told (Ok notes) = AreNotesWritten before after told notes.items
+IsLineWritten before after told (Err e) = IsTold (line_of e) before after told ⊎ IsTold (line_of Memory) before after told
 
 -- ---- standard output
 

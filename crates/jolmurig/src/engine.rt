@@ -4,7 +4,7 @@ ghost use Rattle.std.specs.Prelude.{◌≡◌, ◌⊎◌, [], map, option_copied
 ghost use Rattle.std.specs.Io.KnownBytes.{Appends};
 ghost use Rattle.std.specs.String.{string_bytes};
 ghost use Rattle.jolmurig.specs.Failures.{line_of, status_of_failure};
-ghost use Rattle.jolmurig.specs.Outcome.{AreNotesWritten, HasTaken, IsCheckRun, IsCheckRunAs, IsConvertRun, IsInputRejected, IsKindOf, IsLeft, IsLineWritten, IsListRun, IsMade};
+ghost use Rattle.jolmurig.specs.Outcome.{AreNotesWritten, HasTaken, IsCheckRun, IsCheckRunAs, IsConvertRun, IsInputRejected, IsKindOf, IsLeft, IsLineWritten, IsListRun, IsMade, IsTold};
 ghost use Rattle.jolmurig.specs.Outcome.{IsNotMade, IsOfNoKind, IsPrepared, IsProxyRun, IsRun, IsRunOf, IsShowRun, IsUnprepared, Outcome, output_of, status_of};
 ghost use Rattle.jolmurig.specs.declared.failure.Failure.{Failure};
 
@@ -26,6 +26,7 @@ use crate::proxy::{Passed, passed_of};
 use krb_io::write_all;
 use krb_show_any::{Kind, PageError, Pages, kind_of_name};
 use std::alloc::Global;
+use std::io;
 use std::io::{Read, Write};
 
 /// Writes all of the octets, and lets none wait in the writer.
@@ -303,46 +304,50 @@ fn perform<S: Pages<Kind, PageError>, C: Calls, F: Files, R: Read, W: Write>(
     obey::<S, C, F, R, W>(alloc, command, files, input, output)
 }
 
-/// Writes as much of a line as the writer takes.
-fn write_line<E: Write>(errors: &mut E, line: &[u8])
-    ensures { HasTaken line.now (E.contents errors.old) (E.contents errors.new) }
-{
-    if write_all(errors, line).is_err() {
-        return;
-    }
+/// How a run ended.
+#[derive(Drop)]
+pub struct Ended {
+    /// The exit status.
+    pub status: u8,
+    /// Whether standard error took all of the line or of the notes; else the writer's error, before
+    /// which it took a proper prefix of them.
+    pub told: io::Result<()>,
 }
 
 /// Writes the line of an error.
-fn tell<E: Write>(alloc: Global, failure: &Failure, errors: &mut E)
-    ensures { HasTaken (line_of failure.now) (E.contents errors.old) (E.contents errors.new)
-        ⊎ HasTaken (line_of Failure.Memory) (E.contents errors.old) (E.contents errors.new) }
+fn tell<E: Write>(alloc: Global, failure: &Failure, errors: &mut E) -> io::Result<()>
+    ensures { IsTold (line_of failure.now) (E.contents errors.old) (E.contents errors.new) result
+        ⊎ IsTold (line_of Failure.Memory) (E.contents errors.old) (E.contents errors.new) result }
 {
     match failure.line(alloc) {
-        Ok(line) => write_line(errors, &line),
-        Err(_) => write_line(errors, b"jolmurig: memory: an allocation failed\n"),
+        Ok(line) => write_all(errors, &line),
+        Err(_) => write_all(errors, b"jolmurig: memory: an allocation failed\n"),
     }
 }
 
-/// Writes the line of an error, and returns its status. A failed write of that line changes nothing.
-pub fn reject<E: Write>(alloc: Global, failure: &Failure, errors: &mut E) -> u8
-    ensures status { result ≡ status_of_failure failure.now }
-    ensures told { IsLineWritten (E.contents errors.old) (E.contents errors.new) (Err failure.now) }
+/// Writes the line of an error, and returns its status and whether the line was written.
+pub fn reject<E: Write>(alloc: Global, failure: &Failure, errors: &mut E) -> Ended
+    ensures status { result.status ≡ status_of_failure failure.now }
+    ensures told { IsLineWritten (E.contents errors.old) (E.contents errors.new) result.told (Err failure.now) }
 {
-    tell(alloc, failure, errors);
-    failure.status()
+    let told = tell(alloc, failure, errors);
+    Ended {
+        status: failure.status(),
+        told,
+    }
 }
 
-/// Writes notes, where there are any. A failed write of them changes nothing.
-fn note<E: Write>(notes: &[u8], errors: &mut E)
-    ensures { AreNotesWritten (E.contents errors.old) (E.contents errors.new) notes.now }
+/// Writes notes, if there are any.
+fn note<E: Write>(notes: &[u8], errors: &mut E) -> io::Result<()>
+    ensures { AreNotesWritten (E.contents errors.old) (E.contents errors.new) result notes.now }
 {
     if notes.is_empty() {
-        return;
+        return Ok(());
     }
-    write_line(errors, notes);
+    write_all(errors, notes)
 }
 
-/// One run of the program: its status; and one line to `errors` where it fails, or its notes.
+/// One run of the program: its status; and one line to `errors` if it fails, else its notes.
 pub fn run<S: Pages<Kind, PageError>, C: Calls, F: Files, R: Read, W: Write, E: Write>(
     alloc: Global,
     arguments: &[String],
@@ -350,17 +355,17 @@ pub fn run<S: Pages<Kind, PageError>, C: Calls, F: Files, R: Read, W: Write, E: 
     input: &mut R,
     output: &mut W,
     errors: &mut E,
-) -> u8
-    ensures ran { (outcome : Outcome) × (result ≡ status_of outcome)
-        × IsLineWritten (E.contents errors.old) (E.contents errors.new) outcome
+) -> Ended
+    ensures ran { (outcome : Outcome) × (result.status ≡ status_of outcome)
+        × IsLineWritten (E.contents errors.old) (E.contents errors.new) result.told outcome
         × IsRunOf S.tells C.opens (F.gives files.now) C.lists C.converts C.unconverted C.passes C.blocks (map string_bytes arguments.now) HELP.now
         (R.remaining input.old) (R.remaining input.new) (W.contents output.old) (W.contents output.new) outcome }
 {
     match perform::<S, C, F, R, W>(alloc, arguments, files, input, output) {
-        Ok(notes) => {
-            note(&notes, errors);
-            0
-        }
+        Ok(notes) => Ended {
+            status: 0,
+            told: note(&notes, errors),
+        },
         Err(failure) => reject(alloc, &failure, errors),
     }
 }

@@ -52,7 +52,7 @@ fn arguments(rt: &HostRuntime) -> io::Result<Vec<String>> {
 
 fn main(rt: HostRuntime) -> ExitCode {
     let mut errors = rt.stderr();
-    let status = match arguments(&rt) {
+    let ended = match arguments(&rt) {
         Ok(arguments) => {
             let mut input = rt.stdin().lock();
             let mut output = rt.stdout();
@@ -68,5 +68,5 @@ fn main(rt: HostRuntime) -> ExitCode {
         }
         Err(error) => reject(rt.alloc(), &arguments_failure(error), &mut errors),
     };
-    ExitCode::from(status)
+    ExitCode::from(ended.status)
 }
