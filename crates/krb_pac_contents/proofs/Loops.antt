@@ -3,21 +3,20 @@ use Rattle.std.proofs.Common.{◌≡◌, ℕ, suc, List, drop, Ok, Err, refl}
 use Rattle.krb_pac_contents.specs.declared.error.LogonError.{LogonError}
 use Rattle.krb_pac_contents.specs.Steps.{Read}
 use Rattle.krb_pac_contents.specs.Fixed.{needed_pointer_of}
-use Rattle.krb_pac_contents.specs.Numbers.{long_at}
 use Rattle.krb_pac_contents.specs.Sid.{sid_of}
 use Rattle.krb_pac_contents.specs.Referents.{element_pointers_of, after_sids}
 
-pub element_read : (k n last id : ℕ) (b : List ℕ) → k ≡ suc n → needed_pointer_of last (long_at 0 b) ≡ Ok id → element_pointers_of k last b ≡ element_pointers_of n id (drop 8 b)
+pub element_read : (k n : ℕ) (u : Unit {0}) (b : List ℕ) → k ≡ suc n → needed_pointer_of b 0 ≡ Ok u → element_pointers_of k b ≡ element_pointers_of n (drop 8 b)
 unfolding element_pointers_of
-element_read k n last id b e h = rw (e, h) refl
+element_read k n u b e h = rw (e, h) refl
 
-pub element_refused : (k n last : ℕ) (x : LogonError) (b : List ℕ) → k ≡ suc n → needed_pointer_of last (long_at 0 b) ≡ Err x → element_pointers_of k last b ≡ Err x
+pub element_refused : (k n : ℕ) (x : LogonError) (b : List ℕ) → k ≡ suc n → needed_pointer_of b 0 ≡ Err x → element_pointers_of k b ≡ Err x
 unfolding element_pointers_of
-element_refused k n last x b e h = rw (e, h) refl
+element_refused k n x b e h = rw (e, h) refl
 
-pub elements_end : (k last : ℕ) (b : List ℕ) → k ≡ 0 → element_pointers_of k last b ≡ Ok last
+pub elements_end : (k : ℕ) (b : List ℕ) → k ≡ 0 → element_pointers_of k b ≡ Ok tt
 unfolding element_pointers_of
-elements_end k last b e = rw e refl
+elements_end k b e = rw e refl
 
 pub sid_read : (k n : ℕ) (s : Read) (b : List ℕ) → k ≡ suc n → sid_of b ≡ Ok s → after_sids k b ≡ after_sids n s.rest
 unfolding after_sids

@@ -1,6 +1,6 @@
 -- The logon information (MS-PAC 2.5, KERB_VALIDATION_INFO): which octets are it, and their first error.
-use Rattle.std.specs.Prelude.{ℕ, ◌+◌, ◌-◌, ◌*◌, ◌/◌, not, ◌==◌, nat_lt, List, [], ◌∷◌, length, take, drop, slice_index, Result, Ok}
-use Rattle.krb_pac_contents.specs.Fixed.{needed_pointer_of, pointers_of}
+use Rattle.std.specs.Prelude.{ℕ, ◌+◌, ◌-◌, ◌*◌, ◌/◌, ◌&&◌, not, ◌==◌, nat_lt, List, [], ◌∷◌, length, take, drop, slice_index, Result, Ok}
+use Rattle.krb_pac_contents.specs.Fixed.{Checked, pointers_of}
 use Rattle.krb_pac_contents.specs.Numbers.{short_at, long_at}
 use Rattle.krb_pac_contents.specs.Referents.{string_at, array_at, ExtraSids, extra_sids_at, MaybeSid, resource_sid_at}
 use Rattle.krb_pac_contents.specs.Sid.{sid_of}
@@ -37,15 +37,15 @@ pub record Logon : Type 0 where
 
 -- the headers of type serialization version 1 (MS-RPCE 2.2.6.1 and 2.2.6.2), and the pointer that the object begins with: version 1,
 -- little endian, 8 octets of header, a filler, how many octets follow, a filler, and the referent id
-unfoldable pub header_of : List ℕ → Result ℕ LogonError
+unfoldable pub header_of : List ℕ → Checked
 header_of b = first_fault
     ((nat_lt (length b) 16, errors.Truncated)
     ∷ (not (slice_index b 0 == 1), errors.Version)
     ∷ (not (slice_index b 1 == 0x10), errors.Endianness)
     ∷ (not (short_at 2 b == 8), errors.HeaderLength)
     ∷ (not (16 + long_at 8 b == length b), errors.ObjectLength)
-    ∷ (nat_lt (length b) 236, errors.Truncated) ∷ [])
-    (long_at 16 b) >>= λ id. needed_pointer_of 0 id
+    ∷ (nat_lt (length b) 236, errors.Truncated)
+    ∷ (long_at 16 b == 0, errors.NullPointer) ∷ []) tt
 
 unfoldable pub names_of : List ℕ → List ℕ → Result Names LogonError
 names_of f b = do
@@ -69,10 +69,11 @@ domain_of f b = do
 abbrev pub padded : ℕ → ℕ
 padded len = (len + 7) / 8 * 8
 
--- of all octets, those after the last that was read are the padding alone (MS-RPCE 2.2.6.2)
+-- Of all octets, those after the last that was read are the padding alone, whose length the private header's ObjectBufferLength
+-- includes (MS-RPCE 2.2.6.2), or none: readers find the end by what they read, and not all writers pad.
 unfoldable pub end_of : List ℕ → Read → Result Read LogonError
 end_of b last = first_fault
-    ((nat_lt (length b) (padded (length b - length last.rest)), errors.Padding)
+    ((not (length last.rest == 0) && nat_lt (length b) (padded (length b - length last.rest)), errors.Padding)
     ∷ (nat_lt (padded (length b - length last.rest)) (length b), errors.TrailingOctets) ∷ [])
     last
 
@@ -82,11 +83,11 @@ fixed_of b = take 216 (drop 20 b)
 
 unfoldable pub logon_of : List ℕ → Result Logon LogonError
 logon_of b = do
-  top ← header_of b
-  last ← pointers_of (fixed_of b) top
+  p ← header_of b
+  q ← pointers_of (fixed_of b)
   n ← names_of (fixed_of b) (drop 236 b)
   d ← domain_of (fixed_of b) n.rest
-  x ← extra_sids_at (fixed_of b) last d.rest
+  x ← extra_sids_at (fixed_of b) d.rest
   r ← resource_sid_at (fixed_of b) x.rest
   g ← array_at (fixed_of b) 208 r.rest
   h ← end_of b g

@@ -1,6 +1,6 @@
 -- What pointers point to, in NDR (C706, chapter 14), each at a multiple of 4 octets.
 use Rattle.std.specs.Prelude.{ℕ, zero, suc, ◌+◌, ◌-◌, ◌*◌, ◌/◌, ◌%◌, not, ◌==◌, nat_lt, List, [], ◌∷◌, length, take, drop, Option, Some, None, Result, Ok, if◌then◌else◌}
-use Rattle.krb_pac_contents.specs.Fixed.{needed_pointer_of}
+use Rattle.krb_pac_contents.specs.Fixed.{Checked, needed_pointer_of}
 use Rattle.krb_pac_contents.specs.Numbers.{short_at, long_at}
 use Rattle.krb_pac_contents.specs.Sid.{sid_of}
 use Rattle.krb_pac_contents.specs.Steps.{Read, first_fault, ◌>>=◌}
@@ -43,10 +43,10 @@ array_of count b = first_fault
 unfoldable pub array_at : List ℕ → ℕ → List ℕ → Result Read LogonError
 array_at f at b = if long_at (at + 4) f == 0 then Ok (nothing b) else array_of (long_at at f) b
 
--- the greatest referent id once those that n elements of KERB_SID_AND_ATTRIBUTES begin with are read (MS-PAC 2.2.1)
-unfoldable pub element_pointers_of : ℕ → ℕ → List ℕ → Result ℕ LogonError
-element_pointers_of zero last b = Ok last
-element_pointers_of (suc n) last b = needed_pointer_of last (long_at 0 b) >>= λ id. element_pointers_of n id (drop 8 b)
+-- the pointers that n elements of KERB_SID_AND_ATTRIBUTES begin with (MS-PAC 2.2.1): none may be null
+unfoldable pub element_pointers_of : ℕ → List ℕ → Checked
+element_pointers_of zero b = Ok tt
+element_pointers_of (suc n) b = needed_pointer_of b 0 >>= λ p. element_pointers_of n (drop 8 b)
 
 -- the octets after n SIDs that stand one after the other
 unfoldable pub after_sids : ℕ → List ℕ → Result (List ℕ) LogonError
@@ -60,15 +60,15 @@ pub record ExtraSids : Type 0 where
   pub rest : List ℕ
 
 -- ExtraSids, an array whose elements' pointers point to SIDs that follow the array in the order of its elements (C706, 14.3.11.3)
-unfoldable pub extra_sids_of : ℕ → ℕ → List ℕ → Result ExtraSids LogonError
-extra_sids_of count last b = do
+unfoldable pub extra_sids_of : ℕ → List ℕ → Result ExtraSids LogonError
+extra_sids_of count b = do
   a ← array_of count b
-  id ← element_pointers_of count last a.octets
+  p ← element_pointers_of count a.octets
   r ← after_sids count a.rest
   Ok (record { elements = a.octets; sids = a.rest; rest = r })
 
-unfoldable pub extra_sids_at : List ℕ → ℕ → List ℕ → Result ExtraSids LogonError
-extra_sids_at f last b = if long_at 200 f == 0 then Ok (record { elements = []; sids = []; rest = b }) else extra_sids_of (long_at 196 f) last b
+unfoldable pub extra_sids_at : List ℕ → List ℕ → Result ExtraSids LogonError
+extra_sids_at f b = if long_at 200 f == 0 then Ok (record { elements = []; sids = []; rest = b }) else extra_sids_of (long_at 196 f) b
 
 -- a SID that may not be there
 pub record MaybeSid : Type 0 where

@@ -27,8 +27,7 @@ pub enum LogonError {
     /// A pointer to an array whose count is 0 is not null. NDR allows it; MS-PAC 2.5 does not.
     #[error("a pointer to no elements is not null")]
     EmptyArray,
-    /// A referent id is not above all those before it: it is used twice or is out of order. Windows, Samba and MIT count ids up; a
-    /// reader of Windows looks only at whether one is null.
+    /// No call returns it. Unique pointers have any ids but 0, in any order, and two may have the same (C706, 14.3.11.2).
     #[error("a referent id is used twice or is out of order")]
     ReferentOrder,
     /// A string's length or maximum length is odd (MS-DTYP 2.3.10).
@@ -46,7 +45,7 @@ pub enum LogonError {
     /// The actual count of a string's array is not half the string's length (C706, 14.3.3.3).
     #[error("the actual count of a string is another than its structure says")]
     ActualCount,
-    /// The padding after a string, or at the end, is not all there.
+    /// The padding after a string is not all there, or that at the end is there in part.
     #[error("padding is missing")]
     Padding,
     /// The maximum count of a SID is not its SubAuthorityCount (MS-DTYP 2.4.2.3).

@@ -5,7 +5,7 @@ ghost use Rattle.krb_pac_contents.specs.Logon.{Names, Domain, Logon, header_of, 
 ghost use Rattle.krb_pac_contents.specs.Steps.{Read};
 
 use crate::error::LogonError;
-use crate::fixed::{needed_pointer, pointers};
+use crate::fixed::pointers;
 use crate::numbers::{u16_at, u32_at};
 use crate::referents::{
     ExtraSidsRead, MaybeSidRead, Part, array_referent, extra_sids_referent, resource_sid_referent,
@@ -78,14 +78,14 @@ impl<'a> LogonView<'a> {
     pub fn new(octets: &'a [u8]) -> Result<Self, LogonError>
         ensures { result ≡ logon_of octets.now }
     {
-        let top = header(octets)?;
+        header(octets)?;
         let (_, object) = octets.split_at(20);
         let (fixed, _) = object.split_at(216);
         let (_, rest) = octets.split_at(236);
-        let last = pointers(fixed, top)?;
+        pointers(fixed)?;
         let names = names(fixed, rest)?;
         let domain = domain(fixed, names.rest)?;
-        let extra = extra_sids_referent(fixed, last, domain.rest)?;
+        let extra = extra_sids_referent(fixed, domain.rest)?;
         let resource = resource_sid_referent(fixed, extra.rest)?;
         let groups = array_referent(fixed, 208, resource.rest)?;
         let resource_groups = padded_end(octets, groups)?;
@@ -100,9 +100,9 @@ impl<'a> LogonView<'a> {
     }
 }
 
-/// The referent id of the pointer after the headers.
+/// The headers, and the pointer after them, which may not be null.
 #[tactic(auto, unfolding(crate::specs::Logon::header_of))]
-fn header(octets: &[u8]) -> Result<u32, LogonError>
+fn header(octets: &[u8]) -> Result<(), LogonError>
     ensures header { result ≡ header_of octets.now }
     ensures room { OnOk result (236 ≤ length octets.now) }
 {
@@ -124,7 +124,10 @@ fn header(octets: &[u8]) -> Result<u32, LogonError>
     if octets.len() < 236 {
         return Err(LogonError::Truncated);
     }
-    needed_pointer(0, u32_at(octets, 16))
+    if u32_at(octets, 16) == 0 {
+        return Err(LogonError::NullPointer);
+    }
+    Ok(())
 }
 
 #[tactic(auto, unfolding(crate::specs::Logon::names_of))]
@@ -167,14 +170,14 @@ fn domain<'a>(fixed: &[u8], octets: &'a [u8]) -> Result<DomainRead<'a>, LogonErr
     })
 }
 
-/// The last part that was read, where only padding is after it.
+/// The last part that was read, where only padding is after it, or nothing.
 #[tactic(auto, unfolding(crate::specs::Logon::end_of))]
 fn padded_end<'a>(octets: &[u8], last: Part<'a>) -> Result<Part<'a>, LogonError>
     ensures { result ≡ end_of octets.now last.entry }
 {
     let used = octets.len().saturating_sub(last.rest.len());
     let padded = (used + 7) / 8 * 8;
-    if octets.len() < padded {
+    if !last.rest.is_empty() && octets.len() < padded {
         return Err(LogonError::Padding);
     }
     if padded < octets.len() {

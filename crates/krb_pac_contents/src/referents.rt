@@ -117,18 +117,17 @@ pub(crate) fn array_referent<'a>(
     array(u32_at(fixed, at) as usize, octets)
 }
 
-/// The greatest referent id once those of so many elements are read.
-fn element_pointers(count: usize, last: u32, octets: &[u8]) -> Result<u32, LogonError>
+/// The pointers that so many elements begin with.
+fn element_pointers(count: usize, octets: &[u8]) -> Result<(), LogonError>
     requires { 8 * count ≤ length octets.now }
-    ensures { result ≡ element_pointers_of count last octets.now }
+    ensures { result ≡ element_pointers_of count octets.now }
 {
-    let mut last = last;
     let mut rest = octets;
     'elements: for n in 0..count {
-        last = needed_pointer(last, u32_at(rest, 0))?;
+        needed_pointer(rest, 0)?;
         (_, rest) = rest.split_at(8);
     }
-    Ok(last)
+    Ok(())
 }
 
 /// The octets after so many identifiers.
@@ -158,12 +157,12 @@ impl<'a> Model for ExtraSidsRead<'a> {
 
 /// So many extra identifiers.
 #[tactic(auto, unfolding(crate::specs::Referents::extra_sids_of))]
-fn extra_sids(count: usize, last: u32, octets: &[u8]) -> Result<ExtraSidsRead<'_>, LogonError>
+fn extra_sids(count: usize, octets: &[u8]) -> Result<ExtraSidsRead<'_>, LogonError>
     requires { count < 2 ^ 32 }
-    ensures { result ≡ extra_sids_of count last octets.now }
+    ensures { result ≡ extra_sids_of count octets.now }
 {
     let elements = array(count, octets)?;
-    element_pointers(count, last, elements.octets)?;
+    element_pointers(count, elements.octets)?;
     let rest = after(count, elements.rest)?;
     Ok(ExtraSidsRead {
         elements: elements.octets,
@@ -176,11 +175,10 @@ fn extra_sids(count: usize, last: u32, octets: &[u8]) -> Result<ExtraSidsRead<'_
 #[tactic(auto, unfolding(crate::specs::Referents::extra_sids_at))]
 pub(crate) fn extra_sids_referent<'a>(
     fixed: &[u8],
-    last: u32,
     octets: &'a [u8],
 ) -> Result<ExtraSidsRead<'a>, LogonError>
     requires { 216 ≤ length fixed.now }
-    ensures { result ≡ extra_sids_at fixed.now last octets.now }
+    ensures { result ≡ extra_sids_at fixed.now octets.now }
 {
     if u32_at(fixed, 200) == 0 {
         return Ok(ExtraSidsRead {
@@ -189,7 +187,7 @@ pub(crate) fn extra_sids_referent<'a>(
             rest: octets,
         });
     }
-    extra_sids(u32_at(fixed, 196) as usize, last, octets)
+    extra_sids(u32_at(fixed, 196) as usize, octets)
 }
 
 /// An identifier that may not be there, and the octets after it.

@@ -5,5 +5,5 @@ use Rattle.krb_pac_contents.proofs.referents.element_pointers.Given as goal
 abbrev pub invariant-elements : goal.invariant-elements
 invariant-elements l = record {
   room : 8 * (l.count - l.n) ≤ length l.rest;
-  same : element_pointers_of l.fn.count l.fn.last l.fn.octets ≡ element_pointers_of (l.count - l.n) l.last l.rest;
+  same : element_pointers_of l.fn.count l.fn.octets ≡ element_pointers_of (l.count - l.n) l.rest;
 }
