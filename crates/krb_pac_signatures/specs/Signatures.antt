@@ -2,7 +2,7 @@
 use Rattle.std.specs.Prelude.{◌≡◌, ℕ, ◌+◌, ◌≤◌, ◌⊎◌, true, false, List, ◌++◌, length, take, drop, replicate, Option, Some, None}
 use Rattle.std.specs.Option.{option_map, ForSome, IsSomeAnd}
 use Rattle.krb_pac.specs.Layout.{Buffer, PacIs}
-use Rattle.krb_pac.specs.Rejected.{PacRejected}
+use Rattle.krb_pac.specs.Rejected.{IsNotMemory, PacRejected}
 use Rattle.krb_pac.specs.View.{first_of}
 use Rattle.krb_pac.specs.declared.kind.PacBufferType.{PacBufferType}
 use Rattle.krb_pac.specs.declared.kind.PacBufferType.TheVariants.{ServerChecksum, KdcChecksum, TicketChecksum, FullPacChecksum}
@@ -53,6 +53,11 @@ OneIsCutShort pac = IsCutShort (placed_in ServerChecksum pac) ⊎ (IsCutShort (p
 abbrev pub SignaturesRejected : List ℕ → PacSignatureError → Type 0
 SignaturesRejected b (errors.Pac x) = PacRejected b x
 SignaturesRejected b errors.Truncated = (pac : List Buffer) × PacIs b pac × OneIsCutShort pac
+
+-- no allocation failure
+abbrev pub IsOfOctets : PacSignatureError → Type 0
+IsOfOctets (errors.Pac x) = IsNotMemory x
+IsOfOctets errors.Truncated = Unit {0}
 
 -- ---- what they are over
 

@@ -3,7 +3,7 @@
 ghost use Rattle.std.specs.Prelude.{◌≡◌, ◌+◌, ◌*◌, ◌≤◌, ℕ, List, ◌++◌, Option, IfOk, IfErr, length, take, drop, replicate};
 ghost use Rattle.std.specs.Option.{option_map, ForSome};
 ghost use Rattle.krb_pac_signatures.specs.Signature.{is_signature};
-ghost use Rattle.krb_pac_signatures.specs.Signatures.{Placed, Signatures, placed_in, IsCutShort, IsWhole, SignaturesOf, SignaturesRejected, zeroed, cleared, server_message, full_message, IsInside};
+ghost use Rattle.krb_pac_signatures.specs.Signatures.{Placed, Signatures, placed_in, IsCutShort, IsWhole, SignaturesOf, SignaturesRejected, IsOfOctets, zeroed, cleared, server_message, full_message, IsInside};
 ghost use Rattle.krb_pac_signatures.specs.declared.error.PacSignatureError.TheVariants as errors;
 
 use crate::error::PacSignatureError;
@@ -47,10 +47,12 @@ impl<'a> Model for PacSignatures<'a> {
 impl<'a> PacSignatures<'a> {
     /// The checksums of the PAC that the octets are, the first of each type.
     ///
-    /// `Pac` where they are no PAC, as `PacView::new` says; then `Truncated`, where one of the four is there and is no signature.
+    /// `Pac` where they are no PAC, as `PacView::new` says; then `Truncated`, where one of the four is there and is no signature. There is no
+    /// other error, since no memory is taken.
     pub fn new(octets: &'a [u8]) -> Result<Self, PacSignatureError>
         ensures found { IfOk result (SignaturesOf octets.now) }
         ensures rejected { IfErr result (SignaturesRejected octets.now) }
+        ensures memory { IfErr result IsOfOctets }
     {
         let pac = PacView::new(octets)?;
         let server = placed(&pac, PacBufferType::ServerChecksum)?;
