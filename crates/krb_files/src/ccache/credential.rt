@@ -2,7 +2,7 @@
 
 ghost use Rattle.std.specs.Prelude.{◌≡◌};
 ghost use Rattle.krb_files.specs.FieldReading.{Gives};
-ghost use Rattle.krb_files.specs.Config.{is_config, is_first};
+ghost use Rattle.krb_files.specs.Config.{is_config, is_first, is_removed};
 ghost use Rattle.krb_files.specs.CcacheReading.{credential_at as credential_fields_at, etype_at as etype_fields_at, times_at as times_fields_at};
 
 use crate::ccache::principal::{CcachePrincipalView, principal_at};
@@ -147,6 +147,17 @@ impl<'a> CredentialView<'a> {
     {
         self.server.realm() == b"X-CACHECONF:".as_slice()
             && is_first(self.server.components(), b"krb5_ccache_conf_data")
+    }
+
+    /// Whether this entry was removed and only stands in the file: the authtime is -1, here
+    /// 4294967295, and the endtime 0. MIT Kerberos from 1.18 on writes these over an entry that it
+    /// removes, and passes over such entries (`src/lib/krb5/ccache/cc_file.c`: `delete_cred`,
+    /// `cred_removed`). Of a configuration entry it writes the realm `X-RMED-CONF:` too, so that
+    /// `is_config` is false of it.
+    pub fn is_removed(&self) -> bool
+        ensures { result ≡ is_removed self.now }
+    {
+        self.times.authtime == u32::MAX && self.times.endtime == 0
     }
 }
 
