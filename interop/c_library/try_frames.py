@@ -4,7 +4,9 @@ FRAMES has rows of a kind and octets in hexadecimal: pac, token, init, resp, pas
 that shares nothing with the library. The last line is `N passed, N failed`."""
 
 import random
+import struct
 import sys
+import tracemalloc
 
 from counting import changed, counted, expect, outcome
 from krb import Refused, Status, frames, messages, pac, spnego
@@ -176,6 +178,41 @@ def try_pac(octets, count):
                 expect(outcome(pac.buffer, each, n) == Status.ABSENT, "buffer %d of a PAC of %d" % (n, len(right)))
             for kind in TYPES:
                 expect(pac.find(each, kind) == next((it[2] for it in right if it[0] == kind), None), "the buffer of type %d" % kind)
+
+
+def most_memory(call):
+    """The most octets that Python held at a time in a call, beside what it held before."""
+    tracemalloc.start()
+    try:
+        call()
+        return tracemalloc.get_traced_memory()[1]
+    finally:
+        tracemalloc.stop()
+
+
+def try_hostile_pac():
+    """A PAC of 511 buffers, each of all its 8 KiB: no call keeps more than one of them."""
+    count, size = 511, 8 * 1024
+    entries = b"".join(struct.pack("<IIQ", 1 if n < count - 1 else 13, size, 0) for n in range(count))
+    octets = struct.pack("<II", count, 0) + entries
+    octets += bytes(size - len(octets))
+    found = pac.buffers(octets)
+    expect(len(found) == count and found[-1] == (13, 0, octets), "the buffers of a hostile PAC")
+    expect(found[1:3] == [(1, 0, octets)] * 2 and found[count:] == [], "some of its buffers")
+    expect(found == pac.buffers(bytearray(octets)) and found != found[1:], "its buffers compared")
+    for n in (count, -count - 1):
+        try:
+            expect(found[n] is None, "buffer %d of %d" % (n, count))
+        except IndexError:
+            expect(True, "")
+    for what, call in (
+        ("find", lambda: pac.find(octets, 13)),
+        ("find of none", lambda: pac.find(octets, 2)),
+        ("buffers", lambda: [it.type for it in pac.buffers(octets)]),
+        ("buffer", lambda: pac.buffer(octets, count - 1)),
+    ):
+        most = most_memory(call)
+        expect(most < 8 * size, "%s of a hostile PAC of %d octets takes %d" % (what, size, most))
 
 
 def try_token(octets, count):
@@ -353,6 +390,7 @@ def main():
             expect(tried(frames.proxy_message, octets) == proxy_of(octets), "a KDC-PROXY-MESSAGE")
             try_cuts(frames.proxy_message, octets, "a KDC-PROXY-MESSAGE")
             try_changed(frames.proxy_message, proxy_of, octets, count, "a KDC-PROXY-MESSAGE")
+    try_hostile_pac()
     try_made()
     try_made_messages()
     try_made_answers()
