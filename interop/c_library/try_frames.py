@@ -276,6 +276,18 @@ def try_made():
     expect(pac.buffers(bytes(8)) == [], "a PAC of no buffers")
 
 
+def try_long_mechanisms():
+    """Mechanisms whose lengths have two and more octets (X.690, 8.1.3.5)."""
+    lengths = {127: "7f", 128: "8180", 129: "8181", 255: "81ff", 256: "820100", 70001: "83011171"}
+    for size, length in lengths.items():
+        one = b"\x2a" * (1 - size % 2) + b"\x2a" + b"\x81\x01" * ((size - 1) // 2)
+        both = [one, spnego.KERBEROS]
+        made = outcome(spnego.make_neg_token_init, both)
+        right = isinstance(made, bytes) and b"\x06" + bytes.fromhex(length) + one in made
+        right = right and spnego.neg_token_init(made).mechanisms == both == init_of(made)[0]
+        expect(len(one) == size and right, "a mechanism of %d octets: %s" % (size, made))
+
+
 def try_made_messages():
     """A NegTokenInit and a KDC-PROXY-MESSAGE, of the octets that X.690 gives."""
     both = bytes.fromhex("06092a864886f712010202060a2b06010401823702020a")
@@ -295,6 +307,10 @@ def try_made_messages():
     for size in (113, 114, 127, 128, 65536):
         made = spnego.make_neg_token_init([spnego.KERBEROS], bytes(size), b"m")
         expect(init_of(made) == ([spnego.KERBEROS], bytes(size), b"m") and tuple(spnego.neg_token_init(made)) == init_of(made), "a mechToken of %d octets" % size)
+    try_long_mechanisms()
+    forms = [bytearray(spnego.KERBEROS), memoryview(b"\x2b")]
+    right = spnego.make_neg_token_init([spnego.KERBEROS, b"\x2b"])
+    expect(outcome(spnego.make_neg_token_init, forms) == right, "forms of mechanisms")
     many = [b"\x2b" + bytes([n % 128]) * (n % 50) for n in range(1, 2000)]
     made = spnego.make_neg_token_init(many)
     expect(spnego.neg_token_init(made).mechanisms == many, "two thousand mechanisms")

@@ -120,10 +120,19 @@ def neg_token_resp(octets: Octets) -> NegTokenResp:
 _make_init = Call("krb_make_neg_token_init", IN, IN, IN, has_room=True)
 
 
+def _identifier(mechanism: Octets) -> bytes:
+    """The OBJECT IDENTIFIER of this content (X.690, 8.1.3 and 10.1)."""
+    content = bytes(memoryview(mechanism).cast("B"))
+    size = len(content)
+    digits = size.to_bytes((size.bit_length() + 7) // 8, "big")
+    length = bytes([size]) if size < 128 else bytes([128 + len(digits)]) + digits
+    return b"\x06" + length + content
+
+
 def make_neg_token_init(mechanisms: Iterable[Octets], mech_token: Octets = b"", mech_list_mic: Octets = b"") -> bytes:
-    """The token that begins a negotiation, of the mechanisms, each shorter than 128 octets, and of a token and a MIC, which are left out where they
-    are empty. Refused: INVALID, UNSUPPORTED where a mechanism is none; MEMORY."""
-    listed = b"".join(b"\x06" + bytes([len(one)]) + bytes(one) for one in mechanisms)
+    """The token that begins a negotiation, of the mechanisms, and of a token and a MIC, which are left
+    out where they are empty. Refused: INVALID, UNSUPPORTED where a mechanism is none; MEMORY."""
+    listed = b"".join(map(_identifier, mechanisms))
     return _make_init.octets(len(listed) + len(mech_token) + len(mech_list_mic) + 96, listed, mech_token, mech_list_mic)
 
 
