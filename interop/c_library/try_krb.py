@@ -8,7 +8,7 @@ import sys
 import krb
 from counting import counted, expect, outcome
 from krb import Refused, Status
-from krb import crypto, messages
+from krb import crypto, gss, messages
 
 SUITES = {16: (24, 8, 20, 12), 17: (16, 16, 12, 15), 18: (32, 16, 12, 16), 19: (16, 16, 16, 19), 20: (32, 16, 24, 20)}
 PARTS = {
@@ -132,6 +132,12 @@ def try_forms():
             expect(False, "%r is taken for octets" % (wrong,))
         except TypeError:
             expect(True, "")
+    token_key = gss.TokenKey(17, key, gss.Sender.ACCEPTOR, True)
+    for each in (token_key, crypto.KeptKey(17, key, 2)):
+        for said in (repr(each), str(each), "%s" % [each]):
+            hidden = not any(form in said for form in (repr(key)[2:-1], key.hex(), "\\x01", "1, 2, 3"))
+            expect(hidden and "etype=17" in said, "a key is told: %s" % said)
+    expect(token_key == (17, key, gss.Sender.ACCEPTOR, True), "a key of tokens is its fields")
     refused = pickle.loads(pickle.dumps(Refused(7)))
     expect(refused.status is Status.INTEGRITY and isinstance(refused, ValueError) and str(refused) == "INTEGRITY: a wrong checksum", "a refusal")
     large = os.urandom(3_000_000)

@@ -38,6 +38,11 @@ class TokenKey(NamedTuple):
     sender: Sender
     acceptor_subkey: bool
 
+    def __repr__(self) -> str:
+        """Without the key, so that none comes into a log or a traceback."""
+        said = self.etype, self.sender, self.acceptor_subkey
+        return "TokenKey(etype=%r, sender=%s, acceptor_subkey=%r)" % said
+
     def _words(self) -> "tuple[int, bytes, bool, bool]":
         return self.etype, self.octets, self.sender.value, self.acceptor_subkey
 
