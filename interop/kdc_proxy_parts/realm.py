@@ -7,6 +7,8 @@ import subprocess
 import threading
 import time
 
+from name_server import NameServer
+
 REALM = "PROXY.TEST"
 SUITES = {
     17: "aes128-cts-hmac-sha1-96",
@@ -112,6 +114,7 @@ class Realm:
         self.home, self.processes = home, []
         self.ports = ports = {name: free_port() for name in ("kdc", "kadmin", "kpasswd")}
         self.kdc, self.kpasswd = Relay(ports["kdc"]), Relay(ports["kpasswd"])
+        self.names = NameServer()
         self.environment = {
             "PATH": PATHS,
             "HOME": home,

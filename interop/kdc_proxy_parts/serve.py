@@ -2,10 +2,14 @@
 
 NAME is `kdc_proxy` (examples/kdc_proxy/kdc_proxy.py), `strict` (kdcproxy with examples/kdc_proxy/strict_kdcproxy.py as its parser) or `plain` (kdcproxy as
 it is). FOLDER has cert.pem and key.pem. A line of JSON goes to FOLDER/record-PORT for each answer: its status, and in hexadecimal what was read of the request
-and what was answered."""
+and what was answered.
+
+The variable NAME_SERVER is the port on 127.0.0.1 of the name server that the process asks, by dnspython, by which kdcproxy looks names up, and by
+getaddrinfo, which asks it for each host that is not an address and finds none, but for three.test, which has the addresses 127.0.0.1 to 127.0.0.3."""
 
 import json
 import os
+import socket
 import socketserver
 import ssl
 import sys
@@ -13,6 +17,31 @@ import threading
 from wsgiref.simple_server import WSGIRequestHandler, WSGIServer
 
 EXAMPLES = os.path.join(os.path.dirname(os.path.abspath(__file__)), "..", "..", "examples", "kdc_proxy")
+
+
+def ask_name_server(port):
+    """Has look-ups of names go to this port of 127.0.0.1 alone."""
+    import dns.exception
+    import dns.resolver
+
+    resolver = dns.resolver.Resolver(configure=False)
+    resolver.nameservers, resolver.port, resolver.lifetime = ["127.0.0.1"], port, 5
+    dns.resolver.default_resolver = resolver
+    getaddrinfo = socket.getaddrinfo
+
+    def asked(host, *rest, **named):
+        if host == "three.test":
+            return [found for n in "123" for found in asked("127.0.0." + n, *rest, **named)]
+        try:
+            return getaddrinfo(host, *rest, **{**named, "flags": socket.AI_NUMERICHOST})
+        except socket.gaierror:
+            try:
+                resolver.resolve(host, "A", search=False)
+            except dns.exception.DNSException:
+                pass
+            raise
+
+    socket.getaddrinfo = asked
 
 
 def application_of(name):
@@ -91,6 +120,7 @@ class Handler(WSGIRequestHandler):
 
 def main():
     name, port, folder = sys.argv[1:]
+    ask_name_server(int(os.environ["NAME_SERVER"]))
     server = Server(("127.0.0.1", int(port)), Handler)
     server.context = ssl.SSLContext(ssl.PROTOCOL_TLS_SERVER)
     server.context.load_cert_chain(os.path.join(folder, "cert.pem"), os.path.join(folder, "key.pem"))
