@@ -461,7 +461,9 @@ krb_status krb_wrap_in_clear(int32_t etype, const uint8_t *key, size_t key_size,
                              uint64_t sequence_number, uint16_t rotation, const uint8_t *message, size_t message_size, uint8_t *out,
                              size_t room, size_t *size);
 
-/* The message that a Wrap token holds, encrypted or not, and whatever its rotation. *sequence_number is the token's, and *sealed whether it was
+/* The message that a Wrap token of RFC 4121 holds, encrypted or not, and whatever its rotation (RRC). An encrypted token of DCE style, as Windows makes it
+   for a context of that style (MS-KILE, 3.4.5.4.1), is rotated by RRC and EC together: it is not such a token, and refused with KRB_INTEGRITY.
+   *sequence_number is the token's, and *sealed whether it was
    encrypted, where the status is KRB_DONE or KRB_ROOM; else they are 0 and false. The message has fewer octets than the token. `sequence_number` and
    `sealed` overlap nothing else that is passed, as `size`.
    KRB_NUMBER; then KRB_KEY_SIZE; then KRB_TOKEN, KRB_DIRECTION, KRB_SUBKEY; then of an encrypted token KRB_SEALED_SIZE, KRB_INTEGRITY, KRB_SEALED_HEADER,

@@ -92,7 +92,9 @@ def wrap_in_clear(key: TokenKey, sequence_number: int, message: Octets, rotation
 
 
 def unwrap(key: TokenKey, token: Octets) -> Unwrapped:
-    """What a Wrap token holds, encrypted or not, and whatever its rotation.
+    """What a Wrap token of RFC 4121 holds, encrypted or not, and whatever its rotation (RRC). An
+    encrypted token of DCE style (MS-KILE, 3.4.5.4.1) is rotated by RRC and EC together, and refused
+    with INTEGRITY.
 
     Refused: NUMBER, KEY_SIZE, TOKEN, DIRECTION, SUBKEY, SEALED_SIZE, SEALED_HEADER, INTEGRITY, MEMORY."""
     number, sealed = ctypes.c_uint64(), ctypes.c_bool()
