@@ -8,8 +8,9 @@ use Rattle.krb_enc_parts.specs.declared.data_types.credentials.KrbCredInfo.{KrbC
 use Rattle.krb_types.specs.declared.data_types.encryption.EncryptedData.{EncryptedData}
 use Rattle.krb_types.specs.declared.data_types.tickets.TicketInner.{TicketInner}
 use Rattle.krb_file_tools.specs.Answers.{IsMemoryOr, IsNot}
-use Rattle.krb_file_tools.specs.Back.{CcacheRefusal, CredentialError, FirstBroken, IsMessageOf, broken, kept_of, no_ticket}
+use Rattle.krb_file_tools.specs.Back.{CcacheRefusal, CredentialError, FirstBroken, IsMessageOf, broken, no_ticket}
 use Rattle.krb_file_tools.specs.Message.{IsInfoOf}
+use Rattle.krb_file_tools.specs.Tickets.{tickets_of}
 use Rattle.krb_file_tools.specs.Whole.{FirstError, IsValue}
 use Rattle.krb_file_tools.specs.declared.convert.error.ConvertError.{ConvertError}
 use Rattle.krb_file_tools.specs.declared.convert.form.Form.TheVariants as form
@@ -21,7 +22,7 @@ ticket_broken ticket c info octets e same along =
     or_memory e (λ n. subst (CredentialError ticket c) (sym n.1) (no_ticket info n.0 along (subst (λ (o : List ℕ). FirstError ticket o n.0) same n.2)))
 
 pub credentials_broken : (ticket : EncodingOf TicketInner) (octets : List ℕ) (cache : Ccache) (kept : List Credential) (e : ConvertError) → CcacheIs octets cache
-    → kept ≡ kept_of cache.credentials → IsMemoryOr e (FirstBroken ticket kept e) → IsMemoryOr e (CcacheRefusal ticket octets e)
+    → kept ≡ tickets_of cache.credentials → IsMemoryOr e (FirstBroken ticket kept e) → IsMemoryOr e (CcacheRefusal ticket octets e)
 credentials_broken ticket octets cache kept e whole same =
     or_memory e (λ b. broken cache e whole (subst (λ (l : List Credential). FirstBroken ticket l e) same b))
 

@@ -2,7 +2,7 @@
 use Rattle.std.specs.Prelude.{◌≡◌, ℕ, ◌<◌, ◌==◌, ◌&&◌, nat_lt, pos, Bool, false, not, List, [], ◌∷◌, ◌++◌, length, filter, None, Err}
 use Rattle.std.specs.List.{list_any}
 use Rattle.krb_files.specs.Ccache.{Ccache, CcacheIs, Credential, TypedPrincipal}
-use Rattle.krb_files.specs.Config.{is_config}
+use Rattle.krb_files.specs.Config.{is_removed}
 use Rattle.krb_files.specs.CcacheReading.{ccache_of}
 use Rattle.krb_files.specs.declared.ccache.error.CcacheError.{CcacheError}
 use Rattle.krb_der_core.specs.declared.der.DerEncode.{Ghosts as EncodingOf}
@@ -13,15 +13,12 @@ use Rattle.krb_enc_parts.specs.declared.data_types.credentials.EncKrbCredPartInn
 use Rattle.krb_enc_parts.specs.declared.data_types.credentials.KrbCredInfo.{KrbCredInfo}
 use Rattle.krb_types.specs.declared.data_types.tickets.TicketInner.{TicketInner}
 use Rattle.krb_file_tools.specs.Message.{InfoError, IsInfoOf}
+use Rattle.krb_file_tools.specs.Tickets.{is_configuration, tickets_of}
 use Rattle.krb_file_tools.specs.Whole.{FirstError, IsValue}
 use Rattle.krb_file_tools.specs.declared.convert.error.ConvertError.{ConvertError}
 use Rattle.krb_file_tools.specs.declared.convert.error.ConvertError.TheVariants as errors
 use Rattle.krb_file_tools.specs.declared.convert.field.Field.{Field}
 use Rattle.krb_file_tools.specs.declared.convert.field.Field.TheVariants as field
-
--- the credentials but configuration entries
-abbrev pub kept_of : List Credential → List Credential
-kept_of credentials = filter (λ c. not (is_config c)) credentials
 
 -- the ticket of a credential, and what goes along with it
 pub record IsEntryOf {T : Type 0} (ticket : EncodingOf T) (c : Credential) (t : T) (info : KrbCredInfo) : Type 0 where
@@ -80,26 +77,27 @@ differs_from_first p (c ∷ cs) = differs p c.client
 -- what of a cache has no place in a KRB-CRED
 abbrev pub ccache_has : Ccache → Field → Bool
 ccache_has cache field.Header = nat_lt 0 (length cache.header)
-ccache_has cache field.DefaultPrincipal = differs_from_first cache.principal (kept_of cache.credentials)
-ccache_has cache field.Configuration = list_any is_config cache.credentials
-ccache_has cache field.IsSkey = list_any (λ c. not (c.is_skey == 0)) (kept_of cache.credentials)
-ccache_has cache field.Authdata = list_any (λ c. nat_lt 0 (length c.authorization_data)) (kept_of cache.credentials)
-ccache_has cache field.SecondTicket = list_any (λ c. nat_lt 0 (length c.second_ticket)) (kept_of cache.credentials)
+ccache_has cache field.DefaultPrincipal = differs_from_first cache.principal (tickets_of cache.credentials)
+ccache_has cache field.Configuration = list_any is_configuration cache.credentials
+ccache_has cache field.Removed = list_any is_removed cache.credentials
+ccache_has cache field.IsSkey = list_any (λ c. not (c.is_skey == 0)) (tickets_of cache.credentials)
+ccache_has cache field.Authdata = list_any (λ c. nat_lt 0 (length c.authorization_data)) (tickets_of cache.credentials)
+ccache_has cache field.SecondTicket = list_any (λ c. nat_lt 0 (length c.second_ticket)) (tickets_of cache.credentials)
 ccache_has cache _ = false
 
 -- all that may have none, in the order in which it is told
 abbrev pub ccache_fields : List Field
-ccache_fields = field.Header ∷ field.DefaultPrincipal ∷ field.Configuration ∷ field.IsSkey ∷ field.Authdata ∷ field.SecondTicket ∷ []
+ccache_fields = field.Header ∷ field.DefaultPrincipal ∷ field.Configuration ∷ field.Removed ∷ field.IsSkey ∷ field.Authdata ∷ field.SecondTicket ∷ []
 
 -- a KRB-CRED's octets, and what is left out, of a cache's octets
 pub record IsKirbiOf (message : EncodingOf KrbCredInner) (part : EncodingOf EncKrbCredPartInner) (ticket : EncodingOf TicketInner) (octets : List ℕ)
     (written : List ℕ) (left_out : List Field) : Type 0 where
   pub cache : Ccache
   pub whole : CcacheIs octets cache
-  pub some : 0 < length (kept_of cache.credentials)
+  pub some : 0 < length (tickets_of cache.credentials)
   pub tickets : List TicketInner
   pub infos : List KrbCredInfo
-  pub entries : AreEntriesOf ticket (kept_of cache.credentials) tickets infos
+  pub entries : AreEntriesOf ticket (tickets_of cache.credentials) tickets infos
   pub k : KrbCredInner
   pub p : EncKrbCredPartInner
   pub made : IsMessageOf part tickets infos k p
@@ -109,5 +107,5 @@ pub record IsKirbiOf (message : EncodingOf KrbCredInner) (part : EncodingOf EncK
 -- the first rule that a cache's octets break
 pub data CcacheRefusal (ticket : EncodingOf TicketInner) (octets : List ℕ) : ConvertError → Type 0 where
   no_cache : (why : CcacheError) → ccache_of octets ≡ Err why → CcacheRefusal ticket octets (errors.Ccache why)
-  no_credential : (cache : Ccache) → CcacheIs octets cache → kept_of cache.credentials ≡ [] → CcacheRefusal ticket octets errors.NoCredential
-  broken : (cache : Ccache) (e : ConvertError) → CcacheIs octets cache → FirstBroken ticket (kept_of cache.credentials) e → CcacheRefusal ticket octets e
+  no_credential : (cache : Ccache) → CcacheIs octets cache → tickets_of cache.credentials ≡ [] → CcacheRefusal ticket octets errors.NoCredential
+  broken : (cache : Ccache) (e : ConvertError) → CcacheIs octets cache → FirstBroken ticket (tickets_of cache.credentials) e → CcacheRefusal ticket octets e

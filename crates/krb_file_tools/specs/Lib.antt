@@ -1,6 +1,7 @@
 pub mod Lines
 pub mod Principals
 pub mod Texts
+pub mod Tickets
 pub mod Answers
 pub mod Back
 pub mod Fields

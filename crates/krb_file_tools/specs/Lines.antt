@@ -1,10 +1,8 @@
 -- The lines of a keytab and of a credential cache, as klist of MIT Kerberos has them, and which octets are none.
-use Rattle.std.specs.Prelude.{◌≡◌, ◌≢◌, ℕ, ◌==◌, not, if◌then◌else◌, ◌⊎◌, pos, List, [], ◌∷◌, ◌++◌, Err, codes}
+use Rattle.std.specs.Prelude.{◌≡◌, ◌≢◌, ℕ, ◌==◌, if◌then◌else◌, ◌⊎◌, pos, List, [], ◌∷◌, ◌++◌, Err, codes}
 use Rattle.std.specs.Fmt.{decimal}
-use Rattle.std.specs.List.{filter}
 use Rattle.std.specs.Str.{bytes_eq}
 use Rattle.krb_files.specs.Ccache.{Ccache, CcacheIs, Credential}
-use Rattle.krb_files.specs.Config.{is_config}
 use Rattle.krb_files.specs.CcacheReading.{ccache_of}
 use Rattle.krb_files.specs.declared.ccache.credential.Times.{Times}
 use Rattle.krb_files.specs.FieldReading.{Principal}
@@ -12,6 +10,7 @@ use Rattle.krb_files.specs.Entry.{Entry}
 use Rattle.krb_files.specs.Keytab.{KeytabIs}
 use Rattle.krb_files.specs.KeytabReading.{keytab_of}
 use Rattle.krb_file_tools.specs.Principals.{principal_text}
+use Rattle.krb_file_tools.specs.Tickets.{tickets_of}
 use Rattle.krb_file_tools.specs.Texts.{IsEtypeText, IsTimeText, flag_letters, padded}
 use Rattle.krb_file_tools.specs.declared.list.error.ListError.{ListError}
 use Rattle.krb_file_tools.specs.declared.list.error.ListError.TheVariants as errors
@@ -100,12 +99,8 @@ pub record IsCredentialLine (ticket : List ℕ → List ℕ → Type 0) (own : L
   pub is : line ≡ start ++ codes "  " ++ expiry ++ codes "  " ++ principal_text c.server.principal
       ++ client_part own (principal_text c.client.principal) ++ renewal ++ flags_part (flag_letters c.flags) ++ etypes
 
--- the credentials that are no configuration entries
-abbrev pub tickets_of : List Credential → List Credential
-tickets_of credentials = filter (λ c. not (is_config c)) credentials
-
--- the default principal, the header, and a line for each credential but the configuration entries, by which octets of a ticket have which text for
--- their encryption type
+-- the default principal, the header, and a line for each ticket, by which octets of a ticket have which text for their
+-- encryption type
 abbrev pub IsCcacheListing : (List ℕ → List ℕ → Type 0) → Ccache → List ℕ → Type 0
 IsCcacheListing ticket cache text =
     IsListing (default_line cache.principal.principal ∷ ccache_header ∷ [])

@@ -2,10 +2,11 @@
 
 ghost use Rattle.std.specs.Prelude.{◌≡◌, ◌<◌, ◌==◌, None, [], filter, length, nat_lt, not, pos, MatchBool, IfOk, IfErr};
 ghost use Rattle.std.specs.List.{list_any};
-ghost use Rattle.krb_files.specs.Config.{is_config};
+ghost use Rattle.krb_files.specs.Config.{is_removed};
 ghost use Rattle.krb_file_tools.specs.Answers.{IsMemoryOr};
 ghost use Rattle.krb_file_tools.specs.Back.{AreEntriesOf, CcacheRefusal, CredentialError, FirstBroken, IsEntryOf, IsKirbiOf, IsMessageOf};
-ghost use Rattle.krb_file_tools.specs.Back.{ccache_fields, ccache_has, differs, differs_from_first, kept_of};
+ghost use Rattle.krb_file_tools.specs.Back.{ccache_fields, ccache_has, differs, differs_from_first};
+ghost use Rattle.krb_file_tools.specs.Tickets.{is_configuration, tickets_of};
 ghost use Rattle.krb_file_tools.specs.Whole.{IsValue};
 ghost use Rattle.krb_file_tools.specs.declared.convert.error.ConvertError.TheVariants as errors;
 
@@ -13,6 +14,7 @@ use crate::convert::error::ConvertError;
 use crate::convert::field::{Converted, Field};
 use crate::convert::form::{Form, read};
 use crate::convert::message::{info_of, integer_of};
+use crate::tickets::{is_configuration, is_ticket};
 use krb_der::{
     ApplicationTag, Asn1SequenceOf, Der, DerEncode, ExplicitContextTag0, ExplicitContextTag1,
     ExplicitContextTag2, ExplicitContextTag3, OctetStringAsn1, Optional, to_vec,
@@ -24,22 +26,26 @@ use krb_types::data_types::{EncryptedData, Ticket};
 use std::alloc::{AllocError, Global};
 
 /// What of a cache may have no place in a KRB-CRED.
-const CCACHE_FIELDS: [Field; 6] = [
+const CCACHE_FIELDS: [Field; 7] = [
     Field::Header,
     Field::DefaultPrincipal,
     Field::Configuration,
+    Field::Removed,
     Field::IsSkey,
     Field::Authdata,
     Field::SecondTicket,
 ];
 
-/// The credentials but configuration entries, in their order.
-fn kept_of<'a>(alloc: Global, cache: &CcacheView<'a>) -> Result<Vec<CredentialView<'a>>, AllocError>
-    ensures { IfOk result (λ v. v.items ≡ kept_of cache.now.credentials) }
+/// The tickets of a cache, in their order.
+fn tickets_of<'a>(
+    alloc: Global,
+    cache: &CcacheView<'a>,
+) -> Result<Vec<CredentialView<'a>>, AllocError>
+    ensures { IfOk result (λ v. v.items ≡ tickets_of cache.now.credentials) }
 {
     cache
         .credentials()
-        .filter(|credential| !credential.is_config())
+        .filter(|credential| is_ticket(credential))
         .collect(alloc)
 }
 
@@ -206,19 +212,20 @@ fn credentials_of<'a>(
     cache.credentials().collect(alloc)
 }
 
-/// Whether one of the credentials is a configuration entry.
+/// Whether one of the credentials is a configuration entry that was not removed.
 fn has_configuration(credentials: &[CredentialView]) -> bool
-    ensures { result ≡ list_any is_config credentials.now }
+    ensures { result ≡ list_any is_configuration credentials.now }
 {
-    credentials.iter().any(|credential| credential.is_config())
+    credentials
+        .iter()
+        .any(|credential| is_configuration(credential))
 }
 
-/// Whether a cache has a configuration entry.
-fn is_configured(alloc: Global, cache: &CcacheView) -> Result<bool, AllocError>
-    ensures { IfOk result (λ b. b ≡ list_any is_config cache.now.credentials) }
+/// Whether one of the credentials was removed.
+fn has_removed(credentials: &[CredentialView]) -> bool
+    ensures { result ≡ list_any is_removed credentials.now }
 {
-    let credentials = credentials_of(alloc, cache)?;
-    Ok(has_configuration(&credentials))
+    credentials.iter().any(|credential| credential.is_removed())
 }
 
 /// Whether a ticket is encrypted in the session key of another ticket.
@@ -259,20 +266,21 @@ fn has_second_ticket(credentials: &[CredentialView]) -> bool
 /// Whether a cache has this, for which a KRB-CRED has no place.
 fn has(
     cache: &CcacheView,
+    all: &[CredentialView],
     kept: &[CredentialView],
     other_client: bool,
-    configured: bool,
     field: Field,
 ) -> bool
-    requires kept { kept.now ≡ kept_of cache.now.credentials }
+    requires all { all.now ≡ cache.now.credentials }
+    requires kept { kept.now ≡ tickets_of cache.now.credentials }
     requires other { other_client ≡ differs_from_first cache.now.principal kept.now }
-    requires configured { configured ≡ list_any is_config cache.now.credentials }
     ensures { result ≡ ccache_has cache.now field }
 {
     match field {
         Field::Header => has_header(cache),
         Field::DefaultPrincipal => other_client,
-        Field::Configuration => configured,
+        Field::Configuration => has_configuration(all),
+        Field::Removed => has_removed(all),
         Field::IsSkey => has_skey(kept),
         Field::Authdata => has_authdata(kept),
         Field::SecondTicket => has_second_ticket(kept),
@@ -286,20 +294,21 @@ fn left_out_of(
     cache: &CcacheView,
     kept: &[CredentialView],
 ) -> Result<Vec<Field>, AllocError>
-    requires { kept.now ≡ kept_of cache.now.credentials }
+    requires { kept.now ≡ tickets_of cache.now.credentials }
     ensures { IfOk result (λ v. v.items ≡ filter (ccache_has cache.now) ccache_fields) }
 {
     let other_client = differs_from_first(alloc, cache.principal(), kept)?;
-    let configured = is_configured(alloc, cache)?;
+    let all = credentials_of(alloc, cache)?;
+    let credentials = all.as_slice();
     CCACHE_FIELDS
         .iter()
         .copied()
-        .filter(|field| has(cache, kept, other_client, configured, *field))
+        .filter(|field| has(cache, credentials, kept, other_client, *field))
         .collect(alloc)
 }
 
 /// The KRB-CRED in the clear, as a `.kirbi` is, of a credential cache of version 3 or 4 (MIT Kerberos, "Credential cache file format"): its enc-part
-/// has an etype of 0, and its cipher is the encoding of an EncKrbCredPart (RFC 4120, 5.8.1). Each credential but configuration entries becomes a
+/// has an etype of 0, and its cipher is the encoding of an EncKrbCredPart (RFC 4120, 5.8.1). Each credential but configuration entries and removed ones (`CredentialView::is_config`, `is_removed`) becomes a
 /// ticket and what goes along with it: pname and prealm are its client, sname and srealm its server; a time of 0 is absent, whichever it is; flags
 /// are 32 bits, and the most significant is bit 0; caddr is absent where there are no addresses. Numbers of 16 and 32 bits are read as two's
 /// complement, where RFC 4120 has an Int32.
@@ -315,7 +324,7 @@ pub fn kirbi_of_ccache(alloc: Global, octets: &[u8]) -> Result<Converted, Conver
         Ok(cache) => cache,
         Err(why) => return Err(ConvertError::Ccache(why)),
     };
-    let kept = kept_of(alloc, &cache)?;
+    let kept = tickets_of(alloc, &cache)?;
     let credentials = kept.as_slice();
     if is_none(credentials) {
         return Err(ConvertError::NoCredential);

@@ -56,7 +56,7 @@ pub enum ConvertError {
     /// The octets are no credential cache: their first error, from the left.
     #[error("no credential cache: {0}")]
     Ccache(CcacheError),
-    /// A cache has no credential but configuration entries.
+    /// A cache has no credential but configuration entries and removed ones.
     #[error("there is no credential")]
     NoCredential,
     /// An octet of a realm or of a name's component is past 127, and a KerberosString has none (RFC 4120, 5.2.1).

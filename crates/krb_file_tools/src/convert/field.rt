@@ -26,6 +26,8 @@ pub enum Field {
     DefaultPrincipal,
     /// A configuration entry of a cache.
     Configuration,
+    /// An entry of a cache that was removed and only stands in the file.
+    Removed,
     /// A mark that a ticket is encrypted in the session key of another ticket.
     IsSkey,
     /// Authorization data of a credential.
@@ -50,6 +52,7 @@ impl Field {
             Field::Header => "header",
             Field::DefaultPrincipal => "default principal",
             Field::Configuration => "configuration entries",
+            Field::Removed => "removed entries",
             Field::IsSkey => "is_skey",
             Field::Authdata => "authdata",
             Field::SecondTicket => "second_ticket",

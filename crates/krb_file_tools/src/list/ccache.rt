@@ -2,9 +2,10 @@
 
 ghost use Rattle.std.specs.Prelude.{◌≡◌, List, [], ◌∷◌, ◌++◌, ℕ, IfOk, IfErr, OnOk, MatchResult, codes};
 ghost use Rattle.krb_files.specs.Ccache.{Ccache, CcacheIs};
-ghost use Rattle.krb_file_tools.specs.Lines.{IsCcacheListing, IsCredentialLine, IsEtypePart, IsListing, IsNoCcache, IsRenewPart, ccache_header, client_part, flags_part, start_of, tickets_of};
+ghost use Rattle.krb_file_tools.specs.Lines.{IsCcacheListing, IsCredentialLine, IsEtypePart, IsListing, IsNoCcache, IsRenewPart, ccache_header, client_part, flags_part, start_of};
 ghost use Rattle.krb_file_tools.specs.Principals.{principal_text};
 ghost use Rattle.krb_file_tools.specs.Texts.{IsEncodedEtypeText, flag_letters};
+ghost use Rattle.krb_file_tools.specs.Tickets.{tickets_of};
 ghost use Rattle.krb_show.specs.Text.{ArePrintable, text_of_lines};
 
 use crate::list::error::ListError;
@@ -13,6 +14,7 @@ use crate::list::flags::letters_of;
 use crate::list::lines::{joined, push_line};
 use crate::list::principal::text_of_principal;
 use crate::list::time::text_of_seconds;
+use crate::tickets::is_ticket;
 use krb_der::DerEncode;
 use krb_files::ccache::{CcacheView, CredentialView, CredentialsView, Times};
 use krb_files::fields::PrincipalView;
@@ -145,7 +147,7 @@ fn text_of_heads(alloc: Global, first: &[u8], second: &[u8]) -> Result<Vec<u8>, 
     Ok(text)
 }
 
-/// Appends a line for each credential that is no configuration entry, to a text of lines.
+/// Appends a line for each ticket, to a text of lines.
 fn push_tickets<T: TicketEtypes>(
     alloc: Global,
     own: &[u8],
@@ -156,7 +158,7 @@ fn push_tickets<T: TicketEtypes>(
         → IsListing heads (IsCredentialLine T.etype own.now) (tickets_of credentials.entry) text.new.items) }
 {
     'credentials: for credential in credentials {
-        if !credential.is_config() {
+        if is_ticket(&credential) {
             let line = line_of_credential::<T>(alloc, own, &credential)?;
             push_line(text, &line)?;
         }
@@ -186,10 +188,13 @@ fn list_of<T: TicketEtypes>(alloc: Global, cache: &CcacheView) -> Result<Vec<u8>
 /// 2026-11-26T05:49:48Z  2026-11-26T15:49:48Z  krbtgt/LAB.EXAMPLE@LAB.EXAMPLE  Flags: FIA  Etype (skey, tkt): aes256-cts-hmac-sha1-96, aes256-cts-hmac-sha1-96
 /// ```
 ///
-/// Configuration entries (`CredentialView::is_config`) are left out, as klist does without `-C`. The letters are F forwardable, f forwarded,
-/// P proxiable, p proxy, D may-postdate, d postdated, i invalid, R renewable, I initial, H hw-authent, A pre-authent, T transited-policy-checked,
-/// O ok-as-delegate and a anonymous, in this order. The ticket's encryption type is `unreadable` where its octets are no encoding of a Ticket
-/// (RFC 4120, 5.3), or the number does not fit 64 bits. Texts are as those of `list_of_keytab`, and all of it is printable ASCII.
+/// Configuration entries (`CredentialView::is_config`) are left out, as klist does without `-C`, and
+/// so are removed ones (`CredentialView::is_removed`). The letters are F forwardable, f forwarded,
+/// P proxiable, p proxy, D may-postdate, d postdated, i invalid, R renewable, I initial, H hw-authent,
+/// A pre-authent, T transited-policy-checked, O ok-as-delegate and a anonymous, in this order. The
+/// ticket's encryption type is `unreadable` where its octets are no encoding of a Ticket (RFC 4120,
+/// 5.3), or the number does not fit 64 bits. Texts are as those of `list_of_keytab`, and all of it is
+/// printable ASCII.
 ///
 /// Other octets are refused with their first error, as by `CcacheView::new`. An allocation failure is `OutOfMemory`, and comes only where they are
 /// such a cache.

@@ -1,6 +1,7 @@
 use Rattle.std.proofs.Common.{◌≡◌, ◌∙◌, ap, subst, codes, List, [], ◌∷◌, ◌++◌, ℕ, arith}
 use Rattle.krb_files.specs.Ccache.{Credential}
-use Rattle.krb_file_tools.specs.Lines.{IsCredentialLine, IsListing, ccache_header, tickets_of}
+use Rattle.krb_file_tools.specs.Lines.{IsCredentialLine, IsListing, ccache_header}
+use Rattle.krb_file_tools.specs.Tickets.{tickets_of}
 use Rattle.krb_file_tools.specs.Principals.{principal_text}
 use Rattle.krb_file_tools.proofs.Listing.{listing_none}
 use Rattle.krb_show.specs.Text.{AreLines, ArePrintable, text_of_lines}

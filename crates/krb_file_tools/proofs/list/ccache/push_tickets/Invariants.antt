@@ -1,5 +1,6 @@
 use Rattle.std.proofs.Common.{ℕ, List, []}
-use Rattle.krb_file_tools.specs.Lines.{IsCredentialLine, IsListing, tickets_of}
+use Rattle.krb_file_tools.specs.Lines.{IsCredentialLine, IsListing}
+use Rattle.krb_file_tools.specs.Tickets.{tickets_of}
 use Rattle.krb_file_tools.proofs.list.ccache.push_tickets.Given as goal
 
 abbrev pub invariant-credentials : goal.invariant-credentials
