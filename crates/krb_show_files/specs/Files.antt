@@ -1,8 +1,9 @@
 -- The files of MIT Kerberos as tokens, and which octets are none.
-use Rattle.std.specs.Prelude.{◌≡◌, ◌≢◌, ℕ, pos, List, Err, ◌⊎◌, codes}
+use Rattle.std.specs.Prelude.{◌≡◌, ◌≢◌, ℕ, pos, Bool, true, false, List, Err, ◌⊎◌, codes}
 use Rattle.byteorder.specs.Endian.{big_bytes}
 use Rattle.krb_files.specs.Ccache.{Ccache, CcacheIs, Credential, TypedPrincipal, version_octet}
 use Rattle.krb_files.specs.CcacheReading.{ccache_of as ccache_read}
+use Rattle.krb_files.specs.Config.{is_removed}
 use Rattle.krb_der_core.specs.BitString.{Bits}
 use Rattle.krb_der_core.specs.GeneralizedTime.{Time, IsRealTime}
 use Rattle.krb_files.specs.FieldReading.{Typed}
@@ -10,7 +11,7 @@ use Rattle.krb_files.specs.Entry.{Entry}
 use Rattle.krb_files.specs.Keytab.{KeytabIs}
 use Rattle.krb_files.specs.KeytabReading.{keytab_of as keytab_read}
 use Rattle.krb_registry.specs.declared.kind.Kind.TheVariants.{AddressType, AuthorizationDataType, EncryptionType, NameType, TicketFlag}
-use Rattle.krb_show.specs.Leaves.{flags_of, number_of, octets_of, text_of, time_of}
+use Rattle.krb_show.specs.Leaves.{flags_of, number_of, octets_of, text_of, time_of, truth_of}
 use Rattle.krb_show.specs.Pages.{◌then◌, list_of, struct_of}
 use Rattle.krb_show.specs.Tokens.{Label, Token, of_kind, plain}
 use Rattle.krb_show_files.specs.declared.error.FilePageError.{FilePageError}
@@ -123,10 +124,16 @@ marks_of is_skey flags addresses authorization_data =
 abbrev pub tickets_of : ShowsAs (List ℕ) → List ℕ → List ℕ → List Token → List Token → Type 0
 tickets_of shows ticket second_ticket = shows (plain (codes "ticket")) ticket then shows (plain (codes "second-ticket")) second_ticket
 
--- "Credential cache file format", "Credential format": all fields, in the order of the file
+-- that an entry was removed, where it was (MIT Kerberos, src/lib/krb5/ccache/cc_file.c, cred_removed)
+abbrev pub removal_of : Bool → List Token → List Token → Type 0
+removal_of false old new = new ≡ old
+removal_of true old new = truth_of (plain (codes "removed")) true old new
+
+-- "Credential cache file format", "Credential format": that it was removed, and all fields, in the order of the file
 abbrev pub credential_of : ShowsAs (List ℕ) → ShowsAs Credential
 credential_of ticket label c = struct_of label (
-    parties_of c.client c.server c.etype c.key
+    removal_of (is_removed c)
+    then parties_of c.client c.server c.etype c.key
     then times_of c.times.authtime c.times.starttime c.times.endtime c.times.renew_till
     then marks_of c.is_skey c.flags c.addresses c.authorization_data
     then tickets_of ticket c.ticket c.second_ticket)

@@ -6,7 +6,7 @@ ghost use Rattle.krb_show.specs.Leaves.{number_of};
 ghost use Rattle.krb_show.specs.Opened.{opened_by};
 ghost use Rattle.krb_show.specs.Pages.{◌then◌, list_of, struct_of};
 ghost use Rattle.krb_show.specs.Tokens.{Begins, plain};
-ghost use Rattle.krb_show_files.specs.Files.{IsNoCcache, ccache_of, credential_of, marks_of, parties_of, tickets_of, times_of};
+ghost use Rattle.krb_show_files.specs.Files.{IsNoCcache, ccache_of, credential_of, marks_of, parties_of, removal_of, tickets_of, times_of};
 
 use crate::error::FilePageError;
 use crate::principal::PrincipalFields;
@@ -21,6 +21,23 @@ use krb_show_messages::Message;
 use krb_types::data_types::Ticket;
 use std::alloc::{AllocError, Global};
 use std::marker::PhantomData;
+
+/// Whether a credential was removed, lent for showing.
+#[derive(Drop)]
+struct Removal {
+    is_removed: bool,
+}
+
+impl ShowFields for Removal {
+    ghost shows = { λ f. removal_of f.is_removed };
+
+    fn show_fields(&self, alloc: Global, page: &mut Page) -> Result<(), AllocError> {
+        if self.is_removed {
+            return Show::<File>::show(&true, alloc, &Label::new("removed"), page);
+        }
+        Ok(())
+    }
+}
 
 /// The principals and the key of a credential, lent for showing.
 #[derive(Drop)]
@@ -132,6 +149,9 @@ impl<'a> Show<File> for CredentialView<'a> {
     ghost shows = { credential_of (opened_by ⟦<Ticket as DerEncode>⟧.is_value ⟦<Ticket as DerEncode>⟧.enc ⟦<Ticket as Show<Message>>⟧.shows) };
 
     fn show(&self, alloc: Global, label: &Label, page: &mut Page) -> Result<(), AllocError> {
+        let removal = Removal {
+            is_removed: self.is_removed(),
+        };
         let parties = Parties {
             client: PrincipalFields::new(self.client()),
             server: PrincipalFields::new(self.server()),
@@ -161,7 +181,12 @@ impl<'a> Show<File> for CredentialView<'a> {
                 octets: self.second_ticket(),
             },
         };
-        show_struct(alloc, label, &(((parties, times), marks), tickets), page)
+        show_struct(
+            alloc,
+            label,
+            &((((removal, parties), times), marks), tickets),
+            page,
+        )
     }
 }
 
@@ -275,10 +300,13 @@ impl<'a> Show<File> for CcacheView<'a> {
     }
 }
 
-/// The page of the credential cache of version 3 or 4 that all of the octets are (MIT Kerberos, "Credential cache file format"), under the name
-/// `ccache`: the version, the fields of the header, each with its tag, the default principal and the credentials, in their order. A configuration
-/// entry is one of the credentials, and shown as they are. In the place of a ticket a Ticket (RFC 4120, 5.3) is opened, and other octets are shown
-/// as octets. A time that a credential has not is the number 0, which is shown as the time that it stands for, 1970-01-01T00:00:00Z.
+/// The page of the credential cache of version 3 or 4 that all of the octets are (MIT Kerberos,
+/// "Credential cache file format"), under the name `ccache`: the version, the fields of the header,
+/// each with its tag, the default principal and the credentials, in their order. A configuration entry
+/// is one of the credentials, and shown as they are. So is one that was removed and only stands in the
+/// file (`CredentialView::is_removed`), and it says `removed` first. In the place of a ticket a Ticket
+/// (RFC 4120, 5.3) is opened, and other octets are shown as octets. A time that a credential has not is
+/// the number 0, which is shown as the time that it stands for, 1970-01-01T00:00:00Z.
 ///
 /// Every octet of the cache has its line, but for those that count or repeat: lengths, counts, and the second encryption type of version 3. Other
 /// octets are refused with their first error, as by `CcacheView::new`. An allocation failure is `OutOfMemory`, and comes only where they are a cache.

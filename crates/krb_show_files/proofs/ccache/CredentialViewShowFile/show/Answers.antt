@@ -3,6 +3,7 @@ use Rattle.krb_show_files.proofs.ccache.CredentialViewShowFile.show.Goals as goa
 pub returns-clause-ok : goal.returns-clause-ok
 returns-clause-ok c =
     rw (
+      c.is_removed.ensures,
       c.new.ensures,
       c.client.ensures,
       c.new-2.ensures,
