@@ -6,11 +6,13 @@ use Rattle.krb_pac_contents.specs.Fixed.{needed_pointer_of}
 use Rattle.krb_pac_contents.specs.Sid.{sid_of}
 use Rattle.krb_pac_contents.specs.Referents.{element_pointers_of, after_sids}
 
-pub element_read : (k n : ℕ) (u : Unit {0}) (b : List ℕ) → k ≡ suc n → needed_pointer_of b 0 ≡ Ok u → element_pointers_of k b ≡ element_pointers_of n (drop 8 b)
+pub element_read : (k n : ℕ) (u : Unit {0}) (b : List ℕ) → k ≡ suc n → needed_pointer_of b 0 ≡ Ok u
+    → element_pointers_of k b ≡ element_pointers_of n (drop 8 b)
 unfolding element_pointers_of
 element_read k n u b e h = rw (e, h) refl
 
-pub element_refused : (k n : ℕ) (x : LogonError) (b : List ℕ) → k ≡ suc n → needed_pointer_of b 0 ≡ Err x → element_pointers_of k b ≡ Err x
+pub element_refused : (k n : ℕ) (x : LogonError) (b : List ℕ) → k ≡ suc n → needed_pointer_of b 0 ≡ Err x
+    → element_pointers_of k b ≡ Err x
 unfolding element_pointers_of
 element_refused k n x b e h = rw (e, h) refl
 

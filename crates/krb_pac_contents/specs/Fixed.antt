@@ -1,7 +1,8 @@
 -- The pointers of the fixed part of KERB_VALIDATION_INFO (MS-PAC 2.5), looked at in the order of its octets.
 --
--- They are unique pointers (C706, 14.3.11.2): a referent id is null where it is 0, and says no more where it is not. Each pointer is read
--- by itself, so ids may be in any order, and two may have the same: those of full pointers alone tell which octets are one.
+-- They are unique pointers (C706, 14.3.11.2): a referent id of 0 is null, and any other says no more.
+-- Each pointer is read by itself, so ids may be in any order, and two may have the same: those of
+-- full pointers alone tell which octets are one.
 use Rattle.std.specs.Prelude.{ℕ, ◌+◌, ◌%◌, ◌&&◌, ◌||◌, not, ◌==◌, nat_lt, List, [], ◌∷◌, Result}
 use Rattle.krb_pac_contents.specs.Numbers.{short_at, long_at}
 use Rattle.krb_pac_contents.specs.Steps.{first_fault, ◌>>=◌}

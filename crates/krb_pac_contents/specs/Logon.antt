@@ -69,8 +69,9 @@ domain_of f b = do
 abbrev pub padded : ℕ → ℕ
 padded len = (len + 7) / 8 * 8
 
--- Of all octets, those after the last that was read are the padding alone, whose length the private header's ObjectBufferLength
--- includes (MS-RPCE 2.2.6.2), or none: readers find the end by what they read, and not all writers pad.
+-- Of all octets, those after the last that was read are the padding alone, whose length the private
+-- header's ObjectBufferLength includes (MS-RPCE 2.2.6.2), or none: not all writers pad, and what
+-- pointers point to tells the end.
 unfoldable pub end_of : List ℕ → Read → Result Read LogonError
 end_of b last = first_fault
     ((not (length last.rest == 0) && nat_lt (length b) (padded (length b - length last.rest)), errors.Padding)

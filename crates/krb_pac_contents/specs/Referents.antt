@@ -43,7 +43,7 @@ array_of count b = first_fault
 unfoldable pub array_at : List ℕ → ℕ → List ℕ → Result Read LogonError
 array_at f at b = if long_at (at + 4) f == 0 then Ok (nothing b) else array_of (long_at at f) b
 
--- the pointers that n elements of KERB_SID_AND_ATTRIBUTES begin with (MS-PAC 2.2.1): none may be null
+-- the pointers that n elements of KERB_SID_AND_ATTRIBUTES begin with (MS-PAC 2.2.1): none is null
 unfoldable pub element_pointers_of : ℕ → List ℕ → Checked
 element_pointers_of zero b = Ok tt
 element_pointers_of (suc n) b = needed_pointer_of b 0 >>= λ p. element_pointers_of n (drop 8 b)

@@ -27,7 +27,8 @@ pub enum LogonError {
     /// A pointer to an array whose count is 0 is not null. NDR allows it; MS-PAC 2.5 does not.
     #[error("a pointer to no elements is not null")]
     EmptyArray,
-    /// No call returns it. Unique pointers have any ids but 0, in any order, and two may have the same (C706, 14.3.11.2).
+    /// No call returns it. Unique pointers have any ids but 0, in any order, and two may have the
+    /// same (C706, 14.3.11.2).
     #[error("a referent id is used twice or is out of order")]
     ReferentOrder,
     /// A string's length or maximum length is odd (MS-DTYP 2.3.10).

@@ -1,7 +1,7 @@
 //! The pointers of the fixed part, looked at in the order of its octets.
 //!
-//! They are unique pointers (C706, 14.3.11.2): a referent id is looked at for 0 alone, which is null. Ids may be in any order, and
-//! two may be the same, as readers of Windows and Samba have it.
+//! They are unique pointers (C706, 14.3.11.2): a referent id is looked at for 0 alone, which is null.
+//! Ids may be in any order, and two may be the same, as readers of Windows and Samba have it.
 
 ghost use Rattle.std.specs.Prelude.{◌≡◌, ◌+◌, ◌≤◌, length};
 ghost use Rattle.krb_pac_contents.specs.Fixed.{needed_pointer_of, string_pointer_of, array_pointer_of, name_pointers_of, domain_pointers_of, extra_pointers_of, pointers_of};

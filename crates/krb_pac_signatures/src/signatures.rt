@@ -47,8 +47,8 @@ impl<'a> Model for PacSignatures<'a> {
 impl<'a> PacSignatures<'a> {
     /// The checksums of the PAC that the octets are, the first of each type.
     ///
-    /// `Pac` where they are no PAC, as `PacView::new` says; then `Truncated`, where one of the four is there and is no signature. There is no
-    /// other error, since no memory is taken.
+    /// `Pac` where they are no PAC, as `PacView::new` says; then `Truncated`, where one of the four is
+    /// there and is no signature. There is no other error, since no memory is taken.
     pub fn new(octets: &'a [u8]) -> Result<Self, PacSignatureError>
         ensures found { IfOk result (SignaturesOf octets.now) }
         ensures rejected { IfErr result (SignaturesRejected octets.now) }

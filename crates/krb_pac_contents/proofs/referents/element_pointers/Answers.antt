@@ -7,14 +7,16 @@ pub returns-in_err-needed_pointer : goal.returns-in_err-needed_pointer
 returns-in_err-needed_pointer c =
     let p = err_from_is_err_and c.from_residual.result c.from_residual.ensures.1 in
     let more : c.args.count - c.elements.n ≡ suc (c.args.count - (c.elements.n + 1)) = omega arith in
-    rw (p.1, p.2) (sym (c.elements.invariant.same ∙ element_refused _ (c.args.count - (c.elements.n + 1)) _ c.elements.rest.now more (sym c.in_err-needed_pointer.ensures)))
+    rw (p.1, p.2) (sym (c.elements.invariant.same
+    ∙ element_refused _ (c.args.count - (c.elements.n + 1)) _ c.elements.rest.now more (sym c.in_err-needed_pointer.ensures)))
 
 pub elements-preserved : goal.elements-preserved
 elements-preserved c =
     let more : c.args.count - c.elements.n ≡ suc (c.args.count - (c.elements.n + 1)) = omega arith in
     rw c.split_at.ensures.back (record {
       room = omega (arith, length-drop 8 c.elements.rest.now);
-      same = c.elements.invariant.same ∙ element_read _ (c.args.count - (c.elements.n + 1)) _ c.elements.rest.now more (sym c.in_ok-needed_pointer.ensures);
+      same = c.elements.invariant.same
+          ∙ element_read _ (c.args.count - (c.elements.n + 1)) _ c.elements.rest.now more (sym c.in_ok-needed_pointer.ensures);
     })
 
 pub returns : goal.returns
