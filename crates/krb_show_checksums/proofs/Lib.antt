@@ -1,3 +1,4 @@
 mod Insertions
 mod Lists
+mod Names
 mod Results

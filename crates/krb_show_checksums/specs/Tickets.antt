@@ -12,10 +12,10 @@ use Rattle.krb_show_checksums.specs.Message.{IsTicketMessage, NoneHoldsPac, elem
 use Rattle.krb_show_checksums.specs.Told.{IsRefused, pac_checksums, under_keys}
 
 -- The ticket's checksum under the caller's own keys, where the octets are a PAC whose signatures are whole
-abbrev pub ticket_told : List NamedKey → List ℕ → List ℕ → List Token → List Token → Type 0
-ticket_told own octets message old new =
+abbrev pub ticket_told : List NamedKey → NamedKey → List ℕ → List ℕ → List Token → List Token → Type 0
+ticket_told own key octets message old new =
     ((s : Signatures) × SignaturesOf octets s
-    × under_keys (plain (codes "ticket-checksum")) (plain (codes "ticket-checksum-key")) own (over message s.ticket) old new)
+    × under_keys (plain (codes "ticket-checksum")) (plain (codes "ticket-checksum-key")) own key (over message s.ticket) old new)
     ⊎ ((e : PacSignatureError) × IsRefused octets e × (new ≡ old))
 
 -- the checksums of the first PAC of a ticket (AD-WIN2K-PAC, 128, within AD-IF-RELEVANT, 1; RFC 4120, 5.2.6.1 and 7.5.4; MS-PAC 2.3), and the
@@ -24,5 +24,5 @@ abbrev pub ticket_checksums : (List AuthorizationDataInner → Type 0) → (List
     → List NamedKey → NamedKey → EncTicketPartInner → List Token → List Token → Type 0
 ticket_checksums is_value enc enc_ticket own key v old new =
     ((octets message : List ℕ) × IsTicketMessage is_value enc enc_ticket v (elements_of v) octets message
-    × (pac_checksums own key octets then ticket_told own octets message) old new)
+    × (pac_checksums own key octets then ticket_told own key octets message) old new)
     ⊎ (NoneHoldsPac is_value enc (elements_of v) × (new ≡ old))

@@ -14,7 +14,7 @@ use Rattle.krb_show.specs.Pages.{◌then◌, struct_of}
 use Rattle.krb_show.specs.Tokens.{Label, Token, plain}
 use Rattle.krb_show_opened.specs.Keys.{NamedKey}
 use Rattle.krb_show_checksums.specs.Checksums.{Checksum, HasVerdict, full_checksum, kdc_checksum, server_checksum}
-use Rattle.krb_show_checksums.specs.Holders.{HoldsUnderNone, IsFirstHolder, IsNoneOf, IsOneOf}
+use Rattle.krb_show_checksums.specs.Holders.{HaveSameOctets, HoldsAsKdcs, HoldsUnderNone, IsFirstHolder, IsFirstWhere, IsNoneOf, IsOneOf, NoneWhere}
 
 -- ---- one checksum
 
@@ -40,12 +40,28 @@ under_none label c old new =
     (NoSuite checksum_type (signature_type c.given) × told label verdict.NotVerified old new)
     ⊎ ((suite : ChecksumSuite) × (checksum_type suite ≡ signature_type c.given) × text_of label (codes "holds under none of the keys") old new)
 
--- of a checksum of the KDC: that it holds and the name of the first of these keys under which it does, or that it holds under none
-abbrev pub under_keys : Label → Label → List NamedKey → Option Checksum → List Token → List Token → Type 0
-under_keys label key_label own None old new = told label verdict.Absent old new
-under_keys label key_label own (Some c) old new =
-    ((key : NamedKey) × IsFirstHolder c own key × (told label verdict.Holds then text_of key_label key.name) old new)
+-- of a checksum that is made with this key, which is not the KDC's: whether that opened the ticket
+abbrev pub made_with : Label → NamedKey → NamedKey → List Token → List Token → Type 0
+made_with label opener key old new =
+    (HaveSameOctets key opener × text_of label (codes "made with the key that opened the ticket") old new)
+    ⊎ ((HaveSameOctets key opener → ⊥) × text_of label (codes "made with a key that is not the KDC's") old new)
+
+-- of one that holds under none of the keys that may be the KDC's: the first of the others under which
+-- it does, or that it holds under none
+abbrev pub under_others : Label → Label → List NamedKey → NamedKey → Checksum → List Token → List Token → Type 0
+under_others label key_label own opener c old new =
+    ((key : NamedKey) × IsFirstHolder c own key × (made_with label opener key then text_of key_label key.name) old new)
     ⊎ (HoldsUnderNone c own × under_none label c old new)
+
+-- Of a checksum of the KDC (MS-PAC 2.8.2 to 2.8.4): that it holds, and the name of the first of the
+-- keys that may be the KDC's under which it does. Under others alone, as under the one that opened the
+-- ticket, it is not said to hold: whoever has that key can make it.
+abbrev pub under_keys : Label → Label → List NamedKey → NamedKey → Option Checksum → List Token → List Token → Type 0
+under_keys label key_label own opener None old new = told label verdict.Absent old new
+under_keys label key_label own opener (Some c) old new =
+    ((key : NamedKey) × IsFirstWhere (HoldsAsKdcs c opener) own key
+    × (told label verdict.Holds then text_of key_label key.name) old new)
+    ⊎ (NoneWhere (HoldsAsKdcs c opener) own × under_others label key_label own opener c old new)
 
 -- ---- a PAC
 
@@ -53,8 +69,8 @@ under_keys label key_label own (Some c) old new =
 abbrev pub checksums_of : List NamedKey → NamedKey → Signatures → List Token → List Token → Type 0
 checksums_of own key s =
     under_key (plain (codes "server-checksum")) own key (server_checksum s)
-    then (under_keys (plain (codes "kdc-checksum")) (plain (codes "kdc-checksum-key")) own (kdc_checksum s)
-    then under_keys (plain (codes "full-checksum")) (plain (codes "full-checksum-key")) own (full_checksum s))
+    then (under_keys (plain (codes "kdc-checksum")) (plain (codes "kdc-checksum-key")) own key (kdc_checksum s)
+    then under_keys (plain (codes "full-checksum")) (plain (codes "full-checksum-key")) own key (full_checksum s))
 
 -- what is wrong with octets whose checksums are not found, in words
 abbrev pub error_words : PacSignatureError → List ℕ

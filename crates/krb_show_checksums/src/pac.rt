@@ -37,34 +37,36 @@ fn tell_server(
 fn tell_kdc(
     alloc: Global,
     own: &[Key],
+    key: &Key,
     signatures: &PacSignatures,
     page: &mut Page,
 ) -> Result<(), AllocError>
-    ensures ok { OnOk result (under_keys (plain (codes "kdc-checksum")) (plain (codes "kdc-checksum-key")) own.now (kdc_checksum signatures.now)
+    ensures ok { OnOk result (under_keys (plain (codes "kdc-checksum")) (plain (codes "kdc-checksum-key")) own.now key.now (kdc_checksum signatures.now)
         page.old.items page.new.items) }
     ensures kept { OnOk result (Begins page.old.items page.new.items) }
 {
     let checksum = kdc(alloc, signatures)?;
     let label = Label::new("kdc-checksum");
     let key_label = Label::new("kdc-checksum-key");
-    tell_under_keys(alloc, &label, &key_label, own, &checksum, page)
+    tell_under_keys(alloc, &label, &key_label, own, key, &checksum, page)
 }
 
 /// Tells of the KDC's checksum over the whole PAC.
 fn tell_full(
     alloc: Global,
     own: &[Key],
+    key: &Key,
     signatures: &PacSignatures,
     page: &mut Page,
 ) -> Result<(), AllocError>
-    ensures ok { OnOk result (under_keys (plain (codes "full-checksum")) (plain (codes "full-checksum-key")) own.now (full_checksum signatures.now)
+    ensures ok { OnOk result (under_keys (plain (codes "full-checksum")) (plain (codes "full-checksum-key")) own.now key.now (full_checksum signatures.now)
         page.old.items page.new.items) }
     ensures kept { OnOk result (Begins page.old.items page.new.items) }
 {
     let checksum = full(alloc, signatures)?;
     let label = Label::new("full-checksum");
     let key_label = Label::new("full-checksum-key");
-    tell_under_keys(alloc, &label, &key_label, own, &checksum, page)
+    tell_under_keys(alloc, &label, &key_label, own, key, &checksum, page)
 }
 
 /// Tells of the three checksums.
@@ -79,8 +81,8 @@ fn tell_signatures(
     ensures kept { OnOk result (Begins page.old.items page.new.items) }
 {
     tell_server(alloc, own, key, signatures, page)?;
-    tell_kdc(alloc, own, signatures, page)?;
-    tell_full(alloc, own, signatures, page)
+    tell_kdc(alloc, own, key, signatures, page)?;
+    tell_full(alloc, own, key, signatures, page)
 }
 
 /// What is wrong with octets whose checksums are not found; `None` where an allocation failed.

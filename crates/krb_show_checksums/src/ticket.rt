@@ -36,33 +36,35 @@ pub(crate) trait Tells {
 fn tell_signature(
     alloc: Global,
     own: &[Key],
+    key: &Key,
     signatures: &PacSignatures,
     message: Vec<u8>,
     page: &mut Page,
 ) -> Result<(), AllocError>
-    ensures ok { OnOk result (under_keys (plain (codes "ticket-checksum")) (plain (codes "ticket-checksum-key")) own.now
+    ensures ok { OnOk result (under_keys (plain (codes "ticket-checksum")) (plain (codes "ticket-checksum-key")) own.now key.now
         (over message.items signatures.now.ticket) page.old.items page.new.items) }
     ensures kept { OnOk result (Begins page.old.items page.new.items) }
 {
     let checksum = ticket(signatures, message);
     let label = Label::new("ticket-checksum");
     let key_label = Label::new("ticket-checksum-key");
-    tell_under_keys(alloc, &label, &key_label, own, &checksum, page)
+    tell_under_keys(alloc, &label, &key_label, own, key, &checksum, page)
 }
 
 /// Tells of the checksum of a ticket that a PAC holds, over this message.
 fn tell_message(
     alloc: Global,
     own: &[Key],
+    key: &Key,
     octets: &[u8],
     message: Vec<u8>,
     page: &mut Page,
 ) -> Result<(), AllocError>
-    ensures ok { OnOk result (ticket_told own.now octets.now message.items page.old.items page.new.items) }
+    ensures ok { OnOk result (ticket_told own.now key.now octets.now message.items page.old.items page.new.items) }
     ensures kept { OnOk result (Begins page.old.items page.new.items) }
 {
     match PacSignatures::new(octets) {
-        Ok(signatures) => tell_signature(alloc, own, &signatures, message, page),
+        Ok(signatures) => tell_signature(alloc, own, key, &signatures, message, page),
         Err(error) => match words_of(&error) {
             Some(_words) => Ok(()),
             None => Err(AllocError),
@@ -79,11 +81,11 @@ fn tell_first(
     message: Vec<u8>,
     page: &mut Page,
 ) -> Result<(), AllocError>
-    ensures ok { OnOk result ((pac_checksums own.now key.now octets.now then ticket_told own.now octets.now message.items) page.old.items page.new.items) }
+    ensures ok { OnOk result ((pac_checksums own.now key.now octets.now then ticket_told own.now key.now octets.now message.items) page.old.items page.new.items) }
     ensures kept { OnOk result (Begins page.old.items page.new.items) }
 {
     tell_pac(alloc, own, key, octets, page)?;
-    tell_message(alloc, own, octets, message, page)
+    tell_message(alloc, own, key, octets, message, page)
 }
 
 /// Tells of the checksums of the first PAC of a ticket, and of the ticket's that it holds.

@@ -7,10 +7,10 @@ ghost use Rattle.krb_pac_signatures.specs.declared.verdict.Verdict.TheVariants a
 ghost use Rattle.krb_show.specs.Leaves.{text_of};
 ghost use Rattle.krb_show.specs.Pages.{◌then◌};
 ghost use Rattle.krb_show.specs.Tokens.{Begins};
-ghost use Rattle.krb_show_checksums.specs.Told.{told, under_key, under_keys, under_none};
+ghost use Rattle.krb_show_checksums.specs.Told.{made_with, told, under_key, under_keys, under_none, under_others};
 
 use crate::checksum::Checksum;
-use crate::holders::{first_holder, is_one_of};
+use crate::holders::{first_holder, first_kdcs, have_same_octets, is_one_of};
 use krb_crypto::ChecksumSuite;
 use krb_pac_signatures::Verdict;
 use krb_show::{Label, Page, show_text, show_word};
@@ -112,23 +112,82 @@ fn tell_holder(
     show_text(alloc, key_label, &key.name, page)
 }
 
-/// Tells of a checksum of the KDC under the first of the caller's keys under which it holds.
+/// Tells that a checksum is made with a key that is not the KDC's.
+fn tell_made(
+    alloc: Global,
+    label: &Label,
+    opener: &Key,
+    key: &Key,
+    page: &mut Page,
+) -> Result<(), AllocError>
+    ensures ok { OnOk result (made_with label.now opener.now key.now page.old.items page.new.items) }
+    ensures kept { OnOk result (Begins page.old.items page.new.items) }
+{
+    if have_same_octets(key, opener) {
+        return show_text(
+            alloc,
+            label,
+            b"made with the key that opened the ticket",
+            page,
+        );
+    }
+    show_text(alloc, label, b"made with a key that is not the KDC's", page)
+}
+
+/// Tells with which key that is not the KDC's a checksum is made.
+fn tell_maker(
+    alloc: Global,
+    label: &Label,
+    key_label: &Label,
+    opener: &Key,
+    key: &Key,
+    page: &mut Page,
+) -> Result<(), AllocError>
+    ensures ok { OnOk result ((made_with label.now opener.now key.now then text_of key_label.now key.now.name) page.old.items page.new.items) }
+    ensures kept { OnOk result (Begins page.old.items page.new.items) }
+{
+    tell_made(alloc, label, opener, key, page)?;
+    show_text(alloc, key_label, &key.name, page)
+}
+
+/// Tells of a checksum that holds under none of the keys that may be the KDC's.
+fn tell_under_others(
+    alloc: Global,
+    label: &Label,
+    key_label: &Label,
+    own: &[Key],
+    opener: &Key,
+    checksum: &Checksum,
+    page: &mut Page,
+) -> Result<(), AllocError>
+    ensures ok { OnOk result (under_others label.now key_label.now own.now opener.now checksum.now page.old.items page.new.items) }
+    ensures kept { OnOk result (Begins page.old.items page.new.items) }
+{
+    match first_holder(checksum, own) {
+        Some(key) => tell_maker(alloc, label, key_label, opener, key, page),
+        None => tell_none(alloc, label, checksum, page),
+    }
+}
+
+/// Tells of a checksum of the KDC under the first of the caller's keys that may be the KDC's under
+/// which it holds, or that it is made with another.
 pub(crate) fn tell_under_keys(
     alloc: Global,
     label: &Label,
     key_label: &Label,
     own: &[Key],
+    opener: &Key,
     checksum: &Option<Checksum>,
     page: &mut Page,
 ) -> Result<(), AllocError>
-    ensures ok { OnOk result (under_keys label.now key_label.now own.now checksum.now page.old.items page.new.items) }
+    ensures ok { OnOk result (under_keys label.now key_label.now own.now opener.now checksum.now page.old.items page.new.items) }
     ensures kept { OnOk result (Begins page.old.items page.new.items) }
 {
     let Some(checksum) = checksum else {
         return tell(alloc, label, Verdict::Absent, page);
     };
-    match first_holder(checksum, own) {
+    match first_kdcs(checksum, opener, own) {
         Some(key) => tell_holder(alloc, label, key_label, key, page),
-        None => tell_none(alloc, label, checksum, page),
+        None => tell_under_others(alloc, label, key_label, own, opener, checksum, page),
     }
 }
