@@ -1,7 +1,8 @@
 -- A whole KRB-CRED in the clear (RFC 4120, 5.8.1), the cache that it becomes, and why it becomes none.
-use Rattle.std.specs.Prelude.{◌≡◌, ◌≢◌, ◌⊎◌, ℕ, ℤ, pos, Bool, false, List, [], ◌∷◌, Result, Ok, Err, filter, is_some}
+use Rattle.std.specs.Prelude.{◌≡◌, ◌≢◌, ◌⊎◌, ℕ, ℤ, pos, Bool, false, List, [], ◌∷◌, Result, Ok, Err, filter, is_none, is_some}
 use Rattle.std.specs.List.{list_any}
-use Rattle.krb_files.specs.Ccache.{Ccache, CcacheIs, FitsCcache}
+use Rattle.krb_files.specs.Ccache.{Ccache, CcacheIs, Credential, FitsCcache}
+use Rattle.krb_files.specs.Config.{is_removed}
 use Rattle.krb_der_core.specs.Errors.{ValueError}
 use Rattle.krb_der_core.specs.declared.der.DerEncode.{Ghosts as EncodingOf}
 use Rattle.krb_der_core.specs.declared.error.Asn1DerError.{Asn1DerError}
@@ -9,8 +10,9 @@ use Rattle.krb_messages.specs.declared.messages.credentials.KrbCredInner.{KrbCre
 use Rattle.krb_enc_parts.specs.declared.data_types.credentials.EncKrbCredPartInner.{EncKrbCredPartInner}
 use Rattle.krb_types.specs.declared.data_types.tickets.TicketInner.{TicketInner}
 use Rattle.krb_file_tools.specs.Answers.{IsOf}
-use Rattle.krb_file_tools.specs.Fields.{has_long_flags}
+use Rattle.krb_file_tools.specs.Fields.{has_empty_addresses, has_first_second, has_long_flags, has_other_length}
 use Rattle.krb_file_tools.specs.Kirbi.{cache_from}
+use Rattle.krb_file_tools.specs.Tickets.{is_configuration}
 use Rattle.krb_file_tools.specs.declared.convert.error.ConvertError.{ConvertError}
 use Rattle.krb_file_tools.specs.declared.convert.error.ConvertError.TheVariants as errors
 use Rattle.krb_file_tools.specs.declared.convert.field.Field.{Field}
@@ -39,33 +41,48 @@ pub data ClearError {P : Type 0} (part : EncodingOf P) (pvno msg_type etype : �
   no_part : (why : Asn1DerError) → pvno ≡ pos 5 → msg_type ≡ pos 22 → etype ≡ pos 0 → FirstError part cipher why
       → ClearError part pvno msg_type etype cipher (errors.Part why)
 
--- the octets are the cache that is wanted
-abbrev pub IsWritten : List ℕ → Result Ccache ConvertError → Type 0
-IsWritten octets wanted = (cache : Ccache) × (wanted ≡ Ok cache) × CcacheIs octets cache
+-- the octets are the cache that is wanted, and these are its credentials
+pub record IsMade (octets : List ℕ) (credentials : List Credential) (wanted : Result Ccache ConvertError) : Type 0 where
+  pub cache : Ccache
+  pub is_wanted : wanted ≡ Ok cache
+  pub is_written : CcacheIs octets cache
+  pub has : cache.credentials ≡ credentials
 
 -- a rule says that there is none, or a length or a count of it does not fit its field
 abbrev pub IsUnwritten : ConvertError → Result Ccache ConvertError → Type 0
 IsUnwritten e wanted = (wanted ≡ Err e) ⊎ ((e ≡ errors.TooLong) × ((cache : Ccache) × (wanted ≡ Ok cache) × (FitsCcache cache → ⊥)))
 
--- what of a KRB-CRED has no place in a cache
-abbrev pub kirbi_has : KrbCredInner → EncKrbCredPartInner → Field → Bool
-kirbi_has k p field.Kvno = is_some k.enc_part.kvno.0
-kirbi_has k p field.Flags = list_any (λ info. has_long_flags info.flags.0) p.ticket_info
-kirbi_has k p field.Nonce = is_some p.nonce.0
-kirbi_has k p field.Timestamp = is_some p.timestamp.0
-kirbi_has k p field.Usec = is_some p.usec.0
-kirbi_has k p field.SAddress = is_some p.s_address.0
-kirbi_has k p field.RAddress = is_some p.r_address.0
-kirbi_has k p _ = false
+-- what of a KRB-CRED has no place in the cache of these credentials, or stands there in another way
+abbrev pub kirbi_has : KrbCredInner → EncKrbCredPartInner → List Credential → Field → Bool
+kirbi_has k p made field.Kvno = is_some k.enc_part.kvno.0
+kirbi_has k p made field.Flags = list_any (λ info. has_long_flags info.flags.0) p.ticket_info
+kirbi_has k p made field.Nonce = is_some p.nonce.0
+kirbi_has k p made field.Timestamp = is_some p.timestamp.0
+kirbi_has k p made field.Usec = is_some p.usec.0
+kirbi_has k p made field.SAddress = is_some p.s_address.0
+kirbi_has k p made field.RAddress = is_some p.r_address.0
+kirbi_has k p made field.NoSrealm = list_any (λ info. is_none info.srealm.0) p.ticket_info
+kirbi_has k p made field.NoSname = list_any (λ info. is_none info.sname.0) p.ticket_info
+kirbi_has k p made field.NoFlags = list_any (λ info. is_none info.flags.0) p.ticket_info
+kirbi_has k p made field.FlagsLength = list_any (λ info. has_other_length info.flags.0) p.ticket_info
+kirbi_has k p made field.FirstSecond = list_any has_first_second p.ticket_info
+kirbi_has k p made field.EmptyCaddr = list_any (λ info. has_empty_addresses info.caddr.0) p.ticket_info
+kirbi_has k p made field.AsConfiguration = list_any is_configuration made
+kirbi_has k p made field.AsRemoved = list_any is_removed made
+kirbi_has k p made _ = false
 
 -- all that may have none, in the order in which it is told
 abbrev pub kirbi_fields : List Field
-kirbi_fields = field.Kvno ∷ field.Flags ∷ field.Nonce ∷ field.Timestamp ∷ field.Usec ∷ field.SAddress ∷ field.RAddress ∷ []
+kirbi_fields =
+    field.Kvno ∷ field.Flags ∷ field.Nonce ∷ field.Timestamp ∷ field.Usec ∷ field.SAddress ∷ field.RAddress
+    ∷ field.NoSrealm ∷ field.NoSname ∷ field.NoFlags ∷ field.FlagsLength ∷ field.FirstSecond ∷ field.EmptyCaddr
+    ∷ field.AsConfiguration ∷ field.AsRemoved ∷ []
 
 -- a cache's octets, and what is left out, of a message and its part
 pub record IsCacheBy (ticket_octets : TicketInner → List ℕ) (k : KrbCredInner) (p : EncKrbCredPartInner) (written : List ℕ) (left_out : List Field) : Type 0 where
-  pub cache : IsWritten written (cache_from ticket_octets k.tickets p.ticket_info)
-  pub left : left_out ≡ filter (kirbi_has k p) kirbi_fields
+  pub credentials : List Credential
+  pub cache : IsMade written credentials (cache_from ticket_octets k.tickets p.ticket_info)
+  pub left : left_out ≡ filter (kirbi_has k p credentials) kirbi_fields
 
 -- the same of a message
 pub record IsCacheFrom (part : EncodingOf EncKrbCredPartInner) (ticket_octets : TicketInner → List ℕ) (k : KrbCredInner) (written : List ℕ) (left_out : List Field) : Type 0 where

@@ -2,7 +2,9 @@
 
 ghost use Rattle.std.specs.Prelude.{◌≡◌, Ok, [], map, IfOk};
 ghost use Rattle.krb_files.specs.CcacheWritten.{credential_from as parts_value};
+ghost use Rattle.krb_files.specs.Config.{is_removed};
 ghost use Rattle.krb_files.specs.FieldReading.{Gives};
+ghost use Rattle.krb_file_tools.specs.Tickets.{is_configuration};
 ghost use Rattle.krb_file_tools.specs.Answers.{Answers};
 ghost use Rattle.krb_file_tools.specs.Kirbi.{address_from, addresses_from, credential_from, each_of, or_error, complement_of as complement, times_from};
 ghost use Rattle.krb_file_tools.specs.declared.convert.error.ConvertError.TheVariants as errors;
@@ -58,6 +60,20 @@ impl<'a> MessageCredential<'a> {
         ensures { result.now ≡ self.now.client }
     {
         &self.client
+    }
+
+    /// Whether this is in a cache as an entry that was removed.
+    pub(crate) fn is_removed(&self) -> bool
+        ensures { result ≡ is_removed self.now }
+    {
+        self.times.authtime == u32::MAX && self.times.endtime == 0
+    }
+
+    /// Whether this is in a cache as a configuration entry that was not removed.
+    pub(crate) fn is_configuration(&self) -> bool
+        ensures { result ≡ is_configuration self.now }
+    {
+        !self.is_removed() && self.server.is_config()
     }
 
     /// The credential, to be written.

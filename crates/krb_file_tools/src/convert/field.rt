@@ -1,9 +1,10 @@
-//! What the target of a conversion cannot hold.
+//! What the target of a conversion cannot hold, or holds in another way.
 
 ghost use Rattle.std.specs.Prelude.{◌≡◌};
 ghost use Rattle.krb_file_tools.specs.Fields.{name_of};
 
-/// What a KRB-CRED or a credential cache has, and the other format has no place for.
+/// What a KRB-CRED or a credential cache has, and the other format has no place for; and what of a
+/// KRB-CRED stands in a cache in another way, so that it does not come back as it was.
 #[derive(Debug, Clone, Copy, PartialEq, Eq)]
 pub enum Field {
     /// The version of the key of a KRB-CRED's enc-part (RFC 4120, 5.2.9).
@@ -20,6 +21,22 @@ pub enum Field {
     SAddress,
     /// The address of the recipient.
     RAddress,
+    /// That a KrbCredInfo has no srealm (RFC 4120, 5.8.1): the cache has the ticket's realm.
+    NoSrealm,
+    /// That a KrbCredInfo has no sname: the cache has the ticket's.
+    NoSname,
+    /// That a KrbCredInfo has no flags: the cache has 32 that are not set.
+    NoFlags,
+    /// The length of flags that are not 32 bits.
+    FlagsLength,
+    /// A time of 1970-01-01T00:00:00Z, which is absent in a cache.
+    FirstSecond,
+    /// A caddr of no address, which is absent in a cache.
+    EmptyCaddr,
+    /// A ticket that is in the cache as a configuration entry.
+    AsConfiguration,
+    /// A ticket that is in the cache as an entry that was removed.
+    AsRemoved,
     /// A field of a cache's header, as the offset of the KDC's time.
     Header,
     /// The default principal of a cache, where it is not the client of the first credential.
@@ -49,6 +66,14 @@ impl Field {
             Field::Usec => "usec",
             Field::SAddress => "s-address",
             Field::RAddress => "r-address",
+            Field::NoSrealm => "absence of srealm",
+            Field::NoSname => "absence of sname",
+            Field::NoFlags => "absence of flags",
+            Field::FlagsLength => "length of flags",
+            Field::FirstSecond => "1970-01-01T00:00:00Z",
+            Field::EmptyCaddr => "empty caddr",
+            Field::AsConfiguration => "ticket as configuration entry",
+            Field::AsRemoved => "ticket as removed entry",
             Field::Header => "header",
             Field::DefaultPrincipal => "default principal",
             Field::Configuration => "configuration entries",
@@ -65,6 +90,7 @@ impl Field {
 pub struct Converted {
     /// The octets of the target.
     pub octets: Vec<u8>,
-    /// What the source has and the target has no place for, each once, in the order of `Field`.
+    /// What the source has and the target has no place for, or has in another way, each once, in
+    /// the order of `Field`.
     pub left_out: Vec<Field>,
 }

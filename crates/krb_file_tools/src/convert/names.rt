@@ -2,7 +2,9 @@
 
 ghost use Rattle.std.specs.Prelude.{◌≡◌, map, IfOk, unwrap_or};
 ghost use Rattle.krb_files.specs.CcacheWritten.{principal_of as parts_value};
+ghost use Rattle.krb_files.specs.Config.{is_first};
 ghost use Rattle.krb_file_tools.specs.Answers.{Answers};
+ghost use Rattle.krb_file_tools.specs.Tickets.{names_config};
 ghost use Rattle.krb_file_tools.specs.Kirbi.{client_from, principal_from};
 
 use crate::convert::error::ConvertError;
@@ -43,6 +45,25 @@ impl<'a> MessagePrincipal<'a> {
                 components: &self.components,
             },
         }
+    }
+
+    /// Whether this names a configuration entry: the realm is `X-CACHECONF:`, and the first
+    /// component `krb5_ccache_conf_data`.
+    pub(crate) fn is_config(&self) -> bool
+        ensures { result ≡ names_config self.now }
+    {
+        self.realm == b"X-CACHECONF:".as_slice()
+            && is_first(&self.components, b"krb5_ccache_conf_data")
+    }
+}
+
+/// Whether the first component is this one.
+fn is_first(components: &[&[u8]], name: &[u8]) -> bool
+    ensures { result ≡ is_first name.now (map (λ x. x.now) components.now) }
+{
+    match components.first() {
+        Some(first) => *first == name,
+        None => false,
     }
 }
 

@@ -4,7 +4,7 @@ ghost use Rattle.std.specs.Prelude.{◌≡◌, ◌==◌, ◌≤◌, drop, not, s
 ghost use Rattle.std.specs.List.{list_any};
 ghost use Rattle.byteorder.specs.Endian.{big_number};
 ghost use Rattle.krb_files.specs.FieldReading.{Gives};
-ghost use Rattle.krb_file_tools.specs.Fields.{has_long_flags};
+ghost use Rattle.krb_file_tools.specs.Fields.{has_long_flags, has_other_length, is_first_second};
 ghost use Rattle.krb_file_tools.specs.Kirbi.{complement_of, flags_number, seconds_of};
 
 use crate::convert::error::ConvertError;
@@ -79,6 +79,30 @@ pub(crate) fn has_long_flags<N>(
 {
     match &flags.0 {
         Some(flags) => has_long_octets(flags.0.octets()),
+        None => false,
+    }
+}
+
+/// Whether flags are there, and not 32 bits.
+pub(crate) fn has_other_length<N>(
+    flags: &Optional<Option<ExplicitContextTag<KerberosFlags, N>>>,
+) -> bool
+    ensures { result ≡ has_other_length flags.now.0 }
+{
+    match &flags.0 {
+        Some(flags) => !(flags.0.octets().len() == 4 && flags.0.spare_bits() == 0),
+        None => false,
+    }
+}
+
+/// Whether a time is there, and the first second of 1970.
+pub(crate) fn is_first_second<N>(
+    time: &Optional<Option<ExplicitContextTag<KerberosTime, N>>>,
+) -> bool
+    ensures { result ≡ is_first_second time.now.0 }
+{
+    match &time.0 {
+        Some(time) => unix_seconds(&time.0) == 0,
         None => false,
     }
 }
