@@ -1,5 +1,5 @@
 -- Ke and Ki of the suite's lengths are taken.
-use Rattle.std.proofs.Common.{◌≡◌, ◌⊎◌, inl, inr, ℕ, List, length}
+use Rattle.std.proofs.Common.{◌≡◌, inl, inr, ℕ, List, length}
 use Rattle.krb_crypto_hash.specs.declared.error.KerberosCryptoError.{KerberosCryptoError}
 use Rattle.krb_crypto.specs.declared.cipher_suite.CipherSuite.{CipherSuite}
 use Rattle.krb_crypto.specs.BySuite.{key_octets_of}

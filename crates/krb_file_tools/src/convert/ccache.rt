@@ -307,14 +307,17 @@ fn left_out_of(
         .collect(alloc)
 }
 
-/// The KRB-CRED in the clear, as a `.kirbi` is, of a credential cache of version 3 or 4 (MIT Kerberos, "Credential cache file format"): its enc-part
-/// has an etype of 0, and its cipher is the encoding of an EncKrbCredPart (RFC 4120, 5.8.1). Each credential but configuration entries and removed ones (`CredentialView::is_config`, `is_removed`) becomes a
-/// ticket and what goes along with it: pname and prealm are its client, sname and srealm its server; a time of 0 is absent, whichever it is; flags
-/// are 32 bits, and the most significant is bit 0; caddr is absent where there are no addresses. Numbers of 16 and 32 bits are read as two's
-/// complement, where RFC 4120 has an Int32.
+/// The KRB-CRED in the clear, as a `.kirbi` is, of a credential cache of version 3 or 4 (MIT Kerberos,
+/// "Credential cache file format"): its enc-part has an etype of 0, and its cipher is the encoding of
+/// an EncKrbCredPart (RFC 4120, 5.8.1). Each credential but configuration entries and removed ones
+/// (`CredentialView::is_config`, `is_removed`) becomes a ticket and what goes along with it: pname and
+/// prealm are its client, sname and srealm its server; a time of 0 is absent, whichever it is; flags
+/// are 32 bits, and the most significant is bit 0; caddr is absent where there are no addresses.
+/// Numbers of 16 and 32 bits are read as two's complement, where RFC 4120 has an Int32.
 ///
-/// The first rule that is broken is the error, in this order: `Ccache`, `NoCredential`; of each credential, from the first, `Name` of the client or
-/// the server, `Time` where no time is so many seconds after 1970, `Ticket`. `OutOfMemory` where an allocation fails.
+/// The first rule that is broken is the error, in this order: `Ccache`, `NoCredential`; of each
+/// credential, from the first, `Name` of the client or the server, `Time` where no time is so many
+/// seconds after 1970, `Ticket`. `OutOfMemory` where an allocation fails.
 pub fn kirbi_of_ccache(alloc: Global, octets: &[u8]) -> Result<Converted, ConvertError>
     ensures found { IfOk result (λ c. IsKirbiOf ⟦<KrbCred as DerEncode>⟧ ⟦<EncKrbCredPart as DerEncode>⟧ ⟦<Ticket as DerEncode>⟧
         octets.now c.octets.items c.left_out.items) }
