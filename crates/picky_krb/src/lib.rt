@@ -20,6 +20,7 @@ pub mod messages;
 pub mod names;
 pub mod pac;
 pub mod pac_contents;
+pub mod schema;
 pub mod seal;
 pub mod show;
 pub mod view;

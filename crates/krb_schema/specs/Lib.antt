@@ -1,0 +1,9 @@
+pub mod Faults
+pub mod Forests
+pub mod Laws
+pub mod Leaves
+pub mod Named
+pub mod Rules
+pub mod Shapes
+pub mod Types
+pub mod Walks

@@ -1,0 +1,22 @@
+//! Octets as items, by a schema: one table of what the standards' ASN.1 says, and one walk.
+//!
+//! A `Schema` is data: rows, each the shape of a type. The walk reads octets by it from the left, strictly (X.690, 10), and answers
+//! items: what each element is, what it is called, what its numbers are of, and where its content stands; or the first error and where
+//! it is. Nothing is copied, and nothing is printed here.
+#![tactic(auto)]
+
+mod item;
+pub mod kerberos;
+mod laws;
+mod leaf;
+mod named;
+mod rules;
+mod shape;
+mod walk;
+
+pub use item::{Fault, Form, Item, Node};
+pub use laws::{items_determine_octets, one_first_fault};
+pub use named::row_named;
+pub use rules::{broken_rules, obeys};
+pub use shape::{Case, Field, Leaf, Name, Schema, Shape};
+pub use walk::{LEVELS, items_of};

@@ -1,0 +1,99 @@
+//! What a schema is made of.
+
+use krb_registry::Kind;
+
+/// What an element without elements holds.
+#[derive(Clone, Copy, PartialEq, Eq, Debug)]
+pub enum Leaf {
+    /// INTEGER (X.690, 8.3).
+    Integer,
+    /// INTEGER from 0 to 2^32 - 1 (RFC 4120, 5.2.4, UInt32).
+    Unsigned,
+    /// INTEGER that its standard fixes to this number, as pvno; any INTEGER is read, and another breaks the rule.
+    Number(u8),
+    /// INTEGER from 0 to 999999 (RFC 4120, 5.2.4, Microseconds); any INTEGER is read, and another breaks the rule.
+    Microseconds,
+    /// KerberosFlags: a BIT STRING (RFC 4120, 5.2.8).
+    Flags,
+    /// BIT STRING (X.690, 8.6).
+    Bits,
+    /// KerberosString: a GeneralString (RFC 4120, 5.2.1).
+    Text,
+    /// A component of a principal's name, a KerberosString (RFC 4120, 5.2.2).
+    Component,
+    /// KerberosTime: a GeneralizedTime (RFC 4120, 5.2.3).
+    Time,
+    /// OCTET STRING (X.690, 8.7).
+    Octets,
+    /// OCTET STRING: the octets of a key or a password, to be hidden (RFC 4120, 5.2.9).
+    Secret,
+    /// OCTET STRING: a ciphertext (RFC 4120, 5.2.9).
+    Cipher,
+    /// BOOLEAN (X.690, 8.2).
+    Truth,
+    /// OBJECT IDENTIFIER (X.690, 8.19).
+    Identifier,
+    /// Any element, whose content is not read.
+    Any,
+}
+
+/// What an element is called, and what a number or the flags in it are of.
+#[derive(Clone, Copy, PartialEq, Eq, Debug)]
+pub struct Name {
+    /// The name that the standard gives the field or the type.
+    pub text: &'static str,
+    /// The registry of its numbers, if they have names.
+    pub registry: Option<Kind>,
+}
+
+/// A field of a SEQUENCE.
+#[derive(Clone, Copy)]
+pub struct Field {
+    /// The octet that it begins with; `None` for any that an element may begin with (X.690, 8.1.2.4).
+    pub tag: Option<u8>,
+    /// Whether this octet is an explicit tag around the element (X.690, 8.14), and not the element's own.
+    pub wrapped: bool,
+    /// Whether it is OPTIONAL: it is absent where the octets do not begin so.
+    pub optional: bool,
+    /// What it is called.
+    pub name: Name,
+    /// The row of its type.
+    pub is: usize,
+}
+
+/// What the content of an OCTET STRING may be.
+#[derive(Clone, Copy)]
+pub struct Case {
+    /// The number that the field before has, as 19 of PA-ETYPE-INFO2; `None` for any.
+    pub behind: Option<u8>,
+    /// The row of the type of the content.
+    pub is: usize,
+}
+
+/// The shape of a type.
+#[derive(Clone, Copy)]
+pub enum Shape {
+    /// An element without elements, under this tag: its own, or an implicit one (X.690, 8.14).
+    Leaf(u8, Leaf),
+    /// An element of another row, under an explicit tag, as `[APPLICATION 10]`.
+    Tagged(u8, usize),
+    /// SEQUENCE of fields, in order: those from this one on, so many; under this tag, `30` or an implicit one.
+    Sequence(u8, usize, usize),
+    /// SEQUENCE OF this row, under this tag; and whether its standard wants one element or more. None are read, too, and break the rule.
+    SequenceOf(u8, usize, bool),
+    /// OCTET STRING whose content is one element, of the first of the cases from this one on, so many, that it can be; else plain octets.
+    Holding(usize, usize),
+    /// Any element.
+    Any,
+}
+
+/// A schema: the shapes of types, the fields of SEQUENCEs, and what OCTET STRINGs hold. It is data, a row a type.
+#[derive(Clone, Copy)]
+pub struct Schema<'a> {
+    /// The rows.
+    pub shapes: &'a [Shape],
+    /// The fields of the rows that are SEQUENCEs.
+    pub fields: &'a [Field],
+    /// The cases of the rows that are OCTET STRINGs.
+    pub cases: &'a [Case],
+}
