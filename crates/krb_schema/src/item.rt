@@ -6,6 +6,7 @@ ghost use Rattle.krb_schema.specs.declared.item.Fault.TheVariants as faults;
 use crate::shape::{Leaf, Name};
 use krb_der_core::Asn1DerError;
 use std::alloc::AllocError;
+use thiserror::Error;
 
 /// An element that has elements.
 #[derive(Clone, Copy, PartialEq, Eq, Debug)]
@@ -49,16 +50,20 @@ pub struct Item {
 }
 
 /// Why octets have no items.
-#[derive(Debug, Drop)]
+#[derive(Debug, Drop, Error)]
 pub enum Fault {
     /// An allocation failed.
+    #[error("out of memory")]
     OutOfMemory,
     /// The schema lacks a row, or its fields or cases.
+    #[error("the schema lacks a row")]
     NoRow,
     /// More than 64 elements, fields' tags not counted, stand in one another: the last begins after so many octets.
+    #[error("more than 64 elements stand in one another at octet {offset}")]
     TooDeep { offset: usize },
     /// They are not of the type: the first error from the left, and how many octets stand before it. An error of a tag or of a length is
     /// where its element begins, one of a content without elements where that content begins, and octets that are left over where they begin.
+    #[error("{why} at octet {offset}")]
     Refused { why: Asn1DerError, offset: usize },
 }
 
