@@ -1,6 +1,20 @@
--- Rows of types by name.
-use Rattle.std.specs.Prelude.{◌==◌, ℕ, List, [], ◌∷◌, Option, None, Some, if◌then◌else◌}
+-- The schema of Kerberos, and rows of types by name.
+use Rattle.std.specs.Prelude.{◌≡◌, ◌==◌, ℕ, Bool, List, [], ◌∷◌, Option, None, Some, if◌then◌else◌, map}
 use Rattle.std.specs.Cmp.Lexicographic.{pointwise}
+use Rattle.krb_registry.specs.declared.kind.Kind.{Kind}
+use Rattle.krb_schema.specs.declared.shape.Field.{Field}
+use Rattle.krb_schema.specs.declared.shape.Schema.{Schema}
+use Rattle.krb_schema.specs.Types.{cases, fields, shapes}
+
+-- a field: its first octet, whether this is an explicit tag, whether it is optional, its name, its registry and its row
+abbrev pub field_row : Field → Option ℕ × Bool × Bool × List ℕ × Option Kind × ℕ
+field_row f = (f.tag, f.wrapped, f.optional, f.name.text.now, f.name.registry, f.is)
+
+-- the schema of the types that this library reads
+pub record IsKerberos (schema : Schema) : Type 0 where
+  pub rows : schema.shapes.now ≡ shapes
+  pub parts : map field_row schema.fields.now ≡ fields
+  pub held : schema.cases.now ≡ cases
 
 -- the row of the first type of this name
 abbrev pub row_in : List (List ℕ × ℕ) → List ℕ → Option ℕ

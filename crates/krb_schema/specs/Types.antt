@@ -1,7 +1,14 @@
--- The types of DER that this library reads, and their rows. `docs/schema --write` writes this file from `kerberos.txt`.
-use Rattle.std.specs.Prelude.{ℕ, List, [], ◌∷◌, codes}
+-- The types of DER that this library reads (RFC 4120 and others). `docs/schema --write` writes this file from `kerberos.txt`.
+use Rattle.std.specs.Prelude.{ℕ, Bool, true, false, List, [], ◌∷◌, Option, None, Some, codes}
+use Rattle.krb_registry.specs.declared.kind.Kind.{Kind}
+use Rattle.krb_registry.specs.declared.kind.Kind.TheVariants as kinds
+use Rattle.krb_schema.specs.declared.shape.Case.{Case}
+use Rattle.krb_schema.specs.declared.shape.Leaf.TheVariants as leaf
+use Rattle.krb_schema.specs.declared.shape.Shape.{Shape}
+use Rattle.krb_schema.specs.declared.shape.Shape.TheVariants as shape
 
-abbrev pub types : List (List ℕ × ℕ)
+-- what the standards call the types, and their rows
+unfoldable pub types : List (List ℕ × ℕ)
 types =
     (codes "BOOLEAN", 0)
     ∷ (codes "INTEGER", 1)
@@ -95,4 +102,417 @@ types =
     ∷ (codes "NegTokenInit", 133)
     ∷ (codes "ContextFlags", 134)
     ∷ (codes "NegTokenResp", 136)
+    ∷ []
+
+-- the rows
+unfoldable pub shapes : List Shape
+shapes =
+    shape.Leaf 1 leaf.Truth
+    ∷ shape.Leaf 2 leaf.Integer
+    ∷ shape.Leaf 2 leaf.Unsigned
+    ∷ shape.Leaf 2 leaf.Microseconds
+    ∷ shape.Leaf 3 leaf.Bits
+    ∷ shape.Leaf 3 leaf.Flags
+    ∷ shape.Leaf 4 leaf.Octets
+    ∷ shape.Leaf 4 leaf.Secret
+    ∷ shape.Leaf 4 leaf.Cipher
+    ∷ shape.Leaf 6 leaf.Identifier
+    ∷ shape.Leaf 24 leaf.Time
+    ∷ shape.Leaf 27 leaf.Text
+    ∷ shape.Leaf 27 leaf.Component
+    ∷ shape.Any
+    ∷ shape.SequenceOf 48 12 false
+    ∷ shape.Sequence 48 0 2
+    ∷ shape.Sequence 48 2 2
+    ∷ shape.SequenceOf 48 16 true
+    ∷ shape.Holding 0 1
+    ∷ shape.Sequence 48 4 2
+    ∷ shape.SequenceOf 48 19 true
+    ∷ shape.Sequence 48 6 2
+    ∷ shape.SequenceOf 48 21 true
+    ∷ shape.Sequence 48 8 3
+    ∷ shape.Sequence 48 11 2
+    ∷ shape.Sequence 48 13 2
+    ∷ shape.Leaf 2 (leaf.Number 5)
+    ∷ shape.Sequence 48 15 4
+    ∷ shape.Tagged 97 27
+    ∷ shape.Sequence 48 19 11
+    ∷ shape.Tagged 99 29
+    ∷ shape.Sequence 48 30 2
+    ∷ shape.Holding 1 8
+    ∷ shape.Sequence 48 32 2
+    ∷ shape.SequenceOf 48 33 false
+    ∷ shape.Sequence 48 34 2
+    ∷ shape.Sequence 48 36 3
+    ∷ shape.SequenceOf 48 36 true
+    ∷ shape.Sequence 48 39 1
+    ∷ shape.Sequence 48 40 1
+    ∷ shape.Tagged 106 44
+    ∷ shape.Tagged 108 46
+    ∷ shape.Leaf 2 (leaf.Number 10)
+    ∷ shape.SequenceOf 48 33 false
+    ∷ shape.Sequence 48 41 4
+    ∷ shape.Leaf 2 (leaf.Number 12)
+    ∷ shape.Sequence 48 45 4
+    ∷ shape.SequenceOf 48 1 false
+    ∷ shape.SequenceOf 48 28 false
+    ∷ shape.Sequence 48 49 12
+    ∷ shape.Tagged 107 53
+    ∷ shape.Tagged 109 55
+    ∷ shape.Leaf 2 (leaf.Number 11)
+    ∷ shape.Sequence 48 61 7
+    ∷ shape.Leaf 2 (leaf.Number 13)
+    ∷ shape.Sequence 48 68 7
+    ∷ shape.Tagged 121 58
+    ∷ shape.Tagged 122 58
+    ∷ shape.Sequence 48 75 13
+    ∷ shape.Sequence 48 88 2
+    ∷ shape.SequenceOf 48 59 false
+    ∷ shape.Leaf 2 (leaf.Number 14)
+    ∷ shape.Sequence 48 90 5
+    ∷ shape.Tagged 110 62
+    ∷ shape.Sequence 48 95 9
+    ∷ shape.Tagged 98 64
+    ∷ shape.Leaf 2 (leaf.Number 15)
+    ∷ shape.Sequence 48 104 3
+    ∷ shape.Tagged 111 67
+    ∷ shape.Sequence 48 107 4
+    ∷ shape.Tagged 123 69
+    ∷ shape.Leaf 2 (leaf.Number 21)
+    ∷ shape.Sequence 48 111 3
+    ∷ shape.Tagged 117 72
+    ∷ shape.Sequence 48 114 6
+    ∷ shape.Tagged 124 74
+    ∷ shape.Leaf 2 (leaf.Number 22)
+    ∷ shape.Sequence 48 120 4
+    ∷ shape.Tagged 118 77
+    ∷ shape.SequenceOf 48 82 false
+    ∷ shape.Sequence 48 124 6
+    ∷ shape.Tagged 125 80
+    ∷ shape.Sequence 48 130 11
+    ∷ shape.Leaf 2 (leaf.Number 30)
+    ∷ shape.Holding 9 2
+    ∷ shape.Sequence 48 141 13
+    ∷ shape.Tagged 126 85
+    ∷ shape.Sequence 48 154 2
+    ∷ shape.Sequence 48 156 2
+    ∷ shape.Sequence 48 158 3
+    ∷ shape.Leaf 2 (leaf.Number 16)
+    ∷ shape.Sequence 48 161 3
+    ∷ shape.Leaf 2 (leaf.Number 17)
+    ∷ shape.Sequence 48 164 3
+    ∷ shape.Sequence 48 167 3
+    ∷ shape.Leaf 128 leaf.Octets
+    ∷ shape.Sequence 48 170 1
+    ∷ shape.Sequence 48 171 2
+    ∷ shape.SequenceOf 48 96 false
+    ∷ shape.Sequence 48 173 2
+    ∷ shape.Sequence 48 175 1
+    ∷ shape.Sequence 48 176 1
+    ∷ shape.SequenceOf 48 106 false
+    ∷ shape.Leaf 130 leaf.Octets
+    ∷ shape.Sequence 48 177 3
+    ∷ shape.Leaf 129 leaf.Octets
+    ∷ shape.Sequence 48 180 3
+    ∷ shape.SequenceOf 48 115 false
+    ∷ shape.Sequence 48 183 4
+    ∷ shape.Sequence 48 187 4
+    ∷ shape.Sequence 48 191 4
+    ∷ shape.Tagged 160 113
+    ∷ shape.Leaf 129 leaf.Octets
+    ∷ shape.Sequence 48 195 2
+    ∷ shape.Sequence 48 197 3
+    ∷ shape.Sequence 48 200 2
+    ∷ shape.Sequence 48 202 2
+    ∷ shape.Sequence 48 204 2
+    ∷ shape.Sequence 48 206 2
+    ∷ shape.Sequence 48 208 5
+    ∷ shape.Sequence 48 213 2
+    ∷ shape.Holding 11 3
+    ∷ shape.Sequence 48 215 2
+    ∷ shape.Sequence 48 217 3
+    ∷ shape.Sequence 48 220 4
+    ∷ shape.Sequence 48 224 5
+    ∷ shape.SequenceOf 48 128 false
+    ∷ shape.Sequence 48 229 2
+    ∷ shape.Sequence 48 231 2
+    ∷ shape.Tagged 160 133
+    ∷ shape.Tagged 161 136
+    ∷ shape.SequenceOf 48 9 false
+    ∷ shape.Holding 14 3
+    ∷ shape.Sequence 48 233 4
+    ∷ shape.Leaf 3 leaf.Flags
+    ∷ shape.Holding 17 3
+    ∷ shape.Sequence 48 237 4
+    ∷ []
+
+-- the fields of SEQUENCEs
+unfoldable pub fields : List (Option ℕ × Bool × Bool × List ℕ × Option Kind × ℕ)
+fields =
+    (Some 160, true, false, codes "name-type", Some kinds.NameType, 1)
+    ∷ (Some 161, true, false, codes "name-string", None, 14)
+    ∷ (Some 160, true, false, codes "addr-type", Some kinds.AddressType, 1)
+    ∷ (Some 161, true, false, codes "address", None, 6)
+    ∷ (Some 160, true, false, codes "ad-type", Some kinds.AuthorizationDataType, 1)
+    ∷ (Some 161, true, false, codes "ad-data", None, 18)
+    ∷ (Some 160, true, false, codes "ad-type", Some kinds.AuthorizationDataType, 1)
+    ∷ (Some 161, true, false, codes "ad-data", None, 6)
+    ∷ (Some 160, true, false, codes "etype", Some kinds.EncryptionType, 1)
+    ∷ (Some 161, true, true, codes "kvno", None, 1)
+    ∷ (Some 162, true, false, codes "cipher", None, 8)
+    ∷ (Some 160, true, false, codes "keytype", Some kinds.EncryptionType, 1)
+    ∷ (Some 161, true, false, codes "keyvalue", None, 7)
+    ∷ (Some 160, true, false, codes "cksumtype", Some kinds.ChecksumType, 1)
+    ∷ (Some 161, true, false, codes "checksum", None, 6)
+    ∷ (Some 160, true, false, codes "tkt-vno", None, 26)
+    ∷ (Some 161, true, false, codes "realm", None, 11)
+    ∷ (Some 162, true, false, codes "sname", None, 15)
+    ∷ (Some 163, true, false, codes "enc-part", None, 23)
+    ∷ (Some 160, true, false, codes "flags", Some kinds.TicketFlag, 5)
+    ∷ (Some 161, true, false, codes "key", None, 24)
+    ∷ (Some 162, true, false, codes "crealm", None, 11)
+    ∷ (Some 163, true, false, codes "cname", None, 15)
+    ∷ (Some 164, true, false, codes "transited", None, 31)
+    ∷ (Some 165, true, false, codes "authtime", None, 10)
+    ∷ (Some 166, true, true, codes "starttime", None, 10)
+    ∷ (Some 167, true, false, codes "endtime", None, 10)
+    ∷ (Some 168, true, true, codes "renew-till", None, 10)
+    ∷ (Some 169, true, true, codes "caddr", None, 17)
+    ∷ (Some 170, true, true, codes "authorization-data", None, 20)
+    ∷ (Some 160, true, false, codes "tr-type", Some kinds.TransitedEncodingType, 1)
+    ∷ (Some 161, true, false, codes "contents", None, 6)
+    ∷ (Some 161, true, false, codes "padata-type", Some kinds.PaDataType, 1)
+    ∷ (Some 162, true, false, codes "padata-value", None, 32)
+    ∷ (Some 160, true, false, codes "patimestamp", None, 10)
+    ∷ (Some 161, true, true, codes "pausec", None, 3)
+    ∷ (Some 160, true, false, codes "etype", Some kinds.EncryptionType, 1)
+    ∷ (Some 161, true, true, codes "salt", None, 11)
+    ∷ (Some 162, true, true, codes "s2kparams", None, 6)
+    ∷ (Some 160, true, false, codes "include-pac", None, 0)
+    ∷ (Some 160, true, false, codes "flags", None, 5)
+    ∷ (Some 161, true, false, codes "pvno", None, 26)
+    ∷ (Some 162, true, false, codes "msg-type", Some kinds.MessageType, 42)
+    ∷ (Some 163, true, true, codes "padata", None, 43)
+    ∷ (Some 164, true, false, codes "req-body", None, 49)
+    ∷ (Some 161, true, false, codes "pvno", None, 26)
+    ∷ (Some 162, true, false, codes "msg-type", Some kinds.MessageType, 45)
+    ∷ (Some 163, true, true, codes "padata", None, 43)
+    ∷ (Some 164, true, false, codes "req-body", None, 49)
+    ∷ (Some 160, true, false, codes "kdc-options", Some kinds.KdcOption, 5)
+    ∷ (Some 161, true, true, codes "cname", None, 15)
+    ∷ (Some 162, true, false, codes "realm", None, 11)
+    ∷ (Some 163, true, true, codes "sname", None, 15)
+    ∷ (Some 164, true, true, codes "from", None, 10)
+    ∷ (Some 165, true, false, codes "till", None, 10)
+    ∷ (Some 166, true, true, codes "rtime", None, 10)
+    ∷ (Some 167, true, false, codes "nonce", None, 1)
+    ∷ (Some 168, true, false, codes "etype", Some kinds.EncryptionType, 47)
+    ∷ (Some 169, true, true, codes "addresses", None, 17)
+    ∷ (Some 170, true, true, codes "enc-authorization-data", None, 23)
+    ∷ (Some 171, true, true, codes "additional-tickets", None, 48)
+    ∷ (Some 160, true, false, codes "pvno", None, 26)
+    ∷ (Some 161, true, false, codes "msg-type", Some kinds.MessageType, 52)
+    ∷ (Some 162, true, true, codes "padata", None, 43)
+    ∷ (Some 163, true, false, codes "crealm", None, 11)
+    ∷ (Some 164, true, false, codes "cname", None, 15)
+    ∷ (Some 165, true, false, codes "ticket", None, 28)
+    ∷ (Some 166, true, false, codes "enc-part", None, 23)
+    ∷ (Some 160, true, false, codes "pvno", None, 26)
+    ∷ (Some 161, true, false, codes "msg-type", Some kinds.MessageType, 54)
+    ∷ (Some 162, true, true, codes "padata", None, 43)
+    ∷ (Some 163, true, false, codes "crealm", None, 11)
+    ∷ (Some 164, true, false, codes "cname", None, 15)
+    ∷ (Some 165, true, false, codes "ticket", None, 28)
+    ∷ (Some 166, true, false, codes "enc-part", None, 23)
+    ∷ (Some 160, true, false, codes "key", None, 24)
+    ∷ (Some 161, true, false, codes "last-req", None, 60)
+    ∷ (Some 162, true, false, codes "nonce", None, 1)
+    ∷ (Some 163, true, true, codes "key-expiration", None, 10)
+    ∷ (Some 164, true, false, codes "flags", Some kinds.TicketFlag, 5)
+    ∷ (Some 165, true, false, codes "authtime", None, 10)
+    ∷ (Some 166, true, true, codes "starttime", None, 10)
+    ∷ (Some 167, true, false, codes "endtime", None, 10)
+    ∷ (Some 168, true, true, codes "renew-till", None, 10)
+    ∷ (Some 169, true, false, codes "srealm", None, 11)
+    ∷ (Some 170, true, false, codes "sname", None, 15)
+    ∷ (Some 171, true, true, codes "caddr", None, 17)
+    ∷ (Some 172, true, true, codes "encrypted-pa-data", None, 43)
+    ∷ (Some 160, true, false, codes "lr-type", Some kinds.LastRequestType, 1)
+    ∷ (Some 161, true, false, codes "lr-value", None, 10)
+    ∷ (Some 160, true, false, codes "pvno", None, 26)
+    ∷ (Some 161, true, false, codes "msg-type", Some kinds.MessageType, 61)
+    ∷ (Some 162, true, false, codes "ap-options", Some kinds.ApOption, 5)
+    ∷ (Some 163, true, false, codes "ticket", None, 28)
+    ∷ (Some 164, true, false, codes "authenticator", None, 23)
+    ∷ (Some 160, true, false, codes "authenticator-vno", None, 26)
+    ∷ (Some 161, true, false, codes "crealm", None, 11)
+    ∷ (Some 162, true, false, codes "cname", None, 15)
+    ∷ (Some 163, true, true, codes "cksum", None, 25)
+    ∷ (Some 164, true, false, codes "cusec", None, 3)
+    ∷ (Some 165, true, false, codes "ctime", None, 10)
+    ∷ (Some 166, true, true, codes "subkey", None, 24)
+    ∷ (Some 167, true, true, codes "seq-number", None, 1)
+    ∷ (Some 168, true, true, codes "authorization-data", None, 20)
+    ∷ (Some 160, true, false, codes "pvno", None, 26)
+    ∷ (Some 161, true, false, codes "msg-type", Some kinds.MessageType, 66)
+    ∷ (Some 162, true, false, codes "enc-part", None, 23)
+    ∷ (Some 160, true, false, codes "ctime", None, 10)
+    ∷ (Some 161, true, false, codes "cusec", None, 3)
+    ∷ (Some 162, true, true, codes "subkey", None, 24)
+    ∷ (Some 163, true, true, codes "seq-number", None, 1)
+    ∷ (Some 160, true, false, codes "pvno", None, 26)
+    ∷ (Some 161, true, false, codes "msg-type", Some kinds.MessageType, 71)
+    ∷ (Some 163, true, false, codes "enc-part", None, 23)
+    ∷ (Some 160, true, false, codes "user-data", None, 6)
+    ∷ (Some 161, true, true, codes "timestamp", None, 10)
+    ∷ (Some 162, true, true, codes "usec", None, 3)
+    ∷ (Some 163, true, true, codes "seq-number", None, 1)
+    ∷ (Some 164, true, false, codes "s-address", None, 16)
+    ∷ (Some 165, true, true, codes "r-address", None, 16)
+    ∷ (Some 160, true, false, codes "pvno", None, 26)
+    ∷ (Some 161, true, false, codes "msg-type", Some kinds.MessageType, 76)
+    ∷ (Some 162, true, false, codes "tickets", None, 48)
+    ∷ (Some 163, true, false, codes "enc-part", None, 23)
+    ∷ (Some 160, true, false, codes "ticket-info", None, 79)
+    ∷ (Some 161, true, true, codes "nonce", None, 1)
+    ∷ (Some 162, true, true, codes "timestamp", None, 10)
+    ∷ (Some 163, true, true, codes "usec", None, 3)
+    ∷ (Some 164, true, true, codes "s-address", None, 16)
+    ∷ (Some 165, true, true, codes "r-address", None, 16)
+    ∷ (Some 160, true, false, codes "key", None, 24)
+    ∷ (Some 161, true, true, codes "prealm", None, 11)
+    ∷ (Some 162, true, true, codes "pname", None, 15)
+    ∷ (Some 163, true, true, codes "flags", Some kinds.TicketFlag, 5)
+    ∷ (Some 164, true, true, codes "authtime", None, 10)
+    ∷ (Some 165, true, true, codes "starttime", None, 10)
+    ∷ (Some 166, true, true, codes "endtime", None, 10)
+    ∷ (Some 167, true, true, codes "renew-till", None, 10)
+    ∷ (Some 168, true, true, codes "srealm", None, 11)
+    ∷ (Some 169, true, true, codes "sname", None, 15)
+    ∷ (Some 170, true, true, codes "caddr", None, 17)
+    ∷ (Some 160, true, false, codes "pvno", None, 26)
+    ∷ (Some 161, true, false, codes "msg-type", Some kinds.MessageType, 83)
+    ∷ (Some 162, true, true, codes "ctime", None, 10)
+    ∷ (Some 163, true, true, codes "cusec", None, 3)
+    ∷ (Some 164, true, false, codes "stime", None, 10)
+    ∷ (Some 165, true, false, codes "susec", None, 3)
+    ∷ (Some 166, true, false, codes "error-code", Some kinds.ErrorCode, 2)
+    ∷ (Some 167, true, true, codes "crealm", None, 11)
+    ∷ (Some 168, true, true, codes "cname", None, 15)
+    ∷ (Some 169, true, false, codes "realm", None, 11)
+    ∷ (Some 170, true, false, codes "sname", None, 15)
+    ∷ (Some 171, true, true, codes "e-text", None, 11)
+    ∷ (Some 172, true, true, codes "e-data", None, 84)
+    ∷ (Some 161, true, false, codes "data-type", None, 1)
+    ∷ (Some 162, true, true, codes "data-value", None, 6)
+    ∷ (Some 160, true, false, codes "restriction-type", None, 1)
+    ∷ (Some 161, true, false, codes "restriction", None, 6)
+    ∷ (Some 160, true, false, codes "newpasswd", None, 6)
+    ∷ (Some 161, true, true, codes "targname", None, 15)
+    ∷ (Some 162, true, true, codes "targrealm", None, 11)
+    ∷ (Some 160, true, false, codes "pvno", None, 26)
+    ∷ (Some 161, true, false, codes "msg-type", Some kinds.MessageType, 90)
+    ∷ (Some 162, true, false, codes "server-name", None, 15)
+    ∷ (Some 160, true, false, codes "pvno", None, 26)
+    ∷ (Some 161, true, false, codes "msg-type", Some kinds.MessageType, 92)
+    ∷ (Some 162, true, false, codes "ticket", None, 28)
+    ∷ (Some 160, true, false, codes "kerb-message", None, 6)
+    ∷ (Some 161, true, true, codes "target-domain", None, 11)
+    ∷ (Some 162, true, true, codes "dclocator-hint", None, 1)
+    ∷ (Some 128, false, false, codes "inner", None, 95)
+    ∷ (Some 160, true, false, codes "realm", None, 11)
+    ∷ (Some 161, true, false, codes "sname", None, 15)
+    ∷ (Some 160, true, false, codes "metadata", None, 98)
+    ∷ (Some 161, true, false, codes "body", None, 97)
+    ∷ (Some 160, true, false, codes "metadata", None, 98)
+    ∷ (Some 161, true, false, codes "gss-mic", None, 25)
+    ∷ (Some 128, false, false, codes "signedAuthPack", None, 95)
+    ∷ (Some 161, true, true, codes "trustedCertifiers", None, 102)
+    ∷ (Some 130, false, true, codes "kdcPkId", None, 103)
+    ∷ (Some 128, false, true, codes "subjectName", None, 95)
+    ∷ (Some 129, false, true, codes "issuerAndSerialNumber", None, 105)
+    ∷ (Some 130, false, true, codes "subjectKeyIdentifier", None, 103)
+    ∷ (Some 160, true, false, codes "pkAuthenticator", None, 110)
+    ∷ (Some 161, true, true, codes "clientPublicValue", None, 118)
+    ∷ (Some 162, true, true, codes "supportedCMSTypes", None, 107)
+    ∷ (Some 163, true, true, codes "clientDHNonce", None, 6)
+    ∷ (Some 160, true, false, codes "pkAuthenticator", None, 110)
+    ∷ (Some 161, true, true, codes "clientPublicValue", None, 116)
+    ∷ (Some 162, true, true, codes "supportedCMSTypes", None, 107)
+    ∷ (Some 163, true, true, codes "clientDHNonce", None, 6)
+    ∷ (Some 160, true, false, codes "cusec", None, 3)
+    ∷ (Some 161, true, false, codes "ctime", None, 10)
+    ∷ (Some 162, true, false, codes "nonce", None, 1)
+    ∷ (Some 163, true, true, codes "paChecksum", None, 6)
+    ∷ (Some 128, false, false, codes "dhSignedData", None, 95)
+    ∷ (Some 161, true, true, codes "serverDHNonce", None, 6)
+    ∷ (Some 160, true, false, codes "subjectPublicKey", None, 4)
+    ∷ (Some 161, true, false, codes "nonce", None, 1)
+    ∷ (Some 162, true, true, codes "dhKeyExpiration", None, 10)
+    ∷ (Some 6, false, false, codes "algorithm", None, 9)
+    ∷ (None, false, true, codes "parameters", None, 13)
+    ∷ (Some 48, false, false, codes "algorithm", None, 115)
+    ∷ (Some 3, false, false, codes "subjectPublicKey", None, 4)
+    ∷ (Some 6, false, false, codes "algorithm", None, 9)
+    ∷ (Some 48, false, false, codes "parameters", None, 119)
+    ∷ (Some 48, false, false, codes "algorithm", None, 117)
+    ∷ (Some 3, false, false, codes "subjectPublicKey", None, 4)
+    ∷ (Some 2, false, false, codes "p", None, 1)
+    ∷ (Some 2, false, false, codes "g", None, 1)
+    ∷ (Some 2, false, false, codes "q", None, 1)
+    ∷ (Some 2, false, true, codes "j", None, 1)
+    ∷ (Some 48, false, true, codes "validationParms", None, 120)
+    ∷ (Some 3, false, false, codes "seed", None, 4)
+    ∷ (Some 2, false, false, codes "pgenCounter", None, 1)
+    ∷ (Some 160, true, false, codes "credType", None, 1)
+    ∷ (Some 161, true, false, codes "credentials", None, 121)
+    ∷ (Some 160, true, false, codes "domainName", None, 6)
+    ∷ (Some 161, true, false, codes "userName", None, 6)
+    ∷ (Some 162, true, false, codes "password", None, 6)
+    ∷ (Some 160, true, false, codes "pin", None, 6)
+    ∷ (Some 161, true, false, codes "cspData", None, 125)
+    ∷ (Some 162, true, true, codes "userHint", None, 6)
+    ∷ (Some 163, true, true, codes "domainHint", None, 6)
+    ∷ (Some 160, true, false, codes "keySpec", None, 1)
+    ∷ (Some 161, true, true, codes "cardName", None, 6)
+    ∷ (Some 162, true, true, codes "readerName", None, 6)
+    ∷ (Some 163, true, true, codes "containerName", None, 6)
+    ∷ (Some 164, true, true, codes "cspName", None, 6)
+    ∷ (Some 160, true, false, codes "logonCred", None, 128)
+    ∷ (Some 161, true, true, codes "supplementalCreds", None, 126)
+    ∷ (Some 160, true, false, codes "packageName", None, 6)
+    ∷ (Some 161, true, false, codes "credBuffer", None, 6)
+    ∷ (Some 160, true, true, codes "mechTypes", None, 131)
+    ∷ (Some 161, true, true, codes "reqFlags", Some kinds.ContextFlag, 134)
+    ∷ (Some 162, true, true, codes "mechToken", None, 132)
+    ∷ (Some 163, true, true, codes "mechListMIC", None, 6)
+    ∷ (Some 160, true, true, codes "negState", Some kinds.NegotiationState, 13)
+    ∷ (Some 161, true, true, codes "supportedMech", None, 9)
+    ∷ (Some 162, true, true, codes "responseToken", None, 135)
+    ∷ (Some 163, true, true, codes "mechListMIC", None, 6)
+    ∷ []
+
+-- what OCTET STRINGs hold
+unfoldable pub cases : List Case
+cases =
+    record { behind = Some 1; is = 22 }
+    ∷ record { behind = Some 1; is = 63 }
+    ∷ record { behind = Some 2; is = 23 }
+    ∷ record { behind = Some 16; is = 104 }
+    ∷ record { behind = Some 17; is = 111 }
+    ∷ record { behind = Some 17; is = 112 }
+    ∷ record { behind = Some 19; is = 37 }
+    ∷ record { behind = Some 128; is = 38 }
+    ∷ record { behind = Some 167; is = 39 }
+    ∷ record { behind = None; is = 34 }
+    ∷ record { behind = None; is = 87 }
+    ∷ record { behind = Some 1; is = 123 }
+    ∷ record { behind = Some 2; is = 124 }
+    ∷ record { behind = Some 6; is = 127 }
+    ∷ record { behind = None; is = 63 }
+    ∷ record { behind = None; is = 68 }
+    ∷ record { behind = None; is = 86 }
+    ∷ record { behind = None; is = 63 }
+    ∷ record { behind = None; is = 68 }
+    ∷ record { behind = None; is = 86 }
     ∷ []

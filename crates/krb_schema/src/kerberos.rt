@@ -1,6 +1,7 @@
 //! The types of DER that this library reads (RFC 4120 and others), a row each. `docs/schema --write` writes this file from `kerberos.txt`.
 
 ghost use Rattle.std.specs.Prelude.{◌≡◌, map};
+ghost use Rattle.krb_schema.specs.Named.{IsKerberos};
 ghost use Rattle.krb_schema.specs.Types.{types};
 
 use crate::shape::{Case, Field, Leaf, Name, Schema, Shape};
@@ -940,7 +941,10 @@ static TYPES: [(&str, usize); 92] = [
 ];
 
 /// The schema of the types of DER that this library reads.
-pub fn kerberos() -> Schema<'static> {
+#[tactic(auto, unfolding(crate::specs::Types::shapes, crate::specs::Types::fields, crate::specs::Types::cases))]
+pub fn kerberos() -> Schema<'static>
+    ensures { IsKerberos result }
+{
     Schema {
         shapes: &SHAPES,
         fields: &FIELDS,
@@ -950,7 +954,7 @@ pub fn kerberos() -> Schema<'static> {
 
 /// The types: what their standards call them, and their rows.
 #[tactic(auto, unfolding(crate::specs::Types::types))]
-pub(crate) fn types() -> &'static [(&'static str, usize)]
+pub fn types() -> &'static [(&'static str, usize)]
     ensures { map (λ row. (row.0.now, row.1)) result.now ≡ types }
 {
     &TYPES
