@@ -5,5 +5,6 @@ pub mod EntriesRead
 pub mod Fill
 pub mod Lists
 pub mod Marks
+pub mod Numbering
 pub mod OneRejection
 pub mod Viewed

@@ -5,6 +5,7 @@ pub mod Equality
 pub mod Kind
 pub mod Layout
 pub mod Marks
+pub mod Numbered
 pub mod OnePac
 pub mod Rejected
 pub mod Stands

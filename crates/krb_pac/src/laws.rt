@@ -1,9 +1,10 @@
 //! Lemmas: functions with no body, whose contracts state what holds of the definitions.
 
-ghost use Rattle.std.specs.Prelude.{◌≡◌, ◌↔◌, ℕ, List, Result, IfOk, IfErr};
+ghost use Rattle.std.specs.Prelude.{◌≡◌, ◌↔◌, ℕ, List, Result, IfOk, IfErr, map};
 ghost use Rattle.krb_pac.specs.Equality.{ClonesValue, DecidesEqual};
 ghost use Rattle.krb_pac.specs.Kind.{code};
 ghost use Rattle.krb_pac.specs.Layout.{Buffer, PacIs};
+ghost use Rattle.krb_pac.specs.Numbered.{IsOfNumber, NumberedBuffer, NumberedPacIs, with_number};
 ghost use Rattle.krb_pac.specs.Rejected.{AreAlike, AreOneOrMemory, IsTypeOf, PacRejected};
 ghost use Rattle.krb_pac.specs.Written.{PacPut};
 ghost use Rattle.krb_pac.specs.declared.error.PacError.TheVariants as errors;
@@ -31,6 +32,14 @@ pub fn rejections()
 pub fn views()
     ensures { (b : List ℕ) (read view : Result (List Buffer) PacError) → IfOk read (PacIs b) → IfErr read (PacRejected b)
         → IfOk view (PacIs b) → IfErr view (PacRejected b) → AreAlike read view }
+{}
+
+/// A PAC that `Pac::deserialize` reads, `NumberedPacView::new` reads too, with the same buffers in the same order, each type as its number
+/// and no other buffers. Where it reads one that `Pac::deserialize` refuses, the reason is a number that no type has, or memory.
+pub fn all_types()
+    ensures same { (b : List ℕ) (pac : List Buffer) → PacIs b pac → NumberedPacIs b (map with_number pac) }
+    ensures one { (b : List ℕ) (pac read : List NumberedBuffer) → NumberedPacIs b pac → NumberedPacIs b read → read ≡ pac }
+    ensures refused { (b : List ℕ) (pac : List NumberedBuffer) (e : PacError) → NumberedPacIs b pac → PacRejected b e → IsOfNumber e }
 {}
 
 /// `==` is true of equal values, and of no others.

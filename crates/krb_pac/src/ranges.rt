@@ -7,13 +7,21 @@ ghost use Rattle.krb_pac.specs.Written.{IsTrailing, HasRoom};
 use crate::buffer::PacBuffer;
 use crate::info::PacInfoBuffer;
 
+/// Whether a range is all within so many octets.
+pub(crate) fn lies_within(offset: u64, size: u32, len: usize) -> bool
+    ensures yes { result ≡ true → offset + size ≤ len }
+    ensures no { result ≡ false → len < offset + size }
+{
+    let len = len as u64;
+    offset <= len && u64::from(size) <= len - offset
+}
+
 /// Whether the octets that an entry names are all within so many.
 pub(crate) fn is_within(info: &PacInfoBuffer, len: usize) -> bool
     ensures yes { result ≡ true → info.now.offset + info.now.cb_buffer_size ≤ len }
     ensures no { result ≡ false → len < info.now.offset + info.now.cb_buffer_size }
 {
-    let len = len as u64;
-    info.offset() <= len && u64::from(info.cb_buffer_size()) <= len - info.offset()
+    lies_within(info.offset(), info.cb_buffer_size(), len)
 }
 
 /// Whether a range lies within the octets and after the header.

@@ -12,7 +12,8 @@ use byteorder::{ByteOrder, LittleEndian};
 use std::io;
 use std::io::ErrorKind;
 
-fn cut_short() -> PacError
+/// That octets end too early.
+pub(crate) fn cut_short() -> PacError
     ensures { IsEof result }
 {
     PacError::IoError(io::Error::new(ErrorKind::UnexpectedEof, "a PAC is cut short"))
