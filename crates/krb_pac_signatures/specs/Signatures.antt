@@ -1,9 +1,9 @@
 -- The checksums of a PAC, and what they are over (MS-PAC 2.8.1 to 2.8.4).
 use Rattle.std.specs.Prelude.{◌≡◌, ℕ, ◌+◌, ◌≤◌, ◌⊎◌, true, false, List, ◌++◌, length, take, drop, replicate, Option, Some, None}
 use Rattle.std.specs.Option.{option_map, ForSome, IsSomeAnd}
-use Rattle.krb_pac.specs.Layout.{Buffer, PacIs}
-use Rattle.krb_pac.specs.Rejected.{IsNotMemory, PacRejected}
-use Rattle.krb_pac.specs.View.{first_of}
+use Rattle.krb_pac.specs.Kind.{code}
+use Rattle.krb_pac.specs.Numbered.{NumberedBuffer, NumberedPacIs, NumberedPacRejected, first_numbered}
+use Rattle.krb_pac.specs.Rejected.{IsNotMemory}
 use Rattle.krb_pac.specs.declared.kind.PacBufferType.{PacBufferType}
 use Rattle.krb_pac.specs.declared.kind.PacBufferType.TheVariants.{ServerChecksum, KdcChecksum, TicketChecksum, FullPacChecksum}
 use Rattle.krb_pac_signatures.specs.Signature.{signature_length, is_signature}
@@ -24,8 +24,8 @@ pub record Signatures : Type 0 where
   pub full : Option Placed
 
 -- the first buffer of a type
-abbrev pub placed_in : PacBufferType → List Buffer → Option Placed
-placed_in kind pac = option_map (λ (p : Buffer). record { at = p.info.offset; octets = p.octets }) (first_of kind pac)
+abbrev pub placed_in : PacBufferType → List NumberedBuffer → Option Placed
+placed_in kind pac = option_map (λ (p : NumberedBuffer). record { at = p.info.offset; octets = p.octets }) (first_numbered (code kind) pac)
 
 -- it is there, and no signature
 abbrev pub IsCutShort : Option Placed → Type 0
@@ -35,10 +35,10 @@ IsCutShort o = IsSomeAnd o (λ p. is_signature p.octets ≡ false)
 abbrev pub IsWhole : Option Placed → Type 0
 IsWhole o = ForSome o (λ p. is_signature p.octets ≡ true)
 
--- the checksums of the PAC that the octets are, each a signature
+-- the checksums of the PAC that the octets are, each a signature; its other buffers may be of all types
 pub record SignaturesOf (b : List ℕ) (s : Signatures) : Type 0 where
-  pub pac : List Buffer
-  pub is_pac : PacIs b pac
+  pub pac : List NumberedBuffer
+  pub is_pac : NumberedPacIs b pac
   pub octets : s.octets ≡ b
   pub server : s.server ≡ placed_in ServerChecksum pac
   pub kdc : s.kdc ≡ placed_in KdcChecksum pac
@@ -47,12 +47,12 @@ pub record SignaturesOf (b : List ℕ) (s : Signatures) : Type 0 where
   pub whole : IsWhole s.server × IsWhole s.kdc × IsWhole s.ticket × IsWhole s.full
 
 -- one of the four is no signature
-abbrev pub OneIsCutShort : List Buffer → Type 0
+abbrev pub OneIsCutShort : List NumberedBuffer → Type 0
 OneIsCutShort pac = IsCutShort (placed_in ServerChecksum pac) ⊎ (IsCutShort (placed_in KdcChecksum pac) ⊎ (IsCutShort (placed_in TicketChecksum pac) ⊎ IsCutShort (placed_in FullPacChecksum pac)))
 
 abbrev pub SignaturesRejected : List ℕ → PacSignatureError → Type 0
-SignaturesRejected b (errors.Pac x) = PacRejected b x
-SignaturesRejected b errors.Truncated = (pac : List Buffer) × PacIs b pac × OneIsCutShort pac
+SignaturesRejected b (errors.Pac x) = NumberedPacRejected b x
+SignaturesRejected b errors.Truncated = (pac : List NumberedBuffer) × NumberedPacIs b pac × OneIsCutShort pac
 
 -- no allocation failure
 abbrev pub IsOfOctets : PacSignatureError → Type 0

@@ -8,7 +8,7 @@ ghost use Rattle.krb_pac_signatures.specs.declared.error.PacSignatureError.TheVa
 
 use crate::error::PacSignatureError;
 use crate::signature::SignatureView;
-use krb_pac::{PacBufferType, PacView};
+use krb_pac::{NumberedPacView, PacBufferType};
 use std::alloc::{AllocError, Global};
 use std::marker::Model;
 
@@ -47,14 +47,15 @@ impl<'a> Model for PacSignatures<'a> {
 impl<'a> PacSignatures<'a> {
     /// The checksums of the PAC that the octets are, the first of each type.
     ///
-    /// `Pac` where they are no PAC, as `PacView::new` says; then `Truncated`, where one of the four is
-    /// there and is no signature. There is no other error, since no memory is taken.
+    /// Buffers of all types may be there, those that MS-PAC does not list too: they are octets of the PAC like others, and no reason to
+    /// refuse it. `Pac` where the octets are no PAC, as `NumberedPacView::new` says; then `Truncated`, where one of the four is there and
+    /// is no signature. There is no other error, since no memory is taken.
     pub fn new(octets: &'a [u8]) -> Result<Self, PacSignatureError>
         ensures found { IfOk result (SignaturesOf octets.now) }
         ensures rejected { IfErr result (SignaturesRejected octets.now) }
         ensures memory { IfErr result IsOfOctets }
     {
-        let pac = PacView::new(octets)?;
+        let pac = NumberedPacView::new(octets)?;
         let server = placed(&pac, PacBufferType::ServerChecksum)?;
         let kdc = placed(&pac, PacBufferType::KdcChecksum)?;
         let ticket = placed(&pac, PacBufferType::TicketChecksum)?;
@@ -131,18 +132,18 @@ impl<'a> PacSignatures<'a> {
 
 /// The signature of a type in a PAC, where it is there.
 fn placed<'a>(
-    pac: &PacView<'a>,
+    pac: &NumberedPacView<'a>,
     ul_type: PacBufferType,
 ) -> Result<Option<PlacedView<'a>>, PacSignatureError>
     ensures ok { IfOk result (λ o. (o ≡ placed_in ul_type pac.now) × IsWhole o) }
     ensures err { IfErr result (λ e. (e ≡ errors.Truncated) × IsCutShort (placed_in ul_type pac.now)) }
 {
-    let Some(buffer) = pac.find(ul_type) else {
+    let Some(buffer) = pac.find(u32::from(ul_type)) else {
         return Ok(None);
     };
     let signature = SignatureView::new(buffer.octets())?;
     Ok(Some(PlacedView {
-        at: buffer.info_buffer().offset() as usize,
+        at: buffer.info_buffer().offset as usize,
         signature,
     }))
 }
