@@ -4,8 +4,7 @@ use Rattle.std.specs.declared.alloc.Global.{Global}
 use Rattle.krb_files.specs.Ccache.{Ccache, CcacheIs}
 use Rattle.krb_files.specs.Entry.{Entry}
 use Rattle.krb_files.specs.Keytab.{KeytabIs}
-use Rattle.krb_pac.specs.Layout.{Buffer, PacIs}
-use Rattle.krb_pac.specs.Rejected.{PacRejected}
+use Rattle.krb_pac.specs.Numbered.{NumberedBuffer, NumberedPacIs, NumberedPacRejected}
 use Rattle.krb_pac.specs.declared.error.PacError.{PacError}
 use Rattle.krb_pac.specs.declared.error.PacError.TheVariants as pac_errors
 use Rattle.krb_show.specs.Tokens.{plain, Token}
@@ -22,11 +21,11 @@ abbrev pub IsTreeTold : List ℕ → Result (Vec Token Global) PageError → Typ
 IsTreeTold octets result = MatchResult result (λ page. IsTreePage octets page.items) (λ e. e ≡ page_errors.OutOfMemory)
 
 -- A PAC (MS-PAC, 2.3): where a page is answered it is that of the PAC that the octets are; where they are a PAC it is answered, but for want
--- of memory; and else they are refused as by `PacView::new`.
+-- of memory; and else they are refused as by `NumberedPacView::new`.
 pub record IsPacTold (octets : List ℕ) (result : Result (Vec Token Global) PacError) : Type 0 where
-  pub found : IfOk result (λ page. (pac : List Buffer) × PacIs octets pac × directory_of (plain (codes "PAC")) octets pac [] page.items)
-  pub reads : (pac : List Buffer) → PacIs octets pac → MatchResult result (λ page. Unit {0}) (λ e. e ≡ pac_errors.OutOfMemory)
-  pub rejected : IfErr result (PacRejected octets)
+  pub found : IfOk result (λ page. (pac : List NumberedBuffer) × NumberedPacIs octets pac × directory_of (plain (codes "PAC")) octets pac [] page.items)
+  pub reads : (pac : List NumberedBuffer) → NumberedPacIs octets pac → MatchResult result (λ page. Unit {0}) (λ e. e ≡ pac_errors.OutOfMemory)
+  pub rejected : IfErr result (NumberedPacRejected octets)
 
 -- A keytab (MIT Kerberos, "Keytab file format"): where a page is answered it is that of the entries of the keytab that the octets are; where they
 -- are a keytab it is answered, but for want of memory; and else they are refused as by `KeytabView::new`.

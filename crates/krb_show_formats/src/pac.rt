@@ -3,16 +3,14 @@
 ghost use Rattle.std.specs.Prelude.{◌≡◌, ◌≢◌, ◌≤◌, ℕ, [], ◌++◌, List, length, replicate, IfOk, IfErr, OnOk, OnErr, MatchBool, MatchOption, MatchResult, codes};
 ghost use Rattle.std.specs.List.{flat_map};
 ghost use Rattle.byteorder.specs.Endian.{little_number};
-ghost use Rattle.krb_pac.specs.Layout.{Buffer, PacIs};
-ghost use Rattle.krb_pac.specs.Rejected.{PacRejected};
-ghost use Rattle.krb_pac.specs.Written.{entry_octets};
+ghost use Rattle.krb_pac.specs.Numbered.{NumberedBuffer, NumberedPacIs, NumberedPacRejected};
 ghost use Rattle.krb_show.specs.Leaves.{octets_of};
 ghost use Rattle.krb_show.specs.Tokens.{Begins, plain};
-ghost use Rattle.krb_show_formats.specs.Pac.{buffer_of, directory_of, entries_octets, entries_of, entry_of, head_octets, other_of, pac_of, padded_octets, padding, plain_octets};
+ghost use Rattle.krb_show_formats.specs.Pac.{buffer_of, directory_of, entries_octets, entries_of, entry_octets, entry_of, head_octets, other_of, pac_of, padded_octets, padding, plain_octets};
 
 use crate::Format;
 use byteorder::{ByteOrder, LittleEndian};
-use krb_pac::{PacBufferView, PacError, PacInfoBuffer, PacView};
+use krb_pac::{NumberedBufferView, NumberedInfoBuffer, NumberedPacView, PacError};
 use krb_show::{Label, Page, Show, show_fields, show_list, show_octets, show_struct};
 use std::alloc::{AllocError, Global};
 
@@ -35,15 +33,15 @@ struct BufferFields<'a> {
 }
 
 /// A buffer: its entry (MS-PAC, 2.4, PAC_INFO_BUFFER), and the octets that the entry names.
-impl<'a> Show<Format> for PacBufferView<'a> {
+impl<'a> Show<Format> for NumberedBufferView<'a> {
     ghost shows = { buffer_of };
 
     fn show(&self, alloc: Global, label: &Label, page: &mut Page) -> Result<(), AllocError> {
         let info = self.info_buffer();
         let fields = BufferFields {
-            ul_type: u32::from(info.ul_type()),
-            cb_buffer_size: info.cb_buffer_size(),
-            offset: info.offset(),
+            ul_type: info.ul_type,
+            cb_buffer_size: info.cb_buffer_size,
+            offset: info.offset,
             octets: self.octets(),
         };
         show_struct(
@@ -62,7 +60,10 @@ impl<'a> Show<Format> for PacBufferView<'a> {
 }
 
 /// The buffers of a PAC.
-fn buffers<'a>(alloc: Global, pac: &PacView<'a>) -> Result<Vec<PacBufferView<'a>>, AllocError>
+fn buffers<'a>(
+    alloc: Global,
+    pac: &NumberedPacView<'a>,
+) -> Result<Vec<NumberedBufferView<'a>>, AllocError>
     ensures { IfOk result (λ buffers. buffers.items ≡ pac.now) }
 {
     let mut buffers = Vec::with_capacity(alloc, pac.len())?;
@@ -91,18 +92,18 @@ fn head_of(octets: &[u8]) -> [u8; 8]
 }
 
 /// The octets of an entry (MS-PAC, 2.4, PAC_INFO_BUFFER).
-fn octets_of_entry(info: &PacInfoBuffer) -> [u8; 16]
+fn octets_of_entry(info: &NumberedInfoBuffer) -> [u8; 16]
     ensures { result ≡ entry_octets info.now }
 {
     let mut octets = [0u8; 16];
-    LittleEndian::write_u32(&mut octets[..4], u32::from(info.ul_type()));
-    LittleEndian::write_u32(&mut octets[4..8], info.cb_buffer_size());
-    LittleEndian::write_u64(&mut octets[8..16], info.offset());
+    LittleEndian::write_u32(&mut octets[..4], info.ul_type);
+    LittleEndian::write_u32(&mut octets[4..8], info.cb_buffer_size);
+    LittleEndian::write_u64(&mut octets[8..16], info.offset);
     octets
 }
 
 /// The octets behind the entries of the buffers, where the others begin with these entries, one behind another.
-fn behind_entries<'a>(octets: &'a [u8], buffers: &[PacBufferView]) -> Option<&'a [u8]>
+fn behind_entries<'a>(octets: &'a [u8], buffers: &[NumberedBufferView]) -> Option<&'a [u8]>
     ensures { MatchOption result ((rest : List ℕ) → octets.now ≢ entries_octets buffers.now ++ rest) (λ rest. octets.now ≡ entries_octets buffers.now ++ rest.now) }
 {
     let mut rest = octets;
@@ -116,7 +117,7 @@ fn behind_entries<'a>(octets: &'a [u8], buffers: &[PacBufferView]) -> Option<&'a
 }
 
 /// The octets behind a buffer and the zeros behind it up to a multiple of eight, where the others begin with these.
-fn behind_buffer<'a>(octets: &'a [u8], buffer: &PacBufferView) -> Option<&'a [u8]>
+fn behind_buffer<'a>(octets: &'a [u8], buffer: &NumberedBufferView) -> Option<&'a [u8]>
     ensures { MatchOption result ((rest : List ℕ) → octets.now ≢ padded_octets buffer.now ++ rest) (λ rest. octets.now ≡ padded_octets buffer.now ++ rest.now) }
 {
     let size = buffer.octets().len();
@@ -128,7 +129,7 @@ fn behind_buffer<'a>(octets: &'a [u8], buffer: &PacBufferView) -> Option<&'a [u8
 }
 
 /// The octets behind the buffers, where the others begin with these, one behind another, each with zeros behind it up to a multiple of eight.
-fn behind_buffers<'a>(octets: &'a [u8], buffers: &[PacBufferView]) -> Option<&'a [u8]>
+fn behind_buffers<'a>(octets: &'a [u8], buffers: &[NumberedBufferView]) -> Option<&'a [u8]>
     ensures { MatchOption result ((rest : List ℕ) → octets.now ≢ flat_map padded_octets buffers.now ++ rest)
         (λ rest. octets.now ≡ flat_map padded_octets buffers.now ++ rest.now) }
 {
@@ -143,8 +144,8 @@ fn behind_buffers<'a>(octets: &'a [u8], buffers: &[PacBufferView]) -> Option<&'a
 }
 
 /// Whether the buffers of a PAC stand one behind another in the order of their entries, and nothing else is in its octets.
-fn is_plain(octets: &[u8], buffers: &[PacBufferView]) -> bool
-    requires { PacIs octets.now buffers.now }
+fn is_plain(octets: &[u8], buffers: &[NumberedBufferView]) -> bool
+    requires { NumberedPacIs octets.now buffers.now }
     ensures { MatchBool result (octets.now ≡ plain_octets buffers.now) (octets.now ≢ plain_octets buffers.now) }
 {
     let Some(rest) = behind(octets, &head_of(octets)) else {
@@ -159,29 +160,16 @@ fn is_plain(octets: &[u8], buffers: &[PacBufferView]) -> bool
     }
 }
 
-/// The fields of an entry.
-#[derive(Drop)]
-struct EntryFields {
-    ul_type: u32,
-    cb_buffer_size: u32,
-    offset: u64,
-}
-
 /// The entry of a buffer (MS-PAC, 2.4, PAC_INFO_BUFFER) alone.
-impl Show<Format> for PacInfoBuffer {
+impl Show<Format> for NumberedInfoBuffer {
     ghost shows = { entry_of };
 
     fn show(&self, alloc: Global, label: &Label, page: &mut Page) -> Result<(), AllocError> {
-        let fields = EntryFields {
-            ul_type: u32::from(self.ul_type()),
-            cb_buffer_size: self.cb_buffer_size(),
-            offset: self.offset(),
-        };
         show_struct(
             alloc,
             label,
             &show_fields!(
-                Format; fields;
+                Format; self;
                 "ulType" PacBufferType = ul_type,
                 "cbBufferSize" = cb_buffer_size,
                 "Offset" = offset
@@ -192,7 +180,10 @@ impl Show<Format> for PacInfoBuffer {
 }
 
 /// The entries of buffers.
-fn entries(alloc: Global, buffers: &[PacBufferView]) -> Result<Vec<PacInfoBuffer>, AllocError>
+fn entries(
+    alloc: Global,
+    buffers: &[NumberedBufferView],
+) -> Result<Vec<NumberedInfoBuffer>, AllocError>
     ensures { IfOk result (λ made. made.items ≡ entries_of buffers.now) }
 {
     let mut entries = Vec::with_capacity(alloc, buffers.len())?;
@@ -205,7 +196,7 @@ fn entries(alloc: Global, buffers: &[PacBufferView]) -> Result<Vec<PacInfoBuffer
 /// The fields of a PAC whose octets are not those of its buffers alone.
 #[derive(Drop)]
 struct OtherFields<'a> {
-    buffers: Vec<PacInfoBuffer>,
+    buffers: Vec<NumberedInfoBuffer>,
     octets: &'a [u8],
 }
 
@@ -214,7 +205,7 @@ fn show_other(
     alloc: Global,
     label: &Label,
     octets: &[u8],
-    buffers: &[PacBufferView],
+    buffers: &[NumberedBufferView],
     page: &mut Page,
 ) -> Result<(), AllocError>
     ensures ok { OnOk result (other_of label.now octets.now buffers.now page.old.items page.new.items) }
@@ -238,10 +229,10 @@ fn show_directory(
     alloc: Global,
     label: &Label,
     octets: &[u8],
-    pac: &PacView,
+    pac: &NumberedPacView,
     page: &mut Page,
 ) -> Result<(), AllocError>
-    requires { PacIs octets.now pac.now }
+    requires { NumberedPacIs octets.now pac.now }
     ensures ok { OnOk result (directory_of label.now octets.now pac.now page.old.items page.new.items) }
     ensures kept { OnOk result (Begins page.old.items page.new.items) }
     ensures err { OnErr result (page.new.items ≡ page.old.items) }
@@ -268,21 +259,21 @@ pub fn show_pac(
     ensures kept { OnOk result (Begins page.old.items page.new.items) }
     ensures err { OnErr result (page.new.items ≡ page.old.items) }
 {
-    match PacView::new(octets) {
+    match NumberedPacView::new(octets) {
         Ok(pac) => show_directory(alloc, label, octets, &pac, page),
         Err(_) => show_octets(alloc, label, octets, page),
     }
 }
 
 /// The page of the PAC that the octets are, as by `show_pac`, under the name `PAC`. Other octets are refused with their
-/// first error, as by `PacView::new`; an allocation failure is `OutOfMemory`, and comes only where they are a PAC.
+/// first error, as by `NumberedPacView::new`; an allocation failure is `OutOfMemory`, and comes only where they are a PAC.
 pub fn page_of_pac(alloc: Global, octets: &[u8]) -> Result<Page, PacError>
-    ensures found { IfOk result (λ page. (pac : List Buffer) × PacIs octets.now pac × directory_of (plain (codes "PAC")) octets.now pac [] page.items) }
-    ensures reads { (pac : List Buffer) → PacIs octets.now pac → MatchResult result (λ page. Unit {0}) (λ e. e ≡ PacError.OutOfMemory) }
-    ensures rejected { IfErr result (PacRejected octets.now) }
-    ensures memory { IfErr result (λ e. e ≡ PacError.OutOfMemory → (pac : List Buffer) × PacIs octets.now pac) }
+    ensures found { IfOk result (λ page. (pac : List NumberedBuffer) × NumberedPacIs octets.now pac × directory_of (plain (codes "PAC")) octets.now pac [] page.items) }
+    ensures reads { (pac : List NumberedBuffer) → NumberedPacIs octets.now pac → MatchResult result (λ page. Unit {0}) (λ e. e ≡ PacError.OutOfMemory) }
+    ensures rejected { IfErr result (NumberedPacRejected octets.now) }
+    ensures memory { IfErr result (λ e. e ≡ PacError.OutOfMemory → (pac : List NumberedBuffer) × NumberedPacIs octets.now pac) }
 {
-    let pac = PacView::new(octets)?;
+    let pac = NumberedPacView::new(octets)?;
     let label = Label::new("PAC");
     let mut page = Vec::new(alloc);
     show_directory(alloc, &label, octets, &pac, &mut page)?;

@@ -4,10 +4,8 @@ use Rattle.std.specs.List.{AllByRecursion}
 use Rattle.byteorder.specs.Endian.{little_from}
 use Rattle.krb_der_core.specs.Encoding.{IsOctets}
 use Rattle.krb_registry.specs.declared.kind.Kind.TheVariants.{PacBufferType}
-use Rattle.krb_pac.specs.Entry.{Entry}
-use Rattle.krb_pac.specs.Kind.{code, same_code}
-use Rattle.krb_pac.specs.Layout.{Buffer, Buffers, PacIs}
-use Rattle.krb_pac.specs.declared.kind.PacBufferType.{PacBufferType as Type_of_buffer}
+use Rattle.krb_pac.specs.Numbered.{AreNumbered, NumberedBuffer, NumberedPacIs}
+use Rattle.krb_pac.specs.declared.numbered.NumberedInfoBuffer.{NumberedInfoBuffer}
 use Rattle.krb_show.specs.Leaves.{number_of, octets_of}
 use Rattle.krb_show.specs.Text.{page_lines}
 use Rattle.krb_show.specs.Tokens.{Label, Token, of_kind, plain}
@@ -39,13 +37,13 @@ little_bound zero xs h = omega arith
 little_bound (suc n) [] h = nothing_below (suc n)
 little_bound (suc n) (x ∷ xs) h = let rest = little_bound n xs (λ i. h (suc i)) in omega (arith, h 0, rest, little_shift 0 n x xs)
 
-abbrev pub IsEntry : Entry → Type 0
+abbrev pub IsEntry : NumberedInfoBuffer → Type 0
 IsEntry i = i.offset < 2 ^ 64
 
-abbrev pub IsBuffer : Buffer → Type 0
+abbrev pub IsBuffer : NumberedBuffer → Type 0
 IsBuffer p = IsEntry p.info × IsOctets p.octets
 
-buffers_are : (octets : List ℕ) (i : ℕ) (pac : List Buffer) → IsOctets octets → Buffers octets i pac → AllByRecursion IsBuffer pac
+buffers_are : (octets : List ℕ) (i : ℕ) (pac : List NumberedBuffer) → IsOctets octets → AreNumbered octets i pac → AllByRecursion IsBuffer pac
 buffers_are octets i [] h b = tt
 buffers_are octets i (p ∷ pac) h b = (
   (
@@ -55,21 +53,21 @@ buffers_are octets i (p ∷ pac) h b = (
   buffers_are octets (suc i) pac h b.1,
 )
 
-entries_are : (pac : List Buffer) → AllByRecursion IsBuffer pac → AllByRecursion IsEntry (entries_of pac)
+entries_are : (pac : List NumberedBuffer) → AllByRecursion IsBuffer pac → AllByRecursion IsEntry (entries_of pac)
 entries_are [] h = tt
 entries_are (p ∷ pac) h = (h.0.0, entries_are pac h.1)
 
 -- ---- and that they are told
 
-abbrev entry_from : Type_of_buffer → ℕ → ℕ → Entry
+abbrev entry_from : ℕ → ℕ → ℕ → NumberedInfoBuffer
 entry_from k size at = record { ul_type = k; cb_buffer_size = size; offset = at }
 
-same_entry : (i j : Entry) → code i.ul_type ≡ code j.ul_type → i.cb_buffer_size ≡ j.cb_buffer_size → i.offset ≡ j.offset → i ≡ j
+same_entry : (i j : NumberedInfoBuffer) → i.ul_type ≡ j.ul_type → i.cb_buffer_size ≡ j.cb_buffer_size → i.offset ≡ j.offset → i ≡ j
 same_entry i j k s o =
-    ap (λ (x : Type_of_buffer). entry_from x i.cb_buffer_size i.offset) (same_code i.ul_type j.ul_type k)
+    ap (λ (x : ℕ). entry_from x i.cb_buffer_size i.offset) k
     ∙ ap (λ (x : ℕ). entry_from j.ul_type x i.offset) s ∙ ap (λ (x : ℕ). entry_from j.ul_type j.cb_buffer_size x) o
 
-abbrev buffer_from : Entry → List ℕ → Buffer
+abbrev buffer_from : NumberedInfoBuffer → List ℕ → NumberedBuffer
 buffer_from i octets = record { info = i; octets = octets }
 
 numbers : TellsValues (λ (n : ℕ). Unit {0}) IsLeaf (λ label n. number_of label (pos n))
@@ -77,20 +75,20 @@ numbers = tells_naturals
 
 pub tells_entries : TellsValues IsEntry IsStruct entry_of
 tells_entries = tells_structs (λ i j h k.
-    numbers.tells (of_kind (codes "ulType") PacBufferType) (code i.ul_type) (code j.ul_type) refl tt tt
+    numbers.tells (of_kind (codes "ulType") PacBufferType) i.ul_type j.ul_type refl tt tt
     and numbers.tells (plain (codes "cbBufferSize")) i.cb_buffer_size j.cb_buffer_size refl tt tt
     and tells_unsigned.tells (plain (codes "Offset")) i.offset j.offset refl h k)
     refl (λ i j p. same_entry i j p.0.0 p.0.1 p.1)
 
 pub tells_buffers : TellsValues IsBuffer IsStruct buffer_of
 tells_buffers = tells_structs (λ p q h k.
-    numbers.tells (of_kind (codes "ulType") PacBufferType) (code p.info.ul_type) (code q.info.ul_type) refl tt tt
+    numbers.tells (of_kind (codes "ulType") PacBufferType) p.info.ul_type q.info.ul_type refl tt tt
     and numbers.tells (plain (codes "cbBufferSize")) p.info.cb_buffer_size q.info.cb_buffer_size refl tt tt
     and tells_unsigned.tells (plain (codes "Offset")) p.info.offset q.info.offset refl h.0 k.0
     and tells_octets.tells (plain (codes "buffer")) p.octets q.octets refl h.1 k.1)
-    refl (λ p q e. ap (λ (i : Entry). buffer_from i p.octets) (same_entry p.info q.info e.0.0.0 e.0.0.1 e.0.1) ∙ ap (λ (l : List ℕ). buffer_from q.info l) e.1)
+    refl (λ p q e. ap (λ (i : NumberedInfoBuffer). buffer_from i p.octets) (same_entry p.info q.info e.0.0.0 e.0.0.1 e.0.1) ∙ ap (λ (l : List ℕ). buffer_from q.info l) e.1)
 
-tells_other : (label : Label) (octets others : List ℕ) (pac qac : List Buffer) → is_name label.text ≡ true → IsOctets octets → IsOctets others
+tells_other : (label : Label) (octets others : List ℕ) (pac qac : List NumberedBuffer) → is_name label.text ≡ true → IsOctets octets → IsOctets others
     → AllByRecursion IsBuffer pac → AllByRecursion IsBuffer qac
     → Tells (λ names. label.text ∷ []) (λ names. true) (Unit {0}) (octets ≡ others) (other_of label octets pac) (other_of label others qac)
 tells_other label octets others pac qac name h k p q =
@@ -98,7 +96,7 @@ tells_other label octets others pac qac name h k p q =
     (tells_list tells_entries).tells (plain (codes "buffers")) (entries_of pac) (entries_of qac) refl (entries_are pac p) (entries_are qac q)
     and tells_octets.tells (plain (codes "octets")) octets others refl h k) refl)
 
-other_heads : (label : Label) (octets : List ℕ) (pac : List Buffer) → is_name label.text ≡ true → IsOctets octets → AllByRecursion IsBuffer pac
+other_heads : (label : Label) (octets : List ℕ) (pac : List NumberedBuffer) → is_name label.text ≡ true → IsOctets octets → AllByRecursion IsBuffer pac
     → Heads label.text IsStruct (other_of label octets pac)
 other_heads label octets pac name h p = struct_heads label (
     (tells_list tells_entries).tells (plain (codes "buffers")) (entries_of pac) (entries_of pac) refl (entries_are pac p) (entries_are pac p)
@@ -121,10 +119,10 @@ struct_no_list : (s : List ℕ) → IsStruct s → IsList s → ⊥
 struct_no_list s e l = list_no_other s l (inl e)
 
 module _ (label : Label) (octets others : List ℕ) (name : is_name label.text ≡ true) (h : IsOctets octets) (k : IsOctets others) where
-  are : (pac : List Buffer) → PacIs octets pac → AllByRecursion IsBuffer pac
+  are : (pac : List NumberedBuffer) → NumberedPacIs octets pac → AllByRecursion IsBuffer pac
   are pac x = buffers_are octets 0 pac h x.buffers
 
-  are_too : (qac : List Buffer) → PacIs others qac → AllByRecursion IsBuffer qac
+  are_too : (qac : List NumberedBuffer) → NumberedPacIs others qac → AllByRecursion IsBuffer qac
   are_too qac y = buffers_are others 0 qac k y.buffers
 
   tell : (old before ts us : List Token) → pac_of label octets old (old ++ ts) → pac_of label others before (before ++ us) → Unit {0}

@@ -1,5 +1,6 @@
 //! The PAC, or privilege attribute certificate (MS-PAC).
 
 pub use krb_pac::{
-    Pac, PacBuffer, PacBufferType, PacBufferView, PacBuffers, PacError, PacInfoBuffer, PacView,
+    NumberedBufferView, NumberedBuffers, NumberedInfoBuffer, NumberedPacView, Pac, PacBuffer,
+    PacBufferType, PacBufferView, PacBuffers, PacError, PacInfoBuffer, PacView,
 };

@@ -1,4 +1,4 @@
-use Rattle.std.proofs.Common.{◌≡◌, ◌≢◌, ◌%◌, ◌-◌, ℕ, List, [], ◌∷◌, ◌++◌, length, take, replicate, ap, subst, ◌∙◌, arith}
+use Rattle.std.proofs.Common.{◌≡◌, ◌≢◌, ℕ, List, [], ◌∷◌, ◌++◌, length, take, replicate, ap, subst, ◌∙◌, arith}
 use Rattle.std.specs.Prelude.{MatchOption}
 use Rattle.krb_show_formats.specs.Pac.{padding}
 use Rattle.krb_show_formats.proofs.Plain.{two_pieces, zeros_taken}

@@ -1,7 +1,7 @@
-use Rattle.std.proofs.Common.{◌++◌, ◌≢◌, ◌∙◌, ℕ, List, ap, length, subst}
+use Rattle.std.proofs.Common.{◌++◌, ◌∙◌, ℕ, List, ap, length}
 use Rattle.std.specs.List.{flat_map}
 use Rattle.krb_show_formats.specs.Pac.{entries_octets, head_octets, padded_octets}
-use Rattle.krb_show_formats.proofs.Plain.{all_pieces, not_first, not_second, not_third}
+use Rattle.krb_show_formats.proofs.Plain.{all_pieces, not_first, not_third}
 use Rattle.krb_show_formats.proofs.pac.is_plain.Goals as goal
 
 pub returns-in_default : goal.returns-in_default
