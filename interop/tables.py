@@ -1,13 +1,11 @@
-"""The rows of the test programs: crates/TEST/stdin, in which a line `== NAME` begins a table.
-
-A file with no such line is one table, of the name None."""
+"""The rows of the test programs: crates/TEST/stdin, in which a line `== NAME` begins a table."""
 
 import os
 
 TOP = os.path.dirname(os.path.dirname(os.path.abspath(__file__)))
 
 
-def lines_of(test, name=None):
+def lines_of(test, name):
     """The lines of a table with their numbers in the file, among them comments, which begin with `#`."""
     inside = None
     with open(os.path.join(TOP, "crates", test, "stdin"), encoding="utf-8") as file:
@@ -23,12 +21,12 @@ def lines_of(test, name=None):
     return found
 
 
-def numbered_table_of(test, name=None, columns=1):
+def numbered_table_of(test, name, columns=1):
     """The rows of a table that have so many columns, with their lines' numbers in the file."""
     rows = [(number, line.split("\t")) for number, line in lines_of(test, name) if not line.startswith("#")]
     return [(number, row) for number, row in rows if len(row) >= columns]
 
 
-def table_of(test, name=None, columns=1):
+def table_of(test, name, columns=1):
     """The rows of a table that have so many columns."""
     return [row for _, row in numbered_table_of(test, name, columns)]

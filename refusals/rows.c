@@ -1,14 +1,17 @@
-/* Has the program test_messages or test_formats read, copy and write the octets of each row of its
- * table, with its allocations failing, and of a PAC its first buffer alone too. The argument is
- * that table. */
+/* Has the program test_messages read, copy and write the octets of each row of its tables, with its
+ * allocations failing, and of a PAC its first buffer alone too. The argument is the file of these
+ * tables. */
 #include "program.h"
 #include "runs.h"
 
-/* The statuses of these programs on a row of the origin `once`: it was read and all held, or it was
+/* The statuses of the program on a row of the origin `once`: it was read and all held, or it was
  * rejected. */
 enum { HELD, REFUSED };
 
 static char line[4 * ROOM];
+
+/* The line that begins the table which is read. */
+static char table[64];
 
 /* Whether an error's name is in the origin's place: one word that begins with a capital. */
 static int is_refusal(const char *origin) {
@@ -24,7 +27,7 @@ static int is_refusal(const char *origin) {
  * rejected. */
 static void try_row(const char *origin, const char *name, const char *digits) {
     struct octets input;
-    int count = snprintf((char *)input.at, ROOM, "once\t%s\t%s\n", name, digits);
+    int count = snprintf((char *)input.at, ROOM, "%sonce\t%s\t%s\n", table, name, digits);
     if (count >= ROOM) {
         fail(name, "too many octets");
     }
@@ -35,10 +38,14 @@ static void try_row(const char *origin, const char *name, const char *digits) {
 int try_program(int count, char **words) {
     FILE *rows = count == 2 ? fopen(words[1], "r") : 0;
     if (!rows) {
-        die("no such table");
+        die("no such file of tables");
     }
     start_runs();
     while (fgets(line, sizeof line, rows)) {
+        if (!memcmp(line, "== ", 3)) {
+            snprintf(table, sizeof table, "%s", line);
+            continue;
+        }
         char *origin = strtok(line, "\t\n"), *name = strtok(0, "\t\n"), *digits = strtok(0, "\t\n");
         if (digits && *origin != '#' && memcmp(origin, "large", 5)) {
             try_row(origin, name, digits);

@@ -1,46 +1,43 @@
 //! The program `test_messages`: reads and writes octets that come from outside this library.
 //!
-//! Its standard input is a table of test vectors. A test vector is a line of an origin, a type, octets in hexadecimal digits and,
-//! in some lines, the text that `{:?}` writes of the value, with tabs between; a line that begins with `#` is a comment. Servers
-//! and clients (MIT Kerberos, Heimdal, Samba) sent the test vectors that name them, alone or as a part of a message. An encoder
-//! that shares no code with this library, or a person, made those of no options, of all options and of distinct fields. Worked
-//! test vectors are single examples of an encoding. Where the name of an error is in the origin's place, reading the octets
-//! returns this error, also from a reader. For each test vector the program prints a line with the fields of `Findings` that
-//! hold of its octets, or with the error. The status is 0 where every test vector has what it should.
+//! Its standard input is tables of test vectors (`test_rows`): `types` of types of DER, and of formats that have calls of their own
+//! `messages` (replies to a client, messages for proxies), `frames` (that change passwords, and records of a caller's integrity),
+//! `tokens` (of the GSS-API), `negoex` and `pacs`. A test vector is an origin, a type, a format or a call, and octets. After `=`
+//! come the octets that writing the value gives, where they are others, or the name of the error of writing it. A fourth column is
+//! the text that `{:?}` writes of the value. Where the name of an error is in the origin's place, reading the octets returns this
+//! error, also from a reader; of a test vector of the origin `shown` the program prints the value. Where a format is read from a
+//! slice too, or viewed, both should agree.
+//!
+//! Servers and clients (MIT Kerberos, Heimdal, Samba) sent the test vectors that name them, alone or as a part of a message. An
+//! encoder that shares no code with this library, or a person, made those of no options, of all options and of distinct fields.
+//! Worked test vectors are single examples of an encoding or a layout. For each test vector the program prints a line that says what
+//! holds of its octets: how it reads, copies, writes and streams the value, and how it reads each prefix of the octets (`types`,
+//! `trials`). The status is 0 where every test vector has what it should.
 #![tactic(auto)]
 
-mod certificates;
-mod delegation;
-mod dribble;
-mod failing;
-mod messages;
-mod negotiation;
-mod parts;
-mod pre_authentication;
-mod primitives;
+mod devices;
+mod formats;
+mod rejection;
+mod report;
 mod row;
-mod shared;
-mod table;
-mod trial;
+mod trials;
+mod types;
 
+use report::report_of;
+use std::alloc::Global;
 use std::io;
-use std::io::{BufRead, BufReader};
 use std::process::ExitCode;
-use table::report_of;
+use test_rows::{Columns, Report, RowError, Tables, report_rows};
+
+/// The tables of this program.
+struct Vectors;
+
+impl Tables for Vectors {
+    fn report_of(alloc: Global, table: &str, columns: Columns<'_>) -> Result<Report, RowError> {
+        report_of(alloc, table, columns)
+    }
+}
 
 fn main(rt: HostRuntime) -> io::Result<ExitCode> {
-    let alloc = rt.alloc();
-    let mut status = ExitCode::SUCCESS;
-    for line in BufReader::new(alloc, rt.reader())?.lines(alloc) {
-        let line = line?;
-        if line.starts_with('#') {
-            continue;
-        }
-        let report = report_of(alloc, line.as_str())?;
-        println!(rt; "{}", report.text)?;
-        if !report.held {
-            status = ExitCode::FAILURE;
-        }
-    }
-    Ok(status)
+    report_rows::<Vectors>(&rt)
 }
