@@ -1,12 +1,11 @@
 //! Converts KRB-CREDs in the clear and credential caches that come from outside this library.
 //!
-//! A row is a line of an origin, the target `ccache` or `kirbi`, and the octets of the other in hexadecimal digits,
-//! with tabs between. For each row it prints a line of the origin and the target, and then the
-//! target's octets in hexadecimal digits and the names of what is left out, or why the octets are refused.
+//! A row is an origin, the target `ccache` or `kirbi`, and the octets of the other. For each row it prints a line of the origin and
+//! the target, and then the target's octets in hexadecimal digits and the names of what is left out, or why the octets are refused.
 
 use krb_file_tools::convert::{ConvertError, Converted, ccache_of_kirbi, kirbi_of_ccache};
 use std::alloc::{AllocError, Global};
-use std::io;
+use test_rows::{Columns, RowError};
 
 /// What is printed of a conversion.
 fn converted_text(alloc: Global, converted: &Converted) -> Result<String, AllocError> {
@@ -44,18 +43,9 @@ fn target_text(alloc: Global, target: &str, octets: &[u8]) -> Result<String, All
 }
 
 /// What is printed of a row.
-pub(crate) fn answer(alloc: Global, row: &str) -> io::Result<String> {
-    let mut columns = row.split('\t');
-    let (Some(origin), Some(target), Some(digits)) = (
-        columns.next(),
-        columns.next(),
-        columns.next(),
-    ) else {
-        return Ok(String::from_str(alloc, "no row\n")?);
-    };
-    let Ok(octets) = hex::decode(alloc, digits) else {
-        return Ok(String::from_str(alloc, "no digits\n")?);
-    };
+pub(crate) fn answer(alloc: Global, mut columns: Columns<'_>) -> Result<String, RowError> {
+    let (origin, target) = (columns.text()?, columns.text()?);
+    let octets = columns.octets(alloc)?;
     let text = target_text(alloc, target, &octets)?;
     Ok(format!(in alloc; "{origin} {target}\n{text}")?)
 }

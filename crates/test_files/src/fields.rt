@@ -1,8 +1,8 @@
 //! Reads keytabs and credential caches that come from outside this library.
 //!
-//! A row is a line of an origin, `keytab` or `ccache`, and octets in hexadecimal digits, with tabs between. For each row it prints a line of the origin and the kind, and then each entry or
-//! credential, or the error. Behind the entries or credentials it prints what the library writes of them. Octets are printed in
-//! hexadecimal digits.
+//! A row is an origin, `keytab` or `ccache`, and octets. For each row it prints a line of the origin and the kind, and then each
+//! entry or credential, or the error. Behind the entries or credentials it prints what the library writes of them. Octets are
+//! printed in hexadecimal digits.
 
 mod written;
 
@@ -12,7 +12,7 @@ use krb_files::fields::{ComponentsView, TypedOctets};
 use krb_files::keytab::{EntryView, KeytabView};
 use std::alloc::{AllocError, Global};
 use std::fmt::Debug;
-use std::io;
+use test_rows::{Columns, RowError};
 
 /// A realm and components.
 fn name_text(
@@ -162,17 +162,9 @@ fn file_text(alloc: Global, kind: &str, octets: &[u8]) -> Result<String, AllocEr
 }
 
 /// What is printed of a row.
-pub(crate) fn answer(alloc: Global, row: &str) -> io::Result<String> {
-    let mut columns = row.split('\t');
-    let (Some(origin), Some(kind), Some(digits)) = (columns.next(), columns.next(), columns.next())
-    else {
-        return Ok(String::from_str(alloc, "no row\n")?);
-    };
-    match hex::decode(alloc, digits) {
-        Ok(octets) => {
-            let text = file_text(alloc, kind, &octets)?;
-            Ok(format!(in alloc; "{origin} {kind}\n{text}")?)
-        }
-        Err(_) => Ok(String::from_str(alloc, "no digits\n")?),
-    }
+pub(crate) fn answer(alloc: Global, mut columns: Columns<'_>) -> Result<String, RowError> {
+    let (origin, kind) = (columns.text()?, columns.text()?);
+    let octets = columns.octets(alloc)?;
+    let text = file_text(alloc, kind, &octets)?;
+    Ok(format!(in alloc; "{origin} {kind}\n{text}")?)
 }

@@ -1,10 +1,11 @@
 //! Lists keytabs and credential caches that come from outside this library.
 //!
-//! A row is a line of an origin, `keytab` or `ccache`, and octets in hexadecimal digits, with tabs between. For each row it prints a line of the origin and the kind, and the list or the error.
+//! A row is an origin, `keytab` or `ccache`, and octets. For each row it prints a line of the origin and the kind, and the list or
+//! the error.
 
 use krb_file_tools::list::{ListError, list_of_ccache, list_of_keytab};
 use std::alloc::{AllocError, Global};
-use std::io;
+use test_rows::{Columns, RowError};
 
 /// The list of octets of a kind.
 fn list_of(alloc: Global, kind: &str, octets: &[u8]) -> Result<Vec<u8>, ListError> {
@@ -24,17 +25,9 @@ fn listed(alloc: Global, kind: &str, octets: &[u8]) -> Result<String, AllocError
 }
 
 /// What is printed of a row.
-pub(crate) fn answer(alloc: Global, row: &str) -> io::Result<String> {
-    let mut columns = row.split('\t');
-    let (Some(origin), Some(kind), Some(digits)) = (columns.next(), columns.next(), columns.next())
-    else {
-        return Ok(String::from_str(alloc, "no row\n")?);
-    };
-    match hex::decode(alloc, digits) {
-        Ok(octets) => {
-            let text = listed(alloc, kind, &octets)?;
-            Ok(format!(in alloc; "{origin} {kind}\n{text}")?)
-        }
-        Err(_) => Ok(String::from_str(alloc, "no digits\n")?),
-    }
+pub(crate) fn answer(alloc: Global, mut columns: Columns<'_>) -> Result<String, RowError> {
+    let (origin, kind) = (columns.text()?, columns.text()?);
+    let octets = columns.octets(alloc)?;
+    let text = listed(alloc, kind, &octets)?;
+    Ok(format!(in alloc; "{origin} {kind}\n{text}")?)
 }

@@ -1,11 +1,11 @@
 //! Reads the logon information of real PACs.
 //!
-//! A row is a line of an origin and a PAC in hexadecimal digits, with a tab between. For each row it prints the origin and a line for each field of the logon information, or the error.
+//! A row is an origin and a PAC. For each row it prints the origin and a line for each field of the logon information, or the error.
 
 use krb_pac::{PacBufferType, PacView};
 use krb_pac_contents::{LogonView, Memberships, SidView};
 use std::alloc::{AllocError, Global};
-use std::io;
+use test_rows::{Columns, RowError};
 
 /// The seconds since 1970 of a FILETIME, the nearest, as Samba prints them; 0 before.
 fn seconds(time: u64) -> u64 {
@@ -130,16 +130,8 @@ fn text_of(alloc: Global, octets: &[u8]) -> Result<String, AllocError> {
 }
 
 /// What is printed of a row.
-pub(crate) fn answer(alloc: Global, line: &str) -> io::Result<String> {
-    let mut columns = line.split('\t');
-    let (Some(origin), Some(digits)) = (columns.next(), columns.next()) else {
-        return Ok(String::from_str(alloc, "no row\n")?);
-    };
-    match hex::decode(alloc, digits) {
-        Ok(octets) => {
-            let text = text_of(alloc, &octets)?;
-            Ok(format!(in alloc; "{origin}\n{text}")?)
-        }
-        Err(_) => Ok(String::from_str(alloc, "no digits\n")?),
-    }
+pub(crate) fn answer(alloc: Global, mut columns: Columns<'_>) -> Result<String, RowError> {
+    let origin = columns.text()?;
+    let text = text_of(alloc, &columns.octets(alloc)?)?;
+    Ok(format!(in alloc; "{origin}\n{text}")?)
 }

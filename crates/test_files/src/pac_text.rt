@@ -1,12 +1,12 @@
 //! Prints what Windows writes in a PAC as text.
 //!
-//! A row is a line of a kind and a value, with a tab between. A
-//! value is octets in hexadecimal digits, of a kind `sid` or `name`, or a number in decimal, of the kind `time`. For each row the program
-//! prints a line: the text of an identifier, the text of a name in hexadecimal digits, or the parts of a time.
+//! A row is a kind and a value: octets, of a kind `sid` or `name`, or a number in decimal, of the kind `time`. For each row the
+//! program prints a line: the text of an identifier, the text of a name in hexadecimal digits, or the parts of a time.
 
 use krb_pac_contents::SidView;
 use krb_pac_contents::text::{FileTime, name_text, sid_text, time_of_filetime};
 use std::alloc::{AllocError, Global};
+use test_rows::{Columns, RowError};
 
 /// The text of an identifier.
 fn sid(alloc: Global, octets: &[u8]) -> Result<String, AllocError> {
@@ -43,33 +43,14 @@ fn time(alloc: Global, filetime: u64) -> Result<String, AllocError> {
     }
 }
 
-/// What is printed of a row of this kind and value.
-fn text_of(alloc: Global, kind: &str, value: &str) -> Result<String, AllocError> {
-    if kind == "time" {
-        return match value.parse::<u64>() {
-            Ok(filetime) => time(alloc, filetime),
-            Err(_) => String::from_str(alloc, "no number"),
-        };
-    }
-    match hex::decode(alloc, value) {
-        Ok(octets) => {
-            if kind == "sid" {
-                sid(alloc, &octets)
-            } else {
-                name(alloc, &octets)
-            }
-        }
-        Err(_) => String::from_str(alloc, "no digits"),
-    }
-}
-
 /// What is printed of a row.
-pub(crate) fn answer(alloc: Global, row: &str) -> Result<String, AllocError> {
-    let mut columns = row.split('\t');
-    let (Some(kind), Some(value)) = (columns.next(), columns.next()) else {
-        return String::from_str(alloc, "no row\n");
+pub(crate) fn answer(alloc: Global, mut columns: Columns<'_>) -> Result<String, RowError> {
+    let kind = columns.text()?;
+    let text = match kind {
+        "time" => time(alloc, columns.number::<u64>()?)?,
+        "sid" => sid(alloc, &columns.octets(alloc)?)?,
+        "name" => name(alloc, &columns.octets(alloc)?)?,
+        _ => return Err(RowError::NoColumn),
     };
-    let mut text = text_of(alloc, kind, value)?;
-    text.push('\n')?;
-    Ok(text)
+    Ok(format!(in alloc; "{text}\n")?)
 }

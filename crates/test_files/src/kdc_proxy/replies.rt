@@ -68,8 +68,7 @@ pub(crate) fn replied(alloc: Global, datagram: &[u8]) -> Result<String, AllocErr
 }
 
 /// The line of `is_whole`.
-pub(crate) fn is_there(alloc: Global, octets: &[u8], limit: &str) -> Result<String, AllocError> {
-    let limit = limit.parse().unwrap_or(0);
+pub(crate) fn is_there(alloc: Global, octets: &[u8], limit: usize) -> Result<String, AllocError> {
     let answer = match is_whole(octets, limit) {
         Whole::Yes => "yes",
         Whole::NotYet => "not yet",

@@ -1,6 +1,5 @@
 //! Requests, as lines.
 
-use crate::kdc_proxy::octets_of;
 use krb_der::IntegerAsn1;
 use krb_kdc_proxy::{
     LenientRequest, ProxyError, ProxyRequest, Service, read_request, read_request_lenient,
@@ -106,19 +105,24 @@ fn domain_of(alloc: Global, text: &str) -> Result<KerberosStringAsn1, ProxyError
     }
 }
 
-/// The hint whose content octets are these digits, if any are given.
-fn hint_of(alloc: Global, digits: &str) -> Result<Option<IntegerAsn1>, ProxyError> {
-    if digits.is_empty() {
+/// The hint of these content octets; none of none.
+fn hint_of(alloc: Global, content: &[u8]) -> Result<Option<IntegerAsn1>, ProxyError> {
+    if content.is_empty() {
         return Ok(None);
     }
-    match IntegerAsn1::from_bytes_be_signed(alloc, octets_of(alloc, digits)?) {
+    match IntegerAsn1::from_bytes_be_signed(alloc, Vec::from_slice(alloc, content)?) {
         Ok(hint) => Ok(Some(hint)),
         Err(_) => Err(ProxyError::OutOfMemory),
     }
 }
 
 /// What is posted.
-fn posting(alloc: Global, message: &[u8], domain: &str, hint: &str) -> Result<Vec<u8>, ProxyError> {
+fn posting(
+    alloc: Global,
+    message: &[u8],
+    domain: &str,
+    hint: &[u8],
+) -> Result<Vec<u8>, ProxyError> {
     let domain = domain_of(alloc, domain)?;
     let hint = hint_of(alloc, hint)?;
     write_request(alloc, message, domain, hint)
@@ -137,7 +141,7 @@ pub(crate) fn posted(
     alloc: Global,
     message: &[u8],
     domain: &str,
-    hint: &str,
+    hint: &[u8],
 ) -> Result<String, AllocError> {
     match posting(alloc, message, domain, hint) {
         Ok(octets) => {
