@@ -1,22 +1,22 @@
 //! Shows what is told of the checksums of PACs in tickets that another program made, signed and sealed.
 //!
-//! A row is an origin, keys, a word and more columns, with tabs between.
-//! Keys are `SUITE:OCTETS:NAME` with `|` between, or `-` for none.
+//! A row is an origin, keys with `|` between (`keys_of`), a word and more columns.
 //!
-//! Behind `show` stand the octets of a message in hexadecimal digits. The program prints a line of the origin, and of the page's text the lines
-//! that tell of checksums.
+//! Behind `show` stand the octets of a message. The program prints a line of the origin, and of the page's text the lines that tell
+//! of checksums.
 //!
-//! Behind `flips` stand the octets of a ticket up to its ciphertext, the suite and the octets of the key that seals it, the part that it seals, and
-//! where in it a PAC begins and how many octets it has. For each bit of the PAC the program seals the part with this bit flipped, and prints what
-//! is told of it, and of how many bits in a row.
+//! Behind `flips` stand the octets of a ticket up to its ciphertext, the suite and the octets of the key that seals it, the part
+//! that it seals, and where in it a PAC begins and how many octets it has. For each bit of the PAC the program seals the part with
+//! this bit flipped, and prints what is told of it, and of how many bits in a row.
 
+use crate::keys_of::{keys_of, suite_of};
+use krb_crypto::Cipher;
 use krb_crypto::prepared::SealingKey;
-use krb_crypto::{Cipher, CipherSuite};
 use krb_show::text_of_page;
 use krb_show_checksums::page_with_checked;
 use krb_show_messages::page_of_message;
-use krb_show_opened::Key;
 use std::alloc::{AllocError, Global};
+use test_rows::{Columns, RowError};
 
 /// The words that the lines which tell of checksums begin with.
 const WORDS: [&str; 6] = [
@@ -28,49 +28,13 @@ const WORDS: [&str; 6] = [
     "unread:",
 ];
 
-/// The suite of a number.
-fn suite_of(column: &str) -> Option<CipherSuite> {
-    CipherSuite::try_from(column.parse::<usize>().ok()?).ok()
-}
-
-/// The key of a column.
-fn key_of(alloc: Global, column: &str) -> Result<Option<Key>, AllocError> {
-    let mut parts = column.splitn(3, ':');
-    let (Some(number), Some(digits), Some(name)) = (parts.next(), parts.next(), parts.next()) else {
-        return Ok(None);
-    };
-    let Some(suite) = suite_of(number) else {
-        return Ok(None);
-    };
-    let Ok(octets) = hex::decode(alloc, digits) else {
-        return Ok(None);
-    };
-    let name = Vec::from_slice(alloc, name.as_bytes())?;
-    Ok(Some(Key {
-        suite,
-        octets,
-        name,
-    }))
-}
-
-/// The keys of a column.
-fn keys_of(alloc: Global, column: &str) -> Result<Vec<Key>, AllocError> {
-    let mut keys = Vec::new(alloc);
-    for word in column.split('|') {
-        if let Some(key) = key_of(alloc, word)? {
-            keys.push(key)?;
-        }
-    }
-    Ok(keys)
-}
-
 /// The text of the page of a message with what is told of it under keys.
-fn text_of(alloc: Global, keys: &str, octets: &[u8]) -> Result<String, AllocError> {
+fn text_of(alloc: Global, keys: &str, octets: &[u8]) -> Result<String, RowError> {
     let Ok(page) = page_of_message(alloc, octets) else {
-        return String::from_str(alloc, "no message\n");
+        return Ok(String::from_str(alloc, "no message\n")?);
     };
-    let page = page_with_checked(alloc, keys_of(alloc, keys)?, page)?;
-    text_of_page(alloc, &page)
+    let page = page_with_checked(alloc, keys_of(alloc, keys, '|')?, page)?;
+    Ok(text_of_page(alloc, &page)?)
 }
 
 /// Whether a line tells of a checksum.
@@ -85,7 +49,7 @@ fn tells(line: &str) -> bool {
 }
 
 /// The lines that tell of checksums.
-fn shown(alloc: Global, keys: &str, octets: &[u8]) -> Result<String, AllocError> {
+fn shown(alloc: Global, keys: &str, octets: &[u8]) -> Result<String, RowError> {
     let text = text_of(alloc, keys, octets)?;
     let mut lines = String::new(alloc);
     for line in text.as_str().lines() {
@@ -101,7 +65,7 @@ fn shown(alloc: Global, keys: &str, octets: &[u8]) -> Result<String, AllocError>
 }
 
 /// The same in one line, with a blank between.
-fn shown_in_line(alloc: Global, keys: &str, octets: &[u8]) -> Result<String, AllocError> {
+fn shown_in_line(alloc: Global, keys: &str, octets: &[u8]) -> Result<String, RowError> {
     let text = text_of(alloc, keys, octets)?;
     let mut joined = String::new(alloc);
     for line in text.as_str().lines() {
@@ -172,7 +136,7 @@ fn flipped(
     mut sealed: Sealed,
     begin: usize,
     end: usize,
-) -> Result<String, AllocError> {
+) -> Result<String, RowError> {
     let mut runs = Runs {
         lines: String::new(alloc),
         last: String::new(alloc),
@@ -193,60 +157,27 @@ fn flipped(
     Ok(runs.lines)
 }
 
-/// The part of columns, and how it is sealed.
-fn sealed_of(
-    alloc: Global,
-    front: &str,
-    suite: &str,
-    key: &str,
-    plain: &str,
-) -> Result<Option<Sealed>, AllocError> {
-    let (Ok(front), Ok(key), Ok(plain)) = (
-        hex::decode(alloc, front),
-        hex::decode(alloc, key),
-        hex::decode(alloc, plain),
-    ) else {
-        return Ok(None);
-    };
-    let Some(suite) = suite_of(suite) else {
-        return Ok(None);
-    };
-    match SealingKey::new(&suite, &key, 2) {
-        Ok(key) => Ok(Some(Sealed { front, key, plain })),
-        Err(_error) => Ok(None),
-    }
-}
-
 /// What is printed of the columns behind `flips`.
-fn flips(alloc: Global, keys: &str, columns: &[&str]) -> Result<String, AllocError> {
-    let [front, suite, key, plain, begin, size] = columns else {
-        return String::from_str(alloc, "no row\n");
+fn flips(alloc: Global, keys: &str, mut columns: Columns<'_>) -> Result<String, RowError> {
+    let front = columns.octets(alloc)?;
+    let suite = suite_of(columns.text()?)?;
+    let key = columns.octets(alloc)?;
+    let plain = columns.octets(alloc)?;
+    let (begin, size) = (columns.number::<usize>()?, columns.number::<usize>()?);
+    let Ok(key) = SealingKey::new(&suite, &key, 2) else {
+        return Err(RowError::NoDigits);
     };
-    let (Ok(begin), Ok(size)) = (begin.parse::<usize>(), size.parse::<usize>()) else {
-        return String::from_str(alloc, "no numbers\n");
-    };
-    match sealed_of(alloc, front, suite, key, plain)? {
-        Some(sealed) => flipped(alloc, keys, sealed, begin, begin.saturating_add(size)),
-        None => String::from_str(alloc, "no part\n"),
-    }
+    let sealed = Sealed { front, key, plain };
+    flipped(alloc, keys, sealed, begin, begin.saturating_add(size))
 }
 
 /// What is printed of a row.
-pub(crate) fn answer(alloc: Global, row: &str) -> Result<String, AllocError> {
-    let mut columns = Vec::new(alloc);
-    for column in row.split('\t') {
-        columns.push(column)?;
-    }
-    let text = match columns.as_slice() {
-        [_, keys, "show", digits] => match hex::decode(alloc, digits) {
-            Ok(octets) => shown(alloc, keys, &octets)?,
-            Err(_) => String::from_str(alloc, "no digits\n")?,
-        },
-        [_, keys, "flips", rest @ ..] => flips(alloc, keys, rest)?,
-        _ => String::from_str(alloc, "no row\n")?,
+pub(crate) fn answer(alloc: Global, mut columns: Columns<'_>) -> Result<String, RowError> {
+    let (origin, keys) = (columns.text()?, columns.text()?);
+    let text = match columns.text()? {
+        "show" => shown(alloc, keys, &columns.octets(alloc)?)?,
+        "flips" => flips(alloc, keys, columns)?,
+        _ => return Err(RowError::NoColumn),
     };
-    match columns.first() {
-        Some(origin) => format!(in alloc; "{origin}\n{text}"),
-        None => Ok(text),
-    }
+    Ok(format!(in alloc; "{origin}\n{text}")?)
 }

@@ -1,12 +1,13 @@
 //! Shows keytabs and credential caches that come from outside this library.
 //!
-//! A row is a line of an origin, `keytab` or `ccache`, and octets in hexadecimal digits, with tabs between. For each row it prints a line of the origin and the kind, the page's text and its JSON, or
-//! the error.
+//! A row is an origin, `keytab` or `ccache`, and octets. For each row it prints a line of the origin and the kind, the page's text
+//! and its JSON, or the error.
 
-use krb_show::{Page, json_of_page, text_of_page};
+use crate::pages::printed;
+use krb_show::Page;
 use krb_show_files::{FilePageError, page_of_ccache, page_of_keytab};
 use std::alloc::{AllocError, Global};
-use std::io;
+use test_rows::{Columns, RowError};
 
 /// The page of octets of a kind.
 fn page_of(alloc: Global, kind: &str, octets: &[u8]) -> Result<Page, FilePageError> {
@@ -14,13 +15,6 @@ fn page_of(alloc: Global, kind: &str, octets: &[u8]) -> Result<Page, FilePageErr
         return page_of_keytab(alloc, octets);
     }
     page_of_ccache(alloc, octets)
-}
-
-/// What is printed of a page.
-fn printed(alloc: Global, page: &Page) -> Result<String, AllocError> {
-    let text = text_of_page(alloc, page)?;
-    let json = json_of_page(alloc, page)?;
-    format!(in alloc; "{text}{json}")
 }
 
 /// What is printed of octets of a kind.
@@ -33,17 +27,9 @@ fn shown(alloc: Global, kind: &str, octets: &[u8]) -> Result<String, AllocError>
 }
 
 /// What is printed of a row.
-pub(crate) fn answer(alloc: Global, row: &str) -> io::Result<String> {
-    let mut columns = row.split('\t');
-    let (Some(origin), Some(kind), Some(digits)) = (columns.next(), columns.next(), columns.next())
-    else {
-        return Ok(String::from_str(alloc, "no row\n")?);
-    };
-    match hex::decode(alloc, digits) {
-        Ok(octets) => {
-            let text = shown(alloc, kind, &octets)?;
-            Ok(format!(in alloc; "{origin} {kind}\n{text}")?)
-        }
-        Err(_) => Ok(String::from_str(alloc, "no digits\n")?),
-    }
+pub(crate) fn answer(alloc: Global, mut columns: Columns<'_>) -> Result<String, RowError> {
+    let (origin, kind) = (columns.text()?, columns.text()?);
+    let octets = columns.octets(alloc)?;
+    let text = shown(alloc, kind, &octets)?;
+    Ok(format!(in alloc; "{origin} {kind}\n{text}")?)
 }

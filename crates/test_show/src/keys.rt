@@ -1,11 +1,11 @@
 //! Keys from texts, keytabs and passwords, and pages without keys.
 //!
-//! A row is a line of a word and its octets, with a tab between: `key` and a text, `keytab` and a keytab in
-//! hexadecimal digits, `hidden` and such a keytab, whose page is then shown without keys, `message` and a message in hexadecimal digits, whose page
-//! is too; `password`, a password, a tab and a message in hexadecimal digits, whose salts give its keys.
-//! For each row it prints the keys, or the page's text and, of a keytab, its JSON, or the error.
+//! A row is a word and more columns: `key` and a text, `keytab` and a keytab, `hidden` and a keytab, whose page is then shown
+//! without keys, `message` and a message, whose page is too; `password`, a password and a message, whose salts give its keys. For
+//! each row it prints the keys, or the page's text and, of a keytab, its JSON, or the error.
 
-use krb_show::{json_of_page, text_of_page};
+use crate::pages::printed;
+use krb_show::text_of_page;
 use krb_show_files::page_of_keytab;
 use krb_show_keys::{
     KeytabKeysError, key_of_text, keys_of_keytab, keys_of_passwords, without_keys,
@@ -13,7 +13,7 @@ use krb_show_keys::{
 use krb_show_messages::page_of_message;
 use krb_show_opened::Key;
 use std::alloc::{AllocError, Global};
-use std::io;
+use test_rows::{Columns, RowError};
 
 /// The line of a key.
 fn line_of(alloc: Global, key: &Key) -> Result<String, AllocError> {
@@ -53,9 +53,7 @@ fn hidden(alloc: Global, octets: &[u8]) -> Result<String, AllocError> {
     match page_of_keytab(alloc, octets) {
         Ok(page) => {
             let page = without_keys(alloc, page)?;
-            let text = text_of_page(alloc, &page)?;
-            let json = json_of_page(alloc, &page)?;
-            format!(in alloc; "{text}{json}")
+            printed(alloc, &page)
         }
         Err(_) => String::from_str(alloc, "no page\n"),
     }
@@ -73,14 +71,8 @@ fn message(alloc: Global, octets: &[u8]) -> Result<String, AllocError> {
 }
 
 /// What is printed of the keys that a password gives with the salts of a message.
-fn password(alloc: Global, row: &str) -> Result<String, AllocError> {
-    let Some((password, digits)) = row.split_once('\t') else {
-        return String::from_str(alloc, "no row\n");
-    };
-    let Ok(octets) = hex::decode(alloc, digits) else {
-        return String::from_str(alloc, "no digits\n");
-    };
-    let Ok(page) = page_of_message(alloc, &octets) else {
+fn password(alloc: Global, password: &str, octets: &[u8]) -> Result<String, AllocError> {
+    let Ok(page) = page_of_message(alloc, octets) else {
         return String::from_str(alloc, "no page\n");
     };
     let mut passwords = Vec::new(alloc);
@@ -98,26 +90,15 @@ fn password(alloc: Global, row: &str) -> Result<String, AllocError> {
 }
 
 /// What is printed of a row.
-pub(crate) fn answer(alloc: Global, row: &str) -> io::Result<String> {
-    let Some((kind, rest)) = row.split_once('\t') else {
-        return Ok(String::from_str(alloc, "no row\n")?);
+pub(crate) fn answer(alloc: Global, mut columns: Columns<'_>) -> Result<String, RowError> {
+    let kind = columns.text()?;
+    let text = match kind {
+        "key" => key(alloc, columns.text()?)?,
+        "password" => password(alloc, columns.text()?, &columns.octets(alloc)?)?,
+        "keytab" => keytab(alloc, &columns.octets(alloc)?)?,
+        "message" => message(alloc, &columns.octets(alloc)?)?,
+        "hidden" => hidden(alloc, &columns.octets(alloc)?)?,
+        _ => return Err(RowError::NoColumn),
     };
-    if kind == "key" {
-        return Ok(key(alloc, rest)?);
-    }
-    if kind == "password" {
-        return Ok(password(alloc, rest)?);
-    }
-    match hex::decode(alloc, rest) {
-        Ok(octets) => {
-            if kind == "keytab" {
-                Ok(keytab(alloc, &octets)?)
-            } else if kind == "message" {
-                Ok(message(alloc, &octets)?)
-            } else {
-                Ok(hidden(alloc, &octets)?)
-            }
-        }
-        Err(_) => Ok(String::from_str(alloc, "no digits\n")?),
-    }
+    Ok(text)
 }

@@ -1,37 +1,40 @@
 //! The program `test_show`: shows octets that come from outside this library.
 //!
-//! Its standard input is tables of test vectors (`tables`). A line `== NAME` begins a table, a line that
-//! begins with `#` is a comment, and each other line is a row: columns with tabs between, octets in
-//! hexadecimal digits. The module of a table says what its rows are and what is printed of each.
+//! Its standard input is tables of test vectors (`test_rows`). The module of a table says what its rows are and what is printed of
+//! each.
 #![tactic(auto)]
 
 mod checksums;
 mod files;
 mod keys;
+mod keys_of;
 mod opened;
 mod pac;
 mod pages;
-mod tables;
 
+use std::alloc::Global;
 use std::io;
-use std::io::{BufRead, BufReader};
-use tables::Table;
+use std::process::ExitCode;
+use test_rows::{Columns, Report, RowError, Tables, report_rows};
 
-fn main(rt: HostRuntime) -> io::Result<()> {
-    let alloc = rt.alloc();
-    let mut table = Table::Pages;
-    for line in BufReader::new(alloc, rt.reader())?.lines(alloc) {
-        let line = line?;
-        if line.starts_with('#') {
-            continue;
-        }
-        match line.strip_prefix("== ") {
-            Some(name) => table = Table::named(name),
-            None => {
-                let text = table.answer(alloc, line.as_str())?;
-                print!(rt; "{text}")?;
-            }
-        }
+/// The tables of this program.
+struct Shown;
+
+impl Tables for Shown {
+    fn report_of(alloc: Global, table: &str, columns: Columns<'_>) -> Result<Report, RowError> {
+        let text = match table {
+            "pages" => pages::answer(alloc, columns)?,
+            "files" => files::answer(alloc, columns)?,
+            "opened" => opened::answer(alloc, columns)?,
+            "checksums" => checksums::answer(alloc, columns)?,
+            "keys" => keys::answer(alloc, columns)?,
+            "pac" => pac::answer(alloc, columns)?,
+            _ => return Err(RowError::NoTable),
+        };
+        Ok(Report::of(text))
     }
-    Ok(())
+}
+
+fn main(rt: HostRuntime) -> io::Result<ExitCode> {
+    report_rows::<Shown>(&rt)
 }

@@ -1,9 +1,9 @@
 //! Shows octets that come from outside this library.
 //!
-//! A row is a line of an origin, a type and octets in hexadecimal digits, with tabs between. The octets are of the kind that the type names, of a token of the GSS-API where the type begins with
-//! `token: `, and else of the message or the opened part that their first octet names. For each row it prints a line of the origin
-//! and the type, the page's text and its JSON, or the error. Where the type is `told` the octets are of the kind that they begin as: behind the
-//! line stands the name of this kind, or `none`, and an error is the reason that it gives.
+//! A row is an origin, a type and octets. The octets are of the kind that the type names, of a token of the GSS-API where the type
+//! begins with `token: `, and else of the message or the opened part that their first octet names. For each row it prints a line of
+//! the origin and the type, the page's text and its JSON, or the error. Where the type is `told` the octets are of the kind that
+//! they begin as: behind the line stands the name of this kind, or `none`, and an error is the reason that it gives.
 
 use krb_pac::PacError;
 use krb_show::{Page, json_of_page, text_of_page};
@@ -11,7 +11,7 @@ use krb_show_any::{
     Everything, Kind, PageError, Pages, kind_of_name, kind_of_octets, name_of_kind,
 };
 use std::alloc::{AllocError, Global};
-use std::io;
+use test_rows::{Columns, RowError};
 
 /// The kind of a row's octets.
 fn kind_of(name: &str, octets: &[u8]) -> Kind {
@@ -25,8 +25,8 @@ fn kind_of(name: &str, octets: &[u8]) -> Kind {
     kind_of_name(name).unwrap_or(Kind::Application(first))
 }
 
-/// What is printed of a page.
-fn printed(alloc: Global, page: &Page) -> Result<String, AllocError> {
+/// What is printed of a page: its text and its JSON.
+pub(crate) fn printed(alloc: Global, page: &Page) -> Result<String, AllocError> {
     let text = text_of_page(alloc, page)?;
     let json = json_of_page(alloc, page)?;
     format!(in alloc; "{text}{json}")
@@ -72,17 +72,9 @@ fn shown(alloc: Global, name: &str, octets: &[u8]) -> Result<String, AllocError>
 }
 
 /// What is printed of a row.
-pub(crate) fn answer(alloc: Global, row: &str) -> io::Result<String> {
-    let mut columns = row.split('\t');
-    let (Some(origin), Some(name), Some(digits)) = (columns.next(), columns.next(), columns.next())
-    else {
-        return Ok(String::from_str(alloc, "no row\n")?);
-    };
-    match hex::decode(alloc, digits) {
-        Ok(octets) => {
-            let text = shown(alloc, name, &octets)?;
-            Ok(format!(in alloc; "{origin} {name}\n{text}")?)
-        }
-        Err(_) => Ok(String::from_str(alloc, "no digits\n")?),
-    }
+pub(crate) fn answer(alloc: Global, mut columns: Columns<'_>) -> Result<String, RowError> {
+    let (origin, name) = (columns.text()?, columns.text()?);
+    let octets = columns.octets(alloc)?;
+    let text = shown(alloc, name, &octets)?;
+    Ok(format!(in alloc; "{origin} {name}\n{text}")?)
 }
