@@ -1,9 +1,8 @@
 //! The calls of the library for C over rows that come from outside this library (the RFCs, MIT's tests, libkrb5), and
 //! those that are refused.
 //!
-//! A row is a line of a call, a number, a key, a usage, what stands beside, an input, a status and an answer, with
-//! tabs between; octets are in hexadecimal digits. For each row it prints the call, the number,
-//! the status and the answer; those of `encrypt` and `decrypt` twice, the second time under a kept key.
+//! A row is a call, a number, a key, a usage, what stands beside, an input, a status and an answer. For each row it prints the call,
+//! the number, the status and the answer; those of `encrypt` and `decrypt` twice, the second time under a kept key.
 
 mod calls;
 mod row;
@@ -11,13 +10,11 @@ mod row;
 use crate::c_calls::calls::answer_of;
 use crate::c_calls::row::Row;
 use std::alloc::Global;
-use std::io;
+use test_rows::{Columns, RowError};
 
-/// What is printed of a line.
-pub(crate) fn answer(alloc: Global, line: &str) -> io::Result<String> {
-    let Some(row) = Row::read(alloc, line)? else {
-        return Ok(String::from_str(alloc, "no row\n")?);
-    };
+/// What is printed of a row.
+pub(crate) fn answer(alloc: Global, columns: Columns<'_>) -> Result<String, RowError> {
+    let row = Row::read(alloc, columns)?;
     let text = answer_of(alloc, &row, row.call)?;
     let kept = match row.call {
         "encrypt" => answer_of(alloc, &row, "encrypt_kept")?,

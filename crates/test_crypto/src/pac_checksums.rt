@@ -1,16 +1,15 @@
 //! Verifies the checksums of real PACs, and of each of these with one bit flipped.
 //!
-//! A row is a line of an origin, and a key, a PAC and what its ticket's checksum is to be over, in hexadecimal
-//! digits, with tabs between. For each row it prints the origin, what is known of the
-//! checksums of the server, of the KDC and of the whole PAC under this key, whether one call answers the same; the types of the four checksums,
-//! and what is known of the ticket's over these octets and over others; and of how many PACs that differ from this one in one bit the server's
-//! checksum holds, and all that are there.
+//! A row is an origin, a key, a PAC and what its ticket's checksum is to be over. For each row it prints the origin, what is known of
+//! the checksums of the server, of the KDC and of the whole PAC under this key, whether one call answers the same; the types of the
+//! four checksums, and what is known of the ticket's over these octets and over others; and of how many PACs that differ from this
+//! one in one bit the server's checksum holds, and all that are there.
 
 use krb_pac_signatures::{
     PacSignatures, Verdict, full_verdict, kdc_verdict, server_verdict, ticket_verdict, verdicts,
 };
 use std::alloc::{AllocError, Global};
-use std::io;
+use test_rows::{Columns, RowError};
 
 /// What is known of the three checksums.
 #[derive(Drop)]
@@ -130,25 +129,10 @@ fn text_of(alloc: Global, key: &[u8], octets: &[u8], message: &[u8]) -> Result<S
 }
 
 /// What is printed of a row.
-pub(crate) fn answer(alloc: Global, line: &str) -> io::Result<String> {
-    let mut columns = line.split('\t');
-    let (Some(origin), Some(key), Some(digits), Some(message)) = (
-        columns.next(),
-        columns.next(),
-        columns.next(),
-        columns.next(),
-    ) else {
-        return Ok(String::from_str(alloc, "no row\n")?);
-    };
-    match (
-        hex::decode(alloc, key),
-        hex::decode(alloc, digits),
-        hex::decode(alloc, message),
-    ) {
-        (Ok(key), Ok(octets), Ok(message)) => {
-            let text = text_of(alloc, &key, &octets, &message)?;
-            Ok(format!(in alloc; "{origin}\n{text}")?)
-        }
-        _ => Ok(String::from_str(alloc, "no digits\n")?),
-    }
+pub(crate) fn answer(alloc: Global, mut columns: Columns<'_>) -> Result<String, RowError> {
+    let origin = columns.text()?;
+    let key = columns.octets(alloc)?;
+    let octets = columns.octets(alloc)?;
+    let text = text_of(alloc, &key, &octets, &columns.octets(alloc)?)?;
+    Ok(format!(in alloc; "{origin}\n{text}")?)
 }

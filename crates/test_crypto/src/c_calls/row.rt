@@ -1,6 +1,7 @@
 //! A row of the table.
 
-use std::alloc::{AllocError, Global};
+use std::alloc::Global;
+use test_rows::{Columns, RowError, octets_of};
 
 /// A call, and what it is given. A size of octets stands in the place of the input where the call is given one.
 #[derive(Drop)]
@@ -21,39 +22,25 @@ pub(crate) struct Row<'a> {
     pub(crate) count: usize,
 }
 
-/// The octets of these digits; none, where they are no digits.
-fn octets(alloc: Global, digits: Option<&str>) -> Result<Vec<u8>, AllocError> {
-    match hex::decode(alloc, digits.unwrap_or("")) {
-        Ok(octets) => Ok(octets),
-        Err(_) => Ok(Vec::new(alloc)),
-    }
-}
-
-/// The number of these digits; 0, where they are none.
-fn number(digits: Option<&str>) -> i32 {
-    digits.unwrap_or("").parse().unwrap_or(0)
-}
-
 impl<'a> Row<'a> {
-    /// The row of a line; none of an empty one.
-    pub(crate) fn read(alloc: Global, line: &'a str) -> Result<Option<Row<'a>>, AllocError> {
-        let mut columns = line.split('\t');
-        let Some(call) = columns.next() else {
-            return Ok(None);
-        };
-        let number_of_call = number(columns.next());
-        let key = octets(alloc, columns.next())?;
-        let usage = number(columns.next());
-        let beside = octets(alloc, columns.next())?;
-        let last = columns.next();
-        Ok(Some(Row {
+    /// The row of these columns. A usage that is not there is 0, and so is a count; an input that is a count has no octets.
+    pub(crate) fn read(alloc: Global, mut columns: Columns<'a>) -> Result<Row<'a>, RowError> {
+        let call = columns.text()?;
+        let number = columns.number()?;
+        let key = columns.octets(alloc)?;
+        let usage = columns.text()?.parse().unwrap_or(0);
+        let beside = columns.octets(alloc)?;
+        let input = columns.text()?;
+        let count = input.parse().unwrap_or(0);
+        let digits = if call == "encrypted_size" { "" } else { input };
+        Ok(Row {
             call,
-            number: number_of_call,
+            number,
             key,
             usage,
             beside,
-            input: octets(alloc, last)?,
-            count: last.unwrap_or("").parse().unwrap_or(0),
-        }))
+            input: octets_of(alloc, digits)?,
+            count,
+        })
     }
 }

@@ -1,6 +1,7 @@
 //! A row of the table.
 
-use std::alloc::{AllocError, Global};
+use std::alloc::Global;
+use test_rows::{Columns, RowError};
 
 /// A token, and what it was made of.
 #[derive(Drop)]
@@ -23,35 +24,18 @@ pub(crate) struct Row<'a> {
     pub(crate) token: Vec<u8>,
 }
 
-/// The octets of these digits; none, where they are no digits.
-fn octets(alloc: Global, digits: Option<&str>) -> Result<Vec<u8>, AllocError> {
-    match hex::decode(alloc, digits.unwrap_or("")) {
-        Ok(octets) => Ok(octets),
-        Err(_) => Ok(Vec::new(alloc)),
-    }
-}
-
 impl<'a> Row<'a> {
-    /// The row of a line; a column that is not there is empty.
-    pub(crate) fn read(alloc: Global, line: &'a str) -> Result<Row<'a>, AllocError> {
-        let mut columns = line.split('\t');
-        let etype = columns.next().unwrap_or("").parse().unwrap_or(0);
-        let key = octets(alloc, columns.next())?;
-        let by_acceptor = columns.next().unwrap_or("") == "1";
-        let subkey = columns.next().unwrap_or("") == "1";
-        let number = columns.next().unwrap_or("").parse().unwrap_or(0);
-        let kind = columns.next().unwrap_or("");
-        let message = octets(alloc, columns.next())?;
-        let token = octets(alloc, columns.next())?;
+    /// The row of these columns.
+    pub(crate) fn read(alloc: Global, mut columns: Columns<'a>) -> Result<Row<'a>, RowError> {
         Ok(Row {
-            etype,
-            key,
-            by_acceptor,
-            subkey,
-            number,
-            kind,
-            message,
-            token,
+            etype: columns.number()?,
+            key: columns.octets(alloc)?,
+            by_acceptor: columns.text()? == "1",
+            subkey: columns.text()? == "1",
+            number: columns.number()?,
+            kind: columns.text()?,
+            message: columns.octets(alloc)?,
+            token: columns.octets(alloc)?,
         })
     }
 }

@@ -12,32 +12,18 @@ use crate::crypto::suites::{try_checksum, try_suite};
 use crate::crypto::sweeps::try_sweep;
 use crate::crypto::tables::try_table;
 use crate::crypto::texts::try_text;
-use std::alloc::{AllocError, Global};
+use std::alloc::Global;
+use test_rows::{Columns, RowError};
 
-/// The octets of a row.
-fn octets_of(alloc: Global, columns: &str) -> Option<(Vec<u8>, Vec<u8>, Vec<u8>)> {
-    let (key, rest) = columns.split_once('\t')?;
-    let (beside, input) = rest.split_once('\t')?;
-    let key = hex::decode(alloc, key).ok()?;
-    let beside = hex::decode(alloc, beside).ok()?;
-    let input = hex::decode(alloc, input).ok()?;
-    Some((key, beside, input))
-}
-
-/// The row that a line is.
-fn row_of(alloc: Global, line: &str) -> Option<Row<'_>> {
-    let (call, rest) = line.split_once('\t')?;
-    let (suite, rest) = rest.split_once('\t')?;
-    let (number, columns) = rest.split_once('\t')?;
-    let number = number.parse::<i32>().ok()?;
-    let (key, beside, input) = octets_of(alloc, columns)?;
-    Some(Row {
-        call,
-        suite,
-        number,
-        key,
-        beside,
-        input,
+/// The row of these columns.
+fn row_of(alloc: Global, mut columns: Columns<'_>) -> Result<Row<'_>, RowError> {
+    Ok(Row {
+        call: columns.text()?,
+        suite: columns.text()?,
+        number: columns.number()?,
+        key: columns.octets(alloc)?,
+        beside: columns.octets(alloc)?,
+        input: columns.octets(alloc)?,
     })
 }
 
@@ -85,15 +71,14 @@ fn try_row(alloc: Global, row: &Row) -> Answer {
     }
 }
 
-/// What is told of the row that a line is.
-pub fn report_of(alloc: Global, line: &str) -> Result<String, AllocError> {
-    let Some(row) = row_of(alloc, line) else {
-        return format!(in alloc; "no row: {line}");
-    };
+/// What is told of a row.
+pub fn report_of(alloc: Global, columns: Columns<'_>) -> Result<String, RowError> {
+    let row = row_of(alloc, columns)?;
     let (call, suite) = (row.call, row.suite);
-    match try_row(alloc, &row) {
-        Some(Ok(text)) => format!(in alloc; "{call} {suite}: {text}"),
-        Some(Err(rejection)) => format!(in alloc; "{call} {suite}: refused, {rejection:?}"),
-        None => format!(in alloc; "{call} {suite}: no such call"),
-    }
+    let text = match try_row(alloc, &row) {
+        Some(Ok(text)) => format!(in alloc; "{call} {suite}: {text}")?,
+        Some(Err(rejection)) => format!(in alloc; "{call} {suite}: refused, {rejection:?}")?,
+        None => format!(in alloc; "{call} {suite}: no such call")?,
+    };
+    Ok(text)
 }
