@@ -12,7 +12,7 @@
 //! encoder that shares no code with this library, or a person, made those of no options, of all options and of distinct fields.
 //! Worked test vectors are single examples of an encoding or a layout. For each test vector the program prints a line that says what
 //! holds of its octets: how it reads, copies, writes and streams the value, and how it reads each prefix of the octets (`types`,
-//! `trials`). The status is 0 where every test vector has what it should.
+//! `trials`), and whether the walk of `krb_schema` answers the same where the type has a row there (`walk`). The status is 0 where every test vector has what it should.
 #![tactic(auto)]
 
 mod devices;
@@ -22,6 +22,7 @@ mod report;
 mod row;
 mod trials;
 mod types;
+mod walk;
 
 use report::report_of;
 use std::alloc::Global;

@@ -4,6 +4,7 @@ use crate::formats::try_format;
 use crate::rejection::Rejection;
 use crate::row::{Attempt, Row, Trial};
 use crate::types::try_type;
+use crate::walk::is_walked;
 use std::alloc::Global;
 use test_rows::{Columns, Report, RowError, octets_of};
 
@@ -65,6 +66,19 @@ fn push_outcome(
     }
 }
 
+/// Appends whether the walk answers what the readers do, if the type has a row for it. Returns whether it does.
+fn push_walked(text: &mut String, row: &Row<'_>, found: &Attempt) -> Result<bool, RowError> {
+    let Some(is_walked) = is_walked(row, found)? else {
+        return Ok(true);
+    };
+    text.push_str(if is_walked {
+        ", walked"
+    } else {
+        ", not walked"
+    })?;
+    Ok(is_walked)
+}
+
 /// What the program reports of the test vector in a line. An allocation failure in any of its calls is returned as such.
 pub fn report_of(alloc: Global, table: &str, mut columns: Columns<'_>) -> Result<Report, RowError> {
     let (origin, name) = (columns.text()?, columns.text()?);
@@ -82,7 +96,11 @@ pub fn report_of(alloc: Global, table: &str, mut columns: Columns<'_>) -> Result
         unwritten,
         text: columns.text_if_any(),
     };
-    let held = push_outcome(alloc, &mut text, origin, &try_row(table, &row))?;
+    let found = try_row(table, &row);
+    let mut held = push_outcome(alloc, &mut text, origin, &found)?;
+    if table == "types" {
+        held = push_walked(&mut text, &row, &found)? && held;
+    }
     text.push_str("\n")?;
     Ok(Report { text, held })
 }
