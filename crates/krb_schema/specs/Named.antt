@@ -3,12 +3,14 @@ use Rattle.std.specs.Prelude.{◌≡◌, ◌==◌, ℕ, Bool, List, [], ◌∷�
 use Rattle.std.specs.Cmp.Lexicographic.{pointwise}
 use Rattle.krb_registry.specs.declared.kind.Kind.{Kind}
 use Rattle.krb_schema.specs.declared.shape.Field.{Field}
+use Rattle.krb_schema.specs.declared.shape.Role.{Role}
 use Rattle.krb_schema.specs.declared.shape.Schema.{Schema}
 use Rattle.krb_schema.specs.Types.{cases, fields, shapes}
 
--- a field: its first octet, whether this is an explicit tag, whether it is optional, its name, its registry and its row
-abbrev pub field_row : Field → Option ℕ × Bool × Bool × List ℕ × Option Kind × ℕ
-field_row f = (f.tag, f.wrapped, f.optional, f.name.text.now, f.name.registry, f.is)
+-- a field: its first octet, whether this is an explicit tag, whether it is optional, its name, its registry, its role
+-- and its row
+abbrev pub field_row : Field → Option ℕ × Bool × Bool × List ℕ × Option Kind × Role × ℕ
+field_row f = (f.tag, f.wrapped, f.optional, f.name.text.now, f.name.registry, f.name.role, f.is)
 
 -- the schema of the types that this library reads
 pub record IsKerberos (schema : Schema) : Type 0 where

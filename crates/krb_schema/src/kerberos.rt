@@ -4,12 +4,12 @@ ghost use Rattle.std.specs.Prelude.{◌≡◌, map};
 ghost use Rattle.krb_schema.specs.Named.{IsKerberos};
 ghost use Rattle.krb_schema.specs.Types.{types};
 
-use crate::shape::{Case, Field, Leaf, Name, Schema, Shape};
+use crate::shape::{Case, Field, Leaf, Name, Role, Schema, Shape};
 use krb_registry::Kind;
 
-/// A field: its first octet, whether this is an explicit tag, whether it is optional, its name, its registry and its row.
+/// A field: its first octet, whether this is an explicit tag, whether it is optional, its name, its registry, its role and its row.
 macro_rules! field {
-    ($tag:expr, $wrapped:expr, $optional:expr, $text:expr, $registry:expr, $is:expr) => {
+    ($tag:expr, $wrapped:expr, $optional:expr, $text:expr, $registry:expr, $role:expr, $is:expr) => {
         Field {
             tag: $tag,
             wrapped: $wrapped,
@@ -17,6 +17,7 @@ macro_rules! field {
             name: Name {
                 text: $text,
                 registry: $registry,
+                role: $role,
             },
             is: $is,
         }
@@ -26,34 +27,56 @@ macro_rules! field {
 /// A field in an explicit tag.
 macro_rules! tagged {
     ($tag:expr, $text:expr, $is:expr) => {
-        field!(Some($tag), true, false, $text, None, $is)
+        field!(Some($tag), true, false, $text, None, Role::None, $is)
     };
-    ($tag:expr, $text:expr, $is:expr, $registry:expr) => {
-        field!(Some($tag), true, false, $text, Some($registry), $is)
+    ($tag:expr, $text:expr, $is:expr, of $registry:expr) => {
+        field!(
+            Some($tag),
+            true,
+            false,
+            $text,
+            Some($registry),
+            Role::None,
+            $is
+        )
+    };
+    ($tag:expr, $text:expr, $is:expr, as $role:expr) => {
+        field!(Some($tag), true, false, $text, None, $role, $is)
     };
 }
 
 /// An optional field in an explicit tag.
 macro_rules! tagged_optional {
     ($tag:expr, $text:expr, $is:expr) => {
-        field!(Some($tag), true, true, $text, None, $is)
+        field!(Some($tag), true, true, $text, None, Role::None, $is)
     };
-    ($tag:expr, $text:expr, $is:expr, $registry:expr) => {
-        field!(Some($tag), true, true, $text, Some($registry), $is)
+    ($tag:expr, $text:expr, $is:expr, of $registry:expr) => {
+        field!(
+            Some($tag),
+            true,
+            true,
+            $text,
+            Some($registry),
+            Role::None,
+            $is
+        )
+    };
+    ($tag:expr, $text:expr, $is:expr, as $role:expr) => {
+        field!(Some($tag), true, true, $text, None, $role, $is)
     };
 }
 
 /// A field that begins with the tag of its element.
 macro_rules! bare {
     ($tag:expr, $text:expr, $is:expr) => {
-        field!($tag, false, false, $text, None, $is)
+        field!($tag, false, false, $text, None, Role::None, $is)
     };
 }
 
 /// An optional field that begins with the tag of its element.
 macro_rules! bare_optional {
     ($tag:expr, $text:expr, $is:expr) => {
-        field!($tag, false, true, $text, None, $is)
+        field!($tag, false, true, $text, None, Role::None, $is)
     };
 }
 
@@ -352,34 +375,39 @@ const NEG_TOKEN_RESP_RESPONSE_TOKEN: usize = 135;
 
 static FIELDS: [Field; 241] = [
     // PRINCIPAL_NAME
-    tagged!(0xa0, "name-type", INTEGER, Kind::NameType),
+    tagged!(0xa0, "name-type", INTEGER, of Kind::NameType),
     tagged!(0xa1, "name-string", SEQUENCE_OF_KERBEROS_STRING_COMPONENT),
     // HOST_ADDRESS
-    tagged!(0xa0, "addr-type", INTEGER, Kind::AddressType),
+    tagged!(0xa0, "addr-type", INTEGER, of Kind::AddressType),
     tagged!(0xa1, "address", OCTET_STRING),
     // AUTHORIZATION_DATA_ELEMENT
-    tagged!(0xa0, "ad-type", INTEGER, Kind::AuthorizationDataType),
-    tagged!(0xa1, "ad-data", AUTHORIZATION_DATA_ELEMENT_AD_DATA),
+    tagged!(0xa0, "ad-type", INTEGER, of Kind::AuthorizationDataType),
+    tagged!(
+        0xa1,
+        "ad-data",
+        AUTHORIZATION_DATA_ELEMENT_AD_DATA,
+        as Role::AuthorizationData
+    ),
     // AD_IF_RELEVANT_ELEMENT
-    tagged!(0xa0, "ad-type", INTEGER, Kind::AuthorizationDataType),
-    tagged!(0xa1, "ad-data", OCTET_STRING),
+    tagged!(0xa0, "ad-type", INTEGER, of Kind::AuthorizationDataType),
+    tagged!(0xa1, "ad-data", OCTET_STRING, as Role::AuthorizationData),
     // ENCRYPTED_DATA
-    tagged!(0xa0, "etype", INTEGER, Kind::EncryptionType),
+    tagged!(0xa0, "etype", INTEGER, of Kind::EncryptionType),
     tagged_optional!(0xa1, "kvno", INTEGER),
     tagged!(0xa2, "cipher", OCTET_STRING_CIPHER),
     // ENCRYPTION_KEY
-    tagged!(0xa0, "keytype", INTEGER, Kind::EncryptionType),
+    tagged!(0xa0, "keytype", INTEGER, of Kind::EncryptionType),
     tagged!(0xa1, "keyvalue", OCTET_STRING_SECRET),
     // CHECKSUM
-    tagged!(0xa0, "cksumtype", INTEGER, Kind::ChecksumType),
-    tagged!(0xa1, "checksum", OCTET_STRING),
+    tagged!(0xa0, "cksumtype", INTEGER, of Kind::ChecksumType),
+    tagged!(0xa1, "checksum", OCTET_STRING, as Role::Checksum),
     // TICKET_CONTENT
     tagged!(0xa0, "tkt-vno", INTEGER_5),
     tagged!(0xa1, "realm", REALM),
     tagged!(0xa2, "sname", PRINCIPAL_NAME),
     tagged!(0xa3, "enc-part", ENCRYPTED_DATA),
     // ENC_TICKET_PART_CONTENT
-    tagged!(0xa0, "flags", KERBEROS_FLAGS, Kind::TicketFlag),
+    tagged!(0xa0, "flags", KERBEROS_FLAGS, of Kind::TicketFlag),
     tagged!(0xa1, "key", ENCRYPTION_KEY),
     tagged!(0xa2, "crealm", REALM),
     tagged!(0xa3, "cname", PRINCIPAL_NAME),
@@ -391,16 +419,16 @@ static FIELDS: [Field; 241] = [
     tagged_optional!(0xa9, "caddr", HOST_ADDRESSES),
     tagged_optional!(0xaa, "authorization-data", AUTHORIZATION_DATA),
     // TRANSITED_ENCODING
-    tagged!(0xa0, "tr-type", INTEGER, Kind::TransitedEncodingType),
+    tagged!(0xa0, "tr-type", INTEGER, of Kind::TransitedEncodingType),
     tagged!(0xa1, "contents", OCTET_STRING),
     // PA_DATA
-    tagged!(0xa1, "padata-type", INTEGER, Kind::PaDataType),
+    tagged!(0xa1, "padata-type", INTEGER, of Kind::PaDataType),
     tagged!(0xa2, "padata-value", PA_DATA_PADATA_VALUE),
     // PA_ENC_TS_ENC
     tagged!(0xa0, "patimestamp", KERBEROS_TIME),
     tagged_optional!(0xa1, "pausec", MICROSECONDS),
     // ETYPE_INFO2_ENTRY
-    tagged!(0xa0, "etype", INTEGER, Kind::EncryptionType),
+    tagged!(0xa0, "etype", INTEGER, of Kind::EncryptionType),
     tagged_optional!(0xa1, "salt", KERBEROS_STRING),
     tagged_optional!(0xa2, "s2kparams", OCTET_STRING),
     // KERB_PA_PAC_REQUEST
@@ -409,16 +437,16 @@ static FIELDS: [Field; 241] = [
     tagged!(0xa0, "flags", KERBEROS_FLAGS),
     // KDC_REQ_AS
     tagged!(0xa1, "pvno", INTEGER_5),
-    tagged!(0xa2, "msg-type", INTEGER_10, Kind::MessageType),
+    tagged!(0xa2, "msg-type", INTEGER_10, of Kind::MessageType),
     tagged_optional!(0xa3, "padata", SEQUENCE_OF_PA_DATA),
     tagged!(0xa4, "req-body", KDC_REQ_BODY),
     // KDC_REQ_TGS
     tagged!(0xa1, "pvno", INTEGER_5),
-    tagged!(0xa2, "msg-type", INTEGER_12, Kind::MessageType),
+    tagged!(0xa2, "msg-type", INTEGER_12, of Kind::MessageType),
     tagged_optional!(0xa3, "padata", SEQUENCE_OF_PA_DATA),
     tagged!(0xa4, "req-body", KDC_REQ_BODY),
     // KDC_REQ_BODY
-    tagged!(0xa0, "kdc-options", KERBEROS_FLAGS, Kind::KdcOption),
+    tagged!(0xa0, "kdc-options", KERBEROS_FLAGS, of Kind::KdcOption),
     tagged_optional!(0xa1, "cname", PRINCIPAL_NAME),
     tagged!(0xa2, "realm", REALM),
     tagged_optional!(0xa3, "sname", PRINCIPAL_NAME),
@@ -426,13 +454,13 @@ static FIELDS: [Field; 241] = [
     tagged!(0xa5, "till", KERBEROS_TIME),
     tagged_optional!(0xa6, "rtime", KERBEROS_TIME),
     tagged!(0xa7, "nonce", INTEGER),
-    tagged!(0xa8, "etype", SEQUENCE_OF_INTEGER, Kind::EncryptionType),
+    tagged!(0xa8, "etype", SEQUENCE_OF_INTEGER, of Kind::EncryptionType),
     tagged_optional!(0xa9, "addresses", HOST_ADDRESSES),
     tagged_optional!(0xaa, "enc-authorization-data", ENCRYPTED_DATA),
     tagged_optional!(0xab, "additional-tickets", SEQUENCE_OF_TICKET),
     // KDC_REP_AS
     tagged!(0xa0, "pvno", INTEGER_5),
-    tagged!(0xa1, "msg-type", INTEGER_11, Kind::MessageType),
+    tagged!(0xa1, "msg-type", INTEGER_11, of Kind::MessageType),
     tagged_optional!(0xa2, "padata", SEQUENCE_OF_PA_DATA),
     tagged!(0xa3, "crealm", REALM),
     tagged!(0xa4, "cname", PRINCIPAL_NAME),
@@ -440,7 +468,7 @@ static FIELDS: [Field; 241] = [
     tagged!(0xa6, "enc-part", ENCRYPTED_DATA),
     // KDC_REP_TGS
     tagged!(0xa0, "pvno", INTEGER_5),
-    tagged!(0xa1, "msg-type", INTEGER_13, Kind::MessageType),
+    tagged!(0xa1, "msg-type", INTEGER_13, of Kind::MessageType),
     tagged_optional!(0xa2, "padata", SEQUENCE_OF_PA_DATA),
     tagged!(0xa3, "crealm", REALM),
     tagged!(0xa4, "cname", PRINCIPAL_NAME),
@@ -451,7 +479,7 @@ static FIELDS: [Field; 241] = [
     tagged!(0xa1, "last-req", LAST_REQ),
     tagged!(0xa2, "nonce", INTEGER),
     tagged_optional!(0xa3, "key-expiration", KERBEROS_TIME),
-    tagged!(0xa4, "flags", KERBEROS_FLAGS, Kind::TicketFlag),
+    tagged!(0xa4, "flags", KERBEROS_FLAGS, of Kind::TicketFlag),
     tagged!(0xa5, "authtime", KERBEROS_TIME),
     tagged_optional!(0xa6, "starttime", KERBEROS_TIME),
     tagged!(0xa7, "endtime", KERBEROS_TIME),
@@ -461,12 +489,12 @@ static FIELDS: [Field; 241] = [
     tagged_optional!(0xab, "caddr", HOST_ADDRESSES),
     tagged_optional!(0xac, "encrypted-pa-data", SEQUENCE_OF_PA_DATA),
     // LAST_REQ_ELEMENT
-    tagged!(0xa0, "lr-type", INTEGER, Kind::LastRequestType),
+    tagged!(0xa0, "lr-type", INTEGER, of Kind::LastRequestType),
     tagged!(0xa1, "lr-value", KERBEROS_TIME),
     // AP_REQ_CONTENT
     tagged!(0xa0, "pvno", INTEGER_5),
-    tagged!(0xa1, "msg-type", INTEGER_14, Kind::MessageType),
-    tagged!(0xa2, "ap-options", KERBEROS_FLAGS, Kind::ApOption),
+    tagged!(0xa1, "msg-type", INTEGER_14, of Kind::MessageType),
+    tagged!(0xa2, "ap-options", KERBEROS_FLAGS, of Kind::ApOption),
     tagged!(0xa3, "ticket", TICKET),
     tagged!(0xa4, "authenticator", ENCRYPTED_DATA),
     // AUTHENTICATOR_CONTENT
@@ -481,7 +509,7 @@ static FIELDS: [Field; 241] = [
     tagged_optional!(0xa8, "authorization-data", AUTHORIZATION_DATA),
     // AP_REP_CONTENT
     tagged!(0xa0, "pvno", INTEGER_5),
-    tagged!(0xa1, "msg-type", INTEGER_15, Kind::MessageType),
+    tagged!(0xa1, "msg-type", INTEGER_15, of Kind::MessageType),
     tagged!(0xa2, "enc-part", ENCRYPTED_DATA),
     // ENC_AP_REP_PART_CONTENT
     tagged!(0xa0, "ctime", KERBEROS_TIME),
@@ -490,7 +518,7 @@ static FIELDS: [Field; 241] = [
     tagged_optional!(0xa3, "seq-number", INTEGER),
     // KRB_PRIV_CONTENT
     tagged!(0xa0, "pvno", INTEGER_5),
-    tagged!(0xa1, "msg-type", INTEGER_21, Kind::MessageType),
+    tagged!(0xa1, "msg-type", INTEGER_21, of Kind::MessageType),
     tagged!(0xa3, "enc-part", ENCRYPTED_DATA),
     // ENC_KRB_PRIV_PART_CONTENT
     tagged!(0xa0, "user-data", OCTET_STRING),
@@ -501,7 +529,7 @@ static FIELDS: [Field; 241] = [
     tagged_optional!(0xa5, "r-address", HOST_ADDRESS),
     // KRB_CRED_CONTENT
     tagged!(0xa0, "pvno", INTEGER_5),
-    tagged!(0xa1, "msg-type", INTEGER_22, Kind::MessageType),
+    tagged!(0xa1, "msg-type", INTEGER_22, of Kind::MessageType),
     tagged!(0xa2, "tickets", SEQUENCE_OF_TICKET),
     tagged!(0xa3, "enc-part", ENCRYPTED_DATA),
     // ENC_KRB_CRED_PART_CONTENT
@@ -515,7 +543,7 @@ static FIELDS: [Field; 241] = [
     tagged!(0xa0, "key", ENCRYPTION_KEY),
     tagged_optional!(0xa1, "prealm", REALM),
     tagged_optional!(0xa2, "pname", PRINCIPAL_NAME),
-    tagged_optional!(0xa3, "flags", KERBEROS_FLAGS, Kind::TicketFlag),
+    tagged_optional!(0xa3, "flags", KERBEROS_FLAGS, of Kind::TicketFlag),
     tagged_optional!(0xa4, "authtime", KERBEROS_TIME),
     tagged_optional!(0xa5, "starttime", KERBEROS_TIME),
     tagged_optional!(0xa6, "endtime", KERBEROS_TIME),
@@ -525,12 +553,12 @@ static FIELDS: [Field; 241] = [
     tagged_optional!(0xaa, "caddr", HOST_ADDRESSES),
     // KRB_ERROR_CONTENT
     tagged!(0xa0, "pvno", INTEGER_5),
-    tagged!(0xa1, "msg-type", INTEGER_30, Kind::MessageType),
+    tagged!(0xa1, "msg-type", INTEGER_30, of Kind::MessageType),
     tagged_optional!(0xa2, "ctime", KERBEROS_TIME),
     tagged_optional!(0xa3, "cusec", MICROSECONDS),
     tagged!(0xa4, "stime", KERBEROS_TIME),
     tagged!(0xa5, "susec", MICROSECONDS),
-    tagged!(0xa6, "error-code", UINT32, Kind::ErrorCode),
+    tagged!(0xa6, "error-code", UINT32, of Kind::ErrorCode),
     tagged_optional!(0xa7, "crealm", REALM),
     tagged_optional!(0xa8, "cname", PRINCIPAL_NAME),
     tagged!(0xa9, "realm", REALM),
@@ -549,14 +577,14 @@ static FIELDS: [Field; 241] = [
     tagged_optional!(0xa2, "targrealm", REALM),
     // TGT_REQ
     tagged!(0xa0, "pvno", INTEGER_5),
-    tagged!(0xa1, "msg-type", INTEGER_16, Kind::MessageType),
+    tagged!(0xa1, "msg-type", INTEGER_16, of Kind::MessageType),
     tagged!(0xa2, "server-name", PRINCIPAL_NAME),
     // TGT_REP
     tagged!(0xa0, "pvno", INTEGER_5),
-    tagged!(0xa1, "msg-type", INTEGER_17, Kind::MessageType),
+    tagged!(0xa1, "msg-type", INTEGER_17, of Kind::MessageType),
     tagged!(0xa2, "ticket", TICKET),
     // KDC_PROXY_MESSAGE
-    tagged!(0xa0, "kerb-message", OCTET_STRING),
+    tagged!(0xa0, "kerb-message", OCTET_STRING, as Role::PrefixedMessage),
     tagged_optional!(0xa1, "target-domain", KERBEROS_STRING),
     tagged_optional!(0xa2, "dclocator-hint", INTEGER),
     // PKU2U_NEGO_REQ_METADATA
@@ -660,14 +688,24 @@ static FIELDS: [Field; 241] = [
     tagged!(0xa1, "credBuffer", OCTET_STRING),
     // NEG_TOKEN_INIT
     tagged_optional!(0xa0, "mechTypes", SEQUENCE_OF_OBJECT_IDENTIFIER),
-    tagged_optional!(0xa1, "reqFlags", CONTEXT_FLAGS, Kind::ContextFlag),
-    tagged_optional!(0xa2, "mechToken", NEG_TOKEN_INIT_MECH_TOKEN),
-    tagged_optional!(0xa3, "mechListMIC", OCTET_STRING),
+    tagged_optional!(0xa1, "reqFlags", CONTEXT_FLAGS, of Kind::ContextFlag),
+    tagged_optional!(
+        0xa2,
+        "mechToken",
+        NEG_TOKEN_INIT_MECH_TOKEN,
+        as Role::MechanismToken
+    ),
+    tagged_optional!(0xa3, "mechListMIC", OCTET_STRING, as Role::MechanismListMic),
     // NEG_TOKEN_RESP
-    tagged_optional!(0xa0, "negState", ANY, Kind::NegotiationState),
+    tagged_optional!(0xa0, "negState", ANY, of Kind::NegotiationState),
     tagged_optional!(0xa1, "supportedMech", OBJECT_IDENTIFIER),
-    tagged_optional!(0xa2, "responseToken", NEG_TOKEN_RESP_RESPONSE_TOKEN),
-    tagged_optional!(0xa3, "mechListMIC", OCTET_STRING),
+    tagged_optional!(
+        0xa2,
+        "responseToken",
+        NEG_TOKEN_RESP_RESPONSE_TOKEN,
+        as Role::MechanismToken
+    ),
+    tagged_optional!(0xa3, "mechListMIC", OCTET_STRING, as Role::MechanismListMic),
 ];
 
 static CASES: [Case; 20] = [

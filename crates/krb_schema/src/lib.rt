@@ -17,6 +17,6 @@ mod walk;
 pub use item::{Fault, Form, Item, Node};
 pub use laws::{items_determine_octets, one_first_fault};
 pub use named::row_named;
-pub use rules::{broken_rules, obeys};
-pub use shape::{Case, Field, Leaf, Name, Schema, Shape};
+pub use rules::{broken_rules, content_of, obeys};
+pub use shape::{Case, Field, Leaf, Name, Role, Schema, Shape};
 pub use walk::{LEVELS, items_of};

@@ -7,9 +7,9 @@ use crate::item::{Form, Item, Node};
 use crate::shape::Leaf;
 use std::alloc::{AllocError, Global};
 
-/// What stands in octets at the place of an item.
+/// The content of an item: what stands in octets at its place, as far as they go.
 #[tactic(auto, using(crate::proofs::Contents::none_behind, crate::proofs::Contents::all_taken))]
-fn content_of(octets: &[u8], item: Item) -> &[u8]
+pub fn content_of(octets: &[u8], item: Item) -> &[u8]
     ensures { result.now ≡ content_of octets.now item }
 {
     if octets.len() < item.offset {

@@ -37,6 +37,23 @@ pub enum Leaf {
     Any,
 }
 
+/// What programs do with the octets of an element that DER does not read further.
+#[derive(Clone, Copy, PartialEq, Eq, Debug)]
+pub enum Role {
+    /// Nothing.
+    None,
+    /// Authorization data of the type that the number before says: of type 128 a PAC (RFC 4120, 7.5.4; MS-PAC, 2.3).
+    AuthorizationData,
+    /// A checksum of the type that the number before says: of type 32771 that of the GSS-API (RFC 4121, 4.1.1).
+    Checksum,
+    /// A message of Kerberos behind its length in four octets (MS-KKDCP, 2.2.2; RFC 4120, 7.2.2).
+    PrefixedMessage,
+    /// A token of a mechanism of the GSS-API (RFC 4178, 4.2.1).
+    MechanismToken,
+    /// A MIC of the list of mechanisms, a token of RFC 4121, 4.2.6.1, where the mechanism is Kerberos (RFC 4178, 5).
+    MechanismListMic,
+}
+
 /// What an element is called, and what a number or the flags in it are of.
 #[derive(Clone, Copy, PartialEq, Eq, Debug)]
 pub struct Name {
@@ -44,6 +61,8 @@ pub struct Name {
     pub text: &'static str,
     /// The registry of its numbers, if they have names.
     pub registry: Option<Kind>,
+    /// What programs do with it.
+    pub role: Role,
 }
 
 /// A field of a SEQUENCE.
