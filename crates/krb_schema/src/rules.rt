@@ -7,9 +7,9 @@ use crate::item::{Form, Item, Node};
 use crate::shape::Leaf;
 use std::alloc::{AllocError, Global};
 
-/// What stands in octets at the place of an item.
+/// What stands in octets at the place of an item: its content, of octets that it is of.
 #[tactic(auto, using(crate::proofs::Contents::none_behind, crate::proofs::Contents::all_taken))]
-fn content_of(octets: &[u8], item: Item) -> &[u8]
+pub fn content_of(octets: &[u8], item: Item) -> &[u8]
     ensures { result.now ≡ content_of octets.now item }
 {
     if octets.len() < item.offset {
