@@ -1,8 +1,9 @@
 mod Beginnings
-mod Headers
-mod Walking
 mod Composing
 mod Contents
 mod Determined
-mod Refusals
 mod FirstFaults
+mod Headers
+mod Refusals
+mod Walking
+pub mod PathSizes

@@ -2,7 +2,10 @@ pub mod Faults
 pub mod Forests
 pub mod Laws
 pub mod Leaves
+pub mod NameTable
 pub mod Named
+pub mod Names
+pub mod Paths
 pub mod Rules
 pub mod Shapes
 pub mod Types

@@ -7,7 +7,7 @@ use crate::item::{Form, Item, Node};
 use crate::shape::Leaf;
 use std::alloc::{AllocError, Global};
 
-/// The content of an item: what stands in octets at its place, as far as they go.
+/// What stands in octets at the place of an item: its content, of octets that it is of.
 #[tactic(auto, using(crate::proofs::Contents::none_behind, crate::proofs::Contents::all_taken))]
 pub fn content_of(octets: &[u8], item: Item) -> &[u8]
     ensures { result.now ≡ content_of octets.now item }

@@ -1,0 +1,5 @@
+use Rattle.std.proofs.Common.{length}
+use Rattle.krb_schema.proofs.names.+type_in.Given as goal
+
+abbrev pub decreases-type_in : goal.decreases-type_in
+decreases-type_in l = length l.rows.now
