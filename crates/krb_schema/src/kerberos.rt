@@ -110,7 +110,7 @@ pub const BIT_STRING: usize = 4;
 pub const KERBEROS_FLAGS: usize = 5;
 /// OCTET STRING (X.690, 8.7).
 pub const OCTET_STRING: usize = 6;
-/// OCTET STRING (secret): the octets of a key (RFC 4120, 5.2.9).
+/// OCTET STRING (secret): the octets of a key or a password (RFC 4120, 5.2.9).
 pub const OCTET_STRING_SECRET: usize = 7;
 /// OCTET STRING (cipher): a ciphertext (RFC 4120, 5.2.9).
 pub const OCTET_STRING_CIPHER: usize = 8;
@@ -572,7 +572,7 @@ static FIELDS: [Field; 241] = [
     tagged!(0xa0, "restriction-type", INTEGER),
     tagged!(0xa1, "restriction", OCTET_STRING),
     // CHANGE_PASSWD_DATA
-    tagged!(0xa0, "newpasswd", OCTET_STRING),
+    tagged!(0xa0, "newpasswd", OCTET_STRING_SECRET),
     tagged_optional!(0xa1, "targname", PRINCIPAL_NAME),
     tagged_optional!(0xa2, "targrealm", REALM),
     // TGT_REQ
@@ -664,9 +664,9 @@ static FIELDS: [Field; 241] = [
     // TS_PASSWORD_CREDS
     tagged!(0xa0, "domainName", OCTET_STRING),
     tagged!(0xa1, "userName", OCTET_STRING),
-    tagged!(0xa2, "password", OCTET_STRING),
+    tagged!(0xa2, "password", OCTET_STRING_SECRET),
     // TS_SMART_CARD_CREDS
-    tagged!(0xa0, "pin", OCTET_STRING),
+    tagged!(0xa0, "pin", OCTET_STRING_SECRET),
     tagged!(0xa1, "cspData", TS_CSP_DATA_DETAIL),
     tagged_optional!(0xa2, "userHint", OCTET_STRING),
     tagged_optional!(0xa3, "domainHint", OCTET_STRING),

@@ -3,7 +3,7 @@
 use crate::row::{Attempt, Row};
 use krb_der::Asn1DerError;
 use krb_schema::kerberos::{kerberos, types};
-use krb_schema::{Fault, Name, items_of};
+use krb_schema::{Fault, Name, Role, items_of};
 use std::alloc::{AllocError, Global};
 
 /// The letters and digits of a text, each letter small.
@@ -67,6 +67,7 @@ pub fn is_walked(row: &Row<'_>, found: &Attempt) -> Result<Option<bool>, AllocEr
     let name = Name {
         text: "",
         registry: None,
+        role: Role::None,
     };
     match items_of(row.alloc, &kerberos(), is, name, row.octets) {
         Ok(_items) => Ok(Some(matches!(found, Some(Ok(_))))),

@@ -1,0 +1,16 @@
+//! Octets by the rows of `krb_schema`'s table as tokens: of each type of DER that the table has, one way to show it.
+#![tactic(auto)]
+
+mod formats;
+mod items;
+mod leaves;
+mod names;
+mod stand;
+
+pub use formats::{NoFormats, ShowsFormats};
+pub use items::push_items;
+pub use stand::Secrets;
+
+/// The way in which this crate shows.
+#[derive(Drop)]
+pub struct Row;
