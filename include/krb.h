@@ -37,7 +37,7 @@ extern "C" {
 #endif
 
 /* It rises where a declaration below changes its meaning, and with it the number in the shared object's name. */
-#define KRB_VERSION 0
+#define KRB_VERSION 1
 
 /* What a call answers. No number changes its meaning; new ones come behind. */
 typedef uint32_t krb_status;
@@ -45,7 +45,7 @@ enum {
     KRB_DONE = 0,            /* the answer is given; what was asked is so */
     KRB_ROOM = 1,            /* the answer has more octets than `room` */
     KRB_MEMORY = 2,          /* an allocation was refused */
-    KRB_NUMBER = 3,          /* no encryption type, checksum type, message or field of the library has this number */
+    KRB_NUMBER = 3,          /* the library has no encryption type, checksum type or message of this number, no type of this name, no such path */
     KRB_CONFOUNDER_SIZE = 4, /* the confounder has not krb_confounder_size octets */
     KRB_KEY_SIZE = 5,        /* the key has not krb_key_size, or krb_checksum_key_size, octets; of a password: see krb_string_to_key */
     KRB_SEALED_SIZE = 6,     /* the sealed octets are fewer than those of a confounder and a checksum */
@@ -62,8 +62,9 @@ enum {
     KRB_SUBKEY = 17,         /* the token's flags say that it is under another key */
     KRB_SEALED_MIC = 18,     /* a MIC token that is marked as sealed */
     KRB_SEALED_HEADER = 19,  /* what the token seals does not end in its own header */
-    KRB_ABSENT = 20,         /* there is no such field, or no item of this index */
+    KRB_ABSENT = 20,         /* there is no such field or element, or no buffer of this index */
     KRB_TOO_LARGE = 21,      /* 64 bits do not hold the number */
+    KRB_TOO_DEEP = 22,       /* more than 64 elements stand in one another */
     KRB_OTHER_VERSION = 25,  /* the version of the format is another */
     KRB_PAC_TYPE = 26,       /* a buffer of a PAC is of a number that no type has */
     KRB_PAC_RANGE = 27,      /* a buffer of a PAC names octets that are not there */
@@ -120,42 +121,6 @@ enum {
     KRB_MESSAGE_ENC_KRB_PRIV_PART = 28, /* EncKrbPrivPart (5.7.1) */
     KRB_MESSAGE_ENC_KRB_CRED_PART = 29, /* EncKrbCredPart (5.8.1) */
     KRB_MESSAGE_KRB_ERROR = 30         /* KRB-ERROR (5.9.1) */
-};
-
-/* Fields of messages and tickets (RFC 4120, 5). Where a message has no such field krb_get_.. answers KRB_ABSENT. */
-enum {
-    KRB_FIELD_REALM = 1,                    /* realm: of the server in a KDC-REQ (5.4.1) and a KRB-ERROR (5.9.1); of a ticket (5.3) */
-    KRB_FIELD_CLIENT_REALM = 2,             /* crealm: KDC-REP (5.4.2), KRB-ERROR */
-    KRB_FIELD_CLIENT_NAME = 3,              /* cname: KDC-REQ, KDC-REP, KRB-ERROR; its components by index */
-    KRB_FIELD_SERVER_NAME = 4,              /* sname: KDC-REQ, KRB-ERROR, ticket; its components by index */
-    KRB_FIELD_KDC_OPTIONS = 5,              /* kdc-options: KDC-REQ; the content of a BIT STRING (X.690, 8.6.2) */
-    KRB_FIELD_AP_OPTIONS = 6,               /* ap-options: AP-REQ (5.5.1); likewise */
-    KRB_FIELD_ETYPE = 7,                    /* etype: KDC-REQ; by index, the preferred first; a number */
-    KRB_FIELD_NONCE = 8,                    /* nonce: KDC-REQ; a number */
-    KRB_FIELD_FROM = 9,                     /* from: KDC-REQ; a time */
-    KRB_FIELD_TILL = 10,                    /* till: KDC-REQ; a time */
-    KRB_FIELD_RENEW_TILL = 11,              /* rtime: KDC-REQ; a time */
-    KRB_FIELD_CLIENT_TIME = 12,             /* ctime: KRB-ERROR; a time */
-    KRB_FIELD_CLIENT_MICROSECONDS = 13,     /* cusec: KRB-ERROR; a number */
-    KRB_FIELD_SERVER_TIME = 14,             /* stime: KRB-ERROR; a time */
-    KRB_FIELD_SERVER_MICROSECONDS = 15,     /* susec: KRB-ERROR; a number */
-    KRB_FIELD_ERROR_CODE = 16,              /* error-code: KRB-ERROR; a number */
-    KRB_FIELD_ERROR_TEXT = 17,              /* e-text: KRB-ERROR */
-    KRB_FIELD_ERROR_DATA = 18,              /* e-data: KRB-ERROR */
-    KRB_FIELD_SEALED_ETYPE = 19,            /* etype of the sealed part (5.2.9): KDC-REP, AP-REQ, AP-REP, KRB-PRIV, KRB-CRED, ticket; a number */
-    KRB_FIELD_SEALED_KVNO = 20,             /* kvno of the sealed part; a number */
-    KRB_FIELD_SEALED_CIPHER = 21,           /* cipher of the sealed part: what krb_open_.. takes */
-    KRB_FIELD_TICKET = 22,                  /* a whole ticket: KDC-REP, AP-REQ; KRB-CRED by index */
-    KRB_FIELD_TICKET_REALM = 23,            /* realm of the ticket in a KDC-REP or an AP-REQ */
-    KRB_FIELD_TICKET_SERVER_NAME = 24,      /* sname of that ticket; its components by index */
-    KRB_FIELD_TICKET_ETYPE = 25,            /* etype of that ticket's sealed part; a number */
-    KRB_FIELD_TICKET_KVNO = 26,             /* kvno of that part; a number */
-    KRB_FIELD_TICKET_CIPHER = 27,           /* cipher of that part */
-    KRB_FIELD_CLIENT_NAME_TYPE = 28,        /* name-type of cname; a number */
-    KRB_FIELD_SERVER_NAME_TYPE = 29,        /* name-type of sname; a number */
-    KRB_FIELD_TICKET_SERVER_NAME_TYPE = 30, /* name-type of the sname of the ticket in a KDC-REP or an AP-REQ; a number */
-    KRB_FIELD_DATA_TYPE = 31,               /* padata-type: KDC-REQ, KDC-REP (5.2.7); by index; a number */
-    KRB_FIELD_DATA_VALUE = 32               /* padata-value: KDC-REQ, KDC-REP; by index */
 };
 
 /* Sizes, in octets. Each is 0 where no type has the number.
@@ -286,18 +251,137 @@ krb_status krb_open_priv_part(int32_t etype, const uint8_t *key, size_t key_size
 krb_status krb_open_cred_part(int32_t etype, const uint8_t *key, size_t key_size, int32_t usage, const uint8_t *sealed,
                               size_t sealed_size, uint8_t *out, size_t room, size_t *size);
 
-/* Where a field stands in the octets of a message or a ticket (messages 1, 10 to 15, 21, 22 and 30): *offset octets before it, and *size of its
-   own, all within `octets`. By index, from 0 on, are the fields that say so; the others take any index. The octets are the content of the
-   field's element (X.690, 8.1.4): of a text and of an OCTET STRING the octets themselves; of a time YYYYMMDDHHMMSSZ; of a number its two's
-   complement. KRB_FIELD_TICKET alone hands out a whole element, which is a message again (KRB_MESSAGE_TICKET). The octets are first read as
-   krb_check reads them, so no field of a message that is not strictly DER is handed out; nothing is copied.
-   KRB_NUMBER; KRB_INVALID, KRB_TRUNCATED, KRB_UNSUPPORTED; then KRB_ABSENT; KRB_MEMORY. On each of these *offset and *size are 0. */
-krb_status krb_get_octets(int32_t message, int32_t field, size_t index, const uint8_t *octets, size_t octets_size, size_t *offset,
-                          size_t *size);
+/* Items of octets. A type is named as its standard names it: "AS-REQ", "Ticket", "EncTicketPart", "PrincipalName", "KDC-PROXY-MESSAGE", "NegTokenInit"; an
+   alternative of a CHOICE by its whole name, as "NegotiationToken (negTokenResp)". crates/krb_schema/kerberos.txt has all of them. The octets are one
+   element of the type, strictly DER, with nothing behind it; what krb_open_.. hands out is such octets as well.
 
-/* The number that such a field is.
-   KRB_NUMBER, also for a field that is no number; then those of krb_get_octets; then KRB_TOO_LARGE. On each of these *number is 0. */
-krb_status krb_get_number(int32_t message, int32_t field, size_t index, const uint8_t *octets, size_t octets_size, int64_t *number);
+   An item is an element, or where one that has elements begins or ends. It holds no octets: its content is the `size` octets of the input behind
+   `offset` others (X.690, 8.1.4): of a text and of an OCTET STRING the octets themselves; of a time YYYYMMDDHHMMSSZ; of a number its two's
+   complement; of a BIT STRING how many bits are unused and then the bits. Its fields are set by the library. */
+typedef struct krb_item {
+    size_t offset;    /* octets of the input before its content */
+    size_t size;      /* octets of its content */
+    uint32_t form;    /* KRB_ITEM_.. */
+    uint32_t kind;    /* of KRB_ITEM_LEAF KRB_LEAF_.., else KRB_NODE_.. */
+    uint32_t name;    /* the number of what its standard calls it: krb_item_name; KRB_NO_NAME where it has none */
+    int32_t registry; /* KRB_REGISTRY_.., what its number, or its flags, are of */
+    uint32_t depth;   /* how many elements it stands in */
+    uint32_t tag;     /* the octet of its tag (X.690, 8.1.2) */
+} krb_item;
+
+enum {
+    KRB_ITEM_LEAF = 1,  /* an element without elements */
+    KRB_ITEM_BEGIN = 2, /* an element with elements begins, which follow */
+    KRB_ITEM_END = 3    /* it ends */
+};
+
+enum {
+    KRB_LEAF_INTEGER = 1,      /* INTEGER */
+    KRB_LEAF_UNSIGNED = 2,     /* INTEGER from 0 to 4294967295 */
+    KRB_LEAF_NUMBER = 3,       /* INTEGER that its standard fixes to a number, as pvno; any is read */
+    KRB_LEAF_MICROSECONDS = 4, /* INTEGER from 0 to 999999; any is read */
+    KRB_LEAF_FLAGS = 5,        /* KerberosFlags, a BIT STRING */
+    KRB_LEAF_BITS = 6,         /* BIT STRING */
+    KRB_LEAF_TEXT = 7,         /* KerberosString */
+    KRB_LEAF_COMPONENT = 8,    /* KerberosString, a component of a principal's name */
+    KRB_LEAF_TIME = 9,         /* KerberosTime */
+    KRB_LEAF_OCTETS = 10,      /* OCTET STRING */
+    KRB_LEAF_SECRET = 11,      /* OCTET STRING, the octets of a key or a password */
+    KRB_LEAF_CIPHER = 12,      /* OCTET STRING, a ciphertext */
+    KRB_LEAF_TRUTH = 13,       /* BOOLEAN */
+    KRB_LEAF_IDENTIFIER = 14,  /* OBJECT IDENTIFIER */
+    KRB_LEAF_ANY = 15          /* any element, whose content is not read */
+};
+
+enum {
+    KRB_NODE_STRUCT = 1,      /* SEQUENCE */
+    KRB_NODE_LIST = 2,        /* SEQUENCE OF */
+    KRB_NODE_FILLED_LIST = 3, /* SEQUENCE OF that is to have one element or more */
+    KRB_NODE_WRAP = 4         /* what holds one element alone: an explicit tag, or an OCTET STRING */
+};
+
+/* What numbers are of. */
+enum {
+    KRB_REGISTRY_NONE = -1, /* numbers that have no names */
+    KRB_REGISTRY_ENCRYPTION_TYPE = 0,         /* RFC 3961, 8 */
+    KRB_REGISTRY_CHECKSUM_TYPE = 1,           /* RFC 3961, 8 */
+    KRB_REGISTRY_NAME_TYPE = 2,               /* RFC 4120, 6.2 */
+    KRB_REGISTRY_MESSAGE_TYPE = 3,            /* RFC 4120, 7.5.7 */
+    KRB_REGISTRY_ERROR_CODE = 4,              /* RFC 4120, 7.5.9 */
+    KRB_REGISTRY_PA_DATA_TYPE = 5,            /* RFC 4120, 7.5.2 */
+    KRB_REGISTRY_AUTHORIZATION_DATA_TYPE = 6, /* RFC 4120, 7.5.4 */
+    KRB_REGISTRY_ADDRESS_TYPE = 7,            /* RFC 4120, 7.5.3 */
+    KRB_REGISTRY_TRANSITED_ENCODING_TYPE = 8, /* RFC 4120, 7.5.5 */
+    KRB_REGISTRY_LAST_REQUEST_TYPE = 9,       /* RFC 4120, 5.4.2 */
+    KRB_REGISTRY_TICKET_FLAG = 10,            /* bits of TicketFlags, RFC 4120, 5.3 */
+    KRB_REGISTRY_KDC_OPTION = 11,             /* bits of KDCOptions, RFC 4120, 5.4.1 */
+    KRB_REGISTRY_AP_OPTION = 12,              /* bits of APOptions, RFC 4120, 5.5.1 */
+    KRB_REGISTRY_KEY_USAGE = 13,              /* RFC 4120, 7.5.1 */
+    KRB_REGISTRY_PAC_BUFFER_TYPE = 14,        /* MS-PAC, 2.4 */
+    KRB_REGISTRY_GSS_FLAG = 15,               /* RFC 4121, 4.1.1.1 */
+    KRB_REGISTRY_NEGOTIATION_STATE = 16,      /* RFC 4178, 4.2.2 */
+    KRB_REGISTRY_CONTEXT_FLAG = 17,           /* bits of ContextFlags, RFC 4178, 4.2.1 */
+    KRB_REGISTRY_TOKEN_FLAG = 18              /* RFC 4121, 4.2.2 */
+};
+
+#define KRB_NO_NAME UINT32_MAX
+
+/* All items of octets of a type, in the order of the octets.
+   KRB_DONE: they are the first *count of `items`, and those behind are as they were. KRB_ROOM: they are *count, more than `room`; `items` is as
+   it was. An element of n octets has at most n of them. Else *count is 0, and `items` is as it was: KRB_NUMBER where no type has the name; of the
+   first error of the octets from the left KRB_INVALID, KRB_TRUNCATED or KRB_UNSUPPORTED, or KRB_TOO_DEEP where more than 64 elements stand in one
+   another, and *offset octets stand before it: an error of a tag or a length is where its element begins, one of a content where the content
+   begins; KRB_MEMORY. But for the octets' errors *offset is 0. */
+krb_status krb_items(const uint8_t *type_name, size_t type_name_size, const uint8_t *octets, size_t octets_size, krb_item *items, size_t room,
+                     size_t *count, size_t *offset);
+
+/* What the standards call items of this number; of two names there are two numbers, and a name keeps its number. KRB_NUMBER: none has it. */
+krb_status krb_item_name(uint32_t number, uint8_t *out, size_t room, size_t *size);
+
+/* The item that a path leads to: names of fields as the standard spells them, `.` between, and `[n]` for element n of a list, counted from 0, as
+   "req-body.sname.name-string[1]" or "tickets[0].enc-part.cipher". A field has the item of what stands in its explicit tags. An OCTET STRING that
+   holds an element has its own, and the path goes on to the fields of what it holds: "padata[0].padata-value", "padata[0].padata-value.ticket.realm".
+   The empty path leads to the whole.
+   KRB_NUMBER where no type has the name; those of krb_items; then KRB_NUMBER of what is no path, and KRB_ABSENT where there is no such field or
+   element; KRB_MEMORY. On each of these *item is all zeros. */
+krb_status krb_find(const uint8_t *type_name, size_t type_name_size, const uint8_t *path, size_t path_size, const uint8_t *octets,
+                    size_t octets_size, krb_item *item);
+
+/* The number of the INTEGER that a path leads to.
+   Those of krb_find; then KRB_NUMBER where it is no INTEGER, KRB_TOO_LARGE where 64 bits do not hold it. On each of these *number is 0. */
+krb_status krb_find_number(const uint8_t *type_name, size_t type_name_size, const uint8_t *path, size_t path_size, const uint8_t *octets,
+                           size_t octets_size, int64_t *number);
+
+/* The same by texts that end with a NUL. They are not of the library. */
+static inline size_t krb_text_size(const char *text) {
+    size_t size = 0;
+    while (text[size] != 0) {
+        size++;
+    }
+    return size;
+}
+
+static inline krb_status krb_find_text(const char *type_name, const char *path, const uint8_t *octets, size_t octets_size, krb_item *item) {
+    return krb_find((const uint8_t *)type_name, krb_text_size(type_name), (const uint8_t *)path, krb_text_size(path), octets, octets_size, item);
+}
+
+static inline krb_status krb_find_number_text(const char *type_name, const char *path, const uint8_t *octets, size_t octets_size, int64_t *number) {
+    return krb_find_number((const uint8_t *)type_name, krb_text_size(type_name), (const uint8_t *)path, krb_text_size(path), octets, octets_size,
+                           number);
+}
+
+/* How many octets an element of these types has before a content of so many: its tag in one octet, and the length (X.690, 8.1.3). So the element of
+   an item begins krb_header_size(item.size) octets before item.offset, and what stands around it, as a ticket's [APPLICATION 1], again so before that.
+   It is not of the library. */
+static inline size_t krb_header_size(size_t content_size) {
+    size_t size = 2;
+    if (content_size >= 128) {
+        for (; content_size != 0; content_size >>= 8) {
+            size++;
+        }
+    }
+    return size;
+}
 
 /* PACs (MS-PAC 2.3 and 2.4): how many buffers there are, and buffer n, counted from 0 in the order of the entries: its type (ulType), and
    the place of its octets. Each call looks at the whole directory; buffers may share octets. No memory is taken.
@@ -329,15 +413,6 @@ krb_status krb_password_frame(const uint8_t *frame, size_t frame_size, size_t *a
    What krb_check refuses of a KRB-AP-REQ or KRB-AP-REP, then of a KRB-PRIV; then KRB_FRAME_SIZE; KRB_MEMORY. */
 krb_status krb_make_password_frame(const uint8_t *ap_message, size_t ap_message_size, const uint8_t *krb_priv, size_t krb_priv_size,
                                    uint8_t *out, size_t room, size_t *size);
-
-/* KDC-PROXY-MESSAGE (MS-KKDCP, 2.2.2), the one DER encoding of it with nothing behind it: the places of kerb-message, which begins with the four
-   octets of the message's length, and of target-domain. Where there is no target-domain both of its numbers are 0; its offset is 0 only then.
-   Of the first fault: KRB_INVALID, KRB_TRUNCATED, KRB_UNSUPPORTED; KRB_MEMORY. */
-krb_status krb_kdc_proxy_message(const uint8_t *octets, size_t octets_size, size_t *message_offset, size_t *message_size, size_t *domain_offset,
-                                 size_t *domain_size);
-
-/* Its dclocator-hint. As krb_kdc_proxy_message; then KRB_ABSENT where there is none, KRB_TOO_LARGE where 64 bits do not hold it. */
-krb_status krb_kdc_proxy_hint(const uint8_t *octets, size_t octets_size, int64_t *hint);
 
 /* The KDC-PROXY-MESSAGE of this kerb-message and this target-domain, which is left out where it has no octets; it has no dclocator-hint.
    KRB_INVALID where target-domain is not of ASCII; KRB_MEMORY. */
@@ -395,30 +470,14 @@ static inline int krb_proxy_http_status(krb_status status) {
     return status == KRB_PROXY_TOO_LARGE ? 413 : status == KRB_MEMORY ? 503 : 400;
 }
 
-/* SPNEGO (RFC 4178, 4.2). A field that is absent has the place 0 and 0; the offset of one that is there is not 0.
-
-   The token that begins a negotiation, NegTokenInit in its frame (RFC 2743, 3.1), whose mechanism is not compared: the places of mechTypes, its
-   OBJECT IDENTIFIERs one behind the other, of mechToken and of mechListMIC. reqFlags are not told.
-   And a later message, negTokenResp [1]: negState (KRB_NEG_STATE_..), and the places of the content of supportedMech's OBJECT IDENTIFIER, of
-   responseToken and of mechListMIC. On any status but KRB_DONE the state is KRB_NEG_STATE_ABSENT.
-   Where the octets are not the one DER encoding of such a message, with nothing behind it, of the first fault: KRB_INVALID, KRB_TRUNCATED,
-   KRB_UNSUPPORTED; KRB_MEMORY. */
+/* SPNEGO (RFC 4178, 4.2). Messages are read by krb_gss_token, whose inner token is a "NegotiationToken (negTokenInit)", and krb_find. */
 enum {
     KRB_NEG_STATE_ACCEPT_COMPLETED = 0,
     KRB_NEG_STATE_ACCEPT_INCOMPLETE = 1,
     KRB_NEG_STATE_REJECT = 2,
-    KRB_NEG_STATE_REQUEST_MIC = 3, /* other numbers below 128 are told as they are */
-    KRB_NEG_STATE_ABSENT = 256,
-    KRB_NEG_STATE_OTHER = 257      /* another element than an ENUMERATED in one octet below 128 */
+    KRB_NEG_STATE_REQUEST_MIC = 3,
+    KRB_NEG_STATE_ABSENT = 256
 };
-krb_status krb_neg_token_init(const uint8_t *octets, size_t octets_size, size_t *mechanisms_offset, size_t *mechanisms_size,
-                              size_t *token_offset, size_t *token_size, size_t *mic_offset, size_t *mic_size);
-krb_status krb_neg_token_resp(const uint8_t *message, size_t message_size, uint32_t *state, size_t *mechanism_offset, size_t *mechanism_size,
-                              size_t *token_offset, size_t *token_size, size_t *mic_offset, size_t *mic_size);
-
-/* Mechanism n of mechTypes, counted from 0: the place of the content of its OBJECT IDENTIFIER, as krb_neg_token_init has them one behind the other.
-   Those of krb_neg_token_init; then KRB_ABSENT where there are not so many, or no mechTypes. On each of these *offset and *size are 0. */
-krb_status krb_neg_token_init_mechanism(const uint8_t *octets, size_t octets_size, size_t n, size_t *offset, size_t *size);
 
 /* The token that begins a negotiation: of the mechanisms' OBJECT IDENTIFIERs in DER, one behind the other, of mechToken and of mechListMIC. What has
    no octets is left out, and reqFlags are.
@@ -478,7 +537,7 @@ static inline const char *krb_status_text(krb_status status) {
     case KRB_DONE: return "done";
     case KRB_ROOM: return "too little room for the answer";
     case KRB_MEMORY: return "out of memory";
-    case KRB_NUMBER: return "an unknown number";
+    case KRB_NUMBER: return "an unknown number, type or path";
     case KRB_CONFOUNDER_SIZE: return "a confounder of another size";
     case KRB_KEY_SIZE: return "a key of another size";
     case KRB_SEALED_SIZE: return "too few sealed octets";
@@ -495,8 +554,9 @@ static inline const char *krb_status_text(krb_status status) {
     case KRB_SUBKEY: return "a token under another key";
     case KRB_SEALED_MIC: return "a MIC token that is marked as sealed";
     case KRB_SEALED_HEADER: return "another header sealed in";
-    case KRB_ABSENT: return "no such field, or no item of this index";
+    case KRB_ABSENT: return "no such field or element";
     case KRB_TOO_LARGE: return "a number of more than 64 bits";
+    case KRB_TOO_DEEP: return "elements too deep in one another";
     case KRB_OTHER_VERSION: return "another version of the format";
     case KRB_PAC_TYPE: return "a buffer of an unknown type";
     case KRB_PAC_RANGE: return "a buffer of octets that are not there";

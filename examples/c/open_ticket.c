@@ -14,9 +14,8 @@
    Exit statuses: 0 if the ticket is decrypted and printed; 1 if it is not, for a reason that a line
    on standard error says; 2 if the arguments or the key file are wrong.
 
-   krb_get_number and krb_get_octets hand out fields only of octets that are the one DER encoding of
-   a Ticket. krb_open_ticket_part says that the part is the one encoding of an EncTicketPart, so the
-   walk below meets no wrong length and misses no mandatory field. */
+   krb_find and krb_find_number hand out fields by their paths, and only of octets that are one
+   element of the type, strictly DER: of the ticket, and of the part that was opened. */
 #include <inttypes.h>
 #include <krb.h>
 #include <stdio.h>
@@ -35,12 +34,6 @@ struct key {
     int32_t etype;
     uint8_t octets[LONGEST_KEY];
     size_t size;
-};
-
-struct element {
-    const uint8_t *content;
-    size_t size;
-    int tag;
 };
 
 static int stop(int status, const char *what, const char *why) {
@@ -99,71 +92,59 @@ static const char *read_key_file(const char *path, struct key *key) {
     return why != NULL ? why : read_key(line, size, key);
 }
 
-/* The element that begins here, in an encoding that was checked. */
-static struct element element_at(const uint8_t *at) {
-    struct element it = {at + 2, at[1], at[0]};
-    if (at[1] & 0x80) {
-        it.content += at[1] & 0x7f;
-        it.size = 0;
-        for (const uint8_t *octet = at + 2; octet < it.content; octet++)
-            it.size = it.size << 8 | *octet;
-    }
-    return it;
-}
-
-/* What is in the field of this number of a SEQUENCE; no octets and the tag 0 if it has none. */
-static struct element field_of(struct element sequence, int number) {
-    const struct element none = {NULL, 0, 0};
-    const uint8_t *at = sequence.content, *end = at + sequence.size;
-    while (at < end) {
-        struct element field = element_at(at);
-        if (field.tag == (0xa0 | number)) return element_at(field.content);
-        at = field.content + field.size;
-    }
-    return none;
-}
-
-static void print_text(struct element text) {
-    for (size_t n = 0; n < text.size; n++) {
-        int octet = text.content[n];
+static void print_text(const uint8_t *text, size_t size) {
+    for (size_t n = 0; n < size; n++) {
+        int octet = text[n];
         if (octet == '/' || octet == '@' || octet == '\\') printf("\\%c", octet);
         else if (octet >= 0x20 && octet <= 0x7e) putchar(octet);
         else printf("\\x%02x", (unsigned)octet);
     }
 }
 
-/* The components of a PrincipalName, with slashes between them. */
-static void print_name(struct element name) {
-    struct element components = field_of(name, 1);
-    const uint8_t *at = components.content, *end = at + components.size;
-    while (at < end) {
-        struct element component = element_at(at);
-        if (at != components.content) putchar('/');
-        print_text(component);
-        at = component.content + component.size;
+/* Prints the text that a path leads to in an EncTicketPart. */
+static krb_status print_field(const char *path, const uint8_t *part, size_t part_size) {
+    krb_item item;
+    krb_status status = krb_find_text("EncTicketPart", path, part, part_size, &item);
+    if (status == KRB_DONE) print_text(part + item.offset, item.size);
+    return status;
+}
+
+/* The components of the client's name, with slashes between them. */
+static krb_status print_name(const uint8_t *part, size_t part_size) {
+    char path[64];
+    krb_status status = KRB_DONE;
+    for (size_t n = 0; status == KRB_DONE; n++) {
+        krb_item item;
+        snprintf(path, sizeof path, "cname.name-string[%zu]", n);
+        status = krb_find_text("EncTicketPart", path, part, part_size, &item);
+        if (status != KRB_DONE) break;
+        if (n > 0) putchar('/');
+        print_text(part + item.offset, item.size);
     }
+    return status == KRB_ABSENT ? KRB_DONE : status;
 }
 
 /* Prints what an EncTicketPart says. */
-static void print_part(int32_t etype, const uint8_t *part) {
-    struct element opened = element_at(element_at(part).content);
+static krb_status print_part(int32_t etype, const uint8_t *part, size_t part_size) {
+    krb_status status;
     printf("etype %" PRId32 "\nclient ", etype);
-    print_name(field_of(opened, 3));
+    status = print_name(part, part_size);
     putchar('@');
-    print_text(field_of(opened, 2));
+    if (status == KRB_DONE) status = print_field("crealm", part, part_size);
     printf("\nuntil ");
-    print_text(field_of(opened, 7));
+    if (status == KRB_DONE) status = print_field("endtime", part, part_size);
     putchar('\n');
+    return status;
 }
 
 int main(int count, char **words) {
     static uint8_t ticket[LONGEST_TICKET], part[LONGEST_TICKET];
     struct key key;
-    size_t ticket_size, part_size, offset, size;
+    size_t ticket_size, part_size;
+    krb_item cipher;
     int64_t etype;
     const char *why;
     krb_status status;
-    const int32_t message = KRB_MESSAGE_TICKET;
 
     if (count != 2) {
         fputs("usage: open_ticket KEYFILE <TICKET\n", stderr);
@@ -174,17 +155,18 @@ int main(int count, char **words) {
     why = read_whole(stdin, ticket, sizeof ticket, "it has more than 65536 octets", &ticket_size);
     if (why != NULL) return stop(FAILED, "the ticket", why);
 
-    status = krb_get_number(message, KRB_FIELD_SEALED_ETYPE, 0, ticket, ticket_size, &etype);
+    status = krb_find_number_text("Ticket", "enc-part.etype", ticket, ticket_size, &etype);
     if (status != KRB_DONE) return stop(FAILED, "not a ticket", krb_status_text(status));
     if (etype != key.etype) return stop(FAILED, "the ticket", "it is of another encryption type");
-    status = krb_get_octets(message, KRB_FIELD_SEALED_CIPHER, 0, ticket, ticket_size, &offset,
-                            &size);
+    status = krb_find_text("Ticket", "enc-part.cipher", ticket, ticket_size, &cipher);
     if (status != KRB_DONE) return stop(FAILED, "no cipher", krb_status_text(status));
-    status = krb_open_ticket_part(key.etype, key.octets, key.size, TICKET_USAGE, ticket + offset,
-                                  size, part, sizeof part, &part_size);
+    status = krb_open_ticket_part(key.etype, key.octets, key.size, TICKET_USAGE,
+                                  ticket + cipher.offset, cipher.size, part, sizeof part,
+                                  &part_size);
     if (status != KRB_DONE) return stop(FAILED, "not decrypted", krb_status_text(status));
 
-    print_part(key.etype, part);
+    status = print_part(key.etype, part, part_size);
+    if (status != KRB_DONE) return stop(FAILED, "the part", krb_status_text(status));
     if (fflush(stdout) != 0 || ferror(stdout))
         return stop(FAILED, "standard output", "it cannot be written");
     return 0;

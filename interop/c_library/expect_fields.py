@@ -1,7 +1,8 @@
-"""What krb_get_octets and krb_get_number are to answer: expect_fields.py MESSAGES, whose rows have a message's number and its octets in hexadecimal.
+"""What krb_find and krb_find_number are to answer: expect_fields.py MESSAGES, whose rows have a message's number and its octets in hexadecimal.
 
 A row for each message, field and index: number, octets, field, index, status, offset, size, and the number where the field is one, or TOO_LARGE
-where 64 bits do not hold it. It walks the elements (X.690, 8.1) by the ASN.1 of RFC 4120, and shares nothing with the library."""
+where 64 bits do not hold it; then the type and the field's path, or a dash where the message has no such field. It walks the elements (X.690, 8.1) by
+the tags of RFC 4120, and shares nothing with the library but the names."""
 
 import sys
 
@@ -78,6 +79,44 @@ FIELDS = {
 NUMBERS = {7, 8, 13, 15, 16, 19, 20, 25, 26, 28, 29, 30, 31}
 MOST_FIELD = 32
 
+# The names of types (RFC 4120, 5), and of their fields by tag; of those within them by the tags on the way.
+TYPES = {1: "Ticket", 10: "AS-REQ", 11: "AS-REP", 12: "TGS-REQ", 13: "TGS-REP", 14: "AP-REQ", 15: "AP-REP", 21: "KRB-PRIV", 22: "KRB-CRED", 30: "KRB-ERROR"}
+NAME, SEALED_NAMES = {0: "name-type", 1: "name-string"}, {0: "etype", 1: "kvno", 2: "cipher"}
+DATA_NAMES = {1: "padata-type", 2: "padata-value"}
+TICKET_NAMES = {1: "realm", 2: ("sname", NAME), 3: ("enc-part", SEALED_NAMES)}
+BODY = {0: "kdc-options", 1: ("cname", NAME), 2: "realm", 3: ("sname", NAME), 4: "from", 5: "till", 6: "rtime", 7: "nonce", 8: "etype"}
+REQUEST_NAMES = {3: ("padata", DATA_NAMES), 4: ("req-body", BODY)}
+REPLY_NAMES = {2: ("padata", DATA_NAMES), 3: "crealm", 4: ("cname", NAME), 5: ("ticket", TICKET_NAMES), 6: ("enc-part", SEALED_NAMES)}
+ERROR_NAMES = {2: "ctime", 3: "cusec", 4: "stime", 5: "susec", 6: "error-code", 7: "crealm", 8: ("cname", NAME), 9: "realm", 10: ("sname", NAME)}
+ERROR_NAMES.update({11: "e-text", 12: "e-data"})
+NAMES = {
+    1: TICKET_NAMES,
+    10: REQUEST_NAMES,
+    12: REQUEST_NAMES,
+    11: REPLY_NAMES,
+    13: REPLY_NAMES,
+    14: {2: "ap-options", 3: ("ticket", TICKET_NAMES), 4: ("authenticator", SEALED_NAMES)},
+    15: {2: ("enc-part", SEALED_NAMES)},
+    21: {3: ("enc-part", SEALED_NAMES)},
+    22: {2: "tickets", 3: ("enc-part", SEALED_NAMES)},
+    30: ERROR_NAMES,
+}
+
+
+def path_of(number, path, kind, index):
+    """The path of a field in the words of the standard."""
+    names, words = NAMES[number], []
+    for tag in path:
+        if tag != "ticket":
+            name = names[tag]
+            word, names = name if isinstance(name, tuple) else (name, {})
+            words.append(word)
+    if isinstance(kind, list):
+        words[-1] += "[%d]" % index
+        if isinstance(kind[0], tuple):
+            words.append(names[kind[0][0]])
+    return ".".join(words)
+
 
 def element(octets, start):
     """Tag, content and end of the element at a place."""
@@ -128,18 +167,18 @@ def found(octets, number, path, kind, index):
 
 
 def answers(number, octets):
-    """Field, index, status, offset, size and number, or nothing, of each field."""
+    """Field, index, status, offset, size, number or nothing, and path of each field."""
     for field in range(1, MOST_FIELD + 1):
         path, kind = FIELDS[number].get(field, (None, None))
         for index in (0, 1, 2, 3, 4, 5, 6, 7, 8, 1000, 2**63, 2**64 - 1):
             place = None if path is None else found(octets, number, path, kind, index)
             if place is None:
-                yield field, index, "ABSENT", 0, 0, None
+                yield field, index, "ABSENT", 0, 0, None, "-" if path is None else path_of(number, path, kind, index)
             else:
                 value = int.from_bytes(octets[place[0] : place[1]], "big", signed=True) if field in NUMBERS else None
                 if value is not None and not -(2**63) <= value < 2**63:
                     value = "TOO_LARGE"
-                yield field, index, "DONE", place[0], place[1] - place[0], value
+                yield field, index, "DONE", place[0], place[1] - place[0], value, path_of(number, path, kind, index)
 
 
 def main():
@@ -149,8 +188,8 @@ def main():
                 continue
             number, octets = line.split()
             if int(number) in FIELDS:
-                for field, index, status, offset, size, value in answers(int(number), bytes.fromhex(octets)):
-                    print(number, octets, field, index, status, offset, size, "" if value is None else value, sep="\t")
+                for field, index, status, offset, size, value, path in answers(int(number), bytes.fromhex(octets)):
+                    print(number, octets, field, index, status, offset, size, "" if value is None else value, TYPES[int(number)], path, sep="\t")
 
 
 if __name__ == "__main__":

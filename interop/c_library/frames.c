@@ -12,10 +12,49 @@ struct told {
     size_t at[NUMBERS];
 };
 
+static const char INIT[] = "NegotiationToken (negTokenInit)", RESP[] = "NegotiationToken (negTokenResp)", PROXY[] = "KDC-PROXY-MESSAGE";
+
+/* Tells the place of a field of octets that stand behind so many of the whole: 0 and 0 of one that is absent. */
+static krb_status tell(const char *type, const char *path, const uint8_t *octets, size_t count, size_t behind, size_t *at) {
+    krb_item item = {77777, 77777, 7, 7, 7, 7, 7, 7};
+    krb_status status = krb_find_text(type, path, octets, count, &item);
+    at[0] = status == KRB_DONE ? behind + item.offset : 0;
+    at[1] = item.size;
+    EXPECT(status == KRB_DONE || item.size == 0, "%s of %s is told with status %u", path, type, status);
+    return status;
+}
+
+/* The places of some fields; the status of the whole. */
+static krb_status tell_all(const char *type, const char *const *paths, size_t many, const uint8_t *octets, size_t count, size_t behind, size_t *at) {
+    size_t whole[2];
+    krb_status status = tell(type, "", octets, count, behind, whole);
+    for (size_t k = 0; k < many; k++) {
+        krb_status one = tell(type, paths[k], octets, count, behind, &at[2 * k]);
+        EXPECT(one == status || (status == KRB_DONE && one == KRB_ABSENT), "%s of %s: status %u and %u", paths[k], type, one, status);
+    }
+    return status;
+}
+
+/* negState as a number: KRB_NEG_STATE_ABSENT, or past that of another element than an ENUMERATED in one octet below 128. */
+static uint32_t state_of(const struct octets *it) {
+    krb_item item;
+    if (krb_find_text(RESP, "negState", it->at, it->count, &item) != KRB_DONE) return KRB_NEG_STATE_ABSENT;
+    return item.tag == 0x0a && item.size == 1 && it->at[item.offset] < 128 ? it->at[item.offset] : KRB_NEG_STATE_ABSENT + 1;
+}
+
+/* Those of a token that begins a negotiation, in its frame. */
+static krb_status tell_init(const struct octets *it, size_t *at) {
+    static const char *const paths[] = {"mechTypes", "mechToken", "mechListMIC"};
+    size_t frame[4];
+    krb_status status = krb_gss_token(it->at, it->count, &frame[0], &frame[1], &frame[2], &frame[3]);
+    memset(at, 0, NUMBERS * sizeof *at);
+    return status == KRB_DONE ? tell_all(INIT, paths, 3, it->at + frame[2], frame[3], frame[2], at) : status;
+}
+
 static struct told told_of(const char *kind, const struct octets *it) {
+    static const char *const answer[] = {"supportedMech", "responseToken", "mechListMIC"}, *const proxy[] = {"kerb-message", "target-domain"};
     struct told told = {77777, 77777, {77777, 77777, 77777, 77777, 77777, 77777}};
     size_t *at = told.at;
-    int64_t hint = 77777;
     if (!strcmp(kind, "pac")) {
         told.status = krb_pac_buffer(it->at, it->count, 0, &told.kind, &at[0], &at[1]);
         at[2] = at[3] = at[4] = at[5] = 0;
@@ -23,19 +62,17 @@ static struct told told_of(const char *kind, const struct octets *it) {
         told.status = krb_gss_token(it->at, it->count, &at[0], &at[1], &at[2], &at[3]);
         at[4] = at[5] = 0;
     } else if (!strcmp(kind, "init")) {
-        told.status = krb_neg_token_init(it->at, it->count, &at[0], &at[1], &at[2], &at[3], &at[4], &at[5]);
-        size_t offset = 77777, size = 77777;
-        krb_status status = krb_neg_token_init_mechanism(it->at, it->count, 0, &offset, &size);
-        EXPECT(status == told.status || (told.status == KRB_DONE && status == KRB_ABSENT), "a mechanism: status %u and %u", status, told.status);
-        EXPECT(status == KRB_DONE || (!offset && !size), "a mechanism is told with status %u", status);
+        told.status = tell_init(it, at);
     } else if (!strcmp(kind, "resp")) {
-        told.status = krb_neg_token_resp(it->at, it->count, &told.kind, &at[0], &at[1], &at[2], &at[3], &at[4], &at[5]);
+        told.status = tell_all(RESP, answer, 3, it->at, it->count, 0, at);
+        told.kind = state_of(it);
     } else if (!strcmp(kind, "password")) {
         told.status = krb_password_frame(it->at, it->count, &at[0], &at[1], &at[2], &at[3]);
         at[4] = at[5] = 0;
     } else if (!strcmp(kind, "proxy")) {
-        krb_status status = krb_kdc_proxy_hint(it->at, it->count, &hint);
-        told.status = krb_kdc_proxy_message(it->at, it->count, &at[0], &at[1], &at[2], &at[3]);
+        int64_t hint = 77777;
+        krb_status status = krb_find_number_text(PROXY, "dclocator-hint", it->at, it->count, &hint);
+        told.status = tell_all(PROXY, proxy, 2, it->at, it->count, 0, at);
         at[4] = at[5] = 0;
         EXPECT(status == told.status || (told.status == KRB_DONE && (status == KRB_ABSENT || status == KRB_TOO_LARGE)), "the hint: status %u and %u", status, told.status);
         EXPECT(status == KRB_DONE || hint == 0, "a hint is told with status %u", status);
@@ -112,15 +149,17 @@ static void try_made(const char *kind, const struct octets *whole, const struct 
 
 /* Each mechanism stands behind the one before it, and the last ends the list. */
 static void try_mechanisms(const struct octets *whole, const struct told *told) {
-    size_t offset = 77777, size = 77777, end = told->at[0], n = 0;
-    while (krb_neg_token_init_mechanism(whole->at, whole->count, n, &offset, &size) == KRB_DONE) {
-        EXPECT(whole->at[end] == 6 && whole->at[end + 1] == size && offset == end + 2, "mechanism %zu", n);
-        end = offset + size;
+    size_t frame[4], place[2], end = told->at[0], n = 0;
+    char path[64] = "mechTypes[0]";
+    EXPECT(krb_gss_token(whole->at, whole->count, &frame[0], &frame[1], &frame[2], &frame[3]) == KRB_DONE, "a token");
+    while (tell(INIT, path, whole->at + frame[2], frame[3], frame[2], place) == KRB_DONE) {
+        EXPECT(whole->at[end] == 6 && whole->at[end + 1] == place[1] && place[0] == end + 2, "mechanism %zu", n);
+        end = place[0] + place[1];
         n++;
+        snprintf(path, sizeof path, "mechTypes[%zu]", n);
     }
-    EXPECT(end == told->at[0] + told->at[1] && !offset && !size, "%zu mechanisms", n);
-    offset = size = 77777;
-    EXPECT(krb_neg_token_init_mechanism(whole->at, whole->count, SIZE_MAX, &offset, &size) == KRB_ABSENT && !offset && !size, "the last number");
+    EXPECT(end == told->at[0] + told->at[1], "%zu mechanisms", n);
+    EXPECT(tell(INIT, "mechTypes[18446744073709551615]", whole->at + frame[2], frame[3], frame[2], place) == KRB_ABSENT, "the last number");
 }
 
 /* A negTokenResp is made of what was read of it, also in too little room. */
@@ -137,7 +176,7 @@ static void try_made_answer(const struct octets *whole, const struct told *told)
         drop(&room);
     }
     struct octets room = room_of(whole->count + 7);
-    const uint32_t states[] = {4, 127, 128, 255, KRB_NEG_STATE_OTHER, UINT32_MAX, is_state ? 5 : told->kind};
+    const uint32_t states[] = {4, 127, 128, 255, KRB_NEG_STATE_ABSENT + 1, UINT32_MAX, is_state ? 5 : told->kind};
     for (unsigned k = 0; k < sizeof states / sizeof *states; k++) {
         krb_status status = krb_make_neg_token_resp(states[k], mechanism, at[1], token, at[3], mic, at[5], room.at, room.count, &size);
         EXPECT(status == KRB_NUMBER && size == 0 && is_untouched(&room, 0), "the state %u: status %u", states[k], status);

@@ -87,19 +87,72 @@ static krb_status proxy_call(const struct row *row, struct octets *room, size_t 
     die("a call that is none");
 }
 
+/* The places of fields, 0 and 0 of those that are absent; where the whole is refused all are. */
+static krb_status fields_of(const char *type, const char *const *paths, size_t many, const uint8_t *octets, size_t count, size_t behind, size_t *at) {
+    for (size_t k = 0; k < many; k++) {
+        krb_item item;
+        krb_status status = krb_find_text(type, paths[k], octets, count, &item);
+        at[2 * k] = status == KRB_DONE ? behind + item.offset : 0, at[2 * k + 1] = item.size;
+        if (status == KRB_DONE || status == KRB_ABSENT) continue;
+        memset(at, 0, 2 * many * sizeof *at);
+        return status;
+    }
+    return KRB_DONE;
+}
+
+static const char INIT[] = "NegotiationToken (negTokenInit)", RESP[] = "NegotiationToken (negTokenResp)", PROXY[] = "KDC-PROXY-MESSAGE";
+
+static krb_status init_call(const struct octets *input, size_t *at) {
+    static const char *const paths[] = {"mechTypes", "mechToken", "mechListMIC"};
+    size_t frame[4];
+    krb_status status = krb_gss_token(input->at, input->count, &frame[0], &frame[1], &frame[2], &frame[3]);
+    memset(at, 0, 6 * sizeof *at);
+    return status == KRB_DONE ? fields_of(INIT, paths, 3, input->at + frame[2], frame[3], frame[2], at) : status;
+}
+
+/* Calls over items, of a type (as the key), a path (as what stands beside) and octets. */
+static krb_status item_call(const struct row *row, struct cells *to) {
+    static const char *const answer[] = {"supportedMech", "responseToken", "mechListMIC"}, *const proxy[] = {"kerb-message", "target-domain"};
+    const struct octets *type = &row->key, *path = &row->beside, *input = &row->input;
+    size_t *at = to->at;
+    if (!strcmp(row->call, "init")) return init_call(input, at);
+    if (!strcmp(row->call, "resp")) {
+        krb_item item;
+        krb_status status = fields_of(RESP, answer, 3, input->at, input->count, 0, at);
+        to->word = KRB_NEG_STATE_ABSENT;
+        if (status != KRB_DONE) return status;
+        status = krb_find_text(RESP, "negState", input->at, input->count, &item);
+        if (status == KRB_DONE) to->word = item.size == 1 ? input->at[item.offset] : KRB_NEG_STATE_ABSENT + 1;
+        if (status == KRB_MEMORY) memset(at, 0, 6 * sizeof *at);
+        return status == KRB_ABSENT ? KRB_DONE : status;
+    }
+    if (!strcmp(row->call, "proxy")) return fields_of(PROXY, proxy, 2, input->at, input->count, 0, at);
+    if (!strcmp(row->call, "hint")) return krb_find_number_text(PROXY, "dclocator-hint", input->at, input->count, &to->number);
+    if (!strcmp(row->call, "find_number"))
+        return krb_find_number(type->at, type->count, path->at, path->count, input->at, input->count, &to->number);
+    krb_item items[2048];
+    memset(items, 0, sizeof items);
+    krb_status status = !strcmp(row->call, "find")
+            ? krb_find(type->at, type->count, path->at, path->count, input->at, input->count, items)
+            : krb_items(type->at, type->count, input->at, input->count, items, sizeof items / sizeof *items, &at[0], &at[1]);
+    if (row->call[0] == 'f') at[0] = items[0].offset, at[1] = items[0].size;
+    return status;
+}
+
+static int is_of_items(const char *call) {
+    static const char *const calls[] = {"find", "find_number", "items", "init", "resp", "proxy", "hint"};
+    for (size_t k = 0; k < sizeof calls / sizeof *calls; k++)
+        if (!strcmp(call, calls[k])) return 1;
+    return 0;
+}
+
 static krb_status other_call(const struct row *row, struct octets *room, size_t *size, struct cells *to) {
     const struct octets *key = &row->key, *beside = &row->beside, *input = &row->input;
     const char *call = row->call;
     size_t *at = to->at;
-    if (!strcmp(call, "get_octets")) return krb_get_octets(row->number, row->usage, beside->count, input->at, input->count, &at[0], &at[1]);
-    if (!strcmp(call, "get_number")) return krb_get_number(row->number, row->usage, beside->count, input->at, input->count, &to->number);
+    if (is_of_items(call)) return item_call(row, to);
     if (!strcmp(call, "token")) return krb_gss_token(input->at, input->count, &at[0], &at[1], &at[2], &at[3]);
-    if (!strcmp(call, "init")) return krb_neg_token_init(input->at, input->count, &at[0], &at[1], &at[2], &at[3], &at[4], &at[5]);
-    if (!strcmp(call, "mechanism")) return krb_neg_token_init_mechanism(input->at, input->count, 0, &at[0], &at[1]);
-    if (!strcmp(call, "resp")) return krb_neg_token_resp(input->at, input->count, &to->word, &at[0], &at[1], &at[2], &at[3], &at[4], &at[5]);
     if (!strcmp(call, "password")) return krb_password_frame(input->at, input->count, &at[0], &at[1], &at[2], &at[3]);
-    if (!strcmp(call, "proxy")) return krb_kdc_proxy_message(input->at, input->count, &at[0], &at[1], &at[2], &at[3]);
-    if (!strcmp(call, "hint")) return krb_kdc_proxy_hint(input->at, input->count, &to->number);
     if (!strcmp(call, "make_token")) return krb_make_gss_token(beside->at, beside->count, input->at, input->count, room->at, room->count, size);
     if (!strcmp(call, "make_init")) return krb_make_neg_token_init(beside->at, beside->count, input->at, input->count, key->at, key->count,
             room->at, room->count, size);
@@ -126,11 +179,11 @@ static int has_answer(const char *call) { return is_answering(call) || !strncmp(
 static krb_status told_of(const struct row *row, struct octets *room, struct answer *it) {
     struct cells to = {{77777, 77777, 77777, 77777, 77777, 77777}, 77777, 77777, 77777, true};
     int is_resp = !strcmp(row->call, "resp"), places = !strcmp(row->call, "init") || is_resp ? 6 : !strcmp(row->call,
-            "get_octets") || !strcmp(row->call, "mechanism") ? 2 : 4;
+            "find") || !strcmp(row->call, "items") ? 2 : 4;
     krb_status status = other_call(row, room, &it->size, &to);
     if (!strcmp(row->call, "unwrap") || !strcmp(row->call, "verify_mic"))
         it->told[0] = to.sequence, it->told[1] = !strcmp(row->call, "unwrap") && to.sealed;
-    else if (!strcmp(row->call, "get_number") || !strcmp(row->call, "hint"))
+    else if (!strcmp(row->call, "find_number") || !strcmp(row->call, "hint"))
         it->told[0] = (uint64_t)to.number;
     else if (!has_answer(row->call))
         for (int k = 0; k < places; k++) it->told[k] = to.at[k];
@@ -240,20 +293,22 @@ static void try_passwords(void) {
     }
 }
 
-/* Fields that are handed out of messages: rows of a message, octets, a field, an index, and a status. */
+static struct octets text_of(const char *text) { return octets_of((const uint8_t *)text, strlen(text)); }
+
+/* Fields that are found in messages, and all items of these: rows that expect_fields.py makes. */
 static void try_fields(const char *name) {
     FILE *file = fopen(name, "r");
-    char *columns[8];
+    char *columns[10];
     if (!file) die("a table is not there");
-    while (next_row(file, columns, 8)) {
+    while (next_row(file, columns, 10)) {
         if (strcmp(columns[4], "DONE")) continue;
-        /* the index goes as a count of octets, which none are */
-        struct row row = {"get_octets", (int32_t)strtol(columns[0], NULL, 10), (int32_t)strtol(columns[2], NULL, 10), {NULL, 0}, {NULL,
-                (size_t)strtoull(columns[3], NULL, 10)}, octets_of_text(columns[1])};
+        struct row row = {"find", 0, 0, text_of(columns[8]), text_of(columns[9]), octets_of_text(columns[1])};
         try_call(&row);
-        row.call = "get_number";
+        row.call = "find_number";
         if (columns[7][0] && strcmp(columns[7], "TOO_LARGE")) try_call(&row);
-        drop(&row.input);
+        row.call = "items";
+        if (!strcmp(columns[3], "0")) try_call(&row);
+        drop(&row.key), drop(&row.beside), drop(&row.input);
     }
     fclose(file);
 }
@@ -270,8 +325,6 @@ static void try_frame(const char *kind, const struct octets *octets) {
     struct octets first = part_of(octets, told), second = part_of(octets, told + 2), third = part_of(octets, told + 4);
     struct row made = {"make_token", 0, 0, none, first, second};
     if (!strcmp(kind, "init")) {
-        row.call = "mechanism";
-        try_call(&row);
         made.call = "make_init", made.key = third;
     } else if (!strcmp(kind, "resp")) {
         made.call = "make_resp", made.key = third, made.number = (int32_t)(told[6] ^ KRB_NEG_STATE_ABSENT);

@@ -87,7 +87,7 @@ def try_message(number, octets):
 
 
 def try_field(row):
-    message, octets, field, index, status, offset, size, value = row
+    message, octets, field, index, status, offset, size, value, as_type, path = row
     message, field, index, offset, size, octets = int(message), int(field), int(index), int(offset), int(size), bytes.fromhex(octets)
     is_number = messages.Field(field) in messages.NUMBERS
     if status == "ABSENT":
@@ -97,6 +97,8 @@ def try_field(row):
         expect(messages.field(message, field, octets, index) is None, row[2:])
         return
     right = octets[offset : offset + size]
+    if field != messages.Field.TICKET:
+        expect(krb.find(octets, as_type, path) == right, row[2:])
     number = (Status.TOO_LARGE if value == "TOO_LARGE" else int(value)) if is_number else Status.NUMBER
     expect(messages.field_place(message, field, octets, index) == slice(offset, offset + size), row[2:])
     expect(messages.field_octets(message, field, octets, index) == right, row[2:])

@@ -34,6 +34,7 @@ class Status(enum.IntEnum):
     SEALED_HEADER = 19
     ABSENT = 20
     TOO_LARGE = 21
+    TOO_DEEP = 22
     OTHER_VERSION = 25
     PAC_TYPE = 26
     PAC_RANGE = 27
@@ -54,7 +55,7 @@ class Status(enum.IntEnum):
 TEXTS = {
     Status.ROOM: "too little room for the answer",
     Status.MEMORY: "out of memory",
-    Status.NUMBER: "an unknown number",
+    Status.NUMBER: "an unknown number, type or path",
     Status.CONFOUNDER_SIZE: "a confounder of another size",
     Status.KEY_SIZE: "a key of another size",
     Status.SEALED_SIZE: "too few sealed octets",
@@ -71,8 +72,9 @@ TEXTS = {
     Status.SUBKEY: "a token under another key",
     Status.SEALED_MIC: "a MIC token that is marked as sealed",
     Status.SEALED_HEADER: "another header sealed in",
-    Status.ABSENT: "no such field, or no item of this index",
+    Status.ABSENT: "no such field or element",
     Status.TOO_LARGE: "a number of more than 64 bits",
+    Status.TOO_DEEP: "elements too deep in one another",
     Status.OTHER_VERSION: "another version of the format",
     Status.PAC_TYPE: "a buffer of an unknown type",
     Status.PAC_RANGE: "a buffer of octets that are not there",
@@ -129,7 +131,7 @@ _OUT = [ctypes.c_void_p, ctypes.c_size_t, ctypes.POINTER(ctypes.c_size_t)]
 
 
 def _load() -> ctypes.CDLL:
-    return ctypes.CDLL(os.environ.get("KRBC_LIBRARY") or str(pathlib.Path(__file__).with_name("libkrbc.so.0")))
+    return ctypes.CDLL(os.environ.get("KRBC_LIBRARY") or str(pathlib.Path(__file__).with_name("libkrbc.so.1")))
 
 
 _library = _load()

@@ -1,9 +1,10 @@
 """Frames around messages: of password changes (RFC 3244, 2), and of messages that go through a proxy to a KDC (MS-KKDCP, 2.2.2)."""
 
-from typing import NamedTuple, Optional, Tuple
+from typing import NamedTuple, Optional
 
+from krb._items import Form, items
 from krb._library import IN, Call, Octets, Refused, Status
-from krb._places import I64_OUT, SIZE_OUT, Telling
+from krb._places import SIZE_OUT, Telling
 
 __all__ = ["PasswordFrame", "password_frame", "make_password_frame", "ProxyMessage", "proxy_message", "make_proxy_message"]
 
@@ -44,30 +45,14 @@ class ProxyMessage(NamedTuple):
     dclocator_hint: Optional[int]
 
 
-_proxy_message = Telling("krb_kdc_proxy_message", [IN], [SIZE_OUT] * 4)
-_proxy_hint = Telling("krb_kdc_proxy_hint", [IN], [I64_OUT])
-
-
-def proxy_places(octets: bytes) -> Tuple[int, ...]:
-    """The places of kerb-message and of target-domain, each an offset and a size. Refused: INVALID, TRUNCATED, UNSUPPORTED, MEMORY."""
-    return _proxy_message.told(octets)
-
-
-def proxy_hint(octets: bytes) -> Optional[int]:
-    """dclocator-hint, or None. Refused: INVALID, TRUNCATED, UNSUPPORTED, TOO_LARGE past 64 bits, MEMORY."""
-    try:
-        return _proxy_hint.told(octets)[0]
-    except Refused as refused:
-        if refused.status == Status.ABSENT:
-            return None
-        raise
-
-
 def proxy_message(octets: Octets) -> ProxyMessage:
     """The message whose one DER encoding the octets are. Refused: INVALID, TRUNCATED, UNSUPPORTED, TOO_LARGE (a hint past 64 bits), MEMORY."""
     octets = bytes(memoryview(octets).cast("B"))
-    message, message_size, domain, domain_size = proxy_places(octets)
-    return ProxyMessage(octets[message : message + message_size], octets[domain : domain + domain_size] if domain else None, proxy_hint(octets))
+    fields = {item.name: octets[item.place] for item in items(octets, "KDC-PROXY-MESSAGE") if item.form == Form.LEAF}
+    hint = fields.get("dclocator-hint")
+    if hint is not None and len(hint) > 8:
+        raise Refused(Status.TOO_LARGE)
+    return ProxyMessage(fields["kerb-message"], fields.get("target-domain"), None if hint is None else int.from_bytes(hint, "big", signed=True))
 
 
 _make_proxy_message = Call("krb_make_kdc_proxy_message", IN, IN, has_room=True)

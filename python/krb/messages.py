@@ -2,12 +2,12 @@
 
 A part comes in and goes out as the octets of its encoding."""
 
-import ctypes
 import enum
 import os
-from typing import Optional, Union
+from typing import Dict, Optional, Tuple, Union
 
-from krb._library import IN, NUMBER, SIZE, Call, Octets, Refused, Status
+from krb import _items
+from krb._library import IN, NUMBER, Call, Octets, Refused, Status
 from krb.crypto import confounder_size, encrypted_size
 
 __all__ = ["Message", "Field", "Part", "check", "is_message", "field", "field_place", "field_octets", "field_number", "seal", "open_part"]
@@ -36,7 +36,7 @@ class Message(enum.IntEnum):
 
 
 class Field(enum.IntEnum):
-    """Fields of messages and tickets (RFC 4120, 5), as krb.h says them."""
+    """Fields of messages and tickets (RFC 4120, 5). `krb.find` has every field of every type, by its path."""
 
     REALM = 1
     CLIENT_REALM = 2
@@ -103,9 +103,49 @@ NUMBERS = frozenset(
 )
 """The fields that are numbers."""
 
+_NAME = {Field.CLIENT_NAME: "cname.name-string[%d]", Field.CLIENT_NAME_TYPE: "cname.name-type"}
+_NAME.update({Field.SERVER_NAME: "sname.name-string[%d]", Field.SERVER_NAME_TYPE: "sname.name-type", Field.REALM: "realm"})
+_DATA = {Field.DATA_TYPE: "padata[%d].padata-type", Field.DATA_VALUE: "padata[%d].padata-value"}
+_TICKET = {Field.REALM: "realm", Field.SERVER_NAME: "sname.name-string[%d]", Field.SERVER_NAME_TYPE: "sname.name-type"}
+
+
+def _sealed(field: str) -> Dict[int, str]:
+    return {Field.SEALED_ETYPE: field + ".etype", Field.SEALED_KVNO: field + ".kvno", Field.SEALED_CIPHER: field + ".cipher"}
+
+
+_TICKET.update(_sealed("enc-part"))
+_IN_TICKET = {
+    Field.TICKET: "ticket",
+    Field.TICKET_REALM: "ticket.realm",
+    Field.TICKET_SERVER_NAME: "ticket.sname.name-string[%d]",
+    Field.TICKET_SERVER_NAME_TYPE: "ticket.sname.name-type",
+    Field.TICKET_ETYPE: "ticket.enc-part.etype",
+    Field.TICKET_KVNO: "ticket.enc-part.kvno",
+    Field.TICKET_CIPHER: "ticket.enc-part.cipher",
+}
+_REQUEST = {Field.KDC_OPTIONS: "kdc-options", Field.FROM: "from", Field.TILL: "till", Field.RENEW_TILL: "rtime", Field.NONCE: "nonce", Field.ETYPE: "etype[%d]"}
+_REQUEST.update(_NAME)
+_REQUEST = {field: "req-body." + path for field, path in _REQUEST.items()}
+_REQUEST.update(_DATA)
+_REPLY = {Field.CLIENT_REALM: "crealm", Field.CLIENT_NAME: _NAME[Field.CLIENT_NAME], Field.CLIENT_NAME_TYPE: _NAME[Field.CLIENT_NAME_TYPE]}
+_REPLY.update({**_DATA, **_IN_TICKET, **_sealed("enc-part")})
+_ERROR = {Field.CLIENT_REALM: "crealm", Field.CLIENT_TIME: "ctime", Field.CLIENT_MICROSECONDS: "cusec", Field.SERVER_TIME: "stime"}
+_ERROR.update({Field.SERVER_MICROSECONDS: "susec", Field.ERROR_CODE: "error-code", Field.ERROR_TEXT: "e-text", Field.ERROR_DATA: "e-data", **_NAME})
+_PATHS: Dict[int, Tuple[str, Dict[int, str]]] = {
+    Message.TICKET: ("Ticket", _TICKET),
+    Message.AS_REQ: ("AS-REQ", _REQUEST),
+    Message.AS_REP: ("AS-REP", _REPLY),
+    Message.TGS_REQ: ("TGS-REQ", _REQUEST),
+    Message.TGS_REP: ("TGS-REP", _REPLY),
+    Message.AP_REQ: ("AP-REQ", {Field.AP_OPTIONS: "ap-options", **_IN_TICKET, **_sealed("authenticator")}),
+    Message.AP_REP: ("AP-REP", _sealed("enc-part")),
+    Message.KRB_PRIV: ("KRB-PRIV", _sealed("enc-part")),
+    Message.KRB_CRED: ("KRB-CRED", {Field.TICKET: "tickets[%d]", **_sealed("enc-part")}),
+    Message.KRB_ERROR: ("KRB-ERROR", _ERROR),
+}
+"""The types of messages with fields, and the paths of these."""
+
 _check = Call("krb_check", NUMBER, IN)
-_get_octets = Call("krb_get_octets", NUMBER, NUMBER, SIZE, IN, cells=[ctypes.c_size_t, ctypes.c_size_t])
-_get_number = Call("krb_get_number", NUMBER, NUMBER, SIZE, IN, cells=[ctypes.c_int64])
 _seal = {part: Call("krb_seal_" + part.value, NUMBER, IN, NUMBER, IN, IN, has_room=True) for part in Part}
 _open = {part: Call("krb_open_" + part.value, NUMBER, IN, NUMBER, IN, has_room=True) for part in Part}
 
@@ -127,21 +167,35 @@ def is_message(number: int, octets: Octets) -> bool:
     return status == Status.DONE
 
 
-_MOST = 2 ** (8 * ctypes.sizeof(ctypes.c_size_t)) - 1
+_MOST = 2**64 - 1
 
 
-def _index(index: int) -> int:
-    """An index that C can hold; any other is that of no item."""
-    return index if 0 <= index < _MOST else _MOST
+def _path(message: int, field: int, index: int, octets: Octets) -> Tuple[str, str]:
+    """The message's type, and the path of the field; an index that C cannot hold is that of no item."""
+    if message not in _PATHS or field not in set(Field):
+        raise Refused(Status.NUMBER)
+    name, paths = _PATHS[message]
+    path = paths.get(field)
+    if path is None:
+        _items.find_item(octets, name, "")
+        raise Refused(Status.ABSENT)
+    return name, path % (index if 0 <= index <= _MOST else _MOST) if "%" in path else path
+
+
+def _around(place: slice) -> slice:
+    """The element in one octet of tag whose content this is (X.690, 8.1.3)."""
+    size = place.stop - place.start
+    return slice(place.start - 2 - (0 if size < 128 else (size.bit_length() + 7) // 8), place.stop)
 
 
 def field_place(message: int, field: int, octets: Octets, index: int = 0) -> slice:
     """Where the field stands in the octets, as a slice of them.
 
-    Refused: NUMBER; INVALID, TRUNCATED, UNSUPPORTED as `check` refuses; then ABSENT where the message has no such field, or no item of this
-    index; MEMORY."""
-    offset, size = _get_octets.numbers(message, field, _index(index), octets)
-    return slice(offset, offset + size)
+    Refused: NUMBER; INVALID, TRUNCATED, UNSUPPORTED, TOO_DEEP of octets that are no such message; then ABSENT where the message has no such field, or no
+    item of this index; MEMORY."""
+    place = _items.find_item(octets, *_path(message, field, index, octets)).place
+    # a ticket is a SEQUENCE in its [APPLICATION 1]
+    return _around(_around(place)) if field == Field.TICKET else place
 
 
 def field_octets(message: int, field: int, octets: Octets, index: int = 0) -> bytes:
@@ -151,7 +205,9 @@ def field_octets(message: int, field: int, octets: Octets, index: int = 0) -> by
 
 def field_number(message: int, field: int, octets: Octets, index: int = 0) -> int:
     """The number that the field is. Refused: as `field_place`; NUMBER too where the field is no number; then TOO_LARGE where 64 bits do not hold it."""
-    return _get_number.numbers(message, field, _index(index), octets)[0]
+    if field not in NUMBERS:
+        raise Refused(Status.NUMBER)
+    return _items.find_number(octets, *_path(message, field, index, octets))
 
 
 def field(message: int, field: int, octets: Octets, index: int = 0) -> Union[bytes, int, None]:

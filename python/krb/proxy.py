@@ -6,11 +6,9 @@ import ctypes
 import enum
 from typing import NamedTuple, Optional, Tuple
 
-from krb import messages
+from krb._items import Form, Leaf, items
 from krb._library import IN, SIZE, Call, Octets, Refused, Status
 from krb._places import SIZE_OUT, U32_OUT, Telling
-from krb.frames import proxy_hint, proxy_places
-from krb.messages import Field, Message
 
 __all__ = ["Service", "ProxyRequest", "read_request", "read_request_lenient", "write_reply", "write_reply_datagram", "is_whole"]
 __all__ += ["write_request", "read_reply", "http_status"]
@@ -54,35 +52,41 @@ _read_reply = Telling("krb_read_proxy_reply", [IN], [SIZE_OUT, SIZE_OUT])
 
 _LENGTH = 4
 _FRAME = 48  # what a KDC-PROXY-MESSAGE has at most beside the octets of its fields
-_GENERAL_STRING = b"\x1b"
+_AS_REQ = 0x6A
 
 
-def _name(number: int, field: int, octets: bytes) -> Optional[Tuple[bytes, ...]]:
-    """The components of a name in a message that is known to be whole. They stand behind one another, and no element behind them has their tag."""
-    try:
-        place = messages.field_place(number, field, octets)
-    except Refused as refused:
-        if refused.status == Status.ABSENT:
-            return None
-        raise
-    found = [octets[place]]
-    at = place.stop
-    while octets[at : at + 1] == _GENERAL_STRING:
-        size, at = octets[at + 1], at + 2
-        if size >= 128:
-            size, at = int.from_bytes(octets[at : at + size - 128], "big"), at + size - 128
-        found.append(octets[at : at + size])
-        at += size
-    return tuple(found)
+class _Posted(NamedTuple):
+    """What a KDC-PROXY-MESSAGE says beside the message."""
+
+    target_domain: bytes
+    hint: Optional[int]
 
 
-def _hint(octets: bytes) -> Optional[int]:
-    try:
-        return proxy_hint(octets)
-    except Refused as refused:
-        if refused.status == Status.TOO_LARGE:
-            return None
-        raise
+def _posted(octets: bytes) -> _Posted:
+    fields = {item.name: octets[item.place] for item in items(octets, "KDC-PROXY-MESSAGE") if item.form == Form.LEAF}
+    hint = fields.get("dclocator-hint")
+    return _Posted(fields["target-domain"], None if hint is None or len(hint) > 8 else int.from_bytes(hint, "big", signed=True))
+
+
+class _Asked(NamedTuple):
+    """What a message asks for."""
+
+    realm: bytes
+    client: Optional[Tuple[bytes, ...]]
+    server: Optional[Tuple[bytes, ...]]
+
+
+def _asked(octets: bytes, as_type: str, depth: int, names: Tuple[str, ...]) -> _Asked:
+    """The realm, and the names of these fields, that stand in so many elements: in the request's body or in the ticket."""
+    realm, field, found = b"", "", {}
+    for item in items(octets, as_type):
+        if item.depth == depth and item.form == Form.BEGIN:
+            field = item.name
+        if item.name == "realm" and field == "realm" and item.kind == Leaf.TEXT and item.depth == depth + 1:
+            realm = octets[item.place]
+        elif item.form == Form.LEAF and item.kind == Leaf.COMPONENT and field in names:
+            found.setdefault(field, []).append(octets[item.place])
+    return _Asked(realm, *(tuple(found[name]) if name in found else None for name in ("cname", "sname")))
 
 
 def read_request(octets: Octets) -> ProxyRequest:
@@ -94,22 +98,21 @@ def read_request(octets: Octets) -> ProxyRequest:
     MEMORY. `http_status` says what to answer."""
     octets = bytes(memoryview(octets).cast("B"))
     service, names_one_realm, offset, size = _request.told(octets)
-    _, _, domain, domain_size = proxy_places(octets)
-    message = octets[offset : offset + size]
+    posted, message = _posted(octets), octets[offset : offset + size]
     if service == Service.KDC:
-        number, asked = Message(message[0] - 0x60), message
-        realm, server = Field.REALM, Field.SERVER_NAME
+        # [APPLICATION 10] SEQUENCE { req-body [4] SEQUENCE { field
+        asked = _asked(message, "AS-REQ" if message[0] == _AS_REQ else "TGS-REQ", 4, ("cname", "sname"))
     else:
-        number, asked = Message.AP_REQ, message[6 : 6 + int.from_bytes(message[4:6], "big")]
-        realm, server = Field.TICKET_REALM, Field.TICKET_SERVER_NAME
+        # [APPLICATION 14] SEQUENCE { ticket [3] [APPLICATION 1] SEQUENCE { field
+        asked = _asked(message[6 : 6 + int.from_bytes(message[4:6], "big")], "AP-REQ", 5, ("sname",))
     return ProxyRequest(
         Service(service),
-        messages.field_octets(number, realm, asked),
-        octets[domain : domain + domain_size],
+        asked.realm,
+        posted.target_domain,
         bool(names_one_realm),
-        _name(number, Field.CLIENT_NAME, asked),
-        _name(number, server, asked),
-        _hint(octets),
+        asked.client,
+        asked.server,
+        posted.hint,
         octets[offset - _LENGTH : offset + size],
         message,
     )
@@ -123,9 +126,9 @@ def read_request_lenient(octets: Octets) -> ProxyRequest:
     Refused: as `read_request` up to PROXY_OTHER_KIND; MEMORY."""
     octets = bytes(memoryview(octets).cast("B"))
     service, offset, size = _request_lenient.told(octets)
-    _, _, domain, domain_size = proxy_places(octets)
+    posted = _posted(octets)
     stream, message = octets[offset - _LENGTH : offset + size], octets[offset : offset + size]
-    return ProxyRequest(Service(service), None, octets[domain : domain + domain_size], None, None, None, _hint(octets), stream, message)
+    return ProxyRequest(Service(service), None, posted.target_domain, None, None, None, posted.hint, stream, message)
 
 
 def write_reply(octets: Octets) -> bytes:

@@ -3,10 +3,11 @@
 A mechanism is the content of its OBJECT IDENTIFIER, as `KERBEROS` and `SPNEGO` are."""
 
 import enum
-from typing import Iterable, List, NamedTuple, Optional, Union
+from typing import Dict, Iterable, List, NamedTuple, Optional, Union
 
-from krb._library import IN, SIZE, U32, Call, Octets, Refused, Status
-from krb._places import SIZE_OUT, U32_OUT, Telling
+from krb._items import Form, Item, items
+from krb._library import IN, U32, Call, Octets, Refused, Status
+from krb._places import SIZE_OUT, Telling
 
 __all__ = ["KERBEROS", "SPNEGO", "Token", "token", "make_token", "NegState", "NegTokenInit", "NegTokenResp"]
 __all__ += ["neg_token_init", "neg_token_init_mechanism", "neg_token_resp", "make_neg_token_init", "make_neg_token_resp"]
@@ -67,54 +68,55 @@ class NegTokenResp(NamedTuple):
     mech_list_mic: Optional[bytes]
 
 
-_init = Telling("krb_neg_token_init", [IN], [SIZE_OUT] * 6)
-_resp = Telling("krb_neg_token_resp", [IN], [U32_OUT] + [SIZE_OUT] * 6)
+def _fields(octets: bytes, alternative: str) -> Dict[str, List[Item]]:
+    """The items of each field of a message that the octets are."""
+    fields: Dict[str, List[Item]] = {}
+    for item in items(octets, "NegotiationToken (%s)" % alternative):
+        fields.setdefault(item.name, []).append(item)
+    return fields
 
 
-def _field(octets: bytes, offset: int, size: int) -> Optional[bytes]:
-    return octets[offset : offset + size] if offset else None
-
-
-def _identifiers(octets: bytes) -> List[bytes]:
-    """The contents of OBJECT IDENTIFIERs, one behind the other, which are known to be whole."""
-    found, at = [], 0
-    while at < len(octets):
-        size, at = octets[at + 1], at + 2
-        if size >= 128:
-            size, at = int.from_bytes(octets[at : at + size - 128], "big"), at + size - 128
-        found.append(octets[at : at + size])
-        at += size
-    return found
+def _octets(octets: bytes, found: Optional[List[Item]]) -> Optional[bytes]:
+    """The content of the OCTET STRING of a field: of the first item in its explicit tag."""
+    return octets[found[1].place] if found else None
 
 
 def neg_token_init(octets: Octets) -> NegTokenInit:
     """The NegTokenInit in the token that begins a negotiation; the mechanism of the token's frame is not compared.
 
     Refused: INVALID, TRUNCATED, UNSUPPORTED, MEMORY."""
-    octets = bytes(memoryview(octets).cast("B"))
-    places = _init.told(octets)
-    mechanisms = _field(octets, *places[0:2])
-    return NegTokenInit(None if mechanisms is None else _identifiers(mechanisms), _field(octets, *places[2:4]), _field(octets, *places[4:6]))
-
-
-_mechanism = Telling("krb_neg_token_init_mechanism", [IN, SIZE], [SIZE_OUT] * 2)
+    inner = token(octets).inner
+    fields = _fields(inner, "negTokenInit")
+    listed = fields.get("mechTypes")
+    mechanisms = None if listed is None else [inner[item.place] for item in listed if item.form == Form.LEAF]
+    return NegTokenInit(mechanisms, _octets(inner, fields.get("mechToken")), _octets(inner, fields.get("mechListMIC")))
 
 
 def neg_token_init_mechanism(octets: Octets, n: int) -> bytes:
     """Mechanism n, counted from 0, of the NegTokenInit in the token that begins a negotiation. `neg_token_init` has all of them.
 
     Refused: INVALID, TRUNCATED, UNSUPPORTED, MEMORY; then ABSENT where there are not so many."""
-    octets = bytes(memoryview(octets).cast("B"))
-    offset, size = _mechanism.told(octets, n if 0 <= n < 2**64 else 2**64 - 1)
-    return octets[offset : offset + size]
+    mechanisms = neg_token_init(octets).mechanisms or []
+    if not 0 <= n < len(mechanisms):
+        raise Refused(Status.ABSENT)
+    return mechanisms[n]
+
+
+def _state(octets: bytes, found: Optional[List[Item]]) -> Union[NegState, int, None]:
+    if found is None:
+        return None
+    content = octets[found[1].place]
+    if found[1].tag != 0x0A or len(content) != 1 or content[0] >= 128:
+        return -1
+    return NegState(content[0]) if content[0] < 4 else content[0]
 
 
 def neg_token_resp(octets: Octets) -> NegTokenResp:
     """The negTokenResp that the octets are. Refused: INVALID, TRUNCATED, UNSUPPORTED, MEMORY."""
     octets = bytes(memoryview(octets).cast("B"))
-    state, *places = _resp.told(octets)
-    named: Union[NegState, int, None] = None if state == 256 else -1 if state == 257 else NegState(state) if state < 4 else state
-    return NegTokenResp(named, _field(octets, *places[0:2]), _field(octets, *places[2:4]), _field(octets, *places[4:6]))
+    fields = _fields(octets, "negTokenResp")
+    state = _state(octets, fields.get("negState"))
+    return NegTokenResp(state, *(_octets(octets, fields.get(name)) for name in ("supportedMech", "responseToken", "mechListMIC")))
 
 
 _make_init = Call("krb_make_neg_token_init", IN, IN, IN, has_room=True)

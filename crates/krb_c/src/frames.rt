@@ -4,11 +4,9 @@ ghost use Rattle.std.specs.Prelude.{[]};
 ghost use Rattle.krb_c_calls.specs.Handing.{IsAnswered};
 ghost use Rattle.krb_c_calls.specs.MessageRules.{RefusesReading};
 ghost use Rattle.krb_c_frames.specs.Making.{IsMade, IsMadeAnswer, RefusesAnswer, made_init, present};
-ghost use Rattle.krb_c_frames.specs.Mechanism.{IsMechanism};
-ghost use Rattle.krb_c_frames.specs.Negotiation.{IsAnswerAt, IsInitAt};
 ghost use Rattle.krb_c_frames.specs.Pac.{IsPacBuffer, IsPacCount};
 ghost use Rattle.krb_c_frames.specs.Password.{IsFrameAt, IsMadeFrame, RefusesMaking};
-ghost use Rattle.krb_c_frames.specs.Proxy.{IsProxyAt, IsProxyHint, proxy_octets};
+ghost use Rattle.krb_c_frames.specs.Proxy.{proxy_octets};
 ghost use Rattle.krb_c_frames.specs.Token.{IsMadeToken, IsTokenAt, RefusesMechanism};
 
 use krb_der::DerEncode;
@@ -102,106 +100,6 @@ pub extern "C" fn krb_make_password_frame(
         (RefusesMaking ⟦<ApMessage as DerEncode>⟧ ⟦<KrbPriv as DerEncode>⟧ ap_message.now krb_priv.now) out.old out.new size.new result }
 {
     krb_c_frames::make_password_frame(alloc, ap_message, krb_priv, out, size)
-}
-
-/// `krb_kdc_proxy_message` of `krb.h`: the places of the fields of a KDC-PROXY-MESSAGE (MS-KKDCP, 2.2.2).
-#[unsafe(no_mangle)]
-pub extern "C" fn krb_kdc_proxy_message(
-    alloc: Global,
-    octets: &[u8],
-    message_offset: &mut usize,
-    message_size: &mut usize,
-    domain_offset: &mut usize,
-    domain_size: &mut usize,
-) -> u32
-    ensures { IsProxyAt ⟦<KdcProxyMessage as DerEncode>⟧ octets.now message_offset.new message_size.new domain_offset.new domain_size.new result }
-{
-    krb_c_frames::kdc_proxy_message(
-        alloc,
-        octets,
-        message_offset,
-        message_size,
-        domain_offset,
-        domain_size,
-    )
-}
-
-/// `krb_kdc_proxy_hint` of `krb.h`: dclocator-hint of a KDC-PROXY-MESSAGE (MS-KKDCP, 2.2.2).
-#[unsafe(no_mangle)]
-pub extern "C" fn krb_kdc_proxy_hint(alloc: Global, octets: &[u8], hint: &mut i64) -> u32
-    ensures { IsProxyHint ⟦<KdcProxyMessage as DerEncode>⟧ octets.now hint.new result }
-{
-    krb_c_frames::kdc_proxy_hint(alloc, octets, hint)
-}
-
-/// `krb_neg_token_init` of `krb.h`: the places of the fields of the token that begins a negotiation (RFC 4178, 4.2.1).
-#[unsafe(no_mangle)]
-pub extern "C" fn krb_neg_token_init(
-    alloc: Global,
-    octets: &[u8],
-    mechanisms_offset: &mut usize,
-    mechanisms_size: &mut usize,
-    token_offset: &mut usize,
-    token_size: &mut usize,
-    mic_offset: &mut usize,
-    mic_size: &mut usize,
-) -> u32
-    ensures { IsInitAt ⟦<ApplicationTag0<GssApiNegInit> as DerEncode>⟧ octets.now mechanisms_offset.new mechanisms_size.new
-        token_offset.new token_size.new mic_offset.new mic_size.new result }
-{
-    krb_c_frames::neg_token_init(
-        alloc,
-        octets,
-        mechanisms_offset,
-        mechanisms_size,
-        token_offset,
-        token_size,
-        mic_offset,
-        mic_size,
-    )
-}
-
-/// `krb_neg_token_init_mechanism` of `krb.h`: the place of a mechanism in the token that begins a negotiation (RFC 4178, 4.2.1).
-#[unsafe(no_mangle)]
-pub extern "C" fn krb_neg_token_init_mechanism(
-    alloc: Global,
-    octets: &[u8],
-    n: usize,
-    offset: &mut usize,
-    size: &mut usize,
-) -> u32
-    ensures { IsMechanism ⟦<ApplicationTag0<GssApiNegInit> as DerEncode>⟧ octets.now n offset.new size.new result }
-{
-    krb_c_frames::neg_token_init_mechanism(alloc, octets, n, offset, size)
-}
-
-/// `krb_neg_token_resp` of `krb.h`: negState of a later message of a negotiation, and the places of its other fields (RFC 4178, 4.2.2).
-#[unsafe(no_mangle)]
-pub extern "C" fn krb_neg_token_resp(
-    alloc: Global,
-    message: &[u8],
-    state: &mut u32,
-    mechanism_offset: &mut usize,
-    mechanism_size: &mut usize,
-    token_offset: &mut usize,
-    token_size: &mut usize,
-    mic_offset: &mut usize,
-    mic_size: &mut usize,
-) -> u32
-    ensures { IsAnswerAt ⟦<NegTokenTarg1 as DerEncode>⟧ message.now state.new mechanism_offset.new mechanism_size.new
-        token_offset.new token_size.new mic_offset.new mic_size.new result }
-{
-    krb_c_frames::neg_token_resp(
-        alloc,
-        message,
-        state,
-        mechanism_offset,
-        mechanism_size,
-        token_offset,
-        token_size,
-        mic_offset,
-        mic_size,
-    )
 }
 
 /// `krb_make_kdc_proxy_message` of `krb.h`: a KDC-PROXY-MESSAGE of these fields (MS-KKDCP, 2.2.2).

@@ -2,9 +2,9 @@
 #![tactic(auto)]
 
 mod crypto;
-mod fields;
 mod frames;
 mod gss;
+mod items;
 mod kept;
 mod parts;
 mod proxy;

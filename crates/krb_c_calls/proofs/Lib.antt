@@ -1,7 +1,7 @@
+mod PlacedItems
 pub mod TokensAnswered
 pub mod RequestsMade
 pub mod Answered
 mod KeptAgain
 mod Lengths
-mod Given
 mod Refused

@@ -1,9 +1,9 @@
-//! The calls of the library for C: of the cryptography; of messages and their parts, fields, per-message tokens and proxies.
+//! The calls of the library for C: of the cryptography; of messages and their parts, items of octets, per-message tokens and proxies.
 #![tactic(auto)]
 
 mod checksums;
-pub mod fields;
 pub mod handing;
+pub mod items;
 mod kept;
 mod keys;
 pub mod laws;

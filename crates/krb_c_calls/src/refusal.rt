@@ -61,7 +61,8 @@ pub(crate) fn crypto_number(error: &KerberosCryptoError) -> u32
     }
 }
 
-fn der_number(error: &Asn1DerError) -> u32
+/// The number of an error of octets that are to be DER.
+pub(crate) fn der_number(error: &Asn1DerError) -> u32
     ensures number { result ≡ der_status error.now }
     ensures refusal { 1 < result }
 {

@@ -2,7 +2,7 @@
 use Rattle.std.proofs.Common.{◌≡◌, ℕ, ◌+◌, ◌<◌, ◌≤◌, List, [], ◌++◌, length, take, drop, refl, sym, ap, ◌∙◌, append_assoc, arith}
 use Rattle.std.proofs.lemmas.List.{length-append, drop_at, take_at}
 use Rattle.krb_der_core.specs.Tlv.{header, tlv}
-use Rattle.krb_c_frames.specs.Places.{EndsInside, StandsBefore}
+use Rattle.krb_c_frames.specs.Places.{StandsBefore}
 
 -- the octets end with these
 pub record Ends (tail input : List ℕ) : Type 0 where
@@ -46,35 +46,3 @@ stands field behind input offset size e at count =
       count = count;
       octets = sym (ap (λ (l : List ℕ). take size (drop offset l)) e.parts ∙ ap (take size) (drop_at e.before (field ++ behind) offset (sym start)) ∙ take_at field behind size (sym count));
     }
-
--- ---- fields under two tags
-
-pub ends_field : (t u : ℕ) (c rest : List ℕ) → Ends (c ++ rest) (tlv t (tlv u c) ++ rest)
-ends_field t u c rest =
-    let outer = header t (length (tlv u c)) in
-    let inner = header u (length c) in
-    record {
-      before = outer ++ inner;
-      parts = ap (λ (l : List ℕ). l ++ rest) (tlv_split t (tlv u c) ∙ ap (λ (l : List ℕ). outer ++ l) (tlv_split u c)) ∙ append_assoc outer (inner ++ c) rest
-          ∙ ap (λ (l : List ℕ). outer ++ l) (append_assoc inner c rest) ∙ sym (append_assoc outer inner (c ++ rest));
-    }
-
-pub inside_tlv : (t : ℕ) (tail content input : List ℕ) → input ≡ tlv t content → Ends tail content → EndsInside tail input
-inside_tlv t tail content input same e =
-    let all = ends_after (header t (length content)) tail content e in
-    record {
-      before = header t (length content) ++ e.before;
-      parts = same ∙ tlv_split t content ∙ ap (λ (l : List ℕ). header t (length content) ++ l) e.parts ∙ sym (append_assoc (header t (length content)) e.before tail);
-      some = omega (arith, length-append (header t (length content)) e.before);
-    }
-
--- the place that `Place::within` tells
-pub place_within : (field behind input : List ℕ) (offset size : ℕ) → offset + length field + length behind ≡ length input → size ≡ length field → EndsInside (field ++ behind) input
-    → (0 < offset) × StandsBefore field behind input offset size
-place_within field behind input offset size at count e =
-    let s = stands field behind input offset size (record { before = e.before; parts = e.parts }) at count in
-    let long = ap length e.parts ∙ length-append e.before (field ++ behind) in
-    (omega (arith, at, e.some, long, length-append field behind), s)
-
-pub inside_size : (field behind input : List ℕ) → EndsInside (field ++ behind) input → length field + length behind ≤ length input
-inside_size field behind input e = omega (arith, ap length e.parts, length-append e.before (field ++ behind), length-append field behind)

@@ -1,6 +1,4 @@
-pub mod Elements
 pub mod Making
-pub mod Mechanism
 pub mod Negotiation
 pub mod Pac
 pub mod Password

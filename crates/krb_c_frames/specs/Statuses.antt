@@ -7,7 +7,7 @@ use Rattle.krb_messages.specs.declared.kpasswd.error.MessageError.TheVariants as
 use Rattle.krb_messages.specs.declared.kpasswd.error.ReadFrameError.{ReadFrameError}
 use Rattle.krb_messages.specs.declared.kpasswd.error.ReadFrameError.TheVariants as frame
 use Rattle.krb_c_frames.specs.declared.refusal.Refusal.{Refusal}
-use Rattle.krb_c_frames.specs.declared.refusal.Refusal.TheVariants.{Memory, Absent, TooLong, Large, Pac, Frame}
+use Rattle.krb_c_frames.specs.declared.refusal.Refusal.TheVariants.{Memory, Absent, TooLong, Pac, Frame}
 
 -- an error of a PAC
 abbrev pub pac_status : PacError → ℕ
@@ -35,6 +35,5 @@ abbrev pub refusal_status : Refusal → ℕ
 refusal_status Memory = 2
 refusal_status Absent = 20
 refusal_status TooLong = 28
-refusal_status Large = 21
 refusal_status (Pac e) = pac_status e
 refusal_status (Frame e) = frame_status e

@@ -9,7 +9,6 @@ ghost use Rattle.krb_c_frames.specs.Making.{IsMade, IsMadeAnswer, IsStateNumber,
 ghost use Rattle.krb_c_frames.specs.Negotiation.{field};
 ghost use Rattle.krb_c_frames.specs.Proxy.{proxy_octets};
 
-use crate::negotiation::ABSENT;
 use krb_c_calls::Refusal;
 use krb_c_calls::handing::{HasStatus, put};
 use krb_c_calls::parts::read;
@@ -18,6 +17,9 @@ use krb_der_core::{close_tlv, write_tlv};
 use krb_gss_tokens::gss_api::{ApplicationTag0, GssApiNegInit, NegTokenTarg1};
 use krb_messages::messages::KdcProxyMessage;
 use std::alloc::{AllocError, Global};
+
+/// The number of negState where it is absent.
+const ABSENT: u32 = 256;
 
 /// The content of SPNEGO's OBJECT IDENTIFIER, 1.3.6.1.5.5.2 (RFC 4178, 3.1).
 const SPNEGO: [u8; 6] = [43, 6, 1, 5, 5, 2];

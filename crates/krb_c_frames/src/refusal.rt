@@ -16,8 +16,6 @@ pub enum Refusal {
     Absent,
     /// The frame has more than 65535 octets.
     TooLong,
-    /// An INTEGER that 64 bits do not hold.
-    Large,
     /// The error of a PAC.
     Pac(PacError),
     /// The error of a frame that changes a password.
@@ -32,7 +30,6 @@ impl HasStatus for Refusal {
             Refusal::Memory => 2,
             Refusal::Absent => 20,
             Refusal::TooLong => 28,
-            Refusal::Large => 21,
             Refusal::Pac(error) => pac_number(error),
             Refusal::Frame(error) => frame_number(error),
         }

@@ -1,15 +1,5 @@
-pub mod Numbers
-pub mod Encodings
-pub mod Fields
 pub mod FieldPaths
-pub mod Found
-pub mod FoundLaws
 pub mod TypeLaws
-pub mod RequestLaws
-pub mod ReplyLaws
-pub mod ApplicationLaws
-pub mod ErrorLaws
-pub mod IntegerLaws
 pub mod Places
 pub mod Rows
 pub mod Paths

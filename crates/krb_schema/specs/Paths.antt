@@ -23,10 +23,18 @@ is_end (form.End kind) = true
 is_end (form.Begin kind) = false
 is_end (form.Leaf kind) = false
 
--- the items from an element's own on: the first that is no explicit tag around it and no OCTET STRING that holds it
+-- Of the items of an element: those from the one that has its elements on, past explicit tags and OCTET STRINGs that hold one element.
 abbrev pub own : List Item → List Item
 own [] = []
 own (i ∷ items) = if is_wrap i.form then own items else i ∷ items
+
+-- those from the first that is no explicit tag on; an OCTET STRING is itself, whether or not it holds an element
+abbrev pub is_tag : Item → Bool
+is_tag i = is_wrap i.form && not (i.tag == 4)
+
+abbrev pub untagged : List Item → List Item
+untagged [] = []
+untagged (i ∷ items) = if is_tag i then untagged items else i ∷ items
 
 -- an element begins one deeper than this
 abbrev pub is_child : ℕ → Item → Bool
@@ -116,7 +124,7 @@ first_of [] = None
 first_of (i ∷ items) = Some i
 
 abbrev pub item_of : List Item → Option Item
-item_of items = first_of (own items)
+item_of items = first_of (untagged items)
 
 -- The path leads to this item; or it is no path, or leads nowhere.
 abbrev pub IsFound : List ℕ → List Item → Item → Type 0

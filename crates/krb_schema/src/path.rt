@@ -2,7 +2,7 @@
 //! between, and `[n]` for the element n of a list, counted from 0.
 
 ghost use Rattle.std.specs.Prelude.{◌≡◌, ◌+◌, ◌^◌, ◌<◌, ◌≤◌, length, None, Some, IfSome, MatchOption, MatchResult};
-ghost use Rattle.krb_schema.specs.Paths.{IsFound, RefusesPath, closed_size, digits_size, element_of, field_of, is_child, is_digit, is_end, is_of_name, is_wrap, item_of, leads, led, name_size, named, nth, number_of, own, step_into, step_size};
+ghost use Rattle.krb_schema.specs.Paths.{IsFound, RefusesPath, closed_size, digits_size, element_of, field_of, is_child, is_digit, is_end, is_of_name, is_tag, is_wrap, item_of, leads, led, name_size, named, nth, number_of, own, step_into, step_size, untagged};
 
 use crate::item::{Form, Item, Node};
 use thiserror::Error;
@@ -50,13 +50,34 @@ fn is_child(depth: u8, item: Item) -> bool
     item.depth.saturating_sub(depth) == 1 && !is_end(item.form)
 }
 
-/// The items from an element's own on, which stands in what holds it alone.
+/// Those from the one on that has an element's elements.
 fn own(items: &[Item]) -> &[Item]
     ensures { result.now ≡ own items.now }
 {
     let mut rest = items;
     'items: while let Some((item, behind)) = rest.split_first() {
         if !is_wrap(item.form) {
+            return rest;
+        }
+        rest = behind;
+    }
+    rest
+}
+
+/// Whether an explicit tag begins.
+fn is_tag(item: Item) -> bool
+    ensures { result ≡ is_tag item }
+{
+    is_wrap(item.form) && item.tag != 4
+}
+
+/// Those from the first on that is no explicit tag.
+fn untagged(items: &[Item]) -> &[Item]
+    ensures { result.now ≡ untagged items.now }
+{
+    let mut rest = items;
+    'items: while let Some((item, behind)) = rest.split_first() {
+        if !is_tag(*item) {
             return rest;
         }
         rest = behind;
@@ -237,14 +258,14 @@ fn leads<'a>(path: &[u8], items: &'a [Item]) -> Option<&'a [Item]>
 fn item_of(items: &[Item]) -> Option<Item>
     ensures { result ≡ item_of items.now }
 {
-    match own(items).split_first() {
+    match untagged(items).split_first() {
         Some((item, _)) => Some(*item),
         None => None,
     }
 }
 
 /// The item that a path leads to among those that `items_of` answers; the empty path leads to the whole. A field or an element of a list has the item
-/// of what its explicit tag, or the OCTET STRING that holds it, has in it.
+/// of what stands in its explicit tags. An OCTET STRING that holds an element has its own, and the path goes on to the fields of what it holds.
 ///
 /// `Absent` where there is no such field or element, `NoPath` where the text is no path.
 pub fn find(items: &[Item], path: &[u8]) -> Result<Item, PathError>

@@ -1,8 +1,9 @@
 //! PACs, tokens, frames of password changes and messages through a KDC proxy.
 
+use crate::item_rows::{counted, found};
 use krb_c_frames::{
-    gss_token, kdc_proxy_hint, kdc_proxy_message, make_gss_token, make_kdc_proxy_message,
-    make_password_frame, pac_buffer, pac_count, password_frame,
+    gss_token, make_gss_token, make_kdc_proxy_message, make_password_frame, pac_buffer, pac_count,
+    password_frame,
 };
 use std::alloc::Global;
 use std::test::Fail;
@@ -69,10 +70,17 @@ fn password_places(alloc: Global, octets: &[u8]) -> (u32, usize, usize, usize, u
     (status, a, b, c, d)
 }
 
-fn proxy_places(alloc: Global, octets: &[u8]) -> (u32, usize, usize, usize, usize) {
-    let (mut a, mut b, mut c, mut d) = (7, 7, 7, 7);
-    let status = kdc_proxy_message(alloc, octets, &mut a, &mut b, &mut c, &mut d);
-    (status, a, b, c, d)
+/// Of kerb-message and of target-domain.
+fn proxy_places(alloc: Global, octets: &[u8]) -> ((u32, usize, usize), (u32, usize, usize)) {
+    let name = b"KDC-PROXY-MESSAGE";
+    (
+        found(alloc, name, b"kerb-message", octets),
+        found(alloc, name, b"target-domain", octets),
+    )
+}
+
+fn hint(alloc: Global, octets: &[u8]) -> (u32, i64) {
+    counted(alloc, b"KDC-PROXY-MESSAGE", b"dclocator-hint", octets)
 }
 
 /// Status, type, offset and size.
@@ -136,16 +144,13 @@ fn takes_password_frames_apart(rt: HostRuntime) -> Result<(), Fail> {
 #[test]
 fn takes_proxy_messages_apart(rt: HostRuntime) -> Result<(), Fail> {
     let alloc = rt.alloc();
-    let mut hint = 7;
-    assert!(&rt; proxy_places(alloc, &PROXY) == (0, 6, 12, 22, 1));
-    assert!(&rt; kdc_proxy_hint(alloc, &PROXY, &mut hint) == 0);
-    assert!(&rt; hint == 65535);
+    assert!(&rt; proxy_places(alloc, &PROXY) == ((0, 6, 12), (0, 22, 1)));
+    assert!(&rt; hint(alloc, &PROXY) == (0, 65535));
     let mut large = Vec::from_slice(alloc, &LARGE_PROXY)?;
     large.resize(70015, 0)?;
     large.extend_from_slice(&DOMAIN)?;
-    assert!(&rt; proxy_places(alloc, &large) == (0, 15, 70000, 70019, 1));
-    assert!(&rt; kdc_proxy_hint(alloc, &large, &mut hint) == 20);
-    assert!(&rt; hint == 0);
+    assert!(&rt; proxy_places(alloc, &large) == ((0, 15, 70000), (0, 70019, 1)));
+    assert!(&rt; hint(alloc, &large) == (20, 0));
     let (mut made, mut size) = (Vec::from_elem(alloc, 1, 70020)?, 7);
     let status = make_kdc_proxy_message(alloc, &large[15..70015], &[0x52], &mut made, &mut size);
     assert!(&rt; is_made(status, size, &made, &large));

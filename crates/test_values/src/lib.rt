@@ -13,11 +13,11 @@ mod built_messages;
 #[cfg(test)]
 mod code_texts;
 #[cfg(test)]
-mod field_rows;
-#[cfg(test)]
 mod first_rows;
 #[cfg(test)]
 mod frames;
+#[cfg(test)]
+mod item_rows;
 #[cfg(test)]
 mod large_calls;
 #[cfg(test)]

@@ -1,10 +1,8 @@
 //! Messages of SPNEGO (RFC 4178, 4.2).
 
 use crate::frames::is_made;
-use krb_c_frames::{
-    make_neg_token_init, make_neg_token_resp, neg_token_init, neg_token_init_mechanism,
-    neg_token_resp,
-};
+use crate::item_rows::found;
+use krb_c_frames::{make_neg_token_init, make_neg_token_resp};
 use std::alloc::Global;
 use std::test::Fail;
 
@@ -36,45 +34,32 @@ const LARGE_RESP: [u8; 38] = [
     0x75, 0x04, 0x83, 0x01, 0x11, 0x70,
 ];
 
-/// Status, and the offsets of three fields, and their sizes.
-type Places = (u32, (usize, usize, usize), (usize, usize, usize));
-
-fn init_places(alloc: Global, octets: &[u8]) -> Places {
-    let (mut a, mut b, mut c, mut d, mut e, mut f) = (7, 7, 7, 7, 7, 7);
-    let status = neg_token_init(
-        alloc, octets, &mut a, &mut b, &mut c, &mut d, &mut e, &mut f,
-    );
-    (status, (a, c, e), (b, d, f))
+/// Status, offset and size of a field of the message within the frame, which begins after so many octets.
+fn of_init(alloc: Global, path: &[u8], octets: &[u8]) -> (u32, usize, usize) {
+    found(alloc, b"NegotiationToken (negTokenInit)", path, octets)
 }
 
-/// The same, and negState.
-fn resp_places(alloc: Global, octets: &[u8]) -> (u32, Places) {
-    let (mut state, mut a, mut b, mut c, mut d, mut e, mut f) = (7, 7, 7, 7, 7, 7, 7);
-    let status = neg_token_resp(
-        alloc, octets, &mut state, &mut a, &mut b, &mut c, &mut d, &mut e, &mut f,
-    );
-    (state, (status, (a, c, e), (b, d, f)))
-}
-
-/// Status, offset and size.
-fn mechanism(alloc: Global, octets: &[u8], n: usize) -> (u32, usize, usize) {
-    let (mut offset, mut size) = (7, 7);
-    let status = neg_token_init_mechanism(alloc, octets, n, &mut offset, &mut size);
-    (status, offset, size)
+fn of_resp(alloc: Global, path: &[u8], octets: &[u8]) -> (u32, usize, usize) {
+    found(alloc, b"NegotiationToken (negTokenResp)", path, octets)
 }
 
 #[test]
 fn takes_the_first_message_apart(rt: HostRuntime) -> Result<(), Fail> {
     let alloc = rt.alloc();
-    assert!(&rt; init_places(alloc, &INIT) == (0, (18, 45, 54), (23, 5, 3)));
-    assert!(&rt; init_places(alloc, &INIT[..56]) == (10, (0, 0, 0), (0, 0, 0)));
-    assert!(&rt; mechanism(alloc, &INIT, 0) == (0, 20, 9));
-    assert!(&rt; mechanism(alloc, &INIT, 1) == (0, 31, 10));
-    assert!(&rt; mechanism(alloc, &INIT, 2) == (20, 0, 0));
+    let inner = &INIT[10..];
+    assert!(&rt; of_init(alloc, b"mechTypes", inner) == (0, 8, 23));
+    assert!(&rt; of_init(alloc, b"mechToken", inner) == (0, 35, 5));
+    assert!(&rt; of_init(alloc, b"mechListMIC", inner) == (0, 44, 3));
+    assert!(&rt; of_init(alloc, b"mechTypes", &INIT[10..56]) == (10, 0, 0));
+    assert!(&rt; of_init(alloc, b"mechTypes[0]", inner) == (0, 10, 9));
+    assert!(&rt; of_init(alloc, b"mechTypes[1]", inner) == (0, 21, 10));
+    assert!(&rt; of_init(alloc, b"mechTypes[2]", inner) == (20, 0, 0));
     let mut large = Vec::from_slice(alloc, &LARGE_INIT)?;
     large.resize(70048, 0)?;
-    assert!(&rt; init_places(alloc, &large) == (0, (27, 48, 0), (11, 70000, 0)));
-    assert!(&rt; mechanism(alloc, &large, 0) == (0, 29, 9));
+    let inner = &large[13..];
+    assert!(&rt; of_init(alloc, b"mechTypes", inner) == (0, 14, 11));
+    assert!(&rt; of_init(alloc, b"mechToken", inner) == (0, 35, 70000));
+    assert!(&rt; of_init(alloc, b"mechListMIC", inner) == (20, 0, 0));
     Ok(())
 }
 
@@ -108,11 +93,14 @@ fn makes_the_first_message(rt: HostRuntime) -> Result<(), Fail> {
 #[test]
 fn takes_a_later_message_apart(rt: HostRuntime) -> Result<(), Fail> {
     let alloc = rt.alloc();
-    assert!(&rt; resp_places(alloc, &RESP) == (0, (0, (13, 0, 0), (9, 0, 0))));
-    assert!(&rt; resp_places(alloc, &RESP[..21]) == (256, (10, (0, 0, 0), (0, 0, 0))));
+    assert!(&rt; of_resp(alloc, b"negState", &RESP) == (0, 8, 1));
+    assert!(&rt; of_resp(alloc, b"supportedMech", &RESP) == (0, 13, 9));
+    assert!(&rt; of_resp(alloc, b"responseToken", &RESP) == (20, 0, 0));
+    assert!(&rt; of_resp(alloc, b"negState", &RESP[..21]) == (10, 0, 0));
     let mut large = Vec::from_slice(alloc, &LARGE_RESP)?;
     large.resize(70038, 0)?;
-    assert!(&rt; resp_places(alloc, &large) == (1, (0, (19, 38, 0), (9, 70000, 0))));
+    assert!(&rt; of_resp(alloc, b"supportedMech", &large) == (0, 19, 9));
+    assert!(&rt; of_resp(alloc, b"responseToken", &large) == (0, 38, 70000));
     Ok(())
 }
 

@@ -1,0 +1,58 @@
+//! Items of octets, for C. `krb.h` declares these calls.
+
+ghost use Rattle.krb_c_calls.specs.Handing.{IsAnswered};
+ghost use Rattle.krb_c_calls.specs.Items.{IsItemAnswer, IsItemNumber, IsItemsAnswer, IsNameOf, RefusesName};
+
+use krb_c_calls::items::ItemRecord;
+use std::alloc::Global;
+
+/// `krb_items` of `krb.h`: all items of octets that are an element of a type (RFC 4120 and others).
+#[unsafe(no_mangle)]
+pub extern "C" fn krb_items(
+    alloc: Global,
+    type_name: &[u8],
+    octets: &[u8],
+    items: &mut [ItemRecord],
+    count: &mut usize,
+    offset: &mut usize,
+) -> u32
+    ensures { IsItemsAnswer type_name.now octets.now items.old items.new count.new offset.new result }
+{
+    krb_c_calls::items::items(alloc, type_name, octets, items, count, offset)
+}
+
+/// `krb_item_name` of `krb.h`: the name that items of this number have.
+#[unsafe(no_mangle)]
+pub extern "C" fn krb_item_name(number: u32, out: &mut [u8], size: &mut usize) -> u32
+    ensures { IsAnswered (IsNameOf number) (RefusesName number) out.old out.new size.new result }
+{
+    krb_c_calls::items::item_name(number, out, size)
+}
+
+/// `krb_find` of `krb.h`: the item of octets that a path leads to.
+#[unsafe(no_mangle)]
+pub extern "C" fn krb_find(
+    alloc: Global,
+    type_name: &[u8],
+    path: &[u8],
+    octets: &[u8],
+    item: &mut ItemRecord,
+) -> u32
+    ensures { IsItemAnswer type_name.now path.now octets.now item.new result }
+{
+    krb_c_calls::items::find(alloc, type_name, path, octets, item)
+}
+
+/// `krb_find_number` of `krb.h`: the number of the item of octets that a path leads to.
+#[unsafe(no_mangle)]
+pub extern "C" fn krb_find_number(
+    alloc: Global,
+    type_name: &[u8],
+    path: &[u8],
+    octets: &[u8],
+    number: &mut i64,
+) -> u32
+    ensures { IsItemNumber type_name.now path.now octets.now number.new result }
+{
+    krb_c_calls::items::find_number(alloc, type_name, path, octets, number)
+}

@@ -1,7 +1,0 @@
-use Rattle.krb_c_frames.proofs.Negotiations.{init_fields_read}
-use Rattle.krb_c_frames.proofs.negotiation.init_fields.Goals as goal
-
-pub returns : goal.returns
-returns c =
-    init_fields_read c.args.octets.now c.inside.result.0.now c.inside.result.1.now c.inside-2.result.0.now c.inside-2.result.1.now c.inside-3.result.0.now c.inside-3.result.1.now
-    c.inside-4.result.0.now c.inside-4.result.1.now c.inside.ensures c.inside-2.ensures c.inside-3.ensures c.inside-4.ensures

@@ -1,0 +1,201 @@
+//! Items of a KRB-ERROR that Heimdal made, of a request with two thousand encryption types, and of a part of 70,000 octets.
+
+use krb_c_calls::items::{ABSENT, ItemRecord, find, find_number, item_name, items};
+use std::alloc::Global;
+use std::test::Fail;
+
+/// A KRB-ERROR of Heimdal 7.8 (RFC 4120, 5.9.1).
+const ERROR: [u8; 124] = [
+    0x7e, 0x7a, 0x30, 0x78, 0xa0, 0x03, 0x02, 0x01, 0x05, 0xa1, 0x03, 0x02, 0x01, 0x1e, 0xa4, 0x11,
+    0x18, 0x0f, 0x32, 0x30, 0x32, 0x36, 0x31, 0x31, 0x32, 0x32, 0x30, 0x37, 0x30, 0x30, 0x30, 0x30,
+    0x5a, 0xa5, 0x05, 0x02, 0x03, 0x0c, 0x96, 0x56, 0xa6, 0x03, 0x02, 0x01, 0x06, 0xa7, 0x0b, 0x1b,
+    0x09, 0x48, 0x45, 0x49, 0x4d, 0x2e, 0x54, 0x45, 0x53, 0x54, 0xa8, 0x13, 0x30, 0x11, 0xa0, 0x03,
+    0x02, 0x01, 0x01, 0xa1, 0x0a, 0x30, 0x08, 0x1b, 0x06, 0x6e, 0x6f, 0x62, 0x6f, 0x64, 0x79, 0xa9,
+    0x0b, 0x1b, 0x09, 0x48, 0x45, 0x49, 0x4d, 0x2e, 0x54, 0x45, 0x53, 0x54, 0xaa, 0x1e, 0x30, 0x1c,
+    0xa0, 0x03, 0x02, 0x01, 0x02, 0xa1, 0x15, 0x30, 0x13, 0x1b, 0x06, 0x6b, 0x72, 0x62, 0x74, 0x67,
+    0x74, 0x1b, 0x09, 0x48, 0x45, 0x49, 0x4d, 0x2e, 0x54, 0x45, 0x53, 0x54,
+];
+
+/// An AS-REQ (RFC 4120, 5.4.1) before its 2,000 encryption types, each of them 18.
+const REQUEST: [u8; 72] = [
+    0x6a, 0x82, 0x17, 0xb4, 0x30, 0x82, 0x17, 0xb0, 0xa1, 0x03, 0x02, 0x01, 0x05, 0xa2, 0x03, 0x02,
+    0x01, 0x0a, 0xa4, 0x82, 0x17, 0xa2, 0x30, 0x82, 0x17, 0x9e, 0xa0, 0x07, 0x03, 0x05, 0x00, 0x00,
+    0x00, 0x00, 0x00, 0xa2, 0x03, 0x1b, 0x01, 0x52, 0xa5, 0x11, 0x18, 0x0f, 0x32, 0x30, 0x33, 0x37,
+    0x30, 0x39, 0x31, 0x33, 0x30, 0x32, 0x34, 0x38, 0x30, 0x35, 0x5a, 0xa7, 0x03, 0x02, 0x01, 0x05,
+    0xa8, 0x82, 0x17, 0x74, 0x30, 0x82, 0x17, 0x70,
+];
+
+/// A KRB-PRIV (RFC 4120, 5.7.1) before its 70,000 octets of cipher.
+const PRIVATE: [u8; 45] = [
+    0x75, 0x83, 0x01, 0x11, 0x98, 0x30, 0x83, 0x01, 0x11, 0x93, 0xa0, 0x03, 0x02, 0x01, 0x05, 0xa1,
+    0x03, 0x02, 0x01, 0x15, 0xa3, 0x83, 0x01, 0x11, 0x84, 0x30, 0x83, 0x01, 0x11, 0x7f, 0xa0, 0x03,
+    0x02, 0x01, 0x12, 0xa2, 0x83, 0x01, 0x11, 0x75, 0x04, 0x83, 0x01, 0x11, 0x70,
+];
+
+/// An item that no call tells.
+const OTHER: ItemRecord = ItemRecord {
+    offset: 7,
+    size: 7,
+    form: 7,
+    kind: 7,
+    name: 7,
+    registry: 7,
+    depth: 7,
+    tag: 7,
+};
+
+/// Status, offset and size of what a path leads to.
+pub(crate) fn found(
+    alloc: Global,
+    type_name: &[u8],
+    path: &[u8],
+    octets: &[u8],
+) -> (u32, usize, usize) {
+    let mut item = OTHER;
+    let status = find(alloc, type_name, path, octets, &mut item);
+    (status, item.offset, item.size)
+}
+
+/// Status and number.
+pub(crate) fn counted(alloc: Global, type_name: &[u8], path: &[u8], octets: &[u8]) -> (u32, i64) {
+    let mut value = 7;
+    let status = find_number(alloc, type_name, path, octets, &mut value);
+    (status, value)
+}
+
+#[test]
+fn finds_fields_of_an_error(rt: HostRuntime) {
+    let alloc = rt.alloc();
+    assert_eq!(rt; found(alloc, b"KRB-ERROR", b"realm", &ERROR), (0, 83, 9));
+    assert_eq!(rt;
+        found(alloc, b"KRB-ERROR", b"sname.name-string[1]", &ERROR),
+        (0, 115, 9)
+    );
+    assert_eq!(rt;
+        found(alloc, b"KRB-ERROR", b"sname.name-string[2]", &ERROR),
+        (ABSENT, 0, 0)
+    );
+    assert_eq!(rt;
+        found(alloc, b"KRB-ERROR", b"", &ERROR),
+        (0, 4, 120),
+        "the whole"
+    );
+    assert_eq!(rt;
+        found(alloc, b"KRB-ERROR", b"e-text", &ERROR),
+        (ABSENT, 0, 0)
+    );
+    assert_eq!(rt;
+        found(alloc, b"KRB-ERROR", b"realm.", &ERROR),
+        (3, 0, 0),
+        "no path"
+    );
+    assert_eq!(rt;
+        found(alloc, b"KRB-ERRORS", b"realm", &ERROR),
+        (3, 0, 0),
+        "no type"
+    );
+    assert_eq!(rt;
+        found(alloc, b"KRB-ERROR", b"realm", &ERROR[..123]),
+        (10, 0, 0),
+        "cut"
+    );
+    assert_eq!(rt;
+        found(alloc, b"AS-REQ", b"realm", &ERROR),
+        (9, 0, 0),
+        "another message"
+    );
+}
+
+#[test]
+fn finds_numbers_of_an_error(rt: HostRuntime) {
+    let alloc = rt.alloc();
+    assert_eq!(rt; counted(alloc, b"KRB-ERROR", b"error-code", &ERROR), (0, 6));
+    assert_eq!(rt; counted(alloc, b"KRB-ERROR", b"susec", &ERROR), (0, 824918));
+    assert_eq!(rt; counted(alloc, b"KRB-ERROR", b"cusec", &ERROR), (ABSENT, 0));
+    assert_eq!(rt;
+        counted(alloc, b"KRB-ERROR", b"realm", &ERROR),
+        (3, 0),
+        "realm is no number"
+    );
+}
+
+#[test]
+fn names_items_of_an_error(rt: HostRuntime) {
+    let alloc = rt.alloc();
+    let (mut told, mut count, mut offset) = ([OTHER; 50], 7, 7);
+    let status = items(
+        alloc,
+        b"KRB-ERROR",
+        &ERROR,
+        &mut told,
+        &mut count,
+        &mut offset,
+    );
+    assert_eq!(rt; (status, count, offset), (0, 50, 0));
+    let (mut name, mut size) = ([0; 16], 7);
+    let status = item_name(told[3].name, &mut name, &mut size);
+    assert_eq!(rt; (status, size), (0, 4));
+    assert!(&rt; name.starts_with(b"pvno"));
+    assert!(&rt; item_name(u32::MAX, &mut name, &mut size) == 3);
+    let status = items(
+        alloc,
+        b"KRB-ERROR",
+        &ERROR,
+        &mut told[..49],
+        &mut count,
+        &mut offset,
+    );
+    assert_eq!(rt; (status, count, offset), (1, 50, 0));
+    let status = items(
+        alloc,
+        b"KRB-ERROR",
+        &ERROR[..123],
+        &mut told,
+        &mut count,
+        &mut offset,
+    );
+    assert_eq!(rt; (status, count, offset), (10, 0, 0));
+}
+
+#[test]
+fn finds_one_of_two_thousand(rt: HostRuntime) -> Result<(), Fail> {
+    let alloc = rt.alloc();
+    let mut octets = Vec::from_slice(alloc, &REQUEST)?;
+    for item in 0..2000u32 {
+        octets.extend_from_slice(&[0x02, 0x01, 0x12])?;
+    }
+    let last = b"req-body.etype[1999]";
+    assert_eq!(rt; found(alloc, b"AS-REQ", last, &octets), (0, 6071, 1));
+    assert_eq!(rt; counted(alloc, b"AS-REQ", last, &octets), (0, 18));
+    assert_eq!(rt;
+        found(alloc, b"AS-REQ", b"req-body.etype[2000]", &octets),
+        (ABSENT, 0, 0)
+    );
+    let (mut told, mut count, mut offset) = (Vec::from_elem(alloc, OTHER, 2030)?, 7, 7);
+    let status = items(
+        alloc,
+        b"AS-REQ",
+        &octets,
+        &mut told,
+        &mut count,
+        &mut offset,
+    );
+    assert_eq!(rt; (status, count, offset), (0, 2030, 0));
+    Ok(())
+}
+
+#[test]
+fn finds_a_large_part(rt: HostRuntime) -> Result<(), Fail> {
+    let alloc = rt.alloc();
+    let mut octets = Vec::from_slice(alloc, &PRIVATE)?;
+    octets.resize(70045, 0)?;
+    assert_eq!(rt;
+        found(alloc, b"KRB-PRIV", b"enc-part.cipher", &octets),
+        (0, 45, 70000)
+    );
+    assert_eq!(rt;
+        counted(alloc, b"KRB-PRIV", b"enc-part.etype", &octets),
+        (0, 18)
+    );
+    Ok(())
+}

@@ -1,0 +1,269 @@
+"""Items of octets, by the types of the standards (RFC 4120 and others)."""
+
+import ctypes
+import datetime
+import enum
+from typing import Any, Dict, FrozenSet, List, NamedTuple, Optional, Tuple, Union
+
+from krb._library import Octets, Refused, Status, _library
+
+__all__ = ["Form", "Leaf", "Node", "Registry", "Item", "Secret", "items", "find", "find_item", "find_number", "decode", "first_error"]
+
+
+class Form(enum.IntEnum):
+    """What an item is: an element without elements, or where one with elements begins or ends."""
+
+    LEAF = 1
+    BEGIN = 2
+    END = 3
+
+
+class Leaf(enum.IntEnum):
+    """Elements without elements (krb.h)."""
+
+    INTEGER = 1
+    UNSIGNED = 2
+    NUMBER = 3
+    MICROSECONDS = 4
+    FLAGS = 5
+    BITS = 6
+    TEXT = 7
+    COMPONENT = 8
+    TIME = 9
+    OCTETS = 10
+    SECRET = 11
+    CIPHER = 12
+    TRUTH = 13
+    IDENTIFIER = 14
+    ANY = 15
+
+
+class Node(enum.IntEnum):
+    """Elements with elements. A WRAP is what holds one element alone: an explicit tag, or an OCTET STRING."""
+
+    STRUCT = 1
+    LIST = 2
+    FILLED_LIST = 3
+    WRAP = 4
+
+
+class Registry(enum.IntEnum):
+    """What numbers, or flags, are of (krb.h)."""
+
+    ENCRYPTION_TYPE = 0
+    CHECKSUM_TYPE = 1
+    NAME_TYPE = 2
+    MESSAGE_TYPE = 3
+    ERROR_CODE = 4
+    PA_DATA_TYPE = 5
+    AUTHORIZATION_DATA_TYPE = 6
+    ADDRESS_TYPE = 7
+    TRANSITED_ENCODING_TYPE = 8
+    LAST_REQUEST_TYPE = 9
+    TICKET_FLAG = 10
+    KDC_OPTION = 11
+    AP_OPTION = 12
+    KEY_USAGE = 13
+    PAC_BUFFER_TYPE = 14
+    GSS_FLAG = 15
+    NEGOTIATION_STATE = 16
+    CONTEXT_FLAG = 17
+    TOKEN_FLAG = 18
+
+
+class Item(NamedTuple):
+    """An element, or where one begins or ends: what it is, what its standard calls it, and the place of its content."""
+
+    form: Form
+    kind: Union[Leaf, Node]
+    name: str
+    registry: Optional[Registry]
+    depth: int
+    tag: int
+    offset: int
+    size: int
+
+    @property
+    def place(self) -> slice:
+        """The place of its content in the octets."""
+        return slice(self.offset, self.offset + self.size)
+
+
+class Secret(bytes):
+    """The octets of a key or a password, which are not shown."""
+
+    def __repr__(self) -> str:
+        return "Secret(%d octets)" % len(self)
+
+    __str__ = __repr__
+
+
+class _Record(ctypes.Structure):
+    """krb_item of krb.h."""
+
+    _fields_ = [("offset", ctypes.c_size_t), ("size", ctypes.c_size_t)] + [
+        (name, ctypes.c_int32 if name == "registry" else ctypes.c_uint32) for name in ("form", "kind", "name", "registry", "depth", "tag")
+    ]
+
+
+_OCTETS = [ctypes.c_char_p, ctypes.c_size_t]
+_items, _find, _find_number, _item_name = _library.krb_items, _library.krb_find, _library.krb_find_number, _library.krb_item_name
+_SIZE = ctypes.POINTER(ctypes.c_size_t)
+_items.argtypes = _OCTETS * 2 + [ctypes.c_void_p, ctypes.c_size_t, _SIZE, _SIZE]
+_find.argtypes = _OCTETS * 3 + [ctypes.POINTER(_Record)]
+_find_number.argtypes = _OCTETS * 3 + [ctypes.POINTER(ctypes.c_int64)]
+_item_name.argtypes = [ctypes.c_uint32, ctypes.c_void_p, ctypes.c_size_t, _SIZE]
+for _call in (_items, _find, _find_number, _item_name):
+    _call.restype = ctypes.c_uint32
+
+_names: List[str] = []
+
+
+def _name(number: int) -> str:
+    """The name of a number. All are asked for once."""
+    if not _names:
+        known: List[str] = []
+        size, out = ctypes.c_size_t(), ctypes.create_string_buffer(256)
+        while _item_name(len(known), out, 256, ctypes.byref(size)) == Status.DONE:
+            known.append(out.raw[: size.value].decode("ascii"))
+        _names.extend(known)
+    return _names[number] if number < len(_names) else ""
+
+
+def _text(text: str) -> bytes:
+    try:
+        return text.encode("ascii")
+    except UnicodeEncodeError:
+        raise Refused(Status.NUMBER) from None
+
+
+def plain(octets: Octets) -> bytes:
+    return octets if isinstance(octets, bytes) else bytes(memoryview(octets).cast("B"))
+
+
+def _item(record: _Record) -> Item:
+    form = Form(record.form)
+    kind = Leaf(record.kind) if form == Form.LEAF else Node(record.kind)
+    registry = None if record.registry < 0 else Registry(record.registry)
+    return Item(form, kind, _name(record.name), registry, record.depth, record.tag, record.offset, record.size)
+
+
+def _walked(octets: bytes, as_type: str) -> Tuple[int, Any, int]:
+    """The status, the records and the offset of the first error."""
+    name, count, offset = _text(as_type), ctypes.c_size_t(), ctypes.c_size_t()
+    room = len(octets) // 3 + 16
+    while True:
+        records = (_Record * room)()
+        status = _items(name, len(name), octets, len(octets), records, room, ctypes.byref(count), ctypes.byref(offset))
+        if status != Status.ROOM or count.value <= room:
+            return status, records[: count.value] if status == Status.DONE else [], offset.value
+        room = count.value
+
+
+def items(octets: Octets, as_type: str) -> List[Item]:
+    """All items of octets that are one element of the type, as "AS-REQ", "EncTicketPart" or "KDC-PROXY-MESSAGE", in their order.
+
+    Refused: NUMBER where no type has the name; INVALID, TRUNCATED, UNSUPPORTED, TOO_DEEP, whose place `first_error` has; MEMORY."""
+    status, records, _ = _walked(plain(octets), as_type)
+    if status != Status.DONE:
+        raise Refused(status)
+    return [_item(record) for record in records]
+
+
+def first_error(octets: Octets, as_type: str) -> Optional[Tuple[Status, int]]:
+    """Why octets are no element of the type, and how many octets stand before the first error; None where they are one. Refused: NUMBER, MEMORY."""
+    status, _, offset = _walked(plain(octets), as_type)
+    if status in (Status.NUMBER, Status.MEMORY):
+        raise Refused(status)
+    return None if status == Status.DONE else (Status(status), offset)
+
+
+def find_item(octets: Octets, as_type: str, path: str) -> Item:
+    """The item that a path leads to: names of fields as the standard spells them, "." between, and [n] for element n of a list, counted from 0, as
+    "req-body.sname.name-string[1]". The empty path leads to the whole.
+
+    Refused: as `items`; then NUMBER of what is no path, ABSENT where there is no such field or element."""
+    octets, name, way, record = plain(octets), _text(as_type), _text(path), _Record()
+    status = _find(name, len(name), way, len(way), octets, len(octets), ctypes.byref(record))
+    if status != Status.DONE:
+        raise Refused(status)
+    return _item(record)
+
+
+def find(octets: Octets, as_type: str, path: str) -> bytes:
+    """The content of what a path leads to: of a text or an OCTET STRING its octets. Refused: as `find_item`."""
+    octets = plain(octets)
+    return octets[find_item(octets, as_type, path).place]
+
+
+def find_number(octets: Octets, as_type: str, path: str) -> int:
+    """The number of the INTEGER that a path leads to. Refused: as `find_item`; then NUMBER where it is no INTEGER, TOO_LARGE past 64 bits."""
+    octets, name, way, number = plain(octets), _text(as_type), _text(path), ctypes.c_int64()
+    status = _find_number(name, len(name), way, len(way), octets, len(octets), ctypes.byref(number))
+    if status != Status.DONE:
+        raise Refused(status)
+    return number.value
+
+
+def _flags(content: bytes) -> FrozenSet[int]:
+    """The numbers of the bits that are set, counted from 0 at the left."""
+    bits = content[1:]
+    return frozenset(n for n in range(8 * len(bits)) if bits[n // 8] >> (7 - n % 8) & 1)
+
+
+def _identifier(content: bytes) -> str:
+    """An OBJECT IDENTIFIER with dots (X.690, 8.19)."""
+    arcs, arc = [], 0
+    for octet in content:
+        arc = arc << 7 | octet & 127
+        if octet < 128:
+            arcs.append(arc)
+            arc = 0
+    root = min(arcs[0] // 40, 2)
+    return ".".join(str(arc) for arc in [root, arcs[0] - 40 * root] + arcs[1:])
+
+
+_VALUES: Dict[Leaf, Any] = {leaf: (lambda content: int.from_bytes(content, "big", signed=True)) for leaf in (Leaf.INTEGER, Leaf.UNSIGNED, Leaf.NUMBER, Leaf.MICROSECONDS)}
+_VALUES.update({leaf: (lambda content: content.decode("ascii")) for leaf in (Leaf.TEXT, Leaf.COMPONENT)})
+_VALUES.update({leaf: bytes for leaf in (Leaf.OCTETS, Leaf.CIPHER, Leaf.BITS, Leaf.ANY)})
+_VALUES[Leaf.FLAGS], _VALUES[Leaf.IDENTIFIER], _VALUES[Leaf.SECRET] = _flags, _identifier, Secret
+_VALUES[Leaf.TRUTH] = lambda content: content != b"\0"
+
+
+def _time(content: bytes) -> Any:
+    """A time of UTC; the text of one that datetime does not have, as of the year 0 or of second 60."""
+    text = content.decode("ascii")
+    try:
+        return datetime.datetime.strptime(text, "%Y%m%d%H%M%SZ").replace(tzinfo=datetime.timezone.utc)
+    except ValueError:
+        return text
+
+
+_VALUES[Leaf.TIME] = _time
+
+
+def decode(octets: Octets, as_type: str) -> Any:
+    """The tree of octets that are one element of the type: a dict of a SEQUENCE, by the names of its fields; a list; an int, a bool, a str, a datetime of
+    UTC, bytes, `Secret` of a key's octets; a frozenset of the numbers of the flags that are set; an OBJECT IDENTIFIER with dots. What stands in an
+    explicit tag, or in an OCTET STRING that holds an element, is itself.
+
+    Refused: as `items`."""
+    octets = plain(octets)
+    whole: List[Any] = []
+    stack: List[Any] = [whole]  # the dicts and lists that are not at their end
+    for item in items(octets, as_type):
+        is_leaf = item.form == Form.LEAF
+        if not is_leaf and item.kind == Node.WRAP:
+            continue
+        if item.form == Form.END:
+            stack.pop()
+            continue
+        value: Any = _VALUES[Leaf(item.kind)](octets[item.place]) if is_leaf else {} if item.kind == Node.STRUCT else []
+        around = stack[-1]
+        if isinstance(around, dict):
+            around[item.name] = value
+        else:
+            around.append(value)
+        if not is_leaf:
+            stack.append(value)
+    return whole[0]
