@@ -352,6 +352,14 @@ krb_status krb_find(const uint8_t *type_name, size_t type_name_size, const uint8
 krb_status krb_find_number(const uint8_t *type_name, size_t type_name_size, const uint8_t *path, size_t path_size, const uint8_t *octets,
                            size_t octets_size, int64_t *number);
 
+/* What octets of a type are, for people: as text, a line for each value, two blanks further in for each struct and list that it stands in; or as JSON
+   (RFC 8259) on one line. All of it is printable ASCII, whatever the octets hold. Where secrets are not shown, the word `hidden` stands in the place of
+   the octets of keys and of passwords that the table of types knows (KRB_LEAF_SECRET). Octets of formats that are no DER stay octets, as those of a PAC;
+   `jolmurig show` shows these too, and what keys open.
+   Those of krb_items but KRB_ROOM; KRB_MEMORY. */
+krb_status krb_show(const uint8_t *type_name, size_t type_name_size, const uint8_t *octets, size_t octets_size, bool is_json, bool shows_secrets,
+                    uint8_t *out, size_t room, size_t *size);
+
 /* The same by texts that end with a NUL. They are not of the library. */
 static inline size_t krb_text_size(const char *text) {
     size_t size = 0;

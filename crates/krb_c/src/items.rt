@@ -2,6 +2,7 @@
 
 ghost use Rattle.krb_c_calls.specs.Handing.{IsAnswered};
 ghost use Rattle.krb_c_calls.specs.Items.{IsItemAnswer, IsItemNumber, IsItemsAnswer, IsNameOf, RefusesName};
+ghost use Rattle.krb_c_calls.specs.Shown.{IsShown, RefusesShowing, secrets_of};
 
 use krb_c_calls::items::ItemRecord;
 use std::alloc::Global;
@@ -55,4 +56,21 @@ pub extern "C" fn krb_find_number(
     ensures { IsItemNumber type_name.now path.now octets.now number.new result }
 {
     krb_c_calls::items::find_number(alloc, type_name, path, octets, number)
+}
+
+/// `krb_show` of `krb.h`: what octets are as text or as JSON.
+#[unsafe(no_mangle)]
+pub extern "C" fn krb_show(
+    alloc: Global,
+    type_name: &[u8],
+    octets: &[u8],
+    is_json: bool,
+    shows_secrets: bool,
+    out: &mut [u8],
+    size: &mut usize,
+) -> u32
+    ensures { IsAnswered (IsShown is_json (secrets_of shows_secrets) type_name.now octets.now) (RefusesShowing type_name.now octets.now)
+        out.old out.new size.new result }
+{
+    krb_c_calls::items::show(alloc, type_name, octets, is_json, shows_secrets, out, size)
 }

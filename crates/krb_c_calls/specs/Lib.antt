@@ -14,6 +14,7 @@ pub mod Parts
 pub mod ProxyStatuses
 pub mod Replies
 pub mod Requests
+pub mod Shown
 pub mod Sizes
 pub mod Statuses
 pub mod TokenKeys

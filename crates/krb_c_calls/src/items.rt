@@ -1,11 +1,13 @@
-//! What octets are, by the types of the standards (`krb_schema`): all items of them, the item that a path leads to, and its number.
+//! What octets are, by the types of the standards (`krb_schema`): all items of them, the item that a path leads to, its number, and their text.
 
 mod calls;
 mod numbers;
 mod record;
+mod shown;
 mod statuses;
 mod walked;
 
 pub use calls::{find, find_number, item_name, items};
 pub use record::ItemRecord;
+pub use shown::show;
 pub use statuses::{ABSENT, TOO_DEEP, TOO_LARGE};

@@ -31,4 +31,6 @@ mod primitive_rows;
 #[cfg(test)]
 mod rows_of_standards;
 #[cfg(test)]
+mod shown;
+#[cfg(test)]
 mod view_rows;

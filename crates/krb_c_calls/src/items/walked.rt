@@ -6,7 +6,7 @@ ghost use Rattle.krb_c_calls.specs.Items.{AreItems, LeadsTo, RefusesFinding, Ref
 use crate::items::statuses::{ABSENT, TOO_DEEP};
 use crate::refusal::der_number;
 use krb_schema::kerberos::kerberos;
-use krb_schema::{Fault, Item, Name, PathError, items_of, type_named};
+use krb_schema::{Fault, Item, Name, PathError, Role, items_of, type_named};
 use std::alloc::Global;
 
 /// No type, no name or no path is meant, or the item is no number.
@@ -63,6 +63,7 @@ pub(crate) fn walked(
     let name = Name {
         text,
         registry: None,
+        role: Role::None,
     };
     match items_of(alloc, &kerberos(), row, name, octets) {
         Ok(items) => Ok(items),
