@@ -24,6 +24,9 @@
     "e6f5e1e8b4a0feb6c6c8632ec6370d6e883cf349201f824f4dea190aeaf03c982029bc2ef97bf838a210bbac89619bc1137e7b099756a7284121bed6" \
     "c61764b7585f0912fc2b63ad74e4e6ed5f3bf505"
 
+/* An AP-REP of pvno 4 and msg-type 14, made by hand: RFC 4120, 5.5.2, fixes them to 5 and 15. */
+#define AP_REP_OF_OTHERS "6f193017a003020104a10302010ea20b3009a003020112a2020400"
+
 #define AP_REP_TEXT \
     "41502d5245503a0a202070766e6f3a20350a20206d73672d747970653a2031352041502d5245500a2020656e632d706172743a0a2020202065747970" \
     "653a203138206165733235362d6374732d686d61632d736861312d39360a202020206369706865723a20313131206f63746574732035643537313138" \
@@ -479,17 +482,17 @@ static const struct command commands[] = {
      "6f8189308186a003020105a10302010fa27a3078a003020112a271046f5d5711847e4c745e2ffba6ae8bf31ef781f3d1b65c5f7bc1b60369b0a0862d"
      "e6f5e1e8b4a0feb6c6c8632ec6370d6e883cf349201f824f4dea190aeaf03c982029bc2ef97bf838a210bbac89619bc1137e7b099756a7284121bed6"
      "c61764b7585f0912fc2b63ad74e4e6ed5f3bf5",
-     1, 1, "jolmurig: AP-REP: TruncatedData: the octets end too early, or a field is missing, in the element at octet 0\n",
+     1, 1, "jolmurig: AP-REP: TruncatedData: the octets end too early, or a field is missing, at octet 0\n",
      ""},
     {{"show", "--json"},
      "6f8189308186a003020105a10302010fa27a3078a003020112a271046f5d5711847e4c745e2ffba6ae8bf31ef781f3d1b65c5f7bc1b60369b0a0862d"
      "e6f5e1e8b4a0feb6c6c8632ec6370d6e883cf349201f824f4dea190aeaf03c982029bc2ef97bf838a210bbac89619bc1137e7b099756a7284121bed6"
      "c61764b7585f0912fc2b63ad74e4e6ed5f3bf50500",
-     1, 1, "jolmurig: AP-REP: InvalidData: the octets are no DER encoding of this type, in the element at octet 27\n",
+     1, 1, "jolmurig: AP-REP: InvalidData: the octets are no DER encoding of this type, at octet 140\n",
      ""},
     {{"show", "--as", "AS-REP"},
      AP_REP,
-     1, 1, "jolmurig: AS-REP: InvalidData: the octets are no DER encoding of this type, at the tag at octet 0\n",
+     1, 1, "jolmurig: AS-REP: InvalidData: the octets are no DER encoding of this type, at octet 0\n",
      ""},
     {{"show"},
      "68656c6c6f2c20776f726c64",
@@ -1402,12 +1405,34 @@ static const struct command commands[] = {
      KEYTAB},
     {{"check", "--as", "KRB-ERROR"},
      "7e023000",
-     1, 1, "jolmurig: KRB-ERROR: TruncatedData: the octets end too early, or a field is missing, in the element at octet 2\n",
+     1, 1, "jolmurig: KRB-ERROR: TruncatedData: the octets end too early, or a field is missing, at octet 4\n",
      ""},
     {{"check", "--as", "KRB-ERROR"},
      "3765203032203330203030",
-     1, 1, "jolmurig: KRB-ERROR: TruncatedData: the octets end too early, or a field is missing, in the element at octet 2\n",
+     1, 1, "jolmurig: KRB-ERROR: TruncatedData: the octets end too early, or a field is missing, at octet 4\n",
      ""},
+    {{"check", "--as", "AP-REP"},
+     AP_REP_OF_OTHERS,
+     1, 0,
+     "jolmurig: warning: AP-REP: pvno at octet 8 is not 5, the number that the standard fixes\n"
+     "jolmurig: warning: AP-REP: msg-type at octet 13 is not 15, the number that the standard fixes\n",
+     AP_REP_OF_OTHERS},
+    {{"check", "--as", "PA-ENC-TS-ENC"},
+     "301aa011180f32303236313132373038303030305aa10502030f4240",
+     1, 0, "jolmurig: warning: PA-ENC-TS-ENC: pausec at octet 25 is not from 0 to 999999\n",
+     "301aa011180f32303236313132373038303030305aa10502030f4240"},
+    {{"check", "--as", "PA-ENC-TS-ENC"},
+     "301aa011180f32303236313132373038303030305aa10502030f423f",
+     1, 0, "",
+     "301aa011180f32303236313132373038303030305aa10502030f423f"},
+    {{"check", "--as", "ETYPE-INFO2"},
+     "3000",
+     1, 0, "jolmurig: warning: ETYPE-INFO2: ETYPE-INFO2 at octet 2 is empty, and the standard wants an element\n",
+     "3000"},
+    {{"check", "--as", "PA-DATA"},
+     "300ba103020113a20404023000",
+     1, 0, "jolmurig: warning: PA-DATA: padata-value at octet 13 is empty, and the standard wants an element\n",
+     "300ba103020113a20404023000"},
     {{"check"},
      AP_REP,
      0, 2, USAGE,

@@ -7,13 +7,11 @@ use Rattle.krb_show.specs.Json.{json_line}
 use Rattle.krb_show_any.specs.declared.kind.Kind.{Kind}
 use Rattle.krb_show_keys.specs.Hidden.{hidden_page}
 use Rattle.krb_show_opened.specs.Keys.{NamedKey}
-use Rattle.jolmurig.specs.Calls.{Opens}
+use Rattle.jolmurig.specs.Calls.{Opens, Places}
 use Rattle.krb_show_pac.specs.Inserted.{IsWithContents}
 use Rattle.krb_show_keys.specs.PasswordKeys.{KeysOfPasswords}
 use Rattle.krb_show_keys.specs.Salts.{salts_of}
 use Rattle.krb_show_any.specs.declared.error.PageError.{PageError}
-use Rattle.krb_show_any.specs.Places.{IsPlaceIfAny}
-use Rattle.krb_show_any.specs.declared.place.Place.{Place}
 use Rattle.krb_show_any.specs.Kinds.{kind_of}
 use Rattle.jolmurig.specs.declared.command.Output.{Output}
 use Rattle.jolmurig.specs.declared.command.Output.TheVariants as output
@@ -73,16 +71,16 @@ module _ (tells : Kind → List ℕ → Result (Vec Token Global) PageError → 
     pub told : tells kind octets (Ok page)
     pub is_written : IsWrittenOf opens openers page.items form shows_keys made
 
-  -- the octets are of a kind and have no page, for this reason, at this place
-  pub record HasNoPage (asked : Option Kind) (octets : List ℕ) (e : Failure) : Type 0 where
+  -- the octets are of a kind and have no page, for this reason, which is at this place
+  pub record HasNoPage (places : Places) (asked : Option Kind) (octets : List ℕ) (e : Failure) : Type 0 where
     pub kind : Kind
     pub is_kind : chosen asked octets ≡ Some kind
     pub why : PageError
     pub told : tells kind octets (Err why)
-    pub place : Option Place
-    pub is_place : IsPlaceIfAny tells kind why octets place
+    pub place : Option ℕ
+    pub is_place : places kind why octets place
     pub is : e ≡ failure.Octets kind why place
 
   -- or they begin as no kind
-  abbrev pub IsRefused : Option Kind → List ℕ → Failure → Type 0
-  IsRefused asked octets e = ((e ≡ failure.UnknownKind) × (chosen asked octets ≡ None)) ⊎ HasNoPage asked octets e
+  abbrev pub IsRefused : Places → Option Kind → List ℕ → Failure → Type 0
+  IsRefused places asked octets e = ((e ≡ failure.UnknownKind) × (chosen asked octets ≡ None)) ⊎ HasNoPage places asked octets e

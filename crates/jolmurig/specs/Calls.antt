@@ -1,5 +1,5 @@
 -- What the program calls of the library.
-use Rattle.std.specs.Prelude.{◌≡◌, ℕ, List, []}
+use Rattle.std.specs.Prelude.{◌≡◌, ℕ, List, [], Option}
 use Rattle.krb_files.specs.Ccache.{Ccache, CcacheIs}
 use Rattle.krb_file_tools.specs.Back.{CcacheRefusal, IsKirbiOf}
 use Rattle.krb_file_tools.specs.Whole.{IsCacheOf, KirbiRefusal}
@@ -20,7 +20,10 @@ use Rattle.krb_messages.specs.declared.messages.proxy.KdcProxyMessage.{KdcProxyM
 use Rattle.krb_messages.specs.declared.messages.credentials.KrbCredInner.{KrbCredInner}
 use Rattle.krb_enc_parts.specs.declared.data_types.credentials.EncKrbCredPartInner.{EncKrbCredPartInner}
 use Rattle.krb_types.specs.declared.data_types.tickets.TicketInner.{TicketInner}
+use Rattle.krb_schema.specs.declared.item.Item.{Item}
 use Rattle.krb_show.specs.Tokens.{Token}
+use Rattle.krb_show_any.specs.declared.error.PageError.{PageError}
+use Rattle.krb_show_any.specs.declared.kind.Kind.{Kind}
 use Rattle.krb_show_opened.specs.Keys.{NamedKey}
 use Rattle.jolmurig.specs.declared.calls.Entries.{Entries}
 use Rattle.jolmurig.specs.declared.calls.Entries.TheVariants as entries
@@ -33,6 +36,14 @@ use Rattle.jolmurig.specs.declared.command.Format.TheVariants as format
 -- what is opened in a page: the keys, the page before and after
 abbrev pub Opens : Type 1
 Opens = List NamedKey → List Token → List Token → Type 0
+
+-- where an error of octets of a kind is, if that is known
+abbrev pub Places : Type 1
+Places = Kind → PageError → List ℕ → Option ℕ → Type 0
+
+-- which items of octets of a kind break a rule
+abbrev pub Breaks : Type 1
+Breaks = Kind → List ℕ → List Item → Type 0
 
 -- the list of a file of entries
 abbrev pub Lists : Type 1

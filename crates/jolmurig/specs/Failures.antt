@@ -14,8 +14,6 @@ use Rattle.krb_show_any.specs.declared.error.PageError.TheVariants as page
 use Rattle.krb_show_any.specs.Names.{kind_name}
 use Rattle.krb_show_any.specs.declared.kind.Kind.{Kind}
 use Rattle.krb_show_any.specs.declared.kind.Kind.TheVariants as kinds
-use Rattle.krb_show_any.specs.declared.place.Place.{Place}
-use Rattle.krb_show_any.specs.declared.place.Place.TheVariants as places
 use Rattle.jolmurig.specs.declared.failure.Failure.{Failure}
 use Rattle.jolmurig.specs.declared.failure.Failure.TheVariants.{Arguments, Key, KeyFile, KeyInFile, KeytabFile, Keytab, PasswordFile, NotBase64, UnknownKind, NoEntries, Convert, Proxy, Octets, Memory, Read, Write}
 
@@ -107,20 +105,19 @@ reason Memory = codes "an allocation failed"
 reason Read = codes "the input could not be read"
 reason Write = codes "the output could not be written"
 
--- where the error is, if that is known
-abbrev pub place : Failure → Option Place
+-- how many octets stand before the error, if that is known
+abbrev pub place : Failure → Option ℕ
 place (Octets kind why found) = found
 place e = None
 
-abbrev pub placed : List ℕ → ℕ → List ℕ
-placed words at = codes ", " ++ words ++ codes " at octet " ++ decimal at
+abbrev pub placed : ℕ → List ℕ
+placed at = codes ", at octet " ++ decimal at
 
-abbrev pub place_text : Option Place → List ℕ
+abbrev pub place_text : Option ℕ → List ℕ
 place_text None = []
-place_text (Some (places.InElement at)) = placed (codes "in the element") at
-place_text (Some (places.AtTag at)) = placed (codes "at the tag") at
+place_text (Some at) = placed at
 
--- jolmurig: SUBJECT: REASON, and where that is known the place
+-- jolmurig: SUBJECT: REASON, and, if it is known, the place
 abbrev pub line_of : Failure → List ℕ
 line_of e = codes "jolmurig: " ++ subject e ++ codes ": " ++ reason e ++ place_text (place e) ++ 10 ∷ []
 

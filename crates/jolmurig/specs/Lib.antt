@@ -7,6 +7,7 @@ pub mod Requests
 pub mod Calls
 pub mod Answers
 pub mod Lists
+pub mod Warnings
 pub mod Checks
 pub mod Conversions
 pub mod Passages

@@ -12,7 +12,7 @@ use Rattle.krb_show_any.specs.Names.{IsNamed}
 use Rattle.krb_show_any.specs.declared.kind.Kind.TheVariants as kinds
 use Rattle.krb_show_opened.specs.Keys.{NamedKey}
 use Rattle.jolmurig.specs.Answers.{ArePrintableLines, IsRefused, IsWritten, Openers}
-use Rattle.jolmurig.specs.Calls.{Blocks, Converts, Lists, Opens, Passes, Refuses}
+use Rattle.jolmurig.specs.Calls.{Blocks, Breaks, Converts, Lists, Opens, Passes, Places, Refuses}
 use Rattle.jolmurig.specs.Checks.{IsChecked, IsUnchecked}
 use Rattle.jolmurig.specs.Conversions.{IsConverted, IsUnconverted}
 use Rattle.jolmurig.specs.Lists.{IsListed, IsUnlisted}
@@ -118,18 +118,17 @@ IsFileRun gives file makes refuses left rest before after outcome =
 
 -- ---- `check`
 
--- what is written is the octets, if they are of the kind; else they have no page as it
-abbrev pub IsCheckRunAs : (Kind → List ℕ → Result (Vec Token Global) PageError → Type 0) → Gives → Kind → Option (List ℕ)
+-- what is written is the octets, if they are of the kind, and the notes are their warnings; else they have no page as it
+abbrev pub IsCheckRunAs : (Kind → List ℕ → Result (Vec Token Global) PageError → Type 0) → Places → Breaks → Gives → Kind → Option (List ℕ)
     → Option (List ℕ) → Option (List ℕ) → Option (List ℕ) → Option (List ℕ) → Outcome → Type 0
-IsCheckRunAs tells gives kind file =
-    IsFileRun gives file (λ octets made notes. IsChecked tells kind octets made × (notes ≡ [])) (IsUnchecked tells kind)
+IsCheckRunAs tells places breaks gives kind file = IsFileRun gives file (IsChecked tells breaks kind) (IsUnchecked tells places kind)
 
 -- of the kind that has the name; if none has, the arguments are wrong, and nothing is read and nothing written
-abbrev pub IsCheckRun : (Kind → List ℕ → Result (Vec Token Global) PageError → Type 0) → Gives → List ℕ → Option (List ℕ)
+abbrev pub IsCheckRun : (Kind → List ℕ → Result (Vec Token Global) PageError → Type 0) → Places → Breaks → Gives → List ℕ → Option (List ℕ)
     → Option (List ℕ) → Option (List ℕ) → Option (List ℕ) → Option (List ℕ) → Outcome → Type 0
-IsCheckRun tells gives name file left rest before after outcome =
+IsCheckRun tells places breaks gives name file left rest before after outcome =
     (IsNamed name None × (outcome ≡ Err Arguments) × Keeps left rest × Keeps before after)
-    ⊎ ((kind : Kind) × IsNamed name (Some kind) × IsCheckRunAs tells gives kind file left rest before after outcome)
+    ⊎ ((kind : Kind) × IsNamed name (Some kind) × IsCheckRunAs tells places breaks gives kind file left rest before after outcome)
 
 -- ---- `list` and `convert`
 
@@ -205,31 +204,31 @@ module _ (tells : Kind → List ℕ → Result (Vec Token Global) PageError → 
     pub printable : ArePrintableLines made
 
   -- the input is rejected: it is not read, or has no page
-  pub record IsInputRejected (s : Show) (left : Option (List ℕ)) (e : Failure) : Type 0 where
+  pub record IsInputRejected (places : Places) (s : Show) (left : Option (List ℕ)) (e : Failure) : Type 0 where
     pub kind : Option Kind
     pub openers : Openers
     pub prepared : IsPrepared gives s kind openers
-    pub rejected : AreNotRead gives s.file left e ⊎ ((octets : List ℕ) × AreRead gives s.file left octets × IsRefused tells opens kind octets e)
+    pub rejected : AreNotRead gives s.file left e ⊎ ((octets : List ℕ) × AreRead gives s.file left octets × IsRefused tells opens places kind octets e)
 
   -- why nothing is written of it; where it has no kind or no keys, nothing is read from standard input
-  abbrev pub IsNotMade : Show → Option (List ℕ) → Option (List ℕ) → Failure → Type 0
-  IsNotMade s left rest e = (Keeps left rest × IsUnprepared gives s e) ⊎ IsInputRejected s left e
+  abbrev pub IsNotMade : Places → Show → Option (List ℕ) → Option (List ℕ) → Failure → Type 0
+  IsNotMade places s left rest e = (Keeps left rest × IsUnprepared gives s e) ⊎ IsInputRejected places s left e
 
   -- what is written is what the input is shown as, and the input is as it was where a file is named
-  abbrev pub IsShowRun : Show → Option (List ℕ) → Option (List ℕ) → Option (List ℕ) → Option (List ℕ) → Outcome → Type 0
-  IsShowRun s left rest before after outcome =
-      IsLeft s.file left rest × IsWrittenRun (λ made notes. IsMade s left made × (notes ≡ [])) (IsNotMade s left rest) before after outcome
+  abbrev pub IsShowRun : Places → Show → Option (List ℕ) → Option (List ℕ) → Option (List ℕ) → Option (List ℕ) → Outcome → Type 0
+  IsShowRun places s left rest before after outcome =
+      IsLeft s.file left rest × IsWrittenRun (λ made notes. IsMade s left made × (notes ≡ [])) (IsNotMade places s left rest) before after outcome
 
   -- ---- the whole
 
-  module _ (lists : Lists) (converts : Converts) (refuses : Refuses) (passes : Passes) (blocks : Blocks) where
+  module _ (places : Places) (breaks : Breaks) (lists : Lists) (converts : Converts) (refuses : Refuses) (passes : Passes) (blocks : Blocks) where
     -- A run of this command over an input (`rest` of it is left), where its octets and those of the output (before and after) are known.
     abbrev pub IsRun : Option Command → List ℕ → Option (List ℕ) → Option (List ℕ) → Option (List ℕ) → Option (List ℕ) → Outcome → Type 0
     IsRun None help input rest before after outcome = (outcome ≡ Err Arguments) × Keeps input rest × Keeps before after
     IsRun (Some Help) help input rest before after outcome =
         Keeps input rest × IsWrittenRun (λ made notes. (made ≡ help) × (notes ≡ [])) (λ e. ⊥) before after outcome
-    IsRun (Some (command.Show s)) help input rest before after outcome = IsShowRun s input rest before after outcome
-    IsRun (Some (command.Check name file)) help input rest before after outcome = IsCheckRun tells gives name file input rest before after outcome
+    IsRun (Some (command.Show s)) help input rest before after outcome = IsShowRun places s input rest before after outcome
+    IsRun (Some (command.Check name file)) help input rest before after outcome = IsCheckRun tells places breaks gives name file input rest before after outcome
     IsRun (Some (command.List file)) help input rest before after outcome = IsListRun gives lists file input rest before after outcome
     IsRun (Some (command.Convert to file)) help input rest before after outcome =
         IsConvertRun gives converts refuses to file input rest before after outcome

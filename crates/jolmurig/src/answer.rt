@@ -11,7 +11,7 @@ use crate::command::Output;
 use crate::failure::Failure;
 use crate::openers::Openers;
 use krb_show::{Page, Token, json_of_page, text_of_page};
-use krb_show_any::{Kind, PageError, Pages, kind_of_octets, place_of_error};
+use krb_show_any::{Kind, PageError, Pages, kind_of_octets};
 use krb_show_keys::{keys_of_passwords, without_keys};
 use krb_show_opened::Key;
 use krb_show_pac::page_with_contents;
@@ -139,7 +139,7 @@ pub fn shown<S: Pages<Kind, PageError>, C: Calls>(
 ) -> Result<Vec<u8>, Failure>
     ensures found { IfOk result (λ made. IsWritten S.tells C.opens kind output shows_keys openers octets.now made.items) }
     ensures printable { IfOk result (λ made. ArePrintableLines made.items) }
-    ensures rejected { IfErr result (λ e. (e ≡ failure.Memory) ⊎ IsRefused S.tells C.opens kind octets.now e) }
+    ensures rejected { IfErr result (λ e. (e ≡ failure.Memory) ⊎ IsRefused S.tells C.opens C.places kind octets.now e) }
 {
     let Some(kind) = chosen(kind, octets) else {
         return Err(Failure::UnknownKind);
@@ -148,7 +148,7 @@ pub fn shown<S: Pages<Kind, PageError>, C: Calls>(
         Ok(page) => Ok(written_opened::<C>(alloc, output, shows_keys, openers, page)?),
         Err(PageError::OutOfMemory) => Err(Failure::Memory),
         Err(why) => {
-            let place = place_of_error::<Kind, S>(alloc, kind, &why, octets)?;
+            let place = C::place_of(alloc, kind, &why, octets)?;
             Err(Failure::Octets { kind, why, place })
         }
     }

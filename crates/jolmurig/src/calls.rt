@@ -1,6 +1,6 @@
 //! What the program calls of the library.
 
-ghost use Rattle.std.specs.Prelude.{IfOk, IfErr, ℕ, List};
+ghost use Rattle.std.specs.Prelude.{IfOk, IfErr, ℕ, List, Option};
 ghost use Rattle.krb_kdc_proxy.specs.Messages.{OrMemory};
 ghost use Rattle.krb_kdc_proxy.specs.Replies.{reply_types};
 ghost use Rattle.krb_kdc_proxy.specs.Requests.{types};
@@ -8,7 +8,12 @@ ghost use Rattle.krb_kdc_proxy.specs.declared.error.ProxyError.{ProxyError};
 ghost use Rattle.krb_file_tools.specs.Answers.{IsMemoryOr};
 ghost use Rattle.krb_file_tools.specs.declared.convert.error.ConvertError.{ConvertError};
 ghost use Rattle.krb_file_tools.specs.declared.convert.field.Field.{Field};
+ghost use Rattle.krb_schema.specs.declared.item.Item.{Item};
 ghost use Rattle.krb_show.specs.Tokens.{Token};
+ghost use Rattle.krb_show_any.specs.Broken.{AreBrokenOf};
+ghost use Rattle.krb_show_any.specs.Places.{IsPlaceOf};
+ghost use Rattle.krb_show_any.specs.declared.error.PageError.{PageError};
+ghost use Rattle.krb_show_any.specs.declared.kind.Kind.{Kind};
 ghost use Rattle.krb_show_opened.specs.Keys.{NamedKey};
 ghost use Rattle.krb_show_checksums.specs.Checked.{is_checked};
 ghost use Rattle.jolmurig.specs.Calls.{blocked, converted_to, listed_as, no_list, passed_on, unconverted_to};
@@ -26,7 +31,9 @@ use krb_kdc_proxy::ProxyError;
 use krb_messages::messages::{
     ApRep, ApReq, AsRep, AsReq, KdcProxyMessage, KrbCred, KrbError, KrbPriv, TgsRep, TgsReq,
 };
+use krb_schema::Item;
 use krb_show::{Insert, Page};
+use krb_show_any::{Kind, PageError, broken_rules_of, place_of_error};
 use krb_show_checksums::{Checking, page_with_checked};
 use krb_show_opened::Key;
 use krb_types::data_types::Ticket;
@@ -46,6 +53,12 @@ pub trait Calls {
     /// What is opened: the keys, the page, and the page with what the keys open and what is known of checksums.
     ghost opens: { List NamedKey → List Token → List Token → Type 0 };
 
+    /// Where an error is: the kind of the octets, the error, the octets, and how many stand before it.
+    ghost places: { Kind → PageError → List ℕ → Option ℕ → Type 0 };
+
+    /// What breaks a rule: the kind of the octets, the octets, and the items that do.
+    ghost breaks: { Kind → List ℕ → List Item → Type 0 };
+
     /// What is listed: the octets of a file of entries, and the text.
     ghost lists: { Entries → List ℕ → List ℕ → Type 0 };
 
@@ -64,6 +77,19 @@ pub trait Calls {
     /// The page with what the keys open and what is known of checksums.
     fn opened(alloc: Global, keys: Vec<Key>, page: Page) -> Result<Page, AllocError>
         ensures { IfOk result (λ made. opens keys.items page.items made.items) };
+
+    /// How many octets of a kind stand before an error of theirs.
+    fn place_of(
+        alloc: Global,
+        kind: Kind,
+        why: &PageError,
+        octets: &[u8],
+    ) -> Result<Option<usize>, AllocError>
+        ensures { IfOk result (places kind why.now octets.now) };
+
+    /// The items of octets of a kind that break a rule of their standard.
+    fn broken(alloc: Global, kind: Kind, octets: &[u8]) -> Result<Vec<Item>, AllocError>
+        ensures { IfOk result (λ items. breaks kind octets.now items.items) };
 
     /// The list of the entries that octets are.
     fn listed(alloc: Global, entries: Entries, octets: &[u8]) -> Result<Vec<u8>, ListError>
@@ -88,6 +114,10 @@ pub struct Library;
 impl Calls for Library {
     ghost opens = { is_checked ⟦<Checking as Insert>⟧.inserts };
 
+    ghost places = { IsPlaceOf };
+
+    ghost breaks = { AreBrokenOf };
+
     ghost lists = { listed_as ⟦<Ticket as DerEncode>⟧ };
 
     ghost converts = { converted_to ⟦<KrbCred as DerEncode>⟧ ⟦<EncKrbCredPart as DerEncode>⟧ ⟦<Ticket as DerEncode>⟧ };
@@ -104,6 +134,19 @@ impl Calls for Library {
 
     fn opened(alloc: Global, keys: Vec<Key>, page: Page) -> Result<Page, AllocError> {
         page_with_checked(alloc, keys, page)
+    }
+
+    fn place_of(
+        alloc: Global,
+        kind: Kind,
+        why: &PageError,
+        octets: &[u8],
+    ) -> Result<Option<usize>, AllocError> {
+        place_of_error(alloc, kind, why, octets)
+    }
+
+    fn broken(alloc: Global, kind: Kind, octets: &[u8]) -> Result<Vec<Item>, AllocError> {
+        broken_rules_of(alloc, kind, octets)
     }
 
     fn listed(alloc: Global, entries: Entries, octets: &[u8]) -> Result<Vec<u8>, ListError> {

@@ -102,7 +102,7 @@ fn make_prepared<S: Pages<Kind, PageError>, C: Calls, F: Files, R: Read>(
     ensures found { IsPrepared (F.gives files.now) show.now prepared.kind prepared.openers
         → IfOk result (λ made. IsMade S.tells C.opens (F.gives files.now) show.now (R.remaining input.old) made.items) }
     ensures rejected { IsPrepared (F.gives files.now) show.now prepared.kind prepared.openers
-        → IfErr result (IsInputRejected S.tells C.opens (F.gives files.now) show.now (R.remaining input.old)) }
+        → IfErr result (IsInputRejected S.tells C.opens (F.gives files.now) C.places show.now (R.remaining input.old)) }
     ensures left { IsLeft show.now.file (R.remaining input.old) (R.remaining input.new) }
 {
     let octets = read_octets(alloc, files, show.file, input)?;
@@ -124,7 +124,7 @@ fn make<S: Pages<Kind, PageError>, C: Calls, F: Files, R: Read>(
     input: &mut R,
 ) -> Result<Vec<u8>, Failure>
     ensures found { IfOk result (λ made. IsMade S.tells C.opens (F.gives files.now) show.now (R.remaining input.old) made.items) }
-    ensures rejected { IfErr result (IsNotMade S.tells C.opens (F.gives files.now) show.now (R.remaining input.old) (R.remaining input.new)) }
+    ensures rejected { IfErr result (IsNotMade S.tells C.opens (F.gives files.now) C.places show.now (R.remaining input.old) (R.remaining input.new)) }
     ensures left { IsLeft show.now.file (R.remaining input.old) (R.remaining input.new) }
 {
     let prepared = prepare(alloc, files, show)?;
@@ -156,15 +156,15 @@ fn show<S: Pages<Kind, PageError>, C: Calls, F: Files, R: Read, W: Write>(
     input: &mut R,
     output: &mut W,
 ) -> Result<Vec<u8>, Failure>
-    ensures { IsShowRun S.tells C.opens (F.gives files.now) show.now (R.remaining input.old) (R.remaining input.new)
+    ensures { IsShowRun S.tells C.opens (F.gives files.now) C.places show.now (R.remaining input.old) (R.remaining input.new)
         (W.contents output.old) (W.contents output.new) result }
 {
     let made = make::<S, C, F, R>(alloc, show, files, input)?;
     write_made(alloc, output, &made)
 }
 
-/// Writes the octets of a file or the input, if they are of a kind.
-fn check_as<S: Pages<Kind, PageError>, F: Files, R: Read, W: Write>(
+/// Writes the octets of a file or the input, if they are of a kind. The notes are their warnings.
+fn check_as<S: Pages<Kind, PageError>, C: Calls, F: Files, R: Read, W: Write>(
     alloc: Global,
     kind: Kind,
     file: Option<&str>,
@@ -172,16 +172,16 @@ fn check_as<S: Pages<Kind, PageError>, F: Files, R: Read, W: Write>(
     input: &mut R,
     output: &mut W,
 ) -> Result<Vec<u8>, Failure>
-    ensures { IsCheckRunAs S.tells (F.gives files.now) kind (option_copied file.entry) (R.remaining input.old) (R.remaining input.new)
+    ensures { IsCheckRunAs S.tells C.places C.breaks (F.gives files.now) kind (option_copied file.entry) (R.remaining input.old) (R.remaining input.new)
         (W.contents output.old) (W.contents output.new) result }
 {
     let octets = read_octets(alloc, files, file, input)?;
-    check_octets::<S>(alloc, kind, &octets)?;
-    write_made(alloc, output, &octets)
+    let notes = check_octets::<S, C>(alloc, kind, &octets)?;
+    write_with_notes(output, &octets, notes)
 }
 
 /// Writes the octets of a file or the input, if they are of the type of this name.
-fn check<S: Pages<Kind, PageError>, F: Files, R: Read, W: Write>(
+fn check<S: Pages<Kind, PageError>, C: Calls, F: Files, R: Read, W: Write>(
     alloc: Global,
     name: &str,
     file: Option<&str>,
@@ -189,11 +189,11 @@ fn check<S: Pages<Kind, PageError>, F: Files, R: Read, W: Write>(
     input: &mut R,
     output: &mut W,
 ) -> Result<Vec<u8>, Failure>
-    ensures { IsCheckRun S.tells (F.gives files.now) name.now (option_copied file.entry) (R.remaining input.old) (R.remaining input.new)
+    ensures { IsCheckRun S.tells C.places C.breaks (F.gives files.now) name.now (option_copied file.entry) (R.remaining input.old) (R.remaining input.new)
         (W.contents output.old) (W.contents output.new) result }
 {
     match kind_of_name(name) {
-        Some(kind) => check_as::<S, F, R, W>(alloc, kind, file, files, input, output),
+        Some(kind) => check_as::<S, C, F, R, W>(alloc, kind, file, files, input, output),
         None => Err(Failure::Arguments),
     }
 }
@@ -269,7 +269,7 @@ fn obey<S: Pages<Kind, PageError>, C: Calls, F: Files, R: Read, W: Write>(
     input: &mut R,
     output: &mut W,
 ) -> Result<Vec<u8>, Failure>
-    ensures { IsRun S.tells C.opens (F.gives files.now) C.lists C.converts C.unconverted C.passes C.blocks command.entry HELP.now
+    ensures { IsRun S.tells C.opens (F.gives files.now) C.places C.breaks C.lists C.converts C.unconverted C.passes C.blocks command.entry HELP.now
         (R.remaining input.old) (R.remaining input.new) (W.contents output.old) (W.contents output.new) result }
 {
     match command {
@@ -277,7 +277,7 @@ fn obey<S: Pages<Kind, PageError>, C: Calls, F: Files, R: Read, W: Write>(
         Some(Command::Help) => write_help(alloc, output),
         Some(Command::Show(asked)) => show::<S, C, F, R, W>(alloc, &asked, files, input, output),
         Some(Command::Check(name, of)) => {
-            check::<S, F, R, W>(alloc, name.text, of.file, files, input, output)
+            check::<S, C, F, R, W>(alloc, name.text, of.file, files, input, output)
         }
         Some(Command::List(of)) => list::<C, F, R, W>(alloc, of.file, files, input, output),
         Some(Command::Convert(to, of)) => {
@@ -297,7 +297,7 @@ fn perform<S: Pages<Kind, PageError>, C: Calls, F: Files, R: Read, W: Write>(
     input: &mut R,
     output: &mut W,
 ) -> Result<Vec<u8>, Failure>
-    ensures { IsRunOf S.tells C.opens (F.gives files.now) C.lists C.converts C.unconverted C.passes C.blocks (map string_bytes arguments.now) HELP.now
+    ensures { IsRunOf S.tells C.opens (F.gives files.now) C.places C.breaks C.lists C.converts C.unconverted C.passes C.blocks (map string_bytes arguments.now) HELP.now
         (R.remaining input.old) (R.remaining input.new) (W.contents output.old) (W.contents output.new) result }
 {
     let command = parse(alloc, arguments)?;
@@ -358,7 +358,7 @@ pub fn run<S: Pages<Kind, PageError>, C: Calls, F: Files, R: Read, W: Write, E: 
 ) -> Ended
     ensures ran { (outcome : Outcome) × (result.status ≡ status_of outcome)
         × IsLineWritten (E.contents errors.old) (E.contents errors.new) result.told outcome
-        × IsRunOf S.tells C.opens (F.gives files.now) C.lists C.converts C.unconverted C.passes C.blocks (map string_bytes arguments.now) HELP.now
+        × IsRunOf S.tells C.opens (F.gives files.now) C.places C.breaks C.lists C.converts C.unconverted C.passes C.blocks (map string_bytes arguments.now) HELP.now
         (R.remaining input.old) (R.remaining input.new) (W.contents output.old) (W.contents output.new) outcome }
 {
     match perform::<S, C, F, R, W>(alloc, arguments, files, input, output) {

@@ -10,7 +10,7 @@ use krb_file_tools::convert::ConvertError;
 use krb_files::keytab::KeytabError;
 use krb_input::InputError;
 use krb_kdc_proxy::{MessageKind, ProxyError};
-use krb_show_any::{Kind, PageError, Place, name_of_kind};
+use krb_show_any::{Kind, PageError, name_of_kind};
 use std::alloc::{AllocError, Global};
 use std::io;
 
@@ -41,11 +41,11 @@ pub enum Failure {
     Convert(ConvertError),
     /// Nothing of the octets passes through a proxy: the rule that they break.
     Proxy(ProxyError),
-    /// The octets are none of this kind, for this reason, which is at this place where it is an error of DER.
+    /// The octets are none of this kind, for this reason, behind so many of them, if that is known.
     Octets {
         kind: Kind,
         why: PageError,
-        place: Option<Place>,
+        place: Option<usize>,
     },
     /// An allocation failed.
     Memory,
@@ -55,25 +55,21 @@ pub enum Failure {
     Write,
 }
 
-/// Appends these words, and how many octets stand before a place.
-fn push_placed(line: &mut Vec<u8>, alloc: Global, words: &[u8], at: usize) -> Result<(), AllocError>
-    ensures { OnOk result (line.new.items ≡ line.old.items ++ placed words.now at) }
+/// Appends that so many octets stand before an error.
+fn push_placed(line: &mut Vec<u8>, alloc: Global, at: usize) -> Result<(), AllocError>
+    ensures { OnOk result (line.new.items ≡ line.old.items ++ placed at) }
 {
-    let digits = format!(in alloc; "{at}")?;
-    line.extend_from_slice(b", ")?;
-    line.extend_from_slice(words)?;
-    line.extend_from_slice(b" at octet ")?;
-    line.extend_from_slice(digits.as_bytes())
+    let text = format!(in alloc; ", at octet {at}")?;
+    line.extend_from_slice(text.as_bytes())
 }
 
-/// Appends where an error is, if that is known.
-fn push_place(line: &mut Vec<u8>, alloc: Global, place: Option<Place>) -> Result<(), AllocError>
+/// Appends how many octets stand before an error, if that is known.
+fn push_place(line: &mut Vec<u8>, alloc: Global, place: Option<usize>) -> Result<(), AllocError>
     ensures { OnOk result (line.new.items ≡ line.old.items ++ place_text place) }
 {
     match place {
         None => Ok(()),
-        Some(Place::InElement(at)) => push_placed(line, alloc, b"in the element", at),
-        Some(Place::AtTag(at)) => push_placed(line, alloc, b"at the tag", at),
+        Some(at) => push_placed(line, alloc, at),
     }
 }
 
@@ -219,8 +215,8 @@ impl Failure {
         }
     }
 
-    /// Where the error is, if that is known.
-    fn place(&self) -> Option<Place>
+    /// How many octets stand before the error, if that is known.
+    fn place(&self) -> Option<usize>
         ensures { result ≡ place self.now }
     {
         match self {

@@ -14,7 +14,9 @@ usage:
 
 show       the type of the octets, and what they hold
 check      the octets themselves, if they are of this type: those of a type of DER if they are the one encoding of a value;
-           else their first error, with its place
+           else their first error, with its place. What is legal DER and breaks a rule of its standard, as a pvno that is
+           not 5, the msg-type of another message, microseconds past 999999 and a list that may not be empty, is named in
+           a line on standard error, a warning
 list       a line for each entry of a keytab, as `klist -kte` has them, or of a credential cache, as `klist -f -e`
 convert    a credential cache as a KRB-CRED in the clear (kirbi), or such a KRB-CRED as a credential cache (ccache);
            what the format cannot hold is named on standard error
@@ -72,7 +74,8 @@ types that --as has to name:
 
 exit statuses:
     0    the output is written
-    1    an error, which a line on standard error names, with its place where it is one of DER, and nothing on
+    1    an error, which a line on standard error names, where it is one of DER with its place (in a frame of the GSS-API
+         without), the number of octets before it, and nothing on
          standard output, or not all where the output cannot be written
     2    wrong arguments, a key among them, and nothing was read from standard input
 

@@ -17,6 +17,7 @@ mod openers;
 mod parse;
 mod passwords;
 mod proxy;
+mod warning;
 
 use calls::Library;
 use engine::reject;

@@ -2,4 +2,6 @@ pub mod Kinds
 pub mod Names
 pub mod Errors
 pub mod Told
+pub mod Rows
 pub mod Places
+pub mod Broken

@@ -1,9 +1,11 @@
 //! Octets of any kind that the library reads, as pages.
 //!
 //! `kind_of_octets` says what octets begin as, `kind_of_name` what a name is of, and `Everything::page_of` makes the page of octets of a kind.
+//! `place_of_error` says where their first error is, and `broken_rules_of` what in them is legal DER and breaks a rule of its standard.
 #![tactic(auto)]
 
 mod applications;
+mod broken;
 mod certificates;
 mod data;
 mod error;
@@ -15,9 +17,11 @@ mod names;
 mod pages;
 mod password_frames;
 mod place;
+mod rows;
 mod tokens;
 
 pub use applications::Applications;
+pub use broken::broken_rules_of;
 pub use certificates::Certificates;
 pub use data::Data;
 pub use error::PageError;
@@ -28,5 +32,5 @@ pub use kind::{Kind, is_application, kind_of_octets};
 pub use names::{kind_of_name, name_of_kind};
 pub use pages::Pages;
 pub use password_frames::PasswordFrames;
-pub use place::{Place, place_of_error};
+pub use place::place_of_error;
 pub use tokens::Tokens;

@@ -7,7 +7,7 @@ pub use krb_show::{
     show_word, tag_name, text_of_page,
 };
 pub use krb_show_any::{
-    Everything, Kind, PageError, Pages, Place, kind_of_name, kind_of_octets, name_of_kind,
+    Everything, Kind, PageError, Pages, broken_rules_of, kind_of_name, kind_of_octets, name_of_kind,
     place_of_error,
 };
 pub use krb_show_files::{FilePageError, page_of_ccache, page_of_keytab};
