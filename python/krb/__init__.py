@@ -1,6 +1,7 @@
 """Kerberos cryptography and messages, over code that is proved to meet its contracts.
 
 - `krb.decode`, `krb.find`, `krb.find_number`, `krb.items`: octets of DER by the types of their standards: as a tree, a field by its path, all elements.
+- `krb.text`, `krb.json`: the same for people, keys hidden.
 - `krb.crypto`: encryption, checksums, keys of passwords, sizes (RFC 3961, RFC 3962, RFC 8009).
 - `krb.gss`: MIC and Wrap tokens of the GSS-API (RFC 4121).
 - `krb.messages`: whether octets are the one encoding of a message, parts sealed and opened (RFC 4120).
@@ -15,7 +16,8 @@ The shared object is `libkrbc.so.1` beside this file, or what the variable KRBC_
 
 from krb._items import Item, Secret, decode, find, find_item, find_number, first_error, items
 from krb._library import Refused, Status
+from krb._shown import json, text
 from krb import crypto, frames, gss, messages, pac, proxy, spnego
 
-__all__ = ["Item", "Refused", "Secret", "Status", "decode", "find", "find_item", "find_number", "first_error", "items", "crypto", "frames", "gss", "messages", "pac", "proxy", "spnego"]
+__all__ = ["Item", "Refused", "Secret", "Status", "decode", "find", "find_item", "find_number", "first_error", "items", "json", "text", "crypto", "frames", "gss", "messages", "pac", "proxy", "spnego"]
 __version__ = "0.1.0"
