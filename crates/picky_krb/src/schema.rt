@@ -2,7 +2,7 @@
 //! Kerberos and one walk. Octets that are refused have the place of their first error.
 
 pub use krb_schema::{
-    Case, Fault, Field, Form, Item, LEVELS, Leaf, Name, Node, PathError, Schema, Shape,
+    Case, Fault, Field, Form, Item, LEVELS, Leaf, Name, Node, PathError, Role, Schema, Shape,
     broken_rules, content_of, find, items_determine_octets, items_of, kerberos, name_of_number,
     number_of_name, obeys, one_first_fault, row_named, type_named,
 };

@@ -7,12 +7,13 @@ pub use krb_show::{
     show_word, tag_name, text_of_page,
 };
 pub use krb_show_any::{
-    Everything, Kind, PageError, Pages, broken_rules_of, kind_of_name, kind_of_octets, name_of_kind,
-    place_of_error,
+    Everything, Kind, PageError, Pages, broken_rules_of, kind_of_name, kind_of_octets,
+    name_of_kind, place_of_error,
 };
 pub use krb_show_files::{FilePageError, page_of_ccache, page_of_keytab};
 pub use krb_show_formats::{page_of_negoex, page_of_pac, show_pac};
 pub use krb_show_messages::{DataKind, Message, page_of_data, page_of_message, page_of_part};
 pub use krb_show_pkinit::{Certificate, CertificateKind, page_of_certificate_data};
+pub use krb_show_rows::{NoFormats, Secrets, ShowsFormats, push_items};
 pub use krb_show_tokens::kpasswd::{PasswordFrameError, page_of_password_frame};
 pub use krb_show_tokens::{GssToken, page_of_token};
