@@ -48,7 +48,7 @@ pub record IsOne (tag : Option ℕ) (f : Forest) : Type 0 where
 one_leaf : (tag : Option ℕ) (kind : Leaf) (name : Name) (t : ℕ) (content : List ℕ) → is_first tag t ≡ true → IsOne tag (leaf kind name t content none)
 one_leaf tag kind name t content first = record { t = t; content = content; begins = first; whole = append-nil (tlv t content) }
 
-held_one : (R : ℕ → Name → List ℕ → Forest → Type 0) (name : Name) (before content : List ℕ) (cases : List Case) (f : Forest) → IsHeld R name before content cases f → enc f ≡ tlv 4 content
+pub held_one : (R : ℕ → Name → List ℕ → Forest → Type 0) (name : Name) (before content : List ℕ) (cases : List Case) (f : Forest) → IsHeld R name before content cases f → enc f ≡ tlv 4 content
 held_one R name before content cases f (here c cs inside applies r e) = append-nil (tlv 4 (enc inside)) ∙ ap (λ (o : List ℕ). tlv 4 o) (sym e)
 held_one R name before content cases f (later c cs element lacks r) = held_one R name before content cs element r
 held_one R name before content cases f plain = append-nil (tlv 4 content)

@@ -18,6 +18,12 @@ pub fn items_determine_octets()
         → contents_at octets items ≡ contents_at other items → octets ≡ other }
 {}
 
+/// Octets have one list of items, whatever the schema, the row and the name.
+pub fn one_list_of_items()
+    ensures { (schema : Schema) (is : ℕ) (name : Name) (octets : List ℕ) (items other : List Item)
+        → Walked (IsElement 64 schema is name []) octets 0 0 [] items → Walked (IsElement 64 schema is name []) octets 0 0 [] other → items ≡ other }
+{}
+
 /// Octets have one first fault, and it is in one place, whatever the schema and the row.
 pub fn one_first_fault()
     ensures { (schema : Schema) (is : ℕ) (name : Name) (octets : List ℕ) (fault other : Fault) → length octets < 2 ^ 64

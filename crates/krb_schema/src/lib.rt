@@ -18,7 +18,7 @@ mod shape;
 mod walk;
 
 pub use item::{Fault, Form, Item, Node};
-pub use laws::{items_determine_octets, one_first_fault};
+pub use laws::{items_determine_octets, one_first_fault, one_list_of_items};
 pub use named::row_named;
 pub use names::{name_of_number, number_of_name, type_named};
 pub use path::{PathError, find};

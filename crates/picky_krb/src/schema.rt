@@ -4,5 +4,5 @@
 pub use krb_schema::{
     Case, Fault, Field, Form, Item, LEVELS, Leaf, Name, Node, PathError, Role, Schema, Shape,
     broken_rules, content_of, find, items_determine_octets, items_of, kerberos, name_of_number,
-    number_of_name, obeys, one_first_fault, row_named, type_named,
+    number_of_name, obeys, one_first_fault, one_list_of_items, row_named, type_named,
 };
