@@ -43,7 +43,7 @@ fn mechanism_of(
 }
 
 /// The mechanism of the token at the start, and the token's octets behind it.
-pub(crate) fn read_mechanism(
+pub fn read_mechanism(
     alloc: Global,
     octets: &[u8],
 ) -> Result<Option<(ObjectIdentifierAsn1, &[u8])>, AllocError>

@@ -14,6 +14,7 @@ mod proxies;
 mod tokens;
 
 pub use frames::InnerMessage;
+pub use heads::read_mechanism;
 pub use leaves::{show_identifier, show_token_flags, show_token_id, show_unsigned};
 pub use opened::{
     FramedApRep, FramedApReq, FramedAsRep, FramedAsReq, FramedError, FramedTgtRep, FramedTgtReq,
