@@ -115,6 +115,8 @@ static void seal_part_first(const struct call *call) {
     sealed_size = bench_seal(call->etype, KEY, USAGE, CONFOUNDER, small, small_size, sealed, ROOM);
 }
 
+#include "secrets_of_c.h"
+
 #define SUITE(number)                                                      \
     {"seal, suite " #number, seal, number, 0},                             \
     {"open, suite " #number, open_sealed, number, seal_first},             \
@@ -164,6 +166,15 @@ static const struct call calls[] = {
     KEPT(16),
     {"AES128 block by word tables, encrypt", encrypt_by_tables, 16, 0},
     {"AES128 block by word tables, decrypt", decrypt_by_tables, 16, 0},
+    C_KEPT(17),
+    C_KEPT(18),
+    C_KEPT(19),
+    C_KEPT(20),
+    C_KEPT(16),
+    C_TOKENS(17),
+    C_TOKENS(18),
+    C_TOKENS(19),
+    C_TOKENS(20),
 };
 
 /* Whether the copy of the library has what the call is made of. */
