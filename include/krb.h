@@ -432,20 +432,32 @@ krb_status krb_make_kdc_proxy_message(const uint8_t *message, size_t message_siz
    A request that a client posts: the one DER encoding of a KDC-PROXY-MESSAGE of at most 131072 octets, with a target-domain, whose kerb-message is a
    length in four octets (RFC 4120, 7.2.2) and so many octets. These are the one DER encoding of an AS-REQ or a TGS-REQ, for a KDC (KRB_PROXY_KDC); or a frame
    in which a password is changed (RFC 3244, 2; version 1 or ff80), of an AP-REQ and a KRB-PRIV, for the server that changes passwords
-   (KRB_PROXY_KPASSWD). pvno is 5, and msg-type what the tag says. *names_one_realm: whether target-domain is the realm of the request's body, or of the
-   ticket with which a password is changed, ASCII letters of either case alike. The message stands at *message_offset without its length, for a
-   datagram; the four octets before it are its length, so that a stream takes four octets more from four octets before.
+   (KRB_PROXY_KPASSWD). pvno is 5, and msg-type what the tag says. names_one_realm: whether target-domain is the realm of the request's body, or of the
+   ticket with which a password is changed, ASCII letters of either case alike. The message stands at message_offset without its length, for a
+   datagram; the four octets before it are its length, so that a stream takes four octets more from four octets before. krb_find tells its names and
+   its realm.
    Of the first rule that is broken: KRB_PROXY_TOO_LARGE; of the KDC-PROXY-MESSAGE KRB_INVALID, KRB_TRUNCATED, KRB_UNSUPPORTED; KRB_PROXY_NO_LENGTH,
    KRB_PROXY_OTHER_LENGTH, KRB_PROXY_NO_DOMAIN, KRB_PROXY_OTHER_KIND, KRB_PROXY_FRAME_LENGTH; of the message, or of the AP-REQ and then of the KRB-PRIV,
    KRB_PROXY_INVALID, KRB_PROXY_TRUNCATED or KRB_PROXY_UNSUPPORTED, KRB_PROXY_PVNO, KRB_PROXY_MSG_TYPE; KRB_MEMORY. On any status but KRB_DONE all that is
-   told is 0 or false. */
+   told is 0. */
 enum { KRB_PROXY_KDC = 1, KRB_PROXY_KPASSWD = 2 };
-krb_status krb_proxy_request(const uint8_t *octets, size_t octets_size, uint32_t *service, bool *names_one_realm, size_t *message_offset,
-                             size_t *message_size);
+
+typedef struct krb_proxy_posted {
+    size_t message_offset;    /* octets before the message */
+    size_t message_size;      /* octets of the message */
+    size_t domain_offset;     /* octets before target-domain */
+    size_t domain_size;       /* octets of target-domain */
+    int64_t hint;             /* dclocator-hint, where hint_status is KRB_DONE; else 0 */
+    uint32_t hint_status;     /* KRB_DONE; KRB_ABSENT where there is none; KRB_TOO_LARGE where 64 bits do not hold it */
+    uint32_t service;         /* KRB_PROXY_KDC or KRB_PROXY_KPASSWD */
+    uint32_t names_one_realm; /* 1 or 0 */
+} krb_proxy_posted;
+
+krb_status krb_proxy_request(const uint8_t *octets, size_t octets_size, krb_proxy_posted *posted);
 
 /* The same, but of the message its first octets alone are looked at: 6a or 6c, or the length and the version of a frame. It lets messages through that are no
-   encoding, whatever stands in them: for clients whose messages strict DER refuses (docs/REAL_MESSAGES.md). It tells no realm. */
-krb_status krb_proxy_request_lenient(const uint8_t *octets, size_t octets_size, uint32_t *service, size_t *message_offset, size_t *message_size);
+   encoding, whatever stands in them: for clients whose messages strict DER refuses (docs/REAL_MESSAGES.md). names_one_realm is 0. */
+krb_status krb_proxy_request_lenient(const uint8_t *octets, size_t octets_size, krb_proxy_posted *posted);
 
 /* What a KDC or the server that changes passwords sent over a stream, its length in four octets in front of it, as the KDC-PROXY-MESSAGE that goes back to the
    client, with neither target-domain nor dclocator-hint; it has at most 20 octets more. A reply is the one DER encoding of an AS-REP, a TGS-REP or a

@@ -39,14 +39,21 @@ static void try_http_status(krb_status status) {
 
 /* What is told of a request: its service, whether it names one realm, the place of its message. */
 static void try_request(const struct octets *it, char **row, int is_lenient) {
-    uint32_t service = OTHER;
-    bool same = is_lenient ? false : true;
-    size_t offset = OTHER, size = OTHER;
-    krb_status status = is_lenient ? krb_proxy_request_lenient(it->at, it->count, &service, &offset, &size)
-                                   : krb_proxy_request(it->at, it->count, &service, &same, &offset, &size);
+    krb_proxy_posted told = {OTHER, OTHER, OTHER, OTHER, OTHER, OTHER, OTHER, OTHER};
+    krb_status status = is_lenient ? krb_proxy_request_lenient(it->at, it->count, &told) : krb_proxy_request(it->at, it->count, &told);
     EXPECT(is_named(status, row[3]), "%s: status %u, and not %s, of %s", row[0], status, row[3], row[1]);
-    EXPECT(service == strtoul(row[4], NULL, 10) && same == (row[5][0] == '1'), "%s: another service or realm is told of %s", row[0], row[1]);
-    EXPECT(offset == strtoul(row[6], NULL, 10) && size == strtoul(row[7], NULL, 10), "%s: another place is told of %s", row[0], row[1]);
+    EXPECT(told.service == strtoul(row[4], NULL, 10) && told.names_one_realm == (row[5][0] == '1'), "%s: another service or realm is told of %s", row[0], row[1]);
+    EXPECT(told.message_offset == strtoul(row[6], NULL, 10) && told.message_size == strtoul(row[7], NULL, 10), "%s: another place is told of %s", row[0], row[1]);
+    if (status == KRB_DONE) {
+        krb_item domain;
+        int64_t hint = 0;
+        krb_status found = krb_find_text("KDC-PROXY-MESSAGE", "target-domain", it->at, it->count, &domain);
+        EXPECT(found == KRB_DONE && domain.offset == told.domain_offset && domain.size == told.domain_size, "%s: another target-domain is told of %s", row[0], row[1]);
+        found = krb_find_number_text("KDC-PROXY-MESSAGE", "dclocator-hint", it->at, it->count, &hint);
+        EXPECT(found == told.hint_status && hint == told.hint, "%s: another hint is told of %s", row[0], row[1]);
+    } else {
+        EXPECT(told.domain_offset == 0 && told.domain_size == 0 && told.hint == 0 && told.hint_status == 0, "%s: something is told of %s", row[0], row[1]);
+    }
     if (status != KRB_DONE) try_http_status(status);
 }
 

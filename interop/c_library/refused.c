@@ -68,13 +68,15 @@ static krb_status proxy_call(const struct row *row, struct octets *room, size_t 
     const char *call = row->call;
     size_t *at = to->at;
     if (!strcmp(call, "request")) {
-        krb_status status = krb_proxy_request(input->at, input->count, &to->word, &to->sealed, &at[0], &at[1]);
-        at[2] = to->word, at[3] = to->sealed;
+        krb_proxy_posted posted;
+        krb_status status = krb_proxy_request(input->at, input->count, &posted);
+        at[0] = posted.message_offset, at[1] = posted.domain_offset, at[2] = posted.service, at[3] = posted.names_one_realm;
         return status;
     }
     if (!strcmp(call, "lenient")) {
-        krb_status status = krb_proxy_request_lenient(input->at, input->count, &to->word, &at[0], &at[1]);
-        at[2] = to->word, at[3] = 0;
+        krb_proxy_posted posted;
+        krb_status status = krb_proxy_request_lenient(input->at, input->count, &posted);
+        at[0] = posted.message_offset, at[1] = posted.domain_offset, at[2] = posted.service, at[3] = 0;
         return status;
     }
     if (!strcmp(call, "read")) {

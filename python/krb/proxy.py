@@ -4,11 +4,11 @@ A request or a reply is the octets that HTTP carries, a KDC-PROXY-MESSAGE (2.2.2
 
 import ctypes
 import enum
-from typing import NamedTuple, Optional, Tuple
+from typing import Any, NamedTuple, Optional, Tuple
 
 from krb._items import Form, Leaf, items
-from krb._library import IN, SIZE, Call, Octets, Refused, Status
-from krb._places import SIZE_OUT, U32_OUT, Telling
+from krb._library import IN, SIZE, Call, Octets, Refused, Status, _library
+from krb._places import SIZE_OUT, Telling
 
 __all__ = ["Service", "ProxyRequest", "read_request", "read_request_lenient", "write_reply", "write_reply_datagram", "is_whole"]
 __all__ += ["write_request", "read_reply", "http_status"]
@@ -42,8 +42,31 @@ class ProxyRequest(NamedTuple):
     datagram: bytes
 
 
-_request = Telling("krb_proxy_request", [IN], [U32_OUT, ctypes.c_bool, SIZE_OUT, SIZE_OUT])
-_request_lenient = Telling("krb_proxy_request_lenient", [IN], [U32_OUT, SIZE_OUT, SIZE_OUT])
+class _Posted(ctypes.Structure):
+    """krb_proxy_posted of krb.h."""
+
+    _fields_ = [(name, ctypes.c_size_t) for name in ("message_offset", "message_size", "domain_offset", "domain_size")] + [
+        ("hint", ctypes.c_int64),
+        ("hint_status", ctypes.c_uint32),
+        ("service", ctypes.c_uint32),
+        ("names_one_realm", ctypes.c_uint32),
+    ]
+
+
+_request, _request_lenient = _library.krb_proxy_request, _library.krb_proxy_request_lenient
+for _call in (_request, _request_lenient):
+    _call.argtypes = [ctypes.c_char_p, ctypes.c_size_t, ctypes.POINTER(_Posted)]
+    _call.restype = ctypes.c_uint32
+
+
+def _posted(call: Any, octets: bytes) -> _Posted:
+    posted = _Posted()
+    status = call(octets, len(octets), ctypes.byref(posted))
+    if status != Status.DONE:
+        raise Refused(status)
+    return posted
+
+
 _reply = Call("krb_proxy_reply", IN, has_room=True)
 _reply_datagram = Call("krb_proxy_reply_datagram", IN, has_room=True)
 _is_whole = Call("krb_proxy_is_whole", IN, SIZE)
@@ -53,19 +76,6 @@ _read_reply = Telling("krb_read_proxy_reply", [IN], [SIZE_OUT, SIZE_OUT])
 _LENGTH = 4
 _FRAME = 48  # what a KDC-PROXY-MESSAGE has at most beside the octets of its fields
 _AS_REQ = 0x6A
-
-
-class _Posted(NamedTuple):
-    """What a KDC-PROXY-MESSAGE says beside the message."""
-
-    target_domain: bytes
-    hint: Optional[int]
-
-
-def _posted(octets: bytes) -> _Posted:
-    fields = {item.name: octets[item.place] for item in items(octets, "KDC-PROXY-MESSAGE") if item.form == Form.LEAF}
-    hint = fields.get("dclocator-hint")
-    return _Posted(fields["target-domain"], None if hint is None or len(hint) > 8 else int.from_bytes(hint, "big", signed=True))
 
 
 class _Asked(NamedTuple):
@@ -89,6 +99,13 @@ def _asked(octets: bytes, as_type: str, depth: int, names: Tuple[str, ...]) -> _
     return _Asked(realm, *(tuple(found[name]) if name in found else None for name in ("cname", "sname")))
 
 
+def _parts(octets: bytes, posted: _Posted) -> Tuple[bytes, bytes, bytes, Optional[int]]:
+    """What goes over a stream, what goes in a datagram, target-domain, and the hint that 64 bits hold."""
+    start, end = posted.message_offset, posted.message_offset + posted.message_size
+    domain = octets[posted.domain_offset : posted.domain_offset + posted.domain_size]
+    return octets[start - _LENGTH : end], octets[start:end], domain, posted.hint if posted.hint_status == Status.DONE else None
+
+
 def read_request(octets: Octets) -> ProxyRequest:
     """The request that the octets are: the one DER encoding of a KDC-PROXY-MESSAGE with a target-domain, whose kerb-message is a length and so many octets, and
     these the one encoding of an AS-REQ or a TGS-REQ, or a frame in which a password is changed. Any other octets are refused.
@@ -97,23 +114,23 @@ def read_request(octets: Octets) -> ProxyRequest:
     PROXY_NO_DOMAIN, PROXY_OTHER_KIND, PROXY_FRAME_LENGTH; of the message PROXY_INVALID, PROXY_TRUNCATED, PROXY_UNSUPPORTED, PROXY_PVNO, PROXY_MSG_TYPE;
     MEMORY. `http_status` says what to answer."""
     octets = bytes(memoryview(octets).cast("B"))
-    service, names_one_realm, offset, size = _request.told(octets)
-    posted, message = _posted(octets), octets[offset : offset + size]
-    if service == Service.KDC:
+    posted = _posted(_request, octets)
+    stream, message, domain, hint = _parts(octets, posted)
+    if posted.service == Service.KDC:
         # [APPLICATION 10] SEQUENCE { req-body [4] SEQUENCE { field
         asked = _asked(message, "AS-REQ" if message[0] == _AS_REQ else "TGS-REQ", 4, ("cname", "sname"))
     else:
         # [APPLICATION 14] SEQUENCE { ticket [3] [APPLICATION 1] SEQUENCE { field
         asked = _asked(message[6 : 6 + int.from_bytes(message[4:6], "big")], "AP-REQ", 5, ("sname",))
     return ProxyRequest(
-        Service(service),
+        Service(posted.service),
         asked.realm,
-        posted.target_domain,
-        bool(names_one_realm),
+        domain,
+        bool(posted.names_one_realm),
         asked.client,
         asked.server,
-        posted.hint,
-        octets[offset - _LENGTH : offset + size],
+        hint,
+        stream,
         message,
     )
 
@@ -125,10 +142,9 @@ def read_request_lenient(octets: Octets) -> ProxyRequest:
 
     Refused: as `read_request` up to PROXY_OTHER_KIND; MEMORY."""
     octets = bytes(memoryview(octets).cast("B"))
-    service, offset, size = _request_lenient.told(octets)
-    posted = _posted(octets)
-    stream, message = octets[offset - _LENGTH : offset + size], octets[offset : offset + size]
-    return ProxyRequest(Service(service), None, posted.target_domain, None, None, None, posted.hint, stream, message)
+    posted = _posted(_request_lenient, octets)
+    stream, message, domain, hint = _parts(octets, posted)
+    return ProxyRequest(Service(posted.service), None, domain, None, None, None, hint, stream, message)
 
 
 def write_reply(octets: Octets) -> bytes:

@@ -9,6 +9,7 @@ ghost use Rattle.krb_c_calls.specs.Replies.{IsArrivalTold, IsDatagramReplyMade, 
 ghost use Rattle.krb_c_calls.specs.Requests.{IsLenientTold, IsRequestTold};
 ghost use Rattle.krb_c_calls.specs.ProxyStatuses.{Refuses};
 
+use krb_c_calls::proxies::PostedRecord;
 use krb_der::DerEncode;
 use krb_messages::messages::{
     ApRep, ApReq, AsRep, AsReq, KdcProxyMessage, KrbError, KrbPriv, TgsRep, TgsReq,
@@ -17,26 +18,12 @@ use std::alloc::Global;
 
 /// `krb_proxy_request` of `krb.h`: a request that a client posts to a proxy (MS-KKDCP, 2.2.2 and 3.2.5.1).
 #[unsafe(no_mangle)]
-pub extern "C" fn krb_proxy_request(
-    alloc: Global,
-    octets: &[u8],
-    service: &mut u32,
-    names_one_realm: &mut bool,
-    message_offset: &mut usize,
-    message_size: &mut usize,
-) -> u32
+pub extern "C" fn krb_proxy_request(alloc: Global, octets: &[u8], posted: &mut PostedRecord) -> u32
     ensures { IsRequestTold ⟦<KdcProxyMessage as DerEncode>⟧
         (types ⟦<AsReq as DerEncode>⟧ ⟦<TgsReq as DerEncode>⟧ ⟦<ApReq as DerEncode>⟧ ⟦<KrbPriv as DerEncode>⟧)
-        octets.now service.new names_one_realm.new message_offset.new message_size.new result }
+        octets.now posted.new result }
 {
-    krb_c_calls::proxies::proxy_request(
-        alloc,
-        octets,
-        service,
-        names_one_realm,
-        message_offset,
-        message_size,
-    )
+    krb_c_calls::proxies::proxy_request(alloc, octets, posted)
 }
 
 /// `krb_proxy_request_lenient` of `krb.h`: the same, where the first octets of the message alone are looked at.
@@ -44,19 +31,11 @@ pub extern "C" fn krb_proxy_request(
 pub extern "C" fn krb_proxy_request_lenient(
     alloc: Global,
     octets: &[u8],
-    service: &mut u32,
-    message_offset: &mut usize,
-    message_size: &mut usize,
+    posted: &mut PostedRecord,
 ) -> u32
-    ensures { IsLenientTold ⟦<KdcProxyMessage as DerEncode>⟧ octets.now service.new message_offset.new message_size.new result }
+    ensures { IsLenientTold ⟦<KdcProxyMessage as DerEncode>⟧ octets.now posted.new result }
 {
-    krb_c_calls::proxies::proxy_request_lenient(
-        alloc,
-        octets,
-        service,
-        message_offset,
-        message_size,
-    )
+    krb_c_calls::proxies::proxy_request_lenient(alloc, octets, posted)
 }
 
 /// `krb_proxy_reply` of `krb.h`: what goes back for a reply that came over a stream (MS-KKDCP, 3.2.5.2).

@@ -1,3 +1,4 @@
+mod Domains
 mod PlacedItems
 pub mod TokensAnswered
 pub mod RequestsMade

@@ -13,6 +13,7 @@ pub mod Numbers
 pub mod Parts
 pub mod ProxyStatuses
 pub mod Replies
+pub mod Posted
 pub mod Requests
 pub mod Shown
 pub mod Sizes

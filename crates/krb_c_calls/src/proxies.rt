@@ -2,10 +2,12 @@
 //! the caller's memory.
 
 mod client;
+mod posted;
 mod reply;
 mod request;
 mod statuses;
 
 pub use client::{make_proxy_request, read_proxy_reply};
+pub use posted::PostedRecord;
 pub use reply::{proxy_is_whole, proxy_reply, proxy_reply_datagram};
 pub use request::{proxy_request, proxy_request_lenient};
