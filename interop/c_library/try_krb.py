@@ -163,7 +163,7 @@ def main():
         try_row(row)
     for number, octets in rows(sys.argv[2], 2):
         try_message(int(number), bytes.fromhex(octets))
-    for row in rows(sys.argv[3], 8):
+    for row in rows(sys.argv[3], 10):
         try_field(row)
     for number, octets in rows(sys.argv[2], 2):
         if number == "10":

@@ -74,8 +74,8 @@ types that --as has to name:
 
 exit statuses:
     0    the output is written
-    1    an error, which a line on standard error names, with its place where it is one of DER, but in a frame of the
-         GSS-API, and nothing on standard output, or not all where the output cannot be written
+    1    an error, which a line on standard error names, with its place where it is one of DER behind the header of
+         a frame, and nothing on standard output, or not all where the output cannot be written
     2    wrong arguments, a key among them, and nothing was read from standard input
 
 examples:

@@ -36,33 +36,33 @@ row_name kinds.Token octets = token_row octets
 row_name (kinds.Certificate certificates.PaPkAsRep) octets = choice_row octets
 row_name kind octets = kind_name kind
 
--- the row of octets of a kind
-abbrev pub row_of : Kind → List ℕ → Option ℕ
-row_of kind octets = row_in types (row_name kind octets)
-
--- The rows are those of the table, and the outermost element is called as the kind is.
-pub record IsTable (kind : Kind) (schema : Schema) (name : Name) : Type 0 where
+-- The rows are those of the table, and the outermost element is called so.
+pub record IsTable (text : List ℕ) (schema : Schema) (name : Name) : Type 0 where
   pub rows : IsKerberos schema
-  pub text : name.text.now ≡ kind_name kind
+  pub text_is : name.text.now ≡ text
   pub no_registry : name.registry ≡ None
 
 -- the octets are one element of this row, and these are its items
-pub record AreItemsOf (kind : Kind) (row : ℕ) (octets : List ℕ) (items : List Item) : Type 0 where
+pub record AreItemsOf (text : List ℕ) (row : ℕ) (octets : List ℕ) (items : List Item) : Type 0 where
   pub schema : Schema
   pub name : Name
-  pub table : IsTable kind schema name
+  pub table : IsTable text schema name
   pub walked : Walked (IsElement 64 schema row name []) octets 0 0 [] items
 
 -- the octets are no element of this row, and this is their first fault, with its place
-pub record IsFirstFault (kind : Kind) (row : ℕ) (octets : List ℕ) (fault : Fault) : Type 0 where
+pub record IsFirstFault (text : List ℕ) (row : ℕ) (octets : List ℕ) (fault : Fault) : Type 0 where
   pub schema : Schema
   pub name : Name
-  pub table : IsTable kind schema name
+  pub table : IsTable text schema name
   pub none : IsNone (IsElement 64 schema row name []) octets
   pub first : IsWholeFault (IsElement 64 schema row name []) (IsFault 64 schema row name []) 0 octets fault
 
+-- what a walk of octets by the row of a name comes to
+abbrev pub IsWalkBy : List ℕ → List ℕ → List ℕ → Walk → Type 0
+IsWalkBy row_name text octets walks.NoRow = row_in types row_name ≡ None
+IsWalkBy row_name text octets (walks.Items items) = (row : ℕ) × (row_in types row_name ≡ Some row) × AreItemsOf text row octets items.items
+IsWalkBy row_name text octets (walks.Fault fault) = (row : ℕ) × (row_in types row_name ≡ Some row) × IsFirstFault text row octets fault
+
 -- what a walk of octets of a kind comes to
 abbrev pub IsWalkOf : Kind → List ℕ → Walk → Type 0
-IsWalkOf kind octets walks.NoRow = row_of kind octets ≡ None
-IsWalkOf kind octets (walks.Items items) = (row : ℕ) × (row_of kind octets ≡ Some row) × AreItemsOf kind row octets items.items
-IsWalkOf kind octets (walks.Fault fault) = (row : ℕ) × (row_of kind octets ≡ Some row) × IsFirstFault kind row octets fault
+IsWalkOf kind octets walk = IsWalkBy (row_name kind octets) (kind_name kind) octets walk

@@ -12,6 +12,7 @@ mod error;
 mod everything;
 mod exchanges;
 mod files;
+mod frames;
 mod kind;
 mod names;
 mod pages;

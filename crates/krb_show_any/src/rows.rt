@@ -1,7 +1,9 @@
 //! Octets walked by the row of their kind.
 
 ghost use Rattle.std.specs.Prelude.{◌≡◌, IfOk, Some};
-ghost use Rattle.krb_show_any.specs.Rows.{IsWalkOf, choice_row, row_name, row_of, token_row};
+ghost use Rattle.krb_show_any.specs.Rows.{IsWalkBy, IsWalkOf, choice_row, row_name, token_row};
+ghost use Rattle.krb_schema.specs.Named.{row_in};
+ghost use Rattle.krb_schema.specs.Types.{types};
 
 use crate::kind::Kind;
 use crate::names::name_of_kind;
@@ -46,17 +48,10 @@ fn row_name(kind: Kind, octets: &[u8]) -> &'static str
     }
 }
 
-/// The row of octets of a kind in the table of `krb_schema`. `None` for kinds that have none, as PACs, files and frames.
-fn row_of(kind: Kind, octets: &[u8]) -> Option<usize>
-    ensures { result ≡ row_of kind octets.now }
-{
-    row_named(row_name(kind, octets))
-}
-
-/// What the walk of octets of a kind comes to.
+/// What a walk of octets comes to.
 #[derive(Drop)]
 pub(crate) enum Walk {
-    /// The kind has no row.
+    /// There is no row of the name.
     NoRow,
     /// They are one element of the row, of these items.
     Items(Vec<Item>),
@@ -64,13 +59,19 @@ pub(crate) enum Walk {
     Fault(Fault),
 }
 
-/// Walks octets by the row of their kind, under its name.
-fn walk_by_row(alloc: Global, kind: Kind, row: usize, octets: &[u8]) -> Result<Walk, AllocError>
-    requires { row_of kind octets.now ≡ Some row }
-    ensures { IfOk result (IsWalkOf kind octets.now) }
+/// Walks octets by a row, with this text as the name of the outermost element.
+fn walk_by_row(
+    alloc: Global,
+    row_name: &'static str,
+    text: &'static str,
+    row: usize,
+    octets: &[u8],
+) -> Result<Walk, AllocError>
+    requires { row_in types row_name.now ≡ Some row }
+    ensures { IfOk result (IsWalkBy row_name.now text.now octets.now) }
 {
     let name = Name {
-        text: name_of_kind(kind),
+        text,
         registry: None,
         role: Role::None,
     };
@@ -81,12 +82,24 @@ fn walk_by_row(alloc: Global, kind: Kind, row: usize, octets: &[u8]) -> Result<W
     }
 }
 
-/// Walks octets of a kind by its row, if it has one.
+/// Walks octets by the row of this name in the table of `krb_schema`, if there is one, with this text as the name of the outermost element.
+pub(crate) fn walk_named(
+    alloc: Global,
+    row_name: &'static str,
+    text: &'static str,
+    octets: &[u8],
+) -> Result<Walk, AllocError>
+    ensures { IfOk result (IsWalkBy row_name.now text.now octets.now) }
+{
+    match row_named(row_name) {
+        Some(row) => walk_by_row(alloc, row_name, text, row, octets),
+        None => Ok(Walk::NoRow),
+    }
+}
+
+/// Walks octets of a kind by its row, if it has one: PACs, files and frames have none.
 pub(crate) fn walk_octets(alloc: Global, kind: Kind, octets: &[u8]) -> Result<Walk, AllocError>
     ensures { IfOk result (IsWalkOf kind octets.now) }
 {
-    match row_of(kind, octets) {
-        Some(row) => walk_by_row(alloc, kind, row, octets),
-        None => Ok(Walk::NoRow),
-    }
+    walk_named(alloc, row_name(kind, octets), name_of_kind(kind), octets)
 }
