@@ -137,20 +137,22 @@ fn names_items_of_an_error(rt: HostRuntime) {
     assert_eq!(rt; (status, size), (0, 4));
     assert!(&rt; name.starts_with(b"pvno"));
     assert!(&rt; item_name(u32::MAX, &mut name, &mut size) == 3);
+    let mut short = [OTHER; 49];
     let status = items(
         alloc,
         b"KRB-ERROR",
         &ERROR,
-        &mut told[..49],
+        &mut short,
         &mut count,
         &mut offset,
     );
     assert_eq!(rt; (status, count, offset), (1, 50, 0));
+    let mut cut = [OTHER; 50];
     let status = items(
         alloc,
         b"KRB-ERROR",
         &ERROR[..123],
-        &mut told,
+        &mut cut,
         &mut count,
         &mut offset,
     );

@@ -126,10 +126,8 @@ fn shows_a_thousand_padata(rt: HostRuntime) -> Result<(), Fail> {
         &mut size,
     );
     assert_eq!(rt; status, 0);
-    assert_eq!(rt;
-        &out[..44],
-        b"METHOD-DATA[1000]:\n  METHOD-DATA:\n    padata".as_slice()
-    );
-    assert_eq!(rt; out[size - 1], b'\n');
+    assert!(&rt; out.starts_with(b"METHOD-DATA[1000]:\n  METHOD-DATA:\n    padata"));
+    assert_eq!(rt; out.get(size.saturating_sub(1)).copied(), Some(b'\n'));
+    assert_eq!(rt; out.get(size).copied(), Some(7));
     Ok(())
 }
