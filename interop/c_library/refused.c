@@ -347,7 +347,7 @@ static void try_frames(const char *name) {
     if (!file) die("a table is not there");
     while (next_row(file, columns, 2)) {
         struct octets octets = octets_of_text(columns[1]);
-        if (strcmp(columns[0], "pac")) try_frame(columns[0], &octets); /* a PAC takes no memory */
+        if (strcmp(columns[0], "pac") && strcmp(columns[0], "unlisted")) try_frame(columns[0], &octets); /* a PAC takes no memory */
         drop(&octets);
     }
     fclose(file);

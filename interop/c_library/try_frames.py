@@ -1,6 +1,6 @@
 """Tries the Python package on frames of messages: try_frames.py FRAMES, in an environment that has it installed.
 
-FRAMES has rows of a kind and octets in hexadecimal: pac, token, init, resp, password, proxy. What is expected is read out of the octets here, by code
+FRAMES has rows of a kind and octets in hexadecimal: pac, unlisted (a PAC with a buffer of a type that nothing lists), token, init, resp, password, proxy. What is expected is read out of the octets here, by code
 that shares nothing with the library. The last line is `N passed, N failed`."""
 
 import random
@@ -379,14 +379,14 @@ def try_lengths(octets):
 
 def main():
     random.seed(3244)
-    seen = dict.fromkeys(("pac", "token", "init", "resp", "password", "proxy"), 0)
+    seen = dict.fromkeys(("pac", "unlisted", "token", "init", "resp", "password", "proxy"), 0)
     with open(sys.argv[1], encoding="ascii") as table:
         rows = [line.rstrip("\n").split("\t") for line in table]
     for kind, digits in rows:
         octets = bytes.fromhex(digits)
         seen[kind] += 1
         count = 400
-        if kind == "pac":
+        if kind in ("pac", "unlisted"):
             try_pac(octets, count)
         elif kind == "token":
             try_token(octets, count)
