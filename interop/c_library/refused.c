@@ -148,11 +148,14 @@ static int is_of_items(const char *call) {
     return 0;
 }
 
+static int is_shown(const char *call) { return !strcmp(call, "show_text") || !strcmp(call, "show_json"); }
+
 static krb_status other_call(const struct row *row, struct octets *room, size_t *size, struct cells *to) {
     const struct octets *key = &row->key, *beside = &row->beside, *input = &row->input;
     const char *call = row->call;
     size_t *at = to->at;
     if (is_of_items(call)) return item_call(row, to);
+    if (is_shown(call)) return krb_show(key->at, key->count, input->at, input->count, !strcmp(call, "show_json"), row->number != 0, room->at, room->count, size);
     if (!strcmp(call, "token")) return krb_gss_token(input->at, input->count, &at[0], &at[1], &at[2], &at[3]);
     if (!strcmp(call, "password")) return krb_password_frame(input->at, input->count, &at[0], &at[1], &at[2], &at[3]);
     if (!strcmp(call, "make_token")) return krb_make_gss_token(beside->at, beside->count, input->at, input->count, room->at, room->count, size);
@@ -176,7 +179,7 @@ static krb_status other_call(const struct row *row, struct octets *room, size_t 
 }
 
 /* Whether it answers octets in the room. */
-static int has_answer(const char *call) { return is_answering(call) || !strncmp(call, "make_", 5) || strstr(call, "wrap"); }
+static int has_answer(const char *call) { return is_answering(call) || !strncmp(call, "make_", 5) || strstr(call, "wrap") || is_shown(call); }
 
 static krb_status told_of(const struct row *row, struct octets *room, struct answer *it) {
     struct cells to = {{77777, 77777, 77777, 77777, 77777, 77777}, 77777, 77777, 77777, true};
@@ -220,6 +223,7 @@ static long most, refusals;
 
 static void try_call(const struct row *row) {
     size_t ample = has_answer(row->call) ? row->input.count + row->beside.count + row->key.count + 99 : 1;
+    if (is_shown(row->call)) ample = 8 * row->input.count + 1024;
     struct octets right = room_of(ample);
     struct answer whole = run(row, &right, 0, 0);
     EXPECT(whole.held == 0, "%s %d: %ld blocks are left", row->call, row->number, whole.held);
@@ -297,7 +301,7 @@ static void try_passwords(void) {
 
 static struct octets text_of(const char *text) { return octets_of((const uint8_t *)text, strlen(text)); }
 
-/* Fields that are found in messages, and all items of these: rows that expect_fields.py makes. */
+/* Fields that are found in messages, and all items of these, also as text and as JSON: rows that expect_fields.py makes. */
 static void try_fields(const char *name) {
     FILE *file = fopen(name, "r");
     char *columns[10];
@@ -309,7 +313,13 @@ static void try_fields(const char *name) {
         row.call = "find_number";
         if (columns[7][0] && strcmp(columns[7], "TOO_LARGE")) try_call(&row);
         row.call = "items";
-        if (!strcmp(columns[3], "0")) try_call(&row);
+        if (!strcmp(columns[3], "0")) {
+            try_call(&row);
+            row.call = "show_text";
+            try_call(&row);
+            row.call = "show_json", row.number = 1;
+            try_call(&row);
+        }
         drop(&row.key), drop(&row.beside), drop(&row.input);
     }
     fclose(file);
