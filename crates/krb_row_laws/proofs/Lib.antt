@@ -1,0 +1,17 @@
+pub mod SplitLaws
+pub mod LineLaws
+pub mod WordLaws
+pub mod BlockLaws
+pub mod FieldLaws
+pub mod StructLaws
+pub mod NameLaws
+pub mod ValueLaws
+pub mod LeafLaws
+pub mod FirstLaws
+pub mod ForestLaws
+pub mod LeafRows
+pub mod Blocked
+pub mod Told
+pub mod FieldRows
+pub mod ApartRows
+pub mod HeldRows

@@ -1,0 +1,6 @@
+pub mod Telling
+pub mod Blocks
+pub mod Firsts
+pub mod Pages
+pub mod Tests
+pub mod Formats
