@@ -109,7 +109,7 @@ any_leaf : (kind : Option Kind) (tag : ℕ) (content s : List ℕ) → IsAnyText
 any_leaf kind tag content s (inl (number, named, h)) = number_leaf (pos number) s h
 any_leaf kind tag content s (inr e) = (octets_text (tlv tag content), e)
 
-line_so : {n : List ℕ} {V W : List ℕ → Type 0} {old new : List Token} → ((s : List ℕ) → V s → W s) → OneLine n V old new → OneLine n W old new
+pub line_so : {n : List ℕ} {V W : List ℕ → Type 0} {old new : List Token} → ((s : List ℕ) → V s → W s) → OneLine n V old new → OneLine n W old new
 line_so f l = record { token = l.token; added = l.added; named = l.named; value = f _ l.value; lines = l.lines; level = l.level }
 
 any_line : (label : Label) (tag : ℕ) (content : List ℕ) → Lines label.text (IsAnyText label.kind tag content) (any_of tag label content)

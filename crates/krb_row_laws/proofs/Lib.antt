@@ -15,3 +15,5 @@ pub mod Told
 pub mod FieldRows
 pub mod ApartRows
 pub mod HeldRows
+pub mod ComponentLaws
+pub mod ListRows

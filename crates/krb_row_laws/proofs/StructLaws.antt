@@ -128,10 +128,10 @@ tells_struct label name t is_fit =
 
 -- ---- lists
 
-opens_list : (label : Label) (count : List ℕ) → Opens label.text IsList (leaf form.List label count)
+pub opens_list : (label : Label) (count : List ℕ) → Opens label.text IsList (leaf form.List label count)
 opens_list label count = record { named = refl; heading = (_, refl); ends = refl; lines = λ d ts. refl; behind = λ d ts. refl }
 
-closes_list : (label : Label) → Closes (mark form.ListEnd label)
+pub closes_list : (label : Label) → Closes (mark form.ListEnd label)
 closes_list label = record { lines = λ d. refl; behind = one_less }
 
 -- more names may be first
