@@ -17,3 +17,4 @@ pub mod ApartRows
 pub mod HeldRows
 pub mod ComponentLaws
 pub mod ListRows
+pub mod Rows
