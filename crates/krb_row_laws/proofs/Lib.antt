@@ -18,3 +18,4 @@ pub mod HeldRows
 pub mod ComponentLaws
 pub mod ListRows
 pub mod Rows
+pub mod Kerberos

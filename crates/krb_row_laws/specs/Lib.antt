@@ -4,3 +4,4 @@ pub mod Firsts
 pub mod Pages
 pub mod Tests
 pub mod Formats
+pub mod Kerberos
