@@ -19,3 +19,6 @@ pub mod ComponentLaws
 pub mod ListRows
 pub mod Rows
 pub mod Kerberos
+pub mod PlainRows
+pub mod Counts
+pub mod Bridge

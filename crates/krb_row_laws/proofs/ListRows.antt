@@ -70,18 +70,18 @@ component_kind : (kind : Leaf) → is_component (items.Leaf kind) ≡ true → k
 component_kind leaves.Component e = refl
 component_kind kind e = absurd (cc)
 
-component_tag : (o : Option Shape) → is_component_shape o ≡ true → (tag : ℕ) × (o ≡ Some (shape.Leaf tag leaves.Component))
+pub component_tag : (o : Option Shape) → is_component_shape o ≡ true → (tag : ℕ) × (o ≡ Some (shape.Leaf tag leaves.Component))
 component_tag None e = absurd (cc)
 component_tag (Some (shape.Leaf tag kind)) e = (tag, ap (λ (k : Leaf). Some (shape.Leaf tag k)) (component_kind kind e))
 component_tag (Some other) e = absurd (cc)
 
-abbrev in_a_row : Name → ℕ → List (List ℕ) → Forest
+abbrev pub in_a_row : Name → ℕ → List (List ℕ) → Forest
 in_a_row name tag [] = none
 in_a_row name tag (c ∷ cs) = leaf leaves.Component name tag c (in_a_row name tag cs)
 
-record AreComponents (name : Name) (tag : ℕ) (f : Forest) : Type 0 where
-  whole : f ≡ in_a_row name tag (components f)
-  ascii : AllByRecursion IsAscii (components f)
+pub record AreComponents (name : Name) (tag : ℕ) (f : Forest) : Type 0 where
+  pub whole : f ≡ in_a_row name tag (components f)
+  pub ascii : AllByRecursion IsAscii (components f)
 
 given : Option Shape → Shape → Shape
 given None other = other
@@ -98,7 +98,7 @@ one_component (suc levels) schema is name tag before f e v =
     same_shape : (s t : Shape) → Some s ≡ Some t → s ≡ t
     same_shape s t q = cc
 
-are_components : (levels : ℕ) (schema : Schema) (is : ℕ) (name : Name) (tag : ℕ) (f : Forest) → slice_get schema.shapes.now is ≡ Some (shape.Leaf tag leaves.Component)
+pub are_components : (levels : ℕ) (schema : Schema) (is : ℕ) (name : Name) (tag : ℕ) (f : Forest) → slice_get schema.shapes.now is ≡ Some (shape.Leaf tag leaves.Component)
     → AreElements (IsElement levels schema is name []) f → AreComponents name tag f
 are_components levels schema is name tag f e no_elements = record { whole = refl; ascii = tt }
 are_components levels schema is name tag f e (one_more a as_ r rs) =

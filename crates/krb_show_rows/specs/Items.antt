@@ -54,6 +54,10 @@ is_in wanted all = is_this wanted (slice_get all (length all - 1))
 abbrev pub is_in_list : List Inside → Bool
 is_in_list all = is_in inside.List all
 
+-- it is a component of a name
+abbrev pub is_in_name : List Inside → Bool
+is_in_name all = is_in inside.Names all
+
 abbrev pub label_of : List Inside → Name → Label
 label_of all name = record { text = name.text.now; kind = name.registry; is_item = is_in_list all }
 
