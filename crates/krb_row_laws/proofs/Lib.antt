@@ -22,3 +22,4 @@ pub mod Kerberos
 pub mod PlainRows
 pub mod Counts
 pub mod Bridge
+pub mod TextLaws

@@ -5,3 +5,4 @@ pub mod Pages
 pub mod Tests
 pub mod Formats
 pub mod Kerberos
+pub mod Laws
