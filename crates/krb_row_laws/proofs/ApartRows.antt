@@ -1,6 +1,6 @@
 -- Elements of two rows of SEQUENCEs whose lines are none in common.
-use Rattle.std.proofs.Common.{◌≡◌, ◌⊎◌, ℕ, ◌≤◌, Bool, true, false, ◌&&◌, ◌||◌, if◌then◌else◌, inl, inr, refl, sym, ap, subst, ◌∙◌, List, [], ◌∷◌, ◌++◌, arith}
-use Rattle.std.specs.Prelude.{Option, None, Some, map}
+use Rattle.std.proofs.Common.{◌≡◌, ◌⊎◌, ℕ, Bool, true, false, ◌&&◌, ◌||◌, inl, inr, refl, sym, ap, subst, ◌∙◌, List, [], ◌∷◌, ◌++◌}
+use Rattle.std.specs.Prelude.{map}
 use Rattle.std.specs.List.{slice_get}
 use Rattle.std.proofs.lemmas.List.{append_assoc}
 use Rattle.krb_schema.specs.declared.shape.Case.{Case}
@@ -11,14 +11,14 @@ use Rattle.krb_schema.specs.declared.shape.Shape.{Shape}
 use Rattle.krb_schema.specs.Forests.{Forest, enc}
 use Rattle.krb_schema.specs.Named.{field_row}
 use Rattle.krb_schema.specs.Shapes.{AreFields}
-use Rattle.krb_show.specs.Pages.{◌then◌, struct_of}
+use Rattle.krb_show.specs.Pages.{struct_of}
 use Rattle.krb_show.specs.Text.{line, page_lines}
 use Rattle.krb_show.specs.Tokens.{Label, Token}
 use Rattle.krb_row_laws.specs.Telling.{is_name, other_than}
-use Rattle.krb_row_laws.specs.Blocks.{Among, Blocks, Follow, Tells, depth_behind}
+use Rattle.krb_row_laws.specs.Blocks.{Blocks, Follow, Tells, depth_behind}
 use Rattle.krb_row_laws.specs.Firsts.{Opening, are_apart}
 use Rattle.krb_row_laws.specs.Pages.{behind, forest_shown}
-use Rattle.krb_row_laws.specs.Tests.{FieldRow, apart_fields, begins, field_names, is_number}
+use Rattle.krb_row_laws.specs.Tests.{FieldRow, apart_fields, is_number}
 use Rattle.krb_row_laws.proofs.SplitLaws.{and_left, and_right, tail}
 use Rattle.krb_row_laws.proofs.WordLaws.{of_other}
 use Rattle.krb_row_laws.proofs.BlockLaws.{lines_append}
@@ -28,7 +28,7 @@ use Rattle.krb_row_laws.proofs.LeafLaws.{Lines, OneLine}
 use Rattle.krb_row_laws.proofs.FirstLaws.{Never, absent_never, among_left, among_right, or_true}
 use Rattle.krb_row_laws.proofs.ForestLaws.{AreSmall}
 use Rattle.krb_row_laws.proofs.Blocked.{blocks_among, follows}
-use Rattle.krb_row_laws.proofs.FieldRows.{AreTold, Present, Split, begin_names, fields_blocks, fit_all, is_fit, names_at, present_firsts, rows_of, split}
+use Rattle.krb_row_laws.proofs.FieldRows.{AreTold, Present, Split, begin_names, fields_blocks, fit_all, is_fit, names_at, present_firsts, split}
 
 -- ---- one line, and what stands behind it
 

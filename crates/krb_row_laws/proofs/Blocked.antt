@@ -1,15 +1,14 @@
 -- What stands in front of lines that are known to begin so, and fields that one side has alone.
-use Rattle.std.proofs.Common.{◌≡◌, ◌⊎◌, ℕ, Bool, true, false, ◌&&◌, if◌then◌else◌, inl, inr, refl, sym, ap, subst, ◌∙◌, List, [], ◌∷◌, ◌++◌}
+use Rattle.std.proofs.Common.{◌≡◌, ℕ, Bool, true, if◌then◌else◌, inl, inr, refl, sym, ap, subst, ◌∙◌, List, [], ◌∷◌, ◌++◌}
 use Rattle.std.proofs.lemmas.List.{append-nil, append_assoc}
 use Rattle.krb_show.specs.Pages.{◌then◌}
-use Rattle.krb_show.specs.Text.{line, page_lines}
+use Rattle.krb_show.specs.Text.{page_lines}
 use Rattle.krb_show.specs.Tokens.{Token}
-use Rattle.krb_row_laws.specs.Blocks.{Adds, Among, Blocks, Follow, HasHead, IsBlock, Tells, depth_behind}
-use Rattle.krb_row_laws.specs.Firsts.{BeginsAs, Behind, First, Firsts, IsFirst, are_apart, names_of}
-use Rattle.krb_row_laws.proofs.SplitLaws.{and_right}
+use Rattle.krb_row_laws.specs.Blocks.{Adds, Among, Blocks, Follow, HasHead, Tells, depth_behind}
+use Rattle.krb_row_laws.specs.Firsts.{BeginsAs, Behind, First, Firsts, are_apart, names_of}
 use Rattle.krb_row_laws.proofs.BlockLaws.{depth_append, lines_append}
 use Rattle.krb_row_laws.proofs.FieldLaws.{nothing_added, same_added}
-use Rattle.krb_row_laws.proofs.FirstLaws.{absent_never, among_left, among_right, follow_so}
+use Rattle.krb_row_laws.proofs.FirstLaws.{absent_never, follow_so}
 
 pub blocks_so : {f : List (List ℕ) → List (List ℕ)} {a b : List Token → List Token → Type 0} → ((old new : List Token) → b old new → a old new) → Blocks f a → Blocks f b
 blocks_so f h = record { block = λ old new s. h.block old new (f old new s) }

@@ -1,5 +1,5 @@
 -- The tokens of the items of elements are what the elements add.
-use Rattle.std.proofs.Common.{◌≡◌, ℕ, zero, suc, ◌+◌, Bool, true, false, refl, sym, ap, subst, ◌∙◌, List, [], ◌∷◌, ◌++◌, length, take, drop, arith}
+use Rattle.std.proofs.Common.{◌≡◌, ℕ, ◌+◌, Bool, true, false, refl, sym, ap, subst, ◌∙◌, List, [], ◌∷◌, ◌++◌, length, take, drop, arith}
 use Rattle.std.specs.Fmt.{decimal}
 use Rattle.std.proofs.lemmas.List.{append-nil, append_assoc, length-append, take_at, drop_at}
 use Rattle.krb_der_core.specs.Tlv.{header, tlv}
@@ -16,12 +16,11 @@ use Rattle.krb_schema.specs.Rules.{content_of}
 use Rattle.krb_types.specs.Principals.{components_text}
 use Rattle.krb_show.specs.declared.token.Form.TheVariants as tokens
 use Rattle.krb_show.specs.Leaves.{text_of}
-use Rattle.krb_show.specs.Pages.{ends_list, struct_of}
 use Rattle.krb_show.specs.Tokens.{Label, Token, adds, leaf as token_leaf, mark}
-use Rattle.krb_show_rows.specs.Items.{Stand, begins_name, elements, end_step, form_step, is_component, is_in_list, is_in_name, label_of, leaf_step, list_end, list_step, nameless, numbered, plain_leaf, popped, pushed, secret_of, shown, start, step}
+use Rattle.krb_show_rows.specs.Items.{Stand, begins_name, end_step, is_component, is_in_list, is_in_name, label_of, leaf_step, list_end, list_step, nameless, numbered, plain_leaf, popped, pushed, secret_of, shown}
 use Rattle.krb_show_rows.specs.Items.{behind_leaf as stand_behind}
 use Rattle.krb_show_rows.specs.declared.stand.Secrets.TheVariants as secrets
-use Rattle.krb_row_laws.specs.Pages.{behind, behind_leaf, components, count, forest_shown, is_of_name, label_in, leaf_shown, list_shown}
+use Rattle.krb_row_laws.specs.Pages.{behind, behind_leaf, components, forest_shown, is_of_name, leaf_shown, list_shown}
 use Rattle.krb_row_laws.proofs.Counts.{counted_list, first_name, last_of, without_last}
 use Rattle.krb_row_laws.proofs.PlainRows.{AllComponents, Either, IsPlain}
 

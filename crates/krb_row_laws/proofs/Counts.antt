@@ -1,15 +1,13 @@
 -- Where items stand, and how many elements a list has.
-use Rattle.std.proofs.Common.{◌≡◌, ℕ, zero, suc, ◌+◌, ◌-◌, ◌<◌, nat_eq, nat_lt, Bool, true, false, ◌&&◌, refl, sym, ap, subst, ◌∙◌, List, [], ◌∷◌, ◌++◌, length, take, arith}
-use Rattle.std.specs.Prelude.{Option, None, Some}
+use Rattle.std.proofs.Common.{◌≡◌, ℕ, suc, ◌+◌, ◌-◌, ◌<◌, nat_eq, nat_lt, Bool, true, false, ◌&&◌, refl, ap, ◌∙◌, List, [], ◌∷◌, ◌++◌, length, take, arith}
+use Rattle.std.specs.Prelude.{Some}
 use Rattle.std.specs.List.{slice_get}
 use Rattle.std.proofs.lemmas.Grind.{common_steps}
 use Rattle.std.proofs.lemmas.List.{append_assoc}
 use Rattle.krb_der_core.specs.Tlv.{header, tlv}
-use Rattle.krb_schema.specs.declared.item.Form.{Form}
 use Rattle.krb_schema.specs.declared.item.Form.TheVariants as form
 use Rattle.krb_schema.specs.declared.item.Item.{Item}
 use Rattle.krb_schema.specs.declared.item.Node.{Node}
-use Rattle.krb_schema.specs.declared.item.Node.TheVariants as nodes
 use Rattle.krb_schema.specs.declared.shape.Name.{Name}
 use Rattle.krb_schema.specs.Forests.{Forest, none, leaf, node, enc, item, items_at}
 use Rattle.krb_show_rows.specs.Items.{begins_name, elements, is_begun}

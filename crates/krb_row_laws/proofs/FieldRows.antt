@@ -1,7 +1,6 @@
 -- Fields are told by their lines.
-use Rattle.std.proofs.Common.{◌≡◌, ◌⊎◌, ℕ, Bool, true, false, ◌&&◌, ◌||◌, if◌then◌else◌, inl, inr, refl, sym, ap, subst, ◌∙◌, List, [], ◌∷◌, ◌++◌, arith}
+use Rattle.std.proofs.Common.{◌≡◌, ◌⊎◌, ℕ, Bool, true, false, ◌&&◌, if◌then◌else◌, inl, inr, refl, sym, ap, subst, ◌∙◌, List, [], ◌∷◌, ◌++◌}
 use Rattle.std.specs.Prelude.{Option, None, Some, map}
-use Rattle.std.proofs.lemmas.Grind.{common_steps}
 use Rattle.std.proofs.lemmas.Bool.{eqb-true}
 use Rattle.krb_schema.specs.declared.item.Node.TheVariants as nodes
 use Rattle.krb_schema.specs.declared.shape.Case.{Case}
@@ -9,14 +8,14 @@ use Rattle.krb_schema.specs.declared.shape.Field.{Field}
 use Rattle.krb_schema.specs.declared.shape.Name.{Name}
 use Rattle.krb_schema.specs.declared.shape.Role.{Role}
 use Rattle.krb_schema.specs.declared.shape.Shape.{Shape}
-use Rattle.krb_schema.specs.Forests.{Forest, none, leaf, node, beside, enc}
+use Rattle.krb_schema.specs.Forests.{Forest, none, node, beside, enc}
 use Rattle.krb_schema.specs.Named.{field_row}
 use Rattle.krb_schema.specs.Shapes.{AreFields, is_first, no_fields, absent, wrapped, bare}
 use Rattle.krb_show.specs.Pages.{◌then◌}
 use Rattle.krb_show.specs.Tokens.{Label, Token}
-use Rattle.krb_row_laws.specs.Telling.{is_name, other_than}
+use Rattle.krb_row_laws.specs.Telling.{is_name}
 use Rattle.krb_row_laws.specs.Blocks.{Among, Blocks, Tells}
-use Rattle.krb_row_laws.specs.Firsts.{First, Firsts, Opening, are_apart, names_of}
+use Rattle.krb_row_laws.specs.Firsts.{First, Firsts, Opening, are_apart}
 use Rattle.krb_row_laws.specs.Pages.{behind, forest_shown}
 use Rattle.krb_row_laws.specs.Tests.{FieldRow, all_fit, begins, field_fits, field_names, firsts, fit, fits, is_tagged}
 use Rattle.krb_row_laws.proofs.SplitLaws.{and_left, and_right}

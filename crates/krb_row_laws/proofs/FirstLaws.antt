@@ -1,9 +1,9 @@
 -- First lines.
-use Rattle.std.proofs.Common.{◌≡◌, ◌⊎◌, ℕ, ◌<◌, Bool, true, false, ◌&&◌, ◌||◌, inl, inr, refl, sym, ap, subst, ◌∙◌, List, [], ◌∷◌, ◌++◌, length, arith}
-use Rattle.krb_show.specs.Text.{line, page_lines, value_text}
+use Rattle.std.proofs.Common.{◌≡◌, ◌⊎◌, ℕ, ◌<◌, Bool, true, false, ◌||◌, inl, inr, refl, sym, ap, subst, ◌∙◌, List, [], ◌∷◌, ◌++◌, length, arith}
+use Rattle.krb_show.specs.Text.{line, page_lines}
 use Rattle.krb_show.specs.Tokens.{Token}
 use Rattle.krb_row_laws.specs.Telling.{is_name, other_than}
-use Rattle.krb_row_laws.specs.Blocks.{Adds, Among, Blocks, Follow, HasHead, Heads, IsAt, IsLeaf, IsList, IsStruct, Tells, is_apart, same_octets}
+use Rattle.krb_row_laws.specs.Blocks.{Adds, Among, Blocks, Follow, Heads, IsAt, IsLeaf, IsList, IsStruct, Tells, is_apart, same_octets}
 use Rattle.krb_row_laws.specs.Firsts.{BeginsAs, Behind, First, Firsts, IsFirst, Opening, apart_each, apart_first, apart_firsts, are_apart, names_of, of_leaf, of_list, of_struct, other_opening}
 use Rattle.krb_row_laws.proofs.SplitLaws.{and_both, and_left, and_right, head}
 use Rattle.krb_row_laws.proofs.BlockLaws.{head_block, line_at, not_among, not_following, one_at, one_value_text}
@@ -57,17 +57,23 @@ only_first n ms m (inr e) = absurd e
 pub first_added : (fs : List First) (old new : List Token) → BeginsAs fs old new → Adds (λ names. names_of fs) old new
 first_added [] old new h = absurd h
 first_added (f ∷ fs) old new (inl h) =
-    let b = head_block f.name (Behind f.opening) old new h.named h.head in
-    (b.0, b.1, record {
-      level = b.2.level;
-      starts = λ names d rest m. follow_so (f.name ∷ []) (f.name ∷ names_of fs) (only_first f.name (names_of fs)) d (page_lines d b.0 ++ rest) (b.2.starts names d rest m);
-    })
+    let b = head_block f.name (Behind f.opening) old new h.named h.head in (
+      b.0,
+      b.1,
+      record {
+        level = b.2.level;
+        starts = λ names d rest m. follow_so (f.name ∷ []) (f.name ∷ names_of fs) (only_first f.name (names_of fs)) d (page_lines d b.0 ++ rest) (b.2.starts names d rest m);
+      },
+    )
 first_added (f ∷ fs) old new (inr h) =
-    let b = first_added fs old new h in
-    (b.0, b.1, record {
-      level = b.2.level;
-      starts = λ names d rest m. follow_so (names_of fs) (f.name ∷ names_of fs) (λ n a. inr a) d (page_lines d b.0 ++ rest) (b.2.starts names d rest m);
-    })
+    let b = first_added fs old new h in (
+      b.0,
+      b.1,
+      record {
+        level = b.2.level;
+        starts = λ names d rest m. follow_so (names_of fs) (f.name ∷ names_of fs) (λ n a. inr a) d (page_lines d b.0 ++ rest) (b.2.starts names d rest m);
+      },
+    )
 
 pub firsts_block : {fs : List First} {shows : List Token → List Token → Type 0} → Firsts fs shows → Blocks (λ names. names_of fs) shows
 firsts_block {fs} h = record { block = λ old new s. first_added fs old new (h.first old new s) }

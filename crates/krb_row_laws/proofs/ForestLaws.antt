@@ -1,5 +1,5 @@
 -- What elements in a row add.
-use Rattle.std.proofs.Common.{◌≡◌, ℕ, ◌<◌, Bool, true, refl, sym, ap, subst, ◌∙◌, zero, suc, List, [], ◌∷◌, ◌++◌, length, arith}
+use Rattle.std.proofs.Common.{◌≡◌, ℕ, Bool, refl, sym, subst, zero, suc, List, [], ◌∷◌, ◌++◌, length, arith}
 use Rattle.krb_der_core.specs.Encoding.{IsOctets}
 use Rattle.krb_der_core.specs.Tlv.{len, tlv}
 use Rattle.krb_schema.specs.declared.item.Node.TheVariants as nodes

@@ -1,20 +1,19 @@
 -- OCTET STRINGs that may hold an element are told by their lines.
-use Rattle.std.proofs.Common.{◌≡◌, ◌⊎◌, ℕ, nat_eq, nat_lt, Bool, true, false, ◌&&◌, ◌||◌, if◌then◌else◌, inl, inr, refl, sym, ap, subst, ◌∙◌, List, [], ◌∷◌, ◌++◌, arith}
-use Rattle.std.specs.Prelude.{Option, None, Some, map}
+use Rattle.std.proofs.Common.{◌≡◌, ◌⊎◌, ℕ, nat_eq, nat_lt, Bool, true, false, ◌&&◌, ◌||◌, if◌then◌else◌, inl, inr, refl, sym, ap, ◌∙◌, List, [], ◌∷◌, ◌++◌, arith}
+use Rattle.std.specs.Prelude.{Option, None, Some}
 use Rattle.std.proofs.lemmas.Grind.{common_steps}
-use Rattle.krb_der_core.specs.Tlv.{tlv}
 use Rattle.krb_schema.specs.declared.item.Node.TheVariants as nodes
 use Rattle.krb_schema.specs.declared.shape.Case.{Case}
 use Rattle.krb_schema.specs.declared.shape.Leaf.TheVariants as leaves
 use Rattle.krb_schema.specs.declared.shape.Name.{Name}
 use Rattle.krb_schema.specs.declared.shape.Role.{Role}
 use Rattle.krb_schema.specs.declared.shape.Shape.{Shape}
-use Rattle.krb_schema.specs.Forests.{Forest, none, leaf, node, enc}
+use Rattle.krb_schema.specs.Forests.{Forest, none, leaf, node}
 use Rattle.krb_schema.specs.Shapes.{Applies, IsBehind, IsHeld, number_octets, here, later, plain}
 use Rattle.krb_show.specs.Tokens.{Label, Token}
-use Rattle.krb_row_laws.specs.Telling.{is_name, other_than}
+use Rattle.krb_row_laws.specs.Telling.{is_name}
 use Rattle.krb_row_laws.specs.Blocks.{Tells}
-use Rattle.krb_row_laws.specs.Firsts.{BeginsAs, First, Firsts, Opening, apart_firsts, names_of}
+use Rattle.krb_row_laws.specs.Firsts.{First, Firsts, Opening, apart_firsts, names_of}
 use Rattle.krb_row_laws.specs.Formats.{FormatsTell}
 use Rattle.krb_row_laws.specs.Pages.{forest_shown}
 use Rattle.krb_row_laws.specs.Tests.{FieldRow, apart_cases, apart_rows, apart_sequences, firsts, fits, held_firsts, held_fits, leaf_firsts, never_both, sequence}

@@ -1,5 +1,5 @@
 -- The table of Kerberos passes the test.
-use Rattle.std.proofs.Common.{◌≡◌, ℕ, Bool, true, ◌||◌, refl, List}
+use Rattle.std.proofs.Common.{◌≡◌, ℕ, true, ◌||◌, refl, List}
 use Rattle.krb_schema.specs.declared.shape.Role.{Role}
 use Rattle.krb_schema.specs.declared.shape.Role.TheVariants as roles
 use Rattle.krb_schema.specs.Types.{cases, fields, shapes}

@@ -290,4 +290,3 @@ tells_within is_other valid t = record {
   heads = λ label v name h. t.heads label v name (valid v h);
   tells = λ label v w name h k. t.tells label v w name (valid v h) (valid w k);
 }
-

@@ -1,5 +1,5 @@
 -- Elements without elements are told by their lines.
-use Rattle.std.proofs.Common.{◌≡◌, ◌⊎◌, ℕ, ◌<◌, ◌^◌, Bool, true, inl, inr, refl, sym, ap, subst, ◌∙◌, ℤ, pos, FitsSigned, List, [], ◌∷◌, ◌++◌, length, arith, get_or, slice_index, suc, zero}
+use Rattle.std.proofs.Common.{◌≡◌, ◌⊎◌, ℕ, ◌<◌, ◌^◌, Bool, true, inl, inr, refl, sym, ap, ◌∙◌, ℤ, pos, List, [], ◌∷◌, ◌++◌, arith, slice_index, suc}
 use Rattle.std.specs.Fmt.{decimal}
 use Rattle.std.specs.Int.{w64}
 use Rattle.std.proofs.lemmas.Fmt.{decimal_injective}
@@ -20,19 +20,19 @@ use Rattle.krb_schema.specs.declared.shape.Name.{Name}
 use Rattle.krb_schema.specs.declared.shape.Role.{Role}
 use Rattle.krb_schema.specs.declared.shape.Role.TheVariants as roles
 use Rattle.krb_schema.specs.Leaves.{IsLeaf as IsContent, IsOf}
-use Rattle.krb_show.specs.Leaves.{identifier_of, number_of, octets_of}
+use Rattle.krb_show.specs.Leaves.{identifier_of}
 use Rattle.krb_show.specs.Text.{octets_text, page_lines}
 use Rattle.krb_show.specs.Tokens.{Label, Token}
 use Rattle.krb_show_rows.specs.Items.{octets_as}
 use Rattle.krb_show_rows.specs.Leaves.{IsNamed, any_of, leaf_as}
 use Rattle.krb_row_laws.specs.Telling.{Stops, all_of, is_digit, is_name, is_word_octet}
 use Rattle.krb_row_laws.specs.Blocks.{Follow, HasHead, Heads, IsLeaf, Tells, TellsValues}
-use Rattle.krb_row_laws.specs.Firsts.{Firsts, Opening, names_of, of_leaf, openings}
+use Rattle.krb_row_laws.specs.Firsts.{Firsts, Opening, names_of, openings}
 use Rattle.krb_row_laws.specs.Formats.{FormatsTell}
 use Rattle.krb_row_laws.specs.Pages.{label_in, leaf_shown}
 use Rattle.krb_row_laws.specs.Tests.{leaf_firsts, octets_kinds}
-use Rattle.krb_row_laws.proofs.SplitLaws.{all_append, and_both, head, split, tail}
-use Rattle.krb_row_laws.proofs.WordLaws.{decimal_digits, decimal_word, one_octets, signed_word, word_or_octets}
+use Rattle.krb_row_laws.proofs.SplitLaws.{all_append, split, tail}
+use Rattle.krb_row_laws.proofs.WordLaws.{decimal_digits, decimal_word, one_octets, word_or_octets}
 use Rattle.krb_row_laws.proofs.BlockLaws.{head_blocks}
 use Rattle.krb_row_laws.proofs.FieldLaws.{tells_so}
 use Rattle.krb_row_laws.proofs.LeafLaws.{IsNumberText, IsOctetsText, Lines, OneLine, leaf_heads, number_leaf, number_line, octets_line, one_number, tells_by, tells_flags, tells_identifiers, tells_leaf, tells_naturals, tells_numbers, tells_octets, tells_texts, tells_times, tells_truths}
@@ -194,35 +194,35 @@ module _ (tells : Role → List ℕ → Label → List ℕ → List Token → Li
       → IsOctets (tlv tag content) → IsOctets (tlv tag other) → (in_list : Bool) (number another : List ℕ)
       → Tells (λ names. names_of (leaf_firsts kinds kind name.text.now name.role)) (λ names. true) (number ≡ another) (content ≡ other)
       (leaf_shown tells kind name tag content in_list number) (leaf_shown tells kind name tag other in_list another)
-  leaf_told leaves.Integer name tag content other named is are small little in_list number another = 
+  leaf_told leaves.Integer name tag content other named is are small little in_list number another =
       tells_so (λ e. tt) (λ e. e) (value_told {A = ℤ} {is_value = λ v. Unit {0}} (λ v. tlv 2 (shortest v)) 2 tells_numbers (label_in in_list name) content other named is are)
-  leaf_told leaves.Unsigned name tag content other named is are small little in_list number another = 
+  leaf_told leaves.Unsigned name tag content other named is are small little in_list number another =
       tells_so (λ e. tt) (λ e. e) (value_told {A = ℕ} {is_value = λ v. v < 2 ^ 32} (λ v. tlv 2 (shortest (pos v))) 2 tells_naturals (label_in in_list name) content other named is are)
-  leaf_told (leaves.Number n) name tag content other named is are small little in_list number another = 
+  leaf_told (leaves.Number n) name tag content other named is are small little in_list number another =
       tells_so (λ e. tt) (λ e. e) (value_told {A = ℤ} {is_value = λ v. Unit {0}} (λ v. tlv 2 (shortest v)) 2 tells_numbers (label_in in_list name) content other named is are)
-  leaf_told leaves.Microseconds name tag content other named is are small little in_list number another = 
+  leaf_told leaves.Microseconds name tag content other named is are small little in_list number another =
       tells_so (λ e. tt) (λ e. e) (value_told {A = ℤ} {is_value = λ v. Unit {0}} (λ v. tlv 2 (shortest v)) 2 tells_numbers (label_in in_list name) content other named is are)
-  leaf_told leaves.Flags name tag content other named is are small little in_list number another = 
+  leaf_told leaves.Flags name tag content other named is are small little in_list number another =
       tells_so (λ e. tt) (λ e. e) (value_told {A = Bits} {is_value = IsBits} (λ v. tlv 3 (bits_content v)) 3 tells_flags (label_in in_list name) content other named is are)
-  leaf_told leaves.Bits name tag content other named is are small little in_list number another = 
+  leaf_told leaves.Bits name tag content other named is are small little in_list number another =
       tells_so (λ e. tt) (λ e. e) (value_told {A = Bits} {is_value = IsBits} (λ v. tlv 3 (bits_content v)) 3 tells_flags (label_in in_list name) content other named is are)
-  leaf_told leaves.Text name tag content other named is are small little in_list number another = 
+  leaf_told leaves.Text name tag content other named is are small little in_list number another =
       tells_so (λ e. tt) (λ e. e) (tells_texts.tells (label_in in_list name) content other named (octets_within tag content small) (octets_within tag other little))
-  leaf_told leaves.Component name tag content other named is are small little in_list number another = 
+  leaf_told leaves.Component name tag content other named is are small little in_list number another =
       tells_so (λ e. tt) (λ e. e) (tells_texts.tells (label_in in_list name) content other named (octets_within tag content small) (octets_within tag other little))
-  leaf_told leaves.Time name tag content other named is are small little in_list number another = 
+  leaf_told leaves.Time name tag content other named is are small little in_list number another =
       tells_so (λ e. tt) (λ e. e) (value_told {A = Time} {is_value = IsRealTime} (λ v. tlv 24 (time_content v)) 24 tells_times (label_in in_list name) content other named is are)
-  leaf_told leaves.Octets name tag content other named is are small little in_list number another = 
+  leaf_told leaves.Octets name tag content other named is are small little in_list number another =
       tells_from (firsts_block (octets_first name.role number (label_in in_list name) content named (octets_within tag content small)))
       (firsts_block (octets_first name.role another (label_in in_list name) other named (octets_within tag other little)))
       (octets_told name.role number another (label_in in_list name) content other named (octets_within tag content small) (octets_within tag other little))
-  leaf_told leaves.Secret name tag content other named is are small little in_list number another = 
+  leaf_told leaves.Secret name tag content other named is are small little in_list number another =
       tells_so (λ e. tt) (λ e. e) (tells_octets.tells (label_in in_list name) content other named (octets_within tag content small) (octets_within tag other little))
-  leaf_told leaves.Cipher name tag content other named is are small little in_list number another = 
+  leaf_told leaves.Cipher name tag content other named is are small little in_list number another =
       tells_so (λ e. tt) (λ e. e) (tells_octets.tells (label_in in_list name) content other named (octets_within tag content small) (octets_within tag other little))
-  leaf_told leaves.Truth name tag content other named is are small little in_list number another = 
+  leaf_told leaves.Truth name tag content other named is are small little in_list number another =
       tells_so (λ e. tt) (λ e. e) (value_told {A = Bool} {is_value = λ v. Unit {0}} (λ v. tlv 1 (bool_content v)) 1 tells_truths (label_in in_list name) content other named is are)
-  leaf_told leaves.Identifier name tag content other named is are small little in_list number another = 
+  leaf_told leaves.Identifier name tag content other named is are small little in_list number another =
       tells_so (λ e. tt) (λ e. e) (value_told {A = List ℕ} {is_value = IsArcs} (λ v. tlv 6 (arcs_content v)) 6 tells_arcs (label_in in_list name) content other named is are)
-  leaf_told leaves.Any name tag content other named is are small little in_list number another = 
+  leaf_told leaves.Any name tag content other named is are small little in_list number another =
       tells_so (λ e. tt) (λ e. e.1) (any_told (label_in in_list name) tag tag content other named small little)

@@ -1,10 +1,9 @@
 -- Lists of elements are told by their lines, and components of names by their text.
-use Rattle.std.proofs.Common.{◌≡◌, ℕ, zero, suc, Bool, true, false, inl, inr, refl, sym, ap, subst, ◌∙◌, List, [], ◌∷◌, ◌++◌, arith}
+use Rattle.std.proofs.Common.{◌≡◌, ℕ, zero, suc, Bool, true, false, inl, inr, refl, sym, ap, subst, ◌∙◌, List, [], ◌∷◌}
 use Rattle.std.specs.Prelude.{Option, None, Some}
 use Rattle.std.specs.Fmt.{decimal}
 use Rattle.std.specs.List.{AllByRecursion, slice_get}
 use Rattle.std.specs.Str.{IsAscii}
-use Rattle.krb_der_core.specs.Tlv.{tlv}
 use Rattle.krb_der_core.specs.TlvLaws.{tlv_same}
 use Rattle.krb_schema.specs.declared.item.Form.TheVariants as items
 use Rattle.krb_schema.specs.declared.shape.Case.{Case}
@@ -16,7 +15,6 @@ use Rattle.krb_schema.specs.declared.shape.Schema.{Schema}
 use Rattle.krb_schema.specs.declared.shape.Shape.{Shape}
 use Rattle.krb_schema.specs.declared.shape.Shape.TheVariants as shape
 use Rattle.krb_schema.specs.Forests.{Forest, none, leaf, node, beside}
-use Rattle.krb_schema.specs.Leaves.{IsLeaf as IsContent}
 use Rattle.krb_schema.specs.Shapes.{AreElements, IsElement, IsHeld, IsShaped, part, no_elements, one_more, here, later, plain}
 use Rattle.krb_types.specs.Principals.{components_text}
 use Rattle.krb_show.specs.declared.token.Form.TheVariants as form
@@ -26,7 +24,7 @@ use Rattle.krb_show.specs.declared.escape.Style.TheVariants as style
 use Rattle.krb_show.specs.Tokens.{Label, Token, leaf as token_leaf, mark}
 use Rattle.krb_show_rows.specs.Items.{is_component}
 use Rattle.krb_row_laws.specs.Telling.{is_name}
-use Rattle.krb_row_laws.specs.Blocks.{Blocks, Heads, IsLeaf, IsList, Tells}
+use Rattle.krb_row_laws.specs.Blocks.{IsList, Tells}
 use Rattle.krb_row_laws.specs.Firsts.{BeginsAs, First, Firsts, names_of, of_leaf, of_list, openings}
 use Rattle.krb_row_laws.specs.Pages.{components, count, forest_shown, is_of_name, label_in, list_shown}
 use Rattle.krb_row_laws.specs.Tests.{is_component_shape, list_firsts}
@@ -34,7 +32,7 @@ use Rattle.krb_row_laws.proofs.FieldLaws.{tells_so}
 use Rattle.krb_row_laws.proofs.StructLaws.{closes_list, enclosed_heads, opens_list, tells_enclosed}
 use Rattle.krb_row_laws.proofs.LeafLaws.{IsQuotedText, leaf_heads, tells_ascii, text_line}
 use Rattle.krb_row_laws.proofs.ComponentLaws.{one_components, text_ascii}
-use Rattle.krb_row_laws.proofs.FirstLaws.{Never, apart_none, firsts_block, firsts_never, never_swapped, never_tells, one_first, tells_from}
+use Rattle.krb_row_laws.proofs.FirstLaws.{apart_none, firsts_block, firsts_never, never_tells, one_first, tells_from}
 use Rattle.krb_row_laws.proofs.ForestLaws.{AreSmall}
 use Rattle.krb_row_laws.proofs.Told.{Told, elements_blocks, elements_told}
 

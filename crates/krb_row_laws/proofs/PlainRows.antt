@@ -1,11 +1,10 @@
 -- A list of elements of a row is one of components of names, or has none first.
-use Rattle.std.proofs.Common.{◌≡◌, ℕ, zero, suc, Bool, true, false, refl, sym, ap, subst, ◌∙◌, List, [], ◌∷◌, arith}
+use Rattle.std.proofs.Common.{◌≡◌, ℕ, zero, suc, Bool, true, false, refl, sym, subst, List, [], ◌∷◌}
 use Rattle.std.specs.List.{slice_get}
 use Rattle.krb_schema.specs.declared.item.Form.TheVariants as items
 use Rattle.krb_schema.specs.declared.item.Node.TheVariants as nodes
 use Rattle.krb_schema.specs.declared.shape.Case.{Case}
 use Rattle.krb_schema.specs.declared.shape.Field.{Field}
-use Rattle.krb_schema.specs.declared.shape.Leaf.TheVariants as leaves
 use Rattle.krb_schema.specs.declared.shape.Name.{Name}
 use Rattle.krb_schema.specs.declared.shape.Schema.{Schema}
 use Rattle.krb_schema.specs.declared.shape.Shape.{Shape}

@@ -1,5 +1,5 @@
 -- Elements of each row are told by their lines, where the table passes the test.
-use Rattle.std.proofs.Common.{◌≡◌, ◌⊎◌, ℕ, zero, suc, ◌+◌, ◌≤◌, Bool, true, false, ◌&&◌, ◌||◌, inl, inr, refl, sym, ap, subst, ◌∙◌, ℤ, List, [], ◌∷◌, ◌++◌, take, drop, arith}
+use Rattle.std.proofs.Common.{◌≡◌, ◌⊎◌, ℕ, zero, suc, ◌+◌, ◌≤◌, Bool, true, false, ◌||◌, inl, inr, refl, sym, ap, subst, ◌∙◌, ℤ, List, [], ◌∷◌, take, drop, arith}
 use Rattle.std.specs.Prelude.{Option, None, Some, map}
 use Rattle.std.specs.List.{drop-map, slice_get, take-map}
 use Rattle.krb_der_core.specs.Integer.{shortest}
@@ -13,16 +13,15 @@ use Rattle.krb_schema.specs.declared.shape.Role.{Role}
 use Rattle.krb_schema.specs.declared.shape.Schema.{Schema}
 use Rattle.krb_schema.specs.declared.shape.Shape.{Shape}
 use Rattle.krb_schema.specs.declared.shape.Shape.TheVariants as shape
-use Rattle.krb_schema.specs.Forests.{Forest, none, leaf, node, enc}
+use Rattle.krb_schema.specs.Forests.{Forest, none, leaf, node}
 use Rattle.krb_schema.specs.Named.{field_row}
 use Rattle.krb_schema.specs.Shapes.{AreFields, IsElement, IsShaped, list_node, part}
 use Rattle.krb_show.specs.Leaves.{number_of}
-use Rattle.krb_show.specs.Pages.{◌then◌, struct_of}
+use Rattle.krb_show.specs.Pages.{struct_of}
 use Rattle.krb_show.specs.Tokens.{Label, Token}
 use Rattle.krb_show_rows.specs.Leaves.{leaf_as}
 use Rattle.krb_row_laws.specs.Telling.{is_name, other_than}
-use Rattle.krb_row_laws.specs.Blocks.{IsLeaf, IsStruct, Tells}
-use Rattle.krb_row_laws.specs.Firsts.{First, Firsts, Opening, names_of}
+use Rattle.krb_row_laws.specs.Firsts.{First, Opening}
 use Rattle.krb_row_laws.specs.Formats.{FormatsTell}
 use Rattle.krb_row_laws.specs.Pages.{forest_shown, is_of_name, label_in, leaf_shown, list_shown}
 use Rattle.krb_row_laws.specs.Tests.{FieldRow, all_fit, apart_fields, apart_sequences, fields_fit, firsts, fit, fits, is_number, is_told, option_firsts, option_fits, rows_fit, sequence, sequence_by, shape_firsts, shape_fits}
@@ -34,7 +33,7 @@ use Rattle.krb_row_laws.proofs.LeafLaws.{Lines, OneLine, number_line, octets_lin
 use Rattle.krb_row_laws.proofs.FirstLaws.{Never, firsts_so, never_so, one_first, or_true, tells_via}
 use Rattle.krb_row_laws.proofs.ForestLaws.{AreSmall, then_nothing}
 use Rattle.krb_row_laws.proofs.LeafRows.{any_heads, any_told, leaf_first, leaf_told, line_so}
-use Rattle.krb_row_laws.proofs.Told.{Known, Told, told_so}
+use Rattle.krb_row_laws.proofs.Told.{Told, told_so}
 use Rattle.krb_row_laws.proofs.FieldRows.{AreTold, fields_blocks, fields_told}
 use Rattle.krb_row_laws.proofs.ApartRows.{AreNumbers, structs_never}
 use Rattle.krb_row_laws.proofs.HeldRows.{held_first, held_told}

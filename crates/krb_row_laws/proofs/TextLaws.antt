@@ -1,5 +1,5 @@
 -- The text of a page by a row tells the octets.
-use Rattle.std.proofs.Common.{◌≡◌, ◌⊎◌, ℕ, zero, suc, ◌+◌, ◌<◌, ◌≤◌, nat_eq, Bool, true, false, ◌&&◌, ◌||◌, inl, inr, refl, sym, ap, subst, ◌∙◌, List, [], ◌∷◌, ◌++◌, arith}
+use Rattle.std.proofs.Common.{◌≡◌, ◌⊎◌, ℕ, zero, suc, ◌<◌, nat_eq, Bool, true, false, ◌||◌, inl, inr, refl, sym, ap, subst, ◌∙◌, List, [], ◌++◌, arith}
 use Rattle.std.specs.Prelude.{map}
 use Rattle.std.proofs.lemmas.Grind.{common_steps}
 use Rattle.std.proofs.lemmas.List.{append-nil}
@@ -10,7 +10,7 @@ use Rattle.krb_schema.specs.declared.shape.Name.{Name}
 use Rattle.krb_schema.specs.declared.shape.Role.{Role}
 use Rattle.krb_schema.specs.declared.shape.Schema.{Schema}
 use Rattle.krb_schema.specs.declared.shape.Shape.{Shape}
-use Rattle.krb_schema.specs.Forests.{Forest, enc, items_at}
+use Rattle.krb_schema.specs.Forests.{enc, items_at}
 use Rattle.krb_schema.specs.Named.{IsKerberos, field_row}
 use Rattle.krb_schema.specs.Shapes.{IsElement}
 use Rattle.krb_schema.specs.Types.{cases, fields, shapes}

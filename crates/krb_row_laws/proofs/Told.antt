@@ -1,11 +1,10 @@
 -- Elements that are told by their lines.
-use Rattle.std.proofs.Common.{◌≡◌, ℕ, Bool, true, refl, sym, ap, ◌∙◌, List, [], ◌∷◌, ◌++◌}
+use Rattle.std.proofs.Common.{◌≡◌, ℕ, Bool, true, refl, ap, ◌∙◌, List, [], ◌++◌}
 use Rattle.krb_schema.specs.declared.shape.Role.{Role}
-use Rattle.krb_schema.specs.Forests.{Forest, none, leaf, node, beside}
+use Rattle.krb_schema.specs.Forests.{Forest, none, beside}
 use Rattle.krb_schema.specs.Shapes.{AreElements, no_elements, one_more}
-use Rattle.krb_show.specs.Pages.{◌then◌}
 use Rattle.krb_show.specs.Tokens.{Label, Token}
-use Rattle.krb_row_laws.specs.Blocks.{Among, Blocks, Tells}
+use Rattle.krb_row_laws.specs.Blocks.{Blocks, Tells}
 use Rattle.krb_row_laws.specs.Firsts.{First, Firsts, are_apart, names_of}
 use Rattle.krb_row_laws.specs.Pages.{behind, forest_shown}
 use Rattle.krb_row_laws.proofs.FieldLaws.{both_blocks, tells_so, then_by}

@@ -1,5 +1,5 @@
 -- A test of a table of types: whether the lines of each row's elements are told apart.
-use Rattle.std.specs.Prelude.{◌≡◌, ℕ, zero, suc, nat_eq, if◌then◌else◌, Bool, true, false, ◌&&◌, ◌||◌, List, [], ◌∷◌, ◌++◌, Option, None, Some, map}
+use Rattle.std.specs.Prelude.{ℕ, zero, suc, nat_eq, if◌then◌else◌, Bool, true, false, ◌&&◌, ◌||◌, List, [], ◌∷◌, ◌++◌, Option, None, Some}
 use Rattle.std.specs.List.{slice_get}
 use Rattle.krb_registry.specs.declared.kind.Kind.{Kind}
 use Rattle.krb_schema.specs.declared.item.Form.TheVariants as form
