@@ -1,0 +1,171 @@
+-- A test of a table of types: whether the lines of each row's elements are told apart.
+use Rattle.std.specs.Prelude.{ℕ, zero, suc, nat_eq, if◌then◌else◌, Bool, true, false, ◌&&◌, ◌||◌, List, [], ◌∷◌, ◌++◌, Option, None, Some}
+use Rattle.std.specs.List.{slice_get}
+use Rattle.krb_registry.specs.declared.kind.Kind.{Kind}
+use Rattle.krb_schema.specs.declared.item.Form.TheVariants as form
+use Rattle.krb_schema.specs.declared.shape.Case.{Case}
+use Rattle.krb_schema.specs.declared.shape.Leaf.{Leaf}
+use Rattle.krb_schema.specs.declared.shape.Leaf.TheVariants as leaves
+use Rattle.krb_schema.specs.declared.shape.Role.{Role}
+use Rattle.krb_schema.specs.declared.shape.Role.TheVariants as roles
+use Rattle.krb_schema.specs.declared.shape.Shape.{Shape}
+use Rattle.krb_schema.specs.declared.shape.Shape.TheVariants as shape
+use Rattle.krb_schema.specs.Shapes.{part}
+use Rattle.krb_show_rows.specs.Items.{is_component}
+use Rattle.krb_show_row_laws.specs.Telling.{is_name, other_than}
+use Rattle.krb_show_row_laws.specs.Firsts.{First, Opening, apart_firsts, are_apart, names_of, of_leaf, of_list, of_struct, openings}
+
+-- a field: its first octet, whether this is an explicit tag, whether it is optional, its name, its registry, its role and its row
+abbrev pub FieldRow : Type 0
+FieldRow = Option ℕ × Bool × Bool × List ℕ × Option Kind × Role × ℕ
+
+-- elements of this shape are components of names
+abbrev pub is_component_shape : Option Shape → Bool
+is_component_shape None = false
+is_component_shape (Some (shape.Leaf tag kind)) = is_component (form.Leaf kind)
+is_component_shape (Some other) = false
+
+abbrev pub list_firsts : Bool → List ℕ → List First
+list_firsts true name = openings (of_list ∷ of_leaf ∷ []) name
+list_firsts false name = openings (of_list ∷ []) name
+
+-- no INTEGER is both of these
+abbrev pub never_both : Option ℕ → Option ℕ → Bool
+never_both None other = false
+never_both (Some m) None = false
+never_both (Some m) (Some n) = other_than (nat_eq m n)
+
+-- an explicit tag has its octet
+abbrev pub is_tagged : Bool → Option ℕ → Bool
+is_tagged true None = false
+is_tagged true (Some tag) = true
+is_tagged false tag = true
+
+-- elements of this shape are whole numbers, of one line
+abbrev pub is_number : Option Shape → Bool
+is_number (Some (shape.Leaf tag leaves.Integer)) = true
+is_number (Some (shape.Leaf tag (leaves.Number n))) = true
+is_number (Some (shape.Leaf tag leaves.Microseconds)) = true
+is_number other = false
+
+-- how octets and other leaves begin, where octets of formats that are no DER begin so
+abbrev pub octets_kinds : (Role → List Opening) → Role → List Opening
+octets_kinds kinds roles.None = of_leaf ∷ []
+octets_kinds kinds role = kinds role
+
+abbrev pub leaf_firsts : (Role → List Opening) → Leaf → List ℕ → Role → List First
+leaf_firsts kinds leaves.Octets name role = openings (octets_kinds kinds role) name
+leaf_firsts kinds kind name role = openings (of_leaf ∷ []) name
+
+-- how octets of formats that are no DER begin; the rows that are asked for; how many levels first lines are looked for; and the table
+module _ (kinds : Role → List Opening) (covers : ℕ → Bool) (deep : ℕ) (shapes : List Shape) (fields : List FieldRow) (cases : List Case) where
+  -- ---- first lines
+
+  abbrev pub held_firsts : (ℕ → List ℕ → Role → List First) → List Case → List ℕ → Role → List First
+  held_firsts inner [] name role = leaf_firsts kinds leaves.Octets name role
+  held_firsts inner (c ∷ cs) name role = inner c.is name role ++ held_firsts inner cs name role
+
+  abbrev pub shape_firsts : (ℕ → List ℕ → Role → List First) → Shape → List ℕ → Role → List First
+  shape_firsts inner (shape.Leaf tag kind) name role = leaf_firsts kinds kind name role
+  shape_firsts inner (shape.Tagged tag is) name role = inner is name role
+  shape_firsts inner (shape.Sequence tag start count) name role = openings (of_struct ∷ []) name
+  shape_firsts inner (shape.SequenceOf tag is filled) name role = list_firsts (is_component_shape (slice_get shapes is)) name
+  shape_firsts inner (shape.Holding start count) name role = held_firsts inner (part start count cases) name role
+  shape_firsts inner shape.Any name role = openings (of_leaf ∷ []) name
+
+  abbrev pub option_firsts : (ℕ → List ℕ → Role → List First) → Option Shape → List ℕ → Role → List First
+  option_firsts inner None name role = []
+  option_firsts inner (Some s) name role = shape_firsts inner s name role
+
+  -- of elements of a row, which are called so
+  abbrev pub firsts : ℕ → ℕ → List ℕ → Role → List First
+  firsts zero is name role = []
+  firsts (suc n) is name role = option_firsts (firsts n) (slice_get shapes is) name role
+
+  -- ---- fields
+
+  abbrev pub field_names : FieldRow → List (List ℕ)
+  field_names x = names_of (firsts deep x.6 x.3 x.5)
+
+  -- the first name of these fields is one of these, where names follow
+  abbrev pub begins : List FieldRow → List (List ℕ) → List (List ℕ)
+  begins [] names = names
+  begins (x ∷ xs) names = field_names x ++ (if x.2 then begins xs names else [])
+
+  -- a field that is absent is told by the name that follows
+  abbrev pub fit : List FieldRow → List (List ℕ) → Bool
+  fit [] names = true
+  fit (x ∷ xs) names = (if x.2 then are_apart (field_names x) (begins xs names) else true) && fit xs names
+
+  -- fields that begin under different names, after as many numbers
+  abbrev pub apart_fields : List FieldRow → List FieldRow → Bool
+  apart_fields [] ys = false
+  apart_fields (x ∷ xs) [] = false
+  apart_fields (x ∷ xs) (y ∷ ys) =
+      (other_than x.2 && are_apart (field_names x) (begins (y ∷ ys) []))
+      || ((other_than y.2 && are_apart (field_names y) (begins (x ∷ xs) []))
+      || ((other_than x.2 && other_than y.2) && ((is_number (slice_get shapes x.6) && is_number (slice_get shapes y.6)) && apart_fields xs ys)))
+
+  abbrev pub apart_sequences : Option (List FieldRow) → Option (List FieldRow) → Bool
+  apart_sequences None other = false
+  apart_sequences (Some xs) None = false
+  apart_sequences (Some xs) (Some ys) = apart_fields xs ys
+
+  -- the fields of a row of a SEQUENCE, also in explicit tags
+  abbrev pub sequence_by : (ℕ → Option (List FieldRow)) → Option Shape → Option (List FieldRow)
+  sequence_by inner (Some (shape.Tagged tag is)) = inner is
+  sequence_by inner (Some (shape.Sequence tag start count)) = Some (part start count fields)
+  sequence_by inner other = None
+
+  abbrev pub sequence : ℕ → ℕ → Option (List FieldRow)
+  sequence zero is = None
+  sequence (suc n) is = sequence_by (sequence n) (slice_get shapes is)
+
+  -- ---- rows
+
+  abbrev pub apart_rows : ℕ → ℕ → ℕ → List ℕ → Role → Bool
+  apart_rows n is are name role = apart_firsts (firsts n is name role) (firsts n are name role) || apart_sequences (sequence n is) (sequence n are)
+
+  -- what a case holds is told from what the others hold, and from plain octets
+  abbrev pub apart_cases : ℕ → Case → List Case → List ℕ → Role → Bool
+  apart_cases n c [] name role = apart_firsts (firsts n c.is name role) (leaf_firsts kinds leaves.Octets name role)
+  apart_cases n c (d ∷ ds) name role = (never_both c.behind d.behind || apart_rows n c.is d.is name role) && apart_cases n c ds name role
+
+  abbrev pub held_fits : (ℕ → List ℕ → Role → Bool) → ℕ → List Case → List ℕ → Role → Bool
+  held_fits inner n [] name role = true
+  held_fits inner n (c ∷ cs) name role = inner c.is name role && (apart_cases n c cs name role && held_fits inner n cs name role)
+
+  abbrev pub shape_fits : (ℕ → List ℕ → Role → Bool) → ℕ → Shape → List ℕ → Role → Bool
+  shape_fits inner n (shape.Tagged tag is) name role = inner is name role
+  shape_fits inner n (shape.SequenceOf tag is filled) name role = inner is name role
+  shape_fits inner n (shape.Holding start count) name role = held_fits inner n (part start count cases) name role
+  shape_fits inner n other name role = true
+
+  abbrev pub option_fits : (ℕ → List ℕ → Role → Bool) → ℕ → Option Shape → List ℕ → Role → Bool
+  option_fits inner n None name role = true
+  option_fits inner n (Some s) name role = shape_fits inner n s name role
+
+  -- elements of this row, which are called so, are told apart, if the fields of each SEQUENCE are
+  abbrev pub fits : ℕ → ℕ → List ℕ → Role → Bool
+  fits zero is name role = true
+  fits (suc n) is name role = covers is && option_fits (fits n) n (slice_get shapes is) name role
+
+  -- ---- the table
+
+  abbrev pub field_fits : FieldRow → Bool
+  field_fits x = is_name x.3 && (is_tagged x.1 x.0 && fits deep x.6 x.3 x.5)
+
+  abbrev pub all_fit : List FieldRow → Bool
+  all_fit [] = true
+  all_fit (x ∷ xs) = field_fits x && all_fit xs
+
+  abbrev pub fields_fit : Shape → Bool
+  fields_fit (shape.Sequence tag start count) = all_fit (part start count fields) && fit (part start count fields) []
+  fields_fit other = true
+
+  abbrev pub rows_fit : ℕ → List Shape → Bool
+  rows_fit i [] = true
+  rows_fit i (s ∷ rows) = (other_than (covers i) || fields_fit s) && rows_fit (suc i) rows
+
+  abbrev pub is_told : Bool
+  is_told = rows_fit 0 shapes
