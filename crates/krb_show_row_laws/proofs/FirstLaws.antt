@@ -35,10 +35,6 @@ pub among_right : (n : List ℕ) (ms ns : List (List ℕ)) → Among n ns → Am
 among_right n [] ns h = h
 among_right n (m ∷ ms) ns h = inr (among_right n ms ns h)
 
-pub names_beside : (fs gs : List First) → names_of (fs ++ gs) ≡ names_of fs ++ names_of gs
-names_beside [] gs = refl
-names_beside (f ∷ fs) gs = ap (λ (ns : List (List ℕ)). f.name ∷ ns) (names_beside fs gs)
-
 -- more names may be first
 pub follow_so : (ms ns : List (List ℕ)) → ((n : List ℕ) → Among n ms → Among n ns) → (d : ℕ) (ls : List (List ℕ)) → Follow ms d ls → Follow ns d ls
 follow_so ms ns f d [] h = tt

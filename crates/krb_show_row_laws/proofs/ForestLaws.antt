@@ -14,11 +14,6 @@ use Rattle.krb_show_row_laws.specs.Pages.{behind, behind_leaf, forest_shown}
 pub then_nothing : (a : List Token → List Token → Type 0) (old new : List Token) → (a then (λ (from to : List Token). to ≡ from)) old new → a old new
 then_nothing a old new (between, h, e) = subst (a old) (sym e) h
 
-pub behind_beside : (f g : Forest) (number : List ℕ) → behind (beside f g) number ≡ behind g (behind f number)
-behind_beside none g number = refl
-behind_beside (leaf kind name tag content rest) g number = behind_beside rest g (behind_leaf kind content number)
-behind_beside (node kind name tag inside rest) g number = behind_beside rest g (behind inside number)
-
 module _ (tells : Role → List ℕ → Label → List ℕ → List Token → List Token → Type 0) where
   pub shown_beside : (in_list : Bool) (number : List ℕ) (f g : Forest) (old new : List Token) → forest_shown tells in_list number (beside f g) old new
       → (forest_shown tells in_list number f then forest_shown tells in_list (behind f number) g) old new

@@ -1,9 +1,9 @@
 -- Leaves tell what they show.
-use Rattle.std.proofs.Common.{◌≡◌, ◌⊎◌, ℕ, ◌<◌, ◌^◌, Bool, true, inl, inr, refl, sym, ap, subst, ◌∙◌, ℤ, pos, FitsSigned, List, [], ◌∷◌, ◌++◌, arith}
+use Rattle.std.proofs.Common.{◌≡◌, ◌⊎◌, ℕ, Bool, true, inl, inr, refl, sym, ap, subst, ◌∙◌, ℤ, pos, FitsSigned, List, [], ◌∷◌, ◌++◌, arith}
 use Rattle.std.specs.Int.{w64}
 use Rattle.std.specs.Str.{IsAscii}
-use Rattle.std.specs.Fmt.{decimal, signed_decimal}
-use Rattle.std.proofs.lemmas.Fmt.{decimal_injective, signed_decimal_injective}
+use Rattle.std.specs.Fmt.{signed_decimal}
+use Rattle.std.proofs.lemmas.Fmt.{signed_decimal_injective}
 use Rattle.krb_der_core.specs.Encoding.{IsOctets}
 use Rattle.krb_der_core.specs.BitString.{Bits, IsBits}
 use Rattle.krb_der_core.specs.GeneralizedTime.{IsRealTime}
@@ -11,12 +11,12 @@ use Rattle.krb_der_core.specs.Integer.{shortest}
 use Rattle.krb_der_core.specs.IntegerLaws.{integer_one_content}
 use Rattle.krb_show.specs.declared.escape.Style.TheVariants as style
 use Rattle.krb_show.specs.declared.token.Form.TheVariants as form
-use Rattle.krb_show.specs.Leaves.{number_of, unsigned_of, flags_of, identifier_of, truth_of, time_of, text_of, word_of, octets_of, time_word, flags_word, truth_word}
+use Rattle.krb_show.specs.Leaves.{number_of, flags_of, identifier_of, truth_of, time_of, text_of, word_of, octets_of, time_word, flags_word, truth_word}
 use Rattle.krb_show.specs.Text.{escaped, quoted, line, octets_text, page_lines, value_text}
 use Rattle.krb_show.specs.Tokens.{Label, Token, adds, leaf}
 use Rattle.krb_show_row_laws.specs.Telling.{all_of, Stops, is_name_octet, is_name, is_word_octet, IsBeside, IsNameBeside}
 use Rattle.krb_show_row_laws.proofs.SplitLaws.{tail}
-use Rattle.krb_show_row_laws.proofs.WordLaws.{word_itself, signed_word, decimal_word, one_word, one_octets, word_or_octets, name_beside}
+use Rattle.krb_show_row_laws.proofs.WordLaws.{word_itself, signed_word, one_word, one_octets, word_or_octets, name_beside}
 use Rattle.krb_show_row_laws.proofs.NameLaws.{note_beside, flags_beside, identifier_beside}
 use Rattle.krb_show_row_laws.proofs.ValueLaws.{one_text, shortest_octets, truth_is_word, one_truth, one_time, time_is_word, flags_are_word, one_flags}
 use Rattle.krb_show_row_laws.specs.Blocks.{depth_behind, Follow, HasHead, Heads, Tells, TellsValues, IsLeaf}
@@ -179,9 +179,6 @@ digits_line label word h = record {
   };
 }
 
-pub tells_words : TellsValues (λ word. all_of is_word_octet word ≡ true) IsLeaf word_of
-tells_words = leaf_values (λ word. all_of is_word_octet word ≡ true) (IsWord IsBeside) word_of (word_leaf IsBeside) word_line (λ v w s h k a b. one_word_leaf v w s h k a b)
-
 -- a time tells itself, to the second
 pub tells_times : TellsValues IsRealTime IsLeaf time_of
 tells_times = leaf_values IsRealTime (λ t. IsWord IsBeside (time_word t)) time_of (λ t s h. word_leaf IsBeside (time_word t) s h)
@@ -192,11 +189,6 @@ pub tells_truths : TellsValues (λ (b : Bool). Unit {0}) IsLeaf truth_of
 tells_truths = leaf_values (λ (b : Bool). Unit {0}) (λ b. IsWord IsBeside (truth_word b)) truth_of (λ b s h. word_leaf IsBeside (truth_word b) s h)
     (λ label b h. digits_line label (truth_word b) (truth_is_word b))
     (λ b c s h k x y. one_truth b c (one_word_leaf (truth_word b) (truth_word c) s (truth_is_word b) (truth_is_word c) x y))
-
-pub tells_unsigned : TellsValues (λ n. n < 2 ^ 64) IsLeaf unsigned_of
-tells_unsigned = leaf_values (λ n. n < 2 ^ 64) (λ n. IsWord IsBeside (decimal n)) unsigned_of (λ n s h. word_leaf IsBeside (decimal n) s h)
-    (λ label n h. digits_line label (decimal n) (decimal_word n))
-    (λ m n s h k x y. decimal_injective m n h k (one_word_leaf (decimal m) (decimal n) s (decimal_word m) (decimal_word n) x y))
 
 -- ---- flags and object identifiers
 
@@ -282,11 +274,3 @@ tells_ascii = tells_by IsAscii (λ xs. xs) ascii_octets (λ v w h k e. e) tells_
 -- numbers of 32 bits, which are whole numbers
 pub tells_naturals : {is_value : ℕ → Type 0} → TellsValues is_value IsLeaf (λ label n. number_of label (pos n))
 tells_naturals {is_value} = tells_by is_value pos (λ n h. tt) (λ m n h k e. cc) tells_numbers
-
--- values of which more is known
-pub tells_within : {A : Type 0} {is_value : A → Type 0} {V : List ℕ → Type 0} {shows : Label → A → List Token → List Token → Type 0} (is_other : A → Type 0)
-    → ((v : A) → is_other v → is_value v) → TellsValues is_value V shows → TellsValues is_other V shows
-tells_within is_other valid t = record {
-  heads = λ label v name h. t.heads label v name (valid v h);
-  tells = λ label v w name h k. t.tells label v w name (valid v h) (valid w k);
-}
