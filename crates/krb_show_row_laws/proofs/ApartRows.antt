@@ -3,7 +3,6 @@ use Rattle.std.proofs.Common.{◌≡◌, ◌⊎◌, ℕ, Bool, true, false, ◌&
 use Rattle.std.specs.Prelude.{map}
 use Rattle.std.specs.List.{slice_get}
 use Rattle.std.proofs.lemmas.List.{append_assoc}
-use Rattle.krb_schema.specs.declared.shape.Case.{Case}
 use Rattle.krb_schema.specs.declared.shape.Field.{Field}
 use Rattle.krb_schema.specs.declared.shape.Name.{Name}
 use Rattle.krb_schema.specs.declared.shape.Role.{Role}
@@ -18,7 +17,7 @@ use Rattle.krb_show_row_laws.specs.Telling.{is_name, other_than}
 use Rattle.krb_show_row_laws.specs.Blocks.{Blocks, Follow, Tells, depth_behind}
 use Rattle.krb_show_row_laws.specs.Firsts.{Opening, are_apart}
 use Rattle.krb_show_row_laws.specs.Pages.{behind, forest_shown}
-use Rattle.krb_show_row_laws.specs.Tests.{FieldRow, apart_fields, is_number}
+use Rattle.krb_show_row_laws.specs.Tests.{CaseRow, FieldRow, apart_fields, is_number}
 use Rattle.krb_show_row_laws.proofs.SplitLaws.{and_left, and_right, tail}
 use Rattle.krb_show_row_laws.proofs.WordLaws.{of_other}
 use Rattle.krb_show_row_laws.proofs.BlockLaws.{lines_append}
@@ -59,7 +58,7 @@ must : (b : Bool) {A : Type 0} → other_than b ≡ true → b ≡ true → A
 must b h e = let f = of_other b h in absurd (cc)
 
 module _ (tells : Role → List ℕ → Label → List ℕ → List Token → List Token → Type 0) (kinds : Role → List Opening) (covers : ℕ → Bool) (deep : ℕ) (shapes : List Shape)
-    (table : List FieldRow) (cases : List Case) where
+    (table : List FieldRow) (cases : List CaseRow) where
   -- numbers are one line
   abbrev pub AreNumbers : (ℕ → Name → List ℕ → Forest → Type 0) → Type 0
   AreNumbers R = (is : ℕ) (name : Name) (before : List ℕ) (f : Forest) → is_number (slice_get shapes is) ≡ true → R is name before f → (in_list : Bool) (number : List ℕ)

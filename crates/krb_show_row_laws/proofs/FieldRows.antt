@@ -3,7 +3,6 @@ use Rattle.std.proofs.Common.{◌≡◌, ◌⊎◌, ℕ, Bool, true, false, ◌&
 use Rattle.std.specs.Prelude.{Option, None, Some, map}
 use Rattle.std.proofs.lemmas.Bool.{eqb-true}
 use Rattle.krb_schema.specs.declared.item.Node.TheVariants as nodes
-use Rattle.krb_schema.specs.declared.shape.Case.{Case}
 use Rattle.krb_schema.specs.declared.shape.Field.{Field}
 use Rattle.krb_schema.specs.declared.shape.Name.{Name}
 use Rattle.krb_schema.specs.declared.shape.Role.{Role}
@@ -17,7 +16,7 @@ use Rattle.krb_show_row_laws.specs.Telling.{is_name}
 use Rattle.krb_show_row_laws.specs.Blocks.{Among, Blocks, Tells}
 use Rattle.krb_show_row_laws.specs.Firsts.{First, Firsts, Opening, are_apart}
 use Rattle.krb_show_row_laws.specs.Pages.{behind, forest_shown}
-use Rattle.krb_show_row_laws.specs.Tests.{FieldRow, all_fit, begins, field_fits, field_names, firsts, fit, fits, is_tagged}
+use Rattle.krb_show_row_laws.specs.Tests.{CaseRow, FieldRow, all_fit, begins, field_fits, field_names, firsts, fit, fits, is_tagged}
 use Rattle.krb_show_row_laws.proofs.SplitLaws.{and_left, and_right}
 use Rattle.krb_show_row_laws.proofs.FieldLaws.{both_blocks, tells_so, then_by}
 use Rattle.krb_show_row_laws.proofs.FirstLaws.{among_left, among_right, firsts_block, firsts_so, tells_from, tells_via}
@@ -42,7 +41,7 @@ one_tag true (Some tag) t u e f h k = eqb-true t tag h ∙ sym (eqb-true u tag k
 one_tag false tag t u e f h k = absurd (cc)
 
 module _ (tells : Role → List ℕ → Label → List ℕ → List Token → List Token → Type 0) (kinds : Role → List Opening) (covers : ℕ → Bool) (deep : ℕ) (shapes : List Shape)
-    (table : List FieldRow) (cases : List Case) where
+    (table : List FieldRow) (cases : List CaseRow) where
   abbrev pub rows_of : List Field → List FieldRow
   rows_of fields = map field_row fields
 

@@ -5,7 +5,6 @@ use Rattle.std.specs.List.{drop-map, slice_get, take-map}
 use Rattle.krb_der_core.specs.Integer.{shortest}
 use Rattle.krb_der_core.specs.Tlv.{tlv}
 use Rattle.krb_schema.specs.declared.item.Node.TheVariants as nodes
-use Rattle.krb_schema.specs.declared.shape.Case.{Case}
 use Rattle.krb_schema.specs.declared.shape.Field.{Field}
 use Rattle.krb_schema.specs.declared.shape.Leaf.TheVariants as leaves
 use Rattle.krb_schema.specs.declared.shape.Name.{Name}
@@ -24,7 +23,7 @@ use Rattle.krb_show_row_laws.specs.Telling.{is_name, other_than}
 use Rattle.krb_show_row_laws.specs.Firsts.{First, Opening}
 use Rattle.krb_show_row_laws.specs.Formats.{FormatsTell}
 use Rattle.krb_show_row_laws.specs.Pages.{forest_shown, is_of_name, label_in, leaf_shown, list_shown}
-use Rattle.krb_show_row_laws.specs.Tests.{FieldRow, all_fit, apart_fields, apart_sequences, fields_fit, firsts, fit, fits, is_number, is_told, option_firsts, option_fits, rows_fit, sequence, sequence_by, shape_firsts, shape_fits}
+use Rattle.krb_show_row_laws.specs.Tests.{CaseRow, FieldRow, case_row, held_firsts, held_fits, all_fit, apart_fields, apart_sequences, fields_fit, firsts, fit, fits, is_number, is_told, option_firsts, option_fits, rows_fit, sequence, sequence_by, shape_firsts, shape_fits}
 use Rattle.krb_show_row_laws.proofs.SplitLaws.{and_left, and_right}
 use Rattle.krb_show_row_laws.proofs.WordLaws.{of_other}
 use Rattle.krb_show_row_laws.proofs.FieldLaws.{tells_so}
@@ -36,7 +35,7 @@ use Rattle.krb_show_row_laws.proofs.LeafRows.{any_heads, any_told, leaf_first, l
 use Rattle.krb_show_row_laws.proofs.Told.{Told, told_so}
 use Rattle.krb_show_row_laws.proofs.FieldRows.{AreTold, fields_blocks, fields_told}
 use Rattle.krb_show_row_laws.proofs.ApartRows.{AreNumbers, structs_never}
-use Rattle.krb_show_row_laws.proofs.HeldRows.{held_first, held_told}
+use Rattle.krb_show_row_laws.proofs.HeldRows.{Naming, held_first, held_told, holds}
 use Rattle.krb_show_row_laws.proofs.ListRows.{either_told, list_first}
 
 -- ---- tables
@@ -69,8 +68,8 @@ module _ (tells : Role → List ℕ → Label → List ℕ → List Token → Li
   abbrev table : List FieldRow
   table = map field_row schema.fields.now
 
-  abbrev cases_in : List Case
-  cases_in = schema.cases.now
+  abbrev cases_in : List CaseRow
+  cases_in = map case_row schema.cases.now
 
   abbrev fit_rows : ℕ → List Shape → Bool
   fit_rows = rows_fit kinds covers deep shapes_in table cases_in
@@ -220,6 +219,9 @@ module _ (tells : Role → List ℕ → Label → List ℕ → List Token → Li
       row_at : (is : ℕ) → fits_at n is name ≡ true → Told tells (firsts_at n is name) (R is name)
       row_at is fitting = rows levels (omega arith) n less is name fitting named
 
+      any_row : (is : ℕ) (called : Name) → fits_at n is called ≡ true → is_name called.text.now ≡ true → Told tells (firsts_at n is called) (R is called)
+      any_row is called fitting well = rows levels (omega arith) n less is called fitting well
+
       sequences_never : (is are : ℕ) (o p : Option (List FieldRow)) → sequence_at n is ≡ o → sequence_at n are ≡ p → fits_at n is name ≡ true → fits_at n are name ≡ true
           → apart_sequences kinds covers deep shapes_in table cases_in o p ≡ true → (f g : Forest) → R is name [] f → R are name [] g → AreSmall f → AreSmall g
           → (in_list : Bool) (number another : List ℕ) → Never (forest_shown tells in_list number f) (forest_shown tells in_list another g)
@@ -328,16 +330,34 @@ module _ (tells : Role → List ℕ → Label → List ℕ → List Token → Li
           → (in_list : Bool) (number another : List ℕ) → Never (forest_shown tells in_list number f) (forest_shown tells in_list another g)
       differ is are = sequences_never is are (sequence_at n is) (sequence_at n are) refl refl
 
+      -- each case's element is called as the OCTET STRING
+      naming : Naming (λ c. None) (λ c. name) name
+      naming = record { text = λ c. refl; role = λ c. refl; shared = λ c e. refl }
+
+      held_rows : (start size : ℕ) → held_fits kinds covers deep shapes_in table cases_in (fits kinds covers deep shapes_in table cases_in n) n (map case_row (part start size schema.cases.now))
+          name.text.now name.role ≡ true
+          → Told tells (held_firsts kinds covers deep shapes_in table cases_in (firsts kinds covers deep shapes_in table cases_in n) (map case_row (part start size schema.cases.now))
+          name.text.now name.role) (IsShaped R schema (shape.Holding start size) name)
+      held_rows start size fitting = record {
+        first = λ before f v small in_list number.
+            held_first tells kinds formats covers deep shapes_in table cases_in n R (λ c. None) (λ c. name) name naming named any_row differ before v.0 (part start size schema.cases.now) f
+            (holds R name before v.0 (part start size schema.cases.now) f v.2) small fitting in_list number;
+        told = λ before other f g v w small little in_list number another.
+            held_told tells kinds formats covers deep shapes_in table cases_in n R (λ c. None) (λ c. name) name naming named any_row differ before other v.0 w.0
+            (part start size schema.cases.now) f g (holds R name before v.0 (part start size schema.cases.now) f v.2) (holds R name other w.0 (part start size schema.cases.now) g w.2)
+            small little fitting in_list number another;
+      }
+
       held_shape : (start size : ℕ)
           → shape_fits kinds covers deep shapes_in table cases_in (fits kinds covers deep shapes_in table cases_in n) n (shape.Holding start size) name.text.now name.role ≡ true
           → ShapeTold (shape.Holding start size)
-      held_shape start size fitting = record {
-        first = λ before f v small in_list number.
-            held_first tells kinds formats covers deep shapes_in table cases_in n R name named row_at differ before v.0 (part start size cases_in) f v.2 small fitting in_list number;
-        told = λ before other f g v w small little in_list number another.
-            held_told tells kinds formats covers deep shapes_in table cases_in n R name named row_at differ before other v.0 w.0 (part start size cases_in) f g v.2 w.2 small little fitting
-            in_list number another;
-      }
+      held_shape start size fitting =
+          let rows_are = part_map case_row start size schema.cases.now in
+          subst (λ (cs : List CaseRow). Told tells (held_firsts kinds covers deep shapes_in table cases_in (firsts kinds covers deep shapes_in table cases_in n) cs name.text.now name.role)
+          (IsShaped R schema (shape.Holding start size) name)) (sym rows_are)
+          (held_rows start size
+          (subst (λ (cs : List CaseRow). held_fits kinds covers deep shapes_in table cases_in (fits kinds covers deep shapes_in table cases_in n) n cs name.text.now name.role ≡ true)
+          rows_are fitting))
 
       shape_told : (s : Shape) → shape_fits kinds covers deep shapes_in table cases_in (fits kinds covers deep shapes_in table cases_in n) n s name.text.now name.role ≡ true → fit_fields s ≡ true
           → ShapeTold s

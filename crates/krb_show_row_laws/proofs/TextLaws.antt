@@ -26,7 +26,7 @@ use Rattle.krb_show_row_laws.specs.Formats.{FormatsTell}
 use Rattle.krb_show_row_laws.specs.Kerberos.{all_but, as_octets, each_below, of_pa_data}
 use Rattle.krb_show_row_laws.specs.Laws.{IsTold, IsToldAt, TextTellsOctets}
 use Rattle.krb_show_row_laws.specs.Pages.{forest_shown}
-use Rattle.krb_show_row_laws.specs.Tests.{FieldRow, fits, is_told}
+use Rattle.krb_show_row_laws.specs.Tests.{FieldRow, case_row, fits, is_told}
 use Rattle.krb_show_row_laws.proofs.SplitLaws.{and_left, and_right}
 use Rattle.krb_show_row_laws.proofs.WordLaws.{of_other}
 use Rattle.krb_show_row_laws.proofs.LineLaws.{one_lines}
@@ -91,16 +91,16 @@ by_table schema k P h =
     subst (λ (s : List Shape). P s (map field_row schema.fields.now) schema.cases.now) (sym k.rows)
     (subst (λ (f : List FieldRow). P shapes f schema.cases.now) (sym k.parts) (subst (λ (c : List Case). P shapes fields c) (sym k.held) h))
 
-fits_at : (is : ℕ) (name : List ℕ) (role : Role) → is < 137 → all_but of_pa_data is ≡ true → fits as_octets (all_but of_pa_data) 64 shapes fields cases 64 is name role ≡ true
+fits_at : (is : ℕ) (name : List ℕ) (role : Role) → is < 137 → all_but of_pa_data is ≡ true → fits as_octets (all_but of_pa_data) 64 shapes fields (map case_row cases) 64 is name role ≡ true
 fits_at is name role less covered =
-    by_test (or_true (other_than (all_but of_pa_data is)) (fits as_octets (all_but of_pa_data) 64 shapes fields cases 64 is name role)
-    (at_each (λ i. other_than (all_but of_pa_data i) || fits as_octets (all_but of_pa_data) 64 shapes fields cases 64 i name role) 137 is (kerberos_fits name role) less))
+    by_test (or_true (other_than (all_but of_pa_data is)) (fits as_octets (all_but of_pa_data) 64 shapes fields (map case_row cases) 64 is name role)
+    (at_each (λ i. other_than (all_but of_pa_data i) || fits as_octets (all_but of_pa_data) 64 shapes fields (map case_row cases) 64 i name role) 137 is (kerberos_fits name role) less))
   where
     no_test : false ≡ true → ⊥
     no_test e = cc
 
-    by_test : (other_than (all_but of_pa_data is) ≡ true) ⊎ (fits as_octets (all_but of_pa_data) 64 shapes fields cases 64 is name role ≡ true)
-        → fits as_octets (all_but of_pa_data) 64 shapes fields cases 64 is name role ≡ true
+    by_test : (other_than (all_but of_pa_data is) ≡ true) ⊎ (fits as_octets (all_but of_pa_data) 64 shapes fields (map case_row cases) 64 is name role ≡ true)
+        → fits as_octets (all_but of_pa_data) 64 shapes fields (map case_row cases) 64 is name role ≡ true
     by_test (inl t) = absurd (no_test (sym (of_other (all_but of_pa_data is) t) ∙ covered))
     by_test (inr t) = t
 
@@ -108,5 +108,5 @@ pub kerberos_text_tells : (schema : Schema) (is : ℕ) (name : Name) → IsKerbe
     → TextTellsOctets octets_alone schema is name
 kerberos_text_tells schema is name kerberos less covered named =
     text_tells octets_alone as_octets (all_but of_pa_data) schema is name octets_tell
-    (by_table schema kerberos (λ s f c. is_told as_octets (all_but of_pa_data) 64 s f c ≡ true) kerberos_told)
-    (by_table schema kerberos (λ s f c. fits as_octets (all_but of_pa_data) 64 s f c 64 is name.text.now name.role ≡ true) (fits_at is name.text.now name.role less covered)) named
+    (by_table schema kerberos (λ s f c. is_told as_octets (all_but of_pa_data) 64 s f (map case_row c) ≡ true) kerberos_told)
+    (by_table schema kerberos (λ s f c. fits as_octets (all_but of_pa_data) 64 s f (map case_row c) 64 is name.text.now name.role ≡ true) (fits_at is name.text.now name.role less covered)) named

@@ -13,7 +13,7 @@ use Rattle.krb_show.specs.Tokens.{Label, Token}
 use Rattle.krb_show_rows.specs.Items.{shown, start}
 use Rattle.krb_show_rows.specs.declared.stand.Secrets.TheVariants as secrets
 use Rattle.krb_show_row_laws.specs.Firsts.{Opening}
-use Rattle.krb_show_row_laws.specs.Tests.{fits, is_told}
+use Rattle.krb_show_row_laws.specs.Tests.{case_row, fits, is_told}
 
 -- Two inputs of one row, under one name, whose pages by that row have one text, secrets shown, are the same octets.
 abbrev pub TextTellsOctets : (Role → List ℕ → Label → List ℕ → List Token → List Token → Type 0) → Schema → ℕ → Name → Type 0
@@ -25,9 +25,9 @@ TextTellsOctets tells schema is name = (octets other : List ℕ) (items others :
 
 -- the lines of the fields of each SEQUENCE among these rows are told apart
 abbrev pub IsTold : (Role → List Opening) → (ℕ → Bool) → Schema → Type 0
-IsTold kinds covers schema = is_told kinds covers 64 schema.shapes.now (map field_row schema.fields.now) schema.cases.now ≡ true
+IsTold kinds covers schema = is_told kinds covers 64 schema.shapes.now (map field_row schema.fields.now) (map case_row schema.cases.now) ≡ true
 
 -- and this row is one of them, whose elements are told apart under this name
 abbrev pub IsToldAt : (Role → List Opening) → (ℕ → Bool) → Schema → ℕ → Name → Type 0
 IsToldAt kinds covers schema is name =
-    fits kinds covers 64 schema.shapes.now (map field_row schema.fields.now) schema.cases.now 64 is name.text.now name.role ≡ true
+    fits kinds covers 64 schema.shapes.now (map field_row schema.fields.now) (map case_row schema.cases.now) 64 is name.text.now name.role ≡ true

@@ -19,6 +19,30 @@ use Rattle.krb_show_row_laws.specs.Firsts.{First, Opening, apart_firsts, are_apa
 abbrev pub FieldRow : Type 0
 FieldRow = Option ℕ × Bool × Bool × List ℕ × Option Kind × Role × ℕ
 
+-- a case: the INTEGER that it stands behind, the name and the role of what it holds where these are of its own, and its row
+abbrev pub CaseRow : Type 0
+CaseRow = Option ℕ × Option (List ℕ × Role) × ℕ
+
+-- what a case holds is called as the OCTET STRING that holds it
+abbrev pub case_row : Case → CaseRow
+case_row c = (c.behind, None, c.is)
+
+abbrev pub own_text : Option (List ℕ × Role) → List ℕ → List ℕ
+own_text None name = name
+own_text (Some own) name = own.0
+
+abbrev pub own_role : Option (List ℕ × Role) → Role → Role
+own_role None role = role
+own_role (Some own) role = own.1
+
+abbrev pub is_own : Option (List ℕ × Role) → Bool
+is_own None = false
+is_own (Some own) = true
+
+abbrev pub own_is_name : Option (List ℕ × Role) → Bool
+own_is_name None = true
+own_is_name (Some own) = is_name own.0
+
 -- elements of this shape are components of names
 abbrev pub is_component_shape : Option Shape → Bool
 is_component_shape None = false
@@ -58,12 +82,12 @@ leaf_firsts kinds leaves.Octets name role = openings (octets_kinds kinds role) n
 leaf_firsts kinds kind name role = openings (of_leaf ∷ []) name
 
 -- how octets of formats that are no DER begin; the rows that are asked for; how many levels first lines are looked for; and the table
-module _ (kinds : Role → List Opening) (covers : ℕ → Bool) (deep : ℕ) (shapes : List Shape) (fields : List FieldRow) (cases : List Case) where
+module _ (kinds : Role → List Opening) (covers : ℕ → Bool) (deep : ℕ) (shapes : List Shape) (fields : List FieldRow) (cases : List CaseRow) where
   -- ---- first lines
 
-  abbrev pub held_firsts : (ℕ → List ℕ → Role → List First) → List Case → List ℕ → Role → List First
+  abbrev pub held_firsts : (ℕ → List ℕ → Role → List First) → List CaseRow → List ℕ → Role → List First
   held_firsts inner [] name role = leaf_firsts kinds leaves.Octets name role
-  held_firsts inner (c ∷ cs) name role = inner c.is name role ++ held_firsts inner cs name role
+  held_firsts inner (c ∷ cs) name role = inner c.2 (own_text c.1 name) (own_role c.1 role) ++ held_firsts inner cs name role
 
   abbrev pub shape_firsts : (ℕ → List ℕ → Role → List First) → Shape → List ℕ → Role → List First
   shape_firsts inner (shape.Leaf tag kind) name role = leaf_firsts kinds kind name role
@@ -123,17 +147,26 @@ module _ (kinds : Role → List Opening) (covers : ℕ → Bool) (deep : ℕ) (s
 
   -- ---- rows
 
-  abbrev pub apart_rows : ℕ → ℕ → ℕ → List ℕ → Role → Bool
-  apart_rows n is are name role = apart_firsts (firsts n is name role) (firsts n are name role) || apart_sequences (sequence n is) (sequence n are)
+  -- what two cases hold begins otherwise
+  abbrev pub case_firsts : ℕ → CaseRow → List ℕ → Role → List First
+  case_firsts n c name role = firsts n c.2 (own_text c.1 name) (own_role c.1 role)
+
+  abbrev pub apart_rows : ℕ → CaseRow → CaseRow → List ℕ → Role → Bool
+  apart_rows n c d name role =
+      apart_firsts (case_firsts n c name role) (case_firsts n d name role)
+      || ((other_than (is_own c.1) && other_than (is_own d.1)) && apart_sequences (sequence n c.2) (sequence n d.2))
 
   -- what a case holds is told from what the others hold, and from plain octets
-  abbrev pub apart_cases : ℕ → Case → List Case → List ℕ → Role → Bool
-  apart_cases n c [] name role = apart_firsts (firsts n c.is name role) (leaf_firsts kinds leaves.Octets name role)
-  apart_cases n c (d ∷ ds) name role = (never_both c.behind d.behind || apart_rows n c.is d.is name role) && apart_cases n c ds name role
+  abbrev pub apart_cases : ℕ → CaseRow → List CaseRow → List ℕ → Role → Bool
+  apart_cases n c [] name role = apart_firsts (case_firsts n c name role) (leaf_firsts kinds leaves.Octets name role)
+  apart_cases n c (d ∷ ds) name role = (never_both c.0 d.0 || apart_rows n c d name role) && apart_cases n c ds name role
 
-  abbrev pub held_fits : (ℕ → List ℕ → Role → Bool) → ℕ → List Case → List ℕ → Role → Bool
+  abbrev pub case_fits : (ℕ → List ℕ → Role → Bool) → CaseRow → List ℕ → Role → Bool
+  case_fits inner c name role = own_is_name c.1 && inner c.2 (own_text c.1 name) (own_role c.1 role)
+
+  abbrev pub held_fits : (ℕ → List ℕ → Role → Bool) → ℕ → List CaseRow → List ℕ → Role → Bool
   held_fits inner n [] name role = true
-  held_fits inner n (c ∷ cs) name role = inner c.is name role && (apart_cases n c cs name role && held_fits inner n cs name role)
+  held_fits inner n (c ∷ cs) name role = case_fits inner c name role && (apart_cases n c cs name role && held_fits inner n cs name role)
 
   abbrev pub shape_fits : (ℕ → List ℕ → Role → Bool) → ℕ → Shape → List ℕ → Role → Bool
   shape_fits inner n (shape.Tagged tag is) name role = inner is name role
