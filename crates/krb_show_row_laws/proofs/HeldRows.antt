@@ -156,13 +156,13 @@ module _ (tells : Role → List ℕ → Label → List ℕ → List Token → Li
     lines_never : (c d : Case) (inside within : Forest) → fits_of c ≡ true → fits_of d ≡ true → rows_apart c d ≡ true → R c.is (called c) [] inside → R d.is (called d) [] within
         → AreSmall inside → AreSmall within → (in_list : Bool) (number another : List ℕ) → Never (forest_shown tells in_list number inside) (forest_shown tells in_list another within)
     lines_never c d inside within fit fits_too apart r w small little in_list number another =
-        by_lines (or_true (apart_firsts (firsts_of c) (firsts_of d)) (are_shared c d && sequences_apart c.is d.is) apart)
+        by_lines (or_true (are_shared c d && sequences_apart c.is d.is) (apart_firsts (firsts_of c) (firsts_of d)) apart)
       where
-        by_lines : (apart_firsts (firsts_of c) (firsts_of d) ≡ true) ⊎ (are_shared c d && sequences_apart c.is d.is ≡ true)
+        by_lines : (are_shared c d && sequences_apart c.is d.is ≡ true) ⊎ (apart_firsts (firsts_of c) (firsts_of d) ≡ true)
             → Never (forest_shown tells in_list number inside) (forest_shown tells in_list another within)
-        by_lines (inl t) =
-            firsts_never t ((row_told c fit).first [] inside r small in_list number) ((row_told d fits_too).first [] within w little in_list another)
         by_lines (inr t) =
+            firsts_never t ((row_told c fit).first [] inside r small in_list number) ((row_told d fits_too).first [] within w little in_list another)
+        by_lines (inl t) =
             let both_shared = and_left (are_shared c d) (sequences_apart c.is d.is) t in
             let one = and_left (other_than (is_own (own c))) (other_than (is_own (own d))) both_shared in
             let two = and_right (other_than (is_own (own c))) (other_than (is_own (own d))) both_shared in

@@ -153,8 +153,8 @@ module _ (kinds : Role → List Opening) (covers : ℕ → Bool) (deep : ℕ) (s
 
   abbrev pub apart_rows : ℕ → CaseRow → CaseRow → List ℕ → Role → Bool
   apart_rows n c d name role =
-      apart_firsts (case_firsts n c name role) (case_firsts n d name role)
-      || ((other_than (is_own c.1) && other_than (is_own d.1)) && apart_sequences (sequence n c.2) (sequence n d.2))
+      ((other_than (is_own c.1) && other_than (is_own d.1)) && apart_sequences (sequence n c.2) (sequence n d.2))
+      || apart_firsts (case_firsts n c name role) (case_firsts n d name role)
 
   -- what a case holds is told from what the others hold, and from plain octets
   abbrev pub apart_cases : ℕ → CaseRow → List CaseRow → List ℕ → Role → Bool
