@@ -26,6 +26,6 @@ pub fn texts_of_rows_tell_octets<F: ShowsFormats>()
 /// PA-DATA.
 #[tactic(auto, using(crate::proofs::TextLaws::kerberos_text_tells))]
 pub fn texts_of_kerberos_tell_octets()
-    ensures { (schema : Schema) (is : ℕ) (name : Name) → IsKerberos schema → is < 137 → all_but of_pa_data is ≡ true → is_name name.text.now ≡ true
+    ensures { (schema : Schema) (is : ℕ) (name : Name) → IsKerberos schema → all_but of_pa_data is ≡ true → is_name name.text.now ≡ true
         → TextTellsOctets ⟦<NoFormats as ShowsFormats>⟧.tells schema is name }
 {}
