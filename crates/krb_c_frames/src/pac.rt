@@ -2,8 +2,8 @@
 
 ghost use Rattle.krb_c_frames.specs.Pac.{IsPacBuffer, IsPacCount};
 
-use crate::refusal::Refusal;
-use krb_c_calls::handing::HasStatus;
+use crate::refusal::pac_refusal;
+use krb_c_calls::{DONE, Refusal};
 use krb_pac::PacView;
 
 /// How many buffers the PAC has (MS-PAC 2.3, PACTYPE). No memory is taken.
@@ -17,11 +17,11 @@ pub fn pac_count(pac: &[u8], count: &mut usize) -> u32
     match PacView::new(pac) {
         Ok(view) => {
             *count = view.len();
-            0
+            DONE
         }
         Err(error) => {
             *count = 0;
-            Refusal::Pac(error).status()
+            pac_refusal(&error).status()
         }
     }
 }
@@ -44,7 +44,7 @@ pub fn pac_buffer(
     *size = 0;
     let view = match PacView::new(pac) {
         Ok(view) => view,
-        Err(error) => return Refusal::Pac(error).status(),
+        Err(error) => return pac_refusal(&error).status(),
     };
     match view.get(n) {
         Some(buffer) => {
@@ -52,7 +52,7 @@ pub fn pac_buffer(
             *ul_type = u32::from(entry.ul_type());
             *offset = entry.offset() as usize;
             *size = entry.cb_buffer_size() as usize;
-            0
+            DONE
         }
         None => Refusal::Absent.status(),
     }
