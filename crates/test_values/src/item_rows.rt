@@ -112,7 +112,10 @@ fn finds_numbers_of_an_error(rt: HostRuntime) {
     let alloc = rt.alloc();
     assert_eq!(rt; counted(alloc, b"KRB-ERROR", b"error-code", &ERROR), (0, 6));
     assert_eq!(rt; counted(alloc, b"KRB-ERROR", b"susec", &ERROR), (0, 824918));
-    assert_eq!(rt; counted(alloc, b"KRB-ERROR", b"cusec", &ERROR), (Refusal::Absent.status(), 0));
+    assert_eq!(rt;
+        counted(alloc, b"KRB-ERROR", b"cusec", &ERROR),
+        (Refusal::Absent.status(), 0)
+    );
     assert_eq!(rt;
         counted(alloc, b"KRB-ERROR", b"realm", &ERROR),
         (3, 0),
