@@ -398,6 +398,18 @@ static inline size_t krb_header_size(size_t content_size) {
 krb_status krb_pac_count(const uint8_t *pac, size_t pac_size, size_t *count);
 krb_status krb_pac_buffer(const uint8_t *pac, size_t pac_size, size_t n, uint32_t *ul_type, size_t *offset, size_t *size);
 
+/* A buffer of a PAC: its type, and the `size` octets of the PAC behind `offset` others. Its fields are set by the library. */
+typedef struct krb_pac_place {
+    size_t offset;    /* octets of the PAC before its own */
+    size_t size;      /* its octets */
+    uint32_t ul_type; /* its type, ulType */
+} krb_pac_place;
+
+/* All buffers of a PAC, in the order of the entries, in one look at its directory. No memory is taken.
+   KRB_DONE: they are the first *count of `places`, and those behind are as they were. KRB_ROOM: they are *count, more than `room`; `places` is
+   as it was. A PAC of n octets has fewer than n / 16 of them. Else those of krb_pac_count; *count is 0, and `places` is as it was. */
+krb_status krb_pac_buffers(const uint8_t *pac, size_t pac_size, krb_pac_place *places, size_t room, size_t *count);
+
 /* The frame of a GSS token (RFC 2743, 3.1; RFC 4121, 4.1), with nothing behind it: the places of the content of the mechanism's OBJECT IDENTIFIER,
    and of the inner token, which is all that follows; a Kerberos token's begins with two octets of a token id. The mechanism is not compared.
    Of the first fault, from the left: KRB_INVALID, KRB_TRUNCATED, KRB_UNSUPPORTED (of the mechanism: an arc past 64 bits); KRB_MEMORY. */

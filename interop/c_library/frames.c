@@ -82,11 +82,49 @@ static struct told told_of(const char *kind, const struct octets *it) {
     return told;
 }
 
+/* All buffers of a PAC in one look are those that krb_pac_buffer tells, in any room that holds them; else no place is written. */
+static void try_buffers(const struct octets *pac) {
+    size_t right = 77777, most;
+    krb_status status = krb_pac_count(pac->at, pac->count, &right);
+    most = right < 40 ? right + 2 : right;
+    for (size_t room = right < 40 ? 0 : right - 1; room <= most; room++) {
+        struct octets places = room_of(room * sizeof(krb_pac_place));
+        krb_pac_place *place = (krb_pac_place *)(void *)places.at;
+        krb_status wanted = status == KRB_DONE && right > room ? KRB_ROOM : status;
+        size_t count = 77777;
+        krb_status told = krb_pac_buffers(pac->at, pac->count, place, room, &count);
+        EXPECT(told == wanted && count == right, "%zu places for %zu buffers: status %u, count %zu", room, right, told, count);
+        EXPECT(is_untouched(&places, told == KRB_DONE ? right * sizeof *place : 0), "%zu places for %zu buffers: one more is written", room, right);
+        for (size_t n = 0; told == KRB_DONE && n < right; n++) {
+            uint32_t kind = 77777;
+            size_t offset = 77777, size = 77777;
+            EXPECT(krb_pac_buffer(pac->at, pac->count, n, &kind, &offset, &size) == KRB_DONE && place[n].ul_type == kind && place[n].offset == offset && place[n].size == size,
+                   "buffer %zu of %zu is told otherwise", n, right);
+        }
+        drop(&places);
+    }
+}
+
+/* A PAC whose entries each name all its octets. */
+static void try_hostile_pac(size_t count) {
+    struct octets pac = room_of(8 + 16 * count);
+    for (size_t k = 0; k < 8; k++) pac.at[k] = k < 4 ? (uint8_t)(count >> 8 * k) : 0;
+    for (size_t n = 0; n < count; n++)
+        for (size_t k = 0; k < 16; k++) pac.at[8 + 16 * n + k] = k == 0 ? (uint8_t)(10 + n % 10) : k < 4 || k > 7 ? 0 : (uint8_t)(pac.count >> 8 * (k - 4));
+    try_buffers(&pac);
+    pac.at[8 + 16 * (count - 1)] = 3; /* the last is of a number that no type has */
+    try_buffers(&pac);
+    drop(&pac);
+}
+
 static void try_refused(const char *kind, const struct octets *it, krb_status wanted, const char *what) {
     struct told told = told_of(kind, it);
     EXPECT(told.status == wanted, "%s, %s at %zu octets: status %u", kind, what, it->count, told.status);
     for (int k = 0; k < NUMBERS; k++) EXPECT(told.at[k] == 0, "%s, %s: a place is told", kind, what);
-    if (!strcmp(kind, "pac")) EXPECT(told.kind == 0, "a type is told");
+    if (!strcmp(kind, "pac")) {
+        EXPECT(told.kind == 0, "a type is told");
+        try_buffers(it);
+    }
     if (!strcmp(kind, "resp")) EXPECT(told.kind == KRB_NEG_STATE_ABSENT, "a state is told");
 }
 
@@ -200,6 +238,7 @@ static void try_row(const char *kind, const struct octets *whole) {
     for (int k = 0; k < NUMBERS; k += 2) EXPECT(is_place(whole, told.at[k], told.at[k + 1]), "%s: a place outside", kind);
     if (!strcmp(kind, "pac")) {
         size_t least = least_of(whole);
+        try_buffers(whole);
         try_cuts(kind, whole, least);
         return;
     }
@@ -240,6 +279,7 @@ int main(int count, char **words) {
         struct octets none = {NULL, 0};
         try_refused(kinds[k], &none, KRB_TRUNCATED, "nothing");
     }
+    for (size_t count = 1; count < 2000; count += count < 40 ? 1 : count) try_hostile_pac(count);
     fclose(table);
     return counted();
 }

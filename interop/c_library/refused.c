@@ -351,13 +351,29 @@ static void try_frame(const char *kind, const struct octets *octets) {
     drop(&first), drop(&second), drop(&third);
 }
 
+/* The calls of PACs ask for no memory. */
+static void try_pac(const struct octets *pac) {
+    krb_pac_place places[64];
+    size_t count = 0, offset = 0, size = 0;
+    uint32_t kind = 0;
+    requests = 0, refuses_at = 1, refuses_on = 1, counts = 1;
+    krb_status statuses[] = {krb_pac_count(pac->at, pac->count, &count), krb_pac_buffer(pac->at, pac->count, 0, &kind, &offset, &size),
+            krb_pac_buffers(pac->at, pac->count, places, sizeof places / sizeof *places, &count)};
+    counts = 0;
+    for (size_t k = 0; k < sizeof statuses / sizeof *statuses; k++)
+        EXPECT(requests == 0 && statuses[k] != KRB_MEMORY, "call %zu of a PAC: status %u, %ld requests", k, statuses[k], requests);
+}
+
 static void try_frames(const char *name) {
     FILE *file = fopen(name, "r");
     char *columns[2];
     if (!file) die("a table is not there");
     while (next_row(file, columns, 2)) {
         struct octets octets = octets_of_text(columns[1]);
-        if (strcmp(columns[0], "pac") && strcmp(columns[0], "unlisted")) try_frame(columns[0], &octets); /* a PAC takes no memory */
+        if (!strcmp(columns[0], "pac") || !strcmp(columns[0], "unlisted"))
+            try_pac(&octets);
+        else
+            try_frame(columns[0], &octets);
         drop(&octets);
     }
     fclose(file);

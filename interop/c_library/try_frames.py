@@ -168,6 +168,11 @@ def model(call, octets):
     return outcome(call, octets)
 
 
+def is_view(octets, pac_octets):
+    """Whether they are a view of octets of the PAC that nobody can write."""
+    return isinstance(octets, memoryview) and octets.readonly and octets.format == "B" and octets.obj is pac_octets
+
+
 def try_pac(octets, count):
     for each in [octets, *(octets[:n] for n in range(min(len(octets), 200))), octets + b"\0", *changed(octets, count)]:
         right = pac_of(each)
@@ -176,8 +181,16 @@ def try_pac(octets, count):
         if not isinstance(right, Status):
             for n in (len(right), len(right) + 1, 2**32, 2**64 - 1, 2**64, -1):
                 expect(outcome(pac.buffer, each, n) == Status.ABSENT, "buffer %d of a PAC of %d" % (n, len(right)))
+            for n, one in enumerate(right):
+                expect(pac.buffer(each, n) == one and found[n] == one, "buffer %d of a PAC of %d" % (n, len(right)))
+                expect(is_view(found[n].octets, each) and is_view(pac.buffer(each, n).octets, each), "buffer %d is no view of the PAC" % n)
             for kind in TYPES:
-                expect(pac.find(each, kind) == next((it[2] for it in right if it[0] == kind), None), "the buffer of type %d" % kind)
+                one = pac.find(each, kind)
+                expect(one == next((it[2] for it in right if it[0] == kind), None), "the buffer of type %d" % kind)
+                expect(one is None or is_view(one, each), "the buffer of type %d is no view of the PAC" % kind)
+        for call in (pac.find, pac.buffer):
+            refused = outcome(call, each, 0)
+            expect(refused == right if isinstance(right, Status) else not isinstance(refused, Status) or not right, "%s of a PAC: %s, and not %s" % (call.__name__, refused, right))
 
 
 def most_memory(call):
@@ -190,12 +203,27 @@ def most_memory(call):
         tracemalloc.stop()
 
 
-def try_hostile_pac():
-    """A PAC of 511 buffers, each of all its 8 KiB: no call keeps more than one of them."""
-    count, size = 511, 8 * 1024
+def hostile_pac(size):
+    """A PAC of so many octets, 16 or more, whose entries each name all of them, and the last alone is of type 13."""
+    count = (size - 8) // 16
     entries = b"".join(struct.pack("<IIQ", 1 if n < count - 1 else 13, size, 0) for n in range(count))
     octets = struct.pack("<II", count, 0) + entries
-    octets += bytes(size - len(octets))
+    return octets + bytes(size - len(octets)), count
+
+
+def try_room():
+    """PACs of as many buffers as there is room for at first, and of one fewer and more."""
+    for count in (0, 1, 31, 32, 33, 64, 65, 1000):
+        octets, right = hostile_pac(8 + 16 * count) if count else (bytes(8), 0)
+        found = pac.buffers(octets)
+        expect(right == count == len(found) and [it.offset for it in found] == [0] * count, "the buffers of a PAC of %d" % count)
+        expect(pac.find(octets, 13) == (octets if count else None), "the last of %d buffers" % count)
+
+
+def try_hostile_pac():
+    """PACs of n / 16 buffers, each of all n octets: the memory that is taken, and kept where all buffers are, grows with n and not with its square."""
+    size = 8 * 1024
+    octets, count = hostile_pac(size)
     found = pac.buffers(octets)
     expect(len(found) == count and found[-1] == (13, 0, octets), "the buffers of a hostile PAC")
     expect(found[1:3] == [(1, 0, octets)] * 2 and found[count:] == [], "some of its buffers")
@@ -213,6 +241,18 @@ def try_hostile_pac():
     ):
         most = most_memory(call)
         expect(most < 8 * size, "%s of a hostile PAC of %d octets takes %d" % (what, size, most))
+    for size in (64 * 1024, 1024 * 1024):
+        octets, count = hostile_pac(size)
+        other = bytearray(octets)
+        for what, call in (
+            ("all buffers", lambda: list(pac.buffers(octets))),
+            ("all buffers of a bytearray", lambda: list(pac.buffers(other))),
+            ("find", lambda: pac.find(octets, 13)),
+            ("find of none", lambda: pac.find(octets, 2)),
+        ):
+            most = most_memory(call)
+            expect(most < 32 * size, "%s of a hostile PAC of %d octets take %d" % (what, size, most))
+        expect(len(pac.find(other, 13)) == size and is_view(pac.find(octets, 13), octets), "the last of %d buffers" % count)
 
 
 def try_token(octets, count):
@@ -406,6 +446,7 @@ def main():
             expect(tried(frames.proxy_message, octets) == proxy_of(octets), "a KDC-PROXY-MESSAGE")
             try_cuts(frames.proxy_message, octets, "a KDC-PROXY-MESSAGE")
             try_changed(frames.proxy_message, proxy_of, octets, count, "a KDC-PROXY-MESSAGE")
+    try_room()
     try_hostile_pac()
     try_made()
     try_made_messages()

@@ -9,8 +9,9 @@
 - `krb.proxy`: the requests and replies that a KDC proxy passes on, and no others (MS-KKDCP).
 - `krb.pac`: the buffers of a PAC (MS-PAC). `krb.spnego`: tokens of the GSS-API (RFC 2743).
 
-Octets come in as any object with a buffer of octets, as bytes, bytearray or memoryview, and go out as bytes. What a call refuses is
-`Refused`, whose `status` says why. The calls may be made by several threads at once; they let go of the interpreter's lock.
+Octets come in as any object with a buffer of octets, as bytes, bytearray or memoryview, and go out as bytes, but for the buffers of a PAC,
+which are views of it. What a call refuses is `Refused`, whose `status` says why. The calls may be made by several threads at once; they let
+go of the interpreter's lock.
 
 The shared object is `libkrbc.so.1` beside this file, or what the variable KRBC_LIBRARY names."""
 

@@ -2,17 +2,17 @@
 
 What a buffer holds is the caller's to read. Nothing here looks at a PAC's signatures.
 
-Buffers may share octets: each of the n / 16 entries that n octets hold may name all of them. So no
-call here copies a buffer before it is asked for: `buffer` and `find` take n octets for the PAC, if
-it is not bytes, and those of the one buffer that they return; `buffers` the former, and each of its
-items a buffer. Whoever keeps all items of a hostile PAC keeps n^2 / 16 octets. Each call of the
-library looks at all entries, so the time of `buffer` grows with n, and that of `find` and of all
-items of `buffers` with n^2. Bound the PACs that you let in."""
+The octets of a buffer are a read-only memoryview of the PAC's: `bytes(octets)` makes a copy, and a
+view keeps the whole PAC in memory. Buffers may share octets: each of the n / 16 entries that n
+octets hold may name all of them. As no call copies a buffer, this costs nothing: `buffers` and
+`find` look at the directory once, and take 24 octets for each entry; each call takes n octets more
+where the PAC is not bytes. Whoever copies all buffers of a hostile PAC keeps n^2 / 16 octets."""
 
+import ctypes
 import enum
-from typing import Iterator, List, NamedTuple, Optional, Sequence, Tuple, Union, overload
+from typing import Any, Iterator, List, NamedTuple, Optional, Sequence, Tuple, Union, overload
 
-from krb._library import IN, SIZE, Octets, Refused, Status
+from krb._library import IN, SIZE, Octets, Refused, Status, _library
 from krb._places import SIZE_OUT, U32_OUT, Telling
 
 __all__ = ["BufferType", "Buffer", "Buffers", "buffers", "buffer", "find"]
@@ -38,43 +38,73 @@ class BufferType(enum.IntEnum):
 
 
 class Buffer(NamedTuple):
-    """A buffer: its type, how many octets of the PAC are before it, and its octets."""
+    """A buffer: its type, how many octets of the PAC are before it, and its octets, a read-only
+    view of the PAC's."""
 
     type: BufferType
     offset: int
-    octets: bytes
+    octets: memoryview
 
 
-_count = Telling("krb_pac_count", [IN], [SIZE_OUT])
+class _Place(ctypes.Structure):
+    """krb_pac_place of krb.h."""
+
+    _fields_ = [
+        ("offset", ctypes.c_size_t),
+        ("size", ctypes.c_size_t),
+        ("ul_type", ctypes.c_uint32),
+    ]
+
+
+# The buffers that there is room for at first; PACs in use have fewer.
+_ROOM = 32
+
 _buffer = Telling("krb_pac_buffer", [IN, SIZE], [U32_OUT, SIZE_OUT, SIZE_OUT])
+_buffers = _library.krb_pac_buffers
+_buffers.argtypes = [ctypes.c_char_p, ctypes.c_size_t, ctypes.c_void_p, ctypes.c_size_t]
+_buffers.argtypes += [ctypes.POINTER(ctypes.c_size_t)]
+_buffers.restype = ctypes.c_uint32
 
 
 def _octets(pac: Octets) -> bytes:
     return pac if isinstance(pac, bytes) else bytes(memoryview(pac).cast("B"))
 
 
-def _place(octets: bytes, n: int) -> Tuple[int, int, int]:
-    """The type of buffer n, how many octets are before it, and how many it has."""
-    kind, offset, size = _buffer.told(octets, n if 0 <= n < 2**64 else 2**64 - 1)
-    return kind, offset, size
+def _places(octets: bytes) -> Tuple[Any, int]:
+    """The types and the places of all buffers, and how many they are."""
+    count, room = ctypes.c_size_t(), _ROOM
+    while True:
+        places = (_Place * room)()
+        status = _buffers(octets, len(octets), places, room, ctypes.byref(count))
+        if status == Status.DONE:
+            return places, count.value
+        if status != Status.ROOM or count.value <= room:
+            raise Refused(status)
+        room = count.value
 
 
 def buffer(pac: Octets, n: int) -> Buffer:
     """Buffer n of the PAC, counted from 0 in the order of the entries.
 
-    Refused: TRUNCATED, OTHER_VERSION, PAC_TYPE, PAC_RANGE; then ABSENT where there are not so many."""
+    Refused: TRUNCATED, OTHER_VERSION, PAC_TYPE, PAC_RANGE; then ABSENT if there are not so many."""
     octets = _octets(pac)
-    kind, offset, size = _place(octets, n)
-    return Buffer(BufferType(kind), offset, octets[offset : offset + size])
+    kind, offset, size = _buffer.told(octets, n if 0 <= n < 2**64 else 2**64 - 1)
+    return Buffer(BufferType(kind), offset, memoryview(octets)[offset : offset + size])
 
 
 class Buffers(Sequence[Buffer]):
-    """The buffers of a PAC, in the order of the entries. An item is made when it is asked for, and
-    not kept."""
+    """The buffers of a PAC, in the order of the entries. The directory is read once; an item is
+    made when it is asked for, and copies nothing."""
 
     def __init__(self, pac: Octets) -> None:
-        self._octets = _octets(pac)
-        self._count = _count.told(self._octets)[0]
+        octets = _octets(pac)
+        self._octets = memoryview(octets)
+        self._places, self._count = _places(octets)
+
+    def _at(self, n: int) -> Buffer:
+        place = self._places[n]
+        octets = self._octets[place.offset : place.offset + place.size]
+        return Buffer(BufferType(place.ul_type), place.offset, octets)
 
     def __len__(self) -> int:
         return self._count
@@ -86,13 +116,13 @@ class Buffers(Sequence[Buffer]):
     def __getitem__(self, n: slice) -> List[Buffer]: ...
 
     def __getitem__(self, n: Union[int, slice]) -> Union[Buffer, List[Buffer]]:
-        places = range(self._count)[n]
-        if isinstance(places, range):
-            return [buffer(self._octets, each) for each in places]
-        return buffer(self._octets, places)
+        numbers = range(self._count)[n]
+        if isinstance(numbers, range):
+            return [self._at(each) for each in numbers]
+        return self._at(numbers)
 
     def __iter__(self) -> Iterator[Buffer]:
-        return (buffer(self._octets, n) for n in range(self._count))
+        return (self._at(n) for n in range(self._count))
 
     def __eq__(self, other: object) -> bool:
         """Whether the other has the same buffers in the same order; it may be a list of them."""
@@ -108,11 +138,7 @@ def buffers(pac: Octets) -> Buffers:
     return Buffers(pac)
 
 
-def find(pac: Octets, kind: int) -> Optional[bytes]:
-    """The octets of the first buffer of this type, or None. Refused: as `buffers`."""
-    octets = _octets(pac)
-    for n in range(_count.told(octets)[0]):
-        found, offset, size = _place(octets, n)
-        if found == kind:
-            return octets[offset : offset + size]
-    return None
+def find(pac: Octets, kind: int) -> Optional[memoryview]:
+    """The octets of the first buffer of this type, a read-only view of the PAC's, or None.
+    Refused: as `buffers`."""
+    return next((each.octets for each in Buffers(pac) if each.type == kind), None)

@@ -4,11 +4,12 @@ ghost use Rattle.std.specs.Prelude.{[]};
 ghost use Rattle.krb_c_calls.specs.Handing.{IsAnswered};
 ghost use Rattle.krb_c_calls.specs.MessageRules.{RefusesReading};
 ghost use Rattle.krb_c_frames.specs.Making.{IsMade, IsMadeAnswer, RefusesAnswer, made_init, present};
-ghost use Rattle.krb_c_frames.specs.Pac.{IsPacBuffer, IsPacCount};
+ghost use Rattle.krb_c_frames.specs.Pac.{IsPacBuffer, IsPacBuffers, IsPacCount};
 ghost use Rattle.krb_c_frames.specs.Password.{IsFrameAt, IsMadeFrame, RefusesMaking};
 ghost use Rattle.krb_c_frames.specs.Proxy.{proxy_octets};
 ghost use Rattle.krb_c_frames.specs.Token.{IsMadeToken, IsTokenAt, RefusesMechanism};
 
+use krb_c_frames::PlaceRecord;
 use krb_der::DerEncode;
 use krb_gss_tokens::gss_api::{ApplicationTag0, GssApiNegInit, NegTokenTarg1};
 use krb_messages::messages::{ApMessage, KdcProxyMessage, KrbPriv};
@@ -34,6 +35,14 @@ pub extern "C" fn krb_pac_buffer(
     ensures { IsPacBuffer pac.now n ul_type.new offset.new size.new result }
 {
     krb_c_frames::pac_buffer(pac, n, ul_type, offset, size)
+}
+
+/// `krb_pac_buffers` of `krb.h`: all buffers of a PAC, by their types and places (MS-PAC 2.4).
+#[unsafe(no_mangle)]
+pub extern "C" fn krb_pac_buffers(pac: &[u8], places: &mut [PlaceRecord], count: &mut usize) -> u32
+    ensures { IsPacBuffers pac.now places.old places.new count.new result }
+{
+    krb_c_frames::pac_buffers(pac, places, count)
 }
 
 /// `krb_gss_token` of `krb.h`: the places of the mechanism and of the inner token in a GSS token (RFC 2743, 3.1).

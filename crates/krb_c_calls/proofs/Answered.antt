@@ -1,5 +1,5 @@
 -- What was made or refused, handed out.
-use Rattle.std.proofs.Common.{◌≡◌, ◌<◌, ℕ, ℤ, List, Result, Ok, Err, MatchResult, length, sym, ap, subst, inl, inr}
+use Rattle.std.proofs.Common.{◌≡◌, ℕ, ℤ, List, Result, Ok, Err, MatchResult, length, sym, ap, subst, inl, inr}
 use Rattle.krb_crypto_hash.specs.CryptoError.{IsMemoryOr}
 use Rattle.krb_crypto_hash.specs.declared.error.KerberosCryptoError.{KerberosCryptoError}
 use Rattle.krb_crypto_message.specs.Sealing.{HasNoPayload}
@@ -9,20 +9,20 @@ use Rattle.krb_crypto.specs.PreparedKeys.{PreparedKeys, IsPreparedFor}
 use Rattle.krb_c_calls.specs.declared.refusal.Refusal.{Refusal}
 use Rattle.krb_c_calls.specs.Numbers.{etype_number}
 use Rattle.krb_c_calls.specs.Statuses.{crypto_status, refusal_status}
-use Rattle.krb_c_calls.specs.Handing.{IsPut, IsKept, IsAnswered, IsHandedOut}
+use Rattle.krb_c_calls.specs.Handing.{IsPut, IsRefused, IsAnswered, IsHandedOut}
 use Rattle.krb_c_calls.specs.Calls.{IsDecryptionBy, RefusesDecryptionBy, IsDecryption, RefusesDecryption}
 
 pub answered : {V : Type 0} (made : Result V Refusal) (items : V → List ℕ) (is_right : List ℕ → Type 0) (refuses : ℕ → Type 0)
     (before after : List ℕ) (size status : ℕ)
     → MatchResult made (λ v. is_right (items v)) (λ e. refuses (refusal_status e))
-    → MatchResult made (λ v. IsPut (items v) before after size status) (λ e. (status ≡ refusal_status e) × (1 < status) × IsKept before after size)
+    → MatchResult made (λ v. IsPut (items v) before after size status) (λ e. IsRefused e before after size status)
     → IsAnswered is_right refuses before after size status
 answered (Ok v) items is_right refuses before after size status right put = inl (items v, right, put)
 answered (Err e) items is_right refuses before after size status right kept = inr (kept.1, subst refuses (sym kept.0) right, kept.2)
 
 -- the same, whatever was made
 pub handed_out : {V : Type 0} (made : Result V Refusal) (items : V → List ℕ) (before after : List ℕ) (size status : ℕ)
-    → MatchResult made (λ v. IsPut (items v) before after size status) (λ e. (status ≡ refusal_status e) × (1 < status) × IsKept before after size)
+    → MatchResult made (λ v. IsPut (items v) before after size status) (λ e. IsRefused e before after size status)
     → IsHandedOut before after size status
 handed_out (Ok v) items before after size status put = inl (items v, tt, put)
 handed_out (Err e) items before after size status kept = inr (kept.1, tt, kept.2)

@@ -1,5 +1,5 @@
 -- Where target-domain stands in a KDC-PROXY-MESSAGE.
-use Rattle.std.proofs.Common.{◌≡◌, ℕ, List, [], ◌∷◌, ◌++◌, Option, Some, None, length, take, drop, refl, sym, ap, ◌∙◌, subst, append_assoc}
+use Rattle.std.proofs.Common.{◌≡◌, ℕ, List, [], ◌∷◌, ◌++◌, Some, length, take, drop, refl, sym, ap, ◌∙◌, subst, append_assoc}
 use Rattle.std.proofs.lemmas.List.{append-nil}
 use Rattle.krb_der_core.specs.Encoding.{optional}
 use Rattle.krb_der.specs.Asn1.{explicit, general_string, integer, octet_string, sequence}

@@ -1,7 +1,6 @@
 mod Domains
-mod PlacedItems
-pub mod TokensAnswered
-pub mod RequestsMade
+pub mod PlacedItems
+mod RequestsMade
 pub mod Answered
 mod KeptAgain
 mod Lengths

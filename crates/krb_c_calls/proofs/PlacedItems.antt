@@ -1,5 +1,5 @@
 -- Items put one behind the other to the front of others.
-use Rattle.std.proofs.Common.{◌≡◌, ℕ, zero, suc, ◌+◌, ◌<◌, ◌≤◌, List, [], ◌∷◌, ◌++◌, length, take, drop, ap, refl, arith, slice_set, get_or, add-one}
+use Rattle.std.proofs.Common.{◌≡◌, ℕ, zero, suc, ◌+◌, ◌<◌, List, [], ◌∷◌, ◌++◌, length, take, drop, ap, refl, arith, slice_set, get_or, add-one}
 use Rattle.std.specs.Prelude.{map}
 
 pub placed : {A B : Type 0} (f : A → B) (from : List A) (before : List B) (n : ℕ) (x : A) → n < length from → n < length before

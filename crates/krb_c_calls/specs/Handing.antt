@@ -1,16 +1,26 @@
--- What a call from C leaves in the caller's octets.
+-- What a call from C leaves in the caller's octets, and in other arrays of the caller's.
 use Rattle.std.specs.Prelude.{◌≡◌, ◌⊎◌, ℕ, ◌<◌, ◌≤◌, List, ◌++◌, length, drop}
+use Rattle.krb_c_calls.specs.Statuses.{refusal_status}
+use Rattle.krb_c_calls.specs.declared.refusal.Refusal.{Refusal}
 
--- The octets are counted and, where they fit, put at the front of the caller's, of which those behind are as they were; else all are.
+-- They are counted and, where they fit, put at the front of the caller's, of which those behind are as they were (0); else all are (1).
+abbrev pub ArePut : {A : Type 0} → List A → List A → List A → ℕ → ℕ → Type 0
+ArePut those before after count status =
+    (count ≡ length those)
+    × (((status ≡ 0) × (length those ≤ length before) × (after ≡ those ++ drop (length those) before))
+    ⊎ ((status ≡ 1) × (length before < length those) × (after ≡ before)))
+
+-- So are octets.
 abbrev pub IsPut : List ℕ → List ℕ → List ℕ → ℕ → ℕ → Type 0
-IsPut octets before after size status =
-    (size ≡ length octets)
-    × (((status ≡ 0) × (length octets ≤ length before) × (after ≡ octets ++ drop (length octets) before))
-    ⊎ ((status ≡ 1) × (length before < length octets) × (after ≡ before)))
+IsPut octets before after size status = ArePut octets before after size status
 
 -- Nothing is put, and 0 is the size.
 abbrev pub IsKept : List ℕ → List ℕ → ℕ → Type 0
 IsKept before after size = (size ≡ 0) × (after ≡ before)
+
+-- Nothing is put, and the status is that of this refusal.
+abbrev pub IsRefused : Refusal → List ℕ → List ℕ → ℕ → ℕ → Type 0
+IsRefused refusal before after size status = (status ≡ refusal_status refusal) × (1 < status) × IsKept before after size
 
 -- Either some octets that are right are put; or none are, for a reason that the status names.
 abbrev pub IsAnswered : (List ℕ → Type 0) → (ℕ → Type 0) → List ℕ → List ℕ → ℕ → ℕ → Type 0

@@ -1,7 +1,6 @@
 -- Items as C has them, and what is answered of octets by the types of the standards.
-use Rattle.std.specs.Prelude.{◌≡◌, ◌⊎◌, ℕ, ℤ, pos, negsuc, ◌<◌, ◌≤◌, min, List, [], ◌++◌, Option, Some, None, length, map, take, drop}
+use Rattle.std.specs.Prelude.{◌≡◌, ◌⊎◌, ℕ, ℤ, pos, negsuc, min, List, [], Option, Some, None, map}
 use Rattle.std.specs.List.{slice_get}
-use Rattle.krb_der_core.specs.declared.error.Asn1DerError.{Asn1DerError}
 use Rattle.krb_registry.specs.declared.kind.Kind.{Kind}
 use Rattle.krb_registry.specs.declared.kind.Kind.TheVariants as kinds
 use Rattle.krb_schema.specs.declared.item.Fault.{Fault}
@@ -25,9 +24,12 @@ use Rattle.krb_schema.specs.Rules.{content_of}
 use Rattle.krb_schema.specs.Shapes.{IsElement}
 use Rattle.krb_schema.specs.Types.{types}
 use Rattle.krb_schema.specs.Walks.{Walked}
-use Rattle.krb_c_calls.specs.Statuses.{der_status}
+use Rattle.krb_c_calls.specs.Statuses.{der_refusal, refusal_status}
 use Rattle.krb_c_calls.specs.ContentNumbers.{IsContentNumber}
+use Rattle.krb_c_calls.specs.Handing.{ArePut}
 use Rattle.krb_c_calls.specs.declared.items.record.ItemRecord.{ItemRecord}
+use Rattle.krb_c_calls.specs.declared.refusal.Refusal.{Refusal}
+use Rattle.krb_c_calls.specs.declared.refusal.Refusal.TheVariants as refusals
 
 -- ---- an item
 
@@ -124,12 +126,16 @@ abbrev pub AreItems : List ℕ → List ℕ → List Item → Type 0
 AreItems type_name octets items = (schema : Schema) × (row : ℕ) × (name : Name) × IsType type_name schema row name
     × Walked (IsElement 64 schema row name []) octets 0 0 [] items
 
--- 22 of elements too deep in one another; 12 of what no call meets
+-- which refusal it is
+abbrev pub fault_refusal : Fault → Refusal
+fault_refusal faults.OutOfMemory = refusals.Memory
+fault_refusal faults.NoRow = refusals.Never
+fault_refusal (faults.TooDeep offset) = refusals.TooDeep
+fault_refusal (faults.Refused why offset) = der_refusal why
+
+-- 2 out of memory; 22 of elements too deep in one another; 12 of what no call meets; else that of the octets' error
 abbrev pub fault_status : Fault → ℕ
-fault_status faults.OutOfMemory = 2
-fault_status faults.NoRow = 12
-fault_status (faults.TooDeep offset) = 22
-fault_status (faults.Refused why offset) = der_status why
+fault_status fault = refusal_status (fault_refusal fault)
 
 -- how many octets stand before the first error
 abbrev pub fault_offset : Fault → ℕ
@@ -150,13 +156,6 @@ RefusesItems type_name octets status offset =
     ⊎ ((fault : Fault) × IsFaultOf type_name octets fault × (status ≡ fault_status fault) × (offset ≡ fault_offset fault))
 
 -- ---- all items
-
--- The items are counted and, where they fit, put at the front of the caller's, of which those behind are as they were; else all are.
-abbrev pub ArePut : List ItemRecord → List ItemRecord → List ItemRecord → ℕ → ℕ → Type 0
-ArePut records before after count status =
-    (count ≡ length records)
-    × (((status ≡ 0) × (length records ≤ length before) × (after ≡ records ++ drop (length records) before))
-    ⊎ ((status ≡ 1) × (length before < length records) × (after ≡ before)))
 
 abbrev pub IsItemsAnswer : List ℕ → List ℕ → List ItemRecord → List ItemRecord → ℕ → ℕ → ℕ → Type 0
 IsItemsAnswer type_name octets before after count offset status =

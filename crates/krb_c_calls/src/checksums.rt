@@ -6,7 +6,7 @@ ghost use Rattle.krb_c_calls.specs.Handing.{IsAnswered};
 ghost use Rattle.krb_c_calls.specs.Checksums.{IsChecksumBy, RefusesChecksumBy, IsChecksum, RefusesChecksum, IsVerificationBy, IsVerification};
 
 use crate::handing::hand_out;
-use crate::refusal::Refusal;
+use crate::refusal::{DONE, Refusal};
 use crate::suites::checksum_suite_of;
 use krb_crypto::ChecksumSuite;
 use krb_crypto::prepared::ChecksumKey;
@@ -23,13 +23,8 @@ fn summed_by(
         (λ made. IsChecksumBy suite.now key.now usage message.now made.items)
         (λ e. RefusesChecksumBy suite.now key.now (refusal_status e)) }
 {
-    match ChecksumKey::new(suite, key, usage) {
-        Ok(prepared) => match prepared.checksum(alloc, message) {
-            Ok(octets) => Ok(octets),
-            Err(error) => Err(Refusal::Crypto(error)),
-        },
-        Err(error) => Err(Refusal::Crypto(error)),
-    }
+    let prepared = ChecksumKey::new(suite, key, usage)?;
+    Ok(prepared.checksum(alloc, message)?)
 }
 
 /// What `checksum` hands out, or why it refuses.
@@ -75,11 +70,11 @@ fn verified_by(
     ensures { IsVerificationBy suite.now key.now usage message.now checksum.now result }
 {
     let Ok(prepared) = ChecksumKey::new(suite, key, usage) else {
-        return 5;
+        return Refusal::KeySize.status();
     };
     match prepared.verify(message, checksum) {
-        Ok(()) => 0,
-        Err(_) => 7,
+        Ok(()) => DONE,
+        Err(_) => Refusal::Integrity.status(),
     }
 }
 
@@ -97,6 +92,6 @@ pub fn verify_checksum(
 {
     match checksum_suite_of(cksumtype) {
         Ok(suite) => verified_by(&suite, key, usage, message, checksum),
-        Err(_) => 3,
+        Err(refusal) => refusal.status(),
     }
 }

@@ -4,10 +4,8 @@ mod calls;
 mod numbers;
 mod record;
 mod shown;
-mod statuses;
 mod walked;
 
 pub use calls::{find, find_number, item_name, items};
 pub use record::ItemRecord;
 pub use shown::show;
-pub use statuses::{ABSENT, TOO_DEEP, TOO_LARGE};

@@ -8,8 +8,8 @@ ghost use Rattle.krb_c_calls.specs.Handing.{IsAnswered, IsHandedOut, IsKept};
 ghost use Rattle.krb_c_calls.specs.Calls.{IsEncryption, IsEncryptionBy, RefusesEncryption, RefusesEncryptionBy, IsDecryption, IsDecryptionBy, RefusesDecryption, RefusesDecryptionBy};
 ghost use Rattle.krb_c_calls.specs.Kept.{IsKeptBy, IsKeptKey, IsKeeping, RefusesKey};
 
-use crate::handing::{HasStatus, hand_out};
-use crate::refusal::Refusal;
+use crate::handing::hand_out;
+use crate::refusal::{DONE, Refusal};
 use crate::suites::cipher_suite_of;
 use krb_crypto::message_keys::{derive_message_keys, integrity_key_size};
 use krb_crypto::prepared::{OpeningKey, SealingKey};
@@ -53,14 +53,12 @@ fn kept_by(suite: &CipherSuite, etype: i32, key: &[u8], usage: i32) -> Result<Ke
     requires { etype_number suite.now ≡ etype }
     ensures { MatchResult result (λ kept. (kept.etype ≡ etype) × IsKeptBy suite.now key.now usage kept) (λ e. RefusesKey etype key.now (refusal_status e)) }
 {
-    match derive_message_keys(suite, key, usage) {
-        Ok(keys) => Ok(KeptKey {
-            etype,
-            ke: filled(keys.ke()),
-            ki: filled(keys.ki()),
-        }),
-        Err(error) => Err(Refusal::Crypto(error)),
-    }
+    let keys = derive_message_keys(suite, key, usage)?;
+    Ok(KeptKey {
+        etype,
+        ke: filled(keys.ke()),
+        ki: filled(keys.ki()),
+    })
 }
 
 fn kept_of(etype: i32, key: &[u8], usage: i32) -> Result<KeptKey, Refusal>
@@ -78,7 +76,7 @@ pub fn keep_key(etype: i32, key: &[u8], usage: i32, kept: &mut KeptKey) -> u32
     match kept_of(etype, key, usage) {
         Ok(made) => {
             *kept = made;
-            0
+            DONE
         }
         Err(refusal) => refusal.status(),
     }
@@ -100,13 +98,8 @@ fn encrypted_under(
     }
     let ke = &kept.ke[..suite.key_size()];
     let ki = &kept.ki[..integrity_key_size(suite)];
-    match SealingKey::from_message_keys(suite, ke, ki) {
-        Ok(prepared) => match prepared.encrypt(alloc, payload, confounder) {
-            Ok(octets) => Ok(octets),
-            Err(error) => Err(Refusal::Crypto(error)),
-        },
-        Err(error) => Err(Refusal::Crypto(error)),
-    }
+    let prepared = SealingKey::from_message_keys(suite, ke, ki)?;
+    Ok(prepared.encrypt(alloc, payload, confounder)?)
 }
 
 /// What `encrypt_kept` hands out, or why it refuses.
@@ -156,13 +149,8 @@ fn decrypted_under(
 {
     let ke = &kept.ke[..suite.key_size()];
     let ki = &kept.ki[..integrity_key_size(suite)];
-    match OpeningKey::from_message_keys(suite, ke, ki) {
-        Ok(prepared) => match prepared.decrypt(alloc, sealed) {
-            Ok(payload) => Ok(payload),
-            Err(error) => Err(Refusal::Crypto(error)),
-        },
-        Err(error) => Err(Refusal::Crypto(error)),
-    }
+    let prepared = OpeningKey::from_message_keys(suite, ke, ki)?;
+    Ok(prepared.decrypt(alloc, sealed)?)
 }
 
 /// What `decrypt_kept` hands out, or why it refuses.

@@ -5,8 +5,8 @@ ghost use Rattle.krb_c_calls.specs.Statuses.{refusal_status};
 ghost use Rattle.krb_c_calls.specs.Handing.{IsAnswered};
 ghost use Rattle.krb_c_calls.specs.Keys.{IsKeyOfPasswordBy, RefusesPasswordBy, IsKeyOfPassword, RefusesPassword, IsKeyOfSeedBy, RefusesSeedBy, IsKeyOfSeed, RefusesSeed, IsFolding};
 
-use crate::handing::{HasStatus, hand_out};
-use crate::refusal::Refusal;
+use crate::handing::hand_out;
+use crate::refusal::{DONE, Refusal};
 use crate::suites::cipher_suite_of;
 use krb_crypto::{Cipher, CipherSuite};
 use krb_crypto_block::in_place::n_fold_into;
@@ -22,10 +22,7 @@ fn key_of_password_by(
         (λ made. IsKeyOfPasswordBy suite.now password.now salt.now made.items)
         (λ e. RefusesPasswordBy suite.now password.now salt.now (refusal_status e)) }
 {
-    match suite.generate_key_from_password(alloc, password, salt) {
-        Ok(key) => Ok(key),
-        Err(error) => Err(Refusal::Crypto(error)),
-    }
+    Ok(suite.generate_key_from_password(alloc, password, salt)?)
 }
 
 fn key_of_password(
@@ -66,9 +63,7 @@ fn key_of_seed_by(alloc: Global, suite: &CipherSuite, seed: &[u8]) -> Result<Vec
     if seed.len() != suite.seed_bit_len() / 8 {
         return Err(Refusal::SeedSize);
     }
-    let Ok(seed) = Vec::from_slice(alloc, seed) else {
-        return Err(Refusal::Memory);
-    };
+    let seed = Vec::from_slice(alloc, seed)?;
     match suite.random_to_key(alloc, seed) {
         Ok(key) => Ok(key),
         Err(_) => Err(Refusal::Memory),
@@ -107,5 +102,5 @@ pub fn n_fold(input: &[u8], out: &mut [u8]) -> u32
         return Refusal::Empty.status();
     }
     n_fold_into(input, out);
-    0
+    DONE
 }

@@ -2,6 +2,7 @@
 #![tactic(auto)]
 
 mod checksums;
+mod errors;
 pub mod handing;
 pub mod items;
 mod kept;
@@ -19,7 +20,7 @@ pub use checksums::{checksum, summed, verify_checksum};
 pub use kept::{KeptKey, decrypt_kept, decrypted_kept, encrypt_kept, encrypted_kept, keep_key};
 pub use keys::{n_fold, random_to_key, string_to_key};
 pub use messages::{decrypt, decrypted, encrypt, encrypted};
-pub use refusal::Refusal;
+pub use refusal::{DONE, ROOM, Refusal};
 pub use sizes::{
     checksum_key_size, checksum_size, confounder_size, encrypted_size, key_size, seed_size,
 };

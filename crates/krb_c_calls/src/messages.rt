@@ -27,13 +27,8 @@ fn encrypted_by(
     if confounder.len() != suite.confounder_size() {
         return Err(Refusal::ConfounderSize);
     }
-    match SealingKey::new(suite, key, usage) {
-        Ok(prepared) => match prepared.encrypt(alloc, payload, confounder) {
-            Ok(octets) => Ok(octets),
-            Err(error) => Err(Refusal::Crypto(error)),
-        },
-        Err(error) => Err(Refusal::Crypto(error)),
-    }
+    let prepared = SealingKey::new(suite, key, usage)?;
+    Ok(prepared.encrypt(alloc, payload, confounder)?)
 }
 
 /// What `encrypt` hands out, or why it refuses.
@@ -86,13 +81,8 @@ fn decrypted_by(
         (λ made. IsDecryptionBy suite.now key.now usage sealed.now made.items)
         (λ e. RefusesDecryptionBy suite.now key.now usage sealed.now (refusal_status e)) }
 {
-    match OpeningKey::new(suite, key, usage) {
-        Ok(prepared) => match prepared.decrypt(alloc, sealed) {
-            Ok(payload) => Ok(payload),
-            Err(error) => Err(Refusal::Crypto(error)),
-        },
-        Err(error) => Err(Refusal::Crypto(error)),
-    }
+    let prepared = OpeningKey::new(suite, key, usage)?;
+    Ok(prepared.decrypt(alloc, sealed)?)
 }
 
 /// What `decrypt` hands out, or why it refuses.

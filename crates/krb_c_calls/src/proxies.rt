@@ -5,7 +5,6 @@ mod client;
 mod posted;
 mod reply;
 mod request;
-mod statuses;
 
 pub use client::{make_proxy_request, read_proxy_reply};
 pub use posted::PostedRecord;

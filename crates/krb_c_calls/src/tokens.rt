@@ -3,9 +3,7 @@
 
 mod keys;
 mod mics;
-mod refusal;
 mod wraps;
 
 pub use mics::{make_mic, verify_mic};
-pub use refusal::TokenRefusal;
 pub use wraps::{unwrap, wrap, wrap_in_clear};

@@ -1,5 +1,5 @@
 -- Places of fields that end an input.
-use Rattle.std.proofs.Common.{◌≡◌, ℕ, ◌+◌, ◌<◌, ◌≤◌, List, [], ◌++◌, length, take, drop, refl, sym, ap, ◌∙◌, append_assoc, arith}
+use Rattle.std.proofs.Common.{◌≡◌, ℕ, ◌+◌, List, [], ◌++◌, length, take, drop, refl, sym, ap, ◌∙◌, append_assoc, arith}
 use Rattle.std.proofs.lemmas.List.{length-append, drop_at, take_at}
 use Rattle.krb_der_core.specs.Tlv.{header, tlv}
 use Rattle.krb_c_frames.specs.Places.{StandsBefore}

@@ -1,11 +1,14 @@
 -- What is asked of a PAC: how many buffers it has, and each of them (MS-PAC 2.3 and 2.4).
-use Rattle.std.specs.Prelude.{◌≡◌, ◌⊎◌, ℕ, ◌≤◌, List, length, Some, slice_get}
+use Rattle.std.specs.Prelude.{◌≡◌, ◌⊎◌, ℕ, ◌≤◌, List, length, map, Some, slice_get}
 use Rattle.krb_pac.specs.declared.error.PacError.{PacError}
+use Rattle.krb_pac.specs.Entry.{Entry}
 use Rattle.krb_pac.specs.Kind.{code}
 use Rattle.krb_pac.specs.Layout.{Buffer, PacIs}
 use Rattle.krb_pac.specs.Rejected.{IsNotMemory, PacRejected}
+use Rattle.krb_c_calls.specs.Handing.{ArePut}
 use Rattle.krb_c_frames.specs.Places.{StandsAt}
 use Rattle.krb_c_frames.specs.Statuses.{pac_status}
+use Rattle.krb_c_frames.specs.declared.pac.PlaceRecord.{PlaceRecord}
 
 -- The octets are no PAC, and the status is that of their first error, which is never want of memory.
 pub record IsNoPac (octets : List ℕ) (status : ℕ) : Type 0 where
@@ -41,3 +44,20 @@ IsPacBuffer octets n ul_type offset size status =
     ((pac : List Buffer) × PacIs octets pac
     × (IsBufferAt octets pac n ul_type offset size status ⊎ ((length pac ≤ n) × (status ≡ 20) × NoBuffer ul_type offset size)))
     ⊎ (IsNoPac octets status × NoBuffer ul_type offset size)
+
+-- ---- all buffers
+
+-- what an entry says
+abbrev pub place_record : Entry → PlaceRecord
+place_record e = record { offset = e.offset; size = e.cb_buffer_size; ul_type = code e.ul_type }
+
+-- the octets of each buffer stand where its entry says
+abbrev pub AllStand : List ℕ → List Buffer → Type 0
+AllStand octets pac = (n : ℕ) (b : Buffer) → slice_get pac n ≡ Some b → StandsAt b.octets octets b.info.offset b.info.cb_buffer_size
+
+-- The octets are a PAC, and what the entry of each buffer says is counted and, where all fit, put at the front of the caller's (0), else nothing is
+-- (1); or they are no PAC, and nothing is put.
+abbrev pub IsPacBuffers : List ℕ → List PlaceRecord → List PlaceRecord → ℕ → ℕ → Type 0
+IsPacBuffers octets before after count status =
+    ((pac : List Buffer) × PacIs octets pac × AllStand octets pac × ArePut (map (λ b. place_record b.info) pac) before after count status)
+    ⊎ (IsNoPac octets status × (count ≡ 0) × (after ≡ before))

@@ -1,39 +1,36 @@
--- The statuses of what these calls refuse, beside those of krb_c_calls.
+-- Which refusal an error of these calls is, beside those of krb_c_calls.
 use Rattle.std.specs.Prelude.{ℕ}
-use Rattle.krb_pac.specs.declared.error.PacError.{PacError}
-use Rattle.krb_pac.specs.declared.error.PacError.TheVariants as pac
-use Rattle.krb_messages.specs.declared.kpasswd.error.MessageError.{MessageError}
-use Rattle.krb_messages.specs.declared.kpasswd.error.MessageError.TheVariants as message
+use Rattle.krb_c_calls.specs.Statuses.{message_refusal, refusal_status}
+use Rattle.krb_c_calls.specs.declared.refusal.Refusal.{Refusal}
+use Rattle.krb_c_calls.specs.declared.refusal.Refusal.TheVariants as refusals
 use Rattle.krb_messages.specs.declared.kpasswd.error.ReadFrameError.{ReadFrameError}
 use Rattle.krb_messages.specs.declared.kpasswd.error.ReadFrameError.TheVariants as frame
-use Rattle.krb_c_frames.specs.declared.refusal.Refusal.{Refusal}
-use Rattle.krb_c_frames.specs.declared.refusal.Refusal.TheVariants.{Memory, Absent, TooLong, Pac, Frame}
+use Rattle.krb_pac.specs.declared.error.PacError.{PacError}
+use Rattle.krb_pac.specs.declared.error.PacError.TheVariants as pac
 
--- an error of a PAC
+-- ---- an error of a PAC
+
+abbrev pub pac_refusal : PacError → Refusal
+pac_refusal pac.OutOfMemory = refusals.Memory
+pac_refusal (pac.IoError e) = refusals.Truncated
+pac_refusal (pac.Version n) = refusals.OtherVersion
+pac_refusal (pac.InvalidVersion n) = refusals.OtherVersion
+pac_refusal (pac.PacBufferType n) = refusals.PacType
+pac_refusal pac.InvalidRange = refusals.PacRange
+
+-- 10 too few octets; 25 another version; 26 a type of no buffer; 27 octets that are not there
 abbrev pub pac_status : PacError → ℕ
-pac_status pac.OutOfMemory = 2
-pac_status (pac.IoError e) = 10
-pac_status (pac.Version n) = 25
-pac_status (pac.InvalidVersion n) = 25
-pac_status (pac.PacBufferType n) = 26
-pac_status pac.InvalidRange = 27
+pac_status e = refusal_status (pac_refusal e)
 
--- an error of a message in a password frame, and of the frame
-abbrev pub message_status : MessageError → ℕ
-message_status message.InvalidData = 9
-message_status message.TruncatedData = 10
-message_status message.UnsupportedValue = 11
+-- ---- an error of a frame that changes a password
 
+abbrev pub frame_refusal : ReadFrameError → Refusal
+frame_refusal frame.OutOfMemory = refusals.Memory
+frame_refusal frame.Cut = refusals.Truncated
+frame_refusal frame.Version = refusals.OtherVersion
+frame_refusal (frame.ApMessage e) = message_refusal e
+frame_refusal (frame.KrbPriv e) = message_refusal e
+
+-- 2 out of memory; 10 cut in front of the messages; 25 another version; 9, 10, 11 of a message
 abbrev pub frame_status : ReadFrameError → ℕ
-frame_status frame.OutOfMemory = 2
-frame_status frame.Cut = 10
-frame_status frame.Version = 25
-frame_status (frame.ApMessage e) = message_status e
-frame_status (frame.KrbPriv e) = message_status e
-
-abbrev pub refusal_status : Refusal → ℕ
-refusal_status Memory = 2
-refusal_status Absent = 20
-refusal_status TooLong = 28
-refusal_status (Pac e) = pac_status e
-refusal_status (Frame e) = frame_status e
+frame_status e = refusal_status (frame_refusal e)

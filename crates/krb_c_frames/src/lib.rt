@@ -12,7 +12,6 @@ mod refusal;
 mod token;
 
 pub use making::{make_kdc_proxy_message, make_neg_token_init, make_neg_token_resp};
-pub use pac::{pac_buffer, pac_count};
+pub use pac::{PlaceRecord, pac_buffer, pac_buffers, pac_count};
 pub use password::{make_password_frame, password_frame};
-pub use refusal::Refusal;
 pub use token::{gss_token, make_gss_token};

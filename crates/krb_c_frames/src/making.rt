@@ -5,13 +5,14 @@ ghost use Rattle.krb_der_core.specs.Encoding.{optional};
 ghost use Rattle.krb_der_core.specs.Tlv.{tlv};
 ghost use Rattle.krb_c_calls.specs.Handing.{IsAnswered};
 ghost use Rattle.krb_c_calls.specs.MessageRules.{RefusesReading};
+ghost use Rattle.krb_c_calls.specs.Statuses.{refusal_status};
 ghost use Rattle.krb_c_frames.specs.Making.{IsMade, IsMadeAnswer, IsStateNumber, NoStateNumber, RefusesAnswer, made_answer, made_init, present};
 ghost use Rattle.krb_c_frames.specs.Negotiation.{field};
 ghost use Rattle.krb_c_frames.specs.Proxy.{proxy_octets};
 
 use krb_c_calls::Refusal;
-use krb_c_calls::handing::{HasStatus, put};
-use krb_c_calls::parts::read;
+use krb_c_calls::handing::hand_out;
+use krb_c_calls::parts::checked;
 use krb_der::{Der, DerEncode};
 use krb_der_core::{close_tlv, write_tlv};
 use krb_gss_tokens::gss_api::{ApplicationTag0, GssApiNegInit, NegTokenTarg1};
@@ -43,21 +44,13 @@ fn push_present(tag: u8, inner: u8, content: &[u8], out: &mut Vec<u8>) -> Result
     push_field(tag, inner, content, out)
 }
 
-/// Hands out octets that are the one encoding of a value.
-fn hand_out_checked<T: Der + Drop>(
-    alloc: Global,
-    made: &[u8],
-    out: &mut [u8],
-    size: &mut usize,
-) -> u32
-    ensures { IsAnswered (IsMade ⟦<T as DerEncode>⟧ made.now) (RefusesReading ⟦<T as DerEncode>⟧ made.now) out.old out.new size.new result }
+/// Octets that are the one encoding of a value; else why they are not.
+fn encoding<T: Der + Drop>(alloc: Global, made: Vec<u8>) -> Result<Vec<u8>, Refusal>
+    ensures { MatchResult result (λ octets. IsMade ⟦<T as DerEncode>⟧ made.items octets.items)
+        (λ e. RefusesReading ⟦<T as DerEncode>⟧ made.items (refusal_status e)) }
 {
-    *size = 0;
-    let status = read::<T>(alloc, made);
-    if status != 0 {
-        return status;
-    }
-    put(made, out, size)
+    checked::<T>(alloc, &made)?;
+    Ok(made)
 }
 
 /// The fields of a KDC-PROXY-MESSAGE without a hint, in its SEQUENCE.
@@ -69,6 +62,17 @@ fn proxy_of(alloc: Global, message: &[u8], domain: &[u8]) -> Result<Vec<u8>, All
     push_present(0xa1, 0x1b, domain, &mut made)?;
     close_tlv(0x30, 0, &mut made)?;
     Ok(made)
+}
+
+/// What `make_kdc_proxy_message` hands out, or why it refuses.
+fn proxy_made(alloc: Global, message: &[u8], domain: &[u8]) -> Result<Vec<u8>, Refusal>
+    ensures { MatchResult result
+        (λ made. IsMade ⟦<KdcProxyMessage as DerEncode>⟧ (proxy_octets message.now (present domain.now) []) made.items)
+        (λ e. RefusesReading ⟦<KdcProxyMessage as DerEncode>⟧ (proxy_octets message.now (present domain.now) [])
+        (refusal_status e)) }
+{
+    let made = proxy_of(alloc, message, domain)?;
+    encoding::<KdcProxyMessage>(alloc, made)
 }
 
 /// The KDC-PROXY-MESSAGE of this kerb-message, which is a message behind its length in four octets, and this target-domain, which is left out
@@ -85,13 +89,7 @@ pub fn make_kdc_proxy_message(
     ensures { IsAnswered (IsMade ⟦<KdcProxyMessage as DerEncode>⟧ (proxy_octets message.now (present domain.now) []))
         (RefusesReading ⟦<KdcProxyMessage as DerEncode>⟧ (proxy_octets message.now (present domain.now) [])) out.old out.new size.new result }
 {
-    match proxy_of(alloc, message, domain) {
-        Ok(made) => hand_out_checked::<KdcProxyMessage>(alloc, &made, out, size),
-        Err(_) => {
-            *size = 0;
-            2
-        }
-    }
+    hand_out(&proxy_made(alloc, message, domain), out, size)
 }
 
 /// The NegTokenInit of these contents under its choice [0].
@@ -130,6 +128,18 @@ fn init_of(
     Ok(made)
 }
 
+/// What `make_neg_token_init` hands out, or why it refuses.
+fn init_made(alloc: Global, mechanisms: &[u8], token: &[u8], mic: &[u8]) -> Result<Vec<u8>, Refusal>
+    ensures { MatchResult result
+        (λ made. IsMade ⟦<ApplicationTag0<GssApiNegInit> as DerEncode>⟧ (made_init mechanisms.now token.now mic.now)
+        made.items)
+        (λ e. RefusesReading ⟦<ApplicationTag0<GssApiNegInit> as DerEncode>⟧
+        (made_init mechanisms.now token.now mic.now) (refusal_status e)) }
+{
+    let made = init_of(alloc, mechanisms, token, mic)?;
+    encoding::<ApplicationTag0<GssApiNegInit>>(alloc, made)
+}
+
 /// The token that begins a negotiation (RFC 4178, 4.2.1; RFC 2743, 3.1): of the mechanisms' OBJECT IDENTIFIERs, one behind the other in DER, of
 /// mechToken and of mechListMIC. What has no octets is left out, and reqFlags are.
 ///
@@ -145,13 +155,7 @@ pub fn make_neg_token_init(
     ensures { IsAnswered (IsMade ⟦<ApplicationTag0<GssApiNegInit> as DerEncode>⟧ (made_init mechanisms.now token.now mic.now))
         (RefusesReading ⟦<ApplicationTag0<GssApiNegInit> as DerEncode>⟧ (made_init mechanisms.now token.now mic.now)) out.old out.new size.new result }
 {
-    match init_of(alloc, mechanisms, token, mic) {
-        Ok(made) => hand_out_checked::<ApplicationTag0<GssApiNegInit>>(alloc, &made, out, size),
-        Err(_) => {
-            *size = 0;
-            2
-        }
-    }
+    hand_out(&init_made(alloc, mechanisms, token, mic), out, size)
 }
 
 /// negState of its number.
@@ -195,6 +199,23 @@ fn answer_of(
     Ok(made)
 }
 
+/// What `make_neg_token_resp` hands out, or why it refuses.
+fn answer_made(
+    alloc: Global,
+    state: u32,
+    mechanism: &[u8],
+    token: &[u8],
+    mic: &[u8],
+) -> Result<Vec<u8>, Refusal>
+    ensures { MatchResult result
+        (λ made. IsMadeAnswer ⟦<NegTokenTarg1 as DerEncode>⟧ state mechanism.now token.now mic.now made.items)
+        (λ e. RefusesAnswer ⟦<NegTokenTarg1 as DerEncode>⟧ state mechanism.now token.now mic.now (refusal_status e)) }
+{
+    let number = state_of(state)?;
+    let made = answer_of(alloc, number, mechanism, token, mic)?;
+    encoding::<NegTokenTarg1>(alloc, made)
+}
+
 /// The later message of a negotiation, negTokenResp [1] (RFC 4178, 4.2.2): of negState by its number, 0 to 3, or 256 where it is left out; of the
 /// content of supportedMech's OBJECT IDENTIFIER, of responseToken and of mechListMIC. What has no octets is left out.
 ///
@@ -212,18 +233,5 @@ pub fn make_neg_token_resp(
     ensures { IsAnswered (IsMadeAnswer ⟦<NegTokenTarg1 as DerEncode>⟧ state mechanism.now token.now mic.now)
         (RefusesAnswer ⟦<NegTokenTarg1 as DerEncode>⟧ state mechanism.now token.now mic.now) out.old out.new size.new result }
 {
-    let number = match state_of(state) {
-        Ok(number) => number,
-        Err(refusal) => {
-            *size = 0;
-            return refusal.status();
-        }
-    };
-    match answer_of(alloc, number, mechanism, token, mic) {
-        Ok(made) => hand_out_checked::<NegTokenTarg1>(alloc, &made, out, size),
-        Err(_) => {
-            *size = 0;
-            2
-        }
-    }
+    hand_out(&answer_made(alloc, state, mechanism, token, mic), out, size)
 }

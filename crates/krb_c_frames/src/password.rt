@@ -6,13 +6,15 @@ ghost use Rattle.krb_c_calls.specs.Handing.{IsAnswered};
 ghost use Rattle.krb_der_core.specs.Reading.{TakesPrefix};
 ghost use Rattle.krb_messages.specs.Frame.{IsFramed, frame};
 ghost use Rattle.krb_c_frames.specs.Password.{HasSizes, IsFrameAt, IsMadeFrame, RefusesFrame, RefusesMaking};
+ghost use Rattle.krb_c_calls.specs.Statuses.{refusal_status};
+ghost use Rattle.krb_c_calls.specs.declared.refusal.Refusal.TheVariants as refusals;
 ghost use Rattle.krb_c_frames.specs.Statuses.{frame_status};
-ghost use Rattle.krb_c_frames.specs.declared.refusal.Refusal.TheVariants as refusal;
 
 use crate::element::element_size;
-use crate::refusal::Refusal;
-use krb_c_calls::handing::{HasStatus, hand_out};
-use krb_c_calls::parts::read;
+use crate::refusal::frame_refusal;
+use krb_c_calls::handing::hand_out;
+use krb_c_calls::parts::checked;
+use krb_c_calls::{DONE, Refusal};
 use krb_der::{Der, DerEncode};
 use krb_messages::kpasswd::{ReadFrameError, read_frame};
 use krb_messages::messages::{ApMessage, KrbPriv};
@@ -73,9 +75,9 @@ pub fn password_frame(
             *ap_size = ap;
             *priv_offset = HEADER_LENGTH + ap;
             *priv_size = private;
-            0
+            DONE
         }
-        Err(error) => Refusal::Frame(error).status(),
+        Err(error) => frame_refusal(error).status(),
     }
 }
 
@@ -100,17 +102,30 @@ fn joined(
 /// The frame of these octets, with its lengths.
 fn framed(alloc: Global, ap_message: &[u8], krb_priv: &[u8]) -> Result<Vec<u8>, Refusal>
     ensures { MatchResult result (λ made. (made.items ≡ frame ap_message.now krb_priv.now) × (length made.items < 2 ^ 16))
-        (λ e. (e ≡ refusal.Memory) ⊎ ((e ≡ refusal.TooLong) × (2 ^ 16 ≤ length (frame ap_message.now krb_priv.now)))) }
+        (λ e. (e ≡ refusals.Memory)
+        ⊎ ((e ≡ refusals.FrameSize) × (2 ^ 16 ≤ length (frame ap_message.now krb_priv.now)))) }
 {
     let first = ap_message.len();
     if first > MOST || krb_priv.len() > MOST || HEADER_LENGTH + first + krb_priv.len() > MOST {
-        return Err(Refusal::TooLong);
+        return Err(Refusal::FrameSize);
     }
     let whole = HEADER_LENGTH + first + krb_priv.len();
-    match joined(alloc, whole as u16, first as u16, ap_message, krb_priv) {
-        Ok(frame) => Ok(frame),
-        Err(_) => Err(Refusal::Memory),
-    }
+    Ok(joined(alloc, whole as u16, first as u16, ap_message, krb_priv)?)
+}
+
+/// What `make_frame` hands out, or why it refuses.
+fn frame_of<A: Der + Drop, B: Der + Drop>(
+    alloc: Global,
+    ap_message: &[u8],
+    krb_priv: &[u8],
+) -> Result<Vec<u8>, Refusal>
+    ensures { MatchResult result
+        (λ made. IsMadeFrame ⟦<A as DerEncode>⟧ ⟦<B as DerEncode>⟧ ap_message.now krb_priv.now made.items)
+        (λ e. RefusesMaking ⟦<A as DerEncode>⟧ ⟦<B as DerEncode>⟧ ap_message.now krb_priv.now (refusal_status e)) }
+{
+    checked::<A>(alloc, ap_message)?;
+    checked::<B>(alloc, krb_priv)?;
+    framed(alloc, ap_message, krb_priv)
 }
 
 /// The frame of two messages, whose types are these.
@@ -124,16 +139,7 @@ fn make_frame<A: Der + Drop, B: Der + Drop>(
     ensures { IsAnswered (IsMadeFrame ⟦<A as DerEncode>⟧ ⟦<B as DerEncode>⟧ ap_message.now krb_priv.now)
         (RefusesMaking ⟦<A as DerEncode>⟧ ⟦<B as DerEncode>⟧ ap_message.now krb_priv.now) out.old out.new size.new result }
 {
-    *size = 0;
-    let status = read::<A>(alloc, ap_message);
-    if status != 0 {
-        return status;
-    }
-    let status = read::<B>(alloc, krb_priv);
-    if status != 0 {
-        return status;
-    }
-    hand_out(&framed(alloc, ap_message, krb_priv), out, size)
+    hand_out(&frame_of::<A, B>(alloc, ap_message, krb_priv), out, size)
 }
 
 /// The frame of these two messages, with its lengths and the version 1 (RFC 3244, 2). `password_frame` reads it as them.

@@ -1,75 +1,35 @@
-//! Why a call refuses, and the status that names it.
+//! Which refusal an error of a PAC or of a frame is.
 
-ghost use Rattle.std.specs.Prelude.{◌≡◌, ◌<◌};
-ghost use Rattle.krb_c_frames.specs.Statuses.{frame_status, message_status, pac_status, refusal_status};
+ghost use Rattle.std.specs.Prelude.{◌≡◌};
+ghost use Rattle.krb_c_frames.specs.Statuses.{frame_refusal, pac_refusal};
 
-use krb_c_calls::handing::HasStatus;
-use krb_messages::kpasswd::{MessageError, ReadFrameError};
+use krb_c_calls::Refusal;
+use krb_messages::kpasswd::ReadFrameError;
 use krb_pac::PacError;
 
-/// Why a call refuses.
-#[derive(Debug, Drop)]
-pub enum Refusal {
-    /// An allocation failed.
-    Memory,
-    /// There is no such field, or not so many.
-    Absent,
-    /// The frame has more than 65535 octets.
-    TooLong,
-    /// The error of a PAC.
-    Pac(PacError),
-    /// The error of a frame that changes a password.
-    Frame(ReadFrameError),
-}
-
-impl HasStatus for Refusal {
-    ghost number_of = { refusal_status };
-
-    fn status(&self) -> u32 {
-        match self {
-            Refusal::Memory => 2,
-            Refusal::Absent => 20,
-            Refusal::TooLong => 28,
-            Refusal::Pac(error) => pac_number(error),
-            Refusal::Frame(error) => frame_number(error),
-        }
+/// Of a PAC.
+pub(crate) fn pac_refusal(error: &PacError) -> Refusal
+    ensures { result ≡ pac_refusal error.now }
+{
+    match error {
+        PacError::OutOfMemory => Refusal::Memory,
+        PacError::IoError(_) => Refusal::Truncated,
+        PacError::Version(_) => Refusal::OtherVersion,
+        PacError::InvalidVersion(_) => Refusal::OtherVersion,
+        PacError::PacBufferType(_) => Refusal::PacType,
+        PacError::InvalidRange => Refusal::PacRange,
     }
 }
 
-fn pac_number(error: &PacError) -> u32
-    ensures number { result ≡ pac_status error.now }
-    ensures refusal { 1 < result }
+/// Of a frame that changes a password.
+pub(crate) fn frame_refusal(error: ReadFrameError) -> Refusal
+    ensures { result ≡ frame_refusal error }
 {
     match error {
-        PacError::OutOfMemory => 2,
-        PacError::IoError(_) => 10,
-        PacError::Version(_) => 25,
-        PacError::InvalidVersion(_) => 25,
-        PacError::PacBufferType(_) => 26,
-        PacError::InvalidRange => 27,
-    }
-}
-
-fn message_number(error: &MessageError) -> u32
-    ensures number { result ≡ message_status error.now }
-    ensures refusal { 1 < result }
-{
-    match error {
-        MessageError::InvalidData => 9,
-        MessageError::TruncatedData => 10,
-        MessageError::UnsupportedValue => 11,
-    }
-}
-
-fn frame_number(error: &ReadFrameError) -> u32
-    ensures number { result ≡ frame_status error.now }
-    ensures refusal { 1 < result }
-{
-    match error {
-        ReadFrameError::OutOfMemory => 2,
-        ReadFrameError::Cut => 10,
-        ReadFrameError::Version => 25,
-        ReadFrameError::ApMessage(error) => message_number(error),
-        ReadFrameError::KrbPriv(error) => message_number(error),
+        ReadFrameError::OutOfMemory => Refusal::Memory,
+        ReadFrameError::Cut => Refusal::Truncated,
+        ReadFrameError::Version => Refusal::OtherVersion,
+        ReadFrameError::ApMessage(error) => Refusal::from(error),
+        ReadFrameError::KrbPriv(error) => Refusal::from(error),
     }
 }

@@ -7,8 +7,8 @@ ghost use Rattle.krb_c_calls.specs.Statuses.{refusal_status};
 ghost use Rattle.krb_c_frames.specs.Token.{IsMadeToken, IsNoMechanism, IsNoToken, IsToken, IsTokenAt, RefusesMechanism};
 
 use crate::place::Place;
-use krb_c_calls::Refusal;
-use krb_c_calls::handing::{HasStatus, hand_out};
+use krb_c_calls::handing::hand_out;
+use krb_c_calls::{DONE, Refusal};
 use krb_der_core::{Asn1DerError, Der, close_tlv, read_tlv, write_tlv};
 use krb_der_x509::ObjectIdentifierAsn1;
 use std::alloc::Global;
@@ -61,9 +61,9 @@ pub fn gss_token(
             let place = Place::before(token, inner, 0);
             *inner_offset = place.offset;
             *inner_size = place.size;
-            0
+            DONE
         }
-        Err(error) => Refusal::Der(error).status(),
+        Err(error) => Refusal::from(error).status(),
     }
 }
 
@@ -84,10 +84,7 @@ fn token_of(alloc: Global, mechanism: &[u8], inner: &[u8]) -> Result<Vec<u8>, Re
     ensures { MatchResult result (λ made. IsMadeToken mechanism.now inner.now made.items)
         (λ e. RefusesMechanism mechanism.now (refusal_status e)) }
 {
-    match made_token(alloc, mechanism, inner) {
-        Ok(token) => Ok(token),
-        Err(error) => Err(Refusal::Der(error)),
-    }
+    Ok(made_token(alloc, mechanism, inner)?)
 }
 
 /// The GSS token (RFC 2743, 3.1) of the mechanism whose OBJECT IDENTIFIER has this content, around the inner token. `gss_token` reads it as

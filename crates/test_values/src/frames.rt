@@ -2,8 +2,8 @@
 
 use crate::item_rows::{counted, found};
 use krb_c_frames::{
-    gss_token, make_gss_token, make_kdc_proxy_message, make_password_frame, pac_buffer, pac_count,
-    password_frame,
+    PlaceRecord, gss_token, make_gss_token, make_kdc_proxy_message, make_password_frame,
+    pac_buffer, pac_buffers, pac_count, password_frame,
 };
 use std::alloc::Global;
 use std::test::Fail;
@@ -90,6 +90,18 @@ fn buffer(octets: &[u8], n: usize) -> (u32, u32, usize, usize) {
     (status, kind, offset, size)
 }
 
+/// A place that no call wrote.
+const UNTOLD: PlaceRecord = PlaceRecord {
+    offset: 7,
+    size: 7,
+    ul_type: 7,
+};
+
+/// Type, offset and size.
+fn place(place: PlaceRecord) -> (u32, usize, usize) {
+    (place.ul_type, place.offset, place.size)
+}
+
 /// Whether a call handed out these octets.
 pub(crate) fn is_made(status: u32, size: usize, out: &[u8], right: &[u8]) -> bool {
     status == 0 && size == right.len() && out.starts_with(right)
@@ -104,6 +116,18 @@ fn finds_buffers(rt: HostRuntime) {
     assert!(&rt; buffer(&PAC, 1) == (0, 6, 48, 8));
     assert!(&rt; buffer(&PAC, 2) == (20, 0, 0, 0));
     assert!(&rt; buffer(&PAC[..55], 0) == (27, 0, 0, 0));
+}
+
+#[test]
+fn finds_all_buffers(rt: HostRuntime) {
+    let (mut places, mut count) = ([UNTOLD; 3], 7);
+    assert!(&rt; pac_buffers(&PAC, &mut places[..1], &mut count) == 1);
+    assert!(&rt; count == 2 && place(places[0]) == (7, 7, 7));
+    assert!(&rt; pac_buffers(&PAC[..55], &mut places, &mut count) == 27);
+    assert!(&rt; count == 0 && place(places[0]) == (7, 7, 7));
+    assert!(&rt; pac_buffers(&PAC, &mut places, &mut count) == 0);
+    assert!(&rt; count == 2 && place(places[0]) == (10, 40, 4));
+    assert!(&rt; place(places[1]) == (6, 48, 8) && place(places[2]) == (7, 7, 7));
 }
 
 #[test]

@@ -1,6 +1,7 @@
 //! Items of a KRB-ERROR that Heimdal made, of a request with two thousand encryption types, and of a part of 70,000 octets.
 
-use krb_c_calls::items::{ABSENT, ItemRecord, find, find_number, item_name, items};
+use krb_c_calls::Refusal;
+use krb_c_calls::items::{ItemRecord, find, find_number, item_name, items};
 use std::alloc::Global;
 use std::test::Fail;
 
@@ -73,7 +74,7 @@ fn finds_fields_of_an_error(rt: HostRuntime) {
     );
     assert_eq!(rt;
         found(alloc, b"KRB-ERROR", b"sname.name-string[2]", &ERROR),
-        (ABSENT, 0, 0)
+        (Refusal::Absent.status(), 0, 0)
     );
     assert_eq!(rt;
         found(alloc, b"KRB-ERROR", b"", &ERROR),
@@ -82,7 +83,7 @@ fn finds_fields_of_an_error(rt: HostRuntime) {
     );
     assert_eq!(rt;
         found(alloc, b"KRB-ERROR", b"e-text", &ERROR),
-        (ABSENT, 0, 0)
+        (Refusal::Absent.status(), 0, 0)
     );
     assert_eq!(rt;
         found(alloc, b"KRB-ERROR", b"realm.", &ERROR),
@@ -111,7 +112,10 @@ fn finds_numbers_of_an_error(rt: HostRuntime) {
     let alloc = rt.alloc();
     assert_eq!(rt; counted(alloc, b"KRB-ERROR", b"error-code", &ERROR), (0, 6));
     assert_eq!(rt; counted(alloc, b"KRB-ERROR", b"susec", &ERROR), (0, 824918));
-    assert_eq!(rt; counted(alloc, b"KRB-ERROR", b"cusec", &ERROR), (ABSENT, 0));
+    assert_eq!(rt;
+        counted(alloc, b"KRB-ERROR", b"cusec", &ERROR),
+        (Refusal::Absent.status(), 0)
+    );
     assert_eq!(rt;
         counted(alloc, b"KRB-ERROR", b"realm", &ERROR),
         (3, 0),
@@ -171,7 +175,7 @@ fn finds_one_of_two_thousand(rt: HostRuntime) -> Result<(), Fail> {
     assert_eq!(rt; counted(alloc, b"AS-REQ", last, &octets), (0, 18));
     assert_eq!(rt;
         found(alloc, b"AS-REQ", b"req-body.etype[2000]", &octets),
-        (ABSENT, 0, 0)
+        (Refusal::Absent.status(), 0, 0)
     );
     let (mut told, mut count, mut offset) = (Vec::from_elem(alloc, OTHER, 2030)?, 7, 7);
     let status = items(

@@ -1,13 +1,14 @@
 //! The calls.
 
 ghost use Rattle.std.specs.Prelude.{◌≡◌, map, MatchBool};
-ghost use Rattle.krb_c_calls.specs.Handing.{IsAnswered};
-ghost use Rattle.krb_c_calls.specs.Items.{ArePut, HoldsNumber, IsItemAnswer, IsItemNumber, IsItemsAnswer, IsNameOf, RefusesName, record_of};
+ghost use Rattle.krb_c_calls.specs.Handing.{ArePut, IsAnswered};
+ghost use Rattle.krb_c_calls.specs.Items.{HoldsNumber, IsItemAnswer, IsItemNumber, IsItemsAnswer, IsNameOf, RefusesName, record_of};
 
 use crate::handing::put;
 use crate::items::numbers::content_number;
 use crate::items::record::{ItemRecord, NO_ITEM, record_of};
-use crate::items::walked::{NUMBER, found, walked};
+use crate::items::walked::{found, walked};
+use crate::refusal::{DONE, ROOM, Refusal};
 use krb_schema::{Form, Item, Leaf, content_of, name_of_number};
 use std::alloc::Global;
 
@@ -17,12 +18,12 @@ fn put_items(found: &[Item], items: &mut [ItemRecord], count: &mut usize) -> u32
 {
     *count = found.len();
     if found.len() > items.len() {
-        return 1;
+        return ROOM;
     }
     'items: for n in 0..found.len() {
         items[n] = record_of(found[n]);
     }
-    0
+    DONE
 }
 
 /// All items of octets, which are to be one element of the type that its standard calls so, as `AS-REQ`, `EncTicketPart` or `KDC-PROXY-MESSAGE`: in the
@@ -48,7 +49,7 @@ pub fn items(
         Err(refused) => {
             *count = 0;
             *offset = refused.offset;
-            refused.status
+            refused.refusal.status()
         }
     }
 }
@@ -61,7 +62,7 @@ pub fn item_name(number: u32, out: &mut [u8], size: &mut usize) -> u32
         Some(name) => put(name.as_bytes(), out, size),
         None => {
             *size = 0;
-            NUMBER
+            Refusal::Number.status()
         }
     }
 }
@@ -82,11 +83,11 @@ pub fn find(
     match found(alloc, type_name, path, octets) {
         Ok(it) => {
             *item = record_of(it);
-            0
+            DONE
         }
-        Err(status) => {
+        Err(refusal) => {
             *item = NO_ITEM;
-            status
+            refusal.status()
         }
     }
 }
@@ -129,10 +130,10 @@ pub fn find_number(
     *number = 0;
     let item = match found(alloc, type_name, path, octets) {
         Ok(item) => item,
-        Err(status) => return status,
+        Err(refusal) => return refusal.status(),
     };
     if !holds_number(item.form) {
-        return NUMBER;
+        return Refusal::Number.status();
     }
     content_number(alloc, content_of(octets, item), number)
 }

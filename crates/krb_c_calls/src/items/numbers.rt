@@ -3,8 +3,7 @@
 ghost use Rattle.std.specs.Prelude.{◌≡◌};
 ghost use Rattle.krb_c_calls.specs.ContentNumbers.{IsContentNumber};
 
-use crate::items::statuses::TOO_LARGE;
-use crate::refusal::der_number;
+use crate::refusal::{DONE, Refusal};
 use krb_der_core::{Der, IntegerAsn1};
 use std::alloc::Global;
 
@@ -18,13 +17,13 @@ pub(crate) fn content_number(alloc: Global, content: &[u8], number: &mut i64) ->
     *number = 0;
     let value = match IntegerAsn1::read_element(alloc, INTEGER, content) {
         Ok(value) => value,
-        Err(error) => return der_number(&error),
+        Err(error) => return Refusal::from(error).status(),
     };
     match value.to_i64() {
         Some(small) => {
             *number = small;
-            0
+            DONE
         }
-        None => TOO_LARGE,
+        None => Refusal::TooLarge.status(),
     }
 }

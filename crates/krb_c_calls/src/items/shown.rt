@@ -1,18 +1,17 @@
 //! Octets as text and as JSON, by the types of the standards.
 
-ghost use Rattle.std.specs.Prelude.{◌≡◌, IfOk, OnOk};
+ghost use Rattle.std.specs.Prelude.{◌≡◌, IfOk, MatchResult, OnOk};
 ghost use Rattle.krb_c_calls.specs.Handing.{IsAnswered};
 ghost use Rattle.krb_c_calls.specs.Shown.{AreTokensOf, ArePrintable, IsShown, IsShownAs, RefusesShowing, secrets_of, written_of};
+ghost use Rattle.krb_c_calls.specs.Statuses.{refusal_status};
 
-use crate::handing::put;
+use crate::handing::hand_out;
 use crate::items::walked::walked;
+use crate::refusal::Refusal;
 use krb_schema::Item;
 use krb_show::{Page, Token, json_of_page, text_of_page};
 use krb_show_rows::{NoFormats, Secrets, push_items};
 use std::alloc::{AllocError, Global};
-
-/// An allocation failed.
-const MEMORY: u32 = 2;
 
 /// Whether the octets of keys and of passwords are shown.
 fn secrets_of(shows_secrets: bool) -> Secrets
@@ -66,6 +65,24 @@ fn text_of(
     written(alloc, is_json, &page)
 }
 
+/// What `show` hands out, or why it refuses.
+fn shown(
+    alloc: Global,
+    type_name: &[u8],
+    octets: &[u8],
+    is_json: bool,
+    secrets: Secrets,
+) -> Result<Vec<u8>, Refusal>
+    ensures { MatchResult result (λ text. IsShown is_json secrets type_name.now octets.now text.items)
+        (λ e. RefusesShowing type_name.now octets.now (refusal_status e)) }
+{
+    let items = match walked(alloc, type_name, octets) {
+        Ok(items) => items,
+        Err(refused) => return Err(refused.refusal),
+    };
+    Ok(text_of(alloc, is_json, secrets, octets, &items)?)
+}
+
 /// Octets that `items` takes as text: a line for each value, two blanks further in for each struct and list that it stands in; or as JSON on one line. All of
 /// it is printable ASCII. Octets that hold no element of DER stay octets, as a PAC. Where secrets are not shown, the word `hidden` stands in their place.
 ///
@@ -82,13 +99,10 @@ pub fn show(
     ensures { IsAnswered (IsShown is_json (secrets_of shows_secrets) type_name.now octets.now) (RefusesShowing type_name.now octets.now)
         out.old out.new size.new result }
 {
-    *size = 0;
-    let items = match walked(alloc, type_name, octets) {
-        Ok(items) => items,
-        Err(refused) => return refused.status,
-    };
-    match text_of(alloc, is_json, secrets_of(shows_secrets), octets, &items) {
-        Ok(text) => put(&text, out, size),
-        Err(_) => MEMORY,
-    }
+    let secrets = secrets_of(shows_secrets);
+    hand_out(
+        &shown(alloc, type_name, octets, is_json, secrets),
+        out,
+        size,
+    )
 }

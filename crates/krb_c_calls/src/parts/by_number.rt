@@ -4,7 +4,6 @@ ghost use Rattle.krb_c_calls.specs.Kinds.{IsChecked, reading_of};
 ghost use Rattle.krb_c_calls.specs.MessageRules.{IsReading};
 
 use crate::Refusal;
-use crate::handing::HasStatus;
 use crate::parts::kind::{MessageKind, kind_of};
 use crate::parts::messages::read;
 use krb_der::{Der, DerEncode};

@@ -4,20 +4,16 @@ ghost use Rattle.std.specs.Prelude.{MatchResult};
 ghost use Rattle.krb_c_calls.specs.Statuses.{refusal_status};
 ghost use Rattle.krb_c_calls.specs.MessageRules.{IsEncoding, IsReading, RefusesReading};
 
-use crate::Refusal;
-use crate::handing::HasStatus;
-use krb_der::{Asn1DerError, Der, DerEncode, from_bytes};
+use crate::refusal::{DONE, Refusal};
+use krb_der::{Der, DerEncode, from_bytes};
 use std::alloc::Global;
 
 /// Whether the octets are the encoding of a value; else why they are not.
-pub(crate) fn checked<T: Der + Drop>(alloc: Global, octets: &[u8]) -> Result<(), Refusal>
+pub fn checked<T: Der + Drop>(alloc: Global, octets: &[u8]) -> Result<(), Refusal>
     ensures { MatchResult result (λ _. IsEncoding ⟦<T as DerEncode>⟧ octets.now) (λ e. RefusesReading ⟦<T as DerEncode>⟧ octets.now (refusal_status e)) }
 {
-    let value: Result<T, Asn1DerError> = from_bytes(alloc, octets);
-    match value {
-        Ok(_value) => Ok(()),
-        Err(error) => Err(Refusal::Der(error)),
-    }
+    let _value: T = from_bytes(alloc, octets)?;
+    Ok(())
 }
 
 /// Whether the octets are the one encoding of a value (X.690, 10). 0 where they are; 2 where memory was wanting; else 9, 10 or 11, as their
@@ -26,7 +22,7 @@ pub fn read<T: Der + Drop>(alloc: Global, octets: &[u8]) -> u32
     ensures { IsReading ⟦<T as DerEncode>⟧ octets.now result }
 {
     match checked::<T>(alloc, octets) {
-        Ok(()) => 0,
+        Ok(()) => DONE,
         Err(refusal) => refusal.status(),
     }
 }

@@ -6,9 +6,10 @@ ghost use Rattle.krb_c_calls.specs.Statuses.{refusal_status};
 ghost use Rattle.krb_c_calls.specs.Parts.{IsOpening, IsPart, IsSealing, RefusesOpening, RefusesPart, RefusesSealing};
 
 use crate::handing::hand_out;
+use crate::messages::encrypted;
 use crate::parts::messages::checked;
+use crate::refusal::Refusal;
 use crate::suites::cipher_suite_of;
-use crate::{Refusal, encrypt};
 use krb_crypto::CipherSuite;
 use krb_crypto::prepared::OpeningKey;
 use krb_crypto::seal::PartError;
@@ -27,14 +28,11 @@ fn part_under<T: Der + Drop>(
     ensures { MatchResult result (IsPart ⟦<T as DerEncode>⟧ suite.now key.now usage sealed.now)
         (λ e. RefusesPart ⟦<T as DerEncode>⟧ suite.now key.now usage sealed.now (refusal_status e)) }
 {
-    let prepared = match OpeningKey::new(suite, key, usage) {
-        Ok(prepared) => prepared,
-        Err(error) => return Err(Refusal::Crypto(error)),
-    };
+    let prepared = OpeningKey::new(suite, key, usage)?;
     match open_part::<T>(alloc, &prepared, sealed) {
         Ok(value) => Ok(value),
-        Err(PartError::Crypto(error)) => Err(Refusal::Crypto(error)),
-        Err(PartError::Der(error)) => Err(Refusal::Der(error)),
+        Err(PartError::Crypto(error)) => Err(Refusal::from(error)),
+        Err(PartError::Der(error)) => Err(Refusal::from(error)),
     }
 }
 
@@ -51,10 +49,7 @@ fn opened<T: Der + Drop>(
 {
     let suite = cipher_suite_of(etype)?;
     let value = part_under::<T>(alloc, &suite, key, usage, sealed)?;
-    match to_vec(alloc, &value) {
-        Ok(made) => Ok(made),
-        Err(error) => Err(Refusal::Der(error)),
-    }
+    Ok(to_vec(alloc, &value)?)
 }
 
 /// The encoding of the part that was sealed to the octets, without the zeros that the suite padded it with (RFC 3961, 5.3; RFC 4120, 5).
@@ -77,6 +72,23 @@ pub fn open<T: Der + Drop>(
     hand_out(&opened::<T>(alloc, etype, key, usage, sealed), out, size)
 }
 
+/// What `seal` hands out, or why it refuses.
+fn sealed<T: Der + Drop>(
+    alloc: Global,
+    etype: i32,
+    key: &[u8],
+    usage: i32,
+    confounder: &[u8],
+    part: &[u8],
+) -> Result<Vec<u8>, Refusal>
+    ensures { MatchResult result
+        (λ made. IsSealing ⟦<T as DerEncode>⟧ etype key.now usage confounder.now part.now made.items)
+        (λ e. RefusesSealing ⟦<T as DerEncode>⟧ etype key.now confounder.now part.now (refusal_status e)) }
+{
+    checked::<T>(alloc, part)?;
+    encrypted(alloc, etype, key, usage, confounder, part)
+}
+
 /// The part's octets, sealed as `crate::encrypt` seals them, where they are the one encoding of a value of the type (RFC 3961, 5.3).
 ///
 /// Where they are not, status 9, 10 or 11, as their first error is; else those of `crate::encrypt`. 2 where an allocation failed. On a
@@ -94,8 +106,9 @@ pub fn seal<T: Der + Drop>(
     ensures { IsAnswered (IsSealing ⟦<T as DerEncode>⟧ etype key.now usage confounder.now part.now)
         (RefusesSealing ⟦<T as DerEncode>⟧ etype key.now confounder.now part.now) out.old out.new size.new result }
 {
-    match checked::<T>(alloc, part) {
-        Ok(()) => encrypt(alloc, etype, key, usage, confounder, part, out, size),
-        Err(refusal) => hand_out(&Err(refusal), out, size),
-    }
+    hand_out(
+        &sealed::<T>(alloc, etype, key, usage, confounder, part),
+        out,
+        size,
+    )
 }

@@ -1,33 +1,51 @@
 //! The client's half.
 
-ghost use Rattle.std.specs.Prelude.{◌≡◌, IfOk, MatchOption};
+ghost use Rattle.std.specs.Prelude.{◌≡◌, ◌⊎◌, MatchResult};
 ghost use Rattle.std.specs.Str.{IsAscii};
 ghost use Rattle.krb_c_calls.specs.Handing.{IsAnswered};
 ghost use Rattle.krb_kdc_proxy.specs.Replies.{reply_types};
 ghost use Rattle.krb_kdc_proxy.specs.Requests.{types};
 ghost use Rattle.krb_c_calls.specs.Clients.{IsReplyTold, IsRequestMade, RefusesRequest};
+ghost use Rattle.krb_c_calls.specs.Statuses.{refusal_status};
+ghost use Rattle.krb_c_calls.specs.declared.refusal.Refusal.TheVariants as refusals;
 
-use crate::handing::{HasStatus, hand_out};
+use crate::handing::hand_out;
+use crate::refusal::{DONE, Refusal};
 use krb_der::DerEncode;
 use krb_kdc_proxy::{read_reply, write_request};
 use krb_messages::messages::{
     ApRep, ApReq, AsRep, AsReq, KdcProxyMessage, KrbError, KrbPriv, TgsRep, TgsReq,
 };
 use krb_types::data_types::KerberosStringAsn1;
-use std::alloc::{AllocError, Global};
+use std::alloc::Global;
 use std::str;
 
-/// The realm of these octets; `None` where one of them is past 127.
-fn realm_of(alloc: Global, octets: &[u8]) -> Result<Option<KerberosStringAsn1>, AllocError>
-    ensures { IfOk result (λ realm. MatchOption realm (IsAscii octets.now → ⊥) (λ r. (r ≡ octets.now) × IsAscii octets.now)) }
+/// The realm of these octets; `Invalid` where one of them is past 127.
+fn realm_of(alloc: Global, octets: &[u8]) -> Result<KerberosStringAsn1, Refusal>
+    ensures { MatchResult result (λ realm. (realm ≡ octets.now) × IsAscii octets.now)
+        (λ e. (e ≡ refusals.Memory) ⊎ ((e ≡ refusals.Invalid) × (IsAscii octets.now → ⊥))) }
 {
     let Ok(text) = str::from_utf8(octets) else {
-        return Ok(None);
+        return Err(Refusal::Invalid);
     };
     match KerberosStringAsn1::from_string(String::from_str(alloc, text)?) {
-        Ok(realm) => Ok(Some(realm)),
-        Err(_) => Ok(None),
+        Ok(realm) => Ok(realm),
+        Err(_) => Err(Refusal::Invalid),
     }
+}
+
+/// What `make_proxy_request` hands out, or why it refuses.
+fn request_made(alloc: Global, message: &[u8], domain: &[u8]) -> Result<Vec<u8>, Refusal>
+    ensures { MatchResult result
+        (λ made. IsRequestMade ⟦<KdcProxyMessage as DerEncode>⟧
+        (types ⟦<AsReq as DerEncode>⟧ ⟦<TgsReq as DerEncode>⟧ ⟦<ApReq as DerEncode>⟧ ⟦<KrbPriv as DerEncode>⟧)
+        message.now domain.now made.items)
+        (λ e. RefusesRequest ⟦<KdcProxyMessage as DerEncode>⟧
+        (types ⟦<AsReq as DerEncode>⟧ ⟦<TgsReq as DerEncode>⟧ ⟦<ApReq as DerEncode>⟧ ⟦<KrbPriv as DerEncode>⟧)
+        message.now domain.now (refusal_status e)) }
+{
+    let realm = realm_of(alloc, domain)?;
+    Ok(write_request(alloc, message, realm, None)?)
 }
 
 /// What a client posts to a proxy: the KDC-PROXY-MESSAGE of this message, which has no length in front of it, for this realm, with no dclocator-hint, as
@@ -48,15 +66,7 @@ pub fn make_proxy_request(
         (types ⟦<AsReq as DerEncode>⟧ ⟦<TgsReq as DerEncode>⟧ ⟦<ApReq as DerEncode>⟧ ⟦<KrbPriv as DerEncode>⟧) message.now domain.now)
         out.old out.new size.new result }
 {
-    *size = 0;
-    let Ok(found) = realm_of(alloc, domain) else {
-        return 2;
-    };
-    let Some(realm) = found else {
-        return 9;
-    };
-    let made = write_request(alloc, message, realm, None);
-    hand_out(&made, out, size)
+    hand_out(&request_made(alloc, message, domain), out, size)
 }
 
 /// Where the reply stands that a proxy answered, without its length, which is in the four octets before it, as `krb_kdc_proxy::read_reply` reads it.
@@ -77,8 +87,8 @@ pub fn read_proxy_reply(
         Ok(reply) => {
             *message_offset = reply.offset;
             *message_size = reply.datagram.len();
-            0
+            DONE
         }
-        Err(error) => HasStatus::status(&error),
+        Err(error) => Refusal::from(error).status(),
     }
 }

@@ -3,8 +3,8 @@
 ghost use Rattle.krb_kdc_proxy.specs.Requests.{types};
 ghost use Rattle.krb_c_calls.specs.Requests.{IsLenientTold, IsRequestTold};
 
-use crate::handing::HasStatus;
 use crate::proxies::posted::{NOTHING, PostedRecord, told_lenient, told_request};
+use crate::refusal::{DONE, Refusal};
 use krb_der::DerEncode;
 use krb_kdc_proxy::{read_request, read_request_lenient};
 use krb_messages::messages::{ApReq, AsReq, KdcProxyMessage, KrbPriv, TgsReq};
@@ -22,11 +22,11 @@ pub fn proxy_request(alloc: Global, octets: &[u8], posted: &mut PostedRecord) ->
     match read_request(alloc, octets) {
         Ok(request) => {
             *posted = told_request(octets, &request);
-            0
+            DONE
         }
         Err(error) => {
             *posted = NOTHING;
-            HasStatus::status(&error)
+            Refusal::from(error).status()
         }
     }
 }
@@ -38,11 +38,11 @@ pub fn proxy_request_lenient(alloc: Global, octets: &[u8], posted: &mut PostedRe
     match read_request_lenient(alloc, octets) {
         Ok(request) => {
             *posted = told_lenient(octets, &request);
-            0
+            DONE
         }
         Err(error) => {
             *posted = NOTHING;
-            HasStatus::status(&error)
+            Refusal::from(error).status()
         }
     }
 }

@@ -2,11 +2,10 @@
 
 ghost use Rattle.std.specs.Prelude.{◌≡◌, MatchResult};
 ghost use Rattle.krb_c_calls.specs.TokenKeys.{IsKeyOf, RefusesKey, sender_of};
-ghost use Rattle.krb_c_calls.specs.TokenStatuses.{token_status};
+ghost use Rattle.krb_c_calls.specs.Statuses.{refusal_status};
 
+use crate::refusal::Refusal;
 use crate::suites::cipher_suite_of;
-use crate::tokens::refusal::TokenRefusal;
-use krb_crypto::KerberosCryptoError;
 use krb_gss_per_message::{Sender, TokenKey};
 
 fn sender(sent_by_acceptor: bool) -> Sender
@@ -25,17 +24,12 @@ pub(crate) fn token_key(
     octets: &[u8],
     sent_by_acceptor: bool,
     acceptor_subkey: bool,
-) -> Result<TokenKey<'_>, TokenRefusal>
+) -> Result<TokenKey<'_>, Refusal>
     ensures { MatchResult result
         (λ key. IsKeyOf etype octets.now sent_by_acceptor acceptor_subkey key)
-        (λ e. RefusesKey etype octets.now (token_status e)) }
+        (λ e. RefusesKey etype octets.now (refusal_status e)) }
 {
-    let Ok(suite) = cipher_suite_of(etype) else {
-        return Err(TokenRefusal::Number);
-    };
-    match TokenKey::new(suite, octets, sender(sent_by_acceptor), acceptor_subkey) {
-        Ok(key) => Ok(key),
-        Err(KerberosCryptoError::KeyLength(_, _)) => Err(TokenRefusal::KeySize),
-        Err(_) => Err(TokenRefusal::Number),
-    }
+    let suite = cipher_suite_of(etype)?;
+    let sender = sender(sent_by_acceptor);
+    Ok(TokenKey::new(suite, octets, sender, acceptor_subkey)?)
 }

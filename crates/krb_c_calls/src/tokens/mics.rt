@@ -3,11 +3,11 @@
 ghost use Rattle.std.specs.Prelude.{◌≡◌, MatchResult};
 ghost use Rattle.krb_c_calls.specs.Handing.{IsAnswered};
 ghost use Rattle.krb_c_calls.specs.Mics.{IsMicMade, RefusesMaking, HoldsAsMic, RefusesVerifying, IsMicVerification};
-ghost use Rattle.krb_c_calls.specs.TokenStatuses.{token_status};
+ghost use Rattle.krb_c_calls.specs.Statuses.{refusal_status};
 
-use crate::handing::{HasStatus, hand_out};
+use crate::handing::hand_out;
+use crate::refusal::{DONE, Refusal};
 use crate::tokens::keys::token_key;
-use crate::tokens::refusal::TokenRefusal;
 use std::alloc::Global;
 
 fn mic_made(
@@ -18,16 +18,14 @@ fn mic_made(
     acceptor_subkey: bool,
     sequence_number: u64,
     message: &[u8],
-) -> Result<Vec<u8>, TokenRefusal>
+) -> Result<Vec<u8>, Refusal>
     ensures { MatchResult result
         (λ made. IsMicMade etype key.now sent_by_acceptor acceptor_subkey sequence_number message.now made.items)
-        (λ e. RefusesMaking etype key.now (token_status e)) }
+        (λ e. RefusesMaking etype key.now (refusal_status e)) }
 {
     let key = token_key(etype, key, sent_by_acceptor, acceptor_subkey)?;
-    match krb_gss_per_message::make_mic(alloc, &key, sequence_number, message) {
-        Ok(token) => Ok(token),
-        Err(error) => Err(TokenRefusal::Protection(error)),
-    }
+    let token = krb_gss_per_message::make_mic(alloc, &key, sequence_number, message)?;
+    Ok(token)
 }
 
 /// The MIC token of a message under this sequence number (RFC 4121, 4.2.4 and 4.2.6.1). Status 3 for a number of no suite of RFC 4121, else 5 for a key
@@ -66,16 +64,15 @@ fn number_of_mic(
     acceptor_subkey: bool,
     message: &[u8],
     token: &[u8],
-) -> Result<u64, TokenRefusal>
+) -> Result<u64, Refusal>
     ensures { MatchResult result
         (λ number. HoldsAsMic etype key.now sent_by_acceptor acceptor_subkey message.now token.now number)
-        (λ e. RefusesVerifying etype key.now sent_by_acceptor acceptor_subkey message.now token.now (token_status e)) }
+        (λ e. RefusesVerifying etype key.now sent_by_acceptor acceptor_subkey message.now token.now
+        (refusal_status e)) }
 {
     let key = token_key(etype, key, sent_by_acceptor, acceptor_subkey)?;
-    match krb_gss_per_message::verify_mic(alloc, &key, message, token) {
-        Ok(number) => Ok(number),
-        Err(error) => Err(TokenRefusal::Protection(error)),
-    }
+    let number = krb_gss_per_message::verify_mic(alloc, &key, message, token)?;
+    Ok(number)
 }
 
 /// Whether a MIC token holds of the message: 0 where it does, and then `sequence_number` is the token's; else it becomes 0. Status 3 for a number of no suite
@@ -106,7 +103,7 @@ pub fn verify_mic(
     match found {
         Ok(number) => {
             *sequence_number = number;
-            0
+            DONE
         }
         Err(refusal) => {
             *sequence_number = 0;

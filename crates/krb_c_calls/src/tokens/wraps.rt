@@ -3,12 +3,12 @@
 ghost use Rattle.std.specs.Prelude.{◌≡◌, MatchResult};
 ghost use Rattle.krb_c_calls.specs.Handing.{IsAnswered};
 ghost use Rattle.krb_c_calls.specs.Mics.{RefusesMaking};
-ghost use Rattle.krb_c_calls.specs.TokenStatuses.{token_status};
+ghost use Rattle.krb_c_calls.specs.Statuses.{refusal_status};
 ghost use Rattle.krb_c_calls.specs.Wraps.{IsSealedWrap, RefusesSealing, IsClearWrap, IsHeldBy, RefusesUnwrapping, IsUnwrapping};
 
-use crate::handing::{HasStatus, hand_out, put};
+use crate::handing::{hand_out, put};
+use crate::refusal::Refusal;
 use crate::tokens::keys::token_key;
-use crate::tokens::refusal::TokenRefusal;
 use krb_crypto::confounder::confounder_of;
 use krb_gss_per_message::Unwrapped;
 use std::alloc::Global;
@@ -23,20 +23,25 @@ fn sealed_wrap(
     rotation: u16,
     confounder: &[u8],
     message: &[u8],
-) -> Result<Vec<u8>, TokenRefusal>
+) -> Result<Vec<u8>, Refusal>
     ensures { MatchResult result
         (λ made. IsSealedWrap etype key.now sent_by_acceptor acceptor_subkey sequence_number rotation confounder.now message.now made.items)
-        (λ e. RefusesSealing etype key.now confounder.now (token_status e)) }
+        (λ e. RefusesSealing etype key.now confounder.now (refusal_status e)) }
 {
     if confounder.len() != 16 {
-        return Err(TokenRefusal::ConfounderSize);
+        return Err(Refusal::ConfounderSize);
     }
     let key = token_key(etype, key, sent_by_acceptor, acceptor_subkey)?;
     let confounder: [u8; 16] = confounder_of(confounder);
-    match krb_gss_per_message::wrap(alloc, &key, sequence_number, rotation, &confounder, message) {
-        Ok(token) => Ok(token),
-        Err(error) => Err(TokenRefusal::Protection(error)),
-    }
+    let token = krb_gss_per_message::wrap(
+        alloc,
+        &key,
+        sequence_number,
+        rotation,
+        &confounder,
+        message,
+    )?;
+    Ok(token)
 }
 
 /// The Wrap token of a message with confidentiality (RFC 4121, 4.2.4), under this sequence number and rotated to the right by `rotation`. Status 4 for a
@@ -81,16 +86,20 @@ fn clear_wrap(
     sequence_number: u64,
     rotation: u16,
     message: &[u8],
-) -> Result<Vec<u8>, TokenRefusal>
+) -> Result<Vec<u8>, Refusal>
     ensures { MatchResult result
         (λ made. IsClearWrap etype key.now sent_by_acceptor acceptor_subkey sequence_number rotation message.now made.items)
-        (λ e. RefusesMaking etype key.now (token_status e)) }
+        (λ e. RefusesMaking etype key.now (refusal_status e)) }
 {
     let key = token_key(etype, key, sent_by_acceptor, acceptor_subkey)?;
-    match krb_gss_per_message::wrap_in_clear(alloc, &key, sequence_number, rotation, message) {
-        Ok(token) => Ok(token),
-        Err(error) => Err(TokenRefusal::Protection(error)),
-    }
+    let token = krb_gss_per_message::wrap_in_clear(
+        alloc,
+        &key,
+        sequence_number,
+        rotation,
+        message,
+    )?;
+    Ok(token)
 }
 
 /// The Wrap token of a message without confidentiality (RFC 4121, 4.2.4), under this sequence number and rotated to the right by `rotation`. Status 3 for a
@@ -130,16 +139,14 @@ fn unwrapped(
     sent_by_acceptor: bool,
     acceptor_subkey: bool,
     token: &[u8],
-) -> Result<Unwrapped, TokenRefusal>
+) -> Result<Unwrapped, Refusal>
     ensures { MatchResult result
         (λ held. IsHeldBy etype key.now sent_by_acceptor acceptor_subkey token.now held.sealed held.sequence_number held.message.items)
-        (λ e. RefusesUnwrapping etype key.now sent_by_acceptor acceptor_subkey token.now (token_status e)) }
+        (λ e. RefusesUnwrapping etype key.now sent_by_acceptor acceptor_subkey token.now (refusal_status e)) }
 {
     let key = token_key(etype, key, sent_by_acceptor, acceptor_subkey)?;
-    match krb_gss_per_message::unwrap(alloc, &key, token) {
-        Ok(held) => Ok(held),
-        Err(error) => Err(TokenRefusal::Protection(error)),
-    }
+    let held = krb_gss_per_message::unwrap(alloc, &key, token)?;
+    Ok(held)
 }
 
 /// The message that a Wrap token holds, sealed or not and whatever its rotation, with its sequence number and whether it was sealed; where it holds none, these

@@ -1,4 +1,4 @@
-use Rattle.std.proofs.Common.{List, ℕ, ◌<◌, ◌++◌, length, take, drop, ap, ◌∙◌, arith, slice_set}
+use Rattle.std.proofs.Common.{List, ◌<◌, ◌++◌, length, take, drop, ap, ◌∙◌, arith, slice_set}
 use Rattle.std.specs.Prelude.{map}
 use Rattle.krb_c_calls.specs.Items.{record_of}
 use Rattle.krb_c_calls.specs.declared.items.record.ItemRecord.{ItemRecord}

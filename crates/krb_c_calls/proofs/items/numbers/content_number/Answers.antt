@@ -16,4 +16,4 @@ returns-in-Some c =
 pub returns : goal.returns
 returns c =
     let content = tlv_same 2 2 c.args.content.now (shortest c.in-Ok.value) c.in-Ok.ensures.found in
-    inl (c.in-Ok.value, content, inr (refl, c.in-None.ensures, refl))
+    inl (c.in-Ok.value, content, inr (c.status-in-None.ensures.number, c.in-None.ensures, refl))

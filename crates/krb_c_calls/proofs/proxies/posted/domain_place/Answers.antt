@@ -1,4 +1,4 @@
-use Rattle.std.proofs.Common.{◌≡◌, ◌+◌, ◌≤◌, length, take, drop, refl, sym, arith}
+use Rattle.std.proofs.Common.{◌≡◌, length, take, drop, refl, sym, arith}
 use Rattle.std.proofs.lemmas.List.{length-drop, length-take-le}
 use Rattle.krb_c_calls.proofs.Domains.{domain_at, domain_there}
 use Rattle.krb_c_calls.proofs.proxies.posted.domain_place.Goals as goal
