@@ -2,6 +2,7 @@
 
 ghost use Rattle.std.specs.Prelude.{◌≡◌, ◌<◌, ◌==◌, None, [], filter, length, nat_lt, not, pos, MatchBool, IfOk, IfErr};
 ghost use Rattle.std.specs.List.{list_any};
+ghost use Rattle.krb_files.specs.Ccache.{Ccache, CcacheIs};
 ghost use Rattle.krb_files.specs.Config.{is_removed};
 ghost use Rattle.krb_file_tools.specs.Answers.{IsMemoryOr};
 ghost use Rattle.krb_file_tools.specs.Back.{AreEntriesOf, CcacheRefusal, CredentialError, FirstBroken, IsEntryOf, IsKirbiOf, IsMessageOf};
@@ -317,11 +318,13 @@ fn left_out_of(
 ///
 /// The first rule that is broken is the error, in this order: `Ccache`, `NoCredential`; of each
 /// credential, from the first, `Name` of the client or the server, `Time` where no time is so many
-/// seconds after 1970, `Ticket`. `OutOfMemory` where an allocation fails.
+/// seconds after 1970, `Ticket`. `OutOfMemory` where an allocation fails, and only where the octets
+/// are a cache.
 pub fn kirbi_of_ccache(alloc: Global, octets: &[u8]) -> Result<Converted, ConvertError>
     ensures found { IfOk result (λ c. IsKirbiOf ⟦<KrbCred as DerEncode>⟧ ⟦<EncKrbCredPart as DerEncode>⟧ ⟦<Ticket as DerEncode>⟧
         octets.now c.octets.items c.left_out.items) }
     ensures rejected { IfErr result (λ e. IsMemoryOr e (CcacheRefusal ⟦<Ticket as DerEncode>⟧ octets.now e)) }
+    ensures memory { IfErr result (λ e. e ≡ errors.OutOfMemory → (cache : Ccache) × CcacheIs octets.now cache) }
 {
     let cache = match CcacheView::new(octets) {
         Ok(cache) => cache,
