@@ -141,7 +141,7 @@ shapes =
     ∷ shape.Sequence 48 19 11
     ∷ shape.Tagged 99 29
     ∷ shape.Sequence 48 30 2
-    ∷ shape.Holding 1 8
+    ∷ shape.Holding 1 7
     ∷ shape.Sequence 48 32 2
     ∷ shape.SequenceOf 48 33 false
     ∷ shape.Sequence 48 34 2
@@ -193,7 +193,7 @@ shapes =
     ∷ shape.Tagged 125 80
     ∷ shape.Sequence 48 130 11
     ∷ shape.Leaf 2 (leaf.Number 30)
-    ∷ shape.Holding 9 2
+    ∷ shape.Holding 8 2
     ∷ shape.Sequence 48 141 13
     ∷ shape.Tagged 126 85
     ∷ shape.Sequence 48 154 2
@@ -230,7 +230,7 @@ shapes =
     ∷ shape.Sequence 48 206 2
     ∷ shape.Sequence 48 208 5
     ∷ shape.Sequence 48 213 2
-    ∷ shape.Holding 11 3
+    ∷ shape.Holding 10 3
     ∷ shape.Sequence 48 215 2
     ∷ shape.Sequence 48 217 3
     ∷ shape.Sequence 48 220 4
@@ -241,10 +241,10 @@ shapes =
     ∷ shape.Tagged 160 133
     ∷ shape.Tagged 161 136
     ∷ shape.SequenceOf 48 9 false
-    ∷ shape.Holding 14 3
+    ∷ shape.Holding 13 3
     ∷ shape.Sequence 48 233 4
     ∷ shape.Leaf 3 leaf.Flags
-    ∷ shape.Holding 17 3
+    ∷ shape.Holding 16 3
     ∷ shape.Sequence 48 237 4
     ∷ []
 
@@ -263,17 +263,17 @@ fields =
     ∷ (Some 161, true, true, codes "kvno", None, role.None, 1)
     ∷ (Some 162, true, false, codes "cipher", None, role.None, 8)
     ∷ (Some 160, true, false, codes "keytype", Some kinds.EncryptionType, role.None, 1)
-    ∷ (Some 161, true, false, codes "keyvalue", None, role.None, 7)
+    ∷ (Some 161, true, false, codes "keyvalue", None, role.Key, 7)
     ∷ (Some 160, true, false, codes "cksumtype", Some kinds.ChecksumType, role.None, 1)
     ∷ (Some 161, true, false, codes "checksum", None, role.Checksum, 6)
     ∷ (Some 160, true, false, codes "tkt-vno", None, role.None, 26)
-    ∷ (Some 161, true, false, codes "realm", None, role.None, 11)
-    ∷ (Some 162, true, false, codes "sname", None, role.None, 15)
-    ∷ (Some 163, true, false, codes "enc-part", None, role.None, 23)
+    ∷ (Some 161, true, false, codes "realm", None, role.ServerRealm, 11)
+    ∷ (Some 162, true, false, codes "sname", None, role.ServerName, 15)
+    ∷ (Some 163, true, false, codes "enc-part", None, role.EncTicketPart, 23)
     ∷ (Some 160, true, false, codes "flags", Some kinds.TicketFlag, role.None, 5)
     ∷ (Some 161, true, false, codes "key", None, role.None, 24)
-    ∷ (Some 162, true, false, codes "crealm", None, role.None, 11)
-    ∷ (Some 163, true, false, codes "cname", None, role.None, 15)
+    ∷ (Some 162, true, false, codes "crealm", None, role.ClientRealm, 11)
+    ∷ (Some 163, true, false, codes "cname", None, role.ClientName, 15)
     ∷ (Some 164, true, false, codes "transited", None, role.None, 31)
     ∷ (Some 165, true, false, codes "authtime", None, role.None, 10)
     ∷ (Some 166, true, true, codes "starttime", None, role.None, 10)
@@ -284,11 +284,11 @@ fields =
     ∷ (Some 160, true, false, codes "tr-type", Some kinds.TransitedEncodingType, role.None, 1)
     ∷ (Some 161, true, false, codes "contents", None, role.None, 6)
     ∷ (Some 161, true, false, codes "padata-type", Some kinds.PaDataType, role.None, 1)
-    ∷ (Some 162, true, false, codes "padata-value", None, role.None, 32)
+    ∷ (Some 162, true, false, codes "padata-value", None, role.PaEncTsEnc, 32)
     ∷ (Some 160, true, false, codes "patimestamp", None, role.None, 10)
     ∷ (Some 161, true, true, codes "pausec", None, role.None, 3)
     ∷ (Some 160, true, false, codes "etype", Some kinds.EncryptionType, role.None, 1)
-    ∷ (Some 161, true, true, codes "salt", None, role.None, 11)
+    ∷ (Some 161, true, true, codes "salt", None, role.Salt, 11)
     ∷ (Some 162, true, true, codes "s2kparams", None, role.None, 6)
     ∷ (Some 160, true, false, codes "include-pac", None, role.None, 0)
     ∷ (Some 160, true, false, codes "flags", None, role.None, 5)
@@ -301,31 +301,31 @@ fields =
     ∷ (Some 163, true, true, codes "padata", None, role.None, 43)
     ∷ (Some 164, true, false, codes "req-body", None, role.None, 49)
     ∷ (Some 160, true, false, codes "kdc-options", Some kinds.KdcOption, role.None, 5)
-    ∷ (Some 161, true, true, codes "cname", None, role.None, 15)
-    ∷ (Some 162, true, false, codes "realm", None, role.None, 11)
-    ∷ (Some 163, true, true, codes "sname", None, role.None, 15)
+    ∷ (Some 161, true, true, codes "cname", None, role.ClientName, 15)
+    ∷ (Some 162, true, false, codes "realm", None, role.ServerRealm, 11)
+    ∷ (Some 163, true, true, codes "sname", None, role.ServerName, 15)
     ∷ (Some 164, true, true, codes "from", None, role.None, 10)
     ∷ (Some 165, true, false, codes "till", None, role.None, 10)
     ∷ (Some 166, true, true, codes "rtime", None, role.None, 10)
     ∷ (Some 167, true, false, codes "nonce", None, role.None, 1)
     ∷ (Some 168, true, false, codes "etype", Some kinds.EncryptionType, role.None, 47)
     ∷ (Some 169, true, true, codes "addresses", None, role.None, 17)
-    ∷ (Some 170, true, true, codes "enc-authorization-data", None, role.None, 23)
+    ∷ (Some 170, true, true, codes "enc-authorization-data", None, role.RequestAuthorizationData, 23)
     ∷ (Some 171, true, true, codes "additional-tickets", None, role.None, 48)
     ∷ (Some 160, true, false, codes "pvno", None, role.None, 26)
     ∷ (Some 161, true, false, codes "msg-type", Some kinds.MessageType, role.None, 52)
     ∷ (Some 162, true, true, codes "padata", None, role.None, 43)
-    ∷ (Some 163, true, false, codes "crealm", None, role.None, 11)
-    ∷ (Some 164, true, false, codes "cname", None, role.None, 15)
+    ∷ (Some 163, true, false, codes "crealm", None, role.ClientRealm, 11)
+    ∷ (Some 164, true, false, codes "cname", None, role.ClientName, 15)
     ∷ (Some 165, true, false, codes "ticket", None, role.None, 28)
-    ∷ (Some 166, true, false, codes "enc-part", None, role.None, 23)
+    ∷ (Some 166, true, false, codes "enc-part", None, role.EncAsRepPart, 23)
     ∷ (Some 160, true, false, codes "pvno", None, role.None, 26)
     ∷ (Some 161, true, false, codes "msg-type", Some kinds.MessageType, role.None, 54)
     ∷ (Some 162, true, true, codes "padata", None, role.None, 43)
-    ∷ (Some 163, true, false, codes "crealm", None, role.None, 11)
-    ∷ (Some 164, true, false, codes "cname", None, role.None, 15)
+    ∷ (Some 163, true, false, codes "crealm", None, role.ClientRealm, 11)
+    ∷ (Some 164, true, false, codes "cname", None, role.ClientName, 15)
     ∷ (Some 165, true, false, codes "ticket", None, role.None, 28)
-    ∷ (Some 166, true, false, codes "enc-part", None, role.None, 23)
+    ∷ (Some 166, true, false, codes "enc-part", None, role.EncTgsRepPart, 23)
     ∷ (Some 160, true, false, codes "key", None, role.None, 24)
     ∷ (Some 161, true, false, codes "last-req", None, role.None, 60)
     ∷ (Some 162, true, false, codes "nonce", None, role.None, 1)
@@ -345,10 +345,10 @@ fields =
     ∷ (Some 161, true, false, codes "msg-type", Some kinds.MessageType, role.None, 61)
     ∷ (Some 162, true, false, codes "ap-options", Some kinds.ApOption, role.None, 5)
     ∷ (Some 163, true, false, codes "ticket", None, role.None, 28)
-    ∷ (Some 164, true, false, codes "authenticator", None, role.None, 23)
+    ∷ (Some 164, true, false, codes "authenticator", None, role.Authenticator, 23)
     ∷ (Some 160, true, false, codes "authenticator-vno", None, role.None, 26)
-    ∷ (Some 161, true, false, codes "crealm", None, role.None, 11)
-    ∷ (Some 162, true, false, codes "cname", None, role.None, 15)
+    ∷ (Some 161, true, false, codes "crealm", None, role.ClientRealm, 11)
+    ∷ (Some 162, true, false, codes "cname", None, role.ClientName, 15)
     ∷ (Some 163, true, true, codes "cksum", None, role.None, 25)
     ∷ (Some 164, true, false, codes "cusec", None, role.None, 3)
     ∷ (Some 165, true, false, codes "ctime", None, role.None, 10)
@@ -357,14 +357,14 @@ fields =
     ∷ (Some 168, true, true, codes "authorization-data", None, role.None, 20)
     ∷ (Some 160, true, false, codes "pvno", None, role.None, 26)
     ∷ (Some 161, true, false, codes "msg-type", Some kinds.MessageType, role.None, 66)
-    ∷ (Some 162, true, false, codes "enc-part", None, role.None, 23)
+    ∷ (Some 162, true, false, codes "enc-part", None, role.EncApRepPart, 23)
     ∷ (Some 160, true, false, codes "ctime", None, role.None, 10)
     ∷ (Some 161, true, false, codes "cusec", None, role.None, 3)
     ∷ (Some 162, true, true, codes "subkey", None, role.None, 24)
     ∷ (Some 163, true, true, codes "seq-number", None, role.None, 1)
     ∷ (Some 160, true, false, codes "pvno", None, role.None, 26)
     ∷ (Some 161, true, false, codes "msg-type", Some kinds.MessageType, role.None, 71)
-    ∷ (Some 163, true, false, codes "enc-part", None, role.None, 23)
+    ∷ (Some 163, true, false, codes "enc-part", None, role.EncKrbPrivPart, 23)
     ∷ (Some 160, true, false, codes "user-data", None, role.None, 6)
     ∷ (Some 161, true, true, codes "timestamp", None, role.None, 10)
     ∷ (Some 162, true, true, codes "usec", None, role.None, 3)
@@ -374,7 +374,7 @@ fields =
     ∷ (Some 160, true, false, codes "pvno", None, role.None, 26)
     ∷ (Some 161, true, false, codes "msg-type", Some kinds.MessageType, role.None, 76)
     ∷ (Some 162, true, false, codes "tickets", None, role.None, 48)
-    ∷ (Some 163, true, false, codes "enc-part", None, role.None, 23)
+    ∷ (Some 163, true, false, codes "enc-part", None, role.EncKrbCredPart, 23)
     ∷ (Some 160, true, false, codes "ticket-info", None, role.None, 79)
     ∷ (Some 161, true, true, codes "nonce", None, role.None, 1)
     ∷ (Some 162, true, true, codes "timestamp", None, role.None, 10)
@@ -399,10 +399,10 @@ fields =
     ∷ (Some 164, true, false, codes "stime", None, role.None, 10)
     ∷ (Some 165, true, false, codes "susec", None, role.None, 3)
     ∷ (Some 166, true, false, codes "error-code", Some kinds.ErrorCode, role.None, 2)
-    ∷ (Some 167, true, true, codes "crealm", None, role.None, 11)
-    ∷ (Some 168, true, true, codes "cname", None, role.None, 15)
-    ∷ (Some 169, true, false, codes "realm", None, role.None, 11)
-    ∷ (Some 170, true, false, codes "sname", None, role.None, 15)
+    ∷ (Some 167, true, true, codes "crealm", None, role.ClientRealm, 11)
+    ∷ (Some 168, true, true, codes "cname", None, role.ClientName, 15)
+    ∷ (Some 169, true, false, codes "realm", None, role.ServerRealm, 11)
+    ∷ (Some 170, true, false, codes "sname", None, role.ServerName, 15)
     ∷ (Some 171, true, true, codes "e-text", None, role.None, 11)
     ∷ (Some 172, true, true, codes "e-data", None, role.None, 84)
     ∷ (Some 161, true, false, codes "data-type", None, role.None, 1)
@@ -422,8 +422,8 @@ fields =
     ∷ (Some 161, true, true, codes "target-domain", None, role.None, 11)
     ∷ (Some 162, true, true, codes "dclocator-hint", None, role.None, 1)
     ∷ (Some 128, false, false, codes "inner", None, role.None, 95)
-    ∷ (Some 160, true, false, codes "realm", None, role.None, 11)
-    ∷ (Some 161, true, false, codes "sname", None, role.None, 15)
+    ∷ (Some 160, true, false, codes "realm", None, role.ServerRealm, 11)
+    ∷ (Some 161, true, false, codes "sname", None, role.ServerName, 15)
     ∷ (Some 160, true, false, codes "metadata", None, role.None, 98)
     ∷ (Some 161, true, false, codes "body", None, role.None, 97)
     ∷ (Some 160, true, false, codes "metadata", None, role.None, 98)
@@ -502,7 +502,6 @@ cases =
     ∷ record { behind = Some 2; is = 23 }
     ∷ record { behind = Some 16; is = 104 }
     ∷ record { behind = Some 17; is = 111 }
-    ∷ record { behind = Some 17; is = 112 }
     ∷ record { behind = Some 19; is = 37 }
     ∷ record { behind = Some 128; is = 38 }
     ∷ record { behind = Some 167; is = 39 }

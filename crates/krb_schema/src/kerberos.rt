@@ -397,20 +397,20 @@ static FIELDS: [Field; 241] = [
     tagged!(0xa2, "cipher", OCTET_STRING_CIPHER),
     // ENCRYPTION_KEY
     tagged!(0xa0, "keytype", INTEGER, of Kind::EncryptionType),
-    tagged!(0xa1, "keyvalue", OCTET_STRING_SECRET),
+    tagged!(0xa1, "keyvalue", OCTET_STRING_SECRET, as Role::Key),
     // CHECKSUM
     tagged!(0xa0, "cksumtype", INTEGER, of Kind::ChecksumType),
     tagged!(0xa1, "checksum", OCTET_STRING, as Role::Checksum),
     // TICKET_CONTENT
     tagged!(0xa0, "tkt-vno", INTEGER_5),
-    tagged!(0xa1, "realm", REALM),
-    tagged!(0xa2, "sname", PRINCIPAL_NAME),
-    tagged!(0xa3, "enc-part", ENCRYPTED_DATA),
+    tagged!(0xa1, "realm", REALM, as Role::ServerRealm),
+    tagged!(0xa2, "sname", PRINCIPAL_NAME, as Role::ServerName),
+    tagged!(0xa3, "enc-part", ENCRYPTED_DATA, as Role::EncTicketPart),
     // ENC_TICKET_PART_CONTENT
     tagged!(0xa0, "flags", KERBEROS_FLAGS, of Kind::TicketFlag),
     tagged!(0xa1, "key", ENCRYPTION_KEY),
-    tagged!(0xa2, "crealm", REALM),
-    tagged!(0xa3, "cname", PRINCIPAL_NAME),
+    tagged!(0xa2, "crealm", REALM, as Role::ClientRealm),
+    tagged!(0xa3, "cname", PRINCIPAL_NAME, as Role::ClientName),
     tagged!(0xa4, "transited", TRANSITED_ENCODING),
     tagged!(0xa5, "authtime", KERBEROS_TIME),
     tagged_optional!(0xa6, "starttime", KERBEROS_TIME),
@@ -423,13 +423,18 @@ static FIELDS: [Field; 241] = [
     tagged!(0xa1, "contents", OCTET_STRING),
     // PA_DATA
     tagged!(0xa1, "padata-type", INTEGER, of Kind::PaDataType),
-    tagged!(0xa2, "padata-value", PA_DATA_PADATA_VALUE),
+    tagged!(
+        0xa2,
+        "padata-value",
+        PA_DATA_PADATA_VALUE,
+        as Role::PaEncTsEnc
+    ),
     // PA_ENC_TS_ENC
     tagged!(0xa0, "patimestamp", KERBEROS_TIME),
     tagged_optional!(0xa1, "pausec", MICROSECONDS),
     // ETYPE_INFO2_ENTRY
     tagged!(0xa0, "etype", INTEGER, of Kind::EncryptionType),
-    tagged_optional!(0xa1, "salt", KERBEROS_STRING),
+    tagged_optional!(0xa1, "salt", KERBEROS_STRING, as Role::Salt),
     tagged_optional!(0xa2, "s2kparams", OCTET_STRING),
     // KERB_PA_PAC_REQUEST
     tagged!(0xa0, "include-pac", BOOLEAN),
@@ -447,33 +452,38 @@ static FIELDS: [Field; 241] = [
     tagged!(0xa4, "req-body", KDC_REQ_BODY),
     // KDC_REQ_BODY
     tagged!(0xa0, "kdc-options", KERBEROS_FLAGS, of Kind::KdcOption),
-    tagged_optional!(0xa1, "cname", PRINCIPAL_NAME),
-    tagged!(0xa2, "realm", REALM),
-    tagged_optional!(0xa3, "sname", PRINCIPAL_NAME),
+    tagged_optional!(0xa1, "cname", PRINCIPAL_NAME, as Role::ClientName),
+    tagged!(0xa2, "realm", REALM, as Role::ServerRealm),
+    tagged_optional!(0xa3, "sname", PRINCIPAL_NAME, as Role::ServerName),
     tagged_optional!(0xa4, "from", KERBEROS_TIME),
     tagged!(0xa5, "till", KERBEROS_TIME),
     tagged_optional!(0xa6, "rtime", KERBEROS_TIME),
     tagged!(0xa7, "nonce", INTEGER),
     tagged!(0xa8, "etype", SEQUENCE_OF_INTEGER, of Kind::EncryptionType),
     tagged_optional!(0xa9, "addresses", HOST_ADDRESSES),
-    tagged_optional!(0xaa, "enc-authorization-data", ENCRYPTED_DATA),
+    tagged_optional!(
+        0xaa,
+        "enc-authorization-data",
+        ENCRYPTED_DATA,
+        as Role::RequestAuthorizationData
+    ),
     tagged_optional!(0xab, "additional-tickets", SEQUENCE_OF_TICKET),
     // KDC_REP_AS
     tagged!(0xa0, "pvno", INTEGER_5),
     tagged!(0xa1, "msg-type", INTEGER_11, of Kind::MessageType),
     tagged_optional!(0xa2, "padata", SEQUENCE_OF_PA_DATA),
-    tagged!(0xa3, "crealm", REALM),
-    tagged!(0xa4, "cname", PRINCIPAL_NAME),
+    tagged!(0xa3, "crealm", REALM, as Role::ClientRealm),
+    tagged!(0xa4, "cname", PRINCIPAL_NAME, as Role::ClientName),
     tagged!(0xa5, "ticket", TICKET),
-    tagged!(0xa6, "enc-part", ENCRYPTED_DATA),
+    tagged!(0xa6, "enc-part", ENCRYPTED_DATA, as Role::EncAsRepPart),
     // KDC_REP_TGS
     tagged!(0xa0, "pvno", INTEGER_5),
     tagged!(0xa1, "msg-type", INTEGER_13, of Kind::MessageType),
     tagged_optional!(0xa2, "padata", SEQUENCE_OF_PA_DATA),
-    tagged!(0xa3, "crealm", REALM),
-    tagged!(0xa4, "cname", PRINCIPAL_NAME),
+    tagged!(0xa3, "crealm", REALM, as Role::ClientRealm),
+    tagged!(0xa4, "cname", PRINCIPAL_NAME, as Role::ClientName),
     tagged!(0xa5, "ticket", TICKET),
-    tagged!(0xa6, "enc-part", ENCRYPTED_DATA),
+    tagged!(0xa6, "enc-part", ENCRYPTED_DATA, as Role::EncTgsRepPart),
     // ENC_KDC_REP_PART
     tagged!(0xa0, "key", ENCRYPTION_KEY),
     tagged!(0xa1, "last-req", LAST_REQ),
@@ -496,11 +506,16 @@ static FIELDS: [Field; 241] = [
     tagged!(0xa1, "msg-type", INTEGER_14, of Kind::MessageType),
     tagged!(0xa2, "ap-options", KERBEROS_FLAGS, of Kind::ApOption),
     tagged!(0xa3, "ticket", TICKET),
-    tagged!(0xa4, "authenticator", ENCRYPTED_DATA),
+    tagged!(
+        0xa4,
+        "authenticator",
+        ENCRYPTED_DATA,
+        as Role::Authenticator
+    ),
     // AUTHENTICATOR_CONTENT
     tagged!(0xa0, "authenticator-vno", INTEGER_5),
-    tagged!(0xa1, "crealm", REALM),
-    tagged!(0xa2, "cname", PRINCIPAL_NAME),
+    tagged!(0xa1, "crealm", REALM, as Role::ClientRealm),
+    tagged!(0xa2, "cname", PRINCIPAL_NAME, as Role::ClientName),
     tagged_optional!(0xa3, "cksum", CHECKSUM),
     tagged!(0xa4, "cusec", MICROSECONDS),
     tagged!(0xa5, "ctime", KERBEROS_TIME),
@@ -510,7 +525,7 @@ static FIELDS: [Field; 241] = [
     // AP_REP_CONTENT
     tagged!(0xa0, "pvno", INTEGER_5),
     tagged!(0xa1, "msg-type", INTEGER_15, of Kind::MessageType),
-    tagged!(0xa2, "enc-part", ENCRYPTED_DATA),
+    tagged!(0xa2, "enc-part", ENCRYPTED_DATA, as Role::EncApRepPart),
     // ENC_AP_REP_PART_CONTENT
     tagged!(0xa0, "ctime", KERBEROS_TIME),
     tagged!(0xa1, "cusec", MICROSECONDS),
@@ -519,7 +534,7 @@ static FIELDS: [Field; 241] = [
     // KRB_PRIV_CONTENT
     tagged!(0xa0, "pvno", INTEGER_5),
     tagged!(0xa1, "msg-type", INTEGER_21, of Kind::MessageType),
-    tagged!(0xa3, "enc-part", ENCRYPTED_DATA),
+    tagged!(0xa3, "enc-part", ENCRYPTED_DATA, as Role::EncKrbPrivPart),
     // ENC_KRB_PRIV_PART_CONTENT
     tagged!(0xa0, "user-data", OCTET_STRING),
     tagged_optional!(0xa1, "timestamp", KERBEROS_TIME),
@@ -531,7 +546,7 @@ static FIELDS: [Field; 241] = [
     tagged!(0xa0, "pvno", INTEGER_5),
     tagged!(0xa1, "msg-type", INTEGER_22, of Kind::MessageType),
     tagged!(0xa2, "tickets", SEQUENCE_OF_TICKET),
-    tagged!(0xa3, "enc-part", ENCRYPTED_DATA),
+    tagged!(0xa3, "enc-part", ENCRYPTED_DATA, as Role::EncKrbCredPart),
     // ENC_KRB_CRED_PART_CONTENT
     tagged!(0xa0, "ticket-info", SEQUENCE_OF_KRB_CRED_INFO),
     tagged_optional!(0xa1, "nonce", INTEGER),
@@ -559,10 +574,10 @@ static FIELDS: [Field; 241] = [
     tagged!(0xa4, "stime", KERBEROS_TIME),
     tagged!(0xa5, "susec", MICROSECONDS),
     tagged!(0xa6, "error-code", UINT32, of Kind::ErrorCode),
-    tagged_optional!(0xa7, "crealm", REALM),
-    tagged_optional!(0xa8, "cname", PRINCIPAL_NAME),
-    tagged!(0xa9, "realm", REALM),
-    tagged!(0xaa, "sname", PRINCIPAL_NAME),
+    tagged_optional!(0xa7, "crealm", REALM, as Role::ClientRealm),
+    tagged_optional!(0xa8, "cname", PRINCIPAL_NAME, as Role::ClientName),
+    tagged!(0xa9, "realm", REALM, as Role::ServerRealm),
+    tagged!(0xaa, "sname", PRINCIPAL_NAME, as Role::ServerName),
     tagged_optional!(0xab, "e-text", KERBEROS_STRING),
     tagged_optional!(0xac, "e-data", KRB_ERROR_CONTENT_E_DATA),
     // KERB_ERROR_DATA
@@ -590,8 +605,8 @@ static FIELDS: [Field; 241] = [
     // PKU2U_NEGO_REQ_METADATA
     bare!(Some(0x80), "inner", IMPLICIT_0_OCTET_STRING),
     // PKU2U_NEGO_BODY
-    tagged!(0xa0, "realm", REALM),
-    tagged!(0xa1, "sname", PRINCIPAL_NAME),
+    tagged!(0xa0, "realm", REALM, as Role::ServerRealm),
+    tagged!(0xa1, "sname", PRINCIPAL_NAME, as Role::ServerName),
     // PKU2U_NEGO_REQ
     tagged!(0xa0, "metadata", SEQUENCE_OF_PKU2U_NEGO_REQ_METADATA),
     tagged!(0xa1, "body", PKU2U_NEGO_BODY),
@@ -708,7 +723,7 @@ static FIELDS: [Field; 241] = [
     tagged_optional!(0xa3, "mechListMIC", OCTET_STRING, as Role::MechanismListMic),
 ];
 
-static CASES: [Case; 20] = [
+static CASES: [Case; 19] = [
     // AUTHORIZATION_DATA_ELEMENT_AD_DATA
     case!(1, AD_IF_RELEVANT),
     // PA_DATA_PADATA_VALUE
@@ -716,7 +731,6 @@ static CASES: [Case; 20] = [
     case!(2, ENCRYPTED_DATA),
     case!(16, PA_PK_AS_REQ),
     case!(17, PA_PK_AS_REP_DH_INFO),
-    case!(17, PA_PK_AS_REP_ENC_KEY_PACK),
     case!(19, ETYPE_INFO2),
     case!(128, KERB_PA_PAC_REQUEST),
     case!(167, PA_PAC_OPTIONS),
@@ -770,7 +784,7 @@ static SHAPES: [Shape; 137] = [
     Shape::Sequence(0x30, 19, 11),
     Shape::Tagged(0x63, ENC_TICKET_PART_CONTENT),
     Shape::Sequence(0x30, 30, 2),
-    Shape::Holding(1, 8),
+    Shape::Holding(1, 7),
     Shape::Sequence(0x30, 32, 2),
     Shape::SequenceOf(0x30, PA_DATA, false),
     Shape::Sequence(0x30, 34, 2),
@@ -822,7 +836,7 @@ static SHAPES: [Shape; 137] = [
     Shape::Tagged(0x7d, ENC_KRB_CRED_PART_CONTENT),
     Shape::Sequence(0x30, 130, 11),
     Shape::Leaf(0x02, Leaf::Number(30)),
-    Shape::Holding(9, 2),
+    Shape::Holding(8, 2),
     Shape::Sequence(0x30, 141, 13),
     Shape::Tagged(0x7e, KRB_ERROR_CONTENT),
     Shape::Sequence(0x30, 154, 2),
@@ -859,7 +873,7 @@ static SHAPES: [Shape; 137] = [
     Shape::Sequence(0x30, 206, 2),
     Shape::Sequence(0x30, 208, 5),
     Shape::Sequence(0x30, 213, 2),
-    Shape::Holding(11, 3),
+    Shape::Holding(10, 3),
     Shape::Sequence(0x30, 215, 2),
     Shape::Sequence(0x30, 217, 3),
     Shape::Sequence(0x30, 220, 4),
@@ -870,10 +884,10 @@ static SHAPES: [Shape; 137] = [
     Shape::Tagged(0xa0, NEG_TOKEN_INIT),
     Shape::Tagged(0xa1, NEG_TOKEN_RESP),
     Shape::SequenceOf(0x30, OBJECT_IDENTIFIER, false),
-    Shape::Holding(14, 3),
+    Shape::Holding(13, 3),
     Shape::Sequence(0x30, 233, 4),
     Shape::Leaf(0x03, Leaf::Flags),
-    Shape::Holding(17, 3),
+    Shape::Holding(16, 3),
     Shape::Sequence(0x30, 237, 4),
 ];
 

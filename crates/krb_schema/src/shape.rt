@@ -52,6 +52,38 @@ pub enum Role {
     MechanismToken,
     /// A MIC of the list of mechanisms, a token of RFC 4121, 4.2.6.1, where the mechanism is Kerberos (RFC 4178, 5).
     MechanismListMic,
+    /// The octets of a key of the encryption type that the number before says (RFC 4120, 5.2.9).
+    Key,
+    /// An EncryptedData of an EncTicketPart, under key usage 2 (RFC 4120, 5.3).
+    EncTicketPart,
+    /// An EncryptedData of an EncASRepPart, under key usage 3; some KDCs encrypt an EncTGSRepPart (RFC 4120, 5.4.2).
+    EncAsRepPart,
+    /// An EncryptedData of an EncTGSRepPart, under key usage 8 or 9 (RFC 4120, 5.4.2).
+    EncTgsRepPart,
+    /// An EncryptedData of an Authenticator, under key usage 11, or 7 in a request to a KDC (RFC 4120, 5.5.1).
+    Authenticator,
+    /// An EncryptedData of AuthorizationData in a request to a KDC, under key usage 4 or 5 (RFC 4120, 5.4.1).
+    RequestAuthorizationData,
+    /// An EncryptedData of an EncAPRepPart, under key usage 12 (RFC 4120, 5.5.2).
+    EncApRepPart,
+    /// An EncryptedData of an EncKrbPrivPart, under key usage 13 (RFC 4120, 5.7.1).
+    EncKrbPrivPart,
+    /// An EncryptedData of an EncKrbCredPart, under key usage 14, or in the clear under encryption type 0 (RFC 4120,
+    /// 5.8.1).
+    EncKrbCredPart,
+    /// Pre-authentication data, in which an EncryptedData is that of a PA-ENC-TS-ENC, under key usage 1 (RFC 4120,
+    /// 5.2.7.2).
+    PaEncTsEnc,
+    /// A salt (RFC 4120, 5.2.7.5).
+    Salt,
+    /// The realm of a client: with the client's name behind it its default salt (RFC 4120, 4).
+    ClientRealm,
+    /// The name of a client: its default salt with the realm before it, or in a request with that behind it.
+    ClientName,
+    /// The realm of a server: with the server's name behind it the default salt of its key.
+    ServerRealm,
+    /// The name of a server.
+    ServerName,
 }
 
 /// What an element is called, and what a number or the flags in it are of.

@@ -24,7 +24,7 @@ use Rattle.krb_show_rows.specs.declared.stand.Secrets.TheVariants as secrets
 use Rattle.krb_show_row_laws.specs.Telling.{is_name, other_than}
 use Rattle.krb_show_row_laws.specs.Firsts.{Opening}
 use Rattle.krb_show_row_laws.specs.Formats.{FormatsTell}
-use Rattle.krb_show_row_laws.specs.Kerberos.{all_but, as_octets, each_below, of_pa_data}
+use Rattle.krb_show_row_laws.specs.Kerberos.{as_octets, each_below, every_row}
 use Rattle.krb_show_row_laws.specs.Laws.{IsTold, IsToldAt, TextTellsOctets}
 use Rattle.krb_show_row_laws.specs.Pages.{forest_shown}
 use Rattle.krb_show_row_laws.specs.Tests.{FieldRow, case_row, fits, is_told, option_fits}
@@ -92,42 +92,33 @@ by_table schema k P h =
     subst (λ (s : List Shape). P s (map field_row schema.fields.now) schema.cases.now) (sym k.rows)
     (subst (λ (f : List FieldRow). P shapes f schema.cases.now) (sym k.parts) (subst (λ (c : List Case). P shapes fields c) (sym k.held) h))
 
-fits_within : (is : ℕ) (name : List ℕ) (role : Role) → is < 137 → all_but of_pa_data is ≡ true → fits as_octets (all_but of_pa_data) 64 shapes fields (map case_row cases) 64 is name role ≡ true
-fits_within is name role less covered =
-    by_test (or_true (other_than (all_but of_pa_data is)) (fits as_octets (all_but of_pa_data) 64 shapes fields (map case_row cases) 64 is name role)
-    (at_each (λ i. other_than (all_but of_pa_data i) || fits as_octets (all_but of_pa_data) 64 shapes fields (map case_row cases) 64 i name role) 137 is (kerberos_fits name role) less))
-  where
-    no_test : false ≡ true → ⊥
-    no_test e = cc
-
-    by_test : (other_than (all_but of_pa_data is) ≡ true) ⊎ (fits as_octets (all_but of_pa_data) 64 shapes fields (map case_row cases) 64 is name role ≡ true)
-        → fits as_octets (all_but of_pa_data) 64 shapes fields (map case_row cases) 64 is name role ≡ true
-    by_test (inl t) = absurd (no_test (sym (of_other (all_but of_pa_data is) t) ∙ covered))
-    by_test (inr t) = t
+fits_within : (is : ℕ) (name : List ℕ) (role : Role) → is < 137 → fits as_octets every_row 64 shapes fields (map case_row cases) 64 is name role ≡ true
+fits_within is name role less =
+    at_each (λ i. fits as_octets every_row 64 shapes fields (map case_row cases) 64 i name role) 137 is (kerberos_fits name role) less
 
 so_many : length shapes ≡ 137
 unfolding shapes
 so_many = refl
 
 -- no row is behind the last
-fits_past : (is : ℕ) (name : List ℕ) (role : Role) → 137 ≤ is → all_but of_pa_data is ≡ true → fits as_octets (all_but of_pa_data) 64 shapes fields (map case_row cases) 64 is name role ≡ true
-fits_past is name role past covered =
+fits_past : (is : ℕ) (name : List ℕ) (role : Role) → 137 ≤ is → fits as_octets every_row 64 shapes fields (map case_row cases) 64 is name role ≡ true
+fits_past is name role past =
     let many = so_many in
     let none = slice_get_past shapes is (omega (arith, past, many)) in
-    let inner = fits as_octets (all_but of_pa_data) 64 shapes fields (map case_row cases) 63 in
-    and_both (all_but of_pa_data is) (option_fits as_octets (all_but of_pa_data) 64 shapes fields (map case_row cases) inner 63 (slice_get shapes is) name role) covered
-    (subst (λ (o : Option Shape). option_fits as_octets (all_but of_pa_data) 64 shapes fields (map case_row cases) inner 63 o name role ≡ true) (sym none) refl)
+    let inner = fits as_octets every_row 64 shapes fields (map case_row cases) 63 in
+    and_both (every_row is) (option_fits as_octets every_row 64 shapes fields (map case_row cases) inner 63 (slice_get shapes is) name role) refl
+    (subst (λ (o : Option Shape). option_fits as_octets every_row 64 shapes fields (map case_row cases) inner 63 o name role ≡ true) (sym none) refl)
 
-fits_at : (is : ℕ) (name : List ℕ) (role : Role) → all_but of_pa_data is ≡ true → fits as_octets (all_but of_pa_data) 64 shapes fields (map case_row cases) 64 is name role ≡ true
-fits_at is name role covered = by_place (nat_lt is 137) refl
+fits_at : (is : ℕ) (name : List ℕ) (role : Role) → fits as_octets every_row 64 shapes fields (map case_row cases) 64 is name role ≡ true
+fits_at is name role = by_place (nat_lt is 137) refl
   where
-    by_place : (b : Bool) → nat_lt is 137 ≡ b → fits as_octets (all_but of_pa_data) 64 shapes fields (map case_row cases) 64 is name role ≡ true
-    by_place true e = let less : is < 137 = grind (arith, common_steps) in fits_within is name role less covered
-    by_place false e = let past : 137 ≤ is = grind (arith, common_steps) in fits_past is name role past covered
+    by_place : (b : Bool) → nat_lt is 137 ≡ b → fits as_octets every_row 64 shapes fields (map case_row cases) 64 is name role ≡ true
+    by_place true e = let less : is < 137 = grind (arith, common_steps) in fits_within is name role less
+    by_place false e = let past : 137 ≤ is = grind (arith, common_steps) in fits_past is name role past
 
-pub kerberos_text_tells : (schema : Schema) (is : ℕ) (name : Name) → IsKerberos schema → all_but of_pa_data is ≡ true → is_name name.text.now ≡ true
+pub kerberos_text_tells : (schema : Schema) (is : ℕ) (name : Name) → IsKerberos schema → is_name name.text.now ≡ true
     → TextTellsOctets octets_alone schema is name
-kerberos_text_tells schema is name kerberos covered named =
-    text_tells octets_alone as_octets (all_but of_pa_data) schema is name octets_tell
-    (by_table schema kerberos (λ s f c. is_told as_octets (all_but of_pa_data) 64 s f (map case_row c) ≡ true) kerberos_told)
-    (by_table schema kerberos (λ s f c. fits as_octets (all_but of_pa_data) 64 s f (map case_row c) 64 is name.text.now name.role ≡ true) (fits_at is name.text.now name.role covered)) named
+kerberos_text_tells schema is name kerberos named =
+    text_tells octets_alone as_octets every_row schema is name octets_tell
+    (by_table schema kerberos (λ s f c. is_told as_octets every_row 64 s f (map case_row c) ≡ true) kerberos_told)
+    (by_table schema kerberos (λ s f c. fits as_octets every_row 64 s f (map case_row c) 64 is name.text.now name.role ≡ true) (fits_at is name.text.now name.role)) named

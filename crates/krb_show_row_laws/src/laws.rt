@@ -7,7 +7,6 @@ ghost use Rattle.krb_schema.specs.declared.shape.Schema.{Schema};
 ghost use Rattle.krb_schema.specs.Named.{IsKerberos};
 ghost use Rattle.krb_show_row_laws.specs.Firsts.{Opening};
 ghost use Rattle.krb_show_row_laws.specs.Formats.{FormatsTell};
-ghost use Rattle.krb_show_row_laws.specs.Kerberos.{all_but, of_pa_data};
 ghost use Rattle.krb_show_row_laws.specs.Laws.{IsTold, IsToldAt, TextTellsOctets};
 ghost use Rattle.krb_show_row_laws.specs.Telling.{is_name};
 
@@ -22,10 +21,9 @@ pub fn texts_of_rows_tell_octets<F: ShowsFormats>()
         → IsTold kinds covers schema → IsToldAt kinds covers schema is name → is_name name.text.now ≡ true → TextTellsOctets F.tells schema is name }
 {}
 
-/// That law for the table of Kerberos, where octets of formats that are no DER are shown as octets: for each row but those whose elements may hold
-/// PA-DATA.
+/// That law for the table of Kerberos, where octets of formats that are no DER are shown as octets: for each of its rows.
 #[tactic(auto, using(crate::proofs::TextLaws::kerberos_text_tells))]
 pub fn texts_of_kerberos_tell_octets()
-    ensures { (schema : Schema) (is : ℕ) (name : Name) → IsKerberos schema → all_but of_pa_data is ≡ true → is_name name.text.now ≡ true
+    ensures { (schema : Schema) (is : ℕ) (name : Name) → IsKerberos schema → is_name name.text.now ≡ true
         → TextTellsOctets ⟦<NoFormats as ShowsFormats>⟧.tells schema is name }
 {}

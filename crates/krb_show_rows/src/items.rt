@@ -214,9 +214,10 @@ fn push_end<F: ShowsFormats>(
     }
 }
 
-/// Appends an item of these octets, before these items.
+/// Appends the token of an item of these octets, which stands so and before these items, and says where the next one stands. Where an allocation fails
+/// the page may have grown.
 #[tactic(auto, using(crate::proofs::Growing::begins_self, crate::proofs::Growing::begins_more))]
-fn push_item<'o, F: ShowsFormats>(
+pub fn push_item<'o, F: ShowsFormats>(
     alloc: Global,
     octets: &'o [u8],
     item: Item,

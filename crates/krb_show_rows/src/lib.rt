@@ -8,8 +8,8 @@ mod names;
 mod stand;
 
 pub use formats::{NoFormats, ShowsFormats};
-pub use items::push_items;
-pub use stand::Secrets;
+pub use items::{push_item, push_items};
+pub use stand::{Secrets, Stand};
 
 /// The way in which this crate shows.
 #[derive(Drop)]

@@ -33,7 +33,7 @@ pub enum Secrets {
 /// Where an item stands: in what, the innermost last; the components of a name before it; the content of the INTEGER that stands last before it; and
 /// whether secrets are shown.
 #[derive(Drop)]
-pub(crate) struct Stand<'o> {
+pub struct Stand<'o> {
     inside: Vec<Inside>,
     names: Vec<&'o [u8]>,
     number: &'o [u8],
@@ -51,7 +51,7 @@ impl<'o> Model for Stand<'o> {
 
 impl<'o> Stand<'o> {
     /// Before the first item.
-    pub(crate) fn new(alloc: Global, secrets: Secrets) -> Self
+    pub fn new(alloc: Global, secrets: Secrets) -> Self
         ensures { result ≡ start secrets }
     {
         Stand {
