@@ -162,6 +162,21 @@ module _ (tells : Role → List ℕ → Label → List ℕ → List Token → Li
   octets_first roles.PrefixedMessage number label content name small = formats.first roles.PrefixedMessage number label content name small
   octets_first roles.MechanismToken number label content name small = formats.first roles.MechanismToken number label content name small
   octets_first roles.MechanismListMic number label content name small = formats.first roles.MechanismListMic number label content name small
+  octets_first roles.Key number label content name small = formats.first roles.Key number label content name small
+  octets_first roles.EncTicketPart number label content name small = formats.first roles.EncTicketPart number label content name small
+  octets_first roles.EncAsRepPart number label content name small = formats.first roles.EncAsRepPart number label content name small
+  octets_first roles.EncTgsRepPart number label content name small = formats.first roles.EncTgsRepPart number label content name small
+  octets_first roles.Authenticator number label content name small = formats.first roles.Authenticator number label content name small
+  octets_first roles.RequestAuthorizationData number label content name small = formats.first roles.RequestAuthorizationData number label content name small
+  octets_first roles.EncApRepPart number label content name small = formats.first roles.EncApRepPart number label content name small
+  octets_first roles.EncKrbPrivPart number label content name small = formats.first roles.EncKrbPrivPart number label content name small
+  octets_first roles.EncKrbCredPart number label content name small = formats.first roles.EncKrbCredPart number label content name small
+  octets_first roles.PaEncTsEnc number label content name small = formats.first roles.PaEncTsEnc number label content name small
+  octets_first roles.Salt number label content name small = formats.first roles.Salt number label content name small
+  octets_first roles.ClientRealm number label content name small = formats.first roles.ClientRealm number label content name small
+  octets_first roles.ClientName number label content name small = formats.first roles.ClientName number label content name small
+  octets_first roles.ServerRealm number label content name small = formats.first roles.ServerRealm number label content name small
+  octets_first roles.ServerName number label content name small = formats.first roles.ServerName number label content name small
 
   octets_told : (role : Role) (number another : List ℕ) (label : Label) (content other : List ℕ) → is_name label.text ≡ true → IsOctets content → IsOctets other
       → Tells (λ names. label.text ∷ []) (λ names. true) (number ≡ another) (content ≡ other) (octets_as tells role number label content) (octets_as tells role another label other)
@@ -171,6 +186,21 @@ module _ (tells : Role → List ℕ → Label → List ℕ → List Token → Li
   octets_told roles.PrefixedMessage number another label content other name h k = formats.told roles.PrefixedMessage number another label content other name h k
   octets_told roles.MechanismToken number another label content other name h k = formats.told roles.MechanismToken number another label content other name h k
   octets_told roles.MechanismListMic number another label content other name h k = formats.told roles.MechanismListMic number another label content other name h k
+  octets_told roles.Key number another label content other name h k = formats.told roles.Key number another label content other name h k
+  octets_told roles.EncTicketPart number another label content other name h k = formats.told roles.EncTicketPart number another label content other name h k
+  octets_told roles.EncAsRepPart number another label content other name h k = formats.told roles.EncAsRepPart number another label content other name h k
+  octets_told roles.EncTgsRepPart number another label content other name h k = formats.told roles.EncTgsRepPart number another label content other name h k
+  octets_told roles.Authenticator number another label content other name h k = formats.told roles.Authenticator number another label content other name h k
+  octets_told roles.RequestAuthorizationData number another label content other name h k = formats.told roles.RequestAuthorizationData number another label content other name h k
+  octets_told roles.EncApRepPart number another label content other name h k = formats.told roles.EncApRepPart number another label content other name h k
+  octets_told roles.EncKrbPrivPart number another label content other name h k = formats.told roles.EncKrbPrivPart number another label content other name h k
+  octets_told roles.EncKrbCredPart number another label content other name h k = formats.told roles.EncKrbCredPart number another label content other name h k
+  octets_told roles.PaEncTsEnc number another label content other name h k = formats.told roles.PaEncTsEnc number another label content other name h k
+  octets_told roles.Salt number another label content other name h k = formats.told roles.Salt number another label content other name h k
+  octets_told roles.ClientRealm number another label content other name h k = formats.told roles.ClientRealm number another label content other name h k
+  octets_told roles.ClientName number another label content other name h k = formats.told roles.ClientName number another label content other name h k
+  octets_told roles.ServerRealm number another label content other name h k = formats.told roles.ServerRealm number another label content other name h k
+  octets_told roles.ServerName number another label content other name h k = formats.told roles.ServerName number another label content other name h k
 
   pub leaf_first : (kind : Leaf) (name : Name) (tag : ℕ) (content : List ℕ) → is_name name.text.now ≡ true → IsContent kind content → IsOctets (tlv tag content)
       → (in_list : Bool) (number : List ℕ) → Firsts (leaf_firsts kinds kind name.text.now name.role) (leaf_shown tells kind name tag content in_list number)
