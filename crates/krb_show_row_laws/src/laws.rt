@@ -22,7 +22,6 @@ pub fn texts_of_rows_tell_octets<F: ShowsFormats>()
 {}
 
 /// That law for the table of Kerberos, where octets of formats that are no DER are shown as octets: for each of its rows.
-#[tactic(auto, using(crate::proofs::TextLaws::kerberos_text_tells))]
 pub fn texts_of_kerberos_tell_octets()
     ensures { (schema : Schema) (is : ℕ) (name : Name) → IsKerberos schema → is_name name.text.now ≡ true
         → TextTellsOctets ⟦<NoFormats as ShowsFormats>⟧.tells schema is name }
