@@ -5,6 +5,7 @@
 #![tactic(auto)]
 
 mod checksums;
+mod decrypted;
 mod files;
 mod keys;
 mod keys_of;

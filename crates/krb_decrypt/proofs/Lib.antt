@@ -1,0 +1,4 @@
+pub mod Lists
+pub mod Seals
+pub mod Zeros
+pub mod Filled

@@ -1,0 +1,6 @@
+pub mod Keys
+pub mod Usages
+pub mod Types
+pub mod Seen
+pub mod Search
+pub mod Outcomes
