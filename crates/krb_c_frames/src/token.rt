@@ -6,7 +6,7 @@ ghost use Rattle.krb_c_calls.specs.Handing.{IsAnswered};
 ghost use Rattle.krb_c_calls.specs.Statuses.{refusal_status};
 ghost use Rattle.krb_c_frames.specs.Token.{IsMadeToken, IsNoMechanism, IsNoToken, IsToken, IsTokenAt, RefusesMechanism};
 
-use crate::place::Place;
+use crate::place::place_before;
 use krb_c_calls::handing::hand_out;
 use krb_c_calls::{DONE, Refusal};
 use krb_der_core::{Asn1DerError, Der, close_tlv, read_tlv, write_tlv};
@@ -55,10 +55,10 @@ pub fn gss_token(
     *inner_size = 0;
     match token_parts(alloc, token) {
         Ok((mechanism, inner)) => {
-            let place = Place::before(token, mechanism, inner.len());
+            let place = place_before(token, mechanism, inner.len());
             *mechanism_offset = place.offset;
             *mechanism_size = place.size;
-            let place = Place::before(token, inner, 0);
+            let place = place_before(token, inner, 0);
             *inner_offset = place.offset;
             *inner_size = place.size;
             DONE
