@@ -3,10 +3,10 @@ use Rattle.std.specs.Prelude.{◌≡◌, ◌||◌, ℕ, Bool, true, false, nat_e
 use Rattle.std.specs.List.{AllByRecursion, starts_with}
 use Rattle.krb_pac_signatures.specs.declared.verdict.Verdict.TheVariants as verdict
 use Rattle.krb_show_opened.specs.Keys.{NamedKey}
-use Rattle.krb_show_checksums.specs.Checksums.{Checksum, HasVerdict}
+use Rattle.krb_show_checksums.specs.Checksums.{PacChecksum, HasVerdict}
 
 -- it is the checksum of its message under this key
-abbrev pub HoldsUnder : Checksum → NamedKey → Type 0
+abbrev pub HoldsUnder : PacChecksum → NamedKey → Type 0
 HoldsUnder c key = HasVerdict c key.octets verdict.Holds
 
 -- of none of the keys this is so
@@ -22,10 +22,10 @@ pub record IsFirstWhere (P : NamedKey → Type 0) (keys : List NamedKey) (key : 
   pub holds : P key
 
 -- it is the checksum of its message under none of these keys; under this one and none before it
-abbrev pub HoldsUnderNone : Checksum → List NamedKey → Type 0
+abbrev pub HoldsUnderNone : PacChecksum → List NamedKey → Type 0
 HoldsUnderNone c keys = NoneWhere (HoldsUnder c) keys
 
-abbrev pub IsFirstHolder : Checksum → List NamedKey → NamedKey → Type 0
+abbrev pub IsFirstHolder : PacChecksum → List NamedKey → NamedKey → Type 0
 IsFirstHolder c keys key = IsFirstWhere (HoldsUnder c) keys key
 
 -- two keys of one suite and the same octets, whatever their names are
@@ -71,5 +71,5 @@ abbrev pub MayBeKdcs : NamedKey → NamedKey → Type 0
 MayBeKdcs opener key = may_be_kdcs (is_entrys key) (is_krbtgts key) (HaveSameOctets key opener)
 
 -- it is the checksum of its message under a key that may be the KDC's
-abbrev pub HoldsAsKdcs : Checksum → NamedKey → NamedKey → Type 0
+abbrev pub HoldsAsKdcs : PacChecksum → NamedKey → NamedKey → Type 0
 HoldsAsKdcs c opener key = MayBeKdcs opener key × HoldsUnder c key

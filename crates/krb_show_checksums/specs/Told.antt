@@ -13,7 +13,7 @@ use Rattle.krb_show.specs.Leaves.{text_of, word_of}
 use Rattle.krb_show.specs.Pages.{◌then◌, struct_of}
 use Rattle.krb_show.specs.Tokens.{Label, Token, plain}
 use Rattle.krb_show_opened.specs.Keys.{NamedKey}
-use Rattle.krb_show_checksums.specs.Checksums.{Checksum, HasVerdict, full_checksum, kdc_checksum, server_checksum}
+use Rattle.krb_show_checksums.specs.Checksums.{PacChecksum, HasVerdict, full_checksum, kdc_checksum, server_checksum}
 use Rattle.krb_show_checksums.specs.Holders.{HaveSameOctets, HoldsAsKdcs, HoldsUnderNone, IsFirstHolder, IsFirstWhere, IsNoneOf, IsOneOf, NoneWhere}
 
 -- ---- one checksum
@@ -28,14 +28,14 @@ told label verdict.Differs = word_of label (codes "differs")
 
 -- Of the server's checksum, under the key that opened the ticket, where that is one of the caller's keys. A key that another part held is known to
 -- the client, who can make such a checksum: nothing is told under it.
-abbrev pub under_key : Label → List NamedKey → NamedKey → Option Checksum → List Token → List Token → Type 0
+abbrev pub under_key : Label → List NamedKey → NamedKey → Option PacChecksum → List Token → List Token → Type 0
 under_key label own key None old new = told label verdict.Absent old new
 under_key label own key (Some c) old new =
     (IsOneOf key own × (v : Verdict) × HasVerdict c key.octets v × told label v old new)
     ⊎ (IsNoneOf key own × text_of label (codes "not verified: the key was found in another part") old new)
 
 -- why a checksum holds under none of the keys
-abbrev pub under_none : Label → Checksum → List Token → List Token → Type 0
+abbrev pub under_none : Label → PacChecksum → List Token → List Token → Type 0
 under_none label c old new =
     (NoSuite checksum_type (signature_type c.given) × told label verdict.NotVerified old new)
     ⊎ ((suite : ChecksumSuite) × (checksum_type suite ≡ signature_type c.given) × text_of label (codes "holds under none of the keys") old new)
@@ -48,7 +48,7 @@ made_with label opener key old new =
 
 -- of one that holds under none of the keys that may be the KDC's: the first of the others under which
 -- it does, or that it holds under none
-abbrev pub under_others : Label → Label → List NamedKey → NamedKey → Checksum → List Token → List Token → Type 0
+abbrev pub under_others : Label → Label → List NamedKey → NamedKey → PacChecksum → List Token → List Token → Type 0
 under_others label key_label own opener c old new =
     ((key : NamedKey) × IsFirstHolder c own key × (made_with label opener key then text_of key_label key.name) old new)
     ⊎ (HoldsUnderNone c own × under_none label c old new)
@@ -56,7 +56,7 @@ under_others label key_label own opener c old new =
 -- Of a checksum of the KDC (MS-PAC 2.8.2 to 2.8.4): that it holds, and the name of the first of the
 -- keys that may be the KDC's under which it does. Under others alone, as under the one that opened the
 -- ticket, it is not said to hold: whoever has that key can make it.
-abbrev pub under_keys : Label → Label → List NamedKey → NamedKey → Option Checksum → List Token → List Token → Type 0
+abbrev pub under_keys : Label → Label → List NamedKey → NamedKey → Option PacChecksum → List Token → List Token → Type 0
 under_keys label key_label own opener None old new = told label verdict.Absent old new
 under_keys label key_label own opener (Some c) old new =
     ((key : NamedKey) × IsFirstWhere (HoldsAsKdcs c opener) own key

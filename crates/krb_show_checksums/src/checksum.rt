@@ -11,20 +11,20 @@ use std::marker::Model;
 
 /// A signature of a PAC, and the octets that it is over.
 #[derive(Debug, Drop)]
-pub(crate) struct Checksum<'a> {
+pub(crate) struct PacChecksum<'a> {
     given: SignatureView<'a>,
     message: Vec<u8>,
 }
 
-impl<'a> Model for Checksum<'a> {
-    ghost use Rattle.krb_show_checksums.specs.Checksums.{Checksum};
+impl<'a> Model for PacChecksum<'a> {
+    ghost use Rattle.krb_show_checksums.specs.Checksums.{PacChecksum};
 
-    ghost Value = { Checksum };
+    ghost Value = { PacChecksum };
 
     ghost view = { λ c. record { given = c.given; message = c.message.items } };
 }
 
-impl<'a> Checksum<'a> {
+impl<'a> PacChecksum<'a> {
     /// The number of its type.
     pub(crate) fn number(&self) -> u32
         ensures { result ≡ signature_type self.now.given }
@@ -54,21 +54,21 @@ impl<'a> Checksum<'a> {
 pub(crate) fn server<'a>(
     alloc: Global,
     signatures: &PacSignatures<'a>,
-) -> Result<Option<Checksum<'a>>, AllocError>
+) -> Result<Option<PacChecksum<'a>>, AllocError>
     ensures { IfOk result (λ found. found ≡ server_checksum signatures.now) }
 {
     let Some(given) = signatures.server() else {
         return Ok(None);
     };
     let message = signatures.server_message(alloc)?;
-    Ok(Some(Checksum { given, message }))
+    Ok(Some(PacChecksum { given, message }))
 }
 
 /// The KDC's checksum (MS-PAC 2.8.2), where it and the server's signature are there.
 pub(crate) fn kdc<'a>(
     alloc: Global,
     signatures: &PacSignatures<'a>,
-) -> Result<Option<Checksum<'a>>, AllocError>
+) -> Result<Option<PacChecksum<'a>>, AllocError>
     ensures { IfOk result (λ found. found ≡ kdc_checksum signatures.now) }
 {
     let Some(server) = signatures.server() else {
@@ -78,29 +78,32 @@ pub(crate) fn kdc<'a>(
         return Ok(None);
     };
     let message = Vec::from_slice(alloc, server.signature())?;
-    Ok(Some(Checksum { given, message }))
+    Ok(Some(PacChecksum { given, message }))
 }
 
 /// The KDC's checksum over the whole PAC (MS-PAC 2.8.4), where it is there.
 pub(crate) fn full<'a>(
     alloc: Global,
     signatures: &PacSignatures<'a>,
-) -> Result<Option<Checksum<'a>>, AllocError>
+) -> Result<Option<PacChecksum<'a>>, AllocError>
     ensures { IfOk result (λ found. found ≡ full_checksum signatures.now) }
 {
     let Some(given) = signatures.full() else {
         return Ok(None);
     };
     let message = signatures.full_message(alloc)?;
-    Ok(Some(Checksum { given, message }))
+    Ok(Some(PacChecksum { given, message }))
 }
 
 /// The ticket's checksum (MS-PAC 2.8.3), where it is there, over the message of the ticket.
-pub(crate) fn ticket<'a>(signatures: &PacSignatures<'a>, message: Vec<u8>) -> Option<Checksum<'a>>
+pub(crate) fn ticket<'a>(
+    signatures: &PacSignatures<'a>,
+    message: Vec<u8>,
+) -> Option<PacChecksum<'a>>
     ensures { result ≡ over message.items signatures.now.ticket }
 {
     let Some(given) = signatures.ticket() else {
         return None;
     };
-    Some(Checksum { given, message })
+    Some(PacChecksum { given, message })
 }

@@ -4,18 +4,18 @@ ghost use Rattle.std.specs.Prelude.{◌≡◌, MatchBool, MatchOption};
 ghost use Rattle.krb_show_checksums.specs.Holders.{AreSame, HaveSameOctets, HoldsAsKdcs, HoldsUnder, HoldsUnderNone, IsFirstHolder, IsFirstWhere, IsNoneOf, IsOneOf};
 ghost use Rattle.krb_show_checksums.specs.Holders.{MayBeKdcs, NoneWhere, has_version, is_entrys, is_krbtgts};
 
-use crate::checksum::Checksum;
+use crate::checksum::PacChecksum;
 use krb_show_opened::Key;
 
 /// Whether a checksum holds under a key.
-fn holds_under(checksum: &Checksum, key: &Key) -> bool
+fn holds_under(checksum: &PacChecksum, key: &Key) -> bool
     ensures { MatchBool result (HoldsUnder checksum.now key.now) (HoldsUnder checksum.now key.now → ⊥) }
 {
     checksum.holds(&key.octets)
 }
 
 /// The first of the keys under which a checksum holds.
-pub(crate) fn first_holder<'k>(checksum: &Checksum, keys: &'k [Key]) -> Option<&'k Key>
+pub(crate) fn first_holder<'k>(checksum: &PacChecksum, keys: &'k [Key]) -> Option<&'k Key>
     ensures { MatchOption result (HoldsUnderNone checksum.now keys.now) (λ key. IsFirstHolder checksum.now keys.now key.now) }
 {
     for key in keys {
@@ -92,14 +92,18 @@ fn may_be_kdcs(opener: &Key, key: &Key) -> bool
 }
 
 /// Whether a checksum holds under a key that may be the KDC's.
-fn holds_as_kdcs(checksum: &Checksum, opener: &Key, key: &Key) -> bool
+fn holds_as_kdcs(checksum: &PacChecksum, opener: &Key, key: &Key) -> bool
     ensures { MatchBool result (HoldsAsKdcs checksum.now opener.now key.now) (HoldsAsKdcs checksum.now opener.now key.now → ⊥) }
 {
     may_be_kdcs(opener, key) && holds_under(checksum, key)
 }
 
 /// The first of the keys that may be the KDC's under which a checksum holds.
-pub(crate) fn first_kdcs<'k>(checksum: &Checksum, opener: &Key, keys: &'k [Key]) -> Option<&'k Key>
+pub(crate) fn first_kdcs<'k>(
+    checksum: &PacChecksum,
+    opener: &Key,
+    keys: &'k [Key],
+) -> Option<&'k Key>
     ensures { MatchOption result (NoneWhere (HoldsAsKdcs checksum.now opener.now) keys.now)
         (λ key. IsFirstWhere (HoldsAsKdcs checksum.now opener.now) keys.now key.now) }
 {

@@ -9,7 +9,7 @@ ghost use Rattle.krb_show.specs.Pages.{◌then◌};
 ghost use Rattle.krb_show.specs.Tokens.{Begins};
 ghost use Rattle.krb_show_checksums.specs.Told.{made_with, told, under_key, under_keys, under_none, under_others};
 
-use crate::checksum::Checksum;
+use crate::checksum::PacChecksum;
 use crate::holders::{first_holder, first_kdcs, have_same_octets, is_one_of};
 use krb_crypto::ChecksumSuite;
 use krb_pac_signatures::Verdict;
@@ -51,7 +51,7 @@ pub(crate) fn tell_under_key(
     label: &Label,
     own: &[Key],
     key: &Key,
-    checksum: &Option<Checksum>,
+    checksum: &Option<PacChecksum>,
     page: &mut Page,
 ) -> Result<(), AllocError>
     ensures ok { OnOk result (under_key label.now own.now key.now checksum.now page.old.items page.new.items) }
@@ -85,7 +85,7 @@ fn is_supported(number: u32) -> bool
 fn tell_none(
     alloc: Global,
     label: &Label,
-    checksum: &Checksum,
+    checksum: &PacChecksum,
     page: &mut Page,
 ) -> Result<(), AllocError>
     ensures ok { OnOk result (under_none label.now checksum.now page.old.items page.new.items) }
@@ -157,7 +157,7 @@ fn tell_under_others(
     key_label: &Label,
     own: &[Key],
     opener: &Key,
-    checksum: &Checksum,
+    checksum: &PacChecksum,
     page: &mut Page,
 ) -> Result<(), AllocError>
     ensures ok { OnOk result (under_others label.now key_label.now own.now opener.now checksum.now page.old.items page.new.items) }
@@ -177,7 +177,7 @@ pub(crate) fn tell_under_keys(
     key_label: &Label,
     own: &[Key],
     opener: &Key,
-    checksum: &Option<Checksum>,
+    checksum: &Option<PacChecksum>,
     page: &mut Page,
 ) -> Result<(), AllocError>
     ensures ok { OnOk result (under_keys label.now key_label.now own.now opener.now checksum.now page.old.items page.new.items) }
