@@ -37,8 +37,8 @@ options of show:
     --keytab FILE           open what is sealed with the keys of this keytab, as often as wanted
     --password-file FILE    open what is sealed with the keys of the password in the first line of this file, as often
                             as wanted: the salts are those of the first 16 principals and ETYPE-INFO2s of the input
-    --show-keys             write the octets of keys
-    --no-keys               write `hidden` in the place of keys, as without these two; other octets that hold a key
+    --show-keys             write the octets of keys, passwords and PINs
+    --no-keys               write `hidden` in the place of these, as without these two; other octets that hold a key
                             stay, as those of a tree
     --help                  write this help
 

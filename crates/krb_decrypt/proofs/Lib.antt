@@ -2,3 +2,4 @@ pub mod Lists
 pub mod Seals
 pub mod Zeros
 pub mod Filled
+pub mod Growing

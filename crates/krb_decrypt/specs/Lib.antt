@@ -4,3 +4,4 @@ pub mod Types
 pub mod Seen
 pub mod Search
 pub mod Outcomes
+pub mod Decrypted

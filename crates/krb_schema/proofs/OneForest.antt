@@ -13,7 +13,7 @@ use Rattle.krb_schema.specs.declared.shape.Schema.{Schema}
 use Rattle.krb_schema.specs.declared.shape.Shape.{Shape}
 use Rattle.krb_schema.specs.declared.shape.Shape.TheVariants as shapes
 use Rattle.krb_schema.specs.Forests.{Forest, none, leaf, node, beside, enc, items_at}
-use Rattle.krb_schema.specs.Shapes.{AreElements, AreFields, IsElement, IsHeld, IsShaped, list_node, part, no_fields, absent, wrapped, bare, no_elements, one_more, here, later, plain}
+use Rattle.krb_schema.specs.Shapes.{AreElements, AreFields, IsElement, IsHeld, IsShaped, called, list_node, part, no_fields, absent, wrapped, bare, no_elements, one_more, here, later, plain}
 use Rattle.krb_schema.specs.Walks.{Walked}
 use Rattle.krb_schema.proofs.Walking.{enc_beside}
 use Rattle.krb_schema.proofs.Beginnings.{begins_behind, tlv_begins}
@@ -75,7 +75,7 @@ module _ (R : ℕ → Name → List ℕ → Forest → Type 0) (one : (is : ℕ)
 
   same_held : (name : Name) (before content : List ℕ) (cases : List Case) (f g : Forest) → IsHeld R name before content cases f → IsHeld R name before content cases g → f ≡ g
   same_held name before content cases f g (here c cs inside applies r e) (here d ds within applies_too v u) =
-      ap (λ (h : Forest). node nodes.Wrap name 4 h none) (same c.is name [] inside within r v (sym e ∙ u))
+      ap (λ (h : Forest). node nodes.Wrap name 4 h none) (same c.is (called c name) [] inside within r v (sym e ∙ u))
   same_held name before content cases f g (here c cs inside applies r e) (later d ds element lacks v) = absurd (lacks applies inside r e)
   same_held name before content cases f g (later c cs element lacks r) (here d ds within applies v u) = absurd (lacks applies within v u)
   same_held name before content cases f g (later c cs element lacks r) (later d ds other lacks_too v) = same_held name before content cs element other r v

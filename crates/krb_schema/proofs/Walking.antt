@@ -21,7 +21,7 @@ use Rattle.krb_schema.specs.declared.shape.Leaf.TheVariants as leaves
 use Rattle.krb_schema.specs.declared.walk.Head.{Head}
 use Rattle.krb_der_x509.specs.RawValue.{is_raw_first}
 use Rattle.krb_schema.specs.Leaves.{IsLeaf}
-use Rattle.krb_schema.specs.Shapes.{Applies, AreElements, AreFields, Begins, IsElement, IsHeld, IsNone, IsShaped, is_first, wrapped, bare, no_fields, absent, one_more, no_elements, here, later, plain}
+use Rattle.krb_schema.specs.Shapes.{Applies, AreElements, AreFields, Begins, IsElement, IsHeld, IsNone, IsShaped, called, is_first, wrapped, bare, no_fields, absent, one_more, no_elements, here, later, plain}
 use Rattle.krb_schema.proofs.Beginnings.{begins_before}
 use Rattle.krb_schema.specs.Walks.{IsHead, Walked, WalkedFront}
 
@@ -270,20 +270,20 @@ held_plain R name before content tag depth at old new t e =
     (subst (λ (n : ℕ). IsHeld R name before content [] (leaf leaves.Octets name n content none)) (sym t) plain) e
 
 pub held_later : (R : ℕ → Name → List ℕ → Forest → Type 0) (name : Name) (before content : List ℕ) (case : Case) (cases : List Case) (octets : List ℕ) (depth at : ℕ) (old new : List Item)
-    → (Applies case before → IsNone (R case.is name []) content)
+    → (Applies case before → IsNone (R case.is (called case name) []) content)
     → Walked (IsHeld R name before content cases) octets depth at old new
     → Walked (IsHeld R name before content (case ∷ cases)) octets depth at old new
 held_later R name before content case cases octets depth at old new lacks w = (w.0, later case cases w.0 lacks w.1, w.2, w.3)
 
 pub held_here : (R : ℕ → Name → List ℕ → Forest → Type 0) (case : Case) (cases : List Case) (before : List ℕ) (head : Head) (content : List ℕ) (inside old begun within ended : List Item)
     → head.tag ≡ 4 → IsHead head content → Applies case before
-    → Walked (R case.is head.name []) content (head.depth + 1) (head.at + head.header) [] inside
+    → Walked (R case.is (called case head.name) []) content (head.depth + 1) (head.at + head.header) [] inside
     → begun ≡ old ++ item (form.Begin nodes.Wrap) head.name head.depth head.tag head.at head.size ∷ []
     → within ≡ begun ++ inside
     → ended ≡ within ++ item (form.End nodes.Wrap) head.name head.depth head.tag head.at head.size ∷ []
     → Walked (IsHeld R head.name before content (case ∷ cases)) (tlv head.tag content) head.depth head.at old ended
 held_here R case cases before head content inside old begun within ended t h applies w e i f =
-    node_headed (R case.is head.name []) (IsHeld R head.name before content (case ∷ cases)) nodes.Wrap 4 head content old begun within ended
+    node_headed (R case.is (called case head.name) []) (IsHeld R head.name before content (case ∷ cases)) nodes.Wrap 4 head content old begun within ended
     (eq-eqb head.tag 4 t) h (λ element r same. here case cases element applies r same) e
     (w.0, w.1, w.2, i ∙ ap (λ (l : List Item). begun ++ l) w.3) f
 

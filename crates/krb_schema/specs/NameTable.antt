@@ -238,4 +238,8 @@ name_table =
     ∷ codes "NegTokenInit"
     ∷ codes "ContextFlags"
     ∷ codes "NegTokenResp"
+    ∷ codes "dhInfo"
+    ∷ codes "encKeyPack"
+    ∷ codes "KERB-KEY-LIST-REQ"
+    ∷ codes "KERB-KEY-LIST-REP"
     ∷ []

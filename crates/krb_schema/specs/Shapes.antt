@@ -1,6 +1,7 @@
 -- Which elements are of which row of a schema.
 use Rattle.std.specs.Prelude.{◌≡◌, ◌==◌, ℕ, zero, suc, ◌+◌, ◌≤◌, true, false, Bool, nat_lt, if◌then◌else◌, List, [], ◌∷◌, Option, None, Some, length, take, drop}
 use Rattle.std.specs.List.{slice_get}
+use Rattle.std.specs.Option.{unwrap_or}
 use Rattle.krb_der_x509.specs.RawValue.{is_raw_first}
 use Rattle.krb_schema.specs.declared.shape.Name.{Name}
 use Rattle.krb_schema.specs.declared.shape.Field.{Field}
@@ -40,6 +41,10 @@ IsBehind (Some n) before = before ≡ number_octets n
 abbrev pub Applies : Case → List ℕ → Type 0
 Applies c before = IsBehind c.behind before
 
+-- what a case of an OCTET STRING of this name holds is called: as the case says, or else as the OCTET STRING
+abbrev pub called : Case → Name → Name
+called c name = unwrap_or c.name name
+
 -- the octets begin as an element under this tag
 abbrev pub Begins : Option ℕ → List ℕ → Type 0
 Begins tag octets = (t : ℕ) × (rest : List ℕ) × (octets ≡ t ∷ rest) × (is_first tag t ≡ true)
@@ -75,9 +80,9 @@ IsNone IsRight octets = (f : Forest) → IsRight f → octets ≡ enc f → ⊥
 
 -- An OCTET STRING of this content: it holds an element of the first of these cases that applies and fits, or none does and it is plain octets.
 pub data IsHeld (IsRight : ℕ → Name → List ℕ → Forest → Type 0) (name : Name) (before content : List ℕ) : List Case → Forest → Type 0 where
-  here : (case : Case) (cases : List Case) (inside : Forest) → Applies case before → IsRight case.is name [] inside → content ≡ enc inside
+  here : (case : Case) (cases : List Case) (inside : Forest) → Applies case before → IsRight case.is (called case name) [] inside → content ≡ enc inside
       → IsHeld IsRight name before content (case ∷ cases) (node nodes.Wrap name 4 inside none)
-  later : (case : Case) (cases : List Case) (element : Forest) → (Applies case before → IsNone (IsRight case.is name []) content)
+  later : (case : Case) (cases : List Case) (element : Forest) → (Applies case before → IsNone (IsRight case.is (called case name) []) content)
       → IsHeld IsRight name before content cases element → IsHeld IsRight name before content (case ∷ cases) element
   plain : IsHeld IsRight name before content [] (leaf leaves.Octets name 4 content none)
 

@@ -2,7 +2,6 @@
 use Rattle.std.specs.Prelude.{ℕ, Bool, true, false, List, [], ◌∷◌, Option, None, Some, codes}
 use Rattle.krb_registry.specs.declared.kind.Kind.{Kind}
 use Rattle.krb_registry.specs.declared.kind.Kind.TheVariants as kinds
-use Rattle.krb_schema.specs.declared.shape.Case.{Case}
 use Rattle.krb_schema.specs.declared.shape.Leaf.TheVariants as leaf
 use Rattle.krb_schema.specs.declared.shape.Role.{Role}
 use Rattle.krb_schema.specs.declared.shape.Role.TheVariants as role
@@ -45,65 +44,67 @@ types =
     ∷ (codes "ETYPE-INFO2", 37)
     ∷ (codes "KERB-PA-PAC-REQUEST", 38)
     ∷ (codes "PA-PAC-OPTIONS", 39)
-    ∷ (codes "AS-REQ", 40)
-    ∷ (codes "TGS-REQ", 41)
-    ∷ (codes "KDC-REQ (AS)", 44)
-    ∷ (codes "KDC-REQ (TGS)", 46)
-    ∷ (codes "KDC-REQ-BODY", 49)
-    ∷ (codes "AS-REP", 50)
-    ∷ (codes "TGS-REP", 51)
-    ∷ (codes "KDC-REP (AS)", 53)
-    ∷ (codes "KDC-REP (TGS)", 55)
-    ∷ (codes "EncASRepPart", 56)
-    ∷ (codes "EncTGSRepPart", 57)
-    ∷ (codes "EncKDCRepPart", 58)
-    ∷ (codes "LastReq", 60)
-    ∷ (codes "AP-REQ", 63)
-    ∷ (codes "Authenticator", 65)
-    ∷ (codes "AP-REP", 68)
-    ∷ (codes "EncAPRepPart", 70)
-    ∷ (codes "KRB-PRIV", 73)
-    ∷ (codes "EncKrbPrivPart", 75)
-    ∷ (codes "KRB-CRED", 78)
-    ∷ (codes "EncKrbCredPart", 81)
-    ∷ (codes "KrbCredInfo", 82)
-    ∷ (codes "KRB-ERROR", 86)
-    ∷ (codes "KERB-ERROR-DATA", 87)
-    ∷ (codes "KERB-AD-RESTRICTION-ENTRY", 88)
-    ∷ (codes "ChangePasswdData", 89)
-    ∷ (codes "TGT-REQ", 91)
-    ∷ (codes "TGT-REP", 93)
-    ∷ (codes "KDC-PROXY-MESSAGE", 94)
-    ∷ (codes "PKU2U-NEGO-REQ-METADATA", 96)
-    ∷ (codes "PKU2U-NEGO-BODY", 97)
-    ∷ (codes "PKU2U-NEGO-REQ", 99)
-    ∷ (codes "PKU2U-NEGO-REP", 100)
-    ∷ (codes "KRB-FINISHED", 101)
-    ∷ (codes "PA-PK-AS-REQ", 104)
-    ∷ (codes "ExternalPrincipalIdentifier", 106)
-    ∷ (codes "DHAuthPack", 108)
-    ∷ (codes "ECAuthPack", 109)
-    ∷ (codes "PKAuthenticator", 110)
-    ∷ (codes "PA-PK-AS-REP (dhInfo)", 111)
-    ∷ (codes "PA-PK-AS-REP (encKeyPack)", 112)
-    ∷ (codes "DHRepInfo", 113)
-    ∷ (codes "KDCDHKeyInfo", 114)
-    ∷ (codes "AlgorithmIdentifier", 115)
-    ∷ (codes "SubjectPublicKeyInfo", 116)
-    ∷ (codes "DHSubjectPublicKeyInfo", 118)
-    ∷ (codes "DomainParameters", 119)
-    ∷ (codes "ValidationParms", 120)
-    ∷ (codes "TSCredentials", 122)
-    ∷ (codes "TSPasswordCreds", 123)
-    ∷ (codes "TSSmartCardCreds", 124)
-    ∷ (codes "TSCspDataDetail", 125)
-    ∷ (codes "TSRemoteGuardCreds", 127)
-    ∷ (codes "TSRemoteGuardPackageCred", 128)
-    ∷ (codes "NegotiationToken (negTokenInit)", 129)
-    ∷ (codes "NegotiationToken (negTokenResp)", 130)
-    ∷ (codes "NegTokenInit", 133)
-    ∷ (codes "ContextFlags", 134)
-    ∷ (codes "NegTokenResp", 136)
+    ∷ (codes "KERB-KEY-LIST-REQ", 40)
+    ∷ (codes "KERB-KEY-LIST-REP", 41)
+    ∷ (codes "AS-REQ", 42)
+    ∷ (codes "TGS-REQ", 43)
+    ∷ (codes "KDC-REQ (AS)", 46)
+    ∷ (codes "KDC-REQ (TGS)", 48)
+    ∷ (codes "KDC-REQ-BODY", 51)
+    ∷ (codes "AS-REP", 52)
+    ∷ (codes "TGS-REP", 53)
+    ∷ (codes "KDC-REP (AS)", 55)
+    ∷ (codes "KDC-REP (TGS)", 57)
+    ∷ (codes "EncASRepPart", 58)
+    ∷ (codes "EncTGSRepPart", 59)
+    ∷ (codes "EncKDCRepPart", 60)
+    ∷ (codes "LastReq", 62)
+    ∷ (codes "AP-REQ", 65)
+    ∷ (codes "Authenticator", 67)
+    ∷ (codes "AP-REP", 70)
+    ∷ (codes "EncAPRepPart", 72)
+    ∷ (codes "KRB-PRIV", 75)
+    ∷ (codes "EncKrbPrivPart", 77)
+    ∷ (codes "KRB-CRED", 80)
+    ∷ (codes "EncKrbCredPart", 83)
+    ∷ (codes "KrbCredInfo", 84)
+    ∷ (codes "KRB-ERROR", 88)
+    ∷ (codes "KERB-ERROR-DATA", 89)
+    ∷ (codes "KERB-AD-RESTRICTION-ENTRY", 90)
+    ∷ (codes "ChangePasswdData", 91)
+    ∷ (codes "TGT-REQ", 93)
+    ∷ (codes "TGT-REP", 95)
+    ∷ (codes "KDC-PROXY-MESSAGE", 96)
+    ∷ (codes "PKU2U-NEGO-REQ-METADATA", 98)
+    ∷ (codes "PKU2U-NEGO-BODY", 99)
+    ∷ (codes "PKU2U-NEGO-REQ", 101)
+    ∷ (codes "PKU2U-NEGO-REP", 102)
+    ∷ (codes "KRB-FINISHED", 103)
+    ∷ (codes "PA-PK-AS-REQ", 106)
+    ∷ (codes "ExternalPrincipalIdentifier", 108)
+    ∷ (codes "DHAuthPack", 110)
+    ∷ (codes "ECAuthPack", 111)
+    ∷ (codes "PKAuthenticator", 112)
+    ∷ (codes "PA-PK-AS-REP (dhInfo)", 113)
+    ∷ (codes "PA-PK-AS-REP (encKeyPack)", 114)
+    ∷ (codes "DHRepInfo", 115)
+    ∷ (codes "KDCDHKeyInfo", 116)
+    ∷ (codes "AlgorithmIdentifier", 117)
+    ∷ (codes "SubjectPublicKeyInfo", 118)
+    ∷ (codes "DHSubjectPublicKeyInfo", 120)
+    ∷ (codes "DomainParameters", 121)
+    ∷ (codes "ValidationParms", 122)
+    ∷ (codes "TSCredentials", 124)
+    ∷ (codes "TSPasswordCreds", 125)
+    ∷ (codes "TSSmartCardCreds", 126)
+    ∷ (codes "TSCspDataDetail", 127)
+    ∷ (codes "TSRemoteGuardCreds", 129)
+    ∷ (codes "TSRemoteGuardPackageCred", 130)
+    ∷ (codes "NegotiationToken (negTokenInit)", 131)
+    ∷ (codes "NegotiationToken (negTokenResp)", 132)
+    ∷ (codes "NegTokenInit", 135)
+    ∷ (codes "ContextFlags", 136)
+    ∷ (codes "NegTokenResp", 138)
     ∷ []
 
 -- the rows
@@ -141,7 +142,7 @@ shapes =
     ∷ shape.Sequence 48 19 11
     ∷ shape.Tagged 99 29
     ∷ shape.Sequence 48 30 2
-    ∷ shape.Holding 1 7
+    ∷ shape.Holding 1 10
     ∷ shape.Sequence 48 32 2
     ∷ shape.SequenceOf 48 33 false
     ∷ shape.Sequence 48 34 2
@@ -149,8 +150,10 @@ shapes =
     ∷ shape.SequenceOf 48 36 true
     ∷ shape.Sequence 48 39 1
     ∷ shape.Sequence 48 40 1
-    ∷ shape.Tagged 106 44
-    ∷ shape.Tagged 108 46
+    ∷ shape.SequenceOf 48 1 false
+    ∷ shape.SequenceOf 48 24 false
+    ∷ shape.Tagged 106 46
+    ∷ shape.Tagged 108 48
     ∷ shape.Leaf 2 (leaf.Number 10)
     ∷ shape.SequenceOf 48 33 false
     ∷ shape.Sequence 48 41 4
@@ -159,43 +162,43 @@ shapes =
     ∷ shape.SequenceOf 48 1 false
     ∷ shape.SequenceOf 48 28 false
     ∷ shape.Sequence 48 49 12
-    ∷ shape.Tagged 107 53
-    ∷ shape.Tagged 109 55
+    ∷ shape.Tagged 107 55
+    ∷ shape.Tagged 109 57
     ∷ shape.Leaf 2 (leaf.Number 11)
     ∷ shape.Sequence 48 61 7
     ∷ shape.Leaf 2 (leaf.Number 13)
     ∷ shape.Sequence 48 68 7
-    ∷ shape.Tagged 121 58
-    ∷ shape.Tagged 122 58
+    ∷ shape.Tagged 121 60
+    ∷ shape.Tagged 122 60
     ∷ shape.Sequence 48 75 13
     ∷ shape.Sequence 48 88 2
-    ∷ shape.SequenceOf 48 59 false
+    ∷ shape.SequenceOf 48 61 false
     ∷ shape.Leaf 2 (leaf.Number 14)
     ∷ shape.Sequence 48 90 5
-    ∷ shape.Tagged 110 62
+    ∷ shape.Tagged 110 64
     ∷ shape.Sequence 48 95 9
-    ∷ shape.Tagged 98 64
+    ∷ shape.Tagged 98 66
     ∷ shape.Leaf 2 (leaf.Number 15)
     ∷ shape.Sequence 48 104 3
-    ∷ shape.Tagged 111 67
+    ∷ shape.Tagged 111 69
     ∷ shape.Sequence 48 107 4
-    ∷ shape.Tagged 123 69
+    ∷ shape.Tagged 123 71
     ∷ shape.Leaf 2 (leaf.Number 21)
     ∷ shape.Sequence 48 111 3
-    ∷ shape.Tagged 117 72
+    ∷ shape.Tagged 117 74
     ∷ shape.Sequence 48 114 6
-    ∷ shape.Tagged 124 74
+    ∷ shape.Tagged 124 76
     ∷ shape.Leaf 2 (leaf.Number 22)
     ∷ shape.Sequence 48 120 4
-    ∷ shape.Tagged 118 77
-    ∷ shape.SequenceOf 48 82 false
+    ∷ shape.Tagged 118 79
+    ∷ shape.SequenceOf 48 84 false
     ∷ shape.Sequence 48 124 6
-    ∷ shape.Tagged 125 80
+    ∷ shape.Tagged 125 82
     ∷ shape.Sequence 48 130 11
     ∷ shape.Leaf 2 (leaf.Number 30)
-    ∷ shape.Holding 8 2
+    ∷ shape.Holding 11 2
     ∷ shape.Sequence 48 141 13
-    ∷ shape.Tagged 126 85
+    ∷ shape.Tagged 126 87
     ∷ shape.Sequence 48 154 2
     ∷ shape.Sequence 48 156 2
     ∷ shape.Sequence 48 158 3
@@ -207,20 +210,20 @@ shapes =
     ∷ shape.Leaf 128 leaf.Octets
     ∷ shape.Sequence 48 170 1
     ∷ shape.Sequence 48 171 2
-    ∷ shape.SequenceOf 48 96 false
+    ∷ shape.SequenceOf 48 98 false
     ∷ shape.Sequence 48 173 2
     ∷ shape.Sequence 48 175 1
     ∷ shape.Sequence 48 176 1
-    ∷ shape.SequenceOf 48 106 false
+    ∷ shape.SequenceOf 48 108 false
     ∷ shape.Leaf 130 leaf.Octets
     ∷ shape.Sequence 48 177 3
     ∷ shape.Leaf 129 leaf.Octets
     ∷ shape.Sequence 48 180 3
-    ∷ shape.SequenceOf 48 115 false
+    ∷ shape.SequenceOf 48 117 false
     ∷ shape.Sequence 48 183 4
     ∷ shape.Sequence 48 187 4
     ∷ shape.Sequence 48 191 4
-    ∷ shape.Tagged 160 113
+    ∷ shape.Tagged 160 115
     ∷ shape.Leaf 129 leaf.Octets
     ∷ shape.Sequence 48 195 2
     ∷ shape.Sequence 48 197 3
@@ -230,21 +233,21 @@ shapes =
     ∷ shape.Sequence 48 206 2
     ∷ shape.Sequence 48 208 5
     ∷ shape.Sequence 48 213 2
-    ∷ shape.Holding 10 3
+    ∷ shape.Holding 13 3
     ∷ shape.Sequence 48 215 2
     ∷ shape.Sequence 48 217 3
     ∷ shape.Sequence 48 220 4
     ∷ shape.Sequence 48 224 5
-    ∷ shape.SequenceOf 48 128 false
+    ∷ shape.SequenceOf 48 130 false
     ∷ shape.Sequence 48 229 2
     ∷ shape.Sequence 48 231 2
-    ∷ shape.Tagged 160 133
-    ∷ shape.Tagged 161 136
+    ∷ shape.Tagged 160 135
+    ∷ shape.Tagged 161 138
     ∷ shape.SequenceOf 48 9 false
-    ∷ shape.Holding 13 3
+    ∷ shape.Holding 16 3
     ∷ shape.Sequence 48 233 4
     ∷ shape.Leaf 3 leaf.Flags
-    ∷ shape.Holding 16 3
+    ∷ shape.Holding 19 3
     ∷ shape.Sequence 48 237 4
     ∷ []
 
@@ -293,13 +296,13 @@ fields =
     ∷ (Some 160, true, false, codes "include-pac", None, role.None, 0)
     ∷ (Some 160, true, false, codes "flags", None, role.None, 5)
     ∷ (Some 161, true, false, codes "pvno", None, role.None, 26)
-    ∷ (Some 162, true, false, codes "msg-type", Some kinds.MessageType, role.None, 42)
-    ∷ (Some 163, true, true, codes "padata", None, role.None, 43)
-    ∷ (Some 164, true, false, codes "req-body", None, role.None, 49)
+    ∷ (Some 162, true, false, codes "msg-type", Some kinds.MessageType, role.None, 44)
+    ∷ (Some 163, true, true, codes "padata", None, role.None, 45)
+    ∷ (Some 164, true, false, codes "req-body", None, role.None, 51)
     ∷ (Some 161, true, false, codes "pvno", None, role.None, 26)
-    ∷ (Some 162, true, false, codes "msg-type", Some kinds.MessageType, role.None, 45)
-    ∷ (Some 163, true, true, codes "padata", None, role.None, 43)
-    ∷ (Some 164, true, false, codes "req-body", None, role.None, 49)
+    ∷ (Some 162, true, false, codes "msg-type", Some kinds.MessageType, role.None, 47)
+    ∷ (Some 163, true, true, codes "padata", None, role.None, 45)
+    ∷ (Some 164, true, false, codes "req-body", None, role.None, 51)
     ∷ (Some 160, true, false, codes "kdc-options", Some kinds.KdcOption, role.None, 5)
     ∷ (Some 161, true, true, codes "cname", None, role.ClientName, 15)
     ∷ (Some 162, true, false, codes "realm", None, role.ServerRealm, 11)
@@ -308,26 +311,26 @@ fields =
     ∷ (Some 165, true, false, codes "till", None, role.None, 10)
     ∷ (Some 166, true, true, codes "rtime", None, role.None, 10)
     ∷ (Some 167, true, false, codes "nonce", None, role.None, 1)
-    ∷ (Some 168, true, false, codes "etype", Some kinds.EncryptionType, role.None, 47)
+    ∷ (Some 168, true, false, codes "etype", Some kinds.EncryptionType, role.None, 49)
     ∷ (Some 169, true, true, codes "addresses", None, role.None, 17)
     ∷ (Some 170, true, true, codes "enc-authorization-data", None, role.RequestAuthorizationData, 23)
-    ∷ (Some 171, true, true, codes "additional-tickets", None, role.None, 48)
+    ∷ (Some 171, true, true, codes "additional-tickets", None, role.None, 50)
     ∷ (Some 160, true, false, codes "pvno", None, role.None, 26)
-    ∷ (Some 161, true, false, codes "msg-type", Some kinds.MessageType, role.None, 52)
-    ∷ (Some 162, true, true, codes "padata", None, role.None, 43)
+    ∷ (Some 161, true, false, codes "msg-type", Some kinds.MessageType, role.None, 54)
+    ∷ (Some 162, true, true, codes "padata", None, role.None, 45)
     ∷ (Some 163, true, false, codes "crealm", None, role.ClientRealm, 11)
     ∷ (Some 164, true, false, codes "cname", None, role.ClientName, 15)
     ∷ (Some 165, true, false, codes "ticket", None, role.None, 28)
     ∷ (Some 166, true, false, codes "enc-part", None, role.EncAsRepPart, 23)
     ∷ (Some 160, true, false, codes "pvno", None, role.None, 26)
-    ∷ (Some 161, true, false, codes "msg-type", Some kinds.MessageType, role.None, 54)
-    ∷ (Some 162, true, true, codes "padata", None, role.None, 43)
+    ∷ (Some 161, true, false, codes "msg-type", Some kinds.MessageType, role.None, 56)
+    ∷ (Some 162, true, true, codes "padata", None, role.None, 45)
     ∷ (Some 163, true, false, codes "crealm", None, role.ClientRealm, 11)
     ∷ (Some 164, true, false, codes "cname", None, role.ClientName, 15)
     ∷ (Some 165, true, false, codes "ticket", None, role.None, 28)
     ∷ (Some 166, true, false, codes "enc-part", None, role.EncTgsRepPart, 23)
     ∷ (Some 160, true, false, codes "key", None, role.None, 24)
-    ∷ (Some 161, true, false, codes "last-req", None, role.None, 60)
+    ∷ (Some 161, true, false, codes "last-req", None, role.None, 62)
     ∷ (Some 162, true, false, codes "nonce", None, role.None, 1)
     ∷ (Some 163, true, true, codes "key-expiration", None, role.None, 10)
     ∷ (Some 164, true, false, codes "flags", Some kinds.TicketFlag, role.None, 5)
@@ -338,11 +341,11 @@ fields =
     ∷ (Some 169, true, false, codes "srealm", None, role.None, 11)
     ∷ (Some 170, true, false, codes "sname", None, role.None, 15)
     ∷ (Some 171, true, true, codes "caddr", None, role.None, 17)
-    ∷ (Some 172, true, true, codes "encrypted-pa-data", None, role.None, 43)
+    ∷ (Some 172, true, true, codes "encrypted-pa-data", None, role.None, 45)
     ∷ (Some 160, true, false, codes "lr-type", Some kinds.LastRequestType, role.None, 1)
     ∷ (Some 161, true, false, codes "lr-value", None, role.None, 10)
     ∷ (Some 160, true, false, codes "pvno", None, role.None, 26)
-    ∷ (Some 161, true, false, codes "msg-type", Some kinds.MessageType, role.None, 61)
+    ∷ (Some 161, true, false, codes "msg-type", Some kinds.MessageType, role.None, 63)
     ∷ (Some 162, true, false, codes "ap-options", Some kinds.ApOption, role.None, 5)
     ∷ (Some 163, true, false, codes "ticket", None, role.None, 28)
     ∷ (Some 164, true, false, codes "authenticator", None, role.Authenticator, 23)
@@ -356,14 +359,14 @@ fields =
     ∷ (Some 167, true, true, codes "seq-number", None, role.None, 1)
     ∷ (Some 168, true, true, codes "authorization-data", None, role.None, 20)
     ∷ (Some 160, true, false, codes "pvno", None, role.None, 26)
-    ∷ (Some 161, true, false, codes "msg-type", Some kinds.MessageType, role.None, 66)
+    ∷ (Some 161, true, false, codes "msg-type", Some kinds.MessageType, role.None, 68)
     ∷ (Some 162, true, false, codes "enc-part", None, role.EncApRepPart, 23)
     ∷ (Some 160, true, false, codes "ctime", None, role.None, 10)
     ∷ (Some 161, true, false, codes "cusec", None, role.None, 3)
     ∷ (Some 162, true, true, codes "subkey", None, role.None, 24)
     ∷ (Some 163, true, true, codes "seq-number", None, role.None, 1)
     ∷ (Some 160, true, false, codes "pvno", None, role.None, 26)
-    ∷ (Some 161, true, false, codes "msg-type", Some kinds.MessageType, role.None, 71)
+    ∷ (Some 161, true, false, codes "msg-type", Some kinds.MessageType, role.None, 73)
     ∷ (Some 163, true, false, codes "enc-part", None, role.EncKrbPrivPart, 23)
     ∷ (Some 160, true, false, codes "user-data", None, role.None, 6)
     ∷ (Some 161, true, true, codes "timestamp", None, role.None, 10)
@@ -372,10 +375,10 @@ fields =
     ∷ (Some 164, true, false, codes "s-address", None, role.None, 16)
     ∷ (Some 165, true, true, codes "r-address", None, role.None, 16)
     ∷ (Some 160, true, false, codes "pvno", None, role.None, 26)
-    ∷ (Some 161, true, false, codes "msg-type", Some kinds.MessageType, role.None, 76)
-    ∷ (Some 162, true, false, codes "tickets", None, role.None, 48)
+    ∷ (Some 161, true, false, codes "msg-type", Some kinds.MessageType, role.None, 78)
+    ∷ (Some 162, true, false, codes "tickets", None, role.None, 50)
     ∷ (Some 163, true, false, codes "enc-part", None, role.EncKrbCredPart, 23)
-    ∷ (Some 160, true, false, codes "ticket-info", None, role.None, 79)
+    ∷ (Some 160, true, false, codes "ticket-info", None, role.None, 81)
     ∷ (Some 161, true, true, codes "nonce", None, role.None, 1)
     ∷ (Some 162, true, true, codes "timestamp", None, role.None, 10)
     ∷ (Some 163, true, true, codes "usec", None, role.None, 3)
@@ -393,7 +396,7 @@ fields =
     ∷ (Some 169, true, true, codes "sname", None, role.None, 15)
     ∷ (Some 170, true, true, codes "caddr", None, role.None, 17)
     ∷ (Some 160, true, false, codes "pvno", None, role.None, 26)
-    ∷ (Some 161, true, false, codes "msg-type", Some kinds.MessageType, role.None, 83)
+    ∷ (Some 161, true, false, codes "msg-type", Some kinds.MessageType, role.None, 85)
     ∷ (Some 162, true, true, codes "ctime", None, role.None, 10)
     ∷ (Some 163, true, true, codes "cusec", None, role.None, 3)
     ∷ (Some 164, true, false, codes "stime", None, role.None, 10)
@@ -404,7 +407,7 @@ fields =
     ∷ (Some 169, true, false, codes "realm", None, role.ServerRealm, 11)
     ∷ (Some 170, true, false, codes "sname", None, role.ServerName, 15)
     ∷ (Some 171, true, true, codes "e-text", None, role.None, 11)
-    ∷ (Some 172, true, true, codes "e-data", None, role.None, 84)
+    ∷ (Some 172, true, true, codes "e-data", None, role.None, 86)
     ∷ (Some 161, true, false, codes "data-type", None, role.None, 1)
     ∷ (Some 162, true, true, codes "data-value", None, role.None, 6)
     ∷ (Some 160, true, false, codes "restriction-type", None, role.None, 1)
@@ -413,66 +416,66 @@ fields =
     ∷ (Some 161, true, true, codes "targname", None, role.None, 15)
     ∷ (Some 162, true, true, codes "targrealm", None, role.None, 11)
     ∷ (Some 160, true, false, codes "pvno", None, role.None, 26)
-    ∷ (Some 161, true, false, codes "msg-type", Some kinds.MessageType, role.None, 90)
+    ∷ (Some 161, true, false, codes "msg-type", Some kinds.MessageType, role.None, 92)
     ∷ (Some 162, true, false, codes "server-name", None, role.None, 15)
     ∷ (Some 160, true, false, codes "pvno", None, role.None, 26)
-    ∷ (Some 161, true, false, codes "msg-type", Some kinds.MessageType, role.None, 92)
+    ∷ (Some 161, true, false, codes "msg-type", Some kinds.MessageType, role.None, 94)
     ∷ (Some 162, true, false, codes "ticket", None, role.None, 28)
     ∷ (Some 160, true, false, codes "kerb-message", None, role.PrefixedMessage, 6)
     ∷ (Some 161, true, true, codes "target-domain", None, role.None, 11)
     ∷ (Some 162, true, true, codes "dclocator-hint", None, role.None, 1)
-    ∷ (Some 128, false, false, codes "inner", None, role.None, 95)
+    ∷ (Some 128, false, false, codes "inner", None, role.None, 97)
     ∷ (Some 160, true, false, codes "realm", None, role.ServerRealm, 11)
     ∷ (Some 161, true, false, codes "sname", None, role.ServerName, 15)
-    ∷ (Some 160, true, false, codes "metadata", None, role.None, 98)
-    ∷ (Some 161, true, false, codes "body", None, role.None, 97)
-    ∷ (Some 160, true, false, codes "metadata", None, role.None, 98)
+    ∷ (Some 160, true, false, codes "metadata", None, role.None, 100)
+    ∷ (Some 161, true, false, codes "body", None, role.None, 99)
+    ∷ (Some 160, true, false, codes "metadata", None, role.None, 100)
     ∷ (Some 161, true, false, codes "gss-mic", None, role.None, 25)
-    ∷ (Some 128, false, false, codes "signedAuthPack", None, role.None, 95)
-    ∷ (Some 161, true, true, codes "trustedCertifiers", None, role.None, 102)
-    ∷ (Some 130, false, true, codes "kdcPkId", None, role.None, 103)
-    ∷ (Some 128, false, true, codes "subjectName", None, role.None, 95)
-    ∷ (Some 129, false, true, codes "issuerAndSerialNumber", None, role.None, 105)
-    ∷ (Some 130, false, true, codes "subjectKeyIdentifier", None, role.None, 103)
-    ∷ (Some 160, true, false, codes "pkAuthenticator", None, role.None, 110)
-    ∷ (Some 161, true, true, codes "clientPublicValue", None, role.None, 118)
-    ∷ (Some 162, true, true, codes "supportedCMSTypes", None, role.None, 107)
+    ∷ (Some 128, false, false, codes "signedAuthPack", None, role.None, 97)
+    ∷ (Some 161, true, true, codes "trustedCertifiers", None, role.None, 104)
+    ∷ (Some 130, false, true, codes "kdcPkId", None, role.None, 105)
+    ∷ (Some 128, false, true, codes "subjectName", None, role.None, 97)
+    ∷ (Some 129, false, true, codes "issuerAndSerialNumber", None, role.None, 107)
+    ∷ (Some 130, false, true, codes "subjectKeyIdentifier", None, role.None, 105)
+    ∷ (Some 160, true, false, codes "pkAuthenticator", None, role.None, 112)
+    ∷ (Some 161, true, true, codes "clientPublicValue", None, role.None, 120)
+    ∷ (Some 162, true, true, codes "supportedCMSTypes", None, role.None, 109)
     ∷ (Some 163, true, true, codes "clientDHNonce", None, role.None, 6)
-    ∷ (Some 160, true, false, codes "pkAuthenticator", None, role.None, 110)
-    ∷ (Some 161, true, true, codes "clientPublicValue", None, role.None, 116)
-    ∷ (Some 162, true, true, codes "supportedCMSTypes", None, role.None, 107)
+    ∷ (Some 160, true, false, codes "pkAuthenticator", None, role.None, 112)
+    ∷ (Some 161, true, true, codes "clientPublicValue", None, role.None, 118)
+    ∷ (Some 162, true, true, codes "supportedCMSTypes", None, role.None, 109)
     ∷ (Some 163, true, true, codes "clientDHNonce", None, role.None, 6)
     ∷ (Some 160, true, false, codes "cusec", None, role.None, 3)
     ∷ (Some 161, true, false, codes "ctime", None, role.None, 10)
     ∷ (Some 162, true, false, codes "nonce", None, role.None, 1)
     ∷ (Some 163, true, true, codes "paChecksum", None, role.None, 6)
-    ∷ (Some 128, false, false, codes "dhSignedData", None, role.None, 95)
+    ∷ (Some 128, false, false, codes "dhSignedData", None, role.None, 97)
     ∷ (Some 161, true, true, codes "serverDHNonce", None, role.None, 6)
     ∷ (Some 160, true, false, codes "subjectPublicKey", None, role.None, 4)
     ∷ (Some 161, true, false, codes "nonce", None, role.None, 1)
     ∷ (Some 162, true, true, codes "dhKeyExpiration", None, role.None, 10)
     ∷ (Some 6, false, false, codes "algorithm", None, role.None, 9)
     ∷ (None, false, true, codes "parameters", None, role.None, 13)
-    ∷ (Some 48, false, false, codes "algorithm", None, role.None, 115)
+    ∷ (Some 48, false, false, codes "algorithm", None, role.None, 117)
     ∷ (Some 3, false, false, codes "subjectPublicKey", None, role.None, 4)
     ∷ (Some 6, false, false, codes "algorithm", None, role.None, 9)
-    ∷ (Some 48, false, false, codes "parameters", None, role.None, 119)
-    ∷ (Some 48, false, false, codes "algorithm", None, role.None, 117)
+    ∷ (Some 48, false, false, codes "parameters", None, role.None, 121)
+    ∷ (Some 48, false, false, codes "algorithm", None, role.None, 119)
     ∷ (Some 3, false, false, codes "subjectPublicKey", None, role.None, 4)
     ∷ (Some 2, false, false, codes "p", None, role.None, 1)
     ∷ (Some 2, false, false, codes "g", None, role.None, 1)
     ∷ (Some 2, false, false, codes "q", None, role.None, 1)
     ∷ (Some 2, false, true, codes "j", None, role.None, 1)
-    ∷ (Some 48, false, true, codes "validationParms", None, role.None, 120)
+    ∷ (Some 48, false, true, codes "validationParms", None, role.None, 122)
     ∷ (Some 3, false, false, codes "seed", None, role.None, 4)
     ∷ (Some 2, false, false, codes "pgenCounter", None, role.None, 1)
     ∷ (Some 160, true, false, codes "credType", None, role.None, 1)
-    ∷ (Some 161, true, false, codes "credentials", None, role.None, 121)
+    ∷ (Some 161, true, false, codes "credentials", None, role.None, 123)
     ∷ (Some 160, true, false, codes "domainName", None, role.None, 6)
     ∷ (Some 161, true, false, codes "userName", None, role.None, 6)
     ∷ (Some 162, true, false, codes "password", None, role.None, 7)
     ∷ (Some 160, true, false, codes "pin", None, role.None, 7)
-    ∷ (Some 161, true, false, codes "cspData", None, role.None, 125)
+    ∷ (Some 161, true, false, codes "cspData", None, role.None, 127)
     ∷ (Some 162, true, true, codes "userHint", None, role.None, 6)
     ∷ (Some 163, true, true, codes "domainHint", None, role.None, 6)
     ∷ (Some 160, true, false, codes "keySpec", None, role.None, 1)
@@ -480,40 +483,43 @@ fields =
     ∷ (Some 162, true, true, codes "readerName", None, role.None, 6)
     ∷ (Some 163, true, true, codes "containerName", None, role.None, 6)
     ∷ (Some 164, true, true, codes "cspName", None, role.None, 6)
-    ∷ (Some 160, true, false, codes "logonCred", None, role.None, 128)
-    ∷ (Some 161, true, true, codes "supplementalCreds", None, role.None, 126)
+    ∷ (Some 160, true, false, codes "logonCred", None, role.None, 130)
+    ∷ (Some 161, true, true, codes "supplementalCreds", None, role.None, 128)
     ∷ (Some 160, true, false, codes "packageName", None, role.None, 6)
     ∷ (Some 161, true, false, codes "credBuffer", None, role.None, 6)
-    ∷ (Some 160, true, true, codes "mechTypes", None, role.None, 131)
-    ∷ (Some 161, true, true, codes "reqFlags", Some kinds.ContextFlag, role.None, 134)
-    ∷ (Some 162, true, true, codes "mechToken", None, role.MechanismToken, 132)
+    ∷ (Some 160, true, true, codes "mechTypes", None, role.None, 133)
+    ∷ (Some 161, true, true, codes "reqFlags", Some kinds.ContextFlag, role.None, 136)
+    ∷ (Some 162, true, true, codes "mechToken", None, role.MechanismToken, 134)
     ∷ (Some 163, true, true, codes "mechListMIC", None, role.MechanismListMic, 6)
     ∷ (Some 160, true, true, codes "negState", Some kinds.NegotiationState, role.None, 13)
     ∷ (Some 161, true, true, codes "supportedMech", None, role.None, 9)
-    ∷ (Some 162, true, true, codes "responseToken", None, role.MechanismToken, 135)
+    ∷ (Some 162, true, true, codes "responseToken", None, role.MechanismToken, 137)
     ∷ (Some 163, true, true, codes "mechListMIC", None, role.MechanismListMic, 6)
     ∷ []
 
 -- what OCTET STRINGs hold
-unfoldable pub cases : List Case
+unfoldable pub cases : List (Option ℕ × Option (List ℕ × Option Kind × Role) × ℕ)
 cases =
-    record { behind = Some 1; is = 22 }
-    ∷ record { behind = Some 1; is = 63 }
-    ∷ record { behind = Some 2; is = 23 }
-    ∷ record { behind = Some 16; is = 104 }
-    ∷ record { behind = Some 17; is = 111 }
-    ∷ record { behind = Some 19; is = 37 }
-    ∷ record { behind = Some 128; is = 38 }
-    ∷ record { behind = Some 167; is = 39 }
-    ∷ record { behind = None; is = 34 }
-    ∷ record { behind = None; is = 87 }
-    ∷ record { behind = Some 1; is = 123 }
-    ∷ record { behind = Some 2; is = 124 }
-    ∷ record { behind = Some 6; is = 127 }
-    ∷ record { behind = None; is = 63 }
-    ∷ record { behind = None; is = 68 }
-    ∷ record { behind = None; is = 86 }
-    ∷ record { behind = None; is = 63 }
-    ∷ record { behind = None; is = 68 }
-    ∷ record { behind = None; is = 86 }
+    (Some 1, None, 22)
+    ∷ (Some 1, None, 65)
+    ∷ (Some 2, None, 23)
+    ∷ (Some 16, None, 106)
+    ∷ (Some 17, Some (codes "dhInfo", None, role.None), 113)
+    ∷ (Some 17, Some (codes "encKeyPack", None, role.None), 114)
+    ∷ (Some 19, None, 37)
+    ∷ (Some 128, None, 38)
+    ∷ (Some 161, None, 40)
+    ∷ (Some 162, None, 41)
+    ∷ (Some 167, None, 39)
+    ∷ (None, None, 34)
+    ∷ (None, None, 89)
+    ∷ (Some 1, None, 125)
+    ∷ (Some 2, None, 126)
+    ∷ (Some 6, None, 129)
+    ∷ (None, None, 65)
+    ∷ (None, None, 70)
+    ∷ (None, None, 88)
+    ∷ (None, None, 65)
+    ∷ (None, None, 70)
+    ∷ (None, None, 88)
     ∷ []

@@ -80,17 +80,30 @@ macro_rules! bare_optional {
     };
 }
 
-/// A case of an OCTET STRING: the number that the field before has to be, and the row.
+/// A case of an OCTET STRING: the number that the field before has to be, the row, and what it is called if not as the OCTET STRING.
 macro_rules! case {
     ($is:expr) => {
         Case {
             behind: None,
+            name: None,
             is: $is,
         }
     };
     ($number:expr, $is:expr) => {
         Case {
             behind: Some($number),
+            name: None,
+            is: $is,
+        }
+    };
+    ($number:expr, $is:expr, called $text:expr) => {
+        Case {
+            behind: Some($number),
+            name: Some(Name {
+                text: $text,
+                registry: None,
+                role: Role::None,
+            }),
             is: $is,
         }
     };
@@ -148,7 +161,7 @@ pub const TICKET: usize = 28;
 pub const ENC_TICKET_PART: usize = 30;
 /// TransitedEncoding (RFC 4120, 5.3).
 pub const TRANSITED_ENCODING: usize = 31;
-/// PA-DATA (RFC 4120, 5.2.7; RFC 4556, 3.2; MS-KILE, 2.2.3 and 2.2.10).
+/// PA-DATA (RFC 4120, 5.2.7; RFC 4556, 3.2; MS-KILE, 2.2.3 and 2.2.10 to 2.2.12).
 pub const PA_DATA: usize = 33;
 /// METHOD-DATA (RFC 4120, 5.9.1).
 pub const METHOD_DATA: usize = 34;
@@ -162,124 +175,128 @@ pub const ETYPE_INFO2: usize = 37;
 pub const KERB_PA_PAC_REQUEST: usize = 38;
 /// PA-PAC-OPTIONS (MS-KILE, 2.2.10).
 pub const PA_PAC_OPTIONS: usize = 39;
+/// KERB-KEY-LIST-REQ: encryption types of the keys that are asked for (MS-KILE, 2.2.11).
+pub const KERB_KEY_LIST_REQ: usize = 40;
+/// KERB-KEY-LIST-REP: keys of the client (MS-KILE, 2.2.12).
+pub const KERB_KEY_LIST_REP: usize = 41;
 /// AS-REQ (RFC 4120, 5.4.1).
-pub const AS_REQ: usize = 40;
+pub const AS_REQ: usize = 42;
 /// TGS-REQ (RFC 4120, 5.4.1).
-pub const TGS_REQ: usize = 41;
+pub const TGS_REQ: usize = 43;
 /// KDC-REQ (AS): the request of an AS exchange (RFC 4120, 5.4.1).
-pub const KDC_REQ_AS: usize = 44;
+pub const KDC_REQ_AS: usize = 46;
 /// KDC-REQ (TGS): the request of a TGS exchange (RFC 4120, 5.4.1).
-pub const KDC_REQ_TGS: usize = 46;
+pub const KDC_REQ_TGS: usize = 48;
 /// KDC-REQ-BODY (RFC 4120, 5.4.1).
-pub const KDC_REQ_BODY: usize = 49;
+pub const KDC_REQ_BODY: usize = 51;
 /// AS-REP (RFC 4120, 5.4.2).
-pub const AS_REP: usize = 50;
+pub const AS_REP: usize = 52;
 /// TGS-REP (RFC 4120, 5.4.2).
-pub const TGS_REP: usize = 51;
+pub const TGS_REP: usize = 53;
 /// KDC-REP (AS): the reply of an AS exchange (RFC 4120, 5.4.2).
-pub const KDC_REP_AS: usize = 53;
+pub const KDC_REP_AS: usize = 55;
 /// KDC-REP (TGS): the reply of a TGS exchange (RFC 4120, 5.4.2).
-pub const KDC_REP_TGS: usize = 55;
+pub const KDC_REP_TGS: usize = 57;
 /// EncASRepPart (RFC 4120, 5.4.2).
-pub const ENC_AS_REP_PART: usize = 56;
+pub const ENC_AS_REP_PART: usize = 58;
 /// EncTGSRepPart (RFC 4120, 5.4.2).
-pub const ENC_TGS_REP_PART: usize = 57;
+pub const ENC_TGS_REP_PART: usize = 59;
 /// EncKDCRepPart (RFC 4120, 5.4.2; RFC 6806, 11).
-pub const ENC_KDC_REP_PART: usize = 58;
+pub const ENC_KDC_REP_PART: usize = 60;
 /// LastReq (RFC 4120, 5.4.2).
-pub const LAST_REQ: usize = 60;
+pub const LAST_REQ: usize = 62;
 /// AP-REQ (RFC 4120, 5.5.1).
-pub const AP_REQ: usize = 63;
+pub const AP_REQ: usize = 65;
 /// Authenticator (RFC 4120, 5.5.1).
-pub const AUTHENTICATOR: usize = 65;
+pub const AUTHENTICATOR: usize = 67;
 /// AP-REP (RFC 4120, 5.5.2).
-pub const AP_REP: usize = 68;
+pub const AP_REP: usize = 70;
 /// EncAPRepPart (RFC 4120, 5.5.2).
-pub const ENC_AP_REP_PART: usize = 70;
+pub const ENC_AP_REP_PART: usize = 72;
 /// KRB-PRIV (RFC 4120, 5.7.1).
-pub const KRB_PRIV: usize = 73;
+pub const KRB_PRIV: usize = 75;
 /// EncKrbPrivPart (RFC 4120, 5.7.1).
-pub const ENC_KRB_PRIV_PART: usize = 75;
+pub const ENC_KRB_PRIV_PART: usize = 77;
 /// KRB-CRED (RFC 4120, 5.8.1).
-pub const KRB_CRED: usize = 78;
+pub const KRB_CRED: usize = 80;
 /// EncKrbCredPart (RFC 4120, 5.8.1).
-pub const ENC_KRB_CRED_PART: usize = 81;
+pub const ENC_KRB_CRED_PART: usize = 83;
 /// KrbCredInfo (RFC 4120, 5.8.1).
-pub const KRB_CRED_INFO: usize = 82;
+pub const KRB_CRED_INFO: usize = 84;
 /// KRB-ERROR (RFC 4120, 5.9.1; MS-KILE, 2.2.1).
-pub const KRB_ERROR: usize = 86;
+pub const KRB_ERROR: usize = 88;
 /// KERB-ERROR-DATA (MS-KILE, 2.2.2).
-pub const KERB_ERROR_DATA: usize = 87;
+pub const KERB_ERROR_DATA: usize = 89;
 /// KERB-AD-RESTRICTION-ENTRY (MS-KILE, 2.2.6).
-pub const KERB_AD_RESTRICTION_ENTRY: usize = 88;
+pub const KERB_AD_RESTRICTION_ENTRY: usize = 90;
 /// ChangePasswdData (RFC 3244, 2).
-pub const CHANGE_PASSWD_DATA: usize = 89;
+pub const CHANGE_PASSWD_DATA: usize = 91;
 /// TGT-REQ (draft-swift-win2k-krb-user2user-03, 6).
-pub const TGT_REQ: usize = 91;
+pub const TGT_REQ: usize = 93;
 /// TGT-REP (draft-swift-win2k-krb-user2user-03, 6).
-pub const TGT_REP: usize = 93;
+pub const TGT_REP: usize = 95;
 /// KDC-PROXY-MESSAGE (MS-KKDCP, 2.2.2).
-pub const KDC_PROXY_MESSAGE: usize = 94;
+pub const KDC_PROXY_MESSAGE: usize = 96;
 /// PKU2U-NEGO-REQ-METADATA (no published standard).
-pub const PKU2U_NEGO_REQ_METADATA: usize = 96;
+pub const PKU2U_NEGO_REQ_METADATA: usize = 98;
 /// PKU2U-NEGO-BODY (no published standard).
-pub const PKU2U_NEGO_BODY: usize = 97;
+pub const PKU2U_NEGO_BODY: usize = 99;
 /// PKU2U-NEGO-REQ (no published standard).
-pub const PKU2U_NEGO_REQ: usize = 99;
+pub const PKU2U_NEGO_REQ: usize = 101;
 /// PKU2U-NEGO-REP (no published standard).
-pub const PKU2U_NEGO_REP: usize = 100;
+pub const PKU2U_NEGO_REP: usize = 102;
 /// KRB-FINISHED (draft-zhu-pku2u-04, 6).
-pub const KRB_FINISHED: usize = 101;
+pub const KRB_FINISHED: usize = 103;
 /// PA-PK-AS-REQ (RFC 4556, 3.2.1).
-pub const PA_PK_AS_REQ: usize = 104;
+pub const PA_PK_AS_REQ: usize = 106;
 /// ExternalPrincipalIdentifier (RFC 4556, 3.2.1).
-pub const EXTERNAL_PRINCIPAL_IDENTIFIER: usize = 106;
+pub const EXTERNAL_PRINCIPAL_IDENTIFIER: usize = 108;
 /// DHAuthPack: AuthPack with a Diffie-Hellman key (RFC 4556, 3.2.1).
-pub const DH_AUTH_PACK: usize = 108;
+pub const DH_AUTH_PACK: usize = 110;
 /// ECAuthPack: AuthPack with a public key of any algorithm (RFC 5349, 4).
-pub const EC_AUTH_PACK: usize = 109;
+pub const EC_AUTH_PACK: usize = 111;
 /// PKAuthenticator (RFC 4556, 3.2.1).
-pub const PK_AUTHENTICATOR: usize = 110;
+pub const PK_AUTHENTICATOR: usize = 112;
 /// PA-PK-AS-REP (dhInfo): the first alternative of the CHOICE (RFC 4556, 3.2.3).
-pub const PA_PK_AS_REP_DH_INFO: usize = 111;
+pub const PA_PK_AS_REP_DH_INFO: usize = 113;
 /// PA-PK-AS-REP (encKeyPack): the second alternative of the CHOICE (RFC 4556, 3.2.3).
-pub const PA_PK_AS_REP_ENC_KEY_PACK: usize = 112;
+pub const PA_PK_AS_REP_ENC_KEY_PACK: usize = 114;
 /// DHRepInfo (RFC 4556, 3.2.3).
-pub const DH_REP_INFO: usize = 113;
+pub const DH_REP_INFO: usize = 115;
 /// KDCDHKeyInfo (RFC 4556, 3.2.3).
-pub const KDC_DH_KEY_INFO: usize = 114;
+pub const KDC_DH_KEY_INFO: usize = 116;
 /// AlgorithmIdentifier (RFC 5280, 4.1.1.2).
-pub const ALGORITHM_IDENTIFIER: usize = 115;
+pub const ALGORITHM_IDENTIFIER: usize = 117;
 /// SubjectPublicKeyInfo (RFC 5280, 4.1.2.7).
-pub const SUBJECT_PUBLIC_KEY_INFO: usize = 116;
+pub const SUBJECT_PUBLIC_KEY_INFO: usize = 118;
 /// DHSubjectPublicKeyInfo (RFC 4556, 3.2.1; RFC 3279, 2.3.3).
-pub const DH_SUBJECT_PUBLIC_KEY_INFO: usize = 118;
+pub const DH_SUBJECT_PUBLIC_KEY_INFO: usize = 120;
 /// DomainParameters (RFC 3279, 2.3.3).
-pub const DOMAIN_PARAMETERS: usize = 119;
+pub const DOMAIN_PARAMETERS: usize = 121;
 /// ValidationParms (RFC 3279, 2.3.3).
-pub const VALIDATION_PARMS: usize = 120;
+pub const VALIDATION_PARMS: usize = 122;
 /// TSCredentials (MS-CSSP, 2.2.1.2).
-pub const TS_CREDENTIALS: usize = 122;
+pub const TS_CREDENTIALS: usize = 124;
 /// TSPasswordCreds (MS-CSSP, 2.2.1.2.1).
-pub const TS_PASSWORD_CREDS: usize = 123;
+pub const TS_PASSWORD_CREDS: usize = 125;
 /// TSSmartCardCreds (MS-CSSP, 2.2.1.2.2).
-pub const TS_SMART_CARD_CREDS: usize = 124;
+pub const TS_SMART_CARD_CREDS: usize = 126;
 /// TSCspDataDetail (MS-CSSP, 2.2.1.2.2.1).
-pub const TS_CSP_DATA_DETAIL: usize = 125;
+pub const TS_CSP_DATA_DETAIL: usize = 127;
 /// TSRemoteGuardCreds (MS-CSSP, 2.2.1.2.3).
-pub const TS_REMOTE_GUARD_CREDS: usize = 127;
+pub const TS_REMOTE_GUARD_CREDS: usize = 129;
 /// TSRemoteGuardPackageCred (MS-CSSP, 2.2.1.2.3.1).
-pub const TS_REMOTE_GUARD_PACKAGE_CRED: usize = 128;
+pub const TS_REMOTE_GUARD_PACKAGE_CRED: usize = 130;
 /// NegotiationToken (negTokenInit): the first alternative of the CHOICE (RFC 4178, 4.2).
-pub const NEGOTIATION_TOKEN_NEG_TOKEN_INIT: usize = 129;
+pub const NEGOTIATION_TOKEN_NEG_TOKEN_INIT: usize = 131;
 /// NegotiationToken (negTokenResp): the second alternative of the CHOICE (RFC 4178, 4.2).
-pub const NEGOTIATION_TOKEN_NEG_TOKEN_RESP: usize = 130;
+pub const NEGOTIATION_TOKEN_NEG_TOKEN_RESP: usize = 132;
 /// NegTokenInit (RFC 4178, 4.2.1).
-pub const NEG_TOKEN_INIT: usize = 133;
+pub const NEG_TOKEN_INIT: usize = 135;
 /// ContextFlags (RFC 4178, 4.2.1).
-pub const CONTEXT_FLAGS: usize = 134;
+pub const CONTEXT_FLAGS: usize = 136;
 /// NegTokenResp (RFC 4178, 4.2.2).
-pub const NEG_TOKEN_RESP: usize = 136;
+pub const NEG_TOKEN_RESP: usize = 138;
 /// SEQUENCE OF KerberosString (component).
 const SEQUENCE_OF_KERBEROS_STRING_COMPONENT: usize = 14;
 /// Within AuthorizationData.
@@ -297,81 +314,81 @@ const ENC_TICKET_PART_CONTENT: usize = 29;
 /// Within PA-DATA.
 const PA_DATA_PADATA_VALUE: usize = 32;
 /// INTEGER (10).
-const INTEGER_10: usize = 42;
+const INTEGER_10: usize = 44;
 /// SEQUENCE OF PA-DATA.
-const SEQUENCE_OF_PA_DATA: usize = 43;
+const SEQUENCE_OF_PA_DATA: usize = 45;
 /// INTEGER (12).
-const INTEGER_12: usize = 45;
+const INTEGER_12: usize = 47;
 /// SEQUENCE OF INTEGER.
-const SEQUENCE_OF_INTEGER: usize = 47;
+const SEQUENCE_OF_INTEGER: usize = 49;
 /// SEQUENCE OF Ticket.
-const SEQUENCE_OF_TICKET: usize = 48;
+const SEQUENCE_OF_TICKET: usize = 50;
 /// INTEGER (11).
-const INTEGER_11: usize = 52;
+const INTEGER_11: usize = 54;
 /// INTEGER (13).
-const INTEGER_13: usize = 54;
+const INTEGER_13: usize = 56;
 /// Within LastReq.
-const LAST_REQ_ELEMENT: usize = 59;
+const LAST_REQ_ELEMENT: usize = 61;
 /// INTEGER (14).
-const INTEGER_14: usize = 61;
+const INTEGER_14: usize = 63;
 /// Within AP-REQ.
-const AP_REQ_CONTENT: usize = 62;
+const AP_REQ_CONTENT: usize = 64;
 /// Within Authenticator.
-const AUTHENTICATOR_CONTENT: usize = 64;
+const AUTHENTICATOR_CONTENT: usize = 66;
 /// INTEGER (15).
-const INTEGER_15: usize = 66;
+const INTEGER_15: usize = 68;
 /// Within AP-REP.
-const AP_REP_CONTENT: usize = 67;
+const AP_REP_CONTENT: usize = 69;
 /// Within EncAPRepPart.
-const ENC_AP_REP_PART_CONTENT: usize = 69;
+const ENC_AP_REP_PART_CONTENT: usize = 71;
 /// INTEGER (21).
-const INTEGER_21: usize = 71;
+const INTEGER_21: usize = 73;
 /// Within KRB-PRIV.
-const KRB_PRIV_CONTENT: usize = 72;
+const KRB_PRIV_CONTENT: usize = 74;
 /// Within EncKrbPrivPart.
-const ENC_KRB_PRIV_PART_CONTENT: usize = 74;
+const ENC_KRB_PRIV_PART_CONTENT: usize = 76;
 /// INTEGER (22).
-const INTEGER_22: usize = 76;
+const INTEGER_22: usize = 78;
 /// Within KRB-CRED.
-const KRB_CRED_CONTENT: usize = 77;
+const KRB_CRED_CONTENT: usize = 79;
 /// SEQUENCE OF KrbCredInfo.
-const SEQUENCE_OF_KRB_CRED_INFO: usize = 79;
+const SEQUENCE_OF_KRB_CRED_INFO: usize = 81;
 /// Within EncKrbCredPart.
-const ENC_KRB_CRED_PART_CONTENT: usize = 80;
+const ENC_KRB_CRED_PART_CONTENT: usize = 82;
 /// INTEGER (30).
-const INTEGER_30: usize = 83;
+const INTEGER_30: usize = 85;
 /// Within KRB-ERROR.
-const KRB_ERROR_CONTENT_E_DATA: usize = 84;
+const KRB_ERROR_CONTENT_E_DATA: usize = 86;
 /// Within KRB-ERROR.
-const KRB_ERROR_CONTENT: usize = 85;
+const KRB_ERROR_CONTENT: usize = 87;
 /// INTEGER (16).
-const INTEGER_16: usize = 90;
+const INTEGER_16: usize = 92;
 /// INTEGER (17).
-const INTEGER_17: usize = 92;
+const INTEGER_17: usize = 94;
 /// [0] IMPLICIT OCTET STRING.
-const IMPLICIT_0_OCTET_STRING: usize = 95;
+const IMPLICIT_0_OCTET_STRING: usize = 97;
 /// SEQUENCE OF PKU2U-NEGO-REQ-METADATA.
-const SEQUENCE_OF_PKU2U_NEGO_REQ_METADATA: usize = 98;
+const SEQUENCE_OF_PKU2U_NEGO_REQ_METADATA: usize = 100;
 /// SEQUENCE OF ExternalPrincipalIdentifier.
-const SEQUENCE_OF_EXTERNAL_PRINCIPAL_IDENTIFIER: usize = 102;
+const SEQUENCE_OF_EXTERNAL_PRINCIPAL_IDENTIFIER: usize = 104;
 /// [2] IMPLICIT OCTET STRING.
-const IMPLICIT_2_OCTET_STRING: usize = 103;
+const IMPLICIT_2_OCTET_STRING: usize = 105;
 /// [1] IMPLICIT OCTET STRING.
-const IMPLICIT_1_OCTET_STRING: usize = 105;
+const IMPLICIT_1_OCTET_STRING: usize = 107;
 /// SEQUENCE OF AlgorithmIdentifier.
-const SEQUENCE_OF_ALGORITHM_IDENTIFIER: usize = 107;
+const SEQUENCE_OF_ALGORITHM_IDENTIFIER: usize = 109;
 /// Within DHSubjectPublicKeyInfo.
-const DH_SUBJECT_PUBLIC_KEY_INFO_ALGORITHM: usize = 117;
+const DH_SUBJECT_PUBLIC_KEY_INFO_ALGORITHM: usize = 119;
 /// Within TSCredentials.
-const TS_CREDENTIALS_CREDENTIALS: usize = 121;
+const TS_CREDENTIALS_CREDENTIALS: usize = 123;
 /// SEQUENCE OF TSRemoteGuardPackageCred.
-const SEQUENCE_OF_TS_REMOTE_GUARD_PACKAGE_CRED: usize = 126;
+const SEQUENCE_OF_TS_REMOTE_GUARD_PACKAGE_CRED: usize = 128;
 /// SEQUENCE OF OBJECT IDENTIFIER.
-const SEQUENCE_OF_OBJECT_IDENTIFIER: usize = 131;
+const SEQUENCE_OF_OBJECT_IDENTIFIER: usize = 133;
 /// Within NegTokenInit.
-const NEG_TOKEN_INIT_MECH_TOKEN: usize = 132;
+const NEG_TOKEN_INIT_MECH_TOKEN: usize = 134;
 /// Within NegTokenResp.
-const NEG_TOKEN_RESP_RESPONSE_TOKEN: usize = 135;
+const NEG_TOKEN_RESP_RESPONSE_TOKEN: usize = 137;
 
 static FIELDS: [Field; 241] = [
     // PRINCIPAL_NAME
@@ -723,16 +740,19 @@ static FIELDS: [Field; 241] = [
     tagged_optional!(0xa3, "mechListMIC", OCTET_STRING, as Role::MechanismListMic),
 ];
 
-static CASES: [Case; 19] = [
+static CASES: [Case; 22] = [
     // AUTHORIZATION_DATA_ELEMENT_AD_DATA
     case!(1, AD_IF_RELEVANT),
     // PA_DATA_PADATA_VALUE
     case!(1, AP_REQ),
     case!(2, ENCRYPTED_DATA),
     case!(16, PA_PK_AS_REQ),
-    case!(17, PA_PK_AS_REP_DH_INFO),
+    case!(17, PA_PK_AS_REP_DH_INFO, called "dhInfo"),
+    case!(17, PA_PK_AS_REP_ENC_KEY_PACK, called "encKeyPack"),
     case!(19, ETYPE_INFO2),
     case!(128, KERB_PA_PAC_REQUEST),
+    case!(161, KERB_KEY_LIST_REQ),
+    case!(162, KERB_KEY_LIST_REP),
     case!(167, PA_PAC_OPTIONS),
     // KRB_ERROR_CONTENT_E_DATA
     case!(METHOD_DATA),
@@ -751,7 +771,7 @@ static CASES: [Case; 19] = [
     case!(KRB_ERROR),
 ];
 
-static SHAPES: [Shape; 137] = [
+static SHAPES: [Shape; 139] = [
     Shape::Leaf(0x01, Leaf::Truth),
     Shape::Leaf(0x02, Leaf::Integer),
     Shape::Leaf(0x02, Leaf::Unsigned),
@@ -784,7 +804,7 @@ static SHAPES: [Shape; 137] = [
     Shape::Sequence(0x30, 19, 11),
     Shape::Tagged(0x63, ENC_TICKET_PART_CONTENT),
     Shape::Sequence(0x30, 30, 2),
-    Shape::Holding(1, 7),
+    Shape::Holding(1, 10),
     Shape::Sequence(0x30, 32, 2),
     Shape::SequenceOf(0x30, PA_DATA, false),
     Shape::Sequence(0x30, 34, 2),
@@ -792,6 +812,8 @@ static SHAPES: [Shape; 137] = [
     Shape::SequenceOf(0x30, ETYPE_INFO2_ENTRY, true),
     Shape::Sequence(0x30, 39, 1),
     Shape::Sequence(0x30, 40, 1),
+    Shape::SequenceOf(0x30, INTEGER, false),
+    Shape::SequenceOf(0x30, ENCRYPTION_KEY, false),
     Shape::Tagged(0x6a, KDC_REQ_AS),
     Shape::Tagged(0x6c, KDC_REQ_TGS),
     Shape::Leaf(0x02, Leaf::Number(10)),
@@ -836,7 +858,7 @@ static SHAPES: [Shape; 137] = [
     Shape::Tagged(0x7d, ENC_KRB_CRED_PART_CONTENT),
     Shape::Sequence(0x30, 130, 11),
     Shape::Leaf(0x02, Leaf::Number(30)),
-    Shape::Holding(8, 2),
+    Shape::Holding(11, 2),
     Shape::Sequence(0x30, 141, 13),
     Shape::Tagged(0x7e, KRB_ERROR_CONTENT),
     Shape::Sequence(0x30, 154, 2),
@@ -873,7 +895,7 @@ static SHAPES: [Shape; 137] = [
     Shape::Sequence(0x30, 206, 2),
     Shape::Sequence(0x30, 208, 5),
     Shape::Sequence(0x30, 213, 2),
-    Shape::Holding(10, 3),
+    Shape::Holding(13, 3),
     Shape::Sequence(0x30, 215, 2),
     Shape::Sequence(0x30, 217, 3),
     Shape::Sequence(0x30, 220, 4),
@@ -884,14 +906,14 @@ static SHAPES: [Shape; 137] = [
     Shape::Tagged(0xa0, NEG_TOKEN_INIT),
     Shape::Tagged(0xa1, NEG_TOKEN_RESP),
     Shape::SequenceOf(0x30, OBJECT_IDENTIFIER, false),
-    Shape::Holding(13, 3),
+    Shape::Holding(16, 3),
     Shape::Sequence(0x30, 233, 4),
     Shape::Leaf(0x03, Leaf::Flags),
-    Shape::Holding(16, 3),
+    Shape::Holding(19, 3),
     Shape::Sequence(0x30, 237, 4),
 ];
 
-static TYPES: [(&str, usize); 92] = [
+static TYPES: [(&str, usize); 94] = [
     ("BOOLEAN", BOOLEAN),
     ("INTEGER", INTEGER),
     ("UInt32", UINT32),
@@ -925,6 +947,8 @@ static TYPES: [(&str, usize); 92] = [
     ("ETYPE-INFO2", ETYPE_INFO2),
     ("KERB-PA-PAC-REQUEST", KERB_PA_PAC_REQUEST),
     ("PA-PAC-OPTIONS", PA_PAC_OPTIONS),
+    ("KERB-KEY-LIST-REQ", KERB_KEY_LIST_REQ),
+    ("KERB-KEY-LIST-REP", KERB_KEY_LIST_REP),
     ("AS-REQ", AS_REQ),
     ("TGS-REQ", TGS_REQ),
     ("KDC-REQ (AS)", KDC_REQ_AS),

@@ -3,7 +3,7 @@
 ghost use Rattle.std.specs.Prelude.{◌≡◌, map};
 ghost use Rattle.krb_schema.specs.NameTable.{name_table};
 
-static NAMES: [&str; 234] = [
+static NAMES: [&str; 238] = [
     "name-type",
     "name-string",
     "addr-type",
@@ -238,6 +238,10 @@ static NAMES: [&str; 234] = [
     "NegTokenInit",
     "ContextFlags",
     "NegTokenResp",
+    "dhInfo",
+    "encKeyPack",
+    "KERB-KEY-LIST-REQ",
+    "KERB-KEY-LIST-REP",
 ];
 
 /// The names, each at its number.

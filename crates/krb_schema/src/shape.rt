@@ -117,6 +117,8 @@ pub struct Field {
 pub struct Case {
     /// The number that the field before has, as 19 of PA-ETYPE-INFO2; `None` for any.
     pub behind: Option<u8>,
+    /// What the content is called, as dhInfo of PA-PK-AS-REP; `None` where it is called as the OCTET STRING.
+    pub name: Option<Name>,
     /// The row of the type of the content.
     pub is: usize,
 }

@@ -10,7 +10,7 @@ ghost use Rattle.krb_schema.specs.Forests.{item};
 ghost use Rattle.krb_schema.specs.Leaves.{IsLeaf};
 ghost use Rattle.krb_schema.specs.declared.item.Fault.TheVariants as faults;
 ghost use Rattle.krb_schema.specs.declared.item.Form.TheVariants as form;
-ghost use Rattle.krb_schema.specs.Shapes.{Applies, AreElements, AreFields, Begins, IsElement, IsHeld, IsNone, IsRange, IsShaped, is_first, list_node, number_octets, part, tag_of};
+ghost use Rattle.krb_schema.specs.Shapes.{Applies, AreElements, AreFields, Begins, IsElement, IsHeld, IsNone, IsRange, IsShaped, called, is_first, list_node, number_octets, part, tag_of};
 ghost use Rattle.krb_schema.specs.Walks.{IsHead, Walked, WalkedFront};
 
 use crate::item::{Fault, Form, Item, Node};
@@ -199,6 +199,13 @@ fn applies(case: Case, before: &[u8]) -> bool
         None => true,
         Some(number) => is_number(number, before),
     }
+}
+
+/// What a case of an OCTET STRING of this name holds is called: as the case says, or else as the OCTET STRING.
+fn called(case: Case, name: Name) -> Name
+    ensures { result ≡ called case name }
+{
+    case.name.unwrap_or(name)
 }
 
 /// Appends an item.
@@ -599,7 +606,7 @@ fn push_held(
         alloc,
         schema,
         case.is,
-        head.name,
+        called(case, head.name),
         &[],
         levels,
         head.depth + 1,

@@ -33,6 +33,8 @@ depth_step depth form.Word = omega arith
 depth_step depth form.Identifier = omega arith
 depth_step depth form.Text = omega arith
 depth_step depth form.Octets = omega arith
+depth_step depth form.Secret = omega arith
+depth_step depth form.Cipher = omega arith
 
 -- no page is further in behind it than it has tokens
 pub depth_small : (depth : ℕ) (page : List Token) → depth_behind depth page ≤ depth + length page

@@ -113,6 +113,8 @@ printable_value form.Word t h = printable_append (codes ": ") (word_text t) (gri
 printable_value form.Identifier t h = printable_append (codes ": ") (word_text t) (grind arith) (printable_word t h)
 printable_value form.Text t h = printable_append (codes ": ") (quoted style.Quoted t.octets) (grind arith) (printable_quoted style.Quoted t.octets h.octets)
 printable_value form.Octets t h = printable_append (codes ": ") (octets_text t.octets) (grind arith) (printable_octets t.octets (printable_decimal (length t.octets) h.count) h.octets)
+printable_value form.Secret t h = printable_append (codes ": ") (octets_text t.octets) (grind arith) (printable_octets t.octets (printable_decimal (length t.octets) h.count) h.octets)
+printable_value form.Cipher t h = printable_append (codes ": ") (octets_text t.octets) (grind arith) (printable_octets t.octets (printable_decimal (length t.octets) h.count) h.octets)
 
 pub printable_line : (depth : ℕ) (t : Token) → IsOctetsToken t → ArePrintable (line depth t)
 printable_line depth t h =

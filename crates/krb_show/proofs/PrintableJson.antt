@@ -66,6 +66,8 @@ value_printable form.Word t h = printable_quoted style.Json t.octets h.octets
 value_printable form.Identifier t h = identifier_printable t h
 value_printable form.Text t h = printable_text t.octets h.octets
 value_printable form.Octets t h = printable_append (34 ∷ hex t.octets) (34 ∷ []) (grind arith, printable_hex t.octets h.octets) (grind arith)
+value_printable form.Secret t h = printable_append (34 ∷ hex t.octets) (34 ∷ []) (grind arith, printable_hex t.octets h.octets) (grind arith)
+value_printable form.Cipher t h = printable_append (34 ∷ hex t.octets) (34 ∷ []) (grind arith, printable_hex t.octets h.octets) (grind arith)
 
 key_printable : (t : Token) → IsOctetsToken t → ArePrintable (json_key t.label)
 key_printable t h =

@@ -64,6 +64,8 @@ json_value form.Word t = quoted style.Json t.octets
 json_value form.Identifier t = json_identifier t
 json_value form.Text t = json_text t.octets
 json_value form.Octets t = 34 ∷ hex t.octets ++ 34 ∷ []
+json_value form.Secret t = 34 ∷ hex t.octets ++ 34 ∷ []
+json_value form.Cipher t = 34 ∷ hex t.octets ++ 34 ∷ []
 
 abbrev pub ends : Form → Bool
 ends form.StructEnd = true
@@ -76,6 +78,8 @@ ends form.Word = false
 ends form.Identifier = false
 ends form.Text = false
 ends form.Octets = false
+ends form.Secret = false
+ends form.Cipher = false
 
 abbrev pub begins : Form → Bool
 begins form.StructEnd = false
@@ -88,6 +92,8 @@ begins form.Word = false
 begins form.Identifier = false
 begins form.Text = false
 begins form.Octets = false
+begins form.Secret = false
+begins form.Cipher = false
 
 -- a field has its name as its key, an item of a list has none
 abbrev pub json_key : Label → List ℕ

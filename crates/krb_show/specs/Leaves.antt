@@ -117,3 +117,10 @@ word_of label word = adds (leaf form.Word label word)
 
 abbrev pub octets_of : Label → List ℕ → List Token → List Token → Type 0
 octets_of label bytes = adds (leaf form.Octets label bytes)
+
+-- the octets of a key, a password or a PIN, and those that are encrypted
+abbrev pub secret_octets_of : Label → List ℕ → List Token → List Token → Type 0
+secret_octets_of label bytes = adds (leaf form.Secret label bytes)
+
+abbrev pub cipher_of : Label → List ℕ → List Token → List Token → Type 0
+cipher_of label bytes = adds (leaf form.Cipher label bytes)

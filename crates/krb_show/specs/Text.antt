@@ -74,6 +74,8 @@ value_text form.Word t = codes ": " ++ word_text t
 value_text form.Identifier t = codes ": " ++ word_text t
 value_text form.Text t = codes ": " ++ quoted style.Quoted t.octets
 value_text form.Octets t = codes ": " ++ octets_text t.octets
+value_text form.Secret t = codes ": " ++ octets_text t.octets
+value_text form.Cipher t = codes ": " ++ octets_text t.octets
 
 abbrev pub line : ℕ → Token → List ℕ
 line depth t = indent depth ++ escaped style.Name t.label.text ++ value_text t.form t
@@ -90,6 +92,8 @@ lines_of depth form.Word t = line depth t ∷ []
 lines_of depth form.Identifier t = line depth t ∷ []
 lines_of depth form.Text t = line depth t ∷ []
 lines_of depth form.Octets t = line depth t ∷ []
+lines_of depth form.Secret t = line depth t ∷ []
+lines_of depth form.Cipher t = line depth t ∷ []
 
 -- how far in the next token is
 abbrev pub depth_after : ℕ → Form → ℕ
@@ -103,6 +107,8 @@ depth_after depth form.Word = depth
 depth_after depth form.Identifier = depth
 depth_after depth form.Text = depth
 depth_after depth form.Octets = depth
+depth_after depth form.Secret = depth
+depth_after depth form.Cipher = depth
 
 abbrev pub page_lines : ℕ → List Token → List (List ℕ)
 page_lines depth [] = []

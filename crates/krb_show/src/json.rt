@@ -120,7 +120,7 @@ fn push_value(out: &mut Vec<u8>, token: &Token) -> Result<(), AllocError>
         Form::Word => push_quoted(out, Style::Json, token.octets()),
         Form::Identifier => push_identifier(out, token),
         Form::Text => push_text(out, token.octets()),
-        Form::Octets => push_octets(out, token.octets()),
+        Form::Octets | Form::Secret | Form::Cipher => push_octets(out, token.octets()),
     }
 }
 

@@ -2,7 +2,7 @@
 
 ghost use Rattle.std.specs.Prelude.{◌≡◌, ◌<◌, ◌+◌, ◌%◌, ◌/◌, ℕ, pos, List, [], ◌∷◌, ◌++◌, IfOk, OnOk, OnErr, codes};
 ghost use Rattle.krb_show.specs.Tokens.{Begins, adds, leaf};
-ghost use Rattle.krb_show.specs.Leaves.{flags_of, flags_word, identifier_of, number_of, octets_of, text_of, time_of, time_word, truth_of, two, unsigned_of, word_of};
+ghost use Rattle.krb_show.specs.Leaves.{cipher_of, flags_of, flags_word, identifier_of, number_of, octets_of, secret_octets_of, text_of, time_of, time_word, truth_of, two, unsigned_of, word_of};
 ghost use Rattle.krb_show.specs.declared.token.Form.TheVariants as form;
 
 use crate::digits::{push_hex, push_two};
@@ -58,6 +58,34 @@ pub fn show_octets(
     ensures err { OnErr result (page.new.items ≡ page.old.items) }
 {
     push_leaf(alloc, Form::Octets, label, octets, page)
+}
+
+/// Appends octets of the input that are a key, a password or a PIN.
+pub fn show_secret(
+    alloc: Global,
+    label: &Label,
+    octets: &[u8],
+    page: &mut Page,
+) -> Result<(), AllocError>
+    ensures ok { OnOk result (secret_octets_of label.now octets.now page.old.items page.new.items) }
+    ensures kept { OnOk result (Begins page.old.items page.new.items) }
+    ensures err { OnErr result (page.new.items ≡ page.old.items) }
+{
+    push_leaf(alloc, Form::Secret, label, octets, page)
+}
+
+/// Appends octets of the input that are encrypted (RFC 4120, 5.2.9).
+pub fn show_cipher(
+    alloc: Global,
+    label: &Label,
+    octets: &[u8],
+    page: &mut Page,
+) -> Result<(), AllocError>
+    ensures ok { OnOk result (cipher_of label.now octets.now page.old.items page.new.items) }
+    ensures kept { OnOk result (Begins page.old.items page.new.items) }
+    ensures err { OnErr result (page.new.items ≡ page.old.items) }
+{
+    push_leaf(alloc, Form::Cipher, label, octets, page)
 }
 
 /// Appends a word that has no blanks.

@@ -29,7 +29,9 @@ pub use fields::{Field, ShowFields, show_struct};
 pub use insert::Insert;
 pub use inserted::page_with;
 pub use json::json_of_page;
-pub use leaves::{show_identifier, show_number, show_octets, show_text, show_word};
+pub use leaves::{
+    show_cipher, show_identifier, show_number, show_octets, show_secret, show_text, show_word,
+};
 pub use names::tag_name;
 pub use numbers::{OpensValues, TypedValue, is_number};
 pub use opened::{open, show_opened};

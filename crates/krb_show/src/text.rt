@@ -77,7 +77,7 @@ fn push_value(out: &mut Vec<u8>, alloc: Global, token: &Token) -> Result<(), All
             out.extend_from_slice(b": ")?;
             push_quoted(out, Style::Quoted, token.octets())
         }
-        Form::Octets => {
+        Form::Octets | Form::Secret | Form::Cipher => {
             out.extend_from_slice(b": ")?;
             push_octets(out, alloc, token.octets())
         }
@@ -128,6 +128,8 @@ fn depth_after(depth: usize, form: Form) -> usize
         Form::Identifier => depth,
         Form::Text => depth,
         Form::Octets => depth,
+        Form::Secret => depth,
+        Form::Cipher => depth,
     }
 }
 
@@ -152,6 +154,8 @@ fn push_lines(
         Form::Identifier => push_line(out, alloc, depth, token),
         Form::Text => push_line(out, alloc, depth, token),
         Form::Octets => push_line(out, alloc, depth, token),
+        Form::Secret => push_line(out, alloc, depth, token),
+        Form::Cipher => push_line(out, alloc, depth, token),
     }
 }
 

@@ -1,7 +1,7 @@
 //! Tokens.
 
 ghost use Rattle.std.specs.Prelude.{◌≡◌, ℕ, Bool, true, false, Option, None, Some, List, [], ◌∷◌, ◌++◌, take, length, OnOk, OnErr};
-ghost use Rattle.krb_show.specs.Tokens.{Label, Token, item_of, mark, Begins, adds};
+ghost use Rattle.krb_show.specs.Tokens.{Label, Token, item_of, leaf, mark, Begins, adds};
 
 use krb_registry::Kind;
 use std::alloc::{AllocError, Global};
@@ -30,6 +30,10 @@ pub enum Form {
     Text,
     /// Octets of the input.
     Octets,
+    /// Octets of the input that are a key, a password or a PIN.
+    Secret,
+    /// Octets of the input that are encrypted (RFC 4120, 5.2.9), or in the clear where their encryption type is 0 (RFC 4120, 5.8.1).
+    Cipher,
 }
 
 /// What a value is called, and what a number in it is of.
@@ -102,6 +106,28 @@ impl Model for Token {
 }
 
 impl Token {
+    /// A word under the same label, in its place.
+    pub fn with_word(self, alloc: Global, word: Vec<u8>) -> Token
+        ensures { result ≡ leaf Form.Word self.label word.items }
+    {
+        let Token {
+            form: _,
+            text,
+            kind,
+            is_item,
+            octets: _,
+            note: _,
+        } = self;
+        Token {
+            form: Form::Word,
+            text,
+            kind,
+            is_item,
+            octets: word,
+            note: Vec::new(alloc),
+        }
+    }
+
     /// What it is.
     pub fn form(&self) -> Form
         ensures { result ≡ self.now.form }

@@ -10,8 +10,8 @@ use Rattle.krb_show_any.specs.Rows.{IsWalkBy}
 use Rattle.krb_show_any.specs.declared.error.PageError.{PageError}
 use Rattle.krb_show_any.specs.declared.error.PageError.TheVariants as page
 use Rattle.krb_show_any.specs.declared.frames.Framed.{Framed}
-use Rattle.krb_show_any.specs.declared.rows.Walk.{Walk}
-use Rattle.krb_show_any.specs.declared.rows.Walk.TheVariants as walks
+use Rattle.krb_show_rows.specs.declared.walk.Walk.{Walk}
+use Rattle.krb_show_rows.specs.declared.walk.Walk.TheVariants as walks
 
 -- The type of the message behind a token id: KRB-AP-REQ, KRB-AP-REP and KRB-ERROR (RFC 4121, 4.1), KRB-TGT-REQ and KRB-TGT-REP
 -- (draft-swift-win2k-krb-user2user-03), KRB-AS-REQ and KRB-AS-REP (draft-zhu-pku2u-09, 6).

@@ -4,8 +4,9 @@ ghost use Rattle.std.specs.Prelude.{IfOk};
 ghost use Rattle.krb_show_any.specs.Broken.{AreBrokenIn, AreBrokenOf};
 
 use crate::kind::Kind;
-use crate::rows::{Walk, walk_octets};
+use crate::rows::walk_octets;
 use krb_schema::{Item, broken_rules};
+use krb_show_rows::Walk;
 use std::alloc::{AllocError, Global};
 
 /// The items of a walk that break a rule of their standard.

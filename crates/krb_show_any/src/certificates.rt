@@ -1,9 +1,9 @@
 //! Types of PKINIT and of CredSSP, by their kind.
 
 ghost use Rattle.std.specs.Prelude.{◌≡◌, codes};
-ghost use Rattle.krb_show.specs.Told.{IsToldBy};
-ghost use Rattle.krb_show.specs.Tokens.{plain};
-ghost use Rattle.krb_show_pkinit.specs.declared.kinds.CertificateKind.TheVariants as kinds;
+ghost use Rattle.krb_show_messages.specs.Choices.{IsReplyTold};
+ghost use Rattle.krb_show_messages.specs.Shown.{IsToldByRow};
+ghost use Rattle.krb_show_messages.specs.declared.certificate_kinds.CertificateKind.TheVariants as kinds;
 
 use crate::pages::Pages;
 use krb_credssp::credssp::{
@@ -16,8 +16,8 @@ use krb_pkinit::pkinit::{
     DhAuthPack, DhDomainParameters, DhRepInfo, DhReqInfo, EcAuthPack, ExternalPrincipalIdentifier,
     KdcDhKeyInfo, PaPkAsRep, PaPkAsReq, PkAuthenticator, ValidationParams,
 };
-use krb_show::{Page, Show};
-use krb_show_pkinit::{Certificate, CertificateKind, page_of_certificate_data};
+use krb_show::Page;
+use krb_show_messages::{CertificateKind, page_of_certificate_data};
 use std::alloc::Global;
 
 /// Types of PKINIT and of CredSSP, by their kind.
@@ -26,57 +26,43 @@ pub struct Certificates;
 
 impl Pages<CertificateKind, Asn1DerError> for Certificates {
     ghost tells = { λ kind octets result. (kind ≡ kinds.PaPkAsReq
-        → IsToldBy ⟦<PaPkAsReq as DerEncode>⟧ ⟦<PaPkAsReq as Show<Certificate>>⟧ (plain (codes "PA-PK-AS-REQ")) (λ p. p.items) octets result)
+        → IsToldByRow ⟦<PaPkAsReq as DerEncode>⟧ (codes "PA-PK-AS-REQ") (codes "PA-PK-AS-REQ") (λ p. p.items) octets result)
         × (kind ≡ kinds.PaPkAsRep
-        → IsToldBy ⟦<PaPkAsRep as DerEncode>⟧ ⟦<PaPkAsRep as Show<Certificate>>⟧ (plain (codes "PA-PK-AS-REP")) (λ p. p.items) octets result)
+        → IsReplyTold ⟦<PaPkAsRep as DerEncode>⟧ (λ p. p.items) octets result)
         × (kind ≡ kinds.DhAuthPack
-        → IsToldBy ⟦<DhAuthPack as DerEncode>⟧ ⟦<DhAuthPack as Show<Certificate>>⟧ (plain (codes "AuthPack")) (λ p. p.items) octets result)
+        → IsToldByRow ⟦<DhAuthPack as DerEncode>⟧ (codes "DHAuthPack") (codes "AuthPack") (λ p. p.items) octets result)
         × (kind ≡ kinds.EcAuthPack
-        → IsToldBy ⟦<EcAuthPack as DerEncode>⟧ ⟦<EcAuthPack as Show<Certificate>>⟧ (plain (codes "AuthPack")) (λ p. p.items) octets result)
+        → IsToldByRow ⟦<EcAuthPack as DerEncode>⟧ (codes "ECAuthPack") (codes "AuthPack") (λ p. p.items) octets result)
         × (kind ≡ kinds.PkAuthenticator
-        → IsToldBy ⟦<PkAuthenticator as DerEncode>⟧ ⟦<PkAuthenticator as Show<Certificate>>⟧
-        (plain (codes "PKAuthenticator")) (λ p. p.items) octets result)
+        → IsToldByRow ⟦<PkAuthenticator as DerEncode>⟧ (codes "PKAuthenticator") (codes "PKAuthenticator") (λ p. p.items) octets result)
         × (kind ≡ kinds.ExternalPrincipalIdentifier
-        → IsToldBy ⟦<ExternalPrincipalIdentifier as DerEncode>⟧ ⟦<ExternalPrincipalIdentifier as Show<Certificate>>⟧
-        (plain (codes "ExternalPrincipalIdentifier")) (λ p. p.items) octets result)
+        → IsToldByRow ⟦<ExternalPrincipalIdentifier as DerEncode>⟧ (codes "ExternalPrincipalIdentifier") (codes "ExternalPrincipalIdentifier") (λ p. p.items) octets result)
         × (kind ≡ kinds.DhRepInfo
-        → IsToldBy ⟦<DhRepInfo as DerEncode>⟧ ⟦<DhRepInfo as Show<Certificate>>⟧ (plain (codes "DHRepInfo")) (λ p. p.items) octets result)
+        → IsToldByRow ⟦<DhRepInfo as DerEncode>⟧ (codes "DHRepInfo") (codes "DHRepInfo") (λ p. p.items) octets result)
         × (kind ≡ kinds.KdcDhKeyInfo
-        → IsToldBy ⟦<KdcDhKeyInfo as DerEncode>⟧ ⟦<KdcDhKeyInfo as Show<Certificate>>⟧
-        (plain (codes "KDCDHKeyInfo")) (λ p. p.items) octets result)
+        → IsToldByRow ⟦<KdcDhKeyInfo as DerEncode>⟧ (codes "KDCDHKeyInfo") (codes "KDCDHKeyInfo") (λ p. p.items) octets result)
         × (kind ≡ kinds.AlgorithmIdentifier
-        → IsToldBy ⟦<AlgorithmIdentifier as DerEncode>⟧ ⟦<AlgorithmIdentifier as Show<Certificate>>⟧
-        (plain (codes "AlgorithmIdentifier")) (λ p. p.items) octets result)
+        → IsToldByRow ⟦<AlgorithmIdentifier as DerEncode>⟧ (codes "AlgorithmIdentifier") (codes "AlgorithmIdentifier") (λ p. p.items) octets result)
         × (kind ≡ kinds.SubjectPublicKeyInfo
-        → IsToldBy ⟦<SubjectPublicKeyInfo as DerEncode>⟧ ⟦<SubjectPublicKeyInfo as Show<Certificate>>⟧
-        (plain (codes "SubjectPublicKeyInfo")) (λ p. p.items) octets result)
+        → IsToldByRow ⟦<SubjectPublicKeyInfo as DerEncode>⟧ (codes "SubjectPublicKeyInfo") (codes "SubjectPublicKeyInfo") (λ p. p.items) octets result)
         × (kind ≡ kinds.DhReqInfo
-        → IsToldBy ⟦<DhReqInfo as DerEncode>⟧ ⟦<DhReqInfo as Show<Certificate>>⟧
-        (plain (codes "SubjectPublicKeyInfo")) (λ p. p.items) octets result)
+        → IsToldByRow ⟦<DhReqInfo as DerEncode>⟧ (codes "DHSubjectPublicKeyInfo") (codes "SubjectPublicKeyInfo") (λ p. p.items) octets result)
         × (kind ≡ kinds.DhDomainParameters
-        → IsToldBy ⟦<DhDomainParameters as DerEncode>⟧ ⟦<DhDomainParameters as Show<Certificate>>⟧
-        (plain (codes "DomainParameters")) (λ p. p.items) octets result)
+        → IsToldByRow ⟦<DhDomainParameters as DerEncode>⟧ (codes "DomainParameters") (codes "DomainParameters") (λ p. p.items) octets result)
         × (kind ≡ kinds.ValidationParams
-        → IsToldBy ⟦<ValidationParams as DerEncode>⟧ ⟦<ValidationParams as Show<Certificate>>⟧
-        (plain (codes "ValidationParms")) (λ p. p.items) octets result)
+        → IsToldByRow ⟦<ValidationParams as DerEncode>⟧ (codes "ValidationParms") (codes "ValidationParms") (λ p. p.items) octets result)
         × (kind ≡ kinds.TsCredentials
-        → IsToldBy ⟦<TsCredentials as DerEncode>⟧ ⟦<TsCredentials as Show<Certificate>>⟧
-        (plain (codes "TSCredentials")) (λ p. p.items) octets result)
+        → IsToldByRow ⟦<TsCredentials as DerEncode>⟧ (codes "TSCredentials") (codes "TSCredentials") (λ p. p.items) octets result)
         × (kind ≡ kinds.TsPasswordCreds
-        → IsToldBy ⟦<TsPasswordCreds as DerEncode>⟧ ⟦<TsPasswordCreds as Show<Certificate>>⟧
-        (plain (codes "TSPasswordCreds")) (λ p. p.items) octets result)
+        → IsToldByRow ⟦<TsPasswordCreds as DerEncode>⟧ (codes "TSPasswordCreds") (codes "TSPasswordCreds") (λ p. p.items) octets result)
         × (kind ≡ kinds.TsSmartCardCreds
-        → IsToldBy ⟦<TsSmartCardCreds as DerEncode>⟧ ⟦<TsSmartCardCreds as Show<Certificate>>⟧
-        (plain (codes "TSSmartCardCreds")) (λ p. p.items) octets result)
+        → IsToldByRow ⟦<TsSmartCardCreds as DerEncode>⟧ (codes "TSSmartCardCreds") (codes "TSSmartCardCreds") (λ p. p.items) octets result)
         × (kind ≡ kinds.TsCspDataDetail
-        → IsToldBy ⟦<TsCspDataDetail as DerEncode>⟧ ⟦<TsCspDataDetail as Show<Certificate>>⟧
-        (plain (codes "TSCspDataDetail")) (λ p. p.items) octets result)
+        → IsToldByRow ⟦<TsCspDataDetail as DerEncode>⟧ (codes "TSCspDataDetail") (codes "TSCspDataDetail") (λ p. p.items) octets result)
         × (kind ≡ kinds.TsRemoteGuardCreds
-        → IsToldBy ⟦<TsRemoteGuardCreds as DerEncode>⟧ ⟦<TsRemoteGuardCreds as Show<Certificate>>⟧
-        (plain (codes "TSRemoteGuardCreds")) (λ p. p.items) octets result)
+        → IsToldByRow ⟦<TsRemoteGuardCreds as DerEncode>⟧ (codes "TSRemoteGuardCreds") (codes "TSRemoteGuardCreds") (λ p. p.items) octets result)
         × (kind ≡ kinds.TsRemoteGuardPackageCred
-        → IsToldBy ⟦<TsRemoteGuardPackageCred as DerEncode>⟧ ⟦<TsRemoteGuardPackageCred as Show<Certificate>>⟧
-        (plain (codes "TSRemoteGuardPackageCred")) (λ p. p.items) octets result) };
+        → IsToldByRow ⟦<TsRemoteGuardPackageCred as DerEncode>⟧ (codes "TSRemoteGuardPackageCred") (codes "TSRemoteGuardPackageCred") (λ p. p.items) octets result) };
 
     fn page_of(alloc: Global, kind: CertificateKind, octets: &[u8]) -> Result<Page, Asn1DerError> {
         page_of_certificate_data(alloc, kind, octets)

@@ -1,8 +1,7 @@
 //! Types that their first octet does not tell, by their kind.
 
 ghost use Rattle.std.specs.Prelude.{◌≡◌, codes};
-ghost use Rattle.krb_show.specs.Told.{IsToldBy};
-ghost use Rattle.krb_show.specs.Tokens.{plain};
+ghost use Rattle.krb_show_messages.specs.Shown.{IsToldByRow};
 ghost use Rattle.krb_show_messages.specs.declared.kinds.DataKind.TheVariants as kinds;
 
 use crate::pages::Pages;
@@ -12,8 +11,8 @@ use krb_messages::messages::{KdcProxyMessage, KdcReqBody, TgtRep, TgtReq};
 use krb_pkinit::pkinit::{
     KrbFinished, Pku2uNegoBody, Pku2uNegoRep, Pku2uNegoReq, Pku2uNegoReqMetadata,
 };
-use krb_show::{Page, Show};
-use krb_show_messages::{DataKind, Message, page_of_data};
+use krb_show::Page;
+use krb_show_messages::{DataKind, page_of_data};
 use krb_types::data_types::{
     AuthorizationData, ChangePasswdData, Checksum, EncryptedData, EncryptionKey, EtypeInfo2,
     EtypeInfo2Entry, HostAddress, HostAddresses, KerbAdRestrictionEntry, KerbErrorData,
@@ -30,73 +29,63 @@ pub struct Data;
 
 impl Pages<DataKind, Asn1DerError> for Data {
     ghost tells = { λ kind octets result. (kind ≡ kinds.PrincipalName
-        → IsToldBy ⟦<PrincipalName as DerEncode>⟧ ⟦<PrincipalName as Show<Message>>⟧ (plain (codes "PrincipalName")) (λ p. p.items) octets result)
+        → IsToldByRow ⟦<PrincipalName as DerEncode>⟧ (codes "PrincipalName") (codes "PrincipalName") (λ p. p.items) octets result)
         × (kind ≡ kinds.HostAddress
-        → IsToldBy ⟦<HostAddress as DerEncode>⟧ ⟦<HostAddress as Show<Message>>⟧ (plain (codes "HostAddress")) (λ p. p.items) octets result)
+        → IsToldByRow ⟦<HostAddress as DerEncode>⟧ (codes "HostAddress") (codes "HostAddress") (λ p. p.items) octets result)
         × (kind ≡ kinds.HostAddresses
-        → IsToldBy ⟦<HostAddresses as DerEncode>⟧ ⟦<HostAddresses as Show<Message>>⟧ (plain (codes "HostAddresses")) (λ p. p.items) octets result)
+        → IsToldByRow ⟦<HostAddresses as DerEncode>⟧ (codes "HostAddresses") (codes "HostAddresses") (λ p. p.items) octets result)
         × (kind ≡ kinds.AuthorizationData
-        → IsToldBy ⟦<AuthorizationData as DerEncode>⟧ ⟦<AuthorizationData as Show<Message>>⟧
-        (plain (codes "AuthorizationData")) (λ p. p.items) octets result)
+        → IsToldByRow ⟦<AuthorizationData as DerEncode>⟧ (codes "AuthorizationData") (codes "AuthorizationData") (λ p. p.items) octets result)
         × (kind ≡ kinds.EncryptedData
-        → IsToldBy ⟦<EncryptedData as DerEncode>⟧ ⟦<EncryptedData as Show<Message>>⟧ (plain (codes "EncryptedData")) (λ p. p.items) octets result)
+        → IsToldByRow ⟦<EncryptedData as DerEncode>⟧ (codes "EncryptedData") (codes "EncryptedData") (λ p. p.items) octets result)
         × (kind ≡ kinds.EncryptionKey
-        → IsToldBy ⟦<EncryptionKey as DerEncode>⟧ ⟦<EncryptionKey as Show<Message>>⟧ (plain (codes "EncryptionKey")) (λ p. p.items) octets result)
+        → IsToldByRow ⟦<EncryptionKey as DerEncode>⟧ (codes "EncryptionKey") (codes "EncryptionKey") (λ p. p.items) octets result)
         × (kind ≡ kinds.Checksum
-        → IsToldBy ⟦<Checksum as DerEncode>⟧ ⟦<Checksum as Show<Message>>⟧ (plain (codes "Checksum")) (λ p. p.items) octets result)
+        → IsToldByRow ⟦<Checksum as DerEncode>⟧ (codes "Checksum") (codes "Checksum") (λ p. p.items) octets result)
         × (kind ≡ kinds.TransitedEncoding
-        → IsToldBy ⟦<TransitedEncoding as DerEncode>⟧ ⟦<TransitedEncoding as Show<Message>>⟧
-        (plain (codes "TransitedEncoding")) (λ p. p.items) octets result)
+        → IsToldByRow ⟦<TransitedEncoding as DerEncode>⟧ (codes "TransitedEncoding") (codes "TransitedEncoding") (λ p. p.items) octets result)
         × (kind ≡ kinds.LastReq
-        → IsToldBy ⟦<LastReq as DerEncode>⟧ ⟦<LastReq as Show<Message>>⟧ (plain (codes "LastReq")) (λ p. p.items) octets result)
+        → IsToldByRow ⟦<LastReq as DerEncode>⟧ (codes "LastReq") (codes "LastReq") (λ p. p.items) octets result)
         × (kind ≡ kinds.PaData
-        → IsToldBy ⟦<PaData as DerEncode>⟧ ⟦<PaData as Show<Message>>⟧ (plain (codes "PA-DATA")) (λ p. p.items) octets result)
+        → IsToldByRow ⟦<PaData as DerEncode>⟧ (codes "PA-DATA") (codes "PA-DATA") (λ p. p.items) octets result)
         × (kind ≡ kinds.MethodData
-        → IsToldBy ⟦<MethodData as DerEncode>⟧ ⟦<MethodData as Show<Message>>⟧ (plain (codes "METHOD-DATA")) (λ p. p.items) octets result)
+        → IsToldByRow ⟦<MethodData as DerEncode>⟧ (codes "METHOD-DATA") (codes "METHOD-DATA") (λ p. p.items) octets result)
         × (kind ≡ kinds.PaEncTsEnc
-        → IsToldBy ⟦<PaEncTsEnc as DerEncode>⟧ ⟦<PaEncTsEnc as Show<Message>>⟧ (plain (codes "PA-ENC-TS-ENC")) (λ p. p.items) octets result)
+        → IsToldByRow ⟦<PaEncTsEnc as DerEncode>⟧ (codes "PA-ENC-TS-ENC") (codes "PA-ENC-TS-ENC") (λ p. p.items) octets result)
         × (kind ≡ kinds.EtypeInfo2Entry
-        → IsToldBy ⟦<EtypeInfo2Entry as DerEncode>⟧ ⟦<EtypeInfo2Entry as Show<Message>>⟧
-        (plain (codes "ETYPE-INFO2-ENTRY")) (λ p. p.items) octets result)
+        → IsToldByRow ⟦<EtypeInfo2Entry as DerEncode>⟧ (codes "ETYPE-INFO2-ENTRY") (codes "ETYPE-INFO2-ENTRY") (λ p. p.items) octets result)
         × (kind ≡ kinds.EtypeInfo2
-        → IsToldBy ⟦<EtypeInfo2 as DerEncode>⟧ ⟦<EtypeInfo2 as Show<Message>>⟧ (plain (codes "ETYPE-INFO2")) (λ p. p.items) octets result)
+        → IsToldByRow ⟦<EtypeInfo2 as DerEncode>⟧ (codes "ETYPE-INFO2") (codes "ETYPE-INFO2") (λ p. p.items) octets result)
         × (kind ≡ kinds.KerbPaPacRequest
-        → IsToldBy ⟦<KerbPaPacRequest as DerEncode>⟧ ⟦<KerbPaPacRequest as Show<Message>>⟧
-        (plain (codes "KERB-PA-PAC-REQUEST")) (λ p. p.items) octets result)
+        → IsToldByRow ⟦<KerbPaPacRequest as DerEncode>⟧ (codes "KERB-PA-PAC-REQUEST") (codes "KERB-PA-PAC-REQUEST") (λ p. p.items) octets result)
         × (kind ≡ kinds.PaPacOptions
-        → IsToldBy ⟦<PaPacOptions as DerEncode>⟧ ⟦<PaPacOptions as Show<Message>>⟧ (plain (codes "PA-PAC-OPTIONS")) (λ p. p.items) octets result)
+        → IsToldByRow ⟦<PaPacOptions as DerEncode>⟧ (codes "PA-PAC-OPTIONS") (codes "PA-PAC-OPTIONS") (λ p. p.items) octets result)
         × (kind ≡ kinds.KdcReqBody
-        → IsToldBy ⟦<KdcReqBody as DerEncode>⟧ ⟦<KdcReqBody as Show<Message>>⟧ (plain (codes "KDC-REQ-BODY")) (λ p. p.items) octets result)
+        → IsToldByRow ⟦<KdcReqBody as DerEncode>⟧ (codes "KDC-REQ-BODY") (codes "KDC-REQ-BODY") (λ p. p.items) octets result)
         × (kind ≡ kinds.KrbCredInfo
-        → IsToldBy ⟦<KrbCredInfo as DerEncode>⟧ ⟦<KrbCredInfo as Show<Message>>⟧ (plain (codes "KrbCredInfo")) (λ p. p.items) octets result)
+        → IsToldByRow ⟦<KrbCredInfo as DerEncode>⟧ (codes "KrbCredInfo") (codes "KrbCredInfo") (λ p. p.items) octets result)
         × (kind ≡ kinds.KerbErrorData
-        → IsToldBy ⟦<KerbErrorData as DerEncode>⟧ ⟦<KerbErrorData as Show<Message>>⟧
-        (plain (codes "KERB-ERROR-DATA")) (λ p. p.items) octets result)
+        → IsToldByRow ⟦<KerbErrorData as DerEncode>⟧ (codes "KERB-ERROR-DATA") (codes "KERB-ERROR-DATA") (λ p. p.items) octets result)
         × (kind ≡ kinds.KerbAdRestrictionEntry
-        → IsToldBy ⟦<KerbAdRestrictionEntry as DerEncode>⟧ ⟦<KerbAdRestrictionEntry as Show<Message>>⟧
-        (plain (codes "KERB-AD-RESTRICTION-ENTRY")) (λ p. p.items) octets result)
+        → IsToldByRow ⟦<KerbAdRestrictionEntry as DerEncode>⟧ (codes "KERB-AD-RESTRICTION-ENTRY") (codes "KERB-AD-RESTRICTION-ENTRY") (λ p. p.items) octets result)
         × (kind ≡ kinds.ChangePasswdData
-        → IsToldBy ⟦<ChangePasswdData as DerEncode>⟧ ⟦<ChangePasswdData as Show<Message>>⟧
-        (plain (codes "ChangePasswdData")) (λ p. p.items) octets result)
+        → IsToldByRow ⟦<ChangePasswdData as DerEncode>⟧ (codes "ChangePasswdData") (codes "ChangePasswdData") (λ p. p.items) octets result)
         × (kind ≡ kinds.TgtReq
-        → IsToldBy ⟦<TgtReq as DerEncode>⟧ ⟦<TgtReq as Show<Message>>⟧ (plain (codes "TGT-REQ")) (λ p. p.items) octets result)
+        → IsToldByRow ⟦<TgtReq as DerEncode>⟧ (codes "TGT-REQ") (codes "TGT-REQ") (λ p. p.items) octets result)
         × (kind ≡ kinds.TgtRep
-        → IsToldBy ⟦<TgtRep as DerEncode>⟧ ⟦<TgtRep as Show<Message>>⟧ (plain (codes "TGT-REP")) (λ p. p.items) octets result)
+        → IsToldByRow ⟦<TgtRep as DerEncode>⟧ (codes "TGT-REP") (codes "TGT-REP") (λ p. p.items) octets result)
         × (kind ≡ kinds.KdcProxyMessage
-        → IsToldBy ⟦<KdcProxyMessage as DerEncode>⟧ ⟦<KdcProxyMessage as Show<Message>>⟧
-        (plain (codes "KDC-PROXY-MESSAGE")) (λ p. p.items) octets result)
+        → IsToldByRow ⟦<KdcProxyMessage as DerEncode>⟧ (codes "KDC-PROXY-MESSAGE") (codes "KDC-PROXY-MESSAGE") (λ p. p.items) octets result)
         × (kind ≡ kinds.Pku2uNegoReqMetadata
-        → IsToldBy ⟦<Pku2uNegoReqMetadata as DerEncode>⟧ ⟦<Pku2uNegoReqMetadata as Show<Message>>⟧
-        (plain (codes "PKU2U-NEGO-REQ-METADATA")) (λ p. p.items) octets result)
+        → IsToldByRow ⟦<Pku2uNegoReqMetadata as DerEncode>⟧ (codes "PKU2U-NEGO-REQ-METADATA") (codes "PKU2U-NEGO-REQ-METADATA") (λ p. p.items) octets result)
         × (kind ≡ kinds.Pku2uNegoBody
-        → IsToldBy ⟦<Pku2uNegoBody as DerEncode>⟧ ⟦<Pku2uNegoBody as Show<Message>>⟧
-        (plain (codes "PKU2U-NEGO-BODY")) (λ p. p.items) octets result)
+        → IsToldByRow ⟦<Pku2uNegoBody as DerEncode>⟧ (codes "PKU2U-NEGO-BODY") (codes "PKU2U-NEGO-BODY") (λ p. p.items) octets result)
         × (kind ≡ kinds.Pku2uNegoReq
-        → IsToldBy ⟦<Pku2uNegoReq as DerEncode>⟧ ⟦<Pku2uNegoReq as Show<Message>>⟧ (plain (codes "PKU2U-NEGO-REQ")) (λ p. p.items) octets result)
+        → IsToldByRow ⟦<Pku2uNegoReq as DerEncode>⟧ (codes "PKU2U-NEGO-REQ") (codes "PKU2U-NEGO-REQ") (λ p. p.items) octets result)
         × (kind ≡ kinds.Pku2uNegoRep
-        → IsToldBy ⟦<Pku2uNegoRep as DerEncode>⟧ ⟦<Pku2uNegoRep as Show<Message>>⟧ (plain (codes "PKU2U-NEGO-REP")) (λ p. p.items) octets result)
+        → IsToldByRow ⟦<Pku2uNegoRep as DerEncode>⟧ (codes "PKU2U-NEGO-REP") (codes "PKU2U-NEGO-REP") (λ p. p.items) octets result)
         × (kind ≡ kinds.KrbFinished
-        → IsToldBy ⟦<KrbFinished as DerEncode>⟧ ⟦<KrbFinished as Show<Message>>⟧ (plain (codes "KRB-FINISHED")) (λ p. p.items) octets result) };
+        → IsToldByRow ⟦<KrbFinished as DerEncode>⟧ (codes "KRB-FINISHED") (codes "KRB-FINISHED") (λ p. p.items) octets result) };
 
     fn page_of(alloc: Global, kind: DataKind, octets: &[u8]) -> Result<Page, Asn1DerError> {
         page_of_data(alloc, kind, octets)

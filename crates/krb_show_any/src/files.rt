@@ -2,12 +2,13 @@
 
 ghost use Rattle.krb_show.specs.Opened.{opened_by};
 ghost use Rattle.krb_show_any.specs.Told.{IsCcacheTold, IsKeytabTold};
+ghost use Rattle.krb_show_messages.specs.Shown.{shows_of};
 
 use crate::pages::Pages;
 use krb_der::DerEncode;
-use krb_show::{Page, Show};
+use krb_show::Page;
 use krb_show_files::{FilePageError, page_of_ccache, page_of_keytab};
-use krb_show_messages::Message;
+use krb_show_messages::HasRow;
 use krb_types::data_types::Ticket;
 use std::alloc::Global;
 
@@ -29,7 +30,7 @@ pub struct Ccaches;
 
 impl Pages<(), FilePageError> for Ccaches {
     ghost tells = { λ _ octets result. IsCcacheTold
-        (opened_by ⟦<Ticket as DerEncode>⟧.is_value ⟦<Ticket as DerEncode>⟧.enc ⟦<Ticket as Show<Message>>⟧.shows) octets result };
+        (opened_by ⟦<Ticket as DerEncode>⟧.is_value ⟦<Ticket as DerEncode>⟧.enc (shows_of ⟦<Ticket as HasRow>⟧.row_name ⟦<Ticket as DerEncode>⟧.enc)) octets result };
 
     fn page_of(alloc: Global, _kind: (), octets: &[u8]) -> Result<Page, FilePageError> {
         page_of_ccache(alloc, octets)

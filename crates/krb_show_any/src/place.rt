@@ -6,8 +6,9 @@ ghost use Rattle.krb_show_any.specs.Places.{IsPlaceByRow, IsPlaceOf, is_frame, i
 use crate::error::PageError;
 use crate::frames::place_in_frame;
 use crate::kind::Kind;
-use crate::rows::{Walk, walk_octets};
+use crate::rows::walk_octets;
 use krb_schema::Fault;
+use krb_show_rows::Walk;
 use std::alloc::{AllocError, Global};
 
 /// Whether two errors have one reason.

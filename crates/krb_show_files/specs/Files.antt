@@ -11,7 +11,7 @@ use Rattle.krb_files.specs.Entry.{Entry}
 use Rattle.krb_files.specs.Keytab.{KeytabIs}
 use Rattle.krb_files.specs.KeytabReading.{keytab_of as keytab_read}
 use Rattle.krb_registry.specs.declared.kind.Kind.TheVariants.{AddressType, AuthorizationDataType, EncryptionType, NameType, TicketFlag}
-use Rattle.krb_show.specs.Leaves.{flags_of, number_of, octets_of, text_of, time_of, truth_of}
+use Rattle.krb_show.specs.Leaves.{flags_of, number_of, octets_of, secret_octets_of, text_of, time_of, truth_of}
 use Rattle.krb_show.specs.Pages.{◌then◌, list_of, struct_of}
 use Rattle.krb_show.specs.Tokens.{Label, Token, of_kind, plain}
 use Rattle.krb_show_files.specs.declared.error.FilePageError.{FilePageError}
@@ -45,7 +45,7 @@ entry_of label e = struct_of label (
     then time_or_number_of (plain (codes "timestamp")) e.timestamp
     then number_of (plain (codes "vno")) (pos e.kvno)
     then number_of (of_kind (codes "keytype") EncryptionType) (pos e.etype)
-    then octets_of (plain (codes "keyvalue")) e.key)
+    then secret_octets_of (plain (codes "keyvalue")) e.key)
 
 -- "Keytab file format": the entries, in their order
 abbrev pub keytab_of : Label → List Entry → List Token → List Token → Type 0
@@ -78,7 +78,7 @@ header_field_of label t = struct_of label (number_of (plain (codes "tag")) (pos 
 abbrev pub key_of : Label → ℕ → List ℕ → List Token → List Token → Type 0
 key_of label etype key = struct_of label (
     number_of (of_kind (codes "keytype") EncryptionType) (pos etype)
-    then octets_of (plain (codes "keyvalue")) key)
+    then secret_octets_of (plain (codes "keyvalue")) key)
 
 -- "Credential cache file format", "Credential format", address: under the names of HostAddress (RFC 4120, 5.2.5)
 abbrev pub address_of : ShowsAs Typed

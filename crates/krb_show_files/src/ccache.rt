@@ -1,23 +1,24 @@
 //! Credential caches (MIT Kerberos, "Credential cache file format").
 
-ghost use Rattle.std.specs.Prelude.{◌≡◌, [], List, IfOk, IfErr, OnOk, OnErr, MatchResult, pos, codes};
+ghost use Rattle.std.specs.Prelude.{◌≡◌, [], IfOk, IfErr, OnOk, OnErr, MatchResult, pos, codes};
 ghost use Rattle.krb_files.specs.Ccache.{Ccache, CcacheIs, version_octet};
 ghost use Rattle.krb_show.specs.Leaves.{number_of};
 ghost use Rattle.krb_show.specs.Opened.{opened_by};
 ghost use Rattle.krb_show.specs.Pages.{◌then◌, list_of, struct_of};
 ghost use Rattle.krb_show.specs.Tokens.{Begins, plain};
+ghost use Rattle.krb_show_messages.specs.Shown.{shows_of};
 ghost use Rattle.krb_show_files.specs.Files.{IsNoCcache, ccache_of, credential_of, marks_of, parties_of, removal_of, tickets_of, times_of};
 
 use crate::error::FilePageError;
 use crate::principal::PrincipalFields;
 use crate::ticket::{Addresses, AuthorizationElements, Key, TicketFlags, TicketOctets};
-use crate::values::{Items, Seconds};
+use crate::values::{Items, KeyOctets, Seconds};
 use crate::{File, HeaderField};
 use krb_der::DerEncode;
 use krb_files::ccache::{CcacheVersion, CcacheView, CredentialView, Times};
 use krb_files::fields::TypedOctets;
 use krb_show::{Field, Label, Page, Show, ShowFields, show_fields, show_struct};
-use krb_show_messages::Message;
+use krb_show_messages::HasRow;
 use krb_types::data_types::Ticket;
 use std::alloc::{AllocError, Global};
 use std::marker::PhantomData;
@@ -48,7 +49,7 @@ struct Parties<'a> {
 }
 
 impl<'a> ShowFields for Parties<'a> {
-    ghost shows = { λ f. parties_of f.client f.server f.key.keytype f.key.keyvalue.now };
+    ghost shows = { λ f. parties_of f.client f.server f.key.keytype f.key.keyvalue };
 
     fn show_fields(&self, alloc: Global, page: &mut Page) -> Result<(), AllocError> {
         let fields = show_fields!(File; self; "client" = client, "server" = server, "key" = key);
@@ -130,23 +131,30 @@ impl<'a> ShowFields for Marks<'a> {
 /// The tickets of a credential, lent for showing.
 #[derive(Drop)]
 struct Tickets<'a> {
-    ticket: TicketOctets<'a>,
-    second_ticket: TicketOctets<'a>,
+    ticket: &'a [u8],
+    second_ticket: &'a [u8],
 }
 
 impl<'a> ShowFields for Tickets<'a> {
-    ghost shows = { λ f. tickets_of (opened_by ⟦<Ticket as DerEncode>⟧.is_value ⟦<Ticket as DerEncode>⟧.enc ⟦<Ticket as Show<Message>>⟧.shows)
-        f.ticket.octets.now f.second_ticket.octets.now };
+    ghost shows = { λ f. tickets_of (opened_by ⟦<Ticket as DerEncode>⟧.is_value ⟦<Ticket as DerEncode>⟧.enc (shows_of ⟦<Ticket as HasRow>⟧.row_name ⟦<Ticket as DerEncode>⟧.enc))
+        f.ticket.now f.second_ticket.now };
 
     fn show_fields(&self, alloc: Global, page: &mut Page) -> Result<(), AllocError> {
-        let fields = show_fields!(File; self; "ticket" = ticket, "second-ticket" = second_ticket);
-        fields.show_fields(alloc, page)
+        let ticket = TicketOctets {
+            text: "ticket",
+            octets: self.ticket,
+        };
+        let second_ticket = TicketOctets {
+            text: "second-ticket",
+            octets: self.second_ticket,
+        };
+        (ticket, second_ticket).show_fields(alloc, page)
     }
 }
 
 /// A credential.
 impl<'a> Show<File> for CredentialView<'a> {
-    ghost shows = { credential_of (opened_by ⟦<Ticket as DerEncode>⟧.is_value ⟦<Ticket as DerEncode>⟧.enc ⟦<Ticket as Show<Message>>⟧.shows) };
+    ghost shows = { credential_of (opened_by ⟦<Ticket as DerEncode>⟧.is_value ⟦<Ticket as DerEncode>⟧.enc (shows_of ⟦<Ticket as HasRow>⟧.row_name ⟦<Ticket as DerEncode>⟧.enc)) };
 
     fn show(&self, alloc: Global, label: &Label, page: &mut Page) -> Result<(), AllocError> {
         let removal = Removal {
@@ -157,7 +165,7 @@ impl<'a> Show<File> for CredentialView<'a> {
             server: PrincipalFields::new(self.server()),
             key: Key {
                 keytype: u32::from(self.etype()),
-                keyvalue: self.key(),
+                keyvalue: KeyOctets { octets: self.key() },
             },
         };
         let times = times_fields(self.times());
@@ -174,12 +182,8 @@ impl<'a> Show<File> for CredentialView<'a> {
             },
         };
         let tickets = Tickets {
-            ticket: TicketOctets {
-                octets: self.ticket(),
-            },
-            second_ticket: TicketOctets {
-                octets: self.second_ticket(),
-            },
+            ticket: self.ticket(),
+            second_ticket: self.second_ticket(),
         };
         show_struct(
             alloc,
@@ -281,7 +285,7 @@ fn show_parts<'a, H: Show<HeaderField>, P: Show<File>, C: Show<File>>(
 
 /// A cache.
 impl<'a> Show<File> for CcacheView<'a> {
-    ghost shows = { ccache_of (opened_by ⟦<Ticket as DerEncode>⟧.is_value ⟦<Ticket as DerEncode>⟧.enc ⟦<Ticket as Show<Message>>⟧.shows) };
+    ghost shows = { ccache_of (opened_by ⟦<Ticket as DerEncode>⟧.is_value ⟦<Ticket as DerEncode>⟧.enc (shows_of ⟦<Ticket as HasRow>⟧.row_name ⟦<Ticket as DerEncode>⟧.enc)) };
 
     fn show(&self, alloc: Global, label: &Label, page: &mut Page) -> Result<(), AllocError> {
         let version = version_number(self.version());
@@ -312,7 +316,7 @@ impl<'a> Show<File> for CcacheView<'a> {
 /// octets are refused with their first error, as by `CcacheView::new`. An allocation failure is `OutOfMemory`, and comes only where they are a cache.
 pub fn page_of_ccache(alloc: Global, octets: &[u8]) -> Result<Page, FilePageError>
     ensures found { IfOk result (λ page. (cache : Ccache) × CcacheIs octets.now cache
-        × ccache_of (opened_by ⟦<Ticket as DerEncode>⟧.is_value ⟦<Ticket as DerEncode>⟧.enc ⟦<Ticket as Show<Message>>⟧.shows)
+        × ccache_of (opened_by ⟦<Ticket as DerEncode>⟧.is_value ⟦<Ticket as DerEncode>⟧.enc (shows_of ⟦<Ticket as HasRow>⟧.row_name ⟦<Ticket as DerEncode>⟧.enc))
         (plain (codes "ccache")) cache [] page.items) }
     ensures reads { (cache : Ccache) → CcacheIs octets.now cache → MatchResult result (λ page. Unit {0}) (λ e. e ≡ FilePageError.OutOfMemory) }
     ensures rejected { IfErr result (IsNoCcache octets.now) }

@@ -8,7 +8,7 @@ ghost use Rattle.krb_show_files.specs.Files.{IsNoKeytab, entry_of, keytab_of};
 
 use crate::File;
 use crate::error::FilePageError;
-use crate::values::{Realm, Seconds};
+use crate::values::{KeyOctets, Realm, Seconds};
 use krb_files::fields::ComponentsView;
 use krb_files::keytab::{EntryView, KeytabView};
 use krb_show::{Label, Page, Show, show_fields, show_list, show_struct};
@@ -23,7 +23,7 @@ struct EntryFields<'a> {
     timestamp: Seconds,
     vno: u32,
     keytype: u32,
-    keyvalue: &'a [u8],
+    keyvalue: KeyOctets<'a>,
 }
 
 /// An entry: a principal's key.
@@ -42,7 +42,7 @@ impl<'a> Show<File> for EntryView<'a> {
             },
             vno: self.kvno(),
             keytype: u32::from(self.etype()),
-            keyvalue: self.key(),
+            keyvalue: KeyOctets { octets: self.key() },
         };
         show_struct(
             alloc,

@@ -4,14 +4,17 @@ ghost use Rattle.std.specs.Prelude.{◌≡◌, IfOk};
 ghost use Rattle.krb_show.specs.Leaves.{flags_of};
 ghost use Rattle.krb_show.specs.Opened.{opened_by};
 ghost use Rattle.krb_show.specs.Pages.{list_of};
+ghost use Rattle.krb_show.specs.Tokens.{plain};
+ghost use Rattle.krb_show_messages.specs.Shown.{shows_of};
 ghost use Rattle.krb_show_files.specs.Files.{address_of, authorization_element_of, flag_bits, header_field_of, key_of};
 
+use crate::values::KeyOctets;
 use crate::{Address, AuthorizationElement, File, HeaderField};
 use byteorder::{BigEndian, ByteOrder};
 use krb_der::{BitStringAsn1, DerEncode};
 use krb_files::fields::{TypedListView, TypedOctets};
-use krb_show::{Label, Page, Show, show_fields, show_list, show_opened, show_struct};
-use krb_show_messages::Message;
+use krb_show::{Label, Page, Show, ShowFields, show_fields, show_list, show_struct};
+use krb_show_messages::{HasRow, show_opened_by_row};
 use krb_types::data_types::Ticket;
 use std::alloc::{AllocError, Global};
 
@@ -119,11 +122,11 @@ impl<'a> Show<File> for AuthorizationElements<'a> {
 #[derive(Drop)]
 pub(crate) struct Key<'a> {
     pub(crate) keytype: u32,
-    pub(crate) keyvalue: &'a [u8],
+    pub(crate) keyvalue: KeyOctets<'a>,
 }
 
 impl<'a> Show<File> for Key<'a> {
-    ghost shows = { λ label v. key_of label v.keytype v.keyvalue.now };
+    ghost shows = { λ label v. key_of label v.keytype v.keyvalue };
 
     fn show(&self, alloc: Global, label: &Label, page: &mut Page) -> Result<(), AllocError> {
         show_struct(
@@ -161,16 +164,18 @@ impl Show<File> for TicketFlags {
     }
 }
 
-/// Octets in a ticket's place: a Ticket (RFC 4120, 5.3) is opened.
+/// Octets in a ticket's place, and what they are called, lent for showing: a Ticket (RFC 4120, 5.3) by its row.
 #[derive(Drop)]
 pub(crate) struct TicketOctets<'a> {
+    pub(crate) text: &'static str,
     pub(crate) octets: &'a [u8],
 }
 
-impl<'a> Show<File> for TicketOctets<'a> {
-    ghost shows = { λ label v. opened_by ⟦<Ticket as DerEncode>⟧.is_value ⟦<Ticket as DerEncode>⟧.enc ⟦<Ticket as Show<Message>>⟧.shows label v.octets.now };
+impl<'a> ShowFields for TicketOctets<'a> {
+    ghost shows = { λ f. opened_by ⟦<Ticket as DerEncode>⟧.is_value ⟦<Ticket as DerEncode>⟧.enc
+        (shows_of ⟦<Ticket as HasRow>⟧.row_name ⟦<Ticket as DerEncode>⟧.enc) (plain f.text.now) f.octets.now };
 
-    fn show(&self, alloc: Global, label: &Label, page: &mut Page) -> Result<(), AllocError> {
-        show_opened::<Message, Ticket>(alloc, label, self.octets, page)
+    fn show_fields(&self, alloc: Global, page: &mut Page) -> Result<(), AllocError> {
+        show_opened_by_row::<Ticket>(alloc, self.text, self.octets, page)
     }
 }

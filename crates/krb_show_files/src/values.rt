@@ -1,13 +1,13 @@
 //! Texts, octets, times and lists.
 
 ghost use Rattle.std.specs.Prelude.{◌≡◌, map, IfOk};
-ghost use Rattle.krb_show.specs.Leaves.{octets_of, text_of};
+ghost use Rattle.krb_show.specs.Leaves.{octets_of, secret_octets_of, text_of};
 ghost use Rattle.krb_show.specs.Pages.{list_of};
 ghost use Rattle.krb_show_files.specs.Files.{texts_of, time_or_number_of};
 
 use crate::{File, Text};
 use krb_files::fields::ComponentsView;
-use krb_show::{Label, Page, Show, ShowFields, show_list, show_octets, show_text};
+use krb_show::{Label, Page, Show, ShowFields, show_list, show_octets, show_secret, show_text};
 use krb_types::view::time_of_unix_seconds;
 use std::alloc::{AllocError, Global};
 use std::marker::{Model, PhantomData};
@@ -18,6 +18,29 @@ impl<'a> Show<File> for &'a [u8] {
 
     fn show(&self, alloc: Global, label: &Label, page: &mut Page) -> Result<(), AllocError> {
         show_octets(alloc, label, self, page)
+    }
+}
+
+/// The octets of a key of the file.
+#[derive(Debug, Drop)]
+pub(crate) struct KeyOctets<'a> {
+    pub(crate) octets: &'a [u8],
+}
+
+impl<'a> Model for KeyOctets<'a> {
+    ghost use Rattle.std.specs.Prelude.{List, ℕ};
+    ghost use Rattle.std.specs.Coded.{coded_ℕ, coded_list};
+
+    ghost Value = { List ℕ };
+
+    ghost view = { λ k. k.octets.now };
+}
+
+impl<'a> Show<File> for KeyOctets<'a> {
+    ghost shows = { secret_octets_of };
+
+    fn show(&self, alloc: Global, label: &Label, page: &mut Page) -> Result<(), AllocError> {
+        show_secret(alloc, label, self.octets, page)
     }
 }
 

@@ -4,7 +4,8 @@ use Rattle.std.proofs.lemmas.List.{append-nil, append_assoc}
 use Rattle.std.proofs.lemmas.List.Elements.{filter-append}
 use Rattle.std.specs.List.{filter}
 use Rattle.krb_show.specs.Tokens.{Token}
-use Rattle.krb_show_keys.specs.Hidden.{hidden, hidden_from, hidden_page, is_clear_behind, is_etype, is_zero, last_is_zero}
+use Rattle.krb_show.specs.declared.token.Form.TheVariants as form
+use Rattle.krb_show_keys.specs.Hidden.{NoneIsSecret, hidden, hidden_from, hidden_page, hiding, is_clear_behind, is_etype, is_secret, is_zero, last_is_zero}
 
 hidden_behind : (before ts : List Token) (t : Token)
     → hidden_from before (ts ++ t ∷ []) ≡ hidden_from before ts ++ hidden (is_clear_behind (before ++ ts)) t ∷ []
@@ -29,3 +30,17 @@ clear_by false before t p = ap last_is_zero (filter-append is_etype before (t �
 pub clear_more : (before : List Token) (t : Token)
     → is_clear_behind (before ++ t ∷ []) ≡ (if is_etype t then is_zero t else is_clear_behind before)
 clear_more before t = clear_by (is_etype t) before t refl
+
+-- ---- what is hidden
+
+not_secret : (c b : Bool) (t : Token) → is_secret c t.form ≡ b → (if b then hiding t else t).form ≡ form.Secret → ⊥
+not_secret c true t e h = cc
+not_secret c false t e h = let s : is_secret c form.Secret ≡ false = rw h at e in cc
+
+none_from : (before ts : List Token) → NoneIsSecret (hidden_from before ts)
+none_from before [] = tt
+none_from before (t ∷ ts) =
+    (not_secret (is_clear_behind before) (is_secret (is_clear_behind before) t.form) t refl, none_from (before ++ t ∷ []) ts)
+
+pub none_is_secret : (ts : List Token) → NoneIsSecret (hidden_page ts)
+none_is_secret ts = none_from [] ts

@@ -1,46 +1,38 @@
--- Pages without the octets of keys.
-use Rattle.std.specs.Prelude.{ℕ, nat_eq, Bool, false, ◌&&◌, if◌then◌else◌, List, [], ◌∷◌, ◌++◌, Option, None, Some, codes}
+-- Pages without the octets of keys and passwords.
+use Rattle.std.specs.Prelude.{◌≡◌, nat_eq, Bool, true, false, if◌then◌else◌, List, [], ◌∷◌, ◌++◌, Option, Some, codes}
 use Rattle.std.specs.Cmp.Lexicographic.{pointwise}
 use Rattle.std.specs.List.{filter}
+use Rattle.krb_registry.specs.declared.kind.Kind.{Kind}
+use Rattle.krb_registry.specs.declared.kind.Kind.TheVariants as kinds
 use Rattle.krb_show.specs.declared.token.Form.{Form}
 use Rattle.krb_show.specs.declared.token.Form.TheVariants as form
-use Rattle.krb_show.specs.Tokens.{Label, Token, leaf}
+use Rattle.krb_show.specs.Tokens.{Token, leaf}
 
--- a label with this text in the place of that of a token
-abbrev pub named : List ℕ → Token → Label
-named text t = record { text = text; kind = t.label.kind; is_item = t.label.is_item }
+-- the octets of a key, a password or a PIN, or octets in the clear in the place of encrypted ones
+abbrev pub is_secret : Bool → Form → Bool
+is_secret is_clear form.Secret = true
+is_secret is_clear form.Cipher = is_clear
+is_secret is_clear f = false
 
--- the label of octets that are those of a key (RFC 4120, 5.2.9, EncryptionKey; MS-PAC, 2.5, UserSessionKey), or, in the clear, those of a `cipher`
-abbrev pub key_label : Bool → Token → Option Label
-key_label is_clear t = of_form t.form
-  where
-    of_form : Form → Option Label
-    of_form form.Octets =
-        if pointwise nat_eq t.label.text (codes "keyvalue") then Some (named (codes "keyvalue") t)
-        else if pointwise nat_eq t.label.text (codes "UserSessionKey") then Some (named (codes "UserSessionKey") t)
-        else if is_clear && pointwise nat_eq t.label.text (codes "cipher") then Some (named (codes "cipher") t)
-        else None
-    of_form f = None
+-- what stands for them
+abbrev pub hiding : Token → Token
+hiding t = leaf form.Word t.label (codes "hidden")
 
--- what stands for the octets of a key
-abbrev pub hiding : Label → Token
-hiding label = leaf form.Word label (codes "hidden")
-
--- a token, where it holds no key's octets
+-- a token, where it holds none
 abbrev pub hidden : Bool → Token → Token
-hidden is_clear t = hiding_or (key_label is_clear t)
-  where
-    hiding_or : Option Label → Token
-    hiding_or None = t
-    hiding_or (Some label) = hiding label
+hidden is_clear t = if is_secret is_clear t.form then hiding t else t
 
--- the number of an encryption type, and whether it is 0, NULL (RFC 4120, 5.8.1)
+-- the number of an encryption type (RFC 3961, 8), and whether it is 0, NULL (RFC 4120, 5.8.1)
+abbrev pub are_types : Option Kind → Bool
+are_types (Some kinds.EncryptionType) = true
+are_types registry = false
+
+abbrev pub is_number : Form → Bool
+is_number form.Number = true
+is_number f = false
+
 abbrev pub is_etype : Token → Bool
-is_etype t = of_form t.form
-  where
-    of_form : Form → Bool
-    of_form form.Number = pointwise nat_eq t.label.text (codes "etype")
-    of_form f = false
+is_etype t = if is_number t.form then are_types t.label.kind else false
 
 abbrev pub is_zero : Token → Bool
 is_zero t = pointwise nat_eq t.octets (codes "0")
@@ -51,15 +43,20 @@ last_is_zero [] = false
 last_is_zero (t ∷ []) = is_zero t
 last_is_zero (t ∷ u ∷ ts) = last_is_zero (u ∷ ts)
 
--- whether a `cipher` behind these tokens is in the clear: the last encryption type among them is 0
+-- whether octets in the place of encrypted ones behind these tokens are in the clear: the last encryption type among them is 0
 abbrev pub is_clear_behind : List Token → Bool
 is_clear_behind before = last_is_zero (filter is_etype before)
 
--- tokens without the octets of keys, where these stand before them
+-- tokens without the octets of keys and passwords, where these stand before them
 abbrev pub hidden_from : List Token → List Token → List Token
 hidden_from before [] = []
 hidden_from before (t ∷ ts) = hidden (is_clear_behind before) t ∷ hidden_from (before ++ t ∷ []) ts
 
--- a page without the octets of keys
+-- a page without the octets of keys and passwords
 abbrev pub hidden_page : List Token → List Token
 hidden_page page = hidden_from [] page
+
+-- none of the tokens holds the octets of a key, a password or a PIN
+abbrev pub NoneIsSecret : List Token → Type 0
+NoneIsSecret [] = Unit {0}
+NoneIsSecret (t ∷ ts) = (t.form ≡ form.Secret → ⊥) × NoneIsSecret ts

@@ -1,32 +1,21 @@
-//! Pages without the octets of keys.
+//! Pages without the octets of keys and passwords.
 
 ghost use Rattle.std.specs.Prelude.{◌≡◌, ◌++◌, ◌∷◌, [], if◌then◌else◌, IfOk, OnOk};
-ghost use Rattle.krb_show_keys.specs.Hidden.{hidden, hidden_page, hiding, is_etype, is_zero, key_label};
+ghost use Rattle.krb_show_keys.specs.Hidden.{NoneIsSecret, hidden, hidden_page, hiding, is_etype, is_secret, is_zero};
 
-use krb_show::{Form, Label, Page, Token, push_token};
+use krb_registry::Kind;
+use krb_show::{Form, Page, Token};
 use std::alloc::{AllocError, Global};
 
-/// The label of the octets of a key, or of octets in the clear that may hold one; `None` for any other token.
-fn key_label(token: &Token, is_clear: bool) -> Option<Label<'static>>
-    ensures { result ≡ key_label is_clear token.now }
+/// Whether a token of this form holds a key, a password or a PIN, or octets in the clear that may hold one.
+fn is_secret(form: Form, is_clear: bool) -> bool
+    ensures { result ≡ is_secret is_clear form }
 {
-    if token.form() != Form::Octets {
-        return None;
+    match form {
+        Form::Secret => true,
+        Form::Cipher => is_clear,
+        _ => false,
     }
-    let text = if token.text() == b"keyvalue".as_slice() {
-        "keyvalue"
-    } else if token.text() == b"UserSessionKey".as_slice() {
-        "UserSessionKey"
-    } else if is_clear && token.text() == b"cipher".as_slice() {
-        "cipher"
-    } else {
-        return None;
-    };
-    Some(Label {
-        text,
-        kind: token.kind(),
-        is_item: token.is_item(),
-    })
 }
 
 /// Whether a token is the number of an encryption type.
@@ -34,12 +23,12 @@ fn is_etype(token: &Token) -> bool
     ensures { result ≡ is_etype token.now }
 {
     match token.form() {
-        Form::Number => token.text() == b"etype".as_slice(),
+        Form::Number => matches!(token.kind(), Some(Kind::EncryptionType)),
         _ => false,
     }
 }
 
-/// Whether a `cipher` behind this token is in the clear, where `is_clear` says so of one before it.
+/// Whether octets in the place of encrypted ones behind this token are in the clear, where `is_clear` says so of such before it.
 fn clear_after(token: &Token, is_clear: bool) -> bool
     ensures { result ≡ (if is_etype token.now then is_zero token.now else is_clear) }
 {
@@ -50,16 +39,15 @@ fn clear_after(token: &Token, is_clear: bool) -> bool
     }
 }
 
-/// Appends the word that stands for the octets of a key.
-fn push_hidden(alloc: Global, label: &Label, page: &mut Page) -> Result<(), AllocError>
-    ensures { OnOk result (page.new.items ≡ page.old.items ++ hiding label.now ∷ []) }
+/// The word that stands for a token.
+fn hiding(alloc: Global, token: Token) -> Result<Token, AllocError>
+    ensures { IfOk result (λ made. made ≡ hiding token) }
 {
-    let mut word = Vec::with_capacity(alloc, 6)?;
-    word.extend_from_slice(b"hidden")?;
-    push_token(alloc, Form::Word, label, word, Vec::new(alloc), page)
+    let word = Vec::from_slice(alloc, b"hidden")?;
+    Ok(token.with_word(alloc, word))
 }
 
-/// Appends a token, or the word that stands for the octets of a key.
+/// Appends a token, or the word that stands for it.
 fn push_shown(
     alloc: Global,
     token: Token,
@@ -68,22 +56,22 @@ fn push_shown(
 ) -> Result<(), AllocError>
     ensures { OnOk result (page.new.items ≡ page.old.items ++ hidden is_clear token ∷ []) }
 {
-    match key_label(&token, is_clear) {
-        Some(label) => push_hidden(alloc, &label, page),
-        None => {
-            page.push(token)?;
-            Ok(())
-        }
+    if is_secret(token.form(), is_clear) {
+        page.push(hiding(alloc, token)?)?;
+    } else {
+        page.push(token)?;
     }
+    Ok(())
 }
 
-/// The page without the octets of keys: in the place of octets under the labels `keyvalue` (RFC 4120, 5.2.9, EncryptionKey; keytabs and
-/// credential caches) and `UserSessionKey` (MS-PAC, 2.5) stands the word `hidden`, and so it does in the place of a `cipher` of encryption type
-/// 0, which is in the clear and may hold keys (RFC 4120, 5.8.1). Other tokens stay as they are; octets that hold a key within them, as those of a
-/// tree, are among these. The only error is an allocation failure.
-#[tactic(auto, using(crate::proofs::Walks::hidden_more, crate::proofs::Walks::clear_more))]
+/// The page without the octets of keys and passwords: the word `hidden` stands in the place of each token of the form `Form::Secret` (the octets of a key of
+/// RFC 4120, 5.2.9, of a keytab or of a credential cache, UserSessionKey of MS-PAC, 2.5, a password of RFC 3244 or of MS-CSSP, a PIN), and of one of
+/// the form `Form::Cipher` behind the encryption type 0, which is in the clear and may hold keys (RFC 4120, 5.8.1), under any label. Other tokens stay
+/// as they are; octets that hold a key within them, as those of a tree or of a PAC's buffer, are among these. The only error is an allocation failure.
+#[tactic(auto, using(crate::proofs::Walks::hidden_more, crate::proofs::Walks::clear_more, crate::proofs::Walks::none_is_secret))]
 pub fn without_keys(alloc: Global, page: Page) -> Result<Page, AllocError>
-    ensures { IfOk result (λ made. made.items ≡ hidden_page page.items) }
+    ensures made { IfOk result (λ made. made.items ≡ hidden_page page.items) }
+    ensures no_secret { IfOk result (λ made. NoneIsSecret made.items) }
 {
     let mut made = Vec::with_capacity(alloc, page.len())?;
     let mut is_clear = false;

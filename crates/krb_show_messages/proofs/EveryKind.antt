@@ -1,5 +1,5 @@
 -- What holds of each kind of the list holds of all kinds.
-use Rattle.std.proofs.Common.{◌≡◌, ℕ, ◌<◌, length, slice_index_or, List, [], ◌∷◌, All, arith}
+use Rattle.std.proofs.Common.{All, arith}
 use Rattle.krb_show_messages.specs.Kinds.{kinds}
 use Rattle.krb_show_messages.specs.declared.kinds.DataKind.{DataKind}
 use Rattle.krb_show_messages.specs.declared.kinds.DataKind.TheVariants as kind

@@ -1,1 +1,2 @@
 pub mod EveryKind
+pub mod EveryCertificateKind

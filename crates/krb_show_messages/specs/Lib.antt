@@ -1,5 +1,8 @@
 pub mod GssChecksum
 pub mod Kinds
-pub mod Names
-pub mod Proxy
+pub mod CertificateKinds
+pub mod Prefixed
+pub mod Formats
+pub mod Shown
+pub mod Choices
 pub mod Told

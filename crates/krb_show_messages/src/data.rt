@@ -1,21 +1,19 @@
 //! Pages of types that their first octet does not tell.
 
 ghost use Rattle.std.specs.Prelude.{◌≡◌, codes};
-ghost use Rattle.krb_show.specs.Told.{IsToldBy};
-ghost use Rattle.krb_show.specs.Tokens.{plain};
+ghost use Rattle.krb_show_messages.specs.Shown.{IsToldByRow};
 ghost use Rattle.krb_show_messages.specs.declared.kinds.DataKind.TheVariants as kinds;
 
-use crate::Message;
-use crate::errors::MethodData;
 use crate::kinds::DataKind;
-use crate::messages::page_as;
+use crate::rows::MethodData;
+use crate::values::page_as;
 use krb_der::{Asn1DerError, DerEncode};
 use krb_enc_parts::data_types::KrbCredInfo;
 use krb_messages::messages::{KdcProxyMessage, KdcReqBody, TgtRep, TgtReq};
 use krb_pkinit::pkinit::{
     KrbFinished, Pku2uNegoBody, Pku2uNegoRep, Pku2uNegoReq, Pku2uNegoReqMetadata,
 };
-use krb_show::{Page, Show};
+use krb_show::Page;
 use krb_types::data_types::{
     AuthorizationData, ChangePasswdData, Checksum, EncryptedData, EncryptionKey, EtypeInfo2,
     EtypeInfo2Entry, HostAddress, HostAddresses, KerbAdRestrictionEntry, KerbErrorData,
@@ -26,25 +24,23 @@ use std::alloc::Global;
 /// The page of a value of a type that messages share (RFC 4120, 5.2 and 5.3); another kind is refused.
 fn page_of_shared(alloc: Global, kind: DataKind, octets: &[u8]) -> Result<Page, Asn1DerError>
     ensures principal_name { kind ≡ kinds.PrincipalName
-        → IsToldBy ⟦<PrincipalName as DerEncode>⟧ ⟦<PrincipalName as Show<Message>>⟧ (plain (codes "PrincipalName")) (λ p. p.items) octets.now result }
+        → IsToldByRow ⟦<PrincipalName as DerEncode>⟧ (codes "PrincipalName") (codes "PrincipalName") (λ p. p.items) octets.now result }
     ensures host_address { kind ≡ kinds.HostAddress
-        → IsToldBy ⟦<HostAddress as DerEncode>⟧ ⟦<HostAddress as Show<Message>>⟧ (plain (codes "HostAddress")) (λ p. p.items) octets.now result }
+        → IsToldByRow ⟦<HostAddress as DerEncode>⟧ (codes "HostAddress") (codes "HostAddress") (λ p. p.items) octets.now result }
     ensures host_addresses { kind ≡ kinds.HostAddresses
-        → IsToldBy ⟦<HostAddresses as DerEncode>⟧ ⟦<HostAddresses as Show<Message>>⟧ (plain (codes "HostAddresses")) (λ p. p.items) octets.now result }
+        → IsToldByRow ⟦<HostAddresses as DerEncode>⟧ (codes "HostAddresses") (codes "HostAddresses") (λ p. p.items) octets.now result }
     ensures authorization_data { kind ≡ kinds.AuthorizationData
-        → IsToldBy ⟦<AuthorizationData as DerEncode>⟧ ⟦<AuthorizationData as Show<Message>>⟧
-        (plain (codes "AuthorizationData")) (λ p. p.items) octets.now result }
+        → IsToldByRow ⟦<AuthorizationData as DerEncode>⟧ (codes "AuthorizationData") (codes "AuthorizationData") (λ p. p.items) octets.now result }
     ensures encrypted_data { kind ≡ kinds.EncryptedData
-        → IsToldBy ⟦<EncryptedData as DerEncode>⟧ ⟦<EncryptedData as Show<Message>>⟧ (plain (codes "EncryptedData")) (λ p. p.items) octets.now result }
+        → IsToldByRow ⟦<EncryptedData as DerEncode>⟧ (codes "EncryptedData") (codes "EncryptedData") (λ p. p.items) octets.now result }
     ensures encryption_key { kind ≡ kinds.EncryptionKey
-        → IsToldBy ⟦<EncryptionKey as DerEncode>⟧ ⟦<EncryptionKey as Show<Message>>⟧ (plain (codes "EncryptionKey")) (λ p. p.items) octets.now result }
+        → IsToldByRow ⟦<EncryptionKey as DerEncode>⟧ (codes "EncryptionKey") (codes "EncryptionKey") (λ p. p.items) octets.now result }
     ensures checksum { kind ≡ kinds.Checksum
-        → IsToldBy ⟦<Checksum as DerEncode>⟧ ⟦<Checksum as Show<Message>>⟧ (plain (codes "Checksum")) (λ p. p.items) octets.now result }
+        → IsToldByRow ⟦<Checksum as DerEncode>⟧ (codes "Checksum") (codes "Checksum") (λ p. p.items) octets.now result }
     ensures transited_encoding { kind ≡ kinds.TransitedEncoding
-        → IsToldBy ⟦<TransitedEncoding as DerEncode>⟧ ⟦<TransitedEncoding as Show<Message>>⟧
-        (plain (codes "TransitedEncoding")) (λ p. p.items) octets.now result }
+        → IsToldByRow ⟦<TransitedEncoding as DerEncode>⟧ (codes "TransitedEncoding") (codes "TransitedEncoding") (λ p. p.items) octets.now result }
     ensures last_req { kind ≡ kinds.LastReq
-        → IsToldBy ⟦<LastReq as DerEncode>⟧ ⟦<LastReq as Show<Message>>⟧ (plain (codes "LastReq")) (λ p. p.items) octets.now result }
+        → IsToldByRow ⟦<LastReq as DerEncode>⟧ (codes "LastReq") (codes "LastReq") (λ p. p.items) octets.now result }
 {
     match kind {
         DataKind::PrincipalName => page_as::<PrincipalName>(alloc, "PrincipalName", octets),
@@ -75,20 +71,19 @@ fn page_of_pre_authentication(
     octets: &[u8],
 ) -> Result<Page, Asn1DerError>
     ensures pa_data { kind ≡ kinds.PaData
-        → IsToldBy ⟦<PaData as DerEncode>⟧ ⟦<PaData as Show<Message>>⟧ (plain (codes "PA-DATA")) (λ p. p.items) octets.now result }
+        → IsToldByRow ⟦<PaData as DerEncode>⟧ (codes "PA-DATA") (codes "PA-DATA") (λ p. p.items) octets.now result }
     ensures method_data { kind ≡ kinds.MethodData
-        → IsToldBy ⟦<MethodData as DerEncode>⟧ ⟦<MethodData as Show<Message>>⟧ (plain (codes "METHOD-DATA")) (λ p. p.items) octets.now result }
+        → IsToldByRow ⟦<MethodData as DerEncode>⟧ (codes "METHOD-DATA") (codes "METHOD-DATA") (λ p. p.items) octets.now result }
     ensures pa_enc_ts_enc { kind ≡ kinds.PaEncTsEnc
-        → IsToldBy ⟦<PaEncTsEnc as DerEncode>⟧ ⟦<PaEncTsEnc as Show<Message>>⟧ (plain (codes "PA-ENC-TS-ENC")) (λ p. p.items) octets.now result }
+        → IsToldByRow ⟦<PaEncTsEnc as DerEncode>⟧ (codes "PA-ENC-TS-ENC") (codes "PA-ENC-TS-ENC") (λ p. p.items) octets.now result }
     ensures etype_info2_entry { kind ≡ kinds.EtypeInfo2Entry
-        → IsToldBy ⟦<EtypeInfo2Entry as DerEncode>⟧ ⟦<EtypeInfo2Entry as Show<Message>>⟧ (plain (codes "ETYPE-INFO2-ENTRY")) (λ p. p.items) octets.now result }
+        → IsToldByRow ⟦<EtypeInfo2Entry as DerEncode>⟧ (codes "ETYPE-INFO2-ENTRY") (codes "ETYPE-INFO2-ENTRY") (λ p. p.items) octets.now result }
     ensures etype_info2 { kind ≡ kinds.EtypeInfo2
-        → IsToldBy ⟦<EtypeInfo2 as DerEncode>⟧ ⟦<EtypeInfo2 as Show<Message>>⟧ (plain (codes "ETYPE-INFO2")) (λ p. p.items) octets.now result }
+        → IsToldByRow ⟦<EtypeInfo2 as DerEncode>⟧ (codes "ETYPE-INFO2") (codes "ETYPE-INFO2") (λ p. p.items) octets.now result }
     ensures kerb_pa_pac_request { kind ≡ kinds.KerbPaPacRequest
-        → IsToldBy ⟦<KerbPaPacRequest as DerEncode>⟧ ⟦<KerbPaPacRequest as Show<Message>>⟧
-        (plain (codes "KERB-PA-PAC-REQUEST")) (λ p. p.items) octets.now result }
+        → IsToldByRow ⟦<KerbPaPacRequest as DerEncode>⟧ (codes "KERB-PA-PAC-REQUEST") (codes "KERB-PA-PAC-REQUEST") (λ p. p.items) octets.now result }
     ensures pa_pac_options { kind ≡ kinds.PaPacOptions
-        → IsToldBy ⟦<PaPacOptions as DerEncode>⟧ ⟦<PaPacOptions as Show<Message>>⟧ (plain (codes "PA-PAC-OPTIONS")) (λ p. p.items) octets.now result }
+        → IsToldByRow ⟦<PaPacOptions as DerEncode>⟧ (codes "PA-PAC-OPTIONS") (codes "PA-PAC-OPTIONS") (λ p. p.items) octets.now result }
 {
     match kind {
         DataKind::PaData => page_as::<PaData>(alloc, "PA-DATA", octets),
@@ -109,33 +104,31 @@ fn page_of_pre_authentication(
 /// The page of a value of a type of one exchange; another kind is refused.
 fn page_of_exchange(alloc: Global, kind: DataKind, octets: &[u8]) -> Result<Page, Asn1DerError>
     ensures kdc_req_body { kind ≡ kinds.KdcReqBody
-        → IsToldBy ⟦<KdcReqBody as DerEncode>⟧ ⟦<KdcReqBody as Show<Message>>⟧ (plain (codes "KDC-REQ-BODY")) (λ p. p.items) octets.now result }
+        → IsToldByRow ⟦<KdcReqBody as DerEncode>⟧ (codes "KDC-REQ-BODY") (codes "KDC-REQ-BODY") (λ p. p.items) octets.now result }
     ensures krb_cred_info { kind ≡ kinds.KrbCredInfo
-        → IsToldBy ⟦<KrbCredInfo as DerEncode>⟧ ⟦<KrbCredInfo as Show<Message>>⟧ (plain (codes "KrbCredInfo")) (λ p. p.items) octets.now result }
+        → IsToldByRow ⟦<KrbCredInfo as DerEncode>⟧ (codes "KrbCredInfo") (codes "KrbCredInfo") (λ p. p.items) octets.now result }
     ensures kerb_error_data { kind ≡ kinds.KerbErrorData
-        → IsToldBy ⟦<KerbErrorData as DerEncode>⟧ ⟦<KerbErrorData as Show<Message>>⟧ (plain (codes "KERB-ERROR-DATA")) (λ p. p.items) octets.now result }
+        → IsToldByRow ⟦<KerbErrorData as DerEncode>⟧ (codes "KERB-ERROR-DATA") (codes "KERB-ERROR-DATA") (λ p. p.items) octets.now result }
     ensures kerb_ad_restriction_entry { kind ≡ kinds.KerbAdRestrictionEntry
-        → IsToldBy ⟦<KerbAdRestrictionEntry as DerEncode>⟧ ⟦<KerbAdRestrictionEntry as Show<Message>>⟧
-        (plain (codes "KERB-AD-RESTRICTION-ENTRY")) (λ p. p.items) octets.now result }
+        → IsToldByRow ⟦<KerbAdRestrictionEntry as DerEncode>⟧ (codes "KERB-AD-RESTRICTION-ENTRY") (codes "KERB-AD-RESTRICTION-ENTRY") (λ p. p.items) octets.now result }
     ensures change_passwd_data { kind ≡ kinds.ChangePasswdData
-        → IsToldBy ⟦<ChangePasswdData as DerEncode>⟧ ⟦<ChangePasswdData as Show<Message>>⟧ (plain (codes "ChangePasswdData")) (λ p. p.items) octets.now result }
+        → IsToldByRow ⟦<ChangePasswdData as DerEncode>⟧ (codes "ChangePasswdData") (codes "ChangePasswdData") (λ p. p.items) octets.now result }
     ensures tgt_req { kind ≡ kinds.TgtReq
-        → IsToldBy ⟦<TgtReq as DerEncode>⟧ ⟦<TgtReq as Show<Message>>⟧ (plain (codes "TGT-REQ")) (λ p. p.items) octets.now result }
+        → IsToldByRow ⟦<TgtReq as DerEncode>⟧ (codes "TGT-REQ") (codes "TGT-REQ") (λ p. p.items) octets.now result }
     ensures tgt_rep { kind ≡ kinds.TgtRep
-        → IsToldBy ⟦<TgtRep as DerEncode>⟧ ⟦<TgtRep as Show<Message>>⟧ (plain (codes "TGT-REP")) (λ p. p.items) octets.now result }
+        → IsToldByRow ⟦<TgtRep as DerEncode>⟧ (codes "TGT-REP") (codes "TGT-REP") (λ p. p.items) octets.now result }
     ensures kdc_proxy_message { kind ≡ kinds.KdcProxyMessage
-        → IsToldBy ⟦<KdcProxyMessage as DerEncode>⟧ ⟦<KdcProxyMessage as Show<Message>>⟧ (plain (codes "KDC-PROXY-MESSAGE")) (λ p. p.items) octets.now result }
+        → IsToldByRow ⟦<KdcProxyMessage as DerEncode>⟧ (codes "KDC-PROXY-MESSAGE") (codes "KDC-PROXY-MESSAGE") (λ p. p.items) octets.now result }
     ensures pku2u_nego_req_metadata { kind ≡ kinds.Pku2uNegoReqMetadata
-        → IsToldBy ⟦<Pku2uNegoReqMetadata as DerEncode>⟧ ⟦<Pku2uNegoReqMetadata as Show<Message>>⟧
-        (plain (codes "PKU2U-NEGO-REQ-METADATA")) (λ p. p.items) octets.now result }
+        → IsToldByRow ⟦<Pku2uNegoReqMetadata as DerEncode>⟧ (codes "PKU2U-NEGO-REQ-METADATA") (codes "PKU2U-NEGO-REQ-METADATA") (λ p. p.items) octets.now result }
     ensures pku2u_nego_body { kind ≡ kinds.Pku2uNegoBody
-        → IsToldBy ⟦<Pku2uNegoBody as DerEncode>⟧ ⟦<Pku2uNegoBody as Show<Message>>⟧ (plain (codes "PKU2U-NEGO-BODY")) (λ p. p.items) octets.now result }
+        → IsToldByRow ⟦<Pku2uNegoBody as DerEncode>⟧ (codes "PKU2U-NEGO-BODY") (codes "PKU2U-NEGO-BODY") (λ p. p.items) octets.now result }
     ensures pku2u_nego_req { kind ≡ kinds.Pku2uNegoReq
-        → IsToldBy ⟦<Pku2uNegoReq as DerEncode>⟧ ⟦<Pku2uNegoReq as Show<Message>>⟧ (plain (codes "PKU2U-NEGO-REQ")) (λ p. p.items) octets.now result }
+        → IsToldByRow ⟦<Pku2uNegoReq as DerEncode>⟧ (codes "PKU2U-NEGO-REQ") (codes "PKU2U-NEGO-REQ") (λ p. p.items) octets.now result }
     ensures pku2u_nego_rep { kind ≡ kinds.Pku2uNegoRep
-        → IsToldBy ⟦<Pku2uNegoRep as DerEncode>⟧ ⟦<Pku2uNegoRep as Show<Message>>⟧ (plain (codes "PKU2U-NEGO-REP")) (λ p. p.items) octets.now result }
+        → IsToldByRow ⟦<Pku2uNegoRep as DerEncode>⟧ (codes "PKU2U-NEGO-REP") (codes "PKU2U-NEGO-REP") (λ p. p.items) octets.now result }
     ensures krb_finished { kind ≡ kinds.KrbFinished
-        → IsToldBy ⟦<KrbFinished as DerEncode>⟧ ⟦<KrbFinished as Show<Message>>⟧ (plain (codes "KRB-FINISHED")) (λ p. p.items) octets.now result }
+        → IsToldByRow ⟦<KrbFinished as DerEncode>⟧ (codes "KRB-FINISHED") (codes "KRB-FINISHED") (λ p. p.items) octets.now result }
 {
     match kind {
         DataKind::KdcReqBody => page_as::<KdcReqBody>(alloc, "KDC-REQ-BODY", octets),
@@ -171,68 +164,63 @@ fn page_of_exchange(alloc: Global, kind: DataKind, octets: &[u8]) -> Result<Page
 /// by `from_bytes`: with its first error, from the left. `Io` is never returned.
 pub fn page_of_data(alloc: Global, kind: DataKind, octets: &[u8]) -> Result<Page, Asn1DerError>
     ensures principal_name { kind ≡ kinds.PrincipalName
-        → IsToldBy ⟦<PrincipalName as DerEncode>⟧ ⟦<PrincipalName as Show<Message>>⟧ (plain (codes "PrincipalName")) (λ p. p.items) octets.now result }
+        → IsToldByRow ⟦<PrincipalName as DerEncode>⟧ (codes "PrincipalName") (codes "PrincipalName") (λ p. p.items) octets.now result }
     ensures host_address { kind ≡ kinds.HostAddress
-        → IsToldBy ⟦<HostAddress as DerEncode>⟧ ⟦<HostAddress as Show<Message>>⟧ (plain (codes "HostAddress")) (λ p. p.items) octets.now result }
+        → IsToldByRow ⟦<HostAddress as DerEncode>⟧ (codes "HostAddress") (codes "HostAddress") (λ p. p.items) octets.now result }
     ensures host_addresses { kind ≡ kinds.HostAddresses
-        → IsToldBy ⟦<HostAddresses as DerEncode>⟧ ⟦<HostAddresses as Show<Message>>⟧ (plain (codes "HostAddresses")) (λ p. p.items) octets.now result }
+        → IsToldByRow ⟦<HostAddresses as DerEncode>⟧ (codes "HostAddresses") (codes "HostAddresses") (λ p. p.items) octets.now result }
     ensures authorization_data { kind ≡ kinds.AuthorizationData
-        → IsToldBy ⟦<AuthorizationData as DerEncode>⟧ ⟦<AuthorizationData as Show<Message>>⟧
-        (plain (codes "AuthorizationData")) (λ p. p.items) octets.now result }
+        → IsToldByRow ⟦<AuthorizationData as DerEncode>⟧ (codes "AuthorizationData") (codes "AuthorizationData") (λ p. p.items) octets.now result }
     ensures encrypted_data { kind ≡ kinds.EncryptedData
-        → IsToldBy ⟦<EncryptedData as DerEncode>⟧ ⟦<EncryptedData as Show<Message>>⟧ (plain (codes "EncryptedData")) (λ p. p.items) octets.now result }
+        → IsToldByRow ⟦<EncryptedData as DerEncode>⟧ (codes "EncryptedData") (codes "EncryptedData") (λ p. p.items) octets.now result }
     ensures encryption_key { kind ≡ kinds.EncryptionKey
-        → IsToldBy ⟦<EncryptionKey as DerEncode>⟧ ⟦<EncryptionKey as Show<Message>>⟧ (plain (codes "EncryptionKey")) (λ p. p.items) octets.now result }
+        → IsToldByRow ⟦<EncryptionKey as DerEncode>⟧ (codes "EncryptionKey") (codes "EncryptionKey") (λ p. p.items) octets.now result }
     ensures checksum { kind ≡ kinds.Checksum
-        → IsToldBy ⟦<Checksum as DerEncode>⟧ ⟦<Checksum as Show<Message>>⟧ (plain (codes "Checksum")) (λ p. p.items) octets.now result }
+        → IsToldByRow ⟦<Checksum as DerEncode>⟧ (codes "Checksum") (codes "Checksum") (λ p. p.items) octets.now result }
     ensures transited_encoding { kind ≡ kinds.TransitedEncoding
-        → IsToldBy ⟦<TransitedEncoding as DerEncode>⟧ ⟦<TransitedEncoding as Show<Message>>⟧
-        (plain (codes "TransitedEncoding")) (λ p. p.items) octets.now result }
+        → IsToldByRow ⟦<TransitedEncoding as DerEncode>⟧ (codes "TransitedEncoding") (codes "TransitedEncoding") (λ p. p.items) octets.now result }
     ensures last_req { kind ≡ kinds.LastReq
-        → IsToldBy ⟦<LastReq as DerEncode>⟧ ⟦<LastReq as Show<Message>>⟧ (plain (codes "LastReq")) (λ p. p.items) octets.now result }
+        → IsToldByRow ⟦<LastReq as DerEncode>⟧ (codes "LastReq") (codes "LastReq") (λ p. p.items) octets.now result }
     ensures pa_data { kind ≡ kinds.PaData
-        → IsToldBy ⟦<PaData as DerEncode>⟧ ⟦<PaData as Show<Message>>⟧ (plain (codes "PA-DATA")) (λ p. p.items) octets.now result }
+        → IsToldByRow ⟦<PaData as DerEncode>⟧ (codes "PA-DATA") (codes "PA-DATA") (λ p. p.items) octets.now result }
     ensures method_data { kind ≡ kinds.MethodData
-        → IsToldBy ⟦<MethodData as DerEncode>⟧ ⟦<MethodData as Show<Message>>⟧ (plain (codes "METHOD-DATA")) (λ p. p.items) octets.now result }
+        → IsToldByRow ⟦<MethodData as DerEncode>⟧ (codes "METHOD-DATA") (codes "METHOD-DATA") (λ p. p.items) octets.now result }
     ensures pa_enc_ts_enc { kind ≡ kinds.PaEncTsEnc
-        → IsToldBy ⟦<PaEncTsEnc as DerEncode>⟧ ⟦<PaEncTsEnc as Show<Message>>⟧ (plain (codes "PA-ENC-TS-ENC")) (λ p. p.items) octets.now result }
+        → IsToldByRow ⟦<PaEncTsEnc as DerEncode>⟧ (codes "PA-ENC-TS-ENC") (codes "PA-ENC-TS-ENC") (λ p. p.items) octets.now result }
     ensures etype_info2_entry { kind ≡ kinds.EtypeInfo2Entry
-        → IsToldBy ⟦<EtypeInfo2Entry as DerEncode>⟧ ⟦<EtypeInfo2Entry as Show<Message>>⟧ (plain (codes "ETYPE-INFO2-ENTRY")) (λ p. p.items) octets.now result }
+        → IsToldByRow ⟦<EtypeInfo2Entry as DerEncode>⟧ (codes "ETYPE-INFO2-ENTRY") (codes "ETYPE-INFO2-ENTRY") (λ p. p.items) octets.now result }
     ensures etype_info2 { kind ≡ kinds.EtypeInfo2
-        → IsToldBy ⟦<EtypeInfo2 as DerEncode>⟧ ⟦<EtypeInfo2 as Show<Message>>⟧ (plain (codes "ETYPE-INFO2")) (λ p. p.items) octets.now result }
+        → IsToldByRow ⟦<EtypeInfo2 as DerEncode>⟧ (codes "ETYPE-INFO2") (codes "ETYPE-INFO2") (λ p. p.items) octets.now result }
     ensures kerb_pa_pac_request { kind ≡ kinds.KerbPaPacRequest
-        → IsToldBy ⟦<KerbPaPacRequest as DerEncode>⟧ ⟦<KerbPaPacRequest as Show<Message>>⟧
-        (plain (codes "KERB-PA-PAC-REQUEST")) (λ p. p.items) octets.now result }
+        → IsToldByRow ⟦<KerbPaPacRequest as DerEncode>⟧ (codes "KERB-PA-PAC-REQUEST") (codes "KERB-PA-PAC-REQUEST") (λ p. p.items) octets.now result }
     ensures pa_pac_options { kind ≡ kinds.PaPacOptions
-        → IsToldBy ⟦<PaPacOptions as DerEncode>⟧ ⟦<PaPacOptions as Show<Message>>⟧ (plain (codes "PA-PAC-OPTIONS")) (λ p. p.items) octets.now result }
+        → IsToldByRow ⟦<PaPacOptions as DerEncode>⟧ (codes "PA-PAC-OPTIONS") (codes "PA-PAC-OPTIONS") (λ p. p.items) octets.now result }
     ensures kdc_req_body { kind ≡ kinds.KdcReqBody
-        → IsToldBy ⟦<KdcReqBody as DerEncode>⟧ ⟦<KdcReqBody as Show<Message>>⟧ (plain (codes "KDC-REQ-BODY")) (λ p. p.items) octets.now result }
+        → IsToldByRow ⟦<KdcReqBody as DerEncode>⟧ (codes "KDC-REQ-BODY") (codes "KDC-REQ-BODY") (λ p. p.items) octets.now result }
     ensures krb_cred_info { kind ≡ kinds.KrbCredInfo
-        → IsToldBy ⟦<KrbCredInfo as DerEncode>⟧ ⟦<KrbCredInfo as Show<Message>>⟧ (plain (codes "KrbCredInfo")) (λ p. p.items) octets.now result }
+        → IsToldByRow ⟦<KrbCredInfo as DerEncode>⟧ (codes "KrbCredInfo") (codes "KrbCredInfo") (λ p. p.items) octets.now result }
     ensures kerb_error_data { kind ≡ kinds.KerbErrorData
-        → IsToldBy ⟦<KerbErrorData as DerEncode>⟧ ⟦<KerbErrorData as Show<Message>>⟧ (plain (codes "KERB-ERROR-DATA")) (λ p. p.items) octets.now result }
+        → IsToldByRow ⟦<KerbErrorData as DerEncode>⟧ (codes "KERB-ERROR-DATA") (codes "KERB-ERROR-DATA") (λ p. p.items) octets.now result }
     ensures kerb_ad_restriction_entry { kind ≡ kinds.KerbAdRestrictionEntry
-        → IsToldBy ⟦<KerbAdRestrictionEntry as DerEncode>⟧ ⟦<KerbAdRestrictionEntry as Show<Message>>⟧
-        (plain (codes "KERB-AD-RESTRICTION-ENTRY")) (λ p. p.items) octets.now result }
+        → IsToldByRow ⟦<KerbAdRestrictionEntry as DerEncode>⟧ (codes "KERB-AD-RESTRICTION-ENTRY") (codes "KERB-AD-RESTRICTION-ENTRY") (λ p. p.items) octets.now result }
     ensures change_passwd_data { kind ≡ kinds.ChangePasswdData
-        → IsToldBy ⟦<ChangePasswdData as DerEncode>⟧ ⟦<ChangePasswdData as Show<Message>>⟧ (plain (codes "ChangePasswdData")) (λ p. p.items) octets.now result }
+        → IsToldByRow ⟦<ChangePasswdData as DerEncode>⟧ (codes "ChangePasswdData") (codes "ChangePasswdData") (λ p. p.items) octets.now result }
     ensures tgt_req { kind ≡ kinds.TgtReq
-        → IsToldBy ⟦<TgtReq as DerEncode>⟧ ⟦<TgtReq as Show<Message>>⟧ (plain (codes "TGT-REQ")) (λ p. p.items) octets.now result }
+        → IsToldByRow ⟦<TgtReq as DerEncode>⟧ (codes "TGT-REQ") (codes "TGT-REQ") (λ p. p.items) octets.now result }
     ensures tgt_rep { kind ≡ kinds.TgtRep
-        → IsToldBy ⟦<TgtRep as DerEncode>⟧ ⟦<TgtRep as Show<Message>>⟧ (plain (codes "TGT-REP")) (λ p. p.items) octets.now result }
+        → IsToldByRow ⟦<TgtRep as DerEncode>⟧ (codes "TGT-REP") (codes "TGT-REP") (λ p. p.items) octets.now result }
     ensures kdc_proxy_message { kind ≡ kinds.KdcProxyMessage
-        → IsToldBy ⟦<KdcProxyMessage as DerEncode>⟧ ⟦<KdcProxyMessage as Show<Message>>⟧ (plain (codes "KDC-PROXY-MESSAGE")) (λ p. p.items) octets.now result }
+        → IsToldByRow ⟦<KdcProxyMessage as DerEncode>⟧ (codes "KDC-PROXY-MESSAGE") (codes "KDC-PROXY-MESSAGE") (λ p. p.items) octets.now result }
     ensures pku2u_nego_req_metadata { kind ≡ kinds.Pku2uNegoReqMetadata
-        → IsToldBy ⟦<Pku2uNegoReqMetadata as DerEncode>⟧ ⟦<Pku2uNegoReqMetadata as Show<Message>>⟧
-        (plain (codes "PKU2U-NEGO-REQ-METADATA")) (λ p. p.items) octets.now result }
+        → IsToldByRow ⟦<Pku2uNegoReqMetadata as DerEncode>⟧ (codes "PKU2U-NEGO-REQ-METADATA") (codes "PKU2U-NEGO-REQ-METADATA") (λ p. p.items) octets.now result }
     ensures pku2u_nego_body { kind ≡ kinds.Pku2uNegoBody
-        → IsToldBy ⟦<Pku2uNegoBody as DerEncode>⟧ ⟦<Pku2uNegoBody as Show<Message>>⟧ (plain (codes "PKU2U-NEGO-BODY")) (λ p. p.items) octets.now result }
+        → IsToldByRow ⟦<Pku2uNegoBody as DerEncode>⟧ (codes "PKU2U-NEGO-BODY") (codes "PKU2U-NEGO-BODY") (λ p. p.items) octets.now result }
     ensures pku2u_nego_req { kind ≡ kinds.Pku2uNegoReq
-        → IsToldBy ⟦<Pku2uNegoReq as DerEncode>⟧ ⟦<Pku2uNegoReq as Show<Message>>⟧ (plain (codes "PKU2U-NEGO-REQ")) (λ p. p.items) octets.now result }
+        → IsToldByRow ⟦<Pku2uNegoReq as DerEncode>⟧ (codes "PKU2U-NEGO-REQ") (codes "PKU2U-NEGO-REQ") (λ p. p.items) octets.now result }
     ensures pku2u_nego_rep { kind ≡ kinds.Pku2uNegoRep
-        → IsToldBy ⟦<Pku2uNegoRep as DerEncode>⟧ ⟦<Pku2uNegoRep as Show<Message>>⟧ (plain (codes "PKU2U-NEGO-REP")) (λ p. p.items) octets.now result }
+        → IsToldByRow ⟦<Pku2uNegoRep as DerEncode>⟧ (codes "PKU2U-NEGO-REP") (codes "PKU2U-NEGO-REP") (λ p. p.items) octets.now result }
     ensures krb_finished { kind ≡ kinds.KrbFinished
-        → IsToldBy ⟦<KrbFinished as DerEncode>⟧ ⟦<KrbFinished as Show<Message>>⟧ (plain (codes "KRB-FINISHED")) (λ p. p.items) octets.now result }
+        → IsToldByRow ⟦<KrbFinished as DerEncode>⟧ (codes "KRB-FINISHED") (codes "KRB-FINISHED") (λ p. p.items) octets.now result }
 {
     match kind {
         DataKind::PrincipalName

@@ -3,22 +3,17 @@
 ghost use Rattle.std.specs.Prelude.{◌≡◌, ◌+◌, ◌≤◌, pos, length, take, drop, codes, IfOk, MatchBool, OnOk, OnErr};
 ghost use Rattle.krb_registry.specs.declared.kind.Kind.TheVariants.{GssFlag};
 ghost use Rattle.krb_show.specs.Leaves.{flags_of, number_of, octets_of};
-ghost use Rattle.krb_show.specs.Opened.{by_number, opened_by};
 ghost use Rattle.krb_show.specs.Tokens.{Begins, of_kind, plain};
+ghost use Rattle.krb_show_messages.specs.Formats.{deleg_of};
 ghost use Rattle.krb_show_messages.specs.GssChecksum.{IsDelegation, IsGssChecksum, delegates, delegation_of, dlgth, exts_of, flag_bits, gss_checksum_of, rest_of};
 
 use crate::Message;
 use byteorder::{ByteOrder, LittleEndian};
-use krb_der::{BitStringAsn1, DerEncode, IntegerAsn1};
-use krb_messages::messages::KrbCred;
+use krb_der::BitStringAsn1;
 use krb_registry::Kind;
-use krb_show::{
-    Label, OpensValues, Page, Show, ShowFields, is_number, show_octets, show_opened, show_struct,
-};
+use krb_show::{Label, Page, Show, ShowFields, show_octets, show_struct};
+use krb_show_rows::{NoFormats, show_by_row};
 use std::alloc::{AllocError, Global};
-
-/// The checksum type of the GSS-API: 0x8003.
-const GSS_CHECKSUM: u32 = 32771;
 
 /// What Lgth is: how many octets Bnd has.
 const BINDINGS_LENGTH: u32 = 16;
@@ -183,17 +178,17 @@ struct Deleg<'a> {
 }
 
 impl<'a> ShowFields for Deleg<'a> {
-    ghost shows = { λ f. opened_by ⟦<KrbCred as DerEncode>⟧.is_value ⟦<KrbCred as DerEncode>⟧.enc
-        ⟦<KrbCred as Show<Message>>⟧.shows (plain (codes "Deleg")) (take (dlgth f.octets.now) (drop 28 f.octets.now)) };
+    ghost shows = { λ f. deleg_of (take (dlgth f.octets.now) (drop 28 f.octets.now)) };
 
     fn show_fields(&self, alloc: Global, page: &mut Page) -> Result<(), AllocError> {
-        let label = Label {
-            text: "Deleg",
-            kind: None,
-            is_item: false,
-        };
         let length = delegated_length(self.octets) as usize;
-        show_opened::<Message, KrbCred>(alloc, &label, &self.octets[28..][..length], page)
+        show_by_row::<NoFormats>(
+            alloc,
+            "KRB-CRED",
+            "Deleg",
+            &self.octets[28..][..length],
+            page,
+        )
     }
 }
 
@@ -224,8 +219,7 @@ struct Delegation<'a> {
 }
 
 impl<'a> ShowFields for Delegation<'a> {
-    ghost shows = { λ f. delegation_of (opened_by ⟦<KrbCred as DerEncode>⟧.is_value ⟦<KrbCred as DerEncode>⟧.enc
-        ⟦<KrbCred as Show<Message>>⟧.shows (plain (codes "Deleg"))) f.octets.now };
+    ghost shows = { λ f. delegation_of deleg_of f.octets.now };
 
     fn show_fields(&self, alloc: Global, page: &mut Page) -> Result<(), AllocError> {
         let octets = self.octets;
@@ -253,8 +247,7 @@ struct BehindFlags<'a> {
 }
 
 impl<'a> ShowFields for BehindFlags<'a> {
-    ghost shows = { λ f. rest_of (opened_by ⟦<KrbCred as DerEncode>⟧.is_value ⟦<KrbCred as DerEncode>⟧.enc
-        ⟦<KrbCred as Show<Message>>⟧.shows (plain (codes "Deleg"))) f.octets.now };
+    ghost shows = { λ f. rest_of deleg_of f.octets.now };
 
     fn show_fields(&self, alloc: Global, page: &mut Page) -> Result<(), AllocError> {
         let octets = self.octets;
@@ -269,15 +262,14 @@ impl<'a> ShowFields for BehindFlags<'a> {
 }
 
 /// Appends the tokens of such a checksum, or octets.
-fn show_gss_checksum(
+pub(crate) fn show_gss_checksum(
     alloc: Global,
     label: &Label,
     octets: &[u8],
     page: &mut Page,
 ) -> Result<(), AllocError>
     ensures ok { OnOk result (
-        (gss_checksum_of (opened_by ⟦<KrbCred as DerEncode>⟧.is_value ⟦<KrbCred as DerEncode>⟧.enc
-        ⟦<KrbCred as Show<Message>>⟧.shows (plain (codes "Deleg"))) label.now octets.now)
+        (gss_checksum_of deleg_of label.now octets.now)
         page.old.items page.new.items) }
     ensures kept { OnOk result (Begins page.old.items page.new.items) }
     ensures err { OnErr result (page.new.items ≡ page.old.items) }
@@ -295,28 +287,4 @@ fn show_gss_checksum(
     };
     let context = ((lgth, Bindings { octets }), Flags { octets });
     show_struct(alloc, label, &(context, BehindFlags { octets }), page)
-}
-
-/// The octets of a checksum: those of the checksum of the GSS-API in an authenticator (0x8003; RFC 4121, 4.1.1) are opened.
-#[derive(Drop)]
-pub struct ChecksumValues;
-
-impl OpensValues for ChecksumValues {
-    ghost opened = { λ label number octets. by_number number 32771
-        (gss_checksum_of (opened_by ⟦<KrbCred as DerEncode>⟧.is_value ⟦<KrbCred as DerEncode>⟧.enc
-        ⟦<KrbCred as Show<Message>>⟧.shows (plain (codes "Deleg"))) label octets)
-        (octets_of label octets) };
-
-    fn show_value(
-        alloc: Global,
-        label: &Label,
-        number: &IntegerAsn1,
-        octets: &[u8],
-        page: &mut Page,
-    ) -> Result<(), AllocError> {
-        if is_number(number, GSS_CHECKSUM) {
-            return show_gss_checksum(alloc, label, octets, page);
-        }
-        show_octets(alloc, label, octets, page)
-    }
 }

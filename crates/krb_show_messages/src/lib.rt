@@ -1,33 +1,31 @@
-//! The messages of Kerberos (RFC 4120) as tokens.
+//! The messages of Kerberos (RFC 4120) as tokens, by the rows of their types in `krb_schema`'s table.
 #![tactic(auto)]
 
-mod application;
+mod certificate_kinds;
+mod certificates;
 mod data;
-mod errors;
+mod formats;
 mod gss_checksum;
-mod kdc;
+mod header;
 mod kinds;
 mod messages;
-mod names;
-mod others;
-mod padata;
-mod parts;
-mod pku2u;
-mod pre_authentication;
-mod proxy;
-mod shared;
+mod prefixed;
+mod rows;
+mod values;
 
+pub use certificate_kinds::CertificateKind;
+pub use certificates::page_of_certificate_data;
 pub use data::page_of_data;
-pub use gss_checksum::ChecksumValues;
+pub use formats::KerberosFormats;
 pub use kinds::DataKind;
 pub use messages::{page_of_message, page_of_part};
-pub use padata::{AuthorizationDataValues, NestedAuthorizationDataValues, PaDataValues};
-pub use proxy::{KerbMessageOctets, OpensOctets};
+pub use rows::HasRow;
+pub use values::{RowField, show_opened_by_row, show_value};
 
-/// The way in which this crate shows: octet strings that hold known encodings are opened.
+/// The way in which this crate shows what has no row.
 #[derive(Drop)]
 pub struct Message;
 
-/// The way in which this crate shows elements of authorization data that stand within another: of these a PAC alone is opened.
+/// The way in which the types of PKINIT and of CredSSP are shown.
 #[derive(Drop)]
-pub struct Nested;
+pub struct Certificate;

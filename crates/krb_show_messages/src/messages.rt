@@ -2,12 +2,11 @@
 
 ghost use Rattle.std.specs.Prelude.{◌≡◌, ◌<◌, false, [], Err, codes, length, slice_index};
 ghost use Rattle.krb_der_core.specs.declared.error.Asn1DerError.TheVariants.{InvalidData, TruncatedData};
-ghost use Rattle.krb_show.specs.Tokens.{plain};
-ghost use Rattle.krb_show.specs.Told.{IsToldBy};
+ghost use Rattle.krb_show_messages.specs.Shown.{IsToldByRow};
 ghost use Rattle.krb_show_messages.specs.Told.{is_message, is_part};
 
-use crate::Message;
-use krb_der::{Asn1DerError, Der, DerEncode};
+use crate::values::page_as;
+use krb_der::{Asn1DerError, DerEncode};
 use krb_enc_parts::data_types::{
     Authenticator, EncApRepPart, EncKrbCredPart, EncKrbPrivPart, EncTicketPart,
 };
@@ -15,21 +14,9 @@ use krb_messages::messages::{
     ApRep, ApReq, AsRep, AsReq, EncAsRepPart, EncTgsRepPart, KrbCred, KrbError, KrbPriv, TgsRep,
     TgsReq,
 };
-use krb_show::{Label, Page, Show, page_of_octets};
+use krb_show::Page;
 use krb_types::data_types::Ticket;
 use std::alloc::Global;
-
-/// The page of a value of this type, under a name.
-pub(crate) fn page_as<T: Der + Show<Message> + Drop>(
-    alloc: Global,
-    name: &str,
-    octets: &[u8],
-) -> Result<Page, Asn1DerError>
-    ensures { IsToldBy ⟦<T as DerEncode>⟧ ⟦<T as Show<Message>>⟧ (plain name.now) (λ p. p.items) octets.now result }
-{
-    let label = Label::new(name);
-    page_of_octets::<Message, T>(alloc, &label, octets)
-}
 
 /// The page of a message (RFC 4120, 5.3 to 5.9), told by its first octet: `61` Ticket, `6a` AS-REQ, `6b` AS-REP, `6c` TGS-REQ, `6d` TGS-REP,
 /// `6e` AP-REQ, `6f` AP-REP, `75` KRB-PRIV, `76` KRB-CRED, `7e` KRB-ERROR. No octet is `TruncatedData`, another first octet `InvalidData`,
@@ -38,25 +25,25 @@ pub fn page_of_message(alloc: Global, octets: &[u8]) -> Result<Page, Asn1DerErro
     ensures empty { octets.now ≡ [] → result ≡ Err TruncatedData }
     ensures other { 0 < length octets.now → is_message (slice_index octets.now 0) ≡ false → result ≡ Err InvalidData }
     ensures ticket { slice_index octets.now 0 ≡ 97
-        → IsToldBy ⟦<Ticket as DerEncode>⟧ ⟦<Ticket as Show<Message>>⟧ (plain (codes "Ticket")) (λ p. p.items) octets.now result }
+        → IsToldByRow ⟦<Ticket as DerEncode>⟧ (codes "Ticket") (codes "Ticket") (λ p. p.items) octets.now result }
     ensures as_req { slice_index octets.now 0 ≡ 106
-        → IsToldBy ⟦<AsReq as DerEncode>⟧ ⟦<AsReq as Show<Message>>⟧ (plain (codes "AS-REQ")) (λ p. p.items) octets.now result }
+        → IsToldByRow ⟦<AsReq as DerEncode>⟧ (codes "AS-REQ") (codes "AS-REQ") (λ p. p.items) octets.now result }
     ensures as_rep { slice_index octets.now 0 ≡ 107
-        → IsToldBy ⟦<AsRep as DerEncode>⟧ ⟦<AsRep as Show<Message>>⟧ (plain (codes "AS-REP")) (λ p. p.items) octets.now result }
+        → IsToldByRow ⟦<AsRep as DerEncode>⟧ (codes "AS-REP") (codes "AS-REP") (λ p. p.items) octets.now result }
     ensures tgs_req { slice_index octets.now 0 ≡ 108
-        → IsToldBy ⟦<TgsReq as DerEncode>⟧ ⟦<TgsReq as Show<Message>>⟧ (plain (codes "TGS-REQ")) (λ p. p.items) octets.now result }
+        → IsToldByRow ⟦<TgsReq as DerEncode>⟧ (codes "TGS-REQ") (codes "TGS-REQ") (λ p. p.items) octets.now result }
     ensures tgs_rep { slice_index octets.now 0 ≡ 109
-        → IsToldBy ⟦<TgsRep as DerEncode>⟧ ⟦<TgsRep as Show<Message>>⟧ (plain (codes "TGS-REP")) (λ p. p.items) octets.now result }
+        → IsToldByRow ⟦<TgsRep as DerEncode>⟧ (codes "TGS-REP") (codes "TGS-REP") (λ p. p.items) octets.now result }
     ensures ap_req { slice_index octets.now 0 ≡ 110
-        → IsToldBy ⟦<ApReq as DerEncode>⟧ ⟦<ApReq as Show<Message>>⟧ (plain (codes "AP-REQ")) (λ p. p.items) octets.now result }
+        → IsToldByRow ⟦<ApReq as DerEncode>⟧ (codes "AP-REQ") (codes "AP-REQ") (λ p. p.items) octets.now result }
     ensures ap_rep { slice_index octets.now 0 ≡ 111
-        → IsToldBy ⟦<ApRep as DerEncode>⟧ ⟦<ApRep as Show<Message>>⟧ (plain (codes "AP-REP")) (λ p. p.items) octets.now result }
+        → IsToldByRow ⟦<ApRep as DerEncode>⟧ (codes "AP-REP") (codes "AP-REP") (λ p. p.items) octets.now result }
     ensures krb_priv { slice_index octets.now 0 ≡ 117
-        → IsToldBy ⟦<KrbPriv as DerEncode>⟧ ⟦<KrbPriv as Show<Message>>⟧ (plain (codes "KRB-PRIV")) (λ p. p.items) octets.now result }
+        → IsToldByRow ⟦<KrbPriv as DerEncode>⟧ (codes "KRB-PRIV") (codes "KRB-PRIV") (λ p. p.items) octets.now result }
     ensures krb_cred { slice_index octets.now 0 ≡ 118
-        → IsToldBy ⟦<KrbCred as DerEncode>⟧ ⟦<KrbCred as Show<Message>>⟧ (plain (codes "KRB-CRED")) (λ p. p.items) octets.now result }
+        → IsToldByRow ⟦<KrbCred as DerEncode>⟧ (codes "KRB-CRED") (codes "KRB-CRED") (λ p. p.items) octets.now result }
     ensures krb_error { slice_index octets.now 0 ≡ 126
-        → IsToldBy ⟦<KrbError as DerEncode>⟧ ⟦<KrbError as Show<Message>>⟧ (plain (codes "KRB-ERROR")) (λ p. p.items) octets.now result }
+        → IsToldByRow ⟦<KrbError as DerEncode>⟧ (codes "KRB-ERROR") (codes "KRB-ERROR") (λ p. p.items) octets.now result }
 {
     if octets.is_empty() {
         return Err(Asn1DerError::TruncatedData);
@@ -82,19 +69,19 @@ pub fn page_of_part(alloc: Global, octets: &[u8]) -> Result<Page, Asn1DerError>
     ensures empty { octets.now ≡ [] → result ≡ Err TruncatedData }
     ensures other { 0 < length octets.now → is_part (slice_index octets.now 0) ≡ false → result ≡ Err InvalidData }
     ensures authenticator { slice_index octets.now 0 ≡ 98
-        → IsToldBy ⟦<Authenticator as DerEncode>⟧ ⟦<Authenticator as Show<Message>>⟧ (plain (codes "Authenticator")) (λ p. p.items) octets.now result }
+        → IsToldByRow ⟦<Authenticator as DerEncode>⟧ (codes "Authenticator") (codes "Authenticator") (λ p. p.items) octets.now result }
     ensures ticket_part { slice_index octets.now 0 ≡ 99
-        → IsToldBy ⟦<EncTicketPart as DerEncode>⟧ ⟦<EncTicketPart as Show<Message>>⟧ (plain (codes "EncTicketPart")) (λ p. p.items) octets.now result }
+        → IsToldByRow ⟦<EncTicketPart as DerEncode>⟧ (codes "EncTicketPart") (codes "EncTicketPart") (λ p. p.items) octets.now result }
     ensures as_rep_part { slice_index octets.now 0 ≡ 121
-        → IsToldBy ⟦<EncAsRepPart as DerEncode>⟧ ⟦<EncAsRepPart as Show<Message>>⟧ (plain (codes "EncASRepPart")) (λ p. p.items) octets.now result }
+        → IsToldByRow ⟦<EncAsRepPart as DerEncode>⟧ (codes "EncASRepPart") (codes "EncASRepPart") (λ p. p.items) octets.now result }
     ensures tgs_rep_part { slice_index octets.now 0 ≡ 122
-        → IsToldBy ⟦<EncTgsRepPart as DerEncode>⟧ ⟦<EncTgsRepPart as Show<Message>>⟧ (plain (codes "EncTGSRepPart")) (λ p. p.items) octets.now result }
+        → IsToldByRow ⟦<EncTgsRepPart as DerEncode>⟧ (codes "EncTGSRepPart") (codes "EncTGSRepPart") (λ p. p.items) octets.now result }
     ensures ap_rep_part { slice_index octets.now 0 ≡ 123
-        → IsToldBy ⟦<EncApRepPart as DerEncode>⟧ ⟦<EncApRepPart as Show<Message>>⟧ (plain (codes "EncAPRepPart")) (λ p. p.items) octets.now result }
+        → IsToldByRow ⟦<EncApRepPart as DerEncode>⟧ (codes "EncAPRepPart") (codes "EncAPRepPart") (λ p. p.items) octets.now result }
     ensures priv_part { slice_index octets.now 0 ≡ 124
-        → IsToldBy ⟦<EncKrbPrivPart as DerEncode>⟧ ⟦<EncKrbPrivPart as Show<Message>>⟧ (plain (codes "EncKrbPrivPart")) (λ p. p.items) octets.now result }
+        → IsToldByRow ⟦<EncKrbPrivPart as DerEncode>⟧ (codes "EncKrbPrivPart") (codes "EncKrbPrivPart") (λ p. p.items) octets.now result }
     ensures cred_part { slice_index octets.now 0 ≡ 125
-        → IsToldBy ⟦<EncKrbCredPart as DerEncode>⟧ ⟦<EncKrbCredPart as Show<Message>>⟧ (plain (codes "EncKrbCredPart")) (λ p. p.items) octets.now result }
+        → IsToldByRow ⟦<EncKrbCredPart as DerEncode>⟧ (codes "EncKrbCredPart") (codes "EncKrbCredPart") (λ p. p.items) octets.now result }
 {
     if octets.is_empty() {
         return Err(Asn1DerError::TruncatedData);

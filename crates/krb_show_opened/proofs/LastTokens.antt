@@ -46,20 +46,20 @@ no_type_behind {tokens} {middle} typed version behind digits e =
       | inr h ↦ behind digits h.2 (subst (λ front. EndsWithLeaf form.Number (codes "etype") front digits h.2) (leaf_front h.3 version) h.4)
     ]
 
-pub no_part : {tokens : List Token} → EndsWithNoLeaf form.Octets (codes "cipher") tokens → IsNoPart tokens
+pub no_part : {tokens : List Token} → EndsWithNoLeaf form.Cipher (codes "cipher") tokens → IsNoPart tokens
 no_part none = λ digits cipher part. none cipher part.front part.ends
 
-pub no_part_behind : {tokens front : List Token} {cipher : List ℕ} → EndsWithLeaf form.Octets (codes "cipher") tokens cipher front
+pub no_part_behind : {tokens front : List Token} {cipher : List ℕ} → EndsWithLeaf form.Cipher (codes "cipher") tokens cipher front
     → ((digits : List ℕ) → EndsWithType front digits → ⊥) → IsNoPart tokens
 no_part_behind leaf none =
     λ digits cipher part. none digits (subst (λ front. EndsWithType front digits) (leaf_front part.ends leaf) part.typed)
 
 -- ---- a key
 
-pub no_key : {kind : List ℕ} {tokens : List Token} → EndsWithNoLeaf form.Octets (codes "keyvalue") tokens → IsNoKey kind tokens
+pub no_key : {kind : List ℕ} {tokens : List Token} → EndsWithNoLeaf form.Secret (codes "keyvalue") tokens → IsNoKey kind tokens
 no_key none = λ key is. none key.octets is.middle is.ends
 
-pub no_key_type : {kind : List ℕ} {tokens middle : List Token} {octets : List ℕ} → EndsWithLeaf form.Octets (codes "keyvalue") tokens octets middle
+pub no_key_type : {kind : List ℕ} {tokens middle : List Token} {octets : List ℕ} → EndsWithLeaf form.Secret (codes "keyvalue") tokens octets middle
     → EndsWithNoLeaf form.Number (codes "keytype") middle → IsNoKey kind tokens
 no_key_type {kind} {tokens} {middle} leaf none =
     λ key is. none (digits_of key.suite) is.front
@@ -67,19 +67,19 @@ no_key_type {kind} {tokens} {middle} leaf none =
 
 -- a key's type and what stands before it, where these are known
 type_at : {kind : List ℕ} {tokens middle : List Token} {octets : List ℕ} (key : NamedKey) (is : IsKey kind tokens key)
-    → EndsWithLeaf form.Octets (codes "keyvalue") tokens octets middle
+    → EndsWithLeaf form.Secret (codes "keyvalue") tokens octets middle
     → EndsWithLeaf form.Number (codes "keytype") middle (digits_of key.suite) is.front
 type_at {kind} {tokens} {middle} key is leaf =
     subst (λ m. EndsWithLeaf form.Number (codes "keytype") m (digits_of key.suite) is.front) (leaf_front is.ends leaf) is.typed
 
 pub no_key_struct : {kind : List ℕ} {tokens middle front : List Token} {octets digits : List ℕ}
-    → EndsWithLeaf form.Octets (codes "keyvalue") tokens octets middle → EndsWithLeaf form.Number (codes "keytype") middle digits front
+    → EndsWithLeaf form.Secret (codes "keyvalue") tokens octets middle → EndsWithLeaf form.Number (codes "keytype") middle digits front
     → ((t : Token) (earlier : List Token) → EndsWith form.Struct front t earlier → ⊥) → IsNoKey kind tokens
 no_key_struct {kind} {tokens} {middle} {front} leaf typed none =
     λ key is. none is.begin is.earlier
     (subst (λ f. EndsWith form.Struct f is.begin is.earlier) (leaf_front (type_at key is leaf) typed) is.begins)
 
 pub no_key_suite : {kind : List ℕ} {tokens middle front : List Token} {octets digits : List ℕ}
-    → EndsWithLeaf form.Octets (codes "keyvalue") tokens octets middle → EndsWithLeaf form.Number (codes "keytype") middle digits front
+    → EndsWithLeaf form.Secret (codes "keyvalue") tokens octets middle → EndsWithLeaf form.Number (codes "keytype") middle digits front
     → ((suite : CipherSuite) → digits ≢ digits_of suite) → IsNoKey kind tokens
 no_key_suite leaf typed none = λ key is. none key.suite (sym (leaf_octets (type_at key is leaf) typed))

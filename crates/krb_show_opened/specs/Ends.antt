@@ -35,7 +35,7 @@ EndsWithType tokens etype =
 -- the tokens end with those of an EncryptedData of this encryption type and ciphertext
 pub record IsPart (tokens : List Token) (etype cipher : List ℕ) : Type 0 where
   pub front : List Token
-  pub ends : EndsWithLeaf form.Octets (codes "cipher") tokens cipher front
+  pub ends : EndsWithLeaf form.Cipher (codes "cipher") tokens cipher front
   pub typed : EndsWithType front etype
 
 abbrev pub IsNoPart : List Token → Type 0
@@ -47,7 +47,7 @@ IsNoPart tokens = (etype cipher : List ℕ) → IsPart tokens etype cipher → �
 -- that of the struct.
 pub record IsKey (kind : List ℕ) (tokens : List Token) (key : NamedKey) : Type 0 where
   pub middle : List Token
-  pub ends : EndsWithLeaf form.Octets (codes "keyvalue") tokens key.octets middle
+  pub ends : EndsWithLeaf form.Secret (codes "keyvalue") tokens key.octets middle
   pub front : List Token
   pub typed : EndsWithLeaf form.Number (codes "keytype") middle (digits_of key.suite) front
   pub begin : Token

@@ -66,7 +66,7 @@ pub(crate) struct Part<'p> {
 pub(crate) fn part_at_end(page: &[Token]) -> Option<Part<'_>>
     ensures { MatchOption result (IsNoPart page.now) (λ part. IsPart page.now part.digits.now part.cipher.now) }
 {
-    let Some(cipher) = last_leaf(page, Form::Octets, "cipher") else {
+    let Some(cipher) = last_leaf(page, Form::Cipher, "cipher") else {
         return None;
     };
     let Some(digits) = last_type(cipher.front) else {
@@ -107,7 +107,7 @@ fn name_of(alloc: Global, kind: &str, text: &[u8]) -> Result<Vec<u8>, AllocError
 fn key_at_end(alloc: Global, tokens: &[Token], kind: &str) -> Result<Option<Key>, AllocError>
     ensures { IfOk result (λ found. MatchOption found (IsNoKey kind.now tokens.now) (IsKey kind.now tokens.now)) }
 {
-    let Some(value) = last_leaf(tokens, Form::Octets, "keyvalue") else {
+    let Some(value) = last_leaf(tokens, Form::Secret, "keyvalue") else {
         return Ok(None);
     };
     let Some(digits) = last_leaf(value.front, Form::Number, "keytype") else {

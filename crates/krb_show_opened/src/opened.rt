@@ -2,7 +2,8 @@
 
 ghost use Rattle.std.specs.Prelude.{◌≡◌, ℕ, List, IfOk, OnOk, MatchBool, MatchOption, codes};
 ghost use Rattle.krb_show.specs.Opened.{IsNone};
-ghost use Rattle.krb_show.specs.Tokens.{Begins, Token, plain};
+ghost use Rattle.krb_show.specs.Tokens.{Begins, Token};
+ghost use Rattle.krb_show_messages.specs.Shown.{shows_of};
 ghost use Rattle.krb_show_opened.specs.Keys.{NamedKey, HasNoValue};
 ghost use Rattle.krb_show_opened.specs.Opened.{IsShown, by_usage, encoded_as, no_encoding, opener_of, told, value_of, value_or};
 ghost use Rattle.krb_show_opened.specs.Usages.{integer_of};
@@ -12,8 +13,9 @@ use crate::ends::keys_in;
 use crate::key::Key;
 use crate::sealed::value_under;
 use crate::usage::Usage;
-use krb_der::Der;
-use krb_show::{Label, Page, Show, open, show_number, show_text};
+use krb_der::{Der, DerEncode};
+use krb_show::{Label, Page, open, show_number, show_text};
+use krb_show_messages::{HasRow, show_value};
 use std::alloc::{AllocError, Global};
 
 /// What is sealed for each usage.
@@ -59,42 +61,41 @@ fn show_opener(alloc: Global, key: &Key, usage: Usage, page: &mut Page) -> Resul
 }
 
 /// Appends the tokens of a value of the type, and which key opened it. Returned are the keys in it.
-fn show_value<K, T: Show<K>>(
+fn show_found<T: DerEncode + HasRow>(
     alloc: Global,
     key: &Key,
     usage: Usage,
-    kind: &str,
+    kind: &'static str,
     value: &T,
     page: &mut Page,
 ) -> Result<Vec<Key>, AllocError>
-    ensures ok { IfOk result (λ found. IsShown T.shows kind.now key.now usage value.now page.old.items found.items page.new.items) }
+    ensures ok { IfOk result (λ found. IsShown (shows_of T.row_name T.enc) kind.now key.now usage value.now page.old.items found.items page.new.items) }
     ensures kept { OnOk result (Begins page.old.items page.new.items) }
 {
     show_opener(alloc, key, usage, page)?;
     let start = page.len();
-    let label = Label::new(kind);
-    value.show(alloc, &label, page)?;
+    show_value(alloc, kind, value, page)?;
     let (_before, shown) = page.split_at(start);
     keys_in(alloc, shown, kind)
 }
 
 /// Appends the value of the type whose encoding the key seals for this usage, and which key opened it. Returned are the keys in it, and `None`
 /// where there is no such value and nothing is appended.
-fn insert_value<K, T: Der + Show<K> + Drop>(
+fn insert_value<T: Der + HasRow + Drop>(
     alloc: Global,
     key: &Key,
     usage: Usage,
-    kind: &str,
+    kind: &'static str,
     cipher: &[u8],
     page: &mut Page,
 ) -> Result<Option<Vec<Key>>, AllocError>
     ensures ok { IfOk result (λ o. MatchOption o
         (HasNoValue T.is_value T.enc key.now (integer_of usage) cipher.now × (page.new.items ≡ page.old.items))
-        (λ found. value_of T.is_value T.enc T.shows kind.now key.now usage cipher.now page.old.items found.items page.new.items)) }
+        (λ found. value_of T.is_value T.enc (shows_of T.row_name T.enc) kind.now key.now usage cipher.now page.old.items found.items page.new.items)) }
     ensures kept { OnOk result (Begins page.old.items page.new.items) }
 {
     match value_under::<T>(alloc, key, usage, cipher)? {
-        Some(value) => Ok(Some(show_value::<K, T>(alloc, key, usage, kind, &value, page)?)),
+        Some(value) => Ok(Some(show_found::<T>(alloc, key, usage, kind, &value, page)?)),
         None => Ok(None),
     }
 }
@@ -109,19 +110,19 @@ pub(crate) fn tell(alloc: Global, reason: &str, page: &mut Page) -> Result<(), A
 }
 
 /// The same, and where there is no such value it is told that the octets are no encoding.
-fn insert_or_tell<K, T: Der + Show<K> + Drop>(
+fn insert_or_tell<T: Der + HasRow + Drop>(
     alloc: Global,
     key: &Key,
     usage: Usage,
-    kind: &str,
+    kind: &'static str,
     cipher: &[u8],
     page: &mut Page,
 ) -> Result<Vec<Key>, AllocError>
-    ensures ok { IfOk result (λ found. value_or T.is_value T.enc T.shows kind.now no_encoding
+    ensures ok { IfOk result (λ found. value_or T.is_value T.enc (shows_of T.row_name T.enc) kind.now no_encoding
         key.now usage cipher.now page.old.items found.items page.new.items) }
     ensures kept { OnOk result (Begins page.old.items page.new.items) }
 {
-    match insert_value::<K, T>(alloc, key, usage, kind, cipher, page)? {
+    match insert_value::<T>(alloc, key, usage, kind, cipher, page)? {
         Some(found) => Ok(found),
         None => {
             tell(alloc, usage.no_encoding_text(), page)?;
@@ -132,38 +133,37 @@ fn insert_or_tell<K, T: Der + Show<K> + Drop>(
 
 /// Appends the value of the first type that there is, else that of the second type, and where there is neither it is told that the octets are no
 /// encoding.
-fn insert_either<K, T: Der + Show<K> + Drop, U: Der + Show<K> + Drop>(
+fn insert_either<T: Der + HasRow + Drop, U: Der + HasRow + Drop>(
     alloc: Global,
     key: &Key,
     usage: Usage,
-    kind: &str,
-    other: &str,
+    kind: &'static str,
+    other: &'static str,
     cipher: &[u8],
     page: &mut Page,
 ) -> Result<Vec<Key>, AllocError>
-    ensures ok { IfOk result (λ found. value_or T.is_value T.enc T.shows kind.now (value_or U.is_value U.enc U.shows other.now no_encoding)
+    ensures ok { IfOk result (λ found. value_or T.is_value T.enc (shows_of T.row_name T.enc) kind.now (value_or U.is_value U.enc (shows_of U.row_name U.enc) other.now no_encoding)
         key.now usage cipher.now page.old.items found.items page.new.items) }
     ensures kept { OnOk result (Begins page.old.items page.new.items) }
 {
-    match insert_value::<K, T>(alloc, key, usage, kind, cipher, page)? {
+    match insert_value::<T>(alloc, key, usage, kind, cipher, page)? {
         Some(found) => Ok(found),
-        None => insert_or_tell::<K, U>(alloc, key, usage, other, cipher, page),
+        None => insert_or_tell::<U>(alloc, key, usage, other, cipher, page),
     }
 }
 
 /// Appends what the key opens for this usage: the types are those of what is sealed for usage 1, 2, 3, 4 and 5, 7 and 11, 8 and 9, 12, 13 and 14.
 /// For usage 3 it may also be what is sealed for 8, which some KDCs send (RFC 4120, 5.4.2).
 pub(crate) fn insert_by_usage<
-    K,
-    TimeStamp: Der + Show<K> + Drop,
-    TicketPart: Der + Show<K> + Drop,
-    AsPart: Der + Show<K> + Drop,
-    Elements: Der + Show<K> + Drop,
-    Auth: Der + Show<K> + Drop,
-    TgsPart: Der + Show<K> + Drop,
-    ApPart: Der + Show<K> + Drop,
-    PrivPart: Der + Show<K> + Drop,
-    CredPart: Der + Show<K> + Drop,
+    TimeStamp: Der + HasRow + Drop,
+    TicketPart: Der + HasRow + Drop,
+    AsPart: Der + HasRow + Drop,
+    Elements: Der + HasRow + Drop,
+    Auth: Der + HasRow + Drop,
+    TgsPart: Der + HasRow + Drop,
+    ApPart: Der + HasRow + Drop,
+    PrivPart: Der + HasRow + Drop,
+    CredPart: Der + HasRow + Drop,
 >(
     alloc: Global,
     key: &Key,
@@ -172,27 +172,27 @@ pub(crate) fn insert_by_usage<
     page: &mut Page,
 ) -> Result<Vec<Key>, AllocError>
     ensures ok { IfOk result (λ found. by_usage (record {
-      time_stamp = value_or TimeStamp.is_value TimeStamp.enc TimeStamp.shows (codes "PA-ENC-TS-ENC") no_encoding;
-      ticket = value_or TicketPart.is_value TicketPart.enc TicketPart.shows (codes "EncTicketPart") no_encoding;
-      as_rep = value_or AsPart.is_value AsPart.enc AsPart.shows (codes "EncASRepPart")
-          (value_or TgsPart.is_value TgsPart.enc TgsPart.shows (codes "EncTGSRepPart") no_encoding);
-      elements = value_or Elements.is_value Elements.enc Elements.shows (codes "AuthorizationData") no_encoding;
-      authenticator = value_or Auth.is_value Auth.enc Auth.shows (codes "Authenticator") no_encoding;
-      tgs_rep = value_or TgsPart.is_value TgsPart.enc TgsPart.shows (codes "EncTGSRepPart") no_encoding;
-      ap_rep = value_or ApPart.is_value ApPart.enc ApPart.shows (codes "EncAPRepPart") no_encoding;
-      krb_priv = value_or PrivPart.is_value PrivPart.enc PrivPart.shows (codes "EncKrbPrivPart") no_encoding;
-      krb_cred = value_or CredPart.is_value CredPart.enc CredPart.shows (codes "EncKrbCredPart") no_encoding;
+      time_stamp = value_or TimeStamp.is_value TimeStamp.enc (shows_of TimeStamp.row_name TimeStamp.enc) (codes "PA-ENC-TS-ENC") no_encoding;
+      ticket = value_or TicketPart.is_value TicketPart.enc (shows_of TicketPart.row_name TicketPart.enc) (codes "EncTicketPart") no_encoding;
+      as_rep = value_or AsPart.is_value AsPart.enc (shows_of AsPart.row_name AsPart.enc) (codes "EncASRepPart")
+          (value_or TgsPart.is_value TgsPart.enc (shows_of TgsPart.row_name TgsPart.enc) (codes "EncTGSRepPart") no_encoding);
+      elements = value_or Elements.is_value Elements.enc (shows_of Elements.row_name Elements.enc) (codes "AuthorizationData") no_encoding;
+      authenticator = value_or Auth.is_value Auth.enc (shows_of Auth.row_name Auth.enc) (codes "Authenticator") no_encoding;
+      tgs_rep = value_or TgsPart.is_value TgsPart.enc (shows_of TgsPart.row_name TgsPart.enc) (codes "EncTGSRepPart") no_encoding;
+      ap_rep = value_or ApPart.is_value ApPart.enc (shows_of ApPart.row_name ApPart.enc) (codes "EncAPRepPart") no_encoding;
+      krb_priv = value_or PrivPart.is_value PrivPart.enc (shows_of PrivPart.row_name PrivPart.enc) (codes "EncKrbPrivPart") no_encoding;
+      krb_cred = value_or CredPart.is_value CredPart.enc (shows_of CredPart.row_name CredPart.enc) (codes "EncKrbCredPart") no_encoding;
     }) key.now usage cipher.now page.old.items found.items page.new.items) }
     ensures kept { OnOk result (Begins page.old.items page.new.items) }
 {
     match usage {
         Usage::PaEncTimestamp => {
-            insert_or_tell::<K, TimeStamp>(alloc, key, usage, "PA-ENC-TS-ENC", cipher, page)
+            insert_or_tell::<TimeStamp>(alloc, key, usage, "PA-ENC-TS-ENC", cipher, page)
         }
         Usage::Ticket => {
-            insert_or_tell::<K, TicketPart>(alloc, key, usage, "EncTicketPart", cipher, page)
+            insert_or_tell::<TicketPart>(alloc, key, usage, "EncTicketPart", cipher, page)
         }
-        Usage::AsRep => insert_either::<K, AsPart, TgsPart>(
+        Usage::AsRep => insert_either::<AsPart, TgsPart>(
             alloc,
             key,
             usage,
@@ -202,41 +202,40 @@ pub(crate) fn insert_by_usage<
             page,
         ),
         Usage::TgsReqDataSession | Usage::TgsReqDataSubkey => {
-            insert_or_tell::<K, Elements>(alloc, key, usage, "AuthorizationData", cipher, page)
+            insert_or_tell::<Elements>(alloc, key, usage, "AuthorizationData", cipher, page)
         }
         Usage::TgsReqAuthenticator | Usage::ApReqAuthenticator => {
-            insert_or_tell::<K, Auth>(alloc, key, usage, "Authenticator", cipher, page)
+            insert_or_tell::<Auth>(alloc, key, usage, "Authenticator", cipher, page)
         }
         Usage::TgsRepSession | Usage::TgsRepSubkey => {
-            insert_or_tell::<K, TgsPart>(alloc, key, usage, "EncTGSRepPart", cipher, page)
+            insert_or_tell::<TgsPart>(alloc, key, usage, "EncTGSRepPart", cipher, page)
         }
         Usage::ApRep => {
-            insert_or_tell::<K, ApPart>(alloc, key, usage, "EncAPRepPart", cipher, page)
+            insert_or_tell::<ApPart>(alloc, key, usage, "EncAPRepPart", cipher, page)
         }
         Usage::KrbPriv => {
-            insert_or_tell::<K, PrivPart>(alloc, key, usage, "EncKrbPrivPart", cipher, page)
+            insert_or_tell::<PrivPart>(alloc, key, usage, "EncKrbPrivPart", cipher, page)
         }
         Usage::KrbCred => {
-            insert_or_tell::<K, CredPart>(alloc, key, usage, "EncKrbCredPart", cipher, page)
+            insert_or_tell::<CredPart>(alloc, key, usage, "EncKrbCredPart", cipher, page)
         }
     }
 }
 
 /// Appends the value of the type whose encoding the octets are, under the type's name. Returned is whether there is one.
-pub(crate) fn insert_encoded<K, T: Der + Show<K> + Drop>(
+pub(crate) fn insert_encoded<T: Der + HasRow + Drop>(
     alloc: Global,
-    kind: &str,
+    kind: &'static str,
     octets: &[u8],
     page: &mut Page,
 ) -> Result<bool, AllocError>
-    ensures ok { IfOk result (λ shown. MatchBool shown (encoded_as T.is_value T.enc T.shows kind.now octets.now page.old.items page.new.items)
+    ensures ok { IfOk result (λ shown. MatchBool shown (encoded_as T.is_value T.enc (shows_of T.row_name T.enc) kind.now octets.now page.old.items page.new.items)
         (IsNone T.is_value T.enc octets.now × (page.new.items ≡ page.old.items))) }
     ensures kept { OnOk result (Begins page.old.items page.new.items) }
 {
     match open::<T>(alloc, octets)? {
         Some(value) => {
-            let label = Label::new(kind);
-            value.show(alloc, &label, page)?;
+            show_value(alloc, kind, &value, page)?;
             Ok(true)
         }
         None => Ok(false),

@@ -2,6 +2,7 @@
 
 ghost use Rattle.std.specs.Prelude.{codes};
 ghost use Rattle.krb_show.specs.Opened.{IsNone};
+ghost use Rattle.krb_show_messages.specs.Shown.{shows_of};
 ghost use Rattle.krb_show_opened.specs.Opened.{by_usage, encoded_as, no_encoding, value_or};
 
 use crate::key::Key;
@@ -12,8 +13,8 @@ use krb_enc_parts::data_types::{
     Authenticator, EncApRepPart, EncKrbCredPart, EncKrbPrivPart, EncTicketPart,
 };
 use krb_messages::messages::{EncAsRepPart, EncTgsRepPart};
-use krb_show::{Page, Show};
-use krb_show_messages::Message;
+use krb_show::Page;
+use krb_show_messages::HasRow;
 use krb_types::data_types::{AuthorizationData, PaEncTsEnc};
 use std::alloc::{AllocError, Global};
 use std::marker::Model;
@@ -33,29 +34,29 @@ impl Model for MessageParts {
 impl OpensParts for MessageParts {
     ghost opened = { λ _. by_usage (record {
       time_stamp = value_or ⟦<PaEncTsEnc as DerEncode>⟧.is_value ⟦<PaEncTsEnc as DerEncode>⟧.enc
-          ⟦<PaEncTsEnc as Show<Message>>⟧.shows (codes "PA-ENC-TS-ENC") no_encoding;
+          (shows_of ⟦<PaEncTsEnc as HasRow>⟧.row_name ⟦<PaEncTsEnc as DerEncode>⟧.enc) (codes "PA-ENC-TS-ENC") no_encoding;
       ticket = value_or ⟦<EncTicketPart as DerEncode>⟧.is_value ⟦<EncTicketPart as DerEncode>⟧.enc
-          ⟦<EncTicketPart as Show<Message>>⟧.shows (codes "EncTicketPart") no_encoding;
+          (shows_of ⟦<EncTicketPart as HasRow>⟧.row_name ⟦<EncTicketPart as DerEncode>⟧.enc) (codes "EncTicketPart") no_encoding;
       as_rep = value_or ⟦<EncAsRepPart as DerEncode>⟧.is_value ⟦<EncAsRepPart as DerEncode>⟧.enc
-          ⟦<EncAsRepPart as Show<Message>>⟧.shows (codes "EncASRepPart")
+          (shows_of ⟦<EncAsRepPart as HasRow>⟧.row_name ⟦<EncAsRepPart as DerEncode>⟧.enc) (codes "EncASRepPart")
           (value_or ⟦<EncTgsRepPart as DerEncode>⟧.is_value ⟦<EncTgsRepPart as DerEncode>⟧.enc
-          ⟦<EncTgsRepPart as Show<Message>>⟧.shows (codes "EncTGSRepPart") no_encoding);
+          (shows_of ⟦<EncTgsRepPart as HasRow>⟧.row_name ⟦<EncTgsRepPart as DerEncode>⟧.enc) (codes "EncTGSRepPart") no_encoding);
       elements = value_or ⟦<AuthorizationData as DerEncode>⟧.is_value ⟦<AuthorizationData as DerEncode>⟧.enc
-          ⟦<AuthorizationData as Show<Message>>⟧.shows (codes "AuthorizationData") no_encoding;
+          (shows_of ⟦<AuthorizationData as HasRow>⟧.row_name ⟦<AuthorizationData as DerEncode>⟧.enc) (codes "AuthorizationData") no_encoding;
       authenticator = value_or ⟦<Authenticator as DerEncode>⟧.is_value ⟦<Authenticator as DerEncode>⟧.enc
-          ⟦<Authenticator as Show<Message>>⟧.shows (codes "Authenticator") no_encoding;
+          (shows_of ⟦<Authenticator as HasRow>⟧.row_name ⟦<Authenticator as DerEncode>⟧.enc) (codes "Authenticator") no_encoding;
       tgs_rep = value_or ⟦<EncTgsRepPart as DerEncode>⟧.is_value ⟦<EncTgsRepPart as DerEncode>⟧.enc
-          ⟦<EncTgsRepPart as Show<Message>>⟧.shows (codes "EncTGSRepPart") no_encoding;
+          (shows_of ⟦<EncTgsRepPart as HasRow>⟧.row_name ⟦<EncTgsRepPart as DerEncode>⟧.enc) (codes "EncTGSRepPart") no_encoding;
       ap_rep = value_or ⟦<EncApRepPart as DerEncode>⟧.is_value ⟦<EncApRepPart as DerEncode>⟧.enc
-          ⟦<EncApRepPart as Show<Message>>⟧.shows (codes "EncAPRepPart") no_encoding;
+          (shows_of ⟦<EncApRepPart as HasRow>⟧.row_name ⟦<EncApRepPart as DerEncode>⟧.enc) (codes "EncAPRepPart") no_encoding;
       krb_priv = value_or ⟦<EncKrbPrivPart as DerEncode>⟧.is_value ⟦<EncKrbPrivPart as DerEncode>⟧.enc
-          ⟦<EncKrbPrivPart as Show<Message>>⟧.shows (codes "EncKrbPrivPart") no_encoding;
+          (shows_of ⟦<EncKrbPrivPart as HasRow>⟧.row_name ⟦<EncKrbPrivPart as DerEncode>⟧.enc) (codes "EncKrbPrivPart") no_encoding;
       krb_cred = value_or ⟦<EncKrbCredPart as DerEncode>⟧.is_value ⟦<EncKrbCredPart as DerEncode>⟧.enc
-          ⟦<EncKrbCredPart as Show<Message>>⟧.shows (codes "EncKrbCredPart") no_encoding;
+          (shows_of ⟦<EncKrbCredPart as HasRow>⟧.row_name ⟦<EncKrbCredPart as DerEncode>⟧.enc) (codes "EncKrbCredPart") no_encoding;
     }) };
 
     ghost clear = { encoded_as ⟦<EncKrbCredPart as DerEncode>⟧.is_value ⟦<EncKrbCredPart as DerEncode>⟧.enc
-        ⟦<EncKrbCredPart as Show<Message>>⟧.shows (codes "EncKrbCredPart") };
+        (shows_of ⟦<EncKrbCredPart as HasRow>⟧.row_name ⟦<EncKrbCredPart as DerEncode>⟧.enc) (codes "EncKrbCredPart") };
 
     ghost no_clear = { IsNone ⟦<EncKrbCredPart as DerEncode>⟧.is_value ⟦<EncKrbCredPart as DerEncode>⟧.enc };
 
@@ -68,7 +69,6 @@ impl OpensParts for MessageParts {
         page: &mut Page,
     ) -> Result<Vec<Key>, AllocError> {
         insert_by_usage::<
-            Message,
             PaEncTsEnc,
             EncTicketPart,
             EncAsRepPart,
@@ -82,6 +82,6 @@ impl OpensParts for MessageParts {
     }
 
     fn insert_clear(alloc: Global, octets: &[u8], page: &mut Page) -> Result<bool, AllocError> {
-        insert_encoded::<Message, EncKrbCredPart>(alloc, "EncKrbCredPart", octets, page)
+        insert_encoded::<EncKrbCredPart>(alloc, "EncKrbCredPart", octets, page)
     }
 }

@@ -7,7 +7,7 @@ use Rattle.krb_pac_contents.specs.Fields.{last_successful_logon, last_failed_log
 use Rattle.krb_pac_contents.specs.Logon.{Logon}
 use Rattle.krb_pac_contents.specs.declared.elements.Membership.{Membership}
 use Rattle.krb_pac_contents.specs.declared.elements.SidAndAttributes.{SidAndAttributes}
-use Rattle.krb_show.specs.Leaves.{number_of, octets_of}
+use Rattle.krb_show.specs.Leaves.{number_of, secret_octets_of}
 use Rattle.krb_show.specs.Pages.{◌then◌, list_of, optional_of, struct_of}
 use Rattle.krb_show.specs.Tokens.{Label, Token, plain}
 use Rattle.krb_show_pac.specs.Flags.{named_flags_of, table}
@@ -59,7 +59,7 @@ counts_of v =
 abbrev pub domain_of : Logon → List Token → List Token → Type 0
 domain_of v =
     named_flags_of (table UserFlags) (plain (codes "UserFlags")) (user_flags v)
-    then octets_of (plain (codes "UserSessionKey")) (user_session_key v)
+    then secret_octets_of (plain (codes "UserSessionKey")) (user_session_key v)
     then name_or_octets_of (plain (codes "LogonServer")) (logon_server v)
     then name_or_octets_of (plain (codes "LogonDomainName")) (logon_domain_name v)
     then identifier_of (plain (codes "LogonDomainId")) (logon_domain_id v)

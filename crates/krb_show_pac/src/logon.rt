@@ -7,7 +7,7 @@ ghost use Rattle.krb_show_pac.specs.Logon.{account_of, counts_of, domain_of, ext
 
 use crate::Pac;
 use crate::flags::{FlagSet, Flags};
-use crate::texts::Name;
+use crate::texts::{Name, SessionKey};
 use crate::times::Moment;
 use krb_der::Optional;
 use krb_pac_contents::{LogonView, Membership, SidAndAttributes, SidView};
@@ -258,7 +258,7 @@ impl<'s, 'a> ShowFields for Counts<'s, 'a> {
 #[derive(Drop)]
 struct DomainFields<'a> {
     user_flags: Flags,
-    user_session_key: &'a [u8],
+    user_session_key: SessionKey<'a>,
     logon_server: Name<'a>,
     logon_domain_name: Name<'a>,
     logon_domain_id: SidView<'a>,
@@ -280,7 +280,9 @@ impl<'s, 'a> ShowFields for Domain<'s, 'a> {
                 set: FlagSet::UserFlags,
                 number: view.user_flags(),
             },
-            user_session_key: view.user_session_key(),
+            user_session_key: SessionKey {
+                octets: view.user_session_key(),
+            },
             logon_server: Name {
                 octets: view.logon_server(),
             },

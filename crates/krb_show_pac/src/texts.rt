@@ -1,12 +1,12 @@
 //! Names, security identifiers and octets.
 
-ghost use Rattle.krb_show.specs.Leaves.{octets_of};
+ghost use Rattle.krb_show.specs.Leaves.{octets_of, secret_octets_of};
 ghost use Rattle.krb_show_pac.specs.Values.{identifier_of, name_or_octets_of};
 
 use crate::Pac;
 use krb_pac_contents::SidView;
 use krb_pac_contents::text::{name_text, sid_text};
-use krb_show::{Label, Page, Show, show_octets, show_text, show_word};
+use krb_show::{Label, Page, Show, show_octets, show_secret, show_text, show_word};
 use std::alloc::{AllocError, Global};
 use std::marker::Model;
 
@@ -53,5 +53,28 @@ impl<'a> Show<Pac> for &'a [u8] {
 
     fn show(&self, alloc: Global, label: &Label, page: &mut Page) -> Result<(), AllocError> {
         show_octets(alloc, label, self, page)
+    }
+}
+
+/// The octets of a session key.
+#[derive(Debug, Drop)]
+pub(crate) struct SessionKey<'a> {
+    pub(crate) octets: &'a [u8],
+}
+
+impl<'a> Model for SessionKey<'a> {
+    ghost use Rattle.std.specs.Prelude.{List, ℕ};
+    ghost use Rattle.std.specs.Coded.{coded_ℕ, coded_list};
+
+    ghost Value = { List ℕ };
+
+    ghost view = { λ k. k.octets.now };
+}
+
+impl<'a> Show<Pac> for SessionKey<'a> {
+    ghost shows = { secret_octets_of };
+
+    fn show(&self, alloc: Global, label: &Label, page: &mut Page) -> Result<(), AllocError> {
+        show_secret(alloc, label, self.octets, page)
     }
 }

@@ -29,14 +29,15 @@ name_stops (x ∷ xs) rest h = name_octet_no_blank x (and_left (is_name_octet x)
 
 pub one_at : (d e : ℕ) (n m l : List ℕ) → IsAt d n l → IsAt e m l → (d ≡ e) × (n ≡ m)
 one_at d e n m l p q =
-    let places = split is_blank (indent d) (indent e) (n ++ p.rest) (m ++ q.rest) (blank_indent d) (blank_indent e) (name_stops n p.rest p.is_name) (name_stops m q.rest q.is_name)
+    let places = split is_blank (indent d) (indent e) (n ++ p.rest) (m ++ q.rest) (blank_indent d) (blank_indent e) (name_stops n p.rest p.is_name)
+    (name_stops m q.rest q.is_name)
     (sym p.whole ∙ q.whole) in
     let names = split is_name_octet n m p.rest q.rest (name_all n p.is_name) (name_all m q.is_name) p.ends q.ends places.1 in
     (omega (arith, length_indent d, length_indent e, ap length places.0), names.0)
 
 -- ---- names
 
-same_itself : (xs : List ℕ) → same_octets xs xs ≡ true
+pub same_itself : (xs : List ℕ) → same_octets xs xs ≡ true
 same_itself [] = refl
 same_itself (x ∷ xs) = let rest = same_itself xs in grind (arith, common_steps)
 
@@ -104,5 +105,6 @@ head_block n V old new h k = (k.token ∷ k.rest, k.added, record { level = k.le
         let first : Precedes (n ∷ []) d (line d k.token) = record { at = d; name = n; is = is; place = inr (refl, inl refl) } in
         subst (λ (ls : List (List ℕ)). Follow (n ∷ []) d (ls ++ rest)) (sym (k.lines d).1) first
 
-pub head_blocks : (n : List ℕ) (V : List ℕ → Type 0) (shows : List Token → List Token → Type 0) → is_name n ≡ true → Heads n V shows → Blocks (λ names. n ∷ []) shows
+pub head_blocks : (n : List ℕ) (V : List ℕ → Type 0) (shows : List Token → List Token → Type 0) → is_name n ≡ true → Heads n V shows
+    → Blocks (λ names. n ∷ []) shows
 head_blocks n V shows h k = record { block = λ old new s. head_block n V old new h (k.head old new s) }

@@ -40,7 +40,8 @@ inside_tlv tag content = refl
 at_place : (before content after : List ℕ) (n : ℕ) → n ≡ length before → take (length content) (drop n (before ++ (content ++ after))) ≡ content
 at_place before content after n e = rw (drop_at before (content ++ after) n (sym e)) (take_at content after (length content) refl)
 
-leaf_content : (kind : Leaf) (name : Name) (tag : ℕ) (content : List ℕ) (rest : Forest) (at depth : ℕ) (octets : List ℕ) → IsIn (leaf kind name tag content rest) at octets
+leaf_content : (kind : Leaf) (name : Name) (tag : ℕ) (content : List ℕ) (rest : Forest) (at depth : ℕ) (octets : List ℕ)
+    → IsIn (leaf kind name tag content rest) at octets
     → content_of octets (item (form.Leaf kind) name depth tag at (length content)) ≡ content
 leaf_content kind name tag content rest at depth octets i =
     let h = header tag (length content) in
@@ -49,7 +50,8 @@ leaf_content kind name tag content rest at depth octets i =
     let place = i.place in
     rw whole (at_place (i.before ++ h) content (enc rest ++ i.after) (at + length h) (omega (arith, place, length-append i.before h)))
 
-behind_tlv : (tag : ℕ) (content : List ℕ) (rest : Forest) (at : ℕ) (octets before after : List ℕ) → octets ≡ before ++ ((tlv tag content ++ enc rest) ++ after) → at ≡ length before
+behind_tlv : (tag : ℕ) (content : List ℕ) (rest : Forest) (at : ℕ) (octets before after : List ℕ) → octets ≡ before ++ ((tlv tag content ++ enc rest) ++ after)
+    → at ≡ length before
     → IsIn rest (at + length (tlv tag content)) octets
 behind_tlv tag content rest at octets before after e p = record {
   before = before ++ tlv tag content;
@@ -58,7 +60,8 @@ behind_tlv tag content rest at octets before after e p = record {
   place = omega (arith, p, length-append before (tlv tag content));
 }
 
-within_tlv : (tag : ℕ) (inside rest : Forest) (at : ℕ) (octets before after : List ℕ) → octets ≡ before ++ ((tlv tag (enc inside) ++ enc rest) ++ after) → at ≡ length before
+within_tlv : (tag : ℕ) (inside rest : Forest) (at : ℕ) (octets before after : List ℕ) → octets ≡ before ++ ((tlv tag (enc inside) ++ enc rest) ++ after)
+    → at ≡ length before
     → IsIn inside (at + length (header tag (length (enc inside)))) octets
 within_tlv tag inside rest at octets before after e p =
     let h = header tag (length (enc inside)) in
@@ -73,7 +76,8 @@ module _ (tells : Role → List ℕ → Label → List ℕ → List Token → Li
   -- ---- leaves
 
   plain_shown : (kind : Leaf) (name : Name) (depth tag at size : ℕ) (content : List ℕ) (s : Stand) → s.secrets ≡ secrets.Shown → (old new : List Token)
-      → plain_leaf tells kind (item (form.Leaf kind) name depth tag at size) content s old new → leaf_shown tells kind name tag content (is_in_list s.inside) s.number old new
+      → plain_leaf tells kind (item (form.Leaf kind) name depth tag at size) content s old new
+      → leaf_shown tells kind name tag content (is_in_list s.inside) s.number old new
   plain_shown leaves.Secret name depth tag at size content s e old new h =
       subst (λ (x : _). secret_of x (label_of s.inside name) content old new) e h
   plain_shown kind name depth tag at size content s e old new h = h
@@ -103,7 +107,8 @@ module _ (tells : Role → List ℕ → Label → List ℕ → List Token → Li
     left = ap (λ (l : _). record s { inside = l }) (without_last s.inside x);
   }
 
-  moved : (octets : List ℕ) (items others : List Item) (s t : Stand) (old before new : List Token) → items ≡ others → s ≡ t → old ≡ before → shown tells octets items s old new
+  moved : (octets : List ℕ) (items others : List Item) (s t : Stand) (old before new : List Token) → items ≡ others → s ≡ t → old ≡ before
+      → shown tells octets items s old new
       → shown tells octets others t before new
   moved octets items others s t old before new e f g h =
       subst (λ (l : List Item). shown tells octets l t before new) e (subst (λ (x : Stand). shown tells octets items x before new) f
@@ -111,16 +116,20 @@ module _ (tells : Role → List ℕ → Label → List ℕ → List Token → Li
 
   -- ---- components of names
 
-  named_all : (inside : Forest) → AllComponents inside → (depth at : ℕ) (octets : List ℕ) → IsIn inside at octets → (more : List Item) (s : Stand) (old new : List Token)
-      → is_in_name s.inside ≡ true → shown tells octets (items_at depth at inside ++ more) s old new → shown tells octets more (record s { names = s.names ++ components inside }) old new
+  named_all : (inside : Forest) → AllComponents inside → (depth at : ℕ) (octets : List ℕ) → IsIn inside at octets
+      → (more : List Item) (s : Stand) (old new : List Token)
+      → is_in_name s.inside ≡ true → shown tells octets (items_at depth at inside ++ more) s old new
+      → shown tells octets more (record s { names = s.names ++ components inside }) old new
   named_all none all depth at octets i more s old new e h =
       subst (λ (n : List (List ℕ)). shown tells octets more (record s { names = n }) old new) (sym (append-nil s.names)) h
   named_all (leaf kind name tag content rest) all depth at octets i more s old new e (next, between, st, h) =
       let here = item (form.Leaf kind) name depth tag at (length content) in
       let as_name = subst (λ (b : Bool). leaf_step tells b kind here (content_of octets here) s old next between) e st in
       let next_is = as_name.0 ∙ ap (λ (c : List ℕ). record s { names = s.names ++ c ∷ [] }) (leaf_content kind name tag content rest at depth octets i) in
-      let further = named_all rest all.1 depth (at + length (tlv tag content)) octets (behind_tlv tag content rest at octets i.before i.after i.whole i.place) more
-      (record s { names = s.names ++ content ∷ [] }) old new e (moved octets _ _ next (record s { names = s.names ++ content ∷ [] }) between old new refl next_is as_name.1 h) in
+      let further = named_all rest all.1 depth (at + length (tlv tag content)) octets (behind_tlv tag content rest at octets i.before i.after i.whole i.place)
+      more
+      (record s { names = s.names ++ content ∷ [] }) old new e (moved octets _ _ next (record s { names = s.names ++ content ∷ [] }) between old new refl
+      next_is as_name.1 h) in
       subst (λ (n : List (List ℕ)). shown tells octets more (record s { names = n }) old new) (append_assoc s.names (content ∷ []) (components rest)) further
   named_all (node kind name tag inside rest) all depth at octets i more s old new e h = absurd all
 
@@ -166,9 +175,12 @@ module _ (tells : Role → List ℕ → Label → List ℕ → List Token → Li
     here : list_shown b label inside (forest_shown tells true s.number inside) old between
     rest : shown tells octets more (numbered (behind inside s.number) s) between new
 
-  list_parts : (inside : Forest) (kind : Node) (name : Name) (tag : ℕ) (b : Bool) → Either b (AllComponents inside) (IsPlain inside) → (IsPlain inside → Bridged inside)
-      → ((i : Item) (s : Stand) (old : List Token) (next : Stand) (new : List Token) → end_step tells kind i s old next new → list_end tells (is_in_name s.inside) i s old next new)
-      → (depth at place : ℕ) (octets : List ℕ) → IsIn inside place octets → (more : List Item) (s : Stand) (old new : List Token) → IsOpen s → (next : Stand) (first : List Token)
+  list_parts : (inside : Forest) (kind : Node) (name : Name) (tag : ℕ) (b : Bool) → Either b (AllComponents inside) (IsPlain inside)
+      → (IsPlain inside → Bridged inside)
+      → ((i : Item) (s : Stand) (old : List Token) (next : Stand) (new : List Token) → end_step tells kind i s old next new
+      → list_end tells (is_in_name s.inside) i s old next new)
+      → (depth at place : ℕ) (octets : List ℕ) → IsIn inside place octets → (more : List Item) (s : Stand) (old new : List Token) → IsOpen s
+      → (next : Stand) (first : List Token)
       → list_step tells b (item (form.Begin kind) name depth tag at (length (enc inside)))
       (items_at (depth + 1) place inside ++ item (form.End kind) name depth tag at (length (enc inside)) ∷ more) s old next first
       → shown tells octets (items_at (depth + 1) place inside ++ item (form.End kind) name depth tag at (length (enc inside)) ∷ more) next first new
@@ -195,7 +207,8 @@ module _ (tells : Role → List ℕ → Label → List ℕ → List Token → Li
       let inner : Inner next s true false = subst (λ (x : Stand). Inner x s true false) (sym st.0) (inner_of _ s) in
       let a = bridged all (depth + 1) place octets i (end ∷ more) next first new (open_inner next s true inner o) h in
       let n = behind inside next.number in
-      let last = subst (λ (c : Bool). list_end tells c end (numbered n next) a.between a.rest.0 a.rest.1) inner.in_name (ends end (numbered n next) a.between a.rest.0 a.rest.1 a.rest.2) in
+      let last = subst (λ (c : Bool). list_end tells c end (numbered n next) a.between a.rest.0 a.rest.1) inner.in_name
+      (ends end (numbered n next) a.between a.rest.0 a.rest.1 a.rest.2) in
       let ended = subst (λ (x : Stand). adds (mark tokens.ListEnd (label_of x.inside name)) a.between a.rest.1) inner.left last.1 in
       let within : forest_shown tells true s.number inside first a.between =
       subst (λ (c : Bool). forest_shown tells c s.number inside first a.between) inner.in_list
@@ -211,9 +224,12 @@ module _ (tells : Role → List ℕ → Label → List ℕ → List Token → Li
       }
 
   -- a list begins as its first element says
-  list_of : (inside : Forest) (kind : Node) (name : Name) (tag : ℕ) → Either (is_of_name inside) (AllComponents inside) (IsPlain inside) → (IsPlain inside → Bridged inside)
-      → ((i : Item) (s : Stand) (old : List Token) (next : Stand) (new : List Token) → end_step tells kind i s old next new → list_end tells (is_in_name s.inside) i s old next new)
-      → (depth at place : ℕ) (octets : List ℕ) → IsIn inside place octets → (last more : List Item) (s : Stand) (old new : List Token) → IsOpen s → (next : Stand) (first : List Token)
+  list_of : (inside : Forest) (kind : Node) (name : Name) (tag : ℕ) → Either (is_of_name inside) (AllComponents inside) (IsPlain inside)
+      → (IsPlain inside → Bridged inside)
+      → ((i : Item) (s : Stand) (old : List Token) (next : Stand) (new : List Token) → end_step tells kind i s old next new
+      → list_end tells (is_in_name s.inside) i s old next new)
+      → (depth at place : ℕ) (octets : List ℕ) → IsIn inside place octets → (last more : List Item) (s : Stand) (old new : List Token) → IsOpen s
+      → (next : Stand) (first : List Token)
       → list_step tells (begins_name ((items_at (depth + 1) place inside ++ item (form.End kind) name depth tag at (length (enc inside)) ∷ last) ++ more))
       (item (form.Begin kind) name depth tag at (length (enc inside)))
       ((items_at (depth + 1) place inside ++ item (form.End kind) name depth tag at (length (enc inside)) ∷ last) ++ more) s old next first
@@ -235,7 +251,8 @@ module _ (tells : Role → List ℕ → Label → List ℕ → List Token → Li
   bridge (leaf kind name tag content rest) plain depth at octets i more s old new o (next, between, st, h) =
       let here = item (form.Leaf kind) name depth tag at (length content) in
       let apart = subst (λ (b : Bool). leaf_step tells b kind here (content_of octets here) s old next between) o.apart st in
-      let alone = subst (λ (c : List ℕ). leaf_step tells false kind here c s old next between) (leaf_content kind name tag content rest at depth octets i) apart in
+      let alone = subst (λ (c : List ℕ). leaf_step tells false kind here c s old next between) (leaf_content kind name tag content rest at depth octets i)
+      apart in
       let stand = alone.0 ∙ same_behind kind content s in
       let a = bridge rest plain depth (at + length (tlv tag content)) octets (behind_tlv tag content rest at octets i.before i.after i.whole i.place) more
       (numbered (behind_leaf kind content s.number) s) between new (open_number s (behind_leaf kind content s.number) o)
@@ -250,10 +267,13 @@ module _ (tells : Role → List ℕ → Label → List ℕ → List Token → Li
       let end = item (form.End nodes.Wrap) name depth tag at size in
       let within = items_at (depth + 1) (at + length (header tag size)) inside in
       let last = items_at depth (at + length (tlv tag (enc inside))) rest in
-      let a = bridge inside plain.0 (depth + 1) (at + length (header tag size)) octets (within_tlv tag inside rest at octets i.before i.after i.whole i.place) (end ∷ (last ++ more)) s old new o
-      (moved octets ((within ++ end ∷ last) ++ more) (within ++ (end ∷ (last ++ more))) next s first old new (append_assoc within (end ∷ last) more) st.0 st.1 h) in
+      let a = bridge inside plain.0 (depth + 1) (at + length (header tag size)) octets (within_tlv tag inside rest at octets i.before i.after i.whole i.place)
+      (end ∷ (last ++ more)) s old new o
+      (moved octets ((within ++ end ∷ last) ++ more) (within ++ (end ∷ (last ++ more))) next s first old new (append_assoc within (end ∷ last) more) st.0 st.1
+      h) in
       let n = behind inside s.number in
-      let b = bridge rest plain.1 depth (at + length (tlv tag (enc inside))) octets (behind_tlv tag (enc inside) rest at octets i.before i.after i.whole i.place) more (numbered n s) a.between new
+      let b = bridge rest plain.1 depth (at + length (tlv tag (enc inside))) octets
+      (behind_tlv tag (enc inside) rest at octets i.before i.after i.whole i.place) more (numbered n s) a.between new
       (open_number s n o) (moved octets (last ++ more) (last ++ more) a.rest.0 (numbered n s) a.rest.1 a.between new refl a.rest.2.0 a.rest.2.1 a.rest.3) in
       record { between = b.between; here = (a.between, a.here, b.here); rest = b.rest }
   bridge (node nodes.Struct name tag inside rest) plain depth at octets i more s old new o (next, first, st, h) =
@@ -262,7 +282,8 @@ module _ (tells : Role → List ℕ → Label → List ℕ → List Token → Li
       let within = items_at (depth + 1) (at + length (header tag size)) inside in
       let last = items_at depth (at + length (tlv tag (enc inside))) rest in
       let inner : Inner next s false false = subst (λ (x : Stand). Inner x s false false) (sym st.0) (inner_of _ s) in
-      let a = bridge inside plain.0 (depth + 1) (at + length (header tag size)) octets (within_tlv tag inside rest at octets i.before i.after i.whole i.place) (end ∷ (last ++ more)) next first new
+      let a = bridge inside plain.0 (depth + 1) (at + length (header tag size)) octets (within_tlv tag inside rest at octets i.before i.after i.whole i.place)
+      (end ∷ (last ++ more)) next first new
       (open_inner next s false inner o)
       (subst (λ (l : List Item). shown tells octets l next first new) (append_assoc within (end ∷ last) more) h) in
       let n = behind inside s.number in
@@ -272,22 +293,27 @@ module _ (tells : Role → List ℕ → Label → List ℕ → List Token → Li
       let ended = subst (λ (x : Stand). adds (mark tokens.StructEnd (label_of x.inside name)) a.between a.rest.1) inner.left a.rest.2.1 in
       let stand : a.rest.0 ≡ numbered n s =
       a.rest.2.0 ∙ ap (λ (x : Stand). numbered (behind inside next.number) x) inner.left ∙ ap (λ (m : List ℕ). numbered (behind inside m) s) inner.number in
-      let b = bridge rest plain.1 depth (at + length (tlv tag (enc inside))) octets (behind_tlv tag (enc inside) rest at octets i.before i.after i.whole i.place) more (numbered n s) a.rest.1 new
+      let b = bridge rest plain.1 depth (at + length (tlv tag (enc inside))) octets
+      (behind_tlv tag (enc inside) rest at octets i.before i.after i.whole i.place) more (numbered n s) a.rest.1 new
       (open_number s n o) (subst (λ (x : Stand). shown tells octets (last ++ more) x a.rest.1 new) stand a.rest.3) in
       record { between = b.between; here = (a.rest.1, (first, st.1, (a.between, fields, ended)), b.here); rest = b.rest }
   bridge (node nodes.List name tag inside rest) plain depth at octets i more s old new o (next, first, st, h) =
       let size = length (enc inside) in
       let a = list_of inside nodes.List name tag plain.0 (bridge inside) (λ j t from to e k. k) depth at (at + length (header tag size)) octets
-      (within_tlv tag inside rest at octets i.before i.after i.whole i.place) (items_at depth (at + length (tlv tag (enc inside))) rest) more s old new o next first st h in
+      (within_tlv tag inside rest at octets i.before i.after i.whole i.place) (items_at depth (at + length (tlv tag (enc inside))) rest) more s old new o next
+      first st h in
       let n = behind inside s.number in
-      let b = bridge rest plain.1 depth (at + length (tlv tag (enc inside))) octets (behind_tlv tag (enc inside) rest at octets i.before i.after i.whole i.place) more (numbered n s) a.between new
+      let b = bridge rest plain.1 depth (at + length (tlv tag (enc inside))) octets
+      (behind_tlv tag (enc inside) rest at octets i.before i.after i.whole i.place) more (numbered n s) a.between new
       (open_number s n o) a.rest in
       record { between = b.between; here = (a.between, a.here, b.here); rest = b.rest }
   bridge (node nodes.FilledList name tag inside rest) plain depth at octets i more s old new o (next, first, st, h) =
       let size = length (enc inside) in
       let a = list_of inside nodes.FilledList name tag plain.0 (bridge inside) (λ j t from to e k. k) depth at (at + length (header tag size)) octets
-      (within_tlv tag inside rest at octets i.before i.after i.whole i.place) (items_at depth (at + length (tlv tag (enc inside))) rest) more s old new o next first st h in
+      (within_tlv tag inside rest at octets i.before i.after i.whole i.place) (items_at depth (at + length (tlv tag (enc inside))) rest) more s old new o next
+      first st h in
       let n = behind inside s.number in
-      let b = bridge rest plain.1 depth (at + length (tlv tag (enc inside))) octets (behind_tlv tag (enc inside) rest at octets i.before i.after i.whole i.place) more (numbered n s) a.between new
+      let b = bridge rest plain.1 depth (at + length (tlv tag (enc inside))) octets
+      (behind_tlv tag (enc inside) rest at octets i.before i.after i.whole i.place) more (numbered n s) a.between new
       (open_number s n o) a.rest in
       record { between = b.between; here = (a.between, a.here, b.here); rest = b.rest }

@@ -94,7 +94,8 @@ skipped (node kind name tag inside rest) d e at h more =
 counted : (f : Forest) (d at : ℕ) (more : List Item) → elements d (items_at d at f ++ more) ≡ count f + elements d more
 counted none d at more = omega arith
 counted (leaf kind name tag content rest) d at more =
-    one d (item (form.Leaf kind) name d tag at (length content)) (items_at d (at + length (tlv tag content)) rest ++ more) (itself d) (ap (λ (b : Bool). b && true) (same d))
+    one d (item (form.Leaf kind) name d tag at (length content)) (items_at d (at + length (tlv tag content)) rest ++ more) (itself d)
+    (ap (λ (b : Bool). b && true) (same d))
     ∙ omega (arith, counted rest d (at + length (tlv tag content)) more)
 counted (node kind name tag inside rest) d at more =
     let size = length (enc inside) in

@@ -58,7 +58,8 @@ first_added (f ∷ fs) old new (inl h) =
       b.1,
       record {
         level = b.2.level;
-        starts = λ names d rest m. follow_so (f.name ∷ []) (f.name ∷ names_of fs) (only_first f.name (names_of fs)) d (page_lines d b.0 ++ rest) (b.2.starts names d rest m);
+        starts = λ names d rest m. follow_so (f.name ∷ []) (f.name ∷ names_of fs) (only_first f.name (names_of fs)) d (page_lines d b.0 ++ rest)
+            (b.2.starts names d rest m);
       },
     )
 first_added (f ∷ fs) old new (inr h) =
@@ -92,16 +93,17 @@ pub record Never (a b : List Token → List Token → Type 0) : Type 0 where
 pub never_swapped : {a b : List Token → List Token → Type 0} → Never a b → Never b a
 never_swapped n = record { never = λ old before ts us h k names d rest following p q e. n.never before old us ts k h names d following rest q p (sym e) }
 
-pub never_so : {a b c e : List Token → List Token → Type 0} → ((old new : List Token) → c old new → a old new) → ((old new : List Token) → e old new → b old new) → Never a b → Never c e
+pub never_so : {a b c e : List Token → List Token → Type 0} → ((old new : List Token) → c old new → a old new)
+    → ((old new : List Token) → e old new → b old new) → Never a b → Never c e
 never_so f g n = record { never = λ old before ts us h k. n.never old before ts us (f old (old ++ ts) h) (g before (before ++ us) k) }
 
-struct_no_leaf : (s : List ℕ) → IsStruct s → IsLeaf s → ⊥
+pub struct_no_leaf : (s : List ℕ) → IsStruct s → IsLeaf s → ⊥
 struct_no_leaf s e (rest, f) = omega (arith, ap length e, ap length f)
 
-list_no_leaf : (s : List ℕ) → IsList s → IsLeaf s → ⊥
+pub list_no_leaf : (s : List ℕ) → IsList s → IsLeaf s → ⊥
 list_no_leaf s (more, e) (rest, f) = omega (arith, head _ _ _ _ (sym e ∙ f))
 
-list_no_struct : (s : List ℕ) → IsList s → IsStruct s → ⊥
+pub list_no_struct : (s : List ℕ) → IsList s → IsStruct s → ⊥
 list_no_struct s (more, e) f = omega (arith, head _ _ _ _ (sym e ∙ f))
 
 no_test : false ≡ true → ⊥
@@ -131,13 +133,16 @@ first_never f g old before ts us h k apart d rest following same =
     let names = one_at d d f.name g.name (line d u.token) (subst (IsAt d f.name) one (line_at d f.name t.token h.named t.named t.ends))
     (line_at d g.name u.token k.named u.named u.ends) in
     let texts = one_value_text d t.token u.token (t.named ∙ names.1 ∙ sym u.named) one in
-    by_test _ names.1 (subst (Behind f.opening) texts t.value) u.value (or_true (other_opening f.opening g.opening) (other_than (same_octets f.name g.name)) apart)
+    by_test _ names.1 (subst (Behind f.opening) texts t.value) u.value (or_true (other_opening f.opening g.opening) (other_than (same_octets f.name g.name))
+    apart)
   where
-    by_test : (s : List ℕ) → f.name ≡ g.name → Behind f.opening s → Behind g.opening s → (other_opening f.opening g.opening ≡ true) ⊎ (other_than (same_octets f.name g.name) ≡ true) → ⊥
+    by_test : (s : List ℕ) → f.name ≡ g.name → Behind f.opening s → Behind g.opening s → (other_opening f.opening g.opening ≡ true)
+        ⊎ (other_than (same_octets f.name g.name) ≡ true) → ⊥
     by_test s e p q (inl o) = opening_apart f.opening g.opening s o p q
     by_test s e p q (inr o) = not_among f.name (g.name ∷ []) (and_both (other_than (same_octets f.name g.name)) true o refl) (inl e)
 
-each_never : (f : First) (gs : List First) (old before ts us : List Token) → IsFirst f old (old ++ ts) → BeginsAs gs before (before ++ us) → apart_each f gs ≡ true
+each_never : (f : First) (gs : List First) (old before ts us : List Token) → IsFirst f old (old ++ ts) → BeginsAs gs before (before ++ us)
+    → apart_each f gs ≡ true
     → (d : ℕ) (rest following : List (List ℕ)) → page_lines d ts ++ rest ≡ page_lines d us ++ following → ⊥
 each_never f [] old before ts us h k apart d rest following same = k
 each_never f (g ∷ gs) old before ts us h (inl k) apart d rest following same =
@@ -173,7 +178,8 @@ none_first (f ∷ fs) old us (inl h) names d rest following apart m same =
 none_first (f ∷ fs) old us (inr h) names d rest following apart m same =
     none_first fs old us h names d rest following (and_right (is_apart f.name names) (are_apart (names_of fs) names) apart) m same
 
-pub absent_never : {fs : List First} {a : List Token → List Token → Type 0} → Firsts fs a → (old us : List Token) → a old (old ++ us) → (names : List (List ℕ)) (d : ℕ)
+pub absent_never : {fs : List First} {a : List Token → List Token → Type 0} → Firsts fs a → (old us : List Token) → a old (old ++ us)
+    → (names : List (List ℕ)) (d : ℕ)
     (rest following : List (List ℕ)) → are_apart (names_of fs) names ≡ true → Follow names d rest → rest ≡ page_lines d us ++ following → ⊥
 absent_never {fs} h old us s names d rest following apart m same = none_first fs old us (h.first old (old ++ us) s) names d rest following apart m same
 

@@ -54,8 +54,11 @@ AreSmall (node kind name tag inside rest) = AreSmall inside × AreSmall rest
 pub are_small : (f : Forest) → IsOctets (enc f) → AreSmall f
 are_small none h = tt
 are_small (leaf kind name tag content rest) h = (octets_left (tlv tag content) (enc rest) h, are_small rest (octets_right (tlv tag content) (enc rest) h))
-are_small (node kind name tag inside rest) h =
-    (are_small inside (octets_within tag (enc inside) (octets_left (tlv tag (enc inside)) (enc rest) h)), are_small rest (octets_right (tlv tag (enc inside)) (enc rest) h))
+are_small (node kind name tag inside rest) h = (
+  are_small inside (octets_within tag (enc inside) (octets_left (tlv tag (enc inside)) (enc rest) h)),
+  are_small rest
+      (octets_right (tlv tag (enc inside)) (enc rest) h),
+)
 
 pub small_beside : (f g : Forest) → AreSmall (beside f g) → AreSmall f × AreSmall g
 small_beside none g h = (tt, h)

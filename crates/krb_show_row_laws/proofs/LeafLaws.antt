@@ -1,9 +1,9 @@
 -- Leaves tell what they show.
-use Rattle.std.proofs.Common.{◌≡◌, ◌⊎◌, ℕ, Bool, true, inl, inr, refl, sym, ap, subst, ◌∙◌, ℤ, pos, FitsSigned, List, [], ◌∷◌, ◌++◌, arith}
+use Rattle.std.proofs.Common.{◌≡◌, ◌⊎◌, ℕ, ◌<◌, ◌^◌, Bool, true, inl, inr, refl, sym, ap, subst, ◌∙◌, ℤ, pos, FitsSigned, List, [], ◌∷◌, ◌++◌, arith}
 use Rattle.std.specs.Int.{w64}
-use Rattle.std.specs.Str.{IsAscii}
-use Rattle.std.specs.Fmt.{signed_decimal}
-use Rattle.std.proofs.lemmas.Fmt.{signed_decimal_injective}
+use Rattle.std.specs.Str.{IsAscii, IsUtf8}
+use Rattle.std.specs.Fmt.{decimal, signed_decimal}
+use Rattle.std.proofs.lemmas.Fmt.{decimal_injective, signed_decimal_injective}
 use Rattle.krb_der_core.specs.Encoding.{IsOctets}
 use Rattle.krb_der_core.specs.BitString.{Bits, IsBits}
 use Rattle.krb_der_core.specs.GeneralizedTime.{IsRealTime}
@@ -11,13 +11,14 @@ use Rattle.krb_der_core.specs.Integer.{shortest}
 use Rattle.krb_der_core.specs.IntegerLaws.{integer_one_content}
 use Rattle.krb_show.specs.declared.escape.Style.TheVariants as style
 use Rattle.krb_show.specs.declared.token.Form.TheVariants as form
-use Rattle.krb_show.specs.Leaves.{number_of, flags_of, identifier_of, truth_of, time_of, text_of, word_of, octets_of, time_word, flags_word, truth_word}
+use Rattle.krb_show.specs.Leaves.{number_of, unsigned_of, flags_of, identifier_of, truth_of, time_of, text_of, word_of, octets_of, secret_octets_of, cipher_of, time_word, flags_word, truth_word}
 use Rattle.krb_show.specs.Text.{escaped, quoted, line, octets_text, page_lines, value_text}
 use Rattle.krb_show.specs.Tokens.{Label, Token, adds, leaf}
 use Rattle.krb_show_row_laws.specs.Telling.{all_of, Stops, is_name_octet, is_name, is_word_octet, IsBeside, IsNameBeside}
 use Rattle.krb_show_row_laws.proofs.SplitLaws.{tail}
-use Rattle.krb_show_row_laws.proofs.WordLaws.{word_itself, signed_word, one_word, one_octets, word_or_octets, name_beside}
+use Rattle.krb_show_row_laws.proofs.WordLaws.{word_itself, signed_word, decimal_word, one_word, one_octets, word_or_octets, name_beside}
 use Rattle.krb_show_row_laws.proofs.NameLaws.{note_beside, flags_beside, identifier_beside}
+use Rattle.krb_show_row_laws.proofs.Utf8Laws.{utf8_octets}
 use Rattle.krb_show_row_laws.proofs.ValueLaws.{one_text, shortest_octets, truth_is_word, one_truth, one_time, time_is_word, flags_are_word, one_flags}
 use Rattle.krb_show_row_laws.specs.Blocks.{depth_behind, Follow, HasHead, Heads, Tells, TellsValues, IsLeaf}
 use Rattle.krb_show_row_laws.proofs.BlockLaws.{one_value_text, head_blocks}
@@ -40,7 +41,8 @@ pub record Lines (n : List ℕ) (V : List ℕ → Type 0) (shows : List Token �
 leaf_stops : (text : List ℕ) → IsLeaf text → Stops is_name_octet text
 leaf_stops text (rest, e) = subst (Stops is_name_octet) (sym e) refl
 
-pub leaf_heads : (n : List ℕ) (V : List ℕ → Type 0) (shows : List Token → List Token → Type 0) → ((s : List ℕ) → V s → IsLeaf s) → Lines n V shows → Heads n IsLeaf shows
+pub leaf_heads : (n : List ℕ) (V : List ℕ → Type 0) (shows : List Token → List Token → Type 0) → ((s : List ℕ) → V s → IsLeaf s) → Lines n V shows
+    → Heads n IsLeaf shows
 leaf_heads n V shows leafs p = record { head = head }
   where
     head : (old new : List Token) → shows old new → HasHead n IsLeaf old new
@@ -67,7 +69,8 @@ tells_leaf {P} n V W shows other name leafs leaves p q both = record {
   tells = tells;
 }
   where
-    tells : (old before ts us : List Token) → shows old (old ++ ts) → other before (before ++ us) → Unit {0} → (names : List (List ℕ)) (d : ℕ) (rest following : List (List ℕ))
+    tells : (old before ts us : List Token) → shows old (old ++ ts) → other before (before ++ us) → Unit {0}
+        → (names : List (List ℕ)) (d : ℕ) (rest following : List (List ℕ))
         → true ≡ true → Follow names d rest → Follow names d following → page_lines d ts ++ rest ≡ page_lines d us ++ following → P × (rest ≡ following)
     tells old before ts us h k known names d rest following fit m o same =
         let t = p.line_of old (old ++ ts) h in
@@ -138,7 +141,8 @@ number_line label z unit = record { line_of = line_of }
 
 pub one_number : (y z : ℤ) (s : List ℕ) → Unit {0} → Unit {0} → IsNumberText y s → IsNumberText z s → y ≡ z
 one_number y z s u v (inl (f, (r, b, e))) (inl (g, (q, c, i))) =
-    let words = one_word (signed_decimal y) (signed_decimal z) r q (signed_word y) (signed_word z) (name_beside r b) (name_beside q c) (tail _ _ _ _ (tail _ _ _ _ (sym e ∙ i))) in
+    let words = one_word (signed_decimal y) (signed_decimal z) r q (signed_word y) (signed_word z) (name_beside r b) (name_beside q c)
+    (tail _ _ _ _ (tail _ _ _ _ (sym e ∙ i))) in
     signed_decimal_injective y z f.sfits g.sfits words.0
 one_number y z s u v (inl (f, (r, b, e))) (inr (g, i)) =
     absurd (word_or_octets (signed_decimal y) r (shortest z) (signed_word y) b (tail _ _ _ _ (tail _ _ _ _ (sym e ∙ i))))
@@ -190,6 +194,11 @@ tells_truths = leaf_values (λ (b : Bool). Unit {0}) (λ b. IsWord IsBeside (tru
     (λ label b h. digits_line label (truth_word b) (truth_is_word b))
     (λ b c s h k x y. one_truth b c (one_word_leaf (truth_word b) (truth_word c) s (truth_is_word b) (truth_is_word c) x y))
 
+pub tells_unsigned : TellsValues (λ n. n < 2 ^ 64) IsLeaf unsigned_of
+tells_unsigned = leaf_values (λ n. n < 2 ^ 64) (λ n. IsWord IsBeside (decimal n)) unsigned_of (λ n s h. word_leaf IsBeside (decimal n) s h)
+    (λ label n h. digits_line label (decimal n) (decimal_word n))
+    (λ m n s h k x y. decimal_injective m n h k (one_word_leaf (decimal m) (decimal n) s (decimal_word m) (decimal_word n) x y))
+
 -- ---- flags and object identifiers
 
 flags_line : (label : Label) (bits : Bits) → IsBits bits → Lines label.text (IsWord IsBeside (flags_word bits)) (flags_of label bits)
@@ -210,7 +219,8 @@ pub tells_flags : TellsValues IsBits IsLeaf flags_of
 tells_flags = leaf_values IsBits (λ bits. IsWord IsBeside (flags_word bits)) flags_of (λ bits s h. word_leaf IsBeside (flags_word bits) s h) flags_line
     (λ b c s h k x y. one_flags b c h k (one_word_leaf (flags_word b) (flags_word c) s (flags_are_word b h) (flags_are_word c k) x y))
 
-identifier_line : (label : Label) (dotted : List ℕ) → all_of is_word_octet dotted ≡ true → Lines label.text (IsWord IsBeside dotted) (identifier_of label dotted)
+identifier_line : (label : Label) (dotted : List ℕ) → all_of is_word_octet dotted ≡ true
+    → Lines label.text (IsWord IsBeside dotted) (identifier_of label dotted)
 identifier_line label dotted h = record { line_of = line_of }
   where
     line_of : (old new : List Token) → identifier_of label dotted old new → OneLine label.text (IsWord IsBeside dotted) old new
@@ -249,6 +259,25 @@ pub tells_octets : TellsValues IsOctets IsLeaf octets_of
 tells_octets = leaf_values IsOctets IsOctetsText octets_of (λ xs s e. (octets_text xs, e)) (λ label xs h. octets_line label xs)
     (λ xs ys s h k e f. one_octets xs ys h k (tail _ _ _ _ (tail _ _ _ _ (sym e ∙ f))))
 
+-- those of keys, and those that are encrypted
+secret_line : (label : Label) (xs : List ℕ) → Lines label.text (IsOctetsText xs) (secret_octets_of label xs)
+secret_line label xs = record {
+  line_of = λ old new e. record { token = leaf form.Secret label xs; added = e; named = refl; value = refl; lines = λ d. refl; level = λ d. refl };
+}
+
+cipher_line : (label : Label) (xs : List ℕ) → Lines label.text (IsOctetsText xs) (cipher_of label xs)
+cipher_line label xs = record {
+  line_of = λ old new e. record { token = leaf form.Cipher label xs; added = e; named = refl; value = refl; lines = λ d. refl; level = λ d. refl };
+}
+
+pub tells_secrets : TellsValues IsOctets IsLeaf secret_octets_of
+tells_secrets = leaf_values IsOctets IsOctetsText secret_octets_of (λ xs s e. (octets_text xs, e)) (λ label xs h. secret_line label xs)
+    (λ xs ys s h k e f. one_octets xs ys h k (tail _ _ _ _ (tail _ _ _ _ (sym e ∙ f))))
+
+pub tells_ciphers : TellsValues IsOctets IsLeaf cipher_of
+tells_ciphers = leaf_values IsOctets IsOctetsText cipher_of (λ xs s e. (octets_text xs, e)) (λ label xs h. cipher_line label xs)
+    (λ xs ys s h k e f. one_octets xs ys h k (tail _ _ _ _ (tail _ _ _ _ (sym e ∙ f))))
+
 pub tells_texts : TellsValues IsOctets IsLeaf text_of
 tells_texts = leaf_values IsOctets IsQuotedText text_of (λ xs s e. (quoted style.Quoted xs, e)) (λ label xs h. text_line label xs)
     (λ xs ys s h k e f. one_text xs ys h k (tail _ _ _ _ (tail _ _ _ _ (sym e ∙ f))))
@@ -256,7 +285,8 @@ tells_texts = leaf_values IsOctets IsQuotedText text_of (λ xs s e. (quoted styl
 -- ---- other values that are shown so
 
 -- values that are shown by another value, which tells them
-pub tells_by : {A B : Type 0} {is_value : A → Type 0} {V : List ℕ → Type 0} {shows : Label → A → List Token → List Token → Type 0} (is_other : B → Type 0) (g : B → A)
+pub tells_by : {A B : Type 0} {is_value : A → Type 0} {V : List ℕ → Type 0} {shows : Label → A → List Token → List Token → Type 0} (is_other : B → Type 0)
+    (g : B → A)
     → ((w : B) → is_other w → is_value (g w)) → ((v w : B) → is_other v → is_other w → g v ≡ g w → v ≡ w) → TellsValues is_value V shows
     → TellsValues is_other V (λ label w. shows label (g w))
 tells_by is_other g valid one t = record {
@@ -274,3 +304,14 @@ tells_ascii = tells_by IsAscii (λ xs. xs) ascii_octets (λ v w h k e. e) tells_
 -- numbers of 32 bits, which are whole numbers
 pub tells_naturals : {is_value : ℕ → Type 0} → TellsValues is_value IsLeaf (λ label n. number_of label (pos n))
 tells_naturals {is_value} = tells_by is_value pos (λ n h. tt) (λ m n h k e. cc) tells_numbers
+
+-- values of which more is known
+pub tells_within : {A : Type 0} {is_value : A → Type 0} {V : List ℕ → Type 0} {shows : Label → A → List Token → List Token → Type 0} (is_other : A → Type 0)
+    → ((v : A) → is_other v → is_value v) → TellsValues is_value V shows → TellsValues is_other V shows
+tells_within is_other valid t = record {
+  heads = λ label v name h. t.heads label v name (valid v h);
+  tells = λ label v w name h k. t.tells label v w name (valid v h) (valid w k);
+}
+
+pub tells_utf8 : TellsValues IsUtf8 IsLeaf text_of
+tells_utf8 = tells_within IsUtf8 utf8_octets tells_texts

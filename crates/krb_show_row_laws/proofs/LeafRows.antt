@@ -27,15 +27,15 @@ use Rattle.krb_show_rows.specs.Items.{octets_as}
 use Rattle.krb_show_rows.specs.Leaves.{IsNamed, any_of, leaf_as}
 use Rattle.krb_show_row_laws.specs.Telling.{Stops, all_of, is_digit, is_name, is_word_octet}
 use Rattle.krb_show_row_laws.specs.Blocks.{Follow, HasHead, Heads, IsLeaf, Tells, TellsValues}
-use Rattle.krb_show_row_laws.specs.Firsts.{Firsts, Opening, names_of, openings}
+use Rattle.krb_show_row_laws.specs.Firsts.{Firsts, Kinds, names_of}
 use Rattle.krb_show_row_laws.specs.Formats.{FormatsTell}
 use Rattle.krb_show_row_laws.specs.Pages.{label_in, leaf_shown}
-use Rattle.krb_show_row_laws.specs.Tests.{leaf_firsts, octets_kinds}
+use Rattle.krb_show_row_laws.specs.Tests.{leaf_firsts, octets_firsts}
 use Rattle.krb_show_row_laws.proofs.SplitLaws.{all_append, split, tail}
 use Rattle.krb_show_row_laws.proofs.WordLaws.{decimal_digits, decimal_word, one_octets, word_or_octets}
 use Rattle.krb_show_row_laws.proofs.BlockLaws.{head_blocks}
 use Rattle.krb_show_row_laws.proofs.FieldLaws.{tells_so}
-use Rattle.krb_show_row_laws.proofs.LeafLaws.{IsNumberText, IsOctetsText, Lines, OneLine, leaf_heads, number_leaf, number_line, octets_line, one_number, tells_by, tells_flags, tells_identifiers, tells_leaf, tells_naturals, tells_numbers, tells_octets, tells_texts, tells_times, tells_truths}
+use Rattle.krb_show_row_laws.proofs.LeafLaws.{IsNumberText, IsOctetsText, Lines, OneLine, leaf_heads, number_leaf, number_line, octets_line, one_number, tells_by, tells_ciphers, tells_flags, tells_identifiers, tells_leaf, tells_naturals, tells_numbers, tells_octets, tells_secrets, tells_texts, tells_times, tells_truths}
 use Rattle.krb_show_row_laws.proofs.FirstLaws.{firsts_block, one_first, tells_from}
 use Rattle.krb_show_row_laws.proofs.ForestLaws.{octets_within}
 
@@ -58,14 +58,16 @@ one_dots [] [] h k e = refl
 one_dots [] (b ∷ bs) h k e = absurd (cc)
 one_dots (a ∷ as_) [] h k e = absurd (cc)
 one_dots (a ∷ as_) (b ∷ bs) h k e =
-    let parts = split is_digit (decimal a) (decimal b) (dots_before as_) (dots_before bs) (decimal_digits a) (decimal_digits b) (dots_stop as_) (dots_stop bs) (tail _ _ _ _ e) in
+    let parts = split is_digit (decimal a) (decimal b) (dots_before as_) (dots_before bs) (decimal_digits a) (decimal_digits b) (dots_stop as_) (dots_stop bs)
+    (tail _ _ _ _ e) in
     ap (λ z. z ∷ as_) (decimal_injective a b (h 0) (k 0) parts.0) ∙ ap (λ (l : List ℕ). b ∷ l) (one_dots as_ bs (λ i. h (suc i)) (λ i. k (suc i)) parts.1)
 
 one_dotted : (as_ bs : List ℕ) → IsArcs as_ → IsArcs bs → dotted as_ ≡ dotted bs → as_ ≡ bs
 one_dotted [] bs h k e = absurd (omega (arith, h.some))
 one_dotted (a ∷ as_) [] h k e = absurd (omega (arith, k.some))
 one_dotted (a ∷ as_) (b ∷ bs) h k e =
-    let parts = split is_digit (decimal a) (decimal b) (dots_before as_) (dots_before bs) (decimal_digits a) (decimal_digits b) (dots_stop as_) (dots_stop bs) e in
+    let parts = split is_digit (decimal a) (decimal b) (dots_before as_) (dots_before bs) (decimal_digits a) (decimal_digits b) (dots_stop as_) (dots_stop bs)
+    e in
     ap (λ z. z ∷ as_) (decimal_injective a b (h.each 0) (k.each 0) parts.0)
     ∙ ap (λ (l : List ℕ). b ∷ l) (one_dots as_ bs (λ i. h.each (suc i)) (λ i. k.each (suc i)) parts.1)
 
@@ -74,26 +76,32 @@ tells_arcs = tells_by IsArcs dotted (λ v h. dotted_word v) one_dotted tells_ide
 
 -- ---- values by their contents
 
-value_heads : {A : Type 0} {is_value : A → Type 0} {shows : Label → A → List Token → List Token → Type 0} (enc : A → List ℕ) (t : ℕ) → TellsValues is_value IsLeaf shows
-    → (label : Label) (content : List ℕ) → is_name label.text ≡ true → IsOf is_value enc t content → Heads label.text IsLeaf (leaf_as is_value enc shows t label content)
+value_heads : {A : Type 0} {is_value : A → Type 0} {shows : Label → A → List Token → List Token → Type 0} (enc : A → List ℕ) (t : ℕ)
+    → TellsValues is_value IsLeaf shows
+    → (label : Label) (content : List ℕ) → is_name label.text ≡ true → IsOf is_value enc t content
+    → Heads label.text IsLeaf (leaf_as is_value enc shows t label content)
 value_heads {A} {is_value} {shows} enc t told label content name (w, h, e) = record { head = head_of }
   where
     head_of : (old new : List Token) → leaf_as is_value enc shows t label content old new → HasHead label.text IsLeaf old new
     head_of old new (inl (v, i, f, s)) = (told.heads label v name i).head old new s
     head_of old new (inr (lacks, s)) = absurd (lacks w h e)
 
-value_told : {A : Type 0} {is_value : A → Type 0} {shows : Label → A → List Token → List Token → Type 0} (enc : A → List ℕ) (t : ℕ) → TellsValues is_value IsLeaf shows
+value_told : {A : Type 0} {is_value : A → Type 0} {shows : Label → A → List Token → List Token → Type 0} (enc : A → List ℕ) (t : ℕ)
+    → TellsValues is_value IsLeaf shows
     → (label : Label) (content other : List ℕ) → is_name label.text ≡ true → IsOf is_value enc t content → IsOf is_value enc t other
-    → Tells (λ names. label.text ∷ []) (λ names. true) (Unit {0}) (content ≡ other) (leaf_as is_value enc shows t label content) (leaf_as is_value enc shows t label other)
+    → Tells (λ names. label.text ∷ []) (λ names. true) (Unit {0}) (content ≡ other) (leaf_as is_value enc shows t label content)
+    (leaf_as is_value enc shows t label other)
 value_told {A} {is_value} {shows} enc t told label content other name h k = record {
   left = head_blocks label.text IsLeaf (leaf_as is_value enc shows t label content) name (value_heads enc t told label content name h);
   right = head_blocks label.text IsLeaf (leaf_as is_value enc shows t label other) name (value_heads enc t told label other name k);
   tells = λ old before ts us a b known names d rest following fit m o same. by_value old before ts us a b names d rest following m o same h k;
 }
   where
-    by_value : (old before ts us : List Token) → leaf_as is_value enc shows t label content old (old ++ ts) → leaf_as is_value enc shows t label other before (before ++ us)
+    by_value : (old before ts us : List Token) → leaf_as is_value enc shows t label content old (old ++ ts)
+        → leaf_as is_value enc shows t label other before (before ++ us)
         → (names : List (List ℕ)) (d : ℕ) (rest following : List (List ℕ)) → Follow names d rest → Follow names d following
-        → page_lines d ts ++ rest ≡ page_lines d us ++ following → IsOf is_value enc t content → IsOf is_value enc t other → (content ≡ other) × (rest ≡ following)
+        → page_lines d ts ++ rest ≡ page_lines d us ++ following → IsOf is_value enc t content → IsOf is_value enc t other → (content ≡ other)
+        × (rest ≡ following)
     by_value old before ts us (inl (v, i, f, a)) (inl (w, j, g, b)) names d rest following m o same h k =
         let one = (told.tells label v w name i j).tells old before ts us a b tt names d rest following refl m o same in
         (tlv_same t t content other (f ∙ ap enc one.0 ∙ sym g), one.1)
@@ -124,11 +132,13 @@ number_or_octets n xs s small (inl (fits, (r, b, e))) o = word_or_octets (decima
 number_or_octets n xs s small (inr (lacks, e)) o = absurd (lacks (fits_signed_from_abs w64 (pos n) (omega arith)))
 
 -- the number of which a named element is
-named_number : (kind : Option Kind) (tag : ℕ) (content : List ℕ) (number : ℕ) → IsNamed kind tag content number → (tag ≡ 10) × (number < 128) × (content ≡ number ∷ [])
+named_number : (kind : Option Kind) (tag : ℕ) (content : List ℕ) (number : ℕ) → IsNamed kind tag content number → (tag ≡ 10) × (number < 128)
+    × (content ≡ number ∷ [])
 named_number None tag content number h = absurd h
 named_number (Some kind) tag content number h = h
 
-one_any : (kind : Option Kind) (t u : ℕ) (c d s : List ℕ) → IsOctets (tlv t c) → IsOctets (tlv u d) → IsAnyText kind t c s → IsAnyText kind u d s → (t ≡ u) × (c ≡ d)
+one_any : (kind : Option Kind) (t u : ℕ) (c d s : List ℕ) → IsOctets (tlv t c) → IsOctets (tlv u d) → IsAnyText kind t c s → IsAnyText kind u d s → (t ≡ u)
+    × (c ≡ d)
 one_any kind t u c d s h k (inl (m, named, a)) (inl (n, called, b)) =
     let p = named_number kind t c m named in
     let q = named_number kind u d n called in
@@ -143,19 +153,22 @@ one_any kind t u c d s h k (inr e) (inr f) =
     (parts.tag, parts.content)
 
 pub any_heads : (label : Label) (tag : ℕ) (content : List ℕ) → Heads label.text IsLeaf (any_of tag label content)
-any_heads label tag content = leaf_heads label.text (IsAnyText label.kind tag content) (any_of tag label content) (any_leaf label.kind tag content) (any_line label tag content)
+any_heads label tag content = leaf_heads label.text (IsAnyText label.kind tag content) (any_of tag label content) (any_leaf label.kind tag content)
+    (any_line label tag content)
 
 pub any_told : (label : Label) (t u : ℕ) (c d : List ℕ) → is_name label.text ≡ true → IsOctets (tlv t c) → IsOctets (tlv u d)
     → Tells (λ names. label.text ∷ []) (λ names. true) (Unit {0}) ((t ≡ u) × (c ≡ d)) (any_of t label c) (any_of u label d)
 any_told label t u c d name h k =
-    tells_leaf label.text (IsAnyText label.kind t c) (IsAnyText label.kind u d) (any_of t label c) (any_of u label d) name (any_leaf label.kind t c) (any_leaf label.kind u d)
+    tells_leaf label.text (IsAnyText label.kind t c) (IsAnyText label.kind u d) (any_of t label c) (any_of u label d) name (any_leaf label.kind t c)
+    (any_leaf label.kind u d)
     (any_line label t c) (any_line label u d) (λ s a b. one_any label.kind t u c d s h k a b)
 
 -- ---- leaves of a row
 
-module _ (tells : Role → List ℕ → Label → List ℕ → List Token → List Token → Type 0) (kinds : Role → List Opening) (formats : FormatsTell kinds tells) where
+module _ (tells : Role → List ℕ → Label → List ℕ → List Token → List Token → Type 0) (kinds : Kinds) (formats : FormatsTell kinds tells) where
+  -- octets behind any number, and behind this one
   pub octets_first : (role : Role) (number : List ℕ) (label : Label) (content : List ℕ) → is_name label.text ≡ true → IsOctets content
-      → Firsts (openings (octets_kinds kinds role) label.text) (octets_as tells role number label content)
+      → Firsts (octets_firsts kinds None label.text role) (octets_as tells role number label content)
   octets_first roles.None number label content name small = one_first name (tells_octets.heads label content name small)
   octets_first roles.AuthorizationData number label content name small = formats.first roles.AuthorizationData number label content name small
   octets_first roles.Checksum number label content name small = formats.first roles.Checksum number label content name small
@@ -178,20 +191,48 @@ module _ (tells : Role → List ℕ → Label → List ℕ → List Token → Li
   octets_first roles.ServerRealm number label content name small = formats.first roles.ServerRealm number label content name small
   octets_first roles.ServerName number label content name small = formats.first roles.ServerName number label content name small
 
+  pub octets_behind : (role : Role) (number : List ℕ) (label : Label) (content : List ℕ) → is_name label.text ≡ true → IsOctets content
+      → Firsts (octets_firsts kinds (Some number) label.text role) (octets_as tells role number label content)
+  octets_behind roles.None number label content name small = one_first name (tells_octets.heads label content name small)
+  octets_behind roles.AuthorizationData number label content name small = formats.behind roles.AuthorizationData number label content name small
+  octets_behind roles.Checksum number label content name small = formats.behind roles.Checksum number label content name small
+  octets_behind roles.PrefixedMessage number label content name small = formats.behind roles.PrefixedMessage number label content name small
+  octets_behind roles.MechanismToken number label content name small = formats.behind roles.MechanismToken number label content name small
+  octets_behind roles.MechanismListMic number label content name small = formats.behind roles.MechanismListMic number label content name small
+  octets_behind roles.Key number label content name small = formats.behind roles.Key number label content name small
+  octets_behind roles.EncTicketPart number label content name small = formats.behind roles.EncTicketPart number label content name small
+  octets_behind roles.EncAsRepPart number label content name small = formats.behind roles.EncAsRepPart number label content name small
+  octets_behind roles.EncTgsRepPart number label content name small = formats.behind roles.EncTgsRepPart number label content name small
+  octets_behind roles.Authenticator number label content name small = formats.behind roles.Authenticator number label content name small
+  octets_behind roles.RequestAuthorizationData number label content name small = formats.behind roles.RequestAuthorizationData number label content name small
+  octets_behind roles.EncApRepPart number label content name small = formats.behind roles.EncApRepPart number label content name small
+  octets_behind roles.EncKrbPrivPart number label content name small = formats.behind roles.EncKrbPrivPart number label content name small
+  octets_behind roles.EncKrbCredPart number label content name small = formats.behind roles.EncKrbCredPart number label content name small
+  octets_behind roles.PaEncTsEnc number label content name small = formats.behind roles.PaEncTsEnc number label content name small
+  octets_behind roles.Salt number label content name small = formats.behind roles.Salt number label content name small
+  octets_behind roles.ClientRealm number label content name small = formats.behind roles.ClientRealm number label content name small
+  octets_behind roles.ClientName number label content name small = formats.behind roles.ClientName number label content name small
+  octets_behind roles.ServerRealm number label content name small = formats.behind roles.ServerRealm number label content name small
+  octets_behind roles.ServerName number label content name small = formats.behind roles.ServerName number label content name small
+
   octets_told : (role : Role) (number another : List ℕ) (label : Label) (content other : List ℕ) → is_name label.text ≡ true → IsOctets content → IsOctets other
-      → Tells (λ names. label.text ∷ []) (λ names. true) (number ≡ another) (content ≡ other) (octets_as tells role number label content) (octets_as tells role another label other)
+      → Tells (λ names. label.text ∷ []) (λ names. true) (number ≡ another) (content ≡ other) (octets_as tells role number label content)
+      (octets_as tells role another label other)
   octets_told roles.None number another label content other name h k = tells_so (λ e. tt) (λ e. e) (tells_octets.tells label content other name h k)
-  octets_told roles.AuthorizationData number another label content other name h k = formats.told roles.AuthorizationData number another label content other name h k
+  octets_told roles.AuthorizationData number another label content other name h k =
+      formats.told roles.AuthorizationData number another label content other name h k
   octets_told roles.Checksum number another label content other name h k = formats.told roles.Checksum number another label content other name h k
   octets_told roles.PrefixedMessage number another label content other name h k = formats.told roles.PrefixedMessage number another label content other name h k
   octets_told roles.MechanismToken number another label content other name h k = formats.told roles.MechanismToken number another label content other name h k
-  octets_told roles.MechanismListMic number another label content other name h k = formats.told roles.MechanismListMic number another label content other name h k
+  octets_told roles.MechanismListMic number another label content other name h k =
+      formats.told roles.MechanismListMic number another label content other name h k
   octets_told roles.Key number another label content other name h k = formats.told roles.Key number another label content other name h k
   octets_told roles.EncTicketPart number another label content other name h k = formats.told roles.EncTicketPart number another label content other name h k
   octets_told roles.EncAsRepPart number another label content other name h k = formats.told roles.EncAsRepPart number another label content other name h k
   octets_told roles.EncTgsRepPart number another label content other name h k = formats.told roles.EncTgsRepPart number another label content other name h k
   octets_told roles.Authenticator number another label content other name h k = formats.told roles.Authenticator number another label content other name h k
-  octets_told roles.RequestAuthorizationData number another label content other name h k = formats.told roles.RequestAuthorizationData number another label content other name h k
+  octets_told roles.RequestAuthorizationData number another label content other name h k =
+      formats.told roles.RequestAuthorizationData number another label content other name h k
   octets_told roles.EncApRepPart number another label content other name h k = formats.told roles.EncApRepPart number another label content other name h k
   octets_told roles.EncKrbPrivPart number another label content other name h k = formats.told roles.EncKrbPrivPart number another label content other name h k
   octets_told roles.EncKrbCredPart number another label content other name h k = formats.told roles.EncKrbCredPart number another label content other name h k
@@ -204,20 +245,35 @@ module _ (tells : Role → List ℕ → Label → List ℕ → List Token → Li
 
   pub leaf_first : (kind : Leaf) (name : Name) (tag : ℕ) (content : List ℕ) → is_name name.text.now ≡ true → IsContent kind content → IsOctets (tlv tag content)
       → (in_list : Bool) (number : List ℕ) → Firsts (leaf_firsts kinds kind name.text.now name.role) (leaf_shown tells kind name tag content in_list number)
-  leaf_first leaves.Integer name tag content named is small in_list number = one_first named (value_heads {A = ℤ} {is_value = λ v. Unit {0}} (λ v. tlv 2 (shortest v)) 2 tells_numbers (label_in in_list name) content named is)
-  leaf_first leaves.Unsigned name tag content named is small in_list number = one_first named (value_heads {A = ℕ} {is_value = λ v. v < 2 ^ 32} (λ v. tlv 2 (shortest (pos v))) 2 tells_naturals (label_in in_list name) content named is)
-  leaf_first (leaves.Number n) name tag content named is small in_list number = one_first named (value_heads {A = ℤ} {is_value = λ v. Unit {0}} (λ v. tlv 2 (shortest v)) 2 tells_numbers (label_in in_list name) content named is)
-  leaf_first leaves.Microseconds name tag content named is small in_list number = one_first named (value_heads {A = ℤ} {is_value = λ v. Unit {0}} (λ v. tlv 2 (shortest v)) 2 tells_numbers (label_in in_list name) content named is)
-  leaf_first leaves.Flags name tag content named is small in_list number = one_first named (value_heads {A = Bits} {is_value = IsBits} (λ v. tlv 3 (bits_content v)) 3 tells_flags (label_in in_list name) content named is)
-  leaf_first leaves.Bits name tag content named is small in_list number = one_first named (value_heads {A = Bits} {is_value = IsBits} (λ v. tlv 3 (bits_content v)) 3 tells_flags (label_in in_list name) content named is)
-  leaf_first leaves.Text name tag content named is small in_list number = one_first named (tells_texts.heads (label_in in_list name) content named (octets_within tag content small))
-  leaf_first leaves.Component name tag content named is small in_list number = one_first named (tells_texts.heads (label_in in_list name) content named (octets_within tag content small))
-  leaf_first leaves.Time name tag content named is small in_list number = one_first named (value_heads {A = Time} {is_value = IsRealTime} (λ v. tlv 24 (time_content v)) 24 tells_times (label_in in_list name) content named is)
-  leaf_first leaves.Octets name tag content named is small in_list number = octets_first name.role number (label_in in_list name) content named (octets_within tag content small)
-  leaf_first leaves.Secret name tag content named is small in_list number = one_first named (tells_octets.heads (label_in in_list name) content named (octets_within tag content small))
-  leaf_first leaves.Cipher name tag content named is small in_list number = one_first named (tells_octets.heads (label_in in_list name) content named (octets_within tag content small))
-  leaf_first leaves.Truth name tag content named is small in_list number = one_first named (value_heads {A = Bool} {is_value = λ v. Unit {0}} (λ v. tlv 1 (bool_content v)) 1 tells_truths (label_in in_list name) content named is)
-  leaf_first leaves.Identifier name tag content named is small in_list number = one_first named (value_heads {A = List ℕ} {is_value = IsArcs} (λ v. tlv 6 (arcs_content v)) 6 tells_arcs (label_in in_list name) content named is)
+  leaf_first leaves.Integer name tag content named is small in_list number =
+      one_first named (value_heads {A = ℤ} {is_value = λ v. Unit {0}} (λ v. tlv 2 (shortest v)) 2 tells_numbers (label_in in_list name) content named is)
+  leaf_first leaves.Unsigned name tag content named is small in_list number =
+      one_first named (value_heads {A = ℕ} {is_value = λ v. v < 2 ^ 32} (λ v. tlv 2 (shortest (pos v))) 2 tells_naturals (label_in in_list name) content named
+      is)
+  leaf_first (leaves.Number n) name tag content named is small in_list number =
+      one_first named (value_heads {A = ℤ} {is_value = λ v. Unit {0}} (λ v. tlv 2 (shortest v)) 2 tells_numbers (label_in in_list name) content named is)
+  leaf_first leaves.Microseconds name tag content named is small in_list number =
+      one_first named (value_heads {A = ℤ} {is_value = λ v. Unit {0}} (λ v. tlv 2 (shortest v)) 2 tells_numbers (label_in in_list name) content named is)
+  leaf_first leaves.Flags name tag content named is small in_list number =
+      one_first named (value_heads {A = Bits} {is_value = IsBits} (λ v. tlv 3 (bits_content v)) 3 tells_flags (label_in in_list name) content named is)
+  leaf_first leaves.Bits name tag content named is small in_list number =
+      one_first named (value_heads {A = Bits} {is_value = IsBits} (λ v. tlv 3 (bits_content v)) 3 tells_flags (label_in in_list name) content named is)
+  leaf_first leaves.Text name tag content named is small in_list number =
+      one_first named (tells_texts.heads (label_in in_list name) content named (octets_within tag content small))
+  leaf_first leaves.Component name tag content named is small in_list number =
+      one_first named (tells_texts.heads (label_in in_list name) content named (octets_within tag content small))
+  leaf_first leaves.Time name tag content named is small in_list number =
+      one_first named (value_heads {A = Time} {is_value = IsRealTime} (λ v. tlv 24 (time_content v)) 24 tells_times (label_in in_list name) content named is)
+  leaf_first leaves.Octets name tag content named is small in_list number =
+      octets_first name.role number (label_in in_list name) content named (octets_within tag content small)
+  leaf_first leaves.Secret name tag content named is small in_list number =
+      one_first named (tells_secrets.heads (label_in in_list name) content named (octets_within tag content small))
+  leaf_first leaves.Cipher name tag content named is small in_list number =
+      one_first named (tells_ciphers.heads (label_in in_list name) content named (octets_within tag content small))
+  leaf_first leaves.Truth name tag content named is small in_list number =
+      one_first named (value_heads {A = Bool} {is_value = λ v. Unit {0}} (λ v. tlv 1 (bool_content v)) 1 tells_truths (label_in in_list name) content named is)
+  leaf_first leaves.Identifier name tag content named is small in_list number =
+      one_first named (value_heads {A = List ℕ} {is_value = IsArcs} (λ v. tlv 6 (arcs_content v)) 6 tells_arcs (label_in in_list name) content named is)
   leaf_first leaves.Any name tag content named is small in_list number = one_first named (any_heads (label_in in_list name) tag content)
 
   pub leaf_told : (kind : Leaf) (name : Name) (tag : ℕ) (content other : List ℕ) → is_name name.text.now ≡ true → IsContent kind content → IsContent kind other
@@ -225,34 +281,47 @@ module _ (tells : Role → List ℕ → Label → List ℕ → List Token → Li
       → Tells (λ names. names_of (leaf_firsts kinds kind name.text.now name.role)) (λ names. true) (number ≡ another) (content ≡ other)
       (leaf_shown tells kind name tag content in_list number) (leaf_shown tells kind name tag other in_list another)
   leaf_told leaves.Integer name tag content other named is are small little in_list number another =
-      tells_so (λ e. tt) (λ e. e) (value_told {A = ℤ} {is_value = λ v. Unit {0}} (λ v. tlv 2 (shortest v)) 2 tells_numbers (label_in in_list name) content other named is are)
+      tells_so (λ e. tt) (λ e. e) (value_told {A = ℤ} {is_value = λ v. Unit {0}} (λ v. tlv 2 (shortest v)) 2 tells_numbers (label_in in_list name) content other
+      named is are)
   leaf_told leaves.Unsigned name tag content other named is are small little in_list number another =
-      tells_so (λ e. tt) (λ e. e) (value_told {A = ℕ} {is_value = λ v. v < 2 ^ 32} (λ v. tlv 2 (shortest (pos v))) 2 tells_naturals (label_in in_list name) content other named is are)
+      tells_so (λ e. tt) (λ e. e) (value_told {A = ℕ} {is_value = λ v. v < 2 ^ 32} (λ v. tlv 2 (shortest (pos v))) 2 tells_naturals (label_in in_list name)
+      content other named is are)
   leaf_told (leaves.Number n) name tag content other named is are small little in_list number another =
-      tells_so (λ e. tt) (λ e. e) (value_told {A = ℤ} {is_value = λ v. Unit {0}} (λ v. tlv 2 (shortest v)) 2 tells_numbers (label_in in_list name) content other named is are)
+      tells_so (λ e. tt) (λ e. e) (value_told {A = ℤ} {is_value = λ v. Unit {0}} (λ v. tlv 2 (shortest v)) 2 tells_numbers (label_in in_list name) content other
+      named is are)
   leaf_told leaves.Microseconds name tag content other named is are small little in_list number another =
-      tells_so (λ e. tt) (λ e. e) (value_told {A = ℤ} {is_value = λ v. Unit {0}} (λ v. tlv 2 (shortest v)) 2 tells_numbers (label_in in_list name) content other named is are)
+      tells_so (λ e. tt) (λ e. e) (value_told {A = ℤ} {is_value = λ v. Unit {0}} (λ v. tlv 2 (shortest v)) 2 tells_numbers (label_in in_list name) content other
+      named is are)
   leaf_told leaves.Flags name tag content other named is are small little in_list number another =
-      tells_so (λ e. tt) (λ e. e) (value_told {A = Bits} {is_value = IsBits} (λ v. tlv 3 (bits_content v)) 3 tells_flags (label_in in_list name) content other named is are)
+      tells_so (λ e. tt) (λ e. e) (value_told {A = Bits} {is_value = IsBits} (λ v. tlv 3 (bits_content v)) 3 tells_flags (label_in in_list name) content other
+      named is are)
   leaf_told leaves.Bits name tag content other named is are small little in_list number another =
-      tells_so (λ e. tt) (λ e. e) (value_told {A = Bits} {is_value = IsBits} (λ v. tlv 3 (bits_content v)) 3 tells_flags (label_in in_list name) content other named is are)
+      tells_so (λ e. tt) (λ e. e) (value_told {A = Bits} {is_value = IsBits} (λ v. tlv 3 (bits_content v)) 3 tells_flags (label_in in_list name) content other
+      named is are)
   leaf_told leaves.Text name tag content other named is are small little in_list number another =
-      tells_so (λ e. tt) (λ e. e) (tells_texts.tells (label_in in_list name) content other named (octets_within tag content small) (octets_within tag other little))
+      tells_so (λ e. tt) (λ e. e) (tells_texts.tells (label_in in_list name) content other named (octets_within tag content small)
+      (octets_within tag other little))
   leaf_told leaves.Component name tag content other named is are small little in_list number another =
-      tells_so (λ e. tt) (λ e. e) (tells_texts.tells (label_in in_list name) content other named (octets_within tag content small) (octets_within tag other little))
+      tells_so (λ e. tt) (λ e. e) (tells_texts.tells (label_in in_list name) content other named (octets_within tag content small)
+      (octets_within tag other little))
   leaf_told leaves.Time name tag content other named is are small little in_list number another =
-      tells_so (λ e. tt) (λ e. e) (value_told {A = Time} {is_value = IsRealTime} (λ v. tlv 24 (time_content v)) 24 tells_times (label_in in_list name) content other named is are)
+      tells_so (λ e. tt) (λ e. e) (value_told {A = Time} {is_value = IsRealTime} (λ v. tlv 24 (time_content v)) 24 tells_times (label_in in_list name) content
+      other named is are)
   leaf_told leaves.Octets name tag content other named is are small little in_list number another =
       tells_from (firsts_block (octets_first name.role number (label_in in_list name) content named (octets_within tag content small)))
       (firsts_block (octets_first name.role another (label_in in_list name) other named (octets_within tag other little)))
       (octets_told name.role number another (label_in in_list name) content other named (octets_within tag content small) (octets_within tag other little))
   leaf_told leaves.Secret name tag content other named is are small little in_list number another =
-      tells_so (λ e. tt) (λ e. e) (tells_octets.tells (label_in in_list name) content other named (octets_within tag content small) (octets_within tag other little))
+      tells_so (λ e. tt) (λ e. e) (tells_secrets.tells (label_in in_list name) content other named (octets_within tag content small)
+      (octets_within tag other little))
   leaf_told leaves.Cipher name tag content other named is are small little in_list number another =
-      tells_so (λ e. tt) (λ e. e) (tells_octets.tells (label_in in_list name) content other named (octets_within tag content small) (octets_within tag other little))
+      tells_so (λ e. tt) (λ e. e) (tells_ciphers.tells (label_in in_list name) content other named (octets_within tag content small)
+      (octets_within tag other little))
   leaf_told leaves.Truth name tag content other named is are small little in_list number another =
-      tells_so (λ e. tt) (λ e. e) (value_told {A = Bool} {is_value = λ v. Unit {0}} (λ v. tlv 1 (bool_content v)) 1 tells_truths (label_in in_list name) content other named is are)
+      tells_so (λ e. tt) (λ e. e) (value_told {A = Bool} {is_value = λ v. Unit {0}} (λ v. tlv 1 (bool_content v)) 1 tells_truths (label_in in_list name) content
+      other named is are)
   leaf_told leaves.Identifier name tag content other named is are small little in_list number another =
-      tells_so (λ e. tt) (λ e. e) (value_told {A = List ℕ} {is_value = IsArcs} (λ v. tlv 6 (arcs_content v)) 6 tells_arcs (label_in in_list name) content other named is are)
+      tells_so (λ e. tt) (λ e. e) (value_told {A = List ℕ} {is_value = IsArcs} (λ v. tlv 6 (arcs_content v)) 6 tells_arcs (label_in in_list name) content other
+      named is are)
   leaf_told leaves.Any name tag content other named is are small little in_list number another =
       tells_so (λ e. tt) (λ e. e.1) (any_told (label_in in_list name) tag tag content other named small little)

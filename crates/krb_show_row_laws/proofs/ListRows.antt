@@ -39,12 +39,14 @@ use Rattle.krb_show_row_laws.proofs.Told.{Told, elements_blocks, elements_told}
 -- ---- whether the first element is a component of a name
 
 module _ (levels : ℕ) (schema : Schema) (name : Name) where
-  held_name : (before content : List ℕ) (cs : List Case) (f others : Forest) → IsHeld (IsElement levels schema) name before content cs f → is_of_name (beside f others) ≡ false
+  held_name : (before content : List ℕ) (cs : List Case) (f others : Forest) → IsHeld (IsElement levels schema) name before content cs f
+      → is_of_name (beside f others) ≡ false
   held_name before content cs f others (here c ds inside applies r e) = refl
   held_name before content cs f others (later c ds element lacks r) = held_name before content ds element others r
   held_name before content cs f others plain = refl
 
-  shaped_name : (s : Shape) (before : List ℕ) (f others : Forest) → IsShaped (IsElement levels schema) schema s name before f → is_of_name (beside f others) ≡ is_component_shape (Some s)
+  shaped_name : (s : Shape) (before : List ℕ) (f others : Forest) → IsShaped (IsElement levels schema) schema s name before f
+      → is_of_name (beside f others) ≡ is_component_shape (Some s)
   shaped_name (shape.Leaf tag kind) before f others v = ap (λ (x : Forest). is_of_name (beside x others)) v.2
   shaped_name (shape.Tagged tag is) before f others v = ap (λ (x : Forest). is_of_name (beside x others)) v.2
   shaped_name (shape.Sequence tag start count) before f others v = ap (λ (x : Forest). is_of_name (beside x others)) v.3
@@ -57,7 +59,8 @@ element_name : (levels : ℕ) (schema : Schema) (is : ℕ) (name : Name) (before
 element_name zero schema is name before f others v = absurd v
 element_name (suc levels) schema is name before f others v = shaped_name levels schema name v.0 before f others v.2 ∙ ap is_component_shape (sym v.1)
 
-pub elements_name : (levels : ℕ) (schema : Schema) (is : ℕ) (name : Name) (f : Forest) → AreElements (IsElement levels schema is name []) f → is_of_name f ≡ true
+pub elements_name : (levels : ℕ) (schema : Schema) (is : ℕ) (name : Name) (f : Forest) → AreElements (IsElement levels schema is name []) f
+    → is_of_name f ≡ true
     → is_component_shape (slice_get schema.shapes.now is) ≡ true
 elements_name levels schema is name f no_elements e = absurd (cc)
 elements_name levels schema is name f (one_more a as_ r rs) e = sym (element_name levels schema is name [] a as_ r) ∙ e
@@ -85,7 +88,8 @@ given : Option Shape → Shape → Shape
 given None other = other
 given (Some s) other = s
 
-one_component : (levels : ℕ) (schema : Schema) (is : ℕ) (name : Name) (tag : ℕ) (before : List ℕ) (f : Forest) → slice_get schema.shapes.now is ≡ Some (shape.Leaf tag leaves.Component)
+one_component : (levels : ℕ) (schema : Schema) (is : ℕ) (name : Name) (tag : ℕ) (before : List ℕ) (f : Forest)
+    → slice_get schema.shapes.now is ≡ Some (shape.Leaf tag leaves.Component)
     → IsElement levels schema is name before f → (content : List ℕ) × IsAscii content × (f ≡ leaf leaves.Component name tag content none)
 one_component zero schema is name tag before f e v = absurd v
 one_component (suc levels) schema is name tag before f e v =
@@ -96,7 +100,8 @@ one_component (suc levels) schema is name tag before f e v =
     same_shape : (s t : Shape) → Some s ≡ Some t → s ≡ t
     same_shape s t q = cc
 
-pub are_components : (levels : ℕ) (schema : Schema) (is : ℕ) (name : Name) (tag : ℕ) (f : Forest) → slice_get schema.shapes.now is ≡ Some (shape.Leaf tag leaves.Component)
+pub are_components : (levels : ℕ) (schema : Schema) (is : ℕ) (name : Name) (tag : ℕ) (f : Forest)
+    → slice_get schema.shapes.now is ≡ Some (shape.Leaf tag leaves.Component)
     → AreElements (IsElement levels schema is name []) f → AreComponents name tag f
 are_components levels schema is name tag f e no_elements = record { whole = refl; ascii = tt }
 are_components levels schema is name tag f e (one_more a as_ r rs) =
@@ -104,14 +109,16 @@ are_components levels schema is name tag f e (one_more a as_ r rs) =
     let rest = are_components levels schema is name tag as_ e rs in
     let whole : beside a as_ ≡ leaf leaves.Component name tag one.0 as_ = ap (λ (x : Forest). beside x as_) one.2 in
     record {
-      whole = whole ∙ ap (λ (x : Forest). leaf leaves.Component name tag one.0 x) rest.whole ∙ ap (λ (x : Forest). in_a_row name tag (components x)) (sym whole);
+      whole = whole ∙ ap (λ (x : Forest). leaf leaves.Component name tag one.0 x) rest.whole
+          ∙ ap (λ (x : Forest). in_a_row name tag (components x)) (sym whole);
       ascii = subst (λ (x : Forest). AllByRecursion IsAscii (components x)) (sym whole) (one.1, rest.ascii);
     }
 
 -- ---- lists
 
-module _ (tells : Role → List ℕ → Label → List ℕ → List Token → List Token → Type 0) (levels : ℕ) (schema : Schema) (is : ℕ) (name : Name) (named : is_name name.text.now ≡ true)
-    {fs : List First} (row : Told tells fs (IsElement levels schema is name)) where
+module _ (tells : Role → List ℕ → Label → List ℕ → List Token → List Token → Type 0) (levels : ℕ) (schema : Schema) (is : ℕ) (name : Name)
+    (named : is_name name.text.now ≡ true)
+    {fs : List First} (row : Told tells true fs (IsElement levels schema is name)) where
   abbrev is_named : Bool
   is_named = is_component_shape (slice_get schema.shapes.now is)
 
@@ -124,27 +131,33 @@ module _ (tells : Role → List ℕ → Label → List ℕ → List Token → Li
   as_list f r small in_list number =
       let label = label_in in_list name in
       one_first named
-      (enclosed_heads name.text.now IsList (token_leaf form.List label (decimal (count f))) (mark form.ListEnd label) (opens_list label (decimal (count f))) (closes_list label)
+      (enclosed_heads name.text.now IsList (token_leaf form.List label (decimal (count f))) (mark form.ListEnd label) (opens_list label (decimal (count f)))
+      (closes_list label)
       (elements_blocks tells row f r small number))
 
   list_told : (f g : Forest) → AreRight f → AreRight g → AreSmall f → AreSmall g → (in_list : Bool) (number another : List ℕ)
-      → Tells (λ names. name.text.now ∷ []) (λ names. true) (number ≡ another) (f ≡ g) (list_shown false (label_in in_list name) f (forest_shown tells true number f))
+      → Tells (λ names. name.text.now ∷ []) (λ names. true) (number ≡ another) (f ≡ g)
+      (list_shown false (label_in in_list name) f (forest_shown tells true number f))
       (list_shown false (label_in in_list name) g (forest_shown tells true another g))
   list_told f g r w small little in_list number another =
       let label = label_in in_list name in
-      tells_enclosed name.text.now IsList (token_leaf form.List label (decimal (count f))) (mark form.ListEnd label) (token_leaf form.List label (decimal (count g))) (mark form.ListEnd label) named
+      tells_enclosed name.text.now IsList (token_leaf form.List label (decimal (count f))) (mark form.ListEnd label)
+      (token_leaf form.List label (decimal (count g))) (mark form.ListEnd label) named
       (opens_list label (decimal (count f))) (closes_list label) (opens_list label (decimal (count g))) (closes_list label)
       (elements_told tells row f g r w small little number another) (apart_none (names_of fs))
 
   -- as a text
-  as_text : (f : Forest) (in_list : Bool) (number : List ℕ) → Firsts (openings (of_leaf ∷ []) name.text.now) (list_shown true (label_in in_list name) f (forest_shown tells true number f))
+  as_text : (f : Forest) (in_list : Bool) (number : List ℕ) → Firsts (openings (of_leaf ∷ []) name.text.now)
+      (list_shown true (label_in in_list name) f (forest_shown tells true number f))
   as_text f in_list number =
       let label = label_in in_list name in
       let text = components_text (components f) in
       one_first named (leaf_heads name.text.now (IsQuotedText text) (text_of label text) (λ s e. (quoted style.Quoted text, e)) (text_line label text))
 
-  text_told : (f g : Forest) → AreRight f → AreRight g → is_of_name f ≡ true → is_of_name g ≡ true → is_named ≡ true → (in_list : Bool) (number another : List ℕ)
-      → Tells (λ names. name.text.now ∷ []) (λ names. true) (number ≡ another) (f ≡ g) (list_shown true (label_in in_list name) f (forest_shown tells true number f))
+  text_told : (f g : Forest) → AreRight f → AreRight g → is_of_name f ≡ true → is_of_name g ≡ true → is_named ≡ true
+      → (in_list : Bool) (number another : List ℕ)
+      → Tells (λ names. name.text.now ∷ []) (λ names. true) (number ≡ another) (f ≡ g)
+      (list_shown true (label_in in_list name) f (forest_shown tells true number f))
       (list_shown true (label_in in_list name) g (forest_shown tells true another g))
   text_told none g r w e h of_name in_list number another = absurd (cc)
   text_told (node kind called tag inside rest) g r w e h of_name in_list number another = absurd (cc)
@@ -168,7 +181,8 @@ module _ (tells : Role → List ℕ → Label → List ℕ → List Token → Li
   first_by true true f r small e in_list number = record { first = λ old new s. inr ((as_text f in_list number).first old new s) }
   first_by true false f r small e in_list number = record { first = λ old new s. to_either ((as_list f r small in_list number).first old new s) }
     where
-      to_either : {old new : List Token} → BeginsAs (openings (of_list ∷ []) name.text.now) old new → BeginsAs (openings (of_list ∷ of_leaf ∷ []) name.text.now) old new
+      to_either : {old new : List Token} → BeginsAs (openings (of_list ∷ []) name.text.now) old new
+          → BeginsAs (openings (of_list ∷ of_leaf ∷ []) name.text.now) old new
       to_either (inl h) = inl h
       to_either (inr h) = absurd h
   first_by false true f r small e in_list number = absurd (no_test (e refl))
@@ -181,7 +195,8 @@ module _ (tells : Role → List ℕ → Label → List ℕ → List Token → Li
       → Firsts (list_firsts is_named name.text.now) (list_shown (is_of_name f) (label_in in_list name) f (forest_shown tells true number f))
   list_first f r small in_list number = first_by is_named (is_of_name f) f r small (elements_name levels schema is name f r) in_list number
 
-  told_by : (a b : Bool) (f g : Forest) → is_of_name f ≡ a → is_of_name g ≡ b → AreRight f → AreRight g → AreSmall f → AreSmall g → (in_list : Bool) (number another : List ℕ)
+  told_by : (a b : Bool) (f g : Forest) → is_of_name f ≡ a → is_of_name g ≡ b → AreRight f → AreRight g → AreSmall f → AreSmall g
+      → (in_list : Bool) (number another : List ℕ)
       → Firsts (list_firsts is_named name.text.now) (list_shown a (label_in in_list name) f (forest_shown tells true number f))
       → Firsts (list_firsts is_named name.text.now) (list_shown b (label_in in_list name) g (forest_shown tells true another g))
       → Tells (λ names. names_of (list_firsts is_named name.text.now)) (λ names. true) (number ≡ another) (f ≡ g)
@@ -200,4 +215,5 @@ module _ (tells : Role → List ℕ → Label → List ℕ → List Token → Li
       (list_shown (is_of_name f) (label_in in_list name) f (forest_shown tells true number f))
       (list_shown (is_of_name g) (label_in in_list name) g (forest_shown tells true another g))
   either_told f g r w small little in_list number another =
-      told_by (is_of_name f) (is_of_name g) f g refl refl r w small little in_list number another (list_first f r small in_list number) (list_first g w little in_list another)
+      told_by (is_of_name f) (is_of_name g) f g refl refl r w small little in_list number another (list_first f r small in_list number)
+      (list_first g w little in_list another)

@@ -75,7 +75,8 @@ spaced_more before name (inr (rest, e)) = inr (rest ++ 32 ∷ name, ap (λ (l : 
 flags_spaced : (kind : Kind) (octets : List ℕ) (count : ℕ) (note : List ℕ) → AreFlags kind octets count note → IsSpaced note
 unfolding AreFlags
 flags_spaced kind octets zero note e = inl e
-flags_spaced kind octets (suc bit) note (before, h, inl (set, name, is, e)) = subst IsSpaced (sym e) (spaced_more before name (flags_spaced kind octets bit before h))
+flags_spaced kind octets (suc bit) note (before, h, inl (set, name, is, e)) =
+    subst IsSpaced (sym e) (spaced_more before name (flags_spaced kind octets bit before h))
 flags_spaced kind octets (suc bit) note (before, h, inr (clear, e)) = subst IsSpaced (sym e) (flags_spaced kind octets bit before h)
 
 spaced_beside : (note : List ℕ) → IsSpaced note → IsBeside (escaped style.Plain note)

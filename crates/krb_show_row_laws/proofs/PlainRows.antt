@@ -10,7 +10,7 @@ use Rattle.krb_schema.specs.declared.shape.Schema.{Schema}
 use Rattle.krb_schema.specs.declared.shape.Shape.{Shape}
 use Rattle.krb_schema.specs.declared.shape.Shape.TheVariants as shape
 use Rattle.krb_schema.specs.Forests.{Forest, none, leaf, node, beside, enc}
-use Rattle.krb_schema.specs.Shapes.{AreElements, AreFields, IsElement, IsHeld, IsShaped, list_node, part, no_fields, absent, wrapped, bare, no_elements, one_more, here, later, plain}
+use Rattle.krb_schema.specs.Shapes.{AreElements, AreFields, IsElement, IsHeld, IsShaped, called, list_node, part, no_fields, absent, wrapped, bare, no_elements, one_more, here, later, plain}
 use Rattle.krb_show_rows.specs.Items.{is_component}
 use Rattle.krb_show_row_laws.specs.Pages.{components, is_of_name}
 use Rattle.krb_show_row_laws.proofs.ListRows.{are_components, component_tag, elements_name, in_a_row}
@@ -59,10 +59,11 @@ module _ (R : ℕ → Name → List ℕ → Forest → Type 0) (plains : (is : �
   plain_fields fields before f (no_fields b) = tt
   plain_fields fields before f (absent fd fs b rest may other r) = plain_fields fs b rest r
   plain_fields fields before f (wrapped fd fs b t inside rest w first r p) = (plains fd.is fd.name b inside r, plain_fields fs (enc inside) rest p)
-  plain_fields fields before f (bare fd fs b element rest w starts r p) = plain_beside element rest (plains fd.is fd.name b element r) (plain_fields fs (enc element) rest p)
+  plain_fields fields before f (bare fd fs b element rest w starts r p) =
+      plain_beside element rest (plains fd.is fd.name b element r) (plain_fields fs (enc element) rest p)
 
   plain_held : (name : Name) (before content : List ℕ) (cs : List Case) (f : Forest) → IsHeld R name before content cs f → IsPlain f
-  plain_held name before content cs f (here c ds inside applies r e) = (plains c.is name [] inside r, tt)
+  plain_held name before content cs f (here c ds inside applies r e) = (plains c.is (called c name) [] inside r, tt)
   plain_held name before content cs f (later c ds element lacks r) = plain_held name before content ds element r
   plain_held name before content cs f plain = tt
 
@@ -78,7 +79,8 @@ shaped_plain levels schema plains (shape.Tagged tag is) name before f v = subst 
 shaped_plain levels schema plains (shape.Sequence tag start count) name before f v =
     subst IsPlain (sym v.3) (plain_fields (IsElement levels schema) plains (part start count schema.fields.now) [] v.0 v.2, tt)
 shaped_plain levels schema plains (shape.SequenceOf tag is filled) name before f v =
-    subst IsPlain (sym v.2) (plain_list filled name tag v.0 (either (is_of_name v.0) components_all (plain_elements (IsElement levels schema) plains is name v.0 v.1)))
+    subst IsPlain (sym v.2) (plain_list filled name tag v.0 (either (is_of_name v.0) components_all
+    (plain_elements (IsElement levels schema) plains is name v.0 v.1)))
   where
     components_all : is_of_name v.0 ≡ true → AllComponents v.0
     components_all e =

@@ -1,15 +1,17 @@
 -- Structs and lists: what stands between a first line and the end.
-use Rattle.std.proofs.Common.{◌≡◌, ℕ, ◌+◌, ◌-◌, Bool, true, refl, sym, ap, subst, ◌∙◌, List, [], ◌∷◌, ◌++◌, arith}
+use Rattle.std.proofs.Common.{◌≡◌, ℕ, ◌+◌, ◌-◌, Bool, true, refl, sym, ap, subst, ◌∙◌, List, [], ◌∷◌, ◌++◌, length, arith}
 use Rattle.std.proofs.lemmas.List.{append_assoc, append-nil}
+use Rattle.std.specs.List.{AllByRecursion}
+use Rattle.std.specs.Fmt.{decimal}
 use Rattle.krb_show.specs.declared.token.Form.TheVariants as form
 use Rattle.krb_show.specs.Text.{line, page_lines, value_text}
-use Rattle.krb_show.specs.Tokens.{Label, Token, adds, leaf, mark}
-use Rattle.krb_show.specs.Pages.{◌then◌, struct_of}
+use Rattle.krb_show.specs.Tokens.{Label, Token, adds, item_of, leaf, mark}
+use Rattle.krb_show.specs.Pages.{◌then◌, each_of, list_of, struct_of}
 use Rattle.krb_show_row_laws.specs.Telling.{Stops, is_name_octet, is_name}
 use Rattle.krb_show_row_laws.proofs.SplitLaws.{tail}
-use Rattle.krb_show_row_laws.specs.Blocks.{depth_behind, Follow, IsBlock, Blocks, HasHead, Heads, Tells, IsStruct, IsList}
+use Rattle.krb_show_row_laws.specs.Blocks.{depth_behind, is_apart, Follow, IsBlock, Adds, Blocks, HasHead, Heads, Tells, TellsValues, IsStruct, IsList}
 use Rattle.krb_show_row_laws.proofs.BlockLaws.{lines_append, depth_append, head_blocks, follow_deeper}
-use Rattle.krb_show_row_laws.proofs.FieldLaws.{same_added}
+use Rattle.krb_show_row_laws.proofs.FieldLaws.{both_blocks, then_by, tells_so, not_first, nothing_added, same_added, one_among, empty_block}
 
 -- a first line that what follows is further in than
 pub record Opens (n : List ℕ) (V : List ℕ → Type 0) (t : Token) : Type 0 where
@@ -47,14 +49,17 @@ inside f begin end inner p old new (first, e, (last, h, g)) =
       block = b.2;
     }
 
-inner_lines : (f : List (List ℕ) → List (List ℕ)) (n : List ℕ) (V : List ℕ → Type 0) (begin end : Token) → Opens n V begin → Closes end → (ts : List Token) → IsBlock f ts → (d : ℕ)
+inner_lines : (f : List (List ℕ) → List (List ℕ)) (n : List ℕ) (V : List ℕ → Type 0) (begin end : Token) → Opens n V begin → Closes end → (ts : List Token)
+    → IsBlock f ts → (d : ℕ)
     → page_lines d (begin ∷ (ts ++ end ∷ [])) ≡ line d begin ∷ page_lines (d + 1) ts
 inner_lines f n V begin end p q ts b d =
     p.lines d (ts ++ end ∷ [])
     ∙ ap (λ (ls : List (List ℕ)). line d begin ∷ ls)
-    (lines_append (d + 1) ts (end ∷ []) ∙ ap (λ (ls : List (List ℕ)). page_lines (d + 1) ts ++ ls) (q.lines (depth_behind (d + 1) ts)) ∙ append-nil (page_lines (d + 1) ts))
+    (lines_append (d + 1) ts (end ∷ []) ∙ ap (λ (ls : List (List ℕ)). page_lines (d + 1) ts ++ ls) (q.lines (depth_behind (d + 1) ts))
+    ∙ append-nil (page_lines (d + 1) ts))
 
-inner_level : (f : List (List ℕ) → List (List ℕ)) (n : List ℕ) (V : List ℕ → Type 0) (begin end : Token) → Opens n V begin → Closes end → (ts : List Token) → IsBlock f ts → (d : ℕ)
+inner_level : (f : List (List ℕ) → List (List ℕ)) (n : List ℕ) (V : List ℕ → Type 0) (begin end : Token) → Opens n V begin → Closes end → (ts : List Token)
+    → IsBlock f ts → (d : ℕ)
     → depth_behind d (begin ∷ (ts ++ end ∷ [])) ≡ d
 inner_level f n V begin end p q ts b d =
     p.behind d (ts ++ end ∷ []) ∙ depth_append (d + 1) ts (end ∷ []) ∙ ap (λ e. depth_behind e (end ∷ [])) (b.level (d + 1)) ∙ q.behind d
@@ -130,3 +135,112 @@ opens_list label count = record { named = refl; heading = (_, refl); ends = refl
 
 pub closes_list : (label : Label) → Closes (mark form.ListEnd label)
 closes_list label = record { lines = λ d. refl; behind = one_less }
+
+-- more names may be first
+pub blocks_wider : {f g : List (List ℕ) → List (List ℕ)} {a : List Token → List Token → Type 0}
+    → ((names : List (List ℕ)) (d : ℕ) (ls : List (List ℕ)) → Follow (f names) d ls → Follow (g names) d ls) → Blocks f a → Blocks g a
+blocks_wider {f} {g} {a} w b = record { block = block }
+  where
+    block : (old new : List Token) → a old new → Adds g old new
+    block old new h =
+        let k = b.block old new h in
+        (k.0, k.1, record { level = k.2.level; starts = λ names d rest m. w names d (page_lines d k.0 ++ rest) (k.2.starts names d rest m) })
+
+pub tells_wider : {f g : List (List ℕ) → List (List ℕ)} {fit : List (List ℕ) → Bool} {H P : Type 0} {a b : List Token → List Token → Type 0}
+    → ((names : List (List ℕ)) (d : ℕ) (ls : List (List ℕ)) → Follow (f names) d ls → Follow (g names) d ls) → Tells f fit H P a b → Tells g fit H P a b
+tells_wider w t = record { left = blocks_wider w t.left; right = blocks_wider w t.right; tells = t.tells }
+
+-- the first line of the one is that of both
+then_heads : {f : List (List ℕ) → List (List ℕ)} (n : List ℕ) (V : List ℕ → Type 0) (a b : List Token → List Token → Type 0) → Heads n V a → Blocks f b
+    → Heads n V (a then b)
+then_heads {f} n V a b p q = record { head = head }
+  where
+    head : (old new : List Token) → (a then b) old new → HasHead n V old new
+    head old new (between, h, k) =
+        let one = p.head old between h in
+        let two = q.block between new k in
+        let lines = λ (d : ℕ). lines_append d (one.token ∷ one.rest) two.0
+        ∙ ap (λ (ls : List (List ℕ)). ls ++ page_lines (depth_behind d (one.token ∷ one.rest)) two.0) (one.lines d).1 in
+        record {
+          token = one.token;
+          rest = one.rest ++ two.0;
+          added = two.1 ∙ ap (λ (l : List Token). l ++ two.0) one.added ∙ append_assoc old (one.token ∷ one.rest) two.0;
+          named = one.named;
+          ends = one.ends;
+          value = one.value;
+          lines = λ d. (_, lines d);
+          level = λ d. depth_append d (one.token ∷ one.rest) two.0 ∙ ap (λ e. depth_behind e two.0) (one.level d) ∙ two.2.level d;
+        }
+
+each_blocks : {A : Type 0} (n : List ℕ) (V : List ℕ → Type 0) (is_value : A → Type 0) (shows : A → List Token → List Token → Type 0) → is_name n ≡ true
+    → ((v : A) → is_value v → Heads n V (shows v)) → (vs : List A) → AllByRecursion is_value vs → Blocks (λ names. n ∷ names) (each_of shows vs)
+each_blocks n V is_value shows name p [] h = record { block = λ old new e. ([], e ∙ sym (append-nil old), empty_block n) }
+each_blocks n V is_value shows name p (v ∷ vs) h =
+    blocks_wider {f = λ names. n ∷ []} {g = λ names. n ∷ names} (λ names d ls. one_among n names d ls)
+    (both_blocks (head_blocks n V (shows v) name (p v h.0)) (each_blocks n V is_value shows name p vs h.1))
+
+-- items under one name, up to a line that is not under it
+tells_each : {A : Type 0} {is_value : A → Type 0} {V : List ℕ → Type 0} {shows : Label → A → List Token → List Token → Type 0}
+    → TellsValues is_value V shows → (label : Label) → is_name label.text ≡ true → (vs ws : List A) → AllByRecursion is_value vs → AllByRecursion is_value ws
+    → Tells (λ names. label.text ∷ names) (λ names. is_apart label.text names) (Unit {0}) (vs ≡ ws) (each_of (shows label) vs) (each_of (shows label) ws)
+tells_each {A} {is_value} {V} {shows} t label name [] [] h k = record {
+  left = each_blocks label.text V is_value (shows label) name (λ v i. t.heads label v name i) [] h;
+  right = each_blocks label.text V is_value (shows label) name (λ v i. t.heads label v name i) [] k;
+  tells = λ old before ts us a b known names d rest following fit m n same. (
+    refl,
+    sym (ap (λ (l : List Token). page_lines d l ++ rest) (nothing_added old ts a)) ∙ same
+        ∙ ap (λ (l : List Token). page_lines d l ++ following) (nothing_added before us b),
+  );
+}
+tells_each {A} {is_value} {V} {shows} t label name [] (w ∷ ws) h k =
+    let blocks = each_blocks label.text V is_value (shows label) name (λ v i. t.heads label v name i) in
+    let heads = then_heads label.text V (shows label w) (each_of (shows label) ws) (t.heads label w name k.0) (blocks ws k.1) in
+    record {
+      left = blocks [] h;
+      right = blocks (w ∷ ws) k;
+      tells = λ old before ts us a b known names d rest following fit m n same.
+          absurd (not_first label.text V (each_of (shows label) (w ∷ ws)) name heads before us b names d rest following fit m
+          (sym (ap (λ (l : List Token). page_lines d l ++ rest) (nothing_added old ts a)) ∙ same));
+    }
+tells_each {A} {is_value} {V} {shows} t label name (v ∷ vs) [] h k =
+    let blocks = each_blocks label.text V is_value (shows label) name (λ v i. t.heads label v name i) in
+    let heads = then_heads label.text V (shows label v) (each_of (shows label) vs) (t.heads label v name h.0) (blocks vs h.1) in
+    record {
+      left = blocks (v ∷ vs) h;
+      right = blocks [] k;
+      tells = λ old before ts us a b known names d rest following fit m n same.
+          absurd (not_first label.text V (each_of (shows label) (v ∷ vs)) name heads old ts a names d following rest fit n
+          (sym (ap (λ (l : List Token). page_lines d l ++ following) (nothing_added before us b)) ∙ sym same));
+    }
+tells_each {A} {is_value} {V} {shows} t label name (v ∷ vs) (w ∷ ws) h k =
+    let both = then_by (λ u p. u) (t.tells label v w name h.0 k.0) (tells_each t label name vs ws h.1 k.1) in
+    tells_wider {f = λ names. label.text ∷ []} {g = λ names. label.text ∷ names} (λ names d ls. one_among label.text names d ls)
+    (tells_so (λ u. u) (λ p. ap (λ x. x ∷ vs) p.0 ∙ ap (λ (xs : List A). w ∷ xs) p.1) both)
+
+pub list_heads : {A : Type 0} {is_value : A → Type 0} {V : List ℕ → Type 0} {shows : Label → A → List Token → List Token → Type 0}
+    → TellsValues is_value V shows → (label : Label) → is_name label.text ≡ true → (vs : List A) → AllByRecursion is_value vs
+    → Heads label.text IsList (list_of shows label vs)
+list_heads {A} {is_value} {V} {shows} t label name vs h =
+    enclosed_heads label.text IsList (leaf form.List label (decimal (length vs))) (mark form.ListEnd label) (opens_list label (decimal (length vs)))
+    (closes_list label)
+    (each_blocks label.text V is_value (shows (item_of label)) name (λ v i. t.heads (item_of label) v name i) vs h)
+
+-- a list tells its items
+pub tells_list : {A : Type 0} {is_value : A → Type 0} {V : List ℕ → Type 0} {shows : Label → A → List Token → List Token → Type 0}
+    → TellsValues is_value V shows → TellsValues (AllByRecursion is_value) IsList (list_of shows)
+tells_list {A} {is_value} {V} {shows} t = record {
+  heads = λ label vs name h. list_heads t label name vs h;
+  tells = λ label vs ws name h k. tells_enclosed label.text IsList (leaf form.List label (decimal (length vs))) (mark form.ListEnd label)
+      (leaf form.List label (decimal (length ws))) (mark form.ListEnd label) name (opens_list label (decimal (length vs))) (closes_list label)
+      (opens_list label (decimal (length ws))) (closes_list label) (tells_each t (item_of label) name vs ws h k) refl;
+}
+
+-- values that are shown as structs, each told by its fields
+pub tells_structs : {A : Type 0} {is_value : A → Type 0} {f : List (List ℕ) → List (List ℕ)} {fit : List (List ℕ) → Bool} {P : A → A → Type 0}
+    {fields : A → List Token → List Token → Type 0}
+    → ((v w : A) → is_value v → is_value w → Tells f fit (Unit {0}) (P v w) (fields v) (fields w)) → fit [] ≡ true → ((v w : A) → P v w → v ≡ w)
+    → TellsValues is_value IsStruct (λ label v. struct_of label (fields v))
+tells_structs each is_fit one = record {
+  heads = λ label v name h. struct_heads label (each v v h h).left;
+  tells = λ label v w name h k. tells_so (λ u. u) (λ p. one v w p) (tells_struct label name (each v w h k) is_fit);
+}

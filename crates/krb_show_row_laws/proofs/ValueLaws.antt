@@ -104,9 +104,11 @@ one_escaped (x ∷ xs) [] h k e =
     absurd (no_end x (escaped_octet style.Quoted x) (escaped style.Quoted xs ++ 34 ∷ []) [] (quoted_as x)
     (sym (append_assoc (escaped_octet style.Quoted x) (escaped style.Quoted xs) (34 ∷ [])) ∙ e))
 one_escaped (x ∷ xs) (y ∷ ys) h k e =
-    let first = one_quoted x y (escaped_octet style.Quoted x) (escaped_octet style.Quoted y) (escaped style.Quoted xs ++ 34 ∷ []) (escaped style.Quoted ys ++ 34 ∷ [])
+    let first = one_quoted x y (escaped_octet style.Quoted x) (escaped_octet style.Quoted y) (escaped style.Quoted xs ++ 34 ∷ [])
+    (escaped style.Quoted ys ++ 34 ∷ [])
     (h 0) (k 0) (quoted_as x) (quoted_as y)
-    (sym (append_assoc (escaped_octet style.Quoted x) (escaped style.Quoted xs) (34 ∷ [])) ∙ e ∙ append_assoc (escaped_octet style.Quoted y) (escaped style.Quoted ys) (34 ∷ [])) in
+    (sym (append_assoc (escaped_octet style.Quoted x) (escaped style.Quoted xs) (34 ∷ [])) ∙ e
+    ∙ append_assoc (escaped_octet style.Quoted y) (escaped style.Quoted ys) (34 ∷ [])) in
     ap (λ z. z ∷ xs) first.0 ∙ ap (λ (l : List ℕ). y ∷ l) (one_escaped xs ys (λ i. h (suc i)) (λ i. k (suc i)) first.1)
 
 pub one_text : (xs ys : List ℕ) → IsOctets xs → IsOctets ys → quoted style.Quoted xs ≡ quoted style.Quoted ys → xs ≡ ys
@@ -178,7 +180,8 @@ two_is_word n h =
     and_both (is_word_octet (digit (n / 10))) (all_of is_word_octet (digit (n % 10) ∷ [])) (digit_is_octet (n / 10) (omega arith))
     (and_both (is_word_octet (digit (n % 10))) true (digit_is_octet (n % 10) (omega arith)) refl)
 
-marked_is_word : (before : List ℕ) (mark n : ℕ) → all_of is_word_octet before ≡ true → is_word_octet mark ≡ true → n < 100 → all_of is_word_octet (before ++ mark ∷ two n) ≡ true
+marked_is_word : (before : List ℕ) (mark n : ℕ) → all_of is_word_octet before ≡ true → is_word_octet mark ≡ true → n < 100
+    → all_of is_word_octet (before ++ mark ∷ two n) ≡ true
 marked_is_word before mark n h k small =
     all_append is_word_octet before (mark ∷ two n) h (and_both (is_word_octet mark) (all_of is_word_octet (two n)) k (two_is_word n small))
 
@@ -186,13 +189,18 @@ pub time_is_word : (t : Time) → IsRealTime t → all_of is_word_octet (time_wo
 time_is_word t p =
     let months = month_bound t.year t.month t.day p.0 in
     let days = day_bound t.year t.month t.day p.0 in
-    let years = all_append is_word_octet (two (t.year / 100)) (two (t.year % 100)) (two_is_word (t.year / 100) (omega (arith, p.0.0))) (two_is_word (t.year % 100) (omega arith)) in
+    let years = all_append is_word_octet (two (t.year / 100)) (two (t.year % 100)) (two_is_word (t.year / 100) (omega (arith, p.0.0)))
+    (two_is_word (t.year % 100) (omega arith)) in
     let with_month = marked_is_word (two (t.year / 100) ++ two (t.year % 100)) 45 t.month years refl (omega (arith, months)) in
     let with_day = marked_is_word (two (t.year / 100) ++ two (t.year % 100) ++ 45 ∷ two t.month) 45 t.day with_month refl (omega (arith, days)) in
-    let with_hour = marked_is_word (two (t.year / 100) ++ two (t.year % 100) ++ 45 ∷ two t.month ++ 45 ∷ two t.day) 84 t.hour with_day refl (omega (arith, p.1.0)) in
-    let with_minute = marked_is_word (two (t.year / 100) ++ two (t.year % 100) ++ 45 ∷ two t.month ++ 45 ∷ two t.day ++ 84 ∷ two t.hour) 58 t.minute with_hour refl (omega (arith, p.1.1)) in
-    let with_second = marked_is_word (two (t.year / 100) ++ two (t.year % 100) ++ 45 ∷ two t.month ++ 45 ∷ two t.day ++ 84 ∷ two t.hour ++ 58 ∷ two t.minute) 58 t.second with_minute refl (omega (arith, p.1.2)) in
-    all_append is_word_octet (two (t.year / 100) ++ two (t.year % 100) ++ 45 ∷ two t.month ++ 45 ∷ two t.day ++ 84 ∷ two t.hour ++ 58 ∷ two t.minute ++ 58 ∷ two t.second) (90 ∷ []) with_second refl
+    let with_hour = marked_is_word (two (t.year / 100) ++ two (t.year % 100) ++ 45 ∷ two t.month ++ 45 ∷ two t.day) 84 t.hour with_day refl
+    (omega (arith, p.1.0)) in
+    let with_minute = marked_is_word (two (t.year / 100) ++ two (t.year % 100) ++ 45 ∷ two t.month ++ 45 ∷ two t.day ++ 84 ∷ two t.hour) 58 t.minute with_hour
+    refl (omega (arith, p.1.1)) in
+    let with_second = marked_is_word (two (t.year / 100) ++ two (t.year % 100) ++ 45 ∷ two t.month ++ 45 ∷ two t.day ++ 84 ∷ two t.hour ++ 58 ∷ two t.minute) 58
+    t.second with_minute refl (omega (arith, p.1.2)) in
+    all_append is_word_octet (two (t.year / 100) ++ two (t.year % 100) ++ 45 ∷ two t.month ++ 45 ∷ two t.day ++ 84 ∷ two t.hour ++ 58 ∷ two t.minute ++ 58 ∷ two
+    t.second) (90 ∷ []) with_second refl
 
 -- ---- flags
 

@@ -29,7 +29,8 @@ of_other false h = refl
 pub plain_itself : (xs : List ℕ) → all_of is_printable xs ≡ true → escaped style.Plain xs ≡ xs
 plain_itself [] h = refl
 plain_itself (x ∷ xs) h =
-    ap (λ (l : List ℕ). l ++ escaped style.Plain xs) (chosen (is_printable x) (x ∷ []) (codes "\\x" ++ hex_octet x) (and_left (is_printable x) (all_of is_printable xs) h))
+    ap (λ (l : List ℕ). l ++ escaped style.Plain xs) (chosen (is_printable x) (x ∷ []) (codes "\\x" ++ hex_octet x)
+    (and_left (is_printable x) (all_of is_printable xs) h))
     ∙ ap (λ (l : List ℕ). x ∷ l) (plain_itself xs (and_right (is_printable x) (all_of is_printable xs) h))
 
 three_of_four : (a b c d : Bool) → ((a || b) || c) || d ≡ false → (a || b) || d ≡ false
@@ -40,10 +41,12 @@ three_of_four false false false d h = h
 
 name_octet_itself : (x : ℕ) → is_name_octet x ≡ true → escaped_octet style.Name x ≡ x ∷ []
 name_octet_itself x h =
-    let special = of_other (((nat_eq x 32 || nat_eq x 58) || nat_eq x 91) || nat_eq x 92) (and_right (is_printable x) (other_than (((nat_eq x 32 || nat_eq x 58) || nat_eq x 91) || nat_eq x 92)) h) in
+    let special = of_other (((nat_eq x 32 || nat_eq x 58) || nat_eq x 91) || nat_eq x 92)
+    (and_right (is_printable x) (other_than (((nat_eq x 32 || nat_eq x 58) || nat_eq x 91) || nat_eq x 92)) h) in
     other ((nat_eq x 32 || nat_eq x 58) || nat_eq x 92) (codes "\\x" ++ hex_octet x) (itself_or (codes "\\x") x)
     (three_of_four (nat_eq x 32) (nat_eq x 58) (nat_eq x 91) (nat_eq x 92) special)
-    ∙ chosen (is_printable x) (x ∷ []) (codes "\\x" ++ hex_octet x) (and_left (is_printable x) (other_than (((nat_eq x 32 || nat_eq x 58) || nat_eq x 91) || nat_eq x 92)) h)
+    ∙ chosen (is_printable x) (x ∷ []) (codes "\\x" ++ hex_octet x) (and_left (is_printable x)
+    (other_than (((nat_eq x 32 || nat_eq x 58) || nat_eq x 91) || nat_eq x 92)) h)
 
 names_itself : (xs : List ℕ) → all_of is_name_octet xs ≡ true → escaped style.Name xs ≡ xs
 names_itself [] h = refl
@@ -145,7 +148,8 @@ octets_parts xs = append_assoc (decimal (length xs)) (codes " octets") (spaced_h
 
 pub one_octets : (xs ys : List ℕ) → IsOctets xs → IsOctets ys → octets_text xs ≡ octets_text ys → xs ≡ ys
 one_octets xs ys h k e =
-    let parts = one_word (decimal (length xs)) (decimal (length ys)) (octets_rest xs) (octets_rest ys) (decimal_word (length xs)) (decimal_word (length ys)) refl refl
+    let parts = one_word (decimal (length xs)) (decimal (length ys)) (octets_rest xs) (octets_rest ys) (decimal_word (length xs)) (decimal_word (length ys))
+    refl refl
     (sym (octets_parts xs) ∙ e ∙ octets_parts ys) in
     one_spaced xs ys h k (append_cancel_left (codes " octets") (spaced_hex xs) (spaced_hex ys) parts.1)
 

@@ -1,5 +1,6 @@
 -- How the lines of an element may begin.
-use Rattle.std.specs.Prelude.{◌≡◌, ◌⊎◌, ℕ, Bool, true, false, ◌&&◌, ◌||◌, List, [], ◌∷◌}
+use Rattle.std.specs.Prelude.{◌≡◌, ◌⊎◌, ℕ, Bool, true, false, ◌&&◌, ◌||◌, List, [], ◌∷◌, Option}
+use Rattle.krb_schema.specs.declared.shape.Role.{Role}
 use Rattle.krb_show.specs.Tokens.{Token}
 use Rattle.krb_show_row_laws.specs.Telling.{is_name, other_than}
 use Rattle.krb_show_row_laws.specs.Blocks.{HasHead, IsLeaf, IsList, IsStruct, is_apart, same_octets}
@@ -9,6 +10,10 @@ pub data Opening : Type 0 where
   of_struct : Opening
   of_list : Opening
   of_leaf : Opening
+
+-- how octets of formats that are no DER may begin: for what they are to a program, behind an INTEGER of this content, or behind any
+abbrev pub Kinds : Type 0
+Kinds = Role → Option (List ℕ) → List Opening
 
 -- what stands there behind the name
 abbrev pub Behind : Opening → List ℕ → Type 0

@@ -6,3 +6,5 @@ pub mod Tests
 pub mod Formats
 pub mod Kerberos
 pub mod Laws
+pub mod KerberosFormats
+pub mod Texts

@@ -67,6 +67,8 @@ module _ (tells : Role → List ℕ → Label → List ℕ → List Token → Li
   forest_shown in_list number (node nodes.Struct name tag inside rest) old new =
       (struct_of (label_in in_list name) (forest_shown false number inside) then forest_shown in_list (behind inside number) rest) old new
   forest_shown in_list number (node nodes.List name tag inside rest) old new =
-      (list_shown (is_of_name inside) (label_in in_list name) inside (forest_shown true number inside) then forest_shown in_list (behind inside number) rest) old new
+      (list_shown (is_of_name inside) (label_in in_list name) inside (forest_shown true number inside) then forest_shown in_list (behind inside number) rest)
+      old new
   forest_shown in_list number (node nodes.FilledList name tag inside rest) old new =
-      (list_shown (is_of_name inside) (label_in in_list name) inside (forest_shown true number inside) then forest_shown in_list (behind inside number) rest) old new
+      (list_shown (is_of_name inside) (label_in in_list name) inside (forest_shown true number inside) then forest_shown in_list (behind inside number) rest)
+      old new

@@ -1,9 +1,8 @@
 -- A test of a table of types: whether the lines of each row's elements are told apart.
-use Rattle.std.specs.Prelude.{ℕ, zero, suc, nat_eq, if◌then◌else◌, Bool, true, false, ◌&&◌, ◌||◌, List, [], ◌∷◌, ◌++◌, Option, None, Some}
+use Rattle.std.specs.Prelude.{ℕ, zero, suc, nat_eq, nat_lt, if◌then◌else◌, Bool, true, false, ◌&&◌, ◌||◌, List, [], ◌∷◌, ◌++◌, Option, None, Some}
 use Rattle.std.specs.List.{slice_get}
 use Rattle.krb_registry.specs.declared.kind.Kind.{Kind}
 use Rattle.krb_schema.specs.declared.item.Form.TheVariants as form
-use Rattle.krb_schema.specs.declared.shape.Case.{Case}
 use Rattle.krb_schema.specs.declared.shape.Leaf.{Leaf}
 use Rattle.krb_schema.specs.declared.shape.Leaf.TheVariants as leaves
 use Rattle.krb_schema.specs.declared.shape.Role.{Role}
@@ -13,33 +12,33 @@ use Rattle.krb_schema.specs.declared.shape.Shape.TheVariants as shape
 use Rattle.krb_schema.specs.Shapes.{part}
 use Rattle.krb_show_rows.specs.Items.{is_component}
 use Rattle.krb_show_row_laws.specs.Telling.{is_name, other_than}
-use Rattle.krb_show_row_laws.specs.Firsts.{First, Opening, apart_firsts, are_apart, names_of, of_leaf, of_list, of_struct, openings}
+use Rattle.krb_show_row_laws.specs.Firsts.{First, Kinds, apart_firsts, are_apart, names_of, of_leaf, of_list, of_struct, openings}
 
 -- a field: its first octet, whether this is an explicit tag, whether it is optional, its name, its registry, its role and its row
 abbrev pub FieldRow : Type 0
 FieldRow = Option ℕ × Bool × Bool × List ℕ × Option Kind × Role × ℕ
 
--- a case: the INTEGER that it stands behind, the name and the role of what it holds where these are of its own, and its row
+-- what a case holds is called, where this is of its own: its name, its registry and its role
+abbrev pub OwnName : Type 0
+OwnName = Option (List ℕ × Option Kind × Role)
+
+-- a case: the INTEGER that it stands behind, the name of its own, and its row
 abbrev pub CaseRow : Type 0
-CaseRow = Option ℕ × Option (List ℕ × Role) × ℕ
+CaseRow = Option ℕ × OwnName × ℕ
 
--- what a case holds is called as the OCTET STRING that holds it
-abbrev pub case_row : Case → CaseRow
-case_row c = (c.behind, None, c.is)
-
-abbrev pub own_text : Option (List ℕ × Role) → List ℕ → List ℕ
+abbrev pub own_text : OwnName → List ℕ → List ℕ
 own_text None name = name
 own_text (Some own) name = own.0
 
-abbrev pub own_role : Option (List ℕ × Role) → Role → Role
+abbrev pub own_role : OwnName → Role → Role
 own_role None role = role
-own_role (Some own) role = own.1
+own_role (Some own) role = own.2
 
-abbrev pub is_own : Option (List ℕ × Role) → Bool
+abbrev pub is_own : OwnName → Bool
 is_own None = false
 is_own (Some own) = true
 
-abbrev pub own_is_name : Option (List ℕ × Role) → Bool
+abbrev pub own_is_name : OwnName → Bool
 own_is_name None = true
 own_is_name (Some own) = is_name own.0
 
@@ -72,17 +71,35 @@ is_number (Some (shape.Leaf tag (leaves.Number n))) = true
 is_number (Some (shape.Leaf tag leaves.Microseconds)) = true
 is_number other = false
 
--- how octets and other leaves begin, where octets of formats that are no DER begin so
-abbrev pub octets_kinds : (Role → List Opening) → Role → List Opening
-octets_kinds kinds roles.None = of_leaf ∷ []
-octets_kinds kinds role = kinds role
+-- elements of this shape are INTEGERs of which the number is that stands last
+abbrev pub is_integer : Option Shape → Bool
+is_integer (Some (shape.Leaf tag leaves.Integer)) = true
+is_integer other = false
 
-abbrev pub leaf_firsts : (Role → List Opening) → Leaf → List ℕ → Role → List First
-leaf_firsts kinds leaves.Octets name role = openings (octets_kinds kinds role) name
+-- the content of the INTEGER of a number below 256 (X.690, 8.3)
+abbrev pub number_content : ℕ → List ℕ
+number_content n = if nat_lt n 128 then n ∷ [] else 0 ∷ n ∷ []
+
+-- the number that stands last where a case applies, if it is that of the field before
+abbrev pub known_number : Bool → Option ℕ → Option (List ℕ)
+known_number false behind = None
+known_number true None = None
+known_number true (Some n) = Some (number_content n)
+
+-- how octets and other leaves begin, where octets of formats that are no DER begin so
+abbrev pub octets_kinds : Kinds → Kinds
+octets_kinds kinds roles.None number = of_leaf ∷ []
+octets_kinds kinds role number = kinds role number
+
+abbrev pub octets_firsts : Kinds → Option (List ℕ) → List ℕ → Role → List First
+octets_firsts kinds number name role = openings (octets_kinds kinds role number) name
+
+abbrev pub leaf_firsts : Kinds → Leaf → List ℕ → Role → List First
+leaf_firsts kinds leaves.Octets name role = octets_firsts kinds None name role
 leaf_firsts kinds kind name role = openings (of_leaf ∷ []) name
 
 -- how octets of formats that are no DER begin; the rows that are asked for; how many levels first lines are looked for; and the table
-module _ (kinds : Role → List Opening) (covers : ℕ → Bool) (deep : ℕ) (shapes : List Shape) (fields : List FieldRow) (cases : List CaseRow) where
+module _ (kinds : Kinds) (covers : ℕ → Bool) (deep : ℕ) (shapes : List Shape) (fields : List FieldRow) (cases : List CaseRow) where
   -- ---- first lines
 
   abbrev pub held_firsts : (ℕ → List ℕ → Role → List First) → List CaseRow → List ℕ → Role → List First
@@ -156,44 +173,50 @@ module _ (kinds : Role → List Opening) (covers : ℕ → Bool) (deep : ℕ) (s
       ((other_than (is_own c.1) && other_than (is_own d.1)) && apart_sequences (sequence n c.2) (sequence n d.2))
       || apart_firsts (case_firsts n c name role) (case_firsts n d name role)
 
-  -- what a case holds is told from what the others hold, and from plain octets
-  abbrev pub apart_cases : ℕ → CaseRow → List CaseRow → List ℕ → Role → Bool
-  apart_cases n c [] name role = apart_firsts (case_firsts n c name role) (leaf_firsts kinds leaves.Octets name role)
-  apart_cases n c (d ∷ ds) name role = (never_both c.0 d.0 || apart_rows n c d name role) && apart_cases n c ds name role
+  -- What a case holds is told from what the others hold, and from plain octets behind the same number: which this is, is known where the number that
+  -- stands last is that of the field before (`linked`).
+  abbrev pub apart_cases : ℕ → Bool → CaseRow → List CaseRow → List ℕ → Role → Bool
+  apart_cases n linked c [] name role = apart_firsts (case_firsts n c name role) (octets_firsts kinds (known_number linked c.0) name role)
+  apart_cases n linked c (d ∷ ds) name role = (never_both c.0 d.0 || apart_rows n c d name role) && apart_cases n linked c ds name role
 
   abbrev pub case_fits : (ℕ → List ℕ → Role → Bool) → CaseRow → List ℕ → Role → Bool
   case_fits inner c name role = own_is_name c.1 && inner c.2 (own_text c.1 name) (own_role c.1 role)
 
-  abbrev pub held_fits : (ℕ → List ℕ → Role → Bool) → ℕ → List CaseRow → List ℕ → Role → Bool
-  held_fits inner n [] name role = true
-  held_fits inner n (c ∷ cs) name role = case_fits inner c name role && (apart_cases n c cs name role && held_fits inner n cs name role)
+  abbrev pub held_fits : (ℕ → List ℕ → Role → Bool) → ℕ → Bool → List CaseRow → List ℕ → Role → Bool
+  held_fits inner n linked [] name role = true
+  held_fits inner n linked (c ∷ cs) name role = case_fits inner c name role && (apart_cases n linked c cs name role && held_fits inner n linked cs name role)
 
-  abbrev pub shape_fits : (ℕ → List ℕ → Role → Bool) → ℕ → Shape → List ℕ → Role → Bool
-  shape_fits inner n (shape.Tagged tag is) name role = inner is name role
-  shape_fits inner n (shape.SequenceOf tag is filled) name role = inner is name role
-  shape_fits inner n (shape.Holding start count) name role = held_fits inner n (part start count cases) name role
-  shape_fits inner n other name role = true
+  -- no field stands before what is in a list or in an OCTET STRING
+  abbrev pub shape_fits : (Bool → ℕ → List ℕ → Role → Bool) → ℕ → Bool → Shape → List ℕ → Role → Bool
+  shape_fits inner n linked (shape.Tagged tag is) name role = inner linked is name role
+  shape_fits inner n linked (shape.SequenceOf tag is filled) name role = inner true is name role
+  shape_fits inner n linked (shape.Holding start count) name role = held_fits (inner true) n linked (part start count cases) name role
+  shape_fits inner n linked other name role = true
 
-  abbrev pub option_fits : (ℕ → List ℕ → Role → Bool) → ℕ → Option Shape → List ℕ → Role → Bool
-  option_fits inner n None name role = true
-  option_fits inner n (Some s) name role = shape_fits inner n s name role
+  abbrev pub option_fits : (Bool → ℕ → List ℕ → Role → Bool) → ℕ → Bool → Option Shape → List ℕ → Role → Bool
+  option_fits inner n linked None name role = true
+  option_fits inner n linked (Some s) name role = shape_fits inner n linked s name role
 
   -- elements of this row, which are called so, are told apart, if the fields of each SEQUENCE are
-  abbrev pub fits : ℕ → ℕ → List ℕ → Role → Bool
-  fits zero is name role = true
-  fits (suc n) is name role = covers is && option_fits (fits n) n (slice_get shapes is) name role
+  abbrev pub fits : ℕ → Bool → ℕ → List ℕ → Role → Bool
+  fits zero linked is name role = true
+  fits (suc n) linked is name role = covers is && option_fits (fits n) n linked (slice_get shapes is) name role
 
   -- ---- the table
 
-  abbrev pub field_fits : FieldRow → Bool
-  field_fits x = is_name x.3 && (is_tagged x.1 x.0 && fits deep x.6 x.3 x.5)
+  -- the number that stands last is that of the field before, behind this field
+  abbrev pub linked_behind : Bool → FieldRow → Bool
+  linked_behind linked x = is_integer (slice_get shapes x.6) && (if x.2 then linked else true)
 
-  abbrev pub all_fit : List FieldRow → Bool
-  all_fit [] = true
-  all_fit (x ∷ xs) = field_fits x && all_fit xs
+  abbrev pub field_fits : Bool → FieldRow → Bool
+  field_fits linked x = is_name x.3 && (is_tagged x.1 x.0 && fits deep linked x.6 x.3 x.5)
+
+  abbrev pub all_fit : Bool → List FieldRow → Bool
+  all_fit linked [] = true
+  all_fit linked (x ∷ xs) = field_fits linked x && all_fit (linked_behind linked x) xs
 
   abbrev pub fields_fit : Shape → Bool
-  fields_fit (shape.Sequence tag start count) = all_fit (part start count fields) && fit (part start count fields) []
+  fields_fit (shape.Sequence tag start count) = all_fit true (part start count fields) && fit (part start count fields) []
   fields_fit other = true
 
   abbrev pub rows_fit : ℕ → List Shape → Bool

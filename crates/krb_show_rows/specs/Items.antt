@@ -15,7 +15,7 @@ use Rattle.krb_schema.specs.declared.shape.Role.{Role}
 use Rattle.krb_schema.specs.declared.shape.Role.TheVariants as roles
 use Rattle.krb_schema.specs.Rules.{content_of}
 use Rattle.krb_types.specs.Principals.{components_text}
-use Rattle.krb_show.specs.Leaves.{octets_of, text_of, word_of}
+use Rattle.krb_show.specs.Leaves.{octets_of, secret_octets_of, text_of, word_of}
 use Rattle.krb_show.specs.Tokens.{Label, Token, adds, leaf, mark}
 use Rattle.krb_show.specs.declared.token.Form.TheVariants as tokens
 use Rattle.krb_show_rows.specs.Leaves.{leaf_of}
@@ -107,7 +107,7 @@ octets_as tells role number label content = tells role number label content
 
 -- the octets of a key or of a password, or a word in their place
 abbrev pub secret_of : Secrets → Label → List ℕ → List Token → List Token → Type 0
-secret_of secrets.Shown label content = octets_of label content
+secret_of secrets.Shown label content = secret_octets_of label content
 secret_of secrets.Hidden label content = word_of label (codes "hidden")
 
 -- where the next item stands behind a leaf

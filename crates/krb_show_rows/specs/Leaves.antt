@@ -9,7 +9,7 @@ use Rattle.krb_der_x509.specs.ObjectIdentifier.{IsArcs, arcs_content, dotted}
 use Rattle.krb_registry.specs.declared.kind.Kind.{Kind}
 use Rattle.krb_schema.specs.declared.shape.Leaf.{Leaf}
 use Rattle.krb_schema.specs.declared.shape.Leaf.TheVariants as leaves
-use Rattle.krb_show.specs.Leaves.{flags_of, identifier_of, number_of, octets_of, text_of, time_of, truth_of}
+use Rattle.krb_show.specs.Leaves.{cipher_of, flags_of, identifier_of, number_of, octets_of, secret_octets_of, text_of, time_of, truth_of}
 use Rattle.krb_show.specs.Opened.{opened_or}
 use Rattle.krb_show.specs.Tokens.{Label, Token}
 
@@ -41,8 +41,8 @@ leaf_of leaves.Text tag = text_of
 leaf_of leaves.Component tag = text_of
 leaf_of leaves.Time tag = leaf_as IsRealTime (λ v. tlv 24 (time_content v)) time_of 24
 leaf_of leaves.Octets tag = octets_of
-leaf_of leaves.Secret tag = octets_of
-leaf_of leaves.Cipher tag = octets_of
+leaf_of leaves.Secret tag = secret_octets_of
+leaf_of leaves.Cipher tag = cipher_of
 leaf_of leaves.Truth tag = leaf_as {A = Bool} (λ v. Unit {0}) (λ v. tlv 1 (bool_content v)) truth_of 1
 leaf_of leaves.Identifier tag = leaf_as IsArcs (λ v. tlv 6 (arcs_content v)) (λ label v. identifier_of label (dotted v)) 6
 leaf_of leaves.Any tag = any_of tag

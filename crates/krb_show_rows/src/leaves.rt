@@ -11,7 +11,10 @@ use krb_der::{Asn1DerError, BitStringAsn1, Der, GeneralizedTimeAsn1, IntegerAsn1
 use krb_der_core::write_tlv;
 use krb_der_x509::ObjectIdentifierAsn1;
 use krb_schema::Leaf;
-use krb_show::{Label, Page, Show, show_identifier, show_number, show_octets, show_text};
+use krb_show::{
+    Label, Page, Show, show_cipher, show_identifier, show_number, show_octets, show_secret,
+    show_text,
+};
 use std::alloc::{AllocError, Global};
 
 /// An object identifier, as dotted numbers (RFC 4512, 1.4), with the name of the mechanism that has it.
@@ -88,7 +91,9 @@ pub(crate) fn show_leaf(
         Leaf::Flags | Leaf::Bits => show_as::<BitStringAsn1>(alloc, 3, label, content, page),
         Leaf::Text | Leaf::Component => show_text(alloc, label, content, page),
         Leaf::Time => show_as::<GeneralizedTimeAsn1>(alloc, 24, label, content, page),
-        Leaf::Octets | Leaf::Secret | Leaf::Cipher => show_octets(alloc, label, content, page),
+        Leaf::Octets => show_octets(alloc, label, content, page),
+        Leaf::Secret => show_secret(alloc, label, content, page),
+        Leaf::Cipher => show_cipher(alloc, label, content, page),
         Leaf::Truth => show_as::<bool>(alloc, 1, label, content, page),
         Leaf::Identifier => show_as::<ObjectIdentifierAsn1>(alloc, 6, label, content, page),
         Leaf::Any => show_any(alloc, tag, label, content, page),

@@ -6,10 +6,12 @@ mod items;
 mod leaves;
 mod names;
 mod stand;
+mod walk;
 
 pub use formats::{NoFormats, ShowsFormats};
 pub use items::{push_item, push_items};
 pub use stand::{Secrets, Stand};
+pub use walk::{Walk, show_by_row, walk_named};
 
 /// The way in which this crate shows.
 #[derive(Drop)]

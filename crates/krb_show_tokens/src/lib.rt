@@ -13,13 +13,12 @@ mod per_message;
 mod proxies;
 mod tokens;
 
-pub use frames::InnerMessage;
 pub use heads::read_mechanism;
 pub use leaves::{show_identifier, show_token_flags, show_token_id, show_unsigned};
 pub use opened::{
     FramedApRep, FramedApReq, FramedAsRep, FramedAsReq, FramedError, FramedTgtRep, FramedTgtReq,
-    LoneMessages, MechListMics, MechTokens, OpenedAs, OpenedOctets, OpensOctets, Pku2uTokens,
-    PlainOctets, UserToUserTokens,
+    LoneMessages, MechListMics, MechTokens, OpenedAs, OpenedByRow, OpenedOctets, OpensOctets,
+    Pku2uTokens, PlainOctets, UserToUserTokens,
 };
 pub use proxies::{FramedProxy, ProxyMessages, TokenPages};
 pub use tokens::page_of_token;

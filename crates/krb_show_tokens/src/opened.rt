@@ -6,6 +6,7 @@ ghost use Rattle.krb_show.specs.Leaves.{octets_of};
 ghost use Rattle.krb_show.specs.Opened.{opened_or};
 ghost use Rattle.krb_show.specs.Pages.{optional_of};
 ghost use Rattle.krb_show.specs.Tokens.{Begins, Label, Token};
+ghost use Rattle.krb_show_messages.specs.Shown.{shows_of};
 ghost use Rattle.krb_show_tokens.specs.Opened.{mic_or_octets};
 ghost use Rattle.krb_show_tokens.specs.Told.{IsMicOf};
 
@@ -15,7 +16,7 @@ use krb_gss_tokens::gss_api::{ApplicationTag0, KrbMessage};
 use krb_gss_tokens::{GssApiMessageError, MicToken};
 use krb_messages::messages::{ApRep, ApReq, AsRep, AsReq, KrbError, TgtRep, TgtReq};
 use krb_show::{Label, Page, Show, ShowFields, open, show_octets};
-use krb_show_messages::Message;
+use krb_show_messages::{HasRow, show_value};
 use std::alloc::{AllocError, Global};
 use std::marker::PhantomData;
 
@@ -48,7 +49,7 @@ pub trait OpensOctets {
     /// Appends the octets, opened, to the page, which is as before where an allocation fails.
     fn show_opened_octets(
         alloc: Global,
-        label: &Label,
+        label: &Label<'static>,
         octets: &[u8],
         page: &mut Page,
     ) -> Result<(), AllocError>
@@ -60,7 +61,7 @@ pub trait OpensOctets {
 /// A field of a struct that may hold such octets, and its label.
 #[derive(Drop)]
 pub struct OpenedOctets<'a, V, N> {
-    pub label: Label<'a>,
+    pub label: Label<'static>,
     pub octets: &'a Optional<Option<ExplicitContextTag<OctetStringAsn1, N>>>,
     pub values: PhantomData<V>,
 }
@@ -88,7 +89,7 @@ impl OpensOctets for PlainOctets {
 
     fn show_opened_octets(
         alloc: Global,
-        label: &Label,
+        label: &Label<'static>,
         octets: &[u8],
         page: &mut Page,
     ) -> Result<(), AllocError> {
@@ -109,7 +110,7 @@ impl<K, T: Der + Show<K> + Drop, R: OpensOctets> OpensOctets for OpenedAs<K, T, 
 
     fn show_opened_octets(
         alloc: Global,
-        label: &Label,
+        label: &Label<'static>,
         octets: &[u8],
         page: &mut Page,
     ) -> Result<(), AllocError> {
@@ -120,13 +121,32 @@ impl<K, T: Der + Show<K> + Drop, R: OpensOctets> OpensOctets for OpenedAs<K, T, 
     }
 }
 
+/// Octets that are the encoding of a value of `T` by the row of `T`, and others as `R` opens them.
+#[derive(Drop)]
+pub struct OpenedByRow<T, R> {
+    pub value: PhantomData<T>,
+    pub others: PhantomData<R>,
+}
+
+impl<T: Der + HasRow + Drop, R: OpensOctets> OpensOctets for OpenedByRow<T, R> {
+    ghost opened = { λ label octets. opened_or T.is_value T.enc (shows_of T.row_name T.enc label) (R.opened label octets) octets };
+
+    fn show_opened_octets(
+        alloc: Global,
+        label: &Label<'static>,
+        octets: &[u8],
+        page: &mut Page,
+    ) -> Result<(), AllocError> {
+        match open::<T>(alloc, octets)? {
+            Some(value) => show_value(alloc, label.text, &value, page),
+            None => R::show_opened_octets(alloc, label, octets, page),
+        }
+    }
+}
+
 /// Messages of Kerberos that stand alone: a KRB-AP-REQ, KRB-AP-REP or KRB-ERROR (RFC 4120, 5.5 and 5.9.1) is shown as that message, and other
 /// octets as octets.
-pub type LoneMessages = OpenedAs<
-    Message,
-    ApReq,
-    OpenedAs<Message, ApRep, OpenedAs<Message, KrbError, PlainOctets>>,
->;
+pub type LoneMessages = OpenedByRow<ApReq, OpenedByRow<ApRep, OpenedByRow<KrbError, PlainOctets>>>;
 
 /// Tokens of the mechanism for users who serve one another: a KRB-TGT-REQ or KRB-TGT-REP in a frame (draft-swift-win2k-krb-user2user-03) is
 /// shown as such a token, and other octets as `LoneMessages` are.
@@ -173,7 +193,7 @@ impl OpensOctets for MechListMics {
 
     fn show_opened_octets(
         alloc: Global,
-        label: &Label,
+        label: &Label<'static>,
         octets: &[u8],
         page: &mut Page,
     ) -> Result<(), AllocError> {

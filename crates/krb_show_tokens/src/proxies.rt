@@ -9,12 +9,13 @@ ghost use Rattle.krb_gss_tokens.specs.PerMessageRejected.{Answers};
 ghost use Rattle.krb_show.specs.Opened.{IsOf};
 ghost use Rattle.krb_show.specs.Pages.{◌then◌, struct_of};
 ghost use Rattle.krb_show.specs.Tokens.{Token, plain};
+ghost use Rattle.krb_show_messages.specs.Shown.{shows_of};
 ghost use Rattle.krb_show_tokens.specs.Frames.{IsFramed};
 ghost use Rattle.krb_show_tokens.specs.Leaves.{identifier_of, token_id_of};
 ghost use Rattle.krb_show_tokens.specs.Proxies.{HasMessage, HasOther, IsProxyError, IsProxyTold, IsTag, is_proxied_tag};
 
 use crate::GssToken;
-use crate::frames::{InnerMessage, TokenIdField};
+use crate::frames::TokenIdField;
 use crate::heads::read_mechanism;
 use krb_der::{Asn1DerError, Der, DerEncode, to_vec};
 use krb_der_core::read_tlv;
@@ -25,7 +26,7 @@ use krb_gss_tokens::iakerb_header::messages::IAKerbHeader;
 use krb_messages::messages::{ApRep, ApReq, AsRep, AsReq, KrbError, TgsRep, TgsReq};
 use krb_registry::gss_api::IAKERB_PROXY_TOKEN_ID;
 use krb_show::{Field, Label, Page, Show, ShowFields, show_identifier, show_struct};
-use krb_show_messages::Message;
+use krb_show_messages::{HasRow, Message, RowField};
 use std::alloc::{AllocError, Global};
 use std::marker::PhantomData;
 
@@ -54,12 +55,12 @@ impl<'a> ShowFields for IAKerbField<'a> {
 }
 
 /// The mechanism, the token id, the header and the message, under its name (draft-ietf-kitten-iakerb-03, 3).
-impl<T: Show<Message> + InnerMessage> Show<GssToken> for IAKerbProxyMessage<T> {
+impl<T: DerEncode + HasRow> Show<GssToken> for IAKerbProxyMessage<T> {
     ghost shows = { λ label v. struct_of label (
         identifier_of (plain (codes "thisMech")) iakerb
         then token_id_of (plain (codes "TOK_ID")) proxy_id
         then ⟦<IAKerbHeader as Show<Message>>⟧.shows (plain (codes "IAKERB-HEADER")) v.header
-        then ⟦<T as Show<Message>>⟧.shows (plain ⟦<T as InnerMessage>⟧.name) v.krb_msg) };
+        then shows_of ⟦<T as HasRow>⟧.row_name ⟦<T as DerEncode>⟧.enc (plain ⟦<T as HasRow>⟧.row_name) v.krb_msg) };
 
     fn show(&self, alloc: Global, label: &Label, page: &mut Page) -> Result<(), AllocError> {
         let mechanism = IAKerbField {
@@ -86,14 +87,9 @@ impl<T: Show<Message> + InnerMessage> Show<GssToken> for IAKerbProxyMessage<T> {
             value: &self.header,
             shown: PhantomData::<Message>,
         };
-        let message = Field {
-            label: Label {
-                text: T::name(),
-                kind: None,
-                is_item: false,
-            },
+        let message = RowField {
+            text: T::row(),
             value: &self.krb_msg,
-            shown: PhantomData::<Message>,
         };
         show_struct(alloc, label, &(((mechanism, id), header), message), page)
     }
@@ -132,7 +128,7 @@ fn read_proxy<T: Der + Drop>(
 ///
 /// Octets that are none are refused with the first error, as by `decode_application_iakerb_proxy_message`. Where that reads a message, but
 /// octets follow the token or, in its header, the known fields, the error is `Asn1Error(InvalidData)`: no octet is left out of a page.
-impl<T: Der + Show<Message> + InnerMessage + Drop> TokenPages for FramedProxy<T> {
+impl<T: Der + HasRow + Drop> TokenPages for FramedProxy<T> {
     ghost tells = { λ octets result. IsProxyTold ⟦<IAKerbHeader as DerEncode>⟧ ⟦<T as DerEncode>⟧ ⟦<FramedProxy<T> as DerEncode>⟧
         ⟦<FramedProxy<T> as Show<GssToken>>⟧ (plain (codes "InitialContextToken")) (λ p. p.items) octets result };
 

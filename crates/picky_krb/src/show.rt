@@ -12,8 +12,13 @@ pub use krb_show_any::{
 };
 pub use krb_show_files::{FilePageError, page_of_ccache, page_of_keytab};
 pub use krb_show_formats::{page_of_negoex, page_of_pac, show_pac};
-pub use krb_show_messages::{DataKind, Message, page_of_data, page_of_message, page_of_part};
-pub use krb_show_pkinit::{Certificate, CertificateKind, page_of_certificate_data};
-pub use krb_show_rows::{NoFormats, Secrets, ShowsFormats, push_items};
+pub use krb_show_messages::{
+    Certificate, CertificateKind, DataKind, HasRow, KerberosFormats, Message, RowField,
+    page_of_certificate_data, page_of_data, page_of_message, page_of_part, show_opened_by_row,
+    show_value,
+};
+pub use krb_show_rows::{
+    NoFormats, Secrets, ShowsFormats, Walk, push_items, show_by_row, walk_named,
+};
 pub use krb_show_tokens::kpasswd::{PasswordFrameError, page_of_password_frame};
 pub use krb_show_tokens::{GssToken, page_of_token};

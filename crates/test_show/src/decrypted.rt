@@ -1,12 +1,12 @@
 //! Shows octets with what keys decrypt in them, by the row of their type.
 
-use krb_decrypt::{Key, MOST_FOUND, decrypt_parts};
+use krb_decrypt::{Key, MOST_FOUND, decrypt_parts, push_decrypted};
 use krb_schema::kerberos::kerberos;
 use krb_schema::{Fault, Item, Name, Role, items_of, row_named};
 use krb_show::text_of_page;
-use krb_show_decrypted::push_decrypted;
+use krb_show_messages::KerberosFormats;
 use krb_show_opened::Key as OpenedKey;
-use krb_show_rows::{NoFormats, Secrets};
+use krb_show_rows::Secrets;
 use std::alloc::{AllocError, Global};
 
 /// The same keys.
@@ -33,7 +33,7 @@ fn text_of_items(
     let most = known.len().saturating_add(MOST_FOUND);
     let outcomes = decrypt_parts(alloc, most, octets, items, &mut known)?;
     let mut page = Vec::new(alloc);
-    push_decrypted::<NoFormats>(
+    push_decrypted::<KerberosFormats>(
         alloc,
         Secrets::Shown,
         octets,

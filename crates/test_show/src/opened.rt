@@ -6,7 +6,8 @@
 //! place.
 //!
 //! The text of the octets by the row of their type in the table of types (`krb_schema`), with what the keys decrypt in it (`krb_decrypt`), is to
-//! be the same: a line says where it is not, as of a part that holds a format which is no DER.
+//! be the same: a line says where it is not, as of the part of a KRB-CRED that stands in the clear in an AP-REP, which only the label
+//! of the field opens.
 
 use crate::decrypted::text_by_row;
 use crate::keys_of::keys_of;

@@ -115,12 +115,12 @@ impl Piece for Low {
 
 /// Where a vector's elements are, and how many (MS-NEGOEX, 2.2.5.2).
 #[derive(Drop)]
-struct Place {
+struct VectorPlace {
     offset: u128,
     count: u128,
 }
 
-impl Piece for Place {
+impl Piece for VectorPlace {
     ghost written = { λ v. place_octets v.offset v.count };
 
     fn behind<'o>(&self, octets: &'o [u8]) -> Option<&'o [u8]> {
@@ -191,7 +191,7 @@ impl<'v, 'm> Piece for Heads<'v, 'm> {
             match extensions.get(n) {
                 Some(extension) => {
                     let count = count_of(extension.extension_value());
-                    let head = (extension.extension_type(), Place { offset, count });
+                    let head = (extension.extension_type(), VectorPlace { offset, count });
                     match head.behind(rest) {
                         Some(trailing) => rest = trailing,
                         None => return None,
@@ -274,11 +274,11 @@ pub fn unsaid_nego<'o>(octets: &'o [u8], message: &NegoView) -> Unsaid<'o>
     let schemes = message.auth_schemes();
     let extensions = message.extensions();
     let places = (
-        Place {
+        VectorPlace {
             offset: 96,
             count: schemes.len() as u128,
         },
-        Place {
+        VectorPlace {
             offset: 96 + 16 * schemes.len() as u128,
             count: extensions.len() as u128,
         },
@@ -300,7 +300,7 @@ pub fn unsaid_exchange<'o>(octets: &'o [u8], message: &ExchangeView) -> Unsaid<'
     ensures { IsUnsaid octets.now (exchange_octets message.now) result }
 {
     let exchange = message.exchange();
-    let place = Place {
+    let place = VectorPlace {
         offset: 64,
         count: exchange.len() as u128,
     };
@@ -317,7 +317,7 @@ pub fn unsaid_verify<'o>(octets: &'o [u8], message: &VerifyView) -> Unsaid<'o>
 {
     let checksum = message.checksum();
     let value = checksum.checksum_value();
-    let place = Place {
+    let place = VectorPlace {
         offset: 80,
         count: value.len() as u128,
     };

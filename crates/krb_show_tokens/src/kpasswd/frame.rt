@@ -9,6 +9,7 @@ ghost use Rattle.krb_messages.specs.declared.kpasswd.error.ReadFrameError.{ReadF
 ghost use Rattle.krb_messages.specs.declared.kpasswd.error.ReadFrameError.TheVariants as unread;
 ghost use Rattle.krb_show.specs.Pages.{◌then◌, struct_of};
 ghost use Rattle.krb_show.specs.Tokens.{Token, plain};
+ghost use Rattle.krb_show_messages.specs.Shown.{shows_of};
 ghost use Rattle.krb_show_tokens.specs.Frame.{IsFrameTold, frame_of, numbers_of};
 ghost use Rattle.krb_show_tokens.specs.Laws.{frame_long, frame_memory};
 
@@ -17,8 +18,8 @@ use byteorder::{BigEndian, ByteOrder};
 use krb_der::DerEncode;
 use krb_messages::kpasswd::{KrbPrivMessage, ReadFrameError, read_frame};
 use krb_messages::messages::{ApMessage, ApRep, ApReq, KrbPriv};
-use krb_show::{Field, Label, Page, Show, show_fields, show_struct};
-use krb_show_messages::Message;
+use krb_show::{Field, Label, Page, show_fields, show_struct};
+use krb_show_messages::{HasRow, Message, RowField};
 use std::alloc::{AllocError, Global};
 use std::marker::PhantomData;
 
@@ -47,13 +48,13 @@ fn numbers_before(octets: &[u8]) -> Numbers
 /// A first message, and the names that depend on it.
 #[derive(Drop)]
 struct FirstMessage<'a, T> {
-    length_name: &'a str,
-    name: &'a str,
+    length_name: &'static str,
+    name: &'static str,
     message: &'a T,
 }
 
 /// Appends the tokens of a frame with these numbers and messages.
-fn show_with<'a, T: Show<Message>>(
+fn show_with<'a, T: DerEncode + HasRow>(
     alloc: Global,
     label: &Label,
     numbers: &'a Numbers,
@@ -63,8 +64,8 @@ fn show_with<'a, T: Show<Message>>(
 ) -> Result<(), AllocError>
     ensures { OnOk result (struct_of label.now (
         numbers_of first.entry.length_name.now numbers.now.message_length numbers.now.version numbers.now.first_length
-        then T.shows (plain first.entry.name.now) first.entry.message.now
-        then ⟦<KrbPriv as Show<Message>>⟧.shows (plain (codes "KRB-PRIV-message")) krb_priv.now) page.old.items page.new.items) }
+        then shows_of T.row_name T.enc (plain first.entry.name.now) first.entry.message.now
+        then (shows_of ⟦<KrbPriv as HasRow>⟧.row_name ⟦<KrbPriv as DerEncode>⟧.enc) (plain (codes "KRB-PRIV-message")) krb_priv.now) page.old.items page.new.items) }
 {
     let first_length = Field {
         label: Label {
@@ -75,23 +76,13 @@ fn show_with<'a, T: Show<Message>>(
         value: &numbers.first_length,
         shown: PhantomData::<Message>,
     };
-    let message = Field {
-        label: Label {
-            text: first.name,
-            kind: None,
-            is_item: false,
-        },
+    let message = RowField {
+        text: first.name,
         value: first.message,
-        shown: PhantomData::<Message>,
     };
-    let krb_priv = Field {
-        label: Label {
-            text: "KRB-PRIV-message",
-            kind: None,
-            is_item: false,
-        },
+    let krb_priv = RowField {
+        text: "KRB-PRIV-message",
         value: krb_priv,
-        shown: PhantomData::<Message>,
     };
     let lengths = (
         show_fields!(Message; numbers; "message-length" = message_length, "protocol-version-number" = version),
@@ -108,7 +99,7 @@ fn show_messages(
     frame: &KrbPrivMessage,
     page: &mut Page,
 ) -> Result<(), AllocError>
-    ensures { OnOk result (frame_of ⟦<ApReq as Show<Message>>⟧.shows ⟦<ApRep as Show<Message>>⟧.shows ⟦<KrbPriv as Show<Message>>⟧.shows
+    ensures { OnOk result (frame_of (shows_of ⟦<ApReq as HasRow>⟧.row_name ⟦<ApReq as DerEncode>⟧.enc) (shows_of ⟦<ApRep as HasRow>⟧.row_name ⟦<ApRep as DerEncode>⟧.enc) (shows_of ⟦<KrbPriv as HasRow>⟧.row_name ⟦<KrbPriv as DerEncode>⟧.enc)
         label.now numbers.now.message_length numbers.now.version numbers.now.first_length frame.now.ap_message frame.now.krb_priv
         page.old.items page.new.items) }
 {
@@ -139,7 +130,7 @@ fn page_of_messages(
     frame: &KrbPrivMessage,
 ) -> Result<Page, AllocError>
     requires { 6 ≤ length octets.now }
-    ensures { IfOk result (λ page. frame_of ⟦<ApReq as Show<Message>>⟧.shows ⟦<ApRep as Show<Message>>⟧.shows ⟦<KrbPriv as Show<Message>>⟧.shows
+    ensures { IfOk result (λ page. frame_of (shows_of ⟦<ApReq as HasRow>⟧.row_name ⟦<ApReq as DerEncode>⟧.enc) (shows_of ⟦<ApRep as HasRow>⟧.row_name ⟦<ApRep as DerEncode>⟧.enc) (shows_of ⟦<KrbPriv as HasRow>⟧.row_name ⟦<KrbPriv as DerEncode>⟧.enc)
         (plain (codes "password-frame")) (big_number 2 octets.now) 1 (big_number 2 (drop 4 octets.now)) frame.now.ap_message frame.now.krb_priv
         [] page.items) }
 {
@@ -189,7 +180,7 @@ impl ShowFrame for KrbPrivMessage {
 
     ghost rejected = { FrameRejected ⟦<ApMessage as DerEncode>⟧ ⟦<KrbPriv as DerEncode>⟧ };
 
-    ghost shows = { λ octets m. frame_of ⟦<ApReq as Show<Message>>⟧.shows ⟦<ApRep as Show<Message>>⟧.shows ⟦<KrbPriv as Show<Message>>⟧.shows
+    ghost shows = { λ octets m. frame_of (shows_of ⟦<ApReq as HasRow>⟧.row_name ⟦<ApReq as DerEncode>⟧.enc) (shows_of ⟦<ApRep as HasRow>⟧.row_name ⟦<ApRep as DerEncode>⟧.enc) (shows_of ⟦<KrbPriv as HasRow>⟧.row_name ⟦<KrbPriv as DerEncode>⟧.enc)
         (plain (codes "password-frame")) (big_number 2 octets) 1 (big_number 2 (drop 4 octets)) m.ap_message m.krb_priv };
 
     ghost long = { frame_long ⟦<ApMessage as DerEncode>⟧ ⟦<KrbPriv as DerEncode>⟧ };
@@ -235,7 +226,7 @@ fn page_of_frame<F: ShowFrame + Drop>(
 pub fn page_of_password_frame(alloc: Global, octets: &[u8]) -> Result<Page, PasswordFrameError>
     ensures { IsFrameTold (HoldsValues ⟦<ApMessage as DerEncode>⟧ ⟦<KrbPriv as DerEncode>⟧) (IsFrameOf ⟦<ApMessage as DerEncode>⟧ ⟦<KrbPriv as DerEncode>⟧)
         (FrameRejected ⟦<ApMessage as DerEncode>⟧ ⟦<KrbPriv as DerEncode>⟧)
-        (λ octets m. frame_of ⟦<ApReq as Show<Message>>⟧.shows ⟦<ApRep as Show<Message>>⟧.shows ⟦<KrbPriv as Show<Message>>⟧.shows
+        (λ octets m. frame_of (shows_of ⟦<ApReq as HasRow>⟧.row_name ⟦<ApReq as DerEncode>⟧.enc) (shows_of ⟦<ApRep as HasRow>⟧.row_name ⟦<ApRep as DerEncode>⟧.enc) (shows_of ⟦<KrbPriv as HasRow>⟧.row_name ⟦<KrbPriv as DerEncode>⟧.enc)
         (plain (codes "password-frame")) (big_number 2 octets) 1 (big_number 2 (drop 4 octets)) m.ap_message m.krb_priv)
         (λ page. page.items) octets.now result }
 {

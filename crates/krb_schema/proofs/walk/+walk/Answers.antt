@@ -8,7 +8,7 @@ use Rattle.krb_schema.specs.declared.item.Form.TheVariants as form
 use Rattle.krb_schema.specs.declared.item.Node.TheVariants as nodes
 use Rattle.krb_schema.specs.declared.shape.Leaf.TheVariants as leaves
 use Rattle.krb_schema.specs.Forests.{item}
-use Rattle.krb_schema.specs.Shapes.{AreFields, IsElement, IsHeld}
+use Rattle.krb_schema.specs.Shapes.{AreFields, IsElement, IsHeld, IsNone}
 use Rattle.krb_schema.specs.Faults.{IsFault, IsFieldsFault, behind_absent}
 use Rattle.krb_schema.specs.Walks.{Walked}
 use Rattle.krb_schema.proofs.Walking.{on_ok, on_both, is_empty, tlv_size, bare_walked, element_walked, field_absent, fields_ended, held_here, held_later, held_plain, more_walked, row_begun, wrapped_walked}
@@ -236,8 +236,9 @@ push_held-returns-in-Err-clause-walked t c =
     (λ w. subst (λ (cs : List Case). Walked (IsHeld R head.name c.args.before.now content cs) (tlv head.tag content) head.depth head.at items ended)
     (sym c.in-Some.ensures.cases.0)
     (held_later R head.name c.args.before.now content case c.in-Some.more.now (tlv head.tag content) head.depth head.at items ended
-    (λ so. refused_or_memory c.args.levels schema case.is head.name [] (head.at + head.header) content c.in-Err.fault (omega (arith, c.requires.headed.room))
-    c.in-Err.ensures.refused c.if-is_memory.ensures)
+    (λ so. subst (λ n. IsNone (R case.is n []) content) c.called.ensures
+    (refused_or_memory c.args.levels schema case.is c.called.result [] (head.at + head.header) content c.in-Err.fault (omega (arith, c.requires.headed.room))
+    c.in-Err.ensures.refused c.if-is_memory.ensures))
     w))
     c.push_held-in-Err.ensures.walked
 
@@ -256,7 +257,9 @@ push_held-returns-clause-walked t c =
     subst (λ (cs : List Case). Walked (IsHeld R head.name before content cs) (tlv head.tag content) head.depth head.at items ended) (sym c.in-Some.ensures.cases.0)
     (held_here R case c.in-Some.more.now before head content inside items begun within ended c.requires.tagged c.requires.headed
     c.if-not-applies.ensures
-    (subst (λ (l : List Item). Walked (R case.is head.name []) content (head.depth + 1) (head.at + head.header) l inside) c.new-inside.ensures.items c.in-Ok.ensures.walked)
+    (subst (λ n. Walked (R case.is n []) content (head.depth + 1) (head.at + head.header) [] inside) c.called.ensures
+    (subst (λ (l : List Item). Walked (R case.is c.called.result []) content (head.depth + 1) (head.at + head.header) l inside) c.new-inside.ensures.items
+    c.in-Ok.ensures.walked))
     c.in_ok-push_item-in-Ok.ensures
     (c.in_ok-push_items-in-Ok.ensures ∙ ap (λ (l : List Item). begun ++ l) c.deref.ensures.value)
     c.in_ok-push_item-in-Ok-2.ensures)

@@ -1,4 +1,4 @@
-use Rattle.std.proofs.Common.{◌≢◌, All, List, map, subst, arith}
+use Rattle.std.proofs.Common.{◌≢◌, All, map, subst, arith}
 use Rattle.std.specs.Char.{to_ascii_lowercase}
 use Rattle.krb_show_messages.specs.declared.kinds.DataKind.{DataKind}
 use Rattle.krb_show_messages.specs.Kinds.{name_of}

@@ -1,8 +1,0 @@
-use Rattle.std.proofs.Common.{inr}
-use Rattle.std.proofs.lemmas.Result.{on_ok_weaker}
-use Rattle.krb_show_messages.proofs.proxy.show_tgs_rep.Goals as goal
-
-pub returns-clause-ok : goal.returns-clause-ok
-returns-clause-ok c =
-    let other = rw c.if-branch.false at c.in_ok-show_framed_as.ensures.ok in
-    on_ok_weaker c.show_error.result (λ shown. inr (other.0, rw other.1 at shown)) c.show_error.ensures.ok
