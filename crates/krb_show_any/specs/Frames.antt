@@ -6,7 +6,7 @@ use Rattle.krb_gss_tokens.specs.Token.{token}
 use Rattle.krb_schema.specs.declared.item.Fault.TheVariants as faults
 use Rattle.krb_show_tokens.specs.Frames.{IsFramed, spnego}
 use Rattle.krb_show_any.specs.Errors.{reason}
-use Rattle.krb_show_any.specs.Rows.{IsWalkBy}
+use Rattle.krb_show_rows.specs.Walk.{IsWalkBy}
 use Rattle.krb_show_any.specs.declared.error.PageError.{PageError}
 use Rattle.krb_show_any.specs.declared.error.PageError.TheVariants as page
 use Rattle.krb_show_any.specs.declared.frames.Framed.{Framed}
