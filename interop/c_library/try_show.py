@@ -1,16 +1,18 @@
 """Tries `krb.text` and `krb.json`: try_show.py TOP, in an environment that has the package installed. The rows of TOP/crates/test_show/stdin, table `pages`, whose
 type has a row in the table of types, are to be told as TOP/crates/test_show/stdout has them, which decoders in Python made that share no code with the
-library; but for those that stdout says their row tells otherwise. The last line is `N passed, N failed`."""
+library; but for those that hold a format that is no DER, which the library leaves octets. The last line is `N passed, N failed`."""
 
 import json
 import os
+import re
 import sys
 
 import krb
 from counting import counted, expect, outcome
 from krb import Refused, Status
 
-OTHERWISE = "its row tells it otherwise"
+# How a line of a PAC begins, one of the checksum of RFC 4121 (4.1.1), and one of the message behind its length that a KDC-PROXY-MESSAGE holds.
+FORMATS = re.compile(r" *(ulType: |Lgth: |kerb-message:$)")
 APPLICATIONS = {
     0x61: "Ticket", 0x62: "Authenticator", 0x63: "EncTicketPart", 0x6A: "AS-REQ", 0x6B: "AS-REP", 0x6C: "TGS-REQ", 0x6D: "TGS-REP", 0x6E: "AP-REQ",
     0x6F: "AP-REP", 0x75: "KRB-PRIV", 0x76: "KRB-CRED", 0x79: "EncASRepPart", 0x7A: "EncTGSRepPart", 0x7B: "EncAPRepPart", 0x7C: "EncKrbPrivPart",
@@ -43,9 +45,8 @@ def rows(top):
 
 def try_row(name, octets, expected):
     """Whether the type has a row."""
-    if name in ("tree", "told", "password frame", "NEGOEX") or name.startswith("token: ") or OTHERWISE in expected and name not in HEADINGS:
+    if name in ("tree", "told", "password frame", "NEGOEX") or name.startswith("token: ") or any(map(FORMATS.match, expected)):
         return False
-    expected = [line for line in expected if line != OTHERWISE]
     try:
         krb.items(octets, name)
     except Refused as refused:
