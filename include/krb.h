@@ -65,6 +65,7 @@ enum {
     KRB_ABSENT = 20,         /* there is no such field or element, or no buffer of this index */
     KRB_TOO_LARGE = 21,      /* 64 bits do not hold the number */
     KRB_TOO_DEEP = 22,       /* more than 64 elements stand in one another */
+    KRB_KEYTAB = 23,         /* the octets that keys are to be taken of are no keytab */
     KRB_OTHER_VERSION = 25,  /* the version of the format is another */
     KRB_PAC_TYPE = 26,       /* a buffer of a PAC is of a number that no type has */
     KRB_PAC_RANGE = 27,      /* a buffer of a PAC names octets that are not there */
@@ -355,10 +356,21 @@ krb_status krb_find_number(const uint8_t *type_name, size_t type_name_size, cons
 /* What octets of a type are, for people: as text, a line for each value, two blanks further in for each struct and list that it stands in; or as JSON
    (RFC 8259) on one line. All of it is printable ASCII, whatever the octets hold. Where secrets are not shown, the word `hidden` stands in the place of
    the octets of keys and of passwords that the table of types knows (KRB_LEAF_SECRET). Octets of formats that are no DER stay octets, as those of a PAC;
-   `jolmurig show` shows these too, and what keys open.
+   krb_show_page shows these too, and what keys open.
    Those of krb_items but KRB_ROOM; KRB_MEMORY. */
 krb_status krb_show(const uint8_t *type_name, size_t type_name_size, const uint8_t *octets, size_t octets_size, bool is_json, bool shows_secrets,
                     uint8_t *out, size_t room, size_t *size);
+
+/* What `jolmurig show` writes of octets of any kind: of a type of DER, a token of the GSS-API, a PAC, messages of NEGOEX, a frame in which a password
+   is changed, a keytab or a credential cache. `name` is the name of the kind, letters of either case, as `--as` takes it ("AS-REQ", "token", "PAC",
+   "ccache", "tree"); of no octets, the kind is the one that the octets begin as. Each encrypted part that a key of the keytab opens is shown with what
+   it holds, and keys in it open what follows, a thousand at most; of a PAC in a ticket it is said which of its checksums hold, and its buffers are
+   shown. A keytab of no octets has no keys. Where keys are not shown, the word `hidden` stands in the place of the octets of keys and of passwords.
+   KRB_NUMBER where no kind has the name, or without one where they begin as none; KRB_KEYTAB; why the octets are none of the kind: of DER KRB_INVALID,
+   KRB_TRUNCATED, KRB_UNSUPPORTED; of tokens these and KRB_TOKEN; of others KRB_INVALID, KRB_TRUNCATED, KRB_OTHER_VERSION, KRB_PAC_TYPE, KRB_PAC_RANGE;
+   KRB_MEMORY. */
+krb_status krb_show_page(const uint8_t *name, size_t name_size, const uint8_t *octets, size_t octets_size, const uint8_t *keytab, size_t keytab_size,
+                         bool is_json, bool shows_keys, uint8_t *out, size_t room, size_t *size);
 
 /* The same by texts that end with a NUL. They are not of the library. */
 static inline size_t krb_text_size(const char *text) {
@@ -589,6 +601,7 @@ static inline const char *krb_status_text(krb_status status) {
     case KRB_ABSENT: return "no such field or element";
     case KRB_TOO_LARGE: return "a number of more than 64 bits";
     case KRB_TOO_DEEP: return "elements too deep in one another";
+    case KRB_KEYTAB: return "no keytab";
     case KRB_OTHER_VERSION: return "another version of the format";
     case KRB_PAC_TYPE: return "a buffer of an unknown type";
     case KRB_PAC_RANGE: return "a buffer of octets that are not there";

@@ -41,7 +41,7 @@ _jolmurig_arguments() {
     case ${COMP_WORDS[1]} in
         show)
             _jolmurig_option_or_file "--as --tree --json --type --key --key-file --keytab --password-file
-                --show-keys --no-keys"
+                --all-found-keys --show-keys --no-keys"
             ;;
         check) _jolmurig_option_or_file "--as" ;;
         list | convert | proxy) _jolmurig_option_or_file "" ;;

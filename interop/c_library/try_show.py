@@ -1,10 +1,13 @@
-"""Tries `krb.text` and `krb.json`: try_show.py TOP, in an environment that has the package installed. The rows of TOP/crates/test_show/stdin, table `pages`, whose
+"""Tries `krb.text`, `krb.json`, `krb.decode` and `krb.show`: try_show.py TOP, in an environment that has the package installed. The rows of TOP/crates/test_show/stdin, table `pages`, whose
 type has a row in the table of types, are to be told as TOP/crates/test_show/stdout has them, which decoders in Python made that share no code with the
-library; but for those that hold a format that is no DER, which the library leaves octets. The last line is `N passed, N failed`."""
+library; but for those that hold a format that is no DER, which the library leaves octets. `krb.decode` is to have the values of that JSON. `krb.show` is to tell the rows of table `opened`, with their keys in a keytab, and those of kinds without
+a row. The last line is `N passed, N failed`."""
 
+import datetime
 import json
 import os
 import re
+import struct
 import sys
 
 import krb
@@ -22,15 +25,83 @@ APPLICATIONS = {
 HEADINGS = {"DHSubjectPublicKeyInfo": "SubjectPublicKeyInfo", "DHAuthPack": "AuthPack", "ECAuthPack": "AuthPack"}
 
 
-def rows(top):
-    """Origin, type and octets of each row of the table, with the lines that are expected of it."""
+def table_of(top, name):
+    """The columns of each row of a table."""
     table, inside = [], False
     with open(os.path.join(top, "crates", "test_show", "stdin"), encoding="utf-8") as file:
         for line in file:
             if line.startswith("== "):
-                inside = line == "== pages\n"
+                inside = line == "== %s\n" % name
             elif inside and not line.startswith("#"):
                 table.append(line.rstrip("\n").split("\t"))
+    return table
+
+
+def opened_rows(top):
+    """Keys, kind and octets of each row of the table `opened`, with the lines that are expected of it."""
+    table = table_of(top, "opened")
+    behind = table_of(top, "limited")[0][0]
+    with open(os.path.join(top, "crates", "test_show", "stdout"), encoding="utf-8") as file:
+        lines = file.read().split("\n")
+    at = lines.index(table[0][0])
+    for number, row in enumerate(table):
+        start, at = at + 1, lines.index(table[number + 1][0] if number + 1 < len(table) else behind, at + 1)
+        yield row[1], row[2], bytes.fromhex(row[3]), lines[start:at]
+
+
+def keytab_of(keys):
+    """A keytab of these keys (MIT Kerberos, "Keytab file format"), each SUITE:OCTETS:NAME, and what each is called in it."""
+    octets, names = b"\5\2", {}
+    for key in keys.split(" ") if keys != "-" else []:
+        suite, digits, name = key.split(":", 2)
+        counted = lambda text: struct.pack(">H", len(text)) + text
+        entry = struct.pack(">H", 1) + counted(b"R") + counted(name.encode()) + struct.pack(">IIBH", 1, 0, 1, int(suite)) + counted(bytes.fromhex(digits))
+        octets += struct.pack(">i", len(entry)) + entry
+        names['opened-by: "%s"' % name] = 'opened-by: "%s@R kvno 1"' % name
+    return octets if names else b"", names
+
+
+def try_opened(top):
+    """How many rows there are. Where the opened octets stand in a row of their own, and where a PAC is told, the lines are the program's to compare."""
+    count = 0
+    for keys, kind, octets, expected in opened_rows(top):
+        keytab, names = keytab_of(keys)
+        kind = None if kind == "message" else kind
+        if len(expected) == 1 and not expected[0].endswith(":"):
+            expect(isinstance(outcome(krb.show, octets, kind, keytab), Status), "an opened row is not refused")
+            continue
+        shown = krb.show(octets, kind, keytab, show_keys=True)
+        if "the opened octets are shown" in "".join(expected) or "PAC" in shown:
+            continue
+        wanted = "".join("%s%s\n" % (line[: len(line) - len(line.lstrip())], names.get(line.strip(), line.strip())) for line in expected)
+        expect(shown == wanted, "an opened row is told otherwise")
+        hidden = krb.show(octets, kind, keytab)
+        expect(all("hidden" in line for line in hidden.split("\n") if line.lstrip().startswith("keyvalue")), "a key is shown")
+        expect(json.loads(krb.show(octets, kind, keytab, as_json=True)) is not None, "an opened row has no JSON")
+        count += 1
+    return count
+
+
+def try_kinds(top):
+    """Octets of kinds that have no row: files, as the table `files` tells them. How many there are."""
+    table = [row for row in table_of(top, "files") if row[1] in ("keytab", "ccache")]
+    count = 0
+    for _, kind, digits in (row[:3] for row in table):
+        octets = bytes.fromhex(digits)
+        shown = outcome(krb.show, octets, kind, b"", False, True)
+        if not isinstance(shown, Status):
+            expect(shown.startswith(kind + ":\n") and shown.isascii() and "keyvalue: hidden" not in shown, "%s is told otherwise" % kind)
+            expect("hidden" in krb.show(octets, kind) or "keyvalue" not in shown, "the keys of a %s are shown" % kind)
+            count += 1
+    expect(outcome(krb.show, b"\x30\0") == Status.NUMBER and outcome(krb.show, b"\x30\0", "no kind") == Status.NUMBER, "octets of no kind are shown")
+    expect(outcome(krb.show, b"\x61\0", None, b"\5\1") == Status.KEYTAB and outcome(krb.show, b"\x61") == Status.TRUNCATED, "no refusal")
+    expect(outcome(krb.show, b"\5\3", "ccache") == Status.TRUNCATED or outcome(krb.show, b"\5\3", "ccache") == Status.INVALID, "a cut cache is shown")
+    return count
+
+
+def rows(top):
+    """Origin, type and octets of each row of the table, with the lines that are expected of it."""
+    table = table_of(top, "pages")
     with open(os.path.join(top, "crates", "test_show", "stdout"), encoding="utf-8") as file:
         lines = file.read().split("\n")
     at = 0
@@ -41,6 +112,49 @@ def rows(top):
         while lines[at] != following and not (following is None and lines[at - 1].startswith("{")):
             at += 1
         yield origin, name, bytes.fromhex(octets), lines[start:at]
+
+
+def quoted(component):
+    """A component as RFC 1964, 2.1.1, has it within a name."""
+    special = {"/": "\\/", "@": "\\@", "\\": "\\\\", "\n": "\\n", "\t": "\\t", "\b": "\\b", "\0": "\\0"}
+    return "".join(special.get(character, character) for character in component)
+
+
+def flags_of(told):
+    """The numbers of the bits that are set, and how many bits there are, of flags as JSON has them."""
+    digits, _, spare = told["flags"][2:].partition("/")
+    bits = "".join("%04d" % int(bin(int(digit, 16))[2:]) for digit in digits)
+    size = len(bits) - int(spare or 0)
+    return frozenset(number for number, bit in enumerate(bits) if bit == "1"), size
+
+
+def agrees(value, told):
+    """Whether a value of `krb.decode` is the one that JSON tells."""
+    if isinstance(value, dict):
+        return isinstance(told, dict) and list(value) == list(told) and all(agrees(value[name], told[name]) for name in value)
+    if isinstance(value, list) and isinstance(told, str):
+        return "/".join(map(quoted, value)) == told
+    if isinstance(value, list):
+        return isinstance(told, list) and len(value) == len(told) and all(map(agrees, value, told))
+    if isinstance(value, bool):
+        return value is told
+    if isinstance(value, int):
+        return value == (told["number"] if isinstance(told, dict) else told)
+    if isinstance(value, frozenset):
+        return value == flags_of(told)[0]
+    if isinstance(value, datetime.datetime):
+        return value.strftime("%Y-%m-%dT%H:%M:%SZ").rjust(20, "0") == told
+    if isinstance(value, bytes) and isinstance(told, dict):  # a BIT STRING that is no flags; an ENUMERATED
+        if "flags" not in told:
+            return value == bytes([told["number"]])
+        bits = int.from_bytes(value[1:], "big")
+        size = 8 * len(value) - 8
+        return (frozenset(number for number in range(size) if bits >> (size - 1 - number) & 1), size - value[0]) == flags_of(told)
+    if isinstance(value, bytes):
+        return told == value.hex() or told.endswith(value.hex())  # an element that is not read is told whole
+    if isinstance(told, dict):
+        return value == told.get("identifier")
+    return value == told or re.sub(r"(....)(..)(..)(..)(..)(..)Z", r"\1-\2-\3T\4:\5:\6Z", value) == told
 
 
 def try_row(name, octets, expected):
@@ -61,6 +175,10 @@ def try_row(name, octets, expected):
     text, told = krb.text(octets, name, show_secrets=True), krb.json(octets, name, show_secrets=True)
     headed, told = (it.replace(name, HEADINGS.get(name, name), 1) for it in (text, told))
     expect(headed.split("\n") == expected[:-1] + [""] and told == expected[-1] + "\n", "%s is told otherwise" % name)
+    (value,) = json.loads(told).values()
+    expect(agrees(krb.decode(octets, name), value), "%s is decoded otherwise" % name)
+    if krb.type_of(octets) == name:
+        expect(krb.json(octets, show_secrets=True) == told and krb.text(octets, show_secrets=True) == text, "%s is not told by its first octet" % name)
     hidden = krb.text(octets, name)
     expect(hidden == text or "hidden" in hidden, "%s: neither shown nor hidden" % name)
     expect(json.loads(krb.json(octets, name)) is not None and hidden.isascii() and hidden.replace("\n", "").isprintable(), "%s: no printable text" % name)
@@ -74,11 +192,70 @@ def try_key():
     expect(outcome(krb.text, key, "no type") == Status.NUMBER and outcome(krb.json, key[:-1], "EncryptionKey") == Status.TRUNCATED, "no refusal")
 
 
+# Texts that would mislead a terminal or a reader, each in a leaf of every kind that takes it.
+HOSTILE = [b"\n", b"\r", b"\x1b[2J", b"\xc2\x9b31m", "\u202ereversed".encode(), b"\0", b"a: b", b'"', b"\\", b"\x7f", b"\xff\xfe", b"hidden"]
+
+
+def element(tag, content):
+    """An element (X.690, 8.1.3)."""
+    size = len(content)
+    if size < 128:
+        return bytes([tag, size]) + content
+    digits = size.to_bytes((size.bit_length() + 7) // 8, "big")
+    return bytes([tag, 128 + len(digits)]) + digits + content
+
+
+def try_found_keys():
+    """Of the keys in an encrypted part a thousand are tried on what follows, and how many are left out is said (krb.h, krb_show_page)."""
+    wrap = lambda number, inner: element(0xA0 + number, inner)
+    key, number = bytes(range(16)), element(2, b"\x11")
+    for count in (1000, 1001, 1100):
+        info = element(48, wrap(0, element(48, wrap(0, number) + wrap(1, element(4, bytes(16))))))
+        part = element(0x7D, element(48, wrap(0, element(48, info * count))))
+        cipher = krb.messages.seal(krb.messages.Part.CRED_PART, 17, key, 14, part)
+        encrypted = element(48, wrap(0, number) + wrap(2, element(4, cipher)))
+        message = element(0x76, element(48, wrap(0, element(2, b"\5")) + wrap(1, element(2, b"\x16")) + wrap(2, element(48, b"")) + wrap(3, encrypted)))
+        shown = krb.show(message, keytab=keytab_of("17:%s:service" % key.hex())[0])
+        left = "keys-not-tried: %d" % (count - 1000)
+        expect("ticket-info[%d]:" % count in shown and (left in shown) == (count > 1000) and ("keys-not-tried" in shown) == (count > 1000), "%d keys are found" % count)
+
+
+def try_hostile():
+    """Texts, names, octets, secrets, ciphertexts and what is not read, that hold such octets: one line each, in printable ASCII."""
+    for text in HOSTILE:
+        wrap = lambda number, inner: element(0xA0 + number, inner)
+        number, octets, string = element(2, b"\x11"), element(4, text), element(27, text)
+        rows = [
+            ("PrincipalName", element(48, wrap(0, element(2, b"\1")) + wrap(1, element(48, string + string)))),
+            ("EncryptionKey", element(48, wrap(0, number) + wrap(1, octets))),
+            ("EncryptedData", element(48, wrap(0, number) + wrap(2, octets))),
+            ("Checksum", element(48, wrap(0, number) + wrap(1, octets))),
+            ("PA-DATA", element(48, wrap(1, number) + wrap(2, octets))),
+            ("HostAddress", element(48, wrap(0, number) + wrap(1, octets))),
+            ("ETYPE-INFO2-ENTRY", element(48, wrap(0, number) + wrap(1, string) + wrap(2, octets))),
+        ]
+        for name, row in rows:
+            for secrets in (False, True):
+                if isinstance(outcome(krb.items, row, name), Status):  # a text that is no GeneralString of RFC 4120, 5.2.1
+                    expect(outcome(krb.text, row, name) == outcome(krb.items, row, name), "%s is refused otherwise" % name)
+                    continue
+                shown, told = krb.text(row, name, show_secrets=secrets), krb.json(row, name, show_secrets=secrets)
+                lines = shown.split("\n")
+                plain = krb.text(dict(rows)[name].replace(text, b"x" * len(text)), name, show_secrets=secrets).split("\n")
+                expect(all(line.isascii() and line.isprintable() for line in lines + [told[:-1]]) and len(lines) == len(plain), "%s shows %r" % (name, text))
+                expect(json.loads(told) is not None and agrees(krb.decode(row, name), json.loads(krb.json(row, name, show_secrets=True))[name]), "%s tells %r otherwise" % (name, text))
+
+
 def main():
     count = sum(try_row(name, octets, expected) for _, name, octets, expected in rows(sys.argv[1]))
     expect(count > 200, "only %d rows were tried" % count)
     print("shown: %d rows" % count)
     try_key()
+    try_hostile()
+    try_found_keys()
+    opened, kinds = try_opened(sys.argv[1]), try_kinds(sys.argv[1])
+    expect(opened > 150 and kinds > 10, "only %d opened rows and %d files were tried" % (opened, kinds))
+    print("opened: %d rows; files: %d" % (opened, kinds))
     return counted()
 
 

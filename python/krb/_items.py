@@ -3,11 +3,12 @@
 import ctypes
 import datetime
 import enum
-from typing import Any, Dict, FrozenSet, List, NamedTuple, Optional, Tuple, Union
+import struct
+from typing import Any, Dict, FrozenSet, Iterator, List, NamedTuple, Optional, Tuple, Union
 
 from krb._library import Octets, Refused, Status, _library
 
-__all__ = ["Form", "Leaf", "Node", "Registry", "Item", "Secret", "items", "find", "find_item", "find_number", "decode", "first_error"]
+__all__ = ["Form", "Leaf", "Node", "Registry", "Item", "Secret", "items", "find", "find_item", "find_number", "decode", "first_error", "type_of"]
 
 
 class Form(enum.IntEnum):
@@ -98,6 +99,29 @@ class Secret(bytes):
     __str__ = __repr__
 
 
+# The first octets of the types that these tell (RFC 4120, 5.10).
+_APPLICATIONS = {
+    0x61: "Ticket", 0x62: "Authenticator", 0x63: "EncTicketPart", 0x6A: "AS-REQ", 0x6B: "AS-REP", 0x6C: "TGS-REQ", 0x6D: "TGS-REP", 0x6E: "AP-REQ",
+    0x6F: "AP-REP", 0x75: "KRB-PRIV", 0x76: "KRB-CRED", 0x79: "EncASRepPart", 0x7A: "EncTGSRepPart", 0x7B: "EncAPRepPart", 0x7C: "EncKrbPrivPart",
+    0x7D: "EncKrbCredPart", 0x7E: "KRB-ERROR",
+}
+
+
+def type_of(octets: Octets) -> Optional[str]:
+    """The type that the first octet tells, of the messages of RFC 4120 and their parts (RFC 4120, 5.10), as "AS-REQ"; None where it tells none, as of a
+    KDC-PROXY-MESSAGE. It is not said that they are one."""
+    first = plain(octets)[:1]
+    return _APPLICATIONS.get(first[0]) if first else None
+
+
+def _named(octets: bytes, as_type: Optional[str]) -> bytes:
+    """The name of the type, or of the one that the first octet tells."""
+    name = type_of(octets) if as_type is None else as_type
+    if name is None:
+        raise Refused(Status.NUMBER)
+    return _text(name)
+
+
 class _Record(ctypes.Structure):
     """krb_item of krb.h."""
 
@@ -148,29 +172,40 @@ def _item(record: _Record) -> Item:
     return Item(form, kind, _name(record.name), registry, record.depth, record.tag, record.offset, record.size)
 
 
-def _walked(octets: bytes, as_type: str) -> Tuple[int, Any, int]:
-    """The status, the records and the offset of the first error."""
-    name, count, offset = _text(as_type), ctypes.c_size_t(), ctypes.c_size_t()
+_RECORD = struct.Struct("@NNIIIiII")  # offset, size, form, kind, name, registry, depth, tag
+assert _RECORD.size == ctypes.sizeof(_Record)
+
+
+def _walked(octets: bytes, as_type: Optional[str]) -> Tuple[int, bytes, int]:
+    """The status, the octets of the records, and the offset of the first error."""
+    name, count, offset = _named(octets, as_type), ctypes.c_size_t(), ctypes.c_size_t()
     room = len(octets) // 3 + 16
     while True:
-        records = (_Record * room)()
-        status = _items(name, len(name), octets, len(octets), records, room, ctypes.byref(count), ctypes.byref(offset))
+        records = bytearray(room * _RECORD.size)
+        cells = (ctypes.c_char * len(records)).from_buffer(records)
+        status = _items(name, len(name), octets, len(octets), cells, room, ctypes.byref(count), ctypes.byref(offset))
         if status != Status.ROOM or count.value <= room:
-            return status, records[: count.value] if status == Status.DONE else [], offset.value
+            return status, bytes(memoryview(records)[: count.value * _RECORD.size]) if status == Status.DONE else b"", offset.value
         room = count.value
 
 
-def items(octets: Octets, as_type: str) -> List[Item]:
-    """All items of octets that are one element of the type, as "AS-REQ", "EncTicketPart" or "KDC-PROXY-MESSAGE", in their order.
-
-    Refused: NUMBER where no type has the name; INVALID, TRUNCATED, UNSUPPORTED, TOO_DEEP, whose place `first_error` has; MEMORY."""
-    status, records, _ = _walked(plain(octets), as_type)
+def _records(octets: bytes, as_type: Optional[str]) -> Iterator[Tuple[int, ...]]:
+    """The fields of the records of all items."""
+    status, records, _ = _walked(octets, as_type)
     if status != Status.DONE:
         raise Refused(status)
-    return [_item(record) for record in records]
+    return _RECORD.iter_unpack(records)
 
 
-def first_error(octets: Octets, as_type: str) -> Optional[Tuple[Status, int]]:
+def items(octets: Octets, as_type: Optional[str] = None) -> List[Item]:
+    """All items of octets that are one element of the type, as "AS-REQ", "EncTicketPart" or "KDC-PROXY-MESSAGE", in their order; without a type, of the one that
+    `type_of` tells.
+
+    Refused: NUMBER where no type has the name, or none is told; INVALID, TRUNCATED, UNSUPPORTED, TOO_DEEP, whose place `first_error` has; MEMORY."""
+    return [_item(_Record(*record)) for record in _records(plain(octets), as_type)]
+
+
+def first_error(octets: Octets, as_type: Optional[str] = None) -> Optional[Tuple[Status, int]]:
     """Why octets are no element of the type, and how many octets stand before the first error; None where they are one. Refused: NUMBER, MEMORY."""
     status, _, offset = _walked(plain(octets), as_type)
     if status in (Status.NUMBER, Status.MEMORY):
@@ -207,8 +242,13 @@ def find_number(octets: Octets, as_type: str, path: str) -> int:
 
 def _flags(content: bytes) -> FrozenSet[int]:
     """The numbers of the bits that are set, counted from 0 at the left."""
-    bits = content[1:]
-    return frozenset(n for n in range(8 * len(bits)) if bits[n // 8] >> (7 - n % 8) & 1)
+    bits, size = int.from_bytes(content[1:], "big"), 8 * len(content) - 8
+    found = []
+    while bits:  # the highest first
+        high = bits.bit_length()
+        found.append(size - high)
+        bits ^= 1 << (high - 1)
+    return frozenset(found)
 
 
 def _identifier(content: bytes) -> str:
@@ -234,7 +274,9 @@ def _time(content: bytes) -> Any:
     """A time of UTC; the text of one that datetime does not have, as of the year 0 or of second 60."""
     text = content.decode("ascii")
     try:
-        return datetime.datetime.strptime(text, "%Y%m%d%H%M%SZ").replace(tzinfo=datetime.timezone.utc)
+        return datetime.datetime(
+            int(text[:4]), int(text[4:6]), int(text[6:8]), int(text[8:10]), int(text[10:12]), int(text[12:14]), 0, datetime.timezone.utc
+        )
     except ValueError:
         return text
 
@@ -242,28 +284,33 @@ def _time(content: bytes) -> Any:
 _VALUES[Leaf.TIME] = _time
 
 
-def decode(octets: Octets, as_type: str) -> Any:
-    """The tree of octets that are one element of the type: a dict of a SEQUENCE, by the names of its fields; a list; an int, a bool, a str, a datetime of
-    UTC, bytes, `Secret` of a key's octets; a frozenset of the numbers of the flags that are set; an OBJECT IDENTIFIER with dots. What stands in an
-    explicit tag, or in an OCTET STRING that holds an element, is itself.
+_BY_NUMBER = {int(leaf): value for leaf, value in _VALUES.items()}
+
+
+def decode(octets: Octets, as_type: Optional[str] = None) -> Any:
+    """The tree of octets that are one element of the type, and without a type of the one that `type_of` tells: a dict of a SEQUENCE, by the names of its
+    fields; a list; an int, a bool, a str, a datetime of UTC, bytes, `Secret` of a key's octets; a frozenset of the numbers of the flags that are set; an
+    OBJECT IDENTIFIER with dots. What stands in an explicit tag, or in an OCTET STRING that holds an element, is itself.
 
     Refused: as `items`."""
     octets = plain(octets)
     whole: List[Any] = []
     stack: List[Any] = [whole]  # the dicts and lists that are not at their end
-    for item in items(octets, as_type):
-        is_leaf = item.form == Form.LEAF
-        if not is_leaf and item.kind == Node.WRAP:
+    for offset, size, form, kind, name, _, _, _ in _records(octets, as_type):
+        if form == Form.LEAF:
+            value: Any = _BY_NUMBER[kind](octets[offset : offset + size])
+        elif kind == Node.WRAP:
             continue
-        if item.form == Form.END:
+        elif form == Form.END:
             stack.pop()
             continue
-        value: Any = _VALUES[Leaf(item.kind)](octets[item.place]) if is_leaf else {} if item.kind == Node.STRUCT else []
+        else:
+            value = {} if kind == Node.STRUCT else []
         around = stack[-1]
-        if isinstance(around, dict):
-            around[item.name] = value
+        if type(around) is dict:
+            around[_name(name)] = value
         else:
             around.append(value)
-        if not is_leaf:
+        if form == Form.BEGIN:
             stack.append(value)
     return whole[0]

@@ -35,6 +35,7 @@ class Status(enum.IntEnum):
     ABSENT = 20
     TOO_LARGE = 21
     TOO_DEEP = 22
+    KEYTAB = 23
     OTHER_VERSION = 25
     PAC_TYPE = 26
     PAC_RANGE = 27
@@ -75,6 +76,7 @@ TEXTS = {
     Status.ABSENT: "no such field or element",
     Status.TOO_LARGE: "a number of more than 64 bits",
     Status.TOO_DEEP: "elements too deep in one another",
+    Status.KEYTAB: "no keytab",
     Status.OTHER_VERSION: "another version of the format",
     Status.PAC_TYPE: "a buffer of an unknown type",
     Status.PAC_RANGE: "a buffer of octets that are not there",

@@ -1,7 +1,7 @@
 -- Keys behind keys.
 use Rattle.std.proofs.Common.{refl, ◌≡◌, ℕ, ◌+◌, List, [], ◌∷◌, ◌++◌, subst, Option, inl, inr}
 use Rattle.std.proofs.lemmas.List.{append-nil, append_assoc}
-use Rattle.krb_show_opened.specs.Keys.{NamedKey}
+use Rattle.krb_decrypt.specs.Keys.{NamedKey}
 use Rattle.jolmurig.specs.Keys.{AreKeys, HasNoKeys, IsNoSource, adds, gives_keys}
 use Rattle.jolmurig.specs.Shows.{Source}
 use Rattle.jolmurig.specs.declared.failure.Failure.{Failure}

@@ -1,12 +1,12 @@
 -- What is written for an input, and why nothing is.
-use Rattle.std.specs.Prelude.{◌≡◌, ◌⊎◌, ℕ, ◌-◌, Bool, true, false, List, [], ◌∷◌, ◌++◌, length, take, Option, Some, None, Result, Ok, Err, Vec}
+use Rattle.std.specs.Prelude.{◌≡◌, ◌⊎◌, ℕ, ◌+◌, ◌-◌, Bool, true, false, List, [], ◌∷◌, ◌++◌, length, take, Option, Some, None, Result, Ok, Err, Vec}
 use Rattle.std.specs.declared.alloc.Global.{Global}
 use Rattle.krb_show.specs.Tokens.{Token}
 use Rattle.krb_show.specs.Text.{AreLines, page_text, text_of_lines}
 use Rattle.krb_show.specs.Json.{json_line}
 use Rattle.krb_show_any.specs.declared.kind.Kind.{Kind}
 use Rattle.krb_show_keys.specs.Hidden.{hidden_page}
-use Rattle.krb_show_opened.specs.Keys.{NamedKey}
+use Rattle.krb_decrypt.specs.Keys.{NamedKey}
 use Rattle.jolmurig.specs.Calls.{Opens, Places}
 use Rattle.krb_show_pac.specs.Inserted.{IsWithContents}
 use Rattle.krb_show_keys.specs.PasswordKeys.{KeysOfPasswords}
@@ -42,21 +42,27 @@ abbrev pub chosen : Option Kind → List ℕ → Option Kind
 chosen None octets = kind_of octets
 chosen (Some kind) octets = Some kind
 
--- what opens what is sealed: keys, and passwords
+-- what opens what is sealed: keys, and passwords; and whether all keys are tried that are found in what is opened
 pub record Openers : Type 0 where
   pub keys : List NamedKey
   pub passwords : List (List ℕ)
+  pub tries_all : Bool
 
 -- the keys, and behind them those that the passwords give with the salts of a page
 abbrev pub AreKeysFor : Openers → List Token → List NamedKey → Type 0
 AreKeysFor o page keys = (more : List NamedKey) × KeysOfPasswords o.passwords (salts_of page) more × (keys ≡ o.keys ++ more)
+
+-- how many keys there may be, with those that are found: a thousand more than there are, or as many as a number of 64 bits
+abbrev pub most_of : Bool → List NamedKey → ℕ
+most_of true keys = 18446744073709551615
+most_of false keys = length keys + 1000
 
 -- this is written of a page: with what the keys open in it, and then with what the buffers of PACs hold
 pub record IsWrittenOf (opens : Opens) (openers : Openers) (page : List Token) (form : Output) (shows_keys : Bool) (made : List ℕ) : Type 0 where
   pub keys : List NamedKey
   pub are_keys : AreKeysFor openers page keys
   pub opened : List Token
-  pub is_opened : opens keys page opened
+  pub is_opened : opens (most_of openers.tries_all keys) keys page opened
   pub detailed : List Token
   pub is_detailed : IsWithContents opened detailed
   pub is_made : made ≡ output_text form (shown_keys shows_keys detailed)

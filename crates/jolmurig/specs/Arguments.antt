@@ -26,7 +26,7 @@ abbrev pub file_name : List ℕ → Option (List ℕ)
 file_name [] = None
 file_name (first ∷ rest) = if nat_eq first 45 then None else Some (first ∷ rest)
 
--- ---- options of `show` without a value; each but the last two once, and one output
+-- ---- options of `show` without a value; a tree once, and one output
 
 abbrev pub with_tree : Show → Option Show
 with_tree s = kind_free s.type_name s.is_tree
@@ -45,6 +45,9 @@ with_output form s = output_free s.output
 abbrev pub with_keys_shown : Bool → Show → Option Show
 with_keys_shown shown s = Some (record s { shows_keys = shown })
 
+abbrev pub with_all_tried : Show → Option Show
+with_all_tried s = Some (record s { tries_all = true })
+
 -- one file at most
 abbrev pub with_file : List ℕ → Show → Option Show
 with_file name s = file_free s.file
@@ -60,6 +63,7 @@ with_flag w s =
     else if is_word w (codes "--type") then with_output output.Type s
     else if is_word w (codes "--show-keys") then with_keys_shown true s
     else if is_word w (codes "--no-keys") then with_keys_shown false s
+    else if is_word w (codes "--all-found-keys") then with_all_tried s
     else with_file w s
 
 -- ---- options of `show` with a value

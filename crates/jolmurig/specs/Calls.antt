@@ -24,7 +24,7 @@ use Rattle.krb_schema.specs.declared.item.Item.{Item}
 use Rattle.krb_show.specs.Tokens.{Token}
 use Rattle.krb_show_any.specs.declared.error.PageError.{PageError}
 use Rattle.krb_show_any.specs.declared.kind.Kind.{Kind}
-use Rattle.krb_show_opened.specs.Keys.{NamedKey}
+use Rattle.krb_decrypt.specs.Keys.{NamedKey}
 use Rattle.jolmurig.specs.declared.calls.Entries.{Entries}
 use Rattle.jolmurig.specs.declared.calls.Entries.TheVariants as entries
 use Rattle.jolmurig.specs.Requests.{IsLineOf}
@@ -33,9 +33,9 @@ use Rattle.jolmurig.specs.declared.command.Direction.TheVariants as direction
 use Rattle.jolmurig.specs.declared.command.Format.{Format}
 use Rattle.jolmurig.specs.declared.command.Format.TheVariants as format
 
--- what is opened in a page: the keys, the page before and after
+-- what is opened in a page: how many keys there may be, the keys, the page before and after
 abbrev pub Opens : Type 1
-Opens = List NamedKey → List Token → List Token → Type 0
+Opens = ℕ → List NamedKey → List Token → List Token → Type 0
 
 -- where an error of octets of a kind is, if that is known
 abbrev pub Places : Type 1

@@ -10,7 +10,7 @@ use Rattle.krb_show_any.specs.declared.kind.Kind.{Kind}
 use Rattle.krb_show_any.specs.declared.error.PageError.{PageError}
 use Rattle.krb_show_any.specs.Names.{IsNamed}
 use Rattle.krb_show_any.specs.declared.kind.Kind.TheVariants as kinds
-use Rattle.krb_show_opened.specs.Keys.{NamedKey}
+use Rattle.krb_decrypt.specs.Keys.{NamedKey}
 use Rattle.jolmurig.specs.Answers.{ArePrintableLines, IsRefused, IsWritten, Openers}
 use Rattle.jolmurig.specs.Calls.{Blocks, Breaks, Converts, Lists, Opens, Passes, Places, Refuses}
 use Rattle.jolmurig.specs.Checks.{IsChecked, IsUnchecked}
@@ -176,6 +176,7 @@ pub record IsPrepared (gives : Gives) (s : Show) (kind : Option Kind) (openers :
   pub is_kind : IsKindOf s kind
   pub are_keys : AreKeys gives 1 s.sources openers.keys
   pub are_passwords : ArePasswords gives s.password_files openers.passwords
+  pub tries_all : openers.tries_all ≡ s.tries_all
 
 -- it has a kind and keys, and the file of a password cannot be read
 pub record HasNoPasswords (gives : Gives) (s : Show) (e : Failure) : Type 0 where

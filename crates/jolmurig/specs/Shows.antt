@@ -13,10 +13,11 @@ pub record Show : Type 0 where
   pub is_tree : Bool
   pub output : Option Output
   pub shows_keys : Bool
+  pub tries_all : Bool
   pub sources : List Source
   pub password_files : List (List ℕ)
   pub file : Option (List ℕ)
 
 -- without any option
 abbrev pub nothing_asked : Show
-nothing_asked = record { type_name = None; is_tree = false; output = None; shows_keys = false; sources = []; password_files = []; file = None }
+nothing_asked = record { type_name = None; is_tree = false; output = None; shows_keys = false; tries_all = false; sources = []; password_files = []; file = None }

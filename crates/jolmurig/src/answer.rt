@@ -2,7 +2,7 @@
 
 ghost use Rattle.std.specs.Prelude.{◌≡◌, ◌⊎◌, ◌-◌, ◌++◌, ◌∷◌, [], length, take, IfOk, IfErr};
 ghost use Rattle.std.specs.String.{string_bytes};
-ghost use Rattle.jolmurig.specs.Answers.{AreKeysFor, ArePrintableLines, chosen, IsRefused, IsWritten, IsWrittenOf, output_text, shown_keys, type_line};
+ghost use Rattle.jolmurig.specs.Answers.{AreKeysFor, ArePrintableLines, chosen, IsRefused, IsWritten, IsWrittenOf, most_of, output_text, shown_keys, type_line};
 ghost use Rattle.jolmurig.specs.declared.command.Output.TheVariants as output;
 ghost use Rattle.jolmurig.specs.declared.failure.Failure.TheVariants as failure;
 
@@ -10,10 +10,10 @@ use crate::calls::Calls;
 use crate::command::Output;
 use crate::failure::Failure;
 use crate::openers::Openers;
+use krb_decrypt::{Key, MOST_FOUND};
 use krb_show::{Page, Token, json_of_page, text_of_page};
 use krb_show_any::{Kind, PageError, Pages, kind_of_octets};
 use krb_show_keys::{keys_of_passwords, without_keys};
-use krb_show_opened::Key;
 use krb_show_pac::page_with_contents;
 use std::alloc::{AllocError, Global};
 
@@ -103,11 +103,26 @@ fn kept(alloc: Global, shows_keys: bool, page: Page) -> Result<Page, AllocError>
 fn keys_for(alloc: Global, openers: Openers, page: &[Token]) -> Result<Vec<Key>, AllocError>
     ensures { IfOk result (λ keys. AreKeysFor openers page.now keys.items) }
 {
-    let Openers { keys, passwords } = openers;
+    let Openers {
+        keys,
+        passwords,
+        tries_all: _,
+    } = openers;
     let mut all = keys;
     let mut more = keys_of_passwords(alloc, &passwords, page)?;
     all.append(&mut more)?;
     Ok(all)
+}
+
+/// How many keys there may be, with those that are found in what is opened.
+fn most_of(tries_all: bool, keys: &[Key]) -> usize
+    ensures { result ≡ most_of tries_all keys.now }
+{
+    if tries_all {
+        usize::MAX
+    } else {
+        keys.len() + MOST_FOUND
+    }
 }
 
 /// What is written of a page: what the keys open in it is shown in its place, and so is what the buffers of PACs hold.
@@ -121,8 +136,9 @@ fn written_opened<C: Calls>(
     ensures made { IfOk result (λ made. IsWrittenOf C.opens openers page.items output shows_keys made.items) }
     ensures printable { IfOk result (λ made. ArePrintableLines made.items) }
 {
+    let tries_all = openers.tries_all;
     let keys = keys_for(alloc, openers, &page)?;
-    let opened = C::opened(alloc, keys, page)?;
+    let opened = C::opened(alloc, most_of(tries_all, &keys), keys, page)?;
     let detailed = page_with_contents(alloc, opened)?;
     let page = kept(alloc, shows_keys, detailed)?;
     written(alloc, output, &page)

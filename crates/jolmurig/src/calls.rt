@@ -14,8 +14,8 @@ ghost use Rattle.krb_show_any.specs.Broken.{AreBrokenOf};
 ghost use Rattle.krb_show_any.specs.Places.{IsPlaceOf};
 ghost use Rattle.krb_show_any.specs.declared.error.PageError.{PageError};
 ghost use Rattle.krb_show_any.specs.declared.kind.Kind.{Kind};
-ghost use Rattle.krb_show_opened.specs.Keys.{NamedKey};
-ghost use Rattle.krb_show_checksums.specs.Checked.{is_checked};
+ghost use Rattle.krb_decrypt.specs.Keys.{NamedKey};
+ghost use Rattle.krb_decrypt.specs.Pages.{is_decrypted_page};
 ghost use Rattle.jolmurig.specs.Calls.{blocked, converted_to, listed_as, no_list, passed_on, unconverted_to};
 ghost use Rattle.jolmurig.specs.declared.command.Direction.{Direction};
 ghost use Rattle.jolmurig.specs.declared.command.Format.{Format};
@@ -23,6 +23,7 @@ ghost use Rattle.jolmurig.specs.declared.calls.Entries.{Entries};
 
 use crate::command::{Direction, Format};
 use crate::proxy::{Passed, reply_passed, request_passed};
+use krb_decrypt::{Key, TellsBehind};
 use krb_der::DerEncode;
 use krb_enc_parts::data_types::EncKrbCredPart;
 use krb_file_tools::convert::{ConvertError, Converted, ccache_of_kirbi, kirbi_of_ccache};
@@ -32,10 +33,10 @@ use krb_messages::messages::{
     ApRep, ApReq, AsRep, AsReq, KdcProxyMessage, KrbCred, KrbError, KrbPriv, TgsRep, TgsReq,
 };
 use krb_schema::Item;
-use krb_show::{Insert, Page};
+use krb_show::{Page, ShowsFormats};
 use krb_show_any::{Kind, PageError, broken_rules_of, place_of_error};
-use krb_show_checksums::{Checking, page_with_checked};
-use krb_show_opened::Key;
+use krb_show_checksums::{Checksums, page_with_checked};
+use krb_show_messages::KerberosFormats;
 use krb_types::data_types::Ticket;
 use std::alloc::{AllocError, Global};
 
@@ -50,8 +51,9 @@ pub enum Entries {
 
 /// What the program calls of the library.
 pub trait Calls {
-    /// What is opened: the keys, the page, and the page with what the keys open and what is known of checksums.
-    ghost opens: { List NamedKey → List Token → List Token → Type 0 };
+    /// What is opened: how many keys there may be with those that are found, the keys, the page, and the page with what the keys open and what is
+    /// known of checksums.
+    ghost opens: { ℕ → List NamedKey → List Token → List Token → Type 0 };
 
     /// Where an error is: the kind of the octets, the error, the octets, and how many stand before it.
     ghost places: { Kind → PageError → List ℕ → Option ℕ → Type 0 };
@@ -75,8 +77,8 @@ pub trait Calls {
     ghost blocks: { Direction → List ℕ → ProxyError → Type 0 };
 
     /// The page with what the keys open and what is known of checksums.
-    fn opened(alloc: Global, keys: Vec<Key>, page: Page) -> Result<Page, AllocError>
-        ensures { IfOk result (λ made. opens keys.items page.items made.items) };
+    fn opened(alloc: Global, most: usize, keys: Vec<Key>, page: Page) -> Result<Page, AllocError>
+        ensures { IfOk result (λ made. opens most keys.items page.items made.items) };
 
     /// How many octets of a kind stand before an error of theirs.
     fn place_of(
@@ -112,7 +114,7 @@ pub trait Calls {
 pub struct Library;
 
 impl Calls for Library {
-    ghost opens = { is_checked ⟦<Checking as Insert>⟧.inserts };
+    ghost opens = { λ most keys. is_decrypted_page ⟦<KerberosFormats as ShowsFormats>⟧.tells ⟦<Checksums as TellsBehind>⟧.tells most keys keys };
 
     ghost places = { IsPlaceOf };
 
@@ -132,8 +134,8 @@ impl Calls for Library {
         (types ⟦<AsReq as DerEncode>⟧ ⟦<TgsReq as DerEncode>⟧ ⟦<ApReq as DerEncode>⟧ ⟦<KrbPriv as DerEncode>⟧)
         (reply_types ⟦<AsRep as DerEncode>⟧ ⟦<TgsRep as DerEncode>⟧ ⟦<KrbError as DerEncode>⟧ ⟦<ApRep as DerEncode>⟧ ⟦<KrbPriv as DerEncode>⟧) };
 
-    fn opened(alloc: Global, keys: Vec<Key>, page: Page) -> Result<Page, AllocError> {
-        page_with_checked(alloc, keys, page)
+    fn opened(alloc: Global, most: usize, keys: Vec<Key>, page: Page) -> Result<Page, AllocError> {
+        page_with_checked(alloc, most, keys, page)
     }
 
     fn place_of(

@@ -67,6 +67,8 @@ pub struct Show<'a> {
     pub output: Option<Output>,
     /// Whether the octets of keys are shown: the option `--show-keys`.
     pub shows_keys: bool,
+    /// Whether all keys are tried that are found in what is opened: the option `--all-found-keys`.
+    pub tries_all: bool,
     /// Where the keys are that open what is sealed.
     pub sources: Vec<Source<'a>>,
     /// The names of files that hold passwords: the option `--password-file`.
@@ -86,6 +88,7 @@ impl<'a> Model for Show<'a> {
       is_tree = s.is_tree;
       output = s.output;
       shows_keys = s.shows_keys;
+      tries_all = s.tries_all;
       sources = s.sources.items;
       password_files = s.password_files.items;
       file = option_copied s.file;

@@ -87,7 +87,11 @@ fn prepare<F: Files>(alloc: Global, files: &F, show: &Show) -> Result<Prepared, 
     let passwords = passwords_of_files(alloc, files, &show.password_files)?;
     Ok(Prepared {
         kind,
-        openers: Openers { keys, passwords },
+        openers: Openers {
+            keys,
+            passwords,
+            tries_all: show.tries_all,
+        },
     })
 }
 

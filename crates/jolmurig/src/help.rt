@@ -37,6 +37,8 @@ options of show:
     --keytab FILE           open what is sealed with the keys of this keytab, as often as wanted
     --password-file FILE    open what is sealed with the keys of the password in the first line of this file, as often
                             as wanted: the salts are those of the first 16 principals and ETYPE-INFO2s of the input
+    --all-found-keys        try all keys that are found in what is opened, and not only the first 1000: whoever made the
+                            input may have made it slow
     --show-keys             write the octets of keys, passwords and PINs
     --no-keys               write `hidden` in the place of these, as without these two; other octets that hold a key
                             stay, as those of a tree

@@ -9,9 +9,9 @@ ghost use Rattle.jolmurig.specs.declared.failure.Failure.TheVariants as failure;
 use crate::command::{Source, SourceKind};
 use crate::failure::Failure;
 use crate::files::{Files, octets_of_file};
+use krb_decrypt::Key;
 use krb_input::without_blanks;
 use krb_show_keys::{KeytabKeysError, key_of_text, keys_of_keytab};
-use krb_show_opened::Key;
 use std::alloc::{AllocError, Global};
 
 /// The name of the key of an option `--key`, by its number among the options that name keys.

@@ -1,6 +1,6 @@
 //! What opens what is sealed.
 
-use krb_show_opened::Key;
+use krb_decrypt::Key;
 use std::marker::Model;
 
 /// What opens what is sealed.
@@ -10,6 +10,8 @@ pub struct Openers {
     pub keys: Vec<Key>,
     /// The passwords, which give keys with the salts of a page.
     pub passwords: Vec<Vec<u8>>,
+    /// Whether all keys are tried that are found in what is opened, and not only the first thousand.
+    pub tries_all: bool,
 }
 
 impl Model for Openers {
@@ -18,5 +20,5 @@ impl Model for Openers {
 
     ghost Value = { Openers };
 
-    ghost view = { λ o. record { keys = o.keys.items; passwords = map (λ p. p.items) o.passwords.items } };
+    ghost view = { λ o. record { keys = o.keys.items; passwords = map (λ p. p.items) o.passwords.items; tries_all = o.tries_all } };
 }

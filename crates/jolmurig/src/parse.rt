@@ -99,6 +99,11 @@ fn with_flag<'a>(word: &'a str, show: Show<'a>) -> Option<Show<'a>>
             shows_keys: false,
             ..show
         })
+    } else if is_word(word, "--all-found-keys") {
+        Some(Show {
+            tries_all: true,
+            ..show
+        })
     } else {
         with_file(word, show)
     }
@@ -143,6 +148,7 @@ fn with_source<'a>(kind: SourceKind, text: &'a str, show: Show<'a>) -> Result<Sh
         is_tree: show.is_tree,
         output: show.output,
         shows_keys: show.shows_keys,
+        tries_all: show.tries_all,
         sources,
         password_files: show.password_files,
         file: show.file,
@@ -160,6 +166,7 @@ fn with_password_file<'a>(name: &'a str, show: Show<'a>) -> Result<Show<'a>, All
         is_tree: show.is_tree,
         output: show.output,
         shows_keys: show.shows_keys,
+        tries_all: show.tries_all,
         sources: show.sources,
         password_files,
         file: show.file,
@@ -260,6 +267,7 @@ fn nothing_asked<'a>(alloc: Global) -> Show<'a>
         is_tree: false,
         output: None,
         shows_keys: false,
+        tries_all: false,
         sources: Vec::new(alloc),
         password_files: Vec::new(alloc),
         file: None,

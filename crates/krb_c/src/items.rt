@@ -1,10 +1,13 @@
-//! Items of octets, for C. `krb.h` declares these calls.
+//! Items of octets, and octets for people, for C. `krb.h` declares these calls.
 
 ghost use Rattle.krb_c_calls.specs.Handing.{IsAnswered};
 ghost use Rattle.krb_c_calls.specs.Items.{IsItemAnswer, IsItemNumber, IsItemsAnswer, IsNameOf, RefusesName};
 ghost use Rattle.krb_c_calls.specs.Shown.{IsShown, RefusesShowing, secrets_of};
+ghost use Rattle.krb_c_pages.specs.Pages.{IsPageText, RefusesPage};
 
 use krb_c_calls::items::ItemRecord;
+use krb_c_pages::{Opened, Opens, show_page};
+use krb_show_any::{Everything, Kind, PageError, Pages};
 use std::alloc::Global;
 
 /// `krb_items` of `krb.h`: all items of octets that are an element of a type (RFC 4120 and others).
@@ -73,4 +76,22 @@ pub extern "C" fn krb_show(
         out.old out.new size.new result }
 {
     krb_c_calls::items::show(alloc, type_name, octets, is_json, shows_secrets, out, size)
+}
+
+/// `krb_show_page` of `krb.h`: what `jolmurig show` writes of octets of any kind.
+#[unsafe(no_mangle)]
+pub extern "C" fn krb_show_page(
+    alloc: Global,
+    name: &[u8],
+    octets: &[u8],
+    keytab: &[u8],
+    is_json: bool,
+    shows_keys: bool,
+    out: &mut [u8],
+    size: &mut usize,
+) -> u32
+    ensures { IsAnswered (IsPageText ⟦<Everything as Pages<Kind, PageError>>⟧.tells ⟦<Opened as Opens>⟧.opens is_json shows_keys name.now octets.now keytab.now)
+        (RefusesPage ⟦<Everything as Pages<Kind, PageError>>⟧.tells name.now octets.now keytab.now) out.old out.new size.new result }
+{
+    show_page::<Everything, Opened>(alloc, name, octets, keytab, is_json, shows_keys, out, size)
 }

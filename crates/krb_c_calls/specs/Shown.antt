@@ -5,9 +5,9 @@ use Rattle.krb_show.specs.Json.{json_line}
 use Rattle.krb_show.specs.Leaves.{octets_of}
 use Rattle.krb_show.specs.Text.{AreLines, ArePrintable as AreTextPrintable, page_lines, page_text}
 use Rattle.krb_show.specs.Tokens.{Token}
-use Rattle.krb_show_rows.specs.Items.{shown, start}
-use Rattle.krb_show_rows.specs.declared.stand.Secrets.{Secrets}
-use Rattle.krb_show_rows.specs.declared.stand.Secrets.TheVariants as secrets
+use Rattle.krb_show.specs.Items.{shown, start}
+use Rattle.krb_show.specs.declared.rows.stand.Secrets.{Secrets}
+use Rattle.krb_show.specs.declared.rows.stand.Secrets.TheVariants as secrets
 use Rattle.krb_c_calls.specs.Items.{AreItems, RefusesItems}
 
 -- whether the octets of keys and of passwords are shown

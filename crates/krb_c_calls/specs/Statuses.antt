@@ -32,6 +32,7 @@ refusal_status refusals.SealedHeader = 19
 refusal_status refusals.Absent = 20
 refusal_status refusals.TooLarge = 21
 refusal_status refusals.TooDeep = 22
+refusal_status refusals.Keytab = 23
 refusal_status refusals.OtherVersion = 25
 refusal_status refusals.PacType = 26
 refusal_status refusals.PacRange = 27

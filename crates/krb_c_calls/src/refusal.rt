@@ -56,6 +56,8 @@ pub enum Refusal {
     TooLarge = 21,
     /// More than 64 elements stand in one another.
     TooDeep = 22,
+    /// The octets that keys are to be taken of are no keytab.
+    Keytab = 23,
     /// The version of the format is another.
     OtherVersion = 25,
     /// A buffer of a PAC is of a number that no type has (MS-PAC 2.4).

@@ -3,3 +3,4 @@ pub mod Seals
 pub mod Zeros
 pub mod Filled
 pub mod Growing
+pub mod Results

@@ -1,5 +1,6 @@
 -- Keys with names, and what is encrypted under them (RFC 3961, 5.3).
-use Rattle.std.specs.Prelude.{◌≡◌, ◌↔◌, ◌≤◌, ◌++◌, replicate, ℕ, ℤ, Bool, true, false, nat_eq, if◌then◌else◌, List, [], ◌∷◌, Option, None, Some, length}
+use Rattle.std.specs.Prelude.{◌≡◌, ◌↔◌, ◌≤◌, ◌++◌, replicate, ℕ, ℤ, pos, Bool, true, false, if◌then◌else◌, List, Option, None, Some, length}
+use Rattle.std.specs.Ordering.{int_eq}
 use Rattle.krb_crypto_hash.specs.declared.error.KerberosCryptoError.{KerberosCryptoError}
 use Rattle.krb_crypto_hash.specs.declared.error.KerberosCryptoError.TheVariants as crypto
 use Rattle.krb_crypto_message.specs.Sealing.{IsGiven}
@@ -14,20 +15,18 @@ pub record NamedKey : Type 0 where
   pub name : List ℕ
 
 -- the suite of an encryption type (RFC 3961, 8; RFC 3962, 7; RFC 8009, 7)
-abbrev pub suite_numbered : ℕ → Option CipherSuite
-suite_numbered n =
-    if nat_eq n 16 then Some suites.Des3CbcSha1Kd
-    else if nat_eq n 17 then Some suites.Aes128CtsHmacSha196
-    else if nat_eq n 18 then Some suites.Aes256CtsHmacSha196
-    else if nat_eq n 19 then Some suites.Aes128CtsHmacSha256128
-    else if nat_eq n 20 then Some suites.Aes256CtsHmacSha384192
+abbrev pub suite_numbered : ℤ → Option CipherSuite
+suite_numbered z =
+    if int_eq z (pos 16) then Some suites.Des3CbcSha1Kd
+    else if int_eq z (pos 17) then Some suites.Aes128CtsHmacSha196
+    else if int_eq z (pos 18) then Some suites.Aes256CtsHmacSha196
+    else if int_eq z (pos 19) then Some suites.Aes128CtsHmacSha256128
+    else if int_eq z (pos 20) then Some suites.Aes256CtsHmacSha384192
     else None
 
--- that of the INTEGER of this content: a number from 0 to 127 has one octet (X.690, 8.3)
-abbrev pub suite_of : List ℕ → Option CipherSuite
-suite_of [] = None
-suite_of (n ∷ []) = suite_numbered n
-suite_of (n ∷ m ∷ content) = None
+abbrev pub suite_of : Option ℤ → Option CipherSuite
+suite_of None = None
+suite_of (Some z) = suite_numbered z
 
 -- the key has the suite's length, and for this usage some confounder gives these octets for the payload
 pub record IsSealedOf (key : NamedKey) (usage : ℤ) (cipher payload : List ℕ) : Type 0 where

@@ -1,7 +1,8 @@
 pub mod Keys
 pub mod Usages
 pub mod Types
-pub mod Seen
+pub mod Places
 pub mod Search
 pub mod Outcomes
-pub mod Decrypted
+pub mod Told
+pub mod Pages

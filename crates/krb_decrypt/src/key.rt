@@ -1,9 +1,10 @@
 //! Keys with names.
 
-ghost use Rattle.std.specs.Prelude.{◌≡◌};
-ghost use Rattle.krb_decrypt.specs.Keys.{suite_numbered, suite_of};
+ghost use Rattle.std.specs.Prelude.{◌≡◌, IfOk};
+ghost use Rattle.krb_decrypt.specs.Keys.{suite_of};
 
 use krb_crypto::CipherSuite;
+use std::alloc::{AllocError, Global};
 use std::marker::Model;
 
 /// A key, and what it is called where it is said that it decrypted a part: any octets.
@@ -25,26 +26,29 @@ impl Model for Key {
     ghost view = { λ k. record { suite = k.suite; octets = k.octets.items; name = k.name.items } };
 }
 
-/// The suite of a number below 256, if there is one.
-fn suite_numbered(number: u8) -> Option<CipherSuite>
-    ensures { result ≡ suite_numbered number }
-{
-    match number {
-        16 => Some(CipherSuite::Des3CbcSha1Kd),
-        17 => Some(CipherSuite::Aes128CtsHmacSha196),
-        18 => Some(CipherSuite::Aes256CtsHmacSha196),
-        19 => Some(CipherSuite::Aes128CtsHmacSha256128),
-        20 => Some(CipherSuite::Aes256CtsHmacSha384192),
-        _ => None,
+impl Key {
+    /// The same key.
+    pub fn copy(&self, alloc: Global) -> Result<Key, AllocError>
+        ensures { IfOk result (λ copy. copy ≡ self.now) }
+    {
+        Ok(Key {
+            suite: self.suite.clone()?,
+            octets: Vec::from_slice(alloc, &self.octets)?,
+            name: Vec::from_slice(alloc, &self.name)?,
+        })
     }
 }
 
-/// The suite whose encryption type the INTEGER of this content is, if there is one (X.690, 8.3).
-pub(crate) fn suite_of(content: &[u8]) -> Option<CipherSuite>
-    ensures { result ≡ suite_of content.now }
+/// The suite of an encryption type, if there is one.
+pub(crate) fn suite_of(etype: Option<i64>) -> Option<CipherSuite>
+    ensures { result ≡ suite_of etype }
 {
-    match content {
-        [number] => suite_numbered(*number),
+    match etype {
+        Some(16) => Some(CipherSuite::Des3CbcSha1Kd),
+        Some(17) => Some(CipherSuite::Aes128CtsHmacSha196),
+        Some(18) => Some(CipherSuite::Aes256CtsHmacSha196),
+        Some(19) => Some(CipherSuite::Aes128CtsHmacSha256128),
+        Some(20) => Some(CipherSuite::Aes256CtsHmacSha384192),
         _ => None,
     }
 }

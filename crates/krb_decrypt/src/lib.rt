@@ -1,23 +1,26 @@
-//! The encrypted parts among items, decrypted by keys.
+//! The encrypted parts of messages of Kerberos, decrypted by keys.
 //!
-//! `decrypt_parts` looks at the items of octets (`krb_schema`), and says of each ciphertext among them what keys make of it: which key
-//! decrypts it, for which usage, and the items of what it holds; or why none does. What to decrypt, and as what, is decided by the roles
-//! of items and the contents of numbers. A ciphertext is decrypted once. `push_decrypted` appends the items to a page, and behind each
-//! ciphertext what keys make of it.
+//! `page_with_decrypted` says behind each ciphertext of a page what keys make of it: which key decrypts it, for which usage, and
+//! what it holds, shown by the row of its own type (`krb_schema`); or why none does. What to decrypt, and as what, is decided by the
+//! roles and the numbers of tokens, and not by what they are called or how they are printed. A ciphertext is decrypted once.
 #![tactic(auto)]
 
-mod decrypted;
-mod found;
+mod behind;
 mod key;
 mod outcome;
+mod page;
 mod parts;
 mod payload;
+mod place;
 mod search;
+mod told;
 mod usage;
 mod walked;
 
-pub use decrypted::push_decrypted;
+pub use behind::{Nothing, TellsBehind};
 pub use key::Key;
 pub use outcome::{Outcome, Part, Reason};
-pub use parts::{MOST_FOUND, decrypt_parts};
+pub use page::{Decrypting, page_with_decrypted};
+pub use parts::{MOST_FOUND, outcome_of};
+pub use place::Place;
 pub use usage::Usage;

@@ -1,20 +1,19 @@
-//! All encrypted parts among items.
+//! What keys make of an encrypted part.
 
-ghost use Rattle.std.specs.Prelude.{◌≡◌, ◌↔◌, [], IfOk, IsTrue, MatchOption, OnOk, codes};
+ghost use Rattle.std.specs.Prelude.{◌≡◌, ◌↔◌, IfOk, IsTrue, MatchOption, codes};
 ghost use Rattle.krb_decrypt.specs.Keys.{zeros_of};
-ghost use Rattle.krb_decrypt.specs.Outcomes.{AreOutcomes, IsClear, IsNoPart, IsNotClear, IsNotDecrypted, IsOther, IsOutcome, IsPart, IsPartAs, IsPartFor, IsStep, NoOther};
-ghost use Rattle.krb_decrypt.specs.Outcomes.{UnderKeys, UnderSuite, is_cipher, keys_of, learned};
-ghost use Rattle.krb_decrypt.specs.Seen.{start};
+ghost use Rattle.krb_decrypt.specs.Outcomes.{IsClear, IsNoPart, IsNotClear, IsOther, IsOutcome, IsPart, IsPartAs, IsPartFor, NoOther};
+ghost use Rattle.krb_decrypt.specs.Outcomes.{UnderKeys, UnderSuite};
 ghost use Rattle.krb_decrypt.specs.Types.{IsOfNo};
 
-use crate::found::{Seen, after, keys_in, start};
 use crate::key::{Key, suite_of};
 use crate::outcome::{Outcome, Part, Reason};
+use crate::place::Place;
 use crate::search::{first_key, is_of_one};
 use crate::usage::{Usage, usages_of};
 use crate::walked::walked;
 use krb_crypto::CipherSuite;
-use krb_schema::{Form, Item, Leaf, Role, content_of};
+use krb_schema::Role;
 use std::alloc::{AllocError, Global};
 
 /// How many keys that are found in decrypted parts are tried, beside those of the caller: whoever may send many would else have each part tried under each
@@ -97,33 +96,6 @@ fn zeros_of(suite: &CipherSuite) -> usize
     }
 }
 
-/// The keys in a part.
-fn keys_of(alloc: Global, part: &Option<Part>) -> Result<Vec<Key>, AllocError>
-    ensures { IfOk result (λ keys. keys.items ≡ keys_of part.now) }
-{
-    match part {
-        Some(part) => keys_in(alloc, part.type_name, &part.octets, &part.items),
-        None => Ok(Vec::new(alloc)),
-    }
-}
-
-/// What keys make of a part, and the keys that are found in it.
-#[derive(Drop)]
-struct Made {
-    outcome: Outcome,
-    found: Vec<Key>,
-}
-
-/// That a part is not decrypted.
-fn not_decrypted(alloc: Global, why: Reason) -> Made
-    ensures { IsNotDecrypted why result.outcome result.found.items }
-{
-    Made {
-        outcome: Outcome::NotDecrypted(why),
-        found: Vec::new(alloc),
-    }
-}
-
 /// What the keys make of a part of this suite.
 fn under_suite(
     alloc: Global,
@@ -131,169 +103,76 @@ fn under_suite(
     role: Role,
     cipher: &[u8],
     keys: &[Key],
-) -> Result<Made, AllocError>
-    ensures { IfOk result (λ m. UnderSuite suite.now role cipher.now keys.now m.outcome m.found.items) }
+) -> Result<Outcome, AllocError>
+    ensures { IfOk result (UnderSuite suite.now role cipher.now keys.now) }
 {
     if !is_of_one(keys, suite) {
-        return Ok(not_decrypted(alloc, Reason::NoKeyOfType));
+        return Ok(Outcome::NotDecrypted(Reason::NoKeyOfType));
     }
     let Some(first) = first_key(alloc, keys, suite, usages_of(role), cipher)? else {
-        return Ok(not_decrypted(alloc, Reason::NoKeyFits));
+        return Ok(Outcome::NotDecrypted(Reason::NoKeyFits));
     };
     let part = part_for(alloc, first.usage, zeros_of(suite), &first.decrypted)?;
-    let found = keys_of(alloc, &part)?;
-    Ok(Made {
-        outcome: Outcome::Decrypted {
-            key: first.index,
-            usage: first.usage,
-            part,
-        },
-        found,
+    Ok(Outcome::Decrypted {
+        key: first.index,
+        usage: first.usage,
+        part,
     })
 }
 
 /// What the keys make of a part, by its encryption type.
 fn under_keys(
     alloc: Global,
-    role: Role,
-    etype: &[u8],
+    place: Place,
     cipher: &[u8],
     keys: &[Key],
-) -> Result<Made, AllocError>
-    ensures { IfOk result (λ m. UnderKeys role etype.now cipher.now keys.now m.outcome m.found.items) }
+) -> Result<Outcome, AllocError>
+    ensures { IfOk result (UnderKeys place.role place.etype cipher.now keys.now) }
 {
     if keys.is_empty() {
-        return Ok(Made {
-            outcome: Outcome::NotTried,
-            found: Vec::new(alloc),
-        });
+        return Ok(Outcome::NotTried);
     }
-    match suite_of(etype) {
-        Some(suite) => under_suite(alloc, &suite, role, cipher, keys),
-        None => Ok(not_decrypted(alloc, Reason::TypeNotSupported)),
+    match suite_of(place.etype) {
+        Some(suite) => under_suite(alloc, &suite, place.role, cipher, keys),
+        None => Ok(Outcome::NotDecrypted(Reason::TypeNotSupported)),
     }
 }
 
-/// Whether a part is in the clear.
-fn is_clear(role: Role, etype: &[u8]) -> bool
-    ensures { IsTrue result ↔ IsClear role etype.now }
+/// Whether octets are in the clear: those of a KRB-CRED under encryption type 0.
+fn is_clear(place: Place) -> bool
+    ensures { IsTrue result ↔ IsClear place.role place.etype }
 {
-    role == Role::EncKrbCredPart && etype == [0].as_slice()
-}
-
-/// The part in the clear, if it is one.
-fn clear_part(
-    alloc: Global,
-    role: Role,
-    etype: &[u8],
-    cipher: &[u8],
-) -> Result<Option<Part>, AllocError>
-    ensures { IfOk result (λ found. MatchOption found (IsNotClear role etype.now cipher.now)
-        (λ p. IsClear role etype.now × IsPart (codes "EncKrbCredPart") cipher.now p)) }
-{
-    if !is_clear(role, etype) {
-        return Ok(None);
-    }
-    part_as(alloc, "EncKrbCredPart", cipher)
-}
-
-/// What the keys make of a part, and the keys that are found in it.
-fn outcome_of(
-    alloc: Global,
-    role: Role,
-    etype: &[u8],
-    cipher: &[u8],
-    keys: &[Key],
-) -> Result<Made, AllocError>
-    ensures { IfOk result (λ m. IsOutcome role etype.now cipher.now keys.now m.outcome m.found.items) }
-{
-    let clear = clear_part(alloc, role, etype, cipher)?;
-    match clear {
-        Some(part) => Ok(Made {
-            outcome: Outcome::InClear(part),
-            found: Vec::new(alloc),
-        }),
-        None => under_keys(alloc, role, etype, cipher, keys),
-    }
-}
-
-/// Whether an item is a ciphertext.
-fn is_cipher(form: Form) -> bool
-    ensures { result ≡ is_cipher form }
-{
-    match form {
-        Form::Leaf(Leaf::Cipher) => true,
+    match (place.role, place.etype) {
+        (Role::EncKrbCredPart, Some(0)) => true,
         _ => false,
     }
 }
 
-/// Appends keys that were found, up to so many keys.
-fn learn(most: usize, mut found: Vec<Key>, keys: &mut Vec<Key>) -> Result<(), AllocError>
-    ensures { OnOk result (keys.new.items ≡ learned most found.items keys.old.items) }
+/// The part that octets in the clear are, if they are such and it.
+fn clear_part(alloc: Global, place: Place, cipher: &[u8]) -> Result<Option<Part>, AllocError>
+    ensures { IfOk result (λ found. MatchOption found (IsNotClear place.role place.etype cipher.now)
+        (λ p. IsClear place.role place.etype × IsPart (codes "EncKrbCredPart") cipher.now p)) }
 {
-    found.truncate(most.saturating_sub(keys.len()));
-    keys.append(&mut found)
-}
-
-/// Appends what the keys make of an item, if it is a ciphertext.
-fn push_outcome(
-    alloc: Global,
-    most: usize,
-    octets: &[u8],
-    item: Item,
-    seen: &Seen,
-    keys: &mut Vec<Key>,
-    outcomes: &mut Vec<Outcome>,
-) -> Result<(), AllocError>
-    ensures { OnOk result (IsStep (is_cipher item.form) most octets.now item seen.now keys.old.items keys.new.items outcomes.old.items outcomes.new.items) }
-{
-    if !is_cipher(item.form) {
-        return Ok(());
+    if is_clear(place) {
+        return part_as(alloc, "EncKrbCredPart", cipher);
     }
-    let cipher = content_of(octets, item);
-    let made = outcome_of(alloc, seen.role, seen.etype, cipher, keys.as_slice())?;
-    learn(most, made.found, keys)?;
-    outcomes.push(made.outcome)?;
-    Ok(())
+    Ok(None)
 }
 
-/// Appends what the keys make of each ciphertext among items.
-fn push_outcomes<'o>(
+/// What the keys make of a ciphertext that stands so: a part in the clear, what the first key and its first usage decrypt, or why none does.
+/// The usages that are tried are those of its role, in their order; a ciphertext is decrypted once for each key of its type and each of these,
+/// until one fits. The only error is an allocation failure.
+pub fn outcome_of(
     alloc: Global,
-    most: usize,
-    octets: &'o [u8],
-    items: &[Item],
-    seen: &mut Seen<'o>,
-    keys: &mut Vec<Key>,
-    outcomes: &mut Vec<Outcome>,
-) -> Result<(), AllocError>
-    ensures { OnOk result (AreOutcomes most octets.now items.now seen.old keys.old.items keys.new.items outcomes.old.items outcomes.new.items) }
+    place: Place,
+    cipher: &[u8],
+    keys: &[Key],
+) -> Result<Outcome, AllocError>
+    ensures { IfOk result (IsOutcome place.role place.etype cipher.now keys.now) }
 {
-    let mut rest = items;
-    'items: while let Some((item, behind)) = rest.split_first() {
-        push_outcome(alloc, most, octets, *item, seen, keys, outcomes)?;
-        *seen = after(octets, *item, seen);
-        rest = behind;
+    let clear = clear_part(alloc, place, cipher)?;
+    match clear {
+        Some(part) => Ok(Outcome::InClear(part)),
+        None => under_keys(alloc, place, cipher, keys),
     }
-    Ok(())
-}
-
-/// What keys make of each ciphertext among the items of these octets, in their order. A part is tried under the keys that are known there: those given, and
-/// behind them those that were found in parts before it, until there are `most` keys; `MOST_FOUND` more than the given ones is a limit that an input by others
-/// cannot make costly.
-///
-/// The only error is an allocation failure; then some of the found keys may stand behind the given ones.
-pub fn decrypt_parts(
-    alloc: Global,
-    most: usize,
-    octets: &[u8],
-    items: &[Item],
-    keys: &mut Vec<Key>,
-) -> Result<Vec<Outcome>, AllocError>
-    ensures { IfOk result (λ outcomes. AreOutcomes most octets.now items.now start keys.old.items keys.new.items [] outcomes.items) }
-{
-    let mut outcomes = Vec::new(alloc);
-    let mut seen = start();
-    push_outcomes(alloc, most, octets, items, &mut seen, keys, &mut outcomes)?;
-    Ok(outcomes)
 }

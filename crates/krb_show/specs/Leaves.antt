@@ -10,7 +10,8 @@ use Rattle.krb_registry.specs.declared.kind.Kind.{Kind}
 use Rattle.krb_registry.specs.Names.{table, mechanisms, IsRow, IsMechanism}
 use Rattle.krb_types.specs.Flags.{is_set}
 use Rattle.krb_show.specs.declared.token.Form.TheVariants as form
-use Rattle.krb_show.specs.Tokens.{Label, Token, adds, leaf}
+use Rattle.krb_types.specs.Principals.{components_text}
+use Rattle.krb_show.specs.Tokens.{Label, Token, adds, leaf, name_token, noted, number_token}
 
 -- ---- digits
 
@@ -41,7 +42,7 @@ IsNote (Some kind) number note =
 abbrev pub number_of : Label → ℤ → List Token → List Token → Type 0
 number_of label z old new =
     ((note : List ℕ) × FitsSigned w64 z × IsNote label.kind z note
-    × (new ≡ old ++ record { form = form.Number; label = label; octets = signed_decimal z; note = note } ∷ []))
+    × (new ≡ old ++ number_token label z (signed_decimal z) note ∷ []))
     ⊎ ((FitsSigned w64 z → ⊥) × (new ≡ old ++ leaf form.Octets label (shortest z) ∷ []))
 
 -- an unsigned number, in decimal and without a name
@@ -76,7 +77,7 @@ flags_word bits = codes "0x" ++ hex bits.octets ++ (if nat_eq bits.spare 0 then 
 
 abbrev pub flags_of : Label → Bits → List Token → List Token → Type 0
 flags_of label bits old new = (note : List ℕ) × IsFlagsNote label.kind bits.octets note
-    × (new ≡ old ++ record { form = form.Flags; label = label; octets = flags_word bits; note = note } ∷ [])
+    × (new ≡ old ++ noted form.Flags label (flags_word bits) note ∷ [])
 
 -- ---- object identifiers
 
@@ -88,7 +89,7 @@ IsIdentifierNote dotted note =
 -- the dotted numbers of an object identifier, with its name
 abbrev pub identifier_of : Label → List ℕ → List Token → List Token → Type 0
 identifier_of label dotted old new = (note : List ℕ) × IsIdentifierNote dotted note
-    × (new ≡ old ++ record { form = form.Identifier; label = label; octets = dotted; note = note } ∷ [])
+    × (new ≡ old ++ noted form.Identifier label dotted note ∷ [])
 
 -- ---- the rest
 
@@ -110,6 +111,10 @@ time_of label t = adds (leaf form.Word label (time_word t))
 
 abbrev pub text_of : Label → List ℕ → List Token → List Token → Type 0
 text_of label octets = adds (leaf form.Text label octets)
+
+-- the name of a principal, as one text (RFC 1964, 2.1.1)
+abbrev pub name_of : Label → List (List ℕ) → List Token → List Token → Type 0
+name_of label components = adds (name_token label (components_text components) components)
 
 -- a word, which has no blanks
 abbrev pub word_of : Label → List ℕ → List Token → List Token → Type 0

@@ -8,3 +8,6 @@ pub mod Json
 pub mod Opened
 pub mod Told
 pub mod Walk
+pub mod RowLeaves
+pub mod Items
+pub mod RowWalk

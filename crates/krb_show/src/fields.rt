@@ -102,6 +102,7 @@ macro_rules! show_fields {
             label: $crate::Label {
                 text: $name,
                 kind: None,
+                role: $crate::Role::None,
                 is_item: false,
             },
             value: &$value.$field,
@@ -113,6 +114,7 @@ macro_rules! show_fields {
             label: $crate::Label {
                 text: $name,
                 kind: Some(krb_registry::Kind::$kind),
+                role: $crate::Role::None,
                 is_item: false,
             },
             value: &$value.$field,

@@ -8,7 +8,7 @@ ghost use Rattle.krb_show.specs.declared.token.Form.TheVariants as form;
 use crate::digits::{push_hex, push_two};
 use crate::notes::{note_of_flags, note_of_identifier, note_of_number};
 use crate::show::Show;
-use crate::token::{Form, Label, Page, push_token};
+use crate::token::{Form, Label, Page, push_number, push_token};
 use krb_der::{
     BitStringAsn1, GeneralStringAsn1, GeneralizedTimeAsn1, IntegerAsn1, OctetStringAsn1,
     Utf8StringAsn1,
@@ -115,7 +115,7 @@ pub fn show_number(
 {
     let note = note_of_number(alloc, label.kind, number)?;
     let digits = format!(in alloc; "{number}")?;
-    push_token(alloc, Form::Number, label, digits.into_bytes(), note, page)
+    push_number(alloc, label, number, digits.into_bytes(), note, page)
 }
 
 /// Appends an object identifier, which is given in dotted numbers, as `1.2.840.113554.1.2.2`, and the name of the mechanism that has it.

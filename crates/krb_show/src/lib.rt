@@ -17,6 +17,7 @@ mod notes;
 mod numbers;
 mod opened;
 mod page;
+mod rows;
 mod show;
 mod text;
 mod token;
@@ -29,6 +30,7 @@ pub use fields::{Field, ShowFields, show_struct};
 pub use insert::Insert;
 pub use inserted::page_with;
 pub use json::json_of_page;
+pub use krb_schema::Role;
 pub use leaves::{
     show_cipher, show_identifier, show_number, show_octets, show_secret, show_text, show_word,
 };
@@ -36,6 +38,10 @@ pub use names::tag_name;
 pub use numbers::{OpensValues, TypedValue, is_number};
 pub use opened::{open, show_opened};
 pub use page::page_of_octets;
+pub use rows::{
+    NoFormats, Row, Secrets, ShowsFormats, Stand, Walk, push_item, push_items, show_by_row,
+    walk_named,
+};
 pub use show::Show;
 pub use text::text_of_page;
 pub use token::{Form, Label, Page, Token, push_token};

@@ -1,9 +1,11 @@
 //! Tokens.
 
-ghost use Rattle.std.specs.Prelude.{◌≡◌, ℕ, Bool, true, false, Option, None, Some, List, [], ◌∷◌, ◌++◌, take, length, OnOk, OnErr};
-ghost use Rattle.krb_show.specs.Tokens.{Label, Token, item_of, leaf, mark, Begins, adds};
+ghost use Rattle.std.specs.Prelude.{◌≡◌, ℕ, Bool, true, false, Option, None, Some, List, [], ◌∷◌, ◌++◌, map, take, length, OnOk, OnErr};
+ghost use Rattle.krb_schema.specs.declared.shape.Role.TheVariants as roles;
+ghost use Rattle.krb_show.specs.Tokens.{Label, Token, item_of, leaf, mark, name_token, noted, number_token, Begins, adds};
 
 use krb_registry::Kind;
+use krb_schema::Role;
 use std::alloc::{AllocError, Global};
 use std::marker::Model;
 
@@ -36,13 +38,15 @@ pub enum Form {
     Cipher,
 }
 
-/// What a value is called, and what a number in it is of.
+/// What a value is called, what a number in it is of, and what programs do with it.
 #[derive(Debug, Drop)]
 pub struct Label<'l> {
     /// The name.
     pub text: &'l str,
-    /// What its numbers are of, where they have names.
+    /// What its numbers are of, where they have names; of the octets of a PAC's buffer the numbers of types of buffers.
     pub kind: Option<Kind>,
+    /// What programs do with it.
+    pub role: Role,
     /// Whether it is an item of a list.
     pub is_item: bool,
 }
@@ -50,28 +54,30 @@ pub struct Label<'l> {
 impl<'l> Model for Label<'l> {
     ghost Value = { Label };
 
-    ghost view = { λ l. record { text = l.text.now; kind = l.kind; is_item = l.is_item } };
+    ghost view = { λ l. record { text = l.text.now; kind = l.kind; role = l.role; is_item = l.is_item } };
 }
 
 impl<'l> Label<'l> {
     /// The label of a field with this name, whose numbers have no names.
     pub fn new(text: &'l str) -> Label<'l>
-        ensures { result ≡ record { text = text.now; kind = None; is_item = false } }
+        ensures { result ≡ record { text = text.now; kind = None; role = roles.None; is_item = false } }
     {
         Label {
             text,
             kind: None,
+            role: Role::None,
             is_item: false,
         }
     }
 
     /// The label of a field with this name, whose numbers are of this kind.
     pub fn of_kind(text: &'l str, kind: Kind) -> Label<'l>
-        ensures { result ≡ record { text = text.now; kind = Some kind; is_item = false } }
+        ensures { result ≡ record { text = text.now; kind = Some kind; role = roles.None; is_item = false } }
     {
         Label {
             text,
             kind: Some(kind),
+            role: Role::None,
             is_item: false,
         }
     }
@@ -83,6 +89,7 @@ impl<'l> Label<'l> {
         Label {
             text: self.text,
             kind: self.kind,
+            role: self.role,
             is_item: true,
         }
     }
@@ -94,15 +101,25 @@ pub struct Token {
     form: Form,
     text: Vec<u8>,
     kind: Option<Kind>,
+    role: Role,
     is_item: bool,
     octets: Vec<u8>,
     note: Vec<u8>,
+    number: Option<i64>,
+    components: Vec<Vec<u8>>,
 }
 
 impl Model for Token {
     ghost Value = { Token };
 
-    ghost view = { λ t. record { form = t.form; label = record { text = t.text.items; kind = t.kind; is_item = t.is_item }; octets = t.octets.items; note = t.note.items } };
+    ghost view = { λ t. record {
+      form = t.form;
+      label = record { text = t.text.items; kind = t.kind; role = t.role; is_item = t.is_item };
+      octets = t.octets.items;
+      note = t.note.items;
+      number = t.number;
+      components = map (λ c. c.items) t.components.items;
+    } };
 }
 
 impl Token {
@@ -114,17 +131,23 @@ impl Token {
             form: _,
             text,
             kind,
+            role,
             is_item,
             octets: _,
             note: _,
+            number: _,
+            components: _,
         } = self;
         Token {
             form: Form::Word,
             text,
             kind,
+            role,
             is_item,
             octets: word,
             note: Vec::new(alloc),
+            number: None,
+            components: Vec::new(alloc),
         }
     }
 
@@ -149,6 +172,13 @@ impl Token {
         self.kind
     }
 
+    /// What programs do with it.
+    pub fn role(&self) -> Role
+        ensures { result ≡ self.now.label.role }
+    {
+        self.role
+    }
+
     /// Whether it is an item of a list.
     pub fn is_item(&self) -> bool
         ensures { result ≡ self.now.label.is_item }
@@ -169,21 +199,44 @@ impl Token {
     {
         self.note.as_slice()
     }
+
+    /// The number that it is, if it is one that fits.
+    pub fn number(&self) -> Option<i64>
+        ensures { result ≡ self.now.number }
+    {
+        self.number
+    }
+
+    /// The components of the principal's name that it is (RFC 4120, 5.2.2); none if it is no name.
+    pub fn components(&self) -> &[Vec<u8>]
+        ensures { map (λ c. c.items) result.now ≡ self.now.components }
+    {
+        self.components.as_slice()
+    }
 }
 
 /// Tokens in their order.
 pub type Page = Vec<Token>;
 
-/// Appends a token.
-pub fn push_token(
+/// Appends a token with this number and these components.
+fn push_whole(
     alloc: Global,
     form: Form,
     label: &Label,
     octets: Vec<u8>,
     note: Vec<u8>,
+    number: Option<i64>,
+    components: Vec<Vec<u8>>,
     page: &mut Page,
 ) -> Result<(), AllocError>
-    ensures ok { OnOk result (adds (record { form = form; label = label.now; octets = octets.items; note = note.items }) page.old.items page.new.items) }
+    ensures ok { OnOk result (adds (record {
+      form = form;
+      label = label.now;
+      octets = octets.items;
+      note = note.items;
+      number = number;
+      components = map (λ c. c.items) components.items;
+    }) page.old.items page.new.items) }
     ensures kept { OnOk result (Begins page.old.items page.new.items) }
     ensures err { OnErr result (page.new.items ≡ page.old.items) }
 {
@@ -193,11 +246,88 @@ pub fn push_token(
         form,
         text,
         kind: label.kind,
+        role: label.role,
         is_item: label.is_item,
         octets,
         note,
+        number,
+        components,
     })?;
     Ok(())
+}
+
+/// Appends a token that is no number and no name.
+pub fn push_token(
+    alloc: Global,
+    form: Form,
+    label: &Label,
+    octets: Vec<u8>,
+    note: Vec<u8>,
+    page: &mut Page,
+) -> Result<(), AllocError>
+    ensures ok { OnOk result (adds (noted form label.now octets.items note.items) page.old.items page.new.items) }
+    ensures kept { OnOk result (Begins page.old.items page.new.items) }
+    ensures err { OnErr result (page.new.items ≡ page.old.items) }
+{
+    push_whole(
+        alloc,
+        form,
+        label,
+        octets,
+        note,
+        None,
+        Vec::new(alloc),
+        page,
+    )
+}
+
+/// Appends a number with its digits.
+pub(crate) fn push_number(
+    alloc: Global,
+    label: &Label,
+    number: i64,
+    digits: Vec<u8>,
+    note: Vec<u8>,
+    page: &mut Page,
+) -> Result<(), AllocError>
+    ensures ok { OnOk result (adds (number_token label.now number digits.items note.items) page.old.items page.new.items) }
+    ensures kept { OnOk result (Begins page.old.items page.new.items) }
+    ensures err { OnErr result (page.new.items ≡ page.old.items) }
+{
+    push_whole(
+        alloc,
+        Form::Number,
+        label,
+        digits,
+        note,
+        Some(number),
+        Vec::new(alloc),
+        page,
+    )
+}
+
+/// Appends a principal's name: its text, and its components.
+pub(crate) fn push_name(
+    alloc: Global,
+    label: &Label,
+    text: Vec<u8>,
+    components: Vec<Vec<u8>>,
+    page: &mut Page,
+) -> Result<(), AllocError>
+    ensures ok { OnOk result (adds (name_token label.now text.items (map (λ c. c.items) components.items)) page.old.items page.new.items) }
+    ensures kept { OnOk result (Begins page.old.items page.new.items) }
+    ensures err { OnErr result (page.new.items ≡ page.old.items) }
+{
+    push_whole(
+        alloc,
+        Form::Text,
+        label,
+        text,
+        Vec::new(alloc),
+        None,
+        components,
+        page,
+    )
 }
 
 /// Appends a token that holds nothing.

@@ -4,8 +4,8 @@ use Rattle.krb_schema.specs.Rules.{AreBroken}
 use Rattle.krb_schema.specs.declared.item.Item.{Item}
 use Rattle.krb_show_any.specs.Rows.{IsWalkOf}
 use Rattle.krb_show_any.specs.declared.kind.Kind.{Kind}
-use Rattle.krb_show_rows.specs.declared.walk.Walk.{Walk}
-use Rattle.krb_show_rows.specs.declared.walk.Walk.TheVariants as walks
+use Rattle.krb_show.specs.declared.rows.walk.Walk.{Walk}
+use Rattle.krb_show.specs.declared.rows.walk.Walk.TheVariants as walks
 
 -- The items of a walk that break the rule of their standard, in order. There are none where there is no row, or a fault.
 abbrev pub AreBrokenIn : List ℕ → Walk → List Item → Type 0

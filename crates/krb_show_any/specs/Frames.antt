@@ -6,12 +6,12 @@ use Rattle.krb_gss_tokens.specs.Token.{token}
 use Rattle.krb_schema.specs.declared.item.Fault.TheVariants as faults
 use Rattle.krb_show_tokens.specs.Frames.{IsFramed, spnego}
 use Rattle.krb_show_any.specs.Errors.{reason}
-use Rattle.krb_show_rows.specs.Walk.{IsWalkBy}
+use Rattle.krb_show.specs.RowWalk.{IsWalkBy}
 use Rattle.krb_show_any.specs.declared.error.PageError.{PageError}
 use Rattle.krb_show_any.specs.declared.error.PageError.TheVariants as page
 use Rattle.krb_show_any.specs.declared.frames.Framed.{Framed}
-use Rattle.krb_show_rows.specs.declared.walk.Walk.{Walk}
-use Rattle.krb_show_rows.specs.declared.walk.Walk.TheVariants as walks
+use Rattle.krb_show.specs.declared.rows.walk.Walk.{Walk}
+use Rattle.krb_show.specs.declared.rows.walk.Walk.TheVariants as walks
 
 -- The type of the message behind a token id: KRB-AP-REQ, KRB-AP-REP and KRB-ERROR (RFC 4121, 4.1), KRB-TGT-REQ and KRB-TGT-REP
 -- (draft-swift-win2k-krb-user2user-03), KRB-AS-REQ and KRB-AS-REP (draft-zhu-pku2u-09, 6).

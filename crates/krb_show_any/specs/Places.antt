@@ -9,8 +9,8 @@ use Rattle.krb_show_any.specs.declared.error.PageError.{PageError}
 use Rattle.krb_show_any.specs.declared.error.PageError.TheVariants as page
 use Rattle.krb_show_any.specs.declared.kind.Kind.{Kind}
 use Rattle.krb_show_any.specs.declared.kind.Kind.TheVariants as kinds
-use Rattle.krb_show_rows.specs.declared.walk.Walk.{Walk}
-use Rattle.krb_show_rows.specs.declared.walk.Walk.TheVariants as walks
+use Rattle.krb_show.specs.declared.rows.walk.Walk.{Walk}
+use Rattle.krb_show.specs.declared.rows.walk.Walk.TheVariants as walks
 
 -- whether two errors have one reason
 abbrev pub is_same_reason : PageError → PageError → Bool

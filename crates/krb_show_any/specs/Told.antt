@@ -11,7 +11,7 @@ use Rattle.krb_show.specs.Tokens.{plain, Token}
 use Rattle.krb_show_files.specs.Files.{IsNoCcache, IsNoKeytab, ShowsAs, ccache_of, keytab_of}
 use Rattle.krb_show_files.specs.declared.error.FilePageError.{FilePageError}
 use Rattle.krb_show_files.specs.declared.error.FilePageError.TheVariants as file_errors
-use Rattle.krb_show_formats.specs.Pac.{directory_of}
+use Rattle.krb_show_messages.specs.Pac.{directory_of}
 use Rattle.krb_show_any.specs.declared.error.PageError.{PageError}
 use Rattle.krb_show_any.specs.declared.error.PageError.TheVariants as page_errors
 use Rattle.krb_show.specs.Tree.{IsTreePage}

@@ -6,7 +6,7 @@ ghost use Rattle.krb_show_any.specs.Broken.{AreBrokenIn, AreBrokenOf};
 use crate::kind::Kind;
 use crate::rows::walk_octets;
 use krb_schema::{Item, broken_rules};
-use krb_show_rows::Walk;
+use krb_show::Walk;
 use std::alloc::{AllocError, Global};
 
 /// The items of a walk that break a rule of their standard.

@@ -1,7 +1,7 @@
 //! Keytabs and credential caches.
 
-ghost use Rattle.krb_show.specs.Opened.{opened_by};
 ghost use Rattle.krb_show_any.specs.Told.{IsCcacheTold, IsKeytabTold};
+ghost use Rattle.krb_show_files.specs.Files.{ticket_of};
 ghost use Rattle.krb_show_messages.specs.Shown.{shows_of};
 
 use crate::pages::Pages;
@@ -30,7 +30,7 @@ pub struct Ccaches;
 
 impl Pages<(), FilePageError> for Ccaches {
     ghost tells = { λ _ octets result. IsCcacheTold
-        (opened_by ⟦<Ticket as DerEncode>⟧.is_value ⟦<Ticket as DerEncode>⟧.enc (shows_of ⟦<Ticket as HasRow>⟧.row_name ⟦<Ticket as DerEncode>⟧.enc)) octets result };
+        (ticket_of ⟦<Ticket as DerEncode>⟧.is_value ⟦<Ticket as DerEncode>⟧.enc (shows_of ⟦<Ticket as HasRow>⟧.row_name ⟦<Ticket as DerEncode>⟧.enc)) octets result };
 
     fn page_of(alloc: Global, _kind: (), octets: &[u8]) -> Result<Page, FilePageError> {
         page_of_ccache(alloc, octets)

@@ -10,7 +10,7 @@ use crate::place::is_same_reason;
 use krb_der_core::read_tlv;
 use krb_der_x509::ObjectIdentifierAsn1;
 use krb_schema::Fault;
-use krb_show_rows::{Walk, walk_named};
+use krb_show::{Walk, walk_named};
 use krb_show_tokens::read_mechanism;
 use std::alloc::{AllocError, Global};
 

@@ -8,7 +8,7 @@ use crate::frames::place_in_frame;
 use crate::kind::Kind;
 use crate::rows::walk_octets;
 use krb_schema::Fault;
-use krb_show_rows::Walk;
+use krb_show::Walk;
 use std::alloc::{AllocError, Global};
 
 /// Whether two errors have one reason.

@@ -1,4 +1,3 @@
-mod Insertions
 mod Lists
 mod Names
 mod Results

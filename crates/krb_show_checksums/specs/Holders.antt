@@ -2,7 +2,7 @@
 use Rattle.std.specs.Prelude.{◌≡◌, ◌||◌, ℕ, Bool, true, false, nat_eq, IsTrue, List, [], ◌∷◌, ◌++◌, codes}
 use Rattle.std.specs.List.{AllByRecursion, starts_with}
 use Rattle.krb_pac_signatures.specs.declared.verdict.Verdict.TheVariants as verdict
-use Rattle.krb_show_opened.specs.Keys.{NamedKey}
+use Rattle.krb_decrypt.specs.Keys.{NamedKey}
 use Rattle.krb_show_checksums.specs.Checksums.{PacChecksum, HasVerdict}
 
 -- it is the checksum of its message under this key

@@ -6,7 +6,7 @@ use Rattle.krb_pac_signatures.specs.Signatures.{Signatures, SignaturesOf}
 use Rattle.krb_pac_signatures.specs.declared.error.PacSignatureError.{PacSignatureError}
 use Rattle.krb_show.specs.Pages.{◌then◌}
 use Rattle.krb_show.specs.Tokens.{Token, plain}
-use Rattle.krb_show_opened.specs.Keys.{NamedKey}
+use Rattle.krb_decrypt.specs.Keys.{NamedKey}
 use Rattle.krb_show_checksums.specs.Checksums.{over}
 use Rattle.krb_show_checksums.specs.Message.{IsTicketMessage, NoneHoldsPac, elements_of}
 use Rattle.krb_show_checksums.specs.Told.{IsRefused, pac_checksums, under_keys}

@@ -12,7 +12,7 @@ use Rattle.krb_pac_signatures.specs.declared.error.PacSignatureError.TheVariants
 use Rattle.krb_show.specs.Leaves.{text_of, word_of}
 use Rattle.krb_show.specs.Pages.{◌then◌, struct_of}
 use Rattle.krb_show.specs.Tokens.{Label, Token, plain}
-use Rattle.krb_show_opened.specs.Keys.{NamedKey}
+use Rattle.krb_decrypt.specs.Keys.{NamedKey}
 use Rattle.krb_show_checksums.specs.Checksums.{PacChecksum, HasVerdict, full_checksum, kdc_checksum, server_checksum}
 use Rattle.krb_show_checksums.specs.Holders.{HaveSameOctets, HoldsAsKdcs, HoldsUnderNone, IsFirstHolder, IsFirstWhere, IsNoneOf, IsOneOf, NoneWhere}
 

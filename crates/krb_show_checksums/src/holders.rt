@@ -5,7 +5,7 @@ ghost use Rattle.krb_show_checksums.specs.Holders.{AreSame, HaveSameOctets, Hold
 ghost use Rattle.krb_show_checksums.specs.Holders.{MayBeKdcs, NoneWhere, has_version, is_entrys, is_krbtgts};
 
 use crate::checksum::PacChecksum;
-use krb_show_opened::Key;
+use krb_decrypt::Key;
 
 /// Whether a checksum holds under a key.
 fn holds_under(checksum: &PacChecksum, key: &Key) -> bool

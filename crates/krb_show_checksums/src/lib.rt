@@ -1,6 +1,6 @@
-//! Whether the checksums of the PAC of a ticket hold (MS-PAC 2.8), on a page of tokens whose sealed parts keys open.
+//! Whether the checksums of the PAC of a ticket hold (MS-PAC 2.8), on a page of tokens whose encrypted parts keys decrypt.
 //!
-//! `page_with_checked` opens the sealed parts as `krb_show_opened` does, and tells behind each ticket that a key opens which of the checksums of its
+//! `page_with_checked` decrypts the parts as `krb_decrypt` does, and tells behind each ticket that a key decrypts which of the checksums of its
 //! first PAC hold, and under which of the caller's keys.
 #![tactic(auto)]
 
@@ -13,5 +13,5 @@ mod parts;
 mod ticket;
 mod told;
 
-pub use page::{Checking, page_with_checked};
-pub use parts::CheckedParts;
+pub use page::page_with_checked;
+pub use parts::Checksums;

@@ -11,10 +11,10 @@ ghost use Rattle.krb_show_checksums.specs.Told.{checksums_of, error_words, pac_c
 
 use crate::checksum::{full, kdc, server};
 use crate::told::{tell_under_key, tell_under_keys};
+use krb_decrypt::Key;
 use krb_pac::PacError;
 use krb_pac_signatures::{PacSignatureError, PacSignatures};
 use krb_show::{Form, Label, Page, push_token, show_text};
-use krb_show_opened::Key;
 use std::alloc::{AllocError, Global};
 
 /// Tells of the server's checksum.

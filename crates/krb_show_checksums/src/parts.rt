@@ -1,39 +1,38 @@
-//! What is sealed in messages, and what is told of tickets.
+//! What is told behind a decrypted ticket.
 
-ghost use Rattle.std.specs.Prelude.{◌≡◌, IfOk, OnOk};
+ghost use Rattle.std.specs.Prelude.{◌≡◌, OnOk};
 ghost use Rattle.krb_show.specs.Tokens.{Begins};
-ghost use Rattle.krb_show_checksums.specs.Checked.{if_ticket, opened_and_told, tells_of};
+ghost use Rattle.krb_show_checksums.specs.Checked.{if_ticket, tells_behind, tells_of};
 
 use crate::ticket::Tells;
+use krb_decrypt::{Key, TellsBehind, Usage};
 use krb_der::{Der, DerEncode};
 use krb_enc_parts::data_types::EncTicketPart;
-use krb_show::Page;
-use krb_show_opened::{Key, MessageParts, OpensParts, Usage, value_under};
+use krb_show::{Page, open};
 use std::alloc::{AllocError, Global};
 use std::marker::Model;
 
-/// The parts of messages of Kerberos, as `MessageParts`, and behind each ticket that a key opens what is known of the checksums of its PAC. As a
-/// value it is the caller's own keys.
+/// What tells behind each ticket that a key decrypts what is known of the checksums of its PAC. As a value it is the caller's own keys.
 #[derive(Debug, Drop)]
-pub struct CheckedParts {
+pub struct Checksums {
     own: Vec<Key>,
 }
 
-impl Model for CheckedParts {
+impl Model for Checksums {
     ghost use Rattle.std.specs.Prelude.{List};
-    ghost use Rattle.krb_show_opened.specs.Keys.{NamedKey};
+    ghost use Rattle.krb_decrypt.specs.Keys.{NamedKey};
 
     ghost Value = { List NamedKey };
 
-    ghost view = { λ p. p.own.items };
+    ghost view = { λ c. c.own.items };
 }
 
-impl CheckedParts {
-    /// The parts for a caller whose own keys these are: under them alone a checksum holds.
-    pub fn new(own: Vec<Key>) -> CheckedParts
+impl Checksums {
+    /// For a caller whose own keys these are: under them alone a checksum holds.
+    pub fn new(own: Vec<Key>) -> Checksums
         ensures { result ≡ own.items }
     {
-        CheckedParts { own }
+        Checksums { own }
     }
 
     /// The caller's own keys.
@@ -44,19 +43,18 @@ impl CheckedParts {
     }
 }
 
-/// Tells of the value whose encoding the key seals for this usage.
+/// Tells of the value whose encoding these octets are.
 fn tell_value<T: Der + Tells + Drop>(
     alloc: Global,
     own: &[Key],
     key: &Key,
-    usage: Usage,
-    cipher: &[u8],
+    octets: &[u8],
     page: &mut Page,
 ) -> Result<(), AllocError>
-    ensures ok { OnOk result (tells_of T.is_value T.enc T.tells own.now key.now usage cipher.now page.old.items page.new.items) }
+    ensures ok { OnOk result (tells_of T.is_value T.enc T.tells own.now key.now octets.now page.old.items page.new.items) }
     ensures kept { OnOk result (Begins page.old.items page.new.items) }
 {
-    match value_under::<T>(alloc, key, usage, cipher)? {
+    match open::<T>(alloc, octets)? {
         Some(value) => value.tell(alloc, own, key, page),
         None => Ok(()),
     }
@@ -68,82 +66,44 @@ fn tell_if_ticket<T: Der + Tells + Drop>(
     own: &[Key],
     key: &Key,
     usage: Usage,
-    cipher: &[u8],
+    octets: &[u8],
     page: &mut Page,
 ) -> Result<(), AllocError>
-    ensures ok { OnOk result (if_ticket usage (tells_of T.is_value T.enc T.tells own.now key.now usage cipher.now) page.old.items page.new.items) }
+    ensures ok { OnOk result (if_ticket usage (tells_of T.is_value T.enc T.tells own.now key.now octets.now) page.old.items page.new.items) }
     ensures kept { OnOk result (Begins page.old.items page.new.items) }
 {
     match usage {
-        Usage::Ticket => tell_value::<T>(alloc, own, key, usage, cipher, page),
+        Usage::Ticket => tell_value::<T>(alloc, own, key, octets, page),
         _ => Ok(()),
     }
 }
 
-/// Appends what the key opens, and what is told of the ticket. Returned are the keys that are found.
-fn insert_and_tell<V: OpensParts, T: Der + Tells + Drop>(
+/// The same, under the keys of `checksums`.
+fn tell_checksums<T: Der + Tells + Drop>(
     alloc: Global,
-    parts: &V,
-    own: &[Key],
+    checksums: &Checksums,
     key: &Key,
     usage: Usage,
-    cipher: &[u8],
+    octets: &[u8],
     page: &mut Page,
-) -> Result<Vec<Key>, AllocError>
-    ensures ok { IfOk result (λ found. opened_and_told (V.opened parts.now) T.is_value T.enc T.tells own.now key.now usage cipher.now
-        page.old.items found.items page.new.items) }
+) -> Result<(), AllocError>
+    ensures ok { OnOk result (tells_behind T.is_value T.enc T.tells checksums.now key.now usage octets.now page.old.items page.new.items) }
     ensures kept { OnOk result (Begins page.old.items page.new.items) }
 {
-    let found = parts.insert_opened(alloc, key, usage, cipher, page)?;
-    tell_if_ticket::<T>(alloc, own, key, usage, cipher, page)?;
-    Ok(found)
+    tell_if_ticket::<T>(alloc, checksums.own(), key, usage, octets, page)
 }
 
-/// The same, under the keys of `checked`.
-fn insert_checked<V: OpensParts, T: Der + Tells + Drop>(
-    alloc: Global,
-    parts: &V,
-    checked: &CheckedParts,
-    key: &Key,
-    usage: Usage,
-    cipher: &[u8],
-    page: &mut Page,
-) -> Result<Vec<Key>, AllocError>
-    ensures ok { IfOk result (λ found. opened_and_told (V.opened parts.now) T.is_value T.enc T.tells checked.now key.now usage cipher.now
-        page.old.items found.items page.new.items) }
-    ensures kept { OnOk result (Begins page.old.items page.new.items) }
-{
-    insert_and_tell::<V, T>(alloc, parts, checked.own(), key, usage, cipher, page)
-}
+impl TellsBehind for Checksums {
+    ghost tells = { tells_behind ⟦<EncTicketPart as DerEncode>⟧.is_value ⟦<EncTicketPart as DerEncode>⟧.enc ⟦<EncTicketPart as Tells>⟧.tells };
 
-impl OpensParts for CheckedParts {
-    ghost opened = { opened_and_told (⟦<MessageParts as OpensParts>⟧.opened tt) ⟦<EncTicketPart as DerEncode>⟧.is_value
-        ⟦<EncTicketPart as DerEncode>⟧.enc ⟦<EncTicketPart as Tells>⟧.tells };
-
-    ghost clear = { ⟦<MessageParts as OpensParts>⟧.clear };
-
-    ghost no_clear = { ⟦<MessageParts as OpensParts>⟧.no_clear };
-
-    fn insert_opened(
+    fn tell(
         &self,
         alloc: Global,
         key: &Key,
         usage: Usage,
-        cipher: &[u8],
+        octets: &[u8],
         page: &mut Page,
-    ) -> Result<Vec<Key>, AllocError> {
-        insert_checked::<MessageParts, EncTicketPart>(
-            alloc,
-            &MessageParts,
-            self,
-            key,
-            usage,
-            cipher,
-            page,
-        )
-    }
-
-    fn insert_clear(alloc: Global, octets: &[u8], page: &mut Page) -> Result<bool, AllocError> {
-        MessageParts::insert_clear(alloc, octets, page)
+    ) -> Result<(), AllocError> {
+        tell_checksums::<EncTicketPart>(alloc, self, key, usage, octets, page)
     }
 }

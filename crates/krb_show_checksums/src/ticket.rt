@@ -3,7 +3,7 @@
 ghost use Rattle.std.specs.Prelude.{List, codes, OnOk};
 ghost use Rattle.krb_show.specs.Pages.{◌then◌};
 ghost use Rattle.krb_show.specs.Tokens.{Begins, Token, plain};
-ghost use Rattle.krb_show_opened.specs.Keys.{NamedKey};
+ghost use Rattle.krb_decrypt.specs.Keys.{NamedKey};
 ghost use Rattle.krb_show_checksums.specs.Checksums.{over};
 ghost use Rattle.krb_show_checksums.specs.Message.{IsTicketMessage, NoneHoldsPac};
 ghost use Rattle.krb_show_checksums.specs.Tickets.{ticket_checksums, ticket_told};
@@ -13,11 +13,11 @@ use crate::checksum::ticket;
 use crate::message::{Zeroed, zeroed_of};
 use crate::pac::{tell_pac, words_of};
 use crate::told::tell_under_keys;
+use krb_decrypt::Key;
 use krb_der::DerEncode;
 use krb_enc_parts::data_types::EncTicketPart;
 use krb_pac_signatures::PacSignatures;
 use krb_show::{Label, Page};
-use krb_show_opened::Key;
 use krb_types::data_types::AuthorizationData;
 use std::alloc::{AllocError, Global};
 

@@ -12,9 +12,9 @@ ghost use Rattle.krb_show_checksums.specs.Told.{made_with, told, under_key, unde
 use crate::checksum::PacChecksum;
 use crate::holders::{first_holder, first_kdcs, have_same_octets, is_one_of};
 use krb_crypto::ChecksumSuite;
+use krb_decrypt::Key;
 use krb_pac_signatures::Verdict;
 use krb_show::{Label, Page, show_text, show_word};
-use krb_show_opened::Key;
 use std::alloc::{AllocError, Global};
 
 /// Tells a verdict.

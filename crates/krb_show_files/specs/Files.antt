@@ -1,5 +1,5 @@
 -- The files of MIT Kerberos as tokens, and which octets are none.
-use Rattle.std.specs.Prelude.{◌≡◌, ◌≢◌, ℕ, pos, Bool, true, false, List, Err, ◌⊎◌, codes}
+use Rattle.std.specs.Prelude.{◌≡◌, ◌≢◌, ℕ, pos, Bool, true, false, List, [], ◌∷◌, Err, ◌⊎◌, codes}
 use Rattle.byteorder.specs.Endian.{big_bytes}
 use Rattle.krb_files.specs.Ccache.{Ccache, CcacheIs, Credential, TypedPrincipal, version_octet}
 use Rattle.krb_files.specs.CcacheReading.{ccache_of as ccache_read}
@@ -12,6 +12,7 @@ use Rattle.krb_files.specs.Keytab.{KeytabIs}
 use Rattle.krb_files.specs.KeytabReading.{keytab_of as keytab_read}
 use Rattle.krb_registry.specs.declared.kind.Kind.TheVariants.{AddressType, AuthorizationDataType, EncryptionType, NameType, TicketFlag}
 use Rattle.krb_show.specs.Leaves.{flags_of, number_of, octets_of, secret_octets_of, text_of, time_of, truth_of}
+use Rattle.krb_show.specs.Opened.{opened_or}
 use Rattle.krb_show.specs.Pages.{◌then◌, list_of, struct_of}
 use Rattle.krb_show.specs.Tokens.{Label, Token, of_kind, plain}
 use Rattle.krb_show_files.specs.declared.error.FilePageError.{FilePageError}
@@ -119,6 +120,16 @@ marks_of is_skey flags addresses authorization_data =
     then flags_of (of_kind (codes "ticket-flags") TicketFlag) (flag_bits flags)
     then list_of address_of (plain (codes "addresses")) addresses
     then list_of authorization_element_of (plain (codes "authdata")) authorization_data
+
+-- Octets in a ticket's place: a value, as it is shown; others are a secret, where there are any, as what a configuration entry holds ("Credential cache
+-- configuration entries").
+abbrev pub unread_of : Label → List ℕ → List Token → List Token → Type 0
+unread_of label [] = octets_of label []
+unread_of label (octet ∷ octets) = secret_octets_of label (octet ∷ octets)
+
+abbrev pub ticket_of : {A : Type 0} → (A → Type 0) → (A → List ℕ) → (Label → A → List Token → List Token → Type 0) → Label → List ℕ
+    → List Token → List Token → Type 0
+ticket_of is_value enc shows label octets = opened_or is_value enc (shows label) (unread_of label octets) octets
 
 -- "Credential cache file format", "Credential format": ticket and second_ticket, by how octets in a ticket's place are shown
 abbrev pub tickets_of : ShowsAs (List ℕ) → List ℕ → List ℕ → List Token → List Token → Type 0

@@ -3,11 +3,10 @@
 ghost use Rattle.std.specs.Prelude.{◌≡◌, [], IfOk, IfErr, OnOk, OnErr, MatchResult, pos, codes};
 ghost use Rattle.krb_files.specs.Ccache.{Ccache, CcacheIs, version_octet};
 ghost use Rattle.krb_show.specs.Leaves.{number_of};
-ghost use Rattle.krb_show.specs.Opened.{opened_by};
 ghost use Rattle.krb_show.specs.Pages.{◌then◌, list_of, struct_of};
 ghost use Rattle.krb_show.specs.Tokens.{Begins, plain};
 ghost use Rattle.krb_show_messages.specs.Shown.{shows_of};
-ghost use Rattle.krb_show_files.specs.Files.{IsNoCcache, ccache_of, credential_of, marks_of, parties_of, removal_of, tickets_of, times_of};
+ghost use Rattle.krb_show_files.specs.Files.{IsNoCcache, ccache_of, credential_of, marks_of, parties_of, removal_of, ticket_of, tickets_of, times_of};
 
 use crate::error::FilePageError;
 use crate::principal::PrincipalFields;
@@ -17,7 +16,7 @@ use crate::{File, HeaderField};
 use krb_der::DerEncode;
 use krb_files::ccache::{CcacheVersion, CcacheView, CredentialView, Times};
 use krb_files::fields::TypedOctets;
-use krb_show::{Field, Label, Page, Show, ShowFields, show_fields, show_struct};
+use krb_show::{Field, Label, Page, Role, Show, ShowFields, show_fields, show_struct};
 use krb_show_messages::HasRow;
 use krb_types::data_types::Ticket;
 use std::alloc::{AllocError, Global};
@@ -136,7 +135,7 @@ struct Tickets<'a> {
 }
 
 impl<'a> ShowFields for Tickets<'a> {
-    ghost shows = { λ f. tickets_of (opened_by ⟦<Ticket as DerEncode>⟧.is_value ⟦<Ticket as DerEncode>⟧.enc (shows_of ⟦<Ticket as HasRow>⟧.row_name ⟦<Ticket as DerEncode>⟧.enc))
+    ghost shows = { λ f. tickets_of (ticket_of ⟦<Ticket as DerEncode>⟧.is_value ⟦<Ticket as DerEncode>⟧.enc (shows_of ⟦<Ticket as HasRow>⟧.row_name ⟦<Ticket as DerEncode>⟧.enc))
         f.ticket.now f.second_ticket.now };
 
     fn show_fields(&self, alloc: Global, page: &mut Page) -> Result<(), AllocError> {
@@ -154,7 +153,7 @@ impl<'a> ShowFields for Tickets<'a> {
 
 /// A credential.
 impl<'a> Show<File> for CredentialView<'a> {
-    ghost shows = { credential_of (opened_by ⟦<Ticket as DerEncode>⟧.is_value ⟦<Ticket as DerEncode>⟧.enc (shows_of ⟦<Ticket as HasRow>⟧.row_name ⟦<Ticket as DerEncode>⟧.enc)) };
+    ghost shows = { credential_of (ticket_of ⟦<Ticket as DerEncode>⟧.is_value ⟦<Ticket as DerEncode>⟧.enc (shows_of ⟦<Ticket as HasRow>⟧.row_name ⟦<Ticket as DerEncode>⟧.enc)) };
 
     fn show(&self, alloc: Global, label: &Label, page: &mut Page) -> Result<(), AllocError> {
         let removal = Removal {
@@ -243,6 +242,7 @@ fn show_parts<'a, H: Show<HeaderField>, P: Show<File>, C: Show<File>>(
         label: Label {
             text: "version",
             kind: None,
+            role: Role::None,
             is_item: false,
         },
         value: version,
@@ -252,6 +252,7 @@ fn show_parts<'a, H: Show<HeaderField>, P: Show<File>, C: Show<File>>(
         label: Label {
             text: "header",
             kind: None,
+            role: Role::None,
             is_item: false,
         },
         items: header,
@@ -261,6 +262,7 @@ fn show_parts<'a, H: Show<HeaderField>, P: Show<File>, C: Show<File>>(
         label: Label {
             text: "principal",
             kind: None,
+            role: Role::None,
             is_item: false,
         },
         value: principal,
@@ -270,6 +272,7 @@ fn show_parts<'a, H: Show<HeaderField>, P: Show<File>, C: Show<File>>(
         label: Label {
             text: "credentials",
             kind: None,
+            role: Role::None,
             is_item: false,
         },
         items: credentials,
@@ -285,7 +288,7 @@ fn show_parts<'a, H: Show<HeaderField>, P: Show<File>, C: Show<File>>(
 
 /// A cache.
 impl<'a> Show<File> for CcacheView<'a> {
-    ghost shows = { ccache_of (opened_by ⟦<Ticket as DerEncode>⟧.is_value ⟦<Ticket as DerEncode>⟧.enc (shows_of ⟦<Ticket as HasRow>⟧.row_name ⟦<Ticket as DerEncode>⟧.enc)) };
+    ghost shows = { ccache_of (ticket_of ⟦<Ticket as DerEncode>⟧.is_value ⟦<Ticket as DerEncode>⟧.enc (shows_of ⟦<Ticket as HasRow>⟧.row_name ⟦<Ticket as DerEncode>⟧.enc)) };
 
     fn show(&self, alloc: Global, label: &Label, page: &mut Page) -> Result<(), AllocError> {
         let version = version_number(self.version());
@@ -309,14 +312,14 @@ impl<'a> Show<File> for CcacheView<'a> {
 /// each with its tag, the default principal and the credentials, in their order. A configuration entry
 /// is one of the credentials, and shown as they are. So is one that was removed and only stands in the
 /// file (`CredentialView::is_removed`), and it says `removed` first. In the place of a ticket a Ticket
-/// (RFC 4120, 5.3) is opened, and other octets are shown as octets. A time that a credential has not is
+/// (RFC 4120, 5.3) is opened, and other octets, as a configuration entry has, are a secret. A time that a credential has not is
 /// the number 0, which is shown as the time that it stands for, 1970-01-01T00:00:00Z.
 ///
 /// Every octet of the cache has its line, but for those that count or repeat: lengths, counts, and the second encryption type of version 3. Other
 /// octets are refused with their first error, as by `CcacheView::new`. An allocation failure is `OutOfMemory`, and comes only where they are a cache.
 pub fn page_of_ccache(alloc: Global, octets: &[u8]) -> Result<Page, FilePageError>
     ensures found { IfOk result (λ page. (cache : Ccache) × CcacheIs octets.now cache
-        × ccache_of (opened_by ⟦<Ticket as DerEncode>⟧.is_value ⟦<Ticket as DerEncode>⟧.enc (shows_of ⟦<Ticket as HasRow>⟧.row_name ⟦<Ticket as DerEncode>⟧.enc))
+        × ccache_of (ticket_of ⟦<Ticket as DerEncode>⟧.is_value ⟦<Ticket as DerEncode>⟧.enc (shows_of ⟦<Ticket as HasRow>⟧.row_name ⟦<Ticket as DerEncode>⟧.enc))
         (plain (codes "ccache")) cache [] page.items) }
     ensures reads { (cache : Ccache) → CcacheIs octets.now cache → MatchResult result (λ page. Unit {0}) (λ e. e ≡ FilePageError.OutOfMemory) }
     ensures rejected { IfErr result (IsNoCcache octets.now) }

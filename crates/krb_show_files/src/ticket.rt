@@ -1,20 +1,22 @@
 //! Keys, flags, tickets and octets with their types, as a credential has them (MIT Kerberos, "Credential cache file format", "Credential format").
 
-ghost use Rattle.std.specs.Prelude.{◌≡◌, IfOk};
+ghost use Rattle.std.specs.Prelude.{◌≡◌, IfOk, OnErr, OnOk};
 ghost use Rattle.krb_show.specs.Leaves.{flags_of};
-ghost use Rattle.krb_show.specs.Opened.{opened_by};
 ghost use Rattle.krb_show.specs.Pages.{list_of};
-ghost use Rattle.krb_show.specs.Tokens.{plain};
+ghost use Rattle.krb_show.specs.Tokens.{Begins, plain};
 ghost use Rattle.krb_show_messages.specs.Shown.{shows_of};
-ghost use Rattle.krb_show_files.specs.Files.{address_of, authorization_element_of, flag_bits, header_field_of, key_of};
+ghost use Rattle.krb_show_files.specs.Files.{address_of, authorization_element_of, flag_bits, header_field_of, key_of, ticket_of, unread_of};
 
 use crate::values::KeyOctets;
 use crate::{Address, AuthorizationElement, File, HeaderField};
 use byteorder::{BigEndian, ByteOrder};
-use krb_der::{BitStringAsn1, DerEncode};
+use krb_der::{BitStringAsn1, Der, DerEncode};
 use krb_files::fields::{TypedListView, TypedOctets};
-use krb_show::{Label, Page, Show, ShowFields, show_fields, show_list, show_struct};
-use krb_show_messages::{HasRow, show_opened_by_row};
+use krb_show::{
+    Label, Page, Show, ShowFields, open, show_fields, show_list, show_octets, show_secret,
+    show_struct,
+};
+use krb_show_messages::{HasRow, show_value};
 use krb_types::data_types::Ticket;
 use std::alloc::{AllocError, Global};
 
@@ -164,6 +166,41 @@ impl Show<File> for TicketFlags {
     }
 }
 
+/// Appends octets in a ticket's place that are no ticket: a secret, where there are any.
+fn show_unread(
+    alloc: Global,
+    label: &Label,
+    octets: &[u8],
+    page: &mut Page,
+) -> Result<(), AllocError>
+    ensures ok { OnOk result (unread_of label.now octets.now page.old.items page.new.items) }
+    ensures kept { OnOk result (Begins page.old.items page.new.items) }
+    ensures err { OnErr result (page.new.items ≡ page.old.items) }
+{
+    if octets.is_empty() {
+        show_octets(alloc, label, octets, page)
+    } else {
+        show_secret(alloc, label, octets, page)
+    }
+}
+
+/// Appends octets in a ticket's place, called `text`: those that are the encoding of a value of `T` by its row, and others as a secret.
+fn show_ticket<T: Der + HasRow + Drop>(
+    alloc: Global,
+    text: &'static str,
+    octets: &[u8],
+    page: &mut Page,
+) -> Result<(), AllocError>
+    ensures ok { OnOk result (ticket_of T.is_value T.enc (shows_of T.row_name T.enc) (plain text.now) octets.now page.old.items page.new.items) }
+    ensures kept { OnOk result (Begins page.old.items page.new.items) }
+    ensures err { OnErr result (page.new.items ≡ page.old.items) }
+{
+    match open::<T>(alloc, octets)? {
+        Some(value) => show_value(alloc, text, &value, page),
+        None => show_unread(alloc, &Label::new(text), octets, page),
+    }
+}
+
 /// Octets in a ticket's place, and what they are called, lent for showing: a Ticket (RFC 4120, 5.3) by its row.
 #[derive(Drop)]
 pub(crate) struct TicketOctets<'a> {
@@ -172,10 +209,10 @@ pub(crate) struct TicketOctets<'a> {
 }
 
 impl<'a> ShowFields for TicketOctets<'a> {
-    ghost shows = { λ f. opened_by ⟦<Ticket as DerEncode>⟧.is_value ⟦<Ticket as DerEncode>⟧.enc
+    ghost shows = { λ f. ticket_of ⟦<Ticket as DerEncode>⟧.is_value ⟦<Ticket as DerEncode>⟧.enc
         (shows_of ⟦<Ticket as HasRow>⟧.row_name ⟦<Ticket as DerEncode>⟧.enc) (plain f.text.now) f.octets.now };
 
     fn show_fields(&self, alloc: Global, page: &mut Page) -> Result<(), AllocError> {
-        show_opened_by_row::<Ticket>(alloc, self.text, self.octets, page)
+        show_ticket::<Ticket>(alloc, self.text, self.octets, page)
     }
 }

@@ -2,7 +2,7 @@
 use Rattle.std.proofs.Common.{arith, refl, ◌≡◌, ℕ, List, [], ◌∷◌, ◌++◌, length, map, subst}
 use Rattle.std.proofs.lemmas.List.{append-nil, append_assoc}
 use Rattle.krb_crypto.specs.declared.cipher_suite.CipherSuite.TheVariants as suites
-use Rattle.krb_show_opened.specs.Keys.{NamedKey}
+use Rattle.krb_decrypt.specs.Keys.{NamedKey}
 use Rattle.krb_show_keys.specs.PasswordKeys.{KeyUnder, KeysOfSalt, OfEach, adds}
 
 -- what the keys so far are with those of what is left

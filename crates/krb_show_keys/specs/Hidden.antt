@@ -1,6 +1,6 @@
 -- Pages without the octets of keys and passwords.
-use Rattle.std.specs.Prelude.{◌≡◌, nat_eq, Bool, true, false, if◌then◌else◌, List, [], ◌∷◌, ◌++◌, Option, Some, codes}
-use Rattle.std.specs.Cmp.Lexicographic.{pointwise}
+use Rattle.std.specs.Prelude.{◌≡◌, ℤ, pos, Bool, true, false, if◌then◌else◌, List, [], ◌∷◌, ◌++◌, Option, None, Some, codes}
+use Rattle.std.specs.Ordering.{int_eq}
 use Rattle.std.specs.List.{filter}
 use Rattle.krb_registry.specs.declared.kind.Kind.{Kind}
 use Rattle.krb_registry.specs.declared.kind.Kind.TheVariants as kinds
@@ -34,8 +34,12 @@ is_number f = false
 abbrev pub is_etype : Token → Bool
 is_etype t = if is_number t.form then are_types t.label.kind else false
 
+abbrev pub is_null : Option ℤ → Bool
+is_null None = false
+is_null (Some z) = int_eq z (pos 0)
+
 abbrev pub is_zero : Token → Bool
-is_zero t = pointwise nat_eq t.octets (codes "0")
+is_zero t = is_null t.number
 
 -- whether the last of tokens is such a number
 abbrev pub last_is_zero : List Token → Bool

@@ -8,7 +8,7 @@ use Rattle.krb_input.specs.Forms.{hexadecimal}
 use Rattle.krb_files.specs.Entry.{Entry}
 use Rattle.krb_files.specs.Keytab.{KeytabIs}
 use Rattle.krb_files.specs.KeytabReading.{keytab_of}
-use Rattle.krb_show_opened.specs.Keys.{NamedKey}
+use Rattle.krb_decrypt.specs.Keys.{NamedKey}
 use Rattle.krb_show_keys.specs.Suites.{digits_of, suite_of_number, suite_of_text}
 use Rattle.krb_show_keys.specs.declared.keytab.KeytabKeysError.{KeytabKeysError}
 use Rattle.krb_show_keys.specs.declared.keytab.KeytabKeysError.TheVariants as errors

@@ -4,7 +4,7 @@ use Rattle.krb_crypto_message.specs.Sealing.{IsOfNone, IsTheOne}
 use Rattle.krb_crypto.specs.BySuite.{IsPasswordKey}
 use Rattle.krb_crypto.specs.declared.cipher_suite.CipherSuite.{CipherSuite}
 use Rattle.krb_crypto.specs.declared.cipher_suite.CipherSuite.TheVariants as suites
-use Rattle.krb_show_opened.specs.Keys.{NamedKey}
+use Rattle.krb_decrypt.specs.Keys.{NamedKey}
 
 -- the name of a key that a password gives
 abbrev pub password_name : List ℕ → List ℕ

@@ -33,7 +33,7 @@ fn clear_after(token: &Token, is_clear: bool) -> bool
     ensures { result ≡ (if is_etype token.now then is_zero token.now else is_clear) }
 {
     if is_etype(token) {
-        token.octets() == b"0".as_slice()
+        matches!(token.number(), Some(0))
     } else {
         is_clear
     }
@@ -65,9 +65,9 @@ fn push_shown(
 }
 
 /// The page without the octets of keys and passwords: the word `hidden` stands in the place of each token of the form `Form::Secret` (the octets of a key of
-/// RFC 4120, 5.2.9, of a keytab or of a credential cache, UserSessionKey of MS-PAC, 2.5, a password of RFC 3244 or of MS-CSSP, a PIN), and of one of
+/// RFC 4120, 5.2.9, of a keytab or of a credential cache, UserSessionKey of MS-PAC, 2.5, and the buffer around it, a password of RFC 3244 or of MS-CSSP, a PIN), and of one of
 /// the form `Form::Cipher` behind the encryption type 0, which is in the clear and may hold keys (RFC 4120, 5.8.1), under any label. Other tokens stay
-/// as they are; octets that hold a key within them, as those of a tree or of a PAC's buffer, are among these. The only error is an allocation failure.
+/// as they are; octets that hold a key within them, as those of a tree, are among these. The only error is an allocation failure.
 #[tactic(auto, using(crate::proofs::Walks::hidden_more, crate::proofs::Walks::clear_more, crate::proofs::Walks::none_is_secret))]
 pub fn without_keys(alloc: Global, page: Page) -> Result<Page, AllocError>
     ensures made { IfOk result (λ made. made.items ≡ hidden_page page.items) }

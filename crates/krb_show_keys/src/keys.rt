@@ -9,8 +9,8 @@ ghost use Rattle.krb_show_keys.specs.Salts.{salts_of};
 use crate::salts::salts_of;
 use krb_crypto::{Cipher, CipherSuite};
 use krb_crypto_block::KerberosCryptoError;
+use krb_decrypt::Key;
 use krb_show::Token;
-use krb_show_opened::Key;
 use std::alloc::{AllocError, Global};
 
 /// The key of a suite that a password and a salt give; `None` where they give none.

@@ -8,9 +8,9 @@ ghost use Rattle.krb_show_keys.specs.Keys.{IsNoKeytab, components_text, entry_na
 ghost use Rattle.krb_show_keys.specs.declared.keytab.KeytabKeysError.TheVariants as errors;
 
 use crate::suites::suite_of_number;
+use krb_decrypt::Key;
 use krb_files::fields::ComponentsView;
 use krb_files::keytab::{EntryView, KeytabError, KeytabView};
-use krb_show_opened::Key;
 use std::alloc::{AllocError, Global};
 use thiserror::Error;
 

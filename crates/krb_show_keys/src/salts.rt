@@ -1,120 +1,129 @@
 //! The salts of a page.
 
-ghost use Rattle.std.specs.Prelude.{◌≡◌, ◌++◌, map, None, Some, IfOk, MatchOption, OnOk};
+ghost use Rattle.std.specs.Prelude.{◌≡◌, ◌++◌, map, option_map, IfOk, OnOk};
 ghost use Rattle.std.specs.Option.{option_copied};
-ghost use Rattle.krb_show_keys.specs.Salts.{default_salt, has_escape, is_number, is_struct, is_text, name_and_realm, name_at, realm_and_name};
-ghost use Rattle.krb_show_keys.specs.Salts.{fifth, in_list, salt_at, salt_if, salts_of, told_salt, without_slashes};
+ghost use Rattle.krb_show_keys.specs.Salts.{default_salt, fifth, in_list, is_client_name, is_client_realm, is_salt, is_server_name, is_server_realm, is_struct, is_text};
+ghost use Rattle.krb_show_keys.specs.Salts.{name_and_realm, name_at, realm_and_name, salt_at, salt_if, salts_of, told_salt};
 
-use krb_show::{Form, Token};
+use krb_show::{Form, Role, Token};
 use std::alloc::{AllocError, Global};
 
 /// How many salts of a page are taken: each costs the derivation of a key for each suite.
 pub const MOST_SALTS: usize = 16;
 
-/// Whether a token is a text under this name.
-fn is_text(name: &str, token: &Token) -> bool
-    ensures { result ≡ is_text name.now token.now }
+/// Whether it is a salt (RFC 4120, 5.2.7.5).
+fn is_salt(role: Role) -> bool
+    ensures { result ≡ is_salt role }
 {
-    match token.form() {
-        Form::Text => token.text() == name.as_bytes(),
-        _ => false,
-    }
+    matches!(role, Role::Salt)
 }
 
-/// Whether a token is a number under this name.
-fn is_number(name: &str, token: &Token) -> bool
-    ensures { result ≡ is_number name.now token.now }
+/// Whether it is the realm of a client.
+fn is_client_realm(role: Role) -> bool
+    ensures { result ≡ is_client_realm role }
 {
-    match token.form() {
-        Form::Number => token.text() == name.as_bytes(),
-        _ => false,
-    }
+    matches!(role, Role::ClientRealm)
 }
 
-/// Whether a struct begins at a token, under this name.
-fn is_struct(name: &str, token: &Token) -> bool
-    ensures { result ≡ is_struct name.now token.now }
+/// Whether it is the realm of a server.
+fn is_server_realm(role: Role) -> bool
+    ensures { result ≡ is_server_realm role }
 {
-    match token.form() {
-        Form::Struct => token.text() == name.as_bytes(),
-        _ => false,
-    }
+    matches!(role, Role::ServerRealm)
 }
 
-/// Whether the text of a name has an escape.
-fn has_escape(name: &[u8]) -> bool
-    ensures { result ≡ has_escape name.now }
+/// Whether it is the name of a client.
+fn is_client_name(role: Role) -> bool
+    ensures { result ≡ is_client_name role }
 {
-    name.iter().any(|octet| *octet == b'\\')
+    matches!(role, Role::ClientName)
 }
 
-/// A text without its `/`.
-fn without_slashes(alloc: Global, text: &[u8]) -> Result<Vec<u8>, AllocError>
-    ensures { IfOk result (λ kept. kept.items ≡ without_slashes text.now) }
+/// Whether it is the name of a server.
+fn is_server_name(role: Role) -> bool
+    ensures { result ≡ is_server_name role }
 {
-    let mut kept = Vec::with_capacity(alloc, text.len())?;
-    for octet in text {
-        if *octet != b'/' {
-            kept.push(*octet)?;
-        }
-    }
-    Ok(kept)
+    matches!(role, Role::ServerName)
 }
 
-/// The default salt of a principal, by the text of its name; `None` where it has an escape.
-fn default_salt(alloc: Global, realm: &[u8], name: &[u8]) -> Result<Option<Vec<u8>>, AllocError>
-    ensures { IfOk result (λ found. MatchOption found (default_salt realm.now name.now ≡ None) (λ salt. default_salt realm.now name.now ≡ Some salt.items)) }
+/// Whether it is a text.
+fn is_text(form: Form) -> bool
+    ensures { result ≡ is_text form }
 {
-    if has_escape(name) {
-        return Ok(None);
-    }
-    let components = without_slashes(alloc, name)?;
+    matches!(form, Form::Text)
+}
+
+/// Whether a struct begins there.
+fn is_struct(form: Form) -> bool
+    ensures { result ≡ is_struct form }
+{
+    matches!(form, Form::Struct)
+}
+
+/// The default salt of a principal (RFC 4120, 4): its realm, and behind it the components of its name.
+fn default_salt(alloc: Global, realm: &[u8], components: &[Vec<u8>]) -> Result<Vec<u8>, AllocError>
+    ensures { IfOk result (λ salt. salt.items ≡ default_salt realm.now (map (λ c. c.items) components.now)) }
+{
     let mut salt = Vec::from_slice(alloc, realm)?;
-    salt.extend_from_slice(&components)?;
-    Ok(Some(salt))
+    for component in components {
+        salt.extend_from_slice(component)?;
+    }
+    Ok(salt)
 }
 
-/// The text of the name whose struct, under this name, tokens begin with.
-fn name_at<'p>(label: &str, tokens: &'p [Token]) -> Option<&'p [u8]>
-    ensures { option_copied result ≡ name_at label.now tokens.now }
+/// The components of the client's name whose struct tokens begin with.
+fn client_at(tokens: &[Token]) -> Option<&[Vec<u8>]>
+    ensures { option_map (λ v. map (λ c. c.items) v.now) result ≡ name_at is_client_name tokens.now }
 {
     let (first, behind) = tokens.split_first()?;
-    let (second, behind) = behind.split_first()?;
+    let (_second, behind) = behind.split_first()?;
     let (third, _behind) = behind.split_first()?;
-    if is_struct(label, first) && is_number("name-type", second) && is_text("name-string", third) {
-        Some(third.octets())
+    if is_struct(first.form()) && is_client_name(first.role()) && is_text(third.form()) {
+        Some(third.components())
     } else {
         None
     }
 }
 
-/// The default salt of a realm and the name that tokens begin with, if they do.
-fn salt_with_name(
+/// The components of the server's name whose struct tokens begin with.
+fn server_at(tokens: &[Token]) -> Option<&[Vec<u8>]>
+    ensures { option_map (λ v. map (λ c. c.items) v.now) result ≡ name_at is_server_name tokens.now }
+{
+    let (first, behind) = tokens.split_first()?;
+    let (_second, behind) = behind.split_first()?;
+    let (third, _behind) = behind.split_first()?;
+    if is_struct(first.form()) && is_server_name(first.role()) && is_text(third.form()) {
+        Some(third.components())
+    } else {
+        None
+    }
+}
+
+/// The default salt of a realm and a name, if there is one.
+fn salt_if(
     alloc: Global,
     realm: &[u8],
-    label: &str,
-    tokens: &[Token],
+    components: Option<&[Vec<u8>]>,
 ) -> Result<Option<Vec<u8>>, AllocError>
-    ensures { IfOk result (λ found. MatchOption found (salt_if realm.now (name_at label.now tokens.now) ≡ None)
-        (λ salt. salt_if realm.now (name_at label.now tokens.now) ≡ Some salt.items)) }
+    ensures { IfOk result (λ found. option_map (λ s. s.items) found ≡ salt_if realm.now (option_map (λ v. map (λ c. c.items) v.now) components.entry)) }
 {
-    match name_at(label, tokens) {
-        Some(name) => default_salt(alloc, realm, name),
+    match components {
+        Some(components) => Ok(Some(default_salt(alloc, realm, components)?)),
         None => Ok(None),
     }
 }
 
 /// The default salt of the realm and the name behind it that tokens begin with.
 fn realm_and_name(alloc: Global, tokens: &[Token]) -> Result<Option<Vec<u8>>, AllocError>
-    ensures { IfOk result (λ found. MatchOption found (realm_and_name tokens.now ≡ None) (λ salt. realm_and_name tokens.now ≡ Some salt.items)) }
+    ensures { IfOk result (λ found. option_map (λ s. s.items) found ≡ realm_and_name tokens.now) }
 {
     let Some((realm, behind)) = tokens.split_first() else {
         return Ok(None);
     };
-    if is_text("crealm", realm) {
-        salt_with_name(alloc, realm.octets(), "cname", behind)
-    } else if is_text("realm", realm) {
-        salt_with_name(alloc, realm.octets(), "sname", behind)
+    if is_client_realm(realm.role()) {
+        salt_if(alloc, realm.octets(), client_at(behind))
+    } else if is_server_realm(realm.role()) {
+        salt_if(alloc, realm.octets(), server_at(behind))
     } else {
         Ok(None)
     }
@@ -133,13 +142,13 @@ fn fifth(tokens: &[Token]) -> Option<&Token>
 
 /// The default salt of the client's name and the realm behind it that tokens begin with.
 fn name_and_realm(alloc: Global, tokens: &[Token]) -> Result<Option<Vec<u8>>, AllocError>
-    ensures { IfOk result (λ found. MatchOption found (name_and_realm tokens.now ≡ None) (λ salt. name_and_realm tokens.now ≡ Some salt.items)) }
+    ensures { IfOk result (λ found. option_map (λ s. s.items) found ≡ name_and_realm tokens.now) }
 {
     let Some(realm) = fifth(tokens) else {
         return Ok(None);
     };
-    if is_text("realm", realm) {
-        salt_with_name(alloc, realm.octets(), "cname", tokens)
+    if is_server_realm(realm.role()) {
+        salt_if(alloc, realm.octets(), client_at(tokens))
     } else {
         Ok(None)
     }
@@ -150,7 +159,7 @@ fn told_salt(tokens: &[Token]) -> Option<&[u8]>
     ensures { option_copied result ≡ told_salt tokens.now }
 {
     let (first, _behind) = tokens.split_first()?;
-    if is_text("salt", first) {
+    if is_salt(first.role()) {
         Some(first.octets())
     } else {
         None
@@ -159,7 +168,7 @@ fn told_salt(tokens: &[Token]) -> Option<&[u8]>
 
 /// The salt that tokens begin with.
 fn salt_at(alloc: Global, tokens: &[Token]) -> Result<Option<Vec<u8>>, AllocError>
-    ensures { IfOk result (λ found. MatchOption found (salt_at tokens.now ≡ None) (λ salt. salt_at tokens.now ≡ Some salt.items)) }
+    ensures { IfOk result (λ found. option_map (λ s. s.items) found ≡ salt_at tokens.now) }
 {
     if let Some(salt) = told_salt(tokens) {
         return Ok(Some(Vec::from_slice(alloc, salt)?));
@@ -180,9 +189,9 @@ fn push_salt(alloc: Global, tokens: &[Token], salts: &mut Vec<Vec<u8>>) -> Resul
     Ok(())
 }
 
-/// The salts of a page, in their order, the first `MOST_SALTS` of them: the texts under `salt`, as an ETYPE-INFO2 has them (RFC 4120, 5.2.7.5), and
-/// the default salts (RFC 4120, 4) of the realms and names that stand beside one another: `crealm` and `cname`, `realm` and `sname`, `cname` and
-/// `realm`. The only error is an allocation failure.
+/// The salts of a page, in their order, the first `MOST_SALTS` of them: those of an ETYPE-INFO2 (RFC 4120, 5.2.7.5), and the default salts (RFC 4120, 4) of
+/// the realms and names that stand beside one another, by their roles: a client's realm and name, a server's, and in a request a client's name and
+/// the realm behind it. The only error is an allocation failure.
 pub fn salts_of(alloc: Global, page: &[Token]) -> Result<Vec<Vec<u8>>, AllocError>
     ensures { IfOk result (λ salts. map (λ s. s.items) salts.items ≡ salts_of page.now) }
 {

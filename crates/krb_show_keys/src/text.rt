@@ -5,8 +5,8 @@ ghost use Rattle.krb_show_keys.specs.Keys.{key_of_suite, key_in};
 
 use crate::suites::{digits_of, suite_of_text};
 use krb_crypto::{Cipher, CipherSuite};
+use krb_decrypt::Key;
 use krb_input::hexadecimal_of;
-use krb_show_opened::Key;
 use std::alloc::{AllocError, Global};
 
 /// The octets of the key of this suite in a text that begins with the suite.

@@ -1,2 +1,8 @@
+mod Elements
+mod Pieces
+mod Plain
+mod Results
+mod Several
+mod Told
 pub mod EveryKind
 pub mod EveryCertificateKind

@@ -4,10 +4,10 @@ use Rattle.krb_schema.specs.declared.shape.Role.{Role}
 use Rattle.krb_schema.specs.declared.shape.Role.TheVariants as roles
 use Rattle.krb_show.specs.Leaves.{octets_of}
 use Rattle.krb_show.specs.Tokens.{Label, Token}
-use Rattle.krb_show_formats.specs.Pac.{pac_of}
+use Rattle.krb_show_messages.specs.Pac.{pac_of}
 use Rattle.krb_show_messages.specs.GssChecksum.{gss_checksum_of}
 use Rattle.krb_show_messages.specs.Prefixed.{prefixed_of}
-use Rattle.krb_show_rows.specs.Walk.{IsShownByRow}
+use Rattle.krb_show.specs.RowWalk.{IsShownByRow}
 
 -- the contents of INTEGERs (X.690, 8.3): 128, AD-WIN2K-PAC (RFC 4120, 7.5.4), and 32771, the checksum of the GSS-API (RFC 4121, 4.1.1)
 abbrev pub win2k_pac : List ℕ

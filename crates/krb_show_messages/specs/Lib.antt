@@ -1,3 +1,5 @@
+pub mod Negoex
+pub mod Pac
 pub mod GssChecksum
 pub mod Kinds
 pub mod CertificateKinds

@@ -6,11 +6,11 @@ use Rattle.krb_schema.specs.declared.shape.Role.{Role}
 use Rattle.krb_show.specs.Leaves.{number_of, octets_of}
 use Rattle.krb_show.specs.Pages.{◌then◌, struct_of}
 use Rattle.krb_show.specs.Tokens.{Label, Token, plain}
-use Rattle.krb_show_rows.specs.Items.{shown, start}
-use Rattle.krb_show_rows.specs.Walk.{IsWalkBy}
-use Rattle.krb_show_rows.specs.declared.stand.Secrets.TheVariants as secrets
-use Rattle.krb_show_rows.specs.declared.walk.Walk.{Walk}
-use Rattle.krb_show_rows.specs.declared.walk.Walk.TheVariants as walks
+use Rattle.krb_show.specs.Items.{shown, start}
+use Rattle.krb_show.specs.RowWalk.{IsWalkBy}
+use Rattle.krb_show.specs.declared.rows.stand.Secrets.TheVariants as secrets
+use Rattle.krb_show.specs.declared.rows.walk.Walk.{Walk}
+use Rattle.krb_show.specs.declared.rows.walk.Walk.TheVariants as walks
 
 -- the first four octets are the number of those behind them, the highest first (RFC 4120, 7.2.2)
 abbrev pub IsPrefixed : List ℕ → Type 0

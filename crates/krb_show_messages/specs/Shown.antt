@@ -5,7 +5,7 @@ use Rattle.krb_der_core.specs.declared.error.Asn1DerError.{Asn1DerError}
 use Rattle.krb_show.specs.Told.{IsTold}
 use Rattle.krb_show.specs.Tokens.{Label, Token}
 use Rattle.krb_show_messages.specs.Formats.{formats_of}
-use Rattle.krb_show_rows.specs.Walk.{IsShownByRow}
+use Rattle.krb_show.specs.RowWalk.{IsShownByRow}
 
 -- octets called so, by the row of this name
 abbrev pub row_shown : List ℕ → List ℕ → List ℕ → List Token → List Token → Type 0

@@ -18,8 +18,7 @@ use krb_pkinit::pkinit::{
     DhAuthPack, DhDomainParameters, DhRepInfo, DhReqInfo, EcAuthPack, ExternalPrincipalIdentifier,
     KdcDhKeyInfo, PaPkAsRep, PaPkAsReq, PkAuthenticator, ValidationParams,
 };
-use krb_show::{Label, Page, ShowFields, show_struct};
-use krb_show_rows::show_by_row;
+use krb_show::{Label, Page, ShowFields, show_by_row, show_struct};
 use std::alloc::{AllocError, Global};
 
 /// Whether octets begin as the second alternative of PA-PK-AS-REP (RFC 4556, 3.2.3).

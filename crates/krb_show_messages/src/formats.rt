@@ -3,16 +3,15 @@
 ghost use Rattle.std.specs.Prelude.{◌≡◌, OnErr, OnOk};
 ghost use Rattle.krb_show.specs.Leaves.{octets_of};
 ghost use Rattle.krb_show.specs.Tokens.{Begins};
-ghost use Rattle.krb_show_formats.specs.Pac.{pac_of};
+ghost use Rattle.krb_show_messages.specs.Pac.{pac_of};
 ghost use Rattle.krb_show_messages.specs.Formats.{behind_number, deleg_of, formats_of, gss_checksum, win2k_pac};
 ghost use Rattle.krb_show_messages.specs.GssChecksum.{gss_checksum_of};
 
 use crate::gss_checksum::show_gss_checksum;
+use crate::pac::show_pac;
 use crate::prefixed::show_prefixed;
 use krb_schema::Role;
-use krb_show::{Label, Page, show_octets};
-use krb_show_formats::show_pac;
-use krb_show_rows::ShowsFormats;
+use krb_show::{Label, Page, ShowsFormats, show_octets};
 use std::alloc::{AllocError, Global};
 
 /// The content of the INTEGER 128 (X.690, 8.3), the type AD-WIN2K-PAC (RFC 4120, 7.5.4).

@@ -11,8 +11,9 @@ use crate::Message;
 use byteorder::{ByteOrder, LittleEndian};
 use krb_der::BitStringAsn1;
 use krb_registry::Kind;
-use krb_show::{Label, Page, Show, ShowFields, show_octets, show_struct};
-use krb_show_rows::{NoFormats, show_by_row};
+use krb_show::{
+    Label, NoFormats, Page, Role, Show, ShowFields, show_by_row, show_octets, show_struct,
+};
 use std::alloc::{AllocError, Global};
 
 /// What Lgth is: how many octets Bnd has.
@@ -87,6 +88,7 @@ impl<'a> ShowFields for Bindings<'a> {
         let label = Label {
             text: "Bnd",
             kind: None,
+            role: Role::None,
             is_item: false,
         };
         show_octets(alloc, &label, &self.octets[4..][..16], page)
@@ -109,6 +111,7 @@ impl<'a> ShowFields for Exts<'a> {
         let label = Label {
             text: "Exts",
             kind: None,
+            role: Role::None,
             is_item: false,
         };
         show_octets(alloc, &label, self.octets, page)
@@ -142,6 +145,7 @@ impl<'a> ShowFields for Flags<'a> {
         let label = Label {
             text: "Flags",
             kind: Some(Kind::GssFlag),
+            role: Role::None,
             is_item: false,
         };
         let flags = flag_bits(alloc, self.octets)?;
@@ -163,6 +167,7 @@ impl<'a> ShowFields for Dlgth<'a> {
         let label = Label {
             text: "Dlgth",
             kind: None,
+            role: Role::None,
             is_item: false,
         };
         let length = u32::from(delegated_length(self.octets));
@@ -227,6 +232,7 @@ impl<'a> ShowFields for Delegation<'a> {
             label: Label {
                 text: "DlgOpt",
                 kind: None,
+                role: Role::None,
                 is_item: false,
             },
             number: 1,
@@ -281,6 +287,7 @@ pub(crate) fn show_gss_checksum(
         label: Label {
             text: "Lgth",
             kind: None,
+            role: Role::None,
             is_item: false,
         },
         number: 16,

@@ -7,13 +7,15 @@ ghost use Rattle.krb_show.specs.Pages.{struct_of};
 ghost use Rattle.krb_show.specs.Tokens.{Begins, plain};
 ghost use Rattle.krb_show_messages.specs.Formats.{no_formats};
 ghost use Rattle.krb_show_messages.specs.Prefixed.{IsPrefixed, by_message_row, length_and_items, message_row, prefixed_of};
-ghost use Rattle.krb_show_rows.specs.Items.{shown, start};
-ghost use Rattle.krb_show_rows.specs.declared.stand.Secrets.TheVariants as secrets;
+ghost use Rattle.krb_show.specs.Items.{shown, start};
+ghost use Rattle.krb_show.specs.declared.rows.stand.Secrets.TheVariants as secrets;
 
 use byteorder::{BigEndian, ByteOrder};
 use krb_schema::Item;
-use krb_show::{Label, Page, ShowFields, show_number, show_octets, show_struct};
-use krb_show_rows::{NoFormats, Secrets, Walk, push_items, walk_named};
+use krb_show::{
+    Label, NoFormats, Page, Secrets, ShowFields, Walk, push_items, show_number, show_octets,
+    show_struct, walk_named,
+};
 use std::alloc::{AllocError, Global};
 
 /// Whether the first four octets are the number of those behind them.

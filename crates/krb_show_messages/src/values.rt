@@ -1,15 +1,13 @@
 //! Values of types that have a row, shown by it.
 
 ghost use Rattle.std.specs.Prelude.{◌≡◌, IfOk, OnErr, OnOk};
-ghost use Rattle.krb_show.specs.Opened.{opened_by};
 ghost use Rattle.krb_show.specs.Tokens.{Begins, plain};
 ghost use Rattle.krb_show_messages.specs.Shown.{IsToldByRow, shows_of};
 
 use crate::formats::KerberosFormats;
 use crate::rows::HasRow;
 use krb_der::{Asn1DerError, Der, DerEncode, from_bytes, to_vec};
-use krb_show::{Label, Page, ShowFields, open, show_octets};
-use krb_show_rows::show_by_row;
+use krb_show::{Label, Page, ShowFields, open, show_by_row, show_octets};
 use std::alloc::{AllocError, Global};
 
 /// The encoding of a value.
@@ -51,24 +49,6 @@ impl<'a, T: DerEncode + HasRow> ShowFields for RowField<'a, T> {
 
     fn show_fields(&self, alloc: Global, page: &mut Page) -> Result<(), AllocError> {
         show_value(alloc, self.text, self.value, page)
-    }
-}
-
-/// Appends octets, called `text`: those that are the encoding of a value of `T` by its row, and others as octets. The page is as before where
-/// an allocation fails.
-pub fn show_opened_by_row<T: Der + HasRow + Drop>(
-    alloc: Global,
-    text: &'static str,
-    octets: &[u8],
-    page: &mut Page,
-) -> Result<(), AllocError>
-    ensures ok { OnOk result (opened_by T.is_value T.enc (shows_of T.row_name T.enc) (plain text.now) octets.now page.old.items page.new.items) }
-    ensures kept { OnOk result (Begins page.old.items page.new.items) }
-    ensures err { OnErr result (page.new.items ≡ page.old.items) }
-{
-    match open::<T>(alloc, octets)? {
-        Some(value) => show_value(alloc, text, &value, page),
-        None => show_octets(alloc, &Label::new(text), octets, page),
     }
 }
 

@@ -3,7 +3,7 @@ use Rattle.std.specs.Prelude.{ℕ, ◌==◌, bit_and, if◌then◌else◌, List,
 use Rattle.std.specs.List.{flat_map}
 use Rattle.byteorder.specs.Endian.{big_bytes}
 use Rattle.krb_show.specs.Leaves.{hex}
-use Rattle.krb_show.specs.Tokens.{Label, Token, adds}
+use Rattle.krb_show.specs.Tokens.{Label, Token, adds, noted}
 use Rattle.krb_show.specs.declared.token.Form.TheVariants as form
 use Rattle.krb_show_pac.specs.declared.flags.FlagSet.{FlagSet}
 use Rattle.krb_show_pac.specs.declared.flags.FlagSet.TheVariants.{GroupAttributes, UserFlags, UserAccountControl, UpnDnsFlags, PacAttributes}
@@ -103,4 +103,4 @@ flags_word number = codes "0x" ++ hex (big_bytes 4 number)
 -- flags of 32 bits: the number in hexadecimal, and the names of those that are set
 abbrev pub named_flags_of : List (ℕ × List ℕ) → Label → ℕ → List Token → List Token → Type 0
 named_flags_of rows label number =
-    adds (record { form = form.Flags; label = label; octets = flags_word number; note = flag_names rows number })
+    adds (noted form.Flags label (flags_word number) (flag_names rows number))

@@ -1,74 +1,74 @@
 -- Pages with the contents of the buffers of PACs.
-use Rattle.std.specs.Prelude.{◌≡◌, ℕ, ◌-◌, nat_eq, Bool, false, if◌then◌else◌, ⊤, List, [], ◌∷◌, Option, None, Some, codes, drop, length}
-use Rattle.std.specs.Cmp.Lexicographic.{pointwise}
+use Rattle.std.specs.Prelude.{◌≡◌, ℕ, ℤ, pos, ◌-◌, Bool, true, false, if◌then◌else◌, List, [], Option, None, Some, length}
+use Rattle.std.specs.List.{slice_get}
+use Rattle.std.specs.Ordering.{int_eq}
+use Rattle.krb_registry.specs.declared.kind.Kind.{Kind}
+use Rattle.krb_registry.specs.declared.kind.Kind.TheVariants as kinds
 use Rattle.krb_show.specs.Tokens.{Token}
 use Rattle.krb_show.specs.declared.token.Form.{Form}
 use Rattle.krb_show.specs.declared.token.Form.TheVariants as form
 use Rattle.krb_show.specs.Walk.{walk_of}
 use Rattle.krb_show_pac.specs.Contents.{contents_of}
 
--- a buffer on a page: the number of its type (MS-PAC 2.4, ulType), and its octets
-pub record Buffer : Type 0 where
-  pub ul_type : ℕ
-  pub octets : List ℕ
+-- the kind of the numbers of types of buffers (MS-PAC 2.4, ulType), and of the octets of a buffer
+abbrev pub are_types : Option Kind → Bool
+are_types (Some kinds.PacBufferType) = true
+are_types other = false
 
--- a token is a number of this name; octets of this name
-abbrev pub is_number : Token → List ℕ → Bool
-is_number t text = of_form t.form
-  where
-    of_form : Form → Bool
-    of_form form.Number = pointwise nat_eq t.label.text text
-    of_form f = false
-
-abbrev pub is_octets : Token → List ℕ → Bool
-is_octets t text = of_form t.form
-  where
-    of_form : Form → Bool
-    of_form form.Octets = pointwise nat_eq t.label.text text
-    of_form f = false
-
--- the number that digits are, of a type of a buffer whose contents are shown
-abbrev pub number_of_digits : List ℕ → Option ℕ
-number_of_digits digits =
-    if pointwise nat_eq digits (codes "1") then Some 1
-    else if pointwise nat_eq digits (codes "6") then Some 6
-    else if pointwise nat_eq digits (codes "7") then Some 7
-    else if pointwise nat_eq digits (codes "10") then Some 10
-    else if pointwise nat_eq digits (codes "12") then Some 12
-    else if pointwise nat_eq digits (codes "16") then Some 16
-    else if pointwise nat_eq digits (codes "17") then Some 17
-    else if pointwise nat_eq digits (codes "18") then Some 18
-    else if pointwise nat_eq digits (codes "19") then Some 19
+-- a number that is a type of a buffer whose contents are shown
+abbrev pub type_numbered : ℤ → Option ℕ
+type_numbered z =
+    if int_eq z (pos 1) then Some 1
+    else if int_eq z (pos 6) then Some 6
+    else if int_eq z (pos 7) then Some 7
+    else if int_eq z (pos 10) then Some 10
+    else if int_eq z (pos 12) then Some 12
+    else if int_eq z (pos 16) then Some 16
+    else if int_eq z (pos 17) then Some 17
+    else if int_eq z (pos 18) then Some 18
+    else if int_eq z (pos 19) then Some 19
     else None
 
--- octets under the number of their type, where there is one
-abbrev pub buffer_of : List ℕ → Option ℕ → Option Buffer
-buffer_of octets None = None
-buffer_of octets (Some n) = Some (record { ul_type = n; octets = octets })
+abbrev pub type_of : Option ℤ → Option ℕ
+type_of None = None
+type_of (Some z) = type_numbered z
 
--- the buffer whose fields four tokens are: ulType, cbBufferSize, Offset, and its octets
-abbrev pub buffer_in : List Token → Option Buffer
-buffer_in (t ∷ size ∷ offset ∷ b ∷ []) =
-    if is_number t (codes "ulType") then if is_octets b (codes "buffer") then buffer_of b.octets (number_of_digits t.octets) else None else None
-buffer_in tokens = None
-
--- the buffer whose fields a page ends with
-abbrev pub buffer_at : List Token → Option Buffer
-buffer_at page = buffer_in (drop (length page - 4) page)
-
--- what its contents add
-abbrev pub contents_at : Option Buffer → List Token → List Token → Type 0
-contents_at None old new = new ≡ old
-contents_at (Some b) old new = contents_of b.ul_type b.octets old new
-
--- what is inserted before a token: before the end of a buffer's struct its contents
-abbrev pub contents_before : Token → List Token → List Token → Type 0
-contents_before next old new = by_form next.form
+-- the octets of a token that is octets
+abbrev pub octets_of_form : Token → Option (List ℕ)
+octets_of_form t = by_form t.form
   where
-    by_form : Form → Type 0
-    by_form form.StructEnd = contents_at (buffer_at old) old new
-    by_form f = new ≡ old
+    by_form : Form → Option (List ℕ)
+    by_form form.Octets = Some t.octets
+    by_form form.Secret = Some t.octets
+    by_form other = None
+
+-- the octets of a buffer that a page ends with
+abbrev pub octets_in : Option Token → Option (List ℕ)
+octets_in None = None
+octets_in (Some t) = if are_types t.label.kind then octets_of_form t else None
+
+abbrev pub octets_at : List Token → Option (List ℕ)
+octets_at page = octets_in (slice_get page (length page - 1))
+
+-- what the contents of a buffer of this type and these octets add
+abbrev pub contents_at : Option ℕ → Option (List ℕ) → List Token → List Token → Type 0
+contents_at None octets old new = new ≡ old
+contents_at (Some ul_type) None old new = new ≡ old
+contents_at (Some ul_type) (Some octets) old new = contents_of ul_type octets old new
+
+-- the number of a type that stands last before the token behind one
+abbrev pub behind : Token → Option ℤ → Option ℤ
+behind t ul_type = by_form t.form
+  where
+    by_form : Form → Option ℤ
+    by_form form.Number = if are_types t.label.kind then t.number else ul_type
+    by_form other = ul_type
+
+-- what is inserted before a token: the contents of the buffer that the page ends with, of the type that stands last
+pub record IsInserted (before : Option ℤ) (t : Token) (old : List Token) (after : Option ℤ) (new : List Token) : Type 0 where
+  pub contents : contents_at (type_of before) (octets_at old) old new
+  pub seen : after ≡ behind t before
 
 -- the second page is the first, with the contents of the buffers of PACs
 abbrev pub IsWithContents : List Token → List Token → Type 0
-IsWithContents page made = walk_of {S = ⊤} (λ before next old after new. contents_before next old new) tt page [] tt made
+IsWithContents page made = (after : Option ℤ) × walk_of IsInserted None page [] after made

@@ -1,128 +1,119 @@
 //! Pages with the contents of the buffers of PACs.
 
-ghost use Rattle.std.specs.Prelude.{◌≡◌, IfOk, OnOk};
+ghost use Rattle.std.specs.Prelude.{◌≡◌, None, IfOk, OnOk};
+ghost use Rattle.std.specs.Option.{option_copied};
 ghost use Rattle.krb_show.specs.Tokens.{Begins};
-ghost use Rattle.krb_show_pac.specs.Inserted.{IsWithContents, buffer_at, contents_at, buffer_in, contents_before, is_number, is_octets, number_of_digits};
+ghost use Rattle.krb_show_pac.specs.Inserted.{IsInserted, IsWithContents, are_types, behind, contents_at, octets_at, octets_of_form, type_of};
 
 use crate::contents::show_contents;
+use krb_registry::Kind;
 use krb_show::{Form, Insert, Page, Token, page_with};
 use std::alloc::{AllocError, Global};
 use std::marker::Model;
 
-/// What inserts the contents of a PAC's buffers, each behind the octets of its buffer.
+/// What inserts the contents of a PAC's buffers, each behind the octets of its buffer. As a value it is the number of a type of buffers that stands last
+/// before the next token.
 #[derive(Drop)]
-struct Contents;
+struct Contents {
+    ul_type: Option<i64>,
+}
 
 impl Model for Contents {
-    ghost use Rattle.std.specs.Prelude.{⊤};
+    ghost use Rattle.std.specs.Prelude.{Option, ℤ};
 
-    ghost Value = { ⊤ };
+    ghost Value = { Option ℤ };
 
-    ghost view = { λ _. tt };
+    ghost view = { λ c. c.ul_type };
 }
 
-/// A buffer on a page: the number of its type, and its octets.
-#[derive(Drop)]
-struct Buffer<'p> {
-    ul_type: u32,
-    octets: &'p [u8],
-}
-
-impl<'p> Model for Buffer<'p> {
-    ghost use Rattle.krb_show_pac.specs.Inserted.{Buffer};
-
-    ghost Value = { Buffer };
-
-    ghost view = { λ b. record { ul_type = b.ul_type; octets = b.octets.now } };
-}
-
-/// Whether a token is a number of this name.
-fn is_number(token: &Token, text: &str) -> bool
-    ensures { result ≡ is_number token.now text.now }
+/// Whether it is a kind of the numbers of types of buffers (MS-PAC, 2.4), and of the octets of a buffer.
+fn are_types(kind: Option<Kind>) -> bool
+    ensures { result ≡ are_types kind }
 {
-    match token.form() {
-        Form::Number => token.text() == text.as_bytes(),
+    match kind {
+        Some(Kind::PacBufferType) => true,
         _ => false,
     }
 }
 
-/// Whether a token is octets of this name.
-fn is_octets(token: &Token, text: &str) -> bool
-    ensures { result ≡ is_octets token.now text.now }
+/// A type of a buffer whose contents are shown.
+fn type_of(number: Option<i64>) -> Option<u32>
+    ensures { result ≡ type_of number }
+{
+    match number {
+        Some(1) => Some(1),
+        Some(6) => Some(6),
+        Some(7) => Some(7),
+        Some(10) => Some(10),
+        Some(12) => Some(12),
+        Some(16) => Some(16),
+        Some(17) => Some(17),
+        Some(18) => Some(18),
+        Some(19) => Some(19),
+        _ => None,
+    }
+}
+
+/// The octets of a token that is octets.
+fn octets_of_form(token: &Token) -> Option<&[u8]>
+    ensures { option_copied result ≡ octets_of_form token.now }
 {
     match token.form() {
-        Form::Octets => token.text() == text.as_bytes(),
-        _ => false,
-    }
-}
-
-/// The number that these digits are, of a type of a buffer whose contents are shown.
-fn number_of_digits(digits: &[u8]) -> Option<u32>
-    ensures { result ≡ number_of_digits digits.now }
-{
-    match digits {
-        b"1" => Some(1),
-        b"6" => Some(6),
-        b"7" => Some(7),
-        b"10" => Some(10),
-        b"12" => Some(12),
-        b"16" => Some(16),
-        b"17" => Some(17),
-        b"18" => Some(18),
-        b"19" => Some(19),
+        Form::Octets | Form::Secret => Some(token.octets()),
         _ => None,
     }
 }
 
-/// The buffer whose fields these four tokens are.
-fn buffer_in(tokens: &[Token]) -> Option<Buffer<'_>>
-    ensures { result ≡ buffer_in tokens.now }
+/// The octets of a buffer that a page ends with.
+fn octets_at(page: &[Token]) -> Option<&[u8]>
+    ensures { option_copied result ≡ octets_at page.now }
 {
-    match tokens {
-        [ul_type, _, _, buffer] => {
-            if !is_number(ul_type, "ulType") {
-                return None;
-            }
-            if !is_octets(buffer, "buffer") {
-                return None;
-            }
-            let ul_type = number_of_digits(ul_type.octets())?;
-            Some(Buffer {
-                ul_type,
-                octets: buffer.octets(),
-            })
-        }
-        _ => None,
+    let last = page.last()?;
+    if are_types(last.kind()) {
+        octets_of_form(last)
+    } else {
+        None
     }
 }
 
-/// The buffer whose fields a page ends with.
-fn buffer_at(page: &[Token]) -> Option<Buffer<'_>>
-    ensures { result ≡ buffer_at page.now }
-{
-    buffer_in(&page[page.len().saturating_sub(4)..])
-}
-
-/// Appends the contents of the buffer whose fields a page ends with.
-fn show_at_end(alloc: Global, page: &mut Page) -> Result<(), AllocError>
-    ensures ok { OnOk result (contents_at (buffer_at page.old.items) page.old.items page.new.items) }
+/// Appends the contents of the buffer of this type whose octets a page ends with.
+fn show_at_end(alloc: Global, ul_type: Option<i64>, page: &mut Page) -> Result<(), AllocError>
+    ensures ok { OnOk result (contents_at (type_of ul_type) (octets_at page.old.items) page.old.items page.new.items) }
     ensures kept { OnOk result (Begins page.old.items page.new.items) }
 {
-    let Some(buffer) = buffer_at(page) else {
+    let Some(ul_type) = type_of(ul_type) else {
         return Ok(());
     };
-    let octets = Vec::from_slice(alloc, buffer.octets)?;
-    show_contents(alloc, buffer.ul_type, &octets, page)
+    let Some(octets) = octets_at(page) else {
+        return Ok(());
+    };
+    let octets = Vec::from_slice(alloc, octets)?;
+    show_contents(alloc, ul_type, &octets, page)
+}
+
+/// The number of a type of buffers that stands last before the token behind this one.
+fn behind(token: &Token, ul_type: Option<i64>) -> Option<i64>
+    ensures { result ≡ behind token.now ul_type }
+{
+    match token.form() {
+        Form::Number => {
+            if are_types(token.kind()) {
+                token.number()
+            } else {
+                ul_type
+            }
+        }
+        _ => ul_type,
+    }
 }
 
 impl Insert for Contents {
-    ghost inserts = { λ _ next old _ new. contents_before next old new };
+    ghost inserts = { IsInserted };
 
     fn insert(&mut self, alloc: Global, next: &Token, page: &mut Page) -> Result<(), AllocError> {
-        match next.form() {
-            Form::StructEnd => show_at_end(alloc, page),
-            _ => Ok(()),
-        }
+        show_at_end(alloc, self.ul_type, page)?;
+        self.ul_type = behind(next, self.ul_type);
+        Ok(())
     }
 }
 
@@ -131,6 +122,6 @@ impl Insert for Contents {
 pub fn page_with_contents(alloc: Global, page: Page) -> Result<Page, AllocError>
     ensures { IfOk result (λ made. IsWithContents page.items made.items) }
 {
-    let mut contents = Contents;
+    let mut contents = Contents { ul_type: None };
     page_with(alloc, &mut contents, page)
 }

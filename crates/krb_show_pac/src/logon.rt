@@ -62,11 +62,7 @@ impl<'a> Show<Pac> for SidAndAttributes<'a> {
             number: self.attributes,
         };
         let attributes = Field {
-            label: Label {
-                text: "Attributes",
-                kind: None,
-                is_item: false,
-            },
+            label: Label::new("Attributes"),
             value: &attributes,
             shown: PhantomData::<Pac>,
         };

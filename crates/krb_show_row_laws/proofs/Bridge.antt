@@ -13,13 +13,12 @@ use Rattle.krb_schema.specs.declared.shape.Name.{Name}
 use Rattle.krb_schema.specs.declared.shape.Role.{Role}
 use Rattle.krb_schema.specs.Forests.{Forest, none, leaf, node, enc, item, items_at}
 use Rattle.krb_schema.specs.Rules.{content_of}
-use Rattle.krb_types.specs.Principals.{components_text}
 use Rattle.krb_show.specs.declared.token.Form.TheVariants as tokens
-use Rattle.krb_show.specs.Leaves.{text_of}
+use Rattle.krb_show.specs.Leaves.{name_of}
 use Rattle.krb_show.specs.Tokens.{Label, Token, adds, leaf as token_leaf, mark}
-use Rattle.krb_show_rows.specs.Items.{Stand, begins_name, end_step, is_component, is_in_list, is_in_name, label_of, leaf_step, list_end, list_step, nameless, numbered, plain_leaf, popped, pushed, secret_of, shown}
-use Rattle.krb_show_rows.specs.Items.{behind_leaf as stand_behind}
-use Rattle.krb_show_rows.specs.declared.stand.Secrets.TheVariants as secrets
+use Rattle.krb_show.specs.Items.{Stand, begins_name, end_step, is_component, is_in_list, is_in_name, label_of, leaf_step, list_end, list_step, nameless, numbered, plain_leaf, popped, pushed, secret_of, shown}
+use Rattle.krb_show.specs.Items.{behind_leaf as stand_behind}
+use Rattle.krb_show.specs.declared.rows.stand.Secrets.TheVariants as secrets
 use Rattle.krb_show_row_laws.specs.Pages.{behind, behind_leaf, components, forest_shown, is_of_name, leaf_shown, list_shown}
 use Rattle.krb_show_row_laws.proofs.Counts.{counted_list, first_name, last_of, without_last}
 use Rattle.krb_show_row_laws.proofs.PlainRows.{AllComponents, Either, IsPlain}
@@ -192,14 +191,14 @@ module _ (tells : Role → List ℕ → Label → List ℕ → List Token → Li
       let far = named_all inside all (depth + 1) place octets i (end ∷ more) next first new inner.in_name h in
       let last = subst (λ (c : Bool). list_end tells c end named_stand first far.0 far.1) inner.in_name (ends end named_stand first far.0 far.1 far.2) in
       let names : next.names ++ components inside ≡ components inside = ap (λ (n : List (List ℕ)). n ++ components inside) (inner.kept ∙ o.nameless) in
-      let text = subst (λ (n : List (List ℕ)). text_of (label_of (popped next).inside name) (components_text n) first far.1) names last.1 in
-      let labelled = subst (λ (x : Stand). text_of (label_of x.inside name) (components_text (components inside)) first far.1) inner.left text in
+      let text = subst (λ (n : List (List ℕ)). name_of (label_of (popped next).inside name) n first far.1) names last.1 in
+      let labelled = subst (λ (x : Stand). name_of (label_of x.inside name) (components inside) first far.1) inner.left text in
       let same_names : nameless s ≡ s = ap (λ (n : List (List ℕ)). record s { names = n }) (sym o.nameless) in
       let stand : far.0 ≡ numbered (behind inside s.number) s =
       last.0 ∙ ap nameless inner.left ∙ same_names ∙ ap (λ (n : List ℕ). numbered n s) (sym (behind_names inside s.number all)) in
       record {
         between = far.1;
-        here = subst (λ (p : List Token). text_of (label_of s.inside name) (components_text (components inside)) p far.1) st.1 labelled;
+        here = subst (λ (p : List Token). name_of (label_of s.inside name) (components inside) p far.1) st.1 labelled;
         rest = subst (λ (x : Stand). shown tells octets more x far.1 new) stand far.3;
       }
   list_parts inside kind name tag false all bridged ends depth at place octets i more s old new o next first st h =

@@ -10,7 +10,7 @@ use Rattle.krb_schema.specs.declared.item.Item.{Item}
 use Rattle.krb_schema.specs.declared.item.Node.{Node}
 use Rattle.krb_schema.specs.declared.shape.Name.{Name}
 use Rattle.krb_schema.specs.Forests.{Forest, none, leaf, node, enc, item, items_at}
-use Rattle.krb_show_rows.specs.Items.{begins_name, elements, is_begun}
+use Rattle.krb_show.specs.Items.{begins_name, elements, is_begun}
 use Rattle.krb_show_row_laws.specs.Pages.{count, is_of_name}
 use Rattle.krb_show_row_laws.proofs.WordLaws.{chosen, other}
 

@@ -11,9 +11,10 @@ use Rattle.krb_der_core.specs.Integer.{shortest}
 use Rattle.krb_der_core.specs.IntegerLaws.{integer_one_content}
 use Rattle.krb_show.specs.declared.escape.Style.TheVariants as style
 use Rattle.krb_show.specs.declared.token.Form.TheVariants as form
-use Rattle.krb_show.specs.Leaves.{number_of, unsigned_of, flags_of, identifier_of, truth_of, time_of, text_of, word_of, octets_of, secret_octets_of, cipher_of, time_word, flags_word, truth_word}
+use Rattle.krb_types.specs.Principals.{components_text}
+use Rattle.krb_show.specs.Leaves.{name_of, number_of, unsigned_of, flags_of, identifier_of, truth_of, time_of, text_of, word_of, octets_of, secret_octets_of, cipher_of, time_word, flags_word, truth_word}
 use Rattle.krb_show.specs.Text.{escaped, quoted, line, octets_text, page_lines, value_text}
-use Rattle.krb_show.specs.Tokens.{Label, Token, adds, leaf}
+use Rattle.krb_show.specs.Tokens.{Label, Token, adds, leaf, name_token, noted, number_token}
 use Rattle.krb_show_row_laws.specs.Telling.{all_of, Stops, is_name_octet, is_name, is_word_octet, IsBeside, IsNameBeside}
 use Rattle.krb_show_row_laws.proofs.SplitLaws.{tail}
 use Rattle.krb_show_row_laws.proofs.WordLaws.{word_itself, signed_word, decimal_word, one_word, one_octets, word_or_octets, name_beside}
@@ -123,7 +124,7 @@ number_line label z unit = record { line_of = line_of }
   where
     line_of : (old new : List Token) → number_of label z old new → OneLine label.text (IsNumberText z) old new
     line_of old new (inl (note, fits, h, e)) = record {
-      token = record { form = form.Number; label = label; octets = signed_decimal z; note = note };
+      token = number_token label z (signed_decimal z) note;
       added = e;
       named = refl;
       value = inl (fits, (escaped style.Plain note, note_beside label.kind z note h, word_text_is (signed_decimal z) note (signed_word z)));
@@ -206,7 +207,7 @@ flags_line label bits h = record { line_of = line_of }
   where
     line_of : (old new : List Token) → flags_of label bits old new → OneLine label.text (IsWord IsBeside (flags_word bits)) old new
     line_of old new (note, k, e) = record {
-      token = record { form = form.Flags; label = label; octets = flags_word bits; note = note };
+      token = noted form.Flags label (flags_word bits) note;
       added = e;
       named = refl;
       value = (escaped style.Plain note, flags_beside label.kind bits.octets note k, word_text_is (flags_word bits) note (flags_are_word bits h));
@@ -225,7 +226,7 @@ identifier_line label dotted h = record { line_of = line_of }
   where
     line_of : (old new : List Token) → identifier_of label dotted old new → OneLine label.text (IsWord IsBeside dotted) old new
     line_of old new (note, k, e) = record {
-      token = record { form = form.Identifier; label = label; octets = dotted; note = note };
+      token = noted form.Identifier label dotted note;
       added = e;
       named = refl;
       value = (escaped style.Plain note, identifier_beside dotted note k, word_text_is dotted note h);
@@ -250,6 +251,18 @@ octets_line label xs = record {
   line_of = λ old new e. record { token = leaf form.Octets label xs; added = e; named = refl; value = refl; lines = λ d. refl; level = λ d. refl };
 }
 
+pub name_line : (label : Label) (cs : List (List ℕ)) → Lines label.text (IsQuotedText (components_text cs)) (name_of label cs)
+name_line label cs = record {
+  line_of = λ old new e. record {
+    token = name_token label (components_text cs) cs;
+    added = e;
+    named = refl;
+    value = refl;
+    lines = λ d. refl;
+    level = λ d. refl;
+  };
+}
+
 pub text_line : (label : Label) (xs : List ℕ) → Lines label.text (IsQuotedText xs) (text_of label xs)
 text_line label xs = record {
   line_of = λ old new e. record { token = leaf form.Text label xs; added = e; named = refl; value = refl; lines = λ d. refl; level = λ d. refl };
@@ -260,7 +273,7 @@ tells_octets = leaf_values IsOctets IsOctetsText octets_of (λ xs s e. (octets_t
     (λ xs ys s h k e f. one_octets xs ys h k (tail _ _ _ _ (tail _ _ _ _ (sym e ∙ f))))
 
 -- those of keys, and those that are encrypted
-secret_line : (label : Label) (xs : List ℕ) → Lines label.text (IsOctetsText xs) (secret_octets_of label xs)
+pub secret_line : (label : Label) (xs : List ℕ) → Lines label.text (IsOctetsText xs) (secret_octets_of label xs)
 secret_line label xs = record {
   line_of = λ old new e. record { token = leaf form.Secret label xs; added = e; named = refl; value = refl; lines = λ d. refl; level = λ d. refl };
 }
@@ -300,6 +313,15 @@ ascii_octets xs h i = omega (arith, h i)
 
 pub tells_ascii : TellsValues IsAscii IsLeaf text_of
 tells_ascii = tells_by IsAscii (λ xs. xs) ascii_octets (λ v w h k e. e) tells_texts
+
+-- names, whose texts these are
+pub tells_names : (label : Label) (cs ds : List (List ℕ)) → is_name label.text ≡ true → IsAscii (components_text cs) → IsAscii (components_text ds)
+    → Tells (λ names. label.text ∷ []) (λ names. true) (Unit {0}) (components_text cs ≡ components_text ds) (name_of label cs) (name_of label ds)
+tells_names label cs ds name h k =
+    tells_leaf label.text (IsQuotedText (components_text cs)) (IsQuotedText (components_text ds)) (name_of label cs) (name_of label ds) name
+    (λ s e. (quoted style.Quoted (components_text cs), e)) (λ s e. (quoted style.Quoted (components_text ds), e)) (name_line label cs) (name_line label ds)
+    (λ s e f. one_text (components_text cs) (components_text ds) (ascii_octets (components_text cs) h) (ascii_octets (components_text ds) k)
+    (tail _ _ _ _ (tail _ _ _ _ (sym e ∙ f))))
 
 -- numbers of 32 bits, which are whole numbers
 pub tells_naturals : {is_value : ℕ → Type 0} → TellsValues is_value IsLeaf (λ label n. number_of label (pos n))

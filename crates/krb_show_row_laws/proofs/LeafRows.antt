@@ -23,8 +23,8 @@ use Rattle.krb_schema.specs.Leaves.{IsLeaf as IsContent, IsOf}
 use Rattle.krb_show.specs.Leaves.{identifier_of}
 use Rattle.krb_show.specs.Text.{octets_text, page_lines}
 use Rattle.krb_show.specs.Tokens.{Label, Token}
-use Rattle.krb_show_rows.specs.Items.{octets_as}
-use Rattle.krb_show_rows.specs.Leaves.{IsNamed, any_of, leaf_as}
+use Rattle.krb_show.specs.Items.{octets_as}
+use Rattle.krb_show.specs.RowLeaves.{IsNamed, any_of, leaf_as}
 use Rattle.krb_show_row_laws.specs.Telling.{Stops, all_of, is_digit, is_name, is_word_octet}
 use Rattle.krb_show_row_laws.specs.Blocks.{Follow, HasHead, Heads, IsLeaf, Tells, TellsValues}
 use Rattle.krb_show_row_laws.specs.Firsts.{Firsts, Kinds, names_of}

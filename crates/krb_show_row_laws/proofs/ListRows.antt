@@ -18,11 +18,11 @@ use Rattle.krb_schema.specs.Forests.{Forest, none, leaf, node, beside}
 use Rattle.krb_schema.specs.Shapes.{AreElements, IsElement, IsHeld, IsShaped, part, no_elements, one_more, here, later, plain}
 use Rattle.krb_types.specs.Principals.{components_text}
 use Rattle.krb_show.specs.declared.token.Form.TheVariants as form
-use Rattle.krb_show.specs.Leaves.{text_of}
+use Rattle.krb_show.specs.Leaves.{name_of}
 use Rattle.krb_show.specs.Text.{quoted}
 use Rattle.krb_show.specs.declared.escape.Style.TheVariants as style
 use Rattle.krb_show.specs.Tokens.{Label, Token, leaf as token_leaf, mark}
-use Rattle.krb_show_rows.specs.Items.{is_component}
+use Rattle.krb_show.specs.Items.{is_component}
 use Rattle.krb_show_row_laws.specs.Telling.{is_name}
 use Rattle.krb_show_row_laws.specs.Blocks.{IsList, Tells}
 use Rattle.krb_show_row_laws.specs.Firsts.{BeginsAs, First, Firsts, names_of, of_leaf, of_list, openings}
@@ -30,7 +30,7 @@ use Rattle.krb_show_row_laws.specs.Pages.{components, count, forest_shown, is_of
 use Rattle.krb_show_row_laws.specs.Tests.{is_component_shape, list_firsts}
 use Rattle.krb_show_row_laws.proofs.FieldLaws.{tells_so}
 use Rattle.krb_show_row_laws.proofs.StructLaws.{closes_list, enclosed_heads, opens_list, tells_enclosed}
-use Rattle.krb_show_row_laws.proofs.LeafLaws.{IsQuotedText, leaf_heads, tells_ascii, text_line}
+use Rattle.krb_show_row_laws.proofs.LeafLaws.{IsQuotedText, leaf_heads, name_line, tells_names}
 use Rattle.krb_show_row_laws.proofs.ComponentLaws.{one_components, text_ascii}
 use Rattle.krb_show_row_laws.proofs.FirstLaws.{apart_none, firsts_block, firsts_never, never_tells, one_first, tells_from}
 use Rattle.krb_show_row_laws.proofs.ForestLaws.{AreSmall}
@@ -152,7 +152,7 @@ module _ (tells : Role → List ℕ → Label → List ℕ → List Token → Li
   as_text f in_list number =
       let label = label_in in_list name in
       let text = components_text (components f) in
-      one_first named (leaf_heads name.text.now (IsQuotedText text) (text_of label text) (λ s e. (quoted style.Quoted text, e)) (text_line label text))
+      one_first named (leaf_heads name.text.now (IsQuotedText text) (name_of label (components f)) (λ s e. (quoted style.Quoted text, e)) (name_line label (components f)))
 
   text_told : (f g : Forest) → AreRight f → AreRight g → is_of_name f ≡ true → is_of_name g ≡ true → is_named ≡ true
       → (in_list : Bool) (number another : List ℕ)
@@ -171,7 +171,7 @@ module _ (tells : Role → List ℕ → Label → List ℕ → List Token → Li
       let q = are_components levels schema is name t.0 g t.1 w in
       tells_so (λ k. tt)
       (λ same. p.whole ∙ ap (in_a_row name t.0) (one_components content content_too (components rest) (components rest_too) p.ascii q.ascii same) ∙ sym q.whole)
-      (tells_ascii.tells (label_in in_list name) (components_text (components f)) (components_text (components g)) named
+      (tells_names (label_in in_list name) (components f) (components g) named
       (text_ascii content (components rest) p.ascii) (text_ascii content_too (components rest_too) q.ascii))
 
   -- ---- either

@@ -1,5 +1,6 @@
 -- A PAC, shown as its buffers, or as its entries and its octets, and octets that are no PAC, tell the octets (MS-PAC, 2.3).
-use Rattle.std.proofs.Common.{◌≡◌, ℕ, zero, suc, ◌<◌, ◌+◌, ◌*◌, ◌^◌, true, inl, inr, refl, sym, ap, subst, ◌∙◌, List, [], ◌∷◌, ◌++◌, drop, codes, pos, arith}
+use Rattle.krb_show_row_laws.proofs.SplitLaws.{tail}
+use Rattle.std.proofs.Common.{◌≡◌, ℕ, Bool, false, zero, suc, ◌<◌, ◌+◌, ◌*◌, ◌^◌, true, inl, inr, refl, sym, ap, subst, ◌∙◌, List, [], ◌∷◌, ◌++◌, drop, codes, pos, arith}
 use Rattle.std.specs.List.{AllByRecursion}
 use Rattle.byteorder.specs.Endian.{little_from}
 use Rattle.krb_der_core.specs.Encoding.{IsOctets}
@@ -7,14 +8,16 @@ use Rattle.krb_registry.specs.declared.kind.Kind.TheVariants.{PacBufferType}
 use Rattle.krb_pac.specs.Numbered.{AreNumbered, NumberedBuffer, NumberedPacIs}
 use Rattle.krb_pac.specs.declared.numbered.NumberedInfoBuffer.{NumberedInfoBuffer}
 use Rattle.krb_show.specs.Leaves.{number_of, octets_of}
+use Rattle.krb_show.specs.Text.{octets_text}
 use Rattle.krb_show.specs.Text.{page_lines}
 use Rattle.krb_show.specs.Tokens.{Label, Token, of_kind, plain}
-use Rattle.krb_show_formats.specs.Pac.{buffer_of, buffers_of, entries_of, entry_of, other_of, pac_of, plain_octets}
+use Rattle.krb_show_messages.specs.Pac.{buffer_of, buffers_of, entries_of, entry_of, has_key, held_octets_of, holds_key, other_of, pac_of, plain_octets}
 use Rattle.krb_show_row_laws.specs.Telling.{is_name}
 use Rattle.krb_show_row_laws.specs.Blocks.{Follow, HasHead, Heads, Tells, TellsValues, IsStruct, IsList, IsLeaf}
 use Rattle.krb_show_row_laws.proofs.BlockLaws.{head_blocks}
 use Rattle.krb_show_row_laws.proofs.FieldLaws.{◌and◌, one_head, tells_so}
-use Rattle.krb_show_row_laws.proofs.LeafLaws.{tells_naturals, tells_octets, tells_unsigned}
+use Rattle.krb_show_row_laws.proofs.LeafLaws.{IsOctetsText, Lines, octets_line, secret_line, tells_leaf, tells_naturals, tells_octets, tells_unsigned}
+use Rattle.krb_show_row_laws.proofs.WordLaws.{one_octets}
 use Rattle.krb_show_row_laws.proofs.EitherLaws.{IsEither, head_so, list_no_other}
 use Rattle.krb_show_row_laws.proofs.FirstLaws.{list_no_leaf, struct_no_leaf}
 use Rattle.krb_show_row_laws.proofs.StructLaws.{list_heads, struct_heads, tells_list, tells_struct, tells_structs}
@@ -74,6 +77,18 @@ buffer_from i octets = record { info = i; octets = octets }
 numbers : TellsValues (λ (n : ℕ). Unit {0}) IsLeaf (λ label n. number_of label (pos n))
 numbers = tells_naturals
 
+-- octets that hold a key, and others, have the same text
+held_line : (b : Bool) (label : Label) (xs : List ℕ) → Lines label.text (IsOctetsText xs) (held_octets_of b label xs)
+held_line true label xs = secret_line label xs
+held_line false label xs = octets_line label xs
+
+tells_held : (b c : Bool) (label : Label) (xs ys : List ℕ) → is_name label.text ≡ true → IsOctets xs → IsOctets ys
+    → Tells (λ names. label.text ∷ []) (λ names. true) (Unit {0}) (xs ≡ ys) (held_octets_of b label xs) (held_octets_of c label ys)
+tells_held b c label xs ys name h k =
+    tells_leaf label.text (IsOctetsText xs) (IsOctetsText ys) (held_octets_of b label xs) (held_octets_of c label ys) name
+    (λ s e. (octets_text xs, e)) (λ s e. (octets_text ys, e)) (held_line b label xs) (held_line c label ys)
+    (λ s e f. one_octets xs ys h k (tail _ _ _ _ (tail _ _ _ _ (sym e ∙ f))))
+
 pub tells_entries : TellsValues IsEntry IsStruct entry_of
 tells_entries = tells_structs (λ i j h k.
     numbers.tells (of_kind (codes "ulType") PacBufferType) i.ul_type j.ul_type refl tt tt
@@ -86,7 +101,7 @@ tells_buffers = tells_structs (λ p q h k.
     numbers.tells (of_kind (codes "ulType") PacBufferType) p.info.ul_type q.info.ul_type refl tt tt
     and numbers.tells (plain (codes "cbBufferSize")) p.info.cb_buffer_size q.info.cb_buffer_size refl tt tt
     and tells_unsigned.tells (plain (codes "Offset")) p.info.offset q.info.offset refl h.0 k.0
-    and tells_octets.tells (plain (codes "buffer")) p.octets q.octets refl h.1 k.1)
+    and tells_held (holds_key p.info.ul_type) (holds_key q.info.ul_type) (of_kind (codes "buffer") PacBufferType) p.octets q.octets refl h.1 k.1)
     refl (λ p q e. ap (λ (i : NumberedInfoBuffer). buffer_from i p.octets) (same_entry p.info q.info e.0.0.0 e.0.0.1 e.0.1)
     ∙ ap (λ (l : List ℕ). buffer_from q.info l) e.1)
 
@@ -96,13 +111,13 @@ tells_other : (label : Label) (octets others : List ℕ) (pac qac : List Numbere
 tells_other label octets others pac qac name h k p q =
     tells_so (λ u. u) (λ e. e.1) (tells_struct label name (
     (tells_list tells_entries).tells (plain (codes "buffers")) (entries_of pac) (entries_of qac) refl (entries_are pac p) (entries_are qac q)
-    and tells_octets.tells (plain (codes "octets")) octets others refl h k) refl)
+    and tells_held (has_key pac) (has_key qac) (plain (codes "octets")) octets others refl h k) refl)
 
 other_heads : (label : Label) (octets : List ℕ) (pac : List NumberedBuffer) → is_name label.text ≡ true → IsOctets octets → AllByRecursion IsBuffer pac
     → Heads label.text IsStruct (other_of label octets pac)
 other_heads label octets pac name h p = struct_heads label (
     (tells_list tells_entries).tells (plain (codes "buffers")) (entries_of pac) (entries_of pac) refl (entries_are pac p) (entries_are pac p)
-    and tells_octets.tells (plain (codes "octets")) octets octets refl h h).left
+    and tells_held (has_key pac) (has_key pac) (plain (codes "octets")) octets octets refl h h).left
 
 -- ---- octets that are a PAC, or none
 

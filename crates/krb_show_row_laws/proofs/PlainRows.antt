@@ -11,7 +11,7 @@ use Rattle.krb_schema.specs.declared.shape.Shape.{Shape}
 use Rattle.krb_schema.specs.declared.shape.Shape.TheVariants as shape
 use Rattle.krb_schema.specs.Forests.{Forest, none, leaf, node, beside, enc}
 use Rattle.krb_schema.specs.Shapes.{AreElements, AreFields, IsElement, IsHeld, IsShaped, called, list_node, part, no_fields, absent, wrapped, bare, no_elements, one_more, here, later, plain}
-use Rattle.krb_show_rows.specs.Items.{is_component}
+use Rattle.krb_show.specs.Items.{is_component}
 use Rattle.krb_show_row_laws.specs.Pages.{components, is_of_name}
 use Rattle.krb_show_row_laws.proofs.ListRows.{are_components, component_tag, elements_name, in_a_row}
 

@@ -13,11 +13,11 @@ use Rattle.krb_show.specs.Text.{page_lines}
 use Rattle.krb_show.specs.Tokens.{Label, Token, plain}
 use Rattle.krb_show_messages.specs.Formats.{no_formats}
 use Rattle.krb_show_messages.specs.Prefixed.{IsPrefixed, by_message_row, by_walk, length_and_items, message_row, prefixed_of}
-use Rattle.krb_show_rows.specs.Items.{shown, start}
-use Rattle.krb_show_rows.specs.Walk.{AreItemsOf, IsShownByRow, IsWalkBy}
-use Rattle.krb_show_rows.specs.declared.stand.Secrets.TheVariants as secrets
-use Rattle.krb_show_rows.specs.declared.walk.Walk.{Walk}
-use Rattle.krb_show_rows.specs.declared.walk.Walk.TheVariants as walks
+use Rattle.krb_show.specs.Items.{shown, start}
+use Rattle.krb_show.specs.RowWalk.{AreItemsOf, IsShownByRow, IsWalkBy}
+use Rattle.krb_show.specs.declared.rows.stand.Secrets.TheVariants as secrets
+use Rattle.krb_show.specs.declared.rows.walk.Walk.{Walk}
+use Rattle.krb_show.specs.declared.rows.walk.Walk.TheVariants as walks
 use Rattle.krb_show_row_laws.specs.Telling.{is_name, other_than}
 use Rattle.krb_show_row_laws.specs.Blocks.{Blocks, Follow, HasHead, Heads, IsLeaf, IsStruct, Tells, TellsValues, same_octets}
 use Rattle.krb_show_row_laws.specs.Firsts.{Firsts, apart_firsts, of_struct, openings}

@@ -20,13 +20,12 @@ use Rattle.krb_schema.specs.declared.shape.Shape.TheVariants as shape
 use Rattle.krb_schema.specs.Forests.{Forest, none, leaf, node, beside, enc}
 use Rattle.krb_schema.specs.Named.{case_row, field_row, name_row}
 use Rattle.krb_schema.specs.Shapes.{Applies, AreElements, AreFields, Begins, IsBehind, IsElement, IsHeld, IsNone, IsShaped, called, list_node, part, no_fields, absent, wrapped, bare, no_elements, one_more, here, later, plain, is_first}
-use Rattle.krb_types.specs.Principals.{components_text}
 use Rattle.krb_show.specs.declared.token.Form.TheVariants as tokens
-use Rattle.krb_show.specs.Leaves.{text_of}
+use Rattle.krb_show.specs.Leaves.{name_of}
 use Rattle.krb_show.specs.Pages.{struct_of}
 use Rattle.krb_show.specs.Tokens.{Label, Token, adds, leaf as token_leaf}
-use Rattle.krb_show_rows.specs.Items.{octets_as}
-use Rattle.krb_show_rows.specs.Leaves.{leaf_of}
+use Rattle.krb_show.specs.Items.{octets_as}
+use Rattle.krb_show.specs.RowLeaves.{leaf_of}
 use Rattle.krb_show_row_laws.specs.Pages.{behind, behind_leaf, components, count, forest_shown, is_of_name, label_in, leaf_shown, list_shown}
 use Rattle.krb_show_row_laws.specs.Tests.{CaseRow, FieldRow, OwnName}
 use Rattle.krb_show_row_laws.proofs.SplitLaws.{tail}
@@ -84,11 +83,13 @@ same_beside f g x y (same_node kind tag m n inside within f' g' s i r) k =
 
 -- ---- what they add
 
-abbrev label_by : Bool → List ℕ → Option Kind → Label
-label_by in_list text kind = record { text = text; kind = kind; is_item = in_list }
+abbrev label_by : Bool → List ℕ → Option Kind → Role → Label
+label_by in_list text kind role = record { text = text; kind = kind; role = role; is_item = in_list }
 
 same_label : (in_list : Bool) (m n : Name) → SameName m n → label_in in_list m ≡ label_in in_list n
-same_label in_list m n s = ap (λ (t : List ℕ). label_by in_list t m.registry) s.text ∙ ap (λ (k : Option Kind). label_by in_list n.text.now k) s.registry
+same_label in_list m n s =
+    ap (λ (t : List ℕ). label_by in_list t m.registry m.role) s.text ∙ ap (λ (k : Option Kind). label_by in_list n.text.now k m.role) s.registry
+    ∙ ap (λ (r : Role). label_by in_list n.text.now n.registry r) s.role
 
 module _ (tells : Role → List ℕ → Label → List ℕ → List Token → List Token → Type 0) where
   same_leaf_shown : (kind : Leaf) (m n : Name) → SameName m n → (tag : ℕ) (content : List ℕ) (in_list : Bool) (number : List ℕ) (old new : List Token)
@@ -103,8 +104,8 @@ module _ (tells : Role → List ℕ → Label → List ℕ → List Token → Li
       → list_shown b (label_in in_list m) inside (forest_shown tells true number inside) old new
       → list_shown b (label_in in_list n) within (forest_shown tells true number within) old new
   same_list true m n s inside within i in_list number again old new h =
-      subst (λ (l : Label). text_of l (components_text (components within)) old new) (same_label in_list m n s)
-      (subst (λ (cs : List (List ℕ)). text_of (label_in in_list m) (components_text cs) old new) (same_components inside within i) h)
+      subst (λ (l : Label). name_of l (components within) old new) (same_label in_list m n s)
+      (subst (λ (cs : List (List ℕ)). name_of (label_in in_list m) cs old new) (same_components inside within i) h)
   same_list false m n s inside within i in_list number again old new h =
       subst (λ (l : Label). list_shown false l within (forest_shown tells true number within) old new) (same_label in_list m n s) (counted h)
     where

@@ -17,11 +17,11 @@ use Rattle.krb_show.specs.Tokens.{Token, plain}
 use Rattle.krb_show_messages.specs.Choices.{alternative, alternative_of, is_pack}
 use Rattle.krb_show_messages.specs.Formats.{formats_of}
 use Rattle.krb_show_messages.specs.Shown.{row_shown}
-use Rattle.krb_show_rows.specs.Items.{shown, start}
-use Rattle.krb_show_rows.specs.Walk.{AreItemsOf, IsWalkBy, walk_shown}
-use Rattle.krb_show_rows.specs.declared.stand.Secrets.TheVariants as secrets
-use Rattle.krb_show_rows.specs.declared.walk.Walk.{Walk}
-use Rattle.krb_show_rows.specs.declared.walk.Walk.TheVariants as walks
+use Rattle.krb_show.specs.Items.{shown, start}
+use Rattle.krb_show.specs.RowWalk.{AreItemsOf, IsWalkBy, walk_shown}
+use Rattle.krb_show.specs.declared.rows.stand.Secrets.TheVariants as secrets
+use Rattle.krb_show.specs.declared.rows.walk.Walk.{Walk}
+use Rattle.krb_show.specs.declared.rows.walk.Walk.TheVariants as walks
 use Rattle.krb_show_row_laws.specs.Blocks.{Adds, Among, Blocks, Follow, IsLeaf, IsStruct, Tells, TellsValues}
 use Rattle.krb_show_row_laws.specs.Firsts.{First, Firsts, of_leaf, of_struct, openings}
 use Rattle.krb_show_row_laws.specs.KerberosFormats.{kerberos_kinds}

@@ -18,7 +18,7 @@ use Rattle.krb_schema.specs.Shapes.{AreFields, IsElement, IsShaped, called, list
 use Rattle.krb_show.specs.Leaves.{number_of}
 use Rattle.krb_show.specs.Pages.{struct_of}
 use Rattle.krb_show.specs.Tokens.{Label, Token}
-use Rattle.krb_show_rows.specs.Leaves.{leaf_as}
+use Rattle.krb_show.specs.RowLeaves.{leaf_as}
 use Rattle.krb_show_row_laws.specs.Telling.{is_name, other_than}
 use Rattle.krb_show_row_laws.specs.Firsts.{First, Kinds}
 use Rattle.krb_show_row_laws.specs.Formats.{FormatsTell}

@@ -16,11 +16,11 @@ use Rattle.krb_schema.specs.Types.{cases, fields, shapes, types}
 use Rattle.krb_show.specs.Leaves.{octets_of}
 use Rattle.krb_show.specs.Text.{page_lines}
 use Rattle.krb_show.specs.Tokens.{Label, Token, plain}
-use Rattle.krb_show_rows.specs.Items.{shown, start}
-use Rattle.krb_show_rows.specs.Walk.{AreItemsOf, IsShownByRow, IsTable, IsWalkBy, walk_shown}
-use Rattle.krb_show_rows.specs.declared.stand.Secrets.TheVariants as secrets
-use Rattle.krb_show_rows.specs.declared.walk.Walk.{Walk}
-use Rattle.krb_show_rows.specs.declared.walk.Walk.TheVariants as walks
+use Rattle.krb_show.specs.Items.{shown, start}
+use Rattle.krb_show.specs.RowWalk.{AreItemsOf, IsShownByRow, IsTable, IsWalkBy, walk_shown}
+use Rattle.krb_show.specs.declared.rows.stand.Secrets.TheVariants as secrets
+use Rattle.krb_show.specs.declared.rows.walk.Walk.{Walk}
+use Rattle.krb_show.specs.declared.rows.walk.Walk.TheVariants as walks
 use Rattle.krb_show_row_laws.specs.Telling.{is_name}
 use Rattle.krb_show_row_laws.specs.Blocks.{Follow, HasHead, Heads, IsLeaf, IsStruct, Tells, TellsValues}
 use Rattle.krb_show_row_laws.specs.Firsts.{BeginsAs, First, Firsts, Kinds, apart_firsts, names_of, of_leaf, of_struct, openings}

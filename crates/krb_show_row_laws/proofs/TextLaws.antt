@@ -12,8 +12,8 @@ use Rattle.krb_schema.specs.Walks.{Walked}
 use Rattle.krb_show.specs.Leaves.{octets_of}
 use Rattle.krb_show.specs.Text.{page_lines}
 use Rattle.krb_show.specs.Tokens.{Label, Token}
-use Rattle.krb_show_rows.specs.Items.{shown, start}
-use Rattle.krb_show_rows.specs.declared.stand.Secrets.TheVariants as secrets
+use Rattle.krb_show.specs.Items.{shown, start}
+use Rattle.krb_show.specs.declared.rows.stand.Secrets.TheVariants as secrets
 use Rattle.krb_show_row_laws.specs.Telling.{is_name}
 use Rattle.krb_show_row_laws.specs.Firsts.{Kinds}
 use Rattle.krb_show_row_laws.specs.Formats.{FormatsTell}

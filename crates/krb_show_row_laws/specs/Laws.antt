@@ -15,9 +15,9 @@ use Rattle.krb_schema.specs.Walks.{Walked}
 use Rattle.krb_show.specs.Text.{AreLines, page_lines, page_text}
 use Rattle.krb_show.specs.Tokens.{Label, Token}
 use Rattle.krb_show_messages.specs.Choices.{is_pack, reply_of}
-use Rattle.krb_show_rows.specs.Items.{shown, start}
-use Rattle.krb_show_rows.specs.Walk.{AreItemsOf, IsShownByRow}
-use Rattle.krb_show_rows.specs.declared.stand.Secrets.TheVariants as secrets
+use Rattle.krb_show.specs.Items.{shown, start}
+use Rattle.krb_show.specs.RowWalk.{AreItemsOf, IsShownByRow}
+use Rattle.krb_show.specs.declared.rows.stand.Secrets.TheVariants as secrets
 use Rattle.krb_show_row_laws.specs.Telling.{is_name}
 use Rattle.krb_show_row_laws.specs.Firsts.{Kinds}
 use Rattle.krb_show_row_laws.specs.Tests.{fits, is_told}

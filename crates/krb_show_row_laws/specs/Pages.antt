@@ -8,13 +8,12 @@ use Rattle.krb_schema.specs.declared.shape.Leaf.TheVariants as leaves
 use Rattle.krb_schema.specs.declared.shape.Name.{Name}
 use Rattle.krb_schema.specs.declared.shape.Role.{Role}
 use Rattle.krb_schema.specs.Forests.{Forest, none, leaf, node}
-use Rattle.krb_types.specs.Principals.{components_text}
-use Rattle.krb_show.specs.Leaves.{text_of}
+use Rattle.krb_show.specs.Leaves.{name_of}
 use Rattle.krb_show.specs.Pages.{◌then◌, ends_list, struct_of}
 use Rattle.krb_show.specs.Tokens.{Label, Token, adds, leaf as token_leaf}
 use Rattle.krb_show.specs.declared.token.Form.TheVariants as tokens
-use Rattle.krb_show_rows.specs.Items.{is_component, octets_as}
-use Rattle.krb_show_rows.specs.Leaves.{leaf_of}
+use Rattle.krb_show.specs.Items.{is_component, octets_as}
+use Rattle.krb_show.specs.RowLeaves.{leaf_of}
 
 -- the content of the INTEGER that stands last before what follows a leaf, and before what follows elements
 abbrev pub behind_leaf : Leaf → List ℕ → List ℕ → List ℕ
@@ -27,7 +26,7 @@ behind (leaf kind name tag content rest) number = behind rest (behind_leaf kind 
 behind (node kind name tag inside rest) number = behind rest (behind inside number)
 
 abbrev pub label_in : Bool → Name → Label
-label_in in_list name = record { text = name.text.now; kind = name.registry; is_item = in_list }
+label_in in_list name = record { text = name.text.now; kind = name.registry; role = name.role; is_item = in_list }
 
 -- how many there are, and the contents of leaves
 abbrev pub count : Forest → ℕ
@@ -48,7 +47,7 @@ is_of_name (node kind name tag inside rest) = false
 
 -- a list: one text of the components of a name, or its number of elements and these
 abbrev pub list_shown : Bool → Label → Forest → (List Token → List Token → Type 0) → List Token → List Token → Type 0
-list_shown true label inside shows = text_of label (components_text (components inside))
+list_shown true label inside shows = name_of label (components inside)
 list_shown false label inside shows = adds (token_leaf tokens.List label (decimal (count inside))) then (shows then ends_list label)
 
 module _ (tells : Role → List ℕ → Label → List ℕ → List Token → List Token → Type 0) where

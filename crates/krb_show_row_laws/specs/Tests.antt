@@ -10,7 +10,7 @@ use Rattle.krb_schema.specs.declared.shape.Role.TheVariants as roles
 use Rattle.krb_schema.specs.declared.shape.Shape.{Shape}
 use Rattle.krb_schema.specs.declared.shape.Shape.TheVariants as shape
 use Rattle.krb_schema.specs.Shapes.{part}
-use Rattle.krb_show_rows.specs.Items.{is_component}
+use Rattle.krb_show.specs.Items.{is_component}
 use Rattle.krb_show_row_laws.specs.Telling.{is_name, other_than}
 use Rattle.krb_show_row_laws.specs.Firsts.{First, Kinds, apart_firsts, are_apart, names_of, of_leaf, of_list, of_struct, openings}
 

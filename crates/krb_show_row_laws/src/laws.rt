@@ -14,9 +14,8 @@ ghost use Rattle.krb_show_row_laws.specs.Texts.{TextTells};
 use krb_der::DerEncode;
 use krb_gss_tokens::iakerb_header::messages::IAKerbHeader;
 use krb_pkinit::pkinit::PaPkAsRep;
-use krb_show::Show;
+use krb_show::{NoFormats, Show, ShowsFormats};
 use krb_show_messages::{KerberosFormats, Message};
-use krb_show_rows::{NoFormats, ShowsFormats};
 
 /// The text of a page by a row of a table tells the octets, secrets shown: two inputs of one row whose pages have one text are the same octets. The
 /// table passes a test (the lines of the fields of each SEQUENCE, and what the cases of an OCTET STRING hold, are told apart by their first lines), and

@@ -5,7 +5,7 @@ use Rattle.krb_der_x509.specs.ObjectIdentifier.{dotted}
 use Rattle.krb_registry.specs.declared.kind.Kind.TheVariants.{TokenFlag}
 use Rattle.krb_show.specs.declared.token.Form.TheVariants as form
 use Rattle.krb_show.specs.Leaves.{IsFlagName, hex, identifier_of as dotted_of, number_of, octets_of}
-use Rattle.krb_show.specs.Tokens.{Label, Token, adds}
+use Rattle.krb_show.specs.Tokens.{Label, Token, adds, noted}
 
 -- ---- object identifiers
 
@@ -37,7 +37,7 @@ token_id_note id =
 
 -- the digits of the two octets, with the name
 abbrev pub token_id_of : Label → List ℕ → List Token → List Token → Type 0
-token_id_of label id = adds (record { form = form.Identifier; label = label; octets = hex id; note = token_id_note id })
+token_id_of label id = adds (noted form.Identifier label (hex id) (token_id_note id))
 
 -- ---- flags of an octet
 
@@ -59,7 +59,7 @@ AreTokenFlags octet (suc bit) note = (before : List ℕ) × AreTokenFlags octet 
 -- the octet in hexadecimal, with the names of the flags that are set among its eight
 abbrev pub token_flags_of : Label → ℕ → List Token → List Token → Type 0
 token_flags_of label octet old new = (note : List ℕ) × AreTokenFlags octet 8 note
-    × (new ≡ old ++ record { form = form.Flags; label = label; octets = codes "0x" ++ hex (octet ∷ []); note = note } ∷ [])
+    × (new ≡ old ++ noted form.Flags label (codes "0x" ++ hex (octet ∷ [])) note ∷ [])
 
 -- ---- numbers
 

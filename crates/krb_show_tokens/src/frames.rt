@@ -10,7 +10,7 @@ use crate::GssToken;
 use crate::leaves::show_token_id;
 use krb_der::DerEncode;
 use krb_gss_tokens::gss_api::{ApplicationTag0, KrbMessage};
-use krb_show::{Label, Page, Show, ShowFields, show_fields, show_struct};
+use krb_show::{Label, Page, Role, Show, ShowFields, show_fields, show_struct};
 use krb_show_messages::{HasRow, RowField};
 use std::alloc::{AllocError, Global};
 
@@ -51,6 +51,7 @@ impl<T: DerEncode + HasRow> Show<GssToken> for KrbMessage<T> {
             label: Label {
                 text: "TOK_ID",
                 kind: None,
+                role: Role::None,
                 is_item: false,
             },
             id: self.krb5_token_id,

@@ -10,7 +10,7 @@ ghost use Rattle.krb_show_tokens.specs.Leaves.{element_of, identifier_of};
 use crate::GssToken;
 use crate::opened::{MechListMics, MechTokens, OpenedOctets, OpensOctets};
 use krb_gss_tokens::gss_api::{GssApiNegInit, NegTokenInit, NegTokenTarg};
-use krb_show::{Label, Page, Show, show_fields, show_struct};
+use krb_show::{Label, Page, Role, Show, show_fields, show_struct};
 use std::alloc::{AllocError, Global};
 use std::marker::PhantomData;
 
@@ -27,6 +27,7 @@ impl Show<GssToken> for NegTokenInit {
             label: Label {
                 text: "mechToken",
                 kind: None,
+                role: Role::None,
                 is_item: false,
             },
             octets: &self.mech_token,
@@ -36,6 +37,7 @@ impl Show<GssToken> for NegTokenInit {
             label: Label {
                 text: "mechListMIC",
                 kind: None,
+                role: Role::None,
                 is_item: false,
             },
             octets: &self.mech_list_mic,
@@ -69,6 +71,7 @@ impl Show<GssToken> for NegTokenTarg {
             label: Label {
                 text: "responseToken",
                 kind: None,
+                role: Role::None,
                 is_item: false,
             },
             octets: &self.response_token,
@@ -78,6 +81,7 @@ impl Show<GssToken> for NegTokenTarg {
             label: Label {
                 text: "mechListMIC",
                 kind: None,
+                role: Role::None,
                 is_item: false,
             },
             octets: &self.mech_list_mic,

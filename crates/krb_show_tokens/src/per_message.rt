@@ -14,7 +14,7 @@ use crate::leaves::{show_token_flags, show_unsigned};
 use krb_gss_tokens::{MicToken, WrapToken};
 use krb_registry::Kind;
 use krb_registry::gss_api::{MIC_TOKEN_ID, WRAP_TOKEN_ID};
-use krb_show::{Label, Page, Show, ShowFields, show_octets, show_struct};
+use krb_show::{Label, Page, Role, Show, ShowFields, show_octets, show_struct};
 use std::alloc::{AllocError, Global};
 
 /// Flags, lent for showing.
@@ -90,6 +90,7 @@ impl Show<GssToken> for MicToken {
             label: Label {
                 text: "TOK_ID",
                 kind: None,
+                role: Role::None,
                 is_item: false,
             },
             id: MIC_TOKEN_ID,
@@ -98,6 +99,7 @@ impl Show<GssToken> for MicToken {
             label: Label {
                 text: "Flags",
                 kind: Some(Kind::TokenFlag),
+                role: Role::None,
                 is_item: false,
             },
             flags: self.flags,
@@ -106,6 +108,7 @@ impl Show<GssToken> for MicToken {
             label: Label {
                 text: "SND_SEQ",
                 kind: None,
+                role: Role::None,
                 is_item: false,
             },
             number: self.seq_num,
@@ -114,6 +117,7 @@ impl Show<GssToken> for MicToken {
             label: Label {
                 text: "SGN_CKSUM",
                 kind: None,
+                role: Role::None,
                 is_item: false,
             },
             octets: &self.checksum,
@@ -137,6 +141,7 @@ impl Show<GssToken> for WrapToken {
             label: Label {
                 text: "TOK_ID",
                 kind: None,
+                role: Role::None,
                 is_item: false,
             },
             id: WRAP_TOKEN_ID,
@@ -145,6 +150,7 @@ impl Show<GssToken> for WrapToken {
             label: Label {
                 text: "Flags",
                 kind: Some(Kind::TokenFlag),
+                role: Role::None,
                 is_item: false,
             },
             flags: self.flags,
@@ -153,6 +159,7 @@ impl Show<GssToken> for WrapToken {
             label: Label {
                 text: "EC",
                 kind: None,
+                role: Role::None,
                 is_item: false,
             },
             count: self.ec,
@@ -161,6 +168,7 @@ impl Show<GssToken> for WrapToken {
             label: Label {
                 text: "RRC",
                 kind: None,
+                role: Role::None,
                 is_item: false,
             },
             count: self.rrc,
@@ -169,6 +177,7 @@ impl Show<GssToken> for WrapToken {
             label: Label {
                 text: "SND_SEQ",
                 kind: None,
+                role: Role::None,
                 is_item: false,
             },
             number: self.seq_num,
@@ -177,6 +186,7 @@ impl Show<GssToken> for WrapToken {
             label: Label {
                 text: "Data",
                 kind: None,
+                role: Role::None,
                 is_item: false,
             },
             octets: &self.checksum,

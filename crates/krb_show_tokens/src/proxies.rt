@@ -25,7 +25,7 @@ use krb_gss_tokens::gss_api::{ApplicationTag0, IAKerbProxyMessage};
 use krb_gss_tokens::iakerb_header::messages::IAKerbHeader;
 use krb_messages::messages::{ApRep, ApReq, AsRep, AsReq, KrbError, TgsRep, TgsReq};
 use krb_registry::gss_api::IAKERB_PROXY_TOKEN_ID;
-use krb_show::{Field, Label, Page, Show, ShowFields, show_identifier, show_struct};
+use krb_show::{Field, Label, Page, Role, Show, ShowFields, show_identifier, show_struct};
 use krb_show_messages::{HasRow, Message, RowField};
 use std::alloc::{AllocError, Global};
 use std::marker::PhantomData;
@@ -67,6 +67,7 @@ impl<T: DerEncode + HasRow> Show<GssToken> for IAKerbProxyMessage<T> {
             label: Label {
                 text: "thisMech",
                 kind: None,
+                role: Role::None,
                 is_item: false,
             },
         };
@@ -74,6 +75,7 @@ impl<T: DerEncode + HasRow> Show<GssToken> for IAKerbProxyMessage<T> {
             label: Label {
                 text: "TOK_ID",
                 kind: None,
+                role: Role::None,
                 is_item: false,
             },
             id: IAKERB_PROXY_TOKEN_ID,
@@ -82,6 +84,7 @@ impl<T: DerEncode + HasRow> Show<GssToken> for IAKerbProxyMessage<T> {
             label: Label {
                 text: "IAKERB-HEADER",
                 kind: None,
+                role: Role::None,
                 is_item: false,
             },
             value: &self.header,

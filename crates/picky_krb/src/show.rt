@@ -2,23 +2,20 @@
 
 pub use krb_input::{InputError, octets_of_input};
 pub use krb_show::{
-    Field, Form, Label, Page, Show, ShowFields, Token, json_of_page, page_of_octets, page_of_tree,
-    show_identifier, show_list, show_number, show_octets, show_opened, show_struct, show_text,
-    show_word, tag_name, text_of_page,
+    Field, Form, Label, NoFormats, Page, Role, Secrets, Show, ShowFields, ShowsFormats, Token,
+    Walk, json_of_page, page_of_octets, page_of_tree, push_items, show_by_row, show_identifier,
+    show_list, show_number, show_octets, show_opened, show_struct, show_text, show_word, tag_name,
+    text_of_page, walk_named,
 };
 pub use krb_show_any::{
     Everything, Kind, PageError, Pages, broken_rules_of, kind_of_name, kind_of_octets,
     name_of_kind, place_of_error,
 };
 pub use krb_show_files::{FilePageError, page_of_ccache, page_of_keytab};
-pub use krb_show_formats::{page_of_negoex, page_of_pac, show_pac};
 pub use krb_show_messages::{
     Certificate, CertificateKind, DataKind, HasRow, KerberosFormats, Message, RowField,
-    page_of_certificate_data, page_of_data, page_of_message, page_of_part, show_opened_by_row,
-    show_value,
-};
-pub use krb_show_rows::{
-    NoFormats, Secrets, ShowsFormats, Walk, push_items, show_by_row, walk_named,
+    page_of_certificate_data, page_of_data, page_of_message, page_of_negoex, page_of_pac,
+    page_of_part, show_pac, show_value,
 };
 pub use krb_show_tokens::kpasswd::{PasswordFrameError, page_of_password_frame};
 pub use krb_show_tokens::{GssToken, page_of_token};

@@ -12,6 +12,7 @@
 use crate::keys_of::{keys_of, suite_of};
 use krb_crypto::Cipher;
 use krb_crypto::prepared::SealingKey;
+use krb_decrypt::MOST_FOUND;
 use krb_show::text_of_page;
 use krb_show_checksums::page_with_checked;
 use krb_show_messages::page_of_message;
@@ -33,7 +34,8 @@ fn text_of(alloc: Global, keys: &str, octets: &[u8]) -> Result<String, RowError>
     let Ok(page) = page_of_message(alloc, octets) else {
         return Ok(String::from_str(alloc, "no message\n")?);
     };
-    let page = page_with_checked(alloc, keys_of(alloc, keys, '|')?, page)?;
+    let keys = keys_of(alloc, keys, '|')?;
+    let page = page_with_checked(alloc, keys.len().saturating_add(MOST_FOUND), keys, page)?;
     Ok(text_of_page(alloc, &page)?)
 }
 

@@ -1,7 +1,7 @@
 //! The keys of a column.
 
 use krb_crypto::CipherSuite;
-use krb_show_opened::Key;
+use krb_decrypt::Key;
 use std::alloc::Global;
 use test_rows::{RowError, octets_of};
 

@@ -5,7 +5,6 @@
 #![tactic(auto)]
 
 mod checksums;
-mod decrypted;
 mod files;
 mod keys;
 mod keys_of;
@@ -27,6 +26,7 @@ impl Tables for Shown {
             "pages" => pages::answer(alloc, columns)?,
             "files" => files::answer(alloc, columns)?,
             "opened" => opened::answer(alloc, columns)?,
+            "limited" => opened::answer_limited(alloc, columns)?,
             "checksums" => checksums::answer(alloc, columns)?,
             "keys" => keys::answer(alloc, columns)?,
             "pac" => pac::answer(alloc, columns)?,

@@ -5,17 +5,13 @@
 //! another column, the octets that are opened: where the text ends with that of the page of these octets, a line says so in its
 //! place.
 //!
-//! The text of the octets by the row of their type in the table of types (`krb_schema`), with what the keys decrypt in it (`krb_decrypt`), is to
-//! be the same: a line says where it is not, as of the part of a KRB-CRED that stands in the clear in an AP-REP, which only the label
-//! of the field opens.
+//! A row of the table `limited` is an origin, how many keys there may be, keys and the octets of a message; for each it prints the same.
 
-use crate::decrypted::text_by_row;
 use crate::keys_of::keys_of;
+use krb_decrypt::{Key, MOST_FOUND, Nothing, page_with_decrypted};
 use krb_der::Asn1DerError;
 use krb_show::{Page, text_of_page};
-use krb_show_any::{kind_of_octets, name_of_kind};
-use krb_show_messages::{DataKind, page_of_data, page_of_message, page_of_part};
-use krb_show_opened::{Key, page_with_opened};
+use krb_show_messages::{DataKind, KerberosFormats, page_of_data, page_of_message, page_of_part};
 use std::alloc::{AllocError, Global};
 use test_rows::{Columns, RowError, octets_of};
 
@@ -30,47 +26,23 @@ fn page_of(alloc: Global, kind: &str, octets: &[u8]) -> Result<Page, Asn1DerErro
     }
 }
 
-/// What is printed of octets of a kind.
-fn shown(alloc: Global, keys: Vec<Key>, kind: &str, octets: &[u8]) -> Result<String, AllocError> {
+/// What is printed of octets of a kind, under so many keys at most.
+fn shown(
+    alloc: Global,
+    most: usize,
+    keys: Vec<Key>,
+    kind: &str,
+    octets: &[u8],
+) -> Result<String, AllocError> {
     match page_of(alloc, kind, octets) {
         Ok(page) => {
-            let opened = page_with_opened(alloc, keys, page)?;
+            let opened = page_with_decrypted::<KerberosFormats, Nothing>(
+                alloc, most, keys, Nothing, page,
+            )?;
             text_of_page(alloc, &opened)
         }
         Err(Asn1DerError::OutOfMemory) => Err(AllocError),
         Err(error) => format!(in alloc; "{error:?}\n"),
-    }
-}
-
-/// The name of the type of octets of a kind.
-fn type_name(kind: &str, octets: &[u8]) -> &'static str {
-    match kind {
-        "EncryptedData" => "EncryptedData",
-        "PA-DATA" => "PA-DATA",
-        "METHOD-DATA" => "METHOD-DATA",
-        "KDC-REQ-BODY" => "KDC-REQ-BODY",
-        _ => match kind_of_octets(octets) {
-            Some(kind) => name_of_kind(kind),
-            None => "",
-        },
-    }
-}
-
-/// A line, where the row of the type tells the octets otherwise than this; nothing of an error.
-fn told_by_row(
-    alloc: Global,
-    keys: &[Key],
-    kind: &str,
-    octets: &[u8],
-    text: &str,
-) -> Result<&'static str, AllocError> {
-    let by_row = text_by_row(alloc, keys, type_name(kind, octets), octets)?;
-    if by_row.as_bytes() == text.as_bytes()
-        || by_row.is_empty() && page_of(alloc, kind, octets).is_err()
-    {
-        Ok("")
-    } else {
-        Ok("its row tells it otherwise\n")
     }
 }
 
@@ -102,14 +74,24 @@ fn with_opened(alloc: Global, text: String, octets: &[u8]) -> Result<String, All
 pub(crate) fn answer(alloc: Global, mut columns: Columns<'_>) -> Result<String, RowError> {
     let (origin, keys, kind) = (columns.text()?, columns.text()?, columns.text()?);
     let octets = columns.octets(alloc)?;
-    let text = shown(alloc, keys_of(alloc, keys, ' ')?, kind, &octets)?;
-    let own = keys_of(alloc, keys, ' ')?;
-    let by_row = told_by_row(alloc, &own, kind, &octets, text.as_str())?;
+    let keys = keys_of(alloc, keys, ' ')?;
+    let most = keys.len().saturating_add(MOST_FOUND);
+    let text = shown(alloc, most, keys, kind, &octets)?;
     let opened = octets_of(alloc, columns.text_if_any())?;
     let text = if opened.is_empty() {
         text
     } else {
         with_opened(alloc, text, &opened)?
     };
-    Ok(format!(in alloc; "{origin}\n{text}{by_row}")?)
+    Ok(format!(in alloc; "{origin}\n{text}")?)
+}
+
+/// What is printed of a row of the table `limited`.
+pub(crate) fn answer_limited(alloc: Global, mut columns: Columns<'_>) -> Result<String, RowError> {
+    let origin = columns.text()?;
+    let most = columns.number::<usize>()?;
+    let keys = keys_of(alloc, columns.text()?, ' ')?;
+    let octets = columns.octets(alloc)?;
+    let text = shown(alloc, most, keys, "message", &octets)?;
+    Ok(format!(in alloc; "{origin}\n{text}")?)
 }

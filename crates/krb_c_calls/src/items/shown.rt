@@ -9,8 +9,7 @@ use crate::handing::hand_out;
 use crate::items::walked::walked;
 use crate::refusal::Refusal;
 use krb_schema::Item;
-use krb_show::{Page, Token, json_of_page, text_of_page};
-use krb_show_rows::{NoFormats, Secrets, push_items};
+use krb_show::{NoFormats, Page, Secrets, Token, json_of_page, push_items, text_of_page};
 use std::alloc::{AllocError, Global};
 
 /// Whether the octets of keys and of passwords are shown.

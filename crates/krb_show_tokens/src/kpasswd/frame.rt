@@ -18,7 +18,7 @@ use byteorder::{BigEndian, ByteOrder};
 use krb_der::DerEncode;
 use krb_messages::kpasswd::{KrbPrivMessage, ReadFrameError, read_frame};
 use krb_messages::messages::{ApMessage, ApRep, ApReq, KrbPriv};
-use krb_show::{Field, Label, Page, show_fields, show_struct};
+use krb_show::{Field, Label, Page, Role, show_fields, show_struct};
 use krb_show_messages::{HasRow, Message, RowField};
 use std::alloc::{AllocError, Global};
 use std::marker::PhantomData;
@@ -71,6 +71,7 @@ fn show_with<'a, T: DerEncode + HasRow>(
         label: Label {
             text: first.length_name,
             kind: None,
+            role: Role::None,
             is_item: false,
         },
         value: &numbers.first_length,

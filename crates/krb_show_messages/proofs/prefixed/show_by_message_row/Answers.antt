@@ -1,5 +1,5 @@
 use Rattle.std.proofs.lemmas.Result.{on_ok_weaker}
-use Rattle.krb_show_rows.specs.declared.walk.Walk.TheVariants as walks
+use Rattle.krb_show.specs.declared.rows.walk.Walk.TheVariants as walks
 use Rattle.krb_show_messages.proofs.prefixed.show_by_message_row.Goals as goal
 
 pub returns-in-Items-clause-ok : goal.returns-in-Items-clause-ok

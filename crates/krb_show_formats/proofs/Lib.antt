@@ -1,5 +1,0 @@
-mod Elements
-mod Pieces
-mod Plain
-mod Several
-mod Told

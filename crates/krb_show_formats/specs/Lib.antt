@@ -1,2 +1,0 @@
-pub mod Negoex
-pub mod Pac

@@ -1,5 +1,0 @@
-mod Lists
-mod Seals
-mod LastTokens
-mod Places
-mod Results

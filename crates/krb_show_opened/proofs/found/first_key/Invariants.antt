@@ -1,6 +1,0 @@
-use Rattle.std.proofs.Common.{take}
-use Rattle.krb_show_opened.specs.Found.{NoneOpens}
-use Rattle.krb_show_opened.proofs.found.first_key.Given as goal
-
-abbrev pub invariant-loop-index : goal.invariant-loop-index
-invariant-loop-index l = NoneOpens l.suite l.cipher l.usages (take l.index l.keys)

@@ -1,6 +1,0 @@
-use Rattle.std.proofs.Common.{take}
-use Rattle.krb_show_opened.specs.Found.{OpensNone}
-use Rattle.krb_show_opened.proofs.found.first_usage.Given as goal
-
-abbrev pub invariant-loop-usage : goal.invariant-loop-usage
-invariant-loop-usage l = OpensNone l.key l.cipher (take l.usage-index l.usages)

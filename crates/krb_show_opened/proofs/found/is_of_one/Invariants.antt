@@ -1,6 +1,0 @@
-use Rattle.std.proofs.Common.{take}
-use Rattle.krb_show_opened.specs.Found.{NoneIsOf}
-use Rattle.krb_show_opened.proofs.found.is_of_one.Given as goal
-
-abbrev pub invariant-loop-key : goal.invariant-loop-key
-invariant-loop-key l = NoneIsOf l.suite (take l.key-index l.keys)
