@@ -57,7 +57,8 @@ def keytab_of(keys):
         counted = lambda text: struct.pack(">H", len(text)) + text
         entry = struct.pack(">H", 1) + counted(b"R") + counted(name.encode()) + struct.pack(">IIBH", 1, 0, 1, int(suite)) + counted(bytes.fromhex(digits))
         octets += struct.pack(">i", len(entry)) + entry
-        names['opened-by: "%s"' % name] = 'opened-by: "%s@R kvno 1"' % name
+        shown = name.replace("\\", "\\\\").replace('"', '\\"')
+        names['opened-by: "%s"' % shown] = 'opened-by: "%s@R kvno 1"' % shown
     return octets if names else b"", names
 
 
@@ -90,7 +91,7 @@ def try_kinds(top):
         octets = bytes.fromhex(digits)
         shown = outcome(krb.show, octets, kind, b"", False, True)
         if not isinstance(shown, Status):
-            expect(shown.startswith(kind + ":\n") and shown.isascii() and "keyvalue: hidden" not in shown, "%s is told otherwise" % kind)
+            expect(shown.startswith(kind) and shown.isascii() and "keyvalue: hidden" not in shown, "%s is told otherwise" % kind)
             expect("hidden" in krb.show(octets, kind) or "keyvalue" not in shown, "the keys of a %s are shown" % kind)
             count += 1
     expect(outcome(krb.show, b"\x30\0") == Status.NUMBER and outcome(krb.show, b"\x30\0", "no kind") == Status.NUMBER, "octets of no kind are shown")
@@ -121,8 +122,8 @@ def quoted(component):
 
 
 def flags_of(told):
-    """The numbers of the bits that are set, and how many bits there are, of flags as JSON has them."""
-    digits, _, spare = told["flags"][2:].partition("/")
+    """The numbers of the bits that are set, and how many bits there are, of flags as JSON has them, with or without names."""
+    digits, _, spare = (told["flags"] if isinstance(told, dict) else told)[2:].partition("/")
     bits = "".join("%04d" % int(bin(int(digit, 16))[2:]) for digit in digits)
     size = len(bits) - int(spare or 0)
     return frozenset(number for number, bit in enumerate(bits) if bit == "1"), size
@@ -139,13 +140,15 @@ def agrees(value, told):
     if isinstance(value, bool):
         return value is told
     if isinstance(value, int):
+        if isinstance(told, str):  # past 64 bits: its two's complement
+            return value == int.from_bytes(bytes.fromhex(told), "big", signed=True)
         return value == (told["number"] if isinstance(told, dict) else told)
     if isinstance(value, frozenset):
         return value == flags_of(told)[0]
     if isinstance(value, datetime.datetime):
         return value.strftime("%Y-%m-%dT%H:%M:%SZ").rjust(20, "0") == told
-    if isinstance(value, bytes) and isinstance(told, dict):  # a BIT STRING that is no flags; an ENUMERATED
-        if "flags" not in told:
+    if isinstance(value, bytes) and (isinstance(told, dict) or told[:2] == "0x"):  # a BIT STRING that is no flags; an ENUMERATED
+        if isinstance(told, dict) and "flags" not in told:
             return value == bytes([told["number"]])
         bits = int.from_bytes(value[1:], "big")
         size = 8 * len(value) - 8
@@ -220,30 +223,38 @@ def try_found_keys():
         expect("ticket-info[%d]:" % count in shown and (left in shown) == (count > 1000) and ("keys-not-tried" in shown) == (count > 1000), "%d keys are found" % count)
 
 
+def rows_holding(text):
+    """Types, and octets of each that hold this in leaves of all kinds that take it."""
+    wrap = lambda number, inner: element(0xA0 + number, inner)
+    number, octets, string = element(2, b"\x11"), element(4, text), element(27, text)
+    return [
+        ("PrincipalName", element(48, wrap(0, element(2, b"\1")) + wrap(1, element(48, string + string)))),
+        ("EncryptionKey", element(48, wrap(0, number) + wrap(1, octets))),
+        ("EncryptedData", element(48, wrap(0, number) + wrap(2, octets))),
+        ("Checksum", element(48, wrap(0, number) + wrap(1, octets))),
+        ("PA-DATA", element(48, wrap(1, number) + wrap(2, octets))),
+        ("HostAddress", element(48, wrap(0, number) + wrap(1, octets))),
+        ("ETYPE-INFO2-ENTRY", element(48, wrap(0, number) + wrap(1, string) + wrap(2, octets))),
+    ]
+
+
 def try_hostile():
-    """Texts, names, octets, secrets, ciphertexts and what is not read, that hold such octets: one line each, in printable ASCII."""
+    """Texts, names, octets, secrets, ciphertexts and what is not read, that hold such octets: one line each, in printable ASCII. How many are shown."""
+    count = 0
     for text in HOSTILE:
-        wrap = lambda number, inner: element(0xA0 + number, inner)
-        number, octets, string = element(2, b"\x11"), element(4, text), element(27, text)
-        rows = [
-            ("PrincipalName", element(48, wrap(0, element(2, b"\1")) + wrap(1, element(48, string + string)))),
-            ("EncryptionKey", element(48, wrap(0, number) + wrap(1, octets))),
-            ("EncryptedData", element(48, wrap(0, number) + wrap(2, octets))),
-            ("Checksum", element(48, wrap(0, number) + wrap(1, octets))),
-            ("PA-DATA", element(48, wrap(1, number) + wrap(2, octets))),
-            ("HostAddress", element(48, wrap(0, number) + wrap(1, octets))),
-            ("ETYPE-INFO2-ENTRY", element(48, wrap(0, number) + wrap(1, string) + wrap(2, octets))),
-        ]
-        for name, row in rows:
+        for (name, row), (_, plain) in zip(rows_holding(text), rows_holding(b"x" * len(text))):
+            if isinstance(outcome(krb.items, row, name), Status):  # a text that is no GeneralString of RFC 4120, 5.2.1
+                expect(outcome(krb.text, row, name) == outcome(krb.items, row, name), "%s is refused otherwise" % name)
+                continue
             for secrets in (False, True):
-                if isinstance(outcome(krb.items, row, name), Status):  # a text that is no GeneralString of RFC 4120, 5.2.1
-                    expect(outcome(krb.text, row, name) == outcome(krb.items, row, name), "%s is refused otherwise" % name)
-                    continue
                 shown, told = krb.text(row, name, show_secrets=secrets), krb.json(row, name, show_secrets=secrets)
                 lines = shown.split("\n")
-                plain = krb.text(dict(rows)[name].replace(text, b"x" * len(text)), name, show_secrets=secrets).split("\n")
-                expect(all(line.isascii() and line.isprintable() for line in lines + [told[:-1]]) and len(lines) == len(plain), "%s shows %r" % (name, text))
-                expect(json.loads(told) is not None and agrees(krb.decode(row, name), json.loads(krb.json(row, name, show_secrets=True))[name]), "%s tells %r otherwise" % (name, text))
+                expect(all(line.isascii() and line.isprintable() for line in lines + [told[:-1]]), "%s shows %r" % (name, text))
+                expect(len(lines) == len(krb.text(plain, name, show_secrets=secrets).split("\n")), "%s has more lines of %r" % (name, text))
+            (value,) = json.loads(told).values()
+            expect(agrees(krb.decode(row, name), value), "%s tells %r otherwise" % (name, text))
+            count += 1
+    return count
 
 
 def main():
@@ -251,7 +262,8 @@ def main():
     expect(count > 200, "only %d rows were tried" % count)
     print("shown: %d rows" % count)
     try_key()
-    try_hostile()
+    hostile = try_hostile()
+    expect(hostile > 60, "only %d hostile texts were shown" % hostile)
     try_found_keys()
     opened, kinds = try_opened(sys.argv[1]), try_kinds(sys.argv[1])
     expect(opened > 150 and kinds > 10, "only %d opened rows and %d files were tried" % (opened, kinds))

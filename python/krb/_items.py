@@ -143,15 +143,21 @@ for _call in (_items, _find, _find_number, _item_name):
 _names: List[str] = []
 
 
-def _name(number: int) -> str:
-    """The name of a number. All are asked for once."""
+def _all_names() -> List[str]:
+    """The names of all numbers, which are asked for once."""
     if not _names:
         known: List[str] = []
         size, out = ctypes.c_size_t(), ctypes.create_string_buffer(256)
         while _item_name(len(known), out, 256, ctypes.byref(size)) == Status.DONE:
             known.append(out.raw[: size.value].decode("ascii"))
         _names.extend(known)
-    return _names[number] if number < len(_names) else ""
+    return _names
+
+
+def _name(number: int) -> str:
+    """The name of a number."""
+    names = _all_names()
+    return names[number] if number < len(names) else ""
 
 
 def _text(text: str) -> bytes:
@@ -179,11 +185,11 @@ assert _RECORD.size == ctypes.sizeof(_Record)
 def _walked(octets: bytes, as_type: Optional[str]) -> Tuple[int, bytes, int]:
     """The status, the octets of the records, and the offset of the first error."""
     name, count, offset = _named(octets, as_type), ctypes.c_size_t(), ctypes.c_size_t()
-    room = len(octets) // 3 + 16
+    room = len(octets) // 2 + 16  # two octets begin an element, and one with elements has two items
     while True:
         records = bytearray(room * _RECORD.size)
-        cells = (ctypes.c_char * len(records)).from_buffer(records)
-        status = _items(name, len(name), octets, len(octets), cells, room, ctypes.byref(count), ctypes.byref(offset))
+        first = ctypes.c_char.from_buffer(records)
+        status = _items(name, len(name), octets, len(octets), ctypes.addressof(first), room, ctypes.byref(count), ctypes.byref(offset))
         if status != Status.ROOM or count.value <= room:
             return status, bytes(memoryview(records)[: count.value * _RECORD.size]) if status == Status.DONE else b"", offset.value
         room = count.value
@@ -285,6 +291,7 @@ _VALUES[Leaf.TIME] = _time
 
 
 _BY_NUMBER = {int(leaf): value for leaf, value in _VALUES.items()}
+_LEAF, _END, _STRUCT, _WRAP = int(Form.LEAF), int(Form.END), int(Node.STRUCT), int(Node.WRAP)
 
 
 def decode(octets: Octets, as_type: Optional[str] = None) -> Any:
@@ -294,23 +301,25 @@ def decode(octets: Octets, as_type: Optional[str] = None) -> Any:
 
     Refused: as `items`."""
     octets = plain(octets)
-    whole: List[Any] = []
-    stack: List[Any] = [whole]  # the dicts and lists that are not at their end
+    names = _all_names()
+    around: Any = []
+    whole = around
+    outer: List[Any] = []  # the dicts and lists that are not at their end, but for the innermost
     for offset, size, form, kind, name, _, _, _ in _records(octets, as_type):
-        if form == Form.LEAF:
+        if form == _LEAF:
             value: Any = _BY_NUMBER[kind](octets[offset : offset + size])
-        elif kind == Node.WRAP:
+        elif kind == _WRAP:
             continue
-        elif form == Form.END:
-            stack.pop()
+        elif form == _END:
+            around = outer.pop()
             continue
         else:
-            value = {} if kind == Node.STRUCT else []
-        around = stack[-1]
+            value = {} if kind == _STRUCT else []
         if type(around) is dict:
-            around[_name(name)] = value
+            around[names[name]] = value
         else:
             around.append(value)
-        if form == Form.BEGIN:
-            stack.append(value)
+        if form != _LEAF:
+            outer.append(around)
+            around = value
     return whole[0]
