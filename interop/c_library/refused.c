@@ -148,13 +148,17 @@ static int is_of_items(const char *call) {
     return 0;
 }
 
-static int is_shown(const char *call) { return !strcmp(call, "show_text") || !strcmp(call, "show_json"); }
+static int is_page(const char *call) { return !strcmp(call, "page_text") || !strcmp(call, "page_json"); }
+
+static int is_shown(const char *call) { return !strcmp(call, "show_text") || !strcmp(call, "show_json") || is_page(call); }
 
 static krb_status other_call(const struct row *row, struct octets *room, size_t *size, struct cells *to) {
     const struct octets *key = &row->key, *beside = &row->beside, *input = &row->input;
     const char *call = row->call;
     size_t *at = to->at;
     if (is_of_items(call)) return item_call(row, to);
+    if (is_page(call)) return krb_show_page(key->at, key->count, input->at, input->count, beside->at, beside->count, !strcmp(call, "page_json"),
+            row->number != 0, room->at, room->count, size);
     if (is_shown(call)) return krb_show(key->at, key->count, input->at, input->count, !strcmp(call, "show_json"), row->number != 0, room->at, room->count, size);
     if (!strcmp(call, "token")) return krb_gss_token(input->at, input->count, &at[0], &at[1], &at[2], &at[3]);
     if (!strcmp(call, "password")) return krb_password_frame(input->at, input->count, &at[0], &at[1], &at[2], &at[3]);
@@ -223,7 +227,7 @@ static long most, refusals;
 
 static void try_call(const struct row *row) {
     size_t ample = has_answer(row->call) ? row->input.count + row->beside.count + row->key.count + 99 : 1;
-    if (is_shown(row->call)) ample = 8 * row->input.count + 1024;
+    if (is_shown(row->call)) ample = is_page(row->call) ? 32 * row->input.count + 4096 : 8 * row->input.count + 1024;
     struct octets right = room_of(ample);
     struct answer whole = run(row, &right, 0, 0);
     EXPECT(whole.held == 0, "%s %d: %ld blocks are left", row->call, row->number, whole.held);
@@ -301,10 +305,22 @@ static void try_passwords(void) {
 
 static struct octets text_of(const char *text) { return octets_of((const uint8_t *)text, strlen(text)); }
 
+/* A keytab of one key of suite 17, that of a principal `s` of the realm `R` (MIT Kerberos, "Keytab file format"). */
+static const uint8_t KEYTAB[] = {5, 2, 0, 0, 0, 37, 0, 1, 0, 1, 'R', 0, 1, 's', 0, 0, 0, 1, 0, 0, 0, 0, 1, 0, 17, 0, 16, 1, 2, 3, 4, 5, 6, 7, 8, 9, 10, 11, 12, 13, 14, 15, 16};
+
+/* A message as `jolmurig show` writes it, in the one form or the other. */
+static void try_page(const struct octets *message, int number) {
+    struct octets none = {NULL, 0}, keytab = octets_of(KEYTAB, sizeof KEYTAB);
+    struct row row = {number % 2 ? "page_text" : "page_json", number % 2, 0, none, keytab, *message};
+    try_call(&row);
+    drop(&row.beside);
+}
+
 /* Fields that are found in messages, and all items of these, also as text and as JSON: rows that expect_fields.py makes. */
 static void try_fields(const char *name) {
     FILE *file = fopen(name, "r");
     char *columns[10];
+    int pages = 0;
     if (!file) die("a table is not there");
     while (next_row(file, columns, 10)) {
         if (strcmp(columns[4], "DONE")) continue;
@@ -319,6 +335,7 @@ static void try_fields(const char *name) {
             try_call(&row);
             row.call = "show_json", row.number = 1;
             try_call(&row);
+            try_page(&row.input, pages++);
         }
         drop(&row.key), drop(&row.beside), drop(&row.input);
     }
