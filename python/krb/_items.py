@@ -179,7 +179,8 @@ def _item(record: _Record) -> Item:
 
 
 _RECORD = struct.Struct("@NNIIIiII")  # offset, size, form, kind, name, registry, depth, tag
-assert _RECORD.size == ctypes.sizeof(_Record)
+_FRONT = struct.Struct("@NNIII12x")  # of these the first five
+assert _RECORD.size == _FRONT.size == ctypes.sizeof(_Record)
 
 
 def _walked(octets: bytes, as_type: Optional[str]) -> Tuple[int, bytes, int]:
@@ -195,12 +196,12 @@ def _walked(octets: bytes, as_type: Optional[str]) -> Tuple[int, bytes, int]:
         room = count.value
 
 
-def _records(octets: bytes, as_type: Optional[str]) -> Iterator[Tuple[int, ...]]:
-    """The fields of the records of all items."""
+def _records(octets: bytes, as_type: Optional[str], fields: struct.Struct) -> Iterator[Tuple[int, ...]]:
+    """These fields of the records of all items."""
     status, records, _ = _walked(octets, as_type)
     if status != Status.DONE:
         raise Refused(status)
-    return _RECORD.iter_unpack(records)
+    return fields.iter_unpack(records)
 
 
 def items(octets: Octets, as_type: Optional[str] = None) -> List[Item]:
@@ -208,7 +209,7 @@ def items(octets: Octets, as_type: Optional[str] = None) -> List[Item]:
     `type_of` tells.
 
     Refused: NUMBER where no type has the name, or none is told; INVALID, TRUNCATED, UNSUPPORTED, TOO_DEEP, whose place `first_error` has; MEMORY."""
-    return [_item(_Record(*record)) for record in _records(plain(octets), as_type)]
+    return [_item(_Record(*record)) for record in _records(plain(octets), as_type, _RECORD)]
 
 
 def first_error(octets: Octets, as_type: Optional[str] = None) -> Optional[Tuple[Status, int]]:
@@ -305,7 +306,7 @@ def decode(octets: Octets, as_type: Optional[str] = None) -> Any:
     around: Any = []
     whole = around
     outer: List[Any] = []  # the dicts and lists that are not at their end, but for the innermost
-    for offset, size, form, kind, name, _, _, _ in _records(octets, as_type):
+    for offset, size, form, kind, name in _records(octets, as_type, _FRONT):
         if form == _LEAF:
             value: Any = _BY_NUMBER[kind](octets[offset : offset + size])
         elif kind == _WRAP:
