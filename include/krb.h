@@ -268,6 +268,8 @@ typedef struct krb_item {
     int32_t registry; /* KRB_REGISTRY_.., what its number, or its flags, are of */
     uint32_t depth;   /* how many elements it stands in */
     uint32_t tag;     /* the octet of its tag (X.690, 8.1.2) */
+    uint32_t role;    /* KRB_ROLE_.., what programs do with it */
+    uint32_t reserved; /* 0 */
 } krb_item;
 
 enum {
@@ -325,6 +327,31 @@ enum {
     KRB_REGISTRY_TOKEN_FLAG = 18              /* RFC 4121, 4.2.2 */
 };
 
+/* What programs do with an element (RFC 4120). An EncryptedData has the role of what is encrypted in it; its field "cipher" is the ciphertext. */
+enum {
+    KRB_ROLE_NONE = 0,                        /* nothing */
+    KRB_ROLE_AUTHORIZATION_DATA = 1,          /* authorization data of the type that the number before says: of type 128 a PAC */
+    KRB_ROLE_CHECKSUM = 2,                    /* a checksum of the type that the number before says: of 32771 that of the GSS-API (RFC 4121, 4.1.1) */
+    KRB_ROLE_PREFIXED_MESSAGE = 3,            /* a message behind its length in four octets (RFC 4120, 7.2.2) */
+    KRB_ROLE_MECHANISM_TOKEN = 4,             /* a token of a mechanism (RFC 4178, 4.2.1) */
+    KRB_ROLE_MECHANISM_LIST_MIC = 5,          /* a MIC of the list of mechanisms (RFC 4178, 5) */
+    KRB_ROLE_KEY = 6,                         /* the octets of a key of the encryption type that the number before says */
+    KRB_ROLE_ENC_TICKET_PART = 7,             /* an EncryptedData of an EncTicketPart, key usage 2 */
+    KRB_ROLE_ENC_AS_REP_PART = 8,             /* of an EncASRepPart, or an EncTGSRepPart, key usage 3 */
+    KRB_ROLE_ENC_TGS_REP_PART = 9,            /* of an EncTGSRepPart, key usage 8 or 9 */
+    KRB_ROLE_AUTHENTICATOR = 10,              /* of an Authenticator, key usage 11; 7 in a request to a KDC */
+    KRB_ROLE_REQUEST_AUTHORIZATION_DATA = 11, /* of AuthorizationData in a request to a KDC, key usage 4 or 5 */
+    KRB_ROLE_ENC_AP_REP_PART = 12,            /* of an EncAPRepPart, key usage 12 */
+    KRB_ROLE_ENC_KRB_PRIV_PART = 13,          /* of an EncKrbPrivPart, key usage 13 */
+    KRB_ROLE_ENC_KRB_CRED_PART = 14,          /* of an EncKrbCredPart, key usage 14; in the clear under encryption type 0 */
+    KRB_ROLE_PA_ENC_TS_ENC = 15,              /* pre-authentication data, an EncryptedData of a PA-ENC-TS-ENC, key usage 1 */
+    KRB_ROLE_SALT = 16,                       /* a salt (RFC 4120, 5.2.7.5) */
+    KRB_ROLE_CLIENT_REALM = 17,               /* the realm of a client */
+    KRB_ROLE_CLIENT_NAME = 18,                /* the name of a client */
+    KRB_ROLE_SERVER_REALM = 19,               /* the realm of a server */
+    KRB_ROLE_SERVER_NAME = 20                 /* the name of a server */
+};
+
 #define KRB_NO_NAME UINT32_MAX
 
 /* All items of octets of a type, in the order of the octets.
@@ -338,6 +365,10 @@ krb_status krb_items(const uint8_t *type_name, size_t type_name_size, const uint
 
 /* What the standards call items of this number; of two names there are two numbers, and a name keeps its number. KRB_NUMBER: none has it. */
 krb_status krb_item_name(uint32_t number, uint8_t *out, size_t room, size_t *size);
+
+/* What the standards call a number, or the flag of this number counted from 0, of a registry (KRB_REGISTRY_..), as krb_item's `registry` says which: of
+   KRB_REGISTRY_TICKET_FLAG and 1 "forwardable". KRB_NUMBER: no registry has the number, or it has no name for it. */
+krb_status krb_number_name(int32_t registry, int64_t number, uint8_t *out, size_t room, size_t *size);
 
 /* The item that a path leads to: names of fields as the standard spells them, `.` between, and `[n]` for element n of a list, counted from 0, as
    "req-body.sname.name-string[1]" or "tickets[0].enc-part.cipher". A field has the item of what stands in its explicit tags. An OCTET STRING that

@@ -20,7 +20,7 @@ static struct answer answer_of(const char *type, const char *path, const struct 
 }
 
 static int is_refused(const struct answer *it, krb_status status) {
-    static const krb_item none = {0, 0, 0, 0, 0, 0, 0, 0};
+    static const krb_item none = {0, 0, 0, 0, 0, 0, 0, 0, 0, 0};
     return it->place == status && it->value == status && !memcmp(&it->item, &none, sizeof none) && it->number == 0;
 }
 

@@ -16,7 +16,7 @@ static const char INIT[] = "NegotiationToken (negTokenInit)", RESP[] = "Negotiat
 
 /* Tells the place of a field of octets that stand behind so many of the whole: 0 and 0 of one that is absent. */
 static krb_status tell(const char *type, const char *path, const uint8_t *octets, size_t count, size_t behind, size_t *at) {
-    krb_item item = {77777, 77777, 7, 7, 7, 7, 7, 7};
+    krb_item item = {77777, 77777, 7, 7, 7, 7, 7, 7, 7, 7};
     krb_status status = krb_find_text(type, path, octets, count, &item);
     at[0] = status == KRB_DONE ? behind + item.offset : 0;
     at[1] = item.size;

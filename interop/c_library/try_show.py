@@ -143,8 +143,11 @@ def agrees(value, told):
         if isinstance(told, str):  # past 64 bits: its two's complement
             return value == int.from_bytes(bytes.fromhex(told), "big", signed=True)
         return value == (told["number"] if isinstance(told, dict) else told)
-    if isinstance(value, frozenset):
-        return value == flags_of(told)[0]
+    if isinstance(value, frozenset):  # JSON has the names of the first 32 alone
+        numbers = flags_of(told)[0]
+        if isinstance(told, dict):
+            return value == frozenset(told["names"]) | {str(number) for number in numbers if number >= 32}
+        return value == {str(number) for number in numbers}
     if isinstance(value, datetime.datetime):
         return value.strftime("%Y-%m-%dT%H:%M:%SZ").rjust(20, "0") == told
     if isinstance(value, bytes) and (isinstance(told, dict) or told[:2] == "0x"):  # a BIT STRING that is no flags; an ENUMERATED

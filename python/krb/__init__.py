@@ -1,7 +1,7 @@
 """Kerberos cryptography and messages, over code that is proved to meet its contracts.
 
 - `krb.decode`, `krb.find`, `krb.find_number`, `krb.items`: octets of DER by the types of their standards: as a tree, a field by its path, all elements. The type may be left out where
-  `krb.type_of` tells it by the first octet.
+  `krb.type_of` tells it by the first octet. `krb.name_of`: what the standards call a number or a flag.
 - `krb.text`, `krb.json`: the same for people, keys hidden. `krb.show`: what `jolmurig show` writes of octets of any kind, with what a keytab opens.
 - `krb.crypto`: encryption, checksums, keys of passwords, sizes (RFC 3961, RFC 3962, RFC 8009).
 - `krb.gss`: MIC and Wrap tokens of the GSS-API (RFC 4121).
@@ -16,10 +16,10 @@ go of the interpreter's lock.
 
 The shared object is `libkrbc.so.1` beside this file, or what the variable KRBC_LIBRARY names."""
 
-from krb._items import Form, Item, Leaf, Node, Registry, Secret, decode, find, find_item, find_number, first_error, items, type_of
+from krb._items import Form, Item, Leaf, Node, Registry, Role, Secret, decode, find, find_item, find_number, first_error, items, name_of, type_of
 from krb._library import Refused, Status
 from krb._shown import json, show, text
 from krb import crypto, frames, gss, messages, pac, proxy, spnego
 
-__all__ = ["Form", "Item", "Leaf", "Node", "Refused", "Registry", "Secret", "Status", "decode", "find", "find_item", "find_number", "first_error", "items", "json", "show", "text", "type_of", "crypto", "frames", "gss", "messages", "pac", "proxy", "spnego"]
+__all__ = ["Form", "Item", "Leaf", "Node", "Refused", "Registry", "Role", "Secret", "Status", "decode", "find", "find_item", "find_number", "first_error", "items", "json", "name_of", "show", "text", "type_of", "crypto", "frames", "gss", "messages", "pac", "proxy", "spnego"]
 __version__ = "0.1.0"

@@ -3,12 +3,13 @@
 import ctypes
 import datetime
 import enum
+import functools
 import struct
 from typing import Any, Dict, FrozenSet, Iterator, List, NamedTuple, Optional, Tuple, Union
 
 from krb._library import Octets, Refused, Status, _library
 
-__all__ = ["Form", "Leaf", "Node", "Registry", "Item", "Secret", "items", "find", "find_item", "find_number", "decode", "first_error", "type_of"]
+__all__ = ["Form", "Leaf", "Node", "Registry", "Role", "Item", "Secret", "items", "find", "find_item", "find_number", "decode", "first_error", "name_of", "type_of"]
 
 
 class Form(enum.IntEnum):
@@ -72,8 +73,34 @@ class Registry(enum.IntEnum):
     TOKEN_FLAG = 18
 
 
+class Role(enum.IntEnum):
+    """What programs do with an element (krb.h). An EncryptedData has the role of what is encrypted in it."""
+
+    NONE = 0
+    AUTHORIZATION_DATA = 1
+    CHECKSUM = 2
+    PREFIXED_MESSAGE = 3
+    MECHANISM_TOKEN = 4
+    MECHANISM_LIST_MIC = 5
+    KEY = 6
+    ENC_TICKET_PART = 7
+    ENC_AS_REP_PART = 8
+    ENC_TGS_REP_PART = 9
+    AUTHENTICATOR = 10
+    REQUEST_AUTHORIZATION_DATA = 11
+    ENC_AP_REP_PART = 12
+    ENC_KRB_PRIV_PART = 13
+    ENC_KRB_CRED_PART = 14
+    PA_ENC_TS_ENC = 15
+    SALT = 16
+    CLIENT_REALM = 17
+    CLIENT_NAME = 18
+    SERVER_REALM = 19
+    SERVER_NAME = 20
+
+
 class Item(NamedTuple):
-    """An element, or where one begins or ends: what it is, what its standard calls it, and the place of its content."""
+    """An element, or where one begins or ends: what it is, what its standard calls it, the place of its content, and what programs do with it."""
 
     form: Form
     kind: Union[Leaf, Node]
@@ -83,6 +110,7 @@ class Item(NamedTuple):
     tag: int
     offset: int
     size: int
+    role: Role = Role.NONE
 
     @property
     def place(self) -> slice:
@@ -126,18 +154,20 @@ class _Record(ctypes.Structure):
     """krb_item of krb.h."""
 
     _fields_ = [("offset", ctypes.c_size_t), ("size", ctypes.c_size_t)] + [
-        (name, ctypes.c_int32 if name == "registry" else ctypes.c_uint32) for name in ("form", "kind", "name", "registry", "depth", "tag")
+        (name, ctypes.c_int32 if name == "registry" else ctypes.c_uint32) for name in ("form", "kind", "name", "registry", "depth", "tag", "role", "reserved")
     ]
 
 
 _OCTETS = [ctypes.c_char_p, ctypes.c_size_t]
 _items, _find, _find_number, _item_name = _library.krb_items, _library.krb_find, _library.krb_find_number, _library.krb_item_name
+_number_name = _library.krb_number_name
 _SIZE = ctypes.POINTER(ctypes.c_size_t)
 _items.argtypes = _OCTETS * 2 + [ctypes.c_void_p, ctypes.c_size_t, _SIZE, _SIZE]
 _find.argtypes = _OCTETS * 3 + [ctypes.POINTER(_Record)]
 _find_number.argtypes = _OCTETS * 3 + [ctypes.POINTER(ctypes.c_int64)]
 _item_name.argtypes = [ctypes.c_uint32, ctypes.c_void_p, ctypes.c_size_t, _SIZE]
-for _call in (_items, _find, _find_number, _item_name):
+_number_name.argtypes = [ctypes.c_int32, ctypes.c_int64, ctypes.c_void_p, ctypes.c_size_t, _SIZE]
+for _call in (_items, _find, _find_number, _item_name, _number_name):
     _call.restype = ctypes.c_uint32
 
 _names: List[str] = []
@@ -160,6 +190,18 @@ def _name(number: int) -> str:
     return names[number] if number < len(names) else ""
 
 
+@functools.lru_cache(maxsize=None)
+def _named_number(registry: int, number: int) -> Optional[str]:
+    out, size = ctypes.create_string_buffer(256), ctypes.c_size_t()
+    status = _number_name(registry, number, out, 256, ctypes.byref(size))
+    return out.raw[: size.value].decode("ascii") if status == Status.DONE else None
+
+
+def name_of(registry: Registry, number: int) -> Optional[str]:
+    """What the standards call a number of a registry, or the flag of this number counted from 0; None where they name no such number."""
+    return _named_number(int(registry), number) if -(2**63) <= number < 2**63 else None
+
+
 def _text(text: str) -> bytes:
     try:
         return text.encode("ascii")
@@ -175,11 +217,11 @@ def _item(record: _Record) -> Item:
     form = Form(record.form)
     kind = Leaf(record.kind) if form == Form.LEAF else Node(record.kind)
     registry = None if record.registry < 0 else Registry(record.registry)
-    return Item(form, kind, _name(record.name), registry, record.depth, record.tag, record.offset, record.size)
+    return Item(form, kind, _name(record.name), registry, record.depth, record.tag, record.offset, record.size, Role(record.role))
 
 
-_RECORD = struct.Struct("@NNIIIiII")  # offset, size, form, kind, name, registry, depth, tag
-_FRONT = struct.Struct("@NNIII12x")  # of these the first five
+_RECORD = struct.Struct("@NNIIIiIIII")  # offset, size, form, kind, name, registry, depth, tag, role, reserved
+_FRONT = struct.Struct("@NNIIIi16x")  # of these the first six
 assert _RECORD.size == _FRONT.size == ctypes.sizeof(_Record)
 
 
@@ -247,15 +289,12 @@ def find_number(octets: Octets, as_type: str, path: str) -> int:
     return number.value
 
 
-def _flags(content: bytes) -> FrozenSet[int]:
-    """The numbers of the bits that are set, counted from 0 at the left."""
+@functools.lru_cache(maxsize=4096)
+def _flags(content: bytes, registry: int) -> FrozenSet[str]:
+    """The names of the bits that are set; of one that has none its number, counted from 0 at the left."""
     bits, size = int.from_bytes(content[1:], "big"), 8 * len(content) - 8
-    found = []
-    while bits:  # the highest first
-        high = bits.bit_length()
-        found.append(size - high)
-        bits ^= 1 << (high - 1)
-    return frozenset(found)
+    numbers = [number for number in range(size) if bits >> (size - 1 - number) & 1]
+    return frozenset((_named_number(registry, number) if registry >= 0 else None) or str(number) for number in numbers)
 
 
 def _identifier(content: bytes) -> str:
@@ -273,7 +312,7 @@ def _identifier(content: bytes) -> str:
 _VALUES: Dict[Leaf, Any] = {leaf: (lambda content: int.from_bytes(content, "big", signed=True)) for leaf in (Leaf.INTEGER, Leaf.UNSIGNED, Leaf.NUMBER, Leaf.MICROSECONDS)}
 _VALUES.update({leaf: (lambda content: content.decode("ascii")) for leaf in (Leaf.TEXT, Leaf.COMPONENT)})
 _VALUES.update({leaf: bytes for leaf in (Leaf.OCTETS, Leaf.CIPHER, Leaf.BITS, Leaf.ANY)})
-_VALUES[Leaf.FLAGS], _VALUES[Leaf.IDENTIFIER], _VALUES[Leaf.SECRET] = _flags, _identifier, Secret
+_VALUES[Leaf.IDENTIFIER], _VALUES[Leaf.SECRET] = _identifier, Secret
 _VALUES[Leaf.TRUTH] = lambda content: content != b"\0"
 
 
@@ -292,13 +331,13 @@ _VALUES[Leaf.TIME] = _time
 
 
 _BY_NUMBER = {int(leaf): value for leaf, value in _VALUES.items()}
-_LEAF, _END, _STRUCT, _WRAP = int(Form.LEAF), int(Form.END), int(Node.STRUCT), int(Node.WRAP)
+_LEAF, _END, _STRUCT, _WRAP, _FLAGS = int(Form.LEAF), int(Form.END), int(Node.STRUCT), int(Node.WRAP), int(Leaf.FLAGS)
 
 
 def decode(octets: Octets, as_type: Optional[str] = None) -> Any:
     """The tree of octets that are one element of the type, and without a type of the one that `type_of` tells: a dict of a SEQUENCE, by the names of its
-    fields; a list; an int, a bool, a str, a datetime of UTC, bytes, `Secret` of a key's octets; a frozenset of the numbers of the flags that are set; an
-    OBJECT IDENTIFIER with dots. What stands in an explicit tag, or in an OCTET STRING that holds an element, is itself.
+    fields; a list; an int, a bool, a str, a datetime of UTC, bytes, `Secret` of a key's octets; a frozenset of the names of the flags that are set, as "forwardable",
+    or "14" of flag 14 where it has no name; an OBJECT IDENTIFIER with dots. What stands in an explicit tag, or in an OCTET STRING that holds an element, is itself.
 
     Refused: as `items`."""
     octets = plain(octets)
@@ -306,9 +345,10 @@ def decode(octets: Octets, as_type: Optional[str] = None) -> Any:
     around: Any = []
     whole = around
     outer: List[Any] = []  # the dicts and lists that are not at their end, but for the innermost
-    for offset, size, form, kind, name in _records(octets, as_type, _FRONT):
+    for offset, size, form, kind, name, registry in _records(octets, as_type, _FRONT):
         if form == _LEAF:
-            value: Any = _BY_NUMBER[kind](octets[offset : offset + size])
+            content = octets[offset : offset + size]
+            value: Any = _flags(content, registry) if kind == _FLAGS else _BY_NUMBER[kind](content)
         elif kind == _WRAP:
             continue
         elif form == _END:

@@ -1,7 +1,7 @@
 //! Items of octets, and octets for people, for C. `krb.h` declares these calls.
 
 ghost use Rattle.krb_c_calls.specs.Handing.{IsAnswered};
-ghost use Rattle.krb_c_calls.specs.Items.{IsItemAnswer, IsItemNumber, IsItemsAnswer, IsNameOf, RefusesName};
+ghost use Rattle.krb_c_calls.specs.Items.{IsItemAnswer, IsItemNumber, IsItemsAnswer, IsNameOf, IsNumberName, RefusesName, RefusesNumberName};
 ghost use Rattle.krb_c_calls.specs.Shown.{IsShown, RefusesShowing, secrets_of};
 ghost use Rattle.krb_c_pages.specs.Pages.{IsPageText, RefusesPage};
 
@@ -31,6 +31,19 @@ pub extern "C" fn krb_item_name(number: u32, out: &mut [u8], size: &mut usize) -
     ensures { IsAnswered (IsNameOf number) (RefusesName number) out.old out.new size.new result }
 {
     krb_c_calls::items::item_name(number, out, size)
+}
+
+/// `krb_number_name` of `krb.h`: the name of a number, or of a flag, of a registry.
+#[unsafe(no_mangle)]
+pub extern "C" fn krb_number_name(
+    registry: i32,
+    number: i64,
+    out: &mut [u8],
+    size: &mut usize,
+) -> u32
+    ensures { IsAnswered (IsNumberName registry number) (RefusesNumberName registry number) out.old out.new size.new result }
+{
+    krb_c_calls::items::number_name(registry, number, out, size)
 }
 
 /// `krb_find` of `krb.h`: the item of octets that a path leads to.

@@ -1,8 +1,9 @@
 -- Items as C has them, and what is answered of octets by the types of the standards.
-use Rattle.std.specs.Prelude.{◌≡◌, ◌⊎◌, ℕ, ℤ, pos, negsuc, min, List, [], Option, Some, None, map}
+use Rattle.std.specs.Prelude.{◌≡◌, ◌⊎◌, ℕ, ℤ, pos, negsuc, min, List, [], Option, Some, None, map, All}
 use Rattle.std.specs.List.{slice_get}
 use Rattle.krb_registry.specs.declared.kind.Kind.{Kind}
 use Rattle.krb_registry.specs.declared.kind.Kind.TheVariants as kinds
+use Rattle.krb_registry.specs.Names.{IsRow, table}
 use Rattle.krb_schema.specs.declared.item.Fault.{Fault}
 use Rattle.krb_schema.specs.declared.item.Fault.TheVariants as faults
 use Rattle.krb_schema.specs.declared.item.Form.{Form}
@@ -14,6 +15,8 @@ use Rattle.krb_schema.specs.declared.path.PathError.TheVariants as why
 use Rattle.krb_schema.specs.declared.shape.Leaf.{Leaf}
 use Rattle.krb_schema.specs.declared.shape.Leaf.TheVariants as leaves
 use Rattle.krb_schema.specs.declared.shape.Name.{Name}
+use Rattle.krb_schema.specs.declared.shape.Role.{Role}
+use Rattle.krb_schema.specs.declared.shape.Role.TheVariants as roles
 use Rattle.krb_schema.specs.declared.shape.Schema.{Schema}
 use Rattle.krb_schema.specs.Faults.{IsFault, IsWholeFault, OrMemory}
 use Rattle.krb_schema.specs.Named.{IsKerberos, row_in}
@@ -88,6 +91,30 @@ registry_number (Some kinds.NegotiationState) = pos 16
 registry_number (Some kinds.ContextFlag) = pos 17
 registry_number (Some kinds.TokenFlag) = pos 18
 
+-- what programs do with an element
+abbrev pub role_number : Role → ℕ
+role_number roles.None = 0
+role_number roles.AuthorizationData = 1
+role_number roles.Checksum = 2
+role_number roles.PrefixedMessage = 3
+role_number roles.MechanismToken = 4
+role_number roles.MechanismListMic = 5
+role_number roles.Key = 6
+role_number roles.EncTicketPart = 7
+role_number roles.EncAsRepPart = 8
+role_number roles.EncTgsRepPart = 9
+role_number roles.Authenticator = 10
+role_number roles.RequestAuthorizationData = 11
+role_number roles.EncApRepPart = 12
+role_number roles.EncKrbPrivPart = 13
+role_number roles.EncKrbCredPart = 14
+role_number roles.PaEncTsEnc = 15
+role_number roles.Salt = 16
+role_number roles.ClientRealm = 17
+role_number roles.ClientName = 18
+role_number roles.ServerRealm = 19
+role_number roles.ServerName = 20
+
 -- the number of a name, or 4294967295 of none
 abbrev pub numbered : Option ℕ → ℕ
 numbered None = 4294967295
@@ -106,11 +133,26 @@ record_of i = record {
   registry = registry_number i.name.registry;
   depth = i.depth;
   tag = i.tag;
+  role = role_number i.name.role;
+  reserved = 0;
 }
 
 -- nothing is told
 abbrev pub no_item : ItemRecord
-no_item = record { offset = 0; size = 0; form = 0; kind = 0; name = 0; registry = pos 0; depth = 0; tag = 0 }
+no_item = record { offset = 0; size = 0; form = 0; kind = 0; name = 0; registry = pos 0; depth = 0; tag = 0; role = 0; reserved = 0 }
+
+-- ---- names of numbers
+
+-- the registry of this number has this name for a number
+abbrev pub IsNumberName : ℤ → ℤ → List ℕ → Type 0
+IsNumberName registry number name = (kind : Kind) × (registry ≡ registry_number (Some kind)) × IsRow kind number name
+
+-- no registry has the number, or the registry has no name for it
+abbrev pub HasNoNumberName : ℤ → ℤ → Type 0
+HasNoNumberName registry number = (kind : Kind) → registry ≡ registry_number (Some kind) → All (λ row. ¬ row.0 ≡ number) (table kind)
+
+abbrev pub RefusesNumberName : ℤ → ℤ → ℕ → Type 0
+RefusesNumberName registry number status = (status ≡ 3) × HasNoNumberName registry number
 
 -- ---- the walk
 

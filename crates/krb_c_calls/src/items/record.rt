@@ -1,12 +1,12 @@
 //! Items as C has them.
 
 ghost use Rattle.std.specs.Prelude.{◌≡◌};
-ghost use Rattle.krb_c_calls.specs.Items.{form_number, kind_number, leaf_number, name_number, node_number, record_of, registry_number};
+ghost use Rattle.krb_c_calls.specs.Items.{form_number, kind_number, leaf_number, name_number, node_number, record_of, registry_number, role_number};
 
 use krb_registry::Kind;
-use krb_schema::{Form, Item, Leaf, Node, number_of_name};
+use krb_schema::{Form, Item, Leaf, Node, Role, number_of_name};
 
-/// `krb_item` of `krb.h`: an element, or where one begins or ends. 40 octets, with no pointer in them.
+/// `krb_item` of `krb.h`: an element, or where one begins or ends. 48 octets, with no pointer in them.
 #[repr(C)]
 #[derive(Clone, Copy)]
 pub struct ItemRecord {
@@ -26,6 +26,10 @@ pub struct ItemRecord {
     pub depth: u32,
     /// The octet of its tag.
     pub tag: u32,
+    /// The number of its variant of `Role`, from 0 on.
+    pub role: u32,
+    /// 0.
+    pub reserved: u32,
 }
 
 /// All zeros.
@@ -38,6 +42,8 @@ pub(crate) const NO_ITEM: ItemRecord = ItemRecord {
     registry: 0,
     depth: 0,
     tag: 0,
+    role: 0,
+    reserved: 0,
 };
 
 fn leaf_number(leaf: Leaf) -> u32
@@ -121,6 +127,34 @@ fn registry_number(registry: Option<Kind>) -> i32
     }
 }
 
+fn role_number(role: Role) -> u32
+    ensures { result ≡ role_number role }
+{
+    match role {
+        Role::None => 0,
+        Role::AuthorizationData => 1,
+        Role::Checksum => 2,
+        Role::PrefixedMessage => 3,
+        Role::MechanismToken => 4,
+        Role::MechanismListMic => 5,
+        Role::Key => 6,
+        Role::EncTicketPart => 7,
+        Role::EncAsRepPart => 8,
+        Role::EncTgsRepPart => 9,
+        Role::Authenticator => 10,
+        Role::RequestAuthorizationData => 11,
+        Role::EncApRepPart => 12,
+        Role::EncKrbPrivPart => 13,
+        Role::EncKrbCredPart => 14,
+        Role::PaEncTsEnc => 15,
+        Role::Salt => 16,
+        Role::ClientRealm => 17,
+        Role::ClientName => 18,
+        Role::ServerRealm => 19,
+        Role::ServerName => 20,
+    }
+}
+
 fn name_number(name: &str) -> u32
     ensures { result ≡ name_number name.now }
 {
@@ -143,5 +177,7 @@ pub(crate) fn record_of(item: Item) -> ItemRecord
         registry: registry_number(item.name.registry),
         depth: item.depth as u32,
         tag: item.tag as u32,
+        role: role_number(item.name.role),
+        reserved: 0,
     }
 }
