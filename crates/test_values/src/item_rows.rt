@@ -1,7 +1,7 @@
 //! Items of a KRB-ERROR that Heimdal made, of a request with two thousand encryption types, and of a part of 70,000 octets.
 
 use krb_c_calls::Refusal;
-use krb_c_calls::items::{ItemRecord, find, find_number, item_name, items};
+use krb_c_calls::items::{ItemRecord, find, find_number, item_name, items, number_name};
 use std::alloc::Global;
 use std::test::Fail;
 
@@ -43,6 +43,8 @@ const OTHER: ItemRecord = ItemRecord {
     registry: 7,
     depth: 7,
     tag: 7,
+    role: 7,
+    reserved: 7,
 };
 
 /// Status, offset and size of what a path leads to.
@@ -121,6 +123,26 @@ fn finds_numbers_of_an_error(rt: HostRuntime) {
         (3, 0),
         "realm is no number"
     );
+}
+
+/// Status, and size of what is handed out of a name.
+fn named(registry: i32, number: i64, out: &mut [u8]) -> (u32, usize) {
+    let mut size = 7;
+    let status = number_name(registry, number, out, &mut size);
+    (status, size)
+}
+
+#[test]
+fn names_numbers(rt: HostRuntime) {
+    let mut out = [0; 32];
+    assert_eq!(rt; named(10, 1, &mut out), (0, 11), "a flag of a ticket");
+    assert_eq!(rt; &out[..11], b"forwardable");
+    assert_eq!(rt; named(4, 37, &mut out), (0, 15), "an error code");
+    assert_eq!(rt; &out[..15], b"KRB_AP_ERR_SKEW");
+    assert_eq!(rt; named(4, 37, &mut out[..14]), (1, 15), "too little room");
+    assert_eq!(rt; named(2, -138, &mut out), (3, 0), "no such type of a name");
+    assert_eq!(rt; named(19, 1, &mut out), (3, 0), "no such registry");
+    assert_eq!(rt; named(-1, 1, &mut out), (3, 0), "that of no registry");
 }
 
 #[test]
