@@ -225,5 +225,11 @@ fn finds_a_large_part(rt: HostRuntime) -> Result<(), Fail> {
         counted(alloc, b"KRB-PRIV", b"enc-part.etype", &octets),
         (0, 18)
     );
+    let mut item = OTHER;
+    assert_eq!(rt;
+        find(alloc, b"KRB-PRIV", b"enc-part", &octets, &mut item),
+        0
+    );
+    assert_eq!(rt; (item.role, item.reserved), (13, 0), "an EncKrbPrivPart");
     Ok(())
 }
