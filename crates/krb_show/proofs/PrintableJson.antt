@@ -55,7 +55,7 @@ identifier_printable t h =
     two_members (codes "{\"identifier\":") (quoted style.Json t.octets) (codes ",\"name\":") (json_name t.note) (codes "}")
     (grind arith) (printable_quoted style.Json t.octets h.octets) (grind arith) (name_printable t.note h.note) (grind arith)
 
-value_printable : (f : Form) (t : Token) → IsOctetsToken t → ArePrintable (json_value f t)
+pub value_printable : (f : Form) (t : Token) → IsOctetsToken t → ArePrintable (json_value f t)
 value_printable form.Struct t h = grind arith
 value_printable form.StructEnd t h = grind arith
 value_printable form.List t h = grind arith
@@ -74,7 +74,7 @@ key_printable t h =
     printable_choice t.label.is_item [] (quoted style.Json t.label.text ++ 58 ∷ []) (λ e. tt)
     (λ e. printable_append (quoted style.Json t.label.text) (58 ∷ []) (printable_quoted style.Json t.label.text h.text) (grind arith))
 
-before_printable : (first : Bool) (t : Token) → IsOctetsToken t → ArePrintable (json_before first t)
+pub before_printable : (first : Bool) (t : Token) → IsOctetsToken t → ArePrintable (json_before first t)
 before_printable first t h =
     printable_choice (ends t.form) [] ((if first then [] else 44 ∷ []) ++ json_key t.label) (λ e. tt)
     (λ e. printable_append (if first then [] else 44 ∷ []) (json_key t.label)

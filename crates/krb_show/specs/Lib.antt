@@ -5,9 +5,12 @@ pub mod Pages
 pub mod Leaves
 pub mod Text
 pub mod Json
+pub mod TextWithPlaces
+pub mod JsonWithPlaces
 pub mod Opened
 pub mod Told
 pub mod Walk
 pub mod RowLeaves
 pub mod Items
+pub mod PlacedItems
 pub mod RowWalk

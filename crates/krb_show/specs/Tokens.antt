@@ -1,5 +1,6 @@
 -- Labels, tokens and pages.
-use Rattle.std.specs.Prelude.{◌≡◌, ℕ, ℤ, Bool, true, false, List, [], ◌∷◌, ◌++◌, Option, None, Some, take, length}
+use Rattle.std.specs.Prelude.{◌≡◌, ℕ, zero, suc, ◌-◌, ℤ, Bool, true, false, nat_lt, if◌then◌else◌, List, [], ◌∷◌, ◌++◌, Option, None, Some, take, length}
+use Rattle.krb_message_fields.specs.declared.places.place.Place.{Place}
 use Rattle.krb_registry.specs.declared.kind.Kind.{Kind}
 use Rattle.krb_schema.specs.declared.shape.Role.{Role}
 use Rattle.krb_schema.specs.declared.shape.Role.TheVariants as roles
@@ -13,7 +14,7 @@ pub record Label : Type 0 where
   pub role : Role
   pub is_item : Bool
 
--- beside what is written of it: the number that it is, and the components of the name that it is
+-- beside what is written of it: the number that it is, the components of the name that it is, and the place of the element that it is of
 pub record Token : Type 0 where
   pub form : Form
   pub label : Label
@@ -21,6 +22,7 @@ pub record Token : Type 0 where
   pub note : List ℕ
   pub number : Option ℤ
   pub components : List (List ℕ)
+  pub place : Option Place
 
 -- the label of a field whose numbers have no names, of one whose numbers have, and of an item of a list
 abbrev pub plain : List ℕ → Label
@@ -42,7 +44,7 @@ adds token old new = new ≡ old ++ token ∷ []
 
 -- a token of these octets and this note that is no number and no name, one without a note, and one without either
 abbrev pub noted : Form → Label → List ℕ → List ℕ → Token
-noted f label octets note = record { form = f; label = label; octets = octets; note = note; number = None; components = [] }
+noted f label octets note = record { form = f; label = label; octets = octets; note = note; number = None; components = []; place = None }
 
 abbrev pub leaf : Form → Label → List ℕ → Token
 leaf f label octets = noted f label octets []
@@ -52,7 +54,23 @@ mark f label = noted f label [] []
 
 -- a number with its digits, and a principal's name with its text
 abbrev pub number_token : Label → ℤ → List ℕ → List ℕ → Token
-number_token label z digits note = record { form = form.Number; label = label; octets = digits; note = note; number = Some z; components = [] }
+number_token label z digits note = record { form = form.Number; label = label; octets = digits; note = note; number = Some z; components = []; place = None }
 
 abbrev pub name_token : Label → List ℕ → List (List ℕ) → Token
-name_token label text components = record { form = form.Text; label = label; octets = text; note = []; number = None; components = components }
+name_token label text components = record { form = form.Text; label = label; octets = text; note = []; number = None; components = components; place = None }
+
+-- ---- places
+
+-- the token with this place, and the token at this index with it
+abbrev pub placed : Place → Token → Token
+placed place t = record t { place = Some place }
+
+abbrev pub placed_at : Place → ℕ → List Token → List Token
+placed_at place i [] = []
+placed_at place zero (t ∷ ts) = placed place t ∷ ts
+placed_at place (suc i) (t ∷ ts) = t ∷ placed_at place i ts
+
+-- Behind so many tokens the first and the last have this place: one token that is a value, or those where a struct or a list begins and ends.
+abbrev pub placed_behind : Place → ℕ → List Token → List Token
+placed_behind place n page =
+    if nat_lt n (length page) then placed_at place (length page - 1) (placed_at place n page) else page

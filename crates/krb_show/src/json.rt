@@ -107,7 +107,7 @@ fn push_octets(out: &mut Vec<u8>, octets: &[u8]) -> Result<(), AllocError>
 }
 
 /// Appends what stands behind the key of a token.
-fn push_value(out: &mut Vec<u8>, token: &Token) -> Result<(), AllocError>
+pub(crate) fn push_value(out: &mut Vec<u8>, token: &Token) -> Result<(), AllocError>
     ensures { OnOk result (out.new.items ≡ out.old.items ++ json_value token.now.form token.now) }
 {
     match token.form() {
@@ -125,7 +125,7 @@ fn push_value(out: &mut Vec<u8>, token: &Token) -> Result<(), AllocError>
 }
 
 /// Whether a struct or a list ends here.
-fn ends(form: Form) -> bool
+pub(crate) fn ends(form: Form) -> bool
     ensures { result ≡ ends form }
 {
     match form {
@@ -136,7 +136,7 @@ fn ends(form: Form) -> bool
 }
 
 /// Whether a struct or a list begins here.
-fn begins(form: Form) -> bool
+pub(crate) fn begins(form: Form) -> bool
     ensures { result ≡ begins form }
 {
     match form {
@@ -159,7 +159,7 @@ fn push_key(out: &mut Vec<u8>, token: &Token) -> Result<(), AllocError>
 }
 
 /// Appends what stands before a value.
-fn push_before(out: &mut Vec<u8>, first: bool, token: &Token) -> Result<(), AllocError>
+pub(crate) fn push_before(out: &mut Vec<u8>, first: bool, token: &Token) -> Result<(), AllocError>
     ensures { OnOk result (out.new.items ≡ out.old.items ++ json_before first token.now) }
 {
     if ends(token.form()) {

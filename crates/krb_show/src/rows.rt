@@ -3,11 +3,13 @@ mod formats;
 mod items;
 mod leaves;
 mod names;
+mod placed;
 mod stand;
 mod walk;
 
 pub use formats::{NoFormats, ShowsFormats};
 pub use items::{push_item, push_items};
+pub use placed::push_items_with_places;
 pub use stand::{Secrets, Stand};
 pub use walk::{Walk, show_by_row, walk_named};
 

@@ -84,6 +84,22 @@ fn push_value(out: &mut Vec<u8>, alloc: Global, token: &Token) -> Result<(), All
     }
 }
 
+/// Appends a line.
+pub(crate) fn push_line_start(
+    out: &mut Vec<u8>,
+    alloc: Global,
+    depth: usize,
+    token: &Token,
+) -> Result<(), AllocError>
+    ensures ok { OnOk result (out.new.items ≡ out.old.items ++ line depth token.now) }
+    ensures printable { ArePrintable (line depth token.now) }
+{
+    has_printable_line(token);
+    push_indent(out, depth)?;
+    push_escaped(out, Style::Name, token.text())?;
+    push_value(out, alloc, token)
+}
+
 /// Appends a line and a line feed.
 fn push_line(
     out: &mut Vec<u8>,
@@ -94,10 +110,7 @@ fn push_line(
     ensures ok { OnOk result (out.new.items ≡ out.old.items ++ line depth token.now ++ 10 ∷ []) }
     ensures printable { ArePrintable (line depth token.now) }
 {
-    has_printable_line(token);
-    push_indent(out, depth)?;
-    push_escaped(out, Style::Name, token.text())?;
-    push_value(out, alloc, token)?;
+    push_line_start(out, alloc, depth, token)?;
     out.push(b'\n')?;
     Ok(())
 }
@@ -113,7 +126,7 @@ fn has_printable_line(token: &Token)
 }
 
 /// How far in the next token is.
-fn depth_after(depth: usize, form: Form) -> usize
+pub(crate) fn depth_after(depth: usize, form: Form) -> usize
     requires { depth + 1 < 2 ^ 64 }
     ensures { result ≡ depth_after depth form }
 {

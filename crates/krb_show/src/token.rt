@@ -2,8 +2,9 @@
 
 ghost use Rattle.std.specs.Prelude.{◌≡◌, ℕ, Bool, true, false, Option, None, Some, List, [], ◌∷◌, ◌++◌, map, take, length, OnOk, OnErr};
 ghost use Rattle.krb_schema.specs.declared.shape.Role.TheVariants as roles;
-ghost use Rattle.krb_show.specs.Tokens.{Label, Token, item_of, leaf, mark, name_token, noted, number_token, Begins, adds};
+ghost use Rattle.krb_show.specs.Tokens.{Label, Token, item_of, leaf, mark, name_token, noted, number_token, placed, Begins, adds};
 
+use krb_message_fields::places::Place;
 use krb_registry::Kind;
 use krb_schema::Role;
 use std::alloc::{AllocError, Global};
@@ -107,6 +108,7 @@ pub struct Token {
     note: Vec<u8>,
     number: Option<i64>,
     components: Vec<Vec<u8>>,
+    place: Option<Place>,
 }
 
 impl Model for Token {
@@ -119,13 +121,14 @@ impl Model for Token {
       note = t.note.items;
       number = t.number;
       components = map (λ c. c.items) t.components.items;
+      place = t.place;
     } };
 }
 
 impl Token {
-    /// A word under the same label, in its place.
+    /// A word under the same label, which stands for it and has its place.
     pub fn with_word(self, alloc: Global, word: Vec<u8>) -> Token
-        ensures { result ≡ leaf Form.Word self.label word.items }
+        ensures { result ≡ record (leaf Form.Word self.label word.items) { place = self.place } }
     {
         let Token {
             form: _,
@@ -137,6 +140,7 @@ impl Token {
             note: _,
             number: _,
             components: _,
+            place,
         } = self;
         Token {
             form: Form::Word,
@@ -148,7 +152,15 @@ impl Token {
             note: Vec::new(alloc),
             number: None,
             components: Vec::new(alloc),
+            place,
         }
+    }
+
+    /// Gives it this place.
+    pub(crate) fn set_place(&mut self, place: Place)
+        ensures { self.new ≡ placed place self.old }
+    {
+        self.place = Some(place);
     }
 
     /// What it is.
@@ -213,6 +225,15 @@ impl Token {
     {
         self.components.as_slice()
     }
+
+    /// The place of the content of the element that it is of, in the octets in which that element
+    /// stands; of what was decrypted these are the decrypted octets. `None` if it is of no element,
+    /// or if the page was made without places.
+    pub fn place(&self) -> Option<Place>
+        ensures { result ≡ self.now.place }
+    {
+        self.place
+    }
 }
 
 /// Tokens in their order.
@@ -236,6 +257,7 @@ fn push_whole(
       note = note.items;
       number = number;
       components = map (λ c. c.items) components.items;
+      place = None;
     }) page.old.items page.new.items) }
     ensures kept { OnOk result (Begins page.old.items page.new.items) }
     ensures err { OnErr result (page.new.items ≡ page.old.items) }
@@ -252,6 +274,7 @@ fn push_whole(
         note,
         number,
         components,
+        place: None,
     })?;
     Ok(())
 }
