@@ -40,7 +40,7 @@ _jolmurig_option_or_file() {
 _jolmurig_arguments() {
     case ${COMP_WORDS[1]} in
         show)
-            _jolmurig_option_or_file "--as --tree --json --type --key --key-file --keytab --password-file
+            _jolmurig_option_or_file "--as --tree --json --type --places --key --key-file --keytab --password-file
                 --all-found-keys --show-keys --no-keys"
             ;;
         check) _jolmurig_option_or_file "--as" ;;

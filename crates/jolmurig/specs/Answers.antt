@@ -4,6 +4,8 @@ use Rattle.std.specs.declared.alloc.Global.{Global}
 use Rattle.krb_show.specs.Tokens.{Token}
 use Rattle.krb_show.specs.Text.{AreLines, page_text, text_of_lines}
 use Rattle.krb_show.specs.Json.{json_line}
+use Rattle.krb_show.specs.JsonWithPlaces.{json_line_with_places}
+use Rattle.krb_show.specs.TextWithPlaces.{page_text_with_places}
 use Rattle.krb_show_any.specs.declared.kind.Kind.{Kind}
 use Rattle.krb_show_keys.specs.Hidden.{hidden_page}
 use Rattle.krb_decrypt.specs.Keys.{NamedKey}
@@ -13,6 +15,7 @@ use Rattle.krb_show_keys.specs.PasswordKeys.{KeysOfPasswords}
 use Rattle.krb_show_keys.specs.Salts.{salts_of}
 use Rattle.krb_show_any.specs.declared.error.PageError.{PageError}
 use Rattle.krb_show_any.specs.Kinds.{kind_of}
+use Rattle.krb_show_any.specs.Placed.{IsPlacedPage}
 use Rattle.jolmurig.specs.declared.command.Output.{Output}
 use Rattle.jolmurig.specs.declared.command.Output.TheVariants as output
 use Rattle.jolmurig.specs.declared.failure.Failure.{Failure}
@@ -31,6 +34,14 @@ abbrev pub output_text : Output → List Token → List ℕ
 output_text output.Text page = page_text page
 output_text output.Json page = json_line page ++ 10 ∷ []
 output_text output.Type page = type_line page
+output_text output.TextWithPlaces page = page_text_with_places page
+output_text output.JsonWithPlaces page = json_line_with_places page ++ 10 ∷ []
+
+-- a page of octets of a kind, with the places of its elements where they are written
+abbrev pub is_placed_for : Output → Kind → List ℕ → List Token → List Token → Type 0
+is_placed_for output.TextWithPlaces kind octets page made = IsPlacedPage kind octets page made
+is_placed_for output.JsonWithPlaces kind octets page made = IsPlacedPage kind octets page made
+is_placed_for form kind octets page made = made ≡ page
 
 -- a page with the octets of its keys, or without
 abbrev pub shown_keys : Bool → List Token → List Token
@@ -67,6 +78,13 @@ pub record IsWrittenOf (opens : Opens) (openers : Openers) (page : List Token) (
   pub is_detailed : IsWithContents opened detailed
   pub is_made : made ≡ output_text form (shown_keys shows_keys detailed)
 
+-- this is written of the page of octets of a kind, with the places of its elements where they are written
+pub record IsWrittenAs (opens : Opens) (openers : Openers) (kind : Kind) (octets : List ℕ) (page : List Token) (form : Output)
+    (shows_keys : Bool) (made : List ℕ) : Type 0 where
+  pub placed : List Token
+  pub is_placed : is_placed_for form kind octets page placed
+  pub is_written : IsWrittenOf opens openers placed form shows_keys made
+
 -- What octets of a kind are told as: the page that they have, or the error.
 module _ (tells : Kind → List ℕ → Result (Vec Token Global) PageError → Type 0) (opens : Opens) where
   -- the octets are of a kind and have a page, and this is written of it
@@ -75,7 +93,7 @@ module _ (tells : Kind → List ℕ → Result (Vec Token Global) PageError → 
     pub is_kind : chosen asked octets ≡ Some kind
     pub page : Vec Token Global
     pub told : tells kind octets (Ok page)
-    pub is_written : IsWrittenOf opens openers page.items form shows_keys made
+    pub is_written : IsWrittenAs opens openers kind octets page.items form shows_keys made
 
   -- the octets are of a kind and have no page, for this reason, which is at this place
   pub record HasNoPage (places : Places) (asked : Option Kind) (octets : List ℕ) (e : Failure) : Type 0 where

@@ -42,6 +42,9 @@ with_output form s = output_free s.output
     output_free None = Some (record s { output = Some form })
     output_free (Some other) = None
 
+abbrev pub with_places : Show → Option Show
+with_places s = Some (record s { shows_places = true })
+
 abbrev pub with_keys_shown : Bool → Show → Option Show
 with_keys_shown shown s = Some (record s { shows_keys = shown })
 
@@ -61,6 +64,7 @@ with_flag w s =
     if is_word w (codes "--tree") then with_tree s
     else if is_word w (codes "--json") then with_output output.Json s
     else if is_word w (codes "--type") then with_output output.Type s
+    else if is_word w (codes "--places") then with_places s
     else if is_word w (codes "--show-keys") then with_keys_shown true s
     else if is_word w (codes "--no-keys") then with_keys_shown false s
     else if is_word w (codes "--all-found-keys") then with_all_tried s

@@ -167,9 +167,14 @@ IsKindOf s found = by_name s.type_name s.is_tree
 abbrev pub IsOfNoKind : Show → Type 0
 IsOfNoKind s = (name : List ℕ) × (s.type_name ≡ Some name) × IsNamed name None
 
--- the output that is asked for: lines where none is
+-- the output that is asked for: lines where none is; lines and JSON with places where these are
+abbrev pub placed_output : Bool → Output → Output
+placed_output true output.Text = output.TextWithPlaces
+placed_output true output.Json = output.JsonWithPlaces
+placed_output places form = form
+
 abbrev pub output_of : Show → Output
-output_of s = unwrap_or s.output output.Text
+output_of s = placed_output s.shows_places (unwrap_or s.output output.Text)
 
 -- what is asked to be shown has a kind, and these open what is sealed
 pub record IsPrepared (gives : Gives) (s : Show) (kind : Option Kind) (openers : Openers) : Type 0 where

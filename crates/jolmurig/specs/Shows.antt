@@ -12,6 +12,7 @@ pub record Show : Type 0 where
   pub type_name : Option (List ℕ)
   pub is_tree : Bool
   pub output : Option Output
+  pub shows_places : Bool
   pub shows_keys : Bool
   pub tries_all : Bool
   pub sources : List Source
@@ -20,4 +21,4 @@ pub record Show : Type 0 where
 
 -- without any option
 abbrev pub nothing_asked : Show
-nothing_asked = record { type_name = None; is_tree = false; output = None; shows_keys = false; tries_all = false; sources = []; password_files = []; file = None }
+nothing_asked = record { type_name = None; is_tree = false; output = None; shows_places = false; shows_keys = false; tries_all = false; sources = []; password_files = []; file = None }

@@ -2,7 +2,7 @@
 
 ghost use Rattle.std.specs.Prelude.{◌≡◌, ◌⊎◌, ◌-◌, ◌++◌, ◌∷◌, [], length, take, IfOk, IfErr};
 ghost use Rattle.std.specs.String.{string_bytes};
-ghost use Rattle.jolmurig.specs.Answers.{AreKeysFor, ArePrintableLines, chosen, IsRefused, IsWritten, IsWrittenOf, most_of, output_text, shown_keys, type_line};
+ghost use Rattle.jolmurig.specs.Answers.{AreKeysFor, ArePrintableLines, chosen, is_placed_for, IsRefused, IsWritten, IsWrittenAs, IsWrittenOf, most_of, output_text, shown_keys, type_line};
 ghost use Rattle.jolmurig.specs.declared.command.Output.TheVariants as output;
 ghost use Rattle.jolmurig.specs.declared.failure.Failure.TheVariants as failure;
 
@@ -11,8 +11,10 @@ use crate::command::Output;
 use crate::failure::Failure;
 use crate::openers::Openers;
 use krb_decrypt::{Key, MOST_FOUND};
-use krb_show::{Page, Token, json_of_page, text_of_page};
-use krb_show_any::{Kind, PageError, Pages, kind_of_octets};
+use krb_show::{
+    Page, Token, json_of_page, json_of_page_with_places, text_of_page, text_of_page_with_places,
+};
+use krb_show_any::{Kind, PageError, Pages, kind_of_octets, page_with_places};
 use krb_show_keys::{keys_of_passwords, without_keys};
 use krb_show_pac::page_with_contents;
 use std::alloc::{AllocError, Global};
@@ -66,6 +68,22 @@ fn json(alloc: Global, page: &[Token]) -> Result<Vec<u8>, AllocError>
     Ok(octets_of(json_of_page(alloc, page)?))
 }
 
+/// The text of a page with places, in lines.
+fn text_with_places(alloc: Global, page: &[Token]) -> Result<Vec<u8>, AllocError>
+    ensures text { IfOk result (λ made. made.items ≡ output_text output.TextWithPlaces page.now) }
+    ensures printable { IfOk result (λ made. ArePrintableLines made.items) }
+{
+    Ok(octets_of(text_of_page_with_places(alloc, page)?))
+}
+
+/// A page with places as JSON, in a line.
+fn json_with_places(alloc: Global, page: &[Token]) -> Result<Vec<u8>, AllocError>
+    ensures json { IfOk result (λ made. made.items ≡ output_text output.JsonWithPlaces page.now) }
+    ensures printable { IfOk result (λ made. ArePrintableLines made.items) }
+{
+    Ok(octets_of(json_of_page_with_places(alloc, page)?))
+}
+
 /// What is written of a page.
 fn written(alloc: Global, output: Output, page: &[Token]) -> Result<Vec<u8>, AllocError>
     ensures made { IfOk result (λ made. made.items ≡ output_text output page.now) }
@@ -75,6 +93,8 @@ fn written(alloc: Global, output: Output, page: &[Token]) -> Result<Vec<u8>, All
         Output::Text => text(alloc, page),
         Output::Json => json(alloc, page),
         Output::Type => type_line(alloc, page),
+        Output::TextWithPlaces => text_with_places(alloc, page),
+        Output::JsonWithPlaces => json_with_places(alloc, page),
     }
 }
 
@@ -144,6 +164,41 @@ fn written_opened<C: Calls>(
     written(alloc, output, &page)
 }
 
+/// The page of octets of a kind, with the places of its elements where they are written.
+fn placed_for(
+    alloc: Global,
+    output: Output,
+    kind: Kind,
+    octets: &[u8],
+    page: Page,
+) -> Result<Page, AllocError>
+    ensures { IfOk result (λ made. is_placed_for output kind octets.now page.items made.items) }
+{
+    match output {
+        Output::TextWithPlaces | Output::JsonWithPlaces => {
+            page_with_places(alloc, kind, octets, page)
+        }
+        Output::Text | Output::Json | Output::Type => Ok(page),
+    }
+}
+
+/// What is written of the page of octets of a kind.
+fn written_as<C: Calls>(
+    alloc: Global,
+    kind: Kind,
+    output: Output,
+    shows_keys: bool,
+    openers: Openers,
+    octets: &[u8],
+    page: Page,
+) -> Result<Vec<u8>, AllocError>
+    ensures made { IfOk result (λ made. IsWrittenAs C.opens openers kind octets.now page.items output shows_keys made.items) }
+    ensures printable { IfOk result (λ made. ArePrintableLines made.items) }
+{
+    let placed = placed_for(alloc, output, kind, octets, page)?;
+    written_opened::<C>(alloc, output, shows_keys, openers, placed)
+}
+
 /// What is written for octets.
 pub fn shown<S: Pages<Kind, PageError>, C: Calls>(
     alloc: Global,
@@ -161,7 +216,7 @@ pub fn shown<S: Pages<Kind, PageError>, C: Calls>(
         return Err(Failure::UnknownKind);
     };
     match S::page_of(alloc, kind, octets) {
-        Ok(page) => Ok(written_opened::<C>(alloc, output, shows_keys, openers, page)?),
+        Ok(page) => Ok(written_as::<C>(alloc, kind, output, shows_keys, openers, octets, page)?),
         Err(PageError::OutOfMemory) => Err(Failure::Memory),
         Err(why) => {
             let place = C::place_of(alloc, kind, &why, octets)?;

@@ -11,6 +11,10 @@ pub enum Output {
     Json,
     /// Its first line alone, which names the type: the option `--type`.
     Type,
+    /// Its indented lines with places: the option `--places`.
+    TextWithPlaces,
+    /// A line of JSON with places: the options `--json` and `--places`.
+    JsonWithPlaces,
 }
 
 /// Where keys are.
@@ -65,6 +69,8 @@ pub struct Show<'a> {
     pub is_tree: bool,
     /// What is written, where an option names it.
     pub output: Option<Output>,
+    /// Whether the places of elements are written: the option `--places`.
+    pub shows_places: bool,
     /// Whether the octets of keys are shown: the option `--show-keys`.
     pub shows_keys: bool,
     /// Whether all keys are tried that are found in what is opened: the option `--all-found-keys`.
@@ -87,6 +93,7 @@ impl<'a> Model for Show<'a> {
       type_name = option_copied s.type_name;
       is_tree = s.is_tree;
       output = s.output;
+      shows_places = s.shows_places;
       shows_keys = s.shows_keys;
       tries_all = s.tries_all;
       sources = s.sources.items;

@@ -5,7 +5,7 @@ ghost use Rattle.std.specs.Io.KnownBytes.{Appends};
 ghost use Rattle.std.specs.String.{string_bytes};
 ghost use Rattle.jolmurig.specs.Failures.{line_of, status_of_failure};
 ghost use Rattle.jolmurig.specs.Outcome.{AreNotesWritten, HasTaken, IsCheckRun, IsCheckRunAs, IsConvertRun, IsInputRejected, IsKindOf, IsLeft, IsLineWritten, IsListRun, IsMade, IsTold};
-ghost use Rattle.jolmurig.specs.Outcome.{IsNotMade, IsOfNoKind, IsPrepared, IsProxyRun, IsRun, IsRunOf, IsShowRun, IsUnprepared, Outcome, output_of, status_of};
+ghost use Rattle.jolmurig.specs.Outcome.{IsNotMade, IsOfNoKind, IsPrepared, IsProxyRun, IsRun, IsRunOf, IsShowRun, IsUnprepared, Outcome, output_of, placed_output, status_of};
 ghost use Rattle.jolmurig.specs.declared.failure.Failure.{Failure};
 
 use crate::answer::shown;
@@ -63,11 +63,22 @@ fn kind_asked(show: &Show) -> Result<Option<Kind>, Failure>
     }
 }
 
+/// An output with places, where these are asked for.
+fn placed_output(shows_places: bool, output: Output) -> Output
+    ensures { result ≡ placed_output shows_places output }
+{
+    match (shows_places, output) {
+        (true, Output::Text) => Output::TextWithPlaces,
+        (true, Output::Json) => Output::JsonWithPlaces,
+        (_, output) => output,
+    }
+}
+
 /// The output that is asked for.
 fn output_asked(show: &Show) -> Output
     ensures { result ≡ output_of show.now }
 {
-    show.output.unwrap_or(Output::Text)
+    placed_output(show.shows_places, show.output.unwrap_or(Output::Text))
 }
 
 /// What is asked to be shown, looked up: the kind, and what opens what is sealed.

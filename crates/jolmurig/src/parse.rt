@@ -89,6 +89,11 @@ fn with_flag<'a>(word: &'a str, show: Show<'a>) -> Option<Show<'a>>
         with_output(Output::Json, show)
     } else if is_word(word, "--type") {
         with_output(Output::Type, show)
+    } else if is_word(word, "--places") {
+        Some(Show {
+            shows_places: true,
+            ..show
+        })
     } else if is_word(word, "--show-keys") {
         Some(Show {
             shows_keys: true,
@@ -147,6 +152,7 @@ fn with_source<'a>(kind: SourceKind, text: &'a str, show: Show<'a>) -> Result<Sh
         type_name: show.type_name,
         is_tree: show.is_tree,
         output: show.output,
+        shows_places: show.shows_places,
         shows_keys: show.shows_keys,
         tries_all: show.tries_all,
         sources,
@@ -165,6 +171,7 @@ fn with_password_file<'a>(name: &'a str, show: Show<'a>) -> Result<Show<'a>, All
         type_name: show.type_name,
         is_tree: show.is_tree,
         output: show.output,
+        shows_places: show.shows_places,
         shows_keys: show.shows_keys,
         tries_all: show.tries_all,
         sources: show.sources,
@@ -266,6 +273,7 @@ fn nothing_asked<'a>(alloc: Global) -> Show<'a>
         type_name: None,
         is_tree: false,
         output: None,
+        shows_places: false,
         shows_keys: false,
         tries_all: false,
         sources: Vec::new(alloc),

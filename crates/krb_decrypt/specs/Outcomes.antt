@@ -10,7 +10,6 @@ use Rattle.krb_decrypt.specs.Usages.{type_of, usages_of}
 use Rattle.krb_decrypt.specs.declared.outcome.Outcome.{Outcome}
 use Rattle.krb_decrypt.specs.declared.outcome.Outcome.TheVariants as outcomes
 use Rattle.krb_decrypt.specs.declared.outcome.Part.{Part}
-use Rattle.krb_decrypt.specs.declared.outcome.Reason.{Reason}
 use Rattle.krb_decrypt.specs.declared.outcome.Reason.TheVariants as reasons
 use Rattle.krb_decrypt.specs.declared.usage.Usage.{Usage}
 use Rattle.krb_decrypt.specs.declared.usage.Usage.TheVariants as usage

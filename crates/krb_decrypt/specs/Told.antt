@@ -11,9 +11,10 @@ use Rattle.krb_decrypt.specs.declared.outcome.Reason.{Reason}
 use Rattle.krb_decrypt.specs.declared.outcome.Reason.TheVariants as reasons
 use Rattle.krb_decrypt.specs.declared.usage.Usage.{Usage}
 use Rattle.krb_schema.specs.declared.shape.Role.{Role}
-use Rattle.krb_show.specs.Items.{shown, start as first_stand}
+use Rattle.krb_show.specs.Items.{start as first_stand}
 use Rattle.krb_show.specs.Leaves.{number_of, text_of, unsigned_of}
 use Rattle.krb_show.specs.Pages.{◌then◌}
+use Rattle.krb_show.specs.PlacedItems.{shown_with_places}
 use Rattle.krb_show.specs.Tokens.{Label, Token, plain}
 use Rattle.krb_show.specs.declared.rows.stand.Secrets.TheVariants as secrets
 
@@ -49,9 +50,9 @@ left_out_of (suc n) old new = unsigned_of (plain (codes "keys-not-tried")) (suc 
 
 -- ---- what is said
 
--- the items of a part, as formats that are no DER are told
+-- the items of a part with their places in its octets, as formats that are no DER are told
 abbrev pub part_of : (Role → List ℕ → Label → List ℕ → List Token → List Token → Type 0) → Part → List Token → List Token → Type 0
-part_of tells p old new = shown tells p.octets.items p.items.items (first_stand secrets.Shown) old new
+part_of tells p old new = shown_with_places tells p.octets.items p.items.items (first_stand secrets.Shown) old new
 
 -- behind them stands how many of the keys in them are left out; the others are learned
 pub record IsLearnedFrom (tells : Role → List ℕ → Label → List ℕ → List Token → List Token → Type 0) (most : ℕ) (p : Part)

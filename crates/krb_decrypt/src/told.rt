@@ -11,7 +11,9 @@ use crate::key::Key;
 use crate::outcome::{Outcome, Part, Reason};
 use crate::place::keys_in;
 use crate::usage::Usage;
-use krb_show::{Label, Page, Row, Secrets, Show, ShowsFormats, push_items, show_number, show_text};
+use krb_show::{
+    Label, Page, Row, Secrets, Show, ShowsFormats, push_items_with_places, show_number, show_text,
+};
 use std::alloc::{AllocError, Global};
 
 /// Why a part is not decrypted, in words.
@@ -55,12 +57,12 @@ fn tell_opener(alloc: Global, name: &[u8], usage: Usage, page: &mut Page) -> Res
     show_number(alloc, &key_usage, i64::from(usage.number()), page)
 }
 
-/// Appends the items of a part.
+/// Appends the items of a part, with their places in what is decrypted.
 fn push_part<F: ShowsFormats>(alloc: Global, part: &Part, page: &mut Page) -> Result<(), AllocError>
     ensures ok { OnOk result (part_of F.tells part.now page.old.items page.new.items) }
     ensures kept { OnOk result (Begins page.old.items page.new.items) }
 {
-    push_items::<F>(alloc, Secrets::Shown, &part.octets, &part.items, page)
+    push_items_with_places::<F>(alloc, Secrets::Shown, &part.octets, &part.items, page)
 }
 
 /// Says how many keys are left out, if any are.

@@ -6,3 +6,4 @@ pub mod Rows
 pub mod Frames
 pub mod Places
 pub mod Broken
+pub mod Placed

@@ -1,7 +1,7 @@
 //! Octets of any kind that the library reads, as pages.
 //!
 //! `kind_of_octets` says what octets begin as, `kind_of_name` what a name is of, and `Everything::page_of` makes the page of octets of a kind.
-//! `place_of_error` says where their first error is, and `broken_rules_of` what in them is legal DER and breaks a rule of its standard.
+//! `page_with_places` gives a page the places of its elements, `place_of_error` says where their first error is, and `broken_rules_of` what in them is legal DER and breaks a rule of its standard.
 #![tactic(auto)]
 
 mod applications;
@@ -18,6 +18,7 @@ mod names;
 mod pages;
 mod password_frames;
 mod place;
+mod placed;
 mod rows;
 mod tokens;
 
@@ -34,4 +35,5 @@ pub use names::{kind_of_name, name_of_kind};
 pub use pages::Pages;
 pub use password_frames::PasswordFrames;
 pub use place::place_of_error;
+pub use placed::page_with_places;
 pub use tokens::Tokens;

@@ -14,9 +14,9 @@ is_secret is_clear form.Secret = true
 is_secret is_clear form.Cipher = is_clear
 is_secret is_clear f = false
 
--- what stands for them
+-- what stands for them, in their place
 abbrev pub hiding : Token → Token
-hiding t = leaf form.Word t.label (codes "hidden")
+hiding t = record (leaf form.Word t.label (codes "hidden")) { place = t.place }
 
 -- a token, where it holds none
 abbrev pub hidden : Bool → Token → Token

@@ -2,14 +2,15 @@
 
 pub use krb_input::{InputError, octets_of_input};
 pub use krb_show::{
-    Field, Form, Label, NoFormats, Page, Role, Secrets, Show, ShowFields, ShowsFormats, Token,
-    Walk, json_of_page, page_of_octets, page_of_tree, push_items, show_by_row, show_identifier,
-    show_list, show_number, show_octets, show_opened, show_struct, show_text, show_word, tag_name,
-    text_of_page, walk_named,
+    Field, Form, Label, NoFormats, Page, Place, Role, Secrets, Show, ShowFields, ShowsFormats,
+    Token, Walk, json_of_page, json_of_page_with_places, page_of_octets, page_of_tree, push_items,
+    push_items_with_places, show_by_row, show_identifier, show_list, show_number, show_octets,
+    show_opened, show_struct, show_text, show_word, tag_name, text_of_page,
+    text_of_page_with_places, walk_named,
 };
 pub use krb_show_any::{
     Everything, Kind, PageError, Pages, broken_rules_of, kind_of_name, kind_of_octets,
-    name_of_kind, place_of_error,
+    name_of_kind, page_with_places, place_of_error,
 };
 pub use krb_show_files::{FilePageError, page_of_ccache, page_of_keytab};
 pub use krb_show_messages::{

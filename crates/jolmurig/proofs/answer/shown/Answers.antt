@@ -7,5 +7,5 @@ returns-in-Ok-clause-found g c = record {
   is_kind = sym c.in-Some.ensures;
   page = c.in-Ok.page;
   told = c.in-Ok.ensures;
-  is_written = c.in_ok-written_opened-in-Ok.ensures.made;
+  is_written = c.in_ok-written_as-in-Ok.ensures.made;
 }
