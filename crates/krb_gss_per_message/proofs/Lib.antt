@@ -7,3 +7,6 @@ pub mod Openings
 pub mod Plaintexts
 pub mod ShortSums
 pub mod Wraps
+pub mod SequenceSlots
+pub mod SequenceTaking
+pub mod SequenceRuns

@@ -6,3 +6,4 @@ pub mod Mic
 pub mod Wrap
 pub mod Unwrap
 pub mod UnwrapSteps
+pub mod Sequence

@@ -3,9 +3,12 @@
 ghost use Rattle.std.specs.Prelude.{◌≡◌, ◌<◌, ◌^◌, ℕ, Bool, true, false, List, length};
 ghost use Rattle.krb_gss_per_message.specs.Keys.{Key, IsNewer};
 ghost use Rattle.krb_gss_per_message.specs.Mic.{IsMic, IsMicOf, RefusesMic};
+ghost use Rattle.krb_gss_per_message.specs.Sequence.{AreTaken, Arrival, Becomes, IsOrder, IsTaken, NeverTaken, WasTaken, Window, has};
 ghost use Rattle.krb_gss_per_message.specs.Unwrap.{IsUnwrapped};
 ghost use Rattle.krb_gss_per_message.specs.Wrap.{IsWrapped, IsWrappedInClear};
 ghost use Rattle.krb_gss_per_message.specs.declared.error.ProtectionError.{ProtectionError};
+ghost use Rattle.krb_gss_per_message.specs.declared.sequence.Order.{Order};
+ghost use Rattle.krb_gss_per_message.specs.declared.sequence.Order.TheVariants as order;
 
 /// A MIC token that a key's sender makes holds of its message, with its number; a token has one number, and where it holds it is not refused
 /// but for want of memory. So `verify_mic` returns the number that `make_mic` was given (RFC 4121, 4.2.4 and 4.2.6.1).
@@ -32,4 +35,14 @@ pub fn directions()
         → IsMicOf other other_message token n → key.sender ≡ other.sender }
     ensures wrap_tokens { (key other : Key) (a b : Bool) (message other_message token : List ℕ) (m n : ℕ) → IsUnwrapped key token a m message
         → IsUnwrapped other token b n other_message → key.sender ≡ other.sender }
+{}
+
+/// A sequence number that was taken is never taken again, whatever comes between; and a number is told as replayed only if it
+/// was taken before, since a window in which no number was (RFC 2743, 1.2.3).
+#[tactic(auto, using(crate::proofs::SequenceRuns::never_again, crate::proofs::SequenceRuns::replayed_was_taken))]
+pub fn sequence_numbers()
+    ensures once { (old between new : Window) (number : ℕ) (was : Order) (rest : List Arrival) → IsOrder old number was → IsTaken was
+        → Becomes was old number between → AreTaken between rest new → NeverTaken number rest }
+    ensures replayed { (old new : Window) (number : ℕ) (before : List Arrival) → ((n : ℕ) → has old n ≡ false) → AreTaken old before new
+        → IsOrder new number order.Replayed → WasTaken number before }
 {}
