@@ -5,6 +5,8 @@
 #![tactic(auto)]
 
 #[cfg(test)]
+mod accept_rules;
+#[cfg(test)]
 mod built_ccache;
 #[cfg(test)]
 mod built_keytab;

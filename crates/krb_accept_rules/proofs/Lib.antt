@@ -1,0 +1,11 @@
+pub mod FirstFaults
+pub mod Firsts
+pub mod Among
+pub mod Orders
+pub mod Comparing
+pub mod Steps
+pub mod Same
+pub mod Once
+pub mod Runs
+pub mod Forms
+pub mod Refused

@@ -1,0 +1,33 @@
+//! The rules by which a service lets a client in (RFC 4120, 3.2.3), the cache of what it accepted,
+//! and the decision over any way in which requests are read and opened.
+#![tactic(auto)]
+
+mod accepted;
+mod authenticator;
+mod cache;
+mod decision;
+mod elements;
+mod fields;
+mod flags;
+mod key;
+pub mod laws;
+mod names;
+mod numbers;
+mod opening;
+mod presentation;
+mod refusal;
+mod request;
+mod seconds;
+mod session;
+mod terms;
+mod ticket;
+
+pub use accepted::{Accepted, Presented};
+pub use cache::{Entry, ReplayCache};
+pub use decision::{accept, admit};
+pub use fields::{AuthenticatorFields, RequestFields, TicketFields};
+pub use key::ServiceKey;
+pub use opening::Opening;
+pub use presentation::present;
+pub use refusal::{Refusal, Rule};
+pub use terms::{Arrival, Terms};
