@@ -4,6 +4,7 @@
 //! original takes its ASN.1 types from.
 #![tactic(auto)]
 
+pub mod accept;
 pub mod build;
 pub mod ccache;
 pub mod constants;

@@ -1,9 +1,11 @@
-//! The program `test_crypto`: cryptography of Kerberos, the calls of the library for C over it, tokens and checksums of PACs.
+//! The program `test_crypto`: cryptography of Kerberos, the calls of the library for C over it, tokens, checksums of PACs, and
+//! whether a service lets clients in.
 //!
 //! Its standard input is tables of test vectors (`test_rows`). The module of a table says what its rows are and what is printed of
 //! each.
 #![tactic(auto)]
 
+mod accepted;
 mod c_calls;
 mod c_tokens;
 mod crypto;
@@ -23,6 +25,7 @@ impl Tables for Cryptography {
             "crypto" => crypto::answer(alloc, columns)?,
             "calls" => c_calls::answer(alloc, columns)?,
             "tokens" => c_tokens::answer(alloc, columns)?,
+            "accepted" => accepted::answer(alloc, columns)?,
             "pac checksums" => pac_checksums::answer(alloc, columns)?,
             _ => return Err(RowError::NoTable),
         };

@@ -1,0 +1,17 @@
+pub mod Openings
+pub mod Seals
+pub mod Suites
+pub mod Found
+pub mod Frames
+pub mod Comparing
+pub mod Made
+pub mod FileTimes
+pub mod Pacs
+pub mod TextLists
+pub mod Texts
+pub mod EntryOctets
+pub mod Steps
+pub mod Matching
+pub mod Delegations
+pub mod WithKeys
+pub mod ThirdLegs

@@ -1,0 +1,35 @@
+-- What is said of the part of a third leg, said of the message.
+use Rattle.std.proofs.Common.{◌≡◌, inl, inr, refl, subst, ℤ, pos, Result, Ok, Err, Some, IfErr, OnOk}
+use Rattle.krb_accept_rules.specs.Values.{HasNone, IsTheValue}
+use Rattle.krb_accept_rules.specs.declared.accepted.Accepted.{Accepted}
+use Rattle.krb_der_core.specs.declared.der.DerEncode.{Ghosts as EncodingOf}
+use Rattle.krb_enc_parts.specs.declared.data_types.authenticators.EncApRepPartInner.{EncApRepPartInner}
+use Rattle.krb_messages.specs.declared.messages.application.ApRepInner.{ApRepInner}
+use Rattle.krb_types.specs.declared.data_types.encryption.EncryptedData.{EncryptedData}
+use Rattle.krb_accept.specs.ThirdLeg.{HasNumbers, HasTime, IsNoThirdLeg, IsNotAgreed, IsThirdLeg}
+use Rattle.krb_accept.specs.WithKey.{IsSealedWith}
+use Rattle.krb_accept.specs.declared.third_leg.ThirdLegError.{ThirdLegError}
+use Rattle.krb_accept.specs.declared.third_leg.ThirdLegError.TheVariants as errors
+use Rattle.krb_accept.proofs.Matching.{err_so}
+
+pub agreed : {A : Type 0} (part : EncodingOf EncApRepPartInner) (a : Accepted) (number : ℤ) (m : ApRepInner) (sealed : EncryptedData) (v : EncApRepPartInner) (r : Result A ThirdLegError)
+    → HasNumbers m → sealed ≡ m.enc_part → IsTheValue (IsSealedWith part a.ticket.key (pos 12) sealed) v → OnOk r (HasTime a v × (v.seq_number.0 ≡ Some number))
+    → OnOk r (IsThirdLeg part a number m)
+agreed part a number m sealed v (Ok x) numbers same the h = record {
+  value = v;
+  numbers = numbers;
+  value_is = subst (λ (x : EncryptedData). IsTheValue (IsSealedWith part a.ticket.key (pos 12) x) v) same the;
+  time = h.0;
+  number_is = h.1;
+}
+agreed part a number m sealed v (Err e) numbers same the h = h
+
+pub not_agreed : {A : Type 0} (part : EncodingOf EncApRepPartInner) (a : Accepted) (number : ℤ) (m : ApRepInner) (sealed : EncryptedData) (v : EncApRepPartInner) (r : Result A ThirdLegError)
+    → HasNumbers m → sealed ≡ m.enc_part → IsTheValue (IsSealedWith part a.ticket.key (pos 12) sealed) v → IfErr r (IsNotAgreed a number v) → IfErr r (IsNoThirdLeg part a number m)
+not_agreed part a number m sealed v r numbers same the h =
+    err_so _ _ (λ e n. inr (inr (inr (v, numbers, subst (λ (x : EncryptedData). IsTheValue (IsSealedWith part a.ticket.key (pos 12) x) v) same the, n)))) r h
+
+pub not_opened : (part : EncodingOf EncApRepPartInner) (a : Accepted) (number : ℤ) (m : ApRepInner) (sealed : EncryptedData) → HasNumbers m → sealed ≡ m.enc_part
+    → HasNone (IsSealedWith part a.ticket.key (pos 12) sealed) → IsNoThirdLeg part a number m errors.Part
+not_opened part a number m sealed numbers same none =
+    inr (inr (inl (numbers, refl, subst (λ (x : EncryptedData). HasNone (IsSealedWith part a.ticket.key (pos 12) x)) same none)))

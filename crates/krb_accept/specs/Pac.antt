@@ -1,0 +1,132 @@
+-- The PAC of a ticket: where it is (MS-PAC, 2.1; RFC 4120, 5.2.6.1), and its rules (MS-PAC, 2.7 and 2.8.1; MS-KILE, 3.4.5.2).
+use Rattle.std.specs.Prelude.{◌≡◌, ◌⊎◌, ⊤, ℕ, ℤ, pos, ◌+ℤ◌, ◌*◌, List, [], ◌∷◌, ◌++◌, Option, None, Some, Ok, Err}
+use Rattle.std.specs.List.{flat_map}
+use Rattle.byteorder.specs.Endian.{little_number}
+use Rattle.krb_accept_rules.specs.Firsts.{IsFirst, NoneIs}
+use Rattle.krb_accept_rules.specs.declared.fields.TicketFields.{TicketFields}
+use Rattle.krb_der_core.specs.declared.der.DerEncode.{Ghosts as EncodingOf}
+use Rattle.krb_pac.specs.Numbered.{NumberedBuffer, NumberedPacIs, NumberedPacRejected, first_numbered}
+use Rattle.krb_pac.specs.declared.error.PacError.{PacError}
+use Rattle.krb_pac_contents.specs.Client.{client_info_of, client_name}
+use Rattle.krb_pac_contents.specs.declared.buffers.error.BufferError.{BufferError}
+use Rattle.krb_pac_signatures.specs.Signatures.{Signatures, SignaturesOf, SignaturesRejected, server_message}
+use Rattle.krb_pac_signatures.specs.Verdict.{IsVerdictOf}
+use Rattle.krb_pac_signatures.specs.declared.error.PacSignatureError.{PacSignatureError}
+use Rattle.krb_pac_signatures.specs.declared.verdict.Verdict.TheVariants as verdict
+use Rattle.krb_types.specs.Times.{unix_seconds}
+use Rattle.krb_types.specs.declared.data_types.authorization_data.AuthorizationDataInner.{AuthorizationDataInner}
+use Rattle.krb_accept.specs.Opening.{Encodes}
+use Rattle.krb_accept.specs.TokenRefusals.{memory}
+use Rattle.krb_accept.specs.declared.settings.PacCheck.{PacCheck}
+use Rattle.krb_accept.specs.declared.settings.PacCheck.TheVariants as checks
+use Rattle.krb_accept.specs.declared.token_refusal.TokenRefusal.{TokenRefusal}
+use Rattle.krb_accept.specs.declared.token_refusal.TokenRefusal.TheVariants as refusal
+
+-- ---- where it is
+
+-- an AD-WIN2K-PAC (RFC 4120, 7.5.4)
+abbrev pub IsPac : AuthorizationDataInner → Type 0
+IsPac e = e.ad_type ≡ pos 128
+
+-- an AD-IF-RELEVANT, whose first AD-WIN2K-PAC has these octets
+pub record HoldsPac (t : EncodingOf (List AuthorizationDataInner)) (e : AuthorizationDataInner) (octets : List ℕ) : Type 0 where
+  pub elements : List AuthorizationDataInner
+  pub pac : AuthorizationDataInner
+  pub if_relevant : e.ad_type ≡ pos 1
+  pub encoded : Encodes t e.ad_data elements
+  pub is_first : IsFirst IsPac elements pac
+  pub octets_are : octets ≡ pac.ad_data
+
+abbrev pub HasPac : EncodingOf (List AuthorizationDataInner) → AuthorizationDataInner → Type 0
+HasPac t e = (octets : List ℕ) × HoldsPac t e octets
+
+-- the first element that has a PAC has this one
+pub record IsPacOf (t : EncodingOf (List AuthorizationDataInner)) (elements : List AuthorizationDataInner) (octets : List ℕ) : Type 0 where
+  pub element : AuthorizationDataInner
+  pub is_first : IsFirst (HasPac t) elements element
+  pub holds : HoldsPac t element octets
+
+abbrev pub TicketPac : EncodingOf (List AuthorizationDataInner) → Option (List AuthorizationDataInner) → List ℕ → Type 0
+TicketPac t None octets = ⊥
+TicketPac t (Some elements) octets = IsPacOf t elements octets
+
+abbrev pub NoPacOf : EncodingOf (List AuthorizationDataInner) → Option (List AuthorizationDataInner) → Type 0
+NoPacOf t None = ⊤
+NoPacOf t (Some elements) = NoneIs (HasPac t) elements
+
+-- ---- its server checksum (MS-PAC, 2.8.1)
+
+-- it is there, and holds under the key
+abbrev pub HasServerChecksum : Signatures → List ℕ → Type 0
+HasServerChecksum s key = IsVerdictOf s.server key (server_message s) verdict.Holds
+
+-- ---- PAC_CLIENT_INFO (MS-PAC, 2.7)
+
+-- the octets are a PAC, whose first buffer of type 10 this is
+pub record HasInfo (octets info : List ℕ) : Type 0 where
+  pub pac : List NumberedBuffer
+  pub buffer : NumberedBuffer
+  pub is_pac : NumberedPacIs octets pac
+  pub is_first : first_numbered 10 pac ≡ Some buffer
+  pub is_info : client_info_of buffer.octets ≡ Ok info
+
+-- they are none; or it has no such buffer; or this is not laid out so
+abbrev pub HasNoInfo : List ℕ → Type 0
+HasNoInfo octets =
+    ((e : PacError) × NumberedPacRejected octets e)
+    ⊎ ((pac : List NumberedBuffer) × NumberedPacIs octets pac
+    × ((first_numbered 10 pac ≡ None)
+    ⊎ ((buffer : NumberedBuffer) × (e : BufferError) × (first_numbered 10 pac ≡ Some buffer) × (client_info_of buffer.octets ≡ Err e))))
+
+-- ASCII text in UTF-16, the lowest octet first
+abbrev pub wide : List ℕ → List ℕ
+wide text = flat_map (λ octet. octet ∷ 0 ∷ []) text
+
+-- components with `/` (47) between them
+abbrev pub joined : List (List ℕ) → List ℕ
+joined [] = []
+joined (first ∷ rest) = first ++ flat_map (λ component. 47 ∷ component) rest
+
+-- So many whole seconds are the FILETIME, in units of 100 ns from 1601-01-01 on (MS-DTYP, 2.3.3). 1970-01-01 is 11,644,473,600 seconds after it.
+abbrev pub IsTimed : ℕ → ℤ → Type 0
+IsTimed file_time seconds = (n : ℕ) × (file_time ≡ 10000000 * n) × (pos n ≡ (seconds +ℤ pos 11644473600))
+
+-- it has the ticket's authtime, and the client's name
+abbrev pub NamesClient : TicketFields → List ℕ → Type 0
+NamesClient ticket info =
+    IsTimed (little_number 8 info) (unix_seconds ticket.auth_time) × (client_name info ≡ wide (joined ticket.client.name_string))
+
+-- ---- its rules
+
+-- the octets are a PAC of the ticket's client, whose server checksum holds under the key
+pub record TakesPac (key : List ℕ) (ticket : TicketFields) (octets : List ℕ) : Type 0 where
+  pub signatures : Signatures
+  pub info : List ℕ
+  pub has_signatures : SignaturesOf octets signatures
+  pub has_info : HasInfo octets info
+  pub holds : HasServerChecksum signatures key
+  pub names_client : NamesClient ticket info
+
+-- Why not: it is no PAC, or has no PAC_CLIENT_INFO; its server checksum does not hold; it is another client's, or of another time.
+pub data RefusesPac (key : List ℕ) (ticket : TicketFields) (octets : List ℕ) (e : TokenRefusal) : Type 0 where
+  no_memory : e ≡ memory → RefusesPac key ticket octets e
+  no_signatures : e ≡ refusal.PacForm → (why : PacSignatureError) → SignaturesRejected octets why → RefusesPac key ticket octets e
+  no_info : e ≡ refusal.PacForm → HasNoInfo octets → RefusesPac key ticket octets e
+  no_checksum : e ≡ refusal.PacChecksum → (s : Signatures) → SignaturesOf octets s → (HasServerChecksum s key → ⊥) → RefusesPac key ticket octets e
+  no_client : e ≡ refusal.PacClient → (s : Signatures) (info : List ℕ) → SignaturesOf octets s → HasInfo octets info → HasServerChecksum s key
+      → (NamesClient ticket info → ⊥) → RefusesPac key ticket octets e
+
+-- ---- what the service asks for
+
+abbrev pub KeepsPac : EncodingOf (List AuthorizationDataInner) → PacCheck → List ℕ → TicketFields → Type 0
+KeepsPac t checks.Ignored key ticket = Unit {0}
+KeepsPac t checks.Checked key ticket =
+    NoPacOf t ticket.authorization_data ⊎ ((octets : List ℕ) × TicketPac t ticket.authorization_data octets × TakesPac key ticket octets)
+KeepsPac t checks.Required key ticket = (octets : List ℕ) × TicketPac t ticket.authorization_data octets × TakesPac key ticket octets
+
+-- the ticket's PAC breaks a rule; or there is none, and the service asks for one
+abbrev pub BreaksPac : EncodingOf (List AuthorizationDataInner) → PacCheck → List ℕ → TicketFields → TokenRefusal → Type 0
+BreaksPac t check key ticket e =
+    (e ≡ memory)
+    ⊎ (((e ≡ refusal.PacMissing) × (check ≡ checks.Required) × NoPacOf t ticket.authorization_data)
+    ⊎ ((check ≡ checks.Ignored → ⊥) × ((octets : List ℕ) × TicketPac t ticket.authorization_data octets × RefusesPac key ticket octets e)))

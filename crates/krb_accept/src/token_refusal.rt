@@ -1,0 +1,92 @@
+//! Why a token is refused.
+
+ghost use Rattle.std.specs.Prelude.{◌≡◌};
+ghost use Rattle.krb_accept.specs.TokenRefusals.{memory, token_error_code};
+ghost use Rattle.krb_accept.specs.declared.token_refusal.TokenRefusal.TheVariants.{Request};
+
+use krb_accept_rules::Refusal;
+use std::alloc::AllocError;
+use std::fmt;
+
+/// Why a token is refused: the first rule that it breaks, in the order of the variants; but the rules of the replay cache come last.
+#[derive(Debug, Clone, Copy, PartialEq, Eq)]
+pub enum TokenRefusal {
+    /// The octets are not the one encoding of a token of Kerberos with the token id of an AP-REQ (RFC 2743, 3.1; RFC 4121, 4.1).
+    Frame,
+    /// The client is not let in.
+    Request(Refusal),
+    /// The ticket has no PAC, and the service asks for one (MS-PAC, 2.1).
+    PacMissing,
+    /// The ticket's PAC is none, or its PAC_CLIENT_INFO or one of its signatures is not there whole (MS-PAC, 2.3, 2.7 and 2.8).
+    PacForm,
+    /// The server checksum of the PAC does not hold under the key that decrypted the ticket (MS-PAC, 2.8.1).
+    PacChecksum,
+    /// The PAC names another client than the ticket, or another time of authentication (MS-PAC, 2.7).
+    PacClient,
+    /// The authenticator has no checksum, or one of another type than 0x8003 (RFC 4121, 4.1.1).
+    ChecksumType,
+    /// The checksum is not laid out as RFC 4121, 4.1.1, says.
+    ChecksumLayout,
+    /// The client's channel bindings are not the service's (RFC 4121, 4.1.1.2).
+    Bindings,
+    /// The delegated credentials are not the one encoding of a KRB-CRED, or no key of the context decrypts their part (RFC 4121, 4.1.1;
+    /// RFC 4120, 5.8).
+    Delegation,
+}
+
+impl TokenRefusal {
+    /// The number of the error in a KRB-ERROR (RFC 4120, 7.5.9).
+    pub fn code(&self) -> u32
+        ensures { result ≡ token_error_code self.now }
+    {
+        match self {
+            TokenRefusal::Request(refusal) => refusal.rule.code(),
+            TokenRefusal::PacClient => 36,
+            TokenRefusal::PacChecksum | TokenRefusal::Bindings => 41,
+            TokenRefusal::ChecksumType => 50,
+            TokenRefusal::Frame | TokenRefusal::PacMissing | TokenRefusal::PacForm => 60,
+            TokenRefusal::ChecksumLayout | TokenRefusal::Delegation => 60,
+        }
+    }
+}
+
+impl fmt::Display for TokenRefusal {
+    fn fmt<W: fmt::Write>(&self, f: &mut fmt::Formatter<W>) -> fmt::Result {
+        match self {
+            TokenRefusal::Frame => f.write_str("the token is not one of Kerberos with an AP-REQ"),
+            TokenRefusal::Request(refusal) => f.write_str(refusal.rule.text()),
+            TokenRefusal::PacMissing => f.write_str("the ticket has no PAC"),
+            TokenRefusal::PacForm => f.write_str("the PAC is malformed"),
+            TokenRefusal::PacChecksum => f.write_str(
+                "the server checksum of the PAC does not hold",
+            ),
+            TokenRefusal::PacClient => f.write_str("the PAC is of another client than the ticket"),
+            TokenRefusal::ChecksumType => {
+                f.write_str("the authenticator has no checksum of the GSS-API")
+            }
+            TokenRefusal::ChecksumLayout => {
+                f.write_str("the checksum of the authenticator is malformed")
+            }
+            TokenRefusal::Bindings => {
+                f.write_str("the channel bindings are not those of the service")
+            }
+            TokenRefusal::Delegation => f.write_str("the delegated credentials cannot be read"),
+        }
+    }
+}
+
+impl From<Refusal> for TokenRefusal {
+    ghost from_gives = { λ r e. e ≡ Request r };
+
+    fn from(refusal: Refusal) -> TokenRefusal {
+        TokenRefusal::Request(refusal)
+    }
+}
+
+impl From<AllocError> for TokenRefusal {
+    ghost from_gives = { λ _ e. e ≡ memory };
+
+    fn from(error: AllocError) -> TokenRefusal {
+        TokenRefusal::Request(Refusal::from(error))
+    }
+}

@@ -1,0 +1,166 @@
+//! Whether a service lets in the client of a token.
+//!
+//! A row is a name, a keytab, the service's time, the hash of its channel bindings, the settings and a token. The settings are a sum of 1 an AP-REQ with no frame
+//! is taken, 2 so is an authenticator with another checksum than 0x8003. For each row it prints who is let in, with what is told of the context, and by which rule
+//! the same token is refused when it comes again; or by which rule it is refused at once. In each case how many entries the cache has then. Where the settings have 4,
+//! it prints of how many tokens that differ from this one in one bit a client is let in; where they have 8, no keys.
+
+use picky_krb::accept::{
+    Arrival, Context, ReplayCache, ServiceKey, Settings, Terms, TokenRefusal, accept_token,
+    keys_of_keytab,
+};
+use picky_krb::data_types::EncryptionKey;
+use picky_krb::keytab::KeytabView;
+use picky_krb::view::{text_of_principal, unix_seconds};
+use std::alloc::{AllocError, Global};
+use test_rows::{Columns, RowError};
+
+/// A service.
+#[derive(Drop)]
+struct Service {
+    keys: Vec<ServiceKey>,
+    terms: Terms,
+    arrival: Arrival,
+    settings: Settings,
+}
+
+impl Service {
+    /// Whether the client of a token is let in.
+    fn answer(
+        &self,
+        alloc: Global,
+        token: &[u8],
+        cache: &mut ReplayCache,
+    ) -> Result<Context, TokenRefusal> {
+        accept_token(
+            alloc,
+            &self.keys,
+            &[],
+            &self.terms,
+            &self.arrival,
+            &self.settings,
+            token,
+            cache,
+        )
+    }
+}
+
+/// A key as text.
+fn key_text(alloc: Global, key: &EncryptionKey) -> Result<String, AllocError> {
+    let number = key.key_type.0.to_u32().unwrap_or(0);
+    let octets = hex::encode(alloc, key.key_value.0.0.as_slice())?;
+    format!(in alloc; "{number}:{octets}")
+}
+
+/// What is told of a client that is let in, but its keys.
+fn told(alloc: Global, context: &Context) -> Result<String, AllocError> {
+    let ticket = &context.accepted.ticket;
+    let client = text_of_principal(alloc, &ticket.client, &ticket.realm)?;
+    let server = text_of_principal(
+        alloc,
+        &context.accepted.server,
+        &context.accepted.server_realm,
+    )?;
+    format!(in alloc;
+        "{client} for {server}, flags {}, until {}",
+        context.flags,
+        unix_seconds(&ticket.end_time)
+    )
+}
+
+/// Its keys.
+fn keys_text(alloc: Global, context: &Context) -> Result<String, AllocError> {
+    let key = key_text(alloc, &context.accepted.ticket.key)?;
+    let subkey = match &context.accepted.subkey {
+        Some(key) => key_text(alloc, key)?,
+        None => String::from_str(alloc, "none")?,
+    };
+    format!(in alloc; ", key {key}, subkey {subkey}")
+}
+
+/// The rule that is broken.
+fn rule_text(alloc: Global, refusal: &TokenRefusal) -> Result<String, AllocError> {
+    let code = refusal.code();
+    match refusal {
+        TokenRefusal::Request(refusal) => format!(in alloc; "{:?} {code}", refusal.rule),
+        other => format!(in alloc; "{:?} {code}", other),
+    }
+}
+
+/// How many tokens that differ in one bit let a client in.
+fn flipped(alloc: Global, service: &Service, token: &[u8]) -> Result<u32, AllocError> {
+    let mut changed = Vec::from_slice(alloc, token)?;
+    let mut count = 0u32;
+    for place in 0..token.len() {
+        for bit in 0..8u32 {
+            changed[place] = token[place] ^ (1u8 << bit);
+            let mut cache = ReplayCache::new(alloc);
+            if service.answer(alloc, &changed, &mut cache).is_ok() {
+                count = count.saturating_add(1);
+            }
+        }
+        changed[place] = token[place];
+    }
+    Ok(count)
+}
+
+/// What is printed of a token.
+fn text_of(
+    alloc: Global,
+    service: &Service,
+    with_keys: bool,
+    token: &[u8],
+) -> Result<String, AllocError> {
+    let mut cache = ReplayCache::new(alloc);
+    let context = match service.answer(alloc, token, &mut cache) {
+        Ok(context) => context,
+        Err(refusal) => {
+            let rule = rule_text(alloc, &refusal)?;
+            return format!(in alloc; "refused, {rule}; entries {}", cache.len());
+        }
+    };
+    let first = told(alloc, &context)?;
+    let keys = if with_keys {
+        keys_text(alloc, &context)?
+    } else {
+        String::new(alloc)
+    };
+    let again = match service.answer(alloc, token, &mut cache) {
+        Ok(_context) => String::from_str(alloc, "let in")?,
+        Err(refusal) => rule_text(alloc, &refusal)?,
+    };
+    format!(in alloc; "{first}{keys}; again {again}; entries {}", cache.len())
+}
+
+/// What is printed of a row.
+pub(crate) fn answer(alloc: Global, mut columns: Columns<'_>) -> Result<String, RowError> {
+    let name = columns.text()?;
+    let keytab = columns.octets(alloc)?;
+    let clock = columns.number::<i64>()?;
+    let bindings = columns.octets(alloc)?;
+    let number = columns.number::<u32>()?;
+    let token = columns.octets(alloc)?;
+    let Ok(view) = KeytabView::new(&keytab) else {
+        return Err(RowError::NoDigits);
+    };
+    let service = Service {
+        keys: keys_of_keytab(alloc, &view)?,
+        terms: Terms::new(alloc, 300)?,
+        arrival: Arrival {
+            clock,
+            address: None,
+        },
+        settings: Settings {
+            bindings: <[u8; 16]>::try_from(bindings.as_slice()).ok(),
+            bare_request: number & 1 != 0,
+            other_checksum: number & 2 != 0,
+            ..Settings::new()
+        },
+    };
+    let text = text_of(alloc, &service, number & 8 == 0, &token)?;
+    if number & 4 == 0 {
+        return Ok(format!(in alloc; "{name}: {text}\n")?);
+    }
+    let count = flipped(alloc, &service, &token)?;
+    Ok(format!(in alloc; "{name}: {text}\n{name}: with a bit flipped {count}\n")?)
+}
