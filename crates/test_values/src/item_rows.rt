@@ -136,9 +136,9 @@ fn named(registry: i32, number: i64, out: &mut [u8]) -> (u32, usize) {
 fn names_numbers(rt: HostRuntime) {
     let mut out = [0; 32];
     assert_eq!(rt; named(10, 1, &mut out), (0, 11), "a flag of a ticket");
-    assert_eq!(rt; &out[..11], b"forwardable");
+    assert_eq!(rt; &out[..11], b"forwardable".as_slice());
     assert_eq!(rt; named(4, 37, &mut out), (0, 15), "an error code");
-    assert_eq!(rt; &out[..15], b"KRB_AP_ERR_SKEW");
+    assert_eq!(rt; &out[..15], b"KRB_AP_ERR_SKEW".as_slice());
     assert_eq!(rt; named(4, 37, &mut out[..14]), (1, 15), "too little room");
     assert_eq!(rt; named(2, -138, &mut out), (3, 0), "no such type of a name");
     assert_eq!(rt; named(19, 1, &mut out), (3, 0), "no such registry");
