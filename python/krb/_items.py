@@ -190,7 +190,7 @@ def _name(number: int) -> str:
     return names[number] if number < len(names) else ""
 
 
-@functools.lru_cache(maxsize=None)
+@functools.lru_cache(maxsize=4096)
 def _named_number(registry: int, number: int) -> Optional[str]:
     out, size = ctypes.create_string_buffer(256), ctypes.c_size_t()
     status = _number_name(registry, number, out, 256, ctypes.byref(size))
@@ -292,8 +292,7 @@ def find_number(octets: Octets, as_type: str, path: str) -> int:
 @functools.lru_cache(maxsize=4096)
 def _flags(content: bytes, registry: int) -> FrozenSet[str]:
     """The names of the bits that are set; of one that has none its number, counted from 0 at the left."""
-    bits, size = int.from_bytes(content[1:], "big"), 8 * len(content) - 8
-    numbers = [number for number in range(size) if bits >> (size - 1 - number) & 1]
+    numbers = [8 * place + bit for place, octet in enumerate(content[1:]) if octet for bit in range(8) if octet >> 7 - bit & 1]
     return frozenset((_named_number(registry, number) if registry >= 0 else None) or str(number) for number in numbers)
 
 
