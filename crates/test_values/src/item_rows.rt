@@ -139,7 +139,8 @@ fn names_numbers(rt: HostRuntime) {
     assert_eq!(rt; &out[..11], b"forwardable".as_slice());
     assert_eq!(rt; named(4, 37, &mut out), (0, 15), "an error code");
     assert_eq!(rt; &out[..15], b"KRB_AP_ERR_SKEW".as_slice());
-    assert_eq!(rt; named(4, 37, &mut out[..14]), (1, 15), "too little room");
+    let mut small = [0; 14];
+    assert_eq!(rt; named(4, 37, &mut small), (1, 15), "too little room");
     assert_eq!(rt; named(2, -138, &mut out), (3, 0), "no such type of a name");
     assert_eq!(rt; named(19, 1, &mut out), (3, 0), "no such registry");
     assert_eq!(rt; named(-1, 1, &mut out), (3, 0), "that of no registry");
