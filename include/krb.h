@@ -82,7 +82,8 @@ enum {
     KRB_PROXY_TRUNCATED = 37,    /* the message ends too early, or a field is missing */
     KRB_PROXY_UNSUPPORTED = 38,  /* a length of the indefinite form, or one of more than eight octets, in the message */
     KRB_PROXY_PVNO = 39,         /* pvno is not 5 */
-    KRB_PROXY_MSG_TYPE = 40      /* msg-type is not what the tag says */
+    KRB_PROXY_MSG_TYPE = 40,     /* msg-type is not what the tag says */
+    KRB_NOT_ACCEPTED = 41        /* a rule of the acceptor's refuses the token: its number is in `rule` */
 };
 
 /* Encryption types (RFC 3961, 8; RFC 3962, 7; RFC 8009, 7). */
@@ -648,6 +649,7 @@ static inline const char *krb_status_text(krb_status status) {
     case KRB_PROXY_UNSUPPORTED: return "a message with a length that is not supported";
     case KRB_PROXY_PVNO: return "another pvno than 5";
     case KRB_PROXY_MSG_TYPE: return "the msg-type of another message";
+    case KRB_NOT_ACCEPTED: return "a token that a rule refuses";
     default: return "an unknown status";
     }
 }

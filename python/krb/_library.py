@@ -51,6 +51,7 @@ class Status(enum.IntEnum):
     PROXY_UNSUPPORTED = 38
     PROXY_PVNO = 39
     PROXY_MSG_TYPE = 40
+    NOT_ACCEPTED = 41
 
 
 TEXTS = {
@@ -92,6 +93,7 @@ TEXTS = {
     Status.PROXY_UNSUPPORTED: "a message with a length that is not supported",
     Status.PROXY_PVNO: "another pvno than 5",
     Status.PROXY_MSG_TYPE: "the msg-type of another message",
+    Status.NOT_ACCEPTED: "a token that a rule refuses",
 }
 
 

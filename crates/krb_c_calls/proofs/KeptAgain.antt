@@ -11,7 +11,7 @@ use Rattle.krb_c_calls.specs.Kept.{IsKeptBy, IsKeptKey}
 use Rattle.krb_c_calls.specs.Numbers.{etype_number}
 use Rattle.krb_c_calls.specs.Statuses.{refusal_status}
 use Rattle.krb_c_calls.specs.declared.kept.KeptKey.{KeptKey}
-use Rattle.krb_c_calls.specs.declared.refusal.Refusal.{Refusal}
+use Rattle.krb_c_calls.specs.declared.call_error.CallError.{CallError}
 use Rattle.krb_c_calls.proofs.Answered.{decrypted_by_number}
 use Rattle.krb_c_calls.proofs.Lengths.{one_etype}
 
@@ -48,13 +48,13 @@ same_suite : (suite : CipherSuite) (kept : KeptKey) (key : List ℕ) (usage : �
 same_suite suite kept key usage is (other, h) = subst (λ s. IsKeptBy s key usage kept) (one_etype other suite (h.number ∙ sym is)) h
 
 module _ {V : Type 0} (suite : CipherSuite) (kept : KeptKey) (items : V → List ℕ) (is : etype_number suite ≡ kept.etype) where
-  pub encrypted_again : (confounder payload : List ℕ) (made : Result V Refusal)
+  pub encrypted_again : (confounder payload : List ℕ) (made : Result V CallError)
       → ((key : List ℕ) (usage : ℤ) → IsKeptBy suite key usage kept → MatchResult made (λ v. IsEncryptionBy suite key usage confounder payload (items v)) (λ e. RefusesEncryptionBy suite key confounder (refusal_status e)))
       → (key : List ℕ) (usage : ℤ) → IsKeptKey key usage kept → MatchResult made (λ v. IsEncryption kept.etype key usage confounder payload (items v)) (λ e. RefusesEncryption kept.etype key confounder (refusal_status e))
   encrypted_again confounder payload (Ok v) under key usage h = (suite, is, under key usage (same_suite suite kept key usage is h))
   encrypted_again confounder payload (Err e) under key usage h = inr (suite, is, under key usage (same_suite suite kept key usage is h))
 
-  pub decrypted_again : (octets : List ℕ) (made : Result V Refusal)
+  pub decrypted_again : (octets : List ℕ) (made : Result V CallError)
       → ((key : List ℕ) (usage : ℤ) → IsKeptBy suite key usage kept → MatchResult made (λ v. IsDecryptionBy suite key usage octets (items v)) (λ e. RefusesDecryptionBy suite key usage octets (refusal_status e)))
       → (key : List ℕ) (usage : ℤ) → IsKeptKey key usage kept → MatchResult made (λ v. IsDecryption kept.etype key usage octets (items v)) (λ e. RefusesDecryption kept.etype key usage octets (refusal_status e))
   decrypted_again octets made under key usage h = decrypted_by_number kept.etype key usage octets suite made items is (under key usage (same_suite suite kept key usage is h))

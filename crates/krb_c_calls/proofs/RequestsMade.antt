@@ -10,9 +10,9 @@ use Rattle.krb_kdc_proxy.specs.Requests.{RequestTypes}
 use Rattle.krb_c_calls.specs.Clients.{IsRequestMade, RefusesRequest}
 use Rattle.krb_c_calls.specs.ProxyStatuses.{proxy_refusal}
 use Rattle.krb_c_calls.specs.Statuses.{refusal_status}
-use Rattle.krb_c_calls.specs.declared.refusal.Refusal.{Refusal}
+use Rattle.krb_c_calls.specs.declared.call_error.CallError.{CallError}
 
-pub request_refused : {V : Type 0} (proxy : EncodingOf KdcProxyMessage) (t : RequestTypes) (message domain realm : List ℕ) (made : Result V Refusal) (items : V → List ℕ) (e : ProxyError)
+pub request_refused : {V : Type 0} (proxy : EncodingOf KdcProxyMessage) (t : RequestTypes) (message domain realm : List ℕ) (made : Result V CallError) (items : V → List ℕ) (e : ProxyError)
     → realm ≡ domain → IsAscii domain → OrMemory (IsNotWritten proxy t message realm None) e → IsErrAnd made (λ y. y ≡ proxy_refusal e)
     → MatchResult made (λ v. IsRequestMade proxy t message domain (items v)) (λ y. RefusesRequest proxy t message domain (refusal_status y))
 request_refused proxy t message domain realm (Ok v) items e same ascii rejected is = absurd is

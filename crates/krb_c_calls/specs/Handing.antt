@@ -1,7 +1,7 @@
 -- What a call from C leaves in the caller's octets, and in other arrays of the caller's.
 use Rattle.std.specs.Prelude.{◌≡◌, ◌⊎◌, ℕ, ◌<◌, ◌≤◌, List, ◌++◌, length, drop}
 use Rattle.krb_c_calls.specs.Statuses.{refusal_status}
-use Rattle.krb_c_calls.specs.declared.refusal.Refusal.{Refusal}
+use Rattle.krb_c_calls.specs.declared.call_error.CallError.{CallError}
 
 -- They are counted and, where they fit, put at the front of the caller's, of which those behind are as they were (0); else all are (1).
 abbrev pub ArePut : {A : Type 0} → List A → List A → List A → ℕ → ℕ → Type 0
@@ -19,7 +19,7 @@ abbrev pub IsKept : List ℕ → List ℕ → ℕ → Type 0
 IsKept before after size = (size ≡ 0) × (after ≡ before)
 
 -- Nothing is put, and the status is that of this refusal.
-abbrev pub IsRefused : Refusal → List ℕ → List ℕ → ℕ → ℕ → Type 0
+abbrev pub IsRefused : CallError → List ℕ → List ℕ → ℕ → ℕ → Type 0
 IsRefused refusal before after size status = (status ≡ refusal_status refusal) × (1 < status) × IsKept before after size
 
 -- Either some octets that are right are put; or none are, for a reason that the status names.

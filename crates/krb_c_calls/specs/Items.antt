@@ -31,8 +31,8 @@ use Rattle.krb_c_calls.specs.Statuses.{der_refusal, refusal_status}
 use Rattle.krb_c_calls.specs.ContentNumbers.{IsContentNumber}
 use Rattle.krb_c_calls.specs.Handing.{ArePut}
 use Rattle.krb_c_calls.specs.declared.items.record.ItemRecord.{ItemRecord}
-use Rattle.krb_c_calls.specs.declared.refusal.Refusal.{Refusal}
-use Rattle.krb_c_calls.specs.declared.refusal.Refusal.TheVariants as refusals
+use Rattle.krb_c_calls.specs.declared.call_error.CallError.{CallError}
+use Rattle.krb_c_calls.specs.declared.call_error.CallError.TheVariants as refusals
 
 -- ---- an item
 
@@ -169,7 +169,7 @@ AreItems type_name octets items = (schema : Schema) × (row : ℕ) × (name : Na
     × Walked (IsElement 64 schema row name []) octets 0 0 [] items
 
 -- which refusal it is
-abbrev pub fault_refusal : Fault → Refusal
+abbrev pub fault_refusal : Fault → CallError
 fault_refusal faults.OutOfMemory = refusals.Memory
 fault_refusal faults.NoRow = refusals.Never
 fault_refusal (faults.TooDeep offset) = refusals.TooDeep

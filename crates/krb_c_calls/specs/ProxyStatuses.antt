@@ -6,17 +6,17 @@ use Rattle.krb_kdc_proxy.specs.declared.error.ProxyError.{ProxyError}
 use Rattle.krb_kdc_proxy.specs.declared.error.ProxyError.TheVariants as errors
 use Rattle.krb_kdc_proxy.specs.Messages.{OrMemory}
 use Rattle.krb_c_calls.specs.Statuses.{message_refusal, refusal_status}
-use Rattle.krb_c_calls.specs.declared.refusal.Refusal.{Refusal}
-use Rattle.krb_c_calls.specs.declared.refusal.Refusal.TheVariants as refusals
+use Rattle.krb_c_calls.specs.declared.call_error.CallError.{CallError}
+use Rattle.krb_c_calls.specs.declared.call_error.CallError.TheVariants as refusals
 
 -- of the message that a KDC-PROXY-MESSAGE carries
-abbrev pub carried_refusal : MessageError → Refusal
+abbrev pub carried_refusal : MessageError → CallError
 carried_refusal why.InvalidData = refusals.ProxyInvalid
 carried_refusal why.TruncatedData = refusals.ProxyTruncated
 carried_refusal why.UnsupportedValue = refusals.ProxyUnsupported
 
 -- of the KDC-PROXY-MESSAGE itself, as of any message
-abbrev pub proxy_refusal : ProxyError → Refusal
+abbrev pub proxy_refusal : ProxyError → CallError
 proxy_refusal errors.OutOfMemory = refusals.Memory
 proxy_refusal (errors.ProxyMessage error) = message_refusal error
 proxy_refusal errors.TooLarge = refusals.ProxyTooLarge

@@ -6,11 +6,11 @@ use Rattle.krb_der_core.specs.declared.error.Asn1DerError.{Asn1DerError}
 use Rattle.krb_der_core.specs.declared.error.Asn1DerError.TheVariants as der
 use Rattle.krb_messages.specs.declared.kpasswd.error.MessageError.{MessageError}
 use Rattle.krb_messages.specs.declared.kpasswd.error.MessageError.TheVariants as message
-use Rattle.krb_c_calls.specs.declared.refusal.Refusal.{Refusal}
-use Rattle.krb_c_calls.specs.declared.refusal.Refusal.TheVariants as refusals
+use Rattle.krb_c_calls.specs.declared.call_error.CallError.{CallError}
+use Rattle.krb_c_calls.specs.declared.call_error.CallError.TheVariants as refusals
 
 -- the number that krb_status of krb.h gives to each
-abbrev pub refusal_status : Refusal → ℕ
+abbrev pub refusal_status : CallError → ℕ
 refusal_status refusals.Memory = 2
 refusal_status refusals.Number = 3
 refusal_status refusals.ConfounderSize = 4
@@ -48,10 +48,11 @@ refusal_status refusals.ProxyTruncated = 37
 refusal_status refusals.ProxyUnsupported = 38
 refusal_status refusals.ProxyPvno = 39
 refusal_status refusals.ProxyMsgType = 40
+refusal_status refusals.NotAccepted = 41
 
 -- ---- an error of the cryptography
 
-abbrev pub crypto_refusal : KerberosCryptoError → Refusal
+abbrev pub crypto_refusal : KerberosCryptoError → CallError
 crypto_refusal crypto.OutOfMemory = refusals.Memory
 crypto_refusal (crypto.AlgorithmIdentifier n) = refusals.Number
 crypto_refusal (crypto.AlgorithmIdentifierData octets) = refusals.Number
@@ -68,7 +69,7 @@ crypto_status e = refusal_status (crypto_refusal e)
 
 -- ---- an error of octets that are to be DER
 
-abbrev pub der_refusal : Asn1DerError → Refusal
+abbrev pub der_refusal : Asn1DerError → CallError
 der_refusal der.OutOfMemory = refusals.Memory
 der_refusal der.InvalidData = refusals.Invalid
 der_refusal der.TruncatedData = refusals.Truncated
@@ -80,7 +81,7 @@ der_status e = refusal_status (der_refusal e)
 
 -- ---- an error of a message's octets
 
-abbrev pub message_refusal : MessageError → Refusal
+abbrev pub message_refusal : MessageError → CallError
 message_refusal message.InvalidData = refusals.Invalid
 message_refusal message.TruncatedData = refusals.Truncated
 message_refusal message.UnsupportedValue = refusals.Unsupported

@@ -1,13 +1,13 @@
 -- Which refusal an error of a token is (RFC 4121, 4.2).
 use Rattle.std.specs.Prelude.{ℕ}
 use Rattle.krb_c_calls.specs.Statuses.{crypto_refusal, refusal_status}
-use Rattle.krb_c_calls.specs.declared.refusal.Refusal.{Refusal}
-use Rattle.krb_c_calls.specs.declared.refusal.Refusal.TheVariants as refusals
+use Rattle.krb_c_calls.specs.declared.call_error.CallError.{CallError}
+use Rattle.krb_c_calls.specs.declared.call_error.CallError.TheVariants as refusals
 use Rattle.krb_gss_per_message.specs.declared.error.ProtectionError.{ProtectionError}
 use Rattle.krb_gss_per_message.specs.declared.error.ProtectionError.TheVariants as errors
 
 -- of sealed data that is not opened, that of the cryptography's error
-abbrev pub protection_refusal : ProtectionError → Refusal
+abbrev pub protection_refusal : ProtectionError → CallError
 protection_refusal errors.OutOfMemory = refusals.Memory
 protection_refusal errors.Checksum = refusals.Integrity
 protection_refusal errors.Direction = refusals.Direction

@@ -5,8 +5,8 @@ ghost use Rattle.krb_c_calls.specs.Statuses.{refusal_status};
 ghost use Rattle.krb_c_calls.specs.Handing.{IsAnswered};
 ghost use Rattle.krb_c_calls.specs.Checksums.{IsChecksumBy, RefusesChecksumBy, IsChecksum, RefusesChecksum, IsVerificationBy, IsVerification};
 
+use crate::call_error::{CallError, DONE};
 use crate::handing::hand_out;
-use crate::refusal::{DONE, Refusal};
 use crate::suites::checksum_suite_of;
 use krb_crypto::ChecksumSuite;
 use krb_crypto::prepared::ChecksumKey;
@@ -18,7 +18,7 @@ fn summed_by(
     key: &[u8],
     usage: i32,
     message: &[u8],
-) -> Result<Vec<u8>, Refusal>
+) -> Result<Vec<u8>, CallError>
     ensures { MatchResult result
         (λ made. IsChecksumBy suite.now key.now usage message.now made.items)
         (λ e. RefusesChecksumBy suite.now key.now (refusal_status e)) }
@@ -34,7 +34,7 @@ pub fn summed(
     key: &[u8],
     usage: i32,
     message: &[u8],
-) -> Result<Vec<u8>, Refusal>
+) -> Result<Vec<u8>, CallError>
     ensures { MatchResult result
         (λ made. IsChecksum cksumtype key.now usage message.now made.items)
         (λ e. RefusesChecksum cksumtype key.now (refusal_status e)) }
@@ -70,11 +70,11 @@ fn verified_by(
     ensures { IsVerificationBy suite.now key.now usage message.now checksum.now result }
 {
     let Ok(prepared) = ChecksumKey::new(suite, key, usage) else {
-        return Refusal::KeySize.status();
+        return CallError::KeySize.status();
     };
     match prepared.verify(message, checksum) {
         Ok(()) => DONE,
-        Err(_) => Refusal::Integrity.status(),
+        Err(_) => CallError::Integrity.status(),
     }
 }
 

@@ -3,7 +3,7 @@
 ghost use Rattle.std.specs.Prelude.{MatchResult};
 ghost use Rattle.krb_c_calls.specs.Handing.{IsPut, IsRefused};
 
-use crate::refusal::{DONE, ROOM, Refusal};
+use crate::call_error::{CallError, DONE, ROOM};
 
 /// `size` becomes the number of the octets. If they fit, they are copied to the front of `out`, and the
 /// status is `DONE`; if they do not, it is `ROOM`, and `out` is as it was.
@@ -20,7 +20,7 @@ pub fn put(octets: &[u8], out: &mut [u8], size: &mut usize) -> u32
 
 /// Hands out what was made, as `put` does. If nothing was made, the status is the refusal's, `size`
 /// becomes 0, and `out` is as it was.
-pub fn hand_out(made: &Result<Vec<u8>, Refusal>, out: &mut [u8], size: &mut usize) -> u32
+pub fn hand_out(made: &Result<Vec<u8>, CallError>, out: &mut [u8], size: &mut usize) -> u32
     ensures { MatchResult made.now
         (λ octets. IsPut octets.items out.old out.new size.new result)
         (λ refusal. IsRefused refusal out.old out.new size.new result) }

@@ -8,8 +8,8 @@ ghost use Rattle.krb_c_calls.specs.Handing.{IsAnswered, IsHandedOut, IsKept};
 ghost use Rattle.krb_c_calls.specs.Calls.{IsEncryption, IsEncryptionBy, RefusesEncryption, RefusesEncryptionBy, IsDecryption, IsDecryptionBy, RefusesDecryption, RefusesDecryptionBy};
 ghost use Rattle.krb_c_calls.specs.Kept.{IsKeptBy, IsKeptKey, IsKeeping, RefusesKey};
 
+use crate::call_error::{CallError, DONE};
 use crate::handing::hand_out;
-use crate::refusal::{DONE, Refusal};
 use crate::suites::cipher_suite_of;
 use krb_crypto::message_keys::{derive_message_keys, integrity_key_size};
 use krb_crypto::prepared::{OpeningKey, SealingKey};
@@ -32,8 +32,8 @@ pub struct KeptKey {
 }
 
 /// The suite of its encryption type; else `Number`.
-fn suite_of(kept: &KeptKey) -> Result<CipherSuite, Refusal>
-    ensures { MatchResult result (λ suite. etype_number suite ≡ kept.now.etype) (λ e. (e ≡ Refusal.Number) × NoSuite etype_number kept.now.etype) }
+fn suite_of(kept: &KeptKey) -> Result<CipherSuite, CallError>
+    ensures { MatchResult result (λ suite. etype_number suite ≡ kept.now.etype) (λ e. (e ≡ CallError.Number) × NoSuite etype_number kept.now.etype) }
 {
     cipher_suite_of(kept.etype)
 }
@@ -49,7 +49,7 @@ fn filled(octets: &[u8]) -> [u8; LONGEST]
     filled
 }
 
-fn kept_by(suite: &CipherSuite, etype: i32, key: &[u8], usage: i32) -> Result<KeptKey, Refusal>
+fn kept_by(suite: &CipherSuite, etype: i32, key: &[u8], usage: i32) -> Result<KeptKey, CallError>
     requires { etype_number suite.now ≡ etype }
     ensures { MatchResult result (λ kept. (kept.etype ≡ etype) × IsKeptBy suite.now key.now usage kept) (λ e. RefusesKey etype key.now (refusal_status e)) }
 {
@@ -61,7 +61,7 @@ fn kept_by(suite: &CipherSuite, etype: i32, key: &[u8], usage: i32) -> Result<Ke
     })
 }
 
-fn kept_of(etype: i32, key: &[u8], usage: i32) -> Result<KeptKey, Refusal>
+fn kept_of(etype: i32, key: &[u8], usage: i32) -> Result<KeptKey, CallError>
     ensures { MatchResult result (λ kept. (kept.etype ≡ etype) × IsKeptKey key.now usage kept) (λ e. RefusesKey etype key.now (refusal_status e)) }
 {
     let suite = cipher_suite_of(etype)?;
@@ -88,13 +88,13 @@ fn encrypted_under(
     kept: &KeptKey,
     confounder: &[u8],
     payload: &[u8],
-) -> Result<Vec<u8>, Refusal>
+) -> Result<Vec<u8>, CallError>
     ensures { (key : List ℕ) (usage : ℤ) → IsKeptBy suite.now key usage kept.now
         → MatchResult result (λ made. IsEncryptionBy suite.now key usage confounder.now payload.now made.items)
         (λ e. RefusesEncryptionBy suite.now key confounder.now (refusal_status e)) }
 {
     if confounder.len() != suite.confounder_size() {
-        return Err(Refusal::ConfounderSize);
+        return Err(CallError::ConfounderSize);
     }
     let ke = &kept.ke[..suite.key_size()];
     let ki = &kept.ki[..integrity_key_size(suite)];
@@ -108,7 +108,7 @@ pub fn encrypted_kept(
     kept: &KeptKey,
     confounder: &[u8],
     payload: &[u8],
-) -> Result<Vec<u8>, Refusal>
+) -> Result<Vec<u8>, CallError>
     ensures kept { (key : List ℕ) (usage : ℤ) → IsKeptKey key usage kept.now
         → MatchResult result (λ made. IsEncryption kept.now.etype key usage confounder.now payload.now made.items)
         (λ e. RefusesEncryption kept.now.etype key confounder.now (refusal_status e)) }
@@ -142,7 +142,7 @@ fn decrypted_under(
     suite: &CipherSuite,
     kept: &KeptKey,
     sealed: &[u8],
-) -> Result<Vec<u8>, Refusal>
+) -> Result<Vec<u8>, CallError>
     ensures { (key : List ℕ) (usage : ℤ) → IsKeptBy suite.now key usage kept.now
         → MatchResult result (λ made. IsDecryptionBy suite.now key usage sealed.now made.items)
         (λ e. RefusesDecryptionBy suite.now key usage sealed.now (refusal_status e)) }
@@ -154,7 +154,7 @@ fn decrypted_under(
 }
 
 /// What `decrypt_kept` hands out, or why it refuses.
-pub fn decrypted_kept(alloc: Global, kept: &KeptKey, sealed: &[u8]) -> Result<Vec<u8>, Refusal>
+pub fn decrypted_kept(alloc: Global, kept: &KeptKey, sealed: &[u8]) -> Result<Vec<u8>, CallError>
     ensures kept { (key : List ℕ) (usage : ℤ) → IsKeptKey key usage kept.now
         → MatchResult result (λ made. IsDecryption kept.now.etype key usage sealed.now made.items)
         (λ e. RefusesDecryption kept.now.etype key usage sealed.now (refusal_status e)) }

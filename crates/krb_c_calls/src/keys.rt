@@ -5,8 +5,8 @@ ghost use Rattle.krb_c_calls.specs.Statuses.{refusal_status};
 ghost use Rattle.krb_c_calls.specs.Handing.{IsAnswered};
 ghost use Rattle.krb_c_calls.specs.Keys.{IsKeyOfPasswordBy, RefusesPasswordBy, IsKeyOfPassword, RefusesPassword, IsKeyOfSeedBy, RefusesSeedBy, IsKeyOfSeed, RefusesSeed, IsFolding};
 
+use crate::call_error::{CallError, DONE};
 use crate::handing::hand_out;
-use crate::refusal::{DONE, Refusal};
 use crate::suites::cipher_suite_of;
 use krb_crypto::{Cipher, CipherSuite};
 use krb_crypto_block::in_place::n_fold_into;
@@ -17,7 +17,7 @@ fn key_of_password_by(
     suite: &CipherSuite,
     password: &[u8],
     salt: &[u8],
-) -> Result<Vec<u8>, Refusal>
+) -> Result<Vec<u8>, CallError>
     ensures { MatchResult result
         (λ made. IsKeyOfPasswordBy suite.now password.now salt.now made.items)
         (λ e. RefusesPasswordBy suite.now password.now salt.now (refusal_status e)) }
@@ -30,7 +30,7 @@ fn key_of_password(
     etype: i32,
     password: &[u8],
     salt: &[u8],
-) -> Result<Vec<u8>, Refusal>
+) -> Result<Vec<u8>, CallError>
     ensures { MatchResult result
         (λ made. IsKeyOfPassword etype password.now salt.now made.items)
         (λ e. RefusesPassword etype password.now salt.now (refusal_status e)) }
@@ -55,22 +55,22 @@ pub fn string_to_key(
     hand_out(&key_of_password(alloc, etype, password, salt), out, size)
 }
 
-fn key_of_seed_by(alloc: Global, suite: &CipherSuite, seed: &[u8]) -> Result<Vec<u8>, Refusal>
+fn key_of_seed_by(alloc: Global, suite: &CipherSuite, seed: &[u8]) -> Result<Vec<u8>, CallError>
     ensures { MatchResult result
         (λ made. IsKeyOfSeedBy suite.now seed.now made.items)
         (λ e. RefusesSeedBy suite.now seed.now (refusal_status e)) }
 {
     if seed.len() != suite.seed_bit_len() / 8 {
-        return Err(Refusal::SeedSize);
+        return Err(CallError::SeedSize);
     }
     let seed = Vec::from_slice(alloc, seed)?;
     match suite.random_to_key(alloc, seed) {
         Ok(key) => Ok(key),
-        Err(_) => Err(Refusal::Memory),
+        Err(_) => Err(CallError::Memory),
     }
 }
 
-fn key_of_seed(alloc: Global, etype: i32, seed: &[u8]) -> Result<Vec<u8>, Refusal>
+fn key_of_seed(alloc: Global, etype: i32, seed: &[u8]) -> Result<Vec<u8>, CallError>
     ensures { MatchResult result
         (λ made. IsKeyOfSeed etype seed.now made.items)
         (λ e. RefusesSeed etype seed.now (refusal_status e)) }
@@ -99,7 +99,7 @@ pub fn n_fold(input: &[u8], out: &mut [u8]) -> u32
     ensures { IsFolding input.now out.old out.new result }
 {
     if input.is_empty() || out.is_empty() {
-        return Refusal::Empty.status();
+        return CallError::Empty.status();
     }
     n_fold_into(input, out);
     DONE

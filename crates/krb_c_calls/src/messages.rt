@@ -5,8 +5,8 @@ ghost use Rattle.krb_c_calls.specs.Statuses.{refusal_status};
 ghost use Rattle.krb_c_calls.specs.Handing.{IsAnswered};
 ghost use Rattle.krb_c_calls.specs.Calls.{IsEncryptionBy, RefusesEncryptionBy, IsEncryption, RefusesEncryption, IsDecryptionBy, RefusesDecryptionBy, IsDecryption, RefusesDecryption};
 
+use crate::call_error::CallError;
 use crate::handing::hand_out;
-use crate::refusal::Refusal;
 use crate::suites::cipher_suite_of;
 use krb_crypto::prepared::{OpeningKey, SealingKey};
 use krb_crypto::{Cipher, CipherSuite};
@@ -19,13 +19,13 @@ fn encrypted_by(
     usage: i32,
     confounder: &[u8],
     payload: &[u8],
-) -> Result<Vec<u8>, Refusal>
+) -> Result<Vec<u8>, CallError>
     ensures { MatchResult result
         (λ made. IsEncryptionBy suite.now key.now usage confounder.now payload.now made.items)
         (λ e. RefusesEncryptionBy suite.now key.now confounder.now (refusal_status e)) }
 {
     if confounder.len() != suite.confounder_size() {
-        return Err(Refusal::ConfounderSize);
+        return Err(CallError::ConfounderSize);
     }
     let prepared = SealingKey::new(suite, key, usage)?;
     Ok(prepared.encrypt(alloc, payload, confounder)?)
@@ -39,7 +39,7 @@ pub fn encrypted(
     usage: i32,
     confounder: &[u8],
     payload: &[u8],
-) -> Result<Vec<u8>, Refusal>
+) -> Result<Vec<u8>, CallError>
     ensures { MatchResult result
         (λ made. IsEncryption etype key.now usage confounder.now payload.now made.items)
         (λ e. RefusesEncryption etype key.now confounder.now (refusal_status e)) }
@@ -76,7 +76,7 @@ fn decrypted_by(
     key: &[u8],
     usage: i32,
     sealed: &[u8],
-) -> Result<Vec<u8>, Refusal>
+) -> Result<Vec<u8>, CallError>
     ensures { MatchResult result
         (λ made. IsDecryptionBy suite.now key.now usage sealed.now made.items)
         (λ e. RefusesDecryptionBy suite.now key.now usage sealed.now (refusal_status e)) }
@@ -92,7 +92,7 @@ pub fn decrypted(
     key: &[u8],
     usage: i32,
     sealed: &[u8],
-) -> Result<Vec<u8>, Refusal>
+) -> Result<Vec<u8>, CallError>
     ensures { MatchResult result
         (λ made. IsDecryption etype key.now usage sealed.now made.items)
         (λ e. RefusesDecryption etype key.now usage sealed.now (refusal_status e)) }

@@ -5,7 +5,7 @@ use Rattle.krb_der_core.specs.Tlv.{tlv}
 use Rattle.krb_gss_tokens.specs.TokenLaws.{token_is}
 use Rattle.krb_c_calls.specs.MessageRules.{RefusesReading}
 use Rattle.krb_c_calls.specs.Statuses.{refusal_status}
-use Rattle.krb_c_calls.specs.declared.refusal.Refusal.{Refusal}
+use Rattle.krb_c_calls.specs.declared.call_error.CallError.{CallError}
 use Rattle.krb_c_frames.specs.Making.{IsMade, IsMadeAnswer, IsStateNumber, RefusesAnswer, made_answer, made_init, present, spnego}
 use Rattle.krb_c_frames.specs.Negotiation.{field}
 
@@ -17,7 +17,7 @@ init_made a b made fields octets m t i first second same whole last =
     let content = tlv 6 spnego ++ inner in
     last ∙ ap (tlv 96) (second ∙ ap (λ (l : List ℕ). l ++ octets) first ∙ ap (λ (l : List ℕ). tlv 6 spnego ++ l) (same ∙ whole)) ∙ sym (token_is (tlv 48 content) content refl)
 
-pub answer_made : {A V : Type 0} (t : EncodingOf A) (state : ℕ) (n : Option ℕ) (mechanism token mic octets : List ℕ) (made : Result V Refusal) (items : V → List ℕ)
+pub answer_made : {A V : Type 0} (t : EncodingOf A) (state : ℕ) (n : Option ℕ) (mechanism token mic octets : List ℕ) (made : Result V CallError) (items : V → List ℕ)
     → IsStateNumber state n → octets ≡ made_answer n mechanism token mic
     → MatchResult made (λ v. IsMade t octets (items v)) (λ e. RefusesReading t octets (refusal_status e))
     → MatchResult made (λ v. IsMadeAnswer t state mechanism token mic (items v)) (λ e. RefusesAnswer t state mechanism token mic (refusal_status e))

@@ -1,8 +1,8 @@
 -- Which refusal an error of these calls is, beside those of krb_c_calls.
 use Rattle.std.specs.Prelude.{ℕ}
 use Rattle.krb_c_calls.specs.Statuses.{message_refusal, refusal_status}
-use Rattle.krb_c_calls.specs.declared.refusal.Refusal.{Refusal}
-use Rattle.krb_c_calls.specs.declared.refusal.Refusal.TheVariants as refusals
+use Rattle.krb_c_calls.specs.declared.call_error.CallError.{CallError}
+use Rattle.krb_c_calls.specs.declared.call_error.CallError.TheVariants as refusals
 use Rattle.krb_messages.specs.declared.kpasswd.error.ReadFrameError.{ReadFrameError}
 use Rattle.krb_messages.specs.declared.kpasswd.error.ReadFrameError.TheVariants as frame
 use Rattle.krb_pac.specs.declared.error.PacError.{PacError}
@@ -10,7 +10,7 @@ use Rattle.krb_pac.specs.declared.error.PacError.TheVariants as pac
 
 -- ---- an error of a PAC
 
-abbrev pub pac_refusal : PacError → Refusal
+abbrev pub pac_refusal : PacError → CallError
 pac_refusal pac.OutOfMemory = refusals.Memory
 pac_refusal (pac.IoError e) = refusals.Truncated
 pac_refusal (pac.Version n) = refusals.OtherVersion
@@ -24,7 +24,7 @@ pac_status e = refusal_status (pac_refusal e)
 
 -- ---- an error of a frame that changes a password
 
-abbrev pub frame_refusal : ReadFrameError → Refusal
+abbrev pub frame_refusal : ReadFrameError → CallError
 frame_refusal frame.OutOfMemory = refusals.Memory
 frame_refusal frame.Cut = refusals.Truncated
 frame_refusal frame.Version = refusals.OtherVersion

@@ -10,7 +10,7 @@ ghost use Rattle.krb_c_frames.specs.Making.{IsMade, IsMadeAnswer, IsStateNumber,
 ghost use Rattle.krb_c_frames.specs.Negotiation.{field};
 ghost use Rattle.krb_c_frames.specs.Proxy.{proxy_octets};
 
-use krb_c_calls::Refusal;
+use krb_c_calls::CallError;
 use krb_c_calls::handing::hand_out;
 use krb_c_calls::parts::checked;
 use krb_der::{Der, DerEncode};
@@ -45,7 +45,7 @@ fn push_present(tag: u8, inner: u8, content: &[u8], out: &mut Vec<u8>) -> Result
 }
 
 /// Octets that are the one encoding of a value; else why they are not.
-fn encoding<T: Der + Drop>(alloc: Global, made: Vec<u8>) -> Result<Vec<u8>, Refusal>
+fn encoding<T: Der + Drop>(alloc: Global, made: Vec<u8>) -> Result<Vec<u8>, CallError>
     ensures { MatchResult result (λ octets. IsMade ⟦<T as DerEncode>⟧ made.items octets.items)
         (λ e. RefusesReading ⟦<T as DerEncode>⟧ made.items (refusal_status e)) }
 {
@@ -65,7 +65,7 @@ fn proxy_of(alloc: Global, message: &[u8], domain: &[u8]) -> Result<Vec<u8>, All
 }
 
 /// What `make_kdc_proxy_message` hands out, or why it refuses.
-fn proxy_made(alloc: Global, message: &[u8], domain: &[u8]) -> Result<Vec<u8>, Refusal>
+fn proxy_made(alloc: Global, message: &[u8], domain: &[u8]) -> Result<Vec<u8>, CallError>
     ensures { MatchResult result
         (λ made. IsMade ⟦<KdcProxyMessage as DerEncode>⟧ (proxy_octets message.now (present domain.now) []) made.items)
         (λ e. RefusesReading ⟦<KdcProxyMessage as DerEncode>⟧ (proxy_octets message.now (present domain.now) [])
@@ -129,7 +129,12 @@ fn init_of(
 }
 
 /// What `make_neg_token_init` hands out, or why it refuses.
-fn init_made(alloc: Global, mechanisms: &[u8], token: &[u8], mic: &[u8]) -> Result<Vec<u8>, Refusal>
+fn init_made(
+    alloc: Global,
+    mechanisms: &[u8],
+    token: &[u8],
+    mic: &[u8],
+) -> Result<Vec<u8>, CallError>
     ensures { MatchResult result
         (λ made. IsMade ⟦<ApplicationTag0<GssApiNegInit> as DerEncode>⟧ (made_init mechanisms.now token.now mic.now)
         made.items)
@@ -159,13 +164,13 @@ pub fn make_neg_token_init(
 }
 
 /// negState of its number.
-fn state_of(state: u32) -> Result<Option<u8>, Refusal>
-    ensures { MatchResult result (λ number. IsStateNumber state number) (λ e. (e ≡ Refusal.Number) × NoStateNumber state) }
+fn state_of(state: u32) -> Result<Option<u8>, CallError>
+    ensures { MatchResult result (λ number. IsStateNumber state number) (λ e. (e ≡ CallError.Number) × NoStateNumber state) }
 {
     match state {
         ABSENT => Ok(None),
         0..=3 => Ok(Some(state as u8)),
-        _ => Err(Refusal::Number),
+        _ => Err(CallError::Number),
     }
 }
 
@@ -206,7 +211,7 @@ fn answer_made(
     mechanism: &[u8],
     token: &[u8],
     mic: &[u8],
-) -> Result<Vec<u8>, Refusal>
+) -> Result<Vec<u8>, CallError>
     ensures { MatchResult result
         (λ made. IsMadeAnswer ⟦<NegTokenTarg1 as DerEncode>⟧ state mechanism.now token.now mic.now made.items)
         (λ e. RefusesAnswer ⟦<NegTokenTarg1 as DerEncode>⟧ state mechanism.now token.now mic.now (refusal_status e)) }

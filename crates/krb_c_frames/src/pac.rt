@@ -5,7 +5,7 @@ ghost use Rattle.krb_c_calls.specs.Handing.{ArePut};
 ghost use Rattle.krb_c_frames.specs.Pac.{IsPacBuffer, IsPacBuffers, IsPacCount, place_record};
 
 use crate::refusal::pac_refusal;
-use krb_c_calls::{DONE, ROOM, Refusal};
+use krb_c_calls::{CallError, DONE, ROOM};
 use krb_pac::{PacInfoBuffer, PacView};
 
 /// `krb_pac_place` of `krb.h`: the type of a buffer of a PAC, and the place of its octets. It has no
@@ -69,7 +69,7 @@ pub fn pac_buffer(
             *size = entry.cb_buffer_size() as usize;
             DONE
         }
-        None => Refusal::Absent.status(),
+        None => CallError::Absent.status(),
     }
 }
 

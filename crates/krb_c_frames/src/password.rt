@@ -7,14 +7,14 @@ ghost use Rattle.krb_der_core.specs.Reading.{TakesPrefix};
 ghost use Rattle.krb_messages.specs.Frame.{IsFramed, frame};
 ghost use Rattle.krb_c_frames.specs.Password.{HasSizes, IsFrameAt, IsMadeFrame, RefusesFrame, RefusesMaking};
 ghost use Rattle.krb_c_calls.specs.Statuses.{refusal_status};
-ghost use Rattle.krb_c_calls.specs.declared.refusal.Refusal.TheVariants as refusals;
+ghost use Rattle.krb_c_calls.specs.declared.call_error.CallError.TheVariants as refusals;
 ghost use Rattle.krb_c_frames.specs.Statuses.{frame_status};
 
 use crate::element::element_size;
 use crate::refusal::frame_refusal;
 use krb_c_calls::handing::hand_out;
 use krb_c_calls::parts::checked;
-use krb_c_calls::{DONE, Refusal};
+use krb_c_calls::{CallError, DONE};
 use krb_der::{Der, DerEncode};
 use krb_messages::kpasswd::{ReadFrameError, read_frame};
 use krb_messages::messages::{ApMessage, KrbPriv};
@@ -100,14 +100,14 @@ fn joined(
 }
 
 /// The frame of these octets, with its lengths.
-fn framed(alloc: Global, ap_message: &[u8], krb_priv: &[u8]) -> Result<Vec<u8>, Refusal>
+fn framed(alloc: Global, ap_message: &[u8], krb_priv: &[u8]) -> Result<Vec<u8>, CallError>
     ensures { MatchResult result (λ made. (made.items ≡ frame ap_message.now krb_priv.now) × (length made.items < 2 ^ 16))
         (λ e. (e ≡ refusals.Memory)
         ⊎ ((e ≡ refusals.FrameSize) × (2 ^ 16 ≤ length (frame ap_message.now krb_priv.now)))) }
 {
     let first = ap_message.len();
     if first > MOST || krb_priv.len() > MOST || HEADER_LENGTH + first + krb_priv.len() > MOST {
-        return Err(Refusal::FrameSize);
+        return Err(CallError::FrameSize);
     }
     let whole = HEADER_LENGTH + first + krb_priv.len();
     Ok(joined(alloc, whole as u16, first as u16, ap_message, krb_priv)?)
@@ -118,7 +118,7 @@ fn frame_of<A: Der + Drop, B: Der + Drop>(
     alloc: Global,
     ap_message: &[u8],
     krb_priv: &[u8],
-) -> Result<Vec<u8>, Refusal>
+) -> Result<Vec<u8>, CallError>
     ensures { MatchResult result
         (λ made. IsMadeFrame ⟦<A as DerEncode>⟧ ⟦<B as DerEncode>⟧ ap_message.now krb_priv.now made.items)
         (λ e. RefusesMaking ⟦<A as DerEncode>⟧ ⟦<B as DerEncode>⟧ ap_message.now krb_priv.now (refusal_status e)) }

@@ -3,33 +3,33 @@
 ghost use Rattle.std.specs.Prelude.{◌≡◌};
 ghost use Rattle.krb_c_frames.specs.Statuses.{frame_refusal, pac_refusal};
 
-use krb_c_calls::Refusal;
+use krb_c_calls::CallError;
 use krb_messages::kpasswd::ReadFrameError;
 use krb_pac::PacError;
 
 /// Of a PAC.
-pub(crate) fn pac_refusal(error: &PacError) -> Refusal
+pub(crate) fn pac_refusal(error: &PacError) -> CallError
     ensures { result ≡ pac_refusal error.now }
 {
     match error {
-        PacError::OutOfMemory => Refusal::Memory,
-        PacError::IoError(_) => Refusal::Truncated,
-        PacError::Version(_) => Refusal::OtherVersion,
-        PacError::InvalidVersion(_) => Refusal::OtherVersion,
-        PacError::PacBufferType(_) => Refusal::PacType,
-        PacError::InvalidRange => Refusal::PacRange,
+        PacError::OutOfMemory => CallError::Memory,
+        PacError::IoError(_) => CallError::Truncated,
+        PacError::Version(_) => CallError::OtherVersion,
+        PacError::InvalidVersion(_) => CallError::OtherVersion,
+        PacError::PacBufferType(_) => CallError::PacType,
+        PacError::InvalidRange => CallError::PacRange,
     }
 }
 
 /// Of a frame that changes a password.
-pub(crate) fn frame_refusal(error: ReadFrameError) -> Refusal
+pub(crate) fn frame_refusal(error: ReadFrameError) -> CallError
     ensures { result ≡ frame_refusal error }
 {
     match error {
-        ReadFrameError::OutOfMemory => Refusal::Memory,
-        ReadFrameError::Cut => Refusal::Truncated,
-        ReadFrameError::Version => Refusal::OtherVersion,
-        ReadFrameError::ApMessage(error) => Refusal::from(error),
-        ReadFrameError::KrbPriv(error) => Refusal::from(error),
+        ReadFrameError::OutOfMemory => CallError::Memory,
+        ReadFrameError::Cut => CallError::Truncated,
+        ReadFrameError::Version => CallError::OtherVersion,
+        ReadFrameError::ApMessage(error) => CallError::from(error),
+        ReadFrameError::KrbPriv(error) => CallError::from(error),
     }
 }

@@ -8,7 +8,7 @@ ghost use Rattle.krb_c_frames.specs.Token.{IsMadeToken, IsNoMechanism, IsNoToken
 
 use crate::place::place_before;
 use krb_c_calls::handing::hand_out;
-use krb_c_calls::{DONE, Refusal};
+use krb_c_calls::{CallError, DONE};
 use krb_der_core::{Asn1DerError, Der, close_tlv, read_tlv, write_tlv};
 use krb_der_x509::ObjectIdentifierAsn1;
 use std::alloc::Global;
@@ -63,7 +63,7 @@ pub fn gss_token(
             *inner_size = place.size;
             DONE
         }
-        Err(error) => Refusal::from(error).status(),
+        Err(error) => CallError::from(error).status(),
     }
 }
 
@@ -80,7 +80,7 @@ fn made_token(alloc: Global, mechanism: &[u8], inner: &[u8]) -> Result<Vec<u8>, 
 }
 
 /// What `make_gss_token` hands out, or why it refuses.
-fn token_of(alloc: Global, mechanism: &[u8], inner: &[u8]) -> Result<Vec<u8>, Refusal>
+fn token_of(alloc: Global, mechanism: &[u8], inner: &[u8]) -> Result<Vec<u8>, CallError>
     ensures { MatchResult result (λ made. IsMadeToken mechanism.now inner.now made.items)
         (λ e. RefusesMechanism mechanism.now (refusal_status e)) }
 {

@@ -9,8 +9,8 @@ use Rattle.krb_files.specs.KeytabReading.{keytab_of}
 use Rattle.krb_files.specs.declared.keytab.error.KeytabError.{KeytabError}
 use Rattle.krb_c_calls.specs.Shown.{written_of}
 use Rattle.krb_c_calls.specs.Statuses.{refusal_status}
-use Rattle.krb_c_calls.specs.declared.refusal.Refusal.{Refusal}
-use Rattle.krb_c_calls.specs.declared.refusal.Refusal.TheVariants as refusals
+use Rattle.krb_c_calls.specs.declared.call_error.CallError.{CallError}
+use Rattle.krb_c_calls.specs.declared.call_error.CallError.TheVariants as refusals
 use Rattle.krb_decrypt.specs.Keys.{NamedKey}
 use Rattle.krb_show.specs.Tokens.{Token}
 use Rattle.krb_show_any.specs.Kinds.{kind_of}
@@ -42,7 +42,7 @@ AreKeysOf keytab keys =
     ((keytab ≡ []) × (keys ≡ [])) ⊎ ((keytab ≢ []) × (entries : List Entry) × KeytabIs keytab entries × (keys ≡ flat_map keys_of_entry entries))
 
 -- they are none; or an allocation failed
-abbrev pub HasNoKeys : List ℕ → Refusal → Type 0
+abbrev pub HasNoKeys : List ℕ → CallError → Type 0
 HasNoKeys keytab e = (e ≡ refusals.Memory) ⊎ ((keytab ≢ []) × (e ≡ refusals.Keytab) × (why : KeytabError) × (keytab_of keytab ≡ Err why))
 
 -- ---- the text
@@ -88,5 +88,5 @@ module _ (tells : Kind → List ℕ → Result (Vec Token Global) PageError → 
   RefusesPage name octets keytab status =
       (status ≡ 2)
       ⊎ (IsNoKind name octets × (status ≡ 3))
-      ⊎ (((kind : Kind) × IsKind name octets kind) × (e : Refusal) × HasNoKeys keytab e × (status ≡ refusal_status e))
+      ⊎ (((kind : Kind) × IsKind name octets kind) × (e : CallError) × HasNoKeys keytab e × (status ≡ refusal_status e))
       ⊎ HasNoPage name octets keytab status

@@ -9,7 +9,7 @@ ghost use Rattle.krb_c_pages.specs.Pages.{IsKind, IsNoKind, IsPageText, IsTextOf
 use crate::keys::keys_of;
 use crate::opened::Opens;
 use crate::refusal::page_refusal;
-use krb_c_calls::Refusal;
+use krb_c_calls::CallError;
 use krb_c_calls::handing::hand_out;
 use krb_decrypt::{Key, MOST_FOUND};
 use krb_show::{Page, Token, json_of_page, text_of_page};
@@ -79,12 +79,12 @@ fn shown<S: Pages<Kind, PageError>, O: Opens>(
     keytab: &[u8],
     is_json: bool,
     shows_keys: bool,
-) -> Result<Vec<u8>, Refusal>
+) -> Result<Vec<u8>, CallError>
     ensures { MatchResult result (λ text. IsPageText S.tells O.opens is_json shows_keys name.now octets.now keytab.now text.items)
         (λ e. RefusesPage S.tells name.now octets.now keytab.now (refusal_status e)) }
 {
     let Some(kind) = kind_of(name, octets) else {
-        return Err(Refusal::Number);
+        return Err(CallError::Number);
     };
     let keys = keys_of(alloc, keytab)?;
     match S::page_of(alloc, kind, octets) {

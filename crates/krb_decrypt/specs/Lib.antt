@@ -1,7 +1,7 @@
 pub mod Keys
 pub mod Usages
 pub mod Types
-pub mod Places
+pub mod Preceding
 pub mod Search
 pub mod Outcomes
 pub mod Told

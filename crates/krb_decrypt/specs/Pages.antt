@@ -3,10 +3,10 @@ use Rattle.std.specs.Prelude.{◌≡◌, ℕ, ◌-◌, List, [], Option, None, S
 use Rattle.std.specs.List.{slice_get}
 use Rattle.krb_decrypt.specs.Keys.{NamedKey}
 use Rattle.krb_decrypt.specs.Outcomes.{IsOutcome}
-use Rattle.krb_decrypt.specs.Places.{behind, start}
+use Rattle.krb_decrypt.specs.Preceding.{behind, start}
 use Rattle.krb_decrypt.specs.Told.{told_of}
 use Rattle.krb_decrypt.specs.declared.outcome.Outcome.{Outcome}
-use Rattle.krb_decrypt.specs.declared.place.Place.{Place}
+use Rattle.krb_decrypt.specs.declared.preceding.Preceding.{Preceding}
 use Rattle.krb_decrypt.specs.declared.usage.Usage.{Usage}
 use Rattle.krb_schema.specs.declared.shape.Role.{Role}
 use Rattle.krb_show.specs.Tokens.{Label, Token}
@@ -18,7 +18,7 @@ use Rattle.krb_show.specs.declared.token.Form.TheVariants as form
 pub record Decrypting (B : Type 0) : Type 0 where
   pub keys : List NamedKey
   pub most : ℕ
-  pub place : Place
+  pub preceding : Preceding
   pub behind : B
 
 -- the octets of a token that is a ciphertext
@@ -36,7 +36,7 @@ cipher_at page = cipher_of (slice_get page (length page - 1))
 
 module _ (tells : Role → List ℕ → Label → List ℕ → List Token → List Token → Type 0) where
   -- what is said of a ciphertext that stands so, and the keys that are learned from it
-  abbrev pub told_at : (NamedKey → Usage → List ℕ → List Token → List Token → Type 0) → ℕ → Place → Option (List ℕ)
+  abbrev pub told_at : (NamedKey → Usage → List ℕ → List Token → List Token → Type 0) → ℕ → Preceding → Option (List ℕ)
       → List NamedKey → List Token → List NamedKey → List Token → Type 0
   told_at told_behind most p None keys old next new = (next ≡ keys) × (new ≡ old)
   told_at told_behind most p (Some cipher) keys old next new =
@@ -45,9 +45,9 @@ module _ (tells : Role → List ℕ → Label → List ℕ → List Token → Li
   -- what is inserted before a token: what is said of the ciphertext that the page ends with
   pub record IsInsertedBefore {B : Type 0} (tells_behind : B → NamedKey → Usage → List ℕ → List Token → List Token → Type 0)
       (before : Decrypting B) (t : Token) (old : List Token) (after : Decrypting B) (new : List Token) : Type 0 where
-    pub said : told_at (tells_behind before.behind) before.most before.place (cipher_at old) before.keys old after.keys new
+    pub said : told_at (tells_behind before.behind) before.most before.preceding (cipher_at old) before.keys old after.keys new
     pub most_is : after.most ≡ before.most
-    pub place_is : after.place ≡ behind t before.place
+    pub preceding_is : after.preceding ≡ behind t before.preceding
     pub behind_is : after.behind ≡ before.behind
 
   abbrev pub inserted_before : {B : Type 0} → (B → NamedKey → Usage → List ℕ → List Token → List Token → Type 0)
@@ -58,4 +58,4 @@ module _ (tells : Role → List ℕ → Label → List ℕ → List Token → Li
   abbrev pub is_decrypted_page : {B : Type 0} → (B → NamedKey → Usage → List ℕ → List Token → List Token → Type 0) → ℕ → B
       → List NamedKey → List Token → List Token → Type 0
   is_decrypted_page {B} tells_behind most b keys old new =
-      (after : Decrypting B) × walk_of (inserted_before tells_behind) (record { keys = keys; most = most; place = start; behind = b }) old [] after new
+      (after : Decrypting B) × walk_of (inserted_before tells_behind) (record { keys = keys; most = most; preceding = start; behind = b }) old [] after new

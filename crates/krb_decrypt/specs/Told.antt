@@ -2,7 +2,7 @@
 use Rattle.std.specs.Prelude.{◌≡◌, ℕ, zero, suc, ◌-◌, List, [], ◌++◌, Option, None, Some, codes, length, take}
 use Rattle.std.specs.List.{slice_get}
 use Rattle.krb_decrypt.specs.Keys.{NamedKey}
-use Rattle.krb_decrypt.specs.Places.{keys_in, start}
+use Rattle.krb_decrypt.specs.Preceding.{keys_in, start}
 use Rattle.krb_decrypt.specs.Usages.{integer_of, type_of}
 use Rattle.krb_decrypt.specs.declared.outcome.Outcome.{Outcome}
 use Rattle.krb_decrypt.specs.declared.outcome.Outcome.TheVariants as outcomes
@@ -74,7 +74,7 @@ pub record IsToldPart (tells : Role → List ℕ → Label → List ℕ → List
 
 module _ (tells : Role → List ℕ → Label → List ℕ → List Token → List Token → Type 0) (behind : NamedKey → Usage → List ℕ → List Token → List Token → Type 0)
     (most : ℕ) where
-  -- by the key at its place
+  -- by the key at its preceding
   abbrev pub told_under : Option NamedKey → Usage → Part → List NamedKey → List Token → List NamedKey → List Token → Type 0
   told_under None u p keys old next new = (next ≡ keys) × (new ≡ old)
   told_under (Some key) u p keys old next new = IsToldPart tells behind most key u p keys old next new

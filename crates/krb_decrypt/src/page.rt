@@ -3,13 +3,13 @@
 ghost use Rattle.std.specs.Prelude.{◌≡◌, Some, IfOk, OnOk};
 ghost use Rattle.std.specs.Option.{option_copied};
 ghost use Rattle.krb_decrypt.specs.Pages.{Decrypting, cipher_at, inserted_before, is_decrypted_page, told_at};
-ghost use Rattle.krb_decrypt.specs.Places.{start};
+ghost use Rattle.krb_decrypt.specs.Preceding.{start};
 ghost use Rattle.krb_show.specs.Tokens.{Begins};
 
 use crate::behind::TellsBehind;
 use crate::key::Key;
 use crate::parts::outcome_of;
-use crate::place::{Place, behind, start};
+use crate::preceding::{Preceding, behind, start};
 use crate::told::push_outcome;
 use krb_show::{Form, Insert, Page, ShowsFormats, Token, page_with};
 use std::alloc::{AllocError, Global};
@@ -21,7 +21,7 @@ use std::marker::{Model, PhantomData};
 pub struct Decrypting<F, B> {
     keys: Vec<Key>,
     most: usize,
-    place: Place,
+    preceding: Preceding,
     behind: B,
     formats: PhantomData<F>,
 }
@@ -31,7 +31,7 @@ impl<F, B> Model for Decrypting<F, B> {
 
     ghost Value = { Decrypting B };
 
-    ghost view = { λ d. record { keys = d.keys.items; most = d.most; place = d.place; behind = d.behind } };
+    ghost view = { λ d. record { keys = d.keys.items; most = d.most; preceding = d.preceding; behind = d.behind } };
 }
 
 /// The ciphertext that a page ends with.
@@ -50,15 +50,15 @@ fn tell_at<F: ShowsFormats, B: TellsBehind>(
     alloc: Global,
     most: usize,
     behind: &B,
-    place: Place,
+    preceding: Preceding,
     cipher: &[u8],
     keys: &mut Vec<Key>,
     page: &mut Page,
 ) -> Result<(), AllocError>
-    ensures ok { OnOk result (told_at F.tells (B.tells behind.now) most place (Some cipher.now) keys.old.items page.old.items keys.new.items page.new.items) }
+    ensures ok { OnOk result (told_at F.tells (B.tells behind.now) most preceding (Some cipher.now) keys.old.items page.old.items keys.new.items page.new.items) }
     ensures kept { OnOk result (Begins page.old.items page.new.items) }
 {
-    let outcome = outcome_of(alloc, place, cipher, keys.as_slice())?;
+    let outcome = outcome_of(alloc, preceding, cipher, keys.as_slice())?;
     push_outcome::<F, B>(alloc, most, behind, &outcome, keys, page)
 }
 
@@ -67,18 +67,18 @@ fn tell_at_end<F: ShowsFormats, B: TellsBehind>(
     alloc: Global,
     most: usize,
     behind: &B,
-    place: Place,
+    preceding: Preceding,
     keys: &mut Vec<Key>,
     page: &mut Page,
 ) -> Result<(), AllocError>
-    ensures ok { OnOk result (told_at F.tells (B.tells behind.now) most place (cipher_at page.old.items) keys.old.items page.old.items keys.new.items page.new.items) }
+    ensures ok { OnOk result (told_at F.tells (B.tells behind.now) most preceding (cipher_at page.old.items) keys.old.items page.old.items keys.new.items page.new.items) }
     ensures kept { OnOk result (Begins page.old.items page.new.items) }
 {
     let Some(cipher) = cipher_at(page) else {
         return Ok(());
     };
     let cipher = Vec::from_slice(alloc, cipher)?;
-    tell_at::<F, B>(alloc, most, behind, place, &cipher, keys, page)
+    tell_at::<F, B>(alloc, most, behind, preceding, &cipher, keys, page)
 }
 
 /// Says it before a token, and goes on behind that.
@@ -95,11 +95,11 @@ fn insert_before<F: ShowsFormats, B: TellsBehind>(
         alloc,
         decrypting.most,
         &decrypting.behind,
-        decrypting.place,
+        decrypting.preceding,
         &mut decrypting.keys,
         page,
     )?;
-    decrypting.place = behind(next, decrypting.place);
+    decrypting.preceding = behind(next, decrypting.preceding);
     Ok(())
 }
 
@@ -129,7 +129,7 @@ pub fn page_with_decrypted<F: ShowsFormats, B: TellsBehind + Drop>(
     let mut decrypting = Decrypting::<F, B> {
         keys,
         most,
-        place: start(),
+        preceding: start(),
         behind,
         formats: PhantomData,
     };

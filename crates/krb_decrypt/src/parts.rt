@@ -8,7 +8,7 @@ ghost use Rattle.krb_decrypt.specs.Types.{IsOfNo};
 
 use crate::key::{Key, suite_of};
 use crate::outcome::{Outcome, Part, Reason};
-use crate::place::Place;
+use crate::preceding::Preceding;
 use crate::search::{first_key, is_of_one};
 use crate::usage::{Usage, usages_of};
 use crate::walked::walked;
@@ -38,7 +38,7 @@ fn part_as(
     }
 }
 
-/// What some KDCs encrypt for a usage in place of its type, if the octets are it.
+/// What some KDCs encrypt for a usage in preceding of its type, if the octets are it.
 fn other_part(alloc: Global, usage: Usage, octets: &[u8]) -> Result<Option<Part>, AllocError>
     ensures { IfOk result (λ found. MatchOption found (NoOther usage octets.now) (IsOther usage octets.now)) }
 {
@@ -123,37 +123,41 @@ fn under_suite(
 /// What the keys make of a part, by its encryption type.
 fn under_keys(
     alloc: Global,
-    place: Place,
+    preceding: Preceding,
     cipher: &[u8],
     keys: &[Key],
 ) -> Result<Outcome, AllocError>
-    ensures { IfOk result (UnderKeys place.role place.etype cipher.now keys.now) }
+    ensures { IfOk result (UnderKeys preceding.role preceding.etype cipher.now keys.now) }
 {
     if keys.is_empty() {
         return Ok(Outcome::NotTried);
     }
-    match suite_of(place.etype) {
-        Some(suite) => under_suite(alloc, &suite, place.role, cipher, keys),
+    match suite_of(preceding.etype) {
+        Some(suite) => under_suite(alloc, &suite, preceding.role, cipher, keys),
         None => Ok(Outcome::NotDecrypted(Reason::TypeNotSupported)),
     }
 }
 
 /// Whether octets are in the clear: those of a KRB-CRED under encryption type 0.
-fn is_clear(place: Place) -> bool
-    ensures { IsTrue result ↔ IsClear place.role place.etype }
+fn is_clear(preceding: Preceding) -> bool
+    ensures { IsTrue result ↔ IsClear preceding.role preceding.etype }
 {
-    match (place.role, place.etype) {
+    match (preceding.role, preceding.etype) {
         (Role::EncKrbCredPart, Some(0)) => true,
         _ => false,
     }
 }
 
 /// The part that octets in the clear are, if they are such and it.
-fn clear_part(alloc: Global, place: Place, cipher: &[u8]) -> Result<Option<Part>, AllocError>
-    ensures { IfOk result (λ found. MatchOption found (IsNotClear place.role place.etype cipher.now)
-        (λ p. IsClear place.role place.etype × IsPart (codes "EncKrbCredPart") cipher.now p)) }
+fn clear_part(
+    alloc: Global,
+    preceding: Preceding,
+    cipher: &[u8],
+) -> Result<Option<Part>, AllocError>
+    ensures { IfOk result (λ found. MatchOption found (IsNotClear preceding.role preceding.etype cipher.now)
+        (λ p. IsClear preceding.role preceding.etype × IsPart (codes "EncKrbCredPart") cipher.now p)) }
 {
-    if is_clear(place) {
+    if is_clear(preceding) {
         return part_as(alloc, "EncKrbCredPart", cipher);
     }
     Ok(None)
@@ -164,15 +168,15 @@ fn clear_part(alloc: Global, place: Place, cipher: &[u8]) -> Result<Option<Part>
 /// until one fits. The only error is an allocation failure.
 pub fn outcome_of(
     alloc: Global,
-    place: Place,
+    preceding: Preceding,
     cipher: &[u8],
     keys: &[Key],
 ) -> Result<Outcome, AllocError>
-    ensures { IfOk result (IsOutcome place.role place.etype cipher.now keys.now) }
+    ensures { IfOk result (IsOutcome preceding.role preceding.etype cipher.now keys.now) }
 {
-    let clear = clear_part(alloc, place, cipher)?;
+    let clear = clear_part(alloc, preceding, cipher)?;
     match clear {
         Some(part) => Ok(Outcome::InClear(part)),
-        None => under_keys(alloc, place, cipher, keys),
+        None => under_keys(alloc, preceding, cipher, keys),
     }
 }

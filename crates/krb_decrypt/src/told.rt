@@ -9,7 +9,7 @@ ghost use Rattle.krb_show.specs.Tokens.{Begins};
 use crate::behind::TellsBehind;
 use crate::key::Key;
 use crate::outcome::{Outcome, Part, Reason};
-use crate::place::keys_in;
+use crate::preceding::keys_in;
 use crate::usage::Usage;
 use krb_show::{
     Label, Page, Row, Secrets, Show, ShowsFormats, push_items_with_places, show_number, show_text,

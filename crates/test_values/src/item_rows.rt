@@ -1,6 +1,6 @@
 //! Items of a KRB-ERROR that Heimdal made, of a request with two thousand encryption types, and of a part of 70,000 octets.
 
-use krb_c_calls::Refusal;
+use krb_c_calls::CallError;
 use krb_c_calls::items::{ItemRecord, find, find_number, item_name, items, number_name};
 use std::alloc::Global;
 use std::test::Fail;
@@ -76,7 +76,7 @@ fn finds_fields_of_an_error(rt: HostRuntime) {
     );
     assert_eq!(rt;
         found(alloc, b"KRB-ERROR", b"sname.name-string[2]", &ERROR),
-        (Refusal::Absent.status(), 0, 0)
+        (CallError::Absent.status(), 0, 0)
     );
     assert_eq!(rt;
         found(alloc, b"KRB-ERROR", b"", &ERROR),
@@ -85,7 +85,7 @@ fn finds_fields_of_an_error(rt: HostRuntime) {
     );
     assert_eq!(rt;
         found(alloc, b"KRB-ERROR", b"e-text", &ERROR),
-        (Refusal::Absent.status(), 0, 0)
+        (CallError::Absent.status(), 0, 0)
     );
     assert_eq!(rt;
         found(alloc, b"KRB-ERROR", b"realm.", &ERROR),
@@ -116,7 +116,7 @@ fn finds_numbers_of_an_error(rt: HostRuntime) {
     assert_eq!(rt; counted(alloc, b"KRB-ERROR", b"susec", &ERROR), (0, 824918));
     assert_eq!(rt;
         counted(alloc, b"KRB-ERROR", b"cusec", &ERROR),
-        (Refusal::Absent.status(), 0)
+        (CallError::Absent.status(), 0)
     );
     assert_eq!(rt;
         counted(alloc, b"KRB-ERROR", b"realm", &ERROR),
@@ -198,7 +198,7 @@ fn finds_one_of_two_thousand(rt: HostRuntime) -> Result<(), Fail> {
     assert_eq!(rt; counted(alloc, b"AS-REQ", last, &octets), (0, 18));
     assert_eq!(rt;
         found(alloc, b"AS-REQ", b"req-body.etype[2000]", &octets),
-        (Refusal::Absent.status(), 0, 0)
+        (CallError::Absent.status(), 0, 0)
     );
     let (mut told, mut count, mut offset) = (Vec::from_elem(alloc, OTHER, 2030)?, 7, 7);
     let status = items(

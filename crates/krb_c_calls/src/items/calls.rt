@@ -4,11 +4,11 @@ ghost use Rattle.std.specs.Prelude.{◌≡◌, map, MatchBool};
 ghost use Rattle.krb_c_calls.specs.Handing.{ArePut, IsAnswered};
 ghost use Rattle.krb_c_calls.specs.Items.{HoldsNumber, IsItemAnswer, IsItemNumber, IsItemsAnswer, IsNameOf, RefusesName, record_of};
 
+use crate::call_error::{CallError, DONE, ROOM};
 use crate::handing::put;
 use crate::items::numbers::content_number;
 use crate::items::record::{ItemRecord, NO_ITEM, record_of};
 use crate::items::walked::{found, walked};
-use crate::refusal::{DONE, ROOM, Refusal};
 use krb_schema::{Form, Item, Leaf, content_of, name_of_number};
 use std::alloc::Global;
 
@@ -62,7 +62,7 @@ pub fn item_name(number: u32, out: &mut [u8], size: &mut usize) -> u32
         Some(name) => put(name.as_bytes(), out, size),
         None => {
             *size = 0;
-            Refusal::Number.status()
+            CallError::Number.status()
         }
     }
 }
@@ -133,7 +133,7 @@ pub fn find_number(
         Err(refusal) => return refusal.status(),
     };
     if !holds_number(item.form) {
-        return Refusal::Number.status();
+        return CallError::Number.status();
     }
     content_number(alloc, content_of(octets, item), number)
 }

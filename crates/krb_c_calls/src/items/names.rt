@@ -5,8 +5,8 @@ ghost use Rattle.krb_c_calls.specs.Handing.{IsAnswered};
 ghost use Rattle.krb_c_calls.specs.Items.{HasNoNumberName, IsNumberName, RefusesNumberName, registry_number};
 ghost use Rattle.krb_registry.specs.declared.kind.Kind.{Kind};
 
+use crate::call_error::CallError;
 use crate::handing::put;
-use crate::refusal::Refusal;
 use krb_registry::{Kind, name};
 
 /// The registry of a number.
@@ -56,7 +56,7 @@ pub fn number_name(registry: i32, number: i64, out: &mut [u8], size: &mut usize)
         Some(name) => put(name.as_bytes(), out, size),
         None => {
             *size = 0;
-            Refusal::Number.status()
+            CallError::Number.status()
         }
     }
 }

@@ -3,7 +3,7 @@
 ghost use Rattle.std.specs.Prelude.{◌≡◌};
 ghost use Rattle.krb_c_calls.specs.ContentNumbers.{IsContentNumber};
 
-use crate::refusal::{DONE, Refusal};
+use crate::call_error::{CallError, DONE};
 use krb_der_core::{Der, IntegerAsn1};
 use std::alloc::Global;
 
@@ -17,13 +17,13 @@ pub(crate) fn content_number(alloc: Global, content: &[u8], number: &mut i64) ->
     *number = 0;
     let value = match IntegerAsn1::read_element(alloc, INTEGER, content) {
         Ok(value) => value,
-        Err(error) => return Refusal::from(error).status(),
+        Err(error) => return CallError::from(error).status(),
     };
     match value.to_i64() {
         Some(small) => {
             *number = small;
             DONE
         }
-        None => Refusal::TooLarge.status(),
+        None => CallError::TooLarge.status(),
     }
 }

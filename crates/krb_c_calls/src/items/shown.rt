@@ -5,9 +5,9 @@ ghost use Rattle.krb_c_calls.specs.Handing.{IsAnswered};
 ghost use Rattle.krb_c_calls.specs.Shown.{AreTokensOf, ArePrintable, IsShown, IsShownAs, RefusesShowing, secrets_of, written_of};
 ghost use Rattle.krb_c_calls.specs.Statuses.{refusal_status};
 
+use crate::call_error::CallError;
 use crate::handing::hand_out;
 use crate::items::walked::walked;
-use crate::refusal::Refusal;
 use krb_schema::Item;
 use krb_show::{NoFormats, Page, Secrets, Token, json_of_page, push_items, text_of_page};
 use std::alloc::{AllocError, Global};
@@ -71,7 +71,7 @@ fn shown(
     octets: &[u8],
     is_json: bool,
     secrets: Secrets,
-) -> Result<Vec<u8>, Refusal>
+) -> Result<Vec<u8>, CallError>
     ensures { MatchResult result (λ text. IsShown is_json secrets type_name.now octets.now text.items)
         (λ e. RefusesShowing type_name.now octets.now (refusal_status e)) }
 {

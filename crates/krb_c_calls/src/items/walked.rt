@@ -4,7 +4,7 @@ ghost use Rattle.std.specs.Prelude.{◌≡◌, MatchResult};
 ghost use Rattle.krb_c_calls.specs.Items.{AreItems, LeadsTo, RefusesFinding, RefusesItems, fault_offset, fault_refusal};
 ghost use Rattle.krb_c_calls.specs.Statuses.{refusal_status};
 
-use crate::refusal::Refusal;
+use crate::call_error::CallError;
 use krb_schema::kerberos::kerberos;
 use krb_schema::{Fault, Item, Name, PathError, Role, items_of, type_named};
 use std::alloc::Global;
@@ -12,7 +12,7 @@ use std::alloc::Global;
 /// Why octets have no items, and how many octets stand before the first error.
 #[derive(Clone, Copy)]
 pub(crate) struct WalkRefusal {
-    pub refusal: Refusal,
+    pub refusal: CallError,
     pub offset: usize,
 }
 
@@ -23,19 +23,19 @@ impl From<Fault> for WalkRefusal {
     fn from(fault: Fault) -> WalkRefusal {
         match fault {
             Fault::OutOfMemory => WalkRefusal {
-                refusal: Refusal::Memory,
+                refusal: CallError::Memory,
                 offset: 0,
             },
             Fault::NoRow => WalkRefusal {
-                refusal: Refusal::Never,
+                refusal: CallError::Never,
                 offset: 0,
             },
             Fault::TooDeep { offset } => WalkRefusal {
-                refusal: Refusal::TooDeep,
+                refusal: CallError::TooDeep,
                 offset,
             },
             Fault::Refused { why, offset } => WalkRefusal {
-                refusal: Refusal::from(why),
+                refusal: CallError::from(why),
                 offset,
             },
         }
@@ -54,7 +54,7 @@ pub(crate) fn walked(
 {
     let Some((text, row)) = type_named(type_name) else {
         return Err(WalkRefusal {
-            refusal: Refusal::Number,
+            refusal: CallError::Number,
             offset: 0,
         });
     };
@@ -75,7 +75,7 @@ pub(crate) fn found(
     type_name: &[u8],
     path: &[u8],
     octets: &[u8],
-) -> Result<Item, Refusal>
+) -> Result<Item, CallError>
     ensures { MatchResult result
         (λ item. LeadsTo type_name.now path.now octets.now item)
         (λ e. RefusesFinding type_name.now path.now octets.now (refusal_status e)) }
@@ -86,7 +86,7 @@ pub(crate) fn found(
     };
     match krb_schema::find(&items, path) {
         Ok(item) => Ok(item),
-        Err(PathError::NoPath) => Err(Refusal::Number),
-        Err(PathError::Absent) => Err(Refusal::Absent),
+        Err(PathError::NoPath) => Err(CallError::Number),
+        Err(PathError::Absent) => Err(CallError::Absent),
     }
 }

@@ -3,7 +3,7 @@
 ghost use Rattle.krb_c_calls.specs.Kinds.{IsChecked, reading_of};
 ghost use Rattle.krb_c_calls.specs.MessageRules.{IsReading};
 
-use crate::Refusal;
+use crate::CallError;
 use crate::parts::kind::{MessageKind, kind_of};
 use crate::parts::messages::read;
 use krb_der::{Der, DerEncode};
@@ -121,6 +121,6 @@ pub fn check(alloc: Global, number: i32, octets: &[u8]) -> u32
             EncKrbCredPart,
             KrbError,
         >(alloc, kind, octets),
-        None => Refusal::Number.status(),
+        None => CallError::Number.status(),
     }
 }

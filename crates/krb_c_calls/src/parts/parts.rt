@@ -5,10 +5,10 @@ ghost use Rattle.krb_c_calls.specs.Handing.{IsAnswered};
 ghost use Rattle.krb_c_calls.specs.Statuses.{refusal_status};
 ghost use Rattle.krb_c_calls.specs.Parts.{IsOpening, IsPart, IsSealing, RefusesOpening, RefusesPart, RefusesSealing};
 
+use crate::call_error::CallError;
 use crate::handing::hand_out;
 use crate::messages::encrypted;
 use crate::parts::messages::checked;
-use crate::refusal::Refusal;
 use crate::suites::cipher_suite_of;
 use krb_crypto::CipherSuite;
 use krb_crypto::prepared::OpeningKey;
@@ -24,15 +24,15 @@ fn part_under<T: Der + Drop>(
     key: &[u8],
     usage: i32,
     sealed: &[u8],
-) -> Result<T, Refusal>
+) -> Result<T, CallError>
     ensures { MatchResult result (IsPart ⟦<T as DerEncode>⟧ suite.now key.now usage sealed.now)
         (λ e. RefusesPart ⟦<T as DerEncode>⟧ suite.now key.now usage sealed.now (refusal_status e)) }
 {
     let prepared = OpeningKey::new(suite, key, usage)?;
     match open_part::<T>(alloc, &prepared, sealed) {
         Ok(value) => Ok(value),
-        Err(PartError::Crypto(error)) => Err(Refusal::from(error)),
-        Err(PartError::Der(error)) => Err(Refusal::from(error)),
+        Err(PartError::Crypto(error)) => Err(CallError::from(error)),
+        Err(PartError::Der(error)) => Err(CallError::from(error)),
     }
 }
 
@@ -43,7 +43,7 @@ fn opened<T: Der + Drop>(
     key: &[u8],
     usage: i32,
     sealed: &[u8],
-) -> Result<Vec<u8>, Refusal>
+) -> Result<Vec<u8>, CallError>
     ensures { MatchResult result (λ made. IsOpening ⟦<T as DerEncode>⟧ etype key.now usage sealed.now made.items)
         (λ e. RefusesOpening ⟦<T as DerEncode>⟧ etype key.now usage sealed.now (refusal_status e)) }
 {
@@ -80,7 +80,7 @@ fn sealed<T: Der + Drop>(
     usage: i32,
     confounder: &[u8],
     part: &[u8],
-) -> Result<Vec<u8>, Refusal>
+) -> Result<Vec<u8>, CallError>
     ensures { MatchResult result
         (λ made. IsSealing ⟦<T as DerEncode>⟧ etype key.now usage confounder.now part.now made.items)
         (λ e. RefusesSealing ⟦<T as DerEncode>⟧ etype key.now confounder.now part.now (refusal_status e)) }

@@ -7,10 +7,10 @@ ghost use Rattle.krb_kdc_proxy.specs.Replies.{reply_types};
 ghost use Rattle.krb_kdc_proxy.specs.Requests.{types};
 ghost use Rattle.krb_c_calls.specs.Clients.{IsReplyTold, IsRequestMade, RefusesRequest};
 ghost use Rattle.krb_c_calls.specs.Statuses.{refusal_status};
-ghost use Rattle.krb_c_calls.specs.declared.refusal.Refusal.TheVariants as refusals;
+ghost use Rattle.krb_c_calls.specs.declared.call_error.CallError.TheVariants as refusals;
 
+use crate::call_error::{CallError, DONE};
 use crate::handing::hand_out;
-use crate::refusal::{DONE, Refusal};
 use krb_der::DerEncode;
 use krb_kdc_proxy::{read_reply, write_request};
 use krb_messages::messages::{
@@ -21,21 +21,21 @@ use std::alloc::Global;
 use std::str;
 
 /// The realm of these octets; `Invalid` where one of them is past 127.
-fn realm_of(alloc: Global, octets: &[u8]) -> Result<KerberosStringAsn1, Refusal>
+fn realm_of(alloc: Global, octets: &[u8]) -> Result<KerberosStringAsn1, CallError>
     ensures { MatchResult result (λ realm. (realm ≡ octets.now) × IsAscii octets.now)
         (λ e. (e ≡ refusals.Memory) ⊎ ((e ≡ refusals.Invalid) × (IsAscii octets.now → ⊥))) }
 {
     let Ok(text) = str::from_utf8(octets) else {
-        return Err(Refusal::Invalid);
+        return Err(CallError::Invalid);
     };
     match KerberosStringAsn1::from_string(String::from_str(alloc, text)?) {
         Ok(realm) => Ok(realm),
-        Err(_) => Err(Refusal::Invalid),
+        Err(_) => Err(CallError::Invalid),
     }
 }
 
 /// What `make_proxy_request` hands out, or why it refuses.
-fn request_made(alloc: Global, message: &[u8], domain: &[u8]) -> Result<Vec<u8>, Refusal>
+fn request_made(alloc: Global, message: &[u8], domain: &[u8]) -> Result<Vec<u8>, CallError>
     ensures { MatchResult result
         (λ made. IsRequestMade ⟦<KdcProxyMessage as DerEncode>⟧
         (types ⟦<AsReq as DerEncode>⟧ ⟦<TgsReq as DerEncode>⟧ ⟦<ApReq as DerEncode>⟧ ⟦<KrbPriv as DerEncode>⟧)
@@ -89,6 +89,6 @@ pub fn read_proxy_reply(
             *message_size = reply.datagram.len();
             DONE
         }
-        Err(error) => Refusal::from(error).status(),
+        Err(error) => CallError::from(error).status(),
     }
 }

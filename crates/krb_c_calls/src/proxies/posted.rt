@@ -4,7 +4,7 @@ ghost use Rattle.std.specs.Prelude.{◌≡◌, List, ℕ, Some};
 ghost use Rattle.krb_c_calls.specs.Posted.{IsDomainAt, IsHintOf, IsNamesNumber, TellsLenient, TellsRequest, service_number};
 ghost use Rattle.krb_messages.specs.declared.messages.proxy.KdcProxyMessage.{KdcProxyMessage};
 
-use crate::refusal::{DONE, Refusal};
+use crate::call_error::{CallError, DONE};
 use krb_der::{DerEncode, IntegerAsn1};
 use krb_kdc_proxy::{LenientRequest, ProxyRequest, Service};
 use krb_message_fields::places::{Place, Step, place_of};
@@ -61,9 +61,9 @@ fn hint_of(hint: &Option<IntegerAsn1>) -> (i64, u32)
     match hint {
         Some(number) => match number.to_i64() {
             Some(small) => (small, DONE),
-            None => (0, Refusal::TooLarge.status()),
+            None => (0, CallError::TooLarge.status()),
         },
-        None => (0, Refusal::Absent.status()),
+        None => (0, CallError::Absent.status()),
     }
 }
 

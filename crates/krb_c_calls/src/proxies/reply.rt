@@ -8,15 +8,15 @@ ghost use Rattle.krb_c_calls.specs.Replies.{IsArrivalTold, IsDatagramReplyMade, 
 ghost use Rattle.krb_c_calls.specs.ProxyStatuses.{Refuses};
 ghost use Rattle.krb_c_calls.specs.Statuses.{refusal_status};
 
+use crate::call_error::{CallError, DONE};
 use crate::handing::hand_out;
-use crate::refusal::{DONE, Refusal};
 use krb_der::DerEncode;
 use krb_kdc_proxy::{Whole, is_whole, write_reply, write_reply_datagram};
 use krb_messages::messages::{ApRep, AsRep, KdcProxyMessage, KrbError, KrbPriv, TgsRep};
 use std::alloc::Global;
 
 /// What `proxy_reply` hands out, or why it refuses.
-fn reply_made(alloc: Global, octets: &[u8]) -> Result<Vec<u8>, Refusal>
+fn reply_made(alloc: Global, octets: &[u8]) -> Result<Vec<u8>, CallError>
     ensures { MatchResult result
         (λ made. IsReplyMade ⟦<KdcProxyMessage as DerEncode>⟧
         (reply_types ⟦<AsRep as DerEncode>⟧ ⟦<TgsRep as DerEncode>⟧
@@ -28,7 +28,7 @@ fn reply_made(alloc: Global, octets: &[u8]) -> Result<Vec<u8>, Refusal>
 }
 
 /// What `proxy_reply_datagram` hands out, or why it refuses.
-fn datagram_reply_made(alloc: Global, octets: &[u8]) -> Result<Vec<u8>, Refusal>
+fn datagram_reply_made(alloc: Global, octets: &[u8]) -> Result<Vec<u8>, CallError>
     ensures { MatchResult result
         (λ made. IsDatagramReplyMade ⟦<KdcProxyMessage as DerEncode>⟧
         (reply_types ⟦<AsRep as DerEncode>⟧ ⟦<TgsRep as DerEncode>⟧
@@ -73,7 +73,7 @@ pub fn proxy_is_whole(octets: &[u8], limit: usize) -> u32
 {
     match is_whole(octets, limit) {
         Whole::Yes => DONE,
-        Whole::NotYet => Refusal::Truncated.status(),
-        Whole::Never => Refusal::ProxyTooLarge.status(),
+        Whole::NotYet => CallError::Truncated.status(),
+        Whole::Never => CallError::ProxyTooLarge.status(),
     }
 }

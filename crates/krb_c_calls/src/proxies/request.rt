@@ -3,8 +3,8 @@
 ghost use Rattle.krb_kdc_proxy.specs.Requests.{types};
 ghost use Rattle.krb_c_calls.specs.Requests.{IsLenientTold, IsRequestTold};
 
+use crate::call_error::{CallError, DONE};
 use crate::proxies::posted::{NOTHING, PostedRecord, told_lenient, told_request};
-use crate::refusal::{DONE, Refusal};
 use krb_der::DerEncode;
 use krb_kdc_proxy::{read_request, read_request_lenient};
 use krb_messages::messages::{ApReq, AsReq, KdcProxyMessage, KrbPriv, TgsReq};
@@ -26,7 +26,7 @@ pub fn proxy_request(alloc: Global, octets: &[u8], posted: &mut PostedRecord) ->
         }
         Err(error) => {
             *posted = NOTHING;
-            Refusal::from(error).status()
+            CallError::from(error).status()
         }
     }
 }
@@ -42,7 +42,7 @@ pub fn proxy_request_lenient(alloc: Global, octets: &[u8], posted: &mut PostedRe
         }
         Err(error) => {
             *posted = NOTHING;
-            Refusal::from(error).status()
+            CallError::from(error).status()
         }
     }
 }

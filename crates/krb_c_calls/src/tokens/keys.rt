@@ -4,7 +4,7 @@ ghost use Rattle.std.specs.Prelude.{◌≡◌, MatchResult};
 ghost use Rattle.krb_c_calls.specs.TokenKeys.{IsKeyOf, RefusesKey, sender_of};
 ghost use Rattle.krb_c_calls.specs.Statuses.{refusal_status};
 
-use crate::refusal::Refusal;
+use crate::call_error::CallError;
 use crate::suites::cipher_suite_of;
 use krb_gss_per_message::{Sender, TokenKey};
 
@@ -24,7 +24,7 @@ pub(crate) fn token_key(
     octets: &[u8],
     sent_by_acceptor: bool,
     acceptor_subkey: bool,
-) -> Result<TokenKey<'_>, Refusal>
+) -> Result<TokenKey<'_>, CallError>
     ensures { MatchResult result
         (λ key. IsKeyOf etype octets.now sent_by_acceptor acceptor_subkey key)
         (λ e. RefusesKey etype octets.now (refusal_status e)) }

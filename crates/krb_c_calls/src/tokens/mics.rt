@@ -5,8 +5,8 @@ ghost use Rattle.krb_c_calls.specs.Handing.{IsAnswered};
 ghost use Rattle.krb_c_calls.specs.Mics.{IsMicMade, RefusesMaking, HoldsAsMic, RefusesVerifying, IsMicVerification};
 ghost use Rattle.krb_c_calls.specs.Statuses.{refusal_status};
 
+use crate::call_error::{CallError, DONE};
 use crate::handing::hand_out;
-use crate::refusal::{DONE, Refusal};
 use crate::tokens::keys::token_key;
 use std::alloc::Global;
 
@@ -18,7 +18,7 @@ fn mic_made(
     acceptor_subkey: bool,
     sequence_number: u64,
     message: &[u8],
-) -> Result<Vec<u8>, Refusal>
+) -> Result<Vec<u8>, CallError>
     ensures { MatchResult result
         (λ made. IsMicMade etype key.now sent_by_acceptor acceptor_subkey sequence_number message.now made.items)
         (λ e. RefusesMaking etype key.now (refusal_status e)) }
@@ -64,7 +64,7 @@ fn number_of_mic(
     acceptor_subkey: bool,
     message: &[u8],
     token: &[u8],
-) -> Result<u64, Refusal>
+) -> Result<u64, CallError>
     ensures { MatchResult result
         (λ number. HoldsAsMic etype key.now sent_by_acceptor acceptor_subkey message.now token.now number)
         (λ e. RefusesVerifying etype key.now sent_by_acceptor acceptor_subkey message.now token.now

@@ -6,8 +6,8 @@ ghost use Rattle.krb_c_calls.specs.Mics.{RefusesMaking};
 ghost use Rattle.krb_c_calls.specs.Statuses.{refusal_status};
 ghost use Rattle.krb_c_calls.specs.Wraps.{IsSealedWrap, RefusesSealing, IsClearWrap, IsHeldBy, RefusesUnwrapping, IsUnwrapping};
 
+use crate::call_error::CallError;
 use crate::handing::{hand_out, put};
-use crate::refusal::Refusal;
 use crate::tokens::keys::token_key;
 use krb_crypto::confounder::confounder_of;
 use krb_gss_per_message::Unwrapped;
@@ -23,13 +23,13 @@ fn sealed_wrap(
     rotation: u16,
     confounder: &[u8],
     message: &[u8],
-) -> Result<Vec<u8>, Refusal>
+) -> Result<Vec<u8>, CallError>
     ensures { MatchResult result
         (λ made. IsSealedWrap etype key.now sent_by_acceptor acceptor_subkey sequence_number rotation confounder.now message.now made.items)
         (λ e. RefusesSealing etype key.now confounder.now (refusal_status e)) }
 {
     if confounder.len() != 16 {
-        return Err(Refusal::ConfounderSize);
+        return Err(CallError::ConfounderSize);
     }
     let key = token_key(etype, key, sent_by_acceptor, acceptor_subkey)?;
     let confounder: [u8; 16] = confounder_of(confounder);
@@ -86,7 +86,7 @@ fn clear_wrap(
     sequence_number: u64,
     rotation: u16,
     message: &[u8],
-) -> Result<Vec<u8>, Refusal>
+) -> Result<Vec<u8>, CallError>
     ensures { MatchResult result
         (λ made. IsClearWrap etype key.now sent_by_acceptor acceptor_subkey sequence_number rotation message.now made.items)
         (λ e. RefusesMaking etype key.now (refusal_status e)) }
@@ -139,7 +139,7 @@ fn unwrapped(
     sent_by_acceptor: bool,
     acceptor_subkey: bool,
     token: &[u8],
-) -> Result<Unwrapped, Refusal>
+) -> Result<Unwrapped, CallError>
     ensures { MatchResult result
         (λ held. IsHeldBy etype key.now sent_by_acceptor acceptor_subkey token.now held.sealed held.sequence_number held.message.items)
         (λ e. RefusesUnwrapping etype key.now sent_by_acceptor acceptor_subkey token.now (refusal_status e)) }

@@ -1,7 +1,7 @@
-//! Where a token stands, and the keys among tokens.
+//! What stands before a token, and the keys among tokens.
 
 ghost use Rattle.std.specs.Prelude.{◌≡◌, ◌++◌, ◌∷◌, [], None, Some, IfOk, MatchOption, OnOk};
-ghost use Rattle.krb_decrypt.specs.Places.{are_types, behind, in_list, is_key, key_at, keys_in, name_behind, start};
+ghost use Rattle.krb_decrypt.specs.Preceding.{are_types, behind, in_list, is_key, key_at, keys_in, name_behind, start};
 
 use crate::key::{Key, suite_of};
 use krb_registry::Kind;
@@ -9,20 +9,20 @@ use krb_schema::Role;
 use krb_show::{Form, Token};
 use std::alloc::{AllocError, Global};
 
-/// Where a token stands.
+/// What stands before a token.
 #[derive(Clone, Copy, Debug)]
-pub struct Place {
+pub struct Preceding {
     /// The role of the struct that began last before it.
     pub role: Role,
     /// The encryption type that stands last before it (RFC 3961, 8).
     pub etype: Option<i64>,
 }
 
-/// Before the first token.
-pub(crate) fn start() -> Place
+/// What stands before the first token.
+pub(crate) fn start() -> Preceding
     ensures { result ≡ start }
 {
-    Place {
+    Preceding {
         role: Role::None,
         etype: None,
     }
@@ -38,26 +38,26 @@ fn are_types(kind: Option<Kind>) -> bool
     }
 }
 
-/// Where the token behind one stands.
-pub(crate) fn behind(token: &Token, place: Place) -> Place
-    ensures { result ≡ behind token.now place }
+/// What stands before the token behind one.
+pub(crate) fn behind(token: &Token, preceding: Preceding) -> Preceding
+    ensures { result ≡ behind token.now preceding }
 {
     match token.form() {
-        Form::Struct => Place {
+        Form::Struct => Preceding {
             role: token.role(),
-            etype: place.etype,
+            etype: preceding.etype,
         },
         Form::Number => {
             if are_types(token.kind()) {
-                Place {
-                    role: place.role,
+                Preceding {
+                    role: preceding.role,
                     etype: token.number(),
                 }
             } else {
-                place
+                preceding
             }
         }
-        _ => place,
+        _ => preceding,
     }
 }
 
@@ -95,17 +95,17 @@ fn key_name(alloc: Global, type_name: &str, name: &[u8]) -> Result<Vec<u8>, Allo
 fn key_at(
     alloc: Global,
     type_name: &str,
-    place: Place,
+    preceding: Preceding,
     name: &[u8],
     token: &Token,
 ) -> Result<Option<Key>, AllocError>
-    ensures { IfOk result (λ found. MatchOption found (key_at type_name.now place name.now token.now ≡ None)
-        (λ key. key_at type_name.now place name.now token.now ≡ Some key)) }
+    ensures { IfOk result (λ found. MatchOption found (key_at type_name.now preceding name.now token.now ≡ None)
+        (λ key. key_at type_name.now preceding name.now token.now ≡ Some key)) }
 {
     if !is_key(token.form(), token.role()) {
         return Ok(None);
     }
-    let Some(suite) = suite_of(place.etype) else {
+    let Some(suite) = suite_of(preceding.etype) else {
         return Ok(None);
     };
     let name = key_name(alloc, type_name, name)?;
@@ -121,14 +121,14 @@ fn key_at(
 fn push_key(
     alloc: Global,
     type_name: &str,
-    place: Place,
+    preceding: Preceding,
     name: &[u8],
     token: &Token,
     keys: &mut Vec<Key>,
 ) -> Result<(), AllocError>
-    ensures { OnOk result (keys.new.items ≡ keys.old.items ++ in_list (key_at type_name.now place name.now token.now)) }
+    ensures { OnOk result (keys.new.items ≡ keys.old.items ++ in_list (key_at type_name.now preceding name.now token.now)) }
 {
-    if let Some(key) = key_at(alloc, type_name, place, name, token)? {
+    if let Some(key) = key_at(alloc, type_name, preceding, name, token)? {
         keys.push(key)?;
     }
     Ok(())
@@ -144,11 +144,11 @@ fn push_keys(
     ensures { OnOk result (keys.new.items ≡ keys.old.items ++ keys_in type_name.now start [] tokens.now) }
 {
     let mut rest = tokens;
-    let mut place = start();
+    let mut preceding = start();
     let mut name: &[u8] = &[];
     'tokens: while let Some((token, others)) = rest.split_first() {
-        push_key(alloc, type_name, place, name, token, keys)?;
-        place = behind(token, place);
+        push_key(alloc, type_name, preceding, name, token, keys)?;
+        preceding = behind(token, preceding);
         name = name_behind(token, name);
         rest = others;
     }

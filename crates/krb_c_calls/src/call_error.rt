@@ -12,7 +12,7 @@ pub const ROOM: u32 = 1;
 /// Why a call refuses: the names and the numbers that `krb_status` of `krb.h` has from 2 on.
 /// Lengths are in octets.
 #[derive(Clone, Copy, Debug, PartialEq, Eq)]
-pub enum Refusal {
+pub enum CallError {
     /// An allocation failed.
     Memory = 2,
     /// The number of an encryption type, a checksum type or a message that the library does not
@@ -88,9 +88,11 @@ pub enum Refusal {
     ProxyPvno = 39,
     /// msg-type is that of another message.
     ProxyMsgType = 40,
+    /// A rule of the acceptor's refuses the token (RFC 4120, 3.2.3; RFC 4121, 4.1).
+    NotAccepted = 41,
 }
 
-impl Refusal {
+impl CallError {
     /// The status that C is told.
     pub fn status(self) -> u32
         ensures number { result ≡ refusal_status self }

@@ -1,4 +1,4 @@
--- Where tokens stand, and the keys among them.
+-- What stands before tokens, and the keys among them.
 use Rattle.std.specs.Prelude.{ℕ, Bool, true, false, if◌then◌else◌, List, [], ◌∷◌, ◌++◌, Option, None, Some, option_map}
 use Rattle.krb_crypto.specs.declared.cipher_suite.CipherSuite.{CipherSuite}
 use Rattle.krb_registry.specs.declared.kind.Kind.{Kind}
@@ -9,9 +9,9 @@ use Rattle.krb_show.specs.Tokens.{Token}
 use Rattle.krb_show.specs.declared.token.Form.{Form}
 use Rattle.krb_show.specs.declared.token.Form.TheVariants as form
 use Rattle.krb_decrypt.specs.Keys.{NamedKey, suite_of}
-use Rattle.krb_decrypt.specs.declared.place.Place.{Place}
+use Rattle.krb_decrypt.specs.declared.preceding.Preceding.{Preceding}
 
-abbrev pub start : Place
+abbrev pub start : Preceding
 start = record { role = roles.None; etype = None }
 
 -- the numbers are encryption types (RFC 3961, 8)
@@ -19,13 +19,13 @@ abbrev pub are_types : Option Kind → Bool
 are_types (Some kinds.EncryptionType) = true
 are_types other = false
 
--- where the token behind one stands: behind a struct that begins there, and behind a number that is an encryption type
-abbrev pub behind_form : Form → Token → Place → Place
+-- what stands before the token behind one: behind a struct that begins there, and behind a number that is an encryption type
+abbrev pub behind_form : Form → Token → Preceding → Preceding
 behind_form form.Struct t p = record { role = t.label.role; etype = p.etype }
 behind_form form.Number t p = if are_types t.label.kind then record { role = p.role; etype = t.number } else p
 behind_form other t p = p
 
-abbrev pub behind : Token → Place → Place
+abbrev pub behind : Token → Preceding → Preceding
 behind t p = behind_form t.form t p
 
 -- the name of the struct that began last
@@ -47,7 +47,7 @@ abbrev pub named_key : List ℕ → List ℕ → List ℕ → CipherSuite → Na
 named_key kind name octets suite = record { suite = suite; octets = octets; name = kind ++ 32 ∷ name }
 
 -- the key that a token is, if its encryption type is that of a suite
-abbrev pub key_at : List ℕ → Place → List ℕ → Token → Option NamedKey
+abbrev pub key_at : List ℕ → Preceding → List ℕ → Token → Option NamedKey
 key_at kind p name t = if is_key t.form t.label.role then option_map (named_key kind name t.octets) (suite_of p.etype) else None
 
 abbrev pub in_list : {A : Type 0} → Option A → List A
@@ -55,6 +55,6 @@ in_list None = []
 in_list (Some x) = x ∷ []
 
 -- those among tokens of a type, in their order
-abbrev pub keys_in : List ℕ → Place → List ℕ → List Token → List NamedKey
+abbrev pub keys_in : List ℕ → Preceding → List ℕ → List Token → List NamedKey
 keys_in kind p name [] = []
 keys_in kind p name (t ∷ ts) = in_list (key_at kind p name t) ++ keys_in kind (behind t p) (name_behind t name) ts
