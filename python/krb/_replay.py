@@ -1,0 +1,186 @@
+"""Replay caches: what an acceptor has let in (RFC 4120, 3.2.3)."""
+
+import hashlib
+import heapq
+import os
+import sqlite3
+import stat
+import threading
+import time
+from typing import Any, Dict, List, Optional, Set, Tuple, Union
+
+__all__ = ["FileReplayCache", "ReplayCache"]
+
+# A cache is any object with these two; Acceptor asks for no more.
+#
+#     add(entry: bytes, seconds: int) -> bool
+#     whole_since: Optional[int]
+
+_TIME = 8  # octets of an entry, in which its time stands first
+_NOW = "now"
+
+
+def _time_of(entry: bytes) -> int:
+    """The client's time, with which an entry begins, in seconds since 1 January 1970, 00:00:00 UTC."""
+    return int.from_bytes(entry[:_TIME], "big", signed=True)
+
+
+def _since(whole_since: Union[float, str, None]) -> Optional[int]:
+    """Since when a new cache is whole: it has what was let in from the next whole second on."""
+    if whole_since is None:
+        return None
+    if isinstance(whole_since, str):
+        if whole_since != _NOW:
+            raise ValueError('whole_since is a number of seconds, None or "now"')
+        whole_since = time.time()
+    return -int(-whole_since // 1)
+
+
+class ReplayCache:
+    """A replay cache in the memory of one process, for any number of its threads.
+
+    It begins empty, so what was let in before it was made is not in it. `whole_since` says so to the acceptor, which refuses what may have been let in before, as
+    UNREMEMBERED: with a skew of 300 seconds, all clients whose clocks are right for the first 300 seconds. A service that knows that it let in
+    nobody before, as one with a new key, gives None. `FileReplayCache` outlives the process and has no such wait after its first start.
+
+    Acceptors that share a cache have the same skew. Of an entry a hash is kept, 32 octets (SHA-256)."""
+
+    whole_since: Optional[int]
+
+    def __init__(self, whole_since: Union[float, str, None] = _NOW) -> None:
+        self.whole_since = _since(whole_since)
+        self._lock = threading.Lock()
+        self._times: List[int] = []  # a heap of the keys of _entries
+        self._entries: Dict[int, Set[bytes]] = {}
+        self._forgotten: Optional[int] = None  # entries of earlier times are forgotten
+
+    def __len__(self) -> int:
+        with self._lock:
+            return sum(map(len, self._entries.values()))
+
+    def add(self, entry: bytes, seconds: int) -> bool:
+        """Adds an entry. True where it was not there yet; False where it was, or where its time is one that is forgotten, and then it is not added.
+
+        Entries of times before `seconds` are forgotten, the first eight octets of an entry being its time. If the clock goes back later, entries of these times
+        are refused until it is there again: what is forgotten is never let in twice."""
+        when, digest = _time_of(entry), hashlib.sha256(entry).digest()
+        with self._lock:
+            if self._forgotten is None or seconds > self._forgotten:
+                self._forgotten = seconds
+                while self._times and self._times[0] < seconds:
+                    del self._entries[heapq.heappop(self._times)]
+            if when < self._forgotten:
+                return False
+            if when not in self._entries:
+                self._entries[when] = set()
+                heapq.heappush(self._times, when)
+            entries = self._entries[when]
+            if digest in entries:
+                return False
+            entries.add(digest)
+            return True
+
+
+_SCHEMA = (
+    "CREATE TABLE IF NOT EXISTS state (id INTEGER PRIMARY KEY CHECK (id = 1), whole_since INTEGER, forgotten INTEGER)",
+    "CREATE TABLE IF NOT EXISTS entries (time INTEGER NOT NULL, digest BLOB NOT NULL, PRIMARY KEY (time, digest)) WITHOUT ROWID",
+)
+
+
+class FileReplayCache:
+    """A replay cache in a file, for any number of processes of one machine: of two that take one token at once, one lets the client in.
+
+    An entry is on the disk before its client is let in (SQLite, synchronous=FULL), so the cache outlives processes and the machine's power. The file is made with
+    mode 0600; one that others may write is refused. It says since when it is whole: since it was made, or what `whole_since` said then (`ReplayCache` has what that
+    means); where the file is there the argument is not looked at. SQLite keeps two more files beside it, with `-wal` and `-shm` behind its name. It is not for a network's file system.
+
+    Acceptors that share a cache have the same skew. Of an entry a hash is kept, 32 octets (SHA-256).
+
+    sqlite3.Error, OSError: the file cannot be read or written, or is locked for more than `timeout` seconds. Then `add` raises, and the client is not let in.
+    PermissionError: the file may be written by others, or is no regular file."""
+
+    whole_since: Optional[int]
+
+    def __init__(self, path: Union[str, "os.PathLike[str]"], whole_since: Union[float, str, None] = _NOW, timeout: float = 30) -> None:
+        self.path, self._timeout = os.path.abspath(os.fspath(path)), timeout
+        self._local, self._left = threading.local(), []  # type: Any, List[sqlite3.Connection]
+        self._make_file()
+        since = _since(whole_since)
+        link = self._connection()
+        self._write(link, lambda: self._begin(link, since))
+        self.whole_since = link.execute("SELECT whole_since FROM state").fetchone()[0]
+
+    def _make_file(self) -> None:
+        """Makes the file, where there is none, for its owner alone. (An open file is left to SQLite: to close it here would end its locks.)"""
+        try:
+            os.close(os.open(self.path, os.O_RDWR | os.O_CREAT | os.O_EXCL, 0o600))
+        except FileExistsError:
+            found = os.lstat(self.path)
+            if not stat.S_ISREG(found.st_mode) or stat.S_IMODE(found.st_mode) & 0o022:
+                raise PermissionError("%s may be written by others, or is no regular file" % self.path) from None
+
+    def _begin(self, link: sqlite3.Connection, since: Optional[int]) -> None:
+        for line in _SCHEMA:
+            link.execute(line)
+        link.execute("INSERT OR IGNORE INTO state VALUES (1, ?, NULL)", (since,))
+
+    def _connection(self) -> sqlite3.Connection:
+        """This thread's connection. One from before a fork is of the other process, and stays as it is."""
+        kept: Optional[Tuple[int, sqlite3.Connection]] = getattr(self._local, "kept", None)
+        if kept is not None and kept[0] == os.getpid():
+            return kept[1]
+        if kept is not None:
+            self._left.append(kept[1])
+        link = sqlite3.connect(self.path, timeout=self._timeout, isolation_level=None)
+        link.execute("PRAGMA synchronous=FULL")
+        end = time.monotonic() + self._timeout
+        while True:  # SQLite does not wait for others here
+            try:
+                link.execute("PRAGMA journal_mode=WAL")
+                break
+            except sqlite3.OperationalError:
+                if time.monotonic() > end:
+                    raise
+                time.sleep(0.01)
+        self._local.kept = os.getpid(), link
+        return link
+
+    @staticmethod
+    def _write(link: sqlite3.Connection, body: Any) -> Any:
+        """A transaction that no other writes beside."""
+        link.execute("BEGIN IMMEDIATE")
+        try:
+            answer = body()
+            link.execute("COMMIT")
+            return answer
+        except BaseException:
+            if link.in_transaction:
+                link.execute("ROLLBACK")
+            raise
+
+    def __len__(self) -> int:
+        return int(self._connection().execute("SELECT count(*) FROM entries").fetchone()[0])
+
+    def add(self, entry: bytes, seconds: int) -> bool:
+        """As `ReplayCache.add`."""
+        link = self._connection()
+        when, digest = _time_of(entry), hashlib.sha256(entry).digest()
+
+        def added() -> bool:
+            forgotten = link.execute("SELECT forgotten FROM state").fetchone()[0]
+            if forgotten is None or seconds > forgotten:
+                link.execute("DELETE FROM entries WHERE time < ?", (seconds,))
+                link.execute("UPDATE state SET forgotten = ?", (seconds,))
+                forgotten = seconds
+            if when < forgotten:
+                return False
+            return link.execute("INSERT OR IGNORE INTO entries VALUES (?, ?)", (when, digest)).rowcount == 1
+
+        return bool(self._write(link, added))
+
+    def close(self) -> None:
+        """Closes this thread's connection; `add` opens another. One of another thread is closed when that ends."""
+        kept: Optional[Tuple[int, sqlite3.Connection]] = getattr(self._local, "kept", None)
+        if kept is not None and kept[0] == os.getpid():
+            kept[1].close()
+            self._local.kept = None

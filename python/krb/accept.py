@@ -1,0 +1,312 @@
+"""Whether a service lets in the client that sent a token, and what it answers (RFC 4120, 3.2.3; RFC 4121, 4.1; docs/ACCEPTOR.md)."""
+
+import ctypes
+import enum
+import ipaddress
+import math
+import os
+import secrets
+import time
+from typing import Any, Callable, NamedTuple, Optional, Tuple, Union
+
+from krb._context import Accepted, Context, ContextFlag, EncryptionKey, OutOfOrder, time_of
+from krb._items import plain
+from krb._library import IN, U32, Call, Octets, Refused, Status, _library
+from krb._replay import FileReplayCache, ReplayCache
+from krb._window import Order
+
+__all__ = ["Acceptor", "ChannelBindings", "Context", "ContextFlag", "EncryptionKey", "FileReplayCache", "NotAccepted", "Order", "OutOfOrder", "ReplayCache", "Rule"]
+
+
+class Rule(enum.IntEnum):
+    """The rules of an acceptor, in their order (docs/ACCEPTOR.md). `NONE` is of no refusal."""
+
+    NONE = 0
+    NOT_REQUEST = 1
+    VERSION = 2
+    MESSAGE_TYPE = 3
+    TICKET_VERSION = 4
+    OPTIONS = 5
+    USER_TO_USER = 6
+    NOT_US = 7
+    NO_KEY = 8
+    KEY_VERSION = 9
+    TICKET_SUITE = 10
+    TICKET = 11
+    FLAGS = 12
+    SESSION_SUITE = 13
+    AUTHENTICATOR = 14
+    AUTHENTICATOR_VERSION = 15
+    MICROSECONDS = 16
+    SEQUENCE_NUMBER = 17
+    SUBKEY = 18
+    OTHER_CLIENT = 19
+    OTHER_ADDRESS = 20
+    SKEW = 21
+    NOT_YET_VALID = 22
+    INVALID = 23
+    EXPIRED = 24
+    PATH = 25
+    CRITICAL_DATA = 26
+    DATA_FORM = 27
+    UNREMEMBERED = 28
+    REPEAT = 29
+    FRAME = 30
+    PAC_MISSING = 31
+    PAC_FORM = 32
+    PAC_CHECKSUM = 33
+    PAC_CLIENT = 34
+    CHECKSUM_TYPE = 35
+    CHECKSUM_LAYOUT = 36
+    BINDINGS = 37
+    DELEGATION = 38
+
+
+_TEXTS = {
+    Rule.NONE: "no rule",
+    Rule.NOT_REQUEST: "the message is not an AP-REQ",
+    Rule.VERSION: "the protocol version is not 5",
+    Rule.MESSAGE_TYPE: "the message type is not that of an AP-REQ",
+    Rule.TICKET_VERSION: "the version of the ticket is not 5",
+    Rule.OPTIONS: "the options have fewer than 32 bits",
+    Rule.USER_TO_USER: "the ticket is under a session key that the service does not have",
+    Rule.NOT_US: "the keytab has no key for the server that the ticket names",
+    Rule.NO_KEY: "the keytab has no key of the ticket's encryption type",
+    Rule.KEY_VERSION: "the keytab has no key of the version that the ticket names",
+    Rule.TICKET_SUITE: "the ticket's encryption type is not supported",
+    Rule.TICKET: "no key of the keytab decrypts the ticket",
+    Rule.FLAGS: "the ticket's flags have fewer than 32 bits",
+    Rule.SESSION_SUITE: "the session key's encryption type is not supported or permitted",
+    Rule.AUTHENTICATOR: "the session key does not decrypt the authenticator",
+    Rule.AUTHENTICATOR_VERSION: "the version of the authenticator is not 5",
+    Rule.MICROSECONDS: "the client's microseconds are not 0 to 999999",
+    Rule.SEQUENCE_NUMBER: "the sequence number does not fit 32 bits",
+    Rule.SUBKEY: "the subkey is not of a supported and permitted encryption type",
+    Rule.OTHER_CLIENT: "the ticket and the authenticator name different clients",
+    Rule.OTHER_ADDRESS: "the ticket is not for the client's address",
+    Rule.SKEW: "the clocks differ by more than the skew",
+    Rule.NOT_YET_VALID: "the ticket is not yet valid",
+    Rule.INVALID: "the ticket has the flag INVALID",
+    Rule.EXPIRED: "the ticket has expired",
+    Rule.PATH: "no KDC has checked the path of realms",
+    Rule.CRITICAL_DATA: "the service does not understand the authorization data",
+    Rule.DATA_FORM: "the authorization data is malformed",
+    Rule.UNREMEMBERED: "the client may have been let in before the replay cache began; it may try again in as many seconds as clocks may differ",
+    Rule.REPEAT: "the client was let in by this authenticator before",
+    Rule.FRAME: "the token is not one of Kerberos with an AP-REQ",
+    Rule.PAC_MISSING: "the ticket has no PAC",
+    Rule.PAC_FORM: "the PAC is malformed",
+    Rule.PAC_CHECKSUM: "the service's key did not sign the PAC",
+    Rule.PAC_CLIENT: "the PAC is of another client than the ticket",
+    Rule.CHECKSUM_TYPE: "the authenticator's checksum is not of the type 8003",
+    Rule.CHECKSUM_LAYOUT: "the authenticator's checksum is not laid out as one of the GSS-API",
+    Rule.BINDINGS: "the client is bound to another channel, or to none",
+    Rule.DELEGATION: "the delegated credentials cannot be read",
+}
+
+
+class NotAccepted(Refused):
+    """A client is not let in. The message is for the service's log, and not for the client.
+
+    - `rule`: the first rule that its token breaks. `code`: the error's code in a KRB-ERROR (RFC 4120, 7.5.9).
+    - `seen`: of SKEW the client's time, of NOT_YET_VALID the ticket's start, of EXPIRED its end, in seconds since 1 January 1970, 00:00:00 UTC; of KEY_VERSION
+      the kvno that the ticket names; else None.
+    - `error`: the KRB-ERROR to send to the client, in a token where a token came; no octets where none can be made."""
+
+    rule: Rule
+    code: int
+    seen: Optional[int]
+    error: bytes
+
+    def __init__(self, rule: int, code: int, seen: Optional[int] = None, error: bytes = b"", text: Optional[str] = None) -> None:
+        super().__init__(Status.NOT_ACCEPTED)
+        self.rule, self.code, self.seen, self.error = Rule(rule), code, seen, error
+        self._text = "%s: %s" % (self.rule.name, _TEXTS[self.rule]) if text is None else text
+        self.args = (self._text,)
+
+    def __reduce__(self) -> Any:
+        return NotAccepted, (int(self.rule), self.code, self.seen, self.error, self._text)
+
+
+def _why(rule: Rule, seen: Optional[int], seconds: int, skew: int) -> str:
+    """The message of a refusal, with what was seen."""
+    text = _TEXTS[rule]
+    if seen is not None and rule == Rule.SKEW:
+        text = "the client's time is %d s %s (limit %d)" % (abs(seconds - seen), "behind" if seen < seconds else "ahead", skew)
+    elif seen is not None and rule == Rule.KEY_VERSION:
+        text = "the keytab has no key of version %d, which the ticket names" % seen
+    elif seen is not None and rule in (Rule.EXPIRED, Rule.NOT_YET_VALID):
+        verb = "ended" if rule == Rule.EXPIRED else "is not valid before"
+        text = "the ticket %s %s UTC" % (verb, time_of(seen).replace(tzinfo=None).isoformat(" "))
+    return "%s: %s" % (rule.name, text)
+
+
+class ChannelBindings(NamedTuple):
+    """The channel that a context is bound to (RFC 2744, 3.11). `data` is mostly b"tls-server-end-point:" and a hash of the server's certificate (RFC 5929, 4), and the
+    addresses and their types (2 for IPv4, 24 for IPv6, 0 for none) are left out."""
+
+    data: bytes = b""
+    initiator_type: int = 0
+    initiator_address: bytes = b""
+    acceptor_type: int = 0
+    acceptor_address: bytes = b""
+
+    def hash(self) -> bytes:
+        """The 16 octets that stand for them in a token (RFC 4121, 4.1.1.2). Refused: TOO_LARGE, MEMORY."""
+        return _channel_bindings.octets(16, self.initiator_type, self.initiator_address, self.acceptor_type, self.acceptor_address, self.data)
+
+
+class _Asked(ctypes.Structure):
+    """krb_acceptor of krb.h."""
+
+    _fields_ = [(name, ctypes.c_int64) for name in ("clock", "whole_since")] + [
+        (name, ctypes.c_uint32) for name in ("skew", "options", "address_type", "sequence_number")
+    ]
+
+
+_channel_bindings = Call("krb_channel_bindings", U32, IN, U32, IN, IN, has_room=True)
+_OCTETS = [ctypes.c_char_p, ctypes.c_size_t]
+_SIZE = ctypes.POINTER(ctypes.c_size_t)
+_accept, _make_error = _library.krb_accept, _library.krb_make_error
+_accept.argtypes = [ctypes.POINTER(_Asked)] + _OCTETS * 6 + [ctypes.POINTER(Accepted), ctypes.c_void_p, ctypes.c_size_t, _SIZE]
+_make_error.argtypes = _OCTETS + [ctypes.c_int64, ctypes.c_uint32, ctypes.c_uint32, ctypes.c_bool, ctypes.c_void_p, ctypes.c_size_t, _SIZE]
+_accept.restype = _make_error.restype = ctypes.c_uint32
+
+# KRB_ACCEPT_.. of krb.h.
+_BARE_REQUEST, _OTHER_CHECKSUM, _TRIPLE_DES, _ADDRESSES_REQUIRED, _UNCHECKED_PATH, _WHOLE_SINCE, _SUBKEY = 1, 2, 16, 32, 64, 128, 256
+_PAC = {"checked": 0, "ignored": 4, "required": 8}
+_RANDOM = 48
+_SEQUENCE_NUMBERS = 2**30  # as MIT Kerberos: some clients take the highest bits for a sign
+_AP_REQ = 0x6E
+_ERROR_ROOM = 1024
+
+
+def _error(keytab: bytes, now: float, code: int, in_frame: bool) -> bytes:
+    """The KRB-ERROR of a code. Refused: KEYTAB, ABSENT, NUMBER, MEMORY."""
+    seconds, size, room = math.floor(now), ctypes.c_size_t(), _ERROR_ROOM
+    microseconds = min(int((now - seconds) * 1000000), 999999)
+    while True:
+        out = ctypes.create_string_buffer(room)
+        status = _make_error(keytab, len(keytab), seconds, microseconds, code, in_frame, out, room, ctypes.byref(size))
+        if status == Status.DONE:
+            return out.raw[: size.value]
+        if status != Status.ROOM or size.value <= room:
+            raise Refused(status)
+        room = size.value
+
+
+def _address(address: Optional[str]) -> Tuple[int, bytes]:
+    """The type and the octets of an address (RFC 4120, 7.5.3). One of IPv4 may come as IPv6, as from a socket of both."""
+    if address is None:
+        return 0, b""
+    found = ipaddress.ip_address(address)
+    if isinstance(found, ipaddress.IPv6Address):
+        if found.ipv4_mapped is None:
+            return 24, found.packed
+        found = found.ipv4_mapped
+    return 2, found.packed
+
+
+class Acceptor:
+    """A service that lets clients in, by the keys of its keytab. Any number of threads may use it.
+
+    Out-of-memory aside, a client is let in exactly if its token keeps the rules of docs/ACCEPTOR.md and the replay cache does not have it yet. The rules are a theorem about the
+    library; the replay cache, and that this class asks it, are tested.
+
+    - `keytab`: the octets of a keytab, or the path of one. `session_keys`: a keytab with the session keys of the service's own ticket-granting tickets (user-to-user).
+    - `skew`: by how many seconds clocks may differ.
+    - `replay_cache`: None for a `ReplayCache` of its own; a `FileReplayCache`; or any object with `whole_since` (seconds since 1970, or None for since
+      ever) and `add(entry, seconds)`, as ReplayCache has them. False for none: each token then lets its client in as often as it comes, for `skew` seconds.
+    - `bare_request`: an AP-REQ with no frame around it is taken too, as DCE style has it.
+    - `other_checksum`: so is an authenticator whose checksum is not of the GSS-API.
+    - `pac`: "checked" where a ticket has one, "ignored", or "required".
+    - `triple_des`: session keys and subkeys may be of triple DES. `addresses_required`: a ticket has to name addresses, where the client's is known.
+    - `unchecked_path`: a path of realms is taken that no KDC has checked. `subkey`: the reply has a subkey of the service's.
+    - `clock`: tells the service's time, in seconds since 1970.
+
+    Refused, when it is made: KEYTAB where the keytab is none, ABSENT where it has no entry, MEMORY. OSError: the file cannot be read."""
+
+    def __init__(
+        self,
+        keytab: Union[Octets, str, "os.PathLike[str]"],
+        *,
+        session_keys: Octets = b"",
+        skew: int = 300,
+        replay_cache: Any = None,
+        bare_request: bool = False,
+        other_checksum: bool = False,
+        pac: str = "checked",
+        triple_des: bool = False,
+        addresses_required: bool = False,
+        unchecked_path: bool = False,
+        subkey: bool = True,
+        clock: Callable[[], float] = time.time,
+    ) -> None:
+        if pac not in _PAC:
+            raise ValueError('pac is "checked", "ignored" or "required"')
+        if not 0 <= skew < 2**32:
+            raise ValueError("a skew that has not 32 bits")
+        if replay_cache is True:
+            raise ValueError("replay_cache is a cache, None or False")
+        switches = bare_request, other_checksum, triple_des, addresses_required, unchecked_path, subkey
+        bits = _BARE_REQUEST, _OTHER_CHECKSUM, _TRIPLE_DES, _ADDRESSES_REQUIRED, _UNCHECKED_PATH, _SUBKEY
+        self._options = _PAC[pac] + sum(bit for switch, bit in zip(switches, bits) if switch)
+        self._skew, self._clock, self._session_keys = skew, clock, plain(session_keys)
+        self._cache = ReplayCache(clock()) if replay_cache is None else None if replay_cache is False else replay_cache
+        self._from = keytab
+        self.reload()
+
+    def reload(self) -> None:
+        """Reads the keytab anew, where it is a file; on an error the old keys stay. Refused, OSError: as for the class."""
+        if isinstance(self._from, (str, os.PathLike)):
+            with open(self._from, "rb") as file:
+                keytab = file.read()
+        else:
+            keytab = plain(self._from)
+        _error(keytab, 0, 0, False)  # refuses what is no keytab, and one with no entry
+        self._keytab = keytab
+
+    def accept(self, token: Octets, channel_bindings: Union[Octets, ChannelBindings, None] = None, address: Optional[str] = None) -> Context:
+        """The context with the client that sent this token, which is let in. Its `reply` is to be sent to the client.
+
+        `channel_bindings` are the service's, and are checked where they are given: data, as b"tls-server-end-point:" and a hash, or `ChannelBindings`.
+        `address` is the client's, of IPv4 or IPv6, where it is known.
+
+        NotAccepted: it is not let in. Refused: KEYTAB where `session_keys` is none, MEMORY, and then nobody is let in either. ValueError of what is no address. What a
+        replay cache raises is raised on."""
+        token, keytab, now = plain(token), self._keytab, self._clock()
+        bindings = b""
+        if channel_bindings is not None:
+            given = channel_bindings if isinstance(channel_bindings, ChannelBindings) else ChannelBindings(plain(channel_bindings))
+            bindings = given.hash()
+        address_type, octets = _address(address)
+        seconds, since = math.floor(now), None if self._cache is None else self._cache.whole_since
+        options = self._options | (0 if since is None else _WHOLE_SINCE)
+        asked = _Asked(seconds, since or 0, self._skew, options, address_type, secrets.randbelow(_SEQUENCE_NUMBERS))
+        status, accepted, out = _answer(asked, keytab, self._session_keys, bindings, octets, token)
+        if status == Status.NOT_ACCEPTED:
+            raise self._refusal(accepted.rule, accepted.code, accepted.seen if accepted.has_seen else None, now, keytab, token)
+        if status != Status.DONE:
+            raise Refused(status)
+        if self._cache is not None and not self._cache.add(accepted.octets("entry", out), seconds - self._skew):
+            raise self._refusal(Rule.REPEAT, 34, None, now, keytab, token)
+        return Context(accepted, out, asked.sequence_number)
+
+    def _refusal(self, rule: int, code: int, seen: Optional[int], now: float, keytab: bytes, token: bytes) -> NotAccepted:
+        try:
+            error = _error(keytab, now, code, token[:1] != bytes([_AP_REQ]))
+        except Refused:
+            error = b""
+        return NotAccepted(rule, code, seen, error, _why(Rule(rule), seen, math.floor(now), self._skew))
+
+
+def _answer(asked: _Asked, keytab: bytes, session_keys: bytes, bindings: bytes, address: bytes, token: bytes) -> Tuple[int, Accepted, bytes]:
+    """The status of krb_accept, what it tells, and the octets in which the places are."""
+    accepted, size, room = Accepted(), ctypes.c_size_t(), 3 * len(token) + 1024
+    given = [each for octets in (keytab, session_keys, bindings, address, secrets.token_bytes(_RANDOM), token) for each in (octets, len(octets))]
+    while True:
+        out = ctypes.create_string_buffer(room)
+        status = _accept(ctypes.byref(asked), *given, ctypes.byref(accepted), out, room, ctypes.byref(size))
+        if status != Status.ROOM or size.value <= room:
+            return status, accepted, out.raw[: size.value]
+        room = size.value
