@@ -144,7 +144,6 @@ class Context:
         # A client that got no AP-REP counts the service's messages as its own (RFC 1964, 1.2.1 and MIT Kerberos).
         self._own_first = own_sequence_number if self.reply is not None else first
         self._own_next, self._window, self._lock = self._own_first, SequenceWindow(first), threading.Lock()
-        self._client_time = int.from_bytes(entry[:8], "big", signed=True), int.from_bytes(entry[8:12], "big")
         self._waits = ContextFlag.DCE_STYLE in self.flags and self.reply is not None
 
     def __repr__(self) -> str:
@@ -163,17 +162,19 @@ class Context:
     def confirm(self, token: Octets) -> None:
         """Takes the client's AP-REP, the third message of DCE style (MS-KILE, 3.4.5.1).
 
-        Refused: INVALID, TRUNCATED, UNSUPPORTED where it is no AP-REP; INTEGRITY where the session key does not decrypt it, or it has another time than the
-        authenticator, or another sequence number than the service's; MEMORY."""
+        It has to have the sequence number of the service's AP-REP; its time is the client's, of MIT Kerberos the one at which it was made, and is not compared.
+
+        Refused: INVALID, TRUNCATED, UNSUPPORTED where it is no AP-REP; INTEGRITY where the session key does not decrypt it, or it has another sequence number, or
+        is the service's own AP-REP, sent back to it; MEMORY."""
         message = decode(token, "AP-REP")
         sealed = message["enc-part"]
         if (message["pvno"], message["msg-type"]) != (5, 15):
             raise Refused(Status.INVALID)
-        if sealed["etype"] != self.session_key.etype:
+        own = None if self.reply is None else decode(self.reply, "AP-REP")["enc-part"]["cipher"]
+        if sealed["etype"] != self.session_key.etype or sealed["cipher"] == own:
             raise Refused(Status.INTEGRITY)
         part = decode(crypto.decrypt(self.session_key.etype, self.session_key.octets, _AP_REP_PART, sealed["cipher"]), "EncAPRepPart")
-        seconds, microseconds = self._client_time
-        if (part["ctime"], part["cusec"], part.get("seq-number")) != (time_of(seconds), microseconds, self._own_first):
+        if part.get("seq-number") != self._own_first:
             raise Refused(Status.INTEGRITY)
         self._waits = False
 
