@@ -22,6 +22,8 @@ func check(err error) {
 func main() {
 	settings, err := config.Load(os.Getenv("KRB5_CONFIG"))
 	check(err)
+	suites := []int32{20, 19, 18, 17}
+	settings.LibDefaults.DefaultTktEnctypeIDs, settings.LibDefaults.DefaultTGSEnctypeIDs, settings.LibDefaults.PermittedEnctypeIDs = suites, suites, suites
 	user := client.NewWithPassword("ann", os.Getenv("REALM"), os.Getenv("PASSWORD"), settings, client.DisablePAFXFAST(true))
 	check(user.Login())
 	ticket, key, err := user.GetServiceTicket(os.Args[1])

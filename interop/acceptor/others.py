@@ -40,7 +40,7 @@ def said(realm, command, environment):
         say("left out: %s: %s" % (command[0], error))
         return None
     if done.returncode != 0:
-        say("left out: %s: %s" % (os.path.basename(command[-1]), (done.stderr.strip().splitlines() or ["status %d" % done.returncode])[-1]))
+        say("left out: %s: %s" % (" ".join(map(os.path.basename, command[-2:])), (done.stderr.strip().splitlines() or ["status %d" % done.returncode])[-1]))
         return None
     return dict(line.split(" ", 1) for line in done.stdout.splitlines())
 
@@ -67,9 +67,11 @@ def try_token(realm, name, facts, bare):
 
 
 def try_others(realm):
-    environment = dict(realm.environment, KDC_PORT=str(realm.port), PASSWORD=PASSWORD, REALM=REALM)
+    environment = dict(realm.environment, PASSWORD=PASSWORD, REALM=REALM)
     for etype in (17, 18):
-        facts = said(realm, ["/usr/bin/python3", os.path.join(HERE, "impacket_client.py"), "e%d/localhost" % etype], environment)
+        server = "e%d/localhost" % etype
+        realm.run("kvno", server)
+        facts = said(realm, ["/usr/bin/python3", os.path.join(HERE, "impacket_client.py"), realm.cache, server], environment)
         if facts is not None:
             try_token(realm, "Impacket, %d" % etype, facts, True)
             say("Impacket, etype %d: a token" % etype)

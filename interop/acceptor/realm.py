@@ -24,8 +24,8 @@ CONFIG = """[libdefaults]
 [domain_realm]
  localhost = %s
 """
-# A client of a name with octets that are quoted in texts of names. (MIT's KDC 1.20 refuses to issue tickets to one with "@", by its own PAC.)
-QUOTED = ("a/b", "d\\e")
+# A client of a name with octets that are quoted in texts of names. (MIT's KDC 1.20 reads its own PAC of such a client otherwise, and gives it tickets in the AS exchange alone.)
+QUOTED = ("a/b", "c@d\\e")
 
 
 def free_port():
