@@ -1,0 +1,174 @@
+"""What of `krb.accept` needs no client: replay caches, the order of messages, texts of names, refusals."""
+
+import os
+import pickle
+import stat
+import threading
+import time
+
+import krb
+from checks import expect
+from krb import _context as context_of
+from krb._window import SequenceWindow
+
+
+def entry(seconds, microseconds=0, client=(b"ann",)):
+    """An entry as acceptor.h of the C library lays it out."""
+    server = b"HOME.TEST\xffHTTP\xfflocalhost\xff\xfe"
+    return seconds.to_bytes(8, "big", signed=True) + microseconds.to_bytes(4, "big") + server + b"HOME.TEST\xff" + b"".join(each + b"\xff" for each in client) + b"\xfe"
+
+
+def try_cache(title, make):
+    """A sequence of entries, with the time before which all may be forgotten, and whether each is new."""
+    cache = make("now")
+    expect(0 <= cache.whole_since - time.time() + 1 <= 3, "%s: whole since %s" % (title, cache.whole_since))
+    expect(make(None).whole_since is None and make(17.5).whole_since == 18, "%s: whole_since" % title)
+    for seconds, microseconds, client, before, wanted in (
+        (1000, 0, b"ann", 700, True),
+        (1000, 0, b"ann", 700, False),
+        (1000, 1, b"ann", 700, True),
+        (1000, 0, b"bob", 700, True),
+        (999, 0, b"ann", 700, True),
+        (1000, 0, b"ann", 1000, False),
+        (999, 0, b"ann", 1000, False),
+        (2000, 0, b"ann", 1700, True),
+        (1700, 0, b"ann", 1700, True),
+        (1700, 0, b"ann", 500, False),
+        (1000, 0, b"carol", 500, False),
+        (1701, 0, b"carol", 500, True),
+        (-5, 0, b"ann", -10, False),
+    ):
+        got = cache.add(entry(seconds, microseconds, (client,)), before)
+        expect(got == wanted, "%s: %d.%d of %s: %s" % (title, seconds, microseconds, client, got))
+    expect(len(cache) == 3, "%s: %d entries are left" % (title, len(cache)))
+
+
+def try_threads(title, cache):
+    """Of eight threads with one entry, one adds it."""
+    for n in range(50):
+        added, barrier = [], threading.Barrier(8)
+
+        def go():
+            barrier.wait()
+            added.append(cache.add(entry(5000 + n), 4000))
+
+        threads = [threading.Thread(target=go) for _ in range(8)]
+        for each in threads:
+            each.start()
+        for each in threads:
+            each.join()
+        expect(sorted(added) == [False] * 7 + [True], "%s: threads: %s" % (title, added))
+
+
+def try_growth():
+    """200,000 entries in the time of their number, and few of them kept."""
+    cache, begun = krb.ReplayCache(None), time.monotonic()
+    times = []
+    for n in range(200000):
+        cache.add(entry(10000 + n // 100), 10000 + n // 100 - 600)
+        cache.add(entry(10000 + n // 100, n), 10000 + n // 100 - 600)
+        if n % 50000 == 49999:
+            times.append(time.monotonic() - begun)
+    expect(len(cache) <= 601 * 101, "a cache keeps %d entries" % len(cache))
+    expect(times[3] < 8 * times[0] + 1, "the times of 50,000 entries and of four times as many: %s" % times)
+
+
+def try_file(path):
+    """The file's mode, what another object and another process find in it, and files that are refused."""
+    cache = krb.FileReplayCache(path, whole_since=None)
+    cache.add(entry(1000), 0)
+    again = krb.FileReplayCache(path)
+    expect(again.whole_since is None and not again.add(entry(1000), 0) and again.add(entry(1001), 0), "a file that is opened again")
+    modes = {stat.S_IMODE(os.stat(each).st_mode) for each in (path, path + "-wal")}
+    expect(modes == {0o600}, "the modes of a cache's files: %s" % modes)
+    child = os.fork()
+    if child == 0:
+        os._exit(not (cache.add(entry(1002), 0) and not cache.add(entry(1001), 0)))
+    expect(os.waitpid(child, 0)[1] == 0 and not cache.add(entry(1002), 0), "a process that was forked with an open cache")
+    os.chmod(path, 0o620)
+    link = path + "-link"
+    os.symlink(path, link)
+    garbage = path + "-garbage"
+    with open(os.open(garbage, os.O_WRONLY | os.O_CREAT, 0o600), "wb") as file:
+        file.write(b"no database" * 100)
+    for what in (path, link, os.path.dirname(path), garbage, os.path.join(path, "below")):
+        try:
+            krb.FileReplayCache(what)
+            expect(False, "%s is taken for a cache" % what)
+        except Exception as error:
+            expect(isinstance(error, OSError) == (what != garbage), "%s: %r" % (what, error))
+
+
+def try_window():
+    """Numbers, and what they are (RFC 2743, 1.2.3)."""
+    order = krb.Order
+    window = SequenceWindow(10)
+    for number, wanted in (
+        (9, order.OLD), (10, order.IN_ORDER), (11, order.IN_ORDER), (13, order.GAP), (12, order.OUT_OF_ORDER), (12, order.REPLAYED), (13, order.REPLAYED),
+        (14, order.IN_ORDER), (100, order.GAP), (36, order.OLD), (37, order.OUT_OF_ORDER), (99, order.OUT_OF_ORDER), (99, order.REPLAYED), (101, order.IN_ORDER),
+        (37, order.OLD), (38, order.OUT_OF_ORDER), (2**64 - 1, order.GAP), (101, order.OLD),
+    ):
+        got = window.take(number)
+        expect(got == wanted, "message %d is %s, and not %s" % (number, got, wanted))
+    late = SequenceWindow(5)
+    expect([late.take(n) for n in (7, 5, 5, 6)] == [order.GAP, order.OUT_OF_ORDER, order.REPLAYED, order.OUT_OF_ORDER], "messages of which the first is missing")
+
+
+def try_names():
+    found = context_of.names_of(entry(0, 0, (b"a", b"")))
+    expect(found == [("HOME.TEST", ("HTTP", "localhost")), ("HOME.TEST", ("a", ""))], "names of an entry: %s" % found)
+    for components, realm, wanted in (
+        (("ann",), "HOME.TEST", "ann@HOME.TEST"),
+        (("HTTP", "www"), "HOME.TEST", "HTTP/www@HOME.TEST"),
+        (("a/b", "c@d\\e"), "R/S@T", "a\\/b/c\\@d\\\\e@R\\/S\\@T"),
+        (("\n\t\b\0\x1b",), "R", "\\n\\t\\b\\0\x1b@R"),
+        (("", ""), "", "/@"),
+    ):
+        got = context_of.unparsed(components, realm)
+        expect(got == wanted, "the name %r, and not %r" % (got, wanted))
+
+
+def try_refusals(keytab):
+    """Messages, copies by pickle, and what an Acceptor does not take."""
+    for rule, seen, text in (
+        (krb.Rule.SKEW, 4688, "SKEW: the client's time is 312 s behind (limit 300)"),
+        (krb.Rule.SKEW, 5301, "SKEW: the client's time is 301 s ahead (limit 300)"),
+        (krb.Rule.KEY_VERSION, 3, "KEY_VERSION: the keytab has no key of version 3, which the ticket names"),
+        (krb.Rule.EXPIRED, 4000, "EXPIRED: the ticket ended 1970-01-01 01:06:40 UTC"),
+        (krb.Rule.NOT_YET_VALID, 86400, "NOT_YET_VALID: the ticket is not valid before 1970-01-02 00:00:00 UTC"),
+    ):
+        refused = krb.NotAccepted(rule, 37, seen, b"e", krb.accept._why(rule, seen, 5000, 300))
+        copy = pickle.loads(pickle.dumps(refused))
+        expect(str(refused) == text and isinstance(refused, krb.Refused), "a message: %s" % refused)
+        same = all(getattr(copy, each) == getattr(refused, each) for each in ("rule", "code", "seen", "error", "status")) and str(copy) == text
+        expect(same and refused.status == krb.Status.NOT_ACCEPTED, "a copy of a refusal: %r" % copy)
+    expect(all(krb.accept._TEXTS.get(rule) for rule in krb.Rule), "a rule has no text")
+    for words, kind in (({"pac": "some"}, ValueError), ({"skew": -1}, ValueError), ({"skew": 2**32}, ValueError), ({"replay_cache": True}, ValueError)):
+        expect(raised(lambda: krb.Acceptor(keytab, **words)) is kind, "an Acceptor of %s" % words)
+    for octets, status in ((b"", "KEYTAB"), (b"\5\1" + bytes(20), "KEYTAB"), (b"\5\2", "ABSENT")):
+        refused = raised(lambda: krb.Acceptor(octets), True)
+        expect(isinstance(refused, krb.Refused) and refused.status.name == status, "an Acceptor of the keytab %r: %r" % (octets, refused))
+    expect(raised(lambda: krb.Acceptor("/nowhere/keytab")) is FileNotFoundError, "an Acceptor of a file that is not there")
+    expect(raised(lambda: krb.Acceptor(keytab).accept(b"", address="nowhere")) is ValueError, "an address that is none")
+
+
+def raised(call, whole=False):
+    try:
+        call()
+        return None
+    except Exception as error:
+        return error if whole else type(error)
+
+
+def try_units(realm):
+    count = iter(range(100))
+    try_cache("ReplayCache", krb.ReplayCache)
+    try_cache("FileReplayCache", lambda since: krb.FileReplayCache(realm.path("cache-%d" % next(count)), since))
+    try_threads("ReplayCache", krb.ReplayCache(None))
+    try_threads("FileReplayCache", krb.FileReplayCache(realm.path("cache-threads"), None))
+    try_growth()
+    try_file(realm.path("cache-file"))
+    try_window()
+    try_names()
+    with open(realm.keytab, "rb") as file:
+        try_refusals(file.read())
