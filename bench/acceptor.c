@@ -1,5 +1,5 @@
 /* Times krb_accept beside MIT's gss_accept_sec_context, each with the same keytab and token, and prints a line each: a name, a tab, nanoseconds.
- * acceptor KEYTAB TOKEN WINDOW, with the window of a measurement in milliseconds. MIT's replay cache is off where KRB5RCACHENAME is none: in the environment. */
+ * acceptor KEYTAB TOKEN WINDOW, with the window of a measurement in milliseconds. MIT's replay cache is off where KRB5RCACHENAME is none: */
 #include <gssapi/gssapi_ext.h>
 #include <gssapi/gssapi_krb5.h>
 #include <krb5.h>

@@ -1,4 +1,5 @@
-"""Serves a page to those who have a ticket: serve.py KEYTAB CACHE PORT [CERTIFICATE KEY], on 127.0.0.1, with TLS and channel bindings where there is a certificate."""
+"""Serves a page to those who have a ticket: serve.py KEYTAB CACHE PORT [CERTIFICATE KEY], on 127.0.0.1, with TLS and channel bindings where there is a
+certificate."""
 
 import logging
 import ssl

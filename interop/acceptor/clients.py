@@ -29,7 +29,8 @@ class MitClient:
         self.creds = gssapi.Credentials(usage="initiate", store={"ccache": "FILE:" + cache}) if cache else None
         name = gssapi.Name(service + "@localhost", gssapi.NameType.hostbased_service)
         given = gssapi.raw.ChannelBindings(application_data=bindings) if bindings is not None else None
-        self.link = gssapi.SecurityContext(name=name, creds=self.creds, mech=KERBEROS, usage="initiate", flags=bits(words) | FLAGS["integ"], channel_bindings=given)
+        flags = bits(words) | FLAGS["integ"]  # with none gssapi would take some of its own
+        self.link = gssapi.SecurityContext(name=name, creds=self.creds, mech=KERBEROS, usage="initiate", flags=flags, channel_bindings=given)
 
     def begin(self):
         return self.link.step()

@@ -1,6 +1,7 @@
 """Tokens that are changed, and whether a service may let their client in, by how they were made.
 
-`wanted` is True, False, or None where the standards leave it open; `rules` are the names of those rules of docs/ACCEPTOR.md of which one is to be named, or None."""
+`wanted` is True, False, or None where the standards leave it open; `rules` are the names of those rules of docs/ACCEPTOR.md of which one is to be named, or
+None."""
 
 import calendar
 import time
@@ -346,6 +347,8 @@ PART = [
     ("unknown transited type", setting(part, 4, either([0x30, [[0xA0, [integer(7)]], [0xA1, [[4, b"OTHER.TEST"]]]]])), None, None),
 ]
 
+OTHER_SUITES = [key(1, bytes(8)), key(3, bytes(8)), key(23, bytes(16)), key(16, bytes(24))]
+OTHER_SIZES = [key(17, bytes(15)), key(18, bytes(16)), key(19, bytes(32)), key(20, b"")]
 AUTHENTICATOR = [
     ("cname", setting(authenticator, 2, either(*CLIENTS)), False, rules("OTHER_CLIENT")),
     ("crealm", setting(authenticator, 1, either(*REALMS)), False, rules("OTHER_CLIENT")),
@@ -357,8 +360,8 @@ AUTHENTICATOR = [
     ("no seq-number", setting(authenticator, 7, absent), True, None),
     ("authenticator-vno", setting(authenticator, 0, other_number(5)), False, rules("AUTHENTICATOR_VERSION")),
     ("no subkey", setting(authenticator, 6, absent), True, None),
-    ("subkey of another suite", setting(authenticator, 6, either(key(1, bytes(8)), key(3, bytes(8)), key(23, bytes(16)), key(16, bytes(24)))), False, rules("SUBKEY")),
-    ("subkey of another size", setting(authenticator, 6, either(key(17, bytes(15)), key(18, bytes(16)), key(19, bytes(32)), key(20, b""))), False, rules("SUBKEY")),
+    ("subkey of another suite", setting(authenticator, 6, either(*OTHER_SUITES)), False, rules("SUBKEY")),
+    ("subkey of another size", setting(authenticator, 6, either(*OTHER_SIZES)), False, rules("SUBKEY")),
     ("subkey of AES", setting(authenticator, 6, either(key(17, b"k" * 16), key(18, b"k" * 32), key(19, b"k" * 16), key(20, b"k" * 32))), True, None),
     ("critical data", lambda random, q: with_data(authenticator, 8, random.choice(CRITICAL))(random, q), False, rules("CRITICAL_DATA")),
     ("data that may be passed over", with_data(authenticator, 8, RELEVANT), True, None),
@@ -407,12 +410,17 @@ def little(number):
     return number.to_bytes(4, "little")
 
 
+def other_hash(random, kind, octets):
+    return kind, octets[:4] + bytes(random.randrange(1, 256) for _ in range(16)) + octets[20:]
+
+
+OTHER_TYPES, OTHER_LENGTHS = [0, 7, 16, 0x8004, -0x7FFD, 2**32 + 0x8003], [0, 15, 17, 2**31, 2**32 - 1]
 CHECKSUM = [
-    ("another type", checksum(lambda random, kind, octets: (random.choice([0, 7, 16, 0x8004, -0x7FFD, 2**32 + 0x8003]), octets)), False, rules("CHECKSUM_TYPE")),
+    ("another type", checksum(lambda random, kind, octets: (random.choice(OTHER_TYPES), octets)), False, rules("CHECKSUM_TYPE")),
     ("none", checksum(lambda random, kind, octets: (None, b"")), False, rules("CHECKSUM_TYPE")),
     ("too short", checksum(lambda random, kind, octets: (kind, octets[: random.randrange(24)])), False, rules("CHECKSUM_LAYOUT")),
-    ("another Lgth", checksum(lambda random, kind, octets: (kind, little(random.choice([0, 15, 17, 2**31, 2**32 - 1])) + octets[4:])), False, rules("CHECKSUM_LAYOUT")),
-    ("delegation without credentials", checksum(lambda random, kind, octets: (kind, octets[:20] + little(0x3F))), False, rules("CHECKSUM_LAYOUT", "DELEGATION")),
+    ("another Lgth", checksum(lambda random, kind, octets: (kind, little(random.choice(OTHER_LENGTHS)) + octets[4:])), False, rules("CHECKSUM_LAYOUT")),
+    ("delegation of nothing", checksum(lambda random, kind, octets: (kind, octets[:20] + little(0x3F))), False, rules("CHECKSUM_LAYOUT", "DELEGATION")),
     (
         "delegation of garbage",
         checksum(lambda random, kind, octets: (kind, octets[:20] + little(0x3F) + b"\1\0\4\0" + b"\x76\x02\x30\x00")),
@@ -423,7 +431,7 @@ CHECKSUM = [
 ]
 BOUND = [
     ("bound to it", lambda random, q: None, True, None),
-    ("to another", checksum(lambda random, kind, octets: (kind, octets[:4] + bytes(random.randrange(1, 256) for _ in range(16)) + octets[20:])), False, rules("BINDINGS")),
+    ("to another", checksum(other_hash), False, rules("BINDINGS")),
     ("a bit of the hash", checksum(lambda random, kind, octets: (kind, flipped(octets, random.randrange(4, 20), 3))), False, rules("BINDINGS")),
     ("to none", checksum(lambda random, kind, octets: (kind, octets[:4] + bytes(16) + octets[20:])), False, rules("BINDINGS")),
 ]

@@ -15,8 +15,8 @@ HEIMDAL = (
 
 
 def unpacked_heimdal(realm):
-    """The client of Heimdal's GSS-API, and where its libraries are; None where they cannot be had. Debian keeps its packages apart from MIT's, so they are unpacked
-    into the realm's folder."""
+    """The client of Heimdal's GSS-API, and where its libraries are; None where they cannot be had. Debian keeps its packages apart from MIT's, so they are
+    unpacked into the realm's folder."""
     root, program = realm.path("heimdal"), realm.path("heimdal_client")
     os.mkdir(root)
     done = subprocess.run(["apt-get", "download", "-qq", *HEIMDAL], cwd=root, capture_output=True, timeout=300)

@@ -24,7 +24,8 @@ CONFIG = """[libdefaults]
 [domain_realm]
  localhost = %s
 """
-# A client of a name with octets that are quoted in texts of names. (MIT's KDC 1.20 reads its own PAC of such a client otherwise, and gives it tickets in the AS exchange alone.)
+# A client of a name with octets that are quoted in texts of names. (MIT's KDC 1.20 reads its own PAC of such a client otherwise, and gives it tickets in the AS
+# exchange alone.)
 QUOTED = ("a/b", "c@d\\e")
 
 
@@ -61,9 +62,9 @@ class Realm:
         """Makes the database and the keytab, starts the KDC, and gets the user's ticket-granting ticket."""
         self.run("kdb5_util", "create", "-s", "-r", REALM, "-P", "master")
         for number, suite in SUITES.items():
-            for service in ("e%d/localhost" % number, "other%d/localhost" % number):
-                self.admin("addprinc -randkey -e %s:normal %s" % (suite, service), "setstr %s session_enctypes %s" % (service, suite))
-            self.admin("ktadd -norandkey -k %s e%d/localhost" % (self.keytab, number), "ktadd -norandkey -k %s other%d/localhost" % (self.path("other"), number))
+            service = "e%d/localhost" % number
+            self.admin("addprinc -randkey -e %s:normal %s" % (suite, service), "setstr %s session_enctypes %s" % (service, suite))
+            self.admin("ktadd -norandkey -k %s e%d/localhost" % (self.keytab, number))
         self.admin("addprinc -randkey HTTP/localhost", "ktadd -norandkey -k %s HTTP/localhost" % self.keytab)
         self.admin("addprinc -pw \"%s\" ann" % PASSWORD, "addprinc -pw \"%s\" bob" % PASSWORD)
         self.admin("addprinc -pw \"%s\" \"%s\"" % (PASSWORD, self.quoted_name()))

@@ -13,9 +13,9 @@ from krb._window import SequenceWindow
 
 
 def entry(seconds, microseconds=0, client=(b"ann",)):
-    """An entry as acceptor.h of the C library lays it out."""
-    server = b"HOME.TEST\xffHTTP\xfflocalhost\xff\xfe"
-    return seconds.to_bytes(8, "big", signed=True) + microseconds.to_bytes(4, "big") + server + b"HOME.TEST\xff" + b"".join(each + b"\xff" for each in client) + b"\xfe"
+    """An entry, laid out as krb.h says (krb_accepted)."""
+    names = b"HOME.TEST\xffHTTP\xfflocalhost\xff\xfeHOME.TEST\xff" + b"".join(each + b"\xff" for each in client) + b"\xfe"
+    return seconds.to_bytes(8, "big", signed=True) + microseconds.to_bytes(4, "big") + names
 
 
 def try_cache(title, make):
@@ -105,13 +105,14 @@ def try_window():
     window = SequenceWindow(10)
     for number, wanted in (
         (9, order.OLD), (10, order.IN_ORDER), (11, order.IN_ORDER), (13, order.GAP), (12, order.OUT_OF_ORDER), (12, order.REPLAYED), (13, order.REPLAYED),
-        (14, order.IN_ORDER), (100, order.GAP), (36, order.OLD), (37, order.OUT_OF_ORDER), (99, order.OUT_OF_ORDER), (99, order.REPLAYED), (101, order.IN_ORDER),
-        (37, order.OLD), (38, order.OUT_OF_ORDER), (2**64 - 1, order.GAP), (101, order.OLD),
+        (14, order.IN_ORDER), (100, order.GAP), (36, order.OLD), (37, order.OUT_OF_ORDER), (99, order.OUT_OF_ORDER), (99, order.REPLAYED),
+        (101, order.IN_ORDER), (37, order.OLD), (38, order.OUT_OF_ORDER), (2**64 - 1, order.GAP), (101, order.OLD),
     ):
         got = window.take(number)
         expect(got == wanted, "message %d is %s, and not %s" % (number, got, wanted))
     late = SequenceWindow(5)
-    expect([late.take(n) for n in (7, 5, 5, 6)] == [order.GAP, order.OUT_OF_ORDER, order.REPLAYED, order.OUT_OF_ORDER], "messages of which the first is missing")
+    wanted = [order.GAP, order.OUT_OF_ORDER, order.REPLAYED, order.OUT_OF_ORDER]
+    expect([late.take(n) for n in (7, 5, 5, 6)] == wanted, "messages of which the first is missing")
 
 
 def try_names():

@@ -141,7 +141,7 @@ class Context:
         self.authorization_data, self.restrictions, self.delegated = map(optional, ("authorization_data", "restrictions", "delegated"))
         self.sequence_number: Optional[int] = None if accepted.sequence_number < 0 else int(accepted.sequence_number)
         first = self.sequence_number or 0
-        # A client that got no AP-REP counts the service's messages as its own (RFC 1964, 1.2.1 and MIT Kerberos).
+        # To a client that gets no AP-REP the service counts from the client's number, as MIT Kerberos and Heimdal do.
         self._own_first = own_sequence_number if self.reply is not None else first
         self._own_next, self._window, self._lock = self._own_first, SequenceWindow(first), threading.Lock()
         self._waits = ContextFlag.DCE_STYLE in self.flags and self.reply is not None
@@ -164,8 +164,8 @@ class Context:
 
         It has to have the sequence number of the service's AP-REP; its time is the client's, of MIT Kerberos the one at which it was made, and is not compared.
 
-        Refused: INVALID, TRUNCATED, UNSUPPORTED where it is no AP-REP; INTEGRITY where the session key does not decrypt it, or it has another sequence number, or
-        is the service's own AP-REP, sent back to it; MEMORY."""
+        Refused: INVALID, TRUNCATED, UNSUPPORTED where it is no AP-REP; INTEGRITY where the session key does not decrypt it, or it has another sequence number,
+        or is the service's own AP-REP, sent back to it; MEMORY."""
         message = decode(token, "AP-REP")
         sealed = message["enc-part"]
         if (message["pvno"], message["msg-type"]) != (5, 15):
@@ -213,8 +213,8 @@ class Context:
 
     def wrap(self, message: Octets, encrypt: bool = True) -> bytes:
         """The Wrap token of a message of the service's, encrypted or in the clear with a checksum (RFC 4121, 4.2.6.2). Refused: NUMBER (triple DES), MEMORY."""
-        make = gss.wrap if encrypt else gss.wrap_in_clear
-        return make(self._key(gss.Sender.ACCEPTOR), self._number(), message)
+        key = self._key(gss.Sender.ACCEPTOR)
+        return gss.wrap(key, self._number(), message) if encrypt else gss.wrap_in_clear(key, self._number(), message)
 
     def unwrap(self, token: Octets) -> gss.Unwrapped:
         """What a Wrap token of the client's held, and whether it was encrypted. Refused: as `krb.gss.unwrap`; OutOfOrder: as `verify_mic`."""

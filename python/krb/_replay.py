@@ -7,14 +7,9 @@ import sqlite3
 import stat
 import threading
 import time
-from typing import Any, Dict, List, Optional, Set, Tuple, Union
+from typing import Any, Dict, List, Optional, Protocol, Set, Tuple, Union
 
-__all__ = ["FileReplayCache", "ReplayCache"]
-
-# A cache is any object with these two; Acceptor asks for no more.
-#
-#     add(entry: bytes, seconds: int) -> bool
-#     whole_since: Optional[int]
+__all__ = ["AnyReplayCache", "FileReplayCache", "ReplayCache"]
 
 _TIME = 8  # octets of an entry, in which its time stands first
 _NOW = "now"
@@ -36,12 +31,26 @@ def _since(whole_since: Union[float, str, None]) -> Optional[int]:
     return -int(-whole_since // 1)
 
 
+class AnyReplayCache(Protocol):
+    """What an acceptor asks of a replay cache; a service may have one of its own.
+
+    - `whole_since`: the cache has all that was let in at this time or later, in seconds since 1 January 1970, 00:00:00 UTC; None: all that ever was.
+    - `add(entry, seconds)`: adds an entry, and is True where it was not there before. It may forget entries whose time, their first eight octets as a number
+      with a sign, is before `seconds`. Of calls with one entry at once, in whatever threads and processes, one is True. Where it raises, the client is not let
+      in."""
+
+    @property
+    def whole_since(self) -> Optional[int]: ...
+
+    def add(self, entry: bytes, seconds: int) -> bool: ...
+
+
 class ReplayCache:
     """A replay cache in the memory of one process, for any number of its threads.
 
-    It begins empty, so what was let in before it was made is not in it. `whole_since` says so to the acceptor, which refuses what may have been let in before, as
-    UNREMEMBERED: with a skew of 300 seconds, all clients whose clocks are right for the first 300 seconds. A service that knows that it let in
-    nobody before, as one with a new key, gives None. `FileReplayCache` outlives the process and has no such wait after its first start.
+    It begins empty, so what was let in before it was made is not in it. `whole_since` says so to the acceptor, which refuses what may have been let in before,
+    as UNREMEMBERED: with a skew of 300 seconds, all clients whose clocks are right for the first 300 seconds. A service that knows that it let in nobody
+    before, as one with a new key, gives None. `FileReplayCache` outlives the process and has no such wait after its first start.
 
     Acceptors that share a cache have the same skew. Of an entry a hash is kept, 32 octets (SHA-256)."""
 
@@ -90,9 +99,10 @@ _SCHEMA = (
 class FileReplayCache:
     """A replay cache in a file, for any number of processes of one machine: of two that take one token at once, one lets the client in.
 
-    An entry is on the disk before its client is let in (SQLite, synchronous=FULL), so the cache outlives processes and the machine's power. The file is made with
-    mode 0600; one that others may write is refused. It says since when it is whole: since it was made, or what `whole_since` said then (`ReplayCache` has what that
-    means); where the file is there the argument is not looked at. SQLite keeps two more files beside it, with `-wal` and `-shm` behind its name. It is not for a network's file system.
+    An entry is on the disk before its client is let in (SQLite, synchronous=FULL), so the cache outlives processes and the machine's power. The file is made
+    with mode 0600; one that others may write is refused. It says since when it is whole: since it was made, or what `whole_since` said then (`ReplayCache` has
+    what that means); where the file is there the argument is not looked at. SQLite keeps two more files beside it, with `-wal` and `-shm` behind its name. The
+    folder is one that the service alone may write, and not of a network's file system; the file is not removed while a process has it open.
 
     Acceptors that share a cache have the same skew. Of an entry a hash is kept, 32 octets (SHA-256).
 

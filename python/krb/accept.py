@@ -12,10 +12,11 @@ from typing import Any, Callable, NamedTuple, Optional, Tuple, Union
 from krb._context import Accepted, Context, ContextFlag, EncryptionKey, OutOfOrder, time_of
 from krb._items import plain
 from krb._library import IN, U32, Call, Octets, Refused, Status, _library
-from krb._replay import FileReplayCache, ReplayCache
+from krb._replay import AnyReplayCache, FileReplayCache, ReplayCache
 from krb._window import Order
 
-__all__ = ["Acceptor", "ChannelBindings", "Context", "ContextFlag", "EncryptionKey", "FileReplayCache", "NotAccepted", "Order", "OutOfOrder", "ReplayCache", "Rule"]
+__all__ = ["Acceptor", "AnyReplayCache", "ChannelBindings", "Context", "ContextFlag", "EncryptionKey", "FileReplayCache", "NotAccepted", "Order"]
+__all__ += ["OutOfOrder", "ReplayCache", "Rule"]
 
 
 class Rule(enum.IntEnum):
@@ -142,8 +143,8 @@ def _why(rule: Rule, seen: Optional[int], seconds: int, skew: int) -> str:
 
 
 class ChannelBindings(NamedTuple):
-    """The channel that a context is bound to (RFC 2744, 3.11). `data` is mostly b"tls-server-end-point:" and a hash of the server's certificate (RFC 5929, 4), and the
-    addresses and their types (2 for IPv4, 24 for IPv6, 0 for none) are left out."""
+    """The channel that a context is bound to (RFC 2744, 3.11). `data` is mostly b"tls-server-end-point:" and a hash of the server's certificate (RFC 5929, 4),
+    and the addresses and their types (2 for IPv4, 24 for IPv6, 0 for none) are left out."""
 
     data: bytes = b""
     initiator_type: int = 0
@@ -210,13 +211,14 @@ def _address(address: Optional[str]) -> Tuple[int, bytes]:
 class Acceptor:
     """A service that lets clients in, by the keys of its keytab. Any number of threads may use it.
 
-    Out-of-memory aside, a client is let in exactly if its token keeps the rules of docs/ACCEPTOR.md and the replay cache does not have it yet. The rules are a theorem about the
-    library; the replay cache, and that this class asks it, are tested.
+    Out-of-memory aside, a client is let in exactly if its token keeps the rules of docs/ACCEPTOR.md and the replay cache does not have it yet. The rules are a
+    theorem about the library; the replay cache, and that this class asks it, are tested.
 
-    - `keytab`: the octets of a keytab, or the path of one. `session_keys`: a keytab with the session keys of the service's own ticket-granting tickets (user-to-user).
+    - `keytab`: the octets of a keytab, or the path of one. `session_keys`: a keytab with the session keys of the service's own ticket-granting tickets
+      (user-to-user).
     - `skew`: by how many seconds clocks may differ.
-    - `replay_cache`: None for a `ReplayCache` of its own; a `FileReplayCache`; or any object with `whole_since` (seconds since 1970, or None for since
-      ever) and `add(entry, seconds)`, as ReplayCache has them. False for none: each token then lets its client in as often as it comes, for `skew` seconds.
+    - `replay_cache`: None for a `ReplayCache` of its own, from now on; a `FileReplayCache`; or one of the service's own (`AnyReplayCache`). False for none:
+      each token then lets its client in as often as it comes, for twice `skew` seconds.
     - `bare_request`: an AP-REQ with no frame around it is taken too, as DCE style has it.
     - `other_checksum`: so is an authenticator whose checksum is not of the GSS-API.
     - `pac`: "checked" where a ticket has one, "ignored", or "required".
@@ -232,7 +234,7 @@ class Acceptor:
         *,
         session_keys: Octets = b"",
         skew: int = 300,
-        replay_cache: Any = None,
+        replay_cache: Union[AnyReplayCache, bool, None] = None,
         bare_request: bool = False,
         other_checksum: bool = False,
         pac: str = "checked",
@@ -252,7 +254,9 @@ class Acceptor:
         bits = _BARE_REQUEST, _OTHER_CHECKSUM, _TRIPLE_DES, _ADDRESSES_REQUIRED, _UNCHECKED_PATH, _SUBKEY
         self._options = _PAC[pac] + sum(bit for switch, bit in zip(switches, bits) if switch)
         self._skew, self._clock, self._session_keys = skew, clock, plain(session_keys)
-        self._cache = ReplayCache(clock()) if replay_cache is None else None if replay_cache is False else replay_cache
+        self._cache: Optional[AnyReplayCache] = None
+        if not isinstance(replay_cache, bool):
+            self._cache = ReplayCache(clock()) if replay_cache is None else replay_cache
         self._from = keytab
         self.reload()
 
@@ -272,8 +276,8 @@ class Acceptor:
         `channel_bindings` are the service's, and are checked where they are given: data, as b"tls-server-end-point:" and a hash, or `ChannelBindings`.
         `address` is the client's, of IPv4 or IPv6, where it is known.
 
-        NotAccepted: it is not let in. Refused: KEYTAB where `session_keys` is none, MEMORY, and then nobody is let in either. ValueError of what is no address. What a
-        replay cache raises is raised on."""
+        NotAccepted: it is not let in. Refused: KEYTAB where `session_keys` is none, MEMORY, and then nobody is let in either. ValueError of what is no
+        address. What a replay cache raises is raised on."""
         token, keytab, now = plain(token), self._keytab, self._clock()
         bindings = b""
         if channel_bindings is not None:
