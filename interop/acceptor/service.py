@@ -1,0 +1,145 @@
+"""What a service says to `krb.Acceptor`: replay caches, the clock, keytabs, options."""
+
+import re
+import shutil
+import threading
+import time
+
+import krb
+from checks import expect
+from clients import MitClient
+from contexts import refused
+
+
+def token_of(service="e18", words=("mutual",)):
+    return MitClient(service, list(words)).begin()
+
+
+def rule_of(acceptor, token, **words):
+    error = refused(lambda: acceptor.accept(token, **words))
+    return None if error is None else error.rule.name
+
+
+class Own:
+    """A replay cache of a service's own."""
+
+    def __init__(self, error=None):
+        self.whole_since, self.entries, self.error = None, set(), error
+
+    def add(self, entry, seconds):
+        if self.error:
+            raise self.error
+        known = entry in self.entries
+        self.entries.add(entry)
+        return not known
+
+
+def try_caches(keytab):
+    """Since when a cache is whole, one of the service's own, and none."""
+    now, token = time.time(), token_of()
+    for title, cache, wanted in (
+        ("the default", None, ["UNREMEMBERED", "UNREMEMBERED"]),
+        ("since ever", krb.ReplayCache(None), [None, "REPEAT"]),
+        ("since 330 seconds", krb.ReplayCache(now - 330), [None, "REPEAT"]),
+        ("since 270 seconds", krb.ReplayCache(now - 270), ["UNREMEMBERED", "UNREMEMBERED"]),
+        ("the service's own", Own(), [None, "REPEAT"]),
+        ("none", False, [None, None]),
+    ):
+        acceptor = krb.Acceptor(keytab, replay_cache=cache)
+        got = [rule_of(acceptor, token) for _ in range(2)]
+        expect(got == wanted, "a replay cache, %s: %s, and not %s" % (title, got, wanted))
+    late = krb.Acceptor(keytab, replay_cache=krb.ReplayCache(None), clock=lambda: now - 100)
+    expect([rule_of(late, token), rule_of(late, token)] == [None, "REPEAT"], "a clock that is late")
+    try:
+        krb.Acceptor(keytab, replay_cache=Own(OSError("the disk is full"))).accept(token)
+        expect(False, "a client is let in though the replay cache fails")
+    except OSError as error:
+        expect("full" in str(error), "the error of a replay cache: %s" % error)
+
+
+def try_threads(keytab):
+    """Of eight threads with one token, one lets the client in."""
+    acceptor = krb.Acceptor(keytab, replay_cache=krb.ReplayCache(None))
+    for n in range(20):
+        token, rules, barrier = token_of(), [], threading.Barrier(8)
+
+        def go():
+            barrier.wait()
+            rules.append(rule_of(acceptor, token) or "in")
+
+        threads = [threading.Thread(target=go) for _ in range(8)]
+        for each in threads:
+            each.start()
+        for each in threads:
+            each.join()
+        expect(sorted(rules) == ["REPEAT"] * 7 + ["in"], "eight threads: %s" % rules)
+
+
+def try_messages(keytab):
+    """What an administrator reads."""
+    token = token_of()
+    for shift, pattern in (
+        (312, r"SKEW: the client's time is 31[1-4] s behind \(limit 300\)"),
+        (-312, r"SKEW: the client's time is 31[0-3] s ahead \(limit 300\)"),
+    ):
+        error = refused(lambda: krb.Acceptor(keytab, replay_cache=False, clock=lambda: time.time() + shift).accept(token))
+        expect(error is not None and re.fullmatch(pattern, str(error)) and error.code == 37, "a clock that is %d seconds off: %s" % (shift, error))
+    wide = krb.Acceptor(keytab, replay_cache=False, skew=400, clock=lambda: time.time() + 312)
+    expect(rule_of(wide, token) is None, "a clock that is 312 seconds off, of 400")
+
+
+def try_keytab(realm):
+    """Keys that are changed: the kvno that is missing, and `reload`."""
+    path = realm.path("old")
+    shutil.copy(realm.keytab, path)
+    acceptor = krb.Acceptor(path, replay_cache=False)
+    with open(path, "rb") as file:
+        octets = krb.Acceptor(bytearray(file.read()), replay_cache=False)
+    realm.admin("addprinc -randkey turn/localhost", "ktadd -k %s turn/localhost" % path)
+    first = token_of("turn")
+    expect([rule_of(each, first) for each in (acceptor, octets)] == ["NOT_US", "NOT_US"], "a server that the keytab does not have")
+    acceptor.reload()
+    expect([rule_of(each, first) for each in (acceptor, octets)] == [None, "NOT_US"], "a keytab that is read anew")
+    realm.run("kdestroy")
+    realm.admin("cpw -randkey turn/localhost")
+    realm.kinit("ann")
+    error = refused(lambda: acceptor.accept(token_of("turn")))
+    right = error is not None and str(error) == "KEY_VERSION: the keytab has no key of version 3, which the ticket names" and (error.code, error.seen) == (44, 3)
+    expect(right, "a key that is changed: %s" % error)
+    with open(path, "wb") as file:
+        file.write(b"no keytab")
+    try:
+        acceptor.reload()
+        expect(False, "a file that is no keytab is taken for one")
+    except krb.Refused as error:
+        expect(error.status == krb.Status.KEYTAB and rule_of(acceptor, first) is None, "what is no keytab: %s" % error)
+
+
+def try_options(realm, keytab):
+    """Whether a PAC is needed, and whether the reply has a subkey."""
+    realm.admin("modprinc +no_auth_data_required e17/localhost")
+    token = token_of("e17")
+    realm.admin("modprinc -no_auth_data_required e17/localhost")
+    got = [rule_of(krb.Acceptor(keytab, replay_cache=False, pac=pac), token) for pac in ("checked", "ignored", "required")]
+    expect(got == [None, None, "PAC_MISSING"], "a ticket without a PAC: %s" % got)
+    for subkey in (True, False):
+        client = MitClient("e18", ["mutual"])
+        context = krb.Acceptor(keytab, replay_cache=False, subkey=subkey).accept(client.begin())
+        client.take(context.reply)
+        expect((context.own_subkey is not None) == subkey and client.is_complete(), "a subkey of the service's: %s" % subkey)
+        expect(context.own_sequence_number < 2**30 and "Secret(" in repr(context.session_key), "the sequence number %d" % context.own_sequence_number)
+    for address in ("127.0.0.1", "::1", "::ffff:127.0.0.1", "fe80::1%lo", None):
+        expect(rule_of(krb.Acceptor(keytab, replay_cache=False), token_of(), address=address) is None, "the address %s" % address)
+    required = krb.Acceptor(keytab, replay_cache=False, addresses_required=True)
+    got = [rule_of(required, token_of(), address=address) for address in (None, "127.0.0.1")]
+    expect(got == [None, "OTHER_ADDRESS"], "a ticket that names no addresses: %s" % got)
+
+
+def try_service(realm):
+    with open(realm.keytab, "rb") as file:
+        keytab = file.read()
+    try_caches(keytab)
+    try_threads(keytab)
+    try_messages(keytab)
+    try_options(realm, keytab)
+    try_keytab(realm)
