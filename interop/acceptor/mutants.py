@@ -150,16 +150,17 @@ def written_otherwise(node, chosen, form):
 
 
 def ber(random, base):
-    q = base.request.copy()
+    q = base.request.copy().seal()
     where = random.choice(["message", "part", "authenticator"])
     outer = [{"message": 0x6E, "part": 0x63, "authenticator": 0x62}[where], [getattr(q, where)]]
     chosen = random.choice(list(walk(outer)))
     forms = ["long", "four"] + {0x02: ["needless octet"], 0x04: ["in parts"]}.get(chosen[0], ["indefinite"] if chosen[0] & 32 else [])
     form = random.choice(forms)
+    octets = written_otherwise(outer, chosen, form)
+    assert octets != written(outer)
     if where == "message":
-        q.seal()
-        return "%s, %s" % (where, form), framed(written_otherwise(outer, chosen, form)), False, rules("NOT_REQUEST")
-    q.octets[where] = written_otherwise(outer, chosen, form)
+        return "%s, %s" % (where, form), framed(octets), False, rules("NOT_REQUEST")
+    q.octets[where] = octets
     return "%s, %s" % (where, form), q.seal().token(), False, rules("TICKET" if where == "part" else "AUTHENTICATOR")
 
 
