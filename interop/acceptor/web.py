@@ -65,7 +65,7 @@ def try_tokens(site, krb):
     from clients import MitClient
 
     spnego, kerberos = krb.spnego, krb.spnego.KERBEROS
-    microsoft, negoex = bytes.fromhex("2a864882f712010202"), bytes.fromhex("2b060104018237020 21e".replace(" ", ""))
+    microsoft, negoex = bytes.fromhex("2a864882f712010202"), bytes.fromhex("2b06010401823702021e")
 
     def begun():
         client = MitClient("HTTP", ["mutual"])
@@ -88,7 +88,12 @@ def try_tokens(site, krb):
         expect(client.is_complete(), "SPNEGO: the reply")
         status, answer, page = site.get(sent)
         expect(status == 401 and spnego.neg_token_resp(answer).neg_state == spnego.NegState.REJECT, "SPNEGO that comes again: %d" % status)
-    _, token = begun()
+    try_refused(site, spnego, begun()[1], negoex)
+
+
+def try_refused(site, spnego, token, negoex):
+    """First messages that get nobody in, and then the token that they were made of."""
+    kerberos = spnego.KERBEROS
     for what, sent in (
         ("another mechanism first", value(spnego.make_neg_token_init([negoex, kerberos], token))),
         ("no token", value(spnego.make_neg_token_init([kerberos]))),
