@@ -483,6 +483,144 @@ krb_status krb_make_password_frame(const uint8_t *ap_message, size_t ap_message_
 krb_status krb_make_kdc_proxy_message(const uint8_t *message, size_t message_size, const uint8_t *domain, size_t domain_size, uint8_t *out,
                                       size_t room, size_t *size);
 
+/* Whether a service lets in the client that sent a token, and what it answers (RFC 4120, 3.2.3; RFC 4121, 4.1). docs/ACCEPTOR.md has the rules, and what is
+   promised.
+
+   The calls keep nothing, so the replay cache is the caller's: an accepted client is let in where its `entry` is added to a set that does not have it yet. An
+   entry may be forgotten once its time, the first eight octets, is more than `skew` seconds ago. A service that starts with an empty cache sets
+   KRB_ACCEPT_WHOLE_SINCE, and `whole_since` to the time at which it starts.
+
+   What a service asks. Without options: a token of the GSS-API with a checksum of type 0x8003, keys of AES, a PAC that is checked where there is one, a path of
+   realms that a KDC has checked. */
+enum {
+    KRB_ACCEPT_BARE_REQUEST = 1,        /* an AP-REQ with no frame around it is taken too, as DCE style has it */
+    KRB_ACCEPT_OTHER_CHECKSUM = 2,      /* so is an authenticator with no checksum, or with one of another type */
+    KRB_ACCEPT_PAC_IGNORED = 4,         /* a PAC is not looked at */
+    KRB_ACCEPT_PAC_REQUIRED = 8,        /* a ticket without a PAC is refused; KRB_ACCEPT_PAC_IGNORED goes before it */
+    KRB_ACCEPT_TRIPLE_DES = 16,         /* session keys and subkeys may be of triple DES (RFC 8429 deprecates it) */
+    KRB_ACCEPT_ADDRESSES_REQUIRED = 32, /* a ticket has to name addresses, where the client's is known */
+    KRB_ACCEPT_UNCHECKED_PATH = 64,     /* a path of realms is taken that no KDC has checked (RFC 4120, 2.7) */
+    KRB_ACCEPT_WHOLE_SINCE = 128,       /* the replay cache is whole since `whole_since`, and not since ever */
+    KRB_ACCEPT_SUBKEY = 256             /* the answer has a subkey of the service's, made of `random` */
+};
+
+typedef struct krb_acceptor {
+    int64_t clock;            /* the service's time, in seconds since 1 January 1970, 00:00:00 UTC */
+    int64_t whole_since;      /* since when the replay cache is whole, where the option says so; in the same seconds */
+    uint32_t skew;            /* by how many seconds clocks may differ; usually 300 */
+    uint32_t options;         /* KRB_ACCEPT_.., added; other bits are not looked at */
+    uint32_t address_type;    /* of the client's address: 2 for IPv4, 24 for IPv6 (RFC 4120, 7.5.3); not looked at where there is no address */
+    uint32_t sequence_number; /* of the service's first message: the answer has it */
+} krb_acceptor;
+
+/* The first rule that a token breaks, in their order; the rules of the replay cache come last. */
+enum {
+    KRB_RULE_NONE = 0,
+    KRB_RULE_NOT_REQUEST = 1,
+    KRB_RULE_VERSION = 2,
+    KRB_RULE_MESSAGE_TYPE = 3,
+    KRB_RULE_TICKET_VERSION = 4,
+    KRB_RULE_OPTIONS = 5,
+    KRB_RULE_USER_TO_USER = 6,
+    KRB_RULE_NOT_US = 7,
+    KRB_RULE_NO_KEY = 8,
+    KRB_RULE_KEY_VERSION = 9,
+    KRB_RULE_TICKET_SUITE = 10,
+    KRB_RULE_TICKET = 11,
+    KRB_RULE_FLAGS = 12,
+    KRB_RULE_SESSION_SUITE = 13,
+    KRB_RULE_AUTHENTICATOR = 14,
+    KRB_RULE_AUTHENTICATOR_VERSION = 15,
+    KRB_RULE_MICROSECONDS = 16,
+    KRB_RULE_SEQUENCE_NUMBER = 17,
+    KRB_RULE_SUBKEY = 18,
+    KRB_RULE_OTHER_CLIENT = 19,
+    KRB_RULE_OTHER_ADDRESS = 20,
+    KRB_RULE_SKEW = 21,
+    KRB_RULE_NOT_YET_VALID = 22,
+    KRB_RULE_INVALID = 23,
+    KRB_RULE_EXPIRED = 24,
+    KRB_RULE_PATH = 25,
+    KRB_RULE_CRITICAL_DATA = 26,
+    KRB_RULE_DATA_FORM = 27,
+    KRB_RULE_UNREMEMBERED = 28,
+    KRB_RULE_REPEAT = 29,
+    KRB_RULE_FRAME = 30,
+    KRB_RULE_PAC_MISSING = 31,
+    KRB_RULE_PAC_FORM = 32,
+    KRB_RULE_PAC_CHECKSUM = 33,
+    KRB_RULE_PAC_CLIENT = 34,
+    KRB_RULE_CHECKSUM_TYPE = 35,
+    KRB_RULE_CHECKSUM_LAYOUT = 36,
+    KRB_RULE_BINDINGS = 37,
+    KRB_RULE_DELEGATION = 38
+};
+
+/* Octets of `out`. */
+typedef struct krb_place {
+    size_t offset;
+    size_t size;
+} krb_place;
+
+/* A client that is let in: numbers, and places of octets in `out`. Or, where the status is KRB_NOT_ACCEPTED: the rule, all else but `code`, `has_seen` and
+   `seen` is 0. */
+typedef struct krb_accepted {
+    krb_place entry;              /* for the replay cache, at most once: the client's time (8 octets, highest first) and microseconds (4), the server's realm,
+                                     the components of its name, the client's realm, and its components; ff stands behind each text, fe behind each list */
+    krb_place session_key;        /* the octets of the ticket's session key */
+    krb_place subkey;             /* the client's subkey; no octets where it has none */
+    krb_place own_subkey;         /* the service's subkey, where the option asks for one */
+    krb_place transited;          /* the realms that took part in authenticating the client, as `transited_type` encodes them (RFC 4120, 3.3.3.2) */
+    krb_place authorization_data; /* of the ticket: the encoding of an AuthorizationData; no octets where it has none */
+    krb_place restrictions;       /* of the authenticator, the same */
+    krb_place delegated;          /* the KRB-CRED that the client delegated; no octets where there is none */
+    krb_place reply;              /* what to send to the client: a token with an AP-REP, or the AP-REP alone; no octets where the client waits for none */
+    int64_t auth_time;            /* when the client was authenticated, in seconds since 1 January 1970, 00:00:00 UTC */
+    int64_t start_time;           /* from when on the ticket is valid */
+    int64_t end_time;             /* until when */
+    int64_t sequence_number;      /* of the client's first message; -1 where it gives none */
+    int64_t seen;                 /* of a refused token, where has_seen is 1: the client's time for KRB_RULE_SKEW, the ticket's start for
+                                     KRB_RULE_NOT_YET_VALID, its end for KRB_RULE_EXPIRED, the kvno that it names for KRB_RULE_KEY_VERSION */
+    uint32_t flags;               /* of the context (RFC 4121, 4.1.1.1): 1 delegation, 2 mutual authentication, 4 replay, 8 sequence, 16 confidentiality,
+                                     32 integrity, 0x1000 DCE style */
+    uint32_t ticket_flags;        /* the ticket's flags (5.3), bit 0 highest */
+    uint32_t session_etype;       /* the encryption type of the session key, and of the service's subkey */
+    uint32_t subkey_etype;        /* of the client's subkey; 0 where it has none */
+    uint32_t transited_type;      /* 1 for DOMAIN-X500-COMPRESS (RFC 4120, 3.3.3.2); 0 where 32 bits do not hold it */
+    uint32_t rule;                /* KRB_RULE_.. of a refused token */
+    uint32_t code;                /* of the KRB-ERROR for it (RFC 4120, 7.5.9) */
+    uint32_t has_seen;            /* 1 or 0 */
+} krb_accepted;
+
+/* The client that sent `token`, where it is let in.
+   `keytab` has the service's keys, `session_keys` the keys of its own ticket-granting tickets, a keytab as well, for tickets under such a key
+   (user-to-user), mostly no octets. `bindings` is the hash of the service's channel bindings (krb_channel_bindings, 16 octets), or no octets where it has none.
+   `address` is the client's, or no octets where it is not known. `random` has 48 random octets, for one call alone: of the AP-REP's confounder (16; 8 for triple
+   DES, of the first ones) and of a subkey (32; as many as a seed has, behind the first 16).
+   An answer is made where the client asks for mutual authentication, by its flags or its ap-options: it is in a frame where the token was, but not in DCE style.
+
+   KRB_DONE: *accepted tells of it, and its places are in the first *size octets of `out`. KRB_ROOM: there are *size, more than `room`; *accepted is all zeros. As
+   many octets as `token` has three times, and 1024, suffice.
+   KRB_KEYTAB: `keytab`, or `session_keys`, is none. KRB_SEED_SIZE: `random` has not 48 octets, or `bindings` neither 0 nor 16. KRB_NOT_ACCEPTED: the client is
+   refused, by the rule that *accepted tells. KRB_MEMORY. On each of these *size is 0, `out` is as it was and, but for KRB_NOT_ACCEPTED, *accepted all zeros. */
+krb_status krb_accept(const krb_acceptor *acceptor, const uint8_t *keytab, size_t keytab_size, const uint8_t *session_keys, size_t session_keys_size,
+                      const uint8_t *bindings, size_t bindings_size, const uint8_t *address, size_t address_size, const uint8_t *random, size_t random_size,
+                      const uint8_t *token, size_t token_size, krb_accepted *accepted, uint8_t *out, size_t room, size_t *size);
+
+/* The hash of channel bindings (RFC 4121, 4.1.1.2): 16 octets; types and addresses of both sides are mostly 0 and no octets (RFC 2744, 3.11), and the data
+   "tls-server-end-point:" and a hash of the server's certificate (RFC 5929, 4).
+   KRB_TOO_LARGE where an address or the data have 2^32 octets or more. */
+krb_status krb_channel_bindings(uint32_t initiator_type, const uint8_t *initiator_address, size_t initiator_address_size, uint32_t acceptor_type,
+                                const uint8_t *acceptor_address, size_t acceptor_address_size, const uint8_t *data, size_t data_size, uint8_t *out, size_t room,
+                                size_t *size);
+
+/* The KRB-ERROR for a client that is refused (RFC 4120, 5.9.1): the service's time and microseconds, the code, and realm and name of the first entry of the
+   keytab; in a token (RFC 4121, 4.1.3) where `in_frame`.
+   KRB_KEYTAB; KRB_ABSENT where no entry of the keytab is of ASCII; KRB_NUMBER where there are more than 999999 microseconds, or the year of the time is past
+   9999; KRB_MEMORY. */
+krb_status krb_make_error(const uint8_t *keytab, size_t keytab_size, int64_t clock, uint32_t microseconds, uint32_t code, bool in_frame, uint8_t *out,
+                          size_t room, size_t *size);
+
 /* A proxy in front of a KDC (MS-KKDCP). What these calls let through is exactly what is said here, out-of-memory aside; nothing is encoded anew.
 
    A request that a client posts: the one DER encoding of a KDC-PROXY-MESSAGE of at most 131072 octets, with a target-domain, whose kerb-message is a

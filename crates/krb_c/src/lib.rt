@@ -1,6 +1,7 @@
 //! The library for C. Each export is a call of the crates below, and states its clause again; `krb.h` declares them.
 #![tactic(auto)]
 
+mod accept;
 mod crypto;
 mod frames;
 mod gss;

@@ -3,8 +3,10 @@
 //! A row is a name, a keytab, the service's time, the hash of its channel bindings, the settings and a token. The settings are a sum of 1 an AP-REQ with no frame
 //! is taken, 2 so is an authenticator with another checksum than 0x8003. For each row it prints who is let in, with what is told of the context, and by which rule
 //! the same token is refused when it comes again; or by which rule it is refused at once. In each case how many entries the cache has then. Where the settings have 4,
-//! it prints of how many tokens that differ from this one in one bit a client is let in; where they have 8, no keys.
+//! it prints of how many tokens that differ from this one in one bit a client is let in; where they have 8, no keys. At the end of each line stands what the call of the
+//! library for C answers: its status, the rule and the code of a refusal, or whether it tells the same, and what it answers without room.
 
+use crate::accepted_by_c::{Caller, text_by_c};
 use picky_krb::accept::{
     Arrival, Context, ReplayCache, ServiceKey, Settings, Terms, TokenRefusal, accept_token,
     keys_of_keytab,
@@ -108,6 +110,7 @@ fn flipped(alloc: Global, service: &Service, token: &[u8]) -> Result<u32, AllocE
 fn text_of(
     alloc: Global,
     service: &Service,
+    caller: &Caller,
     with_keys: bool,
     token: &[u8],
 ) -> Result<String, AllocError> {
@@ -116,7 +119,8 @@ fn text_of(
         Ok(context) => context,
         Err(refusal) => {
             let rule = rule_text(alloc, &refusal)?;
-            return format!(in alloc; "refused, {rule}; entries {}", cache.len());
+            let by_c = text_by_c(alloc, caller, token, None)?;
+            return format!(in alloc; "refused, {rule}; entries {}; {by_c}", cache.len());
         }
     };
     let first = told(alloc, &context)?;
@@ -129,7 +133,11 @@ fn text_of(
         Ok(_context) => String::from_str(alloc, "let in")?,
         Err(refusal) => rule_text(alloc, &refusal)?,
     };
-    format!(in alloc; "{first}{keys}; again {again}; entries {}", cache.len())
+    let by_c = text_by_c(alloc, caller, token, Some(&context))?;
+    format!(in alloc;
+        "{first}{keys}; again {again}; entries {}; {by_c}",
+        cache.len()
+    )
 }
 
 /// What is printed of a row.
@@ -157,7 +165,13 @@ pub(crate) fn answer(alloc: Global, mut columns: Columns<'_>) -> Result<String, 
             ..Settings::new()
         },
     };
-    let text = text_of(alloc, &service, number & 8 == 0, &token)?;
+    let caller = Caller {
+        keytab: &keytab,
+        clock,
+        bindings: &bindings,
+        options: number & 3,
+    };
+    let text = text_of(alloc, &service, &caller, number & 8 == 0, &token)?;
     if number & 4 == 0 {
         return Ok(format!(in alloc; "{name}: {text}\n")?);
     }

@@ -6,6 +6,7 @@
 #![tactic(auto)]
 
 mod accepted;
+mod accepted_by_c;
 mod c_calls;
 mod c_tokens;
 mod crypto;

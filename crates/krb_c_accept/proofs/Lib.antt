@@ -1,0 +1,4 @@
+pub mod Failing
+pub mod Replying
+pub mod Errors
+pub mod Seeds

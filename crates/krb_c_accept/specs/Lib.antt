@@ -1,0 +1,12 @@
+pub mod Options
+pub mod Inputs
+pub mod Prepared
+pub mod Rules
+pub mod Decision
+pub mod Replies
+pub mod Parts
+pub mod Told
+pub mod Answers
+pub mod Calls
+pub mod Bindings
+pub mod ErrorMessages

@@ -1,0 +1,140 @@
+//! The call.
+
+ghost use Rattle.std.specs.Prelude.{◌≡◌, length};
+ghost use Rattle.krb_c_accept.specs.Calls.{IsAnswered, IsCall, IsDecision, IsOutcome, Tells, is_memory, refused};
+ghost use Rattle.krb_c_accept.specs.Inputs.{inputs_of};
+
+use crate::answer::{Answer, answer_of};
+use crate::decision::{LetIn, judged, let_go};
+use crate::prepared::{Asked, Prepared, prepared_of};
+use crate::records::{AcceptedRecord, NOTHING};
+use crate::rules::refused_record;
+use krb_accept::{Kerberos, Rule, TokenRefusal};
+use krb_accept_rules::Opening;
+use krb_c_calls::handing::put;
+use krb_c_calls::{CallError, DONE};
+use krb_der::DerEncode;
+use krb_enc_parts::data_types::{EncApRepPart, EncKrbCredPart};
+use krb_messages::messages::{ApRep, KrbCred};
+use krb_types::data_types::AuthorizationData;
+use std::alloc::Global;
+
+/// What becomes of a call.
+#[derive(Drop)]
+enum Outcome {
+    /// The client is let in.
+    LetIn(Answer),
+    /// It is refused by a rule.
+    Refused(TokenRefusal),
+    /// Nothing is decided.
+    Failed(CallError),
+}
+
+/// Whether an allocation failed.
+fn is_memory(refusal: &TokenRefusal) -> bool
+    ensures { result ≡ is_memory refusal.now }
+{
+    match refusal {
+        TokenRefusal::Request(refusal) => match refusal.rule {
+            Rule::OutOfMemory => true,
+            _ => false,
+        },
+        _ => false,
+    }
+}
+
+/// What becomes of a token that is refused.
+fn refused(refusal: TokenRefusal) -> Outcome
+    ensures { result ≡ refused refusal }
+{
+    if is_memory(&refusal) {
+        Outcome::Failed(CallError::Memory)
+    } else {
+        Outcome::Refused(refusal)
+    }
+}
+
+/// What becomes of a client that is let in.
+fn answered(alloc: Global, asked: &Asked, let_in: &LetIn) -> Outcome
+    requires { length asked.now.random.now ≡ 48 }
+    ensures { IsAnswered ⟦<EncApRepPart as DerEncode>⟧ ⟦<ApRep as DerEncode>⟧ ⟦<AuthorizationData as DerEncode>⟧ (inputs_of asked.now) let_in.now result }
+{
+    match answer_of(alloc, &asked.acceptor, asked.random, asked.token, let_in) {
+        Ok(answer) => Outcome::LetIn(answer),
+        Err(error) => Outcome::Failed(error),
+    }
+}
+
+/// What becomes of a token.
+fn outcome_of(alloc: Global, asked: &Asked, prepared: &Prepared) -> Outcome
+    requires { length asked.now.random.now ≡ 48 }
+    ensures { IsOutcome ⟦<KrbCred as DerEncode>⟧ ⟦<EncKrbCredPart as DerEncode>⟧ ⟦<AuthorizationData as DerEncode>⟧ ⟦<Kerberos as Opening>⟧
+        ⟦<EncApRepPart as DerEncode>⟧ ⟦<ApRep as DerEncode>⟧ (inputs_of asked.now) prepared.now result }
+{
+    match judged(alloc, prepared, asked.token) {
+        Ok(let_in) => {
+            let outcome = answered(alloc, asked, &let_in);
+            let_go(let_in);
+            outcome
+        }
+        Err(refusal) => refused(refusal),
+    }
+}
+
+/// What becomes of a call.
+fn decided(alloc: Global, asked: &Asked) -> Outcome
+    ensures { IsDecision ⟦<KrbCred as DerEncode>⟧ ⟦<EncKrbCredPart as DerEncode>⟧ ⟦<AuthorizationData as DerEncode>⟧ ⟦<Kerberos as Opening>⟧
+        ⟦<EncApRepPart as DerEncode>⟧ ⟦<ApRep as DerEncode>⟧ (inputs_of asked.now) result }
+{
+    match prepared_of(alloc, asked) {
+        Ok(prepared) => outcome_of(alloc, asked, &prepared),
+        Err(error) => Outcome::Failed(error),
+    }
+}
+
+/// Tells what became of a call.
+fn tell(outcome: &Outcome, accepted: &mut AcceptedRecord, out: &mut [u8], size: &mut usize) -> u32
+    ensures { Tells outcome.now accepted.new out.old out.new size.new result }
+{
+    match outcome {
+        Outcome::LetIn(answer) => {
+            let status = put(&answer.octets, out, size);
+            *accepted = if status == DONE {
+                answer.record
+            } else {
+                NOTHING
+            };
+            status
+        }
+        Outcome::Refused(refusal) => {
+            *accepted = refused_record(refusal);
+            *size = 0;
+            CallError::NotAccepted.status()
+        }
+        Outcome::Failed(error) => {
+            *accepted = NOTHING;
+            *size = 0;
+            error.status()
+        }
+    }
+}
+
+/// Whether a service lets in the client that sent a token (RFC 4120, 3.2.3; RFC 4121, 4.1), by all rules but one: that its replay cache has the entry, the caller sees
+/// to.
+///
+/// 0 where it does: `accepted` tells of the client, and its octets are handed out; 1 where they are more than `out` has, and then `accepted` is all zeros. 41 where a
+/// rule refuses the token: `accepted` tells which. Else `accepted` is all zeros: 13 where there are not 48 random octets, or the hash of the bindings has neither 0 nor
+/// 16 octets; 23 where a keytab is none; 2 where an allocation failed; 12 where no AP-REP can be made under the session key, which no call meets.
+pub fn accept(
+    alloc: Global,
+    asked: &Asked,
+    accepted: &mut AcceptedRecord,
+    out: &mut [u8],
+    size: &mut usize,
+) -> u32
+    ensures { IsCall ⟦<KrbCred as DerEncode>⟧ ⟦<EncKrbCredPart as DerEncode>⟧ ⟦<AuthorizationData as DerEncode>⟧ ⟦<Kerberos as Opening>⟧
+        ⟦<EncApRepPart as DerEncode>⟧ ⟦<ApRep as DerEncode>⟧ (inputs_of asked.now) accepted.new out.old out.new size.new result }
+{
+    let outcome = decided(alloc, asked);
+    tell(&outcome, accepted, out, size)
+}
