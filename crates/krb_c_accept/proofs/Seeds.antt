@@ -1,5 +1,5 @@
 -- The seed among the random octets.
-use Rattle.std.proofs.Common.{◌≡◌, ◌≤◌, ◌/◌, ℕ, List, length, take, drop, arith}
+use Rattle.std.proofs.Common.{◌≡◌, ◌≤◌, ◌/◌, ℕ, List, length, drop, arith}
 use Rattle.std.proofs.lemmas.List.{length-take, length-drop}
 use Rattle.krb_crypto.specs.BySuite.{seed_bits_of}
 use Rattle.krb_crypto.specs.declared.cipher_suite.CipherSuite.{CipherSuite}

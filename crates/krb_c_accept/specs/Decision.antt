@@ -1,7 +1,7 @@
 -- Whether a client is let in, with a cache that is empty (RFC 4120, 3.2.3; RFC 4121, 4.1).
-use Rattle.std.specs.Prelude.{◌≡◌, ◌⊎◌, ℕ, List, []}
+use Rattle.std.specs.Prelude.{◌≡◌, ℕ, List, []}
 use Rattle.krb_accept.specs.Entries.{entry_octets}
-use Rattle.krb_accept.specs.Tokens.{IsContextOf, IsTokenNotAdmitted, IsTokenNotPresented, IsTokenPresented, IsTokenRefused}
+use Rattle.krb_accept.specs.Tokens.{IsContextOf, IsTokenPresented, IsTokenRefused}
 use Rattle.krb_accept.specs.declared.token.PresentedToken.{PresentedToken}
 use Rattle.krb_accept.specs.declared.token_refusal.TokenRefusal.{TokenRefusal}
 use Rattle.krb_accept_rules.specs.Times.{IsOfWhole}

@@ -1,5 +1,5 @@
 -- What a service asks, as the library takes it: keys, terms, what is known of the request, settings.
-use Rattle.std.specs.Prelude.{◌≡◌, ◌≢◌, ◌⊎◌, ℕ, ℤ, pos, true, false, if◌then◌else◌, List, [], ◌∷◌, length, Option, None, Some, Err}
+use Rattle.std.specs.Prelude.{◌≡◌, ◌≢◌, ◌⊎◌, ℕ, ℤ, pos, if◌then◌else◌, List, [], ◌∷◌, length, Option, None, Some, Err}
 use Rattle.std.specs.List.{flat_map}
 use Rattle.krb_accept.specs.Keytab.{keys_of_entry}
 use Rattle.krb_accept.specs.declared.settings.PacCheck.{PacCheck}
