@@ -1,13 +1,13 @@
 //! The side that offers.
 
-ghost use Rattle.std.specs.Prelude.{◌≡◌, false, Err, None, find, IfOk};
+ghost use Rattle.std.specs.Prelude.{◌≡◌, false, Err, None, IfOk};
 ghost use Rattle.krb_spnego_rules.specs.Fields.{items_in};
 ghost use Rattle.krb_spnego_rules.specs.InitiatorSteps.{Begins, GoesOnAs, InitiatorSteps, Replied, RepliedAs, chosen as chosen_of, picks, picks_other, settled as settled_of, unread_initiator};
 ghost use Rattle.krb_spnego_rules.specs.Steps.{IsHindered};
 ghost use Rattle.krb_spnego_rules.specs.declared.message.Refusal.{Refusal as RefusalOf};
 
 use crate::checks::check_first_reply;
-use crate::mechanism::Mechanism;
+use crate::mechanism::{Mechanism, find_named};
 use crate::message::{Message, Refusal, copied, octets};
 use crate::side::{After, Complete, Running, advance, go_on, is_established, later};
 use crate::words::{Choice, Reply, Role, Rule, Terms};
@@ -61,15 +61,6 @@ pub fn begin<M: Mechanism>(
         list,
     };
     Ok((Initiator::Offered(offered), turn.token()))
-}
-
-/// The first of the mechanisms that an object identifier names.
-fn find_named<M: Mechanism>(mechanisms: Vec<M>, name: &[u64]) -> Option<M>
-    ensures { result ≡ find (λ m. M.meaning.names m name.now) mechanisms.items }
-{
-    mechanisms
-        .into_iter()
-        .find(|mechanism| mechanism.is_named(name))
 }
 
 /// What a reply's supportedMech comes to, and the mechanism that it names.

@@ -1,6 +1,6 @@
 //! What a mechanism lends to a negotiation.
 
-ghost use Rattle.std.specs.Prelude.{◌≡◌, List, ℕ, Err, IfOk, MatchBool};
+ghost use Rattle.std.specs.Prelude.{◌≡◌, List, ℕ, Err, find, IfOk, MatchBool};
 ghost use Rattle.std.specs.Option.{option_copied};
 ghost use Rattle.krb_spnego_rules.specs.Fields.{progress_in, token_in};
 ghost use Rattle.krb_spnego_rules.specs.Meaning.{Meaning};
@@ -86,4 +86,13 @@ pub trait Mechanism: Drop {
     /// Whether a MIC of the peer holds of a text, once the context is established.
     fn verify_mic(&self, alloc: Global, text: &[u8], mic: &[u8]) -> Result<bool, AllocError>
         ensures { IfOk result (λ held. MatchBool held (meaning.holds self.now text.now mic.now) (meaning.holds self.now text.now mic.now → ⊥)) };
+}
+
+/// The first of the mechanisms that an object identifier names.
+pub(crate) fn find_named<M: Mechanism>(mechanisms: Vec<M>, name: &[u64]) -> Option<M>
+    ensures { result ≡ find (λ m. M.meaning.names m name.now) mechanisms.items }
+{
+    mechanisms
+        .into_iter()
+        .find(|mechanism| mechanism.is_named(name))
 }
