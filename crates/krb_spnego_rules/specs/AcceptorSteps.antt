@@ -3,7 +3,8 @@ use Rattle.std.specs.Prelude.{◌≡◌, ◌⊎◌, ◌&&◌, ◌==◌, ℕ, zer
 use Rattle.std.specs.List.{list_any}
 use Rattle.std.specs.declared.alloc.Global.{Global}
 use Rattle.krb_spnego_rules.specs.Decisions.{continues}
-use Rattle.krb_spnego_rules.specs.Fields.{items_in, progress_in, token_in}
+use Rattle.krb_spnego_rules.specs.Fields.{items_in}
+use Rattle.krb_spnego_rules.specs.Turns.{progress_in, token_in}
 use Rattle.krb_spnego_rules.specs.Meaning.{Meaning}
 use Rattle.krb_spnego_rules.specs.Messages.{after_offer}
 use Rattle.krb_spnego_rules.specs.Steps.{GoesOn, Later, Outcome, saying, waiting_state}

@@ -2,7 +2,8 @@
 use Rattle.std.specs.Prelude.{◌≡◌, ◌⊎◌, ◌&&◌, ℕ, List, Bool, true, false, Option, Some, None, Result, Ok, Err, Vec, find, if◌then◌else◌, is_some, not}
 use Rattle.std.specs.declared.alloc.Global.{Global}
 use Rattle.krb_spnego_rules.specs.Decisions.{continues}
-use Rattle.krb_spnego_rules.specs.Fields.{items_in, progress_in, token_in}
+use Rattle.krb_spnego_rules.specs.Fields.{items_in}
+use Rattle.krb_spnego_rules.specs.Turns.{progress_in, token_in}
 use Rattle.krb_spnego_rules.specs.Meaning.{Meaning}
 use Rattle.krb_spnego_rules.specs.Messages.{after_first_reply}
 use Rattle.krb_spnego_rules.specs.Steps.{GoesOn, Later, Outcome}

@@ -2,7 +2,8 @@
 use Rattle.std.specs.Prelude.{◌≡◌, ◌⊎◌, ◌||◌, ◌&&◌, not, ℕ, List, Bool, true, false, Option, Some, None, Result, Ok, Err, Vec, is_some}
 use Rattle.std.specs.declared.alloc.Global.{Global}
 use Rattle.krb_spnego_rules.specs.Decisions.{acceptor_does, continues, holds as is_held, initiator_does}
-use Rattle.krb_spnego_rules.specs.Fields.{items_in, progress_in, reply_in, token_in}
+use Rattle.krb_spnego_rules.specs.Fields.{items_in, reply_in}
+use Rattle.krb_spnego_rules.specs.Turns.{progress_in, token_in}
 use Rattle.krb_spnego_rules.specs.Meaning.{Meaning}
 use Rattle.krb_spnego_rules.specs.Messages.{after_later}
 use Rattle.krb_spnego_rules.specs.Mics.{IsSeen}

@@ -2,8 +2,8 @@
 
 ghost use Rattle.std.specs.Prelude.{◌≡◌, List, ℕ, Err, find, IfOk, MatchBool};
 ghost use Rattle.std.specs.Option.{option_copied};
-ghost use Rattle.krb_spnego_rules.specs.Fields.{progress_in, token_in};
-ghost use Rattle.krb_spnego_rules.specs.Meaning.{Meaning};
+ghost use Rattle.krb_spnego_rules.specs.Turns.{progress_in, token_in};
+ghost use Rattle.krb_spnego_rules.specs.Meaning.{IsSteady, Meaning};
 
 use crate::words::Progress;
 use std::alloc::{AllocError, Global};
@@ -86,6 +86,9 @@ pub trait Mechanism: Drop {
     /// Whether a MIC of the peer holds of a text, once the context is established.
     fn verify_mic(&self, alloc: Global, text: &[u8], mic: &[u8]) -> Result<bool, AllocError>
         ensures { IfOk result (λ held. MatchBool held (meaning.holds self.now text.now mic.now) (meaning.holds self.now text.now mic.now → ⊥)) };
+
+    // What stays when it steps, and when it makes a MIC.
+    ghost steady: { IsSteady meaning };
 }
 
 /// The first of the mechanisms that an object identifier names.
