@@ -1,5 +1,5 @@
 -- What justifies that a side is complete (RFC 4178, 5 and 7).
-use Rattle.std.specs.Prelude.{◌≡◌, ◌⊎◌, ◌==◌, ℕ, List, [], ◌∷◌, Bool, true, false, map, Option, Some, None, Vec, Contains, slice_get}
+use Rattle.std.specs.Prelude.{◌≡◌, ◌⊎◌, ◌==◌, ℕ, List, [], ◌∷◌, Bool, true, false, map, Option, Some, None, Vec, slice_get}
 use Rattle.std.specs.declared.alloc.Global.{Global}
 use Rattle.krb_spnego_rules.specs.AcceptorSteps.{rank_in}
 use Rattle.krb_spnego_rules.specs.Meaning.{Meaning}
@@ -57,6 +57,11 @@ SendsOver meaning list answer =
 
 -- ---- an initiator
 
+-- x is an element
+abbrev pub IsIn : {X : Type 0} → List X → X → Type 0
+IsIn [] x = ⊥
+IsIn (y ∷ ys) x = (x ≡ y) ⊎ IsIn ys x
+
 -- what it offered: the object identifiers of its mechanisms, the preferred one first, and the DER encoding of their list as it was sent
 pub record Offering : Type 0 where
   pub preferred : List ℕ
@@ -66,7 +71,7 @@ pub record Offering : Type 0 where
 -- the mechanism is one of those that were offered, supportedMech names it, and the preferred one is the first
 pub record FitsOffering {M : Type 0} (meaning : Meaning M) (offering : Offering) (mechanism : M) (name : List ℕ) (preferred : Bool) : Type 0 where
   pub named : meaning.names mechanism name ≡ true
-  pub offered : Contains (offering.preferred ∷ offering.others) (meaning.oid mechanism)
+  pub offered : IsIn (offering.preferred ∷ offering.others) (meaning.oid mechanism)
   pub first : preferred ≡ true → meaning.oid mechanism ≡ offering.preferred
 
 pub record HasOffered {M : Type 0} (meaning : Meaning M) (offering : Offering) (side : Offered M) : Type 0 where
