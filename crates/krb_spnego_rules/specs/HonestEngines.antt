@@ -1,0 +1,60 @@
+-- Two honest engines over contexts that fit together (RFC 4178, 5): nobody is between them.
+use Rattle.std.specs.Prelude.{◌≡◌, ℕ, zero, suc, List, Bool, true, false, Option, Some, None, Result, Ok, Err, Vec}
+use Rattle.std.specs.declared.alloc.Global.{Global}
+use Rattle.krb_spnego_rules.specs.Fields.{items_in}
+use Rattle.krb_spnego_rules.specs.Meaning.{Meaning}
+use Rattle.krb_spnego_rules.specs.Runs.{left_after, other_role, progress_of}
+use Rattle.krb_spnego_rules.specs.Steps.{Later, Outcome}
+use Rattle.krb_spnego_rules.specs.Turns.{progress_in, token_in}
+use Rattle.krb_spnego_rules.specs.declared.words.Role.{Role}
+use Rattle.krb_spnego_rules.specs.declared.mechanism.Turn.{Turn}
+use Rattle.krb_spnego_rules.specs.declared.message.Message.{Message}
+use Rattle.krb_spnego_rules.specs.declared.message.Refusal.{Refusal}
+use Rattle.krb_spnego_rules.specs.declared.message.Refusal.TheVariants.{OutOfMemory}
+use Rattle.krb_spnego_rules.specs.declared.side.Running.{Running}
+use Rattle.krb_spnego_rules.specs.declared.side.Complete.{Complete}
+use Rattle.krb_spnego_rules.specs.declared.side.After.{After}
+use Rattle.krb_spnego_rules.specs.declared.side.After.TheVariants as afters
+
+-- ---- contexts that fit together
+
+-- Where so many tokens are still to be sent, the next one by X, to which this token of Y came: `at_x left token x y`; `at_y` is the same where it is Y's
+-- turn. This is what X owes the pair: it refuses no token of Y; after so many tokens it is established; a MIC of its own changes nothing of that; and it
+-- verifies a MIC that Y made last, once both are established.
+pub record IsHalf {X Y : Type 0} (mine : Meaning X) (theirs : Meaning Y) (at_x at_y : ℕ → Option (List ℕ) → X → Y → Type 0) : Type 0 where
+  pub takes : (left : ℕ) (token : Option (List ℕ)) (x : X) (y : Y) → at_x left token x y → mine.refuses x token → ⊥
+  pub turns : (left : ℕ) (token : Option (List ℕ)) (x : X) (y : Y) (after : X) (turn : Turn) → at_x left token x y → mine.steps x token after turn
+      → (progress_in turn ≡ progress_of left) × at_y (left_after left) (items_in (token_in turn)) after y
+  pub rests : (x : X) (y : Y) → at_x zero None x y → at_y zero None x y
+  pub makes : (left : ℕ) (token : Option (List ℕ)) (x : X) (y : Y) (text mic : List ℕ) (after : X) → at_y left token x y
+      → mine.makes x text mic after → at_y left token after y
+  pub verifies : (x : X) (y before : Y) (text mic : List ℕ) → theirs.makes before text mic y → at_y zero None x y → mine.holds x text mic
+
+abbrev pub flipped : {X Y : Type 0} → (ℕ → Option (List ℕ) → X → Y → Type 0) → ℕ → Option (List ℕ) → Y → X → Type 0
+flipped at left token y x = at left token x y
+
+pub record IsPair {X Y : Type 0} (mine : Meaning X) (theirs : Meaning Y) (at_x at_y : ℕ → Option (List ℕ) → X → Y → Type 0) : Type 0 where
+  pub x_half : IsHalf mine theirs at_x at_y
+  pub y_half : IsHalf theirs mine (flipped at_y) (flipped at_x)
+
+-- ---- what follows
+
+-- both are complete, under one name
+abbrev pub BothComplete : {X Y : Type 0} → Complete X → After Y → Type 0
+BothComplete x (afters.Running y) = ⊥
+BothComplete x (afters.Complete y) = x.name.items ≡ y.name.items
+
+-- what a side came to, where `go` says what has to follow the message that it sends to a side that waits
+abbrev pub Follows : {X Y : Type 0} → (Running Y → After X → Message → Type 0) → After Y → Outcome X → Type 0
+Follows go y (Err refusal) = refusal ≡ OutOfMemory
+Follows go y (Ok (afters.Complete x, None)) = BothComplete x y
+Follows go y (Ok (afters.Running x, None)) = ⊥
+Follows go (afters.Running y) (Ok (x, Some message)) = go y x message
+Follows go (afters.Complete y) (Ok (x, Some message)) = ⊥
+
+-- Whatever a side does with a message that its steps allow, both are complete under one name after at most so many messages, this one among them, or
+-- memory failed. `role` is X's, to which the message came.
+abbrev pub Ends : ℕ → (X Y : Type 0) → Meaning X → Meaning Y → Role → Running X → After Y → Message → Type 0
+Ends zero X Y mine theirs role x y message = ⊥
+Ends (suc most) X Y mine theirs role x y message =
+    (out : Outcome X) → Later mine role x message out → Follows (λ peer side sent. Ends most Y X theirs mine (other_role role) peer side sent) y out
