@@ -102,11 +102,14 @@ turned mine theirs at_x at_y half true left None x context y turn b last at take
 turned mine theirs at_x at_y half false left token x context y turn b last at takes =
     half.turns left (items_in token) x y context turn at takes
 
+false_true : false ≡ true → ⊥
+false_true e = cc
+
 -- an honest peer's MIC holds, once there is a context to verify it by
 sight_is : (holds : List ℕ → Type 0) (came : Option (Vec ℕ Global)) (p : Progress) (sight : Mic) → IsSeen holds (items_in came) p sight
     → ((mic : Vec ℕ Global) → came ≡ Some mic → p ≡ progress.Ends → holds mic.items) → sight ≡ mic_of (is_some came) p
 sight_is holds None p mics.Absent seen h = refl
-sight_is holds None p mics.Early seen h = absurd seen.1
+sight_is holds None p mics.Early seen h = absurd (false_true seen.1)
 sight_is holds None p mics.Holds seen h = absurd (nothing seen.1.0 seen.1.1.0)
 sight_is holds None p mics.Wrong seen h = absurd (nothing seen.1.0 seen.1.1.0)
 sight_is holds (Some mic) p mics.Absent seen h = absurd (nothing mic.items (sym seen))
@@ -120,3 +123,163 @@ sight_is holds (Some mic) progress.Continues mics.Wrong seen h = cc
 sight_is holds (Some mic) progress.EndsWithToken mics.Early seen h = refl
 sight_is holds (Some mic) progress.EndsWithToken mics.Holds seen h = cc
 sight_is holds (Some mic) progress.EndsWithToken mics.Wrong seen h = cc
+
+-- what a side's own MIC comes to
+record Signed {X Y : Type 0} (mine : Meaning X) (at_y : ℕ → Option (List ℕ) → X → Y → Type 0) (list : List ℕ) (b : Bool) (x after : X)
+    (own : Option (Vec ℕ Global)) : Type 0 where
+  pub there : is_some own ≡ b
+  pub at : (left : ℕ) (token : Option (List ℕ)) (y : Y) → at_y left token x y → at_y left token after y
+  pub made : (mic : Vec ℕ Global) → own ≡ Some mic → (before : X) × mine.makes before list mic.items after
+
+signed : {X Y : Type 0} (mine : Meaning X) (theirs : Meaning Y) (at_x at_y : ℕ → Option (List ℕ) → X → Y → Type 0) → IsHalf mine theirs at_x at_y
+    → (b : Bool) (list : List ℕ) (x after : X) (own : Option (Vec ℕ Global)) → Signs mine x list b after own → Signed mine at_y list b x after own
+signed mine theirs at_x at_y half false list x after own s = record {
+  there = ap is_some s.1;
+  at = λ left token y h. subst (λ c. at_y left token c y) (sym s.0) h;
+  made = λ mic e. absurd (nothing mic (sym s.1 ∙ e));
+}
+signed mine theirs at_x at_y half true list x after own s = record {
+  there = ap is_some s.1.0;
+  at = λ left token y h. half.makes left token x y list s.0.items after h s.1.1;
+  made = λ mic e. (x, subst (λ m. mine.makes x list m.items after) (some_is s.0 mic (sym s.1.0 ∙ e)) s.1.1);
+}
+
+-- ---- the rules' sides and messages, of the engine's
+
+abbrev side_in : {X : Type 0} → Running X → Side
+side_in x = record { terms = x.terms; first = false; established = x.established }
+
+abbrev note_in : NegState → Option (Vec ℕ Global) → Option (Vec ℕ Global) → Note
+note_in state token own = record { state = state; choice = choices.Absent; token = is_some token; mic = is_some own }
+
+abbrev list_of : {Y : Type 0} → After Y → List ℕ
+list_of (afters.Running y) = y.list.items
+list_of (afters.Complete y) = y.list.items
+
+abbrev name_of : {Y : Type 0} → After Y → List ℕ
+name_of (afters.Running y) = y.name.items
+name_of (afters.Complete y) = y.name.items
+
+abbrev context_of : {Y : Type 0} → After Y → Y
+context_of (afters.Running y) = y.mechanism
+context_of (afters.Complete y) = y.mechanism
+
+-- the side that the rules count with, of the peer: what it waits with, if it does
+abbrev Stands : {Y : Type 0} → Bool → After Y → Side → Type 0
+Stands true (afters.Complete y) side = Unit {0}
+Stands true (afters.Running y) side = ⊥
+Stands false (afters.Running y) side = side ≡ side_in y
+Stands false (afters.Complete y) side = ⊥
+
+record Meets {X Y : Type 0} (theirs : Meaning Y) (at_x : ℕ → Option (List ℕ) → X → Y → Type 0) (x : Running X) (y : After Y) (left : ℕ) (done : Bool)
+    (side : Side) (token own : Option (Vec ℕ Global)) (list name : List ℕ) : Type 0 where
+  pub x_list : x.list.items ≡ list
+  pub x_name : x.name.items ≡ name
+  pub y_list : list_of y ≡ list
+  pub y_name : name_of y ≡ name
+  pub at : at_x left (items_in token) x.mechanism (context_of y)
+  pub last : token ≡ None → left ≡ zero
+  pub made : (mic : Vec ℕ Global) → own ≡ Some mic → (before : Y) × theirs.makes before list mic.items (context_of y)
+  pub stands : Stands done y side
+
+-- what the rules count, an engine does
+abbrev Simulates : ℕ → Type 1
+Simulates most = (X Y : Type 0) (mine : Meaning X) (theirs : Meaning Y) (at_x at_y : ℕ → Option (List ℕ) → X → Y → Type 0) → IsPair mine theirs at_x at_y
+    → (role : Role) (x : Running X) (y : After Y) (left : ℕ) (done : Bool) (side : Side) (state : NegState) (token own : Option (Vec ℕ Global))
+      (list name : List ℕ) (n : ℕ) → more most role (side_in x) side left done (note_in state token own) ≡ Some n
+    → Meets theirs at_x x y left done side token own list name → Ends most X Y mine theirs role x y (saying state None token own)
+
+-- ---- what follows a decision
+
+uncounted : (found : Option ℕ) (n : ℕ) → counted found ≡ Some n → (m : ℕ) × (found ≡ Some m)
+uncounted None n e = absurd (nothing n e)
+uncounted (Some m) n e = (m, refl)
+
+turned_pair : {X Y : Type 0} (mine : Meaning X) (theirs : Meaning Y) (at_x at_y : ℕ → Option (List ℕ) → X → Y → Type 0) → IsPair mine theirs at_x at_y
+    → IsPair theirs mine (flipped at_y) (flipped at_x)
+turned_pair mine theirs at_x at_y pair = record { x_half = pair.y_half; y_half = pair.x_half }
+
+-- the rules' count of what follows, of the message that is sent
+abbrev follows : ℕ → Role → Side → Terms → ℕ → Bool → Bool → Option ℕ
+follows most role side terms left finished mic =
+    more most (other_role role) side (having_sent terms left mic) (left_after left) finished (note_of (state_of finished) left mic)
+
+of_message : (most : ℕ) (role : Role) (a b other : Side) (left : ℕ) (done : Bool) (state : NegState) (token own : Option (Vec ℕ Global)) (t m : Bool)
+    (found : Option ℕ) → a ≡ b → is_some token ≡ t → is_some own ≡ m
+    → more most role a other left done (record { state = state; choice = choices.Absent; token = t; mic = m }) ≡ found
+    → more most role b other left done (note_in state token own) ≡ found
+of_message most role a b other left done state token own t m found e f h is =
+    subst (λ s. more most role s other left done (note_in state token own) ≡ found) e
+    (subst (λ x. more most role a other left done (record { state = state; choice = choices.Absent; token = x; mic = is_some own }) ≡ found) (sym f)
+    (subst (λ x. more most role a other left done (record { state = state; choice = choices.Absent; token = t; mic = x }) ≡ found) (sym h) is))
+
+concludes : (most : ℕ) → Simulates most → (X Y : Type 0) (mine : Meaning X) (theirs : Meaning Y) (at_x at_y : ℕ → Option (List ℕ) → X → Y → Type 0)
+    → IsPair mine theirs at_x at_y → (role : Role) (x : Running X) (y : After Y) (left : ℕ) (done : Bool) (side : Side) (list name : List ℕ) (context : X)
+      (turn : Turn) (sight : Mic) (decision : Decision) (n : ℕ) (out : Outcome X) → x.list.items ≡ list → x.name.items ≡ name → list_of y ≡ list
+    → name_of y ≡ name → Stands done y side → progress_in turn ≡ progress_of left
+    → at_y (left_after left) (items_in (token_in turn)) context (context_of y)
+    → after (follows most role side x.terms left) done decision ≡ Some n
+    → Does mine (with_context x context) turn sight None decision out
+    → Follows (λ peer s sent. Ends most Y X theirs mine (other_role role) peer s sent) y out
+concludes most sim X Y mine theirs at_x at_y pair role x y left done side list name context turn sight (Refuse rule) n out xl xn yl yn st p at e d =
+    absurd (nothing n e)
+concludes most sim X Y mine theirs at_x at_y pair role x y left false side list name context turn sight Rest n out xl xn yl yn st p at e d =
+    absurd (nothing n e)
+concludes most sim X Y mine theirs at_x at_y pair role x (afters.Running y) left true side list name context turn sight Rest n out xl xn yl yn st p at e d =
+    absurd st
+concludes most sim X Y mine theirs at_x at_y pair role x (afters.Complete y) left true side list name context turn sight Rest n out xl xn yl yn st p at e d =
+    subst (λ o. Follows (λ peer s sent. Ends most Y X theirs mine (other_role role) peer s sent) (afters.Complete y) o) (sym d) (xn ∙ sym yn)
+concludes most sim X Y mine theirs at_x at_y pair role x y left true side list name context turn sight (Finish mic) n out xl xn yl yn st p at e d =
+    absurd (nothing n e)
+concludes most sim X Y mine theirs at_x at_y pair role x (afters.Complete y) left false side list name context turn sight (Finish mic) n out xl xn yl yn st p at e d =
+    absurd st
+concludes most sim X Y mine theirs at_x at_y pair role x (afters.Running y) left false side list name context turn sight (Finish mic) n out xl xn yl yn st p at e d =
+    let c = d.1.0.0 in
+    let own = d.1.0.1.0 in
+    let s : Signed mine at_y x.list.items mic context c own = signed mine theirs at_x at_y pair.x_half mic x.list.items context c own d.1.0.1.1.0 in
+    let m : (k : ℕ) × (follows most role side x.terms left true mic ≡ Some k) = uncounted (follows most role side x.terms left true mic) n e in
+    subst (λ o. Follows (λ peer a sent. Ends most Y X theirs mine (other_role role) peer a sent) (afters.Running y) o) (sym (d.1.1 ∙ ap Ok d.1.0.1.1.1))
+    (sim Y X theirs mine (flipped at_y) (flipped at_x) (turned_pair mine theirs at_x at_y pair) (other_role role) y
+    (afters.Complete (completed (with_context x context) c sight)) (left_after left) true (having_sent x.terms left mic) AcceptCompleted (token_in turn) own
+    list name m.0
+    (of_message most (other_role role) side (side_in y) (having_sent x.terms left mic) (left_after left) true AcceptCompleted (token_in turn) own
+    (sends_token left) mic (Some m.0) st (sends turn left p) s.there m.1)
+    (record {
+      x_list = yl;
+      x_name = yn;
+      y_list = xl;
+      y_name = xn;
+      at = s.at (left_after left) (items_in (token_in turn)) y.mechanism at;
+      last = λ none. none_left turn left p none;
+      made = λ k is. ((s.made k is).0, subst (λ l. mine.makes (s.made k is).0 l k.items c) xl (s.made k is).1);
+      stands = tt;
+    }))
+concludes most sim X Y mine theirs at_x at_y pair role x y left true side list name context turn sight (Wait mic) n out xl xn yl yn st p at e d =
+    absurd (nothing n e)
+concludes most sim X Y mine theirs at_x at_y pair role x (afters.Complete y) left false side list name context turn sight (Wait mic) n out xl xn yl yn st p at e d =
+    absurd st
+concludes most sim X Y mine theirs at_x at_y pair role x (afters.Running y) left false side list name context turn sight (Wait mic) n out xl xn yl yn st p at e d =
+    let c = d.1.0.0 in
+    let own = d.1.0.1.0 in
+    let s : Signed mine at_y x.list.items mic context c own = signed mine theirs at_x at_y pair.x_half mic x.list.items context c own d.1.0.1.1.0 in
+    let m : (k : ℕ) × (follows most role side x.terms left false mic ≡ Some k) = uncounted (follows most role side x.terms left false mic) n e in
+    subst (λ o. Follows (λ peer a sent. Ends most Y X theirs mine (other_role role) peer a sent) (afters.Running y) o) (sym (d.1.1 ∙ ap Ok d.1.0.1.1.1))
+    (sim Y X theirs mine (flipped at_y) (flipped at_x) (turned_pair mine theirs at_x at_y pair) (other_role role) y
+    (afters.Running (waiting (with_context x context) c (progress_in turn) mic)) (left_after left) false (having_sent x.terms left mic) AcceptIncomplete
+    (token_in turn) own list name m.0
+    (of_message most (other_role role) side (side_in y) (having_sent x.terms left mic) (left_after left) false AcceptIncomplete (token_in turn) own
+    (sends_token left) mic (Some m.0) st (sends turn left p) s.there m.1)
+    (record {
+      x_list = yl;
+      x_name = yn;
+      y_list = xl;
+      y_name = xn;
+      at = s.at (left_after left) (items_in (token_in turn)) y.mechanism at;
+      last = λ none. none_left turn left p none;
+      made = λ k is. ((s.made k is).0, subst (λ l. mine.makes (s.made k is).0 l k.items c) xl (s.made k is).1);
+      stands = ap (λ q. record {
+        terms = record { preferred = x.terms.preferred; required = x.terms.required; sent = x.terms.sent || mic };
+        first = false;
+        established = not (continues q);
+      }) (sym p);
+    }))
