@@ -4,7 +4,7 @@ use Rattle.std.specs.Prelude.{IsSome, is_some}
 use Rattle.std.specs.declared.alloc.Global.{Global}
 use Rattle.krb_spnego_rules.specs.Decisions.{continues}
 use Rattle.krb_spnego_rules.specs.Fields.{items_in, reply_in}
-use Rattle.krb_spnego_rules.specs.HonestEngines.{BothComplete, Ends, Follows, IsHalf, IsPair, flipped}
+use Rattle.krb_spnego_rules.specs.HonestEngines.{BothComplete, Ends, Follows, IsHalf, IsPair, Meets, Stands, context_of, flipped, list_of, name_of, note_in, side_in}
 use Rattle.krb_spnego_rules.specs.Meaning.{Meaning}
 use Rattle.krb_spnego_rules.specs.Messages.{after_later}
 use Rattle.krb_spnego_rules.specs.Mics.{IsSeen}
@@ -144,46 +144,9 @@ signed mine theirs at_x at_y half true list x after own s = record {
   made = λ mic e. (x, subst (λ m. mine.makes x list m.items after) (some_is s.0 mic (sym s.1.0 ∙ e)) s.1.1);
 }
 
--- ---- the rules' sides and messages, of the engine's
+-- ---- what the rules count, an engine does
 
-abbrev side_in : {X : Type 0} → Running X → Side
-side_in x = record { terms = x.terms; first = false; established = x.established }
-
-abbrev note_in : NegState → Option (Vec ℕ Global) → Option (Vec ℕ Global) → Note
-note_in state token own = record { state = state; choice = choices.Absent; token = is_some token; mic = is_some own }
-
-abbrev list_of : {Y : Type 0} → After Y → List ℕ
-list_of (afters.Running y) = y.list.items
-list_of (afters.Complete y) = y.list.items
-
-abbrev name_of : {Y : Type 0} → After Y → List ℕ
-name_of (afters.Running y) = y.name.items
-name_of (afters.Complete y) = y.name.items
-
-abbrev context_of : {Y : Type 0} → After Y → Y
-context_of (afters.Running y) = y.mechanism
-context_of (afters.Complete y) = y.mechanism
-
--- the side that the rules count with, of the peer: what it waits with, if it does
-abbrev Stands : {Y : Type 0} → Bool → After Y → Side → Type 0
-Stands true (afters.Complete y) side = Unit {0}
-Stands true (afters.Running y) side = ⊥
-Stands false (afters.Running y) side = side ≡ side_in y
-Stands false (afters.Complete y) side = ⊥
-
-record Meets {X Y : Type 0} (theirs : Meaning Y) (at_x : ℕ → Option (List ℕ) → X → Y → Type 0) (x : Running X) (y : After Y) (left : ℕ) (done : Bool)
-    (side : Side) (token own : Option (Vec ℕ Global)) (list name : List ℕ) : Type 0 where
-  pub x_list : x.list.items ≡ list
-  pub x_name : x.name.items ≡ name
-  pub y_list : list_of y ≡ list
-  pub y_name : name_of y ≡ name
-  pub at : at_x left (items_in token) x.mechanism (context_of y)
-  pub last : token ≡ None → left ≡ zero
-  pub made : (mic : Vec ℕ Global) → own ≡ Some mic → (before : Y) × theirs.makes before list mic.items (context_of y)
-  pub stands : Stands done y side
-
--- what the rules count, an engine does
-abbrev Simulates : ℕ → Type 1
+abbrev pub Simulates : ℕ → Type 1
 Simulates most = (X Y : Type 0) (mine : Meaning X) (theirs : Meaning Y) (at_x at_y : ℕ → Option (List ℕ) → X → Y → Type 0) → IsPair mine theirs at_x at_y
     → (role : Role) (x : Running X) (y : After Y) (left : ℕ) (done : Bool) (side : Side) (state : NegState) (token own : Option (Vec ℕ Global))
       (list name : List ℕ) (n : ℕ) → more most role (side_in x) side left done (note_in state token own) ≡ Some n
@@ -283,3 +246,91 @@ concludes most sim X Y mine theirs at_x at_y pair role x (afters.Running y) left
         established = not (continues q);
       }) (sym p);
     }))
+
+-- ---- a message
+
+taken_is : (role : Role) (terms : Terms) (established : Bool) (note : Note)
+    → taken role (record { terms = terms; first = false; established = established }) note ≡ kept (after_later (reply_of note) established) terms
+taken_is Initiator terms established note = refl
+taken_is Acceptor terms established note = refl
+
+decided_is : (role : Role) (terms : Terms) (p : Progress) (state : NegState) (token mic : Bool)
+    → decided role (Ok terms) p (record { state = state; choice = choices.Absent; token = token; mic = mic })
+    ≡ decides role terms false p (Some state) (mic_of mic p)
+decided_is Initiator terms p state token mic = refl
+decided_is Acceptor terms p state token mic = refl
+
+refused_is : (role : Role) (rule : Rule) (p : Progress) (note : Note) → decided role (Err rule) p note ≡ Refuse rule
+refused_is Initiator rule p note = refl
+refused_is Acceptor rule p note = refl
+
+-- the MIC that came holds, once the context is established
+held : {X Y : Type 0} (mine : Meaning X) (theirs : Meaning Y) (at_x at_y : ℕ → Option (List ℕ) → X → Y → Type 0) → IsHalf mine theirs at_x at_y
+    → (left : ℕ) (context : X) (y : Y) (turn : Turn) (own : Option (Vec ℕ Global)) (list : List ℕ) → progress_in turn ≡ progress_of left
+    → at_y (left_after left) (items_in (token_in turn)) context y
+    → ((mic : Vec ℕ Global) → own ≡ Some mic → (before : Y) × theirs.makes before list mic.items y)
+    → (mic : Vec ℕ Global) → own ≡ Some mic → progress_in turn ≡ progress.Ends → mine.holds context list mic.items
+held mine theirs at_x at_y half left context y turn own list p at made mic is ends =
+    let left_is : left ≡ zero = ended_left left (sym p ∙ ends) in
+    half.verifies context y (made mic is).0 list mic.items (made mic is).1
+    (subst (λ t. at_y zero t context y) (ended_token turn ends)
+    (subst (λ l. at_y (left_after l) (items_in (token_in turn)) context y) left_is at))
+
+went : (most : ℕ) → Simulates most → (X Y : Type 0) (mine : Meaning X) (theirs : Meaning Y) (at_x at_y : ℕ → Option (List ℕ) → X → Y → Type 0)
+    → IsPair mine theirs at_x at_y → (role : Role) (x : Running X) (y : After Y) (left : ℕ) (done : Bool) (side : Side) (state : NegState)
+      (token own : Option (Vec ℕ Global)) (list name : List ℕ) (n : ℕ) (out : Outcome X) → Meets theirs at_x x y left done side token own list name
+    → x.established ≡ not (is_some token)
+    → after (follows most role side x.terms left) done (decides role x.terms false (progress_of left) (Some state) (mic_of (is_some own) (progress_of left))) ≡ Some n
+    → GoesOn mine role x None (Some state) (items_in token) (items_in own) out
+    → Follows (λ peer s sent. Ends most Y X theirs mine (other_role role) peer s sent) y out
+went most sim X Y mine theirs at_x at_y pair role x y left done side state token own list name n out meets waits e goes =
+    elim goes [
+      | inl memory ↦ subst (λ o. Follows (λ peer s sent. Ends most Y X theirs mine (other_role role) peer s sent) y o) (sym memory) refl
+      | inr rest ↦ elim rest [
+        | inl refused ↦ absurd (pair.x_half.takes left (items_in token) x.mechanism (context_of y) meets.at refused.1.0)
+        | inr step ↦
+          let context = step.0 in
+          let turn = step.1.0 in
+          let t : (progress_in turn ≡ progress_of left) × at_y (left_after left) (items_in (token_in turn)) context (context_of y)
+          = turned mine theirs at_x at_y pair.x_half x.established left token x.mechanism context (context_of y) turn waits meets.last meets.at step.1.1.0 in
+          let sight = step.1.1.1.0 in
+          let seen : sight ≡ mic_of (is_some own) (progress_in turn)
+          = sight_is (mine.holds context x.list.items) own (progress_in turn) sight step.1.1.1.1.0
+            (λ mic is ends. subst (λ l. mine.holds context l mic.items) (sym meets.x_list)
+            (held mine theirs at_x at_y pair.x_half left context (context_of y) turn own list t.0 t.1 meets.made mic is ends)) in
+          concludes most sim X Y mine theirs at_x at_y pair role x y left done side list name context turn sight
+          (decides role x.terms false (progress_in turn) (Some state) sight) n out meets.x_list meets.x_name meets.y_list meets.y_name meets.stands t.0 t.1
+          (subst (λ m. after (follows most role side x.terms left) done (decides role x.terms false (progress_in turn) (Some state) m) ≡ Some n) (sym seen)
+          (subst (λ p. after (follows most role side x.terms left) done (decides role x.terms false p (Some state) (mic_of (is_some own) p)) ≡ Some n)
+          (sym t.0) e)) step.1.1.1.1.1
+      ]
+    ]
+
+-- the rules' count, where this is what is agreed on
+abbrev counts : ℕ → Role → Side → Terms → ℕ → Bool → Note → Result Terms Rule → Option ℕ
+counts most role side terms left done note agreed =
+    after (λ finished mic. more most (other_role role) side (having_sent (terms_in agreed terms) left mic) (left_after left) finished
+    (note_of (state_of finished) left mic)) done (decided role agreed (progress_of left) note)
+
+by_verdict : (most : ℕ) → Simulates most → (X Y : Type 0) (mine : Meaning X) (theirs : Meaning Y) (at_x at_y : ℕ → Option (List ℕ) → X → Y → Type 0)
+    → IsPair mine theirs at_x at_y → (role : Role) (x : Running X) (y : After Y) (left : ℕ) (done : Bool) (side : Side) (state : NegState)
+      (token own : Option (Vec ℕ Global)) (list name : List ℕ) (n : ℕ) (out : Outcome X) (verdict : Result (Unit {0}) Rule)
+    → Meets theirs at_x x y left done side token own list name
+    → after_later (record { state = Some state; choice = choices.Absent; token = is_some token }) x.established ≡ verdict
+    → counts most role side x.terms left done (note_in state token own) (kept verdict x.terms) ≡ Some n
+    → LaterBy mine role x (saying state None token own) verdict out
+    → Follows (λ peer s sent. Ends most Y X theirs mine (other_role role) peer s sent) y out
+by_verdict most sim X Y mine theirs at_x at_y pair role x y left done side state token own list name n out (Err rule) meets is e later =
+    absurd (nothing n (sym (ap (after (follows most role side x.terms left) done) (refused_is role rule (progress_of left) (note_in state token own))) ∙ e))
+by_verdict most sim X Y mine theirs at_x at_y pair role x y left done side state token own list name n out (Ok u) meets is e later =
+    went most sim X Y mine theirs at_x at_y pair role x y left done side state token own list name n out meets
+    (waits_for state (is_some token) x.established u is)
+    (sym (ap (after (follows most role side x.terms left) done) (decided_is role x.terms (progress_of left) state (is_some token) (is_some own))) ∙ e) later
+
+-- HONEST ENGINES DO WHAT THE RULES COUNT
+pub simulate : (most : ℕ) → Simulates most
+simulate zero X Y mine theirs at_x at_y pair role x y left done side state token own list name n e meets = absurd (nothing n e)
+simulate (suc most) X Y mine theirs at_x at_y pair role x y left done side state token own list name n e meets = λ out later.
+    by_verdict most (simulate most) X Y mine theirs at_x at_y pair role x y left done side state token own list name n out
+    (after_later (record { state = Some state; choice = choices.Absent; token = is_some token }) x.established) meets refl
+    (sym (ap (counts most role side x.terms left done (note_in state token own)) (taken_is role x.terms x.established (note_in state token own))) ∙ e) later

@@ -1,11 +1,13 @@
 -- Two honest engines over contexts that fit together (RFC 4178, 5): nobody is between them.
-use Rattle.std.specs.Prelude.{◌≡◌, ℕ, zero, suc, List, Bool, true, false, Option, Some, None, Result, Ok, Err, Vec}
+use Rattle.std.specs.Prelude.{◌≡◌, is_some, ℕ, zero, suc, List, Bool, true, false, Option, Some, None, Result, Ok, Err, Vec}
 use Rattle.std.specs.declared.alloc.Global.{Global}
 use Rattle.krb_spnego_rules.specs.Fields.{items_in}
 use Rattle.krb_spnego_rules.specs.Meaning.{Meaning}
-use Rattle.krb_spnego_rules.specs.Runs.{left_after, other_role, progress_of}
+use Rattle.krb_spnego_rules.specs.Runs.{Note, Side, left_after, other_role, progress_of}
 use Rattle.krb_spnego_rules.specs.Steps.{Later, Outcome}
 use Rattle.krb_spnego_rules.specs.Turns.{progress_in, token_in}
+use Rattle.krb_spnego_rules.specs.declared.words.Choice.TheVariants as choices
+use Rattle.krb_spnego_rules.specs.declared.words.NegState.{NegState}
 use Rattle.krb_spnego_rules.specs.declared.words.Role.{Role}
 use Rattle.krb_spnego_rules.specs.declared.mechanism.Turn.{Turn}
 use Rattle.krb_spnego_rules.specs.declared.message.Message.{Message}
@@ -58,3 +60,42 @@ abbrev pub Ends : ℕ → (X Y : Type 0) → Meaning X → Meaning Y → Role �
 Ends zero X Y mine theirs role x y message = ⊥
 Ends (suc most) X Y mine theirs role x y message =
     (out : Outcome X) → Later mine role x message out → Follows (λ peer side sent. Ends most Y X theirs mine (other_role role) peer side sent) y out
+
+-- ---- the rules' sides and messages, of the engine's
+
+abbrev pub side_in : {X : Type 0} → Running X → Side
+side_in x = record { terms = x.terms; first = false; established = x.established }
+
+abbrev pub note_in : NegState → Option (Vec ℕ Global) → Option (Vec ℕ Global) → Note
+note_in state token own = record { state = state; choice = choices.Absent; token = is_some token; mic = is_some own }
+
+abbrev pub list_of : {Y : Type 0} → After Y → List ℕ
+list_of (afters.Running y) = y.list.items
+list_of (afters.Complete y) = y.list.items
+
+abbrev pub name_of : {Y : Type 0} → After Y → List ℕ
+name_of (afters.Running y) = y.name.items
+name_of (afters.Complete y) = y.name.items
+
+abbrev pub context_of : {Y : Type 0} → After Y → Y
+context_of (afters.Running y) = y.mechanism
+context_of (afters.Complete y) = y.mechanism
+
+-- the side that the rules count with, of the peer: what it waits with, if it does
+abbrev pub Stands : {Y : Type 0} → Bool → After Y → Side → Type 0
+Stands true (afters.Complete y) side = Unit {0}
+Stands true (afters.Running y) side = ⊥
+Stands false (afters.Running y) side = side ≡ side_in y
+Stands false (afters.Complete y) side = ⊥
+
+-- an honest message has come to x: both have one list and one name, their contexts fit together, and a MIC in it is one that y made last
+pub record Meets {X Y : Type 0} (theirs : Meaning Y) (at_x : ℕ → Option (List ℕ) → X → Y → Type 0) (x : Running X) (y : After Y) (left : ℕ) (done : Bool)
+    (side : Side) (token own : Option (Vec ℕ Global)) (list name : List ℕ) : Type 0 where
+  pub x_list : x.list.items ≡ list
+  pub x_name : x.name.items ≡ name
+  pub y_list : list_of y ≡ list
+  pub y_name : name_of y ≡ name
+  pub at : at_x left (items_in token) x.mechanism (context_of y)
+  pub last : token ≡ None → left ≡ zero
+  pub made : (mic : Vec ℕ Global) → own ≡ Some mic → (before : Y) × theirs.makes before list mic.items (context_of y)
+  pub stands : Stands done y side
