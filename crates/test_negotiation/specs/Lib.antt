@@ -1,0 +1,2 @@
+pub mod Toy
+pub mod Steady

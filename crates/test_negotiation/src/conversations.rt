@@ -1,0 +1,200 @@
+//! Two engines against each other, with a third between them or without.
+
+use crate::toy::Toy;
+use krb_spnego_rules::{Acceptor, Initiator, Message, Proposal, Refusal, Rule, accept, begin};
+use std::alloc::Global;
+use std::test::Fail;
+
+/// One side's context of the toy with this object identifier.
+fn toy(arc: u64, tokens: u8) -> Toy {
+    Toy {
+        arc,
+        left: tokens,
+        key: 7,
+        integrity: true,
+    }
+}
+
+fn refusal_text(refusal: Refusal) -> &'static str {
+    match refusal {
+        Refusal::Broken(rule) => rule_text(rule),
+        Refusal::OutOfMemory => "OutOfMemory",
+        Refusal::Unread => "Unread",
+    }
+}
+
+fn rule_text(rule: Rule) -> &'static str {
+    match rule {
+        Rule::WrongMic => "WrongMic",
+        Rule::NoMic => "NoMic",
+        Rule::Finished => "Finished",
+        Rule::UnknownMechanism => "UnknownMechanism",
+        _ => "another rule",
+    }
+}
+
+fn initiator_text(side: &Initiator<Toy>) -> &'static str {
+    match side {
+        Initiator::Offered(_) => "offered",
+        Initiator::Running(_) => "waits",
+        Initiator::Complete(complete) => {
+            if complete.by_mic {
+                "complete by MIC"
+            } else {
+                "complete"
+            }
+        }
+        Initiator::Failed(refusal) => refusal_text(*refusal),
+    }
+}
+
+fn acceptor_text(side: &Acceptor<Toy>) -> &'static str {
+    match side {
+        Acceptor::Fresh(_) => "fresh",
+        Acceptor::Running(_) => "waits",
+        Acceptor::Bare(_) => "bare",
+        Acceptor::Complete(complete) => {
+            if complete.by_mic {
+                "complete by MIC"
+            } else {
+                "complete"
+            }
+        }
+        Acceptor::Failed(refusal) => refusal_text(*refusal),
+    }
+}
+
+/// How a conversation ended: how many messages there were, the states of both sides, and the
+/// initiator's after one message more.
+#[derive(Drop)]
+struct End {
+    messages: u32,
+    initiator: &'static str,
+    acceptor: &'static str,
+    after_end: &'static str,
+}
+
+/// What a third makes of the offer: the names and the octets of the list, and whether mechToken is
+/// dropped.
+#[derive(Drop)]
+struct Heard {
+    names: Vec<Vec<u64>>,
+    list: Vec<u8>,
+    drops_token: bool,
+}
+
+/// An initiator of the mechanisms 1 and 2 against an acceptor of one.
+fn converse(
+    alloc: Global,
+    tokens: u8,
+    supported: u64,
+    asks: bool,
+    heard: Heard,
+) -> Result<End, Fail> {
+    let others = Vec::from_array(alloc, [toy(2, tokens)])?;
+    let list = Vec::from_slice(alloc, &[1, 2])?;
+    let Ok((mut initiator, token)) = begin(alloc, toy(1, tokens), others, list) else {
+        return Ok(End {
+            messages: 0,
+            initiator: "does not begin",
+            acceptor: "fresh",
+            after_end: "does not begin",
+        });
+    };
+    let acceptor = accept(Vec::from_array(alloc, [toy(supported, tokens)])?, asks);
+    let proposal = Proposal {
+        mechanisms: heard.names,
+        list: heard.list,
+        token: if heard.drops_token { None } else { token },
+        mic: None,
+    };
+    let (mut acceptor, mut answer) = acceptor.offered(alloc, proposal);
+    let mut messages = 1;
+    for turn in 0..12u32 {
+        let Some(message) = answer else {
+            break;
+        };
+        messages += 1;
+        if turn % 2 == 0 {
+            let (side, next) = initiator.step(alloc, &message);
+            initiator = side;
+            answer = next;
+        } else {
+            let (side, next) = acceptor.step(alloc, &message);
+            acceptor = side;
+            answer = next;
+        }
+    }
+    let state = initiator_text(&initiator);
+    let stray = Message {
+        state: None,
+        mechanism: None,
+        token: None,
+        mic: None,
+    };
+    let (after_end, _answer) = initiator.step(alloc, &stray);
+    Ok(End {
+        messages,
+        initiator: state,
+        acceptor: acceptor_text(&acceptor),
+        after_end: initiator_text(&after_end),
+    })
+}
+
+/// The list of these object identifiers, whose encoding is taken to be these octets.
+fn offer_of(alloc: Global, arcs: &[u64], list: &[u8], drops_token: bool) -> Result<Heard, Fail> {
+    let mut names = Vec::new(alloc);
+    for arc in arcs {
+        names.push(Vec::from_slice(alloc, &[*arc])?)?;
+    }
+    Ok(Heard {
+        names,
+        list: Vec::from_slice(alloc, list)?,
+        drops_token,
+    })
+}
+
+/// Nobody is between them: tokens of the mechanism, the one that the acceptor has, whether it asks
+/// for MICs; the messages that RFC 4178, 5, gives, and both sides' state.
+#[test]
+fn honest_sides(rt: HostRuntime) -> Result<(), Fail> {
+    let alloc = rt.alloc();
+    let rows: [(u8, u64, bool, u32, &str); 8] = [
+        (1, 1, false, 2, "complete"),
+        (1, 1, true, 3, "complete by MIC"),
+        (2, 1, false, 2, "complete"),
+        (2, 1, true, 3, "complete by MIC"),
+        (3, 1, false, 4, "complete"),
+        (3, 1, true, 4, "complete by MIC"),
+        (2, 2, false, 5, "complete by MIC"),
+        (3, 2, true, 6, "complete by MIC"),
+    ];
+    for (tokens, supported, asks, messages, state) in rows {
+        let offer = offer_of(alloc, &[1, 2], &[1, 2], false)?;
+        let end = converse(alloc, tokens, supported, asks, offer)?;
+        assert_eq!(rt; end.messages, messages);
+        assert_eq!(rt; end.initiator, state);
+        assert_eq!(rt; end.acceptor, state);
+        assert_eq!(rt; end.after_end, "Finished");
+    }
+    Ok(())
+}
+
+/// A third cuts the first choice and its token out of the offer. An acceptor that asks for MICs is
+/// found out by its MIC; one that does not sends none, and that is found out too. The refusal stays.
+#[test]
+fn third_between_them(rt: HostRuntime) -> Result<(), Fail> {
+    let alloc = rt.alloc();
+    for (asks, initiator, acceptor) in [(true, "WrongMic", "waits"), (false, "NoMic", "complete")] {
+        let offer = offer_of(alloc, &[2], &[2], true)?;
+        let end = converse(alloc, 2, 2, asks, offer)?;
+        assert_eq!(rt; end.initiator, initiator);
+        assert_eq!(rt; end.acceptor, acceptor);
+        assert_eq!(rt; end.after_end, initiator);
+    }
+    let offer = offer_of(alloc, &[9], &[9], false)?;
+    let end = converse(alloc, 2, 2, false, offer)?;
+    assert_eq!(rt; end.initiator, "offered");
+    assert_eq!(rt; end.acceptor, "UnknownMechanism");
+    Ok(())
+}
