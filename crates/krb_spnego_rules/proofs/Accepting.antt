@@ -1,16 +1,15 @@
 -- An acceptor is justified after the offer and after each message.
-use Rattle.std.proofs.Common.{◌≡◌, ◌⊎◌, ◌&&◌, ◌==◌, ℕ, zero, suc, List, [], ◌∷◌, Bool, true, false, Option, Some, None, Result, Ok, Err, Vec, find, refl, sym, ap, subst, ◌∙◌, inl, inr}
-use Rattle.std.specs.Prelude.{IfOk, is_some, slice_get}
+use Rattle.std.proofs.Common.{◌≡◌, ◌&&◌, ◌==◌, ℕ, List, [], ◌∷◌, Bool, true, false, Option, Some, None, Result, Ok, Err, Vec, refl, sym, ap, subst, ◌∙◌, inl, inr}
+use Rattle.std.specs.Prelude.{is_some, slice_get}
 use Rattle.std.specs.declared.alloc.Global.{Global}
-use Rattle.krb_spnego_rules.specs.AcceptorSteps.{AcceptorIsOffered, AcceptorSteps, FirstAnswers, IsOffered, OfferedBy, TakesUp, choice_in_offer, ended, is_first, name_at, named_in, offer_in, rank_in, settled, taken_up}
+use Rattle.krb_spnego_rules.specs.AcceptorSteps.{AcceptorIsOffered, AcceptorSteps, FirstAnswers, IsOffered, OfferedBy, TakesUp, choice_in_offer, is_first, name_at, named_in, offer_in, rank_in, settled, taken_up}
 use Rattle.krb_spnego_rules.specs.EngineRuns.{received_in}
 use Rattle.krb_spnego_rules.specs.Fields.{items_in}
-use Rattle.krb_spnego_rules.specs.Justified.{FitsList, IsAcceptor, IsAfter, IsOn, Received, SendsOver}
+use Rattle.krb_spnego_rules.specs.Justified.{FitsList, IsAcceptor, IsOn, Received, SendsOver}
 use Rattle.krb_spnego_rules.specs.Laws.{IsConfirmed}
 use Rattle.krb_spnego_rules.specs.Meaning.{IsSteady, Meaning}
 use Rattle.krb_spnego_rules.specs.Messages.{after_offer, is_preferred}
 use Rattle.krb_spnego_rules.specs.Steps.{Outcome, saying, waiting_state}
-use Rattle.krb_spnego_rules.specs.declared.words.Choice.{Choice}
 use Rattle.krb_spnego_rules.specs.declared.words.NegState.{NegState}
 use Rattle.krb_spnego_rules.specs.declared.words.Role.TheVariants as roles
 use Rattle.krb_spnego_rules.specs.declared.words.Rule.{Rule}
@@ -124,8 +123,8 @@ takes_up meaning steady mechanisms proposal rank (Some listed) m terms out is at
     elim t [
       | inl memory ↦ subst (Goal meaning mechanisms proposal) (sym memory) tt
       | inr step ↦
-        first_answers meaning steady mechanisms proposal (taken_up m step.0 terms proposal.list) step.1.0 (terms.preferred && is_some proposal.token) out
-        (on_of meaning mechanisms proposal m step.0 listed terms rank is (sym at) result step.1.1.0 agreed) step.1.1.1.1
+          first_answers meaning steady mechanisms proposal (taken_up m step.0 terms proposal.list) step.1.0 (terms.preferred && is_some proposal.token) out
+          (on_of meaning mechanisms proposal m step.0 listed terms rank is (sym at) result step.1.1.0 agreed) step.1.1.1.1
     ]
 
 offered_by : {M : Type 0} (meaning : Meaning M) → IsSteady meaning → (mechanisms : List M) (proposal : Proposal) (rank : Option ℕ)
@@ -171,7 +170,7 @@ silent meaning mechanisms received state came refusal result e =
 pub acceptor_offered : {M : Type 0} (meaning : Meaning M) → IsSteady meaning → (side : Fresh M) (proposal : Proposal)
     (result : Acceptor M × Option Message) → AcceptorIsOffered meaning (states.Fresh side) proposal result
     → IsAcceptor meaning side.mechanisms.items (received_in proposal) None (items_in proposal.mic) result.0
-      × SendsOver meaning proposal.list.items result.1
+    × SendsOver meaning proposal.list.items result.1
 acceptor_offered meaning steady side proposal result o =
     subst (Stays meaning side.mechanisms.items (received_in proposal) None (items_in proposal.mic)) (sym o.1.1)
     (settled_is meaning side.mechanisms.items (received_in proposal) None (items_in proposal.mic) o.0 (offered meaning steady side proposal o.0 o.1.0))

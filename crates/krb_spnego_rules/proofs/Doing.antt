@@ -1,13 +1,13 @@
 -- The parts of a step of a side.
-use Rattle.std.proofs.Common.{◌≡◌, ◌⊎◌, ◌&&◌, is_some, ℕ, List, Bool, true, false, Option, Some, None, Result, Ok, Err, Vec, find, refl, sym, ap, subst, ◌∙◌, inl, inr}
+use Rattle.std.proofs.Common.{◌≡◌, ◌&&◌, is_some, ℕ, List, Bool, false, Option, Some, Ok, Vec, find, refl, sym, subst, inr}
 use Rattle.std.specs.declared.alloc.Global.{Global}
 use Rattle.krb_spnego_rules.specs.Fields.{items_in}
 use Rattle.krb_spnego_rules.specs.Meaning.{Meaning}
 use Rattle.krb_spnego_rules.specs.Steps.{Does, Finishes, GoesOn, Outcome, Waits}
 use Rattle.krb_spnego_rules.specs.AcceptorSteps.{FirstAnswers, IsOffered, OfferedAs, OfferedFor, TakesUp, name_at, named_in, rank_in, taken_up}
-use Rattle.krb_spnego_rules.specs.InitiatorSteps.{GoesOnAs, picks, picks_other}
+use Rattle.krb_spnego_rules.specs.InitiatorSteps.{picks, picks_other}
 use Rattle.krb_spnego_rules.specs.declared.words.Decision.{Decision}
-use Rattle.krb_spnego_rules.specs.declared.words.Decision.TheVariants.{Wait, Finish, Rest, Refuse}
+use Rattle.krb_spnego_rules.specs.declared.words.Decision.TheVariants.{Wait, Finish}
 use Rattle.krb_spnego_rules.specs.declared.words.Mic.{Mic}
 use Rattle.krb_spnego_rules.specs.declared.words.NegState.{NegState}
 use Rattle.krb_spnego_rules.specs.declared.words.Role.{Role}
@@ -55,10 +55,21 @@ pub took_up : {M : Type 0} (meaning : Meaning M) (proposal : Proposal) (at : Opt
     → FirstAnswers meaning (taken_up mechanism name terms proposal.list) named token mic looks out → TakesUp meaning proposal at mechanism terms out
 took_up meaning proposal at mechanism terms out listed name named token mic looks is n m t u l h =
     subst (λ a. TakesUp meaning proposal a mechanism terms out) is
-    (inr (name, (named, (n, (m,
-    subst (λ x. FirstAnswers meaning (taken_up mechanism name terms proposal.list) named x (items_in proposal.mic) (terms.preferred && is_some proposal.token) out) t
-    (subst (λ x. FirstAnswers meaning (taken_up mechanism name terms proposal.list) named token x (terms.preferred && is_some proposal.token) out) u
-    (subst (λ x. FirstAnswers meaning (taken_up mechanism name terms proposal.list) named token mic x out) l h)))))))
+    (inr (
+      name,
+      (
+        named,
+        (
+          n,
+          (
+            m,
+            subst (λ x. FirstAnswers meaning (taken_up mechanism name terms proposal.list) named x (items_in proposal.mic) (terms.preferred && is_some proposal.token) out) t
+                (subst (λ x. FirstAnswers meaning (taken_up mechanism name terms proposal.list) named token x (terms.preferred && is_some proposal.token) out) u
+                (subst (λ x. FirstAnswers meaning (taken_up mechanism name terms proposal.list) named token mic x out) l h)),
+          ),
+        ),
+      ),
+    ))
 
 -- an offer, by the rank and the mechanism that are found
 pub offered_as : {M : Type 0} (meaning : Meaning M) (side : Fresh M) (proposal : Proposal) (rank : Option ℕ) (found : Option M) (out : Outcome M)

@@ -1,15 +1,15 @@
 -- Two honest engines do what the rules count, and so they end.
-use Rattle.std.proofs.Common.{◌≡◌, ◌≢◌, ◌⊎◌, ◌||◌, ℕ, zero, suc, List, Bool, true, false, not, Option, Some, None, Result, Ok, Err, Vec, refl, sym, ap, subst, ◌∙◌, inl, inr}
-use Rattle.std.specs.Prelude.{IsSome, is_some}
+use Rattle.std.proofs.Common.{◌≡◌, ◌||◌, ℕ, zero, suc, List, Bool, true, false, not, Option, Some, None, Result, Ok, Err, Vec, refl, sym, ap, subst, ◌∙◌, inl, inr}
+use Rattle.std.specs.Prelude.{is_some}
 use Rattle.std.specs.declared.alloc.Global.{Global}
 use Rattle.krb_spnego_rules.specs.Decisions.{continues}
-use Rattle.krb_spnego_rules.specs.Fields.{items_in, reply_in}
-use Rattle.krb_spnego_rules.specs.HonestEngines.{BothComplete, Ends, Follows, IsHalf, IsPair, Meets, Stands, context_of, flipped, list_of, name_of, note_in, side_in}
+use Rattle.krb_spnego_rules.specs.Fields.{items_in}
+use Rattle.krb_spnego_rules.specs.HonestEngines.{Ends, Follows, IsHalf, IsPair, Meets, Stands, context_of, flipped, list_of, name_of, note_in, side_in}
 use Rattle.krb_spnego_rules.specs.Meaning.{Meaning}
 use Rattle.krb_spnego_rules.specs.Messages.{after_later}
 use Rattle.krb_spnego_rules.specs.Mics.{IsSeen}
 use Rattle.krb_spnego_rules.specs.Runs.{Note, Side, after, counted, decided, having_sent, kept, left_after, mic_of, more, note_of, other_role, progress_of, reply_of, sends_token, state_of, taken, terms_in}
-use Rattle.krb_spnego_rules.specs.Steps.{Does, Finishes, GoesOn, Later, LaterBy, Outcome, Signs, Takes, Waits, completed, decides, saying, waiting, waiting_state, with_context}
+use Rattle.krb_spnego_rules.specs.Steps.{Does, GoesOn, LaterBy, Outcome, Signs, Takes, completed, decides, saying, waiting, with_context}
 use Rattle.krb_spnego_rules.specs.Turns.{progress_in, token_in}
 use Rattle.krb_spnego_rules.specs.declared.words.Choice.TheVariants as choices
 use Rattle.krb_spnego_rules.specs.declared.words.Decision.{Decision}
@@ -26,7 +26,6 @@ use Rattle.krb_spnego_rules.specs.declared.words.Rule.{Rule}
 use Rattle.krb_spnego_rules.specs.declared.words.Terms.{Terms}
 use Rattle.krb_spnego_rules.specs.declared.mechanism.Turn.{Turn}
 use Rattle.krb_spnego_rules.specs.declared.mechanism.Turn.TheVariants as turns
-use Rattle.krb_spnego_rules.specs.declared.message.Message.{Message}
 use Rattle.krb_spnego_rules.specs.declared.side.Running.{Running}
 use Rattle.krb_spnego_rules.specs.declared.side.After.{After}
 use Rattle.krb_spnego_rules.specs.declared.side.After.TheVariants as afters
@@ -95,10 +94,11 @@ turned : {X Y : Type 0} (mine : Meaning X) (theirs : Meaning Y) (at_x at_y : ℕ
 turned mine theirs at_x at_y half true left (Some t) x context y turn b last at takes = cc
 turned mine theirs at_x at_y half true left None x context y turn b last at takes =
     let left_is : left ≡ zero = last refl in
-    let start : at_x zero None x y = subst (λ l. at_x l None x y) left_is at in
-    (ap progress_in takes.1 ∙ ap progress_of (sym left_is),
-    subst (λ l. at_y (left_after l) (items_in (token_in turn)) context y) (sym left_is)
-    (subst (λ t. at_y zero (items_in (token_in t)) context y) (sym takes.1) (subst (λ c. at_y zero None c y) (sym takes.0) (half.rests x y start))))
+    let start : at_x zero None x y = subst (λ l. at_x l None x y) left_is at in (
+      ap progress_in takes.1 ∙ ap progress_of (sym left_is),
+      subst (λ l. at_y (left_after l) (items_in (token_in turn)) context y) (sym left_is)
+          (subst (λ t. at_y zero (items_in (token_in t)) context y) (sym takes.1) (subst (λ c. at_y zero None c y) (sym takes.0) (half.rests x y start))),
+    )
 turned mine theirs at_x at_y half false left token x context y turn b last at takes =
     half.turns left (items_in token) x y context turn at takes
 
@@ -149,7 +149,7 @@ signed mine theirs at_x at_y half true list x after own s = record {
 abbrev pub Simulates : ℕ → Type 1
 Simulates most = (X Y : Type 0) (mine : Meaning X) (theirs : Meaning Y) (at_x at_y : ℕ → Option (List ℕ) → X → Y → Type 0) → IsPair mine theirs at_x at_y
     → (role : Role) (x : Running X) (y : After Y) (left : ℕ) (done : Bool) (side : Side) (state : NegState) (token own : Option (Vec ℕ Global))
-      (list name : List ℕ) (n : ℕ) → more most role (side_in x) side left done (note_in state token own) ≡ Some n
+    (list name : List ℕ) (n : ℕ) → more most role (side_in x) side left done (note_in state token own) ≡ Some n
     → Meets theirs at_x x y left done side token own list name → Ends most X Y mine theirs role x y (saying state None token own)
 
 -- ---- what follows a decision
@@ -178,7 +178,7 @@ of_message most role a b other left done state token own t m found e f h is =
 
 concludes : (most : ℕ) → Simulates most → (X Y : Type 0) (mine : Meaning X) (theirs : Meaning Y) (at_x at_y : ℕ → Option (List ℕ) → X → Y → Type 0)
     → IsPair mine theirs at_x at_y → (role : Role) (x : Running X) (y : After Y) (left : ℕ) (done : Bool) (side : Side) (list name : List ℕ) (context : X)
-      (turn : Turn) (sight : Mic) (decision : Decision) (n : ℕ) (out : Outcome X) → x.list.items ≡ list → x.name.items ≡ name → list_of y ≡ list
+    (turn : Turn) (sight : Mic) (decision : Decision) (n : ℕ) (out : Outcome X) → x.list.items ≡ list → x.name.items ≡ name → list_of y ≡ list
     → name_of y ≡ name → Stands done y side → progress_in turn ≡ progress_of left
     → at_y (left_after left) (items_in (token_in turn)) context (context_of y)
     → after (follows most role side x.terms left) done decision ≡ Some n
@@ -278,7 +278,7 @@ held mine theirs at_x at_y half left context y turn own list p at made mic is en
 
 went : (most : ℕ) → Simulates most → (X Y : Type 0) (mine : Meaning X) (theirs : Meaning Y) (at_x at_y : ℕ → Option (List ℕ) → X → Y → Type 0)
     → IsPair mine theirs at_x at_y → (role : Role) (x : Running X) (y : After Y) (left : ℕ) (done : Bool) (side : Side) (state : NegState)
-      (token own : Option (Vec ℕ Global)) (list name : List ℕ) (n : ℕ) (out : Outcome X) → Meets theirs at_x x y left done side token own list name
+    (token own : Option (Vec ℕ Global)) (list name : List ℕ) (n : ℕ) (out : Outcome X) → Meets theirs at_x x y left done side token own list name
     → x.established ≡ not (is_some token)
     → after (follows most role side x.terms left) done (decides role x.terms false (progress_of left) (Some state) (mic_of (is_some own) (progress_of left))) ≡ Some n
     → GoesOn mine role x None (Some state) (items_in token) (items_in own) out
@@ -289,20 +289,20 @@ went most sim X Y mine theirs at_x at_y pair role x y left done side state token
       | inr rest ↦ elim rest [
         | inl refused ↦ absurd (pair.x_half.takes left (items_in token) x.mechanism (context_of y) meets.at refused.1.0)
         | inr step ↦
-          let context = step.0 in
-          let turn = step.1.0 in
-          let t : (progress_in turn ≡ progress_of left) × at_y (left_after left) (items_in (token_in turn)) context (context_of y)
-          = turned mine theirs at_x at_y pair.x_half x.established left token x.mechanism context (context_of y) turn waits meets.last meets.at step.1.1.0 in
-          let sight = step.1.1.1.0 in
-          let seen : sight ≡ mic_of (is_some own) (progress_in turn)
-          = sight_is (mine.holds context x.list.items) own (progress_in turn) sight step.1.1.1.1.0
+            let context = step.0 in
+            let turn = step.1.0 in
+            let t : (progress_in turn ≡ progress_of left) × at_y (left_after left) (items_in (token_in turn)) context (context_of y)
+            = turned mine theirs at_x at_y pair.x_half x.established left token x.mechanism context (context_of y) turn waits meets.last meets.at step.1.1.0 in
+            let sight = step.1.1.1.0 in
+            let seen : sight ≡ mic_of (is_some own) (progress_in turn)
+            = sight_is (mine.holds context x.list.items) own (progress_in turn) sight step.1.1.1.1.0
             (λ mic is ends. subst (λ l. mine.holds context l mic.items) (sym meets.x_list)
             (held mine theirs at_x at_y pair.x_half left context (context_of y) turn own list t.0 t.1 meets.made mic is ends)) in
-          concludes most sim X Y mine theirs at_x at_y pair role x y left done side list name context turn sight
-          (decides role x.terms false (progress_in turn) (Some state) sight) n out meets.x_list meets.x_name meets.y_list meets.y_name meets.stands t.0 t.1
-          (subst (λ m. after (follows most role side x.terms left) done (decides role x.terms false (progress_in turn) (Some state) m) ≡ Some n) (sym seen)
-          (subst (λ p. after (follows most role side x.terms left) done (decides role x.terms false p (Some state) (mic_of (is_some own) p)) ≡ Some n)
-          (sym t.0) e)) step.1.1.1.1.1
+            concludes most sim X Y mine theirs at_x at_y pair role x y left done side list name context turn sight
+            (decides role x.terms false (progress_in turn) (Some state) sight) n out meets.x_list meets.x_name meets.y_list meets.y_name meets.stands t.0 t.1
+            (subst (λ m. after (follows most role side x.terms left) done (decides role x.terms false (progress_in turn) (Some state) m) ≡ Some n) (sym seen)
+            (subst (λ p. after (follows most role side x.terms left) done (decides role x.terms false p (Some state) (mic_of (is_some own) p)) ≡ Some n)
+            (sym t.0) e)) step.1.1.1.1.1
       ]
     ]
 
@@ -314,7 +314,7 @@ counts most role side terms left done note agreed =
 
 by_verdict : (most : ℕ) → Simulates most → (X Y : Type 0) (mine : Meaning X) (theirs : Meaning Y) (at_x at_y : ℕ → Option (List ℕ) → X → Y → Type 0)
     → IsPair mine theirs at_x at_y → (role : Role) (x : Running X) (y : After Y) (left : ℕ) (done : Bool) (side : Side) (state : NegState)
-      (token own : Option (Vec ℕ Global)) (list name : List ℕ) (n : ℕ) (out : Outcome X) (verdict : Result (Unit {0}) Rule)
+    (token own : Option (Vec ℕ Global)) (list name : List ℕ) (n : ℕ) (out : Outcome X) (verdict : Result (Unit {0}) Rule)
     → Meets theirs at_x x y left done side token own list name
     → after_later (record { state = Some state; choice = choices.Absent; token = is_some token }) x.established ≡ verdict
     → counts most role side x.terms left done (note_in state token own) (kept verdict x.terms) ≡ Some n

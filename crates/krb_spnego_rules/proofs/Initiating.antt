@@ -1,26 +1,24 @@
 -- An initiator is justified after each message.
-use Rattle.std.proofs.Common.{◌≡◌, ◌⊎◌, ◌&&◌, cond, ℕ, List, [], ◌∷◌, map, Bool, true, false, not, Option, Some, None, Result, Ok, Err, Vec, find, refl, sym, ap, subst, ◌∙◌, inl, inr}
-use Rattle.std.specs.Prelude.{IfOk, is_some, if◌then◌else◌}
+use Rattle.std.proofs.Common.{◌≡◌, ◌&&◌, cond, ℕ, List, [], ◌∷◌, map, Bool, true, false, not, Option, Some, None, Result, Ok, Err, Vec, find, refl, sym, ap, subst, ◌∙◌, inl, inr}
+use Rattle.std.specs.Prelude.{if◌then◌else◌}
 use Rattle.std.specs.declared.alloc.Global.{Global}
 use Rattle.krb_spnego_rules.specs.Decisions.{continues}
 use Rattle.krb_spnego_rules.specs.Fields.{items_in}
-use Rattle.krb_spnego_rules.specs.InitiatorSteps.{Begins, GoesOnAs, InitiatorSteps, RepliedAs, RepliedBy, Replied, chosen, first_reply_in, picks, picks_other, settled}
-use Rattle.krb_spnego_rules.specs.Justified.{FitsOffering, HasOffered, IsAfter, IsIn, IsInitiator, IsOn, Offering, SendsOver}
+use Rattle.krb_spnego_rules.specs.InitiatorSteps.{Begins, GoesOnAs, InitiatorSteps, RepliedBy, Replied, chosen, first_reply_in, picks, picks_other, settled}
+use Rattle.krb_spnego_rules.specs.Justified.{FitsOffering, HasOffered, IsIn, IsInitiator, IsOn, Offering, SendsOver}
 use Rattle.krb_spnego_rules.specs.Laws.{IsConfirmed}
 use Rattle.krb_spnego_rules.specs.Meaning.{IsSteady, Meaning}
 use Rattle.krb_spnego_rules.specs.Messages.{after_first_reply, is_preferred}
 use Rattle.krb_spnego_rules.specs.Steps.{Outcome}
 use Rattle.krb_spnego_rules.specs.Turns.{progress_in}
 use Rattle.krb_spnego_rules.specs.declared.words.Choice.{Choice}
-use Rattle.krb_spnego_rules.specs.declared.words.Choice.TheVariants.{Absent, Unknown, Preferred, Other}
+use Rattle.krb_spnego_rules.specs.declared.words.Choice.TheVariants.{Preferred, Other}
 use Rattle.krb_spnego_rules.specs.declared.words.NegState.{NegState}
 use Rattle.krb_spnego_rules.specs.declared.words.Role.TheVariants as roles
 use Rattle.krb_spnego_rules.specs.declared.words.Rule.{Rule}
 use Rattle.krb_spnego_rules.specs.declared.words.Terms.{Terms}
-use Rattle.krb_spnego_rules.specs.declared.mechanism.Turn.{Turn}
 use Rattle.krb_spnego_rules.specs.declared.message.Message.{Message}
 use Rattle.krb_spnego_rules.specs.declared.message.Refusal.{Refusal}
-use Rattle.krb_spnego_rules.specs.declared.side.Running.{Running}
 use Rattle.krb_spnego_rules.specs.declared.side.After.TheVariants as afters
 use Rattle.krb_spnego_rules.specs.declared.initiator.Offered.{Offered}
 use Rattle.krb_spnego_rules.specs.declared.initiator.Initiator.{Initiator}
@@ -144,9 +142,9 @@ goes_as meaning steady offering side message choice m terms (Some arcs) out h ag
     elim g [
       | inl memory ↦ subst (Goal meaning offering message) (sym memory) tt
       | inr step ↦
-        went_on meaning (FitsOffering meaning offering) steady (fits_kept meaning offering steady) offering.list roles.Initiator
-        (chosen side.established side.list m step.0 terms) None message.state (items_in message.token) (items_in message.mic) out
-        (on_of meaning offering side choice m step.0 arcs terms h step.1.0 (picked arcs refl) agreed) step.1.1
+          went_on meaning (FitsOffering meaning offering) steady (fits_kept meaning offering steady) offering.list roles.Initiator
+          (chosen side.established side.list m step.0 terms) None message.state (items_in message.token) (items_in message.mic) out
+          (on_of meaning offering side choice m step.0 arcs terms h step.1.0 (picked arcs refl) agreed) step.1.1
     ]
 
 replied_by : {M : Type 0} (meaning : Meaning M) → IsSteady meaning → (offering : Offering) (side : Offered M) (message : Message) (choice : Choice)

@@ -9,7 +9,7 @@ use Rattle.krb_spnego_rules.specs.Laws.{IsEnd}
 use Rattle.krb_spnego_rules.specs.Meaning.{IsSteady, Meaning}
 use Rattle.krb_spnego_rules.specs.Messages.{after_later}
 use Rattle.krb_spnego_rules.specs.Mics.{IsSeen}
-use Rattle.krb_spnego_rules.specs.Steps.{Answers, completed, saying, waiting, waiting_state, Does, Finishes, GoesOn, Later, LaterBy, Outcome, Signs, Takes, Waits, decides, with_context}
+use Rattle.krb_spnego_rules.specs.Steps.{completed, saying, waiting, waiting_state, Does, Finishes, GoesOn, Later, LaterBy, Outcome, Signs, Takes, Waits, decides, with_context}
 use Rattle.krb_spnego_rules.specs.Turns.{progress_in, token_in}
 use Rattle.krb_spnego_rules.specs.declared.words.Decision.{Decision}
 use Rattle.krb_spnego_rules.specs.declared.words.Decision.TheVariants.{Wait, Finish, Rest, Refuse}
@@ -25,9 +25,7 @@ use Rattle.krb_spnego_rules.specs.declared.words.Rule.{Rule}
 use Rattle.krb_spnego_rules.specs.declared.words.Terms.{Terms}
 use Rattle.krb_spnego_rules.specs.declared.mechanism.Turn.{Turn}
 use Rattle.krb_spnego_rules.specs.declared.message.Message.{Message}
-use Rattle.krb_spnego_rules.specs.declared.message.Refusal.TheVariants.{OutOfMemory}
 use Rattle.krb_spnego_rules.specs.declared.side.Running.{Running}
-use Rattle.krb_spnego_rules.specs.declared.side.Complete.{Complete}
 use Rattle.krb_spnego_rules.specs.declared.side.After.{After}
 use Rattle.krb_spnego_rules.proofs.Ends.{acceptor_end, initiator_end}
 
@@ -195,9 +193,10 @@ finishes : {M : Type 0} (meaning : Meaning M) (fits : M → List ℕ → Bool �
 finishes meaning fits steady keeps list role state came side turn sight named mic sent on seen why f =
     let u : Unharmed meaning fits side.list.items side.mechanism f.0 f.1.0
     = signed meaning fits steady keeps mic side.mechanism f.0 side.list.items f.1.0 f.1.1.0 in
-    subst (λ o. Shown meaning fits list role state came (Ok o)) (sym f.1.1.1)
-    (ended_signed meaning fits list role state came side f.0 f.1.0 (progress_in turn) sight on u seen why,
-    over meaning fits list side.list.items side.mechanism f.0 f.1.0 AcceptCompleted named (token_in turn) on.list_is u)
+    subst (λ o. Shown meaning fits list role state came (Ok o)) (sym f.1.1.1) (
+      ended_signed meaning fits list role state came side f.0 f.1.0 (progress_in turn) sight on u seen why,
+      over meaning fits list side.list.items side.mechanism f.0 f.1.0 AcceptCompleted named (token_in turn) on.list_is u,
+    )
 
 waits : {M : Type 0} (meaning : Meaning M) (fits : M → List ℕ → Bool → Type 0) → IsSteady meaning → Keeps meaning fits → (list : List ℕ) (role : Role)
     (state : Option NegState) (came : Option (List ℕ)) (side : Running M) (turn : Turn) (named : Option (Vec ℕ Global)) (mic : Bool)
@@ -206,9 +205,10 @@ waits : {M : Type 0} (meaning : Meaning M) (fits : M → List ℕ → Bool → T
 waits meaning fits steady keeps list role state came side turn named mic sent on w =
     let u : Unharmed meaning fits side.list.items side.mechanism w.0 w.1.0
     = signed meaning fits steady keeps mic side.mechanism w.0 side.list.items w.1.0 w.1.1.0 in
-    subst (λ o. Shown meaning fits list role state came (Ok o)) (sym w.1.1.1)
-    (still_on meaning fits list side w.0 w.1.0 (progress_in turn) mic on u,
-    over meaning fits list side.list.items side.mechanism w.0 w.1.0 (waiting_state (is_some named) side.terms.required) named (token_in turn) on.list_is u)
+    subst (λ o. Shown meaning fits list role state came (Ok o)) (sym w.1.1.1) (
+      still_on meaning fits list side w.0 w.1.0 (progress_in turn) mic on u,
+      over meaning fits list side.list.items side.mechanism w.0 w.1.0 (waiting_state (is_some named) side.terms.required) named (token_in turn) on.list_is u,
+    )
 
 does : {M : Type 0} (meaning : Meaning M) (fits : M → List ℕ → Bool → Type 0) → IsSteady meaning → Keeps meaning fits → (list : List ℕ) (role : Role)
     (state : Option NegState) (came : Option (List ℕ)) (side : Running M) (turn : Turn) (sight : Mic) (named : Option (Vec ℕ Global)) (decision : Decision)
@@ -246,9 +246,10 @@ ending_of : (role : Role) (state : Option NegState) (terms : Terms) (first : Boo
 ending_of Initiator state terms first progress mic h =
     let e : (progress ≡ Ends) × ((mic ≡ Holds) ⊎ ((terms.required ≡ false) × (state ≡ Some AcceptCompleted))) = initiator_end terms progress state mic h in
     (ends_settled progress e.0, elim e.1 [ inl m ↦ inl (ap is_held m) | inr w ↦ inr (w.0, w.1) ])
-ending_of Acceptor state terms first progress mic h =
-    (acceptor_settled terms.preferred terms.required terms.sent first progress (says_completed state) mic h,
-    elim (acceptor_end terms first progress state mic h) [ inl m ↦ inl (ap is_held m) | inr w ↦ inr (w, tt) ])
+ending_of Acceptor state terms first progress mic h = (
+  acceptor_settled terms.preferred terms.required terms.sent first progress (says_completed state) mic h,
+  elim (acceptor_end terms first progress state mic h) [ inl m ↦ inl (ap is_held m) | inr w ↦ inr (w, tt) ],
+)
 
 -- A SIDE THAT IS ON IS JUSTIFIED AFTER A MESSAGE, and what it sends as mechListMIC is made over its list
 pub went_on : {M : Type 0} (meaning : Meaning M) (fits : M → List ℕ → Bool → Type 0) → IsSteady meaning → Keeps meaning fits → (list : List ℕ) (role : Role)
@@ -260,14 +261,14 @@ went_on meaning fits steady keeps list role side named state token came out on g
       | inr rest ↦ elim rest [
         | inl refused ↦ subst (λ o. Shown meaning fits list role state came o) (sym refused.1.1) tt
         | inr step ↦
-          let t : fits step.0 side.name.items side.terms.preferred × (continues (progress_in step.1.0) ≡ false → meaning.established step.0)
-          = taken meaning fits steady keeps side.established side.mechanism step.0 token step.1.0 side.name.items side.terms.preferred step.1.1.0
-          on.established on.fitting in
-          let s : Stepped meaning fits list (with_context side step.0) (progress_in step.1.0)
-          = record { list_is = on.list_is; fitting = t.0; established = t.1; terms = on.terms } in
-          does meaning fits steady keeps list role state came (with_context side step.0) step.1.0 step.1.1.1.0 named
-          (decides role side.terms (is_some named) (progress_in step.1.0) state step.1.1.1.0) out s step.1.1.1.1.0
-          (λ h. ending_of role state side.terms (is_some named) (progress_in step.1.0) step.1.1.1.0 h) step.1.1.1.1.1
+            let t : fits step.0 side.name.items side.terms.preferred × (continues (progress_in step.1.0) ≡ false → meaning.established step.0)
+            = taken meaning fits steady keeps side.established side.mechanism step.0 token step.1.0 side.name.items side.terms.preferred step.1.1.0
+            on.established on.fitting in
+            let s : Stepped meaning fits list (with_context side step.0) (progress_in step.1.0)
+            = record { list_is = on.list_is; fitting = t.0; established = t.1; terms = on.terms } in
+            does meaning fits steady keeps list role state came (with_context side step.0) step.1.0 step.1.1.1.0 named
+            (decides role side.terms (is_some named) (progress_in step.1.0) state step.1.1.1.0) out s step.1.1.1.1.0
+            (λ h. ending_of role state side.terms (is_some named) (progress_in step.1.0) step.1.1.1.0 h) step.1.1.1.1.1
       ]
     ]
 

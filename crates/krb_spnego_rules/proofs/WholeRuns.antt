@@ -1,5 +1,5 @@
 -- Whole runs, and a third who changes them.
-use Rattle.std.proofs.Common.{◌≡◌, ◌⊎◌, ℕ, List, [], ◌∷◌, Bool, true, false, Option, Some, None, refl, sym, ap, subst, ◌∙◌, inl, inr}
+use Rattle.std.proofs.Common.{◌≡◌, ◌⊎◌, ℕ, List, [], ◌∷◌, Bool, true, false, Option, Some, refl, sym, ap, subst, ◌∙◌, inl, inr}
 use Rattle.krb_spnego_rules.specs.AcceptorSteps.{AcceptorSteps}
 use Rattle.krb_spnego_rules.specs.EngineRuns.{AcceptorRuns, InitiatorRuns, IsConfirmedChoice, IsUnforged, last_mic, last_state}
 use Rattle.krb_spnego_rules.specs.Fields.{items_in}

@@ -1,5 +1,5 @@
 -- One step of an acceptor, exactly (RFC 4178, 3.2 and 4.2.1).
-use Rattle.std.specs.Prelude.{◌≡◌, ◌⊎◌, ◌&&◌, ◌==◌, ℕ, zero, suc, List, [], ◌∷◌, Bool, true, false, Option, Some, None, Result, Ok, Err, Vec, find, position, slice_get, if◌then◌else◌, is_some, not}
+use Rattle.std.specs.Prelude.{◌≡◌, ◌⊎◌, ◌&&◌, ◌==◌, ℕ, List, [], ◌∷◌, Bool, true, false, Option, Some, None, Result, Ok, Err, Vec, find, position, slice_get, is_some, not}
 use Rattle.std.specs.List.{list_any}
 use Rattle.std.specs.declared.alloc.Global.{Global}
 use Rattle.krb_spnego_rules.specs.Decisions.{continues}
@@ -18,13 +18,11 @@ use Rattle.krb_spnego_rules.specs.declared.words.Terms.{Terms}
 use Rattle.krb_spnego_rules.specs.declared.mechanism.Turn.{Turn}
 use Rattle.krb_spnego_rules.specs.declared.message.Message.{Message}
 use Rattle.krb_spnego_rules.specs.declared.message.Proposal.{Proposal}
-use Rattle.krb_spnego_rules.specs.declared.message.Refusal.{Refusal}
 use Rattle.krb_spnego_rules.specs.declared.message.Refusal.TheVariants.{OutOfMemory, Broken, Unread}
 use Rattle.krb_spnego_rules.specs.declared.side.Running.{Running}
 use Rattle.krb_spnego_rules.specs.declared.side.After.TheVariants as afters
 use Rattle.krb_spnego_rules.specs.declared.acceptor.Acceptor.{Acceptor}
 use Rattle.krb_spnego_rules.specs.declared.acceptor.Acceptor.TheVariants as states
-use Rattle.krb_spnego_rules.specs.declared.acceptor.Bare.{Bare}
 use Rattle.krb_spnego_rules.specs.declared.acceptor.Fresh.{Fresh}
 
 -- ---- the choice: of the initiator's list the first that names one of the acceptor's mechanisms, and the first of these that it names

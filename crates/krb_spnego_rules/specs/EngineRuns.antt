@@ -1,5 +1,5 @@
 -- Whole runs of a side: messages one after another (RFC 4178, 5).
-use Rattle.std.specs.Prelude.{◌≡◌, ◌⊎◌, ℕ, List, [], ◌∷◌, false, true, Option, Some, None}
+use Rattle.std.specs.Prelude.{◌≡◌, ℕ, List, [], ◌∷◌, false, Option, Some}
 use Rattle.krb_spnego_rules.specs.AcceptorSteps.{AcceptorSteps}
 use Rattle.krb_spnego_rules.specs.Fields.{items_in}
 use Rattle.krb_spnego_rules.specs.InitiatorSteps.{InitiatorSteps}

@@ -1,5 +1,5 @@
 -- Two honest engines over contexts that fit together (RFC 4178, 5): nobody is between them.
-use Rattle.std.specs.Prelude.{◌≡◌, is_some, ℕ, zero, suc, List, Bool, true, false, Option, Some, None, Result, Ok, Err, Vec}
+use Rattle.std.specs.Prelude.{◌≡◌, is_some, ℕ, zero, suc, List, Bool, true, false, Option, Some, None, Ok, Err, Vec}
 use Rattle.std.specs.declared.alloc.Global.{Global}
 use Rattle.krb_spnego_rules.specs.Fields.{items_in}
 use Rattle.krb_spnego_rules.specs.Meaning.{Meaning}
@@ -11,7 +11,6 @@ use Rattle.krb_spnego_rules.specs.declared.words.NegState.{NegState}
 use Rattle.krb_spnego_rules.specs.declared.words.Role.{Role}
 use Rattle.krb_spnego_rules.specs.declared.mechanism.Turn.{Turn}
 use Rattle.krb_spnego_rules.specs.declared.message.Message.{Message}
-use Rattle.krb_spnego_rules.specs.declared.message.Refusal.{Refusal}
 use Rattle.krb_spnego_rules.specs.declared.message.Refusal.TheVariants.{OutOfMemory}
 use Rattle.krb_spnego_rules.specs.declared.side.Running.{Running}
 use Rattle.krb_spnego_rules.specs.declared.side.Complete.{Complete}

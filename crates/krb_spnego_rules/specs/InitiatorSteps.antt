@@ -1,5 +1,5 @@
 -- One step of an initiator, exactly (RFC 4178, 3.2 and 4.2.2).
-use Rattle.std.specs.Prelude.{◌≡◌, ◌⊎◌, ◌&&◌, ℕ, List, Bool, true, false, Option, Some, None, Result, Ok, Err, Vec, find, if◌then◌else◌, is_some, not}
+use Rattle.std.specs.Prelude.{◌≡◌, ◌⊎◌, ◌&&◌, ℕ, List, Bool, Option, Some, None, Result, Ok, Err, Vec, find, if◌then◌else◌, is_some, not}
 use Rattle.std.specs.declared.alloc.Global.{Global}
 use Rattle.krb_spnego_rules.specs.Decisions.{continues}
 use Rattle.krb_spnego_rules.specs.Fields.{items_in}

@@ -1,5 +1,5 @@
 -- One step of a side whose mechanism is chosen, exactly (RFC 4178, 4.2.2 and 5).
-use Rattle.std.specs.Prelude.{◌≡◌, ◌⊎◌, ◌||◌, ◌&&◌, not, ℕ, List, Bool, true, false, Option, Some, None, Result, Ok, Err, Vec, is_some}
+use Rattle.std.specs.Prelude.{◌≡◌, ◌⊎◌, ◌||◌, not, ℕ, List, Bool, true, false, Option, Some, None, Result, Ok, Err, Vec, is_some}
 use Rattle.std.specs.declared.alloc.Global.{Global}
 use Rattle.krb_spnego_rules.specs.Decisions.{acceptor_does, continues, holds as is_held, initiator_does}
 use Rattle.krb_spnego_rules.specs.Fields.{items_in, reply_in}

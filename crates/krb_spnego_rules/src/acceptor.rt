@@ -138,7 +138,15 @@ fn first_answer<M: Mechanism>(
     ensures { FirstAnswers M.meaning running named (option_copied token.entry) (option_copied mic.entry) looks result }
 {
     if looks {
-        return go_on(alloc, Role::Acceptor, running, Some(named), None, token, mic);
+        return go_on(
+            alloc,
+            Role::Acceptor,
+            running,
+            Some(named),
+            None,
+            token,
+            mic,
+        );
     }
     let answer = Message {
         state: Some(waiting_state(true, running.terms.required)),
@@ -215,7 +223,10 @@ fn offered<M: Mechanism>(
     ensures { IsOffered M.meaning fresh proposal result }
 {
     let rank = first_supported(&fresh.mechanisms, &proposal.mechanisms);
-    let found = named_by(fresh.mechanisms, listed(proposal.mechanisms.as_slice(), rank));
+    let found = named_by(
+        fresh.mechanisms,
+        listed(proposal.mechanisms.as_slice(), rank),
+    );
     offered_as(alloc, fresh.asks, proposal, rank, found)
 }
 

@@ -64,11 +64,7 @@ pub fn begin<M: Mechanism>(
 }
 
 /// What a reply's supportedMech comes to, and the mechanism that it names.
-fn picked<M: Mechanism>(
-    first: M,
-    others: Vec<M>,
-    named: &Option<Vec<u64>>,
-) -> (Choice, Option<M>)
+fn picked<M: Mechanism>(first: M, others: Vec<M>, named: &Option<Vec<u64>>) -> (Choice, Option<M>)
     ensures { result ≡ picks M.meaning first others.items (items_in named.now) }
 {
     match named {

@@ -114,7 +114,7 @@ fn converse(
         let Some(message) = answer else {
             break;
         };
-        messages += 1;
+        messages = turn + 2;
         if turn % 2 == 0 {
             let (side, next) = initiator.step(alloc, &message);
             initiator = side;

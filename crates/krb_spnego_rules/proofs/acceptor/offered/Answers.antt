@@ -1,5 +1,4 @@
 use Rattle.std.proofs.Common.{ap, ◌∙◌}
-use Rattle.std.specs.Option.{option_copied}
 use Rattle.krb_spnego_rules.specs.AcceptorSteps.{name_at, named_in, rank_in}
 use Rattle.krb_spnego_rules.proofs.Doing.{offered_as}
 use Rattle.krb_spnego_rules.proofs.acceptor.offered.Goals as goal
