@@ -32,14 +32,14 @@ use Rattle.krb_spnego_rules.specs.declared.side.After.TheVariants as afters
 
 -- ---- small facts
 
-nothing : {A : Type 0} (a : A) → None ≡ Some a → ⊥
+pub nothing : {A : Type 0} (a : A) → None ≡ Some a → ⊥
 nothing a e = cc
 
 some_is : {A : Type 0} (a b : A) → Some a ≡ Some b → a ≡ b
 some_is a b e = cc
 
 -- what a token that is there, or is not, says of how many are left
-sends : (turn : Turn) (left : ℕ) → progress_in turn ≡ progress_of left → is_some (token_in turn) ≡ sends_token left
+pub sends : (turn : Turn) (left : ℕ) → progress_in turn ≡ progress_of left → is_some (token_in turn) ≡ sends_token left
 sends (turns.Continues token) zero e = cc
 sends (turns.Continues token) (suc zero) e = refl
 sends (turns.Continues token) (suc (suc n)) e = refl
@@ -50,7 +50,7 @@ sends turns.Ends zero e = refl
 sends turns.Ends (suc zero) e = cc
 sends turns.Ends (suc (suc n)) e = cc
 
-none_left : (turn : Turn) (left : ℕ) → progress_in turn ≡ progress_of left → token_in turn ≡ None → left_after left ≡ zero
+pub none_left : (turn : Turn) (left : ℕ) → progress_in turn ≡ progress_of left → token_in turn ≡ None → left_after left ≡ zero
 none_left (turns.Continues token) left e none = cc
 none_left (turns.EndsWithToken token) left e none = cc
 none_left turns.Ends zero e none = refl
@@ -87,26 +87,29 @@ waits_for RequestMic token established u e = cc
 
 -- ---- the mechanism's part
 
-turned : {X Y : Type 0} (mine : Meaning X) (theirs : Meaning Y) (at_x at_y : ℕ → Option (List ℕ) → X → Y → Type 0) → IsHalf mine theirs at_x at_y
-    → (b : Bool) (left : ℕ) (token : Option (Vec ℕ Global)) (x context : X) (y : Y) (turn : Turn) → b ≡ not (is_some token)
-    → (token ≡ None → left ≡ zero) → at_x left (items_in token) x y → Takes mine b x (items_in token) context turn
+pub rest_of : (established : Bool) (token : Option (Vec ℕ Global)) (left : ℕ) → established ≡ not (is_some token) → (token ≡ None → left ≡ zero)
+    → established ≡ true → (items_in token ≡ None) × (left ≡ zero)
+rest_of established None left is last there = (refl, last refl)
+rest_of established (Some t) left is last there = cc
+
+pub turned : {X Y : Type 0} (mine : Meaning X) (theirs : Meaning Y) (at_x at_y : ℕ → Option (List ℕ) → X → Y → Type 0) → IsHalf mine theirs at_x at_y
+    → (b : Bool) (left : ℕ) (token : Option (Vec ℕ Global)) (x context : X) (y : Y) (turn : Turn)
+    → (b ≡ true → (items_in token ≡ None) × (left ≡ zero)) → at_x left (items_in token) x y → Takes mine b x (items_in token) context turn
     → (progress_in turn ≡ progress_of left) × at_y (left_after left) (items_in (token_in turn)) context y
-turned mine theirs at_x at_y half true left (Some t) x context y turn b last at takes = cc
-turned mine theirs at_x at_y half true left None x context y turn b last at takes =
-    let left_is : left ≡ zero = last refl in
-    let start : at_x zero None x y = subst (λ l. at_x l None x y) left_is at in (
-      ap progress_in takes.1 ∙ ap progress_of (sym left_is),
-      subst (λ l. at_y (left_after l) (items_in (token_in turn)) context y) (sym left_is)
-          (subst (λ t. at_y zero (items_in (token_in t)) context y) (sym takes.1) (subst (λ c. at_y zero None c y) (sym takes.0) (half.rests x y start))),
-    )
-turned mine theirs at_x at_y half false left token x context y turn b last at takes =
+turned mine theirs at_x at_y half true left token x context y turn rest at takes =
+    let left_is : left ≡ zero = (rest refl).1 in
+    let start : at_x zero None x y = subst (λ l. at_x l None x y) left_is (subst (λ t. at_x left t x y) (rest refl).0 at) in
+    (ap progress_in takes.1 ∙ ap progress_of (sym left_is),
+    subst (λ l. at_y (left_after l) (items_in (token_in turn)) context y) (sym left_is)
+    (subst (λ t. at_y zero (items_in (token_in t)) context y) (sym takes.1) (subst (λ c. at_y zero None c y) (sym takes.0) (half.rests x y start))))
+turned mine theirs at_x at_y half false left token x context y turn rest at takes =
     half.turns left (items_in token) x y context turn at takes
 
-false_true : false ≡ true → ⊥
+pub false_true : false ≡ true → ⊥
 false_true e = cc
 
 -- an honest peer's MIC holds, once there is a context to verify it by
-sight_is : (holds : List ℕ → Type 0) (came : Option (Vec ℕ Global)) (p : Progress) (sight : Mic) → IsSeen holds (items_in came) p sight
+pub sight_is : (holds : List ℕ → Type 0) (came : Option (Vec ℕ Global)) (p : Progress) (sight : Mic) → IsSeen holds (items_in came) p sight
     → ((mic : Vec ℕ Global) → came ≡ Some mic → p ≡ progress.Ends → holds mic.items) → sight ≡ mic_of (is_some came) p
 sight_is holds None p mics.Absent seen h = refl
 sight_is holds None p mics.Early seen h = absurd (false_true seen.1)
@@ -125,13 +128,13 @@ sight_is holds (Some mic) progress.EndsWithToken mics.Holds seen h = cc
 sight_is holds (Some mic) progress.EndsWithToken mics.Wrong seen h = cc
 
 -- what a side's own MIC comes to
-record Signed {X Y : Type 0} (mine : Meaning X) (at_y : ℕ → Option (List ℕ) → X → Y → Type 0) (list : List ℕ) (b : Bool) (x after : X)
+pub record Signed {X Y : Type 0} (mine : Meaning X) (at_y : ℕ → Option (List ℕ) → X → Y → Type 0) (list : List ℕ) (b : Bool) (x after : X)
     (own : Option (Vec ℕ Global)) : Type 0 where
   pub there : is_some own ≡ b
   pub at : (left : ℕ) (token : Option (List ℕ)) (y : Y) → at_y left token x y → at_y left token after y
   pub made : (mic : Vec ℕ Global) → own ≡ Some mic → (before : X) × mine.makes before list mic.items after
 
-signed : {X Y : Type 0} (mine : Meaning X) (theirs : Meaning Y) (at_x at_y : ℕ → Option (List ℕ) → X → Y → Type 0) → IsHalf mine theirs at_x at_y
+pub signed : {X Y : Type 0} (mine : Meaning X) (theirs : Meaning Y) (at_x at_y : ℕ → Option (List ℕ) → X → Y → Type 0) → IsHalf mine theirs at_x at_y
     → (b : Bool) (list : List ℕ) (x after : X) (own : Option (Vec ℕ Global)) → Signs mine x list b after own → Signed mine at_y list b x after own
 signed mine theirs at_x at_y half false list x after own s = record {
   there = ap is_some s.1;
@@ -154,7 +157,7 @@ Simulates most = (X Y : Type 0) (mine : Meaning X) (theirs : Meaning Y) (at_x at
 
 -- ---- what follows a decision
 
-uncounted : (found : Option ℕ) (n : ℕ) → counted found ≡ Some n → (m : ℕ) × (found ≡ Some m)
+pub uncounted : (found : Option ℕ) (n : ℕ) → counted found ≡ Some n → (m : ℕ) × (found ≡ Some m)
 uncounted None n e = absurd (nothing n e)
 uncounted (Some m) n e = (m, refl)
 
@@ -163,7 +166,7 @@ turned_pair : {X Y : Type 0} (mine : Meaning X) (theirs : Meaning Y) (at_x at_y 
 turned_pair mine theirs at_x at_y pair = record { x_half = pair.y_half; y_half = pair.x_half }
 
 -- the rules' count of what follows, of the message that is sent
-abbrev follows : ℕ → Role → Side → Terms → ℕ → Bool → Bool → Option ℕ
+abbrev pub follows : ℕ → Role → Side → Terms → ℕ → Bool → Bool → Option ℕ
 follows most role side terms left finished mic =
     more most (other_role role) side (having_sent terms left mic) (left_after left) finished (note_of (state_of finished) left mic)
 
@@ -276,30 +279,33 @@ held mine theirs at_x at_y half left context y turn own list p at made mic is en
     (subst (λ t. at_y zero t context y) (ended_token turn ends)
     (subst (λ l. at_y (left_after l) (items_in (token_in turn)) context y) left_is at))
 
-went : (most : ℕ) → Simulates most → (X Y : Type 0) (mine : Meaning X) (theirs : Meaning Y) (at_x at_y : ℕ → Option (List ℕ) → X → Y → Type 0)
+pub went : (most : ℕ) → Simulates most → (X Y : Type 0) (mine : Meaning X) (theirs : Meaning Y) (at_x at_y : ℕ → Option (List ℕ) → X → Y → Type 0)
     → IsPair mine theirs at_x at_y → (role : Role) (x : Running X) (y : After Y) (left : ℕ) (done : Bool) (side : Side) (state : NegState)
-    (token own : Option (Vec ℕ Global)) (list name : List ℕ) (n : ℕ) (out : Outcome X) → Meets theirs at_x x y left done side token own list name
-    → x.established ≡ not (is_some token)
-    → after (follows most role side x.terms left) done (decides role x.terms false (progress_of left) (Some state) (mic_of (is_some own) (progress_of left))) ≡ Some n
+      (token own : Option (Vec ℕ Global)) (list name : List ℕ) (n : ℕ) (out : Outcome X) → x.list.items ≡ list → x.name.items ≡ name
+    → list_of y ≡ list → name_of y ≡ name → Stands done y side → at_x left (items_in token) x.mechanism (context_of y)
+    → ((mic : Vec ℕ Global) → own ≡ Some mic → (before : Y) × theirs.makes before list mic.items (context_of y))
+    → (x.established ≡ true → (items_in token ≡ None) × (left ≡ zero))
+    → after (follows most role side x.terms left) done (decides role x.terms false (progress_of left) (Some state) (mic_of (is_some own) (progress_of left)))
+      ≡ Some n
     → GoesOn mine role x None (Some state) (items_in token) (items_in own) out
     → Follows (λ peer s sent. Ends most Y X theirs mine (other_role role) peer s sent) y out
-went most sim X Y mine theirs at_x at_y pair role x y left done side state token own list name n out meets waits e goes =
+went most sim X Y mine theirs at_x at_y pair role x y left done side state token own list name n out xl xn yl yn st at made rest_at e goes =
     elim goes [
       | inl memory ↦ subst (λ o. Follows (λ peer s sent. Ends most Y X theirs mine (other_role role) peer s sent) y o) (sym memory) refl
       | inr rest ↦ elim rest [
-        | inl refused ↦ absurd (pair.x_half.takes left (items_in token) x.mechanism (context_of y) meets.at refused.1.0)
+        | inl refused ↦ absurd (pair.x_half.takes left (items_in token) x.mechanism (context_of y) at refused.1.0)
         | inr step ↦
             let context = step.0 in
             let turn = step.1.0 in
             let t : (progress_in turn ≡ progress_of left) × at_y (left_after left) (items_in (token_in turn)) context (context_of y)
-            = turned mine theirs at_x at_y pair.x_half x.established left token x.mechanism context (context_of y) turn waits meets.last meets.at step.1.1.0 in
+            = turned mine theirs at_x at_y pair.x_half x.established left token x.mechanism context (context_of y) turn rest_at at step.1.1.0 in
             let sight = step.1.1.1.0 in
             let seen : sight ≡ mic_of (is_some own) (progress_in turn)
             = sight_is (mine.holds context x.list.items) own (progress_in turn) sight step.1.1.1.1.0
-            (λ mic is ends. subst (λ l. mine.holds context l mic.items) (sym meets.x_list)
-            (held mine theirs at_x at_y pair.x_half left context (context_of y) turn own list t.0 t.1 meets.made mic is ends)) in
+            (λ mic is ends. subst (λ l. mine.holds context l mic.items) (sym xl)
+            (held mine theirs at_x at_y pair.x_half left context (context_of y) turn own list t.0 t.1 made mic is ends)) in
             concludes most sim X Y mine theirs at_x at_y pair role x y left done side list name context turn sight
-            (decides role x.terms false (progress_in turn) (Some state) sight) n out meets.x_list meets.x_name meets.y_list meets.y_name meets.stands t.0 t.1
+            (decides role x.terms false (progress_in turn) (Some state) sight) n out xl xn yl yn st t.0 t.1
             (subst (λ m. after (follows most role side x.terms left) done (decides role x.terms false (progress_in turn) (Some state) m) ≡ Some n) (sym seen)
             (subst (λ p. after (follows most role side x.terms left) done (decides role x.terms false p (Some state) (mic_of (is_some own) p)) ≡ Some n)
             (sym t.0) e)) step.1.1.1.1.1
@@ -307,7 +313,7 @@ went most sim X Y mine theirs at_x at_y pair role x y left done side state token
     ]
 
 -- the rules' count, where this is what is agreed on
-abbrev counts : ℕ → Role → Side → Terms → ℕ → Bool → Note → Result Terms Rule → Option ℕ
+abbrev pub counts : ℕ → Role → Side → Terms → ℕ → Bool → Note → Result Terms Rule → Option ℕ
 counts most role side terms left done note agreed =
     after (λ finished mic. more most (other_role role) side (having_sent (terms_in agreed terms) left mic) (left_after left) finished
     (note_of (state_of finished) left mic)) done (decided role agreed (progress_of left) note)
@@ -323,8 +329,9 @@ by_verdict : (most : ℕ) → Simulates most → (X Y : Type 0) (mine : Meaning 
 by_verdict most sim X Y mine theirs at_x at_y pair role x y left done side state token own list name n out (Err rule) meets is e later =
     absurd (nothing n (sym (ap (after (follows most role side x.terms left) done) (refused_is role rule (progress_of left) (note_in state token own))) ∙ e))
 by_verdict most sim X Y mine theirs at_x at_y pair role x y left done side state token own list name n out (Ok u) meets is e later =
-    went most sim X Y mine theirs at_x at_y pair role x y left done side state token own list name n out meets
-    (waits_for state (is_some token) x.established u is)
+    went most sim X Y mine theirs at_x at_y pair role x y left done side state token own list name n out meets.x_list
+    meets.x_name meets.y_list meets.y_name meets.stands meets.at meets.made
+    (λ there. rest_of x.established token left (waits_for state (is_some token) x.established u is) meets.last there)
     (sym (ap (after (follows most role side x.terms left) done) (decided_is role x.terms (progress_of left) state (is_some token) (is_some own))) ∙ e) later
 
 -- HONEST ENGINES DO WHAT THE RULES COUNT

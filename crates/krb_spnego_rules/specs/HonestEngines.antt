@@ -1,14 +1,22 @@
 -- Two honest engines over contexts that fit together (RFC 4178, 5): nobody is between them.
-use Rattle.std.specs.Prelude.{◌≡◌, is_some, ℕ, zero, suc, List, Bool, true, false, Option, Some, None, Ok, Err, Vec}
+use Rattle.std.specs.Prelude.{◌≡◌, ◌==◌, not, is_some, slice_get, ℕ, zero, suc, List, Bool, true, false, Option, Some, None, Ok, Err, Vec}
 use Rattle.std.specs.declared.alloc.Global.{Global}
+use Rattle.krb_spnego_rules.specs.AcceptorSteps.{IsOffered, named_in, rank_in}
+use Rattle.krb_spnego_rules.specs.Decisions.{continues}
 use Rattle.krb_spnego_rules.specs.Fields.{items_in}
+use Rattle.krb_spnego_rules.specs.InitiatorSteps.{Replied, picks}
 use Rattle.krb_spnego_rules.specs.Meaning.{Meaning}
 use Rattle.krb_spnego_rules.specs.Runs.{Note, Side, left_after, other_role, progress_of}
 use Rattle.krb_spnego_rules.specs.Steps.{Later, Outcome}
 use Rattle.krb_spnego_rules.specs.Turns.{progress_in, token_in}
+use Rattle.krb_spnego_rules.specs.declared.acceptor.Fresh.{Fresh}
+use Rattle.krb_spnego_rules.specs.declared.initiator.Offered.{Offered}
+use Rattle.krb_spnego_rules.specs.declared.message.Proposal.{Proposal}
+use Rattle.krb_spnego_rules.specs.declared.words.Choice.{Choice}
 use Rattle.krb_spnego_rules.specs.declared.words.Choice.TheVariants as choices
 use Rattle.krb_spnego_rules.specs.declared.words.NegState.{NegState}
 use Rattle.krb_spnego_rules.specs.declared.words.Role.{Role}
+use Rattle.krb_spnego_rules.specs.declared.words.Role.TheVariants as roles
 use Rattle.krb_spnego_rules.specs.declared.mechanism.Turn.{Turn}
 use Rattle.krb_spnego_rules.specs.declared.message.Message.{Message}
 use Rattle.krb_spnego_rules.specs.declared.message.Refusal.TheVariants.{OutOfMemory}
@@ -98,3 +106,46 @@ pub record Meets {X Y : Type 0} (theirs : Meaning Y) (at_x : ℕ → Option (Lis
   pub last : token ≡ None → left ≡ zero
   pub made : (mic : Vec ℕ Global) → own ≡ Some mic → (before : Y) × theirs.makes before list mic.items (context_of y)
   pub stands : Stands done y side
+
+-- ---- the offer and the first reply
+
+-- what has to follow the first reply, where it comes to an initiator with this offer
+abbrev pub EndsFromReply : ℕ → (X Y : Type 0) → Meaning X → Meaning Y → Offered X → After Y → Message → Type 0
+EndsFromReply zero X Y mine theirs offered y message = ⊥
+EndsFromReply (suc most) X Y mine theirs offered y message =
+    (out : Outcome X) → Replied mine offered message out → Follows (λ peer side sent. Ends most Y X theirs mine roles.Acceptor peer side sent) y out
+
+abbrev pub AfterOffer : {Y : Type 0} → (After Y → Message → Type 0) → Outcome Y → Type 0
+AfterOffer go (Err refusal) = refusal ≡ OutOfMemory
+AfterOffer go (Ok (y, None)) = ⊥
+AfterOffer go (Ok (y, Some message)) = go y message
+
+-- Whatever both do that their steps allow, both are complete under one name after at most so many messages and the offer, or memory failed.
+abbrev pub EndsFromOffer : ℕ → (X Y : Type 0) → Meaning X → Meaning Y → Offered X → Fresh Y → Proposal → Type 0
+EndsFromOffer most X Y mine theirs offered fresh proposal =
+    (out : Outcome Y) → IsOffered theirs fresh proposal out → AfterOffer (λ y message. EndsFromReply most X Y mine theirs offered y message) out
+
+-- the contexts that both come to: the preferred mechanism's first token is sent with the offer, and another mechanism has still to begin
+abbrev pub Starts : {X Y : Type 0} → (ℕ → Option (List ℕ) → X → Y → Type 0) → (ℕ → Option (List ℕ) → X → Y → Type 0) → Bool → ℕ → Option (List ℕ) → X → Y → Type 0
+Starts at_x at_y true tokens token x y = at_y (left_after tokens) token x y
+Starts at_x at_y false tokens token x y = at_x tokens None x y
+
+abbrev pub choice_if : Bool → Choice
+choice_if true = choices.Preferred true
+choice_if false = choices.Other true
+
+-- An offer comes as it was sent to an acceptor whose rule picks this name, of a mechanism with integrity on both sides, preferred or not.
+pub record IsHonestStart {X Y : Type 0} (mine : Meaning X) (theirs : Meaning Y) (at_x at_y : ℕ → Option (List ℕ) → X → Y → Type 0) (preferred : Bool)
+    (tokens : ℕ) (offered : Offered X) (fresh : Fresh Y) (proposal : Proposal) (x : X) (y : Y) (name : Vec ℕ Global) : Type 0 where
+  pub list : proposal.list.items ≡ offered.list.items
+  pub mic : proposal.mic ≡ None
+  pub token : is_some proposal.token ≡ true
+  pub rank : ℕ
+  pub ranked : rank_in theirs fresh.mechanisms.items proposal.mechanisms.items ≡ Some rank
+  pub listed : slice_get proposal.mechanisms.items rank ≡ Some name
+  pub first : (rank == 0) ≡ preferred
+  pub named : named_in theirs fresh.mechanisms.items (Some name) ≡ Some y
+  pub integrity : theirs.integrity y ≡ true
+  pub picked : picks mine offered.first offered.others.items (Some name.items) ≡ (choice_if preferred, Some x)
+  pub established : offered.established ≡ not (continues (progress_of tokens))
+  pub starts : Starts at_x at_y preferred tokens (items_in proposal.token) x y
