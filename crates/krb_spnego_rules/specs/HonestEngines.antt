@@ -126,7 +126,8 @@ EndsFromOffer most X Y mine theirs offered fresh proposal =
     (out : Outcome Y) → IsOffered theirs fresh proposal out → AfterOffer (λ y message. EndsFromReply most X Y mine theirs offered y message) out
 
 -- the contexts that both come to: the preferred mechanism's first token is sent with the offer, and another mechanism has still to begin
-abbrev pub Starts : {X Y : Type 0} → (ℕ → Option (List ℕ) → X → Y → Type 0) → (ℕ → Option (List ℕ) → X → Y → Type 0) → Bool → ℕ → Option (List ℕ) → X → Y → Type 0
+abbrev pub Starts : {X Y : Type 0} → (ℕ → Option (List ℕ) → X → Y → Type 0) → (ℕ → Option (List ℕ) → X → Y → Type 0) → Bool → ℕ → Option (List ℕ) → X
+    → Y → Type 0
 Starts at_x at_y true tokens token x y = at_y (left_after tokens) token x y
 Starts at_x at_y false tokens token x y = at_x tokens None x y
 

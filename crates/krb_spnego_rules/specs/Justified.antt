@@ -96,7 +96,8 @@ pub record Received : Type 0 where
   pub list : List ℕ
 
 -- the name is the list's first that names one of the acceptor's mechanisms, it names this one, and the preferred one is the list's first
-pub record FitsList {M : Type 0} (meaning : Meaning M) (mechanisms : List M) (received : Received) (mechanism : M) (name : List ℕ) (preferred : Bool) : Type 0 where
+pub record FitsList {M : Type 0} (meaning : Meaning M) (mechanisms : List M) (received : Received) (mechanism : M) (name : List ℕ)
+    (preferred : Bool) : Type 0 where
   pub rank : ℕ
   pub picked : rank_in meaning mechanisms received.names ≡ Some rank
   pub listed : (at : Vec ℕ Global) × ((slice_get received.names rank ≡ Some at) × (name ≡ at.items))

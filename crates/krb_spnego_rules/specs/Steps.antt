@@ -114,7 +114,8 @@ Answers meaning role side turn named state came out =
     (sight : Mic) × (IsSeen (meaning.holds side.mechanism side.list.items) came (progress_in turn) sight
     × Does meaning side turn sight named (decides role side.terms (is_some named) (progress_in turn) state sight) out)
 
-abbrev pub GoesOn : {M : Type 0} → Meaning M → Role → Running M → Option (Vec ℕ Global) → Option NegState → Option (List ℕ) → Option (List ℕ) → Outcome M → Type 0
+abbrev pub GoesOn : {M : Type 0} → Meaning M → Role → Running M → Option (Vec ℕ Global) → Option NegState → Option (List ℕ) → Option (List ℕ)
+    → Outcome M → Type 0
 GoesOn meaning role side named state token came out =
     (out ≡ Err OutOfMemory)
     ⊎ (((side.established ≡ false) × (meaning.refuses side.mechanism token × (out ≡ Err (Broken rules.MechanismFailed))))
