@@ -98,10 +98,11 @@ pub turned : {X Y : Type 0} (mine : Meaning X) (theirs : Meaning Y) (at_x at_y :
     → (progress_in turn ≡ progress_of left) × at_y (left_after left) (items_in (token_in turn)) context y
 turned mine theirs at_x at_y half true left token x context y turn rest at takes =
     let left_is : left ≡ zero = (rest refl).1 in
-    let start : at_x zero None x y = subst (λ l. at_x l None x y) left_is (subst (λ t. at_x left t x y) (rest refl).0 at) in
-    (ap progress_in takes.1 ∙ ap progress_of (sym left_is),
-    subst (λ l. at_y (left_after l) (items_in (token_in turn)) context y) (sym left_is)
-    (subst (λ t. at_y zero (items_in (token_in t)) context y) (sym takes.1) (subst (λ c. at_y zero None c y) (sym takes.0) (half.rests x y start))))
+    let start : at_x zero None x y = subst (λ l. at_x l None x y) left_is (subst (λ t. at_x left t x y) (rest refl).0 at) in (
+      ap progress_in takes.1 ∙ ap progress_of (sym left_is),
+      subst (λ l. at_y (left_after l) (items_in (token_in turn)) context y) (sym left_is)
+          (subst (λ t. at_y zero (items_in (token_in t)) context y) (sym takes.1) (subst (λ c. at_y zero None c y) (sym takes.0) (half.rests x y start))),
+    )
 turned mine theirs at_x at_y half false left token x context y turn rest at takes =
     half.turns left (items_in token) x y context turn at takes
 
@@ -281,12 +282,12 @@ held mine theirs at_x at_y half left context y turn own list p at made mic is en
 
 pub went : (most : ℕ) → Simulates most → (X Y : Type 0) (mine : Meaning X) (theirs : Meaning Y) (at_x at_y : ℕ → Option (List ℕ) → X → Y → Type 0)
     → IsPair mine theirs at_x at_y → (role : Role) (x : Running X) (y : After Y) (left : ℕ) (done : Bool) (side : Side) (state : NegState)
-      (token own : Option (Vec ℕ Global)) (list name : List ℕ) (n : ℕ) (out : Outcome X) → x.list.items ≡ list → x.name.items ≡ name
+    (token own : Option (Vec ℕ Global)) (list name : List ℕ) (n : ℕ) (out : Outcome X) → x.list.items ≡ list → x.name.items ≡ name
     → list_of y ≡ list → name_of y ≡ name → Stands done y side → at_x left (items_in token) x.mechanism (context_of y)
     → ((mic : Vec ℕ Global) → own ≡ Some mic → (before : Y) × theirs.makes before list mic.items (context_of y))
     → (x.established ≡ true → (items_in token ≡ None) × (left ≡ zero))
     → after (follows most role side x.terms left) done (decides role x.terms false (progress_of left) (Some state) (mic_of (is_some own) (progress_of left)))
-      ≡ Some n
+    ≡ Some n
     → GoesOn mine role x None (Some state) (items_in token) (items_in own) out
     → Follows (λ peer s sent. Ends most Y X theirs mine (other_role role) peer s sent) y out
 went most sim X Y mine theirs at_x at_y pair role x y left done side state token own list name n out xl xn yl yn st at made rest_at e goes =

@@ -4,12 +4,11 @@ use Rattle.std.specs.Prelude.{is_some, slice_get, if◌then◌else◌}
 use Rattle.std.specs.declared.alloc.Global.{Global}
 use Rattle.krb_spnego_rules.specs.Decisions.{acceptor_does, continues}
 use Rattle.krb_spnego_rules.specs.Fields.{items_in}
-use Rattle.krb_spnego_rules.specs.HonestEngines.{AfterOffer, Ends, EndsFromOffer, EndsFromReply, Follows, IsHalf, IsHonestStart, IsPair, Stands, choice_if, context_of, flipped, list_of, name_of}
+use Rattle.krb_spnego_rules.specs.HonestEngines.{AfterOffer, Ends, EndsFromOffer, EndsFromReply, Follows, IsHonestStart, IsPair, Stands, choice_if, context_of, flipped, list_of, name_of}
 use Rattle.krb_spnego_rules.specs.Meaning.{Meaning}
 use Rattle.krb_spnego_rules.specs.Messages.{after_first_reply, after_offer, is_preferred, terms_of}
-use Rattle.krb_spnego_rules.specs.Mics.{IsSeen}
 use Rattle.krb_spnego_rules.specs.Runs.{Side, after, begun, counted, first_state, having_offered, having_sent, left_after, messages_of, more, offer_of, progress_of, redirected, replied, sends_token}
-use Rattle.krb_spnego_rules.specs.Steps.{Does, GoesOn, Outcome, Signs, completed, saying, waiting, waiting_state, with_context}
+use Rattle.krb_spnego_rules.specs.Steps.{Does, GoesOn, Outcome, completed, saying, waiting, waiting_state, with_context}
 use Rattle.krb_spnego_rules.specs.Turns.{progress_in, token_in}
 use Rattle.krb_spnego_rules.specs.declared.words.Choice.TheVariants as choices
 use Rattle.krb_spnego_rules.specs.declared.words.Decision.{Decision}
@@ -18,22 +17,17 @@ use Rattle.krb_spnego_rules.specs.declared.words.Mic.{Mic}
 use Rattle.krb_spnego_rules.specs.declared.words.Mic.TheVariants as mics
 use Rattle.krb_spnego_rules.specs.declared.words.NegState.{NegState}
 use Rattle.krb_spnego_rules.specs.declared.words.NegState.TheVariants.{AcceptCompleted, AcceptIncomplete, Reject, RequestMic}
-use Rattle.krb_spnego_rules.specs.declared.words.Progress.{Progress}
-use Rattle.krb_spnego_rules.specs.declared.words.Progress.TheVariants as progress
-use Rattle.krb_spnego_rules.specs.declared.words.Role.{Role}
 use Rattle.krb_spnego_rules.specs.declared.words.Role.TheVariants.{Initiator, Acceptor}
 use Rattle.krb_spnego_rules.specs.declared.words.Rule.{Rule}
 use Rattle.krb_spnego_rules.specs.declared.words.Terms.{Terms}
 use Rattle.krb_spnego_rules.specs.declared.mechanism.Turn.{Turn}
-use Rattle.krb_spnego_rules.specs.declared.mechanism.Turn.TheVariants as turns
 use Rattle.krb_spnego_rules.specs.declared.side.Running.{Running}
 use Rattle.krb_spnego_rules.specs.declared.side.After.{After}
 use Rattle.krb_spnego_rules.specs.declared.side.After.TheVariants as afters
 use Rattle.krb_spnego_rules.specs.AcceptorSteps.{FirstAnswers, IsOffered, OfferedAs, OfferedBy, OfferedFor, TakesUp, choice_in_offer, named_in, offer_in, taken_up}
 use Rattle.krb_spnego_rules.specs.declared.initiator.Initiator.TheVariants as initiators
-use Rattle.krb_spnego_rules.specs.InitiatorSteps.{Begins, GoesOnAs, RepliedAs, RepliedBy, Replied, chosen, picks}
+use Rattle.krb_spnego_rules.specs.InitiatorSteps.{Begins, RepliedAs, RepliedBy, chosen, picks}
 use Rattle.krb_spnego_rules.specs.declared.words.Choice.{Choice}
-use Rattle.krb_spnego_rules.specs.declared.message.Message.{Message}
 use Rattle.krb_spnego_rules.specs.declared.message.Proposal.{Proposal}
 use Rattle.krb_spnego_rules.specs.declared.initiator.Offered.{Offered}
 use Rattle.krb_spnego_rules.specs.declared.acceptor.Fresh.{Fresh}
@@ -75,8 +69,8 @@ first_rest false state token established left terms e agreed last there =
 
 replied_by : (most : ℕ) → Simulates most → (X Y : Type 0) (mine : Meaning X) (theirs : Meaning Y) (at_x at_y : ℕ → Option (List ℕ) → X → Y → Type 0)
     → IsPair mine theirs at_x at_y → (established : Bool) (list : Vec ℕ Global) (x : X) (y : After Y) (left : ℕ) (done : Bool) (side : Side)
-      (state : NegState) (name : Vec ℕ Global) (token own : Option (Vec ℕ Global)) (n : ℕ) (preferred : Bool) (verdict : Result Terms Rule) (old : Terms)
-      (out : Outcome X)
+    (state : NegState) (name : Vec ℕ Global) (token own : Option (Vec ℕ Global)) (n : ℕ) (preferred : Bool) (verdict : Result Terms Rule) (old : Terms)
+    (out : Outcome X)
     → after_first_reply (record { state = Some state; choice = choice_if preferred; token = is_some token }) established ≡ verdict
     → counts most Initiator side old left done (record { state = state; choice = choice_if preferred; token = is_some token; mic = is_some own }) verdict ≡ Some n
     → list_of y ≡ list.items → name_of y ≡ name.items → Stands done y side → at_x left (items_in token) x (context_of y)
@@ -90,18 +84,18 @@ replied_by most sim X Y mine theirs at_x at_y pair established list x y left don
     elim r [
       | inl memory ↦ subst (λ o. Follows (λ peer s sent. Ends most Y X theirs mine Acceptor peer s sent) y o) (sym memory) refl
       | inr step ↦
-        went most sim X Y mine theirs at_x at_y pair Initiator (chosen established list x step.0 terms) y left done side state token own list.items name.items n out
-        refl step.1.0 yl yn st at made
-        (λ there. first_rest preferred state token established left terms is
-        (initiator_agreed (record { state = Some state; choice = choice_if preferred; token = is_some token }) established terms is).preferred last there)
-        e step.1.1
+          went most sim X Y mine theirs at_x at_y pair Initiator (chosen established list x step.0 terms) y left done side state token own list.items name.items n out
+          refl step.1.0 yl yn st at made
+          (λ there. first_rest preferred state token established left terms is
+          (initiator_agreed (record { state = Some state; choice = choice_if preferred; token = is_some token }) established terms is).preferred last there)
+          e step.1.1
     ]
 
 replied_ends : (most : ℕ) (X Y : Type 0) (mine : Meaning X) (theirs : Meaning Y) (at_x at_y : ℕ → Option (List ℕ) → X → Y → Type 0)
     → IsPair mine theirs at_x at_y → (offered : Offered X) (x : X) (y : After Y) (left : ℕ) (done : Bool) (side : Side) (state : NegState)
-      (name : Vec ℕ Global) (token own : Option (Vec ℕ Global)) (n : ℕ) (preferred : Bool)
+    (name : Vec ℕ Global) (token own : Option (Vec ℕ Global)) (n : ℕ) (preferred : Bool)
     → more most Initiator (record { terms = terms_of preferred false; first = true; established = offered.established }) side left done
-      (record { state = state; choice = choice_if preferred; token = is_some token; mic = is_some own }) ≡ Some n
+    (record { state = state; choice = choice_if preferred; token = is_some token; mic = is_some own }) ≡ Some n
     → picks mine offered.first offered.others.items (Some name.items) ≡ (choice_if preferred, Some x)
     → list_of y ≡ offered.list.items → name_of y ≡ name.items → Stands done y side → at_x left (items_in token) x (context_of y)
     → (preferred ≡ true → token ≡ None → left ≡ zero)
@@ -145,7 +139,7 @@ offered_side a b e = ap offering_side (sym e)
 
 answers : (most : ℕ) (X Y : Type 0) (mine : Meaning X) (theirs : Meaning Y) (at_x at_y : ℕ → Option (List ℕ) → X → Y → Type 0)
     → IsPair mine theirs at_x at_y → (tokens : ℕ) (offered : Offered X) (x : X) (y : Running Y) (named : Vec ℕ Global) (context : Y) (turn : Turn)
-      (sight : Mic) (decision : Decision) (n : ℕ) (out : Outcome Y)
+    (sight : Mic) (decision : Decision) (n : ℕ) (out : Outcome Y)
     → offered.established ≡ not (continues (progress_of tokens))
     → picks mine offered.first offered.others.items (Some named.items) ≡ (choices.Preferred true, Some x)
     → y.list.items ≡ offered.list.items → y.name.items ≡ named.items → progress_in turn ≡ progress_of (left_after tokens)
@@ -206,7 +200,7 @@ rules_count_other false = refl
 -- an acceptor that takes the preferred mechanism's first token
 first_goes : (most : ℕ) (X Y : Type 0) (mine : Meaning X) (theirs : Meaning Y) (at_x at_y : ℕ → Option (List ℕ) → X → Y → Type 0)
     → IsPair mine theirs at_x at_y → (tokens : ℕ) (offered : Offered X) (x : X) (y : Running Y) (named : Vec ℕ Global) (token : Option (Vec ℕ Global))
-      (n : ℕ) (out : Outcome Y)
+    (n : ℕ) (out : Outcome Y)
     → offered.established ≡ not (continues (progress_of tokens))
     → picks mine offered.first offered.others.items (Some named.items) ≡ (choices.Preferred true, Some x)
     → y.list.items ≡ offered.list.items → y.name.items ≡ named.items → y.established ≡ false → at_y (left_after tokens) (items_in token) x y.mechanism
@@ -219,19 +213,19 @@ first_goes most X Y mine theirs at_x at_y pair tokens offered x y named token n 
       | inr rest ↦ elim rest [
         | inl refused ↦ absurd (pair.y_half.takes (left_after tokens) (items_in token) y.mechanism x at refused.1.0)
         | inr step ↦
-          let context = step.0 in
-          let turn = step.1.0 in
-          let t : (progress_in turn ≡ progress_of (left_after tokens)) × at_x (left_after (left_after tokens)) (items_in (token_in turn)) x context
-          = turned theirs mine (flipped at_y) (flipped at_x) pair.y_half y.established (left_after tokens) token y.mechanism context x turn
+            let context = step.0 in
+            let turn = step.1.0 in
+            let t : (progress_in turn ≡ progress_of (left_after tokens)) × at_x (left_after (left_after tokens)) (items_in (token_in turn)) x context
+            = turned theirs mine (flipped at_y) (flipped at_x) pair.y_half y.established (left_after tokens) token y.mechanism context x turn
             (λ there. absurd (false_true (sym fresh ∙ there))) at step.1.1.0 in
-          let sight = step.1.1.1.0 in
-          let seen : sight ≡ mics.Absent
-          = sight_is (theirs.holds context y.list.items) None (progress_in turn) sight step.1.1.1.1.0 (λ mic is ends. absurd (nothing mic is)) in
-          answers most X Y mine theirs at_x at_y pair tokens offered x y named context turn sight
-          (acceptor_does y.terms true (progress_in turn) None sight) n out est picked yl yn t.0 t.1
-          (subst (λ m. after (first_counts most tokens y.terms) false (acceptor_does y.terms true (progress_in turn) None m) ≡ Some n) (sym seen)
-          (subst (λ p. after (first_counts most tokens y.terms) false (acceptor_does y.terms true p None mics.Absent) ≡ Some n) (sym t.0) e))
-          step.1.1.1.1.1
+            let sight = step.1.1.1.0 in
+            let seen : sight ≡ mics.Absent
+            = sight_is (theirs.holds context y.list.items) None (progress_in turn) sight step.1.1.1.1.0 (λ mic is ends. absurd (nothing mic is)) in
+            answers most X Y mine theirs at_x at_y pair tokens offered x y named context turn sight
+            (acceptor_does y.terms true (progress_in turn) None sight) n out est picked yl yn t.0 t.1
+            (subst (λ m. after (first_counts most tokens y.terms) false (acceptor_does y.terms true (progress_in turn) None m) ≡ Some n) (sym seen)
+            (subst (λ p. after (first_counts most tokens y.terms) false (acceptor_does y.terms true p None mics.Absent) ≡ Some n) (sym t.0) e))
+            step.1.1.1.1.1
       ]
     ]
 
@@ -246,7 +240,7 @@ redirects : (most : ℕ) (X Y : Type 0) (mine : Meaning X) (theirs : Meaning Y) 
     → AfterOffer (λ side sent. EndsFromReply most X Y mine theirs offered side sent) out
 redirects most X Y mine theirs at_x at_y pair tokens offered x y named n out est picked yl yn fresh at e is =
     let m : (k : ℕ) × (more most Initiator (having_offered false tokens) (record { terms = y.terms; first = false; established = false }) tokens false
-      (record { state = first_state y.terms; choice = choices.Other true; token = false; mic = false }) ≡ Some k) = uncounted _ n e in
+    (record { state = first_state y.terms; choice = choices.Other true; token = false; mic = false }) ≡ Some k) = uncounted _ n e in
     subst (AfterOffer (λ side sent. EndsFromReply most X Y mine theirs offered side sent)) (sym is)
     (replied_ends most X Y mine theirs at_x at_y pair offered x (afters.Running y) tokens false (record { terms = y.terms; first = false; established = false })
     (waiting_state true y.terms.required) named None None m.0 false
@@ -288,17 +282,17 @@ takes_up mine theirs at_x at_y preferred tokens offered fresh proposal x y name 
     let named = subst (λ f. OfferedAs theirs fresh.asks proposal (Some h.rank) (Some name) f out) h.named listed in
     let choice : choice_in_offer theirs proposal.mechanisms.items (h.rank == 0) (Some y) ≡ choice_if preferred
     = ap (λ b. choice_in_offer theirs proposal.mechanisms.items b (Some y)) h.first
-      ∙ choice_is theirs proposal.mechanisms.items h.rank name preferred y h.listed h.integrity in
+    ∙ choice_is theirs proposal.mechanisms.items h.rank name preferred y h.listed h.integrity in
     let verdict : after_offer (offer_in (choice_in_offer theirs proposal.mechanisms.items (h.rank == 0) (Some y)) proposal) fresh.asks
-      ≡ Ok (terms_of preferred fresh.asks)
+    ≡ Ok (terms_of preferred fresh.asks)
     = ap (λ offer. after_offer offer fresh.asks) (offer_is _ (choice_if preferred) proposal choice h.token h.mic ∙ sym (offer_of_is preferred))
-      ∙ verdict_is preferred fresh.asks in
+    ∙ verdict_is preferred fresh.asks in
     subst (λ v. OfferedBy theirs proposal (Some name) (Some y) v out) verdict named
 
 -- TWO HONEST ENGINES DO WHAT THE RULES COUNT, from the offer on
 pub start : (most : ℕ) (X Y : Type 0) (mine : Meaning X) (theirs : Meaning Y) (at_x at_y : ℕ → Option (List ℕ) → X → Y → Type 0)
     → IsPair mine theirs at_x at_y → (preferred : Bool) (tokens : ℕ) (offered : Offered X) (fresh : Fresh Y) (proposal : Proposal) (x : X) (y : Y)
-      (name : Vec ℕ Global) (n : ℕ)
+    (name : Vec ℕ Global) (n : ℕ)
     → messages_of most preferred fresh.asks tokens ≡ Some n
     → IsHonestStart mine theirs at_x at_y preferred tokens offered fresh proposal x y name → EndsFromOffer most X Y mine theirs offered fresh proposal
 start most X Y mine theirs at_x at_y pair true tokens offered fresh proposal x y name n e h = λ out o.
@@ -308,13 +302,13 @@ start most X Y mine theirs at_x at_y pair true tokens offered fresh proposal x y
     elim (takes_up mine theirs at_x at_y true tokens offered fresh proposal x y name out h o) [
       | inl memory ↦ subst (AfterOffer (λ side sent. EndsFromReply most X Y mine theirs offered side sent)) (sym memory) refl
       | inr step ↦
-        let side = taken_up y step.0 (terms_of true fresh.asks) proposal.list in
-        let goes : GoesOn theirs Acceptor side (Some step.1.0) None (items_in proposal.token) None out
-        = subst (λ mic. GoesOn theirs Acceptor side (Some step.1.0) None (items_in proposal.token) mic out) (ap items_in h.mic)
+          let side = taken_up y step.0 (terms_of true fresh.asks) proposal.list in
+          let goes : GoesOn theirs Acceptor side (Some step.1.0) None (items_in proposal.token) None out
+          = subst (λ mic. GoesOn theirs Acceptor side (Some step.1.0) None (items_in proposal.token) mic out) (ap items_in h.mic)
           (subst (λ looks. FirstAnswers theirs side step.1.0 (items_in proposal.token) (items_in proposal.mic) looks out) h.token step.1.1.1.1) in
-        first_goes most X Y mine theirs at_x at_y pair tokens offered x side step.1.0 proposal.token m.0 out h.established
-        (ap (λ arcs. picks mine offered.first offered.others.items (Some arcs)) step.1.1.1.0 ∙ h.picked) h.list
-        (step.1.1.0 ∙ sym step.1.1.1.0) refl h.starts m.1 goes
+          first_goes most X Y mine theirs at_x at_y pair tokens offered x side step.1.0 proposal.token m.0 out h.established
+          (ap (λ arcs. picks mine offered.first offered.others.items (Some arcs)) step.1.1.1.0 ∙ h.picked) h.list
+          (step.1.1.0 ∙ sym step.1.1.1.0) refl h.starts m.1 goes
     ]
 start most X Y mine theirs at_x at_y pair false tokens offered fresh proposal x y name n e h = λ out o.
     let count : counted (redirected most tokens (terms_of false fresh.asks)) ≡ Some n
@@ -323,9 +317,9 @@ start most X Y mine theirs at_x at_y pair false tokens offered fresh proposal x 
     elim (takes_up mine theirs at_x at_y false tokens offered fresh proposal x y name out h o) [
       | inl memory ↦ subst (AfterOffer (λ side sent. EndsFromReply most X Y mine theirs offered side sent)) (sym memory) refl
       | inr step ↦
-        redirects most X Y mine theirs at_x at_y pair tokens offered x (taken_up y step.0 (terms_of false fresh.asks) proposal.list) step.1.0 m.0 out
-        h.established (ap (λ arcs. picks mine offered.first offered.others.items (Some arcs)) step.1.1.1.0 ∙ h.picked) h.list
-        (step.1.1.0 ∙ sym step.1.1.1.0) refl h.starts m.1 step.1.1.1.1
+          redirects most X Y mine theirs at_x at_y pair tokens offered x (taken_up y step.0 (terms_of false fresh.asks) proposal.list) step.1.0 m.0 out
+          h.established (ap (λ arcs. picks mine offered.first offered.others.items (Some arcs)) step.1.1.1.0 ∙ h.picked) h.list
+          (step.1.1.0 ∙ sym step.1.1.1.0) refl h.starts m.1 step.1.1.1.1
     ]
 
 -- ---- the beginning
@@ -340,7 +334,8 @@ pub begins : {X Y : Type 0} (mine : Meaning X) (theirs : Meaning Y) (at_x at_y :
 begins mine theirs at_x at_y pair tokens first others list offered token y b at =
     let t : (progress_in b.1.0 ≡ progress_of tokens) × at_y (left_after tokens) (items_in (token_in b.1.0)) b.0 y
     = pair.x_half.turns tokens None first y b.0 b.1.0 at b.1.1.0 in
-    let is = same_offered offered _ (ap (λ r. r.0) b.1.1.1) in
-    (ap (λ o. o.established) is ∙ ap (λ p. not (continues p)) t.0,
-    subst (λ k. at_y (left_after tokens) (items_in k) offered.first y) (sym (ap (λ r. r.1) b.1.1.1))
-    (subst (λ o. at_y (left_after tokens) (items_in (token_in b.1.0)) o.first y) (sym is) t.1))
+    let is = same_offered offered _ (ap (λ r. r.0) b.1.1.1) in (
+      ap (λ o. o.established) is ∙ ap (λ p. not (continues p)) t.0,
+      subst (λ k. at_y (left_after tokens) (items_in k) offered.first y) (sym (ap (λ r. r.1) b.1.1.1))
+          (subst (λ o. at_y (left_after tokens) (items_in (token_in b.1.0)) o.first y) (sym is) t.1),
+    )

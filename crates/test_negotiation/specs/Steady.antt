@@ -4,8 +4,12 @@ use Rattle.krb_spnego_rules.specs.Decisions.{continues}
 use Rattle.krb_spnego_rules.specs.Meaning.{IsSteady}
 use Rattle.test_negotiation.specs.Toy.{is_arc, is_mic, less, progress_at, toy_meaning}
 
+abbrev IsYes : Bool → Type 0
+IsYes true = Unit {0}
+IsYes false = ⊥
+
 true_false : true ≡ false → ⊥
-true_false e = cc
+true_false e = subst IsYes e tt
 
 none_left : (left : ℕ) → continues (progress_at left) ≡ false → less left ≡ zero
 none_left zero e = refl
