@@ -1,5 +1,5 @@
 -- A mechanism that protects nothing: tokens in turn, and MICs that are a key and the text.
-use Rattle.std.specs.Prelude.{◌≡◌, ◌&&◌, ◌==◌, nat_eq, ℕ, zero, suc, List, [], ◌∷◌, Bool, true, false, Option, Some, None, is_some}
+use Rattle.std.specs.Prelude.{◌≡◌, ◌&&◌, ◌==◌, nat_eq, ℕ, zero, suc, List, [], ◌∷◌, Bool, true, false, is_some}
 use Rattle.std.specs.Cmp.Lexicographic.{pointwise}
 use Rattle.krb_spnego_rules.specs.Meaning.{Meaning}
 use Rattle.krb_spnego_rules.specs.Turns.{progress_in}
