@@ -66,14 +66,14 @@ pub extern "C" fn krb_channel_bindings(
           initiator_address = initiator_address.now;
           acceptor_type = acceptor_type;
           acceptor_address = acceptor_address.now;
-          application_data = data.now;
+          application_data = «data».now;
         }))
         (RefusesBindings (record {
           initiator_type = initiator_type;
           initiator_address = initiator_address.now;
           acceptor_type = acceptor_type;
           acceptor_address = acceptor_address.now;
-          application_data = data.now;
+          application_data = «data».now;
         })) out.old out.new size.new result }
 {
     let bindings = ChannelBindings {
