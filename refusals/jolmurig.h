@@ -15,8 +15,8 @@
 #define USAGE \
     "jolmurig: wrong arguments: usage: jolmurig show [OPTION].. [FILE], " \
     "jolmurig check --as TYPE [FILE], jolmurig list [FILE], " \
-    "jolmurig convert kirbi|ccache [FILE] or jolmurig proxy request|reply [FILE]; " \
-    "see jolmurig --help\n"
+    "jolmurig convert kirbi|ccache [FILE], jolmurig proxy request|reply [FILE] " \
+    "or jolmurig accept --keytab FILE [OPTION].. [FILE]; see jolmurig --help\n"
 
 /* Digits of octets that several rows have: inputs, and what is shown of them. */
 #define AP_REP \

@@ -1,8 +1,10 @@
 -- What the arguments after the program's name ask for.
-use Rattle.std.specs.Prelude.{ℕ, nat_eq, Bool, true, false, ◌||◌, if◌then◌else◌, option_and_then, Option, Some, None, List, [], ◌∷◌, ◌++◌, codes}
+use Rattle.std.specs.Prelude.{ℕ, Bool, true, false, ◌||◌, if◌then◌else◌, option_and_then, Option, Some, None, List, [], ◌∷◌, ◌++◌, codes}
 use Rattle.std.specs.Option.{option_map}
-use Rattle.std.specs.Cmp.Lexicographic.{pointwise}
+use Rattle.jolmurig.specs.AcceptArguments.{accept_options}
+use Rattle.jolmurig.specs.Accepts.{no_option}
 use Rattle.jolmurig.specs.Shows.{Show, nothing_asked}
+use Rattle.jolmurig.specs.Words.{file_name, is_help, is_word}
 use Rattle.jolmurig.specs.declared.command.Command.{Command}
 use Rattle.jolmurig.specs.declared.command.Command.TheVariants as command
 use Rattle.jolmurig.specs.declared.command.Direction.{Direction}
@@ -13,18 +15,6 @@ use Rattle.jolmurig.specs.declared.command.Output.{Output}
 use Rattle.jolmurig.specs.declared.command.Output.TheVariants as output
 use Rattle.jolmurig.specs.declared.command.SourceKind.{SourceKind}
 use Rattle.jolmurig.specs.declared.command.SourceKind.TheVariants as source
-
--- whether an argument is this word
-abbrev pub is_word : List ℕ → List ℕ → Bool
-is_word argument word = pointwise nat_eq argument word
-
-abbrev pub is_help : List ℕ → Bool
-is_help argument = is_word argument (codes "--help") || is_word argument (codes "-h")
-
--- the name of a file, which does not begin with `-` (45)
-abbrev pub file_name : List ℕ → Option (List ℕ)
-file_name [] = None
-file_name (first ∷ rest) = if nat_eq first 45 then None else Some (first ∷ rest)
 
 -- ---- options of `show` without a value; a tree once, and one output
 
@@ -172,6 +162,7 @@ command_of name rest =
     else if is_word name (codes "list") then of_operand command.List rest
     else if is_word name (codes "convert") then conversion_of rest
     else if is_word name (codes "proxy") then proxy_of rest
+    else if is_word name (codes "accept") then accept_options no_option rest
     else None
 
 -- the arguments ask for this; none where they are no command

@@ -15,11 +15,18 @@ use Rattle.krb_show_any.specs.Names.{kind_name}
 use Rattle.krb_show_any.specs.declared.kind.Kind.{Kind}
 use Rattle.krb_show_any.specs.declared.kind.Kind.TheVariants as kinds
 use Rattle.jolmurig.specs.declared.failure.Failure.{Failure}
-use Rattle.jolmurig.specs.declared.failure.Failure.TheVariants.{Arguments, Key, KeyFile, KeyInFile, KeytabFile, Keytab, PasswordFile, NotBase64, UnknownKind, NoEntries, Convert, Proxy, Octets, Memory, Read, Write}
+use Rattle.jolmurig.specs.declared.failure.Failure.TheVariants.{Arguments, Key, KeyFile, KeyInFile, KeytabFile, Keytab, PasswordFile, NotBase64, UnknownKind, NoEntries, Convert, Proxy, Octets, Time, Skew, Bindings, Refused, Memory, Read, Write}
+use Rattle.jolmurig.specs.declared.failure.Failure.TheVariants as failure
+use Rattle.jolmurig.specs.declared.failure.Undecided.{Undecided}
+use Rattle.jolmurig.specs.declared.failure.Undecided.TheVariants as undecided
 
 abbrev pub status_of_failure : Failure → ℕ
 status_of_failure Arguments = 2
 status_of_failure Key = 2
+status_of_failure Time = 2
+status_of_failure Skew = 2
+status_of_failure Bindings = 2
+status_of_failure (failure.Undecided why) = 2
 status_of_failure e = 1
 
 -- a message begins with its application tag, constructed (RFC 4120, 5.10; X.690, 8.1.2)
@@ -31,6 +38,25 @@ abbrev pub breaker : ProxyError → List ℕ
 breaker (proxy.Pvno k) = kind_name (kind_of_message k)
 breaker (proxy.MsgType k) = kind_name (kind_of_message k)
 breaker rule = codes "proxy"
+
+-- what nothing is decided of a token for, and why
+abbrev pub undecided_subject : Undecided → List ℕ
+undecided_subject undecided.KeytabFile = codes "--keytab"
+undecided_subject (undecided.Keytab why) = codes "--keytab"
+undecided_subject undecided.Clock = codes "clock"
+undecided_subject undecided.NotBase64 = codes "base64"
+undecided_subject undecided.Memory = codes "memory"
+undecided_subject undecided.Read = codes "reading"
+undecided_subject undecided.Write = codes "writing"
+
+abbrev pub undecided_reason : Undecided → List ℕ
+undecided_reason undecided.KeytabFile = codes "the file could not be read"
+undecided_reason (undecided.Keytab why) = page_reason (page.Keytab why)
+undecided_reason undecided.Clock = codes "the clock could not be read; --time names a time"
+undecided_reason undecided.NotBase64 = codes "the input begins as PEM or as a header of HTTP, and no base64 follows"
+undecided_reason undecided.Memory = codes "an allocation failed"
+undecided_reason undecided.Read = codes "the input could not be read"
+undecided_reason undecided.Write = codes "the output could not be written"
 
 -- what the failure is of
 abbrev pub subject : Failure → List ℕ
@@ -47,6 +73,11 @@ subject NoEntries = codes "list"
 subject (Convert rule) = codes "convert"
 subject (Proxy rule) = breaker rule
 subject (Octets kind why place) = kind_name kind
+subject Time = codes "--time"
+subject Skew = codes "--skew"
+subject Bindings = codes "--bindings"
+subject (failure.Undecided why) = undecided_subject why
+subject Refused = codes "refused"
 subject Memory = codes "memory"
 subject Read = codes "reading"
 subject Write = codes "writing"
@@ -86,7 +117,7 @@ rule_of_proxy other = codes "the octets are no encoding"
 -- what happened
 abbrev pub reason : Failure → List ℕ
 reason Arguments =
-    codes "usage: jolmurig show [OPTION].. [FILE], jolmurig check --as TYPE [FILE], jolmurig list [FILE], jolmurig convert kirbi|ccache [FILE] or jolmurig proxy request|reply [FILE]; see jolmurig --help"
+    codes "usage: jolmurig show [OPTION].. [FILE], jolmurig check --as TYPE [FILE], jolmurig list [FILE], jolmurig convert kirbi|ccache [FILE], jolmurig proxy request|reply [FILE] or jolmurig accept --keytab FILE [OPTION].. [FILE]; see jolmurig --help"
 reason Key =
     codes "a key is ETYPE:HEX, where ETYPE is 16 to 20 or the name of such an encryption type, and HEX the octets of a key of its length"
 reason KeyFile = codes "the file could not be read"
@@ -101,6 +132,11 @@ reason NoEntries = codes "the octets begin as neither a keytab nor a credential 
 reason (Convert rule) = rule_of rule
 reason (Proxy rule) = rule_of_proxy rule
 reason (Octets kind why place) = page_reason why
+reason Time = codes "a time is the seconds since 1970 in decimal, or as 2026-01-02T03:04:05Z, of a year of 0 to 9999"
+reason Skew = codes "the skew is a number of seconds in decimal, of 0 to 4294967295"
+reason Bindings = codes "channel bindings are 32 hexadecimal digits, an MD5"
+reason (failure.Undecided why) = undecided_reason why
+reason Refused = codes "the output says why"
 reason Memory = codes "an allocation failed"
 reason Read = codes "the input could not be read"
 reason Write = codes "the output could not be written"
@@ -118,8 +154,13 @@ place_text None = []
 place_text (Some at) = placed at
 
 -- jolmurig: SUBJECT: REASON, and, if it is known, the place
+abbrev pub own_line : Failure → List ℕ
+own_line e = codes "jolmurig: " ++ subject e ++ codes ": " ++ reason e ++ place_text (place e) ++ 10 ∷ []
+
+-- that line; none where the output says why
 abbrev pub line_of : Failure → List ℕ
-line_of e = codes "jolmurig: " ++ subject e ++ codes ": " ++ reason e ++ place_text (place e) ++ 10 ∷ []
+line_of Refused = []
+line_of e = own_line e
 
 -- what an error of the input is reported as
 abbrev pub of_input : InputError → Failure → Type 0

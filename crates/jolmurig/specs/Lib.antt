@@ -1,3 +1,6 @@
+pub mod Words
+pub mod Accepts
+pub mod AcceptArguments
 pub mod Shows
 pub mod Arguments
 pub mod Failures
@@ -11,4 +14,5 @@ pub mod Warnings
 pub mod Checks
 pub mod Conversions
 pub mod Passages
+pub mod Judgements
 pub mod Outcome

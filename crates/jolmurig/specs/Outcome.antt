@@ -1,5 +1,5 @@
 -- What a run of the program did, and with which status it ended.
-use Rattle.std.specs.Prelude.{◌≡◌, ◌⊎◌, ℕ, Bool, true, false, List, [], ◌∷◌, ◌++◌, unwrap_or, Option, None, Some, Result, Ok, Err, IsOk, MatchResult, Vec}
+use Rattle.std.specs.Prelude.{◌≡◌, ◌⊎◌, ℕ, ℤ, Bool, true, false, List, [], ◌∷◌, ◌++◌, unwrap_or, Option, None, Some, Result, Ok, Err, IsOk, MatchResult, Vec}
 use Rattle.std.specs.declared.alloc.Global.{Global}
 use Rattle.std.specs.Io.KnownBytes.{Appends, Keeps}
 use Rattle.std.specs.declared.io.Error.{Error}
@@ -11,10 +11,15 @@ use Rattle.krb_show_any.specs.declared.error.PageError.{PageError}
 use Rattle.krb_show_any.specs.Names.{IsNamed}
 use Rattle.krb_show_any.specs.declared.kind.Kind.TheVariants as kinds
 use Rattle.krb_decrypt.specs.Keys.{NamedKey}
+use Rattle.krb_accept.specs.declared.settings.Settings.{Settings}
+use Rattle.krb_accept_report.specs.Questions.{Question}
+use Rattle.krb_accept_report.specs.declared.report.ReportError.{ReportError}
+use Rattle.jolmurig.specs.Accepts.{Accept}
 use Rattle.jolmurig.specs.Answers.{ArePrintableLines, IsRefused, IsWritten, Openers}
 use Rattle.jolmurig.specs.Calls.{Blocks, Breaks, Converts, Lists, Opens, Passes, Places, Refuses}
 use Rattle.jolmurig.specs.Checks.{IsChecked, IsUnchecked}
 use Rattle.jolmurig.specs.Conversions.{IsConverted, IsUnconverted}
+use Rattle.jolmurig.specs.Judgements.{IsNoService, IsService, Ticks, failure_of_report, undecided_of}
 use Rattle.jolmurig.specs.Lists.{IsListed, IsUnlisted}
 use Rattle.jolmurig.specs.Passages.{IsBlocked}
 use Rattle.jolmurig.specs.Passwords.{ArePasswords, HasNoPassword}
@@ -30,7 +35,7 @@ use Rattle.jolmurig.specs.declared.command.Format.{Format}
 use Rattle.jolmurig.specs.declared.command.Output.{Output}
 use Rattle.jolmurig.specs.declared.command.Output.TheVariants as output
 use Rattle.jolmurig.specs.declared.failure.Failure.{Failure}
-use Rattle.jolmurig.specs.declared.failure.Failure.TheVariants.{Arguments, Memory, NotBase64, Read, Write}
+use Rattle.jolmurig.specs.declared.failure.Failure.TheVariants.{Arguments, Memory, NotBase64, Read, Refused, Write}
 
 -- ---- standard error, and the status
 
@@ -152,6 +157,66 @@ IsProxyRun gives passes blocks way file left rest before after outcome =
     × IsWrittenRun (λ made notes. (octets : List ℕ) × IsInput gives file left octets × passes way octets made notes)
     (λ e. IsNoInput gives file e ⊎ ((octets : List ℕ) × IsInput gives file left octets × IsBlocked blocks way octets e)) before after outcome
 
+-- ---- `accept`
+
+-- what is said of a token: what is asked about it, whether its client is let in, and the line; why nothing is said of it
+abbrev pub Judges : Type 1
+Judges = Question → Bool → List ℕ → Type 0
+
+abbrev pub Misjudges : Type 1
+Misjudges = Question → ReportError → Type 0
+
+abbrev pub question_of : List ℕ → List ℕ → ℤ → ℕ → Settings → Question
+question_of keytab octets clock skew settings = record { keytab = keytab; octets = octets; clock = clock; skew = skew; settings = settings }
+
+-- What files give, and a clock tells.
+module _ (gives : Gives) (ticks : Ticks) where
+  -- this is said of the octets of the input
+  pub record IsJudged (judges : Judges) (a : Accept) (left : Option (List ℕ)) (accepts : Bool) (line : List ℕ) : Type 0 where
+    pub skew : ℕ
+    pub settings : Settings
+    pub clock : ℤ
+    pub keytab : List ℕ
+    pub is_service : IsService gives ticks a skew settings clock keytab
+    pub octets : List ℕ
+    pub are_read : AreRead gives a.file left octets
+    pub said : judges (question_of keytab octets clock skew settings) accepts line
+
+  -- nothing is said: the input is not read, or the keytab is none
+  pub record HasNoJudgement (misjudges : Misjudges) (a : Accept) (left : Option (List ℕ)) (e : Failure) : Type 0 where
+    pub skew : ℕ
+    pub settings : Settings
+    pub clock : ℤ
+    pub keytab : List ℕ
+    pub is_service : IsService gives ticks a skew settings clock keytab
+    pub none : AreNotRead gives a.file left e
+        ⊎ ((octets : List ℕ) × AreRead gives a.file left octets
+        × ((why : ReportError) × misjudges (question_of keytab octets clock skew settings) why × (e ≡ failure_of_report why)))
+
+  -- or there is no service, and nothing is read; or an allocation failed
+  abbrev pub IsNotJudged : Misjudges → Accept → Option (List ℕ) → Option (List ℕ) → Failure → Type 0
+  IsNotJudged misjudges a left rest e =
+      (e ≡ Memory) ⊎ ((Keeps left rest × IsNoService gives ticks a e) ⊎ HasNoJudgement misjudges a left e)
+
+  -- What is written is the line, with a line feed. Of one that is accepted there are no notes; of one that is refused the failure says so. Else nothing was
+  -- written, or not all of it, and the failure says that nothing is decided.
+  abbrev pub IsAcceptRun : Judges → Misjudges → Accept → Option (List ℕ) → Option (List ℕ) → Option (List ℕ) → Option (List ℕ) → Outcome → Type 0
+  IsAcceptRun judges misjudges a left rest before after outcome =
+      IsLeft a.file left rest
+      × MatchResult outcome
+      (λ notes. (notes.items ≡ []) × ((line : List ℕ) × IsJudged judges a left true line × Appends before after (line ++ 10 ∷ [])))
+      (λ e. ((e ≡ Refused) × ((line : List ℕ) × IsJudged judges a left false line × Appends before after (line ++ 10 ∷ [])))
+      ⊎ ((why : Failure) × (e ≡ undecided_of why)
+      × ((Keeps before after × IsNotJudged misjudges a left rest why)
+      ⊎ ((why ≡ Write) × ((accepts : Bool) × (line : List ℕ) × IsJudged judges a left accepts line × HasTaken (line ++ 10 ∷ []) before after)))))
+
+-- what becomes of a line: it is written whole; or memory was wanting, or the writer failed
+abbrev pub IsReportWritten : Bool → List ℕ → Option (List ℕ) → Option (List ℕ) → Outcome → Type 0
+IsReportWritten accepts line before after outcome =
+    MatchResult outcome (λ notes. (notes.items ≡ []) × (accepts ≡ true) × Appends before after (line ++ 10 ∷ []))
+    (λ e. ((e ≡ Refused) × (accepts ≡ false) × Appends before after (line ++ 10 ∷ []))
+    ⊎ (((e ≡ Memory) × Keeps before after) ⊎ ((e ≡ Write) × HasTaken (line ++ 10 ∷ []) before after)))
+
 -- ---- `show`
 
 -- the type that is asked for has this kind: none where none is asked for
@@ -227,7 +292,8 @@ module _ (tells : Kind → List ℕ → Result (Vec Token Global) PageError → 
 
   -- ---- the whole
 
-  module _ (places : Places) (breaks : Breaks) (lists : Lists) (converts : Converts) (refuses : Refuses) (passes : Passes) (blocks : Blocks) where
+  module _ (places : Places) (breaks : Breaks) (lists : Lists) (converts : Converts) (refuses : Refuses) (passes : Passes) (blocks : Blocks)
+      (judges : Judges) (misjudges : Misjudges) (ticks : Ticks) where
     -- A run of this command over an input (`rest` of it is left), where its octets and those of the output (before and after) are known.
     abbrev pub IsRun : Option Command → List ℕ → Option (List ℕ) → Option (List ℕ) → Option (List ℕ) → Option (List ℕ) → Outcome → Type 0
     IsRun None help input rest before after outcome = (outcome ≡ Err Arguments) × Keeps input rest × Keeps before after
@@ -239,6 +305,7 @@ module _ (tells : Kind → List ℕ → Result (Vec Token Global) PageError → 
     IsRun (Some (command.Convert to file)) help input rest before after outcome =
         IsConvertRun gives converts refuses to file input rest before after outcome
     IsRun (Some (command.Proxy way file)) help input rest before after outcome = IsProxyRun gives passes blocks way file input rest before after outcome
+    IsRun (Some (command.Accept a)) help input rest before after outcome = IsAcceptRun gives ticks judges misjudges a input rest before after outcome
 
     -- A run with these arguments: that of the command that they ask for; or no memory was left to read them.
     abbrev pub IsRunOf : List (List ℕ) → List ℕ → Option (List ℕ) → Option (List ℕ) → Option (List ℕ) → Option (List ℕ) → Outcome → Type 0

@@ -1,6 +1,9 @@
 //! What the program calls of the library.
 
-ghost use Rattle.std.specs.Prelude.{IfOk, IfErr, ℕ, List, Option};
+ghost use Rattle.std.specs.Prelude.{IfOk, IfErr, Bool, ℕ, List, Option};
+ghost use Rattle.krb_accept_report.specs.Questions.{Question};
+ghost use Rattle.krb_accept_report.specs.Reports.{IsNotSaid, IsReport};
+ghost use Rattle.krb_accept_report.specs.declared.report.ReportError.{ReportError};
 ghost use Rattle.krb_kdc_proxy.specs.Messages.{OrMemory};
 ghost use Rattle.krb_kdc_proxy.specs.Replies.{reply_types};
 ghost use Rattle.krb_kdc_proxy.specs.Requests.{types};
@@ -23,11 +26,15 @@ ghost use Rattle.jolmurig.specs.declared.calls.Entries.{Entries};
 
 use crate::command::{Direction, Format};
 use crate::proxy::{Passed, reply_passed, request_passed};
+use krb_accept::Kerberos;
+use krb_accept_report::{Question, Report, ReportError, report_of};
+use krb_accept_rules::Opening;
 use krb_decrypt::{Key, TellsBehind};
 use krb_der::DerEncode;
 use krb_enc_parts::data_types::EncKrbCredPart;
 use krb_file_tools::convert::{ConvertError, Converted, ccache_of_kirbi, kirbi_of_ccache};
 use krb_file_tools::list::{ListError, list_of_ccache, list_of_keytab};
+use krb_gss_tokens::gss_api::{ApplicationTag0, GssApiNegInit};
 use krb_kdc_proxy::ProxyError;
 use krb_messages::messages::{
     ApRep, ApReq, AsRep, AsReq, KdcProxyMessage, KrbCred, KrbError, KrbPriv, TgsRep, TgsReq,
@@ -37,7 +44,7 @@ use krb_show::{Page, ShowsFormats};
 use krb_show_any::{Kind, PageError, broken_rules_of, place_of_error};
 use krb_show_checksums::{Checksums, page_with_checked};
 use krb_show_messages::KerberosFormats;
-use krb_types::data_types::Ticket;
+use krb_types::data_types::{AuthorizationData, Ticket};
 use std::alloc::{AllocError, Global};
 
 /// What a file of entries is.
@@ -76,6 +83,12 @@ pub trait Calls {
     /// Why it passes on none.
     ghost blocks: { Direction → List ℕ → ProxyError → Type 0 };
 
+    /// What is said of a token: what is asked about it, whether its client is let in, and the line.
+    ghost judges: { Question → Bool → List ℕ → Type 0 };
+
+    /// Why nothing is said of it.
+    ghost misjudges: { Question → ReportError → Type 0 };
+
     /// The page with what the keys open and what is known of checksums.
     fn opened(alloc: Global, most: usize, keys: Vec<Key>, page: Page) -> Result<Page, AllocError>
         ensures { IfOk result (λ made. opens most keys.items page.items made.items) };
@@ -107,6 +120,11 @@ pub trait Calls {
     fn passed(alloc: Global, way: Direction, octets: &[u8]) -> Result<Passed, ProxyError>
         ensures found { IfOk result (λ p. passes way octets.now p.octets.items p.line.items) }
         ensures rejected { IfErr result (OrMemory (blocks way octets.now)) };
+
+    /// Whether the client of a token is let in.
+    fn judged(alloc: Global, question: &Question) -> Result<Report, ReportError>
+        ensures said { IfOk result (λ r. judges question.now r.accepts r.line.items) }
+        ensures none { IfErr result (misjudges question.now) };
 }
 
 /// The calls of the library.
@@ -133,6 +151,11 @@ impl Calls for Library {
     ghost blocks = { blocked ⟦<KdcProxyMessage as DerEncode>⟧
         (types ⟦<AsReq as DerEncode>⟧ ⟦<TgsReq as DerEncode>⟧ ⟦<ApReq as DerEncode>⟧ ⟦<KrbPriv as DerEncode>⟧)
         (reply_types ⟦<AsRep as DerEncode>⟧ ⟦<TgsRep as DerEncode>⟧ ⟦<KrbError as DerEncode>⟧ ⟦<ApRep as DerEncode>⟧ ⟦<KrbPriv as DerEncode>⟧) };
+
+    ghost judges = { IsReport ⟦<KrbCred as DerEncode>⟧ ⟦<EncKrbCredPart as DerEncode>⟧ ⟦<AuthorizationData as DerEncode>⟧
+        ⟦<ApplicationTag0<GssApiNegInit> as DerEncode>⟧ ⟦<Kerberos as Opening>⟧ };
+
+    ghost misjudges = { IsNotSaid };
 
     fn opened(alloc: Global, most: usize, keys: Vec<Key>, page: Page) -> Result<Page, AllocError> {
         page_with_checked(alloc, most, keys, page)
@@ -170,5 +193,9 @@ impl Calls for Library {
             Direction::Request => request_passed(alloc, octets),
             Direction::Reply => reply_passed(alloc, octets),
         }
+    }
+
+    fn judged(alloc: Global, question: &Question) -> Result<Report, ReportError> {
+        report_of(alloc, question)
     }
 }

@@ -1,5 +1,6 @@
 //! What the program is asked to do.
 
+use krb_accept::PacCheck;
 use std::marker::Model;
 
 /// What is written of a page.
@@ -151,6 +152,45 @@ impl<'a> Model for Operand<'a> {
     ghost view = { λ o. option_copied o.file };
 }
 
+/// What is asked about a token.
+#[derive(Debug, Drop)]
+pub struct Accept<'a> {
+    /// The name of the service's keytab: the option `--keytab`.
+    pub keytab: Option<&'a str>,
+    /// The service's time, as a text: the option `--time`.
+    pub time: Option<&'a str>,
+    /// The skew, as a text: the option `--skew`.
+    pub skew: Option<&'a str>,
+    /// The hash of the service's channel bindings, as a text: the option `--bindings`.
+    pub bindings: Option<&'a str>,
+    /// What is done with the PAC: the option `--pac`.
+    pub pac: Option<PacCheck>,
+    /// Whether an AP-REQ with no frame is taken: the option `--bare`.
+    pub is_bare: bool,
+    /// Whether an authenticator with another checksum is taken: the option `--other-checksum`.
+    pub takes_other: bool,
+    /// The name of the file that is read; standard input where there is none.
+    pub file: Option<&'a str>,
+}
+
+impl<'a> Model for Accept<'a> {
+    ghost use Rattle.std.specs.Option.{option_copied};
+    ghost use Rattle.jolmurig.specs.Accepts.{Accept};
+
+    ghost Value = { Accept };
+
+    ghost view = { λ a. record {
+      keytab = option_copied a.keytab;
+      time = option_copied a.time;
+      skew = option_copied a.skew;
+      bindings = option_copied a.bindings;
+      pac = a.pac;
+      is_bare = a.is_bare;
+      takes_other = a.takes_other;
+      file = option_copied a.file;
+    } };
+}
+
 /// What is asked for by the arguments.
 #[derive(Debug, Drop)]
 pub enum Command<'a> {
@@ -166,4 +206,6 @@ pub enum Command<'a> {
     Convert(Format, Operand<'a>),
     /// What a proxy passes on of the octets of a file or of standard input: `proxy`.
     Proxy(Direction, Operand<'a>),
+    /// Whether a service lets the client of a token in: `accept`.
+    Accept(Accept<'a>),
 }

@@ -1,31 +1,35 @@
 //! The program over any reader and any writers.
 
-ghost use Rattle.std.specs.Prelude.{◌≡◌, ◌⊎◌, [], map, option_copied, IfOk, IfErr, OnOk, MatchResult, Err};
+ghost use Rattle.std.specs.Prelude.{◌≡◌, ◌⊎◌, ◌×◌, ◌++◌, ◌∷◌, [], true, false, map, option_copied, IfOk, IfErr, OnOk, MatchResult, Err};
 ghost use Rattle.std.specs.Io.KnownBytes.{Appends};
 ghost use Rattle.std.specs.String.{string_bytes};
 ghost use Rattle.jolmurig.specs.Failures.{line_of, status_of_failure};
-ghost use Rattle.jolmurig.specs.Outcome.{AreNotesWritten, HasTaken, IsCheckRun, IsCheckRunAs, IsConvertRun, IsInputRejected, IsKindOf, IsLeft, IsLineWritten, IsListRun, IsMade, IsTold};
+ghost use Rattle.jolmurig.specs.Outcome.{AreNotesWritten, HasTaken, IsAcceptRun, IsReportWritten};
+ghost use Rattle.jolmurig.specs.Outcome.{IsCheckRun, IsCheckRunAs, IsConvertRun, IsInputRejected, IsKindOf, IsLeft, IsLineWritten, IsListRun, IsMade, IsTold};
 ghost use Rattle.jolmurig.specs.Outcome.{IsNotMade, IsOfNoKind, IsPrepared, IsProxyRun, IsRun, IsRunOf, IsShowRun, IsUnprepared, Outcome, output_of, placed_output, status_of};
 ghost use Rattle.jolmurig.specs.declared.failure.Failure.{Failure};
 
 use crate::answer::shown;
 use crate::calls::Calls;
 use crate::check::check_octets;
-use crate::command::{Command, Direction, Format, Output, Show};
+use crate::clock::Clock;
+use crate::command::{Accept, Command, Direction, Format, Output, Show};
 use crate::convert::{Conversion, conversion_of};
 use crate::failure::Failure;
 use crate::files::Files;
 use crate::help::HELP;
 use crate::input::{read_input, read_octets};
+use crate::judge::{judge, undecided_of};
 use crate::keys::keys_of_sources;
 use crate::list::list_of;
 use crate::openers::Openers;
 use crate::parse::parse;
 use crate::passwords::passwords_of_files;
 use crate::proxy::{Passed, passed_of};
+use krb_accept_report::Report;
 use krb_io::write_all;
 use krb_show_any::{Kind, PageError, Pages, kind_of_name};
-use std::alloc::Global;
+use std::alloc::{AllocError, Global};
 use std::io;
 use std::io::{Read, Write};
 
@@ -276,15 +280,69 @@ fn pass_on<C: Calls, F: Files, R: Read, W: Write>(
     write_with_notes(output, &octets, line)
 }
 
+/// A line with its line feed.
+fn with_line_feed(line: Vec<u8>) -> Result<Vec<u8>, AllocError>
+    ensures { IfOk result (λ whole. whole.items ≡ line.items ++ 10 ∷ []) }
+{
+    let mut whole = line;
+    whole.push(b'\n')?;
+    Ok(whole)
+}
+
+/// What a line that is written comes to.
+fn outcome_of(alloc: Global, accepts: bool) -> Result<Vec<u8>, Failure>
+    ensures { MatchResult result (λ notes. (notes.items ≡ []) × (accepts ≡ true)) (λ e. (e ≡ Failure.Refused) × (accepts ≡ false)) }
+{
+    if accepts {
+        Ok(Vec::new(alloc))
+    } else {
+        Err(Failure::Refused)
+    }
+}
+
+/// Writes what is said of a token. The failure `Refused` says that its client is not let in.
+fn write_report<W: Write>(
+    alloc: Global,
+    output: &mut W,
+    report: Report,
+) -> Result<Vec<u8>, Failure>
+    ensures { IsReportWritten report.accepts report.line.items (W.contents output.old) (W.contents output.new) result }
+{
+    let accepts = report.accepts;
+    let line = with_line_feed(report.line)?;
+    write_out(output, &line)?;
+    outcome_of(alloc, accepts)
+}
+
+/// Says whether a service lets the client of a token in.
+fn accept<C: Calls, F: Files + Clock, R: Read, W: Write>(
+    alloc: Global,
+    asked: &Accept,
+    files: &F,
+    input: &mut R,
+    output: &mut W,
+) -> Result<Vec<u8>, Failure>
+    ensures { IsAcceptRun (F.gives files.now) (F.ticks files.now) C.judges C.misjudges asked.now (R.remaining input.old) (R.remaining input.new)
+        (W.contents output.old) (W.contents output.new) result }
+{
+    match judge::<C, F, R>(alloc, asked, files, input) {
+        Ok(report) => match write_report(alloc, output, report) {
+            Ok(notes) => Ok(notes),
+            Err(failure) => Err(undecided_of(failure)),
+        },
+        Err(failure) => Err(undecided_of(failure)),
+    }
+}
+
 /// Does what a command asks for.
-fn obey<S: Pages<Kind, PageError>, C: Calls, F: Files, R: Read, W: Write>(
+fn obey<S: Pages<Kind, PageError>, C: Calls, F: Files + Clock, R: Read, W: Write>(
     alloc: Global,
     command: Option<Command>,
     files: &F,
     input: &mut R,
     output: &mut W,
 ) -> Result<Vec<u8>, Failure>
-    ensures { IsRun S.tells C.opens (F.gives files.now) C.places C.breaks C.lists C.converts C.unconverted C.passes C.blocks command.entry HELP.now
+    ensures { IsRun S.tells C.opens (F.gives files.now) C.places C.breaks C.lists C.converts C.unconverted C.passes C.blocks C.judges C.misjudges (F.ticks files.now) command.entry HELP.now
         (R.remaining input.old) (R.remaining input.new) (W.contents output.old) (W.contents output.new) result }
 {
     match command {
@@ -301,18 +359,19 @@ fn obey<S: Pages<Kind, PageError>, C: Calls, F: Files, R: Read, W: Write>(
         Some(Command::Proxy(way, of)) => {
             pass_on::<C, F, R, W>(alloc, way, of.file, files, input, output)
         }
+        Some(Command::Accept(asked)) => accept::<C, F, R, W>(alloc, &asked, files, input, output),
     }
 }
 
 /// Does what the arguments ask for. Returned are notes, none or lines.
-fn perform<S: Pages<Kind, PageError>, C: Calls, F: Files, R: Read, W: Write>(
+fn perform<S: Pages<Kind, PageError>, C: Calls, F: Files + Clock, R: Read, W: Write>(
     alloc: Global,
     arguments: &[String],
     files: &F,
     input: &mut R,
     output: &mut W,
 ) -> Result<Vec<u8>, Failure>
-    ensures { IsRunOf S.tells C.opens (F.gives files.now) C.places C.breaks C.lists C.converts C.unconverted C.passes C.blocks (map string_bytes arguments.now) HELP.now
+    ensures { IsRunOf S.tells C.opens (F.gives files.now) C.places C.breaks C.lists C.converts C.unconverted C.passes C.blocks C.judges C.misjudges (F.ticks files.now) (map string_bytes arguments.now) HELP.now
         (R.remaining input.old) (R.remaining input.new) (W.contents output.old) (W.contents output.new) result }
 {
     let command = parse(alloc, arguments)?;
@@ -363,7 +422,7 @@ fn note<E: Write>(notes: &[u8], errors: &mut E) -> io::Result<()>
 }
 
 /// One run of the program: its status; and one line to `errors` if it fails, else its notes.
-pub fn run<S: Pages<Kind, PageError>, C: Calls, F: Files, R: Read, W: Write, E: Write>(
+pub fn run<S: Pages<Kind, PageError>, C: Calls, F: Files + Clock, R: Read, W: Write, E: Write>(
     alloc: Global,
     arguments: &[String],
     files: &F,
@@ -373,7 +432,7 @@ pub fn run<S: Pages<Kind, PageError>, C: Calls, F: Files, R: Read, W: Write, E: 
 ) -> Ended
     ensures ran { (outcome : Outcome) × (result.status ≡ status_of outcome)
         × IsLineWritten (E.contents errors.old) (E.contents errors.new) result.told outcome
-        × IsRunOf S.tells C.opens (F.gives files.now) C.places C.breaks C.lists C.converts C.unconverted C.passes C.blocks (map string_bytes arguments.now) HELP.now
+        × IsRunOf S.tells C.opens (F.gives files.now) C.places C.breaks C.lists C.converts C.unconverted C.passes C.blocks C.judges C.misjudges (F.ticks files.now) (map string_bytes arguments.now) HELP.now
         (R.remaining input.old) (R.remaining input.new) (W.contents output.old) (W.contents output.new) outcome }
 {
     match perform::<S, C, F, R, W>(alloc, arguments, files, input, output) {

@@ -4,7 +4,7 @@ ghost use Rattle.std.specs.IoError.{error_kind};
 ghost use Rattle.std.specs.Prelude.{◌≡◌, ◌≢◌, ◌++◌, IfOk, OnOk};
 ghost use Rattle.std.specs.declared.io.ErrorKind.TheVariants as kinds;
 ghost use Rattle.jolmurig.specs.declared.failure.Failure.TheVariants as failures;
-ghost use Rattle.jolmurig.specs.Failures.{breaker, kind_of_message, line_of, of_input, place, place_text, placed, reason, rule_of, rule_of_proxy, status_of_failure, subject};
+ghost use Rattle.jolmurig.specs.Failures.{breaker, kind_of_message, line_of, of_input, own_line, place, place_text, placed, reason, rule_of, rule_of_proxy, status_of_failure, subject, undecided_reason, undecided_subject};
 
 use krb_file_tools::convert::ConvertError;
 use krb_files::keytab::KeytabError;
@@ -13,6 +13,25 @@ use krb_kdc_proxy::{MessageKind, ProxyError};
 use krb_show_any::{Kind, PageError, name_of_kind};
 use std::alloc::{AllocError, Global};
 use std::io;
+
+/// Why nothing is decided of a token.
+#[derive(Clone, Copy, Debug, PartialEq, Eq)]
+pub enum Undecided {
+    /// The file of the option `--keytab` could not be read.
+    KeytabFile,
+    /// It is no keytab: its first error.
+    Keytab(KeytabError),
+    /// The clock could not be read.
+    Clock,
+    /// The input begins as PEM or as a header of HTTP, and what follows is no base64.
+    NotBase64,
+    /// An allocation failed.
+    Memory,
+    /// The input could not be read.
+    Read,
+    /// The output could not be written.
+    Write,
+}
 
 /// Why a run is rejected.
 #[derive(Debug, Drop)]
@@ -47,6 +66,16 @@ pub enum Failure {
         why: PageError,
         place: Option<usize>,
     },
+    /// The text of the option `--time` is no time.
+    Time,
+    /// The text of the option `--skew` is no number of 32 bits.
+    Skew,
+    /// The text of the option `--bindings` is not 16 octets.
+    Bindings,
+    /// Nothing is decided of a token.
+    Undecided(Undecided),
+    /// The token is refused; the output says why.
+    Refused,
     /// An allocation failed.
     Memory,
     /// The input could not be read.
@@ -145,13 +174,47 @@ fn rule_of_proxy(rule: &ProxyError) -> &'static str
     }
 }
 
+impl Undecided {
+    /// What it is of.
+    fn subject(&self) -> &'static str
+        ensures { result.now ≡ undecided_subject self.now }
+    {
+        match self {
+            Undecided::KeytabFile | Undecided::Keytab(_) => "--keytab",
+            Undecided::Clock => "clock",
+            Undecided::NotBase64 => "base64",
+            Undecided::Memory => "memory",
+            Undecided::Read => "reading",
+            Undecided::Write => "writing",
+        }
+    }
+
+    /// What happened.
+    fn reason(&self) -> &'static str
+        ensures { result.now ≡ undecided_reason self.now }
+    {
+        match self {
+            Undecided::KeytabFile => "the file could not be read",
+            Undecided::Keytab(why) => PageError::Keytab(*why).reason(),
+            Undecided::Clock => "the clock could not be read; --time names a time",
+            Undecided::NotBase64 =>
+                "the input begins as PEM or as a header of HTTP, and no base64 follows",
+            Undecided::Memory => "an allocation failed",
+            Undecided::Read => "the input could not be read",
+            Undecided::Write => "the output could not be written",
+        }
+    }
+}
+
 impl Failure {
-    /// The status with which the program ends: 2 where the arguments are no command or name no key, else 1.
+    /// The status with which the program ends: 2 where the arguments are no command or name no key, time, skew or channel bindings, and
+    /// where nothing is decided of a token; else 1.
     pub fn status(&self) -> u8
         ensures { result ≡ status_of_failure self.now }
     {
         match self {
             Failure::Arguments | Failure::Key => 2,
+            Failure::Time | Failure::Skew | Failure::Bindings | Failure::Undecided(_) => 2,
             _ => 1,
         }
     }
@@ -176,6 +239,11 @@ impl Failure {
                 why: _,
                 place: _,
             } => name_of_kind(*kind),
+            Failure::Time => "--time",
+            Failure::Skew => "--skew",
+            Failure::Bindings => "--bindings",
+            Failure::Undecided(why) => why.subject(),
+            Failure::Refused => "refused",
             Failure::Memory => "memory",
             Failure::Read => "reading",
             Failure::Write => "writing",
@@ -188,7 +256,7 @@ impl Failure {
     {
         match self {
             Failure::Arguments =>
-                "usage: jolmurig show [OPTION].. [FILE], jolmurig check --as TYPE [FILE], jolmurig list [FILE], jolmurig convert kirbi|ccache [FILE] or jolmurig proxy request|reply [FILE]; see jolmurig --help",
+                "usage: jolmurig show [OPTION].. [FILE], jolmurig check --as TYPE [FILE], jolmurig list [FILE], jolmurig convert kirbi|ccache [FILE], jolmurig proxy request|reply [FILE] or jolmurig accept --keytab FILE [OPTION].. [FILE]; see jolmurig --help",
             Failure::Key =>
                 "a key is ETYPE:HEX, where ETYPE is 16 to 20 or the name of such an encryption type, and HEX the octets of a key of its length",
             Failure::KeyFile | Failure::KeytabFile | Failure::PasswordFile => {
@@ -209,6 +277,12 @@ impl Failure {
                 why,
                 place: _,
             } => why.reason(),
+            Failure::Time =>
+                "a time is the seconds since 1970 in decimal, or as 2026-01-02T03:04:05Z, of a year of 0 to 9999",
+            Failure::Skew => "the skew is a number of seconds in decimal, of 0 to 4294967295",
+            Failure::Bindings => "channel bindings are 32 hexadecimal digits, an MD5",
+            Failure::Undecided(why) => why.reason(),
+            Failure::Refused => "the output says why",
             Failure::Memory => "an allocation failed",
             Failure::Read => "the input could not be read",
             Failure::Write => "the output could not be written",
@@ -229,9 +303,9 @@ impl Failure {
         }
     }
 
-    /// The line that the program writes, with its newline.
-    pub fn line(&self, alloc: Global) -> Result<Vec<u8>, AllocError>
-        ensures { IfOk result (λ line. line.items ≡ line_of self.now) }
+    /// The line of a failure that has one.
+    fn own_line(&self, alloc: Global) -> Result<Vec<u8>, AllocError>
+        ensures { IfOk result (λ line. line.items ≡ own_line self.now) }
     {
         let mut line = Vec::new(alloc);
         line.extend_from_slice(b"jolmurig: ")?;
@@ -241,6 +315,16 @@ impl Failure {
         push_place(&mut line, alloc, self.place())?;
         line.push(b'\n')?;
         Ok(line)
+    }
+
+    /// The line that the program writes, with its newline: none where the output says why.
+    pub fn line(&self, alloc: Global) -> Result<Vec<u8>, AllocError>
+        ensures { IfOk result (λ line. line.items ≡ line_of self.now) }
+    {
+        match self {
+            Failure::Refused => Ok(Vec::new(alloc)),
+            _ => self.own_line(alloc),
+        }
     }
 }
 

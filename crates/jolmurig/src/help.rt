@@ -10,6 +10,7 @@ usage:
     jolmurig list [FILE]
     jolmurig convert kirbi|ccache [FILE]
     jolmurig proxy request|reply [FILE]
+    jolmurig accept --keytab FILE [OPTION].. [FILE]
     jolmurig --help
 
 show       the type of the octets, and what they hold
@@ -23,6 +24,10 @@ convert    a credential cache as a KRB-CRED in the clear (kirbi), or such a KRB-
 proxy      what a proxy in front of a KDC passes on (MS-KKDCP), where the octets are one encoding of a message that
            goes this way: of what a client posts (request) the message behind its length, as it goes over a stream,
            and on standard error a line for whom; of what a KDC sent over a stream (reply) what goes back to the client
+accept     whether a service with this keytab lets in the client of a token of Kerberos, in a line: `accepted: CLIENT for
+           SERVER, until TIME`, the end of the ticket, or `refused: ` and the first rule that is broken, with what was
+           seen. The token may stand in the first message of SPNEGO, as behind `Authorization: Negotiate`. No replay
+           cache is asked: a token that was sent before is accepted again
 
 FILE is the file that is read; without it standard input is.
 
@@ -46,6 +51,18 @@ options of show:
                             stay, as those of a tree
     --help                  write this help
 
+options of accept:
+    --keytab FILE           the keytab of the service, which has to be named
+    --time T                the service's time: seconds since 1970, or as 2026-01-02T03:04:05Z; without it that of the
+                            clock. Of a token that was sent some time ago, the time at which it came
+    --skew S                by how many seconds the clocks of client and service may differ; without it 300
+    --bindings HEX          the MD5 of the service's channel bindings (RFC 4121, 4.1.1.2), which those of the client
+                            have to have; without it those of the client are not compared
+    --pac required|ignored  refuse a ticket without a PAC, or do not look at PACs; without it a PAC is checked where there
+                            is one: its server checksum, its client and its time
+    --bare                  take an AP-REQ with no frame around it too, as DCE style has it
+    --other-checksum        take an authenticator with another checksum than 0x8003 too, or with none
+
 what is opened stands in its place, with the key that opened it and the key usage; keys within it open what
 follows. Of a PAC in a ticket it is said which of its checksums hold
 
@@ -53,7 +70,7 @@ the line of a request is `kdc REALM`, or `kpasswd REALM` where a password is cha
 client names; where the message names another realm `(the message names REALM)` stands behind it. In a realm the blank,
 `:`, the backslash and what is not printable are a backslash, `x` and two digits. A request has at most 131072 octets
 
-input of show, check, list and convert, by the first rule that fits; that of proxy is the octets themselves:
+input of show, check, list, convert and accept, by the first rule that fits; that of proxy is the octets themselves:
     -----BEGIN LABEL-----    PEM: the base64 up to the line -----END LABEL-----
     Negotiate BASE64         a token of HTTP, also behind Authorization:, WWW-Authenticate: and their kin
     hexadecimal              digits in pairs, with or without blanks and line breaks
@@ -77,10 +94,12 @@ types that --as has to name:
     TSSmartCardCreds, TSCspDataDetail, TSRemoteGuardCreds, TSRemoteGuardPackageCred
 
 exit statuses:
-    0    the output is written
+    0    the output is written; of accept: the client is let in
     1    an error, which a line on standard error names, with its place where it is one of DER behind the header of
-         a frame, and nothing on standard output, or not all where the output cannot be written
-    2    wrong arguments, a key among them, and nothing was read from standard input
+         a frame, and nothing on standard output, or not all where the output cannot be written; of accept: the client
+         is not let in, and standard output says why
+    2    wrong arguments, a key among them, and nothing was read from standard input; of accept also: nothing is
+         decided, for the error that a line on standard error names
 
 examples:
     jolmurig show <as-req.der
@@ -91,5 +110,6 @@ examples:
     jolmurig show --keytab krb5.keytab krb5cc
     jolmurig list krb5cc
     jolmurig convert kirbi krb5cc >ticket.kirbi
+    jolmurig accept --keytab krb5.keytab --time 2026-11-27T07:08:23Z <authorization
     jolmurig proxy request <posted | nc -q 5 kdc.example.com 88 | jolmurig proxy reply >answer
 ";

@@ -4,6 +4,7 @@
 mod answer;
 mod calls;
 mod check;
+mod clock;
 mod command;
 mod convert;
 mod engine;
@@ -11,15 +12,18 @@ mod failure;
 mod files;
 mod help;
 mod input;
+mod judge;
 mod keys;
 mod list;
 mod openers;
 mod parse;
+mod parse_accept;
 mod passwords;
 mod proxy;
 mod warning;
 
 use calls::Library;
+use clock::Clock;
 use engine::reject;
 pub use engine::run;
 use failure::arguments_failure;
@@ -27,9 +31,10 @@ use files::{FileError, Files, file_error};
 use krb_show_any::Everything;
 use std::alloc::Global;
 use std::process::ExitCode;
+use std::time::{SystemTime, UNIX_EPOCH};
 use std::{env, fs, io};
 
-/// The files of the machine that the program runs on.
+/// The files and the clock of the machine that the program runs on.
 #[derive(Drop)]
 struct HostFiles<'a> {
     rt: &'a HostRuntime,
@@ -43,6 +48,20 @@ impl<'a> Files for HostFiles<'a> {
             Ok(octets) => Ok(octets),
             Err(error) => Err(file_error(&error)),
         }
+    }
+}
+
+impl<'a> Clock for HostFiles<'a> {
+    ghost ticks = { λ _ _. Unit {0} };
+
+    fn seconds(&self) -> Option<i64> {
+        let Ok(now) = SystemTime::now(self.rt) else {
+            return None;
+        };
+        let Ok(since) = now.duration_since(UNIX_EPOCH) else {
+            return None;
+        };
+        i64::try_from(since.as_secs()).ok()
     }
 }
 

@@ -3,26 +3,28 @@
 ghost use Rattle.std.specs.Prelude.{◌≡◌, ◌≤◌, ◌∷◌, false, length, map, None, Some, IfOk, MatchOption};
 ghost use Rattle.std.specs.Option.{option_copied};
 ghost use Rattle.std.specs.String.{string_bytes};
-ghost use Rattle.jolmurig.specs.Arguments.{asked_by, begins_with_help, check_of, command_of, conversion_of, direction_of, file_name, format_of, is_help, is_valued, is_word};
+ghost use Rattle.jolmurig.specs.Arguments.{asked_by, begins_with_help, check_of, command_of, conversion_of, direction_of, format_of, is_valued};
 ghost use Rattle.jolmurig.specs.Arguments.{of_operand, operand_of, options_of, proxy_of, source_kind, with_file, with_flag, with_output, with_source};
 ghost use Rattle.jolmurig.specs.Arguments.{with_password_file, with_tree, with_type, with_value};
 ghost use Rattle.jolmurig.specs.Shows.{nothing_asked};
+ghost use Rattle.jolmurig.specs.Words.{file_name, is_help, is_word};
 ghost use Rattle.jolmurig.specs.declared.command.Command.TheVariants as command;
 
 use crate::command::{
     Command, Direction, FileName, Format, Operand, Output, Show, Source, SourceKind, TypeName,
 };
+use crate::parse_accept::accept_of;
 use std::alloc::{AllocError, Global};
 
 /// Whether an argument is this word.
-fn is_word(argument: &str, word: &str) -> bool
+pub(crate) fn is_word(argument: &str, word: &str) -> bool
     ensures { result ≡ is_word argument.now word.now }
 {
     argument.as_bytes() == word.as_bytes()
 }
 
 /// Whether an argument asks for help.
-fn is_help(argument: &str) -> bool
+pub(crate) fn is_help(argument: &str) -> bool
     ensures { result ≡ is_help argument.now }
 {
     is_word(argument, "--help") || is_word(argument, "-h")
@@ -55,7 +57,7 @@ fn with_output<'a>(form: Output, show: Show<'a>) -> Option<Show<'a>>
 }
 
 /// The name of a file, which does not begin with `-`.
-fn file_name(argument: &str) -> Option<&str>
+pub(crate) fn file_name(argument: &str) -> Option<&str>
     ensures { option_copied result ≡ file_name argument.now }
 {
     let (first, _rest) = argument.as_bytes().split_first()?;
@@ -429,6 +431,8 @@ fn command_of<'a>(
         Ok(conversion_of(rest))
     } else if is_word(name, "proxy") {
         Ok(proxy_of(rest))
+    } else if is_word(name, "accept") {
+        Ok(accept_of(rest))
     } else {
         Ok(None)
     }

@@ -1,0 +1,244 @@
+//! Whether a service lets the client of a token in.
+
+ghost use Rattle.std.specs.Prelude.{◌≡◌, ◌≢◌, ◌⊎◌, ◌×◌, ℤ, ℕ, List, None, Some, Ok, IfErr, IfOk, MatchOption, option_copied};
+ghost use Rattle.hex.specs.Hex.{decode_of};
+ghost use Rattle.krb_accept_report.specs.declared.report.ReportError.{ReportError};
+ghost use Rattle.jolmurig.specs.Judgements.{AreBindings, AreNoBindings, AreSettings, HasBindings, HasNoBindings, IsClock, IsKeytab, IsMoment, IsNoClock};
+ghost use Rattle.jolmurig.specs.Judgements.{IsNoKeytab, IsNoService, IsSeconds, IsService, IsSkew, failure_of_report, undecided_of};
+ghost use Rattle.jolmurig.specs.Outcome.{AreNotRead, AreRead, IsJudged, IsLeft, IsNotJudged, question_of};
+ghost use Rattle.jolmurig.specs.declared.failure.Failure.TheVariants as failure;
+ghost use Rattle.jolmurig.specs.declared.failure.Undecided.TheVariants as undecided;
+
+use crate::calls::Calls;
+use crate::clock::Clock;
+use crate::command::Accept;
+use crate::failure::{Failure, Undecided};
+use crate::files::{Files, octets_of_file};
+use crate::input::read_octets;
+use hex::FromHexError;
+use krb_accept::{PacCheck, Settings};
+use krb_accept_report::{Question, Report, ReportError, seconds_of_text};
+use std::alloc::Global;
+use std::io::Read;
+
+/// The usual skew, in seconds (RFC 4120, 8.2).
+const SKEW: u32 = 300;
+
+/// The seconds that a text names in decimal, with or without a minus.
+fn seconds_in(text: &str) -> Option<i64>
+    ensures { MatchOption result ((seconds : ℤ) → IsSeconds text.now seconds → ⊥) (IsSeconds text.now) }
+{
+    if text.starts_with('+') {
+        return None;
+    }
+    match text.parse::<i64>() {
+        Ok(seconds) => Some(seconds),
+        Err(_) => None,
+    }
+}
+
+/// The time that a text names, in seconds since 1970: these in decimal, or as 2026-01-02T03:04:05Z.
+fn moment_of(alloc: Global, text: &str) -> Result<i64, Failure>
+    ensures found { IfOk result (IsMoment text.now) }
+    ensures rejected { IfErr result (λ e. (e ≡ failure.Memory) ⊎ ((e ≡ failure.Time) × ((seconds : ℤ) → IsMoment text.now seconds → ⊥))) }
+{
+    if let Some(seconds) = seconds_in(text) {
+        return Ok(seconds);
+    }
+    match seconds_of_text(alloc, text.as_bytes())? {
+        Some(seconds) => Ok(seconds),
+        None => Err(Failure::Time),
+    }
+}
+
+/// The time that is named, or that of the clock.
+fn clock_of<F: Clock>(alloc: Global, files: &F, time: Option<&str>) -> Result<i64, Failure>
+    ensures found { IfOk result (IsClock (F.ticks files.now) (option_copied time.entry)) }
+    ensures rejected { IfErr result (λ e. (e ≡ failure.Memory) ⊎ IsNoClock (F.ticks files.now) (option_copied time.entry) e) }
+{
+    match time {
+        Some(text) => moment_of(alloc, text),
+        None => match files.seconds() {
+            Some(seconds) => Ok(seconds),
+            None => Err(Failure::Undecided(Undecided::Clock)),
+        },
+    }
+}
+
+/// The skew that is named, or the usual one.
+fn skew_of(skew: Option<&str>) -> Result<u32, Failure>
+    ensures found { IfOk result (IsSkew (option_copied skew.entry)) }
+    ensures rejected { IfErr result (λ e. (e ≡ failure.Skew) × ((seconds : ℕ) → IsSkew (option_copied skew.entry) seconds → ⊥)) }
+{
+    let Some(text) = skew else {
+        return Ok(SKEW);
+    };
+    if text.starts_with('+') {
+        return Err(Failure::Skew);
+    }
+    match text.parse::<u32>() {
+        Ok(seconds) => Ok(seconds),
+        Err(_) => Err(Failure::Skew),
+    }
+}
+
+/// The 16 octets that a text names in hexadecimal.
+fn octets_of(alloc: Global, text: &str) -> Result<[u8; 16], Failure>
+    ensures found { IfOk result (HasBindings text.now) }
+    ensures rejected { IfErr result (λ e. (e ≡ failure.Memory) ⊎ ((e ≡ failure.Bindings) × HasNoBindings text.now)) }
+{
+    let octets = match hex::decode(alloc, text) {
+        Ok(octets) => octets,
+        Err(FromHexError::OutOfMemory) => return Err(Failure::Memory),
+        Err(_) => return Err(Failure::Bindings),
+    };
+    match <[u8; 16]>::try_from(octets.as_slice()) {
+        Ok(bindings) => Ok(bindings),
+        Err(_) => Err(Failure::Bindings),
+    }
+}
+
+/// The channel bindings that are named, if they are.
+fn bindings_of(alloc: Global, bindings: Option<&str>) -> Result<Option<[u8; 16]>, Failure>
+    ensures found { IfOk result (AreBindings (option_copied bindings.entry)) }
+    ensures rejected { IfErr result (λ e. (e ≡ failure.Memory) ⊎ AreNoBindings (option_copied bindings.entry) e) }
+{
+    match bindings {
+        Some(text) => Ok(Some(octets_of(alloc, text)?)),
+        None => Ok(None),
+    }
+}
+
+/// What the service asks of tokens.
+fn settings_of(alloc: Global, asked: &Accept) -> Result<Settings, Failure>
+    ensures found { IfOk result (AreSettings asked.now) }
+    ensures rejected { IfErr result (λ e. (e ≡ failure.Memory) ⊎ AreNoBindings asked.now.bindings e) }
+{
+    let bindings = bindings_of(alloc, asked.bindings)?;
+    Ok(Settings {
+        bindings,
+        bare_request: asked.is_bare,
+        other_checksum: asked.takes_other,
+        pac: asked.pac.unwrap_or(PacCheck::Checked),
+    })
+}
+
+/// The octets of the keytab that is named.
+fn keytab_of<F: Files>(alloc: Global, files: &F, keytab: Option<&str>) -> Result<Vec<u8>, Failure>
+    ensures found { IfOk result (λ octets. IsKeytab (F.gives files.now) (option_copied keytab.entry) octets.items) }
+    ensures rejected { IfErr result (λ e. (e ≡ failure.Memory) ⊎ IsNoKeytab (F.gives files.now) (option_copied keytab.entry) e) }
+{
+    match keytab {
+        Some(name) => {
+            let unreadable = Failure::Undecided(Undecided::KeytabFile);
+            octets_of_file(alloc, files, name, unreadable)
+        }
+        None => Err(Failure::Arguments),
+    }
+}
+
+/// The service that is asked about.
+#[derive(Drop)]
+struct Service {
+    skew: u32,
+    settings: Settings,
+    clock: i64,
+    keytab: Vec<u8>,
+}
+
+/// The service that is asked about.
+fn service_of<F: Files + Clock>(
+    alloc: Global,
+    files: &F,
+    asked: &Accept,
+) -> Result<Service, Failure>
+    ensures found { IfOk result (λ s. IsService (F.gives files.now) (F.ticks files.now) asked.now s.skew s.settings s.clock s.keytab.items) }
+    ensures rejected { IfErr result (λ e. (e ≡ failure.Memory) ⊎ IsNoService (F.gives files.now) (F.ticks files.now) asked.now e) }
+{
+    let skew = skew_of(asked.skew)?;
+    let settings = settings_of(alloc, asked)?;
+    let clock = clock_of(alloc, files, asked.time)?;
+    let keytab = keytab_of(alloc, files, asked.keytab)?;
+    Ok(Service {
+        skew,
+        settings,
+        clock,
+        keytab,
+    })
+}
+
+/// The failure that an error of a report is.
+fn failure_of_report(error: ReportError) -> Failure
+    ensures { result ≡ failure_of_report error }
+{
+    match error {
+        ReportError::Keytab(why) => Failure::Undecided(Undecided::Keytab(why)),
+        ReportError::OutOfMemory => Failure::Memory,
+    }
+}
+
+/// The failure, where nothing is decided.
+pub fn undecided_of(failure: Failure) -> Failure
+    ensures { result ≡ undecided_of failure }
+{
+    match failure {
+        Failure::Memory => Failure::Undecided(Undecided::Memory),
+        Failure::NotBase64 => Failure::Undecided(Undecided::NotBase64),
+        Failure::Read => Failure::Undecided(Undecided::Read),
+        Failure::Write => Failure::Undecided(Undecided::Write),
+        other => other,
+    }
+}
+
+/// What is said of octets.
+fn said_of<C: Calls>(alloc: Global, question: &Question) -> Result<Report, Failure>
+    ensures said { IfOk result (λ r. C.judges question.now r.accepts r.line.items) }
+    ensures none { IfErr result (λ e. (why : ReportError) × C.misjudges question.now why × (e ≡ failure_of_report why)) }
+{
+    match C::judged(alloc, question) {
+        Ok(report) => Ok(report),
+        Err(error) => Err(failure_of_report(error)),
+    }
+}
+
+/// What a service says of the token of a file or the input.
+fn judge_by<C: Calls, F: Files, R: Read>(
+    alloc: Global,
+    service: &Service,
+    file: Option<&str>,
+    files: &F,
+    input: &mut R,
+) -> Result<Report, Failure>
+    ensures said { IfOk result (λ r. (octets : List ℕ) × AreRead (F.gives files.now) (option_copied file.entry) (R.remaining input.old) octets
+        × C.judges (question_of service.now.keytab.items octets service.now.clock service.now.skew service.now.settings) r.accepts r.line.items) }
+    ensures rejected { IfErr result (λ e. AreNotRead (F.gives files.now) (option_copied file.entry) (R.remaining input.old) e
+        ⊎ ((octets : List ℕ) × AreRead (F.gives files.now) (option_copied file.entry) (R.remaining input.old) octets
+        × ((why : ReportError) × C.misjudges (question_of service.now.keytab.items octets service.now.clock service.now.skew service.now.settings) why
+        × (e ≡ failure_of_report why)))) }
+    ensures left { IsLeft (option_copied file.entry) (R.remaining input.old) (R.remaining input.new) }
+{
+    let octets = read_octets(alloc, files, file, input)?;
+    let question = Question {
+        keytab: &service.keytab,
+        octets: &octets,
+        clock: service.clock,
+        skew: service.skew,
+        settings: service.settings,
+    };
+    said_of::<C>(alloc, &question)
+}
+
+/// What the service that is asked about says of the token of a file or the input.
+pub fn judge<C: Calls, F: Files + Clock, R: Read>(
+    alloc: Global,
+    asked: &Accept,
+    files: &F,
+    input: &mut R,
+) -> Result<Report, Failure>
+    ensures said { IfOk result (λ r. IsJudged C.judges (F.gives files.now) (F.ticks files.now) asked.now (R.remaining input.old) r.accepts r.line.items) }
+    ensures rejected { IfErr result (IsNotJudged C.misjudges (F.gives files.now) (F.ticks files.now) asked.now (R.remaining input.old) (R.remaining input.new)) }
+    ensures left { IsLeft asked.now.file (R.remaining input.old) (R.remaining input.new) }
+{
+    let service = service_of(alloc, files, asked)?;
+    judge_by::<C, F, R>(alloc, &service, asked.file, files, input)
+}

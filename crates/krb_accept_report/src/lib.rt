@@ -1,0 +1,17 @@
+//! Whether a service with a keytab lets the client of a token in, in a line of text (RFC 4120, 3.2.3; RFC 4121, 4.1).
+#![tactic(auto)]
+
+mod at_hand;
+mod key_reason;
+mod moment;
+mod negotiation;
+mod printed;
+mod reason;
+mod report;
+mod request;
+mod rules;
+mod value;
+mod written;
+
+pub use moment::seconds_of_text;
+pub use report::{Question, Report, ReportError, report_of};

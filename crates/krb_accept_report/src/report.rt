@@ -1,0 +1,220 @@
+//! Whether a service with a keytab lets the client of a token in.
+
+ghost use Rattle.std.specs.Prelude.{◌≡◌, ◌≢◌, ◌++◌, ◌×◌, [], List, ℕ, false, true, IfErr, IfOk, OnOk, MatchBool, codes, ⊤};
+ghost use Rattle.std.specs.List.{flat_map};
+ghost use Rattle.krb_accept.specs.TokenRefusals.{memory};
+ghost use Rattle.krb_accept_report.specs.Reasons.{IsReason};
+ghost use Rattle.krb_accept_report.specs.Reports.{IsAcceptedLine, IsAsked, IsNotSaid, IsRefusedLine, IsReport, IsSaid, accepted_text};
+ghost use Rattle.krb_accept_report.specs.Texts.{ArePrintable, printed};
+ghost use Rattle.krb_accept_report.specs.declared.report.ReportError.TheVariants as errors;
+
+use crate::negotiation::mech_token;
+use crate::printed::printed;
+use crate::reason::{Judge, text_of_refusal};
+use crate::written::push_time;
+use krb_accept::{Kerberos, Settings, TokenRefusal, keys_of_keytab, present_token};
+use krb_accept_rules::{Accepted, Arrival, Opening, Rule, ServiceKey, Terms};
+use krb_der::DerEncode;
+use krb_enc_parts::data_types::EncKrbCredPart;
+use krb_files::keytab::{KeytabError, KeytabView};
+use krb_gss_tokens::gss_api::{ApplicationTag0, GssApiNegInit};
+use krb_messages::messages::KrbCred;
+use krb_types::data_types::AuthorizationData;
+use krb_types::view::text_of_principal;
+use std::alloc::{AllocError, Global};
+use std::marker::Model;
+
+/// What is asked about a token.
+#[derive(Drop)]
+pub struct Question<'a> {
+    /// The octets of the service's keytab.
+    pub keytab: &'a [u8],
+    /// The token, or the first message of SPNEGO that holds it.
+    pub octets: &'a [u8],
+    /// The service's clock, in seconds since 1 January 1970, 00:00:00 UTC.
+    pub clock: i64,
+    /// By how many seconds clocks may differ.
+    pub skew: u32,
+    /// What the service asks of tokens.
+    pub settings: Settings,
+}
+
+impl<'a> Model for Question<'a> {
+    ghost use Rattle.krb_accept_report.specs.Questions.{Question};
+
+    ghost Value = { Question };
+
+    ghost view = { λ q. record { keytab = q.keytab.now; octets = q.octets.now; clock = q.clock; skew = q.skew; settings = q.settings } };
+}
+
+/// What is said of a token.
+#[derive(Debug, Drop)]
+pub struct Report {
+    /// Whether the client is let in.
+    pub accepts: bool,
+    /// The line: who is let in, or why nobody is.
+    pub line: Vec<u8>,
+}
+
+/// Why nothing is said of a token.
+#[derive(Debug, Clone, Copy, PartialEq, Eq)]
+pub enum ReportError {
+    /// The keytab is none: its first error.
+    Keytab(KeytabError),
+    /// An allocation failed.
+    OutOfMemory,
+}
+
+impl From<KeytabError> for ReportError {
+    ghost from_gives = { λ why e. e ≡ errors.Keytab why };
+
+    fn from(error: KeytabError) -> ReportError {
+        ReportError::Keytab(error)
+    }
+}
+
+impl From<AllocError> for ReportError {
+    ghost from_gives = { λ _ e. e ≡ errors.OutOfMemory };
+
+    fn from(_error: AllocError) -> ReportError {
+        ReportError::OutOfMemory
+    }
+}
+
+/// A service.
+#[derive(Drop)]
+struct Service {
+    keys: Vec<ServiceKey>,
+    terms: Terms,
+    arrival: Arrival,
+    settings: Settings,
+}
+
+/// The service that is asked about.
+fn service_of(alloc: Global, question: &Question) -> Result<Service, ReportError>
+    ensures asked { IfOk result (λ s. IsAsked question.now.keytab question.now.clock question.now.skew s.keys.items s.terms s.arrival) }
+    ensures settings { IfOk result (λ s. s.settings ≡ question.now.settings) }
+    ensures none { IfErr result (IsNotSaid question.now) }
+{
+    let keytab = KeytabView::new(question.keytab)?;
+    let keys = keys_of_keytab(alloc, &keytab)?;
+    let terms = Terms::new(alloc, question.skew)?;
+    Ok(Service {
+        keys,
+        terms,
+        arrival: Arrival {
+            clock: question.clock,
+            address: None,
+        },
+        settings: question.settings,
+    })
+}
+
+/// Who is let in, for which server, and until when the ticket is valid.
+fn accepted_text(alloc: Global, accepted: &Accepted) -> Result<Vec<u8>, AllocError>
+    ensures { IfOk result (λ text. text.items ≡ accepted_text accepted.now) }
+{
+    let ticket = &accepted.ticket;
+    let client = text_of_principal(alloc, &ticket.client, &ticket.realm)?;
+    let server = text_of_principal(alloc, &accepted.server, &accepted.server_realm)?;
+    let mut text = Vec::from_slice(alloc, b"accepted: ")?;
+    text.extend_from_slice(client.as_bytes())?;
+    text.extend_from_slice(b" for ")?;
+    text.extend_from_slice(server.as_bytes())?;
+    text.extend_from_slice(b", until ")?;
+    push_time(&mut text, &ticket.end_time)?;
+    text.extend_from_slice(b"; no replay cache was asked")?;
+    Ok(text)
+}
+
+/// The line that says why a token is refused.
+fn refused_line(
+    alloc: Global,
+    service: &Service,
+    token: &[u8],
+    refusal: &TokenRefusal,
+) -> Result<Vec<u8>, AllocError>
+    ensures line { IfOk result (λ line. (reason : List ℕ)
+        × IsReason ⟦<Kerberos as Opening>⟧ service.now.keys.items service.now.arrival.clock service.now.terms.skew token.now refusal.now reason
+        × (line.items ≡ printed (codes "refused: " ++ reason))) }
+    ensures printable { IfOk result (λ line. ArePrintable line.items) }
+{
+    let judge = Judge {
+        keys: &service.keys,
+        clock: service.arrival.clock,
+        skew: service.terms.skew,
+    };
+    let reason = text_of_refusal(alloc, judge, token, refusal)?;
+    let mut text = Vec::from_slice(alloc, b"refused: ")?;
+    text.extend_from_slice(&reason)?;
+    printed(alloc, &text)
+}
+
+/// Whether an allocation failed.
+fn is_memory(refusal: &TokenRefusal) -> bool
+    ensures { MatchBool result ⊤ (refusal.now ≢ memory) }
+{
+    match refusal {
+        TokenRefusal::Request(refusal) => match refusal.rule {
+            Rule::OutOfMemory => true,
+            _ => false,
+        },
+        _ => false,
+    }
+}
+
+/// What is said of a token.
+fn said_of(alloc: Global, service: &Service, token: &[u8]) -> Result<Report, AllocError>
+    ensures said { IfOk result (λ r. IsSaid ⟦<KrbCred as DerEncode>⟧ ⟦<EncKrbCredPart as DerEncode>⟧ ⟦<AuthorizationData as DerEncode>⟧
+        ⟦<Kerberos as Opening>⟧ service.now.keys.items service.now.terms service.now.arrival service.now.settings token.now r.accepts r.line.items) }
+    ensures printable { IfOk result (λ r. ArePrintable r.line.items) }
+{
+    match present_token(
+        alloc,
+        &service.keys,
+        &[],
+        &service.terms,
+        &service.arrival,
+        &service.settings,
+        token,
+    ) {
+        Ok(token) => {
+            let text = accepted_text(alloc, &token.presented.accepted)?;
+            let line = printed(alloc, &text)?;
+            Ok(Report {
+                accepts: true,
+                line,
+            })
+        }
+        Err(refusal) => {
+            if is_memory(&refusal) {
+                return Err(AllocError);
+            }
+            let line = refused_line(alloc, service, token, &refusal)?;
+            Ok(Report {
+                accepts: false,
+                line,
+            })
+        }
+    }
+}
+
+/// Whether a service with this keytab lets the client of a token in, and a line that says so or why not: the decision is that of
+/// `present_token` under the usual terms, so no replay cache is asked, and the client's address is not known. Octets that are the first
+/// message of SPNEGO stand for its mechToken (RFC 4178, 4.2.1).
+///
+/// The line is printable ASCII and has no line feed. `Keytab` where the keytab is none, whatever the token is.
+pub fn report_of(alloc: Global, question: &Question) -> Result<Report, ReportError>
+    ensures said { IfOk result (λ r. IsReport ⟦<KrbCred as DerEncode>⟧ ⟦<EncKrbCredPart as DerEncode>⟧ ⟦<AuthorizationData as DerEncode>⟧
+        ⟦<ApplicationTag0<GssApiNegInit> as DerEncode>⟧ ⟦<Kerberos as Opening>⟧ question.now r.accepts r.line.items) }
+    ensures printable { IfOk result (λ r. ArePrintable r.line.items) }
+    ensures none { IfErr result (IsNotSaid question.now) }
+{
+    let service = service_of(alloc, question)?;
+    let inner = mech_token(alloc, question.octets)?;
+    let token = match &inner {
+        Some(token) => token.0.as_slice(),
+        None => question.octets,
+    };
+    Ok(said_of(alloc, &service, token)?)
+}
