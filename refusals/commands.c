@@ -133,6 +133,12 @@ static void fail(const struct command *command, const char *when, long refused,
     exit(1);
 }
 
+/* The status of a failure that is no answer: `accept` has 1 for a client that is not let in. */
+static int failure_status(const struct command *command) {
+    const char *name = word(command, 0);
+    return strlen(name) == 6 && memcmp(name, "accept", 6) == 0 ? 2 : 1;
+}
+
 /* Makes each allocation fail in turn, until a run meets none, and returns how many runs that
  * took. */
 static long refuse_each(const struct command *command, const struct devices *devices, int on) {
@@ -142,6 +148,7 @@ static long refuse_each(const struct command *command, const struct devices *dev
         /* The line of an error may be what could not be made. */
         int is_reported =
             is_answer(command, &it, 1, MEMORY_LINE, "") ||
+            is_answer(command, &it, failure_status(command), MEMORY_LINE, "") ||
             (command->status != 0 && is_answer(command, &it, command->status, MEMORY_LINE, ""));
         if (!is_as_told(command, &it) && !(is_met && is_reported)) {
             fail(command, on ? "this request refused and each after it" : "this request refused",
@@ -157,7 +164,7 @@ static long refuse_each(const struct command *command, const struct devices *dev
 static void try_device(const struct command *command, const struct devices *devices,
                        const char *line) {
     struct answer it = run(command, devices, 0, 0);
-    if (!is_answer(command, &it, 1, line, "")) {
+    if (!is_answer(command, &it, failure_status(command), line, "")) {
         fail(command, devices->name, 0, &it);
     }
 }
