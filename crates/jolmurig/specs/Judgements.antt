@@ -96,13 +96,21 @@ module _ (gives : List ℕ → Option (List ℕ) → Type 0) (ticks : Ticks) whe
     pub is_clock : IsClock ticks a.time clock
     pub is_keytab : IsKeytab a.keytab keytab
 
-  -- why there is none: the first option that has no value, or whose file or clock cannot be read
-  pub data IsNoService (a : Accept) (e : Failure) : Type 0 where
-    no_skew : e ≡ failure.Skew → ((seconds : ℕ) → IsSkew a.skew seconds → ⊥) → IsNoService a e
-    no_settings : (skew : ℕ) → IsSkew a.skew skew → AreNoBindings a.bindings e → IsNoService a e
-    no_clock : (skew : ℕ) → IsSkew a.skew skew → (settings : Settings) → AreSettings a settings → IsNoClock ticks a.time e → IsNoService a e
-    no_keytab : (skew : ℕ) → IsSkew a.skew skew → (settings : Settings) → AreSettings a settings
-        → (clock : ℤ) → IsClock ticks a.time clock → IsNoKeytab a.keytab e → IsNoService a e
+  -- there is a skew, and no channel bindings; these too, and no time; and all of them, and no keytab
+  abbrev pub HasNoSettings : Accept → Failure → Type 0
+  HasNoSettings a e = (skew : ℕ) × IsSkew a.skew skew × AreNoBindings a.bindings e
+
+  abbrev pub HasNoClock : Accept → Failure → Type 0
+  HasNoClock a e = (skew : ℕ) × (settings : Settings) × IsSkew a.skew skew × AreSettings a settings × IsNoClock ticks a.time e
+
+  abbrev pub HasNoKeytab : Accept → Failure → Type 0
+  HasNoKeytab a e =
+      (skew : ℕ) × (settings : Settings) × (clock : ℤ) × IsSkew a.skew skew × AreSettings a settings × IsClock ticks a.time clock × IsNoKeytab a.keytab e
+
+  -- why there is no service: the first option that has no value, or whose file or clock cannot be read
+  abbrev pub IsNoService : Accept → Failure → Type 0
+  IsNoService a e =
+      ((e ≡ failure.Skew) × ((seconds : ℕ) → IsSkew a.skew seconds → ⊥)) ⊎ HasNoSettings a e ⊎ HasNoClock a e ⊎ HasNoKeytab a e
 
 -- ---- failures
 

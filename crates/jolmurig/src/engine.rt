@@ -301,11 +301,7 @@ fn outcome_of(alloc: Global, accepts: bool) -> Result<Vec<u8>, Failure>
 }
 
 /// Writes what is said of a token. The failure `Refused` says that its client is not let in.
-fn write_report<W: Write>(
-    alloc: Global,
-    output: &mut W,
-    report: Report,
-) -> Result<Vec<u8>, Failure>
+fn write_report<W: Write>(alloc: Global, output: &mut W, report: Report) -> Result<Vec<u8>, Failure>
     ensures { IsReportWritten report.accepts report.line.items (W.contents output.old) (W.contents output.new) result }
 {
     let accepts = report.accepts;

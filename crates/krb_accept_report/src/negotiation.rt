@@ -15,10 +15,12 @@ type FirstMessage = ApplicationTag0<GssApiNegInit>;
 fn token_of(message: FirstMessage) -> Option<OctetStringAsn1>
     ensures { result ≡ message.neg_token_init.mech_token.0 }
 {
-    let ApplicationTag0(GssApiNegInit {
-        oid: _,
-        neg_token_init,
-    }) = message;
+    let ApplicationTag0(
+        GssApiNegInit {
+            oid: _,
+            neg_token_init,
+        },
+    ) = message;
     match neg_token_init.0.mech_token.0 {
         Some(token) => Some(token.0),
         None => None,

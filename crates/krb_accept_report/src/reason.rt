@@ -63,12 +63,7 @@ fn plain(alloc: Global, rule: Rule) -> Result<Vec<u8>, AllocError>
 }
 
 /// A rule's text, and the time that was seen.
-fn timed(
-    alloc: Global,
-    rule: Rule,
-    words: &str,
-    seen: Option<i64>,
-) -> Result<Vec<u8>, AllocError>
+fn timed(alloc: Global, rule: Rule, words: &str, seen: Option<i64>) -> Result<Vec<u8>, AllocError>
     ensures { IfOk result (λ text. IsTimeReason rule words.now seen text.items) }
 {
     let Some(time) = seen else {

@@ -21,10 +21,7 @@ fn message_of(token: &[u8]) -> &[u8]
 }
 
 /// The fields of the request in a token, if it has one.
-pub(crate) fn request_in(
-    alloc: Global,
-    token: &[u8],
-) -> Result<Option<RequestFields>, AllocError>
+pub(crate) fn request_in(alloc: Global, token: &[u8]) -> Result<Option<RequestFields>, AllocError>
     ensures { IfOk result (λ found. IsMessageOf ⟦<Kerberos as Opening>⟧ token.now found) }
 {
     Kerberos::read_request(alloc, message_of(token))

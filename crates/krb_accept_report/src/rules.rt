@@ -55,7 +55,8 @@ pub(crate) fn token_text(refusal: &TokenRefusal) -> &'static str
         TokenRefusal::PacMissing => "the ticket has no PAC",
         TokenRefusal::PacForm => "the PAC is malformed, or lacks a buffer that is checked",
         TokenRefusal::PacChecksum => "the PAC's server checksum does not hold",
-        TokenRefusal::PacClient => "the PAC is of another client than the ticket, or of another time",
+        TokenRefusal::PacClient =>
+            "the PAC is of another client than the ticket, or of another time",
         TokenRefusal::ChecksumType => "the authenticator has no checksum of type 0x8003",
         TokenRefusal::ChecksumLayout => "the authenticator's checksum is malformed",
         TokenRefusal::Bindings => "the client's channel bindings are others than the service's",

@@ -31,4 +31,3 @@ pub(crate) fn value_of<T: Der + Drop>(alloc: Global, octets: &[u8]) -> Result<Op
         }
     }
 }
-

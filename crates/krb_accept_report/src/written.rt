@@ -56,11 +56,7 @@ pub(crate) fn push_time(out: &mut Vec<u8>, time: &GeneralizedTimeAsn1) -> Result
 }
 
 /// Appends a number in decimal.
-pub(crate) fn push_number(
-    out: &mut Vec<u8>,
-    alloc: Global,
-    number: u64,
-) -> Result<(), AllocError>
+pub(crate) fn push_number(out: &mut Vec<u8>, alloc: Global, number: u64) -> Result<(), AllocError>
     ensures { OnOk result (out.new.items ≡ out.old.items ++ decimal number) }
 {
     let digits = format!(in alloc; "{number}")?;
@@ -80,11 +76,7 @@ fn push_more(out: &mut Vec<u8>, alloc: Global, numbers: &[u32]) -> Result<(), Al
 }
 
 /// Appends numbers, with `, ` between them.
-pub(crate) fn push_list(
-    out: &mut Vec<u8>,
-    alloc: Global,
-    numbers: &[u32],
-) -> Result<(), AllocError>
+pub(crate) fn push_list(out: &mut Vec<u8>, alloc: Global, numbers: &[u32]) -> Result<(), AllocError>
     ensures { OnOk result (out.new.items ≡ out.old.items ++ listed numbers.now) }
 {
     let Some((first, rest)) = numbers.split_first() else {

@@ -1,0 +1,2 @@
+mod Kvnos
+mod Printable
