@@ -1,6 +1,6 @@
 //! The program over any reader and any writers.
 
-ghost use Rattle.std.specs.Prelude.{◌≡◌, ◌⊎◌, ◌×◌, ◌++◌, ◌∷◌, [], true, false, map, option_copied, IfOk, IfErr, OnOk, MatchResult, Err};
+ghost use Rattle.std.specs.Prelude.{◌≡◌, ◌⊎◌, ◌++◌, ◌∷◌, [], true, false, map, option_copied, IfOk, IfErr, OnOk, MatchResult, Err};
 ghost use Rattle.std.specs.Io.KnownBytes.{Appends};
 ghost use Rattle.std.specs.String.{string_bytes};
 ghost use Rattle.jolmurig.specs.Failures.{line_of, status_of_failure};

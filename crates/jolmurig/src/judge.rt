@@ -1,6 +1,6 @@
 //! Whether a service lets the client of a token in.
 
-ghost use Rattle.std.specs.Prelude.{◌≡◌, ◌≢◌, ◌⊎◌, ◌×◌, ℤ, ℕ, List, None, Some, Ok, IfErr, IfOk, MatchOption, option_copied};
+ghost use Rattle.std.specs.Prelude.{◌≡◌, ◌≢◌, ◌⊎◌, ℤ, ℕ, List, None, Some, Ok, IfErr, IfOk, MatchOption, option_copied};
 ghost use Rattle.hex.specs.Hex.{decode_of};
 ghost use Rattle.krb_accept_report.specs.declared.report.ReportError.{ReportError};
 ghost use Rattle.jolmurig.specs.Judgements.{AreBindings, AreNoBindings, AreSettings, HasBindings, HasNoBindings, IsClock, IsKeytab, IsMoment, IsNoClock};

@@ -1,2 +1,5 @@
 mod Kvnos
 mod Printable
+mod Times
+mod Negotiations
+mod Said

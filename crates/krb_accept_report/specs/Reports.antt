@@ -2,6 +2,7 @@
 use Rattle.std.specs.Prelude.{◌≡◌, ◌≢◌, ◌⊎◌, ℕ, ℤ, Bool, true, false, None, Some, Err, List, [], ◌++◌, codes}
 use Rattle.std.specs.List.{flat_map}
 use Rattle.krb_accept.specs.Keytab.{keys_of_entry}
+use Rattle.krb_accept.specs.Opening.{Encodes}
 use Rattle.krb_accept.specs.TokenRefusals.{memory}
 use Rattle.krb_accept.specs.Tokens.{IsTokenNotPresented, IsTokenPresented}
 use Rattle.krb_accept.specs.declared.settings.Settings.{Settings}
@@ -37,13 +38,19 @@ accepted_text a =
     ++ principal_text a.server.name_string (Some a.server_realm) ++ codes ", until " ++ time_text a.ticket.end_time
     ++ codes "; no replay cache was asked"
 
--- What is asked about: these keys, usual terms with this skew, this clock, and no address of the client.
-pub record IsAsked (keytab : List ℕ) (clock : ℤ) (skew : ℕ) (keys : List ServiceKey) (terms : Terms) (arrival : Arrival) : Type 0 where
-  pub entries : List Entry
-  pub is_keytab : KeytabIs keytab entries
-  pub are_keys : keys ≡ flat_map keys_of_entry entries
-  pub are_usual : AreUsual skew terms
-  pub arrives : arrival ≡ record { clock = clock; address = None }
+-- the keys of the keytab that octets are
+abbrev pub AreKeysOf : List ℕ → List ServiceKey → Type 0
+AreKeysOf octets keys = (entries : List Entry) × KeytabIs octets entries × (keys ≡ flat_map keys_of_entry entries)
+
+-- usual terms with the skew that is asked about, its clock, no address of the client, and its settings
+pub record IsAsked (q : Question) (terms : Terms) (arrival : Arrival) (settings : Settings) : Type 0 where
+  pub are_usual : AreUsual q.skew terms
+  pub arrives : arrival ≡ record { clock = q.clock; address = None }
+  pub asks : settings ≡ q.settings
+
+-- the line of a refusal: its reason, printed
+abbrev pub IsReasonLine : {O : Type 0} → OpeningOf O → List ServiceKey → ℤ → ℕ → List ℕ → TokenRefusal → List ℕ → Type 0
+IsReasonLine o keys clock skew token e line = (reason : List ℕ) × IsReason o keys clock skew token e reason × (line ≡ printed (codes "refused: " ++ reason))
 
 -- What is decided of a token by keys, terms, an arrival and settings.
 module _ (cred : EncodingOf KrbCredInner) (part : EncodingOf EncKrbCredPartInner) (elements : EncodingOf (List AuthorizationDataInner)) {O : Type 0}
@@ -58,20 +65,19 @@ module _ (cred : EncodingOf KrbCredInner) (part : EncodingOf EncKrbCredPartInner
   abbrev pub IsRefusedLine : List ℕ → Type 0
   IsRefusedLine line =
       (e : TokenRefusal) × (e ≢ memory) × IsTokenNotPresented cred part elements o keys [] terms arrival settings token e
-      × ((reason : List ℕ) × IsReason o keys arrival.clock terms.skew token e reason × (line ≡ printed (codes "refused: " ++ reason)))
+      × IsReasonLine o keys arrival.clock terms.skew token e line
 
   -- whether it is accepted, and the line
   abbrev pub IsSaid : Bool → List ℕ → Type 0
-  IsSaid true line = IsAcceptedLine line
-  IsSaid false line = IsRefusedLine line
+  IsSaid accepts line = ((accepts ≡ true) × IsAcceptedLine line) ⊎ ((accepts ≡ false) × IsRefusedLine line)
 
 -- What is said of octets: of the token in them, by the keytab and the clock.
 abbrev pub IsReport : EncodingOf KrbCredInner → EncodingOf EncKrbCredPartInner → EncodingOf (List AuthorizationDataInner) → EncodingOf GssApiNegInit
     → {O : Type 0} → OpeningOf O → Question → Bool → List ℕ → Type 0
 IsReport cred part elements negotiation o q accepts line =
-    (keys : List ServiceKey) × (terms : Terms) × (arrival : Arrival) × (token : List ℕ)
-    × IsAsked q.keytab q.clock q.skew keys terms arrival × IsTokenIn negotiation q.octets token
-    × IsSaid cred part elements o keys terms arrival q.settings token accepts line
+    (keys : List ServiceKey) × (terms : Terms) × (arrival : Arrival) × (settings : Settings) × (token : List ℕ)
+    × AreKeysOf q.keytab keys × IsAsked q terms arrival settings × IsTokenIn (Encodes negotiation q.octets) q.octets token
+    × IsSaid cred part elements o keys terms arrival settings token accepts line
 
 -- the keytab is none, and this is its first error; or an allocation failed
 abbrev pub IsNotSaid : Question → ReportError → Type 0

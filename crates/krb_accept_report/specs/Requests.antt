@@ -28,11 +28,18 @@ AreKvnos r (k ∷ keys) kvnos =
     (IsOfServerAndType r k × ((rest : List ℕ) × (kvnos ≡ k.kvno ∷ rest) × AreKvnos r keys rest))
     ⊎ ((IsOfServerAndType r k → ⊥) × AreKvnos r keys kvnos)
 
+-- the kvno of one more key, if it is one of these
+abbrev pub AddsKvno : RequestFields → ServiceKey → List ℕ → List ℕ → Type 0
+AddsKvno r k before after =
+    (IsOfServerAndType r k × (after ≡ before ++ k.kvno ∷ [])) ⊎ ((IsOfServerAndType r k → ⊥) × (after ≡ before))
+
 -- `(etype 18, kvno 2)`: what the ticket is encrypted under (RFC 4120, 5.2.9)
-abbrev pub IsUnder : RequestFields → List ℕ → Type 0
-IsUnder r text =
-    (etype : List ℕ) × (kvno : List ℕ) × IsNumber r.ticket.etype etype × IsNumberOrNone r.ticket.kvno.0 kvno
-    × (text ≡ codes " (etype " ++ etype ++ codes ", kvno " ++ kvno ++ codes ")")
+pub record IsUnder (r : RequestFields) (text : List ℕ) : Type 0 where
+  pub etype : List ℕ
+  pub kvno : List ℕ
+  pub is_etype : IsNumber r.ticket.etype etype
+  pub is_kvno : IsNumberOrNone r.ticket.kvno.0 kvno
+  pub is_text : text ≡ codes " (etype " ++ etype ++ codes ", kvno " ++ kvno ++ codes ")"
 
 -- what the ticket asks for, where no key is for it or none decrypts it
 abbrev pub IsKeyReason : List ServiceKey → RequestFields → Rule → List ℕ → Type 0

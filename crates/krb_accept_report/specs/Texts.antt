@@ -1,5 +1,5 @@
 -- Times, numbers and octets as text.
-use Rattle.std.specs.Prelude.{◌≡◌, ◌≢◌, ◌⊎◌, ◌≤◌, ◌/◌, ◌%◌, ℕ, ℤ, nat_le, nat_lt, ◌&&◌, ◌+◌, if◌then◌else◌, FitsSigned, Option, None, Some, List, [], ◌∷◌, ◌++◌, codes}
+use Rattle.std.specs.Prelude.{◌≡◌, ◌≢◌, ◌⊎◌, ◌≤◌, ◌/◌, ◌%◌, ℕ, ℤ, nat_le, nat_lt, ◌&&◌, ◌+◌, if◌then◌else◌, FitsSigned, take, drop, Option, None, Some, List, [], ◌∷◌, ◌++◌, codes}
 use Rattle.std.specs.Fmt.{decimal, signed_decimal}
 use Rattle.std.specs.Int.{w64}
 use Rattle.std.specs.List.{AllByRecursion, flat_map}
@@ -13,6 +13,15 @@ abbrev pub time_text : Time → List ℕ
 time_text t =
     four_digits t.year ++ 45 ∷ two_digits t.month ++ 45 ∷ two_digits t.day ++ 84 ∷ two_digits t.hour ++ 58 ∷ two_digits t.minute ++ 58 ∷ two_digits t.second
     ++ 90 ∷ []
+
+-- the digits of such a text, and its `Z`: the content in DER (X.690, 11.7)
+abbrev pub digits_of : List ℕ → List ℕ
+digits_of text =
+    take 4 text ++ take 2 (drop 5 text) ++ take 2 (drop 8 text) ++ take 2 (drop 11 text) ++ take 2 (drop 14 text) ++ take 3 (drop 17 text)
+
+-- this is the text of no time
+abbrev pub IsNoText : List ℕ → Type 0
+IsNoText text = (t : Time) → IsRealTime t → text ≢ time_text t
 
 -- this is the text of a time of a year of 0 to 9999, so many seconds since 1970
 abbrev pub IsTimeOf : List ℕ → ℤ → Type 0

@@ -2,7 +2,7 @@
 
 ghost use Rattle.std.specs.Prelude.{◌≡◌, ◌++◌, ◌∷◌, [], pos, MatchBool, IfOk, OnOk};
 ghost use Rattle.krb_accept_rules.specs.Keys.{IsOfServer, IsOfServerAndType, IsOfType};
-ghost use Rattle.krb_accept_report.specs.Requests.{AreKvnos};
+ghost use Rattle.krb_accept_report.specs.Requests.{AddsKvno, AreKvnos};
 
 use krb_accept_rules::{RequestFields, ServiceKey};
 use krb_der::{Asn1SequenceOf, IntegerAsn1};
@@ -48,6 +48,20 @@ fn is_of_server_and_type(request: &RequestFields, key: &ServiceKey) -> bool
     is_of_server(request, key) && is_number(&request.ticket.etype.0, key.etype)
 }
 
+/// Appends the kvno of a key, if the key is of the server that a ticket names and of its encryption type.
+fn push_kvno(
+    kvnos: &mut Vec<u32>,
+    request: &RequestFields,
+    key: &ServiceKey,
+) -> Result<(), AllocError>
+    ensures { OnOk result (AddsKvno request.now key.now kvnos.old.items kvnos.new.items) }
+{
+    if is_of_server_and_type(request, key) {
+        kvnos.push(key.kvno)?;
+    }
+    Ok(())
+}
+
 /// The kvnos of the keys that are of the server that a ticket names and of its encryption type.
 pub(crate) fn kvnos_for(
     alloc: Global,
@@ -58,9 +72,7 @@ pub(crate) fn kvnos_for(
 {
     let mut kvnos = Vec::new(alloc);
     'keys: for key in keys {
-        if is_of_server_and_type(request, key) {
-            kvnos.push(key.kvno)?;
-        }
+        push_kvno(&mut kvnos, request, key)?;
     }
     Ok(kvnos)
 }

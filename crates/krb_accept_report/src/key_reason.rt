@@ -1,6 +1,6 @@
 //! What a ticket asks for, where no key is for it or none decrypts it.
 
-ghost use Rattle.std.specs.Prelude.{◌≡◌, ◌++◌, ◌×◌, List, ℕ, Option, IfOk, OnOk, MatchOption, codes};
+ghost use Rattle.std.specs.Prelude.{◌≡◌, ◌++◌, List, ℕ, Option, IfOk, OnOk, MatchOption, codes};
 ghost use Rattle.krb_accept_rules.specs.declared.refusal.Rule.{Rule};
 ghost use Rattle.krb_accept_rules.specs.declared.refusal.Rule.TheVariants as Rules;
 ghost use Rattle.krb_accept_report.specs.Requests.{AreKvnos, IsKeyReason, IsKeyReasonOf, IsUnder, server_text};
@@ -136,7 +136,7 @@ pub(crate) fn text_of_key_rule(
     ensures { IfOk result (λ text. IsKeyReasonOf ⟦<Kerberos as Opening>⟧ keys.now token.now rule (rule_text rule) text.items) }
 {
     match request_in(alloc, token)? {
-        Some(request) => text_of_request(alloc, keys, &request, rule),
+        Some(request) => Ok(text_of_request(alloc, keys, &request, rule)?),
         None => Vec::from_slice(alloc, rule_text(rule).as_bytes()),
     }
 }

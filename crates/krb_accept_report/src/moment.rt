@@ -1,8 +1,8 @@
 //! Moments as text: seconds since 1970, and the text of a time.
 
-ghost use Rattle.std.specs.Prelude.{◌≡◌, ◌≢◌, ◌++◌, ◌×◌, ℤ, List, IfOk, OnOk, MatchOption};
-ghost use Rattle.krb_der_core.specs.GeneralizedTime.{IsRealTime, Time};
-ghost use Rattle.krb_accept_report.specs.Texts.{IsMoment, IsTimeOf, time_text};
+ghost use Rattle.std.specs.Prelude.{◌≡◌, ◌∷◌, ℤ, length, IfOk, MatchBool, MatchOption};
+ghost use Rattle.krb_der_core.specs.GeneralizedTime.{IsRealTime};
+ghost use Rattle.krb_accept_report.specs.Texts.{IsMoment, IsNoText, IsTimeOf, digits_of, time_text};
 
 use crate::value::value_of;
 use crate::written::push_time;
@@ -27,40 +27,46 @@ pub(crate) fn text_of_seconds(alloc: Global, seconds: i64) -> Result<Vec<u8>, Al
     }
 }
 
+/// The element of DER that the time has whose text this is (X.690, 11.7).
+fn element_of(alloc: Global, text: &[u8]) -> Result<Vec<u8>, AllocError>
+    requires { length text.now ≡ 20 }
+    ensures { IfOk result (λ element. element.items ≡ 24 ∷ 15 ∷ digits_of text.now) }
+{
+    let mut element = Vec::from_slice(alloc, &[0x18, 15])?;
+    element.extend_from_slice(&text[..4])?;
+    element.extend_from_slice(&text[5..7])?;
+    element.extend_from_slice(&text[8..10])?;
+    element.extend_from_slice(&text[11..13])?;
+    element.extend_from_slice(&text[14..16])?;
+    element.extend_from_slice(&text[17..20])?;
+    Ok(element)
+}
+
+/// Whether this is the text of a time.
+fn is_text_of(alloc: Global, text: &[u8], time: &GeneralizedTimeAsn1) -> Result<bool, AllocError>
+    ensures { IfOk result (λ is. MatchBool is (text.now ≡ time_text time.now) (text.now ≡ time_text time.now → ⊥)) }
+{
+    let mut own = Vec::with_capacity(alloc, 20)?;
+    push_time(&mut own, time)?;
+    Ok(text == own.as_slice())
+}
+
 /// The time whose text this is, if it is that of one.
 fn time_of_text(alloc: Global, text: &[u8]) -> Result<Option<GeneralizedTimeAsn1>, AllocError>
-    ensures { IfOk result (λ found. MatchOption found ((t : Time) → IsRealTime t → text.now ≢ time_text t)
-        (λ t. IsRealTime t × (text.now ≡ time_text t))) }
+    ensures { IfOk result (λ found. MatchOption found (IsNoText text.now) (λ t. IsRealTime t × (text.now ≡ time_text t))) }
 {
-    let [
-        y0,
-        y1,
-        y2,
-        y3,
-        b'-',
-        m0,
-        m1,
-        b'-',
-        d0,
-        d1,
-        b'T',
-        h0,
-        h1,
-        b':',
-        n0,
-        n1,
-        b':',
-        s0,
-        s1,
-        b'Z',
-    ] = text
-    else {
+    if text.len() != 20 {
+        return Ok(None);
+    }
+    let element = element_of(alloc, text)?;
+    let Some(time) = value_of::<GeneralizedTimeAsn1>(alloc, &element)? else {
         return Ok(None);
     };
-    let element = [
-        0x18, 15, *y0, *y1, *y2, *y3, *m0, *m1, *d0, *d1, *h0, *h1, *n0, *n1, *s0, *s1, b'Z',
-    ];
-    value_of::<GeneralizedTimeAsn1>(alloc, &element)
+    if is_text_of(alloc, text, &time)? {
+        Ok(Some(time))
+    } else {
+        Ok(None)
+    }
 }
 
 /// How many seconds since 1 January 1970, 00:00:00 UTC, the time is that a text YYYY-MM-DDTHH:MM:SSZ names (ISO 8601); `None` where it names

@@ -1,6 +1,6 @@
 //! Why a token is refused, in words, with what was seen.
 
-ghost use Rattle.std.specs.Prelude.{◌≡◌, ◌++◌, ◌×◌, List, ℕ, IfOk, OnOk, codes};
+ghost use Rattle.std.specs.Prelude.{◌≡◌, ◌++◌, List, ℕ, IfOk, OnOk, codes};
 ghost use Rattle.krb_accept_report.specs.Reasons.{IsDistance, IsReason, IsRuleReason, IsSkewReason, IsTimeReason, frame_text};
 ghost use Rattle.krb_accept_report.specs.Rules.{rule_text};
 
@@ -23,15 +23,16 @@ struct Distance {
 fn distance_of(clock: i64, time: i64) -> Distance
     ensures { IsDistance clock time result.seconds result.side.now }
 {
-    let difference = i128::from(clock) - i128::from(time);
-    if difference > 0 {
+    let clock = i128::from(clock);
+    let time = i128::from(time);
+    if time < clock {
         Distance {
-            seconds: difference as u64,
+            seconds: (clock - time) as u64,
             side: " s behind",
         }
     } else {
         Distance {
-            seconds: -difference as u64,
+            seconds: (time - clock) as u64,
             side: " s ahead",
         }
     }
@@ -89,7 +90,7 @@ pub(crate) struct Judge<'k> {
 
 /// The skew that was seen.
 fn skew_text(alloc: Global, judge: Judge<'_>, seen: Option<i64>) -> Result<Vec<u8>, AllocError>
-    ensures { IfOk result (λ text. IsSkewReason judge.clock judge.skew seen text.items) }
+    ensures { IfOk result (λ text. IsSkewReason judge.entry.clock judge.entry.skew seen text.items) }
 {
     match seen {
         Some(time) => skew_seen(alloc, judge.clock, judge.skew, time),
@@ -105,7 +106,7 @@ fn text_of_rule(
     rule: Rule,
     seen: Option<i64>,
 ) -> Result<Vec<u8>, AllocError>
-    ensures { IfOk result (λ text. IsRuleReason ⟦<Kerberos as Opening>⟧ judge.keys.now judge.clock judge.skew token.now rule seen text.items) }
+    ensures { IfOk result (λ text. IsRuleReason ⟦<Kerberos as Opening>⟧ judge.entry.keys.now judge.entry.clock judge.entry.skew token.now rule seen text.items) }
 {
     match rule {
         Rule::NotUs | Rule::NoKey | Rule::KeyVersion | Rule::Ticket => {
@@ -138,7 +139,7 @@ pub(crate) fn text_of_refusal(
     token: &[u8],
     refusal: &TokenRefusal,
 ) -> Result<Vec<u8>, AllocError>
-    ensures { IfOk result (λ text. IsReason ⟦<Kerberos as Opening>⟧ judge.keys.now judge.clock judge.skew token.now refusal.now text.items) }
+    ensures { IfOk result (λ text. IsReason ⟦<Kerberos as Opening>⟧ judge.entry.keys.now judge.entry.clock judge.entry.skew token.now refusal.now text.items) }
 {
     match refusal {
         TokenRefusal::Request(refusal) => {

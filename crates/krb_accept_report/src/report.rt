@@ -1,10 +1,8 @@
 //! Whether a service with a keytab lets the client of a token in.
 
-ghost use Rattle.std.specs.Prelude.{◌≡◌, ◌≢◌, ◌++◌, ◌×◌, [], List, ℕ, false, true, IfErr, IfOk, OnOk, MatchBool, codes, ⊤};
-ghost use Rattle.std.specs.List.{flat_map};
+ghost use Rattle.std.specs.Prelude.{◌≡◌, ◌≢◌, ◌++◌, [], List, ℕ, false, true, unwrap_or, IfErr, IfOk, MatchBool, ⊤};
 ghost use Rattle.krb_accept.specs.TokenRefusals.{memory};
-ghost use Rattle.krb_accept_report.specs.Reasons.{IsReason};
-ghost use Rattle.krb_accept_report.specs.Reports.{IsAcceptedLine, IsAsked, IsNotSaid, IsRefusedLine, IsReport, IsSaid, accepted_text};
+ghost use Rattle.krb_accept_report.specs.Reports.{AreKeysOf, IsAsked, IsNotSaid, IsReasonLine, IsReport, IsSaid, accepted_text};
 ghost use Rattle.krb_accept_report.specs.Texts.{ArePrintable, printed};
 ghost use Rattle.krb_accept_report.specs.declared.report.ReportError.TheVariants as errors;
 
@@ -14,7 +12,7 @@ use crate::reason::{Judge, text_of_refusal};
 use crate::written::push_time;
 use krb_accept::{Kerberos, Settings, TokenRefusal, keys_of_keytab, present_token};
 use krb_accept_rules::{Accepted, Arrival, Opening, Rule, ServiceKey, Terms};
-use krb_der::DerEncode;
+use krb_der::{DerEncode, OctetStringAsn1};
 use krb_enc_parts::data_types::EncKrbCredPart;
 use krb_files::keytab::{KeytabError, KeytabView};
 use krb_gss_tokens::gss_api::{ApplicationTag0, GssApiNegInit};
@@ -83,21 +81,32 @@ impl From<AllocError> for ReportError {
 
 /// A service.
 #[derive(Drop)]
-struct Service {
-    keys: Vec<ServiceKey>,
+struct Service<'k> {
+    keys: &'k [ServiceKey],
     terms: Terms,
     arrival: Arrival,
     settings: Settings,
 }
 
-/// The service that is asked about.
-fn service_of(alloc: Global, question: &Question) -> Result<Service, ReportError>
-    ensures asked { IfOk result (λ s. IsAsked question.now.keytab question.now.clock question.now.skew s.keys.items s.terms s.arrival) }
-    ensures settings { IfOk result (λ s. s.settings ≡ question.now.settings) }
+/// The keys of the keytab that is asked about.
+fn keys_of(alloc: Global, question: &Question) -> Result<Vec<ServiceKey>, ReportError>
+    ensures found { IfOk result (λ keys. AreKeysOf question.now.keytab keys.items) }
     ensures none { IfErr result (IsNotSaid question.now) }
 {
     let keytab = KeytabView::new(question.keytab)?;
     let keys = keys_of_keytab(alloc, &keytab)?;
+    Ok(keys)
+}
+
+/// The service that is asked about, with these keys.
+fn service_of<'k>(
+    alloc: Global,
+    question: &Question,
+    keys: &'k [ServiceKey],
+) -> Result<Service<'k>, AllocError>
+    ensures keys { IfOk result (λ s. s.keys.now ≡ keys.now) }
+    ensures asked { IfOk result (λ s. IsAsked question.now s.terms s.arrival s.settings) }
+{
     let terms = Terms::new(alloc, question.skew)?;
     Ok(Service {
         keys,
@@ -134,13 +143,12 @@ fn refused_line(
     token: &[u8],
     refusal: &TokenRefusal,
 ) -> Result<Vec<u8>, AllocError>
-    ensures line { IfOk result (λ line. (reason : List ℕ)
-        × IsReason ⟦<Kerberos as Opening>⟧ service.now.keys.items service.now.arrival.clock service.now.terms.skew token.now refusal.now reason
-        × (line.items ≡ printed (codes "refused: " ++ reason))) }
+    ensures line { IfOk result (λ line. IsReasonLine ⟦<Kerberos as Opening>⟧ service.now.keys.now service.now.arrival.clock service.now.terms.skew token.now
+        refusal.now line.items) }
     ensures printable { IfOk result (λ line. ArePrintable line.items) }
 {
     let judge = Judge {
-        keys: &service.keys,
+        keys: service.keys,
         clock: service.arrival.clock,
         skew: service.terms.skew,
     };
@@ -163,39 +171,70 @@ fn is_memory(refusal: &TokenRefusal) -> bool
     }
 }
 
+/// What is said of a client that is let in.
+fn accepted_report(alloc: Global, accepted: &Accepted) -> Result<Report, AllocError>
+    ensures accepts { IfOk result (λ r. r.accepts ≡ true) }
+    ensures line { IfOk result (λ r. r.line.items ≡ printed (accepted_text accepted.now)) }
+    ensures printable { IfOk result (λ r. ArePrintable r.line.items) }
+{
+    let text = accepted_text(alloc, accepted)?;
+    let line = printed(alloc, &text)?;
+    Ok(Report {
+        accepts: true,
+        line,
+    })
+}
+
+/// What is said of one that is not.
+fn refused_report(
+    alloc: Global,
+    service: &Service,
+    token: &[u8],
+    refusal: &TokenRefusal,
+) -> Result<Report, AllocError>
+    ensures refuses { IfOk result (λ r. r.accepts ≡ false) }
+    ensures breach { IfOk result (λ r. refusal.now ≢ memory) }
+    ensures line { IfOk result (λ r. IsReasonLine ⟦<Kerberos as Opening>⟧ service.now.keys.now service.now.arrival.clock service.now.terms.skew token.now
+        refusal.now r.line.items) }
+    ensures printable { IfOk result (λ r. ArePrintable r.line.items) }
+{
+    if is_memory(refusal) {
+        return Err(AllocError);
+    }
+    let line = refused_line(alloc, service, token, refusal)?;
+    Ok(Report {
+        accepts: false,
+        line,
+    })
+}
+
 /// What is said of a token.
 fn said_of(alloc: Global, service: &Service, token: &[u8]) -> Result<Report, AllocError>
     ensures said { IfOk result (λ r. IsSaid ⟦<KrbCred as DerEncode>⟧ ⟦<EncKrbCredPart as DerEncode>⟧ ⟦<AuthorizationData as DerEncode>⟧
-        ⟦<Kerberos as Opening>⟧ service.now.keys.items service.now.terms service.now.arrival service.now.settings token.now r.accepts r.line.items) }
+        ⟦<Kerberos as Opening>⟧ service.now.keys.now service.now.terms service.now.arrival service.now.settings token.now r.accepts r.line.items) }
     ensures printable { IfOk result (λ r. ArePrintable r.line.items) }
 {
     match present_token(
         alloc,
-        &service.keys,
+        service.keys,
         &[],
         &service.terms,
         &service.arrival,
         &service.settings,
         token,
     ) {
-        Ok(token) => {
-            let text = accepted_text(alloc, &token.presented.accepted)?;
-            let line = printed(alloc, &text)?;
-            Ok(Report {
-                accepts: true,
-                line,
-            })
-        }
-        Err(refusal) => {
-            if is_memory(&refusal) {
-                return Err(AllocError);
-            }
-            let line = refused_line(alloc, service, token, &refusal)?;
-            Ok(Report {
-                accepts: false,
-                line,
-            })
-        }
+        Ok(found) => accepted_report(alloc, &found.presented.accepted),
+        Err(refusal) => refused_report(alloc, service, token, &refusal),
+    }
+}
+
+/// The token that was found, or the octets where there is none.
+fn token_or<'a>(inner: &'a Option<OctetStringAsn1>, octets: &'a [u8]) -> &'a [u8]
+    ensures { result.now ≡ unwrap_or inner.now octets.now }
+{
+    match inner {
+        Some(token) => token.0.as_slice(),
+        None => octets,
     }
 }
 
@@ -210,11 +249,10 @@ pub fn report_of(alloc: Global, question: &Question) -> Result<Report, ReportErr
     ensures printable { IfOk result (λ r. ArePrintable r.line.items) }
     ensures none { IfErr result (IsNotSaid question.now) }
 {
-    let service = service_of(alloc, question)?;
+    let keys = keys_of(alloc, question)?;
+    let service = service_of(alloc, question, &keys)?;
     let inner = mech_token(alloc, question.octets)?;
-    let token = match &inner {
-        Some(token) => token.0.as_slice(),
-        None => question.octets,
-    };
-    Ok(said_of(alloc, &service, token)?)
+    let token = token_or(&inner, question.octets);
+    let said = said_of(alloc, &service, token)?;
+    Ok(said)
 }
