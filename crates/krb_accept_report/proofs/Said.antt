@@ -23,11 +23,11 @@ module _ (cred : EncodingOf KrbCredInner) (part : EncodingOf EncKrbCredPartInner
   pub let_in : (p : PresentedToken) → IsTokenPresented cred part elements o keys [] terms arrival settings token p → (r : Result Report AllocError)
       → IfOk r (λ x. x.accepts ≡ true) → IfOk r (λ x. x.line.items ≡ printed (accepted_text p.presented.accepted))
       → IfOk r (λ x. IsSaid cred part elements o keys terms arrival settings token x.accepts x.line.items)
-  let_in p is (Ok x) accepts line = inl (accepts, p, is, line)
+  let_in p is (Ok x) accepts line = inl (accepts, (p, is, line))
   let_in p is (Err e) accepts line = tt
 
   pub kept_out : (e : TokenRefusal) → IsTokenNotPresented cred part elements o keys [] terms arrival settings token e → (r : Result Report AllocError)
       → IfOk r (λ x. x.accepts ≡ false) → IfOk r (λ x. e ≢ memory) → IfOk r (λ x. IsReasonLine o keys arrival.clock terms.skew token e x.line.items)
       → IfOk r (λ x. IsSaid cred part elements o keys terms arrival settings token x.accepts x.line.items)
-  kept_out e is (Ok x) refuses breach line = inr (refuses, e, breach, is, line)
+  kept_out e is (Ok x) refuses breach line = inr (refuses, (e, breach, is, line))
   kept_out e is (Err x) refuses breach line = tt

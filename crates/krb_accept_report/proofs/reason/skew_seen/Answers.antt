@@ -6,8 +6,8 @@ returns c = (
   c.in_ok-moment.moment.items,
   c.distance_of-seconds.result.seconds,
   c.distance_of-seconds.result.side.now,
-  simp to_z-of_z at c.in_ok-moment.ensures,
-  simp to_z-of_z at c.distance_of-seconds.ensures,
+  simp (to_z-of_z, c.ranges.time) at c.in_ok-moment.ensures,
+  simp (to_z-of_z, c.ranges.time, c.ranges.clock) at c.distance_of-seconds.ensures,
   simp (
     c.in_ok-extend_from_slice-6.ensures.items,
     c.in_ok-push_number-2.ensures,
