@@ -7,9 +7,9 @@ returns-clause-said c = (
   c.in_ok-service.service.terms,
   c.in_ok-service.service.arrival,
   c.in_ok-service.service.settings,
-  c.token_or.result.now,
+  c.token_or-token.result.now,
   rw (c.in_ok-service.ensures.keys, c.deref.ensures.value) c.in_ok-keys.ensures.found,
   c.in_ok-service.ensures.asked,
-  rw c.token_or.ensures (token_in _ _ _ c.in_ok-inner.ensures),
+  rw (c.token_or-token.ensures, ← c.question.view_is) (token_in _ c.question.inside.octets.now _ c.in_ok-inner.ensures),
   c.in_ok-said.ensures.said,
 )
