@@ -1,5 +1,5 @@
 -- The kvnos of one more key.
-use Rattle.std.proofs.Common.{◌≡◌, ap, inl, inr, refl, ℕ, List, [], ◌∷◌, ◌++◌}
+use Rattle.std.proofs.Common.{ap, inl, inr, refl, ℕ, List, [], ◌∷◌, ◌++◌}
 use Rattle.krb_accept_rules.specs.Keys.{IsOfServerAndType}
 use Rattle.krb_accept_rules.specs.declared.fields.RequestFields.{RequestFields}
 use Rattle.krb_accept_rules.specs.declared.key.ServiceKey.{ServiceKey}

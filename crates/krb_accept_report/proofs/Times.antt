@@ -1,5 +1,5 @@
 -- A time's text, and its element of DER.
-use Rattle.std.proofs.Common.{◌≡◌, ap, ◌∙◌, ℕ, List, [], ◌∷◌, length}
+use Rattle.std.proofs.Common.{◌≡◌, ap, ◌∙◌, ℕ, List, ◌∷◌, length}
 use Rattle.krb_der_core.specs.GeneralizedTime.{IsRealTime, Time, time_content}
 use Rattle.krb_der_core.specs.Tlv.{len, tlv}
 use Rattle.krb_accept_report.specs.Texts.{IsNoText, digits_of, time_text}

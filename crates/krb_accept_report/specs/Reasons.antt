@@ -6,7 +6,6 @@ use Rattle.krb_accept.specs.declared.token_refusal.TokenRefusal.{TokenRefusal}
 use Rattle.krb_accept.specs.declared.token_refusal.TokenRefusal.TheVariants as refusal
 use Rattle.krb_accept_rules.specs.declared.key.ServiceKey.{ServiceKey}
 use Rattle.krb_accept_rules.specs.declared.opening.Opening.{Ghosts as OpeningOf}
-use Rattle.krb_accept_rules.specs.declared.refusal.Refusal.{Refusal}
 use Rattle.krb_accept_rules.specs.declared.refusal.Rule.{Rule}
 use Rattle.krb_accept_rules.specs.declared.refusal.Rule.TheVariants as Rules
 use Rattle.krb_accept_report.specs.Requests.{IsKeyReasonOf}
