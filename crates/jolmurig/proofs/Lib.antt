@@ -3,3 +3,4 @@ mod Steps
 mod KeyLists
 mod PasswordLists
 mod Writes
+mod Judging

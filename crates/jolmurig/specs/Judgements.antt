@@ -78,8 +78,8 @@ pub record AreSettings (a : Accept) (s : Settings) : Type 0 where
 
 -- ---- the keytab, and all of it
 
--- What files give by their names, and a clock tells.
-module _ (gives : List ℕ → Option (List ℕ) → Type 0) (ticks : Ticks) where
+-- What files give by their names.
+module _ (gives : List ℕ → Option (List ℕ) → Type 0) where
   -- the octets of the keytab that is named
   abbrev pub IsKeytab : Option (List ℕ) → List ℕ → Type 0
   IsKeytab None octets = ⊥
@@ -90,11 +90,13 @@ module _ (gives : List ℕ → Option (List ℕ) → Type 0) (ticks : Ticks) whe
   IsNoKeytab None e = e ≡ failure.Arguments
   IsNoKeytab (Some name) e = (e ≡ failure.Undecided undecided.KeytabFile) × gives name None
 
+-- What files give by their names, and a clock tells.
+module _ (gives : List ℕ → Option (List ℕ) → Type 0) (ticks : Ticks) where
   pub record IsService (a : Accept) (skew : ℕ) (settings : Settings) (clock : ℤ) (keytab : List ℕ) : Type 0 where
     pub is_skew : IsSkew a.skew skew
     pub are_settings : AreSettings a settings
     pub is_clock : IsClock ticks a.time clock
-    pub is_keytab : IsKeytab a.keytab keytab
+    pub is_keytab : IsKeytab gives a.keytab keytab
 
   -- there is a skew, and no channel bindings; these too, and no time; and all of them, and no keytab
   abbrev pub HasNoSettings : Accept → Failure → Type 0
@@ -105,7 +107,7 @@ module _ (gives : List ℕ → Option (List ℕ) → Type 0) (ticks : Ticks) whe
 
   abbrev pub HasNoKeytab : Accept → Failure → Type 0
   HasNoKeytab a e =
-      (skew : ℕ) × (settings : Settings) × (clock : ℤ) × IsSkew a.skew skew × AreSettings a settings × IsClock ticks a.time clock × IsNoKeytab a.keytab e
+      (skew : ℕ) × (settings : Settings) × (clock : ℤ) × IsSkew a.skew skew × AreSettings a settings × IsClock ticks a.time clock × IsNoKeytab gives a.keytab e
 
   -- why there is no service: the first option that has no value, or whose file or clock cannot be read
   abbrev pub IsNoService : Accept → Failure → Type 0

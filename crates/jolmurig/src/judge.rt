@@ -2,6 +2,7 @@
 
 ghost use Rattle.std.specs.Prelude.{◌≡◌, ◌≢◌, ◌⊎◌, ℤ, ℕ, List, None, Some, Ok, IfErr, IfOk, MatchOption, option_copied};
 ghost use Rattle.hex.specs.Hex.{decode_of};
+ghost use Rattle.krb_accept_report.specs.Texts.{IsTimeOf};
 ghost use Rattle.krb_accept_report.specs.declared.report.ReportError.{ReportError};
 ghost use Rattle.jolmurig.specs.Judgements.{AreBindings, AreNoBindings, AreSettings, HasBindings, HasNoBindings, IsClock, IsKeytab, IsMoment, IsNoClock};
 ghost use Rattle.jolmurig.specs.Judgements.{IsNoKeytab, IsNoService, IsSeconds, IsService, IsSkew, failure_of_report, undecided_of};
@@ -37,6 +38,15 @@ fn seconds_in(text: &str) -> Option<i64>
     }
 }
 
+/// The seconds since 1970 that a text names as 2026-01-02T03:04:05Z.
+fn time_in(alloc: Global, text: &str) -> Result<Option<i64>, Failure>
+    ensures found { IfOk result (λ found. MatchOption found ((seconds : ℤ) → IsTimeOf text.now seconds → ⊥) (IsTimeOf text.now)) }
+    ensures rejected { IfErr result (λ e. e ≡ failure.Memory) }
+{
+    let found = seconds_of_text(alloc, text.as_bytes())?;
+    Ok(found)
+}
+
 /// The time that a text names, in seconds since 1970: these in decimal, or as 2026-01-02T03:04:05Z.
 fn moment_of(alloc: Global, text: &str) -> Result<i64, Failure>
     ensures found { IfOk result (IsMoment text.now) }
@@ -45,9 +55,10 @@ fn moment_of(alloc: Global, text: &str) -> Result<i64, Failure>
     if let Some(seconds) = seconds_in(text) {
         return Ok(seconds);
     }
-    match seconds_of_text(alloc, text.as_bytes())? {
-        Some(seconds) => Ok(seconds),
-        None => Err(Failure::Time),
+    match time_in(alloc, text) {
+        Ok(Some(seconds)) => Ok(seconds),
+        Ok(None) => Err(Failure::Time),
+        Err(failure) => Err(failure),
     }
 }
 
@@ -235,8 +246,8 @@ pub fn judge<C: Calls, F: Files + Clock, R: Read>(
     files: &F,
     input: &mut R,
 ) -> Result<Report, Failure>
-    ensures said { IfOk result (λ r. IsJudged C.judges (F.gives files.now) (F.ticks files.now) asked.now (R.remaining input.old) r.accepts r.line.items) }
-    ensures rejected { IfErr result (IsNotJudged C.misjudges (F.gives files.now) (F.ticks files.now) asked.now (R.remaining input.old) (R.remaining input.new)) }
+    ensures said { IfOk result (λ r. IsJudged (F.gives files.now) (F.ticks files.now) C.judges asked.now (R.remaining input.old) r.accepts r.line.items) }
+    ensures rejected { IfErr result (IsNotJudged (F.gives files.now) (F.ticks files.now) C.misjudges asked.now (R.remaining input.old) (R.remaining input.new)) }
     ensures left { IsLeft asked.now.file (R.remaining input.old) (R.remaining input.new) }
 {
     let service = service_of(alloc, files, asked)?;
