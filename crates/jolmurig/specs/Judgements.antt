@@ -1,5 +1,5 @@
 -- The service that `accept` is asked about.
-use Rattle.std.specs.Prelude.{◌≡◌, ◌≢◌, ◌⊎◌, ◌<◌, ◌^◌, ℕ, ℤ, Bool, Option, Some, None, Ok, List, FitsSigned, length, slice_index, unwrap_or}
+use Rattle.std.specs.Prelude.{◌≡◌, ◌≢◌, ◌⊎◌, ◌<◌, ◌^◌, ℕ, ℤ, Option, Some, None, Ok, List, FitsSigned, length, slice_index, unwrap_or}
 use Rattle.std.specs.Int.{w64}
 use Rattle.std.specs.Str.Parse.{IsNumeral, digits_value, without_leading_sign, signed_digits_value}
 use Rattle.hex.specs.Hex.{decode_of}
