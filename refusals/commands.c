@@ -133,10 +133,19 @@ static void fail(const struct command *command, const char *when, long refused,
     exit(1);
 }
 
-/* The status of a failure that is no answer: `accept` has 1 for a client that is not let in. */
+static int is_word(const char *one, const char *other) {
+    return strlen(one) == strlen(other) && memcmp(one, other, strlen(one)) == 0;
+}
+
+/* The status of a failure that is no answer: `accept` has 1 for a client that is not let in; its
+ * help is help. */
 static int failure_status(const struct command *command) {
-    const char *name = word(command, 0);
-    return strlen(name) == 6 && memcmp(name, "accept", 6) == 0 ? 2 : 1;
+    for (int place = 0; command->words[place]; place++) {
+        if (is_word(command->words[place], "--help")) {
+            return 1;
+        }
+    }
+    return is_word(word(command, 0), "accept") ? 2 : 1;
 }
 
 /* Makes each allocation fail in turn, until a run meets none, and returns how many runs that
