@@ -140,7 +140,7 @@ static int is_word(const char *one, const char *other) {
 /* The status of a failure that is no answer: `accept` has 1 for a client that is not let in; its
  * help is help. */
 static int failure_status(const struct command *command) {
-    for (int place = 0; command->words[place]; place++) {
+    for (int place = 0; place < WORDS && command->words[place]; place++) {
         if (is_word(command->words[place], "--help")) {
             return 1;
         }
