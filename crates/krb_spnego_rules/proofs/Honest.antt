@@ -4,7 +4,7 @@ use Rattle.std.specs.Prelude.{is_some}
 use Rattle.std.specs.declared.alloc.Global.{Global}
 use Rattle.krb_spnego_rules.specs.Decisions.{continues}
 use Rattle.krb_spnego_rules.specs.Fields.{items_in}
-use Rattle.krb_spnego_rules.specs.HonestEngines.{Ends, Follows, IsHalf, IsPair, Meets, Stands, context_of, flipped, list_of, name_of, note_in, side_in}
+use Rattle.krb_spnego_rules.specs.HonestEngines.{Ends, Follows, Goes, IsHalf, IsPair, Meets, Stands, context_of, flipped, list_of, name_of, note_in, side_in}
 use Rattle.krb_spnego_rules.specs.Meaning.{Meaning}
 use Rattle.krb_spnego_rules.specs.Messages.{after_later}
 use Rattle.krb_spnego_rules.specs.Mics.{IsSeen}
@@ -92,19 +92,28 @@ pub rest_of : (established : Bool) (token : Option (Vec ℕ Global)) (left : ℕ
 rest_of established None left is last there = (refl, last refl)
 rest_of established (Some t) left is last there = cc
 
+-- what has something to do
+pub goes_some : (left : ℕ) (token : Option (Vec ℕ Global)) → is_some token ≡ true → Goes left (items_in token)
+goes_some left (Some t) e = refl
+goes_some left None e = cc
+
+pub waits_some : (established : Bool) (token : Option (Vec ℕ Global)) → established ≡ not (is_some token) → established ≡ false → is_some token ≡ true
+waits_some established (Some t) is e = refl
+waits_some established None is e = cc
+
 pub turned : {X Y : Type 0} (mine : Meaning X) (theirs : Meaning Y) (at_x at_y : ℕ → Option (List ℕ) → X → Y → Type 0) → IsHalf mine theirs at_x at_y
     → (b : Bool) (left : ℕ) (token : Option (Vec ℕ Global)) (x context : X) (y : Y) (turn : Turn)
-    → (b ≡ true → (items_in token ≡ None) × (left ≡ zero)) → at_x left (items_in token) x y → Takes mine b x (items_in token) context turn
+    → (b ≡ true → (items_in token ≡ None) × (left ≡ zero)) → (b ≡ false → Goes left (items_in token)) → at_x left (items_in token) x y → Takes mine b x (items_in token) context turn
     → (progress_in turn ≡ progress_of left) × at_y (left_after left) (items_in (token_in turn)) context y
-turned mine theirs at_x at_y half true left token x context y turn rest at takes =
+turned mine theirs at_x at_y half true left token x context y turn rest goes at takes =
     let left_is : left ≡ zero = (rest refl).1 in
     let start : at_x zero None x y = subst (λ l. at_x l None x y) left_is (subst (λ t. at_x left t x y) (rest refl).0 at) in (
       ap progress_in takes.1 ∙ ap progress_of (sym left_is),
       subst (λ l. at_y (left_after l) (items_in (token_in turn)) context y) (sym left_is)
           (subst (λ t. at_y zero (items_in (token_in t)) context y) (sym takes.1) (subst (λ c. at_y zero None c y) (sym takes.0) (half.rests x y start))),
     )
-turned mine theirs at_x at_y half false left token x context y turn rest at takes =
-    half.turns left (items_in token) x y context turn at takes
+turned mine theirs at_x at_y half false left token x context y turn rest goes at takes =
+    half.turns left (items_in token) x y context turn (goes refl) at takes
 
 pub false_true : false ≡ true → ⊥
 false_true e = cc
@@ -285,21 +294,21 @@ pub went : (most : ℕ) → Simulates most → (X Y : Type 0) (mine : Meaning X)
     (token own : Option (Vec ℕ Global)) (list name : List ℕ) (n : ℕ) (out : Outcome X) → x.list.items ≡ list → x.name.items ≡ name
     → list_of y ≡ list → name_of y ≡ name → Stands done y side → at_x left (items_in token) x.mechanism (context_of y)
     → ((mic : Vec ℕ Global) → own ≡ Some mic → (before : Y) × theirs.makes before list mic.items (context_of y))
-    → (x.established ≡ true → (items_in token ≡ None) × (left ≡ zero))
+    → (x.established ≡ true → (items_in token ≡ None) × (left ≡ zero)) → (x.established ≡ false → Goes left (items_in token))
     → after (follows most role side x.terms left) done (decides role x.terms false (progress_of left) (Some state) (mic_of (is_some own) (progress_of left)))
     ≡ Some n
     → GoesOn mine role x None (Some state) (items_in token) (items_in own) out
     → Follows (λ peer s sent. Ends most Y X theirs mine (other_role role) peer s sent) y out
-went most sim X Y mine theirs at_x at_y pair role x y left done side state token own list name n out xl xn yl yn st at made rest_at e goes =
+went most sim X Y mine theirs at_x at_y pair role x y left done side state token own list name n out xl xn yl yn st at made rest_at goes_at e goes =
     elim goes [
       | inl memory ↦ subst (λ o. Follows (λ peer s sent. Ends most Y X theirs mine (other_role role) peer s sent) y o) (sym memory) refl
       | inr rest ↦ elim rest [
-        | inl refused ↦ absurd (pair.x_half.takes left (items_in token) x.mechanism (context_of y) at refused.1.0)
+        | inl refused ↦ absurd (pair.x_half.takes left (items_in token) x.mechanism (context_of y) (goes_at refused.0) at refused.1.0)
         | inr step ↦
             let context = step.0 in
             let turn = step.1.0 in
             let t : (progress_in turn ≡ progress_of left) × at_y (left_after left) (items_in (token_in turn)) context (context_of y)
-            = turned mine theirs at_x at_y pair.x_half x.established left token x.mechanism context (context_of y) turn rest_at at step.1.1.0 in
+            = turned mine theirs at_x at_y pair.x_half x.established left token x.mechanism context (context_of y) turn rest_at goes_at at step.1.1.0 in
             let sight = step.1.1.1.0 in
             let seen : sight ≡ mic_of (is_some own) (progress_in turn)
             = sight_is (mine.holds context x.list.items) own (progress_in turn) sight step.1.1.1.1.0
@@ -333,6 +342,7 @@ by_verdict most sim X Y mine theirs at_x at_y pair role x y left done side state
     went most sim X Y mine theirs at_x at_y pair role x y left done side state token own list name n out meets.x_list
     meets.x_name meets.y_list meets.y_name meets.stands meets.at meets.made
     (λ there. rest_of x.established token left (waits_for state (is_some token) x.established u is) meets.last there)
+    (λ waits. goes_some left token (waits_some x.established token (waits_for state (is_some token) x.established u is) waits))
     (sym (ap (after (follows most role side x.terms left) done) (decided_is role x.terms (progress_of left) state (is_some token) (is_some own))) ∙ e) later
 
 -- HONEST ENGINES DO WHAT THE RULES COUNT

@@ -1,12 +1,12 @@
 -- Two honest engines over contexts that fit together (RFC 4178, 5): nobody is between them.
-use Rattle.std.specs.Prelude.{◌≡◌, ◌==◌, not, is_some, slice_get, ℕ, zero, suc, List, Bool, true, false, Option, Some, None, Ok, Err, Vec}
+use Rattle.std.specs.Prelude.{◌≡◌, ◌==◌, ◌||◌, not, is_some, slice_get, ℕ, zero, suc, List, Bool, true, false, Option, Some, None, Ok, Err, Vec}
 use Rattle.std.specs.declared.alloc.Global.{Global}
 use Rattle.krb_spnego_rules.specs.AcceptorSteps.{IsOffered, named_in, rank_in}
 use Rattle.krb_spnego_rules.specs.Decisions.{continues}
 use Rattle.krb_spnego_rules.specs.Fields.{items_in}
 use Rattle.krb_spnego_rules.specs.InitiatorSteps.{Replied, picks}
 use Rattle.krb_spnego_rules.specs.Meaning.{Meaning}
-use Rattle.krb_spnego_rules.specs.Runs.{Note, Side, left_after, other_role, progress_of}
+use Rattle.krb_spnego_rules.specs.Runs.{Note, Side, left_after, other_role, progress_of, sends_token}
 use Rattle.krb_spnego_rules.specs.Steps.{Later, Outcome}
 use Rattle.krb_spnego_rules.specs.Turns.{progress_in, token_in}
 use Rattle.krb_spnego_rules.specs.declared.acceptor.Fresh.{Fresh}
@@ -27,12 +27,17 @@ use Rattle.krb_spnego_rules.specs.declared.side.After.TheVariants as afters
 
 -- ---- contexts that fit together
 
+-- a context has something to do: a token came, or some are still to be sent
+abbrev pub Goes : ℕ → Option (List ℕ) → Type 0
+Goes left token = (is_some token || sends_token left) ≡ true
+
 -- Where so many tokens are still to be sent, the next one by X, to which this token of Y came: `at_x left token x y`; `at_y` is the same where it is Y's
 -- turn. This is what X owes the pair: it refuses no token of Y; after so many tokens it is established; a MIC of its own changes nothing of that; and it
--- verifies a MIC that Y made last, once both are established.
+-- verifies a MIC that Y made last, once both are established. Of a context at rest, to which no token comes, no step is asked.
 pub record IsHalf {X Y : Type 0} (mine : Meaning X) (theirs : Meaning Y) (at_x at_y : ℕ → Option (List ℕ) → X → Y → Type 0) : Type 0 where
-  pub takes : (left : ℕ) (token : Option (List ℕ)) (x : X) (y : Y) → at_x left token x y → mine.refuses x token → ⊥
-  pub turns : (left : ℕ) (token : Option (List ℕ)) (x : X) (y : Y) (after : X) (turn : Turn) → at_x left token x y → mine.steps x token after turn
+  pub takes : (left : ℕ) (token : Option (List ℕ)) (x : X) (y : Y) → Goes left token → at_x left token x y → mine.refuses x token → ⊥
+  pub turns : (left : ℕ) (token : Option (List ℕ)) (x : X) (y : Y) (after : X) (turn : Turn) → Goes left token → at_x left token x y
+      → mine.steps x token after turn
       → (progress_in turn ≡ progress_of left) × at_y (left_after left) (items_in (token_in turn)) after y
   pub rests : (x : X) (y : Y) → at_x zero None x y → at_y zero None x y
   pub makes : (left : ℕ) (token : Option (List ℕ)) (x : X) (y : Y) (text mic : List ℕ) (after : X) → at_y left token x y

@@ -1,2 +1,3 @@
 pub mod Toy
 pub mod Steady
+pub mod Paired

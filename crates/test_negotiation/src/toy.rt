@@ -1,9 +1,11 @@
 //! A mechanism that protects nothing: tokens in turn, and MICs that are a key and the text.
 
 ghost use Rattle.std.specs.Prelude.{◌≡◌};
+ghost use Rattle.test_negotiation.specs.Paired.{Fits, FitsOther, toy_pair};
 ghost use Rattle.test_negotiation.specs.Steady.{toy_steady};
 ghost use Rattle.test_negotiation.specs.Toy.{is_arc as is_arc_of, is_mic as is_mic_of, left_at, toy_meaning};
 
+use krb_spnego_rules::laws::Paired;
 use krb_spnego_rules::{Mechanism, MechanismError, Turn};
 use std::alloc::{AllocError, Global};
 
@@ -103,4 +105,12 @@ impl Mechanism for Toy {
     fn verify_mic(&self, _alloc: Global, text: &[u8], mic: &[u8]) -> Result<bool, AllocError> {
         Ok(is_mic(self.key, text, mic))
     }
+}
+
+impl Paired<Toy> for Toy {
+    ghost at_mine = { Fits };
+
+    ghost at_theirs = { FitsOther };
+
+    ghost pair = { toy_pair };
 }

@@ -1,0 +1,3 @@
+pub mod Rejecting
+pub mod Encodings
+pub mod Hearing

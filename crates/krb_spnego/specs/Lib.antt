@@ -1,0 +1,6 @@
+pub mod States
+pub mod Messages
+pub mod Reading
+pub mod Taking
+pub mod Offering
+pub mod Hearing

@@ -1,0 +1,72 @@
+//! Lemmas about the definitions and about whole runs over octets: functions with no body of their
+//! own, each of whose clauses is a fact.
+
+ghost use Rattle.std.specs.Prelude.{◌≡◌, ◌++◌, ◌∷◌, [], ℕ, List, Option, false};
+ghost use Rattle.krb_spnego.specs.Hearing.{AcceptorHears, InitiatorHears, IsAcceptorAfter, IsAcceptorAfterOffer, IsInitiatorAfter};
+ghost use Rattle.krb_spnego.specs.Taking.{AcceptorTakes, Taken, is_fresh_side};
+ghost use Rattle.krb_spnego_rules.specs.Justified.{IsAcceptor, IsInitiator, Offering, Received};
+ghost use Rattle.krb_spnego_rules.specs.declared.acceptor.Acceptor.{Acceptor as AcceptorOf};
+ghost use Rattle.krb_spnego_rules.specs.declared.acceptor.Acceptor.TheVariants as acceptors;
+ghost use Rattle.krb_spnego_rules.specs.declared.acceptor.Fresh.{Fresh as FreshOf};
+ghost use Rattle.krb_spnego_rules.specs.declared.initiator.Initiator.{Initiator as InitiatorOf};
+ghost use Rattle.krb_spnego_rules.specs.declared.initiator.Initiator.TheVariants as initiators;
+ghost use Rattle.krb_spnego_rules.specs.declared.message.Refusal.{Refusal as RefusalOf};
+ghost use Rattle.krb_spnego_rules.specs.declared.words.NegState.{NegState};
+
+use krb_der::DerEncode;
+use krb_der::laws::concatenated_encodings;
+use krb_gss_tokens::gss_api::{ApplicationTag0, GssApiNegInit, MechTypeList, NegTokenTarg1};
+use krb_spnego_rules::Mechanism;
+use krb_spnego_rules::laws::{acceptor_is_justified, initiator_is_justified};
+
+/// Lists of mechanisms with the same encoding are the same (X.690, 10): a MIC over the encoding is
+/// one over the list.
+pub fn lists()
+    ensures { (a b : List (List ℕ)) → ⟦<MechTypeList as DerEncode>⟧.is_value a → ⟦<MechTypeList as DerEncode>⟧.is_value b
+        → ⟦<MechTypeList as DerEncode>⟧.enc a ≡ ⟦<MechTypeList as DerEncode>⟧.enc b → a ≡ b }
+{
+    concatenated_encodings::<MechTypeList>();
+}
+
+/// No downgrade without a forged MIC, of an initiator over octets (RFC 4178, 5 and 7). After any
+/// octets, one after another, it has failed, for good; or the last ones are the one encoding of a
+/// NegTokenResp, and it is as `krb_spnego_rules::laws::initiator_is_justified` says: complete only
+/// with a mechanism that it offered and that supportedMech named, where the MIC of that last
+/// message holds of just the list that was sent, or where it is on its preferred mechanism, nobody
+/// asked for MICs, and that last message says accept-completed.
+pub fn initiator<M: Mechanism>()
+    ensures heard { (offering : Offering) (state : Option NegState) (came : Option (List ℕ)) (before : InitiatorOf M)
+        (all : List (List ℕ)) (last : List ℕ) (after : InitiatorOf M)
+        → IsInitiator M.meaning offering state came before
+        → InitiatorHears ⟦<NegTokenTarg1 as DerEncode>⟧ M.meaning before (all ++ last ∷ []) after
+        → IsInitiatorAfter ⟦<NegTokenTarg1 as DerEncode>⟧ M.meaning offering last after }
+    ensures failed { (refusal : RefusalOf) (all : List (List ℕ)) (after : InitiatorOf M)
+        → InitiatorHears ⟦<NegTokenTarg1 as DerEncode>⟧ M.meaning (initiators.Failed refusal) all after
+        → after ≡ initiators.Failed refusal }
+{
+    initiator_is_justified::<M>();
+}
+
+/// No downgrade without a forged MIC, of an acceptor over octets. After its first octets it has
+/// failed, or a mechanism took them as its own with no negotiation around them, of which nothing is
+/// said; or they are the one encoding of an offer. After any further octets the last ones are the
+/// one encoding of a NegTokenResp, and it is as `krb_spnego_rules::laws::acceptor_is_justified`
+/// says of the list that it got.
+pub fn acceptor<M: Mechanism>()
+    ensures offered { (fresh : FreshOf M) (octets : List ℕ) (result : Taken (AcceptorOf M))
+        → AcceptorTakes ⟦<ApplicationTag0<GssApiNegInit> as DerEncode>⟧ ⟦<MechTypeList as DerEncode>⟧ ⟦<NegTokenTarg1 as DerEncode>⟧ M.meaning
+        (acceptors.Fresh fresh) octets result
+        → IsAcceptorAfterOffer ⟦<ApplicationTag0<GssApiNegInit> as DerEncode>⟧ ⟦<MechTypeList as DerEncode>⟧ M.meaning fresh octets result.0 }
+    ensures heard { (mechanisms : List M) (received : Received) (state : Option NegState) (came : Option (List ℕ)) (before : AcceptorOf M)
+        (all : List (List ℕ)) (last : List ℕ) (after : AcceptorOf M) → is_fresh_side before ≡ false
+        → IsAcceptor M.meaning mechanisms received state came before
+        → AcceptorHears ⟦<ApplicationTag0<GssApiNegInit> as DerEncode>⟧ ⟦<MechTypeList as DerEncode>⟧ ⟦<NegTokenTarg1 as DerEncode>⟧ M.meaning
+        before (all ++ last ∷ []) after
+        → IsAcceptorAfter ⟦<NegTokenTarg1 as DerEncode>⟧ M.meaning mechanisms received last after }
+    ensures failed { (refusal : RefusalOf) (all : List (List ℕ)) (after : AcceptorOf M)
+        → AcceptorHears ⟦<ApplicationTag0<GssApiNegInit> as DerEncode>⟧ ⟦<MechTypeList as DerEncode>⟧ ⟦<NegTokenTarg1 as DerEncode>⟧ M.meaning
+        (acceptors.Failed refusal) all after
+        → after ≡ acceptors.Failed refusal }
+{
+    acceptor_is_justified::<M>();
+}

@@ -1,0 +1,15 @@
+//! A negotiation of a mechanism (SPNEGO, RFC 4178) over octets: the messages by strict DER, and both
+//! sides by the rules of `krb_spnego_rules`.
+#![tactic(auto)]
+
+mod error;
+pub mod laws;
+mod machine;
+mod reading;
+mod writing;
+
+pub use error::{BeginError, ReadError};
+pub use krb_spnego_rules as rules;
+pub use machine::{accept_step, begin, initiate_step};
+pub use reading::{read_offer, read_reply};
+pub use writing::REJECT;
