@@ -7,12 +7,6 @@ use Rattle.krb_spnego_rules.specs.declared.words.Progress.{Progress}
 use Rattle.krb_spnego_rules.specs.declared.words.Progress.TheVariants.{Continues, EndsWithToken, Ends}
 use Rattle.test_negotiation.specs.declared.toy.Toy.{Toy}
 
--- object identifiers of one arc
-abbrev pub is_arc : ℕ → List ℕ → Bool
-is_arc arc [] = false
-is_arc arc (x ∷ []) = x == arc
-is_arc arc (x ∷ y ∷ ys) = false
-
 -- how the context stands where so many tokens are left, and how many are left then
 abbrev pub progress_at : ℕ → Progress
 progress_at zero = Ends
@@ -29,7 +23,7 @@ left_at false left = left
 left_at true left = less left
 
 abbrev pub with_left : Toy → ℕ → Toy
-with_left toy left = record { arc = toy.arc; left = left; key = toy.key; integrity = toy.integrity }
+with_left toy left = record { arcs = toy.arcs; left = left; key = toy.key; integrity = toy.integrity }
 
 abbrev pub is_mic : ℕ → List ℕ → List ℕ → Bool
 is_mic key text [] = false
@@ -37,8 +31,8 @@ is_mic key text (x ∷ xs) = (x == key) && pointwise nat_eq xs text
 
 abbrev pub toy_meaning : Meaning Toy
 toy_meaning = record {
-  oid = λ toy. toy.arc ∷ [];
-  names = λ toy arcs. is_arc toy.arc arcs;
+  oid = λ toy. toy.arcs.items;
+  names = λ toy arcs. pointwise nat_eq arcs toy.arcs.items;
   integrity = λ toy. toy.integrity;
   bare = λ toy octets. false;
   established = λ toy. toy.left ≡ zero;

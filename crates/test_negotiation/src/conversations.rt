@@ -1,68 +1,9 @@
 //! Two engines against each other, with a third between them or without.
 
-use crate::toy::Toy;
-use krb_spnego_rules::{Acceptor, Initiator, Message, Proposal, Refusal, Rule, accept, begin};
+use crate::texts::{acceptor_text, initiator_text, toy};
+use krb_spnego_rules::{Message, Proposal, accept, begin};
 use std::alloc::Global;
 use std::test::Fail;
-
-/// One side's context of the toy with this object identifier.
-fn toy(arc: u64, tokens: u8) -> Toy {
-    Toy {
-        arc,
-        left: tokens,
-        key: 7,
-        integrity: true,
-    }
-}
-
-fn refusal_text(refusal: Refusal) -> &'static str {
-    match refusal {
-        Refusal::Broken(rule) => rule_text(rule),
-        Refusal::OutOfMemory => "OutOfMemory",
-        Refusal::Unread => "Unread",
-    }
-}
-
-fn rule_text(rule: Rule) -> &'static str {
-    match rule {
-        Rule::WrongMic => "WrongMic",
-        Rule::NoMic => "NoMic",
-        Rule::Finished => "Finished",
-        Rule::UnknownMechanism => "UnknownMechanism",
-        _ => "another rule",
-    }
-}
-
-fn initiator_text(side: &Initiator<Toy>) -> &'static str {
-    match side {
-        Initiator::Offered(_) => "offered",
-        Initiator::Running(_) => "waits",
-        Initiator::Complete(complete) => {
-            if complete.by_mic {
-                "complete by MIC"
-            } else {
-                "complete"
-            }
-        }
-        Initiator::Failed(refusal) => refusal_text(*refusal),
-    }
-}
-
-fn acceptor_text(side: &Acceptor<Toy>) -> &'static str {
-    match side {
-        Acceptor::Fresh(_) => "fresh",
-        Acceptor::Running(_) => "waits",
-        Acceptor::Bare(_) => "bare",
-        Acceptor::Complete(complete) => {
-            if complete.by_mic {
-                "complete by MIC"
-            } else {
-                "complete"
-            }
-        }
-        Acceptor::Failed(refusal) => refusal_text(*refusal),
-    }
-}
 
 /// How a conversation ended: how many messages there were, the states of both sides, and the
 /// initiator's after one message more.
@@ -91,9 +32,9 @@ fn converse(
     asks: bool,
     heard: Heard,
 ) -> Result<End, Fail> {
-    let others = Vec::from_array(alloc, [toy(2, tokens)])?;
+    let others = Vec::from_array(alloc, [toy(alloc, 2, tokens)?])?;
     let list = Vec::from_slice(alloc, &[1, 2])?;
-    let Ok((mut initiator, token)) = begin(alloc, toy(1, tokens), others, list) else {
+    let Ok((mut initiator, token)) = begin(alloc, toy(alloc, 1, tokens)?, others, list) else {
         return Ok(End {
             messages: 0,
             initiator: "does not begin",
@@ -101,7 +42,10 @@ fn converse(
             after_end: "does not begin",
         });
     };
-    let acceptor = accept(Vec::from_array(alloc, [toy(supported, tokens)])?, asks);
+    let acceptor = accept(
+        Vec::from_array(alloc, [toy(alloc, supported, tokens)?])?,
+        asks,
+    );
     let proposal = Proposal {
         mechanisms: heard.names,
         list: heard.list,
@@ -145,7 +89,7 @@ fn converse(
 fn offer_of(alloc: Global, arcs: &[u64], list: &[u8], drops_token: bool) -> Result<Heard, Fail> {
     let mut names = Vec::new(alloc);
     for arc in arcs {
-        names.push(Vec::from_slice(alloc, &[*arc])?)?;
+        names.push(Vec::from_slice(alloc, &[1, 3, 6, 1, 4, 1, 99, *arc])?)?;
     }
     Ok(Heard {
         names,

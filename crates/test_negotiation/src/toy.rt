@@ -3,7 +3,7 @@
 ghost use Rattle.std.specs.Prelude.{◌≡◌};
 ghost use Rattle.test_negotiation.specs.Paired.{Fits, FitsOther, toy_pair};
 ghost use Rattle.test_negotiation.specs.Steady.{toy_steady};
-ghost use Rattle.test_negotiation.specs.Toy.{is_arc as is_arc_of, is_mic as is_mic_of, left_at, toy_meaning};
+ghost use Rattle.test_negotiation.specs.Toy.{is_mic as is_mic_of, left_at, toy_meaning};
 
 use krb_spnego_rules::laws::Paired;
 use krb_spnego_rules::{Mechanism, MechanismError, Turn};
@@ -12,24 +12,14 @@ use std::alloc::{AllocError, Global};
 /// One side's context of the toy.
 #[derive(Drop)]
 pub struct Toy {
-    /// Its object identifier.
-    pub arc: u64,
+    /// The arcs of its object identifier.
+    pub arcs: Vec<u64>,
     /// How many tokens are still to be exchanged.
     pub left: u8,
     /// The key of its MICs.
     pub key: u8,
     /// It offers MICs.
     pub integrity: bool,
-}
-
-fn is_arc(arc: u64, arcs: &[u64]) -> bool
-    ensures { result ≡ is_arc_of arc arcs.now }
-{
-    match arcs {
-        [] => false,
-        [only] => *only == arc,
-        [_, _, ..] => false,
-    }
 }
 
 fn is_mic(key: u8, text: &[u8], mic: &[u8]) -> bool
@@ -60,11 +50,11 @@ impl Mechanism for Toy {
     ghost steady = { toy_steady };
 
     fn arcs(&self) -> &[u64] {
-        std::slice::from_ref(&self.arc)
+        self.arcs.as_slice()
     }
 
     fn is_named(&self, arcs: &[u64]) -> bool {
-        is_arc(self.arc, arcs)
+        arcs == self.arcs.as_slice()
     }
 
     fn has_integrity(&self) -> bool {
