@@ -1,0 +1,2 @@
+mod Engines
+mod Later

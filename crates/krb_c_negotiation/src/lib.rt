@@ -3,6 +3,7 @@
 #![tactic(auto)]
 
 mod answering;
+pub mod laws;
 mod numbers;
 mod records;
 mod taking;
