@@ -7,10 +7,7 @@ use krb_c_negotiation::{MessageRecord, NegotiationRecord, ReplyRecord, answer, t
 
 /// `krb_negotiation_take` of `krb.h`: a side takes a message of the peer.
 #[unsafe(no_mangle)]
-pub extern "C" fn krb_negotiation_take(
-    side: &mut NegotiationRecord,
-    message: &MessageRecord,
-) -> u32
+pub extern "C" fn krb_negotiation_take(side: &mut NegotiationRecord, message: &MessageRecord) -> u32
     ensures { IsTaken side.old message.now side.new result }
 {
     take(side, message)

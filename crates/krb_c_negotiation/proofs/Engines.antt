@@ -43,7 +43,6 @@ is_some_none (Some a) e s = cc
 same : (a b : List ℕ) (o : Option (List ℕ)) → o ≡ Some a → o ≡ Some b → a ≡ b
 same a b o e f = cc
 
-
 early_held : (p : Progress) → p ≢ Ends → seen Holds p ≡ Early
 early_held Continues n = refl
 early_held EndsWithToken n = refl
@@ -85,7 +84,7 @@ own_is : {M : Type 0} (meaning : Meaning M) (before : M) (list : List ℕ) (mic 
 own_is meaning before list false after own h = sym (ap is_some h.1)
 own_is meaning before list true after own h = sym (ap is_some h.1.0)
 
-reply_is : (s s' : NegState) (a a' b b' c c' : Bool) → s ≡ s' → a ≡ a' → b ≡ b' → c ≡ c' → reply s a b c ≡ reply s' a' b' c'
+pub reply_is : (s s' : NegState) (a a' b b' c c' : Bool) → s ≡ s' → a ≡ a' → b ≡ b' → c ≡ c' → reply s a b c ≡ reply s' a' b' c'
 reply_is s s' a a' b b' c c' e f g h =
     rw e
     rw f
@@ -93,7 +92,7 @@ reply_is s s' a a' b b' c c' e f g h =
     rw h
     refl
 
-state_is : (first first' required required' : Bool) → first ≡ first' → required ≡ required' → waiting_state first required ≡ waiting_state first' required'
+pub state_is : (first first' required required' : Bool) → first ≡ first' → required ≡ required' → waiting_state first required ≡ waiting_state first' required'
 state_is first first' required required' e f =
     rw e
     rw f
@@ -107,21 +106,32 @@ does_as : {M : Type 0} (meaning : Meaning M) (role : Role) (r : Running M) (t : 
 does_as meaning role r t sight named (Refuse rule) out side is first h =
     subst (λ o. IsShown role o (does (Refuse rule) (progress_in t) sight side)) (sym h) (rule, (refl, (refl, (refl, refl))))
 does_as meaning role r t sight named Rest out side is first h =
-    subst (λ o. IsShown role o (does Rest (progress_in t) sight side)) (sym h)
-    (record { stage = refl; terms = record { preferred = is.terms.preferred; required = is.terms.required; sent = is.terms.sent }; by_mic = set_flag (is_held sight) }, refl)
+    subst (λ o. IsShown role o (does Rest (progress_in t) sight side)) (sym h) (
+      record {
+        stage = refl;
+        terms = record { preferred = is.terms.preferred; required = is.terms.required; sent = is.terms.sent };
+        by_mic = set_flag (is_held sight);
+      },
+      refl,
+    )
 does_as meaning role r t sight named (Finish own) out side is first h =
-    subst (λ o. IsShown role o (does (Finish own) (progress_in t) sight side)) (sym (h.1.1 ∙ ap Ok h.1.0.1.1.1))
-    (
-      record { stage = refl; terms = record { preferred = is.terms.preferred; required = is.terms.required; sent = is.terms.sent }; by_mic = set_flag (is_held sight) },
+    subst (λ o. IsShown role o (does (Finish own) (progress_in t) sight side)) (sym (h.1.1 ∙ ap Ok h.1.0.1.1.1)) (
+      record {
+        stage = refl;
+        terms = record { preferred = is.terms.preferred; required = is.terms.required; sent = is.terms.sent };
+        by_mic = set_flag (is_held sight);
+      },
       (
         AcceptCompleted,
-        (refl, reply_is AcceptCompleted AcceptCompleted (is_set side.first) (is_some named) (not (ends (progress_in t))) (is_some (token_in t)) own
-          (is_some h.1.0.1.0) refl first (token_is t) (own_is meaning r.mechanism r.list.items own h.1.0.0 h.1.0.1.0 h.1.0.1.1.0)),
+        (
+          refl,
+          reply_is AcceptCompleted AcceptCompleted (is_set side.first) (is_some named) (not (ends (progress_in t))) (is_some (token_in t)) own
+              (is_some h.1.0.1.0) refl first (token_is t) (own_is meaning r.mechanism r.list.items own h.1.0.0 h.1.0.1.0 h.1.0.1.1.0),
+        ),
       ),
     )
 does_as meaning role r t sight named (Wait own) out side is first h =
-    subst (λ o. IsShown role o (does (Wait own) (progress_in t) sight side)) (sym (h.1.1 ∙ ap Ok h.1.0.1.1.1))
-    (
+    subst (λ o. IsShown role o (does (Wait own) (progress_in t) sight side)) (sym (h.1.1 ∙ ap Ok h.1.0.1.1.1)) (
       refl,
       (
         record {
@@ -135,10 +145,13 @@ does_as meaning role r t sight named (Wait own) out side is first h =
         },
         (
           waiting_state (is_some named) r.terms.required,
-          (refl, reply_is (waiting_state (is_set side.first) (is_set side.required)) (waiting_state (is_some named) r.terms.required) (is_set side.first)
-            (is_some named) (not (ends (progress_in t))) (is_some (token_in t)) own (is_some h.1.0.1.0)
-            (state_is (is_set side.first) (is_some named) (is_set side.required) r.terms.required first is.terms.required) first (token_is t)
-            (own_is meaning r.mechanism r.list.items own h.1.0.0 h.1.0.1.0 h.1.0.1.1.0)),
+          (
+            refl,
+            reply_is (waiting_state (is_set side.first) (is_set side.required)) (waiting_state (is_some named) r.terms.required) (is_set side.first)
+                (is_some named) (not (ends (progress_in t))) (is_some (token_in t)) own (is_some h.1.0.1.0)
+                (state_is (is_set side.first) (is_some named) (is_set side.required) r.terms.required first is.terms.required) first (token_is t)
+                (own_is meaning r.mechanism r.list.items own h.1.0.0 h.1.0.1.0 h.1.0.1.1.0),
+          ),
         ),
       ),
     )

@@ -19,31 +19,16 @@ use Rattle.krb_spnego_rules.specs.declared.words.Progress.TheVariants.{Continues
 use Rattle.krb_spnego_rules.specs.declared.words.Role.{Role}
 use Rattle.krb_spnego_rules.specs.declared.words.Rule.{Rule}
 use Rattle.krb_spnego_rules.specs.declared.words.Rule.TheVariants as rules
-use Rattle.krb_c_negotiation.specs.Answering.{after_numbers as answered_by, after_turn, answer_in, answered, nothing}
-use Rattle.krb_c_negotiation.specs.Engines.{BothCome, IsGiven, IsLater, IsShown, IsSide}
-use Rattle.krb_c_negotiation.specs.Numbers.{choice_in, is_set, mic_in, role_in, stage_in, state_in, turn_in}
-use Rattle.krb_c_negotiation.specs.Taking.{after_numbers, gone_on_by, reply_of, taken}
+use Rattle.krb_c_negotiation.specs.Answering.{after_turn, nothing}
+use Rattle.krb_c_negotiation.specs.Engines.{BothCome, IsGiven, IsLater, IsShown, IsSide, TakesLater}
+use Rattle.krb_c_negotiation.specs.Numbers.{is_set, mic_in, stage_in, state_in, turn_in}
+use Rattle.krb_c_negotiation.specs.Taking.{gone_on_by, reply_of}
 use Rattle.krb_c_negotiation.specs.declared.numbers.Stage.TheVariants as stages
-use Rattle.krb_c_negotiation.specs.declared.numbers.Turn.{Turn}
 use Rattle.krb_c_negotiation.specs.declared.numbers.Turn.TheVariants as turns
 use Rattle.krb_c_negotiation.specs.declared.records.MessageRecord.{MessageRecord}
 use Rattle.krb_c_negotiation.specs.declared.records.NegotiationRecord.{NegotiationRecord}
+use Rattle.krb_c_negotiation.proofs.Reading.{answered_is, taken_is}
 use Rattle.krb_c_negotiation.proofs.Engines.{answers_as, is_some_none, set_flag}
-
--- ---- the answer, where its numbers are read
-
-pub answered_is : (side : NegotiationRecord) (role : Role) (state : Option NegState) (t : Turn) (mic : Mic) (at sight : ℕ) (alone : Bool) → side.stage ≡ 2
-    → role_in side.role ≡ Ok role → state_in side.said ≡ Ok state → turn_in (is_set side.steps) at ≡ Ok t → mic_in sight ≡ Ok mic
-    → (is_set side.first && not (is_set side.steps)) ≡ alone → answered side at sight ≡ Ok (answer_in role state t mic alone side)
-answered_is side role state t mic at sight alone stage_is role_is state_is turn_is mic_is alone_is =
-    subst (λ x. answered_by x (role_in side.role) (state_in side.said) (turn_in (is_set side.steps) at) (mic_in sight) side ≡ Ok (answer_in role state t mic alone side))
-        (sym (ap stage_in stage_is))
-    (subst (λ x. answered_by (Ok stages.Taken) x (state_in side.said) (turn_in (is_set side.steps) at) (mic_in sight) side ≡ Ok (answer_in role state t mic alone side))
-        (sym role_is)
-    (subst (λ x. answered_by (Ok stages.Taken) (Ok role) x (turn_in (is_set side.steps) at) (mic_in sight) side ≡ Ok (answer_in role state t mic alone side)) (sym state_is)
-    (subst (λ x. answered_by (Ok stages.Taken) (Ok role) (Ok state) x (mic_in sight) side ≡ Ok (answer_in role state t mic alone side)) (sym turn_is)
-    (subst (λ x. answered_by (Ok stages.Taken) (Ok role) (Ok state) (Ok t) x side ≡ Ok (answer_in role state t mic alone side)) (sym mic_is)
-    (ap (λ x. Ok (answer_in role state t mic x side)) alone_is)))))
 
 -- ---- what the caller reports
 
@@ -88,7 +73,7 @@ went_on meaning role r named state token came out side is stage_is state_is firs
   mic_is = refl;
   is_honest = (h.0, h.1.0);
   told_is = answered_is side role state turns.Refuses Absent 3 0 false stage_is is.is_role state_is
-    (ap (λ x. turn_in x 3) steps ∙ refusal_numbered r.established h.0) refl alone;
+      (ap (λ x. turn_in x 3) steps ∙ refusal_numbered r.established h.0) refl alone;
   is_shown = subst (λ o. IsShown role o (after_turn role state turns.Refuses Absent side)) (sym h.1.1) (rules.MechanismFailed, (refl, (refl, (refl, refl))));
 }))
 went_on meaning role r named state token came out side is stage_is state_is first steps alone (inr (inr h)) =
@@ -108,9 +93,9 @@ went_on meaning role r named state token came out side is stage_is state_is firs
       mic_is = m.1.1.0;
       is_honest = (h.0, (t, (takes, (refl, m.1.1.1))));
       told_is = answered_is side role state (turns.Takes (progress_in t)) m.1.0 n.0 m.0 false stage_is is.is_role state_is
-        (ap (λ x. turn_in x n.0) steps ∙ n.1) m.1.1.0 alone;
+          (ap (λ x. turn_in x n.0) steps ∙ n.1) m.1.1.0 alone;
       is_shown = answers_as meaning role (with_context r h.0) t named state came m.1.0 out side
-        (record { is_role = is.is_role; terms = is.terms; established = is.established }) first m.1.1.1 h.1.1.1;
+          (record { is_role = is.is_role; terms = is.terms; established = is.established }) first m.1.1.1 h.1.1.1;
     }))
 
 -- ---- a later message
@@ -142,22 +127,16 @@ later_by meaning role r message (Ok u) out side told is state_is h =
 
 pub later_as : {M : Type 0} (meaning : Meaning M) (role : Role) (r : Running M) (message : Message) (out : Outcome M) (side : NegotiationRecord)
     (told : MessageRecord) → IsSide role r side → side.stage ≡ 1 → IsLater message told → Later meaning role r message out
-    → (after : NegotiationRecord) × ((taken side told ≡ Ok after) × BothCome meaning role r (items_in message.token) (items_in message.mic) after out)
+    → TakesLater meaning role r message side told out
 later_as meaning role r message out side told is stage_is says h =
     let checked : Result (Unit {0}) Rule = after_later (reply_of message.state says.choice told) (is_set side.established) in
     let checked_is : checked ≡ after_later (reply_in message) r.established
-    = same_later message.state says.choice (choice_in_message message.mechanism) (is_set told.has_token) (is_some message.token) (is_set side.established)
-      r.established says.names says.token is.established in
-    (
+    = same_later message.state says.choice (choice_in_message message.mechanism) (is_set told.has_token) (is_some message.token)
+    (is_set side.established) r.established says.names says.token is.established in (
       gone_on_by checked told side,
       (
-        subst (λ x. after_numbers x (stage_in side.stage) (state_in told.state) (choice_in told.choice (is_set told.integrity)) told side ≡ Ok (gone_on_by checked told side))
-            (sym is.is_role)
-        (subst (λ x. after_numbers (Ok role) x (state_in told.state) (choice_in told.choice (is_set told.integrity)) told side ≡ Ok (gone_on_by checked told side))
-            (sym (ap stage_in stage_is))
-        (subst (λ x. after_numbers (Ok role) (Ok stages.Waits) x (choice_in told.choice (is_set told.integrity)) told side ≡ Ok (gone_on_by checked told side))
-            (sym says.state)
-        (subst (λ x. after_numbers (Ok role) (Ok stages.Waits) (Ok message.state) x told side ≡ Ok (gone_on_by checked told side)) (sym says.choice_is) refl))),
+        taken_is side told role stages.Waits message.state says.choice (Ok (gone_on_by checked told side)) is.is_role (ap stage_in stage_is) says.state
+            says.choice_is refl,
         later_by meaning role r message checked out side told is says.state (subst (λ x. LaterBy meaning role r message x out) (sym checked_is) h),
       ),
     )

@@ -1,6 +1,13 @@
 -- A side as a struct, beside the machines of krb_spnego_rules (RFC 4178, 4.2 and 5).
-use Rattle.std.specs.Prelude.{◌≡◌, ◌⊎◌, ℕ, List, false, not, Option, Some, None, Ok, Err, is_some}
-use Rattle.krb_spnego_rules.specs.Fields.{choice_in as choice_in_message}
+use Rattle.std.specs.Prelude.{◌≡◌, ◌⊎◌, ℕ, List, false, not, Option, Some, None, Ok, Err, Vec, is_some}
+use Rattle.std.specs.declared.alloc.Global.{Global}
+use Rattle.krb_spnego_rules.specs.Fields.{choice_in as choice_in_message, items_in}
+use Rattle.krb_spnego_rules.specs.AcceptorSteps.{choice_in_offer, is_first, name_at, named_in, rank_in}
+use Rattle.krb_spnego_rules.specs.InitiatorSteps.{picks}
+use Rattle.krb_spnego_rules.specs.declared.acceptor.Fresh.{Fresh}
+use Rattle.krb_spnego_rules.specs.declared.initiator.Offered.{Offered}
+use Rattle.krb_spnego_rules.specs.declared.message.Proposal.{Proposal}
+use Rattle.krb_spnego_rules.specs.declared.words.Role.TheVariants as roles
 use Rattle.krb_spnego_rules.specs.Meaning.{Meaning}
 use Rattle.krb_spnego_rules.specs.Messages.{names_none}
 use Rattle.krb_spnego_rules.specs.Steps.{Outcome, Takes}
@@ -22,6 +29,7 @@ use Rattle.krb_spnego_rules.specs.declared.words.Rule.{Rule}
 use Rattle.krb_spnego_rules.specs.declared.words.Terms.{Terms}
 use Rattle.krb_c_negotiation.specs.Answering.{Answered, answered, nothing, reply}
 use Rattle.krb_c_negotiation.specs.Numbers.{choice_in, is_set, mic_in, role_in, rule_number, state_in, turn_in}
+use Rattle.krb_c_negotiation.specs.Taking.{taken}
 use Rattle.krb_c_negotiation.specs.declared.numbers.Turn.{Turn}
 use Rattle.krb_c_negotiation.specs.declared.numbers.Turn.TheVariants as turns
 use Rattle.krb_c_negotiation.specs.declared.records.MessageRecord.{MessageRecord}
@@ -104,3 +112,73 @@ pub record IsLater (message : Message) (told : MessageRecord) : Type 0 where
   pub choice_is : choice_in told.choice (is_set told.integrity) ≡ Ok choice
   pub names : names_none choice ≡ names_none (choice_in_message message.mechanism)
   pub token : is_set told.has_token ≡ is_some message.token
+
+-- ---- the first message
+
+-- the mechanism that an acceptor takes of an offer
+abbrev pub found_in_offer : {M : Type 0} → Meaning M → Fresh M → Proposal → Option M
+found_in_offer meaning fresh proposal =
+    named_in meaning fresh.mechanisms.items
+    (name_at (rank_in meaning fresh.mechanisms.items proposal.mechanisms.items) proposal.mechanisms.items)
+
+abbrev pub choice_of_offer : {M : Type 0} → Meaning M → Fresh M → Proposal → Choice
+choice_of_offer meaning fresh proposal =
+    choice_in_offer meaning proposal.mechanisms.items (is_first (rank_in meaning fresh.mechanisms.items proposal.mechanisms.items))
+    (found_in_offer meaning fresh proposal)
+
+-- An acceptor that begins, and what it is told of an offer: the first of the offer's mechanisms that it has.
+pub record IsOffer {M : Type 0} (meaning : Meaning M) (fresh : Fresh M) (proposal : Proposal) (side : NegotiationRecord) (told : MessageRecord)
+    : Type 0 where
+  pub is_role : role_in side.role ≡ Ok roles.Acceptor
+  pub stage : side.stage ≡ 0
+  pub asks : is_set side.asks ≡ fresh.asks
+  pub said : Option NegState
+  pub state : state_in told.state ≡ Ok said
+  pub choice : choice_in told.choice (is_set told.integrity) ≡ Ok (choice_of_offer meaning fresh proposal)
+  pub token : is_set told.has_token ≡ is_some proposal.token
+  pub mic : is_set told.has_mic ≡ is_some proposal.mic
+
+-- Both calls come to this outcome of an offer: as of another message for the mechanism that is found, or with its name alone.
+abbrev pub OfferComes : {M : Type 0} → Meaning M → Option M → Proposal → NegotiationRecord → Outcome M → Type 0
+OfferComes meaning found proposal side out =
+    (out ≡ Err OutOfMemory)
+    ⊎ (IsShown roles.Acceptor out (side, nothing)
+    ⊎ (((r : Running _) × ((found ≡ Some r.mechanism) × ((r.list ≡ proposal.list)
+    × Comes meaning roles.Acceptor r (items_in proposal.token) (items_in proposal.mic) side out)))
+    ⊎ ((told : Answered) × ((answered side 0 0 ≡ Ok told) × IsShown roles.Acceptor out told))))
+
+-- An initiator that has sent its offer, and what it is told of the first reply.
+pub record IsFirstReply {M : Type 0} (meaning : Meaning M) (offered : Offered M) (message : Message) (side : NegotiationRecord) (told : MessageRecord)
+    : Type 0 where
+  pub is_role : role_in side.role ≡ Ok roles.Initiator
+  pub stage : side.stage ≡ 0
+  pub established : is_set side.established ≡ offered.established
+  pub state : state_in told.state ≡ Ok message.state
+  pub choice : choice_in told.choice (is_set told.integrity) ≡ Ok (picks meaning offered.first offered.others.items (items_in message.mechanism)).0
+  pub token : is_set told.has_token ≡ is_some message.token
+
+-- Both calls come to this outcome of the first reply: the first one fails the side by the rule, or the second one comes to it with the mechanism that
+-- is found, over the list that was sent.
+abbrev pub ReplyComes : {M : Type 0} → Meaning M → Option M → Vec ℕ Global → Message → NegotiationRecord → Outcome M → Type 0
+ReplyComes meaning found list message side out =
+    (out ≡ Err OutOfMemory)
+    ⊎ (IsShown roles.Initiator out (side, nothing)
+    ⊎ ((r : Running _) × ((found ≡ Some r.mechanism) × ((r.list ≡ list)
+    × Comes meaning roles.Initiator r (items_in message.token) (items_in message.mic) side out))))
+
+-- ---- both calls
+
+abbrev pub TakesOffer : {M : Type 0} → Meaning M → Fresh M → Proposal → NegotiationRecord → MessageRecord → Outcome M → Type 0
+TakesOffer meaning fresh proposal side told out =
+    (after : NegotiationRecord) × ((taken side told ≡ Ok after)
+    × OfferComes meaning (found_in_offer meaning fresh proposal) proposal after out)
+
+abbrev pub TakesFirstReply : {M : Type 0} → Meaning M → Offered M → Message → NegotiationRecord → MessageRecord → Outcome M → Type 0
+TakesFirstReply meaning offered message side told out =
+    (after : NegotiationRecord) × ((taken side told ≡ Ok after)
+    × ReplyComes meaning (picks meaning offered.first offered.others.items (items_in message.mechanism)).1 offered.list message after out)
+
+abbrev pub TakesLater : {M : Type 0} → Meaning M → Role → Running M → Message → NegotiationRecord → MessageRecord → Outcome M → Type 0
+TakesLater meaning role r message side told out =
+    (after : NegotiationRecord) × ((taken side told ≡ Ok after)
+    × BothCome meaning role r (items_in message.token) (items_in message.mic) after out)
