@@ -705,6 +705,125 @@ krb_status krb_make_neg_token_init(const uint8_t *mechanisms, size_t mechanisms_
 krb_status krb_make_neg_token_resp(uint32_t state, const uint8_t *mechanism, size_t mechanism_size, const uint8_t *token, size_t token_size,
                                    const uint8_t *mic, size_t mic_size, uint8_t *out, size_t room, size_t *size);
 
+/* The decisions of a negotiation (RFC 4178, 3.2, 4.2 and 5): which rule a message breaks first, whether the mechanism takes its token, and what a side does then.
+   The messages are read and made by the calls above; the mechanism, its MICs and all octets are the caller's. No call here allocates.
+
+   One side of a negotiation is a krb_negotiation that the caller keeps: all 0 at its beginning, but for `role` and `asks`, and for `established` of an initiator
+   whose first mechanism has ended its context with its first token. An initiator has sent its offer then. Each message of the peer takes two calls:
+
+     krb_negotiation_take      with what the message says. Then, where `steps` is 1, the mechanism takes the message's token (mechToken, responseToken), or
+                               begins with none where the acceptor chose another one than the initiator's first
+     krb_negotiation_answer    with what the mechanism made of it, and what the message's mechListMIC is. Then, where `sends` is 1, a message goes out
+
+   until `stage` is KRB_STAGE_COMPLETE or KRB_STAGE_FAILED. Where it fails by octets that are no message, or for want of memory, the caller ends it. After a failure
+   it may send a message with KRB_NEG_STATE_REJECT.
+
+   A MIC is one over the DER encoding of the initiator's list of mechanisms, mechTypes, as it was sent; a caller that verified it over anything else, or not at all,
+   has no protection against a third who changed the list. */
+enum { KRB_INITIATOR = 0, KRB_ACCEPTOR = 1 };
+
+enum {
+    KRB_STAGE_BEGINS = 0,   /* no message came: of an initiator its offer is sent */
+    KRB_STAGE_WAITS = 1,    /* it waits for a later message */
+    KRB_STAGE_TAKEN = 2,    /* a message is taken: krb_negotiation_answer is next */
+    KRB_STAGE_COMPLETE = 3, /* it is complete */
+    KRB_STAGE_FAILED = 4    /* it failed, for good, by `rule` */
+};
+
+/* The rule that a message broke. They are looked at in another order than that of their numbers: of an offer NO_MECHANISM, UNKNOWN_MECHANISM, UNPROTECTED,
+   EARLY_MIC; of the first reply NO_STATE, REJECTED, NO_MECHANISM, UNKNOWN_MECHANISM, UNPROTECTED, UNEXPECTED_TOKEN, NO_TOKEN; of a later message REJECTED,
+   LATE_REQUEST, SECOND_MECHANISM, UNEXPECTED_TOKEN, NO_TOKEN; then, by krb_negotiation_answer, MECHANISM_FAILED, EARLY_MIC, WRONG_MIC, EARLY_COMPLETION, NO_MIC. */
+enum {
+    KRB_NEGOTIATION_RULE_NONE = 0,
+    KRB_NEGOTIATION_RULE_NO_STATE = 1,          /* the first reply has no negState (4.2.2) */
+    KRB_NEGOTIATION_RULE_REJECTED = 2,          /* the peer says reject */
+    KRB_NEGOTIATION_RULE_NO_MECHANISM = 3,      /* the offer has no mechanism, or the first reply no supportedMech */
+    KRB_NEGOTIATION_RULE_SECOND_MECHANISM = 4,  /* a later message has a supportedMech (4.2.2) */
+    KRB_NEGOTIATION_RULE_UNKNOWN_MECHANISM = 5, /* supportedMech was not offered; of an offer, no mechanism is supported */
+    KRB_NEGOTIATION_RULE_UNPROTECTED = 6,       /* MICs have to be exchanged (5), and the mechanism has no integrity */
+    KRB_NEGOTIATION_RULE_LATE_REQUEST = 7,      /* request-mic in another message than the acceptor's first (4.2.2) */
+    KRB_NEGOTIATION_RULE_NO_TOKEN = 8,          /* the mechanism waits for a token, and there is none */
+    KRB_NEGOTIATION_RULE_UNEXPECTED_TOKEN = 9,  /* a token for which no mechanism waits */
+    KRB_NEGOTIATION_RULE_MECHANISM_FAILED = 10, /* the mechanism refused the token */
+    KRB_NEGOTIATION_RULE_EARLY_MIC = 11,        /* a MIC while the mechanism has a token to send or to wait for (5) */
+    KRB_NEGOTIATION_RULE_WRONG_MIC = 12,        /* the MIC does not hold of the list (5) */
+    KRB_NEGOTIATION_RULE_NO_MIC = 13,           /* a MIC has to come (5), or there is nothing else to go on with */
+    KRB_NEGOTIATION_RULE_EARLY_COMPLETION = 14, /* accept-completed while this side has a token to send */
+    KRB_NEGOTIATION_RULE_FINISHED = 15          /* a message after this side was complete */
+};
+
+/* One side. Of a flag each number but 0 is set; the calls write 1. */
+typedef struct krb_negotiation {
+    uint32_t role;        /* KRB_INITIATOR or KRB_ACCEPTOR */
+    uint32_t asks;        /* flag, of an acceptor: it wants MICs whichever mechanism is chosen */
+    uint32_t stage;       /* KRB_STAGE_.. */
+    uint32_t rule;        /* of KRB_STAGE_FAILED, KRB_NEGOTIATION_RULE_.. */
+    uint32_t established; /* flag: the mechanism's context is established on this side */
+    uint32_t preferred;   /* flag: the mechanism is the initiator's first one */
+    uint32_t required;    /* flag: MICs have to be exchanged (5) */
+    uint32_t sent;        /* flag: this side has sent its MIC; the last message of a side that is complete does not change it */
+    uint32_t by_mic;      /* flag: it is complete, and a MIC of the peer held */
+    uint32_t said;        /* of the message that was taken last: its negState, KRB_NEG_STATE_ABSENT of an offer */
+    uint32_t first;       /* flag, of that message: it is the offer, whose answer names the mechanism */
+    uint32_t steps;       /* flag, of that message: the mechanism takes its token, or begins with none */
+} krb_negotiation;
+
+/* What supportedMech of a reply names; of an offer, the first of its mechanisms that this side has. */
+enum {
+    KRB_CHOICE_ABSENT = 0,  /* there is no supportedMech; the offer has no mechanism */
+    KRB_CHOICE_UNKNOWN = 1, /* one that was not offered; this side has none of the offer's */
+    KRB_CHOICE_FIRST = 2,   /* the initiator's first one */
+    KRB_CHOICE_OTHER = 3    /* another one */
+};
+
+/* What a message says. */
+typedef struct krb_negotiation_message {
+    uint32_t state;     /* negState, KRB_NEG_STATE_..; of an offer KRB_NEG_STATE_ABSENT */
+    uint32_t choice;    /* KRB_CHOICE_.. */
+    uint32_t integrity; /* flag: that mechanism offers integrity; looked at with KRB_CHOICE_FIRST and KRB_CHOICE_OTHER */
+    uint32_t has_token; /* flag: it has a mechToken or a responseToken */
+    uint32_t has_mic;   /* flag: it has a mechListMIC; looked at in an offer (of a reply krb_negotiation_answer is told) */
+} krb_negotiation_message;
+
+/* A side takes a message: an acceptor that begins as the offer, an initiator that begins as the first reply, a side that waits as a later message.
+   KRB_DONE: the stage is KRB_STAGE_TAKEN, and `steps` says whether the mechanism takes a token (of an offer, where the chosen mechanism is the initiator's
+   first one and there is a mechToken; else while the context is not established); or it is KRB_STAGE_FAILED, and `rule` says which rule is broken first. A message to
+   a complete side fails it by KRB_NEGOTIATION_RULE_FINISHED; a side that has failed is as it was. But for `stage` and `rule`, a failure changes nothing.
+   KRB_NUMBER: role, stage, state or choice is none of the numbers above, or the message before this one is not answered yet; *side is as it was. */
+krb_status krb_negotiation_take(krb_negotiation *side, const krb_negotiation_message *message);
+
+/* What the mechanism made of the token. */
+enum {
+    KRB_PROGRESS_CONTINUES = 0,       /* it waits for another token, and has one to send */
+    KRB_PROGRESS_ENDS_WITH_TOKEN = 1, /* its context is established, and it has a last token to send */
+    KRB_PROGRESS_ENDS = 2,            /* its context is established, and it has no token to send */
+    KRB_PROGRESS_REFUSED = 3          /* it refused the token */
+};
+
+/* What the message's mechListMIC is. It can be verified where the context is established, with no token to send. */
+enum {
+    KRB_MIC_ABSENT = 0, /* there is none */
+    KRB_MIC_HOLDS = 1,  /* it holds of the list of mechanisms */
+    KRB_MIC_WRONG = 2   /* it does not, or cannot be verified yet */
+};
+
+/* The message that a side sends, krb_make_neg_token_resp makes it; of no message all is 0. */
+typedef struct krb_negotiation_reply {
+    uint32_t sends;     /* 1 where a message is sent */
+    uint32_t state;     /* its negState, KRB_NEG_STATE_.. */
+    uint32_t names;     /* 1 where its supportedMech names the mechanism: the acceptor's first one */
+    uint32_t has_token; /* 1 where it has the mechanism's token */
+    uint32_t has_mic;   /* 1 where it has this side's MIC over the initiator's list of mechanisms */
+} krb_negotiation_reply;
+
+/* What a side does with the message that it took, and the message that it sends: `progress` is KRB_PROGRESS_.., and not looked at unless `steps` is set; `mic` is
+   KRB_MIC_...
+   KRB_DONE: the stage is KRB_STAGE_WAITS, KRB_STAGE_COMPLETE or KRB_STAGE_FAILED, and *reply tells of the message. A side that is complete may have a last one to
+   send; one that failed has none, and but for `stage` and `rule` is as it was.
+   KRB_NUMBER: role, stage or `said`, `progress` where it is looked at, or `mic` is none of the numbers above, or the stage is another than KRB_STAGE_TAKEN; *side
+   and *reply are as they were. `reply` overlaps nothing else that is passed. */
+krb_status krb_negotiation_answer(krb_negotiation *side, uint32_t progress, uint32_t mic, krb_negotiation_reply *reply);
+
 /* MIC and Wrap tokens of a context of the GSS-API (RFC 4121, 4.2) under etypes 17 to 20; etype 16 has other tokens (RFC 1964), and is refused with
    KRB_NUMBER. The key is the context's: the subkey that the acceptor asserted, and then `acceptor_subkey` is true; else the initiator's subkey, else
    the session key of the ticket. `sent_by_acceptor` says whose tokens are made or taken: one's own to make them, the other side's to verify and to

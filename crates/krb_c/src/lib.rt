@@ -7,6 +7,7 @@ mod frames;
 mod gss;
 mod items;
 mod kept;
+mod negotiation;
 mod parts;
 mod proxy;
 mod sizes;

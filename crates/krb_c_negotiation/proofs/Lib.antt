@@ -1,0 +1,5 @@
+mod Reading
+mod Engines
+mod Later
+mod Offer
+mod FirstReply

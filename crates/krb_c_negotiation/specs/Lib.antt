@@ -1,0 +1,4 @@
+pub mod Numbers
+pub mod Taking
+pub mod Answering
+pub mod Engines
