@@ -11,8 +11,8 @@ __all__ = ["KerberosMechanism", "Mechanism"]
 
 
 class Mechanism(Protocol):
-    """One side's context of a mechanism (RFC 4178, 3; RFC 2743, 2.2), for one negotiation. Who has a mechanism of their own inherits from this class, or has the
-    same members.
+    """One side's context of a mechanism (RFC 4178, 3; RFC 2743, 2.2), for one negotiation. A mechanism of your own inherits from this class, or has the same
+    members.
 
     - `oid`: the content of the OBJECT IDENTIFIER under which an initiator offers it. `names`: more of them that mean it, for peers that use these.
     - `integrity`: whether it has MICs (RFC 2743, 1.2.2). `established`: whether its context is established. `peer`: the other side's name, once it is.
@@ -44,8 +44,8 @@ _MICROSOFT = bytes.fromhex("2a864882f712010202")  # 1.2.840.48018.1.2.2, as Micr
 
 
 class KerberosMechanism(Mechanism):
-    """Kerberos as the mechanism of an acceptor in one negotiation, over a `krb.Acceptor`, which any number of them may share. `context` is the `krb.Context`, once
-    the client is let in; `channel_bindings` and `address` are as for `Acceptor.accept`.
+    """Kerberos as the mechanism of an acceptor in one negotiation, over a `krb.Acceptor`, which any number of them may share. `context` is the `krb.Context`,
+    once the client is let in; `channel_bindings` and `address` are as for `Acceptor.accept`.
 
     A token of Kerberos with no negotiation around it is known as its own (`is_bare`). The AP-REP is its last token, where the client asks for mutual
     authentication; of DCE style the client's AP-REP follows."""
@@ -71,9 +71,9 @@ class KerberosMechanism(Mechanism):
             return False
 
     def step(self, token: Optional[bytes]) -> Optional[bytes]:
-        """The AP-REP to the client's AP-REQ, if it waits for one; None to its AP-REP of DCE style. NotAccepted, Refused: as `Acceptor.accept`, `Context.confirm`.
+        """The AP-REP to the client's AP-REQ, if it waits for one; None to its AP-REP of DCE style.
 
-        RuntimeError of a mechanism of another negotiation, or of an initiator's."""
+        NotAccepted, Refused: as `Acceptor.accept` and `Context.confirm`. RuntimeError of a mechanism of another negotiation, or of an initiator's."""
         if token is None or self.established:
             raise RuntimeError("a KerberosMechanism is an acceptor's, and of one negotiation")
         reply = None

@@ -82,15 +82,15 @@ def _spnego_inner(octets: bytes) -> Optional[bytes]:
 class Negotiator:
     """One side of one negotiation: `step` takes what came from the peer, and tells what is to be sent.
 
-    What is decided of each message is a theorem about the library (docs/NEGOTIATION.md); that this class reads the messages, calls the mechanism and the library
-    in their order and writes what they say is tested.
+    What is decided of each message is a theorem about the library (docs/NEGOTIATION.md). That this class reads the messages, calls the library and the
+    mechanism in their order and writes what they say is tested.
 
     - `role`: `NegotiationRole`. `mechanisms`: objects as `Mechanism` has it, of this negotiation alone; of an initiator in the order of its preference.
     - `asks`: an acceptor wants MICs whichever mechanism is chosen.
 
-    An acceptor takes the first mechanism of the initiator's list that is one of its own. A first token that one of them knows as its own (`is_bare`) goes to it
-    with no negotiation around it, and then nothing protects which mechanism it is. An initiator passes over a server's NegTokenInit2 that comes before its offer
-    (MS-SPNG, 2.2.1).
+    An acceptor takes the first mechanism of the initiator's list that is one of its own. A first token that one of them knows as its own (`is_bare`) goes to
+    it with no negotiation around it, and then nothing protects which mechanism it is. An initiator passes over a server's NegTokenInit2 that comes before its
+    offer (MS-SPNG, 2.2.1).
 
     Any number of threads may use it; their steps take turns."""
 
@@ -150,8 +150,8 @@ class Negotiator:
         """What is to be sent after the peer's token, None where nothing is, and where this side stands then. Of an initiator the first step, without a token,
         tells the offer. Where a side is complete, what it tells still has to be sent.
 
-        NotNegotiated: the negotiation has ended by a rule, and each step from then on raises it again; one after completion ends it by FINISHED. What a mechanism raises
-        that is no refusal of its, and Refused of MEMORY, is raised on, and the negotiation has ended too. ValueError: there is no token, and one is needed."""
+        NotNegotiated: the negotiation has ended by a rule, and each step from then on raises it again; one after completion ends it by FINISHED. Refused of
+        MEMORY, and what a mechanism raises that is not a refusal: the negotiation has ended too. ValueError: there is no token, and one is needed."""
         octets = None if token is None else plain(token)
         with self._lock:
             if self._ended is not None:
