@@ -14,7 +14,7 @@ class Mechanism(Protocol):
     """One side's context of a mechanism (RFC 4178, 3; RFC 2743, 2.2), for one negotiation. A mechanism of your own inherits from this class, or has the same
     members.
 
-    - `oid`: the content of the OBJECT IDENTIFIER under which an initiator offers it. `names`: more of them that mean it, for peers that use these.
+    - `oid`: the content of the OBJECT IDENTIFIER under which an initiator offers it. `names`: those that mean it, for peers that use others.
     - `integrity`: whether it has MICs (RFC 2743, 1.2.2). `established`: whether its context is established. `peer`: the other side's name, once it is.
     - `refusals`: the exceptions by which `step` refuses a token. Where one has octets `error`, these are a token that tells the peer. What else it raises,
       and a `krb.Refused` of MEMORY or KEYTAB, is not about the token: `krb.Negotiator.step` raises it on, and the negotiation is over all the same."""
@@ -40,7 +40,7 @@ class Mechanism(Protocol):
         """Whether a MIC of the peer's holds of a text, once its context is established."""
 
 
-_MICROSOFT = bytes.fromhex("2a864882f712010202")  # 1.2.840.48018.1.2.2, as Microsoft wrote 1.2.840.113554.1.2.2 once (MS-SPNG, 3.2.5.2)
+_MICROSOFT = bytes.fromhex("2a864882f712010202")  # 1.2.840.48018.1.2.2, as Microsoft once wrote 1.2.840.113554.1.2.2 (MS-SPNG, 3.1.5.2)
 
 
 class KerberosMechanism(Mechanism):
@@ -51,7 +51,7 @@ class KerberosMechanism(Mechanism):
     authentication; of DCE style the client's AP-REP follows."""
 
     oid = spnego.KERBEROS
-    names = frozenset([_MICROSOFT])
+    names = frozenset([spnego.KERBEROS, _MICROSOFT])
     refusals = (Refused,)
 
     def __init__(

@@ -6,7 +6,6 @@ import threading
 from typing import Any, Iterable, List, Optional, Tuple
 
 from krb import spnego
-from krb._context import Context
 from krb._items import plain
 from krb._library import Octets, Refused, Status
 from krb._mechanism import KerberosMechanism, Mechanism
@@ -105,19 +104,16 @@ class Negotiator:
         self._mechanism: Optional[Mechanism] = None
         self._name, self._list = b"", b""
         self._begun = self._bare = False
+        self._state, self._lock = NegotiationState.RUNNING, threading.Lock()
         self._ended: Optional[Exception] = None
-        self._lock = threading.RLock()
 
     def __repr__(self) -> str:
         return "Negotiator(%s, %s)" % (self.role.name, self.state.name)
 
     @property
     def state(self) -> NegotiationState:
-        """Where this side stands."""
-        if self._ended is not None:
-            return NegotiationState.FAILED
-        is_complete = self._mechanism is not None and self._mechanism.established if self._bare else self._side.stage == Stage.COMPLETE
-        return NegotiationState.COMPLETE if is_complete else NegotiationState.RUNNING
+        """Where this side stands after the last step that has ended."""
+        return self._state
 
     @property
     def mechanism(self) -> Optional[Mechanism]:
@@ -143,8 +139,7 @@ class Negotiator:
     @property
     def context(self) -> Any:
         """The mechanism's `context`, once this side is complete: of Kerberos the `krb.Context`."""
-        found: Optional[Context] = getattr(self.mechanism, "context", None)
-        return found
+        return getattr(self.mechanism, "context", None)
 
     def step(self, token: Optional[Octets] = None) -> Tuple[Optional[bytes], NegotiationState]:
         """What is to be sent after the peer's token, None where nothing is, and where this side stands then. Of an initiator the first step, without a token,
@@ -156,19 +151,23 @@ class Negotiator:
         with self._lock:
             if self._ended is not None:
                 raise copy.copy(self._ended)
+            begins = self.role == NegotiationRole.INITIATOR and not self._begun
+            if octets is None and not begins and self._state != NegotiationState.COMPLETE:
+                raise ValueError("a token of the peer's is needed")
             try:
-                if self.state == NegotiationState.COMPLETE:
-                    raise NotNegotiated(NegotiationRule.FINISHED)
-                if octets is not None:
-                    return self._took(octets), self.state
-                if self.role == NegotiationRole.INITIATOR and not self._begun:
-                    return self._offer(), self.state
+                told = self._took(octets)
+                is_complete = self._mechanism is not None and self._mechanism.established if self._bare else self._side.stage == Stage.COMPLETE
+                self._state = NegotiationState.COMPLETE if is_complete else NegotiationState.RUNNING
+                return told, self._state
             except BaseException as error:
-                self._ended = _ended(error)
+                self._state, self._ended = NegotiationState.FAILED, _ended(error)
                 raise
-        raise ValueError("a token of the peer's is needed")
 
-    def _took(self, octets: bytes) -> Optional[bytes]:
+    def _took(self, octets: Optional[bytes]) -> Optional[bytes]:
+        if self._state == NegotiationState.COMPLETE:
+            raise NotNegotiated(NegotiationRule.FINISHED)
+        if octets is None:
+            return self._offer()
         if self.role == NegotiationRole.INITIATOR:
             return self._replied(octets) if self._begun else self._hinted(octets)
         if self._bare:
@@ -181,7 +180,7 @@ class Negotiator:
         told = getattr(cause, "error", None)
         said = told if isinstance(told, bytes) else b""
         if not self._bare and rule != NegotiationRule.REJECTED:
-            # supportedMech stands in the acceptor's first reply alone, and so does the name with which the mechanism's token is to be read (RFC 4178, 4.2.2).
+            # supportedMech stands in the acceptor's first reply alone (RFC 4178, 4.2.2), and says there how the mechanism's token is to be read.
             name = self._name if said and self._side.first and self.role == NegotiationRole.ACCEPTOR else b""
             said = spnego.make_neg_token_resp(spnego.NegState.REJECT, name, said)
         return NotNegotiated(rule, said, _text(rule, cause))
