@@ -1,26 +1,59 @@
-"""Serves a page to those who have a ticket: serve.py KEYTAB CACHE PORT [CERTIFICATE KEY], on 127.0.0.1, with TLS and channel bindings where there is a
-certificate."""
+"""Serves a page to those who have a ticket: serve.py [--ask] KEYTAB CACHE PORT [CERTIFICATE KEY], on 127.0.0.1, with TLS and channel bindings where there is a
+certificate; --ask wants MICs over the list of mechanisms, of each client that speaks SPNEGO."""
 
 import logging
 import ssl
 import sys
-from wsgiref.simple_server import make_server
+from http.server import BaseHTTPRequestHandler
+from socketserver import ThreadingMixIn
+from wsgiref.simple_server import ServerHandler, WSGIRequestHandler, WSGIServer, make_server
 
 import krb
 from negotiate import Negotiate, bindings_of
 
 
+class Server(ThreadingMixIn, WSGIServer):
+    """A thread a connection, which may wait for its next request."""
+
+    daemon_threads = True
+
+
+class Connection(WSGIRequestHandler):
+    """Requests of one connection (wsgiref's own takes one and closes), and what a negotiation keeps from one to the next."""
+
+    protocol_version, timeout = "HTTP/1.1", 60
+
+    def handle(self):
+        self.kept = {}
+        try:
+            BaseHTTPRequestHandler.handle(self)
+        except OSError as error:  # TLS fails, or the client is gone
+            self.log_error("%s", error)
+
+    def do_GET(self):
+        if self.headers["Content-Length"] or self.headers["Transfer-Encoding"]:
+            self.close_connection = True  # nobody reads what comes with it, and it is no request
+        environ = dict(self.get_environ(), **{"negotiate.connection": self.kept})
+        handler = ServerHandler(self.rfile, self.wfile, self.get_stderr(), environ)
+        handler.http_version, handler.request_handler = "1.1", self
+        handler.run(self.server.get_app())
+
+
 def page(environ, start_response):
-    start_response("200 OK", [("Content-Type", "text/plain; charset=ascii")])
-    return [("You are %s.\n" % ascii(environ["REMOTE_USER"])[1:-1]).encode("ascii")]
+    body = ("You are %s.\n" % ascii(environ["REMOTE_USER"])[1:-1]).encode("ascii")
+    start_response("200 OK", [("Content-Type", "text/plain; charset=ascii"), ("Content-Length", str(len(body)))])
+    return [body]
 
 
-keytab, cache, port, *files = sys.argv[1:]
+words = sys.argv[1:]
+asks = words[:1] == ["--ask"]
+keytab, cache, port, *files = words[asks:]
 logging.basicConfig(format="%(name)s: %(message)s")
 acceptor = krb.Acceptor(keytab, replay_cache=krb.FileReplayCache(cache, whole_since=None))
-with make_server("127.0.0.1", int(port), Negotiate(page, acceptor, bindings_of(files[0]) if files else None)) as server:
+application = Negotiate(page, acceptor, bindings_of(files[0]) if files else None, asks)
+with make_server("127.0.0.1", int(port), application, Server, Connection) as server:
     if files:
         context = ssl.SSLContext(ssl.PROTOCOL_TLS_SERVER)
         context.load_cert_chain(*files)
-        server.socket = context.wrap_socket(server.socket, server_side=True)
+        server.socket = context.wrap_socket(server.socket, server_side=True, do_handshake_on_connect=False)
     server.serve_forever()

@@ -1,6 +1,7 @@
 """What passed and what failed."""
 
 COUNTS = {"passed": 0, "failed": 0}
+NAME = ["acceptor"]  # of the script, which another one that uses these sets
 
 
 def expect(right, what):
@@ -11,4 +12,4 @@ def expect(right, what):
 
 
 def say(what):
-    print("acceptor: %s" % what, flush=True)
+    print("%s: %s" % (NAME[0], what), flush=True)

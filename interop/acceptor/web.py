@@ -15,14 +15,14 @@ PAGE = "You are ann@HOME.TEST.\n"
 
 
 class Site:
-    """The example's server, with TLS or without."""
+    """The example's server, with TLS or without, and with these words before its others."""
 
-    def __init__(self, realm, environment, certificate=None):
+    def __init__(self, realm, environment, certificate=None, words=()):
         self.realm, self.port, self.certificate = realm, free_port(), certificate
         files = [certificate, realm.path("key.pem")] if certificate else []
         self.url = "http%s://localhost:%d/" % ("s" if files else "", self.port)
         cache = realm.path("replays-%d" % self.port)
-        realm.start(["/usr/bin/python3", SERVE, realm.keytab, cache, str(self.port), *files], environment, self.port)
+        realm.start(["/usr/bin/python3", SERVE, *words, realm.keytab, cache, str(self.port), *files], environment, self.port)
 
     def curl(self, *words, cache=None):
         """The status, and the page."""

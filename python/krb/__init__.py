@@ -5,6 +5,8 @@
 - `krb.text`, `krb.json`: the same for people, keys hidden. `krb.show`: what `jolmurig show` writes of octets of any kind, with what a keytab opens.
 - `krb.crypto`: encryption, checksums, keys of passwords, sizes (RFC 3961, RFC 3962, RFC 8009).
 - `krb.Acceptor`: whether a service lets in the client that sent a token; `krb.Context` with it, `krb.NotAccepted`, replay caches (RFC 4120, 3.2.3; RFC 4121).
+- `krb.Negotiator`: which mechanism two sides use (SPNEGO, RFC 4178), over mechanisms that it is lent: `krb.KerberosMechanism`, or ones of your own (`krb.Mechanism`);
+  `krb.NotNegotiated`.
 - `krb.gss`: MIC and Wrap tokens of the GSS-API (RFC 4121).
 - `krb.messages`: whether octets are the one encoding of a message, parts sealed and opened (RFC 4120).
 - `krb.frames`: frames of password changes (RFC 3244), messages through a proxy to a KDC (MS-KKDCP).
@@ -24,8 +26,11 @@ from krb import crypto, frames, gss, messages, pac, proxy, spnego
 from krb import accept
 from krb.accept import Acceptor, AnyReplayCache, ChannelBindings, Context, ContextFlag, EncryptionKey, FileReplayCache, NotAccepted, Order, OutOfOrder
 from krb.accept import ReplayCache, Rule
+from krb import negotiate
+from krb.negotiate import KerberosMechanism, Mechanism, NegotiationRole, NegotiationRule, NegotiationState, Negotiator, NotNegotiated
 
 __all__ = ["Form", "Item", "Leaf", "Node", "Refused", "Registry", "Role", "Secret", "Status", "decode", "find", "find_item", "find_number", "first_error", "items", "json", "name_of", "show", "text", "type_of", "crypto", "frames", "gss", "messages", "pac", "proxy", "spnego"]
 __all__ += ["Acceptor", "AnyReplayCache", "ChannelBindings", "Context", "ContextFlag", "EncryptionKey", "FileReplayCache", "NotAccepted", "Order"]
 __all__ += ["OutOfOrder", "ReplayCache", "Rule", "accept"]
+__all__ += ["KerberosMechanism", "Mechanism", "NegotiationRole", "NegotiationRule", "NegotiationState", "Negotiator", "NotNegotiated", "negotiate"]
 __version__ = "0.1.0"

@@ -3,7 +3,7 @@
 A mechanism is the content of its OBJECT IDENTIFIER, as `KERBEROS` and `SPNEGO` are."""
 
 import enum
-from typing import Dict, Iterable, List, NamedTuple, Optional, Union
+from typing import Dict, Iterable, List, NamedTuple, Optional, Tuple, Union
 
 from krb._items import Form, Item, items
 from krb._library import IN, U32, Call, Octets, Refused, Status
@@ -81,15 +81,20 @@ def _octets(octets: bytes, found: Optional[List[Item]]) -> Optional[bytes]:
     return octets[found[1].place] if found else None
 
 
+def _offer(inner: bytes) -> Tuple[NegTokenInit, bytes]:
+    """A NegTokenInit, and the encoding of mechTypes in it, which is the content of the field's tag; no octets where the field is absent."""
+    fields = _fields(inner, "negTokenInit")
+    listed = fields.get("mechTypes")
+    mechanisms = None if listed is None else [inner[item.place] for item in listed if item.form == Form.LEAF]
+    offer = NegTokenInit(mechanisms, _octets(inner, fields.get("mechToken")), _octets(inner, fields.get("mechListMIC")))
+    return offer, b"" if listed is None else inner[listed[0].place]
+
+
 def neg_token_init(octets: Octets) -> NegTokenInit:
     """The NegTokenInit in the token that begins a negotiation; the mechanism of the token's frame is not compared.
 
     Refused: INVALID, TRUNCATED, UNSUPPORTED, MEMORY."""
-    inner = token(octets).inner
-    fields = _fields(inner, "negTokenInit")
-    listed = fields.get("mechTypes")
-    mechanisms = None if listed is None else [inner[item.place] for item in listed if item.form == Form.LEAF]
-    return NegTokenInit(mechanisms, _octets(inner, fields.get("mechToken")), _octets(inner, fields.get("mechListMIC")))
+    return _offer(token(octets).inner)[0]
 
 
 def neg_token_init_mechanism(octets: Octets, n: int) -> bytes:
