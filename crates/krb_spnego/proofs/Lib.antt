@@ -1,3 +1,4 @@
 pub mod Rejecting
 pub mod Encodings
 pub mod Hearing
+pub mod ContextMics

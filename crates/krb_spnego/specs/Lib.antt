@@ -4,3 +4,4 @@ pub mod Reading
 pub mod Taking
 pub mod Offering
 pub mod Hearing
+pub mod KerberosMeaning

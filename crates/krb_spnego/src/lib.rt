@@ -3,12 +3,14 @@
 #![tactic(auto)]
 
 mod error;
+mod kerberos;
 pub mod laws;
 mod machine;
 mod reading;
 mod writing;
 
 pub use error::{BeginError, ReadError};
+pub use kerberos::{Client, KerberosAcceptor, Service};
 pub use krb_spnego_rules as rules;
 pub use machine::{accept_step, begin, initiate_step};
 pub use reading::{read_offer, read_reply};

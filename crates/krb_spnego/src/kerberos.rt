@@ -1,0 +1,357 @@
+//! Kerberos as the mechanism of an acceptor (RFC 4121).
+
+ghost use Rattle.std.specs.Prelude.{◌≡◌, ◌⊎◌, drop, pos, None, false, IfErr, IfOk, MatchBool};
+ghost use Rattle.krb_spnego.specs.KerberosMeaning.{HasTokenKey, HoldsOf, IsClientOf, IsNoClientOf, IsNoTurnOf, IsTurnBy, MadeOf, content_in, is_framed_in, is_kerberos, is_mutual, kerberos_meaning, kerberos_steady};
+ghost use Rattle.krb_accept.specs.TokenRefusals.{memory};
+ghost use Rattle.krb_accept.specs.ContextKey.{HasNoTokenKey, context_key};
+ghost use Rattle.krb_gss_per_message.specs.declared.error.ProtectionError.TheVariants as protection;
+ghost use Rattle.krb_spnego_rules.specs.declared.mechanism.MechanismError.TheVariants as errors;
+
+use krb_accept::{
+    Accepted, Arrival, Delegated, Entry, Kerberos, Presented, PresentedToken, ReplyError, Rule,
+    ServiceKey, Settings, Terms, TokenRefusal, present_token, reply_token, token_key,
+};
+use krb_accept_rules::Opening;
+use krb_der::{DerEncode, IntegerAsn1};
+use krb_enc_parts::data_types::{EncApRepPart, EncKrbCredPart};
+use krb_gss_per_message::{ProtectionError, Sender};
+use krb_messages::messages::{ApRep, KrbCred};
+use krb_spnego_rules::{Mechanism, MechanismError, Turn};
+use krb_types::data_types::AuthorizationData;
+use std::alloc::{AllocError, Global};
+
+/// The arcs of Kerberos (RFC 4121, 4.1).
+const KERBEROS: [u64; 7] = [1, 2, 840, 113554, 1, 2, 2];
+
+/// The arcs that Windows has for it beside (MS-SPNG, 1.9).
+const KERBEROS_OF_WINDOWS: [u64; 7] = [1, 2, 840, 48018, 1, 2, 2];
+
+/// The OBJECT IDENTIFIER of Kerberos, in DER.
+const IDENTIFIER: [u8; 11] = [
+    0x06, 0x09, 0x2a, 0x86, 0x48, 0x86, 0xf7, 0x12, 0x01, 0x02, 0x02,
+];
+
+/// The tag of a token: application 0, constructed (RFC 2743, 3.1).
+const TOKEN: u8 = 0x60;
+
+/// What a service knows, and asks of a client that comes now.
+#[derive(Drop)]
+pub struct Service {
+    /// Its keys.
+    pub keys: Vec<ServiceKey>,
+    /// The session keys of tickets that it has for user-to-user authentication (RFC 4120, 3.7).
+    pub session_keys: Vec<ServiceKey>,
+    /// Its terms.
+    pub terms: Terms,
+    /// The time, and the client's address.
+    pub arrival: Arrival,
+    /// What it asks of tokens.
+    pub settings: Settings,
+}
+
+/// A client whose token keeps all rules but those of the replay cache.
+#[derive(Drop)]
+pub struct Client {
+    /// What is to be remembered: whether a replay cache has it decides whether the client is let
+    /// in.
+    pub entry: Entry,
+    /// The client.
+    pub accepted: Accepted,
+    /// The flags of its context (RFC 4121, 4.1.1.1).
+    pub flags: u32,
+    /// The credentials that it delegated.
+    pub delegated: Option<Delegated>,
+}
+
+/// One conversation of a service, whose mechanism is Kerberos.
+///
+/// A client's token is taken where it keeps all rules but those of the replay cache
+/// (`krb_accept::present_token`). **Before anything is sent to the client, the caller looks whether
+/// its replay cache has `client.entry`, and remembers it**: what was accepted once is not accepted
+/// again.
+#[derive(Drop)]
+pub struct KerberosAcceptor {
+    /// The service.
+    pub service: Service,
+    /// The confounder of the AP-REP, of the length of the session key's suite: 16 octets for the
+    /// suites of AES. It is for one use, and random.
+    pub confounder: Vec<u8>,
+    /// The sequence number of the service's first message, which the AP-REP tells.
+    pub number: u32,
+    /// The sequence number of its next message: `number` at first.
+    pub next: u64,
+    /// The client, once its token was taken.
+    pub client: Option<Client>,
+}
+
+fn is_kerberos(arcs: &[u64]) -> bool
+    ensures { result ≡ is_kerberos arcs.now }
+{
+    arcs == KERBEROS.as_slice() || arcs == KERBEROS_OF_WINDOWS.as_slice()
+}
+
+/// What follows so many octets.
+fn behind(octets: &[u8], count: usize) -> &[u8]
+    ensures { result.now ≡ drop count octets.now }
+{
+    if count > octets.len() {
+        return &[];
+    }
+    &octets[count..]
+}
+
+/// What follows the tag and the length of a token.
+fn content_of(token: &[u8]) -> &[u8]
+    ensures { result.now ≡ content_in token.now }
+{
+    match token {
+        [] => &[],
+        [_] => &[],
+        [_, length, rest @ ..] => {
+            if *length < 128 {
+                return rest;
+            }
+            behind(rest, (*length - 128) as usize)
+        }
+    }
+}
+
+/// Whether octets begin like a token of Kerberos, with no negotiation around it.
+fn is_framed(token: &[u8]) -> bool
+    ensures { result ≡ is_framed_in token.now }
+{
+    token.starts_with(&[TOKEN]) && content_of(token).starts_with(&IDENTIFIER)
+}
+
+/// Whether a refusal is that of memory.
+fn is_memory(refusal: &TokenRefusal) -> bool
+    ensures { result ≡ false → refusal.now ≡ memory → ⊥ }
+{
+    match refusal {
+        TokenRefusal::Request(refusal) => refusal.rule == Rule::OutOfMemory,
+        _ => false,
+    }
+}
+
+/// The client of a token.
+fn client_of(alloc: Global, service: &Service, token: &[u8]) -> Result<Client, MechanismError>
+    ensures found { IfOk result
+        (IsClientOf ⟦<KrbCred as DerEncode>⟧ ⟦<EncKrbCredPart as DerEncode>⟧ ⟦<AuthorizationData as DerEncode>⟧ ⟦<Kerberos as Opening>⟧
+        service.now token.now) }
+    ensures refused { IfErr result (λ e. e ≡ errors.Refused
+        → IsNoClientOf ⟦<KrbCred as DerEncode>⟧ ⟦<EncKrbCredPart as DerEncode>⟧ ⟦<AuthorizationData as DerEncode>⟧ ⟦<Kerberos as Opening>⟧
+        service.now token.now) }
+{
+    match present_token(
+        alloc,
+        &service.keys,
+        &service.session_keys,
+        &service.terms,
+        &service.arrival,
+        &service.settings,
+        token,
+    ) {
+        Ok(shown) => {
+            let PresentedToken {
+                presented,
+                flags,
+                delegated,
+            } = shown;
+            let Presented {
+                entry,
+                accepted,
+                key: _,
+            } = presented;
+            Ok(Client {
+                entry,
+                accepted,
+                flags,
+                delegated,
+            })
+        }
+        Err(refusal) => {
+            if is_memory(&refusal) {
+                return Err(MechanismError::OutOfMemory);
+            }
+            Err(MechanismError::Refused)
+        }
+    }
+}
+
+/// Whether a client waits for an AP-REP (RFC 4121, 4.1.1.1).
+fn is_mutual(flags: u32) -> bool
+    ensures { result ≡ is_mutual flags }
+{
+    flags / 2 % 2 == 1
+}
+
+/// The integer of a number.
+fn integer_of(alloc: Global, number: u32) -> Result<IntegerAsn1, AllocError>
+    ensures { IfOk result (λ integer. integer ≡ pos number) }
+{
+    krb_build::integer_of(alloc, i64::from(number))
+}
+
+/// What the service sends to a client.
+fn turn_of(
+    alloc: Global,
+    client: &Client,
+    confounder: &[u8],
+    number: u32,
+) -> Result<Turn, MechanismError>
+    ensures made { IfOk result (IsTurnBy (is_mutual client.now.flags) ⟦<EncApRepPart as DerEncode>⟧ ⟦<ApRep as DerEncode>⟧ client.now.accepted
+        confounder.now number) }
+    ensures refused { IfErr result (λ e. e ≡ errors.Refused → IsNoTurnOf client.now confounder.now) }
+{
+    if !is_mutual(client.flags) {
+        return Ok(Turn::Ends);
+    }
+    let Ok(integer) = integer_of(alloc, number) else {
+        return Err(MechanismError::OutOfMemory);
+    };
+    match reply_token(alloc, &client.accepted, confounder, None, Some(integer)) {
+        Ok(token) => Ok(Turn::EndsWithToken(token)),
+        Err(ReplyError::OutOfMemory) => Err(MechanismError::OutOfMemory),
+        Err(_error) => Err(MechanismError::Refused),
+    }
+}
+
+/// Whether the key of a context is of a suite that RFC 4121 has tokens for.
+fn has_key(accepted: &Accepted) -> bool
+    ensures { MatchBool result (HasTokenKey accepted.now) (HasNoTokenKey (context_key accepted.now None)) }
+{
+    match token_key(accepted, None, Sender::Acceptor) {
+        Some(_key) => true,
+        None => false,
+    }
+}
+
+/// What the service sends to a client whose context has a key for MICs.
+fn turn_for(
+    alloc: Global,
+    client: &Client,
+    confounder: &[u8],
+    number: u32,
+) -> Result<Turn, MechanismError>
+    ensures made { IfOk result (λ turn. HasTokenKey client.now.accepted
+        × IsTurnBy (is_mutual client.now.flags) ⟦<EncApRepPart as DerEncode>⟧ ⟦<ApRep as DerEncode>⟧ client.now.accepted confounder.now number turn) }
+    ensures refused { IfErr result (λ e. e ≡ errors.Refused
+        → HasNoTokenKey (context_key client.now.accepted None) ⊎ IsNoTurnOf client.now confounder.now) }
+{
+    if !has_key(&client.accepted) {
+        return Err(MechanismError::Refused);
+    }
+    let turn = turn_of(alloc, client, confounder, number)?;
+    Ok(turn)
+}
+
+/// Lets a client go.
+fn let_go(_client: Option<Client>) {}
+
+/// The MIC of a text under the key of a context (RFC 4121, 4.2.6.1).
+fn mic_of(
+    alloc: Global,
+    accepted: &Accepted,
+    number: u64,
+    text: &[u8],
+) -> Result<Vec<u8>, AllocError>
+    ensures { IfOk result (λ mic. MadeOf accepted.now number text.now mic.items) }
+{
+    let Some(key) = token_key(accepted, None, Sender::Acceptor) else {
+        return Err(AllocError);
+    };
+    match krb_gss_per_message::make_mic(alloc, &key, number, text) {
+        Ok(mic) => Ok(mic),
+        Err(_error) => Err(AllocError),
+    }
+}
+
+/// Whether memory was wanting.
+fn is_wanting(error: &ProtectionError) -> bool
+    ensures { result ≡ false → error.now ≡ protection.OutOfMemory → ⊥ }
+{
+    match error {
+        ProtectionError::OutOfMemory => true,
+        _ => false,
+    }
+}
+
+/// Whether a MIC of the client holds of a text, under the key of its context.
+fn holds_of(alloc: Global, accepted: &Accepted, text: &[u8], mic: &[u8]) -> Result<bool, AllocError>
+    ensures { IfOk result (λ held. MatchBool held (HoldsOf accepted.now text.now mic.now) (HoldsOf accepted.now text.now mic.now → ⊥)) }
+{
+    let Some(key) = token_key(accepted, None, Sender::Initiator) else {
+        return Ok(false);
+    };
+    match krb_gss_per_message::verify_mic(alloc, &key, text, mic) {
+        Ok(_number) => Ok(true),
+        Err(error) => {
+            if is_wanting(&error) {
+                return Err(AllocError);
+            }
+            Ok(false)
+        }
+    }
+}
+
+impl Mechanism for KerberosAcceptor {
+    ghost meaning = { kerberos_meaning ⟦<KrbCred as DerEncode>⟧ ⟦<EncKrbCredPart as DerEncode>⟧ ⟦<AuthorizationData as DerEncode>⟧
+        ⟦<Kerberos as Opening>⟧ ⟦<EncApRepPart as DerEncode>⟧ ⟦<ApRep as DerEncode>⟧ };
+
+    ghost steady = { kerberos_steady ⟦<KrbCred as DerEncode>⟧ ⟦<EncKrbCredPart as DerEncode>⟧ ⟦<AuthorizationData as DerEncode>⟧
+        ⟦<Kerberos as Opening>⟧ ⟦<EncApRepPart as DerEncode>⟧ ⟦<ApRep as DerEncode>⟧ };
+
+    fn arcs(&self) -> &[u64] {
+        &KERBEROS
+    }
+
+    fn is_named(&self, arcs: &[u64]) -> bool {
+        is_kerberos(arcs)
+    }
+
+    fn has_integrity(&self) -> bool {
+        true
+    }
+
+    fn is_bare(&self, token: &[u8]) -> bool {
+        is_framed(token)
+    }
+
+    fn step(&mut self, alloc: Global, token: Option<&[u8]>) -> Result<Turn, MechanismError> {
+        if self.client.is_some() {
+            return Err(MechanismError::Refused);
+        }
+        let Some(token) = token else {
+            return Err(MechanismError::Refused);
+        };
+        let client = client_of(alloc, &self.service, token)?;
+        match turn_for(alloc, &client, &self.confounder, self.number) {
+            Ok(turn) => {
+                let_go(self.client.replace(client));
+                Ok(turn)
+            }
+            Err(error) => {
+                let_go(Some(client));
+                Err(error)
+            }
+        }
+    }
+
+    fn make_mic(&mut self, alloc: Global, text: &[u8]) -> Result<Vec<u8>, AllocError> {
+        match &self.client {
+            Some(client) => {
+                let mic = mic_of(alloc, &client.accepted, self.next, text)?;
+                self.next = self.next.wrapping_add(1);
+                Ok(mic)
+            }
+            None => Err(AllocError),
+        }
+    }
+
+    fn verify_mic(&self, alloc: Global, text: &[u8], mic: &[u8]) -> Result<bool, AllocError> {
+        match &self.client {
+            Some(client) => holds_of(alloc, &client.accepted, text, mic),
+            None => Ok(false),
+        }
+    }
+}
