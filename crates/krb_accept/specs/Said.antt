@@ -1,15 +1,11 @@
 -- What the checksum of an authenticator says of a context (RFC 4121, 4.1.1).
 use Rattle.std.specs.Prelude.{◌≡◌, ◌⊎◌, ℕ, pos, true, false, List, [], Option, None, Some}
+use Rattle.krb_accept_rules.specs.Bindings.{FitsBindings}
 use Rattle.krb_types.specs.declared.data_types.checksums.Checksum.{Checksum}
 use Rattle.krb_accept.specs.Layout.{IsLaidOut}
 use Rattle.krb_accept.specs.declared.settings.Settings.{Settings}
 use Rattle.krb_accept.specs.declared.token_refusal.TokenRefusal.{TokenRefusal}
 use Rattle.krb_accept.specs.declared.token_refusal.TokenRefusal.TheVariants as refusal
-
--- the client's bindings are the service's, where the service has some
-abbrev pub FitsBindings : Option (List ℕ) → List ℕ → Type 0
-FitsBindings None bindings = Unit {0}
-FitsBindings (Some own) bindings = bindings ≡ own
 
 -- there is a checksum of the type 0x8003, and these are its octets
 abbrev pub HasChecksum : Option Checksum → List ℕ → Type 0

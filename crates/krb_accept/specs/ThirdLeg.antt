@@ -13,6 +13,7 @@ use Rattle.krb_accept.specs.declared.third_leg.ThirdLegError.TheVariants as erro
 -- the numbers of errors (RFC 4120, 7.5.9)
 abbrev pub third_leg_error_code : ThirdLegError → ℕ
 third_leg_error_code errors.NotReply = 40
+third_leg_error_code errors.Reflected = 47
 third_leg_error_code errors.Part = 31
 third_leg_error_code errors.Time = 46
 third_leg_error_code errors.SequenceNumber = 46
@@ -60,3 +61,41 @@ module _ (ap_rep : EncodingOf ApRepInner) (part : EncodingOf EncApRepPartInner) 
       (e ≡ errors.OutOfMemory)
       ⊎ (((e ≡ errors.NotReply) × HasNone (Encodes ap_rep octets))
       ⊎ ((m : ApRepInner) × IsTheValue (Encodes ap_rep octets) m × IsNoThirdLeg part a number m e))
+
+-- ---- with no time compared
+
+-- the service's own AP-REP has the same encrypted octets: what it sent came back to it
+pub record IsReflected (ap_rep : EncodingOf ApRepInner) (own : List ℕ) (m : ApRepInner) : Type 0 where
+  pub sent : ApRepInner
+  pub encodes : Encodes ap_rep own sent
+  pub same : m.enc_part.cipher ≡ sent.enc_part.cipher
+
+module _ (ap_rep : EncodingOf ApRepInner) (part : EncodingOf EncApRepPartInner) where
+  -- The message is an AP-REP and not the service's own; its part is encrypted under the session key, for key usage 12, and has the service's sequence number.
+  pub record IsClientReply (a : Accepted) (own : List ℕ) (number : ℤ) (m : ApRepInner) : Type 0 where
+    pub value : EncApRepPartInner
+    pub numbers : HasNumbers m
+    pub not_own : IsReflected ap_rep own m → ⊥
+    pub value_is : IsTheValue (IsSealedWith part a.ticket.key (pos 12) m.enc_part) value
+    pub number_is : value.seq_number.0 ≡ Some number
+
+  -- It is none by its numbers; or it is the service's own; or the session key does not decrypt its part; or that has not this number; or memory was wanting.
+  abbrev pub IsNoClientReply : Accepted → List ℕ → ℤ → ApRepInner → ThirdLegError → Type 0
+  IsNoClientReply a own number m e =
+      (e ≡ errors.OutOfMemory)
+      ⊎ (((e ≡ errors.NotReply) × (HasNumbers m → ⊥))
+      ⊎ (((e ≡ errors.Reflected) × HasNumbers m × IsReflected ap_rep own m)
+      ⊎ (((e ≡ errors.Part) × HasNumbers m × (IsReflected ap_rep own m → ⊥) × HasNone (IsSealedWith part a.ticket.key (pos 12) m.enc_part))
+      ⊎ ((v : EncApRepPartInner) × (e ≡ errors.SequenceNumber) × HasNumbers m × (IsReflected ap_rep own m → ⊥)
+      × IsTheValue (IsSealedWith part a.ticket.key (pos 12) m.enc_part) v × (v.seq_number.0 ≡ Some number → ⊥)))))
+
+  -- the octets are the one encoding of such a message
+  abbrev pub IsFromClient : Accepted → List ℕ → ℤ → List ℕ → Type 0
+  IsFromClient a own number octets = (m : ApRepInner) × IsTheValue (Encodes ap_rep octets) m × IsClientReply a own number m
+
+  -- they are the encoding of no AP-REP, or of one that is not such a message; or memory was wanting
+  abbrev pub IsNotFromClient : Accepted → List ℕ → ℤ → List ℕ → ThirdLegError → Type 0
+  IsNotFromClient a own number octets e =
+      (e ≡ errors.OutOfMemory)
+      ⊎ (((e ≡ errors.NotReply) × HasNone (Encodes ap_rep octets))
+      ⊎ ((m : ApRepInner) × IsTheValue (Encodes ap_rep octets) m × IsNoClientReply a own number m e))

@@ -41,6 +41,6 @@ pub use krb_accept_rules::{
 };
 pub use opening::suite_of;
 pub use settings::{PacCheck, Settings};
-pub use third_leg::{ThirdLegError, check_third_leg};
+pub use third_leg::{ThirdLegError, check_third_leg, confirm_third_leg};
 pub use token::{Context, PresentedToken, accept_token, admit_token, present_token};
 pub use token_refusal::TokenRefusal;

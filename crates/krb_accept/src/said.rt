@@ -1,12 +1,13 @@
 //! What the checksum of an authenticator says of a context (RFC 4121, 4.1.1).
 
-ghost use Rattle.std.specs.Prelude.{◌≡◌, ℕ, List, IfErr, IfOk, MatchBool, MatchOption};
-ghost use Rattle.krb_accept.specs.Said.{FitsBindings, HasChecksum, IsNotSaid, IsSaid, TakesOther, RefusesOther};
+ghost use Rattle.std.specs.Prelude.{◌≡◌, ℕ, List, IfErr, IfOk, MatchOption};
+ghost use Rattle.krb_accept.specs.Said.{HasChecksum, IsNotSaid, IsSaid, TakesOther, RefusesOther};
 
 use crate::checksum::checksum_of;
 use crate::settings::Settings;
 use crate::token_refusal::TokenRefusal;
 use crate::with_key::is_number;
+use krb_accept_rules::fits_bindings;
 use krb_types::data_types::Checksum;
 
 /// The type of the checksum of the GSS-API (RFC 4121, 4.1.1).
@@ -19,16 +20,6 @@ pub(crate) struct Said<'a> {
     pub flags: u32,
     /// The octets of the delegated credentials; none, where the flag of delegation is not set.
     pub delegated: &'a [u8],
-}
-
-/// Whether bindings are the service's, where it has some.
-fn fits_bindings(own: &Option<[u8; 16]>, bindings: &[u8]) -> bool
-    ensures { MatchBool result (FitsBindings own.now bindings.now) (FitsBindings own.now bindings.now → ⊥) }
-{
-    match own {
-        Some(own) => bindings == own.as_slice(),
-        None => true,
-    }
 }
 
 /// The octets of the checksum, where it is one of the GSS-API.

@@ -1,10 +1,10 @@
 //! The third leg of DCE style: the client's AP-REP (MS-KILE, 3.4.5.1).
 
-ghost use Rattle.std.specs.Prelude.{◌≡◌, Some, IfErr, MatchBool, OnOk};
-ghost use Rattle.krb_accept.specs.ThirdLeg.{HasNumbers, HasTime, IsConfirmed, IsNoThirdLeg, IsNotAgreed, IsNotConfirmed, IsThirdLeg, third_leg_error_code};
-ghost use Rattle.krb_accept.specs.declared.third_leg.ThirdLegError.TheVariants.{OutOfMemory};
+ghost use Rattle.std.specs.Prelude.{◌≡◌, Some, IfErr, IfOk, MatchBool, OnOk};
+ghost use Rattle.krb_accept.specs.ThirdLeg.{HasNumbers, HasTime, IsClientReply, IsConfirmed, IsFromClient, IsNoClientReply, IsNoThirdLeg, IsNotAgreed, IsNotConfirmed, IsNotFromClient, IsReflected, IsThirdLeg, third_leg_error_code};
+ghost use Rattle.krb_accept.specs.declared.third_leg.ThirdLegError.TheVariants.{OutOfMemory, SequenceNumber};
 
-use crate::opening::value_of;
+use crate::opening::{octets_of, value_of};
 use crate::with_key::{is_number, is_same_integer, value_with};
 use krb_accept_rules::Accepted;
 use krb_der::{DerEncode, GeneralizedTimeAsn1, IntegerAsn1};
@@ -25,9 +25,11 @@ const VERSION: u32 = 5;
 pub enum ThirdLegError {
     /// The octets are not the one encoding of an AP-REP with pvno 5 and msg-type 15.
     NotReply,
+    /// It is the service's own AP-REP, sent back to it (`confirm_third_leg` alone).
+    Reflected,
     /// The session key does not decrypt its part, key usage 12.
     Part,
-    /// Its time is not that of the client's authenticator.
+    /// Its time is not that of the client's authenticator (`check_third_leg` alone).
     Time,
     /// Its sequence number is not the service's.
     SequenceNumber,
@@ -42,6 +44,7 @@ impl ThirdLegError {
     {
         match self {
             ThirdLegError::NotReply => 40,
+            ThirdLegError::Reflected => 47,
             ThirdLegError::Part => 31,
             ThirdLegError::Time | ThirdLegError::SequenceNumber => 46,
             ThirdLegError::OutOfMemory => 60,
@@ -53,6 +56,7 @@ impl fmt::Display for ThirdLegError {
     fn fmt<W: fmt::Write>(&self, f: &mut fmt::Formatter<W>) -> fmt::Result {
         f.write_str(match self {
             ThirdLegError::NotReply => "the message is not an AP-REP",
+            ThirdLegError::Reflected => "the AP-REP is the service's own",
             ThirdLegError::Part => "the session key does not decrypt the AP-REP",
             ThirdLegError::Time => "the AP-REP has another time than the authenticator",
             ThirdLegError::SequenceNumber => {
@@ -149,8 +153,74 @@ fn check_message(
     }
 }
 
+/// The encrypted octets of an AP-REP.
+fn cipher_in(message: &ApRep) -> &[u8]
+    ensures { result.now ≡ message.now.enc_part.cipher }
+{
+    octets_of(&message.0.enc_part.0.cipher.0)
+}
+
+/// Whether two AP-REPs have the same encrypted octets.
+fn is_same_cipher(first: &ApRep, second: &ApRep) -> bool
+    ensures { MatchBool result (first.now.enc_part.cipher ≡ second.now.enc_part.cipher) (first.now.enc_part.cipher ≡ second.now.enc_part.cipher → ⊥) }
+{
+    cipher_in(first) == cipher_in(second)
+}
+
+/// Whether the message has the encrypted octets of the service's own AP-REP.
+fn is_reflected(alloc: Global, own_reply: &[u8], message: &ApRep) -> Result<bool, AllocError>
+    ensures { IfOk result
+        (λ same. MatchBool same (IsReflected ⟦<ApRep as DerEncode>⟧ own_reply.now message.now)
+        (IsReflected ⟦<ApRep as DerEncode>⟧ own_reply.now message.now → ⊥)) }
+{
+    match value_of::<ApRep>(alloc, own_reply)? {
+        Some(own) => Ok(is_same_cipher(message, &own)),
+        None => Ok(false),
+    }
+}
+
+/// Whether the part has the service's sequence number.
+fn check_number(sequence_number: &IntegerAsn1, part: &EncApRepPart) -> Result<(), ThirdLegError>
+    ensures same { OnOk result (part.now.seq_number.0 ≡ Some sequence_number.now) }
+    ensures refused { IfErr result (λ e. (e ≡ SequenceNumber) × (part.now.seq_number.0 ≡ Some sequence_number.now → ⊥)) }
+{
+    if !has_number(part, sequence_number) {
+        return Err(ThirdLegError::SequenceNumber);
+    }
+    Ok(())
+}
+
+/// Whether the message is the third leg, whatever its time is.
+fn confirm_message(
+    alloc: Global,
+    accepted: &Accepted,
+    own_reply: &[u8],
+    sequence_number: &IntegerAsn1,
+    message: &ApRep,
+) -> Result<(), ThirdLegError>
+    ensures confirmed { OnOk result
+        (IsClientReply ⟦<ApRep as DerEncode>⟧ ⟦<EncApRepPart as DerEncode>⟧ accepted.now own_reply.now sequence_number.now message.now) }
+    ensures refused { IfErr result
+        (IsNoClientReply ⟦<ApRep as DerEncode>⟧ ⟦<EncApRepPart as DerEncode>⟧ accepted.now own_reply.now sequence_number.now message.now) }
+{
+    if !has_numbers(message) {
+        return Err(ThirdLegError::NotReply);
+    }
+    if is_reflected(alloc, own_reply, message)? {
+        return Err(ThirdLegError::Reflected);
+    }
+    let sealed = part_in(message);
+    match value_with::<EncApRepPart>(alloc, &accepted.ticket.key, AP_REP_ENC, sealed)? {
+        Some(part) => check_number(sequence_number, &part),
+        None => Err(ThirdLegError::Part),
+    }
+}
+
 /// Whether the octets are the third leg of DCE style (MS-KILE, 3.4.5.1): an AP-REP whose part the client encrypted under the session key, for
 /// key usage 12, with the time of its authenticator and the sequence number that the service gave in its own AP-REP. No frame is around it.
+///
+/// Clients of MIT Kerberos and Impacket put another time than their authenticator's, and are refused; the service's own AP-REP, sent back to
+/// it, is taken. `confirm_third_leg` compares no time, and refuses that.
 ///
 /// Else the error is that of the first rule that is broken, in the order of `ThirdLegError`; memory may be wanting in place of any result.
 pub fn check_third_leg(
@@ -166,6 +236,33 @@ pub fn check_third_leg(
 {
     match value_of::<ApRep>(alloc, octets)? {
         Some(message) => check_message(alloc, accepted, sequence_number, &message),
+        None => Err(ThirdLegError::NotReply),
+    }
+}
+
+/// Whether the octets are the third leg of DCE style (MS-KILE, 3.4.5.1) as clients send it: an AP-REP whose part the client encrypted under
+/// the session key, for key usage 12, with the sequence number that the service gave in its own AP-REP. No frame is around it. Its time is not
+/// compared: clients of MIT Kerberos and Impacket put that at which they make it, and not that of the authenticator, as RFC 4120, 3.2.4, has it.
+///
+/// `own_reply` is the encoding of the service's own AP-REP, as `reply` returned it: a message with the same encrypted octets is that, sent
+/// back to the service, whatever else in it was changed. With octets that are not an AP-REP nothing is so refused.
+///
+/// Else the error is that of the first rule that is broken: `NotReply`, `Reflected`, `Part`, `SequenceNumber`; memory may be wanting in place
+/// of any result.
+pub fn confirm_third_leg(
+    alloc: Global,
+    accepted: &Accepted,
+    own_reply: &[u8],
+    sequence_number: &IntegerAsn1,
+    octets: &[u8],
+) -> Result<(), ThirdLegError>
+    ensures confirmed { OnOk result
+        (IsFromClient ⟦<ApRep as DerEncode>⟧ ⟦<EncApRepPart as DerEncode>⟧ accepted.now own_reply.now sequence_number.now octets.now) }
+    ensures refused { IfErr result
+        (IsNotFromClient ⟦<ApRep as DerEncode>⟧ ⟦<EncApRepPart as DerEncode>⟧ accepted.now own_reply.now sequence_number.now octets.now) }
+{
+    match value_of::<ApRep>(alloc, octets)? {
+        Some(message) => confirm_message(alloc, accepted, own_reply, sequence_number, &message),
         None => Err(ThirdLegError::NotReply),
     }
 }

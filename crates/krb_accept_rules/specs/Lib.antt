@@ -8,6 +8,7 @@ pub mod Flags
 pub mod Times
 pub mod TicketTimes
 pub mod UsualTerms
+pub mod Bindings
 pub mod Values
 pub mod Remembering
 pub mod Keys

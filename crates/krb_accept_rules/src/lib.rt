@@ -4,6 +4,7 @@
 
 mod accepted;
 mod authenticator;
+mod bindings;
 mod cache;
 mod decision;
 mod elements;
@@ -23,6 +24,7 @@ mod terms;
 mod ticket;
 
 pub use accepted::{Accepted, Presented};
+pub use bindings::fits_bindings;
 pub use cache::{Entry, ReplayCache};
 pub use decision::{accept, admit};
 pub use fields::{AuthenticatorFields, RequestFields, TicketFields};

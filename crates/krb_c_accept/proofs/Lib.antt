@@ -1,4 +1,5 @@
 pub mod Failing
+pub mod SessionKeys
 pub mod Replying
 pub mod Errors
 pub mod Seeds

@@ -19,7 +19,6 @@ use Rattle.krb_c_accept.specs.Answers.{IsAnswer}
 use Rattle.krb_c_accept.specs.Decision.{IsLetIn, IsTurnedAway}
 use Rattle.krb_c_accept.specs.Inputs.{Inputs}
 use Rattle.krb_c_accept.specs.Prepared.{IsNotPrepared, IsPrepared}
-use Rattle.krb_c_accept.specs.Replies.{FailsReply}
 use Rattle.krb_c_accept.specs.Rules.{nothing, refused_record}
 use Rattle.krb_c_accept.specs.declared.call.Outcome.{Outcome}
 use Rattle.krb_c_accept.specs.declared.call.Outcome.TheVariants as outcomes
@@ -43,11 +42,11 @@ refused e = if is_memory e then outcomes.Failed refusals.Memory else outcomes.Re
 
 -- ---- what becomes of a call
 
--- an answer to the client that is let in; or none is made
+-- an answer to the client that is let in; or an allocation failed
 abbrev pub IsAnswered : EncodingOf EncApRepPartInner → EncodingOf ApRepInner → EncodingOf (List AuthorizationDataInner) → Inputs → LetIn → Outcome → Type 0
 IsAnswered part ap_rep elements i l (outcomes.LetIn a) = IsAnswer part ap_rep elements i.acceptor i.random i.token l a
 IsAnswered part ap_rep elements i l (outcomes.Refused e) = ⊥
-IsAnswered part ap_rep elements i l (outcomes.Failed e) = FailsReply l.context.accepted e
+IsAnswered part ap_rep elements i l (outcomes.Failed e) = e ≡ refusals.Memory
 
 module _ (cred : EncodingOf KrbCredInner) (cred_part : EncodingOf EncKrbCredPartInner) (elements : EncodingOf (List AuthorizationDataInner)) {O : Type 0}
     (o : OpeningOf O) (part : EncodingOf EncApRepPartInner) (ap_rep : EncodingOf ApRepInner) (i : Inputs) where

@@ -1,7 +1,7 @@
 -- What is sent to a client that is let in (RFC 4120, 3.2.4; RFC 4121, 4.1.2), and the service's subkey in it.
 use Rattle.std.specs.Prelude.{◌≡◌, ◌⊎◌, ℕ, ℤ, pos, ◌/◌, ◌%◌, ◌==◌, Bool, true, false, ◌||◌, MatchBool, List, [], take, drop, Option, None, Some}
 use Rattle.krb_accept.specs.Frame.{in_frame}
-use Rattle.krb_accept.specs.Replies.{IsNoReply, IsReply, IsReplyToken}
+use Rattle.krb_accept.specs.Replies.{IsReply, IsReplyToken}
 use Rattle.krb_accept.specs.declared.ap_rep.ReplyError.{ReplyError}
 use Rattle.krb_accept.specs.declared.ap_rep.ReplyError.TheVariants as errors
 use Rattle.krb_accept.specs.declared.frame.InnerToken.TheVariants as inner
@@ -69,17 +69,11 @@ IsFramed token = (octets : List ℕ) × (token ≡ in_frame inner.ApReq octets)
 abbrev pub IsInFrame : List ℕ → ℕ → Type 0
 IsInFrame token flags = (flags / 4096 % 2 ≡ 0) × IsFramed token
 
--- why none is made: an allocation failed, or an error that no call meets
+-- why none is made: an allocation failed; with a session key of a suite, and the suite's confounder, nothing else
 abbrev pub reply_error : ReplyError → CallError
 reply_error errors.OutOfMemory = refusals.Memory
 reply_error errors.Key = refusals.Never
 reply_error errors.Confounder = refusals.Never
-
--- an allocation failed; or the session key is of no suite, or it or a confounder is not of the suite's length
-abbrev pub FailsReply : Accepted → CallError → Type 0
-FailsReply a e =
-    (e ≡ refusals.Memory)
-    ⊎ ((e ≡ refusals.Never) × (confounder : List ℕ) × (IsNoReply a confounder errors.Key ⊎ IsNoReply a confounder errors.Confounder))
 
 module _ (part : EncodingOf EncApRepPartInner) (ap_rep : EncodingOf ApRepInner) where
   -- in a frame, or alone

@@ -1,8 +1,9 @@
 //! What is told and handed out of a client that is let in.
 
 ghost use Rattle.std.specs.Prelude.{◌≡◌, length, IfErr, IfOk};
+ghost use Rattle.krb_accept.specs.Kerberos.{HasLength};
 ghost use Rattle.krb_c_accept.specs.Answers.{IsAnswer, IsAnswerWith};
-ghost use Rattle.krb_c_accept.specs.Replies.{FailsReply};
+ghost use Rattle.krb_c_calls.specs.declared.call_error.CallError.TheVariants as refusals;
 
 use crate::decision::LetIn;
 use crate::parts::{parts_of, put_parts};
@@ -46,10 +47,11 @@ pub(crate) fn answer_of(
     token: &[u8],
     let_in: &LetIn,
 ) -> Result<Answer, CallError>
-    requires { length random.now ≡ 48 }
+    requires random { length random.now ≡ 48 }
+    requires key { HasLength let_in.now.context.accepted.ticket.key }
     ensures made { IfOk result
         (IsAnswer ⟦<EncApRepPart as DerEncode>⟧ ⟦<ApRep as DerEncode>⟧ ⟦<AuthorizationData as DerEncode>⟧ acceptor.now random.now token.now let_in.now) }
-    ensures refused { IfErr result (FailsReply let_in.now.context.accepted) }
+    ensures refused { IfErr result (λ e. e ≡ refusals.Memory) }
 {
     let reply = reply_to(alloc, acceptor, random, token, &let_in.context)?;
     Ok(with_reply(alloc, let_in, reply)?)

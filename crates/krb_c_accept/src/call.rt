@@ -1,6 +1,7 @@
 //! The call.
 
 ghost use Rattle.std.specs.Prelude.{◌≡◌, length};
+ghost use Rattle.krb_accept.specs.Kerberos.{HasLength};
 ghost use Rattle.krb_c_accept.specs.Calls.{IsAnswered, IsCall, IsDecision, IsOutcome, Tells, is_memory, refused};
 ghost use Rattle.krb_c_accept.specs.Inputs.{inputs_of};
 
@@ -56,7 +57,8 @@ fn refused(refusal: TokenRefusal) -> Outcome
 
 /// What becomes of a client that is let in.
 fn answered(alloc: Global, asked: &Asked, let_in: &LetIn) -> Outcome
-    requires { length asked.now.random.now ≡ 48 }
+    requires random { length asked.now.random.now ≡ 48 }
+    requires key { HasLength let_in.now.context.accepted.ticket.key }
     ensures { IsAnswered ⟦<EncApRepPart as DerEncode>⟧ ⟦<ApRep as DerEncode>⟧ ⟦<AuthorizationData as DerEncode>⟧ (inputs_of asked.now) let_in.now result }
 {
     match answer_of(alloc, &asked.acceptor, asked.random, asked.token, let_in) {
@@ -124,7 +126,7 @@ fn tell(outcome: &Outcome, accepted: &mut AcceptedRecord, out: &mut [u8], size: 
 ///
 /// 0 where it does: `accepted` tells of the client, and its octets are handed out; 1 where they are more than `out` has, and then `accepted` is all zeros. 41 where a
 /// rule refuses the token: `accepted` tells which. Else `accepted` is all zeros: 13 where there are not 48 random octets, or the hash of the bindings has neither 0 nor
-/// 16 octets; 23 where a keytab is none; 2 where an allocation failed; 12 where no AP-REP can be made under the session key, which no call meets.
+/// 16 octets; 23 where a keytab is none; 2 where an allocation failed.
 pub fn accept(
     alloc: Global,
     asked: &Asked,

@@ -1,8 +1,10 @@
 //! What is sent to a client that is let in.
 
 ghost use Rattle.std.specs.Prelude.{◌≡◌, length, pos, MatchBool, MatchOption, IfErr, IfOk};
+ghost use Rattle.krb_accept.specs.Kerberos.{HasLength};
 ghost use Rattle.krb_accept.specs.Replies.{IsNoReply};
-ghost use Rattle.krb_c_accept.specs.Replies.{FailsReply, IsAnswerTo, IsFramed, IsInFrame, IsMade, IsReplyTo, reply_error, wants_reply};
+ghost use Rattle.krb_c_accept.specs.Replies.{IsAnswerTo, IsFramed, IsInFrame, IsMade, IsReplyTo, reply_error, wants_reply};
+ghost use Rattle.krb_crypto.specs.BySuite.{key_octets_of};
 ghost use Rattle.krb_crypto.specs.Suites.{etype};
 ghost use Rattle.krb_crypto.specs.declared.cipher_suite.CipherSuite.{CipherSuite};
 ghost use Rattle.krb_c_calls.specs.declared.call_error.CallError.TheVariants as refusals;
@@ -106,10 +108,12 @@ fn answer_to(
     in_frame: bool,
     accepted: &Accepted,
 ) -> Result<Reply, CallError>
-    requires { length random.now ≡ 48 }
+    requires random { length random.now ≡ 48 }
+    requires of_suite { accepted.now.ticket.key.key_type ≡ pos (etype suite.now) }
+    requires size { length accepted.now.ticket.key.key_value ≡ key_octets_of suite.now }
     ensures made { IfOk result
         (IsAnswerTo ⟦<EncApRepPart as DerEncode>⟧ ⟦<ApRep as DerEncode>⟧ acceptor.now random.now suite.now in_frame accepted.now) }
-    ensures refused { IfErr result (FailsReply accepted.now) }
+    ensures refused { IfErr result (λ e. e ≡ refusals.Memory) }
 {
     let subkey = own_subkey(alloc, has_option(acceptor.options, SUBKEY), suite, random)?;
     let own_subkey = octets_of_key(alloc, &subkey)?;
@@ -129,10 +133,11 @@ pub(crate) fn reply_to(
     token: &[u8],
     context: &Context,
 ) -> Result<Reply, CallError>
-    requires { length random.now ≡ 48 }
+    requires random { length random.now ≡ 48 }
+    requires key { HasLength context.now.accepted.ticket.key }
     ensures made { IfOk result
         (IsReplyTo ⟦<EncApRepPart as DerEncode>⟧ ⟦<ApRep as DerEncode>⟧ acceptor.now random.now token.now context.now) }
-    ensures refused { IfErr result (FailsReply context.now.accepted) }
+    ensures refused { IfErr result (λ e. e ≡ refusals.Memory) }
 {
     if wants_reply(context) {
         let Some(suite) = suite_in(context) else {

@@ -19,7 +19,7 @@ use test_rows::{Columns, RowError};
 
 /// A service.
 #[derive(Drop)]
-struct Service {
+pub(crate) struct Service {
     keys: Vec<ServiceKey>,
     terms: Terms,
     arrival: Arrival,
@@ -27,8 +27,35 @@ struct Service {
 }
 
 impl Service {
+    /// The service of a keytab at a time, with its channel bindings, that takes what the settings say.
+    pub(crate) fn of(
+        alloc: Global,
+        keytab: &[u8],
+        clock: i64,
+        bindings: &[u8],
+        number: u32,
+    ) -> Result<Service, RowError> {
+        let Ok(view) = KeytabView::new(keytab) else {
+            return Err(RowError::NoDigits);
+        };
+        Ok(Service {
+            keys: keys_of_keytab(alloc, &view)?,
+            terms: Terms::new(alloc, 300)?,
+            arrival: Arrival {
+                clock,
+                address: None,
+            },
+            settings: Settings {
+                bindings: <[u8; 16]>::try_from(bindings).ok(),
+                bare_request: number & 1 != 0,
+                other_checksum: number & 2 != 0,
+                ..Settings::new()
+            },
+        })
+    }
+
     /// Whether the client of a token is let in.
-    fn answer(
+    pub(crate) fn answer(
         &self,
         alloc: Global,
         token: &[u8],
@@ -148,23 +175,7 @@ pub(crate) fn answer(alloc: Global, mut columns: Columns<'_>) -> Result<String, 
     let bindings = columns.octets(alloc)?;
     let number = columns.number::<u32>()?;
     let token = columns.octets(alloc)?;
-    let Ok(view) = KeytabView::new(&keytab) else {
-        return Err(RowError::NoDigits);
-    };
-    let service = Service {
-        keys: keys_of_keytab(alloc, &view)?,
-        terms: Terms::new(alloc, 300)?,
-        arrival: Arrival {
-            clock,
-            address: None,
-        },
-        settings: Settings {
-            bindings: <[u8; 16]>::try_from(bindings.as_slice()).ok(),
-            bare_request: number & 1 != 0,
-            other_checksum: number & 2 != 0,
-            ..Settings::new()
-        },
-    };
+    let service = Service::of(alloc, &keytab, clock, &bindings, number)?;
     let caller = Caller {
         keytab: &keytab,
         clock,

@@ -11,6 +11,7 @@ mod c_calls;
 mod c_tokens;
 mod crypto;
 mod pac_checksums;
+mod third_legs;
 
 use std::alloc::Global;
 use std::io;
@@ -27,6 +28,7 @@ impl Tables for Cryptography {
             "calls" => c_calls::answer(alloc, columns)?,
             "tokens" => c_tokens::answer(alloc, columns)?,
             "accepted" => accepted::answer(alloc, columns)?,
+            "third legs" => third_legs::answer(alloc, columns)?,
             "pac checksums" => pac_checksums::answer(alloc, columns)?,
             _ => return Err(RowError::NoTable),
         };
