@@ -1,5 +1,5 @@
 -- What is sent to a client that is let in (RFC 4120, 3.2.4; RFC 4121, 4.1.2), and the service's subkey in it.
-use Rattle.std.specs.Prelude.{◌≡◌, ◌⊎◌, ℕ, ℤ, pos, ◌/◌, ◌%◌, ◌==◌, Bool, true, false, ◌||◌, MatchBool, List, [], take, drop, Option, None, Some}
+use Rattle.std.specs.Prelude.{◌≡◌, ℕ, ℤ, pos, ◌/◌, ◌%◌, ◌==◌, Bool, true, false, ◌||◌, MatchBool, List, [], take, drop, Option, None, Some}
 use Rattle.krb_accept.specs.Frame.{in_frame}
 use Rattle.krb_accept.specs.Replies.{IsReply, IsReplyToken}
 use Rattle.krb_accept.specs.declared.ap_rep.ReplyError.{ReplyError}

@@ -1,6 +1,6 @@
 -- MICs under the key of a context.
-use Rattle.std.proofs.Common.{◌≡◌, ◌∙◌, ℕ, List, Bool, false, Option, Some, Result, Ok, Err, refl, sym, ap, subst}
-use Rattle.std.specs.Prelude.{None, MatchResult, is_some, pos}
+use Rattle.std.proofs.Common.{◌≡◌, ◌∙◌, ℕ, List, Bool, false, Option, Some, Result, Err, refl, sym, ap, subst}
+use Rattle.std.specs.Prelude.{None, MatchResult, is_some}
 use Rattle.krb_accept.proofs.Suites.{one_suite}
 use Rattle.krb_accept.specs.ContextKey.{HasNoTokenKey, IsTokenKeyOf, context_key}
 use Rattle.krb_accept_rules.specs.declared.accepted.Accepted.{Accepted}

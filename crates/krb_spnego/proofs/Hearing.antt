@@ -1,5 +1,5 @@
 -- Whole runs over octets, of the steps of the rules.
-use Rattle.std.proofs.Common.{◌≡◌, ◌⊎◌, ◌++◌, ◌∙◌, ℕ, List, [], ◌∷◌, Bool, true, false, Option, Some, None, Ok, Err, refl, inl, inr, sym, ap, subst}
+use Rattle.std.proofs.Common.{◌≡◌, ◌++◌, ◌∙◌, ℕ, List, [], ◌∷◌, Bool, true, false, Option, Some, None, Ok, Err, refl, inl, inr, sym, ap, subst}
 use Rattle.std.specs.Prelude.{Vec, is_some}
 use Rattle.std.specs.declared.alloc.Global.{Global}
 use Rattle.krb_der_core.specs.declared.der.DerEncode.{Ghosts as EncodingOf}
@@ -8,7 +8,7 @@ use Rattle.krb_gss_tokens.specs.declared.spnego.NegTokenTarg.{NegTokenTarg}
 use Rattle.krb_spnego_rules.specs.AcceptorSteps.{AcceptorIsOffered, AcceptorSteps, AcceptorTakesBare, BareGoesOn, BareSteps, FirstBare, ended, settled}
 use Rattle.krb_spnego_rules.specs.EngineRuns.{AcceptorRuns, InitiatorRuns, last_mic, last_state, received_in}
 use Rattle.krb_spnego_rules.specs.Fields.{items_in}
-use Rattle.krb_spnego_rules.specs.InitiatorSteps.{InitiatorSteps, unread_initiator}
+use Rattle.krb_spnego_rules.specs.InitiatorSteps.{unread_initiator}
 use Rattle.krb_spnego_rules.specs.Justified.{IsAcceptor, IsInitiator, Offering, Received, SendsOver}
 use Rattle.krb_spnego_rules.specs.Meaning.{Meaning}
 use Rattle.krb_spnego_rules.specs.Steps.{Outcome}

@@ -1,4 +1,4 @@
-use Rattle.std.proofs.Common.{◌⊎◌, inl, inr, sym, subst}
+use Rattle.std.proofs.Common.{inl, inr, sym, subst}
 use Rattle.krb_der_x509.specs.ObjectIdentifier.{IsArcs}
 use Rattle.krb_spnego.proofs.writing.list_of.Goals as goal
 

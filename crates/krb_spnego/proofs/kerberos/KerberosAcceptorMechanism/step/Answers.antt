@@ -1,4 +1,4 @@
-use Rattle.std.proofs.Common.{ap, inl, inr, sym}
+use Rattle.std.proofs.Common.{ap, inr, sym}
 use Rattle.std.specs.Option.{option_copied}
 use Rattle.krb_spnego.proofs.ContextMics.{error_is, nobody}
 use Rattle.krb_spnego.proofs.kerberos.KerberosAcceptorMechanism.step.Goals as goal
