@@ -13,7 +13,7 @@ struct answer {
 };
 
 static struct answer answer_of(const char *type, const char *path, const struct octets *octets) {
-    struct answer it = {{7, 7, 7, 7, 7, 7, 7, 7}, 99999, 0, 0};
+    struct answer it = {{7, 7, 7, 7, 7, 7, 7, 7, 7, 7}, 99999, 0, 0};
     it.place = krb_find_text(type, path, octets->at, octets->count, &it.item);
     it.value = krb_find_number_text(type, path, octets->at, octets->count, &it.number);
     return it;
