@@ -281,7 +281,7 @@ def try_browsers(realm, environment, folder, programs):
     for program, run in (("chromium", try_chromium), ("firefox-esr", try_firefox)):
         if program in programs:
             run((site, asking, tls), folder)
-            say("%s: done; its picture: %s" % (program, os.path.join(folder, program.split("-")[0] + ".png")))
+            say("%s: done" % program)
         else:
             say("left out: %s, which cannot be had" % program)
     log = realm.log()  # wsgiref has a traceback where a browser leaves

@@ -102,6 +102,16 @@ def try_transcript():
     expect(len(alone) == 2 and says[:3] == (COMPLETED, FIRST, b"toy:00:2") and says.mech_list_mic is None, "the first choice: %s" % (says,))
 
 
+def try_order():
+    """An acceptor takes the first name of the list that names one of its mechanisms, in whichever order it has these."""
+    for offered in itertools.permutations((FIRST, SECOND, THIRD)):
+        for own in itertools.permutations((FIRST, SECOND, THIRD), 2):
+            side = krb.Negotiator(ACCEPTOR, [Toy(ACCEPTOR, each) for each in own])
+            answer, _ = side.step(init(offered, b"toy:%s:1" % offered[0][-1:].hex().encode()))
+            got, wanted = spnego.neg_token_resp(answer).supported_mech, [each for each in offered if each in own][0]
+            expect(got == wanted, "of %s an acceptor of %s takes %s" % tuple([each[-1] for each in some] for some in (offered, own, [got])))
+
+
 def try_alias():
     """A name that peers use in the place of a mechanism's own is answered as it is spelled."""
     for offered in ([SECOND], [SECOND, FIRST], [FIRST, SECOND]):
@@ -167,6 +177,12 @@ def offers():
         yield what, acceptor_of(), octets, "UNREAD"
 
 
+def resp_with_empty_mic(token):
+    """A message of a token and a mechListMIC of no octets, which krb.spnego does not make."""
+    fields = b"\xa2" + bytes([len(token) + 2]) + b"\x04" + bytes([len(token)]) + token + bytes.fromhex("a3020400")
+    return b"\xa1" + bytes([len(fields) + 2]) + b"\x30" + bytes([len(fields)]) + fields
+
+
 def later_to_acceptor():
     def running(asks=False, legs=3):
         return after(acceptor_of(legs, asks), init([FIRST], T1))
@@ -182,6 +198,8 @@ def later_to_acceptor():
     yield "no MIC where one is asked for", running(True), resp(INCOMPLETE, b"", T3), "NO_MIC"
     yield "a wrong MIC", running(True), resp(INCOMPLETE, b"", T3, MIC), "WRONG_MIC"
     yield "a wrong MIC that nobody asked for", running(), resp(INCOMPLETE, b"", T3, MIC), "WRONG_MIC"
+    yield "a MIC of no octets", running(True), resp_with_empty_mic(T3), "WRONG_MIC"
+    yield "a MIC of no octets that nobody asked for", running(), resp_with_empty_mic(T3), "WRONG_MIC"
     yield "no MIC where nobody asks", running(), resp(None, b"", T3), None
     yield "an offer", running(), init([FIRST], T1), "UNREAD"
     yield "another negState", running(), bytes.fromhex("a1073005a0030a0104"), "UNREAD"
@@ -396,7 +414,7 @@ def try_threads():
 
 
 def try_units():
-    for each in (try_honest, try_transcript, try_alias, try_rules, try_reject, try_bare, try_hint, try_words, try_broken, try_threads):
+    for each in (try_honest, try_transcript, try_order, try_alias, try_rules, try_reject, try_bare, try_hint, try_words, try_broken, try_threads):
         each()
 
 
