@@ -174,7 +174,7 @@ fn octets_that_are_no_message(rt: HostRuntime) -> Result<(), Fail> {
     let (side, offer) = initiator_of(alloc, 2)?;
     let mut longer = Vec::from_slice(alloc, offer.as_slice())?;
     longer.push(0)?;
-    let cut = &offer[..offer.len() - 1];
+    let cut = &offer[..offer.len().saturating_sub(1)];
     for octets in [longer.as_slice(), cut, &[], &REJECT] {
         let fresh = accept(Vec::from_array(alloc, [toy(alloc, 1, 2)?])?, false);
         let (acceptor, answer) = accept_step(alloc, fresh, octets);
