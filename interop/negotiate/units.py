@@ -145,33 +145,33 @@ def after(side, *messages):
     return side
 
 
-T1, T2, T3 = (b"toy:00:%d" % n for n in (1, 2, 3))
+TOKEN_1, TOKEN_2, TOKEN_3 = (b"toy:00:%d" % n for n in (1, 2, 3))
 MIC = b"a MIC"
 
 
 def offers():
     """First messages to an acceptor, and the rule that each breaks."""
     yield "no list", acceptor_of(), spnego.make_token(spnego.SPNEGO, bytes.fromhex("a0023000")), "NO_MECHANISM"
-    yield "an unknown mechanism", acceptor_of(), init([SECOND, THIRD], T1), "UNKNOWN_MECHANISM"
-    yield "no integrity, second", acceptor_of(integrity=False), init([SECOND, FIRST], T1), "UNPROTECTED"
-    yield "no integrity, asked for", acceptor_of(asks=True, integrity=False), init([FIRST], T1), "UNPROTECTED"
-    yield "no integrity, first", acceptor_of(integrity=False), init([FIRST], T1), None
-    yield "a MIC, second", acceptor_of(), init([SECOND, FIRST], T1, MIC), "EARLY_MIC"
+    yield "an unknown mechanism", acceptor_of(), init([SECOND, THIRD], TOKEN_1), "UNKNOWN_MECHANISM"
+    yield "no integrity, second", acceptor_of(integrity=False), init([SECOND, FIRST], TOKEN_1), "UNPROTECTED"
+    yield "no integrity, asked for", acceptor_of(asks=True, integrity=False), init([FIRST], TOKEN_1), "UNPROTECTED"
+    yield "no integrity, first", acceptor_of(integrity=False), init([FIRST], TOKEN_1), None
+    yield "a MIC, second", acceptor_of(), init([SECOND, FIRST], TOKEN_1, MIC), "EARLY_MIC"
     yield "a MIC without a token", acceptor_of(), init([FIRST], b"", MIC), "EARLY_MIC"
-    yield "a MIC beside the token", acceptor_of(), init([FIRST], T1, MIC), "EARLY_MIC"
-    yield "a wrong MIC beside the only token", acceptor_of(1), init([FIRST], T1, MIC), "WRONG_MIC"
-    yield "another token", acceptor_of(), init([FIRST], T2), "MECHANISM_FAILED"
-    yield "another token, second", acceptor_of(), init([SECOND, FIRST], T2), None
+    yield "a MIC beside the token", acceptor_of(), init([FIRST], TOKEN_1, MIC), "EARLY_MIC"
+    yield "a wrong MIC beside the only token", acceptor_of(1), init([FIRST], TOKEN_1, MIC), "WRONG_MIC"
+    yield "another token", acceptor_of(), init([FIRST], TOKEN_2), "MECHANISM_FAILED"
+    yield "another token, second", acceptor_of(), init([SECOND, FIRST], TOKEN_2), None
     yield "no token", acceptor_of(), init([FIRST]), None
     for what, octets in (
         ("a reply", resp(COMPLETED, FIRST)),
-        ("a reply of a token", resp(INCOMPLETE, b"", T1)),
+        ("a reply of a token", resp(INCOMPLETE, b"", TOKEN_1)),
         ("no octets", b""),
         ("NTLM", b"NTLMSSP\0\1\0\0\0"),
-        ("the offer without its frame", spnego.token(init([FIRST], T1)).inner),
-        ("the offer in a frame of another mechanism", spnego.make_token(FIRST, spnego.token(init([FIRST], T1)).inner)),
-        ("an octet behind the offer", init([FIRST], T1) + b"\0"),
-        ("a cut offer", init([FIRST], T1)[:-1]),
+        ("the offer without its frame", spnego.token(init([FIRST], TOKEN_1)).inner),
+        ("the offer in a frame of another mechanism", spnego.make_token(FIRST, spnego.token(init([FIRST], TOKEN_1)).inner)),
+        ("an octet behind the offer", init([FIRST], TOKEN_1) + b"\0"),
+        ("a cut offer", init([FIRST], TOKEN_1)[:-1]),
         ("a bare token of another toy", b"toy:03:1"),
     ):
         yield what, acceptor_of(), octets, "UNREAD"
@@ -185,57 +185,57 @@ def resp_with_empty_mic(token):
 
 def later_to_acceptor():
     def running(asks=False, legs=3):
-        return after(acceptor_of(legs, asks), init([FIRST], T1))
+        return after(acceptor_of(legs, asks), init([FIRST], TOKEN_1))
 
     yield "reject", running(), resp(REJECT), "REJECTED"
     yield "reject with a mechanism", running(), resp(REJECT, FIRST), "REJECTED"
-    yield "request-mic", running(), resp(REQUEST_MIC, b"", T3), "LATE_REQUEST"
-    yield "supportedMech", running(), resp(INCOMPLETE, FIRST, T3), "SECOND_MECHANISM"
+    yield "request-mic", running(), resp(REQUEST_MIC, b"", TOKEN_3), "LATE_REQUEST"
+    yield "supportedMech", running(), resp(INCOMPLETE, FIRST, TOKEN_3), "SECOND_MECHANISM"
     yield "no token", running(), resp(INCOMPLETE), "NO_TOKEN"
-    yield "another token", running(), resp(INCOMPLETE, b"", T2), "MECHANISM_FAILED"
-    yield "accept-completed of 4 tokens", running(legs=5), resp(COMPLETED, b"", T3), "EARLY_COMPLETION"
-    yield "a MIC beside a token of 5", running(legs=5), resp(INCOMPLETE, b"", T3, MIC), "EARLY_MIC"
-    yield "no MIC where one is asked for", running(True), resp(INCOMPLETE, b"", T3), "NO_MIC"
-    yield "a wrong MIC", running(True), resp(INCOMPLETE, b"", T3, MIC), "WRONG_MIC"
-    yield "a wrong MIC that nobody asked for", running(), resp(INCOMPLETE, b"", T3, MIC), "WRONG_MIC"
-    yield "a MIC of no octets", running(True), resp_with_empty_mic(T3), "WRONG_MIC"
-    yield "a MIC of no octets that nobody asked for", running(), resp_with_empty_mic(T3), "WRONG_MIC"
-    yield "no MIC where nobody asks", running(), resp(None, b"", T3), None
-    yield "an offer", running(), init([FIRST], T1), "UNREAD"
+    yield "another token", running(), resp(INCOMPLETE, b"", TOKEN_2), "MECHANISM_FAILED"
+    yield "accept-completed of 4 tokens", running(legs=5), resp(COMPLETED, b"", TOKEN_3), "EARLY_COMPLETION"
+    yield "a MIC beside a token of 5", running(legs=5), resp(INCOMPLETE, b"", TOKEN_3, MIC), "EARLY_MIC"
+    yield "no MIC where one is asked for", running(True), resp(INCOMPLETE, b"", TOKEN_3), "NO_MIC"
+    yield "a wrong MIC", running(True), resp(INCOMPLETE, b"", TOKEN_3, MIC), "WRONG_MIC"
+    yield "a wrong MIC that nobody asked for", running(), resp(INCOMPLETE, b"", TOKEN_3, MIC), "WRONG_MIC"
+    yield "a MIC of no octets", running(True), resp_with_empty_mic(TOKEN_3), "WRONG_MIC"
+    yield "a MIC of no octets that nobody asked for", running(), resp_with_empty_mic(TOKEN_3), "WRONG_MIC"
+    yield "no MIC where nobody asks", running(), resp(None, b"", TOKEN_3), None
+    yield "an offer", running(), init([FIRST], TOKEN_1), "UNREAD"
     yield "another negState", running(), bytes.fromhex("a1073005a0030a0104"), "UNREAD"
     yield "a negState that is none", running(), bytes.fromhex("a1073005a003020100"), "UNREAD"
     yield "garbage", running(), b"garbage", "UNREAD"
-    yield "a token after the last one", after(acceptor_of(1, True), init([FIRST], T1)), resp(INCOMPLETE, b"", T2), "UNEXPECTED_TOKEN"
-    yield "no MIC after the last token", after(acceptor_of(1, True), init([FIRST], T1)), resp(INCOMPLETE), "NO_MIC"
-    yield "a token after completion", after(acceptor_of(1), init([FIRST], T1)), resp(INCOMPLETE, b"", T2), "FINISHED"
-    yield "garbage after completion", after(acceptor_of(1), init([FIRST], T1)), b"garbage", "FINISHED"
+    yield "a token after the last one", after(acceptor_of(1, True), init([FIRST], TOKEN_1)), resp(INCOMPLETE, b"", TOKEN_2), "UNEXPECTED_TOKEN"
+    yield "no MIC after the last token", after(acceptor_of(1, True), init([FIRST], TOKEN_1)), resp(INCOMPLETE), "NO_MIC"
+    yield "a token after completion", after(acceptor_of(1), init([FIRST], TOKEN_1)), resp(INCOMPLETE, b"", TOKEN_2), "FINISHED"
+    yield "garbage after completion", after(acceptor_of(1), init([FIRST], TOKEN_1)), b"garbage", "FINISHED"
 
 
 def to_initiator():
-    yield "no negState", initiator_of(), resp(None, FIRST, T2), "NO_STATE"
-    yield "reject", initiator_of(), resp(REJECT, FIRST, T2), "REJECTED"
-    yield "no supportedMech", initiator_of(), resp(COMPLETED, b"", T2), "NO_MECHANISM"
-    yield "a mechanism that was not offered", initiator_of(), resp(COMPLETED, THIRD, T2), "UNKNOWN_MECHANISM"
-    yield "no integrity, asked for", initiator_of(integrity=False), resp(REQUEST_MIC, FIRST, T2), "UNPROTECTED"
+    yield "no negState", initiator_of(), resp(None, FIRST, TOKEN_2), "NO_STATE"
+    yield "reject", initiator_of(), resp(REJECT, FIRST, TOKEN_2), "REJECTED"
+    yield "no supportedMech", initiator_of(), resp(COMPLETED, b"", TOKEN_2), "NO_MECHANISM"
+    yield "a mechanism that was not offered", initiator_of(), resp(COMPLETED, THIRD, TOKEN_2), "UNKNOWN_MECHANISM"
+    yield "no integrity, asked for", initiator_of(integrity=False), resp(REQUEST_MIC, FIRST, TOKEN_2), "UNPROTECTED"
     yield "no integrity, second", initiator_of(integrity=False), resp(INCOMPLETE, SECOND), "UNPROTECTED"
-    yield "no integrity, first", initiator_of(integrity=False), resp(COMPLETED, FIRST, T2), None
+    yield "no integrity, first", initiator_of(integrity=False), resp(COMPLETED, FIRST, TOKEN_2), None
     yield "second, with a token", initiator_of(), resp(REQUEST_MIC, SECOND, b"toy:01:2"), "UNEXPECTED_TOKEN"
     yield "no token", initiator_of(), resp(COMPLETED, FIRST), "NO_TOKEN"
     yield "a token of no octets", initiator_of(), bytes.fromhex("a1193017a0030a0100a10c060a") + FIRST + bytes.fromhex("a2020400"), "MECHANISM_FAILED"
-    yield "a token though the mechanism is done", initiator_of(1), resp(COMPLETED, FIRST, T2), "UNEXPECTED_TOKEN"
-    yield "another token", initiator_of(), resp(COMPLETED, FIRST, T3), "MECHANISM_FAILED"
-    yield "accept-completed of 3 tokens", initiator_of(3), resp(COMPLETED, FIRST, T2), "EARLY_COMPLETION"
+    yield "a token though the mechanism is done", initiator_of(1), resp(COMPLETED, FIRST, TOKEN_2), "UNEXPECTED_TOKEN"
+    yield "another token", initiator_of(), resp(COMPLETED, FIRST, TOKEN_3), "MECHANISM_FAILED"
+    yield "accept-completed of 3 tokens", initiator_of(3), resp(COMPLETED, FIRST, TOKEN_2), "EARLY_COMPLETION"
     yield "accept-completed, second", initiator_of(), resp(COMPLETED, SECOND), "EARLY_COMPLETION"
-    yield "a MIC of 3 tokens", initiator_of(3), resp(INCOMPLETE, FIRST, T2, MIC), "EARLY_MIC"
-    yield "a wrong MIC", initiator_of(), resp(COMPLETED, FIRST, T2, MIC), "WRONG_MIC"
+    yield "a MIC of 3 tokens", initiator_of(3), resp(INCOMPLETE, FIRST, TOKEN_2, MIC), "EARLY_MIC"
+    yield "a wrong MIC", initiator_of(), resp(COMPLETED, FIRST, TOKEN_2, MIC), "WRONG_MIC"
     yield "accept-completed without the MIC that is asked for", after(initiator_of(1), resp(REQUEST_MIC, FIRST)), resp(COMPLETED), "NO_MIC"
-    yield "nothing to go on with", initiator_of(), resp(INCOMPLETE, FIRST, T2), "NO_MIC"
-    yield "request-mic a second time", after(initiator_of(4), resp(REQUEST_MIC, FIRST, T2)), resp(REQUEST_MIC), "LATE_REQUEST"
-    yield "supportedMech a second time", after(initiator_of(4), resp(INCOMPLETE, FIRST, T2)), resp(INCOMPLETE, FIRST), "SECOND_MECHANISM"
-    yield "its own offer", initiator_of(), init([FIRST], T1), "UNREAD"
+    yield "nothing to go on with", initiator_of(), resp(INCOMPLETE, FIRST, TOKEN_2), "NO_MIC"
+    yield "request-mic a second time", after(initiator_of(4), resp(REQUEST_MIC, FIRST, TOKEN_2)), resp(REQUEST_MIC), "LATE_REQUEST"
+    yield "supportedMech a second time", after(initiator_of(4), resp(INCOMPLETE, FIRST, TOKEN_2)), resp(INCOMPLETE, FIRST), "SECOND_MECHANISM"
+    yield "its own offer", initiator_of(), init([FIRST], TOKEN_1), "UNREAD"
     yield "a hint after the offer", initiator_of(), HINT, "UNREAD"
     yield "another negState", initiator_of(), bytes.fromhex("a1073005a0030a017f"), "UNREAD"
-    yield "a token after completion", after(initiator_of(), resp(COMPLETED, FIRST, T2)), resp(COMPLETED), "FINISHED"
+    yield "a token after completion", after(initiator_of(), resp(COMPLETED, FIRST, TOKEN_2)), resp(COMPLETED), "FINISHED"
 
 
 # A server's NegTokenInit2 with negHints (MS-SPNG, 2.2.1), as Windows and Samba have it.
@@ -261,7 +261,7 @@ def try_rules():
         expect(refused.answer == (b"" if quiet else REJECTED), "%s: the answer %s" % (title, refused.answer.hex()))
         expect((before == COMPLETE) == (wanted == "FINISHED") and side.state == FAILED, "%s: the state %s" % (title, side.state))
         expect((side.mechanism, side.name, side.peer, side.context, side.by_mic) == (None, None, None, None, False), "%s: what is known of it" % title)
-        for octets in (message, None, resp(COMPLETED), init([FIRST], T1)):
+        for octets in (message, None, resp(COMPLETED), init([FIRST], TOKEN_1)):
             again = refusal_of(lambda: side.step(octets))
             right = isinstance(again, krb.NotNegotiated) and (again.rule, again.answer) == (refused.rule, b"") and "ended" in str(again)
             expect(right, "%s: another step: %r" % (title, again))
@@ -271,10 +271,10 @@ def try_rules():
 
 def try_reject():
     """The answer to a token that the mechanism refuses: a reject, with the mechanism's own token, and the name where none was said."""
-    refused = refusal_of(lambda: acceptor_of(error=b"why").step(init([FIRST], T2)))
+    refused = refusal_of(lambda: acceptor_of(error=b"why").step(init([FIRST], TOKEN_2)))
     expect(refused.answer == resp(REJECT, FIRST, b"why") and "another token" in str(refused), "the answer to the first token: %r" % refused.answer)
     expect(type(refused.__cause__).__name__ == "ToyRefusal", "the cause: %r" % refused.__cause__)
-    refused = refusal_of(lambda: after(acceptor_of(3, error=b"why"), init([FIRST], T1)).step(resp(INCOMPLETE, b"", T2)))
+    refused = refusal_of(lambda: after(acceptor_of(3, error=b"why"), init([FIRST], TOKEN_1)).step(resp(INCOMPLETE, b"", TOKEN_2)))
     expect(refused.answer == resp(REJECT, b"", b"why"), "the answer to a later token: %r" % refused.answer)
     copied = pickle.loads(pickle.dumps(refused))
     same = all(getattr(copied, each) == getattr(refused, each) for each in ("rule", "answer", "status")) and str(copied) == str(refused)
@@ -321,10 +321,10 @@ def try_words():
         error = refusal_of(lambda: side.step(None))
         expect(type(error) is ValueError and side.state == RUNNING, "a step without a token: %r" % error)
     side = krb.Negotiator(1, (Toy(ACCEPTOR) for _ in range(1)))
-    answer, state = side.step(bytearray(init([FIRST], T1)))
+    answer, state = side.step(bytearray(init([FIRST], TOKEN_1)))
     expect(state == COMPLETE and isinstance(answer, bytes) and repr(side) == "Negotiator(ACCEPTOR, COMPLETE)", "a bytearray: %r" % side)
     side = acceptor_of()
-    expect(side.step(memoryview(init([FIRST], T1)))[1] == COMPLETE, "a memoryview")
+    expect(side.step(memoryview(init([FIRST], TOKEN_1)))[1] == COMPLETE, "a memoryview")
 
 
 class Broken(Toy):
@@ -373,7 +373,7 @@ def try_broken():
     ):
         side = krb.Negotiator(ACCEPTOR, [Broken(ACCEPTOR, error)])
         try:
-            side.step(init([FIRST], T1))
+            side.step(init([FIRST], TOKEN_1))
             got = None
         except BaseException as raised:
             got = raised
@@ -381,7 +381,7 @@ def try_broken():
             expect(isinstance(got, krb.NotNegotiated) and got.rule.name == "MECHANISM_FAILED", "a mechanism that raises %r: %r" % (error, got))
         else:
             expect(got is error, "a mechanism that raises %r: %r" % (error, got))
-        again = refusal_of(lambda: side.step(init([FIRST], T1)))
+        again = refusal_of(lambda: side.step(init([FIRST], TOKEN_1)))
         expect(side.state == FAILED and isinstance(again, (krb.Refused, RuntimeError)), "after a mechanism that raises %r: %r" % (error, again))
     refused = refusal_of(lambda: krb.Negotiator(INITIATOR, [Broken(INITIATOR, RuntimeError("no ticket"))]).step())
     expect(refused.rule.name == "MECHANISM_FAILED" and not refused.answer and "no ticket" in str(refused), "a mechanism that does not begin: %r" % refused)
@@ -403,7 +403,7 @@ def try_threads():
 
         def go():
             barrier.wait()
-            got.append(rule_of(lambda: side.step(init([FIRST], T1))) or "answered")
+            got.append(rule_of(lambda: side.step(init([FIRST], TOKEN_1))) or "answered")
 
         threads = [threading.Thread(target=go) for _ in range(8)]
         for each in threads:
