@@ -10,7 +10,7 @@ use Rattle.krb_registry.specs.declared.kind.Kind.{Kind}
 use Rattle.krb_registry.specs.Names.{table, mechanisms, IsRow, IsMechanism}
 use Rattle.krb_types.specs.Flags.{is_set}
 use Rattle.krb_show.specs.declared.token.Form.TheVariants as form
-use Rattle.krb_types.specs.Principals.{components_text}
+use Rattle.krb_show.specs.NameTexts.{name_text}
 use Rattle.krb_show.specs.Tokens.{Label, Token, adds, leaf, name_token, noted, number_token}
 
 -- ---- digits
@@ -112,9 +112,9 @@ time_of label t = adds (leaf form.Word label (time_word t))
 abbrev pub text_of : Label → List ℕ → List Token → List Token → Type 0
 text_of label octets = adds (leaf form.Text label octets)
 
--- the name of a principal, as one text (RFC 1964, 2.1.1)
+-- the name of a principal, as one text
 abbrev pub name_of : Label → List (List ℕ) → List Token → List Token → Type 0
-name_of label components = adds (name_token label (components_text components) components)
+name_of label components = adds (name_token label (name_text components) components)
 
 -- a word, which has no blanks
 abbrev pub word_of : Label → List ℕ → List Token → List Token → Type 0

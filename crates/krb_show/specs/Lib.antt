@@ -2,6 +2,7 @@ pub mod Names
 pub mod Tree
 pub mod Tokens
 pub mod Pages
+pub mod NameTexts
 pub mod Leaves
 pub mod Text
 pub mod Json

@@ -11,7 +11,7 @@ use Rattle.krb_der_core.specs.Integer.{shortest}
 use Rattle.krb_der_core.specs.IntegerLaws.{integer_one_content}
 use Rattle.krb_show.specs.declared.escape.Style.TheVariants as style
 use Rattle.krb_show.specs.declared.token.Form.TheVariants as form
-use Rattle.krb_types.specs.Principals.{components_text}
+use Rattle.krb_show.specs.NameTexts.{name_text}
 use Rattle.krb_show.specs.Leaves.{name_of, number_of, unsigned_of, flags_of, identifier_of, truth_of, time_of, text_of, word_of, octets_of, secret_octets_of, cipher_of, time_word, flags_word, truth_word}
 use Rattle.krb_show.specs.Text.{escaped, quoted, line, octets_text, page_lines, value_text}
 use Rattle.krb_show.specs.Tokens.{Label, Token, adds, leaf, name_token, noted, number_token}
@@ -251,10 +251,10 @@ octets_line label xs = record {
   line_of = λ old new e. record { token = leaf form.Octets label xs; added = e; named = refl; value = refl; lines = λ d. refl; level = λ d. refl };
 }
 
-pub name_line : (label : Label) (cs : List (List ℕ)) → Lines label.text (IsQuotedText (components_text cs)) (name_of label cs)
+pub name_line : (label : Label) (cs : List (List ℕ)) → Lines label.text (IsQuotedText (name_text cs)) (name_of label cs)
 name_line label cs = record {
   line_of = λ old new e. record {
-    token = name_token label (components_text cs) cs;
+    token = name_token label (name_text cs) cs;
     added = e;
     named = refl;
     value = refl;
@@ -315,12 +315,12 @@ pub tells_ascii : TellsValues IsAscii IsLeaf text_of
 tells_ascii = tells_by IsAscii (λ xs. xs) ascii_octets (λ v w h k e. e) tells_texts
 
 -- names, whose texts these are
-pub tells_names : (label : Label) (cs ds : List (List ℕ)) → is_name label.text ≡ true → IsAscii (components_text cs) → IsAscii (components_text ds)
-    → Tells (λ names. label.text ∷ []) (λ names. true) (Unit {0}) (components_text cs ≡ components_text ds) (name_of label cs) (name_of label ds)
+pub tells_names : (label : Label) (cs ds : List (List ℕ)) → is_name label.text ≡ true → IsAscii (name_text cs) → IsAscii (name_text ds)
+    → Tells (λ names. label.text ∷ []) (λ names. true) (Unit {0}) (name_text cs ≡ name_text ds) (name_of label cs) (name_of label ds)
 tells_names label cs ds name h k =
-    tells_leaf label.text (IsQuotedText (components_text cs)) (IsQuotedText (components_text ds)) (name_of label cs) (name_of label ds) name
-    (λ s e. (quoted style.Quoted (components_text cs), e)) (λ s e. (quoted style.Quoted (components_text ds), e)) (name_line label cs) (name_line label ds)
-    (λ s e f. one_text (components_text cs) (components_text ds) (ascii_octets (components_text cs) h) (ascii_octets (components_text ds) k)
+    tells_leaf label.text (IsQuotedText (name_text cs)) (IsQuotedText (name_text ds)) (name_of label cs) (name_of label ds) name
+    (λ s e. (quoted style.Quoted (name_text cs), e)) (λ s e. (quoted style.Quoted (name_text ds), e)) (name_line label cs) (name_line label ds)
+    (λ s e f. one_text (name_text cs) (name_text ds) (ascii_octets (name_text cs) h) (ascii_octets (name_text ds) k)
     (tail _ _ _ _ (tail _ _ _ _ (sym e ∙ f))))
 
 -- numbers of 32 bits, which are whole numbers

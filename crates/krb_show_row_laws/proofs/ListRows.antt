@@ -16,7 +16,7 @@ use Rattle.krb_schema.specs.declared.shape.Shape.{Shape}
 use Rattle.krb_schema.specs.declared.shape.Shape.TheVariants as shape
 use Rattle.krb_schema.specs.Forests.{Forest, none, leaf, node, beside}
 use Rattle.krb_schema.specs.Shapes.{AreElements, IsElement, IsHeld, IsShaped, part, no_elements, one_more, here, later, plain}
-use Rattle.krb_types.specs.Principals.{components_text}
+use Rattle.krb_show.specs.NameTexts.{name_text}
 use Rattle.krb_show.specs.declared.token.Form.TheVariants as form
 use Rattle.krb_show.specs.Leaves.{name_of}
 use Rattle.krb_show.specs.Text.{quoted}
@@ -151,7 +151,7 @@ module _ (tells : Role → List ℕ → Label → List ℕ → List Token → Li
       (list_shown true (label_in in_list name) f (forest_shown tells true number f))
   as_text f in_list number =
       let label = label_in in_list name in
-      let text = components_text (components f) in
+      let text = name_text (components f) in
       one_first named (leaf_heads name.text.now (IsQuotedText text) (name_of label (components f)) (λ s e. (quoted style.Quoted text, e)) (name_line label (components f)))
 
   text_told : (f g : Forest) → AreRight f → AreRight g → is_of_name f ≡ true → is_of_name g ≡ true → is_named ≡ true
@@ -170,7 +170,7 @@ module _ (tells : Role → List ℕ → Label → List ℕ → List Token → Li
       let p = are_components levels schema is name t.0 f t.1 r in
       let q = are_components levels schema is name t.0 g t.1 w in
       tells_so (λ k. tt)
-      (λ same. p.whole ∙ ap (in_a_row name t.0) (one_components content content_too (components rest) (components rest_too) p.ascii q.ascii same) ∙ sym q.whole)
+      (λ same. p.whole ∙ ap (in_a_row name t.0) (one_components content content_too (components rest) (components rest_too) same) ∙ sym q.whole)
       (tells_names (label_in in_list name) (components f) (components g) named
       (text_ascii content (components rest) p.ascii) (text_ascii content_too (components rest_too) q.ascii))
 

@@ -1,49 +1,30 @@
-//! Names of principals, as one text (RFC 1964, 2.1.1) beside their components.
+//! Names of principals (RFC 4120, 5.2.2), as one text beside their components.
 
 ghost use Rattle.std.specs.Prelude.{◌≡◌, ◌++◌, ◌∷◌, [], map, IfOk, OnErr, OnOk};
 ghost use Rattle.krb_show.specs.Leaves.{name_of};
+ghost use Rattle.krb_show.specs.NameTexts.{after_slashes, component_octet, component_text, name_text};
 ghost use Rattle.krb_show.specs.Tokens.{Begins};
-ghost use Rattle.krb_types.specs.Principals.{after_slashes, components_text, quotation, quoted, quoted_octet};
 
 use crate::token::{Label, Page, push_name};
 use std::alloc::{AllocError, Global};
 
-/// What follows a `\` for this octet; `None` where it is written as itself.
-fn quotation(octet: u8) -> Option<u8>
-    ensures { result ≡ quotation octet }
-{
-    match octet {
-        b'/' | b'@' | b'\\' => Some(octet),
-        b'\n' => Some(b'n'),
-        b'\t' => Some(b't'),
-        8 => Some(b'b'),
-        0 => Some(b'0'),
-        _ => None,
-    }
-}
-
 /// Appends an octet of a component.
-fn push_quoted_octet(out: &mut Vec<u8>, octet: u8) -> Result<(), AllocError>
-    ensures { OnOk result (out.new.items ≡ out.old.items ++ quoted_octet octet) }
+fn push_component_octet(out: &mut Vec<u8>, octet: u8) -> Result<(), AllocError>
+    ensures { OnOk result (out.new.items ≡ out.old.items ++ component_octet octet) }
 {
-    match quotation(octet) {
-        None => {
-            out.push(octet)?;
-        }
-        Some(letter) => {
-            out.push(b'\\')?;
-            out.push(letter)?;
-        }
+    if octet == b'/' || octet == b'\\' {
+        out.push(b'\\')?;
     }
+    out.push(octet)?;
     Ok(())
 }
 
 /// Appends a component.
-fn push_quoted(out: &mut Vec<u8>, component: &[u8]) -> Result<(), AllocError>
-    ensures { OnOk result (out.new.items ≡ out.old.items ++ quoted component.now) }
+fn push_component(out: &mut Vec<u8>, component: &[u8]) -> Result<(), AllocError>
+    ensures { OnOk result (out.new.items ≡ out.old.items ++ component_text component.now) }
 {
     for octet in component {
-        push_quoted_octet(out, *octet)?;
+        push_component_octet(out, *octet)?;
     }
     Ok(())
 }
@@ -54,19 +35,18 @@ fn push_after_slashes(out: &mut Vec<u8>, components: &[&[u8]]) -> Result<(), All
 {
     for component in components {
         out.push(b'/')?;
-        push_quoted(out, component)?;
+        push_component(out, component)?;
     }
     Ok(())
 }
 
-/// The components of a name with `/` between them; a `/`, `@` or `\` within one of these is after a `\`, and a line feed, a tabulator, a backspace
-/// and a NUL are `\n`, `\t`, `\b` and `\0`.
+/// The components of a name with `/` between them; a `/` or `\` within one of these stands behind a `\`.
 fn text_of_components(alloc: Global, components: &[&[u8]]) -> Result<Vec<u8>, AllocError>
-    ensures { IfOk result (λ text. text.items ≡ components_text (map (λ c. c.now) components.now)) }
+    ensures { IfOk result (λ text. text.items ≡ name_text (map (λ c. c.now) components.now)) }
 {
     let mut out = Vec::new(alloc);
     if let [first, rest @ ..] = components {
-        push_quoted(&mut out, first)?;
+        push_component(&mut out, first)?;
         push_after_slashes(&mut out, rest)?;
     }
     Ok(out)

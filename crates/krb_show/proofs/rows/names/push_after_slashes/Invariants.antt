@@ -1,5 +1,5 @@
 use Rattle.std.proofs.Common.{◌≡◌, ◌++◌, map, take}
-use Rattle.krb_types.specs.Principals.{after_slashes}
+use Rattle.krb_show.specs.NameTexts.{after_slashes}
 use Rattle.krb_show.proofs.rows.names.push_after_slashes.Given as goal
 
 abbrev pub invariant-loop-component : goal.invariant-loop-component
