@@ -7,12 +7,12 @@ use Rattle.krb_show.specs.Json.{json_line}
 use Rattle.krb_show.specs.JsonWithPlaces.{json_line_with_places}
 use Rattle.krb_show.specs.TextWithPlaces.{page_text_with_places}
 use Rattle.krb_show_any.specs.declared.kind.Kind.{Kind}
-use Rattle.krb_show_keys.specs.Hidden.{hidden_page}
+use Rattle.krb_decrypt.specs.Hidden.{hidden_page}
 use Rattle.krb_decrypt.specs.Keys.{NamedKey}
 use Rattle.jolmurig.specs.Calls.{Opens, Places}
 use Rattle.krb_show_pac.specs.Inserted.{IsWithContents}
-use Rattle.krb_show_keys.specs.PasswordKeys.{KeysOfPasswords}
-use Rattle.krb_show_keys.specs.Salts.{salts_of}
+use Rattle.krb_decrypt.specs.PasswordKeys.{KeysOfPasswords}
+use Rattle.krb_decrypt.specs.Salts.{salts_of}
 use Rattle.krb_show_any.specs.declared.error.PageError.{PageError}
 use Rattle.krb_show_any.specs.Kinds.{kind_of}
 use Rattle.krb_show_any.specs.Placed.{IsPlacedPage}

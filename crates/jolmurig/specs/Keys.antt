@@ -7,7 +7,7 @@ use Rattle.krb_files.specs.Entry.{Entry}
 use Rattle.krb_files.specs.Keytab.{KeytabIs}
 use Rattle.krb_files.specs.KeytabReading.{keytab_of}
 use Rattle.krb_files.specs.declared.keytab.error.KeytabError.{KeytabError}
-use Rattle.krb_show_keys.specs.Keys.{key_in, keys_of_entry}
+use Rattle.krb_decrypt.specs.KeytabKeys.{key_in, keys_of_entry}
 use Rattle.krb_decrypt.specs.Keys.{NamedKey}
 use Rattle.jolmurig.specs.Shows.{Source}
 use Rattle.jolmurig.specs.declared.command.SourceKind.{SourceKind}

@@ -10,12 +10,11 @@ use crate::calls::Calls;
 use crate::command::Output;
 use crate::failure::Failure;
 use crate::openers::Openers;
-use krb_decrypt::{Key, MOST_FOUND};
+use krb_decrypt::{Key, MOST_FOUND, keys_of_passwords, without_keys};
 use krb_show::{
     Page, Token, json_of_page, json_of_page_with_places, text_of_page, text_of_page_with_places,
 };
 use krb_show_any::{Kind, PageError, Pages, kind_of_octets, page_with_places};
-use krb_show_keys::{keys_of_passwords, without_keys};
 use krb_show_pac::page_with_contents;
 use std::alloc::{AllocError, Global};
 

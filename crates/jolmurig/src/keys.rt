@@ -1,7 +1,7 @@
 //! The keys that the options name.
 
 ghost use Rattle.std.specs.Prelude.{◌≡◌, ◌⊎◌, ◌++◌, ◌∷◌, ◌<◌, [], Some, IfOk, IfErr, OnOk};
-ghost use Rattle.krb_show_keys.specs.Keys.{key_in as key_of_octets};
+ghost use Rattle.krb_decrypt.specs.KeytabKeys.{key_in as key_of_octets};
 ghost use Rattle.jolmurig.specs.Keys.{AreKeys, HasNoKeys, IsKeytabOf, IsNoKeyFile, IsNoKeyIn, IsNoKeytab, IsNoKeytabOf, IsNoSource};
 ghost use Rattle.jolmurig.specs.Keys.{adds, gives_keys, key_file_gives, key_name, keytab_gives, text_gives};
 ghost use Rattle.jolmurig.specs.declared.failure.Failure.TheVariants as failure;
@@ -9,9 +9,8 @@ ghost use Rattle.jolmurig.specs.declared.failure.Failure.TheVariants as failure;
 use crate::command::{Source, SourceKind};
 use crate::failure::Failure;
 use crate::files::{Files, octets_of_file};
-use krb_decrypt::Key;
 use krb_input::without_blanks;
-use krb_show_keys::{KeytabKeysError, key_of_text, keys_of_keytab};
+use krb_decrypt::{Key, KeytabKeysError, key_of_text, keys_of_keytab};
 use std::alloc::{AllocError, Global};
 
 /// The name of the key of an option `--key`, by its number among the options that name keys.

@@ -17,8 +17,8 @@ use Rattle.krb_show_any.specs.Kinds.{kind_of}
 use Rattle.krb_show_any.specs.Names.{IsNamed}
 use Rattle.krb_show_any.specs.declared.error.PageError.{PageError}
 use Rattle.krb_show_any.specs.declared.kind.Kind.{Kind}
-use Rattle.krb_show_keys.specs.Hidden.{hidden_page}
-use Rattle.krb_show_keys.specs.Keys.{keys_of_entry}
+use Rattle.krb_decrypt.specs.Hidden.{hidden_page}
+use Rattle.krb_decrypt.specs.KeytabKeys.{keys_of_entry}
 use Rattle.krb_show_pac.specs.Inserted.{IsWithContents}
 use Rattle.krb_c_pages.specs.Refusals.{page_refusal}
 

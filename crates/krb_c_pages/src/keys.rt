@@ -4,8 +4,7 @@ ghost use Rattle.std.specs.Prelude.{MatchResult};
 ghost use Rattle.krb_c_pages.specs.Pages.{AreKeysOf, HasNoKeys};
 
 use krb_c_calls::CallError;
-use krb_decrypt::Key;
-use krb_show_keys::{KeytabKeysError, keys_of_keytab};
+use krb_decrypt::{Key, KeytabKeysError, keys_of_keytab};
 use std::alloc::Global;
 
 /// The keys of the keytab that the octets are; none of no octets.

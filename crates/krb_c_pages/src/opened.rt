@@ -7,7 +7,7 @@ ghost use Rattle.krb_show.specs.Tokens.{Token};
 
 use krb_decrypt::{Key, TellsBehind};
 use krb_show::{Page, ShowsFormats};
-use krb_show_checksums::{Checksums, page_with_checked};
+use krb_show_pac::{Checksums, page_with_checked};
 use krb_show_messages::KerberosFormats;
 use std::alloc::{AllocError, Global};
 

@@ -11,10 +11,9 @@ use crate::opened::Opens;
 use crate::refusal::page_refusal;
 use krb_c_calls::CallError;
 use krb_c_calls::handing::hand_out;
-use krb_decrypt::{Key, MOST_FOUND};
+use krb_decrypt::{Key, MOST_FOUND, without_keys};
 use krb_show::{Page, Token, json_of_page, text_of_page};
 use krb_show_any::{Kind, PageError, Pages, kind_of_name, kind_of_octets};
-use krb_show_keys::without_keys;
 use krb_show_pac::page_with_contents;
 use std::alloc::{AllocError, Global};
 

@@ -4,3 +4,6 @@ pub mod Zeros
 pub mod Filled
 pub mod Growing
 pub mod Results
+mod SaltLists
+mod KeyLists
+mod Walks

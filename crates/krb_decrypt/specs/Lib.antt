@@ -6,3 +6,8 @@ pub mod Search
 pub mod Outcomes
 pub mod Told
 pub mod Pages
+pub mod Salts
+pub mod PasswordKeys
+pub mod Hidden
+pub mod KeytabKeys
+pub mod Suites

@@ -1,1 +1,2 @@
 mod FrameSizes
+mod Texts

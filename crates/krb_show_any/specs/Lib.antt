@@ -7,3 +7,4 @@ pub mod Frames
 pub mod Places
 pub mod Broken
 pub mod Placed
+pub mod Files

@@ -11,7 +11,7 @@ use krb_gss_tokens::GssApiMessageError;
 use krb_messages::kpasswd::ReadFrameError;
 use krb_pac::PacError;
 use krb_show::Page;
-use krb_show_files::FilePageError;
+use crate::files::FilePageError;
 use krb_show_tokens::kpasswd::PasswordFrameError;
 use std::io;
 use thiserror::Error;

@@ -1,16 +1,46 @@
-//! Keytabs and credential caches.
+//! The files of MIT Kerberos as tokens: keytabs ("Keytab file format") and credential caches ("Credential cache file format").
+
+mod ccache;
+mod error;
+mod keytab;
+mod principal;
+mod ticket;
+mod values;
 
 ghost use Rattle.krb_show_any.specs.Told.{IsCcacheTold, IsKeytabTold};
-ghost use Rattle.krb_show_files.specs.Files.{ticket_of};
+ghost use Rattle.krb_show_any.specs.Files.{ticket_of};
 ghost use Rattle.krb_show_messages.specs.Shown.{shows_of};
 
 use crate::pages::Pages;
 use krb_der::DerEncode;
 use krb_show::Page;
-use krb_show_files::{FilePageError, page_of_ccache, page_of_keytab};
 use krb_show_messages::HasRow;
 use krb_types::data_types::Ticket;
 use std::alloc::Global;
+
+pub use ccache::page_of_ccache;
+pub use error::FilePageError;
+pub use keytab::page_of_keytab;
+
+/// The way in which files are shown.
+#[derive(Drop)]
+pub struct File;
+
+/// The way in which texts of files are shown, which are any octets.
+#[derive(Drop)]
+struct Text;
+
+/// The way in which the fields of a cache's header are shown.
+#[derive(Drop)]
+struct HeaderField;
+
+/// The way in which the addresses of a credential are shown.
+#[derive(Drop)]
+struct Address;
+
+/// The way in which the authorization data of a credential are shown.
+#[derive(Drop)]
+struct AuthorizationElement;
 
 /// Keytabs of version 2 (MIT Kerberos, "Keytab file format").
 #[derive(Drop)]

@@ -1,2 +1,5 @@
 mod Readings
 mod Rows
+mod Lists
+mod Names
+mod Results

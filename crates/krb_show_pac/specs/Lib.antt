@@ -6,3 +6,9 @@ pub mod Logon
 pub mod Signature
 pub mod Unread
 pub mod Contents
+pub mod Checksums
+pub mod Holders
+pub mod Told
+pub mod Message
+pub mod Tickets
+pub mod Checked

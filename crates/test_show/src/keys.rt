@@ -5,12 +5,11 @@
 //! each row it prints the keys, or the page's text and, of a keytab, its JSON, or the error.
 
 use crate::pages::printed;
-use krb_decrypt::Key;
-use krb_show::text_of_page;
-use krb_show_files::page_of_keytab;
-use krb_show_keys::{
-    KeytabKeysError, key_of_text, keys_of_keytab, keys_of_passwords, without_keys,
+use krb_decrypt::{
+    Key, KeytabKeysError, key_of_text, keys_of_keytab, keys_of_passwords, without_keys,
 };
+use krb_show::text_of_page;
+use krb_show_any::page_of_keytab;
 use krb_show_messages::page_of_message;
 use std::alloc::{AllocError, Global};
 use test_rows::{Columns, RowError};

@@ -1,3 +1,0 @@
-mod Lists
-mod Names
-mod Results

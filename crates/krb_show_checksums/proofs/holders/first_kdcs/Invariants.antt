@@ -1,6 +1,0 @@
-use Rattle.std.proofs.Common.{take}
-use Rattle.krb_show_checksums.specs.Holders.{HoldsAsKdcs, NoneWhere}
-use Rattle.krb_show_checksums.proofs.holders.first_kdcs.Given as goal
-
-abbrev pub invariant-loop-key : goal.invariant-loop-key
-invariant-loop-key l = NoneWhere (HoldsAsKdcs l.checksum l.opener) (take l.key-index l.keys)

@@ -1,6 +1,0 @@
-use Rattle.std.proofs.Common.{take}
-use Rattle.krb_show_checksums.specs.Holders.{IsNoneOf}
-use Rattle.krb_show_checksums.proofs.holders.is_one_of.Given as goal
-
-abbrev pub invariant-loop-other : goal.invariant-loop-other
-invariant-loop-other l = IsNoneOf l.key (take l.other-index l.keys)

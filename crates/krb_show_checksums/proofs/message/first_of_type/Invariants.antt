@@ -1,6 +1,0 @@
-use Rattle.std.proofs.Common.{take}
-use Rattle.krb_show_checksums.specs.Message.{NoneIs}
-use Rattle.krb_show_checksums.proofs.message.first_of_type.Given as goal
-
-abbrev pub invariant-loop-index : goal.invariant-loop-index
-invariant-loop-index l = NoneIs l.number (take l.index l.elements)

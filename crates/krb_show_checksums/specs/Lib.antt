@@ -1,6 +1,0 @@
-pub mod Checksums
-pub mod Holders
-pub mod Told
-pub mod Message
-pub mod Tickets
-pub mod Checked

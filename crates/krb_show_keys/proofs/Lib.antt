@@ -1,3 +1,0 @@
-mod SaltLists
-mod KeyLists
-mod Walks

@@ -1,6 +1,0 @@
-use Rattle.std.proofs.Common.{◌≡◌}
-use Rattle.krb_show_keys.specs.Hidden.{hidden_page, is_clear_behind}
-use Rattle.krb_show_keys.proofs.hidden.without_keys.Given as goal
-
-abbrev pub invariant-tokens : goal.invariant-tokens
-invariant-tokens l = (l.made.items ≡ hidden_page l.yielded) × (l.is_clear ≡ is_clear_behind l.yielded)
