@@ -42,8 +42,8 @@ use krb_messages::messages::{
 use krb_schema::Item;
 use krb_show::{Page, ShowsFormats};
 use krb_show_any::{Kind, PageError, broken_rules_of, place_of_error};
-use krb_show_pac::{Checksums, page_with_checked};
 use krb_show_messages::KerberosFormats;
+use krb_show_pac::{Checksums, page_with_checked};
 use krb_types::data_types::{AuthorizationData, Ticket};
 use std::alloc::{AllocError, Global};
 

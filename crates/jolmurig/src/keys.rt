@@ -9,8 +9,8 @@ ghost use Rattle.jolmurig.specs.declared.failure.Failure.TheVariants as failure;
 use crate::command::{Source, SourceKind};
 use crate::failure::Failure;
 use crate::files::{Files, octets_of_file};
-use krb_input::without_blanks;
 use krb_decrypt::{Key, KeytabKeysError, key_of_text, keys_of_keytab};
+use krb_input::without_blanks;
 use std::alloc::{AllocError, Global};
 
 /// The name of the key of an option `--key`, by its number among the options that name keys.

@@ -7,8 +7,8 @@ ghost use Rattle.krb_show.specs.Tokens.{Token};
 
 use krb_decrypt::{Key, TellsBehind};
 use krb_show::{Page, ShowsFormats};
-use krb_show_pac::{Checksums, page_with_checked};
 use krb_show_messages::KerberosFormats;
+use krb_show_pac::{Checksums, page_with_checked};
 use std::alloc::{AllocError, Global};
 
 /// What opens the encrypted parts of a page.

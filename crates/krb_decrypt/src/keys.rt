@@ -6,10 +6,10 @@ ghost use Rattle.krb_crypto.specs.BySuite.{IsPasswordKey};
 ghost use Rattle.krb_decrypt.specs.PasswordKeys.{KeyUnder, KeysOfPasswords, KeysOfSalt, KeysOfSalts, adds, password_name};
 ghost use Rattle.krb_decrypt.specs.Salts.{salts_of};
 
+use crate::key::Key;
 use crate::salts::salts_of;
 use krb_crypto::{Cipher, CipherSuite};
 use krb_crypto_block::KerberosCryptoError;
-use crate::key::Key;
 use krb_show::Token;
 use std::alloc::{AllocError, Global};
 

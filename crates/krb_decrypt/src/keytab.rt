@@ -7,8 +7,8 @@ ghost use Rattle.krb_files.specs.Keytab.{KeytabIs};
 ghost use Rattle.krb_decrypt.specs.KeytabKeys.{IsNoKeytab, components_text, entry_name, keys_of_entry};
 ghost use Rattle.krb_decrypt.specs.declared.keytab.KeytabKeysError.TheVariants as errors;
 
-use crate::suites::suite_of_number;
 use crate::key::Key;
+use crate::suites::suite_of_number;
 use krb_files::fields::ComponentsView;
 use krb_files::keytab::{EntryView, KeytabError, KeytabView};
 use std::alloc::{AllocError, Global};

@@ -3,9 +3,9 @@
 ghost use Rattle.std.specs.Prelude.{◌≡◌, None, Some, IfOk, MatchOption};
 ghost use Rattle.krb_decrypt.specs.KeytabKeys.{key_of_suite, key_in};
 
+use crate::key::Key;
 use crate::suites::{digits_of, suite_of_text};
 use krb_crypto::{Cipher, CipherSuite};
-use crate::key::Key;
 use krb_input::hexadecimal_of;
 use std::alloc::{AllocError, Global};
 

@@ -12,15 +12,14 @@ ghost use Rattle.krb_show_any.specs.Files.{ticket_of};
 ghost use Rattle.krb_show_messages.specs.Shown.{shows_of};
 
 use crate::pages::Pages;
+pub use ccache::page_of_ccache;
+pub use error::FilePageError;
+pub use keytab::page_of_keytab;
 use krb_der::DerEncode;
 use krb_show::Page;
 use krb_show_messages::HasRow;
 use krb_types::data_types::Ticket;
 use std::alloc::Global;
-
-pub use ccache::page_of_ccache;
-pub use error::FilePageError;
-pub use keytab::page_of_keytab;
 
 /// The way in which files are shown.
 #[derive(Drop)]
