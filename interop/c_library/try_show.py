@@ -116,9 +116,8 @@ def rows(top):
 
 
 def quoted(component):
-    """A component as RFC 1964, 2.1.1, has it within a name."""
-    special = {"/": "\\/", "@": "\\@", "\\": "\\\\", "\n": "\\n", "\t": "\\t", "\b": "\\b", "\0": "\\0"}
-    return "".join(special.get(character, character) for character in component)
+    """A component as it stands within a name: a slash and a backslash are behind a backslash."""
+    return component.replace("\\", "\\\\").replace("/", "\\/")
 
 
 def flags_of(told):

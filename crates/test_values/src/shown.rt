@@ -1,4 +1,4 @@
-//! Octets as text and as JSON, as C has them: a key, shown and hidden; a name with the characters that RFC 1964 escapes; a thousand PA-DATA.
+//! Octets as text and as JSON, as C has them: a key, shown and hidden; a name with a slash in a component; a thousand PA-DATA.
 
 use krb_c_calls::items::show;
 use std::alloc::{AllocError, Global};
