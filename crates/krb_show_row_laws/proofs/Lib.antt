@@ -36,3 +36,11 @@ pub mod NamedLaws
 pub mod ReplyLaws
 pub mod PageLaws
 pub mod HeaderLaws
+pub mod Codecs
+pub mod RowFields
+pub mod CodecRows
+pub mod TiedTypes
+pub mod DataTypeRows
+pub mod PartRows
+pub mod MessageRows
+pub mod CertificateRows

@@ -8,3 +8,4 @@ pub mod Kerberos
 pub mod Laws
 pub mod KerberosFormats
 pub mod Texts
+pub mod Ties

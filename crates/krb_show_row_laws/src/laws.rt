@@ -1,6 +1,6 @@
 //! Laws.
 
-ghost use Rattle.std.specs.Prelude.{◌≡◌, ℕ, Bool, List, true};
+ghost use Rattle.std.specs.Prelude.{◌≡◌, ℕ, Bool, List, codes, true};
 ghost use Rattle.krb_schema.specs.declared.shape.Name.{Name};
 ghost use Rattle.krb_schema.specs.declared.shape.Role.TheVariants as roles;
 ghost use Rattle.krb_schema.specs.declared.shape.Schema.{Schema};
@@ -10,12 +10,30 @@ ghost use Rattle.krb_show_row_laws.specs.Formats.{FormatsTell};
 ghost use Rattle.krb_show_row_laws.specs.Laws.{IsNoLeafRow, IsReply, IsTold, IsToldAt, NamedElementsTell, NamedTextTells, ReplyTextTells, TextTellsOctets};
 ghost use Rattle.krb_show_row_laws.specs.Telling.{is_name};
 ghost use Rattle.krb_show_row_laws.specs.Texts.{TextTells};
+ghost use Rattle.krb_show_row_laws.specs.Ties.{HasItsRow};
 
-use krb_der::DerEncode;
+use krb_credssp::credssp::{
+    TsCredentials, TsCspDataDetail, TsPasswordCreds, TsRemoteGuardCreds, TsRemoteGuardPackageCred,
+    TsSmartCardCreds,
+};
+use krb_der::{Asn1SequenceOf, DerEncode};
+use krb_enc_parts::data_types::{
+    Authenticator, EncApRepPart, EncKrbCredPart, EncKrbPrivPart, EncTicketPart, KrbCredInfo,
+};
 use krb_gss_tokens::iakerb_header::messages::IAKerbHeader;
-use krb_pkinit::pkinit::PaPkAsRep;
+use krb_messages::messages::{
+    ApRep, ApReq, AsRep, AsReq, EncAsRepPart, EncTgsRepPart, KdcProxyMessage, KdcReqBody, KrbCred,
+    KrbError, KrbPriv, TgsRep, TgsReq, TgtRep, TgtReq,
+};
+use krb_pkinit::pkinit::{KdcDhKeyInfo, KrbFinished, PaPkAsRep, PkAuthenticator, Pku2uNegoBody};
 use krb_show::{NoFormats, Show, ShowsFormats};
 use krb_show_messages::{KerberosFormats, Message};
+use krb_types::data_types::{
+    AuthorizationData, ChangePasswdData, Checksum, EncryptedData, EncryptionKey, EtypeInfo2,
+    EtypeInfo2Entry, HostAddress, HostAddresses, KerbAdRestrictionEntry, KerbErrorData,
+    KerbPaPacRequest, LastReq, PaData, PaEncTsEnc, PaPacOptions, PrincipalName, Ticket,
+    TransitedEncoding,
+};
 
 /// The text of a page by a row of a table tells the octets, secrets shown: two inputs of one row whose pages have one text are the same octets. The
 /// table passes a test (the lines of the fields of each SEQUENCE, and what the cases of an OCTET STRING hold, are told apart by their first lines), and
@@ -58,4 +76,71 @@ pub fn texts_of_replies_tell_octets()
 /// Two headers of IAKERB (draft-ietf-kitten-iakerb-03, 3) whose pages have one text are equal.
 pub fn texts_of_headers_tell_values()
     ensures { TextTells ⟦<IAKerbHeader as DerEncode>⟧ ⟦<IAKerbHeader as Show<Message>>⟧ }
+{}
+
+/// The rows of the types that messages share, and of pre-authentication (RFC 4120, 5.2 and 5.3), allow the encodings of these types and no others.
+pub fn rows_of_data_types()
+    ensures principal_name { HasItsRow ⟦<PrincipalName as DerEncode>⟧ (codes "PrincipalName") }
+    ensures host_address { HasItsRow ⟦<HostAddress as DerEncode>⟧ (codes "HostAddress") }
+    ensures host_addresses { HasItsRow ⟦<HostAddresses as DerEncode>⟧ (codes "HostAddresses") }
+    ensures authorization_data { HasItsRow ⟦<AuthorizationData as DerEncode>⟧ (codes "AuthorizationData") }
+    ensures encrypted_data { HasItsRow ⟦<EncryptedData as DerEncode>⟧ (codes "EncryptedData") }
+    ensures encryption_key { HasItsRow ⟦<EncryptionKey as DerEncode>⟧ (codes "EncryptionKey") }
+    ensures checksum { HasItsRow ⟦<Checksum as DerEncode>⟧ (codes "Checksum") }
+    ensures transited_encoding { HasItsRow ⟦<TransitedEncoding as DerEncode>⟧ (codes "TransitedEncoding") }
+    ensures last_req { HasItsRow ⟦<LastReq as DerEncode>⟧ (codes "LastReq") }
+    ensures pa_data { HasItsRow ⟦<PaData as DerEncode>⟧ (codes "PA-DATA") }
+    ensures pa_enc_ts_enc { HasItsRow ⟦<PaEncTsEnc as DerEncode>⟧ (codes "PA-ENC-TS-ENC") }
+    ensures etype_info2_entry { HasItsRow ⟦<EtypeInfo2Entry as DerEncode>⟧ (codes "ETYPE-INFO2-ENTRY") }
+    ensures etype_info2 { HasItsRow ⟦<EtypeInfo2 as DerEncode>⟧ (codes "ETYPE-INFO2") }
+    ensures pac_request { HasItsRow ⟦<KerbPaPacRequest as DerEncode>⟧ (codes "KERB-PA-PAC-REQUEST") }
+    ensures pac_options { HasItsRow ⟦<PaPacOptions as DerEncode>⟧ (codes "PA-PAC-OPTIONS") }
+    ensures error_data { HasItsRow ⟦<KerbErrorData as DerEncode>⟧ (codes "KERB-ERROR-DATA") }
+    ensures restriction { HasItsRow ⟦<KerbAdRestrictionEntry as DerEncode>⟧ (codes "KERB-AD-RESTRICTION-ENTRY") }
+    ensures password { HasItsRow ⟦<ChangePasswdData as DerEncode>⟧ (codes "ChangePasswdData") }
+    ensures ticket { HasItsRow ⟦<Ticket as DerEncode>⟧ (codes "Ticket") }
+    ensures method_data { HasItsRow ⟦<Asn1SequenceOf<PaData> as DerEncode>⟧ (codes "METHOD-DATA") }
+{}
+
+/// The rows of the encrypted parts of tickets, of requests and of replies of a server (RFC 4120, 5.3 to 5.8) allow the encodings of these types and no others.
+pub fn rows_of_parts()
+    ensures authenticator { HasItsRow ⟦<Authenticator as DerEncode>⟧ (codes "Authenticator") }
+    ensures enc_ticket_part { HasItsRow ⟦<EncTicketPart as DerEncode>⟧ (codes "EncTicketPart") }
+    ensures enc_ap_rep_part { HasItsRow ⟦<EncApRepPart as DerEncode>⟧ (codes "EncAPRepPart") }
+    ensures enc_krb_priv_part { HasItsRow ⟦<EncKrbPrivPart as DerEncode>⟧ (codes "EncKrbPrivPart") }
+    ensures enc_krb_cred_part { HasItsRow ⟦<EncKrbCredPart as DerEncode>⟧ (codes "EncKrbCredPart") }
+    ensures krb_cred_info { HasItsRow ⟦<KrbCredInfo as DerEncode>⟧ (codes "KrbCredInfo") }
+{}
+
+/// The rows of messages, and of the parts of replies of a KDC (RFC 4120, 5.4 to 5.9; MS-KKDCP, 2.2.2), allow the encodings of these types and no others.
+pub fn rows_of_messages()
+    ensures as_req { HasItsRow ⟦<AsReq as DerEncode>⟧ (codes "AS-REQ") }
+    ensures as_rep { HasItsRow ⟦<AsRep as DerEncode>⟧ (codes "AS-REP") }
+    ensures tgs_req { HasItsRow ⟦<TgsReq as DerEncode>⟧ (codes "TGS-REQ") }
+    ensures tgs_rep { HasItsRow ⟦<TgsRep as DerEncode>⟧ (codes "TGS-REP") }
+    ensures kdc_req_body { HasItsRow ⟦<KdcReqBody as DerEncode>⟧ (codes "KDC-REQ-BODY") }
+    ensures enc_as_rep_part { HasItsRow ⟦<EncAsRepPart as DerEncode>⟧ (codes "EncASRepPart") }
+    ensures enc_tgs_rep_part { HasItsRow ⟦<EncTgsRepPart as DerEncode>⟧ (codes "EncTGSRepPart") }
+    ensures ap_req { HasItsRow ⟦<ApReq as DerEncode>⟧ (codes "AP-REQ") }
+    ensures ap_rep { HasItsRow ⟦<ApRep as DerEncode>⟧ (codes "AP-REP") }
+    ensures krb_priv { HasItsRow ⟦<KrbPriv as DerEncode>⟧ (codes "KRB-PRIV") }
+    ensures krb_cred { HasItsRow ⟦<KrbCred as DerEncode>⟧ (codes "KRB-CRED") }
+    ensures krb_error { HasItsRow ⟦<KrbError as DerEncode>⟧ (codes "KRB-ERROR") }
+    ensures tgt_req { HasItsRow ⟦<TgtReq as DerEncode>⟧ (codes "TGT-REQ") }
+    ensures tgt_rep { HasItsRow ⟦<TgtRep as DerEncode>⟧ (codes "TGT-REP") }
+    ensures proxy_message { HasItsRow ⟦<KdcProxyMessage as DerEncode>⟧ (codes "KDC-PROXY-MESSAGE") }
+{}
+
+/// The rows of types of PKINIT (RFC 4556), PKU2U (draft-zhu-pku2u) and CredSSP (MS-CSSP, 2.2.1.2) allow the encodings of these types and no others.
+pub fn rows_of_certificates()
+    ensures pku2u_body { HasItsRow ⟦<Pku2uNegoBody as DerEncode>⟧ (codes "PKU2U-NEGO-BODY") }
+    ensures krb_finished { HasItsRow ⟦<KrbFinished as DerEncode>⟧ (codes "KRB-FINISHED") }
+    ensures pk_authenticator { HasItsRow ⟦<PkAuthenticator as DerEncode>⟧ (codes "PKAuthenticator") }
+    ensures key_info { HasItsRow ⟦<KdcDhKeyInfo as DerEncode>⟧ (codes "KDCDHKeyInfo") }
+    ensures credentials { HasItsRow ⟦<TsCredentials as DerEncode>⟧ (codes "TSCredentials") }
+    ensures password { HasItsRow ⟦<TsPasswordCreds as DerEncode>⟧ (codes "TSPasswordCreds") }
+    ensures smart_card { HasItsRow ⟦<TsSmartCardCreds as DerEncode>⟧ (codes "TSSmartCardCreds") }
+    ensures csp_data { HasItsRow ⟦<TsCspDataDetail as DerEncode>⟧ (codes "TSCspDataDetail") }
+    ensures remote_guard { HasItsRow ⟦<TsRemoteGuardCreds as DerEncode>⟧ (codes "TSRemoteGuardCreds") }
+    ensures package { HasItsRow ⟦<TsRemoteGuardPackageCred as DerEncode>⟧ (codes "TSRemoteGuardPackageCred") }
 {}

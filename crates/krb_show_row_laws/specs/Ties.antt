@@ -1,0 +1,25 @@
+-- That a type has the encodings that its row of the table allows.
+use Rattle.std.specs.Prelude.{◌≡◌, ℕ, List, [], Some}
+use Rattle.krb_der_core.specs.Encoding.{IsOctets}
+use Rattle.krb_der_core.specs.declared.der.DerEncode.{Ghosts as EncodingOf}
+use Rattle.krb_schema.specs.declared.shape.Name.{Name}
+use Rattle.krb_schema.specs.declared.shape.Schema.{Schema}
+use Rattle.krb_schema.specs.Forests.{Forest, enc}
+use Rattle.krb_schema.specs.Named.{IsKerberos, row_in}
+use Rattle.krb_schema.specs.Shapes.{IsElement, IsNone}
+use Rattle.krb_schema.specs.Types.{types}
+
+-- the octets are the encoding of a value
+abbrev pub IsEncoding : {A : Type 0} → EncodingOf A → List ℕ → Type 0
+IsEncoding {A} t octets = (v : A) × t.is_value v × (octets ≡ t.enc v)
+
+-- Of octets that are an encoding of the type it does not hold that they are no element of the row, which a walk that refuses them says; and an element of the
+-- row is an encoding.
+pub record IsRowOf {A : Type 0} (t : EncodingOf A) (schema : Schema) (row : ℕ) (name : Name) : Type 0 where
+  pub read : (octets : List ℕ) → IsEncoding t octets → IsNone (IsElement 64 schema row name []) octets → ⊥
+  pub walked : (octets : List ℕ) → IsOctets octets → (f : Forest) → IsElement 64 schema row name [] f → octets ≡ enc f → IsEncoding t octets
+
+-- There is a row of this name, and it is the type's.
+abbrev pub HasItsRow : {A : Type 0} → EncodingOf A → List ℕ → Type 0
+HasItsRow t row_name =
+    (row : ℕ) × (row_in types row_name ≡ Some row) × ((schema : Schema) (name : Name) → IsKerberos schema → IsRowOf t schema row name)
