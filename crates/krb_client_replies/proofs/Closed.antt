@@ -33,7 +33,7 @@ module _ {A : Type 0} (t : EncodingOf A) (suite : CipherSuite) (key : List ℕ) 
   part_is_none e right other only (padded, opens, rejected, inl memory) = absurd (other memory)
   part_is_none e right other only (padded, opens, rejected, inr first) =
       let why : IsNotPart t suite key usage octets e =
-          record { none = λ v valid given. other (only v valid given); padded = padded; opens = opens; rejected = rejected; first_error = first } in
+      record { none = λ v valid given. other (only v valid given); padded = padded; opens = opens; rejected = rejected; first_error = first } in
       (right, inr why)
 
   pub part_refused : (e : Asn1DerError) → length key ≡ key_octets_of suite

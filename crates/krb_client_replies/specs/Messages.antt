@@ -1,7 +1,6 @@
 -- Messages by their encodings and their first numbers (RFC 4120, 5.4 to 5.9; X.690, 10).
 use Rattle.std.specs.Prelude.{◌≡◌, ◌≢◌, ◌⊎◌, ℕ, ℤ, pos, List}
 use Rattle.krb_der_core.specs.declared.der.DerEncode.{Ghosts as EncodingOf}
-use Rattle.krb_der_core.specs.declared.error.Asn1DerError.{Asn1DerError}
 use Rattle.krb_der_core.specs.declared.error.Asn1DerError.TheVariants as der
 use Rattle.krb_der.specs.Whole.{Encodes, IsNotRead}
 use Rattle.krb_messages.specs.declared.messages.replies.KdcRep.{KdcRep}

@@ -1,7 +1,6 @@
 -- Parts of messages that are sealed (RFC 3961, 5.3; RFC 4120, 5.2.9).
-use Rattle.std.specs.Prelude.{◌≡◌, ◌≢◌, ◌⊎◌, ℕ, ℤ, List, length}
+use Rattle.std.specs.Prelude.{◌≡◌, ◌⊎◌, ℕ, ℤ, List, length}
 use Rattle.krb_crypto_hash.specs.CryptoError.{IsKeyLengthError}
-use Rattle.krb_crypto_hash.specs.declared.error.KerberosCryptoError.{KerberosCryptoError}
 use Rattle.krb_crypto_hash.specs.declared.error.KerberosCryptoError.TheVariants as crypto
 use Rattle.krb_crypto_message.specs.Sealing.{HasNoPayload, IsGiven, Opens}
 use Rattle.krb_crypto.specs.BySuite.{IsSealed, confounder_octets_of, error_of, key_octets_of, padding_octets_of}

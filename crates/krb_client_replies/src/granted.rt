@@ -1,6 +1,6 @@
 //! Replies of a KDC that grant a ticket.
 
-ghost use Rattle.std.specs.Prelude.{◌≡◌, pos, IsTrue, IfErr, IfOk};
+ghost use Rattle.std.specs.Prelude.{◌≡◌, IsTrue, IfErr, IfOk};
 ghost use Rattle.krb_client_replies.specs.Granted.{IsFirstGranted, IsFirstRefused, IsGranted, IsNotGranted, form, tgs_form, tgs_usage};
 ghost use Rattle.krb_der_core.specs.declared.error.Asn1DerError.{Asn1DerError};
 
@@ -26,36 +26,28 @@ pub struct Granted {
     pub part: EncKdcRepPart,
 }
 
-/// Which reply of a KDC is wanted.
-#[derive(Debug, Clone, Copy, PartialEq, Eq)]
-struct Wanted {
-    /// msg-type.
-    number: u8,
-    /// The key usage of its part.
-    usage: i32,
-    /// Whether it is an AS-REP.
-    initial: bool,
-}
-
-/// What these octets grant to who asked, as a message of this kind.
+/// What these octets grant to who asked, as a message of this msg-type with a part of this key usage;
+/// `initial` says that it is an AS-REP.
 fn checked<M: Der + Numbered + KdcReply + Drop, P: Der + ReplyPart + Drop>(
     alloc: Global,
-    wanted: Wanted,
+    number: u8,
+    usage: i32,
+    initial: bool,
     asked: &Asked,
     clock: &Clock,
     key: &Key,
     octets: &[u8],
 ) -> Result<Granted, ReplyError>
     ensures found { IfOk result (IsGranted (form ⟦<M as DerEncode>⟧ M.numbers M.content ⟦<P as DerEncode>⟧ P.content
-        wanted.number wanted.usage wanted.initial) asked.now clock.now key.now octets.now) }
+        number usage initial) asked.now clock.now key.now octets.now) }
     ensures rejected { IfErr result (IsNotGranted (form ⟦<M as DerEncode>⟧ M.numbers M.content ⟦<P as DerEncode>⟧ P.content
-        wanted.number wanted.usage wanted.initial) asked.now clock.now key.now octets.now) }
+        number usage initial) asked.now clock.now key.now octets.now) }
 {
-    let message: M = message_of(alloc, wanted.number, octets)?;
-    if let Err(rule) = is_expected(&message, asked, wanted.initial, u32::from(&key.suite)) {
+    let message: M = message_of(alloc, number, octets)?;
+    if let Err(rule) = is_expected(&message, asked, initial, u32::from(&key.suite)) {
         return Err(ReplyError::Mismatch(rule));
     }
-    let part: P = part_under(alloc, key, wanted.usage, message.cipher())?;
+    let part: P = part_under(alloc, key, usage, message.cipher())?;
     if let Err(rule) = answers(&part, asked, clock) {
         return Err(ReplyError::Mismatch(rule));
     }
@@ -91,16 +83,16 @@ pub fn check_as_rep(
     ensures rejected { IfErr result (IsFirstRefused ⟦<AsRep as DerEncode>⟧ ⟦<EncAsRepPart as DerEncode>⟧ ⟦<EncTgsRepPart as DerEncode>⟧
         asked.now clock.now key.now octets.now) }
 {
-    let wanted = Wanted {
-        number: AS_REP_MSG_TYPE,
-        usage: AS_REP_ENC,
-        initial: true,
-    };
-    match checked::<AsRep, EncAsRepPart>(alloc, wanted, asked, clock, key, octets) {
+    let number = AS_REP_MSG_TYPE;
+    match checked::<AsRep, EncAsRepPart>(
+        alloc, number, AS_REP_ENC, true, asked, clock, key, octets,
+    ) {
         Ok(granted) => Ok(granted),
         Err(error) => {
             if is_no_part(&error) {
-                checked::<AsRep, EncTgsRepPart>(alloc, wanted, asked, clock, key, octets)
+                checked::<AsRep, EncTgsRepPart>(
+                    alloc, number, AS_REP_ENC, true, asked, clock, key, octets,
+                )
             } else {
                 Err(error)
             }
@@ -125,15 +117,12 @@ pub fn check_tgs_rep(
     ensures rejected { IfErr result (IsNotGranted (tgs_form ⟦<TgsRep as DerEncode>⟧ ⟦<EncTgsRepPart as DerEncode>⟧ (tgs_usage is_subkey))
         asked.now clock.now key.now octets.now) }
 {
-    let usage = if is_subkey {
-        TGS_REP_ENC_SUB_KEY
+    let number = TGS_REP_MSG_TYPE;
+    if is_subkey {
+        let usage = TGS_REP_ENC_SUB_KEY;
+        checked::<TgsRep, EncTgsRepPart>(alloc, number, usage, false, asked, clock, key, octets)
     } else {
-        TGS_REP_ENC_SESSION_KEY
-    };
-    let wanted = Wanted {
-        number: TGS_REP_MSG_TYPE,
-        usage,
-        initial: false,
-    };
-    checked::<TgsRep, EncTgsRepPart>(alloc, wanted, asked, clock, key, octets)
+        let usage = TGS_REP_ENC_SESSION_KEY;
+        checked::<TgsRep, EncTgsRepPart>(alloc, number, usage, false, asked, clock, key, octets)
+    }
 }

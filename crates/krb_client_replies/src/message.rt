@@ -29,11 +29,7 @@ fn decoded<T: Der + Drop>(alloc: Global, octets: &[u8]) -> Result<T, ReplyError>
 }
 
 /// Whether pvno is 5, and msg-type this number.
-fn has_numbers(
-    pvno: &IntegerAsn1,
-    msg_type: &IntegerAsn1,
-    number: u8,
-) -> Result<(), ReplyError>
+fn has_numbers(pvno: &IntegerAsn1, msg_type: &IntegerAsn1, number: u8) -> Result<(), ReplyError>
     ensures found { IfOk result (λ _. (pvno.now ≡ pos 5) × (msg_type.now ≡ pos number)) }
     ensures rejected { IfErr result (λ e. ((e ≡ errors.Pvno) × (pvno.now ≢ pos 5))
         ⊎ ((e ≡ errors.MsgType) × (pvno.now ≡ pos 5) × (msg_type.now ≢ pos number))) }

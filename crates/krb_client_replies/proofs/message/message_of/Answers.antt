@@ -1,5 +1,5 @@
 use Rattle.std.proofs.lemmas.Result.{err_from_is_err_and}
-use Rattle.krb_client_replies.proofs.Checks.{numbers_refused, octets_refused}
+use Rattle.krb_client_replies.proofs.Checks.{numbers_refused}
 use Rattle.krb_client_replies.proofs.message.message_of.Goals as goal
 
 pub returns-in_err-has_numbers-clause-rejected : goal.returns-in_err-has_numbers-clause-rejected
