@@ -84,9 +84,14 @@ abbrev pub IsFirstGranted : EncodingOf KdcRep → EncodingOf EncKdcRepPart → E
 IsFirstGranted message part other a c key octets g =
     IsGranted (as_form message part) a c key octets g ⊎ IsGranted (as_form message other) a c key octets g
 
--- it grants nothing under the one, or, where what is opened is no such part, nothing under the other
+-- the error is not that what was opened is no part of the tag
+abbrev pub IsNotOfTag : ReplyError → Type 0
+IsNotOfTag (errors.Opening (half.Der why)) = ⊥
+IsNotOfTag other = Unit {0}
+
+-- It grants nothing under its own tag, and what was opened is not at fault; or what was opened is no part of this tag, and it grants nothing under the other.
 abbrev pub IsFirstRefused : EncodingOf KdcRep → EncodingOf EncKdcRepPart → EncodingOf EncKdcRepPart → Asked → Clock → Key → List ℕ → ReplyError → Type 0
 IsFirstRefused message part other a c key octets error =
-    IsNotGranted (as_form message part) a c key octets error
+    (IsNotGranted (as_form message part) a c key octets error × IsNotOfTag error)
     ⊎ ((why : Asn1DerError) × IsNotGranted (as_form message part) a c key octets (errors.Opening (half.Der why))
     × IsNotGranted (as_form message other) a c key octets error)

@@ -1,7 +1,7 @@
 //! Replies of a KDC that grant a ticket.
 
-ghost use Rattle.std.specs.Prelude.{◌≡◌, IsTrue, IfErr, IfOk};
-ghost use Rattle.krb_client_replies.specs.Granted.{IsFirstGranted, IsFirstRefused, IsGranted, IsNotGranted, form, tgs_form, tgs_usage};
+ghost use Rattle.std.specs.Prelude.{◌≡◌, IfErr, IfOk, MatchBool};
+ghost use Rattle.krb_client_replies.specs.Granted.{IsFirstGranted, IsFirstRefused, IsGranted, IsNotGranted, IsNotOfTag, form, tgs_form, tgs_usage};
 ghost use Rattle.krb_der_core.specs.declared.error.Asn1DerError.{Asn1DerError};
 
 use crate::error::ReplyError;
@@ -59,7 +59,7 @@ fn checked<M: Der + Numbered + KdcReply + Drop, P: Der + ReplyPart + Drop>(
 
 /// Whether what was opened is no part of this tag.
 fn is_no_part(error: &ReplyError) -> bool
-    ensures { IsTrue result → (why : Asn1DerError) × (error.now ≡ ReplyError.Opening (PartError.Der why)) }
+    ensures { MatchBool result ((why : Asn1DerError) × (error.now ≡ ReplyError.Opening (PartError.Der why))) (IsNotOfTag error.now) }
 {
     match error {
         ReplyError::Opening(PartError::Der(_)) => true,

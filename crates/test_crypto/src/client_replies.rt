@@ -11,7 +11,7 @@ use krb_client_replies::{
 use krb_crypto::CipherSuite;
 use picky_krb::data_types::{PrincipalName, Realm};
 use picky_krb::der::{Asn1SequenceOf, ExplicitContextTag0, ExplicitContextTag1, IntegerAsn1};
-use picky_krb::view::{principal_of_text, text_of_principal};
+use picky_krb::view::{TextPrincipal, principal_of_text, text_of_principal};
 use std::alloc::{AllocError, Global};
 use test_rows::{Columns, RowError};
 
@@ -30,7 +30,8 @@ fn principal_of(alloc: Global, text: &str) -> Result<Principal, RowError> {
     let Ok(read) = principal_of_text(alloc, text) else {
         return Err(RowError::NoDigits);
     };
-    let Some(realm) = read.realm else {
+    let TextPrincipal { components, realm } = read;
+    let Some(realm) = realm else {
         return Err(RowError::NoColumn);
     };
     let Ok(name_type) = IntegerAsn1::from_bytes_be_signed(alloc, Vec::from_slice(alloc, &[1])?)
@@ -41,7 +42,7 @@ fn principal_of(alloc: Global, text: &str) -> Result<Principal, RowError> {
         realm,
         name: PrincipalName {
             name_type: ExplicitContextTag0::from(name_type),
-            name_string: ExplicitContextTag1::from(Asn1SequenceOf(read.components)),
+            name_string: ExplicitContextTag1::from(Asn1SequenceOf(components)),
         },
     })
 }
