@@ -1,5 +1,5 @@
 //! The program `test_crypto`: cryptography of Kerberos, the calls of the library for C over it, tokens, checksums of PACs, and
-//! whether a service lets clients in.
+//! whether a service lets clients in, and whether a client takes a reply.
 //!
 //! Its standard input is tables of test vectors (`test_rows`). The module of a table says what its rows are and what is printed of
 //! each.
@@ -9,6 +9,7 @@ mod accepted;
 mod accepted_by_c;
 mod c_calls;
 mod c_tokens;
+mod client_replies;
 mod crypto;
 mod pac_checksums;
 mod third_legs;
@@ -29,6 +30,7 @@ impl Tables for Cryptography {
             "tokens" => c_tokens::answer(alloc, columns)?,
             "accepted" => accepted::answer(alloc, columns)?,
             "third legs" => third_legs::answer(alloc, columns)?,
+            "replies" => client_replies::answer(alloc, columns)?,
             "pac checksums" => pac_checksums::answer(alloc, columns)?,
             _ => return Err(RowError::NoTable),
         };
