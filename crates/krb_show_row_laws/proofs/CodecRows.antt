@@ -34,10 +34,10 @@ use Rattle.krb_show_row_laws.proofs.RowFields.{First, IsIn, OfFields, OfRow, Row
 abbrev pub NotNot : Type 0 → Type 0
 NotNot A = (A → ⊥) → ⊥
 
-both : {A B C : Type 0} → (A → B → C) → NotNot A → NotNot B → NotNot C
+pub both : {A B C : Type 0} → (A → B → C) → NotNot A → NotNot B → NotNot C
 both f a b k = a (λ x. b (λ y. k (f x y)))
 
-mapped : {A C : Type 0} → (A → C) → NotNot A → NotNot C
+pub mapped : {A C : Type 0} → (A → C) → NotNot A → NotNot C
 mapped f a k = a (λ x. k (f x))
 
 -- ---- beginnings
@@ -48,14 +48,14 @@ is_apart tag [] = true
 is_apart tag ((None, wrapped, may_be, name, kind, role, is) ∷ rows) = false
 is_apart tag ((Some t, wrapped, may_be, name, kind, role, is) ∷ rows) = (if nat_eq t tag then false else true) && (if may_be then is_apart tag rows else true)
 
-differs : (t tag : ℕ) → (if nat_eq t tag then false else true) ≡ true → t ≡ tag → ⊥
+pub differs : (t tag : ℕ) → (if nat_eq t tag then false else true) ≡ true → t ≡ tag → ⊥
 differs t tag e f = grind (arith, common_steps)
 
-and_first : (a b : Bool) → (a && b) ≡ true → a ≡ true
+pub and_first : (a b : Bool) → (a && b) ≡ true → a ≡ true
 and_first true b e = refl
 and_first false b e = e
 
-and_second : (a b : Bool) → (a && b) ≡ true → b ≡ true
+pub and_second : (a b : Bool) → (a && b) ≡ true → b ≡ true
 and_second true b e = e
 and_second false b e = absurd (clash e)
   where
@@ -63,20 +63,20 @@ and_second false b e = absurd (clash e)
     clash e = cc
 
 -- an element does not begin as one under another tag
-other_tag : (t tag : ℕ) (content rest : List ℕ) → (t ≡ tag → ⊥) → Begins (Some tag) (tlv t content ++ rest) → ⊥
+pub other_tag : (t tag : ℕ) (content rest : List ℕ) → (t ≡ tag → ⊥) → Begins (Some tag) (tlv t content ++ rest) → ⊥
 unfolding tlv
 other_tag t tag content rest differ b = differ (same t tag (subst (λ (n : ℕ). (n == tag) ≡ true) (ap (λ (l : List ℕ). get_or l 0 0) (sym b.2)) b.3))
   where
     same : (m n : ℕ) → (m == n) ≡ true → m ≡ n
     same m n e = grind (arith, common_steps)
 
-nothing_begins : (tag : Option ℕ) → Begins tag [] → ⊥
+pub nothing_begins : (tag : Option ℕ) → Begins tag [] → ⊥
 nothing_begins tag b = none_is b.0 b.1 b.2
   where
     none_is : (t : ℕ) (rest : List ℕ) → [] ≡ t ∷ rest → ⊥
     none_is t rest e = cc
 
-enc_beside : (a b : Forest) → enc (beside a b) ≡ enc a ++ enc b
+pub enc_beside : (a b : Forest) → enc (beside a b) ≡ enc a ++ enc b
 enc_beside none b = refl
 enc_beside (leaf kind name tag content rest) b =
     ap (λ (o : List ℕ). tlv tag content ++ o) (enc_beside rest b) ∙ sym (append_assoc (tlv tag content) (enc rest) (enc b))
@@ -122,7 +122,7 @@ module _ (schema : Schema) (kerberos : IsKerberos schema) where
   pub record TieFields (levels : ℕ) (rows : List Row) (c : Codec) : Type 0 where
     pub into : (fs : List Field) → map field_row fs ≡ rows → (before : List ℕ) (x : c.value) → c.valid x → NotNot (OfFields levels schema fs before (c.enc x))
     pub from : (fs : List Field) → map field_row fs ≡ rows → (before o : List ℕ) → IsOctets o → OfFields levels schema fs before o → IsCode c o
-    pub never : (tag : ℕ) → is_apart tag rows ≡ true → (x : c.value) → Begins (Some tag) (c.enc x) → ⊥
+    pub never : (tag : ℕ) → is_apart tag rows ≡ true → (x : c.value) → c.valid x → Begins (Some tag) (c.enc x) → ⊥
 
   -- ---- leaves
 
@@ -153,7 +153,7 @@ module _ (schema : Schema) (kerberos : IsKerberos schema) where
       valid = tt;
       are = ended_out schema kerberos levels before o (subst (λ l. OfFields levels schema l before o) (last_of field_row fs e) h);
     };
-    never = λ tag apart x b. nothing_begins (Some tag) b;
+    never = λ tag apart x v b. nothing_begins (Some tag) b;
   }
 
   first_code : (levels : ℕ) (field : Field) (fs : List Field) (tag is : ℕ) (before o : List ℕ) (c rest : Codec) (rows : List Row) → map field_row fs ≡ rows
@@ -192,7 +192,7 @@ module _ (schema : Schema) (kerberos : IsKerberos schema) where
         first_code levels f.0 f.1 tag is before o c rest rows f.4 t ts small
         (required_out schema kerberos levels f.0 f.1 tag is before o (is_in f.0 tag false name kind role is f.3)
         (subst (λ l. OfFields levels schema l before o) f.2 h)));
-    never = λ other apart x b. other_tag tag other (c.enc x.0) (rest.enc x.1) (differs tag other (and_first _ true apart)) b;
+    never = λ other apart x v b. other_tag tag other (c.enc x.0) (rest.enc x.1) (differs tag other (and_first _ true apart)) b;
   }
 
   maybe_into : (levels : ℕ) (field : Field) (fs : List Field) (tag is : ℕ) (before : List ℕ) (c rest : Codec) (rows : List Row) → map field_row fs ≡ rows
@@ -200,7 +200,7 @@ module _ (schema : Schema) (kerberos : IsKerberos schema) where
       → IfSome m c.valid → rest.valid y
       → NotNot (OfFields levels schema (field ∷ fs) before (optional (λ x. tlv tag (c.enc x)) m ++ rest.enc y))
   maybe_into levels field fs tag is before c rest rows e i t ts apart None y v w =
-      mapped (λ h. absent_in schema kerberos levels field fs tag is before (rest.enc y) i (ts.never tag apart y) h) (ts.into fs e before y w)
+      mapped (λ h. absent_in schema kerberos levels field fs tag is before (rest.enc y) i (ts.never tag apart y w) h) (ts.into fs e before y w)
   maybe_into levels field fs tag is before c rest rows e i t ts apart (Some x) y v w =
       first_into levels field fs tag true is before c rest rows e i t ts x y v w
 
@@ -210,10 +210,10 @@ module _ (schema : Schema) (kerberos : IsKerberos schema) where
   maybe_code levels fs tag is before o c rest rows e ts small (inr h) =
       let b = ts.from fs e before o small h in record { code = (None, b.code); valid = (tt, b.valid); are = b.are }
 
-  maybe_never : (tag other : ℕ) (c rest : Codec) → (tag ≡ other → ⊥) → ((y : rest.value) → Begins (Some other) (rest.enc y) → ⊥) → (m : Option c.value)
-      (y : rest.value) → Begins (Some other) (optional (λ x. tlv tag (c.enc x)) m ++ rest.enc y) → ⊥
-  maybe_never tag other c rest differ never None y b = never y b
-  maybe_never tag other c rest differ never (Some x) y b = other_tag tag other (c.enc x) (rest.enc y) differ b
+  maybe_never : (tag other : ℕ) (c rest : Codec) → (tag ≡ other → ⊥) → ((y : rest.value) → rest.valid y → Begins (Some other) (rest.enc y) → ⊥) → (m : Option c.value)
+      (y : rest.value) → rest.valid y → Begins (Some other) (optional (λ x. tlv tag (c.enc x)) m ++ rest.enc y) → ⊥
+  maybe_never tag other c rest differ never None y w b = never y w b
+  maybe_never tag other c rest differ never (Some x) y w b = other_tag tag other (c.enc x) (rest.enc y) differ b
 
   pub maybe_tie : (levels tag : ℕ) (name : List ℕ) (kind : Option Kind) (role : Role) (is : ℕ) (c rest : Codec) (rows : List Row) → is_apart tag rows ≡ true
       → Tie levels is c → TieFields levels rows rest → TieFields levels ((Some tag, true, true, name, kind, role, is) ∷ rows) (codec.maybe tag c rest)
@@ -228,8 +228,8 @@ module _ (schema : Schema) (kerberos : IsKerberos schema) where
         (subst (λ l. OfFields levels schema l before o) f.2 h) in
         maybe_code levels f.1 tag is before o c rest rows f.4 ts small
         (elim w [ inl p ↦ inl (first_code levels f.0 f.1 tag is before o c rest rows f.4 t ts small p) | inr r ↦ inr r ]));
-    never = λ other apart_too x b.
-        maybe_never tag other c rest (differs tag other (and_first _ _ apart_too)) (λ y. ts.never other (and_second (if nat_eq tag other then false else true) _ apart_too) y) x.0 x.1 b;
+    never = λ other apart_too x v b.
+        maybe_never tag other c rest (differs tag other (and_first _ _ apart_too)) (λ y. ts.never other (and_second (if nat_eq tag other then false else true) _ apart_too) y) x.0 x.1 v.1 b;
   }
 
   -- ---- a SEQUENCE

@@ -4,11 +4,13 @@ use Rattle.std.specs.List.{flat_map, AllByRecursion}
 use Rattle.std.specs.Option.{IfSome}
 use Rattle.std.specs.Str.{IsAscii}
 use Rattle.krb_der_core.specs.BitString.{Bits, IsBits, bits_content}
-use Rattle.krb_der_core.specs.Encoding.{IsOctets, optional}
+use Rattle.krb_der_core.specs.Encoding.{IsElement, IsOctets, optional}
 use Rattle.krb_der_core.specs.GeneralizedTime.{Time, IsRealTime, time_content}
 use Rattle.krb_der_core.specs.Integer.{shortest}
 use Rattle.krb_der_core.specs.Primitive.{bool_content}
 use Rattle.krb_der_core.specs.Tlv.{tlv}
+use Rattle.krb_der_x509.specs.ObjectIdentifier.{IsArcs, arcs_content}
+use Rattle.krb_der_x509.specs.RawValue.{is_raw_first}
 
 -- values, which of them have an encoding, and it
 pub record Codec : Type 1 where
@@ -41,6 +43,16 @@ unsigned_octets n = tlv 2 (shortest (pos n))
 abbrev pub unsigned : Codec
 unsigned = record { value = ℕ; valid = λ v. v < 2 ^ 32; enc = unsigned_octets }
 
+-- an OCTET STRING whose tag is another's (IMPLICIT; X.690, 8.14.3), an OBJECT IDENTIFIER, and any element
+abbrev pub octets_under : ℕ → Codec
+octets_under tag = record { value = List ℕ; valid = IsOctets; enc = λ v. tlv tag v }
+
+abbrev pub identifier : Codec
+identifier = record { value = List ℕ; valid = IsArcs; enc = λ v. tlv 6 (arcs_content v) }
+
+abbrev pub any : Codec
+any = record { value = List ℕ; valid = IsElement is_raw_first; enc = λ v. v }
+
 -- values of another type, each as one of a codec
 abbrev pub coded : {A : Type 0} (c : Codec) → (A → c.value) → Codec
 coded {A} c to = record { value = A; valid = λ v. c.valid (to v); enc = λ v. c.enc (to v) }
@@ -64,4 +76,15 @@ maybe tag c rest = record {
   value = Option c.value × rest.value;
   valid = λ v. IfSome v.0 c.valid × rest.valid v.1;
   enc = λ v. optional (λ x. tlv tag (c.enc x)) v.0 ++ rest.enc v.1;
+}
+
+-- one by itself, and those behind it; one by itself that may be absent, and those behind it
+abbrev pub bare : Codec → Codec → Codec
+bare c rest = record { value = c.value × rest.value; valid = λ v. c.valid v.0 × rest.valid v.1; enc = λ v. c.enc v.0 ++ rest.enc v.1 }
+
+abbrev pub maybe_bare : Codec → Codec → Codec
+maybe_bare c rest = record {
+  value = Option c.value × rest.value;
+  valid = λ v. IfSome v.0 c.valid × rest.valid v.1;
+  enc = λ v. optional c.enc v.0 ++ rest.enc v.1;
 }

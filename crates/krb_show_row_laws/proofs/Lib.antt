@@ -39,8 +39,10 @@ pub mod HeaderLaws
 pub mod Codecs
 pub mod RowFields
 pub mod CodecRows
+pub mod BareRows
 pub mod TiedTypes
 pub mod DataTypeRows
 pub mod PartRows
 pub mod MessageRows
 pub mod CertificateRows
+pub mod PublicKeyRows

@@ -17,6 +17,7 @@ use krb_credssp::credssp::{
     TsSmartCardCreds,
 };
 use krb_der::{Asn1SequenceOf, DerEncode};
+use krb_der_x509::{AlgorithmIdentifier, SubjectPublicKeyInfo};
 use krb_enc_parts::data_types::{
     Authenticator, EncApRepPart, EncKrbCredPart, EncKrbPrivPart, EncTicketPart, KrbCredInfo,
 };
@@ -25,7 +26,11 @@ use krb_messages::messages::{
     ApRep, ApReq, AsRep, AsReq, EncAsRepPart, EncTgsRepPart, KdcProxyMessage, KdcReqBody, KrbCred,
     KrbError, KrbPriv, TgsRep, TgsReq, TgtRep, TgtReq,
 };
-use krb_pkinit::pkinit::{KdcDhKeyInfo, KrbFinished, PaPkAsRep, PkAuthenticator, Pku2uNegoBody};
+use krb_pkinit::pkinit::{
+    DhAuthPack, DhDomainParameters, DhRepInfo, DhReqInfo, EcAuthPack, ExternalPrincipalIdentifier,
+    KdcDhKeyInfo, KrbFinished, PaPkAsRep, PaPkAsReq, PkAuthenticator, Pku2uNegoBody, Pku2uNegoRep,
+    Pku2uNegoReq, Pku2uNegoReqMetadata, ValidationParams,
+};
 use krb_show::{NoFormats, Show, ShowsFormats};
 use krb_show_messages::{KerberosFormats, Message};
 use krb_types::data_types::{
@@ -143,4 +148,22 @@ pub fn rows_of_certificates()
     ensures csp_data { HasItsRow ⟦<TsCspDataDetail as DerEncode>⟧ (codes "TSCspDataDetail") }
     ensures remote_guard { HasItsRow ⟦<TsRemoteGuardCreds as DerEncode>⟧ (codes "TSRemoteGuardCreds") }
     ensures package { HasItsRow ⟦<TsRemoteGuardPackageCred as DerEncode>⟧ (codes "TSRemoteGuardPackageCred") }
+{}
+
+/// The rows of types of PKINIT (RFC 4556, RFC 5349), PKU2U and X.509 (RFC 5280, RFC 3279) that have fields by themselves, or in an IMPLICIT tag, allow the
+/// encodings of these types and no others.
+pub fn rows_of_public_keys()
+    ensures metadata { HasItsRow ⟦<Pku2uNegoReqMetadata as DerEncode>⟧ (codes "PKU2U-NEGO-REQ-METADATA") }
+    ensures nego_req { HasItsRow ⟦<Pku2uNegoReq as DerEncode>⟧ (codes "PKU2U-NEGO-REQ") }
+    ensures nego_rep { HasItsRow ⟦<Pku2uNegoRep as DerEncode>⟧ (codes "PKU2U-NEGO-REP") }
+    ensures request { HasItsRow ⟦<PaPkAsReq as DerEncode>⟧ (codes "PA-PK-AS-REQ") }
+    ensures certifier { HasItsRow ⟦<ExternalPrincipalIdentifier as DerEncode>⟧ (codes "ExternalPrincipalIdentifier") }
+    ensures dh_auth_pack { HasItsRow ⟦<DhAuthPack as DerEncode>⟧ (codes "DHAuthPack") }
+    ensures ec_auth_pack { HasItsRow ⟦<EcAuthPack as DerEncode>⟧ (codes "ECAuthPack") }
+    ensures dh_reply { HasItsRow ⟦<DhRepInfo as DerEncode>⟧ (codes "DHRepInfo") }
+    ensures dh_public_key { HasItsRow ⟦<DhReqInfo as DerEncode>⟧ (codes "DHSubjectPublicKeyInfo") }
+    ensures domain { HasItsRow ⟦<DhDomainParameters as DerEncode>⟧ (codes "DomainParameters") }
+    ensures validation { HasItsRow ⟦<ValidationParams as DerEncode>⟧ (codes "ValidationParms") }
+    ensures algorithm { HasItsRow ⟦<AlgorithmIdentifier as DerEncode>⟧ (codes "AlgorithmIdentifier") }
+    ensures public_key { HasItsRow ⟦<SubjectPublicKeyInfo as DerEncode>⟧ (codes "SubjectPublicKeyInfo") }
 {}
