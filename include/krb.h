@@ -364,6 +364,52 @@ enum {
 krb_status krb_items(const uint8_t *type_name, size_t type_name_size, const uint8_t *octets, size_t octets_size, krb_item *items, size_t room,
                      size_t *count, size_t *offset);
 
+/* What the keys of a keytab make of a ciphertext, which is one of the items. Nothing in it is a pointer. */
+typedef struct krb_part {
+    size_t item;          /* the index of the ciphertext among the items */
+    size_t first;         /* the index of the first item of the part */
+    size_t count;         /* how many items the part has; 0 where there is none */
+    size_t offset;        /* octets of `out` before those of the part: the places of its items are in these */
+    size_t size;          /* octets of the part */
+    size_t opener_offset; /* octets of `out` before the name of the key that decrypts it */
+    size_t opener_size;   /* octets of that name */
+    size_t keys_left_out; /* how many keys in the part are not tried on what follows */
+    uint32_t outcome;     /* KRB_PART_.. */
+    uint32_t usage;       /* the key usage (RFC 4120, 7.5.1); 0 where no key decrypts it */
+} krb_part;
+
+enum {
+    KRB_PART_NOT_TRIED = 0,          /* there is no key */
+    KRB_PART_IN_CLEAR = 1,           /* a part in the clear, which a KRB-CRED under encryption type 0 has (RFC 4120, 5.8.1) */
+    KRB_PART_TYPE_NOT_SUPPORTED = 2, /* its encryption type is none of KRB_ETYPE_.. */
+    KRB_PART_NO_KEY_OF_TYPE = 3,     /* no key is of its encryption type */
+    KRB_PART_NO_KEY_FITS = 4,        /* no key of its encryption type decrypts it */
+    KRB_PART_DECRYPTED = 5,          /* a key decrypts it */
+    KRB_PART_NO_ENCODING = 6         /* a key decrypts it, and the octets are no encoding of what is encrypted for the usage */
+};
+
+/* How much krb_decode hands out; of octets that are refused, how many stand before their first error. */
+typedef struct krb_decoded {
+    size_t items;  /* how many items */
+    size_t parts;  /* how many parts: one for each KRB_LEAF_CIPHER among the items of the octets */
+    size_t octets; /* how many octets */
+    size_t offset; /* as krb_items tells it */
+} krb_decoded;
+
+/* All items of octets of a type, as krb_items has them, with what the keys of a keytab open in them: what jolmurig show --keytab shows, as places.
+   Behind the items of the octets stand those of the parts, one part behind another, in the order of the ciphertexts. The places of a part's items are
+   in the part's octets, which stand in `out`, with nothing encrypted and no fill, each behind the name of the key that decrypts them: of a key of the keytab
+   its principal and version, as "host/www.example.org@EXAMPLE.ORG kvno 3". The part is of the type that its first item is named: krb_find finds in it
+   by that name.
+   A ciphertext is tried under the keys of the keytab, in their order, and then those that stand in parts before it, of which a thousand are tried; for the
+   usages that its role says. A ciphertext within a part is not decrypted. A keytab of no octets has no keys: parts in the clear alone are told.
+   KRB_DONE: all is at the front of `items`, `parts` and `out`, what is behind is as it was, and `decoded` says how many they are. KRB_ROOM: one of
+   these has too little room; all are as they were, and `decoded` says how many they would be: a part has no more octets than its ciphertext. Else they are as
+   they were, and all in `decoded` is 0 but for `offset`: those of krb_items; KRB_KEYTAB; KRB_MEMORY. */
+krb_status krb_decode(const uint8_t *type_name, size_t type_name_size, const uint8_t *octets, size_t octets_size, const uint8_t *keytab,
+                      size_t keytab_size, krb_item *items, size_t items_room, krb_part *parts, size_t parts_room, uint8_t *out, size_t room,
+                      krb_decoded *decoded);
+
 /* What the standards call items of this number; of two names there are two numbers, and a name keeps its number. KRB_NUMBER: none has it. */
 krb_status krb_item_name(uint32_t number, uint8_t *out, size_t room, size_t *size);
 

@@ -141,6 +141,24 @@ static krb_status item_call(const struct row *row, struct cells *to) {
     return status;
 }
 
+/* The counts, and of what is handed out the first item, the first part's outcome and usage, and the first of its octets. */
+static krb_status decode_call(const struct row *row, uint64_t *told) {
+    krb_item items[2048];
+    krb_part parts[8];
+    uint8_t out[8192];
+    krb_decoded counts = {7, 7, 7, 7};
+    memset(items, 7, sizeof items), memset(parts, 7, sizeof parts), memset(out, 7, sizeof out);
+    krb_status status = krb_decode(row->key.at, row->key.count, row->input.at, row->input.count, row->beside.at, row->beside.count, items, sizeof items / sizeof *items,
+            parts, sizeof parts / sizeof *parts, out, sizeof out, &counts);
+    told[0] = counts.items, told[1] = counts.parts, told[2] = counts.octets, told[3] = counts.offset;
+    if (status != KRB_DONE) {
+        if (items[0].kind != 0x07070707 || parts[0].outcome != 0x07070707 || out[0] != 7) told[0] |= 1;
+        return status;
+    }
+    told[4] = parts[0].outcome, told[5] = counts.octets ? out[parts[0].offset] : 0;
+    return status;
+}
+
 static int is_of_items(const char *call) {
     static const char *const calls[] = {"find", "find_number", "items", "init", "resp", "proxy", "hint"};
     for (size_t k = 0; k < sizeof calls / sizeof *calls; k++)
@@ -189,6 +207,7 @@ static krb_status told_of(const struct row *row, struct octets *room, struct ans
     struct cells to = {{77777, 77777, 77777, 77777, 77777, 77777}, 77777, 77777, 77777, true};
     int is_resp = !strcmp(row->call, "resp"), places = !strcmp(row->call, "init") || is_resp ? 6 : !strcmp(row->call,
             "find") || !strcmp(row->call, "items") ? 2 : 4;
+    if (!strcmp(row->call, "decode")) return decode_call(row, it->told);
     krb_status status = other_call(row, room, &it->size, &to);
     if (!strcmp(row->call, "unwrap") || !strcmp(row->call, "verify_mic"))
         it->told[0] = to.sequence, it->told[1] = !strcmp(row->call, "unwrap") && to.sealed;
@@ -266,6 +285,44 @@ static void try_rows(const char *name) {
     fclose(file);
 }
 
+static struct octets text_of(const char *text) { return octets_of((const uint8_t *)text, strlen(text)); }
+
+/* A keytab of one key of suite 17, that of a principal `s` of the realm `R` (MIT Kerberos, "Keytab file format"). */
+static const uint8_t KEYTAB[] = {5, 2, 0, 0, 0, 37, 0, 1, 0, 1, 'R', 0, 1, 's', 0, 0, 0, 1, 0, 0, 0, 0, 1, 0, 17, 0, 16, 1, 2, 3, 4, 5, 6, 7, 8, 9, 10, 11, 12, 13, 14, 15, 16};
+
+/* An element of this tag and content (X.690, 8.1.3), which it takes. */
+static struct octets element(uint8_t tag, struct octets content) {
+    struct octets whole = room_of(content.count + 4);
+    size_t header = krb_header_size(content.count), count = content.count;
+    whole.count = header + count;
+    whole.at[0] = tag, whole.at[1] = (uint8_t)(header == 2 ? count : 0x80 | (header - 2));
+    for (size_t k = header - 1; k > 1; k--, count >>= 8) whole.at[k] = (uint8_t)count;
+    memcpy(whole.at + header, content.at, content.count);
+    drop(&content);
+    return whole;
+}
+
+/* An EncryptedData (RFC 4120, 5.2.9) of this part of a ticket, decoded with the keytab whose key decrypts it, and as octets that it does not decrypt. */
+static void try_decoded(const struct octets *part) {
+    static const uint8_t ETYPE[] = {0xa0, 3, 2, 1, 17};
+    struct octets sealed = room_of(part->count + 99), confounder = room_of(16);
+    EXPECT(krb_seal_ticket_part(17, KEYTAB + sizeof KEYTAB - 16, 16, 2, confounder.at, confounder.count, part->at, part->count, sealed.at, sealed.count,
+                   &sealed.count) == KRB_DONE, "a part is not sealed");
+    for (int changes = 0; changes < 2; changes++) {
+        struct octets cipher = element(0xa2, element(4, octets_of(sealed.at, sealed.count))), both = room_of(sizeof ETYPE + cipher.count);
+        memcpy(both.at, ETYPE, sizeof ETYPE), memcpy(both.at + sizeof ETYPE, cipher.at, cipher.count);
+        struct row row = {"decode", 0, 0, text_of("EncryptedData"), octets_of(KEYTAB, sizeof KEYTAB), element(48, both)};
+        struct octets none = {NULL, 0};
+        struct answer it = run(&row, &none, 0, 0);
+        EXPECT(it.status == KRB_DONE && it.told[1] == 1 && it.told[4] == (changes ? KRB_PART_NO_KEY_FITS : KRB_PART_DECRYPTED), "outcome %d", (int)it.told[4]);
+        EXPECT(changes || it.told[5] == part->at[0], "the part is another");
+        try_call(&row);
+        drop(&row.key), drop(&row.beside), drop(&row.input), drop(&cipher);
+        sealed.at[0] ^= 1;
+    }
+    drop(&sealed), drop(&confounder);
+}
+
 /* Each message is checked, each part sealed and opened under each suite. */
 static void try_messages(const char *name) {
     FILE *file = fopen(name, "r");
@@ -276,6 +333,7 @@ static void try_messages(const char *name) {
         int32_t number = (int32_t)strtol(columns[0], NULL, 10);
         struct row check = {"check", number, 0, {NULL, 0}, {NULL, 0}, octets};
         try_call(&check);
+        if (number == KRB_MESSAGE_ENC_TICKET_PART) try_decoded(&octets);
         for (int p = 0; p < PARTS; p++)
             for (int s = 0; s < SUITES && parts[p].number == number; s++) {
                 struct octets key = room_of(suites[s].key), confounder = room_of(suites[s].confounder), sealed = room_of(octets.count + 99);
@@ -302,11 +360,6 @@ static void try_passwords(void) {
         drop(&row.beside), drop(&row.input);
     }
 }
-
-static struct octets text_of(const char *text) { return octets_of((const uint8_t *)text, strlen(text)); }
-
-/* A keytab of one key of suite 17, that of a principal `s` of the realm `R` (MIT Kerberos, "Keytab file format"). */
-static const uint8_t KEYTAB[] = {5, 2, 0, 0, 0, 37, 0, 1, 0, 1, 'R', 0, 1, 's', 0, 0, 0, 1, 0, 0, 0, 0, 1, 0, 17, 0, 16, 1, 2, 3, 4, 5, 6, 7, 8, 9, 10, 11, 12, 13, 14, 15, 16};
 
 /* A message as `jolmurig show` writes it, in the one form or the other. */
 static void try_page(const struct octets *message, int number) {

@@ -1,7 +1,7 @@
 """Tries `krb.text`, `krb.json`, `krb.decode` and `krb.show`: try_show.py TOP, in an environment that has the package installed. The rows of TOP/crates/test_show/stdin, table `pages`, whose
 type has a row in the table of types, are to be told as TOP/crates/test_show/stdout has them, which decoders in Python made that share no code with the
 library; but for those that hold a format that is no DER, which the library leaves octets. `krb.decode` is to have the values of that JSON. `krb.show` is to tell the rows of table `opened`, with their keys in a keytab, and those of kinds without
-a row. The last line is `N passed, N failed`."""
+a row; `krb.decode` is to have the values of its JSON, with what the keys open, `krb.parts` the parts of it, and `krb.find` to find in them. The last line is `N passed, N failed`."""
 
 import datetime
 import json
@@ -81,6 +81,95 @@ def try_opened(top):
         expect(json.loads(krb.show(octets, kind, keytab, as_json=True)) is not None, "an opened row has no JSON")
         count += 1
     return count
+
+
+def agrees_opened(value, told):
+    """Whether a value of `krb.decode` with keys is the one that JSON tells with them. What is no DER is told within, and not decoded."""
+    if isinstance(value, dict) and isinstance(told, dict) and "not-opened" in value:
+        prefix = "a key opens it, and the octets are no encoding of "
+        same = value["not-opened"] == told.get("not-opened") or (value["not-opened"].startswith(prefix) and told.get("not-opened", "").startswith(prefix))
+        return same and agrees_opened(*({name: one for name, one in it.items() if name != "not-opened"} for it in (value, told)))
+    if isinstance(value, dict):
+        return isinstance(told, dict) and list(value) == list(told) and all(agrees_opened(value[name], told[name]) for name in value)
+    if isinstance(value, list) and isinstance(told, list):
+        return len(value) == len(told) and all(map(agrees_opened, value, told))
+    return agrees(value, told)
+
+
+def leaves(value):
+    """What stands in a tree."""
+    if isinstance(value, dict):
+        return [leaf for one in value.values() for leaf in leaves(one)]
+    return [leaf for one in value for leaf in leaves(one)] if isinstance(value, list) else [value]
+
+
+def encrypted(tree, path=""):
+    """The path of each EncryptedData with a part in a tree, with the part."""
+    if isinstance(tree, dict):
+        names = list(tree)
+        for name in names[names.index("cipher") + 1 :] if "cipher" in names else []:
+            if name not in ("opened-by", "key-usage", "not-opened", "keys-not-tried"):
+                yield (path + "." if path else "") + name, tree[name]
+        for name in names:
+            yield from encrypted(tree[name], (path + "." if path else "") + name)
+    elif isinstance(tree, list):
+        for number, one in enumerate(tree):
+            yield from encrypted(one, "%s[%d]" % (path, number))
+
+
+def try_found(octets, kind, keytab, tree):
+    """Each part of a tree is the one that `krb.parts` has, and `krb.find` and `krb.find_number` find in it. How many there are."""
+    told = [part for part in krb.parts(octets, kind, keytab) if part.type_name]
+    found = list(encrypted(tree))
+    expect(len(found) == len(told), "%d parts stand in the tree, and %d are told" % (len(found), len(told)))
+    for (path, value), part in zip(found, told):
+        expect(path.endswith(part.type_name), "%s is no path to %s" % (path, part.type_name))
+        expect(krb.decode(part.octets, part.type_name, show_keys=True) == value, "%s is another part" % path)
+        content = krb.find(octets, kind, path, keytab)
+        expect(part.octets.endswith(content) and len(part.octets) - len(content) <= 12, "%s is not found" % path)
+        for name, one in value.items() if isinstance(value, dict) else ():
+            if isinstance(one, int) and not isinstance(one, bool):
+                expect(krb.find_number(octets, kind, path + "." + name, keytab) == one, "%s.%s is another number" % (path, name))
+    return len(found)
+
+
+def try_decoded(octets, kind, keytab):
+    """A row of `opened` as a tree, beside the JSON of `krb.show`: with keys, and without an octet of one. How many parts it has; nothing where it holds what is no DER, or no
+    type has its name."""
+    shown = krb.show(octets, kind, keytab, show_keys=True)
+    kind = kind or krb.type_of(octets)
+    if kind is None or outcome(krb.items, octets, kind) == Status.NUMBER or any(map(FORMATS.match, shown.split("\n"))):
+        return None
+    (told,) = json.loads(krb.show(octets, kind, keytab, as_json=True, show_keys=True)).values()
+    tree = krb.decode(octets, kind, keytab, show_keys=True)
+    expect(agrees_opened(tree, told), "an opened row is decoded otherwise: %r %r" % (tree, told))
+    hidden, (told,) = krb.decode(octets, kind, keytab), json.loads(krb.show(octets, kind, keytab, as_json=True)).values()
+    expect(agrees_opened(hidden, told), "an opened row is hidden otherwise: %r %r" % (hidden, told))
+    secrets = [leaf for leaf in leaves(tree) if isinstance(leaf, krb.Secret)]
+    expect(not any(isinstance(leaf, krb.Secret) for leaf in leaves(hidden)), "a secret is handed out")
+    expect(not any(secret and secret in leaf for secret in secrets for leaf in leaves(hidden) if isinstance(leaf, bytes) and len(leaf) < 64), "the octets of a key are handed out")
+    expect(len(secrets) <= sum(isinstance(leaf, krb.Hidden) for leaf in leaves(hidden)), "a secret is left out")
+    return try_found(octets, kind, keytab, tree)
+
+
+def try_trees(top):
+    """The rows of `opened` as trees, by keytabs and by keys. How many rows, and parts in them."""
+    rows = parts = 0
+    for keys, kind, octets, expected in opened_rows(top):
+        if len(expected) == 1 and not expected[0].endswith(":"):
+            continue
+        kind, keytab = None if kind == "message" else kind, keytab_of(keys)[0]
+        count = try_decoded(octets, kind, keytab)
+        if count is None:
+            continue
+        rows, parts = rows + 1, parts + count
+        kind = kind or krb.type_of(octets)
+        given = [(int(key.split(":")[0]), bytes.fromhex(key.split(":")[1])) for key in keys.split(" ")] if keys != "-" else []
+        if all(etype in range(16, 21) for etype, _ in given):
+            one, other = krb.parts(octets, kind, keytab), krb.parts(octets, kind, keys=given)
+            expect([part._replace(opened_by=None) for part in one] == [part._replace(opened_by=None) for part in other], "keys open otherwise than a keytab of them")
+            expect(all(part.opened_by is None or part.opened_by.startswith("keys[") or " " in part.opened_by for part in other), "a key is called otherwise")
+    return rows, parts
 
 
 def try_kinds(top):
@@ -181,7 +270,9 @@ def try_row(name, octets, expected):
     headed, told = (it.replace(name, HEADINGS.get(name, name), 1) for it in (text, told))
     expect(headed.split("\n") == expected[:-1] + [""] and told == expected[-1] + "\n", "%s is told otherwise" % name)
     (value,) = json.loads(told).values()
-    expect(agrees(krb.decode(octets, name), value), "%s is decoded otherwise" % name)
+    if krb.parts(octets, name) and name == "KRB-CRED":  # what stands in the clear is told without keys, by krb.show alone
+        (value,) = json.loads(krb.show(octets, name, as_json=True, show_keys=True)).values()
+    expect(agrees_opened(krb.decode(octets, name, show_keys=True), value), "%s is decoded otherwise" % name)
     if krb.type_of(octets) == name:
         expect(krb.json(octets, show_secrets=True) == told and krb.text(octets, show_secrets=True) == text, "%s is not told by its first octet" % name)
     hidden = krb.text(octets, name)
@@ -194,6 +285,10 @@ def try_key():
     key = bytes.fromhex("300da003020112a1060404deadbeef")
     expect("deadbeef" not in krb.text(key, "EncryptionKey") and "keyvalue: hidden" in krb.text(key, "EncryptionKey"), "a key is shown")
     expect("deadbeef" in krb.text(key, "EncryptionKey", show_secrets=True), "a key is not shown")
+    expect(krb.decode(key, "EncryptionKey")["keyvalue"] == "hidden" and isinstance(krb.decode(key, "EncryptionKey")["keyvalue"], krb.Hidden), "a key is decoded")
+    expect(krb.decode(key, "EncryptionKey", show_keys=True)["keyvalue"] == krb.Secret(b"\xde\xad\xbe\xef"), "a key is not decoded")
+    expect(outcome(krb.decode, key, "no type") == Status.NUMBER and outcome(krb.decode, key, "EncryptionKey", b"\5\1") == Status.KEYTAB, "no refusal")
+    expect(outcome(krb.decode, key, "EncryptionKey", None, [(3, b"")]) == Status.NUMBER and outcome(krb.decode, key[:-1], "EncryptionKey") == Status.TRUNCATED, "no refusal")
     expect(outcome(krb.text, key, "no type") == Status.NUMBER and outcome(krb.json, key[:-1], "EncryptionKey") == Status.TRUNCATED, "no refusal")
 
 
@@ -217,12 +312,19 @@ def try_found_keys():
     for count in (1000, 1001, 1100):
         info = element(48, wrap(0, element(48, wrap(0, number) + wrap(1, element(4, bytes(16))))))
         part = element(0x7D, element(48, wrap(0, element(48, info * count))))
+        part_octets = part
         cipher = krb.messages.seal(krb.messages.Part.CRED_PART, 17, key, 14, part)
         encrypted = element(48, wrap(0, number) + wrap(2, element(4, cipher)))
         message = element(0x76, element(48, wrap(0, element(2, b"\5")) + wrap(1, element(2, b"\x16")) + wrap(2, element(48, b"")) + wrap(3, encrypted)))
         shown = krb.show(message, keytab=keytab_of("17:%s:service" % key.hex())[0])
         left = "keys-not-tried: %d" % (count - 1000)
         expect("ticket-info[%d]:" % count in shown and (left in shown) == (count > 1000) and ("keys-not-tried" in shown) == (count > 1000), "%d keys are found" % count)
+        (part,) = krb.parts(message, keys=[(17, key)])
+        expect((part.outcome, part.usage, part.type_name, part.octets, part.opened_by) == (krb.Outcome.DECRYPTED, 14, "EncKrbCredPart", part_octets, "keys[0]"), "the part is another")
+        expect(part.keys_left_out == max(count - 1000, 0), "%d keys are left out" % part.keys_left_out)
+        decoded = krb.decode(message, keys=[(17, key)])["enc-part"]
+        expect(decoded.get("keys-not-tried", 0) == max(count - 1000, 0) and len(decoded["EncKrbCredPart"]["ticket-info"]) == count, "the tree has other keys")
+        expect(all(info["key"]["keyvalue"] == "hidden" for info in decoded["EncKrbCredPart"]["ticket-info"]), "a key is handed out")
 
 
 def rows_holding(text):
@@ -254,7 +356,7 @@ def try_hostile():
                 expect(all(line.isascii() and line.isprintable() for line in lines + [told[:-1]]), "%s shows %r" % (name, text))
                 expect(len(lines) == len(krb.text(plain, name, show_secrets=secrets).split("\n")), "%s has more lines of %r" % (name, text))
             (value,) = json.loads(told).values()
-            expect(agrees(krb.decode(row, name), value), "%s tells %r otherwise" % (name, text))
+            expect(agrees(krb.decode(row, name, show_keys=True), value), "%s tells %r otherwise" % (name, text))
             count += 1
     return count
 
@@ -270,6 +372,9 @@ def main():
     opened, kinds = try_opened(sys.argv[1]), try_kinds(sys.argv[1])
     expect(opened > 150 and kinds > 10, "only %d opened rows and %d files were tried" % (opened, kinds))
     print("opened: %d rows; files: %d" % (opened, kinds))
+    trees, parts = try_trees(sys.argv[1])
+    expect(trees > 100 and parts > 80, "only %d trees with %d parts were tried" % (trees, parts))
+    print("trees: %d rows with %d parts" % (trees, parts))
     return counted()
 
 

@@ -7,8 +7,9 @@ import threading
 from typing import FrozenSet, List, NamedTuple, Optional, Tuple
 
 from krb import crypto, gss
-from krb._items import Registry, Secret, _flags, decode
+from krb._items import Registry, Secret, _flags
 from krb._library import Octets, Refused, Status
+from krb._parts import decode
 from krb._window import Order, SequenceWindow
 
 __all__ = ["Context", "ContextFlag", "EncryptionKey", "OutOfOrder"]

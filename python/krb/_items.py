@@ -9,7 +9,7 @@ from typing import Any, Dict, FrozenSet, Iterator, List, NamedTuple, Optional, T
 
 from krb._library import Octets, Refused, Status, _library
 
-__all__ = ["Form", "Leaf", "Node", "Registry", "Role", "Item", "Secret", "items", "find", "find_item", "find_number", "decode", "first_error", "name_of", "type_of"]
+__all__ = ["Form", "Leaf", "Node", "Registry", "Role", "Item", "Secret", "items", "find", "find_item", "find_number", "first_error", "name_of", "type_of"]
 
 
 class Form(enum.IntEnum):
@@ -327,39 +327,3 @@ def _time(content: bytes) -> Any:
 
 
 _VALUES[Leaf.TIME] = _time
-
-
-_BY_NUMBER = {int(leaf): value for leaf, value in _VALUES.items()}
-_LEAF, _END, _STRUCT, _WRAP, _FLAGS = int(Form.LEAF), int(Form.END), int(Node.STRUCT), int(Node.WRAP), int(Leaf.FLAGS)
-
-
-def decode(octets: Octets, as_type: Optional[str] = None) -> Any:
-    """The tree of octets that are one element of the type, and without a type of the one that `type_of` tells: a dict of a SEQUENCE, by the names of its
-    fields; a list; an int, a bool, a str, a datetime of UTC, bytes, `Secret` of a key's octets; a frozenset of the names of the flags that are set, as "forwardable",
-    or "14" of flag 14 where it has no name; an OBJECT IDENTIFIER with dots. What stands in an explicit tag, or in an OCTET STRING that holds an element, is itself.
-
-    Refused: as `items`."""
-    octets = plain(octets)
-    names = _all_names()
-    around: Any = []
-    whole = around
-    outer: List[Any] = []  # the dicts and lists that are not at their end, but for the innermost
-    for offset, size, form, kind, name, registry in _records(octets, as_type, _FRONT):
-        if form == _LEAF:
-            content = octets[offset : offset + size]
-            value: Any = _flags(content, registry) if kind == _FLAGS else _BY_NUMBER[kind](content)
-        elif kind == _WRAP:
-            continue
-        elif form == _END:
-            around = outer.pop()
-            continue
-        else:
-            value = {} if kind == _STRUCT else []
-        if type(around) is dict:
-            around[names[name]] = value
-        else:
-            around.append(value)
-        if form != _LEAF:
-            outer.append(around)
-            around = value
-    return whole[0]

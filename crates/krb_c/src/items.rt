@@ -3,10 +3,11 @@
 ghost use Rattle.krb_c_calls.specs.Handing.{IsAnswered};
 ghost use Rattle.krb_c_calls.specs.Items.{IsItemAnswer, IsItemNumber, IsItemsAnswer, IsNameOf, IsNumberName, RefusesName, RefusesNumberName};
 ghost use Rattle.krb_c_calls.specs.Shown.{IsShown, RefusesShowing, secrets_of};
+ghost use Rattle.krb_c_pages.specs.Decoded.{IsDecodedAnswer, arrays};
 ghost use Rattle.krb_c_pages.specs.Pages.{IsPageText, RefusesPage};
 
 use krb_c_calls::items::ItemRecord;
-use krb_c_pages::{Opened, Opens, show_page};
+use krb_c_pages::{DecodedCounts, Opened, Opens, PartRecord, decode, show_page};
 use krb_show_any::{Everything, Kind, PageError, Pages};
 use std::alloc::Global;
 
@@ -23,6 +24,24 @@ pub extern "C" fn krb_items(
     ensures { IsItemsAnswer type_name.now octets.now items.old items.new count.new offset.new result }
 {
     krb_c_calls::items::items(alloc, type_name, octets, items, count, offset)
+}
+
+/// `krb_decode` of `krb.h`: these items, with what the keys of a keytab open in them.
+#[unsafe(no_mangle)]
+pub extern "C" fn krb_decode(
+    alloc: Global,
+    type_name: &[u8],
+    octets: &[u8],
+    keytab: &[u8],
+    items: &mut [ItemRecord],
+    parts: &mut [PartRecord],
+    out: &mut [u8],
+    decoded: &mut DecodedCounts,
+) -> u32
+    ensures { IsDecodedAnswer type_name.now octets.now keytab.now (arrays items.old parts.old out.old)
+        (arrays items.new parts.new out.new) decoded.new result }
+{
+    decode(alloc, type_name, octets, keytab, items, parts, out, decoded)
 }
 
 /// `krb_item_name` of `krb.h`: the name that items of this number have.

@@ -5,9 +5,10 @@ mod names;
 mod numbers;
 mod record;
 mod shown;
-mod walked;
+mod walks;
 
 pub use calls::{find, find_number, item_name, items};
 pub use names::number_name;
-pub use record::ItemRecord;
+pub use record::{ItemRecord, record_of};
 pub use shown::show;
+pub use walks::{WalkRefusal, walked};

@@ -1,2 +1,5 @@
 pub mod Refusals
 pub mod Pages
+pub mod Found
+pub mod Decoding
+pub mod Decoded

@@ -1,10 +1,13 @@
-//! The page that `jolmurig show` writes, as C asks for it: octets of any kind and a keytab in; a status and text or JSON out.
+//! The page that `jolmurig show` writes, as C asks for it: octets of any kind and a keytab in; a status and text or JSON out. Octets of a type as items, with what
+//! the keys of a keytab open in them.
 #![tactic(auto)]
 
+mod decoded;
 mod keys;
 mod opened;
 mod page;
 mod refusal;
 
+pub use decoded::{DecodedCounts, Decoding, PartRecord, decode};
 pub use opened::{Opened, Opens};
 pub use page::show_page;

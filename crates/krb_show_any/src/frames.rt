@@ -1,4 +1,4 @@
-//! Where the first error of a message in a frame of the GSS-API is (RFC 2743, 3.1; RFC 4121, 4.1).
+//! Messages in frames of the GSS-API (RFC 2743, 3.1; RFC 4121, 4.1), and where their first error is.
 
 ghost use Rattle.std.specs.Prelude.{◌≡◌, ◌++◌, List, ℕ, None, Some, length, IfOk, MatchOption};
 ghost use Rattle.krb_der_core.specs.Tlv.{tlv};
@@ -24,11 +24,11 @@ const SPNEGO: [u64; 7] = [1, 3, 6, 1, 5, 5, 2];
 #[derive(Clone, Copy)]
 pub(crate) struct Framed<'a> {
     /// How many octets stand before it.
-    start: usize,
+    pub(crate) start: usize,
     /// The name of its type in the table of `krb_schema`.
-    type_name: &'static str,
+    pub(crate) type_name: &'static str,
     /// It, up to the end of the frame.
-    message: &'a [u8],
+    pub(crate) message: &'a [u8],
 }
 
 /// The type of the message behind a token id (RFC 4121, 4.1).
@@ -90,7 +90,7 @@ fn frame_size(octets: &[u8]) -> usize
 }
 
 /// The message in the frame at the start of octets, if there is one of a type that the table has.
-fn framed_in(alloc: Global, octets: &[u8]) -> Result<Option<Framed<'_>>, AllocError>
+pub(crate) fn framed_in(alloc: Global, octets: &[u8]) -> Result<Option<Framed<'_>>, AllocError>
     ensures { IfOk result (λ found. MatchOption found (StandsNone octets.now) (StandsIn octets.now)) }
 {
     let Some((mechanism, inner)) = read_mechanism(alloc, octets)? else {

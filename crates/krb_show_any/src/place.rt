@@ -33,7 +33,7 @@ fn place_in(error: &PageError, walk: Walk) -> Option<usize>
 }
 
 /// Whether octets of a kind are a frame of the GSS-API (RFC 2743, 3.1).
-fn is_frame(kind: Kind, octets: &[u8]) -> bool
+pub(crate) fn is_frame(kind: Kind, octets: &[u8]) -> bool
     ensures { result ≡ is_frame kind octets.now }
 {
     match (kind, octets) {

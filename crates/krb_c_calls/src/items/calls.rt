@@ -8,7 +8,7 @@ use crate::call_error::{CallError, DONE, ROOM};
 use crate::handing::put;
 use crate::items::numbers::content_number;
 use crate::items::record::{ItemRecord, NO_ITEM, record_of};
-use crate::items::walked::{found, walked};
+use crate::items::walks::{found, walked};
 use krb_schema::{Form, Item, Leaf, content_of, name_of_number};
 use std::alloc::Global;
 

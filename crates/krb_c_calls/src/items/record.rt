@@ -165,7 +165,7 @@ fn name_number(name: &str) -> u32
 }
 
 /// An item as C has it.
-pub(crate) fn record_of(item: Item) -> ItemRecord
+pub fn record_of(item: Item) -> ItemRecord
     ensures { result ≡ record_of item }
 {
     ItemRecord {

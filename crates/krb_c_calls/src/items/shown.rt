@@ -7,7 +7,7 @@ ghost use Rattle.krb_c_calls.specs.Statuses.{refusal_status};
 
 use crate::call_error::CallError;
 use crate::handing::hand_out;
-use crate::items::walked::walked;
+use crate::items::walks::walked;
 use krb_schema::Item;
 use krb_show::{NoFormats, Page, Secrets, Token, json_of_page, push_items, text_of_page};
 use std::alloc::{AllocError, Global};

@@ -11,8 +11,10 @@ use std::alloc::Global;
 
 /// Why octets have no items, and how many octets stand before the first error.
 #[derive(Clone, Copy)]
-pub(crate) struct WalkRefusal {
+pub struct WalkRefusal {
+    /// Why.
     pub refusal: CallError,
+    /// How many octets stand before it.
     pub offset: usize,
 }
 
@@ -42,8 +44,9 @@ impl From<Fault> for WalkRefusal {
     }
 }
 
-/// The items of octets as an element of the type of this name.
-pub(crate) fn walked(
+/// The items of octets as an element of the type of this name. Refused: `Number` where no type has the name; else the first error of the octets from the
+/// left, with its place; `Memory` where an allocation failed.
+pub fn walked(
     alloc: Global,
     type_name: &[u8],
     octets: &[u8],
