@@ -17,7 +17,7 @@ use Rattle.krb_schema.specs.Leaves.{IsLeaf}
 use Rattle.krb_schema.specs.Named.{IsKerberos, field_row}
 use Rattle.krb_schema.specs.declared.shape.Shape.TheVariants as shape
 use Rattle.krb_schema.specs.Shapes.{AreFields, Begins, IsElement, IsRange, IsShaped, absent, bare, is_first, no_fields, part, wrapped}
-use Rattle.krb_schema.specs.Types.{fields, shapes}
+use Rattle.krb_schema.specs.Types.{fields as all_fields, shapes}
 
 -- a list that is mapped to one with a first element has one
 pub first_of : {X Y : Type 0} (g : X → Y) (xs : List X) (y : Y) (ys : List Y) → map g xs ≡ y ∷ ys
@@ -219,30 +219,5 @@ module _ (schema : Schema) (kerberos : IsKerberos schema) (levels : ℕ) where
 
 -- ---- fields of the table
 
-pub in_range : (schema : Schema) (start count : ℕ) → IsKerberos schema → start + count ≤ length fields → IsRange start count schema.fields.now
+pub in_range : (schema : Schema) (start count : ℕ) → IsKerberos schema → start + count ≤ length all_fields → IsRange start count schema.fields.now
 in_range schema start count k h = subst (λ (n : ℕ). start + count ≤ n) (sym (ap length k.parts) ∙ length-map schema.fields.now field_row) h
-
-pub record Three (schema : Schema) (start : ℕ) (r0 r1 r2 : Row) : Type 0 where
-  pub first : Field
-  pub second : Field
-  pub third : Field
-  pub are : part start 3 schema.fields.now ≡ first ∷ second ∷ third ∷ []
-  pub first_row : field_row first ≡ r0
-  pub second_row : field_row second ≡ r1
-  pub third_row : field_row third ≡ r2
-
-pub three_fields : (schema : Schema) (start : ℕ) (r0 r1 r2 : Row) → IsKerberos schema → part start 3 fields ≡ r0 ∷ r1 ∷ r2 ∷ [] → Three schema start r0 r1 r2
-three_fields schema start r0 r1 r2 k e =
-    let mapped = part_map field_row start 3 schema.fields.now ∙ ap (part start 3) k.parts ∙ e in
-    let a = first_of field_row (part start 3 schema.fields.now) r0 (r1 ∷ r2 ∷ []) mapped in
-    let b = first_of field_row a.1 r1 (r2 ∷ []) a.4 in
-    let c = first_of field_row b.1 r2 [] b.4 in
-    record {
-      first = a.0;
-      second = b.0;
-      third = c.0;
-      are = a.2 ∙ ap (λ (l : List Field). a.0 ∷ l) (b.2 ∙ ap (λ (l : List Field). b.0 ∷ l) (c.2 ∙ ap (λ (l : List Field). c.0 ∷ l) (last_of field_row c.1 c.4)));
-      first_row = a.3;
-      second_row = b.3;
-      third_row = c.3;
-    }
