@@ -1,8 +1,10 @@
 //! Whether a client takes a reply.
 //!
-//! A row is a name, a key usage, an encryption type, the octets of a key, and a reply. Key usage 0 is that of a KRB-ERROR. Behind the reply of a KDC (3, 8, 9) stand the
-//! clock, client, server, from, till and rtime (`-` where not asked for), the nonce, the flags and the encryption types that were asked for; behind an AP-REP (12) the time
-//! and the microseconds that were sent. For each row it prints what is granted, confirmed or reported, or the rule that the reply breaks.
+//! A row is a name, a key usage, an encryption type, the octets of a key, and a reply. Key usage 0
+//! is that of a KRB-ERROR. Behind the reply of a KDC (3, 8, 9) stand the clock, client, server,
+//! from, till and rtime (`-` where not asked for), the nonce, the flags and the encryption types
+//! that were asked for; behind an AP-REP (12) the time and the microseconds that were sent. For
+//! each row it prints what is granted, confirmed or reported, or the rule that the reply breaks.
 
 use krb_client_replies::{
     Asked, Clock, Granted, Key, ReplyError, Sent, check_ap_rep, check_as_rep, check_tgs_rep,
