@@ -77,9 +77,11 @@ fn confirmed<M: Der + Numbered + ApReply + Drop, P: Der + ApPart + Drop>(
     key: &Key,
     octets: &[u8],
 ) -> Result<EncApRepPartInner, ReplyError>
-    ensures found { IfOk result (IsConfirmed (ap_form ⟦<M as DerEncode>⟧ M.numbers M.content ⟦<P as DerEncode>⟧ P.content)
+    ensures found { IfOk result
+        (IsConfirmed (ap_form ⟦<M as DerEncode>⟧ M.numbers M.content ⟦<P as DerEncode>⟧ P.content)
         sent.now key.now octets.now) }
-    ensures rejected { IfErr result (IsNotConfirmed (ap_form ⟦<M as DerEncode>⟧ M.numbers M.content ⟦<P as DerEncode>⟧ P.content)
+    ensures rejected { IfErr result
+        (IsNotConfirmed (ap_form ⟦<M as DerEncode>⟧ M.numbers M.content ⟦<P as DerEncode>⟧ P.content)
         sent.now key.now octets.now) }
 {
     let message: M = message_of(alloc, AP_REP_MSG_TYPE, octets)?;
@@ -93,19 +95,21 @@ fn confirmed<M: Der + Numbered + ApReply + Drop, P: Der + ApPart + Drop>(
     Ok(part.into_content())
 }
 
-/// The part of an AP-REP, which is under the session key of the ticket, key usage 12, and has the time of the authenticator that was sent
-/// (RFC 4120, 3.2.5).
+/// The part of an AP-REP, which is under the session key of the ticket, key usage 12, and has the
+/// time of the authenticator that was sent (RFC 4120, 3.2.5).
 ///
-/// Else the error is that of the first rule that the octets break, in the order of `ReplyError`; of `Mismatch`, it is `EncryptionType` or
-/// `Time`.
+/// Else the error is that of the first rule that the octets break, in the order of `ReplyError`; of
+/// `Mismatch`, it is `EncryptionType` or `Time`.
 pub fn check_ap_rep(
     alloc: Global,
     sent: &Sent,
     key: &Key,
     octets: &[u8],
 ) -> Result<EncApRepPartInner, ReplyError>
-    ensures found { IfOk result (IsConfirmed (ap_rep_form ⟦<ApRep as DerEncode>⟧ ⟦<EncApRepPart as DerEncode>⟧) sent.now key.now octets.now) }
-    ensures rejected { IfErr result (IsNotConfirmed (ap_rep_form ⟦<ApRep as DerEncode>⟧ ⟦<EncApRepPart as DerEncode>⟧) sent.now key.now octets.now) }
+    ensures found { IfOk result
+        (IsConfirmed (ap_rep_form ⟦<ApRep as DerEncode>⟧ ⟦<EncApRepPart as DerEncode>⟧) sent.now key.now octets.now) }
+    ensures rejected { IfErr result
+        (IsNotConfirmed (ap_rep_form ⟦<ApRep as DerEncode>⟧ ⟦<EncApRepPart as DerEncode>⟧) sent.now key.now octets.now) }
 {
     confirmed::<ApRep, EncApRepPart>(alloc, sent, key, octets)
 }

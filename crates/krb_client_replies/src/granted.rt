@@ -26,8 +26,8 @@ pub struct Granted {
     pub part: EncKdcRepPart,
 }
 
-/// What these octets grant to who asked, as a message of this msg-type with a part of this key usage;
-/// `initial` says that it is an AS-REP.
+/// What these octets grant to who asked, as a message of this msg-type with a part of this key
+/// usage; `initial` says that it is an AS-REP.
 fn checked<M: Der + Numbered + KdcReply + Drop, P: Der + ReplyPart + Drop>(
     alloc: Global,
     number: u8,
@@ -40,7 +40,8 @@ fn checked<M: Der + Numbered + KdcReply + Drop, P: Der + ReplyPart + Drop>(
 ) -> Result<Granted, ReplyError>
     ensures found { IfOk result (IsGranted (form ⟦<M as DerEncode>⟧ M.numbers M.content ⟦<P as DerEncode>⟧ P.content
         number usage initial) asked.now clock.now key.now octets.now) }
-    ensures rejected { IfErr result (IsNotGranted (form ⟦<M as DerEncode>⟧ M.numbers M.content ⟦<P as DerEncode>⟧ P.content
+    ensures rejected { IfErr result
+        (IsNotGranted (form ⟦<M as DerEncode>⟧ M.numbers M.content ⟦<P as DerEncode>⟧ P.content
         number usage initial) asked.now clock.now key.now octets.now) }
 {
     let message: M = message_of(alloc, number, octets)?;
@@ -59,7 +60,8 @@ fn checked<M: Der + Numbered + KdcReply + Drop, P: Der + ReplyPart + Drop>(
 
 /// Whether what was opened is no part of this tag.
 fn is_no_part(error: &ReplyError) -> bool
-    ensures { MatchBool result ((why : Asn1DerError) × (error.now ≡ ReplyError.Opening (PartError.Der why))) (IsNotOfTag error.now) }
+    ensures { MatchBool result
+        ((why : Asn1DerError) × (error.now ≡ ReplyError.Opening (PartError.Der why))) (IsNotOfTag error.now) }
 {
     match error {
         ReplyError::Opening(PartError::Der(_)) => true,
@@ -67,10 +69,12 @@ fn is_no_part(error: &ReplyError) -> bool
     }
 }
 
-/// What an AS-REP grants (RFC 4120, 3.1.5): its part is under the client's key, key usage 3. The part has the tag 25 (EncASRepPart) or 26
-/// (EncTGSRepPart), as KDCs send it (RFC 4120, 5.4.2, the note on EncASRepPart).
+/// What an AS-REP grants (RFC 4120, 3.1.5): its part is under the client's key, key usage 3. The
+/// part has the tag 25 (EncASRepPart) or 26 (EncTGSRepPart), as KDCs send it (RFC 4120, 5.4.2, the
+/// note on EncASRepPart).
 ///
-/// Else the error is that of the first rule that the octets break, in the order of `ReplyError` and, within it, of `Mismatch`.
+/// Else the error is that of the first rule that the octets break, in the order of `ReplyError`
+/// and, within it, of `Mismatch`.
 pub fn check_as_rep(
     alloc: Global,
     asked: &Asked,
@@ -78,9 +82,11 @@ pub fn check_as_rep(
     key: &Key,
     octets: &[u8],
 ) -> Result<Granted, ReplyError>
-    ensures found { IfOk result (IsFirstGranted ⟦<AsRep as DerEncode>⟧ ⟦<EncAsRepPart as DerEncode>⟧ ⟦<EncTgsRepPart as DerEncode>⟧
+    ensures found { IfOk result
+        (IsFirstGranted ⟦<AsRep as DerEncode>⟧ ⟦<EncAsRepPart as DerEncode>⟧ ⟦<EncTgsRepPart as DerEncode>⟧
         asked.now clock.now key.now octets.now) }
-    ensures rejected { IfErr result (IsFirstRefused ⟦<AsRep as DerEncode>⟧ ⟦<EncAsRepPart as DerEncode>⟧ ⟦<EncTgsRepPart as DerEncode>⟧
+    ensures rejected { IfErr result
+        (IsFirstRefused ⟦<AsRep as DerEncode>⟧ ⟦<EncAsRepPart as DerEncode>⟧ ⟦<EncTgsRepPart as DerEncode>⟧
         asked.now clock.now key.now octets.now) }
 {
     let number = AS_REP_MSG_TYPE;
@@ -100,10 +106,12 @@ pub fn check_as_rep(
     }
 }
 
-/// What a TGS-REP grants (RFC 4120, 3.3.4): its part is under the session key of the ticket-granting ticket, key usage 8, or, where the
-/// request had a subkey, under that, key usage 9.
+/// What a TGS-REP grants (RFC 4120, 3.3.4): its part is under the session key of the
+/// ticket-granting ticket, key usage 8, or, where the request had a subkey, under that, key usage
+/// 9.
 ///
-/// Else the error is that of the first rule that the octets break, in the order of `ReplyError` and, within it, of `Mismatch`.
+/// Else the error is that of the first rule that the octets break, in the order of `ReplyError`
+/// and, within it, of `Mismatch`.
 pub fn check_tgs_rep(
     alloc: Global,
     asked: &Asked,
@@ -112,9 +120,11 @@ pub fn check_tgs_rep(
     is_subkey: bool,
     octets: &[u8],
 ) -> Result<Granted, ReplyError>
-    ensures found { IfOk result (IsGranted (tgs_form ⟦<TgsRep as DerEncode>⟧ ⟦<EncTgsRepPart as DerEncode>⟧ (tgs_usage is_subkey))
+    ensures found { IfOk result
+        (IsGranted (tgs_form ⟦<TgsRep as DerEncode>⟧ ⟦<EncTgsRepPart as DerEncode>⟧ (tgs_usage is_subkey))
         asked.now clock.now key.now octets.now) }
-    ensures rejected { IfErr result (IsNotGranted (tgs_form ⟦<TgsRep as DerEncode>⟧ ⟦<EncTgsRepPart as DerEncode>⟧ (tgs_usage is_subkey))
+    ensures rejected { IfErr result
+        (IsNotGranted (tgs_form ⟦<TgsRep as DerEncode>⟧ ⟦<EncTgsRepPart as DerEncode>⟧ (tgs_usage is_subkey))
         asked.now clock.now key.now octets.now) }
 {
     let number = TGS_REP_MSG_TYPE;

@@ -1,7 +1,8 @@
-//! Replies of a KDC and of a server, read, opened and checked by a client against what it asked (RFC 4120, 3.1.5, 3.2.5 and 3.3.4).
+//! Replies of a KDC and of a server, read, opened and checked by a client against what it asked
+//! (RFC 4120, 3.1.5, 3.2.5 and 3.3.4).
 //!
-//! Nothing here opens a socket or reads a clock: octets and a time come in, and a ticket with its session key, or the first rule that the
-//! reply breaks, goes out.
+//! Nothing here opens a socket or reads a clock: octets and a time come in, and a ticket with its
+//! session key, or the first rule that the reply breaks, goes out.
 #![tactic(auto)]
 
 mod confirmed;

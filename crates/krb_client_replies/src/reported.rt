@@ -43,7 +43,8 @@ fn report_of(message: KrbErrorInner) -> Reported
     }
 }
 
-/// The error that these octets report, where they are the one encoding of a KRB-ERROR (RFC 4120, 5.9.1).
+/// The error that these octets report, where they are the one encoding of a KRB-ERROR (RFC 4120,
+/// 5.9.1).
 ///
 /// Else the error is that of the first rule that the octets break, in the order of `ReplyError`.
 pub fn read_error(alloc: Global, octets: &[u8]) -> Result<Reported, ReplyError>

@@ -3,8 +3,8 @@
 use krb_crypto::CipherSuite;
 use krb_types::data_types::{PrincipalName, Realm};
 
-/// What a client asked a KDC for, as the reply has to answer it (RFC 4120, 3.1.5 and 3.3.4). It asks
-/// for a ticket with no addresses.
+/// What a client asked a KDC for, as the reply has to answer it (RFC 4120, 3.1.5 and 3.3.4). It
+/// asks for a ticket with no addresses.
 #[derive(Debug, Drop)]
 pub struct Asked {
     /// The realm of the client whom the ticket is to name.
@@ -23,7 +23,8 @@ pub struct Asked {
     pub till: i64,
     /// Until when the ticket is to be renewable (`rtime`; RFC 4120, 5.4.1), in seconds since 1
     /// January 1970, 00:00:00 UTC; 0 and `None` where as long as the KDC allows. Where RENEWABLE-OK
-    /// alone is asked for, this is `till`; where a ticket is renewed, the renew-till of that ticket.
+    /// alone is asked for, this is `till`; where a ticket is renewed, the renew-till of that
+    /// ticket.
     pub rtime: Option<i64>,
     /// The number that the reply repeats.
     pub nonce: u32,

@@ -1,5 +1,5 @@
-//! What a reply has to say to a client that asked (RFC 4120, 3.1.5, 3.2.5 and 3.3.4): rules over the fields of messages and their order,
-//! without cryptography.
+//! What a reply has to say to a client that asked (RFC 4120, 3.1.5, 3.2.5 and 3.3.4): rules over
+//! the fields of messages and their order, without cryptography.
 #![tactic(auto)]
 
 mod asked;

@@ -36,7 +36,8 @@ pub enum Mismatch {
     /// starttime, or authtime where it is absent (RFC 4120, 3.1.3 and 5.3).
     #[error("the ticket is not valid from the time that was asked for")]
     Start,
-    /// endtime is after the time that was asked for, or before the ticket's start (RFC 4120, 3.1.3).
+    /// endtime is after the time that was asked for, or before the ticket's start (RFC 4120,
+    /// 3.1.3).
     #[error("the ticket is not valid until a time that was asked for")]
     End,
     /// renew-till is there and RENEWABLE is not set, or it is after the time that was asked for

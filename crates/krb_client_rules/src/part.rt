@@ -133,8 +133,8 @@ fn has_no_address(addresses: &Optional<Option<ExplicitContextTag11<HostAddresses
     }
 }
 
-/// Whether the part repeats the nonce, is of the server, and has a session key of an encryption type
-/// that was asked for; else the first rule that it breaks.
+/// Whether the part repeats the nonce, is of the server, and has a session key of an encryption
+/// type that was asked for; else the first rule that it breaks.
 fn check_identity<P: ReplyPart>(part: &P, asked: &Asked, clock: &Clock) -> Result<(), Mismatch>
     ensures kept { OnOk result (Keeps (PartRule asked.now clock.now (P.content part.now)) identity_order) }
     ensures broken { IfErr result (BreaksFirst (PartRule asked.now clock.now (P.content part.now)) identity_order) }

@@ -17,7 +17,8 @@ const RENEWABLE: usize = 8;
 
 /// Whether a ticket is valid from the time that was asked for.
 fn starts_in_time(asked: &Asked, clock: &Clock, start: &KerberosTime) -> bool
-    ensures { MatchBool result (StartsInTime asked.now clock.now start.now) (StartsInTime asked.now clock.now start.now → ⊥) }
+    ensures { MatchBool result
+        (StartsInTime asked.now clock.now start.now) (StartsInTime asked.now clock.now start.now → ⊥) }
 {
     is_within(clock.skew, unix_seconds(start), begin_of(asked, clock))
 }
@@ -46,7 +47,8 @@ fn is_renewal(
     }
 }
 
-/// Whether the times of the part are those that were asked for; else the first rule that they break.
+/// Whether the times of the part are those that were asked for; else the first rule that they
+/// break.
 pub(crate) fn check_times<P: ReplyPart>(
     part: &P,
     asked: &Asked,

@@ -100,7 +100,8 @@ impl<const N: u8> KdcReply for ApplicationTag<KdcRep, N> {
 
 /// Whether the reply is for the client that was asked for.
 fn is_for_client<M: KdcReply>(message: &M, asked: &Asked) -> bool
-    ensures { MatchBool result (IsForClient asked.now (M.content message.now)) (IsForClient asked.now (M.content message.now) → ⊥) }
+    ensures { MatchBool result
+        (IsForClient asked.now (M.content message.now)) (IsForClient asked.now (M.content message.now) → ⊥) }
 {
     is_same_realm(message.crealm(), &asked.crealm) && is_same_name(message.cname(), &asked.cname)
 }
@@ -112,10 +113,10 @@ fn is_asked_of(initial: bool, suites: &[CipherSuite], etype: &IntegerAsn1) -> bo
     !initial || is_asked_for(suites, etype)
 }
 
-/// Whether a reply of a KDC keeps the rules that need no key, `Client` to `EncryptionType`; else the
-/// first that it breaks. `etype` is the encryption type of the key that its part has to be under.
-/// `initial` says that it is an AS-REP: the part of a TGS-REP is under a key that the client named
-/// in its request, of whatever encryption type (RFC 4120, 3.3.3).
+/// Whether a reply of a KDC keeps the rules that need no key, `Client` to `EncryptionType`; else
+/// the first that it breaks. `etype` is the encryption type of the key that its part has to be
+/// under. `initial` says that it is an AS-REP: the part of a TGS-REP is under a key that the client
+/// named in its request, of whatever encryption type (RFC 4120, 3.3.3).
 pub fn is_expected<M: KdcReply>(
     message: &M,
     asked: &Asked,

@@ -1,8 +1,10 @@
 //! Whether a client takes a reply.
 //!
-//! A row is a name, a key usage, an encryption type, the octets of a key, and a reply. Key usage 0 is that of a KRB-ERROR. Behind the reply of a KDC (3, 8, 9) stand the
-//! clock, client, server, from, till and rtime (`-` where not asked for), the nonce, the flags and the encryption types that were asked for; behind an AP-REP (12) the time
-//! and the microseconds that were sent. For each row it prints what is granted, confirmed or reported, or the rule that the reply breaks.
+//! A row is a name, a key usage, an encryption type, the octets of a key, and a reply. Key usage 0
+//! is that of a KRB-ERROR. Behind the reply of a KDC (3, 8, 9) stand the clock, client, server,
+//! from, till and rtime (`-` where not asked for), the nonce, the flags and the encryption types
+//! that were asked for; behind an AP-REP (12) the time and the microseconds that were sent. For
+//! each row it prints what is granted, confirmed or reported, or the rule that the reply breaks.
 
 use krb_client_replies::{
     Asked, Clock, Granted, Key, ReplyError, Sent, check_ap_rep, check_as_rep, check_tgs_rep,
@@ -90,28 +92,62 @@ fn suites_of(alloc: Global, numbers: &[usize]) -> Result<Vec<CipherSuite>, RowEr
     Ok(suites)
 }
 
-/// What the columns say was asked for, behind the clock.
-fn asked_of(alloc: Global, columns: &mut Columns<'_>) -> Result<Asked, RowError> {
-    let client = principal_of(alloc, columns.text()?)?;
-    let server = principal_of(alloc, columns.text()?)?;
+/// What the columns say was asked for, but the names and the lists.
+#[derive(Clone, Copy)]
+struct Numbers {
+    from: Option<i64>,
+    till: i64,
+    rtime: Option<i64>,
+    nonce: u32,
+}
+
+/// The numbers of what was asked for, which stand behind the names.
+fn numbers_in(columns: &mut Columns<'_>) -> Result<Numbers, RowError> {
     let from = number_if_any(columns.text()?)?;
     let till = columns.number::<i64>()?;
     let rtime = number_if_any(columns.text()?)?;
     let nonce = columns.number::<u32>()?;
-    let flags = numbers_of(alloc, columns.text()?)?;
-    let numbers = numbers_of(alloc, columns.text()?)?;
-    Ok(Asked {
-        crealm: client.realm,
-        cname: client.name,
-        realm: server.realm,
-        sname: server.name,
+    Ok(Numbers {
         from,
         till,
         rtime,
         nonce,
-        flags,
-        etypes: suites_of(alloc, &numbers)?,
     })
+}
+
+/// What was asked for, of its parts.
+fn asked_with(
+    client: Principal,
+    server: Principal,
+    numbers: Numbers,
+    flags: Vec<usize>,
+    etypes: Vec<CipherSuite>,
+) -> Asked {
+    Asked {
+        crealm: client.realm,
+        cname: client.name,
+        realm: server.realm,
+        sname: server.name,
+        from: numbers.from,
+        till: numbers.till,
+        rtime: numbers.rtime,
+        nonce: numbers.nonce,
+        flags,
+        etypes,
+    }
+}
+
+/// What the columns say was asked for, behind the clock.
+fn asked_of(alloc: Global, columns: &mut Columns<'_>) -> Result<Asked, RowError> {
+    let client = columns.text()?;
+    let server = columns.text()?;
+    let numbers = numbers_in(columns)?;
+    let flags = numbers_of(alloc, columns.text()?)?;
+    let etypes = numbers_of(alloc, columns.text()?)?;
+    let suites = suites_of(alloc, &etypes)?;
+    let client = principal_of(alloc, client)?;
+    let server = principal_of(alloc, server)?;
+    Ok(asked_with(client, server, numbers, flags, suites))
 }
 
 /// The rule that is broken.
@@ -141,6 +177,30 @@ fn granted(alloc: Global, granted: &Granted) -> Result<String, AllocError> {
     format!(in alloc; "granted for {server}, key {number}:{octets}")
 }
 
+/// What is printed of an answer.
+fn answered(alloc: Global, answer: Result<Granted, ReplyError>) -> Result<String, AllocError> {
+    match answer {
+        Ok(ticket) => granted(alloc, &ticket),
+        Err(error) => refused(alloc, &error),
+    }
+}
+
+/// What a client takes from a KDC's reply.
+fn checked(
+    alloc: Global,
+    usage: u32,
+    key: &Key,
+    reply: &[u8],
+    clock: &Clock,
+    asked: &Asked,
+) -> Result<Granted, ReplyError> {
+    if usage == 3 {
+        check_as_rep(alloc, asked, clock, key, reply)
+    } else {
+        check_tgs_rep(alloc, asked, clock, key, usage == 9, reply)
+    }
+}
+
 /// What is printed of a KDC's reply.
 fn kdc_text(
     alloc: Global,
@@ -154,15 +214,8 @@ fn kdc_text(
         skew: SKEW,
     };
     let asked = asked_of(alloc, columns)?;
-    let answered = if usage == 3 {
-        check_as_rep(alloc, &asked, &clock, key, reply)
-    } else {
-        check_tgs_rep(alloc, &asked, &clock, key, usage == 9, reply)
-    };
-    match answered {
-        Ok(ticket) => Ok(granted(alloc, &ticket)?),
-        Err(error) => Ok(refused(alloc, &error)?),
-    }
+    let text = answered(alloc, checked(alloc, usage, key, reply, &clock, &asked))?;
+    Ok(text)
 }
 
 /// What is printed of an AP-REP.
