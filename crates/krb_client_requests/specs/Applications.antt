@@ -74,7 +74,7 @@ IsNoAuthenticator s e =
 
 -- mutual-required is option 2 (RFC 4120, 5.5.1)
 abbrev pub options_of : Bool → List ℕ
-options_of mutual = if mutual then 2 ∷ [] else []
+options_of mutual_required = if mutual_required then 2 ∷ [] else []
 
 -- AP-REQ: version 5, type 14
 abbrev pub ap_req_of : Bits → TicketInner → EncryptedData → ApReqInner
@@ -82,11 +82,11 @@ ap_req_of options ticket part = record { pvno = pos 5; msg_type = pos 14; ap_opt
 
 -- The octets are the one encoding of an AP-REQ with this ticket, in which this authenticator is sealed under the key for this usage.
 pub record IsApMessage (requests : EncodingOf ApReqInner) (authenticators : EncodingOf AuthenticatorInner) (ticket : TicketInner) (k : SuiteKey) (usage : ℤ)
-    (mutual : Bool) (a : AuthenticatorInner) (confounder octets : List ℕ) : Type 0 where
+    (mutual_required : Bool) (a : AuthenticatorInner) (confounder octets : List ℕ) : Type 0 where
   pub part : EncryptedData
   pub is_sealed : IsSealedPart authenticators k usage confounder a part
   pub options : Bits
-  pub are_options : AreFlags (options_of mutual) options
+  pub are_options : AreFlags (options_of mutual_required) options
   pub valid : requests.is_value (ap_req_of options ticket part)
   pub encodes : octets ≡ requests.enc (ap_req_of options ticket part)
 
@@ -98,7 +98,7 @@ number n = to_le_bytes w32 n
 
 -- the checksum 0x8003: the length 16, the MD5 of the channel bindings, and the flags (RFC 4121, 4.1.1)
 abbrev pub gss_checksum : GssChecksum → Checksum
-gss_checksum g = checksum_value (pos 0x8003) (number 16 ++ g.bindings.now ++ number g.flags)
+gss_checksum g = checksum_value (pos 0x8003) (number 16 ++ g.bindings ++ number g.flags)
 
 abbrev pub optional_gss : Option GssChecksum → Option Checksum
 optional_gss None = None
@@ -115,11 +115,11 @@ DelegatesNot (Some g) = g.flags % 2 ≡ 0
 
 -- an AP-REQ (key usage 11) with an authenticator of this client
 pub record IsApRequest (requests : EncodingOf ApReqInner) (authenticators : EncodingOf AuthenticatorInner) (ticket : TicketInner) (k : SuiteKey)
-    (gss : Option GssChecksum) (mutual : Bool) (s : Sender) (confounder octets : List ℕ) : Type 0 where
+    (gss : Option GssChecksum) (mutual_required : Bool) (s : Sender) (confounder octets : List ℕ) : Type 0 where
   pub no_delegation : DelegatesNot gss
   pub authenticator : AuthenticatorInner
   pub is_authenticator : IsAuthenticator s (optional_gss gss) authenticator
-  pub is_message : IsApMessage requests authenticators ticket k (pos 11) mutual authenticator confounder octets
+  pub is_message : IsApMessage requests authenticators ticket k (pos 11) mutual_required authenticator confounder octets
 
 -- why there is none: the flag of delegation; else the authenticator; else its sealing
 abbrev pub IsNoApRequest : SuiteKey → Option GssChecksum → Sender → List ℕ → RequestError → Type 0

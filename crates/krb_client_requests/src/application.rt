@@ -24,9 +24,9 @@ use std::alloc::Global;
 
 /// What the checksum 0x8003 of the GSS-API says (RFC 4121, 4.1.1).
 #[derive(Debug, Drop, Clone, Copy)]
-pub struct GssChecksum<'a> {
+pub struct GssChecksum {
     /// The MD5 of the channel bindings; zeros, where there are none.
-    pub bindings: &'a [u8; 16],
+    pub bindings: [u8; 16],
     /// The flags of the context: 2 for mutual authentication, 4 for replay, 8 for sequence, 16 for confidentiality, 32 for integrity. The flag
     /// of delegation, 1, is not set.
     pub flags: u32,
@@ -40,16 +40,16 @@ pub struct ApRequest<'a> {
     /// Its session key.
     pub session: LentKey<'a>,
     /// The checksum of the GSS-API; `None` for none.
-    pub gss: Option<GssChecksum<'a>>,
+    pub gss: Option<GssChecksum>,
     /// Whether the service is to answer by an AP-REP: mutual-required (RFC 4120, 5.5.1).
-    pub mutual: bool,
+    pub mutual_required: bool,
 }
 
 /// The options of an AP-REQ.
-fn options_of(alloc: Global, mutual: bool) -> Result<ApOptions, RequestError>
-    ensures { MatchResult result (AreFlags (options_of mutual)) (λ e. e ≡ errors.OutOfMemory) }
+fn options_of(alloc: Global, mutual_required: bool) -> Result<ApOptions, RequestError>
+    ensures { MatchResult result (AreFlags (options_of mutual_required)) (λ e. e ≡ errors.OutOfMemory) }
 {
-    let options: &[usize] = if mutual { &[2] } else { &[] };
+    let options: &[usize] = if mutual_required { &[2] } else { &[] };
     match flags_of(alloc, options) {
         Ok(flags) => Ok(flags),
         Err(_error) => Err(RequestError::OutOfMemory),
@@ -81,14 +81,14 @@ fn ap_req_of(
 fn message(
     alloc: Global,
     ticket: &Ticket,
-    mutual: bool,
+    mutual_required: bool,
     part: EncryptedData,
 ) -> Result<ApReq, RequestError>
-    ensures { MatchResult result (λ m. AreFlags (options_of mutual) m.ap_options × (m ≡ ap_req_of m.ap_options ticket.now part)) (λ e. e ≡ errors.OutOfMemory) }
+    ensures { MatchResult result (λ m. AreFlags (options_of mutual_required) m.ap_options × (m ≡ ap_req_of m.ap_options ticket.now part)) (λ e. e ≡ errors.OutOfMemory) }
 {
     let pvno = integer_of(alloc, 5)?;
     let msg_type = integer_of(alloc, 14)?;
-    let options = options_of(alloc, mutual)?;
+    let options = options_of(alloc, mutual_required)?;
     let ticket = copy_of(alloc, ticket)?;
     Ok(ap_req_of(pvno, msg_type, options, ticket, part))
 }
@@ -99,16 +99,16 @@ pub(crate) fn ap_message(
     ticket: &Ticket,
     key: &LentKey,
     usage: i32,
-    mutual: bool,
+    mutual_required: bool,
     value: &Authenticator,
     confounder: &[u8],
 ) -> Result<Vec<u8>, RequestError>
-    ensures made { IfOk result (λ octets. IsApMessage ⟦<ApReq as DerEncode>⟧ ⟦<Authenticator as DerEncode>⟧ ticket.now (key_of key.now) usage mutual
+    ensures made { IfOk result (λ octets. IsApMessage ⟦<ApReq as DerEncode>⟧ ⟦<Authenticator as DerEncode>⟧ ticket.now (key_of key.now) usage mutual_required
         value.now confounder.now octets.items) }
     ensures rejected { IfErr result (λ e. IsMemoryOr e (IsNotSealed (key_of key.now) confounder.now e)) }
 {
     let part = sealed(alloc, key, usage, confounder, value)?;
-    let message = message(alloc, ticket, mutual, part)?;
+    let message = message(alloc, ticket, mutual_required, part)?;
     encoding(alloc, &message)
 }
 
@@ -127,7 +127,7 @@ fn gss_checksum(alloc: Global, gss: &GssChecksum) -> Result<Checksum, RequestErr
     ensures { MatchResult result (λ c. c ≡ gss_checksum gss.now) (λ e. e ≡ errors.OutOfMemory) }
 {
     let mut octets = Vec::from_slice(alloc, &16u32.to_le_bytes())?;
-    octets.extend_from_slice(gss.bindings)?;
+    octets.extend_from_slice(&gss.bindings)?;
     octets.extend_from_slice(&gss.flags.to_le_bytes())?;
     let number = integer_of(alloc, 0x8003)?;
     Ok(checksum_value(number, octets))
@@ -156,7 +156,7 @@ pub fn ap_request(
     confounder: &[u8],
 ) -> Result<Vec<u8>, RequestError>
     ensures made { IfOk result (λ octets. IsApRequest ⟦<ApReq as DerEncode>⟧ ⟦<Authenticator as DerEncode>⟧ request.now.ticket.now
-        (key_of request.now.session) request.now.gss request.now.mutual sender.now confounder.now octets.items) }
+        (key_of request.now.session) request.now.gss request.now.mutual_required sender.now confounder.now octets.items) }
     ensures rejected { IfErr result (λ e. IsMemoryOr e (IsNoApRequest (key_of request.now.session) request.now.gss sender.now confounder.now e)) }
 {
     if delegates(&request.gss) {
@@ -169,7 +169,7 @@ pub fn ap_request(
         request.ticket,
         &request.session,
         11,
-        request.mutual,
+        request.mutual_required,
         &value,
         confounder,
     )

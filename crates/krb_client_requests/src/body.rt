@@ -6,12 +6,12 @@ ghost use Rattle.krb_client_requests.specs.Errors.{IsMemoryOr};
 ghost use Rattle.krb_client_requests.specs.declared.error.RequestError.TheVariants as errors;
 
 use crate::error::RequestError;
-use crate::fields::{copy_of, field, flags_of, integer_of, time_of, time_option_of};
+use crate::fields::{copy_of, encoding, field, flags_of, integer_of, time_of, time_option_of};
 use krb_crypto::CipherSuite;
 use krb_der::{
-    Asn1SequenceOf, ExplicitContextTag0, ExplicitContextTag1, ExplicitContextTag2,
-    ExplicitContextTag4, ExplicitContextTag5, ExplicitContextTag7, ExplicitContextTag8,
-    IntegerAsn1, Optional,
+    ApplicationTag, Asn1SequenceOf, DerEncode, ExplicitContextTag0, ExplicitContextTag1,
+    ExplicitContextTag2, ExplicitContextTag4, ExplicitContextTag5, ExplicitContextTag7,
+    ExplicitContextTag8, IntegerAsn1, Optional,
 };
 use krb_messages::messages::{KdcReq, KdcReqBody};
 use krb_types::data_types::{KerberosFlags, KerberosTime, PaData, PrincipalName, Realm};
@@ -105,7 +105,9 @@ pub(crate) fn body(
     let etypes = numbers_of(alloc, want.etypes)?;
     let realm = copy_of(alloc, want.realm)?;
     let sname = copy_of(alloc, want.sname)?;
-    Ok(body_of(options, cname, realm, sname, from, till, rtime, nonce, etypes))
+    Ok(body_of(
+        options, cname, realm, sname, from, till, rtime, nonce, etypes,
+    ))
 }
 
 /// The request of this type with this body (RFC 4120, 5.4.1): version 5.
@@ -126,7 +128,7 @@ fn request_of(
 }
 
 /// The same, with the numbers.
-pub(crate) fn request(
+fn request(
     alloc: Global,
     msg_type: u32,
     padata: Option<Asn1SequenceOf<PaData>>,
@@ -137,4 +139,21 @@ pub(crate) fn request(
     let pvno = integer_of(alloc, 5)?;
     let msg_type = integer_of(alloc, msg_type)?;
     Ok(request_of(pvno, msg_type, padata, body))
+}
+
+/// The encoding of a request of this type, under the tag of its number.
+pub(crate) fn encoded_request<const N: u8>(
+    alloc: Global,
+    msg_type: u32,
+    padata: Option<Asn1SequenceOf<PaData>>,
+    body: KdcReqBody,
+) -> Result<Vec<u8>, RequestError>
+    ensures valid { IfOk result (λ _. ⟦<ApplicationTag<KdcReq, N> as DerEncode>⟧.is_value (request_of (pos 5) (pos msg_type) padata body)) }
+    ensures octets { MatchResult result
+        (λ octets. octets.items ≡ ⟦<ApplicationTag<KdcReq, N> as DerEncode>⟧.enc (request_of (pos 5) (pos msg_type) padata body)) (λ e. e ≡ errors.OutOfMemory) }
+{
+    let message: ApplicationTag<KdcReq, N> = ApplicationTag(request(
+        alloc, msg_type, padata, body,
+    )?);
+    encoding(alloc, &message)
 }

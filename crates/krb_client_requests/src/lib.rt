@@ -22,5 +22,4 @@ pub use error::RequestError;
 pub use initial::as_request;
 pub use key::LentKey;
 pub use ticket::tgs_request;
-pub use timestamp::timestamp;
-
+pub use timestamp::pa_enc_timestamp;

@@ -1,24 +1,44 @@
 //! TGS-REQ (RFC 4120, 3.3.1).
 
-ghost use Rattle.std.specs.Prelude.{◌≡◌, IfErr, IfOk};
+ghost use Rattle.std.specs.Prelude.{IfErr, IfOk};
 ghost use Rattle.krb_client_requests.specs.Bodies.{wanted};
 ghost use Rattle.krb_client_requests.specs.Errors.{IsMemoryOr};
-ghost use Rattle.krb_client_requests.specs.Requests.{IsNoTgsRequest, IsTgsRequest};
+ghost use Rattle.krb_client_requests.specs.Requests.{IsNoPaTgsReq, IsNoTgsRequest, IsPaTgsReq, IsTgsRequest};
 ghost use Rattle.krb_client_requests.specs.Sealed.{key_of};
 
 use crate::application::ap_message;
 use crate::authenticator::{Sender, authenticator};
-use crate::body::{Want, body, request};
+use crate::body::{Want, body, encoded_request};
 use crate::checksum::checksum;
 use crate::error::RequestError;
 use crate::fields::encoding;
 use crate::key::LentKey;
 use crate::timestamp::only;
-use krb_der::{ApplicationTag, DerEncode};
+use krb_der::{Asn1SequenceOf, DerEncode};
 use krb_enc_parts::data_types::Authenticator;
 use krb_messages::messages::{ApReq, KdcReqBody, TgsReq};
-use krb_types::data_types::Ticket;
+use krb_registry::types::TGS_REQ_MSG_TYPE;
+use krb_types::data_types::{PaData, Ticket};
 use std::alloc::Global;
+
+/// PA-TGS-REQ (RFC 4120, 5.2.7.1) for a body of this encoding: the AP-REQ with its checksum.
+fn pa_tgs_req(
+    alloc: Global,
+    ticket: &Ticket,
+    session: &LentKey,
+    sender: &Sender,
+    confounder: &[u8],
+    body: &[u8],
+) -> Result<Asn1SequenceOf<PaData>, RequestError>
+    ensures made { IfOk result (IsPaTgsReq ⟦<ApReq as DerEncode>⟧ ⟦<Authenticator as DerEncode>⟧ ticket.now (key_of session.now) sender.now
+        confounder.now body.now) }
+    ensures rejected { IfErr result (λ e. IsMemoryOr e (IsNoPaTgsReq (key_of session.now) sender.now confounder.now e)) }
+{
+    let cksum = checksum(alloc, session, 6, body)?;
+    let value = authenticator(alloc, sender, Some(cksum))?;
+    let application = ap_message(alloc, ticket, session, 7, false, &value, confounder)?;
+    only(alloc, 1, application)
+}
 
 /// The TGS-REQ for what is wanted, by a ticket for the KDC and its session key (RFC 4120, 3.3.1). The authenticator has the checksum of
 /// the encoding of the body (key usage 6), and is sealed for key usage 7 and this confounder, which has the length of the session key's
@@ -41,10 +61,6 @@ pub fn tgs_request(
 {
     let body = body(alloc, want, None)?;
     let encoded = encoding(alloc, &body)?;
-    let cksum = checksum(alloc, session, 6, &encoded)?;
-    let value = authenticator(alloc, sender, Some(cksum))?;
-    let application = ap_message(alloc, ticket, session, 7, false, &value, confounder)?;
-    let padata = only(alloc, 1, application)?;
-    let message: TgsReq = ApplicationTag(request(alloc, 12, Some(padata), body)?);
-    encoding(alloc, &message)
+    let padata = pa_tgs_req(alloc, ticket, session, sender, confounder, &encoded)?;
+    encoded_request::<TGS_REQ_MSG_TYPE>(alloc, 12, Some(padata), body)
 }

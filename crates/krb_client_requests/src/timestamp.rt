@@ -57,7 +57,7 @@ fn stamp_of(time: KerberosTime, microseconds: Microseconds) -> PaEncTsEnc
 ///
 /// `Microseconds` where there are more than 999999; else `Time` where the year is not of 0 to 9999; else `Confounder`, else `Key`, where
 /// the confounder or the key has not the suite's length.
-pub fn timestamp(
+pub fn pa_enc_timestamp(
     alloc: Global,
     key: &LentKey,
     seconds: i64,

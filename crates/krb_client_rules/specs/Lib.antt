@@ -1,0 +1,6 @@
+pub mod InOrder
+pub mod Names
+pub mod Etypes
+pub mod Times
+pub mod ReplyRules
+pub mod PartRules

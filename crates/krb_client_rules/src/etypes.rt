@@ -1,0 +1,20 @@
+//! Encryption types that were asked for (RFC 4120, 5.4.1).
+
+ghost use Rattle.std.specs.Prelude.{MatchBool};
+ghost use Rattle.krb_client_rules.specs.Etypes.{IsAskedFor};
+
+use crate::numbers::is_number;
+use krb_crypto::CipherSuite;
+use krb_der::IntegerAsn1;
+
+/// Whether the number is the encryption type of one of these suites (RFC 3961, 8).
+pub fn is_asked_for(suites: &[CipherSuite], number: &IntegerAsn1) -> bool
+    ensures { MatchBool result (IsAskedFor suites.now number.now) (IsAskedFor suites.now number.now → ⊥) }
+{
+    for suite in suites {
+        if is_number(number, u32::from(suite)) {
+            return true;
+        }
+    }
+    false
+}

@@ -1,0 +1,12 @@
+//! Keys.
+
+use krb_crypto::CipherSuite;
+
+/// A key and its suite.
+#[derive(Debug, Drop)]
+pub struct Key {
+    /// The suite.
+    pub suite: CipherSuite,
+    /// The octets of the key.
+    pub octets: Vec<u8>,
+}
