@@ -66,7 +66,7 @@ fn offset_told(moment: &Moment, reported: &Reported) -> Result<i64, ClientError>
 
 /// What follows on an error: KDC_ERR_PREAUTH_REQUIRED, where no key is known, gives the key, and KRB_AP_ERR_SKEW, where no offset is, the
 /// offset; any other error, and each of these for the second time, ends the exchange (`Kdc`).
-pub(crate) fn change(
+pub(crate) fn taken(
     alloc: Global,
     exchange: &InitialExchange,
     secret: &Secret,

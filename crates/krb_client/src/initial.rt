@@ -5,7 +5,7 @@ ghost use Rattle.krb_client.specs.Exchanges.{AreNoPadata, ArePadata, HasNoTime, 
 ghost use Rattle.krb_client.specs.declared.error.ClientError.TheVariants as errors;
 ghost use Rattle.krb_crypto.specs.BySuite.{confounder_octets_of};
 
-use crate::change::{Change, change};
+use crate::change::{Change, taken};
 use crate::error::ClientError;
 use crate::moment::Moment;
 use krb_client_keys::{Limits, Secret};
@@ -182,7 +182,7 @@ fn told(
         exchange.now secret.now moment.now octets.now) }
 {
     let reported = read_error(alloc, octets)?;
-    let change = change(alloc, exchange, secret, moment, &reported)?;
+    let change = taken(alloc, exchange, secret, moment, &reported)?;
     Ok(change)
 }
 
