@@ -10,9 +10,9 @@ ghost use Rattle.krb_client_requests.specs.declared.error.RequestError.TheVarian
 use crate::authenticator::{Sender, authenticator};
 use crate::checksum::checksum_value;
 use crate::error::RequestError;
-use crate::fields::{copy_of, encoding, flags_of, integer_of};
+use crate::fields::{copy_of, encoded, flags_of, integer_of};
 use crate::key::LentKey;
-use crate::sealing::sealed;
+use crate::sealing::sealed_value;
 use krb_der::{
     ApplicationTag, DerEncode, ExplicitContextTag0, ExplicitContextTag1, ExplicitContextTag2,
     ExplicitContextTag3, ExplicitContextTag4, IntegerAsn1,
@@ -100,16 +100,17 @@ pub(crate) fn ap_message(
     key: &LentKey,
     usage: i32,
     mutual_required: bool,
-    value: &Authenticator,
+    value: Authenticator,
     confounder: &[u8],
 ) -> Result<Vec<u8>, RequestError>
     ensures made { IfOk result (λ octets. IsApMessage ⟦<ApReq as DerEncode>⟧ ⟦<Authenticator as DerEncode>⟧ ticket.now (key_of key.now) usage mutual_required
-        value.now confounder.now octets.items) }
+        value confounder.now octets.items) }
     ensures rejected { IfErr result (λ e. IsMemoryOr e (IsNotSealed (key_of key.now) confounder.now e)) }
 {
-    let part = sealed(alloc, key, usage, confounder, value)?;
+    let part = sealed_value(alloc, key, usage, confounder, value)?;
     let message = message(alloc, ticket, mutual_required, part)?;
-    encoding(alloc, &message)
+    let octets = encoded(alloc, message)?;
+    Ok(octets)
 }
 
 /// Whether the flag of delegation is set.
@@ -164,13 +165,14 @@ pub fn ap_request(
     }
     let cksum = checksum_of(alloc, &request.gss)?;
     let value = authenticator(alloc, sender, cksum)?;
-    ap_message(
+    let octets = ap_message(
         alloc,
         request.ticket,
         &request.session,
         11,
         request.mutual_required,
-        &value,
+        value,
         confounder,
-    )
+    )?;
+    Ok(octets)
 }

@@ -6,14 +6,14 @@ ghost use Rattle.krb_client_requests.specs.Errors.{IsMemoryOr};
 ghost use Rattle.krb_client_requests.specs.declared.error.RequestError.TheVariants as errors;
 
 use crate::error::RequestError;
-use crate::fields::{copy_of, encoding, field, flags_of, integer_of, time_of, time_option_of};
+use crate::fields::{copy_of, encoded, field, flags_of, integer_of, time_of, time_option_of};
 use krb_crypto::CipherSuite;
 use krb_der::{
     ApplicationTag, Asn1SequenceOf, DerEncode, ExplicitContextTag0, ExplicitContextTag1,
     ExplicitContextTag2, ExplicitContextTag4, ExplicitContextTag5, ExplicitContextTag7,
     ExplicitContextTag8, IntegerAsn1, Optional,
 };
-use krb_messages::messages::{KdcReq, KdcReqBody};
+use krb_messages::messages::{AsReq, KdcReq, KdcReqBody, TgsReq};
 use krb_types::data_types::{KerberosFlags, KerberosTime, PaData, PrincipalName, Realm};
 use std::alloc::Global;
 
@@ -141,19 +141,34 @@ fn request(
     Ok(request_of(pvno, msg_type, padata, body))
 }
 
-/// The encoding of a request of this type, under the tag of its number.
-pub(crate) fn encoded_request<const N: u8>(
+/// The octets of an AS-REQ (RFC 4120, 5.4.1).
+pub(crate) fn as_req_octets(
     alloc: Global,
-    msg_type: u32,
     padata: Option<Asn1SequenceOf<PaData>>,
     body: KdcReqBody,
 ) -> Result<Vec<u8>, RequestError>
-    ensures valid { IfOk result (λ _. ⟦<ApplicationTag<KdcReq, N> as DerEncode>⟧.is_value (request_of (pos 5) (pos msg_type) padata body)) }
+    ensures valid { IfOk result (λ _. ⟦<AsReq as DerEncode>⟧.is_value (request_of (pos 5) (pos 10) padata body)) }
     ensures octets { MatchResult result
-        (λ octets. octets.items ≡ ⟦<ApplicationTag<KdcReq, N> as DerEncode>⟧.enc (request_of (pos 5) (pos msg_type) padata body)) (λ e. e ≡ errors.OutOfMemory) }
+        (λ octets. octets.items ≡ ⟦<AsReq as DerEncode>⟧.enc (request_of (pos 5) (pos 10) padata body)) (λ e. e ≡ errors.OutOfMemory) }
 {
-    let message: ApplicationTag<KdcReq, N> = ApplicationTag(request(
-        alloc, msg_type, padata, body,
-    )?);
-    encoding(alloc, &message)
+    let request = request(alloc, 10, padata, body)?;
+    let message: AsReq = ApplicationTag(request);
+    let octets = encoded(alloc, message)?;
+    Ok(octets)
+}
+
+/// The octets of a TGS-REQ (RFC 4120, 5.4.1).
+pub(crate) fn tgs_req_octets(
+    alloc: Global,
+    padata: Option<Asn1SequenceOf<PaData>>,
+    body: KdcReqBody,
+) -> Result<Vec<u8>, RequestError>
+    ensures valid { IfOk result (λ _. ⟦<TgsReq as DerEncode>⟧.is_value (request_of (pos 5) (pos 12) padata body)) }
+    ensures octets { MatchResult result
+        (λ octets. octets.items ≡ ⟦<TgsReq as DerEncode>⟧.enc (request_of (pos 5) (pos 12) padata body)) (λ e. e ≡ errors.OutOfMemory) }
+{
+    let request = request(alloc, 12, padata, body)?;
+    let message: TgsReq = ApplicationTag(request);
+    let octets = encoded(alloc, message)?;
+    Ok(octets)
 }

@@ -50,6 +50,14 @@ pub(crate) fn encoding<T: DerEncode>(alloc: Global, value: &T) -> Result<Vec<u8>
     }
 }
 
+/// The encoding of a value, which is let go.
+pub(crate) fn encoded<T: DerEncode + Drop>(alloc: Global, value: T) -> Result<Vec<u8>, RequestError>
+    ensures valid { IfOk result (λ _. T.is_value value) }
+    ensures octets { MatchResult result (λ octets. octets.items ≡ T.enc value) (λ e. e ≡ errors.OutOfMemory) }
+{
+    encoding(alloc, &value)
+}
+
 /// The INTEGER of a number.
 pub(crate) fn integer_of(alloc: Global, number: u32) -> Result<IntegerAsn1, RequestError>
     ensures { MatchResult result (λ integer. integer ≡ pos number) (λ e. e ≡ errors.OutOfMemory) }

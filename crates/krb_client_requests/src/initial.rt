@@ -5,12 +5,11 @@ ghost use Rattle.krb_client_requests.specs.Bodies.{IsNoBody, wanted};
 ghost use Rattle.krb_client_requests.specs.Errors.{IsMemoryOr};
 ghost use Rattle.krb_client_requests.specs.Requests.{IsAsRequest};
 
-use crate::body::{Want, body, encoded_request};
+use crate::body::{Want, as_req_octets, body};
 use crate::error::RequestError;
 use crate::fields::copy_of;
 use krb_der::{Asn1SequenceOf, DerEncode};
 use krb_messages::messages::AsReq;
-use krb_registry::types::AS_REQ_MSG_TYPE;
 use krb_types::data_types::{PaData, PrincipalName};
 use std::alloc::Global;
 
@@ -29,5 +28,5 @@ pub fn as_request(
 {
     let cname = copy_of(alloc, cname)?;
     let body = body(alloc, want, Some(cname))?;
-    encoded_request::<AS_REQ_MSG_TYPE>(alloc, 10, padata, body)
+    as_req_octets(alloc, padata, body)
 }

@@ -85,3 +85,17 @@ pub(crate) fn sealed<T: DerEncode>(
     let etype = integer_of(alloc, u32::from(key.suite))?;
     Ok(encrypted(etype, cipher))
 }
+
+/// The same of a value, which is let go.
+pub(crate) fn sealed_value<T: DerEncode + Drop>(
+    alloc: Global,
+    key: &LentKey,
+    usage: i32,
+    confounder: &[u8],
+    value: T,
+) -> Result<EncryptedData, RequestError>
+    ensures sealed { IfOk result (IsSealedPart ⟦<T as DerEncode>⟧ (key_of key.now) usage confounder.now value) }
+    ensures rejected { IfErr result (λ e. IsMemoryOr e (IsNotSealed (key_of key.now) confounder.now e)) }
+{
+    sealed(alloc, key, usage, confounder, &value)
+}

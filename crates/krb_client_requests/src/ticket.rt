@@ -1,6 +1,6 @@
 //! TGS-REQ (RFC 4120, 3.3.1).
 
-ghost use Rattle.std.specs.Prelude.{IfErr, IfOk};
+ghost use Rattle.std.specs.Prelude.{◌≡◌, IfErr, IfOk};
 ghost use Rattle.krb_client_requests.specs.Bodies.{wanted};
 ghost use Rattle.krb_client_requests.specs.Errors.{IsMemoryOr};
 ghost use Rattle.krb_client_requests.specs.Requests.{IsNoPaTgsReq, IsNoTgsRequest, IsPaTgsReq, IsTgsRequest};
@@ -8,7 +8,7 @@ ghost use Rattle.krb_client_requests.specs.Sealed.{key_of};
 
 use crate::application::ap_message;
 use crate::authenticator::{Sender, authenticator};
-use crate::body::{Want, body, encoded_request};
+use crate::body::{Want, body, tgs_req_octets};
 use crate::checksum::checksum;
 use crate::error::RequestError;
 use crate::fields::encoding;
@@ -17,9 +17,15 @@ use crate::timestamp::only;
 use krb_der::{Asn1SequenceOf, DerEncode};
 use krb_enc_parts::data_types::Authenticator;
 use krb_messages::messages::{ApReq, KdcReqBody, TgsReq};
-use krb_registry::types::TGS_REQ_MSG_TYPE;
 use krb_types::data_types::{PaData, Ticket};
 use std::alloc::Global;
+
+/// The error; the value is let go.
+fn refused<T: Drop>(_value: T, error: RequestError) -> RequestError
+    ensures { result ≡ error }
+{
+    error
+}
 
 /// PA-TGS-REQ (RFC 4120, 5.2.7.1) for a body of this encoding: the AP-REQ with its checksum.
 fn pa_tgs_req(
@@ -36,8 +42,9 @@ fn pa_tgs_req(
 {
     let cksum = checksum(alloc, session, 6, body)?;
     let value = authenticator(alloc, sender, Some(cksum))?;
-    let application = ap_message(alloc, ticket, session, 7, false, &value, confounder)?;
-    only(alloc, 1, application)
+    let application = ap_message(alloc, ticket, session, 7, false, value, confounder)?;
+    let list = only(alloc, 1, application)?;
+    Ok(list)
 }
 
 /// The TGS-REQ for what is wanted, by a ticket for the KDC and its session key (RFC 4120, 3.3.1). The authenticator has the checksum of
@@ -61,6 +68,11 @@ pub fn tgs_request(
 {
     let body = body(alloc, want, None)?;
     let encoded = encoding(alloc, &body)?;
-    let padata = pa_tgs_req(alloc, ticket, session, sender, confounder, &encoded)?;
-    encoded_request::<TGS_REQ_MSG_TYPE>(alloc, 12, Some(padata), body)
+    match pa_tgs_req(alloc, ticket, session, sender, confounder, encoded.as_slice()) {
+        Ok(padata) => {
+            let octets = tgs_req_octets(alloc, Some(padata), body)?;
+            Ok(octets)
+        }
+        Err(error) => Err(refused(body, error)),
+    }
 }
