@@ -98,12 +98,12 @@ pub(crate) fn ap_message(
     alloc: Global,
     ticket: &Ticket,
     key: &LentKey,
-    usage: i32,
+    usage: u8,
     mutual_required: bool,
     value: Authenticator,
     confounder: &[u8],
 ) -> Result<Vec<u8>, RequestError>
-    ensures made { IfOk result (λ octets. IsApMessage ⟦<ApReq as DerEncode>⟧ ⟦<Authenticator as DerEncode>⟧ ticket.now (key_of key.now) usage mutual_required
+    ensures made { IfOk result (λ octets. IsApMessage ⟦<ApReq as DerEncode>⟧ ⟦<Authenticator as DerEncode>⟧ ticket.now (key_of key.now) (pos usage) mutual_required
         value confounder.now octets.items) }
     ensures rejected { IfErr result (λ e. IsMemoryOr e (IsNotSealed (key_of key.now) confounder.now e)) }
 {

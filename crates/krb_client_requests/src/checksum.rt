@@ -1,6 +1,6 @@
 //! Checksums under a key (RFC 3961, 4).
 
-ghost use Rattle.std.specs.Prelude.{◌≡◌, ◌≢◌, ⊤, length, IfErr, IfOk, MatchOption, MatchResult};
+ghost use Rattle.std.specs.Prelude.{◌≡◌, ◌≢◌, ⊤, length, IfErr, IfOk, MatchOption, pos};
 ghost use Rattle.krb_crypto.specs.BySuite.{checksum_key_octets_of, checksum_suite_of, key_octets_of, sum_of};
 ghost use Rattle.krb_crypto.specs.PreparedKeys.{IsChecksumPreparedFor};
 ghost use Rattle.krb_client_requests.specs.Errors.{IsMemoryOr};
@@ -42,14 +42,14 @@ fn sum(
     alloc: Global,
     suite: &ChecksumSuite,
     key: &[u8],
-    usage: i32,
+    usage: u8,
     octets: &[u8],
 ) -> Result<Vec<u8>, RequestError>
     ensures size { IfOk result (λ _. length key.now ≡ checksum_key_octets_of suite.now) }
-    ensures sum { IfOk result (λ s. s.items ≡ sum_of suite.now key.now usage octets.now) }
+    ensures sum { IfOk result (λ s. s.items ≡ sum_of suite.now key.now (pos usage) octets.now) }
     ensures rejected { IfErr result (λ e. IsMemoryOr e ((e ≡ errors.Key) × (length key.now ≢ checksum_key_octets_of suite.now))) }
 {
-    let Some(prepared) = prepared_for(suite, key, usage) else {
+    let Some(prepared) = prepared_for(suite, key, i32::from(usage)) else {
         return Err(RequestError::Key);
     };
     match prepared.checksum(alloc, octets) {
@@ -62,10 +62,10 @@ fn sum(
 pub(crate) fn checksum(
     alloc: Global,
     key: &LentKey,
-    usage: i32,
+    usage: u8,
     octets: &[u8],
 ) -> Result<Checksum, RequestError>
-    ensures checksum { IfOk result (IsChecksum (key_of key.now) usage octets.now) }
+    ensures checksum { IfOk result (IsChecksum (key_of key.now) (pos usage) octets.now) }
     ensures rejected { IfErr result (λ e. IsMemoryOr e ((e ≡ errors.Key) × (length key.now.octets.now ≢ key_octets_of key.now.suite.now))) }
 {
     let suite = key.suite.checksum_type();

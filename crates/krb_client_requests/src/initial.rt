@@ -28,5 +28,6 @@ pub fn as_request(
 {
     let cname = copy_of(alloc, cname)?;
     let body = body(alloc, want, Some(cname))?;
-    as_req_octets(alloc, padata, body)
+    let octets = as_req_octets(alloc, padata, body)?;
+    Ok(octets)
 }

@@ -1,6 +1,6 @@
 //! Parts of messages, sealed (RFC 4120, 5.2.9).
 
-ghost use Rattle.std.specs.Prelude.{◌≡◌, ◌≢◌, ⊤, length, IfErr, IfOk, MatchOption, MatchResult};
+ghost use Rattle.std.specs.Prelude.{◌≡◌, ◌≢◌, ⊤, length, IfErr, IfOk, MatchOption, pos};
 ghost use Rattle.krb_crypto_message.specs.Sealing.{IsTheOne};
 ghost use Rattle.krb_crypto.specs.BySuite.{IsSealed, confounder_octets_of, key_octets_of};
 ghost use Rattle.krb_crypto.specs.PreparedKeys.{IsPreparedFor};
@@ -34,20 +34,20 @@ fn prepared_for(suite: &CipherSuite, key: &[u8], usage: i32) -> Option<SealingKe
 fn sealed_octets(
     alloc: Global,
     key: &LentKey,
-    usage: i32,
+    usage: u8,
     confounder: &[u8],
     payload: &[u8],
 ) -> Result<Vec<u8>, RequestError>
     ensures confounder { IfOk result (λ _. length confounder.now ≡ confounder_octets_of key.now.suite.now) }
     ensures key { IfOk result (λ _. length key.now.octets.now ≡ key_octets_of key.now.suite.now) }
     ensures sealed { IfOk result (λ octets.
-        IsTheOne (IsSealed key.now.suite.now key.now.octets.now usage confounder.now payload.now) octets.items) }
+        IsTheOne (IsSealed key.now.suite.now key.now.octets.now (pos usage) confounder.now payload.now) octets.items) }
     ensures rejected { IfErr result (λ e. IsMemoryOr e (IsNotSealed (key_of key.now) confounder.now e)) }
 {
     if confounder.len() != key.suite.confounder_size() {
         return Err(RequestError::Confounder);
     }
-    let Some(prepared) = prepared_for(key.suite, key.octets, usage) else {
+    let Some(prepared) = prepared_for(key.suite, key.octets, i32::from(usage)) else {
         return Err(RequestError::Key);
     };
     match prepared.encrypt(alloc, payload, confounder) {
@@ -73,11 +73,11 @@ fn encrypted(etype: IntegerAsn1, cipher: Vec<u8>) -> EncryptedData
 pub(crate) fn sealed<T: DerEncode>(
     alloc: Global,
     key: &LentKey,
-    usage: i32,
+    usage: u8,
     confounder: &[u8],
     value: &T,
 ) -> Result<EncryptedData, RequestError>
-    ensures sealed { IfOk result (IsSealedPart ⟦<T as DerEncode>⟧ (key_of key.now) usage confounder.now value.now) }
+    ensures sealed { IfOk result (IsSealedPart ⟦<T as DerEncode>⟧ (key_of key.now) (pos usage) confounder.now value.now) }
     ensures rejected { IfErr result (λ e. IsMemoryOr e (IsNotSealed (key_of key.now) confounder.now e)) }
 {
     let payload = encoding(alloc, value)?;
@@ -90,11 +90,11 @@ pub(crate) fn sealed<T: DerEncode>(
 pub(crate) fn sealed_value<T: DerEncode + Drop>(
     alloc: Global,
     key: &LentKey,
-    usage: i32,
+    usage: u8,
     confounder: &[u8],
     value: T,
 ) -> Result<EncryptedData, RequestError>
-    ensures sealed { IfOk result (IsSealedPart ⟦<T as DerEncode>⟧ (key_of key.now) usage confounder.now value) }
+    ensures sealed { IfOk result (IsSealedPart ⟦<T as DerEncode>⟧ (key_of key.now) (pos usage) confounder.now value) }
     ensures rejected { IfErr result (λ e. IsMemoryOr e (IsNotSealed (key_of key.now) confounder.now e)) }
 {
     sealed(alloc, key, usage, confounder, &value)
