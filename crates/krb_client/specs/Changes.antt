@@ -1,7 +1,7 @@
 -- What an error that a KDC reports may change (RFC 4120, 3.1.3, 3.1.4 and 7.5.9).
 use Rattle.std.specs.Prelude.{◌≡◌, ◌⊎◌, ℕ, ℤ, ◌-ℤ◌, List, Option, Some, None}
 use Rattle.std.specs.Int.{w64}
-use Rattle.core.specs.Prelude.{FitsSigned}
+use Rattle.std.specs.Prelude.{FitsSigned}
 use Rattle.krb_crypto.specs.declared.cipher_suite.CipherSuite.{CipherSuite}
 use Rattle.krb_der_core.specs.declared.der.DerEncode.{Ghosts as EncodingOf}
 use Rattle.krb_types.specs.declared.data_types.etype_info.EtypeInfo2Entry.{EtypeInfo2Entry}
@@ -25,20 +25,24 @@ use Rattle.krb_client.specs.declared.moment.Moment.{Moment}
 abbrev pub IsClientOf : Asked → Client → Type 0
 IsClientOf a c = (c.realm.now ≡ a.crealm) × (c.name.now ≡ a.cname)
 
--- the error's data are METHOD-DATA that tell this key of the client
-pub record IsToldTo (lists : EncodingOf (List PaData)) (infos : EncodingOf (List EtypeInfo2Entry)) (e : InitialExchange) (s : Secret) (r : Reported) (key : Key) : Type 0 where
-  pub octets : List ℕ
-  pub are_data : r.e_data ≡ Some octets
-  pub client : Client
-  pub is_client : IsClientOf e.asked client
-  pub is_told : IsToldKey lists infos client s e.limits e.asked.etypes.items octets key
+-- the octets are METHOD-DATA that tell this key of the client
+abbrev pub IsKeyOfData : EncodingOf (List PaData) → EncodingOf (List EtypeInfo2Entry) → InitialExchange → Secret → List ℕ → Key → Type 0
+IsKeyOfData lists infos e s octets key =
+    (client : Client) × IsClientOf e.asked client × IsToldKey lists infos client s e.limits e.asked.etypes.items octets key
+
+abbrev pub IsNoKeyOfData : EncodingOf (List PaData) → EncodingOf (List EtypeInfo2Entry) → InitialExchange → Secret → List ℕ → HintError → Type 0
+IsNoKeyOfData lists infos e s octets why =
+    (why ≡ hints.OutOfMemory) ⊎ IsNoToldKey lists infos s e.limits e.asked.etypes.items octets why
+
+-- the error has data, and they tell this key
+abbrev pub IsToldTo : EncodingOf (List PaData) → EncodingOf (List EtypeInfo2Entry) → InitialExchange → Secret → Reported → Key → Type 0
+IsToldTo lists infos e s r key = (octets : List ℕ) × (r.e_data ≡ Some octets) × IsKeyOfData lists infos e s octets key
 
 -- it has no data; or they tell of no key
 abbrev pub IsNotTold : EncodingOf (List PaData) → EncodingOf (List EtypeInfo2Entry) → InitialExchange → Secret → Reported → ClientError → Type 0
 IsNotTold lists infos e s r error =
     ((error ≡ errors.NoData) × (r.e_data ≡ None))
-    ⊎ ((why : HintError) × (octets : List ℕ) × (error ≡ errors.Hint why) × (r.e_data ≡ Some octets)
-    × ((why ≡ hints.OutOfMemory) ⊎ IsNoToldKey lists infos s e.limits e.asked.etypes.items octets why))
+    ⊎ ((why : HintError) × (octets : List ℕ) × (error ≡ errors.Hint why) × (r.e_data ≡ Some octets) × IsNoKeyOfData lists infos e s octets why)
 
 -- pre-authentication is required (25), and no key is known
 abbrev pub AsksForKey : InitialExchange → Reported → Type 0

@@ -1,7 +1,7 @@
 -- A client's exchange for its first ticket, step by step (RFC 4120, 3.1).
 use Rattle.std.specs.Prelude.{◌≡◌, ◌⊎◌, ℕ, ◌<◌, ℤ, ◌+ℤ◌, List, length, slice_index, map, take, Option, Some, None, true, false}
 use Rattle.std.specs.Int.{w64}
-use Rattle.core.specs.Prelude.{FitsSigned}
+use Rattle.std.specs.Prelude.{FitsSigned}
 use Rattle.krb_crypto.specs.BySuite.{confounder_octets_of}
 use Rattle.krb_der_core.specs.declared.der.DerEncode.{Ghosts as EncodingOf}
 use Rattle.krb_messages.specs.declared.messages.errors.KrbErrorInner.{KrbErrorInner}

@@ -2,14 +2,14 @@
 
 ghost use Rattle.std.specs.Prelude.{◌≡◌, ◌-ℤ◌, IfErr, IfOk, MatchResult};
 ghost use Rattle.std.specs.Int.{w64};
-ghost use Rattle.core.specs.Prelude.{FitsSigned};
+ghost use Rattle.std.specs.Prelude.{FitsSigned};
 ghost use Rattle.krb_client.specs.declared.error.ClientError.TheVariants as errors;
-ghost use Rattle.krb_client.specs.Changes.{IsChange, IsNoChange, IsToldTo, IsNotTold};
+ghost use Rattle.krb_client.specs.Changes.{IsChange, IsKeyOfData, IsNoChange, IsNoKeyOfData, IsNotTold, IsToldTo};
 
 use crate::error::ClientError;
 use crate::initial::InitialExchange;
 use crate::moment::Moment;
-use krb_client_keys::{Client, Secret, told_key};
+use krb_client_keys::{Client, HintError, Secret, told_key};
 use krb_client_replies::{Key, Reported};
 use krb_der::{Asn1SequenceOf, DerEncode};
 use krb_types::data_types::{EtypeInfo2, PaData};
@@ -30,6 +30,25 @@ pub(crate) enum Change {
     Offset(i64),
 }
 
+/// The client's key, by these data.
+fn key_of_data(
+    alloc: Global,
+    exchange: &InitialExchange,
+    secret: &Secret,
+    octets: &[u8],
+) -> Result<Key, HintError>
+    ensures made { IfOk result (IsKeyOfData ⟦<Asn1SequenceOf<PaData> as DerEncode>⟧ ⟦<EtypeInfo2 as DerEncode>⟧ exchange.now secret.now octets.now) }
+    ensures rejected { IfErr result (IsNoKeyOfData ⟦<Asn1SequenceOf<PaData> as DerEncode>⟧ ⟦<EtypeInfo2 as DerEncode>⟧ exchange.now secret.now octets.now) }
+{
+    let client = Client {
+        realm: &exchange.asked.crealm,
+        name: &exchange.asked.cname,
+    };
+    let suites = exchange.asked.etypes.as_slice();
+    let key = told_key(alloc, &client, secret, &exchange.limits, suites, octets)?;
+    Ok(key)
+}
+
 /// The client's key, by the data of the error.
 fn key_told(
     alloc: Global,
@@ -43,14 +62,10 @@ fn key_told(
     let Some(octets) = &reported.e_data else {
         return Err(ClientError::NoData);
     };
-    let client = Client {
-        realm: &exchange.asked.crealm,
-        name: &exchange.asked.cname,
-    };
-    let suites = exchange.asked.etypes.as_slice();
-    let octets = octets.0.as_slice();
-    let key = told_key(alloc, &client, secret, &exchange.limits, suites, octets)?;
-    Ok(key)
+    match key_of_data(alloc, exchange, secret, octets.0.as_slice()) {
+        Ok(key) => Ok(key),
+        Err(why) => Err(ClientError::Hint(why)),
+    }
 }
 
 /// How many seconds the KDC's clock is ahead of the client's. `Clock` where no number of 64 bits says it.
