@@ -69,7 +69,8 @@ fn is_memory(error: &Asn1DerError) -> bool
 
 /// The value whose one encoding the octets are, where they are one.
 fn value_of<T: Der + Drop>(alloc: Global, octets: &[u8]) -> Result<Option<T>, AllocError>
-    ensures { IfOk result (λ found. MatchOption found ((v : T) → Encodes ⟦<T as DerEncode>⟧ octets.now v → ⊥) (Encodes ⟦<T as DerEncode>⟧ octets.now)) }
+    ensures { IfOk result (λ found. MatchOption found ((v : T) → Encodes ⟦<T as DerEncode>⟧ octets.now v → ⊥)
+        (Encodes ⟦<T as DerEncode>⟧ octets.now)) }
 {
     match from_bytes::<T>(alloc, octets) {
         Ok(value) => Ok(Some(value)),
@@ -110,7 +111,8 @@ fn is_entry_of(entry: &EtypeInfo2Entry, suite: &CipherSuite) -> bool
 
 /// The first entry of this suite's encryption type.
 fn entry_of<'a>(entries: &'a [EtypeInfo2Entry], suite: &CipherSuite) -> Option<&'a EtypeInfo2Entry>
-    ensures { MatchOption result (NoneIs (IsEntryOf suite.now) entries.now) (λ e. IsFirst (IsEntryOf suite.now) entries.now e.now) }
+    ensures { MatchOption result (NoneIs (IsEntryOf suite.now) entries.now) (λ e. IsFirst
+        (IsEntryOf suite.now) entries.now e.now) }
 {
     for entry in entries {
         if is_entry_of(entry, suite) {
@@ -126,7 +128,8 @@ fn hint_among<'a>(
     entries: &'a [EtypeInfo2Entry],
     suites: &'a [CipherSuite],
 ) -> Option<(&'a CipherSuite, &'a EtypeInfo2Entry)>
-    ensures { MatchOption result (NoneIs (HasEntry entries.now) suites.now) (λ p. IsHint suites.now entries.now p.0.now p.1.now) }
+    ensures { MatchOption result (NoneIs (HasEntry entries.now) suites.now)
+        (λ p. IsHint suites.now entries.now p.0.now p.1.now) }
 {
     for suite in suites {
         if let Some(entry) = entry_of(entries, suite) {
@@ -165,9 +168,11 @@ fn key_by_entries(
     suites: &[CipherSuite],
     entries: &[EtypeInfo2Entry],
 ) -> Result<Key, HintError>
-    ensures made { IfOk result (λ key. (suite : CipherSuite) × (entry : EtypeInfo2Entry) × IsHint suites.now entries.now suite entry
+    ensures made { IfOk result (λ key. (suite : CipherSuite) × (entry : EtypeInfo2Entry)
+        × IsHint suites.now entries.now suite entry
         × IsClientKey client.now secret.now limits.now suite entry.salt.0 entry.s2kparams.0 key) }
-    ensures rejected { IfErr result (λ e. (e ≡ errors.OutOfMemory) ⊎ TellsNoKey secret.now limits.now suites.now entries.now e) }
+    ensures rejected { IfErr result (λ e. (e ≡ errors.OutOfMemory)
+        ⊎ TellsNoKey secret.now limits.now suites.now entries.now e) }
 {
     let Some((suite, entry)) = hint_among(entries, suites) else {
         return Err(HintError::EncryptionType);
@@ -186,7 +191,8 @@ fn key_by_info(
     suites: &[CipherSuite],
     octets: &[u8],
 ) -> Result<Key, HintError>
-    ensures made { IfOk result (λ key. (entries : List EtypeInfo2Entry) × Encodes ⟦<EtypeInfo2 as DerEncode>⟧ octets.now entries
+    ensures made { IfOk result (λ key. (entries : List EtypeInfo2Entry)
+        × Encodes ⟦<EtypeInfo2 as DerEncode>⟧ octets.now entries
         × (suite : CipherSuite) × (entry : EtypeInfo2Entry) × IsHint suites.now entries suite entry
         × IsClientKey client.now secret.now limits.now suite entry.salt.0 entry.s2kparams.0 key) }
     ensures rejected { IfErr result (λ e. (e ≡ errors.OutOfMemory)
@@ -207,7 +213,8 @@ fn key_by_elements(
     suites: &[CipherSuite],
     elements: &[PaData],
 ) -> Result<Key, HintError>
-    ensures made { IfOk result (TellsKey ⟦<EtypeInfo2 as DerEncode>⟧ client.now secret.now limits.now suites.now elements.now) }
+    ensures made { IfOk result (TellsKey ⟦<EtypeInfo2 as DerEncode>⟧ client.now secret.now limits.now suites.now
+        elements.now) }
     ensures rejected { IfErr result (λ e. (e ≡ errors.OutOfMemory)
         ⊎ ElementsTellNoKey ⟦<EtypeInfo2 as DerEncode>⟧ secret.now limits.now suites.now elements.now e) }
 {
@@ -218,12 +225,14 @@ fn key_by_elements(
     key_by_info(alloc, client, secret, limits, suites, info)
 }
 
-/// The client's key, as the data of a KDC's error tell of it: KDC_ERR_PREAUTH_REQUIRED has a METHOD-DATA (RFC 4120, 5.9.1), whose first
-/// ETYPE-INFO2 counts (5.2.7.5). Of the suites, in the order in which they are given, the first that it has an entry of, and of its
-/// entries the first, with its salt, or the default one, and its parameters.
+/// The client's key, as the data of a KDC's error tell of it: KDC_ERR_PREAUTH_REQUIRED has a
+/// METHOD-DATA (RFC 4120, 5.9.1), whose first ETYPE-INFO2 counts (5.2.7.5). Of the suites, in the
+/// order in which they are given, the first that it has an entry of, and of its entries the first,
+/// with its salt, or the default one, and its parameters.
 ///
-/// The error is the first of `HintError` that holds. The data are in the clear: whoever can send them chooses the salt, and the suite and
-/// the number of iterations among those that the caller takes.
+/// The error is the first of `HintError` that holds. The data are in the clear: whoever can send
+/// them chooses the salt, and the suite and the number of iterations among those that the caller
+/// takes.
 pub fn told_key(
     alloc: Global,
     client: &Client,
@@ -235,7 +244,8 @@ pub fn told_key(
     ensures made { IfOk result (IsToldKey ⟦<Asn1SequenceOf<PaData> as DerEncode>⟧ ⟦<EtypeInfo2 as DerEncode>⟧
         client.now secret.now limits.now suites.now octets.now) }
     ensures rejected { IfErr result (λ e. (e ≡ errors.OutOfMemory)
-        ⊎ IsNoToldKey ⟦<Asn1SequenceOf<PaData> as DerEncode>⟧ ⟦<EtypeInfo2 as DerEncode>⟧ secret.now limits.now suites.now octets.now e) }
+        ⊎ IsNoToldKey ⟦<Asn1SequenceOf<PaData> as DerEncode>⟧ ⟦<EtypeInfo2 as DerEncode>⟧ secret.now limits.now
+        suites.now octets.now e) }
 {
     let Some(elements) = value_of::<Asn1SequenceOf<PaData>>(alloc, octets)? else {
         return Err(HintError::MethodData);

@@ -86,7 +86,8 @@ fn key_of(
 ) -> Result<Vec<u8>, PasswordError>
     requires { 0 < iterations }
     ensures key { IfOk result (λ key. IsKeyOf suite.now password.now salt.now iterations key.items) }
-    ensures rejected { IfErr result (λ e. (e ≡ errors.OutOfMemory) ⊎ ((e ≡ errors.Suite) × (suite.now ≡ cipher.Des3CbcSha1Kd))) }
+    ensures rejected { IfErr result (λ e. (e ≡ errors.OutOfMemory) ⊎ ((e ≡ errors.Suite) ×
+        (suite.now ≡ cipher.Des3CbcSha1Kd))) }
 {
     match suite {
         CipherSuite::Aes128CtsHmacSha196 => Ok(aes128_key(alloc, password, salt, iterations)?),
@@ -111,10 +112,11 @@ fn is_triple_des(suite: &CipherSuite) -> bool
     }
 }
 
-/// The key of a password and a salt, with these parameters of string-to-key (`s2kparams` of RFC 4120, 5.2.7.5), or by default.
+/// The key of a password and a salt, with these parameters of string-to-key (`s2kparams` of RFC
+/// 4120, 5.2.7.5), or by default.
 ///
-/// `Suite` for triple DES; else `Parameters` where they are not four octets; else `Iterations` where their number is past the limits.
-/// Until then nothing is done with the password.
+/// `Suite` for triple DES; else `Parameters` where they are not four octets; else `Iterations`
+/// where their number is past the limits. Until then nothing is done with the password.
 #[tactic(auto, using(crate::proofs::Keys::one_key))]
 pub fn key_of_password(
     alloc: Global,
@@ -124,7 +126,8 @@ pub fn key_of_password(
     parameters: Option<&[u8]>,
     limits: &Limits,
 ) -> Result<Vec<u8>, PasswordError>
-    ensures key { IfOk result (λ key. IsKeyOfPassword suite.now password.now salt.now (option_copied parameters.entry) limits.now key.items) }
+    ensures key { IfOk result (λ key. IsKeyOfPassword suite.now password.now salt.now
+        (option_copied parameters.entry) limits.now key.items) }
     ensures rejected { IfErr result (IsNoKeyOfPassword suite.now (option_copied parameters.entry) limits.now) }
 {
     if is_triple_des(suite) {

@@ -45,7 +45,8 @@ fn is_of_suite(key: &Key, suite: &CipherSuite) -> bool
 
 /// The first key of this suite.
 fn key_among<'a>(keys: &'a [Key], suite: &CipherSuite) -> Option<&'a Key>
-    ensures { MatchOption result (NoneIs (IsOfSuite suite.now) keys.now) (λ k. IsFirst (IsOfSuite suite.now) keys.now k.now) }
+    ensures { MatchOption result (NoneIs (IsOfSuite suite.now) keys.now) (λ k. IsFirst
+        (IsOfSuite suite.now) keys.now k.now) }
 {
     for key in keys {
         if is_of_suite(key, suite) {
@@ -65,7 +66,8 @@ fn push_components(salt: &mut Vec<u8>, components: &[KerberosStringAsn1]) -> Res
     Ok(())
 }
 
-/// The default salt of a client's password: its realm and the components of its name, one behind another (RFC 4120, 4).
+/// The default salt of a client's password: its realm and the components of its name, one behind
+/// another (RFC 4120, 4).
 fn default_salt(alloc: Global, client: &Client) -> Result<Vec<u8>, AllocError>
     ensures { IfOk result (λ salt. salt.items ≡ default_salt client.now) }
 {
@@ -98,7 +100,8 @@ fn password_key(
     ensures made { IfOk result (λ key. (key.suite ≡ suite.now) × IsKeyOfPassword suite.now password.now
         (salt_or (option_copied salt.entry) client.now) (option_copied parameters.entry) limits.now key.octets.items) }
     ensures rejected { IfErr result (λ e. (e ≡ errors.OutOfMemory)
-        ⊎ ((why : PasswordError) × (e ≡ errors.Password why) × IsNoKeyOfPassword suite.now (option_copied parameters.entry) limits.now why)) }
+        ⊎ ((why : PasswordError) × (e ≡ errors.Password why) × IsNoKeyOfPassword suite.now
+        (option_copied parameters.entry) limits.now why)) }
 {
     let salt = salt_or(alloc, salt, client)?;
     match key_of_password(alloc, suite, password, salt.as_slice(), parameters, limits) {
@@ -114,7 +117,8 @@ fn password_key(
 fn kept_key(alloc: Global, keys: &[Key], suite: &CipherSuite) -> Result<Key, HintError>
     ensures made { IfOk result (λ key. (key.suite ≡ suite.now)
         × ((k : Key) × IsFirst (IsOfSuite suite.now) keys.now k × (key.octets.items ≡ k.octets.items))) }
-    ensures rejected { IfErr result (λ e. (e ≡ errors.OutOfMemory) ⊎ ((e ≡ errors.NoKey) × NoneIs (IsOfSuite suite.now) keys.now)) }
+    ensures rejected { IfErr result (λ e. (e ≡ errors.OutOfMemory) ⊎ ((e ≡ errors.NoKey) × NoneIs
+        (IsOfSuite suite.now) keys.now)) }
 {
     let Some(key) = key_among(keys, suite) else {
         return Err(HintError::NoKey);
@@ -125,7 +129,8 @@ fn kept_key(alloc: Global, keys: &[Key], suite: &CipherSuite) -> Result<Key, Hin
     })
 }
 
-/// The client's key of a suite, for this salt, or the default one, and these parameters of string-to-key, or the default ones.
+/// The client's key of a suite, for this salt, or the default one, and these parameters of
+/// string-to-key, or the default ones.
 ///
 /// `NoKey` where none of its keys is of the suite; `Password` where its password has none.
 pub fn client_key(
@@ -137,7 +142,8 @@ pub fn client_key(
     salt: Option<&[u8]>,
     parameters: Option<&[u8]>,
 ) -> Result<Key, HintError>
-    ensures made { IfOk result (IsClientKey client.now secret.now limits.now suite.now (option_copied salt.entry) (option_copied parameters.entry)) }
+    ensures made { IfOk result (IsClientKey client.now secret.now limits.now suite.now (option_copied salt.entry)
+        (option_copied parameters.entry)) }
     ensures rejected { IfErr result (λ e. (e ≡ errors.OutOfMemory)
         ⊎ IsNoClientKey secret.now limits.now suite.now (option_copied parameters.entry) e) }
 {

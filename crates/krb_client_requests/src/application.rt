@@ -27,8 +27,8 @@ use std::alloc::Global;
 pub struct GssChecksum {
     /// The MD5 of the channel bindings; zeros, where there are none.
     pub bindings: [u8; 16],
-    /// The flags of the context: 2 for mutual authentication, 4 for replay, 8 for sequence, 16 for confidentiality, 32 for integrity. The flag
-    /// of delegation, 1, is not set.
+    /// The flags of the context: 2 for mutual authentication, 4 for replay, 8 for sequence, 16 for
+    /// confidentiality, 32 for integrity. The flag of delegation, 1, is not set.
     pub flags: u32,
 }
 
@@ -84,7 +84,8 @@ fn message(
     mutual_required: bool,
     part: EncryptedData,
 ) -> Result<ApReq, RequestError>
-    ensures { MatchResult result (λ m. AreFlags (options_of mutual_required) m.ap_options × (m ≡ ap_req_of m.ap_options ticket.now part)) (λ e. e ≡ errors.OutOfMemory) }
+    ensures { MatchResult result (λ m. AreFlags (options_of mutual_required) m.ap_options ×
+        (m ≡ ap_req_of m.ap_options ticket.now part)) (λ e. e ≡ errors.OutOfMemory) }
 {
     let pvno = integer_of(alloc, 5)?;
     let msg_type = integer_of(alloc, 14)?;
@@ -93,7 +94,8 @@ fn message(
     Ok(ap_req_of(pvno, msg_type, options, ticket, part))
 }
 
-/// The octets of the AP-REQ of a ticket, in which this authenticator is sealed under the key for this usage (11, or 7 within a TGS-REQ).
+/// The octets of the AP-REQ of a ticket, in which this authenticator is sealed under the key for
+/// this usage (11, or 7 within a TGS-REQ).
 pub(crate) fn ap_message(
     alloc: Global,
     ticket: &Ticket,
@@ -103,7 +105,8 @@ pub(crate) fn ap_message(
     value: Authenticator,
     confounder: &[u8],
 ) -> Result<Vec<u8>, RequestError>
-    ensures made { IfOk result (λ octets. IsApMessage ⟦<ApReq as DerEncode>⟧ ⟦<Authenticator as DerEncode>⟧ ticket.now (key_of key.now) (pos usage) mutual_required
+    ensures made { IfOk result (λ octets. IsApMessage ⟦<ApReq as DerEncode>⟧ ⟦<Authenticator as DerEncode>⟧ ticket.now
+        (key_of key.now) (pos usage) mutual_required
         value confounder.now octets.items) }
     ensures rejected { IfErr result (λ e. IsMemoryOr e (IsNotSealed (key_of key.now) confounder.now e)) }
 {
@@ -144,21 +147,26 @@ fn checksum_of(alloc: Global, gss: &Option<GssChecksum>) -> Result<Option<Checks
     }
 }
 
-/// The AP-REQ by which this client authenticates to a service (RFC 4120, 3.2.2), its authenticator sealed under the session key, for key
-/// usage 11 and this confounder, which has the suite's length and is random.
+/// The AP-REQ by which this client authenticates to a service (RFC 4120, 3.2.2), its authenticator
+/// sealed under the session key, for key usage 11 and this confounder, which has the suite's length
+/// and is random.
 ///
-/// `Delegation` where the flag of delegation is set; else `Microseconds` where there are more than 999999; else `Time` where the year is
-/// not of 0 to 9999; else `Subkey` where the subkey has not its suite's length; else `Confounder`, else `Key`, where the confounder or the
-/// session key has not.
+/// `Delegation` where the flag of delegation is set; else `Microseconds` where there are more than
+/// 999999; else `Time` where the year is not of 0 to 9999; else `Subkey` where the subkey has not
+/// its suite's length; else `Confounder`, else `Key`, where the confounder or the session key has
+/// not.
 pub fn ap_request(
     alloc: Global,
     request: &ApRequest,
     sender: &Sender,
     confounder: &[u8],
 ) -> Result<Vec<u8>, RequestError>
-    ensures made { IfOk result (λ octets. IsApRequest ⟦<ApReq as DerEncode>⟧ ⟦<Authenticator as DerEncode>⟧ request.now.ticket.now
-        (key_of request.now.session) request.now.gss request.now.mutual_required sender.now confounder.now octets.items) }
-    ensures rejected { IfErr result (λ e. IsMemoryOr e (IsNoApRequest (key_of request.now.session) request.now.gss sender.now confounder.now e)) }
+    ensures made { IfOk result (λ octets. IsApRequest ⟦<ApReq as DerEncode>⟧ ⟦<Authenticator as DerEncode>⟧
+        request.now.ticket.now
+        (key_of request.now.session) request.now.gss request.now.mutual_required sender.now confounder.now
+        octets.items) }
+    ensures rejected { IfErr result (λ e. IsMemoryOr e (IsNoApRequest
+        (key_of request.now.session) request.now.gss sender.now confounder.now e)) }
 {
     if delegates(&request.gss) {
         return Err(RequestError::Delegation);

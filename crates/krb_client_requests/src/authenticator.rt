@@ -53,7 +53,8 @@ fn key_value(key_type: IntegerAsn1, octets: Vec<u8>) -> EncryptionKey
 fn encryption_key(alloc: Global, key: &LentKey) -> Result<EncryptionKey, RequestError>
     ensures size { IfOk result (λ _. length key.now.octets.now ≡ key_octets_of key.now.suite.now) }
     ensures key { IfOk result (λ k. k ≡ key_value (pos (etype key.now.suite.now)) key.now.octets.now) }
-    ensures rejected { IfErr result (λ e. IsMemoryOr e ((e ≡ errors.Subkey) × (length key.now.octets.now ≢ key_octets_of key.now.suite.now))) }
+    ensures rejected { IfErr result (λ e. IsMemoryOr e ((e ≡ errors.Subkey) ×
+        (length key.now.octets.now ≢ key_octets_of key.now.suite.now))) }
 {
     if key.octets.len() != key.suite.key_size() {
         return Err(RequestError::Subkey);
@@ -113,8 +114,8 @@ fn authenticator_of(
 
 /// The authenticator of this client, with this checksum.
 ///
-/// `Microseconds` where there are more than 999999; else `Time` where the year is not of 0 to 9999; else `Subkey` where the subkey has not
-/// its suite's length.
+/// `Microseconds` where there are more than 999999; else `Time` where the year is not of 0 to 9999;
+/// else `Subkey` where the subkey has not its suite's length.
 pub(crate) fn authenticator(
     alloc: Global,
     sender: &Sender,

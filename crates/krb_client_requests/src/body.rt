@@ -20,7 +20,8 @@ use std::alloc::Global;
 /// The most that a nonce is.
 const MOST_NONCE: u32 = (1 << 31) - 1;
 
-/// What a client wants of a KDC (RFC 4120, 5.4.1). It asks for no addresses, and gives no authorization data and no further tickets.
+/// What a client wants of a KDC (RFC 4120, 5.4.1). It asks for no addresses, and gives no
+/// authorization data and no further tickets.
 #[derive(Debug, Drop, Clone, Copy)]
 pub struct Want<'a> {
     /// The realm of the server, and in an AS-REQ of the client.
@@ -29,9 +30,11 @@ pub struct Want<'a> {
     pub sname: &'a PrincipalName,
     /// The options, by their numbers (RFC 4120, 5.4.1: KDCOptions), 0 to 31.
     pub options: &'a [usize],
-    /// From when on the ticket is to be valid, in seconds since 1 January 1970; `None` where from now on.
+    /// From when on the ticket is to be valid, in seconds since 1 January 1970; `None` where from
+    /// now on.
     pub from: Option<i64>,
-    /// Until when the ticket is to be valid, in seconds since 1 January 1970; 0 for as long as the KDC allows.
+    /// Until when the ticket is to be valid, in seconds since 1 January 1970; 0 for as long as the
+    /// KDC allows.
     pub till: i64,
     /// Until when the ticket is to be renewable, in seconds since 1 January 1970.
     pub rtime: Option<i64>,
@@ -84,8 +87,8 @@ fn body_of(
 
 /// The body of what is wanted, for a client of this name; a TGS-REQ has none (RFC 4120, 5.4.1).
 ///
-/// `Nonce` where the nonce is 2^31 or more; else `OptionNumber` where the number of an option is past 31; else `Time` where `from`, `till`
-/// or `rtime` is of no year of 0 to 9999.
+/// `Nonce` where the nonce is 2^31 or more; else `OptionNumber` where the number of an option is
+/// past 31; else `Time` where `from`, `till` or `rtime` is of no year of 0 to 9999.
 pub(crate) fn body(
     alloc: Global,
     want: &Want,
@@ -134,7 +137,8 @@ fn request(
     padata: Option<Asn1SequenceOf<PaData>>,
     body: KdcReqBody,
 ) -> Result<KdcReq, RequestError>
-    ensures { MatchResult result (λ m. m ≡ request_of (pos 5) (pos msg_type) padata body) (λ e. e ≡ errors.OutOfMemory) }
+    ensures { MatchResult result (λ m. m ≡ request_of (pos 5) (pos msg_type) padata body)
+        (λ e. e ≡ errors.OutOfMemory) }
 {
     let pvno = integer_of(alloc, 5)?;
     let msg_type = integer_of(alloc, msg_type)?;
@@ -149,7 +153,8 @@ pub(crate) fn as_req_octets(
 ) -> Result<Vec<u8>, RequestError>
     ensures valid { IfOk result (λ _. ⟦<AsReq as DerEncode>⟧.is_value (request_of (pos 5) (pos 10) padata body)) }
     ensures octets { MatchResult result
-        (λ octets. octets.items ≡ ⟦<AsReq as DerEncode>⟧.enc (request_of (pos 5) (pos 10) padata body)) (λ e. e ≡ errors.OutOfMemory) }
+        (λ octets. octets.items ≡ ⟦<AsReq as DerEncode>⟧.enc (request_of (pos 5) (pos 10) padata body))
+        (λ e. e ≡ errors.OutOfMemory) }
 {
     let request = request(alloc, 10, padata, body)?;
     let message: AsReq = ApplicationTag(request);
@@ -165,7 +170,8 @@ pub(crate) fn tgs_req_octets(
 ) -> Result<Vec<u8>, RequestError>
     ensures valid { IfOk result (λ _. ⟦<TgsReq as DerEncode>⟧.is_value (request_of (pos 5) (pos 12) padata body)) }
     ensures octets { MatchResult result
-        (λ octets. octets.items ≡ ⟦<TgsReq as DerEncode>⟧.enc (request_of (pos 5) (pos 12) padata body)) (λ e. e ≡ errors.OutOfMemory) }
+        (λ octets. octets.items ≡ ⟦<TgsReq as DerEncode>⟧.enc (request_of (pos 5) (pos 12) padata body))
+        (λ e. e ≡ errors.OutOfMemory) }
 {
     let request = request(alloc, 12, padata, body)?;
     let message: TgsReq = ApplicationTag(request);

@@ -47,7 +47,8 @@ fn sum(
 ) -> Result<Vec<u8>, RequestError>
     ensures size { IfOk result (λ _. length key.now ≡ checksum_key_octets_of suite.now) }
     ensures sum { IfOk result (λ s. s.items ≡ sum_of suite.now key.now (pos usage) octets.now) }
-    ensures rejected { IfErr result (λ e. IsMemoryOr e ((e ≡ errors.Key) × (length key.now ≢ checksum_key_octets_of suite.now))) }
+    ensures rejected { IfErr result (λ e. IsMemoryOr e ((e ≡ errors.Key) ×
+        (length key.now ≢ checksum_key_octets_of suite.now))) }
 {
     let Some(prepared) = prepared_for(suite, key, i32::from(usage)) else {
         return Err(RequestError::Key);
@@ -58,7 +59,8 @@ fn sum(
     }
 }
 
-/// The checksum of these octets by the key's suite, under the key for this usage. `Key` where the key has not the suite's length.
+/// The checksum of these octets by the key's suite, under the key for this usage. `Key` where the
+/// key has not the suite's length.
 pub(crate) fn checksum(
     alloc: Global,
     key: &LentKey,
@@ -66,7 +68,8 @@ pub(crate) fn checksum(
     octets: &[u8],
 ) -> Result<Checksum, RequestError>
     ensures checksum { IfOk result (IsChecksum (key_of key.now) (pos usage) octets.now) }
-    ensures rejected { IfErr result (λ e. IsMemoryOr e ((e ≡ errors.Key) × (length key.now.octets.now ≢ key_octets_of key.now.suite.now))) }
+    ensures rejected { IfErr result (λ e. IsMemoryOr e ((e ≡ errors.Key) ×
+        (length key.now.octets.now ≢ key_octets_of key.now.suite.now))) }
 {
     let suite = key.suite.checksum_type();
     let sum = sum(alloc, &suite, key.octets, usage, octets)?;

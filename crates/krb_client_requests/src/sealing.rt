@@ -67,7 +67,8 @@ fn encrypted(etype: IntegerAsn1, cipher: Vec<u8>) -> EncryptedData
     }
 }
 
-/// The value's encoding, sealed under the key for this usage, with this confounder, which has the suite's length.
+/// The value's encoding, sealed under the key for this usage, with this confounder, which has the
+/// suite's length.
 ///
 /// `Confounder` where the confounder has not, else `Key` where the key has not.
 pub(crate) fn sealed<T: DerEncode>(
@@ -77,7 +78,8 @@ pub(crate) fn sealed<T: DerEncode>(
     confounder: &[u8],
     value: &T,
 ) -> Result<EncryptedData, RequestError>
-    ensures sealed { IfOk result (IsSealedPart ⟦<T as DerEncode>⟧ (key_of key.now) (pos usage) confounder.now value.now) }
+    ensures sealed { IfOk result (IsSealedPart ⟦<T as DerEncode>⟧ (key_of key.now)
+        (pos usage) confounder.now value.now) }
     ensures rejected { IfErr result (λ e. IsMemoryOr e (IsNotSealed (key_of key.now) confounder.now e)) }
 {
     let payload = encoding(alloc, value)?;

@@ -36,9 +36,11 @@ fn pa_tgs_req(
     confounder: &[u8],
     body: &[u8],
 ) -> Result<Asn1SequenceOf<PaData>, RequestError>
-    ensures made { IfOk result (IsPaTgsReq ⟦<ApReq as DerEncode>⟧ ⟦<Authenticator as DerEncode>⟧ ticket.now (key_of session.now) sender.now
+    ensures made { IfOk result (IsPaTgsReq ⟦<ApReq as DerEncode>⟧ ⟦<Authenticator as DerEncode>⟧ ticket.now
+        (key_of session.now) sender.now
         confounder.now body.now) }
-    ensures rejected { IfErr result (λ e. IsMemoryOr e (IsNoPaTgsReq (key_of session.now) sender.now confounder.now e)) }
+    ensures rejected { IfErr result (λ e. IsMemoryOr e (IsNoPaTgsReq
+        (key_of session.now) sender.now confounder.now e)) }
 {
     let cksum = checksum(alloc, session, 6, body)?;
     let value = authenticator(alloc, sender, Some(cksum))?;
@@ -47,13 +49,14 @@ fn pa_tgs_req(
     Ok(list)
 }
 
-/// The TGS-REQ for what is wanted, by a ticket for the KDC and its session key (RFC 4120, 3.3.1). The authenticator has the checksum of
-/// the encoding of the body (key usage 6), and is sealed for key usage 7 and this confounder, which has the length of the session key's
-/// suite and is random.
+/// The TGS-REQ for what is wanted, by a ticket for the KDC and its session key (RFC 4120, 3.3.1).
+/// The authenticator has the checksum of the encoding of the body (key usage 6), and is sealed for
+/// key usage 7 and this confounder, which has the length of the session key's suite and is random.
 ///
-/// `Nonce`, `OptionNumber` and `Time` as in `as_request`; else `Key` where the session key has not its suite's length; else `Microseconds`
-/// where the sender's are more than 999999; else `Time` where the year of its time is not of 0 to 9999; else `Subkey` where the subkey has
-/// not its suite's length; else `Confounder` where the confounder has not the suite's.
+/// `Nonce`, `OptionNumber` and `Time` as in `as_request`; else `Key` where the session key has not
+/// its suite's length; else `Microseconds` where the sender's are more than 999999; else `Time`
+/// where the year of its time is not of 0 to 9999; else `Subkey` where the subkey has not its
+/// suite's length; else `Confounder` where the confounder has not the suite's.
 pub fn tgs_request(
     alloc: Global,
     want: &Want,
@@ -62,13 +65,22 @@ pub fn tgs_request(
     sender: &Sender,
     confounder: &[u8],
 ) -> Result<Vec<u8>, RequestError>
-    ensures made { IfOk result (λ octets. IsTgsRequest ⟦<TgsReq as DerEncode>⟧ ⟦<KdcReqBody as DerEncode>⟧ ⟦<ApReq as DerEncode>⟧ ⟦<Authenticator as DerEncode>⟧
+    ensures made { IfOk result (λ octets. IsTgsRequest ⟦<TgsReq as DerEncode>⟧ ⟦<KdcReqBody as DerEncode>⟧
+        ⟦<ApReq as DerEncode>⟧ ⟦<Authenticator as DerEncode>⟧
         (wanted want.now) ticket.now (key_of session.now) sender.now confounder.now octets.items) }
-    ensures rejected { IfErr result (λ e. IsMemoryOr e (IsNoTgsRequest (wanted want.now) (key_of session.now) sender.now confounder.now e)) }
+    ensures rejected { IfErr result (λ e. IsMemoryOr e (IsNoTgsRequest (wanted want.now)
+        (key_of session.now) sender.now confounder.now e)) }
 {
     let body = body(alloc, want, None)?;
     let encoded = encoding(alloc, &body)?;
-    match pa_tgs_req(alloc, ticket, session, sender, confounder, encoded.as_slice()) {
+    match pa_tgs_req(
+        alloc,
+        ticket,
+        session,
+        sender,
+        confounder,
+        encoded.as_slice(),
+    ) {
         Ok(padata) => {
             let octets = tgs_req_octets(alloc, Some(padata), body)?;
             Ok(octets)

@@ -33,7 +33,8 @@ pub(crate) fn only(
     padata_type: u32,
     octets: Vec<u8>,
 ) -> Result<Asn1SequenceOf<PaData>, RequestError>
-    ensures { MatchResult result (λ list. list ≡ element_of (pos padata_type) octets.items ∷ []) (λ e. e ≡ errors.OutOfMemory) }
+    ensures { MatchResult result (λ list. list ≡ element_of (pos padata_type) octets.items ∷ [])
+        (λ e. e ≡ errors.OutOfMemory) }
 {
     let number = integer_of(alloc, padata_type)?;
     let mut list = Vec::new(alloc);
@@ -51,12 +52,12 @@ fn stamp_of(time: KerberosTime, microseconds: Microseconds) -> PaEncTsEnc
     }
 }
 
-/// The client's time, sealed under its key (key usage 1): the pre-authentication data of an AS-REQ (RFC 4120, 5.2.7.2). The time is in
-/// seconds since 1 January 1970 and microseconds; the confounder has as many octets as the suite's, 8 for triple DES, else 16, and is
-/// random.
+/// The client's time, sealed under its key (key usage 1): the pre-authentication data of an AS-REQ
+/// (RFC 4120, 5.2.7.2). The time is in seconds since 1 January 1970 and microseconds; the
+/// confounder has as many octets as the suite's, 8 for triple DES, else 16, and is random.
 ///
-/// `Microseconds` where there are more than 999999; else `Time` where the year is not of 0 to 9999; else `Confounder`, else `Key`, where
-/// the confounder or the key has not the suite's length.
+/// `Microseconds` where there are more than 999999; else `Time` where the year is not of 0 to 9999;
+/// else `Confounder`, else `Key`, where the confounder or the key has not the suite's length.
 pub fn pa_enc_timestamp(
     alloc: Global,
     key: &LentKey,
@@ -64,8 +65,10 @@ pub fn pa_enc_timestamp(
     microseconds: u32,
     confounder: &[u8],
 ) -> Result<Asn1SequenceOf<PaData>, RequestError>
-    ensures made { IfOk result (IsTimestamp ⟦<PaEncTsEnc as DerEncode>⟧ ⟦<EncryptedData as DerEncode>⟧ (key_of key.now) seconds microseconds confounder.now) }
-    ensures rejected { IfErr result (λ e. IsMemoryOr e (IsNoTimestamp (key_of key.now) seconds microseconds confounder.now e)) }
+    ensures made { IfOk result (IsTimestamp ⟦<PaEncTsEnc as DerEncode>⟧ ⟦<EncryptedData as DerEncode>⟧
+        (key_of key.now) seconds microseconds confounder.now) }
+    ensures rejected { IfErr result (λ e. IsMemoryOr e (IsNoTimestamp
+        (key_of key.now) seconds microseconds confounder.now e)) }
 {
     let (time, microseconds) = time_at(alloc, seconds, microseconds)?;
     let stamp = stamp_of(time, microseconds);
