@@ -7,6 +7,7 @@
 pub mod accept;
 pub mod build;
 pub mod ccache;
+pub mod client;
 pub mod constants;
 pub mod convert;
 pub mod crypto;
