@@ -9,10 +9,9 @@ pub use krb_show::{
     text_of_page_with_places, walk_named,
 };
 pub use krb_show_any::{
-    Everything, Kind, PageError, Pages, broken_rules_of, kind_of_name, kind_of_octets,
-    name_of_kind, page_with_places, place_of_error,
+    Everything, FilePageError, Kind, PageError, Pages, broken_rules_of, kind_of_name,
+    kind_of_octets, name_of_kind, page_of_ccache, page_of_keytab, page_with_places, place_of_error,
 };
-pub use krb_show_any::{FilePageError, page_of_ccache, page_of_keytab};
 pub use krb_show_messages::{
     Certificate, CertificateKind, DataKind, HasRow, KerberosFormats, Message, RowField,
     page_of_certificate_data, page_of_data, page_of_message, page_of_negoex, page_of_pac,

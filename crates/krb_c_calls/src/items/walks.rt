@@ -46,11 +46,7 @@ impl From<Fault> for WalkRefusal {
 
 /// The items of octets as an element of the type of this name. Refused: `Number` where no type has the name; else the first error of the octets from the
 /// left, with its place; `Memory` where an allocation failed.
-pub fn walked(
-    alloc: Global,
-    type_name: &[u8],
-    octets: &[u8],
-) -> Result<Vec<Item>, WalkRefusal>
+pub fn walked(alloc: Global, type_name: &[u8], octets: &[u8]) -> Result<Vec<Item>, WalkRefusal>
     ensures { MatchResult result
         (λ items. AreItems type_name.now octets.now items.items)
         (λ refused. RefusesItems type_name.now octets.now (refusal_status refused.refusal) refused.offset) }
