@@ -1,5 +1,5 @@
 -- Octets of a type as items, with what the keys of a keytab open in them, as C is handed them.
-use Rattle.std.specs.Prelude.{◌≡◌, ◌⊎◌, ℕ, ◌+◌, ◌≤◌, List, [], ◌++◌, length, drop}
+use Rattle.std.specs.Prelude.{◌≡◌, ◌⊎◌, ℕ, ◌+◌, ◌≤◌, List, ◌++◌, length, drop}
 use Rattle.krb_c_calls.specs.Items.{AreItems, RefusesItems}
 use Rattle.krb_c_calls.specs.Statuses.{refusal_status}
 use Rattle.krb_c_calls.specs.declared.call_error.CallError.{CallError}

@@ -1,5 +1,5 @@
 -- What is handed out of items, with what keys make of each ciphertext among them (RFC 3961, 5.3).
-use Rattle.std.specs.Prelude.{◌≡◌, ℕ, ◌+◌, ◌-◌, Bool, true, false, List, [], ◌∷◌, ◌++◌, Option, None, Some, length, map}
+use Rattle.std.specs.Prelude.{◌≡◌, ℕ, ◌+◌, Bool, true, false, List, [], ◌∷◌, ◌++◌, Option, None, Some, length, map}
 use Rattle.std.specs.List.{slice_get}
 use Rattle.krb_c_calls.specs.Items.{record_of}
 use Rattle.krb_c_calls.specs.declared.items.record.ItemRecord.{ItemRecord}

@@ -1,7 +1,6 @@
 -- What stands before an item, and the keys among items: the rules of `krb_decrypt` for tokens (`specs/Preceding.antt` there), over items.
 use Rattle.std.specs.Prelude.{ℕ, ℤ, pos, nat_lt, if◌then◌else◌, Bool, true, false, List, [], ◌∷◌, ◌++◌, Option, None, Some}
 use Rattle.std.specs.Option.{option_map}
-use Rattle.krb_crypto.specs.declared.cipher_suite.CipherSuite.{CipherSuite}
 use Rattle.krb_decrypt.specs.Keys.{NamedKey, suite_of}
 use Rattle.krb_decrypt.specs.Preceding.{in_list, named_key}
 use Rattle.krb_decrypt.specs.declared.preceding.Preceding.{Preceding}
