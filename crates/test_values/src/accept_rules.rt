@@ -2,7 +2,7 @@
 
 use krb_accept_rules::{Entry, Refusal, ReplayCache, Rule, Terms};
 use krb_der::{Asn1SequenceOf, GeneralStringAsn1};
-use std::alloc::Global;
+use std::alloc::{AllocError, Global};
 use std::test::Fail;
 
 /// A text of Kerberos.
@@ -29,133 +29,162 @@ fn entry(alloc: Global, seconds: i64, microseconds: u32) -> Result<Entry, Fail> 
     })
 }
 
-/// The numbers are typed from RFC 4120, 7.5.9, by what its names say of each rule.
+/// The rules with their error codes and texts: the numbers are typed from RFC 4120, 7.5.9, by what its names say of each rule.
+const RULES: [(Rule, u32, &str); 30] = [
+    (Rule::NotRequest, 40, "the message is not an AP-REQ"),
+    (Rule::Version, 39, "the protocol version is not 5"),
+    (
+        Rule::MessageType,
+        40,
+        "the message type is not that of an AP-REQ",
+    ),
+    (
+        Rule::TicketVersion,
+        39,
+        "the version of the ticket is not 5",
+    ),
+    (Rule::Options, 60, "the options have fewer than 32 bits"),
+    (
+        Rule::UserToUser,
+        67,
+        "the ticket is sealed under a session key that the service does not have",
+    ),
+    (
+        Rule::NotUs,
+        35,
+        "the service has no key for the server that the ticket names",
+    ),
+    (
+        Rule::NoKey,
+        45,
+        "the service has no key of the ticket's encryption type",
+    ),
+    (
+        Rule::KeyVersion,
+        44,
+        "the service has no key of the version that the ticket names",
+    ),
+    (
+        Rule::TicketSuite,
+        14,
+        "the ticket's encryption type is not supported",
+    ),
+    (Rule::Ticket, 31, "no key of the service opens the ticket"),
+    (
+        Rule::Flags,
+        60,
+        "the ticket's flags have fewer than 32 bits",
+    ),
+    (
+        Rule::SessionSuite,
+        14,
+        "the session key's encryption type is not supported or permitted",
+    ),
+    (
+        Rule::Authenticator,
+        31,
+        "the session key does not open the authenticator",
+    ),
+    (
+        Rule::AuthenticatorVersion,
+        39,
+        "the version of the authenticator is not 5",
+    ),
+    (
+        Rule::Microseconds,
+        60,
+        "the client's microseconds are not 0 to 999999",
+    ),
+    (
+        Rule::SequenceNumber,
+        60,
+        "the sequence number does not fit 32 bits",
+    ),
+    (
+        Rule::Subkey,
+        14,
+        "the subkey is not of a supported and permitted encryption type",
+    ),
+    (
+        Rule::OtherClient,
+        36,
+        "the ticket and the authenticator name different clients",
+    ),
+    (
+        Rule::OtherAddress,
+        38,
+        "the ticket is not for the client's address",
+    ),
+    (Rule::Skew, 37, "the clocks differ by more than the skew"),
+    (Rule::NotYetValid, 33, "the ticket is not yet valid"),
+    (Rule::Invalid, 33, "the ticket has the flag INVALID"),
+    (Rule::Expired, 32, "the ticket has expired"),
+    (Rule::Path, 28, "no KDC has checked the path of realms"),
+    (
+        Rule::CriticalData,
+        60,
+        "the service does not understand the authorization data",
+    ),
+    (Rule::DataForm, 60, "the authorization data is malformed"),
+    (
+        Rule::Unremembered,
+        34,
+        "the authenticator is older than the replay cache",
+    ),
+    (Rule::Repeat, 34, "the authenticator was accepted before"),
+    (Rule::OutOfMemory, 60, "an allocation failed"),
+];
+
+/// Whether the rule has this error code and this text, and so has a refusal by it.
+fn is_rule(alloc: Global, rule: Rule, code: u32, words: &str) -> Result<bool, AllocError> {
+    Ok(
+        rule.code() == code
+            && rule.to_string(alloc)?.as_str() == words
+            && Refusal::plain(rule).to_string(alloc)?.as_str() == words,
+    )
+}
+
 #[test]
 fn rules_of_an_acceptor(rt: HostRuntime) -> Result<(), Fail> {
-    let alloc = rt.alloc();
-    for (rule, code, words) in [
-        (Rule::NotRequest, 40, "the message is not an AP-REQ"),
-        (Rule::Version, 39, "the protocol version is not 5"),
-        (
-            Rule::MessageType,
-            40,
-            "the message type is not that of an AP-REQ",
-        ),
-        (
-            Rule::TicketVersion,
-            39,
-            "the version of the ticket is not 5",
-        ),
-        (Rule::Options, 60, "the options have fewer than 32 bits"),
-        (
-            Rule::UserToUser,
-            67,
-            "the ticket is sealed under a session key that the service does not have",
-        ),
-        (
-            Rule::NotUs,
-            35,
-            "the service has no key for the server that the ticket names",
-        ),
-        (
-            Rule::NoKey,
-            45,
-            "the service has no key of the ticket's encryption type",
-        ),
-        (
-            Rule::KeyVersion,
-            44,
-            "the service has no key of the version that the ticket names",
-        ),
-        (
-            Rule::TicketSuite,
-            14,
-            "the ticket's encryption type is not supported",
-        ),
-        (Rule::Ticket, 31, "no key of the service opens the ticket"),
-        (
-            Rule::Flags,
-            60,
-            "the ticket's flags have fewer than 32 bits",
-        ),
-        (
-            Rule::SessionSuite,
-            14,
-            "the session key's encryption type is not supported or permitted",
-        ),
-        (
-            Rule::Authenticator,
-            31,
-            "the session key does not open the authenticator",
-        ),
-        (
-            Rule::AuthenticatorVersion,
-            39,
-            "the version of the authenticator is not 5",
-        ),
-        (
-            Rule::Microseconds,
-            60,
-            "the client's microseconds are not 0 to 999999",
-        ),
-        (
-            Rule::SequenceNumber,
-            60,
-            "the sequence number does not fit 32 bits",
-        ),
-        (
-            Rule::Subkey,
-            14,
-            "the subkey is not of a supported and permitted encryption type",
-        ),
-        (
-            Rule::OtherClient,
-            36,
-            "the ticket and the authenticator name different clients",
-        ),
-        (
-            Rule::OtherAddress,
-            38,
-            "the ticket is not for the client's address",
-        ),
-        (Rule::Skew, 37, "the clocks differ by more than the skew"),
-        (Rule::NotYetValid, 33, "the ticket is not yet valid"),
-        (Rule::Invalid, 33, "the ticket has the flag INVALID"),
-        (Rule::Expired, 32, "the ticket has expired"),
-        (Rule::Path, 28, "no KDC has checked the path of realms"),
-        (
-            Rule::CriticalData,
-            60,
-            "the service does not understand the authorization data",
-        ),
-        (Rule::DataForm, 60, "the authorization data is malformed"),
-        (
-            Rule::Unremembered,
-            34,
-            "the authenticator is older than the replay cache",
-        ),
-        (Rule::Repeat, 34, "the authenticator was accepted before"),
-        (Rule::OutOfMemory, 60, "an allocation failed"),
-    ] {
-        assert_eq!(rt; rule.code(), code);
-        assert_eq!(rt; rule.to_string(alloc)?.as_str(), words);
-        assert_eq!(rt; Refusal::plain(rule).to_string(alloc)?.as_str(), words);
+    for row in &RULES {
+        assert!(rt; is_rule(rt.alloc(), row.0, row.1, row.2)?, "{}", row.2);
     }
-    let terms = Terms::new(alloc, 300)?;
-    assert_eq!(rt; terms.etypes.as_slice(), [17, 18, 19, 20].as_slice());
-    assert_eq!(rt; terms.known_data.as_slice(), [8, 128].as_slice());
+    Ok(())
+}
+
+#[test]
+fn usual_terms(rt: HostRuntime) -> Result<(), Fail> {
+    let terms = Terms::new(rt.alloc(), 300)?;
+    assert!(rt; terms.etypes.as_slice() == [17, 18, 19, 20].as_slice());
+    assert!(rt; terms.known_data.as_slice() == [8, 128].as_slice());
+    Ok(())
+}
+
+/// A cache of an entry for each second up to this one.
+fn cache_of(alloc: Global, seconds: i64) -> Result<ReplayCache, Fail> {
     let mut cache = ReplayCache::new(alloc);
-    for second in 0..1000 {
+    for second in 0..seconds {
         cache.remember(entry(alloc, second, 7)?)?;
     }
-    assert_eq!(rt; cache.len(), 1000);
+    Ok(cache)
+}
+
+/// Whether the cache has the entry of this second, and not another of other microseconds.
+fn has(alloc: Global, cache: &ReplayCache, second: i64) -> Result<bool, Fail> {
+    Ok(cache.contains(&entry(alloc, second, 7)?) && !cache.contains(&entry(alloc, second, 8)?))
+}
+
+#[test]
+fn thousand_entries(rt: HostRuntime) -> Result<(), Fail> {
+    let alloc = rt.alloc();
+    let mut cache = cache_of(alloc, 1000)?;
+    assert!(rt; cache.len() == 1000);
     for second in 0..1000 {
-        assert!(rt; cache.contains(&entry(alloc, second, 7)?));
-        assert!(rt; !cache.contains(&entry(alloc, second, 8)?));
+        assert!(rt; has(alloc, &cache, second)?);
     }
     cache.forget(800, 300);
-    assert_eq!(rt; cache.len(), 500);
-    assert!(rt; !cache.contains(&entry(alloc, 499, 7)?));
-    assert!(rt; cache.contains(&entry(alloc, 500, 7)?));
+    assert!(rt; cache.len() == 500);
+    assert!(rt; !has(alloc, &cache, 499)?);
+    assert!(rt; has(alloc, &cache, 500)?);
     Ok(())
 }

@@ -5,12 +5,13 @@
 //! as here. That writer makes the files of MIT Kerberos of what they hold. `klist -C -f -a -n -d` of MIT Kerberos 1.20.1 shows of `FOUR`
 //! and `THREE` these principals, times, flags, addresses, types of authorization data, and the value of the configuration entry.
 
+use hex::FromHexError;
 use krb_files::ccache::{
     CcachePrincipalParts, CcacheVersion, CcacheWriteError, NewCcache, NewCredential, Times,
     push_credential, write,
 };
 use krb_files::fields::{PrincipalParts, TypedOctets};
-use std::alloc::Global;
+use std::alloc::{AllocError, Global};
 use std::test::Fail;
 
 /// Version 4 with three fields of a header, a credential with a value in each field, and a configuration entry.
@@ -101,37 +102,46 @@ fn least<'a>() -> NewCredential<'a> {
     }
 }
 
-/// The components of a name, with spaces between.
-fn components(alloc: Global, text: &str) -> Result<Vec<&[u8]>, Fail> {
-    let mut components = Vec::new(alloc);
-    for component in text.split(' ') {
-        components.push(component.as_bytes())?;
-    }
-    Ok(components)
+/// The address of a full credential of type 24, IPv6.
+const ADDRESS: [u8; 16] = [0xfd, 0, 0, 0, 0, 0, 0, 0, 0, 0, 0, 0, 0, 0, 0, 2];
+
+/// The key of a full credential.
+const KEY: [u8; 32] = [
+    0, 1, 2, 3, 4, 5, 6, 7, 8, 9, 10, 11, 12, 13, 14, 15, 16, 17, 18, 19, 20, 21, 22, 23, 24, 25,
+    26, 27, 28, 29, 30, 31,
+];
+
+/// The ticket of a full credential.
+const TICKET: [u8; 19] = [
+    0x61, 0x12, 0x30, 0x10, 0x03, 0x02, 0x01, 0x05, 0xa1, 0x09, 0x30, 0x07, 0x02, 0x01, 0x0c, 0xa2,
+    0x02, 0x04, 0x00,
+];
+
+/// Alice of the realm LAB.EXAMPLE.
+fn alice<'a>() -> CcachePrincipalParts<'a> {
+    principal(1, b"LAB.EXAMPLE", &[b"alice"])
 }
 
 /// Appends a credential with a value in each field.
-fn push_full(alloc: Global, out: &mut Vec<u8>, version: CcacheVersion) -> Result<(), Fail> {
-    let alice = components(alloc, "alice")?;
-    let web = components(alloc, "HTTP web.lab.example")?;
-    let mut key = Vec::new(alloc);
-    for octet in 0..32 {
-        key.push(octet)?;
-    }
-    let address = hex::decode(alloc, "fd000000000000000000000000000002")?;
-    let mut addresses = Vec::new(alloc);
-    addresses.push(TypedOctets::new(2, &[192, 0, 2, 7]))?;
-    addresses.push(TypedOctets::new(24, &address))?;
-    let mut authorization_data = Vec::new(alloc);
-    authorization_data.push(TypedOctets::new(1, &[0x30, 0]))?;
-    authorization_data.push(TypedOctets::new(128, NONE))?;
-    authorization_data.push(TypedOctets::new(65535, &[0xff]))?;
-    let ticket = hex::decode(alloc, "6112301003020105a109300702010ca2020400")?;
+fn push_full(
+    alloc: Global,
+    out: &mut Vec<u8>,
+    version: CcacheVersion,
+) -> Result<(), CcacheWriteError> {
+    let addresses = [
+        TypedOctets::new(2, &[192, 0, 2, 7]),
+        TypedOctets::new(24, &ADDRESS),
+    ];
+    let authorization_data = [
+        TypedOctets::new(1, &[0x30, 0]),
+        TypedOctets::new(128, NONE),
+        TypedOctets::new(65535, &[0xff]),
+    ];
     let credential = NewCredential {
-        client: principal(1, b"LAB.EXAMPLE", &alice),
-        server: principal(2, b"LAB.EXAMPLE", &web),
+        client: alice(),
+        server: principal(2, b"LAB.EXAMPLE", &[b"HTTP", b"web.lab.example"]),
         etype: 18,
-        key: &key,
+        key: &KEY,
         times: Times {
             authtime: 1_700_000_001,
             starttime: 1_700_000_002,
@@ -142,60 +152,66 @@ fn push_full(alloc: Global, out: &mut Vec<u8>, version: CcacheVersion) -> Result
         flags: 0x50e1_0000,
         addresses: &addresses,
         authorization_data: &authorization_data,
-        ticket: &ticket,
+        ticket: &TICKET,
         second_ticket: &[0x61, 3, 2, 1, 5],
     };
-    push_credential(alloc, out, version, &credential)?;
-    Ok(())
+    push_credential(alloc, out, version, &credential)
 }
 
 /// Appends a configuration entry.
-fn push_config(alloc: Global, out: &mut Vec<u8>, version: CcacheVersion) -> Result<(), Fail> {
-    let alice = components(alloc, "alice")?;
-    let config = components(
-        alloc,
-        "krb5_ccache_conf_data fast_avail krbtgt/LAB.EXAMPLE@LAB.EXAMPLE",
-    )?;
+fn push_config(
+    alloc: Global,
+    out: &mut Vec<u8>,
+    version: CcacheVersion,
+) -> Result<(), CcacheWriteError> {
+    let config: [&[u8]; 3] = [
+        b"krb5_ccache_conf_data",
+        b"fast_avail",
+        b"krbtgt/LAB.EXAMPLE@LAB.EXAMPLE",
+    ];
     let entry = NewCredential {
-        client: principal(1, b"LAB.EXAMPLE", &alice),
+        client: alice(),
         server: principal(0, b"X-CACHECONF:", &config),
         ticket: b"yes",
         ..least()
     };
-    push_credential(alloc, out, version, &entry)?;
-    Ok(())
+    push_credential(alloc, out, version, &entry)
+}
+
+/// Whether these are the octets of the text in hexadecimal.
+fn is_hex(alloc: Global, octets: &[u8], text: &str) -> Result<bool, AllocError> {
+    Ok(hex::encode(alloc, octets)?.as_str() == text)
+}
+
+/// A cache with both credentials.
+fn with_both(alloc: Global, cache: &NewCcache<'_>) -> Result<Vec<u8>, CcacheWriteError> {
+    let mut octets = write(alloc, cache)?;
+    push_full(alloc, &mut octets, cache.version)?;
+    push_config(alloc, &mut octets, cache.version)?;
+    Ok(octets)
 }
 
 #[test]
 fn version_four(rt: HostRuntime) -> Result<(), Fail> {
-    let alloc = rt.alloc();
-    let alice = components(alloc, "alice")?;
-    let mut header = Vec::new(alloc);
-    header.push(TypedOctets::new(1, &[0xff, 0xff, 0xff, 0xfe, 0, 1, 0xe2, 0x40]))?;
-    header.push(TypedOctets::new(0xfe01, NONE))?;
-    header.push(TypedOctets::new(2, b"abc"))?;
+    let header = [
+        TypedOctets::new(1, &[0xff, 0xff, 0xff, 0xfe, 0, 1, 0xe2, 0x40]),
+        TypedOctets::new(0xfe01, NONE),
+        TypedOctets::new(2, b"abc"),
+    ];
     let cache = NewCcache {
         version: CcacheVersion::Four,
         header: &header,
-        principal: principal(1, b"LAB.EXAMPLE", &alice),
+        principal: alice(),
         credentials: &[],
     };
-    let mut octets = write(alloc, &cache)?;
-    push_full(alloc, &mut octets, CcacheVersion::Four)?;
-    push_config(alloc, &mut octets, CcacheVersion::Four)?;
-    assert_eq!(rt; hex::encode(alloc, &octets)?.as_str(), FOUR);
+    assert!(rt; is_hex(rt.alloc(), &with_both(rt.alloc(), &cache)?, FOUR)?);
     Ok(())
 }
 
 #[test]
 fn version_three(rt: HostRuntime) -> Result<(), Fail> {
-    let alloc = rt.alloc();
-    let alice = components(alloc, "alice")?;
-    let alice = principal(1, b"LAB.EXAMPLE", &alice);
-    let mut octets = write(alloc, &head(CcacheVersion::Three, alice))?;
-    push_full(alloc, &mut octets, CcacheVersion::Three)?;
-    push_config(alloc, &mut octets, CcacheVersion::Three)?;
-    assert_eq!(rt; hex::encode(alloc, &octets)?.as_str(), THREE);
+    let octets = with_both(rt.alloc(), &head(CcacheVersion::Three, alice()))?;
+    assert!(rt; is_hex(rt.alloc(), &octets, THREE)?);
     Ok(())
 }
 
@@ -209,28 +225,32 @@ fn head<'a>(version: CcacheVersion, principal: CcachePrincipalParts<'a>) -> NewC
     }
 }
 
+/// A cache in version 3 with a credential of as little as there can be.
+fn with_least(alloc: Global) -> Result<Vec<u8>, CcacheWriteError> {
+    let nobody = principal(0, NONE, &[]);
+    let mut octets = write(alloc, &head(CcacheVersion::Three, nobody))?;
+    push_credential(alloc, &mut octets, CcacheVersion::Three, &least())?;
+    Ok(octets)
+}
+
 #[test]
 fn nothing_and_least(rt: HostRuntime) -> Result<(), Fail> {
     let alloc = rt.alloc();
-    let nobody = principal(0, NONE, &[]);
-    let octets = write(alloc, &head(CcacheVersion::Four, nobody))?;
-    assert_eq!(rt; hex::encode(alloc, &octets)?.as_str(), NOTHING);
-    let mut octets = write(alloc, &head(CcacheVersion::Three, nobody))?;
-    push_credential(alloc, &mut octets, CcacheVersion::Three, &least())?;
-    assert_eq!(rt; hex::encode(alloc, &octets)?.as_str(), LEAST);
+    let octets = write(alloc, &head(CcacheVersion::Four, principal(0, NONE, &[])))?;
+    assert!(rt; is_hex(alloc, &octets, NOTHING)?);
+    assert!(rt; is_hex(alloc, &with_least(alloc)?, LEAST)?);
     Ok(())
 }
 
-/// A small credential with this ticket.
+/// A small credential with these addresses, data and ticket.
 fn small<'a>(
-    names: (&'a [&'a [u8]], &'a [&'a [u8]]),
     addresses: &'a [TypedOctets<'a>],
     authorization_data: &'a [TypedOctets<'a>],
     ticket: &'a [u8],
 ) -> NewCredential<'a> {
     NewCredential {
-        client: principal(1, b"R", names.0),
-        server: principal(2, b"R", names.1),
+        client: principal(1, b"R", &[b"a"]),
+        server: principal(2, b"R", &[b"b"]),
         etype: 17,
         key: b"k",
         times: Times {
@@ -248,12 +268,38 @@ fn small<'a>(
     }
 }
 
-/// These octets, and then others so many times.
-fn repeated(alloc: Global, front: &str, unit: &str, count: usize) -> Result<Vec<u8>, Fail> {
+/// These octets in hexadecimal, and then others so many times.
+fn repeated(alloc: Global, front: &str, unit: &str, count: usize) -> Result<Vec<u8>, FromHexError> {
     let mut octets = hex::decode(alloc, front)?;
     let unit = hex::decode(alloc, unit)?;
+    octets.extend_from_slice(&unit.repeat(alloc, count)?)?;
+    Ok(octets)
+}
+
+/// A cache of as many such credentials, of `write`.
+fn of_many(
+    alloc: Global,
+    credential: NewCredential<'_>,
+    count: usize,
+) -> Result<Vec<u8>, CcacheWriteError> {
+    let credentials = Vec::from_elem(alloc, credential, count)?;
+    let cache = NewCcache {
+        credentials: &credentials,
+        ..head(CcacheVersion::Four, principal(1, b"R", &[b"a"]))
+    };
+    write(alloc, &cache)
+}
+
+/// As many such credentials, of `push_credential`.
+fn pushed(
+    alloc: Global,
+    version: CcacheVersion,
+    credential: &NewCredential<'_>,
+    count: usize,
+) -> Result<Vec<u8>, CcacheWriteError> {
+    let mut octets = Vec::new(alloc);
     for _ in 0..count {
-        octets.extend_from_slice(&unit)?;
+        push_credential(alloc, &mut octets, version, credential)?;
     }
     Ok(octets)
 }
@@ -262,82 +308,92 @@ fn repeated(alloc: Global, front: &str, unit: &str, count: usize) -> Result<Vec<
 #[test]
 fn many_credentials(rt: HostRuntime) -> Result<(), Fail> {
     let alloc = rt.alloc();
-    let client = components(alloc, "a")?;
-    let server = components(alloc, "b")?;
-    let addresses = [TypedOctets::new(6, b"7")];
-    let data = [TypedOctets::new(8, b"9")];
-    let credential = small((&client, &server), &addresses, &data, b"t");
-    let mut credentials = Vec::new(alloc);
-    for _ in 0..1500 {
-        credentials.push(credential)?;
-    }
-    let cache = NewCcache {
-        credentials: &credentials,
-        ..head(CcacheVersion::Four, principal(1, b"R", &client))
-    };
-    let octets = write(alloc, &cache)?;
-    assert!(rt; octets == repeated(alloc, SMALL_HEAD, SMALL, 1500)?);
-    let mut octets = Vec::new(alloc);
-    for _ in 0..1500 {
-        push_credential(alloc, &mut octets, CcacheVersion::Three, &credential)?;
-    }
-    assert!(rt; octets == repeated(alloc, "", SMALL_IN_THREE, 1500)?);
+    let (addresses, data) = ([TypedOctets::new(6, b"7")], [TypedOctets::new(8, b"9")]);
+    let credential = small(&addresses, &data, b"t");
+    let expected = repeated(alloc, SMALL_HEAD, SMALL, 1500)?;
+    assert!(rt; of_many(alloc, credential, 1500)? == expected);
+    let expected = repeated(alloc, "", SMALL_IN_THREE, 1500)?;
+    assert!(rt; pushed(alloc, CcacheVersion::Three, &credential, 1500)? == expected);
     Ok(())
 }
 
-/// A ticket past 64 KiB, and a header as long as it can be.
-#[test]
-fn large_fields(rt: HostRuntime) -> Result<(), Fail> {
-    let alloc = rt.alloc();
-    let large = repeated(alloc, "", "a5", 70_000)?;
-    let client = components(alloc, "a")?;
-    let server = components(alloc, "b")?;
-    let addresses = [TypedOctets::new(6, b"7")];
-    let data = [TypedOctets::new(8, b"9")];
-    let credential = small((&client, &server), &addresses, &data, &large);
-    let mut octets = Vec::new(alloc);
-    push_credential(alloc, &mut octets, CcacheVersion::Four, &credential)?;
-    // the small credential up to its ticket's length of 32 bits, and then 70,000, so many octets and no second ticket
+/// The octets of a small credential with this ticket.
+fn with_ticket(alloc: Global, ticket: &[u8]) -> Result<Vec<u8>, CcacheWriteError> {
+    let (addresses, data) = ([TypedOctets::new(6, b"7")], [TypedOctets::new(8, b"9")]);
+    let credential = small(&addresses, &data, ticket);
+    pushed(alloc, CcacheVersion::Four, &credential, 1)
+}
+
+/// The small credential up to its ticket's length of 32 bits, and then 70,000, so many octets and no second ticket.
+fn expected_with(alloc: Global, ticket: &[u8]) -> Result<Vec<u8>, FromHexError> {
     let mut expected = hex::decode(alloc, SMALL)?;
-    assert!(rt; expected.len() == 95);
     expected.truncate(86);
     expected.extend_from_slice(&[0, 1, 0x11, 0x70])?;
-    expected.extend_from_slice(&large)?;
+    expected.extend_from_slice(ticket)?;
     expected.extend_from_slice(&[0, 0, 0, 0])?;
-    assert!(rt; octets == expected);
-    let field = repeated(alloc, "", "a5", 65_531)?;
+    Ok(expected)
+}
+
+/// A ticket past 64 KiB.
+#[test]
+fn large_ticket(rt: HostRuntime) -> Result<(), Fail> {
+    let alloc = rt.alloc();
+    let large = Vec::from_elem(alloc, 0xa5, 70_000)?;
+    assert!(rt; SMALL.len() == 190);
+    assert!(rt; with_ticket(alloc, &large)? == expected_with(alloc, &large)?);
+    Ok(())
+}
+
+/// A cache with a header of one field with these octets.
+fn with_header(
+    alloc: Global,
+    version: CcacheVersion,
+    field: &[u8],
+) -> Result<Vec<u8>, CcacheWriteError> {
+    let header = [TypedOctets::new(1, field)];
     let cache = NewCcache {
-        header: &[TypedOctets::new(1, &field)],
-        ..head(CcacheVersion::Four, principal(0, NONE, &[]))
+        header: &header,
+        ..head(version, principal(0, NONE, &[]))
     };
-    let octets = write(alloc, &cache)?;
-    // 05 04, a header of 65,535 octets, a field of tag 1 and 65,531 octets, and a principal of twelve zeros
+    write(alloc, &cache)
+}
+
+/// 05 04, a header of 65,535 octets, a field of tag 1 and 65,531 octets, and a principal of twelve zeros.
+fn expected_header(alloc: Global) -> Result<Vec<u8>, FromHexError> {
     let mut expected = repeated(alloc, "0504ffff0001fffb", "a5", 65_531)?;
     expected.extend_from_slice(&[0; 12])?;
-    assert!(rt; octets == expected);
+    Ok(expected)
+}
+
+/// A header as long as it can be.
+#[test]
+fn large_header(rt: HostRuntime) -> Result<(), Fail> {
+    let alloc = rt.alloc();
+    let field = Vec::from_elem(alloc, 0xa5, 65_531)?;
+    let octets = with_header(alloc, CcacheVersion::Four, &field)?;
+    assert!(rt; octets == expected_header(alloc)?);
     Ok(())
+}
+
+/// The refusal of a header of one field with so many octets.
+fn refusal_of(
+    alloc: Global,
+    version: CcacheVersion,
+    size: usize,
+) -> Result<Option<CcacheWriteError>, AllocError> {
+    let field = Vec::from_elem(alloc, 0xa5, size)?;
+    Ok(with_header(alloc, version, &field).err())
 }
 
 /// A header in version 3, and one that is too long by one octet, in the field or as a whole.
 #[test]
 fn refusals(rt: HostRuntime) -> Result<(), Fail> {
     let alloc = rt.alloc();
-    let nobody = principal(0, NONE, &[]);
-    let cache = NewCcache {
-        header: &[TypedOctets::new(1, NONE)],
-        ..head(CcacheVersion::Three, nobody)
-    };
-    assert!(rt; write(alloc, &cache).err() == Some(CcacheWriteError::HeaderInVersion3));
-    for len in [65_532, 65_536] {
-        let field = repeated(alloc, "", "a5", len)?;
-        let cache = NewCcache {
-            header: &[TypedOctets::new(1, &field)],
-            ..head(CcacheVersion::Four, nobody)
-        };
-        assert!(rt;
-            write(alloc, &cache).err() == Some(CcacheWriteError::TooLong),
-            "{len}"
-        );
-    }
+    let refused = refusal_of(alloc, CcacheVersion::Three, 0)?;
+    assert!(rt; refused == Some(CcacheWriteError::HeaderInVersion3));
+    let refused = refusal_of(alloc, CcacheVersion::Four, 65_532)?;
+    assert!(rt; refused == Some(CcacheWriteError::TooLong), "the field");
+    let refused = refusal_of(alloc, CcacheVersion::Four, 65_536)?;
+    assert!(rt; refused == Some(CcacheWriteError::TooLong), "the whole");
     Ok(())
 }

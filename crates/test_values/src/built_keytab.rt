@@ -6,9 +6,10 @@
 //! shows these values of the first three entries of `BUILT`, and takes the fourth, which has no component, for the end. Of a name the
 //! entry of the highest version is expected where a version of 0 is asked for, as `krb5_kt_get_entry` of MIT Kerberos has it.
 
+use hex::FromHexError;
 use krb_files::fields::PrincipalParts;
-use krb_files::keytab::{KeytabView, KeytabWriteError, NewEntry, push_entry, write};
-use std::alloc::Global;
+use krb_files::keytab::{EntryView, KeytabView, KeytabWriteError, NewEntry, push_entry, write};
+use std::alloc::{AllocError, Global};
 use std::test::Fail;
 
 /// Bob's key of version 300, and bob/admin's of version 7.
@@ -37,80 +38,76 @@ const BUILT: &str =
 /// The record of a small entry.
 const SMALL: &str = "0000001a0001000152000161000000010000000203000400016b00000003";
 
+/// A file of a small entry with a key of 65,535 octets, up to the key.
+const TO_LONG_KEY: &str = "05020001001800010001520001610000000100000002030004ffff";
+
 /// A principal.
 fn principal<'a>(realm: &'a [u8], components: &'a [&'a [u8]]) -> PrincipalParts<'a> {
     PrincipalParts { realm, components }
 }
 
-/// The components of a name, with spaces between.
-fn components(alloc: Global, text: &str) -> Result<Vec<&[u8]>, Fail> {
-    let mut components = Vec::new(alloc);
-    for component in text.split(' ') {
-        components.push(component.as_bytes())?;
-    }
-    Ok(components)
-}
+/// The key of the first entry of `BUILT`.
+const KEY: [u8; 32] = [
+    0, 1, 2, 3, 4, 5, 6, 7, 8, 9, 10, 11, 12, 13, 14, 15, 16, 17, 18, 19, 20, 21, 22, 23, 24, 25,
+    26, 27, 28, 29, 30, 31,
+];
 
-#[test]
-fn built(rt: HostRuntime) -> Result<(), Fail> {
-    let alloc = rt.alloc();
-    let mut key = Vec::new(alloc);
-    for octet in 0..32 {
-        key.push(octet)?;
-    }
-    let web = components(alloc, "HTTP web.lab.example")?;
-    let mut two = components(alloc, "x")?;
-    two.push(&[0xff])?;
-    let one = components(alloc, "a")?;
-    let mut entries = Vec::new(alloc);
-    entries.push(NewEntry {
-        principal: principal(b"LAB.EXAMPLE", &web),
+/// The first entry of `BUILT`.
+fn full<'a>() -> NewEntry<'a> {
+    NewEntry {
+        principal: principal(b"LAB.EXAMPLE", &[b"HTTP", b"web.lab.example"]),
         name_type: 2,
         timestamp: 1_700_000_001,
         kvno: 300,
         etype: 18,
-        key: &key,
-    })?;
-    entries.push(NewEntry {
-        principal: principal(b"R", &two),
+        key: &KEY,
+    }
+}
+
+/// The second entry of `BUILT`.
+fn highest<'a>() -> NewEntry<'a> {
+    NewEntry {
+        principal: principal(b"R", &[b"x", b"\xff"]),
         name_type: 0xffff_ffff,
         timestamp: 0xffff_fffe,
         kvno: 0xffff_ffff,
         etype: 0xfffd,
         key: &[0x80],
-    })?;
-    entries.push(NewEntry {
-        principal: principal(b"R", &one),
-        name_type: 1,
-        timestamp: 2,
-        kvno: 256,
-        etype: 23,
-        key: b"k",
-    })?;
-    entries.push(NewEntry {
+    }
+}
+
+/// An entry of zeros alone.
+fn least<'a>() -> NewEntry<'a> {
+    NewEntry {
         principal: principal(b"", &[]),
         name_type: 0,
         timestamp: 0,
         kvno: 0,
         etype: 0,
         key: b"",
-    })?;
-    let octets = write(alloc, &entries)?;
-    assert_eq!(rt; hex::encode(alloc, &octets)?.as_str(), BUILT);
+    }
+}
+
+#[test]
+fn built(rt: HostRuntime) -> Result<(), Fail> {
+    let third = NewEntry {
+        timestamp: 2,
+        kvno: 256,
+        etype: 23,
+        ..small(b"k")
+    };
+    let octets = write(rt.alloc(), &[full(), highest(), third, least()])?;
+    assert!(rt; hex::encode(rt.alloc(), &octets)?.as_str() == BUILT);
     Ok(())
 }
 
-/// An entry is added to a file of `ktutil`, cut before its second entry: the file is then as `ktutil` wrote it.
-#[test]
-fn added(rt: HostRuntime) -> Result<(), Fail> {
-    let alloc = rt.alloc();
-    let whole = hex::decode(alloc, KTUTIL)?;
+/// The file of `ktutil` up to its second entry, and that entry.
+fn with_bob(alloc: Global) -> Result<Vec<u8>, Fail> {
     let mut octets = hex::decode(alloc, KTUTIL)?;
     octets.truncate(75);
-    let bob: [&[u8]; 2] = [b"bob", b"admin"];
     let key = hex::decode(alloc, "c95040adb6196d5db7da8547dcf2f987")?;
     let entry = NewEntry {
-        principal: principal(b"LAB.EXAMPLE", &bob),
+        principal: principal(b"LAB.EXAMPLE", &[b"bob", b"admin"]),
         name_type: 1,
         timestamp: 1_795_634_522,
         kvno: 7,
@@ -118,74 +115,87 @@ fn added(rt: HostRuntime) -> Result<(), Fail> {
         key: &key,
     };
     push_entry(alloc, &mut octets, &entry)?;
-    assert!(rt; octets == whole);
+    Ok(octets)
+}
+
+/// An entry is added to a file of `ktutil`, cut before its second entry: the file is then as `ktutil` wrote it.
+#[test]
+fn added(rt: HostRuntime) -> Result<(), Fail> {
+    let whole = hex::decode(rt.alloc(), KTUTIL)?;
+    assert!(rt; with_bob(rt.alloc())? == whole);
     Ok(())
 }
 
-/// The version, the encryption type and the key of the entry that is found.
-fn found(
+/// The version, the encryption type and the key of an entry.
+fn line_of(alloc: Global, entry: &EntryView<'_>) -> Result<String, AllocError> {
+    let key = hex::encode(alloc, entry.key())?;
+    format!(in alloc; "{} {} {key}", entry.kvno(), entry.etype())
+}
+
+/// Whether the entry that is found is this one, or none is.
+fn finds(
     alloc: Global,
     (realm, components): (&[u8], &[&[u8]]),
     etype: Option<u16>,
     kvno: u32,
-) -> Result<String, Fail> {
+    expected: &str,
+) -> Result<bool, Fail> {
     let octets = hex::decode(alloc, KADMIN)?;
     let keytab = KeytabView::new(&octets)?;
     match keytab.find(&principal(realm, components), etype, kvno) {
-        Some(entry) => {
-            let key = hex::encode(alloc, entry.key())?;
-            Ok(format!(in alloc; "{} {} {key}", entry.kvno(), entry.etype())?)
-        }
-        None => Ok(String::from_str(alloc, "none")?),
+        Some(entry) => Ok(line_of(alloc, &entry)?.as_str() == expected),
+        None => Ok(expected == "none"),
     }
 }
+
+/// Encryption types and versions that are asked for, 0 for any, and what is found of HTTP/web.lab.example.
+const ASKED: [(Option<u16>, u32, &str); 6] = [
+    (
+        None,
+        0,
+        "3 18 5431f9437f6630e7da51349195eb84afd164a1db703f24f2bc12dd13ce896683",
+    ),
+    (Some(17), 0, "3 17 50ea25f5ea10bdfb5699d80a9a988779"),
+    (Some(17), 2, "2 17 bd2cd14606acb73d4003fe8f680c1c79"),
+    (
+        None,
+        2,
+        "2 18 88aaa5b9f2796ac6d91ff6c66660683a2bb71610f2ce0f917d6865a3ac44518e",
+    ),
+    (Some(23), 0, "none"),
+    (None, 4, "none"),
+];
 
 #[test]
 fn keys_that_are_there(rt: HostRuntime) -> Result<(), Fail> {
-    let alloc = rt.alloc();
     let web: [&[u8]; 2] = [b"HTTP", b"web.lab.example"];
-    for (etype, kvno, expected) in [
-        (
-            None,
-            0,
-            "3 18 5431f9437f6630e7da51349195eb84afd164a1db703f24f2bc12dd13ce896683",
-        ),
-        (Some(17), 0, "3 17 50ea25f5ea10bdfb5699d80a9a988779"),
-        (Some(17), 2, "2 17 bd2cd14606acb73d4003fe8f680c1c79"),
-        (
-            None,
-            2,
-            "2 18 88aaa5b9f2796ac6d91ff6c66660683a2bb71610f2ce0f917d6865a3ac44518e",
-        ),
-        (Some(23), 0, "none"),
-        (None, 4, "none"),
-    ] {
-        let text = found(alloc, (b"LAB.EXAMPLE", &web), etype, kvno)?;
-        assert_eq!(rt; text.as_str(), expected, "{kvno}");
+    for asked in &ASKED {
+        let name = (b"LAB.EXAMPLE".as_slice(), web.as_slice());
+        assert!(rt; finds(rt.alloc(), name, asked.0, asked.1, asked.2)?);
     }
     Ok(())
 }
+
+/// Principals that are not in the file.
+const OTHERS: [(&[u8], &[&[u8]]); 4] = [
+    (b"LAB.EXAMPL", &[b"HTTP", b"web.lab.example"]),
+    (b"LAB.EXAMPLE", &[b"HTTP"]),
+    (b"LAB.EXAMPLE", &[b"HTTP", b"web.lab.example", b""]),
+    (b"LAB.EXAMPLE", &[b"HTTP", b"web.lab.examplf"]),
+];
 
 #[test]
 fn other_principals(rt: HostRuntime) -> Result<(), Fail> {
-    let alloc = rt.alloc();
-    for (realm, text) in [
-        ("LAB.EXAMPL", "HTTP web.lab.example"),
-        ("LAB.EXAMPLE", "HTTP"),
-        ("LAB.EXAMPLE", "HTTP web.lab.example "),
-        ("LAB.EXAMPLE", "HTTP web.lab.examplf"),
-    ] {
-        let components = components(alloc, text)?;
-        let text = found(alloc, (realm.as_bytes(), &components), None, 0)?;
-        assert_eq!(rt; text.as_str(), "none");
+    for other in &OTHERS {
+        assert!(rt; finds(rt.alloc(), *other, None, 0, "none")?);
     }
     Ok(())
 }
 
-/// A small entry, with a key of so many octets.
-fn small<'a>(components: &'a [&'a [u8]], key: &'a [u8]) -> NewEntry<'a> {
+/// A small entry with this key.
+fn small<'a>(key: &'a [u8]) -> NewEntry<'a> {
     NewEntry {
-        principal: principal(b"R", components),
+        principal: principal(b"R", &[b"a"]),
         name_type: 1,
         timestamp: 2,
         kvno: 3,
@@ -194,55 +204,61 @@ fn small<'a>(components: &'a [&'a [u8]], key: &'a [u8]) -> NewEntry<'a> {
     }
 }
 
+/// As many such entries, of `push_entry`.
+fn pushed(alloc: Global, entry: &NewEntry<'_>, count: usize) -> Result<Vec<u8>, KeytabWriteError> {
+    let mut octets = Vec::from_slice(alloc, &[5, 2])?;
+    for _ in 0..count {
+        push_entry(alloc, &mut octets, entry)?;
+    }
+    Ok(octets)
+}
+
+/// As many records of a small entry.
+fn records(alloc: Global, count: usize) -> Result<Vec<u8>, FromHexError> {
+    let record = hex::decode(alloc, SMALL)?;
+    let mut octets = Vec::from_slice(alloc, &[5, 2])?;
+    octets.extend_from_slice(&record.repeat(alloc, count)?)?;
+    Ok(octets)
+}
+
 /// More than a thousand entries, of `write` and of `push_entry`.
 #[test]
 fn many_entries(rt: HostRuntime) -> Result<(), Fail> {
     let alloc = rt.alloc();
-    let components: [&[u8]; 1] = [b"a"];
-    let entry = small(&components, b"k");
-    let record = hex::decode(alloc, SMALL)?;
-    let mut expected = Vec::from_slice(alloc, &[5, 2])?;
-    let mut pushed = Vec::from_slice(alloc, &[5, 2])?;
-    let mut entries = Vec::new(alloc);
-    for _ in 0..1500 {
-        entries.push(entry)?;
-        push_entry(alloc, &mut pushed, &entry)?;
-        expected.extend_from_slice(&record)?;
-    }
+    let entries = Vec::from_elem(alloc, small(b"k"), 1500)?;
+    let expected = records(alloc, 1500)?;
     assert!(rt; write(alloc, &entries)? == expected);
-    assert!(rt; pushed == expected);
+    assert!(rt; pushed(alloc, &small(b"k"), 1500)? == expected);
     Ok(())
 }
 
-/// A key as long as it can be, and one that is longer: nothing is then appended.
+/// Whether a key is refused as too long, and nothing is then appended.
+fn is_too_long(alloc: Global, key: &[u8]) -> Result<bool, AllocError> {
+    let mut octets = Vec::from_slice(alloc, &[5, 2])?;
+    let refused = push_entry(alloc, &mut octets, &small(key));
+    let unwritten = write(alloc, &[small(key)]).err();
+    Ok(
+        refused == Err(KeytabWriteError::TooLong)
+            && octets.as_slice() == [5, 2].as_slice()
+            && unwritten == Some(KeytabWriteError::TooLong),
+    )
+}
+
+/// A file of the small entry with 65,534 octets more in its key: its length, and that of the key, are the other numbers.
+fn file_with(alloc: Global, key: &[u8]) -> Result<Vec<u8>, FromHexError> {
+    let mut octets = hex::decode(alloc, TO_LONG_KEY)?;
+    octets.extend_from_slice(key)?;
+    octets.extend_from_slice(&[0, 0, 0, 3])?;
+    Ok(octets)
+}
+
+/// A key as long as it can be, and one that is longer.
 #[test]
 fn long_keys(rt: HostRuntime) -> Result<(), Fail> {
     let alloc = rt.alloc();
-    let components: [&[u8]; 1] = [b"a"];
-    let mut key = Vec::new(alloc);
-    for _ in 0..65_536 {
-        key.push(0xa5)?;
-    }
-    let mut octets = Vec::from_slice(alloc, &[5, 2])?;
-    let refused = push_entry(alloc, &mut octets, &small(&components, &key));
-    assert!(rt; refused == Err(KeytabWriteError::TooLong));
-    assert!(rt; octets.as_slice() == [5, 2].as_slice());
-    assert!(rt; write(alloc, &[small(&components, &key)]).err() == Some(KeytabWriteError::TooLong));
-    key.truncate(65_535);
-    push_entry(alloc, &mut octets, &small(&components, &key))?;
-    // the small record with 65,534 octets more: its length, and that of the key, are the other numbers
-    let record = hex::decode(alloc, SMALL)?;
-    assert!(rt; record.len() == 30);
-    let (front, back) = record.split_at(4);
-    let (fields, kvno) = back.split_at(21);
-    let (fields, key_length) = fields.split_at(19);
-    assert!(rt; key_length == [0, 1].as_slice());
-    let mut expected = Vec::from_slice(alloc, &[5, 2, 0, 1, 0, 24])?;
-    assert!(rt; front == [0, 0, 0, 26].as_slice());
-    expected.extend_from_slice(fields)?;
-    expected.extend_from_slice(&[0xff, 0xff])?;
-    expected.extend_from_slice(&key)?;
-    expected.extend_from_slice(&kvno[1..])?;
-    assert!(rt; octets == expected);
+    let longer = Vec::from_elem(alloc, 0xa5, 65_536)?;
+    assert!(rt; is_too_long(alloc, &longer)?);
+    let longest = Vec::from_elem(alloc, 0xa5, 65_535)?;
+    assert!(rt; pushed(alloc, &small(&longest), 1)? == file_with(alloc, &longest)?);
     Ok(())
 }

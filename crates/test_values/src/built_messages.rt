@@ -21,6 +21,6 @@ fn a_negotiation_is_encoded(rt: HostRuntime) -> Result<(), Fail> {
     let token = OctetStringAsn1(Vec::from_slice(alloc, &[1, 2, 3])?);
     let message = gss_api_neg_init(alloc, neg_token_init(alloc, &mechanisms, Some(token))?)?;
     let octets = to_vec(alloc, &message)?;
-    assert_eq!(&rt; octets.as_slice(), NEGOTIATION);
+    assert!(&rt; octets.as_slice() == NEGOTIATION);
     Ok(())
 }

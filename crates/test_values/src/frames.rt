@@ -5,7 +5,7 @@ use krb_c_frames::{
     PlaceRecord, gss_token, make_gss_token, make_kdc_proxy_message, make_password_frame,
     pac_buffer, pac_buffers, pac_count, password_frame,
 };
-use std::alloc::Global;
+use std::alloc::{AllocError, Global};
 use std::test::Fail;
 
 /// A PAC of a client's buffer and of a server checksum (MS-PAC, 2.3 and 2.4).
@@ -131,52 +131,95 @@ fn finds_all_buffers(rt: HostRuntime) {
 }
 
 #[test]
-fn takes_tokens_apart(rt: HostRuntime) -> Result<(), Fail> {
+fn takes_tokens_apart(rt: HostRuntime) {
+    assert!(&rt; token_places(rt.alloc(), &TOKEN) == (0, 4, 10, 14, 49));
+    assert!(&rt;
+        token_places(rt.alloc(), &TOKEN[..62]) == (10, 0, 0, 0, 0),
+        "cut"
+    );
+    let (mut made, mut size) = ([1; 70], 7);
+    let (mechanism, inner) = (&TOKEN[4..14], &TOKEN[14..]);
+    let status = make_gss_token(rt.alloc(), mechanism, inner, &mut made, &mut size);
+    assert!(&rt; is_made(status, size, &made, &TOKEN));
+}
+
+#[test]
+fn takes_large_tokens_apart(rt: HostRuntime) -> Result<(), Fail> {
     let alloc = rt.alloc();
-    assert!(&rt; token_places(alloc, &TOKEN) == (0, 4, 10, 14, 49));
-    assert!(&rt; token_places(alloc, &TOKEN[..62]) == (10, 0, 0, 0, 0));
     let mut large = Vec::from_slice(alloc, &LARGE_TOKEN)?;
     large.resize(70016, 0)?;
     assert!(&rt; token_places(alloc, &large) == (0, 7, 9, 16, 70000));
     let (mut made, mut size) = (Vec::from_elem(alloc, 1, 70016)?, 7);
-    let status = make_gss_token(alloc, &TOKEN[4..14], &TOKEN[14..], &mut made, &mut size);
-    assert!(&rt; is_made(status, size, &made, &TOKEN));
     let status = make_gss_token(alloc, &large[7..16], &large[16..], &mut made, &mut size);
     assert!(&rt; is_made(status, size, &made, &large));
     Ok(())
 }
 
-#[test]
-fn takes_password_frames_apart(rt: HostRuntime) -> Result<(), Fail> {
-    let alloc = rt.alloc();
-    assert!(&rt; password_places(alloc, &PASSWORD) == (0, 6, 29, 35, 29));
-    assert!(&rt; password_places(alloc, &PASSWORD[..63]) == (10, 0, 0, 0, 0));
+/// The places of a frame with 70,000 octets, most of them behind its end.
+fn places_before_others(alloc: Global) -> Result<(u32, usize, usize, usize, usize), AllocError> {
     let mut behind = Vec::from_slice(alloc, &PASSWORD)?;
     behind.resize(70000, 0)?;
-    assert!(&rt; password_places(alloc, &behind) == (0, 6, 29, 35, 29));
-    let (mut made, mut size) = ([1; 64], 7);
-    let (reply, private) = (&PASSWORD[6..35], &PASSWORD[35..]);
-    let status = make_password_frame(alloc, reply, private, &mut made, &mut size);
-    assert!(&rt; is_made(status, size, &made, &PASSWORD));
-    let mut large = Vec::from_slice(alloc, &PRIVATE)?;
-    large.resize(70045, 0)?;
-    assert!(&rt; make_password_frame(alloc, reply, &large, &mut made, &mut size) == 28);
-    assert!(&rt; size == 0 && made == PASSWORD);
+    Ok(password_places(alloc, &behind))
+}
+
+#[test]
+fn takes_password_frames_apart(rt: HostRuntime) -> Result<(), Fail> {
+    assert!(&rt; password_places(rt.alloc(), &PASSWORD) == (0, 6, 29, 35, 29));
+    assert!(&rt;
+        password_places(rt.alloc(), &PASSWORD[..63]) == (10, 0, 0, 0, 0),
+        "cut"
+    );
+    assert!(&rt; places_before_others(rt.alloc())? == (0, 6, 29, 35, 29));
     Ok(())
 }
 
 #[test]
-fn takes_proxy_messages_apart(rt: HostRuntime) -> Result<(), Fail> {
-    let alloc = rt.alloc();
-    assert!(&rt; proxy_places(alloc, &PROXY) == ((0, 6, 12), (0, 22, 1)));
-    assert!(&rt; hint(alloc, &PROXY) == (0, 65535));
+fn makes_password_frames(rt: HostRuntime) {
+    let (mut made, mut size) = ([1; 64], 7);
+    let (reply, private) = (&PASSWORD[6..35], &PASSWORD[35..]);
+    let status = make_password_frame(rt.alloc(), reply, private, &mut made, &mut size);
+    assert!(&rt; is_made(status, size, &made, &PASSWORD));
+}
+
+#[test]
+fn makes_no_large_password_frame(rt: HostRuntime) -> Result<(), Fail> {
+    let (mut made, mut size) = ([1; 64], 7);
+    let mut large = Vec::from_slice(rt.alloc(), &PRIVATE)?;
+    large.resize(70045, 0)?;
+    let reply = &PASSWORD[6..35];
+    let status = make_password_frame(rt.alloc(), reply, &large, &mut made, &mut size);
+    assert!(&rt; status == 28 && size == 0 && made == [1; 64]);
+    Ok(())
+}
+
+#[test]
+fn takes_proxy_messages_apart(rt: HostRuntime) {
+    assert!(&rt; proxy_places(rt.alloc(), &PROXY) == ((0, 6, 12), (0, 22, 1)));
+    assert!(&rt; hint(rt.alloc(), &PROXY) == (0, 65535));
+}
+
+/// A message for a proxy with 70,000 octets of a message, and a domain.
+fn large_proxy(alloc: Global) -> Result<Vec<u8>, AllocError> {
     let mut large = Vec::from_slice(alloc, &LARGE_PROXY)?;
     large.resize(70015, 0)?;
     large.extend_from_slice(&DOMAIN)?;
-    assert!(&rt; proxy_places(alloc, &large) == ((0, 15, 70000), (0, 70019, 1)));
-    assert!(&rt; hint(alloc, &large) == (20, 0));
+    Ok(large)
+}
+
+#[test]
+fn takes_large_proxy_messages_apart(rt: HostRuntime) -> Result<(), Fail> {
+    let large = large_proxy(rt.alloc())?;
+    assert!(&rt; proxy_places(rt.alloc(), &large) == ((0, 15, 70000), (0, 70019, 1)));
+    assert!(&rt; hint(rt.alloc(), &large) == (20, 0));
+    Ok(())
+}
+
+#[test]
+fn makes_large_proxy_messages(rt: HostRuntime) -> Result<(), Fail> {
+    let alloc = rt.alloc();
+    let message = Vec::from_elem(alloc, 0, 70000)?;
     let (mut made, mut size) = (Vec::from_elem(alloc, 1, 70020)?, 7);
-    let status = make_kdc_proxy_message(alloc, &large[15..70015], &[0x52], &mut made, &mut size);
-    assert!(&rt; is_made(status, size, &made, &large));
+    let status = make_kdc_proxy_message(alloc, &message, &[0x52], &mut made, &mut size);
+    assert!(&rt; is_made(status, size, &made, &large_proxy(alloc)?));
     Ok(())
 }

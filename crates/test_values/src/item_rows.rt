@@ -2,7 +2,7 @@
 
 use krb_c_calls::CallError;
 use krb_c_calls::items::{ItemRecord, find, find_number, item_name, items, number_name};
-use std::alloc::Global;
+use std::alloc::{AllocError, Global};
 use std::test::Fail;
 
 /// A KRB-ERROR of Heimdal 7.8 (RFC 4120, 5.9.1).
@@ -66,63 +66,41 @@ pub(crate) fn counted(alloc: Global, type_name: &[u8], path: &[u8], octets: &[u8
     (status, value)
 }
 
+/// Types, paths, and the status, the offset and the size of what the path leads to in `ERROR`.
+const FIELDS: [(&[u8], &[u8], (u32, usize, usize)); 8] = [
+    (b"KRB-ERROR", b"realm", (0, 83, 9)),
+    (b"KRB-ERROR", b"sname.name-string[1]", (0, 115, 9)),
+    (b"KRB-ERROR", b"sname.name-string[2]", (20, 0, 0)),
+    (b"KRB-ERROR", b"", (0, 4, 120)),
+    (b"KRB-ERROR", b"e-text", (20, 0, 0)),
+    (b"KRB-ERROR", b"realm.", (3, 0, 0)),
+    (b"KRB-ERRORS", b"realm", (3, 0, 0)),
+    (b"AS-REQ", b"realm", (9, 0, 0)),
+];
+
 #[test]
 fn finds_fields_of_an_error(rt: HostRuntime) {
-    let alloc = rt.alloc();
-    assert_eq!(rt; found(alloc, b"KRB-ERROR", b"realm", &ERROR), (0, 83, 9));
-    assert_eq!(rt;
-        found(alloc, b"KRB-ERROR", b"sname.name-string[1]", &ERROR),
-        (0, 115, 9)
-    );
-    assert_eq!(rt;
-        found(alloc, b"KRB-ERROR", b"sname.name-string[2]", &ERROR),
-        (CallError::Absent.status(), 0, 0)
-    );
-    assert_eq!(rt;
-        found(alloc, b"KRB-ERROR", b"", &ERROR),
-        (0, 4, 120),
-        "the whole"
-    );
-    assert_eq!(rt;
-        found(alloc, b"KRB-ERROR", b"e-text", &ERROR),
-        (CallError::Absent.status(), 0, 0)
-    );
-    assert_eq!(rt;
-        found(alloc, b"KRB-ERROR", b"realm.", &ERROR),
-        (3, 0, 0),
-        "no path"
-    );
-    assert_eq!(rt;
-        found(alloc, b"KRB-ERRORS", b"realm", &ERROR),
-        (3, 0, 0),
-        "no type"
-    );
-    assert_eq!(rt;
-        found(alloc, b"KRB-ERROR", b"realm", &ERROR[..123]),
-        (10, 0, 0),
-        "cut"
-    );
-    assert_eq!(rt;
-        found(alloc, b"AS-REQ", b"realm", &ERROR),
-        (9, 0, 0),
-        "another message"
-    );
+    for row in &FIELDS {
+        assert!(rt; found(rt.alloc(), row.0, row.1, &ERROR) == row.2);
+    }
+    let cut = found(rt.alloc(), b"KRB-ERROR", b"realm", &ERROR[..123]);
+    assert!(rt; cut == (10, 0, 0), "cut");
 }
+
+/// Paths, and the status and the number of what the path leads to in `ERROR`.
+const NUMBERS: [(&[u8], (u32, i64)); 4] = [
+    (b"error-code", (0, 6)),
+    (b"susec", (0, 824918)),
+    (b"cusec", (20, 0)),
+    (b"realm", (3, 0)),
+];
 
 #[test]
 fn finds_numbers_of_an_error(rt: HostRuntime) {
-    let alloc = rt.alloc();
-    assert_eq!(rt; counted(alloc, b"KRB-ERROR", b"error-code", &ERROR), (0, 6));
-    assert_eq!(rt; counted(alloc, b"KRB-ERROR", b"susec", &ERROR), (0, 824918));
-    assert_eq!(rt;
-        counted(alloc, b"KRB-ERROR", b"cusec", &ERROR),
-        (CallError::Absent.status(), 0)
-    );
-    assert_eq!(rt;
-        counted(alloc, b"KRB-ERROR", b"realm", &ERROR),
-        (3, 0),
-        "realm is no number"
-    );
+    assert!(rt; CallError::Absent.status() == 20);
+    for row in &NUMBERS {
+        assert!(rt; counted(rt.alloc(), b"KRB-ERROR", row.0, &ERROR) == row.1);
+    }
 }
 
 /// Status, and size of what is handed out of a name.
@@ -132,74 +110,81 @@ fn named(registry: i32, number: i64, out: &mut [u8]) -> (u32, usize) {
     (status, size)
 }
 
+/// Whether a number of a registry has this name.
+fn is_named(registry: i32, number: i64, name: &[u8]) -> bool {
+    let mut out = [0; 32];
+    named(registry, number, &mut out) == (0, name.len()) && out.starts_with(name)
+}
+
 #[test]
 fn names_numbers(rt: HostRuntime) {
-    let mut out = [0; 32];
-    assert_eq!(rt; named(10, 1, &mut out), (0, 11), "a flag of a ticket");
-    assert_eq!(rt; &out[..11], b"forwardable".as_slice());
-    assert_eq!(rt; named(4, 37, &mut out), (0, 15), "an error code");
-    assert_eq!(rt; &out[..15], b"KRB_AP_ERR_SKEW".as_slice());
-    let mut small = [0; 14];
-    assert_eq!(rt; named(4, 37, &mut small), (1, 15), "too little room");
-    assert_eq!(rt; named(2, -138, &mut out), (3, 0), "no such type of a name");
-    assert_eq!(rt; named(19, 1, &mut out), (3, 0), "no such registry");
-    assert_eq!(rt; named(-1, 1, &mut out), (3, 0), "that of no registry");
+    assert!(rt; is_named(10, 1, b"forwardable"), "a flag of a ticket");
+    assert!(rt; is_named(4, 37, b"KRB_AP_ERR_SKEW"), "an error code");
+}
+
+/// Numbers of registries that have no name.
+const NO_NAMES: [(i32, i64); 3] = [(2, -138), (19, 1), (-1, 1)];
+
+#[test]
+fn names_no_numbers(rt: HostRuntime) {
+    assert!(rt; named(4, 37, &mut [0; 14]) == (1, 15), "too little room");
+    for row in &NO_NAMES {
+        assert!(rt; named(row.0, row.1, &mut [0; 32]) == (3, 0));
+    }
+}
+
+/// Status, count and offset of the items of a KRB-ERROR.
+fn counts(alloc: Global, octets: &[u8], told: &mut [ItemRecord]) -> (u32, usize, usize) {
+    let (mut count, mut offset) = (7, 7);
+    let status = items(alloc, b"KRB-ERROR", octets, told, &mut count, &mut offset);
+    (status, count, offset)
+}
+
+/// Whether the name of this number is this one.
+fn is_name(number: u32, right: &[u8]) -> bool {
+    let (mut name, mut size) = ([0; 16], 7);
+    item_name(number, &mut name, &mut size) == 0 && size == right.len() && name.starts_with(right)
 }
 
 #[test]
 fn names_items_of_an_error(rt: HostRuntime) {
-    let alloc = rt.alloc();
-    let (mut told, mut count, mut offset) = ([OTHER; 50], 7, 7);
-    let status = items(
-        alloc,
-        b"KRB-ERROR",
-        &ERROR,
-        &mut told,
-        &mut count,
-        &mut offset,
-    );
-    assert_eq!(rt; (status, count, offset), (0, 50, 0));
-    let (mut name, mut size) = ([0; 16], 7);
-    let status = item_name(told[3].name, &mut name, &mut size);
-    assert_eq!(rt; (status, size), (0, 4));
-    assert!(&rt; name.starts_with(b"pvno"));
-    assert!(&rt; item_name(u32::MAX, &mut name, &mut size) == 3);
-    let mut short = [OTHER; 49];
-    let status = items(
-        alloc,
-        b"KRB-ERROR",
-        &ERROR,
-        &mut short,
-        &mut count,
-        &mut offset,
-    );
-    assert_eq!(rt; (status, count, offset), (1, 50, 0));
-    let mut cut = [OTHER; 50];
-    let status = items(
-        alloc,
-        b"KRB-ERROR",
-        &ERROR[..123],
-        &mut cut,
-        &mut count,
-        &mut offset,
-    );
-    assert_eq!(rt; (status, count, offset), (10, 0, 0));
+    let mut told = [OTHER; 50];
+    assert!(rt; counts(rt.alloc(), &ERROR, &mut told) == (0, 50, 0));
+    assert!(rt; is_name(told[3].name, b"pvno"));
+    assert!(rt; item_name(u32::MAX, &mut [0; 16], &mut 7) == 3);
+}
+
+#[test]
+fn tells_no_items(rt: HostRuntime) {
+    let short = counts(rt.alloc(), &ERROR, &mut [OTHER; 49]);
+    assert!(rt; short == (1, 50, 0), "too little room");
+    let cut = counts(rt.alloc(), &ERROR[..123], &mut [OTHER; 50]);
+    assert!(rt; cut == (10, 0, 0), "cut");
+}
+
+/// The request with its 2,000 encryption types.
+fn request(alloc: Global) -> Result<Vec<u8>, AllocError> {
+    let mut octets = Vec::from_slice(alloc, &REQUEST)?;
+    octets.extend_from_slice(&[0x02, 0x01, 0x12].repeat(alloc, 2000)?)?;
+    Ok(octets)
 }
 
 #[test]
 fn finds_one_of_two_thousand(rt: HostRuntime) -> Result<(), Fail> {
     let alloc = rt.alloc();
-    let mut octets = Vec::from_slice(alloc, &REQUEST)?;
-    for item in 0..2000u32 {
-        octets.extend_from_slice(&[0x02, 0x01, 0x12])?;
-    }
+    let octets = request(alloc)?;
     let last = b"req-body.etype[1999]";
-    assert_eq!(rt; found(alloc, b"AS-REQ", last, &octets), (0, 6071, 1));
-    assert_eq!(rt; counted(alloc, b"AS-REQ", last, &octets), (0, 18));
-    assert_eq!(rt;
-        found(alloc, b"AS-REQ", b"req-body.etype[2000]", &octets),
-        (CallError::Absent.status(), 0, 0)
-    );
+    assert!(rt; found(alloc, b"AS-REQ", last, &octets) == (0, 6071, 1));
+    assert!(rt; counted(alloc, b"AS-REQ", last, &octets) == (0, 18));
+    let behind = found(alloc, b"AS-REQ", b"req-body.etype[2000]", &octets);
+    assert!(rt; behind == (20, 0, 0));
+    Ok(())
+}
+
+#[test]
+fn tells_two_thousand(rt: HostRuntime) -> Result<(), Fail> {
+    let alloc = rt.alloc();
+    let octets = request(alloc)?;
     let (mut told, mut count, mut offset) = (Vec::from_elem(alloc, OTHER, 2030)?, 7, 7);
     let status = items(
         alloc,
@@ -209,7 +194,7 @@ fn finds_one_of_two_thousand(rt: HostRuntime) -> Result<(), Fail> {
         &mut count,
         &mut offset,
     );
-    assert_eq!(rt; (status, count, offset), (0, 2030, 0));
+    assert!(rt; (status, count, offset) == (0, 2030, 0));
     Ok(())
 }
 
@@ -218,19 +203,11 @@ fn finds_a_large_part(rt: HostRuntime) -> Result<(), Fail> {
     let alloc = rt.alloc();
     let mut octets = Vec::from_slice(alloc, &PRIVATE)?;
     octets.resize(70045, 0)?;
-    assert_eq!(rt;
-        found(alloc, b"KRB-PRIV", b"enc-part.cipher", &octets),
-        (0, 45, 70000)
-    );
-    assert_eq!(rt;
-        counted(alloc, b"KRB-PRIV", b"enc-part.etype", &octets),
-        (0, 18)
-    );
+    let cipher = found(alloc, b"KRB-PRIV", b"enc-part.cipher", &octets);
+    assert!(rt; cipher == (0, 45, 70000));
+    assert!(rt; counted(alloc, b"KRB-PRIV", b"enc-part.etype", &octets) == (0, 18));
     let mut item = OTHER;
-    assert_eq!(rt;
-        find(alloc, b"KRB-PRIV", b"enc-part", &octets, &mut item),
-        0
-    );
-    assert_eq!(rt; (item.role, item.reserved), (13, 0), "an EncKrbPrivPart");
+    assert!(rt; find(alloc, b"KRB-PRIV", b"enc-part", &octets, &mut item) == 0);
+    assert!(rt; (item.role, item.reserved) == (13, 0), "an EncKrbPrivPart");
     Ok(())
 }

@@ -43,32 +43,43 @@ fn of_resp(alloc: Global, path: &[u8], octets: &[u8]) -> (u32, usize, usize) {
     found(alloc, b"NegotiationToken (negTokenResp)", path, octets)
 }
 
+/// Paths, and the status, the offset and the size of what the path leads to in `INIT` behind its frame's head.
+const INIT_PATHS: [(&[u8], (u32, usize, usize)); 6] = [
+    (b"mechTypes", (0, 8, 23)),
+    (b"mechToken", (0, 35, 5)),
+    (b"mechListMIC", (0, 44, 3)),
+    (b"mechTypes[0]", (0, 10, 9)),
+    (b"mechTypes[1]", (0, 21, 10)),
+    (b"mechTypes[2]", (20, 0, 0)),
+];
+
 #[test]
-fn takes_the_first_message_apart(rt: HostRuntime) -> Result<(), Fail> {
+fn takes_the_first_message_apart(rt: HostRuntime) {
+    for row in &INIT_PATHS {
+        assert!(&rt; of_init(rt.alloc(), row.0, &INIT[10..]) == row.1);
+    }
+    assert!(&rt;
+        of_init(rt.alloc(), b"mechTypes", &INIT[10..56]) == (10, 0, 0),
+        "cut"
+    );
+}
+
+#[test]
+fn takes_a_large_first_message_apart(rt: HostRuntime) -> Result<(), Fail> {
     let alloc = rt.alloc();
-    let inner = &INIT[10..];
-    assert!(&rt; of_init(alloc, b"mechTypes", inner) == (0, 8, 23));
-    assert!(&rt; of_init(alloc, b"mechToken", inner) == (0, 35, 5));
-    assert!(&rt; of_init(alloc, b"mechListMIC", inner) == (0, 44, 3));
-    assert!(&rt; of_init(alloc, b"mechTypes", &INIT[10..56]) == (10, 0, 0));
-    assert!(&rt; of_init(alloc, b"mechTypes[0]", inner) == (0, 10, 9));
-    assert!(&rt; of_init(alloc, b"mechTypes[1]", inner) == (0, 21, 10));
-    assert!(&rt; of_init(alloc, b"mechTypes[2]", inner) == (20, 0, 0));
-    let mut large = Vec::from_slice(alloc, &LARGE_INIT)?;
-    large.resize(70048, 0)?;
-    let inner = &large[13..];
-    assert!(&rt; of_init(alloc, b"mechTypes", inner) == (0, 14, 11));
-    assert!(&rt; of_init(alloc, b"mechToken", inner) == (0, 35, 70000));
-    assert!(&rt; of_init(alloc, b"mechListMIC", inner) == (20, 0, 0));
+    let mut large = Vec::from_slice(alloc, &LARGE_INIT[13..])?;
+    large.resize(70035, 0)?;
+    assert!(&rt; of_init(alloc, b"mechTypes", &large) == (0, 14, 11));
+    assert!(&rt; of_init(alloc, b"mechToken", &large) == (0, 35, 70000));
+    assert!(&rt; of_init(alloc, b"mechListMIC", &large) == (20, 0, 0));
     Ok(())
 }
 
 #[test]
-fn makes_the_first_message(rt: HostRuntime) -> Result<(), Fail> {
-    let alloc = rt.alloc();
-    let (mut made, mut size) = (Vec::from_elem(alloc, 1, 70048)?, 7);
+fn makes_the_first_message(rt: HostRuntime) {
+    let (mut made, mut size) = ([1; 60], 7);
     let status = make_neg_token_init(
-        alloc,
+        rt.alloc(),
         &INIT[18..41],
         &INIT[45..50],
         &INIT[54..],
@@ -76,6 +87,12 @@ fn makes_the_first_message(rt: HostRuntime) -> Result<(), Fail> {
         &mut size,
     );
     assert!(&rt; is_made(status, size, &made, &INIT));
+}
+
+#[test]
+fn makes_a_large_first_message(rt: HostRuntime) -> Result<(), Fail> {
+    let alloc = rt.alloc();
+    let (mut made, mut size) = (Vec::from_elem(alloc, 1, 70048)?, 7);
     let mut large = Vec::from_slice(alloc, &LARGE_INIT)?;
     large.resize(70048, 0)?;
     let status = make_neg_token_init(
@@ -90,13 +107,27 @@ fn makes_the_first_message(rt: HostRuntime) -> Result<(), Fail> {
     Ok(())
 }
 
+/// Paths, and the status, the offset and the size of what the path leads to in `RESP`.
+const RESP_PATHS: [(&[u8], (u32, usize, usize)); 3] = [
+    (b"negState", (0, 8, 1)),
+    (b"supportedMech", (0, 13, 9)),
+    (b"responseToken", (20, 0, 0)),
+];
+
 #[test]
-fn takes_a_later_message_apart(rt: HostRuntime) -> Result<(), Fail> {
+fn takes_a_later_message_apart(rt: HostRuntime) {
+    for row in &RESP_PATHS {
+        assert!(&rt; of_resp(rt.alloc(), row.0, &RESP) == row.1);
+    }
+    assert!(&rt;
+        of_resp(rt.alloc(), b"negState", &RESP[..21]) == (10, 0, 0),
+        "cut"
+    );
+}
+
+#[test]
+fn takes_a_large_later_message_apart(rt: HostRuntime) -> Result<(), Fail> {
     let alloc = rt.alloc();
-    assert!(&rt; of_resp(alloc, b"negState", &RESP) == (0, 8, 1));
-    assert!(&rt; of_resp(alloc, b"supportedMech", &RESP) == (0, 13, 9));
-    assert!(&rt; of_resp(alloc, b"responseToken", &RESP) == (20, 0, 0));
-    assert!(&rt; of_resp(alloc, b"negState", &RESP[..21]) == (10, 0, 0));
     let mut large = Vec::from_slice(alloc, &LARGE_RESP)?;
     large.resize(70038, 0)?;
     assert!(&rt; of_resp(alloc, b"supportedMech", &large) == (0, 19, 9));
@@ -105,13 +136,19 @@ fn takes_a_later_message_apart(rt: HostRuntime) -> Result<(), Fail> {
 }
 
 #[test]
-fn makes_a_later_message(rt: HostRuntime) -> Result<(), Fail> {
+fn makes_a_later_message(rt: HostRuntime) {
     let alloc = rt.alloc();
-    let (mut made, mut size) = (Vec::from_elem(alloc, 1, 70038)?, 7);
+    let (mut made, mut size) = ([1; 30], 7);
     let status = make_neg_token_resp(alloc, 0, &RESP[13..], &[], &[], &mut made, &mut size);
     assert!(&rt; is_made(status, size, &made, &RESP));
     assert!(&rt; make_neg_token_resp(alloc, 4, &RESP[13..], &[], &[], &mut made, &mut size) == 3);
     assert!(&rt; size == 0);
+}
+
+#[test]
+fn makes_a_large_later_message(rt: HostRuntime) -> Result<(), Fail> {
+    let alloc = rt.alloc();
+    let (mut made, mut size) = (Vec::from_elem(alloc, 1, 70038)?, 7);
     let mut large = Vec::from_slice(alloc, &LARGE_RESP)?;
     large.resize(70038, 0)?;
     let token = &large[38..];

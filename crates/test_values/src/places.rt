@@ -8,49 +8,55 @@ const NAMED: [u8; 18] = [
     0x01, 0x63,
 ];
 
+/// Paths, and the offset and the size of what each leads to.
+const PATHS: [(&[Step], usize, usize); 4] = [
+    (&[Step::Tag(0x30), Step::Tag(0xa0), Step::Tag(0x02)], 6, 1),
+    (
+        &[
+            Step::Tag(0x30),
+            Step::Tag(0xa1),
+            Step::Tag(0x30),
+            Step::Item(1),
+            Step::Tag(0x1b),
+        ],
+        17,
+        1,
+    ),
+    (
+        &[
+            Step::Tag(0x30),
+            Step::Tag(0xa1),
+            Step::Tag(0x30),
+            Step::Item(1),
+        ],
+        15,
+        3,
+    ),
+    (&[], 0, 18),
+];
+
 #[test]
 fn finds(rt: HostRuntime) {
-    let number = [Step::Tag(0x30), Step::Tag(0xa0), Step::Tag(0x02)];
-    assert_eq!(rt;
-        place_of(&number, &NAMED),
-        Some(Place { offset: 6, size: 1 })
-    );
-    let text = [
-        Step::Tag(0x30),
-        Step::Tag(0xa1),
-        Step::Tag(0x30),
-        Step::Item(1),
-        Step::Tag(0x1b),
-    ];
-    assert_eq!(rt;
-        place_of(&text, &NAMED),
-        Some(Place {
-            offset: 17,
-            size: 1
-        })
-    );
-    assert_eq!(rt;
-        place_of(&text[..4], &NAMED),
-        Some(Place {
-            offset: 15,
-            size: 3
-        })
-    );
-    assert_eq!(rt;
-        place_of(&[], &NAMED),
-        Some(Place {
-            offset: 0,
-            size: 18
-        })
-    );
+    for row in &PATHS {
+        let place = Place {
+            offset: row.1,
+            size: row.2,
+        };
+        assert!(rt; place_of(row.0, &NAMED) == Some(place));
+    }
+}
+
+#[test]
+fn finds_nothing(rt: HostRuntime) {
     let third = [
         Step::Tag(0x30),
         Step::Tag(0xa1),
         Step::Tag(0x30),
         Step::Item(2),
     ];
-    assert_eq!(rt; place_of(&third, &NAMED), None);
+    assert!(rt; place_of(&third, &NAMED).is_none());
     let other = [Step::Tag(0x30), Step::Tag(0xa2)];
-    assert_eq!(rt; place_of(&other, &NAMED), None);
-    assert_eq!(rt; place_of(&number, &NAMED[..17]), None);
+    assert!(rt; place_of(&other, &NAMED).is_none());
+    let number = [Step::Tag(0x30), Step::Tag(0xa0), Step::Tag(0x02)];
+    assert!(rt; place_of(&number, &NAMED[..17]).is_none(), "cut");
 }

@@ -9,7 +9,7 @@ use krb_types::view::{
     PrincipalError, Tagged, is_set, principal_of_text, text_of_principal, time_of_unix_seconds,
     unix_seconds,
 };
-use std::alloc::Global;
+use std::alloc::{AllocError, Global};
 use std::test::Fail;
 
 /// Whether the time with these numbers has so many seconds, and they give it.
@@ -22,23 +22,33 @@ fn is_time(
     Ok(unix_seconds(&time) == seconds && time_of_unix_seconds(seconds)? == time)
 }
 
+/// Dates, times of the day, and their seconds.
+const TIMES: [((u16, u8, u8), (u8, u8, u8), i64); 7] = [
+    ((0, 1, 1), (0, 0, 0), -62_167_219_200),
+    ((1969, 12, 31), (23, 59, 59), -1),
+    ((1970, 1, 1), (0, 0, 0), 0),
+    ((2000, 2, 29), (12, 34, 56), 951_827_696),
+    ((2026, 11, 25), (8, 10, 0), 1_795_594_200),
+    ((2038, 1, 19), (3, 14, 8), 2_147_483_648),
+    ((9999, 12, 31), (23, 59, 59), 253_402_300_799),
+];
+
 #[test]
 fn times(rt: HostRuntime) -> Result<(), Fail> {
-    for (date, clock, seconds) in [
-        ((0, 1, 1), (0, 0, 0), -62_167_219_200),
-        ((1969, 12, 31), (23, 59, 59), -1),
-        ((1970, 1, 1), (0, 0, 0), 0),
-        ((2000, 2, 29), (12, 34, 56), 951_827_696),
-        ((2026, 11, 25), (8, 10, 0), 1_795_594_200),
-        ((2038, 1, 19), (3, 14, 8), 2_147_483_648),
-        ((9999, 12, 31), (23, 59, 59), 253_402_300_799),
-    ] {
-        assert!(rt; is_time(date, clock, seconds)?, "{seconds}");
-    }
-    for seconds in [-62_167_219_201, 253_402_300_800, i64::MIN, i64::MAX] {
-        assert!(rt; time_of_unix_seconds(seconds).is_err(), "{seconds}");
+    for row in &TIMES {
+        assert!(rt; is_time(row.0, row.1, row.2)?, "{}", row.2);
     }
     Ok(())
+}
+
+/// Seconds before the year 0, and after 9999.
+const NO_TIMES: [i64; 4] = [-62_167_219_201, 253_402_300_800, i64::MIN, i64::MAX];
+
+#[test]
+fn seconds_of_no_time(rt: HostRuntime) {
+    for seconds in &NO_TIMES {
+        assert!(rt; time_of_unix_seconds(*seconds).is_err(), "{seconds}");
+    }
 }
 
 #[test]
@@ -47,7 +57,7 @@ fn flags(rt: HostRuntime) -> Result<(), Fail> {
     let flags = BitStringAsn1::with_bytes(Vec::from_slice(rt.alloc(), &[0x40, 0xe1, 0, 0])?);
     for number in 0..40 {
         let named = [1, 8, 9, 10, 15].contains(&number);
-        assert_eq!(rt; is_set(&flags, number), named, "{number}");
+        assert!(rt; is_set(&flags, number) == named, "{number}");
     }
     assert!(rt; !is_set(&flags, usize::MAX), "past the end");
     Ok(())
@@ -57,6 +67,40 @@ fn string(alloc: Global, text: &str) -> Result<GeneralStringAsn1, Asn1DerError> 
     GeneralStringAsn1::from_string(String::from_str(alloc, text)?)
 }
 
+/// The name of these components.
+fn name_of(alloc: Global, components: &[&str]) -> Result<PrincipalName, Asn1DerError> {
+    let mut strings = Vec::new(alloc);
+    for component in components {
+        strings.push(string(alloc, component)?)?;
+    }
+    let name_type = IntegerAsn1::from_bytes_be_signed(alloc, Vec::from_slice(alloc, &[1])?)?;
+    Ok(PrincipalName {
+        name_type: ExplicitContextTag0::from(name_type),
+        name_string: ExplicitContextTag1::from(Asn1SequenceOf(strings)),
+    })
+}
+
+/// Whether a principal has this text.
+fn is_written(
+    alloc: Global,
+    name: &PrincipalName,
+    realm: &GeneralStringAsn1,
+    text: &str,
+) -> Result<bool, AllocError> {
+    Ok(text_of_principal(alloc, name, realm)?.as_str() == text)
+}
+
+/// Whether a principal is read from this text.
+fn is_read(alloc: Global, name: &PrincipalName, realm: &GeneralStringAsn1, text: &str) -> bool {
+    match principal_of_text(alloc, text) {
+        Ok(read) => {
+            read.components.as_slice() == name.name_string.get().0.as_slice()
+                && read.realm.as_ref() == Some(realm)
+        }
+        Err(_) => false,
+    }
+}
+
 /// Whether the principal of these components and this realm has this text, and is read from it.
 fn is_principal(
     alloc: Global,
@@ -64,62 +108,52 @@ fn is_principal(
     realm: &str,
     text: &str,
 ) -> Result<bool, Asn1DerError> {
-    let mut strings = Vec::new(alloc);
-    for component in components {
-        strings.push(string(alloc, component)?)?;
-    }
-    let name = PrincipalName {
-        name_type: ExplicitContextTag0::from(IntegerAsn1::from_bytes_be_signed(
-            alloc,
-            Vec::from_slice(alloc, &[1])?,
-        )?),
-        name_string: ExplicitContextTag1::from(Asn1SequenceOf(strings)),
-    };
+    let name = name_of(alloc, components)?;
     let realm = string(alloc, realm)?;
-    let written = text_of_principal(alloc, &name, &realm)?;
-    let Ok(read) = principal_of_text(alloc, text) else {
-        return Ok(false);
-    };
-    Ok(
-        written.as_str() == text
-            && read.components.as_slice() == name.name_string.get().0.as_slice()
-            && read.realm == Some(realm),
-    )
+    Ok(is_written(alloc, &name, &realm, text)? && is_read(alloc, &name, &realm, text))
 }
+
+/// Components, a realm and their text.
+const PRINCIPALS: [(&[&str], &str, &str); 5] = [
+    (&["carol"], "SMB.TEST", "carol@SMB.TEST"),
+    (&["krbtgt", "A.TEST"], "B.TEST", "krbtgt/A.TEST@B.TEST"),
+    (&["a/b", "c@d", "e\\f"], "R/S", "a\\/b/c\\@d/e\\\\f@R\\/S"),
+    (&["\n\t\u{8}\0"], "R", "\\n\\t\\b\\0@R"),
+    (&["", ""], "", "/@"),
+];
 
 #[test]
 fn principals(rt: HostRuntime) -> Result<(), Fail> {
-    let alloc = rt.alloc();
-    for (components, realm, text) in [
-        (&["carol"][..], "SMB.TEST", "carol@SMB.TEST"),
-        (&["krbtgt", "A.TEST"][..], "B.TEST", "krbtgt/A.TEST@B.TEST"),
-        (
-            &["a/b", "c@d", "e\\f"][..],
-            "R/S",
-            "a\\/b/c\\@d/e\\\\f@R\\/S",
-        ),
-        (&["\n\t\u{8}\0"][..], "R", "\\n\\t\\b\\0@R"),
-        (&["", ""][..], "", "/@"),
-    ] {
-        assert!(rt; is_principal(alloc, components, realm, text)?, "{text}");
-    }
-    let read = principal_of_text(alloc, "host/a.test")?;
-    assert_eq!(rt; read.components.len(), 2);
-    assert!(rt; read.realm.is_none(), "no realm");
-    for text in [
-        "a@b@c",
-        "a@b/c",
-        "a\\",
-        "a\\x",
-        "a\nb",
-        "a\tb@R",
-        "caf\u{e9}",
-        "a@\\",
-    ] {
-        assert!(rt;
-            principal_of_text(alloc, text).is_err_and(|e| e == PrincipalError::InvalidText),
-            "{text}"
-        );
+    for row in &PRINCIPALS {
+        assert!(rt; is_principal(rt.alloc(), row.0, row.1, row.2)?, "{}", row.2);
     }
     Ok(())
+}
+
+#[test]
+fn principal_without_a_realm(rt: HostRuntime) -> Result<(), Fail> {
+    let read = principal_of_text(rt.alloc(), "host/a.test")?;
+    assert!(rt; read.components.len() == 2);
+    assert!(rt; read.realm.is_none(), "no realm");
+    Ok(())
+}
+
+/// Texts of no principal.
+const NO_PRINCIPALS: [&str; 8] = [
+    "a@b@c",
+    "a@b/c",
+    "a\\",
+    "a\\x",
+    "a\nb",
+    "a\tb@R",
+    "caf\u{e9}",
+    "a@\\",
+];
+
+#[test]
+fn texts_of_no_principal(rt: HostRuntime) {
+    for text in &NO_PRINCIPALS {
+        let error = principal_of_text(rt.alloc(), text).err();
+        assert!(rt; error == Some(PrincipalError::InvalidText), "{text}");
+    }
 }
