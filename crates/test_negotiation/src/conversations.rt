@@ -100,45 +100,58 @@ fn offer_of(alloc: Global, arcs: &[u64], list: &[u8], drops_token: bool) -> Resu
 
 /// Nobody is between them: tokens of the mechanism, the one that the acceptor has, whether it asks
 /// for MICs; the messages that RFC 4178, 5, gives, and both sides' state.
+const HONEST: [(u8, u64, bool, u32, &str); 8] = [
+    (1, 1, false, 2, "complete"),
+    (1, 1, true, 3, "complete by MIC"),
+    (2, 1, false, 2, "complete"),
+    (2, 1, true, 3, "complete by MIC"),
+    (3, 1, false, 4, "complete"),
+    (3, 1, true, 4, "complete by MIC"),
+    (2, 2, false, 5, "complete by MIC"),
+    (3, 2, true, 6, "complete by MIC"),
+];
+
+/// Whether an honest conversation ends so.
+fn is_honest(alloc: Global, row: &(u8, u64, bool, u32, &str)) -> Result<bool, Fail> {
+    let offer = offer_of(alloc, &[1, 2], &[1, 2], false)?;
+    let end = converse(alloc, row.0, row.1, row.2, offer)?;
+    Ok(
+        end.messages == row.3
+            && end.initiator == row.4
+            && end.acceptor == row.4
+            && end.after_end == "Finished",
+    )
+}
+
 #[test]
 fn honest_sides(rt: HostRuntime) -> Result<(), Fail> {
-    let alloc = rt.alloc();
-    let rows: [(u8, u64, bool, u32, &str); 8] = [
-        (1, 1, false, 2, "complete"),
-        (1, 1, true, 3, "complete by MIC"),
-        (2, 1, false, 2, "complete"),
-        (2, 1, true, 3, "complete by MIC"),
-        (3, 1, false, 4, "complete"),
-        (3, 1, true, 4, "complete by MIC"),
-        (2, 2, false, 5, "complete by MIC"),
-        (3, 2, true, 6, "complete by MIC"),
-    ];
-    for (tokens, supported, asks, messages, state) in rows {
-        let offer = offer_of(alloc, &[1, 2], &[1, 2], false)?;
-        let end = converse(alloc, tokens, supported, asks, offer)?;
-        assert_eq!(rt; end.messages, messages);
-        assert_eq!(rt; end.initiator, state);
-        assert_eq!(rt; end.acceptor, state);
-        assert_eq!(rt; end.after_end, "Finished");
+    for row in &HONEST {
+        assert!(rt; is_honest(rt.alloc(), row)?);
     }
     Ok(())
 }
 
-/// A third cuts the first choice and its token out of the offer. An acceptor that asks for MICs is
+/// Whether a third that cuts the first choice and its token out of the offer is found out. An acceptor that asks for MICs is
 /// found out by its MIC; one that does not sends none, and that is found out too. The refusal stays.
+fn is_found_out(alloc: Global, asks: bool, initiator: &str, acceptor: &str) -> Result<bool, Fail> {
+    let offer = offer_of(alloc, &[2], &[2], true)?;
+    let end = converse(alloc, 2, 2, asks, offer)?;
+    Ok(end.initiator == initiator && end.acceptor == acceptor && end.after_end == initiator)
+}
+
 #[test]
 fn third_between_them(rt: HostRuntime) -> Result<(), Fail> {
-    let alloc = rt.alloc();
-    for (asks, initiator, acceptor) in [(true, "WrongMic", "waits"), (false, "NoMic", "complete")] {
-        let offer = offer_of(alloc, &[2], &[2], true)?;
-        let end = converse(alloc, 2, 2, asks, offer)?;
-        assert_eq!(rt; end.initiator, initiator);
-        assert_eq!(rt; end.acceptor, acceptor);
-        assert_eq!(rt; end.after_end, initiator);
-    }
-    let offer = offer_of(alloc, &[9], &[9], false)?;
-    let end = converse(alloc, 2, 2, false, offer)?;
-    assert_eq!(rt; end.initiator, "offered");
-    assert_eq!(rt; end.acceptor, "UnknownMechanism");
+    assert!(rt; is_found_out(rt.alloc(), true, "WrongMic", "waits")?);
+    assert!(rt; is_found_out(rt.alloc(), false, "NoMic", "complete")?);
+    Ok(())
+}
+
+/// An acceptor takes no mechanism that it does not have.
+#[test]
+fn unknown_mechanism(rt: HostRuntime) -> Result<(), Fail> {
+    let offer = offer_of(rt.alloc(), &[9], &[9], false)?;
+    let end = converse(rt.alloc(), 2, 2, false, offer)?;
+    assert!(rt; end.initiator == "offered");
+    assert!(rt; end.acceptor == "UnknownMechanism");
     Ok(())
 }

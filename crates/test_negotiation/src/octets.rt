@@ -124,25 +124,28 @@ fn converse(
 }
 
 /// As many messages as RFC 4178, 5, gives, over octets.
+const HONEST: [(u8, u64, bool, u32, &str); 8] = [
+    (1, 1, false, 2, "complete"),
+    (1, 1, true, 3, "complete by MIC"),
+    (2, 1, false, 2, "complete"),
+    (2, 1, true, 3, "complete by MIC"),
+    (3, 1, false, 4, "complete"),
+    (3, 1, true, 4, "complete by MIC"),
+    (2, 2, false, 5, "complete by MIC"),
+    (3, 2, true, 6, "complete by MIC"),
+];
+
+/// Whether an honest conversation ends so.
+fn is_honest(alloc: Global, row: &(u8, u64, bool, u32, &str)) -> Result<bool, Fail> {
+    let (initiator, offer) = initiator_of(alloc, row.0)?;
+    let end = converse(alloc, initiator, offer, row.1, row.0, row.2)?;
+    Ok(end.messages == row.3 && end.initiator == row.4 && end.acceptor == row.4)
+}
+
 #[test]
 fn honest_octets(rt: HostRuntime) -> Result<(), Fail> {
-    let alloc = rt.alloc();
-    let rows: [(u8, u64, bool, u32, &str); 8] = [
-        (1, 1, false, 2, "complete"),
-        (1, 1, true, 3, "complete by MIC"),
-        (2, 1, false, 2, "complete"),
-        (2, 1, true, 3, "complete by MIC"),
-        (3, 1, false, 4, "complete"),
-        (3, 1, true, 4, "complete by MIC"),
-        (2, 2, false, 5, "complete by MIC"),
-        (3, 2, true, 6, "complete by MIC"),
-    ];
-    for (tokens, supported, asks, messages, state) in rows {
-        let (initiator, offer) = initiator_of(alloc, tokens)?;
-        let end = converse(alloc, initiator, offer, supported, tokens, asks)?;
-        assert_eq!(rt; end.messages, messages);
-        assert_eq!(rt; end.initiator, state);
-        assert_eq!(rt; end.acceptor, state);
+    for row in &HONEST {
+        assert!(rt; is_honest(rt.alloc(), row)?);
     }
     Ok(())
 }
@@ -150,95 +153,95 @@ fn honest_octets(rt: HostRuntime) -> Result<(), Fail> {
 /// A third cuts the second toy out of the offer. An acceptor that asks for MICs is found out by its
 /// own, which is over the list that it got; where nobody asks, the first choice is taken, and what
 /// stood behind it is not protected (RFC 4178, 5).
+fn is_third(alloc: Global, asks: bool, initiator: &str, acceptor: &str) -> Result<bool, Fail> {
+    let (side, _offer) = initiator_of(alloc, 2)?;
+    let other = offer_of_one(alloc, 2)?;
+    let end = converse(alloc, side, other, 1, 2, asks)?;
+    Ok(end.initiator == initiator && end.acceptor == acceptor)
+}
+
 #[test]
 fn third_over_octets(rt: HostRuntime) -> Result<(), Fail> {
-    let alloc = rt.alloc();
-    for (asks, initiator, acceptor) in [
-        (true, "WrongMic", "waits"),
-        (false, "complete", "complete"),
-    ] {
-        let (side, _offer) = initiator_of(alloc, 2)?;
-        let other = offer_of_one(alloc, 2)?;
-        let end = converse(alloc, side, other, 1, 2, asks)?;
-        assert_eq!(rt; end.initiator, initiator);
-        assert_eq!(rt; end.acceptor, acceptor);
-    }
+    assert!(rt; is_third(rt.alloc(), true, "WrongMic", "waits")?);
+    assert!(rt; is_third(rt.alloc(), false, "complete", "complete")?);
     Ok(())
 }
 
-/// Octets behind the end, cut ones and none are no message, and end the negotiation for good; an
-/// acceptor that rejects is heard.
+/// Whether octets are no message, and end the negotiation for good.
+fn is_no_message(alloc: Global, octets: &[u8], offer: &[u8]) -> Result<bool, Fail> {
+    let fresh = accept(Vec::from_array(alloc, [toy(alloc, 1, 2)?])?, false);
+    let (acceptor, answer) = accept_step(alloc, fresh, octets);
+    let is_unread = acceptor_text(&acceptor) == "Unread" && answer.is_err();
+    let (again, answer) = accept_step(alloc, acceptor, offer);
+    Ok(is_unread && acceptor_text(&again) == "Unread" && answer.is_err())
+}
+
 #[test]
 fn octets_that_are_no_message(rt: HostRuntime) -> Result<(), Fail> {
     let alloc = rt.alloc();
-    let (side, offer) = initiator_of(alloc, 2)?;
+    let (_side, offer) = initiator_of(alloc, 2)?;
     let mut longer = Vec::from_slice(alloc, offer.as_slice())?;
     longer.push(0)?;
+    assert!(rt; is_no_message(alloc, &longer, &offer)?);
     let cut = &offer[..offer.len().saturating_sub(1)];
-    for octets in [longer.as_slice(), cut, &[], &REJECT] {
-        let fresh = accept(Vec::from_array(alloc, [toy(alloc, 1, 2)?])?, false);
-        let (acceptor, answer) = accept_step(alloc, fresh, octets);
-        assert_eq!(rt; acceptor_text(&acceptor), "Unread");
-        assert!(rt; answer.is_err());
-        let (again, answer) = accept_step(alloc, acceptor, offer.as_slice());
-        assert_eq!(rt; acceptor_text(&again), "Unread");
-        assert!(rt; answer.is_err());
-    }
-    let (rejected, answer) = initiate_step(alloc, side, &REJECT);
-    assert_eq!(rt; initiator_text(&rejected), "Rejected");
+    assert!(rt; is_no_message(alloc, cut, &offer)?, "cut");
+    assert!(rt; is_no_message(alloc, &[], &offer)?, "none");
+    assert!(rt; is_no_message(alloc, &REJECT, &offer)?, "a reply");
+    Ok(())
+}
+
+#[test]
+fn rejected(rt: HostRuntime) -> Result<(), Fail> {
+    let (side, _offer) = initiator_of(rt.alloc(), 2)?;
+    let (rejected, answer) = initiate_step(rt.alloc(), side, &REJECT);
+    assert!(rt; initiator_text(&rejected) == "Rejected");
     assert!(rt; answer.is_ok());
     Ok(())
 }
 
 /// A token of 70,000 octets comes through whole: a reply of MIT's form, laid by hand (RFC 4178,
 /// 4.2.2).
+const LARGE: [u8; 20] = [
+    0xa1, 0x83, 0x01, 0x11, 0x82, 0x30, 0x83, 0x01, 0x11, 0x7d, 0xa2, 0x83, 0x01, 0x11, 0x78, 0x04,
+    0x83, 0x01, 0x11, 0x73,
+];
+
+/// Whether the reply has a token of so many octets and no state.
+fn has_token(alloc: Global, octets: &[u8], size: usize) -> bool {
+    match read_reply(alloc, octets) {
+        Ok(message) => {
+            message.token.is_some_and(|token| token.len() == size) && message.state.is_none()
+        }
+        Err(_error) => false,
+    }
+}
+
 #[test]
 fn large_token(rt: HostRuntime) -> Result<(), Fail> {
-    let alloc = rt.alloc();
-    let mut octets = Vec::from_slice(
-        alloc,
-        &[
-            0xa1, 0x83, 0x01, 0x11, 0x82, 0x30, 0x83, 0x01, 0x11, 0x7d, 0xa2, 0x83, 0x01, 0x11,
-            0x78, 0x04, 0x83, 0x01, 0x11, 0x73,
-        ],
-    )?;
-    for _ in 0..70003u32 {
-        octets.push(7)?;
-    }
-    match read_reply(alloc, &octets) {
-        Ok(message) => {
-            let token = message.token.unwrap_or(Vec::new(alloc));
-            assert_eq!(rt; token.len(), 70003);
-            assert!(rt; message.state.is_none());
-        }
-        Err(_error) => assert!(rt; false),
-    }
+    let mut octets = Vec::from_slice(rt.alloc(), &LARGE)?;
+    octets.resize(70023, 7)?;
+    assert!(rt; has_token(rt.alloc(), &octets, 70003));
     Ok(())
 }
 
 /// The offer of a client of MIT Kerberos 1.20.1 names Kerberos first, with its own token: an acceptor
 /// that has Kerberos takes it, and one that has not refuses it by the rule.
+fn is_taken_up(alloc: Global, arcs: &[u64], state: &str) -> Result<bool, Fail> {
+    let deaf = Toy {
+        arcs: Vec::from_slice(alloc, arcs)?,
+        left: 2,
+        key: 7,
+        integrity: true,
+    };
+    let side = accept(Vec::from_array(alloc, [deaf])?, false);
+    let (acceptor, answer) = accept_step(alloc, side, &OFFER);
+    Ok(acceptor_text(&acceptor) == state && answer.is_ok())
+}
+
 #[test]
 fn offer_of_mit(rt: HostRuntime) -> Result<(), Fail> {
     let alloc = rt.alloc();
-    let octets = Vec::from_slice(alloc, &OFFER)?;
-    for (arcs, state) in [
-        ([1u64, 2, 840, 113554, 1, 2, 2], "complete"),
-        ([1, 2, 840, 113554, 1, 2, 3], "UnknownMechanism"),
-    ] {
-        let deaf = Toy {
-            arcs: Vec::from_slice(alloc, &arcs)?,
-            left: 2,
-            key: 7,
-            integrity: true,
-        };
-        let (acceptor, answer) = accept_step(
-            alloc,
-            accept(Vec::from_array(alloc, [deaf])?, false),
-            &octets,
-        );
-        assert_eq!(rt; acceptor_text(&acceptor), state);
-        assert!(rt; answer.is_ok());
-    }
+    assert!(rt; is_taken_up(alloc, &[1, 2, 840, 113554, 1, 2, 2], "complete")?);
+    assert!(rt; is_taken_up(alloc, &[1, 2, 840, 113554, 1, 2, 3], "UnknownMechanism")?);
     Ok(())
 }
