@@ -29,18 +29,25 @@ fn times(alloc: Global, logon: &LogonView) -> Result<String, AllocError> {
     format!(in alloc; "{first} {second}\n")
 }
 
-/// The lines of the names, in hexadecimal.
+/// Adds a name, in hexadecimal.
+fn push_name(alloc: Global, text: &mut String, name: &[u8]) -> Result<(), AllocError> {
+    let digits = hex::encode(alloc, name)?;
+    text.push_str(" [")?;
+    text.push_str(&digits)?;
+    text.push_str("]")
+}
+
+/// The line of the names.
 fn names(alloc: Global, logon: &LogonView) -> Result<String, AllocError> {
-    let effective_name = hex::encode(alloc, logon.effective_name())?;
-    let full_name = hex::encode(alloc, logon.full_name())?;
-    let logon_script = hex::encode(alloc, logon.logon_script())?;
-    let profile_path = hex::encode(alloc, logon.profile_path())?;
-    let home_directory = hex::encode(alloc, logon.home_directory())?;
-    let home_directory_drive = hex::encode(alloc, logon.home_directory_drive())?;
-    let first = format!(in alloc;
-        "names [{effective_name}] [{full_name}] [{logon_script}] [{profile_path}]"
-    )?;
-    format!(in alloc; "{first} [{home_directory}] [{home_directory_drive}]\n")
+    let mut text = String::from_str(alloc, "names")?;
+    push_name(alloc, &mut text, logon.effective_name())?;
+    push_name(alloc, &mut text, logon.full_name())?;
+    push_name(alloc, &mut text, logon.logon_script())?;
+    push_name(alloc, &mut text, logon.profile_path())?;
+    push_name(alloc, &mut text, logon.home_directory())?;
+    push_name(alloc, &mut text, logon.home_directory_drive())?;
+    text.push_str("\n")?;
+    Ok(text)
 }
 
 /// The line of the names of the server and the domain, in hexadecimal.
@@ -105,14 +112,16 @@ fn sids(alloc: Global, logon: &LogonView) -> Result<String, AllocError> {
 
 /// All lines of the logon information.
 fn shown(alloc: Global, logon: &LogonView) -> Result<String, AllocError> {
-    let times = times(alloc, logon)?;
-    let names = names(alloc, logon)?;
-    let domain = domain(alloc, logon)?;
-    let numbers = numbers(alloc, logon)?;
-    let own = groups(alloc, logon.groups())?;
-    let resource = groups(alloc, logon.resource_groups())?;
-    let sids = sids(alloc, logon)?;
-    format!(in alloc; "{times}{names}{domain}{numbers}{own}\nresource {resource}\n{sids}")
+    let mut text = times(alloc, logon)?;
+    text.push_str(&names(alloc, logon)?)?;
+    text.push_str(&domain(alloc, logon)?)?;
+    text.push_str(&numbers(alloc, logon)?)?;
+    text.push_str(&groups(alloc, logon.groups())?)?;
+    text.push_str("\nresource ")?;
+    text.push_str(&groups(alloc, logon.resource_groups())?)?;
+    text.push_str("\n")?;
+    text.push_str(&sids(alloc, logon)?)?;
+    Ok(text)
 }
 
 /// What is printed of a PAC.
