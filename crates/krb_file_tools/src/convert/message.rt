@@ -245,17 +245,20 @@ pub(crate) fn info_of(
     let (srealm, sname) = name_of(alloc, credential.server())?;
     let times = times_of(credential.times())?;
     let typed = typed_of(alloc, credential.addresses())?;
+    let caddr = addresses_of(alloc, &typed)?;
+    let session_key = key_of(alloc, credential.etype(), credential.key())?;
+    let bits = flags_of(alloc, credential.flags())?;
     Ok(KrbCredInfo {
-        key: ExplicitContextTag0::from(key_of(alloc, credential.etype(), credential.key())?),
+        key: ExplicitContextTag0::from(session_key),
         prealm: field(Some(prealm)),
         pname: field(Some(pname)),
-        flags: field(Some(flags_of(alloc, credential.flags())?)),
+        flags: field(Some(bits)),
         auth_time: times.auth_time,
         start_time: times.start_time,
         end_time: times.end_time,
         renew_till: times.renew_till,
         srealm: field(Some(srealm)),
         sname: field(Some(sname)),
-        caddr: field(addresses_of(alloc, &typed)?),
+        caddr: field(caddr),
     })
 }

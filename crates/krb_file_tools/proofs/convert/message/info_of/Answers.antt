@@ -38,10 +38,10 @@ returns-clause-found c = record {
   pname = c.field-2.ensures;
   srealm = c.field-4.ensures;
   sname = c.field-5.ensures;
-  keytype = ap (λ (k : EncryptionKey). k.key_type) c.from.ensures ∙ c.in_ok-key_of.ensures.etype ∙ ap (integer_at 2) c.etype.ensures;
-  keyvalue = ap (λ (k : EncryptionKey). k.key_value) c.from.ensures ∙ c.in_ok-key_of.ensures.octets ∙ c.key.ensures;
-  flags = c.field-3.ensures ∙ ap (λ (b : Bits). Some b) (c.in_ok-flags_of.ensures ∙ ap flag_bits c.flags.ensures);
+  keytype = ap (λ (k : EncryptionKey). k.key_type) c.from.ensures ∙ c.in_ok-session_key.ensures.etype ∙ ap (integer_at 2) c.etype.ensures;
+  keyvalue = ap (λ (k : EncryptionKey). k.key_value) c.from.ensures ∙ c.in_ok-session_key.ensures.octets ∙ c.key.ensures;
+  flags = c.field-3.ensures ∙ ap (λ (b : Bits). Some b) (c.in_ok-bits.ensures ∙ ap flag_bits c.flags.ensures);
   times = subst (λ (t : Times). AreTimesOf t c.in_ok-times.times.auth_time.0 c.in_ok-times.times.start_time.0 c.in_ok-times.times.end_time.0 c.in_ok-times.times.renew_till.0)
       c.times.ensures c.in_ok-times.ensures.found;
-  caddr = c.field-6.ensures ∙ c.in_ok-addresses_of.ensures ∙ ap addresses_of (c.deref.ensures.value ∙ c.in_ok-typed.ensures ∙ c.addresses.ensures);
+  caddr = c.field-6.ensures ∙ c.in_ok-caddr.ensures ∙ ap addresses_of (c.deref.ensures.value ∙ c.in_ok-typed.ensures ∙ c.addresses.ensures);
 }
