@@ -1,0 +1,9 @@
+pub mod Types
+pub mod Kinds
+pub mod Moments
+pub mod Passing
+pub mod Hints
+pub mod Requests
+pub mod Reports
+pub mod Initial
+pub mod Service
