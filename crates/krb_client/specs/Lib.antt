@@ -7,3 +7,4 @@ pub mod Requests
 pub mod Reports
 pub mod Initial
 pub mod Service
+pub mod Runs

@@ -17,7 +17,7 @@ use krb_crypto::CipherSuite;
 use krb_der::{ApplicationTag, Asn1SequenceOf, Der, DerEncode, IntegerAsn1, from_bytes};
 use krb_messages::messages::{AsRep, KdcRep};
 use krb_types::data_types::PaData;
-use krb_types::view::{Present, items};
+use krb_types::view::items;
 use std::alloc::Global;
 
 /// A reply of a KDC, under its tag.

@@ -79,10 +79,14 @@ pub(crate) fn granted(
         (RefusesReply ⟦<Rfc4120 as Encodings>⟧.initial terms.now exchange.now secret.now moment.now octets.now) }
 {
     match &exchange.key {
-        Some(key) => checked(alloc, terms, exchange, key, moment, octets),
+        Some(key) => {
+            let found = checked(alloc, terms, exchange, key, moment, octets)?;
+            Ok(found)
+        }
         None => {
             let key = key_of_reply(alloc, &exchange.asked, secret, &terms.limits, octets)?;
-            checked(alloc, terms, exchange, &key, moment, octets)
+            let found = checked(alloc, terms, exchange, &key, moment, octets)?;
+            Ok(found)
         }
     }
 }

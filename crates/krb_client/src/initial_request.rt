@@ -2,8 +2,9 @@
 
 ghost use Rattle.std.specs.Prelude.{◌≡◌, MatchOption, IfErr, IfOk};
 ghost use Rattle.std.specs.Option.{option_copied};
+ghost use Rattle.krb_client_requests.specs.Bodies.{wanted};
 ghost use Rattle.krb_client_requests.specs.Errors.{IsMemoryOr};
-ghost use Rattle.krb_client.specs.Requests.{IsAuthenticated, IsInitialRequest, IsNoInitialRequest, IsNoStamp, IsStamp, IsUnauthenticated};
+ghost use Rattle.krb_client.specs.Requests.{IsAuthenticated, IsInitialRequest, IsNoInitialRequest, IsNoStamp, IsStamp, IsUnauthenticated, wanted_of};
 
 use crate::messages::{Encodings, Rfc4120};
 use crate::moment::Moment;
@@ -14,6 +15,22 @@ use krb_client_rules::{Asked, Key};
 use krb_der::{Asn1SequenceOf, DerEncode};
 use krb_types::data_types::PaData;
 use std::alloc::Global;
+
+/// What is wanted of the KDC: what is asked, under the nonce of the moment (RFC 4120, 5.4.1).
+pub(crate) fn want_of<'a>(terms: &'a Terms, asked: &'a Asked, moment: &Moment) -> Want<'a>
+    ensures { wanted result ≡ wanted_of terms.now asked.now moment.now.nonce }
+{
+    Want {
+        realm: &asked.realm,
+        sname: &asked.sname,
+        options: terms.options,
+        from: asked.from,
+        till: asked.till,
+        rtime: asked.rtime,
+        nonce: moment.nonce,
+        etypes: asked.etypes.as_slice(),
+    }
+}
 
 /// The KDC's time under the client's key (RFC 4120, 5.2.7.2).
 fn stamp(
@@ -67,15 +84,7 @@ pub(crate) fn initial_request(
         terms.now asked.now (option_copied key.entry) offset.now moment.now e)) }
 {
     let padata = padata_of(alloc, key, offset, moment)?;
-    let want = Want {
-        realm: &asked.realm,
-        sname: &asked.sname,
-        options: terms.options,
-        from: asked.from,
-        till: asked.till,
-        rtime: asked.rtime,
-        nonce: moment.nonce,
-        etypes: asked.etypes.as_slice(),
-    };
-    as_request(alloc, &want, &asked.cname, padata)
+    let want = want_of(terms, asked, moment);
+    let octets = as_request(alloc, &want, &asked.cname, padata)?;
+    Ok(octets)
 }

@@ -11,6 +11,7 @@ mod initial;
 mod initial_reply;
 mod initial_request;
 mod kind;
+pub mod laws;
 mod messages;
 mod moment;
 mod reported;
