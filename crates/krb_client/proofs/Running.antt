@@ -1,168 +1,40 @@
--- Whole runs of an exchange for a first ticket.
-use Rattle.std.proofs.Common.{◌≡◌, ℕ, ℤ, ◌+◌, ◌≤◌, List, [], ◌∷◌, Option, Some, None, Result, Ok, Err, refl, sym, ap, subst, ◌∙◌, arith}
-use Rattle.krb_client_keys.specs.declared.secret.Secret.{Secret}
-use Rattle.krb_client_replies.specs.declared.granted.Granted.{Granted}
-use Rattle.krb_client_replies.specs.declared.reported.Reported.{Reported}
-use Rattle.krb_client_rules.specs.declared.asked.Asked.{Asked}
-use Rattle.krb_client_rules.specs.declared.key.Key.{Key}
-use Rattle.krb_client.specs.Initial.{Asks, IsBegun, IsStep, asked_with, key_after, offset_after, taken}
-use Rattle.krb_client.specs.Reports.{CallsFor}
-use Rattle.krb_client.specs.Requests.{IsInitialRequest}
-use Rattle.krb_client.specs.Runs.{Event, InitialRuns, IsLastRequest, IsTicketFor, Sent, StepsTo, last_sent, sent_after, sent_by, sent_in}
-use Rattle.krb_client.specs.Types.{InitialTypes}
-use Rattle.krb_client.specs.declared.error.ClientError.{ClientError}
-use Rattle.krb_client.specs.declared.initial.InitialExchange.{InitialExchange}
-use Rattle.krb_client.specs.declared.initial.InitialStep.{InitialStep}
-use Rattle.krb_client.specs.declared.initial.InitialStep.TheVariants as steps
-use Rattle.krb_client.specs.declared.moment.Moment.{Moment}
-use Rattle.krb_client.specs.declared.reported.Change.{Change}
-use Rattle.krb_client.specs.declared.reported.Change.TheVariants as changes
-use Rattle.krb_client.specs.declared.terms.Terms.{Terms}
+-- Whole runs, from what holds of each step.
+use Rattle.std.proofs.Common.{◌≡◌, ℕ, ◌+◌, ◌≤◌, List, [], ◌∷◌, Option, Some, None, sym, ap, subst, ◌∙◌, arith}
+use Rattle.krb_client.specs.Runs.{Runs, Sent, last_sent, sent_by}
 
 -- nothing is both there and not
-clash : {A : Type 0} (o : Option A) (x : A) → o ≡ None → o ≡ Some x → ⊥
-clash o x none some = let no : None ≡ Some x = sym none ∙ some in cc
+pub clash : {A : Type 0} (o : Option A) (x : A) → o ≡ None → o ≡ Some x → ⊥
+clash o x none some = let not : None ≡ Some x = sym none ∙ some in cc
 
--- ---- how many requests
-
-abbrev unset : {A : Type 0} → Option A → ℕ
+-- 1 where nothing is there
+abbrev pub unset : {A : Type 0} → Option A → ℕ
 unset None = 1
 unset (Some x) = 0
 
--- how many more requests an exchange makes at most: one for the key, and one for the KDC's time
-abbrev left : InitialExchange → ℕ
-left e = unset e.key + unset e.offset
-
-unset_most : {A : Type 0} (o : Option A) → unset o ≤ 1
+pub unset_most : {A : Type 0} (o : Option A) → unset o ≤ 1
 unset_most None = omega arith
 unset_most (Some x) = omega arith
 
-module _ (t : InitialTypes) (terms : Terms) where
-  change_left : (e : InitialExchange) (s : Secret) (m : Moment) (r : Reported) (change : Change) (nonce : ℕ) → CallsFor t terms e s m r change
-      → 1 + left (taken e change nonce) ≡ left e
-  change_left e s m r (changes.Key key) nonce calls = let one : unset e.key ≡ 1 = ap unset calls.0.1 in omega (arith, one)
-  change_left e s m r (changes.Offset offset) nonce calls = let one : unset e.offset ≡ 1 = ap unset calls.0.1 in omega (arith, one)
-
-  step_left : (e : InitialExchange) (s : Secret) (m : Moment) (octets : List ℕ) (outcome : Result InitialStep ClientError) (after : InitialExchange)
-      → StepsTo t terms e s m octets outcome after → sent_in outcome + left after ≡ left e
-  step_left e s m octets (Ok (steps.Send request)) after (change, answer, is) =
-      let one : 1 + left (taken e change m.nonce) ≡ left e = change_left e s m answer.1.report change m.nonce answer.1.calls in
-      let same : left after ≡ left (taken e change m.nonce) = ap left is in
-      omega (arith, one, same)
-  step_left e s m octets (Ok (steps.Granted g)) after (answer, is) = let same : left after ≡ left e = ap left is in omega (arith, same)
-  step_left e s m octets (Ok steps.Wait) after (answer, is) = let same : left after ≡ left e = ap left is in omega (arith, same)
-  step_left e s m octets (Err error) after (no, is) = let same : left after ≡ left e = ap left is in omega (arith, same)
-
-  run_left : (e : InitialExchange) (events : List Event) (after : InitialExchange) → InitialRuns t terms e events after → sent_by events + left after ≡ left e
-  run_left e [] after run = let same : left after ≡ left e = ap left run in omega (arith, same)
-  run_left e (event ∷ events) after run =
-      let first = step_left e event.secret event.moment event.octets event.outcome run.0 run.1.0 in
-      let rest = run_left run.0 events after run.1.1 in
+module _ {E C : Type 0} (steps : E → C → E → Type 0) where
+  -- where each request uses up one of those that are left, they are no more than were left
+  pub run_count : (sent : C → ℕ) (left : E → ℕ) → ((e : E) (call : C) (next : E) → steps e call next → sent call + left next ≡ left e)
+      → (e : E) (calls : List C) (after : E) → Runs steps e calls after → sent_by sent calls + left after ≡ left e
+  run_count sent left one e [] after run = let same : left after ≡ left e = ap left run in omega (arith, same)
+  run_count sent left one e (call ∷ calls) after run =
+      let first : sent call + left run.0 ≡ left e = one e call run.0 run.1.0 in
+      let rest : sent_by sent calls + left after ≡ left run.0 = run_count sent left one run.0 calls after run.1.1 in
       omega (arith, first, rest)
 
-  pub at_most_three : (e : InitialExchange) (events : List Event) (after : InitialExchange) → InitialRuns t terms e events after → 1 + sent_by events ≤ 3
-  at_most_three e events after run =
-      let all = run_left e events after run in
-      let key = unset_most e.key in
-      let offset = unset_most e.offset in
-      omega (arith, all, key, offset)
+  -- what each step keeps, a run keeps
+  pub run_keeps : (fact : E → Type 0) → ((e : E) (call : C) (next : E) → steps e call next → fact e → fact next)
+      → (e : E) (calls : List C) (after : E) → Runs steps e calls after → fact e → fact after
+  run_keeps fact one e [] after run h = subst fact (sym run) h
+  run_keeps fact one e (call ∷ calls) after run h = run_keeps fact one run.0 calls after run.1.1 (one e call run.0 run.1.0 h)
 
-  -- ---- what was taken stays
-
-  step_offset : (e : InitialExchange) (s : Secret) (m : Moment) (octets : List ℕ) (outcome : Result InitialStep ClientError) (after : InitialExchange) (offset : ℤ)
-      → StepsTo t terms e s m octets outcome after → e.offset ≡ Some offset → after.offset ≡ Some offset
-  step_offset e s m octets (Ok (steps.Send request)) after offset (changes.Key key, answer, is) has = ap (λ (x : InitialExchange). x.offset) is ∙ has
-  step_offset e s m octets (Ok (steps.Send request)) after offset (changes.Offset other, answer, is) has =
-      absurd (clash e.offset offset answer.1.calls.0.1 has)
-  step_offset e s m octets (Ok (steps.Granted g)) after offset (answer, is) has = ap (λ (x : InitialExchange). x.offset) is ∙ has
-  step_offset e s m octets (Ok steps.Wait) after offset (answer, is) has = ap (λ (x : InitialExchange). x.offset) is ∙ has
-  step_offset e s m octets (Err error) after offset (no, is) has = ap (λ (x : InitialExchange). x.offset) is ∙ has
-
-  pub run_offset : (e : InitialExchange) (events : List Event) (after : InitialExchange) (offset : ℤ)
-      → InitialRuns t terms e events after → e.offset ≡ Some offset → after.offset ≡ Some offset
-  run_offset e [] after offset run has = ap (λ (x : InitialExchange). x.offset) run ∙ has
-  run_offset e (event ∷ events) after offset run has =
-      run_offset run.0 events after offset run.1.1
-      (step_offset e event.secret event.moment event.octets event.outcome run.0 offset run.1.0 has)
-
-  step_key : (e : InitialExchange) (s : Secret) (m : Moment) (octets : List ℕ) (outcome : Result InitialStep ClientError) (after : InitialExchange) (key : Key)
-      → StepsTo t terms e s m octets outcome after → e.key ≡ Some key → after.key ≡ Some key
-  step_key e s m octets (Ok (steps.Send request)) after key (changes.Offset offset, answer, is) has = ap (λ (x : InitialExchange). x.key) is ∙ has
-  step_key e s m octets (Ok (steps.Send request)) after key (changes.Key other, answer, is) has = absurd (clash e.key key answer.1.calls.0.1 has)
-  step_key e s m octets (Ok (steps.Granted g)) after key (answer, is) has = ap (λ (x : InitialExchange). x.key) is ∙ has
-  step_key e s m octets (Ok steps.Wait) after key (answer, is) has = ap (λ (x : InitialExchange). x.key) is ∙ has
-  step_key e s m octets (Err error) after key (no, is) has = ap (λ (x : InitialExchange). x.key) is ∙ has
-
-  pub run_key : (e : InitialExchange) (events : List Event) (after : InitialExchange) (key : Key)
-      → InitialRuns t terms e events after → e.key ≡ Some key → after.key ≡ Some key
-  run_key e [] after key run has = ap (λ (x : InitialExchange). x.key) run ∙ has
-  run_key e (event ∷ events) after key run has =
-      run_key run.0 events after key run.1.1
-      (step_key e event.secret event.moment event.octets event.outcome run.0 key run.1.0 has)
-
-  -- ---- the last request
-
-  -- the nonce of what is asked is not of the request: that is the moment's
-  same_request : (a : Asked) (nonce : ℕ) (key : Option Key) (offset : Option ℤ) (m : Moment) (request : List ℕ)
-      → IsInitialRequest t terms (asked_with a nonce) key offset m request → IsInitialRequest t terms a key offset m request
-  same_request a nonce key offset m request r = record { padata = r.padata; authenticated = r.authenticated; is_request = r.is_request }
-
-  sent_last : (a : Asked) (e : InitialExchange) (sent : Sent) (s : Secret) (m : Moment) (octets : List ℕ) (change : Change) (request : List ℕ)
-      → IsLastRequest t terms a e sent → Asks t terms e s m octets change request
-      → IsLastRequest t terms a (taken e change m.nonce) (record { moment = m; request = request })
-  sent_last a e sent s m octets change request last asks =
-      record {
-        asked = ap (λ (x : Asked). asked_with x m.nonce) last.asked;
-        is_request = same_request a sent.moment.nonce (key_after e.key change) (offset_after e.offset change) m request
-        (subst (λ (x : Asked). IsInitialRequest t terms x (key_after e.key change) (offset_after e.offset change) m request) last.asked asks.is_request);
-      }
-
-  step_last : (a : Asked) (e : InitialExchange) (sent : Sent) (s : Secret) (m : Moment) (octets : List ℕ) (outcome : Result InitialStep ClientError)
-      (after : InitialExchange) → IsLastRequest t terms a e sent → StepsTo t terms e s m octets outcome after
-      → IsLastRequest t terms a after (sent_after sent m outcome)
-  step_last a e sent s m octets (Ok (steps.Send request)) after last (change, answer, is) =
-      subst (λ (x : InitialExchange). IsLastRequest t terms a x (record { moment = m; request = request.items })) (sym is)
-      (sent_last a e sent s m octets change request.items last answer.1)
-  step_last a e sent s m octets (Ok (steps.Granted g)) after last (answer, is) = subst (λ (x : InitialExchange). IsLastRequest t terms a x sent) (sym is) last
-  step_last a e sent s m octets (Ok steps.Wait) after last (answer, is) = subst (λ (x : InitialExchange). IsLastRequest t terms a x sent) (sym is) last
-  step_last a e sent s m octets (Err error) after last (no, is) = subst (λ (x : InitialExchange). IsLastRequest t terms a x sent) (sym is) last
-
-  run_last : (a : Asked) (e : InitialExchange) (sent : Sent) (events : List Event) (after : InitialExchange) → IsLastRequest t terms a e sent
-      → InitialRuns t terms e events after → IsLastRequest t terms a after (last_sent sent events)
-  run_last a e sent [] after last run = subst (λ (x : InitialExchange). IsLastRequest t terms a x sent) (sym run) last
-  run_last a e sent (event ∷ events) after last run =
-      run_last a run.0 (sent_after sent event.moment event.outcome) events after
-      (step_last a e sent event.secret event.moment event.octets event.outcome run.0 last run.1.0) run.1.1
-
-  begun_last : (a : Asked) (m : Moment) (e : InitialExchange) (request : List ℕ) → IsBegun t terms a m e request
-      → IsLastRequest t terms a e (record { moment = m; request = request })
-  begun_last a m e request begun = record {
-    asked = begun.asked;
-    is_request = subst (λ (k : Option Key). IsInitialRequest t terms a k e.offset m request) (sym begun.no_key)
-    (subst (λ (o : Option ℤ). IsInitialRequest t terms a None o m request) (sym begun.no_offset) begun.is_request);
-  }
-
-  pub begun_run_last : (a : Asked) (m : Moment) (e : InitialExchange) (request : List ℕ) (events : List Event) (after : InitialExchange)
-      → IsBegun t terms a m e request → InitialRuns t terms e events after
-      → IsLastRequest t terms a after (last_sent (record { moment = m; request = request }) events)
-  begun_run_last a m e request events after begun run =
-      run_last a e (record { moment = m; request = request }) events after (begun_last a m e request begun) run
-
-  -- ---- a ticket
-
-  granted_for : (a : Asked) (e : InitialExchange) (sent : Sent) (s : Secret) (m : Moment) (octets : List ℕ) (g : Granted) (after : InitialExchange)
-      → IsLastRequest t terms a e sent → IsStep t terms e s m octets (steps.Granted g) after → IsTicketFor t terms a e sent s m octets g
-  granted_for a e sent s m octets g after last step = record {
-    last = last;
-    key = step.0.1.0;
-    is_key = step.0.1.1;
-    is_granted = rw last.asked at step.0.1.2;
-  }
-
-  pub ticket_for : (a : Asked) (m : Moment) (begun : InitialExchange) (request : List ℕ) (events : List Event) (before : InitialExchange) (s : Secret)
-      (now : Moment) (octets : List ℕ) (g : Granted) (after : InitialExchange) → IsBegun t terms a m begun request
-      → InitialRuns t terms begun events before → IsStep t terms before s now octets (steps.Granted g) after
-      → IsTicketFor t terms a before (last_sent (record { moment = m; request = request }) events) s now octets g
-  ticket_for a m begun request events before s now octets g after is run step =
-      granted_for a before (last_sent (record { moment = m; request = request }) events) s now octets g after
-      (begun_run_last a m begun request events before is run) step
+  -- what holds of an exchange and its last request after each step, holds after a run
+  pub run_last : (after_call : Sent → C → Sent) (fact : E → Sent → Type 0)
+      → ((e : E) (sent : Sent) (call : C) (next : E) → fact e sent → steps e call next → fact next (after_call sent call))
+      → (e : E) (sent : Sent) (calls : List C) (after : E) → fact e sent → Runs steps e calls after → fact after (last_sent after_call sent calls)
+  run_last after_call fact one e sent [] after h run = subst (λ x. fact x sent) (sym run) h
+  run_last after_call fact one e sent (call ∷ calls) after h run =
+      run_last after_call fact one run.0 (after_call sent call) calls after (one e sent call run.0 h run.1.0) run.1.1

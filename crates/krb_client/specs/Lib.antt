@@ -8,3 +8,5 @@ pub mod Reports
 pub mod Initial
 pub mod Service
 pub mod Runs
+pub mod InitialRuns
+pub mod ServiceRuns

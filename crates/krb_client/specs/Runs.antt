@@ -1,75 +1,23 @@
--- Whole runs of an exchange for a first ticket: octets of the KDC, one message after another (RFC 4120, 3.1).
-use Rattle.std.specs.Prelude.{◌≡◌, ℕ, ◌+◌, List, [], ◌∷◌, Option, Some, None, Result, Ok, Err}
-use Rattle.krb_client_keys.specs.declared.secret.Secret.{Secret}
-use Rattle.krb_client_replies.specs.Granted.{IsFirstGranted}
-use Rattle.krb_client_replies.specs.declared.granted.Granted.{Granted}
-use Rattle.krb_client_rules.specs.declared.asked.Asked.{Asked}
-use Rattle.krb_client_rules.specs.declared.key.Key.{Key}
-use Rattle.krb_client.specs.Initial.{IsNoAnswer, IsStep, IsUsedKey, asked_with}
-use Rattle.krb_client.specs.Moments.{clock_of}
-use Rattle.krb_client.specs.Requests.{IsInitialRequest}
-use Rattle.krb_client.specs.Types.{InitialTypes}
-use Rattle.krb_client.specs.declared.error.ClientError.{ClientError}
-use Rattle.krb_client.specs.declared.initial.InitialExchange.{InitialExchange}
-use Rattle.krb_client.specs.declared.initial.InitialStep.{InitialStep}
-use Rattle.krb_client.specs.declared.initial.InitialStep.TheVariants as steps
+-- Whole runs of an exchange: octets of the KDC, one message after another (RFC 4120, 3.1 and 3.3).
+use Rattle.std.specs.Prelude.{◌≡◌, ℕ, ◌+◌, List, [], ◌∷◌}
 use Rattle.krb_client.specs.declared.moment.Moment.{Moment}
-use Rattle.krb_client.specs.declared.terms.Terms.{Terms}
 
--- one call of `step`: what came, when, and what followed
-pub record Event : Type 0 where
-  pub secret : Secret
-  pub moment : Moment
-  pub octets : List ℕ
-  pub outcome : Result InitialStep ClientError
+-- calls, one after another, each of which takes an exchange to the next
+abbrev pub Runs : {E C : Type 0} → (E → C → E → Type 0) → E → List C → E → Type 0
+Runs steps e [] after = after ≡ e
+Runs steps e (call ∷ calls) after = (next : _) × (steps e call next × Runs steps next calls after)
 
--- the call is one that the engine answers so, and the exchange after it; after an error it is as it was
-abbrev pub StepsTo : InitialTypes → Terms → InitialExchange → Secret → Moment → List ℕ → Result InitialStep ClientError → InitialExchange → Type 0
-StepsTo t terms e s m octets (Ok answer) after = IsStep t terms e s m octets answer after
-StepsTo t terms e s m octets (Err error) after = IsNoAnswer t terms e s m octets error × (after ≡ e)
+-- how many requests they make, by how many each makes
+abbrev pub sent_by : {C : Type 0} → (C → ℕ) → List C → ℕ
+sent_by sent [] = 0
+sent_by sent (call ∷ calls) = sent call + sent_by sent calls
 
--- calls, one after another
-abbrev pub InitialRuns : InitialTypes → Terms → InitialExchange → List Event → InitialExchange → Type 0
-InitialRuns t terms e [] after = after ≡ e
-InitialRuns t terms e (event ∷ events) after =
-    (next : InitialExchange) × (StepsTo t terms e event.secret event.moment event.octets event.outcome next × InitialRuns t terms next events after)
-
--- how many requests they make
-abbrev pub sent_in : Result InitialStep ClientError → ℕ
-sent_in (Ok (steps.Send request)) = 1
-sent_in (Ok other) = 0
-sent_in (Err error) = 0
-
-abbrev pub sent_by : List Event → ℕ
-sent_by [] = 0
-sent_by (event ∷ events) = sent_in event.outcome + sent_by events
-
--- a request that was sent, and the moment of the step that made it
+-- a request that was sent, and the moment of the call that made it
 pub record Sent : Type 0 where
   pub moment : Moment
   pub request : List ℕ
 
 -- the last one after these calls, where this was the last one before them
-abbrev pub sent_after : Sent → Moment → Result InitialStep ClientError → Sent
-sent_after sent m (Ok (steps.Send request)) = record { moment = m; request = request.items }
-sent_after sent m (Ok other) = sent
-sent_after sent m (Err error) = sent
-
-abbrev pub last_sent : Sent → List Event → Sent
-last_sent sent [] = sent
-last_sent sent (event ∷ events) = last_sent (sent_after sent event.moment event.outcome) events
-
--- The exchange waits for a reply to this request: it is the AS-REQ for what is asked, under the nonce of its own moment, with the time under the
--- exchange's key, by the exchange's offset.
-pub record IsLastRequest (t : InitialTypes) (terms : Terms) (a : Asked) (e : InitialExchange) (sent : Sent) : Type 0 where
-  pub asked : e.asked ≡ asked_with a sent.moment.nonce
-  pub is_request : IsInitialRequest t terms a e.key e.offset sent.moment sent.request
-
--- The octets are an AS-REP that grants this, under the key of the last request or the client's for the reply, to what was asked under the nonce of that
--- request.
-pub record IsTicketFor (t : InitialTypes) (terms : Terms) (a : Asked) (e : InitialExchange) (sent : Sent) (s : Secret) (m : Moment) (octets : List ℕ)
-    (g : Granted) : Type 0 where
-  pub last : IsLastRequest t terms a e sent
-  pub key : Key
-  pub is_key : IsUsedKey t terms e s octets key
-  pub is_granted : IsFirstGranted t.as_rep t.part t.other_part (asked_with a sent.moment.nonce) (clock_of terms e.offset m) key octets g
+abbrev pub last_sent : {C : Type 0} → (Sent → C → Sent) → Sent → List C → Sent
+last_sent after sent [] = sent
+last_sent after sent (call ∷ calls) = last_sent after (after sent call) calls

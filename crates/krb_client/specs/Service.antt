@@ -29,8 +29,8 @@ use Rattle.krb_client.specs.declared.terms.ByTicket.{ByTicket}
 use Rattle.krb_client.specs.declared.terms.Terms.{Terms}
 
 -- the exchange by the KDC's time, after a request of this nonce
-abbrev pub retimed : ServiceExchange → ℤ → ℕ → ServiceExchange
-retimed e offset nonce = record { asked = asked_with e.asked nonce; offset = Some offset; subkey = e.subkey }
+abbrev pub retimed : ServiceExchange → Option ℤ → ℕ → ServiceExchange
+retimed e offset nonce = record { asked = asked_with e.asked nonce; offset = offset; subkey = e.subkey }
 
 -- The exchange asks for this under the nonce of the moment, and the octets are the TGS-REQ by the ticket with the subkey.
 pub record IsServiceBegun (t : ServiceTypes) (terms : Terms) (by : ByTicket) (a : Asked) (subkey : Key) (offset : Option ℤ) (m : Moment) (e : ServiceExchange)
@@ -52,13 +52,13 @@ IsTicketNotChecked t terms e m octets error =
     × IsNotGranted (tgs_form t.tgs_rep t.part (pos 9)) e.asked (clock_of terms e.offset m) e.subkey octets why × IsNotPassedOver terms why
 
 -- The octets report that the clocks differ, the KDC's time was not taken, and the request is the TGS-REQ by it.
-pub record AsksByTicket (t : ServiceTypes) (terms : Terms) (by : ByTicket) (e : ServiceExchange) (m : Moment) (octets : List ℕ) (offset : ℤ)
+pub record AsksByTicket (t : ServiceTypes) (terms : Terms) (by : ByTicket) (e : ServiceExchange) (m : Moment) (octets : List ℕ) (offset : Option ℤ)
     (request : List ℕ) : Type 0 where
   pub report : Reported
   pub is_reported : IsReported t.krb_error octets report
   pub needs_time : NeedsTime report e.offset
-  pub is_offset : offset ≡ ahead_of report.seconds m.seconds
-  pub is_request : IsServiceRequest t terms by e.asked e.subkey (Some offset) m request
+  pub is_offset : offset ≡ Some (ahead_of report.seconds m.seconds)
+  pub is_request : IsServiceRequest t terms by e.asked e.subkey offset m request
 
 -- why no request follows: the octets are no KRB-ERROR; else another error is told by its code; else there is no request
 abbrev pub RefusesServiceError : ServiceTypes → Terms → ByTicket → ServiceExchange → Moment → List ℕ → ClientError → Type 0
@@ -88,6 +88,6 @@ IsNoServiceAnswer t terms by e m octets error =
 -- over, and nothing changes.
 abbrev pub IsServiceStep : ServiceTypes → Terms → ByTicket → ServiceExchange → Moment → List ℕ → ServiceStep → ServiceExchange → Type 0
 IsServiceStep t terms by e m octets (steps.Send request) after =
-    (offset : ℤ) × IsServiceAnswer t terms by e m octets (answers.Send offset request) × (after ≡ retimed e offset m.nonce)
+    (offset : Option ℤ) × IsServiceAnswer t terms by e m octets (answers.Send offset request) × (after ≡ retimed e offset m.nonce)
 IsServiceStep t terms by e m octets (steps.Granted g) after = IsServiceAnswer t terms by e m octets (answers.Granted g) × (after ≡ e)
 IsServiceStep t terms by e m octets steps.Wait after = IsServiceAnswer t terms by e m octets answers.Wait × (after ≡ e)

@@ -13,7 +13,7 @@ use crate::moment::Moment;
 use crate::reported::needs_time;
 use crate::service_request::service_request;
 use crate::terms::{ByTicket, Terms};
-use crate::time::{ahead, clock_of};
+use crate::time::{clock_of, offset_of};
 use krb_client_replies::{Granted, check_tgs_rep, read_error};
 use krb_client_requests::RequestError;
 use krb_client_rules::{Asked, Key};
@@ -51,7 +51,7 @@ pub enum ServiceStep {
 #[derive(Debug, Drop)]
 enum ServiceAnswer {
     /// These octets go to the KDC, whose time is so much ahead.
-    Send(i64, Vec<u8>),
+    Send(Option<i64>, Vec<u8>),
     /// The KDC granted a ticket.
     Granted(Granted),
     /// The reply is of another request.
@@ -99,7 +99,7 @@ fn answer_to_error(
     exchange: &ServiceExchange,
     moment: &Moment,
     octets: &[u8],
-) -> Result<(i64, Vec<u8>), ClientError>
+) -> Result<(Option<i64>, Vec<u8>), ClientError>
     ensures asks { IfOk result (λ r. AsksByTicket ⟦<Rfc4120 as Encodings>⟧.service terms.now by.now exchange.now moment.now
         octets.now r.0 r.1.items) }
     ensures rejected { IfErr result (RefusesServiceError ⟦<Rfc4120 as Encodings>⟧.service terms.now by.now exchange.now
@@ -109,9 +109,9 @@ fn answer_to_error(
     if !needs_time(&reported, &exchange.offset) {
         return Err(ClientError::Kdc(reported.code));
     }
-    let offset = ahead(&reported, moment);
+    let offset = offset_of(&reported, moment);
     let (asked, subkey) = (&exchange.asked, &exchange.subkey);
-    let request = service_request(alloc, terms, by, asked, subkey, &Some(offset), moment)?;
+    let request = service_request(alloc, terms, by, asked, subkey, &offset, moment)?;
     Ok((offset, request))
 }
 
@@ -175,11 +175,11 @@ impl ServiceExchange {
     }
 
     /// The exchange by the KDC's time, after a request of this nonce.
-    fn take(&mut self, offset: i64, nonce: u32)
+    fn take(&mut self, offset: Option<i64>, nonce: u32)
         ensures { self.new ≡ retimed self.old offset nonce }
     {
         self.asked.nonce = nonce;
-        self.offset = Some(offset);
+        self.offset = offset;
     }
 
     /// What follows on octets of the KDC (RFC 4120, 3.3.4).

@@ -37,6 +37,13 @@ pub(crate) fn ahead(reported: &Reported, moment: &Moment) -> i64
     reported.seconds.saturating_sub(moment.seconds)
 }
 
+/// What the KDC's time is ahead of the client's, which is known.
+pub(crate) fn offset_of(reported: &Reported, moment: &Moment) -> Option<i64>
+    ensures { result ≡ Some (ahead_of reported.now.seconds moment.now.seconds) }
+{
+    Some(ahead(reported, moment))
+}
+
 /// The confounder of a part under this suite.
 pub(crate) fn confounder_of<'a>(moment: &'a Moment, suite: &CipherSuite) -> &'a [u8]
     ensures { result.now ≡ confounder_of suite.now moment.now.random }
