@@ -45,15 +45,16 @@ module _ (t : InitialTypes) (terms : Terms) where
       → 1 + sent_by requests_of calls ≤ 3
   at_most_three e calls after run =
       let all : sent_by requests_of calls + left after ≡ left e =
-      run_count (InitialStepsBy t terms) requests_of left (λ x call next h. step_left x call.secret call.moment call.octets call.outcome next h) e calls after run in
+      run_count (InitialStepsBy t terms) requests_of left
+      (λ x call next h. step_left x call.secret call.moment call.octets call.outcome next h) e calls after run in
       let key : unset e.key ≤ 1 = unset_most e.key in
       let offset : unset e.offset ≤ 1 = unset_most e.offset in
       omega (arith, all, key, offset)
 
   -- ---- what was taken stays
 
-  step_offset : (offset : ℤ) (e : InitialExchange) (s : Secret) (m : Moment) (octets : List ℕ) (outcome : Result InitialStep ClientError) (after : InitialExchange)
-      → StepsTo t terms e s m octets outcome after → e.offset ≡ Some offset → after.offset ≡ Some offset
+  step_offset : (offset : ℤ) (e : InitialExchange) (s : Secret) (m : Moment) (octets : List ℕ) (outcome : Result InitialStep ClientError)
+      (after : InitialExchange) → StepsTo t terms e s m octets outcome after → e.offset ≡ Some offset → after.offset ≡ Some offset
   step_offset offset e s m octets (Ok (steps.Send request)) after (changes.Key key, answer, is) has = ap (λ (x : InitialExchange). x.offset) is ∙ has
   step_offset offset e s m octets (Ok (steps.Send request)) after (changes.Offset other, answer, is) has =
       absurd (clash e.offset offset answer.1.calls.0.1 has)

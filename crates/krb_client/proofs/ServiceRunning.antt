@@ -62,7 +62,16 @@ module _ (t : ServiceTypes) (terms : Terms) (by : ByTicket) where
   same_request a nonce subkey offset m request r =
       let s = r.is_sender in
       let is : IsSenderOf a subkey offset m r.sender =
-      record { crealm = s.crealm; cname = s.cname; seconds = s.seconds; microseconds = s.microseconds; lent = s.lent; subkey_is = s.subkey_is; lent_is = s.lent_is; no_number = s.no_number } in
+      record {
+        crealm = s.crealm;
+        cname = s.cname;
+        seconds = s.seconds;
+        microseconds = s.microseconds;
+        lent = s.lent;
+        subkey_is = s.subkey_is;
+        lent_is = s.lent_is;
+        no_number = s.no_number;
+      } in
       record { sender = r.sender; is_sender = is; is_request = r.is_request }
 
   sent_last : (a : Asked) (subkey : Key) (e : ServiceExchange) (sent : Sent) (m : Moment) (octets : List ℕ) (offset : Option ℤ) (request : List ℕ)

@@ -170,7 +170,8 @@ pub(crate) fn key_of_reply(
     limits: &Limits,
     octets: &[u8],
 ) -> Result<Key, ClientError>
-    ensures made { IfOk result (IsKeyOfReply ⟦<Rfc4120 as Encodings>⟧.initial asked.now secret.now limits.now octets.now) }
+    ensures made { IfOk result
+        (IsKeyOfReply ⟦<Rfc4120 as Encodings>⟧.initial asked.now secret.now limits.now octets.now) }
     ensures rejected { IfErr result
         (IsNoKeyOfReply ⟦<Rfc4120 as Encodings>⟧.initial asked.now secret.now limits.now octets.now) }
 {

@@ -143,7 +143,8 @@ impl InitialExchange {
         asked: Asked,
         moment: &Moment,
     ) -> Result<(InitialExchange, Vec<u8>), RequestError>
-        ensures begun { IfOk result (λ r. IsBegun ⟦<Rfc4120 as Encodings>⟧.initial terms.now asked moment.now r.0 r.1.items) }
+        ensures begun { IfOk result
+            (λ r. IsBegun ⟦<Rfc4120 as Encodings>⟧.initial terms.now asked moment.now r.0 r.1.items) }
         ensures rejected { IfErr result (IsNotBegun terms.now asked moment.now) }
     {
         let request = initial_request(alloc, terms, &asked, None, &None, moment)?;

@@ -31,17 +31,18 @@ pub fn initial_runs<E: Encodings>()
     ensures requests { (terms : TermsOf) (a : AskedOf) (m : MomentOf) (begun : InitialExchangeOf) (request : List ℕ)
         (calls : List InitialCall) (after : InitialExchangeOf) → IsBegun E.initial terms a m begun request
         → InitialRuns E.initial terms begun calls after → 1 + sent_by requests_of calls ≤ 3 }
-    ensures offset { (terms : TermsOf) (before : InitialExchangeOf) (calls : List InitialCall) (after : InitialExchangeOf) (offset : ℤ)
-        → InitialRuns E.initial terms before calls after → before.offset ≡ Some offset → after.offset ≡ Some offset }
-    ensures key { (terms : TermsOf) (before : InitialExchangeOf) (calls : List InitialCall) (after : InitialExchangeOf) (key : KeyOf)
-        → InitialRuns E.initial terms before calls after → before.key ≡ Some key → after.key ≡ Some key }
+    ensures offset { (terms : TermsOf) (before : InitialExchangeOf) (calls : List InitialCall)
+        (after : InitialExchangeOf) (offset : ℤ) → InitialRuns E.initial terms before calls after → before.offset ≡ Some offset → after.offset ≡ Some offset }
+    ensures key { (terms : TermsOf) (before : InitialExchangeOf) (calls : List InitialCall)
+        (after : InitialExchangeOf) (key : KeyOf) → InitialRuns E.initial terms before calls after → before.key ≡ Some key → after.key ≡ Some key }
     ensures last { (terms : TermsOf) (a : AskedOf) (m : MomentOf) (begun : InitialExchangeOf) (request : List ℕ)
         (calls : List InitialCall) (after : InitialExchangeOf) → IsBegun E.initial terms a m begun request
         → InitialRuns E.initial terms begun calls after
-        → IsLastRequest E.initial terms a after (last_sent sent_by_call (record { moment = m; request = request }) calls) }
+        → IsLastRequest E.initial terms a after
+        (last_sent sent_by_call (record { moment = m; request = request }) calls) }
     ensures ticket { (terms : TermsOf) (a : AskedOf) (m : MomentOf) (begun : InitialExchangeOf) (request : List ℕ)
-        (calls : List InitialCall) (before : InitialExchangeOf) (s : SecretOf) (now : MomentOf) (octets : List ℕ) (g : GrantedOf)
-        (after : InitialExchangeOf) → IsBegun E.initial terms a m begun request
+        (calls : List InitialCall) (before : InitialExchangeOf) (s : SecretOf) (now : MomentOf) (octets : List ℕ)
+        (g : GrantedOf) (after : InitialExchangeOf) → IsBegun E.initial terms a m begun request
         → InitialRuns E.initial terms begun calls before
         → IsStep E.initial terms before s now octets (steps.Granted g) after
         → IsTicketFor E.initial terms a before
@@ -66,8 +67,8 @@ pub fn service_runs<E: Encodings>()
         → ServiceRuns E.service terms by begun calls after
         → IsLastServiceRequest E.service terms by a subkey after
         (last_sent sent_by_service_call (record { moment = m; request = request }) calls) }
-    ensures ticket { (terms : TermsOf) (by : ByTicketOf) (a : AskedOf) (subkey : KeyOf) (offset : Option ℤ) (m : MomentOf)
-        (begun : ServiceExchangeOf) (request : List ℕ) (calls : List ServiceCall) (before : ServiceExchangeOf)
+    ensures ticket { (terms : TermsOf) (by : ByTicketOf) (a : AskedOf) (subkey : KeyOf) (offset : Option ℤ)
+        (m : MomentOf) (begun : ServiceExchangeOf) (request : List ℕ) (calls : List ServiceCall) (before : ServiceExchangeOf)
         (now : MomentOf) (octets : List ℕ) (g : GrantedOf) (after : ServiceExchangeOf)
         → IsServiceBegun E.service terms by a subkey offset m begun request
         → ServiceRuns E.service terms by begun calls before

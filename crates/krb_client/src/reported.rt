@@ -61,7 +61,8 @@ fn key_for(
     secret: &Secret,
     reported: &Reported,
 ) -> Result<Key, ClientError>
-    ensures made { IfOk result (IsKeyTold ⟦<Rfc4120 as Encodings>⟧.initial terms.now exchange.now secret.now reported.now) }
+    ensures made { IfOk result
+        (IsKeyTold ⟦<Rfc4120 as Encodings>⟧.initial terms.now exchange.now secret.now reported.now) }
     ensures rejected { IfErr result
         (IsNoKeyTold ⟦<Rfc4120 as Encodings>⟧.initial terms.now exchange.now secret.now reported.now) }
 {

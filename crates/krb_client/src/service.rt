@@ -100,8 +100,8 @@ fn answer_to_error(
     moment: &Moment,
     octets: &[u8],
 ) -> Result<(Option<i64>, Vec<u8>), ClientError>
-    ensures asks { IfOk result (λ r. AsksByTicket ⟦<Rfc4120 as Encodings>⟧.service terms.now by.now exchange.now moment.now
-        octets.now r.0 r.1.items) }
+    ensures asks { IfOk result (λ r. AsksByTicket ⟦<Rfc4120 as Encodings>⟧.service terms.now by.now exchange.now
+        moment.now octets.now r.0 r.1.items) }
     ensures rejected { IfErr result (RefusesServiceError ⟦<Rfc4120 as Encodings>⟧.service terms.now by.now exchange.now
         moment.now octets.now) }
 {
