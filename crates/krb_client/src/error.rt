@@ -40,14 +40,6 @@ impl From<ReplyError> for ClientError {
     }
 }
 
-impl From<HintError> for ClientError {
-    ghost from_gives = { λ x e. e ≡ errors.Key x };
-
-    fn from(error: HintError) -> ClientError {
-        ClientError::Key(error)
-    }
-}
-
 impl From<RequestError> for ClientError {
     ghost from_gives = { λ x e. e ≡ errors.Request x };
 
