@@ -96,7 +96,7 @@ module _ (t : InitialTypes) (terms : Terms) where
       record {
         asked = ap (λ (x : Asked). asked_with x m.nonce) last.asked;
         is_request = same_request a sent.moment.nonce (key_after e.key change) (offset_after e.offset change) m request
-        (subst (λ (x : Asked). IsInitialRequest t terms x (key_after e.key change) (offset_after e.offset change) m request) last.asked asks.is_request);
+            (subst (λ (x : Asked). IsInitialRequest t terms x (key_after e.key change) (offset_after e.offset change) m request) last.asked asks.is_request);
       }
 
   step_last : (a : Asked) (e : InitialExchange) (sent : Sent) (s : Secret) (m : Moment) (octets : List ℕ) (outcome : Result InitialStep ClientError)
@@ -114,7 +114,7 @@ module _ (t : InitialTypes) (terms : Terms) where
   begun_last a m e request begun = record {
     asked = begun.asked;
     is_request = subst (λ (k : Option Key). IsInitialRequest t terms a k e.offset m request) (sym begun.no_key)
-    (subst (λ (o : Option ℤ). IsInitialRequest t terms a None o m request) (sym begun.no_offset) begun.is_request);
+        (subst (λ (o : Option ℤ). IsInitialRequest t terms a None o m request) (sym begun.no_offset) begun.is_request);
   }
 
   pub begun_run_last : (a : Asked) (m : Moment) (e : InitialExchange) (request : List ℕ) (calls : List InitialCall) (after : InitialExchange)

@@ -82,8 +82,8 @@ module _ (t : ServiceTypes) (terms : Terms) (by : ByTicket) where
         asked = ap (λ (x : Asked). asked_with x m.nonce) last.asked;
         subkey_is = last.subkey_is;
         is_request = same_request a sent.moment.nonce subkey offset m request
-        (subst (λ (x : Asked). IsServiceRequest t terms by x subkey offset m request) last.asked
-        (subst (λ (k : Key). IsServiceRequest t terms by e.asked k offset m request) last.subkey_is asks.is_request));
+            (subst (λ (x : Asked). IsServiceRequest t terms by x subkey offset m request) last.asked
+            (subst (λ (k : Key). IsServiceRequest t terms by e.asked k offset m request) last.subkey_is asks.is_request));
       }
 
   step_last : (a : Asked) (subkey : Key) (e : ServiceExchange) (sent : Sent) (m : Moment) (octets : List ℕ) (outcome : Result ServiceStep ClientError)

@@ -130,6 +130,17 @@ fn key_by_padata(
     }
 }
 
+/// The value whose one encoding the octets are.
+fn decoded<T: Der + Drop>(alloc: Global, octets: &[u8]) -> Result<T, ClientError>
+    ensures found { IfOk result (Encodes ⟦<T as DerEncode>⟧ octets.now) }
+    ensures rejected { IfErr result (IsUnread ⟦<T as DerEncode>⟧ octets.now) }
+{
+    match from_bytes(alloc, octets) {
+        Ok(value) => Ok(value),
+        Err(error) => Err(ClientError::Reply(ReplyError::Message(error))),
+    }
+}
+
 /// The key of the client for this reply.
 fn key_of<M: Der + Hinting + Drop>(
     alloc: Global,
@@ -144,10 +155,7 @@ fn key_of<M: Der + Hinting + Drop>(
         ⊎ ((m : M) × Encodes ⟦<M as DerEncode>⟧ octets.now m
         × IsNoKeyForReply ⟦<Rfc4120 as Encodings>⟧.initial asked.now secret.now limits.now (M.content m) e)) }
 {
-    let message: M = match from_bytes(alloc, octets) {
-        Ok(message) => message,
-        Err(error) => return Err(ClientError::Reply(ReplyError::Message(error))),
-    };
+    let message: M = decoded(alloc, octets)?;
     let client = Client {
         realm: &asked.crealm,
         name: &asked.cname,

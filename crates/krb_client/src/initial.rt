@@ -124,8 +124,9 @@ fn answer_of(
             None => Ok(Answer::Wait),
         },
         Kind::Error => {
-            let (change, request) =
-                answer_to_error(alloc, terms, exchange, secret, moment, octets)?;
+            let (change, request) = answer_to_error(
+                alloc, terms, exchange, secret, moment, octets,
+            )?;
             Ok(Answer::Send(change, request))
         }
         Kind::Other => Err(ClientError::OtherMessage),

@@ -22,14 +22,25 @@ pub trait Encodings {
 pub struct Rfc4120;
 
 impl Encodings for Rfc4120 {
-    ghost initial = { record { as_req = ⟦<AsReq as DerEncode>⟧; as_rep = ⟦<AsRep as DerEncode>⟧;
-        part = ⟦<EncAsRepPart as DerEncode>⟧; other_part = ⟦<EncTgsRepPart as DerEncode>⟧;
-        krb_error = ⟦<KrbError as DerEncode>⟧; stamps = ⟦<PaEncTsEnc as DerEncode>⟧;
-        encrypted = ⟦<EncryptedData as DerEncode>⟧; lists = ⟦<Asn1SequenceOf<PaData> as DerEncode>⟧;
-        infos = ⟦<EtypeInfo2 as DerEncode>⟧ } };
+    ghost initial = { record {
+      as_req = ⟦<AsReq as DerEncode>⟧;
+      as_rep = ⟦<AsRep as DerEncode>⟧;
+      part = ⟦<EncAsRepPart as DerEncode>⟧;
+      other_part = ⟦<EncTgsRepPart as DerEncode>⟧;
+      krb_error = ⟦<KrbError as DerEncode>⟧;
+      stamps = ⟦<PaEncTsEnc as DerEncode>⟧;
+      encrypted = ⟦<EncryptedData as DerEncode>⟧;
+      lists = ⟦<Asn1SequenceOf<PaData> as DerEncode>⟧;
+      infos = ⟦<EtypeInfo2 as DerEncode>⟧;
+    } };
 
-    ghost service = { record { tgs_req = ⟦<TgsReq as DerEncode>⟧; bodies = ⟦<KdcReqBody as DerEncode>⟧;
-        applications = ⟦<ApReq as DerEncode>⟧; authenticators = ⟦<Authenticator as DerEncode>⟧;
-        tgs_rep = ⟦<TgsRep as DerEncode>⟧; part = ⟦<EncTgsRepPart as DerEncode>⟧;
-        krb_error = ⟦<KrbError as DerEncode>⟧ } };
+    ghost service = { record {
+      tgs_req = ⟦<TgsReq as DerEncode>⟧;
+      bodies = ⟦<KdcReqBody as DerEncode>⟧;
+      applications = ⟦<ApReq as DerEncode>⟧;
+      authenticators = ⟦<Authenticator as DerEncode>⟧;
+      tgs_rep = ⟦<TgsRep as DerEncode>⟧;
+      part = ⟦<EncTgsRepPart as DerEncode>⟧;
+      krb_error = ⟦<KrbError as DerEncode>⟧;
+    } };
 }

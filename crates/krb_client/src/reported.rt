@@ -71,7 +71,14 @@ fn key_for(
         name: &exchange.asked.cname,
     };
     let suites = exchange.asked.etypes.as_slice();
-    match told_key(alloc, &client, secret, &terms.limits, suites, data_of(reported)) {
+    match told_key(
+        alloc,
+        &client,
+        secret,
+        &terms.limits,
+        suites,
+        data_of(reported),
+    ) {
         Ok(key) => Ok(key),
         Err(error) => Err(ClientError::Key(error)),
     }
