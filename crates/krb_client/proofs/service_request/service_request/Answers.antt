@@ -1,4 +1,26 @@
+use Rattle.std.proofs.Common.{ℤ, List, Option, inl, inr}
+use Rattle.std.proofs.lemmas.Result.{err_from_is_err_and}
+use Rattle.krb_client_requests.specs.Errors.{IsMemoryOr}
+use Rattle.krb_client_requests.specs.Requests.{IsNoTgsRequest}
+use Rattle.krb_client_requests.specs.Sealed.{key_of}
+use Rattle.krb_client_requests.specs.declared.authenticator.Sender.{Sender}
+use Rattle.krb_client_requests.specs.declared.error.RequestError.{RequestError}
+use Rattle.krb_client_rules.specs.declared.asked.Asked.{Asked}
+use Rattle.krb_client_rules.specs.declared.key.Key.{Key}
+use Rattle.krb_client.specs.Moments.{confounder_of}
+use Rattle.krb_client.specs.Requests.{IsNoServiceRequest, IsSenderOf, wanted_of}
+use Rattle.krb_client.specs.declared.moment.Moment.{Moment}
+use Rattle.krb_client.specs.declared.terms.ByTicket.{ByTicket}
+use Rattle.krb_client.specs.declared.terms.Terms.{Terms}
 use Rattle.krb_client.proofs.service_request.service_request.Goals as goal
+
+-- why there is no request of this sender
+refused : (terms : Terms) (by : ByTicket) (a : Asked) (subkey : Key) (offset : Option ℤ) (m : Moment) (e : RequestError) (s : Sender)
+    → IsSenderOf a subkey offset m s
+    → IsMemoryOr e (IsNoTgsRequest (wanted_of terms a m.nonce) (key_of by.session) s (confounder_of by.session.suite.now m.random) e)
+    → IsMemoryOr e (IsNoServiceRequest terms by a subkey offset m e)
+refused terms by a subkey offset m e s is (inl memory) = inl memory
+refused terms by a subkey offset m e s is (inr none) = inr (s, is, none)
 
 pub returns-clause-made : goal.returns-clause-made
 returns-clause-made c = record {
@@ -6,3 +28,10 @@ returns-clause-made c = record {
   is_sender = c.sender_of-sender.ensures;
   is_request = rw (c.want_of-want.ensures, c.confounder_of-confounder.ensures) at c.in_ok-octets.ensures.made;
 }
+
+pub returns-in_err-octets-clause-rejected : goal.returns-in_err-octets-clause-rejected
+returns-in_err-octets-clause-rejected c =
+    let p = err_from_is_err_and c.from_residual.result c.from_residual.ensures.1 in
+    rw (p.1, p.2) (refused c.args.terms.now c.args.by.now c.args.asked.now c.args.subkey.now c.args.offset.now c.args.moment.now c.in_err-octets.field-0.0
+    c.sender_of-sender.result c.sender_of-sender.ensures
+    (rw (c.want_of-want.ensures, c.confounder_of-confounder.ensures) at c.in_err-octets.ensures.rejected))
