@@ -204,8 +204,11 @@ fn key_by_info(
     key_by_entries(alloc, client, secret, limits, suites, items(&entries))
 }
 
-/// The client's key, by these elements.
-fn key_by_elements(
+/// The client's key, as elements of pre-authentication data tell of it, which the caller has read,
+/// as those of an AS-REP: the first ETYPE-INFO2 among them counts, as in `told_key`.
+///
+/// The error is the first of `HintError` that holds, from `NoInfo` on.
+pub fn key_by_elements(
     alloc: Global,
     client: &Client,
     secret: &Secret,

@@ -8,7 +8,7 @@ mod password;
 mod secret;
 mod seeds;
 
-pub use hint::{HintError, told_key};
+pub use hint::{HintError, key_by_elements, told_key};
 pub use limits::Limits;
 pub use password::{PasswordError, key_of_password};
 pub use secret::{Client, Secret, client_key};

@@ -1,0 +1,3 @@
+pub mod Running
+pub mod InitialRunning
+pub mod ServiceRunning

@@ -1,0 +1,4 @@
+use Rattle.krb_client.proofs.initial.next_request.Goals as goal
+
+pub returns-in-Key-clause-rejected : goal.returns-in-Key-clause-rejected
+returns-in-Key-clause-rejected c = rw c.in-Key.is c.initial_request.ensures.rejected

@@ -1,0 +1,12 @@
+pub mod Types
+pub mod Kinds
+pub mod Moments
+pub mod Passing
+pub mod Hints
+pub mod Requests
+pub mod Reports
+pub mod Initial
+pub mod Service
+pub mod Runs
+pub mod InitialRuns
+pub mod ServiceRuns
