@@ -1,6 +1,10 @@
-//! What a client asks of a KDC and of a service, as octets, and whether a reply answers it (RFC 4120, 3.1 to 3.3; RFC 4121, 4.1.1). The original has no such
-//! module.
+//! What a client asks of a KDC and of a service, as octets, and whether a reply answers it (RFC 4120, 3.1 to 3.3; RFC 4121, 4.1.1); and the exchanges of these, from the
+//! first request to a ticket. The original has no such module.
 
+pub use krb_client::{
+    ByTicket, ClientError, InitialExchange, InitialStep, Moment, ServiceExchange, ServiceStep,
+    Terms,
+};
 pub use krb_client_keys::{
     Client, HintError, Limits, PasswordError, Secret, client_key, key_of_password, told_key,
 };
