@@ -315,6 +315,7 @@ _VALUES[Leaf.IDENTIFIER], _VALUES[Leaf.SECRET] = _identifier, Secret
 _VALUES[Leaf.TRUTH] = lambda content: content != b"\0"
 
 
+@functools.lru_cache(maxsize=4096)
 def _time(content: bytes) -> Any:
     """A time of UTC; the text of one that datetime does not have, as of the year 0 or of second 60."""
     text = content.decode("ascii")

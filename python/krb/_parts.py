@@ -207,6 +207,7 @@ def find_number(octets: Octets, as_type: str, path: str, keytab: Optional[Octets
 _BY_NUMBER = {int(leaf): value for leaf, value in _VALUES.items()}
 _LEAF, _END, _STRUCT, _WRAP, _FLAGS = int(Form.LEAF), int(Form.END), int(Node.STRUCT), int(Node.WRAP), int(Leaf.FLAGS)
 _SECRET, _CIPHER, _ENCRYPTION_TYPE = int(Leaf.SECRET), int(Leaf.CIPHER), int(Registry.ENCRYPTION_TYPE)
+_LAST_NUMBER = int(Leaf.MICROSECONDS)  # the leaves up to it are integers
 
 
 def _tree(octets: bytes, records: memoryview, shows_keys: bool, spliced: Iterator[Dict[str, Any]]) -> Any:
@@ -217,18 +218,24 @@ def _tree(octets: bytes, records: memoryview, shows_keys: bool, spliced: Iterato
     outer: List[Any] = []  # the dicts and lists that are not at their end, but for the innermost
     etype = None
     for offset, size, form, kind, name, registry in _FRONT.iter_unpack(records):
+        value: Any
         if form == _LEAF:
             content = octets[offset : offset + size]
-            value: Any = _flags(content, registry) if kind == _FLAGS else _BY_NUMBER[kind](content)
-            if registry == _ENCRYPTION_TYPE:
-                etype = value
-            elif kind == _SECRET or kind == _CIPHER:
-                if not shows_keys and (kind == _SECRET or etype == 0):
-                    value = _HIDDEN
-                if kind == _CIPHER and type(around) is dict:
-                    around[names[name]] = value
-                    around.update(next(spliced, {}))
-                    continue
+            if kind <= _LAST_NUMBER:
+                value = int.from_bytes(content, "big", signed=True)
+                if registry == _ENCRYPTION_TYPE:
+                    etype = value
+            elif kind == _FLAGS:
+                value = _flags(content, registry)
+            else:
+                value = _BY_NUMBER[kind](content)
+                if kind == _SECRET or kind == _CIPHER:
+                    if not shows_keys and (kind == _SECRET or etype == 0):
+                        value = _HIDDEN
+                    if kind == _CIPHER and type(around) is dict:
+                        around[names[name]] = value
+                        around.update(next(spliced, {}))
+                        continue
         elif kind == _WRAP:
             continue
         elif form == _END:
