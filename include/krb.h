@@ -83,7 +83,8 @@ enum {
     KRB_PROXY_UNSUPPORTED = 38,  /* a length of the indefinite form, or one of more than eight octets, in the message */
     KRB_PROXY_PVNO = 39,         /* pvno is not 5 */
     KRB_PROXY_MSG_TYPE = 40,     /* msg-type is not what the tag says */
-    KRB_NOT_ACCEPTED = 41        /* a rule of the acceptor's refuses the token: its number is in `rule` */
+    KRB_NOT_ACCEPTED = 41,       /* a rule of the acceptor's refuses the token: its number is in `rule` */
+    KRB_NOT_GRANTED = 42         /* a rule of the client's refuses the reply or the request: its number is in `rule` */
 };
 
 /* Encryption types (RFC 3961, 8; RFC 3962, 7; RFC 8009, 7). */
@@ -870,6 +871,154 @@ typedef struct krb_negotiation_reply {
    and *reply are as they were. `reply` overlaps nothing else that is passed. */
 krb_status krb_negotiation_answer(krb_negotiation *side, uint32_t progress, uint32_t mic, krb_negotiation_reply *reply);
 
+/* A client: tickets of a KDC, and the request for a service (RFC 4120, 3.1 to 3.3; docs/CLIENT.md).
+
+   Calls without state of their own: what an exchange keeps between two messages stands in the caller's krb_exchange. The caller sends and receives, reads the
+   clock and draws random numbers. Names are texts as RFC 1964, 2.1.1, has them, with a realm: "carol@HOME.TEST", "HTTP/www.home.test@HOME.TEST", "krbtgt/HOME.TEST@HOME.TEST".
+   `\` stands before `/`, `@` and `\` within a component. */
+
+/* What of krb_client_terms is looked at, added. */
+enum {
+    KRB_CLIENT_FROM = 1,      /* `from` is asked for */
+    KRB_CLIENT_RTIME = 2,     /* `rtime` is asked for */
+    KRB_CLIENT_DATAGRAMS = 4  /* the transport may deliver replies to other requests, as UDP may: one that opens and has another nonce is passed over, else refused */
+};
+
+typedef struct krb_client_terms {
+    int64_t seconds;       /* the client's time, in seconds since 1 January 1970, 00:00:00 UTC; all times are in these */
+    int64_t from;          /* from when on a postdated ticket is to be valid */
+    int64_t till;          /* until when the ticket is to be valid; 0 for as long as the KDC allows */
+    int64_t rtime;         /* until when it is to be renewable */
+    uint32_t microseconds; /* after `seconds`, 0 to 999999 */
+    uint32_t nonce;        /* random, below 2^31, fresh for each call */
+    uint32_t skew;         /* by how many seconds clocks may differ; usually 300 */
+    uint32_t least;        /* how many iterations are taken for the key of a password, at least; usually 4096 */
+    uint32_t most;         /* and at most; usually 2^20 */
+    uint32_t client_type;  /* the type of the client's name (RFC 4120, 6.2): usually 1 */
+    uint32_t server_type;  /* of the server's: 2 for krbtgt and for a service, 3 for a service of a host */
+    uint32_t settings;     /* KRB_CLIENT_.., added; other bits are not looked at */
+} krb_client_terms;
+
+/* What an exchange keeps between two messages: all zeros at its beginning (but an offset that an exchange before it took). */
+typedef struct krb_exchange {
+    int64_t offset;      /* by how many seconds the KDC's time is ahead of the client's, where has_offset is 1 */
+    uint32_t has_offset; /* 1 where the KDC's time was taken from an error of the KDC, and else 0 */
+    uint32_t nonce;      /* of the last request */
+    int32_t etype;       /* of the key under which the last AS-REQ has the time; 0 where it has none */
+    uint8_t key[32];     /* the octets of this key, and zeros */
+} krb_exchange;
+
+/* What follows on a message. */
+enum {
+    KRB_FOLLOWS_NOTHING = 0, /* a rule is broken */
+    KRB_FOLLOWS_SENDS = 1,   /* the octets of `out` go to the KDC */
+    KRB_FOLLOWS_WAITS = 2,   /* the reply is of another request: the exchange waits for the next one */
+    KRB_FOLLOWS_GRANTED = 3  /* the KDC granted a ticket; the exchange is over */
+};
+
+/* The first rule that a reply breaks, in their order, or why no request is made. */
+enum {
+    KRB_CLIENT_RULE_NONE = 0,
+    KRB_CLIENT_RULE_OTHER_MESSAGE = 1,
+    KRB_CLIENT_RULE_MESSAGE = 2,
+    KRB_CLIENT_RULE_PVNO = 3,
+    KRB_CLIENT_RULE_MSG_TYPE = 4,
+    KRB_CLIENT_RULE_OPENING = 5,
+    KRB_CLIENT_RULE_CLIENT = 6,
+    KRB_CLIENT_RULE_TICKET_VERSION = 7,
+    KRB_CLIENT_RULE_TICKET = 8,
+    KRB_CLIENT_RULE_UNASKED = 9,
+    KRB_CLIENT_RULE_ENCRYPTION_TYPE = 10,
+    KRB_CLIENT_RULE_NONCE = 11,
+    KRB_CLIENT_RULE_SERVER = 12,
+    KRB_CLIENT_RULE_SESSION_KEY = 13,
+    KRB_CLIENT_RULE_START = 14,
+    KRB_CLIENT_RULE_END = 15,
+    KRB_CLIENT_RULE_RENEW_TILL = 16,
+    KRB_CLIENT_RULE_FLAGS = 17,
+    KRB_CLIENT_RULE_ADDRESSES = 18,
+    KRB_CLIENT_RULE_TIME = 19,
+    KRB_CLIENT_RULE_METHOD_DATA = 20,
+    KRB_CLIENT_RULE_NO_INFO = 21,
+    KRB_CLIENT_RULE_INFO = 22,
+    KRB_CLIENT_RULE_NO_SUITE = 23,
+    KRB_CLIENT_RULE_NO_KEY = 24,
+    KRB_CLIENT_RULE_PASSWORD_SUITE = 25,
+    KRB_CLIENT_RULE_PARAMETERS = 26,
+    KRB_CLIENT_RULE_ITERATIONS = 27,
+    KRB_CLIENT_RULE_KDC = 28,                /* the KDC reports an error: `code` */
+    KRB_CLIENT_RULE_REQUEST_NONCE = 29,      /* no request is made: the nonce is 2^31 or more */
+    KRB_CLIENT_RULE_REQUEST_OPTION = 30,
+    KRB_CLIENT_RULE_REQUEST_MICROSECONDS = 31,
+    KRB_CLIENT_RULE_REQUEST_TIME = 32,
+    KRB_CLIENT_RULE_REQUEST_DELEGATION = 33,
+    KRB_CLIENT_RULE_REQUEST_SUBKEY = 34,
+    KRB_CLIENT_RULE_REQUEST_CONFOUNDER = 35,
+    KRB_CLIENT_RULE_REQUEST_KEY = 36
+};
+
+typedef struct krb_followed {
+    krb_place ticket; /* where a ticket is granted: its encoding (RFC 4120, 5.3), in `out` */
+    krb_place part;   /* and that of the EncKDCRepPart that came with it, under tag 26: its session key, times, flags and names (5.4.2) */
+    uint32_t follows; /* KRB_FOLLOWS_.. */
+    uint32_t rule;    /* KRB_CLIENT_RULE_.. */
+    uint32_t code;    /* of KRB_CLIENT_RULE_KDC, the error's (7.5.9); else 0 */
+} krb_followed;
+
+/* A first ticket (RFC 4120, 3.1), by a password or, where `keytab` has octets, by the client's keys in it: of each encryption type the last one, which was
+   added last.
+
+   `message` of no octets begins the exchange: an AS-REQ without pre-authentication. Else it is what the KDC sent.
+   `options`: numbers of KDCOptions (5.4.1), 0 to 31. `flags`: which of the flags 1 to 8 the ticket may have. `etypes`: in the order of preference. `random`: 16 octets, fresh.
+
+   KRB_DONE: *followed says what follows; *exchange is as it is to be passed in the next time. KRB_ROOM: `out` is too small; *exchange and `out` are as they were, *followed all
+   zeros. As many octets as `message` has twice, and 2048, suffice.
+   KRB_NOT_GRANTED (42): *followed says which rule is broken. KRB_INVALID: `client` or `server` is no name with a realm. KRB_NUMBER: an encryption type that the library does not have.
+   KRB_SEED_SIZE: `random` has not 16 octets. KRB_KEYTAB: `keytab` is none. KRB_MEMORY. On each of these *exchange and `out` are as they were, *size is 0. */
+krb_status krb_client_initial(const krb_client_terms *terms, const size_t *options, size_t options_count, const size_t *flags, size_t flags_count,
+                              const int32_t *etypes, size_t etypes_count, const uint8_t *client, size_t client_size, const uint8_t *server,
+                              size_t server_size, const uint8_t *password, size_t password_size, const uint8_t *keytab, size_t keytab_size,
+                              const uint8_t *random, size_t random_size, const uint8_t *message, size_t message_size, krb_exchange *exchange,
+                              krb_followed *followed, uint8_t *out, size_t room, size_t *size);
+
+/* A further ticket (3.3), by a ticket for the KDC (its encoding) and its session key. `subkey` has as many octets as the session key, random, fresh for the exchange and
+   the same in each of its calls. As krb_client_initial in all else. KRB_INVALID also where `ticket` is no encoding of a ticket. */
+krb_status krb_client_ticket(const krb_client_terms *terms, const size_t *options, size_t options_count, const size_t *flags, size_t flags_count,
+                             const int32_t *etypes, size_t etypes_count, const uint8_t *client, size_t client_size, const uint8_t *server,
+                             size_t server_size, const uint8_t *ticket, size_t ticket_size, int32_t session_etype, const uint8_t *session_key,
+                             size_t session_key_size, const uint8_t *subkey, size_t subkey_size, const uint8_t *random, size_t random_size,
+                             const uint8_t *message, size_t message_size, krb_exchange *exchange, krb_followed *followed, uint8_t *out, size_t room,
+                             size_t *size);
+
+enum {
+    KRB_AP_SEQUENCE = 1, /* sequence_number stands in the authenticator */
+    KRB_AP_GSS = 2,      /* the checksum 0x8003 of the GSS-API (RFC 4121, 4.1.1), of gss_flags and the bindings */
+    KRB_AP_MUTUAL = 4    /* mutual-required: the service answers by an AP-REP */
+};
+
+typedef struct krb_ap_terms {
+    int64_t seconds;          /* the client's time; what an AP-REP has to repeat */
+    uint32_t microseconds;    /* after it, 0 to 999999 */
+    uint32_t client_type;
+    uint32_t sequence_number; /* of the client's first message */
+    uint32_t gss_flags;       /* RFC 4121, 4.1.1.1; 1, delegation, is refused */
+    uint32_t settings;        /* KRB_AP_.., added */
+    int32_t session_etype;
+} krb_ap_terms;
+
+/* The AP-REQ for a service (3.2.2), by a ticket and its session key. `subkey` has as many octets as the session key, or none: then the request has none. `bindings` is the hash of
+   channel bindings (krb_channel_bindings, 16 octets), or no octets where there are none. `random` has 16 octets.
+   KRB_NOT_GRANTED: *rule says why no request is made. KRB_INVALID, KRB_NUMBER, KRB_SEED_SIZE (also of `bindings`), KRB_MEMORY; KRB_ROOM. */
+krb_status krb_client_ap_request(const krb_ap_terms *terms, const uint8_t *client, size_t client_size, const uint8_t *ticket, size_t ticket_size,
+                                 const uint8_t *session_key, size_t session_key_size, const uint8_t *subkey, size_t subkey_size,
+                                 const uint8_t *bindings, size_t bindings_size, const uint8_t *random, size_t random_size, uint32_t *rule, uint8_t *out,
+                                 size_t room, size_t *size);
+
+/* Whether an AP-REP confirms the service (3.2.5): it opens under the session key to the very time that was sent. Hands out the encoding of its EncAPRepPart (5.5.2), with the service's
+   subkey and the number of its first message. KRB_NOT_GRANTED: *rule says which rule is broken. */
+krb_status krb_client_ap_reply(int32_t session_etype, const uint8_t *session_key, size_t session_key_size, int64_t seconds, uint32_t microseconds,
+                               const uint8_t *reply, size_t reply_size, uint32_t *rule, uint8_t *out, size_t room, size_t *size);
+
 /* MIC and Wrap tokens of a context of the GSS-API (RFC 4121, 4.2) under etypes 17 to 20; etype 16 has other tokens (RFC 1964), and is refused with
    KRB_NUMBER. The key is the context's: the subkey that the acceptor asserted, and then `acceptor_subkey` is true; else the initiator's subkey, else
    the session key of the ticket. `sent_by_acceptor` says whose tokens are made or taken: one's own to make them, the other side's to verify and to
@@ -953,6 +1102,7 @@ static inline const char *krb_status_text(krb_status status) {
     case KRB_PROXY_PVNO: return "another pvno than 5";
     case KRB_PROXY_MSG_TYPE: return "the msg-type of another message";
     case KRB_NOT_ACCEPTED: return "a token that a rule refuses";
+    case KRB_NOT_GRANTED: return "a reply or a request that a rule refuses";
     default: return "an unknown status";
     }
 }

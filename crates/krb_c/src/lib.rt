@@ -2,6 +2,7 @@
 #![tactic(auto)]
 
 mod accept;
+mod client;
 mod crypto;
 mod frames;
 mod gss;

@@ -1,0 +1,3 @@
+pub mod SuiteLists
+pub mod KeyLists
+pub mod Results

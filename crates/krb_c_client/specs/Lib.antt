@@ -1,0 +1,17 @@
+pub mod Inputs
+pub mod Settings
+pub mod Names
+pub mod Suites
+pub mod Asked
+pub mod Exchanges
+pub mod Keys
+pub mod Rules
+pub mod Refusals
+pub mod Records
+pub mod Followed
+pub mod Telling
+pub mod Initial
+pub mod Means
+pub mod Service
+pub mod Application
+pub mod Confirmed

@@ -1,0 +1,43 @@
+//! What a KDC granted, as octets.
+
+ghost use Rattle.std.specs.Prelude.{◌≡◌, ◌++◌, IfOk};
+ghost use Rattle.krb_c_client.specs.Followed.{IsTold};
+
+use crate::records::{FollowedRecord, grants};
+use krb_client::Granted;
+use krb_der::{ApplicationTag, DerEncode, to_vec};
+use krb_messages::messages::EncTgsRepPart;
+use krb_types::data_types::Ticket;
+use std::alloc::{AllocError, Global};
+
+/// What is told of a message that breaks no rule.
+#[derive(Drop)]
+pub(crate) struct Told {
+    /// What follows.
+    pub record: FollowedRecord,
+    /// The octets that it tells of.
+    pub octets: Vec<u8>,
+}
+
+/// The encoding of a value.
+pub(crate) fn encoding<T: DerEncode>(alloc: Global, value: &T) -> Result<Vec<u8>, AllocError>
+    ensures { IfOk result (λ octets. octets.items ≡ T.enc value.now) }
+{
+    match to_vec(alloc, value) {
+        Ok(octets) => Ok(octets),
+        Err(_) => Err(AllocError),
+    }
+}
+
+/// The encodings of a ticket and of its part, which is under tag 26, one behind the other.
+pub(crate) fn granted_told(alloc: Global, granted: Granted) -> Result<Told, AllocError>
+    ensures { IfOk result (λ t. IsTold ⟦<Ticket as DerEncode>⟧ ⟦<EncTgsRepPart as DerEncode>⟧ granted t.record t.octets.items) }
+{
+    let Granted { ticket, part } = granted;
+    let part: EncTgsRepPart = ApplicationTag(part);
+    let mut octets = encoding(alloc, &ticket)?;
+    let behind = encoding(alloc, &part)?;
+    let record = grants(octets.len(), behind.len());
+    octets.extend_from_slice(behind.as_slice())?;
+    Ok(Told { record, octets })
+}
