@@ -1,3 +1,4 @@
 pub mod SuiteLists
 pub mod KeyLists
 pub mod Results
+pub mod Keeping

@@ -10,6 +10,7 @@ mod first;
 mod further;
 mod granted;
 mod keys;
+pub mod laws;
 mod names;
 mod records;
 mod refusal;
