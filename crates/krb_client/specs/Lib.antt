@@ -10,3 +10,4 @@ pub mod Service
 pub mod Runs
 pub mod InitialRuns
 pub mod ServiceRuns
+pub mod Renamed

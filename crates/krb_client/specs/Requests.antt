@@ -1,6 +1,7 @@
 -- The requests of an exchange (RFC 4120, 3.1.1 and 3.3.1).
-use Rattle.std.specs.Prelude.{◌≡◌, ◌⊎◌, ℕ, ℤ, List, Option, Some, None, map}
+use Rattle.std.specs.Prelude.{◌≡◌, ◌⊎◌, ℕ, ℤ, List, Bool, true, false, Option, Some, None, map}
 use Rattle.krb_client_requests.specs.Bodies.{IsNoBody, Wanted, number_of}
+use Rattle.krb_client_requests.specs.RequestChecksums.{marked}
 use Rattle.krb_client_requests.specs.Requests.{IsAsRequest, IsNoTgsRequest, IsTgsRequest}
 use Rattle.krb_client_requests.specs.Sealed.{SuiteKey, key_of}
 use Rattle.krb_client_requests.specs.Timestamps.{IsNoTimestamp, IsTimestamp}
@@ -52,11 +53,16 @@ abbrev pub IsUnauthenticated : Option Key → Option ℤ → Moment → RequestE
 IsUnauthenticated None offset m e = ⊥
 IsUnauthenticated (Some key) offset m e = IsNoStamp key offset m e
 
+-- with PA-REQ-ENC-PA-REP behind them, where it is asked for (RFC 6806, 11)
+abbrev pub marked_if : Bool → Option (List PaData) → Option (List PaData)
+marked_if false padata = padata
+marked_if true padata = Some (marked padata)
+
 -- The octets are the one AS-REQ for what is asked, under the nonce of the moment, with the time under this key, if there is one.
 pub record IsInitialRequest (t : InitialTypes) (terms : Terms) (a : Asked) (key : Option Key) (offset : Option ℤ) (m : Moment) (octets : List ℕ) : Type 0 where
   pub padata : Option (List PaData)
   pub authenticated : IsAuthenticated t key offset m padata
-  pub is_request : IsAsRequest t.as_req (wanted_of terms a m.nonce) a.cname padata octets
+  pub is_request : IsAsRequest t.as_req (wanted_of terms a m.nonce) a.cname (marked_if terms.canonicalize padata) octets
 
 -- why there is none: no time is sealed; else there is no body
 abbrev pub IsNoInitialRequest : InitialTypes → Terms → Asked → Option Key → Option ℤ → Moment → RequestError → Type 0

@@ -1,16 +1,19 @@
 //! The requests of an exchange for a first ticket (RFC 4120, 3.1.1).
 
-ghost use Rattle.std.specs.Prelude.{◌≡◌, MatchOption, IfErr, IfOk};
+ghost use Rattle.std.specs.Prelude.{◌≡◌, MatchOption, MatchResult, IfErr, IfOk};
 ghost use Rattle.std.specs.Option.{option_copied};
 ghost use Rattle.krb_client_requests.specs.Bodies.{wanted};
 ghost use Rattle.krb_client_requests.specs.Errors.{IsMemoryOr};
-ghost use Rattle.krb_client.specs.Requests.{IsAuthenticated, IsInitialRequest, IsNoInitialRequest, IsNoStamp, IsStamp, IsUnauthenticated, wanted_of};
+ghost use Rattle.krb_client_requests.specs.declared.error.RequestError.TheVariants as errors;
+ghost use Rattle.krb_client.specs.Requests.{IsAuthenticated, IsInitialRequest, IsNoInitialRequest, IsNoStamp, IsStamp, IsUnauthenticated, marked_if, wanted_of};
 
 use crate::messages::{Encodings, Rfc4120};
 use crate::moment::Moment;
 use crate::terms::Terms;
 use crate::time::{confounder_of, kdc_time};
-use krb_client_requests::{LentKey, RequestError, Want, as_request, pa_enc_timestamp};
+use krb_client_requests::{
+    LentKey, RequestError, Want, as_request, marked, pa_enc_timestamp,
+};
 use krb_client_rules::{Asked, Key};
 use krb_der::{Asn1SequenceOf, DerEncode};
 use krb_types::data_types::PaData;
@@ -69,6 +72,21 @@ fn padata_of(
     }
 }
 
+/// The data of pre-authentication, with PA-REQ-ENC-PA-REP where it is asked for.
+fn marked_of(
+    alloc: Global,
+    terms: &Terms,
+    padata: Option<Asn1SequenceOf<PaData>>,
+) -> Result<Option<Asn1SequenceOf<PaData>>, RequestError>
+    ensures { MatchResult result (λ p. p ≡ marked_if terms.now.canonicalize padata) (λ e. e ≡ errors.OutOfMemory) }
+{
+    if terms.canonicalize {
+        Ok(Some(marked(alloc, padata)?))
+    } else {
+        Ok(padata)
+    }
+}
+
 /// The AS-REQ for what is asked, with the nonce of the moment.
 pub(crate) fn initial_request(
     alloc: Global,
@@ -84,7 +102,8 @@ pub(crate) fn initial_request(
         terms.now asked.now (option_copied key.entry) offset.now moment.now e)) }
 {
     let padata = padata_of(alloc, key, offset, moment)?;
+    let all = marked_of(alloc, terms, padata)?;
     let want = want_of(terms, asked, moment);
-    let octets = as_request(alloc, &want, &asked.cname, padata)?;
+    let octets = as_request(alloc, &want, &asked.cname, all)?;
     Ok(octets)
 }

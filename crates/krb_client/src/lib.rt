@@ -14,6 +14,7 @@ mod kind;
 pub mod laws;
 mod messages;
 mod moment;
+mod renamed;
 mod reported;
 mod service;
 mod service_request;
@@ -29,5 +30,6 @@ pub use krb_client_replies::{
 pub use krb_client_requests::{ApRequest, GssChecksum, LentKey, RequestError, Sender, ap_request};
 pub use messages::{Encodings, Rfc4120};
 pub use moment::Moment;
+pub use renamed::RenameError;
 pub use service::{ServiceExchange, ServiceStep};
 pub use terms::{ByTicket, Terms};

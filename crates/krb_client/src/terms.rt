@@ -14,6 +14,10 @@ pub struct Terms<'a> {
     pub skew: u32,
     /// How many iterations are taken for the key of a password, in an exchange for a first ticket.
     pub limits: Limits,
+    /// Whether an AS-REQ asks that the reply have its checksum (PA-REQ-ENC-PA-REP; RFC 6806, 11), by
+    /// which a reply may rename the client and the server: `InitialExchange::renamed`. That the KDC
+    /// may rename them is an option, 15 (canonicalize), and is among `options`.
+    pub canonicalize: bool,
     /// Whether the transport may deliver replies to other requests, as datagrams may. A reply that
     /// opens and has another nonce is then passed over, else refused.
     pub datagrams: bool,

@@ -4,3 +4,4 @@ pub mod Errors
 pub mod Requests
 pub mod Sealed
 pub mod Timestamps
+pub mod RequestChecksums

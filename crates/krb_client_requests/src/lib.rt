@@ -3,6 +3,7 @@
 //! nonce and the confounders are passed in.
 #![tactic(auto)]
 
+mod answered;
 mod application;
 mod authenticator;
 mod body;
@@ -15,6 +16,7 @@ mod sealing;
 mod ticket;
 mod timestamp;
 
+pub use answered::{marked, request_checksum};
 pub use application::{ApRequest, GssChecksum, ap_request};
 pub use authenticator::Sender;
 pub use body::Want;

@@ -18,7 +18,7 @@ use krb_types::data_types::{EncryptedData, KerberosTime, Microseconds, PaData, P
 use std::alloc::Global;
 
 /// PA-DATA of this type with these octets.
-fn element_of(padata_type: IntegerAsn1, octets: Vec<u8>) -> PaData
+pub(crate) fn element_of(padata_type: IntegerAsn1, octets: Vec<u8>) -> PaData
     ensures { result ≡ element_of padata_type octets.items }
 {
     PaData {

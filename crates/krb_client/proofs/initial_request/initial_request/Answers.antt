@@ -4,5 +4,5 @@ pub returns-clause-made : goal.returns-clause-made
 returns-clause-made c = record {
   padata = c.in_ok-padata.padata;
   authenticated = c.in_ok-padata.ensures.made;
-  is_request = rw c.want_of-want.ensures at c.in_ok-octets.ensures.made;
+  is_request = rw (c.want_of-want.ensures, c.in_ok-all.ensures) at c.in_ok-octets.ensures.made;
 }
