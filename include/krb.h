@@ -881,7 +881,8 @@ krb_status krb_negotiation_answer(krb_negotiation *side, uint32_t progress, uint
 enum {
     KRB_CLIENT_FROM = 1,      /* `from` is asked for */
     KRB_CLIENT_RTIME = 2,     /* `rtime` is asked for */
-    KRB_CLIENT_DATAGRAMS = 4  /* the transport may deliver replies to other requests, as UDP may: one that opens and has another nonce is passed over, else refused */
+    KRB_CLIENT_DATAGRAMS = 4, /* the transport may deliver replies to other requests, as UDP may: one that opens and has another nonce is passed over, else refused */
+    KRB_CLIENT_CANONICALIZE = 8 /* the AS-REQ asks that the reply have its checksum (RFC 6806, 11): krb_client_renamed; the option 15 is the caller's */
 };
 
 typedef struct krb_client_terms {
@@ -954,7 +955,10 @@ enum {
     KRB_CLIENT_RULE_REQUEST_DELEGATION = 33,
     KRB_CLIENT_RULE_REQUEST_SUBKEY = 34,
     KRB_CLIENT_RULE_REQUEST_CONFOUNDER = 35,
-    KRB_CLIENT_RULE_REQUEST_KEY = 36
+    KRB_CLIENT_RULE_REQUEST_KEY = 36,
+    KRB_CLIENT_RULE_UNAUTHENTICATED = 37, /* krb_client_renamed: the last request has no time under a key */
+    KRB_CLIENT_RULE_NO_CHECKSUM = 38,     /* the reply has no checksum of the request */
+    KRB_CLIENT_RULE_CHECKSUM = 39         /* it is not that of the request */
 };
 
 typedef struct krb_followed {
@@ -980,6 +984,16 @@ krb_status krb_client_initial(const krb_client_terms *terms, const size_t *optio
                               size_t server_size, const uint8_t *password, size_t password_size, const uint8_t *keytab, size_t keytab_size,
                               const uint8_t *random, size_t random_size, const uint8_t *message, size_t message_size, krb_exchange *exchange,
                               krb_followed *followed, uint8_t *out, size_t room, size_t *size);
+
+/* A reply to krb_client_initial that was refused by KRB_CLIENT_RULE_CLIENT, .._TICKET or .._SERVER, since it renames the client or the server (RFC 6806, 6 and 8), where
+   the caller allows that: `client` and `server` are the names of the reply ("crealm", "cname", "ticket.realm" and "ticket.sname" of its AS-REP to krb_find), `request` is
+   the last request of the exchange. All rules hold, for these names, and besides the reply's part has the checksum of the request under the reply key, for which
+   KRB_CLIENT_CANONICALIZE asks. *exchange is as the last krb_client_initial left it, and stays so. The reply's names of the client are under no key; who sent a reply had the key.
+   KRB_DONE: the ticket is granted. KRB_NOT_GRANTED: *followed says which rule is broken. Else as krb_client_initial. */
+krb_status krb_client_renamed(const krb_client_terms *terms, const size_t *flags, size_t flags_count, const int32_t *etypes, size_t etypes_count,
+                              const uint8_t *client, size_t client_size, const uint8_t *server, size_t server_size, const uint8_t *request,
+                              size_t request_size, const uint8_t *message, size_t message_size, const krb_exchange *exchange, krb_followed *followed,
+                              uint8_t *out, size_t room, size_t *size);
 
 /* A further ticket (3.3), by a ticket for the KDC (its encoding) and its session key. `subkey` has as many octets as the session key, random, fresh for the exchange and
    the same in each of its calls. As krb_client_initial in all else. KRB_INVALID also where `ticket` is no encoding of a ticket. */

@@ -1,21 +1,23 @@
 //! The client for C: tickets of a KDC, and a service that answers. `krb.h` declares these calls.
 
+ghost use Rattle.std.specs.Prelude.{[], replicate};
 ghost use Rattle.krb_c_client.specs.Application.{IsApCall, ap_inputs};
 ghost use Rattle.krb_c_client.specs.Confirmed.{IsReplyCall, reply_inputs};
 ghost use Rattle.krb_c_client.specs.Initial.{IsInitialCall};
 ghost use Rattle.krb_c_client.specs.Inputs.{inputs};
 ghost use Rattle.krb_c_client.specs.Means.{lent};
+ghost use Rattle.krb_c_client.specs.Renamed.{IsRenamedCall};
 ghost use Rattle.krb_c_client.specs.Service.{IsTicketCall};
 
 use krb_c_client::{
     ApAsked, ApTermsRecord, ByRecord, ExchangeRecord, FollowedRecord, Proof, Question, ReplyAsked,
-    TermsRecord, ap_reply, ap_request, initial, ticket as further_ticket,
+    TermsRecord, ap_reply, ap_request, initial, renamed, ticket as further_ticket,
 };
 use krb_client::{Encodings, Rfc4120};
 use krb_der::DerEncode;
 use krb_enc_parts::data_types::{Authenticator, EncApRepPart};
 use krb_messages::messages::{ApRep, ApReq, EncTgsRepPart};
-use krb_types::data_types::Ticket;
+use krb_types::data_types::{Checksum, Ticket};
 use std::alloc::Global;
 
 /// `krb_client_initial` of `krb.h`: a first ticket, step by step.
@@ -53,6 +55,40 @@ pub extern "C" fn krb_client_initial(
     };
     let proof = Proof { password, keytab };
     initial(alloc, &question, &proof, exchange, followed, out, size)
+}
+
+/// `krb_client_renamed` of `krb.h`: a reply that renames the client or the server.
+#[unsafe(no_mangle)]
+pub extern "C" fn krb_client_renamed(
+    alloc: Global,
+    terms: &TermsRecord,
+    flags: &[usize],
+    etypes: &[i32],
+    client: &[u8],
+    server: &[u8],
+    request: &[u8],
+    message: &[u8],
+    exchange: &ExchangeRecord,
+    followed: &mut FollowedRecord,
+    out: &mut [u8],
+    size: &mut usize,
+) -> u32
+    ensures { IsRenamedCall ⟦<Rfc4120 as Encodings>⟧.initial ⟦<Checksum as DerEncode>⟧ ⟦<Ticket as DerEncode>⟧ ⟦<EncTgsRepPart as DerEncode>⟧
+        (inputs terms.now [] flags.now etypes.now client.now server.now (replicate 16 0) message.now)
+        request.now exchange.now followed.new out.old out.new size.new result }
+{
+    let random = [0u8; 16];
+    let question = Question {
+        terms: *terms,
+        options: &[],
+        flags,
+        etypes,
+        client,
+        server,
+        random: &random,
+        message,
+    };
+    renamed(alloc, &question, request, exchange, followed, out, size)
 }
 
 /// `krb_client_ticket` of `krb.h`: a further ticket, step by step.

@@ -11,12 +11,14 @@ use Rattle.krb_c_client.specs.Names.{IsNamed, IsNoName}
 use Rattle.krb_c_client.specs.Settings.{has_setting, optional}
 use Rattle.krb_c_client.specs.Suites.{AreNoSuites}
 
--- the options, the skew, the limits of iterations, and whether the transport may deliver replies to other requests (KRB_CLIENT_DATAGRAMS)
+-- the options, the skew, the limits of iterations, whether requests ask for their checksum in the reply (KRB_CLIENT_CANONICALIZE), and whether the transport may
+-- deliver replies to other requests (KRB_CLIENT_DATAGRAMS)
 pub record AreTerms (i : Inputs) (terms : Terms) : Type 0 where
   pub options : terms.options.now ≡ i.options
   pub skew : terms.skew ≡ i.terms.skew
   pub least : terms.limits.least ≡ i.terms.least
   pub most : terms.limits.most ≡ i.terms.most
+  pub canonicalize : terms.canonicalize ≡ has_setting i.terms.settings 8
   pub datagrams : terms.datagrams ≡ has_setting i.terms.settings 4
 
 -- the clock, the nonce and 16 random octets

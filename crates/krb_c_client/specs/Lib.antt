@@ -11,6 +11,7 @@ pub mod Records
 pub mod Followed
 pub mod Telling
 pub mod Initial
+pub mod Renamed
 pub mod Means
 pub mod Service
 pub mod Application

@@ -1,10 +1,11 @@
 -- Why nothing follows.
 use Rattle.std.specs.Prelude.{ℕ, Option, Some, None}
 use Rattle.krb_client.specs.declared.error.ClientError.{ClientError}
+use Rattle.krb_client.specs.declared.renamed.RenameError.{RenameError}
 use Rattle.krb_client_replies.specs.declared.error.ReplyError.{ReplyError}
 use Rattle.krb_client_requests.specs.declared.error.RequestError.{RequestError}
 use Rattle.krb_c_calls.specs.declared.call_error.CallError.TheVariants as calls
-use Rattle.krb_c_client.specs.Rules.{client_rule, code_of, reply_rule, request_rule}
+use Rattle.krb_c_client.specs.Rules.{client_rule, code_of, rename_rule, reply_rule, request_rule}
 use Rattle.krb_c_client.specs.declared.refusal.Refusal.{Refusal}
 use Rattle.krb_c_client.specs.declared.refusal.Refusal.TheVariants as refusals
 
@@ -21,3 +22,6 @@ request_refusal e = refusal_of (request_rule e) 0
 
 abbrev pub reply_refusal : ReplyError → Refusal
 reply_refusal e = refusal_of (reply_rule e) 0
+
+abbrev pub rename_refusal : RenameError → Refusal
+rename_refusal e = refusal_of (rename_rule e) 0

@@ -2,6 +2,8 @@
 use Rattle.std.specs.Prelude.{ℕ, Option, Some, None}
 use Rattle.krb_client.specs.declared.error.ClientError.{ClientError}
 use Rattle.krb_client.specs.declared.error.ClientError.TheVariants as errors
+use Rattle.krb_client.specs.declared.renamed.RenameError.{RenameError}
+use Rattle.krb_client.specs.declared.renamed.RenameError.TheVariants as renames
 use Rattle.krb_client_keys.specs.declared.hint.HintError.{HintError}
 use Rattle.krb_client_keys.specs.declared.hint.HintError.TheVariants as hints
 use Rattle.krb_client_keys.specs.declared.password.PasswordError.{PasswordError}
@@ -95,3 +97,12 @@ client_rule (errors.Kdc code) = Some 28
 abbrev pub code_of : ClientError → ℕ
 code_of (errors.Kdc code) = code
 code_of other = 0
+
+-- ---- of a reply that renames (RFC 6806, 11)
+
+abbrev pub rename_rule : RenameError → Option ℕ
+rename_rule renames.NoKey = Some 37
+rename_rule (renames.Reply e) = reply_rule e
+rename_rule renames.Absent = Some 38
+rename_rule renames.Checksum = Some 39
+rename_rule renames.OutOfMemory = None

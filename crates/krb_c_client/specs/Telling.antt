@@ -4,6 +4,7 @@ use Rattle.std.specs.declared.alloc.Global.{Global}
 use Rattle.krb_c_calls.specs.Handing.{IsKept, IsPut}
 use Rattle.krb_c_calls.specs.Statuses.{refusal_status}
 use Rattle.krb_c_client.specs.Records.{broken, nothing}
+use Rattle.krb_c_client.specs.declared.granted.Told.{Told}
 use Rattle.krb_c_client.specs.declared.records.ExchangeRecord.{ExchangeRecord}
 use Rattle.krb_c_client.specs.declared.records.FollowedRecord.{FollowedRecord}
 use Rattle.krb_c_client.specs.declared.refusal.Refusal.{Refusal}
@@ -21,6 +22,15 @@ Tells (Err (refusals.Rule rule code)) before after told out_before out_after siz
     (status ≡ 42) × (told ≡ broken rule code) × (after ≡ before) × IsKept out_before out_after size
 Tells (Err (refusals.Failed e)) before after told out_before out_after size status =
     (status ≡ refusal_status e) × (1 < status) × (told ≡ nothing) × (after ≡ before) × IsKept out_before out_after size
+
+-- The same of a call that leaves the exchange as it is.
+abbrev pub TellsGranted : Result Told Refusal → FollowedRecord → List ℕ → List ℕ → ℕ → ℕ → Type 0
+TellsGranted (Ok t) told out_before out_after size status =
+    IsPut t.octets.items out_before out_after size status × (status ≡ 0 → told ≡ t.record) × (status ≡ 1 → told ≡ nothing)
+TellsGranted (Err (refusals.Rule rule code)) told out_before out_after size status =
+    (status ≡ 42) × (told ≡ broken rule code) × IsKept out_before out_after size
+TellsGranted (Err (refusals.Failed e)) told out_before out_after size status =
+    (status ≡ refusal_status e) × (1 < status) × (told ≡ nothing) × IsKept out_before out_after size
 
 -- Octets are handed out (0), or they do not fit (1); or the rule is told by which there are none (42), or nothing.
 abbrev pub TellsOctets : Result (Vec ℕ Global) Refusal → ℕ → List ℕ → List ℕ → ℕ → ℕ → Type 0

@@ -7,7 +7,7 @@ ghost use Rattle.krb_c_client.specs.Inputs.{inputs_of};
 
 use crate::names::principal_of;
 use crate::records::TermsRecord;
-use crate::settings::{DATAGRAMS, FROM, RTIME, has_setting, optional};
+use crate::settings::{CANONICALIZE, DATAGRAMS, FROM, RTIME, has_setting, optional};
 use crate::suites::suites_of;
 use krb_c_calls::CallError;
 use krb_client::{Limits, Moment, Terms};
@@ -66,6 +66,7 @@ pub(crate) fn terms_of<'a>(question: &Question<'a>) -> Terms<'a>
             least: terms.least,
             most: terms.most,
         },
+        canonicalize: has_setting(terms.settings, CANONICALIZE),
         datagrams: has_setting(terms.settings, DATAGRAMS),
     }
 }

@@ -51,7 +51,7 @@ fn begun(alloc: Global, terms: &Terms, asked: Asked, moment: &Moment) -> Result<
 }
 
 /// The exchange that the caller kept. `Number` where the encryption type of its key has no suite.
-fn exchange_of(
+pub(crate) fn exchange_of(
     alloc: Global,
     kept: &ExchangeRecord,
     asked: Asked,

@@ -1,11 +1,13 @@
 //! The rules by the numbers of `krb.h`; of an allocation failure there is none.
 
 ghost use Rattle.std.specs.Prelude.{◌≡◌};
-ghost use Rattle.krb_c_client.specs.Refusals.{client_refusal, reply_refusal, request_refusal};
-ghost use Rattle.krb_c_client.specs.Rules.{client_rule, code_of, hint_rule, message_rule, mismatch_rule, opening_rule, password_rule, reply_rule, request_rule};
+ghost use Rattle.krb_c_client.specs.Refusals.{client_refusal, rename_refusal, reply_refusal, request_refusal};
+ghost use Rattle.krb_c_client.specs.Rules.{client_rule, code_of, hint_rule, message_rule, mismatch_rule, opening_rule, password_rule, rename_rule, reply_rule, request_rule};
 
 use crate::refusal::{Refusal, refusal_of};
-use krb_client::{ClientError, HintError, Mismatch, PasswordError, ReplyError, RequestError};
+use krb_client::{
+    ClientError, HintError, Mismatch, PasswordError, RenameError, ReplyError, RequestError,
+};
 use krb_crypto::KerberosCryptoError;
 use krb_crypto::seal::PartError;
 use krb_der::Asn1DerError;
@@ -131,6 +133,26 @@ fn code_of(error: &ClientError) -> u32
         ClientError::Kdc(code) => *code,
         _ => 0,
     }
+}
+
+/// The rule by which a reply renames nothing.
+fn rename_rule(error: &RenameError) -> Option<u32>
+    ensures { result ≡ rename_rule error.now }
+{
+    match error {
+        RenameError::NoKey => Some(37),
+        RenameError::Reply(error) => reply_rule(error),
+        RenameError::Absent => Some(38),
+        RenameError::Checksum => Some(39),
+        RenameError::OutOfMemory => None,
+    }
+}
+
+/// Why a reply renames nothing.
+pub(crate) fn rename_refusal(error: &RenameError) -> Refusal
+    ensures { result ≡ rename_refusal error.now }
+{
+    refusal_of(rename_rule(error), 0)
 }
 
 /// Why an exchange goes no further.

@@ -12,6 +12,9 @@ pub(crate) const RTIME: u32 = 2;
 /// The transport may deliver replies to other requests.
 pub(crate) const DATAGRAMS: u32 = 4;
 
+/// A reply may rename the client and the server, by the checksum of the request.
+pub(crate) const CANONICALIZE: u32 = 8;
+
 /// The authenticator has the number of the client's first message.
 pub(crate) const SEQUENCE: u32 = 1;
 

@@ -1,6 +1,6 @@
 //! What a call leaves to its caller.
 
-ghost use Rattle.krb_c_client.specs.Telling.{Tells, TellsOctets};
+ghost use Rattle.krb_c_client.specs.Telling.{Tells, TellsGranted, TellsOctets};
 
 use crate::granted::Told;
 use crate::records::{ExchangeRecord, FollowedRecord, broken, nothing};
@@ -39,6 +39,38 @@ pub(crate) fn tell(
             } else {
                 *followed = nothing();
             }
+            status
+        }
+        Err(Refusal::Rule(rule, code)) => {
+            *followed = broken(*rule, *code);
+            *size = 0;
+            NOT_GRANTED
+        }
+        Err(Refusal::Failed(error)) => {
+            *followed = nothing();
+            *size = 0;
+            error.status()
+        }
+    }
+}
+
+/// Tells what became of a call that leaves the exchange as it is.
+pub(crate) fn tell_granted(
+    outcome: &Result<Told, Refusal>,
+    followed: &mut FollowedRecord,
+    out: &mut [u8],
+    size: &mut usize,
+) -> u32
+    ensures { TellsGranted outcome.now followed.new out.old out.new size.new result }
+{
+    match outcome {
+        Ok(told) => {
+            let status = put(told.octets.as_slice(), out, size);
+            *followed = if status == DONE {
+                told.record
+            } else {
+                nothing()
+            };
             status
         }
         Err(Refusal::Rule(rule, code)) => {

@@ -1,5 +1,5 @@
 -- What octets begin as: their tag (RFC 4120, 5.10; X.690, 8.1.2).
-use Rattle.std.specs.Prelude.{◌≡◌, ◌≢◌, ℕ, List, [], ◌∷◌}
+use Rattle.std.specs.Prelude.{◌≡◌, ℕ, List, [], ◌∷◌}
 use Rattle.krb_client.specs.declared.kind.Kind.{Kind}
 use Rattle.krb_client.specs.declared.kind.Kind.TheVariants as kinds
 

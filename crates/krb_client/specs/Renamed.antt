@@ -1,5 +1,5 @@
 -- Replies that rename the client or the server (RFC 6806, 6, 8 and 11).
-use Rattle.std.specs.Prelude.{◌≡◌, ◌≢◌, ◌⊎◌, ℕ, pos, List, length, Option, Some, None}
+use Rattle.std.specs.Prelude.{◌≡◌, ◌≢◌, ◌⊎◌, ℕ, pos, List, length, Some, None}
 use Rattle.krb_client_keys.specs.Firsts.{IsFirst, NoneIs}
 use Rattle.krb_client_replies.specs.Granted.{IsFirstGranted, IsFirstRefused}
 use Rattle.krb_client_replies.specs.declared.error.ReplyError.{ReplyError}

@@ -11,9 +11,7 @@ use crate::messages::{Encodings, Rfc4120};
 use crate::moment::Moment;
 use crate::terms::Terms;
 use crate::time::{confounder_of, kdc_time};
-use krb_client_requests::{
-    LentKey, RequestError, Want, as_request, marked, pa_enc_timestamp,
-};
+use krb_client_requests::{LentKey, RequestError, Want, as_request, marked, pa_enc_timestamp};
 use krb_client_rules::{Asked, Key};
 use krb_der::{Asn1SequenceOf, DerEncode};
 use krb_types::data_types::PaData;
