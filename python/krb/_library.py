@@ -52,6 +52,7 @@ class Status(enum.IntEnum):
     PROXY_PVNO = 39
     PROXY_MSG_TYPE = 40
     NOT_ACCEPTED = 41
+    NOT_GRANTED = 42
 
 
 TEXTS = {
@@ -94,6 +95,7 @@ TEXTS = {
     Status.PROXY_PVNO: "another pvno than 5",
     Status.PROXY_MSG_TYPE: "the msg-type of another message",
     Status.NOT_ACCEPTED: "a token that a rule refuses",
+    Status.NOT_GRANTED: "a reply or a request that a rule refuses",
 }
 
 

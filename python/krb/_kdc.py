@@ -1,0 +1,260 @@
+"""How octets go to a KDC and come back (RFC 4120, 7.2; MS-KKDCP)."""
+
+import contextlib
+import http.client
+import io
+import re
+import socket
+import ssl
+import time
+from typing import Any, Callable, Generator, Iterator, List, Mapping, NamedTuple, Optional, Sequence, Tuple, Union
+
+from krb import _dns, proxy
+from krb._configuration import Configuration
+from krb._exchange import Answer, ClientRule, Follows, NotGranted
+from krb._library import Refused, Status
+
+__all__ = ["KdcUnreachable", "Kdcs"]
+
+Named = Union[None, str, Sequence[str], Mapping[str, Union[str, Sequence[str]]]]
+Take = Callable[[bytes, bool], Answer]
+Replies = Generator[bytes, None, None]
+
+LIMIT = 1 << 20  # the octets of a reply, at most
+_PORT = 88
+_HEADERS = 1 << 16  # what of HTTP stands before and between a reply's octets, at most
+_RESPONSE_TOO_BIG, _UNAVAILABLE = 52, 29  # KRB_ERR_RESPONSE_TOO_BIG, KDC_ERR_SVC_UNAVAILABLE (RFC 4120, 7.5.9)
+_FIRST_WAIT = 1.0  # until a datagram is sent again, in seconds; then twice as long each time
+_PROXY = "application/kerberos"
+
+
+class KdcUnreachable(OSError):
+    """No KDC of the realm answers."""
+
+
+class Address(NamedTuple):
+    """Where a KDC is: `kind` is "tcp", "udp" or "https", `path` that of the latter."""
+
+    kind: str
+    host: str
+    port: int
+    path: str = ""
+
+    def __str__(self) -> str:
+        host = "[%s]" % self.host if ":" in self.host else self.host
+        return "https://%s:%d%s" % (host, self.port, self.path) if self.kind == "https" else "%s/%s:%d" % (self.kind, host, self.port)
+
+
+_WORD = re.compile(r"(?:(tcp|udp)/)?(?:\[([^\]]+)\]|([^:/\[\]]+|[0-9A-Fa-f:.]*:[0-9A-Fa-f:.]*:[0-9A-Fa-f:.]*))(?::([0-9]{1,5}))?")
+_URL = re.compile(r"https://(?:\[([^\]]+)\]|([^:/\[\]]+))(?::([0-9]{1,5}))?(/[!-~]*)?")
+
+
+def addresses(word: str) -> List[Address]:
+    """Those that a word names: HOST[:PORT], over TCP and then UDP; with tcp/ or udp/ before it, over this alone; https://HOST[:PORT]/PATH of a KDC proxy."""
+    found = _URL.fullmatch(word)
+    if found is not None:
+        return [Address("https", found[1] or found[2], int(found[3] or 443), found[4] or "/")]
+    found = _WORD.fullmatch(word)
+    if found is None:
+        raise ValueError("no address of a KDC: %a" % word)
+    return [Address(kind, found[2] or found[3], int(found[4] or _PORT)) for kind in ([found[1]] if found[1] else ["tcp", "udp"])]
+
+
+def _left(end: float) -> float:
+    """How many seconds there are until then."""
+    seconds = end - time.monotonic()
+    if seconds <= 0:
+        raise socket.timeout("timed out")
+    return seconds
+
+
+def _connected(link: socket.socket, address: Any, end: float) -> None:
+    link.settimeout(_left(end))
+    link.connect(address)
+
+
+def _places(address: Address, kind: socket.SocketKind) -> Iterator[Tuple[socket.AddressFamily, Any]]:
+    for family, _, _, _, place in socket.getaddrinfo(address.host, address.port, type=kind):
+        yield family, place
+
+
+def _stream(family: int, place: Any, request: bytes, end: float) -> Replies:
+    """The reply over TCP, behind its length in four octets (RFC 4120, 7.2.2)."""
+    with socket.socket(family, socket.SOCK_STREAM) as link:
+        _connected(link, place, end)
+        link.settimeout(_left(end))
+        link.sendall(len(request).to_bytes(4, "big") + request)
+        reply = bytearray()
+        try:
+            while not proxy.is_whole(reply, LIMIT):
+                link.settimeout(_left(end))
+                part = link.recv(65536)
+                if not part:
+                    raise ConnectionError("it closed before its reply was whole")
+                reply += part
+        except Refused as refused:
+            if refused.status != Status.PROXY_TOO_LARGE:
+                raise
+            raise ConnectionError("its reply has more than %d octets, or than its length says" % LIMIT) from None
+        yield bytes(reply[4:])
+
+
+def _datagrams(family: int, place: Any, request: bytes, end: float) -> Replies:
+    """The replies over UDP (RFC 4120, 7.2.1) that come to a socket of this request's own; it is sent again until one is taken."""
+    with socket.socket(family, socket.SOCK_DGRAM) as link:
+        _connected(link, place, end)
+        wait = _FIRST_WAIT
+        while True:
+            link.send(request)
+            again = time.monotonic() + wait
+            while time.monotonic() < again:
+                link.settimeout(min(max(again - time.monotonic(), 0.001), _left(end)))
+                try:
+                    reply = link.recv(65535)
+                except socket.timeout:
+                    continue
+                yield reply
+            _left(end)
+            wait *= 2
+
+
+class _Came:
+    """What http.client reads in the place of a socket."""
+
+    def __init__(self, octets: bytes) -> None:
+        self._octets = octets
+
+    def makefile(self, *_: Any) -> io.BytesIO:
+        return io.BytesIO(self._octets)
+
+
+def _posted(address: Address, realm: str, request: bytes, anchors: Sequence[str], end: float) -> Replies:
+    """The reply of a KDC proxy (MS-KKDCP, 3.1.5), whose certificate is checked."""
+    body = proxy.write_request(request, realm.encode("ascii"))
+    host = str(address)[len("https://") : -len(address.path)]
+    lines = ["POST %s HTTP/1.1" % address.path, "Host: " + host, "Content-Type: " + _PROXY, "Content-Length: %d" % len(body), "Connection: close"]
+    context = ssl.create_default_context()
+    for anchor in anchors:
+        kind, _, path = anchor.partition(":")
+        if kind not in ("FILE", "DIR"):
+            raise ValueError("no FILE:PATH and no DIR:PATH of certificates: %a" % anchor)
+        context.load_verify_locations(**{"cafile" if kind == "FILE" else "capath": path})
+    with contextlib.ExitStack() as stack:
+        plain = stack.enter_context(socket.create_connection((address.host, address.port), _left(end)))
+        plain.settimeout(_left(end))
+        link = stack.enter_context(context.wrap_socket(plain, server_hostname=address.host))
+        link.settimeout(_left(end))
+        link.sendall("\r\n".join(lines + ["", ""]).encode("ascii") + body)
+        came = bytearray()
+        while True:
+            link.settimeout(_left(end))
+            part = link.recv(65536)
+            if not part:
+                break
+            came += part
+            if len(came) > LIMIT + _HEADERS:
+                raise ConnectionError("its reply has more than %d octets" % LIMIT)
+    try:
+        response = http.client.HTTPResponse(_Came(bytes(came)), method="POST")  # type: ignore[arg-type]
+        response.begin()
+        told = response.read()
+    except http.client.HTTPException as error:
+        raise ConnectionError("its reply is not of HTTP: %s" % type(error).__name__) from None
+    if response.status != 200:
+        raise ConnectionError("the proxy answers %d %s" % (response.status, ascii(response.reason)[1:-1]))
+    try:
+        reply = proxy.read_reply(told)
+    except Refused as refused:
+        if refused.status == Status.MEMORY:
+            raise
+        raise ConnectionError("the proxy's reply is refused: %s" % refused) from None
+    yield reply
+
+
+class Kdcs:
+    """The KDCs of realms: those that are named, for all realms or by realm; else those of krb5.conf; else, where it is asked for, those of DNS."""
+
+    def __init__(self, named: Named = None, configuration: Optional[str] = None, dns: Union[bool, str] = False, seconds: float = 10.0) -> None:
+        self._named, self._path, self._dns, self._seconds = named, configuration, dns, seconds
+        self._read: Optional[Configuration] = None
+        self._last: Optional[Address] = None  # the one that answered last
+
+    def configuration(self) -> Configuration:
+        if self._read is None:
+            self._read = Configuration(self._path)
+        return self._read
+
+    def _words(self, realm: str) -> List[str]:
+        named = self._named.get(realm) if isinstance(self._named, Mapping) else self._named
+        words = self.configuration().kdcs(realm) if named is None else [named] if isinstance(named, str) else list(named)
+        return words or (self._asked_for(realm) if self._dns else [])
+
+    def _asked_for(self, realm: str) -> List[str]:
+        """What DNS says of a realm."""
+        resolver, words = None, []
+        if isinstance(self._dns, str):
+            server = addresses("udp/" + self._dns)[0]
+            resolver = server.host, server.port if server.port != _PORT else 53
+        for kind in ("tcp", "udp"):
+            words += ["%s/%s:%d" % (kind, each.host, each.port) for each in _dns.servers("_kerberos._%s.%s" % (kind, realm), self._seconds, resolver)]
+        return words
+
+    def addresses(self, realm: str) -> List[Address]:
+        """A realm's KDCs in the order in which they are tried; the one that answered last comes first. KdcUnreachable: there is none. ValueError: one is no address."""
+        try:
+            found = [address for word in self._words(realm) for address in addresses(word)]
+        except OSError as error:
+            raise KdcUnreachable("no KDC of %s is found: %s" % (ascii(realm)[1:-1], error)) from error
+        if not found:
+            raise KdcUnreachable("no KDC of %s is known" % ascii(realm)[1:-1])
+        return sorted(found, key=lambda each: each != self._last)
+
+    def _replies(self, address: Address, realm: str, request: bytes) -> Iterator[Replies]:
+        """The replies of an address, by each place that its host has. Each has all seconds."""
+        if address.kind == "https":
+            yield _posted(address, realm, request, self.configuration().anchors(realm), time.monotonic() + self._seconds)
+            return
+        kind, ask = (socket.SOCK_DGRAM, _datagrams) if address.kind == "udp" else (socket.SOCK_STREAM, _stream)
+        for family, place in _places(address, kind):
+            yield ask(family, place, request, time.monotonic() + self._seconds)
+
+    def _tried(self, address: Address, realm: str, request: bytes, take: Take) -> Answer:
+        failed: OSError = ConnectionError("its name has no address")
+        for replies in self._replies(address, realm, request):
+            try:
+                with contextlib.closing(replies):
+                    for reply in replies:
+                        answer = take(reply, address.kind == "udp")
+                        if answer.follows != Follows.WAITS:
+                            return answer
+                failed = ConnectionError("it does not reply to this request")
+            except OSError as error:
+                failed = error
+        raise failed
+
+    def answer(self, realm: str, request: bytes, take: Take) -> Answer:
+        """What `take` says of a KDC's reply, and of the next one where it waits for that. KDCs are tried in their order until one replies.
+
+        KdcUnreachable: none does. What `take` raises is raised on, but of a KDC that reports that it has no service, and over UDP that its reply is too big for that: the
+        next one is tried then, and the same one over TCP."""
+        waiting, failures, last = self.addresses(realm), [], None
+        while waiting:
+            address = waiting.pop(0)
+            try:
+                answer = self._tried(address, realm, request, take)
+                self._last = address
+                return answer
+            except NotGranted as refused:
+                if refused.rule != ClientRule.KDC or refused.code not in (_RESPONSE_TOO_BIG, _UNAVAILABLE):
+                    raise
+                if refused.code == _RESPONSE_TOO_BIG:
+                    if address.kind != "udp":
+                        raise
+                    waiting.insert(0, address._replace(kind="tcp"))
+                last = refused
+                failures.append("%s: %s" % (address, refused))
+            except OSError as error:
+                failures.append("%s: %s" % (address, error.strerror or error))
+        if last is not None and len(failures) == 1:
+            raise last
+        raise KdcUnreachable("no KDC of %s answers: %s" % (ascii(realm)[1:-1], "; ".join(failures)))
