@@ -33,10 +33,9 @@ def listed(realm, path):
         if times:
             server = line.split("  ")[2].strip()
             found[server] = {"start": times[0], "end": times[1], "flags": "", "etypes": ""}
-        elif server and "Flags: " in line:
-            found[server]["flags"] = "".join(sorted(line.split("Flags: ")[1].strip()))
-        elif server and "Etype (skey, tkt): " in line:
-            found[server]["etypes"] = line.split("Etype (skey, tkt): ")[1].strip()
+        elif server:
+            flags, etypes = re.search(r"Flags: (\w*)", line), re.search(r"Etype \(skey, tkt\): (\S+, \S+)", line)
+            found[server].update({"flags": "".join(sorted(flags[1]))} if flags else {}, **({"etypes": etypes[1]} if etypes else {}))
     return client, found
 
 
@@ -149,7 +148,9 @@ def try_refusals(realm):
     refusal("another key in the keytab", lambda: krb.kinit(ann, keytab=realm.wrong, kdc=kdc), RULE.KDC, 24)
     refusal("no key in the keytab", lambda: krb.kinit("bob@" + REALM, keytab=realm.users, kdc=kdc, etypes=[18]), RULE.NO_KEY)
     refusal("an unknown service", lambda: krb.kinit(ann, PASSWORD, kdc=kdc).ticket_for("HTTP/nowhere"), RULE.KDC, 7)
-    refusal("no shared encryption type", lambda: krb.kinit("u18@" + REALM, PASSWORD, kdc=kdc, etypes=[17]), RULE.KDC, 14)
+    refusal("no shared encryption type", lambda: krb.kinit("f18@" + REALM, PASSWORD, kdc=kdc, etypes=[17]), RULE.KDC, 14)
+    # Where it asks for the time first, MIT's KDC tells of no key.
+    refusal("no shared encryption type, with its time", lambda: krb.kinit("u18@" + REALM, PASSWORD, kdc=kdc, etypes=[17]), RULE.NO_INFO)
     for user, (_, code) in REFUSED.items():
         refusal(user, lambda: krb.kinit("%s@%s" % (user, REALM), PASSWORD, kdc=kdc), RULE.KDC, code)
     refusal("more iterations than are taken", lambda: krb.kinit("u18@" + REALM, PASSWORD, kdc=kdc, most=4095, least=1), RULE.ITERATIONS)

@@ -143,7 +143,7 @@ class _Terms(ctypes.Structure):
 class _State(ctypes.Structure):
     """krb_exchange of krb.h."""
 
-    _fields_ = [("offset", ctypes.c_int64)] + [(name, ctypes.c_uint32) for name in ("has_offset", "nonce", "etype")] + [("key", ctypes.c_uint8 * 32)]
+    _fields_ = [("offset", ctypes.c_int64)] + [(name, ctypes.c_uint32) for name in ("has_offset", "nonce")] + [("etype", ctypes.c_int32), ("key", ctypes.c_uint8 * 32)]
 
 
 class _Followed(ctypes.Structure):
@@ -156,8 +156,8 @@ class _ApTerms(ctypes.Structure):
     """krb_ap_terms of krb.h."""
 
     _fields_ = [("seconds", ctypes.c_int64)] + [
-        (name, ctypes.c_uint32) for name in ("microseconds", "client_type", "sequence_number", "gss_flags", "settings", "session_etype")
-    ]
+        (name, ctypes.c_uint32) for name in ("microseconds", "client_type", "sequence_number", "gss_flags", "settings")
+    ] + [("session_etype", ctypes.c_int32)]
 
 
 _FROM, _RTIME, _DATAGRAMS = 1, 2, 4  # KRB_CLIENT_.. of krb.h
@@ -171,10 +171,10 @@ _ENDS: List[Any] = [ctypes.POINTER(_State), ctypes.POINTER(_Followed)] + _OUT
 _initial, _ticket = _library.krb_client_initial, _library.krb_client_ticket
 _ap_request, _ap_reply = _library.krb_client_ap_request, _library.krb_client_ap_reply
 _initial.argtypes = _WANTED + _OCTETS * 4 + _ENDS
-_ticket.argtypes = _WANTED + _OCTETS + [ctypes.c_uint32] + _OCTETS * 4 + _ENDS
+_ticket.argtypes = _WANTED + _OCTETS + [ctypes.c_int32] + _OCTETS * 4 + _ENDS
 _RULE = ctypes.POINTER(ctypes.c_uint32)
 _ap_request.argtypes = [ctypes.POINTER(_ApTerms)] + _OCTETS * 6 + [_RULE] + _OUT
-_ap_reply.argtypes = [ctypes.c_uint32] + _OCTETS + [ctypes.c_int64, ctypes.c_uint32] + _OCTETS + [_RULE] + _OUT
+_ap_reply.argtypes = [ctypes.c_int32] + _OCTETS + [ctypes.c_int64, ctypes.c_uint32] + _OCTETS + [_RULE] + _OUT
 for _call in (_initial, _ticket, _ap_request, _ap_reply):
     _call.restype = ctypes.c_uint32
 
@@ -248,15 +248,24 @@ class Exchange:
         """By how many seconds the KDC's time is ahead, as an error of its own, or one before, told; else None."""
         return int(self._state.offset) if self._state.has_offset else None
 
-    def step(self, message: bytes = b"", is_datagram: bool = False) -> Answer:
-        """What follows on a message of the KDC's; of no octets the exchange begins. NotGranted; Refused: INVALID, NUMBER, KEYTAB, MEMORY. Then the exchange is as it was."""
+    def begin(self) -> Answer:
+        """The first request. NotGranted; Refused: INVALID, NUMBER, KEYTAB, MEMORY."""
+        return self._stepped(b"", False)
+
+    def step(self, message: bytes, is_datagram: bool = False) -> Answer:
+        """What follows on a message of the KDC's. Raises as `begin`, and then the exchange is as it was."""
+        if not message:  # no octets would begin anew
+            raise NotGranted(ClientRule.OTHER_MESSAGE)
+        return self._stepped(message, is_datagram)
+
+    def _stepped(self, message: bytes, is_datagram: bool) -> Answer:
         wanted, limits = self.wanted, self._limits
         seconds, microseconds = moment(self._clock)
         settings = (wanted.start is not None and _FROM) | (wanted.rtime is not None and _RTIME) | (is_datagram and _DATAGRAMS)
         nonce = secrets.randbelow(2**31)
         types = wanted.client.name_type, wanted.server.name_type
         terms = _Terms(seconds, wanted.start or 0, wanted.till, wanted.rtime or 0, microseconds, nonce, *limits, *types, settings)
-        given = _array(ctypes.c_size_t, wanted.options) + _array(ctypes.c_size_t, wanted.flags) + _array(ctypes.c_uint32, wanted.etypes)
+        given = _array(ctypes.c_size_t, wanted.options) + _array(ctypes.c_size_t, wanted.flags) + _array(ctypes.c_int32, wanted.etypes)
         given += _passed(wanted.client.octets) + _passed(wanted.server.octets) + self._by + _passed(secrets.token_bytes(_RANDOM)) + _passed(message)
         followed, size, room = _Followed(), ctypes.c_size_t(), 2 * len(message) + 2048
         while True:

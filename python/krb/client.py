@@ -102,7 +102,7 @@ def _run(exchange: Exchange, kdcs: Kdcs, realm: str, may_refer: Callable[[bytes]
             exchange.wanted = exchange.wanted._replace(server=other)
             return exchange.step(message, is_datagram)
 
-    answer = exchange.step()
+    answer = exchange.begin()
     while answer.follows == Follows.SENDS:
         answer = kdcs.answer(realm, answer.octets, take)
     return _granted(exchange.wanted.client, answer.ticket, answer.part)
