@@ -43,15 +43,15 @@ def got(url, path):
     ticket = krb.client.load(path).ticket_for("HTTP/" + parts.hostname)
     link, bindings = connected(parts)
     side = krb.Negotiator(INITIATOR, [krb.KerberosInitiator(ticket, channel_bindings=bindings)])
-    token, _ = side.step()
-    while True:
+    token, state = side.step()
+    while token is not None:
         status, answer, page = answered(link, urllib.parse.quote(parts.path or "/", safe="/%"), token)
+        if state == COMPLETE:
+            break
         if answer is None:
             raise ValueError("the server answers %d and does not confirm that it is %s" % (status, ticket.server))
         token, state = side.step(answer)
-        if state == COMPLETE and token is None:
-            break
-    if status != 200:
+    if state != COMPLETE or status != 200:
         raise ValueError("the server answers %d" % status)
     return page
 

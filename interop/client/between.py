@@ -7,7 +7,7 @@ import shutil
 import time
 
 import krb
-from changes import EACH, KINDS, Keys, Reply
+from changes import EACH, KINDS, Keys, Reply, without_fast
 from checks import expect, say
 from realm import REALM, SUITES
 from relay import Relay
@@ -89,8 +89,9 @@ def try_mit(realm, relay, changing, counts, held, seed):
     environment = dict(realm.environment, KRB5_CONFIG=realm.client_config(relay.port))
     changing.chance, numbers = random.Random(seed), list(held)
     caches = {number: realm.path("granting-%d" % number) for number in numbers}
-    for number in numbers:  # without the setting by which MIT's kvno would use FAST, whose replies the relay does not open
+    for number in numbers:
         held[number].save(caches[number])
+    relay.request = without_fast  # the relay does not open what FAST protects; MIT's kvno goes on without it
     path = realm.path("changed")
 
     def run(message, number):

@@ -12,7 +12,7 @@ from sealing import KEY_SIZES, decrypt, element, encrypt, field, integer, keys_o
 AS_REP, TGS_REP = 0x6B, 0x6D
 AS_USAGE, TGS_USAGE, SESSION_USAGE = 3, 9, 8
 TICKET_USAGE, AUTHENTICATOR_USAGE = 2, 7
-PA_TGS_REQ = 1
+PA_TGS_REQ, PA_FX_FAST = 1, 136
 SKEW = 300
 
 
@@ -59,6 +59,15 @@ class Keys:
         session = pair(field(part, 1))
         (authenticator,) = tree(decrypt(*session, AUTHENTICATOR_USAGE, field(field(message, 4), 2)[1]))[1]
         return session, pair(field(authenticator, 6))
+
+
+def without_fast(request):
+    """A request without its PA-FX-FAST (RFC 6113, 5.4.2), so that the reply is under the subkey alone."""
+    message = tree(request)
+    padata = field(message[1][0], 3)
+    if padata is not None:
+        padata[1] = [each for each in padata[1] if number_of(field(each, 1)) != PA_FX_FAST]
+    return written(message)
 
 
 def pair(key):

@@ -63,14 +63,14 @@ class Server:
 
 
 class Relay(Server):
-    """Passes requests on to the KDC; `change`, where it is set, has each request with its AS-REP or TGS-REP, and tells what goes back instead."""
+    """Passes requests on to the KDC, by `request`; `change`, where it is set, has each request with its AS-REP or TGS-REP, and tells what goes back instead."""
 
     def __init__(self, to, port=0):
-        self.to, self.change, self.kept = to, None, []
+        self.to, self.change, self.kept, self.request = to, None, [], lambda octets: octets
         super().__init__(port)
 
     def serve(self, link):
-        request = read(link, struct.unpack(">I", read(link, 4))[0])
+        request = self.request(read(link, struct.unpack(">I", read(link, 4))[0]))
         reply = asked(self.to, request)
         self.kept.append((request, reply))
         if self.change is not None and reply[:1] in (bytes([AS_REP]), bytes([TGS_REP])):

@@ -1,11 +1,8 @@
 """How octets go to a KDC and come back (RFC 4120, 7.2; MS-KKDCP)."""
 
 import contextlib
-import http.client
-import io
 import re
 import socket
-import ssl
 import time
 from typing import Any, Callable, Generator, Iterator, List, Mapping, NamedTuple, Optional, Sequence, Tuple, Union
 
@@ -22,10 +19,8 @@ Replies = Generator[bytes, None, None]
 
 LIMIT = 1 << 20  # the octets of a reply, at most
 _PORT = 88
-_HEADERS = 1 << 16  # what of HTTP stands before and between a reply's octets, at most
 _RESPONSE_TOO_BIG, _UNAVAILABLE = 52, 29  # KRB_ERR_RESPONSE_TOO_BIG, KDC_ERR_SVC_UNAVAILABLE (RFC 4120, 7.5.9)
 _FIRST_WAIT = 1.0  # until a datagram is sent again, in seconds; then twice as long each time
-_PROXY = "application/kerberos"
 
 
 class KdcUnreachable(OSError):
@@ -60,7 +55,7 @@ def addresses(word: str) -> List[Address]:
     return [Address(kind, found[2] or found[3], int(found[4] or _PORT)) for kind in ([found[1]] if found[1] else ["tcp", "udp"])]
 
 
-def _left(end: float) -> float:
+def left(end: float) -> float:
     """How many seconds there are until then."""
     seconds = end - time.monotonic()
     if seconds <= 0:
@@ -69,7 +64,7 @@ def _left(end: float) -> float:
 
 
 def _connected(link: socket.socket, address: Any, end: float) -> None:
-    link.settimeout(_left(end))
+    link.settimeout(left(end))
     link.connect(address)
 
 
@@ -82,12 +77,12 @@ def _stream(family: int, place: Any, request: bytes, end: float) -> Replies:
     """The reply over TCP, behind its length in four octets (RFC 4120, 7.2.2)."""
     with socket.socket(family, socket.SOCK_STREAM) as link:
         _connected(link, place, end)
-        link.settimeout(_left(end))
+        link.settimeout(left(end))
         link.sendall(len(request).to_bytes(4, "big") + request)
         reply = bytearray()
         try:
             while not proxy.is_whole(reply, LIMIT):
-                link.settimeout(_left(end))
+                link.settimeout(left(end))
                 part = link.recv(65536)
                 if not part:
                     raise ConnectionError("it closed before its reply was whole")
@@ -108,67 +103,14 @@ def _datagrams(family: int, place: Any, request: bytes, end: float) -> Replies:
             link.send(request)
             again = time.monotonic() + wait
             while time.monotonic() < again:
-                link.settimeout(min(max(again - time.monotonic(), 0.001), _left(end)))
+                link.settimeout(min(max(again - time.monotonic(), 0.001), left(end)))
                 try:
                     reply = link.recv(65535)
                 except socket.timeout:
                     continue
                 yield reply
-            _left(end)
+            left(end)
             wait *= 2
-
-
-class _Came:
-    """What http.client reads in the place of a socket."""
-
-    def __init__(self, octets: bytes) -> None:
-        self._octets = octets
-
-    def makefile(self, *_: Any) -> io.BytesIO:
-        return io.BytesIO(self._octets)
-
-
-def _posted(address: Address, realm: str, request: bytes, anchors: Sequence[str], end: float) -> Replies:
-    """The reply of a KDC proxy (MS-KKDCP, 3.1.5), whose certificate is checked."""
-    body = proxy.write_request(request, realm.encode("ascii"))
-    host = str(address)[len("https://") : -len(address.path)]
-    lines = ["POST %s HTTP/1.1" % address.path, "Host: " + host, "Content-Type: " + _PROXY, "Content-Length: %d" % len(body), "Connection: close"]
-    context = ssl.create_default_context()
-    for anchor in anchors:
-        kind, _, path = anchor.partition(":")
-        if kind not in ("FILE", "DIR"):
-            raise ValueError("no FILE:PATH and no DIR:PATH of certificates: %a" % anchor)
-        context.load_verify_locations(**{"cafile" if kind == "FILE" else "capath": path})
-    with contextlib.ExitStack() as stack:
-        plain = stack.enter_context(socket.create_connection((address.host, address.port), _left(end)))
-        plain.settimeout(_left(end))
-        link = stack.enter_context(context.wrap_socket(plain, server_hostname=address.host))
-        link.settimeout(_left(end))
-        link.sendall("\r\n".join(lines + ["", ""]).encode("ascii") + body)
-        came = bytearray()
-        while True:
-            link.settimeout(_left(end))
-            part = link.recv(65536)
-            if not part:
-                break
-            came += part
-            if len(came) > LIMIT + _HEADERS:
-                raise ConnectionError("its reply has more than %d octets" % LIMIT)
-    try:
-        response = http.client.HTTPResponse(_Came(bytes(came)), method="POST")  # type: ignore[arg-type]
-        response.begin()
-        told = response.read()
-    except http.client.HTTPException as error:
-        raise ConnectionError("its reply is not of HTTP: %s" % type(error).__name__) from None
-    if response.status != 200:
-        raise ConnectionError("the proxy answers %d %s" % (response.status, ascii(response.reason)[1:-1]))
-    try:
-        reply = proxy.read_reply(told)
-    except Refused as refused:
-        if refused.status == Status.MEMORY:
-            raise
-        raise ConnectionError("the proxy's reply is refused: %s" % refused) from None
-    yield reply
 
 
 class Kdcs:
@@ -212,7 +154,9 @@ class Kdcs:
     def _replies(self, address: Address, realm: str, request: bytes) -> Iterator[Replies]:
         """The replies of an address, by each place that its host has. Each has all seconds."""
         if address.kind == "https":
-            yield _posted(address, realm, request, self.configuration().anchors(realm), time.monotonic() + self._seconds)
+            from krb._https import posted  # most clients need no TLS
+
+            yield posted(address, realm, request, self.configuration().anchors(realm), time.monotonic() + self._seconds)
             return
         kind, ask = (socket.SOCK_DGRAM, _datagrams) if address.kind == "udp" else (socket.SOCK_STREAM, _stream)
         for family, place in _places(address, kind):
