@@ -24,7 +24,7 @@ def try_commands(realm, environment):
         status, out, err = found
         expect(status == 1 and out == "" and err.count("\n") == 1 and err.startswith(start), "%s: %d %a %a" % (title, status, out, err))
 
-    for command in ("kinit", "klist", "kvno", "kdestroy"):
+    for command in ("kinit", "klist", "kvno", "kpasswd", "kdestroy"):
         status, out, err = run(command, "--help")
         expect(status == 0 and "usage: " in out and err == "", "%s --help: %s" % (command, err))
     expect(run()[0] == 2 and run("kinit", "-l", "soon", USER)[0] == 2, "words that are wrong")
@@ -92,4 +92,28 @@ def try_commands(realm, environment):
     krb.Credentials(entry).save(path)
     expect(run("klist", "-s")[0] == 1 and realm.status("klist", "-s", "-c", path)[0] == 1, "klist -s of a ticket that has ended")
     expect(run("kdestroy") == (0, "", "") and not os.path.exists(path), "kdestroy")
+    server = "tcp/127.0.0.1:%d" % realm.password_port
+    one_line("kpasswd, another password", run("kpasswd", "--server", server, "changing", text="another\nyet another\n"), "kpasswd: KDC: the KDC reports KDC_ERR_PREAUTH_FAILED")
+    one_line("kpasswd, a password that is too short", run("kpasswd", "--server", server, "changing", text=PASSWORD + "\nshort\n"), "kpasswd: the new password is refused (4): ")
+    expect(run("kpasswd", "--server", server, "changing", text=PASSWORD + "\nanother password\n") == (0, "The password is changed.\n", ""), "kpasswd")
+    for word, is_right in ((PASSWORD, False), ("another password", True)):
+        expect((realm.status("kinit", "-c", mit, "changing", text=word + "\n")[0] == 0) == is_right, "MIT's kinit with the password %s" % word)
+    krb.client.change_password("changing@" + REALM, "another password", PASSWORD, kdc=realm.kdc, server=server.replace("tcp/", "udp/"))
+    expect(krb.kinit("changing@" + REALM, PASSWORD, kdc=realm.kdc).is_valid, "a password that is changed over UDP")
+    off = time.time() + 3600
+    krb.client.change_password("changing@" + REALM, PASSWORD, "one more password", kdc=realm.kdc, server=server, clock=lambda: off)
+    expect(krb.kinit("changing@" + REALM, "one more password", kdc=realm.kdc).is_valid, "a password that is changed by a clock that is off")
+    from relay import Relay
+
+    def last_bit(request, reply):
+        return reply[:-1] + bytes([reply[-1] ^ 1])
+
+    relay = Relay(realm.password_port)
+    relay.any, relay.change = True, last_bit
+    try:
+        krb.client.change_password("changing@" + REALM, "one more password", "a fourth password", kdc=realm.kdc, server=relay.kdc)
+        expect(False, "a changed reply says that the password is changed")
+    except krb.NotGranted as refused:
+        expect(refused.rule == krb.ClientRule.OPENING, "a changed reply of the server that changes passwords: %s" % refused)
+    relay.stop()
     say("python -m krb")

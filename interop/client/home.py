@@ -2,7 +2,7 @@
 
 import subprocess
 
-from realm import PASSWORD, REALM, SUITES, Realm
+from realm import PASSWORD, REALM, SUITES, Realm, free_port
 
 OTHER = "OTHER.TEST"
 CONFIG = """[libdefaults]
@@ -29,7 +29,7 @@ REFUSED = {"late": ("-expire \"2020-01-01 00:00:00\"", 1), "locked": ("-allow_ti
 
 class Home(Realm):
     """`users` is a keytab of users: u17 to u20 of one suite each, whose time the KDC asks for under their key, f17 to f20, whose it does not ask for, and ann of all suites.
-    `granting` is one of the ticket-granting services, and `wrong` one with another key of ann's."""
+    `granting` is one of the ticket-granting services, and `wrong` one with another key of ann's. At `password_port` passwords are changed, as that of the user changing."""
 
     def __init__(self, home):
         super().__init__(home)
@@ -37,7 +37,9 @@ class Home(Realm):
         self.write("krb5.conf", CONFIG.format(realm=REALM, other=OTHER, port=self.port))
         suites = " ".join(name + ":normal" for name in reversed(SUITES.values()))
         lines = "  database_name = {0}/{1}\n  key_stash_file = {0}/stash-{1}\n  acl_file = {0}/acl\n  supported_enctypes = {2}\n  max_renewable_life = 2d\n"
-        realms = "".join(" %s = {\n%s }\n" % (realm, lines.format(home, realm, suites)) for realm in (REALM, OTHER))
+        self.password_port, admin = free_port(), "  kadmind_listen = 127.0.0.1:%d\n  kpasswd_listen = 127.0.0.1:%d\n"
+        more = {REALM: admin % (free_port(), self.password_port), OTHER: ""}
+        realms = "".join(" %s = {\n%s%s }\n" % (realm, lines.format(home, realm, suites), more[realm]) for realm in (REALM, OTHER))
         listen = "[kdcdefaults]\n kdc_listen = 127.0.0.1:{0}\n kdc_tcp_listen = 127.0.0.1:{0}\n".format(self.port)
         self.write("kdc.conf", listen + "[realms]\n" + realms)
         self.kdc = "tcp/127.0.0.1:%d" % self.port
@@ -67,6 +69,8 @@ class Home(Realm):
         self.admin("ktadd -norandkey -k %s krbtgt/%s@%s" % (self.granting, REALM, REALM))
         self.begin_wrong()
         self.start(["krb5kdc", "-n", "-r", REALM, "-r", OTHER], self.environment, self.port)
+        self.admin('addprinc -pw "%s" +requires_preauth changing' % PASSWORD, "addpol -minlength 8 long", "modprinc -policy long changing")
+        self.start(["kadmind", "-nofork", "-r", REALM], self.environment, self.password_port)
 
     def begin_wrong(self):
         """A keytab with a key of ann's that is none, by MIT's ktutil."""

@@ -63,17 +63,18 @@ class Server:
 
 
 class Relay(Server):
-    """Passes requests on to the KDC, by `request`; `change`, where it is set, has each request with its AS-REP or TGS-REP, and tells what goes back instead."""
+    """Passes requests on to the KDC, by `request`; `change`, where it is set, has each request with its AS-REP or TGS-REP, or with `any` each reply, and tells what goes
+    back instead."""
 
     def __init__(self, to, port=0):
-        self.to, self.change, self.kept, self.request = to, None, [], lambda octets: octets
+        self.to, self.change, self.kept, self.request, self.any = to, None, [], lambda octets: octets, False
         super().__init__(port)
 
     def serve(self, link):
         request = self.request(read(link, struct.unpack(">I", read(link, 4))[0]))
         reply = asked(self.to, request)
         self.kept.append((request, reply))
-        if self.change is not None and reply[:1] in (bytes([AS_REP]), bytes([TGS_REP])):
+        if self.change is not None and (self.any or reply[:1] in (bytes([AS_REP]), bytes([TGS_REP]))):
             reply = self.change(request, reply)
         link.sendall(framed(reply))
 

@@ -82,6 +82,8 @@ def try_configuration(realm):
     expect(found.kdcs("B.TEST") == ["b"] and found.kdcs("C.TEST") == [] and found.anchors("A.TEST") == ["FILE:/a.pem"], "the other realms")
     expect(found.values("libdefaults", "quoted") == ['a "b" = {'], "a value in quotation marks")
     expect(read("").default_realm is None, "an empty file")
+    servers = read("[realms]\n A = {\n  kdc = a:88\n  kdc = tcp/[::1]:88\n  kdc = b\n  kdc = https://c:1/x\n  kdc = ::1\n }\n B = {\n  kdc = a:88\n  kpasswd_server = d:1\n }\n")
+    expect(servers.password_servers("A") == ["a", "tcp/[::1]", "b", "https://c:1/x", "::1"] and servers.password_servers("B") == ["d:1"], "where passwords are changed")
     for text in ("a = b\n", "[s\n", "[s]\na\n", "[s]\na = {\n", "[s]\n}\n", "[s]\na = {\n[t]\n", '[s]\na = "b\n', "module a:b\n", "include /no/such/file\n"):
         expect(raises((ValueError, OSError), lambda: read(text)), "%a is read" % text)
     path = realm.path("unit.conf")

@@ -1,4 +1,4 @@
-"""A command line of a client: python -m krb kinit|klist|kvno|kdestroy, with options as those of MIT Kerberos have them."""
+"""A command line of a client: python -m krb kinit|klist|kvno|kpasswd|kdestroy, with options as those of MIT Kerberos have them."""
 
 import argparse
 import datetime
@@ -13,7 +13,7 @@ from krb import _ccache
 from krb._configuration import Configuration
 from krb._items import Registry, find_number, name_of
 from krb._names import parsed
-from krb.client import Credentials, Settings, kinit, load, load_all
+from krb.client import Credentials, Settings, change_password, kinit, load, load_all
 
 # The letters of flags, as klist of MIT Kerberos has them.
 _LETTERS = {1: "F", 2: "f", 3: "P", 4: "p", 5: "D", 6: "d", 7: "i", 8: "R", 9: "I", 10: "A", 11: "H", 12: "T", 13: "O"}
@@ -70,6 +70,32 @@ def password_of(file: Optional[str], client: str) -> str:
     return line.rstrip("\r\n")
 
 
+def passwords_of(file: Optional[str], client: str) -> List[str]:
+    """The old and the new password: the first two lines of a file, or of standard input; else they are asked for, the new one twice."""
+    if file is None and sys.stdin.isatty():
+        old, new = (getpass.getpass(text) for text in ("Password for %s: " % client, "Enter new password: "))
+        if getpass.getpass("Enter it again: ") != new:
+            raise Failed("the new passwords differ")
+        return [old, new]
+    if file is not None and file != "-":
+        with open(file, encoding="utf-8") as opened:
+            lines = opened.read().splitlines()
+    else:
+        lines = sys.stdin.read().splitlines()
+    if len(lines) < 2:
+        raise Failed("no two passwords came")
+    return lines[:2]
+
+
+def client_of(options: argparse.Namespace) -> str:
+    """The principal, or the user's name; with its realm, or the default one."""
+    client: str = options.principal or pwd.getpwuid(os.getuid()).pw_name
+    realm = None if "@" in client else Configuration(options.config).default_realm
+    if "@" not in client and realm is None:
+        raise Failed("a principal without a realm, and no default_realm")
+    return client if realm is None else "%s@%s" % (client, realm)
+
+
 def settings_of(options: argparse.Namespace) -> Settings:
     kdc: Optional[List[str]] = options.kdc or None
     return Settings(kdc, options.config, options.dns, options.timeout)
@@ -93,12 +119,7 @@ def run_kinit(options: argparse.Namespace) -> int:
                 raise Failed("no ticket for %s in %s" % (server.text, path))
         (held.renew() if options.renew else held.validate()).save(path)
         return 0
-    client = options.principal or pwd.getpwuid(os.getuid()).pw_name
-    if "@" not in client:
-        realm = Configuration(options.config).default_realm
-        if realm is None:
-            raise Failed("a principal without a realm, and no default_realm")
-        client = "%s@%s" % (client, realm)
+    client = client_of(options)
     by_keytab = options.keytab is not None or options.use_keytab
     keytab = keytab_path(options.keytab) if by_keytab else None
     password = None if by_keytab else password_of(options.password_file, client)
@@ -169,6 +190,14 @@ def run_kvno(options: argparse.Namespace) -> int:
     return 1 if failed else 0
 
 
+def run_kpasswd(options: argparse.Namespace) -> int:
+    client = client_of(options)
+    old, new = passwords_of(options.password_file, client)
+    change_password(client, old, new, options.kdc or None, options.server or None, timeout=options.timeout, configuration=options.config, dns=options.dns)
+    print("The password is changed.")
+    return 0
+
+
 def run_kdestroy(options: argparse.Namespace) -> int:
     path = cache_path(options.cache)
     try:
@@ -191,8 +220,10 @@ def parser_of() -> argparse.ArgumentParser:
     parser = argparse.ArgumentParser(prog="python -m krb", description="A client of Kerberos. What is sent, and which reply is taken, a proved library decides.")
     commands = parser.add_subparsers(dest="command", required=True, metavar="COMMAND")
 
-    def command(name: str, about: str) -> argparse.ArgumentParser:
+    def command(name: str, about: str, has_cache: bool = True) -> argparse.ArgumentParser:
         added = commands.add_parser(name, help=about, description=about[0].upper() + about[1:] + ".")
+        if not has_cache:
+            return added
         added.add_argument("-c", dest="cache", metavar="CACHE", help="the file of tickets; else $KRB5CCNAME or /tmp/krb5cc_UID")
         return added
 
@@ -218,11 +249,19 @@ def parser_of() -> argparse.ArgumentParser:
     add_ways(further)
     further.add_argument("--realm", action="append", default=[], metavar="REALM", help="another realm to which a KDC may refer; may be given more than once")
     further.add_argument("services", nargs="+", metavar="SERVICE")
+    changed = command("kpasswd", "change a password", has_cache=False)
+    words = "the server that changes passwords, as --kdc; else kpasswd_server of krb5.conf, or the hosts of its KDCs"
+    changed.add_argument("--server", action="append", metavar="SERVER", help=words)
+    changed.add_argument("--password-file", metavar="FILE", help="its first two lines are the old and the new password; - is standard input")
+    add_ways(changed)
+    changed.add_argument("principal", nargs="?", help="as carol@HOME.TEST; else the user's name in the default realm")
     command("kdestroy", "remove the file of tickets")
     return parser
 
 
-COMMANDS: Dict[str, Callable[[argparse.Namespace], int]] = {"kinit": run_kinit, "klist": run_klist, "kvno": run_kvno, "kdestroy": run_kdestroy}
+COMMANDS: Dict[str, Callable[[argparse.Namespace], int]] = {
+    "kinit": run_kinit, "klist": run_klist, "kvno": run_kvno, "kpasswd": run_kpasswd, "kdestroy": run_kdestroy,
+}
 
 
 def main(words: Optional[List[str]] = None) -> int:

@@ -117,6 +117,11 @@ class Configuration:
         """The KDCs of a realm: HOST[:PORT], tcp/ or udp/ before it, or https://HOST[:PORT]/PATH."""
         return [word for line in self.values("realms", realm, "kdc") for word in line.split()]
 
+    def password_servers(self, realm: str) -> List[str]:
+        """Where passwords are changed: the lines kpasswd_server; else the hosts of the KDCs, with the port of that service, and their proxies."""
+        words = [word for line in self.values("realms", realm, "kpasswd_server") for word in line.split()]
+        return words or [each if each.startswith("https://") else re.sub(r"(?<![:\]]):[0-9]+$|(?<=\]):[0-9]+$", "", each) for each in self.kdcs(realm)]
+
     def anchors(self, realm: str) -> List[str]:
         """The files and folders of certificates that proxies to a realm's KDCs are trusted by: FILE:PATH or DIR:PATH."""
         return self.values("realms", realm, "http_anchors")

@@ -4,21 +4,31 @@ import contextlib
 import re
 import socket
 import time
-from typing import Any, Callable, Generator, Iterator, List, Mapping, NamedTuple, Optional, Sequence, Tuple, Union
+from typing import Any, Callable, Generator, Iterator, List, Mapping, NamedTuple, Optional, Protocol, Sequence, Tuple, TypeVar, Union
 
 from krb import _dns, proxy
 from krb._configuration import Configuration
-from krb._exchange import Answer, ClientRule, Follows, NotGranted
+from krb._exchange import ClientRule, Follows, NotGranted
 from krb._library import Refused, Status
 
 __all__ = ["KdcUnreachable", "Kdcs"]
 
 Named = Union[None, str, Sequence[str], Mapping[str, Union[str, Sequence[str]]]]
-Take = Callable[[bytes, bool], Answer]
+
+
+class Following(Protocol):
+    """What follows on a reply."""
+
+    @property
+    def follows(self) -> Follows: ...
+
+
+Told = TypeVar("Told", bound=Following)
+Take = Callable[[bytes, bool], Told]
 Replies = Generator[bytes, None, None]
 
 LIMIT = 1 << 20  # the octets of a reply, at most
-_PORT = 88
+_PORT, _PASSWORD_PORT = 88, 464
 _RESPONSE_TOO_BIG, _UNAVAILABLE = 52, 29  # KRB_ERR_RESPONSE_TOO_BIG, KDC_ERR_SVC_UNAVAILABLE (RFC 4120, 7.5.9)
 _FIRST_WAIT = 1.0  # until a datagram is sent again, in seconds; then twice as long each time
 
@@ -44,7 +54,7 @@ _WORD = re.compile(r"(?:(tcp|udp)/)?(?:\[([^\]]+)\]|([^:/\[\]]+|[0-9A-Fa-f:.]*:[
 _URL = re.compile(r"https://(?:\[([^\]]+)\]|([^:/\[\]]+))(?::([0-9]{1,5}))?(/[!-~]*)?")
 
 
-def addresses(word: str) -> List[Address]:
+def addresses(word: str, port: int = _PORT) -> List[Address]:
     """Those that a word names: HOST[:PORT], over TCP and then UDP; with tcp/ or udp/ before it, over this alone; https://HOST[:PORT]/PATH of a KDC proxy."""
     found = _URL.fullmatch(word)
     if found is not None:
@@ -52,7 +62,7 @@ def addresses(word: str) -> List[Address]:
     found = _WORD.fullmatch(word)
     if found is None:
         raise ValueError("no address of a KDC: %a" % word)
-    return [Address(kind, found[2] or found[3], int(found[4] or _PORT)) for kind in ([found[1]] if found[1] else ["tcp", "udp"])]
+    return [Address(kind, found[2] or found[3], int(found[4] or port)) for kind in ([found[1]] if found[1] else ["tcp", "udp"])]
 
 
 def left(end: float) -> float:
@@ -114,10 +124,15 @@ def _datagrams(family: int, place: Any, request: bytes, end: float) -> Replies:
 
 
 class Kdcs:
-    """The KDCs of realms: those that are named, for all realms or by realm; else those of krb5.conf; else, where it is asked for, those of DNS."""
+    """The KDCs of realms: those that are named, for all realms or by realm; else those of krb5.conf; else, where it is asked for, those of DNS.
 
-    def __init__(self, named: Named = None, configuration: Optional[str] = None, dns: Union[bool, str] = False, seconds: float = 10.0) -> None:
+    With `changes`, the servers that change passwords (RFC 3244), which are where the KDCs are if nothing else is said."""
+
+    def __init__(
+        self, named: Named = None, configuration: Optional[str] = None, dns: Union[bool, str] = False, seconds: float = 10.0, changes: bool = False
+    ) -> None:
         self._named, self._path, self._dns, self._seconds = named, configuration, dns, seconds
+        self._service, self._port = ("kpasswd", _PASSWORD_PORT) if changes else ("kerberos", _PORT)
         self._read: Optional[Configuration] = None
         self._last: Optional[Address] = None  # the one that answered last
 
@@ -128,7 +143,9 @@ class Kdcs:
 
     def _words(self, realm: str) -> List[str]:
         named = self._named.get(realm) if isinstance(self._named, Mapping) else self._named
-        words = self.configuration().kdcs(realm) if named is None else [named] if isinstance(named, str) else list(named)
+        found = self.configuration()
+        listed = found.kdcs if self._service == "kerberos" else found.password_servers
+        words = listed(realm) if named is None else [named] if isinstance(named, str) else list(named)
         return words or (self._asked_for(realm) if self._dns else [])
 
     def _asked_for(self, realm: str) -> List[str]:
@@ -138,13 +155,13 @@ class Kdcs:
             server = addresses("udp/" + self._dns)[0]
             resolver = server.host, server.port if server.port != _PORT else 53
         for kind in ("tcp", "udp"):
-            words += ["%s/%s:%d" % (kind, each.host, each.port) for each in _dns.servers("_kerberos._%s.%s" % (kind, realm), self._seconds, resolver)]
+            words += ["%s/%s:%d" % (kind, each.host, each.port) for each in _dns.servers("_%s._%s.%s" % (self._service, kind, realm), self._seconds, resolver)]
         return words
 
     def addresses(self, realm: str) -> List[Address]:
         """A realm's KDCs in the order in which they are tried; the one that answered last comes first. KdcUnreachable: there is none. ValueError: one is no address."""
         try:
-            found = [address for word in self._words(realm) for address in addresses(word)]
+            found = [address for word in self._words(realm) for address in addresses(word, self._port)]
         except OSError as error:
             raise KdcUnreachable("no KDC of %s is found: %s" % (ascii(realm)[1:-1], error)) from error
         if not found:
@@ -162,7 +179,7 @@ class Kdcs:
         for family, place in _places(address, kind):
             yield ask(family, place, request, time.monotonic() + self._seconds)
 
-    def _tried(self, address: Address, realm: str, request: bytes, take: Take) -> Answer:
+    def _tried(self, address: Address, realm: str, request: bytes, take: Take[Told]) -> Told:
         failed: OSError = ConnectionError("its name has no address")
         for replies in self._replies(address, realm, request):
             try:
@@ -176,7 +193,7 @@ class Kdcs:
                 failed = error
         raise failed
 
-    def answer(self, realm: str, request: bytes, take: Take) -> Answer:
+    def answer(self, realm: str, request: bytes, take: Take[Told]) -> Told:
         """What `take` says of a KDC's reply, and of the next one where it waits for that. KDCs are tried in their order until one replies.
 
         KdcUnreachable: none does. What `take` raises is raised on, but of a KDC that reports that it has no service, and over UDP that its reply is too big for that: the

@@ -15,10 +15,11 @@ from krb._items import Registry, Secret, _flags, plain
 from krb._kdc import KdcUnreachable, Kdcs, Named
 from krb._library import Octets
 from krb._names import Name, parsed, service_type, ticket_granting
+from krb._password import PasswordNotChanged, change_password
 from krb._parts import decode, find
 
-__all__ = ["ClientRule", "Credentials", "Initiator", "InitiatorContext", "KdcUnreachable", "KerberosInitiator", "NotGranted", "Settings"]
-__all__ += ["kinit", "load", "load_all", "save_all"]
+__all__ = ["ClientRule", "Credentials", "Initiator", "InitiatorContext", "KdcUnreachable", "KerberosInitiator", "NotGranted", "PasswordNotChanged"]
+__all__ += ["Settings", "change_password", "kinit", "load", "load_all", "save_all"]
 
 Time = Union[datetime.datetime, float, int]
 
