@@ -4,7 +4,7 @@ import contextlib
 import re
 import socket
 import time
-from typing import Any, Callable, Generator, Iterator, List, Mapping, NamedTuple, Optional, Protocol, Sequence, Tuple, TypeVar, Union
+from typing import Any, Callable, Dict, Generator, Iterator, List, Mapping, NamedTuple, Optional, Protocol, Sequence, Tuple, TypeVar, Union
 
 from krb import _dns, proxy
 from krb._configuration import Configuration
@@ -28,7 +28,7 @@ Take = Callable[[bytes, bool], Told]
 Replies = Generator[bytes, None, None]
 
 LIMIT = 1 << 20  # the octets of a reply, at most
-_PORT, _PASSWORD_PORT = 88, 464
+_PORT, _PASSWORD_PORT, _DNS_PORT = 88, 464, 53
 _RESPONSE_TOO_BIG, _UNAVAILABLE = 52, 29  # KRB_ERR_RESPONSE_TOO_BIG, KDC_ERR_SVC_UNAVAILABLE (RFC 4120, 7.5.9)
 _FIRST_WAIT = 1.0  # until a datagram is sent again, in seconds; then twice as long each time
 
@@ -134,6 +134,7 @@ class Kdcs:
         self._named, self._path, self._dns, self._seconds = named, configuration, dns, seconds
         self._service, self._port = ("kpasswd", _PASSWORD_PORT) if changes else ("kerberos", _PORT)
         self._read: Optional[Configuration] = None
+        self._found: Dict[str, List[Address]] = {}
         self._last: Optional[Address] = None  # the one that answered last
 
     def configuration(self) -> Configuration:
@@ -143,30 +144,35 @@ class Kdcs:
 
     def _words(self, realm: str) -> List[str]:
         named = self._named.get(realm) if isinstance(self._named, Mapping) else self._named
+        if named is not None:
+            return [named] if isinstance(named, str) else list(named)
         found = self.configuration()
-        listed = found.kdcs if self._service == "kerberos" else found.password_servers
-        words = listed(realm) if named is None else [named] if isinstance(named, str) else list(named)
+        words = found.kdcs(realm) if self._service == "kerberos" else found.password_servers(realm)
         return words or (self._asked_for(realm) if self._dns else [])
 
     def _asked_for(self, realm: str) -> List[str]:
         """What DNS says of a realm."""
         resolver, words = None, []
         if isinstance(self._dns, str):
-            server = addresses("udp/" + self._dns)[0]
-            resolver = server.host, server.port if server.port != _PORT else 53
+            server = addresses("udp/" + self._dns, _DNS_PORT)[0]
+            resolver = server.host, server.port
         for kind in ("tcp", "udp"):
-            words += ["%s/%s:%d" % (kind, each.host, each.port) for each in _dns.servers("_%s._%s.%s" % (self._service, kind, realm), self._seconds, resolver)]
+            found = _dns.servers("_%s._%s.%s" % (self._service, kind, realm), self._seconds, resolver)
+            words += ["%s/%s:%d" % (kind, each.host, each.port) for each in found]
         return words
 
     def addresses(self, realm: str) -> List[Address]:
-        """A realm's KDCs in the order in which they are tried; the one that answered last comes first. KdcUnreachable: there is none. ValueError: one is no address."""
-        try:
-            found = [address for word in self._words(realm) for address in addresses(word, self._port)]
-        except OSError as error:
-            raise KdcUnreachable("no KDC of %s is found: %s" % (ascii(realm)[1:-1], error)) from error
-        if not found:
+        """A realm's KDCs in the order in which they are tried; the one that answered last comes first. They are looked for once.
+
+        KdcUnreachable: there is none. ValueError: one is no address."""
+        if realm not in self._found:
+            try:
+                self._found[realm] = [address for word in self._words(realm) for address in addresses(word, self._port)]
+            except OSError as error:
+                raise KdcUnreachable("no KDC of %s is found: %s" % (ascii(realm)[1:-1], error)) from error
+        if not self._found[realm]:
             raise KdcUnreachable("no KDC of %s is known" % ascii(realm)[1:-1])
-        return sorted(found, key=lambda each: each != self._last)
+        return sorted(self._found[realm], key=lambda each: each != self._last)
 
     def _replies(self, address: Address, realm: str, request: bytes) -> Iterator[Replies]:
         """The replies of an address, by each place that its host has. Each has all seconds."""

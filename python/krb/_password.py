@@ -18,7 +18,15 @@ __all__ = ["PasswordNotChanged", "change_password"]
 _PRIV_USAGE = 13  # of a KRB-PRIV (RFC 4120, 7.5.1)
 _SEQUENCE_NUMBERS = 2**30
 _IPV4, _IPV6 = 2, 24  # types of addresses (RFC 4120, 7.5.3)
-_RESULTS = {1: "the request is malformed", 2: "the server failed", 3: "the client may not", 4: "the new password is refused", 5: "the client may not", 6: "the version is another", 7: "the ticket is no first one"}
+_RESULTS = {
+    1: "the request is malformed",
+    2: "the server failed",
+    3: "the client may not",
+    4: "the new password is refused",
+    5: "the client may not",
+    6: "the version is another",
+    7: "the ticket is no first one",
+}
 
 
 class PasswordNotChanged(ValueError):
