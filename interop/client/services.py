@@ -200,13 +200,18 @@ def try_web(realm, environment, credentials):
     cache = realm.path("web")
     credentials.save(cache)
 
-    def get(url, *words, path=cache):
-        done = subprocess.run(["/usr/bin/python3", "-B", program, *words, url, path], env=environment, capture_output=True, text=True, timeout=60)
+    def get(url, path=cache, **more):
+        done = subprocess.run(["/usr/bin/python3", "-B", program, url, path], env=dict(environment, **more), capture_output=True, text=True, timeout=60)
         return done.returncode, done.stdout, done.stderr
 
     expect(get(site.url)[:2] == (0, PAGE), "the web page: %s" % (get(site.url),))
     asking = Site(realm, environment, words=("--ask",))
     expect(get(asking.url)[:2] == (0, PAGE), "the web page, MICs asked for: %s" % (get(asking.url),))
+    certificate = realm.path("cert.pem")
+    bound = Site(realm, environment, certificate)
+    expect(get(bound.url, SSL_CERT_FILE=certificate)[:2] == (0, PAGE), "the web page over TLS: %s" % (get(bound.url, SSL_CERT_FILE=certificate),))
+    status, out, err = get(bound.url)
+    expect(status == 1 and out == "" and "CERTIFICATE_VERIFY_FAILED" in err, "a certificate that nobody trusts: %s" % err)
     status, out, err = get(site.url, path=realm.path("nothing"))
     expect(status == 1 and out == "" and err.count("\n") == 1, "the web page without a ticket: %s" % err)
 
