@@ -94,8 +94,8 @@ def try_messages(title, client, service):
     for one, other in ((client, service), (service, client)):
         text = os.urandom(200)
         mic = one.get_mic(text)
-        other.verify_mic(text, mic)
-        expect(is_refused(lambda: other.verify_mic(text + b"!", one.get_mic(text))), "%s: a MIC of another text" % title)
+        expect(is_refused(lambda: other.verify_mic(text + b"!", mic)), "%s: a MIC of another text" % title)
+        expect(not is_refused(lambda: other.verify_mic(text, mic)), "%s: a MIC" % title)
     for encrypt in (True, False):
         text = os.urandom(300)
         expect(service.unwrap(client.wrap(text, encrypt)) == (text, encrypt), "%s: a Wrap token of the client's" % title)
@@ -107,6 +107,13 @@ def try_messages(title, client, service):
     token = client.wrap(b"once")
     service.unwrap(token)
     expect(is_refused(lambda: service.unwrap(token)), "%s: a message of the client's that comes twice" % title)
+    lost, after = service.wrap(b"lost"), service.wrap(b"after")
+    for token, order in ((after, krb.Order.GAP), (lost, krb.Order.OUT_OF_ORDER)):
+        try:
+            client.unwrap(token)
+            expect(False, "%s: a message that is not the next one" % title)
+        except krb.OutOfOrder as told:
+            expect(told.order == order and told.message in (b"lost", b"after"), "%s: %s, and not %s" % (title, told, order.name))
 
 
 def try_context(realm, title, make, ticket, mutual, bindings):
@@ -187,8 +194,9 @@ def try_negotiations(realm, ticket):
                     continue
                 expect(one.peer() == ticket.server and other.peer() == USER, "%s: %s and %s" % (title, one.peer(), other.peer()))
                 text = os.urandom(50)
-                expect(other.verify(text, one.mic(text)) and one.verify(text, other.mic(text)), "%s: MICs" % title)
-                expect(not one.verify(text + b"!", other.mic(text)), "%s: a MIC of another text" % title)
+                expect(other.verify(text, one.mic(text)), "%s: a MIC of the client's" % title)
+                mic = other.mic(text)
+                expect(not one.verify(text + b"!", mic) and one.verify(text, mic), "%s: a MIC of the service's" % title)
     say("SPNEGO")
 
 
