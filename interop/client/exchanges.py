@@ -8,7 +8,7 @@ import krb
 from checks import expect, say
 from home import OTHER, REFUSED
 from realm import PASSWORD, REALM, SUITES
-from relay import Datagrams, Relay, asked
+from relay import Datagrams, Relay, asked, both
 
 GRANTING = "krbtgt/%s@%s" % (REALM, REALM)
 RULE = krb.ClientRule
@@ -254,8 +254,7 @@ def try_datagrams(realm):
     relay.stop()
     from changes import error
 
-    server = Datagrams(lambda number, octets: [error(52)])
-    relay = Relay(plain, server.port)
+    relay, server = both(plain, lambda number, octets: [error(52)])
     expect(kinit(server.kdc).is_valid and len(relay.kept) == 2 and server.count == 2, "a reply that is too big for UDP: %d over UDP, %d over TCP" % (server.count, len(relay.kept)))
     relay.stop()
     begun = time.monotonic()

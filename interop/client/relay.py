@@ -99,10 +99,10 @@ class Saying(Server):
 class Datagrams:
     """A UDP server on 127.0.0.1: `answer` has the number of each datagram, counted from 0, and its octets, and tells the datagrams that go back."""
 
-    def __init__(self, answer):
+    def __init__(self, answer, port=0):
         self._answer, self.count = answer, 0
         self._link = socket.socket(socket.AF_INET, socket.SOCK_DGRAM)
-        self._link.bind(("127.0.0.1", 0))
+        self._link.bind(("127.0.0.1", port))
         self.port = self._link.getsockname()[1]
         self.kdc = "udp/127.0.0.1:%d" % self.port
         threading.Thread(target=self._serve, daemon=True).start()
@@ -120,3 +120,14 @@ class Datagrams:
 
     def stop(self):
         self._link.close()
+
+
+def both(to, answer):
+    """A relay, and a UDP server at the same port."""
+    for _ in range(50):
+        relay = Relay(to)
+        try:
+            return relay, Datagrams(answer, relay.port)
+        except OSError:  # the port is another's over UDP
+            relay.stop()
+    raise OSError("no port is free over TCP and UDP")
