@@ -116,4 +116,11 @@ def try_commands(realm, environment):
     except krb.NotGranted as refused:
         expect(refused.rule == krb.ClientRule.OPENING, "a changed reply of the server that changes passwords: %s" % refused)
     relay.stop()
+    program = os.path.join(os.path.dirname(os.path.dirname(os.path.dirname(os.path.abspath(__file__)))), "examples", "python", "first_login.py")
+    first = dict(env=environment, capture_output=True, text=True, timeout=60, start_new_session=True)  # without a terminal, the password is read from the input
+    done = subprocess.run(["/usr/bin/python3", "-B", program, USER, "HTTP/localhost", path], input=PASSWORD + "\n", **first)
+    expect(done.returncode == 0 and done.stdout.startswith("HTTP/localhost@%s until 2" % REALM), "first_login.py: %s %s" % (done.stdout, done.stderr))
+    expect(set(listed(realm, path)[1]) == {GRANTING, "HTTP/localhost@" + REALM}, "first_login.py: its file")
+    done = subprocess.run(["/usr/bin/python3", "-B", program, USER, "HTTP/localhost", path], input="another\n", **first)
+    expect(done.returncode == 1 and done.stdout == "" and "first_login: KDC: the KDC reports KDC_ERR_PREAUTH_FAILED (24)" in done.stderr, "first_login.py: %s" % done.stderr)
     say("python -m krb")

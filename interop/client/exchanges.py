@@ -1,6 +1,7 @@
 """First tickets and further ones of MIT's KDC, by `krb.client`; what MIT's klist, kvno and kinit say of them."""
 
 import os
+import pathlib
 import re
 import time
 
@@ -80,6 +81,9 @@ def try_first(realm):
                     expect(got.is_valid and "initial" in got.flags and got.renew_till is None, "%s: %s" % (title, got.flags))
                     expect(("pre-authent" in got.flags) == user.startswith("u"), "%s: %s" % (title, got.flags))
             try_saved(realm, client, got, client, suite)
+    with open(realm.users, "rb") as file:
+        for keytab in (file.read(), pathlib.Path(realm.users)):
+            expect(krb.kinit("ann@" + REALM, keytab=keytab, kdc=realm.kdc).is_valid, "a keytab as %s" % type(keytab).__name__)
     got = krb.kinit("ann@" + REALM, PASSWORD, kdc=realm.kdc)
     expect(got.session_key.etype == 18, "the first of the order is 18, and not %d" % got.session_key.etype)
     for order in ((20, 19, 17), (19, 17), (17, 20)):

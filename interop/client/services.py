@@ -3,6 +3,7 @@
 import base64
 import os
 import subprocess
+import time
 
 import gssapi
 import gssapi.raw
@@ -76,6 +77,14 @@ class Ours:
     def unwrap(self, token):
         found = self.context.unwrap(token)
         return found.message, found.sealed
+
+
+class Plain(Ours):
+    """The same without a subkey of its own."""
+
+    def __init__(self, realm, bindings=None):
+        super().__init__(realm, bindings)
+        self.acceptor = krb.Acceptor(realm.keytab, replay_cache=False, subkey=False)
 
 
 REFUSALS = (gssapi.exceptions.GSSError, ValueError)
@@ -163,18 +172,23 @@ def try_replies(realm, title, make, ticket):
     expect(rule_of(fresh, own) == "it is taken", "%s: the reply itself" % title)
 
 
-def try_errors(realm, ticket):
+def try_errors(realm, credentials, ticket):
     """What a service's KRB-ERROR says to the client."""
-    late = krb.Initiator(ticket, clock=lambda: __import__("time").time() - 4000)
-    try:
-        Ours(realm).accept(late.token())
-        expect(False, "a token of long ago is accepted")
-    except krb.NotAccepted as refused:
+    ended = credentials.ticket_for("HTTP/localhost", lifetime=1)
+    time.sleep(3)
+    expect(not ended.is_valid, "a ticket of a second is valid after three: until %s" % ended.end_time)
+    acceptor = krb.Acceptor(realm.keytab, replay_cache=False, skew=1)
+    rows = (krb.Initiator(ticket, clock=lambda: time.time() - 4000), "KRB_AP_ERR_SKEW (37)"), (krb.Initiator(ended), "KRB_AP_ERR_TKT_EXPIRED (32)")
+    for initiator, name in rows:
         try:
-            late.step(refused.error)
-            expect(False, "a KRB-ERROR confirms the service")
-        except krb.NotGranted as error:
-            expect((error.rule, error.code) == (RULE.KDC, 37) and "the service reports KRB_AP_ERR_SKEW (37)" in str(error), "a KRB-ERROR: %s" % error)
+            acceptor.accept(initiator.token())
+            expect(False, "a token of long ago is accepted")
+        except krb.NotAccepted as refused:
+            try:
+                initiator.step(refused.error)
+                expect(False, "a KRB-ERROR confirms the service")
+            except krb.NotGranted as error:
+                expect(error.rule == RULE.KDC and str(error) == "KDC: the service reports " + name, "a KRB-ERROR: %s, and not %s" % (error, name))
 
 
 def try_negotiations(realm, ticket):
@@ -258,7 +272,7 @@ def try_web(realm, environment, credentials):
 
 def try_services(realm, environment):
     credentials = krb.kinit(USER, PASSWORD, kdc=realm.kdc)
-    for name, make in (("MIT", Mit), ("krb.Acceptor", Ours)):
+    for name, make in (("MIT", Mit), ("krb.Acceptor", Ours), ("krb.Acceptor without a subkey", Plain)):
         for number, suite in SUITES.items():
             ticket = credentials.ticket_for("e%d/localhost" % number)
             expect(ticket.session_key.etype == number, "a session key of %d for e%d" % (ticket.session_key.etype, number))
@@ -270,7 +284,7 @@ def try_services(realm, environment):
             try_replies(realm, "%s, %s" % (name, suite), make, ticket)
         say("contexts with %s" % name)
     ticket = credentials.ticket_for("HTTP/localhost")
-    try_errors(realm, ticket)
+    try_errors(realm, credentials, ticket)
     expect(is_refused(lambda: krb.Initiator(ticket, flags=krb.ContextFlag.DELEGATION)), "delegation is asked for")
     try_negotiations(realm, ticket)
     try_web(realm, environment, credentials)

@@ -180,7 +180,7 @@ def run_kvno(options: argparse.Namespace) -> int:
             try:
                 got = held.ticket_for(server.text, realms=options.realm)
             except (OSError, ValueError) as error:
-                print("kvno: %s: %s" % (printable(server.text), error), file=sys.stderr)
+                print("kvno: %s: %s" % (printable(server.text), printable(" ".join(str(error).split()))), file=sys.stderr)
                 failed = True
                 continue
             found = got.entry
@@ -270,7 +270,7 @@ def main(words: Optional[List[str]] = None) -> int:
         return COMMANDS[options.command](options)
     except (Failed, OSError, ValueError, LookupError) as error:
         text = error.strerror + ": " + str(error.filename) if isinstance(error, OSError) and error.strerror and error.filename else str(error)
-        print("%s: %s" % (options.command, " ".join(text.split())), file=sys.stderr)
+        print("%s: %s" % (options.command, printable(" ".join(text.split()))), file=sys.stderr)
         return 1
     except KeyboardInterrupt:
         return 1

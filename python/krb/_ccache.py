@@ -3,7 +3,7 @@
 import os
 import struct
 import tempfile
-from typing import List, NamedTuple, Optional, Tuple
+from typing import List, NamedTuple, Optional, Tuple, Union
 
 from krb._context import EncryptionKey
 from krb._items import Secret
@@ -81,7 +81,7 @@ def written(cache: Cache) -> bytes:
     return _VERSION + struct.pack(">H", len(header)) + header + _named(cache.client) + b"".join(map(_entry, cache.entries))
 
 
-def write(path: str, cache: Cache) -> None:
+def write(path: Union[str, "os.PathLike[str]"], cache: Cache) -> None:
     """Puts a cache into the place of the file, which is readable by its owner alone; a process that reads it meanwhile has the old one or the new one."""
     octets = written(cache)
     handle, made = tempfile.mkstemp(prefix=os.path.basename(path) + ".", dir=os.path.dirname(path) or ".")  # of the mode 0600
@@ -156,7 +156,7 @@ def read_octets(octets: bytes) -> Cache:
     return Cache(client, offset, tuple(entries))
 
 
-def read(path: str) -> Cache:
+def read(path: Union[str, "os.PathLike[str]"]) -> Cache:
     """The cache of a file. OSError; ValueError: it is none."""
     with open(path, "rb") as file:
         octets = file.read()

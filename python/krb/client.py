@@ -3,6 +3,7 @@
 What is sent and which reply is taken is decided by the library. Sockets, files, the clock and random numbers are this package's."""
 
 import datetime
+import os
 import time
 from typing import Callable, Dict, FrozenSet, List, NamedTuple, Optional, Sequence, Union
 
@@ -22,6 +23,7 @@ __all__ = ["ClientRule", "Credentials", "Initiator", "InitiatorContext", "KdcUnr
 __all__ += ["Settings", "change_password", "kinit", "load", "load_all", "save_all"]
 
 Time = Union[datetime.datetime, float, int]
+Path = Union[str, "os.PathLike[str]"]
 
 ETYPES = 18, 17, 20, 19
 # Numbers of options (RFC 4120, 5.4.1), of which the first six are those of flags (5.3), too.
@@ -215,13 +217,13 @@ class Credentials:
         options = [FORWARDED] + self._has_of(_COMMON)
         return self._further(ticket_granting(self._takes()), options, self._permitted() + [FORWARDED])
 
-    def save(self, path: str, *others: "Credentials") -> None:
+    def save(self, path: Path, *others: "Credentials") -> None:
         """Writes a file of this ticket, and of others of the client, that MIT Kerberos reads (`save_all`)."""
         save_all(path, [self, *others])
 
 
 def kinit(
-    client: str, password: Union[str, Octets, None] = None, keytab: Union[str, Octets, None] = None, kdc: Named = None, *, server: Optional[str] = None,
+    client: str, password: Union[str, Octets, None] = None, keytab: Union[Path, Octets, None] = None, kdc: Named = None, *, server: Optional[str] = None,
     lifetime: Optional[Time] = None, renewable: Optional[Time] = None, forwardable: bool = False, proxiable: bool = False, start: Optional[Time] = None,
     etypes: Sequence[int] = ETYPES, skew: int = 300, least: int = 4096, most: int = 2**20, timeout: float = 10.0, configuration: Optional[str] = None,
     dns: Union[bool, str] = False, clock: Callable[[], float] = time.time,
@@ -255,30 +257,30 @@ def kinit(
     return Credentials(_run(exchange, kdcs, name.realm), settings, exchange.offset, kdcs)
 
 
-def _file(keytab: Union[str, Octets]) -> bytes:
+def _file(keytab: Union[Path, Octets]) -> bytes:
     """The octets of a keytab, or of the file of one."""
-    if not isinstance(keytab, str):
+    if not isinstance(keytab, (str, os.PathLike)):
         return plain(keytab)
     with open(keytab, "rb") as file:
         return file.read()
 
 
-def load_all(path: str, settings: Settings = USUAL) -> List[Credentials]:
+def load_all(path: Path, settings: Settings = USUAL) -> List[Credentials]:
     """The tickets of a file of MIT Kerberos (a FILE cache of version 4), in their order. OSError; ValueError: it is none."""
     cache, kdcs = _ccache.read(path), settings.kdcs()
     return [Credentials(entry, settings, cache.offset, kdcs) for entry in cache.entries if not entry.is_setting]
 
 
-def load(path: str, settings: Settings = USUAL) -> Credentials:
+def load(path: Path, settings: Settings = USUAL) -> Credentials:
     """The ticket-granting ticket of the client's realm in such a file. LookupError: there is none; else as `load_all`."""
     found = load_all(path, settings)
     for each in found:
         if each.entry.server.is_same(ticket_granting(each.entry.client.realm)):
             return each
-    raise LookupError("no ticket-granting ticket in %s" % path)
+    raise LookupError("no ticket-granting ticket in %s" % (path,))
 
 
-def save_all(path: str, tickets: Sequence[Credentials]) -> None:
+def save_all(path: Path, tickets: Sequence[Credentials]) -> None:
     """Writes a file of these tickets, which MIT Kerberos reads: its client is that of the first, and its offset of the KDC's clock, too. The file is replaced at once, and its
     owner alone may read it. OSError; ValueError: there is none, or a time before 1970 or past 2106."""
     if not tickets:
