@@ -2,7 +2,9 @@
 
 import base64
 import os
+import re
 import subprocess
+import textwrap
 import time
 
 import gssapi
@@ -270,6 +272,30 @@ def try_web(realm, environment, credentials):
     say("a web page")
 
 
+def try_document(realm):
+    """The first login of docs/CLIENT.md, with names of this realm, and `krb.Acceptor` as the service."""
+    import getpass
+
+    with open(os.path.join(TOP, "docs", "CLIENT.md"), encoding="utf-8") as file:
+        code = textwrap.dedent(re.search(r"^## From Python\n.*?\n\n((?:    .*\n|\n)+)", file.read(), re.DOTALL | re.MULTILINE)[1])
+    path = realm.path("document")
+    for old, new in (("carol@HOME.TEST", USER), ("HTTP/www.home.test@HOME.TEST", "HTTP/localhost@" + REALM), ("/tmp/krb5cc_1000", path)):
+        expect(code.count(old) == 1, "docs/CLIENT.md has %s" % old)
+        code = code.replace(old, new)
+    sent, contexts, acceptor, asked = [], [], krb.Acceptor(realm.keytab), getpass.getpass
+
+    def receive():
+        contexts.append(acceptor.accept(sent[-1]))
+        return contexts[-1].reply
+
+    getpass.getpass = lambda: PASSWORD
+    try:
+        exec(code, {"send": sent.append, "receive": receive})
+    finally:
+        getpass.getpass = asked
+    expect(contexts[0].unwrap(sent[-1]).message == b"a message" and krb.client.load(path).client == USER, "docs/CLIENT.md, a first login")
+
+
 def try_services(realm, environment):
     credentials = krb.kinit(USER, PASSWORD, kdc=realm.kdc)
     for name, make in (("MIT", Mit), ("krb.Acceptor", Ours), ("krb.Acceptor without a subkey", Plain)):
@@ -285,6 +311,7 @@ def try_services(realm, environment):
         say("contexts with %s" % name)
     ticket = credentials.ticket_for("HTTP/localhost")
     try_errors(realm, credentials, ticket)
+    try_document(realm)
     expect(is_refused(lambda: krb.Initiator(ticket, flags=krb.ContextFlag.DELEGATION)), "delegation is asked for")
     try_negotiations(realm, ticket)
     try_web(realm, environment, credentials)

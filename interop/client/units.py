@@ -1,5 +1,6 @@
 """What needs no KDC: names, durations, krb5.conf, addresses, refusals and files."""
 
+import os
 import pickle
 
 import krb
@@ -89,6 +90,13 @@ def try_configuration(realm):
     path = realm.path("unit.conf")
     expect(raises(ValueError, lambda: read("include %s\n" % path)), "a file that includes itself")
     expect(raises(OSError, lambda: _configuration.Configuration("/no/such/file")), "a file that is not there")
+    folder = realm.path("conf.d")
+    os.mkdir(folder)
+    for name, value in (("b", "second"), ("a.conf", "first"), (".hidden.conf", "never"), ("a~", "never"), ("x.txt", "never")):
+        realm.write(os.path.join("conf.d", name), "[realms]\n A = {\n  kdc = %s\n }\n" % value)
+    expect(read("includedir %s\n[realms]\n A = {\n  kdc = third\n }\n" % folder).kdcs("A") == ["first", "second", "third"], "includedir")
+    two = ":".join(realm.write("unit-%d.conf" % n, "[libdefaults]\n default_realm = R%d\n" % n) for n in (1, 2))
+    expect(_configuration.Configuration(two).default_realm == "R1", "two files")
 
 
 def try_rest(realm):
