@@ -277,7 +277,7 @@ def try_document(realm):
     import getpass
 
     with open(os.path.join(TOP, "docs", "CLIENT.md"), encoding="utf-8") as file:
-        code = textwrap.dedent(re.search(r"^## From Python\n.*?\n\n((?:    .*\n|\n)+)", file.read(), re.DOTALL | re.MULTILINE)[1])
+        code = textwrap.dedent(re.search(r"^## From Python\n\n[^\n]*\n\n((?:    [^\n]*\n|\n)+)", file.read(), re.MULTILINE)[1])
     path = realm.path("document")
     for old, new in (("carol@HOME.TEST", USER), ("HTTP/www.home.test@HOME.TEST", "HTTP/localhost@" + REALM), ("/tmp/krb5cc_1000", path)):
         expect(code.count(old) == 1, "docs/CLIENT.md has %s" % old)
