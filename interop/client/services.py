@@ -282,7 +282,8 @@ def try_document(realm):
     for old, new in (("carol@HOME.TEST", USER), ("HTTP/www.home.test@HOME.TEST", "HTTP/localhost@" + REALM), ("/tmp/krb5cc_1000", path)):
         expect(code.count(old) == 1, "docs/CLIENT.md has %s" % old)
         code = code.replace(old, new)
-    sent, contexts, acceptor, asked = [], [], krb.Acceptor(realm.keytab), getpass.getpass
+    sent, contexts, asked = [], [], getpass.getpass
+    acceptor = krb.Acceptor(realm.keytab, replay_cache=krb.ReplayCache(None))
 
     def receive():
         contexts.append(acceptor.accept(sent[-1]))
