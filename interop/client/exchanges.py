@@ -191,6 +191,8 @@ def try_clocks(realm):
         expect(again.offset == got.offset, "a clock %+d s: the offset in the file %s" % (by, again.offset))
         expect(again.ticket_for("HTTP/localhost").is_valid, "a clock %+d s: a ticket" % by)
         expect(listed(realm, path)[1][GRANTING]["end"] == got.end_time.timestamp(), "a clock %+d s: klist" % by)
+        context = krb.Acceptor(realm.keytab, replay_cache=False).accept(krb.Initiator(again.ticket_for("HTTP/localhost")).token())
+        expect(context.client == "ann@" + REALM, "a clock %+d s: the service lets in %s" % (by, context.client))
         # What the KDC says of its time in a TGS exchange is taken as well.
         plain = krb.Credentials(got.entry, krb.client.Settings(kdc=realm.kdc, clock=clock))
         service = plain.ticket_for("HTTP/localhost")

@@ -1,7 +1,6 @@
 """A client's side of a context with a service: its AP-REQ, the service's AP-REP, and the messages between the two (RFC 4120, 3.2; RFC 4121)."""
 
 import secrets
-import time
 from typing import TYPE_CHECKING, Callable, Optional, Tuple, Union
 
 from krb import gss, spnego
@@ -56,16 +55,16 @@ class Initiator:
 
     - `mutual`: the service has to confirm itself by an AP-REP. `flags`: what else is asked of the context; credentials are not delegated, and DCE style is not had.
     - `channel_bindings`: data, as b"tls-server-end-point:" and a hash, or `krb.ChannelBindings`.
-    - `clock`: the seconds since 1970 in UTC; what is known of the KDC's clock is added."""
+    - `clock`: the seconds since 1970 in UTC, by default by the clock of the ticket's settings; what is known of the KDC's clock is added."""
 
     def __init__(
         self, ticket: "Credentials", mutual: bool = True, flags: ContextFlag = _USUAL, channel_bindings: Union[Octets, ChannelBindings, None] = None,
-        clock: Callable[[], float] = time.time,
+        clock: Optional[Callable[[], float]] = None,
     ) -> None:
         if flags & _NOT_HERE:
             raise ValueError("credentials are not delegated, and DCE style is not had")
         self.flags = flags | ContextFlag.MUTUAL if mutual else flags & ~ContextFlag.MUTUAL
-        self._ticket, self._mutual, self._clock, self._bindings = ticket, mutual, clock, b""
+        self._ticket, self._mutual, self._clock, self._bindings = ticket, mutual, clock or ticket.settings.clock, b""
         if channel_bindings is not None:
             given = channel_bindings if isinstance(channel_bindings, ChannelBindings) else ChannelBindings(plain(channel_bindings))
             self._bindings = given.hash()
@@ -120,7 +119,7 @@ class KerberosInitiator(Mechanism):
 
     def __init__(
         self, ticket: "Credentials", mutual: bool = True, flags: ContextFlag = _USUAL, channel_bindings: Union[Octets, ChannelBindings, None] = None,
-        clock: Callable[[], float] = time.time,
+        clock: Optional[Callable[[], float]] = None,
     ) -> None:
         self._initiator = Initiator(ticket, mutual, flags, channel_bindings, clock)
         self._server = ticket.server
