@@ -1,6 +1,7 @@
 """Services that a client goes to: MIT's acceptor by python3-gssapi, `krb.Acceptor`, both by SPNEGO too, and a web page."""
 
 import base64
+import glob
 import os
 import re
 import subprocess
@@ -12,7 +13,7 @@ import gssapi.raw
 import krb
 from checks import expect, say
 from realm import PASSWORD, REALM, SUITES
-from sides import ACCEPTOR, INITIATOR, MitSide, OurSide, talk
+from sides import ACCEPTOR, INITIATOR, MitSide, OurSide, Program, ProgramSide, talk
 
 TOP = os.path.dirname(os.path.dirname(os.path.dirname(os.path.abspath(__file__))))
 BINDINGS = b"tls-server-end-point:" + bytes(range(32))
@@ -216,6 +217,34 @@ def try_negotiations(realm, ticket):
     say("SPNEGO")
 
 
+def try_heimdal(realm, ticket):
+    """Heimdal's SPNEGO as the acceptor (interop/negotiate/gss_side.c), where its packages can be had."""
+    from others import unpacked_heimdal
+
+    found = unpacked_heimdal(realm)
+    if found is None:
+        return
+    libraries, program = found[1], realm.path("gss_side")
+    include = "-I" + os.path.join(realm.path("heimdal"), "usr", "include", "heimdal")
+    library = glob.glob(os.path.join(libraries, "libgssapi.so.3"))[0]
+    realm.run("gcc", "-O1", include, os.path.join(TOP, "interop", "negotiate", "gss_side.c"), "-o", program, library, "-Wl,-rpath-link," + libraries)
+    running = Program(program, dict(realm.environment, LD_LIBRARY_PATH=libraries))
+    try:
+        for mutual in (True, False):
+            title = "SPNEGO, Heimdal, mutual %s" % mutual
+            one, other = OurSide(INITIATOR, [krb.KerberosInitiator(ticket, mutual=mutual)]), ProgramSide(running, ACCEPTOR)
+            sent, failures = talk(one, other)
+            if expect(one.is_complete() and other.is_complete() and failures == [None, None], "%s: %s, %s" % (title, failures, [each.hex() for each in sent])):
+                expect(one.peer() == ticket.server and other.peer() == USER, "%s: %s and %s" % (title, one.peer(), other.peer()))
+                text = os.urandom(50)
+                expect(other.verify(text, one.mic(text)), "%s: a MIC of the client's" % title)
+                mic = other.mic(text)
+                expect(not one.verify(text + b"!", mic) and one.verify(text, mic), "%s: a MIC of the service's" % title)
+    finally:
+        running.end()
+    say("SPNEGO with Heimdal")
+
+
 def try_web(realm, environment, credentials):
     """examples/http_negotiate with examples/python/http_client.py."""
     from web import PAGE, Site
@@ -315,4 +344,5 @@ def try_services(realm, environment):
     try_document(realm)
     expect(is_refused(lambda: krb.Initiator(ticket, flags=krb.ContextFlag.DELEGATION)), "delegation is asked for")
     try_negotiations(realm, ticket)
+    try_heimdal(realm, ticket)
     try_web(realm, environment, credentials)
