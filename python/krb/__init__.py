@@ -8,6 +8,8 @@
 - `krb.Acceptor`: whether a service lets in the client that sent a token; `krb.Context` with it, `krb.NotAccepted`, replay caches (RFC 4120, 3.2.3; RFC 4121).
 - `krb.Negotiator`: which mechanism two sides use (SPNEGO, RFC 4178), over mechanisms that it is lent: `krb.KerberosMechanism`, or ones of your own (`krb.Mechanism`);
   `krb.NotNegotiated`.
+- `krb.client`: tickets of a KDC by password or keytab, files of them, and services (RFC 4120): `krb.kinit`, `krb.Credentials`, `krb.Initiator`, `krb.KerberosInitiator`;
+  `krb.NotGranted`, `krb.KdcUnreachable`. `python -m krb` is a command line over it.
 - `krb.gss`: MIC and Wrap tokens of the GSS-API (RFC 4121).
 - `krb.messages`: whether octets are the one encoding of a message, parts sealed and opened (RFC 4120).
 - `krb.frames`: frames of password changes (RFC 3244), messages through a proxy to a KDC (MS-KKDCP).
@@ -30,9 +32,12 @@ from krb.accept import Acceptor, AnyReplayCache, ChannelBindings, Context, Conte
 from krb.accept import ReplayCache, Rule
 from krb import negotiate
 from krb.negotiate import KerberosMechanism, Mechanism, NegotiationRole, NegotiationRule, NegotiationState, Negotiator, NotNegotiated
+from krb import client
+from krb.client import ClientRule, Credentials, Initiator, InitiatorContext, KdcUnreachable, KerberosInitiator, NotGranted, kinit
 
 __all__ = ["Form", "Hidden", "Item", "Leaf", "Node", "Outcome", "Part", "Refused", "Registry", "Role", "Secret", "Status", "decode", "find", "find_item", "find_number", "first_error", "items", "json", "name_of", "parts", "show", "text", "type_of", "crypto", "frames", "gss", "messages", "pac", "proxy", "spnego"]
 __all__ += ["Acceptor", "AnyReplayCache", "ChannelBindings", "Context", "ContextFlag", "EncryptionKey", "FileReplayCache", "NotAccepted", "Order"]
 __all__ += ["OutOfOrder", "ReplayCache", "Rule", "accept"]
 __all__ += ["KerberosMechanism", "Mechanism", "NegotiationRole", "NegotiationRule", "NegotiationState", "Negotiator", "NotNegotiated", "negotiate"]
+__all__ += ["ClientRule", "Credentials", "Initiator", "InitiatorContext", "KdcUnreachable", "KerberosInitiator", "NotGranted", "client", "kinit"]
 __version__ = "0.1.0"

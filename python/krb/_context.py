@@ -105,7 +105,64 @@ def time_of(seconds: int) -> datetime.datetime:
         return (datetime.datetime.min if seconds < 0 else datetime.datetime.max).replace(tzinfo=datetime.timezone.utc)
 
 
-class Context:
+class Messages:
+    """The messages of one side of a context (RFC 4121, 4.2), and their order. Any number of threads may use it."""
+
+    _own, _other = gss.Sender.ACCEPTOR, gss.Sender.INITIATOR
+    flags: ContextFlag
+
+    def _begins(self, own_first: int, first: int) -> None:
+        """The numbers of this side's first message, and of the other's."""
+        self._own_next, self._window, self._lock = own_first, SequenceWindow(first), threading.Lock()
+
+    def _key(self, sender: gss.Sender) -> gss.TokenKey:
+        """The key of the messages of a side."""
+        raise NotImplementedError
+
+    @property
+    def own_sequence_number(self) -> int:
+        """The sequence number of this side's next message."""
+        return self._own_next
+
+    def _number(self) -> int:
+        with self._lock:
+            number = self._own_next
+            self._own_next = number + 1 & 2**64 - 1
+            return number
+
+    def _order(self, number: int, message: Optional[bytes] = None, sealed: Optional[bool] = None) -> None:
+        """Takes the number of a message that holds. Replays are told where the client asked for REPLAY or SEQUENCE, gaps where it asked for SEQUENCE."""
+        with self._lock:
+            order = self._window.take(number)
+        told = {Order.REPLAYED, Order.OLD} if self.flags & (ContextFlag.REPLAY | ContextFlag.SEQUENCE) else set()
+        if ContextFlag.SEQUENCE in self.flags:
+            told |= {Order.GAP, Order.OUT_OF_ORDER}
+        if order in told:
+            raise OutOfOrder(order, message, sealed)
+
+    def get_mic(self, message: Octets) -> bytes:
+        """The MIC token of a message of this side's (RFC 4121, 4.2.6.1). Refused: NUMBER (triple DES), MEMORY."""
+        return gss.make_mic(self._key(self._own), self._number(), message)
+
+    def verify_mic(self, message: Octets, token: Octets) -> None:
+        """Returns where the token is a MIC of the other side's over the message, and the next one. Refused: as `krb.gss.verify_mic`.
+
+        OutOfOrder: it holds, but is not the next one, and the client asked that this be told (RFC 2743, 1.2.3)."""
+        self._order(gss.verify_mic(self._key(self._other), message, token))
+
+    def wrap(self, message: Octets, encrypt: bool = True) -> bytes:
+        """The Wrap token of a message of this side's, encrypted or in the clear with a checksum (RFC 4121, 4.2.6.2). Refused: NUMBER (triple DES), MEMORY."""
+        key = self._key(self._own)
+        return gss.wrap(key, self._number(), message) if encrypt else gss.wrap_in_clear(key, self._number(), message)
+
+    def unwrap(self, token: Octets) -> gss.Unwrapped:
+        """What a Wrap token of the other side's held, and whether it was encrypted. Refused: as `krb.gss.unwrap`; OutOfOrder: as `verify_mic`."""
+        found = gss.unwrap(self._key(self._other), token)
+        self._order(found.sequence_number, found.message, found.sealed)
+        return found
+
+
+class Context(Messages):
     """A client that is let in, and the context with it. Any number of threads may use it.
 
     - `client`, `server`: their names as text, "ann@HOME.TEST", "HTTP/www.home.test@HOME.TEST" (RFC 1964, 2.1.3: "/", "@", the backslash and four control
@@ -144,16 +201,11 @@ class Context:
         first = self.sequence_number or 0
         # To a client that gets no AP-REP the service counts from the client's number, as MIT Kerberos and Heimdal do.
         self._own_first = own_sequence_number if self.reply is not None else first
-        self._own_next, self._window, self._lock = self._own_first, SequenceWindow(first), threading.Lock()
+        self._begins(self._own_first, first)
         self._waits = ContextFlag.DCE_STYLE in self.flags and self.reply is not None
 
     def __repr__(self) -> str:
         return "Context(client=%r, server=%r)" % (self.client, self.server)
-
-    @property
-    def own_sequence_number(self) -> int:
-        """The sequence number of the service's next message."""
-        return self._own_next
 
     @property
     def is_complete(self) -> bool:
@@ -185,40 +237,3 @@ class Context:
             raise RuntimeError("the third message of DCE style has not come: confirm takes it")
         key = self.own_subkey or self.subkey or self.session_key
         return gss.TokenKey(key.etype, key.octets, sender, self.own_subkey is not None)
-
-    def _number(self) -> int:
-        with self._lock:
-            number = self._own_next
-            self._own_next = number + 1 & 2**64 - 1
-            return number
-
-    def _order(self, number: int, message: Optional[bytes] = None, sealed: Optional[bool] = None) -> None:
-        """Takes the number of a message that holds. Replays are told where the client asked for REPLAY or SEQUENCE, gaps where it asked for SEQUENCE."""
-        with self._lock:
-            order = self._window.take(number)
-        told = {Order.REPLAYED, Order.OLD} if self.flags & (ContextFlag.REPLAY | ContextFlag.SEQUENCE) else set()
-        if ContextFlag.SEQUENCE in self.flags:
-            told |= {Order.GAP, Order.OUT_OF_ORDER}
-        if order in told:
-            raise OutOfOrder(order, message, sealed)
-
-    def get_mic(self, message: Octets) -> bytes:
-        """The MIC token of a message of the service's (RFC 4121, 4.2.6.1). Refused: NUMBER (triple DES), MEMORY."""
-        return gss.make_mic(self._key(gss.Sender.ACCEPTOR), self._number(), message)
-
-    def verify_mic(self, message: Octets, token: Octets) -> None:
-        """Returns where the token is a MIC of the client's over the message, and the next one. Refused: as `krb.gss.verify_mic`.
-
-        OutOfOrder: it holds, but is not the next one, and the client asked that this be told (RFC 2743, 1.2.3)."""
-        self._order(gss.verify_mic(self._key(gss.Sender.INITIATOR), message, token))
-
-    def wrap(self, message: Octets, encrypt: bool = True) -> bytes:
-        """The Wrap token of a message of the service's, encrypted or in the clear with a checksum (RFC 4121, 4.2.6.2). Refused: NUMBER (triple DES), MEMORY."""
-        key = self._key(gss.Sender.ACCEPTOR)
-        return gss.wrap(key, self._number(), message) if encrypt else gss.wrap_in_clear(key, self._number(), message)
-
-    def unwrap(self, token: Octets) -> gss.Unwrapped:
-        """What a Wrap token of the client's held, and whether it was encrypted. Refused: as `krb.gss.unwrap`; OutOfOrder: as `verify_mic`."""
-        found = gss.unwrap(self._key(gss.Sender.INITIATOR), token)
-        self._order(found.sequence_number, found.message, found.sealed)
-        return found

@@ -1,0 +1,147 @@
+"""Heimdal's KDC: the same first and further tickets, where Debian's packages can be had. They are unpacked into the realm's folder, since Debian keeps them apart from MIT's."""
+
+import glob
+import os
+import subprocess
+import time
+
+import krb
+from checks import expect, say
+from exchanges import listed, refusal
+from realm import PASSWORD, SUITES, free_port
+
+REALM = "HEIM.TEST"
+PACKAGES = (
+    "heimdal-kdc heimdal-clients libasn1-8-heimdal libgssapi3-heimdal libhcrypto5-heimdal libhdb9-heimdal libheimbase1-heimdal libheimntlm0-heimdal "
+    "libhx509-5-heimdal libkadm5clnt7-heimdal libkadm5srv8-heimdal libkafs0-heimdal libkdc2-heimdal libkrb5-26-heimdal libotp0-heimdal libroken19-heimdal "
+    "libsl0-heimdal libwind0-heimdal"
+).split()
+CONFIG = """[libdefaults]
+ default_realm = {realm}
+ dns_lookup_kdc = false
+ dns_canonicalize_hostname = false
+ rdns = false
+[realms]
+ {realm} = {{
+  kdc = 127.0.0.1:{port}
+ }}
+[domain_realm]
+ localhost = {realm}
+[kdc]
+ database = {{
+  dbname = {home}/heimdal-db
+  realm = {realm}
+  mkey_file = {home}/heimdal-key
+  acl_file = {home}/acl
+  log_file = {home}/heimdal-log
+ }}
+[kadmin]
+ default_keys = {keys}
+"""
+RULE = krb.ClientRule
+
+
+def unpacked(realm):
+    """The folder of the packages; None where they cannot be had."""
+    root = realm.path("heimdal-packages")
+    os.mkdir(root)
+    done = subprocess.run(["apt-get", "download", "-qq", *PACKAGES], cwd=root, capture_output=True, timeout=300)
+    for package in glob.glob(os.path.join(root, "*.deb")):
+        subprocess.run(["dpkg", "-x", package, root], check=True)
+    return root if done.returncode == 0 and os.path.exists(os.path.join(root, "usr", "lib", "heimdal-servers", "kdc")) else None
+
+
+class Heimdal:
+    """A realm of Heimdal: carol has keys of all suites, c17 to c20 of one each, dave's time is not asked for under his key; `keytab` has the service's keys, `users` those of carol."""
+
+    def __init__(self, realm, root):
+        self.realm, self.port = realm, free_port()
+        folders = sorted({os.path.dirname(each) for each in glob.glob(os.path.join(root, "usr", "lib", "*", "**", "lib*.so.*"), recursive=True)})
+        self.environment = dict(realm.environment, LD_LIBRARY_PATH=":".join(folders))
+        self.program = lambda *names: os.path.join(root, "usr", *names)
+        self.keytab, self.users = realm.path("heimdal-keytab"), realm.path("heimdal-users")
+        self.kdc = "tcp/127.0.0.1:%d" % self.port
+        self.names = {17: "c17", 18: "c18", 19: "c19", 20: "c20"}
+        self.configure(SUITES)
+        self.mit = dict(realm.environment, KRB5_CONFIG=self.environment["KRB5_CONFIG"])
+
+    def configure(self, suites):
+        keys = " ".join("%s:pw-salt" % SUITES[each] for each in suites)
+        text = CONFIG.format(realm=REALM, port=self.port, home=self.realm.home, keys=keys)
+        self.environment["KRB5_CONFIG"] = self.realm.write("heimdal.conf", text)
+
+    def admin(self, *words):
+        self.realm.run(self.program("bin", "kadmin.heimdal"), "-l", "-c", self.environment["KRB5_CONFIG"], *words, environment=self.environment)
+
+    def begin(self):
+        self.realm.run(self.program("sbin", "kstash"), "--random-key", "--key-file=" + self.realm.path("heimdal-key"), environment=self.environment)
+        self.admin("init", "--realm-max-ticket-life=1day", "--realm-max-renewable-life=2day", REALM)
+        password = "--password=" + PASSWORD
+        self.admin("add", password, "--use-defaults", "--attributes=requires-pre-auth", "carol")
+        self.admin("add", password, "--use-defaults", "dave")
+        self.admin("add", "--random-key", "--use-defaults", "HTTP/localhost")
+        self.admin("ext_keytab", "-k", self.keytab, "HTTP/localhost")
+        self.admin("ext_keytab", "-k", self.users, "carol")
+        for number, name in self.names.items():
+            self.configure([number])
+            self.admin("add", password, "--use-defaults", "--attributes=requires-pre-auth", name)
+        self.configure(SUITES)
+        command = [self.program("lib", "heimdal-servers", "kdc"), "--config-file=" + self.environment["KRB5_CONFIG"], "--ports=%d" % self.port, "--addresses=127.0.0.1"]
+        self.realm.start(command, self.environment, self.port)
+
+
+def try_tickets(realm, heimdal):
+    carol, path = "carol@" + REALM, realm.path("heimdal-cache")
+    udp = heimdal.kdc.replace("tcp/", "udp/")
+    for number, suite in SUITES.items():
+        for client, given in (("%s@%s" % (heimdal.names[number], REALM), {"password": PASSWORD}), (carol, {"password": PASSWORD}), (carol, {"keytab": heimdal.users})):
+            for kdc in (heimdal.kdc, udp):
+                title = "Heimdal, %s, %s, %s, %s" % (client, suite, "".join(given), kdc[:3])
+                got = krb.kinit(client, kdc=kdc, etypes=[number], **given)
+                expect((got.client, got.server, got.session_key.etype) == (client, "krbtgt/%s@%s" % (REALM, REALM), number), "%s: %s" % (title, got))
+                expect(got.is_valid and "initial" in got.flags, "%s: %s" % (title, got.flags))
+        ticket = got.ticket_for("HTTP/localhost", etypes=[number])
+        for mutual in (True, False):
+            initiator = krb.Initiator(ticket, mutual=mutual)
+            context = krb.Acceptor(heimdal.keytab, replay_cache=False, pac="ignored").accept(initiator.token())
+            if mutual:
+                initiator.step(context.reply)
+            expect(context.client == carol and initiator.context is not None, "Heimdal, %s: a service" % suite)
+            expect(context.unwrap(initiator.context.wrap(b"text")).message == b"text", "Heimdal, %s: a message" % suite)
+        got.save(path, ticket)
+        named, found = listed(realm, path)
+        expect(named == carol and found["krbtgt/%s@%s" % (REALM, REALM)]["end"] == got.end_time.timestamp(), "Heimdal, %s: MIT's klist: %s %s" % (suite, named, found))
+        status, out, err = realm.status("kvno", "-c", path, "krbtgt/%s@%s" % (REALM, REALM), environment=heimdal.mit)
+        expect(status == 0, "Heimdal, %s: MIT's kvno: %s" % (suite, err))
+    dave = krb.kinit("dave@" + REALM, PASSWORD, kdc=heimdal.kdc)
+    expect(dave.is_valid, "Heimdal, a user whose time is perhaps not asked for: %s" % dave.flags)
+    say("Heimdal's KDC: tickets of four suites")
+
+
+def try_options(realm, heimdal):
+    carol = "carol@" + REALM
+    got = krb.kinit(carol, PASSWORD, kdc=heimdal.kdc, forwardable=True, proxiable=True, renewable=7200, lifetime=600)
+    expect({"forwardable", "proxiable", "renewable"} <= got.flags and abs(got.end_time.timestamp() - time.time() - 600) < 5, "Heimdal, flags: %s" % got.flags)
+    time.sleep(1.1)
+    renewed = got.renew()
+    expect(renewed.end_time > got.end_time and renewed.ticket_for("HTTP/localhost").is_valid, "Heimdal, renewed: %s" % renewed.end_time)
+    expect({"forwarded", "forwardable"} <= got.forward().flags, "Heimdal, forwarded: %s" % got.forward().flags)
+    for by in (3600, -3600):
+        skewed = krb.kinit(carol, PASSWORD, kdc=heimdal.kdc, clock=lambda: time.time() + by)
+        expect(skewed.offset is not None and abs(skewed.offset + by) <= 2 and skewed.ticket_for("HTTP/localhost").is_valid, "Heimdal, a clock %+d s: %s" % (by, skewed.offset))
+    kdc = heimdal.kdc
+    refusal("Heimdal, an unknown client", lambda: krb.kinit("nobody@" + REALM, PASSWORD, kdc=kdc), RULE.KDC, 6)
+    refusal("Heimdal, another password", lambda: krb.kinit(carol, "another", kdc=kdc), RULE.KDC, 24)
+    refusal("Heimdal, an unknown service", lambda: got.ticket_for("HTTP/nowhere"), RULE.KDC, 7)
+    say("Heimdal's KDC: flags, renewed and forwarded tickets, clocks, refusals")
+
+
+def try_heimdal(realm):
+    root = unpacked(realm)
+    if root is None:
+        say("left out: Heimdal, whose packages cannot be had")
+        return
+    heimdal = Heimdal(realm, root)
+    heimdal.begin()
+    try_tickets(realm, heimdal)
+    try_options(realm, heimdal)

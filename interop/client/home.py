@@ -1,0 +1,91 @@
+"""Two realms of MIT Kerberos on 127.0.0.1, of one KDC: the clients' own one, and one that it refers to."""
+
+import subprocess
+
+from realm import PASSWORD, REALM, SUITES, Realm, free_port
+
+OTHER = "OTHER.TEST"
+CONFIG = """[libdefaults]
+ default_realm = {realm}
+ dns_lookup_kdc = false
+ dns_lookup_realm = false
+ dns_canonicalize_hostname = false
+ rdns = false
+ udp_preference_limit = 1
+[realms]
+ {realm} = {{
+  kdc = 127.0.0.1:{port}
+ }}
+ {other} = {{
+  kdc = 127.0.0.1:{port}
+ }}
+[domain_realm]
+ localhost = {realm}
+ www.other.test = {other}
+"""
+# Users without a ticket, by what the KDC is told of them, and the error that it reports (RFC 4120, 7.5.9).
+REFUSED = {"late": ("-expire \"2020-01-01 00:00:00\"", 1), "locked": ("-allow_tix", 18), "stale": ("-pwexpire \"2020-01-01 00:00:00\"", 23)}
+
+
+class Home(Realm):
+    """`users` is a keytab of users: u17 to u20 of one suite each, whose time the KDC asks for under their key, f17 to f20, whose it does not ask for, and ann of all suites.
+    `granting` is one of the ticket-granting services, and `wrong` one with another key of ann's. At `password_port` passwords are changed, as that of the user changing."""
+
+    def __init__(self, home):
+        super().__init__(home)
+        self.users, self.granting, self.wrong, self.other_keytab = map(self.path, ("users", "granting", "wrong", "other-keytab"))
+        self.write("krb5.conf", CONFIG.format(realm=REALM, other=OTHER, port=self.port))
+        suites = " ".join(name + ":normal" for name in reversed(SUITES.values()))
+        lines = "  database_name = {0}/{1}\n  key_stash_file = {0}/stash-{1}\n  acl_file = {0}/acl\n  supported_enctypes = {2}\n  max_renewable_life = 2d\n"
+        self.password_port, admin = free_port(), "  kadmind_listen = 127.0.0.1:%d\n  kpasswd_listen = 127.0.0.1:%d\n"
+        more = {REALM: admin % (free_port(), self.password_port), OTHER: ""}
+        realms = "".join(" %s = {\n%s%s }\n" % (realm, lines.format(home, realm, suites), more[realm]) for realm in (REALM, OTHER))
+        listen = "[kdcdefaults]\n kdc_listen = 127.0.0.1:{0}\n kdc_tcp_listen = 127.0.0.1:{0}\n".format(self.port)
+        self.write("kdc.conf", listen + "[realms]\n" + realms)
+        self.kdc = "tcp/127.0.0.1:%d" % self.port
+
+    def begin(self):
+        """Makes both databases and the keytabs, and starts the KDC."""
+        for realm in (REALM, OTHER):
+            self.run("kdb5_util", "create", "-s", "-r", realm, "-P", "master")
+            for target in (REALM, OTHER):
+                if target != realm:
+                    self.of(realm, 'addprinc -pw "the key of both" krbtgt/%s@%s' % (target, realm))
+        self.of(OTHER, 'addprinc -pw "the key of both" krbtgt/%s@%s' % (OTHER, REALM), 'addprinc -pw "the key of both" krbtgt/%s@%s' % (REALM, OTHER), quiet=True)
+        self.of(REALM, 'addprinc -pw "the key of both" krbtgt/%s@%s' % (REALM, OTHER), quiet=True)
+        self.of(OTHER, "addprinc -randkey HTTP/www.other.test", "ktadd -norandkey -k %s HTTP/www.other.test" % self.other_keytab)
+        for number, suite in SUITES.items():
+            service = "e%d/localhost" % number
+            self.admin("addprinc -randkey -e %s:normal %s" % (suite, service), "setstr %s session_enctypes %s" % (service, suite))
+            self.admin("ktadd -norandkey -k %s %s" % (self.keytab, service))
+            for user, more in (("u%d" % number, "+requires_preauth"), ("f%d" % number, "")):
+                self.admin('addprinc -pw "%s" %s -e %s:normal %s' % (PASSWORD, more, suite, user), "ktadd -norandkey -k %s %s" % (self.users, user))
+        self.admin("addprinc -randkey HTTP/localhost", "ktadd -norandkey -k %s HTTP/localhost" % self.keytab)
+        self.admin('addprinc -pw "%s" +requires_preauth ann' % PASSWORD, "ktadd -norandkey -k %s ann" % self.users)
+        self.admin('addprinc -pw "%s" bob' % PASSWORD, 'addprinc -pw "%s" "%s"' % (PASSWORD, self.quoted_name()))
+        self.admin('addprinc -pw "%s" +requires_preauth before' % PASSWORD, "renprinc -force before salted")
+        for user, (words, _) in REFUSED.items():
+            self.admin('addprinc -pw "%s" +requires_preauth %s %s' % (PASSWORD, words, user))
+        self.admin("ktadd -norandkey -k %s krbtgt/%s@%s" % (self.granting, REALM, REALM))
+        self.begin_wrong()
+        self.start(["krb5kdc", "-n", "-r", REALM, "-r", OTHER], self.environment, self.port)
+        self.admin('addprinc -pw "%s" +requires_preauth changing' % PASSWORD, "addpol -minlength 8 long", "modprinc -policy long changing")
+        self.start(["kadmind", "-nofork", "-r", REALM], self.environment, self.password_port)
+
+    def begin_wrong(self):
+        """A keytab with a key of ann's that is none, by MIT's ktutil."""
+        text = "addent -password -p ann@%s -k 1 -e %s\nanother password\nwkt %s\nquit\n" % (REALM, SUITES[18], self.wrong)
+        self.run("ktutil", text=text)
+
+    def of(self, realm, *queries, quiet=False):
+        for query in queries:
+            subprocess.run(["kadmin.local", "-r", realm, "-q", query], env=self.environment, capture_output=True, timeout=60, check=not quiet)
+
+    def client_config(self, port, name="relay.conf"):
+        """A krb5.conf of clients that know the KDC at this port alone."""
+        return self.write(name, CONFIG.format(realm=REALM, other=OTHER, port=port))
+
+    def status(self, *command, environment=None, text=""):
+        """The status of a command, its output, and its lines of errors."""
+        done = subprocess.run(command, env=environment or self.environment, input=text, capture_output=True, text=True, timeout=60)
+        return done.returncode, done.stdout, done.stderr

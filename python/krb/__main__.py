@@ -1,0 +1,280 @@
+"""A command line of a client: python -m krb kinit|klist|kvno|kpasswd|kdestroy, with options as those of MIT Kerberos have them."""
+
+import argparse
+import datetime
+import getpass
+import os
+import pwd
+import re
+import sys
+from typing import Callable, Dict, List, Optional
+
+from krb import _ccache
+from krb._configuration import Configuration
+from krb._items import Registry, find_number, name_of
+from krb._names import parsed
+from krb.client import Credentials, Settings, change_password, kinit, load, load_all
+
+# The letters of flags, as klist of MIT Kerberos has them.
+_LETTERS = {1: "F", 2: "f", 3: "P", 4: "p", 5: "D", 6: "d", 7: "i", 8: "R", 9: "I", 10: "A", 11: "H", 12: "T", 13: "O"}
+
+
+class Failed(Exception):
+    """What a command says on its one line of an error."""
+
+
+def duration(text: str) -> int:
+    """Seconds of "10h", "1d12h", "3h30m", "90s", "36000", "10:30" or "10:30:00"."""
+    found = re.fullmatch(r"(?:(\d+)d)?(?:(\d+)h)?(?:(\d+)m)?(?:(\d+)s?)?", text) if text else None
+    if found is None:
+        found = re.fullmatch(r"()(\d+):(\d{1,2})(?::(\d{1,2}))?", text)
+    if found is None:
+        raise argparse.ArgumentTypeError("no duration: %a" % text)
+    days, hours, minutes, seconds = (int(each or 0) for each in found.groups())
+    return ((days * 24 + hours) * 60 + minutes) * 60 + seconds
+
+
+def cache_path(word: Optional[str]) -> str:
+    """The file of tickets: that of -c, of $KRB5CCNAME, or /tmp/krb5cc_UID."""
+    word = word or os.environ.get("KRB5CCNAME") or "/tmp/krb5cc_%d" % os.getuid()
+    kind, colon, path = word.partition(":")
+    if not colon or "/" in kind:
+        return word
+    if kind != "FILE" or not path:
+        raise Failed("%s is no cache in a file" % ascii(word)[1:-1])
+    return path
+
+
+def keytab_path(word: Optional[str]) -> str:
+    """The keytab: that of -t, of $KRB5_KTNAME, or /etc/krb5.keytab."""
+    word = word or os.environ.get("KRB5_KTNAME") or "/etc/krb5.keytab"
+    kind, colon, path = word.partition(":")
+    if not colon or "/" in kind:
+        return word
+    if kind not in ("FILE", "WRFILE") or not path:
+        raise Failed("%s is no keytab in a file" % ascii(word)[1:-1])
+    return path
+
+
+def password_of(file: Optional[str], client: str) -> str:
+    """The password: the first line of a file, or of standard input where that is "-" or no terminal; else it is asked for."""
+    if file is not None and file != "-":
+        with open(file, encoding="utf-8") as opened:
+            line = opened.readline()
+    elif file == "-" or not sys.stdin.isatty():
+        line = sys.stdin.readline()
+    else:
+        return getpass.getpass("Password for %s: " % client)
+    if not line:
+        raise Failed("no password came")
+    return line.rstrip("\r\n")
+
+
+def passwords_of(file: Optional[str], client: str) -> List[str]:
+    """The old and the new password: the first two lines of a file, or of standard input; else they are asked for, the new one twice."""
+    if file is None and sys.stdin.isatty():
+        old, new = (getpass.getpass(text) for text in ("Password for %s: " % client, "Enter new password: "))
+        if getpass.getpass("Enter it again: ") != new:
+            raise Failed("the new passwords differ")
+        return [old, new]
+    if file is not None and file != "-":
+        with open(file, encoding="utf-8") as opened:
+            lines = opened.read().splitlines()
+    else:
+        lines = sys.stdin.read().splitlines()
+    if len(lines) < 2:
+        raise Failed("no two passwords came")
+    return lines[:2]
+
+
+def client_of(options: argparse.Namespace) -> str:
+    """The principal, or the user's name; with its realm, or the default one."""
+    client: str = options.principal or pwd.getpwuid(os.getuid()).pw_name
+    realm = None if "@" in client else Configuration(options.config).default_realm
+    if "@" not in client and realm is None:
+        raise Failed("a principal without a realm, and no default_realm")
+    return client if realm is None else "%s@%s" % (client, realm)
+
+
+def settings_of(options: argparse.Namespace) -> Settings:
+    kdc: Optional[List[str]] = options.kdc or None
+    return Settings(kdc, options.config, options.dns, options.timeout)
+
+
+def tickets_of(path: str, settings: Settings) -> List[Credentials]:
+    try:
+        return load_all(path, settings)
+    except FileNotFoundError:
+        raise Failed("no file of tickets: %s" % path) from None
+
+
+def run_kinit(options: argparse.Namespace) -> int:
+    path, settings = cache_path(options.cache), settings_of(options)
+    if options.renew or options.validate:
+        held = load(path, settings)
+        if options.server is not None:
+            server = parsed(options.server, held.entry.client.realm)
+            held = next((each for each in load_all(path, settings) if each.entry.server.is_same(server)), held)
+            if not held.entry.server.is_same(server):
+                raise Failed("no ticket for %s in %s" % (server.text, path))
+        (held.renew() if options.renew else held.validate()).save(path)
+        return 0
+    client = client_of(options)
+    by_keytab = options.keytab is not None or options.use_keytab
+    keytab = keytab_path(options.keytab) if by_keytab else None
+    password = None if by_keytab else password_of(options.password_file, client)
+    found = kinit(
+        client, password, keytab, kdc=settings.kdc, server=options.server, lifetime=options.lifetime, renewable=options.renewable, forwardable=options.forwardable,
+        proxiable=options.proxiable, start=options.start, timeout=options.timeout, configuration=options.config, dns=options.dns,
+    )
+    found.save(path)
+    return 0
+
+
+def shown(time: Optional[datetime.datetime]) -> str:
+    return "" if time is None else time.astimezone().strftime("%Y-%m-%d %H:%M:%S")
+
+
+def etype_of(number: int) -> str:
+    return name_of(Registry.ENCRYPTION_TYPE, number) or "etype %d" % number
+
+
+def printable(text: str) -> str:
+    """A name for a terminal, which obeys control characters."""
+    return "".join(each if " " <= each <= "~" else "\\x%02x" % ord(each) for each in text)
+
+
+def run_klist(options: argparse.Namespace) -> int:
+    path = cache_path(options.cache)
+    if options.silent:
+        try:
+            return 0 if load(path).is_valid else 1
+        except (OSError, ValueError, LookupError):
+            return 1
+    found = tickets_of(path, Settings())
+    print("Ticket cache: FILE:%s" % path)
+    print("Default principal: %s\n" % printable(_ccache.read(path).client.text))
+    print("%-19s  %-19s  %s" % ("Valid starting", "Expires", "Service principal"))
+    for each in found:
+        print("%-19s  %-19s  %s" % (shown(each.start_time), shown(each.end_time), printable(each.server)))
+        letters = "".join(letter for number, letter in _LETTERS.items() if each.has_flag(number))
+        words = ["renew until " + shown(each.renew_till)] if each.renew_till else []
+        words += ["Flags: " + letters] if options.flags else []
+        if words:
+            print("\t" + ", ".join(words))
+        if options.etypes:
+            ticket_etype = find_number(each.ticket, "Ticket", "enc-part.etype")
+            print("\tEtype (skey, tkt): %s, %s" % (etype_of(each.session_key.etype), etype_of(ticket_etype)))
+    return 0
+
+
+def run_kvno(options: argparse.Namespace) -> int:
+    path, settings = cache_path(options.cache), settings_of(options)
+    held = load(path, settings)
+    failed = False
+    for word in options.services:
+        server = parsed(word, held.entry.client.realm)
+        cache = _ccache.read(path)
+        found = next((each for each in cache.entries if each.server.is_same(server) and each.client.is_same(held.entry.client)), None)
+        if found is None or found.end_time <= settings.clock() + (cache.offset or 0):
+            try:
+                got = held.ticket_for(server.text, realms=options.realm)
+            except (OSError, ValueError) as error:
+                print("kvno: %s: %s" % (printable(server.text), printable(" ".join(str(error).split()))), file=sys.stderr)
+                failed = True
+                continue
+            found = got.entry
+            others = tuple(each for each in cache.entries if each.is_setting or not each.server.is_same(server))
+            _ccache.write(path, cache._replace(entries=others + (found,)))
+        print("%s: kvno = %d" % (printable(server.text), find_number(found.ticket, "Ticket", "enc-part.kvno")))
+    return 1 if failed else 0
+
+
+def run_kpasswd(options: argparse.Namespace) -> int:
+    client = client_of(options)
+    old, new = passwords_of(options.password_file, client)
+    change_password(client, old, new, options.kdc or None, options.server or None, timeout=options.timeout, configuration=options.config, dns=options.dns)
+    print("The password is changed.")
+    return 0
+
+
+def run_kdestroy(options: argparse.Namespace) -> int:
+    path = cache_path(options.cache)
+    try:
+        os.unlink(path)
+    except FileNotFoundError:
+        raise Failed("no file of tickets: %s" % path) from None
+    return 0
+
+
+def add_ways(parser: argparse.ArgumentParser) -> None:
+    """How KDCs are reached."""
+    words = "HOST[:PORT], with tcp/ or udp/ before it over this alone, or https://HOST[:PORT]/PATH of a KDC proxy; may be given more than once"
+    parser.add_argument("--kdc", action="append", metavar="KDC", help=words)
+    parser.add_argument("--config", metavar="FILE", help="krb5.conf; else $KRB5_CONFIG or /etc/krb5.conf")
+    parser.add_argument("--dns", action="store_true", help="ask DNS for the KDCs of a realm of which the file has none")
+    parser.add_argument("--timeout", type=float, default=10.0, metavar="SECONDS", help="how long one KDC has for a reply (10)")
+
+
+def parser_of() -> argparse.ArgumentParser:
+    parser = argparse.ArgumentParser(prog="python -m krb", description="A client of Kerberos. What is sent, and which reply is taken, a proved library decides.")
+    commands = parser.add_subparsers(dest="command", required=True, metavar="COMMAND")
+
+    def command(name: str, about: str, has_cache: bool = True) -> argparse.ArgumentParser:
+        added = commands.add_parser(name, help=about, description=about[0].upper() + about[1:] + ".")
+        if not has_cache:
+            return added
+        added.add_argument("-c", dest="cache", metavar="CACHE", help="the file of tickets; else $KRB5CCNAME or /tmp/krb5cc_UID")
+        return added
+
+    first = command("kinit", "get a first ticket, by a password or a keytab")
+    first.add_argument("-k", dest="use_keytab", action="store_true", help="by the keytab, and no password")
+    first.add_argument("-t", dest="keytab", metavar="KEYTAB", help="the keytab; else $KRB5_KTNAME or /etc/krb5.keytab")
+    first.add_argument("-l", dest="lifetime", type=duration, metavar="LIFETIME", help="as 10h, 1d or 3h30m; else as long as the KDC allows")
+    first.add_argument("-r", dest="renewable", type=duration, metavar="LIFETIME", help="how long it may be renewed")
+    first.add_argument("-s", dest="start", type=duration, metavar="DURATION", help="from when on it is to be valid: a postdated ticket")
+    first.add_argument("-f", dest="forwardable", action="store_true", help="a forwardable ticket")
+    first.add_argument("-p", dest="proxiable", action="store_true", help="a proxiable ticket")
+    first.add_argument("-S", dest="server", metavar="SERVICE", help="for another service than the ticket-granting one")
+    first.add_argument("-R", dest="renew", action="store_true", help="renew the ticket of the file")
+    first.add_argument("-v", dest="validate", action="store_true", help="validate the postdated ticket of the file")
+    first.add_argument("--password-file", metavar="FILE", help="its first line is the password; - is standard input")
+    add_ways(first)
+    first.add_argument("principal", nargs="?", help="as carol@HOME.TEST; else the user's name in the default realm")
+    listed = command("klist", "list the tickets of a file")
+    listed.add_argument("-e", dest="etypes", action="store_true", help="with encryption types")
+    listed.add_argument("-f", dest="flags", action="store_true", help="with flags")
+    listed.add_argument("-s", dest="silent", action="store_true", help="write nothing; the status is 0 where there is a ticket-granting ticket that has not ended")
+    further = command("kvno", "get tickets for services by the ticket of the file, and tell the versions of their keys")
+    add_ways(further)
+    further.add_argument("--realm", action="append", default=[], metavar="REALM", help="another realm to which a KDC may refer; may be given more than once")
+    further.add_argument("services", nargs="+", metavar="SERVICE")
+    changed = command("kpasswd", "change a password", has_cache=False)
+    words = "the server that changes passwords, as --kdc; else kpasswd_server of krb5.conf, or the hosts of its KDCs"
+    changed.add_argument("--server", action="append", metavar="SERVER", help=words)
+    changed.add_argument("--password-file", metavar="FILE", help="its first two lines are the old and the new password; - is standard input")
+    add_ways(changed)
+    changed.add_argument("principal", nargs="?", help="as carol@HOME.TEST; else the user's name in the default realm")
+    command("kdestroy", "remove the file of tickets")
+    return parser
+
+
+COMMANDS: Dict[str, Callable[[argparse.Namespace], int]] = {
+    "kinit": run_kinit, "klist": run_klist, "kvno": run_kvno, "kpasswd": run_kpasswd, "kdestroy": run_kdestroy,
+}
+
+
+def main(words: Optional[List[str]] = None) -> int:
+    options = parser_of().parse_args(words)
+    try:
+        return COMMANDS[options.command](options)
+    except (Failed, OSError, ValueError, LookupError) as error:
+        text = error.strerror + ": " + str(error.filename) if isinstance(error, OSError) and error.strerror and error.filename else str(error)
+        print("%s: %s" % (options.command, printable(" ".join(text.split()))), file=sys.stderr)
+        return 1
+    except KeyboardInterrupt:
+        return 1
+
+
+if __name__ == "__main__":
+    sys.exit(main())

@@ -1,0 +1,314 @@
+"""The calls of the library that decide what a client sends and what it takes (RFC 4120, 3.1 to 3.3; krb.h)."""
+
+import ctypes
+import enum
+import math
+import secrets
+from typing import Any, Callable, Iterable, List, NamedTuple, Optional, Tuple
+
+from krb._context import EncryptionKey, Place
+from krb._items import Registry, name_of
+from krb._library import Refused, Status, _library, _unsigned
+from krb._names import Name
+
+__all__ = ["ClientRule", "NotGranted"]
+
+
+class ClientRule(enum.IntEnum):
+    """Why no ticket is taken, or no request made, with the numbers of krb.h (docs/CLIENT.md). `NONE` is of no refusal."""
+
+    NONE = 0
+    OTHER_MESSAGE = 1
+    MESSAGE = 2
+    PVNO = 3
+    MSG_TYPE = 4
+    OPENING = 5
+    CLIENT = 6
+    TICKET_VERSION = 7
+    TICKET = 8
+    UNASKED = 9
+    ENCRYPTION_TYPE = 10
+    NONCE = 11
+    SERVER = 12
+    SESSION_KEY = 13
+    START = 14
+    END = 15
+    RENEW_TILL = 16
+    FLAGS = 17
+    ADDRESSES = 18
+    TIME = 19
+    METHOD_DATA = 20
+    NO_INFO = 21
+    INFO = 22
+    NO_SUITE = 23
+    NO_KEY = 24
+    PASSWORD_SUITE = 25
+    PARAMETERS = 26
+    ITERATIONS = 27
+    KDC = 28
+    REQUEST_NONCE = 29
+    REQUEST_OPTION = 30
+    REQUEST_MICROSECONDS = 31
+    REQUEST_TIME = 32
+    REQUEST_DELEGATION = 33
+    REQUEST_SUBKEY = 34
+    REQUEST_CONFOUNDER = 35
+    REQUEST_KEY = 36
+
+
+_TEXTS = {
+    ClientRule.NONE: "no rule",
+    ClientRule.OTHER_MESSAGE: "the message is not one that the exchange waits for",
+    ClientRule.MESSAGE: "the octets are not the one encoding of the message",
+    ClientRule.PVNO: "the protocol version is not 5",
+    ClientRule.MSG_TYPE: "the message type is that of another message",
+    ClientRule.OPENING: "the key does not open the reply, as where a password is wrong",
+    ClientRule.CLIENT: "the reply names another client than asked",
+    ClientRule.TICKET_VERSION: "the version of the ticket is not 5",
+    ClientRule.TICKET: "the ticket is for another server than was asked for",
+    ClientRule.UNASKED: "the reply is under an encryption type that was not asked for",
+    ClientRule.ENCRYPTION_TYPE: "the reply is under another encryption type than the key's",
+    ClientRule.NONCE: "the reply is to another request",
+    ClientRule.SERVER: "the reply names another server than was asked for",
+    ClientRule.SESSION_KEY: "the session key is of an encryption type that was not asked for",
+    ClientRule.START: "the ticket does not start when it was asked for, or the clocks differ by more than the skew",
+    ClientRule.END: "the ticket ends later than was asked for, or before it starts",
+    ClientRule.RENEW_TILL: "the ticket is renewable for longer than was asked for, or without saying that it is",
+    ClientRule.FLAGS: "the ticket has a flag that was not asked for",
+    ClientRule.ADDRESSES: "the ticket is for addresses",
+    ClientRule.TIME: "the reply does not have the time that was sent",
+    ClientRule.METHOD_DATA: "the KDC's data of pre-authentication are no encoding",
+    ClientRule.NO_INFO: "the KDC does not tell of the client's keys",
+    ClientRule.INFO: "what the KDC tells of the client's keys is no encoding",
+    ClientRule.NO_SUITE: "the KDC has no key of the client's under an encryption type that was asked for",
+    ClientRule.NO_KEY: "the keytab has no key of the client's of the encryption type",
+    ClientRule.PASSWORD_SUITE: "no password becomes a key of the encryption type",
+    ClientRule.PARAMETERS: "the KDC's parameters for the key of a password are not four octets",
+    ClientRule.ITERATIONS: "the KDC asks for fewer or more iterations for the key of a password than are taken",
+    ClientRule.KDC: "the KDC reports an error",
+    ClientRule.REQUEST_NONCE: "the nonce is 2^31 or more",
+    ClientRule.REQUEST_OPTION: "an option has another number than 0 to 31",
+    ClientRule.REQUEST_MICROSECONDS: "the microseconds are not 0 to 999999",
+    ClientRule.REQUEST_TIME: "a time is before the year 0 or past 9999",
+    ClientRule.REQUEST_DELEGATION: "credentials are not delegated",
+    ClientRule.REQUEST_SUBKEY: "the subkey is of another size than its encryption type's",
+    ClientRule.REQUEST_CONFOUNDER: "the confounder is of another size than the encryption type's",
+    ClientRule.REQUEST_KEY: "the key is of another size than its encryption type's",
+}
+
+
+class NotGranted(Refused):
+    """There is no ticket, or a service does not confirm itself.
+
+    - `rule`: the first rule that the reply breaks, or why no request is made.
+    - `code`: of the rule KDC the error's code (RFC 4120, 7.5.9), which nobody vouches for; else 0. `error`: what it is called, as "KDC_ERR_C_PRINCIPAL_UNKNOWN"."""
+
+    rule: ClientRule
+    code: int
+
+    def __init__(self, rule: int, code: int = 0, who: str = "the KDC") -> None:
+        super().__init__(Status.NOT_GRANTED)
+        self.rule, self.code, self._who = ClientRule(rule), code, who
+        text = _TEXTS[self.rule]
+        if self.rule == ClientRule.KDC:
+            text = "%s reports %s (%d)" % (who, self.error or "an error", code)
+        self.args = ("%s: %s" % (self.rule.name, text),)
+
+    @property
+    def error(self) -> Optional[str]:
+        """What the standards call the error of the rule KDC; None of another rule, and where they name no such code."""
+        return name_of(Registry.ERROR_CODE, self.code) if self.rule == ClientRule.KDC else None
+
+    def __reduce__(self) -> Any:
+        return NotGranted, (int(self.rule), self.code, self._who)
+
+
+class Follows(enum.IntEnum):
+    """What follows on a message (krb.h)."""
+
+    NOTHING = 0
+    SENDS = 1
+    WAITS = 2
+    GRANTED = 3
+
+
+class _Terms(ctypes.Structure):
+    """krb_client_terms of krb.h."""
+
+    _fields_ = [(name, ctypes.c_int64) for name in ("seconds", "start", "till", "rtime")] + [
+        (name, ctypes.c_uint32) for name in ("microseconds", "nonce", "skew", "least", "most", "client_type", "server_type", "settings")
+    ]
+
+
+class _State(ctypes.Structure):
+    """krb_exchange of krb.h."""
+
+    _fields_ = [("offset", ctypes.c_int64)] + [(name, ctypes.c_uint32) for name in ("has_offset", "nonce")] + [("etype", ctypes.c_int32), ("key", ctypes.c_uint8 * 32)]
+
+
+class _Followed(ctypes.Structure):
+    """krb_followed of krb.h."""
+
+    _fields_ = [(name, Place) for name in ("ticket", "part")] + [(name, ctypes.c_uint32) for name in ("follows", "rule", "code")]
+
+
+class _ApTerms(ctypes.Structure):
+    """krb_ap_terms of krb.h."""
+
+    _fields_ = [("seconds", ctypes.c_int64)] + [
+        (name, ctypes.c_uint32) for name in ("microseconds", "client_type", "sequence_number", "gss_flags", "settings")
+    ] + [("session_etype", ctypes.c_int32)]
+
+
+_FROM, _RTIME, _DATAGRAMS = 1, 2, 4  # KRB_CLIENT_.. of krb.h
+AP_SEQUENCE, AP_GSS, AP_MUTUAL = 1, 2, 4  # KRB_AP_.. of krb.h
+_RANDOM = 16
+_OCTETS: List[Any] = [ctypes.c_char_p, ctypes.c_size_t]
+_SIZE = ctypes.POINTER(ctypes.c_size_t)
+_OUT: List[Any] = [ctypes.c_void_p, ctypes.c_size_t, _SIZE]
+_WANTED: List[Any] = [ctypes.POINTER(_Terms), ctypes.c_void_p, ctypes.c_size_t, ctypes.c_void_p, ctypes.c_size_t, ctypes.c_void_p, ctypes.c_size_t] + _OCTETS * 2
+_ENDS: List[Any] = [ctypes.POINTER(_State), ctypes.POINTER(_Followed)] + _OUT
+_initial, _ticket = _library.krb_client_initial, _library.krb_client_ticket
+_ap_request, _ap_reply = _library.krb_client_ap_request, _library.krb_client_ap_reply
+_initial.argtypes = _WANTED + _OCTETS * 4 + _ENDS
+_ticket.argtypes = _WANTED + _OCTETS + [ctypes.c_int32] + _OCTETS * 4 + _ENDS
+_RULE = ctypes.POINTER(ctypes.c_uint32)
+_ap_request.argtypes = [ctypes.POINTER(_ApTerms)] + _OCTETS * 6 + [_RULE] + _OUT
+_ap_reply.argtypes = [ctypes.c_int32] + _OCTETS + [ctypes.c_int64, ctypes.c_uint32] + _OCTETS + [_RULE] + _OUT
+for _call in (_initial, _ticket, _ap_request, _ap_reply):
+    _call.restype = ctypes.c_uint32
+
+
+def moment(clock: Callable[[], float], offset: int = 0) -> Tuple[int, int]:
+    """The seconds and the microseconds of a clock, so many seconds ahead."""
+    now = clock()
+    seconds = math.floor(now)
+    return seconds + offset, min(int((now - seconds) * 1000000), 999999)
+
+
+class Wanted(NamedTuple):
+    """What an exchange asks for: `options` and `flags` are numbers (RFC 4120, 5.4.1 and 5.3), times seconds since 1970 in UTC, None for what is not asked for."""
+
+    client: Name
+    server: Name
+    etypes: Tuple[int, ...]
+    options: Tuple[int, ...] = ()
+    flags: Tuple[int, ...] = ()
+    start: Optional[int] = None
+    till: int = 0
+    rtime: Optional[int] = None
+
+
+class Limits(NamedTuple):
+    """By how many seconds clocks may differ, and how many iterations are taken for the key of a password."""
+
+    skew: int = 300
+    least: int = 4096
+    most: int = 2**20
+
+
+class Answer(NamedTuple):
+    """What follows on a message: of SENDS the octets for the KDC, of GRANTED the encodings of the ticket and of its part."""
+
+    follows: Follows
+    octets: bytes
+    ticket: bytes
+    part: bytes
+
+
+def _passed(octets: bytes) -> List[Any]:
+    return [octets, len(octets)]
+
+
+def _array(kind: Any, numbers: Iterable[int]) -> List[Any]:
+    """An array and its count; of numbers that the kind has not, ctypes would cut."""
+    listed = list(numbers)
+    if any(not 0 <= each < 2**31 for each in listed):
+        raise Refused(Status.NUMBER)
+    return [(kind * len(listed))(*listed), len(listed)]
+
+
+class Exchange:
+    """An exchange with a KDC, by a password, by a keytab or by a ticket: `step` takes what came, and says what follows. All that is decided in it the library decides."""
+
+    def __init__(
+        self, wanted: Wanted, limits: Limits, clock: Callable[[], float], password: bytes = b"", keytab: bytes = b"", ticket: bytes = b"",
+        session_key: Optional[EncryptionKey] = None, offset: Optional[int] = None,
+    ) -> None:
+        self.wanted, self._limits, self._clock = wanted, Limits(*(_unsigned(each, 32) for each in limits)), clock
+        self._state = _State(offset=offset or 0, has_offset=offset is not None)
+        if session_key is None:
+            self._call, self._by = _initial, _passed(password) + _passed(keytab)
+        else:
+            subkey = secrets.token_bytes(len(session_key.octets))
+            self._call, self._by = _ticket, _passed(ticket) + [session_key.etype] + _passed(session_key.octets) + _passed(subkey)
+
+    @property
+    def offset(self) -> Optional[int]:
+        """By how many seconds the KDC's time is ahead, as an error of its own, or one before, told; else None."""
+        return int(self._state.offset) if self._state.has_offset else None
+
+    def begin(self) -> Answer:
+        """The first request. NotGranted; Refused: INVALID, NUMBER, KEYTAB, MEMORY."""
+        return self._stepped(b"", False)
+
+    def step(self, message: bytes, is_datagram: bool = False) -> Answer:
+        """What follows on a message of the KDC's. Raises as `begin`, and then the exchange is as it was."""
+        if not message:  # no octets would begin anew
+            raise NotGranted(ClientRule.OTHER_MESSAGE)
+        return self._stepped(message, is_datagram)
+
+    def _stepped(self, message: bytes, is_datagram: bool) -> Answer:
+        wanted, limits = self.wanted, self._limits
+        seconds, microseconds = moment(self._clock)
+        settings = (wanted.start is not None and _FROM) | (wanted.rtime is not None and _RTIME) | (is_datagram and _DATAGRAMS)
+        nonce = secrets.randbelow(2**31)
+        types = wanted.client.name_type, wanted.server.name_type
+        terms = _Terms(seconds, wanted.start or 0, wanted.till, wanted.rtime or 0, microseconds, nonce, *limits, *types, settings)
+        given = _array(ctypes.c_size_t, wanted.options) + _array(ctypes.c_size_t, wanted.flags) + _array(ctypes.c_int32, wanted.etypes)
+        given += _passed(wanted.client.octets) + _passed(wanted.server.octets) + self._by + _passed(secrets.token_bytes(_RANDOM)) + _passed(message)
+        followed, size, room = _Followed(), ctypes.c_size_t(), 2 * len(message) + 2048
+        while True:
+            out = ctypes.create_string_buffer(room)
+            told = ctypes.byref(self._state), ctypes.byref(followed), out, room, ctypes.byref(size)
+            status = self._call(ctypes.byref(terms), *given, *told)
+            if status != Status.ROOM or size.value <= room:
+                break
+            room = size.value
+        if status == Status.NOT_GRANTED:
+            raise NotGranted(followed.rule, followed.code)
+        if status != Status.DONE:
+            raise Refused(status)
+        octets = out.raw[: size.value]
+        ticket, part = (octets[place.offset : place.offset + place.size] for place in (followed.ticket, followed.part))
+        return Answer(Follows(followed.follows), octets, ticket, part)
+
+
+def _octets(call: Any, room: int, *given: Any) -> bytes:
+    """The octets that a call of an AP-REQ or an AP-REP answers."""
+    rule, size = ctypes.c_uint32(), ctypes.c_size_t()
+    while True:
+        out = ctypes.create_string_buffer(room)
+        status = call(*given, ctypes.byref(rule), out, room, ctypes.byref(size))
+        if status == Status.DONE:
+            return out.raw[: size.value]
+        if status == Status.NOT_GRANTED:
+            raise NotGranted(rule.value)
+        if status != Status.ROOM or size.value <= room:
+            raise Refused(status)
+        room = size.value
+
+
+def ap_request(
+    time: Tuple[int, int], client: Name, ticket: bytes, session_key: EncryptionKey, subkey: bytes, sequence_number: int, settings: int, gss_flags: int = 0,
+    bindings: bytes = b"",
+) -> bytes:
+    """The AP-REQ for a service (RFC 4120, 3.2.2); `settings` are AP_.., added, `bindings` 16 octets or none. NotGranted; Refused: INVALID, NUMBER, SEED_SIZE, MEMORY."""
+    terms = _ApTerms(*time, client.name_type, sequence_number, gss_flags, settings, session_key.etype)
+    given = [each for octets in (client.octets, ticket, session_key.octets, subkey, bindings, secrets.token_bytes(_RANDOM)) for each in _passed(octets)]
+    return _octets(_ap_request, len(ticket) + 2048, ctypes.byref(terms), *given)
+
+
+def ap_reply(session_key: EncryptionKey, time: Tuple[int, int], reply: bytes) -> bytes:
+    """The EncAPRepPart of an AP-REP that confirms the service (RFC 4120, 3.2.5). NotGranted; Refused: NUMBER, MEMORY."""
+    return _octets(_ap_reply, len(reply) + 64, session_key.etype, *_passed(session_key.octets), *time, *_passed(reply))
