@@ -54,6 +54,9 @@ class ClientRule(enum.IntEnum):
     REQUEST_SUBKEY = 34
     REQUEST_CONFOUNDER = 35
     REQUEST_KEY = 36
+    UNAUTHENTICATED = 37
+    NO_CHECKSUM = 38
+    CHECKSUM = 39
 
 
 _TEXTS = {
@@ -94,6 +97,9 @@ _TEXTS = {
     ClientRule.REQUEST_SUBKEY: "the subkey is of another size than its encryption type's",
     ClientRule.REQUEST_CONFOUNDER: "the confounder is of another size than the encryption type's",
     ClientRule.REQUEST_KEY: "the key is of another size than its encryption type's",
+    ClientRule.UNAUTHENTICATED: "the reply renames, and the request had no pre-authentication",
+    ClientRule.NO_CHECKSUM: "the reply renames, and has no checksum of the request",
+    ClientRule.CHECKSUM: "the reply renames, and its checksum is not that of the request",
 }
 
 
@@ -160,7 +166,7 @@ class _ApTerms(ctypes.Structure):
     ] + [("session_etype", ctypes.c_int32)]
 
 
-_FROM, _RTIME, _DATAGRAMS = 1, 2, 4  # KRB_CLIENT_.. of krb.h
+_FROM, _RTIME, _DATAGRAMS, _CANONICALIZE = 1, 2, 4, 8  # KRB_CLIENT_.. of krb.h
 AP_SEQUENCE, AP_GSS, AP_MUTUAL = 1, 2, 4  # KRB_AP_.. of krb.h
 _RANDOM = 16
 _OCTETS: List[Any] = [ctypes.c_char_p, ctypes.c_size_t]
@@ -168,14 +174,15 @@ _SIZE = ctypes.POINTER(ctypes.c_size_t)
 _OUT: List[Any] = [ctypes.c_void_p, ctypes.c_size_t, _SIZE]
 _WANTED: List[Any] = [ctypes.POINTER(_Terms), ctypes.c_void_p, ctypes.c_size_t, ctypes.c_void_p, ctypes.c_size_t, ctypes.c_void_p, ctypes.c_size_t] + _OCTETS * 2
 _ENDS: List[Any] = [ctypes.POINTER(_State), ctypes.POINTER(_Followed)] + _OUT
-_initial, _ticket = _library.krb_client_initial, _library.krb_client_ticket
+_initial, _ticket, _renamed = _library.krb_client_initial, _library.krb_client_ticket, _library.krb_client_renamed
 _ap_request, _ap_reply = _library.krb_client_ap_request, _library.krb_client_ap_reply
 _initial.argtypes = _WANTED + _OCTETS * 4 + _ENDS
 _ticket.argtypes = _WANTED + _OCTETS + [ctypes.c_int32] + _OCTETS * 4 + _ENDS
+_renamed.argtypes = _WANTED[:1] + _WANTED[3:] + _OCTETS * 2 + _ENDS
 _RULE = ctypes.POINTER(ctypes.c_uint32)
 _ap_request.argtypes = [ctypes.POINTER(_ApTerms)] + _OCTETS * 6 + [_RULE] + _OUT
 _ap_reply.argtypes = [ctypes.c_int32] + _OCTETS + [ctypes.c_int64, ctypes.c_uint32] + _OCTETS + [_RULE] + _OUT
-for _call in (_initial, _ticket, _ap_request, _ap_reply):
+for _call in (_initial, _ticket, _renamed, _ap_request, _ap_reply):
     _call.restype = ctypes.c_uint32
 
 
@@ -187,7 +194,8 @@ def moment(clock: Callable[[], float], offset: int = 0) -> Tuple[int, int]:
 
 
 class Wanted(NamedTuple):
-    """What an exchange asks for: `options` and `flags` are numbers (RFC 4120, 5.4.1 and 5.3), times seconds since 1970 in UTC, None for what is not asked for."""
+    """What an exchange asks for: `options` and `flags` are numbers (RFC 4120, 5.4.1 and 5.3), times seconds since 1970 in UTC, None for what is not asked for.
+    `canonicalize`: whether a first ticket's request asks that the reply have its checksum, by which it may rename (RFC 6806, 11)."""
 
     client: Name
     server: Name
@@ -197,6 +205,7 @@ class Wanted(NamedTuple):
     start: Optional[int] = None
     till: int = 0
     rtime: Optional[int] = None
+    canonicalize: bool = False
 
 
 class Limits(NamedTuple):
@@ -236,6 +245,7 @@ class Exchange:
         session_key: Optional[EncryptionKey] = None, offset: Optional[int] = None,
     ) -> None:
         self.wanted, self._limits, self._clock = wanted, Limits(*(_unsigned(each, 32) for each in limits)), clock
+        self._request = b""
         self._state = _State(offset=offset or 0, has_offset=offset is not None)
         if session_key is None:
             self._call, self._by = _initial, _passed(password) + _passed(keytab)
@@ -258,20 +268,37 @@ class Exchange:
             raise NotGranted(ClientRule.OTHER_MESSAGE)
         return self._stepped(message, is_datagram)
 
-    def _stepped(self, message: bytes, is_datagram: bool) -> Answer:
-        wanted, limits = self.wanted, self._limits
+    def renamed(self, message: bytes) -> Answer:
+        """What a reply grants that names another client or server, under `wanted`, which has its names by now (RFC 6806, 6 and 11). Raises as `begin`."""
+        wanted = self.wanted
+        given = _array(ctypes.c_size_t, wanted.flags) + _array(ctypes.c_int32, wanted.etypes)
+        given += _passed(wanted.client.octets) + _passed(wanted.server.octets) + _passed(self._request) + _passed(message)
+        return self._answered(_renamed, self._terms(False), given, len(message))
+
+    def _terms(self, is_datagram: bool) -> _Terms:
+        wanted = self.wanted
         seconds, microseconds = moment(self._clock)
         settings = (wanted.start is not None and _FROM) | (wanted.rtime is not None and _RTIME) | (is_datagram and _DATAGRAMS)
-        nonce = secrets.randbelow(2**31)
+        settings |= wanted.canonicalize and _CANONICALIZE
         types = wanted.client.name_type, wanted.server.name_type
-        terms = _Terms(seconds, wanted.start or 0, wanted.till, wanted.rtime or 0, microseconds, nonce, *limits, *types, settings)
+        nonce = secrets.randbelow(2**31)
+        return _Terms(seconds, wanted.start or 0, wanted.till, wanted.rtime or 0, microseconds, nonce, *self._limits, *types, settings)
+
+    def _stepped(self, message: bytes, is_datagram: bool) -> Answer:
+        wanted = self.wanted
         given = _array(ctypes.c_size_t, wanted.options) + _array(ctypes.c_size_t, wanted.flags) + _array(ctypes.c_int32, wanted.etypes)
         given += _passed(wanted.client.octets) + _passed(wanted.server.octets) + self._by + _passed(secrets.token_bytes(_RANDOM)) + _passed(message)
-        followed, size, room = _Followed(), ctypes.c_size_t(), 2 * len(message) + 2048
+        answer = self._answered(self._call, self._terms(is_datagram), given, len(message))
+        if answer.follows == Follows.SENDS:
+            self._request = answer.octets
+        return answer
+
+    def _answered(self, call: Any, terms: _Terms, given: List[Any], size_of_message: int) -> Answer:
+        followed, size, room = _Followed(), ctypes.c_size_t(), 2 * size_of_message + 2048
         while True:
             out = ctypes.create_string_buffer(room)
             told = ctypes.byref(self._state), ctypes.byref(followed), out, room, ctypes.byref(size)
-            status = self._call(ctypes.byref(terms), *given, *told)
+            status = call(ctypes.byref(terms), *given, *told)
             if status != Status.ROOM or size.value <= room:
                 break
             room = size.value

@@ -15,7 +15,7 @@ from krb._initiator import Initiator, InitiatorContext, KerberosInitiator
 from krb._items import Registry, Secret, _flags, plain
 from krb._kdc import KdcUnreachable, Kdcs, Named
 from krb._library import Octets
-from krb._names import Name, parsed, service_type, ticket_granting
+from krb._names import PRINCIPAL, Name, parsed, service_type, ticket_granting
 from krb._password import PasswordNotChanged, change_password
 from krb._parts import decode, find
 
@@ -92,13 +92,28 @@ def _granted(client: Name, ticket: bytes, part: bytes) -> Entry:
     return Entry(client, server, key, auth_time, start_time, _seconds(fields["endtime"]), renew_till, flags, ticket)
 
 
+# The rules that a reply breaks that renames the client or the server.
+_RENAMES = ClientRule.CLIENT, ClientRule.TICKET, ClientRule.SERVER
+
+
+def _renamed_to(wanted: Wanted, message: bytes) -> Wanted:
+    """What is asked for, by the names of an AS-REP."""
+    reply = decode(message, "AS-REP")
+    client = Name(reply["crealm"], tuple(reply["cname"]["name-string"]), reply["cname"]["name-type"])
+    server = Name(reply["ticket"]["realm"], tuple(reply["ticket"]["sname"]["name-string"]), reply["ticket"]["sname"]["name-type"])
+    return wanted._replace(client=client, server=server)
+
+
 def _run(exchange: Exchange, kdcs: Kdcs, realm: str, may_refer: Callable[[bytes], Optional[Name]] = lambda _: None) -> Entry:
-    """What a realm's KDCs grant at the end of an exchange. A reply for another server is taken where `may_refer` says for which."""
+    """What a realm's KDCs grant at the end of an exchange. A reply for another server is taken where `may_refer` says for which, one that renames where that is asked for."""
 
     def take(message: bytes, is_datagram: bool) -> Answer:
         try:
             return exchange.step(message, is_datagram)
         except NotGranted as refused:
+            if exchange.wanted.canonicalize and refused.rule in _RENAMES:
+                exchange.wanted = _renamed_to(exchange.wanted, message)
+                return exchange.renamed(message)
             other = may_refer(message) if refused.rule == ClientRule.TICKET else None
             if other is None:
                 raise
@@ -226,7 +241,7 @@ def kinit(
     client: str, password: Union[str, Octets, None] = None, keytab: Union[Path, Octets, None] = None, kdc: Named = None, *, server: Optional[str] = None,
     lifetime: Optional[Time] = None, renewable: Optional[Time] = None, forwardable: bool = False, proxiable: bool = False, start: Optional[Time] = None,
     etypes: Sequence[int] = ETYPES, skew: int = 300, least: int = 4096, most: int = 2**20, timeout: float = 10.0, configuration: Optional[str] = None,
-    dns: Union[bool, str] = False, clock: Callable[[], float] = time.time,
+    dns: Union[bool, str] = False, clock: Callable[[], float] = time.time, canonicalize: bool = False, client_type: int = PRINCIPAL,
 ) -> Credentials:
     """A first ticket (RFC 4120, 3.1) of "carol@HOME.TEST", by a password, or by the keys of a keytab, which is its path or its octets. Without a realm the client is
     of the default one of krb5.conf.
@@ -234,6 +249,9 @@ def kinit(
     - `server`: for whom; without it the realm's ticket-granting service. `start`: from when on it is to be valid, a postdated ticket (2.4).
     - `lifetime`: until when, `renewable`: until when it may be renewed: times, or seconds from now, from `start` the former. None for as long as the KDC allows, and for
       no ticket that is renewable.
+    - `canonicalize`: whether the KDC may name the client, its realm and the server otherwise (RFC 6806): such a reply is taken only with the checksum of the request under the
+      client's key; `client` and `server` of the credentials are then the KDC's names. `client_type`: the type of the client's name; 10 for an enterprise name, as
+      r"carol\\@corp.test@HOME.TEST".
     - the others are those of `Settings`.
 
     NotGranted: why there is no ticket; KdcUnreachable: no KDC replies; Refused of INVALID, KEYTAB, MEMORY; ValueError of what is no name; OSError of a file."""
@@ -241,7 +259,7 @@ def kinit(
         raise ValueError("a password or a keytab")
     settings = Settings(kdc, configuration, dns, timeout, tuple(etypes), skew, least, most, clock)
     kdcs, now = settings.kdcs(), clock()
-    name = parsed(client, None if "@" in client else kdcs.configuration().default_realm)
+    name = parsed(client, None if "@" in client else kdcs.configuration().default_realm, client_type)
     asked = ticket_granting(name.realm) if server is None else parsed(server, name.realm)
     if server is not None:
         asked = asked._replace(name_type=service_type(asked))
@@ -251,7 +269,8 @@ def kinit(
     chosen: Dict[int, bool] = {FORWARDABLE: forwardable, PROXIABLE: proxiable, MAY_POSTDATE: begins is not None, POSTDATED: begins is not None}
     options = [number for number, is_asked in {**chosen, RENEWABLE: rtime is not None}.items() if is_asked]
     flags = options + ([_INVALID] if begins is not None else [])
-    wanted = Wanted(name, asked, tuple(etypes), tuple(options), tuple(flags), begins, till, rtime)
+    options += [_CANONICALIZE] if canonicalize else []
+    wanted = Wanted(name, asked, tuple(etypes), tuple(options), tuple(flags), begins, till, rtime, canonicalize)
     secret = password.encode("utf-8") if isinstance(password, str) else b"" if password is None else plain(password)
     exchange = Exchange(wanted, settings.limits(), clock, secret, b"" if keytab is None else _file(keytab))
     return Credentials(_run(exchange, kdcs, name.realm), settings, exchange.offset, kdcs)
