@@ -8,6 +8,9 @@ import time
 import krb
 from checks import expect, say
 from exchanges import listed, refusal
+from krb._exchange import Exchange, Follows, Limits, Wanted
+from krb._kdc import Kdcs
+from krb._names import parsed, ticket_granting
 from realm import PASSWORD, SUITES, free_port
 
 REALM = "HEIM.TEST"
@@ -136,6 +139,51 @@ def try_options(realm, heimdal):
     say("Heimdal's KDC: flags, renewed and forwarded tickets, clocks, refusals")
 
 
+def try_renamed(realm, heimdal):
+    """A KDC that names the client otherwise (RFC 6806)."""
+    carol, alias = "carol@" + REALM, "caroline@" + REALM
+    heimdal.admin("modify", "--alias=" + alias, "carol")
+    expect(krb.kinit(carol, PASSWORD, kdc=heimdal.kdc, canonicalize=True).client == carol, "Heimdal, canonicalize, and nothing is named otherwise")
+    for number in SUITES:
+        got = krb.kinit(alias, PASSWORD, kdc=heimdal.kdc, canonicalize=True, etypes=[number])
+        expect((got.client, got.is_valid) == (carol, True), "Heimdal, an alias, %d: %s" % (number, got.client))
+        expect(got.ticket_for("HTTP/localhost").client == carol, "Heimdal, an alias, %d: a further ticket" % number)
+    for given, rule in (({}, RULE.CLIENT), ({"mark": False}, RULE.NO_CHECKSUM), ({"request": b"another"}, RULE.CHECKSUM)):
+        refusal("Heimdal, an alias, %s" % given, lambda given=given: by_hand(heimdal, alias, carol, **given), rule)
+    say("Heimdal's KDC: a client that is named otherwise")
+
+
+def by_hand(heimdal, alias, carol, mark=True, request=None):
+    """The same exchange with the option canonicalize: what is granted under the other name, without a request for the checksum, or with another request."""
+    renames = mark is False or request is not None
+    wanted = Wanted(parsed(alias), ticket_granting(REALM), (18,), (15,), canonicalize=mark and renames)
+    exchange = Exchange(wanted, Limits(), time.time, PASSWORD.encode())
+    answer = exchange.begin()
+    kdcs, last = Kdcs(heimdal.kdc), []
+    while answer.follows == Follows.SENDS:
+        answer = kdcs.answer(REALM, answer.octets, lambda message, _: last.append(message) or Held(exchange, message))
+        if answer.refused is not None:
+            if not renames:
+                raise answer.refused
+            expect(answer.refused.rule == RULE.CLIENT, "Heimdal, an alias: %s" % answer.refused)
+            exchange.wanted = exchange.wanted._replace(client=parsed(carol))
+            exchange._request = exchange._request if request is None else request
+            return exchange.renamed(last[-1])
+    return answer
+
+
+class Held:
+    """What follows on a message, or why nothing does."""
+
+    def __init__(self, exchange, message):
+        self.refused, self.octets, self.follows = None, b"", Follows.GRANTED
+        try:
+            answer = exchange.step(message)
+            self.octets, self.follows = answer.octets, answer.follows
+        except krb.NotGranted as refused:
+            self.refused = refused
+
+
 def try_heimdal(realm):
     root = unpacked(realm)
     if root is None:
@@ -145,3 +193,4 @@ def try_heimdal(realm):
     heimdal.begin()
     try_tickets(realm, heimdal)
     try_options(realm, heimdal)
+    try_renamed(realm, heimdal)

@@ -11,6 +11,7 @@ import time
 import gssapi
 import gssapi.raw
 import krb
+from apache import try_apache
 from checks import expect, say
 from realm import PASSWORD, REALM, SUITES
 from sides import ACCEPTOR, INITIATOR, MitSide, OurSide, Program, ProgramSide, talk
@@ -346,3 +347,4 @@ def try_services(realm, environment):
     try_negotiations(realm, ticket)
     try_heimdal(realm, ticket)
     try_web(realm, environment, credentials)
+    try_apache(realm, environment, credentials)

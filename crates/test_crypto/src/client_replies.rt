@@ -4,8 +4,11 @@
 //! is that of a KRB-ERROR. Behind the reply of a KDC (3, 8, 9) stand the clock, client, server,
 //! from, till and rtime (`-` where not asked for), the nonce, the flags and the encryption types
 //! that were asked for; behind an AP-REP (12) the time and the microseconds that were sent. For
-//! each row it prints what is granted, confirmed or reported, or the rule that the reply breaks.
+//! each row it prints what is granted, confirmed or reported, or the rule that the reply breaks, and
+//! but for a KRB-ERROR and key usage 8, what the call of the library for C answers: its status, what
+//! follows or the rule, and its status without room.
 
+use crate::client_by_c::{Keyed, ap_text_by_c, kdc_text_by_c};
 use krb_client_replies::{
     Asked, Clock, Granted, Key, ReplyError, Sent, check_ap_rep, check_as_rep, check_tgs_rep,
     read_error,
@@ -243,6 +246,30 @@ fn error_text(alloc: Global, reply: &[u8]) -> Result<String, AllocError> {
     }
 }
 
+/// What is printed of the calls of the library for C.
+fn by_c_text(
+    alloc: Global,
+    usage: u32,
+    etype: usize,
+    octets: &[u8],
+    reply: &[u8],
+    columns: Columns<'_>,
+) -> Result<String, RowError> {
+    let Ok(etype) = i32::try_from(etype) else {
+        return Err(RowError::NoNumber);
+    };
+    let keyed = Keyed {
+        usage,
+        etype,
+        octets,
+    };
+    if usage == 12 {
+        ap_text_by_c(alloc, &keyed, reply, columns)
+    } else {
+        kdc_text_by_c(alloc, &keyed, reply, columns)
+    }
+}
+
 /// What is printed of a row.
 pub(crate) fn answer(alloc: Global, mut columns: Columns<'_>) -> Result<String, RowError> {
     let name = columns.text()?;
@@ -254,6 +281,7 @@ pub(crate) fn answer(alloc: Global, mut columns: Columns<'_>) -> Result<String, 
         let text = error_text(alloc, &reply)?;
         return Ok(format!(in alloc; "{name}: {text}\n")?);
     }
+    let by_c = by_c_text(alloc, usage, etype, &octets, &reply, columns)?;
     let key = Key {
         suite: suite_of(etype)?,
         octets,
@@ -263,5 +291,5 @@ pub(crate) fn answer(alloc: Global, mut columns: Columns<'_>) -> Result<String, 
     } else {
         kdc_text(alloc, usage, &key, &reply, &mut columns)?
     };
-    Ok(format!(in alloc; "{name}: {text}\n")?)
+    Ok(format!(in alloc; "{name}: {text}; {by_c}\n")?)
 }

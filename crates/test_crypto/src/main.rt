@@ -9,6 +9,7 @@ mod accepted;
 mod accepted_by_c;
 mod c_calls;
 mod c_tokens;
+mod client_by_c;
 mod client_replies;
 mod crypto;
 mod pac_checksums;
