@@ -4,6 +4,7 @@ ghost use Rattle.std.specs.Prelude.{◌≡◌, IfErr, IfOk, OnErr, Some};
 ghost use Rattle.std.specs.Option.{option_copied};
 ghost use Rattle.krb_client_requests.specs.Errors.{IsMemoryOr};
 ghost use Rattle.krb_client.specs.Initial.{Asks, IsAnswer, IsBegun, IsNoAnswer, IsNotBegun, IsStep, RefusesError, key_after, offset_after, taken};
+ghost use Rattle.krb_client.specs.Renamed.{IsNotRenamed, IsRenamed};
 ghost use Rattle.krb_client.specs.Requests.{IsInitialRequest, IsNoInitialRequest};
 
 use crate::error::ClientError;
@@ -12,12 +13,16 @@ use crate::initial_request::initial_request;
 use crate::kind::{Kind, kind_of};
 use crate::messages::{Encodings, Rfc4120};
 use crate::moment::Moment;
+use crate::renamed::{RenameError, check_request};
 use crate::reported::{Change, change_for};
 use crate::terms::Terms;
+use crate::time::clock_of;
 use krb_client_keys::Secret;
-use krb_client_replies::{Granted, read_error};
+use krb_client_replies::{Granted, check_as_rep, read_error};
 use krb_client_requests::RequestError;
 use krb_client_rules::{Asked, Key};
+use krb_der::DerEncode;
+use krb_types::data_types::Checksum;
 use std::alloc::Global;
 
 /// The tag of an AS-REP: application 11, constructed (RFC 4120, 5.4.2; X.690, 8.1.2).
@@ -208,6 +213,39 @@ impl InitialExchange {
             }
             Answer::Granted(granted) => Ok(InitialStep::Granted(granted)),
             Answer::Wait => Ok(InitialStep::Wait),
+        }
+    }
+
+    /// What an AS-REP grants that renames the client or the server (RFC 6806, 6 and 8): the names
+    /// of `asked` are those of the reply, put there by a caller that allows it. All rules hold as
+    /// in `step`, under the key under which the time was sent, and besides the part has the
+    /// checksum of the last request, whose octets are `request`, in its PA-REQ-ENC-PA-REP (RFC
+    /// 6806, 11): so the KDC replied to this very request, with this option and this name.
+    ///
+    /// Else the error is the first of `RenameError`.
+    pub fn renamed(
+        &self,
+        alloc: Global,
+        terms: &Terms,
+        moment: &Moment,
+        request: &[u8],
+        octets: &[u8],
+    ) -> Result<Granted, RenameError>
+        ensures granted { IfOk result (IsRenamed ⟦<Rfc4120 as Encodings>⟧.initial ⟦<Checksum as DerEncode>⟧
+            terms.now self.now moment.now request.now octets.now) }
+        ensures rejected { IfErr result (IsNotRenamed ⟦<Rfc4120 as Encodings>⟧.initial ⟦<Checksum as DerEncode>⟧
+            terms.now self.now moment.now request.now octets.now) }
+    {
+        let Some(key) = &self.key else {
+            return Err(RenameError::NoKey);
+        };
+        let clock = clock_of(terms, &self.offset, moment);
+        match check_as_rep(alloc, &self.asked, &clock, key, octets) {
+            Ok(granted) => match check_request(alloc, key, request, &granted.part) {
+                Ok(()) => Ok(granted),
+                Err(error) => Err(error),
+            },
+            Err(error) => Err(RenameError::Reply(error)),
         }
     }
 }

@@ -3,16 +3,11 @@
 ghost use Rattle.std.specs.Prelude.{◌≡◌, ◌≢◌, MatchBool, MatchOption, IfErr, IfOk, OnOk};
 ghost use Rattle.krb_client_keys.specs.Firsts.{IsFirst, NoneIs};
 ghost use Rattle.krb_client_requests.specs.RequestChecksums.{IsRequestChecksum};
-ghost use Rattle.krb_client.specs.Renamed.{HasMark, HasNoMark, HasNoRequestChecksum, HasRequestChecksum, IsMark, IsNoSum, IsNotRenamed, IsRenamed};
+ghost use Rattle.krb_client.specs.Renamed.{HasMark, HasNoMark, HasNoRequestChecksum, HasRequestChecksum, IsMark, IsNoSum};
 ghost use Rattle.krb_client.specs.Requests.{suite_key};
 ghost use Rattle.krb_client.specs.declared.renamed.RenameError.TheVariants as errors;
 
-use crate::initial::InitialExchange;
-use crate::messages::{Encodings, Rfc4120};
-use crate::moment::Moment;
-use crate::terms::Terms;
-use crate::time::clock_of;
-use krb_client_replies::{Granted, ReplyError, check_as_rep};
+use krb_client_replies::ReplyError;
 use krb_client_requests::{LentKey, RequestError, request_checksum};
 use krb_client_rules::{Key, is_number};
 use krb_der::DerEncode;
@@ -101,7 +96,7 @@ fn are_same(first: &[u8], second: &[u8]) -> bool
 }
 
 /// Whether a part has the checksum of the request under the reply key.
-fn check_request(
+pub(crate) fn check_request(
     alloc: Global,
     key: &Key,
     request: &[u8],
@@ -118,40 +113,5 @@ fn check_request(
         Ok(())
     } else {
         Err(RenameError::Checksum)
-    }
-}
-
-impl InitialExchange {
-    /// What an AS-REP grants that renames the client or the server (RFC 6806, 6 and 8): the names
-    /// of `asked` are those of the reply, put there by a caller that allows it. All rules hold as
-    /// in `step`, under the key under which the time was sent, and besides the part has the
-    /// checksum of the last request, whose octets are `request`, in its PA-REQ-ENC-PA-REP (RFC
-    /// 6806, 11): so the KDC replied to this very request, with this option and this name.
-    ///
-    /// Else the error is the first of `RenameError`.
-    pub fn renamed(
-        &self,
-        alloc: Global,
-        terms: &Terms,
-        moment: &Moment,
-        request: &[u8],
-        octets: &[u8],
-    ) -> Result<Granted, RenameError>
-        ensures granted { IfOk result (IsRenamed ⟦<Rfc4120 as Encodings>⟧.initial ⟦<Checksum as DerEncode>⟧
-            terms.now self.now moment.now request.now octets.now) }
-        ensures rejected { IfErr result (IsNotRenamed ⟦<Rfc4120 as Encodings>⟧.initial ⟦<Checksum as DerEncode>⟧
-            terms.now self.now moment.now request.now octets.now) }
-    {
-        let Some(key) = &self.key else {
-            return Err(RenameError::NoKey);
-        };
-        let clock = clock_of(terms, &self.offset, moment);
-        match check_as_rep(alloc, &self.asked, &clock, key, octets) {
-            Ok(granted) => match check_request(alloc, key, request, &granted.part) {
-                Ok(()) => Ok(granted),
-                Err(error) => Err(error),
-            },
-            Err(error) => Err(RenameError::Reply(error)),
-        }
     }
 }

@@ -2,8 +2,8 @@
 //! first request to a ticket. The original has no such module.
 
 pub use krb_client::{
-    ByTicket, ClientError, InitialExchange, InitialStep, Moment, ServiceExchange, ServiceStep,
-    Terms,
+    ByTicket, ClientError, InitialExchange, InitialStep, Moment, RenameError, ServiceExchange,
+    ServiceStep, Terms,
 };
 pub use krb_client_keys::{
     Client, HintError, Limits, PasswordError, Secret, client_key, key_of_password, told_key,
@@ -12,8 +12,8 @@ pub use krb_client_replies::{
     Granted, ReplyError, Reported, check_ap_rep, check_as_rep, check_tgs_rep, read_error,
 };
 pub use krb_client_requests::{
-    ApRequest, GssChecksum, LentKey, RequestError, Sender, Want, ap_request, as_request,
-    pa_enc_timestamp, tgs_request,
+    ApRequest, GssChecksum, LentKey, RequestError, Sender, Want, ap_request, as_request, marked,
+    pa_enc_timestamp, request_checksum, tgs_request,
 };
 pub use krb_client_rules::{
     Asked, Clock, KdcReply, Key, Mismatch, ReplyPart, Sent, answers, has_time, is_expected,

@@ -30,10 +30,10 @@ const UNTOLD: FollowedRecord = FollowedRecord {
 
 /// A ticket of the realm R for its own KDC, by X.690 and RFC 4120, 5.3, whose part nobody opens.
 const ANY_TICKET: [u8; 52] = [
-    0x61, 0x32, 0x30, 0x30, 0xa0, 0x03, 0x02, 0x01, 0x05, 0xa1, 0x03, 0x1b, 0x01, 0x52, 0xa2,
-    0x16, 0x30, 0x14, 0xa0, 0x03, 0x02, 0x01, 0x02, 0xa1, 0x0d, 0x30, 0x0b, 0x1b, 0x06, 0x6b,
-    0x72, 0x62, 0x74, 0x67, 0x74, 0x1b, 0x01, 0x52, 0xa3, 0x0c, 0x30, 0x0a, 0xa0, 0x03, 0x02,
-    0x01, 0x12, 0xa2, 0x03, 0x04, 0x01, 0x00,
+    0x61, 0x32, 0x30, 0x30, 0xa0, 0x03, 0x02, 0x01, 0x05, 0xa1, 0x03, 0x1b, 0x01, 0x52, 0xa2, 0x16,
+    0x30, 0x14, 0xa0, 0x03, 0x02, 0x01, 0x02, 0xa1, 0x0d, 0x30, 0x0b, 0x1b, 0x06, 0x6b, 0x72, 0x62,
+    0x74, 0x67, 0x74, 0x1b, 0x01, 0x52, 0xa3, 0x0c, 0x30, 0x0a, 0xa0, 0x03, 0x02, 0x01, 0x12, 0xa2,
+    0x03, 0x04, 0x01, 0x00,
 ];
 
 /// The key of a row.
@@ -142,7 +142,15 @@ fn called(
             password: b"no password is looked at",
             keytab: &[],
         };
-        initial(alloc, question, &proof, &mut exchange, &mut told, out, &mut size)
+        initial(
+            alloc,
+            question,
+            &proof,
+            &mut exchange,
+            &mut told,
+            out,
+            &mut size,
+        )
     } else {
         let by = ByRecord {
             ticket: &ANY_TICKET,
@@ -150,7 +158,15 @@ fn called(
             session_key: keyed.octets,
             subkey: keyed.octets,
         };
-        ticket(alloc, question, &by, &mut exchange, &mut told, out, &mut size)
+        ticket(
+            alloc,
+            question,
+            &by,
+            &mut exchange,
+            &mut told,
+            out,
+            &mut size,
+        )
     };
     (status, told)
 }
@@ -165,7 +181,10 @@ fn printed(
     if status == 42 {
         return format!(in alloc; "C 42, rule {}, without room {again}", told.rule);
     }
-    format!(in alloc; "C {status}, follows {}, without room {again}", told.follows)
+    format!(in alloc;
+        "C {status}, follows {}, without room {again}",
+        told.follows
+    )
 }
 
 /// What is printed of the calls for a KDC's reply; nothing where they have no such key usage.
