@@ -191,6 +191,10 @@ def try_clocks(realm):
         expect(again.offset == got.offset, "a clock %+d s: the offset in the file %s" % (by, again.offset))
         expect(again.ticket_for("HTTP/localhost").is_valid, "a clock %+d s: a ticket" % by)
         expect(listed(realm, path)[1][GRANTING]["end"] == got.end_time.timestamp(), "a clock %+d s: klist" % by)
+        relay = Relay(realm.port)
+        krb.client.load(path, krb.client.Settings(kdc=relay.kdc, clock=clock)).ticket_for("HTTP/localhost")
+        expect(len(relay.kept) == 1, "a clock %+d s: %d requests, where the offset is known" % (by, len(relay.kept)))
+        relay.stop()
         context = krb.Acceptor(realm.keytab, replay_cache=False).accept(krb.Initiator(again.ticket_for("HTTP/localhost")).token())
         expect(context.client == "ann@" + REALM, "a clock %+d s: the service lets in %s" % (by, context.client))
         # What the KDC says of its time in a TGS exchange is taken as well.
