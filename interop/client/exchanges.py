@@ -191,6 +191,10 @@ def try_clocks(realm):
         expect(again.offset == got.offset, "a clock %+d s: the offset in the file %s" % (by, again.offset))
         expect(again.ticket_for("HTTP/localhost").is_valid, "a clock %+d s: a ticket" % by)
         expect(listed(realm, path)[1][GRANTING]["end"] == got.end_time.timestamp(), "a clock %+d s: klist" % by)
+        relay = Relay(realm.port)
+        krb.client.load(path, krb.client.Settings(kdc=relay.kdc, clock=clock)).ticket_for("HTTP/localhost")
+        expect(len(relay.kept) == 1, "a clock %+d s: %d requests, where the offset is known" % (by, len(relay.kept)))
+        relay.stop()
         context = krb.Acceptor(realm.keytab, replay_cache=False).accept(krb.Initiator(again.ticket_for("HTTP/localhost")).token())
         expect(context.client == "ann@" + REALM, "a clock %+d s: the service lets in %s" % (by, context.client))
         # What the KDC says of its time in a TGS exchange is taken as well.
@@ -199,6 +203,10 @@ def try_clocks(realm):
         expect(service.offset is not None and abs(service.offset + by) <= 2, "a clock %+d s: the offset of a further exchange %s" % (by, service.offset))
         # Without the time under a key the KDC reports nothing, and the reply is too far from the clock.
         refusal("a clock %+d s, a reply without that" % by, lambda: krb.kinit("f18@" + REALM, PASSWORD, kdc=realm.kdc, clock=clock), RULE.START)
+        short = krb.kinit("ann@" + REALM, PASSWORD, kdc=realm.kdc, clock=clock, lifetime=600, renewable=7200)
+        expect(abs(short.end_time.timestamp() - time.time() - 600) < 5 and abs(short.renew_till.timestamp() - time.time() - 7200) < 5, "a clock %+d s: lifetimes" % by)
+        service = plain.ticket_for("HTTP/localhost", lifetime=600)
+        expect(abs(service.end_time.timestamp() - time.time() - 600) < 5, "a clock %+d s: the lifetime of a further ticket: %s" % (by, service.end_time))
     got = krb.kinit("ann@" + REALM, PASSWORD, kdc=realm.kdc, clock=lambda: time.time() + 200)
     expect(got.offset is None, "a clock within the skew: the offset %s" % got.offset)
     refusal("a skew of 100", lambda: krb.kinit("ann@" + REALM, PASSWORD, kdc=realm.kdc, skew=100, clock=lambda: time.time() + 200), RULE.START)

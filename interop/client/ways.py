@@ -75,14 +75,15 @@ def try_useless(realm):
             expect(False, "%a is an address" % word)
         except (ValueError, OSError) as error:
             expect(isinstance(error, (ValueError, krb.KdcUnreachable)), "%a: %s" % (word, error))
-    for octets in (b"", framed(b""), framed(b"HTTP/1.1 400 Bad Request\r\n\r\n")):
+    most = 1 << 20  # octets of a reply
+    for octets, is_taken in ((b"", False), (framed(b""), True), (framed(b"HTTP/1.1 400 Bad Request\r\n\r\n"), True), (framed(bytes(most)), True), (framed(bytes(most + 1)), False)):
         server = Saying(octets)
         try:
-            kinit(server.kdc, timeout=1)
-            expect(False, "a reply %a: a ticket" % octets)
+            kinit(server.kdc, timeout=3)
+            expect(False, "a reply %a: a ticket" % octets[:40])
         except (krb.NotGranted, krb.KdcUnreachable) as error:
-            right = isinstance(error, krb.KdcUnreachable) if not octets else error.rule == krb.ClientRule.OTHER_MESSAGE
-            expect(right, "a reply %a: %s" % (octets, error))
+            right = error.rule == krb.ClientRule.OTHER_MESSAGE if isinstance(error, krb.NotGranted) else not is_taken
+            expect(right and isinstance(error, krb.NotGranted) == is_taken, "a reply %a: %s" % (octets[:40], error))
         server.stop()
     relays = [Relay(realm.port), Relay(realm.port)]
     got = kinit([each.kdc for each in relays])

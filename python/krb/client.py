@@ -5,7 +5,7 @@ What is sent and which reply is taken is decided by the library. Sockets, files,
 import datetime
 import os
 import time
-from typing import Callable, Dict, FrozenSet, List, NamedTuple, Optional, Sequence, Union
+from typing import Callable, Dict, FrozenSet, List, NamedTuple, Optional, Sequence, Tuple, Union
 
 from krb import _ccache
 from krb._ccache import Cache, Entry
@@ -126,6 +126,23 @@ def _run(exchange: Exchange, kdcs: Kdcs, realm: str, may_refer: Callable[[bytes]
     return _granted(exchange.wanted.client, answer.ticket, answer.part)
 
 
+def _by_its_time(
+    begin: Callable[[Optional[int]], Exchange], offset: Optional[int], times: Sequence[Optional[Time]], run: Callable[[Exchange], Entry]
+) -> Tuple[Entry, Optional[int]]:
+    """What an exchange grants, and the offset of the KDC's clock. Where it finds out another offset, and times from now on are asked for, it is made again by that."""
+    is_relative = any(each is not None and not isinstance(each, datetime.datetime) for each in times)
+    exchange = begin(offset)
+    try:
+        found = run(exchange)
+        if not is_relative or exchange.offset == offset:
+            return found, exchange.offset
+    except NotGranted:
+        if not is_relative or exchange.offset == offset:
+            raise
+    exchange = begin(exchange.offset)
+    return run(exchange), exchange.offset
+
+
 class Credentials:
     """A ticket, its session key, and what the KDC said of both.
 
@@ -161,14 +178,16 @@ class Credentials:
     ) -> "Credentials":
         """A ticket by this one (RFC 4120, 3.3), of the KDCs of the realm that takes it."""
         entry, settings = self.entry, self.settings
-        now = settings.clock() + (self.offset or 0)
-        wanted = Wanted(
-            entry.client, server, tuple(settings.etypes if etypes is None else etypes), tuple(options), tuple(flags), None, _until(lifetime, now) or 0,
-            _until(renewable, now),
-        )
-        exchange = Exchange(wanted, settings.limits(), settings.clock, ticket=entry.ticket, session_key=entry.session_key, offset=self.offset)
+        asked = tuple(settings.etypes if etypes is None else etypes)
+
+        def begin(offset: Optional[int]) -> Exchange:
+            now = settings.clock() + (offset or 0)
+            wanted = Wanted(entry.client, server, asked, tuple(options), tuple(flags), None, _until(lifetime, now) or 0, _until(renewable, now))
+            return Exchange(wanted, settings.limits(), settings.clock, ticket=entry.ticket, session_key=entry.session_key, offset=offset)
+
         realm = entry.server.granting_realm or entry.server.realm
-        return Credentials(_run(exchange, self._kdcs, realm, may_refer), settings, exchange.offset, self._kdcs)
+        found, offset = _by_its_time(begin, self.offset, (lifetime, renewable), lambda exchange: _run(exchange, self._kdcs, realm, may_refer))
+        return Credentials(found, settings, offset, self._kdcs)
 
     def _has_of(self, numbers: Sequence[int]) -> List[int]:
         return [number for number in numbers if self.has_flag(number)]
@@ -258,22 +277,27 @@ def kinit(
     if (password is None) == (keytab is None):
         raise ValueError("a password or a keytab")
     settings = Settings(kdc, configuration, dns, timeout, tuple(etypes), skew, least, most, clock)
-    kdcs, now = settings.kdcs(), clock()
+    kdcs = settings.kdcs()
     name = parsed(client, None if "@" in client else kdcs.configuration().default_realm, client_type)
     asked = ticket_granting(name.realm) if server is None else parsed(server, name.realm)
     if server is not None:
         asked = asked._replace(name_type=service_type(asked))
-    begins = _until(start, now)
-    till = _until(lifetime, now if begins is None else begins) or 0
-    rtime = _until(renewable, now)
-    chosen: Dict[int, bool] = {FORWARDABLE: forwardable, PROXIABLE: proxiable, MAY_POSTDATE: begins is not None, POSTDATED: begins is not None}
-    options = [number for number, is_asked in {**chosen, RENEWABLE: rtime is not None}.items() if is_asked]
-    flags = options + ([_INVALID] if begins is not None else [])
-    options += [_CANONICALIZE] if canonicalize else []
-    wanted = Wanted(name, asked, tuple(etypes), tuple(options), tuple(flags), begins, till, rtime, canonicalize)
     secret = password.encode("utf-8") if isinstance(password, str) else b"" if password is None else plain(password)
-    exchange = Exchange(wanted, settings.limits(), clock, secret, b"" if keytab is None else _file(keytab))
-    return Credentials(_run(exchange, kdcs, name.realm), settings, exchange.offset, kdcs)
+    keys = b"" if keytab is None else _file(keytab)
+    chosen: Dict[int, bool] = {FORWARDABLE: forwardable, PROXIABLE: proxiable, MAY_POSTDATE: start is not None, POSTDATED: start is not None}
+    options = [number for number, is_asked in {**chosen, RENEWABLE: renewable is not None}.items() if is_asked]
+    flags = options + ([_INVALID] if start is not None else [])
+    options += [_CANONICALIZE] if canonicalize else []
+
+    def begin(offset: Optional[int]) -> Exchange:
+        now = clock() + (offset or 0)
+        begins = _until(start, now)
+        till = _until(lifetime, now if begins is None else begins) or 0
+        wanted = Wanted(name, asked, tuple(etypes), tuple(options), tuple(flags), begins, till, _until(renewable, now), canonicalize)
+        return Exchange(wanted, settings.limits(), clock, secret, keys, offset=offset)
+
+    found, known = _by_its_time(begin, None, (start, lifetime, renewable), lambda exchange: _run(exchange, kdcs, name.realm))
+    return Credentials(found, settings, known, kdcs)
 
 
 def _file(keytab: Union[Path, Octets]) -> bytes:

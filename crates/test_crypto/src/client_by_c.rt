@@ -106,7 +106,7 @@ fn terms_of<'a>(columns: &mut Columns<'a>) -> Result<(TermsRecord, &'a str, &'a 
         most: 1 << 20,
         client_type: 1,
         server_type: 1,
-        settings: has_from + has_rtime,
+        settings: has_from | has_rtime,
     };
     Ok((terms, client, server))
 }
