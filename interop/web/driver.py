@@ -48,7 +48,7 @@ class Browser:
                     raise
                 time.sleep(0.1)
         words = ["--headless=new", "--no-sandbox", "--disable-gpu", "--disable-dev-shm-usage", "--no-first-run", "--disable-background-networking", "--no-proxy-server"]
-        words += ["--disable-component-update", "--disable-sync", "--lang=en-US", "--user-data-dir=" + os.path.join(home, "profile")]
+        words += ["--disable-component-update", "--disable-sync", "--lang=en-US", "--host-resolver-rules=MAP rebound.test 127.0.0.1", "--user-data-dir=" + os.path.join(home, "profile")]
         options = {"args": words, "perfLoggingPrefs": {"enableNetwork": True, "enablePage": False}}
         asked = {"browserName": "chrome", "goog:chromeOptions": options, "goog:loggingPrefs": {"performance": "ALL", "browser": "ALL"}}
         made = self._asked("POST", "/session", {"capabilities": {"alwaysMatch": asked}})
@@ -60,10 +60,11 @@ class Browser:
         link = http.client.HTTPConnection("127.0.0.1", self.port, timeout=WAIT * 2)
         try:
             link.request(method, path, None if body is None else json.dumps(body), {"Content-Type": "application/json"})
-            value = json.loads(link.getresponse().read())["value"]
+            answer = link.getresponse()
+            value = json.loads(answer.read())["value"]
         finally:
             link.close()
-        if isinstance(value, dict) and "error" in value:
+        if answer.status != 200:
             raise Failed("%s: %s" % (value["error"], value.get("message", "")[:300]))
         return value
 

@@ -61,6 +61,17 @@ def checksums(top):
         at = end
 
 
+def buffers(top):
+    """Title, number of the type, octets and expected lines of the rows of `pac`; the last line is JSON."""
+    rows, lines = table_of(top, "pac"), expected_of(top)
+    at = len(lines) - 1 - lines[::-1].index("%s %s" % tuple(rows[0][:2]))
+    for row in rows:
+        assert lines[at] == "%s %s" % tuple(row[:2]), (lines[at], row[:2])
+        end = lines.index("", at)
+        yield row[0], int(row[1]), bytes.fromhex(row[2]), lines[at + 1 : end]
+        at = end + 1
+
+
 def keytab_of(keys):
     """A keytab of keys SUITE:OCTETS:NAME (MIT Kerberos, "Keytab file format"): NAME is `COMPONENT[/COMPONENT]@REALM kvno N`, or one component of no realm."""
     octets, counted = b"\5\2", lambda text: struct.pack(">H", len(text)) + text

@@ -116,6 +116,11 @@ def _lines_of(text: str) -> List[Line]:
     return lines
 
 
+def _printable(text: str) -> str:
+    """A text as printable ASCII."""
+    return text.encode("unicode_escape").decode("ascii")
+
+
 def _elements(records: memoryview) -> Optional[Element]:
     """The tree of items; None where there are none."""
     whole: Optional[Element] = None
@@ -166,7 +171,7 @@ class _Places:
             if opened is not None:
                 opener = decoded.opener_of(part)
                 name = re.sub(r"@ kvno 1$", "", opener) if opener and opener.startswith(("key ", "the password")) else opener
-                title = "%s, opened by %s" % (opened.item.name, name) if opener else "%s, in the clear" % opened.item.name
+                title = "%s, opened by %s" % (opened.item.name, _printable(name or "")) if opener else "%s, in the clear" % opened.item.name
                 self.sources.append(Source(title, decoded.octets_of(part)))
                 self._secrets_of(opened, len(self.sources) - 1, 0)
             if part.outcome == Outcome.IN_CLEAR:
@@ -220,6 +225,11 @@ class _Places:
         if item.form == Form.LEAF:
             if line.lines:
                 self.content(line, line.place)
+            elif item.kind == Leaf.ANY:  # it is shown with its tag and length, which stand before its content
+                told = re.match(r"(\d{1,10}) octets", line.value or "")
+                header = int(told.group(1)) - item.size if told else 0
+                if 0 < header <= item.offset:
+                    line.place = Place(source, at + item.offset - header, item.size + header)
             return
         elements, next_element, opened = element.elements, 0, None  # type: List[Element], int, Optional[Tuple[Optional[Element], int]]
         for each in line.lines:

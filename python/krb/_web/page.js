@@ -442,8 +442,13 @@ get("copy-json").addEventListener("click", () => copy(shown.json, "JSON"));
 
 // What is given.
 
+// A name of a file without control characters, marks of direction and their like.
+function plain(name) {
+    return '"' + name.replace(/[\p{C}\p{Zl}\p{Zp}]/gu, (letter) => "\\u{" + letter.codePointAt(0).toString(16) + "}") + '"';
+}
+
 function nameFile() {
-    get("file-text").textContent = file ? "The file " + JSON.stringify(file.name) + " is taken, " + file.octets.length + " octets, and not the text above." : "";
+    get("file-text").textContent = file ? "The file " + plain(file.name) + " is taken, " + file.octets.length + " octets, and not the text above." : "";
     get("file-drop").hidden = !file;
     get("input").disabled = Boolean(file);
 }
