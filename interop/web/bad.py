@@ -70,7 +70,7 @@ def try_requests(site):
         ("a length of 2^64", 400, dict(headers={"Content-Length": str(2**64)}, body=None)), ("a length of 100 MiB", 413, dict(headers={"Content-Length": str(100 << 20)}, body=None)),
         ("one octet past the limit", 413, dict(headers={"Content-Length": str((4 << 20) + 1)}, body=None)),
         ("no JSON", 400, dict(body=b"{")), ("no UTF-8", 400, dict(body=b'{"input":"\xff"}')), ("arrays in one another", 400, dict(body=b"[" * 1000000)),
-        ("no object", 400, dict(body=b"[]")), ("a number", 400, dict(body=b'{"input":5}')), ("no base64", 400, dict(body=b'{"input":"%%%"}')), ("keytabs that are no list", 400, dict(body=b'{"keytabs":"x"}')),
+        ("no object", 400, dict(body=b"[]")), ("a number", 400, dict(body=b'{"input":5}')), ("a number of many digits", 400, dict(body=b'{"input":' + b"9" * 3000000 + b"}")), ("no base64", 400, dict(body=b'{"input":"%%%"}')), ("keytabs that are no list", 400, dict(body=b'{"keytabs":"x"}')),
         ("17 keytabs", 400, dict(body=json.dumps({"input": "", "keytabs": [""] * 17}).encode())), ("a long password", 413, dict(body=json.dumps({"input": "", "password": "x" * 1025}).encode())),
         ("a long line", 414, dict(path="/" + "a" * 70000)), ("many headers", 431, dict(headers={"X-%d" % n: "x" for n in range(200)})),
     ]

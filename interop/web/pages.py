@@ -100,11 +100,12 @@ def try_lit(browser, title, told, counts):
         return
     for line, (octets, where, _) in zip(told["lines"], browser.run(LIT)):
         name, _, value = line.strip().partition(": ")
-        place = re.search(r": octets (\d+) to (\d+), (\d+) of ", where)
+        place = re.search(r": octets (\d+) to (\d+), (\d+) of ", where) or re.search(r": (no octets), (behind) (\d+) of ", where)
         if not place or "\u00b7" in octets or not value:
             counts["without"] += 1
             continue
-        size = int(place.group(3))
+        size = 0 if place.group(2) == "behind" else int(place.group(3))
+        expect(size == 0 or int(place.group(2)) - int(place.group(1)) == size - 1, "%s: %s is told of %d octets" % (title, where, size))
         found = bytes.fromhex(octets)
         if len(found) != size:  # more than the window has
             counts["more"] += 1
@@ -392,8 +393,8 @@ def try_large(browser):
 def try_log(browser, site):
     """The requests of all pages, and what the browser complains of."""
     asked = [json.loads(each["message"])["message"] for each in browser.log("performance")]
-    urls = [each["params"]["request"]["url"] for each in asked if each["method"] == "Network.requestWillBeSent"]
-    urls = [each for each in urls if not each.startswith("chrome://")]  # the browser's own first page
+    asked = [each["params"] for each in asked if each["method"] == "Network.requestWillBeSent"]
+    urls = [each["request"]["url"] for each in asked if not each["documentURL"].startswith("chrome")]  # but for the browser's own first page
     expect(len(urls) > 100 and all(each.startswith(site.address) for each in urls), "requests elsewhere: %s" % [each for each in urls if not each.startswith(site.address)][:5])
     complaints = [each["message"] for each in browser.log("browser")]
     expect(complaints == [], "the browser complains: %s" % complaints[:3])

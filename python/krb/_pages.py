@@ -248,6 +248,11 @@ class _Places:
         names = [each.name for each in line.lines]
         if names[:1] == ["thisMech"]:
             self.frame(line, place)
+        elif names[:1] == ["buffers"]:  # a PAC in another order than its own
+            self.content(line.lines[0], place)
+            for each in line.lines:
+                if each.name in ("buffers", "octets"):
+                    each.place = place
         elif line.lines and line.lines[0].within("cbBufferSize"):
             for each in line.lines:
                 offset, size = each.number("Offset"), each.number("cbBufferSize")

@@ -88,6 +88,10 @@ class Rejected(Exception):
         super().__init__(text)
 
 
+def _no_number(digits: str) -> None:
+    """In place of a number of JSON: none is asked for, and those of many digits take long."""
+
+
 def _octets_of(value: Any, what: str) -> bytes:
     if not isinstance(value, str):
         raise Rejected(HTTPStatus.BAD_REQUEST, "%s is no base64" % what)
@@ -254,7 +258,7 @@ class Handler(http.server.BaseHTTPRequestHandler):
             raise Rejected(HTTPStatus.SERVICE_UNAVAILABLE, "busy")
         try:
             try:
-                asked = json.loads(body.decode("utf-8"))
+                asked = json.loads(body.decode("utf-8"), parse_int=_no_number, parse_float=_no_number, parse_constant=_no_number)
             except (ValueError, RecursionError):
                 raise Rejected(HTTPStatus.BAD_REQUEST, "no JSON") from None
             return answer(asked)

@@ -234,7 +234,8 @@ function tellWhere() {
     const place = chosen && placeOf(chosen);
     if (!chosen) return;
     const exact = place && placeOf(chosen) === chosen.place;
-    get("where").textContent = chosen.name + ": " + (place ? (exact ? "" : "within ") + "octets " + place[1] + " to " + (place[1] + place[2]) + ", " + place[2] + " of " + shown.sources[place[0]].title : "no place");
+    const places = (from, size) => (size ? "octets " + from + " to " + (from + size - 1) + ", " + size : "no octets, behind " + from) + " of " + shown.sources[place[0]].title;
+    get("where").textContent = chosen.name + ": " + (place ? (exact ? "" : "within ") + places(place[1], place[2]) : "no place");
 }
 
 function visible() {
@@ -501,6 +502,7 @@ get("clear").addEventListener("click", () => {
     say("", "");
     get("input").focus();
 });
+window.addEventListener("pagehide", () => get("form").reset());
 document.addEventListener("dragover", (event) => {
     event.preventDefault();
     document.body.classList.add("over");
