@@ -18,7 +18,8 @@ HEADERS = {
     "Cross-Origin-Resource-Policy": "same-origin",
     "Cross-Origin-Opener-Policy": "same-origin",
 }
-POLICY = ["default-src 'none'", "script-src 'self'", "style-src 'self'", "connect-src 'self'", "form-action 'none'", "base-uri 'none'", "frame-ancestors 'none'"]
+POLICY = ["default-src 'none'", "script-src 'self'", "style-src 'self'", "connect-src 'self'", "form-action 'none'", "base-uri 'none'"]
+POLICY += ["frame-ancestors 'none'"]
 ERROR = error_with(b"HOME.TEST")
 GOOD = json.dumps({"input": base64.b64encode(ERROR).decode()}).encode()
 
@@ -30,7 +31,8 @@ def is_good(answer):
 
 
 def try_headers(site):
-    for name, kind in (("", "text/html"), ("page.js", "text/javascript"), ("page.css", "text/css"), ("icon.svg", "image/svg+xml"), ("show", "application/json"), ("none", "text/plain")):
+    kinds = {"": "text/html", "page.js": "text/javascript", "page.css": "text/css", "icon.svg": "image/svg+xml", "show": "application/json", "none": "text/plain"}
+    for name, kind in kinds.items():
         method = "POST" if name == "show" else "GET"
         status, headers, _ = site.ask(method, name, body=GOOD if name == "show" else None)
         expect(status == (404 if name == "none" else 200), "%r: status %d" % (name, status))
@@ -46,33 +48,66 @@ def try_requests(site):
     """A request that is wrong in one thing, and what its status is."""
     other, at = "A" * len(site.token), "/%s/" % site.token
     cases = [
-        ("another token", 404, dict(token=other)), ("another token, the page", 404, dict(method="GET", name="", token=other)),
-        ("the token but for its last letter", 404, dict(token=site.token[:-1])), ("the token and a letter", 404, dict(token=site.token + "A")),
-        ("no token", 404, dict(path="/show")), ("no token, the page", 404, dict(method="GET", path="/")), ("a favicon", 404, dict(method="GET", path="/favicon.ico")),
+        ("another token", 404, dict(token=other)),
+        ("another token, the page", 404, dict(method="GET", name="", token=other)),
+        ("the token but for its last letter", 404, dict(token=site.token[:-1])),
+        ("the token and a letter", 404, dict(token=site.token + "A")),
+        ("no token", 404, dict(path="/show")),
+        ("no token, the page", 404, dict(method="GET", path="/")),
+        ("a favicon", 404, dict(method="GET", path="/favicon.ico")),
         ("a token of other letters", 404, dict(path="/%3Cb%3E/show")),
-        ("a path upwards", 404, dict(method="GET", path=at + "../page.html")), ("a path upwards, encoded", 404, dict(method="GET", path=at + "%2e%2e/web.py")),
-        ("a file that is not served", 404, dict(method="GET", name="page.html")), ("a query", 404, dict(method="GET", name="?x=1")),
+        ("a path upwards", 404, dict(method="GET", path=at + "../page.html")),
+        ("a path upwards, encoded", 404, dict(method="GET", path=at + "%2e%2e/web.py")),
+        ("a file that is not served", 404, dict(method="GET", name="page.html")),
+        ("a query", 404, dict(method="GET", name="?x=1")),
         ("an absolute address", 404, dict(method="GET", path="http://elsewhere.test" + at)),
-        ("another host", 421, dict(headers={"Host": "elsewhere.test:%d" % site.port})), ("another host, the page", 421, dict(method="GET", name="", headers={"Host": "elsewhere.test"})),
-        ("localhost", 421, dict(headers={"Host": "localhost:%d" % site.port})), ("another port", 421, dict(headers={"Host": "127.0.0.1:%d" % (site.port ^ 1)})),
-        ("no host", 421, dict(headers={"Host": None})), ("two hosts", 400, dict(headers={"Host": [site.host, "elsewhere.test"]})),
-        ("another origin", 403, dict(headers={"Origin": "http://elsewhere.test"})), ("the origin null", 403, dict(headers={"Origin": "null"})),
-        ("the origin of another port", 403, dict(headers={"Origin": "http://127.0.0.1:%d" % (site.port ^ 1)})), ("the origin over TLS", 403, dict(headers={"Origin": "https://" + site.host})),
-        ("no origin", 403, dict(headers={"Origin": None})), ("two origins", 400, dict(headers={"Origin": [site.origin, site.origin]})),
-        ("another site", 403, dict(headers={"Sec-Fetch-Site": "cross-site"})), ("the same site", 403, dict(headers={"Sec-Fetch-Site": "same-site"})),
-        ("a form", 415, dict(headers={"Content-Type": "application/x-www-form-urlencoded"})), ("plain text", 415, dict(headers={"Content-Type": "text/plain"})),
-        ("no type", 415, dict(headers={"Content-Type": None})), ("a type of parts", 415, dict(headers={"Content-Type": "multipart/form-data; boundary=x"})),
-        ("GET of what is posted", 405, dict(method="GET")), ("POST to the page", 405, dict(name="")), ("POST to the script", 405, dict(name="page.js")),
-        ("PUT", 501, dict(method="PUT")), ("DELETE", 501, dict(method="DELETE")), ("OPTIONS", 501, dict(method="OPTIONS")), ("TRACE", 501, dict(method="TRACE")), ("CONNECT", 501, dict(method="CONNECT")),
-        ("no length", 411, dict(body=None)), ("chunks", 411, dict(headers={"Transfer-Encoding": "chunked"}, body=b"5\r\nhello\r\n0\r\n\r\n")),
-        ("a negative length", 400, dict(headers={"Content-Length": "-1"}, body=None)), ("a length of letters", 400, dict(headers={"Content-Length": "many"}, body=None)),
-        ("a length with a sign", 400, dict(headers={"Content-Length": "+1"}, body=b"x")), ("two lengths", 400, dict(headers={"Content-Length": ["4", "5"]}, body=b"null")),
-        ("a length of 2^64", 400, dict(headers={"Content-Length": str(2**64)}, body=None)), ("a length of 100 MiB", 413, dict(headers={"Content-Length": str(100 << 20)}, body=None)),
+        ("another host", 421, dict(headers={"Host": "elsewhere.test:%d" % site.port})),
+        ("another host, the page", 421, dict(method="GET", name="", headers={"Host": "elsewhere.test"})),
+        ("localhost", 421, dict(headers={"Host": "localhost:%d" % site.port})),
+        ("another port", 421, dict(headers={"Host": "127.0.0.1:%d" % (site.port ^ 1)})),
+        ("no host", 421, dict(headers={"Host": None})),
+        ("two hosts", 400, dict(headers={"Host": [site.host, "elsewhere.test"]})),
+        ("another origin", 403, dict(headers={"Origin": "http://elsewhere.test"})),
+        ("the origin null", 403, dict(headers={"Origin": "null"})),
+        ("the origin of another port", 403, dict(headers={"Origin": "http://127.0.0.1:%d" % (site.port ^ 1)})),
+        ("the origin over TLS", 403, dict(headers={"Origin": "https://" + site.host})),
+        ("no origin", 403, dict(headers={"Origin": None})),
+        ("two origins", 400, dict(headers={"Origin": [site.origin, site.origin]})),
+        ("another site", 403, dict(headers={"Sec-Fetch-Site": "cross-site"})),
+        ("the same site", 403, dict(headers={"Sec-Fetch-Site": "same-site"})),
+        ("a form", 415, dict(headers={"Content-Type": "application/x-www-form-urlencoded"})),
+        ("plain text", 415, dict(headers={"Content-Type": "text/plain"})),
+        ("no type", 415, dict(headers={"Content-Type": None})),
+        ("a type of parts", 415, dict(headers={"Content-Type": "multipart/form-data; boundary=x"})),
+        ("GET of what is posted", 405, dict(method="GET")),
+        ("POST to the page", 405, dict(name="")),
+        ("POST to the script", 405, dict(name="page.js")),
+        ("PUT", 501, dict(method="PUT")),
+        ("DELETE", 501, dict(method="DELETE")),
+        ("OPTIONS", 501, dict(method="OPTIONS")),
+        ("TRACE", 501, dict(method="TRACE")),
+        ("CONNECT", 501, dict(method="CONNECT")),
+        ("no length", 411, dict(body=None)),
+        ("chunks", 411, dict(headers={"Transfer-Encoding": "chunked"}, body=b"5\r\nhello\r\n0\r\n\r\n")),
+        ("a negative length", 400, dict(headers={"Content-Length": "-1"}, body=None)),
+        ("a length of letters", 400, dict(headers={"Content-Length": "many"}, body=None)),
+        ("a length with a sign", 400, dict(headers={"Content-Length": "+1"}, body=b"x")),
+        ("two lengths", 400, dict(headers={"Content-Length": ["4", "5"]}, body=b"null")),
+        ("a length of 2^64", 400, dict(headers={"Content-Length": str(2**64)}, body=None)),
+        ("a length of 100 MiB", 413, dict(headers={"Content-Length": str(100 << 20)}, body=None)),
         ("one octet past the limit", 413, dict(headers={"Content-Length": str((4 << 20) + 1)}, body=None)),
-        ("no JSON", 400, dict(body=b"{")), ("no UTF-8", 400, dict(body=b'{"input":"\xff"}')), ("arrays in one another", 400, dict(body=b"[" * 1000000)),
-        ("no object", 400, dict(body=b"[]")), ("a number", 400, dict(body=b'{"input":5}')), ("a number of many digits", 400, dict(body=b'{"input":' + b"9" * 3000000 + b"}")), ("no base64", 400, dict(body=b'{"input":"%%%"}')), ("keytabs that are no list", 400, dict(body=b'{"keytabs":"x"}')),
-        ("17 keytabs", 400, dict(body=json.dumps({"input": "", "keytabs": [""] * 17}).encode())), ("a long password", 413, dict(body=json.dumps({"input": "", "password": "x" * 1025}).encode())),
-        ("a long line", 414, dict(path="/" + "a" * 70000)), ("many headers", 431, dict(headers={"X-%d" % n: "x" for n in range(200)})),
+        ("no JSON", 400, dict(body=b"{")),
+        ("no UTF-8", 400, dict(body=b'{"input":"\xff"}')),
+        ("arrays in one another", 400, dict(body=b"[" * 1000000)),
+        ("no object", 400, dict(body=b"[]")),
+        ("a number", 400, dict(body=b'{"input":5}')),
+        ("a number of many digits", 400, dict(body=b'{"input":' + b"9" * 3000000 + b"}")),
+        ("no base64", 400, dict(body=b'{"input":"%%%"}')),
+        ("keytabs that are no list", 400, dict(body=b'{"keytabs":"x"}')),
+        ("17 keytabs", 400, dict(body=json.dumps({"input": "", "keytabs": [""] * 17}).encode())),
+        ("a long password", 413, dict(body=json.dumps({"input": "", "password": "x" * 1025}).encode())),
+        ("a long line", 414, dict(path="/" + "a" * 70000)),
+        ("many headers", 431, dict(headers={"X-%d" % n: "x" for n in range(200)})),
     ]
     for title, wanted, words in cases:
         if words.get("method", "POST") == "POST" and "body" not in words:
@@ -116,7 +151,8 @@ def raw(site, octets):
 
 
 def head(site, length, method="POST", name="show"):
-    lines = ["%s /%s/%s HTTP/1.1" % (method, site.token, name), "Host: " + site.host, "Origin: " + site.origin, "Content-Type: application/json", "Content-Length: %d" % length, "", ""]
+    lines = ["%s /%s/%s HTTP/1.1" % (method, site.token, name), "Host: " + site.host, "Origin: " + site.origin, "Content-Type: application/json"]
+    lines += ["Content-Length: %d" % length, "", ""]
     return "\r\n".join(lines).encode()
 
 
@@ -236,7 +272,8 @@ def try_thousand(site):
     expect(all(right for _, _, right in counts), "one of a thousand is answered wrongly: %s" % counts)
     expect(not any(which == 0 and status == 200 for which, status, _ in counts), "one without the token is answered")
     expect(sum(counts.values()) == 1000 and counts.get((1, 200, True), 0) > 0, "none of a thousand is answered: %s" % counts)
-    expect(all(status in (200, 404, 503, "ConnectionResetError", "BrokenPipeError", "RemoteDisconnected") for _, status, _ in counts), "a thousand: %s" % counts)
+    closed = ("ConnectionResetError", "BrokenPipeError", "RemoteDisconnected")
+    expect(all(status in (200, 404, 503, *closed) for _, status, _ in counts), "a thousand: %s" % counts)
     links = []
     try:  # and a thousand that say nothing
         for _ in range(1000):

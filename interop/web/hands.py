@@ -6,7 +6,7 @@ import os
 import threading
 
 from checks import expect, say
-from pages import SHOW, shown
+from pages import shown
 from tables import checksums, error_with, keytab_of, opened
 
 ERROR = error_with(b"HOME.TEST")
@@ -20,6 +20,14 @@ ROWS = "return [...document.querySelectorAll('#tree li')].filter((each) => each.
 FOCUS = """
 const each = document.activeElement, style = getComputedStyle(each.getAttribute("role") === "treeitem" ? each.querySelector(".row") : each);
 return style.outlineStyle !== "none" && parseFloat(style.outlineWidth) >= 2;
+"""
+# A field is chosen, and what can be opened is open.
+POSED = """
+document.getElementById("keys-box").open = true;
+const row = [...document.querySelectorAll("#tree .row")].find((each) => /^(key|realm|GeneralString@.*):/.test(each.querySelector(".name").textContent));
+if (row) row.click();
+document.activeElement.blur();
+window.scrollTo(0, 0);
 """
 # The texts whose contrast with what is behind them is less than WCAG 2.1, 1.4.3 (AA), asks for, by its own formula.
 CONTRAST = """
@@ -66,8 +74,9 @@ def try_keyboard(browser, site, top):
     expect(browser.run("return document.getElementById('status').textContent") == "KRB-ERROR, %d octets, given as hexadecimal" % len(ERROR), "typed octets are not shown")
     tab_to(browser, "KRB-ERROR:")
     for key, wanted in (
-        ("ArrowDown", "pvno:"), ("End", "name-string:"), ("ArrowUp", "name-type:"), ("ArrowLeft", "sname:"), ("ArrowLeft", "sname:"), ("ArrowUp", "realm:"), ("Home", "KRB-ERROR:"),
-        ("r", "realm:"), ("s", "sname:"), ("ArrowRight", "sname:"), ("ArrowRight", "name-type:"), ("Home", "KRB-ERROR:"), ("e", "error-code:"), ("r", "realm:"),
+        ("ArrowDown", "pvno:"), ("End", "name-string:"), ("ArrowUp", "name-type:"), ("ArrowLeft", "sname:"), ("ArrowLeft", "sname:"), ("ArrowUp", "realm:"),
+        ("Home", "KRB-ERROR:"), ("r", "realm:"), ("s", "sname:"), ("ArrowRight", "sname:"), ("ArrowRight", "name-type:"), ("Home", "KRB-ERROR:"),
+        ("e", "error-code:"), ("r", "realm:"),
     ):
         browser.press(key)
         expect(browser.run(ACTIVE) == wanted and browser.run(SELECTED) == wanted, "%s leads to %s, not %s" % (key, browser.run(ACTIVE), wanted))
@@ -126,7 +135,8 @@ def try_keyboard(browser, site, top):
     expect(secret not in text(), "keys are shown where they are not asked for any more")
     tab_to(browser, "clear")
     browser.press("Enter")
-    left = browser.run("return [...document.querySelectorAll('input, textarea')].map((each) => each.type === 'checkbox' ? each.checked : each.value).filter(Boolean)")
+    values = "return [...document.querySelectorAll('input, textarea')].map((each) => each.type === 'checkbox' ? each.checked : each.value).filter(Boolean)"
+    left = browser.run(values)
     expect(left == [] and browser.run("return document.getElementById('result').hidden"), "something is left: %s" % left)
     say("the keyboard alone: done")
 
@@ -151,7 +161,8 @@ def try_names(browser):
 
 def try_mouse(browser):
     shown(browser, ERROR)
-    middle = lambda script: browser.run("const each = %s; each.scrollIntoView({block: 'center'}); const at = each.getBoundingClientRect(); return [at.x + at.width / 2, at.y + at.height / 2]" % script)
+    centre = "const each = %s; each.scrollIntoView({block: 'center'}); const at = each.getBoundingClientRect(); return [at.x + at.width / 2, at.y + at.height / 2]"
+    middle = lambda script: browser.run(centre % script)
     row = "[...document.querySelectorAll('#tree .row')].find((each) => each.textContent.includes('realm:')).querySelector('.name')"
     browser.point(*middle(row))
     lit = browser.run("return [...document.querySelectorAll('#octets .hex b.lit')].map((each) => each.textContent).join('')")
@@ -192,7 +203,8 @@ def try_files(browser, site, folder):
     drop = """const given = new DataTransfer(); %s document.body.dispatchEvent(new DragEvent("drop", { dataTransfer: given, bubbles: true, cancelable: true }));
         return new Promise((done) => setTimeout(done, 500)).then(() => document.getElementById("status").textContent + document.getElementById("error").textContent);"""
     browser.run("document.getElementById('clear').click()")
-    status = browser.run(drop % "given.items.add(new File([Uint8Array.from(atob(arguments[0]), (each) => each.charCodeAt(0))], 'x'));", base64.b64encode(ERROR).decode())
+    added = "given.items.add(new File([Uint8Array.from(atob(arguments[0]), (each) => each.charCodeAt(0))], 'x'));"
+    status = browser.run(drop % added, base64.b64encode(ERROR).decode())
     expect(status == "KRB-ERROR, %d octets, given as the octets themselves" % len(ERROR), "a file that is dropped: %r" % status)
     status = browser.run(drop % "given.setData('text/plain', arguments[0]);", "Authorization: Negotiate " + base64.b64encode(ERROR).decode())
     expect(status == "KRB-ERROR, %d octets, given as a header of HTTP" % len(ERROR), "text that is dropped: %r" % status)
@@ -210,7 +222,7 @@ def try_pictures(browser, top, pictures):
             browser.tool("Emulation.setEmulatedMedia", features=[{"name": "prefers-color-scheme", "value": scheme}])
             for name, given in (("ticket", octets), ("error", bad)):
                 shown(browser, given, keytabs=[keytab_of([each]) for each in keys])
-                browser.run("document.getElementById('keys-box').open = true; const row = [...document.querySelectorAll('#tree .row')].find((each) => /^(key|realm|GeneralString@.*):/.test(each.querySelector('.name').textContent)); if (row) row.click(); document.activeElement.blur(); window.scrollTo(0, 0)")
+                browser.run(POSED)
                 what = "%s, %s, %s" % (name, size, scheme)
                 wide, room = browser.run("return [document.documentElement.scrollWidth, document.documentElement.clientWidth]")
                 expect(wide <= room, "%s: %d pixels in %d" % (what, wide, room))
@@ -262,8 +274,10 @@ def try_others(browser, site):
     threading.Thread(target=server.serve_forever, daemon=True).start()
     try:
         browser.go("http://127.0.0.1:%d/" % server.server_address[1])
-        told = browser.run("return (async () => { for (let n = 0; n < 1000 && !window.told; n++) await new Promise((done) => setTimeout(done, 10)); return window.told; })()")
-        expect(told is not None and set(told) == {"post", "plain", "get", "script", "frame"} and not any(told.values()), "a page of another origin: %s" % told)
+        waits = "for (let n = 0; n < 1000 && !window.told; n++) await new Promise((done) => setTimeout(done, 10));"
+        told = browser.run("return (async () => { %s return window.told; })()" % waits)
+        names = {"post", "plain", "get", "script", "frame"}
+        expect(told is not None and set(told) == names and not any(told.values()), "a page of another origin: %s" % told)
     finally:
         server.shutdown()
         server.server_close()

@@ -1,13 +1,12 @@
 """Octets in the page, as the rows of crates/test_show have them."""
 
 import base64
-import hashlib
-import hmac
 import json
 import re
 import struct
 
 from checks import expect, say
+from forms import key_of
 from tables import buffers, checksums, element, error_with, keytab_of, misleading, opened, pages
 
 # Gives the page octets and keys, waits for its answer, opens the tree and tells what stands there.
@@ -227,7 +226,8 @@ def try_opened(browser, top):
             if not found or found.group(2) not in names:
                 return line
             plain = found.group(2)
-            return '%s"%s"' % (found.group(1), names[plain] if by_keys else plain if "@" in plain and " kvno " in plain else plain + (" kvno 1" if "@" in plain else "@ kvno 1"))
+            version = "" if " kvno " in plain else " kvno 1" if "@" in plain else "@ kvno 1"
+            return '%s"%s"' % (found.group(1), names[plain] if by_keys else plain + version)
 
         told = shown(browser, octets, kind, show=True, **words)
         wanted = [renamed(line) for line in expected]
@@ -272,7 +272,8 @@ def try_buffers(browser, top):
         pac = struct.pack("<IIIIQ", 1, 0, number, len(octets), 24) + octets
         told = shown(browser, pac + bytes(-len(pac) % 8), kind="PAC", show=True)
         count += 1
-        lines = told["lines"][told["lines"].index(next((line for line in told["lines"] if line.strip().startswith("buffer:")), told["lines"][0])) + 1 :]
+        first = next((number for number, line in enumerate(told["lines"]) if line.strip().startswith("buffer:")), -1)
+        lines = told["lines"][first + 1 :]
         wanted = ["    " + line for line in expected[:-1]]
         expect(lines == wanted, "%s %d: other lines: %s" % (title, number, told["error"] or different(lines, wanted)))
     say("buffers: %d" % count)
@@ -292,7 +293,8 @@ def try_misleading(browser):
     names = ["\u202egpj.exe", "<img src=x onerror=misled=1>.keytab", "a\nb\x07", "\u2066x"]
     for name in names:
         keytab = keytab_of(["17:" + "00" * 16 + ":" + "a\u202e<b>@R kvno 1"])
-        browser.run("""const given = new DataTransfer(); given.items.add(new File([Uint8Array.from(atob(arguments[0]), (each) => each.charCodeAt(0))], arguments[1]));
+        browser.run("""const octets = Uint8Array.from(atob(arguments[0]), (each) => each.charCodeAt(0)), given = new DataTransfer();
+            given.items.add(new File([octets], arguments[1]));
             document.getElementById("file").files = given.files; document.getElementById("file").dispatchEvent(new Event("change"));
             return new Promise((done) => setTimeout(done, 300));""", base64.b64encode(keytab).decode(), name)
         text = browser.run("return document.getElementById('file-name').innerText")
@@ -306,17 +308,14 @@ def try_password(browser):
     """A ticket under the key of a password, which hashlib makes (RFC 8009, 4 and 3), with the default salt and with another one; and an AS-REP that tells it."""
     import krb
 
-    def key_of(password, salt):
-        size = 32
-        first = hashlib.pbkdf2_hmac("sha384", password, b"aes256-cts-hmac-sha384-192\0" + salt, 32768, size)
-        return hmac.new(first, b"\0\0\0\1kerberos\0" + (size * 8).to_bytes(4, "big"), hashlib.sha384).digest()[:size]
-
     integer = lambda tag, number: element(0xA0 + tag, element(2, number.to_bytes(1, "big")))
     name = lambda kind, *parts: element(0x30, integer(0, kind) + element(0xA1, element(0x30, b"".join(element(0x1B, each) for each in parts))))
     text = lambda tag, octets: element(0xA0 + tag, element(0x1B, octets))
     key = element(0xA1, element(0x30, integer(0, 17) + element(0xA1, element(4, bytes(range(100, 116))))))
     time = lambda tag: element(0xA0 + tag, element(0x18, b"20300102030405Z"))
-    part = element(0x63, element(0x30, element(0xA0, element(3, bytes(5))) + key + text(2, b"HOME.TEST") + element(0xA3, name(1, b"ann")) + element(0xA4, element(0x30, integer(0, 1) + element(0xA1, element(4, b"")))) + time(5) + time(7)))
+    transited = element(0xA4, element(0x30, integer(0, 1) + element(0xA1, element(4, b""))))
+    fields = element(0xA0, element(3, bytes(5))) + key + text(2, b"HOME.TEST") + element(0xA3, name(1, b"ann")) + transited + time(5) + time(7)
+    part = element(0x63, element(0x30, fields))
 
     def ticket(salt):
         sealed = krb.messages.seal(krb.messages.Part.TICKET_PART, 20, key_of(b"a password", salt), 2, part)
@@ -325,7 +324,8 @@ def try_password(browser):
 
     default = ticket(b"HOME.TESTHTTPwww.home.test")
     told = shown(browser, default, password="a password")
-    expect('    opened-by: "the password, salt HOME.TESTHTTPwww.home.test"' in told["lines"] and '      crealm: "HOME.TEST"' in told["lines"], "a password with the default salt: %s" % told["lines"][-12:])
+    wanted = ['    opened-by: "the password, salt HOME.TESTHTTPwww.home.test"', '      crealm: "HOME.TEST"']
+    expect(all(each in told["lines"] for each in wanted), "a password with the default salt: %s" % told["lines"][-12:])
     try_hidden("a password", told, [bytes(range(100, 116)).hex()])
     expect(bytes(range(100, 116)).hex() in "".join(shown(browser, default, password="a password", show=True)["lines"]), "a key is hidden that was asked for")
     told = shown(browser, default, password="another password")
@@ -353,7 +353,8 @@ def try_refused(browser):
     expect(cut["error"].startswith("TRUNCATED at octet "), "a cut message: %r" % cut["error"])
     for octets in (keytab_of(["17:" + "5a" * 16 + ":a@R kvno 1"])[:-1], element(0x7D, b"\x5a" * 40), element(0x30, element(0xA0, b"\x5a" * 40))):
         told = shown(browser, octets)
-        expect(told["error"] != "" and "5a5a5a" not in told["text"].replace(" ", "") and not any("5a5a" in each for each in told["octets"]), "octets that may be keys are shown: %r" % told["error"])
+        hides = "5a5a5a" not in told["text"].replace(" ", "") and not any("5a5a" in each for each in told["octets"])
+        expect(told["error"] != "" and hides, "octets that may be keys are shown: %r" % told["error"])
         told = shown(browser, octets, show=True)
         expect(any("5a5a" in each for each in told["octets"]), "octets that are refused are hidden where they were asked for")
     told = shown(browser, b"\x30\x00")

@@ -29,7 +29,7 @@ KINDS = (
 # Kinds whose octets hold no key in the clear: where they are refused, their octets are shown all the same.
 _WITHOUT_KEYS = {"Ticket", "AS-REQ", "AS-REP", "TGS-REQ", "TGS-REP", "AP-REQ", "AP-REP", "KRB-PRIV", "KRB-ERROR", "token", "password-frame"}
 MOST_LINES = 20000  # of a tree; the text and the JSON are whole
-MOST_KEYS = 32  # that are made of a password
+MOST_KEYS = 80  # that are made of a password
 _LINE = re.compile(r"( *)(.*?)(?:\[(\d+)\])?:(?: (.*))?")
 _TREE_PLACE = re.compile(r"@(\d+)\+(\d+)$")
 # What a key of the caller's is called: the principal of an entry without a realm.
