@@ -208,6 +208,10 @@ def try_files(browser, site, folder):
     expect(status == "KRB-ERROR, %d octets, given as the octets themselves" % len(ERROR), "a file that is dropped: %r" % status)
     status = browser.run(drop % "given.setData('text/plain', arguments[0]);", "Authorization: Negotiate " + base64.b64encode(ERROR).decode())
     expect(status == "KRB-ERROR, %d octets, given as a header of HTTP" % len(ERROR), "text that is dropped: %r" % status)
+    keytab = base64.b64encode(keytab_of(["17:" + "00" * 16 + ":a@R kvno 1"])).decode()
+    browser.run((drop % added).replace("document.body.dispatch", "document.getElementById('keytabs').dispatch"), keytab)
+    told = browser.run("return [document.getElementById('keytabs').files.length, document.getElementById('status').textContent]")
+    expect(told == [1, status], "a keytab that is dropped on the keys: %s" % told)
     say("files: done")
 
 

@@ -3,6 +3,7 @@
 Nothing is decoded here. A line has the place of the item that has its name, in the order of both; where the library tells no place of a line, as of the fields
 within a buffer of a PAC, it has none, and the page lights up what it stands in."""
 
+import base64
 import json
 import re
 import struct
@@ -383,7 +384,7 @@ def page_of(octets: bytes, kind: Optional[str], keytab: bytes, show_keys: bool) 
     except Refused as refused:
         if refused.status == Status.MEMORY:
             raise
-        told = known or type_of(octets) or ("token" if octets[:1] in (b"\x60", b"\xa0", b"\xa1") else None)
+        told = known or type_of(octets) or ("token" if octets[:1] == b"\x60" else None)
         hides = not show_keys and told not in _WITHOUT_KEYS
         text, lines = ("", []) if hides or octets[:1] in (b"\x05", b"\0") else _tree_of(octets)
         if lines:
@@ -512,8 +513,6 @@ def with_password(keytab: bytes, password: str, salts: Iterable[bytes], etypes: 
 
 def as_answer(page: Page, show_keys: bool, form: str) -> Dict[str, Any]:
     """The page as an object of JSON."""
-    import base64
-
     sources = []
     for source, masks in zip(page.sources, masks_of(page, not show_keys)):
         octets = bytearray(source.octets)

@@ -514,7 +514,10 @@ document.addEventListener("drop", (event) => {
     event.preventDefault();
     document.body.classList.remove("over");
     const dropped = event.dataTransfer;
-    if (dropped.files.length) take(dropped.files[0]);
+    if (dropped.files.length && event.target.closest && event.target.closest("#keys-box")) {
+        get("keytabs").files = dropped.files;
+        get("keys-box").open = true;
+    } else if (dropped.files.length) take(dropped.files[0]);
     else if (dropped.getData("text/plain")) {
         file = null;
         nameFile();
