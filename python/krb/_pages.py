@@ -371,7 +371,7 @@ def _tree_of(octets: bytes) -> Tuple[str, List[Line]]:
 
 def page_of(octets: bytes, kind: Optional[str], keytab: bytes, show_keys: bool) -> Tuple[Page, List[bytes]]:
     """The page of octets, and the salts that are told in them."""
-    sources, notes = [Source("the octets", octets)], []  # type: List[Source], List[str]
+    sources, notes = [Source("the octets given", octets)], []  # type: List[Source], List[str]
     known = _known(kind)
     if kind and known is None:
         return Page([], sources, "", "", ("NUMBER", "no kind has this name", None), notes, not show_keys, []), []
