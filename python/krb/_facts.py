@@ -21,6 +21,8 @@ _MECHANISMS = {
     bytes.fromhex("2b06010401823702021e"): "NEGOEX",
     bytes.fromhex("2b0601050205"): "IAKERB",
 }
+# The results of a password change by their numbers (RFC 3244, 2).
+_RESULTS = ["KRB5_KPASSWD_" + each for each in "SUCCESS MALFORMED HARDERROR AUTHERROR SOFTERROR ACCESSDENIED BAD_VERSION INITIAL_FLAG_NEEDED".split()]
 # Inner tokens of Kerberos by their first two octets (RFC 4121, 4.1), and tokens that have no frame.
 _INNER = {b"\1\0": "AP-REQ", b"\2\0": "AP-REP", b"\3\0": "KRB-ERROR"}
 _PER_MESSAGE = {b"\4\4": "MIC token", b"\5\4": "Wrap token"}
@@ -61,6 +63,7 @@ class Keys:
         for each in keytabs:
             self.given += _entries(each)
         self._found: "OrderedDict[Tuple[int, bytes], str]" = OrderedDict()
+        self._keytab: Optional[bytes] = None
         self.left_out = 0
 
     @property
@@ -69,20 +72,23 @@ class Keys:
 
     def keytab(self) -> bytes:
         """A keytab of all of them: one that was found is of a principal that says where."""
+        if self._keytab is not None:
+            return self._keytab
         found = b""
         for (etype, key), where in reversed(self._found.items()):
             name, place = where.split("@")
             entry = b"".join(struct.pack(">H", len(each)) + each for each in (place.encode(), name.encode()))
             entry = struct.pack(">H", 1) + entry + struct.pack(">IIBHH", 0, 0, 1, etype, len(key)) + key
             found += struct.pack(">i", len(entry)) + entry
-        return self.given + found
+        self._keytab = self.given + found
+        return self._keytab
 
     def add(self, etype: Any, key: Any, where: str) -> None:
         if etype not in _ETYPES or not isinstance(key, Secret) or len(key) > 64:
             return
         if (etype, bytes(key)) in self._found:
             return
-        self._found[etype, bytes(key)] = where
+        self._found[etype, bytes(key)], self._keytab = where, None
         if len(self._found) > MOST_KEYS:
             self._found.popitem(last=False)
             self.left_out += 1
@@ -222,7 +228,11 @@ class Reader:
             name = type_of(each) or "KRB-PRIV"
             tree = self._tree(each, name, number, opened)
             said = self._said(name, tree)
-            texts += [said.replace(" asks ", " asks for a new password of ").replace(" to let it in", "")] if name == "AP-REQ" else [said] if said else []
+            if name == "AP-REQ":
+                said = said.replace(" to let it in", " for a new password")
+            if is_request is False and len(tree.get("enc-part", {}).get("EncKrbPrivPart", {}).get("user-data", b"")) >= 2:
+                said = _result(tree["enc-part"]["EncKrbPrivPart"]["user-data"])
+            texts += [said] if said else []
         more = len(octets) - frame.size
         texts += ["%d octets behind it" % more] if more else []
         return Facts(kind, "; ".join(texts), None if not more else "tree", opened)
@@ -282,7 +292,13 @@ class Reader:
             facts = self.token(inner, number, depth + 1)
         except Unread as unread:
             return Facts(kind, "%s; in it: not read: %s" % (said, unread), "token", [])
-        return Facts(kind, "%s; in it: %s %s" % (said, facts.kind, facts.text), "token", facts.opened)
+        return Facts(kind, "%s; in it: %s" % (said, " ".join(filter(None, (facts.kind, facts.text)))), "token", facts.opened)
+
+
+def _result(data: bytes) -> str:
+    """What a server of passwords answers (RFC 3244, 2)."""
+    code = int.from_bytes(data[:2], "big")
+    return "%d %s" % (code, _RESULTS[code] if code < len(_RESULTS) else "a result without a name")
 
 
 def _mechanism(content: bytes) -> str:

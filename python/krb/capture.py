@@ -10,7 +10,7 @@ from typing import Any, Iterator, List, NamedTuple, Optional, Tuple
 
 from krb._facts import Facts, Keys, Reader, Unread, printable
 from krb._library import Refused
-from krb._packets import Capture, NoReader, Packet
+from krb._packets import PASSWORD_PORT, Capture, NoReader, Packet
 from krb._shown import show
 from krb._streams import Streams
 
@@ -82,7 +82,7 @@ def messages(capture: Capture, reader: Reader) -> Iterator[Told]:
         for packet, octets, trouble in found:
             way = "UDP" if packet.stream is None else "TCP"
             if packet.is_of_passwords:
-                yield told(packet, way, octets, trouble, lambda: reader.password(octets, packet.number, packet.target[1] == 464))
+                yield told(packet, way, octets, trouble, lambda: reader.password(octets, packet.number, packet.target[1] == PASSWORD_PORT))
             else:
                 yield told(packet, way, octets, trouble, lambda: reader.message(octets, packet.number))
 
@@ -100,7 +100,7 @@ def _page(each: Told, keytab: bytes, show_keys: bool) -> str:
         page = show(each.octets, each.facts.shown_as, keytab if len(keytab) > 2 else b"", False, show_keys)
     except Refused as refused:
         return "  not shown: %s" % refused
-    if each.packet.is_of_passwords and not show_keys:
+    if each.packet.target[1] == PASSWORD_PORT and each.packet.is_of_passwords and not show_keys:
         page = _USER_DATA.sub(r"\1hidden", page)
     return "\n".join("  " + printable(line) for line in page.rstrip("\n").split("\n"))
 
