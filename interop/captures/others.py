@@ -87,7 +87,7 @@ class Samba:
         domain.port = 88
         domain.make()
         with open(domain.path("smb.conf"), encoding="ascii") as file:
-            text = file.read().replace("server services = kdc", "server services = kdc, ldap, s3fs\nldap server require strong auth = no")
+            text = file.read().replace("server services = kdc", "server services = kdc, ldap, s3fs, winbindd\nldap server require strong auth = no")
         domain.write("smb.conf", text.replace("kpasswd port = 0", "kpasswd port = 464"))
         with open(domain.path("krb5.conf"), encoding="ascii") as file:
             text = file.read()

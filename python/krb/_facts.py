@@ -21,6 +21,8 @@ _MECHANISMS = {
     bytes.fromhex("2b06010401823702021e"): "NEGOEX",
     bytes.fromhex("2b0601050205"): "IAKERB",
 }
+# The hintName of a NegTokenInit2 (MS-SPNG, 2.2.1), which the library does not read (docs/REAL_MESSAGES.md).
+_HINT = b"not_defined_in_RFC4178@please_ignore"
 # The results of a password change by their numbers (RFC 3244, 2).
 _RESULTS = ["KRB5_KPASSWD_" + each for each in "SUCCESS MALFORMED HARDERROR AUTHERROR SOFTERROR ACCESSDENIED BAD_VERSION INITIAL_FLAG_NEEDED".split()]
 # Inner tokens of Kerberos by their first two octets (RFC 4121, 4.1), and tokens that have no frame.
@@ -34,12 +36,12 @@ class Unread(Exception):
 
 
 class Facts(NamedTuple):
-    """What a message is and says: its kind, as "AS-REQ" or "password request"; what it says, in a line of printable ASCII; the name by which `krb.show` shows it whole; what
-    is opened in it."""
+    """What a message is and says: its kind, as "AS-REQ" or "password request"; what it says, in a line of printable ASCII; what `krb.show` shows of it, each by a name
+    or as what it begins as; what is opened in it."""
 
     kind: str
     text: str
-    shown_as: Optional[str]
+    shown: List[Tuple[Optional[str], bytes]]
     opened: List[str]
 
 
@@ -163,7 +165,7 @@ class Reader:
             raise Unread("%d octets that begin as no message of Kerberos" % len(octets))
         opened: List[str] = []
         tree = self._tree(octets, kind, number, opened)
-        return Facts(kind, self._said(kind, tree), kind, opened)
+        return Facts(kind, self._said(kind, tree), [(kind, octets)], opened)
 
     def _said(self, kind: str, tree: Any) -> str:
         """What a message says, by its kind."""
@@ -171,7 +173,7 @@ class Reader:
             return self._request(tree)
         if kind in ("AS-REP", "TGS-REP"):
             client = _name(tree["cname"], tree["crealm"])
-            self._remember(tree["ticket"], client)
+            self._remember(tree["ticket"], self._ticket(tree["ticket"])[0] or client)
             server = _name(tree["ticket"]["sname"], tree["ticket"]["realm"])
             return "%s gets a ticket for %s" % (client, server)
         if kind == "KRB-ERROR":
@@ -219,7 +221,7 @@ class Reader:
             return self.message(octets, number)
         kind = "password request" if is_request else "password reply"
         try:
-            frame = frames.password_frame(octets)
+            frame, shown = self._frame(octets)
         except Refused as refused:
             raise Unread("%s: %s" % (kind, refused)) from None
         opened: List[str] = []
@@ -230,23 +232,33 @@ class Reader:
             said = self._said(name, tree)
             if name == "AP-REQ":
                 said = said.replace(" to let it in", " for a new password")
-            if is_request is False and len(tree.get("enc-part", {}).get("EncKrbPrivPart", {}).get("user-data", b"")) >= 2:
+            if name == "KRB-PRIV" and not is_request and "EncKrbPrivPart" in tree["enc-part"]:
                 said = _result(tree["enc-part"]["EncKrbPrivPart"]["user-data"])
             texts += [said] if said else []
         more = len(octets) - frame.size
-        texts += ["%d octets behind it" % more] if more else []
-        return Facts(kind, "; ".join(texts), None if not more else "tree", opened)
+        texts += ["%d octets behind it" % more] if more > 0 else []
+        return Facts(kind, "; ".join(texts), shown, opened)
+
+    @staticmethod
+    def _frame(octets: bytes) -> Tuple[frames.PasswordFrame, List[Tuple[Optional[str], bytes]]]:
+        """A frame, and what is shown of it. Of one that sets a password of another (RFC 3244, 2: version ff80) the library reads the two messages alone."""
+        if octets[2:4] != b"\xff\x80":
+            frame = frames.password_frame(octets)
+            return frame, [(None, octets[: frame.size])]
+        end = 6 + int.from_bytes(octets[4:6], "big")
+        frame = frames.PasswordFrame(octets[6:end], octets[end:], len(octets))
+        return frame, [(type_of(each), each) for each in frame[:2]]
 
     def token(self, octets: bytes, number: int, depth: int = 0) -> Facts:
         """The facts of a token of the GSS-API or SPNEGO, or of what stands in the place of one."""
         if not octets:
             raise Unread("a token of no octets")
         if octets[:8] == b"NTLMSSP\0":
-            return Facts("NTLM", "no token of Kerberos", None, [])
+            return Facts("NTLM", "no token of Kerberos", [], [])
         if octets[:8] == b"NEGOEXTS":
-            return Facts("NEGOEX", "no token of Kerberos", "NEGOEX", [])
+            return Facts("NEGOEX", "no token of Kerberos", [(None, octets)], [])
         if octets[:2] in _PER_MESSAGE:
-            return Facts(_PER_MESSAGE[octets[:2]], "", "token", [])
+            return Facts(_PER_MESSAGE[octets[:2]], "", [("token", octets)], [])
         if type_of(octets) is not None and octets[0] != 0x60:
             return self.message(octets, number)
         try:
@@ -268,13 +280,18 @@ class Reader:
             facts = self.message(inner[2:], number)
             if facts.kind != _INNER[inner[:2]]:
                 raise Unread("a token of an %s with an %s in it" % (_INNER[inner[:2]], facts.kind))
-            return facts._replace(shown_as="token")
-        return Facts("token", "of the mechanism %s" % _mechanism(mechanism), "token", [])
+            return facts._replace(shown=[("token", octets)])
+        return Facts("token", "of the mechanism %s" % _mechanism(mechanism), [("token", octets)], [])
 
     def _offer(self, octets: bytes, number: int, depth: int) -> Facts:
-        offer = spnego.neg_token_init(octets)
+        try:
+            offer = spnego.neg_token_init(octets)
+        except Refused:
+            if _HINT in octets:
+                return Facts("NegTokenInit2", "of a server that speaks first; more is not read", [], [])
+            raise
         said = "offers %s" % (", ".join(map(_mechanism, offer.mechanisms or [])) or "no mechanism")
-        return self._around("NegTokenInit", said, offer.mech_token, number, depth)
+        return self._around(octets, "NegTokenInit", said, offer.mech_token, number, depth)
 
     def _answer(self, octets: bytes, number: int, depth: int) -> Facts:
         answer = spnego.neg_token_resp(octets)
@@ -282,17 +299,17 @@ class Reader:
         name = name_of(Registry.NEGOTIATION_STATE, state) if state is not None else "no state"
         said = name or "state %s" % state
         said += ", %s" % _mechanism(answer.supported_mech) if answer.supported_mech is not None else ""
-        return self._around("NegTokenResp", said, answer.response_token, number, depth)
+        return self._around(octets, "NegTokenResp", said, answer.response_token, number, depth)
 
-    def _around(self, kind: str, said: str, inner: Optional[bytes], number: int, depth: int) -> Facts:
+    def _around(self, octets: bytes, kind: str, said: str, inner: Optional[bytes], number: int, depth: int) -> Facts:
         """The facts of a message of SPNEGO with those of the token in it."""
         if not inner:
-            return Facts(kind, said, "token", [])
+            return Facts(kind, said, [("token", octets)], [])
         try:
             facts = self.token(inner, number, depth + 1)
         except Unread as unread:
-            return Facts(kind, "%s; in it: not read: %s" % (said, unread), "token", [])
-        return Facts(kind, "%s; in it: %s" % (said, " ".join(filter(None, (facts.kind, facts.text)))), "token", facts.opened)
+            return Facts(kind, "%s; in it: not read: %s" % (said, unread), [("token", octets)], [])
+        return Facts(kind, "%s; in it: %s" % (said, " ".join(filter(None, X
 
 
 def _result(data: bytes) -> str:

@@ -79,8 +79,8 @@ class Packet(NamedTuple):
 
 
 def _octets(texts: List[str]) -> bytes:
-    """The octets of the last value of a field."""
-    return bytes.fromhex(texts[-1].replace(":", "")) if texts else b""
+    """The octets of the last value of a field; none where it is empty, of which later versions say "<MISSING>"."""
+    return bytes.fromhex(texts[-1].replace(":", "")) if texts and texts[-1] != "<MISSING>" else b""
 
 
 def _number(texts: List[str]) -> int:
@@ -134,6 +134,7 @@ class Capture:
             raise NoReader("%s is not there, which reads captures: install %s" % (READER, PACKAGE))
         command = [program, "-r", self.path, "-n", "--disable-protocol", "kerberos", "-Y", _FILTER, "-T", "ek"]
         command += [word for each in _PREFERENCES for word in ("-o", each)] + [word for each in _FIELDS for word in ("-e", each)]
+        strange = 0
         with tempfile.TemporaryFile() as said:
             try:
                 process = subprocess.Popen(command, stdin=subprocess.DEVNULL, stdout=subprocess.PIPE, stderr=said)
@@ -143,15 +144,18 @@ class Capture:
             try:
                 for line in process.stdout:
                     if b'"layers"' in line:
-                        fields = json.loads(line.decode("utf-8", "replace"))["layers"]
-                        yield _packet(fields)
-            except (ValueError, KeyError, IndexError):
-                self.trouble = "a line of %s that is none of its lines" % READER
+                        try:
+                            packet = _packet(json.loads(line.decode("utf-8", "replace"))["layers"])
+                        except (ValueError, LookupError):
+                            strange += 1
+                            continue
+                        yield packet
             finally:
                 process.stdout.close()
-                process.kill() if self.trouble else None
                 status = process.wait()
             said.seek(0)
             lines = [each for each in said.read().decode("utf-8", "replace").splitlines() if each and not each.startswith("Running as user")]
-            if status != 0 and self.trouble is None:
+            if status != 0:
                 self.trouble = lines[-1] if lines else "%s ends with the status %d" % (READER, status)
+            elif strange:
+                self.trouble = "%d packets of which %s says what is not understood" % (strange, READER)

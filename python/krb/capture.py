@@ -96,13 +96,16 @@ def messages(capture: Capture, reader: Reader) -> Iterator[Told]:
 def _page(each: Told, keytab: bytes, show_keys: bool) -> str:
     """The whole of a message, two blanks further in. The new password in a request for one is as hidden as keys are."""
     assert each.facts is not None
-    try:
-        page = show(each.octets, each.facts.shown_as, keytab if len(keytab) > 2 else b"", False, show_keys)
-    except Refused as refused:
-        return "  not shown: %s" % refused
-    if each.packet.target[1] == PASSWORD_PORT and each.packet.is_of_passwords and not show_keys:
-        page = _USER_DATA.sub(r"\1hidden", page)
-    return "\n".join("  " + printable(line) for line in page.rstrip("\n").split("\n"))
+    lines: List[str] = []
+    for kind, octets in each.facts.shown:
+        try:
+            page = show(octets, kind, keytab if len(keytab) > 2 else b"", False, show_keys)
+        except Refused as refused:
+            page = "not shown: %s" % refused
+        if each.packet.is_of_passwords and each.packet.target[1] == PASSWORD_PORT and not show_keys:
+            page = _USER_DATA.sub(r"\1hidden", page)
+        lines += page.rstrip("\n").split("\n")
+    return "".join("  %s\n" % printable(line) for line in lines)
 
 
 def _keytab(path: str) -> bytes:
@@ -133,7 +136,7 @@ def _tell(options: argparse.Namespace, reader: Reader) -> int:
         unread += each.facts is None
         print(each.line)
         if options.show and each.facts is not None:
-            print(_page(each, reader.keys.keytab(), options.show_keys))
+            print(_page(each, reader.keys.keytab(), options.show_keys), end="")
     sys.stdout.flush()
     if reader.keys.left_out:
         print("krb.capture: %d keys that were found are tried no more" % reader.keys.left_out, file=sys.stderr)
