@@ -4,7 +4,7 @@ tshark's Kerberos is Wireshark's dissector, which is generated from the standard
 in which both see messages, all values of each of FIELDS, those in opened parts among them, as multisets. What is known to differ:
 
 - tshark opens the parts of FAST (RFC 6113), which the library does not, and with a key of these the EncTGSRepPart: of packets with PA-FX-FAST ours may be fewer;
-- tshark's message of TCP is counted in the packet in which it ends, and so is ours."""
+- tshark takes no sign for a nonce."""
 
 import collections
 import datetime
@@ -34,6 +34,7 @@ FIELDS = {
     "names": ["name-string"],
 }
 NAMES = ["kerberos.CNameString", "kerberos.SNameString"]
+UNSIGNED = ["kerberos.nonce", "kerberos.seq_number", "kerberos.kvno"]
 FAST = 136  # PA-FX-FAST (RFC 6113, 7)
 HEAD = re.compile(r"(\d+) \d{4}-\d\d-\d\dT\S+Z (\S+) > (\S+) (.*)")
 
@@ -99,13 +100,19 @@ def values_of_tshark(fields, name):
     return [value.replace(":", "") for value in values] if name == "kerberos.keyvalue" else values
 
 
+def unsigned(values):
+    """tshark takes no sign for these; by X.690 they have one, and Heimdal's clients draw nonces below 0."""
+    return [str(int(value) % 2**32) for value in values]
+
+
 def differences(pages, packets, counts):
     """What differs, packet by packet; `counts` gets how many values were compared, of each field."""
     found = []
     for number, fields in packets.items():
         is_fast = str(FAST) in fields.get("kerberos.padata_type", [])
         for name in FIELDS:
-            left, right = collections.Counter(values_of(pages.get(number, []), name)), collections.Counter(values_of_tshark(fields, name))
+            both = values_of(pages.get(number, []), name), values_of_tshark(fields, name)
+            left, right = map(collections.Counter, map(unsigned, both) if name in UNSIGNED else both)
             counts[name] += sum((left & right).values())
             if is_fast:
                 counts["in FAST, of tshark alone"] += sum((right - left).values())

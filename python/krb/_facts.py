@@ -309,7 +309,7 @@ class Reader:
             facts = self.token(inner, number, depth + 1)
         except Unread as unread:
             return Facts(kind, "%s; in it: not read: %s" % (said, unread), [("token", octets)], [])
-        return Facts(kind, "%s; in it: %s" % (said, " ".join(filter(None, X
+        return Facts(kind, "%s; in it: %s" % (said, " ".join(filter(None, (facts.kind, facts.text)))), [("token", octets)], facts.opened)
 
 
 def _result(data: bytes) -> str:
