@@ -1,4 +1,4 @@
-"""Other programs that speak Kerberos: curl and a web page, Heimdal's clients and KDC, Samba's domain with its LDAP and SMB."""
+"""Other programs that speak Kerberos: curl and a web page, Heimdal's clients, Samba's domain (whose KDC is Heimdal's) with its LDAP and SMB."""
 
 import glob
 import importlib.machinery
@@ -15,8 +15,8 @@ TOP = os.path.dirname(os.path.dirname(os.path.dirname(os.path.abspath(__file__))
 SERVE = os.path.join(TOP, "examples", "http_negotiate", "serve.py")
 BASIC = "a secret word"  # a password that goes by in Basic, and is nobody's business
 HEIMDAL = (
-    "heimdal-clients heimdal-kdc libasn1-8-heimdal libgssapi3-heimdal libhcrypto5-heimdal libhdb9-heimdal libheimbase1-heimdal libheimntlm0-heimdal "
-    "libhx509-5-heimdal libkadm5clnt7-heimdal libkadm5srv8-heimdal libkafs0-heimdal libkdc2-heimdal libkrb5-26-heimdal libotp0-heimdal "
+    "heimdal-clients libasn1-8-heimdal libgssapi3-heimdal libhcrypto5-heimdal libhdb9-heimdal libheimbase1-heimdal libheimntlm0-heimdal "
+    "libhx509-5-heimdal libkadm5clnt7-heimdal libkadm5srv8-heimdal libkafs0-heimdal libkrb5-26-heimdal libotp0-heimdal "
     "libroken19-heimdal libsl0-heimdal libwind0-heimdal"
 ).split()
 
