@@ -42,6 +42,7 @@ class _Half:
         self.last: Optional[Packet] = None
         self.knows_place = True  # a message begins where `octets` do
         self.skipped = 0
+        self.tells_skipped = True  # it was not told yet that no place is known
 
     def take(self, packet: Packet) -> Iterator[Piece]:
         sequence = packet.sequence + 1 if packet.begins else packet.sequence  # SYN counts as one (RFC 9293, 3.4)
@@ -91,7 +92,7 @@ class _Half:
             length = int.from_bytes(self.octets[:_LENGTH], "big")
             if length > MOST_OCTETS:
                 yield Piece(packet, b"", "a length of %d octets before a message, and none is so long" % length)
-                self.skipped, self.knows_place = len(self.octets), False
+                self.knows_place, self.tells_skipped = False, False
                 self.octets.clear()
                 return
             if len(self.octets) < _LENGTH + length:
@@ -101,9 +102,9 @@ class _Half:
             yield Piece(packet, message)
 
     def _tell_skipped(self, packet: Packet) -> Iterator[Piece]:
-        if self.skipped:
+        if self.skipped and self.tells_skipped:
             yield Piece(packet, b"", "%d octets of the stream are left out, before which no beginning of a message is known" % self.skipped)
-            self.skipped = 0
+        self.skipped, self.tells_skipped = 0, True
 
     def end(self) -> Iterator[Piece]:
         """What is left when no more comes."""

@@ -141,8 +141,8 @@ def _tell(options: argparse.Namespace, reader: Reader) -> int:
     if reader.keys.left_out:
         print("krb.capture: %d keys that were found are tried no more" % reader.keys.left_out, file=sys.stderr)
     if capture.trouble is not None:
-        _fail("%s; %d messages up to there" % (re.sub(r"^tshark: ", "", capture.trouble), count))
-        return 1 if count or unread else 2
+        _fail("%s; %d messages up to there" % (re.sub(r"^tshark: |\.$", "", capture.trouble), count))
+        return 1 if count or unread or "cut short" in capture.trouble else 2
     return 1 if unread else 0
 
 
