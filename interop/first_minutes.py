@@ -69,12 +69,54 @@ def typed(commands, folder, environment, answer):
 
 
 def judge(title, commands, printed):
-    """The title of each check, and what is wrong; None where nothing is."""
+    """The title of each check, and what is wrong; None where nothing is. What `cat` shows of a file of the page is none."""
     for (command, wanted), lines in zip(commands, printed):
+        if re.fullmatch(r"cat \S+", command):
+            continue
         wrong = None if is_same(lines, wanted) else "prints %s" % lines
         yield "%s: %s" % (title, command[:90]), wrong
     if len(printed) != len(commands):
         yield title, "ended at command %d of %d" % (len(printed), len(commands))
+
+
+STAND_IN = """
+import base64, re, sys, krb
+token = base64.b64decode(open("header").read().split()[-1])
+keytab = open("http.keytab", "rb").read()
+words = sys.argv[1:]
+if words[0] == "show":
+    print("\\n".join(line for line in krb.show(token, None, keytab).split("\\n") if re.search(words[1], line)))
+else:
+    import calendar, datetime, time
+    form = "%Y-%m-%dT%H:%M:%SZ"
+    now = calendar.timegm(time.strptime(words[1], form)) if len(words) > 1 else time.time()
+    try:
+        context = krb.Acceptor(keytab, replay_cache=False, clock=lambda: now).accept(token)
+        print("accepted: %s for %s, until %s; no replay cache was asked" % (context.client, context.server, context.end_time.strftime(form)))
+    except krb.NotAccepted as refused:
+        seen = datetime.datetime.fromtimestamp(refused.seen, datetime.timezone.utc).strftime(form)
+        print("refused: %s: the client's time %s%s" % (refused.rule.name, seen, str(refused).partition("time")[2]))
+"""
+
+
+def stood_in(title, commands, library):
+    """The part with `jolmurig`, where it is not built: who is let in when, and what is opened, as the same library says to Python. The words of a line are not compared so."""
+    ours = []
+    for command, wanted in commands:
+        show = re.fullmatch(r"bin/jolmurig show --keytab http.keytab header \| grep -E '(.*)'", command)
+        accept = re.fullmatch(r"bin/jolmurig accept --keytab http.keytab (?:--time (\S+) )?header", command)
+        if show:
+            command = "%s stand_in.py show '%s'" % (PYTHON, show[1])
+        elif accept:
+            command = "%s stand_in.py accept %s" % (PYTHON, accept[1] or "")
+            wanted = [line.replace("clock skew", "SKEW") for line in wanted]
+        ours.append((command, wanted))
+    with tempfile.TemporaryDirectory() as folder:
+        os.symlink(os.path.join(TOP, "crates"), os.path.join(folder, "crates"))
+        with open(os.path.join(folder, "stand_in.py"), "w", encoding="ascii") as file:
+            file.write(STAND_IN)
+        environment = dict(os.environ, KRBC_LIBRARY=library, PYTHONPATH=os.path.join(TOP, "python"))
+        yield from judge(title + ", by krb in the place of jolmurig", ours, typed(ours, folder, environment, ""))
 
 
 def inside(library):
@@ -108,6 +150,8 @@ def checks(library, program):
         if any("bin/jolmurig" in command for command, _ in commands):
             if not os.access(program, os.X_OK):
                 yield title + ": not run, since bin/jolmurig did not build the program here", True
+                if library is not None:
+                    yield from stood_in(title, commands, library)
                 continue
             with tempfile.TemporaryDirectory() as folder:
                 os.symlink(os.path.join(TOP, "crates"), os.path.join(folder, "crates"))
