@@ -12,10 +12,11 @@ import dpkt
 
 from checks import expect, say
 from compare import HEAD, PYTHON, theirs
-from others import BASIC
+from others import BASIC, NEW_PASSWORD, SAMBA_PASSWORD
 from realm import PASSWORD
 
 SEED = 20
+PASSWORDS = "first", "second", PASSWORD, BASIC, SAMBA_PASSWORD, NEW_PASSWORD
 CLIENT, SERVER = bytes([10, 0, 0, 1]), bytes([10, 0, 0, 2])
 
 
@@ -97,8 +98,14 @@ def try_same(realm, environment, capture, keytab):
     for title, made in ways.items():
         status, lines, out, errors = told(environment, write(realm.path("same.pcap"), made), "--keytab", keytab)
         expect(status == 0 and sorted(lines) == sorted(wanted) and is_clean(out, errors), "%s: %d messages, and not %d: %s" % (title, len(lines), len(wanted), errors))
-    raw = write(realm.path("raw.pcap"), [(time, frame[14:]) for time, frame in packets], 101)
-    expect(told(environment, raw, "--keytab", keytab)[1] == wanted, "IP without a link")
+    links = {
+        "IP without a link": (101, b""),
+        "what `tcpdump -i any` writes": (276, struct.pack(">HHIHBB8s", 0x800, 0, 1, 772, 0, 6, bytes(8))),
+        "what it wrote before": (113, struct.pack(">HHH8sH", 0, 772, 6, bytes(8), 0x800)),
+    }
+    for title, (number, front) in links.items():
+        raw = write(realm.path("raw.pcap"), [(time, front + frame[14:]) for time, frame in packets], number)
+        expect(told(environment, raw, "--keytab", keytab)[1] == wanted, title)
     for form in ("pcapng", "nsecpcap", "nseclibpcap"):
         other = realm.path("other." + form)
         if subprocess.run(["editcap", "-F", form, capture, other], capture_output=True).returncode == 0:
@@ -260,6 +267,35 @@ def try_headers(realm, environment, token):
         expect(BASIC not in out and base64.b64encode(b"ann:" + BASIC.encode()).decode() not in out, "a password of Basic is printed")
 
 
+def try_passwords(realm, environment, capture, keytab, error):
+    """Frames in which a password is changed, of both versions, whole and changed; `error` is a KRB-ERROR."""
+    found = [bytes(inner.data) for _, frame in read(capture) for _, inner in [segment(frame)] if inner is not None and inner.dport == 464]
+    expect(len(found) == 1 and found[0][:4] == struct.pack(">I", len(found[0]) - 4), "one request for a new password: %d" % len(found))
+    login = [frame for _, frame in read(capture) if segment(frame)[1] is not None and 88 in (segment(frame)[1].sport, segment(frame)[1].dport)]
+    request = found[0][4:]
+    other = request[:2] + b"\xff\x80" + request[4:]  # RFC 3244, 2: sets a password, maybe of another user
+    asks = "UDP password request eve@HOME.TEST asks kadmin/changepw@HOME.TEST for a new password"
+    opened = "; opened: EncTicketPart, Authenticator, EncKrbPrivPart"
+    for title, payload, wanted in (
+        ("version 1", request, asks + opened),
+        ("version ff80", other, asks + opened),
+        ("octets behind it", request + b"ab", asks + "; 2 octets behind it" + opened),
+        ("another version", request[:2] + b"\0\2" + request[4:], "UDP not read: password request: OTHER_VERSION: .*"),
+        ("a cut one", request[:-1], "UDP not read: password request: TRUNCATED: .*"),
+        ("a cut one of version ff80", other[:-1], "UDP not read: KRB-PRIV: .*"),
+        ("its first octets", other[:7], "UDP not read: .*"),
+        ("a KRB-ERROR", error, re.escape("UDP KRB-ERROR 25 KDC_ERR_PREAUTH_REQUIRED: ann@HOME.TEST asked for krbtgt/HOME.TEST@HOME.TEST") + ".*"),
+    ):
+        path = made_of(realm, "passwords.pcap", login + datagram(payload, 464))
+        for words, is_shown in ((["--show"], False), (["--show", "--show-keys"], True)):
+            status, lines, out, errors = told(environment, path, "--keytab", keytab, *words)
+            right = is_clean(out, errors) and re.fullmatch(wanted, lines[-1][2])
+            expect(right and status == ("not read" in lines[-1][2]), "a password, %s: status %d, %s" % (title, status, lines[-1:]))
+            if wanted.startswith(asks):
+                shown = [word for word in ("first", "second") if word.encode().hex() in out]
+                expect(len(shown) == is_shown, "a password, %s: %s is shown with %s" % (title, shown, words))
+
+
 def try_files(realm, environment, capture):
     """Files that are cut, are none, or cannot be read, and a machine without tshark."""
     with open(capture, "rb") as file:
@@ -272,8 +308,8 @@ def try_files(realm, environment, capture):
         status, lines, out, errors = told(environment, path)
         lines = [line for line in lines if " not read: " not in line[2]]
         expect(lines == whole[: len(lines)] and is_clean(out, errors), "a file cut to %d octets: %d lines: %s" % (size, len(lines), errors))
-        # A file may be cut behind a packet. An empty one tshark takes for a capture without packets.
-        expect(status in ((1, 0) if size > 24 else (0, 2)) and (status == 0 or len(errors) == 1 or "not read" in out), "a file cut to %d octets: status %d: %s" % (size, status, errors))
+        # A file may be cut behind a packet. An empty one tshark takes for a capture without packets, and one without a whole header for none, or for one that is cut.
+        expect(status in ((1, 0) if size > 24 else (0, 1, 2)) and (status == 0 or len(errors) == 1 or "not read" in out), "a file cut to %d octets: status %d: %s" % (size, status, errors))
         shorter += len(lines) < len(whole)
     expect(shorter >= 20, "only %d files that are cut have fewer messages" % shorter)
     turned = 0
@@ -291,7 +327,8 @@ def try_files(realm, environment, capture):
         with open(path, "wb") as file:
             file.write(content)
         status, lines, out, errors = told(environment, path)
-        expect(status == 2 and lines == [] and len(errors) == 1 and is_clean(out, errors), "%s: status %d: %s" % (title, status, errors))
+        # tshark takes a keytab for the beginning of a capture of another kind.
+        expect(status == (1 if title == "a keytab" else 2) and lines == [] and len(errors) == 1 and is_clean(out, errors), "%s: status %d: %s" % (title, status, errors))
     for title, words in (("a folder", [realm.home]), ("no file", [realm.path("nowhere.pcap")]), ("a keytab that is none", [capture, "--keytab", capture]), ("no keytab", [capture, "--keytab", "/nowhere"])):
         status, lines, out, errors = told(environment, *words)
         expect(status == 2 and lines == [] and len(errors) == 1 and is_clean(out, errors), "%s: status %d: %s" % (title, status, errors))
@@ -305,34 +342,33 @@ def try_files(realm, environment, capture):
         expect(first.stdout.count(b"\n") == 1 and said.read() == b"", "a reader that goes away")
 
 
-def try_secrets(realm, environment, captures, keytab):
+def try_secrets(realm, environment, captures):
     """No key and no password is printed without --show-keys, and each with it: those that tshark has learnt, and those of the keytab."""
-    listed = subprocess.run(["klist", "-kKte", keytab], env=realm.environment, capture_output=True, text=True).stdout
-    long_term = set(re.findall(r"\(0x([0-9a-f]{32,64})\)", listed))
-    expect(len(long_term) >= 8, "klist has %d keys" % len(long_term))
-    for title, capture in captures.items():
-        if title.startswith("Samba"):
-            continue
+    for title, (capture, keytab) in captures.items():
+        listed = subprocess.run(["klist", "-kKte", keytab], env=realm.environment, capture_output=True, text=True).stdout
+        long_term = set(re.findall(r"\(0x([0-9a-f]{32,64})\)", listed))
+        expect(len(long_term) >= 8, "%s: klist has %d keys" % (title, len(long_term)))
         learnt = {value.replace(":", "") for fields in theirs(capture, keytab).values() for value in fields.get("kerberos.keyvalue", []) if "kerberos.fast.options" not in fields}
         expect(len(learnt) >= 3, "%s: tshark has learnt %d keys" % (title, len(learnt)))
-        secrets = learnt | long_term | {word.encode().hex() for word in ("first", "second", PASSWORD, BASIC)} | {"second", PASSWORD, BASIC}
+        secrets = learnt | long_term | {word.encode().hex() for word in PASSWORDS} | {*PASSWORDS} - {"first"}
         for words in ([], ["--show"]):
             out = told(environment, capture, "--keytab", keytab, *words)[2]
             expect(not [each for each in secrets if each in out], "%s: a secret is printed" % title)
         out = told(environment, capture, "--keytab", keytab, "--show", "--show-keys")[2]
         expect(sum(each in out for each in learnt) >= 3, "%s: --show-keys shows no keys" % title)
-        if title.startswith("MIT"):
-            expect(any(word.encode().hex() in out for word in ("first", "second")), "%s: --show-keys does not show the new password" % title)
+        if title.startswith(("MIT", "Samba")):
+            expect(any(word.encode().hex() in out for word in PASSWORDS), "%s: --show-keys does not show the new password" % title)
 
 
 def try_broken(realm, environment, captures, keytab):
-    udp, tcp = captures["MIT's clients, udp"], captures["MIT's clients, tcp"]
+    udp, tcp = captures["MIT's clients, udp"][0], captures["MIT's clients, tcp"][0]
     messages = requests(udp)
     try_same(realm, environment, tcp, keytab)
     try_streams(realm, environment, messages[0])
     try_datagrams(realm, environment, messages)
     try_names(realm, environment, messages[0])
-    found = [bytes(dpkt.ethernet.Ethernet(frame).data.data.data) for _, frame in read(captures["curl and a page"]) if b"Negotiate YII" in frame]
+    found = [bytes(dpkt.ethernet.Ethernet(frame).data.data.data) for _, frame in read(captures["curl and a page"][0]) if b"Negotiate YII" in frame]
     try_headers(realm, environment, base64.b64decode(re.search(rb"Negotiate (\S+)", found[0])[1]))
+    try_passwords(realm, environment, tcp, keytab, messages[1])
     try_files(realm, environment, tcp)
-    try_secrets(realm, environment, captures, keytab)
+    try_secrets(realm, environment, captures)

@@ -3,7 +3,8 @@
 tshark's Kerberos is Wireshark's dissector, which is generated from the standard's ASN.1 and decrypts with MIT's library. Nothing in it is ours. Compared are, of each packet
 in which both see messages, all values of each of FIELDS, those in opened parts among them, as multisets. What is known to differ:
 
-- tshark opens the parts of FAST (RFC 6113), which the library does not, and with a key of these the EncTGSRepPart: of packets with PA-FX-FAST ours may be fewer;
+- tshark opens the parts of FAST (RFC 6113), which the library does not, and with a key of these the EncTGSRepPart: of packets with such parts values of ours may be fewer, and of opened
+  parts those that FAST makes a key for; in an AS exchange all, since what armors it, a ticket and an authenticator, stands in FAST too;
 - tshark takes no sign for a nonce."""
 
 import collections
@@ -33,9 +34,20 @@ FIELDS = {
     "kerberos.kvno": ["kvno"],
     "names": ["name-string"],
 }
+# Fields of tshark of which there is one for each opened part, and how the line of ours begins. Those of BY_FAST have a key that FAST makes, in a reply to it.
+PARTS = {
+    "kerberos.encTicketPart_element": "EncTicketPart:",
+    "kerberos.authenticator_vno": "authenticator-vno:",
+    "kerberos.patimestamp": "patimestamp:",
+    "kerberos.encASRepPart_element": "EncASRepPart:",
+    "kerberos.encTGSRepPart_element": "EncTGSRepPart:",
+    "kerberos.encAPRepPart_element": "EncAPRepPart:",
+    "kerberos.encKrbPrivPart_element": "EncKrbPrivPart:",
+}
+BY_FAST = ["kerberos.encASRepPart_element", "kerberos.encTGSRepPart_element"]
 NAMES = ["kerberos.CNameString", "kerberos.SNameString"]
 UNSIGNED = ["kerberos.nonce", "kerberos.seq_number", "kerberos.kvno"]
-FAST = 136  # PA-FX-FAST (RFC 6113, 7)
+FAST = ["kerberos.enc_fast_req_element", "kerberos.enc_fast_rep_element"]  # what is encrypted of PA-FX-FAST (RFC 6113, 5.4)
 HEAD = re.compile(r"(\d+) \d{4}-\d\d-\d\dT\S+Z (\S+) > (\S+) (.*)")
 
 
@@ -56,7 +68,7 @@ def ours(environment, capture, keytab, *words):
 
 def theirs(capture, keytab):
     """The fields of each packet in which tshark sees Kerberos, as lists of texts."""
-    names = [name for name in FIELDS if "." in name] + NAMES + ["kerberos.padata_type", "ip.src", "ip.dst", "ipv6.src", "ipv6.dst"]
+    names = [name for name in FIELDS if "." in name] + NAMES + FAST + list(PARTS) + ["ip.src", "ip.dst", "ipv6.src", "ipv6.dst"]
     command = ["tshark", "-r", capture, "-n", "-K", keytab, "-o", "kerberos.decrypt:TRUE", "-o", "tcp.reassemble_out_of_order:TRUE", "-Y", "kerberos", "-T", "ek"]
     command += [word for name in names + ["frame.number"] for word in ("-e", name)]
     told = subprocess.run(command, capture_output=True, text=True, timeout=300).stdout
@@ -109,7 +121,13 @@ def differences(pages, packets, counts):
     """What differs, packet by packet; `counts` gets how many values were compared, of each field."""
     found = []
     for number, fields in packets.items():
-        is_fast = str(FAST) in fields.get("kerberos.padata_type", [])
+        is_fast = any(name in fields for name in FAST)
+        for name, start in PARTS.items():
+            mine, tsharks = sum(line.startswith(start) for line in pages.get(number, [])), len(fields.get(name, []))
+            counts["opened parts"] += min(mine, tsharks)
+            may_be_fewer = is_fast and (name in BY_FAST or fields.get("kerberos.msg_type", [])[:1] in (["10"], ["11"]))
+            if mine > tsharks or (mine < tsharks and not may_be_fewer):
+                found.append("packet %d, %s: %d, and tshark has %d" % (number, start, mine, tsharks))
         for name in FIELDS:
             both = values_of(pages.get(number, []), name), values_of_tshark(fields, name)
             left, right = map(collections.Counter, map(unsigned, both) if name in UNSIGNED else both)

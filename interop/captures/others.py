@@ -4,6 +4,7 @@ import glob
 import importlib.machinery
 import importlib.util
 import os
+import re
 import subprocess
 import time
 
@@ -14,6 +15,7 @@ from realm import PASSWORD, REALM
 TOP = os.path.dirname(os.path.dirname(os.path.dirname(os.path.abspath(__file__))))
 SERVE = os.path.join(TOP, "examples", "http_negotiate", "serve.py")
 BASIC = "a secret word"  # a password that goes by in Basic, and is nobody's business
+SAMBA_PASSWORD, NEW_PASSWORD = "A-pass-1word", "A-new-4word-here"  # the first is that of interop/samba
 HEIMDAL = (
     "heimdal-clients libasn1-8-heimdal libgssapi3-heimdal libhcrypto5-heimdal libhdb9-heimdal libheimbase1-heimdal libheimntlm0-heimdal "
     "libhx509-5-heimdal libkadm5clnt7-heimdal libkadm5srv8-heimdal libkafs0-heimdal libkrb5-26-heimdal libotp0-heimdal "
@@ -88,11 +90,15 @@ class Samba:
         domain.make()
         with open(domain.path("smb.conf"), encoding="ascii") as file:
             text = file.read().replace("server services = kdc", "server services = kdc, ldap, s3fs, winbindd\nldap server require strong auth = no")
+        # libwbclient looks for winbindd in this folder alone. It is one of this mount namespace.
+        os.makedirs("/run/samba", exist_ok=True)
+        subprocess.run(["mount", "-t", "tmpfs", "none", "/run/samba"], check=True)
+        text = re.sub("winbindd socket directory = .*", "winbindd socket directory = /run/samba/winbindd", text)
         domain.write("smb.conf", text.replace("kpasswd port = 0", "kpasswd port = 464"))
         with open(domain.path("krb5.conf"), encoding="ascii") as file:
             text = file.read()
         domain.write("krb5.conf", text.replace("kdc = 127.0.0.1:88", "kdc = 127.0.0.1:88\nkpasswd_server = 127.0.0.1:464"))
-        domain.tool("user", "create", "alice", self.samba.PASSWORD)
+        domain.tool("user", "create", "alice", SAMBA_PASSWORD)
         domain.tool("spn", "add", "ldap/dc1.ad.example", "dc1$")
         domain.tool("spn", "add", "cifs/dc1.ad.example", "dc1$")
         domain.tool("domain", "passwordsettings", "set", "--min-pwd-age=0")
@@ -101,7 +107,7 @@ class Samba:
 
     def conversation(self, path):
         """A ticket, a password, LDAP by GSSAPI and GSS-SPNEGO, and SMB; the names of what went well."""
-        domain, password = self.domain, self.samba.PASSWORD
+        domain, password = self.domain, SAMBA_PASSWORD
         hosts = domain.write("hosts", "127.0.0.1 dc1.ad.example dc1\n")
         cache = dict(domain.environment, KRB5CCNAME="FILE:" + domain.path("cache.cc"), LDAPSASL_NOCANON="on")
         ends = "-H", "ldap://dc1.ad.example", "-b", "", "-s", "base", "-N"
@@ -111,7 +117,7 @@ class Samba:
             "GSSAPI": (["ldapsearch", "-Y", "GSSAPI", *ends], ""),
             "GSS-SPNEGO": (["ldapsearch", "-Y", "GSS-SPNEGO", *ends], ""),
             "smbclient": (["smbclient", "--use-kerberos=required", "--use-krb5-ccache=" + cache["KRB5CCNAME"], "-s", domain.path("client.conf"), "//dc1.ad.example/netlogon", "-c", "ls"], ""),
-            "kpasswd": (["kpasswd", "alice@AD.EXAMPLE"], "%s\n%s\n%s\n" % (password, "A-new-4word-here", "A-new-4word-here")),
+            "kpasswd": (["kpasswd", "alice@AD.EXAMPLE"], "%s\n%s\n%s\n" % (password, NEW_PASSWORD, NEW_PASSWORD)),
         }
         domain.write("client.conf", "[global]\nrealm = AD.EXAMPLE\nworkgroup = AD\nlog level = 0\nlock directory = %s\nprivate dir = %s\n" % (domain.path("lock"), domain.path("private")))
         done = []

@@ -12,7 +12,7 @@ from krb._parts import decode
 
 __all__ = ["Facts", "Keys", "Reader", "Unread", "printable"]
 
-MOST_KEYS, MOST_TICKETS = 256, 4096  # that are remembered of a capture
+MOST_KEYS, MOST_TICKETS = 512, 4096  # that are remembered of a capture
 _ETYPES = range(16, 21)
 _MECHANISMS = {
     spnego.KERBEROS: "Kerberos",
