@@ -116,7 +116,7 @@ class Samba:
             "kvno": (["kvno", "host/dc1.ad.example"], ""),
             "GSSAPI": (["ldapsearch", "-Y", "GSSAPI", *ends], ""),
             "GSS-SPNEGO": (["ldapsearch", "-Y", "GSS-SPNEGO", *ends], ""),
-            "smbclient": (["smbclient", "--use-kerberos=required", "--use-krb5-ccache=" + cache["KRB5CCNAME"], "-s", domain.path("client.conf"), "//dc1.ad.example/netlogon", "-c", "ls"], ""),
+            "smbclient": (["smbclient", "--use-kerberos=required", "--use-krb5-ccache=" + cache["KRB5CCNAME"], "-s", domain.path("client.conf"), "//dc1.ad.example/IPC$", "-c", "quit"], ""),
             "kpasswd": (["kpasswd", "alice@AD.EXAMPLE"], "%s\n%s\n%s\n" % (password, NEW_PASSWORD, NEW_PASSWORD)),
         }
         domain.write("client.conf", "[global]\nrealm = AD.EXAMPLE\nworkgroup = AD\nlog level = 0\nlock directory = %s\nprivate dir = %s\n" % (domain.path("lock"), domain.path("private")))
