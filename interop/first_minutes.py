@@ -1,7 +1,8 @@
 """Types what docs/FIRST_TEN_MINUTES.md has, and compares what is printed.
 
-The lines of a part are typed into one bash, in a folder of its own, with what the person has beside a realm of MIT Kerberos on this machine (acceptor/realm.py, at the ports 88 and 464
-of a network namespace of its own). What stands behind `cat` of a file that is not there is written to it. A line that ends in `..` is the beginning of what is printed; alone, it is anything."""
+The lines of a part are typed into one bash, in a folder of its own, with what the person has beside a realm of MIT Kerberos on this machine
+(acceptor/realm.py, at the ports 88 and 464 of a network namespace of its own). What stands behind `cat` of a file that is not there is written to it.
+A line that ends in `..` is the beginning of what is printed; alone, it is anything."""
 
 import os
 import re
@@ -100,7 +101,8 @@ else:
 
 
 def stood_in(title, commands, library):
-    """The part with `jolmurig`, where it is not built: who is let in when, and what is opened, as the same library says to Python. The words of a line are not compared so."""
+    """The part with `jolmurig`, where it is not built: who is let in when, and what is opened, as the same library says to Python. The words of a line
+    are not compared so."""
     ours = []
     for command, wanted in commands:
         show = re.fullmatch(r"bin/jolmurig show --keytab http.keytab header \| grep -E '(.*)'", command)

@@ -1,10 +1,12 @@
 """What `krb.capture` and tshark with the same keytab say of the same capture, message by message.
 
-tshark's Kerberos is Wireshark's dissector, which is generated from the standard's ASN.1 and decrypts with MIT's library. Nothing in it is ours. Compared are, of each packet
-in which both see messages, all values of each of FIELDS, those in opened parts among them, as multisets. What is known to differ:
+tshark's Kerberos is Wireshark's dissector, which is generated from the standard's ASN.1 and decrypts with MIT's library. Nothing in it is ours.
+Compared are, of each packet in which both see messages, all values of each of FIELDS, those in opened parts among them, as multisets. What is known
+to differ:
 
-- tshark opens the parts of FAST (RFC 6113), which the library does not, and with a key of these the EncTGSRepPart: of packets with such parts values of ours may be fewer, and of opened
-  parts those that FAST makes a key for; in an AS exchange all, since what armors it, a ticket and an authenticator, stands in FAST too;
+- tshark opens the parts of FAST (RFC 6113), which the library does not, and with a key of these the EncTGSRepPart: of packets with such parts values
+  of ours may be fewer, and of opened parts those that FAST makes a key for; in an AS exchange all, since what armors it, a ticket and an
+  authenticator, stands in FAST too;
 - tshark takes no sign for a nonce."""
 
 import collections
@@ -34,7 +36,7 @@ FIELDS = {
     "kerberos.kvno": ["kvno"],
     "names": ["name-string"],
 }
-# Fields of tshark of which there is one for each opened part, and how the line of ours begins. Those of BY_FAST have a key that FAST makes, in a reply to it.
+# Fields of tshark of which there is one for each opened part, and how the line of ours begins. Those of BY_FAST have a key that FAST makes.
 PARTS = {
     "kerberos.encTicketPart_element": "EncTicketPart:",
     "kerberos.authenticator_vno": "authenticator-vno:",
@@ -69,7 +71,8 @@ def ours(environment, capture, keytab, *words):
 def theirs(capture, keytab):
     """The fields of each packet in which tshark sees Kerberos, as lists of texts."""
     names = [name for name in FIELDS if "." in name] + NAMES + FAST + list(PARTS) + ["ip.src", "ip.dst", "ipv6.src", "ipv6.dst"]
-    command = ["tshark", "-r", capture, "-n", "-K", keytab, "-o", "kerberos.decrypt:TRUE", "-o", "tcp.reassemble_out_of_order:TRUE", "-Y", "kerberos", "-T", "ek"]
+    command = ["tshark", "-r", capture, "-n", "-K", keytab, "-o", "kerberos.decrypt:TRUE", "-o", "tcp.reassemble_out_of_order:TRUE"]
+    command += ["-Y", "kerberos", "-T", "ek"]
     command += [word for name in names + ["frame.number"] for word in ("-e", name)]
     told = subprocess.run(command, capture_output=True, text=True, timeout=300).stdout
     packets = {}
@@ -146,18 +149,21 @@ def compare(title, environment, capture, keytab, least):
     packets, counts = theirs(capture, keytab), collections.Counter()
     # Messages: in which packets there are any. A token without Kerberos in it is no message of tshark's.
     of_kerberos = [each for each in heads if re.search(r"\b(A[SP]-RE[QP]|TGS-RE[QP]|KRB-ERROR|password (request|reply))\b", each[3])]
-    expect([each[0] for each in of_kerberos] == list(packets), "%s: messages in %s, and in tshark's %s" % (title, [each[0] for each in of_kerberos], list(packets)))
+    numbers = [each[0] for each in of_kerberos]
+    expect(numbers == list(packets), "%s: messages in %s, and in tshark's %s" % (title, numbers, list(packets)))
     expect(len(packets) >= least, "%s: %d messages are fewer than %d" % (title, len(packets), least))
     for number, source, target, _ in of_kerberos:
         fields = packets.get(number, {})
         ends = [(fields.get("ip." + side) or fields.get("ipv6." + side) or ["?"])[-1] for side in ("src", "dst")]
-        expect([source.rsplit(":", 1)[0].strip("[]"), target.rsplit(":", 1)[0].strip("[]")] == ends, "%s: packet %d: addresses %s" % (title, number, ends))
+        ours_ = [each.rsplit(":", 1)[0].strip("[]") for each in (source, target)]
+        expect(ours_ == ends, "%s: packet %d: addresses %s, and not %s" % (title, number, ours_, ends))
     for each in differences(pages, packets, counts):
         expect(False, "%s: %s" % (title, each))
     expect(counts["kerberos.keyvalue"] > 0, "%s: no key was compared" % title)
     for _ in range(sum(count for name, count in counts.items() if "alone" not in name)):
         expect(True, "")
-    say("%s: %d messages, of tshark %d; %s" % (title, len(of_kerberos), len(packets), ", ".join("%d %s" % (count, name) for name, count in sorted(counts.items()) if count)))
+    figures = ", ".join("%d %s" % (count, name) for name, count in sorted(counts.items()) if count)
+    say("%s: %d messages, of tshark %d; %s" % (title, len(of_kerberos), len(packets), figures))
     closed = ours(environment, capture, None)[2]
     expect(differences(closed, packets, collections.Counter()), "%s: without a keytab nothing differs" % title)
     return counts

@@ -51,7 +51,8 @@ class Heimdal:
         self.realm, self.root = realm, realm.path("heimdal")
         for package in packages:
             subprocess.run(["dpkg", "-x", package, self.root], check=True)
-        self.libraries = ":".join(glob.glob(os.path.join(self.root, "usr", "lib", "*")) + glob.glob(os.path.join(self.root, "usr", "lib", "*", "heimdal")))
+        places = os.path.join(self.root, "usr", "lib", "*")
+        self.libraries = ":".join(glob.glob(places) + glob.glob(os.path.join(places, "heimdal")))
         self.environment = dict(realm.environment, LD_LIBRARY_PATH=self.libraries, KRB5CCNAME="FILE:" + realm.path("heimdal.cache"))
 
     def program(self, name):
@@ -110,16 +111,18 @@ class Samba:
         domain, password = self.domain, SAMBA_PASSWORD
         hosts = domain.write("hosts", "127.0.0.1 dc1.ad.example dc1\n")
         cache = dict(domain.environment, KRB5CCNAME="FILE:" + domain.path("cache.cc"), LDAPSASL_NOCANON="on")
+        kerberos = "--use-kerberos=required", "--use-krb5-ccache=" + cache["KRB5CCNAME"], "-s", domain.path("client.conf")
         ends = "-H", "ldap://dc1.ad.example", "-b", "", "-s", "base", "-N"
         ways = {
             "kinit": (["kinit", "alice@AD.EXAMPLE"], password + "\n"),
             "kvno": (["kvno", "host/dc1.ad.example"], ""),
             "GSSAPI": (["ldapsearch", "-Y", "GSSAPI", *ends], ""),
             "GSS-SPNEGO": (["ldapsearch", "-Y", "GSS-SPNEGO", *ends], ""),
-            "smbclient": (["smbclient", "--use-kerberos=required", "--use-krb5-ccache=" + cache["KRB5CCNAME"], "-s", domain.path("client.conf"), "//dc1.ad.example/IPC$", "-c", "quit"], ""),
+            "smbclient": (["smbclient", *kerberos, "//dc1.ad.example/IPC$", "-c", "quit"], ""),
             "kpasswd": (["kpasswd", "alice@AD.EXAMPLE"], "%s\n%s\n%s\n" % (password, NEW_PASSWORD, NEW_PASSWORD)),
         }
-        domain.write("client.conf", "[global]\nrealm = AD.EXAMPLE\nworkgroup = AD\nlog level = 0\nlock directory = %s\nprivate dir = %s\n" % (domain.path("lock"), domain.path("private")))
+        lines = "[global]\nrealm = AD.EXAMPLE\nworkgroup = AD\nlog level = 0\nlock directory = %s\nprivate dir = %s\n"
+        domain.write("client.conf", lines % (domain.path("lock"), domain.path("private")))
         done = []
         with Recording(path):
             for name, (command, text) in ways.items():

@@ -28,7 +28,7 @@ _RESULTS = ["KRB5_KPASSWD_" + each for each in "SUCCESS MALFORMED HARDERROR AUTH
 # Inner tokens of Kerberos by their first two octets (RFC 4121, 4.1), and tokens that have no frame.
 _INNER = {b"\1\0": "AP-REQ", b"\2\0": "AP-REP", b"\3\0": "KRB-ERROR"}
 _PER_MESSAGE = {b"\4\4": "MIC token", b"\5\4": "Wrap token"}
-_PARTS = ("EncTicketPart", "Authenticator", "EncASRepPart", "EncTGSRepPart", "EncAPRepPart", "EncKrbPrivPart", "EncKrbCredPart", "PA-ENC-TS-ENC", "AuthorizationData")
+_PARTS = ("EncTicketPart", "Authenticator", "EncASRepPart", "EncTGSRepPart", "EncAPRepPart", "EncKrbPrivPart", "EncKrbCredPart", "PA-ENC-TS-ENC")
 
 
 class Unread(Exception):
@@ -36,8 +36,8 @@ class Unread(Exception):
 
 
 class Facts(NamedTuple):
-    """What a message is and says: its kind, as "AS-REQ" or "password request"; what it says, in a line of printable ASCII; what `krb.show` shows of it, each by a name
-    or as what it begins as; what is opened in it."""
+    """What a message is and says: its kind, as "AS-REQ" or "password request"; what it says, in a line of printable ASCII; what `krb.show` shows of
+    it, each by a name or as what it begins as; what is opened in it."""
 
     kind: str
     text: str
@@ -139,7 +139,6 @@ class Reader:
         for name, each in _dicts(tree):
             if name in _PARTS:
                 whole = name
-            if name in _PARTS and name != "AuthorizationData":
                 opened.append(name)
             if "keytype" in each and "keyvalue" in each:
                 self.keys.add(each["keytype"], each["keyvalue"], "%s %s@packet %d" % (whole or as_type, name, number))
@@ -241,7 +240,8 @@ class Reader:
 
     @staticmethod
     def _frame(octets: bytes) -> Tuple[frames.PasswordFrame, List[Tuple[Optional[str], bytes]]]:
-        """A frame, and what is shown of it. Of one that sets a password of another (RFC 3244, 2: version ff80) the library reads the two messages alone."""
+        """A frame, and what is shown of it. Of one that sets a password of another (RFC 3244, 2: version ff80) the library reads the two messages
+        alone."""
         if octets[2:4] != b"\xff\x80":
             frame = frames.password_frame(octets)
             return frame, [(None, octets[: frame.size])]

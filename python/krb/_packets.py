@@ -1,4 +1,4 @@
-"""Packets of a capture, as tshark of Wireshark hands them out: datagrams, segments, and the tokens that stand in headers of HTTP and in binds of LDAP and SMB.
+"""Packets of a capture, as tshark of Wireshark hands them out: datagrams, segments, and the tokens in headers of HTTP and in binds of LDAP and SMB.
 
 tshark reads the file, its links and addresses, puts fragments of IP together, and finds the fields. Its own reader of Kerberos is off."""
 
@@ -30,7 +30,8 @@ _FIELDS = _FRAME + _ADDRESSES + _SEGMENT + list(_HEADERS) + list(_BINDS)
 # What a packet has to have. One that an error message of ICMP quotes was there before.
 _WANTED = ["%s.port == %d" % (each, port) for each in ("tcp", "udp") for port in _PORTS] + list(_HEADERS) + list(_BINDS)
 _FILTER = "(%s) && !icmp && !icmpv6" % " || ".join(_WANTED)
-_PREFERENCES = ["tcp.desegment_tcp_streams:TRUE", "tcp.reassemble_out_of_order:TRUE", "ip.defragment:TRUE", "ipv6.defragment:TRUE", "http.desegment_headers:TRUE"]
+_TRUE = "tcp.desegment_tcp_streams tcp.reassemble_out_of_order ip.defragment ipv6.defragment http.desegment_headers"
+_PREFERENCES = [each + ":TRUE" for each in _TRUE.split()]
 _FINISH, _SYNCHRONIZE, _RESET = 1, 2, 4  # flags of a segment (RFC 9293, 3.1)
 _EPOCH = datetime.datetime(1970, 1, 1, tzinfo=datetime.timezone.utc)
 
@@ -116,8 +117,8 @@ def _packet(fields: Dict[str, List[str]]) -> Packet:
     is_cut = _number(texts("frame.cap_len")) < _number(texts("frame.len"))
     time = _microseconds(texts("frame.time_epoch")[-1])
     begins, is_end = bool(flags & _SYNCHRONIZE), bool(flags & (_FINISH | _RESET))
-    payload = _octets(texts(transport + ".payload"))
-    return Packet(_number(texts("frame.number")), time, ends[0], ends[1], stream, _number(texts("tcp.seq_raw")), begins, is_end, payload, tokens, is_cut)
+    payload, sequence = _octets(texts(transport + ".payload")), _number(texts("tcp.seq_raw"))
+    return Packet(_number(texts("frame.number")), time, ends[0], ends[1], stream, sequence, begins, is_end, payload, tokens, is_cut)
 
 
 class Capture:

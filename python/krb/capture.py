@@ -14,7 +14,7 @@ from krb._packets import PASSWORD_PORT, Capture, NoReader, Packet
 from krb._shown import show
 from krb._streams import Streams
 
-__all__ = ["Told", "main", "messages"]
+__all__ = ["Capture", "Facts", "Keys", "NoReader", "Packet", "Reader", "Told", "main", "messages"]
 
 _SCHEME = re.compile(r"(?:^|[,\s])(?:Negotiate|Kerberos)\s+([^\s,]+)", re.IGNORECASE)
 _USER_DATA = re.compile(r"^( *user-data: ).*$", re.MULTILINE)
@@ -27,7 +27,8 @@ The status is 0; 1 where octets are not read, or where the capture ends in the m
 
 
 class Told(NamedTuple):
-    """A message of a capture: the packet in which it ends, how it came, what it says, and its octets; `trouble` instead of facts where it is not read."""
+    """A message of a capture: the packet in which it ends, how it came, what it says, and its octets; `trouble` instead of facts where it is not
+    read."""
 
     packet: Packet
     way: str
@@ -148,9 +149,8 @@ def _tell(options: argparse.Namespace, reader: Reader) -> int:
 
 def main(arguments: Optional[List[str]] = None) -> int:
     """The command; the status."""
-    parser = argparse.ArgumentParser(
-        prog="krb.capture", description="Tells the messages of Kerberos in a capture of a network.", epilog=_EPILOG, formatter_class=argparse.RawDescriptionHelpFormatter
-    )
+    about = "Tells the messages of Kerberos in a capture of a network."
+    parser = argparse.ArgumentParser(prog="krb.capture", description=about, epilog=_EPILOG, formatter_class=argparse.RawDescriptionHelpFormatter)
     parser.add_argument("file", metavar="FILE", help="a capture, as tcpdump, dumpcap or Wireshark writes it")
     parser.add_argument("--keytab", metavar="KEYTAB", action="append", default=[], help="keys that open what is encrypted; may stand more than once")
     parser.add_argument("--show", action="store_true", help="the whole of each message, opened where a key fits")
