@@ -356,6 +356,17 @@ def try_files(realm, environment, capture):
         expect(first.stdout.count(b"\n") == 1 and said.read() == b"", "a reader that goes away")
 
 
+def try_snapped(realm, environment, capture):
+    """A capture of the first 300 octets of each packet, as tcpdump -s 300 writes it; of datagrams alone."""
+    packets = [(time, frame) for time, frame in read(capture) if isinstance(dpkt.ethernet.Ethernet(frame).data.data, dpkt.udp.UDP)]
+    whole, snapped = write(realm.path("datagrams.pcap"), packets), realm.path("snapped.pcap")
+    subprocess.run(["editcap", "-s", "300", whole, snapped], capture_output=True, check=True)
+    status, lines, out, errors = told(environment, snapped)
+    cut = [len(frame) > 300 for _, frame in packets]
+    found = [bool(re.search(r" not read: .*; the capture has not all octets of the packet$", line[2])) for line in lines]
+    expect(0 < sum(cut) < len(cut) and found == cut and status == 1 and is_clean(out, errors), "packets of 300 octets: %s, and not %s" % (found, cut))
+
+
 def try_secrets(realm, environment, captures):
     """No key and no password is printed without --show-keys, and each with it: those that tshark has learnt, and those of the keytab."""
     for title, (capture, keytab) in captures.items():
@@ -385,4 +396,5 @@ def try_broken(realm, environment, captures, keytab):
     try_headers(realm, environment, base64.b64decode(re.search(rb"Negotiate (\S+)", found[0])[1]))
     try_passwords(realm, environment, tcp, keytab, messages[1])
     try_files(realm, environment, tcp)
+    try_snapped(realm, environment, udp)
     try_secrets(realm, environment, captures)
