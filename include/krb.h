@@ -873,16 +873,16 @@ krb_status krb_negotiation_answer(krb_negotiation *side, uint32_t progress, uint
 
 /* A client: tickets of a KDC, and the request for a service (RFC 4120, 3.1 to 3.3; docs/CLIENT.md).
 
-   Calls without state of their own: what an exchange keeps between two messages stands in the caller's krb_exchange. The caller sends and receives, reads the
-   clock and draws random numbers. Names are texts as RFC 1964, 2.1.1, has them, with a realm: "carol@HOME.TEST", "HTTP/www.home.test@HOME.TEST", "krbtgt/HOME.TEST@HOME.TEST".
-   `\` stands before `/`, `@` and `\` within a component. */
+   The calls keep nothing: what an exchange keeps between two messages stands in a krb_exchange of the caller's. The caller sends and receives, reads the clock and
+   draws random numbers. A name is a text of RFC 1964, 2.1.1, with a realm: "carol@HOME.TEST", "HTTP/www.home.test@HOME.TEST", "krbtgt/HOME.TEST@HOME.TEST"; a
+   backslash stands before a slash, an at sign and a backslash within a component. */
 
-/* What of krb_client_terms is looked at, added. */
+/* Settings of krb_client_terms. */
 enum {
-    KRB_CLIENT_FROM = 1,      /* `from` is asked for */
-    KRB_CLIENT_RTIME = 2,     /* `rtime` is asked for */
-    KRB_CLIENT_DATAGRAMS = 4, /* the transport may deliver replies to other requests, as UDP may: one that opens and has another nonce is passed over, else refused */
-    KRB_CLIENT_CANONICALIZE = 8 /* the AS-REQ asks that the reply have its checksum (RFC 6806, 11): krb_client_renamed; the option 15 is the caller's */
+    KRB_CLIENT_FROM = 1,        /* `from` is asked for */
+    KRB_CLIENT_RTIME = 2,       /* `rtime` is asked for */
+    KRB_CLIENT_DATAGRAMS = 4,   /* the transport may deliver replies to other requests, as UDP may: one that opens and has another nonce is passed over, else refused */
+    KRB_CLIENT_CANONICALIZE = 8 /* an AS-REQ asks that the reply have its checksum (RFC 6806, 11), for krb_client_renamed; the option 15 is among the options */
 };
 
 typedef struct krb_client_terms {
@@ -900,7 +900,7 @@ typedef struct krb_client_terms {
     uint32_t settings;     /* KRB_CLIENT_.., added; other bits are not looked at */
 } krb_client_terms;
 
-/* What an exchange keeps between two messages: all zeros at its beginning (but an offset that an exchange before it took). */
+/* What an exchange keeps between two messages. It is all zeros at the beginning; of krb_client_ticket it may have an offset that an exchange before it took. */
 typedef struct krb_exchange {
     int64_t offset;      /* by how many seconds the KDC's time is ahead of the client's, where has_offset is 1 */
     uint32_t has_offset; /* 1 where the KDC's time was taken from an error of the KDC, and else 0 */
@@ -917,7 +917,7 @@ enum {
     KRB_FOLLOWS_GRANTED = 3  /* the KDC granted a ticket; the exchange is over */
 };
 
-/* The first rule that a reply breaks, in their order, or why no request is made. */
+/* The first rule that a reply breaks (docs/CLIENT.md), why there is no key for what the KDC tells (20 to 27), or why no request is made (29 to 36). */
 enum {
     KRB_CLIENT_RULE_NONE = 0,
     KRB_CLIENT_RULE_OTHER_MESSAGE = 1,
@@ -969,34 +969,36 @@ typedef struct krb_followed {
     uint32_t code;    /* of KRB_CLIENT_RULE_KDC, the error's (7.5.9); else 0 */
 } krb_followed;
 
-/* A first ticket (RFC 4120, 3.1), by a password or, where `keytab` has octets, by the client's keys in it: of each encryption type the last one, which was
-   added last.
+/* A first ticket (RFC 4120, 3.1), step by step, by a password or, where `keytab` has octets, by the client's keys in it: of each encryption type the last one,
+   which was added last. A message of no octets begins an exchange, by an AS-REQ without pre-authentication; each other one is what the KDC sent.
+   `options` are numbers of KDCOptions (5.4.1), 0 to 31; `flags` those of the flags 1 to 8 that the ticket may have; `etypes` the encryption types, the preferred one
+   first; `random` has 16 octets, fresh for each call.
 
-   `message` of no octets begins the exchange: an AS-REQ without pre-authentication. Else it is what the KDC sent.
-   `options`: numbers of KDCOptions (5.4.1), 0 to 31. `flags`: which of the flags 1 to 8 the ticket may have. `etypes`: in the order of preference. `random`: 16 octets, fresh.
-
-   KRB_DONE: *followed says what follows; *exchange is as it is to be passed in the next time. KRB_ROOM: `out` is too small; *exchange and `out` are as they were, *followed all
-   zeros. As many octets as `message` has twice, and 2048, suffice.
-   KRB_NOT_GRANTED (42): *followed says which rule is broken. KRB_INVALID: `client` or `server` is no name with a realm. KRB_NUMBER: an encryption type that the library does not have.
-   KRB_SEED_SIZE: `random` has not 16 octets. KRB_KEYTAB: `keytab` is none. KRB_MEMORY. On each of these *exchange and `out` are as they were, *size is 0. */
+   KRB_DONE: *followed says what follows, and *exchange is as it is to be passed in the next time. KRB_ROOM: there are *size octets, more than `room`; *followed is all
+   zeros, and *exchange and `out` are as they were: the same call with more room answers the same.
+   KRB_NOT_GRANTED: *followed says which rule is broken. KRB_SEED_SIZE: `random` has not 16 octets. KRB_INVALID: `client` or `server` is no name with a realm.
+   KRB_NUMBER: an encryption type is not supported. KRB_KEYTAB: `keytab` is none. KRB_MEMORY. On each of these *size is 0, *exchange and `out` are as they were and, but
+   for KRB_NOT_GRANTED, *followed is all zeros. */
 krb_status krb_client_initial(const krb_client_terms *terms, const size_t *options, size_t options_count, const size_t *flags, size_t flags_count,
                               const int32_t *etypes, size_t etypes_count, const uint8_t *client, size_t client_size, const uint8_t *server,
                               size_t server_size, const uint8_t *password, size_t password_size, const uint8_t *keytab, size_t keytab_size,
                               const uint8_t *random, size_t random_size, const uint8_t *message, size_t message_size, krb_exchange *exchange,
                               krb_followed *followed, uint8_t *out, size_t room, size_t *size);
 
-/* A reply to krb_client_initial that was refused by KRB_CLIENT_RULE_CLIENT, .._TICKET or .._SERVER, since it renames the client or the server (RFC 6806, 6 and 8), where
-   the caller allows that: `client` and `server` are the names of the reply ("crealm", "cname", "ticket.realm" and "ticket.sname" of its AS-REP to krb_find), `request` is
-   the last request of the exchange. All rules hold, for these names, and besides the reply's part has the checksum of the request under the reply key, for which
-   KRB_CLIENT_CANONICALIZE asks. *exchange is as the last krb_client_initial left it, and stays so. The reply's names of the client are under no key; who sent a reply had the key.
-   KRB_DONE: the ticket is granted. KRB_NOT_GRANTED: *followed says which rule is broken. Else as krb_client_initial. */
+/* What an AS-REP grants that krb_client_initial refused by KRB_CLIENT_RULE_CLIENT, KRB_CLIENT_RULE_TICKET or KRB_CLIENT_RULE_SERVER, since it renames the client or
+   the server (RFC 6806, 6 and 8), where the caller allows that. `client` and `server` are the names of the reply (to krb_find "crealm", "cname", "ticket.realm" and
+   "ticket.sname" of the AS-REP), `request` is the last request of the exchange, *exchange as the last call left it; the nonce of the terms is not looked at.
+   All rules hold for these names, and besides the reply's part has the checksum of the request under the reply key, for which KRB_CLIENT_CANONICALIZE asks. The client's
+   new name is under no key.
+   KRB_DONE, KRB_ROOM, KRB_NOT_GRANTED and the other statuses as of krb_client_initial; *exchange stays as it is. */
 krb_status krb_client_renamed(const krb_client_terms *terms, const size_t *flags, size_t flags_count, const int32_t *etypes, size_t etypes_count,
                               const uint8_t *client, size_t client_size, const uint8_t *server, size_t server_size, const uint8_t *request,
                               size_t request_size, const uint8_t *message, size_t message_size, const krb_exchange *exchange, krb_followed *followed,
                               uint8_t *out, size_t room, size_t *size);
 
-/* A further ticket (3.3), by a ticket for the KDC (its encoding) and its session key. `subkey` has as many octets as the session key, random, fresh for the exchange and
-   the same in each of its calls. As krb_client_initial in all else. KRB_INVALID also where `ticket` is no encoding of a ticket. */
+/* A further ticket (3.3), step by step, by the encoding of a ticket for the KDC and its session key. `subkey` has as many octets as the session key, random, fresh for
+   each exchange and the same in each of its calls. All else as krb_client_initial; KRB_INVALID, KRB_TRUNCATED or KRB_UNSUPPORTED also where `ticket` is no encoding of a
+   ticket, KRB_NUMBER where the encryption type of the session key is not supported. */
 krb_status krb_client_ticket(const krb_client_terms *terms, const size_t *options, size_t options_count, const size_t *flags, size_t flags_count,
                              const int32_t *etypes, size_t etypes_count, const uint8_t *client, size_t client_size, const uint8_t *server,
                              size_t server_size, const uint8_t *ticket, size_t ticket_size, int32_t session_etype, const uint8_t *session_key,
@@ -1004,6 +1006,7 @@ krb_status krb_client_ticket(const krb_client_terms *terms, const size_t *option
                              const uint8_t *message, size_t message_size, krb_exchange *exchange, krb_followed *followed, uint8_t *out, size_t room,
                              size_t *size);
 
+/* Settings of krb_ap_terms. */
 enum {
     KRB_AP_SEQUENCE = 1, /* sequence_number stands in the authenticator */
     KRB_AP_GSS = 2,      /* the checksum 0x8003 of the GSS-API (RFC 4121, 4.1.1), of gss_flags and the bindings */
@@ -1013,23 +1016,26 @@ enum {
 typedef struct krb_ap_terms {
     int64_t seconds;          /* the client's time; what an AP-REP has to repeat */
     uint32_t microseconds;    /* after it, 0 to 999999 */
-    uint32_t client_type;
+    uint32_t client_type;     /* the type of the client's name (6.2): usually 1 */
     uint32_t sequence_number; /* of the client's first message */
-    uint32_t gss_flags;       /* RFC 4121, 4.1.1.1; 1, delegation, is refused */
-    uint32_t settings;        /* KRB_AP_.., added */
-    int32_t session_etype;
+    uint32_t gss_flags;       /* of the context (RFC 4121, 4.1.1.1): 2 mutual authentication, 4 replay, 8 sequence, 16 confidentiality, 32 integrity; not 1, delegation */
+    uint32_t settings;        /* KRB_AP_.., added; other bits are not looked at */
+    int32_t session_etype;    /* the encryption type of the session key and of the subkey */
 } krb_ap_terms;
 
-/* The AP-REQ for a service (3.2.2), by a ticket and its session key. `subkey` has as many octets as the session key, or none: then the request has none. `bindings` is the hash of
-   channel bindings (krb_channel_bindings, 16 octets), or no octets where there are none. `random` has 16 octets.
-   KRB_NOT_GRANTED: *rule says why no request is made. KRB_INVALID, KRB_NUMBER, KRB_SEED_SIZE (also of `bindings`), KRB_MEMORY; KRB_ROOM. */
+/* The AP-REQ for a service (3.2.2), by the encoding of a ticket and its session key. `subkey` has as many octets as the session key, random, or none: then the request
+   has none. `bindings` is the hash of channel bindings (krb_channel_bindings, 16 octets), or no octets where there are none. `random` has 16 octets, fresh.
+   KRB_DONE; KRB_ROOM. KRB_NOT_GRANTED: *rule says why no request is made. KRB_SEED_SIZE: `random` has not 16 octets, or `bindings` neither 0 nor 16. KRB_NUMBER: the encryption
+   type is not supported. KRB_INVALID: `client` is no name with a realm. KRB_INVALID, KRB_TRUNCATED, KRB_UNSUPPORTED: `ticket` is no encoding of a ticket. KRB_MEMORY.
+   But for KRB_NOT_GRANTED *rule is 0. */
 krb_status krb_client_ap_request(const krb_ap_terms *terms, const uint8_t *client, size_t client_size, const uint8_t *ticket, size_t ticket_size,
                                  const uint8_t *session_key, size_t session_key_size, const uint8_t *subkey, size_t subkey_size,
                                  const uint8_t *bindings, size_t bindings_size, const uint8_t *random, size_t random_size, uint32_t *rule, uint8_t *out,
                                  size_t room, size_t *size);
 
-/* Whether an AP-REP confirms the service (3.2.5): it opens under the session key to the very time that was sent. Hands out the encoding of its EncAPRepPart (5.5.2), with the service's
-   subkey and the number of its first message. KRB_NOT_GRANTED: *rule says which rule is broken. */
+/* Whether an AP-REP confirms the service (3.2.5): it opens under the session key to the very time that was sent. Hands out the encoding of its EncAPRepPart (5.5.2), in
+   which the service's subkey and the number of its first message stand.
+   KRB_DONE; KRB_ROOM. KRB_NOT_GRANTED: *rule says which rule is broken. KRB_NUMBER: the encryption type is not supported. KRB_MEMORY. But for KRB_NOT_GRANTED *rule is 0. */
 krb_status krb_client_ap_reply(int32_t session_etype, const uint8_t *session_key, size_t session_key_size, int64_t seconds, uint32_t microseconds,
                                const uint8_t *reply, size_t reply_size, uint32_t *rule, uint8_t *out, size_t room, size_t *size);
 

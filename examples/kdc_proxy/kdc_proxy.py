@@ -56,6 +56,8 @@ class Application:
         settings = configparser.ConfigParser(interpolation=None)
         with open(path, encoding="ascii") as file:
             settings.read_file(file)
+        if not settings.has_section("proxy"):
+            settings.add_section("proxy")  # all of it has defaults
         own = settings["proxy"]
         self.limit, self.seconds = own.getint("limit", 131072), own.getfloat("seconds", 10)
         self.any_target_domain = own.getboolean("any_target_domain", False)

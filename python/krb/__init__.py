@@ -15,6 +15,7 @@
 - `krb.frames`: frames of password changes (RFC 3244), messages through a proxy to a KDC (MS-KKDCP).
 - `krb.proxy`: the requests and replies that a KDC proxy passes on, and no others (MS-KKDCP).
 - `krb.pac`: the buffers of a PAC (MS-PAC). `krb.spnego`: tokens of the GSS-API (RFC 2743).
+- `krb.capture`: the messages in a capture of a network (docs/CAPTURES.md). `python -m krb capture` is its command line.
 - `python3 -m krb.web` serves a page on 127.0.0.1 that shows octets in the browser (docs/WEB.md).
 
 Octets come in as any object with a buffer of octets, as bytes, bytearray or memoryview, and go out as bytes, but for the buffers of a PAC,

@@ -1,4 +1,4 @@
-"""A command line of a client: python -m krb kinit|klist|kvno|kpasswd|kdestroy, with options as those of MIT Kerberos have them."""
+"""A command line: python -m krb kinit|klist|kvno|kpasswd|kdestroy, a client with options as those of MIT Kerberos have them, and python -m krb capture."""
 
 import argparse
 import datetime
@@ -9,7 +9,7 @@ import re
 import sys
 from typing import Callable, Dict, List, Optional
 
-from krb import _ccache
+from krb import _ccache, capture
 from krb._configuration import Configuration
 from krb._items import Registry, find_number, name_of
 from krb._names import parsed
@@ -126,6 +126,7 @@ def run_kinit(options: argparse.Namespace) -> int:
     found = kinit(
         client, password, keytab, kdc=settings.kdc, server=options.server, lifetime=options.lifetime, renewable=options.renewable, forwardable=options.forwardable,
         proxiable=options.proxiable, start=options.start, timeout=options.timeout, configuration=options.config, dns=options.dns,
+        canonicalize=options.canonicalize,
     )
     found.save(path)
     return 0
@@ -235,6 +236,7 @@ def parser_of() -> argparse.ArgumentParser:
     first.add_argument("-s", dest="start", type=duration, metavar="DURATION", help="from when on it is to be valid: a postdated ticket")
     first.add_argument("-f", dest="forwardable", action="store_true", help="a forwardable ticket")
     first.add_argument("-p", dest="proxiable", action="store_true", help="a proxiable ticket")
+    first.add_argument("-C", dest="canonicalize", action="store_true", help="the KDC may answer with another name of the client (RFC 6806)")
     first.add_argument("-S", dest="server", metavar="SERVICE", help="for another service than the ticket-granting one")
     first.add_argument("-R", dest="renew", action="store_true", help="renew the ticket of the file")
     first.add_argument("-v", dest="validate", action="store_true", help="validate the postdated ticket of the file")
@@ -256,6 +258,7 @@ def parser_of() -> argparse.ArgumentParser:
     add_ways(changed)
     changed.add_argument("principal", nargs="?", help="as carol@HOME.TEST; else the user's name in the default realm")
     command("kdestroy", "remove the file of tickets")
+    commands.add_parser("capture", add_help=False, help="tell the messages in a capture of a network (python -m krb capture --help)")
     return parser
 
 
@@ -265,6 +268,9 @@ COMMANDS: Dict[str, Callable[[argparse.Namespace], int]] = {
 
 
 def main(words: Optional[List[str]] = None) -> int:
+    words = sys.argv[1:] if words is None else words
+    if words[:1] == ["capture"]:
+        return capture.main(words[1:])
     options = parser_of().parse_args(words)
     try:
         return COMMANDS[options.command](options)
