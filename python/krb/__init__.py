@@ -22,7 +22,7 @@ Octets come in as any object with a buffer of octets, as bytes, bytearray or mem
 which are views of it. What a call refuses is `Refused`, whose `status` says why. The calls may be made by several threads at once; they let
 go of the interpreter's lock.
 
-The shared object is `libkrbc.so.1` beside this file, or what the variable KRBC_LIBRARY names."""
+The shared object is what the variable KRBC_LIBRARY names, or `libkrbc.so.1` beside this file, or that of the system's."""
 
 from krb._items import Form, Item, Leaf, Node, Registry, Role, Secret, find_item, first_error, items, name_of, type_of
 from krb._library import Refused, Status
@@ -42,4 +42,4 @@ __all__ += ["Acceptor", "AnyReplayCache", "ChannelBindings", "Context", "Context
 __all__ += ["OutOfOrder", "ReplayCache", "Rule", "accept"]
 __all__ += ["KerberosMechanism", "Mechanism", "NegotiationRole", "NegotiationRule", "NegotiationState", "Negotiator", "NotNegotiated", "negotiate"]
 __all__ += ["ClientRule", "Credentials", "Initiator", "InitiatorContext", "KdcUnreachable", "KerberosInitiator", "NotGranted", "client", "kinit"]
-__version__ = "0.1.0"
+__version__ = "0.2.0"

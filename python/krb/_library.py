@@ -137,7 +137,9 @@ _OUT = [ctypes.c_void_p, ctypes.c_size_t, ctypes.POINTER(ctypes.c_size_t)]
 
 
 def _load() -> ctypes.CDLL:
-    return ctypes.CDLL(os.environ.get("KRBC_LIBRARY") or str(pathlib.Path(__file__).with_name("libkrbc.so.1")))
+    """The shared object that KRBC_LIBRARY names, or that stands beside this file, as in a wheel, or that the loader finds, as a Debian package's."""
+    beside = pathlib.Path(__file__).with_name("libkrbc.so.1")
+    return ctypes.CDLL(os.environ.get("KRBC_LIBRARY") or (str(beside) if beside.exists() else beside.name))
 
 
 _library = _load()
