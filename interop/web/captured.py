@@ -149,7 +149,9 @@ def try_list(browser, site, top):
         told = browser.run(PASTE + TOLD, text)
         begin_so(told, fronts, form)
         expect(told["status"].endswith("given as " + form), "%s: %r" % (form, told["status"]))
-    # Messages that are chosen, each as the decoders of test_show have it.
+    # Messages that are chosen, each as the decoders of test_show have it. What "Read as" says is of what is given, and of no message of a capture.
+    browser.run("document.getElementById('kind').value = 'Ticket'")
+    begin_so(drop(browser, whole), fronts, "a capture, to be read as a ticket")
     told = chosen(browser, 0)
     expect(told["lines"] == expected[:-1] and told["back"] and told["list"] is None, "the AS-REQ that is chosen: %s" % (told["error"] or told["lines"][:5]))
     expect(told["of"].startswith(fronts[0]) and told["octets"] == [request.hex()], "its octets, or its line: %r" % told["of"])
