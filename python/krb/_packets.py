@@ -6,8 +6,8 @@ import datetime
 import json
 import shutil
 import subprocess
-import tempfile
-from typing import Dict, Iterator, List, NamedTuple, Optional, Tuple
+import threading
+from typing import IO, Dict, Iterator, List, NamedTuple, Optional, Tuple
 
 __all__ = ["KERBEROS_PORT", "PASSWORD_PORT", "Capture", "NoReader", "Packet"]
 
@@ -33,6 +33,7 @@ _FILTER = "(%s) && !icmp && !icmpv6" % " || ".join(_WANTED)
 _TRUE = "tcp.desegment_tcp_streams tcp.reassemble_out_of_order ip.defragment ipv6.defragment http.desegment_headers"
 _PREFERENCES = [each + ":TRUE" for each in _TRUE.split()]
 _FINISH, _SYNCHRONIZE, _RESET = 1, 2, 4  # flags of a segment (RFC 9293, 3.1)
+_MOST_SAID = 4096  # octets of what tshark says beside the packets
 _EPOCH = datetime.datetime(1970, 1, 1, tzinfo=datetime.timezone.utc)
 
 
@@ -121,11 +122,43 @@ def _packet(fields: Dict[str, List[str]]) -> Packet:
     return Packet(_number(texts("frame.number")), time, ends[0], ends[1], stream, sequence, begins, is_end, payload, tokens, is_cut)
 
 
-class Capture:
-    """A file of packets. `trouble` says, behind the last packet, why there may be more than were read: a line of tshark, or None."""
+class _Said:
+    """What a program says on its standard error, of which the end counts. Nothing of it is written to disk."""
 
-    def __init__(self, path: str) -> None:
-        self.path = path
+    def __init__(self, pipe: IO[bytes]) -> None:
+        self._pipe, self._octets = pipe, b""
+        self._thread = threading.Thread(target=self._read, daemon=True)
+        self._thread.start()
+
+    def _read(self) -> None:
+        while True:
+            octets = self._pipe.read(4096)
+            if not octets:
+                return
+            self._octets = (self._octets + octets)[-_MOST_SAID:]
+
+    def lines(self) -> List[str]:
+        """The lines, once the program has ended."""
+        self._thread.join()
+        self._pipe.close()
+        return [each for each in self._octets.decode("utf-8", "replace").splitlines() if each and not each.startswith("Running as user")]
+
+
+def _feed(pipe: IO[bytes], octets: bytes) -> None:
+    """Gives a program its input, as far as it takes it."""
+    try:
+        with pipe:
+            pipe.write(octets)
+    except OSError:
+        pass
+
+
+class Capture:
+    """A file of packets, or its `octets`, of which nothing is written to disk. `trouble` says, behind the last packet, why there may be more than were
+    read: a line of tshark, or None. With `seconds` tshark is stopped when they are over, and `trouble` says so."""
+
+    def __init__(self, path: str = "-", octets: Optional[bytes] = None, seconds: Optional[float] = None) -> None:
+        self.path, self.octets, self.seconds = path, octets, seconds
         self.trouble: Optional[str] = None
 
     def packets(self) -> Iterator[Packet]:
@@ -133,30 +166,48 @@ class Capture:
         program = shutil.which(READER)
         if program is None:
             raise NoReader("%s is not there, which reads captures: install %s" % (READER, PACKAGE))
-        command = [program, "-r", self.path, "-n", "--disable-protocol", "kerberos", "-Y", _FILTER, "-T", "ek"]
+        command = [program, "-r", self.path if self.octets is None else "-", "-n", "--disable-protocol", "kerberos", "-Y", _FILTER, "-T", "ek"]
         command += [word for each in _PREFERENCES for word in ("-o", each)] + [word for each in _FIELDS for word in ("-e", each)]
-        strange = 0
-        with tempfile.TemporaryFile() as said:
-            try:
-                process = subprocess.Popen(command, stdin=subprocess.DEVNULL, stdout=subprocess.PIPE, stderr=said)
-            except OSError as error:
-                raise NoReader("%s cannot be started: %s" % (READER, error)) from None
-            assert process.stdout is not None
-            try:
-                for line in process.stdout:
-                    if b'"layers"' in line:
-                        try:
-                            packet = _packet(json.loads(line.decode("utf-8", "replace"))["layers"])
-                        except (ValueError, LookupError):
-                            strange += 1
-                            continue
-                        yield packet
-            finally:
-                process.stdout.close()
-                status = process.wait()
-            said.seek(0)
-            lines = [each for each in said.read().decode("utf-8", "replace").splitlines() if each and not each.startswith("Running as user")]
-            if status != 0:
-                self.trouble = lines[-1] if lines else "%s ends with the status %d" % (READER, status)
-            elif strange:
-                self.trouble = "%d packets of which %s says what is not understood" % (strange, READER)
+        source = subprocess.DEVNULL if self.octets is None else subprocess.PIPE
+        try:
+            process = subprocess.Popen(command, stdin=source, stdout=subprocess.PIPE, stderr=subprocess.PIPE)
+        except OSError as error:
+            raise NoReader("%s cannot be started: %s" % (READER, error)) from None
+        assert process.stdout is not None and process.stderr is not None
+        stopped = threading.Event()
+
+        def stop() -> None:
+            stopped.set()
+            process.kill()
+
+        timer = threading.Timer(self.seconds, stop) if self.seconds is not None else None
+        said, strange, status = _Said(process.stderr), 0, -1
+        try:
+            if timer is not None:
+                timer.start()
+            if process.stdin is not None and self.octets is not None:
+                threading.Thread(target=_feed, args=(process.stdin, self.octets), daemon=True).start()
+            for line in process.stdout:
+                if b'"layers"' in line:
+                    try:
+                        packet = _packet(json.loads(line.decode("utf-8", "replace"))["layers"])
+                    except (ValueError, LookupError):
+                        strange += 1
+                        continue
+                    yield packet
+            status = process.wait()
+        finally:
+            process.kill()  # nothing, where it has ended
+            process.stdout.close()
+            process.wait()
+            if timer is not None:
+                timer.cancel()
+            lines = said.lines()
+        if stopped.is_set():
+            self.trouble = "%s was stopped after %g seconds" % (READER, self.seconds or 0)
+        elif status != 0:
+            self.trouble = lines[-1] if lines else "%s ends with the status %d" % (READER, status)
+            if self.trouble.startswith("(") and len(lines) > 1:  # more about the line before it
+                self.trouble = "%s %s" % (lines[-2], self.trouble)
+        elif strange:
+            self.trouble = "%d packets of which %s says what is not understood" % (strange, READER)

@@ -6,7 +6,7 @@ import binascii
 import os
 import re
 import sys
-from typing import Any, Iterator, List, NamedTuple, Optional, Tuple
+from typing import Any, Generator, Iterator, List, NamedTuple, Optional, Tuple
 
 from krb._facts import Facts, Keys, Reader, Unread, printable
 from krb._library import Refused
@@ -63,7 +63,7 @@ def _tokens(packet: Packet) -> Iterator[Tuple[str, bytes, Optional[str]]]:
                 yield way, b"", "a token that is no base64"
 
 
-def messages(capture: Capture, reader: Reader) -> Iterator[Told]:
+def messages(capture: Capture, reader: Reader) -> Generator[Told, None, None]:
     """The messages of a capture, in the order in which they end. NoReader: tshark is not there."""
     streams = Streams()
 

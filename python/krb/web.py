@@ -1,6 +1,7 @@
 """A page in the browser that shows what octets hold: `python3 -m krb.web [--port N]`.
 
-It serves one page on 127.0.0.1 alone, with what `krb.show` says of octets that are pasted or dropped: their fields beside the octets. It prints the address,
+It serves one page on 127.0.0.1 alone, with what `krb.show` says of octets that are pasted or dropped: their fields beside the octets; of a capture of a network
+the messages in it, as `krb.capture` tells them. It prints the address,
 in which a random token stands: who does not know it gets nothing. There is no TLS, since nothing leaves the machine; nothing is written to disk, and nothing is
 asked of any other server. docs/WEB.md has what is promised and what is not.
 
@@ -27,6 +28,7 @@ from typing import Any, Dict, List, Optional, Tuple
 
 from krb._forms import NotBase64, given_octets
 from krb._library import Refused
+from krb._listed import is_capture, listed
 from krb._pages import BadInput, KINDS, MOST_KEYS, as_answer, etypes_of, keys_of, page_of, with_password
 
 __all__ = ["Server", "main"]
@@ -123,6 +125,8 @@ def answer(asked: Any) -> Dict[str, Any]:
     show_keys = asked.get("show", False) is True
     try:
         octets, form = given_octets(given)
+        if is_capture(octets):
+            return listed(octets, keys_of([_octets_of(each, "a keytab") for each in keytabs], keys), bool(password), form)
         if len(octets) > MOST_OCTETS:
             raise BadInput("these are %d octets; at most %d are shown" % (len(octets), MOST_OCTETS))
         if not octets:

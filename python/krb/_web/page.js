@@ -12,6 +12,8 @@ let chosen = null; // the line that is chosen
 let source = 0; // whose octets are shown
 let start = 0; // the first octet that is shown
 let cursor = null; // the octet that the keyboard is on
+let list = null; // the messages of a capture, as the server told them, and the item of each
+let picked = null; // the message of the list that is shown in place of it
 let asked = 0; // requests so far: an answer to an earlier one is not shown
 
 function made(tag, name, text) {
@@ -45,9 +47,12 @@ function say(error, status) {
 
 // Asking.
 
-async function ask() {
+// Asks about what is given, or about a message of the list.
+async function ask(message) {
     const number = ++asked;
-    const octets = file ? file.octets : new TextEncoder().encode(get("input").value);
+    const octets = message ? fromBase64(message.octets) : file ? file.octets : new TextEncoder().encode(get("input").value);
+    picked = message || null;
+    if (!message) list = null;
     if (!octets.length) {
         clearResult();
         return say("There are no octets: paste some, or choose a file.", "");
@@ -57,7 +62,7 @@ async function ask() {
         const keytabs = [];
         for (const each of get("keytabs").files) keytabs.push(base64(await octetsOf(each)));
         const question = {
-            input: base64(octets), kind: get("kind").value.trim(), keytabs: keytabs, keys: get("keys").value, password: get("password").value,
+            input: base64(octets), kind: message ? message.kind : get("kind").value.trim(), keytabs: keytabs, keys: get("keys").value, password: get("password").value,
             salt: get("salt").value, show: get("show").checked,
         };
         const answer = await fetch("show", {
@@ -76,9 +81,15 @@ async function ask() {
 
 function clearResult() {
     shown = chosen = cursor = null;
-    get("result").hidden = true;
-    for (const id of ["tree", "octets", "notes", "source"]) get(id).replaceChildren();
+    get("result").hidden = get("capture").hidden = true;
+    get("of-capture").hidden = !picked;
+    get("of-line").textContent = picked ? picked.line : "";
+    for (const id of ["tree", "octets", "notes", "source", "messages"]) get(id).replaceChildren();
     get("where").textContent = "";
+}
+
+function note(notes) {
+    for (const each of notes) get("notes").append(made("li", "", each));
 }
 
 function linesOf(told) {
@@ -97,14 +108,15 @@ function linesOf(told) {
 function present(told) {
     clearResult();
     if (told.bad !== undefined) return say(told.bad, "");
+    if (told.messages) return presentList(told);
     for (const each of told.sources) each.octets = fromBase64(each.octets);
     shown = told;
     shown.lines = linesOf(told.lines);
     const size = told.sources[0].size, error = told.error;
     const name = shown.lines.length && !error ? shown.lines[0].name + ", " : "";
     const place = error && error.offset !== null ? " at octet " + error.offset : "";
-    say(error ? error.status + place + ": " + error.text : "", name + size + " octets, given as " + told.form);
-    for (const note of told.notes) get("notes").append(made("li", "", note));
+    say(error ? error.status + place + ": " + error.text : "", name + size + " octets, " + (picked ? "of the capture" : "given as " + told.form));
+    note(told.notes);
     told.sources.forEach((each, number) => {
         const option = made("option", "", each.title + " (" + each.size + ")");
         option.value = number;
@@ -123,6 +135,63 @@ function present(told) {
     goTo(0, error && error.offset !== null ? error.offset : 0);
     if (error && error.offset !== null) get("where").textContent = "the first error is at octet " + error.offset;
 }
+
+// The messages of a capture.
+
+function presentList(told) {
+    list = told;
+    const count = told.messages.length;
+    say(told.trouble || "", (count === 1 ? "1 message" : count + " messages") + " in a capture of " + told.size + " octets, given as " + told.form);
+    note(told.notes);
+    for (const message of told.messages) {
+        const item = made("li"), button = made("button", "message", message.line);
+        button.type = "button";
+        button.tabIndex = -1;
+        button.message = message;
+        if (message.why !== null) {
+            button.setAttribute("aria-disabled", "true");
+            if (message.why.startsWith("not read")) button.classList.add("bad");
+        }
+        message.button = button;
+        item.append(button);
+        get("messages").append(item);
+    }
+    get("capture").hidden = !count;
+    if (count) get("messages").querySelector("button").tabIndex = 0;
+}
+
+function stepTo(button) {
+    for (const each of get("messages").querySelectorAll("button[tabindex='0']")) each.tabIndex = -1;
+    button.tabIndex = 0;
+}
+
+get("messages").addEventListener("click", (event) => {
+    const button = event.target.closest("button");
+    if (!button) return;
+    stepTo(button);
+    if (button.message.why === null) ask(button.message).then(() => picked === button.message && get("back").focus());
+    else get("status").textContent = "Packet " + button.message.line.split(" ")[0] + ": " + button.message.why;
+});
+get("messages").addEventListener("focusin", (event) => {
+    if (event.target.message) stepTo(event.target);
+});
+get("messages").addEventListener("keydown", (event) => {
+    if (event.ctrlKey || event.metaKey || event.altKey || !event.target.message) return;
+    const buttons = [...get("messages").querySelectorAll("button")], at = buttons.indexOf(event.target), last = buttons.length - 1;
+    const steps = { ArrowDown: at + 1, ArrowUp: at - 1, PageDown: at + 10, PageUp: at - 10, Home: 0, End: last };
+    if (!(event.key in steps)) return;
+    event.preventDefault();
+    buttons[Math.max(0, Math.min(last, steps[event.key]))].focus();
+});
+get("back").addEventListener("click", () => {
+    const told = list, message = picked;
+    asked++;
+    picked = null;
+    clearResult();
+    presentList(told);
+    message.button.classList.add("last");
+    message.button.focus();
+});
 
 // The tree.
 
@@ -491,11 +560,11 @@ get("file-drop").addEventListener("click", () => {
     get("input").focus();
 });
 get("show").addEventListener("change", () => {
-    if (shown) ask();
+    if (shown || picked) ask(picked);
 });
 get("clear").addEventListener("click", () => {
     asked++;
-    file = null;
+    file = list = picked = null;
     get("form").reset();
     nameFile();
     clearResult();
