@@ -113,7 +113,7 @@ def _read(reply: bytes, key: EncryptionKey, session_key: EncryptionKey, now: Tup
     if sealed["etype"] != key.etype:
         raise NotGranted(ClientRule.ENCRYPTION_TYPE)
     try:
-        told = decode(messages.open_part(messages.Part.PRIV_PART, key.etype, key.octets, _PRIV_USAGE, sealed["cipher"]), "EncKrbPrivPart")
+        told = decode(messages.open_part(messages.Part.PRIV_PART, key.etype, key.octets, _PRIV_USAGE, sealed["cipher"]), "EncKrbPrivPart", show_keys=True)
     except Refused as refused:
         if refused.status == Status.MEMORY:
             raise

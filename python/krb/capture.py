@@ -17,7 +17,6 @@ from krb._streams import Streams
 __all__ = ["Capture", "Facts", "Keys", "NoReader", "Packet", "Reader", "Told", "main", "messages"]
 
 _SCHEME = re.compile(r"(?:^|[,\s])(?:Negotiate|Kerberos)\s+([^\s,]+)", re.IGNORECASE)
-_USER_DATA = re.compile(r"^( *user-data: ).*$", re.MULTILINE)
 _EPILOG = """It tells what goes by TCP and UDP to the ports 88 and 464 and comes from them, and tokens of Kerberos and SPNEGO in HTTP's
 Authorization and WWW-Authenticate, and in binds of LDAP and SMB: a line for each, with the number of the packet, the time (UTC), addresses, the
 kind, who asks for what, the error by name, and what keys opened in it. Keys that stand in what is opened open what follows. Names are
@@ -95,7 +94,7 @@ def messages(capture: Capture, reader: Reader) -> Generator[Told, None, None]:
 
 
 def _page(each: Told, keytab: bytes, show_keys: bool) -> str:
-    """The whole of a message, two blanks further in. The new password in a request for one is as hidden as keys are."""
+    """The whole of a message, two blanks further in."""
     assert each.facts is not None
     lines: List[str] = []
     for kind, octets in each.facts.shown:
@@ -103,8 +102,6 @@ def _page(each: Told, keytab: bytes, show_keys: bool) -> str:
             page = show(octets, kind, keytab if len(keytab) > 2 else b"", False, show_keys)
         except Refused as refused:
             page = "not shown: %s" % refused
-        if each.packet.is_of_passwords and each.packet.target[1] == PASSWORD_PORT and not show_keys:
-            page = _USER_DATA.sub(r"\1hidden", page)
         lines += page.rstrip("\n").split("\n")
     return "".join("  %s\n" % printable(line) for line in lines)
 

@@ -368,7 +368,7 @@ fields =
     ∷ (Some 160, true, false, codes "pvno", None, role.None, 26)
     ∷ (Some 161, true, false, codes "msg-type", Some kinds.MessageType, role.None, 73)
     ∷ (Some 163, true, false, codes "enc-part", None, role.EncKrbPrivPart, 23)
-    ∷ (Some 160, true, false, codes "user-data", None, role.None, 6)
+    ∷ (Some 160, true, false, codes "user-data", None, role.None, 7)
     ∷ (Some 161, true, true, codes "timestamp", None, role.None, 10)
     ∷ (Some 162, true, true, codes "usec", None, role.None, 3)
     ∷ (Some 163, true, true, codes "seq-number", None, role.None, 1)

@@ -123,7 +123,7 @@ pub const BIT_STRING: usize = 4;
 pub const KERBEROS_FLAGS: usize = 5;
 /// OCTET STRING (X.690, 8.7).
 pub const OCTET_STRING: usize = 6;
-/// OCTET STRING (secret): the octets of a key or a password (RFC 4120, 5.2.9).
+/// OCTET STRING (secret): the octets of a key or a password, or those that KRB-PRIV keeps private (RFC 4120, 5.2.9 and 5.7).
 pub const OCTET_STRING_SECRET: usize = 7;
 /// OCTET STRING (cipher): a ciphertext (RFC 4120, 5.2.9).
 pub const OCTET_STRING_CIPHER: usize = 8;
@@ -553,7 +553,7 @@ static FIELDS: [Field; 241] = [
     tagged!(0xa1, "msg-type", INTEGER_21, of Kind::MessageType),
     tagged!(0xa3, "enc-part", ENCRYPTED_DATA, as Role::EncKrbPrivPart),
     // ENC_KRB_PRIV_PART_CONTENT
-    tagged!(0xa0, "user-data", OCTET_STRING),
+    tagged!(0xa0, "user-data", OCTET_STRING_SECRET),
     tagged_optional!(0xa1, "timestamp", KERBEROS_TIME),
     tagged_optional!(0xa2, "usec", MICROSECONDS),
     tagged_optional!(0xa3, "seq-number", INTEGER),

@@ -193,7 +193,7 @@ unfolding cases fields shapes
 enc_krb_priv_part_tie schema k levels =
     coded_tie schema k (suc (suc (suc levels))) 76 enc_krb_priv_part_fields enc_krb_priv_part_to enc_krb_priv_part_of (λ x. refl)
     (sequence_tie schema k (suc (suc levels)) 76 48 114 6 _ _ refl (lit≤ tt) refl
-    (required_tie schema k _ _ _ _ _ _ _ _ _ (octets_tie schema k (suc levels) 6 refl)
+    (required_tie schema k _ _ _ _ _ _ _ _ _ (secret_tie schema k (suc levels) 7 refl)
     (maybe_tie schema k _ _ _ _ _ _ _ _ _ refl (time_tie schema k (suc levels) 10 refl)
     (maybe_tie schema k _ _ _ _ _ _ _ _ _ refl (microseconds_tie schema k (suc levels) 3 refl)
     (maybe_tie schema k _ _ _ _ _ _ _ _ _ refl (integer_tie schema k (suc levels) 1 refl)
