@@ -20,6 +20,7 @@ size_t bench_encrypt_cbc(octets key, size_t, octets plain, size_t, uint8_t *out,
 size_t bench_decrypt_cbc(octets key, size_t, octets sealed, size_t, uint8_t *out, size_t);
 size_t bench_encrypt_cts(octets key, size_t, octets plain, size_t, uint8_t *out, size_t);
 size_t bench_decrypt_cts(octets key, size_t, octets sealed, size_t, uint8_t *out, size_t);
+size_t bench_hash(size_t size, octets payload, size_t, uint8_t *out, size_t);
 size_t bench_hmac(size_t size, octets key, size_t, octets payload, size_t, uint8_t *out, size_t);
 size_t bench_checksum(size_t etype, octets key, size_t, int32_t usage, octets payload, size_t, uint8_t *out,
                       size_t);

@@ -91,6 +91,34 @@ static void hmac(size_t digest_size, const uint8_t *from, size_t count, uint8_t 
     }
 }
 
+static void hash(size_t digest_size, const uint8_t *from, size_t count, uint8_t *to) {
+    struct sha1_ctx sha1;
+    struct sha256_ctx sha256;
+    struct sha384_ctx sha384;
+    if (digest_size == 20) {
+        sha1_init(&sha1);
+        sha1_update(&sha1, count, from);
+        sha1_digest(&sha1, digest_size, to);
+    } else if (digest_size == 32) {
+        sha256_init(&sha256);
+        sha256_update(&sha256, count, from);
+        sha256_digest(&sha256, digest_size, to);
+    } else {
+        sha384_init(&sha384);
+        sha384_update(&sha384, count, from);
+        sha384_digest(&sha384, digest_size, to);
+    }
+}
+
+static void time_hash(double window, size_t digest_size) {
+    for (size_t n = 0; n < COUNT(sizes); n++) {
+        hash(digest_size, payload, sizes[n], theirs);
+        size_t made = bench_hash(digest_size, payload, sizes[n], ARRAY(ours));
+        expect_same("a hash", ours, made, theirs, digest_size);
+        TIME(window, name_of_hash(digest_size, sizes[n]), 1, hash(digest_size, payload, sizes[n], theirs));
+    }
+}
+
 static void time_hmac(double window, size_t digest_size) {
     for (size_t n = 0; n < COUNT(sizes); n++) {
         hmac(digest_size, payload, sizes[n], theirs);
@@ -116,6 +144,9 @@ int main(int count, char **arguments) {
     expect_blocks_of(crypt_block);
     time_aes(window, 16);
     time_aes(window, 32);
+    time_hash(window, 20);
+    time_hash(window, 32);
+    time_hash(window, 48);
     time_hmac(window, 20);
     time_hmac(window, 32);
     time_hmac(window, 48);

@@ -90,6 +90,27 @@ DEFINE_HMAC(hmac_sha1, SHA_CTX, SHA1_Init, SHA1_Update, SHA1_Final, 64, 20)
 DEFINE_HMAC(hmac_sha256, SHA256_CTX, SHA256_Init, SHA256_Update, SHA256_Final, 64, 32)
 DEFINE_HMAC(hmac_sha384, SHA512_CTX, SHA384_Init, SHA384_Update, SHA384_Final, 128, 48)
 
+/* The hash functions themselves: what HMAC cannot be faster than. */
+#define DEFINE_HASH(hash, CONTEXT, init, update, final)                \
+    static void hash(const uint8_t *from, size_t count, uint8_t *to) { \
+        CONTEXT state;                                                 \
+        init(&state);                                                  \
+        update(&state, from, count);                                   \
+        final(to, &state);                                             \
+    }
+DEFINE_HASH(hash_sha1, SHA_CTX, SHA1_Init, SHA1_Update, SHA1_Final)
+DEFINE_HASH(hash_sha256, SHA256_CTX, SHA256_Init, SHA256_Update, SHA256_Final)
+DEFINE_HASH(hash_sha384, SHA512_CTX, SHA384_Init, SHA384_Update, SHA384_Final)
+
+static void time_hash(double window, size_t digest_size, void (*hash)(const uint8_t *, size_t, uint8_t *)) {
+    for (size_t n = 0; n < COUNT(sizes); n++) {
+        hash(payload, sizes[n], theirs);
+        size_t made = bench_hash(digest_size, payload, sizes[n], ARRAY(ours));
+        expect_same("a hash", ours, made, theirs, digest_size);
+        TIME(window, name_of_hash(digest_size, sizes[n]), 1, hash(payload, sizes[n], theirs));
+    }
+}
+
 static void time_hmac(double window, size_t digest_size, void (*hmac)(const uint8_t *, size_t, const uint8_t *, size_t, uint8_t *)) {
     for (size_t n = 0; n < COUNT(sizes); n++) {
         hmac(key, 16, payload, sizes[n], theirs);
@@ -129,6 +150,9 @@ int main(int count, char **arguments) {
     if (is_tables) {
         return 0;
     }
+    time_hash(window, 20, hash_sha1);
+    time_hash(window, 32, hash_sha256);
+    time_hash(window, 48, hash_sha384);
     time_hmac(window, 20, hmac_sha1);
     time_hmac(window, 32, hmac_sha256);
     time_hmac(window, 48, hmac_sha384);

@@ -51,6 +51,11 @@ static const char *name_of_block(size_t size, const char *call) {
     return name;
 }
 
+static const char *name_of_hash(size_t digest_size, size_t size) {
+    snprintf(name, sizeof name, "SHA%zu, %zu octets", digest_size == 20 ? 1 : 8 * digest_size, size);
+    return name;
+}
+
 static const char *name_of_hmac(size_t digest_size, size_t size) {
     snprintf(name, sizeof name, "HMAC-SHA%zu, %zu octets", digest_size == 20 ? 1 : 8 * digest_size, size);
     return name;
