@@ -20,7 +20,7 @@ use Rattle.krb_schema.specs.declared.shape.Schema.{Schema}
 use Rattle.krb_schema.specs.Named.{IsKerberos}
 use Rattle.krb_schema.specs.Types.{cases, fields, shapes}
 use Rattle.krb_show_row_laws.proofs.Codecs.{Codec, bits, coded, end, integer, maybe, octets, required, sequence_of, tagged, text, time}
-use Rattle.krb_show_row_laws.proofs.CodecRows.{IsAny, Tie, all_as, coded_tie, end_tie, flags_tie, flat_map_same, integer_tie, list_tie, maybe_tie, microseconds_tie, number_tie, octets_tie, optional_same, required_tie, sequence_tie, some_as, text_tie, time_tie}
+use Rattle.krb_show_row_laws.proofs.CodecRows.{IsAny, Tie, all_as, coded_tie, end_tie, flags_tie, flat_map_same, integer_tie, list_tie, maybe_tie, microseconds_tie, number_tie, optional_same, required_tie, secret_tie, sequence_tie, some_as, text_tie, time_tie}
 use Rattle.krb_show_row_laws.proofs.DataTypeRows.{principal_name, principal_name_tie, principal_name_octets, principal_name_same, principal_name_value, principal_name_valid, principal_name_right, host_address, host_address_tie, host_address_octets, host_address_same, host_address_value, host_address_valid, host_address_right, authorization_data, authorization_data_tie, authorization_data_octets, authorization_data_same, authorization_data_value, authorization_data_valid, authorization_data_right, encryption_key, encryption_key_tie, encryption_key_octets, encryption_key_same, encryption_key_value, encryption_key_valid, encryption_key_right, checksum, checksum_tie, checksum_octets, checksum_same, checksum_value, checksum_valid, checksum_right, transited_encoding, transited_encoding_tie, transited_encoding_octets, transited_encoding_same, transited_encoding_value, transited_encoding_valid, transited_encoding_right}
 
 -- ---- EncTicketPartInner
