@@ -1,46 +1,14 @@
 -- Round keys as vectors.
-use Rattle.std.proofs.Common.{◌≡◌, ◌≢◌, ℕ, ◌+◌, ◌*◌, ◌<◌, ◌≤◌, bit_xor, List, [], ◌∷◌, map, length, slice_index, refl, sym, ap, ◌∙◌, arith, lit<, inl, inr, set, replicate}
+use Rattle.std.proofs.Common.{◌≡◌, ◌≢◌, ℕ, ◌+◌, ◌*◌, ◌<◌, ◌≤◌, bit_xor, List, [], ◌∷◌, map, length, slice_index, refl, sym, ap, ◌∙◌, arith, inl, inr, set, replicate}
 use Rattle.std.proofs.lemmas.List.{get_or-map, get_or-set_same, get_or-set_other, length-set, length-map}
 use Rattle.std.proofs.lemmas.Bool.{cases_lt}
-use Rattle.std.specs.Int.{w32, from_be_bytes}
-use lib.Bits.{xor_assoc, xor_zero_r}
 use lib.Lanes.{zip2}
 use Rattle.krb_crypto_block.specs.Modes.{IsOctets, IsBlock}
-use Rattle.krb_crypto_block.specs.SBox.{s_box}
-use Rattle.krb_crypto_block.specs.AesWords.{word_of, Holds, HasRoundKey}
 use Rattle.krb_crypto_block.proofs.AesStates.{state_octets}
-use Rattle.krb_crypto_block.proofs.AesWords.{word_from_bytes, same4}
-use Rattle.krb_crypto_block.specs.AesLanes.{tower, inverse_linear, inverse_form, round_octets, lanes_at, looked_up_at, AreRoundKeys, AreRoundKeysBelow}
+use Rattle.krb_crypto_block.specs.AesLanes.{inverse_linear, inverse_form, round_octets, lanes_at, AreRoundKeys, AreRoundKeysBelow}
 use Rattle.krb_crypto_block.specs.declared.aes.round_keys.RoundKey.{RoundKey}
-use Rattle.krb_crypto_block.specs.declared.aes.tables.TheConstants.{LAST_U, LAST_V}
 use Rattle.std.proofs.lemmas.Simd.{zip2_splat}
-use Rattle.krb_crypto_block.proofs.AesTower.{last_is}
 use Rattle.krb_crypto_block.proofs.AesInverseForm.{inverse_linear_xor}
-
--- ---- words
-
-pub substituted_lane : (a : ℕ) → a < 256 → bit_xor (looked_up_at LAST_U LAST_V (tower a)) 0x63 ≡ s_box a
-substituted_lane a h = ap (λ (x : ℕ). bit_xor x 0x63) (last_is a h) ∙ xor_assoc (s_box a) 0x63 0x63 ∙ xor_zero_r (s_box a)
-
-pub substituted_word : (a b c d : ℕ) → a < 256 → b < 256 → c < 256 → d < 256
-    → from_be_bytes w32 (bit_xor (looked_up_at LAST_U LAST_V (tower a)) 0x63 ∷ bit_xor (looked_up_at LAST_U LAST_V (tower b)) 0x63
-    ∷ bit_xor (looked_up_at LAST_U LAST_V (tower c)) 0x63 ∷ bit_xor (looked_up_at LAST_U LAST_V (tower d)) 0x63 ∷ [])
-    ≡ word_of (s_box a ∷ s_box b ∷ s_box c ∷ s_box d ∷ [])
-substituted_word a b c d ha hb hc hd =
-    ap (from_be_bytes w32) (same4 _ _ _ _ _ _ _ _ (substituted_lane a ha) (substituted_lane b hb) (substituted_lane c hc) (substituted_lane d hd))
-    ∙ word_from_bytes (s_box a) (s_box b) (s_box c) (s_box d)
-
--- the four words of a round key are its octets
-pub held_key : (w words : List ℕ) (n : ℕ) → IsOctets w → HasRoundKey w words n
-    → Holds (slice_index words (4 * n) ∷ slice_index words (4 * n + 1) ∷ slice_index words (4 * n + 2) ∷ slice_index words (4 * n + 3) ∷ []) (round_octets w n)
-unfolding HasRoundKey
-held_key w words n octets has =
-    let prefix : 4 * n + 0 ≡ 4 * n = omega arith in (
-      (refl, (state_octets (λ r c. slice_index w (16 * n + (r + 4 * c))) (λ r c hr hc. octets (16 * n + (r + 4 * c)))).octets),
-      same4 _ _ _ _ _ _ _ _ (ap (slice_index words) (sym prefix) ∙ has 0 (lit< tt)) (has 1 (lit< tt)) (has 2 (lit< tt)) (has 3 (lit< tt)),
-    )
-
--- ---- vectors
 
 set_same : (keys : List RoundKey) (n : ℕ) (k : RoundKey) → n < length keys → lanes_at (set keys n k) n ≡ k.lanes
 set_same keys n k lt =
@@ -52,6 +20,17 @@ set_other keys n m k lt other =
     get_or-map (λ (x : RoundKey). x.lanes) (set keys n k) m k [] (omega (arith, length-set keys n k))
     ∙ ap (λ (x : RoundKey). x.lanes) (get_or-set_other keys n m k k other)
     ∙ sym (get_or-map (λ (x : RoundKey). x.lanes) keys m k [] lt)
+
+-- the first, before the second or the third
+pub keys_start : (first : List ℕ) (between : ℕ → List ℕ) (rest k : RoundKey) (n : ℕ) → n ≤ 2 → k.lanes ≡ first → (n ≡ 2 → rest.lanes ≡ between 1)
+    → AreRoundKeysBelow first between (set (replicate 15 rest) 0 k) n
+keys_start first between rest k n few here there =
+    record {
+      first_is = here;
+      between_are = λ m low high.
+          let one : m ≡ 1 = omega arith in
+          rw one (there (omega arith));
+    }
 
 -- one more, between the first and the last
 pub keys_more : (first : List ℕ) (between : ℕ → List ℕ) (keys : List RoundKey) (n : ℕ) (k : RoundKey) → length keys ≡ 15 → 1 ≤ n → n < 15
