@@ -1,5 +1,5 @@
 -- A round key from those before it, lane by lane.
-use Rattle.std.proofs.Common.{◌≡◌, ℕ, zero, suc, ◌+◌, ◌-◌, ◌*◌, ◌/◌, ◌%◌, ◌<◌, ◌≤◌, ◌==◌, true, false, bit_xor, List, [], ◌∷◌, ◌++◌, map, length, take, drop, slice_index, slice_index_or, replicate, refl, sym, ap, ◌∙◌, arith, inl, inr, length-take}
+use Rattle.std.proofs.Common.{◌≡◌, ℕ, suc, ◌+◌, ◌-◌, ◌*◌, ◌/◌, ◌%◌, ◌<◌, ◌≤◌, ◌==◌, true, false, bit_xor, List, [], ◌∷◌, ◌++◌, map, length, take, drop, slice_index, replicate, refl, sym, ap, ◌∙◌, arith, inl, inr, length-take}
 use Rattle.std.proofs.lemmas.Bool.Decides.{nat_tests}
 use Rattle.std.proofs.lemmas.List.{get_or-take, get_or-drop, length-drop}
 use Rattle.std.proofs.lemmas.Nat.{xor_comm}
@@ -11,9 +11,10 @@ use Rattle.krb_crypto_block.specs.Polynomial.{times}
 use Rattle.krb_crypto_block.specs.SBox.{s_box}
 use Rattle.krb_crypto_block.specs.Aes.{octet_at, column_of, word_at, add_words, sub_word, rot_word, power_of_x, key_term, key_expansion, IsKeySize}
 use Rattle.krb_crypto_block.specs.AesWords.{key_column}
-use Rattle.krb_crypto_block.specs.AesLanes.{tower, with_constant, round_octets, looked_up_at}
+use Rattle.krb_crypto_block.specs.AesLanes.{tower, round_octets, looked_up_at}
 use Rattle.krb_crypto_block.specs.AesNextKey.{constant_word, in_each_column, next_octets}
 use Rattle.krb_crypto_block.specs.declared.aes.tables.TheConstants.{LAST_U, LAST_V, ROUND_CONSTANTS}
+use Rattle.krb_crypto_block.proofs.Tables.{same_below, same_below_at}
 use Rattle.krb_crypto_block.proofs.AesStates.{state_by_octets, state_same}
 use Rattle.krb_crypto_block.proofs.AesTower.{xor_left_comm}
 use Rattle.krb_crypto_block.proofs.AesRoundLanes.{picked, same16, last_lane}
@@ -49,20 +50,12 @@ same_words : (t u : List ℕ) → slice_index t 0 ≡ slice_index u 0 → slice_
     → in_each_column t ≡ in_each_column u
 same_words t u a b c d = same16 _ _ _ _ _ _ _ _ _ _ _ _ _ _ _ _ _ _ _ _ _ _ _ _ _ _ _ _ _ _ _ _ a b c d a b c d a b c d a b c d
 
--- the entries of the constants
-pub constants_entry : (n : ℕ) → n < 10 → slice_index_or ROUND_CONSTANTS n [] ≡ in_each_column (map with_constant (constant_word n))
+constants_table : same_below (slice_index ROUND_CONSTANTS) power_of_x 10 ≡ true
 unfolding times power_of_x
-constants_entry zero h = refl
-constants_entry (suc zero) h = refl
-constants_entry (suc (suc zero)) h = refl
-constants_entry (suc (suc (suc zero))) h = refl
-constants_entry (suc (suc (suc (suc zero)))) h = refl
-constants_entry (suc (suc (suc (suc (suc zero))))) h = refl
-constants_entry (suc (suc (suc (suc (suc (suc zero)))))) h = refl
-constants_entry (suc (suc (suc (suc (suc (suc (suc zero))))))) h = refl
-constants_entry (suc (suc (suc (suc (suc (suc (suc (suc zero)))))))) h = refl
-constants_entry (suc (suc (suc (suc (suc (suc (suc (suc (suc zero))))))))) h = refl
-constants_entry (suc (suc (suc (suc (suc (suc (suc (suc (suc (suc n)))))))))) h = absurd (omega arith)
+constants_table = refl
+
+pub constants_entry : (n : ℕ) → n < 10 → slice_index ROUND_CONSTANTS n ≡ power_of_x n
+constants_entry n h = same_below_at (slice_index ROUND_CONSTANTS) power_of_x 10 n constants_table h
 
 substituted_octet : (a : ℕ) → a < 256 → bit_xor (substituted_of a) 0x63 ≡ s_box a
 substituted_octet a h = last_lane a 0 h ∙ xor_zero_r (s_box a)
@@ -76,16 +69,15 @@ module _ (st : List ℕ) (is : IsBlock 16 st) where
       (sub_word (column_of st 3))
       (substituted_octet _ (is.1 12)) (substituted_octet _ (is.1 13)) (substituted_octet _ (is.1 14)) (substituted_octet _ (is.1 15))
 
-  pub rotated_word_is : (t : List ℕ) → zip2 bit_xor (picked (map substituted_of st) rotated_places) (in_each_column (map with_constant (slice_index t 0 ∷ slice_index t 1 ∷ slice_index t 2 ∷ slice_index t 3 ∷ [])))
-      ≡ in_each_column (add_words (sub_word (rot_word (column_of st 3))) t)
-  rotated_word_is t =
-      let constants : List ℕ = in_each_column (map with_constant (slice_index t 0 ∷ slice_index t 1 ∷ slice_index t 2 ∷ slice_index t 3 ∷ [])) in
-      ap (λ (s : List ℕ). zip2 bit_xor (picked (map substituted_of s) rotated_places) constants) (sym (state_by_octets st is.0))
-      ∙ same_words
-      (bit_xor (substituted_of (slice_index st 13)) (with_constant (slice_index t 0)) ∷ bit_xor (substituted_of (slice_index st 14)) (with_constant (slice_index t 1))
-      ∷ bit_xor (substituted_of (slice_index st 15)) (with_constant (slice_index t 2)) ∷ bit_xor (substituted_of (slice_index st 12)) (with_constant (slice_index t 3)) ∷ [])
-      (add_words (sub_word (rot_word (column_of st 3))) t)
-      (last_lane _ (slice_index t 0) (is.1 13)) (last_lane _ (slice_index t 1) (is.1 14)) (last_lane _ (slice_index t 2) (is.1 15)) (last_lane _ (slice_index t 3) (is.1 12))
+  pub rotated_word_is : (p n : ℕ) → p ≡ power_of_x n
+      → zip2 bit_xor (zip2 bit_xor (picked (map substituted_of st) rotated_places) (replicate 16 0x63)) (in_each_column (p ∷ 0 ∷ 0 ∷ 0 ∷ []))
+      ≡ in_each_column (add_words (sub_word (rot_word (column_of st 3))) (constant_word n))
+  rotated_word_is p n e =
+      let sum : ℕ → ℕ → ℕ = λ a k. bit_xor (bit_xor (substituted_of (slice_index st a)) 0x63) k in
+      let lane : (a k : ℕ) → sum a k ≡ bit_xor (s_box (slice_index st a)) k = λ a k. ap (λ (x : ℕ). bit_xor x k) (substituted_octet (slice_index st a) (is.1 a)) in
+      ap (λ (s : List ℕ). zip2 bit_xor (zip2 bit_xor (picked (map substituted_of s) rotated_places) (replicate 16 0x63)) (in_each_column (p ∷ 0 ∷ 0 ∷ 0 ∷ []))) (sym (state_by_octets st is.0))
+      ∙ same_words (sum 13 p ∷ sum 14 0 ∷ sum 15 0 ∷ sum 12 0 ∷ []) (add_words (sub_word (rot_word (column_of st 3))) (constant_word n))
+      (lane 13 p ∙ ap (bit_xor (s_box (slice_index st 13))) e) (lane 14 0) (lane 15 0) (lane 12 0)
 
 -- ---- the sums
 

@@ -52,7 +52,11 @@ fn rotated_word(key: u8x16, n: usize) -> u8x16
     let word: u8x16 = substituted(to_tower(key)).swizzle([
         13, 14, 15, 12, 13, 14, 15, 12, 13, 14, 15, 12, 13, 14, 15, 12,
     ]);
-    word ^ u8x16::from_array(ROUND_CONSTANTS[n])
+    let constant: u8x16 = u8x16::splat(ROUND_CONSTANTS[n]).shuffle(
+        u8x16::splat(0),
+        [0, 16, 16, 16, 0, 16, 16, 16, 0, 16, 16, 16, 0, 16, 16, 16],
+    );
+    word ^ u8x16::splat(0x63) ^ constant
 }
 
 /// The round key whose first word is that of this one and the term added, and each later word that of this one and the word before added.
