@@ -1,13 +1,14 @@
 -- Round keys as vectors.
-use Rattle.std.proofs.Common.{◌≡◌, ◌≢◌, ℕ, ◌+◌, ◌*◌, ◌<◌, ◌≤◌, bit_xor, List, [], ◌∷◌, map, length, slice_index, refl, sym, ap, ◌∙◌, arith, inl, inr, set, replicate}
+use Rattle.std.proofs.Common.{◌≡◌, ◌≢◌, ℕ, ◌+◌, ◌-◌, ◌*◌, ◌<◌, ◌≤◌, bit_xor, List, [], ◌∷◌, map, length, slice_index, refl, sym, ap, ◌∙◌, arith, inl, inr, set, replicate}
 use Rattle.std.proofs.lemmas.List.{get_or-map, get_or-set_same, get_or-set_other, length-set, length-map}
 use Rattle.std.proofs.lemmas.Bool.{cases_lt}
 use lib.Lanes.{zip2}
 use Rattle.krb_crypto_block.specs.Modes.{IsOctets, IsBlock}
 use Rattle.krb_crypto_block.proofs.AesStates.{state_octets}
-use Rattle.krb_crypto_block.specs.AesLanes.{inverse_linear, inverse_form, round_octets, lanes_at, AreRoundKeys, AreRoundKeysBelow}
+use Rattle.krb_crypto_block.specs.AesLanes.{tower, with_constant, inverse_linear, inverse_form, round_octets, lanes_at, AreRoundKeys, AreRoundKeysBelow}
 use Rattle.krb_crypto_block.specs.declared.aes.round_keys.RoundKey.{RoundKey}
 use Rattle.std.proofs.lemmas.Simd.{zip2_splat}
+use Rattle.krb_crypto_block.proofs.AesTower.{tower_xor}
 use Rattle.krb_crypto_block.proofs.AesInverseForm.{inverse_linear_xor}
 
 set_same : (keys : List RoundKey) (n : ℕ) (k : RoundKey) → n < length keys → lanes_at (set keys n k) n ≡ k.lanes
@@ -22,14 +23,18 @@ set_other keys n m k lt other =
     ∙ sym (get_or-map (λ (x : RoundKey). x.lanes) keys m k [] lt)
 
 -- the first, before the second or the third
-pub keys_start : (first : List ℕ) (between : ℕ → List ℕ) (rest k : RoundKey) (n : ℕ) → n ≤ 2 → k.lanes ≡ first → (n ≡ 2 → rest.lanes ≡ between 1)
-    → AreRoundKeysBelow first between (set (replicate 15 rest) 0 k) n
-keys_start first between rest k n few here there =
+pub keys_start : (first : List ℕ) (between : ℕ → List ℕ) (keys : List RoundKey) (n : ℕ) (second k : RoundKey) → length keys ≡ 15 → 1 ≤ n → n ≤ 2
+    → k.lanes ≡ first → (n ≡ 2 → second.lanes ≡ between 1) → AreRoundKeysBelow first between (set (set keys (n - 1) second) 0 k) n
+keys_start first between keys n second k long from few here there =
+    let keys' : List RoundKey = set keys (n - 1) second in
+    let long' : length keys' ≡ 15 = length-set keys (n - 1) second ∙ long in
     record {
-      first_is = here;
+      first_is = set_same keys' 0 k (omega arith) ∙ here;
       between_are = λ m low high.
           let one : m ≡ 1 = omega arith in
-          rw one (there (omega arith));
+          let same : n - 1 ≡ 1 = omega arith in
+          let made : lanes_at (set keys (n - 1) second) 1 ≡ second.lanes = rw same (set_same keys 1 second (omega arith)) in
+          rw one (set_other keys' 0 1 k (omega arith) (omega arith) ∙ made ∙ there (omega arith));
     }
 
 -- one more, between the first and the last
@@ -70,3 +75,15 @@ map_constant v long = zip2_splat bit_xor (map inverse_linear v) 16 0x2c (length-
     go : (v : List ℕ) → map (λ x. bit_xor x 0x2c) (map inverse_linear v) ≡ map inverse_form v
     go [] = refl
     go (x ∷ xs) = ap (λ (y : ℕ). y ∷ map (λ x. bit_xor x 0x2c) (map inverse_linear xs)) (inverse_form_constant x) ∙ ap (λ (l : List ℕ). inverse_form x ∷ l) (go xs)
+
+-- the same of the tower form: 0x6e is that of 0x63
+tower_constant : (k : ℕ) → bit_xor (tower k) 0x6e ≡ tower (with_constant k)
+unfolding tower
+tower_constant k = sym (tower_xor k 0x63)
+
+pub map_tower_constant : (v : List ℕ) → length v ≡ 16 → zip2 bit_xor (map tower v) (replicate 16 0x6e) ≡ map (λ k. tower (with_constant k)) v
+map_tower_constant v long = zip2_splat bit_xor (map tower v) 16 0x6e (length-map v tower ∙ long) ∙ go v
+  where
+    go : (v : List ℕ) → map (λ x. bit_xor x 0x6e) (map tower v) ≡ map (λ k. tower (with_constant k)) v
+    go [] = refl
+    go (x ∷ xs) = ap (λ (y : ℕ). y ∷ map (λ x. bit_xor x 0x6e) (map tower xs)) (tower_constant x) ∙ ap (λ (l : List ℕ). tower (with_constant x) ∷ l) (go xs)

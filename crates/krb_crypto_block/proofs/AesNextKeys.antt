@@ -43,8 +43,11 @@ last_places = 12 ∷ 13 ∷ 14 ∷ 15 ∷ 12 ∷ 13 ∷ 14 ∷ 15 ∷ 12 ∷ 13 
 abbrev pub rotated_places : List ℕ
 rotated_places = 13 ∷ 14 ∷ 15 ∷ 12 ∷ 13 ∷ 14 ∷ 15 ∷ 12 ∷ 13 ∷ 14 ∷ 15 ∷ 12 ∷ 13 ∷ 14 ∷ 15 ∷ 12 ∷ []
 
+abbrev pub looked_up_last : ℕ → ℕ
+looked_up_last = looked_up_at LAST_U LAST_V
+
 abbrev substituted_of : ℕ → ℕ
-substituted_of a = looked_up_at LAST_U LAST_V (tower a)
+substituted_of a = looked_up_last (tower a)
 
 same_words : (t u : List ℕ) → slice_index t 0 ≡ slice_index u 0 → slice_index t 1 ≡ slice_index u 1 → slice_index t 2 ≡ slice_index u 2 → slice_index t 3 ≡ slice_index u 3
     → in_each_column t ≡ in_each_column u
@@ -61,21 +64,21 @@ substituted_octet : (a : ℕ) → a < 256 → bit_xor (substituted_of a) 0x63 �
 substituted_octet a h = last_lane a 0 h ∙ xor_zero_r (s_box a)
 
 module _ (st : List ℕ) (is : IsBlock 16 st) where
-  pub substituted_word_is : zip2 bit_xor (picked (map substituted_of st) last_places) (replicate 16 0x63) ≡ in_each_column (sub_word (column_of st 3))
+  pub substituted_word_is : zip2 bit_xor (map looked_up_last (picked (map tower st) last_places)) (replicate 16 0x63) ≡ in_each_column (sub_word (column_of st 3))
   substituted_word_is =
-      ap (λ (s : List ℕ). zip2 bit_xor (picked (map substituted_of s) last_places) (replicate 16 0x63)) (sym (state_by_octets st is.0))
+      ap (λ (s : List ℕ). zip2 bit_xor (map looked_up_last (picked (map tower s) last_places)) (replicate 16 0x63)) (sym (state_by_octets st is.0))
       ∙ same_words
       (bit_xor (substituted_of (slice_index st 12)) 0x63 ∷ bit_xor (substituted_of (slice_index st 13)) 0x63 ∷ bit_xor (substituted_of (slice_index st 14)) 0x63 ∷ bit_xor (substituted_of (slice_index st 15)) 0x63 ∷ [])
       (sub_word (column_of st 3))
       (substituted_octet _ (is.1 12)) (substituted_octet _ (is.1 13)) (substituted_octet _ (is.1 14)) (substituted_octet _ (is.1 15))
 
   pub rotated_word_is : (p n : ℕ) → p ≡ power_of_x n
-      → zip2 bit_xor (zip2 bit_xor (picked (map substituted_of st) rotated_places) (replicate 16 0x63)) (in_each_column (p ∷ 0 ∷ 0 ∷ 0 ∷ []))
+      → zip2 bit_xor (zip2 bit_xor (map looked_up_last (picked (map tower st) rotated_places)) (replicate 16 0x63)) (in_each_column (p ∷ 0 ∷ 0 ∷ 0 ∷ []))
       ≡ in_each_column (add_words (sub_word (rot_word (column_of st 3))) (constant_word n))
   rotated_word_is p n e =
       let sum : ℕ → ℕ → ℕ = λ a k. bit_xor (bit_xor (substituted_of (slice_index st a)) 0x63) k in
       let lane : (a k : ℕ) → sum a k ≡ bit_xor (s_box (slice_index st a)) k = λ a k. ap (λ (x : ℕ). bit_xor x k) (substituted_octet (slice_index st a) (is.1 a)) in
-      ap (λ (s : List ℕ). zip2 bit_xor (zip2 bit_xor (picked (map substituted_of s) rotated_places) (replicate 16 0x63)) (in_each_column (p ∷ 0 ∷ 0 ∷ 0 ∷ []))) (sym (state_by_octets st is.0))
+      ap (λ (s : List ℕ). zip2 bit_xor (zip2 bit_xor (map looked_up_last (picked (map tower s) rotated_places)) (replicate 16 0x63)) (in_each_column (p ∷ 0 ∷ 0 ∷ 0 ∷ []))) (sym (state_by_octets st is.0))
       ∙ same_words (sum 13 p ∷ sum 14 0 ∷ sum 15 0 ∷ sum 12 0 ∷ []) (add_words (sub_word (rot_word (column_of st 3))) (constant_word n))
       (lane 13 p ∙ ap (bit_xor (s_box (slice_index st 13))) e) (lane 14 0) (lane 15 0) (lane 12 0)
 

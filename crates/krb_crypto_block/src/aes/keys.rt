@@ -1,7 +1,7 @@
 //! Keys of AES, ready for use: for both directions, or for one.
 
-ghost use Rattle.std.specs.Prelude.{◌≡◌, ℕ, ◌*◌, List, length, MatchResult};
-ghost use Rattle.krb_crypto_block.specs.Aes.{aes_block, IsKeySize};
+ghost use Rattle.std.specs.Prelude.{◌≡◌, ℕ, List, length, MatchResult};
+ghost use Rattle.krb_crypto_block.specs.Aes.{aes_block};
 ghost use Rattle.krb_crypto_block.specs.AesLanes.{key_prefix, EncryptsWith, DecryptsWith};
 ghost use Rattle.krb_crypto_block.specs.InverseCipher.{aes_undo};
 ghost use Rattle.krb_crypto_block.specs.Modes.{AreInverse, IsOctets};
@@ -44,23 +44,18 @@ impl AesEncryptionKey {
         if key.len() != wanted {
             return Err(KerberosCryptoError::KeyLength(key.len(), wanted));
         }
+        let mut keys = [RoundKey {
+            lanes: u8x16::splat(0),
+        }; MOST_KEYS];
         match size {
-            AesSize::Aes256 => Ok(AesEncryptionKey::of_words::<8>(key)),
-            AesSize::Aes128 => Ok(AesEncryptionKey::of_words::<4>(key)),
+            AesSize::Aes256 => encryption_keys::<8>(key, &mut keys),
+            AesSize::Aes128 => encryption_keys::<4>(key, &mut keys),
         }
-    }
-
-    /// The key of these octets, which are of `NK` words.
-    fn of_words<const NK: usize>(key: &[u8]) -> AesEncryptionKey
-        requires size { IsKeySize NK }
-        requires whole { length key.now ≡ 4 * NK }
-        ensures { result ≡ key.now }
-    {
-        AesEncryptionKey {
-            octets: kept_octets(&key[..4 * NK]),
-            keys: encryption_keys::<NK>(key),
-            rounds: NK + 6,
-        }
+        Ok(AesEncryptionKey {
+            octets: kept_octets(key),
+            keys,
+            rounds: key.len() / 4 + 6,
+        })
     }
 
     /// The block, encrypted under the key (FIPS 197, 5.1).
@@ -109,23 +104,18 @@ impl AesDecryptionKey {
         if key.len() != wanted {
             return Err(KerberosCryptoError::KeyLength(key.len(), wanted));
         }
+        let mut keys = [RoundKey {
+            lanes: u8x16::splat(0),
+        }; MOST_KEYS];
         match size {
-            AesSize::Aes256 => Ok(AesDecryptionKey::of_words::<8>(key)),
-            AesSize::Aes128 => Ok(AesDecryptionKey::of_words::<4>(key)),
+            AesSize::Aes256 => decryption_keys::<8>(key, &mut keys),
+            AesSize::Aes128 => decryption_keys::<4>(key, &mut keys),
         }
-    }
-
-    /// The key of these octets, which are of `NK` words.
-    fn of_words<const NK: usize>(key: &[u8]) -> AesDecryptionKey
-        requires size { IsKeySize NK }
-        requires whole { length key.now ≡ 4 * NK }
-        ensures { result ≡ key.now }
-    {
-        AesDecryptionKey {
-            octets: kept_octets(&key[..4 * NK]),
-            keys: decryption_keys::<NK>(key),
-            rounds: NK + 6,
-        }
+        Ok(AesDecryptionKey {
+            octets: kept_octets(key),
+            keys,
+            rounds: key.len() / 4 + 6,
+        })
     }
 
     /// The block, decrypted under the key, by the inverse cipher (FIPS 197, 5.3).
