@@ -3,9 +3,9 @@ use Rattle.std.proofs.Common.{◌≡◌, ℕ, zero, suc, ◌+◌, ◌-◌, ◌*�
 use Rattle.std.proofs.lemmas.List.{get_or-map}
 use Rattle.krb_crypto_block.specs.Modes.{IsOctets, IsBlock, AreInverse}
 use Rattle.krb_crypto_block.specs.Aes.{add_round_key, key_expansion, key_words, round_count, round, rounds, cipher, aes_block, IsKeySize}
-use Rattle.krb_crypto_block.specs.AesWords.{HasRoundKey, inverse_cipher_round, inverse_cipher_rounds, inverse_cipher_last}
+use Rattle.krb_crypto_block.specs.AesWords.{inverse_cipher_round, inverse_cipher_rounds, inverse_cipher_last}
 use Rattle.krb_crypto_block.specs.InverseCipher.{inverse_sub_bytes, inverse_shift_rows, inverse_rounds, decrypt, aes_undo}
-use Rattle.krb_crypto_block.specs.AesLanes.{lanes_at, key_prefix, IsKeyPrefix, IsExpanded}
+use Rattle.krb_crypto_block.specs.AesLanes.{lanes_at, key_prefix, HasVectors, HasInverseVectors, IsKeyPrefix, EncryptsWith, DecryptsWith}
 use Rattle.krb_crypto_block.specs.declared.aes.round_keys.RoundKey.{RoundKey}
 use Rattle.krb_crypto_block.proofs.Below.{AreBelow-take}
 use Rattle.krb_crypto_block.proofs.AesStates.{IsState, sub_bytes-IsState, shift_rows-IsState, mix_columns-IsState, add_round_key-IsState, inverse_mix_columns-IsState, inverse_sub_bytes-IsState, inverse_shift_rows-IsState}
@@ -42,17 +42,23 @@ module _ (octets v : List ℕ) (nr : ℕ) (is : IsKeyPrefix octets nr) (long : l
 pub most_rounds : (octets : List ℕ) (nr : ℕ) → IsKeyPrefix octets nr → (1 ≤ nr) × (nr ≤ 14)
 most_rounds octets nr is = elim is.size [ inl four ↦ (omega arith, omega arith) | inr eight ↦ (omega arith, omega arith) ]
 
--- a key of nk words, and the words of its round keys
-pub is_expanded : (key octets words : List ℕ) (nk : ℕ) → IsKeySize nk → length key ≡ 4 * nk → IsOctets octets → take (length key) octets ≡ key
-    → ((n : ℕ) → n ≤ nk + 6 → HasRoundKey (key_expansion key) words n) → IsExpanded octets words (nk + 6)
-is_expanded key octets words nk size long are_octets prefix has =
-    let same : nk + 6 - 6 ≡ nk = omega arith in
-    let whole : 4 * (nk + 6 - 6) ≡ length key = omega arith in
-    let value : key_prefix octets (nk + 6) ≡ key = rw whole prefix in
-    record {
-      key = record { size = rw same size; are_octets = are_octets };
-      words_are = rw value has;
-    }
+-- a key of nk words that is a prefix of a list
+module _ (key octets : List ℕ) (nk : ℕ) (size : IsKeySize nk) (long : length key ≡ 4 * nk) (are_octets : IsOctets octets) (prefix : take (length key) octets ≡ key) where
+  key_prefix-is : key_prefix octets (nk + 6) ≡ key
+  key_prefix-is =
+      let whole : 4 * (nk + 6 - 6) ≡ length key = omega arith in
+      rw whole prefix
+
+  is_key_prefix : IsKeyPrefix octets (nk + 6)
+  is_key_prefix =
+      let same : nk + 6 - 6 ≡ nk = omega arith in
+      record { size = rw same size; are_octets = are_octets }
+
+  pub encrypts_with : (keys : List RoundKey) → length keys ≡ 15 → HasVectors (key_expansion key) keys (nk + 6) → EncryptsWith octets keys (nk + 6)
+  encrypts_with keys many has = record { key = is_key_prefix; long = many; vectors = rw key_prefix-is has }
+
+  pub decrypts_with : (keys : List RoundKey) → length keys ≡ 15 → HasInverseVectors (key_expansion key) keys (nk + 6) → DecryptsWith octets keys (nk + 6)
+  decrypts_with keys many has = record { key = is_key_prefix; long = many; vectors = rw key_prefix-is has }
 
 pub lanes_are : (keys : List RoundKey) (n : ℕ) (d : RoundKey) → n < length keys → lanes_at keys n ≡ (get_or keys n d).lanes
 lanes_are keys n d h = get_or-map (λ (x : RoundKey). x.lanes) keys n d [] h

@@ -81,7 +81,7 @@ lanes_of_last : (f u : ℕ → ℕ) (h k : ℕ → ℕ → ℕ)
     ∷ bit_xor (f (h 3 2)) (u (k 3 3)) ∷ []
 lanes_of_last f u h k = refl
 
-last_lane : (a k : ℕ) → a < 256 → bit_xor (looked_up_at LAST_U LAST_V (tower a)) (with_constant k) ≡ bit_xor (s_box a) k
+pub last_lane : (a k : ℕ) → a < 256 → bit_xor (looked_up_at LAST_U LAST_V (tower a)) (with_constant k) ≡ bit_xor (s_box a) k
 last_lane a k h = rw (last_is a h) (xor_medial (s_box a) 0x63 k 0x63 ∙ xor_zero_r (bit_xor (s_box a) k))
 
 module _ (w st : List ℕ) (n : ℕ) (is : IsBlock 16 st) where

@@ -9,7 +9,6 @@ use Rattle.std.specs.Int.{bit_at}
 use Rattle.std.specs.Simd.Lanes.{Each1}
 use Rattle.krb_crypto_block.specs.Modes.{IsOctets}
 use Rattle.krb_crypto_block.specs.Aes.{state_of, key_expansion, IsKeySize}
-use Rattle.krb_crypto_block.specs.AesWords.{HasRoundKey}
 use Rattle.krb_crypto_block.specs.InverseCipher.{inverse_mix_columns}
 use Rattle.krb_crypto_block.specs.declared.aes.round_keys.RoundKey.{RoundKey}
 use Rattle.krb_crypto_block.specs.declared.aes.tables.TheConstants.{INVERSE, SCALED}
@@ -97,11 +96,6 @@ pub record IsKeyPrefix (octets : List ℕ) (nr : ℕ) : Type 0 where
 -- the key of nr rounds that is a prefix of a list
 abbrev pub key_prefix : List ℕ → ℕ → List ℕ
 key_prefix octets nr = take (4 * (nr - 6)) octets
-
--- the octets of a key, and the words of its round keys
-pub record IsExpanded (octets words : List ℕ) (nr : ℕ) : Type 0 where
-  pub key : IsKeyPrefix octets nr
-  pub words_are : (n : ℕ) → n ≤ nr → HasRoundKey (key_expansion (key_prefix octets nr)) words n
 
 -- the octets of a key, and its round keys as the rounds take them
 pub record EncryptsWith (octets : List ℕ) (keys : List RoundKey) (nr : ℕ) : Type 0 where

@@ -5,6 +5,7 @@ pub mod Aes
 pub mod InverseCipher
 pub mod AesWords
 pub mod AesLanes
+pub mod AesNextKey
 pub mod Size
 pub mod Linked
 pub mod Modes

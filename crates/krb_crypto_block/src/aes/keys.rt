@@ -2,59 +2,22 @@
 
 ghost use Rattle.std.specs.Prelude.{◌≡◌, ℕ, List, length, MatchResult};
 ghost use Rattle.krb_crypto_block.specs.Aes.{aes_block};
-ghost use Rattle.krb_crypto_block.specs.AesLanes.{key_prefix, IsExpanded, EncryptsWith, DecryptsWith};
+ghost use Rattle.krb_crypto_block.specs.AesLanes.{key_prefix, EncryptsWith, DecryptsWith};
 ghost use Rattle.krb_crypto_block.specs.InverseCipher.{aes_undo};
 ghost use Rattle.krb_crypto_block.specs.Modes.{AreInverse, IsOctets};
 ghost use Rattle.krb_crypto_block.specs.Size.{key_octets};
 ghost use Rattle.krb_crypto_hash.specs.CryptoError.{IsKeyLengthError};
 
 use super::inverse_rounds::{inverse_last_round, inverse_round, to_inverse_linear};
-use super::round_keys::{MOST_KEYS, Permutes, RoundKey, inverse_vectors, vectors};
+use super::round_keys::{MOST_KEYS, RoundKey, decryption_keys, encryption_keys};
 use super::rounds::{last_round, round, to_tower};
 use super::{AES_BLOCK_SIZE, AES256_KEY_SIZE, AesSize};
-use crate::aes_key_expansion::{ROUND_KEY_WORDS, expand, kept_octets};
+use crate::aes_key_expansion::kept_octets;
 use crate::block_cipher::{BlockDecrypt, BlockEncrypt};
 use crate::octets::are_octets;
 use krb_crypto_hash::{KerberosCryptoError, KerberosCryptoResult};
 use std::marker::Model;
 use std::simd::prelude::*;
-
-/// The octets of a key, and its round keys as words. As a value it is its octets.
-#[derive(Drop)]
-struct ExpandedKey {
-    octets: [u8; AES256_KEY_SIZE],
-    words: [u32; ROUND_KEY_WORDS],
-    rounds: usize,
-}
-
-impl Model for ExpandedKey {
-    ghost Value = { List ℕ };
-
-    ghost view = { λ k. key_prefix k.octets k.rounds };
-
-    ghost invariant = { λ k. IsExpanded k.octets k.words k.rounds };
-}
-
-impl ExpandedKey {
-    /// The key of these octets. `KeyLength` where they are not as many as the size's keys have.
-    fn new(key: &[u8], size: &AesSize) -> KerberosCryptoResult<ExpandedKey>
-        ensures { MatchResult result (λ k. (length key.now ≡ key_octets size.now) × (k ≡ key.now)) (IsKeyLengthError (key_octets size.now) key.now) }
-    {
-        let wanted = size.key_length();
-        if key.len() != wanted {
-            return Err(KerberosCryptoError::KeyLength(key.len(), wanted));
-        }
-        let words = match size {
-            AesSize::Aes256 => expand::<8, Permutes>(key),
-            AesSize::Aes128 => expand::<4, Permutes>(key),
-        };
-        Ok(ExpandedKey {
-            octets: kept_octets(key),
-            words,
-            rounds: key.len() / 4 + 6,
-        })
-    }
-}
 
 /// A key, ready to encrypt: its octets, and the round keys of the cipher. As a value it is its octets.
 #[derive(Drop)]
@@ -77,18 +40,22 @@ impl AesEncryptionKey {
     pub fn new(key: &[u8], size: &AesSize) -> KerberosCryptoResult<AesEncryptionKey>
         ensures { MatchResult result (λ k. (length key.now ≡ key_octets size.now) × (k ≡ key.now)) (IsKeyLengthError (key_octets size.now) key.now) }
     {
-        let expanded = ExpandedKey::new(key, size)?;
-        Ok(AesEncryptionKey::from_expanded(&expanded))
-    }
-
-    fn from_expanded(key: &ExpandedKey) -> AesEncryptionKey
-        ensures { result ≡ key.now }
-    {
-        AesEncryptionKey {
-            octets: key.octets,
-            keys: vectors(&key.words, key.rounds),
-            rounds: key.rounds,
+        let wanted = size.key_length();
+        if key.len() != wanted {
+            return Err(KerberosCryptoError::KeyLength(key.len(), wanted));
         }
+        let mut keys = [RoundKey {
+            lanes: u8x16::splat(0),
+        }; MOST_KEYS];
+        match size {
+            AesSize::Aes256 => encryption_keys::<8>(key, &mut keys),
+            AesSize::Aes128 => encryption_keys::<4>(key, &mut keys),
+        }
+        Ok(AesEncryptionKey {
+            octets: kept_octets(key),
+            keys,
+            rounds: key.len() / 4 + 6,
+        })
     }
 
     /// The block, encrypted under the key (FIPS 197, 5.1).
@@ -133,18 +100,22 @@ impl AesDecryptionKey {
     pub fn new(key: &[u8], size: &AesSize) -> KerberosCryptoResult<AesDecryptionKey>
         ensures { MatchResult result (λ k. (length key.now ≡ key_octets size.now) × (k ≡ key.now)) (IsKeyLengthError (key_octets size.now) key.now) }
     {
-        let expanded = ExpandedKey::new(key, size)?;
-        Ok(AesDecryptionKey::from_expanded(&expanded))
-    }
-
-    fn from_expanded(key: &ExpandedKey) -> AesDecryptionKey
-        ensures { result ≡ key.now }
-    {
-        AesDecryptionKey {
-            octets: key.octets,
-            keys: inverse_vectors(&key.words, key.rounds),
-            rounds: key.rounds,
+        let wanted = size.key_length();
+        if key.len() != wanted {
+            return Err(KerberosCryptoError::KeyLength(key.len(), wanted));
         }
+        let mut keys = [RoundKey {
+            lanes: u8x16::splat(0),
+        }; MOST_KEYS];
+        match size {
+            AesSize::Aes256 => decryption_keys::<8>(key, &mut keys),
+            AesSize::Aes128 => decryption_keys::<4>(key, &mut keys),
+        }
+        Ok(AesDecryptionKey {
+            octets: kept_octets(key),
+            keys,
+            rounds: key.len() / 4 + 6,
+        })
     }
 
     /// The block, decrypted under the key, by the inverse cipher (FIPS 197, 5.3).
@@ -215,10 +186,9 @@ impl AesKey {
     pub fn new(key: &[u8], size: &AesSize) -> KerberosCryptoResult<AesKey>
         ensures { MatchResult result (λ k. (length key.now ≡ key_octets size.now) × (k ≡ key.now)) (IsKeyLengthError (key_octets size.now) key.now) }
     {
-        let expanded = ExpandedKey::new(key, size)?;
         Ok(AesKey {
-            encryption: AesEncryptionKey::from_expanded(&expanded),
-            decryption: AesDecryptionKey::from_expanded(&expanded),
+            encryption: AesEncryptionKey::new(key, size)?,
+            decryption: AesDecryptionKey::new(key, size)?,
         })
     }
 
