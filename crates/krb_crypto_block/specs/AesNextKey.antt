@@ -1,4 +1,5 @@
--- A round key from those before it (FIPS 197, 5.2), as states: the first column has a word added, each later one the column before it.
+-- A round key from those before it (FIPS 197, 5.2), as states: the first column has a word added, each later one the column
+-- before it.
 use Rattle.std.specs.Prelude.{◌≡◌, ℕ, zero, suc, ◌-◌, List, [], ◌∷◌, map, bit_xor, slice_index}
 use Rattle.krb_crypto_block.specs.Aes.{octet_at, state_of, power_of_x}
 use Rattle.krb_crypto_block.specs.AesLanes.{tower, round_octets}
@@ -20,7 +21,8 @@ sum_up_to s t r (suc c) = bit_xor (octet_at s r (suc c)) (sum_up_to s t r c)
 abbrev pub next_octets : List ℕ → List ℕ → List ℕ
 next_octets s t = state_of (sum_up_to s t)
 
--- the round keys before round key n of the expanded key w of nk words: the last, also in tower form, and for a key of 8 words the one before it
+-- the round keys before round key n of the expanded key w of nk words: the last, also in tower form, and for a key of 8 words the
+-- one before it
 pub record HasLast (nk : ℕ) (w before last in_tower : List ℕ) (n : ℕ) : Type 0 where
   pub before_is : nk ≡ 8 → before ≡ round_octets w (n - 2)
   pub last_is : last ≡ round_octets w (n - 1)

@@ -1,5 +1,5 @@
-//! The key expansion of AES (FIPS 197, 5.2), by words, over any way to put a column through the S-box. This crate's own is by vector
-//! permutes; the crate of the word tables has another.
+//! The key expansion of AES (FIPS 197, 5.2), by words, over any way to put a column through the
+//! S-box. It is for the crate of the word tables: this crate makes round keys in vectors.
 
 ghost use Rattle.std.specs.Prelude.{◌≡◌, ℕ, ◌+◌, ◌*◌, ◌<◌, ◌≤◌, List, [], ◌∷◌, length, take};
 ghost use Rattle.krb_crypto_block.specs.Modes.{IsOctets};

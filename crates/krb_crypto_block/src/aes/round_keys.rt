@@ -1,5 +1,5 @@
-//! Round keys (FIPS 197, 5.2 and 5.3.5) as the rounds on vectors take them: each is made of those before it, an octet a lane, with no way
-//! through words.
+//! Round keys (FIPS 197, 5.2 and 5.3.5) as the rounds on vectors take them. Each is made of those
+//! before it, an octet a lane, with no way through words.
 
 ghost use Rattle.std.specs.Prelude.{◌≡◌, ℕ, ◌+◌, ◌*◌, ◌<◌, ◌≤◌, List, length, map};
 ghost use Rattle.krb_crypto_block.specs.Modes.{IsOctets, IsBlock};
@@ -42,7 +42,8 @@ fn substituted_word(key: u8x16) -> u8x16
     substituted(word) ^ u8x16::splat(0x63)
 }
 
-/// The last word of a round key in tower form after RotWord and SubWord, with Rcon[`n` + 1] added, in each column.
+/// The last word of a round key in tower form after RotWord and SubWord, with Rcon[`n` + 1] added,
+/// in each column.
 #[inline(always)]
 fn rotated_word(key: u8x16, n: usize) -> u8x16
     requires { n < 10 }
@@ -59,7 +60,8 @@ fn rotated_word(key: u8x16, n: usize) -> u8x16
     substituted(word) ^ u8x16::splat(0x63) ^ constant
 }
 
-/// The round key whose first word is that of this one and the term added, and each later word that of this one and the word before added.
+/// The next round key: the first word of this one has the term added, and each later word the new
+/// word before it.
 #[inline(always)]
 fn summed(key: u8x16, term: u8x16) -> u8x16
     ensures { (st t : List ℕ) → IsBlock 16 st → key ≡ st → term ≡ in_each_column t → result ≡ next_octets st t }
@@ -77,7 +79,8 @@ fn summed(key: u8x16, term: u8x16) -> u8x16
     pairs ^ two ^ term
 }
 
-/// Round key `n` of a key of `NK` words, from the two before it; of a key of 4 words, from the last alone. `tower` is the last in tower form.
+/// Round key `n` of a key of `NK` words, from the two before it, or of 4 words from the last alone.
+/// `tower` is the last in tower form.
 #[inline(always)]
 fn next_key<const NK: usize>(before: u8x16, last: u8x16, tower: u8x16, n: usize) -> u8x16
     requires size { IsKeySize NK }
@@ -95,7 +98,8 @@ fn next_key<const NK: usize>(before: u8x16, last: u8x16, tower: u8x16, n: usize)
     }
 }
 
-/// The round keys as the rounds take them, into `keys`: in tower form, and all but the first with the constant of SubBytes.
+/// The round keys as the rounds take them, into `keys`: in tower form, and all but the first with
+/// the constant of SubBytes.
 pub(super) fn encryption_keys<const NK: usize>(key: &[u8], keys: &mut [RoundKey; MOST_KEYS])
     requires size { IsKeySize NK }
     requires whole { length key.now ≡ 4 * NK }
@@ -134,19 +138,21 @@ pub(super) fn decryption_keys<const NK: usize>(key: &[u8], keys: &mut [RoundKey;
     are_octets(key);
     let mut before = own_key(key, 0);
     let mut last = own_key(key, NK / 4 - 1);
+    let mut tower = to_tower(last);
     keys[NK / 4 - 1] = RoundKey {
         lanes: unmixed(last) ^ u8x16::splat(0x2c),
     };
     keys[0] = RoundKey { lanes: before };
     for n in NK / 4..NK + 6 {
-        let next = next_key::<NK>(before, last, to_tower(last), n);
+        let next = next_key::<NK>(before, last, tower, n);
+        tower = to_tower(next);
         keys[n] = RoundKey {
             lanes: unmixed(next) ^ u8x16::splat(0x2c),
         };
         before = last;
         last = next;
     }
-    let next = next_key::<NK>(before, last, to_tower(last), NK + 6);
+    let next = next_key::<NK>(before, last, tower, NK + 6);
     keys[NK + 6] = RoundKey {
         lanes: to_inverse_linear(next ^ u8x16::splat(0x63)),
     };
