@@ -170,7 +170,7 @@ checksum_back checksum.HmacSha384192Aes256 = refl
 pub one_etype : (a b : CipherSuite) → etype_number a ≡ etype_number b → a ≡ b
 one_etype a b e = sym (etype_back a) ∙ ap (λ n. suite_of (nat_abs n)) e ∙ etype_back b
 
-one_checksum : (a b : ChecksumSuite) → checksum_number a ≡ checksum_number b → a ≡ b
+pub one_checksum : (a b : ChecksumSuite) → checksum_number a ≡ checksum_number b → a ≡ b
 one_checksum a b e = sym (checksum_back a) ∙ ap (λ n. checksum_suite_of (nat_abs n)) e ∙ checksum_back b
 
 pub etype_size : (size_of : CipherSuite → ℕ) (n : ℤ) (suite : CipherSuite) (size : ℕ) → etype_number suite ≡ n → IsSizeOf etype_number size_of n size → size_of suite ≡ size

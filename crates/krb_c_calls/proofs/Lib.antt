@@ -3,5 +3,6 @@ pub mod PlacedItems
 mod RequestsMade
 pub mod Answered
 mod KeptAgain
+mod KeptSums
 mod Lengths
 mod Refused

@@ -5,6 +5,7 @@ pub mod ContentNumbers
 pub mod Handing
 pub mod Items
 pub mod Kept
+pub mod KeptChecksums
 pub mod Keys
 pub mod Kinds
 pub mod MessageRules

@@ -17,7 +17,7 @@ use krb_crypto::{Cipher, CipherSuite};
 use std::alloc::Global;
 
 /// The octets of the longest Ke or Ki.
-const LONGEST: usize = 32;
+pub(crate) const LONGEST: usize = 32;
 
 /// `krb_key` of `krb.h`: a key of an encryption type for one usage, as Ke and Ki. 68 octets, with no pointer in them.
 #[repr(C)]
@@ -39,7 +39,7 @@ fn suite_of(kept: &KeptKey) -> Result<CipherSuite, CallError>
 }
 
 /// The octets, and zeros behind them.
-fn filled(octets: &[u8]) -> [u8; LONGEST]
+pub(crate) fn filled(octets: &[u8]) -> [u8; LONGEST]
     requires { length octets.now ≤ 32 }
     ensures octets { take (length octets.now) result ≡ octets.now }
     ensures zeros { drop (length octets.now) result ≡ replicate (32 - length octets.now) 0 }

@@ -7,6 +7,7 @@ mod errors;
 pub mod handing;
 pub mod items;
 mod kept;
+mod kept_checksums;
 mod keys;
 pub mod laws;
 mod messages;
@@ -19,6 +20,7 @@ pub mod tokens;
 pub use call_error::{CallError, DONE, ROOM};
 pub use checksums::{checksum, summed, verify_checksum};
 pub use kept::{KeptKey, decrypt_kept, decrypted_kept, encrypt_kept, encrypted_kept, keep_key};
+pub use kept_checksums::{KeptChecksumKey, checksum_kept, keep_checksum_key, verify_checksum_kept};
 pub use keys::{n_fold, random_to_key, string_to_key};
 pub use messages::{decrypt, decrypted, encrypt, encrypted};
 pub use sizes::{
