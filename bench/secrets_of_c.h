@@ -68,6 +68,38 @@ static size_t reject_kept(const struct call *call, uint8_t *out) {
     return one_if(decrypted_kept(call, out, &count), KRB_INTEGRITY, out);
 }
 
+/* Kept keys of checksums, of the checksum type that goes with the suite. */
+static krb_status sum_key_kept(const struct call *call, krb_checksum_key *kept) {
+    int32_t cksumtype = call->etype == 16 ? 12 : call->etype <= 18 ? (int32_t)call->etype - 2 : (int32_t)call->etype;
+    return told(krb_keep_checksum_key(cksumtype, KEY, USAGE, kept));
+}
+
+static size_t keep_sum_key(const struct call *call, uint8_t *out) {
+    krb_checksum_key kept;
+    if (sum_key_kept(call, &kept) != KRB_DONE) {
+        return 0;
+    }
+    memcpy(out, &kept, sizeof kept);
+    return sizeof kept;
+}
+
+static size_t sum_kept(const struct call *call, uint8_t *out) {
+    krb_checksum_key kept;
+    size_t count = 0;
+    if (sum_key_kept(call, &kept) != KRB_DONE || told(krb_checksum_kept(&kept, payload, size, out, ROOM, &count)) != KRB_DONE) {
+        return 0;
+    }
+    return count;
+}
+
+static krb_status sum_verified(const struct call *call) {
+    krb_checksum_key kept;
+    return sum_key_kept(call, &kept) != KRB_DONE ? KRB_NUMBER : krb_verify_checksum_kept(&kept, payload, size, sealed, sealed_size);
+}
+
+CALL(verify_sum, one_if(sum_verified(call), KRB_DONE, out))
+CALL(reject_sum, one_if(sum_verified(call), KRB_INTEGRITY, out))
+
 /* MIC tokens. */
 static size_t make_mic(const struct call *call, uint8_t *out) {
     size_t count = 0;
@@ -124,6 +156,7 @@ static size_t reject_wrap(const struct call *call, uint8_t *out) {
         sealed[sealed_size - 1] ^= 1;                   \
     }
 FIRST(kept, encrypt_kept)
+FIRST(kept_sum, sum_kept)
 FIRST(mic, make_mic)
 FIRST(wrap, wrap)
 FIRST(clear, wrap_in_clear)
@@ -132,7 +165,11 @@ FIRST(clear, wrap_in_clear)
     {"C: keep a key, suite " #number, keep, number, 0},                         \
     {"C: encrypt, kept key, suite " #number, encrypt_kept, number, 0},          \
     {"C: decrypt, kept key, suite " #number, decrypt_kept, number, kept_first}, \
-    {"C: reject, kept key, suite " #number, reject_kept, number, spoil_kept}
+    {"C: reject, kept key, suite " #number, reject_kept, number, spoil_kept},   \
+    {"C: keep a key of checksums, suite " #number, keep_sum_key, number, 0},    \
+    {"C: checksum, kept key, suite " #number, sum_kept, number, 0},             \
+    {"C: verify, kept key, suite " #number, verify_sum, number, kept_sum_first}, \
+    {"C: reject a checksum, kept key, suite " #number, reject_sum, number, spoil_kept_sum}
 #define C_TOKENS(number)                                                        \
     {"C: make a MIC, suite " #number, make_mic, number, 0},                     \
     {"C: verify a MIC, suite " #number, verify_mic, number, mic_first},         \

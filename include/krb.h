@@ -206,6 +206,27 @@ krb_status krb_checksum(int32_t cksumtype, const uint8_t *key, size_t key_size, 
 krb_status krb_verify_checksum(int32_t cksumtype, const uint8_t *key, size_t key_size, int32_t usage, const uint8_t *message,
                                size_t message_size, const uint8_t *checksum, size_t checksum_size);
 
+/* A key of checksums that is kept: what a checksum type derives from a key for one key usage (RFC 3961, 5.4; RFC 8009, 6). It is made once by
+   krb_keep_checksum_key, and then saves each call that derivation. It is plain octets, with nothing to free: it may be copied, and is as
+   secret as the key. Its fields are the library's. */
+typedef struct krb_checksum_key {
+    int32_t cksumtype;
+    uint8_t kc[32]; /* Kc, and zeros behind it */
+} krb_checksum_key;
+
+/* `kept` becomes the key of this checksum type and key usage. On another status than KRB_DONE it is as it was.
+   KRB_NUMBER; then KRB_KEY_SIZE; KRB_MEMORY for cksumtype 12 alone, since the others allocate nothing. */
+krb_status krb_keep_checksum_key(int32_t cksumtype, const uint8_t *key, size_t key_size, int32_t usage, krb_checksum_key *kept);
+
+/* What krb_checksum, and krb_verify_checksum, answer under the key and usage that `kept` was made of. One kept key serves both, at once in any
+   number of threads. They allocate nothing. The caller owes a key that krb_keep_checksum_key made: of another the checksum is that under the
+   octets of its `kc`.
+   KRB_NUMBER where no checksum type has its number; krb_verify_checksum_kept then KRB_INTEGRITY. */
+krb_status krb_checksum_kept(const krb_checksum_key *kept, const uint8_t *message, size_t message_size, uint8_t *out, size_t room,
+                             size_t *size);
+krb_status krb_verify_checksum_kept(const krb_checksum_key *kept, const uint8_t *message, size_t message_size, const uint8_t *checksum,
+                                    size_t checksum_size);
+
 /* The n-fold of the input (RFC 3961, 5.1), where n is 8 times `out_size`: it fills all of `out`.
    KRB_EMPTY where either is empty, and `out` is as it was. */
 krb_status krb_n_fold(const uint8_t *input, size_t input_size, uint8_t *out, size_t out_size);

@@ -87,10 +87,18 @@ static void sum_both(const struct suite *suite, const krb5_keyblock *key, int32_
     EXPECT(status == KRB_DONE && size == sum.length && !memcmp(back, sum.contents, size), "checksum type %d differs, status %u", suite->cksumtype, status);
     EXPECT(!krb5_c_checksum_length(context, suite->cksumtype, &told) && told == krb_checksum_size(suite->cksumtype), "checksum type %d: the size", suite->cksumtype);
     EXPECT(krb_verify_checksum(suite->cksumtype, key->contents, key->length, usage, plain, length, sum.contents, sum.length) == KRB_DONE, "checksum type %d of libkrb5 is refused", suite->cksumtype);
+    krb_checksum_key kept;
+    status = krb_keep_checksum_key(suite->cksumtype, key->contents, key->length, usage, &kept);
+    EXPECT(status == KRB_DONE, "checksum type %d: no key is kept, status %u", suite->cksumtype, status);
+    memset(back, 0, size);
+    status = krb_checksum_kept(&kept, plain, length, back, sizeof back, &size);
+    EXPECT(status == KRB_DONE && size == sum.length && !memcmp(back, sum.contents, size), "checksum type %d differs under a kept key, status %u", suite->cksumtype, status);
+    EXPECT(krb_verify_checksum_kept(&kept, plain, length, sum.contents, sum.length) == KRB_DONE, "checksum type %d of libkrb5 is refused under a kept key", suite->cksumtype);
     krb5_checksum here = {.checksum_type = suite->cksumtype, .length = (unsigned)size, .contents = back};
     EXPECT(!krb5_c_verify_checksum(context, key, usage, &in, &here, &holds) && holds, "checksum type %d of ours is refused by libkrb5", suite->cksumtype);
     sum.contents[drawn(sum.length)] ^= (uint8_t)(1u << drawn(8));
     EXPECT(krb_verify_checksum(suite->cksumtype, key->contents, key->length, usage, plain, length, sum.contents, sum.length) == KRB_INTEGRITY, "checksum type %d with a turned bit", suite->cksumtype);
+    EXPECT(krb_verify_checksum_kept(&kept, plain, length, sum.contents, sum.length) == KRB_INTEGRITY, "checksum type %d with a turned bit under a kept key", suite->cksumtype);
     krb5_free_checksum_contents(context, &sum);
 }
 

@@ -43,8 +43,34 @@ static krb_status answered_kept(const struct row *it, struct octets *room, size_
     return krb_decrypt_kept(&kept, input->at, input->count, room->at, room->count, size);
 }
 
+/* The kept key of checksums of a row; it is untouched where it is refused. */
+static krb_status keep_checksum(const struct row *it, krb_checksum_key *kept) {
+    krb_checksum_key before;
+    memset(kept, 0x5a, sizeof *kept);
+    memset(&before, 0x5a, sizeof before);
+    krb_status status = krb_keep_checksum_key(it->number, it->key.at, it->key.count, it->usage, kept);
+    EXPECT(status == KRB_DONE ? kept->cksumtype == it->number : !memcmp(kept, &before, sizeof before), "keep_checksum_key %d, status %u: another kept key", it->number, status);
+    return status;
+}
+
+static krb_status summed_kept(const struct row *it, struct octets *room, size_t *size) {
+    krb_checksum_key kept;
+    krb_status status = keep_checksum(it, &kept);
+    *size = 0;
+    return status != KRB_DONE ? status : krb_checksum_kept(&kept, it->input.at, it->input.count, room->at, room->count, size);
+}
+
+krb_status verified(const struct row *it) {
+    const struct octets *key = &it->key, *beside = &it->beside, *input = &it->input;
+    krb_checksum_key kept;
+    if (!strcmp(it->call, "verify_checksum"))
+        return krb_verify_checksum(it->number, key->at, key->count, it->usage, input->at, input->count, beside->at, beside->count);
+    krb_status status = keep_checksum(it, &kept);
+    return status != KRB_DONE ? status : krb_verify_checksum_kept(&kept, input->at, input->count, beside->at, beside->count);
+}
+
 int is_answering(const char *call) {
-    static const char *const names[] = {"encrypt", "encrypt_kept", "decrypt", "decrypt_kept", "string_to_key", "random_to_key", "checksum"};
+    static const char *const names[] = {"encrypt", "encrypt_kept", "decrypt", "decrypt_kept", "string_to_key", "random_to_key", "checksum", "checksum_kept"};
     for (unsigned k = 0; k < sizeof names / sizeof *names; k++)
         if (!strcmp(call, names[k])) return 1;
     return part_of(call, "seal_") || part_of(call, "open_");
@@ -63,6 +89,7 @@ krb_status answered(const struct row *it, struct octets *room, size_t *size) {
     if (!strcmp(it->call, "random_to_key")) return krb_random_to_key(it->number, input->at, input->count, room->at, room->count, size);
     if (!strcmp(it->call, "checksum"))
         return krb_checksum(it->number, key->at, key->count, it->usage, input->at, input->count, room->at, room->count, size);
+    if (!strcmp(it->call, "checksum_kept")) return summed_kept(it, room, size);
     if ((part = part_of(it->call, "seal_")))
         return part->seal(it->number, key->at, key->count, it->usage, beside->at, beside->count, input->at, input->count, room->at, room->count, size);
     if ((part = part_of(it->call, "open_")))

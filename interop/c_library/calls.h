@@ -33,9 +33,13 @@ struct row {
     struct octets key, beside, input;
 };
 
-/* Whether there is a call of this name that answers octets; it is made with this room. `encrypt_kept` and `decrypt_kept` keep the key first. */
+/* Whether there is a call of this name that answers octets; it is made with this room. `encrypt_kept`, `decrypt_kept` and `checksum_kept` keep the key
+   first. */
 int is_answering(const char *call);
 krb_status answered(const struct row *row, struct octets *room, size_t *size);
+
+/* `verify_checksum`, and `verify_checksum_kept`, which keeps the key first. */
+krb_status verified(const struct row *row);
 
 /* The number of a status, by its name in krb.h. */
 krb_status status_of(const char *name);

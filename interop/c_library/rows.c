@@ -54,7 +54,8 @@ static size_t size_of(const struct row *row) {
 
 /* An answer or a refusal; the same under the key that was kept, of which a wrong size is refused before a confounder's. */
 static void try_answer(struct row *row, krb_status wanted, const struct octets *answer) {
-    const char *kept = !strcmp(row->call, "encrypt") ? "encrypt_kept" : !strcmp(row->call, "decrypt") ? "decrypt_kept" : NULL;
+    const char *call = row->call;
+    const char *kept = !strcmp(call, "encrypt") ? "encrypt_kept" : !strcmp(call, "decrypt") ? "decrypt_kept" : !strcmp(call, "checksum") ? "checksum_kept" : NULL;
     if (is_answering(row->call) && wanted == KRB_DONE)
         try_rooms(row, answer);
     else
@@ -62,6 +63,30 @@ static void try_answer(struct row *row, krb_status wanted, const struct octets *
     if (!kept) return;
     row->call = kept;
     try_answer(row, wanted == KRB_CONFOUNDER_SIZE && row->key.count != krb_key_size(row->number) ? KRB_KEY_SIZE : wanted, answer);
+}
+
+/* Whether octets are a checksum; the same under the key that was kept. */
+static void try_verification(struct row *row, krb_status wanted) {
+    krb_status status = verified(row);
+    EXPECT(status == wanted, "%s %d: status %u", row->call, row->number, status);
+    row->call = "verify_checksum_kept";
+    status = verified(row);
+    EXPECT(status == wanted, "%s %d: status %u", row->call, row->number, status);
+}
+
+/* Kept keys that no call made: a number of no checksum type is refused, and nothing is touched. */
+static void try_unmade(void) {
+    static const int32_t numbers[] = {-1, 0, 1, 13, 14, 17, 18, 21, 32771, INT32_MAX, INT32_MIN};
+    for (unsigned k = 0; k < sizeof numbers / sizeof *numbers; k++) {
+        krb_checksum_key kept = {.cksumtype = numbers[k]};
+        struct octets room = room_of(40);
+        size_t size = 77777;
+        krb_status status = krb_checksum_kept(&kept, NULL, 0, room.at, room.count, &size);
+        EXPECT(status == KRB_NUMBER && size == 0 && is_untouched(&room, 0), "checksum_kept %d: status %u, size %zu", numbers[k], status, size);
+        status = krb_verify_checksum_kept(&kept, NULL, 0, room.at, 12);
+        EXPECT(status == KRB_NUMBER, "verify_checksum_kept %d: status %u", numbers[k], status);
+        drop(&room);
+    }
 }
 
 static void try_row(char **columns) {
@@ -80,8 +105,7 @@ static void try_row(char **columns) {
             krb_status status = krb_check(row.number, row.input.at, row.input.count);
             EXPECT(status == wanted, "check %d: status %u", row.number, status);
         } else if (!strcmp(row.call, "verify_checksum")) {
-            krb_status status = krb_verify_checksum(row.number, row.key.at, row.key.count, row.usage, row.input.at, row.input.count, row.beside.at, row.beside.count);
-            EXPECT(status == wanted, "verify_checksum %d: status %u", row.number, status);
+            try_verification(&row, wanted);
         } else {
             try_answer(&row, wanted, &answer);
         }
@@ -100,5 +124,6 @@ int main(int count, char **words) {
         while (next_row(file, columns, 8)) try_row(columns);
         fclose(file);
     }
+    try_unmade();
     return counted();
 }

@@ -43,6 +43,8 @@ struct turn {
     krb5_keyblock key;
     krb5_key kept;
     krb_key ours_kept;
+    krb_checksum_key ours_kept_sum;
+    krb5_checksum sum;
     size_t length, ours_size;
     uint8_t confounder[16];
     krb5_data in;
@@ -111,6 +113,29 @@ static void sum_k(void *what) {
     need(!krb5_k_make_checksum(context, it->suite->cksumtype, it->kept, 2, &it->in, &sum));
     krb5_free_checksum_contents(context, &sum);
 }
+static void sum_kept(void *what) {
+    struct turn *it = what;
+    size_t size;
+    need(krb_checksum_kept(&it->ours_kept_sum, plain, it->length, back, sizeof back, &size) == KRB_DONE);
+}
+static void verify_ours(void *what) {
+    struct turn *it = what;
+    need(krb_verify_checksum(it->suite->cksumtype, it->key.contents, it->key.length, 2, plain, it->length, it->sum.contents, it->sum.length) == KRB_DONE);
+}
+static void verify_c(void *what) {
+    struct turn *it = what;
+    krb5_boolean holds = 0;
+    need(!krb5_c_verify_checksum(context, &it->key, 2, &it->in, &it->sum, &holds) && holds);
+}
+static void verify_k(void *what) {
+    struct turn *it = what;
+    krb5_boolean holds = 0;
+    need(!krb5_k_verify_checksum(context, it->kept, 2, &it->in, &it->sum, &holds) && holds);
+}
+static void verify_kept(void *what) {
+    struct turn *it = what;
+    need(krb_verify_checksum_kept(&it->ours_kept_sum, plain, it->length, it->sum.contents, it->sum.length) == KRB_DONE);
+}
 static void password_ours(void *what) {
     struct turn *it = what;
     size_t size;
@@ -135,10 +160,9 @@ static void decode_theirs(void *what) {
     krb5_free_enc_tkt_part(context, part);
 }
 
-/* Ours, then those of libkrb5; and behind them ours under a kept key, where there is such a call. */
+/* Ours, then those of libkrb5, and behind them ours under a kept key. */
 static void time_messages(const char *name, timed *const *calls) {
     static const size_t lengths[] = {64, 1024, 65536};
-    int count = calls[3] ? 4 : 3;
     printf("\n%-9s %6s %7s %10s %10s %10s %10s %8s %8s\n", name, "etype", "octets", "ours", "krb5_c_", "kept", "krb5_k_", "to c", "kept/k");
     for (int s = 0; s < SUITES; s++)
         for (int n = 0; n < 3; n++) {
@@ -151,9 +175,11 @@ static void time_messages(const char *name, timed *const *calls) {
             it.in.data = (char *)plain, it.in.length = (unsigned)it.length;
             it.sealed.ciphertext.data = (char *)theirs;
             seal_c(&it);
-            time_all(calls, count, &it, least);
-            double kept = least[count == 4 ? 3 : 0];
-            printf("%-9s %6d %7zu %10.2f %10.2f %10.2f %10.2f %8.2f %8.2f\n", name, it.suite->etype, it.length, least[0], least[1], kept, least[2], least[0] / least[1], kept / least[2]);
+            need(krb_keep_checksum_key(it.suite->cksumtype, it.key.contents, it.key.length, 2, &it.ours_kept_sum) == KRB_DONE);
+            need(!krb5_c_make_checksum(context, it.suite->cksumtype, &it.key, 2, &it.in, &it.sum));
+            time_all(calls, 4, &it, least);
+            printf("%-9s %6d %7zu %10.2f %10.2f %10.2f %10.2f %8.2f %8.2f\n", name, it.suite->etype, it.length, least[0], least[1], least[3], least[2], least[0] / least[1], least[3] / least[2]);
+            krb5_free_checksum_contents(context, &it.sum);
             krb5_k_free_key(context, it.kept);
             krb5_free_keyblock_contents(context, &it.key);
         }
@@ -192,13 +218,15 @@ static void time_parts(const char *name) {
 }
 
 int main(int count, char **words) {
-    timed *const seals[] = {seal_ours, seal_c, seal_k, seal_kept}, *const opens[] = {open_ours, open_c, open_k, open_kept}, *const sums[] = {sum_ours, sum_c, sum_k, NULL};
+    timed *const seals[] = {seal_ours, seal_c, seal_k, seal_kept}, *const opens[] = {open_ours, open_c, open_k, open_kept}, *const sums[] = {sum_ours, sum_c, sum_k, sum_kept};
+    timed *const verifications[] = {verify_ours, verify_c, verify_k, verify_kept};
     if (count != 2) die("speed MESSAGES");
     if (krb5_init_context(&context)) die("libkrb5 does not begin");
     printf("microseconds of processor time a call, the least of %d windows of 4 ms and more\n", WINDOWS);
     time_messages("encrypt", seals);
     time_messages("decrypt", opens);
     time_messages("checksum", sums);
+    time_messages("verify", verifications);
     time_passwords();
     time_parts(words[1]);
     krb5_free_context(context);

@@ -15,6 +15,7 @@ struct task {
 };
 static struct task tasks[THREADS];
 static krb_key shared[SUITES]; /* kept keys that all threads of a suite use at once */
+static krb_checksum_key shared_sums[SUITES];
 static pthread_barrier_t all;
 
 /* What is sealed under the shared key is opened by it, and not by the key of the thread. */
@@ -29,6 +30,21 @@ static int is_same_kept(const struct task *it, const uint8_t *sealed_alone, size
     return well && krb_decrypt_kept(kept, sealed_alone, size_alone, opened, sizeof opened, &opened_size) == KRB_INTEGRITY;
 }
 
+/* So of checksums; a key of the thread that is kept makes what the key makes. */
+static int is_same_kept_sum(const struct task *it, const uint8_t *sum_alone, size_t size_alone) {
+    const krb_checksum_key *kept = &shared_sums[it->suite - suites];
+    krb_checksum_key mine;
+    uint8_t sum[24];
+    size_t size;
+    int well = krb_checksum_kept(kept, it->payload, it->length, sum, sizeof sum, &size) == KRB_DONE;
+    well = well && size == size_alone && memcmp(sum, sum_alone, size);
+    well = well && krb_verify_checksum_kept(kept, it->payload, it->length, sum, size) == KRB_DONE;
+    well = well && krb_verify_checksum_kept(kept, it->payload, it->length, sum_alone, size_alone) == KRB_INTEGRITY;
+    well = well && krb_keep_checksum_key(it->suite->cksumtype, it->key, it->suite->key, 7, &mine) == KRB_DONE;
+    well = well && krb_checksum_kept(&mine, it->payload, it->length, sum, sizeof sum, &size) == KRB_DONE;
+    return well && size == size_alone && !memcmp(sum, sum_alone, size);
+}
+
 static int is_same(const struct task *it, int first) {
     const struct suite *suite = it->suite;
     uint8_t sealed[PAYLOAD + 64], opened[PAYLOAD + 64], sum[24], made[32];
@@ -40,7 +56,7 @@ static int is_same(const struct task *it, int first) {
     well = well && krb_verify_checksum(suite->cksumtype, it->key, suite->key, 7, it->payload, it->length, sum, sum_size) == KRB_DONE;
     well = well && krb_verify_checksum(suite->cksumtype, it->key, suite->key, 8, it->payload, it->length, sum, sum_size) == KRB_INTEGRITY;
     well = well && krb_random_to_key(suite->etype, it->payload, suite->seed, made, sizeof made, &made_size) == KRB_DONE;
-    well = well && is_same_kept(it, sealed, size);
+    well = well && is_same_kept(it, sealed, size) && is_same_kept_sum(it, sum, sum_size);
     sealed[size - 1] ^= 1;
     well = well && krb_decrypt(suite->etype, it->key, suite->key, 7, sealed, size, opened, sizeof opened, &opened_size) == KRB_INTEGRITY;
     sealed[size - 1] ^= 1;
@@ -69,6 +85,7 @@ int main(void) {
         uint8_t key[32];
         draw(key, sizeof key);
         if (krb_keep_key(suites[k].etype, key, suites[k].key, 7, &shared[k]) != KRB_DONE) die("no key is kept");
+        if (krb_keep_checksum_key(suites[k].cksumtype, key, suites[k].key, 7, &shared_sums[k]) != KRB_DONE) die("no key of checksums is kept");
     }
     for (int k = 0; k < THREADS; k++) {
         struct task *it = &tasks[k];

@@ -55,9 +55,12 @@ def try_row(row):
     elif call in ("decrypt", "checksum"):
         if call == "decrypt":
             expect(outcome(lambda: crypto.KeptKey(number, key, usage).decrypt(octets)) == kept_outcome(number, key, answer, wanted), row)
+        else:
+            expect(outcome(lambda: crypto.KeptChecksumKey(number, key, usage).checksum(octets)) == (answer if wanted == Status.DONE else wanted), row)
         expect(outcome(getattr(crypto, call), number, key, usage, octets) == (answer if wanted == Status.DONE else wanted), row)
     elif call == "verify_checksum":
         expect(outcome(crypto.verify_checksum, number, key, usage, octets, beside) == (None if wanted == Status.DONE else wanted), row)
+        expect(outcome(lambda: crypto.KeptChecksumKey(number, key, usage).verify(octets, beside)) == (None if wanted == Status.DONE else wanted), row)
     elif call == "n_fold":
         expect(outcome(crypto.n_fold, octets, number) == (answer if wanted == Status.DONE else wanted), row)
     elif call == "check":
@@ -135,10 +138,10 @@ def try_forms():
         except TypeError:
             expect(True, "")
     token_key = gss.TokenKey(17, key, gss.Sender.ACCEPTOR, True)
-    for each in (token_key, crypto.KeptKey(17, key, 2)):
+    for each in (token_key, crypto.KeptKey(17, key, 2), crypto.KeptChecksumKey(15, key, 2)):
         for said in (repr(each), str(each), "%s" % [each]):
             hidden = not any(form in said for form in (repr(key)[2:-1], key.hex(), "\\x01", "1, 2, 3"))
-            expect(hidden and "etype=17" in said, "a key is told: %s" % said)
+            expect(hidden and ("etype=17" in said or "cksumtype=15" in said), "a key is told: %s" % said)
     expect(token_key == (17, key, gss.Sender.ACCEPTOR, True), "a key of tokens is its fields")
     refused = pickle.loads(pickle.dumps(Refused(7)))
     expect(refused.status is Status.INTEGRITY and isinstance(refused, ValueError) and str(refused) == "INTEGRITY: a wrong checksum", "a refusal")
@@ -155,6 +158,7 @@ def turn(number):
     sealed = crypto.encrypt(etype, key[:key_size], number, payload)
     total = crypto.checksum(cksumtype, key[:key_size], number, payload)
     crypto.verify_checksum(cksumtype, key[:key_size], number, payload, total)
+    crypto.KeptChecksumKey(cksumtype, key[:key_size], number).verify(payload, total)
     return crypto.decrypt(etype, key[:key_size], number, sealed) == payload and len(total) == sum_size
 
 

@@ -118,13 +118,20 @@ class Key(ctypes.Structure):
     _fields_ = [("etype", ctypes.c_int32), ("ke", ctypes.c_uint8 * 32), ("ki", ctypes.c_uint8 * 32)]
 
 
-NUMBER, SIZE, IN, KEY, BOOL, U16, U32, WORD = "number", "size", "in", "key", "bool", "u16", "u32", "word"
+class ChecksumKey(ctypes.Structure):
+    """krb_checksum_key of krb.h."""
+
+    _fields_ = [("cksumtype", ctypes.c_int32), ("kc", ctypes.c_uint8 * 32)]
+
+
+NUMBER, SIZE, IN, KEY, CHECKSUM_KEY, BOOL, U16, U32, WORD = "number", "size", "in", "key", "checksum key", "bool", "u16", "u32", "word"
 TELLS_WORD, TELLS_BOOL = "tells a word", "tells a bool"
 _TYPES = {
     NUMBER: [ctypes.c_int32],
     SIZE: [ctypes.c_size_t],
     IN: [ctypes.c_char_p, ctypes.c_size_t],
     KEY: [ctypes.POINTER(Key)],
+    CHECKSUM_KEY: [ctypes.POINTER(ChecksumKey)],
     BOOL: [ctypes.c_bool],
     U16: [ctypes.c_uint16],
     U32: [ctypes.c_uint32],

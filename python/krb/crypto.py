@@ -7,7 +7,7 @@ import ctypes
 import os
 from typing import Optional
 
-from krb._library import IN, KEY, NUMBER, SIZE, Call, Key, Octets, Refused, Status, fold
+from krb._library import CHECKSUM_KEY, IN, KEY, NUMBER, SIZE, Call, ChecksumKey, Key, Octets, Refused, Status, fold
 
 __all__ = [
     "key_size",
@@ -23,6 +23,7 @@ __all__ = [
     "random_to_key",
     "checksum",
     "verify_checksum",
+    "KeptChecksumKey",
     "n_fold",
 ]
 
@@ -41,6 +42,9 @@ _string_to_key = Call("krb_string_to_key", NUMBER, IN, IN, has_room=True)
 _random_to_key = Call("krb_random_to_key", NUMBER, IN, has_room=True)
 _checksum = Call("krb_checksum", NUMBER, IN, NUMBER, IN, has_room=True)
 _verify_checksum = Call("krb_verify_checksum", NUMBER, IN, NUMBER, IN, IN)
+_keep_checksum_key = Call("krb_keep_checksum_key", NUMBER, IN, NUMBER, CHECKSUM_KEY)
+_checksum_kept = Call("krb_checksum_kept", CHECKSUM_KEY, IN, has_room=True)
+_verify_checksum_kept = Call("krb_verify_checksum_kept", CHECKSUM_KEY, IN, IN)
 
 
 def key_size(etype: int) -> int:
@@ -150,6 +154,35 @@ def verify_checksum(cksumtype: int, key: Octets, usage: int, message: Octets, ch
     status = _verify_checksum.status(cksumtype, key, usage, message, checksum)
     if status != Status.DONE:
         raise Refused(status)
+
+
+class KeptChecksumKey:
+    """A key of a checksum type for one key usage, which is derived once and used often, in any number of threads.
+
+    Refused, when it is made: NUMBER, KEY_SIZE, MEMORY (cksumtype 12)."""
+
+    def __init__(self, cksumtype: int, key: Octets, usage: int) -> None:
+        self._key = ChecksumKey()
+        status = _keep_checksum_key.status(cksumtype, key, usage, self._key)
+        if status != Status.DONE:
+            raise Refused(status)
+        self.cksumtype = cksumtype
+        self.usage = usage
+
+    def __repr__(self) -> str:
+        return "KeptChecksumKey(cksumtype=%d, usage=%d)" % (self.cksumtype, self.usage)
+
+    def checksum(self, message: Octets) -> bytes:
+        """What `checksum` makes under this key and usage. It is never refused."""
+        return _checksum_kept.octets(checksum_size(self.cksumtype), self._key, message)
+
+    def verify(self, message: Octets, checksum: Octets) -> None:
+        """Returns where the octets are the checksum of the message under this key and usage, and only there.
+
+        Refused: INTEGRITY (they are not)."""
+        status = _verify_checksum_kept.status(self._key, message, checksum)
+        if status != Status.DONE:
+            raise Refused(status)
 
 
 def n_fold(octets: Octets, size: int) -> bytes:

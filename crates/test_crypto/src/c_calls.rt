@@ -2,7 +2,7 @@
 //! those that are refused.
 //!
 //! A row is a call, a number, a key, a usage, what stands beside, an input, a status and an answer. For each row it prints the call,
-//! the number, the status and the answer; those of `encrypt` and `decrypt` twice, the second time under a kept key.
+//! the number, the status and the answer; those of messages and of checksums twice, the second time under a kept key.
 
 mod calls;
 mod row;
@@ -19,6 +19,8 @@ pub(crate) fn answer(alloc: Global, columns: Columns<'_>) -> Result<String, RowE
     let kept = match row.call {
         "encrypt" => answer_of(alloc, &row, "encrypt_kept")?,
         "decrypt" => answer_of(alloc, &row, "decrypt_kept")?,
+        "checksum" => answer_of(alloc, &row, "checksum_kept")?,
+        "verify_checksum" => answer_of(alloc, &row, "verify_checksum_kept")?,
         _ => String::new(alloc),
     };
     Ok(format!(in alloc; "{text}{kept}")?)

@@ -1,7 +1,7 @@
 //! The calls by their names.
 
 use crate::c_calls::row::Row;
-use krb_c_calls::KeptKey;
+use krb_c_calls::{KeptChecksumKey, KeptKey};
 use std::alloc::{AllocError, Global};
 
 /// The status of a call under the row's key, kept for the row's usage: that of keeping it, where it is refused.
@@ -19,6 +19,23 @@ fn kept(alloc: Global, row: &Row, call: &str, out: &mut [u8], size: &mut usize) 
         return krb_c_calls::encrypt_kept(alloc, &kept, &row.beside, &row.input, out, size);
     }
     krb_c_calls::decrypt_kept(alloc, &kept, &row.input, out, size)
+}
+
+/// The status of a call of checksums under the row's key, kept for the row's usage: that of keeping
+/// it, where it is refused.
+fn kept_sum(alloc: Global, row: &Row, call: &str, out: &mut [u8], size: &mut usize) -> u32 {
+    let mut kept = KeptChecksumKey {
+        cksumtype: 0,
+        kc: [0; 32],
+    };
+    let status = krb_c_calls::keep_checksum_key(alloc, row.number, &row.key, row.usage, &mut kept);
+    if status != 0 {
+        return status;
+    }
+    if call == "checksum_kept" {
+        return krb_c_calls::checksum_kept(&kept, &row.input, out, size);
+    }
+    krb_c_calls::verify_checksum_kept(&kept, &row.input, &row.beside)
 }
 
 /// The status of a call that answers octets; none where no such call has the name.
@@ -49,6 +66,7 @@ fn status(alloc: Global, row: &Row, call: &str, out: &mut [u8], size: &mut usize
         "verify_checksum" => {
             krb_c_calls::verify_checksum(number, &row.key, usage, &row.input, &row.beside)
         }
+        "checksum_kept" | "verify_checksum_kept" => kept_sum(alloc, row, call, out, size),
         "check" => krb_c_calls::parts::check(alloc, number, &row.input),
         _ => return None,
     })
