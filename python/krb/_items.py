@@ -7,7 +7,7 @@ import functools
 import struct
 from typing import Any, Dict, FrozenSet, Iterator, List, NamedTuple, Optional, Tuple, Union
 
-from krb._library import Octets, Refused, Status, _library
+from krb._library import Octets, Refused, Status, _library, plain
 
 __all__ = ["Form", "Leaf", "Node", "Registry", "Role", "Item", "Secret", "items", "find", "find_item", "find_number", "first_error", "name_of", "type_of"]
 
@@ -207,10 +207,6 @@ def _text(text: str) -> bytes:
         return text.encode("ascii")
     except UnicodeEncodeError:
         raise Refused(Status.NUMBER) from None
-
-
-def plain(octets: Octets) -> bytes:
-    return octets if isinstance(octets, bytes) else bytes(memoryview(octets).cast("B"))
 
 
 def _item(record: _Record) -> Item:

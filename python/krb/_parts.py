@@ -6,8 +6,8 @@ import struct
 from typing import Any, Dict, Iterable, Iterator, List, NamedTuple, Optional, Tuple
 
 from krb import _items
-from krb._items import Form, Item, Leaf, Node, Registry, Secret, _all_names, _flags, _FRONT, _item, _named, _OCTETS, _Record, _RECORD, _VALUES, plain
-from krb._library import Octets, Refused, Status, _library
+from krb._items import Form, Item, Leaf, Node, Registry, Secret, _all_names, _flags, _FRONT, _item, _named, _OCTETS, _Record, _RECORD, _VALUES
+from krb._library import Octets, Refused, Status, _library, plain
 
 __all__ = ["Hidden", "Outcome", "Part", "decode", "find", "find_number", "parts"]
 

@@ -4,10 +4,11 @@ Encryption types: 16 des3-cbc-hmac-sha1-kd (withdrawn by RFC 8429), 17 and 18 ae
 20 aes256-cts-hmac-sha384-192. Their checksum types: 12, 15, 16, 19, 20. A usage is a key usage (RFC 4120, 7.5.1), any number of 32 bits."""
 
 import ctypes
+import functools
 import os
-from typing import Optional
+from typing import Optional, Tuple
 
-from krb._library import IN, KEY, NUMBER, SIZE, Call, Key, Octets, Refused, Status, fold
+from krb._library import IN, KEY, NUMBER, SIZE, Call, Key, Octets, Refused, Status, fold, plain
 
 __all__ = [
     "key_size",
@@ -42,6 +43,9 @@ _random_to_key = Call("krb_random_to_key", NUMBER, IN, has_room=True)
 _checksum = Call("krb_checksum", NUMBER, IN, NUMBER, IN, has_room=True)
 _verify_checksum = Call("krb_verify_checksum", NUMBER, IN, NUMBER, IN, IN)
 
+# Octets, more than a key or a checksum has.
+_ROOM = 64
+
 
 def key_size(etype: int) -> int:
     """The octets of a key; 0 where no type has the number."""
@@ -75,13 +79,20 @@ def checksum_key_size(cksumtype: int) -> int:
     return _checksum_key_size.size(cksumtype)
 
 
+@functools.lru_cache(maxsize=64)
+def _sizes(etype: int) -> Tuple[int, int]:
+    """The octets of a confounder, and the most that `encrypt` makes beside the payload: beside one octet, where a type fills the payload."""
+    return confounder_size(etype), max(encrypted_size(etype, 1) - 1, 0)
+
+
 def encrypt(etype: int, key: Octets, usage: int, payload: Octets, confounder: Optional[Octets] = None) -> bytes:
     """The payload, encrypted, with its checksum. Without a confounder one is drawn by os.urandom; give one for tests alone.
 
     Refused: NUMBER, CONFOUNDER_SIZE, KEY_SIZE, MEMORY."""
+    size, beside = _sizes(etype)
     if confounder is None:
-        confounder = os.urandom(confounder_size(etype))
-    return _encrypt.octets(encrypted_size(etype, len(payload)), etype, key, usage, confounder, payload)
+        confounder = os.urandom(size)
+    return _encrypt.octets(len(payload) + beside, etype, key, usage, confounder, payload)
 
 
 def decrypt(etype: int, key: Octets, usage: int, sealed: Octets) -> bytes:
@@ -98,9 +109,8 @@ class KeptKey:
 
     def __init__(self, etype: int, key: Octets, usage: int) -> None:
         self._key = Key()
-        status = _keep_key.status(etype, key, usage, self._key)
-        if status != Status.DONE:
-            raise Refused(status)
+        _keep_key.done(etype, key, usage, self._key)
+        self._sizes = _sizes(etype)
         self.etype = etype
         self.usage = usage
 
@@ -111,9 +121,10 @@ class KeptKey:
         """What `encrypt` makes under this key and usage.
 
         Refused: CONFOUNDER_SIZE, MEMORY."""
+        size, beside = self._sizes
         if confounder is None:
-            confounder = os.urandom(confounder_size(self.etype))
-        return _encrypt_kept.octets(encrypted_size(self.etype, len(payload)), self._key, confounder, payload)
+            confounder = os.urandom(size)
+        return _encrypt_kept.octets(len(payload) + beside, self._key, confounder, payload)
 
     def decrypt(self, sealed: Octets) -> bytes:
         """What `decrypt` opens under this key and usage.
@@ -126,30 +137,28 @@ def string_to_key(etype: int, password: Octets, salt: Octets) -> bytes:
     """The key of a password and a salt, with the parameters that are the default of the type.
 
     Refused: NUMBER, KEY_SIZE (etype 16: neither has an octet), MEMORY."""
-    return _string_to_key.octets(key_size(etype), etype, password, salt)
+    return _string_to_key.octets(_ROOM, etype, password, salt)
 
 
 def random_to_key(etype: int, seed: Octets) -> bytes:
     """The key of `seed_size` random octets.
 
     Refused: NUMBER, SEED_SIZE, MEMORY."""
-    return _random_to_key.octets(key_size(etype), etype, seed)
+    return _random_to_key.octets(_ROOM, etype, seed)
 
 
 def checksum(cksumtype: int, key: Octets, usage: int, message: Octets) -> bytes:
     """The checksum of a message.
 
     Refused: NUMBER, KEY_SIZE, MEMORY."""
-    return _checksum.octets(checksum_size(cksumtype), cksumtype, key, usage, message)
+    return _checksum.octets(_ROOM, cksumtype, key, usage, message)
 
 
 def verify_checksum(cksumtype: int, key: Octets, usage: int, message: Octets, checksum: Octets) -> None:
     """Returns where the octets are the checksum of the message, and only there.
 
     Refused: NUMBER, KEY_SIZE, INTEGRITY (they are not), MEMORY."""
-    status = _verify_checksum.status(cksumtype, key, usage, message, checksum)
-    if status != Status.DONE:
-        raise Refused(status)
+    _verify_checksum.done(cksumtype, key, usage, message, checksum)
 
 
 def n_fold(octets: Octets, size: int) -> bytes:
@@ -158,7 +167,7 @@ def n_fold(octets: Octets, size: int) -> bytes:
     Refused: EMPTY (no octets, or to none)."""
     if size < 0:
         raise ValueError("a negative size")
-    given = bytes(memoryview(octets).cast("B"))
+    given = plain(octets)
     out = ctypes.create_string_buffer(max(size, 1))
     status = fold(given, len(given), out, size)
     if status != Status.DONE:

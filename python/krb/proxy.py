@@ -4,11 +4,9 @@ A request or a reply is the octets that HTTP carries, a KDC-PROXY-MESSAGE (2.2.2
 
 import ctypes
 import enum
-from typing import Any, NamedTuple, Optional, Tuple
+from typing import Any, Iterator, NamedTuple, Optional, Tuple
 
-from krb._items import Form, Leaf, items
-from krb._library import IN, SIZE, Call, Octets, Refused, Status, _library
-from krb._places import SIZE_OUT, Telling
+from krb._library import IN, SIZE, SIZE_OUT, Call, Octets, Refused, Status, _library, plain
 
 __all__ = ["Service", "ProxyRequest", "read_request", "read_request_lenient", "write_reply", "write_reply_datagram", "is_whole"]
 __all__ += ["write_request", "read_reply", "http_status"]
@@ -71,11 +69,14 @@ _reply = Call("krb_proxy_reply", IN, has_room=True)
 _reply_datagram = Call("krb_proxy_reply_datagram", IN, has_room=True)
 _is_whole = Call("krb_proxy_is_whole", IN, SIZE)
 _make_request = Call("krb_make_proxy_request", IN, IN, has_room=True)
-_read_reply = Telling("krb_read_proxy_reply", [IN], [SIZE_OUT, SIZE_OUT])
+_read_reply = Call("krb_read_proxy_reply", IN, cells=[SIZE_OUT, SIZE_OUT])
 
 _LENGTH = 4
 _FRAME = 48  # what a KDC-PROXY-MESSAGE has at most beside the octets of its fields
-_AS_REQ = 0x6A
+
+
+# Tags of DER (X.690, 8.1.2): SEQUENCE, and [0] and so on behind it; of an AP-REQ and of the ticket in it (RFC 4120, 5.10).
+_SEQUENCE, _FIELD, _AP_REQ, _TICKET = 0x30, 0xA0, 0x6E, 0x61
 
 
 class _Asked(NamedTuple):
@@ -86,17 +87,35 @@ class _Asked(NamedTuple):
     server: Optional[Tuple[bytes, ...]]
 
 
-def _asked(octets: bytes, as_type: str, depth: int, names: Tuple[str, ...]) -> _Asked:
-    """The realm, and the names of these fields, that stand in so many elements: in the request's body or in the ticket."""
-    realm, field, found = b"", "", {}
-    for item in items(octets, as_type):
-        if item.depth == depth and item.form == Form.BEGIN:
-            field = item.name
-        if item.name == "realm" and field == "realm" and item.kind == Leaf.TEXT and item.depth == depth + 1:
-            realm = octets[item.place]
-        elif item.form == Form.LEAF and item.kind == Leaf.COMPONENT and field in names:
-            found.setdefault(field, []).append(octets[item.place])
-    return _Asked(realm, *(tuple(found[name]) if name in found else None for name in ("cname", "sname")))
+def _elements(octets: bytes, start: int, end: int) -> Iterator[Tuple[int, int, int]]:
+    """The elements in a part of octets that the library has said to be strict DER: of each its tag, and where its content starts and ends."""
+    while start < end:
+        tag, size, start = octets[start], octets[start + 1], start + 2
+        if size > 127:
+            digits, start = start, start + size - 128
+            size = int.from_bytes(octets[digits:start], "big")
+        yield tag, start, start + size
+        start += size
+
+
+def _content(octets: bytes, place: Optional[Tuple[int, int]], *tags: int) -> Optional[Tuple[int, int]]:
+    """The place of the content that elements of these tags lead to, each the first of its tag in the one before; None where there is none."""
+    for tag in tags:
+        place = next(((start, end) for each, start, end in _elements(octets, *place) if each == tag), None) if place else None
+    return place
+
+
+def _asked(octets: bytes, fields: Tuple[int, ...], realm: int, client: Optional[int], server: int) -> _Asked:
+    """The realm, and the names of the client and the server, that stand in the fields of these numbers, in the element to which tags lead."""
+    place = _content(octets, (0, len(octets)), *fields)
+
+    def name(number: int) -> Optional[Tuple[bytes, ...]]:
+        """The components of a PrincipalName, SEQUENCE { name-type [0], name-string [1] SEQUENCE OF .. } (RFC 4120, 5.2.2)."""
+        strings = _content(octets, place, _FIELD + number, _SEQUENCE, _FIELD + 1, _SEQUENCE)
+        return tuple(octets[start:end] for _, start, end in _elements(octets, *strings)) or None if strings else None
+
+    _, start, end = next(_elements(octets, *(_content(octets, place, _FIELD + realm) or (0, 0))))
+    return _Asked(octets[start:end], None if client is None else name(client), name(server))
 
 
 def _parts(octets: bytes, posted: _Posted) -> Tuple[bytes, bytes, bytes, Optional[int]]:
@@ -113,15 +132,16 @@ def read_request(octets: Octets) -> ProxyRequest:
     Refused: PROXY_TOO_LARGE past 131072 octets; of the KDC-PROXY-MESSAGE INVALID, TRUNCATED, UNSUPPORTED; PROXY_NO_LENGTH, PROXY_OTHER_LENGTH,
     PROXY_NO_DOMAIN, PROXY_OTHER_KIND, PROXY_FRAME_LENGTH; of the message PROXY_INVALID, PROXY_TRUNCATED, PROXY_UNSUPPORTED, PROXY_PVNO, PROXY_MSG_TYPE;
     MEMORY. `http_status` says what to answer."""
-    octets = bytes(memoryview(octets).cast("B"))
+    octets = plain(octets)
     posted = _posted(_request, octets)
     stream, message, domain, hint = _parts(octets, posted)
     if posted.service == Service.KDC:
-        # [APPLICATION 10] SEQUENCE { req-body [4] SEQUENCE { field
-        asked = _asked(message, "AS-REQ" if message[0] == _AS_REQ else "TGS-REQ", 4, ("cname", "sname"))
+        # [APPLICATION 10] or [APPLICATION 12] SEQUENCE { req-body [4] SEQUENCE { cname [1], realm [2], sname [3] (RFC 4120, 5.4.1)
+        asked = _asked(message, (message[0], _SEQUENCE, _FIELD + 4, _SEQUENCE), 2, 1, 3)
     else:
-        # [APPLICATION 14] SEQUENCE { ticket [3] [APPLICATION 1] SEQUENCE { field
-        asked = _asked(message[6 : 6 + int.from_bytes(message[4:6], "big")], "AP-REQ", 5, ("sname",))
+        # [APPLICATION 14] SEQUENCE { ticket [3] [APPLICATION 1] SEQUENCE { realm [1], sname [2] (RFC 4120, 5.3, 5.5.1)
+        request = message[6 : 6 + int.from_bytes(message[4:6], "big")]
+        asked = _asked(request, (_AP_REQ, _SEQUENCE, _FIELD + 3, _TICKET, _SEQUENCE), 1, None, 2)
     return ProxyRequest(
         Service(posted.service),
         asked.realm,
@@ -141,7 +161,7 @@ def read_request_lenient(octets: Octets) -> ProxyRequest:
     `client` and `server` are None, since nothing is read of them.
 
     Refused: as `read_request` up to PROXY_OTHER_KIND; MEMORY."""
-    octets = bytes(memoryview(octets).cast("B"))
+    octets = plain(octets)
     posted = _posted(_request_lenient, octets)
     stream, message, domain, hint = _parts(octets, posted)
     return ProxyRequest(Service(posted.service), None, domain, None, None, None, hint, stream, message)
@@ -183,7 +203,7 @@ def read_reply(octets: Octets) -> bytes:
     """The client's half: the message, without its length, that a proxy's reply holds.
 
     Refused: of the KDC-PROXY-MESSAGE INVALID, TRUNCATED, UNSUPPORTED; then as `write_reply`."""
-    octets = bytes(memoryview(octets).cast("B"))
+    octets = plain(octets)
     offset, size = _read_reply.told(octets)
     return octets[offset : offset + size]
 
