@@ -122,6 +122,26 @@ static void count_growth(const uint8_t *small, size_t size) {
     }
 }
 
+/* Puts a number of so many octets in little-endian order, and returns the place behind it. */
+static uint8_t *put(uint8_t *to, uint64_t number, int octets) {
+    for (int i = 0; i < octets; i++) {
+        to[i] = number >> 8 * i & 0xff;
+    }
+    return to + octets;
+}
+
+/* Reads a PAC (MS-PAC, 2.3 and 2.4) of so many octets and entries: of one buffer, or of entries that all name all octets. */
+static void count_pac(size_t size, size_t entries) {
+    static uint8_t pac[LARGE];
+    size_t from = entries == 1 ? 24 : 0;
+    uint8_t *end = put(put(pac, entries, 4), 0, 4);
+    for (size_t i = 0; i < entries; i++) {
+        end = put(put(put(end, 1, 4), size - from, 4), from, 8);
+    }
+    snprintf(name, sizeof name, "read a PAC of %zu octets, %s", size, entries == 1 ? "one buffer" : "each entry of all octets");
+    COUNT(size, bench_read_pac(pac, size));
+}
+
 int main(void) {
     uint8_t small[256], out[32];
     size_t size = octets_of(small_part, small);
@@ -131,6 +151,12 @@ int main(void) {
     snprintf(name, sizeof name, "write a part of 149 octets");
     COUNT_SECOND(size, bench_write_part(small, size, 1, NO_ROOM), bench_write_part(small, size, 2, NO_ROOM));
     count_growth(small, size);
+    for (size_t i = 0; i < sizeof growths / sizeof *growths; i++) {
+        count_pac(growths[i], 1);
+        if (growths[i] < LARGE) { /* else the square is 2^36 octets */
+            count_pac(growths[i], (growths[i] - 8) / 16);
+        }
+    }
     for (size_t i = 0; i < sizeof parts / sizeof *parts; i++) {
         struct octets_of_part it = read_digits(&parts[i]);
         count_part(parts[i].etype, &it, it.plain, it.plain_size, "");
