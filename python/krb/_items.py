@@ -228,7 +228,7 @@ def _walked(octets: bytes, as_type: Optional[str]) -> Tuple[int, bytes, int]:
     while True:
         records = bytearray(room * _RECORD.size)
         first = ctypes.c_char.from_buffer(records)
-        status = _items(name, len(name), octets, len(octets), ctypes.addressof(first), room, ctypes.byref(count), ctypes.byref(offset))
+        status = _items(name, len(name), octets, len(octets), ctypes.byref(first), room, ctypes.byref(count), ctypes.byref(offset))
         if status != Status.ROOM or count.value <= room:
             return status, bytes(memoryview(records)[: count.value * _RECORD.size]) if status == Status.DONE else b"", offset.value
         room = count.value
