@@ -4,7 +4,7 @@ A request or a reply is the octets that HTTP carries, a KDC-PROXY-MESSAGE (2.2.2
 
 import ctypes
 import enum
-from typing import Any, Iterator, NamedTuple, Optional, Tuple
+from typing import Any, Dict, List, NamedTuple, Optional, Tuple
 
 from krb._library import IN, SIZE, SIZE_OUT, Call, Octets, Refused, Status, _library, plain
 
@@ -75,8 +75,7 @@ _LENGTH = 4
 _FRAME = 48  # what a KDC-PROXY-MESSAGE has at most beside the octets of its fields
 
 
-# Tags of DER (X.690, 8.1.2): SEQUENCE, and [0] and so on behind it; of an AP-REQ and of the ticket in it (RFC 4120, 5.10).
-_SEQUENCE, _FIELD, _AP_REQ, _TICKET = 0x30, 0xA0, 0x6E, 0x61
+_FIELD = 0xA0  # the tag [0] of a field; the others stand behind it (X.690, 8.1.2)
 
 
 class _Asked(NamedTuple):
@@ -87,35 +86,56 @@ class _Asked(NamedTuple):
     server: Optional[Tuple[bytes, ...]]
 
 
-def _elements(octets: bytes, start: int, end: int) -> Iterator[Tuple[int, int, int]]:
-    """The elements in a part of octets that the library has said to be strict DER: of each its tag, and where its content starts and ends."""
-    while start < end:
-        tag, size, start = octets[start], octets[start + 1], start + 2
-        if size > 127:
-            digits, start = start, start + size - 128
-            size = int.from_bytes(octets[digits:start], "big")
-        yield tag, start, start + size
-        start += size
+def _content(octets: bytes, at: int) -> Tuple[int, int]:
+    """Where the content of the element at this place starts and ends. The library has said that the octets are strict DER, with tags of one octet."""
+    size, start = octets[at + 1], at + 2
+    if size < 128:
+        return start, start + size
+    behind = start + size - 128
+    return behind, behind + int.from_bytes(octets[start:behind], "big")
 
 
-def _content(octets: bytes, place: Optional[Tuple[int, int]], *tags: int) -> Optional[Tuple[int, int]]:
-    """The place of the content that elements of these tags lead to, each the first of its tag in the one before; None where there is none."""
-    for tag in tags:
-        place = next(((start, end) for each, start, end in _elements(octets, *place) if each == tag), None) if place else None
-    return place
+def _elements(octets: bytes, at: int) -> List[Tuple[int, int, int]]:
+    """The elements in the element at this place: of each its tag, and where its content starts and ends."""
+    found = []
+    at, end = _content(octets, at)
+    while at < end:
+        tag = octets[at]
+        start, at = _content(octets, at)
+        found.append((tag, start, at))
+    return found
 
 
-def _asked(octets: bytes, fields: Tuple[int, ...], realm: int, client: Optional[int], server: int) -> _Asked:
-    """The realm, and the names of the client and the server, that stand in the fields of these numbers, in the element to which tags lead."""
-    place = _content(octets, (0, len(octets)), *fields)
+def _fields(octets: bytes, at: int) -> Dict[int, int]:
+    """The places of what stands in the fields of the SEQUENCE at this place, by their tags."""
+    return {tag: start for tag, start, _ in _elements(octets, at)}
 
-    def name(number: int) -> Optional[Tuple[bytes, ...]]:
+
+def _asked(octets: bytes, at: int, realm: int, client: Optional[int], server: int) -> _Asked:
+    """The realm, and the names of the client and the server, in the fields of these numbers of the SEQUENCE at this place."""
+    fields = _fields(octets, at)
+
+    def name(number: Optional[int]) -> Optional[Tuple[bytes, ...]]:
         """The components of a PrincipalName, SEQUENCE { name-type [0], name-string [1] SEQUENCE OF .. } (RFC 4120, 5.2.2)."""
-        strings = _content(octets, place, _FIELD + number, _SEQUENCE, _FIELD + 1, _SEQUENCE)
-        return tuple(octets[start:end] for _, start, end in _elements(octets, *strings)) or None if strings else None
+        if number is None or _FIELD + number not in fields:
+            return None
+        strings = _fields(octets, fields[_FIELD + number])[_FIELD + 1]
+        return tuple(octets[start:end] for _, start, end in _elements(octets, strings)) or None
 
-    _, start, end = next(_elements(octets, *(_content(octets, place, _FIELD + realm) or (0, 0))))
-    return _Asked(octets[start:end], None if client is None else name(client), name(server))
+    start, end = _content(octets, fields[_FIELD + realm])
+    return _Asked(octets[start:end], name(client), name(server))
+
+
+def _asked_of_kdc(message: bytes) -> _Asked:
+    """Of a request to a KDC, [APPLICATION 10] or [APPLICATION 12] SEQUENCE { req-body [4] SEQUENCE { cname [1], realm [2], sname [3] .. } .. } (RFC 4120, 5.4.1)."""
+    return _asked(message, _fields(message, _content(message, 0)[0])[_FIELD + 4], 2, 1, 3)
+
+
+def _asked_of_change(frame: bytes) -> _Asked:
+    """Of the ticket in the AP-REQ behind the six octets that begin a frame, [APPLICATION 14] SEQUENCE { ticket [3] [APPLICATION 1] SEQUENCE { realm [1], sname [2] .. } .. }
+    (RFC 4120, 5.3 and 5.5.1; RFC 3244, 2)."""
+    ticket = _fields(frame, _content(frame, 6)[0])[_FIELD + 3]
+    return _asked(frame, _content(frame, ticket)[0], 1, None, 2)
 
 
 def _parts(octets: bytes, posted: _Posted) -> Tuple[bytes, bytes, bytes, Optional[int]]:
@@ -135,13 +155,7 @@ def read_request(octets: Octets) -> ProxyRequest:
     octets = plain(octets)
     posted = _posted(_request, octets)
     stream, message, domain, hint = _parts(octets, posted)
-    if posted.service == Service.KDC:
-        # [APPLICATION 10] or [APPLICATION 12] SEQUENCE { req-body [4] SEQUENCE { cname [1], realm [2], sname [3] (RFC 4120, 5.4.1)
-        asked = _asked(message, (message[0], _SEQUENCE, _FIELD + 4, _SEQUENCE), 2, 1, 3)
-    else:
-        # [APPLICATION 14] SEQUENCE { ticket [3] [APPLICATION 1] SEQUENCE { realm [1], sname [2] (RFC 4120, 5.3, 5.5.1)
-        request = message[6 : 6 + int.from_bytes(message[4:6], "big")]
-        asked = _asked(request, (_AP_REQ, _SEQUENCE, _FIELD + 3, _TICKET, _SEQUENCE), 1, None, 2)
+    asked = _asked_of_kdc(message) if posted.service == Service.KDC else _asked_of_change(message)
     return ProxyRequest(
         Service(posted.service),
         asked.realm,
