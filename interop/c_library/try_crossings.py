@@ -1,5 +1,5 @@
-"""Tries how often calls of the Python package cross to the library for C: try_crossings.py MESSAGES, in an environment that has the package installed. Each is made once before,
-when names of numbers are learnt, and then crosses once, also where its answer is large. The last line is `N passed, N failed`."""
+"""Tries how often calls of the Python package cross to the library for C: try_crossings.py MESSAGES, in an environment that has the package installed. Each is made once
+before, when names of numbers are learnt, and then crosses once, also where its answer is large. The last line is `N passed, N failed`."""
 
 import ctypes
 import sys

@@ -132,8 +132,8 @@ def _asked_of_kdc(message: bytes) -> _Asked:
 
 
 def _asked_of_change(frame: bytes) -> _Asked:
-    """Of the ticket in the AP-REQ behind the six octets that begin a frame, [APPLICATION 14] SEQUENCE { ticket [3] [APPLICATION 1] SEQUENCE { realm [1], sname [2] .. } .. }
-    (RFC 4120, 5.3 and 5.5.1; RFC 3244, 2)."""
+    """Of the ticket in the AP-REQ behind the six octets that begin a frame, [APPLICATION 14] SEQUENCE { ticket [3] [APPLICATION 1] SEQUENCE { realm [1],
+    sname [2] .. } .. } (RFC 4120, 5.3 and 5.5.1; RFC 3244, 2)."""
     ticket = _fields(frame, _content(frame, 6)[0])[_FIELD + 3]
     return _asked(frame, _content(frame, ticket)[0], 1, None, 2)
 
