@@ -31,6 +31,7 @@ size_t bench_open(size_t etype, octets key, size_t, int32_t usage, octets sealed
                   size_t);
 size_t bench_string_to_key(size_t etype, octets password, size_t, octets salt, size_t, uint8_t *out, size_t);
 size_t bench_read_part(octets input, size_t);
+size_t bench_read_pac(octets input, size_t);
 size_t bench_write_part(octets input, size_t, uint64_t count, uint8_t *out, size_t);
 size_t bench_seal_part(size_t etype, octets key, size_t, int32_t usage, octets confounder, size_t,
                        octets input, size_t, uint64_t count, uint8_t *out, size_t);

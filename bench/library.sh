@@ -1,6 +1,6 @@
 # Builds the library that C calls; sourced by `run`, `secrets` and `proxy`, which set `here`, `kit` and `scratch`. `proxy` sets the next two anew.
 
-libraries="krb_crypto_block krb_crypto_message krb_der krb_enc_parts krb_crypto sha1 sha2"
+libraries="krb_crypto_block krb_crypto_message krb_der krb_enc_parts krb_crypto krb_pac sha1 sha2"
 source=lib.rt.in
 
 # The lines of a crates.txt (lowest first) for the libraries in `wanted`, and for what they depend on.

@@ -56,20 +56,25 @@ run_peer() {
     esac
 }
 
-# The times of the peers, each with this library's time divided by it, and this library's divided by the least of them.
+# In awk, what a peer is called in a table.
+titles='function title_of(peer) {
+    if (peer == "vpaes") return "OpenSSL, permutes"
+    if (peer == "tables") return "OpenSSL, tables"
+    return peer == "nettle" ? "Nettle" : peer == "mit" ? "MIT" : "Heimdal"
+}'
+
+# The times of the peers, each with this library's time divided by it, and this library's divided by the least of them; then the last alone, with who that is.
 print_ratios() {
     set -- "$scratch/least.1"
     for peer in $peers; do
         least_of "$scratch/times.$peer" >"$scratch/least.$peer"
         set -- "$@" "$scratch/least.$peer"
     done
-    awk -F '\t' -v peers="$peers" '
+    awk -F '\t' -v peers="$peers" "$titles"'
         BEGIN {
             count = split(peers, peer, " ")
-            title["vpaes"] = "OpenSSL, permutes"; title["tables"] = "OpenSSL, tables"; title["nettle"] = "Nettle"
-            title["mit"] = "MIT"; title["heimdal"] = "Heimdal"
             printf "| Call | ns |"
-            for (n = 1; n <= count; n++) printf " %s |", title[peer[n]]
+            for (n = 1; n <= count; n++) printf " %s |", title_of(peer[n])
             print " to the best |"
             printf "|---|---:|"
             for (n = 1; n <= count; n++) printf "---:|"
@@ -91,6 +96,18 @@ print_ratios() {
                     if (best == 0 || theirs < best) best = theirs
                 }
                 printf " %.2f |\n", time[call, 1] / best
+            }
+        }' "$@"
+    printf '\n| Call | this library / the best | the best |\n|---|---:|---|\n'
+    awk -F '\t' -v peers="$peers" "$titles"'
+        BEGIN { split(peers, peer, " ") }
+        FILENAME != file { file = FILENAME; column++ }
+        column == 1 { order[++rows] = $1; time[$1] = $2; next }
+        !($1 in least) || $2 < least[$1] { least[$1] = $2; best[$1] = peer[column - 1] }
+        END {
+            for (row = 1; row <= rows; row++) {
+                call = order[row]
+                if (call in least) printf "| %s | %.2f | %s |\n", call, time[call] / least[call], title_of(best[call])
             }
         }' "$@"
 }

@@ -6,8 +6,8 @@ from typing import TYPE_CHECKING, Callable, Optional, Tuple, Union
 from krb import gss, spnego
 from krb._context import ContextFlag, EncryptionKey, Messages, OutOfOrder
 from krb._exchange import AP_GSS, AP_MUTUAL, AP_SEQUENCE, ClientRule, NotGranted, ap_reply, ap_request, moment
-from krb._items import Secret, find_number, plain
-from krb._library import Octets, Refused, Status
+from krb._items import Secret, find_number
+from krb._library import Octets, Refused, Status, plain
 from krb._mechanism import _MICROSOFT, Mechanism
 from krb._parts import decode
 from krb.accept import ChannelBindings

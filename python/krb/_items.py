@@ -7,7 +7,7 @@ import functools
 import struct
 from typing import Any, Dict, FrozenSet, Iterator, List, NamedTuple, Optional, Tuple, Union
 
-from krb._library import Octets, Refused, Status, _library
+from krb._library import Octets, Refused, Status, _library, plain
 
 __all__ = ["Form", "Leaf", "Node", "Registry", "Role", "Item", "Secret", "items", "find", "find_item", "find_number", "first_error", "name_of", "type_of"]
 
@@ -209,10 +209,6 @@ def _text(text: str) -> bytes:
         raise Refused(Status.NUMBER) from None
 
 
-def plain(octets: Octets) -> bytes:
-    return octets if isinstance(octets, bytes) else bytes(memoryview(octets).cast("B"))
-
-
 def _item(record: _Record) -> Item:
     form = Form(record.form)
     kind = Leaf(record.kind) if form == Form.LEAF else Node(record.kind)
@@ -232,7 +228,7 @@ def _walked(octets: bytes, as_type: Optional[str]) -> Tuple[int, bytes, int]:
     while True:
         records = bytearray(room * _RECORD.size)
         first = ctypes.c_char.from_buffer(records)
-        status = _items(name, len(name), octets, len(octets), ctypes.addressof(first), room, ctypes.byref(count), ctypes.byref(offset))
+        status = _items(name, len(name), octets, len(octets), ctypes.byref(first), room, ctypes.byref(count), ctypes.byref(offset))
         if status != Status.ROOM or count.value <= room:
             return status, bytes(memoryview(records)[: count.value * _RECORD.size]) if status == Status.DONE else b"", offset.value
         room = count.value

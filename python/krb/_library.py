@@ -4,7 +4,7 @@ import ctypes
 import enum
 import os
 import pathlib
-from typing import Any, List, Union
+from typing import Any, Callable, List, NamedTuple, Sequence, Union, cast
 
 Octets = Union[bytes, bytearray, memoryview]
 
@@ -126,20 +126,31 @@ class ChecksumKey(ctypes.Structure):
 
 NUMBER, SIZE, IN, KEY, CHECKSUM_KEY, BOOL, U16, U32, WORD = "number", "size", "in", "key", "checksum key", "bool", "u16", "u32", "word"
 TELLS_WORD, TELLS_BOOL = "tells a word", "tells a bool"
-_TYPES = {
-    NUMBER: [ctypes.c_int32],
-    SIZE: [ctypes.c_size_t],
-    IN: [ctypes.c_char_p, ctypes.c_size_t],
-    KEY: [ctypes.POINTER(Key)],
-    CHECKSUM_KEY: [ctypes.POINTER(ChecksumKey)],
-    BOOL: [ctypes.c_bool],
-    U16: [ctypes.c_uint16],
-    U32: [ctypes.c_uint32],
-    WORD: [ctypes.c_uint64],
-    TELLS_WORD: [ctypes.POINTER(ctypes.c_uint64)],
-    TELLS_BOOL: [ctypes.POINTER(ctypes.c_bool)],
+SIZE_OUT, U32_OUT = ctypes.c_size_t, ctypes.c_uint32
+
+
+class _Kind(NamedTuple):
+    """A kind of argument: its types in C, what is passed for them, and what is done before where this holds, in Python with {0} for the argument."""
+
+    types: List[Any]
+    passed: str = "{0}"
+    where: str = ""
+    first: str = ""
+
+
+_KINDS = {
+    NUMBER: _Kind([ctypes.c_int32], where="not -0x80000000 <= {0} < 0x80000000", first="_number({0})"),
+    SIZE: _Kind([ctypes.c_size_t]),
+    IN: _Kind([ctypes.c_char_p, ctypes.c_size_t], "{0}, len({0})", "type({0}) is not bytes", "{0} = plain({0})"),
+    KEY: _Kind([ctypes.POINTER(Key)]),
+    CHECKSUM_KEY: _Kind([ctypes.POINTER(ChecksumKey)]),
+    BOOL: _Kind([ctypes.c_bool]),
+    U16: _Kind([ctypes.c_uint16], where="not 0 <= {0} < 0x10000", first="_unsigned({0}, 16)"),
+    U32: _Kind([ctypes.c_uint32], where="not 0 <= {0} < 0x100000000", first="_unsigned({0}, 32)"),
+    WORD: _Kind([ctypes.c_uint64], where="not 0 <= {0} < 0x10000000000000000", first="_unsigned({0}, 64)"),
+    TELLS_WORD: _Kind([ctypes.POINTER(ctypes.c_uint64)]),
+    TELLS_BOOL: _Kind([ctypes.POINTER(ctypes.c_bool)]),
 }
-_BITS = {U16: 16, U32: 32, WORD: 64}
 _OUT = [ctypes.c_void_p, ctypes.c_size_t, ctypes.POINTER(ctypes.c_size_t)]
 
 
@@ -150,6 +161,11 @@ def _load() -> ctypes.CDLL:
 
 
 _library = _load()
+
+
+def plain(octets: Octets) -> bytes:
+    """The octets as bytes, which are copied where they are another object."""
+    return octets if isinstance(octets, bytes) else bytes(memoryview(octets).cast("B"))
 
 
 def _number(value: int) -> int:
@@ -166,66 +182,85 @@ def _unsigned(value: int, bits: int) -> int:
     return value
 
 
-def _given(kinds: List[str], arguments: Any) -> List[Any]:
-    given: List[Any] = []
-    for kind, argument in zip(kinds, arguments):
-        if kind == IN:
-            octets = argument if isinstance(argument, bytes) else bytes(memoryview(argument).cast("B"))
-            given += [octets, len(octets)]
-        elif kind == NUMBER:
-            given.append(_number(argument))
-        elif kind in _BITS:
-            given.append(_unsigned(argument, _BITS[kind]))
-        else:
-            given.append(argument)
-    return given
+# Room for answers: a type of ctypes for each number of bits, since a type of its own for each size would take longer to make than most calls.
+_ROOMS = [ctypes.c_char * 2**bits for bits in range(17)]
+
+# What is done with a call of the library, in Python. {0} is what is passed for its arguments.
+_ANSWER = """
+    return call({0})
+"""
+_DONE = """
+    status = call({0})
+    if status:
+        raise Refused(status)
+"""
+_TOLD = """
+    told = [cell() for cell in cells]
+    status = call({0}, *told)
+    if status:
+        raise Refused(status)
+    return [each.value for each in told]
+"""
+_OCTETS = """
+    size = c_size_t()
+    while True:
+        out = rooms[room.bit_length()]() if room < 0x10000 else (c_char * room)()
+        status = call({0}, out, room, size)
+        if not status:
+            return out[: size.value]
+        if status != ROOM or size.value <= room:
+            raise Refused(status)
+        room = size.value
+"""
 
 
 class Call:
-    """A call of the library, by the kinds of its arguments before what it answers: a status, octets with room for them, or numbers of C."""
+    """A call of the library, by the kinds of its arguments before what it answers: a status, octets with room for them, or numbers of C.
 
-    def __init__(self, name: str, *kinds: str, answers: Any = ctypes.c_uint32, has_room: bool = False, cells: Any = ()) -> None:
-        self._kinds = list(kinds)
-        self._cells = list(cells)
+    A function is written for it once, as collections.namedtuple writes some, since to go through the kinds in each call took longer than the call. Octets
+    that are bytes are not copied."""
+
+    def __init__(self, name: str, *kinds: str, answers: Any = ctypes.c_uint32, has_room: bool = False, cells: Sequence[Any] = ()) -> None:
+        self._name, self._kinds, self._cells = name, [_KINDS[kind] for kind in kinds], cells
         self._call = getattr(_library, name)
         answered = _OUT if has_room else [ctypes.POINTER(cell) for cell in cells]
-        self._call.argtypes = [kind for each in kinds for kind in _TYPES[each]] + answered
+        self._call.argtypes = [each for kind in self._kinds for each in kind.types] + answered
         self._call.restype = answers
+        if has_room:
+            self.octets: Callable[..., bytes] = self._written(_OCTETS, "room")
+            """The octets that the call answers, which have at most so many as the first argument says; where they had more, it is made again with as many."""
+        elif cells:
+            self.told: Callable[..., List[int]] = self._written(_TOLD)
+            """The numbers that the call answers."""
+        else:
+            self._answer = self._written(_ANSWER)
+            self.done: Callable[..., None] = self._written(_DONE)
+            """Returns where the call answers that all is done, and raises `Refused` else."""
+
+    def _written(self, body: str, *before: str) -> Callable[..., Any]:
+        """A function of the call's arguments, and of others before them."""
+        names = ["a%d" % number for number in range(len(self._kinds))]
+        head = "def made(%s):" % ", ".join([*before, *names])
+        checks = ["    if %s:\n        %s" % (kind.where.format(name), kind.first.format(name)) for kind, name in zip(self._kinds, names) if kind.where]
+        passed = ", ".join(kind.passed.format(name) for kind, name in zip(self._kinds, names))
+        known = {"call": self._call, "cells": self._cells, "rooms": _ROOMS, "c_char": ctypes.c_char, "c_size_t": ctypes.c_size_t, "ROOM": int(Status.ROOM)}
+        known.update({"Refused": Refused, "plain": plain, "_number": _number, "_unsigned": _unsigned})
+        exec(compile("\n".join([head, *checks]) + body.format(passed), "<%s of krb.h>" % self._name, "exec"), known)
+        return cast(Callable[..., Any], known["made"])
 
     def size(self, *arguments: int) -> int:
         """The size that the call answers. A number of more than 32 bits is that of no type."""
         try:
-            return int(self._call(*_given(self._kinds, arguments)))
+            return int(self._answer(*arguments))
         except Refused:
             return 0
 
     def status(self, *arguments: Any) -> Status:
         """The status of a call that answers no octets."""
         try:
-            return Status(self._call(*_given(self._kinds, arguments)))
+            return Status(self._answer(*arguments))
         except Refused as refused:
             return refused.status
-
-    def numbers(self, *arguments: Any) -> List[int]:
-        """The numbers that the call answers."""
-        answers = [cell() for cell in self._cells]
-        status = self._call(*_given(self._kinds, arguments), *[ctypes.byref(answer) for answer in answers])
-        if status != Status.DONE:
-            raise Refused(status)
-        return [int(answer.value) for answer in answers]
-
-    def octets(self, room: int, *arguments: Any) -> bytes:
-        """The octets that the call answers, which have at most so many; where they had more, it is made again with as many."""
-        given = _given(self._kinds, arguments)
-        size = ctypes.c_size_t()
-        while True:
-            out = ctypes.create_string_buffer(max(room, 1))
-            status = self._call(*given, out, room, ctypes.byref(size))
-            if status == Status.DONE:
-                return out.raw[: size.value]
-            if status != Status.ROOM or size.value <= room:
-                raise Refused(status)
-            room = size.value
 
 
 fold = _library.krb_n_fold

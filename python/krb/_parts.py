@@ -6,8 +6,8 @@ import struct
 from typing import Any, Dict, Iterable, Iterator, List, NamedTuple, Optional, Tuple
 
 from krb import _items
-from krb._items import Form, Item, Leaf, Node, Registry, Secret, _all_names, _flags, _FRONT, _item, _named, _OCTETS, _Record, _RECORD, _VALUES, plain
-from krb._library import Octets, Refused, Status, _library
+from krb._items import Form, Item, Leaf, Node, Registry, Secret, _all_names, _flags, _FRONT, _item, _named, _OCTETS, _Record, _RECORD, _VALUES
+from krb._library import Octets, Refused, Status, _library, plain
 
 __all__ = ["Hidden", "Outcome", "Part", "decode", "find", "find_number", "parts"]
 
@@ -138,8 +138,9 @@ def _decoded(octets: bytes, as_type: Optional[str], keytab: bytes) -> _Decoded:
         parts_at = items * _RECORD.size
         out_at = parts_at + most * _PART.size
         cells = bytearray(out_at + room)
-        at = ctypes.addressof(ctypes.c_char.from_buffer(cells))
-        status = _decode(name, len(name), octets, size, keytab, len(keytab), at, items, at + parts_at, most, at + out_at, room, ctypes.byref(counts))
+        first = ctypes.c_char.from_buffer(cells)
+        places = ctypes.byref(first), items, ctypes.byref(first, parts_at), most, ctypes.byref(first, out_at), room
+        status = _decode(name, len(name), octets, size, keytab, len(keytab), *places, ctypes.byref(counts))
         if status != Status.ROOM or (counts.items <= items and counts.parts <= most and counts.octets <= room):
             break
         items, most, room = max(items, counts.items), max(most, counts.parts), max(room, counts.octets)

@@ -2,8 +2,8 @@
 
 from typing import Optional
 
-from krb._items import _named, plain
-from krb._library import BOOL, IN, Call, Octets, Refused, Status
+from krb._items import _named
+from krb._library import BOOL, IN, Call, Octets, Refused, Status, plain
 
 __all__ = ["json", "show", "text"]
 

@@ -10,8 +10,7 @@ import time
 from typing import Any, Callable, NamedTuple, Optional, Tuple, Union
 
 from krb._context import Accepted, Context, ContextFlag, EncryptionKey, OutOfOrder, time_of
-from krb._items import plain
-from krb._library import IN, U32, Call, Octets, Refused, Status, _library
+from krb._library import IN, U32, Call, Octets, Refused, Status, _library, plain
 from krb._replay import AnyReplayCache, FileReplayCache, ReplayCache
 from krb._window import Order
 

@@ -12,9 +12,9 @@ from krb._ccache import Cache, Entry
 from krb._context import EncryptionKey, time_of
 from krb._exchange import Answer, ClientRule, Exchange, Follows, Limits, NotGranted, Wanted
 from krb._initiator import Initiator, InitiatorContext, KerberosInitiator
-from krb._items import Registry, Secret, _flags, plain
+from krb._items import Registry, Secret, _flags
 from krb._kdc import KdcUnreachable, Kdcs, Named
-from krb._library import Octets
+from krb._library import Octets, plain
 from krb._names import PRINCIPAL, Name, parsed, service_type, ticket_granting
 from krb._password import PasswordNotChanged, change_password
 from krb._parts import decode, find

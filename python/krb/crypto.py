@@ -4,10 +4,11 @@ Encryption types: 16 des3-cbc-hmac-sha1-kd (withdrawn by RFC 8429), 17 and 18 ae
 20 aes256-cts-hmac-sha384-192. Their checksum types: 12, 15, 16, 19, 20. A usage is a key usage (RFC 4120, 7.5.1), any number of 32 bits."""
 
 import ctypes
+import functools
 import os
-from typing import Optional
+from typing import Optional, Tuple
 
-from krb._library import CHECKSUM_KEY, IN, KEY, NUMBER, SIZE, Call, ChecksumKey, Key, Octets, Refused, Status, fold
+from krb._library import CHECKSUM_KEY, IN, KEY, NUMBER, SIZE, Call, ChecksumKey, Key, Octets, Refused, Status, fold, plain
 
 __all__ = [
     "key_size",
@@ -46,6 +47,9 @@ _keep_checksum_key = Call("krb_keep_checksum_key", NUMBER, IN, NUMBER, CHECKSUM_
 _checksum_kept = Call("krb_checksum_kept", CHECKSUM_KEY, IN, has_room=True)
 _verify_checksum_kept = Call("krb_verify_checksum_kept", CHECKSUM_KEY, IN, IN)
 
+# Octets, more than a key or a checksum has.
+_ROOM = 64
+
 
 def key_size(etype: int) -> int:
     """The octets of a key; 0 where no type has the number."""
@@ -79,13 +83,20 @@ def checksum_key_size(cksumtype: int) -> int:
     return _checksum_key_size.size(cksumtype)
 
 
+@functools.lru_cache(maxsize=64)
+def _sizes(etype: int) -> Tuple[int, int]:
+    """The octets of a confounder, and the most that `encrypt` makes beside the payload: beside one octet, where a type fills the payload."""
+    return confounder_size(etype), max(encrypted_size(etype, 1) - 1, 0)
+
+
 def encrypt(etype: int, key: Octets, usage: int, payload: Octets, confounder: Optional[Octets] = None) -> bytes:
     """The payload, encrypted, with its checksum. Without a confounder one is drawn by os.urandom; give one for tests alone.
 
     Refused: NUMBER, CONFOUNDER_SIZE, KEY_SIZE, MEMORY."""
+    size, beside = _sizes(etype)
     if confounder is None:
-        confounder = os.urandom(confounder_size(etype))
-    return _encrypt.octets(encrypted_size(etype, len(payload)), etype, key, usage, confounder, payload)
+        confounder = os.urandom(size)
+    return _encrypt.octets(len(payload) + beside, etype, key, usage, confounder, payload)
 
 
 def decrypt(etype: int, key: Octets, usage: int, sealed: Octets) -> bytes:
@@ -102,9 +113,8 @@ class KeptKey:
 
     def __init__(self, etype: int, key: Octets, usage: int) -> None:
         self._key = Key()
-        status = _keep_key.status(etype, key, usage, self._key)
-        if status != Status.DONE:
-            raise Refused(status)
+        _keep_key.done(etype, key, usage, self._key)
+        self._sizes = _sizes(etype)
         self.etype = etype
         self.usage = usage
 
@@ -115,9 +125,10 @@ class KeptKey:
         """What `encrypt` makes under this key and usage.
 
         Refused: CONFOUNDER_SIZE, MEMORY."""
+        size, beside = self._sizes
         if confounder is None:
-            confounder = os.urandom(confounder_size(self.etype))
-        return _encrypt_kept.octets(encrypted_size(self.etype, len(payload)), self._key, confounder, payload)
+            confounder = os.urandom(size)
+        return _encrypt_kept.octets(len(payload) + beside, self._key, confounder, payload)
 
     def decrypt(self, sealed: Octets) -> bytes:
         """What `decrypt` opens under this key and usage.
@@ -130,30 +141,28 @@ def string_to_key(etype: int, password: Octets, salt: Octets) -> bytes:
     """The key of a password and a salt, with the parameters that are the default of the type.
 
     Refused: NUMBER, KEY_SIZE (etype 16: neither has an octet), MEMORY."""
-    return _string_to_key.octets(key_size(etype), etype, password, salt)
+    return _string_to_key.octets(_ROOM, etype, password, salt)
 
 
 def random_to_key(etype: int, seed: Octets) -> bytes:
     """The key of `seed_size` random octets.
 
     Refused: NUMBER, SEED_SIZE, MEMORY."""
-    return _random_to_key.octets(key_size(etype), etype, seed)
+    return _random_to_key.octets(_ROOM, etype, seed)
 
 
 def checksum(cksumtype: int, key: Octets, usage: int, message: Octets) -> bytes:
     """The checksum of a message.
 
     Refused: NUMBER, KEY_SIZE, MEMORY."""
-    return _checksum.octets(checksum_size(cksumtype), cksumtype, key, usage, message)
+    return _checksum.octets(_ROOM, cksumtype, key, usage, message)
 
 
 def verify_checksum(cksumtype: int, key: Octets, usage: int, message: Octets, checksum: Octets) -> None:
     """Returns where the octets are the checksum of the message, and only there.
 
     Refused: NUMBER, KEY_SIZE, INTEGRITY (they are not), MEMORY."""
-    status = _verify_checksum.status(cksumtype, key, usage, message, checksum)
-    if status != Status.DONE:
-        raise Refused(status)
+    _verify_checksum.done(cksumtype, key, usage, message, checksum)
 
 
 class KeptChecksumKey:
@@ -163,9 +172,7 @@ class KeptChecksumKey:
 
     def __init__(self, cksumtype: int, key: Octets, usage: int) -> None:
         self._key = ChecksumKey()
-        status = _keep_checksum_key.status(cksumtype, key, usage, self._key)
-        if status != Status.DONE:
-            raise Refused(status)
+        _keep_checksum_key.done(cksumtype, key, usage, self._key)
         self.cksumtype = cksumtype
         self.usage = usage
 
@@ -174,15 +181,13 @@ class KeptChecksumKey:
 
     def checksum(self, message: Octets) -> bytes:
         """What `checksum` makes under this key and usage. It is never refused."""
-        return _checksum_kept.octets(checksum_size(self.cksumtype), self._key, message)
+        return _checksum_kept.octets(_ROOM, self._key, message)
 
     def verify(self, message: Octets, checksum: Octets) -> None:
         """Returns where the octets are the checksum of the message under this key and usage, and only there.
 
         Refused: INTEGRITY (they are not)."""
-        status = _verify_checksum_kept.status(self._key, message, checksum)
-        if status != Status.DONE:
-            raise Refused(status)
+        _verify_checksum_kept.done(self._key, message, checksum)
 
 
 def n_fold(octets: Octets, size: int) -> bytes:
@@ -191,7 +196,7 @@ def n_fold(octets: Octets, size: int) -> bytes:
     Refused: EMPTY (no octets, or to none)."""
     if size < 0:
         raise ValueError("a negative size")
-    given = bytes(memoryview(octets).cast("B"))
+    given = plain(octets)
     out = ctypes.create_string_buffer(max(size, 1))
     status = fold(given, len(given), out, size)
     if status != Status.DONE:

@@ -3,8 +3,7 @@
 from typing import NamedTuple, Optional
 
 from krb._items import Form, items
-from krb._library import IN, Call, Octets, Refused, Status
-from krb._places import SIZE_OUT, Telling
+from krb._library import IN, SIZE_OUT, Call, Octets, Refused, Status, plain
 
 __all__ = ["PasswordFrame", "password_frame", "make_password_frame", "ProxyMessage", "proxy_message", "make_proxy_message"]
 
@@ -17,7 +16,7 @@ class PasswordFrame(NamedTuple):
     size: int
 
 
-_password_frame = Telling("krb_password_frame", [IN], [SIZE_OUT] * 4)
+_password_frame = Call("krb_password_frame", IN, cells=[SIZE_OUT] * 4)
 _make_password_frame = Call("krb_make_password_frame", IN, IN, has_room=True)
 
 
@@ -25,7 +24,7 @@ def password_frame(octets: Octets) -> PasswordFrame:
     """The frame at the start of the octets. Its lengths are compared with nothing; what follows its KRB-PRIV is not looked at.
 
     Refused: TRUNCATED, OTHER_VERSION (not 1); INVALID, TRUNCATED, UNSUPPORTED of the messages; MEMORY."""
-    octets = bytes(memoryview(octets).cast("B"))
+    octets = plain(octets)
     ap, ap_size, private, private_size = _password_frame.told(octets)
     return PasswordFrame(octets[ap : ap + ap_size], octets[private : private + private_size], private + private_size)
 
@@ -47,7 +46,7 @@ class ProxyMessage(NamedTuple):
 
 def proxy_message(octets: Octets) -> ProxyMessage:
     """The message whose one DER encoding the octets are. Refused: INVALID, TRUNCATED, UNSUPPORTED, TOO_LARGE (a hint past 64 bits), MEMORY."""
-    octets = bytes(memoryview(octets).cast("B"))
+    octets = plain(octets)
     fields = {item.name: octets[item.place] for item in items(octets, "KDC-PROXY-MESSAGE") if item.form == Form.LEAF}
     hint = fields.get("dclocator-hint")
     if hint is not None and len(hint) > 8:

@@ -8,7 +8,7 @@ import enum
 import os
 from typing import NamedTuple, Optional
 
-from krb._library import BOOL, IN, NUMBER, TELLS_BOOL, TELLS_WORD, U16, WORD, Call, Octets, Refused, Status
+from krb._library import BOOL, IN, NUMBER, TELLS_BOOL, TELLS_WORD, U16, WORD, Call, Octets
 
 __all__ = ["Sender", "TokenKey", "Unwrapped", "make_mic", "verify_mic", "wrap", "wrap_in_clear", "unwrap"]
 
@@ -44,7 +44,8 @@ class TokenKey(NamedTuple):
         return "TokenKey(etype=%r, sender=%s, acceptor_subkey=%r)" % said
 
     def _words(self) -> "tuple[int, bytes, bool, bool]":
-        return self.etype, self.octets, self.sender.value, self.acceptor_subkey
+        etype, octets, sender, acceptor_subkey = self
+        return etype, octets, sender.value, acceptor_subkey
 
 
 class Unwrapped(NamedTuple):
@@ -67,9 +68,7 @@ def verify_mic(key: TokenKey, message: Octets, token: Octets) -> int:
 
     Refused: NUMBER, KEY_SIZE, TOKEN, DIRECTION, SUBKEY, SEALED_MIC, INTEGRITY, MEMORY."""
     number = ctypes.c_uint64()
-    status = _verify_mic.status(*key._words(), message, token, ctypes.byref(number))
-    if status != Status.DONE:
-        raise Refused(status)
+    _verify_mic.done(*key._words(), message, token, number)
     return number.value
 
 
@@ -98,5 +97,5 @@ def unwrap(key: TokenKey, token: Octets) -> Unwrapped:
 
     Refused: NUMBER, KEY_SIZE, TOKEN, DIRECTION, SUBKEY, SEALED_SIZE, SEALED_HEADER, INTEGRITY, MEMORY."""
     number, sealed = ctypes.c_uint64(), ctypes.c_bool()
-    message = _unwrap.octets(len(token), *key._words(), token, ctypes.byref(number), ctypes.byref(sealed))
+    message = _unwrap.octets(len(token), *key._words(), token, number, sealed)
     return Unwrapped(message, number.value, sealed.value)

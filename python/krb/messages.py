@@ -8,7 +8,7 @@ from typing import Dict, Optional, Tuple, Union
 
 from krb import _items
 from krb._library import IN, NUMBER, Call, Octets, Refused, Status
-from krb.crypto import confounder_size, encrypted_size
+from krb.crypto import _sizes
 
 __all__ = ["Message", "Field", "Part", "check", "is_message", "field", "field_place", "field_octets", "field_number", "seal", "open_part"]
 
@@ -154,9 +154,7 @@ def check(number: int, octets: Octets) -> None:
     """Returns where the octets are the one DER encoding of such a message, and only there.
 
     Refused: NUMBER, INVALID, TRUNCATED, UNSUPPORTED, MEMORY."""
-    status = _check.status(number, octets)
-    if status != Status.DONE:
-        raise Refused(status)
+    _check.done(number, octets)
 
 
 def is_message(number: int, octets: Octets) -> bool:
@@ -226,9 +224,10 @@ def seal(part: Part, etype: int, key: Octets, usage: int, octets: Octets, confou
     """The part of this encoding, encrypted. Without a confounder one is drawn by os.urandom; give one for tests alone.
 
     Refused: what `check` refuses of the part; then as `krb.crypto.encrypt`."""
+    size, beside = _sizes(etype)
     if confounder is None:
-        confounder = os.urandom(confounder_size(etype))
-    return _seal[part].octets(encrypted_size(etype, len(octets)), etype, key, usage, confounder, octets)
+        confounder = os.urandom(size)
+    return _seal[part].octets(len(octets) + beside, etype, key, usage, confounder, octets)
 
 
 def open_part(part: Part, etype: int, key: Octets, usage: int, sealed: Octets) -> bytes:

@@ -6,8 +6,7 @@ import threading
 from typing import Any, Iterable, List, Optional, Tuple
 
 from krb import spnego
-from krb._items import plain
-from krb._library import Octets, Refused, Status
+from krb._library import Octets, Refused, Status, plain
 from krb._mechanism import KerberosMechanism, Mechanism
 from krb._negotiation import NO_STATE, TEXTS, Choice, Message, Mic, NegotiationRule, Progress, Side, Stage, answer, take
 

@@ -12,8 +12,7 @@ import ctypes
 import enum
 from typing import Any, Iterator, List, NamedTuple, Optional, Sequence, Tuple, Union, overload
 
-from krb._library import IN, SIZE, Octets, Refused, Status, _library
-from krb._places import SIZE_OUT, U32_OUT, Telling
+from krb._library import IN, SIZE, SIZE_OUT, U32_OUT, Call, Octets, Refused, Status, _library, plain
 
 __all__ = ["BufferType", "Buffer", "Buffers", "buffers", "buffer", "find"]
 
@@ -59,15 +58,11 @@ class _Place(ctypes.Structure):
 # The buffers that there is room for at first; PACs in use have fewer.
 _ROOM = 32
 
-_buffer = Telling("krb_pac_buffer", [IN, SIZE], [U32_OUT, SIZE_OUT, SIZE_OUT])
+_buffer = Call("krb_pac_buffer", IN, SIZE, cells=[U32_OUT, SIZE_OUT, SIZE_OUT])
 _buffers = _library.krb_pac_buffers
 _buffers.argtypes = [ctypes.c_char_p, ctypes.c_size_t, ctypes.c_void_p, ctypes.c_size_t]
 _buffers.argtypes += [ctypes.POINTER(ctypes.c_size_t)]
 _buffers.restype = ctypes.c_uint32
-
-
-def _octets(pac: Octets) -> bytes:
-    return pac if isinstance(pac, bytes) else bytes(memoryview(pac).cast("B"))
 
 
 def _places(octets: bytes) -> Tuple[Any, int]:
@@ -87,7 +82,7 @@ def buffer(pac: Octets, n: int) -> Buffer:
     """Buffer n of the PAC, counted from 0 in the order of the entries.
 
     Refused: TRUNCATED, OTHER_VERSION, PAC_TYPE, PAC_RANGE; then ABSENT if there are not so many."""
-    octets = _octets(pac)
+    octets = plain(pac)
     kind, offset, size = _buffer.told(octets, n if 0 <= n < 2**64 else 2**64 - 1)
     return Buffer(BufferType(kind), offset, memoryview(octets)[offset : offset + size])
 
@@ -97,7 +92,7 @@ class Buffers(Sequence[Buffer]):
     made when it is asked for, and copies nothing."""
 
     def __init__(self, pac: Octets) -> None:
-        octets = _octets(pac)
+        octets = plain(pac)
         self._octets = memoryview(octets)
         self._places, self._count = _places(octets)
 

@@ -7,8 +7,7 @@ import enum
 from typing import Any, NamedTuple, Optional, Tuple
 
 from krb._items import Form, Leaf, items
-from krb._library import IN, SIZE, Call, Octets, Refused, Status, _library
-from krb._places import SIZE_OUT, Telling
+from krb._library import IN, SIZE, SIZE_OUT, Call, Octets, Refused, Status, _library, plain
 
 __all__ = ["Service", "ProxyRequest", "read_request", "read_request_lenient", "write_reply", "write_reply_datagram", "is_whole"]
 __all__ += ["write_request", "read_reply", "http_status"]
@@ -71,7 +70,7 @@ _reply = Call("krb_proxy_reply", IN, has_room=True)
 _reply_datagram = Call("krb_proxy_reply_datagram", IN, has_room=True)
 _is_whole = Call("krb_proxy_is_whole", IN, SIZE)
 _make_request = Call("krb_make_proxy_request", IN, IN, has_room=True)
-_read_reply = Telling("krb_read_proxy_reply", [IN], [SIZE_OUT, SIZE_OUT])
+_read_reply = Call("krb_read_proxy_reply", IN, cells=[SIZE_OUT, SIZE_OUT])
 
 _LENGTH = 4
 _FRAME = 48  # what a KDC-PROXY-MESSAGE has at most beside the octets of its fields
@@ -113,7 +112,7 @@ def read_request(octets: Octets) -> ProxyRequest:
     Refused: PROXY_TOO_LARGE past 131072 octets; of the KDC-PROXY-MESSAGE INVALID, TRUNCATED, UNSUPPORTED; PROXY_NO_LENGTH, PROXY_OTHER_LENGTH,
     PROXY_NO_DOMAIN, PROXY_OTHER_KIND, PROXY_FRAME_LENGTH; of the message PROXY_INVALID, PROXY_TRUNCATED, PROXY_UNSUPPORTED, PROXY_PVNO, PROXY_MSG_TYPE;
     MEMORY. `http_status` says what to answer."""
-    octets = bytes(memoryview(octets).cast("B"))
+    octets = plain(octets)
     posted = _posted(_request, octets)
     stream, message, domain, hint = _parts(octets, posted)
     if posted.service == Service.KDC:
@@ -141,7 +140,7 @@ def read_request_lenient(octets: Octets) -> ProxyRequest:
     `client` and `server` are None, since nothing is read of them.
 
     Refused: as `read_request` up to PROXY_OTHER_KIND; MEMORY."""
-    octets = bytes(memoryview(octets).cast("B"))
+    octets = plain(octets)
     posted = _posted(_request_lenient, octets)
     stream, message, domain, hint = _parts(octets, posted)
     return ProxyRequest(Service(posted.service), None, domain, None, None, None, hint, stream, message)
@@ -183,7 +182,7 @@ def read_reply(octets: Octets) -> bytes:
     """The client's half: the message, without its length, that a proxy's reply holds.
 
     Refused: of the KDC-PROXY-MESSAGE INVALID, TRUNCATED, UNSUPPORTED; then as `write_reply`."""
-    octets = bytes(memoryview(octets).cast("B"))
+    octets = plain(octets)
     offset, size = _read_reply.told(octets)
     return octets[offset : offset + size]
 

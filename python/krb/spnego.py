@@ -6,8 +6,7 @@ import enum
 from typing import Dict, Iterable, List, NamedTuple, Optional, Tuple, Union
 
 from krb._items import Form, Item, items
-from krb._library import IN, U32, Call, Octets, Refused, Status
-from krb._places import SIZE_OUT, Telling
+from krb._library import IN, SIZE_OUT, U32, Call, Octets, Refused, Status, plain
 
 __all__ = ["KERBEROS", "SPNEGO", "Token", "token", "make_token", "NegState", "NegTokenInit", "NegTokenResp"]
 __all__ += ["neg_token_init", "neg_token_init_mechanism", "neg_token_resp", "make_neg_token_init", "make_neg_token_resp"]
@@ -23,13 +22,13 @@ class Token(NamedTuple):
     inner: bytes
 
 
-_token = Telling("krb_gss_token", [IN], [SIZE_OUT] * 4)
+_token = Call("krb_gss_token", IN, cells=[SIZE_OUT] * 4)
 _make_token = Call("krb_make_gss_token", IN, IN, has_room=True)
 
 
 def token(octets: Octets) -> Token:
     """The token that the octets are, whatever its mechanism. Refused: INVALID, TRUNCATED, UNSUPPORTED, MEMORY."""
-    octets = bytes(memoryview(octets).cast("B"))
+    octets = plain(octets)
     mechanism, mechanism_size, inner, inner_size = _token.told(octets)
     return Token(octets[mechanism : mechanism + mechanism_size], octets[inner : inner + inner_size])
 
@@ -118,7 +117,7 @@ def _state(octets: bytes, found: Optional[List[Item]]) -> Union[NegState, int, N
 
 def neg_token_resp(octets: Octets) -> NegTokenResp:
     """The negTokenResp that the octets are. Refused: INVALID, TRUNCATED, UNSUPPORTED, MEMORY."""
-    octets = bytes(memoryview(octets).cast("B"))
+    octets = plain(octets)
     fields = _fields(octets, "negTokenResp")
     state = _state(octets, fields.get("negState"))
     return NegTokenResp(state, *(_octets(octets, fields.get(name)) for name in ("supportedMech", "responseToken", "mechListMIC")))
@@ -129,7 +128,7 @@ _make_init = Call("krb_make_neg_token_init", IN, IN, IN, has_room=True)
 
 def _identifier(mechanism: Octets) -> bytes:
     """The OBJECT IDENTIFIER of this content (X.690, 8.1.3 and 10.1)."""
-    content = bytes(memoryview(mechanism).cast("B"))
+    content = plain(mechanism)
     size = len(content)
     digits = size.to_bytes((size.bit_length() + 7) // 8, "big")
     length = bytes([size]) if size < 128 else bytes([128 + len(digits)]) + digits
