@@ -312,7 +312,7 @@ enum {
     KRB_LEAF_COMPONENT = 8,    /* KerberosString, a component of a principal's name */
     KRB_LEAF_TIME = 9,         /* KerberosTime */
     KRB_LEAF_OCTETS = 10,      /* OCTET STRING */
-    KRB_LEAF_SECRET = 11,      /* OCTET STRING, the octets of a key or a password */
+    KRB_LEAF_SECRET = 11,      /* OCTET STRING, the octets of a key or a password, or what KRB-PRIV keeps private */
     KRB_LEAF_CIPHER = 12,      /* OCTET STRING, a ciphertext */
     KRB_LEAF_TRUTH = 13,       /* BOOLEAN */
     KRB_LEAF_IDENTIFIER = 14,  /* OBJECT IDENTIFIER */

@@ -119,7 +119,7 @@ class Item(NamedTuple):
 
 
 class Secret(bytes):
-    """The octets of a key or a password, which are not shown."""
+    """The octets of a key or a password, or what KRB-PRIV keeps private, which are not shown."""
 
     def __repr__(self) -> str:
         return "Secret(%d octets)" % len(self)
@@ -271,9 +271,10 @@ def find_item(octets: Octets, as_type: str, path: str) -> Item:
 
 
 def find(octets: Octets, as_type: str, path: str) -> bytes:
-    """The content of what a path leads to: of a text or an OCTET STRING its octets. Refused: as `find_item`."""
+    """The content of what a path leads to: of a text or an OCTET STRING its octets, which are a `Secret` where they are one. Refused: as `find_item`."""
     octets = plain(octets)
-    return octets[find_item(octets, as_type, path).place]
+    item = find_item(octets, as_type, path)
+    return Secret(octets[item.place]) if item.kind == Leaf.SECRET else octets[item.place]
 
 
 def find_number(octets: Octets, as_type: str, path: str) -> int:

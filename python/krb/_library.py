@@ -222,7 +222,10 @@ class Call:
 
     def __init__(self, name: str, *kinds: str, answers: Any = ctypes.c_uint32, has_room: bool = False, cells: Sequence[Any] = ()) -> None:
         self._name, self._kinds, self._cells = name, [_KINDS[kind] for kind in kinds], cells
-        self._call = getattr(_library, name)
+        try:
+            self._call = getattr(_library, name)
+        except AttributeError:
+            raise ImportError("%s has no %s: it is the library of an older version than this package" % (_library._name, name)) from None
         answered = _OUT if has_room else [ctypes.POINTER(cell) for cell in cells]
         self._call.argtypes = [each for kind in self._kinds for each in kind.types] + answered
         self._call.restype = answers
@@ -240,13 +243,13 @@ class Call:
     def _written(self, body: str, *before: str) -> Callable[..., Any]:
         """A function of the call's arguments, and of others before them."""
         names = ["a%d" % number for number in range(len(self._kinds))]
-        head = "def made(%s):" % ", ".join([*before, *names])
+        head = "def %s(%s):" % (self._name, ", ".join([*before, *names]))
         checks = ["    if %s:\n        %s" % (kind.where.format(name), kind.first.format(name)) for kind, name in zip(self._kinds, names) if kind.where]
         passed = ", ".join(kind.passed.format(name) for kind, name in zip(self._kinds, names))
-        known = {"call": self._call, "cells": self._cells, "rooms": _ROOMS, "c_char": ctypes.c_char, "c_size_t": ctypes.c_size_t, "ROOM": int(Status.ROOM)}
+        known = {"__name__": __name__, "call": self._call, "cells": self._cells, "rooms": _ROOMS, "c_char": ctypes.c_char, "c_size_t": ctypes.c_size_t, "ROOM": int(Status.ROOM)}
         known.update({"Refused": Refused, "plain": plain, "_number": _number, "_unsigned": _unsigned})
         exec(compile("\n".join([head, *checks]) + body.format(passed), "<%s of krb.h>" % self._name, "exec"), known)
-        return cast(Callable[..., Any], known["made"])
+        return cast(Callable[..., Any], known[self._name])
 
     def size(self, *arguments: int) -> int:
         """The size that the call answers. A number of more than 32 bits is that of no type."""

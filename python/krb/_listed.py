@@ -27,8 +27,7 @@ def is_capture(octets: bytes) -> bool:
 
 
 def _row(told: Told) -> Dict[str, Any]:
-    """A message: its line; its octets and their kind, or why they are not shown. Of a request for a new password the line alone: the library does not hide the
-    password in what a key opens of it."""
+    """A message: its line; its octets and their kind, or why they are not shown. Of a frame in which a password is changed the line alone."""
     row: Dict[str, Any] = {"line": told.line, "kind": "", "octets": None, "why": None}
     if told.facts is None:
         row["why"] = "not read: %s" % printable(told.trouble or "")

@@ -27,10 +27,11 @@ KINDS = (
     "ExternalPrincipalIdentifier DHRepInfo KDCDHKeyInfo AlgorithmIdentifier SubjectPublicKeyInfo DHSubjectPublicKeyInfo DomainParameters ValidationParms "
     "TSCredentials TSPasswordCreds TSSmartCardCreds TSCspDataDetail TSRemoteGuardCreds TSRemoteGuardPackageCred"
 ).split()
-# Kinds whose octets hold no key in the clear: where they are refused, their octets are shown all the same.
+# Kinds whose octets hold no key in the clear, but in an EncryptedData of etype 0: where they are refused, their octets are shown all the same.
 _WITHOUT_KEYS = {"Ticket", "AS-REQ", "AS-REP", "TGS-REQ", "TGS-REP", "AP-REQ", "AP-REP", "KRB-PRIV", "KRB-ERROR", "token", "password-frame"}
 MOST_LINES = 20000  # of a tree; the text and the JSON are whole
 MOST_KEYS = 80  # that are made of a password
+_CLEAR = b"\xa0\3\2\1\0"  # etype [0] INTEGER of 0 (RFC 4120, 5.2.9): what follows may be in the clear
 _LINE = re.compile(r"( *)(.*?)(?:\[(\d+)\])?:(?: (.*))?")
 _TREE_PLACE = re.compile(r"@(\d+)\+(\d+)$")
 # What a key of the caller's is called: the principal of an entry without a realm.
@@ -369,13 +370,18 @@ def _tree_of(octets: bytes) -> Tuple[str, List[Line]]:
     return text, lines
 
 
+def _may_hold_keys(octets: bytes, kind: Optional[str]) -> bool:
+    """Whether octets of this kind, which may be refused, may hold keys, or what is as secret, in the clear."""
+    return kind not in _WITHOUT_KEYS or _CLEAR in octets
+
+
 def page_of(octets: bytes, kind: Optional[str], keytab: bytes, show_keys: bool) -> Tuple[Page, List[bytes]]:
     """The page of octets, and the salts that are told in them."""
     sources, notes = [Source("the octets given", octets)], []  # type: List[Source], List[str]
     known = _known(kind)
     if kind and known is None:
         return Page([], sources, "", "", ("NUMBER", "no kind has this name", None), notes, not show_keys, []), []
-    if known == "tree" and not show_keys and type_of(octets) not in _WITHOUT_KEYS:
+    if known == "tree" and not show_keys and _may_hold_keys(octets, type_of(octets)):
         error = ("HIDDEN", "a tree has all octets, those of keys too: ask for keys and passwords to see it", None)
         return Page([], sources, "", "", error, notes, True, []), []
     try:
@@ -385,7 +391,7 @@ def page_of(octets: bytes, kind: Optional[str], keytab: bytes, show_keys: bool) 
         if refused.status == Status.MEMORY:
             raise
         told = known or type_of(octets) or ("token" if octets[:1] == b"\x60" else None)
-        hides = not show_keys and told not in _WITHOUT_KEYS
+        hides = not show_keys and _may_hold_keys(octets, told)
         text, lines = ("", []) if hides or octets[:1] in (b"\x05", b"\0") else _tree_of(octets)
         if lines:
             notes.append("Below are the tags, lengths and contents of the elements, as far as they go.")

@@ -42,6 +42,9 @@ class Part(NamedTuple):
     opened_by: Optional[str]
     keys_left_out: int
 
+    def __repr__(self) -> str:
+        return "Part(%s, usage=%r, type_name=%r, %d octets, opened_by=%r)" % (self.outcome, self.usage, self.type_name, len(self.octets), self.opened_by)
+
 
 class Hidden(str):
     """The word that stands in the place of the octets of a key, of a password, or of a part in the clear."""
