@@ -1,10 +1,11 @@
 -- What octets grant, and why they grant nothing, from what is known at each rule.
 use Rattle.std.proofs.Common.{◌≡◌, ℕ, ℤ, Bool, List, refl, subst, inr}
 use Rattle.std.proofs.lemmas.Result.{IfErr-weaker}
-use Rattle.std.specs.Prelude.{IfErr, IfOk, Result}
+use Rattle.std.specs.Prelude.{◌≢◌, IfErr, IfOk, Result}
 use Rattle.krb_crypto.specs.declared.seal.error.PartError.TheVariants as half
 use Rattle.krb_der_core.specs.declared.der.DerEncode.{Ghosts as EncodingOf}
 use Rattle.krb_der_core.specs.declared.error.Asn1DerError.{Asn1DerError}
+use Rattle.krb_der_core.specs.declared.error.Asn1DerError.TheVariants as der
 use Rattle.krb_messages.specs.declared.messages.replies.EncKdcRepPart.{EncKdcRepPart}
 use Rattle.krb_messages.specs.declared.messages.replies.KdcRep.{KdcRep}
 use Rattle.krb_crypto.specs.Suites.{etype}
@@ -29,13 +30,13 @@ module _ {M P : Type 0} (f : Form M P) (a : Asked) (c : Clock) (key : Key) (octe
 
 -- an AS-REP whose part is no part of the first tag, and grants nothing under the other
 pub other_refused : (message : EncodingOf KdcRep) (part other : EncodingOf EncKdcRepPart) (a : Asked) (c : Clock) (key : Key) (octets : List ℕ)
-    (r : Result Granted ReplyError) (e : ReplyError) → ((why : Asn1DerError) × (e ≡ errors.Opening (half.Der why)))
+    (r : Result Granted ReplyError) (e : ReplyError) → ((why : Asn1DerError) × (e ≡ errors.Opening (half.Der why)) × (why ≢ der.OutOfMemory))
     → IsNotGranted (as_form message part) a c key octets e → IfErr r (IsNotGranted (as_form message other) a c key octets)
     → IfErr r (IsFirstRefused message part other a c key octets)
-other_refused message part other a c key octets r e (why, is) not h =
+other_refused message part other a c key octets r e (why, is, told) not h =
     let first = subst (λ (x : ReplyError). IsNotGranted (as_form message part) a c key octets x) is not in
     IfErr-weaker r (IsNotGranted (as_form message other) a c key octets) (IsFirstRefused message part other a c key octets)
-    (λ x refused. inr (why, first, refused)) h
+    (λ x refused. inr (why, told, first, refused)) h
 
 -- a TGS-REP under the key that the request names
 module _ (message : EncodingOf KdcRep) (part : EncodingOf EncKdcRepPart) (a : Asked) (c : Clock) (key : Key) (octets : List ℕ)

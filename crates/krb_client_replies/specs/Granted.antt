@@ -1,9 +1,10 @@
 -- Replies of a KDC that grant a ticket (RFC 4120, 3.1.5 and 3.3.4).
-use Rattle.std.specs.Prelude.{◌≡◌, ◌⊎◌, ℕ, ℤ, pos, List, Bool, true, false, if◌then◌else◌}
+use Rattle.std.specs.Prelude.{◌≡◌, ◌≢◌, ◌⊎◌, ℕ, ℤ, pos, List, Bool, true, false, if◌then◌else◌}
 use Rattle.krb_crypto.specs.Suites.{etype}
 use Rattle.krb_crypto.specs.declared.seal.error.PartError.TheVariants as half
 use Rattle.krb_der_core.specs.declared.der.DerEncode.{Ghosts as EncodingOf}
 use Rattle.krb_der_core.specs.declared.error.Asn1DerError.{Asn1DerError}
+use Rattle.krb_der_core.specs.declared.error.Asn1DerError.TheVariants as der
 use Rattle.krb_messages.specs.declared.messages.replies.EncKdcRepPart.{EncKdcRepPart}
 use Rattle.krb_messages.specs.declared.messages.replies.KdcRep.{KdcRep}
 use Rattle.krb_client_rules.specs.PartRules.{Answers, IsNoAnswer}
@@ -84,14 +85,14 @@ abbrev pub IsFirstGranted : EncodingOf KdcRep → EncodingOf EncKdcRepPart → E
 IsFirstGranted message part other a c key octets g =
     IsGranted (as_form message part) a c key octets g ⊎ IsGranted (as_form message other) a c key octets g
 
--- the error is not that what was opened is no part of the tag
+-- the error is not that what was opened is no part of the tag; an allocation failure does not tell
 abbrev pub IsNotOfTag : ReplyError → Type 0
-IsNotOfTag (errors.Opening (half.Der why)) = ⊥
+IsNotOfTag (errors.Opening (half.Der why)) = why ≡ der.OutOfMemory
 IsNotOfTag other = Unit {0}
 
 -- It grants nothing under its own tag, and what was opened is not at fault; or what was opened is no part of this tag, and it grants nothing under the other.
 abbrev pub IsFirstRefused : EncodingOf KdcRep → EncodingOf EncKdcRepPart → EncodingOf EncKdcRepPart → Asked → Clock → Key → List ℕ → ReplyError → Type 0
 IsFirstRefused message part other a c key octets error =
     (IsNotGranted (as_form message part) a c key octets error × IsNotOfTag error)
-    ⊎ ((why : Asn1DerError) × IsNotGranted (as_form message part) a c key octets (errors.Opening (half.Der why))
+    ⊎ ((why : Asn1DerError) × (why ≢ der.OutOfMemory) × IsNotGranted (as_form message part) a c key octets (errors.Opening (half.Der why))
     × IsNotGranted (as_form message other) a c key octets error)

@@ -1,6 +1,6 @@
 //! Replies of a KDC that grant a ticket.
 
-ghost use Rattle.std.specs.Prelude.{◌≡◌, IfErr, IfOk, MatchBool};
+ghost use Rattle.std.specs.Prelude.{◌≡◌, ◌≢◌, IfErr, IfOk, MatchBool};
 ghost use Rattle.krb_client_replies.specs.Granted.{IsFirstGranted, IsFirstRefused, IsGranted, IsNotGranted, IsNotOfTag, form, tgs_form, tgs_usage};
 ghost use Rattle.krb_der_core.specs.declared.error.Asn1DerError.{Asn1DerError};
 
@@ -10,7 +10,7 @@ use crate::numbered::Numbered;
 use crate::opened::part_under;
 use krb_client_rules::{Asked, Clock, KdcReply, Key, ReplyPart, answers, is_expected};
 use krb_crypto::seal::PartError;
-use krb_der::{Der, DerEncode};
+use krb_der::{Asn1DerError, Der, DerEncode};
 use krb_messages::messages::{AsRep, EncAsRepPart, EncKdcRepPart, EncTgsRepPart, TgsRep};
 use krb_registry::key_usages::{AS_REP_ENC, TGS_REP_ENC_SESSION_KEY, TGS_REP_ENC_SUB_KEY};
 use krb_registry::types::{AS_REP_MSG_TYPE, TGS_REP_MSG_TYPE};
@@ -58,12 +58,14 @@ fn checked<M: Der + Numbered + KdcReply + Drop, P: Der + ReplyPart + Drop>(
     })
 }
 
-/// Whether what was opened is no part of this tag.
+/// Whether what was opened is no part of this tag: an allocation failure does not tell.
 fn is_no_part(error: &ReplyError) -> bool
     ensures { MatchBool result
-        ((why : Asn1DerError) × (error.now ≡ ReplyError.Opening (PartError.Der why))) (IsNotOfTag error.now) }
+        ((why : Asn1DerError) × (error.now ≡ ReplyError.Opening (PartError.Der why)) × (why ≢ Asn1DerError.OutOfMemory))
+        (IsNotOfTag error.now) }
 {
     match error {
+        ReplyError::Opening(PartError::Der(Asn1DerError::OutOfMemory)) => false,
         ReplyError::Opening(PartError::Der(_)) => true,
         _ => false,
     }
