@@ -697,7 +697,7 @@ krb_status krb_make_error(const uint8_t *keytab, size_t keytab_size, int64_t clo
    (KRB_PROXY_KPASSWD). pvno is 5, and msg-type what the tag says. names_one_realm: whether target-domain is the realm of the request's body, or of the
    ticket with which a password is changed, ASCII letters of either case alike. The message stands at message_offset without its length, for a
    datagram; the four octets before it are its length, so that a stream takes four octets more from four octets before. krb_find tells its names and
-   its realm.
+   its realm, and krb_proxy_request_items all items at once.
    Of the first rule that is broken: KRB_PROXY_TOO_LARGE; of the KDC-PROXY-MESSAGE KRB_INVALID, KRB_TRUNCATED, KRB_UNSUPPORTED; KRB_PROXY_NO_LENGTH,
    KRB_PROXY_OTHER_LENGTH, KRB_PROXY_NO_DOMAIN, KRB_PROXY_OTHER_KIND, KRB_PROXY_FRAME_LENGTH; of the message, or of the AP-REQ and then of the KRB-PRIV,
    KRB_PROXY_INVALID, KRB_PROXY_TRUNCATED or KRB_PROXY_UNSUPPORTED, KRB_PROXY_PVNO, KRB_PROXY_MSG_TYPE; KRB_MEMORY. On any status but KRB_DONE all that is
@@ -716,6 +716,14 @@ typedef struct krb_proxy_posted {
 } krb_proxy_posted;
 
 krb_status krb_proxy_request(const uint8_t *octets, size_t octets_size, krb_proxy_posted *posted);
+
+/* A request, as krb_proxy_request tells of it, and all items of its message, as krb_items tells them: of an AS-REQ or a TGS-REQ; of a frame those of its AP-REQ,
+   which begins six octets behind message_offset. The places of the items are in the octets of this message, from its first on. It has at most
+   octets_size items.
+   KRB_DONE: *posted tells of the request, and the items are the first *count of `items`, and those behind are as they were. Those of krb_proxy_request: all in
+   *posted is 0, *count is 0, and `items` is as it was. Then those of krb_items of the message, where *posted tells of the request, and `items` is as it
+   was: KRB_ROOM, where there are *count, more than `room`; else *count is 0: KRB_MEMORY, or why the octets have no items. */
+krb_status krb_proxy_request_items(const uint8_t *octets, size_t octets_size, krb_proxy_posted *posted, krb_item *items, size_t room, size_t *count);
 
 /* The same, but of the message its first octets alone are looked at: 6a or 6c, or the length and the version of a frame. It lets messages through that are no
    encoding, whatever stands in them: for clients whose messages strict DER refuses (docs/REAL_MESSAGES.md). names_one_realm is 0. */

@@ -11,4 +11,5 @@ mod kept;
 mod negotiation;
 mod parts;
 mod proxy;
+mod proxy_items;
 mod sizes;

@@ -8,7 +8,10 @@ ghost use Rattle.krb_c_calls.specs.Clients.{IsReplyTold, IsRequestMade, RefusesR
 ghost use Rattle.krb_c_calls.specs.Replies.{IsArrivalTold, IsDatagramReplyMade, IsReplyMade};
 ghost use Rattle.krb_c_calls.specs.Requests.{IsLenientTold, IsRequestTold};
 ghost use Rattle.krb_c_calls.specs.ProxyStatuses.{Refuses};
+ghost use Rattle.krb_c.specs.RequestItems.{IsRequestItemsTold};
 
+use crate::proxy_items::proxy_request_items;
+use krb_c_calls::items::ItemRecord;
 use krb_c_calls::proxies::PostedRecord;
 use krb_der::DerEncode;
 use krb_messages::messages::{
@@ -24,6 +27,22 @@ pub extern "C" fn krb_proxy_request(alloc: Global, octets: &[u8], posted: &mut P
         octets.now posted.new result }
 {
     krb_c_calls::proxies::proxy_request(alloc, octets, posted)
+}
+
+/// `krb_proxy_request_items` of `krb.h`: this, and the items of the message, as `krb_items` has them.
+#[unsafe(no_mangle)]
+pub extern "C" fn krb_proxy_request_items(
+    alloc: Global,
+    octets: &[u8],
+    posted: &mut PostedRecord,
+    items: &mut [ItemRecord],
+    count: &mut usize,
+) -> u32
+    ensures { IsRequestItemsTold ⟦<KdcProxyMessage as DerEncode>⟧
+        (types ⟦<AsReq as DerEncode>⟧ ⟦<TgsReq as DerEncode>⟧ ⟦<ApReq as DerEncode>⟧ ⟦<KrbPriv as DerEncode>⟧)
+        octets.now posted.new items.old items.new count.new result }
+{
+    proxy_request_items(alloc, octets, posted, items, count)
 }
 
 /// `krb_proxy_request_lenient` of `krb.h`: the same, where the first octets of the message alone are looked at.
