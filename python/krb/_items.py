@@ -5,7 +5,7 @@ import datetime
 import enum
 import functools
 import struct
-from typing import Any, Dict, FrozenSet, Iterator, List, NamedTuple, Optional, Tuple, Union
+from typing import Any, Callable, Dict, FrozenSet, Iterator, List, NamedTuple, Optional, Tuple, Union
 
 from krb._library import Octets, Refused, Status, _library, plain
 
@@ -221,17 +221,24 @@ _FRONT = struct.Struct("@NNIIIi16x")  # of these the first six
 assert _RECORD.size == _FRONT.size == ctypes.sizeof(_Record)
 
 
-def _walked(octets: bytes, as_type: Optional[str]) -> Tuple[int, bytes, int]:
-    """The status, the octets of the records, and the offset of the first error."""
-    name, count, offset = _named(octets, as_type), ctypes.c_size_t(), ctypes.c_size_t()
-    room = len(octets) // 2 + 16  # two octets begin an element, and one with elements has two items
+def _with_room(room: int, call: Callable[[Any, int, Any], int]) -> Tuple[int, bytes]:
+    """The status of a call that takes room for items and tells their number, and the octets of their records. It is made again where there are more."""
+    count = ctypes.c_size_t()
     while True:
         records = bytearray(room * _RECORD.size)
-        first = ctypes.c_char.from_buffer(records)
-        status = _items(name, len(name), octets, len(octets), ctypes.byref(first), room, ctypes.byref(count), ctypes.byref(offset))
+        status = call(ctypes.byref(ctypes.c_char.from_buffer(records)), room, ctypes.byref(count))
         if status != Status.ROOM or count.value <= room:
-            return status, bytes(memoryview(records)[: count.value * _RECORD.size]) if status == Status.DONE else b"", offset.value
+            return status, bytes(memoryview(records)[: count.value * _RECORD.size]) if status == Status.DONE else b""
         room = count.value
+
+
+def _walked(octets: bytes, as_type: Optional[str]) -> Tuple[int, bytes, int]:
+    """The status, the octets of the records, and the offset of the first error."""
+    name, offset = _named(octets, as_type), ctypes.c_size_t()
+    room = len(octets) // 2 + 16  # two octets begin an element, and one with elements has two items
+    walk = lambda first, room, count: _items(name, len(name), octets, len(octets), first, room, count, ctypes.byref(offset))
+    status, records = _with_room(room, walk)
+    return status, records, offset.value
 
 
 def _records(octets: bytes, as_type: Optional[str], fields: struct.Struct) -> Iterator[Tuple[int, ...]]:

@@ -4,9 +4,9 @@ A request or a reply is the octets that HTTP carries, a KDC-PROXY-MESSAGE (2.2.2
 
 import ctypes
 import enum
-from typing import Any, NamedTuple, Optional, Tuple
+from typing import Any, Dict, List, NamedTuple, Optional, Tuple
 
-from krb._items import Form, Leaf, items
+from krb._items import Form, Leaf, _name, _RECORD, _with_room
 from krb._library import IN, SIZE, SIZE_OUT, Call, Octets, Refused, Status, _library, plain
 
 __all__ = ["Service", "ProxyRequest", "read_request", "read_request_lenient", "write_reply", "write_reply_datagram", "is_whole"]
@@ -52,19 +52,11 @@ class _Posted(ctypes.Structure):
     ]
 
 
-_request, _request_lenient = _library.krb_proxy_request, _library.krb_proxy_request_lenient
-for _call in (_request, _request_lenient):
-    _call.argtypes = [ctypes.c_char_p, ctypes.c_size_t, ctypes.POINTER(_Posted)]
+_lenient, _with_items = _library.krb_proxy_request_lenient, _library.krb_proxy_request_items
+_TOLD: List[Any] = [ctypes.c_char_p, ctypes.c_size_t, ctypes.POINTER(_Posted)]
+_lenient.argtypes, _with_items.argtypes = _TOLD, [*_TOLD, ctypes.c_void_p, ctypes.c_size_t, ctypes.POINTER(ctypes.c_size_t)]
+for _call in (_lenient, _with_items):
     _call.restype = ctypes.c_uint32
-
-
-def _posted(call: Any, octets: bytes) -> _Posted:
-    posted = _Posted()
-    status = call(octets, len(octets), ctypes.byref(posted))
-    if status != Status.DONE:
-        raise Refused(status)
-    return posted
-
 
 _reply = Call("krb_proxy_reply", IN, has_room=True)
 _reply_datagram = Call("krb_proxy_reply_datagram", IN, has_room=True)
@@ -74,7 +66,8 @@ _read_reply = Call("krb_read_proxy_reply", IN, cells=[SIZE_OUT, SIZE_OUT])
 
 _LENGTH = 4
 _FRAME = 48  # what a KDC-PROXY-MESSAGE has at most beside the octets of its fields
-_AS_REQ = 0x6A
+_HEADER = 6  # what a frame has before its AP-REQ (RFC 3244, 2)
+_MANY = 4096  # at first there is room for the items of so many octets: longer messages are so by tickets and PACs, which are one item each
 
 
 class _Asked(NamedTuple):
@@ -85,17 +78,18 @@ class _Asked(NamedTuple):
     server: Optional[Tuple[bytes, ...]]
 
 
-def _asked(octets: bytes, as_type: str, depth: int, names: Tuple[str, ...]) -> _Asked:
+def _asked(message: bytes, records: bytes, depth: int, fields: Tuple[str, ...]) -> _Asked:
     """The realm, and the names of these fields, that stand in so many elements: in the request's body or in the ticket."""
-    realm, field, found = b"", "", {}
-    for item in items(octets, as_type):
-        if item.depth == depth and item.form == Form.BEGIN:
-            field = item.name
-        if item.name == "realm" and field == "realm" and item.kind == Leaf.TEXT and item.depth == depth + 1:
-            realm = octets[item.place]
-        elif item.form == Form.LEAF and item.kind == Leaf.COMPONENT and field in names:
-            found.setdefault(field, []).append(octets[item.place])
-    return _Asked(realm, *(tuple(found[name]) if name in found else None for name in ("cname", "sname")))
+    realm, field = b"", ""
+    found: Dict[str, List[bytes]] = {}
+    for offset, size, form, kind, name, _, deep, _, _, _ in _RECORD.iter_unpack(records):
+        if deep == depth and form == Form.BEGIN:
+            field = _name(name)
+        elif form == Form.LEAF and kind == Leaf.TEXT and field == "realm" and deep == depth + 1:
+            realm = message[offset : offset + size]
+        elif form == Form.LEAF and kind == Leaf.COMPONENT and field in fields:
+            found.setdefault(field, []).append(message[offset : offset + size])
+    return _Asked(realm, *(tuple(found[each]) if each in found else None for each in ("cname", "sname")))
 
 
 def _parts(octets: bytes, posted: _Posted) -> Tuple[bytes, bytes, bytes, Optional[int]]:
@@ -112,15 +106,18 @@ def read_request(octets: Octets) -> ProxyRequest:
     Refused: PROXY_TOO_LARGE past 131072 octets; of the KDC-PROXY-MESSAGE INVALID, TRUNCATED, UNSUPPORTED; PROXY_NO_LENGTH, PROXY_OTHER_LENGTH,
     PROXY_NO_DOMAIN, PROXY_OTHER_KIND, PROXY_FRAME_LENGTH; of the message PROXY_INVALID, PROXY_TRUNCATED, PROXY_UNSUPPORTED, PROXY_PVNO, PROXY_MSG_TYPE;
     MEMORY. `http_status` says what to answer."""
-    octets = plain(octets)
-    posted = _posted(_request, octets)
+    octets, posted = plain(octets), _Posted()
+    call = lambda first, room, count: _with_items(octets, len(octets), ctypes.byref(posted), first, room, count)
+    status, records = _with_room(min(len(octets), _MANY) // 2 + 16, call)
+    if status != Status.DONE:
+        raise Refused(status)
     stream, message, domain, hint = _parts(octets, posted)
     if posted.service == Service.KDC:
         # [APPLICATION 10] SEQUENCE { req-body [4] SEQUENCE { field
-        asked = _asked(message, "AS-REQ" if message[0] == _AS_REQ else "TGS-REQ", 4, ("cname", "sname"))
+        asked = _asked(message, records, 4, ("cname", "sname"))
     else:
         # [APPLICATION 14] SEQUENCE { ticket [3] [APPLICATION 1] SEQUENCE { field
-        asked = _asked(message[6 : 6 + int.from_bytes(message[4:6], "big")], "AP-REQ", 5, ("sname",))
+        asked = _asked(message[_HEADER:], records, 5, ("sname",))
     return ProxyRequest(
         Service(posted.service),
         asked.realm,
@@ -140,8 +137,10 @@ def read_request_lenient(octets: Octets) -> ProxyRequest:
     `client` and `server` are None, since nothing is read of them.
 
     Refused: as `read_request` up to PROXY_OTHER_KIND; MEMORY."""
-    octets = plain(octets)
-    posted = _posted(_request_lenient, octets)
+    octets, posted = plain(octets), _Posted()
+    status = _lenient(octets, len(octets), ctypes.byref(posted))
+    if status != Status.DONE:
+        raise Refused(status)
     stream, message, domain, hint = _parts(octets, posted)
     return ProxyRequest(Service(posted.service), None, domain, None, None, None, hint, stream, message)
 
