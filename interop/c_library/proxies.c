@@ -37,6 +37,40 @@ static void try_http_status(krb_status status) {
     EXPECT(krb_proxy_http_status(status) == wanted, "the status of HTTP of %u", status);
 }
 
+/* The items of a message, as krb_items tells them: of an AS-REQ or a TGS-REQ, by its first octet; of a frame (RFC 3244, 2) of its AP-REQ. */
+static size_t items_of(const uint8_t *message, size_t size, int is_frame, krb_item *items) {
+    const char *type = is_frame ? "AP-REQ" : message[0] == 0x6a ? "AS-REQ" : "TGS-REQ";
+    size_t count = OTHER, offset = OTHER, room = size;
+    if (is_frame) size = message[4] << 8 | message[5], message += 6;
+    krb_status status = krb_items((const uint8_t *)type, strlen(type), message, size, items, room, &count, &offset);
+    EXPECT(status == KRB_DONE && count > 0, "items of the %s of a request: status %u", type, status);
+    return status == KRB_DONE ? count : 0;
+}
+
+/* A request with its items, in just enough room, more, less and none: what krb_proxy_request tells of it in any room; its items, or their number alone; and of
+   octets that are refused nothing, and no room is touched. */
+static void try_request_items(const struct octets *it, krb_status wanted, const krb_proxy_posted *posted) {
+    krb_item *items = calloc(posted->message_size + 1, sizeof *items);
+    if (!items) die("no memory");
+    size_t all = 0;
+    if (wanted == KRB_DONE) all = items_of(it->at + posted->message_offset, posted->message_size, posted->service == KRB_PROXY_KPASSWD, items);
+    size_t rooms[] = {all, all + 3, all ? all - 1 : 0, 0};
+    for (size_t k = 0; k < sizeof rooms / sizeof *rooms; k++) {
+        struct octets room = room_of(rooms[k] * sizeof *items);
+        krb_proxy_posted told;
+        memset(&told, 7, sizeof told);
+        size_t count = OTHER, filled = wanted == KRB_DONE && rooms[k] >= all ? all : 0;
+        krb_status status = krb_proxy_request_items(it->at, it->count, &told, (krb_item *)room.at, rooms[k], &count);
+        EXPECT(status == (wanted == KRB_DONE && rooms[k] < all ? KRB_ROOM : wanted), "room for %zu of %zu items: status %u", rooms[k], all, status);
+        EXPECT(count == all, "%zu items of a request, and not %zu", count, all);
+        EXPECT(!memcmp(&told, posted, offsetof(krb_proxy_posted, names_one_realm) + sizeof told.names_one_realm), "with its items another request is told");
+        EXPECT(!filled || !memcmp(room.at, items, filled * sizeof *items), "other items of a request are told");
+        EXPECT(is_untouched(&room, filled * sizeof *items), "a request's items touch more of their room");
+        drop(&room);
+    }
+    free(items);
+}
+
 /* What is told of a request: its service, whether it names one realm, the place of its message. */
 static void try_request(const struct octets *it, char **row, int is_lenient) {
     krb_proxy_posted told = {OTHER, OTHER, OTHER, OTHER, OTHER, OTHER, OTHER, OTHER};
@@ -55,6 +89,7 @@ static void try_request(const struct octets *it, char **row, int is_lenient) {
         EXPECT(told.domain_offset == 0 && told.domain_size == 0 && told.hint == 0 && told.hint_status == 0, "%s: something is told of %s", row[0], row[1]);
     }
     if (status != KRB_DONE) try_http_status(status);
+    if (!is_lenient) try_request_items(it, status, &told);
 }
 
 static void try_read(const struct octets *it, char **row) {

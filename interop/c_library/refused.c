@@ -73,6 +73,14 @@ static krb_status proxy_call(const struct row *row, struct octets *room, size_t 
         at[0] = posted.message_offset, at[1] = posted.domain_offset, at[2] = posted.service, at[3] = posted.names_one_realm;
         return status;
     }
+    if (!strcmp(call, "request_items")) {
+        krb_proxy_posted posted;
+        krb_item items[2048];
+        memset(items, 0, sizeof items);
+        krb_status status = krb_proxy_request_items(input->at, input->count, &posted, items, sizeof items / sizeof *items, &at[0]);
+        at[1] = items[0].size, at[2] = items[0].kind, at[3] = status == KRB_DONE ? posted.service : 0; /* a request may be told of whose items are not */
+        return status;
+    }
     if (!strcmp(call, "lenient")) {
         krb_proxy_posted posted;
         krb_status status = krb_proxy_request_lenient(input->at, input->count, &posted);
@@ -474,15 +482,16 @@ static void try_tokens(const char *name) {
 
 /* The calls of a KDC proxy, of rows that are taken: a call, octets, what else it takes, and the status. */
 static void try_proxies(const char *name) {
-    static const char *const calls[] = {"request", "lenient", "read", "make_reply", "make_datagram", "make_client"};
+    static const char *const calls[][2] = {{"request", "request"}, {"request", "request_items"}, {"lenient", "lenient"}, {"read", "read"},
+            {"reply", "make_reply"}, {"datagram", "make_datagram"}, {"client", "make_client"}};
     FILE *file = fopen(name, "r");
     char *columns[4];
     if (!file) die("a table is not there");
     while (next_row(file, columns, 4)) {
         for (size_t k = 0; k < sizeof calls / sizeof *calls; k++) {
-            if (strcmp(columns[3], "DONE") || strcmp(columns[0], calls[k] + (k > 2 ? 5 : 0))) continue;
+            if (strcmp(columns[3], "DONE") || strcmp(columns[0], calls[k][0])) continue;
             struct octets none = {NULL, 0};
-            struct row row = {calls[k], 0, 0, none, octets_of_text(columns[2]), octets_of_text(columns[1])};
+            struct row row = {calls[k][1], 0, 0, none, octets_of_text(columns[2]), octets_of_text(columns[1])};
             try_call(&row);
             drop(&row.beside), drop(&row.input);
         }

@@ -78,7 +78,7 @@ def try_message(number, octets):
         realm = try_once("find", krb.find, octets, krb.type_of(octets), "req-body.realm")
         if isinstance(outcome(krb.proxy.write_request, octets, realm), krb.Status):
             return
-        request = try_once("proxy.read_request", krb.proxy.read_request, try_once("proxy.write_request", krb.proxy.write_request, octets, realm), times=2)
+        request = try_once("proxy.read_request", krb.proxy.read_request, try_once("proxy.write_request", krb.proxy.write_request, octets, realm))
         names = [tree["req-body"].get(name, {}).get("name-string") for name in ("cname", "sname")]
         told = [None if name is None else [component.decode("ascii") for component in name] for name in (request.client, request.server)]
         expect((request.realm, told) == (realm, [name or None for name in names]), "a request tells other names: %s" % (request,))

@@ -207,6 +207,16 @@ def try_long_realm(message):
             try_read(body(framed(written(elements)), domain), "a realm of %d octets" % size)
 
 
+def try_many_items(message):
+    """Requests with so many encryption types that the library has more items than it is given room for at first."""
+    elements = tree(message)
+    (types,) = [each for each in elements[0][1][0][1][-1][1][0][1] if each[0] == 0xA8]
+    for number in (500, 2040, 2048, 2060, 2100, 10000, 30000):
+        types[1][0][1] = [[0x02, b"\x12"]] * number
+        octets = body(framed(written(elements)), judge.judged(body(framed(message), b"")).realm)
+        expect(try_read(octets, "a request with %d encryption types" % number), "a request with %d encryption types is none" % number)
+
+
 def try_statuses():
     for status in Status:
         if status != Status.DONE:
@@ -250,6 +260,7 @@ def main():
     sizes = [size for message in requests[:3] for size in try_large(message, judge.judged(body(framed(message), b"")).realm)]
     expect(judge.LIMIT in sizes and judge.LIMIT + 1 in sizes, "no request of the limit was tried")
     try_long_realm(requests[0])
+    try_many_items(requests[0])
     try_statuses()
     return counted()
 
