@@ -1,40 +1,10 @@
 /* Refuses each allocation of the calls in turn: refused ROWS MESSAGES FIELDS FRAMES TOKENS. Linked with the static library and --wrap=malloc,
    realloc and free. A call whose allocation is refused answers KRB_MEMORY and touches nothing, or answers as it does else; no block is left. */
+#include "allocations.h"
 #include "calls.h"
 #include <stdio.h>
 #include <stdlib.h>
 #include <string.h>
-
-void *__real_malloc(size_t size);
-void *__real_realloc(void *from, size_t size);
-void __real_free(void *from);
-
-static long requests, held, refuses_at;
-static int refuses_on, counts;
-
-static int is_refused(void) {
-    if (!counts) return 0;
-    requests++;
-    return refuses_at && (requests == refuses_at || (refuses_on && requests > refuses_at));
-}
-
-void *__wrap_malloc(size_t size) {
-    void *block = is_refused() ? NULL : __real_malloc(size);
-    held += counts && block;
-    return block;
-}
-
-void *__wrap_realloc(void *from, size_t size) {
-    if (is_refused()) return NULL;
-    void *block = __real_realloc(from, size);
-    held += counts && !from && block;
-    return block;
-}
-
-void __wrap_free(void *block) {
-    held -= counts && block;
-    __real_free(block);
-}
 
 enum { NUMBERS = 7 };
 
@@ -232,10 +202,7 @@ static int is_other(const char *call) { return !is_answering(call) && strcmp(cal
 /* The calls with no octets to answer are made without room. */
 static struct answer run(const struct row *row, struct octets *room, long at, int on) {
     struct answer it = {.size = 77777};
-    requests = held = 0;
-    refuses_at = at;
-    refuses_on = on;
-    counts = 1;
+    begin_allocations(at, on);
     if (is_answering(row->call))
         it.status = answered(row, room, &it.size);
     else if (is_other(row->call))
@@ -244,9 +211,9 @@ static struct answer run(const struct row *row, struct octets *room, long at, in
         it.status = krb_check(row->number, row->input.at, row->input.count);
     else
         it.status = verified(row);
-    counts = 0;
-    it.requests = requests;
-    it.held = held;
+    struct allocations seen = end_allocations();
+    it.requests = seen.requests;
+    it.held = seen.held;
     return it;
 }
 
@@ -439,12 +406,12 @@ static void try_pac(const struct octets *pac) {
     krb_pac_place places[64];
     size_t count = 0, offset = 0, size = 0;
     uint32_t kind = 0;
-    requests = 0, refuses_at = 1, refuses_on = 1, counts = 1;
+    begin_allocations(1, 1);
     krb_status statuses[] = {krb_pac_count(pac->at, pac->count, &count), krb_pac_buffer(pac->at, pac->count, 0, &kind, &offset, &size),
             krb_pac_buffers(pac->at, pac->count, places, sizeof places / sizeof *places, &count)};
-    counts = 0;
+    struct allocations seen = end_allocations();
     for (size_t k = 0; k < sizeof statuses / sizeof *statuses; k++)
-        EXPECT(requests == 0 && statuses[k] != KRB_MEMORY, "call %zu of a PAC: status %u, %ld requests", k, statuses[k], requests);
+        EXPECT(seen.requests == 0 && statuses[k] != KRB_MEMORY, "call %zu of a PAC: status %u, %ld requests", k, statuses[k], seen.requests);
 }
 
 static void try_frames(const char *name) {
