@@ -1,5 +1,7 @@
-/* Sixteen threads make all calls at once, each with its own octets; each answer is the one that the thread got alone before. */
+/* Sixteen threads make all calls at once, each with its own octets; each answer is the one that the thread got alone before: threads [LOGINS], whose rows
+   expect_logins.py writes. */
 #include "calls.h"
+#include "login_calls.h"
 #include <pthread.h>
 #include <stdio.h>
 #include <stdlib.h>
@@ -78,8 +80,76 @@ static void *work(void *argument) {
     return NULL;
 }
 
-int main(void) {
+/* ---- the calls of an acceptor and of a client */
+
+enum { MOST_LOGINS = 512, STRIDE = 4 };
+
+/* Calls that threads make of the same octets, each thread every fourth of them from another one on, and what each answers alone. */
+static struct {
+    struct login call;
+    struct login_answer answer;
+    struct octets out;
+} logins[MOST_LOGINS];
+static size_t logins_count;
+
+static void keep_login(const struct login *it) {
+    if (logins_count == MOST_LOGINS) die("more rows than there is room for");
+    logins[logins_count].call = *it;
+    logins[logins_count].out = room_of(LOGIN_ROOM);
+    logins[logins_count].answer = login_called(it, &logins[logins_count].out);
+    logins_count++;
+}
+
+static void read_logins(const char *name) {
+    FILE *file = fopen(name, "r");
+    char *row[LOGIN_COLUMNS];
+    struct login it, made;
+    if (!file) die("a table is not there");
+    while (next_row(file, row, LOGIN_COLUMNS)) {
+        if (!login_of(row, &it)) die("a table has a call that is none");
+        if (login_made(row, &it, &made)) keep_login(&made);
+        keep_login(&it);
+    }
+    fclose(file);
+}
+
+/* A negotiation of this thread's own: an offer of another mechanism than the first is answered by its name and request-mic (RFC 4178, 5). */
+static int is_negotiated(void) {
+    krb_negotiation side = {.role = KRB_ACCEPTOR};
+    krb_negotiation_message offer = {.state = KRB_NEG_STATE_ABSENT, .choice = KRB_CHOICE_OTHER, .integrity = 1, .has_token = 1};
+    krb_negotiation_reply reply = {0};
+    int well = krb_negotiation_take(&side, &offer) == KRB_DONE && krb_negotiation_answer(&side, KRB_PROGRESS_ENDS, KRB_MIC_ABSENT, &reply) == KRB_DONE;
+    return well && side.stage == KRB_STAGE_WAITS && reply.sends && reply.names && reply.state == KRB_NEG_STATE_REQUEST_MIC && !reply.has_token && !reply.has_mic;
+}
+
+static void *log_in(void *argument) {
+    struct task *it = argument;
+    size_t first = (size_t)(it - tasks) * logins_count / THREADS + (size_t)(it - tasks);
+    struct octets out = room_of(LOGIN_ROOM);
+    pthread_barrier_wait(&all);
+    for (size_t n = 0; n < logins_count; n += STRIDE) {
+        size_t k = (first + n) % logins_count;
+        memset(out.at, logins[k].out.at[LOGIN_ROOM - 1], LOGIN_ROOM); /* untouched */
+        struct login_answer answer = login_called(&logins[k].call, &out);
+        it->wrong += !is_same_answer(&answer, &logins[k].answer) || memcmp(out.at, logins[k].out.at, LOGIN_ROOM) || !is_negotiated();
+    }
+    drop(&out);
+    return NULL;
+}
+
+/* Sixteen threads at this, and how often each was wrong. */
+static void run_all(void *(*work_of)(void *), const char *what) {
     pthread_t threads[THREADS];
+    for (int k = 0; k < THREADS; k++) tasks[k].wrong = 0;
+    for (int k = 0; k < THREADS; k++)
+        if (pthread_create(&threads[k], NULL, work_of, &tasks[k])) die("no thread");
+    for (int k = 0; k < THREADS; k++) {
+        pthread_join(threads[k], NULL);
+        EXPECT(tasks[k].wrong == 0, "thread %d, %s: %ld turns are wrong", k, what, tasks[k].wrong);
+    }
+}
+
+int main(int count, char **words) {
     pthread_barrier_init(&all, NULL, THREADS);
     for (int k = 0; k < SUITES; k++) {
         uint8_t key[32];
@@ -96,11 +166,11 @@ int main(void) {
         draw(it->payload, sizeof it->payload);
         EXPECT(is_same(it, 1), "thread %d, before the others", k);
     }
-    for (int k = 0; k < THREADS; k++)
-        if (pthread_create(&threads[k], NULL, work, &tasks[k])) die("no thread");
-    for (int k = 0; k < THREADS; k++) {
-        pthread_join(threads[k], NULL);
-        EXPECT(tasks[k].wrong == 0, "thread %d: %ld of %d turns are wrong", k, tasks[k].wrong, TURNS);
+    run_all(work, "cryptography");
+    if (count == 2) {
+        read_logins(words[1]);
+        run_all(log_in, "logins");
+        for (size_t k = 0; k < logins_count; k++) drop_login(&logins[k].call), drop(&logins[k].out);
     }
     return counted();
 }
