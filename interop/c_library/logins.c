@@ -370,12 +370,14 @@ static void try_reply(const struct login *it, char **row) {
 
 /* A step of an exchange that sends a request: it is one, with the nonce; in any room. */
 static struct octets sent(const struct login *it, krb_exchange *after) {
+    const char *type = it->kind == INITIAL ? "AS-REQ" : "TGS-REQ";
     struct octets room;
     struct login_answer answer = called_in(it, &room);
     int64_t nonce = 0;
     EXPECT(answer.status == KRB_DONE && answer.followed.follows == KRB_FOLLOWS_SENDS, "%s: status %u, rule %u, nothing is sent", it->name, answer.status, answer.followed.rule);
-    EXPECT(krb_check(KRB_MESSAGE_AS_REQ, room.at, answer.size) == KRB_DONE && is_untouched(&room, answer.size), "%s: what is sent is no AS-REQ", it->name);
-    EXPECT(krb_find_number_text("AS-REQ", "req-body.nonce", room.at, answer.size, &nonce) == KRB_DONE && nonce == it->terms.nonce, "%s: another nonce is sent", it->name);
+    EXPECT(krb_check(it->kind == INITIAL ? KRB_MESSAGE_AS_REQ : KRB_MESSAGE_TGS_REQ, room.at, answer.size) == KRB_DONE && is_untouched(&room, answer.size),
+            "%s: what is sent is no %s", it->name, type);
+    EXPECT(krb_find_number_text(type, "req-body.nonce", room.at, answer.size, &nonce) == KRB_DONE && nonce == it->terms.nonce, "%s: another nonce is sent", it->name);
     EXPECT(answer.exchange.nonce == it->terms.nonce && !answer.exchange.has_offset, "%s: another nonce is kept", it->name);
     try_rooms(it, &answer, &room);
     *after = answer.exchange;
@@ -403,6 +405,32 @@ static void try_exchange(const struct login *it, char **row) {
     struct login_answer answer = called_in(&step, &room);
     try_granted(&step, &answer, room.at, row);
     drop(&room), drop(&step.keytab), drop(&first), drop(&second), drop(&cipher), drop(&time);
+}
+
+/* A TGS-REQ begins an exchange: its authenticator, under the session key, has the client's time, the subkey, and the checksum of the very body (RFC 4120, 5.5.1 and 7.5.1). */
+static void try_ticket_request(const struct login *it, char **row) {
+    enum { AUTHENTICATOR_USAGE = 7, BODY_USAGE = 6 };
+    struct login begun = *it;
+    krb_item body = {0};
+    int64_t cksumtype = 0;
+    memset(&begun.exchange, 0, sizeof begun.exchange);
+    begun.octets = (struct octets){NULL, 0};
+    struct octets request = sent(&begun, &begun.exchange), cipher = field_of("TGS-REQ", "padata[0].padata-value.authenticator.cipher", &request), part = room_of(cipher.count);
+    krb_status status = krb_open_authenticator(it->etype, it->key.at, it->key.count, AUTHENTICATOR_USAGE, cipher.at, cipher.count, part.at, part.count, &part.count);
+    EXPECT(status == KRB_DONE, "%s: the authenticator of a request is not opened: %u", it->name, status);
+    struct octets sum = field_of("Authenticator", "cksum.checksum", &part), subkey = field_of("Authenticator", "subkey.keyvalue", &part);
+    status = krb_find_number_text("Authenticator", "cksum.cksumtype", part.at, part.count, &cksumtype);
+    krb_status found = krb_find_text("TGS-REQ", "req-body", request.at, request.count, &body);
+    size_t header = krb_header_size(body.size);
+    EXPECT(status == KRB_DONE && found == KRB_DONE, "%s: no checksum or no body of a request", it->name);
+    status = krb_verify_checksum((int32_t)cksumtype, it->key.at, it->key.count, BODY_USAGE, request.at + body.offset - header, body.size + header, sum.at, sum.count);
+    EXPECT(status == KRB_DONE, "%s: the checksum of the body of a request: status %u", it->name, status);
+    EXPECT(subkey.count == it->key.count && !memcmp(subkey.at, it->key.at, subkey.count), "%s: another subkey of a request", it->name);
+    begun.octets = it->octets;
+    struct octets room;
+    struct login_answer answer = called_in(&begun, &room);
+    try_granted(&begun, &answer, room.at, row);
+    drop(&room), drop(&request), drop(&cipher), drop(&part), drop(&sum), drop(&subkey);
 }
 
 /* A reply that renames the client is taken with the checksum of the request, and with nothing else. */
@@ -507,6 +535,7 @@ static void try_row(const struct login *it, char **row) {
         else if (!strcmp(row[0], "password")) try_password(it, row);
         else try_reply(it, row);
         if (!strcmp(row[0], "as") && row[21][0]) try_exchange(it, row);
+        if (!strcmp(row[0], "tgs") && !strcmp(row[14], "0")) try_ticket_request(it, row);
     }
     if (!login_made(row, it, &made)) return;
     if (made.kind == RENAMED) try_renamed(&made);
