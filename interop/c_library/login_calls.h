@@ -6,7 +6,7 @@
 #include "krb.h"
 
 enum login_kind { ACCEPT, INITIAL, TICKET, RENAMED, AP_REQUEST, AP_REPLY, MAKE_ERROR, CHANNEL_BINDINGS };
-enum { LOGIN_COLUMNS = 22, MOST_NUMBERS = 16, LOGIN_ROOM = 24576 };
+enum { LOGIN_COLUMNS = 22, MOST_NUMBERS = 16, LOGIN_ROOM = 8192 };
 
 /* A call, and what it takes; what a kind does not take is none or 0. */
 struct login {
