@@ -116,8 +116,9 @@ def values_of_tshark(fields, name):
 
 
 def unsigned(values):
-    """tshark takes no sign for these; by X.690 they have one, and Heimdal's clients draw nonces below 0."""
-    return [str(int(value) % 2**32) for value in values]
+    """tshark takes no sign for these; by X.690 they have one, and Heimdal's clients draw nonces below 0: of such a number tshark tells its octets, as few as it has."""
+    numbers = [int(value) for value in values]
+    return [str(number if number >= 0 else number % 2 ** (8 * ((-number - 1).bit_length() // 8 + 1))) for number in numbers]
 
 
 def differences(pages, packets, counts):
