@@ -46,7 +46,7 @@ options of show:
                             as wanted: the salts are those of the first 16 principals and ETYPE-INFO2s of the input
     --all-found-keys        try all keys that are found in what is opened, and not only the first 1000: whoever made the
                             input may have made it slow
-    --show-keys             write the octets of keys, passwords and PINs
+    --show-keys             write the octets of keys, passwords and PINs, and the user-data of KRB-PRIV
     --no-keys               write `hidden` in the place of these, as without these two; other octets that hold a key
                             stay, as those of a tree
     --help                  write this help
