@@ -150,6 +150,18 @@ class Messages:
         OutOfOrder: it holds, but is not the next one, and the client asked that this be told (RFC 2743, 1.2.3)."""
         self._order(gss.verify_mic(self._key(self._other), message, token))
 
+    def is_next_mic(self, message: Octets, token: Octets) -> bool:
+        """Whether `verify_mic` takes it. Refused: MEMORY."""
+        try:
+            self.verify_mic(message, token)
+            return True
+        except OutOfOrder:
+            return False
+        except Refused as refused:
+            if refused.status == Status.MEMORY:
+                raise
+            return False
+
     def wrap(self, message: Octets, encrypt: bool = True) -> bytes:
         """The Wrap token of a message of this side's, encrypted or in the clear with a checksum (RFC 4121, 4.2.6.2). Refused: NUMBER (triple DES), MEMORY."""
         key = self._key(self._own)

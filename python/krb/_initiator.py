@@ -4,10 +4,10 @@ import secrets
 from typing import TYPE_CHECKING, Callable, Optional, Tuple, Union
 
 from krb import gss, spnego
-from krb._context import ContextFlag, EncryptionKey, Messages, OutOfOrder
+from krb._context import ContextFlag, EncryptionKey, Messages
 from krb._exchange import AP_GSS, AP_MUTUAL, AP_SEQUENCE, ClientRule, NotGranted, ap_reply, ap_request, moment
 from krb._items import Secret, find_number
-from krb._library import Octets, Refused, Status, plain
+from krb._library import Octets, Refused, plain
 from krb._mechanism import _MICROSOFT, Mechanism
 from krb._parts import decode
 from krb.accept import ChannelBindings
@@ -151,12 +151,4 @@ class KerberosInitiator(Mechanism):
 
     def verify_mic(self, text: bytes, mic: bytes) -> bool:
         """Whether it is a MIC of the service's over the text, and the context's next message. Refused: MEMORY."""
-        try:
-            self._established().verify_mic(text, mic)
-            return True
-        except OutOfOrder:
-            return False
-        except Refused as refused:
-            if refused.status == Status.MEMORY:
-                raise
-            return False
+        return self._established().is_next_mic(text, mic)

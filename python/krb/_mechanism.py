@@ -3,7 +3,7 @@
 from typing import AbstractSet, Optional, Protocol, Tuple, Type, Union
 
 from krb import spnego
-from krb._context import Context, OutOfOrder
+from krb._context import Context
 from krb._library import Octets, Refused, Status
 from krb.accept import Acceptor, ChannelBindings
 
@@ -97,12 +97,4 @@ class KerberosMechanism(Mechanism):
 
     def verify_mic(self, text: bytes, mic: bytes) -> bool:
         """Whether it is a MIC of the client's over the text, and the context's next message. Refused: MEMORY."""
-        try:
-            self._established().verify_mic(text, mic)
-            return True
-        except OutOfOrder:
-            return False
-        except Refused as refused:
-            if refused.status == Status.MEMORY:
-                raise
-            return False
+        return self._established().is_next_mic(text, mic)
