@@ -6,23 +6,15 @@ use Rattle.krb_crypto_block.specs.Aes.{octet_at, state_of, add_round_key}
 use Rattle.krb_crypto_block.specs.AesWords.{inverse_cipher_round, inverse_cipher_last}
 use Rattle.krb_crypto_block.specs.InverseCipher.{inverse_sub_bytes, inverse_shift_rows, inverse_mix_columns}
 use Rattle.krb_crypto_block.proofs.AesStates.{state_by_octets}
-use Rattle.krb_crypto_block.specs.AesLanes.{inverse_linear, inverse_form, round_octets, looked_up_at, linear_of}
+use Rattle.krb_crypto_block.specs.AesLanes.{inverse_linear, inverse_form, round_octets, looked_up_at, linear_of, permute_at, inverse_positions}
 use Rattle.krb_crypto_block.specs.declared.aes.tables.TheConstants.{D9_U, D9_V, DB_U, DB_V, DD_U, DD_V, DE_U, DE_V, E9_LOW, E9_HIGH, EB_LOW, EB_HIGH, ED_LOW, ED_HIGH, EE_LOW, EE_HIGH, INVERTED_U, INVERTED_V}
 use Rattle.krb_crypto_block.proofs.AesInverseForm.{inverse_row0, inverse_row1, inverse_row2, inverse_row3, key_row0, key_row1, key_row2, key_row3, inverted_is, inverse_form_xor}
 use Rattle.krb_crypto_block.proofs.AesRoundLanes.{picked, same16}
 use Rattle.krb_crypto_block.proofs.AesVectors.{map_of_map}
 
-abbrev pub unrows0 : List ℕ
-unrows0 = 0 ∷ 13 ∷ 10 ∷ 7 ∷ 4 ∷ 1 ∷ 14 ∷ 11 ∷ 8 ∷ 5 ∷ 2 ∷ 15 ∷ 12 ∷ 9 ∷ 6 ∷ 3 ∷ []
-
-abbrev pub unrows1 : List ℕ
-unrows1 = 13 ∷ 10 ∷ 7 ∷ 0 ∷ 1 ∷ 14 ∷ 11 ∷ 4 ∷ 5 ∷ 2 ∷ 15 ∷ 8 ∷ 9 ∷ 6 ∷ 3 ∷ 12 ∷ []
-
-abbrev pub unrows2 : List ℕ
-unrows2 = 10 ∷ 7 ∷ 0 ∷ 13 ∷ 14 ∷ 11 ∷ 4 ∷ 1 ∷ 2 ∷ 15 ∷ 8 ∷ 5 ∷ 6 ∷ 3 ∷ 12 ∷ 9 ∷ []
-
-abbrev pub unrows3 : List ℕ
-unrows3 = 7 ∷ 0 ∷ 13 ∷ 10 ∷ 11 ∷ 4 ∷ 1 ∷ 14 ∷ 15 ∷ 8 ∷ 5 ∷ 2 ∷ 3 ∷ 12 ∷ 9 ∷ 6 ∷ []
+-- the lanes of a vector at these positions
+abbrev pub unturned : List ℕ → ℕ → List ℕ
+unturned v k = map (permute_at v) (inverse_positions k)
 
 abbrev pub turned1 : List ℕ
 turned1 = 1 ∷ 2 ∷ 3 ∷ 0 ∷ 5 ∷ 6 ∷ 7 ∷ 4 ∷ 9 ∷ 10 ∷ 11 ∷ 8 ∷ 13 ∷ 14 ∷ 15 ∷ 12 ∷ []
@@ -34,15 +26,14 @@ abbrev pub turned3 : List ℕ
 turned3 = 3 ∷ 0 ∷ 1 ∷ 2 ∷ 7 ∷ 4 ∷ 5 ∷ 6 ∷ 11 ∷ 8 ∷ 9 ∷ 10 ∷ 15 ∷ 12 ∷ 13 ∷ 14 ∷ []
 
 abbrev pub vector_inverse : List ℕ → List ℕ → List ℕ → List ℕ → List ℕ → List ℕ
-vector_inverse by14 by11 by13 by9 key =
-    zip2 bit_xor (zip2 bit_xor (zip2 bit_xor (picked by14 unrows0) key) (zip2 bit_xor (picked by13 unrows2) (picked by9 unrows3))) (picked by11 unrows1)
+vector_inverse own next third fourth key = zip2 bit_xor (zip2 bit_xor (zip2 bit_xor own key) (zip2 bit_xor third fourth)) next
 
 abbrev pub vector_unmixed : List ℕ → List ℕ → List ℕ → List ℕ → List ℕ
 vector_unmixed by14 by11 by13 by9 =
     zip2 bit_xor (zip2 bit_xor by14 (zip2 bit_xor (picked by13 turned2) (picked by9 turned3))) (picked by11 turned1)
 
 lanes_of_inverse : (f g j i u : ℕ → ℕ) (h k : ℕ → ℕ → ℕ)
-    → vector_inverse (map f (state_of h)) (map g (state_of h)) (map j (state_of h)) (map i (state_of h)) (map u (state_of k))
+    → vector_inverse (unturned (map f (state_of h)) 0) (unturned (map g (state_of h)) 1) (unturned (map j (state_of h)) 2) (unturned (map i (state_of h)) 3) (map u (state_of k))
     ≡ bit_xor (bit_xor (bit_xor (f (h 0 0)) (u (k 0 0))) (bit_xor (j (h 2 2)) (i (h 3 1)))) (g (h 1 3))
     ∷ bit_xor (bit_xor (bit_xor (f (h 1 3)) (u (k 1 0))) (bit_xor (j (h 3 1)) (i (h 0 0)))) (g (h 2 2))
     ∷ bit_xor (bit_xor (bit_xor (f (h 2 2)) (u (k 2 0))) (bit_xor (j (h 0 0)) (i (h 1 3)))) (g (h 3 1))
@@ -81,7 +72,7 @@ lanes_of_unmixed : (f g j i : ℕ → ℕ) (h : ℕ → ℕ → ℕ)
     ∷ bit_xor (bit_xor (f (h 3 3)) (bit_xor (j (h 1 3)) (i (h 2 3)))) (g (h 0 3)) ∷ []
 lanes_of_unmixed f g j i h = refl
 
-lanes_of_last : (f : ℕ → ℕ) (h k : ℕ → ℕ → ℕ) → zip2 bit_xor (picked (map f (state_of h)) unrows0) (state_of k)
+lanes_of_last : (f : ℕ → ℕ) (h k : ℕ → ℕ → ℕ) → zip2 bit_xor (unturned (map f (state_of h)) 0) (state_of k)
     ≡ bit_xor (f (h 0 0)) (k 0 0)
     ∷ bit_xor (f (h 1 3)) (k 1 0)
     ∷ bit_xor (f (h 2 2)) (k 2 0)
@@ -119,6 +110,13 @@ lanes_of_start : (f u : ℕ → ℕ) (h k : ℕ → ℕ → ℕ) → zip2 bit_xo
     ∷ bit_xor (f (h 3 3)) (u (k 3 3)) ∷ []
 lanes_of_start f u h k = refl
 
+-- a term of a round: what two tables hold of a state, at these positions
+pub term_is : (s t st x looked at made : List ℕ) (k : ℕ) → x ≡ map inverse_form st → looked ≡ map (looked_up_at s t) x → at ≡ inverse_positions k
+    → made ≡ map (permute_at looked) at → made ≡ unturned (map (λ b. looked_up_at s t (inverse_form b)) st) k
+term_is s t st x looked at made k held is positions e =
+    e ∙ ap (λ (v : List ℕ). map (permute_at v) at) (is ∙ map_of_map (looked_up_at s t) inverse_form st x held)
+    ∙ ap (map (permute_at (map (λ b. looked_up_at s t (inverse_form b)) st))) positions
+
 abbrev by14 : ℕ → ℕ
 by14 b = looked_up_at DE_U DE_V (inverse_form b)
 
@@ -144,10 +142,10 @@ module _ (w st : List ℕ) (n : ℕ) (is : IsBlock 16 st) where
   abbrev unmixed_key : List ℕ
   unmixed_key = map inverse_form (inverse_mix_columns (round_octets w n))
 
-  inverse_lanes : vector_inverse (map by14 st) (map by11 st) (map by13 st) (map by9 st) unmixed_key ≡ map inverse_form (inverse_cipher_round w n st)
+  inverse_lanes : vector_inverse (unturned (map by14 st) 0) (unturned (map by11 st) 1) (unturned (map by13 st) 2) (unturned (map by9 st) 3) unmixed_key ≡ map inverse_form (inverse_cipher_round w n st)
   unfolding inverse_sub_bytes inverse_shift_rows inverse_mix_columns add_round_key
   inverse_lanes =
-      ap (λ (s : List ℕ). vector_inverse (map by14 s) (map by11 s) (map by13 s) (map by9 s) unmixed_key) (sym (state_by_octets st is.0))
+      ap (λ (s : List ℕ). vector_inverse (unturned (map by14 s) 0) (unturned (map by11 s) 1) (unturned (map by13 s) 2) (unturned (map by9 s) 3) unmixed_key) (sym (state_by_octets st is.0))
       ∙ lanes_of_inverse by14 by11 by13 by9 inverse_form (octet_at st) (λ r c. octet_at (inverse_mix_columns (round_octets w n)) r c)
       ∙ same16 _ _ _ _ _ _ _ _ _ _ _ _ _ _ _ _ _ _ _ _ _ _ _ _ _ _ _ _ _ _ _ _
       (inverse_row0 (at 0) (at 13) (at 10) (at 7) (is.1 0) (is.1 13) (is.1 10) (is.1 7) (key 0) (key 1) (key 2) (key 3))
@@ -167,20 +165,20 @@ module _ (w st : List ℕ) (n : ℕ) (is : IsBlock 16 st) where
       (inverse_row2 (at 6) (at 3) (at 12) (at 9) (is.1 6) (is.1 3) (is.1 12) (is.1 9) (key 14) (key 15) (key 12) (key 13))
       (inverse_row3 (at 3) (at 12) (at 9) (at 6) (is.1 3) (is.1 12) (is.1 9) (is.1 6) (key 15) (key 12) (key 13) (key 14))
 
-  pub inverse_round_is : (x k d14 d11 d13 d9 : List ℕ) → x ≡ map inverse_form st → k ≡ map inverse_form (inverse_mix_columns (round_octets w n))
-      → d14 ≡ map (looked_up_at DE_U DE_V) x → d11 ≡ map (looked_up_at DB_U DB_V) x → d13 ≡ map (looked_up_at DD_U DD_V) x → d9 ≡ map (looked_up_at D9_U D9_V) x
-      → vector_inverse d14 d11 d13 d9 k ≡ map inverse_form (inverse_cipher_round w n st)
-  inverse_round_is x k d14 d11 d13 d9 held has e14 e11 e13 e9 =
-      ap (λ (v : List ℕ). vector_inverse v d11 d13 d9 k) (e14 ∙ map_of_map (looked_up_at DE_U DE_V) inverse_form st x held)
-      ∙ ap (λ (v : List ℕ). vector_inverse (map by14 st) v d13 d9 k) (e11 ∙ map_of_map (looked_up_at DB_U DB_V) inverse_form st x held)
-      ∙ ap (λ (v : List ℕ). vector_inverse (map by14 st) (map by11 st) v d9 k) (e13 ∙ map_of_map (looked_up_at DD_U DD_V) inverse_form st x held)
-      ∙ ap (λ (v : List ℕ). vector_inverse (map by14 st) (map by11 st) (map by13 st) v k) (e9 ∙ map_of_map (looked_up_at D9_U D9_V) inverse_form st x held)
-      ∙ ap (vector_inverse (map by14 st) (map by11 st) (map by13 st) (map by9 st)) has ∙ inverse_lanes
+  pub inverse_round_is : (k own next third fourth : List ℕ) → k ≡ map inverse_form (inverse_mix_columns (round_octets w n))
+      → own ≡ unturned (map by14 st) 0 → next ≡ unturned (map by11 st) 1 → third ≡ unturned (map by13 st) 2 → fourth ≡ unturned (map by9 st) 3
+      → vector_inverse own next third fourth k ≡ map inverse_form (inverse_cipher_round w n st)
+  inverse_round_is k own next third fourth has e14 e11 e13 e9 =
+      ap (λ (v : List ℕ). vector_inverse v next third fourth k) e14
+      ∙ ap (λ (v : List ℕ). vector_inverse (unturned (map by14 st) 0) v third fourth k) e11
+      ∙ ap (λ (v : List ℕ). vector_inverse (unturned (map by14 st) 0) (unturned (map by11 st) 1) v fourth k) e13
+      ∙ ap (λ (v : List ℕ). vector_inverse (unturned (map by14 st) 0) (unturned (map by11 st) 1) (unturned (map by13 st) 2) v k) e9
+      ∙ ap (vector_inverse (unturned (map by14 st) 0) (unturned (map by11 st) 1) (unturned (map by13 st) 2) (unturned (map by9 st) 3)) has ∙ inverse_lanes
 
-  last_lanes : zip2 bit_xor (picked (map by_last st) unrows0) (round_octets w 0) ≡ inverse_cipher_last w st
+  last_lanes : zip2 bit_xor (unturned (map by_last st) 0) (round_octets w 0) ≡ inverse_cipher_last w st
   unfolding inverse_sub_bytes inverse_shift_rows add_round_key
   last_lanes =
-      ap (λ (s : List ℕ). zip2 bit_xor (picked (map by_last s) unrows0) (round_octets w 0)) (sym (state_by_octets st is.0))
+      ap (λ (s : List ℕ). zip2 bit_xor (unturned (map by_last s) 0) (round_octets w 0)) (sym (state_by_octets st is.0))
       ∙ lanes_of_last by_last (octet_at st) (λ r c. slice_index w (16 * 0 + (r + 4 * c)))
       ∙ same16 _ _ _ _ _ _ _ _ _ _ _ _ _ _ _ _ _ _ _ _ _ _ _ _ _ _ _ _ _ _ _ _
       (ap (λ (y : ℕ). bit_xor y (slice_index w (16 * 0 + 0))) (inverted_is (at 0) (is.1 0)))
@@ -200,11 +198,8 @@ module _ (w st : List ℕ) (n : ℕ) (is : IsBlock 16 st) where
       (ap (λ (y : ℕ). bit_xor y (slice_index w (16 * 0 + 14))) (inverted_is (at 6) (is.1 6)))
       (ap (λ (y : ℕ). bit_xor y (slice_index w (16 * 0 + 15))) (inverted_is (at 3) (is.1 3)))
 
-  pub inverse_last_is : (x k made : List ℕ) → x ≡ map inverse_form st → k ≡ round_octets w 0 → made ≡ map (looked_up_at INVERTED_U INVERTED_V) x
-      → zip2 bit_xor (picked made unrows0) k ≡ inverse_cipher_last w st
-  inverse_last_is x k made held has e =
-      ap (λ (v : List ℕ). zip2 bit_xor (picked v unrows0) k) (e ∙ map_of_map (looked_up_at INVERTED_U INVERTED_V) inverse_form st x held)
-      ∙ ap (zip2 bit_xor (picked (map by_last st) unrows0)) has ∙ last_lanes
+  pub inverse_last_is : (k own : List ℕ) → k ≡ round_octets w 0 → own ≡ unturned (map by_last st) 0 → zip2 bit_xor own k ≡ inverse_cipher_last w st
+  inverse_last_is k own has e = ap (λ (v : List ℕ). zip2 bit_xor v k) e ∙ ap (zip2 bit_xor (unturned (map by_last st) 0)) has ∙ last_lanes
 
   -- the last key is added first
   pub inverse_start_is : (x k : List ℕ) → x ≡ map inverse_linear st → k ≡ map inverse_form (round_octets w n) → zip2 bit_xor x k ≡ map inverse_form (add_round_key w n st)

@@ -1,5 +1,6 @@
 -- Vectors of 16 octets as lists of lanes, each a function of the lanes of one vector.
-use Rattle.std.proofs.Common.{◌≡◌, ℕ, ◌+◌, ◌*◌, ◌/◌, ◌<◌, Bool, true, cond, leb, List, [], ◌∷◌, map, length, get_or, bit_xor, refl, sym, ap, ◌∙◌, arith, w8, Fits}
+use Rattle.std.proofs.Common.{◌≡◌, ℕ, ◌+◌, ◌*◌, ◌/◌, ◌<◌, Bool, true, ◌&&◌, cond, leb, List, [], ◌∷◌, map, length, get_or, bit_xor, refl, sym, ap, ◌∙◌, arith, w8, Fits}
+use Rattle.std.proofs.lemmas.Bool.{and_parts}
 use Rattle.std.proofs.lemmas.Float.{T_from_true}
 use Rattle.std.proofs.lemmas.List.{get_or-map, length-map, ext_get_or}
 use Rattle.std.proofs.lemmas.Simd.{Each1-weaker, SwzOk, SwzOk-from_Each1, swz_l, length-swz_l, get_or-swz_l, zip2_of_maps}
@@ -31,6 +32,20 @@ each_lane p g (x ∷ xs) fits test = (all_below_at (λ y. p (g y)) 256 x test fi
 
 pub indices_of : (g : ℕ → ℕ) (v js : List ℕ) → Each1 (Fits w8) v → js ≡ map g v → all_below (λ x. is_index (g x)) 256 ≡ true → AreIndices js
 indices_of g v js fits is test = rw is (each_lane is_index g v fits test)
+
+-- the test holds of each of these positions
+abbrev pub all_indices : List ℕ → Bool
+all_indices [] = true
+all_indices (j ∷ js) = is_index j && all_indices js
+
+pub indices_by_test : (js at : List ℕ) → at ≡ js → all_indices js ≡ true → AreIndices at
+indices_by_test js at e test = rw e (go js test)
+  where
+    go : (js : List ℕ) → all_indices js ≡ true → AreIndices js
+    go [] test = tt
+    go (j ∷ js) test =
+        let parts = and_parts (is_index j) (all_indices js) test in
+        (parts.0, go js parts.1)
 
 pub map_of_map : (f g : ℕ → ℕ) (v ws : List ℕ) → ws ≡ map g v → map f ws ≡ map (λ x. f (g x)) v
 map_of_map f g v ws e = ap (map f) e ∙ go v

@@ -4,7 +4,7 @@
 -- An octet of the standard is an element k + i t of GF(2^8) over GF(2^4), t being a root of T^2 + 2 T + 2, and GF(2^4) that of
 -- x^4 + x + 1. Its tower form is 16 i + k. Going there is linear, and the inverse of an octet in tower form is linear in two
 -- look-ups in tables of 16.
-use Rattle.std.specs.Prelude.{◌≡◌, ℕ, zero, suc, ◌+◌, ◌-◌, ◌*◌, ◌/◌, ◌<◌, ◌≤◌, Bool, true, ◌||◌, nat_le, nat_lt, List, [], ◌∷◌, map, length, take, bit_and, bit_xor, slice_index, slice_index_or, if◌then◌else◌}
+use Rattle.std.specs.Prelude.{◌≡◌, ℕ, zero, suc, ◌+◌, ◌-◌, ◌*◌, ◌/◌, ◌%◌, ◌<◌, ◌≤◌, Bool, true, ◌||◌, nat_le, nat_lt, List, [], ◌∷◌, map, length, take, bit_and, bit_xor, slice_index, slice_index_or, if◌then◌else◌}
 use Rattle.std.specs.Int.{bit_at}
 use Rattle.std.specs.Simd.Lanes.{Each1}
 use Rattle.krb_crypto_block.specs.Modes.{IsOctets}
@@ -120,6 +120,14 @@ AreIndices js = Each1 (λ j. is_index j ≡ true) js
 
 abbrev pub permute_at : List ℕ → ℕ → ℕ
 permute_at t j = if nat_le 128 j then 0 else slice_index t j
+
+-- the lane that InvShiftRows (5.3.1) takes to row r of column c
+abbrev pub inverse_position : ℕ → ℕ → ℕ
+inverse_position r c = r + 4 * ((c + 4 - r) % 4)
+
+-- for each lane, the lane that it takes to the row k further down in the same column
+abbrev pub inverse_positions : ℕ → List ℕ
+inverse_positions k = state_of (λ r c. inverse_position ((r + k) % 4) c)
 
 abbrev pub low_of : ℕ → ℕ
 low_of x = bit_and x 15

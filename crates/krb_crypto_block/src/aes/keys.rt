@@ -8,7 +8,7 @@ ghost use Rattle.krb_crypto_block.specs.Modes.{AreInverse, IsOctets};
 ghost use Rattle.krb_crypto_block.specs.Size.{key_octets};
 ghost use Rattle.krb_crypto_hash.specs.CryptoError.{IsKeyLengthError};
 
-use super::inverse_rounds::{inverse_last_round, inverse_round, to_inverse_linear};
+use super::inverse_rounds::{InverseTurns, inverse_last_round, inverse_round, to_inverse_linear};
 use super::round_keys::{MOST_KEYS, RoundKey, decryption_keys, encryption_keys};
 use super::rounds::{last_round, round, to_tower};
 use super::{AES_BLOCK_SIZE, AES256_KEY_SIZE, AesSize};
@@ -125,11 +125,12 @@ impl AesDecryptionKey {
         ensures value { result ≡ aes_undo self.now block }
     {
         are_octets(&block);
+        let turns = InverseTurns::new();
         let mut s = to_inverse_linear(u8x16::from_array(block)) ^ self.keys[self.rounds].lanes;
         for i in 1..self.rounds {
-            s = inverse_round(s, self.keys[self.rounds - i].lanes);
+            s = inverse_round(s, self.keys[self.rounds - i].lanes, &turns);
         }
-        inverse_last_round(s, self.keys[0].lanes).to_array()
+        inverse_last_round(s, self.keys[0].lanes, &turns).to_array()
     }
 
     /// Two blocks, each decrypted under the key, side by side: on most processors this takes less time than one after the other.
@@ -143,18 +144,19 @@ impl AesDecryptionKey {
     {
         are_octets(&first);
         are_octets(&second);
+        let turns = InverseTurns::new();
         let last = self.keys[self.rounds].lanes;
         let mut s = to_inverse_linear(u8x16::from_array(first)) ^ last;
         let mut t = to_inverse_linear(u8x16::from_array(second)) ^ last;
         for i in 1..self.rounds {
             let key = self.keys[self.rounds - i].lanes;
-            s = inverse_round(s, key);
-            t = inverse_round(t, key);
+            s = inverse_round(s, key, &turns);
+            t = inverse_round(t, key, &turns);
         }
         let key = self.keys[0].lanes;
         (
-            inverse_last_round(s, key).to_array(),
-            inverse_last_round(t, key).to_array(),
+            inverse_last_round(s, key, &turns).to_array(),
+            inverse_last_round(t, key, &turns).to_array(),
         )
     }
 

@@ -23,13 +23,22 @@ fn high(x: u8x16) -> u8x16
     x >> u8x16::splat(4)
 }
 
+/// The lanes of a vector at these positions; 0 at those from 128 on.
+#[inline(always)]
+pub(super) fn shuffled(x: u8x16, at: u8x16) -> u8x16
+    requires { AreIndices at }
+    ensures { result ≡ map (permute_at x) at }
+{
+    x.swizzle_dyn(at)
+}
+
 /// Each lane of the table at these positions; 0 at those from 128 on.
 #[inline(always)]
 fn permuted(table: [u8; 16], at: u8x16) -> u8x16
     requires { AreIndices at }
     ensures { result ≡ map (permute_at table) at }
 {
-    u8x16::from_array(table).swizzle_dyn(at)
+    shuffled(u8x16::from_array(table), at)
 }
 
 /// A linear map of each octet, by a table for each nibble.
