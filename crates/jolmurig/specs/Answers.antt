@@ -4,7 +4,6 @@ use Rattle.std.specs.declared.alloc.Global.{Global}
 use Rattle.krb_show.specs.Tokens.{Token}
 use Rattle.krb_show.specs.Text.{AreLines, page_text, text_of_lines}
 use Rattle.krb_show.specs.Json.{json_line}
-use Rattle.krb_show.specs.JsonWithPlaces.{json_line_with_places}
 use Rattle.krb_show.specs.TextWithPlaces.{page_text_with_places}
 use Rattle.krb_show_any.specs.declared.kind.Kind.{Kind}
 use Rattle.krb_decrypt.specs.Hidden.{hidden_page}
@@ -15,6 +14,7 @@ use Rattle.krb_decrypt.specs.PasswordKeys.{KeysOfPasswords}
 use Rattle.krb_decrypt.specs.Salts.{salts_of}
 use Rattle.krb_show_any.specs.declared.error.PageError.{PageError}
 use Rattle.krb_show_any.specs.Kinds.{kind_of}
+use Rattle.krb_show_any.specs.Paired.{paired_line}
 use Rattle.krb_show_any.specs.Placed.{IsPlacedPage}
 use Rattle.jolmurig.specs.declared.command.Output.{Output}
 use Rattle.jolmurig.specs.declared.command.Output.TheVariants as output
@@ -35,7 +35,7 @@ output_text output.Text page = page_text page
 output_text output.Json page = json_line page ++ 10 ∷ []
 output_text output.Type page = type_line page
 output_text output.TextWithPlaces page = page_text_with_places page
-output_text output.JsonWithPlaces page = json_line_with_places page ++ 10 ∷ []
+output_text output.JsonWithPlaces page = paired_line page ++ 10 ∷ []
 
 -- a page of octets of a kind, with the places of its elements where they are written
 abbrev pub is_placed_for : Output → Kind → List ℕ → List Token → List Token → Type 0

@@ -11,10 +11,8 @@ use crate::command::Output;
 use crate::failure::Failure;
 use crate::openers::Openers;
 use krb_decrypt::{Key, MOST_FOUND, keys_of_passwords, without_keys};
-use krb_show::{
-    Page, Token, json_of_page, json_of_page_with_places, text_of_page, text_of_page_with_places,
-};
-use krb_show_any::{Kind, PageError, Pages, kind_of_octets, page_with_places};
+use krb_show::{Page, Token, json_of_page, text_of_page, text_of_page_with_places};
+use krb_show_any::{Kind, PageError, Pages, json_with_places, kind_of_octets, page_with_places};
 use krb_show_pac::page_with_contents;
 use std::alloc::{AllocError, Global};
 
@@ -76,11 +74,11 @@ fn text_with_places(alloc: Global, page: &[Token]) -> Result<Vec<u8>, AllocError
 }
 
 /// A page with places as JSON, in a line.
-fn json_with_places(alloc: Global, page: &[Token]) -> Result<Vec<u8>, AllocError>
+fn placed_json(alloc: Global, page: &[Token]) -> Result<Vec<u8>, AllocError>
     ensures json { IfOk result (λ made. made.items ≡ output_text output.JsonWithPlaces page.now) }
     ensures printable { IfOk result (λ made. ArePrintableLines made.items) }
 {
-    Ok(octets_of(json_of_page_with_places(alloc, page)?))
+    Ok(octets_of(json_with_places(alloc, page)?))
 }
 
 /// What is written of a page.
@@ -93,7 +91,7 @@ fn written(alloc: Global, output: Output, page: &[Token]) -> Result<Vec<u8>, All
         Output::Json => json(alloc, page),
         Output::Type => type_line(alloc, page),
         Output::TextWithPlaces => text_with_places(alloc, page),
-        Output::JsonWithPlaces => json_with_places(alloc, page),
+        Output::JsonWithPlaces => placed_json(alloc, page),
     }
 }
 

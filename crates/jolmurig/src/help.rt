@@ -36,8 +36,8 @@ options of show:
     --tree                  show the tags, lengths and contents of the elements, whatever they are, as far as they go
     --json                  write a line of JSON
     --type                  write the name of the type alone
-    --places                write with each element of DER its place, also with --json: how many octets stand before its
-                            content, and how many octets that has; of what is opened, in the decrypted octets
+    --places                write with each value its place, also with --json: how many octets stand before it, of one of
+                            DER before its content, and how many it has; of what is opened, in the decrypted octets
     --key ETYPE:HEX         open what is sealed with this key, as often as wanted: ETYPE is 16 to 20 or the name of
                             such an encryption type, HEX the octets of the key; others see it in the list of processes
     --key-file FILE         the same with the key that this file holds, in a line ETYPE:HEX

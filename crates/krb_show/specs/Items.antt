@@ -1,6 +1,6 @@
 -- The tokens of items: a struct of fields for a SEQUENCE, a list for a SEQUENCE OF, one text for the components of a name, a leaf for an element
 -- without elements; explicit tags, and OCTET STRINGs that hold an element, add nothing.
-use Rattle.std.specs.Prelude.{◌≡◌, ℕ, suc, ◌+◌, ◌-◌, nat_eq, nat_lt, if◌then◌else◌, ◌&&◌, Bool, true, false, List, [], ◌∷◌, ◌++◌, Option, None, Some, length, take, codes}
+use Rattle.std.specs.Prelude.{◌≡◌, ℕ, suc, ◌-◌, nat_eq, nat_lt, if◌then◌else◌, ◌&&◌, Bool, true, false, List, [], ◌∷◌, ◌++◌, Option, None, Some, length, take, codes}
 use Rattle.std.specs.Fmt.{decimal}
 use Rattle.std.specs.List.{slice_get}
 use Rattle.krb_schema.specs.declared.item.Form.{Form}

@@ -15,3 +15,4 @@ pub mod RowLeaves
 pub mod Items
 pub mod PlacedItems
 pub mod RowWalk
+pub mod Spots

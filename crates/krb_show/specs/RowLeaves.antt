@@ -1,7 +1,7 @@
 -- The tokens of elements without elements.
 use Rattle.std.specs.Prelude.{◌≡◌, ◌⊎◌, ◌<◌, ◌^◌, ℕ, ℤ, pos, Bool, List, [], ◌∷◌, Option, None, Some}
-use Rattle.krb_der_core.specs.BitString.{Bits, IsBits, bits_content}
-use Rattle.krb_der_core.specs.GeneralizedTime.{IsRealTime, Time, time_content}
+use Rattle.krb_der_core.specs.BitString.{IsBits, bits_content}
+use Rattle.krb_der_core.specs.GeneralizedTime.{IsRealTime, time_content}
 use Rattle.krb_der_core.specs.Integer.{shortest}
 use Rattle.krb_der_core.specs.Primitive.{bool_content}
 use Rattle.krb_der_core.specs.Tlv.{tlv}

@@ -70,6 +70,11 @@ placed_at place i [] = []
 placed_at place zero (t ∷ ts) = placed place t ∷ ts
 placed_at place (suc i) (t ∷ ts) = t ∷ placed_at place i ts
 
+-- with a place, if there is one
+abbrev pub placed_where : Option Place → ℕ → List Token → List Token
+placed_where None i page = page
+placed_where (Some place) i page = placed_at place i page
+
 -- Behind so many tokens the first and the last have this place: one token that is a value, or those where a struct or a list begins and ends.
 abbrev pub placed_behind : Place → ℕ → List Token → List Token
 placed_behind place n page =

@@ -21,6 +21,7 @@ mod page;
 mod places;
 mod rows;
 mod show;
+mod spots;
 mod text;
 mod text_with_places;
 mod token;
@@ -44,10 +45,11 @@ pub use numbers::{OpensValues, TypedValue, is_number};
 pub use opened::{open, show_opened};
 pub use page::page_of_octets;
 pub use rows::{
-    NoFormats, Row, Secrets, ShowsFormats, Stand, Walk, push_item, push_items,
+    NoFormats, Row, Secrets, ShowsFormats, Stand, Walk, places_by_row, push_item, push_items,
     push_items_with_places, show_by_row, walk_named,
 };
 pub use show::Show;
+pub use spots::{Plain, Tells, is_plain, place_tokens};
 pub use text::text_of_page;
 pub use text_with_places::text_of_page_with_places;
 pub use token::{Form, Label, Page, Token, push_token};

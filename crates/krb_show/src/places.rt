@@ -7,7 +7,7 @@ use crate::token::Page;
 use krb_message_fields::places::Place;
 
 /// Gives the token at an index, if there is one, this place.
-fn place_at(page: &mut Page, index: usize, place: Place)
+pub(crate) fn place_at(page: &mut Page, index: usize, place: Place)
     ensures { page.new.items ≡ placed_at place index page.old.items }
 {
     if let Some(token) = page.get_mut(index) {

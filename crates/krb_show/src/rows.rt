@@ -1,5 +1,6 @@
 //! Octets by the rows of `krb_schema`'s table as tokens: of each type of DER that the table has, one way to show it.
 mod formats;
+mod inner;
 mod items;
 mod leaves;
 mod names;
@@ -8,6 +9,7 @@ mod stand;
 mod walk;
 
 pub use formats::{NoFormats, ShowsFormats};
+pub use inner::places_by_row;
 pub use items::{push_item, push_items};
 pub use placed::push_items_with_places;
 pub use stand::{Secrets, Stand};

@@ -8,3 +8,4 @@ pub mod Places
 pub mod Broken
 pub mod Placed
 pub mod Files
+pub mod Paired

@@ -1,17 +1,22 @@
 -- Pages with the places of elements.
-use Rattle.std.specs.Prelude.{◌≡◌, ℕ, nat_eq, Bool, if◌then◌else◌, List, []}
+use Rattle.std.specs.Prelude.{◌≡◌, ℕ, nat_eq, Bool, true, false, if◌then◌else◌, List, [], ◌∷◌, Option, None, Some, length}
 use Rattle.std.specs.Cmp.Lexicographic.{pointwise}
+use Rattle.krb_message_fields.specs.declared.places.place.Place.{Place}
 use Rattle.krb_schema.specs.declared.item.Item.{Item}
 use Rattle.krb_show.specs.Items.{start}
 use Rattle.krb_show.specs.PlacedItems.{shown_with_places}
+use Rattle.krb_show.specs.Spots.{is_plain, spotted}
 use Rattle.krb_show.specs.Text.{page_text}
 use Rattle.krb_show.specs.Tokens.{Token}
 use Rattle.krb_show.specs.declared.rows.stand.Secrets.TheVariants as secrets
 use Rattle.krb_show.specs.declared.rows.walk.Walk.{Walk}
 use Rattle.krb_show.specs.declared.rows.walk.Walk.TheVariants as walks
 use Rattle.krb_show_messages.specs.Formats.{formats_of}
+use Rattle.krb_show_messages.specs.NegoexPlaces.{negoex_places}
+use Rattle.krb_show_messages.specs.Places.{pac_places}
 use Rattle.krb_show_any.specs.Rows.{IsWalkOf}
 use Rattle.krb_show_any.specs.declared.kind.Kind.{Kind}
+use Rattle.krb_show_any.specs.declared.kind.Kind.TheVariants as kinds
 
 -- whether two pages have one text
 abbrev pub is_same_text : List Token → List Token → Bool
@@ -28,8 +33,33 @@ abbrev pub IsPlacedBy : Walk → List ℕ → List Token → List Token → Type
 IsPlacedBy (walks.Items items) octets page made = IsPlacedByItems octets items.items page made
 IsPlacedBy walk octets page made = made ≡ page
 
+-- the first token has a place
+abbrev pub has_place : Option Place → Bool
+has_place None = false
+has_place (Some p) = true
+
+abbrev pub is_placed : List Token → Bool
+is_placed [] = false
+is_placed (t ∷ ts) = has_place t.place
+
+-- the places of the tokens of octets of a kind, in their order: those that the layout of a PAC gives (MS-PAC, 2.3 and 2.4) and of messages of
+-- NEGOEX (MS-NEGOEX, 2.2), and any of other kinds
+abbrev pub are_places : Kind → List ℕ → List (Option Place) → Type 0
+are_places kinds.Pac octets places = pac_places octets places
+are_places kinds.Negoex octets places = negoex_places octets places
+are_places kind octets places = Unit {0}
+
+-- each token with its place where the octets there are what it tells, if the first has none and there is an entry for each token
+abbrev pub IsPlacedIn : Bool → Kind → List ℕ → List Token → List Token → Type 0
+IsPlacedIn true kind octets page made = made ≡ page
+IsPlacedIn false kind octets page made =
+    (places : List (Option Place)) × are_places kind octets places
+    × (made ≡ (if nat_eq (length places) (length page) then spotted is_plain 0 octets 0 places page else page))
+
 -- those of octets of a kind
 pub record IsPlacedPage (kind : Kind) (octets : List ℕ) (page made : List Token) : Type 0 where
   pub walk : Walk
   pub is_walk : IsWalkOf kind octets walk
-  pub is_placed : IsPlacedBy walk octets page made
+  pub by_row : List Token
+  pub is_by_row : IsPlacedBy walk octets page by_row
+  pub is_placed_in : IsPlacedIn (is_placed by_row) kind octets by_row made

@@ -1,11 +1,15 @@
 //! The files of MIT Kerberos as tokens: keytabs ("Keytab file format") and credential caches ("Credential cache file format").
 
 mod ccache;
+mod ccache_places;
 mod error;
 mod keytab;
+mod keytab_places;
+mod places;
 mod principal;
 mod ticket;
 mod values;
+mod walk;
 
 ghost use Rattle.krb_show_any.specs.Told.{IsCcacheTold, IsKeytabTold};
 ghost use Rattle.krb_show_any.specs.Files.{ticket_of};
@@ -13,8 +17,10 @@ ghost use Rattle.krb_show_messages.specs.Shown.{shows_of};
 
 use crate::pages::Pages;
 pub use ccache::page_of_ccache;
+pub use ccache_places::places_of_ccache;
 pub use error::FilePageError;
 pub use keytab::page_of_keytab;
+pub use keytab_places::places_of_keytab;
 use krb_der::DerEncode;
 use krb_show::Page;
 use krb_show_messages::HasRow;

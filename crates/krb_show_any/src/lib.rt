@@ -16,6 +16,7 @@ mod frames;
 mod kind;
 mod names;
 mod pages;
+mod paired;
 mod password_frames;
 mod place;
 mod placed;
@@ -29,10 +30,14 @@ pub use data::Data;
 pub use error::PageError;
 pub use everything::Everything;
 pub use exchanges::Exchanges;
-pub use files::{Ccaches, File, FilePageError, Keytabs, page_of_ccache, page_of_keytab};
+pub use files::{
+    Ccaches, File, FilePageError, Keytabs, page_of_ccache, page_of_keytab, places_of_ccache,
+    places_of_keytab,
+};
 pub use kind::{Kind, is_application, kind_of_octets};
 pub use names::{kind_of_name, name_of_kind};
 pub use pages::Pages;
+pub use paired::json_with_places;
 pub use password_frames::PasswordFrames;
 pub use place::place_of_error;
 pub use placed::page_with_places;

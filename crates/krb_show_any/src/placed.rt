@@ -1,12 +1,18 @@
 //! Pages with the places of elements.
 
 ghost use Rattle.std.specs.Prelude.{◌≡◌, IfOk};
-ghost use Rattle.krb_show_any.specs.Placed.{IsPlacedBy, IsPlacedPage, is_same_text};
+ghost use Rattle.krb_show_any.specs.Placed.{IsPlacedBy, IsPlacedIn, IsPlacedPage, are_places, is_placed, is_same_text};
 
+use crate::files::{places_of_ccache, places_of_keytab};
 use crate::kind::Kind;
-use crate::rows::walk_octets;
-use krb_show::{Page, Secrets, Token, Walk, push_items_with_places, text_of_page};
-use krb_show_messages::KerberosFormats;
+use crate::rows::{row_name, walk_octets};
+use krb_show::{
+    Page, Place, Plain, Secrets, Token, Walk, place_tokens, places_by_row, push_items_with_places,
+    text_of_page,
+};
+use krb_show_messages::{CertificateKind, KerberosFormats, places_of_negoex, places_of_pac};
+use krb_show_tokens::kpasswd::places_of_password_frame;
+use krb_show_tokens::places_of_token;
 use std::alloc::{AllocError, Global};
 
 /// Whether two pages have one text.
@@ -35,12 +41,75 @@ fn placed_by(alloc: Global, walk: Walk, octets: &[u8], page: Page) -> Result<Pag
     }
 }
 
-/// The page of octets of a kind, with the places of the elements in the octets: those of the items
-/// of their walk by the row of the kind. The text of the page stays.
+/// Where each token of the page of a type of PKINIT or of CredSSP stands: that of its row. The page of a PA-PK-AS-REP is a struct of its
+/// alternative (RFC 4556, 3.2.3), which has no place of its own.
+fn places_of_certificate(
+    alloc: Global,
+    kind: CertificateKind,
+    octets: &[u8],
+) -> Result<Vec<Option<Place>>, AllocError> {
+    let row = row_name(Kind::Certificate(kind), octets);
+    let found = places_by_row::<KerberosFormats>(alloc, row, 0, octets)?;
+    if kind != CertificateKind::PaPkAsRep {
+        return Ok(found);
+    }
+    let mut places = Vec::with_capacity(alloc, found.len() + 2)?;
+    places.push(None)?;
+    places.extend_from_slice(&found)?;
+    places.push(None)?;
+    Ok(places)
+}
+
+/// Where in octets of a kind each token of their page stands, in the order of the tokens: of a format that is no DER, and of a
+/// type of PKINIT, whose page may name its outermost element otherwise than its row; none of other kinds.
+fn places_of(alloc: Global, kind: Kind, octets: &[u8]) -> Result<Vec<Option<Place>>, AllocError>
+    ensures { IfOk result (λ places. are_places kind octets.now places.items) }
+{
+    match kind {
+        Kind::Token => places_of_token(alloc, octets),
+        Kind::Pac => places_of_pac(alloc, octets),
+        Kind::Negoex => places_of_negoex(alloc, octets),
+        Kind::PasswordFrame => places_of_password_frame(alloc, octets),
+        Kind::Keytab => places_of_keytab(alloc, octets),
+        Kind::Ccache => places_of_ccache(alloc, octets),
+        Kind::Certificate(kind) => places_of_certificate(alloc, kind, octets),
+        Kind::Application(_) | Kind::Data(_) | Kind::Tree => Ok(Vec::new(alloc)),
+    }
+}
+
+/// Whether the first token of a page has a place.
+fn is_placed(page: &[Token]) -> bool
+    ensures { result ≡ is_placed page.now }
+{
+    match page.first() {
+        Some(token) => token.place().is_some(),
+        None => false,
+    }
+}
+
+/// The page of octets of a kind, whose tokens get the places of the octets that tell them, if its first token has none and there is
+/// a place for each.
+fn placed_in(alloc: Global, kind: Kind, octets: &[u8], page: Page) -> Result<Page, AllocError>
+    ensures { IfOk result (λ made. IsPlacedIn (is_placed page.items) kind octets.now page.items made.items) }
+{
+    if is_placed(&page) {
+        return Ok(page);
+    }
+    let places = places_of(alloc, kind, octets)?;
+    if places.len() != page.len() {
+        return Ok(page);
+    }
+    let mut made = page;
+    place_tokens::<Plain>(alloc, octets, 0, &places, 0, &mut made)?;
+    Ok(made)
+}
+
+/// The page of octets of a kind, with the places of its values in the octets. The text of the page stays.
 ///
-/// The page itself, without places, if the kind has no row in the table of `krb_schema`, if the
-/// octets are no element of the row, and if the page of the items has another text. The only error
-/// is an allocation failure.
+/// Of a kind that has a row in the table of `krb_schema` the places are those of the items of the walk by this row, if the page of the
+/// items has the same text. Of a format that is no DER (a PAC, a message of NEGOEX, a token, a frame, a keytab, a cache) they are
+/// those that its layout gives, and a value has its place only if the octets there are what it tells. The only error is an
+/// allocation failure.
 pub fn page_with_places(
     alloc: Global,
     kind: Kind,
@@ -50,5 +119,6 @@ pub fn page_with_places(
     ensures { IfOk result (λ made. IsPlacedPage kind octets.now page.items made.items) }
 {
     let walk = walk_octets(alloc, kind, octets)?;
-    placed_by(alloc, walk, octets, page)
+    let page = placed_by(alloc, walk, octets, page)?;
+    placed_in(alloc, kind, octets, page)
 }

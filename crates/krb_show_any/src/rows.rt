@@ -35,7 +35,7 @@ fn choice_row(octets: &[u8]) -> &'static str
 }
 
 /// The name of the row of octets of a kind, if they have one: that of the kind, but for two types of alternatives.
-fn row_name(kind: Kind, octets: &[u8]) -> &'static str
+pub(crate) fn row_name(kind: Kind, octets: &[u8]) -> &'static str
     ensures { result.now ≡ row_name kind octets.now }
 {
     match kind {

@@ -1,5 +1,6 @@
 mod Elements
 mod Pieces
+mod PlacesLemmas
 mod Plain
 mod Results
 mod Several

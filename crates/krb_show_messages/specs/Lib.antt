@@ -5,6 +5,8 @@ pub mod Kinds
 pub mod CertificateKinds
 pub mod Prefixed
 pub mod Formats
+pub mod Places
+pub mod NegoexPlaces
 pub mod Shown
 pub mod Choices
 pub mod Told

@@ -7,11 +7,12 @@ ghost use Rattle.krb_show_messages.specs.Pac.{pac_of};
 ghost use Rattle.krb_show_messages.specs.Formats.{behind_number, deleg_of, formats_of, gss_checksum, win2k_pac};
 ghost use Rattle.krb_show_messages.specs.GssChecksum.{gss_checksum_of};
 
-use crate::gss_checksum::show_gss_checksum;
-use crate::pac::show_pac;
-use crate::prefixed::show_prefixed;
+use crate::gss_checksum::{places_of_gss_checksum, show_gss_checksum};
+use crate::pac::{places_of_pac, show_pac};
+use crate::places::places_of_octets;
+use crate::prefixed::{places_of_prefixed, show_prefixed};
 use krb_schema::Role;
-use krb_show::{Label, Page, ShowsFormats, show_octets};
+use krb_show::{Label, Page, Place, ShowsFormats, show_octets};
 use std::alloc::{AllocError, Global};
 
 /// The content of the INTEGER 128 (X.690, 8.3), the type AD-WIN2K-PAC (RFC 4120, 7.5.4).
@@ -57,6 +58,30 @@ fn show_checksum(
     show_octets(alloc, label, octets, page)
 }
 
+/// The places of the data of an element of authorization data behind its type.
+fn places_of_data(
+    alloc: Global,
+    number: &[u8],
+    octets: &[u8],
+) -> Result<Vec<Option<Place>>, AllocError> {
+    if number == WIN2K_PAC.as_slice() {
+        return places_of_pac(alloc, octets);
+    }
+    places_of_octets(alloc, octets)
+}
+
+/// The places of the octets of a checksum behind its type.
+fn places_of_checksum(
+    alloc: Global,
+    number: &[u8],
+    octets: &[u8],
+) -> Result<Vec<Option<Place>>, AllocError> {
+    if number == GSS_CHECKSUM.as_slice() {
+        return places_of_gss_checksum(alloc, octets);
+    }
+    places_of_octets(alloc, octets)
+}
+
 /// Formats within messages of Kerberos: a PAC in authorization data of type 128 (MS-PAC, 2.3), the checksum of the GSS-API in an authenticator
 /// (0x8003; RFC 4121, 4.1.1), and in a KDC-PROXY-MESSAGE a message of a KDC or to it behind its length (MS-KKDCP, 2.2.2). Other octets are octets.
 #[derive(Drop)]
@@ -78,6 +103,20 @@ impl ShowsFormats for KerberosFormats {
             Role::Checksum => show_checksum(alloc, number, label, octets, page),
             Role::PrefixedMessage => show_prefixed(alloc, label, octets, page),
             _ => show_octets(alloc, label, octets, page),
+        }
+    }
+
+    fn places_of_format(
+        alloc: Global,
+        role: Role,
+        number: &[u8],
+        octets: &[u8],
+    ) -> Result<Vec<Option<Place>>, AllocError> {
+        match role {
+            Role::AuthorizationData => places_of_data(alloc, number, octets),
+            Role::Checksum => places_of_checksum(alloc, number, octets),
+            Role::PrefixedMessage => places_of_prefixed(alloc, octets),
+            _ => places_of_octets(alloc, octets),
         }
     }
 }

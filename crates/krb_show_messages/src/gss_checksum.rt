@@ -7,7 +7,10 @@ ghost use Rattle.krb_show.specs.Tokens.{Begins, of_kind, plain};
 ghost use Rattle.krb_show_messages.specs.Formats.{deleg_of};
 ghost use Rattle.krb_show_messages.specs.GssChecksum.{IsDelegation, IsGssChecksum, delegates, delegation_of, dlgth, exts_of, flag_bits, gss_checksum_of, rest_of};
 
+mod places;
+
 use crate::Message;
+pub(crate) use crate::gss_checksum::places::places_of_gss_checksum;
 use byteorder::{ByteOrder, LittleEndian};
 use krb_der::BitStringAsn1;
 use krb_registry::Kind;

@@ -12,6 +12,7 @@ mod kinds;
 mod messages;
 mod negoex;
 mod pac;
+mod places;
 mod prefixed;
 mod rows;
 mod values;
@@ -22,8 +23,8 @@ pub use data::page_of_data;
 pub use formats::KerberosFormats;
 pub use kinds::DataKind;
 pub use messages::{page_of_message, page_of_part};
-pub use negoex::page_of_negoex;
-pub use pac::{page_of_pac, show_pac};
+pub use negoex::{page_of_negoex, places_of_negoex};
+pub use pac::{page_of_pac, places_of_pac, show_pac};
 pub use rows::HasRow;
 pub use values::{RowField, show_value};
 

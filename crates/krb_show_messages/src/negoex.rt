@@ -11,9 +11,11 @@ ghost use Rattle.krb_show_messages.specs.Negoex.{AreTold, IsExchangeTold, IsFoll
 ghost use Rattle.krb_show_messages.specs.Negoex.{checksum_of, exchange_of, extension_of, guid_of, header_of, nego_of, verify_of};
 
 mod pieces;
+mod places;
 
 use crate::Format;
 use crate::negoex::pieces::{Unsaid, unsaid_exchange, unsaid_nego, unsaid_verify};
+pub use crate::negoex::places::places_of_negoex;
 use byteorder::{ByteOrder, LittleEndian};
 use krb_negoex::negoex::data_types::{MessageHeader, MessageType};
 use krb_negoex::negoex::views::{

@@ -9,7 +9,10 @@ ghost use Rattle.krb_show.specs.Tokens.{Begins, plain};
 ghost use Rattle.krb_show_messages.specs.Pac.{buffer_of, directory_of, entries_octets, entries_of, entry_octets, entry_of, has_key, head_octets, held_octets_of, holds_key, other_of};
 ghost use Rattle.krb_show_messages.specs.Pac.{pac_of, padded_octets, padding, plain_octets};
 
+mod places;
+
 use crate::Format;
+pub use crate::pac::places::places_of_pac;
 use byteorder::{ByteOrder, LittleEndian};
 use krb_pac::{NumberedBufferView, NumberedInfoBuffer, NumberedPacView, PacError};
 use krb_show::{Label, Page, Show, show_fields, show_list, show_octets, show_secret, show_struct};

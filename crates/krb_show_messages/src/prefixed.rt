@@ -10,6 +10,9 @@ ghost use Rattle.krb_show_messages.specs.Prefixed.{IsPrefixed, by_message_row, l
 ghost use Rattle.krb_show.specs.Items.{shown, start};
 ghost use Rattle.krb_show.specs.declared.rows.stand.Secrets.TheVariants as secrets;
 
+mod places;
+
+pub(crate) use crate::prefixed::places::places_of_prefixed;
 use byteorder::{BigEndian, ByteOrder};
 use krb_schema::Item;
 use krb_show::{

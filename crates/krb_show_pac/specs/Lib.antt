@@ -1,3 +1,4 @@
+pub mod Placed
 pub mod Inserted
 pub mod Flags
 pub mod Values

@@ -3,11 +3,12 @@
 ghost use Rattle.std.specs.Prelude.{◌≡◌, None, IfOk, OnOk};
 ghost use Rattle.std.specs.Option.{option_copied};
 ghost use Rattle.krb_show.specs.Tokens.{Begins};
-ghost use Rattle.krb_show_pac.specs.Inserted.{IsInserted, IsWithContents, are_types, behind, contents_at, octets_at, octets_of_form, type_of};
+ghost use Rattle.krb_show_pac.specs.Inserted.{IsInserted, IsWithContents, are_types, behind, contents_at, octets_at, octets_of_form, place_at, type_of, with_places};
 
 use crate::contents::show_contents;
+use crate::placed::place_contents;
 use krb_registry::Kind;
-use krb_show::{Form, Insert, Page, Token, page_with};
+use krb_show::{Form, Insert, Page, Place, Token, page_with};
 use std::alloc::{AllocError, Global};
 use std::marker::Model;
 
@@ -76,9 +77,32 @@ fn octets_at(page: &[Token]) -> Option<&[u8]>
     }
 }
 
+/// The place of the token that a page ends with.
+fn place_at(page: &[Token]) -> Option<Place>
+    ensures { result ≡ place_at page.now }
+{
+    page.last()?.place()
+}
+
+/// Appends the contents of a buffer of this type and these octets, with their places if the buffer has one.
+fn show_with_places(
+    alloc: Global,
+    ul_type: u32,
+    octets: &[u8],
+    place: Option<Place>,
+    page: &mut Page,
+) -> Result<(), AllocError>
+    ensures ok { OnOk result (with_places ul_type octets.now place page.old.items page.new.items) }
+    ensures kept { OnOk result (Begins page.old.items page.new.items) }
+{
+    let start = page.len();
+    show_contents(alloc, ul_type, octets, page)?;
+    place_contents(alloc, ul_type, octets, place, start, page)
+}
+
 /// Appends the contents of the buffer of this type whose octets a page ends with.
 fn show_at_end(alloc: Global, ul_type: Option<i64>, page: &mut Page) -> Result<(), AllocError>
-    ensures ok { OnOk result (contents_at (type_of ul_type) (octets_at page.old.items) page.old.items page.new.items) }
+    ensures ok { OnOk result (contents_at (type_of ul_type) (octets_at page.old.items) (place_at page.old.items) page.old.items page.new.items) }
     ensures kept { OnOk result (Begins page.old.items page.new.items) }
 {
     let Some(ul_type) = type_of(ul_type) else {
@@ -88,7 +112,8 @@ fn show_at_end(alloc: Global, ul_type: Option<i64>, page: &mut Page) -> Result<(
         return Ok(());
     };
     let octets = Vec::from_slice(alloc, octets)?;
-    show_contents(alloc, ul_type, &octets, page)
+    let place = place_at(page);
+    show_with_places(alloc, ul_type, &octets, place, page)
 }
 
 /// The number of a type of buffers that stands last before the token behind this one.
@@ -118,7 +143,8 @@ impl Insert for Contents {
 }
 
 /// The page with the contents of the buffers of its PACs: behind the octets of each buffer, at the end of its struct, stands what `show_contents`
-/// appends for its type and octets. All other tokens stay, in their order. The only error is an allocation failure.
+/// appends for its type and octets. If the octets of the buffer have a place, what is told of them has the places of the octets in the buffer that
+/// tell it, counted as that place is. All other tokens stay, in their order. The only error is an allocation failure.
 pub fn page_with_contents(alloc: Global, page: Page) -> Result<Page, AllocError>
     ensures { IfOk result (λ made. IsWithContents page.items made.items) }
 {

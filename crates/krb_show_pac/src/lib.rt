@@ -15,6 +15,8 @@ mod message;
 mod pac_checksums;
 mod page;
 mod parts;
+mod placed;
+mod places;
 mod signature;
 mod small;
 mod texts;

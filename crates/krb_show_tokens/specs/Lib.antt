@@ -4,5 +4,6 @@ pub mod Frames
 pub mod Heads
 pub mod Leaves
 pub mod Opened
+pub mod Places
 pub mod Proxies
 pub mod Told

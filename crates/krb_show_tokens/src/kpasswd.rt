@@ -2,6 +2,8 @@
 
 mod error;
 mod frame;
+mod places;
 
 pub use error::PasswordFrameError;
 pub use frame::page_of_password_frame;
+pub use places::places_of_password_frame;

@@ -9,7 +9,9 @@ pub mod kpasswd;
 mod leaves;
 mod negotiation;
 mod opened;
+mod part;
 mod per_message;
+mod places;
 mod proxies;
 mod tokens;
 
@@ -20,6 +22,7 @@ pub use opened::{
     LoneMessages, MechListMics, MechTokens, OpenedAs, OpenedByRow, OpenedOctets, OpensOctets,
     Pku2uTokens, PlainOctets, UserToUserTokens,
 };
+pub use places::places_of_token;
 pub use proxies::{FramedProxy, ProxyMessages, TokenPages};
 pub use tokens::page_of_token;
 

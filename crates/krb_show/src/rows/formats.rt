@@ -6,6 +6,7 @@ ghost use Rattle.krb_show.specs.Leaves.{octets_of};
 ghost use Rattle.krb_show.specs.Tokens.{Begins, Label, Token};
 
 use crate::{Label, Page, show_octets};
+use krb_message_fields::places::Place;
 use krb_schema::Role;
 use std::alloc::{AllocError, Global};
 
@@ -27,6 +28,15 @@ pub trait ShowsFormats {
         ensures ok { OnOk result (tells role number.now label.now octets.now page.old.items page.new.items) }
         ensures kept { OnOk result (Begins page.old.items page.new.items) }
         ensures err { OnErr result (page.new.items ≡ page.old.items) };
+
+    /// Where in such octets what each token tells stands that `show_format` appends for them, in the order of the tokens; `None` of
+    /// what has no place of its own. `push_items_with_places` gives a token its place only if the octets there are what it tells.
+    fn places_of_format(
+        alloc: Global,
+        role: Role,
+        number: &[u8],
+        octets: &[u8],
+    ) -> Result<Vec<Option<Place>>, AllocError>;
 }
 
 /// All of them are octets.
@@ -45,5 +55,14 @@ impl ShowsFormats for NoFormats {
         page: &mut Page,
     ) -> Result<(), AllocError> {
         show_octets(alloc, label, octets, page)
+    }
+
+    fn places_of_format(
+        alloc: Global,
+        _role: Role,
+        _number: &[u8],
+        _octets: &[u8],
+    ) -> Result<Vec<Option<Place>>, AllocError> {
+        Ok(Vec::new(alloc))
     }
 }

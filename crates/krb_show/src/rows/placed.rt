@@ -9,9 +9,10 @@ use crate::places::place_behind;
 use crate::rows::formats::ShowsFormats;
 use crate::rows::items::push_item;
 use crate::rows::stand::{Secrets, Stand};
+use crate::spots::{Plain, place_tokens};
 use crate::token::Page;
 use krb_message_fields::places::Place;
-use krb_schema::Item;
+use krb_schema::{Form, Item, Leaf, Role, content_of};
 use std::alloc::{AllocError, Global};
 
 /// Where the content of an item is.
@@ -24,9 +25,29 @@ fn place_of(item: Item) -> Place
     }
 }
 
+/// Where what is told of the octets of an element stands in them, if they are of a format that is no DER.
+fn inner_places<F: ShowsFormats>(
+    alloc: Global,
+    octets: &[u8],
+    item: Item,
+    stand: &Stand,
+) -> Result<Vec<Option<Place>>, AllocError> {
+    let role = item.name.role;
+    match item.form {
+        Form::Leaf(Leaf::Octets) if role != Role::None => F::places_of_format(
+            alloc,
+            role,
+            stand.number(),
+            octets,
+        ),
+        _ => Ok(Vec::new(alloc)),
+    }
+}
+
 /// Appends the token of an item as `push_item` does, and gives it the place of the item. Of the
-/// tokens of octets of a format that is no DER the first and the last have it.
-#[tactic(auto, using(crate::proofs::Placed::begins_placed))]
+/// tokens of octets of a format that is no DER the first and the last have it, and each of the others
+/// that of the octets in these that it tells.
+#[tactic(auto, using(crate::proofs::Placed::begins_placed, crate::proofs::Placed::begins_kept))]
 fn push_item_with_place<'o, F: ShowsFormats>(
     alloc: Global,
     octets: &'o [u8],
@@ -39,7 +60,10 @@ fn push_item_with_place<'o, F: ShowsFormats>(
     ensures kept { Begins page.old.items page.new.items }
 {
     let start = page.len();
+    let content = content_of(octets, item);
+    let inner = inner_places::<F>(alloc, content, item, stand)?;
     push_item::<F>(alloc, octets, item, rest, stand, page)?;
+    place_tokens::<Plain>(alloc, content, item.offset, &inner, start, page)?;
     place_behind(page, start, place_of(item));
     Ok(())
 }

@@ -1,6 +1,6 @@
 //! The octets that a message is written as, piece by piece (MS-NEGOEX, 2.2).
 
-ghost use Rattle.std.specs.Prelude.{◌≡◌, ◌≢◌, ◌+◌, ◌*◌, ◌^◌, ◌<◌, ℕ, ◌++◌, List, Option, length};
+ghost use Rattle.std.specs.Prelude.{◌≡◌, ◌≢◌, ◌+◌, ◌*◌, ◌^◌, ◌<◌, ℕ, ◌++◌, List, Option, is_some, length};
 ghost use Rattle.std.specs.List.{flat_map};
 ghost use Rattle.std.specs.Option.{option_map};
 ghost use Rattle.byteorder.specs.Endian.{little_bytes};
@@ -238,6 +238,15 @@ impl<'a> Model for Unsaid<'a> {
     ghost Value = { Option (List ℕ) };
 
     ghost view = { λ v. option_map (λ octets. octets.now) v.0 };
+}
+
+impl<'a> Unsaid<'a> {
+    /// Whether there are any.
+    pub fn is_some(&self) -> bool
+        ensures { result ≡ is_some self.now }
+    {
+        self.0.is_some()
+    }
 }
 
 impl<'a> Show<Format> for Unsaid<'a> {

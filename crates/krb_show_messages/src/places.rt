@@ -1,0 +1,26 @@
+//! Places of what is told of formats that are no DER.
+
+ghost use Rattle.std.specs.Prelude.{◌≡◌, [], ◌∷◌, length, IfOk};
+ghost use Rattle.krb_show_messages.specs.Places.{place_at};
+
+use krb_show::Place;
+use std::alloc::{AllocError, Global};
+
+/// The place of so many octets behind so many others.
+pub(crate) fn place_at(offset: usize, size: usize) -> Option<Place>
+    ensures { result ≡ place_at offset size }
+{
+    Some(Place { offset, size })
+}
+
+/// The one place of what is told as octets: all of them.
+pub(crate) fn places_of_octets(
+    alloc: Global,
+    octets: &[u8],
+) -> Result<Vec<Option<Place>>, AllocError>
+    ensures { IfOk result (λ places. places.items ≡ place_at 0 (length octets.now) ∷ []) }
+{
+    let mut places = Vec::new(alloc);
+    places.push(place_at(0, octets.len()))?;
+    Ok(places)
+}
