@@ -472,6 +472,13 @@ krb_status krb_show(const uint8_t *type_name, size_t type_name_size, const uint8
 krb_status krb_show_page(const uint8_t *name, size_t name_size, const uint8_t *octets, size_t octets_size, const uint8_t *keytab, size_t keytab_size,
                          bool is_json, bool shows_keys, uint8_t *out, size_t room, size_t *size);
 
+/* What `jolmurig show --places` writes: as krb_show_page, and behind each value its place, ` @OFFSET+SIZE`; in JSON {"offset":OFFSET,"size":SIZE,"value":..}
+   in the place of the value. The place counts octets of the input: of a value of DER it is that of the content of its element; of another format, as a
+   PAC, a frame, a keytab, that of the octets which tell it. Of what a key opens it counts the octets that were decrypted, as krb_decode hands them out.
+   Those of krb_show_page. */
+krb_status krb_show_placed_page(const uint8_t *name, size_t name_size, const uint8_t *octets, size_t octets_size, const uint8_t *keytab,
+                                size_t keytab_size, bool is_json, bool shows_keys, uint8_t *out, size_t room, size_t *size);
+
 /* The same by texts that end with a NUL. They are not of the library. */
 static inline size_t krb_text_size(const char *text) {
     size_t size = 0;

@@ -204,6 +204,56 @@ def rows(top):
         yield origin, name, bytes.fromhex(octets), lines[start:at]
 
 
+def bare(told):
+    """JSON without places."""
+    if isinstance(told, dict):
+        return bare(told["value"]) if list(told) == ["offset", "size", "value"] else {name: bare(inner) for name, inner in told.items()}
+    return [bare(inner) for inner in told] if isinstance(told, list) else told
+
+
+def try_places(top):
+    """`krb.show` with places, of all rows and files: what it tells without, and within the octets. How many places of what is no DER."""
+    count = 0
+    files = [(kind, bytes.fromhex(digits)) for _, kind, digits in (row[:3] for row in table_of(top, "files") if row[1] in ("keytab", "ccache"))]
+    for name, octets in [(name, octets) for _, name, octets, _ in rows(top)] + files:
+        kind = "token" if name.startswith("token") else {"told": None, "password frame": "password-frame"}.get(name, name)
+        for each in (kind, APPLICATIONS.get(octets[0]) if octets else None):
+            shown = outcome(krb.show, octets, each, b"", False, True)
+            if not isinstance(shown, Status):
+                kind = each
+                break
+        else:
+            continue
+        placed, told = krb.show(octets, kind, b"", False, True, places=True), krb.show(octets, kind, b"", True, True, places=True)
+        found = [(int(offset), int(size)) for offset, size in re.findall(r"(?m) @(\d+)\+(\d+)$", placed)]
+        expect(re.sub(r"(?m) @\d+\+\d+$", "", placed) == shown, "%s is another text with places" % name)
+        expect(bare(json.loads(told)) == json.loads(krb.show(octets, kind, b"", True, True)), "%s is another JSON with places" % name)
+        expect(all(offset + size <= len(octets) for offset, size in found), "%s has a place past its end" % name)
+        if kind in ("PAC", "NEGOEX", "keytab", "ccache", "token", "password-frame"):
+            count += len(found)
+            (value,) = json.loads(krb.show(octets, kind, b"", True, True)).values()
+            expect(is_decoded(krb.decode(octets, kind, show_keys=True), value), "%s is decoded otherwise" % name)
+            expect("hidden" not in str(krb.decode(octets, kind)) or "hidden" in krb.show(octets, kind), "%s hides more" % name)
+    return count
+
+
+def is_decoded(value, told):
+    """Whether a value of `krb.decode` is the one that JSON tells of a format that is no DER."""
+    if isinstance(value, dict):
+        return list(value) == list(told) and all(map(is_decoded, value.values(), told.values()))
+    if isinstance(value, list):
+        return isinstance(told, list) and len(value) == len(told) and all(map(is_decoded, value, told))
+    if isinstance(value, frozenset):
+        return value == frozenset(told["names"])
+    if isinstance(value, bytes):
+        return value.hex() == told and value != b""
+    if isinstance(value, datetime.datetime):
+        return value.strftime("%Y-%m-%dT%H:%M:%SZ").rjust(20, "0") == told
+    if isinstance(value, int) and isinstance(told, str):
+        return told[:2] == "0x" and value == int(told, 16)
+    return value == (told.get("number", told.get("identifier")) if isinstance(told, dict) else told) and type(value) in (int, bool, str)
+
+
 def quoted(component):
     """A component as it stands within a name: a slash and a backslash are behind a backslash."""
     return component.replace("\\", "\\\\").replace("/", "\\/")
@@ -372,6 +422,9 @@ def main():
     opened, kinds = try_opened(sys.argv[1]), try_kinds(sys.argv[1])
     expect(opened > 150 and kinds > 10, "only %d opened rows and %d files were tried" % (opened, kinds))
     print("opened: %d rows; files: %d" % (opened, kinds))
+    places = try_places(sys.argv[1])
+    expect(places > 1500, "only %d places of what is no DER were told" % places)
+    print("places: %d of what is no DER" % places)
     trees, parts = try_trees(sys.argv[1])
     expect(trees > 100 and parts > 80, "only %d trees with %d parts were tried" % (trees, parts))
     print("trees: %d rows with %d parts" % (trees, parts))

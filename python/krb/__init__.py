@@ -1,7 +1,7 @@
 """Kerberos cryptography and messages, over code that is proved to meet its contracts.
 
 - `krb.decode`, `krb.find`, `krb.find_number`, `krb.items`: octets of DER by the types of their standards: as a tree, a field by its path, all elements. The type may be left out where
-  `krb.type_of` tells it by the first octet. With a keytab, or with keys, the first three have what these open; `krb.parts` has it alone. `krb.name_of`: what the standards call a
+  `krb.type_of` tells it by the first octet. `krb.decode` reads PACs, tokens, keytabs and caches, too, where they are named. With a keytab, or with keys, the first three have what these open; `krb.parts` has it alone. `krb.name_of`: what the standards call a
   number or a flag.
 - `krb.text`, `krb.json`: the same for people, keys hidden. `krb.show`: what `jolmurig show` writes of octets of any kind, with what a keytab opens.
 - `krb.crypto`: encryption, checksums, keys of passwords, sizes (RFC 3961, RFC 3962, RFC 8009).

@@ -1,7 +1,7 @@
 """What the page in the browser shows: the lines of `krb.show` as a tree, and beside it the places that `krb_decode`, `krb_gss_token` and their kin tell.
 
-Nothing is decoded here. A line has the place of the item that has its name, in the order of both; where the library tells no place of a line, as of the fields
-within a buffer of a PAC, it has none, and the page lights up what it stands in."""
+Nothing is decoded here. A line has the place of the item that has its name, in the order of both, and other lines, as those of a PAC, a keytab or a cache, have
+the place that `krb.show` writes with it; where the library tells no place of a line it has none, and the page lights up what it stands in."""
 
 import base64
 import json
@@ -33,6 +33,7 @@ MOST_LINES = 20000  # of a tree; the text and the JSON are whole
 MOST_KEYS = 80  # that are made of a password
 _CLEAR = b"\xa0\3\2\1\0"  # etype [0] INTEGER of 0 (RFC 4120, 5.2.9): what follows may be in the clear
 _LINE = re.compile(r"( *)(.*?)(?:\[(\d+)\])?:(?: (.*))?")
+_WRITTEN_PLACE = re.compile(r" @(\d+)\+(\d+)$")
 _TREE_PLACE = re.compile(r"@(\d+)\+(\d+)$")
 # What a key of the caller's is called: the principal of an entry without a realm.
 _OWN_KEY = re.compile(r'((?:opened-by|-key)"?: ?"(?:key \d+|the password, salt .*?))@ kvno 1"')
@@ -321,6 +322,21 @@ class _Places:
             self.element(line, place, kind or line.name)
 
 
+def _fill(lines: List[Line], text: str, sources: List[Source]) -> None:
+    """Lines without a place get the one that the library writes with them in `text`, the same lines with places. It counts octets of what the nearest line
+    around that has a place stands in."""
+    for line, written in zip(lines, (each for each in text.split("\n") if _LINE.fullmatch(each))):
+        found = _WRITTEN_PLACE.search(written)
+        if line.place is not None or found is None:
+            continue
+        around = line.around
+        while around is not None and around.place is None:
+            around = around.around
+        source, offset, size = 0 if around is None or around.place is None else around.place.source, int(found.group(1)), int(found.group(2))
+        if offset + size <= len(sources[source].octets):
+            line.place = Place(source, offset, size)
+
+
 def _place_in_tree(line: Line) -> None:
     """The place of a line of a tree of tags, which the library writes behind its name: how many octets stand before it, and how many its content has."""
     found = _TREE_PLACE.search(line.name)
@@ -406,8 +422,7 @@ def page_of(octets: bytes, kind: Optional[str], keytab: bytes, show_keys: bool) 
                 _place_in_tree(line)
         else:
             places.whole(lines[0], None if known in ("token", "PAC", "NEGOEX", "password-frame", "keytab", "ccache") else known)
-    if lines and lines[0].name in ("keytab", "ccache", "MIC", "Wrap", "NEGOEX") or lines and lines[0].name.endswith("_MESSAGE"):
-        notes.append("The library tells no places in octets of this kind, so no single field lights up in them.")
+            _fill(lines, show(octets, known, keytab, False, show_keys, places=True), sources)
     secrets = places.secrets + [Place(number, 0, len(source.octets)) for number, source in enumerate(sources) if number not in places.told]
     salts = places.salts + _cached_salts(as_json)
     return Page(lines, sources, text, as_json, None, notes, False, secrets), list(dict.fromkeys(salts))

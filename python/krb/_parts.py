@@ -6,6 +6,7 @@ import struct
 from typing import Any, Dict, Iterable, Iterator, List, NamedTuple, Optional, Tuple
 
 from krb import _items
+from krb._formats import FORMATS, tree
 from krb._items import Form, Item, Leaf, Node, Registry, Secret, _all_names, _flags, _FRONT, _item, _named, _OCTETS, _Record, _RECORD, _VALUES
 from krb._library import Octets, Refused, Status, _library, plain
 
@@ -285,8 +286,13 @@ def decode(octets: Octets, as_type: Optional[str] = None, keytab: Optional[Octet
     Where `show_keys` is false, `Hidden` (the word "hidden") stands in the place of the octets of keys, of passwords, and of a ciphertext in the clear; else a key is a `Secret`. The
     library is called once, and once more where a keytab's names are long.
 
-    Refused: as `parts`."""
+    Octets of a format that is no DER are decoded too if `as_type` names it, as `krb.show` does: "token", "PAC", "NEGOEX", "password-frame", "keytab" or "ccache". Flags without
+    names are an int there, and a text or octets without an octet of their own an empty str. Keys open nothing in them: find the message, and decode that.
+
+    Refused: as `parts`; of a format as `krb.show`."""
     octets = plain(octets)
+    if as_type is not None and as_type.lower() in FORMATS:
+        return tree(octets, as_type, show_keys, _HIDDEN)
     decoded = _decoded(octets, as_type, _keytab_of(keytab, keys))
     records = decoded.records
     if decoded.parts:

@@ -1,13 +1,14 @@
 //! Items of octets, and octets for people, for C. `krb.h` declares these calls.
 
+ghost use Rattle.std.specs.Prelude.{true, false};
 ghost use Rattle.krb_c_calls.specs.Handing.{IsAnswered};
 ghost use Rattle.krb_c_calls.specs.Items.{IsItemAnswer, IsItemNumber, IsItemsAnswer, IsNameOf, IsNumberName, RefusesName, RefusesNumberName};
 ghost use Rattle.krb_c_calls.specs.Shown.{IsShown, RefusesShowing, secrets_of};
 ghost use Rattle.krb_c_pages.specs.Decoded.{IsDecodedAnswer, arrays};
-ghost use Rattle.krb_c_pages.specs.Pages.{IsPageText, RefusesPage};
+ghost use Rattle.krb_c_pages.specs.Pages.{IsPageText, RefusesPage, style_of};
 
 use krb_c_calls::items::ItemRecord;
-use krb_c_pages::{DecodedCounts, Opened, Opens, PartRecord, decode, show_page};
+use krb_c_pages::{DecodedCounts, Opened, Opens, PartRecord, Style, decode, show_page};
 use krb_show_any::{Everything, Kind, PageError, Pages};
 use std::alloc::Global;
 
@@ -122,8 +123,36 @@ pub extern "C" fn krb_show_page(
     out: &mut [u8],
     size: &mut usize,
 ) -> u32
-    ensures { IsAnswered (IsPageText ⟦<Everything as Pages<Kind, PageError>>⟧.tells ⟦<Opened as Opens>⟧.opens is_json shows_keys name.now octets.now keytab.now)
+    ensures { IsAnswered (IsPageText ⟦<Everything as Pages<Kind, PageError>>⟧.tells ⟦<Opened as Opens>⟧.opens (style_of is_json false) shows_keys
+        name.now octets.now keytab.now)
         (RefusesPage ⟦<Everything as Pages<Kind, PageError>>⟧.tells name.now octets.now keytab.now) out.old out.new size.new result }
 {
-    show_page::<Everything, Opened>(alloc, name, octets, keytab, is_json, shows_keys, out, size)
+    let style = Style {
+        is_json,
+        has_places: false,
+    };
+    show_page::<Everything, Opened>(alloc, name, octets, keytab, style, shows_keys, out, size)
+}
+
+/// `krb_show_placed_page` of `krb.h`: what `jolmurig show --places` writes of octets of any kind.
+#[unsafe(no_mangle)]
+pub extern "C" fn krb_show_placed_page(
+    alloc: Global,
+    name: &[u8],
+    octets: &[u8],
+    keytab: &[u8],
+    is_json: bool,
+    shows_keys: bool,
+    out: &mut [u8],
+    size: &mut usize,
+) -> u32
+    ensures { IsAnswered (IsPageText ⟦<Everything as Pages<Kind, PageError>>⟧.tells ⟦<Opened as Opens>⟧.opens (style_of is_json true) shows_keys
+        name.now octets.now keytab.now)
+        (RefusesPage ⟦<Everything as Pages<Kind, PageError>>⟧.tells name.now octets.now keytab.now) out.old out.new size.new result }
+{
+    let style = Style {
+        is_json,
+        has_places: true,
+    };
+    show_page::<Everything, Opened>(alloc, name, octets, keytab, style, shows_keys, out, size)
 }

@@ -1,5 +1,5 @@
 -- The page of octets of any kind, with what keys open in it, as text and as JSON.
-use Rattle.std.specs.Prelude.{◌≡◌, ◌≢◌, ◌⊎◌, ℕ, ◌+◌, Bool, true, false, List, [], Option, Some, None, Result, Ok, Err, Vec, length}
+use Rattle.std.specs.Prelude.{◌≡◌, ◌≢◌, ◌⊎◌, ℕ, ◌+◌, Bool, true, false, List, [], ◌∷◌, ◌++◌, Option, Some, None, Result, Ok, Err, Vec, length}
 use Rattle.std.specs.List.{flat_map}
 use Rattle.std.specs.Str.{IsUtf8}
 use Rattle.std.specs.declared.alloc.Global.{Global}
@@ -12,15 +12,19 @@ use Rattle.krb_c_calls.specs.Statuses.{refusal_status}
 use Rattle.krb_c_calls.specs.declared.call_error.CallError.{CallError}
 use Rattle.krb_c_calls.specs.declared.call_error.CallError.TheVariants as refusals
 use Rattle.krb_decrypt.specs.Keys.{NamedKey}
+use Rattle.krb_show.specs.TextWithPlaces.{page_text_with_places}
 use Rattle.krb_show.specs.Tokens.{Token}
 use Rattle.krb_show_any.specs.Kinds.{kind_of}
 use Rattle.krb_show_any.specs.Names.{IsNamed}
+use Rattle.krb_show_any.specs.Paired.{paired_line}
+use Rattle.krb_show_any.specs.Placed.{IsPlacedPage}
 use Rattle.krb_show_any.specs.declared.error.PageError.{PageError}
 use Rattle.krb_show_any.specs.declared.kind.Kind.{Kind}
 use Rattle.krb_decrypt.specs.Hidden.{hidden_page}
 use Rattle.krb_decrypt.specs.KeytabKeys.{keys_of_entry}
 use Rattle.krb_show_pac.specs.Inserted.{IsWithContents}
 use Rattle.krb_c_pages.specs.Refusals.{page_refusal}
+use Rattle.krb_c_pages.specs.declared.page.Style.{Style}
 
 -- ---- the kind
 
@@ -52,26 +56,51 @@ abbrev pub shown_keys : Bool → List Token → List Token
 shown_keys true page = page
 shown_keys false page = hidden_page page
 
+-- how a page is written
+abbrev pub style_of : Bool → Bool → Style
+style_of is_json has_places = record { is_json = is_json; has_places = has_places }
+
+abbrev pub written_by : Bool → Bool → List Token → List ℕ
+written_by false is_json page = written_of is_json page
+written_by true false page = page_text_with_places page
+written_by true true page = paired_line page ++ 10 ∷ []
+
+abbrev pub written_in : Style → List Token → List ℕ
+written_in style page = written_by style.has_places style.is_json page
+
+-- the page of octets of a kind, with the places of its values or without
+abbrev pub is_placed_for : Bool → Kind → List ℕ → List Token → List Token → Type 0
+is_placed_for true kind octets page made = IsPlacedPage kind octets page made
+is_placed_for false kind octets page made = made ≡ page
+
 -- this is written of a page: with what the keys open in it, of which a thousand more may be found, and then with what the buffers of PACs hold
-pub record IsTextOf (opens : ℕ → List NamedKey → List Token → List Token → Type 0) (is_json shows_keys : Bool) (keys : List NamedKey) (page : List Token)
-    (text : List ℕ) : Type 0 where
+pub record IsTextOf (opens : ℕ → List NamedKey → List Token → List Token → Type 0) (style : Style) (shows_keys : Bool) (keys : List NamedKey)
+    (page : List Token) (text : List ℕ) : Type 0 where
   pub opened : List Token
   pub is_opened : opens (length keys + 1000) keys page opened
   pub detailed : List Token
   pub is_detailed : IsWithContents opened detailed
-  pub is_text : text ≡ written_of is_json (shown_keys shows_keys detailed)
+  pub is_text : text ≡ written_in style (shown_keys shows_keys detailed)
+
+-- this is written of the page of octets of a kind
+pub record IsTextOfKind (opens : ℕ → List NamedKey → List Token → List Token → Type 0) (style : Style) (shows_keys : Bool) (keys : List NamedKey)
+    (kind : Kind) (octets : List ℕ) (page : List Token) (text : List ℕ) : Type 0 where
+  pub placed : List Token
+  pub is_placed : is_placed_for style.has_places kind octets page placed
+  pub is_written : IsTextOf opens style shows_keys keys placed text
 
 -- what octets of a kind are told as: the page that they have, or the error
 module _ (tells : Kind → List ℕ → Result (Vec Token Global) PageError → Type 0) where
   -- octets of a kind that have a page, of which this is written
-  pub record IsPageText (opens : ℕ → List NamedKey → List Token → List Token → Type 0) (is_json shows_keys : Bool) (name octets keytab text : List ℕ) : Type 0 where
+  pub record IsPageText (opens : ℕ → List NamedKey → List Token → List Token → Type 0) (style : Style) (shows_keys : Bool)
+      (name octets keytab text : List ℕ) : Type 0 where
     pub kind : Kind
     pub is_kind : IsKind name octets kind
     pub keys : List NamedKey
     pub are_keys : AreKeysOf keytab keys
     pub page : Vec Token Global
     pub told : tells kind octets (Ok page)
-    pub written : IsTextOf opens is_json shows_keys keys page.items text
+    pub written : IsTextOfKind opens style shows_keys keys kind octets page.items text
 
   -- they have none, for this reason
   pub record HasNoPage (name octets keytab : List ℕ) (status : ℕ) : Type 0 where

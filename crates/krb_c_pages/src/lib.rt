@@ -10,4 +10,4 @@ mod refusal;
 
 pub use decoded::{DecodedCounts, Decoding, PartRecord, decode};
 pub use opened::{Opened, Opens};
-pub use page::show_page;
+pub use page::{Style, show_page};
