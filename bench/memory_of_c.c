@@ -106,6 +106,11 @@ static krb_status of_show_page(void) {
     begin(count);
     return krb_show_page(TEXT(PART), in, count, NULL, 0, false, false, ANSWER);
 }
+static krb_status of_page_items(void) {
+    krb_page_counts counts;
+    begin(count);
+    return krb_page_items(TEXT(PART), in, count, NULL, 0, false, (krb_page_item *)out, ROOM / 2 / sizeof(krb_page_item), out + ROOM / 2, ROOM / 2, &counts);
+}
 static krb_status of_make_mic(void) {
     begin(count);
     return krb_make_mic(ETYPE, KEYS, false, false, 1, in, count, ANSWER);
@@ -171,7 +176,7 @@ static const struct {
     {"krb_encrypt", of_encrypt}, {"krb_decrypt", of_decrypt}, {"krb_encrypt_kept", of_encrypt_kept}, {"krb_decrypt_kept", of_decrypt_kept},
     {"krb_checksum", of_checksum}, {"krb_verify_checksum", of_verify_checksum}, {"krb_seal_ticket_part", of_seal_ticket_part},
     {"krb_open_ticket_part", of_open_ticket_part}, {"krb_check", of_check}, {"krb_items", of_items}, {"krb_decode", of_decode}, {"krb_find", of_find},
-    {"krb_show", of_show}, {"krb_show, JSON", of_show_json}, {"krb_show_page", of_show_page}, {"krb_make_mic", of_make_mic},
+    {"krb_show", of_show}, {"krb_show, JSON", of_show_json}, {"krb_show_page", of_show_page}, {"krb_page_items", of_page_items}, {"krb_make_mic", of_make_mic},
     {"krb_verify_mic", of_verify_mic}, {"krb_wrap", of_wrap}, {"krb_wrap_in_clear", of_wrap_in_clear}, {"krb_unwrap", of_unwrap},
     {"krb_make_gss_token", of_make_gss_token}, {"krb_gss_token", of_gss_token}, {"krb_make_neg_token_resp", of_make_neg_token_resp},
     {"krb_make_proxy_request", of_make_proxy_request}, {"krb_proxy_request", of_proxy_request}, {"krb_proxy_reply_datagram", of_proxy_reply},

@@ -479,6 +479,53 @@ krb_status krb_show_page(const uint8_t *name, size_t name_size, const uint8_t *o
 krb_status krb_show_placed_page(const uint8_t *name, size_t name_size, const uint8_t *octets, size_t octets_size, const uint8_t *keytab,
                                 size_t keytab_size, bool is_json, bool shows_keys, uint8_t *out, size_t room, size_t *size);
 
+/* A value of a page, or where a struct or a list begins or ends: what krb_show_placed_page writes of it. Nothing in it is a pointer. */
+typedef struct krb_page_item {
+    size_t offset;       /* octets before those that it is told of, as krb_show_placed_page counts them; 0 where it has no place */
+    size_t size;         /* how many these are; 0 where it has no place */
+    size_t name_offset;  /* octets of `out` before its name */
+    size_t name_size;    /* octets of the name, as "pvno"; an item of a list has the name of the list */
+    size_t value_offset; /* octets of `out` before its value, as its form says */
+    size_t value_size;   /* octets of the value */
+    size_t note_offset;  /* octets of `out` before what the standards call the number, the flags that are set, or the identifier */
+    size_t note_size;    /* octets of that: each name behind a blank; 0 where there is none */
+    int64_t number;      /* the number; 0 where it has none */
+    uint32_t form;       /* KRB_PAGE_.. */
+    uint32_t is_item;    /* 1 of an item of a list */
+    uint32_t has_place;  /* 1 where it has a place */
+    uint32_t has_number; /* 1 of a number of 64 bits */
+    int32_t registry;    /* KRB_REGISTRY_.., what its number, or its flags, are of */
+    uint32_t role;       /* KRB_ROLE_.., what programs do with it */
+} krb_page_item;
+
+enum {
+    KRB_PAGE_STRUCT = 1,     /* a struct begins: its values follow, up to its end */
+    KRB_PAGE_STRUCT_END = 2, /* the struct ends that began last */
+    KRB_PAGE_LIST = 3,       /* a list begins: its items follow, up to its end; the value is how many, in digits */
+    KRB_PAGE_LIST_END = 4,   /* the list ends that began last */
+    KRB_PAGE_NUMBER = 5,     /* the value is its digits, or "true" or "false" */
+    KRB_PAGE_FLAGS = 6,      /* the value is "0x" and digits */
+    KRB_PAGE_WORD = 7,       /* a time, a GUID, an address and the like, as it is written; "hidden" in the place of a secret */
+    KRB_PAGE_IDENTIFIER = 8, /* OBJECT IDENTIFIER, the value is its numbers with dots */
+    KRB_PAGE_TEXT = 9,       /* the value is the octets of the text; of UTF-16 (MS-PAC) they are UTF-8 */
+    KRB_PAGE_OCTETS = 10,    /* the value is the octets */
+    KRB_PAGE_SECRET = 11,    /* the value is the octets of a key, a password or a PIN */
+    KRB_PAGE_CIPHER = 12     /* the value is the octets of a ciphertext, or of what is in the clear under encryption type 0 */
+};
+
+/* How much krb_page_items hands out. */
+typedef struct krb_page_counts {
+    size_t items;  /* how many items */
+    size_t octets; /* how many octets of `out` */
+} krb_page_counts;
+
+/* What krb_show_placed_page writes of octets of any kind, as items: one for each value, and for each begin and end of a struct and of a list, in their order.
+   Their names, their values and the names of their numbers stand in `out`.
+   KRB_DONE: all is at the front of `items` and `out`, what is behind is as it was, and `counts` says how many they are. KRB_ROOM: one of these has too little
+   room; both are as they were, and `counts` says how many they would be. Else they are as they were, and all in `counts` is 0: those of krb_show_page. */
+krb_status krb_page_items(const uint8_t *name, size_t name_size, const uint8_t *octets, size_t octets_size, const uint8_t *keytab, size_t keytab_size,
+                          bool shows_keys, krb_page_item *items, size_t items_room, uint8_t *out, size_t room, krb_page_counts *counts);
+
 /* The same by texts that end with a NUL. They are not of the library. */
 static inline size_t krb_text_size(const char *text) {
     size_t size = 0;

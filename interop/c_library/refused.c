@@ -137,6 +137,23 @@ static krb_status decode_call(const struct row *row, uint64_t *told) {
     return status;
 }
 
+/* The counts; of what is handed out the first form, the first octet of the first name, and the last octet of all. */
+static krb_status listed_call(const struct row *row, uint64_t *told) {
+    krb_page_item items[2048];
+    uint8_t out[65536];
+    krb_page_counts counts = {7, 7};
+    memset(items, 7, sizeof items), memset(out, 7, sizeof out);
+    krb_status status = krb_page_items(row->key.at, row->key.count, row->input.at, row->input.count, row->beside.at, row->beside.count, row->number != 0, items,
+            sizeof items / sizeof *items, out, sizeof out, &counts);
+    told[0] = counts.items, told[1] = counts.octets;
+    if (status != KRB_DONE) {
+        if (items[0].form != 0x07070707 || out[0] != 7) told[0] |= 1;
+        return status;
+    }
+    told[2] = items[0].form, told[3] = out[items[0].name_offset], told[4] = out[counts.octets - 1];
+    return status;
+}
+
 static int is_of_items(const char *call) {
     static const char *const calls[] = {"find", "find_number", "items", "init", "resp", "proxy", "hint"};
     for (size_t k = 0; k < sizeof calls / sizeof *calls; k++)
@@ -186,6 +203,7 @@ static krb_status told_of(const struct row *row, struct octets *room, struct ans
     int is_resp = !strcmp(row->call, "resp"), places = !strcmp(row->call, "init") || is_resp ? 6 : !strcmp(row->call,
             "find") || !strcmp(row->call, "items") ? 2 : 4;
     if (!strcmp(row->call, "decode")) return decode_call(row, it->told);
+    if (!strcmp(row->call, "page_items")) return listed_call(row, it->told);
     krb_status status = other_call(row, room, &it->size, &to);
     if (!strcmp(row->call, "unwrap") || !strcmp(row->call, "verify_mic"))
         it->told[0] = to.sequence, it->told[1] = !strcmp(row->call, "unwrap") && to.sealed;
@@ -341,10 +359,12 @@ static void try_passwords(void) {
     }
 }
 
-/* A message as `jolmurig show` writes it, in the one form or the other. */
+/* A message as `jolmurig show` writes it, in the one form or the other, and as items. */
 static void try_page(const struct octets *message, int number) {
     struct octets none = {NULL, 0}, keytab = octets_of(KEYTAB, sizeof KEYTAB);
     struct row row = {number % 2 ? "page_text" : "page_json", number % 2, 0, none, keytab, *message};
+    try_call(&row);
+    row.call = "page_items";
     try_call(&row);
     drop(&row.beside);
 }

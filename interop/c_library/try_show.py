@@ -21,6 +21,7 @@ APPLICATIONS = {
     0x6F: "AP-REP", 0x75: "KRB-PRIV", 0x76: "KRB-CRED", 0x79: "EncASRepPart", 0x7A: "EncTGSRepPart", 0x7B: "EncAPRepPart", 0x7C: "EncKrbPrivPart",
     0x7D: "EncKrbCredPart", 0x7E: "KRB-ERROR",
 }
+KERBEROS = bytes.fromhex("2a864886f712010202")  # 1.2.840.113554.1.2.2 (RFC 1964, 1)
 # What pages call an element of these types, by the name of RFC 4556 and RFC 5349 that they share with others.
 HEADINGS = {"DHSubjectPublicKeyInfo": "SubjectPublicKeyInfo", "DHAuthPack": "AuthPack", "ECAuthPack": "AuthPack"}
 
@@ -79,6 +80,7 @@ def try_opened(top):
         hidden = krb.show(octets, kind, keytab)
         expect(all("hidden" in line for line in hidden.split("\n") if line.lstrip().startswith("keyvalue")), "a key is shown")
         expect(json.loads(krb.show(octets, kind, keytab, as_json=True)) is not None, "an opened row has no JSON")
+        try_items(octets, kind, keytab)
         count += 1
     return count
 
@@ -172,6 +174,32 @@ def try_trees(top):
     return rows, parts
 
 
+def try_tokens(top):
+    """AP-REQs of `opened` as tokens of Kerberos (RFC 4121, 4.1), with what their keys open as trees, by keytabs and by keys. How many there are."""
+    count = 0
+    for keys, kind, octets, expected in opened_rows(top):
+        if kind != "message" or octets[:1] != b"\x6e" or len(expected) < 2:
+            continue
+        keytab, token = keytab_of(keys)[0], krb.spnego.make_token(KERBEROS, b"\1\0" + octets)
+        (told,) = json.loads(krb.show(token, "token", keytab, True, True)).values()
+        expect(is_decoded(krb.decode(token, "token", keytab, show_keys=True), told), "an opened token is decoded otherwise")
+        given = [(int(key.split(":")[0]), bytes.fromhex(key.split(":")[1])) for key in keys.split(" ")] if keys != "-" else []
+        if all(etype in range(16, 21) for etype, _ in given):
+            tree = krb.decode(token, "token", keys=given)
+            opened = [name for name in openers(tree) if name.startswith("keys[")]
+            expect(all(re.fullmatch(r"keys\[\d+\]", name) for name in opened), "a key is called otherwise")
+            expect(not any(isinstance(leaf, krb.Secret) for leaf in leaves(tree)), "a secret of a token is handed out")
+        count += 1
+    return count
+
+
+def openers(tree):
+    """What the keys are called that open what stands in a tree."""
+    if isinstance(tree, dict):
+        return [name for key, value in tree.items() for name in ([value] if key == "opened-by" else openers(value))]
+    return [name for one in tree for name in openers(one)] if isinstance(tree, list) else []
+
+
 def try_kinds(top):
     """Octets of kinds that have no row: files, as the table `files` tells them. How many there are."""
     table = [row for row in table_of(top, "files") if row[1] in ("keytab", "ccache")]
@@ -185,6 +213,8 @@ def try_kinds(top):
             count += 1
     expect(outcome(krb.show, b"\x30\0") == Status.NUMBER and outcome(krb.show, b"\x30\0", "no kind") == Status.NUMBER, "octets of no kind are shown")
     expect(outcome(krb.show, b"\x61\0", None, b"\5\1") == Status.KEYTAB and outcome(krb.show, b"\x61") == Status.TRUNCATED, "no refusal")
+    expect(outcome(krb.page_items, b"\x61\0", None, b"\5\1") == Status.KEYTAB and outcome(krb.page_items, b"\x30\0", "") == Status.NUMBER, "items of octets of no kind")
+    expect(outcome(krb.page_items, b"\x61") == Status.TRUNCATED and outcome(krb.page_items, b"\x30\0") == Status.NUMBER, "items of refused octets")
     expect(outcome(krb.show, b"\5\3", "ccache") == Status.TRUNCATED or outcome(krb.show, b"\5\3", "ccache") == Status.INVALID, "a cut cache is shown")
     return count
 
@@ -211,8 +241,57 @@ def bare(told):
     return [bare(inner) for inner in told] if isinstance(told, list) else told
 
 
+def json_of(item):
+    """The value of an item of a page, as JSON has it."""
+    form, value = item.form, item.value
+    if form == krb.PageForm.NUMBER:
+        number = json.loads(value)
+        return number if item.registry is None else {"number": number, "name": item.names[0] if item.names else None}
+    if form == krb.PageForm.FLAGS:
+        return value.decode() if item.registry is None else {"flags": value.decode(), "names": list(item.names)}
+    if form == krb.PageForm.IDENTIFIER:
+        return {"identifier": value.decode(), "name": item.names[0] if item.names else None}
+    if form in (krb.PageForm.OCTETS, krb.PageForm.SECRET, krb.PageForm.CIPHER):
+        return value.hex()
+    try:
+        return value.decode("utf-8")
+    except UnicodeDecodeError:
+        return value.decode("latin-1")
+
+
+def json_of_items(items):
+    """JSON with places of the items of a page."""
+    around = whole = {}
+    outer, ends = [], {krb.PageForm.STRUCT_END: krb.PageForm.STRUCT, krb.PageForm.LIST_END: krb.PageForm.LIST}
+    for item in items:
+        if item.form in ends:
+            around, form = outer.pop()
+            expect(form == ends[item.form], "another end")
+            continue
+        value = {} if item.form == krb.PageForm.STRUCT else [] if item.form == krb.PageForm.LIST else json_of(item)
+        shown = value if item.place is None else {"offset": item.place.start, "size": item.place.stop - item.place.start, "value": value}
+        if item.is_item:
+            around.append(shown)
+        else:
+            around[item.name] = shown
+        if item.form in ends.values():
+            outer.append((around, item.form))
+            around = value
+    return whole
+
+
+def try_items(octets, kind, keytab):
+    """`krb.page_items` has what `krb.show` writes as JSON with places, keys shown and hidden, and numbers as their digits."""
+    for shows in (True, False):
+        items = krb.page_items(octets, kind, keytab, shows)
+        expect(json_of_items(items) == json.loads(krb.show(octets, kind, keytab, True, shows, places=True)), "%s has other items" % kind)
+        expect(all(item.number is None or (item.form == krb.PageForm.NUMBER and int(item.value) == item.number) for item in items), "%s has another number" % kind)
+        expect(shows or not any(item.form == krb.PageForm.SECRET for item in items), "%s has a secret" % kind)
+        expect(all(item.names == () or item.form != krb.PageForm.NUMBER or item.names == (krb.name_of(item.registry, item.number),) for item in items), "%s has another name" % kind)
+
+
 def try_places(top):
-    """`krb.show` with places, of all rows and files: what it tells without, and within the octets. How many places of what is no DER."""
+    """`krb.show` with places, of all rows and files: what it tells without, and within the octets; `krb.page_items` the same. How many places of what is no DER."""
     count = 0
     files = [(kind, bytes.fromhex(digits)) for _, kind, digits in (row[:3] for row in table_of(top, "files") if row[1] in ("keytab", "ccache"))]
     for name, octets in [(name, octets) for _, name, octets, _ in rows(top)] + files:
@@ -229,6 +308,7 @@ def try_places(top):
         expect(re.sub(r"(?m) @\d+\+\d+$", "", placed) == shown, "%s is another text with places" % name)
         expect(bare(json.loads(told)) == json.loads(krb.show(octets, kind, b"", True, True)), "%s is another JSON with places" % name)
         expect(all(offset + size <= len(octets) for offset, size in found), "%s has a place past its end" % name)
+        try_items(octets, kind, b"")
         if kind in ("PAC", "NEGOEX", "keytab", "ccache", "token", "password-frame"):
             count += len(found)
             (value,) = json.loads(krb.show(octets, kind, b"", True, True)).values()
@@ -246,7 +326,7 @@ def is_decoded(value, told):
     if isinstance(value, frozenset):
         return value == frozenset(told["names"])
     if isinstance(value, bytes):
-        return value.hex() == told and value != b""
+        return value.hex() == told
     if isinstance(value, datetime.datetime):
         return value.strftime("%Y-%m-%dT%H:%M:%SZ").rjust(20, "0") == told
     if isinstance(value, int) and isinstance(told, str):
@@ -425,6 +505,9 @@ def main():
     places = try_places(sys.argv[1])
     expect(places > 1500, "only %d places of what is no DER were told" % places)
     print("places: %d of what is no DER" % places)
+    tokens = try_tokens(sys.argv[1])
+    expect(tokens > 5, "only %d opened tokens were tried" % tokens)
+    print("opened tokens: %d" % tokens)
     trees, parts = try_trees(sys.argv[1])
     expect(trees > 100 and parts > 80, "only %d trees with %d parts were tried" % (trees, parts))
     print("trees: %d rows with %d parts" % (trees, parts))

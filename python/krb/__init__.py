@@ -3,7 +3,7 @@
 - `krb.decode`, `krb.find`, `krb.find_number`, `krb.items`: octets of DER by the types of their standards: as a tree, a field by its path, all elements. The type may be left out where
   `krb.type_of` tells it by the first octet. `krb.decode` reads PACs, tokens, keytabs and caches, too, where they are named. With a keytab, or with keys, the first three have what these open; `krb.parts` has it alone. `krb.name_of`: what the standards call a
   number or a flag.
-- `krb.text`, `krb.json`: the same for people, keys hidden. `krb.show`: what `jolmurig show` writes of octets of any kind, with what a keytab opens.
+- `krb.text`, `krb.json`: the same for people, keys hidden. `krb.show`: what `jolmurig show` writes of octets of any kind, with what a keytab opens; `krb.page_items`: that as items with places.
 - `krb.crypto`: encryption, checksums, keys of passwords, sizes (RFC 3961, RFC 3962, RFC 8009).
 - `krb.Acceptor`: whether a service lets in the client that sent a token; `krb.Context` with it, `krb.NotAccepted`, replay caches (RFC 4120, 3.2.3; RFC 4121).
 - `krb.Negotiator`: which mechanism two sides use (SPNEGO, RFC 4178), over mechanisms that it is lent: `krb.KerberosMechanism`, or ones of your own (`krb.Mechanism`);
@@ -26,6 +26,7 @@ The shared object is what the variable KRBC_LIBRARY names, or `libkrbc.so.1` bes
 
 from krb._items import Form, Item, Leaf, Node, Registry, Role, Secret, find_item, first_error, items, name_of, type_of
 from krb._library import Refused, Status
+from krb._page_items import PageForm, PageItem, page_items
 from krb._parts import Hidden, Outcome, Part, decode, find, find_number, parts
 from krb._shown import json, show, text
 from krb import crypto, frames, gss, messages, pac, proxy, spnego
@@ -37,7 +38,7 @@ from krb.negotiate import KerberosMechanism, Mechanism, NegotiationRole, Negotia
 from krb import client
 from krb.client import ClientRule, Credentials, Initiator, InitiatorContext, KdcUnreachable, KerberosInitiator, NotGranted, kinit
 
-__all__ = ["Form", "Hidden", "Item", "Leaf", "Node", "Outcome", "Part", "Refused", "Registry", "Role", "Secret", "Status", "decode", "find", "find_item", "find_number", "first_error", "items", "json", "name_of", "parts", "show", "text", "type_of", "crypto", "frames", "gss", "messages", "pac", "proxy", "spnego"]
+__all__ = ["Form", "Hidden", "Item", "Leaf", "Node", "Outcome", "PageForm", "PageItem", "Part", "Refused", "Registry", "Role", "Secret", "Status", "decode", "find", "find_item", "find_number", "first_error", "items", "json", "name_of", "page_items", "parts", "show", "text", "type_of", "crypto", "frames", "gss", "messages", "pac", "proxy", "spnego"]
 __all__ += ["Acceptor", "AnyReplayCache", "ChannelBindings", "Context", "ContextFlag", "EncryptionKey", "FileReplayCache", "NotAccepted", "Order"]
 __all__ += ["OutOfOrder", "ReplayCache", "Rule", "accept"]
 __all__ += ["KerberosMechanism", "Mechanism", "NegotiationRole", "NegotiationRule", "NegotiationState", "Negotiator", "NotNegotiated", "negotiate"]

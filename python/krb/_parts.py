@@ -6,9 +6,9 @@ import struct
 from typing import Any, Dict, Iterable, Iterator, List, NamedTuple, Optional, Tuple
 
 from krb import _items
-from krb._formats import FORMATS, tree
 from krb._items import Form, Item, Leaf, Node, Registry, Secret, _all_names, _flags, _FRONT, _item, _named, _OCTETS, _Record, _RECORD, _VALUES
 from krb._library import Octets, Refused, Status, _library, plain
+from krb._page_items import FORMATS, opener, tree
 
 __all__ = ["Hidden", "Outcome", "Part", "decode", "find", "find_number", "parts"]
 
@@ -128,8 +128,7 @@ class _Decoded(NamedTuple):
         """What the key is called that decrypts it."""
         if part.outcome not in (Outcome.DECRYPTED, Outcome.NO_ENCODING):
             return None
-        name = self.octets[part.opener_offset : part.opener_offset + part.opener_size].decode("utf-8", "backslashreplace")
-        return name[: -len("@ kvno 1")] if name.startswith("keys[") and name.endswith("]@ kvno 1") else name
+        return opener(self.octets[part.opener_offset : part.opener_offset + part.opener_size].decode("utf-8", "backslashreplace"))
 
 
 def _decoded(octets: bytes, as_type: Optional[str], keytab: bytes) -> _Decoded:
@@ -287,12 +286,13 @@ def decode(octets: Octets, as_type: Optional[str] = None, keytab: Optional[Octet
     library is called once, and once more where a keytab's names are long.
 
     Octets of a format that is no DER are decoded too if `as_type` names it, as `krb.show` does: "token", "PAC", "NEGOEX", "password-frame", "keytab" or "ccache". Flags without
-    names are an int there, and a text or octets without an octet of their own an empty str. Keys open nothing in them: find the message, and decode that.
+    names are an int there, and bits that fill no whole octet a text. Keys open what is encrypted in them, too, and of a PAC in a ticket its buffers are told.
+    `krb.page_items` has their values with the place of each.
 
     Refused: as `parts`; of a format as `krb.show`."""
     octets = plain(octets)
     if as_type is not None and as_type.lower() in FORMATS:
-        return tree(octets, as_type, show_keys, _HIDDEN)
+        return tree(octets, as_type, _keytab_of(keytab, keys), show_keys, _HIDDEN)
     decoded = _decoded(octets, as_type, _keytab_of(keytab, keys))
     records = decoded.records
     if decoded.parts:

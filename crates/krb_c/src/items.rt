@@ -5,10 +5,14 @@ ghost use Rattle.krb_c_calls.specs.Handing.{IsAnswered};
 ghost use Rattle.krb_c_calls.specs.Items.{IsItemAnswer, IsItemNumber, IsItemsAnswer, IsNameOf, IsNumberName, RefusesName, RefusesNumberName};
 ghost use Rattle.krb_c_calls.specs.Shown.{IsShown, RefusesShowing, secrets_of};
 ghost use Rattle.krb_c_pages.specs.Decoded.{IsDecodedAnswer, arrays};
+ghost use Rattle.krb_c_pages.specs.Listed.{IsListedAnswer, room};
 ghost use Rattle.krb_c_pages.specs.Pages.{IsPageText, RefusesPage, style_of};
 
 use krb_c_calls::items::ItemRecord;
-use krb_c_pages::{DecodedCounts, Opened, Opens, PartRecord, Style, decode, show_page};
+use krb_c_pages::{
+    DecodedCounts, ListedCounts, Opened, Opens, PageItemRecord, PartRecord, Style, decode,
+    list_page, show_page,
+};
 use krb_show_any::{Everything, Kind, PageError, Pages};
 use std::alloc::Global;
 
@@ -155,4 +159,22 @@ pub extern "C" fn krb_show_placed_page(
         has_places: true,
     };
     show_page::<Everything, Opened>(alloc, name, octets, keytab, style, shows_keys, out, size)
+}
+
+/// `krb_page_items` of `krb.h`: what `krb_show_placed_page` writes, as records.
+#[unsafe(no_mangle)]
+pub extern "C" fn krb_page_items(
+    alloc: Global,
+    name: &[u8],
+    octets: &[u8],
+    keytab: &[u8],
+    shows_keys: bool,
+    items: &mut [PageItemRecord],
+    out: &mut [u8],
+    counts: &mut ListedCounts,
+) -> u32
+    ensures { IsListedAnswer ⟦<Everything as Pages<Kind, PageError>>⟧.tells ⟦<Opened as Opens>⟧.opens shows_keys name.now octets.now keytab.now
+        (room items.old out.old) (room items.new out.new) counts.new result }
+{
+    list_page::<Everything, Opened>(alloc, name, octets, keytab, shows_keys, items, out, counts)
 }

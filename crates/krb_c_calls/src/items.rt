@@ -9,6 +9,6 @@ mod walks;
 
 pub use calls::{find, find_number, item_name, items};
 pub use names::number_name;
-pub use record::{ItemRecord, record_of};
+pub use record::{ItemRecord, record_of, registry_number, role_number};
 pub use shown::show;
 pub use walks::{WalkRefusal, walked};

@@ -1,5 +1,6 @@
 pub mod Refusals
 pub mod Pages
 pub mod Found
+pub mod Listed
 pub mod Decoding
 pub mod Decoded

@@ -73,34 +73,39 @@ abbrev pub is_placed_for : Bool → Kind → List ℕ → List Token → List To
 is_placed_for true kind octets page made = IsPlacedPage kind octets page made
 is_placed_for false kind octets page made = made ≡ page
 
--- this is written of a page: with what the keys open in it, of which a thousand more may be found, and then with what the buffers of PACs hold
-pub record IsTextOf (opens : ℕ → List NamedKey → List Token → List Token → Type 0) (style : Style) (shows_keys : Bool) (keys : List NamedKey)
-    (page : List Token) (text : List ℕ) : Type 0 where
+-- this is handed out of a page: it with what the keys open in it, of which a thousand more may be found, and then with what the buffers of PACs hold
+pub record IsShownPage (opens : ℕ → List NamedKey → List Token → List Token → Type 0) (shows_keys : Bool) (keys : List NamedKey)
+    (page made : List Token) : Type 0 where
   pub opened : List Token
   pub is_opened : opens (length keys + 1000) keys page opened
   pub detailed : List Token
   pub is_detailed : IsWithContents opened detailed
-  pub is_text : text ≡ written_in style (shown_keys shows_keys detailed)
+  pub is_made : made ≡ shown_keys shows_keys detailed
 
--- this is written of the page of octets of a kind
-pub record IsTextOfKind (opens : ℕ → List NamedKey → List Token → List Token → Type 0) (style : Style) (shows_keys : Bool) (keys : List NamedKey)
-    (kind : Kind) (octets : List ℕ) (page : List Token) (text : List ℕ) : Type 0 where
+-- this is handed out of the page of octets of a kind
+pub record IsPageOfKind (opens : ℕ → List NamedKey → List Token → List Token → Type 0) (has_places shows_keys : Bool) (keys : List NamedKey)
+    (kind : Kind) (octets : List ℕ) (page made : List Token) : Type 0 where
   pub placed : List Token
-  pub is_placed : is_placed_for style.has_places kind octets page placed
-  pub is_written : IsTextOf opens style shows_keys keys placed text
+  pub is_placed : is_placed_for has_places kind octets page placed
+  pub is_shown : IsShownPage opens shows_keys keys placed made
 
 -- what octets of a kind are told as: the page that they have, or the error
 module _ (tells : Kind → List ℕ → Result (Vec Token Global) PageError → Type 0) where
-  -- octets of a kind that have a page, of which this is written
-  pub record IsPageText (opens : ℕ → List NamedKey → List Token → List Token → Type 0) (style : Style) (shows_keys : Bool)
-      (name octets keytab text : List ℕ) : Type 0 where
+  -- octets of a kind that have a page, of which this is handed out
+  pub record IsPage (opens : ℕ → List NamedKey → List Token → List Token → Type 0) (has_places shows_keys : Bool)
+      (name octets keytab : List ℕ) (made : List Token) : Type 0 where
     pub kind : Kind
     pub is_kind : IsKind name octets kind
     pub keys : List NamedKey
     pub are_keys : AreKeysOf keytab keys
     pub page : Vec Token Global
     pub told : tells kind octets (Ok page)
-    pub written : IsTextOfKind opens style shows_keys keys kind octets page.items text
+    pub is_made : IsPageOfKind opens has_places shows_keys keys kind octets page.items made
+
+  -- and it is written so
+  abbrev pub IsPageText : (ℕ → List NamedKey → List Token → List Token → Type 0) → Style → Bool → List ℕ → List ℕ → List ℕ → List ℕ → Type 0
+  IsPageText opens style shows_keys name octets keytab text =
+      (made : List Token) × IsPage opens style.has_places shows_keys name octets keytab made × (text ≡ written_in style made)
 
   -- they have none, for this reason
   pub record HasNoPage (name octets keytab : List ℕ) (status : ℕ) : Type 0 where

@@ -1,4 +1,4 @@
-//! Pages as JSON with places.
+//! Pages as JSON (RFC 8259) with places.
 
 ghost use Rattle.std.specs.Prelude.{◌≡◌, ◌++◌, ◌∷◌, [], length, IfOk, OnOk};
 ghost use Rattle.std.specs.Option.{option_copied};
@@ -55,7 +55,8 @@ fn are_paired(alloc: Global, page: &[Token]) -> Result<bool, AllocError>
 }
 
 /// A page as JSON with places, as `json_of_page_with_places` writes it, if each struct and each list that begins with a place ends with
-/// one, and no other; else without, as `json_of_page` writes it, so that it is JSON in any case. No page of this library is so.
+/// one, and no other; else without, as `json_of_page` writes it: an object of a place that begins is one that ends (RFC 8259, 4). That no page of
+/// this library is written without is tested, and not proved.
 pub fn json_with_places(alloc: Global, page: &[Token]) -> Result<String, AllocError>
     ensures json { IfOk result (λ json. string_bytes json ≡ paired_line page.now ++ 10 ∷ []) }
     ensures printable { OnOk result (ArePrintable (paired_line page.now)) }

@@ -98,7 +98,8 @@ fn kind_number(form: Form) -> u32
     }
 }
 
-fn registry_number(registry: Option<Kind>) -> i32
+/// The number of the variant of `Kind`, from 0 on, whose numbers have names; -1 of none.
+pub fn registry_number(registry: Option<Kind>) -> i32
     ensures { result ≡ registry_number registry }
 {
     let Some(kind) = registry else {
@@ -127,7 +128,8 @@ fn registry_number(registry: Option<Kind>) -> i32
     }
 }
 
-fn role_number(role: Role) -> u32
+/// The number of the variant of `Role`, from 0 on.
+pub fn role_number(role: Role) -> u32
     ensures { result ≡ role_number role }
 {
     match role {

@@ -7,6 +7,7 @@ ghost use Rattle.krb_c_pages.specs.Decoded.{ArePut, Fits, IsDecoded, IsDecodedAn
 use crate::decoded::decoding::{Decoding, decoding_of};
 use crate::decoded::record::{DecodedCounts, PartRecord};
 use crate::keys::keys_of;
+use crate::put::fill;
 use krb_c_calls::items::{ItemRecord, WalkRefusal, walked};
 use krb_c_calls::{CallError, DONE, ROOM};
 use krb_decrypt::MOST_FOUND;
@@ -50,14 +51,6 @@ fn counts_of(decoding: &Decoding) -> DecodedCounts
         octets: decoding.octets().len(),
         offset: 0,
     }
-}
-
-/// Puts these to the front of others, which are not fewer.
-fn fill<T: Copy>(those: &[T], others: &mut [T])
-    requires { length those.now ≤ length others.old }
-    ensures { others.new ≡ those.now ++ drop (length those.now) others.old }
-{
-    others[..those.len()].copy_from_slice(those);
 }
 
 /// Puts what is handed out to the front of the caller's arrays, if there is room in all of them.

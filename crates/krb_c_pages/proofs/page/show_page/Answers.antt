@@ -4,6 +4,6 @@ use Rattle.krb_c_pages.proofs.page.show_page.Goals as goal
 
 pub returns : goal.returns
 returns g c =
-    answered c.shown.result (λ made. made.items)
+    answered c.text_shown.result (λ made. made.items)
     (IsPageText g.S.Pages.tells g.O.Opens.opens c.args.style c.args.shows_keys c.args.name.now c.args.octets.now c.args.keytab.now)
-    (RefusesPage g.S.Pages.tells c.args.name.now c.args.octets.now c.args.keytab.now) _ _ _ _ c.shown.ensures c.hand_out.ensures
+    (RefusesPage g.S.Pages.tells c.args.name.now c.args.octets.now c.args.keytab.now) _ _ _ _ c.text_shown.ensures c.hand_out.ensures
