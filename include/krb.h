@@ -775,8 +775,8 @@ krb_status krb_proxy_request(const uint8_t *octets, size_t octets_size, krb_prox
    which begins six octets behind message_offset. The places of the items are in the octets of this message, from its first on. It has at most
    octets_size items.
    KRB_DONE: *posted tells of the request, and the items are the first *count of `items`, and those behind are as they were. Those of krb_proxy_request: all in
-   *posted is 0, *count is 0, and `items` is as it was. Then those of krb_items of the message, where *posted tells of the request, and `items` is as it
-   was: KRB_ROOM, where there are *count, more than `room`; else *count is 0: KRB_MEMORY, or why the octets have no items. */
+   *posted is 0, *count is 0, and `items` is as it was. Then, where *posted tells of the request, and `items` is as it was: KRB_ROOM, where there are *count,
+   more than `room`; KRB_MEMORY, and *count is 0. Each request that krb_proxy_request takes has items. */
 krb_status krb_proxy_request_items(const uint8_t *octets, size_t octets_size, krb_proxy_posted *posted, krb_item *items, size_t room, size_t *count);
 
 /* The same, but of the message its first octets alone are looked at: 6a or 6c, or the length and the version of a frame. It lets messages through that are no

@@ -1,1 +1,4 @@
 mod RequestItems
+mod EncodingItems
+mod RequestEncodings
+mod RequestStatuses

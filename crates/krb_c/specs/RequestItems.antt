@@ -1,5 +1,5 @@
 -- What is told of the octets that a client posts to a proxy (MS-KKDCP, 2.2.2), with the items of the message that they hold.
-use Rattle.std.specs.Prelude.{◌≡◌, ◌⊎◌, ℕ, List, codes}
+use Rattle.std.specs.Prelude.{◌≡◌, ◌⊎◌, ℕ, ◌≤◌, List, codes}
 use Rattle.krb_der_core.specs.declared.der.DerEncode.{Ghosts as EncodingOf}
 use Rattle.krb_messages.specs.declared.messages.proxy.KdcProxyMessage.{KdcProxyMessage}
 use Rattle.krb_kdc_proxy.specs.declared.asked.Service.{Service}
@@ -26,13 +26,14 @@ IsItemized service.Kdc datagram type_name octets = IsKdcType datagram type_name 
 IsItemized service.PasswordChange datagram type_name octets =
     (type_name ≡ codes "AP-REQ") × ((second : List ℕ) × IsFrame direction.Request datagram octets second)
 
--- this is answered of the items of this request
+-- This is answered of the items of this request: they are told (0), they do not fit (1), or memory was wanting (2); no request is without items.
 pub record AreItemsTold (r : ProxyRequest) (before after : List ItemRecord) (count status : ℕ) : Type 0 where
   pub type_name : List ℕ
   pub message : List ℕ
   pub itemized : IsItemized r.service r.datagram.now type_name message
   pub offset : ℕ
   pub answer : IsItemsAnswer type_name message before after count offset status
+  pub has_items : status ≤ 2
 
 -- The octets are a request, of which this is told, and the answer is that of its items; or they are refused, nothing is told, and the items are as they were.
 abbrev pub IsRequestItemsTold : EncodingOf KdcProxyMessage → RequestTypes → List ℕ → PostedRecord → List ItemRecord → List ItemRecord → ℕ → ℕ

@@ -11,6 +11,7 @@ use krb_c_calls::items::ItemRecord;
 use krb_c_calls::proxies::{PostedRecord, proxy_request};
 use krb_der::DerEncode;
 use krb_messages::messages::{ApReq, AsReq, KdcProxyMessage, KrbPriv, TgsReq};
+use krb_show_row_laws::laws::rows_of_messages;
 use std::alloc::Global;
 
 /// The first octet of an AS-REQ: application 10 (X.690, 8.1.2).
@@ -55,7 +56,8 @@ fn message_at<'a>(octets: &'a [u8], posted: &PostedRecord) -> &'a [u8]
 /// from the first octet of this message.
 ///
 /// The status of `proxy_request` where it refuses: then nothing is told, `count` is 0, and `items`
-/// is as it was. Else the status of `items`, and the request is told of in any case.
+/// is as it was. Else the request is told of, and the status is 0, or 1 where the items do not fit,
+/// or 2 where an allocation failed.
 pub(crate) fn proxy_request_items(
     alloc: Global,
     octets: &[u8],
@@ -73,6 +75,7 @@ pub(crate) fn proxy_request_items(
         return status;
     }
     let message = message_at(octets, posted);
+    rows_of_messages();
     let mut offset = 0;
     if posted.service == KDC {
         krb_c_calls::items::items(alloc, kdc_type(message), message, items, count, &mut offset)

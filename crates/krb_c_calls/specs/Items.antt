@@ -24,7 +24,7 @@ use Rattle.krb_schema.specs.Names.{number_from}
 use Rattle.krb_schema.specs.NameTable.{name_table}
 use Rattle.krb_schema.specs.Paths.{IsFound, RefusesPath}
 use Rattle.krb_schema.specs.Rules.{content_of}
-use Rattle.krb_schema.specs.Shapes.{IsElement}
+use Rattle.krb_schema.specs.Shapes.{IsElement, IsNone}
 use Rattle.krb_schema.specs.Types.{types}
 use Rattle.krb_schema.specs.Walks.{Walked}
 use Rattle.krb_c_calls.specs.Statuses.{der_refusal, refusal_status}
@@ -186,10 +186,11 @@ fault_offset faults.NoRow = 0
 fault_offset (faults.TooDeep offset) = offset
 fault_offset (faults.Refused why offset) = offset
 
--- the first fault of octets as an element of the type of this name, or that memory was wanting
+-- the first fault of octets as an element of the type of this name, which they are then not, or that memory was wanting
 abbrev pub IsFaultOf : List ℕ → List ℕ → Fault → Type 0
 IsFaultOf type_name octets fault = (schema : Schema) × (row : ℕ) × (name : Name) × IsType type_name schema row name
     × OrMemory (IsWholeFault (IsElement 64 schema row name []) (IsFault 64 schema row name []) 0 octets) fault
+    × ((fault ≡ faults.OutOfMemory → ⊥) → IsNone (IsElement 64 schema row name []) octets)
 
 -- Why there are no items, and where: no type has the name (3); else the first fault.
 abbrev pub RefusesItems : List ℕ → List ℕ → ℕ → ℕ → Type 0
