@@ -313,7 +313,8 @@ def try_places(top):
             count += len(found)
             (value,) = json.loads(krb.show(octets, kind, b"", True, True)).values()
             expect(is_decoded(krb.decode(octets, kind, show_keys=True), value), "%s is decoded otherwise" % name)
-            expect("hidden" not in str(krb.decode(octets, kind)) or "hidden" in krb.show(octets, kind), "%s hides more" % name)
+            hides = any(isinstance(leaf, krb.Hidden) for leaf in leaves(krb.decode(octets, kind)))
+            expect(hides == ("hidden" in krb.show(octets, kind)), "%s hides other values" % name)
     return count
 
 

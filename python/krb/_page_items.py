@@ -56,7 +56,7 @@ class PageItem(NamedTuple):
 
     def __repr__(self) -> str:
         value = "%d octets" % len(self.value) if self.form in (PageForm.OCTETS, PageForm.SECRET, PageForm.CIPHER) else repr(self.value)
-        return "PageItem(%s, %r, %s, names=%r, place=%r)" % (self.form, self.name, value, self.names, self.place)
+        return "PageItem(%s, %r, %s, names=%r, place=%r)" % (self.form.name, self.name, value, self.names, self.place)
 
 
 class _Counts(ctypes.Structure):
