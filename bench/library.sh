@@ -18,32 +18,53 @@ lines_of() {
         }' "$1"
 }
 
-# Copies those crates of a repository, with what earlier checks kept, and builds "$2/library.a" of them. LIBRARY names one that is built.
+# Ends where a command failed, with what it printed.
+fail() {
+    cat "$scratch/log" >&2
+    exit 1
+}
+
+# Proves those crates of a repository in "$2", but for what the kit kept, and builds "$2/library.a" over them. LIBRARY names one that is built.
 build_library() {
-    mkdir -p "$2/crates/bench/src"
+    repository=$1 made=$2 has_tables=
+    mkdir -p "$made/.git" "$made/crates"
     if [ -n "${LIBRARY:-}" ]; then
-        cp "$LIBRARY" "$2/library.a"
+        cp "$LIBRARY" "$made/library.a"
         return
     fi
-    if [ $source = lib.rt.in ] && [ -e "$1/crates/krb_crypto/src/prepared.rt" ]; then
-        wanted="$libraries krb_crypto_aes_tables"
-    else
-        wanted=$libraries
+    wanted=$libraries
+    if [ $source = lib.rt.in ] && [ -e "$repository/crates/krb_crypto/src/prepared.rt" ]; then
+        wanted="$libraries krb_crypto_aes_tables" has_tables=1
     fi
-    lines_of "$1/crates.txt" >"$2/crates.txt"
-    sed 's/:.*//' "$2/crates.txt" | while read -r crate; do
-        cp -Rp "$1/crates/$crate" "$2/crates/"
+    cp "$repository/HANDLES" "$made"
+    lines_of "$repository/crates.txt" >"$made/crates.txt"
+    set --
+    for crate in $(sed 's/:.*//' "$made/crates.txt"); do
+        mkdir "$made/crates/$crate"
+        for part in src specs proofs; do
+            if [ -e "$repository/crates/$crate/$part" ]; then
+                cp -Rp "$repository/crates/$crate/$part" "$made/crates/$crate/"
+            fi
+        done
+        set -- "$@" -L "dependency=$made/crates/$crate/out/rlib"
     done
-    echo "bench staticlib: $wanted" >>"$2/crates.txt"
-    cp "$here/$source" "$2/crates/bench/src/lib.rt"
-    if [ "$wanted" != "$libraries" ]; then
-        cp "$here/prepared.rt.in" "$2/crates/bench/src/prepared.rt"
-        echo "mod prepared;" >>"$2/crates/bench/src/lib.rt"
+    echo "bench: proving what is not proved yet of $repository" >&2
+    (cd "$made" && rt ci) >"$scratch/log" 2>&1 || fail
+    for crate in std $wanted; do
+        if [ -d "$made/crates/$crate" ]; then
+            set -- "$@" --extern "$crate=$made/crates/$crate/out/rlib/$crate.rlib"
+        else
+            set -- "$@" --extern "$crate=$kit/rlibs/$crate.rlib"
+        fi
+    done
+    mkdir -p "$made/crates/bench/src"
+    cp "$here/$source" "$made/crates/bench/src/lib.rt"
+    if [ -n "$has_tables" ]; then
+        cp "$here/prepared.rt.in" "$made/crates/bench/src/prepared.rt"
+        echo "mod prepared;" >>"$made/crates/bench/src/lib.rt"
     fi
-    echo "bench: building $1" >&2
-    if ! (cd "$2/crates/bench" && rt lib) >"$scratch/log" 2>&1; then
-        cat "$scratch/log" >&2
-        exit 1
-    fi
-    mv "$2/crates/bench/out/libbench.a" "$2/library.a"
+    echo "bench: building the library" >&2
+    "$kit/bin/rattle" build --crate-name bench --crate-type staticlib --links bench= "$@" -L "dependency=$kit/rlibs" --jobs "$(nproc)" \
+        --toolchain "$kit/toolchain" --antt-project "$kit/rattle/logic/antt-project.json" --logic-built "$kit/logic_built" \
+        -o "$made/library.a" "$made/crates/bench/src/lib.rt" >"$scratch/log" 2>&1 || fail
 }
