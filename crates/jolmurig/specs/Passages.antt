@@ -5,7 +5,7 @@ use Rattle.krb_kdc_proxy.specs.declared.error.ProxyError.TheVariants as errors
 use Rattle.krb_messages.specs.Rejected.{der_error}
 use Rattle.krb_show_any.specs.declared.error.PageError.TheVariants as page
 use Rattle.krb_show_any.specs.declared.kind.Kind.TheVariants as kind
-use Rattle.krb_show_messages.specs.declared.kinds.DataKind.TheVariants as data_kind
+use Rattle.krb_show_pages.specs.declared.kinds.DataKind.TheVariants as data_kind
 use Rattle.jolmurig.specs.Calls.{Blocks}
 use Rattle.jolmurig.specs.Failures.{kind_of_message}
 use Rattle.jolmurig.specs.declared.command.Direction.{Direction}

@@ -132,7 +132,7 @@ pub trait Calls {
 pub struct Library;
 
 impl Calls for Library {
-    ghost opens = { λ most keys. is_decrypted_page ⟦<KerberosFormats as ShowsFormats>⟧.tells ⟦<Checksums as TellsBehind>⟧.tells most keys keys };
+    ghost opens = { λ most keys. is_decrypted_page ⟦<KerberosFormats as ShowsFormats>⟧.tells ⟦<KerberosFormats as ShowsFormats>⟧.places ⟦<Checksums as TellsBehind>⟧.tells most keys keys };
 
     ghost places = { IsPlaceOf };
 

@@ -21,7 +21,7 @@ use krb_messages::messages::{
 };
 use krb_show::{Style, push_escaped};
 use krb_show_any::{Kind, PageError};
-use krb_show_messages::DataKind;
+use krb_show_pages::DataKind;
 use std::alloc::{AllocError, Global};
 
 /// Octets that are passed on, and the line that says for whom, where they are a request.

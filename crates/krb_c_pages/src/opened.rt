@@ -26,7 +26,7 @@ pub trait Opens {
 pub struct Opened;
 
 impl Opens for Opened {
-    ghost opens = { λ most keys. is_decrypted_page ⟦<KerberosFormats as ShowsFormats>⟧.tells ⟦<Checksums as TellsBehind>⟧.tells most keys keys };
+    ghost opens = { λ most keys. is_decrypted_page ⟦<KerberosFormats as ShowsFormats>⟧.tells ⟦<KerberosFormats as ShowsFormats>⟧.places ⟦<Checksums as TellsBehind>⟧.tells most keys keys };
 
     fn opened(alloc: Global, most: usize, keys: Vec<Key>, page: Page) -> Result<Page, AllocError> {
         page_with_checked(alloc, most, keys, page)

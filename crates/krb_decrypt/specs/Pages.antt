@@ -8,8 +8,8 @@ use Rattle.krb_decrypt.specs.Told.{told_of}
 use Rattle.krb_decrypt.specs.declared.outcome.Outcome.{Outcome}
 use Rattle.krb_decrypt.specs.declared.preceding.Preceding.{Preceding}
 use Rattle.krb_decrypt.specs.declared.usage.Usage.{Usage}
-use Rattle.krb_schema.specs.declared.shape.Role.{Role}
-use Rattle.krb_show.specs.Tokens.{Label, Token}
+use Rattle.krb_show.specs.PlacedItems.{Placing, Telling}
+use Rattle.krb_show.specs.Tokens.{Token}
 use Rattle.krb_show.specs.Walk.{walk_of}
 use Rattle.krb_show.specs.declared.token.Form.{Form}
 use Rattle.krb_show.specs.declared.token.Form.TheVariants as form
@@ -34,13 +34,13 @@ cipher_of (Some t) = by_form t.form
 abbrev pub cipher_at : List Token → Option (List ℕ)
 cipher_at page = cipher_of (slice_get page (length page - 1))
 
-module _ (tells : Role → List ℕ → Label → List ℕ → List Token → List Token → Type 0) where
+module _ (tells : Telling) (places : Placing) where
   -- what is said of a ciphertext that stands so, and the keys that are learned from it
   abbrev pub told_at : (NamedKey → Usage → List ℕ → List Token → List Token → Type 0) → ℕ → Preceding → Option (List ℕ)
       → List NamedKey → List Token → List NamedKey → List Token → Type 0
   told_at told_behind most p None keys old next new = (next ≡ keys) × (new ≡ old)
   told_at told_behind most p (Some cipher) keys old next new =
-      (o : Outcome) × IsOutcome p.role p.etype cipher keys o × told_of tells told_behind most o keys old next new
+      (o : Outcome) × IsOutcome p.role p.etype cipher keys o × told_of tells places told_behind most o keys old next new
 
   -- what is inserted before a token: what is said of the ciphertext that the page ends with
   pub record IsInsertedBefore {B : Type 0} (tells_behind : B → NamedKey → Usage → List ℕ → List Token → List Token → Type 0)

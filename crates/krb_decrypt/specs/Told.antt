@@ -14,7 +14,7 @@ use Rattle.krb_schema.specs.declared.shape.Role.{Role}
 use Rattle.krb_show.specs.Items.{start as first_stand}
 use Rattle.krb_show.specs.Leaves.{number_of, text_of, unsigned_of}
 use Rattle.krb_show.specs.Pages.{◌then◌}
-use Rattle.krb_show.specs.PlacedItems.{shown_with_places}
+use Rattle.krb_show.specs.PlacedItems.{Placing, Telling, shown_with_places}
 use Rattle.krb_show.specs.Tokens.{Label, Token, plain}
 use Rattle.krb_show.specs.declared.rows.stand.Secrets.TheVariants as secrets
 
@@ -51,33 +51,33 @@ left_out_of (suc n) old new = unsigned_of (plain (codes "keys-not-tried")) (suc 
 -- ---- what is said
 
 -- the items of a part with their places in its octets, as formats that are no DER are told
-abbrev pub part_of : (Role → List ℕ → Label → List ℕ → List Token → List Token → Type 0) → Part → List Token → List Token → Type 0
-part_of tells p old new = shown_with_places tells p.octets.items p.items.items (first_stand secrets.Shown) old new
+abbrev pub part_of : Telling → Placing → Part → List Token → List Token → Type 0
+part_of tells places p old new = shown_with_places tells places p.octets.items p.items.items (first_stand secrets.Shown) old new
 
 -- behind them stands how many of the keys in them are left out; the others are learned
-pub record IsLearnedFrom (tells : Role → List ℕ → Label → List ℕ → List Token → List Token → Type 0) (most : ℕ) (p : Part)
+pub record IsLearnedFrom (tells : Telling) (places : Placing) (most : ℕ) (p : Part)
     (keys : List NamedKey) (old : List Token) (next : List NamedKey) (new : List Token) : Type 0 where
   pub tokens : List Token
-  pub shown_are : part_of tells p old (old ++ tokens)
+  pub shown_are : part_of tells places p old (old ++ tokens)
   pub learned_are : next ≡ learned most (keys_in p.type_name.now start [] tokens) keys
   pub left : left_out_of (left_out most (keys_in p.type_name.now start [] tokens) keys) (old ++ tokens) new
 
 -- a decrypted part: which key and usage, what it holds, and what is told behind it
-pub record IsToldPart (tells : Role → List ℕ → Label → List ℕ → List Token → List Token → Type 0)
+pub record IsToldPart (tells : Telling) (places : Placing)
     (behind : NamedKey → Usage → List ℕ → List Token → List Token → Type 0) (most : ℕ) (key : NamedKey) (u : Usage) (p : Part)
     (keys : List NamedKey) (old : List Token) (next : List NamedKey) (new : List Token) : Type 0 where
   pub first : List Token
   pub opener : opener_of key.name u old first
   pub second : List Token
-  pub learned_from : IsLearnedFrom tells most p keys first next second
+  pub learned_from : IsLearnedFrom tells places most p keys first next second
   pub told_behind : behind key u p.octets.items second new
 
-module _ (tells : Role → List ℕ → Label → List ℕ → List Token → List Token → Type 0) (behind : NamedKey → Usage → List ℕ → List Token → List Token → Type 0)
+module _ (tells : Telling) (places : Placing) (behind : NamedKey → Usage → List ℕ → List Token → List Token → Type 0)
     (most : ℕ) where
   -- by the key at its preceding
   abbrev pub told_under : Option NamedKey → Usage → Part → List NamedKey → List Token → List NamedKey → List Token → Type 0
   told_under None u p keys old next new = (next ≡ keys) × (new ≡ old)
-  told_under (Some key) u p keys old next new = IsToldPart tells behind most key u p keys old next new
+  told_under (Some key) u p keys old next new = IsToldPart tells places behind most key u p keys old next new
 
   -- what a part decrypts to: a part, or no encoding
   abbrev pub told_held : ℕ → Usage → Option Part → List NamedKey → List Token → List NamedKey → List Token → Type 0
@@ -87,6 +87,6 @@ module _ (tells : Role → List ℕ → Label → List ℕ → List Token → Li
   -- an outcome under these keys; the keys in what stands in the clear are not learned
   abbrev pub told_of : Outcome → List NamedKey → List Token → List NamedKey → List Token → Type 0
   told_of outcomes.NotTried keys old next new = (next ≡ keys) × (new ≡ old)
-  told_of (outcomes.InClear p) keys old next new = (next ≡ keys) × part_of tells p old new
+  told_of (outcomes.InClear p) keys old next new = (next ≡ keys) × part_of tells places p old new
   told_of (outcomes.NotDecrypted why) keys old next new = (next ≡ keys) × not_decrypted (reason_text why) old new
   told_of (outcomes.Decrypted index u held) keys old next new = told_held index u held keys old next new

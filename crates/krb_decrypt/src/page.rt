@@ -55,7 +55,7 @@ fn tell_at<F: ShowsFormats, B: TellsBehind>(
     keys: &mut Vec<Key>,
     page: &mut Page,
 ) -> Result<(), AllocError>
-    ensures ok { OnOk result (told_at F.tells (B.tells behind.now) most preceding (Some cipher.now) keys.old.items page.old.items keys.new.items page.new.items) }
+    ensures ok { OnOk result (told_at F.tells F.places (B.tells behind.now) most preceding (Some cipher.now) keys.old.items page.old.items keys.new.items page.new.items) }
     ensures kept { OnOk result (Begins page.old.items page.new.items) }
 {
     let outcome = outcome_of(alloc, preceding, cipher, keys.as_slice())?;
@@ -71,7 +71,7 @@ fn tell_at_end<F: ShowsFormats, B: TellsBehind>(
     keys: &mut Vec<Key>,
     page: &mut Page,
 ) -> Result<(), AllocError>
-    ensures ok { OnOk result (told_at F.tells (B.tells behind.now) most preceding (cipher_at page.old.items) keys.old.items page.old.items keys.new.items page.new.items) }
+    ensures ok { OnOk result (told_at F.tells F.places (B.tells behind.now) most preceding (cipher_at page.old.items) keys.old.items page.old.items keys.new.items page.new.items) }
     ensures kept { OnOk result (Begins page.old.items page.new.items) }
 {
     let Some(cipher) = cipher_at(page) else {
@@ -88,7 +88,7 @@ fn insert_before<F: ShowsFormats, B: TellsBehind>(
     decrypting: &mut Decrypting<F, B>,
     page: &mut Page,
 ) -> Result<(), AllocError>
-    ensures ok { OnOk result (inserted_before F.tells B.tells decrypting.old next.now page.old.items decrypting.new page.new.items) }
+    ensures ok { OnOk result (inserted_before F.tells F.places B.tells decrypting.old next.now page.old.items decrypting.new page.new.items) }
     ensures kept { OnOk result (Begins page.old.items page.new.items) }
 {
     tell_at_end::<F, B>(
@@ -104,7 +104,7 @@ fn insert_before<F: ShowsFormats, B: TellsBehind>(
 }
 
 impl<F: ShowsFormats, B: TellsBehind> Insert for Decrypting<F, B> {
-    ghost inserts = { inserted_before F.tells B.tells };
+    ghost inserts = { inserted_before F.tells F.places B.tells };
 
     fn insert(&mut self, alloc: Global, next: &Token, page: &mut Page) -> Result<(), AllocError> {
         insert_before::<F, B>(alloc, next, self, page)
@@ -124,7 +124,7 @@ pub fn page_with_decrypted<F: ShowsFormats, B: TellsBehind + Drop>(
     behind: B,
     page: Page,
 ) -> Result<Page, AllocError>
-    ensures { IfOk result (λ made. is_decrypted_page F.tells B.tells most behind keys.items page.items made.items) }
+    ensures { IfOk result (λ made. is_decrypted_page F.tells F.places B.tells most behind keys.items page.items made.items) }
 {
     let mut decrypting = Decrypting::<F, B> {
         keys,

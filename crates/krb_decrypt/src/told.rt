@@ -59,7 +59,7 @@ fn tell_opener(alloc: Global, name: &[u8], usage: Usage, page: &mut Page) -> Res
 
 /// Appends the items of a part, with their places in what is decrypted.
 fn push_part<F: ShowsFormats>(alloc: Global, part: &Part, page: &mut Page) -> Result<(), AllocError>
-    ensures ok { OnOk result (part_of F.tells part.now page.old.items page.new.items) }
+    ensures ok { OnOk result (part_of F.tells F.places part.now page.old.items page.new.items) }
     ensures kept { OnOk result (Begins page.old.items page.new.items) }
 {
     push_items_with_places::<F>(alloc, Secrets::Shown, &part.octets, &part.items, page)
@@ -98,7 +98,7 @@ fn push_and_learn<F: ShowsFormats>(
     keys: &mut Vec<Key>,
     page: &mut Page,
 ) -> Result<(), AllocError>
-    ensures ok { OnOk result (IsLearnedFrom F.tells most part.now keys.old.items page.old.items keys.new.items page.new.items) }
+    ensures ok { OnOk result (IsLearnedFrom F.tells F.places most part.now keys.old.items page.old.items keys.new.items page.new.items) }
     ensures kept { OnOk result (Begins page.old.items page.new.items) }
 {
     let start = page.len();
@@ -121,7 +121,7 @@ fn push_decrypted<F: ShowsFormats, B: TellsBehind>(
     keys: &mut Vec<Key>,
     page: &mut Page,
 ) -> Result<(), AllocError>
-    ensures ok { OnOk result (IsToldPart F.tells (B.tells behind.now) most key.now usage part.now keys.old.items page.old.items keys.new.items page.new.items) }
+    ensures ok { OnOk result (IsToldPart F.tells F.places (B.tells behind.now) most key.now usage part.now keys.old.items page.old.items keys.new.items page.new.items) }
     ensures kept { OnOk result (Begins page.old.items page.new.items) }
 {
     tell_opener(alloc, &key.name, usage, page)?;
@@ -150,7 +150,7 @@ fn push_under<F: ShowsFormats, B: TellsBehind>(
     keys: &mut Vec<Key>,
     page: &mut Page,
 ) -> Result<(), AllocError>
-    ensures ok { OnOk result (told_under F.tells (B.tells behind.now) most (slice_get keys.old.items index) usage part.now keys.old.items page.old.items keys.new.items page.new.items) }
+    ensures ok { OnOk result (told_under F.tells F.places (B.tells behind.now) most (slice_get keys.old.items index) usage part.now keys.old.items page.old.items keys.new.items page.new.items) }
     ensures kept { OnOk result (Begins page.old.items page.new.items) }
 {
     match key_at(alloc, keys, index)? {
@@ -170,7 +170,7 @@ fn push_held<F: ShowsFormats, B: TellsBehind>(
     keys: &mut Vec<Key>,
     page: &mut Page,
 ) -> Result<(), AllocError>
-    ensures ok { OnOk result (told_held F.tells (B.tells behind.now) most index usage held.now keys.old.items page.old.items keys.new.items page.new.items) }
+    ensures ok { OnOk result (told_held F.tells F.places (B.tells behind.now) most index usage held.now keys.old.items page.old.items keys.new.items page.new.items) }
     ensures kept { OnOk result (Begins page.old.items page.new.items) }
 {
     match held {
@@ -192,7 +192,7 @@ pub(crate) fn push_outcome<F: ShowsFormats, B: TellsBehind>(
     keys: &mut Vec<Key>,
     page: &mut Page,
 ) -> Result<(), AllocError>
-    ensures ok { OnOk result (told_of F.tells (B.tells behind.now) most outcome.now keys.old.items page.old.items keys.new.items page.new.items) }
+    ensures ok { OnOk result (told_of F.tells F.places (B.tells behind.now) most outcome.now keys.old.items page.old.items keys.new.items page.new.items) }
     ensures kept { OnOk result (Begins page.old.items page.new.items) }
 {
     match outcome {

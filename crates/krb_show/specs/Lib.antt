@@ -15,4 +15,5 @@ pub mod RowLeaves
 pub mod Items
 pub mod PlacedItems
 pub mod RowWalk
+pub mod InnerPlaces
 pub mod Spots

@@ -1,2 +1,1 @@
 mod FrameSizes
-mod Texts

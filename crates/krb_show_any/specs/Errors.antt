@@ -17,8 +17,8 @@ use Rattle.krb_messages.specs.declared.kpasswd.error.ReadFrameError.{ReadFrameEr
 use Rattle.krb_messages.specs.declared.kpasswd.error.ReadFrameError.TheVariants as unread
 use Rattle.krb_pac.specs.declared.error.PacError.{PacError}
 use Rattle.krb_pac.specs.declared.error.PacError.TheVariants as pac
-use Rattle.krb_show_any.specs.declared.files.error.FilePageError.{FilePageError}
-use Rattle.krb_show_any.specs.declared.files.error.FilePageError.TheVariants as files
+use Rattle.krb_show_pages.specs.declared.files.error.FilePageError.{FilePageError}
+use Rattle.krb_show_pages.specs.declared.files.error.FilePageError.TheVariants as files
 use Rattle.krb_show_tokens.specs.declared.kpasswd.error.PasswordFrameError.{PasswordFrameError}
 use Rattle.krb_show_tokens.specs.declared.kpasswd.error.PasswordFrameError.TheVariants as frame
 use Rattle.krb_show_any.specs.declared.error.PageError.{PageError}

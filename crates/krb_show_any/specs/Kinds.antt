@@ -1,8 +1,8 @@
 -- What octets begin as.
 use Rattle.std.specs.Prelude.{ℕ, nat_eq, nat_le, ◌+◌, ◌*◌, length, slice_index, ◌||◌, ◌&&◌, Bool, true, if◌then◌else◌, Option, Some, None, List, [], ◌∷◌}
-use Rattle.krb_show_messages.specs.declared.kinds.DataKind.{DataKind}
-use Rattle.krb_show_messages.specs.Told.{is_message, is_part}
-use Rattle.krb_show_messages.specs.declared.certificate_kinds.CertificateKind.{CertificateKind}
+use Rattle.krb_show_pages.specs.declared.kinds.DataKind.{DataKind}
+use Rattle.krb_show_pages.specs.Told.{is_message, is_part}
+use Rattle.krb_show_pages.specs.declared.certificate_kinds.CertificateKind.{CertificateKind}
 use Rattle.krb_show_any.specs.declared.kind.Kind.{Kind}
 use Rattle.krb_show_any.specs.declared.kind.Kind.TheVariants as kind
 

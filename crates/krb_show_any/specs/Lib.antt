@@ -7,5 +7,4 @@ pub mod Frames
 pub mod Places
 pub mod Broken
 pub mod Placed
-pub mod Files
 pub mod Paired

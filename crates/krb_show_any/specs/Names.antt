@@ -2,10 +2,10 @@
 use Rattle.std.specs.Prelude.{◌≡◌, ◌⊎◌, ℕ, nat_eq, Bool, if◌then◌else◌, Option, Some, None, List, [], ◌∷◌, codes, map, unwrap_or}
 use Rattle.std.specs.Cmp.Lexicographic.{pointwise}
 use Rattle.std.specs.Char.{eq_ignore_ascii_case, to_ascii_lowercase}
-use Rattle.krb_show_messages.specs.Kinds.{name_of as data_name}
-use Rattle.krb_show_messages.specs.declared.kinds.DataKind.{DataKind}
-use Rattle.krb_show_messages.specs.CertificateKinds.{name_of as certificate_name}
-use Rattle.krb_show_messages.specs.declared.certificate_kinds.CertificateKind.{CertificateKind}
+use Rattle.krb_show_pages.specs.Kinds.{name_of as data_name}
+use Rattle.krb_show_pages.specs.declared.kinds.DataKind.{DataKind}
+use Rattle.krb_show_pages.specs.CertificateKinds.{name_of as certificate_name}
+use Rattle.krb_show_pages.specs.declared.certificate_kinds.CertificateKind.{CertificateKind}
 use Rattle.krb_show_any.specs.declared.kind.Kind.{Kind}
 use Rattle.krb_show_any.specs.declared.kind.Kind.TheVariants as kind
 

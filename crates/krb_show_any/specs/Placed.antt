@@ -1,8 +1,9 @@
 -- Pages with the places of elements.
-use Rattle.std.specs.Prelude.{◌≡◌, ℕ, nat_eq, Bool, true, false, if◌then◌else◌, List, [], ◌∷◌, Option, None, Some, length}
+use Rattle.std.specs.Prelude.{◌≡◌, ℕ, nat_eq, Bool, true, false, if◌then◌else◌, List, [], ◌∷◌, ◌++◌, Option, None, Some, length}
 use Rattle.std.specs.Cmp.Lexicographic.{pointwise}
 use Rattle.krb_message_fields.specs.declared.places.place.Place.{Place}
 use Rattle.krb_schema.specs.declared.item.Item.{Item}
+use Rattle.krb_show.specs.InnerPlaces.{ArePlacesByRow}
 use Rattle.krb_show.specs.Items.{start}
 use Rattle.krb_show.specs.PlacedItems.{shown_with_places}
 use Rattle.krb_show.specs.Spots.{is_plain, spotted}
@@ -12,9 +13,12 @@ use Rattle.krb_show.specs.declared.rows.stand.Secrets.TheVariants as secrets
 use Rattle.krb_show.specs.declared.rows.walk.Walk.{Walk}
 use Rattle.krb_show.specs.declared.rows.walk.Walk.TheVariants as walks
 use Rattle.krb_show_messages.specs.Formats.{formats_of}
-use Rattle.krb_show_messages.specs.NegoexPlaces.{negoex_places}
-use Rattle.krb_show_messages.specs.Places.{pac_places}
-use Rattle.krb_show_any.specs.Rows.{IsWalkOf}
+use Rattle.krb_show_pages.specs.KeytabPlaces.{keytab_places}
+use Rattle.krb_show_pages.specs.NegoexPlaces.{negoex_places}
+use Rattle.krb_show_pages.specs.declared.certificate_kinds.CertificateKind.{CertificateKind}
+use Rattle.krb_show_pages.specs.declared.certificate_kinds.CertificateKind.TheVariants as certificates
+use Rattle.krb_show_messages.specs.Places.{formats_places, pac_places}
+use Rattle.krb_show_any.specs.Rows.{IsWalkOf, row_name}
 use Rattle.krb_show_any.specs.declared.kind.Kind.{Kind}
 use Rattle.krb_show_any.specs.declared.kind.Kind.TheVariants as kinds
 
@@ -25,7 +29,7 @@ is_same_text first second = pointwise nat_eq (page_text first) (page_text second
 -- the tokens of these items with their places, if they have the text of the page, and else the page
 pub record IsPlacedByItems (octets : List ℕ) (items : List Item) (page made : List Token) : Type 0 where
   pub placed : List Token
-  pub are_placed : shown_with_places formats_of octets items (start secrets.Shown) [] placed
+  pub are_placed : shown_with_places formats_of formats_places octets items (start secrets.Shown) [] placed
   pub is_made : made ≡ (if is_same_text placed page then placed else page)
 
 -- those of the items of a walk; the page where there is no row, or a fault
@@ -42,12 +46,29 @@ abbrev pub is_placed : List Token → Bool
 is_placed [] = false
 is_placed (t ∷ ts) = has_place t.place
 
--- the places of the tokens of octets of a kind, in their order: those that the layout of a PAC gives (MS-PAC, 2.3 and 2.4) and of messages of
--- NEGOEX (MS-NEGOEX, 2.2), and any of other kinds
+-- the page of a PA-PK-AS-REP is a struct of its alternative (RFC 4556, 3.2.3), which has no place of its own
+abbrev pub within_choice : CertificateKind → List (Option Place) → List (Option Place)
+within_choice certificates.PaPkAsRep found = None ∷ (found ++ None ∷ [])
+within_choice other found = found
+
+-- a type of PKINIT or of CredSSP: those of its row
+abbrev pub certificate_places : CertificateKind → List ℕ → List (Option Place) → Type 0
+certificate_places k octets places =
+    (found : List (Option Place)) × ArePlacesByRow formats_of formats_places (row_name (kinds.Certificate k) octets) 0 octets found
+    × (places ≡ within_choice k found)
+
+-- The places of the tokens of octets of a kind, in their order: those that the layout of a PAC gives (MS-PAC, 2.3 and 2.4), of messages of NEGOEX
+-- (MS-NEGOEX, 2.2) and of keytabs (MIT Kerberos, "Keytab file format"), and by their rows those of PKINIT and CredSSP; any of tokens, frames and
+-- caches; none of other kinds.
 abbrev pub are_places : Kind → List ℕ → List (Option Place) → Type 0
 are_places kinds.Pac octets places = pac_places octets places
 are_places kinds.Negoex octets places = negoex_places octets places
-are_places kind octets places = Unit {0}
+are_places kinds.Keytab octets places = keytab_places octets places
+are_places (kinds.Certificate k) octets places = certificate_places k octets places
+are_places kinds.Token octets places = Unit {0}
+are_places kinds.PasswordFrame octets places = Unit {0}
+are_places kinds.Ccache octets places = Unit {0}
+are_places other octets places = places ≡ []
 
 -- each token with its place where the octets there are what it tells, if the first has none and there is an entry for each token
 abbrev pub IsPlacedIn : Bool → Kind → List ℕ → List Token → List Token → Type 0

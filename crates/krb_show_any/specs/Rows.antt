@@ -1,6 +1,6 @@
 -- The rows of kinds in the table of `krb_schema`, and what a walk by a row comes to.
 use Rattle.std.specs.Prelude.{◌||◌, ℕ, nat_eq, if◌then◌else◌, List, [], ◌∷◌, codes}
-use Rattle.krb_show_messages.specs.declared.certificate_kinds.CertificateKind.TheVariants as certificates
+use Rattle.krb_show_pages.specs.declared.certificate_kinds.CertificateKind.TheVariants as certificates
 use Rattle.krb_show.specs.RowWalk.{IsWalkBy}
 use Rattle.krb_show.specs.declared.rows.walk.Walk.{Walk}
 use Rattle.krb_show_any.specs.Names.{kind_name}

@@ -8,9 +8,9 @@ use Rattle.krb_pac.specs.Numbered.{NumberedBuffer, NumberedPacIs, NumberedPacRej
 use Rattle.krb_pac.specs.declared.error.PacError.{PacError}
 use Rattle.krb_pac.specs.declared.error.PacError.TheVariants as pac_errors
 use Rattle.krb_show.specs.Tokens.{plain, Token}
-use Rattle.krb_show_any.specs.Files.{IsNoCcache, IsNoKeytab, ShowsAs, ccache_of, keytab_of}
-use Rattle.krb_show_any.specs.declared.files.error.FilePageError.{FilePageError}
-use Rattle.krb_show_any.specs.declared.files.error.FilePageError.TheVariants as file_errors
+use Rattle.krb_show_pages.specs.Files.{IsNoCcache, IsNoKeytab, ShowsAs, ccache_of, keytab_of}
+use Rattle.krb_show_pages.specs.declared.files.error.FilePageError.{FilePageError}
+use Rattle.krb_show_pages.specs.declared.files.error.FilePageError.TheVariants as file_errors
 use Rattle.krb_show_messages.specs.Pac.{directory_of}
 use Rattle.krb_show_any.specs.declared.error.PageError.{PageError}
 use Rattle.krb_show_any.specs.declared.error.PageError.TheVariants as page_errors

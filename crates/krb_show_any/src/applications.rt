@@ -15,7 +15,7 @@ use krb_messages::messages::{
     TgsReq,
 };
 use krb_show::Page;
-use krb_show_messages::{page_of_message, page_of_part};
+use krb_show_pages::{page_of_message, page_of_part};
 use krb_types::data_types::Ticket;
 use std::alloc::Global;
 

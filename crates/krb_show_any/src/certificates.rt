@@ -1,9 +1,9 @@
 //! Types of PKINIT and of CredSSP, by their kind.
 
 ghost use Rattle.std.specs.Prelude.{◌≡◌, codes};
-ghost use Rattle.krb_show_messages.specs.Choices.{IsReplyTold};
+ghost use Rattle.krb_show_pages.specs.Choices.{IsReplyTold};
 ghost use Rattle.krb_show_messages.specs.Shown.{IsToldByRow};
-ghost use Rattle.krb_show_messages.specs.declared.certificate_kinds.CertificateKind.TheVariants as kinds;
+ghost use Rattle.krb_show_pages.specs.declared.certificate_kinds.CertificateKind.TheVariants as kinds;
 
 use crate::pages::Pages;
 use krb_credssp::credssp::{
@@ -17,7 +17,7 @@ use krb_pkinit::pkinit::{
     KdcDhKeyInfo, PaPkAsRep, PaPkAsReq, PkAuthenticator, ValidationParams,
 };
 use krb_show::Page;
-use krb_show_messages::{CertificateKind, page_of_certificate_data};
+use krb_show_pages::{CertificateKind, page_of_certificate_data};
 use std::alloc::Global;
 
 /// Types of PKINIT and of CredSSP, by their kind.

@@ -2,7 +2,7 @@
 
 ghost use Rattle.std.specs.Prelude.{◌≡◌, codes};
 ghost use Rattle.krb_show_messages.specs.Shown.{IsToldByRow};
-ghost use Rattle.krb_show_messages.specs.declared.kinds.DataKind.TheVariants as kinds;
+ghost use Rattle.krb_show_pages.specs.declared.kinds.DataKind.TheVariants as kinds;
 
 use crate::pages::Pages;
 use krb_der::{Asn1DerError, Asn1SequenceOf, DerEncode};
@@ -12,7 +12,7 @@ use krb_pkinit::pkinit::{
     KrbFinished, Pku2uNegoBody, Pku2uNegoRep, Pku2uNegoReq, Pku2uNegoReqMetadata,
 };
 use krb_show::Page;
-use krb_show_messages::{DataKind, page_of_data};
+use krb_show_pages::{DataKind, page_of_data};
 use krb_types::data_types::{
     AuthorizationData, ChangePasswdData, Checksum, EncryptedData, EncryptionKey, EtypeInfo2,
     EtypeInfo2Entry, HostAddress, HostAddresses, KerbAdRestrictionEntry, KerbErrorData,

@@ -3,7 +3,6 @@
 ghost use Rattle.std.specs.Prelude.{◌≡◌};
 ghost use Rattle.krb_show_any.specs.Errors.{ccache_reason, der_reason, field_reason, frame_reason, keytab_reason, of_der, of_exchange, of_file, of_frame, of_pac, of_token, pac_reason, reason, record_reason, token_reason};
 
-use crate::files::FilePageError;
 use krb_der::Asn1DerError;
 use krb_files::ccache::CcacheError;
 use krb_files::fields::FieldError;
@@ -12,6 +11,7 @@ use krb_gss_tokens::GssApiMessageError;
 use krb_messages::kpasswd::ReadFrameError;
 use krb_pac::PacError;
 use krb_show::Page;
+use krb_show_pages::FilePageError;
 use krb_show_tokens::kpasswd::PasswordFrameError;
 use std::io;
 use thiserror::Error;

@@ -1,51 +1,16 @@
-//! The files of MIT Kerberos as tokens: keytabs ("Keytab file format") and credential caches ("Credential cache file format").
-
-mod ccache;
-mod ccache_places;
-mod error;
-mod keytab;
-mod keytab_places;
-mod places;
-mod principal;
-mod ticket;
-mod values;
-mod walk;
+//! The files of MIT Kerberos: keytabs ("Keytab file format") and credential caches ("Credential cache file format").
 
 ghost use Rattle.krb_show_any.specs.Told.{IsCcacheTold, IsKeytabTold};
-ghost use Rattle.krb_show_any.specs.Files.{ticket_of};
+ghost use Rattle.krb_show_pages.specs.Files.{ticket_of};
 ghost use Rattle.krb_show_messages.specs.Shown.{shows_of};
 
 use crate::pages::Pages;
-pub use ccache::page_of_ccache;
-pub use ccache_places::places_of_ccache;
-pub use error::FilePageError;
-pub use keytab::page_of_keytab;
-pub use keytab_places::places_of_keytab;
 use krb_der::DerEncode;
 use krb_show::Page;
 use krb_show_messages::HasRow;
+use krb_show_pages::{FilePageError, page_of_ccache, page_of_keytab};
 use krb_types::data_types::Ticket;
 use std::alloc::Global;
-
-/// The way in which files are shown.
-#[derive(Drop)]
-pub struct File;
-
-/// The way in which texts of files are shown, which are any octets.
-#[derive(Drop)]
-struct Text;
-
-/// The way in which the fields of a cache's header are shown.
-#[derive(Drop)]
-struct HeaderField;
-
-/// The way in which the addresses of a credential are shown.
-#[derive(Drop)]
-struct Address;
-
-/// The way in which the authorization data of a credential are shown.
-#[derive(Drop)]
-struct AuthorizationElement;
 
 /// Keytabs of version 2 (MIT Kerberos, "Keytab file format").
 #[derive(Drop)]

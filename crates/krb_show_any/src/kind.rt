@@ -3,7 +3,7 @@
 ghost use Rattle.std.specs.Prelude.{◌≡◌};
 ghost use Rattle.krb_show_any.specs.Kinds.{is_application, is_ccache, is_frame, is_keytab, is_negoex, is_per_message, is_token_tag, is_zeros, kind_of, kind_without_tag};
 
-use krb_show_messages::{CertificateKind, DataKind};
+use krb_show_pages::{CertificateKind, DataKind};
 
 /// What octets are.
 #[derive(Clone, Copy, PartialEq, Eq, Debug)]

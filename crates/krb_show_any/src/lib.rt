@@ -30,10 +30,7 @@ pub use data::Data;
 pub use error::PageError;
 pub use everything::Everything;
 pub use exchanges::Exchanges;
-pub use files::{
-    Ccaches, File, FilePageError, Keytabs, page_of_ccache, page_of_keytab, places_of_ccache,
-    places_of_keytab,
-};
+pub use files::{Ccaches, Keytabs};
 pub use kind::{Kind, is_application, kind_of_octets};
 pub use names::{kind_of_name, name_of_kind};
 pub use pages::Pages;

@@ -7,7 +7,7 @@ ghost use Rattle.std.specs.Option.{option_copied};
 ghost use Rattle.krb_show_any.specs.Names.{applications, IsNamed, kind_name, name_in, other_named, tag_in};
 
 use crate::kind::Kind;
-use krb_show_messages::{CertificateKind, DataKind};
+use krb_show_pages::{CertificateKind, DataKind};
 
 /// Messages and opened parts (RFC 4120, 5.10): the first octet of their encodings, and their names.
 static APPLICATIONS: [(u8, &str); 17] = [

@@ -1,16 +1,16 @@
 //! Pages with the places of elements.
 
-ghost use Rattle.std.specs.Prelude.{◌≡◌, IfOk};
-ghost use Rattle.krb_show_any.specs.Placed.{IsPlacedBy, IsPlacedIn, IsPlacedPage, are_places, is_placed, is_same_text};
+ghost use Rattle.std.specs.Prelude.{◌≡◌, [], ◌∷◌, ◌++◌, None, IfOk};
+ghost use Rattle.krb_show_any.specs.Placed.{IsPlacedBy, IsPlacedIn, IsPlacedPage, are_places, certificate_places, is_placed, is_same_text, within_choice};
 
-use crate::files::{places_of_ccache, places_of_keytab};
 use crate::kind::Kind;
 use crate::rows::{row_name, walk_octets};
 use krb_show::{
     Page, Place, Plain, Secrets, Token, Walk, place_tokens, places_by_row, push_items_with_places,
     text_of_page,
 };
-use krb_show_messages::{CertificateKind, KerberosFormats, places_of_negoex, places_of_pac};
+use krb_show_messages::{KerberosFormats, places_of_pac};
+use krb_show_pages::{CertificateKind, places_of_ccache, places_of_keytab, places_of_negoex};
 use krb_show_tokens::kpasswd::places_of_password_frame;
 use krb_show_tokens::places_of_token;
 use std::alloc::{AllocError, Global};
@@ -41,23 +41,43 @@ fn placed_by(alloc: Global, walk: Walk, octets: &[u8], page: Page) -> Result<Pag
     }
 }
 
-/// Where each token of the page of a type of PKINIT or of CredSSP stands: that of its row. The page of a PA-PK-AS-REP is a struct of its
-/// alternative (RFC 4556, 3.2.3), which has no place of its own.
+/// The places of an alternative, around which a struct stands that has none.
+fn within_struct(alloc: Global, found: &[Option<Place>]) -> Result<Vec<Option<Place>>, AllocError>
+    ensures { IfOk result (λ places. places.items ≡ None ∷ (found.now ++ None ∷ [])) }
+{
+    let mut places = Vec::with_capacity(alloc, found.len() + 2)?;
+    places.push(None)?;
+    places.extend_from_slice(found)?;
+    places.push(None)?;
+    Ok(places)
+}
+
+/// The places of a type of PKINIT or of CredSSP by its row, as its page has them: that of a PA-PK-AS-REP is a struct of its alternative (RFC
+/// 4556, 3.2.3), which has no place of its own.
+fn within_choice(
+    alloc: Global,
+    kind: CertificateKind,
+    found: Vec<Option<Place>>,
+) -> Result<Vec<Option<Place>>, AllocError>
+    ensures { IfOk result (λ places. places.items ≡ within_choice kind found.items) }
+{
+    match kind {
+        CertificateKind::PaPkAsRep => within_struct(alloc, &found),
+        _ => Ok(found),
+    }
+}
+
+/// Where each token of the page of a type of PKINIT or of CredSSP stands: that of its row.
 fn places_of_certificate(
     alloc: Global,
     kind: CertificateKind,
     octets: &[u8],
-) -> Result<Vec<Option<Place>>, AllocError> {
+) -> Result<Vec<Option<Place>>, AllocError>
+    ensures { IfOk result (λ places. certificate_places kind octets.now places.items) }
+{
     let row = row_name(Kind::Certificate(kind), octets);
     let found = places_by_row::<KerberosFormats>(alloc, row, 0, octets)?;
-    if kind != CertificateKind::PaPkAsRep {
-        return Ok(found);
-    }
-    let mut places = Vec::with_capacity(alloc, found.len() + 2)?;
-    places.push(None)?;
-    places.extend_from_slice(&found)?;
-    places.push(None)?;
-    Ok(places)
+    within_choice(alloc, kind, found)
 }
 
 /// Where in octets of a kind each token of their page stands, in the order of the tokens: of a format that is no DER, and of a

@@ -6,7 +6,7 @@ ghost use Rattle.krb_show_any.specs.Rows.{IsWalkOf, choice_row, row_name, token_
 use crate::kind::Kind;
 use crate::names::name_of_kind;
 use krb_show::{Walk, walk_named};
-use krb_show_messages::CertificateKind;
+use krb_show_pages::CertificateKind;
 use std::alloc::{AllocError, Global};
 
 /// The name of the row of a token: that of the alternative of `NegotiationToken` (RFC 4178, 4.2) which the first octet tells, `a1` the

@@ -1,12 +1,6 @@
-pub mod Negoex
 pub mod Pac
 pub mod GssChecksum
-pub mod Kinds
-pub mod CertificateKinds
 pub mod Prefixed
 pub mod Formats
 pub mod Places
-pub mod NegoexPlaces
 pub mod Shown
-pub mod Choices
-pub mod Told

@@ -1,10 +1,18 @@
 -- Places of the tokens of formats that are no DER: one for each token, in their order. They count the octets before them from the format's first.
-use Rattle.std.specs.Prelude.{◌≡◌, ◌≢◌, ◌⊎◌, ℕ, suc, nat_eq, Bool, true, false, if◌then◌else◌, ◌+◌, ◌-◌, ◌*◌, List, [], ◌∷◌, ◌++◌, length, drop, Option, None, Some}
+use Rattle.std.specs.Prelude.{◌≡◌, ◌≢◌, ◌⊎◌, ℕ, suc, nat_eq, Bool, true, false, if◌then◌else◌, ◌+◌, ◌-◌, ◌*◌, List, [], ◌∷◌, ◌++◌, length, take, drop, Option, None, Some, codes}
 use Rattle.krb_message_fields.specs.declared.places.place.Place.{Place}
 use Rattle.krb_pac.specs.Numbered.{NumberedBuffer, NumberedPacIs}
+use Rattle.krb_schema.specs.declared.item.Item.{Item}
+use Rattle.krb_schema.specs.declared.shape.Role.TheVariants as roles
+use Rattle.krb_show.specs.InnerPlaces.{ArePlacesByRow, places_behind}
+use Rattle.krb_show.specs.Items.{start}
+use Rattle.krb_show.specs.PlacedItems.{Placing, shown_with_places}
 use Rattle.krb_show.specs.RowWalk.{IsWalkBy}
+use Rattle.krb_show.specs.Tokens.{Token}
+use Rattle.krb_show.specs.declared.rows.stand.Secrets.TheVariants as secrets
 use Rattle.krb_show.specs.declared.rows.walk.Walk.{Walk}
 use Rattle.krb_show.specs.declared.rows.walk.Walk.TheVariants as walks
+use Rattle.krb_show_messages.specs.Formats.{gss_checksum, no_formats, win2k_pac}
 use Rattle.krb_show_messages.specs.GssChecksum.{IsGssChecksum, delegates, dlgth}
 use Rattle.krb_show_messages.specs.Pac.{IsNoPac, plain_octets}
 use Rattle.krb_show_messages.specs.Prefixed.{IsPrefixed, message_row}
@@ -12,6 +20,14 @@ use Rattle.krb_show_messages.specs.Prefixed.{IsPrefixed, message_row}
 -- so many octets behind so many others
 abbrev pub place_at : ℕ → ℕ → Option Place
 place_at offset size = Some (record { offset = offset; size = size })
+
+-- all of so many octets
+abbrev pub all_places : ℕ → List (Option Place)
+all_places size = place_at 0 size ∷ []
+
+-- within these formats are no others: octets are octets there
+abbrev pub no_places : Placing
+no_places role number octets places = places ≡ []
 
 -- ---- a PAC (MS-PAC, 2.3 and 2.4)
 
@@ -49,7 +65,7 @@ directory_places octets pac places =
 abbrev pub pac_places : List ℕ → List (Option Place) → Type 0
 pac_places octets places =
     ((pac : List NumberedBuffer) × NumberedPacIs octets pac × directory_places octets pac places)
-    ⊎ (IsNoPac octets × (places ≡ place_at 0 (length octets) ∷ []))
+    ⊎ (IsNoPac octets × (places ≡ all_places (length octets)))
 
 -- ---- the checksum of the GSS-API (RFC 4121, 4.1.1)
 
@@ -62,20 +78,25 @@ abbrev pub delegation_places : List ℕ → List (Option Place) → List (Option
 delegation_places octets deleg =
     (place_at 24 2 ∷ place_at 26 2 ∷ []) ++ (deleg ++ exts_places (28 + dlgth octets) (length octets))
 
--- what stands behind Flags
-abbrev pub rest_places : List ℕ → List (Option Place) → List (Option Place)
-rest_places octets deleg = if delegates octets then delegation_places octets deleg else exts_places 24 (length octets)
+-- what stands behind Flags: of those that delegate the places of Deleg are those of a KRB-CRED behind 28 octets
+abbrev pub places_behind_flags : Bool → List ℕ → List (Option Place) → Type 0
+places_behind_flags true octets rest =
+    (deleg : List (Option Place)) × ArePlacesByRow no_formats no_places (codes "KRB-CRED") 28 (take (dlgth octets) (drop 28 octets)) deleg
+    × (rest ≡ delegation_places octets deleg)
+places_behind_flags false octets rest = rest ≡ exts_places 24 (length octets)
+
+abbrev pub rest_places : List ℕ → List (Option Place) → Type 0
+rest_places octets rest = places_behind_flags (delegates octets) octets rest
 
 -- Lgth, Bnd, Flags and what stands behind them
-abbrev pub checksum_places : List ℕ → List (Option Place) → List (Option Place)
-checksum_places octets deleg =
-    (place_at 0 (length octets) ∷ place_at 0 4 ∷ place_at 4 16 ∷ place_at 20 4 ∷ []) ++ (rest_places octets deleg ++ place_at 0 (length octets) ∷ [])
+abbrev pub checksum_places : ℕ → List (Option Place) → List (Option Place)
+checksum_places size rest = (place_at 0 size ∷ place_at 0 4 ∷ place_at 4 16 ∷ place_at 20 4 ∷ []) ++ (rest ++ place_at 0 size ∷ [])
 
 -- such a checksum, and other octets
 abbrev pub gss_checksum_places : List ℕ → List (Option Place) → Type 0
 gss_checksum_places octets places =
-    (IsGssChecksum octets × (deleg : List (Option Place)) × (places ≡ checksum_places octets deleg))
-    ⊎ ((IsGssChecksum octets → ⊥) × (places ≡ place_at 0 (length octets) ∷ []))
+    (IsGssChecksum octets × (rest : List (Option Place)) × rest_places octets rest × (places ≡ checksum_places (length octets) rest))
+    ⊎ ((IsGssChecksum octets → ⊥) × (places ≡ all_places (length octets)))
 
 -- ---- a message behind its length (MS-KKDCP, 2.2.2)
 
@@ -83,17 +104,37 @@ gss_checksum_places octets places =
 abbrev pub message_places : ℕ → List (Option Place) → List (Option Place)
 message_places size message = (place_at 0 size ∷ place_at 0 4 ∷ []) ++ (message ++ place_at 0 size ∷ [])
 
--- so many octets behind whose length a message stands, by what the walk of the message comes to
-abbrev pub walk_places : ℕ → Walk → List (Option Place) → Type 0
-walk_places size (walks.Items items) places = (message : List (Option Place)) × (places ≡ message_places size message)
-walk_places size walk places = places ≡ place_at 0 size ∷ []
+-- octets behind whose length a message of these items stands
+abbrev pub items_places : List ℕ → List Item → List (Option Place) → Type 0
+items_places octets items places =
+    (page : List Token) × shown_with_places no_formats no_places (drop 4 octets) items (start secrets.Shown) [] page
+    × (places ≡ message_places (length octets) (places_behind 4 page))
+
+-- by what the walk of the message comes to
+abbrev pub walk_places : List ℕ → Walk → List (Option Place) → Type 0
+walk_places octets (walks.Items items) places = items_places octets items.items places
+walk_places octets walk places = places ≡ all_places (length octets)
 
 -- octets behind whose length octets stand, by the row of these
 abbrev pub row_places : Option (List ℕ) → List ℕ → List (Option Place) → Type 0
-row_places None octets places = places ≡ place_at 0 (length octets) ∷ []
-row_places (Some row) octets places = (walk : Walk) × IsWalkBy row row (drop 4 octets) walk × walk_places (length octets) walk places
+row_places None octets places = places ≡ all_places (length octets)
+row_places (Some row) octets places = (walk : Walk) × IsWalkBy row row (drop 4 octets) walk × walk_places octets walk places
 
 abbrev pub prefixed_places : List ℕ → List (Option Place) → Type 0
 prefixed_places octets places =
     (IsPrefixed octets × row_places (message_row (drop 4 octets)) octets places)
-    ⊎ ((IsPrefixed octets → ⊥) × (places ≡ place_at 0 (length octets) ∷ []))
+    ⊎ ((IsPrefixed octets → ⊥) × (places ≡ all_places (length octets)))
+
+-- ---- octets within elements
+
+-- behind this number those of a format, behind another that of all octets
+abbrev pub behind_number_places : List ℕ → List ℕ → List ℕ → (List (Option Place) → Type 0) → List (Option Place) → Type 0
+behind_number_places wanted number octets format places =
+    ((number ≡ wanted) × format places) ⊎ ((number ≢ wanted) × (places ≡ all_places (length octets)))
+
+-- where what `formats_of` says is told of octets stands in them
+abbrev pub formats_places : Placing
+formats_places roles.AuthorizationData number octets places = behind_number_places win2k_pac number octets (pac_places octets) places
+formats_places roles.Checksum number octets places = behind_number_places gss_checksum number octets (gss_checksum_places octets) places
+formats_places roles.PrefixedMessage number octets places = prefixed_places octets places
+formats_places role number octets places = places ≡ all_places (length octets)

@@ -1,11 +1,12 @@
 //! Formats that are no DER within messages of Kerberos.
 
-ghost use Rattle.std.specs.Prelude.{◌≡◌, OnErr, OnOk};
+ghost use Rattle.std.specs.Prelude.{◌≡◌, IfOk, OnErr, OnOk};
 ghost use Rattle.krb_show.specs.Leaves.{octets_of};
 ghost use Rattle.krb_show.specs.Tokens.{Begins};
 ghost use Rattle.krb_show_messages.specs.Pac.{pac_of};
 ghost use Rattle.krb_show_messages.specs.Formats.{behind_number, deleg_of, formats_of, gss_checksum, win2k_pac};
 ghost use Rattle.krb_show_messages.specs.GssChecksum.{gss_checksum_of};
+ghost use Rattle.krb_show_messages.specs.Places.{behind_number_places, formats_places, gss_checksum_places, pac_places};
 
 use crate::gss_checksum::{places_of_gss_checksum, show_gss_checksum};
 use crate::pac::{places_of_pac, show_pac};
@@ -63,7 +64,9 @@ fn places_of_data(
     alloc: Global,
     number: &[u8],
     octets: &[u8],
-) -> Result<Vec<Option<Place>>, AllocError> {
+) -> Result<Vec<Option<Place>>, AllocError>
+    ensures { IfOk result (λ places. behind_number_places win2k_pac number.now octets.now (pac_places octets.now) places.items) }
+{
     if number == WIN2K_PAC.as_slice() {
         return places_of_pac(alloc, octets);
     }
@@ -75,7 +78,9 @@ fn places_of_checksum(
     alloc: Global,
     number: &[u8],
     octets: &[u8],
-) -> Result<Vec<Option<Place>>, AllocError> {
+) -> Result<Vec<Option<Place>>, AllocError>
+    ensures { IfOk result (λ places. behind_number_places gss_checksum number.now octets.now (gss_checksum_places octets.now) places.items) }
+{
     if number == GSS_CHECKSUM.as_slice() {
         return places_of_gss_checksum(alloc, octets);
     }
@@ -89,6 +94,8 @@ pub struct KerberosFormats;
 
 impl ShowsFormats for KerberosFormats {
     ghost tells = { formats_of };
+
+    ghost places = { formats_places };
 
     fn show_format(
         alloc: Global,

@@ -1,38 +1,26 @@
-//! The messages of Kerberos (RFC 4120) as tokens, by the rows of their types in `krb_schema`'s table, and the formats within them that are no DER: the PAC (MS-PAC) and
-//! the messages of NEGOEX (MS-NEGOEX).
+//! Values of types that have a row in `krb_schema`'s table as tokens, by that row, and the formats within messages of Kerberos that are no DER: the PAC
+//! (MS-PAC, 2.3), the checksum of the GSS-API (RFC 4121, 4.1.1) and a message behind its length (MS-KKDCP, 2.2.2).
 #![tactic(auto)]
 
-mod certificate_kinds;
-mod certificates;
-mod data;
 mod formats;
 mod gss_checksum;
 mod header;
-mod kinds;
-mod messages;
-mod negoex;
 mod pac;
 mod places;
 mod prefixed;
 mod rows;
 mod values;
 
-pub use certificate_kinds::CertificateKind;
-pub use certificates::page_of_certificate_data;
-pub use data::page_of_data;
 pub use formats::KerberosFormats;
-pub use kinds::DataKind;
-pub use messages::{page_of_message, page_of_part};
-pub use negoex::{page_of_negoex, places_of_negoex};
 pub use pac::{page_of_pac, places_of_pac, show_pac};
-pub use rows::HasRow;
-pub use values::{RowField, show_value};
+pub use rows::{HasRow, MethodData};
+pub use values::{RowField, page_as, show_value};
 
 /// The way in which this crate shows what has no row.
 #[derive(Drop)]
 pub struct Message;
 
-/// The way in which formats of Windows are shown.
+/// The way in which a PAC is shown.
 #[derive(Drop)]
 pub struct Format;
 

@@ -5,6 +5,7 @@ ghost use Rattle.std.specs.List.{flat_map};
 ghost use Rattle.byteorder.specs.Endian.{little_number};
 ghost use Rattle.krb_pac.specs.Numbered.{NumberedBuffer, NumberedPacIs, NumberedPacRejected};
 ghost use Rattle.krb_show.specs.Leaves.{octets_of};
+ghost use Rattle.krb_show.specs.Pages.{list_of};
 ghost use Rattle.krb_show.specs.Tokens.{Begins, plain};
 ghost use Rattle.krb_show_messages.specs.Pac.{buffer_of, directory_of, entries_octets, entries_of, entry_octets, entry_of, has_key, head_octets, held_octets_of, holds_key, other_of};
 ghost use Rattle.krb_show_messages.specs.Pac.{pac_of, padded_octets, padding, plain_octets};
@@ -200,6 +201,15 @@ impl Show<Format> for NumberedInfoBuffer {
             ),
             page,
         )
+    }
+}
+
+/// The list of entries.
+impl Show<Format> for Vec<NumberedInfoBuffer> {
+    ghost shows = { λ label v. list_of entry_of label v.items };
+
+    fn show(&self, alloc: Global, label: &Label, page: &mut Page) -> Result<(), AllocError> {
+        show_list(alloc, label, self.as_slice(), page)
     }
 }
 

@@ -1,7 +1,7 @@
 //! Places of what is told of formats that are no DER.
 
-ghost use Rattle.std.specs.Prelude.{◌≡◌, [], ◌∷◌, length, IfOk};
-ghost use Rattle.krb_show_messages.specs.Places.{place_at};
+ghost use Rattle.std.specs.Prelude.{◌≡◌, length, IfOk};
+ghost use Rattle.krb_show_messages.specs.Places.{all_places, place_at};
 
 use krb_show::Place;
 use std::alloc::{AllocError, Global};
@@ -18,7 +18,7 @@ pub(crate) fn places_of_octets(
     alloc: Global,
     octets: &[u8],
 ) -> Result<Vec<Option<Place>>, AllocError>
-    ensures { IfOk result (λ places. places.items ≡ place_at 0 (length octets.now) ∷ []) }
+    ensures { IfOk result (λ places. places.items ≡ all_places (length octets.now)) }
 {
     let mut places = Vec::new(alloc);
     places.push(place_at(0, octets.len()))?;

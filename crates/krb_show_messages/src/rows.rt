@@ -28,7 +28,7 @@ use krb_types::data_types::{
 };
 
 /// METHOD-DATA (RFC 4120, 5.9.1).
-pub(crate) type MethodData = Asn1SequenceOf<PaData>;
+pub type MethodData = Asn1SequenceOf<PaData>;
 
 /// A type of DER that has a row in the table of `krb_schema`.
 pub trait HasRow {

@@ -52,8 +52,9 @@ impl<'a, T: DerEncode + HasRow> ShowFields for RowField<'a, T> {
     }
 }
 
-/// The page of a value of this type, called `text`.
-pub(crate) fn page_as<T: Der + HasRow + Drop>(
+/// The page of the value of this type whose encoding the octets are, called `text`. What is no encoding of a value of the type is refused as by
+/// `from_bytes`: with its first error, from the left. `Io` is never returned.
+pub fn page_as<T: Der + HasRow + Drop>(
     alloc: Global,
     text: &'static str,
     octets: &[u8],

@@ -34,7 +34,7 @@ pub fn page_with_checked(
     keys: Vec<Key>,
     page: Page,
 ) -> Result<Page, AllocError>
-    ensures { IfOk result (λ made. is_decrypted_page ⟦<KerberosFormats as ShowsFormats>⟧.tells ⟦<Checksums as TellsBehind>⟧.tells most keys.items
+    ensures { IfOk result (λ made. is_decrypted_page ⟦<KerberosFormats as ShowsFormats>⟧.tells ⟦<KerberosFormats as ShowsFormats>⟧.places ⟦<Checksums as TellsBehind>⟧.tells most keys.items
         keys.items page.items made.items) }
 {
     let own = copies_of(alloc, &keys)?;

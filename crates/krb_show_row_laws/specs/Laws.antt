@@ -14,7 +14,7 @@ use Rattle.krb_schema.specs.Types.{shapes, types}
 use Rattle.krb_schema.specs.Walks.{Walked}
 use Rattle.krb_show.specs.Text.{AreLines, page_lines, page_text}
 use Rattle.krb_show.specs.Tokens.{Label, Token}
-use Rattle.krb_show_messages.specs.Choices.{is_pack, reply_of}
+use Rattle.krb_show_pages.specs.Choices.{is_pack, reply_of}
 use Rattle.krb_show.specs.Items.{shown, start}
 use Rattle.krb_show.specs.RowWalk.{AreItemsOf, IsShownByRow}
 use Rattle.krb_show.specs.declared.rows.stand.Secrets.TheVariants as secrets

@@ -4,19 +4,22 @@ pub use krb_input::{InputError, octets_of_input};
 pub use krb_show::{
     Field, Form, Label, NoFormats, Page, Place, Plain, Role, Secrets, Show, ShowFields,
     ShowsFormats, Tells, Token, Walk, json_of_page, json_of_page_with_places, page_of_octets,
-    page_of_tree, place_tokens, places_by_row, push_items, push_items_with_places, show_by_row,
-    show_identifier, show_list, show_number, show_octets, show_opened, show_struct, show_text,
-    show_word, tag_name, text_of_page, text_of_page_with_places, walk_named,
+    page_of_tree, place_tokens, places_by_row, places_of_items, push_items, push_items_with_places,
+    show_by_row, show_identifier, show_list, show_number, show_octets, show_opened, show_struct,
+    show_text, show_word, tag_name, text_of_page, text_of_page_with_places, walk_named,
 };
 pub use krb_show_any::{
-    Everything, FilePageError, Kind, PageError, Pages, broken_rules_of, json_with_places,
-    kind_of_name, kind_of_octets, name_of_kind, page_of_ccache, page_of_keytab, page_with_places,
-    place_of_error, places_of_ccache, places_of_keytab,
+    Everything, Kind, PageError, Pages, broken_rules_of, json_with_places, kind_of_name,
+    kind_of_octets, name_of_kind, page_with_places, place_of_error,
 };
 pub use krb_show_messages::{
-    Certificate, CertificateKind, DataKind, HasRow, KerberosFormats, Message, RowField,
-    page_of_certificate_data, page_of_data, page_of_message, page_of_negoex, page_of_pac,
-    page_of_part, places_of_negoex, places_of_pac, show_pac, show_value,
+    Certificate, HasRow, KerberosFormats, Message, RowField, page_of_pac, places_of_pac, show_pac,
+    show_value,
+};
+pub use krb_show_pages::{
+    CertificateKind, DataKind, FilePageError, page_of_ccache, page_of_certificate_data,
+    page_of_data, page_of_keytab, page_of_message, page_of_negoex, page_of_part, places_of_ccache,
+    places_of_keytab, places_of_negoex,
 };
 pub use krb_show_tokens::kpasswd::{
     PasswordFrameError, page_of_password_frame, places_of_password_frame,

@@ -5,7 +5,7 @@
 
 use crate::pages::printed;
 use krb_show::Page;
-use krb_show_any::{FilePageError, page_of_ccache, page_of_keytab};
+use krb_show_pages::{FilePageError, page_of_ccache, page_of_keytab};
 use std::alloc::{AllocError, Global};
 use test_rows::{Columns, RowError};
 

@@ -1,6 +1,7 @@
 //! Octets of formats that are no DER, within elements.
 
-ghost use Rattle.std.specs.Prelude.{◌≡◌, ℕ, List, OnErr, OnOk};
+ghost use Rattle.std.specs.Prelude.{◌≡◌, ℕ, List, [], Option, IfOk, OnErr, OnOk};
+ghost use Rattle.krb_message_fields.specs.declared.places.place.Place.{Place};
 ghost use Rattle.krb_schema.specs.declared.shape.Role.{Role};
 ghost use Rattle.krb_show.specs.Leaves.{octets_of};
 ghost use Rattle.krb_show.specs.Tokens.{Begins, Label, Token};
@@ -15,6 +16,10 @@ pub trait ShowsFormats {
     /// What a page is after such octets are appended to it: what they are to a program, the content of the INTEGER that stands last before them,
     /// the label, the octets, the page before and the page after.
     ghost tells: { Role → List ℕ → Label → List ℕ → List Token → List Token → Type 0 };
+
+    /// The places in such octets of what `show_format` appends for them: what they are to a program, the content of the INTEGER that stands last
+    /// before them, the octets, and the places.
+    ghost places: { Role → List ℕ → List ℕ → List (Option Place) → Type 0 };
 
     /// Appends the octets to the page, which is as before where an allocation fails.
     fn show_format(
@@ -36,7 +41,8 @@ pub trait ShowsFormats {
         role: Role,
         number: &[u8],
         octets: &[u8],
-    ) -> Result<Vec<Option<Place>>, AllocError>;
+    ) -> Result<Vec<Option<Place>>, AllocError>
+        ensures { IfOk result (λ found. places role number.now octets.now found.items) };
 }
 
 /// All of them are octets.
@@ -45,6 +51,8 @@ pub struct NoFormats;
 
 impl ShowsFormats for NoFormats {
     ghost tells = { λ role number label octets. octets_of label octets };
+
+    ghost places = { λ role number octets found. found ≡ [] };
 
     fn show_format(
         alloc: Global,

@@ -1,5 +1,12 @@
 //! Places of what rows show of octets that stand behind others.
 
+ghost use Rattle.std.specs.Prelude.{◌≡◌, List, [], ◌∷◌, Some, length, IfOk};
+ghost use Rattle.krb_show.specs.InnerPlaces.{ArePlacesByRow, place_behind, places_behind, walk_places};
+ghost use Rattle.krb_show.specs.Items.{start};
+ghost use Rattle.krb_show.specs.PlacedItems.{shown_with_places};
+ghost use Rattle.krb_show.specs.Tokens.{Token};
+ghost use Rattle.krb_show.specs.declared.rows.stand.Secrets.TheVariants as secrets;
+
 use crate::rows::formats::ShowsFormats;
 use crate::rows::placed::push_items_with_places;
 use crate::rows::stand::Secrets;
@@ -10,7 +17,9 @@ use krb_schema::Item;
 use std::alloc::{AllocError, Global};
 
 /// The place of a token of octets before which so many others stand.
-fn place_behind(base: usize, token: &Token) -> Option<Place> {
+fn place_behind(base: usize, token: &Token) -> Option<Place>
+    ensures { result ≡ place_behind base token.now.place }
+{
     let place = token.place()?;
     Some(Place {
         offset: base.saturating_add(place.offset),
@@ -18,20 +27,62 @@ fn place_behind(base: usize, token: &Token) -> Option<Place> {
     })
 }
 
-/// The places of the tokens of items of octets before which so many others stand.
-fn places_of_items<F: ShowsFormats>(
+/// The places of tokens of octets before which so many others stand.
+fn places_behind(
+    alloc: Global,
+    base: usize,
+    page: &[Token],
+) -> Result<Vec<Option<Place>>, AllocError>
+    ensures { IfOk result (λ places. places.items ≡ places_behind base page.now) }
+{
+    let mut places = Vec::with_capacity(alloc, page.len())?;
+    'tokens: for token in page {
+        places.push(place_behind(base, token))?;
+    }
+    Ok(places)
+}
+
+/// Where each token that `push_items` appends for items of octets, secrets shown, stands in octets in which so many others stand before
+/// these: the place of its element. The only error is an allocation failure.
+pub fn places_of_items<F: ShowsFormats>(
     alloc: Global,
     base: usize,
     octets: &[u8],
     items: &[Item],
-) -> Result<Vec<Option<Place>>, AllocError> {
+) -> Result<Vec<Option<Place>>, AllocError>
+    ensures { IfOk result (λ places. (page : List Token) × shown_with_places F.tells F.places octets.now items.now (start secrets.Shown) [] page
+        × (places.items ≡ places_behind base page)) }
+{
     let mut page: Page = Vec::new(alloc);
     push_items_with_places::<F>(alloc, Secrets::Shown, octets, items, &mut page)?;
-    let mut places = Vec::with_capacity(alloc, page.len())?;
-    for token in page.iter() {
-        places.push(place_behind(base, token))?;
-    }
+    places_behind(alloc, base, &page)
+}
+
+/// The one place of octets before which so many others stand.
+fn place_of_all(alloc: Global, base: usize, octets: &[u8]) -> Result<Vec<Option<Place>>, AllocError>
+    ensures { IfOk result (λ places. places.items ≡ Some (record { offset = base; size = length octets.now }) ∷ []) }
+{
+    let mut places = Vec::new(alloc);
+    places.push(Some(Place {
+        offset: base,
+        size: octets.len(),
+    }))?;
     Ok(places)
+}
+
+/// The places of what a walk of octets comes to before which so many others stand.
+fn places_of_walk<F: ShowsFormats>(
+    alloc: Global,
+    base: usize,
+    octets: &[u8],
+    walk: Walk,
+) -> Result<Vec<Option<Place>>, AllocError>
+    ensures { IfOk result (λ places. walk_places F.tells F.places base octets.now walk places.items) }
+{
+    match walk {
+        Walk::Items(items) => places_of_items::<F>(alloc, base, octets, &items),
+        Walk::NoRow | Walk::Fault(_) => place_of_all(alloc, base, octets),
+    }
 }
 
 /// Where each token that `show_by_row` appends for octets by the row of this name stands, in octets in which so many others
@@ -42,14 +93,9 @@ pub fn places_by_row<F: ShowsFormats>(
     row_name: &'static str,
     base: usize,
     octets: &[u8],
-) -> Result<Vec<Option<Place>>, AllocError> {
-    if let Walk::Items(items) = walk_named(alloc, row_name, row_name, octets)? {
-        return places_of_items::<F>(alloc, base, octets, &items);
-    }
-    let mut places = Vec::new(alloc);
-    places.push(Some(Place {
-        offset: base,
-        size: octets.len(),
-    }))?;
-    Ok(places)
+) -> Result<Vec<Option<Place>>, AllocError>
+    ensures { IfOk result (λ places. ArePlacesByRow F.tells F.places row_name.now base octets.now places.items) }
+{
+    let walk = walk_named(alloc, row_name, row_name, octets)?;
+    places_of_walk::<F>(alloc, base, octets, walk)
 }

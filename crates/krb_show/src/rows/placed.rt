@@ -1,9 +1,9 @@
 //! Items as tokens that have their places.
 
-ghost use Rattle.std.specs.Prelude.{◌≡◌, OnErr, OnOk};
+ghost use Rattle.std.specs.Prelude.{◌≡◌, IfOk, OnErr, OnOk};
 ghost use Rattle.krb_show.specs.Tokens.{Begins};
 ghost use Rattle.krb_show.specs.Items.{start};
-ghost use Rattle.krb_show.specs.PlacedItems.{place_of, shown_with_places, step_with_place};
+ghost use Rattle.krb_show.specs.PlacedItems.{format_places, inner_places, place_of, shown_with_places, step_with_place};
 
 use crate::places::place_behind;
 use crate::rows::formats::ShowsFormats;
@@ -25,22 +25,34 @@ fn place_of(item: Item) -> Place
     }
 }
 
+/// Where in octets that are more than that to a program what is told of them stands; nowhere in others.
+fn format_places<F: ShowsFormats>(
+    alloc: Global,
+    role: Role,
+    number: &[u8],
+    octets: &[u8],
+) -> Result<Vec<Option<Place>>, AllocError>
+    ensures { IfOk result (λ inner. format_places F.tells F.places role number.now octets.now inner.items) }
+{
+    if role == Role::None {
+        return Ok(Vec::new(alloc));
+    }
+    F::places_of_format(alloc, role, number, octets)
+}
+
 /// Where what is told of the octets of an element stands in them, if they are of a format that is no DER.
 fn inner_places<F: ShowsFormats>(
     alloc: Global,
+    form: Form,
+    role: Role,
+    number: &[u8],
     octets: &[u8],
-    item: Item,
-    stand: &Stand,
-) -> Result<Vec<Option<Place>>, AllocError> {
-    let role = item.name.role;
-    match item.form {
-        Form::Leaf(Leaf::Octets) if role != Role::None => F::places_of_format(
-            alloc,
-            role,
-            stand.number(),
-            octets,
-        ),
-        _ => Ok(Vec::new(alloc)),
+) -> Result<Vec<Option<Place>>, AllocError>
+    ensures { IfOk result (λ inner. inner_places F.tells F.places form role number.now octets.now inner.items) }
+{
+    match form {
+        Form::Leaf(Leaf::Octets) => format_places::<F>(alloc, role, number, octets),
+        Form::Leaf(_) | Form::Begin(_) | Form::End(_) => Ok(Vec::new(alloc)),
     }
 }
 
@@ -56,12 +68,12 @@ fn push_item_with_place<'o, F: ShowsFormats>(
     stand: &mut Stand<'o>,
     page: &mut Page,
 ) -> Result<(), AllocError>
-    ensures ok { OnOk result (step_with_place F.tells octets.now item rest.now stand.old page.old.items stand.new page.new.items) }
+    ensures ok { OnOk result (step_with_place F.tells F.places octets.now item rest.now stand.old page.old.items stand.new page.new.items) }
     ensures kept { Begins page.old.items page.new.items }
 {
     let start = page.len();
     let content = content_of(octets, item);
-    let inner = inner_places::<F>(alloc, content, item, stand)?;
+    let inner = inner_places::<F>(alloc, item.form, item.name.role, stand.number(), content)?;
     push_item::<F>(alloc, octets, item, rest, stand, page)?;
     place_tokens::<Plain>(alloc, content, item.offset, &inner, start, page)?;
     place_behind(page, start, place_of(item));
@@ -77,7 +89,7 @@ fn push_each_with_places<'o, F: ShowsFormats>(
     stand: &mut Stand<'o>,
     page: &mut Page,
 ) -> Result<(), AllocError>
-    ensures ok { OnOk result (shown_with_places F.tells octets.now items.now stand.old page.old.items page.new.items) }
+    ensures ok { OnOk result (shown_with_places F.tells F.places octets.now items.now stand.old page.old.items page.new.items) }
     ensures kept { Begins page.old.items page.new.items }
 {
     let mut rest = items;
@@ -98,7 +110,7 @@ pub fn push_items_with_places<F: ShowsFormats>(
     items: &[Item],
     page: &mut Page,
 ) -> Result<(), AllocError>
-    ensures ok { OnOk result (shown_with_places F.tells octets.now items.now (start secrets) page.old.items page.new.items) }
+    ensures ok { OnOk result (shown_with_places F.tells F.places octets.now items.now (start secrets) page.old.items page.new.items) }
     ensures kept { OnOk result (Begins page.old.items page.new.items) }
     ensures err { OnErr result (page.new.items ≡ page.old.items) }
 {

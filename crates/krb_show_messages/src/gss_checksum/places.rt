@@ -1,9 +1,9 @@
 //! Where what is told of the checksum of the GSS-API stands in it (RFC 4121, 4.1.1).
 
-ghost use Rattle.std.specs.Prelude.{◌≡◌, ◌+◌, ◌≤◌, List, ◌++◌, Option, length, IfOk, OnOk};
+ghost use Rattle.std.specs.Prelude.{◌≡◌, ◌+◌, ◌≤◌, List, ◌++◌, Option, true, length, IfOk, OnOk};
 ghost use Rattle.krb_message_fields.specs.declared.places.place.Place.{Place};
 ghost use Rattle.krb_show_messages.specs.GssChecksum.{IsGssChecksum, dlgth};
-ghost use Rattle.krb_show_messages.specs.Places.{delegation_places, exts_places, gss_checksum_places, rest_places};
+ghost use Rattle.krb_show_messages.specs.Places.{exts_places, gss_checksum_places, places_behind_flags, rest_places};
 
 use crate::gss_checksum::{delegated_length, delegates, is_gss_checksum};
 use crate::places::{place_at, places_of_octets};
@@ -29,7 +29,7 @@ fn push_delegation(
     places: &mut Vec<Option<Place>>,
 ) -> Result<(), AllocError>
     requires { 28 + dlgth octets.now ≤ length octets.now }
-    ensures { OnOk result ((deleg : List (Option Place)) × (places.new.items ≡ places.old.items ++ delegation_places octets.now deleg)) }
+    ensures { OnOk result ((rest : List (Option Place)) × places_behind_flags true octets.now rest × (places.new.items ≡ places.old.items ++ rest)) }
 {
     let length = delegated_length(octets) as usize;
     let deleg = places_by_row::<NoFormats>(alloc, "KRB-CRED", 28, &octets[28..][..length])?;
@@ -46,7 +46,7 @@ fn push_rest(
     places: &mut Vec<Option<Place>>,
 ) -> Result<(), AllocError>
     requires { IsGssChecksum octets.now }
-    ensures { OnOk result ((deleg : List (Option Place)) × (places.new.items ≡ places.old.items ++ rest_places octets.now deleg)) }
+    ensures { OnOk result ((rest : List (Option Place)) × rest_places octets.now rest × (places.new.items ≡ places.old.items ++ rest)) }
 {
     if delegates(octets) {
         return push_delegation(alloc, octets, places);

@@ -1,31 +1,42 @@
 //! Where what is told of a message behind its length stands (MS-KKDCP, 2.2.2).
 
-ghost use Rattle.std.specs.Prelude.{◌≡◌, List, Option, Some, length, drop, IfOk};
-ghost use Rattle.krb_message_fields.specs.declared.places.place.Place.{Place};
-ghost use Rattle.krb_show_messages.specs.Places.{message_places, prefixed_places, row_places};
+ghost use Rattle.std.specs.Prelude.{◌≡◌, Some, length, drop, IfOk};
+ghost use Rattle.krb_show_messages.specs.Places.{items_places, message_places, prefixed_places, row_places};
 ghost use Rattle.krb_show_messages.specs.Prefixed.{IsPrefixed, message_row};
 
 use crate::places::{place_at, places_of_octets};
 use crate::prefixed::{behind_length, is_prefixed, message_row};
-use krb_show::{NoFormats, Place, Walk, places_by_row, walk_named};
+use krb_schema::Item;
+use krb_show::{NoFormats, Place, Walk, places_of_items, walk_named};
 use std::alloc::{AllocError, Global};
 
-/// The places of a message of this row behind its length.
-fn places_of_items(
+/// The places of so many octets, the length and what a message is told as behind it.
+fn places_around(
     alloc: Global,
-    row: &'static str,
-    octets: &[u8],
+    size: usize,
+    message: &[Option<Place>],
 ) -> Result<Vec<Option<Place>>, AllocError>
-    requires { IsPrefixed octets.now }
-    ensures { IfOk result (λ places. (message : List (Option Place)) × (places.items ≡ message_places (length octets.now) message)) }
+    ensures { IfOk result (λ places. places.items ≡ message_places size message.now) }
 {
-    let message = places_by_row::<NoFormats>(alloc, row, 4, behind_length(octets))?;
-    let all = place_at(0, octets.len());
+    let all = place_at(0, size);
     let mut places = Vec::new(alloc);
     places.extend_from_slice(&[all, place_at(0, 4)])?;
-    places.extend_from_slice(&message)?;
+    places.extend_from_slice(message)?;
     places.push(all)?;
     Ok(places)
+}
+
+/// The places of octets behind whose length a message of these items stands.
+fn places_of_message(
+    alloc: Global,
+    octets: &[u8],
+    items: &[Item],
+) -> Result<Vec<Option<Place>>, AllocError>
+    requires { IsPrefixed octets.now }
+    ensures { IfOk result (λ places. items_places octets.now items.now places.items) }
+{
+    let message = places_of_items::<NoFormats>(alloc, 4, behind_length(octets), items)?;
+    places_around(alloc, octets.len(), &message)
 }
 
 /// The places of octets behind whose length a message of this row stands, if one does.
@@ -39,7 +50,7 @@ fn places_by_message_row(
 {
     let message = behind_length(octets);
     match walk_named(alloc, row, row, message)? {
-        Walk::Items(_items) => places_of_items(alloc, row, octets),
+        Walk::Items(items) => places_of_message(alloc, octets, &items),
         Walk::NoRow | Walk::Fault(_) => places_of_octets(alloc, octets),
     }
 }
