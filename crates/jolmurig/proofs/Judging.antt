@@ -1,7 +1,7 @@
 -- A service that is not there.
 use Rattle.std.proofs.Common.{◌≡◌, ◌⊎◌, ℕ, List, Option, None, Some, inl, inr, refl}
 use Rattle.std.specs.Io.KnownBytes.{Keeps}
-use Rattle.jolmurig.specs.Accepts.{Accept}
+use Rattle.jolmurig_command.specs.Accepts.{Accept}
 use Rattle.jolmurig.specs.Judgements.{IsNoService, Ticks}
 use Rattle.jolmurig.specs.Outcome.{Gives, IsNotJudged, Misjudges}
 use Rattle.jolmurig.specs.declared.failure.Failure.{Failure}

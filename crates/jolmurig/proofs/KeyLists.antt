@@ -3,7 +3,7 @@ use Rattle.std.proofs.Common.{refl, ◌≡◌, ℕ, ◌+◌, List, [], ◌∷◌
 use Rattle.std.proofs.lemmas.List.{append-nil, append_assoc}
 use Rattle.krb_decrypt.specs.Keys.{NamedKey}
 use Rattle.jolmurig.specs.Keys.{AreKeys, HasNoKeys, IsNoSource, adds, gives_keys}
-use Rattle.jolmurig.specs.Shows.{Source}
+use Rattle.jolmurig_command.specs.Shows.{Source}
 use Rattle.jolmurig.specs.declared.failure.Failure.{Failure}
 
 module _ (gives : List ℕ → Option (List ℕ) → Type 0) where

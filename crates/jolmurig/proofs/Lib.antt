@@ -1,5 +1,4 @@
 mod Fronts
-mod Steps
 mod KeyLists
 mod PasswordLists
 mod Writes

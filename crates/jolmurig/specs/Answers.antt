@@ -16,8 +16,8 @@ use Rattle.krb_show_any.specs.declared.error.PageError.{PageError}
 use Rattle.krb_show_any.specs.Kinds.{kind_of}
 use Rattle.krb_show_any.specs.Paired.{paired_line}
 use Rattle.krb_show_any.specs.Placed.{IsPlacedPage}
-use Rattle.jolmurig.specs.declared.command.Output.{Output}
-use Rattle.jolmurig.specs.declared.command.Output.TheVariants as output
+use Rattle.jolmurig_command.specs.declared.command.Output.{Output}
+use Rattle.jolmurig_command.specs.declared.command.Output.TheVariants as output
 use Rattle.jolmurig.specs.declared.failure.Failure.{Failure}
 use Rattle.jolmurig.specs.declared.failure.Failure.TheVariants as failure
 

@@ -28,10 +28,10 @@ use Rattle.krb_decrypt.specs.Keys.{NamedKey}
 use Rattle.jolmurig.specs.declared.calls.Entries.{Entries}
 use Rattle.jolmurig.specs.declared.calls.Entries.TheVariants as entries
 use Rattle.jolmurig.specs.Requests.{IsLineOf}
-use Rattle.jolmurig.specs.declared.command.Direction.{Direction}
-use Rattle.jolmurig.specs.declared.command.Direction.TheVariants as direction
-use Rattle.jolmurig.specs.declared.command.Format.{Format}
-use Rattle.jolmurig.specs.declared.command.Format.TheVariants as format
+use Rattle.jolmurig_command.specs.declared.command.Direction.{Direction}
+use Rattle.jolmurig_command.specs.declared.command.Direction.TheVariants as direction
+use Rattle.jolmurig_command.specs.declared.command.Format.{Format}
+use Rattle.jolmurig_command.specs.declared.command.Format.TheVariants as format
 
 -- what is opened in a page: how many keys there may be, the keys, the page before and after
 abbrev pub Opens : Type 1

@@ -8,7 +8,7 @@ use Rattle.krb_file_tools.specs.declared.convert.field.Field.{Field}
 use Rattle.krb_show_any.specs.declared.error.PageError.TheVariants as page
 use Rattle.krb_show_any.specs.declared.kind.Kind.TheVariants as kind
 use Rattle.jolmurig.specs.Calls.{Converts, Refuses}
-use Rattle.jolmurig.specs.declared.command.Format.{Format}
+use Rattle.jolmurig_command.specs.declared.command.Format.{Format}
 use Rattle.jolmurig.specs.declared.failure.Failure.{Failure}
 use Rattle.jolmurig.specs.declared.failure.Failure.TheVariants as failure
 

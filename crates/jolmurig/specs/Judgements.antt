@@ -8,7 +8,7 @@ use Rattle.krb_accept.specs.declared.settings.Settings.{Settings}
 use Rattle.krb_accept_report.specs.Texts.{IsTimeOf}
 use Rattle.krb_accept_report.specs.declared.report.ReportError.{ReportError}
 use Rattle.krb_accept_report.specs.declared.report.ReportError.TheVariants as errors
-use Rattle.jolmurig.specs.Accepts.{Accept}
+use Rattle.jolmurig_command.specs.Accepts.{Accept}
 use Rattle.jolmurig.specs.declared.failure.Failure.{Failure}
 use Rattle.jolmurig.specs.declared.failure.Failure.TheVariants as failure
 use Rattle.jolmurig.specs.declared.failure.Undecided.TheVariants as undecided

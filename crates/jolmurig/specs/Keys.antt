@@ -9,9 +9,9 @@ use Rattle.krb_files.specs.KeytabReading.{keytab_of}
 use Rattle.krb_files.specs.declared.keytab.error.KeytabError.{KeytabError}
 use Rattle.krb_decrypt.specs.KeytabKeys.{key_in, keys_of_entry}
 use Rattle.krb_decrypt.specs.Keys.{NamedKey}
-use Rattle.jolmurig.specs.Shows.{Source}
-use Rattle.jolmurig.specs.declared.command.SourceKind.{SourceKind}
-use Rattle.jolmurig.specs.declared.command.SourceKind.TheVariants as source
+use Rattle.jolmurig_command.specs.Shows.{Source}
+use Rattle.jolmurig_command.specs.declared.command.SourceKind.{SourceKind}
+use Rattle.jolmurig_command.specs.declared.command.SourceKind.TheVariants as source
 use Rattle.jolmurig.specs.declared.failure.Failure.{Failure}
 use Rattle.jolmurig.specs.declared.failure.Failure.TheVariants as failure
 

@@ -1,8 +1,3 @@
-pub mod Words
-pub mod Accepts
-pub mod AcceptArguments
-pub mod Shows
-pub mod Arguments
 pub mod Failures
 pub mod Keys
 pub mod Passwords

@@ -14,7 +14,7 @@ use Rattle.krb_decrypt.specs.Keys.{NamedKey}
 use Rattle.krb_accept.specs.declared.settings.Settings.{Settings}
 use Rattle.krb_accept_report.specs.Questions.{Question}
 use Rattle.krb_accept_report.specs.declared.report.ReportError.{ReportError}
-use Rattle.jolmurig.specs.Accepts.{Accept}
+use Rattle.jolmurig_command.specs.Accepts.{Accept}
 use Rattle.jolmurig.specs.Answers.{ArePrintableLines, IsRefused, IsWritten, Openers}
 use Rattle.jolmurig.specs.Calls.{Blocks, Breaks, Converts, Lists, Opens, Passes, Places, Refuses}
 use Rattle.jolmurig.specs.Checks.{IsChecked, IsUnchecked}
@@ -23,17 +23,17 @@ use Rattle.jolmurig.specs.Judgements.{IsNoService, IsService, Ticks, failure_of_
 use Rattle.jolmurig.specs.Lists.{IsListed, IsUnlisted}
 use Rattle.jolmurig.specs.Passages.{IsBlocked}
 use Rattle.jolmurig.specs.Passwords.{ArePasswords, HasNoPassword}
-use Rattle.jolmurig.specs.Arguments.{asked_by}
+use Rattle.jolmurig_command.specs.Arguments.{asked_by}
 use Rattle.jolmurig.specs.Failures.{line_of, status_of_failure}
 use Rattle.jolmurig.specs.Keys.{AreKeys, HasNoKeys}
-use Rattle.jolmurig.specs.Shows.{Show}
-use Rattle.jolmurig.specs.declared.command.Command.{Command}
-use Rattle.jolmurig.specs.declared.command.Command.TheVariants as command
-use Rattle.jolmurig.specs.declared.command.Command.TheVariants.{Help}
-use Rattle.jolmurig.specs.declared.command.Direction.{Direction}
-use Rattle.jolmurig.specs.declared.command.Format.{Format}
-use Rattle.jolmurig.specs.declared.command.Output.{Output}
-use Rattle.jolmurig.specs.declared.command.Output.TheVariants as output
+use Rattle.jolmurig_command.specs.Shows.{Show}
+use Rattle.jolmurig_command.specs.declared.command.Command.{Command}
+use Rattle.jolmurig_command.specs.declared.command.Command.TheVariants as command
+use Rattle.jolmurig_command.specs.declared.command.Command.TheVariants.{Help}
+use Rattle.jolmurig_command.specs.declared.command.Direction.{Direction}
+use Rattle.jolmurig_command.specs.declared.command.Format.{Format}
+use Rattle.jolmurig_command.specs.declared.command.Output.{Output}
+use Rattle.jolmurig_command.specs.declared.command.Output.TheVariants as output
 use Rattle.jolmurig.specs.declared.failure.Failure.{Failure}
 use Rattle.jolmurig.specs.declared.failure.Failure.TheVariants.{Arguments, Memory, NotBase64, Read, Refused, Write}
 

@@ -8,7 +8,7 @@ use Rattle.krb_show_any.specs.declared.kind.Kind.TheVariants as kind
 use Rattle.krb_show_pages.specs.declared.kinds.DataKind.TheVariants as data_kind
 use Rattle.jolmurig.specs.Calls.{Blocks}
 use Rattle.jolmurig.specs.Failures.{kind_of_message}
-use Rattle.jolmurig.specs.declared.command.Direction.{Direction}
+use Rattle.jolmurig_command.specs.declared.command.Direction.{Direction}
 use Rattle.jolmurig.specs.declared.failure.Failure.{Failure}
 use Rattle.jolmurig.specs.declared.failure.Failure.TheVariants as failure
 

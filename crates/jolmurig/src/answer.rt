@@ -3,13 +3,13 @@
 ghost use Rattle.std.specs.Prelude.{◌≡◌, ◌⊎◌, ◌-◌, ◌++◌, ◌∷◌, [], length, take, IfOk, IfErr};
 ghost use Rattle.std.specs.String.{string_bytes};
 ghost use Rattle.jolmurig.specs.Answers.{AreKeysFor, ArePrintableLines, chosen, is_placed_for, IsRefused, IsWritten, IsWrittenAs, IsWrittenOf, most_of, output_text, shown_keys, type_line};
-ghost use Rattle.jolmurig.specs.declared.command.Output.TheVariants as output;
+ghost use Rattle.jolmurig_command.specs.declared.command.Output.TheVariants as output;
 ghost use Rattle.jolmurig.specs.declared.failure.Failure.TheVariants as failure;
 
 use crate::calls::Calls;
-use crate::command::Output;
 use crate::failure::Failure;
 use crate::openers::Openers;
+use jolmurig_command::Output;
 use krb_decrypt::{Key, MOST_FOUND, keys_of_passwords, without_keys};
 use krb_show::{Page, Token, json_of_page, text_of_page, text_of_page_with_places};
 use krb_show_any::{Kind, PageError, Pages, json_with_places, kind_of_octets, page_with_places};

@@ -20,12 +20,12 @@ ghost use Rattle.krb_show_any.specs.declared.kind.Kind.{Kind};
 ghost use Rattle.krb_decrypt.specs.Keys.{NamedKey};
 ghost use Rattle.krb_decrypt.specs.Pages.{is_decrypted_page};
 ghost use Rattle.jolmurig.specs.Calls.{blocked, converted_to, listed_as, no_list, passed_on, unconverted_to};
-ghost use Rattle.jolmurig.specs.declared.command.Direction.{Direction};
-ghost use Rattle.jolmurig.specs.declared.command.Format.{Format};
+ghost use Rattle.jolmurig_command.specs.declared.command.Direction.{Direction};
+ghost use Rattle.jolmurig_command.specs.declared.command.Format.{Format};
 ghost use Rattle.jolmurig.specs.declared.calls.Entries.{Entries};
 
-use crate::command::{Direction, Format};
 use crate::proxy::{Passed, reply_passed, request_passed};
+use jolmurig_command::{Direction, Format};
 use krb_accept::Kerberos;
 use krb_accept_report::{Question, Report, ReportError, report_of};
 use krb_accept_rules::Opening;

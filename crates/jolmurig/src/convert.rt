@@ -6,8 +6,8 @@ ghost use Rattle.jolmurig.specs.Conversions.{IsConverted, IsUnconverted, failure
 ghost use Rattle.jolmurig.specs.declared.failure.Failure.TheVariants as failure;
 
 use crate::calls::Calls;
-use crate::command::Format;
 use crate::failure::Failure;
+use jolmurig_command::Format;
 use krb_file_tools::convert::{ConvertError, Field};
 use krb_show_any::{Kind, PageError};
 use std::alloc::{AllocError, Global};

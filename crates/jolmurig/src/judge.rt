@@ -12,11 +12,11 @@ ghost use Rattle.jolmurig.specs.declared.failure.Undecided.TheVariants as undeci
 
 use crate::calls::Calls;
 use crate::clock::Clock;
-use crate::command::Accept;
 use crate::failure::{Failure, Undecided};
 use crate::files::{Files, octets_of_file};
 use crate::input::read_octets;
 use hex::FromHexError;
+use jolmurig_command::Accept;
 use krb_accept::{PacCheck, Settings};
 use krb_accept_report::{Question, Report, ReportError, seconds_of_text};
 use std::alloc::Global;

@@ -6,9 +6,9 @@ ghost use Rattle.jolmurig.specs.Keys.{AreKeys, HasNoKeys, IsKeytabOf, IsNoKeyFil
 ghost use Rattle.jolmurig.specs.Keys.{adds, gives_keys, key_file_gives, key_name, keytab_gives, text_gives};
 ghost use Rattle.jolmurig.specs.declared.failure.Failure.TheVariants as failure;
 
-use crate::command::{Source, SourceKind};
 use crate::failure::Failure;
 use crate::files::{Files, octets_of_file};
+use jolmurig_command::{Source, SourceKind};
 use krb_decrypt::{Key, KeytabKeysError, key_of_text, keys_of_keytab};
 use krb_input::without_blanks;
 use std::alloc::{AllocError, Global};

@@ -5,9 +5,9 @@ ghost use Rattle.std.specs.Prelude.{◌≡◌, ◌≤◌, ◌⊎◌, ◌++◌, �
 ghost use Rattle.jolmurig.specs.Passwords.{ArePasswords, HasNoPassword, first_line, is_line_end, password_gives, pushes};
 ghost use Rattle.jolmurig.specs.declared.failure.Failure.TheVariants as failure;
 
-use crate::command::FileName;
 use crate::failure::Failure;
 use crate::files::{Files, octets_of_file};
+use jolmurig_command::FileName;
 use std::alloc::{AllocError, Global};
 
 /// Whether an octet is a line feed or a carriage return.

@@ -4,7 +4,7 @@ ghost use Rattle.std.specs.Prelude.{◌≡◌, ◌⊎◌, ◌++◌, OnOk, IfOk, 
 ghost use Rattle.jolmurig.specs.Calls.{blocked, passed_on};
 ghost use Rattle.jolmurig.specs.Passages.{IsBlocked, failure_of_proxy};
 ghost use Rattle.jolmurig.specs.Requests.{IsLineOf, destination, other_realm, service_name};
-ghost use Rattle.jolmurig.specs.declared.command.Direction.TheVariants as direction;
+ghost use Rattle.jolmurig_command.specs.declared.command.Direction.TheVariants as direction;
 ghost use Rattle.jolmurig.specs.declared.failure.Failure.TheVariants as failure;
 ghost use Rattle.krb_messages.specs.Rejected.{der_error};
 ghost use Rattle.krb_kdc_proxy.specs.Messages.{OrMemory};
@@ -12,8 +12,8 @@ ghost use Rattle.krb_kdc_proxy.specs.Replies.{reply_types};
 ghost use Rattle.krb_kdc_proxy.specs.Requests.{types};
 
 use crate::calls::Calls;
-use crate::command::Direction;
 use crate::failure::{Failure, kind_of_message};
+use jolmurig_command::Direction;
 use krb_der::{Asn1DerError, DerEncode};
 use krb_kdc_proxy::{MessageError, ProxyError, ProxyRequest, Service, read_request, write_reply};
 use krb_messages::messages::{

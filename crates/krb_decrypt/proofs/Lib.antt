@@ -3,7 +3,6 @@ pub mod Seals
 pub mod Zeros
 pub mod Filled
 pub mod Growing
-pub mod Results
 mod SaltLists
 mod KeyLists
 mod Walks

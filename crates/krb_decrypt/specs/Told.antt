@@ -10,12 +10,11 @@ use Rattle.krb_decrypt.specs.declared.outcome.Part.{Part}
 use Rattle.krb_decrypt.specs.declared.outcome.Reason.{Reason}
 use Rattle.krb_decrypt.specs.declared.outcome.Reason.TheVariants as reasons
 use Rattle.krb_decrypt.specs.declared.usage.Usage.{Usage}
-use Rattle.krb_schema.specs.declared.shape.Role.{Role}
 use Rattle.krb_show.specs.Items.{start as first_stand}
 use Rattle.krb_show.specs.Leaves.{number_of, text_of, unsigned_of}
 use Rattle.krb_show.specs.Pages.{◌then◌}
 use Rattle.krb_show.specs.PlacedItems.{Placing, Telling, shown_with_places}
-use Rattle.krb_show.specs.Tokens.{Label, Token, plain}
+use Rattle.krb_show.specs.Tokens.{Token, plain}
 use Rattle.krb_show.specs.declared.rows.stand.Secrets.TheVariants as secrets
 
 -- why a part is not decrypted

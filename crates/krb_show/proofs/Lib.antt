@@ -7,3 +7,4 @@ pub mod Printable
 pub mod PrintableJson
 pub mod PrintablePlaces
 mod Walks
+pub mod PlaceLists

@@ -1,4 +1,5 @@
--- The places of what a row shows of octets, in octets in which so many others stand before these.
+-- The places of what a row shows of octets, in octets in which so many others stand before these. No standard has places: an
+-- offset is how many octets stand before, a size how many there are.
 use Rattle.std.specs.Prelude.{◌≡◌, ℕ, ◌+◌, ◌-◌, ◌^◌, min, List, [], ◌∷◌, Option, None, Some, length, map}
 use Rattle.krb_message_fields.specs.declared.places.place.Place.{Place}
 use Rattle.krb_show.specs.Items.{start}
@@ -8,6 +9,10 @@ use Rattle.krb_show.specs.Tokens.{Token}
 use Rattle.krb_show.specs.declared.rows.stand.Secrets.TheVariants as secrets
 use Rattle.krb_show.specs.declared.rows.walk.Walk.{Walk}
 use Rattle.krb_show.specs.declared.rows.walk.Walk.TheVariants as walks
+
+-- so many octets behind so many others
+abbrev pub place_at : ℕ → ℕ → Option Place
+place_at offset size = Some (record { offset = offset; size = size })
 
 -- a place behind so many octets more; an offset past the largest number of 64 bits is that
 abbrev pub place_behind : ℕ → Option Place → Option Place
@@ -23,7 +28,7 @@ module _ (tells : Telling) (places : Placing) where
   abbrev pub walk_places : ℕ → List ℕ → Walk → List (Option Place) → Type 0
   walk_places base octets (walks.Items items) made =
       (page : List Token) × shown_with_places tells places octets items.items (start secrets.Shown) [] page × (made ≡ places_behind base page)
-  walk_places base octets walk made = made ≡ Some (record { offset = base; size = length octets }) ∷ []
+  walk_places base octets walk made = made ≡ place_at base (length octets) ∷ []
 
   -- by the row of a name
   pub record ArePlacesByRow (row_name : List ℕ) (base : ℕ) (octets : List ℕ) (made : List (Option Place)) : Type 0 where

@@ -1,4 +1,4 @@
--- The tokens of items with their places.
+-- The tokens of items with their places: where the content of an element stands, its octets behind tag and length (X.690, 8.1.4).
 use Rattle.std.specs.Prelude.{◌≡◌, ℕ, List, [], ◌∷◌, Option, length}
 use Rattle.krb_message_fields.specs.declared.places.place.Place.{Place}
 use Rattle.krb_schema.specs.declared.item.Form.{Form}
@@ -12,7 +12,7 @@ use Rattle.krb_show.specs.Items.{Stand, step}
 use Rattle.krb_show.specs.Spots.{is_plain, spotted}
 use Rattle.krb_show.specs.Tokens.{Label, Token, placed_behind}
 
--- where the content of an item is
+-- where the content of an item is, which is its octets behind tag and length
 abbrev pub place_of : Item → Place
 place_of i = record { offset = i.offset; size = i.size }
 

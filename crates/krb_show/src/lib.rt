@@ -45,8 +45,8 @@ pub use numbers::{OpensValues, TypedValue, is_number};
 pub use opened::{open, show_opened};
 pub use page::page_of_octets;
 pub use rows::{
-    NoFormats, Row, Secrets, ShowsFormats, Stand, Walk, places_by_row, places_of_items, push_item,
-    push_items, push_items_with_places, show_by_row, walk_named,
+    NoFormats, Row, Secrets, ShowsFormats, Stand, Walk, place_at, places_by_row, places_of_items,
+    push_item, push_items, push_items_with_places, show_by_row, walk_named,
 };
 pub use show::Show;
 pub use spots::{Plain, Tells, is_plain, place_tokens};

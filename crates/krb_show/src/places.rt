@@ -7,7 +7,7 @@ use crate::token::Page;
 use krb_message_fields::places::Place;
 
 /// Gives the token at an index, if there is one, this place.
-pub(crate) fn place_at(page: &mut Page, index: usize, place: Place)
+pub(crate) fn give_place(page: &mut Page, index: usize, place: Place)
     ensures { page.new.items ≡ placed_at place index page.old.items }
 {
     if let Some(token) = page.get_mut(index) {
@@ -21,7 +21,7 @@ pub(crate) fn place_behind(page: &mut Page, start: usize, place: Place)
 {
     if start < page.len() {
         let last = page.len() - 1;
-        place_at(page, start, place);
-        place_at(page, last, place);
+        give_place(page, start, place);
+        give_place(page, last, place);
     }
 }

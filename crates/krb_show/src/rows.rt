@@ -9,7 +9,7 @@ mod stand;
 mod walk;
 
 pub use formats::{NoFormats, ShowsFormats};
-pub use inner::{places_by_row, places_of_items};
+pub use inner::{place_at, places_by_row, places_of_items};
 pub use items::{push_item, push_items};
 pub use placed::push_items_with_places;
 pub use stand::{Secrets, Stand};

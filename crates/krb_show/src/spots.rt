@@ -6,7 +6,7 @@ ghost use Rattle.byteorder.specs.Endian.{big_number, little_number};
 ghost use Rattle.krb_show.specs.Spots.{content_in, found, is_number, is_number_of, is_plain, is_told, spotted};
 ghost use Rattle.krb_show.specs.Tokens.{Token, placed_where};
 
-use crate::places::place_at;
+use crate::places::give_place;
 use crate::token::{Form, Page, Token};
 use byteorder::{BigEndian, ByteOrder, LittleEndian};
 use krb_message_fields::places::Place;
@@ -129,7 +129,7 @@ fn place_where(page: &mut Page, index: usize, place: Option<Place>)
     ensures { page.new.items ≡ placed_where place index page.old.items }
 {
     if let Some(place) = place {
-        place_at(page, index, place);
+        give_place(page, index, place);
     }
 }
 

@@ -14,7 +14,7 @@ use Rattle.krb_show.specs.declared.rows.walk.Walk.{Walk}
 use Rattle.krb_show.specs.declared.rows.walk.Walk.TheVariants as walks
 use Rattle.krb_show_messages.specs.Formats.{formats_of}
 use Rattle.krb_show_pages.specs.KeytabPlaces.{keytab_places}
-use Rattle.krb_show_pages.specs.NegoexPlaces.{negoex_places}
+use Rattle.krb_show_negoex.specs.NegoexPlaces.{negoex_places}
 use Rattle.krb_show_pages.specs.declared.certificate_kinds.CertificateKind.{CertificateKind}
 use Rattle.krb_show_pages.specs.declared.certificate_kinds.CertificateKind.TheVariants as certificates
 use Rattle.krb_show_messages.specs.Places.{formats_places, pac_places}

@@ -1,11 +1,11 @@
 //! Messages of NEGOEX.
 
 ghost use Rattle.std.specs.Prelude.{false};
-ghost use Rattle.krb_show_pages.specs.Negoex.{AreTold, IsFollowed, IsMessageTold};
+ghost use Rattle.krb_show_negoex.specs.Negoex.{AreTold, IsFollowed, IsMessageTold};
 
 use crate::pages::Pages;
 use krb_show::Page;
-use krb_show_pages::page_of_negoex;
+use krb_show_negoex::page_of_negoex;
 use std::alloc::Global;
 use std::io;
 

@@ -10,7 +10,8 @@ use krb_show::{
     text_of_page,
 };
 use krb_show_messages::{KerberosFormats, places_of_pac};
-use krb_show_pages::{CertificateKind, places_of_ccache, places_of_keytab, places_of_negoex};
+use krb_show_negoex::places_of_negoex;
+use krb_show_pages::{CertificateKind, places_of_ccache, places_of_keytab};
 use krb_show_tokens::kpasswd::places_of_password_frame;
 use krb_show_tokens::places_of_token;
 use std::alloc::{AllocError, Global};

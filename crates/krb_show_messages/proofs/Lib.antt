@@ -1,3 +1,2 @@
 mod PlacesLemmas
 mod Plain
-mod Results

@@ -5,16 +5,13 @@ use Rattle.std.proofs.lemmas.List.{append_assoc, append-nil}
 use Rattle.byteorder.specs.Numbers.{little_from-lt}
 use Rattle.krb_message_fields.specs.declared.places.place.Place.{Place}
 use Rattle.krb_pac.specs.Numbered.{NumberedBuffer, NumberedPacIs}
+use Rattle.krb_show.proofs.PlaceLists.{behind_both}
 use Rattle.krb_show_messages.proofs.Plain.{taken_item}
 use Rattle.krb_show_messages.specs.Places.{buffer_places, each_places}
 
 -- a PAC has fewer buffers than a number of four octets can say
 pub few : (octets : List ℕ) (pac : List NumberedBuffer) → ((k : ℕ) → get_or octets k 0 < 256) → NumberedPacIs octets pac → length pac < 2 ^ 32
 few octets pac small is = omega (arith, little_from-lt 0 4 octets small, is.count)
-
--- what is appended to a list behind another
-pub behind_both : {A : Type 0} (old done more between new : List A) → between ≡ old ++ done → new ≡ between ++ more → new ≡ old ++ (done ++ more)
-behind_both old done more between new e f = f ∙ ap (λ l. l ++ more) e ∙ append_assoc old done more
 
 -- one more buffer behind the others
 each_more : (h : Bool) (i : ℕ) (ps : List NumberedBuffer) (p : NumberedBuffer)

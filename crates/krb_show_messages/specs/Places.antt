@@ -4,7 +4,7 @@ use Rattle.krb_message_fields.specs.declared.places.place.Place.{Place}
 use Rattle.krb_pac.specs.Numbered.{NumberedBuffer, NumberedPacIs}
 use Rattle.krb_schema.specs.declared.item.Item.{Item}
 use Rattle.krb_schema.specs.declared.shape.Role.TheVariants as roles
-use Rattle.krb_show.specs.InnerPlaces.{ArePlacesByRow, places_behind}
+use Rattle.krb_show.specs.InnerPlaces.{ArePlacesByRow, place_at, places_behind}
 use Rattle.krb_show.specs.Items.{start}
 use Rattle.krb_show.specs.PlacedItems.{Placing, shown_with_places}
 use Rattle.krb_show.specs.RowWalk.{IsWalkBy}
@@ -16,10 +16,6 @@ use Rattle.krb_show_messages.specs.Formats.{gss_checksum, no_formats, win2k_pac}
 use Rattle.krb_show_messages.specs.GssChecksum.{IsGssChecksum, delegates, dlgth}
 use Rattle.krb_show_messages.specs.Pac.{IsNoPac, plain_octets}
 use Rattle.krb_show_messages.specs.Prefixed.{IsPrefixed, message_row}
-
--- so many octets behind so many others
-abbrev pub place_at : ℕ → ℕ → Option Place
-place_at offset size = Some (record { offset = offset; size = size })
 
 -- all of so many octets
 abbrev pub all_places : ℕ → List (Option Place)
@@ -111,21 +107,21 @@ items_places octets items places =
     × (places ≡ message_places (length octets) (places_behind 4 page))
 
 -- by what the walk of the message comes to
-abbrev pub walk_places : List ℕ → Walk → List (Option Place) → Type 0
-walk_places octets (walks.Items items) places = items_places octets items.items places
-walk_places octets walk places = places ≡ all_places (length octets)
+abbrev pub message_walk_places : List ℕ → Walk → List (Option Place) → Type 0
+message_walk_places octets (walks.Items items) places = items_places octets items.items places
+message_walk_places octets walk places = places ≡ all_places (length octets)
 
 -- octets behind whose length octets stand, by the row of these
 abbrev pub row_places : Option (List ℕ) → List ℕ → List (Option Place) → Type 0
 row_places None octets places = places ≡ all_places (length octets)
-row_places (Some row) octets places = (walk : Walk) × IsWalkBy row row (drop 4 octets) walk × walk_places octets walk places
+row_places (Some row) octets places = (walk : Walk) × IsWalkBy row row (drop 4 octets) walk × message_walk_places octets walk places
 
 abbrev pub prefixed_places : List ℕ → List (Option Place) → Type 0
 prefixed_places octets places =
     (IsPrefixed octets × row_places (message_row (drop 4 octets)) octets places)
     ⊎ ((IsPrefixed octets → ⊥) × (places ≡ all_places (length octets)))
 
--- ---- octets within elements
+-- ---- octets within elements: ad-data behind its ad-type (RFC 4120, 5.2.6), a checksum behind its cksumtype (5.2.9), and kerb-message (MS-KKDCP, 2.2.2)
 
 -- behind this number those of a format, behind another that of all octets
 abbrev pub behind_number_places : List ℕ → List ℕ → List ℕ → (List (Option Place) → Type 0) → List (Option Place) → Type 0

@@ -1,17 +1,10 @@
 //! Places of what is told of formats that are no DER.
 
 ghost use Rattle.std.specs.Prelude.{◌≡◌, length, IfOk};
-ghost use Rattle.krb_show_messages.specs.Places.{all_places, place_at};
+ghost use Rattle.krb_show_messages.specs.Places.{all_places};
 
-use krb_show::Place;
+use krb_show::{Place, place_at};
 use std::alloc::{AllocError, Global};
-
-/// The place of so many octets behind so many others.
-pub(crate) fn place_at(offset: usize, size: usize) -> Option<Place>
-    ensures { result ≡ place_at offset size }
-{
-    Some(Place { offset, size })
-}
 
 /// The one place of what is told as octets: all of them.
 pub(crate) fn places_of_octets(

@@ -17,7 +17,7 @@ use Rattle.krb_files.specs.Laws.{IsOctets, IsOctets-drop, counted_reading, guard
 use Rattle.krb_files.specs.declared.fields.error.FieldError.{FieldError}
 use Rattle.krb_files.specs.declared.fields.error.FieldError.TheVariants.{Truncated}
 use Rattle.krb_message_fields.specs.declared.places.place.Place.{Place}
-use Rattle.krb_show_messages.specs.Places.{place_at}
+use Rattle.krb_show.specs.InnerPlaces.{place_at}
 use Rattle.krb_show_pages.specs.KeytabPlaces.{adds_content, component_places, entry_places, parts_places, records_places}
 use Rattle.krb_show_pages.specs.KeytabParts.{FitsRecordPart, IsPart, IsPartAt, IsPartsOf, content_of, fits_content, record_size, told_of}
 use Rattle.krb_show_pages.specs.declared.files.keytab_places.EntryParts.{EntryParts}

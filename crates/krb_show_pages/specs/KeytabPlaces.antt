@@ -5,7 +5,7 @@ use Rattle.krb_files.specs.Entry.{Entry}
 use Rattle.krb_files.specs.FieldWritten.{principal_octets}
 use Rattle.krb_files.specs.Keytab.{Fields, FitsFields, KeytabIs, Record, fields_octets, hole, live, record_octets}
 use Rattle.krb_message_fields.specs.declared.places.place.Place.{Place}
-use Rattle.krb_show_messages.specs.Places.{place_at}
+use Rattle.krb_show.specs.InnerPlaces.{place_at}
 
 -- components from an offset on, one behind another, each behind its length of 16 bits
 abbrev pub component_places : ℕ → List (List ℕ) → List (Option Place)

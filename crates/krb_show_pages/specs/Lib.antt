@@ -2,8 +2,6 @@ pub mod Told
 pub mod Kinds
 pub mod CertificateKinds
 pub mod Choices
-pub mod Negoex
-pub mod NegoexPlaces
 pub mod Files
 pub mod KeytabPlaces
 pub mod KeytabParts

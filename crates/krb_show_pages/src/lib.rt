@@ -1,5 +1,5 @@
 //! Pages of whole octets, each type by its own row or reader: messages of Kerberos and their decrypted parts, by their first octet (RFC 4120); types that
-//! no first octet tells, those of PKINIT and of CredSSP among them, by name; messages of NEGOEX (MS-NEGOEX); keytabs and credential caches (MIT Kerberos).
+//! no first octet tells, those of PKINIT and of CredSSP among them, by name; keytabs and credential caches (MIT Kerberos).
 #![tactic(auto)]
 
 mod certificate_kinds;
@@ -8,8 +8,6 @@ mod data;
 mod files;
 mod kinds;
 mod messages;
-mod negoex;
-mod places;
 
 pub use certificate_kinds::CertificateKind;
 pub use certificates::page_of_certificate_data;
@@ -19,8 +17,3 @@ pub use files::{
 };
 pub use kinds::DataKind;
 pub use messages::{page_of_message, page_of_part};
-pub use negoex::{page_of_negoex, places_of_negoex};
-
-/// The way in which messages of NEGOEX are shown.
-#[derive(Drop)]
-pub struct Format;

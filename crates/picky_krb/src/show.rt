@@ -16,10 +16,11 @@ pub use krb_show_messages::{
     Certificate, HasRow, KerberosFormats, Message, RowField, page_of_pac, places_of_pac, show_pac,
     show_value,
 };
+pub use krb_show_negoex::{page_of_negoex, places_of_negoex};
 pub use krb_show_pages::{
     CertificateKind, DataKind, FilePageError, page_of_ccache, page_of_certificate_data,
-    page_of_data, page_of_keytab, page_of_message, page_of_negoex, page_of_part, places_of_ccache,
-    places_of_keytab, places_of_negoex,
+    page_of_data, page_of_keytab, page_of_message, page_of_part, places_of_ccache,
+    places_of_keytab,
 };
 pub use krb_show_tokens::kpasswd::{
     PasswordFrameError, page_of_password_frame, places_of_password_frame,

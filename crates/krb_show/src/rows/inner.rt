@@ -1,7 +1,7 @@
 //! Places of what rows show of octets that stand behind others.
 
-ghost use Rattle.std.specs.Prelude.{◌≡◌, List, [], ◌∷◌, Some, length, IfOk};
-ghost use Rattle.krb_show.specs.InnerPlaces.{ArePlacesByRow, place_behind, places_behind, walk_places};
+ghost use Rattle.std.specs.Prelude.{◌≡◌, List, [], ◌∷◌, length, IfOk};
+ghost use Rattle.krb_show.specs.InnerPlaces.{ArePlacesByRow, place_at, place_behind, places_behind, walk_places};
 ghost use Rattle.krb_show.specs.Items.{start};
 ghost use Rattle.krb_show.specs.PlacedItems.{shown_with_places};
 ghost use Rattle.krb_show.specs.Tokens.{Token};
@@ -15,6 +15,13 @@ use crate::token::{Page, Token};
 use krb_message_fields::places::Place;
 use krb_schema::Item;
 use std::alloc::{AllocError, Global};
+
+/// The place of so many octets behind so many others.
+pub fn place_at(offset: usize, size: usize) -> Option<Place>
+    ensures { result ≡ place_at offset size }
+{
+    Some(Place { offset, size })
+}
 
 /// The place of a token of octets before which so many others stand.
 fn place_behind(base: usize, token: &Token) -> Option<Place>
@@ -60,13 +67,10 @@ pub fn places_of_items<F: ShowsFormats>(
 
 /// The one place of octets before which so many others stand.
 fn place_of_all(alloc: Global, base: usize, octets: &[u8]) -> Result<Vec<Option<Place>>, AllocError>
-    ensures { IfOk result (λ places. places.items ≡ Some (record { offset = base; size = length octets.now }) ∷ []) }
+    ensures { IfOk result (λ places. places.items ≡ place_at base (length octets.now) ∷ []) }
 {
     let mut places = Vec::new(alloc);
-    places.push(Some(Place {
-        offset: base,
-        size: octets.len(),
-    }))?;
+    places.push(place_at(base, octets.len()))?;
     Ok(places)
 }
 

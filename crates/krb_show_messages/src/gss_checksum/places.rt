@@ -6,8 +6,8 @@ ghost use Rattle.krb_show_messages.specs.GssChecksum.{IsGssChecksum, dlgth};
 ghost use Rattle.krb_show_messages.specs.Places.{exts_places, gss_checksum_places, places_behind_flags, rest_places};
 
 use crate::gss_checksum::{delegated_length, delegates, is_gss_checksum};
-use crate::places::{place_at, places_of_octets};
-use krb_show::{NoFormats, Place, places_by_row};
+use crate::places::places_of_octets;
+use krb_show::{NoFormats, Place, place_at, places_by_row};
 use std::alloc::{AllocError, Global};
 
 /// Appends the place of Exts, the octets from an offset on, if there are any.

@@ -5,9 +5,9 @@ ghost use Rattle.krb_pac.specs.Numbered.{NumberedPacIs};
 ghost use Rattle.krb_show_messages.specs.Places.{buffer_places, directory_places, each_places, named_places, other_places, pac_places, plain_places};
 
 use crate::pac::{buffers, is_plain};
-use crate::places::{place_at, places_of_octets};
+use crate::places::places_of_octets;
 use krb_pac::{NumberedBufferView, NumberedPacView};
-use krb_show::Place;
+use krb_show::{Place, place_at};
 use std::alloc::{AllocError, Global};
 
 /// Appends the place of the octets that a buffer's entry names, if they are told.

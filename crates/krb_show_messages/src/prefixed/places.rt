@@ -4,10 +4,10 @@ ghost use Rattle.std.specs.Prelude.{◌≡◌, Some, length, drop, IfOk};
 ghost use Rattle.krb_show_messages.specs.Places.{items_places, message_places, prefixed_places, row_places};
 ghost use Rattle.krb_show_messages.specs.Prefixed.{IsPrefixed, message_row};
 
-use crate::places::{place_at, places_of_octets};
+use crate::places::places_of_octets;
 use crate::prefixed::{behind_length, is_prefixed, message_row};
 use krb_schema::Item;
-use krb_show::{NoFormats, Place, Walk, places_of_items, walk_named};
+use krb_show::{NoFormats, Place, Walk, place_at, places_of_items, walk_named};
 use std::alloc::{AllocError, Global};
 
 /// The places of so many octets, the length and what a message is told as behind it.

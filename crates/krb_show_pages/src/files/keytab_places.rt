@@ -8,10 +8,9 @@ ghost use Rattle.krb_files.specs.Keytab.{Fields, FitsFields, FitsRecord, IsEnd, 
 ghost use Rattle.krb_show_pages.specs.KeytabPlaces.{adds_content, adds_entry, component_places, keytab_places, parts_places, records_places, version_place};
 ghost use Rattle.krb_show_pages.specs.KeytabParts.{FitsParts, FitsRecordPart, IsPart, IsPartAt, IsPartsOf, record_size, told_of};
 
-use crate::places::place_at;
 use byteorder::{BigEndian, ByteOrder};
 use krb_files::fields::{ComponentsView, LengthSize, counted_at, principal_at, u32_at};
-use krb_show::Place;
+use krb_show::{Place, place_at};
 use std::alloc::{AllocError, Global};
 
 /// How many octets the type of the name, the timestamp, the version of 8 bits and the encryption type have.

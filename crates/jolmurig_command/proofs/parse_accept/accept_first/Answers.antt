@@ -1,0 +1,20 @@
+use Rattle.std.proofs.Common.{ap, arith, sym, ◌∙◌, map}
+use Rattle.std.specs.String.{string_bytes}
+use Rattle.jolmurig_command.specs.AcceptArguments.{accept_value}
+use Rattle.jolmurig_command.proofs.Steps.{behind_accept_flag, behind_accept_value, fewer}
+use Rattle.jolmurig_command.proofs.parse_accept.accept_first.Goals as goal
+
+pub returns-in-Some : goal.returns-in-Some
+returns-in-Some c = (
+  behind_accept_flag c.args.asked c.in-Some.asked c.args.word.now (map string_bytes c.args.rest.now) c.requires
+      (sym c.accept_valued.ensures ∙ c.if-not-accept_valued.true) (sym c.accept_flag.ensures ∙ c.in-Some.is),
+  omega arith,
+)
+
+pub returns-in-Some-accept_value : goal.returns-in-Some-accept_value
+returns-in-Some-accept_value c = (
+  behind_accept_value string_bytes c.args.asked c.in-Some-accept_value.asked c.args.word.now c.args.rest.now c.in-Some-split_first.behind.now _
+      c.in-Some-split_first.ensures.cases.0 c.requires (sym c.accept_valued.ensures ∙ c.if-not-accept_valued.false)
+      (sym (ap (λ o. accept_value c.args.word.now o c.args.asked) c.as_str.ensures.value) ∙ sym c.accept_value.ensures ∙ c.in-Some-accept_value.is),
+  fewer _ _ _ c.in-Some-split_first.ensures.cases.0,
+)

@@ -1,0 +1,5 @@
+pub mod Words
+pub mod Accepts
+pub mod AcceptArguments
+pub mod Shows
+pub mod Arguments

@@ -1,0 +1,12 @@
+//! The command that the arguments of `jolmurig` are: which one, with its options and the names of files. No file is opened, and no option's text is read.
+#![tactic(auto)]
+
+mod arguments;
+mod command;
+mod parse_accept;
+
+pub use arguments::parse;
+pub use command::{
+    Accept, Command, Direction, FileName, Format, Operand, Output, Show, Source, SourceKind,
+    TypeName,
+};

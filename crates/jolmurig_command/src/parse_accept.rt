@@ -1,0 +1,233 @@
+//! What the arguments of `accept` ask for.
+
+ghost use Rattle.std.specs.Prelude.{◌≡◌, ◌≤◌, ◌∷◌, false, length, map, None, Some, MatchOption};
+ghost use Rattle.std.specs.String.{string_bytes};
+ghost use Rattle.jolmurig_command.specs.AcceptArguments.{accept_asked, accept_file, accept_flag, accept_options, accept_pac, accept_value, accept_valued, once, pac_of};
+ghost use Rattle.jolmurig_command.specs.Accepts.{no_option};
+ghost use Rattle.jolmurig_command.specs.Words.{is_help};
+
+use crate::arguments::{file_name, is_help, is_word};
+use crate::command::{Accept, Command};
+use krb_accept::PacCheck;
+
+/// Of this file, where none was asked for.
+fn accept_file<'a>(argument: &'a str, asked: Accept<'a>) -> Option<Accept<'a>>
+    ensures { result ≡ accept_file argument.now asked.entry }
+{
+    let name = file_name(argument)?;
+    if asked.file.is_some() {
+        return None;
+    }
+    Some(Accept {
+        file: Some(name),
+        ..asked
+    })
+}
+
+/// With an option that has no value, or a file.
+fn accept_flag<'a>(word: &'a str, asked: Accept<'a>) -> Option<Accept<'a>>
+    ensures { result ≡ accept_flag word.now asked.entry }
+{
+    if is_word(word, "--bare") {
+        Some(Accept {
+            is_bare: true,
+            ..asked
+        })
+    } else if is_word(word, "--other-checksum") {
+        Some(Accept {
+            takes_other: true,
+            ..asked
+        })
+    } else {
+        accept_file(word, asked)
+    }
+}
+
+/// What is done with the PAC, by a name.
+fn pac_of(word: &str) -> Option<PacCheck>
+    ensures { result ≡ pac_of word.now }
+{
+    if is_word(word, "required") {
+        Some(PacCheck::Required)
+    } else if is_word(word, "ignored") {
+        Some(PacCheck::Ignored)
+    } else {
+        None
+    }
+}
+
+/// With this done with the PAC, where nothing was asked for.
+fn accept_pac<'a>(word: &str, asked: Accept<'a>) -> Option<Accept<'a>>
+    ensures { result ≡ accept_pac word.now asked.entry }
+{
+    let check = pac_of(word)?;
+    if asked.pac.is_some() {
+        return None;
+    }
+    Some(Accept {
+        pac: Some(check),
+        ..asked
+    })
+}
+
+/// Of this keytab, where none was asked for.
+fn with_keytab<'a>(text: &'a str, asked: Accept<'a>) -> Option<Accept<'a>>
+    ensures { result ≡ once asked.entry.keytab (record asked.entry { keytab = Some text.now }) }
+{
+    if asked.keytab.is_some() {
+        return None;
+    }
+    Some(Accept {
+        keytab: Some(text),
+        ..asked
+    })
+}
+
+/// At this time.
+fn with_time<'a>(text: &'a str, asked: Accept<'a>) -> Option<Accept<'a>>
+    ensures { result ≡ once asked.entry.time (record asked.entry { time = Some text.now }) }
+{
+    if asked.time.is_some() {
+        return None;
+    }
+    Some(Accept {
+        time: Some(text),
+        ..asked
+    })
+}
+
+/// With this skew.
+fn with_skew<'a>(text: &'a str, asked: Accept<'a>) -> Option<Accept<'a>>
+    ensures { result ≡ once asked.entry.skew (record asked.entry { skew = Some text.now }) }
+{
+    if asked.skew.is_some() {
+        return None;
+    }
+    Some(Accept {
+        skew: Some(text),
+        ..asked
+    })
+}
+
+/// With these channel bindings.
+fn with_bindings<'a>(text: &'a str, asked: Accept<'a>) -> Option<Accept<'a>>
+    ensures { result ≡ once asked.entry.bindings (record asked.entry { bindings = Some text.now }) }
+{
+    if asked.bindings.is_some() {
+        return None;
+    }
+    Some(Accept {
+        bindings: Some(text),
+        ..asked
+    })
+}
+
+/// Whether an argument is an option with a value.
+fn accept_valued(argument: &str) -> bool
+    ensures { result ≡ accept_valued argument.now }
+{
+    is_word(argument, "--keytab")
+        || is_word(argument, "--time")
+        || is_word(argument, "--skew")
+        || is_word(argument, "--bindings")
+        || is_word(argument, "--pac")
+}
+
+/// With an option that has a value.
+fn accept_value<'a>(option: &str, value: &'a str, asked: Accept<'a>) -> Option<Accept<'a>>
+    ensures { result ≡ accept_value option.now value.now asked.entry }
+{
+    if is_word(option, "--keytab") {
+        with_keytab(value, asked)
+    } else if is_word(option, "--time") {
+        with_time(value, asked)
+    } else if is_word(option, "--skew") {
+        with_skew(value, asked)
+    } else if is_word(option, "--bindings") {
+        with_bindings(value, asked)
+    } else if is_word(option, "--pac") {
+        accept_pac(value, asked)
+    } else {
+        None
+    }
+}
+
+/// What is asked for with one more option or file, and the arguments behind it.
+#[derive(Drop)]
+struct Step<'a> {
+    asked: Accept<'a>,
+    behind: &'a [String],
+}
+
+/// With the option or the file that the first argument is; `rest` stands behind it.
+fn accept_first<'a>(word: &'a str, rest: &'a [String], asked: Accept<'a>) -> Option<Step<'a>>
+    requires { is_help word.now ≡ false }
+    ensures { MatchOption result (accept_options asked.entry (word.now ∷ map string_bytes rest.now) ≡ None)
+        (λ step. (accept_options asked.entry (word.now ∷ map string_bytes rest.now) ≡ accept_options step.asked (map string_bytes step.behind.now))
+        × (length step.behind.now ≤ length rest.now)) }
+{
+    if !accept_valued(word) {
+        return match accept_flag(word, asked) {
+            Some(asked) => Some(Step {
+                asked,
+                behind: rest,
+            }),
+            None => None,
+        };
+    }
+    let Some((value, behind)) = rest.split_first() else {
+        return None;
+    };
+    match accept_value(word, value.as_str(), asked) {
+        Some(asked) => Some(Step { asked, behind }),
+        None => None,
+    }
+}
+
+/// What is asked for, where a keytab is named.
+fn accept_asked(asked: Accept<'_>) -> Option<Command<'_>>
+    ensures { result ≡ accept_asked asked.entry }
+{
+    if asked.keytab.is_none() {
+        return None;
+    }
+    Some(Command::Accept(asked))
+}
+
+/// What options ask for, behind those that asked for this.
+fn accept_options<'a>(asked: Accept<'a>, words: &'a [String]) -> Option<Command<'a>>
+    ensures { result ≡ accept_options asked.entry (map string_bytes words.now) }
+{
+    let mut so_far = asked;
+    let mut rest = words;
+    'options: while let Some((word, behind)) = rest.split_first() {
+        if is_help(word.as_str()) {
+            return Some(Command::Help);
+        }
+        match accept_first(word.as_str(), behind, so_far) {
+            Some(step) => {
+                so_far = step.asked;
+                rest = step.behind;
+            }
+            None => return None,
+        }
+    }
+    accept_asked(so_far)
+}
+
+/// What the arguments of `accept` ask for.
+pub(crate) fn accept_of(words: &[String]) -> Option<Command<'_>>
+    ensures { result ≡ accept_options no_option (map string_bytes words.now) }
+{
+    let asked = Accept {
+        keytab: None,
+        time: None,
+        skew: None,
+        bindings: None,
+        pac: None,
+        is_bare: false,
+        takes_other: false,
+        file: None,
+    };
+    accept_options(asked, words)
+}

@@ -1,0 +1,5 @@
+mod Elements
+mod NegoexPlaces
+mod Several
+mod Told
+mod WrittenPieces

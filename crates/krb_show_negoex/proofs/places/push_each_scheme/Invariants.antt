@@ -1,0 +1,6 @@
+use Rattle.std.proofs.Common.{◌≡◌, ◌++◌}
+use Rattle.krb_show_negoex.specs.NegoexPlaces.{each_scheme}
+use Rattle.krb_show_negoex.proofs.places.push_each_scheme.Given as goal
+
+abbrev pub invariant-loop-n : goal.invariant-loop-n
+invariant-loop-n l = l.places.items ≡ l.fn.places.items ++ each_scheme l.first l.n

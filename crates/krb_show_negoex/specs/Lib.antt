@@ -1,0 +1,2 @@
+pub mod Negoex
+pub mod NegoexPlaces

@@ -1,4 +1,0 @@
-use Rattle.krb_show_pages.proofs.negoex.pieces.MessageHeaderPiece.behind.Goals as goal
-
-pub returns : goal.returns
-returns c = rw (c.from-kind.ensures) at c.behind.ensures

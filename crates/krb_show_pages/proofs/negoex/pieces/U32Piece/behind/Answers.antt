@@ -1,4 +1,0 @@
-use Rattle.krb_show_pages.proofs.negoex.pieces.U32Piece.behind.Goals as goal
-
-pub returns : goal.returns
-returns c = rw (c.to_le_bytes.ensures) at c.behind.ensures

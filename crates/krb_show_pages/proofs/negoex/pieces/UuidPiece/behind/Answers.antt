@@ -1,4 +1,0 @@
-use Rattle.krb_show_pages.proofs.negoex.pieces.UuidPiece.behind.Goals as goal
-
-pub returns : goal.returns
-returns c = rw (c.to_bytes_le.ensures) at c.behind.ensures

@@ -1,7 +1,0 @@
-use Rattle.krb_show_pages.proofs.NegoexPlaces.{extension_more}
-use Rattle.krb_show_pages.proofs.negoex.places.push_each_extension.Goals as goal
-
-pub loop-n-preserved : goal.loop-n-preserved
-loop-n-preserved c =
-    extension_more c.args.base c.args.octets.now c.args.vector.offset c.loop-n.n c.args.places.now.items c.loop-n.places.items c.push_extension.new.places.items
-    c.loop-n.invariant c.in_ok-push_extension.ensures

@@ -1,6 +1,0 @@
-use Rattle.std.proofs.Common.{◌≡◌, ◌++◌}
-use Rattle.krb_show_pages.specs.NegoexPlaces.{each_extension}
-use Rattle.krb_show_pages.proofs.negoex.places.push_each_extension.Given as goal
-
-abbrev pub invariant-loop-n : goal.invariant-loop-n
-invariant-loop-n l = l.places.items ≡ l.fn.places.items ++ each_extension l.base l.octets l.vector.offset l.n
