@@ -1,3 +1,4 @@
+mod CcacheSizes
 mod KeytabParts
 mod Texts
 pub mod EveryKind

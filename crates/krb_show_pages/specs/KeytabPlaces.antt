@@ -45,6 +45,11 @@ listed_places size records = (place_at 2 (size - 2) ∷ []) ++ (records_places 2
 abbrev pub keytab_places : List ℕ → List (Option Place) → Type 0
 keytab_places octets places = (entries : List Entry) (keytab : KeytabIs octets entries) → places ≡ listed_places (length octets) keytab.records
 
+-- octets that are a keytab have these places, and others none
+pub record AreKeytabPlaces (octets : List ℕ) (places : List (Option Place)) : Type 0 where
+  pub found : keytab_places octets places
+  pub none : ((entries : List Entry) → KeytabIs octets entries → ⊥) → places ≡ []
+
 -- what the content of a record adds: of an entry its places
 abbrev pub adds_entry : ℕ → List ℕ → List (Option Place) → List (Option Place) → Type 0
 adds_entry at body old new =

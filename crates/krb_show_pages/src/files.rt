@@ -5,11 +5,9 @@ mod ccache_places;
 mod error;
 mod keytab;
 mod keytab_places;
-mod places;
 mod principal;
 mod ticket;
 mod values;
-mod walk;
 
 pub use ccache::page_of_ccache;
 pub use ccache_places::places_of_ccache;

@@ -5,11 +5,12 @@ ghost use Rattle.std.specs.List.{AllByRecursion, flat_map};
 ghost use Rattle.std.specs.Option.{option_copied};
 ghost use Rattle.krb_files.specs.FieldWritten.{counted_octets, principal_octets};
 ghost use Rattle.krb_files.specs.Keytab.{Fields, FitsFields, FitsRecord, IsEnd, Record, fields_octets, record_octets};
-ghost use Rattle.krb_show_pages.specs.KeytabPlaces.{adds_content, adds_entry, component_places, keytab_places, parts_places, records_places, version_place};
+ghost use Rattle.krb_show_pages.specs.KeytabPlaces.{AreKeytabPlaces, adds_content, adds_entry, component_places, keytab_places, parts_places, records_places, version_place};
 ghost use Rattle.krb_show_pages.specs.KeytabParts.{FitsParts, FitsRecordPart, IsPart, IsPartAt, IsPartsOf, record_size, told_of};
 
 use byteorder::{BigEndian, ByteOrder};
 use krb_files::fields::{ComponentsView, LengthSize, counted_at, principal_at, u32_at};
+use krb_files::keytab::KeytabView;
 use krb_show::{Place, place_at};
 use std::alloc::{AllocError, Global};
 
@@ -242,12 +243,8 @@ fn push_records(
     Ok(())
 }
 
-/// Where in a keytab what each token of `page_of_keytab` tells stands, in the order of the tokens
-/// (MIT Kerberos, "Keytab file format"): the list has the octets behind the version of the file, a
-/// struct its record without the length, and `vno` the 32 bits behind the key, if they are shown,
-/// else the octet before it. For `place_tokens`. Of other octets the places up to where they are
-/// no keytab. The only error is an allocation failure.
-pub fn places_of_keytab(alloc: Global, octets: &[u8]) -> Result<Vec<Option<Place>>, AllocError>
+/// The places of the page of a keytab.
+fn keytab_places(alloc: Global, octets: &[u8]) -> Result<Vec<Option<Place>>, AllocError>
     ensures { IfOk result (λ places. keytab_places octets.now places.items) }
 {
     let mut places = Vec::new(alloc);
@@ -259,4 +256,18 @@ pub fn places_of_keytab(alloc: Global, octets: &[u8]) -> Result<Vec<Option<Place
     push_records(alloc, 2, records, &mut places)?;
     places.push(list)?;
     Ok(places)
+}
+
+/// Where in a keytab what each token of `page_of_keytab` tells stands, in the order of the tokens
+/// (MIT Kerberos, "Keytab file format"): the list has the octets behind the version of the file, a
+/// struct its record without the length, and `vno` the 32 bits behind the key, if they are shown,
+/// else the octet before it. For `place_tokens`. Octets that are no keytab have no places. The only
+/// error is an allocation failure.
+pub fn places_of_keytab(alloc: Global, octets: &[u8]) -> Result<Vec<Option<Place>>, AllocError>
+    ensures { IfOk result (λ places. AreKeytabPlaces octets.now places.items) }
+{
+    match KeytabView::new(octets) {
+        Ok(_) => keytab_places(alloc, octets),
+        Err(_) => Ok(Vec::new(alloc)),
+    }
 }
