@@ -1,6 +1,7 @@
 """Tries the Python package: try_krb.py VECTORS MESSAGES FIELDS, in an environment that has it installed. The last line is `N passed, N failed`."""
 
 import concurrent.futures
+import ctypes
 import os
 import pickle
 import sys
@@ -119,6 +120,29 @@ def try_other_fields(number, octets):
     expect(messages.field(number, messages.Field.REALM, memoryview(octets)) == messages.field(number, messages.Field.REALM, bytearray(octets)), "forms of octets")
 
 
+def try_remembered(key, sealed):
+    """Derived keys are remembered until they are forgotten, and no answer tells whether they are."""
+    crypto.forget_keys()
+    held = sys.getrefcount(key)
+    for _ in range(3):
+        for usage, wanted in ((2, b"octets of a payload"), (3, Status.INTEGRITY)):
+            expect(outcome(crypto.decrypt, 17, key, usage, sealed) == wanted, "usage %d" % usage)
+        for number in (17.0, "17", None):
+            try:
+                crypto.decrypt(number, key, 2, sealed)
+                expect(False, "%r is taken for a number" % (number,))
+            except (TypeError, ctypes.ArgumentError):
+                expect(True, "")
+    total = crypto.checksum(15, key, 2, sealed)
+    expect(outcome(crypto.verify_checksum, 15, key, 3, sealed, total) == Status.INTEGRITY, "another usage")
+    expect(sys.getrefcount(key) == held + 4, "%d keys are remembered" % (sys.getrefcount(key) - held))
+    for other in range(17):
+        crypto.checksum(15, bytes([other]) * 16, 2, sealed)
+    expect(sys.getrefcount(key) == held + 2, "more than 16 keys of checksums are remembered")
+    crypto.forget_keys()
+    expect(sys.getrefcount(key) == held, "a key is remembered after forget_keys")
+
+
 def try_forms():
     """Other objects with octets, numbers that do not fit, what a refusal is."""
     key, payload = bytes(range(16)), b"octets of a payload"
@@ -137,6 +161,7 @@ def try_forms():
             expect(False, "%r is taken for octets" % (wrong,))
         except TypeError:
             expect(True, "")
+    try_remembered(key, sealed)
     token_key = gss.TokenKey(17, key, gss.Sender.ACCEPTOR, True)
     for each in (token_key, crypto.KeptKey(17, key, 2), crypto.KeptChecksumKey(15, key, 2)):
         for said in (repr(each), str(each), "%s" % [each]):

@@ -1,7 +1,10 @@
 """Encryption, checksums and keys of Kerberos (RFC 3961, RFC 3962, RFC 8009).
 
 Encryption types: 16 des3-cbc-hmac-sha1-kd (withdrawn by RFC 8429), 17 and 18 aes128- and aes256-cts-hmac-sha1-96, 19 aes128-cts-hmac-sha256-128,
-20 aes256-cts-hmac-sha384-192. Their checksum types: 12, 15, 16, 19, 20. A usage is a key usage (RFC 4120, 7.5.1), any number of 32 bits."""
+20 aes256-cts-hmac-sha384-192. Their checksum types: 12, 15, 16, 19, 20. A usage is a key usage (RFC 4120, 7.5.1), any number of 32 bits.
+
+A key is derived for its usage before it encrypts, decrypts or makes a checksum, which takes about half of a short message's time. The functions of this module keep
+the last 16 derived keys of encryption and of checksums, with what they were derived from, until others take their place or `forget_keys` is called."""
 
 import ctypes
 import functools
@@ -25,6 +28,7 @@ __all__ = [
     "checksum",
     "verify_checksum",
     "KeptChecksumKey",
+    "forget_keys",
     "n_fold",
 ]
 
@@ -34,21 +38,20 @@ _confounder_size = Call("krb_confounder_size", NUMBER, answers=ctypes.c_size_t)
 _encrypted_size = Call("krb_encrypted_size", NUMBER, SIZE, answers=ctypes.c_size_t)
 _checksum_size = Call("krb_checksum_size", NUMBER, answers=ctypes.c_size_t)
 _checksum_key_size = Call("krb_checksum_key_size", NUMBER, answers=ctypes.c_size_t)
-_encrypt = Call("krb_encrypt", NUMBER, IN, NUMBER, IN, IN, has_room=True)
-_decrypt = Call("krb_decrypt", NUMBER, IN, NUMBER, IN, has_room=True)
 _keep_key = Call("krb_keep_key", NUMBER, IN, NUMBER, KEY)
 _encrypt_kept = Call("krb_encrypt_kept", KEY, IN, IN, has_room=True)
 _decrypt_kept = Call("krb_decrypt_kept", KEY, IN, has_room=True)
 _string_to_key = Call("krb_string_to_key", NUMBER, IN, IN, has_room=True)
 _random_to_key = Call("krb_random_to_key", NUMBER, IN, has_room=True)
-_checksum = Call("krb_checksum", NUMBER, IN, NUMBER, IN, has_room=True)
-_verify_checksum = Call("krb_verify_checksum", NUMBER, IN, NUMBER, IN, IN)
 _keep_checksum_key = Call("krb_keep_checksum_key", NUMBER, IN, NUMBER, CHECKSUM_KEY)
 _checksum_kept = Call("krb_checksum_kept", CHECKSUM_KEY, IN, has_room=True)
 _verify_checksum_kept = Call("krb_verify_checksum_kept", CHECKSUM_KEY, IN, IN)
 
 # Octets, more than a key or a checksum has.
 _ROOM = 64
+
+# How many keys of each kind are remembered.
+_REMEMBERED = 16
 
 
 def key_size(etype: int) -> int:
@@ -89,6 +92,32 @@ def _sizes(etype: int) -> Tuple[int, int]:
     return confounder_size(etype), max(encrypted_size(etype, 1) - 1, 0)
 
 
+def _derived(etype: int, key: bytes, usage: int) -> Key:
+    """The keys that encrypt and decrypt for this key usage."""
+    derived = Key()
+    _keep_key.done(etype, key, usage, derived)
+    return derived
+
+
+def _derived_for_checksums(cksumtype: int, key: bytes, usage: int) -> ChecksumKey:
+    """The key that makes checksums for this key usage."""
+    derived = ChecksumKey()
+    _keep_checksum_key.done(cksumtype, key, usage, derived)
+    return derived
+
+
+# (typed, so that a number of another type is refused whether a key is remembered or not)
+_remembered = functools.lru_cache(maxsize=_REMEMBERED, typed=True)(_derived)
+_remembered_for_checksums = functools.lru_cache(maxsize=_REMEMBERED, typed=True)(_derived_for_checksums)
+
+
+def forget_keys() -> None:
+    """Forgets the derived keys that `encrypt`, `decrypt`, `checksum` and `verify_checksum` remember, and the keys that they were derived from. Their octets are not
+    wiped."""
+    _remembered.cache_clear()
+    _remembered_for_checksums.cache_clear()
+
+
 def encrypt(etype: int, key: Octets, usage: int, payload: Octets, confounder: Optional[Octets] = None) -> bytes:
     """The payload, encrypted, with its checksum. Without a confounder one is drawn by os.urandom; give one for tests alone.
 
@@ -96,14 +125,18 @@ def encrypt(etype: int, key: Octets, usage: int, payload: Octets, confounder: Op
     size, beside = _sizes(etype)
     if confounder is None:
         confounder = os.urandom(size)
-    return _encrypt.octets(len(payload) + beside, etype, key, usage, confounder, payload)
+    elif size and len(plain(confounder)) != size:
+        raise Refused(Status.CONFOUNDER_SIZE)
+    derived = _remembered(etype, key if type(key) is bytes else plain(key), usage)
+    return _encrypt_kept.octets(len(payload) + beside, derived, confounder, payload)
 
 
 def decrypt(etype: int, key: Octets, usage: int, sealed: Octets) -> bytes:
     """The payload that was encrypted to these octets, under etype 16 with the zeros that filled it.
 
     Refused: NUMBER, KEY_SIZE, SEALED_SIZE, PADDING (etype 16), INTEGRITY, MEMORY."""
-    return _decrypt.octets(len(sealed), etype, key, usage, sealed)
+    derived = _remembered(etype, key if type(key) is bytes else plain(key), usage)
+    return _decrypt_kept.octets(len(sealed), derived, sealed)
 
 
 class KeptKey:
@@ -112,8 +145,7 @@ class KeptKey:
     Refused, when it is made: NUMBER, KEY_SIZE."""
 
     def __init__(self, etype: int, key: Octets, usage: int) -> None:
-        self._key = Key()
-        _keep_key.done(etype, key, usage, self._key)
+        self._key = _derived(etype, plain(key), usage)
         self._sizes = _sizes(etype)
         self.etype = etype
         self.usage = usage
@@ -155,14 +187,16 @@ def checksum(cksumtype: int, key: Octets, usage: int, message: Octets) -> bytes:
     """The checksum of a message.
 
     Refused: NUMBER, KEY_SIZE, MEMORY."""
-    return _checksum.octets(_ROOM, cksumtype, key, usage, message)
+    derived = _remembered_for_checksums(cksumtype, key if type(key) is bytes else plain(key), usage)
+    return _checksum_kept.octets(_ROOM, derived, message)
 
 
 def verify_checksum(cksumtype: int, key: Octets, usage: int, message: Octets, checksum: Octets) -> None:
     """Returns where the octets are the checksum of the message, and only there.
 
     Refused: NUMBER, KEY_SIZE, INTEGRITY (they are not), MEMORY."""
-    _verify_checksum.done(cksumtype, key, usage, message, checksum)
+    derived = _remembered_for_checksums(cksumtype, key if type(key) is bytes else plain(key), usage)
+    _verify_checksum_kept.done(derived, message, checksum)
 
 
 class KeptChecksumKey:
@@ -171,8 +205,7 @@ class KeptChecksumKey:
     Refused, when it is made: NUMBER, KEY_SIZE, MEMORY (cksumtype 12)."""
 
     def __init__(self, cksumtype: int, key: Octets, usage: int) -> None:
-        self._key = ChecksumKey()
-        _keep_checksum_key.done(cksumtype, key, usage, self._key)
+        self._key = _derived_for_checksums(cksumtype, plain(key), usage)
         self.cksumtype = cksumtype
         self.usage = usage
 
