@@ -1,5 +1,5 @@
 -- The part of a KRB-CRED, by the key that decrypts it.
-use Rattle.std.proofs.Common.{◌≡◌, ◌≢◌, inl, inr, pos, Option, None, Some, Result, sym, subst, IfOk, MatchOption}
+use Rattle.std.proofs.Common.{◌≡◌, ◌≢◌, ◌⊎◌, ℕ, List, inl, inr, pos, Option, None, Some, Result, sym, subst, IfOk, MatchOption}
 use Rattle.krb_accept_rules.specs.Values.{HasNone, IsTheValue}
 use Rattle.krb_accept_rules.specs.declared.accepted.Accepted.{Accepted}
 use Rattle.krb_der_core.specs.declared.der.DerEncode.{Ghosts as EncodingOf}
@@ -7,9 +7,10 @@ use Rattle.krb_enc_parts.specs.declared.data_types.credentials.EncKrbCredPartInn
 use Rattle.krb_messages.specs.declared.messages.credentials.KrbCredInner.{KrbCredInner}
 use Rattle.krb_types.specs.declared.data_types.encryption.EncryptedData.{EncryptedData}
 use Rattle.krb_types.specs.declared.data_types.encryption.EncryptionKey.{EncryptionKey}
-use Rattle.krb_accept.specs.Delegation.{HasNoCredentials, HasNumbers, IsNoPart, IsPart, IsUnderSubkey}
+use Rattle.krb_accept.specs.Delegation.{HasCredentials, HasNoCredentials, HasNumbers, IsNoPart, IsPart, IsUnderSubkey}
 use Rattle.krb_accept.specs.Opening.{Encodes}
 use Rattle.krb_accept.specs.WithKey.{IsSealedWith}
+use Rattle.krb_accept.specs.declared.delegation.Delegated.{Delegated}
 use Rattle.krb_accept.proofs.Matching.{found_so}
 
 module _ (t : EncodingOf EncKrbCredPartInner) (sealed : EncryptedData) {E : Type 0} (r : Result (Option EncKrbCredPartInner) E) where
@@ -36,3 +37,11 @@ no_key t subkey sealed is = subst (λ (s : Option EncryptionKey). HasNone (IsUnd
 pub not_opened : (t : EncodingOf EncKrbCredPartInner) (a : Accepted) (m : KrbCredInner) (sealed : EncryptedData) → HasNumbers m → sealed ≡ m.enc_part → IsNoPart t a sealed
     → HasNoCredentials t a m
 not_opened t a m sealed numbers same none = inr (numbers, subst (IsNoPart t a) same none)
+
+-- what the one message has is what is delegated
+pub delegated_so : (IsMessage : KrbCredInner → Type 0) (t : EncodingOf EncKrbCredPartInner) (a : Accepted) (octets : List ℕ) (m : KrbCredInner) {E : Type 0}
+    (r : Result (Option Delegated) E) → IsTheValue IsMessage m
+    → IfOk r (λ found. MatchOption found (HasNoCredentials t a m) (HasCredentials t a octets m))
+    → IfOk r (λ found. MatchOption found (HasNone IsMessage ⊎ ((m : KrbCredInner) × IsTheValue IsMessage m × HasNoCredentials t a m))
+    (λ d. (m : KrbCredInner) × IsTheValue IsMessage m × HasCredentials t a octets m d))
+delegated_so IsMessage t a octets m r is h = found_so _ _ _ _ (λ n. inr (m, is, n)) (λ d i. (m, is, i)) r h

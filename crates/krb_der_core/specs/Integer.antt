@@ -1,5 +1,5 @@
 -- Whole numbers as octets: two's complement in base 256, the highest octet first (X.690, 8.3).
-use Rattle.std.specs.Prelude.{◌≡◌, ℕ, ◌-◌, ◌<◌, ◌≤◌, List, [], ◌∷◌, length, slice_index, nat_lt, if◌then◌else◌, ℤ, pos, negsuc}
+use Rattle.std.specs.Prelude.{◌≡◌, ℕ, ◌-◌, ◌<◌, ◌≤◌, List, [], ◌∷◌, ◌++◌, length, take, slice_index, nat_lt, if◌then◌else◌, ℤ, pos, negsuc}
 use Rattle.std.specs.Int.Digits.{digits_of, number_from_digits}
 
 -- a zero before octets that would represent a negative number, or before none
@@ -31,3 +31,13 @@ pub record IsShortest (c : List ℕ) : Type 0 where
   pub some : 0 < length c
   pub positive : 1 < length c → slice_index c 0 ≡ 0 → 128 ≤ slice_index c 1
   pub negative : 1 < length c → slice_index c 0 ≡ 255 → slice_index c 1 < 128
+
+-- the octets of a number: so many of the few that stand in the value, or those that stand behind it
+abbrev pub octets_held : ℕ → List ℕ → List ℕ → List ℕ
+octets_held count few more = take count few ++ more
+
+-- a number's octets are its shortest, and stand in one place
+pub record IsHeld (count : ℕ) (few more : List ℕ) : Type 0 where
+  pub room : count ≤ 7
+  pub here : 0 < count → more ≡ []
+  pub short : IsShortest (octets_held count few more)

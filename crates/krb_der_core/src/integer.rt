@@ -8,7 +8,7 @@ ghost use Rattle.std.specs.Cmp.Rules.{comparing};
 ghost use Rattle.std.proofs.Common.{rules};
 ghost use Rattle.krb_der_core.specs.Tlv.{tlv};
 ghost use Rattle.krb_der_core.specs.TlvLaws.{tagged_element, tagged_one_value};
-ghost use Rattle.krb_der_core.specs.Integer.{inverted, shortest, whole_number, IsShortest};
+ghost use Rattle.krb_der_core.specs.Integer.{inverted, shortest, whole_number, octets_held, IsHeld, IsShortest};
 ghost use Rattle.krb_der_core.specs.IntegerLaws.{integer_one_content};
 ghost use Rattle.krb_der_core.specs.declared.error.Asn1DerError.TheVariants.{OutOfMemory};
 ghost use Rattle.krb_der_core.specs.Errors.{PrimitiveError};
@@ -20,6 +20,8 @@ use crate::error::Asn1DerError;
 use crate::octet_string::known_octets;
 use crate::tlv::{number_of, write_tlv};
 use std::alloc::{AllocError, Global};
+use std::fmt;
+use std::fmt::{Debug, Formatter, Write};
 use std::marker::Model;
 
 /// The tag of an INTEGER: universal 2 (X.690, 8.3).
@@ -28,18 +30,27 @@ pub(crate) const INTEGER: u8 = 0x02;
 /// The largest number of octets of a number that fits 64 bits.
 const I64_OCTETS: usize = 8;
 
+/// The largest number of octets that stand in a value without memory of its own.
+const FEW: usize = 7;
+
 /// INTEGER (X.690, 8.3): a whole number of any size. The content is its shortest two's complement, highest octet first.
 ///
-/// A contract sees the number.
-#[derive(Debug, Drop)]
-pub struct IntegerAsn1(Vec<u8>);
+/// A number of at most seven octets that is read takes no memory. A contract sees the number.
+#[derive(Drop)]
+pub struct IntegerAsn1 {
+    /// How many octets of `few` are the number's.
+    count: u8,
+    few: [u8; FEW],
+    /// The octets of the number, where `few` has none.
+    more: Vec<u8>,
+}
 
 impl Model for IntegerAsn1 {
     ghost Value = { ℤ };
 
-    ghost view = { λ s. whole_number s.0.items };
+    ghost view = { λ s. whole_number (octets_held s.count s.few s.more.items) };
 
-    ghost invariant = { λ s. IsShortest s.0.items };
+    ghost invariant = { λ s. IsHeld s.count s.few s.more.items };
 }
 
 /// Whether there is an octet, and the first is not redundant (X.690, 8.3.2).
@@ -79,7 +90,56 @@ fn number_of_inverted(octets: &[u8]) -> usize
     n
 }
 
+/// The octets of a number, where they stand.
+fn octets_held<'a>(count: u8, few: &'a [u8; FEW], more: &'a [u8]) -> &'a [u8]
+    requires { IsHeld count few.now more.now }
+    ensures { result.now ≡ octets_held count few.now more.now }
+{
+    if count == 0 {
+        return more;
+    }
+    &few[..count as usize]
+}
+
 impl IntegerAsn1 {
+    /// The number of a vector's octets, which are its shortest.
+    fn from_vector(octets: Vec<u8>) -> IntegerAsn1
+        requires { IsShortest octets.items }
+        ensures { result ≡ whole_number octets.items }
+    {
+        IntegerAsn1 {
+            count: 0,
+            few: [0; FEW],
+            more: octets,
+        }
+    }
+
+    /// The number of at most seven octets, which are its shortest.
+    fn from_few(alloc: Global, octets: &[u8]) -> IntegerAsn1
+        requires few { length octets.now ≤ 7 }
+        requires short { IsShortest octets.now }
+        ensures { result ≡ whole_number octets.now }
+    {
+        let mut few = [0; FEW];
+        few[..octets.len()].copy_from_slice(octets);
+        IntegerAsn1 {
+            count: octets.len() as u8,
+            few,
+            more: Vec::new(alloc),
+        }
+    }
+
+    /// The number of octets, which are its shortest.
+    fn from_shortest(alloc: Global, octets: &[u8]) -> Result<IntegerAsn1, AllocError>
+        requires { IsShortest octets.now }
+        ensures { IfOk result (λ v. v ≡ whole_number octets.now) }
+    {
+        if octets.len() > FEW {
+            return Ok(IntegerAsn1::from_vector(Vec::from_slice(alloc, octets)?));
+        }
+        Ok(IntegerAsn1::from_few(alloc, octets))
+    }
+
     /// The number that the octets represent in two's complement, highest octet first; none represent zero.
     ///
     /// The only error is `OutOfMemory`, and only where there are no octets: one is then allocated.
@@ -89,14 +149,14 @@ impl IntegerAsn1 {
         ensures empty { OnErr result (octets.items ≡ []) }
     {
         if octets.is_empty() {
-            return Ok(IntegerAsn1(Vec::from_slice(alloc, &[0])?));
+            return Ok(IntegerAsn1::from_shortest(alloc, &[0])?);
         }
         let mut octets = octets;
         let prefix = needless(&octets);
         let kept = octets.len() - prefix;
         octets.rotate_left(prefix);
         octets.truncate(kept);
-        Ok(IntegerAsn1(octets))
+        Ok(IntegerAsn1::from_vector(octets))
     }
 
     /// The number that the octets represent, highest octet first, which is not negative; none represent zero.
@@ -118,8 +178,9 @@ impl IntegerAsn1 {
     pub fn as_signed_bytes_be(&self) -> &[u8]
         ensures { result.now ≡ shortest self.now }
     {
-        known_octets(&self.0);
-        self.0.as_slice()
+        let octets = octets_held(self.count, &self.few, &self.more);
+        known_octets(octets);
+        octets
     }
 
     /// The number, where it fits 64 bits; `None` where it does not.
@@ -142,6 +203,14 @@ impl IntegerAsn1 {
         ensures { MatchOption result ((n : ℕ) → n < 2 ^ 32 → self.now ≡ pos n → ⊥) (λ n. self.now ≡ pos n) }
     {
         u32::try_from(self.to_i64()?).ok()
+    }
+}
+
+impl Debug for IntegerAsn1 {
+    fn fmt<W: Write>(&self, f: &mut Formatter<W>) -> fmt::Result {
+        f.debug_tuple("IntegerAsn1")
+            .field(&self.as_signed_bytes_be())
+            .finish()
     }
 }
 
@@ -170,7 +239,7 @@ impl Content for IntegerAsn1 {
         if !is_shortest(content) {
             return Err(Asn1DerError::InvalidData);
         }
-        Ok(IntegerAsn1(Vec::from_slice(alloc, content)?))
+        Ok(IntegerAsn1::from_shortest(alloc, content)?)
     }
 }
 

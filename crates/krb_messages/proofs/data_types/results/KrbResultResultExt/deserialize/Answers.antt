@@ -18,3 +18,17 @@ returns-in_err-from_bytes-in-Err-clause-first_error g c =
     let other : c.in-Err.field-0 ≡ errors.OutOfMemory → ⊥ = search rules in
     let error = error_of c.in-Err.ensures.first_error other in
     rw (p.1, p.2) (beside (c.in-Err.field-0, error) c.in_err-from_bytes-in-Err.ensures.first_error)
+
+pub returns-in_ok-from_bytes-in-Err : goal.returns-in_ok-from_bytes-in-Err
+returns-in_ok-from_bytes-in-Err g c = record {
+  valid = c.in_ok-from_bytes-in-Err.ensures.valid;
+  found = c.in_ok-from_bytes-in-Err.ensures.found;
+  error = search rules;
+  reads_value = search rules;
+  reads_error = search rules;
+  cut = search rules;
+  more = search rules;
+  no_device = search rules;
+  wrong_value = search rules;
+  first_error = search rules;
+}
