@@ -3,7 +3,7 @@ use Rattle.std.proofs.Common.{arith, ap, sym, ◌∙◌, refl, subst, ℕ, zero,
 use Rattle.std.proofs.Math.Seq.{take-append-add, take-nil}
 use Rattle.std.proofs.lemmas.Grind.{common_steps}
 use Rattle.std.proofs.lemmas.List.{append-nil, append_assoc, length-append, take-append-le}
-use Rattle.krb_show.specs.Text.{ArePrintable, AreLines, text_of_lines}
+use Rattle.krb_show_text.specs.Text.{ArePrintable, AreLines, text_of_lines}
 
 front_printable : (n : ℕ) (l : List ℕ) → ArePrintable l → ArePrintable (take n l)
 front_printable n [] p = subst ArePrintable (sym (take-nil n)) tt

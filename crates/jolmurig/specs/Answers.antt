@@ -2,9 +2,9 @@
 use Rattle.std.specs.Prelude.{◌≡◌, ◌⊎◌, ℕ, ◌+◌, ◌-◌, Bool, true, false, List, [], ◌∷◌, ◌++◌, length, take, Option, Some, None, Result, Ok, Err, Vec}
 use Rattle.std.specs.declared.alloc.Global.{Global}
 use Rattle.krb_show.specs.Tokens.{Token}
-use Rattle.krb_show.specs.Text.{AreLines, page_text, text_of_lines}
-use Rattle.krb_show.specs.Json.{json_line}
-use Rattle.krb_show.specs.TextWithPlaces.{page_text_with_places}
+use Rattle.krb_show_text.specs.Text.{AreLines, page_text, text_of_lines}
+use Rattle.krb_show_text.specs.Json.{json_line}
+use Rattle.krb_show_text.specs.TextWithPlaces.{page_text_with_places}
 use Rattle.krb_show_any.specs.declared.kind.Kind.{Kind}
 use Rattle.krb_decrypt.specs.Hidden.{hidden_page}
 use Rattle.krb_decrypt.specs.Keys.{NamedKey}

@@ -4,8 +4,8 @@ use Rattle.std.specs.Char.{to_ascii_lowercase}
 use Rattle.krb_kdc_proxy.specs.declared.asked.Service.{Service}
 use Rattle.krb_kdc_proxy.specs.declared.asked.Service.TheVariants as service
 use Rattle.krb_kdc_proxy.specs.declared.request.ProxyRequest.{ProxyRequest}
-use Rattle.krb_show.specs.Text.{escaped}
-use Rattle.krb_show.specs.declared.escape.Style.TheVariants as style
+use Rattle.krb_show_text.specs.Text.{escaped}
+use Rattle.krb_show_text.specs.declared.escape.Style.TheVariants as style
 
 -- the name of a service
 abbrev pub service_name : Service → List ℕ

@@ -11,9 +11,10 @@ use crate::failure::Failure;
 use crate::openers::Openers;
 use jolmurig_command::Output;
 use krb_decrypt::{Key, MOST_FOUND, keys_of_passwords, without_keys};
-use krb_show::{Page, Token, json_of_page, text_of_page, text_of_page_with_places};
+use krb_show::{Page, Token};
 use krb_show_any::{Kind, PageError, Pages, json_with_places, kind_of_octets, page_with_places};
 use krb_show_pac::page_with_contents;
+use krb_show_text::{json_of_page, text_of_page, text_of_page_with_places};
 use std::alloc::{AllocError, Global};
 
 /// The octets of a text.

@@ -19,9 +19,9 @@ use krb_kdc_proxy::{MessageError, ProxyError, ProxyRequest, Service, read_reques
 use krb_messages::messages::{
     ApRep, ApReq, AsRep, AsReq, KdcProxyMessage, KrbError, KrbPriv, TgsRep, TgsReq,
 };
-use krb_show::{Style, push_escaped};
 use krb_show_any::{Kind, PageError};
 use krb_show_pages::DataKind;
+use krb_show_text::{Style, push_escaped};
 use std::alloc::{AllocError, Global};
 
 /// Octets that are passed on, and the line that says for whom, where they are a request.

@@ -1,9 +1,9 @@
 -- What octets are as text and as JSON, by the types of the standards.
 use Rattle.std.specs.Prelude.{◌≡◌, ◌⊎◌, ℕ, Bool, true, false, List, [], ◌∷◌, ◌++◌}
 use Rattle.krb_schema.specs.declared.item.Item.{Item}
-use Rattle.krb_show.specs.Json.{json_line}
+use Rattle.krb_show_text.specs.Json.{json_line}
 use Rattle.krb_show.specs.Leaves.{octets_of}
-use Rattle.krb_show.specs.Text.{AreLines, ArePrintable as AreTextPrintable, page_lines, page_text}
+use Rattle.krb_show_text.specs.Text.{AreLines, ArePrintable as AreTextPrintable, page_lines, page_text}
 use Rattle.krb_show.specs.Tokens.{Token}
 use Rattle.krb_show.specs.Items.{shown, start}
 use Rattle.krb_show.specs.declared.rows.stand.Secrets.{Secrets}

@@ -12,7 +12,7 @@ use Rattle.krb_c_calls.specs.Statuses.{refusal_status}
 use Rattle.krb_c_calls.specs.declared.call_error.CallError.{CallError}
 use Rattle.krb_c_calls.specs.declared.call_error.CallError.TheVariants as refusals
 use Rattle.krb_decrypt.specs.Keys.{NamedKey}
-use Rattle.krb_show.specs.TextWithPlaces.{page_text_with_places}
+use Rattle.krb_show_text.specs.TextWithPlaces.{page_text_with_places}
 use Rattle.krb_show.specs.Tokens.{Token}
 use Rattle.krb_show_any.specs.Kinds.{kind_of}
 use Rattle.krb_show_any.specs.Names.{IsNamed}

@@ -9,8 +9,9 @@ use crate::opened::Opens;
 use crate::shown::page_shown;
 use krb_c_calls::CallError;
 use krb_c_calls::handing::hand_out;
-use krb_show::{Token, json_of_page, text_of_page, text_of_page_with_places};
+use krb_show::Token;
 use krb_show_any::{Kind, PageError, Pages, json_with_places};
+use krb_show_text::{json_of_page, text_of_page, text_of_page_with_places};
 use std::alloc::{AllocError, Global};
 
 /// How a page is written: as text or as JSON, with the places of its values or without.

@@ -5,8 +5,8 @@ use Rattle.std.proofs.lemmas.Grind.{flat_map-append}
 use Rattle.std.proofs.lemmas.List.{append-nil, append_assoc}
 use Rattle.std.proofs.lemmas.List.Elements.{filter-append}
 use Rattle.krb_file_tools.specs.Lines.{AreLinesOf, IsListing}
-use Rattle.krb_show.specs.Text.{AreLines, ArePrintable, text_of_lines}
-use Rattle.krb_show.proofs.Lines.{are_lines_append}
+use Rattle.krb_show_text.specs.Text.{AreLines, ArePrintable, text_of_lines}
+use Rattle.krb_show_text.proofs.Lines.{are_lines_append}
 
 module _ {A : Type 0} (is_line : A → List ℕ → Type 0) where
   each_more : (xs : List A) (ls : List (List ℕ)) (x : A) (l : List ℕ) → AreLinesOf is_line xs ls → is_line x l → AreLinesOf is_line (xs ++ x ∷ []) (ls ++ l ∷ [])

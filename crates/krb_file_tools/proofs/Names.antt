@@ -5,8 +5,8 @@ use Rattle.std.proofs.lemmas.List.{append-nil}
 use Rattle.krb_der_core.specs.Encoding.{IsOctets}
 use Rattle.krb_file_tools.specs.Principals.{after_slashes, name_octet, name_text, plain_octet, quoted_or}
 use Rattle.krb_show.specs.Leaves.{digit, hex_octet}
-use Rattle.krb_show.specs.Text.{ArePrintable, IsPrintable}
-use Rattle.krb_show.proofs.Printable.{printable_append, printable_choice}
+use Rattle.krb_show_text.specs.Text.{ArePrintable, IsPrintable}
+use Rattle.krb_show_text.proofs.Printable.{printable_append, printable_choice}
 
 printable_digit : (n : ℕ) → n < 16 → IsPrintable (digit n)
 printable_digit n small = grind (arith, common_steps)

@@ -13,8 +13,8 @@ use Rattle.krb_registry.specs.declared.kind.Kind.{Kind}
 use Rattle.krb_registry.specs.declared.kind.Kind.TheVariants.{EncryptionType}
 use Rattle.krb_registry.specs.Names.{IsPlain, IsRow, table}
 use Rattle.krb_show.specs.Leaves.{digit, time_word, two}
-use Rattle.krb_show.specs.Text.{ArePrintable, IsPrintable}
-use Rattle.krb_show.proofs.Printable.{printable_append, printable_choice, printable_decimal}
+use Rattle.krb_show_text.specs.Text.{ArePrintable, IsPrintable}
+use Rattle.krb_show_text.proofs.Printable.{printable_append, printable_choice, printable_decimal}
 
 -- ---- numbers and times
 

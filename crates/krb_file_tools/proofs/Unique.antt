@@ -13,7 +13,7 @@ use Rattle.krb_registry.specs.declared.kind.Kind.{Kind}
 use Rattle.krb_registry.specs.declared.kind.Kind.TheVariants.{EncryptionType}
 use Rattle.krb_registry.specs.Names.{IsRow, table}
 use Rattle.krb_show.specs.Leaves.{time_word}
-use Rattle.krb_show.specs.Text.{text_of_lines}
+use Rattle.krb_show_text.specs.Text.{text_of_lines}
 use Rattle.krb_types.proofs.Seconds.{ordered}
 use Rattle.krb_types.specs.Times.{clock_number, unix_seconds}
 

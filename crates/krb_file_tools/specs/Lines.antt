@@ -14,7 +14,7 @@ use Rattle.krb_file_tools.specs.Tickets.{tickets_of}
 use Rattle.krb_file_tools.specs.Texts.{IsEtypeText, IsTimeText, flag_letters, padded}
 use Rattle.krb_file_tools.specs.declared.list.error.ListError.{ListError}
 use Rattle.krb_file_tools.specs.declared.list.error.ListError.TheVariants as errors
-use Rattle.krb_show.specs.Text.{AreLines, text_of_lines}
+use Rattle.krb_show_text.specs.Text.{AreLines, text_of_lines}
 
 -- ---- lists of lines
 

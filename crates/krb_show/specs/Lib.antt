@@ -4,10 +4,6 @@ pub mod Tokens
 pub mod Pages
 pub mod NameTexts
 pub mod Leaves
-pub mod Text
-pub mod Json
-pub mod TextWithPlaces
-pub mod JsonWithPlaces
 pub mod Opened
 pub mod Told
 pub mod Walk

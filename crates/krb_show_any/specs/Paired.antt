@@ -1,8 +1,8 @@
 -- Pages as JSON with places: a struct or a list that begins as a value with a place has to end as one.
 use Rattle.std.specs.Prelude.{ℕ, ◌-◌, Bool, true, false, if◌then◌else◌, ◌&&◌, List, [], ◌∷◌, ◌++◌, Option, None, Some, length, take}
 use Rattle.std.specs.List.{slice_get}
-use Rattle.krb_show.specs.Json.{json_line}
-use Rattle.krb_show.specs.JsonWithPlaces.{json_line_with_places}
+use Rattle.krb_show_text.specs.Json.{json_line}
+use Rattle.krb_show_text.specs.JsonWithPlaces.{json_line_with_places}
 use Rattle.krb_show.specs.Tokens.{Token}
 use Rattle.krb_show.specs.declared.token.Form.{Form}
 use Rattle.krb_show.specs.declared.token.Form.TheVariants as form

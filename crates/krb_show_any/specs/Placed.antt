@@ -7,7 +7,7 @@ use Rattle.krb_show.specs.InnerPlaces.{ArePlacesByRow}
 use Rattle.krb_show.specs.Items.{start}
 use Rattle.krb_show.specs.PlacedItems.{shown_with_places}
 use Rattle.krb_show.specs.Spots.{is_plain, spotted}
-use Rattle.krb_show.specs.Text.{page_text}
+use Rattle.krb_show_text.specs.Text.{page_text}
 use Rattle.krb_show.specs.Tokens.{Token}
 use Rattle.krb_show.specs.declared.rows.stand.Secrets.TheVariants as secrets
 use Rattle.krb_show.specs.declared.rows.walk.Walk.{Walk}

@@ -3,10 +3,11 @@
 ghost use Rattle.std.specs.Prelude.{◌≡◌, ◌++◌, ◌∷◌, [], length, IfOk, OnOk};
 ghost use Rattle.std.specs.Option.{option_copied};
 ghost use Rattle.std.specs.String.{string_bytes};
-ghost use Rattle.krb_show.specs.Text.{ArePrintable};
+ghost use Rattle.krb_show_text.specs.Text.{ArePrintable};
 ghost use Rattle.krb_show_any.specs.Paired.{are_paired, begins, ends, is_same, paired_line};
 
-use krb_show::{Form, Token, json_of_page, json_of_page_with_places};
+use krb_show::{Form, Token};
+use krb_show_text::{json_of_page, json_of_page_with_places};
 use std::alloc::{AllocError, Global};
 
 /// Whether a token begins a struct or a list.

@@ -7,11 +7,11 @@ use crate::kind::Kind;
 use crate::rows::{row_name, walk_octets};
 use krb_show::{
     Page, Place, Plain, Secrets, Token, Walk, place_tokens, places_by_row, push_items_with_places,
-    text_of_page,
 };
 use krb_show_messages::{KerberosFormats, places_of_pac};
 use krb_show_negoex::places_of_negoex;
 use krb_show_pages::{CertificateKind, places_of_ccache, places_of_keytab};
+use krb_show_text::text_of_page;
 use krb_show_tokens::kpasswd::places_of_password_frame;
 use krb_show_tokens::places_of_token;
 use std::alloc::{AllocError, Global};

@@ -11,7 +11,7 @@ use Rattle.krb_schema.specs.Forests.{Forest, enc}
 use Rattle.krb_schema.specs.Named.{field_row}
 use Rattle.krb_schema.specs.Shapes.{AreFields}
 use Rattle.krb_show.specs.Pages.{struct_of}
-use Rattle.krb_show.specs.Text.{line, page_lines}
+use Rattle.krb_show_text.specs.Text.{line, page_lines}
 use Rattle.krb_show.specs.Tokens.{Label, Token}
 use Rattle.krb_show_row_laws.specs.Telling.{is_name, other_than}
 use Rattle.krb_show_row_laws.specs.Blocks.{Blocks, Follow, Tells, depth_behind}

@@ -2,8 +2,8 @@
 use Rattle.std.proofs.Common.{◌≡◌, ◌⊎◌, ℕ, zero, suc, ◌+◌, ◌*◌, ◌<◌, true, false, inl, inr, refl, sym, ap, subst, ◌∙◌, List, [], ◌∷◌, ◌++◌, length, length-append, arith}
 use Rattle.std.proofs.lemmas.List.{append_assoc, append_cancel_left}
 use Rattle.std.proofs.lemmas.Grind.{common_steps}
-use Rattle.krb_show.specs.declared.escape.Style.TheVariants as style
-use Rattle.krb_show.specs.Text.{indent, line, lines_of, depth_after, page_lines, value_text, escaped}
+use Rattle.krb_show_text.specs.declared.escape.Style.TheVariants as style
+use Rattle.krb_show_text.specs.Text.{indent, line, lines_of, depth_after, page_lines, value_text, escaped}
 use Rattle.krb_show.specs.Tokens.{Token}
 use Rattle.krb_show_row_laws.specs.Telling.{all_of, Stops, other_than, is_name_octet, is_name, is_blank}
 use Rattle.krb_show_row_laws.proofs.SplitLaws.{and_left, and_right, split, all_append}

@@ -2,7 +2,7 @@
 use Rattle.std.proofs.Common.{◌≡◌, ℕ, Bool, true, if◌then◌else◌, inl, inr, refl, sym, ap, subst, ◌∙◌, List, [], ◌∷◌, ◌++◌}
 use Rattle.std.proofs.lemmas.List.{append-nil, append_assoc}
 use Rattle.krb_show.specs.Pages.{◌then◌}
-use Rattle.krb_show.specs.Text.{page_lines}
+use Rattle.krb_show_text.specs.Text.{page_lines}
 use Rattle.krb_show.specs.Tokens.{Token}
 use Rattle.krb_show_row_laws.specs.Blocks.{Adds, Among, Blocks, Follow, HasHead, Tells, depth_behind}
 use Rattle.krb_show_row_laws.specs.Firsts.{BeginsAs, Behind, First, Firsts, are_apart, names_of}

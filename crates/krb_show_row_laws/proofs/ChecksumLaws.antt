@@ -8,7 +8,7 @@ use Rattle.krb_der_core.specs.Encoding.{IsOctets}
 use Rattle.krb_registry.specs.declared.kind.Kind.TheVariants.{GssFlag}
 use Rattle.krb_show.specs.Leaves.{octets_of}
 use Rattle.krb_show.specs.Pages.{◌then◌, struct_of}
-use Rattle.krb_show.specs.Text.{page_lines}
+use Rattle.krb_show_text.specs.Text.{page_lines}
 use Rattle.krb_show.specs.Tokens.{Label, Token, of_kind, plain}
 use Rattle.krb_show_row_laws.specs.Telling.{is_name}
 use Rattle.krb_show_row_laws.specs.Blocks.{Follow, Adds, Blocks, HasHead, Heads, Tells, TellsValues, IsStruct, IsLeaf, is_apart}

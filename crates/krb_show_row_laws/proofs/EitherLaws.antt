@@ -1,6 +1,6 @@
 -- First lines that are one of several kinds.
 use Rattle.std.proofs.Common.{◌≡◌, ◌⊎◌, ℕ, true, inl, inr, List, [], ◌∷◌}
-use Rattle.krb_show.specs.Text.{value_text}
+use Rattle.krb_show_text.specs.Text.{value_text}
 use Rattle.krb_show.specs.Tokens.{Token}
 use Rattle.krb_show_row_laws.specs.Telling.{is_name}
 use Rattle.krb_show_row_laws.specs.Blocks.{HasHead, Heads, IsLeaf, IsList, IsStruct}

@@ -2,7 +2,7 @@
 use Rattle.std.proofs.Common.{◌≡◌, ◌⊎◌, ℕ, ◌<◌, Bool, true, ◌&&◌, inl, inr, refl, sym, ap, subst, ◌∙◌, List, [], ◌∷◌, ◌++◌, Option, None, Some}
 use Rattle.std.proofs.lemmas.List.{append_assoc, append_cancel_left, append-nil}
 use Rattle.std.specs.Option.{IfSome}
-use Rattle.krb_show.specs.Text.{line, page_lines, value_text}
+use Rattle.krb_show_text.specs.Text.{line, page_lines, value_text}
 use Rattle.krb_show.specs.Tokens.{Label, Token}
 use Rattle.krb_show.specs.Pages.{◌then◌, optional_of}
 use Rattle.krb_show_row_laws.specs.Telling.{is_name}

@@ -1,6 +1,6 @@
 -- First lines.
 use Rattle.std.proofs.Common.{◌≡◌, ◌⊎◌, ℕ, ◌<◌, Bool, true, false, ◌||◌, inl, inr, refl, sym, ap, subst, ◌∙◌, List, [], ◌∷◌, ◌++◌, length, arith}
-use Rattle.krb_show.specs.Text.{line, page_lines}
+use Rattle.krb_show_text.specs.Text.{line, page_lines}
 use Rattle.krb_show.specs.Tokens.{Token}
 use Rattle.krb_show_row_laws.specs.Telling.{is_name, other_than}
 use Rattle.krb_show_row_laws.specs.Blocks.{Adds, Among, Blocks, Follow, Heads, IsAt, IsLeaf, IsList, IsStruct, Tells, is_apart, same_octets}

@@ -5,7 +5,7 @@ use Rattle.krb_der_core.specs.Encoding.{IsOctets}
 use Rattle.krb_schema.specs.declared.shape.Role.{Role}
 use Rattle.krb_schema.specs.declared.shape.Role.TheVariants as roles
 use Rattle.krb_show.specs.Leaves.{octets_of}
-use Rattle.krb_show.specs.Text.{page_lines}
+use Rattle.krb_show_text.specs.Text.{page_lines}
 use Rattle.krb_show.specs.Tokens.{Label, Token}
 use Rattle.krb_show_messages.specs.Pac.{pac_of}
 use Rattle.krb_show_messages.specs.Formats.{behind_number, deleg_of, formats_of, gss_checksum, no_formats, win2k_pac}

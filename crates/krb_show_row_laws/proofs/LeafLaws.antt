@@ -9,11 +9,11 @@ use Rattle.krb_der_core.specs.BitString.{Bits, IsBits}
 use Rattle.krb_der_core.specs.GeneralizedTime.{IsRealTime}
 use Rattle.krb_der_core.specs.Integer.{shortest}
 use Rattle.krb_der_core.specs.IntegerLaws.{integer_one_content}
-use Rattle.krb_show.specs.declared.escape.Style.TheVariants as style
+use Rattle.krb_show_text.specs.declared.escape.Style.TheVariants as style
 use Rattle.krb_show.specs.declared.token.Form.TheVariants as form
 use Rattle.krb_show.specs.NameTexts.{name_text}
 use Rattle.krb_show.specs.Leaves.{name_of, number_of, unsigned_of, flags_of, identifier_of, truth_of, time_of, text_of, word_of, octets_of, secret_octets_of, cipher_of, time_word, flags_word, truth_word}
-use Rattle.krb_show.specs.Text.{escaped, quoted, line, octets_text, page_lines, value_text}
+use Rattle.krb_show_text.specs.Text.{escaped, quoted, line, octets_text, page_lines, value_text}
 use Rattle.krb_show.specs.Tokens.{Label, Token, adds, leaf, name_token, noted, number_token}
 use Rattle.krb_show_row_laws.specs.Telling.{all_of, Stops, is_name_octet, is_name, is_word_octet, IsBeside, IsNameBeside}
 use Rattle.krb_show_row_laws.proofs.SplitLaws.{tail}

@@ -21,7 +21,7 @@ use Rattle.krb_schema.specs.declared.shape.Role.{Role}
 use Rattle.krb_schema.specs.declared.shape.Role.TheVariants as roles
 use Rattle.krb_schema.specs.Leaves.{IsLeaf as IsContent, IsOf}
 use Rattle.krb_show.specs.Leaves.{identifier_of}
-use Rattle.krb_show.specs.Text.{octets_text, page_lines}
+use Rattle.krb_show_text.specs.Text.{octets_text, page_lines}
 use Rattle.krb_show.specs.Tokens.{Label, Token}
 use Rattle.krb_show.specs.Items.{octets_as}
 use Rattle.krb_show.specs.RowLeaves.{IsNamed, any_of, leaf_as}

@@ -2,7 +2,7 @@
 use Rattle.std.proofs.Common.{◌≡◌, ℕ, true, refl, sym, ap, ◌∙◌, List, [], ◌∷◌, ◌++◌, arith}
 use Rattle.std.proofs.lemmas.List.{append_assoc}
 use Rattle.std.proofs.lemmas.Grind.{common_steps}
-use Rattle.krb_show.specs.Text.{IsPrintable, ArePrintable, AreLines, is_printable, text_of_lines}
+use Rattle.krb_show_text.specs.Text.{IsPrintable, ArePrintable, AreLines, is_printable, text_of_lines}
 use Rattle.krb_show_row_laws.specs.Telling.{all_of}
 use Rattle.krb_show_row_laws.proofs.SplitLaws.{and_both, split, tail}
 

@@ -19,8 +19,8 @@ use Rattle.krb_schema.specs.Shapes.{AreElements, IsElement, IsHeld, IsShaped, pa
 use Rattle.krb_show.specs.NameTexts.{name_text}
 use Rattle.krb_show.specs.declared.token.Form.TheVariants as form
 use Rattle.krb_show.specs.Leaves.{name_of}
-use Rattle.krb_show.specs.Text.{quoted}
-use Rattle.krb_show.specs.declared.escape.Style.TheVariants as style
+use Rattle.krb_show_text.specs.Text.{quoted}
+use Rattle.krb_show_text.specs.declared.escape.Style.TheVariants as style
 use Rattle.krb_show.specs.Tokens.{Label, Token, leaf as token_leaf, mark}
 use Rattle.krb_show.specs.Items.{is_component}
 use Rattle.krb_show_row_laws.specs.Telling.{is_name}

@@ -5,9 +5,9 @@ use Rattle.krb_registry.specs.declared.kind.Kind.TheVariants.{EncryptionType, Ch
 use Rattle.krb_registry.specs.declared.kind.Kind.TheVariants.{TransitedEncodingType, LastRequestType, TicketFlag, KdcOption, ApOption, KeyUsage, PacBufferType, GssFlag}
 use Rattle.krb_registry.specs.declared.kind.Kind.TheVariants.{NegotiationState, ContextFlag, TokenFlag}
 use Rattle.krb_registry.specs.Names.{table, IsRow}
-use Rattle.krb_show.specs.declared.escape.Style.TheVariants as style
+use Rattle.krb_show_text.specs.declared.escape.Style.TheVariants as style
 use Rattle.krb_show.specs.Leaves.{IsNote, IsFlagsNote, AreFlags, IsIdentifierNote}
-use Rattle.krb_show.specs.Text.{escaped}
+use Rattle.krb_show_text.specs.Text.{escaped}
 use Rattle.krb_show_row_laws.specs.Telling.{all_of, other_than, is_word_octet, begins_as_octets, IsBeside, IsNameBeside}
 use Rattle.krb_show_row_laws.proofs.SplitLaws.{and_left, and_right}
 use Rattle.krb_show_row_laws.proofs.WordLaws.{word_itself, of_other}

@@ -7,7 +7,7 @@ use Rattle.krb_schema.specs.declared.shape.Role.TheVariants as roles
 use Rattle.krb_schema.specs.declared.shape.Schema.{Schema}
 use Rattle.krb_schema.specs.Named.{IsKerberos, row_in}
 use Rattle.krb_schema.specs.Types.{cases, fields, shapes, types}
-use Rattle.krb_show.specs.Text.{page_lines}
+use Rattle.krb_show_text.specs.Text.{page_lines}
 use Rattle.krb_show_messages.specs.Formats.{formats_of}
 use Rattle.krb_show_row_laws.specs.Telling.{is_name}
 use Rattle.krb_show_row_laws.specs.Firsts.{apart_firsts, of_leaf, openings}

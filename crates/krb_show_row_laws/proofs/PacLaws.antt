@@ -8,8 +8,8 @@ use Rattle.krb_registry.specs.declared.kind.Kind.TheVariants.{PacBufferType}
 use Rattle.krb_pac.specs.Numbered.{AreNumbered, NumberedBuffer, NumberedPacIs}
 use Rattle.krb_pac.specs.declared.numbered.NumberedInfoBuffer.{NumberedInfoBuffer}
 use Rattle.krb_show.specs.Leaves.{number_of, octets_of}
-use Rattle.krb_show.specs.Text.{octets_text}
-use Rattle.krb_show.specs.Text.{page_lines}
+use Rattle.krb_show_text.specs.Text.{octets_text}
+use Rattle.krb_show_text.specs.Text.{page_lines}
 use Rattle.krb_show.specs.Tokens.{Label, Token, of_kind, plain}
 use Rattle.krb_show_messages.specs.Pac.{buffer_of, buffers_of, entries_of, entry_of, has_key, held_octets_of, holds_key, other_of, pac_of, plain_octets}
 use Rattle.krb_show_row_laws.specs.Telling.{is_name}

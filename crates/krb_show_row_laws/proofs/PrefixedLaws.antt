@@ -9,7 +9,7 @@ use Rattle.krb_schema.specs.Named.{row_in}
 use Rattle.krb_schema.specs.Types.{cases, fields, shapes, types}
 use Rattle.krb_show.specs.Leaves.{octets_of}
 use Rattle.krb_show.specs.Pages.{struct_of}
-use Rattle.krb_show.specs.Text.{page_lines}
+use Rattle.krb_show_text.specs.Text.{page_lines}
 use Rattle.krb_show.specs.Tokens.{Label, Token, plain}
 use Rattle.krb_show_messages.specs.Formats.{no_formats}
 use Rattle.krb_show_messages.specs.Prefixed.{IsPrefixed, by_message_row, by_walk, length_and_items, message_row, prefixed_of}

@@ -12,7 +12,7 @@ use Rattle.krb_schema.specs.Forests.{leaf, none}
 use Rattle.krb_schema.specs.Named.{row_in}
 use Rattle.krb_schema.specs.Shapes.{IsElement, IsNone}
 use Rattle.krb_schema.specs.Types.{cases, fields, shapes, types}
-use Rattle.krb_show.specs.Text.{page_lines}
+use Rattle.krb_show_text.specs.Text.{page_lines}
 use Rattle.krb_show.specs.Tokens.{Token, plain}
 use Rattle.krb_show_pages.specs.Choices.{alternative, alternative_of, is_pack}
 use Rattle.krb_show_messages.specs.Formats.{formats_of}

@@ -14,7 +14,7 @@ use Rattle.krb_schema.specs.Named.{case_row, field_row, row_in}
 use Rattle.krb_schema.specs.Shapes.{IsElement}
 use Rattle.krb_schema.specs.Types.{cases, fields, shapes, types}
 use Rattle.krb_show.specs.Leaves.{octets_of}
-use Rattle.krb_show.specs.Text.{page_lines}
+use Rattle.krb_show_text.specs.Text.{page_lines}
 use Rattle.krb_show.specs.Tokens.{Label, Token, plain}
 use Rattle.krb_show.specs.Items.{shown, start}
 use Rattle.krb_show.specs.RowWalk.{AreItemsOf, IsShownByRow, IsTable, IsWalkBy, walk_shown}

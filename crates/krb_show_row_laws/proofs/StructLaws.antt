@@ -4,7 +4,7 @@ use Rattle.std.proofs.lemmas.List.{append_assoc, append-nil}
 use Rattle.std.specs.List.{AllByRecursion}
 use Rattle.std.specs.Fmt.{decimal}
 use Rattle.krb_show.specs.declared.token.Form.TheVariants as form
-use Rattle.krb_show.specs.Text.{line, page_lines, value_text}
+use Rattle.krb_show_text.specs.Text.{line, page_lines, value_text}
 use Rattle.krb_show.specs.Tokens.{Label, Token, adds, item_of, leaf, mark}
 use Rattle.krb_show.specs.Pages.{◌then◌, each_of, list_of, struct_of}
 use Rattle.krb_show_row_laws.specs.Telling.{Stops, is_name_octet, is_name}

@@ -10,7 +10,7 @@ use Rattle.krb_schema.specs.Forests.{enc, items_at}
 use Rattle.krb_schema.specs.Shapes.{IsElement}
 use Rattle.krb_schema.specs.Walks.{Walked}
 use Rattle.krb_show.specs.Leaves.{octets_of}
-use Rattle.krb_show.specs.Text.{page_lines}
+use Rattle.krb_show_text.specs.Text.{page_lines}
 use Rattle.krb_show.specs.Tokens.{Label, Token}
 use Rattle.krb_show.specs.Items.{shown, start}
 use Rattle.krb_show.specs.declared.rows.stand.Secrets.TheVariants as secrets

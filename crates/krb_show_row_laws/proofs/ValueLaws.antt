@@ -11,9 +11,9 @@ use Rattle.krb_der_core.specs.BitString.{Bits, IsBits}
 use Rattle.krb_der_core.specs.GeneralizedTime.{Time, IsRealDate, IsRealTime}
 use Rattle.krb_der_core.specs.Integer.{unsigned, inverted, shortest}
 use Rattle.krb_der_core.specs.IntegerLaws.{unsigned_plain, inverted_below}
-use Rattle.krb_show.specs.declared.escape.Style.TheVariants as style
+use Rattle.krb_show_text.specs.declared.escape.Style.TheVariants as style
 use Rattle.krb_show.specs.Leaves.{digit, hex_octet, hex, two, time_word, flags_word, truth_word}
-use Rattle.krb_show.specs.Text.{is_printable, escaped_octet, escaped, quoted}
+use Rattle.krb_show_text.specs.Text.{is_printable, escaped_octet, escaped, quoted}
 use Rattle.krb_show_row_laws.specs.Telling.{all_of, Stops, other_than, is_word_octet}
 use Rattle.krb_show_row_laws.proofs.SplitLaws.{and_left, and_both, head, tail, split, all_append, all_weaker}
 use Rattle.krb_show_row_laws.proofs.WordLaws.{digit_injective, decimal_word, one_hex}

@@ -4,9 +4,9 @@ use Rattle.std.specs.Fmt.{decimal, digits, digits_onto, digit_glyph, signed_deci
 use Rattle.std.proofs.lemmas.List.{append_assoc, append_cancel_left}
 use Rattle.std.proofs.lemmas.Grind.{common_steps}
 use Rattle.krb_der_core.specs.Encoding.{IsOctets}
-use Rattle.krb_show.specs.declared.escape.Style.TheVariants as style
+use Rattle.krb_show_text.specs.declared.escape.Style.TheVariants as style
 use Rattle.krb_show.specs.Leaves.{digit, hex_octet, hex}
-use Rattle.krb_show.specs.Text.{is_printable, itself_or, escaped_octet, escaped, spaced_hex, octets_text}
+use Rattle.krb_show_text.specs.Text.{is_printable, itself_or, escaped_octet, escaped, spaced_hex, octets_text}
 use Rattle.krb_show_row_laws.specs.Telling.{all_of, Stops, other_than, is_name_octet, is_name, is_word_octet, is_digit, IsBeside, IsNameBeside, begins_as_octets}
 use Rattle.krb_show_row_laws.proofs.SplitLaws.{and_left, and_right, and_both, head, tail, split, all_weaker}
 

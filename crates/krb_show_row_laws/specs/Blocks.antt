@@ -1,6 +1,6 @@
 -- What the lines of fields tell of them, whatever lines follow.
 use Rattle.std.specs.Prelude.{◌≡◌, ℕ, ◌<◌, ◌⊎◌, Bool, true, false, nat_eq, ◌&&◌, List, [], ◌∷◌, ◌++◌}
-use Rattle.krb_show.specs.Text.{depth_after, indent, line, page_lines, value_text}
+use Rattle.krb_show_text.specs.Text.{depth_after, indent, line, page_lines, value_text}
 use Rattle.krb_show.specs.Tokens.{Label, Token}
 use Rattle.krb_show_row_laws.specs.Telling.{Stops, is_name_octet, is_name, other_than}
 

@@ -12,7 +12,7 @@ use Rattle.krb_schema.specs.Named.{case_row, field_row, row_in}
 use Rattle.krb_schema.specs.Shapes.{IsElement}
 use Rattle.krb_schema.specs.Types.{shapes, types}
 use Rattle.krb_schema.specs.Walks.{Walked}
-use Rattle.krb_show.specs.Text.{AreLines, page_lines, page_text}
+use Rattle.krb_show_text.specs.Text.{AreLines, page_lines, page_text}
 use Rattle.krb_show.specs.Tokens.{Label, Token}
 use Rattle.krb_show_pages.specs.Choices.{is_pack, reply_of}
 use Rattle.krb_show.specs.Items.{shown, start}

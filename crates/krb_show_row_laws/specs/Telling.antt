@@ -1,6 +1,6 @@
 -- What a text tells.
 use Rattle.std.specs.Prelude.{◌≡◌, ℕ, nat_eq, nat_le, Bool, true, false, ◌&&◌, ◌||◌, List, [], ◌∷◌}
-use Rattle.krb_show.specs.Text.{is_printable}
+use Rattle.krb_show_text.specs.Text.{is_printable}
 
 -- ---- octets up to another
 

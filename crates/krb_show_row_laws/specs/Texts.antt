@@ -2,7 +2,7 @@
 use Rattle.std.specs.Prelude.{◌≡◌, true, List, []}
 use Rattle.krb_der_core.specs.declared.der.DerEncode.{Ghosts as EncodingOf}
 use Rattle.krb_show.specs.declared.show.Show.{Ghosts as ShowingOf}
-use Rattle.krb_show.specs.Text.{AreLines, page_lines, page_text}
+use Rattle.krb_show_text.specs.Text.{AreLines, page_lines, page_text}
 use Rattle.krb_show.specs.Tokens.{Label, Token}
 use Rattle.krb_show_row_laws.specs.Telling.{is_name}
 

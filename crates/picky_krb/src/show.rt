@@ -3,10 +3,9 @@
 pub use krb_input::{InputError, octets_of_input};
 pub use krb_show::{
     Field, Form, Label, NoFormats, Page, Place, Plain, Role, Secrets, Show, ShowFields,
-    ShowsFormats, Tells, Token, Walk, json_of_page, json_of_page_with_places, page_of_octets,
-    page_of_tree, place_tokens, places_by_row, places_of_items, push_items, push_items_with_places,
-    show_by_row, show_identifier, show_list, show_number, show_octets, show_opened, show_struct,
-    show_text, show_word, tag_name, text_of_page, text_of_page_with_places, walk_named,
+    ShowsFormats, Tells, Token, Walk, page_of_octets, page_of_tree, place_tokens, places_by_row,
+    places_of_items, push_items, push_items_with_places, show_by_row, show_identifier, show_list,
+    show_number, show_octets, show_opened, show_struct, show_text, show_word, tag_name, walk_named,
 };
 pub use krb_show_any::{
     Everything, Kind, PageError, Pages, broken_rules_of, json_with_places, kind_of_name,
@@ -21,6 +20,9 @@ pub use krb_show_pages::{
     CertificateKind, DataKind, FilePageError, page_of_ccache, page_of_certificate_data,
     page_of_data, page_of_keytab, page_of_message, page_of_part, places_of_ccache,
     places_of_keytab,
+};
+pub use krb_show_text::{
+    json_of_page, json_of_page_with_places, text_of_page, text_of_page_with_places,
 };
 pub use krb_show_tokens::kpasswd::{
     PasswordFrameError, page_of_password_frame, places_of_password_frame,

@@ -13,9 +13,9 @@ use crate::keys_of::{keys_of, suite_of};
 use krb_crypto::Cipher;
 use krb_crypto::prepared::SealingKey;
 use krb_decrypt::MOST_FOUND;
-use krb_show::text_of_page;
 use krb_show_pac::page_with_checked;
 use krb_show_pages::page_of_message;
+use krb_show_text::text_of_page;
 use std::alloc::{AllocError, Global};
 use test_rows::{Columns, RowError};
 

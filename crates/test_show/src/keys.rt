@@ -8,8 +8,8 @@ use crate::pages::printed;
 use krb_decrypt::{
     Key, KeytabKeysError, key_of_text, keys_of_keytab, keys_of_passwords, without_keys,
 };
-use krb_show::text_of_page;
 use krb_show_pages::{page_of_keytab, page_of_message};
+use krb_show_text::text_of_page;
 use std::alloc::{AllocError, Global};
 use test_rows::{Columns, RowError};
 

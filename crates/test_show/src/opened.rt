@@ -10,9 +10,10 @@
 use crate::keys_of::keys_of;
 use krb_decrypt::{Key, MOST_FOUND, Nothing, page_with_decrypted};
 use krb_der::Asn1DerError;
-use krb_show::{Page, text_of_page};
+use krb_show::Page;
 use krb_show_messages::KerberosFormats;
 use krb_show_pages::{DataKind, page_of_data, page_of_message, page_of_part};
+use krb_show_text::text_of_page;
 use std::alloc::{AllocError, Global};
 use test_rows::{Columns, RowError, octets_of};
 

@@ -6,10 +6,11 @@
 //! they begin as: behind the line stands the name of this kind, or `none`, and an error is the reason that it gives.
 
 use krb_pac::PacError;
-use krb_show::{Page, json_of_page, text_of_page};
+use krb_show::Page;
 use krb_show_any::{
     Everything, Kind, PageError, Pages, kind_of_name, kind_of_octets, name_of_kind,
 };
+use krb_show_text::{json_of_page, text_of_page};
 use std::alloc::{AllocError, Global};
 use test_rows::{Columns, RowError};
 

@@ -9,7 +9,8 @@ use crate::call_error::CallError;
 use crate::handing::hand_out;
 use crate::items::walks::walked;
 use krb_schema::Item;
-use krb_show::{NoFormats, Page, Secrets, Token, json_of_page, push_items, text_of_page};
+use krb_show::{NoFormats, Page, Secrets, Token, push_items};
+use krb_show_text::{json_of_page, text_of_page};
 use std::alloc::{AllocError, Global};
 
 /// Whether the octets of keys and of passwords are shown.

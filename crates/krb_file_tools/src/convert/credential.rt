@@ -21,7 +21,7 @@ use std::alloc::{AllocError, Global};
 use std::marker::Model;
 
 /// A credential of a message: slices of the message's texts and octets, and the octets of the ticket.
-#[derive(Debug, Drop)]
+#[derive(Drop)]
 pub(crate) struct MessageCredential<'a> {
     client: MessagePrincipal<'a>,
     server: MessagePrincipal<'a>,

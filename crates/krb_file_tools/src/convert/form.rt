@@ -9,7 +9,7 @@ use krb_der::{Asn1DerError, Der, IntegerAsn1, from_bytes};
 use std::alloc::Global;
 
 /// What octets are to be the encoding of.
-#[derive(Debug, Clone, Copy, PartialEq, Eq)]
+#[derive(Clone, Copy, PartialEq, Eq)]
 pub(crate) enum Form {
     /// A KRB-CRED.
     Kirbi,

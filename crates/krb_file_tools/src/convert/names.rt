@@ -17,7 +17,7 @@ use std::alloc::{AllocError, Global};
 use std::marker::Model;
 
 /// A principal of a message, with the list of its components: slices of the message's texts.
-#[derive(Debug, Drop)]
+#[derive(Drop)]
 pub(crate) struct MessagePrincipal<'a> {
     name_type: u32,
     realm: &'a [u8],

@@ -6,7 +6,7 @@ ghost use Rattle.krb_file_tools.specs.Lines.{IsCcacheListing, IsCredentialLine, 
 ghost use Rattle.krb_file_tools.specs.Principals.{principal_text};
 ghost use Rattle.krb_file_tools.specs.Texts.{IsEncodedEtypeText, flag_letters};
 ghost use Rattle.krb_file_tools.specs.Tickets.{tickets_of};
-ghost use Rattle.krb_show.specs.Text.{ArePrintable, text_of_lines};
+ghost use Rattle.krb_show_text.specs.Text.{ArePrintable, text_of_lines};
 
 use crate::list::error::ListError;
 use crate::list::etype::{TicketEtypes, Tickets, text_of_etype};

@@ -2,7 +2,7 @@
 
 ghost use Rattle.std.specs.Prelude.{◌≡◌, ℕ, List, IfOk, codes};
 ghost use Rattle.krb_file_tools.specs.Texts.{IsAnyEtypeText, IsEncodedEtypeText, IsEtypeText};
-ghost use Rattle.krb_show.specs.Text.{ArePrintable};
+ghost use Rattle.krb_show_text.specs.Text.{ArePrintable};
 
 use krb_der::{DerEncode, IntegerAsn1};
 use krb_registry::name_laws::names_are_plain;

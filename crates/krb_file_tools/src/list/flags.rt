@@ -2,7 +2,7 @@
 
 ghost use Rattle.std.specs.Prelude.{◌≡◌, ◌≤◌, ◌++◌, IfOk, OnOk};
 ghost use Rattle.krb_file_tools.specs.Texts.{first_letters, flag_letters, last_letters, letter_of, letters_set};
-ghost use Rattle.krb_show.specs.Text.{ArePrintable};
+ghost use Rattle.krb_show_text.specs.Text.{ArePrintable};
 
 use std::alloc::{AllocError, Global};
 

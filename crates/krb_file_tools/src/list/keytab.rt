@@ -5,7 +5,7 @@ ghost use Rattle.krb_files.specs.Entry.{Entry};
 ghost use Rattle.krb_files.specs.Keytab.{KeytabIs};
 ghost use Rattle.krb_file_tools.specs.Lines.{IsEntryLine, IsKeytabListing, IsNoKeytab};
 ghost use Rattle.krb_file_tools.specs.Texts.{padded};
-ghost use Rattle.krb_show.specs.Text.{ArePrintable};
+ghost use Rattle.krb_show_text.specs.Text.{ArePrintable};
 ghost use Rattle.std.specs.Fmt.{decimal};
 
 use crate::list::error::ListError;

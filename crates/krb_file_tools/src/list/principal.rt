@@ -3,7 +3,7 @@
 ghost use Rattle.std.specs.Prelude.{◌≡◌, ◌++◌, ◌∷◌, map, IfOk, OnOk};
 ghost use Rattle.krb_der_core.specs.Encoding.{IsOctets};
 ghost use Rattle.krb_file_tools.specs.Principals.{after_slashes, components_text, name_octet, name_text, plain_octet, principal_text};
-ghost use Rattle.krb_show.specs.Text.{ArePrintable};
+ghost use Rattle.krb_show_text.specs.Text.{ArePrintable};
 ghost use Rattle.krb_types.specs.Principals.{quotation};
 
 use krb_files::fields::{ComponentsView, PrincipalView};

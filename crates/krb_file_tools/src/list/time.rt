@@ -3,7 +3,7 @@
 ghost use Rattle.std.specs.Prelude.{◌≡◌, IfOk};
 ghost use Rattle.krb_file_tools.specs.Texts.{IsTimeText};
 ghost use Rattle.krb_show.specs.Leaves.{time_word};
-ghost use Rattle.krb_show.specs.Text.{ArePrintable};
+ghost use Rattle.krb_show_text.specs.Text.{ArePrintable};
 
 use krb_der::GeneralizedTimeAsn1;
 use krb_show::{Label, Show};

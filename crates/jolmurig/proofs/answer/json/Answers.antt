@@ -1,6 +1,6 @@
 use Rattle.std.proofs.Common.{◌∙◌, sym, [], ◌∷◌, ◌++◌}
 use Rattle.std.proofs.lemmas.List.{append-nil}
-use Rattle.krb_show.specs.Json.{json_line}
+use Rattle.krb_show_text.specs.Json.{json_line}
 use Rattle.jolmurig.proofs.answer.json.Goals as goal
 
 pub returns-clause-printable : goal.returns-clause-printable

@@ -1,5 +1,5 @@
 use Rattle.std.proofs.Common.{◌-◌, ◌∙◌, ap, take, length, [], ◌∷◌, ◌++◌}
-use Rattle.krb_show.specs.Text.{page_lines, page_text}
+use Rattle.krb_show_text.specs.Text.{page_lines, page_text}
 use Rattle.jolmurig.proofs.Fronts.{front_lines}
 use Rattle.jolmurig.proofs.answer.type_line.Goals as goal
 

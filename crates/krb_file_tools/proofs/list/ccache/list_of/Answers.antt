@@ -4,8 +4,8 @@ use Rattle.krb_file_tools.specs.Lines.{IsCredentialLine, IsListing, ccache_heade
 use Rattle.krb_file_tools.specs.Tickets.{tickets_of}
 use Rattle.krb_file_tools.specs.Principals.{principal_text}
 use Rattle.krb_file_tools.proofs.Listing.{listing_none}
-use Rattle.krb_show.specs.Text.{AreLines, ArePrintable, text_of_lines}
-use Rattle.krb_show.proofs.Printable.{printable_append}
+use Rattle.krb_show_text.specs.Text.{AreLines, ArePrintable, text_of_lines}
+use Rattle.krb_show_text.proofs.Printable.{printable_append}
 use Rattle.krb_file_tools.proofs.list.ccache.list_of.Goals as goal
 
 -- the first two lines

@@ -1,7 +1,7 @@
 use Rattle.std.proofs.Common.{◌≡◌, subst, sym, arith, to_z, of_z, w64}
 use Rattle.std.proofs.lemmas.Grind.{common_steps}
 use Rattle.krb_file_tools.proofs.Printable.{printable_row}
-use Rattle.krb_show.specs.Text.{ArePrintable}
+use Rattle.krb_show_text.specs.Text.{ArePrintable}
 use Rattle.krb_file_tools.proofs.list.etype.text_of_etype.Goals as goal
 
 pub returns-in_ok-extend_from_slice-in-Some-clause-printable : goal.returns-in_ok-extend_from_slice-in-Some-clause-printable

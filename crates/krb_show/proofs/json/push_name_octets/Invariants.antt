@@ -1,7 +1,0 @@
-use Rattle.std.proofs.Common.{◌≡◌, ◌++◌, take}
-use Rattle.std.specs.List.{flat_map}
-use Rattle.krb_show.specs.Json.{name_octet}
-use Rattle.krb_show.proofs.json.push_name_octets.Given as goal
-
-abbrev pub invariant-loop-octet : goal.invariant-loop-octet
-invariant-loop-octet l = l.out.items ≡ l.fn.out.items ++ flat_map name_octet (take l.octet-index l.names)

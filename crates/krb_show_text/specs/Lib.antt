@@ -1,0 +1,4 @@
+pub mod Text
+pub mod Json
+pub mod TextWithPlaces
+pub mod JsonWithPlaces
