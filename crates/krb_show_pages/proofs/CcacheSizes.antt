@@ -1,5 +1,5 @@
 -- How many octets a credential cache has, and places that are added one behind another.
-use Rattle.std.proofs.Common.{◌≡◌, ℕ, ◌+◌, List, [], ◌∷◌, ◌++◌, length, refl, sym, ap, subst, ◌∙◌, length-append, Option, Result, Ok, arith}
+use Rattle.std.proofs.Common.{◌≡◌, ℕ, ◌+◌, List, [], ◌∷◌, ◌++◌, length, refl, sym, ap, subst, ◌∙◌, length-append, Option, Result, Ok, Err, OnErr, arith}
 use Rattle.std.specs.List.{flat_map}
 use Rattle.std.proofs.lemmas.List.Concat.{flat_map-cons}
 use Rattle.byteorder.specs.Endian.{big_bytes}
@@ -175,3 +175,8 @@ content_told header size c first second old one two new e f g is fields name cre
   subst (λ (n : ℕ). adds_credential_list c.version (2 + n + principal_size c.principal) c.credentials two new) e
       (subst (λ (n : ℕ). adds_credential_list c.version (2 + header + n) c.credentials two new) (is ∙ ap principal_size f) credentials),
 )
+
+-- what holds anyway holds if there is an error
+pub on_err_anyway : {T E P : Type 0} (r : Result T E) → P → OnErr r P
+on_err_anyway (Ok x) p = tt
+on_err_anyway (Err e) p = p

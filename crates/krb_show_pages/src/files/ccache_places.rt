@@ -1,7 +1,8 @@
 //! Where what the page of a credential cache tells stands (MIT Kerberos, "Credential cache file
 //! format").
 
-ghost use Rattle.std.specs.Prelude.{◌≡◌, [], ◌+◌, ◌<◌, ◌^◌, length, IfOk, OnOk};
+ghost use Rattle.std.specs.Prelude.{◌≡◌, [], ◌+◌, ◌<◌, ◌^◌, length, IfOk, OnErr, OnOk};
+ghost use Rattle.krb_files.specs.Ccache.{Ccache, CcacheIs};
 ghost use Rattle.krb_show_pages.specs.CcachePlaces.{AreCcachePlaces, adds, ccache_size, adds_ccache, adds_components, adds_content, adds_credential, adds_credential_list, adds_fields};
 ghost use Rattle.krb_show_pages.specs.CcachePlaces.{adds_credentials, adds_each_typed, adds_header, adds_marks, adds_parties, adds_principal, adds_ticket, adds_tickets};
 ghost use Rattle.krb_show_pages.specs.CcachePlaces.{adds_typed_list, components_size, credential_size, credentials_size, each_typed_size, etype_size, header_size};
@@ -501,9 +502,10 @@ fn ccache_places(
 /// the tokens (MIT Kerberos, "Credential cache file format"): lengths and counts are in no place
 /// but those of the lists and structs around them. A ticket has the places of its elements, and
 /// `removed` none, as the header of version 3. For `place_tokens`. Octets that are no cache have no
-/// places. The only error is an allocation failure.
+/// places. The only error is an allocation failure, and only of octets that are a cache.
 pub fn places_of_ccache(alloc: Global, octets: &[u8]) -> Result<Vec<Option<Place>>, AllocError>
-    ensures { IfOk result (λ places. AreCcachePlaces octets.now places.items) }
+    ensures places { IfOk result (λ places. AreCcachePlaces octets.now places.items) }
+    ensures refused { OnErr result ((cache : Ccache) × CcacheIs octets.now cache) }
 {
     match CcacheView::new(octets) {
         Ok(cache) => ccache_places(alloc, octets.len(), &cache),

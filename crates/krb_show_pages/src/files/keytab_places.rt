@@ -1,10 +1,11 @@
 //! Where what the page of a keytab tells stands (MIT Kerberos, "Keytab file format").
 
-ghost use Rattle.std.specs.Prelude.{◌≡◌, ◌+◌, ◌<◌, ◌≤◌, ◌^◌, ℕ, List, ◌++◌, None, Some, length, map, IfOk, MatchOption, OnOk};
+ghost use Rattle.std.specs.Prelude.{◌≡◌, ◌+◌, ◌<◌, ◌≤◌, ◌^◌, ℕ, List, ◌++◌, None, Some, length, map, IfOk, MatchOption, OnErr, OnOk};
 ghost use Rattle.std.specs.List.{AllByRecursion, flat_map};
 ghost use Rattle.std.specs.Option.{option_copied};
 ghost use Rattle.krb_files.specs.FieldWritten.{counted_octets, principal_octets};
-ghost use Rattle.krb_files.specs.Keytab.{Fields, FitsFields, FitsRecord, IsEnd, Record, fields_octets, record_octets};
+ghost use Rattle.krb_files.specs.Entry.{Entry};
+ghost use Rattle.krb_files.specs.Keytab.{Fields, FitsFields, FitsRecord, IsEnd, KeytabIs, Record, fields_octets, record_octets};
 ghost use Rattle.krb_show_pages.specs.KeytabPlaces.{AreKeytabPlaces, adds_content, adds_entry, component_places, keytab_places, parts_places, records_places, version_place};
 ghost use Rattle.krb_show_pages.specs.KeytabParts.{FitsParts, FitsRecordPart, IsPart, IsPartAt, IsPartsOf, record_size, told_of};
 
@@ -262,9 +263,10 @@ fn keytab_places(alloc: Global, octets: &[u8]) -> Result<Vec<Option<Place>>, All
 /// (MIT Kerberos, "Keytab file format"): the list has the octets behind the version of the file, a
 /// struct its record without the length, and `vno` the 32 bits behind the key, if they are shown,
 /// else the octet before it. For `place_tokens`. Octets that are no keytab have no places. The only
-/// error is an allocation failure.
+/// error is an allocation failure, and only of octets that are a keytab.
 pub fn places_of_keytab(alloc: Global, octets: &[u8]) -> Result<Vec<Option<Place>>, AllocError>
-    ensures { IfOk result (λ places. AreKeytabPlaces octets.now places.items) }
+    ensures places { IfOk result (λ places. AreKeytabPlaces octets.now places.items) }
+    ensures refused { OnErr result ((entries : List Entry) × KeytabIs octets.now entries) }
 {
     match KeytabView::new(octets) {
         Ok(_) => keytab_places(alloc, octets),

@@ -12,7 +12,7 @@ use std::alloc::{AllocError, Global};
 use std::marker::Model;
 
 /// The fields of a principal.
-#[derive(Debug, Drop)]
+#[derive(Drop)]
 pub(crate) struct PrincipalFields<'a> {
     name_type: u32,
     realm: Realm<'a>,

@@ -22,7 +22,7 @@ impl<'a> Show<File> for &'a [u8] {
 }
 
 /// The octets of a key of the file.
-#[derive(Debug, Drop)]
+#[derive(Drop)]
 pub(crate) struct KeyOctets<'a> {
     pub(crate) octets: &'a [u8],
 }
@@ -54,7 +54,7 @@ impl<'a> Show<Text> for &'a [u8] {
 }
 
 /// A realm of the file, which is a text.
-#[derive(Debug, Drop)]
+#[derive(Drop)]
 pub(crate) struct Realm<'a> {
     pub(crate) octets: &'a [u8],
 }
@@ -97,7 +97,7 @@ impl<'a> Show<File> for ComponentsView<'a> {
 }
 
 /// A time of the file, in seconds since 1970.
-#[derive(Debug, Drop)]
+#[derive(Drop)]
 pub(crate) struct Seconds {
     pub(crate) seconds: u32,
 }
