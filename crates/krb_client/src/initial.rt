@@ -53,7 +53,7 @@ pub enum InitialStep {
 }
 
 /// What follows, before the exchange changes.
-#[derive(Debug, Drop)]
+#[derive(Drop)]
 enum Answer {
     /// These octets go to the KDC, and this changes.
     Send(Change, Vec<u8>),

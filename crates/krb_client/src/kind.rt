@@ -6,7 +6,7 @@ ghost use Rattle.krb_client.specs.Kinds.{IsKind};
 const KRB_ERROR: u8 = 0x7e;
 
 /// What octets are, by their tag.
-#[derive(Debug, Drop, Clone, Copy)]
+#[derive(Drop, Clone, Copy)]
 pub(crate) enum Kind {
     /// The reply that is waited for.
     Reply,

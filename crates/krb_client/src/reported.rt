@@ -21,7 +21,7 @@ const PREAUTH_REQUIRED: u32 = 25;
 const SKEW: u32 = 37;
 
 /// What an exchange for a first ticket takes from an error of the KDC.
-#[derive(Debug, Drop)]
+#[derive(Drop)]
 pub(crate) enum Change {
     /// The client's key, as the KDC tells of it.
     Key(Key),

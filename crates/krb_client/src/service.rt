@@ -48,7 +48,7 @@ pub enum ServiceStep {
 }
 
 /// What follows, before the exchange changes.
-#[derive(Debug, Drop)]
+#[derive(Drop)]
 enum ServiceAnswer {
     /// These octets go to the KDC, whose time is so much ahead.
     Send(Option<i64>, Vec<u8>),

@@ -10,7 +10,7 @@ use std::alloc::{AllocError, Global};
 use std::marker::Model;
 
 /// A signature of a PAC, and the octets that it is over.
-#[derive(Debug, Drop)]
+#[derive(Drop)]
 pub(crate) struct PacChecksum<'a> {
     given: SignatureView<'a>,
     message: Vec<u8>,

@@ -10,7 +10,7 @@ use krb_show::{Form, Label, Page, Show, push_hex, push_token};
 use std::alloc::{AllocError, Global};
 
 /// What flags are of. Each is one table.
-#[derive(Clone, Copy, PartialEq, Eq, Debug)]
+#[derive(Clone, Copy, PartialEq, Eq)]
 pub(crate) enum FlagSet {
     /// Attributes of a group or of an extra identifier (MS-PAC 2.2.1 and 2.2.2).
     GroupAttributes,
@@ -152,7 +152,7 @@ fn flags_word(alloc: Global, number: u32) -> Result<Vec<u8>, AllocError>
 }
 
 /// Flags of 32 bits.
-#[derive(Debug, Drop)]
+#[derive(Drop)]
 pub(crate) struct Flags {
     pub(crate) set: FlagSet,
     pub(crate) number: u32,

@@ -12,7 +12,7 @@ use std::alloc::{AllocError, Global};
 use std::marker::Model;
 
 /// A number of 32 bits that stands for a signed one.
-#[derive(Debug, Drop)]
+#[derive(Drop)]
 struct Signed {
     number: u32,
 }

@@ -11,7 +11,7 @@ use std::alloc::{AllocError, Global};
 use std::marker::Model;
 
 /// A name, in UTF-16, little endian.
-#[derive(Debug, Drop)]
+#[derive(Drop)]
 pub(crate) struct Name<'a> {
     pub(crate) octets: &'a [u8],
 }
@@ -57,7 +57,7 @@ impl<'a> Show<Pac> for &'a [u8] {
 }
 
 /// The octets of a session key.
-#[derive(Debug, Drop)]
+#[derive(Drop)]
 pub(crate) struct SessionKey<'a> {
     pub(crate) octets: &'a [u8],
 }

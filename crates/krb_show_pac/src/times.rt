@@ -9,7 +9,7 @@ use std::alloc::{AllocError, Global};
 use std::marker::Model;
 
 /// A time, in units of 100 nanoseconds since 1601.
-#[derive(Debug, Drop)]
+#[derive(Drop)]
 pub(crate) struct Moment {
     pub(crate) filetime: u64,
 }

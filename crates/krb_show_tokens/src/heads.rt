@@ -17,7 +17,7 @@ const TOKEN: u8 = 0x60;
 const SPNEGO: [u64; 7] = [1, 3, 6, 1, 5, 5, 2];
 
 /// What a token's frame says that it holds.
-#[derive(Clone, Copy, PartialEq, Eq, Debug)]
+#[derive(Clone, Copy, PartialEq, Eq)]
 pub(crate) enum Head {
     /// The mechanism is SPNEGO.
     Negotiation,
