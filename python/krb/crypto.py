@@ -47,6 +47,9 @@ _keep_checksum_key = Call("krb_keep_checksum_key", NUMBER, IN, NUMBER, CHECKSUM_
 _checksum_kept = Call("krb_checksum_kept", CHECKSUM_KEY, IN, has_room=True)
 _verify_checksum_kept = Call("krb_verify_checksum_kept", CHECKSUM_KEY, IN, IN)
 
+# (a name of its own: `decrypt` looks it up in each call)
+_opened = _decrypt_kept.octets
+
 # Octets, more than a key or a checksum has.
 _ROOM = 64
 
@@ -135,8 +138,7 @@ def decrypt(etype: int, key: Octets, usage: int, sealed: Octets) -> bytes:
     """The payload that was encrypted to these octets, under etype 16 with the zeros that filled it.
 
     Refused: NUMBER, KEY_SIZE, SEALED_SIZE, PADDING (etype 16), INTEGRITY, MEMORY."""
-    derived = _remembered(etype, key if type(key) is bytes else plain(key), usage)
-    return _decrypt_kept.octets(len(sealed), derived, sealed)
+    return _opened(len(sealed), _remembered(etype, key if type(key) is bytes else plain(key), usage), sealed)
 
 
 class KeptKey:
