@@ -152,6 +152,8 @@ def try_forms():
         expect(crypto.decrypt(17, form(key), 2, form(sealed)) == payload, form)
     for number in (2**31, -(2**31) - 1, 2**32 + 17, 2**64 + 17, -(2**70)):
         expect(outcome(crypto.decrypt, number, key, 2, sealed) == Status.NUMBER, number)
+        for etype, usage in ((number, 2), (17, number)):
+            expect(outcome(crypto.encrypt, etype, key, usage, payload, bytes(15)) == Status.NUMBER, "%d, %d, and a short confounder" % (etype, usage))
         expect(crypto.key_size(number) == 0 and crypto.encrypted_size(number, 5) == 0, number)
         expect(outcome(messages.check, number, b"") == Status.NUMBER, number)
         expect(outcome(messages.is_message, number, b"") == Status.NUMBER, number)

@@ -129,7 +129,7 @@ def encrypt(etype: int, key: Octets, usage: int, payload: Octets, confounder: Op
     if confounder is None:
         confounder = os.urandom(size)
     elif size and len(plain(confounder)) != size:
-        raise Refused(Status.CONFOUNDER_SIZE)
+        raise Refused(Status.CONFOUNDER_SIZE if -(2**31) <= usage < 2**31 else Status.NUMBER)
     derived = _remembered(etype, key if type(key) is bytes else plain(key), usage)
     return _encrypt_kept.octets(len(payload) + beside, derived, confounder, payload)
 
