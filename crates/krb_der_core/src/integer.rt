@@ -1,6 +1,6 @@
 //! INTEGER.
 
-ghost use Rattle.std.specs.Prelude.{◌≡◌, ◌==◌, ℕ, ◌^◌, ◌<◌, ◌≤◌, ℤ, pos, length, drop, slice_index, FitsSigned, MatchBool, MatchOption, SomeIff, IfOk, IfErr, OnErr, []};
+ghost use Rattle.std.specs.Prelude.{◌≡◌, ◌==◌, ℕ, ◌^◌, ◌<◌, ◌≤◌, ℤ, pos, length, drop, slice_index, FitsSigned, MatchBool, MatchOption, SomeIff, IsOkAnd, IfOk, IfErr, OnErr};
 ghost use Rattle.std.specs.Int.{w64};
 ghost use Rattle.std.specs.Int.Digits.{number_from_digits};
 ghost use Rattle.std.specs.Cmp.Lexicographic.{pointwise};
@@ -142,14 +142,12 @@ impl IntegerAsn1 {
 
     /// The number that the octets represent in two's complement, highest octet first; none represent zero.
     ///
-    /// The only error is `OutOfMemory`, and only where there are no octets: one is then allocated.
+    /// No error comes: zero stands in the value, and other numbers in the vector.
     pub fn from_bytes_be_signed(alloc: Global, octets: Vec<u8>) -> Result<Self, Asn1DerError>
-        ensures value { IfOk result (λ v. v ≡ whole_number octets.items) }
-        ensures err { IfErr result (λ e. e ≡ OutOfMemory) }
-        ensures empty { OnErr result (octets.items ≡ []) }
+        ensures { IsOkAnd result (λ v. v ≡ whole_number octets.items) }
     {
         if octets.is_empty() {
-            return Ok(IntegerAsn1::from_shortest(alloc, &[0])?);
+            return Ok(IntegerAsn1::from_few(alloc, &[0]));
         }
         let mut octets = octets;
         let prefix = needless(&octets);
