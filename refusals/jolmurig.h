@@ -1,6 +1,6 @@
 /* The commands of the program jolmurig, their input, and their results. What is shown of octets, of
  * the buffers of a PAC, of what keys open and of keys left out is what crates/test_show/stdout
- * expects; what is listed, converted and left out is what crates/test_files/stdout does. What a
+ * expects; what is listed, converted and left out is what crates/test_show/stdout does. What a
  * proxy passes on was taken out of the octets by a reader of DER in Python. */
 #ifndef JOLMURIG_H
 #define JOLMURIG_H

@@ -1,9 +1,8 @@
-//! What the documents show, by the public calls of `picky_krb` alone, and tests of these calls. No crate depends on this one.
+//! What the documents show, by the public calls of `picky_krb` alone. Nothing but tests depends on it.
 //!
 //! `reseal` is the file of the README, and `note` the type at the head of `composite.rt` of `krb_der`; `./test` compares their texts. `toy` is
 //! a cipher of a caller's own, which hides nothing, and `listed_words` a generator, which gives words from a list: the whole law of
-//! `Cipher` is proved of the one, and that of `Rng` of the other. Sealing and opening by the one and encryption under the other's words are
-//! tested. `test_crypto` calls what else `picky_krb` re-exports of the cryptography.
+//! `Cipher` is proved of the one, and that of `Rng` of the other. `test_crypto` calls both, and what else `picky_krb` re-exports of the cryptography.
 #![tactic(auto)]
 
 pub mod buffer_count;
@@ -14,8 +13,6 @@ pub mod offered_schemes;
 pub mod reseal;
 pub mod sealed_octets;
 mod toy;
-#[cfg(test)]
-mod toy_rows;
 pub mod written_again;
 
 pub use listed_words::ListedWords;

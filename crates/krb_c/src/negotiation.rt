@@ -1,9 +1,9 @@
 //! The decisions of a negotiation (SPNEGO, RFC 4178), for C. `krb.h` declares these calls.
 
-ghost use Rattle.krb_c_negotiation.specs.Answering.{IsAnswered};
-ghost use Rattle.krb_c_negotiation.specs.Taking.{IsTaken};
+ghost use Rattle.krb_c_calls.specs.Answering.{IsAnswered};
+ghost use Rattle.krb_c_calls.specs.Taking.{IsTaken};
 
-use krb_c_negotiation::{MessageRecord, NegotiationRecord, ReplyRecord, answer, take};
+use krb_c_calls::negotiation::{MessageRecord, NegotiationRecord, ReplyRecord, answer, take};
 
 /// `krb_negotiation_take` of `krb.h`: a side takes a message of the peer.
 #[unsafe(no_mangle)]

@@ -1,3 +1,15 @@
+mod Reading
+mod Engines
+mod Later
+mod Offer
+mod FirstReply
+pub mod Buffers
+pub mod Elements
+pub mod FrameLengths
+pub mod ReadAgain
+pub mod Made
+pub mod Places
+pub mod FramedTokens
 mod Domains
 pub mod PlacedItems
 mod RequestsMade

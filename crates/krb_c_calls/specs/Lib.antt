@@ -1,3 +1,15 @@
+pub mod EngineNumbers
+pub mod Taking
+pub mod Answering
+pub mod Engines
+pub mod Making
+pub mod Negotiation
+pub mod Pac
+pub mod Password
+pub mod Places
+pub mod Proxy
+pub mod FrameStatuses
+pub mod Token
 pub mod Calls
 pub mod Checksums
 pub mod Clients

@@ -1,9 +1,11 @@
-//! The calls of the library for C: of the cryptography; of messages and their parts, items of octets, per-message tokens and proxies.
+//! The calls of the library for C: of the cryptography; of messages and their parts, items of octets, per-message tokens and proxies;
+//! `frames`, of PACs, GSS tokens, SPNEGO and kpasswd messages; and `negotiation`, of the decisions of a negotiation.
 #![tactic(auto)]
 
 mod call_error;
 mod checksums;
 mod errors;
+pub mod frames;
 pub mod handing;
 pub mod items;
 mod kept;
@@ -11,6 +13,7 @@ mod kept_checksums;
 mod keys;
 pub mod laws;
 mod messages;
+pub mod negotiation;
 pub mod parts;
 pub mod proxies;
 mod sizes;

@@ -1,12 +1,12 @@
 -- The request for a service (RFC 4120, 3.2.2; RFC 4121, 4.1.1).
 use Rattle.std.specs.Prelude.{◌≡◌, ◌≢◌, ◌⊎◌, ℕ, List, [], length, take, replicate, if◌then◌else◌, Option, Some, None, Result, Ok, Err}
-use Rattle.krb_client_requests.specs.Applications.{IsApRequest, IsNoApRequest}
-use Rattle.krb_client_requests.specs.Errors.{IsMemoryOr}
-use Rattle.krb_client_requests.specs.Sealed.{SuiteKey}
-use Rattle.krb_client_requests.specs.declared.application.GssChecksum.{GssChecksum}
-use Rattle.krb_client_requests.specs.declared.authenticator.Sender.{Sender}
-use Rattle.krb_client_requests.specs.declared.error.RequestError.{RequestError}
-use Rattle.krb_client_requests.specs.declared.key.LentKey.{LentKey}
+use Rattle.krb_client.specs.Applications.{IsApRequest, IsNoApRequest}
+use Rattle.krb_client.specs.Errors.{IsMemoryOr}
+use Rattle.krb_client.specs.Sealed.{SuiteKey}
+use Rattle.krb_client.specs.declared.requests.application.GssChecksum.{GssChecksum}
+use Rattle.krb_client.specs.declared.requests.authenticator.Sender.{Sender}
+use Rattle.krb_client.specs.declared.requests.error.RequestError.{RequestError}
+use Rattle.krb_client.specs.declared.requests.key.LentKey.{LentKey}
 use Rattle.krb_crypto.specs.BySuite.{confounder_octets_of}
 use Rattle.krb_crypto.specs.declared.cipher_suite.CipherSuite.{CipherSuite}
 use Rattle.krb_der.specs.Whole.{Encodes}

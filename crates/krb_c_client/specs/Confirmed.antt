@@ -1,8 +1,8 @@
 -- Whether a service answers the request (RFC 4120, 3.2.5).
 use Rattle.std.specs.Prelude.{◌≡◌, ℕ, ℤ, List, Result, Ok, Err, Vec}
 use Rattle.std.specs.declared.alloc.Global.{Global}
-use Rattle.krb_client_replies.specs.Confirmed.{IsConfirmed, IsNotConfirmed, ap_rep_form}
-use Rattle.krb_client_replies.specs.declared.error.ReplyError.{ReplyError}
+use Rattle.krb_client.specs.Confirmed.{IsConfirmed, IsNotConfirmed, ap_rep_form}
+use Rattle.krb_client.specs.declared.replies.error.ReplyError.{ReplyError}
 use Rattle.krb_client_rules.specs.declared.confirmed.Sent.{Sent}
 use Rattle.krb_client_rules.specs.declared.key.Key.{Key}
 use Rattle.krb_der_core.specs.declared.der.DerEncode.{Ghosts as EncodingOf}

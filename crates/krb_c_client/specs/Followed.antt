@@ -4,7 +4,7 @@ use Rattle.krb_client.specs.declared.initial.InitialStep.{InitialStep}
 use Rattle.krb_client.specs.declared.initial.InitialStep.TheVariants as first
 use Rattle.krb_client.specs.declared.service.ServiceStep.{ServiceStep}
 use Rattle.krb_client.specs.declared.service.ServiceStep.TheVariants as further
-use Rattle.krb_client_replies.specs.declared.granted.Granted.{Granted}
+use Rattle.krb_client.specs.declared.replies.granted.Granted.{Granted}
 use Rattle.krb_der_core.specs.declared.der.DerEncode.{Ghosts as EncodingOf}
 use Rattle.krb_messages.specs.declared.messages.replies.EncKdcRepPart.{EncKdcRepPart}
 use Rattle.krb_types.specs.declared.data_types.tickets.TicketInner.{TicketInner}

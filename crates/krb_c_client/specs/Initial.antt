@@ -7,9 +7,9 @@ use Rattle.krb_client.specs.declared.initial.InitialExchange.{InitialExchange}
 use Rattle.krb_client.specs.declared.initial.InitialStep.{InitialStep}
 use Rattle.krb_client.specs.declared.moment.Moment.{Moment}
 use Rattle.krb_client.specs.declared.terms.Terms.{Terms}
-use Rattle.krb_client_keys.specs.declared.secret.Secret.{Secret}
-use Rattle.krb_client_keys.specs.declared.secret.Secret.TheVariants as secrets
-use Rattle.krb_client_requests.specs.declared.error.RequestError.{RequestError}
+use Rattle.krb_client.specs.declared.keys.secret.Secret.{Secret}
+use Rattle.krb_client.specs.declared.keys.secret.Secret.TheVariants as secrets
+use Rattle.krb_client.specs.declared.requests.error.RequestError.{RequestError}
 use Rattle.krb_client_rules.specs.declared.asked.Asked.{Asked}
 use Rattle.krb_der_core.specs.declared.der.DerEncode.{Ghosts as EncodingOf}
 use Rattle.krb_messages.specs.declared.messages.replies.EncKdcRepPart.{EncKdcRepPart}

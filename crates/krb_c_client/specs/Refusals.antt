@@ -2,8 +2,8 @@
 use Rattle.std.specs.Prelude.{ℕ, Option, Some, None}
 use Rattle.krb_client.specs.declared.error.ClientError.{ClientError}
 use Rattle.krb_client.specs.declared.renamed.RenameError.{RenameError}
-use Rattle.krb_client_replies.specs.declared.error.ReplyError.{ReplyError}
-use Rattle.krb_client_requests.specs.declared.error.RequestError.{RequestError}
+use Rattle.krb_client.specs.declared.replies.error.ReplyError.{ReplyError}
+use Rattle.krb_client.specs.declared.requests.error.RequestError.{RequestError}
 use Rattle.krb_c_calls.specs.declared.call_error.CallError.TheVariants as calls
 use Rattle.krb_c_client.specs.Rules.{client_rule, code_of, rename_rule, reply_rule, request_rule}
 use Rattle.krb_c_client.specs.declared.refusal.Refusal.{Refusal}

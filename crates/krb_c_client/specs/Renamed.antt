@@ -6,7 +6,7 @@ use Rattle.krb_client.specs.declared.initial.InitialExchange.{InitialExchange}
 use Rattle.krb_client.specs.declared.moment.Moment.{Moment}
 use Rattle.krb_client.specs.declared.renamed.RenameError.{RenameError}
 use Rattle.krb_client.specs.declared.terms.Terms.{Terms}
-use Rattle.krb_client_replies.specs.declared.granted.Granted.{Granted}
+use Rattle.krb_client.specs.declared.replies.granted.Granted.{Granted}
 use Rattle.krb_client_rules.specs.declared.asked.Asked.{Asked}
 use Rattle.krb_der_core.specs.declared.der.DerEncode.{Ghosts as EncodingOf}
 use Rattle.krb_messages.specs.declared.messages.replies.EncKdcRepPart.{EncKdcRepPart}

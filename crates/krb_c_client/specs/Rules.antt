@@ -4,14 +4,14 @@ use Rattle.krb_client.specs.declared.error.ClientError.{ClientError}
 use Rattle.krb_client.specs.declared.error.ClientError.TheVariants as errors
 use Rattle.krb_client.specs.declared.renamed.RenameError.{RenameError}
 use Rattle.krb_client.specs.declared.renamed.RenameError.TheVariants as renames
-use Rattle.krb_client_keys.specs.declared.hint.HintError.{HintError}
-use Rattle.krb_client_keys.specs.declared.hint.HintError.TheVariants as hints
-use Rattle.krb_client_keys.specs.declared.password.PasswordError.{PasswordError}
-use Rattle.krb_client_keys.specs.declared.password.PasswordError.TheVariants as passwords
-use Rattle.krb_client_replies.specs.declared.error.ReplyError.{ReplyError}
-use Rattle.krb_client_replies.specs.declared.error.ReplyError.TheVariants as replies
-use Rattle.krb_client_requests.specs.declared.error.RequestError.{RequestError}
-use Rattle.krb_client_requests.specs.declared.error.RequestError.TheVariants as requests
+use Rattle.krb_client.specs.declared.keys.hint.HintError.{HintError}
+use Rattle.krb_client.specs.declared.keys.hint.HintError.TheVariants as hints
+use Rattle.krb_client.specs.declared.keys.password.PasswordError.{PasswordError}
+use Rattle.krb_client.specs.declared.keys.password.PasswordError.TheVariants as passwords
+use Rattle.krb_client.specs.declared.replies.error.ReplyError.{ReplyError}
+use Rattle.krb_client.specs.declared.replies.error.ReplyError.TheVariants as replies
+use Rattle.krb_client.specs.declared.requests.error.RequestError.{RequestError}
+use Rattle.krb_client.specs.declared.requests.error.RequestError.TheVariants as requests
 use Rattle.krb_client_rules.specs.declared.mismatch.Mismatch.{Mismatch}
 use Rattle.krb_client_rules.specs.declared.mismatch.Mismatch.TheVariants as mismatches
 use Rattle.krb_crypto.specs.declared.seal.error.PartError.{PartError}

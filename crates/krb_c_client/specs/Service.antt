@@ -9,8 +9,8 @@ use Rattle.krb_client.specs.declared.service.ServiceExchange.{ServiceExchange}
 use Rattle.krb_client.specs.declared.service.ServiceStep.{ServiceStep}
 use Rattle.krb_client.specs.declared.terms.ByTicket.{ByTicket}
 use Rattle.krb_client.specs.declared.terms.Terms.{Terms}
-use Rattle.krb_client_requests.specs.Errors.{IsMemoryOr}
-use Rattle.krb_client_requests.specs.declared.error.RequestError.{RequestError}
+use Rattle.krb_client.specs.Errors.{IsMemoryOr}
+use Rattle.krb_client.specs.declared.requests.error.RequestError.{RequestError}
 use Rattle.krb_client_rules.specs.declared.asked.Asked.{Asked}
 use Rattle.krb_client_rules.specs.declared.key.Key.{Key}
 use Rattle.krb_crypto.specs.declared.cipher_suite.CipherSuite.{CipherSuite}

@@ -2,7 +2,7 @@
 
 ghost use Rattle.std.specs.Prelude.{◌≡◌, IfErr, IfOk};
 ghost use Rattle.krb_client.specs.Service.{IsNoServiceAnswer, IsServiceStep};
-ghost use Rattle.krb_client_requests.specs.Errors.{IsMemoryOr};
+ghost use Rattle.krb_client.specs.Errors.{IsMemoryOr};
 ghost use Rattle.krb_c_client.specs.Followed.{TellsFurther};
 ghost use Rattle.krb_c_client.specs.Inputs.{inputs_of};
 ghost use Rattle.krb_c_client.specs.Means.{AreMeans, AreNoMeans, IsByOf, IsNoTicket, means_of};

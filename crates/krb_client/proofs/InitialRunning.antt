@@ -1,8 +1,8 @@
 -- Whole runs of an exchange for a first ticket.
 use Rattle.std.proofs.Common.{◌≡◌, ℕ, ℤ, ◌+◌, ◌≤◌, List, Option, Some, None, Result, Ok, Err, sym, ap, subst, ◌∙◌, arith}
-use Rattle.krb_client_keys.specs.declared.secret.Secret.{Secret}
-use Rattle.krb_client_replies.specs.declared.granted.Granted.{Granted}
-use Rattle.krb_client_replies.specs.declared.reported.Reported.{Reported}
+use Rattle.krb_client.specs.declared.keys.secret.Secret.{Secret}
+use Rattle.krb_client.specs.declared.replies.granted.Granted.{Granted}
+use Rattle.krb_client.specs.declared.replies.reported.Reported.{Reported}
 use Rattle.krb_client_rules.specs.declared.asked.Asked.{Asked}
 use Rattle.krb_client_rules.specs.declared.key.Key.{Key}
 use Rattle.krb_client.specs.Initial.{Asks, IsBegun, IsStep, asked_with, key_after, offset_after, taken}

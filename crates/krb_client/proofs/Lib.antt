@@ -1,3 +1,8 @@
+mod Checks
+mod Closed
+mod Refusals
+pub mod Firsts
+pub mod SameKeys
 pub mod Running
 pub mod InitialRunning
 pub mod ServiceRunning

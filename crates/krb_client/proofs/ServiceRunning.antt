@@ -1,6 +1,6 @@
 -- Whole runs of an exchange for a further ticket.
 use Rattle.std.proofs.Common.{◌≡◌, ℕ, ℤ, ◌+◌, ◌≤◌, List, Option, Some, Result, Ok, Err, sym, ap, subst, ◌∙◌, arith}
-use Rattle.krb_client_replies.specs.declared.granted.Granted.{Granted}
+use Rattle.krb_client.specs.declared.replies.granted.Granted.{Granted}
 use Rattle.krb_client_rules.specs.declared.asked.Asked.{Asked}
 use Rattle.krb_client_rules.specs.declared.key.Key.{Key}
 use Rattle.krb_client.specs.Initial.{asked_with}

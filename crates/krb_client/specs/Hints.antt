@@ -1,13 +1,13 @@
 -- The client's key for a reply that came without pre-authentication (RFC 4120, 3.1.5 and 5.2.7.5).
 use Rattle.std.specs.Prelude.{◌≡◌, ◌⊎◌, ℕ, ℤ, pos, List, Option, Some, None}
-use Rattle.krb_client_keys.specs.Firsts.{IsFirst, NoneIs}
-use Rattle.krb_client_keys.specs.Hints.{ElementsTellNoKey, IsClientKey, IsInfo, IsNoClientKey, TellsKey}
-use Rattle.krb_client_keys.specs.declared.hint.HintError.{HintError}
-use Rattle.krb_client_keys.specs.declared.hint.HintError.TheVariants as hints
-use Rattle.krb_client_keys.specs.declared.limits.Limits.{Limits}
-use Rattle.krb_client_keys.specs.declared.secret.Client.{Client}
-use Rattle.krb_client_keys.specs.declared.secret.Secret.{Secret}
-use Rattle.krb_client_replies.specs.declared.error.ReplyError.TheVariants as replies
+use Rattle.krb_client.specs.Firsts.{IsFirst, NoneIs}
+use Rattle.krb_client.specs.KeyHints.{ElementsTellNoKey, IsClientKey, IsInfo, IsNoClientKey, TellsKey}
+use Rattle.krb_client.specs.declared.keys.hint.HintError.{HintError}
+use Rattle.krb_client.specs.declared.keys.hint.HintError.TheVariants as hints
+use Rattle.krb_client.specs.declared.keys.limits.Limits.{Limits}
+use Rattle.krb_client.specs.declared.keys.secret.Client.{Client}
+use Rattle.krb_client.specs.declared.keys.secret.Secret.{Secret}
+use Rattle.krb_client.specs.declared.replies.error.ReplyError.TheVariants as replies
 use Rattle.krb_client_rules.specs.declared.asked.Asked.{Asked}
 use Rattle.krb_client_rules.specs.declared.key.Key.{Key}
 use Rattle.krb_crypto.specs.Suites.{etype}

@@ -1,8 +1,8 @@
 -- Whole runs of an exchange for a first ticket (RFC 4120, 3.1).
 use Rattle.std.specs.Prelude.{◌≡◌, ℕ, List, Result, Ok, Err}
-use Rattle.krb_client_keys.specs.declared.secret.Secret.{Secret}
-use Rattle.krb_client_replies.specs.Granted.{IsFirstGranted}
-use Rattle.krb_client_replies.specs.declared.granted.Granted.{Granted}
+use Rattle.krb_client.specs.declared.keys.secret.Secret.{Secret}
+use Rattle.krb_client.specs.Granted.{IsFirstGranted}
+use Rattle.krb_client.specs.declared.replies.granted.Granted.{Granted}
 use Rattle.krb_client_rules.specs.declared.asked.Asked.{Asked}
 use Rattle.krb_client_rules.specs.declared.key.Key.{Key}
 use Rattle.krb_client.specs.Initial.{IsNoAnswer, IsStep, IsUsedKey, asked_with}

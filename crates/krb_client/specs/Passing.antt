@@ -1,7 +1,7 @@
 -- Replies to other requests (RFC 4120, 5.4.1).
 use Rattle.std.specs.Prelude.{◌≡◌, ◌⊎◌, true, false}
-use Rattle.krb_client_replies.specs.declared.error.ReplyError.{ReplyError}
-use Rattle.krb_client_replies.specs.declared.error.ReplyError.TheVariants as replies
+use Rattle.krb_client.specs.declared.replies.error.ReplyError.{ReplyError}
+use Rattle.krb_client.specs.declared.replies.error.ReplyError.TheVariants as replies
 use Rattle.krb_client_rules.specs.declared.mismatch.Mismatch.TheVariants as rule
 use Rattle.krb_client.specs.declared.terms.Terms.{Terms}
 

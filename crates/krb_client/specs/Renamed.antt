@@ -1,10 +1,10 @@
 -- Replies that rename the client or the server (RFC 6806, 6, 8 and 11).
 use Rattle.std.specs.Prelude.{◌≡◌, ◌≢◌, ◌⊎◌, ℕ, pos, List, length, Some, None}
-use Rattle.krb_client_keys.specs.Firsts.{IsFirst, NoneIs}
-use Rattle.krb_client_replies.specs.Granted.{IsFirstGranted, IsFirstRefused}
-use Rattle.krb_client_replies.specs.declared.error.ReplyError.{ReplyError}
-use Rattle.krb_client_replies.specs.declared.granted.Granted.{Granted}
-use Rattle.krb_client_requests.specs.RequestChecksums.{IsRequestChecksum}
+use Rattle.krb_client.specs.Firsts.{IsFirst, NoneIs}
+use Rattle.krb_client.specs.Granted.{IsFirstGranted, IsFirstRefused}
+use Rattle.krb_client.specs.declared.replies.error.ReplyError.{ReplyError}
+use Rattle.krb_client.specs.declared.replies.granted.Granted.{Granted}
+use Rattle.krb_client.specs.RequestChecksums.{IsRequestChecksum}
 use Rattle.krb_client_rules.specs.declared.key.Key.{Key}
 use Rattle.krb_crypto.specs.BySuite.{key_octets_of}
 use Rattle.krb_der_core.specs.declared.der.DerEncode.{Ghosts as EncodingOf}

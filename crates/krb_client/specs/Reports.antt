@@ -1,11 +1,11 @@
 -- What an error of a KDC calls for (RFC 4120, 3.1.4, 5.9.1 and 7.5.9).
 use Rattle.std.specs.Prelude.{◌≡◌, ◌⊎◌, ℕ, ℤ, List, [], Option, Some, None}
-use Rattle.krb_client_keys.specs.Hints.{IsNoToldKey, IsToldKey}
-use Rattle.krb_client_keys.specs.declared.hint.HintError.{HintError}
-use Rattle.krb_client_keys.specs.declared.hint.HintError.TheVariants as hints
-use Rattle.krb_client_keys.specs.declared.secret.Client.{Client}
-use Rattle.krb_client_keys.specs.declared.secret.Secret.{Secret}
-use Rattle.krb_client_replies.specs.declared.reported.Reported.{Reported}
+use Rattle.krb_client.specs.KeyHints.{IsNoToldKey, IsToldKey}
+use Rattle.krb_client.specs.declared.keys.hint.HintError.{HintError}
+use Rattle.krb_client.specs.declared.keys.hint.HintError.TheVariants as hints
+use Rattle.krb_client.specs.declared.keys.secret.Client.{Client}
+use Rattle.krb_client.specs.declared.keys.secret.Secret.{Secret}
+use Rattle.krb_client.specs.declared.replies.reported.Reported.{Reported}
 use Rattle.krb_client_rules.specs.declared.key.Key.{Key}
 use Rattle.krb_client.specs.Hints.{IsClientOf}
 use Rattle.krb_client.specs.Moments.{ahead_of}

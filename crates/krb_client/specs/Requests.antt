@@ -1,13 +1,13 @@
 -- The requests of an exchange (RFC 4120, 3.1.1 and 3.3.1).
 use Rattle.std.specs.Prelude.{◌≡◌, ◌⊎◌, ℕ, ℤ, List, Bool, true, false, Option, Some, None, map}
-use Rattle.krb_client_requests.specs.Bodies.{IsNoBody, Wanted, number_of}
-use Rattle.krb_client_requests.specs.RequestChecksums.{marked}
-use Rattle.krb_client_requests.specs.Requests.{IsAsRequest, IsNoTgsRequest, IsTgsRequest}
-use Rattle.krb_client_requests.specs.Sealed.{SuiteKey, key_of}
-use Rattle.krb_client_requests.specs.Timestamps.{IsNoTimestamp, IsTimestamp}
-use Rattle.krb_client_requests.specs.declared.authenticator.Sender.{Sender}
-use Rattle.krb_client_requests.specs.declared.error.RequestError.{RequestError}
-use Rattle.krb_client_requests.specs.declared.key.LentKey.{LentKey}
+use Rattle.krb_client.specs.Bodies.{IsNoBody, Wanted, number_of}
+use Rattle.krb_client.specs.RequestChecksums.{marked}
+use Rattle.krb_client.specs.KdcRequests.{IsAsRequest, IsNoTgsRequest, IsTgsRequest}
+use Rattle.krb_client.specs.Sealed.{SuiteKey, key_of}
+use Rattle.krb_client.specs.Timestamps.{IsNoTimestamp, IsTimestamp}
+use Rattle.krb_client.specs.declared.requests.authenticator.Sender.{Sender}
+use Rattle.krb_client.specs.declared.requests.error.RequestError.{RequestError}
+use Rattle.krb_client.specs.declared.requests.key.LentKey.{LentKey}
 use Rattle.krb_client_rules.specs.declared.asked.Asked.{Asked}
 use Rattle.krb_client_rules.specs.declared.key.Key.{Key}
 use Rattle.krb_types.specs.declared.data_types.pre_authentication.PaData.{PaData}

@@ -1,13 +1,13 @@
 -- An exchange for a further ticket, step by step (RFC 4120, 3.3).
 use Rattle.std.specs.Prelude.{◌≡◌, ◌⊎◌, ℕ, ℤ, pos, List, Option, Some, None}
-use Rattle.krb_client_replies.specs.Granted.{IsGranted, IsNotGranted, tgs_form}
-use Rattle.krb_client_replies.specs.Messages.{IsNoMessage, error_numbers}
-use Rattle.krb_client_replies.specs.Reported.{IsReported}
-use Rattle.krb_client_replies.specs.declared.error.ReplyError.{ReplyError}
-use Rattle.krb_client_replies.specs.declared.granted.Granted.{Granted}
-use Rattle.krb_client_replies.specs.declared.reported.Reported.{Reported}
-use Rattle.krb_client_requests.specs.Errors.{IsMemoryOr}
-use Rattle.krb_client_requests.specs.declared.error.RequestError.{RequestError}
+use Rattle.krb_client.specs.Granted.{IsGranted, IsNotGranted, tgs_form}
+use Rattle.krb_client.specs.Messages.{IsNoMessage, error_numbers}
+use Rattle.krb_client.specs.Reported.{IsReported}
+use Rattle.krb_client.specs.declared.replies.error.ReplyError.{ReplyError}
+use Rattle.krb_client.specs.declared.replies.granted.Granted.{Granted}
+use Rattle.krb_client.specs.declared.replies.reported.Reported.{Reported}
+use Rattle.krb_client.specs.Errors.{IsMemoryOr}
+use Rattle.krb_client.specs.declared.requests.error.RequestError.{RequestError}
 use Rattle.krb_client_rules.specs.declared.asked.Asked.{Asked}
 use Rattle.krb_client_rules.specs.declared.key.Key.{Key}
 use Rattle.krb_client.specs.Initial.{asked_with}

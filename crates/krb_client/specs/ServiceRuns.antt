@@ -1,7 +1,7 @@
 -- Whole runs of an exchange for a further ticket (RFC 4120, 3.3).
 use Rattle.std.specs.Prelude.{◌≡◌, ℕ, pos, List, Result, Ok, Err}
-use Rattle.krb_client_replies.specs.Granted.{IsGranted, tgs_form}
-use Rattle.krb_client_replies.specs.declared.granted.Granted.{Granted}
+use Rattle.krb_client.specs.Granted.{IsGranted, tgs_form}
+use Rattle.krb_client.specs.declared.replies.granted.Granted.{Granted}
 use Rattle.krb_client_rules.specs.declared.asked.Asked.{Asked}
 use Rattle.krb_client_rules.specs.declared.key.Key.{Key}
 use Rattle.krb_client.specs.Initial.{asked_with}

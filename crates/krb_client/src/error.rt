@@ -3,9 +3,9 @@
 ghost use Rattle.std.specs.Prelude.{◌≡◌};
 ghost use Rattle.krb_client.specs.declared.error.ClientError.TheVariants as errors;
 
-use krb_client_keys::HintError;
-use krb_client_replies::ReplyError;
-use krb_client_requests::RequestError;
+use crate::keys::HintError;
+use crate::replies::ReplyError;
+use crate::requests::RequestError;
 use thiserror::Error;
 
 /// Why a step of an exchange ends with no ticket and no request. The exchange is then as it was. An

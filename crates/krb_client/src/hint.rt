@@ -2,16 +2,16 @@
 
 ghost use Rattle.std.specs.Prelude.{◌≡◌, ◌⊎◌, MatchBool, MatchOption, IfErr, IfOk};
 ghost use Rattle.std.specs.Option.{option_copied};
-ghost use Rattle.krb_client_keys.specs.Firsts.{IsFirst, NoneIs};
-ghost use Rattle.krb_client_keys.specs.declared.hint.HintError.TheVariants as hints;
+ghost use Rattle.krb_client.specs.Firsts.{IsFirst, NoneIs};
+ghost use Rattle.krb_client.specs.declared.keys.hint.HintError.TheVariants as hints;
 ghost use Rattle.krb_client.specs.Hints.{IsDefaultKey, IsKeyForReply, IsKeyOfReply, IsNoDefaultKey, IsNoKeyForReply, IsNoKeyOfReply, IsNoReplyKey, IsNumberOf, IsReplyKey, IsUnread};
 ghost use Rattle.krb_messages.specs.declared.messages.replies.KdcRep.{KdcRep};
 ghost use Rattle.krb_der.specs.Whole.{Encodes};
 
 use crate::error::ClientError;
+use crate::keys::{Client, HintError, Limits, Secret, client_key, key_by_elements};
 use crate::messages::{Encodings, Rfc4120};
-use krb_client_keys::{Client, HintError, Limits, Secret, client_key, key_by_elements};
-use krb_client_replies::ReplyError;
+use crate::replies::ReplyError;
 use krb_client_rules::{Asked, Key, is_number};
 use krb_crypto::CipherSuite;
 use krb_der::{ApplicationTag, Asn1SequenceOf, Der, DerEncode, IntegerAsn1, from_bytes};

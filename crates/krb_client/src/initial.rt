@@ -2,7 +2,7 @@
 
 ghost use Rattle.std.specs.Prelude.{◌≡◌, IfErr, IfOk, OnErr, Some};
 ghost use Rattle.std.specs.Option.{option_copied};
-ghost use Rattle.krb_client_requests.specs.Errors.{IsMemoryOr};
+ghost use Rattle.krb_client.specs.Errors.{IsMemoryOr};
 ghost use Rattle.krb_client.specs.Initial.{Asks, IsAnswer, IsBegun, IsNoAnswer, IsNotBegun, IsStep, RefusesError, key_after, offset_after, taken};
 ghost use Rattle.krb_client.specs.Renamed.{IsNotRenamed, IsRenamed};
 ghost use Rattle.krb_client.specs.Requests.{IsInitialRequest, IsNoInitialRequest};
@@ -10,16 +10,16 @@ ghost use Rattle.krb_client.specs.Requests.{IsInitialRequest, IsNoInitialRequest
 use crate::error::ClientError;
 use crate::initial_reply::granted;
 use crate::initial_request::initial_request;
+use crate::keys::Secret;
 use crate::kind::{Kind, kind_of};
 use crate::messages::{Encodings, Rfc4120};
 use crate::moment::Moment;
 use crate::renamed::{RenameError, check_request};
+use crate::replies::{Granted, check_as_rep, read_error};
 use crate::reported::{Change, change_for};
+use crate::requests::RequestError;
 use crate::terms::Terms;
 use crate::time::clock_of;
-use krb_client_keys::Secret;
-use krb_client_replies::{Granted, check_as_rep, read_error};
-use krb_client_requests::RequestError;
 use krb_client_rules::{Asked, Key};
 use krb_der::DerEncode;
 use krb_types::data_types::Checksum;

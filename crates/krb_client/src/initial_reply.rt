@@ -3,18 +3,18 @@
 ghost use Rattle.std.specs.Prelude.{◌≡◌, None, MatchBool, MatchOption, IfErr, IfOk};
 ghost use Rattle.krb_client.specs.Initial.{IsChecked, IsNotChecked, IsReplyTaken, RefusesReply};
 ghost use Rattle.krb_client.specs.Passing.{HasNotOtherNonce, IsNotPassedOver, IsPassedOver};
-ghost use Rattle.krb_client_replies.specs.declared.error.ReplyError.TheVariants as replies;
+ghost use Rattle.krb_client.specs.declared.replies.error.ReplyError.TheVariants as replies;
 ghost use Rattle.krb_client_rules.specs.declared.mismatch.Mismatch.TheVariants as rule;
 
 use crate::error::ClientError;
 use crate::hint::key_of_reply;
 use crate::initial::InitialExchange;
+use crate::keys::Secret;
 use crate::messages::{Encodings, Rfc4120};
 use crate::moment::Moment;
+use crate::replies::{Granted, ReplyError, check_as_rep};
 use crate::terms::Terms;
 use crate::time::clock_of;
-use krb_client_keys::Secret;
-use krb_client_replies::{Granted, ReplyError, check_as_rep};
 use krb_client_rules::{Key, Mismatch};
 use std::alloc::Global;
 

@@ -2,16 +2,16 @@
 
 ghost use Rattle.std.specs.Prelude.{◌≡◌, MatchOption, MatchResult, IfErr, IfOk};
 ghost use Rattle.std.specs.Option.{option_copied};
-ghost use Rattle.krb_client_requests.specs.Bodies.{wanted};
-ghost use Rattle.krb_client_requests.specs.Errors.{IsMemoryOr};
-ghost use Rattle.krb_client_requests.specs.declared.error.RequestError.TheVariants as errors;
+ghost use Rattle.krb_client.specs.Bodies.{wanted};
+ghost use Rattle.krb_client.specs.Errors.{IsMemoryOr};
+ghost use Rattle.krb_client.specs.declared.requests.error.RequestError.TheVariants as errors;
 ghost use Rattle.krb_client.specs.Requests.{IsAuthenticated, IsInitialRequest, IsNoInitialRequest, IsNoStamp, IsStamp, IsUnauthenticated, marked_if, wanted_of};
 
 use crate::messages::{Encodings, Rfc4120};
 use crate::moment::Moment;
+use crate::requests::{LentKey, RequestError, Want, as_request, marked, pa_enc_timestamp};
 use crate::terms::Terms;
 use crate::time::{confounder_of, kdc_time};
-use krb_client_requests::{LentKey, RequestError, Want, as_request, marked, pa_enc_timestamp};
 use krb_client_rules::{Asked, Key};
 use krb_der::{Asn1SequenceOf, DerEncode};
 use krb_types::data_types::PaData;

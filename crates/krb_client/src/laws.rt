@@ -1,8 +1,8 @@
 //! Lemmas about whole runs of an exchange: functions with no body, each of whose clauses is a fact.
 
 ghost use Rattle.std.specs.Prelude.{◌≡◌, ◌+◌, ◌≤◌, ℕ, ℤ, List, Option, Some};
-ghost use Rattle.krb_client_keys.specs.declared.secret.Secret.{Secret as SecretOf};
-ghost use Rattle.krb_client_replies.specs.declared.granted.Granted.{Granted as GrantedOf};
+ghost use Rattle.krb_client.specs.declared.keys.secret.Secret.{Secret as SecretOf};
+ghost use Rattle.krb_client.specs.declared.replies.granted.Granted.{Granted as GrantedOf};
 ghost use Rattle.krb_client_rules.specs.declared.asked.Asked.{Asked as AskedOf};
 ghost use Rattle.krb_client_rules.specs.declared.key.Key.{Key as KeyOf};
 ghost use Rattle.krb_client.specs.Initial.{IsBegun, IsStep};

@@ -10,12 +10,15 @@ mod hint;
 mod initial;
 mod initial_reply;
 mod initial_request;
+pub mod keys;
 mod kind;
 pub mod laws;
 mod messages;
 mod moment;
 mod renamed;
+pub mod replies;
 mod reported;
+pub mod requests;
 mod service;
 mod service_request;
 mod terms;
@@ -23,13 +26,11 @@ mod time;
 
 pub use error::ClientError;
 pub use initial::{InitialExchange, InitialStep};
-pub use krb_client_keys::{Client, HintError, Limits, PasswordError, Secret};
-pub use krb_client_replies::{
-    Asked, Clock, Granted, Key, Mismatch, ReplyError, Reported, Sent, check_ap_rep,
-};
-pub use krb_client_requests::{ApRequest, GssChecksum, LentKey, RequestError, Sender, ap_request};
+pub use keys::{Client, HintError, Limits, PasswordError, Secret};
 pub use messages::{Encodings, Rfc4120};
 pub use moment::Moment;
 pub use renamed::RenameError;
+pub use replies::{Asked, Clock, Granted, Key, Mismatch, ReplyError, Reported, Sent, check_ap_rep};
+pub use requests::{ApRequest, GssChecksum, LentKey, RequestError, Sender, ap_request};
 pub use service::{ServiceExchange, ServiceStep};
 pub use terms::{ByTicket, Terms};

@@ -1,14 +1,14 @@
 //! Replies that rename the client or the server (RFC 6806, 6, 8 and 11).
 
 ghost use Rattle.std.specs.Prelude.{◌≡◌, ◌≢◌, MatchBool, MatchOption, IfErr, IfOk, OnOk};
-ghost use Rattle.krb_client_keys.specs.Firsts.{IsFirst, NoneIs};
-ghost use Rattle.krb_client_requests.specs.RequestChecksums.{IsRequestChecksum};
+ghost use Rattle.krb_client.specs.Firsts.{IsFirst, NoneIs};
+ghost use Rattle.krb_client.specs.RequestChecksums.{IsRequestChecksum};
 ghost use Rattle.krb_client.specs.Renamed.{HasMark, HasNoMark, HasNoRequestChecksum, HasRequestChecksum, IsMark, IsNoSum};
 ghost use Rattle.krb_client.specs.Requests.{suite_key};
 ghost use Rattle.krb_client.specs.declared.renamed.RenameError.TheVariants as errors;
 
-use krb_client_replies::ReplyError;
-use krb_client_requests::{LentKey, RequestError, request_checksum};
+use crate::replies::ReplyError;
+use crate::requests::{LentKey, RequestError, request_checksum};
 use krb_client_rules::{Key, is_number};
 use krb_der::DerEncode;
 use krb_messages::messages::EncKdcRepPart;

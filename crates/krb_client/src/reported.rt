@@ -5,12 +5,12 @@ ghost use Rattle.krb_client.specs.Reports.{CallsFor, CallsForNothing, IsKeyTold,
 
 use crate::error::ClientError;
 use crate::initial::InitialExchange;
+use crate::keys::{Client, Secret, told_key};
 use crate::messages::{Encodings, Rfc4120};
 use crate::moment::Moment;
+use crate::replies::Reported;
 use crate::terms::Terms;
 use crate::time::ahead;
-use krb_client_keys::{Client, Secret, told_key};
-use krb_client_replies::Reported;
 use krb_client_rules::Key;
 use std::alloc::Global;
 

@@ -1,7 +1,7 @@
 //! An exchange for a further ticket, by a ticket for the KDC (RFC 4120, 3.3).
 
 ghost use Rattle.std.specs.Prelude.{◌≡◌, IfErr, IfOk, OnErr, MatchOption};
-ghost use Rattle.krb_client_requests.specs.Errors.{IsMemoryOr};
+ghost use Rattle.krb_client.specs.Errors.{IsMemoryOr};
 ghost use Rattle.krb_client.specs.Service.{AsksByTicket, IsServiceAnswer, IsServiceBegun, IsServiceStep, IsTicketChecked, IsTicketNotChecked, IsNoServiceAnswer, RefusesServiceError, retimed};
 ghost use Rattle.krb_client.specs.Requests.{IsNoServiceRequest};
 
@@ -10,12 +10,12 @@ use crate::initial_reply::is_passed_over;
 use crate::kind::{Kind, kind_of};
 use crate::messages::{Encodings, Rfc4120};
 use crate::moment::Moment;
+use crate::replies::{Granted, check_tgs_rep, read_error};
 use crate::reported::needs_time;
+use crate::requests::RequestError;
 use crate::service_request::service_request;
 use crate::terms::{ByTicket, Terms};
 use crate::time::{clock_of, offset_of};
-use krb_client_replies::{Granted, check_tgs_rep, read_error};
-use krb_client_requests::RequestError;
 use krb_client_rules::{Asked, Key};
 use std::alloc::Global;
 

@@ -1,15 +1,15 @@
 //! The requests of an exchange for a further ticket (RFC 4120, 3.3.1).
 
 ghost use Rattle.std.specs.Prelude.{◌≡◌, IfErr, IfOk};
-ghost use Rattle.krb_client_requests.specs.Errors.{IsMemoryOr};
+ghost use Rattle.krb_client.specs.Errors.{IsMemoryOr};
 ghost use Rattle.krb_client.specs.Requests.{IsNoServiceRequest, IsSenderOf, IsServiceRequest};
 
 use crate::initial_request::want_of;
 use crate::messages::{Encodings, Rfc4120};
 use crate::moment::Moment;
+use crate::requests::{LentKey, RequestError, Sender, tgs_request};
 use crate::terms::{ByTicket, Terms};
 use crate::time::{confounder_of, kdc_time};
-use krb_client_requests::{LentKey, RequestError, Sender, tgs_request};
 use krb_client_rules::{Asked, Key};
 use std::alloc::Global;
 

@@ -1,7 +1,7 @@
 //! How a client asks.
 
-use krb_client_keys::Limits;
-use krb_client_requests::LentKey;
+use crate::keys::Limits;
+use crate::requests::LentKey;
 use krb_types::data_types::Ticket;
 
 /// How a client asks, beside what it asks for.

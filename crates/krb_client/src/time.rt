@@ -4,8 +4,8 @@ ghost use Rattle.std.specs.Prelude.{◌≡◌};
 ghost use Rattle.krb_client.specs.Moments.{ahead_of, clock_of, confounder_of, kdc_time};
 
 use crate::moment::Moment;
+use crate::replies::Reported;
 use crate::terms::Terms;
-use krb_client_replies::Reported;
 use krb_client_rules::Clock;
 use krb_crypto::{Cipher, CipherSuite};
 

@@ -1,21 +1,7 @@
 //! The program `krbtool`: reads, seals and opens the encrypted part of a ticket.
 #![tactic(auto)]
 
-mod answer;
-mod command;
-mod engine;
-mod failure;
-mod parse;
-#[cfg(test)]
-mod rows;
-#[cfg(test)]
-mod sealed_parts;
-#[cfg(test)]
-mod tests;
-
-use engine::reject;
-pub use engine::run;
-use failure::arguments_failure;
+use krbtool_engine::{arguments_failure, reject, run};
 use std::process::ExitCode;
 use std::{env, io};
 

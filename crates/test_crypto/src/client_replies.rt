@@ -9,7 +9,7 @@
 //! follows or the rule, and its status without room.
 
 use crate::client_by_c::{Keyed, ap_text_by_c, kdc_text_by_c};
-use krb_client_replies::{
+use krb_client::replies::{
     Asked, Clock, Granted, Key, ReplyError, Sent, check_ap_rep, check_as_rep, check_tgs_rep,
     read_error,
 };

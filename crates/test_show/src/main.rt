@@ -1,15 +1,21 @@
-//! The program `test_show`: shows octets that come from outside this library.
+//! The program `test_show`: shows, lists and converts octets that come from outside this library, and reads what goes through a KDC proxy.
 //!
 //! Its standard input is tables of test vectors (`test_rows`). The module of a table says what its rows are and what is printed of
 //! each.
 #![tactic(auto)]
 
 mod checksums;
+mod conversions;
+mod fields;
 mod files;
+mod kdc_proxy;
 mod keys;
 mod keys_of;
+mod lists;
+mod logon;
 mod opened;
 mod pac;
+mod pac_text;
 mod pages;
 
 use std::alloc::Global;
@@ -30,6 +36,12 @@ impl Tables for Shown {
             "checksums" => checksums::answer(alloc, columns)?,
             "keys" => keys::answer(alloc, columns)?,
             "pac" => pac::answer(alloc, columns)?,
+            "fields" => fields::answer(alloc, columns)?,
+            "lists" => lists::answer(alloc, columns)?,
+            "conversions" => conversions::answer(alloc, columns)?,
+            "logon" => logon::answer(alloc, columns)?,
+            "pac text" => pac_text::answer(alloc, columns)?,
+            "kdc proxy" => kdc_proxy::answer(alloc, columns)?,
             _ => return Err(RowError::NoTable),
         };
         Ok(Report::of(text))

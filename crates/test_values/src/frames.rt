@@ -1,7 +1,7 @@
 //! PACs, tokens, frames of password changes and messages through a KDC proxy.
 
 use crate::item_rows::{counted, found};
-use krb_c_frames::{
+use krb_c_calls::frames::{
     PlaceRecord, gss_token, make_gss_token, make_kdc_proxy_message, make_password_frame,
     pac_buffer, pac_buffers, pac_count, password_frame,
 };

@@ -15,11 +15,15 @@ mod built_messages;
 #[cfg(test)]
 mod code_texts;
 #[cfg(test)]
+mod conversations;
+#[cfg(test)]
 mod first_rows;
 #[cfg(test)]
 mod frames;
 #[cfg(test)]
 mod item_rows;
+#[cfg(test)]
+mod krbtool;
 #[cfg(test)]
 mod large_calls;
 #[cfg(test)]
@@ -34,5 +38,6 @@ mod primitive_rows;
 mod rows_of_standards;
 #[cfg(test)]
 mod shown;
+pub mod toy;
 #[cfg(test)]
 mod view_rows;

@@ -2,7 +2,7 @@
 
 use crate::frames::is_made;
 use crate::item_rows::found;
-use krb_c_frames::{make_neg_token_init, make_neg_token_resp};
+use krb_c_calls::frames::{make_neg_token_init, make_neg_token_resp};
 use std::alloc::Global;
 use std::test::Fail;
 

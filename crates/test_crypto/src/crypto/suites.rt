@@ -1,8 +1,9 @@
 //! Calls of a suite, by its name or its number.
 
 use crate::crypto::numbers::{number_of, sizes_of};
-use crate::crypto::parts::{try_agreement, try_part};
+use crate::crypto::parts::{generated, try_agreement, try_part};
 use crate::crypto::row::{Answer, Row, answer_of};
+use examples::Toy;
 use picky_krb::crypto::aes::{
     Aes128CtsHmacSha196, Aes128CtsHmacSha256128, Aes256CtsHmacSha196, Aes256CtsHmacSha384192,
     HmacSha196Aes128, HmacSha196Aes256, HmacSha256128Aes128, HmacSha384192Aes256,
@@ -106,8 +107,19 @@ fn try_cipher(alloc: Global, cipher: &dyn Cipher, row: &Row) -> Answer {
         "generate_key_from_password" | "seed_to_key" => try_making(alloc, cipher, row),
         "sizes" => Some(sizes_of(alloc, cipher)),
         "agree" => try_agreement(alloc, cipher, row),
+        "encrypt_with_rng" => Some(generated(alloc, cipher, row)),
         "seal_part" | "open_part" | "large_part" => try_part(alloc, cipher, row),
         _ => try_opening(alloc, cipher, row),
+    }
+}
+
+/// Calls of a cipher of the caller's own, whose seeds have one octet, 5,120 or one more.
+fn try_own_suite(alloc: Global, row: &Row) -> Answer {
+    match row.suite {
+        "toy" => try_cipher(alloc, &Toy { spare_seed: 0 }, row),
+        "toy of the longest seed" => try_cipher(alloc, &Toy { spare_seed: 5119 }, row),
+        "toy of a longer seed" => try_cipher(alloc, &Toy { spare_seed: 5120 }, row),
+        _ => None,
     }
 }
 
@@ -118,7 +130,7 @@ fn try_sha2_suite(alloc: Global, row: &Row) -> Answer {
         "aes256-sha2" => try_cipher(alloc, &Aes256CtsHmacSha384192::default(), row),
         "19" => try_cipher(alloc, &CipherSuite::Aes128CtsHmacSha256128, row),
         "20" => try_cipher(alloc, &CipherSuite::Aes256CtsHmacSha384192, row),
-        _ => None,
+        _ => try_own_suite(alloc, row),
     }
 }
 

@@ -62,6 +62,7 @@ fn try_row(alloc: Global, row: &Row) -> Answer {
         | "encryption_checksum"
         | "generate_key_from_password"
         | "seed_to_key"
+        | "encrypt_with_rng"
         | "sizes"
         | "agree"
         | "seal_part"

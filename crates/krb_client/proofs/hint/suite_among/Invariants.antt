@@ -1,5 +1,5 @@
 use Rattle.std.proofs.Common.{take}
-use Rattle.krb_client_keys.specs.Firsts.{NoneIs}
+use Rattle.krb_client.specs.Firsts.{NoneIs}
 use Rattle.krb_client.specs.Hints.{IsNumberOf}
 use Rattle.krb_client.proofs.hint.suite_among.Given as goal
 

@@ -1,5 +1,5 @@
 use Rattle.std.proofs.Common.{suc, take, drop}
-use Rattle.krb_client_keys.proofs.Firsts.{cut_at}
+use Rattle.krb_client.proofs.Firsts.{cut_at}
 use Rattle.krb_client.proofs.renamed.first_mark.Goals as goal
 
 pub returns-then-is_mark : goal.returns-then-is_mark

@@ -1,5 +1,5 @@
 use Rattle.std.proofs.Common.{take}
-use Rattle.krb_client_keys.specs.Firsts.{NoneIs}
+use Rattle.krb_client.specs.Firsts.{NoneIs}
 use Rattle.krb_client.specs.Renamed.{IsMark}
 use Rattle.krb_client.proofs.renamed.first_mark.Given as goal
 

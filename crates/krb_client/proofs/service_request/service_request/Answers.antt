@@ -1,11 +1,11 @@
 use Rattle.std.proofs.Common.{◌≡◌, ℕ, ℤ, List, Option, inl, inr, subst}
 use Rattle.std.proofs.lemmas.Result.{err_from_is_err_and}
-use Rattle.krb_client_requests.specs.Bodies.{Wanted, wanted}
-use Rattle.krb_client_requests.specs.Errors.{IsMemoryOr}
-use Rattle.krb_client_requests.specs.Requests.{IsNoTgsRequest}
-use Rattle.krb_client_requests.specs.Sealed.{key_of}
-use Rattle.krb_client_requests.specs.declared.authenticator.Sender.{Sender}
-use Rattle.krb_client_requests.specs.declared.error.RequestError.{RequestError}
+use Rattle.krb_client.specs.Bodies.{Wanted, wanted}
+use Rattle.krb_client.specs.Errors.{IsMemoryOr}
+use Rattle.krb_client.specs.KdcRequests.{IsNoTgsRequest}
+use Rattle.krb_client.specs.Sealed.{key_of}
+use Rattle.krb_client.specs.declared.requests.authenticator.Sender.{Sender}
+use Rattle.krb_client.specs.declared.requests.error.RequestError.{RequestError}
 use Rattle.krb_client_rules.specs.declared.asked.Asked.{Asked}
 use Rattle.krb_client_rules.specs.declared.key.Key.{Key}
 use Rattle.krb_client.specs.Moments.{confounder_of}

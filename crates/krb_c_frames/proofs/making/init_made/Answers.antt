@@ -1,4 +1,0 @@
-use Rattle.krb_c_frames.proofs.making.init_made.Goals as goal
-
-pub returns : goal.returns
-returns c = rw c.in_ok-made.ensures at c.encoding.ensures

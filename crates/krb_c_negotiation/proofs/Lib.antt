@@ -1,5 +1,0 @@
-mod Reading
-mod Engines
-mod Later
-mod Offer
-mod FirstReply

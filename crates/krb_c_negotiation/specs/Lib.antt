@@ -1,4 +1,0 @@
-pub mod Numbers
-pub mod Taking
-pub mod Answering
-pub mod Engines

@@ -1,0 +1,182 @@
+//! What is asked of a KDC: KDC-REQ-BODY (RFC 4120, 5.4.1).
+
+ghost use Rattle.std.specs.Prelude.{◌≡◌, IfErr, IfOk, MatchResult, map, pos};
+ghost use Rattle.krb_client.specs.Bodies.{IsBody, IsNoBody, body_of, number_of, request_of, wanted};
+ghost use Rattle.krb_client.specs.Errors.{IsMemoryOr};
+ghost use Rattle.krb_client.specs.declared.requests.error.RequestError.TheVariants as errors;
+
+use crate::requests::error::RequestError;
+use crate::requests::fields::{
+    copy_of, encoded, field, flags_of, integer_of, time_of, time_option_of,
+};
+use krb_crypto::CipherSuite;
+use krb_der::{
+    ApplicationTag, Asn1SequenceOf, DerEncode, ExplicitContextTag0, ExplicitContextTag1,
+    ExplicitContextTag2, ExplicitContextTag4, ExplicitContextTag5, ExplicitContextTag7,
+    ExplicitContextTag8, IntegerAsn1, Optional,
+};
+use krb_messages::messages::{AsReq, KdcReq, KdcReqBody, TgsReq};
+use krb_types::data_types::{KerberosFlags, KerberosTime, PaData, PrincipalName, Realm};
+use std::alloc::Global;
+
+/// The most that a nonce is.
+const MOST_NONCE: u32 = (1 << 31) - 1;
+
+/// What a client wants of a KDC (RFC 4120, 5.4.1). It asks for no addresses, and gives no
+/// authorization data and no further tickets.
+#[derive(Debug, Drop, Clone, Copy)]
+pub struct Want<'a> {
+    /// The realm of the server, and in an AS-REQ of the client.
+    pub realm: &'a Realm,
+    /// The name of the server.
+    pub sname: &'a PrincipalName,
+    /// The options, by their numbers (RFC 4120, 5.4.1: KDCOptions), 0 to 31.
+    pub options: &'a [usize],
+    /// From when on the ticket is to be valid, in seconds since 1 January 1970; `None` where from
+    /// now on.
+    pub from: Option<i64>,
+    /// Until when the ticket is to be valid, in seconds since 1 January 1970; 0 for as long as the
+    /// KDC allows.
+    pub till: i64,
+    /// Until when the ticket is to be renewable, in seconds since 1 January 1970.
+    pub rtime: Option<i64>,
+    /// The number that the reply repeats, below 2^31.
+    pub nonce: u32,
+    /// The suites of the encryption types that the client accepts, the preferred first.
+    pub etypes: &'a [CipherSuite],
+}
+
+/// The numbers of the encryption types of suites, in order (RFC 3961, 8).
+fn numbers_of(alloc: Global, suites: &[CipherSuite]) -> Result<Vec<IntegerAsn1>, RequestError>
+    ensures { MatchResult result (λ numbers. numbers.items ≡ map number_of suites.now) (λ e. e ≡ errors.OutOfMemory) }
+{
+    let mut numbers = Vec::new(alloc);
+    for suite in suites {
+        numbers.push(integer_of(alloc, u32::from(suite))?)?;
+    }
+    Ok(numbers)
+}
+
+/// The body of these fields: no addresses, no data, no further tickets.
+fn body_of(
+    options: KerberosFlags,
+    cname: Option<PrincipalName>,
+    realm: Realm,
+    sname: PrincipalName,
+    from: Option<KerberosTime>,
+    till: KerberosTime,
+    rtime: Option<KerberosTime>,
+    nonce: IntegerAsn1,
+    etypes: Vec<IntegerAsn1>,
+) -> KdcReqBody
+    ensures { result ≡ body_of options cname realm sname from till rtime nonce etypes.items }
+{
+    KdcReqBody {
+        kdc_options: ExplicitContextTag0::from(options),
+        cname: field(cname),
+        realm: ExplicitContextTag2::from(realm),
+        sname: field(Some(sname)),
+        from: field(from),
+        till: ExplicitContextTag5::from(till),
+        rtime: field(rtime),
+        nonce: ExplicitContextTag7::from(nonce),
+        etype: ExplicitContextTag8::from(Asn1SequenceOf(etypes)),
+        addresses: Optional(None),
+        enc_authorization_data: Optional(None),
+        additional_tickets: Optional(None),
+    }
+}
+
+/// The body of what is wanted, for a client of this name; a TGS-REQ has none (RFC 4120, 5.4.1).
+///
+/// `Nonce` where the nonce is 2^31 or more; else `OptionNumber` where the number of an option is
+/// past 31; else `Time` where `from`, `till` or `rtime` is of no year of 0 to 9999.
+pub(crate) fn body(
+    alloc: Global,
+    want: &Want,
+    cname: Option<PrincipalName>,
+) -> Result<KdcReqBody, RequestError>
+    ensures body { IfOk result (IsBody (wanted want.now) cname) }
+    ensures rejected { IfErr result (λ e. IsMemoryOr e (IsNoBody (wanted want.now) e)) }
+{
+    if want.nonce > MOST_NONCE {
+        return Err(RequestError::Nonce);
+    }
+    let options = flags_of(alloc, want.options)?;
+    let from = time_option_of(want.from)?;
+    let till = time_of(want.till)?;
+    let rtime = time_option_of(want.rtime)?;
+    let nonce = integer_of(alloc, want.nonce)?;
+    let etypes = numbers_of(alloc, want.etypes)?;
+    let realm = copy_of(alloc, want.realm)?;
+    let sname = copy_of(alloc, want.sname)?;
+    Ok(body_of(
+        options, cname, realm, sname, from, till, rtime, nonce, etypes,
+    ))
+}
+
+/// The request of this type with this body (RFC 4120, 5.4.1): version 5.
+fn request_of(
+    pvno: IntegerAsn1,
+    msg_type: IntegerAsn1,
+    padata: Option<Asn1SequenceOf<PaData>>,
+    body: KdcReqBody,
+) -> KdcReq
+    ensures { result ≡ request_of pvno msg_type padata body }
+{
+    KdcReq {
+        pvno: ExplicitContextTag1::from(pvno),
+        msg_type: ExplicitContextTag2::from(msg_type),
+        padata: field(padata),
+        req_body: ExplicitContextTag4::from(body),
+    }
+}
+
+/// The same, with the numbers.
+fn request(
+    alloc: Global,
+    msg_type: u32,
+    padata: Option<Asn1SequenceOf<PaData>>,
+    body: KdcReqBody,
+) -> Result<KdcReq, RequestError>
+    ensures { MatchResult result (λ m. m ≡ request_of (pos 5) (pos msg_type) padata body)
+        (λ e. e ≡ errors.OutOfMemory) }
+{
+    let pvno = integer_of(alloc, 5)?;
+    let msg_type = integer_of(alloc, msg_type)?;
+    Ok(request_of(pvno, msg_type, padata, body))
+}
+
+/// The octets of an AS-REQ (RFC 4120, 5.4.1).
+pub(crate) fn as_req_octets(
+    alloc: Global,
+    padata: Option<Asn1SequenceOf<PaData>>,
+    body: KdcReqBody,
+) -> Result<Vec<u8>, RequestError>
+    ensures valid { IfOk result (λ _. ⟦<AsReq as DerEncode>⟧.is_value (request_of (pos 5) (pos 10) padata body)) }
+    ensures octets { MatchResult result
+        (λ octets. octets.items ≡ ⟦<AsReq as DerEncode>⟧.enc (request_of (pos 5) (pos 10) padata body))
+        (λ e. e ≡ errors.OutOfMemory) }
+{
+    let request = request(alloc, 10, padata, body)?;
+    let message: AsReq = ApplicationTag(request);
+    let octets = encoded(alloc, message)?;
+    Ok(octets)
+}
+
+/// The octets of a TGS-REQ (RFC 4120, 5.4.1).
+pub(crate) fn tgs_req_octets(
+    alloc: Global,
+    padata: Option<Asn1SequenceOf<PaData>>,
+    body: KdcReqBody,
+) -> Result<Vec<u8>, RequestError>
+    ensures valid { IfOk result (λ _. ⟦<TgsReq as DerEncode>⟧.is_value (request_of (pos 5) (pos 12) padata body)) }
+    ensures octets { MatchResult result
+        (λ octets. octets.items ≡ ⟦<TgsReq as DerEncode>⟧.enc (request_of (pos 5) (pos 12) padata body))
+        (λ e. e ≡ errors.OutOfMemory) }
+{
+    let request = request(alloc, 12, padata, body)?;
+    let message: TgsReq = ApplicationTag(request);
+    let octets = encoded(alloc, message)?;
+    Ok(octets)
+}

@@ -1,7 +1,0 @@
-use Rattle.std.proofs.Common.{take}
-use Rattle.krb_client_keys.specs.Firsts.{NoneIs}
-use Rattle.krb_client_keys.specs.Hints.{IsEntryOf}
-use Rattle.krb_client_keys.proofs.hint.entry_of.Given as goal
-
-abbrev pub invariant-loop-entry : goal.invariant-loop-entry
-invariant-loop-entry l = NoneIs (IsEntryOf l.suite) (take l.entry-index l.entries)

@@ -1,7 +1,0 @@
-use Rattle.std.proofs.Common.{take}
-use Rattle.krb_client_keys.specs.Firsts.{NoneIs}
-use Rattle.krb_client_keys.specs.Hints.{IsOfSuite}
-use Rattle.krb_client_keys.proofs.secret.key_among.Given as goal
-
-abbrev pub invariant-loop-key : goal.invariant-loop-key
-invariant-loop-key l = NoneIs (IsOfSuite l.suite) (take l.key-index l.keys)

@@ -1,3 +1,0 @@
-pub mod Firsts
-pub mod Hints
-pub mod PasswordKeys

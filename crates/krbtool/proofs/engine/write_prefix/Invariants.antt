@@ -1,5 +1,0 @@
-use Rattle.krbtool.proofs.Prefixes.{HasPrefix}
-use Rattle.krbtool.proofs.engine.write_prefix.Given as goal
-
-abbrev pub invariant-loop : goal.invariant-loop
-invariant-loop g l = HasPrefix (g.W.Write.contents l.fn.output) (g.W.Write.contents l.output) l.fn.octets l.rest
