@@ -5,7 +5,7 @@ use Rattle.krb_accept_rules.specs.AuthenticatorRules.{AuthenticatorRule, ShowsTi
 use Rattle.krb_accept_rules.specs.FirstFault.{Keeps, OrMemory, RefusesFirst}
 use Rattle.krb_accept_rules.specs.Firsts.{NoneIs}
 use Rattle.krb_accept_rules.specs.Keys.{keys_for}
-use Rattle.krb_accept_rules.specs.Presenting.{HasNoTicket, HasTicket, IsNotPresented, IsPresented, OpensTicket, at_authenticator, no_authenticator, no_key, no_ticket}
+use Rattle.krb_accept_rules.specs.Presenting.{HasNoTicket, HasTicket, IsNotJudged, IsNotPresented, IsPresented, OpensTicket, at_authenticator, at_session, authenticator_breaks, no_authenticator, no_key, no_ticket, not_opened, session_breaks}
 use Rattle.krb_accept_rules.specs.Refusals.{plain}
 use Rattle.krb_accept_rules.specs.RequestRules.{RequestRule, request_order}
 use Rattle.krb_accept_rules.specs.SessionRules.{SessionRule, session_order}
@@ -30,24 +30,32 @@ no_key_opens o keys session_keys candidates octets r e is kept same (inl m) = in
 no_key_opens o keys session_keys candidates octets r e is kept same (inr n) =
     inr (no_key r is kept n.0 (subst (λ (l : List ServiceKey). NoneIs (OpensTicket o r) l) same n.1))
 
+module _ {O : Type 0} (o : OpeningOf O) (terms : Terms) (arrival : Arrival) (r : RequestFields) (v : TicketFields) (e : Refusal) where
+  -- the authenticator is not sealed under the session key
+  pub not_an_authenticator : Keeps (SessionRule o terms r v) session_order → OrMemory (λ d. (d ≡ plain Rules.Authenticator) × HasNone (o.opens_authenticator v.key r)) e
+      → OrMemory (IsNotJudged o terms arrival r v) e
+  not_an_authenticator kept (inl m) = inl m
+  not_an_authenticator kept (inr n) = inr (not_opened kept n.0 n.1)
+
+  -- a rule of these is broken
+  pub not_kept : (u : AuthenticatorFields) → Keeps (SessionRule o terms r v) session_order → IsTheValue (o.opens_authenticator v.key r) u
+      → OrMemory (RefusesFirst (AuthenticatorRule o terms arrival v u) (ShowsTime v u) authenticator_order) e → OrMemory (IsNotJudged o terms arrival r v) e
+  not_kept u kept is (inl m) = inl m
+  not_kept u kept is (inr n) = inr (authenticator_breaks u kept is n)
+
 module _ {O : Type 0} (o : OpeningOf O) (keys session_keys : List ServiceKey) (terms : Terms) (arrival : Arrival) (octets : List ℕ) (e : Refusal) where
   -- there is no ticket
   pub not_a_ticket : OrMemory (HasNoTicket o keys session_keys octets) e → OrMemory (IsNotPresented o keys session_keys terms arrival octets) e
   not_a_ticket (inl m) = inl m
   not_a_ticket (inr n) = inr (no_ticket n)
 
-  -- the authenticator is not sealed under the session key
-  pub not_an_authenticator : (r : RequestFields) (k : ServiceKey) (v : TicketFields) → HasTicket o keys session_keys octets r k v → Keeps (SessionRule o terms r v) session_order
-      → OrMemory (λ d. (d ≡ plain Rules.Authenticator) × HasNone (o.opens_authenticator v.key r)) e → OrMemory (IsNotPresented o keys session_keys terms arrival octets) e
-  not_an_authenticator r k v h kept (inl m) = inl m
-  not_an_authenticator r k v h kept (inr n) = inr (no_authenticator r k v h kept n.0 n.1)
-
-  -- a rule of these is broken
-  pub not_kept : (r : RequestFields) (k : ServiceKey) (v : TicketFields) (u : AuthenticatorFields) → HasTicket o keys session_keys octets r k v → Keeps (SessionRule o terms r v) session_order
-      → IsTheValue (o.opens_authenticator v.key r) u → OrMemory (RefusesFirst (AuthenticatorRule o terms arrival v u) (ShowsTime v u) authenticator_order) e
+  -- what the ticket's request has beside it is not as the rules say
+  pub not_judged : (r : RequestFields) (k : ServiceKey) (v : TicketFields) → HasTicket o keys session_keys octets r k v → OrMemory (IsNotJudged o terms arrival r v) e
       → OrMemory (IsNotPresented o keys session_keys terms arrival octets) e
-  not_kept r k v u h kept is (inl m) = inl m
-  not_kept r k v u h kept is (inr n) = inr (at_authenticator r k v u h kept is n)
+  not_judged r k v h (inl m) = inl m
+  not_judged r k v h (inr (session_breaks n)) = inr (at_session r k v h n)
+  not_judged r k v h (inr (not_opened kept is none)) = inr (no_authenticator r k v h kept is none)
+  not_judged r k v h (inr (authenticator_breaks u kept is n)) = inr (at_authenticator r k v u h kept is n)
 
   -- what is not presented is refused
   pub not_presented : (seen : List Entry) → OrMemory (IsNotPresented o keys session_keys terms arrival octets) e → IsRefused o keys session_keys terms arrival octets seen e

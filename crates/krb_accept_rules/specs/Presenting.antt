@@ -43,6 +43,24 @@ pub data HasNoTicket {O : Type 0} (o : OpeningOf O) (keys session_keys : List Se
   no_key : (r : RequestFields) → IsTheValue (o.reads octets) r → Keeps (RequestRule o keys session_keys r) request_order
       → e ≡ plain Rules.Ticket → NoneIs (OpensTicket o r) (keys_for r keys session_keys) → HasNoTicket o keys session_keys octets e
 
+-- ---- the authenticator
+
+-- The session key keeps the rules; the authenticator is sealed under it and is this; all rules are kept but those of the cache.
+pub record IsJudged {O : Type 0} (o : OpeningOf O) (terms : Terms) (arrival : Arrival) (r : RequestFields) (v : TicketFields)
+    (u : AuthenticatorFields) (microseconds : ℕ) : Type 0 where
+  pub keeps_session : Keeps (SessionRule o terms r v) session_order
+  pub is_authenticator : IsTheValue (o.opens_authenticator v.key r) u
+  pub keeps : Keeps (AuthenticatorRule o terms arrival v u) authenticator_order
+  pub is_microseconds : u.cusec ≡ pos microseconds
+
+-- Why they are not, by the first rule that is broken.
+pub data IsNotJudged {O : Type 0} (o : OpeningOf O) (terms : Terms) (arrival : Arrival) (r : RequestFields) (v : TicketFields) (e : Refusal) : Type 0 where
+  session_breaks : RefusesFirst (SessionRule o terms r v) ShowsNothing session_order e → IsNotJudged o terms arrival r v e
+  not_opened : Keeps (SessionRule o terms r v) session_order → e ≡ plain Rules.Authenticator → HasNone (o.opens_authenticator v.key r)
+      → IsNotJudged o terms arrival r v e
+  authenticator_breaks : (u : AuthenticatorFields) → Keeps (SessionRule o terms r v) session_order → IsTheValue (o.opens_authenticator v.key r) u
+      → RefusesFirst (AuthenticatorRule o terms arrival v u) (ShowsTime v u) authenticator_order e → IsNotJudged o terms arrival r v e
+
 -- ---- all of it
 
 -- The octets are a request with a ticket under this key; its authenticator is sealed under the session key; all rules are kept but those of

@@ -1,11 +1,12 @@
 //! What a client presents: a request with a ticket and an authenticator that belong together.
 
 ghost use Rattle.std.specs.Prelude.{◌≡◌, ◌⊎◌, IfErr, IfOk, OnOk, MatchOption, pos};
+ghost use Rattle.krb_accept_rules.specs.Accepted.{accepted_of, entry_of};
 ghost use Rattle.krb_accept_rules.specs.AuthenticatorRules.{AuthenticatorRule, ShowsTime, authenticator_order};
 ghost use Rattle.krb_accept_rules.specs.FirstFault.{Keeps, OrMemory, RefusesFirst};
 ghost use Rattle.krb_accept_rules.specs.Firsts.{IsFirst, NoneIs};
 ghost use Rattle.krb_accept_rules.specs.Keys.{IsForTicket};
-ghost use Rattle.krb_accept_rules.specs.Presenting.{HasNoTicket, HasTicket, IsNotPresented, IsPresented, OpensTicket};
+ghost use Rattle.krb_accept_rules.specs.Presenting.{HasNoTicket, HasTicket, IsJudged, IsNotJudged, IsNotPresented, IsPresented, OpensTicket};
 ghost use Rattle.krb_accept_rules.specs.Refusals.{plain};
 ghost use Rattle.krb_accept_rules.specs.RequestRules.{RequestRule, request_order};
 ghost use Rattle.krb_accept_rules.specs.Values.{HasNone, IsTheValue};
@@ -155,6 +156,55 @@ fn check_opened<O: Opening>(
     Ok(remembered)
 }
 
+/// An authenticator that keeps the rules, and what is remembered of it.
+#[derive(Drop)]
+struct Judged {
+    authenticator: AuthenticatorFields,
+    remembered: Remembered,
+}
+
+/// The authenticator, where the session key keeps the rules, the authenticator is sealed under it, and it and the ticket keep the
+/// rules; else the first of these that does not hold.
+fn judge<O: Opening>(
+    alloc: Global,
+    terms: &Terms,
+    arrival: &Arrival,
+    opened: &Opened,
+) -> Result<Judged, Refusal>
+    ensures found { IfOk result (λ p. IsJudged ⟦<O as Opening>⟧ terms.now arrival.now opened.now.request opened.now.ticket p.authenticator p.remembered.microseconds) }
+    ensures realm { IfOk result (λ p. p.remembered.server_realm ≡ opened.now.request.realm) }
+    ensures server { IfOk result (λ p. p.remembered.server ≡ opened.now.request.server.name_string) }
+    ensures rejected { IfErr result (OrMemory (IsNotJudged ⟦<O as Opening>⟧ terms.now arrival.now opened.now.request opened.now.ticket)) }
+{
+    let _session = check_session::<O>(terms, &opened.request, &opened.ticket)?;
+    let authenticator = authenticator_in::<O>(alloc, &opened.ticket.key, &opened.request)?;
+    let remembered = check_opened::<O>(alloc, terms, arrival, opened, &authenticator)?;
+    Ok(Judged {
+        authenticator,
+        remembered,
+    })
+}
+
+/// What was opened and keeps the rules, as the client presents it.
+fn presented<'k>(opened: Opened<'k>, judged: Judged) -> Presented<'k>
+    requires realm { judged.remembered.server_realm ≡ opened.request.realm }
+    requires server { judged.remembered.server ≡ opened.request.server.name_string }
+    ensures entry { result.entry ≡ entry_of opened.entry.request judged.authenticator judged.remembered.microseconds }
+    ensures accepted { result.accepted ≡ accepted_of opened.entry.request opened.entry.ticket judged.authenticator }
+    ensures key { result.key.now ≡ opened.entry.key.now }
+{
+    let Opened {
+        request,
+        key,
+        ticket,
+    } = opened;
+    let Judged {
+        authenticator,
+        remembered,
+    } = judged;
+    presented_of(key, request, ticket, authenticator, remembered)
+}
+
 /// What a client presents with an AP-REQ, where it keeps all rules but those of the cache (RFC
 /// 4120, 3.2.3). No cache is asked: `admit` does that. So the work of opening needs no lock on the
 /// cache.
@@ -177,13 +227,8 @@ pub fn present<'k, O: Opening>(
     ensures rejected { IfErr result (OrMemory (IsNotPresented ⟦<O as Opening>⟧ keys.now session_keys.now terms.now arrival.now octets.now)) }
 {
     let opened = ticket_in::<O>(alloc, keys, session_keys, octets)?;
-    let _session = check_session::<O>(terms, &opened.request, &opened.ticket)?;
-    let authenticator = authenticator_in::<O>(alloc, &opened.ticket.key, &opened.request)?;
-    let remembered = check_opened::<O>(alloc, terms, arrival, &opened, &authenticator)?;
-    let Opened {
-        request,
-        key,
-        ticket,
-    } = opened;
-    Ok(presented_of(key, request, ticket, authenticator, remembered))
+    match judge::<O>(alloc, terms, arrival, &opened) {
+        Ok(judged) => Ok(presented(opened, judged)),
+        Err(refusal) => Err(refusal),
+    }
 }

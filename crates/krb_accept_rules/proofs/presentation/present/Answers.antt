@@ -1,7 +1,5 @@
-use Rattle.std.proofs.Common.{inr}
 use Rattle.std.proofs.lemmas.Result.{err_from_is_err_and}
-use Rattle.krb_accept_rules.specs.Presenting.{at_session}
-use Rattle.krb_accept_rules.proofs.Steps.{not_a_ticket, not_an_authenticator, not_kept}
+use Rattle.krb_accept_rules.proofs.Steps.{not_a_ticket, not_judged}
 use Rattle.krb_accept_rules.proofs.presentation.present.Goals as goal
 
 pub returns-in_err-opened-clause-rejected : goal.returns-in_err-opened-clause-rejected
@@ -9,22 +7,7 @@ returns-in_err-opened-clause-rejected g c =
     let p = err_from_is_err_and c.from_residual.result c.from_residual.ensures.1 in
     rw (p.1, p.2) (not_a_ticket g.O.Opening c.args.keys.now c.args.session_keys.now c.args.terms.now c.args.arrival.now c.args.octets.now _ c.in_err-opened.ensures.rejected)
 
-pub returns-in_err-_session-clause-rejected : goal.returns-in_err-_session-clause-rejected
-returns-in_err-_session-clause-rejected g c =
-    let p = err_from_is_err_and c.from_residual-in_err-_session.result c.from_residual-in_err-_session.ensures.1 in
-    rw (p.1, p.2) (inr (at_session c.in_ok-opened.opened.request c.in_ok-opened.opened.key.now c.in_ok-opened.opened.ticket c.in_ok-opened.ensures.found
-    c.in_err-_session.ensures.broken))
-
-pub returns-in_err-authenticator-clause-rejected : goal.returns-in_err-authenticator-clause-rejected
-returns-in_err-authenticator-clause-rejected g c =
-    let p = err_from_is_err_and c.from_residual-in_err-authenticator.result c.from_residual-in_err-authenticator.ensures.1 in
-    rw (p.1, p.2) (not_an_authenticator g.O.Opening c.args.keys.now c.args.session_keys.now c.args.terms.now c.args.arrival.now c.args.octets.now _
-    c.in_ok-opened.opened.request c.in_ok-opened.opened.key.now c.in_ok-opened.opened.ticket c.in_ok-opened.ensures.found c.in_ok-_session.ensures.kept
-    c.in_err-authenticator.ensures.rejected)
-
-pub returns-in_err-remembered-clause-rejected : goal.returns-in_err-remembered-clause-rejected
-returns-in_err-remembered-clause-rejected g c =
-    let p = err_from_is_err_and c.from_residual-in_err-remembered.result c.from_residual-in_err-remembered.ensures.1 in
-    rw (p.1, p.2) (not_kept g.O.Opening c.args.keys.now c.args.session_keys.now c.args.terms.now c.args.arrival.now c.args.octets.now _
-    c.in_ok-opened.opened.request c.in_ok-opened.opened.key.now c.in_ok-opened.opened.ticket c.in_ok-authenticator.authenticator c.in_ok-opened.ensures.found
-    c.in_ok-_session.ensures.kept c.in_ok-authenticator.ensures.found c.in_err-remembered.ensures.broken)
+pub returns-clause-rejected : goal.returns-clause-rejected
+returns-clause-rejected g c =
+    not_judged g.O.Opening c.args.keys.now c.args.session_keys.now c.args.terms.now c.args.arrival.now c.args.octets.now _
+    c.in_ok-opened.opened.request c.in_ok-opened.opened.key.now c.in_ok-opened.opened.ticket c.in_ok-opened.ensures.found c.in-Err.ensures.rejected
