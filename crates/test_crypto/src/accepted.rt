@@ -116,6 +116,12 @@ fn rule_text(alloc: Global, refusal: &TokenRefusal) -> Result<String, AllocError
     }
 }
 
+/// Whether a token lets a client in.
+fn is_let_in(alloc: Global, service: &Service, token: &[u8]) -> bool {
+    let mut cache = ReplayCache::new(alloc);
+    service.answer(alloc, token, &mut cache).is_ok()
+}
+
 /// How many tokens that differ in one bit let a client in.
 fn flipped(alloc: Global, service: &Service, token: &[u8]) -> Result<u32, AllocError> {
     let mut changed = Vec::from_slice(alloc, token)?;
@@ -123,14 +129,79 @@ fn flipped(alloc: Global, service: &Service, token: &[u8]) -> Result<u32, AllocE
     for place in 0..token.len() {
         for bit in 0..8u32 {
             changed[place] = token[place] ^ (1u8 << bit);
-            let mut cache = ReplayCache::new(alloc);
-            if service.answer(alloc, &changed, &mut cache).is_ok() {
+            if is_let_in(alloc, service, &changed) {
                 count = count.saturating_add(1);
             }
         }
         changed[place] = token[place];
     }
     Ok(count)
+}
+
+/// What is told where the same token comes again.
+fn text_again(
+    alloc: Global,
+    service: &Service,
+    token: &[u8],
+    cache: &mut ReplayCache,
+) -> Result<String, AllocError> {
+    match service.answer(alloc, token, cache) {
+        Ok(_context) => String::from_str(alloc, "let in"),
+        Err(refusal) => rule_text(alloc, &refusal),
+    }
+}
+
+/// What is printed of a token that lets a client in.
+fn text_of_client(
+    alloc: Global,
+    context: &Context,
+    with_keys: bool,
+    again: &str,
+    entries: usize,
+    by_c: &str,
+) -> Result<String, AllocError> {
+    let first = told(alloc, context)?;
+    let keys = if with_keys {
+        keys_text(alloc, context)?
+    } else {
+        String::new(alloc)
+    };
+    format!(in alloc; "{first}{keys}; again {again}; entries {entries}; {by_c}")
+}
+
+/// The same, with what is told where it comes again and what the call of the library for C tells.
+fn let_in(
+    alloc: Global,
+    service: &Service,
+    caller: &Caller,
+    with_keys: bool,
+    token: &[u8],
+    cache: &mut ReplayCache,
+    context: &Context,
+) -> Result<String, AllocError> {
+    let again = text_again(alloc, service, token, cache)?;
+    let by_c = text_by_c(alloc, caller, token, Some(context))?;
+    text_of_client(
+        alloc,
+        context,
+        with_keys,
+        again.as_str(),
+        cache.len(),
+        by_c.as_str(),
+    )
+}
+
+/// What is printed of a token that is refused.
+fn refused(
+    alloc: Global,
+    caller: &Caller,
+    token: &[u8],
+    entries: usize,
+    refusal: &TokenRefusal,
+) -> Result<String, AllocError> {
+    let rule = rule_text(alloc, refusal)?;
+    let by_c = text_by_c(alloc, caller, token, None)?;
+    format!(in alloc; "refused, {rule}; entries {entries}; {by_c}")
 }
 
 /// What is printed of a token.
@@ -142,50 +213,60 @@ fn text_of(
     token: &[u8],
 ) -> Result<String, AllocError> {
     let mut cache = ReplayCache::new(alloc);
-    let context = match service.answer(alloc, token, &mut cache) {
-        Ok(context) => context,
-        Err(refusal) => {
-            let rule = rule_text(alloc, &refusal)?;
-            let by_c = text_by_c(alloc, caller, token, None)?;
-            return format!(in alloc; "refused, {rule}; entries {}; {by_c}", cache.len());
-        }
+    match service.answer(alloc, token, &mut cache) {
+        Ok(context) => let_in(
+            alloc, service, caller, with_keys, token, &mut cache, &context,
+        ),
+        Err(refusal) => refused(alloc, caller, token, cache.len(), &refusal),
+    }
+}
+
+/// The columns of a row behind its name.
+#[derive(Drop)]
+struct Row {
+    keytab: Vec<u8>,
+    clock: i64,
+    bindings: Vec<u8>,
+    number: u32,
+    token: Vec<u8>,
+}
+
+/// The columns behind the name.
+fn row_of(alloc: Global, columns: &mut Columns<'_>) -> Result<Row, RowError> {
+    Ok(Row {
+        keytab: columns.octets(alloc)?,
+        clock: columns.number::<i64>()?,
+        bindings: columns.octets(alloc)?,
+        number: columns.number::<u32>()?,
+        token: columns.octets(alloc)?,
+    })
+}
+
+/// What is printed of a row to a service.
+fn text_of_row(
+    alloc: Global,
+    name: &str,
+    row: &Row,
+    service: &Service,
+) -> Result<String, AllocError> {
+    let caller = Caller {
+        keytab: &row.keytab,
+        clock: row.clock,
+        bindings: &row.bindings,
+        options: row.number & 3,
     };
-    let first = told(alloc, &context)?;
-    let keys = if with_keys {
-        keys_text(alloc, &context)?
-    } else {
-        String::new(alloc)
-    };
-    let again = match service.answer(alloc, token, &mut cache) {
-        Ok(_context) => String::from_str(alloc, "let in")?,
-        Err(refusal) => rule_text(alloc, &refusal)?,
-    };
-    let by_c = text_by_c(alloc, caller, token, Some(&context))?;
-    format!(in alloc;
-        "{first}{keys}; again {again}; entries {}; {by_c}",
-        cache.len()
-    )
+    let text = text_of(alloc, service, &caller, row.number & 8 == 0, &row.token)?;
+    if row.number & 4 == 0 {
+        return format!(in alloc; "{name}: {text}\n");
+    }
+    let count = flipped(alloc, service, &row.token)?;
+    format!(in alloc; "{name}: {text}\n{name}: with a bit flipped {count}\n")
 }
 
 /// What is printed of a row.
 pub(crate) fn answer(alloc: Global, mut columns: Columns<'_>) -> Result<String, RowError> {
     let name = columns.text()?;
-    let keytab = columns.octets(alloc)?;
-    let clock = columns.number::<i64>()?;
-    let bindings = columns.octets(alloc)?;
-    let number = columns.number::<u32>()?;
-    let token = columns.octets(alloc)?;
-    let service = Service::of(alloc, &keytab, clock, &bindings, number)?;
-    let caller = Caller {
-        keytab: &keytab,
-        clock,
-        bindings: &bindings,
-        options: number & 3,
-    };
-    let text = text_of(alloc, &service, &caller, number & 8 == 0, &token)?;
-    if number & 4 == 0 {
-        return Ok(format!(in alloc; "{name}: {text}\n")?);
-    }
-    let count = flipped(alloc, &service, &token)?;
-    Ok(format!(in alloc; "{name}: {text}\n{name}: with a bit flipped {count}\n")?)
+    let row = row_of(alloc, &mut columns)?;
+    let service = Service::of(alloc, &row.keytab, row.clock, &row.bindings, row.number)?;
+    Ok(text_of_row(alloc, name, &row, &service)?)
 }

@@ -4,7 +4,7 @@
 //! For each row it prints what `confirm_third_leg` answers, and what `check_third_leg` does.
 
 use crate::accepted::Service;
-use picky_krb::accept::{ReplayCache, ThirdLegError, check_third_leg, confirm_third_leg};
+use picky_krb::accept::{Accepted, ReplayCache, ThirdLegError, check_third_leg, confirm_third_leg};
 use picky_krb::der::IntegerAsn1;
 use std::alloc::{AllocError, Global};
 use test_rows::{Columns, RowError};
@@ -20,27 +20,68 @@ fn text_of(alloc: Global, answered: Result<(), ThirdLegError>) -> Result<String,
     }
 }
 
+/// What is printed of a message, to a service that let the client in.
+fn text_of_leg(
+    alloc: Global,
+    name: &str,
+    accepted: &Accepted,
+    own_reply: &[u8],
+    number: &IntegerAsn1,
+    message: &[u8],
+) -> Result<String, AllocError> {
+    let confirmed = confirm_third_leg(alloc, accepted, own_reply, number, message);
+    let confirm_text = text_of(alloc, confirmed)?;
+    let checked = check_third_leg(alloc, accepted, number, message);
+    let check_text = text_of(alloc, checked)?;
+    format!(in alloc; "{name}: confirm {confirm_text}; check {check_text}\n")
+}
+
+/// The columns behind those of the service.
+#[derive(Drop)]
+struct Leg {
+    token: Vec<u8>,
+    own_reply: Vec<u8>,
+    number: IntegerAsn1,
+    message: Vec<u8>,
+}
+
+/// The columns behind those of the service.
+fn leg_of(alloc: Global, columns: &mut Columns<'_>) -> Result<Leg, RowError> {
+    let token = columns.octets(alloc)?;
+    let own_reply = columns.octets(alloc)?;
+    let Ok(number) = IntegerAsn1::from_bytes_be_unsigned(alloc, columns.octets(alloc)?) else {
+        return Err(RowError::NoNumber);
+    };
+    Ok(Leg {
+        token,
+        own_reply,
+        number,
+        message: columns.octets(alloc)?,
+    })
+}
+
+/// What is printed of a leg to a service.
+fn text_to(alloc: Global, name: &str, service: &Service, leg: &Leg) -> Result<String, RowError> {
+    let mut cache = ReplayCache::new(alloc);
+    match service.answer(alloc, &leg.token, &mut cache) {
+        Ok(context) => Ok(text_of_leg(
+            alloc,
+            name,
+            &context.accepted,
+            &leg.own_reply,
+            &leg.number,
+            &leg.message,
+        )?),
+        Err(_refusal) => Err(RowError::NoDigits),
+    }
+}
+
 /// What is printed of a row.
 pub(crate) fn answer(alloc: Global, mut columns: Columns<'_>) -> Result<String, RowError> {
     let name = columns.text()?;
     let keytab = columns.octets(alloc)?;
     let clock = columns.number::<i64>()?;
-    let token = columns.octets(alloc)?;
-    let own_reply = columns.octets(alloc)?;
-    let number = columns.octets(alloc)?;
-    let message = columns.octets(alloc)?;
     let service = Service::of(alloc, &keytab, clock, &[], TAKES_ALL)?;
-    let mut cache = ReplayCache::new(alloc);
-    let Ok(context) = service.answer(alloc, &token, &mut cache) else {
-        return Err(RowError::NoDigits);
-    };
-    let Ok(number) = IntegerAsn1::from_bytes_be_unsigned(alloc, number) else {
-        return Err(RowError::NoNumber);
-    };
-    let accepted = &context.accepted;
-    let confirmed = confirm_third_leg(alloc, accepted, &own_reply, &number, &message);
-    let checked = check_third_leg(alloc, accepted, &number, &message);
-    let confirm_text = text_of(alloc, confirmed)?;
-    let check_text = text_of(alloc, checked)?;
-    Ok(format!(in alloc; "{name}: confirm {confirm_text}; check {check_text}\n")?)
+    let leg = leg_of(alloc, &mut columns)?;
+    text_to(alloc, name, &service, &leg)
 }
