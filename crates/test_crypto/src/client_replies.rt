@@ -140,16 +140,29 @@ fn asked_with(
     }
 }
 
+/// The suites of a text's numbers.
+fn suites_in(alloc: Global, text: &str) -> Result<Vec<CipherSuite>, RowError> {
+    let numbers = numbers_of(alloc, text)?;
+    suites_of(alloc, &numbers)
+}
+
+/// The client and the server of their texts.
+fn both_of(alloc: Global, client: &str, server: &str) -> Result<(Principal, Principal), RowError> {
+    let client = principal_of(alloc, client)?;
+    let server = principal_of(alloc, server)?;
+    Ok((client, server))
+}
+
 /// What the columns say was asked for, behind the clock.
 fn asked_of(alloc: Global, columns: &mut Columns<'_>) -> Result<Asked, RowError> {
     let client = columns.text()?;
     let server = columns.text()?;
     let numbers = numbers_in(columns)?;
-    let flags = numbers_of(alloc, columns.text()?)?;
-    let etypes = numbers_of(alloc, columns.text()?)?;
-    let suites = suites_of(alloc, &etypes)?;
-    let client = principal_of(alloc, client)?;
-    let server = principal_of(alloc, server)?;
+    let flags = columns.text()?;
+    let etypes = columns.text()?;
+    let flags = numbers_of(alloc, flags)?;
+    let suites = suites_in(alloc, etypes)?;
+    let (client, server) = both_of(alloc, client, server)?;
     Ok(asked_with(client, server, numbers, flags, suites))
 }
 
