@@ -12,15 +12,15 @@ use Rattle.krb_types.specs.declared.data_types.encryption.EncryptionKey.{Encrypt
 use Rattle.krb_accept.specs.Replies.{IsReply, message_of, part_of}
 
 pub made : (part : EncodingOf EncApRepPartInner) (ap_rep : EncodingOf ApRepInner) (a : Accepted) (confounder : List ℕ) (subkey : Option EncryptionKey) (number : Option ℤ) (octets : List ℕ)
-    (suite : CipherSuite) (key cipher : List ℕ) (v : EncApRepPartInner) (n : ℤ) (m : ApRepInner)
-    → a.ticket.key.key_type ≡ pos (etype suite) → key ≡ a.ticket.key.key_value → v ≡ part_of a subkey number → n ≡ pos (etype suite)
-    → IsTheOne (IsSealed suite key (pos 12) confounder (part.enc v)) cipher → m ≡ message_of n cipher → octets ≡ ap_rep.enc m
+    (suite : CipherSuite) (key cipher : List ℕ) (v : EncApRepPartInner) (m : ApRepInner)
+    → a.ticket.key.key_type ≡ pos (etype suite) → key ≡ a.ticket.key.key_value → v ≡ part_of a subkey number
+    → IsTheOne (IsSealed suite key (pos 12) confounder (part.enc v)) cipher → m ≡ message_of (pos (etype suite)) cipher → octets ≡ ap_rep.enc m
     → IsReply part ap_rep a confounder subkey number octets
-made part ap_rep a confounder subkey number octets suite key cipher v n m of_suite is_key is_part is_number seals is_message encodes = record {
+made part ap_rep a confounder subkey number octets suite key cipher v m of_suite is_key is_part seals is_message encodes = record {
   suite = suite;
   cipher = cipher;
   of_suite = of_suite;
   seals = subst (λ (k : List ℕ). IsTheOne (IsSealed suite k (pos 12) confounder (part.enc (part_of a subkey number))) cipher) is_key
       (subst (λ (x : EncApRepPartInner). IsTheOne (IsSealed suite key (pos 12) confounder (part.enc x)) cipher) is_part seals);
-  encodes = encodes ∙ ap ap_rep.enc (is_message ∙ ap (λ (z : ℤ). message_of z cipher) is_number);
+  encodes = encodes ∙ ap ap_rep.enc is_message;
 }

@@ -8,6 +8,7 @@ ghost use Rattle.krb_accept.specs.declared.ap_rep.ReplyError.TheVariants as erro
 ghost use Rattle.krb_crypto_message.specs.Sealing.{IsTheOne};
 ghost use Rattle.krb_crypto.specs.BySuite.{IsSealed, confounder_octets_of, key_octets_of};
 ghost use Rattle.krb_crypto.specs.PreparedKeys.{IsPreparedFor};
+ghost use Rattle.krb_crypto.specs.Suites.{etype};
 
 use crate::frame::{InnerToken, token_of};
 use crate::opening::{octets_of, suite_of};
@@ -55,17 +56,6 @@ impl From<AllocError> for ReplyError {
     }
 }
 
-/// The integer of an octet.
-fn integer_of(alloc: Global, number: u8) -> Result<IntegerAsn1, ReplyError>
-    ensures { MatchResult result (λ integer. integer ≡ pos number) (λ e. e ≡ errors.OutOfMemory) }
-{
-    let octets = Vec::from_slice(alloc, &[number])?;
-    match IntegerAsn1::from_bytes_be_unsigned(alloc, octets) {
-        Ok(integer) => Ok(integer),
-        Err(_error) => Err(ReplyError::OutOfMemory),
-    }
-}
-
 /// A copy of a value.
 fn copy_of<T: Der + Drop>(alloc: Global, value: &T) -> Result<T, ReplyError>
     ensures { MatchResult result (λ v. v ≡ value.now) (λ e. e ≡ errors.OutOfMemory) }
@@ -102,21 +92,19 @@ fn part_of(
 }
 
 /// The message around the encrypted part.
-fn message_of(alloc: Global, etype: IntegerAsn1, cipher: Vec<u8>) -> Result<ApRep, ReplyError>
-    ensures { MatchResult result (λ message. message ≡ message_of etype cipher.items) (λ e. e ≡ errors.OutOfMemory) }
+fn message_of(alloc: Global, suite: &CipherSuite, cipher: Vec<u8>) -> ApRep
+    ensures { result ≡ message_of (pos (etype suite.now)) cipher.items }
 {
-    let pvno = integer_of(alloc, 5)?;
-    let msg_type = integer_of(alloc, AP_REP_MSG_TYPE)?;
     let enc_part = EncryptedData {
-        etype: etype.into(),
+        etype: IntegerAsn1::from_u32(alloc, u32::from(suite)).into(),
         kvno: Optional(None),
         cipher: OctetStringAsn1(cipher).into(),
     };
-    Ok(ApplicationTag(ApRepInner {
-        pvno: pvno.into(),
-        msg_type: msg_type.into(),
+    ApplicationTag(ApRepInner {
+        pvno: IntegerAsn1::from_u32(alloc, 5).into(),
+        msg_type: IntegerAsn1::from_u32(alloc, u32::from(AP_REP_MSG_TYPE)).into(),
         enc_part: enc_part.into(),
-    }))
+    })
 }
 
 /// The key, prepared for key usage 12, where its length is the suite's.
@@ -187,10 +175,9 @@ pub fn reply(
         return Err(ReplyError::Confounder);
     }
     let part = part_of(alloc, accepted, subkey, sequence_number)?;
-    let etype = integer_of(alloc, u8::from(&suite))?;
     let octets = octets_of(&key.key_value.0);
     let cipher = sealed(alloc, &suite, octets, confounder, &part)?;
-    let message = message_of(alloc, etype, cipher)?;
+    let message = message_of(alloc, &suite, cipher);
     let written = encoding(alloc, &message)?;
     Ok(written)
 }

@@ -99,15 +99,31 @@ fn credentials_in(
         (HasCredentials ⟦<EncKrbCredPart as DerEncode>⟧ accepted.now octets.now message)) }
 {
     if !has_numbers(&message) {
+        drop(message);
         return Ok(None);
     }
-    match part_of(alloc, accepted, part_in(&message))? {
-        Some(part) => Ok(Some(Delegated {
-            octets: Vec::from_slice(alloc, octets)?,
+    let opened = match part_of(alloc, accepted, part_in(&message)) {
+        Ok(opened) => opened,
+        Err(error) => {
+            drop(message);
+            return Err(error);
+        }
+    };
+    let Some(part) = opened else {
+        drop(message);
+        return Ok(None);
+    };
+    match Vec::from_slice(alloc, octets) {
+        Ok(octets) => Ok(Some(Delegated {
+            octets,
             message,
             part,
         })),
-        None => Ok(None),
+        Err(error) => {
+            drop(message);
+            drop(part);
+            Err(error)
+        }
     }
 }
 

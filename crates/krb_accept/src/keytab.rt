@@ -60,13 +60,6 @@ fn texts_of(
     Ok(Some(texts))
 }
 
-/// The integer of a number.
-fn integer_of(alloc: Global, number: u32) -> Result<IntegerAsn1, AllocError>
-    ensures { IfOk result (λ integer. integer ≡ pos number) }
-{
-    krb_build::integer_of(alloc, i64::from(number))
-}
-
 /// The key of an entry, where its realm and the components of its name are texts.
 fn key_of(alloc: Global, entry: &EntryView) -> Result<Option<ServiceKey>, AllocError>
     ensures { IfOk result
@@ -79,12 +72,11 @@ fn key_of(alloc: Global, entry: &EntryView) -> Result<Option<ServiceKey>, AllocE
     let Some(components) = texts_of(alloc, &parts)? else {
         return Ok(None);
     };
-    let name_type = integer_of(alloc, entry.name_type())?;
     let octets = Vec::from_slice(alloc, entry.key())?;
     Ok(Some(ServiceKey {
         realm,
         name: PrincipalName {
-            name_type: name_type.into(),
+            name_type: IntegerAsn1::from_u32(alloc, entry.name_type()).into(),
             name_string: Asn1SequenceOf(components).into(),
         },
         kvno: entry.kvno(),

@@ -112,12 +112,17 @@ pub fn present_token<'k>(
 {
     let octets = request_in(settings, token)?;
     let presented = present(alloc, keys, session_keys, terms, arrival, octets)?;
-    let told = told_of(alloc, settings, &presented)?;
-    Ok(PresentedToken {
-        presented,
-        flags: told.flags,
-        delegated: told.delegated,
-    })
+    match told_of(alloc, settings, &presented) {
+        Ok(told) => Ok(PresentedToken {
+            presented,
+            flags: told.flags,
+            delegated: told.delegated,
+        }),
+        Err(refusal) => {
+            drop(presented);
+            Err(refusal)
+        }
+    }
 }
 
 /// The client, where what it presented with a token was not accepted before. It is remembered from now on; a refusal leaves the cache as it

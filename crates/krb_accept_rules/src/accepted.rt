@@ -114,9 +114,11 @@ pub(crate) fn presented_of<'k>(
         ticket_version: _,
         realm,
         server,
-        ticket: _,
-        authenticator: _,
+        ticket: sealed_ticket,
+        authenticator: sealed_authenticator,
     } = request;
+    drop(sealed_ticket);
+    drop(sealed_authenticator);
     let AuthenticatorFields {
         version: _,
         realm: client_realm,

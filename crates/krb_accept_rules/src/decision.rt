@@ -21,9 +21,11 @@ fn remember_new(terms: &Terms, entry: Entry, cache: &mut ReplayCache) -> Result<
     ensures unchanged { OnErr result (cache.new ≡ cache.old) }
 {
     if !is_of_whole(terms.whole_since, terms.skew, entry.seconds) {
+        drop(entry);
         return Err(Refusal::plain(Rule::Unremembered));
     }
     if cache.contains(&entry) {
+        drop(entry);
         return Err(Refusal::plain(Rule::Repeat));
     }
     cache.remember(entry)?;
@@ -49,8 +51,13 @@ pub fn admit(
         accepted,
         key: _,
     } = presented;
-    remember_new(terms, entry, cache)?;
-    Ok(accepted)
+    match remember_new(terms, entry, cache) {
+        Ok(()) => Ok(accepted),
+        Err(refusal) => {
+            drop(accepted);
+            Err(refusal)
+        }
+    }
 }
 
 /// The client that sent a request, where it is let in: `present`, and then `admit`. A refusal

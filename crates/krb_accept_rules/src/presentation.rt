@@ -89,8 +89,13 @@ fn sound_request<O: Opening>(
     ensures rejected { IfErr result (OrMemory (HasNoTicket ⟦<O as Opening>⟧ keys.now session_keys.now octets.now)) }
 {
     let request = request_in::<O>(alloc, octets)?;
-    let _kept = check_request::<O>(keys, session_keys, &request)?;
-    Ok(request)
+    match check_request::<O>(keys, session_keys, &request) {
+        Ok(()) => Ok(request),
+        Err(refusal) => {
+            drop(request);
+            Err(refusal)
+        }
+    }
 }
 
 /// The request with its ticket, opened by the first key that opens it.
@@ -105,12 +110,17 @@ fn ticket_in<'k, O: Opening>(
 {
     let request = sound_request::<O>(alloc, keys, session_keys, octets)?;
     let candidates = keys_for(keys, session_keys, &request);
-    let (key, ticket) = first_opening::<O>(alloc, candidates, &request)?;
-    Ok(Opened {
-        request,
-        key,
-        ticket,
-    })
+    match first_opening::<O>(alloc, candidates, &request) {
+        Ok((key, ticket)) => Ok(Opened {
+            request,
+            key,
+            ticket,
+        }),
+        Err(refusal) => {
+            drop(request);
+            Err(refusal)
+        }
+    }
 }
 
 /// The authenticator.
@@ -178,11 +188,16 @@ fn judge<O: Opening>(
 {
     let _session = check_session::<O>(terms, &opened.request, &opened.ticket)?;
     let authenticator = authenticator_in::<O>(alloc, &opened.ticket.key, &opened.request)?;
-    let remembered = check_opened::<O>(alloc, terms, arrival, opened, &authenticator)?;
-    Ok(Judged {
-        authenticator,
-        remembered,
-    })
+    match check_opened::<O>(alloc, terms, arrival, opened, &authenticator) {
+        Ok(remembered) => Ok(Judged {
+            authenticator,
+            remembered,
+        }),
+        Err(refusal) => {
+            drop(authenticator);
+            Err(refusal)
+        }
+    }
 }
 
 /// What was opened and keeps the rules, as the client presents it.
@@ -229,6 +244,9 @@ pub fn present<'k, O: Opening>(
     let opened = ticket_in::<O>(alloc, keys, session_keys, octets)?;
     match judge::<O>(alloc, terms, arrival, &opened) {
         Ok(judged) => Ok(presented(opened, judged)),
-        Err(refusal) => Err(refusal),
+        Err(refusal) => {
+            drop(opened);
+            Err(refusal)
+        }
     }
 }

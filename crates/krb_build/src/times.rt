@@ -2,12 +2,11 @@
 
 ghost use Rattle.std.specs.Prelude.{◌≡◌, ◌≤◌, pos, IfOk, IfErr};
 ghost use Rattle.krb_types.specs.Times.{unix_seconds};
-ghost use Rattle.krb_build.specs.Errors.{IsMemoryOr};
 ghost use Rattle.krb_build.specs.Times.{IsMicroseconds, IsNoTime, IsTime, IsTimeAt, IsTimeError};
 ghost use Rattle.krb_build.specs.declared.error.BuildError.TheVariants.{Microseconds, Time};
 
 use crate::error::BuildError;
-use crate::integers::integer_of;
+use krb_der::IntegerAsn1;
 use krb_types::data_types::{KerberosTime, Microseconds};
 use krb_types::view::{time_of_unix_seconds, unix_seconds};
 use std::alloc::Global;
@@ -34,13 +33,13 @@ pub fn time_of_unix_microseconds(
     microseconds: u32,
 ) -> Result<(KerberosTime, Microseconds), BuildError>
     ensures time { IfOk result (λ r. IsTimeAt seconds microseconds r.0 r.1) }
-    ensures rejected { IfErr result (λ e. IsMemoryOr e (IsTimeError seconds microseconds e)) }
+    ensures rejected { IfErr result (λ e. IsTimeError seconds microseconds e) }
 {
     if microseconds > MOST {
         return Err(BuildError::Microseconds);
     }
     let time = time_of_seconds(seconds)?;
-    Ok((time, integer_of(alloc, i64::from(microseconds))?))
+    Ok((time, IntegerAsn1::from_u32(alloc, microseconds)))
 }
 
 /// The seconds of a time since 1 January 1970, 00:00:00 UTC, each day having 86,400 (POSIX.1-2017, 4.16), and its microseconds.

@@ -23,15 +23,15 @@ optional_delegated None = []
 optional_delegated (Some d) = d.octets.items
 
 pub record ArePartsOf (elements : EncodingOf (List AuthorizationDataInner)) (l : LetIn) (r : Reply) (p : Parts) : Type 0 where
-  pub entry : p.entry.items ≡ l.entry.items
-  pub session_key : p.session_key.items ≡ l.context.accepted.ticket.key.key_value
-  pub subkey : p.subkey.items ≡ optional_key l.context.accepted.subkey
-  pub own_subkey : p.own_subkey.items ≡ r.own_subkey.items
-  pub transited : p.transited.items ≡ l.context.accepted.ticket.transited.contents
-  pub authorization_data : p.authorization_data.items ≡ optional_encoding elements l.context.accepted.ticket.authorization_data
-  pub restrictions : p.restrictions.items ≡ optional_encoding elements l.context.accepted.authorization_data
-  pub delegated : p.delegated.items ≡ optional_delegated l.context.delegated
-  pub reply : p.reply.items ≡ r.octets.items
+  pub entry : p.entry.now ≡ l.entry.items
+  pub session_key : p.session_key.now ≡ l.context.accepted.ticket.key.key_value
+  pub subkey : p.subkey.now ≡ optional_key l.context.accepted.subkey
+  pub own_subkey : p.own_subkey.now ≡ r.own_subkey.items
+  pub transited : p.transited.now ≡ l.context.accepted.ticket.transited.contents
+  pub authorization_data : p.authorization_data.now ≡ optional_encoding elements l.context.accepted.ticket.authorization_data
+  pub restrictions : p.restrictions.now ≡ optional_encoding elements l.context.accepted.authorization_data
+  pub delegated : p.delegated.now ≡ optional_delegated l.context.delegated
+  pub reply : p.reply.now ≡ r.octets.items
 
 -- ---- where they stand
 
@@ -42,25 +42,25 @@ place_behind before octets = record { offset = length before; size = length octe
 -- the parts behind others, in this order
 abbrev pub joined : List ℕ → Parts → List ℕ
 joined before p =
-    before ++ p.entry.items ++ p.session_key.items ++ p.subkey.items ++ p.own_subkey.items ++ p.transited.items ++ p.authorization_data.items
-    ++ p.restrictions.items ++ p.delegated.items ++ p.reply.items
+    before ++ p.entry.now ++ p.session_key.now ++ p.subkey.now ++ p.own_subkey.now ++ p.transited.now ++ p.authorization_data.now
+    ++ p.restrictions.now ++ p.delegated.now ++ p.reply.now
 
 abbrev pub places_behind : List ℕ → Parts → Places
 places_behind before p = record {
-  entry = place_behind before p.entry.items;
-  session_key = place_behind (before ++ p.entry.items) p.session_key.items;
-  subkey = place_behind (before ++ p.entry.items ++ p.session_key.items) p.subkey.items;
-  own_subkey = place_behind (before ++ p.entry.items ++ p.session_key.items ++ p.subkey.items) p.own_subkey.items;
-  transited = place_behind (before ++ p.entry.items ++ p.session_key.items ++ p.subkey.items ++ p.own_subkey.items) p.transited.items;
+  entry = place_behind before p.entry.now;
+  session_key = place_behind (before ++ p.entry.now) p.session_key.now;
+  subkey = place_behind (before ++ p.entry.now ++ p.session_key.now) p.subkey.now;
+  own_subkey = place_behind (before ++ p.entry.now ++ p.session_key.now ++ p.subkey.now) p.own_subkey.now;
+  transited = place_behind (before ++ p.entry.now ++ p.session_key.now ++ p.subkey.now ++ p.own_subkey.now) p.transited.now;
   authorization_data =
-      place_behind (before ++ p.entry.items ++ p.session_key.items ++ p.subkey.items ++ p.own_subkey.items ++ p.transited.items) p.authorization_data.items;
+      place_behind (before ++ p.entry.now ++ p.session_key.now ++ p.subkey.now ++ p.own_subkey.now ++ p.transited.now) p.authorization_data.now;
   restrictions =
-      place_behind (before ++ p.entry.items ++ p.session_key.items ++ p.subkey.items ++ p.own_subkey.items ++ p.transited.items ++ p.authorization_data.items)
-      p.restrictions.items;
+      place_behind (before ++ p.entry.now ++ p.session_key.now ++ p.subkey.now ++ p.own_subkey.now ++ p.transited.now ++ p.authorization_data.now)
+      p.restrictions.now;
   delegated =
-      place_behind (before ++ p.entry.items ++ p.session_key.items ++ p.subkey.items ++ p.own_subkey.items ++ p.transited.items ++ p.authorization_data.items
-      ++ p.restrictions.items) p.delegated.items;
+      place_behind (before ++ p.entry.now ++ p.session_key.now ++ p.subkey.now ++ p.own_subkey.now ++ p.transited.now ++ p.authorization_data.now
+      ++ p.restrictions.now) p.delegated.now;
   reply =
-      place_behind (before ++ p.entry.items ++ p.session_key.items ++ p.subkey.items ++ p.own_subkey.items ++ p.transited.items ++ p.authorization_data.items
-      ++ p.restrictions.items ++ p.delegated.items) p.reply.items;
+      place_behind (before ++ p.entry.now ++ p.session_key.now ++ p.subkey.now ++ p.own_subkey.now ++ p.transited.now ++ p.authorization_data.now
+      ++ p.restrictions.now ++ p.delegated.now) p.reply.now;
 }

@@ -6,7 +6,7 @@ ghost use Rattle.krb_c_accept.specs.Answers.{IsAnswer, IsAnswerWith};
 ghost use Rattle.krb_c_calls.specs.declared.call_error.CallError.TheVariants as refusals;
 
 use crate::decision::LetIn;
-use crate::parts::{parts_of, put_parts};
+use crate::parts::{encoding_of, parts_of, put_parts};
 use crate::records::{AcceptedRecord, AcceptorRecord};
 use crate::reply::{Reply, reply_to};
 use crate::told::told_record;
@@ -27,10 +27,13 @@ pub(crate) struct Answer {
 }
 
 /// What is told and handed out of a client that is let in, with this reply.
-fn with_reply(alloc: Global, let_in: &LetIn, reply: Reply) -> Result<Answer, AllocError>
-    ensures { IfOk result (IsAnswerWith ⟦<AuthorizationData as DerEncode>⟧ let_in.now reply) }
+fn with_reply(alloc: Global, let_in: &LetIn, reply: &Reply) -> Result<Answer, AllocError>
+    ensures { IfOk result (IsAnswerWith ⟦<AuthorizationData as DerEncode>⟧ let_in.now reply.now) }
 {
-    let parts = parts_of(alloc, let_in, reply)?;
+    let accepted = &let_in.context.accepted;
+    let authorization_data = encoding_of(alloc, &accepted.ticket.authorization_data)?;
+    let restrictions = encoding_of(alloc, &accepted.authorization_data)?;
+    let parts = parts_of(let_in, reply, &authorization_data, &restrictions);
     let mut octets = Vec::new(alloc);
     let places = put_parts(&mut octets, &parts)?;
     Ok(Answer {
@@ -54,5 +57,5 @@ pub(crate) fn answer_of(
     ensures refused { IfErr result (λ e. e ≡ refusals.Memory) }
 {
     let reply = reply_to(alloc, acceptor, random, token, &let_in.context)?;
-    Ok(with_reply(alloc, let_in, reply)?)
+    Ok(with_reply(alloc, let_in, &reply)?)
 }

@@ -6,7 +6,7 @@ ghost use Rattle.krb_c_accept.specs.Calls.{IsAnswered, IsCall, IsDecision, IsOut
 ghost use Rattle.krb_c_accept.specs.Inputs.{inputs_of};
 
 use crate::answer::{Answer, answer_of};
-use crate::decision::{LetIn, judged, let_go};
+use crate::decision::{LetIn, judged};
 use crate::prepared::{Asked, Prepared, prepared_of};
 use crate::records::{AcceptedRecord, NOTHING};
 use crate::rules::refused_record;
@@ -76,7 +76,7 @@ fn outcome_of(alloc: Global, asked: &Asked, prepared: &Prepared) -> Outcome
     match judged(alloc, prepared, asked.token) {
         Ok(let_in) => {
             let outcome = answered(alloc, asked, &let_in);
-            let_go(let_in);
+            drop(let_in);
             outcome
         }
         Err(refusal) => refused(refusal),

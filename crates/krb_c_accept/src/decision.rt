@@ -34,7 +34,13 @@ fn admitted(alloc: Global, terms: &Terms, presented: PresentedToken) -> Result<L
     ensures whole { OnOk result (IsOfWhole terms.now.whole_since terms.now.skew presented.entry.presented.entry.seconds) }
     ensures refused { IfErr result (IsTokenNotAdmitted terms.now presented.entry.presented.entry []) }
 {
-    let entry = entry_octets(alloc, &presented.presented.entry)?;
+    let entry = match entry_octets(alloc, &presented.presented.entry) {
+        Ok(entry) => entry,
+        Err(error) => {
+            drop(presented);
+            return Err(TokenRefusal::from(error));
+        }
+    };
     let mut cache = ReplayCache::new(alloc);
     let context = admit_token(terms, presented, &mut cache)?;
     Ok(LetIn { entry, context })
@@ -64,9 +70,4 @@ pub(crate) fn judged(
     )?;
     let let_in = admitted(alloc, &prepared.terms, presented)?;
     Ok(let_in)
-}
-
-/// Lets a client go. (In a function of its own: what it consists of is let go piece by piece, and each is a step of the proof where it is done.)
-pub(crate) fn let_go(let_in: LetIn) {
-    let _done = let_in;
 }

@@ -6,7 +6,7 @@ ghost use Rattle.krb_c_calls.specs.declared.call_error.CallError.TheVariants as 
 
 use krb_c_calls::CallError;
 use krb_crypto::{Cipher, CipherSuite};
-use krb_der::OctetStringAsn1;
+use krb_der::{IntegerAsn1, OctetStringAsn1};
 use krb_types::data_types::EncryptionKey;
 use std::alloc::Global;
 
@@ -40,10 +40,9 @@ fn subkey_of(alloc: Global, suite: &CipherSuite, random: &[u8]) -> Result<Encryp
     ensures refused { IfErr result (λ e. e ≡ refusals.Memory) }
 {
     let seed = Vec::from_slice(alloc, seed_in(suite, random))?;
-    let number = krb_build::integer_of(alloc, i64::from(u8::from(suite)))?;
     match suite.random_to_key(alloc, seed) {
         Ok(octets) => Ok(EncryptionKey {
-            key_type: number.into(),
+            key_type: IntegerAsn1::from_u32(alloc, u32::from(suite)).into(),
             key_value: OctetStringAsn1(octets).into(),
         }),
         Err(_) => Err(CallError::Memory),

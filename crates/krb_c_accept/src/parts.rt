@@ -13,17 +13,17 @@ use krb_types::data_types::{AuthorizationData, EncryptionKey};
 use std::alloc::{AllocError, Global};
 
 /// Octets of a client and of the answer to it.
-#[derive(Drop)]
-pub(crate) struct Parts {
-    pub entry: Vec<u8>,
-    pub session_key: Vec<u8>,
-    pub subkey: Vec<u8>,
-    pub own_subkey: Vec<u8>,
-    pub transited: Vec<u8>,
-    pub authorization_data: Vec<u8>,
-    pub restrictions: Vec<u8>,
-    pub delegated: Vec<u8>,
-    pub reply: Vec<u8>,
+#[derive(Clone, Copy)]
+pub(crate) struct Parts<'a> {
+    pub entry: &'a [u8],
+    pub session_key: &'a [u8],
+    pub subkey: &'a [u8],
+    pub own_subkey: &'a [u8],
+    pub transited: &'a [u8],
+    pub authorization_data: &'a [u8],
+    pub restrictions: &'a [u8],
+    pub delegated: &'a [u8],
+    pub reply: &'a [u8],
 }
 
 /// Where they stand, one behind the other.
@@ -41,20 +41,20 @@ pub(crate) struct Places {
 }
 
 /// The octets of a key; none of none.
-pub(crate) fn octets_of_key(
-    alloc: Global,
-    key: &Option<EncryptionKey>,
-) -> Result<Vec<u8>, AllocError>
-    ensures { IfOk result (λ octets. octets.items ≡ optional_key key.now) }
+pub(crate) fn octets_of_key(key: &Option<EncryptionKey>) -> &[u8]
+    ensures { result.now ≡ optional_key key.now }
 {
     match key {
-        Some(key) => Vec::from_slice(alloc, &key.key_value.0.0),
-        None => Ok(Vec::new(alloc)),
+        Some(key) => &key.key_value.0.0,
+        None => &[],
     }
 }
 
 /// The encoding of authorization data; no octets of none.
-fn encoding_of(alloc: Global, elements: &Option<AuthorizationData>) -> Result<Vec<u8>, AllocError>
+pub(crate) fn encoding_of(
+    alloc: Global,
+    elements: &Option<AuthorizationData>,
+) -> Result<Vec<u8>, AllocError>
     ensures { IfOk result (λ octets. octets.items ≡ optional_encoding ⟦<AuthorizationData as DerEncode>⟧ elements.now) }
 {
     match elements {
@@ -67,39 +67,41 @@ fn encoding_of(alloc: Global, elements: &Option<AuthorizationData>) -> Result<Ve
 }
 
 /// The octets of a delegated KRB-CRED; none of none.
-fn octets_of_delegated(alloc: Global, delegated: &Option<Delegated>) -> Result<Vec<u8>, AllocError>
-    ensures { IfOk result (λ octets. octets.items ≡ optional_delegated delegated.now) }
+fn octets_of_delegated(delegated: &Option<Delegated>) -> &[u8]
+    ensures { result.now ≡ optional_delegated delegated.now }
 {
     match delegated {
-        Some(delegated) => Vec::from_slice(alloc, &delegated.octets),
-        None => Ok(Vec::new(alloc)),
+        Some(delegated) => &delegated.octets,
+        None => &[],
     }
 }
 
-/// The octets of a client that is let in, and of the answer to it.
-pub(crate) fn parts_of(alloc: Global, let_in: &LetIn, reply: Reply) -> Result<Parts, AllocError>
-    ensures { IfOk result (ArePartsOf ⟦<AuthorizationData as DerEncode>⟧ let_in.now reply) }
+/// The octets of a client that is let in, and of the answer to it, with the encodings of the ticket's authorization data and of the
+/// authenticator's.
+pub(crate) fn parts_of<'a>(
+    let_in: &'a LetIn,
+    reply: &'a Reply,
+    authorization_data: &'a [u8],
+    restrictions: &'a [u8],
+) -> Parts<'a>
+    requires authorization_data { authorization_data.now
+        ≡ optional_encoding ⟦<AuthorizationData as DerEncode>⟧ let_in.now.context.accepted.ticket.authorization_data }
+    requires restrictions { restrictions.now ≡ optional_encoding ⟦<AuthorizationData as DerEncode>⟧ let_in.now.context.accepted.authorization_data }
+    ensures { ArePartsOf ⟦<AuthorizationData as DerEncode>⟧ let_in.now reply.now result }
 {
     let context = &let_in.context;
     let accepted = &context.accepted;
-    let entry = Vec::from_slice(alloc, &let_in.entry)?;
-    let session_key = Vec::from_slice(alloc, &accepted.ticket.key.key_value.0.0)?;
-    let subkey = octets_of_key(alloc, &accepted.subkey)?;
-    let transited = Vec::from_slice(alloc, &accepted.ticket.transited.contents.0.0)?;
-    let authorization_data = encoding_of(alloc, &accepted.ticket.authorization_data)?;
-    let restrictions = encoding_of(alloc, &accepted.authorization_data)?;
-    let delegated = octets_of_delegated(alloc, &context.delegated)?;
-    Ok(Parts {
-        entry,
-        session_key,
-        subkey,
-        own_subkey: reply.own_subkey,
-        transited,
+    Parts {
+        entry: &let_in.entry,
+        session_key: &accepted.ticket.key.key_value.0.0,
+        subkey: octets_of_key(&accepted.subkey),
+        own_subkey: &reply.own_subkey,
+        transited: &accepted.ticket.transited.contents.0.0,
         authorization_data,
         restrictions,
-        delegated,
-        reply: reply.octets,
-    })
+        delegated: octets_of_delegated(&context.delegated),
+        reply: &reply.octets,
+    }
 }
 
 /// Appends octets, and tells where they stand.
@@ -120,15 +122,15 @@ pub(crate) fn put_parts(out: &mut Vec<u8>, parts: &Parts) -> Result<Places, Allo
     ensures places { IfOk result (λ places. places ≡ places_behind out.old.items parts.now) }
     ensures appended { OnOk result (out.new.items ≡ joined out.old.items parts.now) }
 {
-    let entry = put_behind(out, &parts.entry)?;
-    let session_key = put_behind(out, &parts.session_key)?;
-    let subkey = put_behind(out, &parts.subkey)?;
-    let own_subkey = put_behind(out, &parts.own_subkey)?;
-    let transited = put_behind(out, &parts.transited)?;
-    let authorization_data = put_behind(out, &parts.authorization_data)?;
-    let restrictions = put_behind(out, &parts.restrictions)?;
-    let delegated = put_behind(out, &parts.delegated)?;
-    let reply = put_behind(out, &parts.reply)?;
+    let entry = put_behind(out, parts.entry)?;
+    let session_key = put_behind(out, parts.session_key)?;
+    let subkey = put_behind(out, parts.subkey)?;
+    let own_subkey = put_behind(out, parts.own_subkey)?;
+    let transited = put_behind(out, parts.transited)?;
+    let authorization_data = put_behind(out, parts.authorization_data)?;
+    let restrictions = put_behind(out, parts.restrictions)?;
+    let delegated = put_behind(out, parts.delegated)?;
+    let reply = put_behind(out, parts.reply)?;
     Ok(Places {
         entry,
         session_key,

@@ -12,7 +12,7 @@ use crate::options::{
 use crate::records::AcceptorRecord;
 use krb_accept::{Arrival, PacCheck, ServiceKey, Settings, Terms, keys_of_keytab};
 use krb_c_calls::CallError;
-use krb_der::OctetStringAsn1;
+use krb_der::{IntegerAsn1, OctetStringAsn1};
 use krb_files::keytab::KeytabView;
 use krb_types::data_types::HostAddress;
 use std::alloc::{AllocError, Global};
@@ -123,10 +123,9 @@ fn address_of(
     if address.is_empty() {
         return Ok(None);
     }
-    let addr_type = krb_build::integer_of(alloc, i64::from(address_type))?;
     let octets = Vec::from_slice(alloc, address)?;
     Ok(Some(HostAddress {
-        addr_type: addr_type.into(),
+        addr_type: IntegerAsn1::from_u32(alloc, address_type).into(),
         address: OctetStringAsn1(octets).into(),
     }))
 }

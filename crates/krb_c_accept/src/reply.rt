@@ -116,8 +116,8 @@ fn answer_to(
     ensures refused { IfErr result (λ e. e ≡ refusals.Memory) }
 {
     let subkey = own_subkey(alloc, has_option(acceptor.options, SUBKEY), suite, random)?;
-    let own_subkey = octets_of_key(alloc, &subkey)?;
-    let number = krb_build::integer_of(alloc, i64::from(acceptor.sequence_number))?;
+    let own_subkey = Vec::from_slice(alloc, octets_of_key(&subkey))?;
+    let number = IntegerAsn1::from_u32(alloc, acceptor.sequence_number);
     let confounder = confounder_in(suite, random);
     match made(alloc, in_frame, accepted, confounder, subkey, Some(number)) {
         Ok(octets) => Ok(Reply { own_subkey, octets }),

@@ -39,13 +39,17 @@ fn begun(alloc: Global, terms: &Terms, asked: Asked, moment: &Moment) -> Result<
     ensures refused { IfErr result (IsNoBeginning terms.now asked moment.now) }
 {
     match InitialExchange::begin(alloc, terms, asked, moment) {
-        Ok((exchange, octets)) => Ok(Followed {
-            exchange: written(&exchange.offset, exchange.asked.nonce, &exchange.key),
-            told: Told {
-                record: sends(),
-                octets,
-            },
-        }),
+        Ok((exchange, octets)) => {
+            let kept = written(&exchange.offset, exchange.asked.nonce, &exchange.key);
+            drop(exchange);
+            Ok(Followed {
+                exchange: kept,
+                told: Told {
+                    record: sends(),
+                    octets,
+                },
+            })
+        }
         Err(error) => Err(request_refusal(error)),
     }
 }
@@ -59,12 +63,17 @@ pub(crate) fn exchange_of(
     ensures read { IfOk result (IsRead kept.now asked) }
     ensures refused { IfErr result (IsNoKeyIn kept.now) }
 {
-    let key = key_in(alloc, kept)?;
-    Ok(InitialExchange {
-        asked,
-        offset: offset_in(kept),
-        key,
-    })
+    match key_in(alloc, kept) {
+        Ok(key) => Ok(InitialExchange {
+            asked,
+            offset: offset_in(kept),
+            key,
+        }),
+        Err(error) => {
+            drop(asked);
+            Err(error)
+        }
+    }
 }
 
 /// What is told of a step.
@@ -101,7 +110,10 @@ fn stepped(
     let mut exchange = exchange;
     match exchange.step(alloc, terms, secret, moment, message) {
         Ok(step) => Ok((exchange, step)),
-        Err(error) => Err(error),
+        Err(error) => {
+            drop(exchange);
+            Err(error)
+        }
     }
 }
 
@@ -122,6 +134,7 @@ fn next(
     match stepped(alloc, terms, exchange, secret, moment, message) {
         Ok((exchange, step)) => {
             let kept = written(&exchange.offset, exchange.asked.nonce, &exchange.key);
+            drop(exchange);
             let told = told(alloc, step)?;
             Ok(Followed {
                 exchange: kept,

@@ -108,13 +108,17 @@ fn begun(
     ensures refused { IfErr result (IsNoBeginning terms.now by.now asked subkey offset moment.now) }
 {
     match ServiceExchange::begin(alloc, terms, by, asked, subkey, offset, moment) {
-        Ok((exchange, octets)) => Ok(Followed {
-            exchange: written(&exchange.offset, exchange.asked.nonce, &None),
-            told: Told {
-                record: sends(),
-                octets,
-            },
-        }),
+        Ok((exchange, octets)) => {
+            let kept = written(&exchange.offset, exchange.asked.nonce, &None);
+            drop(exchange);
+            Ok(Followed {
+                exchange: kept,
+                told: Told {
+                    record: sends(),
+                    octets,
+                },
+            })
+        }
         Err(error) => Err(request_refusal(error)),
     }
 }
@@ -153,7 +157,10 @@ fn stepped(
     let mut exchange = exchange;
     match exchange.step(alloc, terms, by, moment, message) {
         Ok(step) => Ok((exchange, step)),
-        Err(error) => Err(error),
+        Err(error) => {
+            drop(exchange);
+            Err(error)
+        }
     }
 }
 
@@ -174,6 +181,7 @@ fn next(
     match stepped(alloc, terms, by, exchange, moment, message) {
         Ok((exchange, step)) => {
             let kept = written(&exchange.offset, exchange.asked.nonce, &None);
+            drop(exchange);
             let told = told(alloc, step)?;
             Ok(Followed {
                 exchange: kept,

@@ -34,9 +34,13 @@ pub(crate) fn granted_told(alloc: Global, granted: Granted) -> Result<Told, Allo
     ensures { IfOk result (λ t. IsTold ⟦<Ticket as DerEncode>⟧ ⟦<EncTgsRepPart as DerEncode>⟧ granted t.record t.octets.items) }
 {
     let Granted { ticket, part } = granted;
+    let of_ticket = encoding(alloc, &ticket);
+    drop(ticket);
     let part: EncTgsRepPart = ApplicationTag(part);
-    let mut octets = encoding(alloc, &ticket)?;
-    let behind = encoding(alloc, &part)?;
+    let of_part = encoding(alloc, &part);
+    drop(part);
+    let mut octets = of_ticket?;
+    let behind = of_part?;
     let record = grants(octets.len(), behind.len());
     octets.extend_from_slice(behind.as_slice())?;
     Ok(Told { record, octets })

@@ -6,10 +6,10 @@ ghost use Rattle.krb_c_calls.specs.declared.call_error.CallError.TheVariants as 
 ghost use Rattle.krb_c_client.specs.Names.{IsNamed, IsNoName, IsNameless};
 
 use krb_c_calls::CallError;
-use krb_der::{Asn1SequenceOf, GeneralStringAsn1};
+use krb_der::{Asn1SequenceOf, GeneralStringAsn1, IntegerAsn1};
 use krb_types::data_types::{PrincipalName, Realm};
 use krb_types::view::{PrincipalError, TextPrincipal, principal_of_text};
-use std::alloc::{AllocError, Global};
+use std::alloc::Global;
 use std::str;
 
 /// A principal of a realm.
@@ -22,18 +22,13 @@ pub(crate) struct Named {
 }
 
 /// The name of this type and these components.
-fn name_of(
-    alloc: Global,
-    name_type: u32,
-    components: Vec<GeneralStringAsn1>,
-) -> Result<PrincipalName, AllocError>
-    ensures { IfOk result (λ n. (n.name_type ≡ pos name_type) × (n.name_string ≡ components.items)) }
+fn name_of(alloc: Global, name_type: u32, components: Vec<GeneralStringAsn1>) -> PrincipalName
+    ensures { (result.name_type ≡ pos name_type) × (result.name_string ≡ components.items) }
 {
-    let name_type = krb_build::integer_of(alloc, i64::from(name_type))?;
-    Ok(PrincipalName {
-        name_type: name_type.into(),
+    PrincipalName {
+        name_type: IntegerAsn1::from_u32(alloc, name_type).into(),
         name_string: Asn1SequenceOf(components).into(),
-    })
+    }
 }
 
 /// The principal, if its text has a realm.
@@ -76,6 +71,6 @@ pub(crate) fn principal_of(alloc: Global, octets: &[u8], name_type: u32) -> Resu
         return Err(CallError::Invalid);
     };
     let (realm, components) = parts_of(alloc, text)?;
-    let name = name_of(alloc, name_type, components)?;
+    let name = name_of(alloc, name_type, components);
     Ok(Named { realm, name })
 }

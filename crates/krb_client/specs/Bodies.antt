@@ -75,6 +75,14 @@ body_of options cname realm sname from till rtime nonce etypes = record {
 abbrev pub request_of : ℤ → ℤ → Option (List PaData) → KdcReqBody → KdcReq
 request_of pvno msg_type padata body = record { pvno = pvno; msg_type = msg_type; padata = record { 0 = padata }; req_body = body }
 
+-- the nonce is below 2^31, and options and times are those that are wanted
+pub record AreFields (w : Wanted) (options : Bits) (from : Option Time) (till : Time) (rtime : Option Time) : Type 0 where
+  pub small : w.nonce < 2 ^ 31
+  pub are_options : AreFlags w.options options
+  pub is_from : IsTimeOption w.from from
+  pub is_till : IsTime w.till till
+  pub is_rtime : IsTimeOption w.rtime rtime
+
 -- The body asks for what is wanted and for nothing else; it names this client, or none.
 pub record IsBody (w : Wanted) (cname : Option PrincipalName) (b : KdcReqBody) : Type 0 where
   pub small : w.nonce < 2 ^ 31

@@ -153,15 +153,22 @@ impl InitialExchange {
             (λ r. IsBegun ⟦<Rfc4120 as Encodings>⟧.initial terms.now asked moment.now r.0 r.1.items) }
         ensures rejected { IfErr result (IsNotBegun terms.now asked moment.now) }
     {
-        let request = initial_request(alloc, terms, &asked, None, &None, moment)?;
-        let mut asked = asked;
-        asked.nonce = moment.nonce;
-        let exchange = InitialExchange {
-            asked,
-            offset: None,
-            key: None,
-        };
-        Ok((exchange, request))
+        match initial_request(alloc, terms, &asked, None, &None, moment) {
+            Ok(request) => {
+                let mut asked = asked;
+                asked.nonce = moment.nonce;
+                let exchange = InitialExchange {
+                    asked,
+                    offset: None,
+                    key: None,
+                };
+                Ok((exchange, request))
+            }
+            Err(error) => {
+                drop(asked);
+                Err(error)
+            }
+        }
     }
 
     /// The exchange after a change and a request of this nonce.
@@ -243,7 +250,10 @@ impl InitialExchange {
         match check_as_rep(alloc, &self.asked, &clock, key, octets) {
             Ok(granted) => match check_request(alloc, key, request, &granted.part) {
                 Ok(()) => Ok(granted),
-                Err(error) => Err(error),
+                Err(error) => {
+                    drop(granted);
+                    Err(error)
+                }
             },
             Err(error) => Err(RenameError::Reply(error)),
         }

@@ -163,15 +163,23 @@ impl ServiceExchange {
         ensures rejected { IfErr result (λ e. IsMemoryOr e (IsNoServiceRequest terms.now by.now asked subkey
             offset moment.now e)) }
     {
-        let request = service_request(alloc, terms, by, &asked, &subkey, &offset, moment)?;
-        let mut asked = asked;
-        asked.nonce = moment.nonce;
-        let exchange = ServiceExchange {
-            asked,
-            offset,
-            subkey,
-        };
-        Ok((exchange, request))
+        match service_request(alloc, terms, by, &asked, &subkey, &offset, moment) {
+            Ok(request) => {
+                let mut asked = asked;
+                asked.nonce = moment.nonce;
+                let exchange = ServiceExchange {
+                    asked,
+                    offset,
+                    subkey,
+                };
+                Ok((exchange, request))
+            }
+            Err(error) => {
+                drop(asked);
+                drop(subkey);
+                Err(error)
+            }
+        }
     }
 
     /// The exchange by the KDC's time, after a request of this nonce.

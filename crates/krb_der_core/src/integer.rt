@@ -159,17 +159,26 @@ impl IntegerAsn1 {
 
     /// The number that the octets represent, highest octet first, which is not negative; none represent zero.
     ///
-    /// The only error is `OutOfMemory`: an octet may be added.
+    /// The only error is `OutOfMemory`: an octet is added where the first is 128 or more.
     pub fn from_bytes_be_unsigned(alloc: Global, octets: Vec<u8>) -> Result<Self, Asn1DerError>
         ensures value { IfOk result (λ v. v ≡ pos (number_from_digits 256 octets.items)) }
         ensures err { IfErr result (λ e. e ≡ OutOfMemory) }
-        ensures needed { OnErr result (0 < length octets.items → 128 ≤ slice_index octets.items 0) }
+        ensures needed { OnErr result ((0 < length octets.items) × (128 ≤ slice_index octets.items 0)) }
     {
         let mut octets = octets;
         if octets.first().is_some_and(|first| *first >= 128) {
             octets.insert(0, 0)?;
         }
         IntegerAsn1::from_bytes_be_signed(alloc, octets)
+    }
+
+    /// The number. It takes no memory, so no error comes.
+    pub fn from_u32(alloc: Global, number: u32) -> Self
+        ensures { result ≡ pos number }
+    {
+        let [first, second, third, fourth] = number.to_be_bytes();
+        let octets = [0, first, second, third, fourth];
+        IntegerAsn1::from_few(alloc, &octets[needless(&octets)..])
     }
 
     /// The shortest two's complement of the number, highest octet first.

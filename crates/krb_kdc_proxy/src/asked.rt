@@ -5,7 +5,7 @@ ghost use Rattle.krb_kdc_proxy.specs.Asking.{change_asked, kdc_asked};
 
 use krb_der::ExplicitContextTag;
 use krb_messages::messages::{ApReqInner, KdcReq, KdcReqBody};
-use krb_types::data_types::{PrincipalName, Realm};
+use krb_types::data_types::{PrincipalName, Realm, TicketInner};
 
 /// Whom a request is for.
 #[derive(Debug, Clone, Copy, PartialEq, Eq)]
@@ -43,14 +43,30 @@ pub(crate) fn untagged<T, N>(field: Option<ExplicitContextTag<T, N>>) -> Option<
 pub(crate) fn kdc_asked(request: KdcReq) -> Asked
     ensures { result ≡ kdc_asked request }
 {
-    let KdcReq { req_body, .. } = request;
-    let body = req_body.0;
+    let KdcReq {
+        padata,
+        req_body,
+        ..
+    } = request;
+    drop(padata);
     let KdcReqBody {
         cname,
         realm,
         sname,
+        from,
+        rtime,
+        etype,
+        addresses,
+        enc_authorization_data,
+        additional_tickets,
         ..
-    } = body;
+    } = req_body.0;
+    drop(from);
+    drop(rtime);
+    drop(etype);
+    drop(addresses);
+    drop(enc_authorization_data);
+    drop(additional_tickets);
     Asked {
         service: Service::Kdc,
         realm: realm.0,
@@ -63,11 +79,23 @@ pub(crate) fn kdc_asked(request: KdcReq) -> Asked
 pub(crate) fn change_asked(request: ApReqInner) -> Asked
     ensures { result ≡ change_asked request }
 {
-    let ticket = request.ticket.0.0;
+    let ApReqInner {
+        ticket,
+        authenticator,
+        ..
+    } = request;
+    drop(authenticator);
+    let TicketInner {
+        realm,
+        sname,
+        enc_part,
+        ..
+    } = ticket.0.0;
+    drop(enc_part);
     Asked {
         service: Service::PasswordChange,
-        realm: ticket.realm.0,
+        realm: realm.0,
         client: None,
-        server: Some(ticket.sname.0),
+        server: Some(sname.0),
     }
 }

@@ -25,6 +25,14 @@ pub(crate) fn change(alloc: Global, octets: &[u8]) -> Result<Asked, ProxyError>
         return Err(ProxyError::FrameLength);
     };
     let request: ApReq = message_of(alloc, MessageKind::ApReq, first)?;
-    let _private: KrbPriv = message_of(alloc, MessageKind::KrbPriv, second)?;
-    Ok(change_asked(request.0))
+    match message_of::<KrbPriv>(alloc, MessageKind::KrbPriv, second) {
+        Ok(private) => {
+            drop(private);
+            Ok(change_asked(request.0))
+        }
+        Err(error) => {
+            drop(request);
+            Err(error)
+        }
+    }
 }

@@ -65,7 +65,10 @@ fn is_taken(alloc: Global, octets: &[u8]) -> Result<(), ProxyError>
         (types ⟦<AsReq as DerEncode>⟧ ⟦<TgsReq as DerEncode>⟧ ⟦<ApReq as DerEncode>⟧ ⟦<KrbPriv as DerEncode>⟧) octets.now)) }
 {
     match read_request(alloc, octets) {
-        Ok(_request) => Ok(()),
+        Ok(request) => {
+            drop(request);
+            Ok(())
+        }
         Err(error) => Err(error),
     }
 }

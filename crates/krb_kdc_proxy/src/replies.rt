@@ -83,15 +83,18 @@ fn kdc_reply(alloc: Global, octets: &[u8]) -> Result<Reply, ProxyError>
 {
     match octets.first() {
         Some(&AS_REP) => {
-            let _reply: AsRep = message_of(alloc, MessageKind::AsRep, octets)?;
+            let reply: AsRep = message_of(alloc, MessageKind::AsRep, octets)?;
+            drop(reply);
             Ok(Reply::AsRep)
         }
         Some(&TGS_REP) => {
-            let _reply: TgsRep = message_of(alloc, MessageKind::TgsRep, octets)?;
+            let reply: TgsRep = message_of(alloc, MessageKind::TgsRep, octets)?;
+            drop(reply);
             Ok(Reply::TgsRep)
         }
         Some(&KRB_ERROR) => {
-            let _reply: KrbError = message_of(alloc, MessageKind::KrbError, octets)?;
+            let reply: KrbError = message_of(alloc, MessageKind::KrbError, octets)?;
+            drop(reply);
             Ok(Reply::KrbError)
         }
         _ => Err(ProxyError::OtherKind),
@@ -105,10 +108,13 @@ fn change_replies(alloc: Global, first: &[u8], second: &[u8]) -> Result<(), Prox
         (AreNoChangeReplies ⟦<ApRep as DerEncode>⟧ ⟦<KrbPriv as DerEncode>⟧ ⟦<KrbError as DerEncode>⟧ first.now second.now)) }
 {
     if first.is_empty() {
-        let _error: KrbError = message_of(alloc, MessageKind::KrbError, second)?;
+        let error: KrbError = message_of(alloc, MessageKind::KrbError, second)?;
+        drop(error);
     } else {
-        let _reply: ApRep = message_of(alloc, MessageKind::ApRep, first)?;
-        let _private: KrbPriv = message_of(alloc, MessageKind::KrbPriv, second)?;
+        let reply: ApRep = message_of(alloc, MessageKind::ApRep, first)?;
+        drop(reply);
+        let private: KrbPriv = message_of(alloc, MessageKind::KrbPriv, second)?;
+        drop(private);
     }
     Ok(())
 }

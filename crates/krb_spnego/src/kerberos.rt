@@ -185,13 +185,6 @@ fn is_mutual(flags: u32) -> bool
     flags / 2 % 2 == 1
 }
 
-/// The integer of a number.
-fn integer_of(alloc: Global, number: u32) -> Result<IntegerAsn1, AllocError>
-    ensures { IfOk result (λ integer. integer ≡ pos number) }
-{
-    krb_build::integer_of(alloc, i64::from(number))
-}
-
 /// What the service sends to a client.
 fn turn_of(
     alloc: Global,
@@ -206,9 +199,7 @@ fn turn_of(
     if !is_mutual(client.flags) {
         return Ok(Turn::Ends);
     }
-    let Ok(integer) = integer_of(alloc, number) else {
-        return Err(MechanismError::OutOfMemory);
-    };
+    let integer = IntegerAsn1::from_u32(alloc, number);
     match reply_token(alloc, &client.accepted, confounder, None, Some(integer)) {
         Ok(token) => Ok(Turn::EndsWithToken(token)),
         Err(ReplyError::OutOfMemory) => Err(MechanismError::OutOfMemory),
@@ -244,9 +235,6 @@ fn turn_for(
     let turn = turn_of(alloc, client, confounder, number)?;
     Ok(turn)
 }
-
-/// Lets a client go.
-fn let_go(_client: Option<Client>) {}
 
 /// The MIC of a text under the key of a context (RFC 4121, 4.2.6.1).
 fn mic_of(
@@ -327,11 +315,11 @@ impl Mechanism for KerberosAcceptor {
         let client = client_of(alloc, &self.service, token)?;
         match turn_for(alloc, &client, &self.confounder, self.number) {
             Ok(turn) => {
-                let_go(self.client.replace(client));
+                drop(self.client.replace(client));
                 Ok(turn)
             }
             Err(error) => {
-                let_go(Some(client));
+                drop(client);
                 Err(error)
             }
         }

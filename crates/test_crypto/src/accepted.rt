@@ -119,7 +119,13 @@ fn rule_text(alloc: Global, refusal: &TokenRefusal) -> Result<String, AllocError
 /// Whether a token lets a client in.
 fn is_let_in(alloc: Global, service: &Service, token: &[u8]) -> bool {
     let mut cache = ReplayCache::new(alloc);
-    service.answer(alloc, token, &mut cache).is_ok()
+    match service.answer(alloc, token, &mut cache) {
+        Ok(context) => {
+            drop(context);
+            true
+        }
+        Err(_refusal) => false,
+    }
 }
 
 /// How many tokens that differ in one bit let a client in.
@@ -146,7 +152,10 @@ fn text_again(
     cache: &mut ReplayCache,
 ) -> Result<String, AllocError> {
     match service.answer(alloc, token, cache) {
-        Ok(_context) => String::from_str(alloc, "let in"),
+        Ok(context) => {
+            drop(context);
+            String::from_str(alloc, "let in")
+        }
         Err(refusal) => rule_text(alloc, &refusal),
     }
 }
@@ -214,9 +223,13 @@ fn text_of(
 ) -> Result<String, AllocError> {
     let mut cache = ReplayCache::new(alloc);
     match service.answer(alloc, token, &mut cache) {
-        Ok(context) => let_in(
-            alloc, service, caller, with_keys, token, &mut cache, &context,
-        ),
+        Ok(context) => {
+            let text = let_in(
+                alloc, service, caller, with_keys, token, &mut cache, &context,
+            );
+            drop(context);
+            text
+        }
         Err(refusal) => refused(alloc, caller, token, cache.len(), &refusal),
     }
 }

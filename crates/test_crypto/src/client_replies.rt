@@ -196,7 +196,11 @@ fn granted(alloc: Global, granted: &Granted) -> Result<String, AllocError> {
 /// What is printed of an answer.
 fn answered(alloc: Global, answer: Result<Granted, ReplyError>) -> Result<String, AllocError> {
     match answer {
-        Ok(ticket) => granted(alloc, &ticket),
+        Ok(ticket) => {
+            let text = granted(alloc, &ticket);
+            drop(ticket);
+            text
+        }
         Err(error) => refused(alloc, &error),
     }
 }
@@ -230,7 +234,9 @@ fn kdc_text(
         skew: SKEW,
     };
     let asked = asked_of(alloc, columns)?;
-    let text = answered(alloc, checked(alloc, usage, key, reply, &clock, &asked))?;
+    let answer = checked(alloc, usage, key, reply, &clock, &asked);
+    drop(asked);
+    let text = answered(alloc, answer)?;
     Ok(text)
 }
 
@@ -246,7 +252,10 @@ fn ap_rep_text(
         microseconds: columns.number::<u32>()?,
     };
     match check_ap_rep(alloc, &sent, key, reply) {
-        Ok(_part) => Ok(String::from_str(alloc, "confirmed")?),
+        Ok(part) => {
+            drop(part);
+            Ok(String::from_str(alloc, "confirmed")?)
+        }
         Err(error) => Ok(refused(alloc, &error)?),
     }
 }

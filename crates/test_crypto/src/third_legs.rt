@@ -64,14 +64,18 @@ fn leg_of(alloc: Global, columns: &mut Columns<'_>) -> Result<Leg, RowError> {
 fn text_to(alloc: Global, name: &str, service: &Service, leg: &Leg) -> Result<String, RowError> {
     let mut cache = ReplayCache::new(alloc);
     match service.answer(alloc, &leg.token, &mut cache) {
-        Ok(context) => Ok(text_of_leg(
-            alloc,
-            name,
-            &context.accepted,
-            &leg.own_reply,
-            &leg.number,
-            &leg.message,
-        )?),
+        Ok(context) => {
+            let text = text_of_leg(
+                alloc,
+                name,
+                &context.accepted,
+                &leg.own_reply,
+                &leg.number,
+                &leg.message,
+            );
+            drop(context);
+            Ok(text?)
+        }
         Err(_refusal) => Err(RowError::NoDigits),
     }
 }

@@ -7,10 +7,9 @@ ghost use Rattle.krb_build.specs.Flags.{AreFlags};
 use super::known::{known_ciphertext, known_ticket};
 use crate::error::BuildError;
 use crate::flags::bits_of;
-use crate::integers::integer_of;
 use krb_der::{
     ApplicationTag, DerEncode, ExplicitContextTag0, ExplicitContextTag1, ExplicitContextTag2,
-    ExplicitContextTag3, ExplicitContextTag4,
+    ExplicitContextTag3, ExplicitContextTag4, IntegerAsn1,
 };
 use krb_messages::messages::{ApReq, ApReqInner};
 use krb_registry::types::AP_REQ_MSG_TYPE;
@@ -34,11 +33,21 @@ pub fn ap_req(
 {
     known_ticket(&ticket);
     known_ciphertext(&authenticator);
-    Ok(ApplicationTag(ApReqInner {
-        pvno: ExplicitContextTag0::from(integer_of(alloc, 5)?),
-        msg_type: ExplicitContextTag1::from(integer_of(alloc, i64::from(AP_REQ_MSG_TYPE))?),
-        ap_options: ExplicitContextTag2::from(bits_of(alloc, options)?),
-        ticket: ExplicitContextTag3::from(ticket),
-        authenticator: ExplicitContextTag4::from(authenticator),
-    }))
+    match bits_of(alloc, options) {
+        Ok(options) => Ok(ApplicationTag(ApReqInner {
+            pvno: ExplicitContextTag0::from(IntegerAsn1::from_u32(alloc, 5)),
+            msg_type: ExplicitContextTag1::from(IntegerAsn1::from_u32(
+                alloc,
+                u32::from(AP_REQ_MSG_TYPE),
+            )),
+            ap_options: ExplicitContextTag2::from(options),
+            ticket: ExplicitContextTag3::from(ticket),
+            authenticator: ExplicitContextTag4::from(authenticator),
+        })),
+        Err(error) => {
+            drop(ticket);
+            drop(authenticator);
+            Err(error)
+        }
+    }
 }

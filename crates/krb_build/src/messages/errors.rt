@@ -2,18 +2,16 @@
 
 ghost use Rattle.std.specs.Prelude.{◌≡◌, pos, None, IfOk, IfErr};
 ghost use Rattle.krb_types.specs.Times.{unix_seconds};
-ghost use Rattle.krb_build.specs.Errors.{IsMemoryOr};
 ghost use Rattle.krb_build.specs.Times.{IsTimeAt, IsTimeError};
 
 use super::field;
 use super::known::{known_name, known_octet_string, known_text};
 use crate::error::BuildError;
-use crate::integers::integer_of;
 use crate::times::time_of_unix_microseconds;
 use krb_der::{
     ApplicationTag, DerEncode, ExplicitContextTag0, ExplicitContextTag1, ExplicitContextTag4,
     ExplicitContextTag5, ExplicitContextTag6, ExplicitContextTag9, ExplicitContextTag10,
-    OctetStringAsn1, Optional,
+    IntegerAsn1, OctetStringAsn1, Optional,
 };
 use krb_messages::messages::{KrbError, KrbErrorInner};
 use krb_registry::types::KRB_ERROR_MSG_TYPE;
@@ -49,26 +47,34 @@ pub fn krb_error(alloc: Global, parts: ErrorParts) -> Result<KrbError, BuildErro
     ensures about { IfOk result (λ m. (m.e_text.0 ≡ parts.text) × (m.e_data.0 ≡ parts.«data»)) }
     ensures no_client { IfOk result (λ m. (m.ctime.0 ≡ None) × (m.cusec.0 ≡ None) × (m.crealm.0 ≡ None) × (m.cname.0 ≡ None)) }
     ensures value { IfOk result ⟦<KrbError as DerEncode>⟧.is_value }
-    ensures rejected { IfErr result (λ e. IsMemoryOr e (IsTimeError parts.seconds parts.microseconds e)) }
+    ensures rejected { IfErr result (λ e. IsTimeError parts.seconds parts.microseconds e) }
 {
     parts.realm.is_ascii();
     known_name(&parts.sname);
     known_text(&parts.text);
     known_octet_string(&parts.data);
-    let (stime, susec) = time_of_unix_microseconds(alloc, parts.seconds, parts.microseconds)?;
-    Ok(ApplicationTag(KrbErrorInner {
-        pvno: ExplicitContextTag0::from(integer_of(alloc, 5)?),
-        msg_type: ExplicitContextTag1::from(integer_of(alloc, i64::from(KRB_ERROR_MSG_TYPE))?),
-        ctime: Optional(None),
-        cusec: Optional(None),
-        stime: ExplicitContextTag4::from(stime),
-        susec: ExplicitContextTag5::from(susec),
-        error_code: ExplicitContextTag6::from(parts.code),
-        crealm: Optional(None),
-        cname: Optional(None),
-        realm: ExplicitContextTag9::from(parts.realm),
-        sname: ExplicitContextTag10::from(parts.sname),
-        e_text: field(parts.text),
-        e_data: field(parts.data),
-    }))
+    match time_of_unix_microseconds(alloc, parts.seconds, parts.microseconds) {
+        Ok((stime, susec)) => Ok(ApplicationTag(KrbErrorInner {
+            pvno: ExplicitContextTag0::from(IntegerAsn1::from_u32(alloc, 5)),
+            msg_type: ExplicitContextTag1::from(IntegerAsn1::from_u32(
+                alloc,
+                u32::from(KRB_ERROR_MSG_TYPE),
+            )),
+            ctime: Optional(None),
+            cusec: Optional(None),
+            stime: ExplicitContextTag4::from(stime),
+            susec: ExplicitContextTag5::from(susec),
+            error_code: ExplicitContextTag6::from(parts.code),
+            crealm: Optional(None),
+            cname: Optional(None),
+            realm: ExplicitContextTag9::from(parts.realm),
+            sname: ExplicitContextTag10::from(parts.sname),
+            e_text: field(parts.text),
+            e_data: field(parts.data),
+        })),
+        Err(error) => {
+            drop(parts);
+            Err(error)
+        }
+    }
 }

@@ -36,8 +36,9 @@ pub fn neg_token_init(
 {
     known_identifiers();
     known_octet_string(&token);
+    let types = mech_types(alloc, mechanisms)?;
     Ok(NegTokenInit {
-        mech_types: field(Some(Asn1SequenceOf(mech_types(alloc, mechanisms)?))),
+        mech_types: field(Some(Asn1SequenceOf(types))),
         req_flags: Optional(None),
         mech_token: field(token),
         mech_list_mic: Optional(None),
@@ -53,8 +54,14 @@ pub fn gss_api_neg_init(
     ensures mechanism { IfOk result (λ m. m.oid ≡ arcs Spnego) }
     ensures message { IfOk result (λ m. m.neg_token_init ≡ neg_token_init) }
 {
-    Ok(GssApiNegInit {
-        oid: Mechanism::Spnego.identifier(alloc)?,
-        neg_token_init: ExplicitContextTag0::from(neg_token_init),
-    })
+    match Mechanism::Spnego.identifier(alloc) {
+        Ok(oid) => Ok(GssApiNegInit {
+            oid,
+            neg_token_init: ExplicitContextTag0::from(neg_token_init),
+        }),
+        Err(error) => {
+            drop(neg_token_init);
+            Err(error)
+        }
+    }
 }

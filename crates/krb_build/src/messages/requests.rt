@@ -51,42 +51,70 @@ fn integers_of(alloc: Global, numbers: &[i32]) -> Result<Vec<IntegerAsn1>, Alloc
     Ok(integers)
 }
 
-/// What is asked for, of its parts: the options, the names of the client, the realm and the server, `till`, the nonce and the encryption
-/// types.
-fn body(
+/// What of a request takes memory or may be refused.
+#[derive(Drop)]
+struct Asked {
     options: KerberosFlags,
+    till: KerberosTime,
+    etypes: Asn1SequenceOf<IntegerAsn1>,
+}
+
+/// The options of these numbers, the time of these seconds and the encryption types. `FlagNumber` where the number of an option is past
+/// 31; else `Time` where the year is not of 0 to 9999.
+fn asked_of(
+    alloc: Global,
+    options: &[usize],
+    till: i64,
+    etypes: &[i32],
+) -> Result<Asked, BuildError>
+    ensures options { IfOk result (λ it. AreFlags options.now it.options × IsBits it.options) }
+    ensures till { IfOk result (λ it. IsTime till it.till) }
+    ensures etypes { IfOk result (λ it. it.etypes ≡ etypes.now) }
+    ensures rejected { IfErr result (λ e. IsMemoryOr e (IsRequestError options.now till e)) }
+{
+    let options = bits_of(alloc, options)?;
+    let till = time_of_seconds(till)?;
+    Ok(Asked {
+        options,
+        till,
+        etypes: Asn1SequenceOf(integers_of(alloc, etypes)?),
+    })
+}
+
+/// The body of the request of these parts (RFC 4120, 5.4.1).
+fn body(
+    alloc: Global,
     cname: PrincipalName,
     realm: Realm,
     sname: PrincipalName,
-    till: KerberosTime,
-    nonce: IntegerAsn1,
-    etypes: Asn1SequenceOf<IntegerAsn1>,
+    nonce: u32,
+    asked: Asked,
 ) -> KdcReqBody
-    ensures options { result.kdc_options ≡ options }
+    ensures options { result.kdc_options ≡ asked.options }
     ensures client { result.cname.0 ≡ Some cname }
     ensures server { (result.realm ≡ realm) × (result.sname.0 ≡ Some sname) }
-    ensures till { result.till ≡ till }
-    ensures numbers { (result.nonce ≡ nonce) × (result.etype ≡ etypes) }
+    ensures till { result.till ≡ asked.till }
+    ensures numbers { (result.nonce ≡ pos nonce) × (result.etype ≡ asked.etypes) }
     ensures no_other_time { (result.from.0 ≡ None) × (result.rtime.0 ≡ None) }
     ensures no_addresses { result.addresses.0 ≡ None }
     ensures no_data { result.enc_authorization_data.0 ≡ None }
     ensures no_tickets { result.additional_tickets.0 ≡ None }
-    ensures value { IsBits options → IsRealTime till → ⟦<KdcReqBody as DerEncode>⟧.is_value result }
+    ensures value { IsBits asked.options → IsRealTime asked.till → ⟦<KdcReqBody as DerEncode>⟧.is_value result }
 {
     known_name(&cname);
     realm.is_ascii();
     known_name(&sname);
-    known_integers(&etypes);
+    known_integers(&asked.etypes);
     KdcReqBody {
-        kdc_options: ExplicitContextTag0::from(options),
+        kdc_options: ExplicitContextTag0::from(asked.options),
         cname: field(Some(cname)),
         realm: ExplicitContextTag2::from(realm),
         sname: field(Some(sname)),
         from: Optional(None),
-        till: ExplicitContextTag5::from(till),
+        till: ExplicitContextTag5::from(asked.till),
         rtime: Optional(None),
-        nonce: ExplicitContextTag7::from(nonce),
-        etype: ExplicitContextTag8::from(etypes),
+        nonce: ExplicitContextTag7::from(IntegerAsn1::from_u32(alloc, nonce)),
+        etype: ExplicitContextTag8::from(asked.etypes),
         addresses: Optional(None),
         enc_authorization_data: Optional(None),
         additional_tickets: Optional(None),
@@ -118,25 +146,28 @@ pub fn as_req(
     ensures rejected { IfErr result (λ e. IsMemoryOr e (IsRequestError options.now parts.till e)) }
 {
     known_padata(&parts.padata);
-    let options = bits_of(alloc, options)?;
-    let till = time_of_seconds(parts.till)?;
-    let nonce = integer_of(alloc, i64::from(parts.nonce))?;
-    let etypes = Asn1SequenceOf(integers_of(alloc, etypes)?);
-    let pvno = integer_of(alloc, 5)?;
-    let msg_type = integer_of(alloc, i64::from(AS_REQ_MSG_TYPE))?;
-    let req_body = body(
-        options,
-        parts.cname,
-        parts.realm,
-        parts.sname,
-        till,
-        nonce,
-        etypes,
-    );
-    Ok(ApplicationTag(KdcReq {
-        pvno: ExplicitContextTag1::from(pvno),
-        msg_type: ExplicitContextTag2::from(msg_type),
-        padata: field(parts.padata),
-        req_body: ExplicitContextTag4::from(req_body),
-    }))
+    match asked_of(alloc, options, parts.till, etypes) {
+        Ok(asked) => {
+            let pvno = IntegerAsn1::from_u32(alloc, 5);
+            let msg_type = IntegerAsn1::from_u32(alloc, u32::from(AS_REQ_MSG_TYPE));
+            let req_body = body(
+                alloc,
+                parts.cname,
+                parts.realm,
+                parts.sname,
+                parts.nonce,
+                asked,
+            );
+            Ok(ApplicationTag(KdcReq {
+                pvno: ExplicitContextTag1::from(pvno),
+                msg_type: ExplicitContextTag2::from(msg_type),
+                padata: field(parts.padata),
+                req_body: ExplicitContextTag4::from(req_body),
+            }))
+        }
+        Err(error) => {
+            drop(parts);
+            Err(error)
+        }
+    }
 }

@@ -47,7 +47,9 @@ fn message_sizes(alloc: Global, frame: &[u8]) -> Result<(usize, usize), ReadFram
     ensures rejected { IfErr result (λ e. RefusesFrame ⟦<ApMessage as DerEncode>⟧ ⟦<KrbPriv as DerEncode>⟧ frame.now (frame_status e)) }
 {
     let (message, taken) = read_frame(alloc, frame)?;
-    Ok(sizes(&message.ap_message, &message.krb_priv, frame, taken))
+    let found = sizes(&message.ap_message, &message.krb_priv, frame, taken);
+    drop(message);
+    Ok(found)
 }
 
 /// The places of the AP message, a KRB-AP-REQ or a KRB-AP-REP, and of the KRB-PRIV in the frame at the start of the octets (RFC 3244, 2).

@@ -28,11 +28,23 @@ fn report_of(message: KrbErrorInner) -> Reported
     ensures { result ≡ report_of message }
 {
     let KrbErrorInner {
+        ctime,
+        cusec,
         stime,
         error_code,
+        crealm,
+        cname,
+        sname,
+        e_text,
         e_data,
         ..
     } = message;
+    drop(ctime);
+    drop(cusec);
+    drop(crealm);
+    drop(cname);
+    drop(sname);
+    drop(e_text);
     Reported {
         code: error_code.0,
         seconds: unix_seconds(&stime.0),

@@ -9,19 +9,18 @@ ghost use Rattle.krb_client.specs.declared.requests.error.RequestError.TheVarian
 
 use crate::requests::checksum::checksum;
 use crate::requests::error::RequestError;
-use crate::requests::fields::{encoding, integer_of};
+use crate::requests::fields::encoding;
 use crate::requests::key::LentKey;
 use crate::requests::timestamp::element_of;
-use krb_der::{Asn1SequenceOf, DerEncode};
+use krb_der::{Asn1SequenceOf, DerEncode, IntegerAsn1};
 use krb_types::data_types::{Checksum, PaData};
 use std::alloc::Global;
 
 /// PA-REQ-ENC-PA-REP: data of pre-authentication of type 149, with no octets.
-fn mark(alloc: Global) -> Result<PaData, RequestError>
-    ensures { MatchResult result (λ d. d ≡ mark) (λ e. e ≡ errors.OutOfMemory) }
+fn mark(alloc: Global) -> PaData
+    ensures { result ≡ mark }
 {
-    let number = integer_of(alloc, 149)?;
-    Ok(element_of(number, Vec::new(alloc)))
+    element_of(IntegerAsn1::from_u32(alloc, 149), Vec::new(alloc))
 }
 
 /// These data of pre-authentication, and behind them PA-REQ-ENC-PA-REP, by which a client asks that
@@ -32,12 +31,11 @@ pub fn marked(
 ) -> Result<Asn1SequenceOf<PaData>, RequestError>
     ensures { MatchResult result (λ list. list ≡ marked padata) (λ e. e ≡ errors.OutOfMemory) }
 {
-    let element = mark(alloc)?;
     let mut list = match padata {
         Some(list) => list.0,
         None => Vec::new(alloc),
     };
-    list.push(element)?;
+    list.push(mark(alloc))?;
     Ok(Asn1SequenceOf(list))
 }
 

@@ -10,7 +10,7 @@ ghost use Rattle.krb_client.specs.declared.requests.error.RequestError.TheVarian
 use crate::requests::authenticator::{Sender, authenticator};
 use crate::requests::checksum::checksum_value;
 use crate::requests::error::RequestError;
-use crate::requests::fields::{copy_of, encoded, flags_of, integer_of};
+use crate::requests::fields::{copy_of, encoded, flags_of};
 use crate::requests::key::LentKey;
 use crate::requests::sealing::sealed_value;
 use krb_der::{
@@ -57,20 +57,12 @@ fn options_of(alloc: Global, mutual_required: bool) -> Result<ApOptions, Request
 }
 
 /// The AP-REQ of these fields.
-fn ap_req_of(
-    pvno: IntegerAsn1,
-    msg_type: IntegerAsn1,
-    options: ApOptions,
-    ticket: Ticket,
-    part: EncryptedData,
-) -> ApReq
-    requires pvno { pvno ≡ pos 5 }
-    requires msg_type { msg_type ≡ pos 14 }
+fn ap_req_of(alloc: Global, options: ApOptions, ticket: Ticket, part: EncryptedData) -> ApReq
     ensures { result ≡ ap_req_of options ticket part }
 {
     ApplicationTag(ApReqInner {
-        pvno: ExplicitContextTag0::from(pvno),
-        msg_type: ExplicitContextTag1::from(msg_type),
+        pvno: ExplicitContextTag0::from(IntegerAsn1::from_u32(alloc, 5)),
+        msg_type: ExplicitContextTag1::from(IntegerAsn1::from_u32(alloc, 14)),
         ap_options: ExplicitContextTag2::from(options),
         ticket: ExplicitContextTag3::from(ticket),
         authenticator: ExplicitContextTag4::from(part),
@@ -87,11 +79,9 @@ fn message(
     ensures { MatchResult result (λ m. AreFlags (options_of mutual_required) m.ap_options ×
         (m ≡ ap_req_of m.ap_options ticket.now part)) (λ e. e ≡ errors.OutOfMemory) }
 {
-    let pvno = integer_of(alloc, 5)?;
-    let msg_type = integer_of(alloc, 14)?;
     let options = options_of(alloc, mutual_required)?;
     let ticket = copy_of(alloc, ticket)?;
-    Ok(ap_req_of(pvno, msg_type, options, ticket, part))
+    Ok(ap_req_of(alloc, options, ticket, part))
 }
 
 /// The octets of the AP-REQ of a ticket, in which this authenticator is sealed under the key for
@@ -133,7 +123,7 @@ fn gss_checksum(alloc: Global, gss: &GssChecksum) -> Result<Checksum, RequestErr
     let mut octets = Vec::from_slice(alloc, &16u32.to_le_bytes())?;
     octets.extend_from_slice(&gss.bindings)?;
     octets.extend_from_slice(&gss.flags.to_le_bytes())?;
-    let number = integer_of(alloc, 0x8003)?;
+    let number = IntegerAsn1::from_u32(alloc, 0x8003);
     Ok(checksum_value(number, octets))
 }
 

@@ -1,15 +1,16 @@
 //! Authenticators (RFC 4120, 5.5.1).
 
-ghost use Rattle.std.specs.Prelude.{◌≡◌, ◌≢◌, length, pos, IfErr, IfOk, MatchResult};
+ghost use Rattle.std.specs.Prelude.{◌≡◌, ◌≢◌, length, pos, IfErr, IfOk};
 ghost use Rattle.krb_crypto.specs.BySuite.{key_octets_of};
 ghost use Rattle.krb_crypto.specs.Suites.{etype};
+ghost use Rattle.krb_build.specs.Times.{IsTimeAt};
 ghost use Rattle.krb_client.specs.Applications.{HasOtherSize, IsAuthenticator, IsNoAuthenticator, IsSizedOption, authenticator_of, optional_key, optional_number};
 ghost use Rattle.krb_client.specs.Errors.{IsMemoryOr};
 ghost use Rattle.krb_client.specs.Sealed.{key_value};
 ghost use Rattle.krb_client.specs.declared.requests.error.RequestError.TheVariants as errors;
 
 use crate::requests::error::RequestError;
-use crate::requests::fields::{copy_of, field, integer_of, time_at};
+use crate::requests::fields::{copy_of, field, time_at};
 use crate::requests::key::LentKey;
 use krb_crypto::Cipher;
 use krb_der::{
@@ -59,8 +60,9 @@ fn encryption_key(alloc: Global, key: &LentKey) -> Result<EncryptionKey, Request
     if key.octets.len() != key.suite.key_size() {
         return Err(RequestError::Subkey);
     }
-    let number = integer_of(alloc, u32::from(key.suite))?;
-    Ok(key_value(number, Vec::from_slice(alloc, key.octets)?))
+    let octets = Vec::from_slice(alloc, key.octets)?;
+    let number = IntegerAsn1::from_u32(alloc, u32::from(key.suite));
+    Ok(key_value(number, octets))
 }
 
 /// The subkey, where there is one.
@@ -76,38 +78,65 @@ fn subkey_of(alloc: Global, key: &Option<LentKey>) -> Result<Option<EncryptionKe
 }
 
 /// The number of the first message, where there is one.
-fn number_of(alloc: Global, number: Option<u32>) -> Result<Option<IntegerAsn1>, RequestError>
-    ensures { MatchResult result (λ n. n ≡ optional_number number) (λ e. e ≡ errors.OutOfMemory) }
+fn number_of(alloc: Global, number: Option<u32>) -> Option<IntegerAsn1>
+    ensures { result ≡ optional_number number }
 {
     match number {
-        Some(number) => Ok(Some(integer_of(alloc, number)?)),
-        None => Ok(None),
+        Some(number) => Some(IntegerAsn1::from_u32(alloc, number)),
+        None => None,
     }
 }
 
-/// The authenticator of these fields.
-fn authenticator_of(
-    version: IntegerAsn1,
+/// What of an authenticator takes memory or may be refused.
+#[derive(Drop)]
+struct Fields {
     crealm: Realm,
     cname: PrincipalName,
-    cksum: Option<Checksum>,
     cusec: Microseconds,
     ctime: KerberosTime,
     subkey: Option<EncryptionKey>,
-    seq_number: Option<IntegerAsn1>,
+}
+
+/// These fields of this client's authenticator.
+fn fields_of(alloc: Global, sender: &Sender) -> Result<Fields, RequestError>
+    ensures time { IfOk result (λ f. IsTimeAt sender.now.seconds sender.now.microseconds f.ctime f.cusec) }
+    ensures size { IfOk result (λ _. IsSizedOption sender.now.subkey) }
+    ensures subkey { IfOk result (λ f. f.subkey ≡ optional_key sender.now.subkey) }
+    ensures client { IfOk result (λ f. (f.crealm ≡ sender.now.crealm.now) × (f.cname ≡ sender.now.cname.now)) }
+    ensures rejected { IfErr result (λ e. IsMemoryOr e (IsNoAuthenticator sender.now e)) }
+{
+    let (ctime, cusec) = time_at(alloc, sender.seconds, sender.microseconds)?;
+    let subkey = subkey_of(alloc, &sender.subkey)?;
+    let crealm = copy_of(alloc, sender.crealm)?;
+    let cname = copy_of(alloc, sender.cname)?;
+    Ok(Fields {
+        crealm,
+        cname,
+        cusec,
+        ctime,
+        subkey,
+    })
+}
+
+/// The authenticator of these fields, with this checksum and this number.
+fn authenticator_of(
+    alloc: Global,
+    fields: Fields,
+    cksum: Option<Checksum>,
+    seq_number: Option<u32>,
 ) -> Authenticator
-    requires { version ≡ pos 5 }
-    ensures { result ≡ authenticator_of crealm cname cksum cusec ctime subkey seq_number }
+    ensures { result ≡ authenticator_of fields.crealm fields.cname cksum fields.cusec fields.ctime fields.subkey
+        (optional_number seq_number) }
 {
     ApplicationTag(AuthenticatorInner {
-        authenticator_vno: ExplicitContextTag0::from(version),
-        crealm: ExplicitContextTag1::from(crealm),
-        cname: ExplicitContextTag2::from(cname),
+        authenticator_vno: ExplicitContextTag0::from(IntegerAsn1::from_u32(alloc, 5)),
+        crealm: ExplicitContextTag1::from(fields.crealm),
+        cname: ExplicitContextTag2::from(fields.cname),
         cksum: field(cksum),
-        cusec: ExplicitContextTag4::from(cusec),
-        ctime: ExplicitContextTag5::from(ctime),
-        subkey: field(subkey),
-        seq_number: field(seq_number),
+        cusec: ExplicitContextTag4::from(fields.cusec),
+        ctime: ExplicitContextTag5::from(fields.ctime),
+        subkey: field(fields.subkey),
+        seq_number: field(number_of(alloc, seq_number)),
         authorization_data: Optional(None),
     })
 }
@@ -124,13 +153,8 @@ pub(crate) fn authenticator(
     ensures made { IfOk result (IsAuthenticator sender.now cksum) }
     ensures rejected { IfErr result (λ e. IsMemoryOr e (IsNoAuthenticator sender.now e)) }
 {
-    let (ctime, cusec) = time_at(alloc, sender.seconds, sender.microseconds)?;
-    let subkey = subkey_of(alloc, &sender.subkey)?;
-    let seq_number = number_of(alloc, sender.seq_number)?;
-    let version = integer_of(alloc, 5)?;
-    let crealm = copy_of(alloc, sender.crealm)?;
-    let cname = copy_of(alloc, sender.cname)?;
-    Ok(authenticator_of(
-        version, crealm, cname, cksum, cusec, ctime, subkey, seq_number,
-    ))
+    match fields_of(alloc, sender) {
+        Ok(fields) => Ok(authenticator_of(alloc, fields, cksum, sender.seq_number)),
+        Err(error) => Err(error),
+    }
 }

@@ -1,14 +1,12 @@
 //! What is asked of a KDC: KDC-REQ-BODY (RFC 4120, 5.4.1).
 
 ghost use Rattle.std.specs.Prelude.{◌≡◌, IfErr, IfOk, MatchResult, map, pos};
-ghost use Rattle.krb_client.specs.Bodies.{IsBody, IsNoBody, body_of, number_of, request_of, wanted};
+ghost use Rattle.krb_client.specs.Bodies.{AreFields, IsBody, IsNoBody, body_of, number_of, request_of, wanted};
 ghost use Rattle.krb_client.specs.Errors.{IsMemoryOr};
 ghost use Rattle.krb_client.specs.declared.requests.error.RequestError.TheVariants as errors;
 
 use crate::requests::error::RequestError;
-use crate::requests::fields::{
-    copy_of, encoded, field, flags_of, integer_of, time_of, time_option_of,
-};
+use crate::requests::fields::{copy_of, encoded, field, flags_of, time_of, time_option_of};
 use krb_crypto::CipherSuite;
 use krb_der::{
     ApplicationTag, Asn1SequenceOf, DerEncode, ExplicitContextTag0, ExplicitContextTag1,
@@ -52,35 +50,66 @@ fn numbers_of(alloc: Global, suites: &[CipherSuite]) -> Result<Vec<IntegerAsn1>,
 {
     let mut numbers = Vec::new(alloc);
     for suite in suites {
-        numbers.push(integer_of(alloc, u32::from(suite))?)?;
+        numbers.push(IntegerAsn1::from_u32(alloc, u32::from(suite)))?;
     }
     Ok(numbers)
 }
 
-/// The body of these fields: no addresses, no data, no further tickets.
-fn body_of(
+/// What of a body takes memory or may be refused.
+#[derive(Drop)]
+struct Fields {
     options: KerberosFlags,
-    cname: Option<PrincipalName>,
     realm: Realm,
     sname: PrincipalName,
     from: Option<KerberosTime>,
     till: KerberosTime,
     rtime: Option<KerberosTime>,
-    nonce: IntegerAsn1,
     etypes: Vec<IntegerAsn1>,
-) -> KdcReqBody
-    ensures { result ≡ body_of options cname realm sname from till rtime nonce etypes.items }
+}
+
+/// These fields of the body of what is wanted. They are refused where the body is.
+fn fields_of(alloc: Global, want: &Want) -> Result<Fields, RequestError>
+    ensures fields { IfOk result (λ f. AreFields (wanted want.now) f.options f.from f.till f.rtime) }
+    ensures names { IfOk result (λ f. (f.realm ≡ want.now.realm.now) × (f.sname ≡ want.now.sname.now)) }
+    ensures etypes { IfOk result (λ f. f.etypes.items ≡ map number_of want.now.etypes.now) }
+    ensures rejected { IfErr result (λ e. IsMemoryOr e (IsNoBody (wanted want.now) e)) }
+{
+    if want.nonce > MOST_NONCE {
+        return Err(RequestError::Nonce);
+    }
+    let options = flags_of(alloc, want.options)?;
+    let from = time_option_of(want.from)?;
+    let till = time_of(want.till)?;
+    let rtime = time_option_of(want.rtime)?;
+    let etypes = numbers_of(alloc, want.etypes)?;
+    let realm = copy_of(alloc, want.realm)?;
+    let sname = copy_of(alloc, want.sname)?;
+    Ok(Fields {
+        options,
+        realm,
+        sname,
+        from,
+        till,
+        rtime,
+        etypes,
+    })
+}
+
+/// The body of these fields: no addresses, no data, no further tickets.
+fn body_of(alloc: Global, fields: Fields, cname: Option<PrincipalName>, nonce: u32) -> KdcReqBody
+    ensures { result ≡ body_of fields.options cname fields.realm fields.sname fields.from fields.till fields.rtime
+        (pos nonce) fields.etypes.items }
 {
     KdcReqBody {
-        kdc_options: ExplicitContextTag0::from(options),
+        kdc_options: ExplicitContextTag0::from(fields.options),
         cname: field(cname),
-        realm: ExplicitContextTag2::from(realm),
-        sname: field(Some(sname)),
-        from: field(from),
-        till: ExplicitContextTag5::from(till),
-        rtime: field(rtime),
-        nonce: ExplicitContextTag7::from(nonce),
-        etype: ExplicitContextTag8::from(Asn1SequenceOf(etypes)),
+        realm: ExplicitContextTag2::from(fields.realm),
+        sname: field(Some(fields.sname)),
+        from: field(fields.from),
+        till: ExplicitContextTag5::from(fields.till),
+        rtime: field(fields.rtime),
+        nonce: ExplicitContextTag7::from(IntegerAsn1::from_u32(alloc, nonce)),
+        etype: ExplicitContextTag8::from(Asn1SequenceOf(fields.etypes)),
         addresses: Optional(None),
         enc_authorization_data: Optional(None),
         additional_tickets: Optional(None),
@@ -99,52 +128,27 @@ pub(crate) fn body(
     ensures body { IfOk result (IsBody (wanted want.now) cname) }
     ensures rejected { IfErr result (λ e. IsMemoryOr e (IsNoBody (wanted want.now) e)) }
 {
-    if want.nonce > MOST_NONCE {
-        return Err(RequestError::Nonce);
+    match fields_of(alloc, want) {
+        Ok(fields) => Ok(body_of(alloc, fields, cname, want.nonce)),
+        Err(error) => Err(error),
     }
-    let options = flags_of(alloc, want.options)?;
-    let from = time_option_of(want.from)?;
-    let till = time_of(want.till)?;
-    let rtime = time_option_of(want.rtime)?;
-    let nonce = integer_of(alloc, want.nonce)?;
-    let etypes = numbers_of(alloc, want.etypes)?;
-    let realm = copy_of(alloc, want.realm)?;
-    let sname = copy_of(alloc, want.sname)?;
-    Ok(body_of(
-        options, cname, realm, sname, from, till, rtime, nonce, etypes,
-    ))
 }
 
 /// The request of this type with this body (RFC 4120, 5.4.1): version 5.
 fn request_of(
-    pvno: IntegerAsn1,
-    msg_type: IntegerAsn1,
-    padata: Option<Asn1SequenceOf<PaData>>,
-    body: KdcReqBody,
-) -> KdcReq
-    ensures { result ≡ request_of pvno msg_type padata body }
-{
-    KdcReq {
-        pvno: ExplicitContextTag1::from(pvno),
-        msg_type: ExplicitContextTag2::from(msg_type),
-        padata: field(padata),
-        req_body: ExplicitContextTag4::from(body),
-    }
-}
-
-/// The same, with the numbers.
-fn request(
     alloc: Global,
     msg_type: u32,
     padata: Option<Asn1SequenceOf<PaData>>,
     body: KdcReqBody,
-) -> Result<KdcReq, RequestError>
-    ensures { MatchResult result (λ m. m ≡ request_of (pos 5) (pos msg_type) padata body)
-        (λ e. e ≡ errors.OutOfMemory) }
+) -> KdcReq
+    ensures { result ≡ request_of (pos 5) (pos msg_type) padata body }
 {
-    let pvno = integer_of(alloc, 5)?;
-    let msg_type = integer_of(alloc, msg_type)?;
-    Ok(request_of(pvno, msg_type, padata, body))
+    KdcReq {
+        pvno: ExplicitContextTag1::from(IntegerAsn1::from_u32(alloc, 5)),
+        msg_type: ExplicitContextTag2::from(IntegerAsn1::from_u32(alloc, msg_type)),
+        padata: field(padata),
+        req_body: ExplicitContextTag4::from(body),
+    }
 }
 
 /// The octets of an AS-REQ (RFC 4120, 5.4.1).
@@ -158,10 +162,8 @@ pub(crate) fn as_req_octets(
         (λ octets. octets.items ≡ ⟦<AsReq as DerEncode>⟧.enc (request_of (pos 5) (pos 10) padata body))
         (λ e. e ≡ errors.OutOfMemory) }
 {
-    let request = request(alloc, 10, padata, body)?;
-    let message: AsReq = ApplicationTag(request);
-    let octets = encoded(alloc, message)?;
-    Ok(octets)
+    let message: AsReq = ApplicationTag(request_of(alloc, 10, padata, body));
+    encoded(alloc, message)
 }
 
 /// The octets of a TGS-REQ (RFC 4120, 5.4.1).
@@ -175,8 +177,6 @@ pub(crate) fn tgs_req_octets(
         (λ octets. octets.items ≡ ⟦<TgsReq as DerEncode>⟧.enc (request_of (pos 5) (pos 12) padata body))
         (λ e. e ≡ errors.OutOfMemory) }
 {
-    let request = request(alloc, 12, padata, body)?;
-    let message: TgsReq = ApplicationTag(request);
-    let octets = encoded(alloc, message)?;
-    Ok(octets)
+    let message: TgsReq = ApplicationTag(request_of(alloc, 12, padata, body));
+    encoded(alloc, message)
 }

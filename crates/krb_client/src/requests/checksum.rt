@@ -8,7 +8,6 @@ ghost use Rattle.krb_client.specs.Sealed.{IsChecksum, checksum_value, key_of};
 ghost use Rattle.krb_client.specs.declared.requests.error.RequestError.TheVariants as errors;
 
 use crate::requests::error::RequestError;
-use crate::requests::fields::integer_of;
 use crate::requests::key::LentKey;
 use krb_crypto::prepared::ChecksumKey;
 use krb_crypto::{ChecksumSuite, Cipher};
@@ -73,6 +72,6 @@ pub(crate) fn checksum(
 {
     let suite = key.suite.checksum_type();
     let sum = sum(alloc, &suite, key.octets, usage, octets)?;
-    let number = integer_of(alloc, u32::from(&suite))?;
+    let number = IntegerAsn1::from_u32(alloc, u32::from(&suite));
     Ok(checksum_value(number, sum))
 }

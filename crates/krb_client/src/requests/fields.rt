@@ -1,6 +1,6 @@
 //! Fields of messages.
 
-ghost use Rattle.std.specs.Prelude.{◌≡◌, ◌≤◌, pos, Any, IfErr, IfOk, MatchResult};
+ghost use Rattle.std.specs.Prelude.{◌≡◌, ◌≤◌, Any, IfErr, IfOk, MatchResult};
 ghost use Rattle.krb_build.specs.Flags.{AreFlags};
 ghost use Rattle.krb_build.specs.Times.{IsNoTime, IsTime, IsTimeAt};
 ghost use Rattle.krb_client.specs.Bodies.{IsNoTimeOption, IsTimeOption};
@@ -58,16 +58,6 @@ pub(crate) fn encoded<T: DerEncode + Drop>(alloc: Global, value: T) -> Result<Ve
     encoding(alloc, &value)
 }
 
-/// The INTEGER of a number.
-pub(crate) fn integer_of(alloc: Global, number: u32) -> Result<IntegerAsn1, RequestError>
-    ensures { MatchResult result (λ integer. integer ≡ pos number) (λ e. e ≡ errors.OutOfMemory) }
-{
-    match krb_build::integer_of(alloc, i64::from(number)) {
-        Ok(integer) => Ok(integer),
-        Err(_error) => Err(RequestError::OutOfMemory),
-    }
-}
-
 /// 32 flags, of which those of these numbers are set and no others (RFC 4120, 5.2.8).
 pub(crate) fn flags_of(alloc: Global, numbers: &[usize]) -> Result<BitStringAsn1, RequestError>
     ensures flags { IfOk result (AreFlags numbers.now) }
@@ -107,11 +97,11 @@ pub(crate) fn time_at(
     microseconds: u32,
 ) -> Result<(KerberosTime, Microseconds), RequestError>
     ensures time { IfOk result (λ r. IsTimeAt seconds microseconds r.0 r.1) }
-    ensures rejected { IfErr result (λ e. IsMemoryOr e (IsTimeError seconds microseconds e)) }
+    ensures rejected { IfErr result (IsTimeError seconds microseconds) }
 {
     if microseconds > MOST {
         return Err(RequestError::Microseconds);
     }
     let time = time_of(seconds)?;
-    Ok((time, integer_of(alloc, microseconds)?))
+    Ok((time, IntegerAsn1::from_u32(alloc, microseconds)))
 }

@@ -9,7 +9,7 @@ ghost use Rattle.krb_client.specs.Sealed.{IsNotSealed, IsSealedPart, encrypted, 
 ghost use Rattle.krb_client.specs.declared.requests.error.RequestError.TheVariants as errors;
 
 use crate::requests::error::RequestError;
-use crate::requests::fields::{encoding, integer_of};
+use crate::requests::fields::encoding;
 use crate::requests::key::LentKey;
 use krb_crypto::prepared::SealingKey;
 use krb_crypto::{Cipher, CipherSuite};
@@ -84,7 +84,7 @@ pub(crate) fn sealed<T: DerEncode>(
 {
     let payload = encoding(alloc, value)?;
     let cipher = sealed_octets(alloc, key, usage, confounder, &payload)?;
-    let etype = integer_of(alloc, u32::from(key.suite))?;
+    let etype = IntegerAsn1::from_u32(alloc, u32::from(key.suite));
     Ok(encrypted(etype, cipher))
 }
 

@@ -20,13 +20,6 @@ use krb_messages::messages::{ApReq, KdcReqBody, TgsReq};
 use krb_types::data_types::{PaData, Ticket};
 use std::alloc::Global;
 
-/// The error; the value is let go.
-fn refused<T: Drop>(_value: T, error: RequestError) -> RequestError
-    ensures { result ≡ error }
-{
-    error
-}
-
 /// PA-TGS-REQ (RFC 4120, 5.2.7.1) for a body of this encoding: the AP-REQ with its checksum.
 fn pa_tgs_req(
     alloc: Global,
@@ -72,7 +65,13 @@ pub fn tgs_request(
         (key_of session.now) sender.now confounder.now e)) }
 {
     let body = body(alloc, want, None)?;
-    let encoded = encoding(alloc, &body)?;
+    let encoded = match encoding(alloc, &body) {
+        Ok(encoded) => encoded,
+        Err(error) => {
+            drop(body);
+            return Err(error);
+        }
+    };
     match pa_tgs_req(
         alloc,
         ticket,
@@ -85,6 +84,9 @@ pub fn tgs_request(
             let octets = tgs_req_octets(alloc, Some(padata), body)?;
             Ok(octets)
         }
-        Err(error) => Err(refused(body, error)),
+        Err(error) => {
+            drop(body);
+            Err(error)
+        }
     }
 }

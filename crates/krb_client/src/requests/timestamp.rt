@@ -7,7 +7,7 @@ ghost use Rattle.krb_client.specs.Timestamps.{IsNoTimestamp, IsTimestamp, elemen
 ghost use Rattle.krb_client.specs.declared.requests.error.RequestError.TheVariants as errors;
 
 use crate::requests::error::RequestError;
-use crate::requests::fields::{encoding, field, integer_of, time_at};
+use crate::requests::fields::{encoding, field, time_at};
 use crate::requests::key::LentKey;
 use crate::requests::sealing::sealed;
 use krb_der::{
@@ -36,7 +36,7 @@ pub(crate) fn only(
     ensures { MatchResult result (λ list. list ≡ element_of (pos padata_type) octets.items ∷ [])
         (λ e. e ≡ errors.OutOfMemory) }
 {
-    let number = integer_of(alloc, padata_type)?;
+    let number = IntegerAsn1::from_u32(alloc, padata_type);
     let mut list = Vec::new(alloc);
     list.push(element_of(number, octets))?;
     Ok(Asn1SequenceOf(list))

@@ -14,11 +14,11 @@ ghost use Rattle.krb_file_tools.specs.declared.convert.error.ConvertError.TheVar
 use crate::convert::error::ConvertError;
 use crate::convert::field::{Converted, Field};
 use crate::convert::form::{Form, read};
-use crate::convert::message::{info_of, integer_of};
+use crate::convert::message::info_of;
 use crate::tickets::{is_configuration, is_ticket};
 use krb_der::{
     ApplicationTag, Asn1SequenceOf, Der, DerEncode, ExplicitContextTag0, ExplicitContextTag1,
-    ExplicitContextTag2, ExplicitContextTag3, OctetStringAsn1, Optional, to_vec,
+    ExplicitContextTag2, ExplicitContextTag3, IntegerAsn1, OctetStringAsn1, Optional, to_vec,
 };
 use krb_enc_parts::data_types::{EncKrbCredPart, EncKrbCredPartInner, KrbCredInfo};
 use krb_files::ccache::{CcachePrincipalView, CcacheView, CredentialView};
@@ -112,35 +112,31 @@ fn part_of(infos: Vec<KrbCredInfo>) -> EncKrbCredPart
 }
 
 /// Octets in the clear, in the place of a ciphertext (RFC 4120, 5.8.1).
-fn clear_of(alloc: Global, octets: Vec<u8>) -> Result<EncryptedData, AllocError>
-    ensures etype { IfOk result (λ d. d.etype ≡ pos 0) }
-    ensures no_kvno { IfOk result (λ d. d.kvno.0 ≡ None) }
-    ensures cipher { IfOk result (λ d. d.cipher ≡ octets.items) }
+fn clear_of(alloc: Global, octets: Vec<u8>) -> EncryptedData
+    ensures etype { result.etype ≡ pos 0 }
+    ensures no_kvno { result.kvno.0 ≡ None }
+    ensures cipher { result.cipher ≡ octets.items }
 {
-    Ok(EncryptedData {
-        etype: ExplicitContextTag0::from(integer_of(alloc, &[0])?),
+    EncryptedData {
+        etype: ExplicitContextTag0::from(IntegerAsn1::from_u32(alloc, 0)),
         kvno: Optional(None),
         cipher: ExplicitContextTag2::from(OctetStringAsn1(octets)),
-    })
+    }
 }
 
 /// The KRB-CRED of tickets and a part.
-fn message_of(
-    alloc: Global,
-    tickets: Vec<Ticket>,
-    enc_part: EncryptedData,
-) -> Result<KrbCred, AllocError>
-    ensures pvno { IfOk result (λ k. k.pvno ≡ pos 5) }
-    ensures msg_type { IfOk result (λ k. k.msg_type ≡ pos 22) }
-    ensures tickets { IfOk result (λ k. k.tickets ≡ tickets.items) }
-    ensures part { IfOk result (λ k. k.enc_part ≡ enc_part) }
+fn message_of(alloc: Global, tickets: Vec<Ticket>, enc_part: EncryptedData) -> KrbCred
+    ensures pvno { result.pvno ≡ pos 5 }
+    ensures msg_type { result.msg_type ≡ pos 22 }
+    ensures tickets { result.tickets ≡ tickets.items }
+    ensures part { result.enc_part ≡ enc_part }
 {
-    Ok(ApplicationTag(KrbCredInner {
-        pvno: ExplicitContextTag0::from(integer_of(alloc, &[5])?),
-        msg_type: ExplicitContextTag1::from(integer_of(alloc, &[22])?),
+    ApplicationTag(KrbCredInner {
+        pvno: ExplicitContextTag0::from(IntegerAsn1::from_u32(alloc, 5)),
+        msg_type: ExplicitContextTag1::from(IntegerAsn1::from_u32(alloc, 22)),
         tickets: ExplicitContextTag2::from(Asn1SequenceOf(tickets)),
         enc_part: ExplicitContextTag3::from(enc_part),
-    }))
+    })
 }
 
 /// The encoding of a value.
@@ -159,9 +155,13 @@ fn kirbi_of(alloc: Global, entries: Entries<Ticket>) -> Result<Vec<u8>, AllocErr
         × IsValue ⟦<KrbCred as DerEncode>⟧ v.items k) }
 {
     let part = part_of(entries.infos);
-    let clear = clear_of(alloc, octets_of(alloc, &part)?)?;
-    let message = message_of(alloc, entries.tickets, clear)?;
-    let octets = octets_of(alloc, &message)?;
+    let encoded = octets_of(alloc, &part);
+    drop(part);
+    let clear = clear_of(alloc, encoded?);
+    let message = message_of(alloc, entries.tickets, clear);
+    let written = octets_of(alloc, &message);
+    drop(message);
+    let octets = written?;
     Ok(octets)
 }
 

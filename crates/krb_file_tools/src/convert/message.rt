@@ -36,7 +36,7 @@ fn field<T, N>(value: Option<T>) -> Optional<Option<ExplicitContextTag<T, N>>>
 }
 
 /// The INTEGER whose two's complement a field's octets are.
-pub(crate) fn integer_of(alloc: Global, octets: &[u8]) -> Result<IntegerAsn1, AllocError>
+fn integer_of(alloc: Global, octets: &[u8]) -> Result<IntegerAsn1, AllocError>
     ensures { IfOk result (λ z. z ≡ whole_number octets.now) }
 {
     match IntegerAsn1::from_bytes_be_signed(alloc, Vec::from_slice(alloc, octets)?) {
@@ -241,13 +241,14 @@ pub(crate) fn info_of(
     ensures found { IfOk result (IsInfoOf credential.now) }
     ensures rejected { IfErr result (λ e. IsMemoryOr e (InfoError credential.now e)) }
 {
+    let typed = typed_of(alloc, credential.addresses())?;
+    let caddr = addresses_of(alloc, &typed)?;
+    drop(typed);
+    let session_key = key_of(alloc, credential.etype(), credential.key())?;
+    let bits = flags_of(alloc, credential.flags())?;
     let (prealm, pname) = name_of(alloc, credential.client())?;
     let (srealm, sname) = name_of(alloc, credential.server())?;
     let times = times_of(credential.times())?;
-    let typed = typed_of(alloc, credential.addresses())?;
-    let caddr = addresses_of(alloc, &typed)?;
-    let session_key = key_of(alloc, credential.etype(), credential.key())?;
-    let bits = flags_of(alloc, credential.flags())?;
     Ok(KrbCredInfo {
         key: ExplicitContextTag0::from(session_key),
         prealm: field(Some(prealm)),

@@ -14,23 +14,17 @@ returns-in_err-presented-clause-refused c =
     rw (p.1, p.2) (request_refused _ _ _ _ c.args.keys.now c.args.session_keys.now c.args.terms.now c.args.arrival.now c.args.settings.now c.args.token.now
     c.in_ok-octets.octets.now _ c.in_ok-octets.ensures.found c.in_err-presented.ensures.rejected)
 
-pub returns-in_err-told-clause-refused : goal.returns-in_err-told-clause-refused
-returns-in_err-told-clause-refused c =
-    let p = err_from_is_err_and c.from_residual-in_err-told.result c.from_residual-in_err-told.ensures.1 in
+pub returns-in-Err-clause-refused : goal.returns-in-Err-clause-refused
+returns-in-Err-clause-refused c =
     let presented = c.in_ok-presented.presented in
-    rw (p.1, p.2) (at_context c.in_ok-octets.octets.now c.in_ok-octets.ensures.found presented.key.now presented.entry presented.accepted
-    c.in_ok-presented.ensures.found c.in_err-told.ensures.refused)
+    at_context c.in_ok-octets.octets.now c.in_ok-octets.ensures.found presented.key.now presented.entry presented.accepted
+    c.in_ok-presented.ensures.found c.in-Err.ensures.refused
 
-pub returns-in_err-told-clause-found : goal.returns-in_err-told-clause-found
-returns-in_err-told-clause-found c =
-    let p = err_from_is_err_and c.from_residual-in_err-told.result c.from_residual-in_err-told.ensures.1 in
-    rw p.1 c.in_err-told.ensures.told
-
-pub returns-clause-found : goal.returns-clause-found
-returns-clause-found c = record {
+pub returns-in-Ok-clause-found : goal.returns-in-Ok-clause-found
+returns-in-Ok-clause-found c = record {
   octets = c.in_ok-octets.octets.now;
   is_request = c.in_ok-octets.ensures.found;
   presented = c.in_ok-presented.ensures.found;
-  pac = c.in_ok-told.ensures.pac;
-  told = c.in_ok-told.ensures.told;
+  pac = c.in-Ok.ensures.pac;
+  told = c.in-Ok.ensures.told;
 }

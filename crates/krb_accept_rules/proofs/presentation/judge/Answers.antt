@@ -15,8 +15,7 @@ returns-in_err-authenticator-clause-rejected g c =
     rw (p.1, p.2) (not_an_authenticator g.O.Opening c.args.terms.now c.args.arrival.now c.args.opened.now.request c.args.opened.now.ticket _
     c.in_ok-_session.ensures.kept c.in_err-authenticator.ensures.rejected)
 
-pub returns-in_err-remembered-clause-rejected : goal.returns-in_err-remembered-clause-rejected
-returns-in_err-remembered-clause-rejected g c =
-    let p = err_from_is_err_and c.from_residual-in_err-remembered.result c.from_residual-in_err-remembered.ensures.1 in
-    rw (p.1, p.2) (not_kept g.O.Opening c.args.terms.now c.args.arrival.now c.args.opened.now.request c.args.opened.now.ticket _
-    c.in_ok-authenticator.authenticator c.in_ok-_session.ensures.kept c.in_ok-authenticator.ensures.found c.in_err-remembered.ensures.broken)
+pub returns-in-Err-clause-rejected : goal.returns-in-Err-clause-rejected
+returns-in-Err-clause-rejected g c =
+    not_kept g.O.Opening c.args.terms.now c.args.arrival.now c.args.opened.now.request c.args.opened.now.ticket _
+    c.in_ok-authenticator.authenticator c.in_ok-_session.ensures.kept c.in_ok-authenticator.ensures.found c.in-Err.ensures.broken

@@ -6,11 +6,11 @@ use Rattle.krb_c_accept.proofs.answer.with_reply.Goals as goal
 
 pub returns : goal.returns
 returns c = record {
-  parts = c.in_ok-parts.parts;
-  are_parts = c.in_ok-parts.ensures;
-  octets_are = c.in_ok-places.ensures.appended ∙ ap (λ (before : List ℕ). joined before c.in_ok-parts.parts) c.new-octets.ensures.items;
+  parts = c.parts_of-parts.result;
+  are_parts = c.parts_of-parts.ensures;
+  octets_are = c.in_ok-places.ensures.appended ∙ ap (λ (before : List ℕ). joined before c.parts_of-parts.result) c.new-octets.ensures.items;
   places = subst (λ (places : Places). HasPlaces places c.told_record.result)
-      (c.in_ok-places.ensures.places ∙ ap (λ (before : List ℕ). places_behind before c.in_ok-parts.parts) c.new-octets.ensures.items)
+      (c.in_ok-places.ensures.places ∙ ap (λ (before : List ℕ). places_behind before c.parts_of-parts.result) c.new-octets.ensures.items)
       c.told_record.ensures.places;
   times = c.told_record.ensures.times;
   numbers = c.told_record.ensures.numbers;

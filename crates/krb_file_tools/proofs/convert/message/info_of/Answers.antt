@@ -10,7 +10,7 @@ use Rattle.krb_file_tools.proofs.convert.message.info_of.Goals as goal
 
 pub returns-in_err-prealm-clause-rejected : goal.returns-in_err-prealm-clause-rejected
 returns-in_err-prealm-clause-rejected c =
-    let p = err_from_is_err_and c.from_residual.result c.from_residual.ensures.1 in
+    let p = err_from_is_err_and c.from_residual-in_err-prealm.result c.from_residual-in_err-prealm.ensures.1 in
     rw (p.1, p.2) (client_broken c.args.credential.now c.client.result.now c.in_err-prealm.field-0.0 c.client.ensures c.in_err-prealm.ensures)
 
 pub returns-in_err-srealm-clause-rejected : goal.returns-in_err-srealm-clause-rejected
