@@ -75,20 +75,26 @@ fn part_of(
 ) -> Result<EncApRepPart, ReplyError>
     ensures { MatchResult result (λ part. part ≡ part_of accepted.now subkey sequence_number) (λ e. e ≡ errors.OutOfMemory) }
 {
-    let ctime = copy_of(alloc, &accepted.ctime)?;
-    let cusec = copy_of(alloc, &accepted.cusec)?;
-    Ok(ApplicationTag(EncApRepPartInner {
-        ctime: ctime.into(),
-        cusec: cusec.into(),
-        subkey: Optional(match subkey {
-            Some(subkey) => Some(subkey.into()),
-            None => None,
-        }),
-        seq_number: Optional(match sequence_number {
-            Some(number) => Some(number.into()),
-            None => None,
-        }),
-    }))
+    let ctime = accepted.ctime.clone();
+    match copy_of(alloc, &accepted.cusec) {
+        Ok(cusec) => Ok(ApplicationTag(EncApRepPartInner {
+            ctime: ctime.into(),
+            cusec: cusec.into(),
+            subkey: Optional(match subkey {
+                Some(subkey) => Some(subkey.into()),
+                None => None,
+            }),
+            seq_number: Optional(match sequence_number {
+                Some(number) => Some(number.into()),
+                None => None,
+            }),
+        })),
+        Err(error) => {
+            drop(subkey);
+            drop(sequence_number);
+            Err(error)
+        }
+    }
 }
 
 /// The message around the encrypted part.

@@ -150,7 +150,10 @@ pub fn admit_token(
             flags,
             delegated,
         }),
-        Err(refusal) => Err(TokenRefusal::Request(refusal)),
+        Err(refusal) => {
+            drop(delegated);
+            Err(TokenRefusal::Request(refusal))
+        }
     }
 }
 
