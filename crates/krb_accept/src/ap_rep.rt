@@ -23,7 +23,7 @@ use krb_enc_parts::data_types::{EncApRepPart, EncApRepPartInner};
 use krb_messages::messages::{ApRep, ApRepInner};
 use krb_registry::key_usages::AP_REP_ENC;
 use krb_registry::types::AP_REP_MSG_TYPE;
-use krb_types::data_types::{EncryptedData, EncryptionKey};
+use krb_types::data_types::{EncryptedData, EncryptionKey, KerberosTime, Microseconds};
 use std::alloc::{AllocError, Global};
 use std::fmt;
 
@@ -66,6 +66,15 @@ fn copy_of<T: Der + Drop>(alloc: Global, value: &T) -> Result<T, ReplyError>
     }
 }
 
+/// The client's time, and its microseconds.
+fn times_of(alloc: Global, accepted: &Accepted) -> Result<(KerberosTime, Microseconds), ReplyError>
+    ensures { MatchResult result (λ r. (r.0 ≡ accepted.now.ctime) × (r.1 ≡ accepted.now.cusec)) (λ e. e ≡ errors.OutOfMemory) }
+{
+    let ctime = copy_of(alloc, &accepted.ctime)?;
+    let cusec = copy_of(alloc, &accepted.cusec)?;
+    Ok((ctime, cusec))
+}
+
 /// The part that is encrypted: the client's time, and what the service chose.
 fn part_of(
     alloc: Global,
@@ -75,9 +84,8 @@ fn part_of(
 ) -> Result<EncApRepPart, ReplyError>
     ensures { MatchResult result (λ part. part ≡ part_of accepted.now subkey sequence_number) (λ e. e ≡ errors.OutOfMemory) }
 {
-    let ctime = accepted.ctime.clone();
-    match copy_of(alloc, &accepted.cusec) {
-        Ok(cusec) => Ok(ApplicationTag(EncApRepPartInner {
+    match times_of(alloc, accepted) {
+        Ok((ctime, cusec)) => Ok(ApplicationTag(EncApRepPartInner {
             ctime: ctime.into(),
             cusec: cusec.into(),
             subkey: Optional(match subkey {

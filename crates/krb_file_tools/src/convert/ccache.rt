@@ -139,11 +139,11 @@ fn message_of(alloc: Global, tickets: Vec<Ticket>, enc_part: EncryptedData) -> K
     })
 }
 
-/// The encoding of a value.
-fn octets_of<T: DerEncode>(alloc: Global, value: &T) -> Result<Vec<u8>, AllocError>
-    ensures { IfOk result (λ v. IsValue T.DerEncode v.items value.now) }
+/// The encoding of a value, which is let go.
+fn octets_of<T: DerEncode + Drop>(alloc: Global, value: T) -> Result<Vec<u8>, AllocError>
+    ensures { IfOk result (λ v. IsValue T.DerEncode v.items value) }
 {
-    match to_vec(alloc, value) {
+    match to_vec(alloc, &value) {
         Ok(octets) => Ok(octets),
         Err(_) => Err(AllocError),
     }
@@ -155,13 +155,9 @@ fn kirbi_of(alloc: Global, entries: Entries<Ticket>) -> Result<Vec<u8>, AllocErr
         × IsValue ⟦<KrbCred as DerEncode>⟧ v.items k) }
 {
     let part = part_of(entries.infos);
-    let encoded = octets_of(alloc, &part);
-    drop(part);
-    let clear = clear_of(alloc, encoded?);
+    let clear = clear_of(alloc, octets_of(alloc, part)?);
     let message = message_of(alloc, entries.tickets, clear);
-    let written = octets_of(alloc, &message);
-    drop(message);
-    let octets = written?;
+    let octets = octets_of(alloc, message)?;
     Ok(octets)
 }
 
