@@ -1,9 +1,9 @@
 -- What lists of values keep.
-use Rattle.std.proofs.Common.{ℕ, zero, suc, ◌<◌, ◌^◌, List, [], ◌∷◌, ℤ, arith}
+use Rattle.std.proofs.Common.{All, ℕ, zero, suc, ◌<◌, ◌^◌, List, [], ◌∷◌, ℤ, arith}
 use Rattle.std.specs.Prelude.{map, slice_index}
 use Rattle.std.specs.List.{AllByRecursion}
 use Rattle.krb_der_x509.specs.ObjectIdentifier.{IsArcs}
-use Rattle.krb_build.specs.Mechanisms.{arcs}
+use Rattle.krb_build.specs.Mechanisms.{arcs, every}
 use Rattle.krb_build.specs.declared.mechanisms.Mechanism.{Mechanism}
 use Rattle.krb_build.specs.declared.mechanisms.Mechanism.TheVariants.{Kerberos, UserToUser, MsKerberos, Ntlmssp, Negoex, Iakerb, Pku2u, Spnego}
 
@@ -29,3 +29,14 @@ are_arcs Spnego = record { some = omega arith; root = omega arith; second = λ h
 pub all_arcs : (mechanisms : List Mechanism) → AllByRecursion IsArcs (map arcs mechanisms)
 all_arcs [] = tt
 all_arcs (m ∷ ms) = (are_arcs m, all_arcs ms)
+
+-- what holds of each mechanism of the list holds of all mechanisms
+pub every_mechanism : (P : Mechanism → Type 0) → All P every → (m : Mechanism) → P m
+every_mechanism P h Kerberos = h 0 Kerberos (omega arith)
+every_mechanism P h UserToUser = h 1 Kerberos (omega arith)
+every_mechanism P h MsKerberos = h 2 Kerberos (omega arith)
+every_mechanism P h Ntlmssp = h 3 Kerberos (omega arith)
+every_mechanism P h Negoex = h 4 Kerberos (omega arith)
+every_mechanism P h Iakerb = h 5 Kerberos (omega arith)
+every_mechanism P h Pku2u = h 6 Kerberos (omega arith)
+every_mechanism P h Spnego = h 7 Kerberos (omega arith)

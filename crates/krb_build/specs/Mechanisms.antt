@@ -13,3 +13,7 @@ arcs Negoex = 1 ∷ 3 ∷ 6 ∷ 1 ∷ 4 ∷ 1 ∷ 311 ∷ 2 ∷ 2 ∷ 30 ∷ []
 arcs Iakerb = 1 ∷ 3 ∷ 6 ∷ 1 ∷ 5 ∷ 2 ∷ 5 ∷ []
 arcs Pku2u = 1 ∷ 3 ∷ 6 ∷ 1 ∷ 5 ∷ 2 ∷ 7 ∷ []
 arcs Spnego = 1 ∷ 3 ∷ 6 ∷ 1 ∷ 5 ∷ 5 ∷ 2 ∷ []
+
+-- all of them
+abbrev pub every : List Mechanism
+every = Kerberos ∷ UserToUser ∷ MsKerberos ∷ Ntlmssp ∷ Negoex ∷ Iakerb ∷ Pku2u ∷ Spnego ∷ []

@@ -21,6 +21,8 @@ IsTime seconds time = IsRealTime time × (unix_seconds time ≡ seconds)
 abbrev pub IsTimeAt : ℤ → ℕ → Time → ℤ → Type 0
 IsTimeAt seconds microseconds time number = IsTime seconds time × (microseconds ≤ 999999) × (number ≡ pos microseconds)
 
--- why there is no such time
+-- why there is no such time: the microseconds first
 abbrev pub IsTimeError : ℤ → ℕ → BuildError → Type 0
-IsTimeError seconds microseconds e = ((e ≡ errors.Microseconds) × (999999 < microseconds)) ⊎ ((e ≡ errors.Time) × IsNoTime seconds)
+IsTimeError seconds microseconds e =
+    ((e ≡ errors.Microseconds) × (999999 < microseconds))
+    ⊎ ((e ≡ errors.Time) × (microseconds ≤ 999999) × IsNoTime seconds)

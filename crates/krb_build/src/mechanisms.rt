@@ -3,7 +3,7 @@
 ghost use Rattle.std.specs.Prelude.{◌≡◌, ◌≢◌, List, map, IfOk, IfSome, IfNone};
 ghost use Rattle.std.specs.List.{AllByRecursion};
 ghost use Rattle.krb_der_x509.specs.ObjectIdentifier.{IsArcs};
-ghost use Rattle.krb_build.specs.Mechanisms.{arcs};
+ghost use Rattle.krb_build.specs.Mechanisms.{arcs, every};
 ghost use Rattle.krb_build.specs.declared.mechanisms.Mechanism.{Mechanism};
 
 use krb_der_x509::ObjectIdentifierAsn1;
@@ -28,6 +28,25 @@ pub enum Mechanism {
     Pku2u,
     /// SPNEGO, 1.3.6.1.5.5.2 (RFC 4178, 3).
     Spnego,
+}
+
+/// All mechanisms.
+static EVERY: [Mechanism; 8] = [
+    Mechanism::Kerberos,
+    Mechanism::UserToUser,
+    Mechanism::MsKerberos,
+    Mechanism::Ntlmssp,
+    Mechanism::Negoex,
+    Mechanism::Iakerb,
+    Mechanism::Pku2u,
+    Mechanism::Spnego,
+];
+
+/// All mechanisms.
+fn every() -> &'static [Mechanism]
+    ensures { result.now ≡ every }
+{
+    &EVERY
 }
 
 impl Mechanism {
@@ -62,17 +81,12 @@ impl Mechanism {
         ensures found { IfSome result (λ mechanism. identifier.now ≡ arcs mechanism) }
         ensures none { IfNone result ((mechanism : Mechanism) → identifier.now ≢ arcs mechanism) }
     {
-        match identifier.arcs() {
-            [1, 2, 840, 113_554, 1, 2, 2] => Some(Mechanism::Kerberos),
-            [1, 2, 840, 113_554, 1, 2, 2, 3] => Some(Mechanism::UserToUser),
-            [1, 2, 840, 48_018, 1, 2, 2] => Some(Mechanism::MsKerberos),
-            [1, 3, 6, 1, 4, 1, 311, 2, 2, 10] => Some(Mechanism::Ntlmssp),
-            [1, 3, 6, 1, 4, 1, 311, 2, 2, 30] => Some(Mechanism::Negoex),
-            [1, 3, 6, 1, 5, 2, 5] => Some(Mechanism::Iakerb),
-            [1, 3, 6, 1, 5, 2, 7] => Some(Mechanism::Pku2u),
-            [1, 3, 6, 1, 5, 5, 2] => Some(Mechanism::Spnego),
-            _ => None,
+        for mechanism in every() {
+            if mechanism.arcs() == identifier.arcs() {
+                return Some(*mechanism);
+            }
         }
+        None
     }
 }
 

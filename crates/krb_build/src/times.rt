@@ -33,7 +33,7 @@ pub fn time_of_unix_microseconds(
     microseconds: u32,
 ) -> Result<(KerberosTime, Microseconds), BuildError>
     ensures time { IfOk result (λ r. IsTimeAt seconds microseconds r.0 r.1) }
-    ensures rejected { IfErr result (λ e. IsTimeError seconds microseconds e) }
+    ensures rejected { IfErr result (IsTimeError seconds microseconds) }
 {
     if microseconds > MOST {
         return Err(BuildError::Microseconds);

@@ -47,7 +47,7 @@ pub fn krb_error(alloc: Global, parts: ErrorParts) -> Result<KrbError, BuildErro
     ensures about { IfOk result (λ m. (m.e_text.0 ≡ parts.text) × (m.e_data.0 ≡ parts.«data»)) }
     ensures no_client { IfOk result (λ m. (m.ctime.0 ≡ None) × (m.cusec.0 ≡ None) × (m.crealm.0 ≡ None) × (m.cname.0 ≡ None)) }
     ensures value { IfOk result ⟦<KrbError as DerEncode>⟧.is_value }
-    ensures rejected { IfErr result (λ e. IsTimeError parts.seconds parts.microseconds e) }
+    ensures rejected { IfErr result (IsTimeError parts.seconds parts.microseconds) }
 {
     parts.realm.is_ascii();
     known_name(&parts.sname);
