@@ -37,13 +37,14 @@ fn push_mic(token: Part, places: &mut Vec<Option<Place>>) -> Result<(), AllocErr
     if size < PER_MESSAGE_HEADER {
         return Ok(());
     }
-    places.push(Some(token.field(0, size)))?;
-    places.push(Some(token.field(0, 2)))?;
-    places.push(Some(token.field(2, 1)))?;
-    places.push(Some(token.field(8, 8)))?;
-    places.push(Some(token.field(PER_MESSAGE_HEADER, size - PER_MESSAGE_HEADER)))?;
-    places.push(Some(token.field(0, size)))?;
-    Ok(())
+    places.extend_from_slice(&[
+        Some(token.field(0, size)),
+        Some(token.field(0, 2)),
+        Some(token.field(2, 1)),
+        Some(token.field(8, 8)),
+        Some(token.field(PER_MESSAGE_HEADER, size - PER_MESSAGE_HEADER)),
+        Some(token.field(0, size)),
+    ])
 }
 
 /// Appends the places of the tokens of a Wrap token: TOK_ID, Flags, EC, RRC, SND_SEQ and the data
@@ -56,15 +57,16 @@ fn push_wrap(token: Part, places: &mut Vec<Option<Place>>) -> Result<(), AllocEr
     if size < PER_MESSAGE_HEADER {
         return Ok(());
     }
-    places.push(Some(token.field(0, size)))?;
-    places.push(Some(token.field(0, 2)))?;
-    places.push(Some(token.field(2, 1)))?;
-    places.push(Some(token.field(4, 2)))?;
-    places.push(Some(token.field(6, 2)))?;
-    places.push(Some(token.field(8, 8)))?;
-    places.push(Some(token.field(PER_MESSAGE_HEADER, size - PER_MESSAGE_HEADER)))?;
-    places.push(Some(token.field(0, size)))?;
-    Ok(())
+    places.extend_from_slice(&[
+        Some(token.field(0, size)),
+        Some(token.field(0, 2)),
+        Some(token.field(2, 1)),
+        Some(token.field(4, 2)),
+        Some(token.field(6, 2)),
+        Some(token.field(8, 8)),
+        Some(token.field(PER_MESSAGE_HEADER, size - PER_MESSAGE_HEADER)),
+        Some(token.field(0, size)),
+    ])
 }
 
 /// The name of the row of a message, which its tag tells (RFC 4120, 5.10); a KRB-TGT-REQ and a
@@ -167,11 +169,9 @@ fn push_kerberos(
     let Some(parts) = frame_parts(frame) else {
         return Ok(());
     };
-    places.push(Some(parts.content.place()))?;
-    places.push(Some(parts.mechanism.place()))?;
+    places.extend_from_slice(&[Some(parts.content.place()), Some(parts.mechanism.place())])?;
     push_behind_mechanism(alloc, parts.inner, places)?;
-    places.push(Some(parts.content.place()))?;
-    Ok(())
+    places.extend_from_slice(&[Some(parts.content.place())])
 }
 
 /// Whether octets of a negotiation are shown as more than octets, opened by `V`.
@@ -269,11 +269,9 @@ fn push_framed_negotiation(
     let Some(parts) = frame_parts(frame) else {
         return Ok(());
     };
-    places.push(Some(parts.content.place()))?;
-    places.push(Some(parts.mechanism.place()))?;
+    places.extend_from_slice(&[Some(parts.content.place()), Some(parts.mechanism.place())])?;
     push_negotiation(alloc, NEG_TOKEN_INIT, parts.inner, places)?;
-    places.push(Some(parts.content.place()))?;
-    Ok(())
+    places.extend_from_slice(&[Some(parts.content.place())])
 }
 
 /// Appends the places of the tokens of a token in a frame.

@@ -59,8 +59,13 @@ fn entry_of<T: Der + Drop>(
     ensures rejected { IfErr result (λ e. IsMemoryOr e (CredentialError T.DerEncode credential.now e)) }
 {
     let info = info_of(alloc, credential)?;
-    let ticket = read(alloc, Form::Ticket, credential.ticket())?;
-    Ok((ticket, info))
+    match read(alloc, Form::Ticket, credential.ticket()) {
+        Ok(ticket) => Ok((ticket, info)),
+        Err(error) => {
+            drop(info);
+            Err(error)
+        }
+    }
 }
 
 /// Whether there is no credential.
@@ -89,8 +94,8 @@ fn entries_of<T: Der + Drop>(
     let mut infos = Vec::new(alloc);
     for credential in credentials {
         let (ticket, info) = entry_of(alloc, credential)?;
-        tickets.push(ticket)?;
         infos.push(info)?;
+        tickets.push(ticket)?;
     }
     Ok(Entries { tickets, infos })
 }

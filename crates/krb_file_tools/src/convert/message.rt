@@ -5,7 +5,7 @@ ghost use Rattle.krb_der_core.specs.Integer.{whole_number};
 ghost use Rattle.krb_file_tools.specs.Answers.{Answers, IsMemoryOr};
 ghost use Rattle.krb_file_tools.specs.Kirbi.{each_of};
 ghost use Rattle.krb_file_tools.specs.Message.{AreTimesOf, HasNoTime, HasNoTimes, InfoError, IsInfoOf, IsTimeOf, addresses_of, flag_bits, host_address};
-ghost use Rattle.krb_file_tools.specs.Message.{integer_at, is_text, name_from, text_from};
+ghost use Rattle.krb_file_tools.specs.Message.{integer_at, is_text, name_from, names_from, text_from};
 ghost use Rattle.krb_file_tools.specs.declared.convert.error.ConvertError.TheVariants as errors;
 
 use crate::convert::error::ConvertError;
@@ -233,6 +233,56 @@ fn times_of<A, B, C, D>(times: Times) -> Result<TimeFields<A, B, C, D>, ConvertE
     })
 }
 
+/// The realm and the name of a client and of a server.
+#[derive(Drop)]
+struct Names {
+    client: (Realm, PrincipalName),
+    server: (Realm, PrincipalName),
+}
+
+/// The names of the client and the server of a credential. `Name` where an octet of them is past 127.
+fn names_of(alloc: Global, credential: &CredentialView) -> Result<Names, ConvertError>
+    ensures { Answers (λ n. (n.client, n.server)) result (names_from credential.now) }
+{
+    let client = name_of(alloc, credential.client())?;
+    match name_of(alloc, credential.server()) {
+        Ok(server) => Ok(Names { client, server }),
+        Err(error) => {
+            drop(client);
+            Err(error)
+        }
+    }
+}
+
+/// The addresses of the ticket of a credential, absent where there are none.
+fn caddr_of(alloc: Global, credential: &CredentialView) -> Result<Option<HostAddresses>, AllocError>
+    ensures { IfOk result (λ a. a ≡ addresses_of credential.now.addresses) }
+{
+    let typed = typed_of(alloc, credential.addresses())?;
+    addresses_of(alloc, &typed)
+}
+
+/// What goes along with a ticket beside names and times.
+#[derive(Drop)]
+struct Rest {
+    key: EncryptionKey,
+    flags: KerberosFlags,
+    caddr: Option<HostAddresses>,
+}
+
+/// What goes along with the ticket of a credential beside names and times.
+fn rest_of(alloc: Global, credential: &CredentialView) -> Result<Rest, AllocError>
+    ensures keytype { IfOk result (λ r. r.key.key_type ≡ integer_at 2 credential.now.etype) }
+    ensures keyvalue { IfOk result (λ r. r.key.key_value ≡ credential.now.key) }
+    ensures flags { IfOk result (λ r. r.flags ≡ flag_bits credential.now.flags) }
+    ensures caddr { IfOk result (λ r. r.caddr ≡ addresses_of credential.now.addresses) }
+{
+    let key = key_of(alloc, credential.etype(), credential.key())?;
+    let flags = flags_of(alloc, credential.flags())?;
+    let caddr = caddr_of(alloc, credential)?;
+    Ok(Rest { key, flags, caddr })
+}
+
 /// What goes along with the ticket of a credential. The first rule that is broken: `Name` of the client or the server, `Time`.
 pub(crate) fn info_of(
     alloc: Global,
@@ -241,25 +291,29 @@ pub(crate) fn info_of(
     ensures found { IfOk result (IsInfoOf credential.now) }
     ensures rejected { IfErr result (λ e. IsMemoryOr e (InfoError credential.now e)) }
 {
-    let typed = typed_of(alloc, credential.addresses())?;
-    let caddr = addresses_of(alloc, &typed)?;
-    drop(typed);
-    let session_key = key_of(alloc, credential.etype(), credential.key())?;
-    let bits = flags_of(alloc, credential.flags())?;
-    let (prealm, pname) = name_of(alloc, credential.client())?;
-    let (srealm, sname) = name_of(alloc, credential.server())?;
-    let times = times_of(credential.times())?;
-    Ok(KrbCredInfo {
-        key: ExplicitContextTag0::from(session_key),
-        prealm: field(Some(prealm)),
-        pname: field(Some(pname)),
-        flags: field(Some(bits)),
-        auth_time: times.auth_time,
-        start_time: times.start_time,
-        end_time: times.end_time,
-        renew_till: times.renew_till,
-        srealm: field(Some(srealm)),
-        sname: field(Some(sname)),
-        caddr: field(caddr),
-    })
+    let names = names_of(alloc, credential)?;
+    let Ok(rest) = rest_of(alloc, credential) else {
+        drop(names);
+        return Err(ConvertError::OutOfMemory);
+    };
+    match times_of(credential.times()) {
+        Ok(times) => Ok(KrbCredInfo {
+            key: ExplicitContextTag0::from(rest.key),
+            prealm: field(Some(names.client.0)),
+            pname: field(Some(names.client.1)),
+            flags: field(Some(rest.flags)),
+            auth_time: times.auth_time,
+            start_time: times.start_time,
+            end_time: times.end_time,
+            renew_till: times.renew_till,
+            srealm: field(Some(names.server.0)),
+            sname: field(Some(names.server.1)),
+            caddr: field(rest.caddr),
+        }),
+        Err(error) => {
+            drop(names);
+            drop(rest);
+            Err(error)
+        }
+    }
 }

@@ -9,8 +9,6 @@ returns-in_err-info-clause-rejected g c =
     let p = err_from_is_err_and c.from_residual.result c.from_residual.ensures.1 in
     rw (p.1, p.2) (or_memory c.in_err-info.field-0.0 (no_info c.in_err-info.field-0.0) c.in_err-info.ensures.rejected)
 
-pub returns-in_err-ticket-clause-rejected : goal.returns-in_err-ticket-clause-rejected
-returns-in_err-ticket-clause-rejected g c =
-    let p = err_from_is_err_and c.from_residual-in_err-ticket.result c.from_residual-in_err-ticket.ensures.1 in
-    rw (p.1, p.2)
-    (ticket_broken g.T.DerEncode c.args.credential.now c.in_ok-info.info c.ticket.result.now c.in_err-ticket.field-0.0 c.ticket.ensures c.in_ok-info.ensures.found c.in_err-ticket.ensures.rejected)
+pub returns-in-Err-clause-rejected : goal.returns-in-Err-clause-rejected
+returns-in-Err-clause-rejected g c =
+    ticket_broken g.T.DerEncode c.args.credential.now c.in_ok-info.info c.ticket.result.now c.in-Err.error c.ticket.ensures c.in_ok-info.ensures.found c.in-Err.ensures.rejected
