@@ -3,3 +3,4 @@ mod KeytabParts
 mod Texts
 pub mod EveryKind
 pub mod EveryCertificateKind
+mod Tellings

@@ -6,3 +6,5 @@ pub mod Files
 pub mod CcachePlaces
 pub mod KeytabPlaces
 pub mod KeytabParts
+pub mod CertificatesTold
+pub mod DataTold

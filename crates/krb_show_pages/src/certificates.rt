@@ -1,6 +1,9 @@
 //! Pages of values of PKINIT and of CredSSP.
 
-ghost use Rattle.std.specs.Prelude.{◌≡◌, codes};
+ghost use Rattle.std.specs.Prelude.{◌≡◌, Vec, codes};
+ghost use Rattle.std.specs.declared.alloc.Global.{Global};
+ghost use Rattle.krb_show.specs.Tokens.{Token};
+ghost use Rattle.krb_show_pages.specs.CertificatesTold.{Tellings, told};
 ghost use Rattle.krb_show_pages.specs.Choices.{IsReplyTold, alternative_of, is_pack};
 ghost use Rattle.krb_show_messages.specs.Shown.{IsToldByRow};
 ghost use Rattle.krb_show_pages.specs.declared.certificate_kinds.CertificateKind.TheVariants as kinds;
@@ -65,51 +68,43 @@ fn page_of_reply(alloc: Global, octets: &[u8]) -> Result<Page, Asn1DerError>
     Ok(page)
 }
 
-/// The page of a value of this type of PKINIT (RFC 4556) or of CredSSP (MS-CSSP), under the name that the standard gives the type. What is no
-/// encoding of a value of the type is refused as by `from_bytes`: with its first error, from the left. `Io` is never returned.
-pub fn page_of_certificate_data(
-    alloc: Global,
-    kind: CertificateKind,
-    octets: &[u8],
-) -> Result<Page, Asn1DerError>
-    ensures pa_pk_as_req { kind ≡ kinds.PaPkAsReq
-        → IsToldByRow ⟦<PaPkAsReq as DerEncode>⟧ (codes "PA-PK-AS-REQ") (codes "PA-PK-AS-REQ") (λ p. p.items) octets.now result }
-    ensures pa_pk_as_rep { kind ≡ kinds.PaPkAsRep
-        → IsReplyTold ⟦<PaPkAsRep as DerEncode>⟧ (λ p. p.items) octets.now result }
-    ensures dh_auth_pack { kind ≡ kinds.DhAuthPack
-        → IsToldByRow ⟦<DhAuthPack as DerEncode>⟧ (codes "DHAuthPack") (codes "AuthPack") (λ p. p.items) octets.now result }
-    ensures ec_auth_pack { kind ≡ kinds.EcAuthPack
-        → IsToldByRow ⟦<EcAuthPack as DerEncode>⟧ (codes "ECAuthPack") (codes "AuthPack") (λ p. p.items) octets.now result }
-    ensures pk_authenticator { kind ≡ kinds.PkAuthenticator
-        → IsToldByRow ⟦<PkAuthenticator as DerEncode>⟧ (codes "PKAuthenticator") (codes "PKAuthenticator") (λ p. p.items) octets.now result }
-    ensures external_principal_identifier { kind ≡ kinds.ExternalPrincipalIdentifier
-        → IsToldByRow ⟦<ExternalPrincipalIdentifier as DerEncode>⟧ (codes "ExternalPrincipalIdentifier") (codes "ExternalPrincipalIdentifier") (λ p. p.items) octets.now result }
-    ensures dh_rep_info { kind ≡ kinds.DhRepInfo
-        → IsToldByRow ⟦<DhRepInfo as DerEncode>⟧ (codes "DHRepInfo") (codes "DHRepInfo") (λ p. p.items) octets.now result }
-    ensures kdc_dh_key_info { kind ≡ kinds.KdcDhKeyInfo
-        → IsToldByRow ⟦<KdcDhKeyInfo as DerEncode>⟧ (codes "KDCDHKeyInfo") (codes "KDCDHKeyInfo") (λ p. p.items) octets.now result }
-    ensures algorithm_identifier { kind ≡ kinds.AlgorithmIdentifier
-        → IsToldByRow ⟦<AlgorithmIdentifier as DerEncode>⟧ (codes "AlgorithmIdentifier") (codes "AlgorithmIdentifier") (λ p. p.items) octets.now result }
-    ensures subject_public_key_info { kind ≡ kinds.SubjectPublicKeyInfo
-        → IsToldByRow ⟦<SubjectPublicKeyInfo as DerEncode>⟧ (codes "SubjectPublicKeyInfo") (codes "SubjectPublicKeyInfo") (λ p. p.items) octets.now result }
-    ensures dh_req_info { kind ≡ kinds.DhReqInfo
-        → IsToldByRow ⟦<DhReqInfo as DerEncode>⟧ (codes "DHSubjectPublicKeyInfo") (codes "SubjectPublicKeyInfo") (λ p. p.items) octets.now result }
-    ensures dh_domain_parameters { kind ≡ kinds.DhDomainParameters
-        → IsToldByRow ⟦<DhDomainParameters as DerEncode>⟧ (codes "DomainParameters") (codes "DomainParameters") (λ p. p.items) octets.now result }
-    ensures validation_params { kind ≡ kinds.ValidationParams
-        → IsToldByRow ⟦<ValidationParams as DerEncode>⟧ (codes "ValidationParms") (codes "ValidationParms") (λ p. p.items) octets.now result }
-    ensures ts_credentials { kind ≡ kinds.TsCredentials
-        → IsToldByRow ⟦<TsCredentials as DerEncode>⟧ (codes "TSCredentials") (codes "TSCredentials") (λ p. p.items) octets.now result }
-    ensures ts_password_creds { kind ≡ kinds.TsPasswordCreds
-        → IsToldByRow ⟦<TsPasswordCreds as DerEncode>⟧ (codes "TSPasswordCreds") (codes "TSPasswordCreds") (λ p. p.items) octets.now result }
-    ensures ts_smart_card_creds { kind ≡ kinds.TsSmartCardCreds
-        → IsToldByRow ⟦<TsSmartCardCreds as DerEncode>⟧ (codes "TSSmartCardCreds") (codes "TSSmartCardCreds") (λ p. p.items) octets.now result }
-    ensures ts_csp_data_detail { kind ≡ kinds.TsCspDataDetail
-        → IsToldByRow ⟦<TsCspDataDetail as DerEncode>⟧ (codes "TSCspDataDetail") (codes "TSCspDataDetail") (λ p. p.items) octets.now result }
-    ensures ts_remote_guard_creds { kind ≡ kinds.TsRemoteGuardCreds
-        → IsToldByRow ⟦<TsRemoteGuardCreds as DerEncode>⟧ (codes "TSRemoteGuardCreds") (codes "TSRemoteGuardCreds") (λ p. p.items) octets.now result }
-    ensures ts_remote_guard_package_cred { kind ≡ kinds.TsRemoteGuardPackageCred
-        → IsToldByRow ⟦<TsRemoteGuardPackageCred as DerEncode>⟧ (codes "TSRemoteGuardPackageCred") (codes "TSRemoteGuardPackageCred") (λ p. p.items) octets.now result }
+/// How octets of each type are told.
+trait Tells {
+    /// What is answered of octets of each type.
+    ghost tellings: { Tellings (Vec Token Global) };
+}
+
+/// The types of PKINIT and of CredSSP.
+#[derive(Drop)]
+struct Certificates;
+
+impl Tells for Certificates {
+    ghost tellings = { record {
+      pa_pk_as_req = IsToldByRow ⟦<PaPkAsReq as DerEncode>⟧ (codes "PA-PK-AS-REQ") (codes "PA-PK-AS-REQ") (λ p. p.items);
+      pa_pk_as_rep = IsReplyTold ⟦<PaPkAsRep as DerEncode>⟧ (λ p. p.items);
+      dh_auth_pack = IsToldByRow ⟦<DhAuthPack as DerEncode>⟧ (codes "DHAuthPack") (codes "AuthPack") (λ p. p.items);
+      ec_auth_pack = IsToldByRow ⟦<EcAuthPack as DerEncode>⟧ (codes "ECAuthPack") (codes "AuthPack") (λ p. p.items);
+      pk_authenticator = IsToldByRow ⟦<PkAuthenticator as DerEncode>⟧ (codes "PKAuthenticator") (codes "PKAuthenticator") (λ p. p.items);
+      external_principal_identifier = IsToldByRow ⟦<ExternalPrincipalIdentifier as DerEncode>⟧ (codes "ExternalPrincipalIdentifier") (codes "ExternalPrincipalIdentifier") (λ p. p.items);
+      dh_rep_info = IsToldByRow ⟦<DhRepInfo as DerEncode>⟧ (codes "DHRepInfo") (codes "DHRepInfo") (λ p. p.items);
+      kdc_dh_key_info = IsToldByRow ⟦<KdcDhKeyInfo as DerEncode>⟧ (codes "KDCDHKeyInfo") (codes "KDCDHKeyInfo") (λ p. p.items);
+      algorithm_identifier = IsToldByRow ⟦<AlgorithmIdentifier as DerEncode>⟧ (codes "AlgorithmIdentifier") (codes "AlgorithmIdentifier") (λ p. p.items);
+      subject_public_key_info = IsToldByRow ⟦<SubjectPublicKeyInfo as DerEncode>⟧ (codes "SubjectPublicKeyInfo") (codes "SubjectPublicKeyInfo") (λ p. p.items);
+      dh_req_info = IsToldByRow ⟦<DhReqInfo as DerEncode>⟧ (codes "DHSubjectPublicKeyInfo") (codes "SubjectPublicKeyInfo") (λ p. p.items);
+      dh_domain_parameters = IsToldByRow ⟦<DhDomainParameters as DerEncode>⟧ (codes "DomainParameters") (codes "DomainParameters") (λ p. p.items);
+      validation_params = IsToldByRow ⟦<ValidationParams as DerEncode>⟧ (codes "ValidationParms") (codes "ValidationParms") (λ p. p.items);
+      ts_credentials = IsToldByRow ⟦<TsCredentials as DerEncode>⟧ (codes "TSCredentials") (codes "TSCredentials") (λ p. p.items);
+      ts_password_creds = IsToldByRow ⟦<TsPasswordCreds as DerEncode>⟧ (codes "TSPasswordCreds") (codes "TSPasswordCreds") (λ p. p.items);
+      ts_smart_card_creds = IsToldByRow ⟦<TsSmartCardCreds as DerEncode>⟧ (codes "TSSmartCardCreds") (codes "TSSmartCardCreds") (λ p. p.items);
+      ts_csp_data_detail = IsToldByRow ⟦<TsCspDataDetail as DerEncode>⟧ (codes "TSCspDataDetail") (codes "TSCspDataDetail") (λ p. p.items);
+      ts_remote_guard_creds = IsToldByRow ⟦<TsRemoteGuardCreds as DerEncode>⟧ (codes "TSRemoteGuardCreds") (codes "TSRemoteGuardCreds") (λ p. p.items);
+      ts_remote_guard_package_cred = IsToldByRow ⟦<TsRemoteGuardPackageCred as DerEncode>⟧ (codes "TSRemoteGuardPackageCred") (codes "TSRemoteGuardPackageCred") (λ p. p.items);
+    } };
+}
+
+/// The page of a value of this type, by the type's own reader.
+fn page_of_kind(alloc: Global, kind: CertificateKind, octets: &[u8]) -> Result<Page, Asn1DerError>
+    ensures { told ⟦<Certificates as Tells>⟧.tellings kind octets.now result }
 {
     match kind {
         CertificateKind::PaPkAsReq => page_as::<PaPkAsReq>(alloc, "PA-PK-AS-REQ", octets),
@@ -176,4 +171,53 @@ pub fn page_of_certificate_data(
             octets,
         ),
     }
+}
+
+/// The page of a value of this type of PKINIT (RFC 4556) or of CredSSP (MS-CSSP), under the name that the standard gives the type. What is no
+/// encoding of a value of the type is refused as by `from_bytes`: with its first error, from the left. `Io` is never returned.
+pub fn page_of_certificate_data(
+    alloc: Global,
+    kind: CertificateKind,
+    octets: &[u8],
+) -> Result<Page, Asn1DerError>
+    ensures pa_pk_as_req { kind ≡ kinds.PaPkAsReq
+        → IsToldByRow ⟦<PaPkAsReq as DerEncode>⟧ (codes "PA-PK-AS-REQ") (codes "PA-PK-AS-REQ") (λ p. p.items) octets.now result }
+    ensures pa_pk_as_rep { kind ≡ kinds.PaPkAsRep
+        → IsReplyTold ⟦<PaPkAsRep as DerEncode>⟧ (λ p. p.items) octets.now result }
+    ensures dh_auth_pack { kind ≡ kinds.DhAuthPack
+        → IsToldByRow ⟦<DhAuthPack as DerEncode>⟧ (codes "DHAuthPack") (codes "AuthPack") (λ p. p.items) octets.now result }
+    ensures ec_auth_pack { kind ≡ kinds.EcAuthPack
+        → IsToldByRow ⟦<EcAuthPack as DerEncode>⟧ (codes "ECAuthPack") (codes "AuthPack") (λ p. p.items) octets.now result }
+    ensures pk_authenticator { kind ≡ kinds.PkAuthenticator
+        → IsToldByRow ⟦<PkAuthenticator as DerEncode>⟧ (codes "PKAuthenticator") (codes "PKAuthenticator") (λ p. p.items) octets.now result }
+    ensures external_principal_identifier { kind ≡ kinds.ExternalPrincipalIdentifier
+        → IsToldByRow ⟦<ExternalPrincipalIdentifier as DerEncode>⟧ (codes "ExternalPrincipalIdentifier") (codes "ExternalPrincipalIdentifier") (λ p. p.items) octets.now result }
+    ensures dh_rep_info { kind ≡ kinds.DhRepInfo
+        → IsToldByRow ⟦<DhRepInfo as DerEncode>⟧ (codes "DHRepInfo") (codes "DHRepInfo") (λ p. p.items) octets.now result }
+    ensures kdc_dh_key_info { kind ≡ kinds.KdcDhKeyInfo
+        → IsToldByRow ⟦<KdcDhKeyInfo as DerEncode>⟧ (codes "KDCDHKeyInfo") (codes "KDCDHKeyInfo") (λ p. p.items) octets.now result }
+    ensures algorithm_identifier { kind ≡ kinds.AlgorithmIdentifier
+        → IsToldByRow ⟦<AlgorithmIdentifier as DerEncode>⟧ (codes "AlgorithmIdentifier") (codes "AlgorithmIdentifier") (λ p. p.items) octets.now result }
+    ensures subject_public_key_info { kind ≡ kinds.SubjectPublicKeyInfo
+        → IsToldByRow ⟦<SubjectPublicKeyInfo as DerEncode>⟧ (codes "SubjectPublicKeyInfo") (codes "SubjectPublicKeyInfo") (λ p. p.items) octets.now result }
+    ensures dh_req_info { kind ≡ kinds.DhReqInfo
+        → IsToldByRow ⟦<DhReqInfo as DerEncode>⟧ (codes "DHSubjectPublicKeyInfo") (codes "SubjectPublicKeyInfo") (λ p. p.items) octets.now result }
+    ensures dh_domain_parameters { kind ≡ kinds.DhDomainParameters
+        → IsToldByRow ⟦<DhDomainParameters as DerEncode>⟧ (codes "DomainParameters") (codes "DomainParameters") (λ p. p.items) octets.now result }
+    ensures validation_params { kind ≡ kinds.ValidationParams
+        → IsToldByRow ⟦<ValidationParams as DerEncode>⟧ (codes "ValidationParms") (codes "ValidationParms") (λ p. p.items) octets.now result }
+    ensures ts_credentials { kind ≡ kinds.TsCredentials
+        → IsToldByRow ⟦<TsCredentials as DerEncode>⟧ (codes "TSCredentials") (codes "TSCredentials") (λ p. p.items) octets.now result }
+    ensures ts_password_creds { kind ≡ kinds.TsPasswordCreds
+        → IsToldByRow ⟦<TsPasswordCreds as DerEncode>⟧ (codes "TSPasswordCreds") (codes "TSPasswordCreds") (λ p. p.items) octets.now result }
+    ensures ts_smart_card_creds { kind ≡ kinds.TsSmartCardCreds
+        → IsToldByRow ⟦<TsSmartCardCreds as DerEncode>⟧ (codes "TSSmartCardCreds") (codes "TSSmartCardCreds") (λ p. p.items) octets.now result }
+    ensures ts_csp_data_detail { kind ≡ kinds.TsCspDataDetail
+        → IsToldByRow ⟦<TsCspDataDetail as DerEncode>⟧ (codes "TSCspDataDetail") (codes "TSCspDataDetail") (λ p. p.items) octets.now result }
+    ensures ts_remote_guard_creds { kind ≡ kinds.TsRemoteGuardCreds
+        → IsToldByRow ⟦<TsRemoteGuardCreds as DerEncode>⟧ (codes "TSRemoteGuardCreds") (codes "TSRemoteGuardCreds") (λ p. p.items) octets.now result }
+    ensures ts_remote_guard_package_cred { kind ≡ kinds.TsRemoteGuardPackageCred
+        → IsToldByRow ⟦<TsRemoteGuardPackageCred as DerEncode>⟧ (codes "TSRemoteGuardPackageCred") (codes "TSRemoteGuardPackageCred") (λ p. p.items) octets.now result }
+{
+    page_of_kind(alloc, kind, octets)
 }
