@@ -4,3 +4,4 @@ mod Texts
 pub mod EveryKind
 pub mod EveryCertificateKind
 mod Tellings
+mod FirstOctets

@@ -8,3 +8,4 @@ pub mod KeytabPlaces
 pub mod KeytabParts
 pub mod CertificatesTold
 pub mod DataTold
+pub mod MessagesTold
