@@ -1,6 +1,7 @@
 mod Checks
 mod Closed
 mod Refusals
+mod Later
 pub mod Firsts
 pub mod SameKeys
 pub mod Running

@@ -18,6 +18,7 @@ use Rattle.krb_types.specs.declared.data_types.tickets.TicketInner.{TicketInner}
 use Rattle.krb_client.specs.Errors.{IsTimeError}
 use Rattle.krb_client.specs.Sealed.{IsNotSealed, IsSealedPart, IsSized, SuiteKey, checksum_value, key_of, key_value}
 use Rattle.krb_client.specs.declared.requests.application.GssChecksum.{GssChecksum}
+use Rattle.krb_client.specs.declared.requests.authenticator.Fields.{Fields}
 use Rattle.krb_client.specs.declared.requests.authenticator.Sender.{Sender}
 use Rattle.krb_client.specs.declared.requests.error.RequestError.{RequestError}
 use Rattle.krb_client.specs.declared.requests.error.RequestError.TheVariants as errors
@@ -55,6 +56,14 @@ authenticator_of crealm cname cksum cusec ctime subkey seq_number = record {
   seq_number = record { 0 = seq_number };
   authorization_data = record { 0 = None };
 }
+
+-- the fields of this client's authenticators that take memory or may be refused
+pub record AreSenderFields (s : Sender) (f : Fields) : Type 0 where
+  pub is_time : IsTimeAt s.seconds s.microseconds f.ctime f.cusec
+  pub key_size : IsSizedOption s.subkey
+  pub subkey_is : f.subkey ≡ optional_key s.subkey
+  pub crealm_is : f.crealm ≡ s.crealm.now
+  pub cname_is : f.cname ≡ s.cname.now
 
 -- the authenticator of this client at this time, with its subkey and number and this checksum
 pub record IsAuthenticator (s : Sender) (cksum : Option Checksum) (a : AuthenticatorInner) : Type 0 where

@@ -10,6 +10,9 @@ use Rattle.krb_messages.specs.declared.messages.requests.KdcReq.{KdcReq}
 use Rattle.krb_messages.specs.declared.messages.requests.KdcReqBody.{KdcReqBody}
 use Rattle.krb_types.specs.declared.data_types.names.PrincipalName.{PrincipalName}
 use Rattle.krb_types.specs.declared.data_types.pre_authentication.PaData.{PaData}
+use Rattle.krb_client.specs.declared.requests.body.Copies.{Copies}
+use Rattle.krb_client.specs.declared.requests.body.Fields.{Fields}
+use Rattle.krb_client.specs.declared.requests.body.Times.{Times}
 use Rattle.krb_client.specs.declared.requests.body.Want.{Want}
 use Rattle.krb_client.specs.declared.requests.error.RequestError.{RequestError}
 use Rattle.krb_client.specs.declared.requests.error.RequestError.TheVariants as errors
@@ -75,13 +78,24 @@ body_of options cname realm sname from till rtime nonce etypes = record {
 abbrev pub request_of : ℤ → ℤ → Option (List PaData) → KdcReqBody → KdcReq
 request_of pvno msg_type padata body = record { pvno = pvno; msg_type = msg_type; padata = record { 0 = padata }; req_body = body }
 
--- the nonce is below 2^31, and options and times are those that are wanted
-pub record AreFields (w : Wanted) (options : Bits) (from : Option Time) (till : Time) (rtime : Option Time) : Type 0 where
+-- the times that are wanted
+pub record AreTimes (w : Wanted) (t : Times) : Type 0 where
+  pub is_from : IsTimeOption w.from t.from
+  pub is_till : IsTime w.till t.till
+  pub is_rtime : IsTimeOption w.rtime t.rtime
+
+-- the names and the encryption types that are wanted
+pub record AreCopies (w : Wanted) (c : Copies) : Type 0 where
+  pub realm_is : c.realm ≡ w.realm
+  pub sname_is : c.sname ≡ w.sname
+  pub etypes_are : c.etypes.items ≡ w.etypes
+
+-- the nonce is below 2^31, and the fields are those that are wanted
+pub record AreFields (w : Wanted) (f : Fields) : Type 0 where
   pub small : w.nonce < 2 ^ 31
-  pub are_options : AreFlags w.options options
-  pub is_from : IsTimeOption w.from from
-  pub is_till : IsTime w.till till
-  pub is_rtime : IsTimeOption w.rtime rtime
+  pub are_options : AreFlags w.options f.options
+  pub are_times : AreTimes w f.times
+  pub are_copies : AreCopies w f.copies
 
 -- The body asks for what is wanted and for nothing else; it names this client, or none.
 pub record IsBody (w : Wanted) (cname : Option PrincipalName) (b : KdcReqBody) : Type 0 where

@@ -105,6 +105,7 @@ fn answer_to_error(
 {
     let reported = read_error(alloc, octets)?;
     let change = change_for(alloc, terms, exchange, secret, moment, &reported)?;
+    drop(reported);
     let request = next_request(alloc, terms, exchange, &change, moment)?;
     Ok((change, request))
 }

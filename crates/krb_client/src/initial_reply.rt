@@ -79,14 +79,10 @@ pub(crate) fn granted(
         (RefusesReply ⟦<Rfc4120 as Encodings>⟧.initial terms.now exchange.now secret.now moment.now octets.now) }
 {
     match &exchange.key {
-        Some(key) => {
-            let found = checked(alloc, terms, exchange, key, moment, octets)?;
-            Ok(found)
-        }
+        Some(key) => checked(alloc, terms, exchange, key, moment, octets),
         None => {
             let key = key_of_reply(alloc, &exchange.asked, secret, &terms.limits, octets)?;
-            let found = checked(alloc, terms, exchange, &key, moment, octets)?;
-            Ok(found)
+            checked(alloc, terms, exchange, &key, moment, octets)
         }
     }
 }

@@ -107,9 +107,12 @@ fn answer_to_error(
 {
     let reported = read_error(alloc, octets)?;
     if !needs_time(&reported, &exchange.offset) {
-        return Err(ClientError::Kdc(reported.code));
+        let code = reported.code;
+        drop(reported);
+        return Err(ClientError::Kdc(code));
     }
     let offset = offset_of(&reported, moment);
+    drop(reported);
     let (asked, subkey) = (&exchange.asked, &exchange.subkey);
     let request = service_request(alloc, terms, by, asked, subkey, &offset, moment)?;
     Ok((offset, request))

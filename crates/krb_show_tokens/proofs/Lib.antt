@@ -1,3 +1,4 @@
 mod KpasswdFrames
 mod OneFrame
+mod OneKind
 mod OneMessage

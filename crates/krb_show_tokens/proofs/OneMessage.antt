@@ -4,17 +4,23 @@ use Rattle.std.proofs.lemmas.Bool.{eqb-true, true≢false}
 use Rattle.std.proofs.lemmas.Fmt.{decimal_digit}
 use Rattle.std.proofs.lemmas.List.{append-nil}
 use Rattle.std.specs.Cmp.Lexicographic.{bytes_decides, pointwise}
-use Rattle.std.specs.Prelude.{MatchOption, nat_eq, not}
+use Rattle.std.specs.Prelude.{MatchOption, Result, Vec, nat_eq, not}
+use Rattle.std.specs.declared.alloc.Global.{Global}
 use Rattle.krb_der_core.specs.Tlv.{len, tlv}
 use Rattle.krb_der_core.specs.TlvLaws.{same_heads, tlv_apart}
 use Rattle.krb_der_x509.specs.ObjectIdentifier.{dotted, object_identifier}
 use Rattle.krb_gss_tokens.specs.Proxy.{ProxyReads, iakerb, proxy_id}
 use Rattle.krb_gss_tokens.specs.Token.{in_token}
+use Rattle.krb_gss_tokens.specs.declared.error.GssApiMessageError.{GssApiMessageError}
+use Rattle.krb_show.specs.Tokens.{Token}
 use Rattle.krb_gss_tokens.proofs.Readings.{content_written}
 use Rattle.krb_gss_tokens.specs.declared.iakerb_header.messages.header.IAKerbHeader.{IAKerbHeader}
 use Rattle.krb_gss_tokens.specs.Header.{cookie, flags, realm}
 use Rattle.krb_show_tokens.proofs.OneFrame.{one_frame}
 use Rattle.krb_show_tokens.specs.Frames.{IsFramed}
+use Rattle.krb_show_tokens.specs.declared.proxies.Proxied.{Proxied}
+use Rattle.krb_show_tokens.specs.declared.proxies.Proxied.TheVariants as proxied
+use Rattle.krb_show_tokens.specs.Proxied.{ByMessage, proxied_of, tells_of_message}
 use Rattle.krb_show_tokens.specs.Proxies.{HasMessage, HasOther, IsTag, is_proxied, is_proxied_tag}
 
 pub iakerb_text : dotted iakerb ≡ 49 ∷ 46 ∷ 51 ∷ 46 ∷ 54 ∷ 46 ∷ 49 ∷ 46 ∷ 53 ∷ 46 ∷ 50 ∷ 46 ∷ 53 ∷ []
@@ -35,13 +41,26 @@ pub only_tag : (octets : List ℕ) (tag : Option ℕ) (t : ℕ) → IsTag octets
 only_tag octets None t k h = absurd (k t h)
 only_tag octets (Some u) t k h = ap (λ (n : ℕ). Some n) (one_message octets u t k h)
 
-not_true : (b : Bool) → (b ≡ true → ⊥) → b ≡ false
+pub not_true : (b : Bool) → (b ≡ true → ⊥) → b ≡ false
 not_true true n = absurd (n refl)
 not_true false n = refl
 
 pub other_tag : (octets : List ℕ) (tag : Option ℕ) → IsTag octets tag → HasOther octets → is_proxied_tag tag ≡ false
 other_tag octets None k h = refl
 other_tag octets (Some u) k h = not_true (is_proxied u) (λ e. h u e k)
+
+-- a tag that names a message, and one that names none
+unlike : (u t : ℕ) → is_proxied u ≡ false → is_proxied t ≡ true → nat_eq u t ≡ false
+unlike u t other known = not_true (nat_eq u t) (λ e. true≢false (sym known ∙ ap is_proxied (sym (eqb-true u t e)) ∙ other))
+
+pub other_proxied : (tag : Option ℕ) → is_proxied_tag tag ≡ false → proxied_of tag ≡ proxied.AsReq
+other_proxied None h = refl
+other_proxied (Some u) h =
+    rw (unlike u 107 h refl, unlike u 108 h refl, unlike u 109 h refl, unlike u 110 h refl, unlike u 111 h refl, unlike u 126 h refl) refl
+
+pub message_told : (by : ByMessage) (octets : List ℕ) (result : Result (Vec Token Global) GssApiMessageError) (m n : Proxied)
+    → tells_of_message by m octets result → m ≡ n → tells_of_message by n octets result
+message_told by octets result m n t e = subst (λ (p : Proxied). tells_of_message by p octets result) e t
 
 -- ---- one encoding
 

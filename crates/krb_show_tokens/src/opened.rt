@@ -172,6 +172,23 @@ pub type MechTokens = OpenedAs<
     OpenedAs<GssToken, FramedApRep, OpenedAs<GssToken, FramedError, Pku2uTokens>>,
 >;
 
+/// `MechTokens` under one name, for types and functions that are made of it.
+#[derive(Drop)]
+pub(crate) struct MechanismTokens;
+
+impl OpensOctets for MechanismTokens {
+    ghost opened = { ⟦<MechTokens as OpensOctets>⟧.opened };
+
+    fn show_opened_octets(
+        alloc: Global,
+        label: &Label<'static>,
+        octets: &[u8],
+        page: &mut Page,
+    ) -> Result<(), AllocError> {
+        MechTokens::show_opened_octets(alloc, label, octets, page)
+    }
+}
+
 /// MICs over a list of mechanisms, `mechListMIC` (RFC 4178, 4.2 and 5): a MIC token of RFC 4121, 4.2.6.1, is shown as that token, and other
 /// octets as octets.
 #[derive(Drop)]

@@ -5,7 +5,7 @@ ghost use Rattle.std.specs.Prelude.{◌≡◌, ◌++◌, length, slice_index, If
 ghost use Rattle.krb_show_tokens.specs.Places.{mic_places, wrap_places};
 
 use crate::heads::{Head, head_of};
-use crate::opened::{MechListMics, MechTokens, OpensOctets};
+use crate::opened::{MechListMics, MechanismTokens, OpensOctets};
 use crate::part::Part;
 use krb_show::{
     Form, Label, Page, Place, Role, Secrets, Token, Walk, places_by_row, push_items_with_places,
@@ -188,7 +188,7 @@ fn push_mechanism_token(
     token: Part,
     places: &mut Vec<Option<Place>>,
 ) -> Result<(), AllocError> {
-    if is_opened::<MechTokens>(alloc, token.octets)? {
+    if is_opened::<MechanismTokens>(alloc, token.octets)? {
         return push_kerberos(alloc, token, places);
     }
     places.push(Some(token.place()))?;

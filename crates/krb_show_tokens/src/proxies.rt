@@ -12,6 +12,7 @@ ghost use Rattle.krb_show.specs.Tokens.{Token, plain};
 ghost use Rattle.krb_show_messages.specs.Shown.{shows_of};
 ghost use Rattle.krb_show_tokens.specs.Frames.{IsFramed};
 ghost use Rattle.krb_show_tokens.specs.Leaves.{identifier_of, token_id_of};
+ghost use Rattle.krb_show_tokens.specs.Proxied.{ByMessage, proxied_of, tells_of_message};
 ghost use Rattle.krb_show_tokens.specs.Proxies.{HasMessage, HasOther, IsProxyError, IsProxyTold, IsTag, is_proxied_tag};
 
 use crate::GssToken;
@@ -208,25 +209,71 @@ fn tag_of(alloc: Global, octets: &[u8]) -> Result<Option<u8>, AllocError>
     Ok(tag)
 }
 
-/// The page of a message of IAKERB, whose message has this tag.
-fn page_of_tag(alloc: Global, tag: Option<u8>, octets: &[u8]) -> Result<Page, GssApiMessageError>
-    ensures as_req { tag ≡ Some 106 → ⟦<FramedProxy<AsReq> as TokenPages>⟧.tells octets.now result }
-    ensures as_rep { tag ≡ Some 107 → ⟦<FramedProxy<AsRep> as TokenPages>⟧.tells octets.now result }
-    ensures tgs_req { tag ≡ Some 108 → ⟦<FramedProxy<TgsReq> as TokenPages>⟧.tells octets.now result }
-    ensures tgs_rep { tag ≡ Some 109 → ⟦<FramedProxy<TgsRep> as TokenPages>⟧.tells octets.now result }
-    ensures ap_req { tag ≡ Some 110 → ⟦<FramedProxy<ApReq> as TokenPages>⟧.tells octets.now result }
-    ensures ap_rep { tag ≡ Some 111 → ⟦<FramedProxy<ApRep> as TokenPages>⟧.tells octets.now result }
-    ensures krb_error { tag ≡ Some 126 → ⟦<FramedProxy<KrbError> as TokenPages>⟧.tells octets.now result }
-    ensures other { is_proxied_tag tag ≡ false → ⟦<FramedProxy<AsReq> as TokenPages>⟧.tells octets.now result }
+/// The messages of Kerberos that a message of IAKERB holds (RFC 4120, 5.10).
+#[derive(Clone, Copy)]
+enum Proxied {
+    AsReq,
+    AsRep,
+    TgsReq,
+    TgsRep,
+    ApReq,
+    ApRep,
+    KrbError,
+}
+
+/// The message that a tag names. Where there is none, or another tag, an AS-REQ is expected.
+fn proxied_of(tag: Option<u8>) -> Proxied
+    ensures { result ≡ proxied_of tag }
 {
     match tag {
-        Some(0x6b) => <FramedProxy<AsRep>>::page_of(alloc, octets),
-        Some(0x6c) => <FramedProxy<TgsReq>>::page_of(alloc, octets),
-        Some(0x6d) => <FramedProxy<TgsRep>>::page_of(alloc, octets),
-        Some(0x6e) => <FramedProxy<ApReq>>::page_of(alloc, octets),
-        Some(0x6f) => <FramedProxy<ApRep>>::page_of(alloc, octets),
-        Some(0x7e) => <FramedProxy<KrbError>>::page_of(alloc, octets),
-        _ => <FramedProxy<AsReq>>::page_of(alloc, octets),
+        Some(0x6b) => Proxied::AsRep,
+        Some(0x6c) => Proxied::TgsReq,
+        Some(0x6d) => Proxied::TgsRep,
+        Some(0x6e) => Proxied::ApReq,
+        Some(0x6f) => Proxied::ApRep,
+        Some(0x7e) => Proxied::KrbError,
+        _ => Proxied::AsReq,
+    }
+}
+
+/// What is told of octets that are to be a message of IAKERB, by the message in it.
+trait ProxiedPages {
+    /// Which page octets have, or which error, for each message.
+    ghost pages: { ByMessage };
+}
+
+/// Messages of IAKERB in frames, by the message in it.
+#[derive(Drop)]
+struct FramedProxies;
+
+impl ProxiedPages for FramedProxies {
+    ghost pages = { record {
+      as_req = ⟦<FramedProxy<AsReq> as TokenPages>⟧.tells;
+      as_rep = ⟦<FramedProxy<AsRep> as TokenPages>⟧.tells;
+      tgs_req = ⟦<FramedProxy<TgsReq> as TokenPages>⟧.tells;
+      tgs_rep = ⟦<FramedProxy<TgsRep> as TokenPages>⟧.tells;
+      ap_req = ⟦<FramedProxy<ApReq> as TokenPages>⟧.tells;
+      ap_rep = ⟦<FramedProxy<ApRep> as TokenPages>⟧.tells;
+      krb_error = ⟦<FramedProxy<KrbError> as TokenPages>⟧.tells;
+    } };
+}
+
+/// The page of a message of IAKERB, which is to hold this message.
+fn page_of_proxied(
+    alloc: Global,
+    proxied: Proxied,
+    octets: &[u8],
+) -> Result<Page, GssApiMessageError>
+    ensures { tells_of_message ⟦<FramedProxies as ProxiedPages>⟧.pages proxied octets.now result }
+{
+    match proxied {
+        Proxied::AsReq => <FramedProxy<AsReq>>::page_of(alloc, octets),
+        Proxied::AsRep => <FramedProxy<AsRep>>::page_of(alloc, octets),
+        Proxied::TgsReq => <FramedProxy<TgsReq>>::page_of(alloc, octets),
+        Proxied::TgsRep => <FramedProxy<TgsRep>>::page_of(alloc, octets),
+        Proxied::ApReq => <FramedProxy<ApReq>>::page_of(alloc, octets),
+        Proxied::ApRep => <FramedProxy<ApRep>>::page_of(alloc, octets),
+        Proxied::KrbError => <FramedProxy<KrbError>>::page_of(alloc, octets),
     }
 }
 
@@ -247,6 +294,6 @@ impl TokenPages for ProxyMessages {
 
     fn page_of(alloc: Global, octets: &[u8]) -> Result<Page, GssApiMessageError> {
         let tag = tag_of(alloc, octets)?;
-        page_of_tag(alloc, tag, octets)
+        page_of_proxied(alloc, proxied_of(tag), octets)
     }
 }

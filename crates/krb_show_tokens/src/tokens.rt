@@ -1,11 +1,11 @@
 //! Tokens, told by their first octet.
 
-ghost use Rattle.std.specs.Prelude.{◌≡◌, ◌<◌, ◌∷◌, false, ℕ, [], Err, codes, length, slice_index};
+ghost use Rattle.std.specs.Prelude.{◌≡◌, ◌<◌, false, ℕ, [], Err, codes, length, slice_index};
 ghost use Rattle.krb_der_core.specs.declared.error.Asn1DerError.TheVariants.{InvalidData, TruncatedData};
-ghost use Rattle.krb_gss_tokens.specs.declared.error.GssApiMessageError.TheVariants.{Asn1Error, InvalidId};
+ghost use Rattle.krb_gss_tokens.specs.declared.error.GssApiMessageError.TheVariants.{Asn1Error};
 ghost use Rattle.krb_show.specs.Tokens.{plain};
-ghost use Rattle.krb_show_tokens.specs.declared.heads.Head.TheVariants.{Kerberos, Negotiation, Unknown};
 ghost use Rattle.krb_show_tokens.specs.Frames.{HasId, HasNone, IsNegotiation, RefusesId, is_known_id, is_token};
+ghost use Rattle.krb_show_tokens.specs.Kinds.{ByKind, framed_of, kind_of, tells_of_frame, tells_of_framed, tells_of_kind};
 ghost use Rattle.krb_show_tokens.specs.Told.{IsMicTold, IsToldBy, IsWrapTold};
 
 use crate::GssToken;
@@ -15,14 +15,21 @@ use crate::opened::{
 };
 use crate::proxies::{ProxyMessages, TokenPages};
 use krb_der::{Asn1DerError, Der, DerEncode, ExplicitContextTag0};
-use krb_gss_tokens::gss_api::{ApplicationTag0, GssApiNegInit, NegTokenInit, NegTokenTarg1};
+use krb_gss_tokens::gss_api::{
+    ApplicationTag0, GssApiNegInit, KrbMessage, NegTokenInit, NegTokenTarg1,
+};
 use krb_gss_tokens::{GssApiMessageError, MicToken, WrapToken};
+use krb_messages::messages::{ApRep, ApReq, AsRep, AsReq, KrbError, TgtRep, TgtReq};
 use krb_registry::gss_api::AP_REQ_TOKEN_ID;
 use krb_show::{Label, Page, Show, page_of_octets};
+use krb_show_messages::HasRow;
 use std::alloc::Global;
 
 /// The token that begins a negotiation (RFC 4178, 4.2).
 type FramedNegInit = ApplicationTag0<GssApiNegInit>;
+
+/// A message in a frame (RFC 4121, 4.1).
+type FramedMessage<T> = ApplicationTag0<KrbMessage<T>>;
 
 /// The first message of a negotiation without a frame: `negTokenInit [0]` of the choice `NegotiationToken` (RFC 4178, 4.2).
 type NegTokenInit0 = ExplicitContextTag0<NegTokenInit>;
@@ -62,98 +69,151 @@ fn page_of_wrap(alloc: Global, octets: &[u8]) -> Result<Page, GssApiMessageError
     Ok(page)
 }
 
-/// The page of a token of Kerberos with this token id.
-fn page_of_id(
-    alloc: Global,
-    first: u8,
-    second: u8,
-    octets: &[u8],
-) -> Result<Page, GssApiMessageError>
-    ensures ap_req { first ≡ 1 → second ≡ 0 → IsToldBy ⟦<FramedApReq as DerEncode>⟧ ⟦<FramedApReq as Show<GssToken>>⟧
-        (plain (codes "InitialContextToken")) (λ p. p.items) octets.now result }
-    ensures ap_rep { first ≡ 2 → second ≡ 0 → IsToldBy ⟦<FramedApRep as DerEncode>⟧ ⟦<FramedApRep as Show<GssToken>>⟧
-        (plain (codes "InitialContextToken")) (λ p. p.items) octets.now result }
-    ensures krb_error { first ≡ 3 → second ≡ 0 → IsToldBy ⟦<FramedError as DerEncode>⟧ ⟦<FramedError as Show<GssToken>>⟧
-        (plain (codes "InitialContextToken")) (λ p. p.items) octets.now result }
-    ensures tgt_req { first ≡ 4 → second ≡ 0 → IsToldBy ⟦<FramedTgtReq as DerEncode>⟧ ⟦<FramedTgtReq as Show<GssToken>>⟧
-        (plain (codes "InitialContextToken")) (λ p. p.items) octets.now result }
-    ensures tgt_rep { first ≡ 4 → second ≡ 1 → IsToldBy ⟦<FramedTgtRep as DerEncode>⟧ ⟦<FramedTgtRep as Show<GssToken>>⟧
-        (plain (codes "InitialContextToken")) (λ p. p.items) octets.now result }
-    ensures as_req { first ≡ 5 → second ≡ 0 → IsToldBy ⟦<FramedAsReq as DerEncode>⟧ ⟦<FramedAsReq as Show<GssToken>>⟧
-        (plain (codes "InitialContextToken")) (λ p. p.items) octets.now result }
-    ensures as_rep { first ≡ 6 → second ≡ 0 → IsToldBy ⟦<FramedAsRep as DerEncode>⟧ ⟦<FramedAsRep as Show<GssToken>>⟧
-        (plain (codes "InitialContextToken")) (λ p. p.items) octets.now result }
-    ensures iakerb { first ≡ 5 → second ≡ 1 → ⟦<ProxyMessages as TokenPages>⟧.tells octets.now result }
-    ensures other_id { is_known_id first second ≡ false → result ≡ Err (InvalidId (1 ∷ 0 ∷ []) (first ∷ second ∷ [])) }
+/// What is told of octets that are to be a token, by its kind.
+trait KindPages {
+    /// Which page octets have, or which error, for each kind.
+    ghost pages: { ByKind };
+}
+
+/// Tokens of the GSS-API, by their kind.
+#[derive(Drop)]
+struct GssTokens;
+
+impl KindPages for GssTokens {
+    ghost pages = { record {
+      mic = IsMicTold ⟦<MicToken as Show<GssToken>>⟧ (plain (codes "MIC")) (λ p. p.items);
+      wrap = IsWrapTold ⟦<WrapToken as Show<GssToken>>⟧ (plain (codes "Wrap")) (λ p. p.items);
+      neg_token_init = IsToldBy ⟦<NegTokenInit0 as DerEncode>⟧ ⟦<NegTokenInit0 as Show<GssToken>>⟧ (plain (codes "NegTokenInit")) (λ p. p.items);
+      neg_token_resp = IsToldBy ⟦<NegTokenTarg1 as DerEncode>⟧ ⟦<NegTokenTarg1 as Show<GssToken>>⟧ (plain (codes "NegTokenResp")) (λ p. p.items);
+      negotiation = IsToldBy ⟦<FramedNegInit as DerEncode>⟧ ⟦<FramedNegInit as Show<GssToken>>⟧ (plain (codes "InitialContextToken")) (λ p. p.items);
+      ap_req = IsToldBy ⟦<FramedApReq as DerEncode>⟧ ⟦<FramedApReq as Show<GssToken>>⟧ (plain (codes "InitialContextToken")) (λ p. p.items);
+      ap_rep = IsToldBy ⟦<FramedApRep as DerEncode>⟧ ⟦<FramedApRep as Show<GssToken>>⟧ (plain (codes "InitialContextToken")) (λ p. p.items);
+      krb_error = IsToldBy ⟦<FramedError as DerEncode>⟧ ⟦<FramedError as Show<GssToken>>⟧ (plain (codes "InitialContextToken")) (λ p. p.items);
+      tgt_req = IsToldBy ⟦<FramedTgtReq as DerEncode>⟧ ⟦<FramedTgtReq as Show<GssToken>>⟧ (plain (codes "InitialContextToken")) (λ p. p.items);
+      tgt_rep = IsToldBy ⟦<FramedTgtRep as DerEncode>⟧ ⟦<FramedTgtRep as Show<GssToken>>⟧ (plain (codes "InitialContextToken")) (λ p. p.items);
+      as_req = IsToldBy ⟦<FramedAsReq as DerEncode>⟧ ⟦<FramedAsReq as Show<GssToken>>⟧ (plain (codes "InitialContextToken")) (λ p. p.items);
+      as_rep = IsToldBy ⟦<FramedAsRep as DerEncode>⟧ ⟦<FramedAsRep as Show<GssToken>>⟧ (plain (codes "InitialContextToken")) (λ p. p.items);
+      iakerb = ⟦<ProxyMessages as TokenPages>⟧.tells;
+    } };
+}
+
+/// What a frame holds.
+#[derive(Clone, Copy)]
+enum Framed {
+    Negotiation,
+    ApReq,
+    ApRep,
+    KrbError,
+    TgtReq,
+    TgtRep,
+    AsReq,
+    AsRep,
+    Proxy,
+    /// A token id that names no message.
+    UnknownId(u8, u8),
+}
+
+/// What a frame with this head holds. Where the head names nothing, a KRB-AP-REQ is expected.
+fn framed_of(head: Head) -> Framed
+    ensures { result ≡ framed_of head }
 {
-    match (first, second) {
-        (1, 0) => page_as::<FramedApReq>(alloc, "InitialContextToken", octets),
-        (2, 0) => page_as::<FramedApRep>(alloc, "InitialContextToken", octets),
-        (3, 0) => page_as::<FramedError>(alloc, "InitialContextToken", octets),
-        (4, 0) => page_as::<FramedTgtReq>(alloc, "InitialContextToken", octets),
-        (4, 1) => page_as::<FramedTgtRep>(alloc, "InitialContextToken", octets),
-        (5, 0) => page_as::<FramedAsReq>(alloc, "InitialContextToken", octets),
-        (5, 1) => ProxyMessages::page_of(alloc, octets),
-        (6, 0) => page_as::<FramedAsRep>(alloc, "InitialContextToken", octets),
-        _ => Err(GssApiMessageError::InvalidId(AP_REQ_TOKEN_ID, [first, second])),
+    match head {
+        Head::Negotiation => Framed::Negotiation,
+        Head::Kerberos(1, 0) | Head::Unknown => Framed::ApReq,
+        Head::Kerberos(2, 0) => Framed::ApRep,
+        Head::Kerberos(3, 0) => Framed::KrbError,
+        Head::Kerberos(4, 0) => Framed::TgtReq,
+        Head::Kerberos(4, 1) => Framed::TgtRep,
+        Head::Kerberos(5, 0) => Framed::AsReq,
+        Head::Kerberos(5, 1) => Framed::Proxy,
+        Head::Kerberos(6, 0) => Framed::AsRep,
+        Head::Kerberos(first, second) => Framed::UnknownId(first, second),
     }
 }
 
-/// The page of a token whose frame says that it holds this.
-fn page_of_head(alloc: Global, head: Head, octets: &[u8]) -> Result<Page, GssApiMessageError>
-    ensures negotiation { head ≡ Negotiation → IsToldBy ⟦<FramedNegInit as DerEncode>⟧ ⟦<FramedNegInit as Show<GssToken>>⟧
-        (plain (codes "InitialContextToken")) (λ p. p.items) octets.now result }
-    ensures ap_req { head ≡ Kerberos 1 0 → IsToldBy ⟦<FramedApReq as DerEncode>⟧ ⟦<FramedApReq as Show<GssToken>>⟧
-        (plain (codes "InitialContextToken")) (λ p. p.items) octets.now result }
-    ensures ap_rep { head ≡ Kerberos 2 0 → IsToldBy ⟦<FramedApRep as DerEncode>⟧ ⟦<FramedApRep as Show<GssToken>>⟧
-        (plain (codes "InitialContextToken")) (λ p. p.items) octets.now result }
-    ensures krb_error { head ≡ Kerberos 3 0 → IsToldBy ⟦<FramedError as DerEncode>⟧ ⟦<FramedError as Show<GssToken>>⟧
-        (plain (codes "InitialContextToken")) (λ p. p.items) octets.now result }
-    ensures tgt_req { head ≡ Kerberos 4 0 → IsToldBy ⟦<FramedTgtReq as DerEncode>⟧ ⟦<FramedTgtReq as Show<GssToken>>⟧
-        (plain (codes "InitialContextToken")) (λ p. p.items) octets.now result }
-    ensures tgt_rep { head ≡ Kerberos 4 1 → IsToldBy ⟦<FramedTgtRep as DerEncode>⟧ ⟦<FramedTgtRep as Show<GssToken>>⟧
-        (plain (codes "InitialContextToken")) (λ p. p.items) octets.now result }
-    ensures as_req { head ≡ Kerberos 5 0 → IsToldBy ⟦<FramedAsReq as DerEncode>⟧ ⟦<FramedAsReq as Show<GssToken>>⟧
-        (plain (codes "InitialContextToken")) (λ p. p.items) octets.now result }
-    ensures as_rep { head ≡ Kerberos 6 0 → IsToldBy ⟦<FramedAsRep as DerEncode>⟧ ⟦<FramedAsRep as Show<GssToken>>⟧
-        (plain (codes "InitialContextToken")) (λ p. p.items) octets.now result }
-    ensures iakerb { head ≡ Kerberos 5 1 → ⟦<ProxyMessages as TokenPages>⟧.tells octets.now result }
-    ensures other_id { (first second : ℕ) → head ≡ Kerberos first second → is_known_id first second ≡ false → RefusesId first second result }
-    ensures no_id { head ≡ Unknown → IsToldBy ⟦<FramedApReq as DerEncode>⟧ ⟦<FramedApReq as Show<GssToken>>⟧
+/// The page of a message in a frame (RFC 4121, 4.1). `T` is the type of the message, such as `ApReq`.
+fn page_of_message<T: Der + HasRow + Drop>(
+    alloc: Global,
+    octets: &[u8],
+) -> Result<Page, GssApiMessageError>
+    ensures { IsToldBy ⟦<FramedMessage<T> as DerEncode>⟧ ⟦<FramedMessage<T> as Show<GssToken>>⟧
         (plain (codes "InitialContextToken")) (λ p. p.items) octets.now result }
 {
-    match head {
-        Head::Negotiation => page_as::<FramedNegInit>(alloc, "InitialContextToken", octets),
-        Head::Kerberos(first, second) => page_of_id(alloc, first, second, octets),
-        Head::Unknown => page_as::<FramedApReq>(alloc, "InitialContextToken", octets),
+    page_as::<FramedMessage<T>>(alloc, "InitialContextToken", octets)
+}
+
+/// The page of a token in a frame, which is to hold this.
+fn page_of_framed(alloc: Global, framed: Framed, octets: &[u8]) -> Result<Page, GssApiMessageError>
+    ensures { tells_of_framed ⟦<GssTokens as KindPages>⟧.pages framed octets.now result }
+{
+    match framed {
+        Framed::Negotiation => page_as::<FramedNegInit>(alloc, "InitialContextToken", octets),
+        Framed::ApReq => page_of_message::<ApReq>(alloc, octets),
+        Framed::ApRep => page_of_message::<ApRep>(alloc, octets),
+        Framed::KrbError => page_of_message::<KrbError>(alloc, octets),
+        Framed::TgtReq => page_of_message::<TgtReq>(alloc, octets),
+        Framed::TgtRep => page_of_message::<TgtRep>(alloc, octets),
+        Framed::AsReq => page_of_message::<AsReq>(alloc, octets),
+        Framed::AsRep => page_of_message::<AsRep>(alloc, octets),
+        Framed::Proxy => ProxyMessages::page_of(alloc, octets),
+        Framed::UnknownId(first, second) => {
+            Err(GssApiMessageError::InvalidId(AP_REQ_TOKEN_ID, [first, second]))
+        }
     }
 }
 
 /// The page of a token in a frame (RFC 2743, 3.1).
 fn page_of_frame(alloc: Global, octets: &[u8]) -> Result<Page, GssApiMessageError>
-    ensures negotiation { IsNegotiation octets.now → IsToldBy ⟦<FramedNegInit as DerEncode>⟧ ⟦<FramedNegInit as Show<GssToken>>⟧
-        (plain (codes "InitialContextToken")) (λ p. p.items) octets.now result }
-    ensures ap_req { HasId 1 0 octets.now → IsToldBy ⟦<FramedApReq as DerEncode>⟧ ⟦<FramedApReq as Show<GssToken>>⟧
-        (plain (codes "InitialContextToken")) (λ p. p.items) octets.now result }
-    ensures ap_rep { HasId 2 0 octets.now → IsToldBy ⟦<FramedApRep as DerEncode>⟧ ⟦<FramedApRep as Show<GssToken>>⟧
-        (plain (codes "InitialContextToken")) (λ p. p.items) octets.now result }
-    ensures krb_error { HasId 3 0 octets.now → IsToldBy ⟦<FramedError as DerEncode>⟧ ⟦<FramedError as Show<GssToken>>⟧
-        (plain (codes "InitialContextToken")) (λ p. p.items) octets.now result }
-    ensures tgt_req { HasId 4 0 octets.now → IsToldBy ⟦<FramedTgtReq as DerEncode>⟧ ⟦<FramedTgtReq as Show<GssToken>>⟧
-        (plain (codes "InitialContextToken")) (λ p. p.items) octets.now result }
-    ensures tgt_rep { HasId 4 1 octets.now → IsToldBy ⟦<FramedTgtRep as DerEncode>⟧ ⟦<FramedTgtRep as Show<GssToken>>⟧
-        (plain (codes "InitialContextToken")) (λ p. p.items) octets.now result }
-    ensures as_req { HasId 5 0 octets.now → IsToldBy ⟦<FramedAsReq as DerEncode>⟧ ⟦<FramedAsReq as Show<GssToken>>⟧
-        (plain (codes "InitialContextToken")) (λ p. p.items) octets.now result }
-    ensures as_rep { HasId 6 0 octets.now → IsToldBy ⟦<FramedAsRep as DerEncode>⟧ ⟦<FramedAsRep as Show<GssToken>>⟧
-        (plain (codes "InitialContextToken")) (λ p. p.items) octets.now result }
-    ensures iakerb { HasId 5 1 octets.now → ⟦<ProxyMessages as TokenPages>⟧.tells octets.now result }
-    ensures other_id { (first second : ℕ) → HasId first second octets.now → is_known_id first second ≡ false → RefusesId first second result }
-    ensures no_id { HasNone octets.now → IsToldBy ⟦<FramedApReq as DerEncode>⟧ ⟦<FramedApReq as Show<GssToken>>⟧
-        (plain (codes "InitialContextToken")) (λ p. p.items) octets.now result }
+    ensures { tells_of_frame ⟦<GssTokens as KindPages>⟧.pages octets.now result }
 {
     let head = head_of(alloc, octets)?;
-    page_of_head(alloc, head, octets)
+    page_of_framed(alloc, framed_of(head), octets)
+}
+
+/// The kinds of tokens.
+#[derive(Clone, Copy)]
+enum TokenKind {
+    Mic,
+    Wrap,
+    Framed,
+    NegTokenInit,
+    NegTokenResp,
+    /// There is no octet.
+    Empty,
+    /// No token begins so.
+    Unknown,
+}
+
+/// The kind of a token, told by its first octet.
+fn kind_of(octets: &[u8]) -> TokenKind
+    ensures { result ≡ kind_of octets.now }
+{
+    if octets.is_empty() {
+        return TokenKind::Empty;
+    }
+    match octets[0] {
+        0x04 => TokenKind::Mic,
+        0x05 => TokenKind::Wrap,
+        0x60 => TokenKind::Framed,
+        0xa0 => TokenKind::NegTokenInit,
+        0xa1 => TokenKind::NegTokenResp,
+        _ => TokenKind::Unknown,
+    }
+}
+
+/// The page of a token of this kind.
+fn page_of_kind(alloc: Global, kind: TokenKind, octets: &[u8]) -> Result<Page, GssApiMessageError>
+    ensures { tells_of_kind ⟦<GssTokens as KindPages>⟧.pages kind octets.now result }
+{
+    match kind {
+        TokenKind::Mic => page_of_mic(alloc, octets),
+        TokenKind::Wrap => page_of_wrap(alloc, octets),
+        TokenKind::Framed => page_of_frame(alloc, octets),
+        TokenKind::NegTokenInit => page_as::<NegTokenInit0>(alloc, "NegTokenInit", octets),
+        TokenKind::NegTokenResp => page_as::<NegTokenTarg1>(alloc, "NegTokenResp", octets),
+        TokenKind::Empty => Err(GssApiMessageError::Asn1Error(Asn1DerError::TruncatedData)),
+        TokenKind::Unknown => Err(GssApiMessageError::Asn1Error(Asn1DerError::InvalidData)),
+    }
 }
 
 /// The page of a token of the GSS-API, told by its first octet.
@@ -212,15 +272,5 @@ pub fn page_of_token(alloc: Global, octets: &[u8]) -> Result<Page, GssApiMessage
     ensures other_id { slice_index octets.now 0 ≡ 96 → (first second : ℕ) → HasId first second octets.now → is_known_id first second ≡ false
         → RefusesId first second result }
 {
-    if octets.is_empty() {
-        return Err(GssApiMessageError::Asn1Error(Asn1DerError::TruncatedData));
-    }
-    match octets[0] {
-        0x04 => page_of_mic(alloc, octets),
-        0x05 => page_of_wrap(alloc, octets),
-        0x60 => page_of_frame(alloc, octets),
-        0xa0 => page_as::<NegTokenInit0>(alloc, "NegTokenInit", octets),
-        0xa1 => page_as::<NegTokenTarg1>(alloc, "NegTokenResp", octets),
-        _ => Err(GssApiMessageError::Asn1Error(Asn1DerError::InvalidData)),
-    }
+    page_of_kind(alloc, kind_of(octets), octets)
 }

@@ -27,32 +27,18 @@ pub struct Reported {
 fn report_of(message: KrbErrorInner) -> Reported
     ensures { result ≡ report_of message }
 {
-    let KrbErrorInner {
-        ctime,
-        cusec,
-        stime,
-        error_code,
-        crealm,
-        cname,
-        sname,
-        e_text,
-        e_data,
-        ..
-    } = message;
-    drop(ctime);
-    drop(cusec);
-    drop(crealm);
-    drop(cname);
-    drop(sname);
-    drop(e_text);
-    Reported {
-        code: error_code.0,
-        seconds: unix_seconds(&stime.0),
-        e_data: match e_data.0 {
+    let mut message = message;
+    let e_data = message.e_data.0.take();
+    let reported = Reported {
+        code: message.error_code.0,
+        seconds: unix_seconds(&message.stime.0),
+        e_data: match e_data {
             Some(tagged) => Some(tagged.0),
             None => None,
         },
-    }
+    };
+    drop(message);
+    reported
 }
 
 /// The error that these octets report, where they are the one encoding of a KRB-ERROR (RFC 4120,

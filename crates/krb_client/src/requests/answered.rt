@@ -9,7 +9,7 @@ ghost use Rattle.krb_client.specs.declared.requests.error.RequestError.TheVarian
 
 use crate::requests::checksum::checksum;
 use crate::requests::error::RequestError;
-use crate::requests::fields::encoding;
+use crate::requests::fields::encoded;
 use crate::requests::key::LentKey;
 use crate::requests::timestamp::element_of;
 use krb_der::{Asn1SequenceOf, DerEncode, IntegerAsn1};
@@ -51,6 +51,6 @@ pub fn request_checksum(
         (length key.now.octets.now ≢ key_octets_of key.now.suite.now))) }
 {
     let value = checksum(alloc, key, 56, request)?;
-    let octets = encoding(alloc, &value)?;
+    let octets = encoded(alloc, value)?;
     Ok(octets)
 }

@@ -79,9 +79,21 @@ fn message(
     ensures { MatchResult result (λ m. AreFlags (options_of mutual_required) m.ap_options ×
         (m ≡ ap_req_of m.ap_options ticket.now part)) (λ e. e ≡ errors.OutOfMemory) }
 {
-    let options = options_of(alloc, mutual_required)?;
-    let ticket = copy_of(alloc, ticket)?;
-    Ok(ap_req_of(alloc, options, ticket, part))
+    let options = match options_of(alloc, mutual_required) {
+        Ok(options) => options,
+        Err(error) => {
+            drop(part);
+            return Err(error);
+        }
+    };
+    match copy_of(alloc, ticket) {
+        Ok(ticket) => Ok(ap_req_of(alloc, options, ticket, part)),
+        Err(error) => {
+            drop(options);
+            drop(part);
+            Err(error)
+        }
+    }
 }
 
 /// The octets of the AP-REQ of a ticket, in which this authenticator is sealed under the key for

@@ -3,14 +3,13 @@
 ghost use Rattle.std.specs.Prelude.{◌≡◌, ◌≢◌, length, pos, IfErr, IfOk};
 ghost use Rattle.krb_crypto.specs.BySuite.{key_octets_of};
 ghost use Rattle.krb_crypto.specs.Suites.{etype};
-ghost use Rattle.krb_build.specs.Times.{IsTimeAt};
-ghost use Rattle.krb_client.specs.Applications.{HasOtherSize, IsAuthenticator, IsNoAuthenticator, IsSizedOption, authenticator_of, optional_key, optional_number};
+ghost use Rattle.krb_client.specs.Applications.{AreSenderFields, HasOtherSize, IsAuthenticator, IsNoAuthenticator, IsSizedOption, authenticator_of, optional_key, optional_number};
 ghost use Rattle.krb_client.specs.Errors.{IsMemoryOr};
 ghost use Rattle.krb_client.specs.Sealed.{key_value};
 ghost use Rattle.krb_client.specs.declared.requests.error.RequestError.TheVariants as errors;
 
 use crate::requests::error::RequestError;
-use crate::requests::fields::{copy_of, field, time_at};
+use crate::requests::fields::{copies_of, field, time_at};
 use crate::requests::key::LentKey;
 use krb_crypto::Cipher;
 use krb_der::{
@@ -99,23 +98,31 @@ struct Fields {
 
 /// These fields of this client's authenticator.
 fn fields_of(alloc: Global, sender: &Sender) -> Result<Fields, RequestError>
-    ensures time { IfOk result (λ f. IsTimeAt sender.now.seconds sender.now.microseconds f.ctime f.cusec) }
-    ensures size { IfOk result (λ _. IsSizedOption sender.now.subkey) }
-    ensures subkey { IfOk result (λ f. f.subkey ≡ optional_key sender.now.subkey) }
-    ensures client { IfOk result (λ f. (f.crealm ≡ sender.now.crealm.now) × (f.cname ≡ sender.now.cname.now)) }
+    ensures fields { IfOk result (AreSenderFields sender.now) }
     ensures rejected { IfErr result (λ e. IsMemoryOr e (IsNoAuthenticator sender.now e)) }
 {
     let (ctime, cusec) = time_at(alloc, sender.seconds, sender.microseconds)?;
-    let subkey = subkey_of(alloc, &sender.subkey)?;
-    let crealm = copy_of(alloc, sender.crealm)?;
-    let cname = copy_of(alloc, sender.cname)?;
-    Ok(Fields {
-        crealm,
-        cname,
-        cusec,
-        ctime,
-        subkey,
-    })
+    let subkey = match subkey_of(alloc, &sender.subkey) {
+        Ok(subkey) => subkey,
+        Err(error) => {
+            drop(cusec);
+            return Err(error);
+        }
+    };
+    match copies_of(alloc, sender.crealm, sender.cname) {
+        Ok((crealm, cname)) => Ok(Fields {
+            crealm,
+            cname,
+            cusec,
+            ctime,
+            subkey,
+        }),
+        Err(error) => {
+            drop(cusec);
+            drop(subkey);
+            Err(error)
+        }
+    }
 }
 
 /// The authenticator of these fields, with this checksum and this number.
@@ -155,6 +162,9 @@ pub(crate) fn authenticator(
 {
     match fields_of(alloc, sender) {
         Ok(fields) => Ok(authenticator_of(alloc, fields, cksum, sender.seq_number)),
-        Err(error) => Err(error),
+        Err(error) => {
+            drop(cksum);
+            Err(error)
+        }
     }
 }

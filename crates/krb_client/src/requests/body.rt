@@ -1,12 +1,12 @@
 //! What is asked of a KDC: KDC-REQ-BODY (RFC 4120, 5.4.1).
 
 ghost use Rattle.std.specs.Prelude.{◌≡◌, IfErr, IfOk, MatchResult, map, pos};
-ghost use Rattle.krb_client.specs.Bodies.{AreFields, IsBody, IsNoBody, body_of, number_of, request_of, wanted};
+ghost use Rattle.krb_client.specs.Bodies.{AreCopies, AreFields, AreTimes, HasNoTime, IsBody, IsNoBody, body_of, number_of, request_of, wanted};
 ghost use Rattle.krb_client.specs.Errors.{IsMemoryOr};
 ghost use Rattle.krb_client.specs.declared.requests.error.RequestError.TheVariants as errors;
 
 use crate::requests::error::RequestError;
-use crate::requests::fields::{copy_of, encoded, field, flags_of, time_of, time_option_of};
+use crate::requests::fields::{copies_of, encoded, field, flags_of, time_of, time_option_of};
 use krb_crypto::CipherSuite;
 use krb_der::{
     ApplicationTag, Asn1SequenceOf, DerEncode, ExplicitContextTag0, ExplicitContextTag1,
@@ -55,61 +55,104 @@ fn numbers_of(alloc: Global, suites: &[CipherSuite]) -> Result<Vec<IntegerAsn1>,
     Ok(numbers)
 }
 
+/// When a ticket is wanted.
+#[derive(Drop)]
+struct Times {
+    from: Option<KerberosTime>,
+    till: KerberosTime,
+    rtime: Option<KerberosTime>,
+}
+
+/// The times that are wanted. `Time` where one of them is of no year of 0 to 9999.
+fn times_of(want: &Want) -> Result<Times, RequestError>
+    ensures { MatchResult result (AreTimes (wanted want.now)) (λ e. (e ≡ errors.Time) × HasNoTime (wanted want.now)) }
+{
+    let from = time_option_of(want.from)?;
+    let till = time_of(want.till)?;
+    let rtime = time_option_of(want.rtime)?;
+    Ok(Times { from, till, rtime })
+}
+
+/// Copies of what a body has of what is wanted.
+#[derive(Drop)]
+struct Copies {
+    realm: Realm,
+    sname: PrincipalName,
+    etypes: Vec<IntegerAsn1>,
+}
+
+/// These copies.
+fn copied(alloc: Global, want: &Want) -> Result<Copies, RequestError>
+    ensures { MatchResult result (AreCopies (wanted want.now)) (λ e. e ≡ errors.OutOfMemory) }
+{
+    let etypes = numbers_of(alloc, want.etypes)?;
+    match copies_of(alloc, want.realm, want.sname) {
+        Ok((realm, sname)) => Ok(Copies {
+            realm,
+            sname,
+            etypes,
+        }),
+        Err(error) => {
+            drop(etypes);
+            Err(error)
+        }
+    }
+}
+
 /// What of a body takes memory or may be refused.
 #[derive(Drop)]
 struct Fields {
     options: KerberosFlags,
-    realm: Realm,
-    sname: PrincipalName,
-    from: Option<KerberosTime>,
-    till: KerberosTime,
-    rtime: Option<KerberosTime>,
-    etypes: Vec<IntegerAsn1>,
+    times: Times,
+    copies: Copies,
 }
 
 /// These fields of the body of what is wanted. They are refused where the body is.
 fn fields_of(alloc: Global, want: &Want) -> Result<Fields, RequestError>
-    ensures fields { IfOk result (λ f. AreFields (wanted want.now) f.options f.from f.till f.rtime) }
-    ensures names { IfOk result (λ f. (f.realm ≡ want.now.realm.now) × (f.sname ≡ want.now.sname.now)) }
-    ensures etypes { IfOk result (λ f. f.etypes.items ≡ map number_of want.now.etypes.now) }
+    ensures fields { IfOk result (AreFields (wanted want.now)) }
     ensures rejected { IfErr result (λ e. IsMemoryOr e (IsNoBody (wanted want.now) e)) }
 {
     if want.nonce > MOST_NONCE {
         return Err(RequestError::Nonce);
     }
     let options = flags_of(alloc, want.options)?;
-    let from = time_option_of(want.from)?;
-    let till = time_of(want.till)?;
-    let rtime = time_option_of(want.rtime)?;
-    let etypes = numbers_of(alloc, want.etypes)?;
-    let realm = copy_of(alloc, want.realm)?;
-    let sname = copy_of(alloc, want.sname)?;
-    Ok(Fields {
-        options,
-        realm,
-        sname,
-        from,
-        till,
-        rtime,
-        etypes,
-    })
+    let times = match times_of(want) {
+        Ok(times) => times,
+        Err(error) => {
+            drop(options);
+            return Err(error);
+        }
+    };
+    match copied(alloc, want) {
+        Ok(copies) => Ok(Fields {
+            options,
+            times,
+            copies,
+        }),
+        Err(error) => {
+            drop(options);
+            drop(times);
+            Err(error)
+        }
+    }
 }
 
 /// The body of these fields: no addresses, no data, no further tickets.
 fn body_of(alloc: Global, fields: Fields, cname: Option<PrincipalName>, nonce: u32) -> KdcReqBody
-    ensures { result ≡ body_of fields.options cname fields.realm fields.sname fields.from fields.till fields.rtime
-        (pos nonce) fields.etypes.items }
+    ensures { result ≡ body_of fields.options cname fields.copies.realm fields.copies.sname fields.times.from
+        fields.times.till fields.times.rtime (pos nonce) fields.copies.etypes.items }
 {
+    let (times, copies) = (fields.times, fields.copies);
     KdcReqBody {
         kdc_options: ExplicitContextTag0::from(fields.options),
         cname: field(cname),
-        realm: ExplicitContextTag2::from(fields.realm),
-        sname: field(Some(fields.sname)),
-        from: field(fields.from),
-        till: ExplicitContextTag5::from(fields.till),
-        rtime: field(fields.rtime),
+        realm: ExplicitContextTag2::from(copies.realm),
+        sname: field(Some(copies.sname)),
+        from: field(times.from),
+        till: ExplicitContextTag5::from(times.till),
+        rtime: field(times.rtime),
         nonce: ExplicitContextTag7::from(IntegerAsn1::from_u32(alloc, nonce)),
-        etype: ExplicitContextTag8::from(Asn1SequenceOf(fields.etypes)),
+        etype: ExplicitContextTag8::from(Asn1SequenceOf(copies.etypes)),
         addresses: Optional(None),
         enc_authorization_data: Optional(None),
         additional_tickets: Optional(None),
@@ -130,7 +173,10 @@ pub(crate) fn body(
 {
     match fields_of(alloc, want) {
         Ok(fields) => Ok(body_of(alloc, fields, cname, want.nonce)),
-        Err(error) => Err(error),
+        Err(error) => {
+            drop(cname);
+            Err(error)
+        }
     }
 }
 

@@ -39,6 +39,24 @@ pub(crate) fn copy_of<T: Der + Drop>(alloc: Global, value: &T) -> Result<T, Requ
     }
 }
 
+/// Values equal to these two.
+pub(crate) fn copies_of<A: Der + Drop, B: Der + Drop>(
+    alloc: Global,
+    first: &A,
+    second: &B,
+) -> Result<(A, B), RequestError>
+    ensures { MatchResult result (λ r. (r.0 ≡ first.now) × (r.1 ≡ second.now)) (λ e. e ≡ errors.OutOfMemory) }
+{
+    let first = copy_of(alloc, first)?;
+    match copy_of(alloc, second) {
+        Ok(second) => Ok((first, second)),
+        Err(error) => {
+            drop(first);
+            Err(error)
+        }
+    }
+}
+
 /// The encoding of a value.
 pub(crate) fn encoding<T: DerEncode>(alloc: Global, value: &T) -> Result<Vec<u8>, RequestError>
     ensures valid { IfOk result (λ _. T.is_value value.now) }

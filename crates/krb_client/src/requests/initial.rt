@@ -28,8 +28,21 @@ pub fn as_request(
         (wanted want.now) cname.now padata octets.items) }
     ensures rejected { IfErr result (λ e. IsMemoryOr e (IsNoBody (wanted want.now) e)) }
 {
-    let cname = copy_of(alloc, cname)?;
-    let body = body(alloc, want, Some(cname))?;
-    let octets = as_req_octets(alloc, padata, body)?;
-    Ok(octets)
+    let cname = match copy_of(alloc, cname) {
+        Ok(cname) => cname,
+        Err(error) => {
+            drop(padata);
+            return Err(error);
+        }
+    };
+    match body(alloc, want, Some(cname)) {
+        Ok(body) => {
+            let octets = as_req_octets(alloc, padata, body)?;
+            Ok(octets)
+        }
+        Err(error) => {
+            drop(padata);
+            Err(error)
+        }
+    }
 }

@@ -7,9 +7,9 @@ ghost use Rattle.krb_client.specs.Timestamps.{IsNoTimestamp, IsTimestamp, elemen
 ghost use Rattle.krb_client.specs.declared.requests.error.RequestError.TheVariants as errors;
 
 use crate::requests::error::RequestError;
-use crate::requests::fields::{encoding, field, time_at};
+use crate::requests::fields::{encoded, field, time_at};
 use crate::requests::key::LentKey;
-use crate::requests::sealing::sealed;
+use crate::requests::sealing::sealed_value;
 use krb_der::{
     Asn1SequenceOf, DerEncode, ExplicitContextTag0, ExplicitContextTag1, ExplicitContextTag2,
     IntegerAsn1, OctetStringAsn1,
@@ -72,7 +72,7 @@ pub fn pa_enc_timestamp(
 {
     let (time, microseconds) = time_at(alloc, seconds, microseconds)?;
     let stamp = stamp_of(time, microseconds);
-    let encrypted = sealed(alloc, key, 1, confounder, &stamp)?;
-    let octets = encoding(alloc, &encrypted)?;
+    let encrypted = sealed_value(alloc, key, 1, confounder, stamp)?;
+    let octets = encoded(alloc, encrypted)?;
     only(alloc, 2, octets)
 }

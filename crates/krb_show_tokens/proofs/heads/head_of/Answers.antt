@@ -1,5 +1,5 @@
-use Rattle.krb_show_tokens.proofs.OneFrame.{only_kerberos}
+use Rattle.krb_show_tokens.proofs.OneFrame.{head_none, of_none}
 use Rattle.krb_show_tokens.proofs.heads.head_of.Goals as goal
 
-pub returns-clause-kerberos : goal.returns-clause-kerberos
-returns-clause-kerberos c first second h = only_kerberos c.args.octets.now c.in_ok-head.head first second c.in_ok-head.ensures h
+pub returns-in-None : goal.returns-in-None
+returns-in-None c = head_none c.args.octets.now (of_none c.in_ok-mechanism.field-0 _ _ c.in_ok-mechanism.ensures c.in-None.is)
