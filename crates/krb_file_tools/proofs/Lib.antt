@@ -4,7 +4,10 @@ pub mod Pieces
 pub mod Printable
 pub mod Unique
 pub mod Backs
+pub mod Caches
+pub mod Credentials
 pub mod Entries
+pub mod Filters
 pub mod Infos
 pub mod Lists
 pub mod Refusals

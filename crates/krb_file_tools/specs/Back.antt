@@ -85,6 +85,15 @@ ccache_has cache field.Authdata = list_any (λ c. nat_lt 0 (length c.authorizati
 ccache_has cache field.SecondTicket = list_any (λ c. nat_lt 0 (length c.second_ticket)) (tickets_of cache.credentials)
 ccache_has cache _ = false
 
+-- what a credential has of this
+abbrev pub credential_has : Field → Credential → Bool
+credential_has field.Configuration c = is_configuration c
+credential_has field.Removed c = is_removed c
+credential_has field.IsSkey c = not (c.is_skey == 0)
+credential_has field.Authdata c = nat_lt 0 (length c.authorization_data)
+credential_has field.SecondTicket c = nat_lt 0 (length c.second_ticket)
+credential_has _ c = false
+
 -- all that may have none, in the order in which it is told
 abbrev pub ccache_fields : List Field
 ccache_fields = field.Header ∷ field.DefaultPrincipal ∷ field.Configuration ∷ field.Removed ∷ field.IsSkey ∷ field.Authdata ∷ field.SecondTicket ∷ []

@@ -80,6 +80,21 @@ abbrev pub addresses_from : Option (List HostAddress) → Result (List Typed) Co
 addresses_from None = Ok []
 addresses_from (Some addresses) = each_of address_from addresses
 
+-- "Credential format": client and server of a ticket. Where srealm or sname is absent, the ticket has it.
+abbrev pub parties_from : TicketInner → KrbCredInfo → Result (TypedPrincipal × TypedPrincipal) ConvertError
+parties_from ticket info = do
+  client ← client_from info.prealm.0 info.pname.0
+  server ← principal_from (unwrap_or info.srealm.0 ticket.realm) (unwrap_or info.sname.0 ticket.sname)
+  Ok (client, server)
+
+-- "Credential format": the encryption type of the key, the times and the addresses
+abbrev pub rest_from : KrbCredInfo → Result (ℕ × Times × List Typed) ConvertError
+rest_from info = do
+  etype ← or_error (complement_of 32768 info.key.key_type) errors.KeyType
+  times ← times_from info.auth_time.0 info.start_time.0 info.end_time.0 info.renew_till.0
+  addresses ← addresses_from info.caddr.0
+  Ok (etype, times, addresses)
+
 -- "Credential format": of a ticket, its octets, and what goes along with it (RFC 4120, 5.8.1: KrbCredInfo). Where srealm or sname is absent, the
 -- ticket has it. There are no authorization data and no second ticket.
 abbrev pub credential_from : List ℕ → TicketInner → KrbCredInfo → Result Credential ConvertError
@@ -107,6 +122,11 @@ credential_from octets ticket info = do
 abbrev pub cache_with : List Credential → Result Ccache ConvertError
 cache_with [] = Err errors.NoTicket
 cache_with (c ∷ cs) = Ok (record { version = Four; header = []; principal = c.client; credentials = c ∷ cs })
+
+-- the credentials of tickets, by what each one's octets are, and of what goes along with them
+unfoldable pub paired_from : (TicketInner → List ℕ) → List TicketInner → List KrbCredInfo → Result (List Credential) ConvertError
+paired_from octets_of tickets infos =
+    if length tickets == length infos then each_pair_of (λ ticket info. credential_from (octets_of ticket) ticket info) tickets infos else Err errors.TicketInfo
 
 -- the cache of tickets, by what each one's octets are, and of what goes along with them
 abbrev pub cache_from : (TicketInner → List ℕ) → List TicketInner → List KrbCredInfo → Result Ccache ConvertError

@@ -86,6 +86,22 @@ IsEtypePart ticket c part =
     (session : List ℕ) × (sealed : List ℕ) × IsEtypeText (pos c.etype) session × ticket c.ticket sealed
     × (part ≡ codes "  Etype (skey, tkt): " ++ session ++ codes ", " ++ sealed)
 
+-- start, end and server
+pub record IsTicketPart (c : Credential) (part : List ℕ) : Type 0 where
+  pub start : List ℕ
+  pub expiry : List ℕ
+  pub start_is : IsTimeText (start_of c.times) start
+  pub expiry_is : IsTimeText c.times.endtime expiry
+  pub is : part ≡ start ++ codes "  " ++ expiry ++ codes "  " ++ principal_text c.server.principal
+
+-- what klist -f -e adds
+pub record IsAddedPart (ticket : List ℕ → List ℕ → Type 0) (own : List ℕ) (c : Credential) (part : List ℕ) : Type 0 where
+  pub renewal : List ℕ
+  pub etypes : List ℕ
+  pub renewal_is : IsRenewPart c.times.renew_till renewal
+  pub etypes_is : IsEtypePart ticket c etypes
+  pub is : part ≡ client_part own (principal_text c.client.principal) ++ renewal ++ flags_part (flag_letters c.flags) ++ etypes
+
 -- start, end and server; then what klist -f -e adds, each part behind two blanks
 pub record IsCredentialLine (ticket : List ℕ → List ℕ → Type 0) (own : List ℕ) (c : Credential) (line : List ℕ) : Type 0 where
   pub start : List ℕ

@@ -8,6 +8,7 @@ use Rattle.krb_der_core.specs.declared.der.DerEncode.{Ghosts as EncodingOf}
 use Rattle.krb_der_core.specs.declared.error.Asn1DerError.{Asn1DerError}
 use Rattle.krb_messages.specs.declared.messages.credentials.KrbCredInner.{KrbCredInner}
 use Rattle.krb_enc_parts.specs.declared.data_types.credentials.EncKrbCredPartInner.{EncKrbCredPartInner}
+use Rattle.krb_enc_parts.specs.declared.data_types.credentials.KrbCredInfo.{KrbCredInfo}
 use Rattle.krb_types.specs.declared.data_types.tickets.TicketInner.{TicketInner}
 use Rattle.krb_file_tools.specs.Answers.{IsOf}
 use Rattle.krb_file_tools.specs.Fields.{has_empty_addresses, has_first_second, has_long_flags, has_other_length}
@@ -70,6 +71,23 @@ kirbi_has k p made field.EmptyCaddr = list_any (λ info. has_empty_addresses inf
 kirbi_has k p made field.AsConfiguration = list_any is_configuration made
 kirbi_has k p made field.AsRemoved = list_any is_removed made
 kirbi_has k p made _ = false
+
+-- what of this goes along with a ticket
+abbrev pub info_has : Field → KrbCredInfo → Bool
+info_has field.Flags info = has_long_flags info.flags.0
+info_has field.NoSrealm info = is_none info.srealm.0
+info_has field.NoSname info = is_none info.sname.0
+info_has field.NoFlags info = is_none info.flags.0
+info_has field.FlagsLength info = has_other_length info.flags.0
+info_has field.FirstSecond info = has_first_second info
+info_has field.EmptyCaddr info = has_empty_addresses info.caddr.0
+info_has _ info = false
+
+-- a credential is in a cache as this
+abbrev pub credential_is : Field → Credential → Bool
+credential_is field.AsConfiguration c = is_configuration c
+credential_is field.AsRemoved c = is_removed c
+credential_is _ c = false
 
 -- all that may have none, in the order in which it is told
 abbrev pub kirbi_fields : List Field

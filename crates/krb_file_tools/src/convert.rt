@@ -9,6 +9,7 @@ mod kirbi;
 mod message;
 mod names;
 mod numbers;
+mod vectors;
 
 pub use ccache::kirbi_of_ccache;
 pub use error::ConvertError;

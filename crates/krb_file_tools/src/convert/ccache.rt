@@ -1,13 +1,12 @@
 //! From a credential cache to a KRB-CRED in the clear (RFC 4120, 5.8.1).
 
-ghost use Rattle.std.specs.Prelude.{◌≡◌, ◌<◌, ◌==◌, None, [], filter, length, nat_lt, not, pos, MatchBool, IfOk, IfErr};
+ghost use Rattle.std.specs.Prelude.{◌≡◌, ◌<◌, ℕ, List, None, [], filter, length, nat_lt, pos, MatchBool, IfOk, IfErr};
 ghost use Rattle.std.specs.List.{list_any};
 ghost use Rattle.krb_files.specs.Ccache.{Ccache, CcacheIs};
-ghost use Rattle.krb_files.specs.Config.{is_removed};
 ghost use Rattle.krb_file_tools.specs.Answers.{IsMemoryOr};
 ghost use Rattle.krb_file_tools.specs.Back.{AreEntriesOf, CcacheRefusal, CredentialError, FirstBroken, IsEntryOf, IsKirbiOf, IsMessageOf};
-ghost use Rattle.krb_file_tools.specs.Back.{ccache_fields, ccache_has, differs, differs_from_first};
-ghost use Rattle.krb_file_tools.specs.Tickets.{is_configuration, tickets_of};
+ghost use Rattle.krb_file_tools.specs.Back.{ccache_fields, ccache_has, credential_has, differs, differs_from_first};
+ghost use Rattle.krb_file_tools.specs.Tickets.{tickets_of};
 ghost use Rattle.krb_file_tools.specs.Whole.{IsValue};
 ghost use Rattle.krb_file_tools.specs.declared.convert.error.ConvertError.TheVariants as errors;
 
@@ -15,6 +14,7 @@ use crate::convert::error::ConvertError;
 use crate::convert::field::{Converted, Field};
 use crate::convert::form::{Form, read};
 use crate::convert::message::info_of;
+use crate::convert::vectors::append;
 use crate::tickets::{is_configuration, is_ticket};
 use krb_der::{
     ApplicationTag, Asn1SequenceOf, Der, DerEncode, ExplicitContextTag0, ExplicitContextTag1,
@@ -94,8 +94,8 @@ fn entries_of<T: Der + Drop>(
     let mut infos = Vec::new(alloc);
     for credential in credentials {
         let (ticket, info) = entry_of(alloc, credential)?;
-        infos.push(info)?;
-        tickets.push(ticket)?;
+        append(&mut infos, info)?;
+        append(&mut tickets, ticket)?;
     }
     Ok(Entries { tickets, infos })
 }
@@ -214,31 +214,6 @@ fn credentials_of<'a>(
     cache.credentials().collect(alloc)
 }
 
-/// Whether one of the credentials is a configuration entry that was not removed.
-fn has_configuration(credentials: &[CredentialView]) -> bool
-    ensures { result ≡ list_any is_configuration credentials.now }
-{
-    credentials
-        .iter()
-        .any(|credential| is_configuration(credential))
-}
-
-/// Whether one of the credentials was removed.
-fn has_removed(credentials: &[CredentialView]) -> bool
-    ensures { result ≡ list_any is_removed credentials.now }
-{
-    credentials.iter().any(|credential| credential.is_removed())
-}
-
-/// Whether a ticket is encrypted in the session key of another ticket.
-fn has_skey(credentials: &[CredentialView]) -> bool
-    ensures { result ≡ list_any (λ c. not (c.is_skey == 0)) credentials.now }
-{
-    credentials
-        .iter()
-        .any(|credential| credential.is_skey() != 0)
-}
-
 /// Whether a credential has authorization data of its own.
 fn is_authorized(credential: &CredentialView) -> bool
     ensures { result ≡ nat_lt 0 (length credential.now.authorization_data) }
@@ -247,22 +222,27 @@ fn is_authorized(credential: &CredentialView) -> bool
     data.next().is_some()
 }
 
-/// Whether one of the credentials has authorization data of its own.
-fn has_authdata(credentials: &[CredentialView]) -> bool
-    ensures { result ≡ list_any (λ c. nat_lt 0 (length c.authorization_data)) credentials.now }
+/// Whether a credential has this, for which a KRB-CRED has no place.
+fn credential_has(credential: &CredentialView, field: Field) -> bool
+    ensures { result ≡ credential_has field credential.now }
 {
-    credentials
-        .iter()
-        .any(|credential| is_authorized(credential))
+    match field {
+        Field::Configuration => is_configuration(credential),
+        Field::Removed => credential.is_removed(),
+        Field::IsSkey => credential.is_skey() != 0,
+        Field::Authdata => is_authorized(credential),
+        Field::SecondTicket => !credential.second_ticket().is_empty(),
+        _ => false,
+    }
 }
 
-/// Whether one of the credentials has a second ticket.
-fn has_second_ticket(credentials: &[CredentialView]) -> bool
-    ensures { result ≡ list_any (λ c. nat_lt 0 (length c.second_ticket)) credentials.now }
+/// Whether one of the credentials has this.
+fn any_has(credentials: &[CredentialView], field: Field) -> bool
+    ensures { result ≡ list_any (credential_has field) credentials.now }
 {
     credentials
         .iter()
-        .any(|credential| !credential.second_ticket().is_empty())
+        .any(|credential| credential_has(credential, field))
 }
 
 /// Whether a cache has this, for which a KRB-CRED has no place.
@@ -281,13 +261,33 @@ fn has(
     match field {
         Field::Header => has_header(cache),
         Field::DefaultPrincipal => other_client,
-        Field::Configuration => has_configuration(all),
-        Field::Removed => has_removed(all),
-        Field::IsSkey => has_skey(kept),
-        Field::Authdata => has_authdata(kept),
-        Field::SecondTicket => has_second_ticket(kept),
+        Field::Configuration | Field::Removed => any_has(all, field),
+        Field::IsSkey | Field::Authdata | Field::SecondTicket => any_has(kept, field),
         _ => false,
     }
+}
+
+/// Those of these fields that a cache has, and a KRB-CRED has no place for; of it these are all credentials, and the tickets.
+fn fields_of(
+    alloc: Global,
+    fields: &[Field],
+    cache: &CcacheView,
+    all: &[CredentialView],
+    kept: &[CredentialView],
+    other_client: bool,
+) -> Result<Vec<Field>, AllocError>
+    requires all { all.now ≡ cache.now.credentials }
+    requires kept { kept.now ≡ tickets_of cache.now.credentials }
+    requires other { other_client ≡ differs_from_first cache.now.principal kept.now }
+    ensures { IfOk result (λ v. v.items ≡ filter (ccache_has cache.now) fields.now) }
+{
+    let mut found = Vec::new(alloc);
+    for field in fields {
+        if has(cache, all, kept, other_client, *field) {
+            found.push(*field)?;
+        }
+    }
+    Ok(found)
 }
 
 /// What a cache has, and a KRB-CRED has no place for.
@@ -301,12 +301,29 @@ fn left_out_of(
 {
     let other_client = differs_from_first(alloc, cache.principal(), kept)?;
     let all = credentials_of(alloc, cache)?;
-    let credentials = all.as_slice();
-    CCACHE_FIELDS
-        .iter()
-        .copied()
-        .filter(|field| has(cache, credentials, kept, other_client, *field))
-        .collect(alloc)
+    fields_of(alloc, &CCACHE_FIELDS, cache, &all, kept, other_client)
+}
+
+/// The KRB-CRED of a cache of these tickets. The first rule that is broken: `NoCredential`; of each
+/// credential, from the first, `Name`, `Time`, `Ticket`.
+fn of_tickets(
+    alloc: Global,
+    cache: &CcacheView,
+    kept: &[CredentialView],
+) -> Result<Converted, ConvertError>
+    requires { kept.now ≡ tickets_of cache.now.credentials }
+    ensures found { IfOk result (λ c. (octets : List ℕ) → CcacheIs octets cache.now → IsKirbiOf ⟦<KrbCred as DerEncode>⟧
+        ⟦<EncKrbCredPart as DerEncode>⟧ ⟦<Ticket as DerEncode>⟧ octets c.octets.items c.left_out.items) }
+    ensures rejected { IfErr result (λ e. (octets : List ℕ) → CcacheIs octets cache.now
+        → IsMemoryOr e (CcacheRefusal ⟦<Ticket as DerEncode>⟧ octets e)) }
+{
+    if is_none(kept) {
+        return Err(ConvertError::NoCredential);
+    }
+    let entries = entries_of(alloc, kept)?;
+    let octets = kirbi_of(alloc, entries)?;
+    let left_out = left_out_of(alloc, cache, kept)?;
+    Ok(Converted { octets, left_out })
 }
 
 /// The KRB-CRED in the clear, as a `.kirbi` is, of a credential cache of version 3 or 4 (MIT Kerberos,
@@ -332,12 +349,5 @@ pub fn kirbi_of_ccache(alloc: Global, octets: &[u8]) -> Result<Converted, Conver
         Err(why) => return Err(ConvertError::Ccache(why)),
     };
     let kept = tickets_of(alloc, &cache)?;
-    let credentials = kept.as_slice();
-    if is_none(credentials) {
-        return Err(ConvertError::NoCredential);
-    }
-    let entries = entries_of(alloc, credentials)?;
-    let octets = kirbi_of(alloc, entries)?;
-    let left_out = left_out_of(alloc, &cache, credentials)?;
-    Ok(Converted { octets, left_out })
+    of_tickets(alloc, &cache, &kept)
 }

@@ -6,7 +6,8 @@ ghost use Rattle.krb_files.specs.Config.{is_removed};
 ghost use Rattle.krb_files.specs.FieldReading.{Gives};
 ghost use Rattle.krb_file_tools.specs.Tickets.{is_configuration};
 ghost use Rattle.krb_file_tools.specs.Answers.{Answers};
-ghost use Rattle.krb_file_tools.specs.Kirbi.{address_from, addresses_from, credential_from, each_of, or_error, complement_of as complement, times_from};
+ghost use Rattle.krb_file_tools.specs.Kirbi.{address_from, addresses_from, credential_from, each_of, or_error, complement_of as complement};
+ghost use Rattle.krb_file_tools.specs.Kirbi.{parties_from, rest_from, times_from};
 ghost use Rattle.krb_file_tools.specs.declared.convert.error.ConvertError.TheVariants as errors;
 
 use crate::convert::error::ConvertError;
@@ -157,6 +158,55 @@ fn times_of(info: &KrbCredInfo) -> Result<Times, ConvertError>
     })
 }
 
+/// The client and the server of a ticket.
+#[derive(Drop)]
+struct Parties<'a> {
+    client: MessagePrincipal<'a>,
+    server: MessagePrincipal<'a>,
+}
+
+/// The client and the server of a ticket. The first rule that is broken: `NoPrealm`, `NoPname`, `NameType` of the client, `NameType` of the server.
+fn parties_of<'a>(
+    alloc: Global,
+    ticket: &'a TicketInner,
+    info: &'a KrbCredInfo,
+) -> Result<Parties<'a>, ConvertError>
+    ensures { Answers (λ p. (p.client, p.server)) result (parties_from ticket.now info.now) }
+{
+    let client = client_of(alloc, &info.prealm, &info.pname)?;
+    let realm = present_or(&info.srealm, &ticket.realm.0);
+    let name = present_or(&info.sname, &ticket.sname.0);
+    match principal_of(alloc, realm, name) {
+        Ok(server) => Ok(Parties { client, server }),
+        Err(error) => {
+            drop(client);
+            Err(error)
+        }
+    }
+}
+
+/// What goes along with a ticket beside names, key and flags.
+#[derive(Drop)]
+struct Rest<'a> {
+    etype: u16,
+    times: Times,
+    addresses: Vec<TypedOctets<'a>>,
+}
+
+/// What goes along with a ticket beside names, key and flags. The first rule that is broken: `KeyType`, `Time`, `AddressType`.
+fn rest_of(alloc: Global, info: &KrbCredInfo) -> Result<Rest<'_>, ConvertError>
+    ensures { Answers (λ r. (r.etype, r.times, r.addresses.items)) result (rest_from info.now) }
+{
+    let etype = short_of(&info.key.0.key_type.0, ConvertError::KeyType)?;
+    let times = times_of(info)?;
+    let addresses = addresses_of(alloc, &info.caddr)?;
+    Ok(Rest {
+        etype,
+        times,
+        addresses,
+    })
+}
+
 /// The credential of a ticket, its octets and what goes along with it. The first rule that is broken: `NoPrealm`, `NoPname`, `NameType` of the client,
 /// `NameType` of the server, `KeyType`, `Time`, `AddressType`.
 pub(crate) fn credential_of<'a>(
@@ -167,21 +217,28 @@ pub(crate) fn credential_of<'a>(
 ) -> Result<MessageCredential<'a>, ConvertError>
     ensures { Answers (λ c. c) result (credential_from octets.items ticket.now info.now) }
 {
-    let client = client_of(alloc, &info.prealm, &info.pname)?;
-    let realm = present_or(&info.srealm, &ticket.realm.0);
-    let name = present_or(&info.sname, &ticket.sname.0);
-    let server = principal_of(alloc, realm, name)?;
-    let etype = short_of(&info.key.0.key_type.0, ConvertError::KeyType)?;
-    let times = times_of(info)?;
-    let addresses = addresses_of(alloc, &info.caddr)?;
-    Ok(MessageCredential {
-        client,
-        server,
-        etype,
-        key: &info.key.0.key_value.0.0,
-        times,
-        flags: flags_number(&info.flags),
-        addresses,
-        ticket: octets,
-    })
+    let parties = match parties_of(alloc, ticket, info) {
+        Ok(parties) => parties,
+        Err(error) => {
+            drop(octets);
+            return Err(error);
+        }
+    };
+    match rest_of(alloc, info) {
+        Ok(rest) => Ok(MessageCredential {
+            client: parties.client,
+            server: parties.server,
+            etype: rest.etype,
+            key: &info.key.0.key_value.0.0,
+            times: rest.times,
+            flags: flags_number(&info.flags),
+            addresses: rest.addresses,
+            ticket: octets,
+        }),
+        Err(error) => {
+            drop(parties);
+            drop(octets);
+            Err(error)
+        }
+    }
 }

@@ -1,21 +1,23 @@
 //! From a KRB-CRED in the clear (RFC 4120, 5.8.1) to a credential cache.
 
-ghost use Rattle.std.specs.Prelude.{◌≡◌, filter, is_none, length, map, IfOk, IfErr};
+ghost use Rattle.std.specs.Prelude.{◌≡◌, filter, length, map, IfOk, IfErr};
 ghost use Rattle.std.specs.List.{list_any};
-ghost use Rattle.krb_files.specs.CcacheWritten.{credential_from as parts_value};
+ghost use Rattle.krb_files.specs.Ccache.{CcacheIs, FitsCcache};
+ghost use Rattle.krb_files.specs.CcacheWritten.{ccache_from as ccache_value, credential_from as parts_value};
+ghost use Rattle.krb_files.specs.declared.ccache.view.CcacheVersion.TheVariants.{Four};
 ghost use Rattle.krb_file_tools.specs.Answers.{Answers, IsMemoryOr};
-ghost use Rattle.krb_file_tools.specs.Fields.{has_empty_addresses, has_first_second, has_long_flags, has_other_length};
-ghost use Rattle.krb_files.specs.Config.{is_removed};
-ghost use Rattle.krb_file_tools.specs.Tickets.{is_configuration};
-ghost use Rattle.krb_file_tools.specs.Kirbi.{cache_from, cache_with, credential_from, each_pair_of};
+ghost use Rattle.krb_file_tools.specs.Fields.{has_empty_addresses, has_first_second};
+ghost use Rattle.krb_file_tools.specs.Kirbi.{cache_from, cache_with, credential_from, each_pair_of, paired_from};
 ghost use Rattle.krb_file_tools.specs.Whole.{ClearError, IsCacheBy, IsCacheFrom, IsCacheOf, IsClear, IsMade, IsUnwritten, KirbiRefusal, MessageError};
-ghost use Rattle.krb_file_tools.specs.Whole.{kirbi_fields, kirbi_has};
+ghost use Rattle.krb_file_tools.specs.declared.convert.error.ConvertError.TheVariants as errors;
+ghost use Rattle.krb_file_tools.specs.Whole.{credential_is, info_has, kirbi_fields, kirbi_has};
 
 use crate::convert::credential::{MessageCredential, credential_of};
 use crate::convert::error::ConvertError;
 use crate::convert::field::{Converted, Field};
 use crate::convert::form::{Form, is_number, read};
 use crate::convert::numbers::{has_long_flags, has_other_length, is_first_second};
+use crate::convert::vectors::append;
 use krb_der::{Der, DerEncode, ExplicitContextTag, IntegerAsn1, Optional, to_vec};
 use krb_enc_parts::data_types::{EncKrbCredPart, EncKrbCredPartInner, KrbCredInfo};
 use krb_files::ccache::{CcacheVersion, CcacheWriteError, NewCcache, NewCredential, write};
@@ -70,7 +72,7 @@ fn credentials_of<'a, T: DerEncode + Tagged<Value = TicketInner>>(
     let mut credentials = Vec::new(alloc);
     for (index, ticket) in tickets.iter().enumerate() {
         let credential = credential_at(alloc, ticket, &infos[index])?;
-        credentials.push(credential)?;
+        append(&mut credentials, credential)?;
     }
     Ok(credentials)
 }
@@ -89,6 +91,19 @@ fn parts_of<'a>(
     Ok(parts)
 }
 
+/// The octets of a cache of version 4. `TooLong` where a length or a count does not fit 32 bits.
+fn octets_of(alloc: Global, cache: &NewCcache) -> Result<Vec<u8>, ConvertError>
+    requires { cache.now.version ≡ Four }
+    ensures found { IfOk result (λ v. CcacheIs v.items (ccache_value cache.now)) }
+    ensures rejected { IfErr result (λ e. IsMemoryOr e ((e ≡ errors.TooLong) × (FitsCcache (ccache_value cache.now) → ⊥))) }
+{
+    match write(alloc, cache) {
+        Ok(octets) => Ok(octets),
+        Err(CcacheWriteError::OutOfMemory) => Err(ConvertError::OutOfMemory),
+        Err(_) => Err(ConvertError::TooLong),
+    }
+}
+
 /// The octets of the cache of these credentials, whose default principal is the client of the first. `NoTicket` where there is none; `TooLong` where a
 /// length or a count does not fit 32 bits.
 fn cache_octets(alloc: Global, credentials: &[MessageCredential]) -> Result<Vec<u8>, ConvertError>
@@ -105,39 +120,22 @@ fn cache_octets(alloc: Global, credentials: &[MessageCredential]) -> Result<Vec<
         principal: first.client().parts(),
         credentials: &parts,
     };
-    match write(alloc, &cache) {
-        Ok(octets) => Ok(octets),
-        Err(CcacheWriteError::OutOfMemory) => Err(ConvertError::OutOfMemory),
-        Err(_) => Err(ConvertError::TooLong),
-    }
+    octets_of(alloc, &cache)
 }
 
-/// The octets of a cache, and its credentials.
-#[derive(Drop)]
-struct Made<'a> {
-    octets: Vec<u8>,
-    credentials: Vec<MessageCredential<'a>>,
-}
-
-/// The cache of tickets and what goes along with them.
-fn cache_of<'a>(
+/// The credentials of tickets and what goes along with them; `TicketInfo` where there are not as many.
+#[tactic(auto, unfolding(crate::specs::Kirbi::paired_from))]
+fn paired_of<'a>(
     alloc: Global,
     tickets: &'a [Ticket],
     infos: &'a [KrbCredInfo],
-) -> Result<Made<'a>, ConvertError>
-    ensures found { IfOk result (λ m. IsMade m.octets.items m.credentials.items
-        (cache_from ⟦<Ticket as DerEncode>⟧.enc tickets.now infos.now)) }
-    ensures rejected { IfErr result (λ e. IsMemoryOr e (IsUnwritten e (cache_from ⟦<Ticket as DerEncode>⟧.enc tickets.now infos.now))) }
+) -> Result<Vec<MessageCredential<'a>>, ConvertError>
+    ensures { Answers (λ v. v.items) result (paired_from ⟦<Ticket as DerEncode>⟧.enc tickets.now infos.now) }
 {
     if tickets.len() != infos.len() {
         return Err(ConvertError::TicketInfo);
     }
-    let credentials = credentials_of(alloc, tickets, infos)?;
-    let octets = cache_octets(alloc, &credentials)?;
-    Ok(Made {
-        octets,
-        credentials,
-    })
+    credentials_of(alloc, tickets, infos)
 }
 
 /// The part of a message of these numbers that is in the clear. The first rule that is broken: `Pvno`, `MsgType`, `Sealed`, `Part`.
@@ -163,41 +161,6 @@ fn part_of<P: Der + Drop>(
     read(alloc, Form::Part, cipher)
 }
 
-/// Whether a flag past bit 31 of a ticket is set.
-fn has_any_long_flags(infos: &[KrbCredInfo]) -> bool
-    ensures { result ≡ list_any (λ info. has_long_flags info.flags.0) infos.now }
-{
-    infos.iter().any(|info| has_long_flags(&info.flags))
-}
-
-/// Whether one has no srealm.
-fn lacks_srealm(infos: &[KrbCredInfo]) -> bool
-    ensures { result ≡ list_any (λ info. is_none info.srealm.0) infos.now }
-{
-    infos.iter().any(|info| info.srealm.0.is_none())
-}
-
-/// Whether one has no sname.
-fn lacks_sname(infos: &[KrbCredInfo]) -> bool
-    ensures { result ≡ list_any (λ info. is_none info.sname.0) infos.now }
-{
-    infos.iter().any(|info| info.sname.0.is_none())
-}
-
-/// Whether one has no flags.
-fn lacks_flags(infos: &[KrbCredInfo]) -> bool
-    ensures { result ≡ list_any (λ info. is_none info.flags.0) infos.now }
-{
-    infos.iter().any(|info| info.flags.0.is_none())
-}
-
-/// Whether one has flags that are not 32 bits.
-fn has_any_other_length(infos: &[KrbCredInfo]) -> bool
-    ensures { result ≡ list_any (λ info. has_other_length info.flags.0) infos.now }
-{
-    infos.iter().any(|info| has_other_length(&info.flags))
-}
-
 /// Whether a time is the first second of 1970.
 fn has_first_second(info: &KrbCredInfo) -> bool
     ensures { result ≡ has_first_second info.now }
@@ -206,13 +169,6 @@ fn has_first_second(info: &KrbCredInfo) -> bool
         || is_first_second(&info.start_time)
         || is_first_second(&info.end_time)
         || is_first_second(&info.renew_till)
-}
-
-/// Whether a time of one is the first second of 1970.
-fn has_any_first_second(infos: &[KrbCredInfo]) -> bool
-    ensures { result ≡ list_any has_first_second infos.now }
-{
-    infos.iter().any(|info| has_first_second(info))
 }
 
 /// Whether addresses are there, and there is none.
@@ -227,25 +183,47 @@ fn has_empty_addresses<N>(
     }
 }
 
-/// Whether one has addresses, and there is none.
-fn has_any_empty_addresses(infos: &[KrbCredInfo]) -> bool
-    ensures { result ≡ list_any (λ info. has_empty_addresses info.caddr.0) infos.now }
+/// Whether what goes along with a ticket has this, for which a cache has no place, or which stands
+/// there in another way.
+fn info_has(info: &KrbCredInfo, field: Field) -> bool
+    ensures { result ≡ info_has field info.now }
 {
-    infos.iter().any(|info| has_empty_addresses(&info.caddr))
+    match field {
+        Field::Flags => has_long_flags(&info.flags),
+        Field::NoSrealm => info.srealm.0.is_none(),
+        Field::NoSname => info.sname.0.is_none(),
+        Field::NoFlags => info.flags.0.is_none(),
+        Field::FlagsLength => has_other_length(&info.flags),
+        Field::FirstSecond => has_first_second(info),
+        Field::EmptyCaddr => has_empty_addresses(&info.caddr),
+        _ => false,
+    }
 }
 
-/// Whether one of the credentials is a configuration entry that was not removed.
-fn has_configuration(made: &[MessageCredential]) -> bool
-    ensures { result ≡ list_any is_configuration made.now }
+/// Whether what goes along with one of the tickets has this.
+fn any_info_has(infos: &[KrbCredInfo], field: Field) -> bool
+    ensures { result ≡ list_any (info_has field) infos.now }
 {
-    made.iter().any(|credential| credential.is_configuration())
+    infos.iter().any(|info| info_has(info, field))
 }
 
-/// Whether one of the credentials was removed.
-fn has_removed(made: &[MessageCredential]) -> bool
-    ensures { result ≡ list_any is_removed made.now }
+/// Whether a credential is in a cache as this: a configuration entry, or one that was removed.
+fn credential_is(credential: &MessageCredential, field: Field) -> bool
+    ensures { result ≡ credential_is field credential.now }
 {
-    made.iter().any(|credential| credential.is_removed())
+    match field {
+        Field::AsConfiguration => credential.is_configuration(),
+        Field::AsRemoved => credential.is_removed(),
+        _ => false,
+    }
+}
+
+/// Whether one of the credentials is in a cache as this.
+fn any_is(made: &[MessageCredential], field: Field) -> bool
+    ensures { result ≡ list_any (credential_is field) made.now }
+{
+    made.iter()
+        .any(|credential| credential_is(credential, field))
 }
 
 /// Whether a KRB-CRED has this, for which the cache of these credentials has no place, or which
@@ -260,38 +238,56 @@ fn has(
 {
     match field {
         Field::Kvno => message.enc_part.0.kvno.0.is_some(),
-        Field::Flags => has_any_long_flags(part.ticket_info.0.0.as_slice()),
         Field::Nonce => part.nonce.0.is_some(),
         Field::Timestamp => part.timestamp.0.is_some(),
         Field::Usec => part.usec.0.is_some(),
         Field::SAddress => part.s_address.0.is_some(),
         Field::RAddress => part.r_address.0.is_some(),
-        Field::NoSrealm => lacks_srealm(part.ticket_info.0.0.as_slice()),
-        Field::NoSname => lacks_sname(part.ticket_info.0.0.as_slice()),
-        Field::NoFlags => lacks_flags(part.ticket_info.0.0.as_slice()),
-        Field::FlagsLength => has_any_other_length(part.ticket_info.0.0.as_slice()),
-        Field::FirstSecond => has_any_first_second(part.ticket_info.0.0.as_slice()),
-        Field::EmptyCaddr => has_any_empty_addresses(part.ticket_info.0.0.as_slice()),
-        Field::AsConfiguration => has_configuration(made),
-        Field::AsRemoved => has_removed(made),
+        Field::Flags
+        | Field::NoSrealm
+        | Field::NoSname
+        | Field::NoFlags
+        | Field::FlagsLength
+        | Field::FirstSecond
+        | Field::EmptyCaddr => any_info_has(part.ticket_info.0.0.as_slice(), field),
+        Field::AsConfiguration | Field::AsRemoved => any_is(made, field),
         _ => false,
     }
 }
 
-/// What a KRB-CRED has, and the cache of these credentials has no place for, or in another way.
+/// Those of these fields that a KRB-CRED has, and the cache of these credentials has no place for, or in another way.
 fn left_out_of(
     alloc: Global,
+    fields: &[Field],
     message: &KrbCredInner,
     part: &EncKrbCredPartInner,
     made: &[MessageCredential],
 ) -> Result<Vec<Field>, AllocError>
-    ensures { IfOk result (λ v. v.items ≡ filter (kirbi_has message.now part.now made.now) kirbi_fields) }
+    ensures { IfOk result (λ v. v.items ≡ filter (kirbi_has message.now part.now made.now) fields.now) }
 {
-    KIRBI_FIELDS
-        .iter()
-        .copied()
-        .filter(|field| has(message, part, made, *field))
-        .collect(alloc)
+    let mut left_out = Vec::new(alloc);
+    for field in fields {
+        if has(message, part, made, *field) {
+            left_out.push(*field)?;
+        }
+    }
+    Ok(left_out)
+}
+
+/// The cache of these credentials, of a message and its part.
+fn of_credentials(
+    alloc: Global,
+    message: &KrbCredInner,
+    part: &EncKrbCredPartInner,
+    made: &[MessageCredential],
+) -> Result<Converted, ConvertError>
+    ensures found { IfOk result (λ c. IsMade c.octets.items made.now (cache_with made.now)
+        × (c.left_out.items ≡ filter (kirbi_has message.now part.now made.now) kirbi_fields)) }
+    ensures rejected { IfErr result (λ e. IsMemoryOr e (IsUnwritten e (cache_with made.now))) }
+{
+    let octets = cache_octets(alloc, made)?;
+    let left_out = left_out_of(alloc, &KIRBI_FIELDS, message, part, made)?;
+    Ok(Converted { octets, left_out })
 }
 
 /// The cache of a message and its part.
@@ -304,16 +300,10 @@ fn of_part(
     ensures rejected { IfErr result (λ e. IsMemoryOr e
         (IsUnwritten e (cache_from ⟦<Ticket as DerEncode>⟧.enc message.now.tickets part.now.ticket_info))) }
 {
-    let made = cache_of(
-        alloc,
-        message.tickets.0.0.as_slice(),
-        part.ticket_info.0.0.as_slice(),
-    )?;
-    let left_out = left_out_of(alloc, message, part, &made.credentials)?;
-    Ok(Converted {
-        octets: made.octets,
-        left_out,
-    })
+    let tickets = message.tickets.0.0.as_slice();
+    let infos = part.ticket_info.0.0.as_slice();
+    let made = paired_of(alloc, tickets, infos)?;
+    of_credentials(alloc, message, part, &made)
 }
 
 /// What stands in the place of a ciphertext.
@@ -335,8 +325,9 @@ fn of_message(alloc: Global, message: &KrbCredInner) -> Result<Converted, Conver
     let etype = sealed.etype.get();
     let cipher = cipher_of(sealed);
     let part: EncKrbCredPart = part_of(alloc, pvno, msg_type, etype, cipher)?;
-    let inner = part.get();
-    of_part(alloc, message, inner)
+    let converted = of_part(alloc, message, part.get());
+    drop(part);
+    converted
 }
 
 /// The credential cache, of version 4 and with an empty header, of a KRB-CRED in the clear, as a `.kirbi` is: the octets are the encoding of a KRB-CRED
@@ -360,6 +351,7 @@ pub fn ccache_of_kirbi(alloc: Global, octets: &[u8]) -> Result<Converted, Conver
         (KirbiRefusal ⟦<KrbCred as DerEncode>⟧ ⟦<EncKrbCredPart as DerEncode>⟧ ⟦<Ticket as DerEncode>⟧.enc octets.now e)) }
 {
     let message: KrbCred = read(alloc, Form::Kirbi, octets)?;
-    let inner = message.get();
-    of_message(alloc, inner)
+    let converted = of_message(alloc, message.get());
+    drop(message);
+    converted
 }

@@ -2,7 +2,8 @@
 
 ghost use Rattle.std.specs.Prelude.{◌≡◌, List, [], ◌∷◌, ◌++◌, ℕ, IfOk, IfErr, OnOk, MatchResult, codes};
 ghost use Rattle.krb_files.specs.Ccache.{Ccache, CcacheIs};
-ghost use Rattle.krb_file_tools.specs.Lines.{IsCcacheListing, IsCredentialLine, IsEtypePart, IsListing, IsNoCcache, IsRenewPart, ccache_header, client_part, flags_part, start_of};
+ghost use Rattle.krb_file_tools.specs.Lines.{IsAddedPart, IsCcacheListing, IsCredentialLine, IsEtypePart, IsListing, IsNoCcache, IsRenewPart, IsTicketPart};
+ghost use Rattle.krb_file_tools.specs.Lines.{ccache_header, client_part, flags_part, start_of};
 ghost use Rattle.krb_file_tools.specs.Principals.{principal_text};
 ghost use Rattle.krb_file_tools.specs.Texts.{IsEncodedEtypeText, flag_letters};
 ghost use Rattle.krb_file_tools.specs.Tickets.{tickets_of};
@@ -11,7 +12,7 @@ ghost use Rattle.krb_show_text.specs.Text.{ArePrintable, text_of_lines};
 use crate::list::error::ListError;
 use crate::list::etype::{TicketEtypes, Tickets, text_of_etype};
 use crate::list::flags::letters_of;
-use crate::list::lines::{joined, push_line};
+use crate::list::lines::{behind, joined, push_line};
 use crate::list::principal::text_of_principal;
 use crate::list::time::text_of_seconds;
 use crate::tickets::is_ticket;
@@ -41,11 +42,10 @@ fn client_part(alloc: Global, own: &[u8], client: &PrincipalView) -> Result<Vec<
     ensures printable { IfOk result (λ part. ArePrintable part.items) }
 {
     let text = text_of_principal(alloc, client)?;
-    let mut part = Vec::new(alloc);
-    if text.as_slice() != own {
-        part.extend_from_slice(b"  for client ")?;
-        part.extend_from_slice(&text)?;
+    if text.as_slice() == own {
+        return Ok(Vec::new(alloc));
     }
+    let part = behind(alloc, b"  for client ", &text)?;
     Ok(part)
 }
 
@@ -54,12 +54,11 @@ fn renew_part(alloc: Global, renew_till: u32) -> Result<Vec<u8>, AllocError>
     ensures part { IfOk result (λ part. IsRenewPart renew_till part.items) }
     ensures printable { IfOk result (λ part. ArePrintable part.items) }
 {
-    let mut part = Vec::new(alloc);
-    if renew_till != 0 {
-        let time = text_of_seconds(alloc, renew_till)?;
-        part.extend_from_slice(b"  renew until ")?;
-        part.extend_from_slice(&time)?;
+    if renew_till == 0 {
+        return Ok(Vec::new(alloc));
     }
+    let time = text_of_seconds(alloc, renew_till)?;
+    let part = behind(alloc, b"  renew until ", &time)?;
     Ok(part)
 }
 
@@ -69,11 +68,10 @@ fn flags_part(alloc: Global, flags: u32) -> Result<Vec<u8>, AllocError>
     ensures printable { IfOk result (λ part. ArePrintable part.items) }
 {
     let letters = letters_of(alloc, flags)?;
-    let mut part = Vec::new(alloc);
-    if !letters.is_empty() {
-        part.extend_from_slice(b"  Flags: ")?;
-        part.extend_from_slice(&letters)?;
+    if letters.is_empty() {
+        return Ok(letters);
     }
+    let part = behind(alloc, b"  Flags: ", &letters)?;
     Ok(part)
 }
 
@@ -87,11 +85,56 @@ fn etype_part<T: TicketEtypes>(
 {
     let session = text_of_etype(alloc, i64::from(credential.etype()))?;
     let sealed = T::text_of_ticket_etype(alloc, credential.ticket())?;
-    let mut part = Vec::new(alloc);
-    part.extend_from_slice(b"  Etype (skey, tkt): ")?;
-    part.extend_from_slice(&session)?;
-    part.extend_from_slice(b", ")?;
-    part.extend_from_slice(&sealed)?;
+    let pieces = [
+        b"  Etype (skey, tkt): ",
+        session.as_slice(),
+        b", ",
+        sealed.as_slice(),
+    ];
+    let part = joined(alloc, &pieces)?;
+    Ok(part)
+}
+
+/// The start, the end and the server of a ticket.
+fn ticket_part(alloc: Global, credential: &CredentialView) -> Result<Vec<u8>, AllocError>
+    ensures part { IfOk result (λ part. IsTicketPart credential.now part.items) }
+    ensures printable { IfOk result (λ part. ArePrintable part.items) }
+{
+    let times = credential.times();
+    let start = text_of_seconds(alloc, start_of(&times))?;
+    let expiry = text_of_seconds(alloc, times.endtime)?;
+    let server = text_of_principal(alloc, credential.server().principal())?;
+    let pieces = [
+        start.as_slice(),
+        b"  ",
+        expiry.as_slice(),
+        b"  ",
+        server.as_slice(),
+    ];
+    let part = joined(alloc, &pieces)?;
+    Ok(part)
+}
+
+/// What a line has behind the server: the client, the time of renewal, the flags and the encryption types.
+fn added_part<T: TicketEtypes>(
+    alloc: Global,
+    own: &[u8],
+    credential: &CredentialView,
+) -> Result<Vec<u8>, AllocError>
+    ensures part { IfOk result (λ part. IsAddedPart T.etype own.now credential.now part.items) }
+    ensures printable { IfOk result (λ part. ArePrintable part.items) }
+{
+    let client = client_part(alloc, own, credential.client().principal())?;
+    let renewal = renew_part(alloc, credential.times().renew_till)?;
+    let flags = flags_part(alloc, credential.flags())?;
+    let etypes = etype_part::<T>(alloc, credential)?;
+    let pieces = [
+        client.as_slice(),
+        renewal.as_slice(),
+        flags.as_slice(),
+        etypes.as_slice(),
+    ];
+    let part = joined(alloc, &pieces)?;
     Ok(part)
 }
 
@@ -104,26 +147,9 @@ fn line_of_credential<T: TicketEtypes>(
     ensures line { IfOk result (λ line. IsCredentialLine T.etype own.now credential.now line.items) }
     ensures printable { IfOk result (λ line. ArePrintable line.items) }
 {
-    let times = credential.times();
-    let start = text_of_seconds(alloc, start_of(&times))?;
-    let expiry = text_of_seconds(alloc, times.endtime)?;
-    let server = text_of_principal(alloc, credential.server().principal())?;
-    let client = client_part(alloc, own, credential.client().principal())?;
-    let renewal = renew_part(alloc, times.renew_till)?;
-    let flags = flags_part(alloc, credential.flags())?;
-    let etypes = etype_part::<T>(alloc, credential)?;
-    let pieces = [
-        start.as_slice(),
-        b"  ",
-        expiry.as_slice(),
-        b"  ",
-        server.as_slice(),
-        client.as_slice(),
-        renewal.as_slice(),
-        flags.as_slice(),
-        etypes.as_slice(),
-    ];
-    let line = joined(alloc, &pieces)?;
+    let ticket = ticket_part(alloc, credential)?;
+    let added = added_part::<T>(alloc, own, credential)?;
+    let line = behind(alloc, &ticket, &added)?;
     Ok(line)
 }
 
@@ -131,10 +157,7 @@ fn line_of_credential<T: TicketEtypes>(
 fn default_line(alloc: Global, own: &[u8]) -> Result<Vec<u8>, AllocError>
     ensures { IfOk result (λ line. line.items ≡ codes "Default principal: " ++ own.now) }
 {
-    let mut line = Vec::new(alloc);
-    line.extend_from_slice(b"Default principal: ")?;
-    line.extend_from_slice(own)?;
-    Ok(line)
+    behind(alloc, b"Default principal: ", own)
 }
 
 /// A text of two lines.

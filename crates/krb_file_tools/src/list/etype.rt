@@ -80,7 +80,11 @@ impl TicketEtypes for Tickets {
 
     fn text_of_ticket_etype(alloc: Global, octets: &[u8]) -> Result<Vec<u8>, AllocError> {
         match open::<Ticket>(alloc, octets)? {
-            Some(ticket) => text_of_sealed_etype(alloc, &ticket),
+            Some(ticket) => {
+                let text = text_of_sealed_etype(alloc, &ticket);
+                drop(ticket);
+                text
+            }
             None => unreadable(alloc),
         }
     }

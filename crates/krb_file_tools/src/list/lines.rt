@@ -17,6 +17,16 @@ pub(crate) fn joined(alloc: Global, pieces: &[&[u8]]) -> Result<Vec<u8>, AllocEr
     Ok(text)
 }
 
+/// A text behind a word.
+pub(crate) fn behind(alloc: Global, word: &[u8], text: &[u8]) -> Result<Vec<u8>, AllocError>
+    ensures { IfOk result (λ both. both.items ≡ word.now ++ text.now) }
+{
+    let mut both = Vec::new(alloc);
+    both.extend_from_slice(word)?;
+    both.extend_from_slice(text)?;
+    Ok(both)
+}
+
 /// Digits in four columns, or more where the digits are more.
 pub(crate) fn padded(alloc: Global, digits: &[u8]) -> Result<Vec<u8>, AllocError>
     ensures { IfOk result (λ text. text.items ≡ padded digits.now) }

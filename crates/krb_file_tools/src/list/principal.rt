@@ -109,6 +109,18 @@ fn push_components(out: &mut Vec<u8>, components: &[&[u8]]) -> Result<(), AllocE
     push_after_slashes(out, rest)
 }
 
+/// A principal of these components and this realm as text.
+fn text_of_names(alloc: Global, components: &[&[u8]], realm: &[u8]) -> Result<Vec<u8>, AllocError>
+    ensures text { IfOk result (λ text. text.items ≡ components_text (map (λ p. p.now) components.now) ++ 64 ∷ name_text realm.now) }
+    ensures printable { IfOk result (λ text. ArePrintable text.items) }
+{
+    let mut text = Vec::new(alloc);
+    push_components(&mut text, components)?;
+    text.push(b'@')?;
+    push_name(&mut text, realm)?;
+    Ok(text)
+}
+
 /// A principal as text.
 pub(crate) fn text_of_principal(
     alloc: Global,
@@ -118,9 +130,6 @@ pub(crate) fn text_of_principal(
     ensures printable { IfOk result (λ text. ArePrintable text.items) }
 {
     let components = components_of(alloc, principal.components())?;
-    let mut text = Vec::new(alloc);
-    push_components(&mut text, &components)?;
-    text.push(b'@')?;
-    push_name(&mut text, principal.realm())?;
+    let text = text_of_names(alloc, &components, principal.realm())?;
     Ok(text)
 }

@@ -14,6 +14,6 @@ returns-in_err-ticket-clause-rejected g c =
 
 pub loop-credential-preserved : goal.loop-credential-preserved
 loop-credential-preserved g c =
-    rw (c.in_ok-push.ensures.items, c.in_ok-push-2.ensures.items)
+    rw (c.in_ok-append.ensures, c.in_ok-append-2.ensures)
     (entries_more g.T.DerEncode c.args.credentials.now c.loop-credential.credential-index c.loop-credential.tickets.items c.loop-credential.infos.items c.credential-item.result
     c.in_ok-ticket.ticket c.in_ok-ticket.info c.loop-credential-test.true c.credential-item.is c.loop-credential.invariant c.in_ok-ticket.ensures.found)

@@ -9,12 +9,12 @@ returns-in_err-message-clause-rejected c =
 
 pub returns-clause-found : goal.returns-clause-found
 returns-clause-found c =
-    IfOk-weaker c.of_message.result _ _
-    (λ x h. inside_found _ _ _ c.args.octets.now c.in_ok-message.message c.get-inner.result.now x.octets.items x.left_out.items c.get-inner.ensures c.in_ok-message.ensures.found h)
-    c.of_message.ensures.found
+    IfOk-weaker c.of_message-converted.result _ _
+    (λ x h. inside_found _ _ _ c.args.octets.now c.in_ok-message.message c.get.result.now x.octets.items x.left_out.items c.get.ensures c.in_ok-message.ensures.found h)
+    c.of_message-converted.ensures.found
 
 pub returns-clause-rejected : goal.returns-clause-rejected
 returns-clause-rejected c =
-    IfErr-weaker c.of_message.result _ _
-    (λ e h. inside_broken _ _ _ c.args.octets.now c.in_ok-message.message c.get-inner.result.now e c.get-inner.ensures c.in_ok-message.ensures.found h)
-    c.of_message.ensures.rejected
+    IfErr-weaker c.of_message-converted.result _ _
+    (λ e h. inside_broken _ _ _ c.args.octets.now c.in_ok-message.message c.get.result.now e c.get.ensures c.in_ok-message.ensures.found h)
+    c.of_message-converted.ensures.rejected

@@ -24,10 +24,10 @@ returns-clause-found c =
       etype_is = c.get-etype.ensures ∙ ap (λ (x : EncryptedData). x.etype) c.get-sealed.ensures;
       cipher_is = c.cipher_of-cipher.ensures ∙ ap (λ (x : EncryptedData). x.cipher) c.get-sealed.ensures;
     } in
-    IfOk-weaker c.of_part.result _ _
-    (λ x h. cache_found _ _ c.args.message.now c.get-pvno.result.now c.get-msg_type.result.now c.get-etype.result.now c.cipher_of-cipher.result.now c.in_ok-part.part c.get-inner.result.now
-    x.octets.items x.left_out.items n c.get-inner.ensures c.in_ok-part.ensures.found h)
-    c.of_part.ensures.found
+    IfOk-weaker c.of_part-converted.result _ _
+    (λ x h. cache_found _ _ c.args.message.now c.get-pvno.result.now c.get-msg_type.result.now c.get-etype.result.now c.cipher_of-cipher.result.now c.in_ok-part.part c.get.result.now
+    x.octets.items x.left_out.items n c.get.ensures c.in_ok-part.ensures.found h)
+    c.of_part-converted.ensures.found
 
 pub returns-clause-rejected : goal.returns-clause-rejected
 returns-clause-rejected c =
@@ -37,7 +37,7 @@ returns-clause-rejected c =
       etype_is = c.get-etype.ensures ∙ ap (λ (x : EncryptedData). x.etype) c.get-sealed.ensures;
       cipher_is = c.cipher_of-cipher.ensures ∙ ap (λ (x : EncryptedData). x.cipher) c.get-sealed.ensures;
     } in
-    IfErr-weaker c.of_part.result _ _
-    (λ e h. cache_broken _ _ c.args.message.now c.get-pvno.result.now c.get-msg_type.result.now c.get-etype.result.now c.cipher_of-cipher.result.now c.in_ok-part.part c.get-inner.result.now
-    e n c.get-inner.ensures c.in_ok-part.ensures.found h)
-    c.of_part.ensures.rejected
+    IfErr-weaker c.of_part-converted.result _ _
+    (λ e h. cache_broken _ _ c.args.message.now c.get-pvno.result.now c.get-msg_type.result.now c.get-etype.result.now c.cipher_of-cipher.result.now c.in_ok-part.part c.get.result.now
+    e n c.get.ensures c.in_ok-part.ensures.found h)
+    c.of_part-converted.ensures.rejected
