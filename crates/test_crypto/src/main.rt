@@ -26,15 +26,15 @@ struct Cryptography;
 impl Tables for Cryptography {
     fn report_of(alloc: Global, table: &str, columns: Columns<'_>) -> Result<Report, RowError> {
         let text = match table {
-            "crypto" => crypto::answer(alloc, columns)?,
-            "calls" => c_calls::answer(alloc, columns)?,
-            "tokens" => c_tokens::answer(alloc, columns)?,
-            "accepted" => accepted::answer(alloc, columns)?,
-            "third legs" => third_legs::answer(alloc, columns)?,
-            "replies" => client_replies::answer(alloc, columns)?,
-            "pac checksums" => pac_checksums::answer(alloc, columns)?,
-            _ => return Err(RowError::NoTable),
-        };
+            "crypto" => crypto::answer(alloc, columns),
+            "calls" => c_calls::answer(alloc, columns),
+            "tokens" => c_tokens::answer(alloc, columns),
+            "accepted" => accepted::answer(alloc, columns),
+            "third legs" => third_legs::answer(alloc, columns),
+            "replies" => client_replies::answer(alloc, columns),
+            "pac checksums" => pac_checksums::answer(alloc, columns),
+            _ => Err(RowError::NoTable),
+        }?;
         Ok(Report::of(text))
     }
 }

@@ -18,24 +18,30 @@ mod requests;
 
 use crate::kdc_proxy::replies::{answered, is_there, read, replied};
 use crate::kdc_proxy::requests::{looked_at, posted, requested};
-use std::alloc::Global;
+use std::alloc::{AllocError, Global};
 use test_rows::{Columns, RowError, octets_of};
+
+/// What is printed of what a client posts.
+fn request(alloc: Global, octets: &[u8]) -> Result<String, AllocError> {
+    let mut text = requested(alloc, octets)?;
+    text.push_str(&looked_at(alloc, octets)?)?;
+    Ok(text)
+}
+
+/// What is printed of a message that is posted.
+fn post(alloc: Global, octets: &[u8], columns: &mut Columns<'_>) -> Result<String, RowError> {
+    let domain = columns.text()?;
+    let hint = octets_of(alloc, columns.text_if_any())?;
+    Ok(posted(alloc, octets, domain, &hint)?)
+}
 
 /// What is printed of a row.
 pub(crate) fn answer(alloc: Global, mut columns: Columns<'_>) -> Result<String, RowError> {
     let call = columns.text()?;
     let octets = columns.octets(alloc)?;
     let text = match call {
-        "request" => {
-            let mut text = requested(alloc, &octets)?;
-            text.push_str(&looked_at(alloc, &octets)?)?;
-            text
-        }
-        "post" => {
-            let domain = columns.text()?;
-            let hint = octets_of(alloc, columns.text_if_any())?;
-            posted(alloc, &octets, domain, &hint)?
-        }
+        "request" => request(alloc, &octets)?,
+        "post" => post(alloc, &octets, &mut columns)?,
         "reply" => replied(alloc, &octets)?,
         "write_reply" => answered(alloc, &octets)?,
         "read_reply" => read(alloc, &octets)?,

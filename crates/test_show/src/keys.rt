@@ -90,12 +90,18 @@ fn password(alloc: Global, password: &str, octets: &[u8]) -> Result<String, Allo
 /// What is printed of a row.
 pub(crate) fn answer(alloc: Global, mut columns: Columns<'_>) -> Result<String, RowError> {
     let kind = columns.text()?;
+    if kind == "key" {
+        return Ok(key(alloc, columns.text()?)?);
+    }
+    if kind == "password" {
+        let word = columns.text()?;
+        return Ok(password(alloc, word, &columns.octets(alloc)?)?);
+    }
+    let octets = columns.octets(alloc)?;
     let text = match kind {
-        "key" => key(alloc, columns.text()?)?,
-        "password" => password(alloc, columns.text()?, &columns.octets(alloc)?)?,
-        "keytab" => keytab(alloc, &columns.octets(alloc)?)?,
-        "message" => message(alloc, &columns.octets(alloc)?)?,
-        "hidden" => hidden(alloc, &columns.octets(alloc)?)?,
+        "keytab" => keytab(alloc, &octets)?,
+        "message" => message(alloc, &octets)?,
+        "hidden" => hidden(alloc, &octets)?,
         _ => return Err(RowError::NoColumn),
     };
     Ok(text)

@@ -40,12 +40,17 @@ fn push_name(alloc: Global, text: &mut String, name: &[u8]) -> Result<(), AllocE
 /// The line of the names.
 fn names(alloc: Global, logon: &LogonView) -> Result<String, AllocError> {
     let mut text = String::from_str(alloc, "names")?;
-    push_name(alloc, &mut text, logon.effective_name())?;
-    push_name(alloc, &mut text, logon.full_name())?;
-    push_name(alloc, &mut text, logon.logon_script())?;
-    push_name(alloc, &mut text, logon.profile_path())?;
-    push_name(alloc, &mut text, logon.home_directory())?;
-    push_name(alloc, &mut text, logon.home_directory_drive())?;
+    let names = [
+        logon.effective_name(),
+        logon.full_name(),
+        logon.logon_script(),
+        logon.profile_path(),
+        logon.home_directory(),
+        logon.home_directory_drive(),
+    ];
+    for name in &names {
+        push_name(alloc, &mut text, name)?;
+    }
     text.push_str("\n")?;
     Ok(text)
 }
@@ -110,17 +115,26 @@ fn sids(alloc: Global, logon: &LogonView) -> Result<String, AllocError> {
     }
 }
 
+/// The line of the groups, and that of the resource groups.
+fn all_groups(alloc: Global, logon: &LogonView) -> Result<String, AllocError> {
+    let domain = groups(alloc, logon.groups())?;
+    let resource = groups(alloc, logon.resource_groups())?;
+    format!(in alloc; "{domain}\nresource {resource}\n")
+}
+
+/// Adds what was made.
+fn add(text: &mut String, made: Result<String, AllocError>) -> Result<(), AllocError> {
+    text.push_str(&made?)
+}
+
 /// All lines of the logon information.
 fn shown(alloc: Global, logon: &LogonView) -> Result<String, AllocError> {
     let mut text = times(alloc, logon)?;
-    text.push_str(&names(alloc, logon)?)?;
-    text.push_str(&domain(alloc, logon)?)?;
-    text.push_str(&numbers(alloc, logon)?)?;
-    text.push_str(&groups(alloc, logon.groups())?)?;
-    text.push_str("\nresource ")?;
-    text.push_str(&groups(alloc, logon.resource_groups())?)?;
-    text.push_str("\n")?;
-    text.push_str(&sids(alloc, logon)?)?;
+    add(&mut text, names(alloc, logon))?;
+    add(&mut text, domain(alloc, logon))?;
+    add(&mut text, numbers(alloc, logon))?;
+    add(&mut text, all_groups(alloc, logon))?;
+    add(&mut text, sids(alloc, logon))?;
     Ok(text)
 }
 

@@ -29,21 +29,21 @@ struct Shown;
 impl Tables for Shown {
     fn report_of(alloc: Global, table: &str, columns: Columns<'_>) -> Result<Report, RowError> {
         let text = match table {
-            "pages" => pages::answer(alloc, columns)?,
-            "files" => files::answer(alloc, columns)?,
-            "opened" => opened::answer(alloc, columns)?,
-            "limited" => opened::answer_limited(alloc, columns)?,
-            "checksums" => checksums::answer(alloc, columns)?,
-            "keys" => keys::answer(alloc, columns)?,
-            "pac" => pac::answer(alloc, columns)?,
-            "fields" => fields::answer(alloc, columns)?,
-            "lists" => lists::answer(alloc, columns)?,
-            "conversions" => conversions::answer(alloc, columns)?,
-            "logon" => logon::answer(alloc, columns)?,
-            "pac text" => pac_text::answer(alloc, columns)?,
-            "kdc proxy" => kdc_proxy::answer(alloc, columns)?,
-            _ => return Err(RowError::NoTable),
-        };
+            "pages" => pages::answer(alloc, columns),
+            "files" => files::answer(alloc, columns),
+            "opened" => opened::answer(alloc, columns),
+            "limited" => opened::answer_limited(alloc, columns),
+            "checksums" => checksums::answer(alloc, columns),
+            "keys" => keys::answer(alloc, columns),
+            "pac" => pac::answer(alloc, columns),
+            "fields" => fields::answer(alloc, columns),
+            "lists" => lists::answer(alloc, columns),
+            "conversions" => conversions::answer(alloc, columns),
+            "logon" => logon::answer(alloc, columns),
+            "pac text" => pac_text::answer(alloc, columns),
+            "kdc proxy" => kdc_proxy::answer(alloc, columns),
+            _ => Err(RowError::NoTable),
+        }?;
         Ok(Report::of(text))
     }
 }

@@ -35,11 +35,8 @@ fn cipher_suite(alloc: Global, number: usize, octets: &[u8]) -> KerberosCryptoRe
     };
     let mut text = format!(in alloc; "{} {}", u32::from(&suite), u8::from(&suite))?;
     for other in 16..21usize {
-        if CipherSuite::try_from(other)? == suite {
-            text.push_str(" is")?;
-        } else {
-            text.push_str(" no")?;
-        }
+        let is_other = CipherSuite::try_from(other)? == suite;
+        text.push_str(if is_other { " is" } else { " no" })?;
     }
     let copy = suite.clone()?;
     let again = format!(in alloc; " {} {}", u8::from(copy), usize::from(suite))?;
@@ -52,11 +49,8 @@ fn checksum_suite(alloc: Global, number: usize) -> KerberosCryptoResult<String> 
     let suite = ChecksumSuite::try_from(number)?;
     let mut text = format!(in alloc; "{} {}", u32::from(&suite), u8::from(&suite))?;
     for other in [12usize, 15, 16, 19, 20] {
-        if ChecksumSuite::try_from(other)? == suite {
-            text.push_str(" is")?;
-        } else {
-            text.push_str(" no")?;
-        }
+        let is_other = ChecksumSuite::try_from(other)? == suite;
+        text.push_str(if is_other { " is" } else { " no" })?;
     }
     let copy = suite.clone()?;
     let third = u32::from(suite.clone()?);
