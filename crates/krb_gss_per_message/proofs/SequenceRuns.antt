@@ -1,6 +1,6 @@
 -- Many tokens, one after another.
-use Rattle.std.proofs.Common.{◌≡◌, ◌⊎◌, inl, inr, ℕ, ◌+◌, ◌<◌, ◌≤◌, Bool, true, false, List, [], ◌∷◌, refl, sym, ◌∙◌, ap, subst, arith, true≢false}
-use Rattle.krb_gss_per_message.specs.Sequence.{Arrival, AreHighest, AreTaken, Becomes, IsLate, IsOld, IsOrder, IsTaken, NeverTaken, Takes, WasTaken, Window, has, next, next_behind}
+use Rattle.std.proofs.Common.{◌≡◌, ◌⊎◌, inl, inr, ℕ, ◌<◌, ◌≤◌, true, false, List, [], ◌∷◌, refl, sym, ◌∙◌, ap, subst, arith, true≢false}
+use Rattle.krb_gss_per_message.specs.Sequence.{Arrival, AreTaken, Becomes, IsLate, IsOrder, IsTaken, NeverTaken, Takes, WasTaken, Window, has, next}
 use Rattle.krb_gss_per_message.specs.declared.sequence.Order.{Order}
 use Rattle.krb_gss_per_message.specs.declared.sequence.Order.TheVariants as order
 

@@ -1,6 +1,6 @@
 -- A number that was missing is taken.
-use Rattle.std.proofs.Common.{◌≡◌, ◌⊎◌, ℕ, ◌+◌, ◌%◌, ◌<◌, ◌≤◌, true, Some, length, slice_set, refl, sym, ◌∙◌, ap, arith}
-use Rattle.krb_gss_per_message.specs.Sequence.{AreHighest, IsLate, Takes, Window, has, has_in, next, next_behind}
+use Rattle.std.proofs.Common.{◌≡◌, ℕ, ◌+◌, ◌%◌, ◌<◌, ◌≤◌, Some, length, slice_set, refl, sym, ◌∙◌, ap, arith}
+use Rattle.krb_gss_per_message.specs.Sequence.{AreHighest, IsLate, Takes, Window, has_in, next}
 use Rattle.krb_gss_per_message.proofs.SequenceSlots.{marked_keeps, marked_only}
 
 same_next : (old new : Window) → new.first ≡ old.first → new.last ≡ old.last → next new ≡ next old

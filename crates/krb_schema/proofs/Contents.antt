@@ -1,7 +1,7 @@
 -- Contents at places, and broken rules one behind another.
 use Rattle.std.proofs.Math.Seq.{take-suc}
-use Rattle.std.proofs.Common.{◌≡◌, ℕ, suc, slice_index_or, ◌+◌, ◌<◌, ◌≤◌, refl, sym, ap, ◌∙◌, subst, List, [], ◌∷◌, ◌++◌, length, take, drop, arith}
-use Rattle.std.proofs.lemmas.List.{append-nil, append_assoc, length-drop, take_all, drop_all}
+use Rattle.std.proofs.Common.{◌≡◌, ℕ, suc, slice_index_or, ◌+◌, ◌<◌, sym, ap, ◌∙◌, List, [], ◌∷◌, ◌++◌, length, take, drop, arith}
+use Rattle.std.proofs.lemmas.List.{length-drop, take_all, drop_all}
 use Rattle.krb_schema.specs.declared.item.Item.{Item}
 use Rattle.krb_schema.specs.Rules.{AreBroken, Obeys, all_told, obedient, offending}
 

@@ -1,5 +1,5 @@
 -- Octets are those of one row of elements, and so have one list of items.
-use Rattle.std.proofs.Common.{◌≡◌, ℕ, zero, suc, refl, sym, ap, ◌∙◌, subst, List, [], ◌∷◌, ◌++◌, length, arith, Option, Some, None}
+use Rattle.std.proofs.Common.{◌≡◌, ℕ, zero, suc, refl, sym, ap, ◌∙◌, subst, List, [], ◌++◌, length, arith, Option, Some, None}
 use Rattle.krb_der_core.specs.Tlv.{tlv}
 use Rattle.krb_der_core.specs.TlvLaws.{tlv_apart}
 use Rattle.krb_der_core.specs.ErrorLaws.{clash}

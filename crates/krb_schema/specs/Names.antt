@@ -1,6 +1,6 @@
 -- The numbers of names.
-use Rattle.std.specs.Prelude.{◌≡◌, ◌==◌, ℕ, List, Option}
-use Rattle.std.specs.List.{position_from, slice_get}
+use Rattle.std.specs.Prelude.{◌==◌, ℕ, List, Option}
+use Rattle.std.specs.List.{position_from}
 use Rattle.std.specs.Cmp.Lexicographic.{pointwise}
 
 -- the first of these names from this number on that is this one

@@ -1,5 +1,5 @@
 -- Which item a path leads to: `req-body.sname.name-string[1]`, `tickets[0].enc-part.cipher`.
-use Rattle.std.specs.Prelude.{◌≡◌, ◌==◌, ◌&&◌, ℕ, zero, suc, ◌+◌, ◌-◌, ◌*◌, ◌^◌, nat_le, nat_lt, Bool, true, false, not, if◌then◌else◌, List, [], ◌∷◌, Option, None, Some, length, take, drop, option_and_then, option_map, min}
+use Rattle.std.specs.Prelude.{◌≡◌, ◌==◌, ◌&&◌, ℕ, zero, suc, ◌+◌, ◌-◌, ◌*◌, ◌^◌, nat_le, nat_lt, Bool, true, false, not, if◌then◌else◌, List, [], ◌∷◌, Option, None, Some, take, drop, option_and_then, option_map, min}
 use Rattle.std.specs.List.{fold, prefix_len}
 use Rattle.std.specs.Cmp.Lexicographic.{pointwise}
 use Rattle.krb_schema.specs.declared.item.Form.{Form}

@@ -13,7 +13,6 @@ use Rattle.krb_files.specs.declared.fields.error.FieldError.{FieldError}
 use Rattle.krb_files.specs.declared.fields.error.FieldError.TheVariants as field
 use Rattle.krb_files.specs.declared.keytab.error.KeytabError.{KeytabError}
 use Rattle.krb_files.specs.declared.keytab.error.KeytabError.TheVariants as keytab
-use Rattle.krb_messages.specs.declared.kpasswd.error.ReadFrameError.{ReadFrameError}
 use Rattle.krb_messages.specs.declared.kpasswd.error.ReadFrameError.TheVariants as unread
 use Rattle.krb_pac.specs.declared.error.PacError.{PacError}
 use Rattle.krb_pac.specs.declared.error.PacError.TheVariants as pac

@@ -1,4 +1,4 @@
-use Rattle.std.proofs.Common.{[], List, ap, arith, refl, subst, sym, ◌∙◌}
+use Rattle.std.proofs.Common.{[], List, ap, arith, subst, sym, ◌∙◌}
 use Rattle.krb_schema.specs.Rules.{AreBroken, all_told}
 use Rattle.krb_schema.specs.declared.item.Item.{Item}
 use Rattle.krb_schema.proofs.Contents.{broken_more, told_more}
