@@ -81,7 +81,7 @@ struct Copies {
     etypes: Vec<IntegerAsn1>,
 }
 
-/// These copies.
+/// Copies of the realm, the server's name and the encryption types that are wanted. The only error is `OutOfMemory`.
 fn copied(alloc: Global, want: &Want) -> Result<Copies, RequestError>
     ensures { MatchResult result (AreCopies (wanted want.now)) (λ e. e ≡ errors.OutOfMemory) }
 {

@@ -267,7 +267,9 @@ fn has(
     }
 }
 
-/// Those of these fields that a cache has, and a KRB-CRED has no place for; of it these are all credentials, and the tickets.
+/// The fields, of those given, that a cache has and a KRB-CRED has no place for. `all` are the cache's
+/// credentials and `kept` those that are tickets; `other_client` says that the client of a ticket is
+/// not the cache's principal.
 fn fields_of(
     alloc: Global,
     fields: &[Field],
