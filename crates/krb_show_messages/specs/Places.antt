@@ -25,6 +25,18 @@ all_places size = place_at 0 size ∷ []
 abbrev pub no_places : Placing
 no_places role number octets places = places ≡ []
 
+-- ---- what is added to the places before it
+
+-- these places
+abbrev pub adds : List (Option Place) → List (Option Place) → List (Option Place) → Type 0
+adds places old new = new ≡ old ++ places
+
+infixl 20 ◌then◌
+-- the one, then the other
+abbrev pub ◌then◌ : (List (Option Place) → List (Option Place) → Type 0) → (List (Option Place) → List (Option Place) → Type 0)
+    → List (Option Place) → List (Option Place) → Type 0
+(first then second) old new = (between : List (Option Place)) × first old between × second between new
+
 -- ---- a PAC (MS-PAC, 2.3 and 2.4)
 
 -- the octets that an entry names, if they are shown behind it

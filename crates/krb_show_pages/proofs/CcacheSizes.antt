@@ -13,7 +13,8 @@ use Rattle.krb_files.specs.declared.ccache.error.CcacheError.{CcacheError}
 use Rattle.krb_files.specs.declared.ccache.view.CcacheVersion.{CcacheVersion}
 use Rattle.krb_files.specs.declared.ccache.view.CcacheVersion.TheVariants.{Three, Four}
 use Rattle.krb_message_fields.specs.declared.places.place.Place.{Place}
-use Rattle.krb_show_pages.specs.CcachePlaces.{AreCcachePlaces, adds, adds_ccache, adds_content, adds_credential_list, adds_fields, adds_header, adds_marks, adds_parties, adds_principal, adds_tickets, adds_typed_list, numbers_places}
+use Rattle.krb_show_messages.specs.Places.{adds}
+use Rattle.krb_show_pages.specs.CcachePlaces.{AreCcachePlaces, adds_ccache, adds_content, adds_credential_list, adds_fields, adds_header, adds_marks, adds_parties, adds_principal, adds_tickets, adds_typed_list, numbers_places}
 use Rattle.krb_show_pages.specs.CcachePlaces.{ccache_size, components_size, credential_size, credentials_size, each_typed_size, etype_size, header_size, marks_size, parties_size, principal_size, typed_list_size, typed_size}
 
 counted : (n : ℕ) (c : List ℕ) → length (counted_octets n c) ≡ n + length c

@@ -9,7 +9,7 @@ use Rattle.krb_files.specs.declared.ccache.view.CcacheVersion.TheVariants.{Three
 use Rattle.krb_message_fields.specs.declared.places.place.Place.{Place}
 use Rattle.krb_show.specs.InnerPlaces.{ArePlacesByRow, place_at}
 use Rattle.krb_show_messages.specs.Formats.{formats_of}
-use Rattle.krb_show_messages.specs.Places.{formats_places}
+use Rattle.krb_show_messages.specs.Places.{◌then◌, adds, formats_places}
 
 -- ---- how many octets values have
 
@@ -68,16 +68,6 @@ abbrev pub ccache_size : Ccache → ℕ
 ccache_size c = 2 + header_size c.version c.header + principal_size c.principal + credentials_size c.version c.credentials
 
 -- ---- what each adds to the places before it, from an offset on
-
--- these places
-abbrev pub adds : List (Option Place) → List (Option Place) → List (Option Place) → Type 0
-adds places old new = new ≡ old ++ places
-
-infixl 20 ◌then◌
--- the one, then the other
-abbrev pub ◌then◌ : (List (Option Place) → List (Option Place) → Type 0) → (List (Option Place) → List (Option Place) → Type 0)
-    → List (Option Place) → List (Option Place) → Type 0
-(first then second) old new = (between : List (Option Place)) × first old between × second between new
 
 abbrev pub adds_components : ℕ → List (List ℕ) → List (Option Place) → List (Option Place) → Type 0
 adds_components at [] old new = new ≡ old

@@ -3,7 +3,8 @@
 
 ghost use Rattle.std.specs.Prelude.{◌≡◌, [], ◌+◌, ◌<◌, ◌^◌, length, IfOk, OnErr, OnOk};
 ghost use Rattle.krb_files.specs.Ccache.{Ccache, CcacheIs};
-ghost use Rattle.krb_show_pages.specs.CcachePlaces.{AreCcachePlaces, adds, ccache_size, adds_ccache, adds_components, adds_content, adds_credential, adds_credential_list, adds_fields};
+ghost use Rattle.krb_show_messages.specs.Places.{adds};
+ghost use Rattle.krb_show_pages.specs.CcachePlaces.{AreCcachePlaces, ccache_size, adds_ccache, adds_components, adds_content, adds_credential, adds_credential_list, adds_fields};
 ghost use Rattle.krb_show_pages.specs.CcachePlaces.{adds_credentials, adds_each_typed, adds_header, adds_marks, adds_parties, adds_principal, adds_ticket, adds_tickets};
 ghost use Rattle.krb_show_pages.specs.CcachePlaces.{adds_typed_list, components_size, credential_size, credentials_size, each_typed_size, etype_size, header_size};
 ghost use Rattle.krb_show_pages.specs.CcachePlaces.{key_places, marks_size, numbers_places, parties_size, principal_size, removal_places, typed_list_size, typed_places, typed_size};
