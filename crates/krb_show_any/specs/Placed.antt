@@ -19,6 +19,8 @@ use Rattle.krb_show_negoex.specs.NegoexPlaces.{negoex_places}
 use Rattle.krb_show_pages.specs.declared.certificate_kinds.CertificateKind.{CertificateKind}
 use Rattle.krb_show_pages.specs.declared.certificate_kinds.CertificateKind.TheVariants as certificates
 use Rattle.krb_show_messages.specs.Places.{formats_places, pac_places}
+use Rattle.krb_show_tokens.specs.MessagePlaces.{kpasswd_places}
+use Rattle.krb_show_tokens.specs.TokenPlaces.{token_places}
 use Rattle.krb_show_any.specs.Rows.{IsWalkOf, row_name}
 use Rattle.krb_show_any.specs.declared.kind.Kind.{Kind}
 use Rattle.krb_show_any.specs.declared.kind.Kind.TheVariants as kinds
@@ -59,16 +61,16 @@ certificate_places k octets places =
     × (places ≡ within_choice k found)
 
 -- The places of the tokens of octets of a kind, in their order: those that the layout of a PAC gives (MS-PAC, 2.3 and 2.4), of messages of NEGOEX
--- (MS-NEGOEX, 2.2), of keytabs and of caches (MIT Kerberos, "Keytab file format" and "Credential cache file format"), and by their rows those of
--- PKINIT and CredSSP; any of tokens and of frames; none of other kinds.
+-- (MS-NEGOEX, 2.2), of keytabs and of caches (MIT Kerberos, "Keytab file format" and "Credential cache file format"), of tokens of the GSS-API and of
+-- kpasswd messages (RFC 3244, 2), and by their rows those of PKINIT and CredSSP; none of other kinds.
 abbrev pub are_places : Kind → List ℕ → List (Option Place) → Type 0
 are_places kinds.Pac octets places = pac_places octets places
 are_places kinds.Negoex octets places = negoex_places octets places
 are_places kinds.Keytab octets places = AreKeytabPlaces octets places
 are_places kinds.Ccache octets places = AreCcachePlaces octets places
 are_places (kinds.Certificate k) octets places = certificate_places k octets places
-are_places kinds.Token octets places = Unit {0}
-are_places kinds.PasswordFrame octets places = Unit {0}
+are_places kinds.Token octets places = token_places octets places
+are_places kinds.PasswordFrame octets places = kpasswd_places octets places
 are_places other octets places = places ≡ []
 
 -- each token with its place where the octets there are what it tells, if the first has none and there is an entry for each token

@@ -1,4 +1,6 @@
+mod FrontElements
 mod KpasswdFrames
 mod OneFrame
 mod OneKind
 mod OneMessage
+mod PlacesAdded

@@ -1,10 +1,7 @@
 -- Which kind of token octets are to be, and what is told of them by that.
-use Rattle.std.specs.Prelude.{◌≡◌, ◌⊎◌, nat_eq, ◌&&◌, Bool, if◌then◌else◌, ℕ, List, [], ◌∷◌, Result, Err, Vec, length, slice_index}
-use Rattle.std.specs.declared.alloc.Global.{Global}
+use Rattle.std.specs.Prelude.{◌≡◌, ◌⊎◌, nat_eq, ◌&&◌, Bool, if◌then◌else◌, ℕ, List, [], ◌∷◌, Err, length, slice_index}
 use Rattle.krb_der_core.specs.declared.error.Asn1DerError.TheVariants as errors
-use Rattle.krb_gss_tokens.specs.declared.error.GssApiMessageError.{GssApiMessageError}
 use Rattle.krb_gss_tokens.specs.declared.error.GssApiMessageError.TheVariants as gss
-use Rattle.krb_show.specs.Tokens.{Token}
 use Rattle.krb_show_tokens.specs.declared.heads.Head.{Head}
 use Rattle.krb_show_tokens.specs.declared.heads.Head.TheVariants as heads
 use Rattle.krb_show_tokens.specs.declared.tokens.Framed.{Framed}
@@ -12,6 +9,7 @@ use Rattle.krb_show_tokens.specs.declared.tokens.Framed.TheVariants as framed
 use Rattle.krb_show_tokens.specs.declared.tokens.TokenKind.{TokenKind}
 use Rattle.krb_show_tokens.specs.declared.tokens.TokenKind.TheVariants as kind
 use Rattle.krb_show_tokens.specs.Heads.{IsHead}
+use Rattle.krb_show_tokens.specs.Told.{Tells}
 
 -- ---- which kind
 
@@ -38,7 +36,8 @@ framed_of heads.Negotiation = framed.Negotiation
 framed_of (heads.Kerberos first second) = message_of first second
 framed_of heads.Unknown = framed.ApReq
 
--- the kind of a token that begins with this octet
+-- the kind of a token that begins with this octet: the first of a token id of MIC and of Wrap tokens (RFC 4121, 4.2.6), the tag of a frame (RFC 2743, 3.1),
+-- and those of NegTokenInit and NegTokenResp (RFC 4178, 4.2)
 abbrev pub kind_of_first : ℕ → TokenKind
 kind_of_first first =
     if nat_eq first 4 then kind.Mic
@@ -54,11 +53,7 @@ kind_of octets = if nat_eq (length octets) 0 then kind.Empty else kind_of_first 
 
 -- ---- what is told
 
--- which page octets have, or which error
-abbrev pub Tells : Type 1
-Tells = List ℕ → Result (Vec Token Global) GssApiMessageError → Type 0
-
--- the same for each kind of token, and for each message in a frame
+-- which page octets have, or which error, for each kind of token, and for each message in a frame
 pub record ByKind : Type 1 where
   pub mic : Tells
   pub wrap : Tells

@@ -1,11 +1,14 @@
 pub mod Frame
-pub mod Laws
 pub mod Frames
 pub mod Heads
 pub mod Kinds
+pub mod Laws
 pub mod Leaves
+pub mod MessagePlaces
 pub mod Opened
+pub mod Parts
 pub mod Places
 pub mod Proxied
 pub mod Proxies
+pub mod TokenPlaces
 pub mod Told

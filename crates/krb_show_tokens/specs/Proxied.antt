@@ -1,10 +1,8 @@
 -- Which message a message of IAKERB holds, and what is told of the octets by that.
-use Rattle.std.specs.Prelude.{nat_eq, if◌then◌else◌, ℕ, List, Option, None, Some, Result, Vec}
-use Rattle.std.specs.declared.alloc.Global.{Global}
-use Rattle.krb_gss_tokens.specs.declared.error.GssApiMessageError.{GssApiMessageError}
-use Rattle.krb_show.specs.Tokens.{Token}
+use Rattle.std.specs.Prelude.{nat_eq, if◌then◌else◌, ℕ, Option, None, Some}
 use Rattle.krb_show_tokens.specs.declared.proxies.Proxied.{Proxied}
 use Rattle.krb_show_tokens.specs.declared.proxies.Proxied.TheVariants as proxied
+use Rattle.krb_show_tokens.specs.Told.{Tells}
 
 -- the message that a tag names (RFC 4120, 5.10); an AS-REQ where there is none, or another tag
 abbrev pub proxied_of : Option ℕ → Proxied
@@ -18,11 +16,7 @@ proxied_of (Some tag) =
     else (if nat_eq tag 126 then proxied.KrbError
     else proxied.AsReq)))))
 
--- which page octets have, or which error
-abbrev pub Tells : Type 1
-Tells = List ℕ → Result (Vec Token Global) GssApiMessageError → Type 0
-
--- the same for each message
+-- which page octets have, or which error, for each message
 pub record ByMessage : Type 1 where
   pub as_req : Tells
   pub as_rep : Tells

@@ -1,5 +1,6 @@
 -- What is told of octets that are to be a token.
-use Rattle.std.specs.Prelude.{◌≡◌, ◌<◌, ◌^◌, ℕ, List, [], Result, MatchResult, IfErr}
+use Rattle.std.specs.Prelude.{◌≡◌, ◌<◌, ◌^◌, ℕ, List, [], Result, Vec, MatchResult, IfErr}
+use Rattle.std.specs.declared.alloc.Global.{Global}
 use Rattle.krb_der.specs.Whole.{NoDevice}
 use Rattle.krb_der_core.specs.declared.der.DerEncode.{Ghosts as EncodingOf}
 use Rattle.krb_der_core.specs.declared.error.Asn1DerError.{Asn1DerError}
@@ -13,6 +14,10 @@ use Rattle.krb_gss_tokens.specs.Wrap.{FitsWrap, Wrap, WrapIs}
 use Rattle.krb_show.specs.declared.show.Show.{Ghosts as ShowingOf}
 use Rattle.krb_show.specs.Opened.{IsOf}
 use Rattle.krb_show.specs.Tokens.{Label, Token}
+
+-- which page octets have, or which error
+abbrev pub Tells : Type 1
+Tells = List ℕ → Result (Vec Token Global) GssApiMessageError → Type 0
 
 -- Where a page is answered it is that of a value that the octets are; where they are a value it is answered, but for want of memory; and else
 -- they are refused with this error.

@@ -27,7 +27,7 @@ pub(crate) enum Head {
 }
 
 /// The mechanism at the start of a token's content, and what follows it.
-fn mechanism_of(
+pub(crate) fn mechanism_of(
     alloc: Global,
     content: &[u8],
 ) -> Result<Option<(ObjectIdentifierAsn1, &[u8])>, AllocError>

@@ -195,7 +195,7 @@ impl OpensOctets for MechanismTokens {
 pub struct MechListMics;
 
 /// The MIC token that these octets are; `None` where they are none. The only error is an allocation failure.
-fn open_mic(alloc: Global, octets: &[u8]) -> Result<Option<MicToken>, AllocError>
+pub(crate) fn open_mic(alloc: Global, octets: &[u8]) -> Result<Option<MicToken>, AllocError>
     ensures { IfOk result (λ found. MatchOption found ((t : Mic) → IsMicOf octets.now t → ⊥) (IsMicOf octets.now)) }
 {
     match MicToken::from_slice(alloc, octets) {

@@ -1,6 +1,8 @@
 //! Parts of a token's octets.
 
-ghost use Rattle.std.specs.Prelude.{◌≡◌};
+ghost use Rattle.std.specs.Prelude.{◌≡◌, true, length, nat_lt, MatchOption};
+ghost use Rattle.krb_show.specs.InnerPlaces.{place_at};
+ghost use Rattle.krb_show_tokens.specs.Parts.{IsElementAt, IsSplit, NoElement};
 ghost use Rattle.krb_show_tokens.specs.Places.{field};
 
 use krb_der_core::read_tlv;
@@ -14,20 +16,14 @@ pub(crate) struct Part<'a> {
 }
 
 impl<'a> Part<'a> {
-    /// All octets of a token.
-    pub(crate) fn new(octets: &'a [u8]) -> Self
-        ensures start { result.start ≡ 0 }
-        ensures octets { result.octets.now ≡ octets.now }
-    {
-        Part { start: 0, octets }
-    }
-
     /// Where they are.
-    pub(crate) fn place(&self) -> Place {
-        Place {
+    pub(crate) fn place(&self) -> Option<Place>
+        ensures { result ≡ place_at self.now.start (length self.now.octets.now) }
+    {
+        Some(Place {
             offset: self.start,
             size: self.octets.len(),
-        }
+        })
     }
 
     /// Where so many of them are, behind so many others of them.
@@ -41,7 +37,10 @@ impl<'a> Part<'a> {
     }
 
     /// So many octets at their front, and those behind; `None` if there are fewer.
-    pub(crate) fn split(&self, size: usize) -> Option<(Part<'a>, Part<'a>)> {
+    pub(crate) fn split(&self, size: usize) -> Option<(Part<'a>, Part<'a>)>
+        ensures { MatchOption result (nat_lt (length self.now.octets.now) size ≡ true)
+            (λ p. IsSplit self.now.start size p.0.start p.1.start p.0.octets.now p.1.octets.now self.now.octets.now) }
+    {
         if self.octets.len() < size {
             return None;
         }
@@ -59,12 +58,25 @@ impl<'a> Part<'a> {
 
     /// The content of the element of DER at their front, whatever its tag (X.690, 8.1.1), and what
     /// is behind the element; `None` if there is none.
-    pub(crate) fn element(&self) -> Option<(Part<'a>, Part<'a>)> {
-        let (tag, _) = self.octets.split_first()?;
-        let Ok((content, taken)) = read_tlv(*tag, self.octets) else {
+    pub(crate) fn element(&self) -> Option<(Part<'a>, Part<'a>)>
+        ensures { MatchOption result (NoElement self.now.octets.now)
+            (λ p. IsElementAt self.now.start p.0.start p.1.start p.0.octets.now p.1.octets.now self.now.octets.now) }
+    {
+        if self.octets.is_empty() {
+            return None;
+        }
+        let Ok((octets, taken)) = read_tlv(self.octets[0], self.octets) else {
             return None;
         };
-        let (_, after_header) = self.split(taken.saturating_sub(content.len()))?;
-        after_header.split(content.len())
+        let (_, rest) = self.octets.split_at(taken);
+        let content = Part {
+            start: self.start.saturating_add(taken - octets.len()),
+            octets,
+        };
+        let behind = Part {
+            start: content.start.saturating_add(octets.len()),
+            octets: rest,
+        };
+        Some((content, behind))
     }
 }

@@ -172,7 +172,7 @@ fn page_of_frame(alloc: Global, octets: &[u8]) -> Result<Page, GssApiMessageErro
 
 /// The kinds of tokens.
 #[derive(Clone, Copy)]
-enum TokenKind {
+pub(crate) enum TokenKind {
     Mic,
     Wrap,
     Framed,
@@ -185,7 +185,7 @@ enum TokenKind {
 }
 
 /// The kind of a token, told by its first octet.
-fn kind_of(octets: &[u8]) -> TokenKind
+pub(crate) fn kind_of(octets: &[u8]) -> TokenKind
     ensures { result ≡ kind_of octets.now }
 {
     if octets.is_empty() {
