@@ -1,41 +1,28 @@
 -- The cache of tickets and what goes along with them, by their credentials.
-use Rattle.std.proofs.Common.{◌≡◌, ◌∙◌, inl, ℕ, Bool, true, false, List, Result, Ok, Err, refl, subst, sym, if◌then◌else◌, ◌==◌, length}
+use Rattle.std.proofs.Common.{◌≡◌, ◌∙◌, inl, ℕ, List, Ok, Err, refl, subst, sym}
 use Rattle.std.specs.Prelude.{filter}
 use Rattle.krb_files.specs.Ccache.{Credential}
-use Rattle.krb_files.specs.FieldReading.{◌>>=◌}
 use Rattle.krb_enc_parts.specs.declared.data_types.credentials.EncKrbCredPartInner.{EncKrbCredPartInner}
 use Rattle.krb_enc_parts.specs.declared.data_types.credentials.KrbCredInfo.{KrbCredInfo}
 use Rattle.krb_messages.specs.declared.messages.credentials.KrbCredInner.{KrbCredInner}
 use Rattle.krb_types.specs.declared.data_types.tickets.TicketInner.{TicketInner}
 use Rattle.krb_file_tools.specs.Answers.{IsMemoryOr}
-use Rattle.krb_file_tools.specs.Kirbi.{cache_from, cache_with, credential_from, each_pair_of, paired_from}
+use Rattle.krb_file_tools.specs.Kirbi.{cache_from, cache_with, paired_from}
 use Rattle.krb_file_tools.specs.Whole.{IsCacheBy, IsMade, IsUnwritten, kirbi_fields, kirbi_has}
 use Rattle.krb_file_tools.specs.declared.convert.error.ConvertError.{ConvertError}
-use Rattle.krb_file_tools.specs.declared.convert.error.ConvertError.TheVariants as errors
 use Rattle.krb_file_tools.specs.declared.convert.field.Field.{Field}
 use Rattle.krb_file_tools.proofs.Refusals.{or_memory}
 
--- a condition before a step
-condition_first : {A B : Type 0} (b : Bool) (r : Result A ConvertError) (e : ConvertError) (f : A → Result B ConvertError)
-    → (if b then (r >>= f) else Err e) ≡ ((if b then r else Err e) >>= f)
-condition_first true r e f = refl
-condition_first false r e f = refl
-
 module _ (octets_of : TicketInner → List ℕ) (tickets : List TicketInner) (infos : List KrbCredInfo) where
-  split : cache_from octets_of tickets infos ≡ (paired_from octets_of tickets infos >>= cache_with)
-  unfolding paired_from
-  split =
-      condition_first (length tickets == length infos) (each_pair_of (λ ticket info. credential_from (octets_of ticket) ticket info) tickets infos) errors.TicketInfo cache_with
-
   cache_is : (made : List Credential) → paired_from octets_of tickets infos ≡ Ok made → cache_with made ≡ cache_from octets_of tickets infos
-  cache_is made h = sym (split ∙ rw h refl)
+  cache_is made h = rw h refl
 
   same_pairs : (ts : List TicketInner) (is : List KrbCredInfo) → ts ≡ tickets → is ≡ infos → paired_from octets_of ts is ≡ paired_from octets_of tickets infos
   same_pairs ts is a b = rw (a, b) refl
 
   pub unpaired : (ts : List TicketInner) (is : List KrbCredInfo) (e : ConvertError) → ts ≡ tickets → is ≡ infos → IsMemoryOr e (paired_from octets_of ts is ≡ Err e)
       → IsMemoryOr e (IsUnwritten e (cache_from octets_of tickets infos))
-  unpaired ts is e a b = or_memory e (λ h. inl (split ∙ rw (sym (same_pairs ts is a b) ∙ h) refl))
+  unpaired ts is e a b = or_memory e (λ h. inl (rw (sym (same_pairs ts is a b) ∙ h) refl))
 
   pub unwritten : (ts : List TicketInner) (is : List KrbCredInfo) (made lent : List Credential) (e : ConvertError) → ts ≡ tickets → is ≡ infos → lent ≡ made
       → paired_from octets_of ts is ≡ Ok made → IsMemoryOr e (IsUnwritten e (cache_with lent)) → IsMemoryOr e (IsUnwritten e (cache_from octets_of tickets infos))

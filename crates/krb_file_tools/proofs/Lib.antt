@@ -5,9 +5,7 @@ pub mod Printable
 pub mod Unique
 pub mod Backs
 pub mod Caches
-pub mod Credentials
 pub mod Entries
-pub mod Filters
 pub mod Infos
 pub mod Lists
 pub mod Refusals

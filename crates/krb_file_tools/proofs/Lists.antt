@@ -7,11 +7,6 @@ use Rattle.krb_file_tools.specs.Answers.{IsMemoryOr}
 use Rattle.krb_file_tools.specs.Kirbi.{each_of, each_pair_of}
 use Rattle.krb_file_tools.specs.declared.convert.error.ConvertError.{ConvertError}
 
--- a rule that is broken is broken in what follows
-pub broken : {A B : Type 0} (w : Result A ConvertError) (f : A → Result B ConvertError) (e : ConvertError) → IsMemoryOr e (w ≡ Err e) → IsMemoryOr e ((w >>= f) ≡ Err e)
-broken w f e (inl m) = inl m
-broken w f e (inr h) = inr (rw h refl)
-
 -- what was done, before what is still to be done
 abbrev pub after : {A : Type 0} → List A → Result (List A) ConvertError → Result (List A) ConvertError
 after front (Ok xs) = Ok (front ++ xs)

@@ -1,19 +1,16 @@
 -- Principals are printable.
-use Rattle.std.proofs.Common.{◌≡◌, ◌∙◌, ◌<◌, ◌/◌, ◌%◌, ap, ◌==◌, ◌||◌, ◌&&◌, Bool, true, false, Option, None, Some, ℕ, suc, nat_le, refl, sym, subst, List, [], ◌∷◌, ◌++◌, arith, codes, if◌then◌else◌}
+use Rattle.std.proofs.Common.{◌≡◌, ◌∙◌, ◌<◌, ap, ◌==◌, ◌||◌, ◌&&◌, Bool, true, false, Option, None, Some, ℕ, suc, nat_le, refl, sym, subst, List, [], ◌∷◌, ◌++◌, arith, codes, if◌then◌else◌}
 use Rattle.std.proofs.lemmas.Grind.{common_steps, flat_map-append}
 use Rattle.std.proofs.lemmas.List.{append-nil}
 use Rattle.krb_der_core.specs.Encoding.{IsOctets}
 use Rattle.krb_file_tools.specs.Principals.{after_slashes, name_octet, name_text, plain_octet, quoted_or}
-use Rattle.krb_show.specs.Leaves.{digit, hex_octet}
+use Rattle.krb_show.specs.Leaves.{hex_octet}
 use Rattle.krb_show_text.specs.Text.{ArePrintable, IsPrintable}
-use Rattle.krb_show_text.proofs.Printable.{printable_append, printable_choice}
-
-printable_digit : (n : ℕ) → n < 16 → IsPrintable (digit n)
-printable_digit n small = grind (arith, common_steps)
+use Rattle.krb_show_text.proofs.Printable.{printable_append, printable_choice, printable_hex_octet}
 
 printable_hex : (octet : ℕ) → octet < 256 → ArePrintable (codes "\\x" ++ hex_octet octet)
 printable_hex octet small =
-    printable_append (codes "\\x") (hex_octet octet) (grind arith) (printable_digit (octet / 16) (omega (arith, small)), (printable_digit (octet % 16) (omega (arith, small)), tt))
+    printable_append (codes "\\x") (hex_octet octet) (grind arith) (printable_hex_octet octet small)
 
 no_blank : (octet : ℕ) → nat_le 33 octet && nat_le octet 126 ≡ true → IsPrintable octet
 no_blank octet e = grind (arith, common_steps)

@@ -43,10 +43,10 @@ printable_digit n small = grind (arith, common_steps)
 printable_two : (n : ℕ) → n < 100 → ArePrintable (two n)
 printable_two n small = (printable_digit (n / 10) (omega (arith, small)), (printable_digit (n % 10) (omega (arith, small)), tt))
 
-small_month : (t : Time) → IsRealTime t → t.month < 100
+pub small_month : (t : Time) → IsRealTime t → t.month < 100
 small_month t real = omega (arith, signed_arith)
 
-small_day : (t : Time) → IsRealTime t → t.day < 100
+pub small_day : (t : Time) → IsRealTime t → t.day < 100
 small_day t real = omega (arith, signed_arith, days_in_month_bounds (pos t.year) t.month)
 
 marked_and : (mark n : ℕ) (rest : List ℕ) → IsPrintable mark → n < 100 → ArePrintable rest → ArePrintable (mark ∷ two n ++ rest)

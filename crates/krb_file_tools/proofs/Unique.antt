@@ -2,13 +2,13 @@
 use Rattle.std.proofs.Common.{◌≡◌, ◌≢◌, ◌∙◌, ◌<◌, ◌≤◌, ap, refl, sym, arith, inl, inr, ℕ, ℤ, pos, ◌<ℤ◌, List, [], ◌∷◌, ◌++◌, codes}
 use Rattle.std.specs.Fmt.{decimal}
 use Rattle.std.proofs.lemmas.List.Elements.{All-contains}
-use Rattle.jiff_core.proofs.CalendarLemmas.{days_in_month_bounds}
 use Rattle.jiff_core.proofs.SignedLemmas.{signed_arith}
 use Rattle.krb_der_core.specs.GeneralizedTime.{Time, IsRealTime}
 use Rattle.krb_files.specs.Entry.{Entry}
 use Rattle.krb_file_tools.specs.Lines.{AreLinesOf, IsEntryLine, IsKeytabListing, IsListing, keytab_header}
 use Rattle.krb_file_tools.specs.Principals.{principal_text}
 use Rattle.krb_file_tools.specs.Texts.{IsEtypeText, IsTimeText, padded}
+use Rattle.krb_file_tools.proofs.Printable.{small_day, small_month}
 use Rattle.krb_registry.specs.declared.kind.Kind.{Kind}
 use Rattle.krb_registry.specs.declared.kind.Kind.TheVariants.{EncryptionType}
 use Rattle.krb_registry.specs.Names.{IsRow, table}
@@ -18,12 +18,6 @@ use Rattle.krb_types.proofs.Seconds.{ordered}
 use Rattle.krb_types.specs.Times.{clock_number, unix_seconds}
 
 -- ---- times
-
-small_month : (t : Time) → IsRealTime t → t.month < 100
-small_month t real = omega (arith, signed_arith)
-
-small_day : (t : Time) → IsRealTime t → t.day < 100
-small_day t real = omega (arith, signed_arith, days_in_month_bounds (pos t.year) t.month)
 
 -- numbers whose order is that of equal ones
 not_less : (x y : ℕ) (s t : ℤ) → (x < y → s <ℤ t) → s ≡ t → y ≤ x

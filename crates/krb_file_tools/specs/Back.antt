@@ -74,17 +74,6 @@ abbrev pub differs_from_first : TypedPrincipal → List Credential → Bool
 differs_from_first p [] = false
 differs_from_first p (c ∷ cs) = differs p c.client
 
--- what of a cache has no place in a KRB-CRED
-abbrev pub ccache_has : Ccache → Field → Bool
-ccache_has cache field.Header = nat_lt 0 (length cache.header)
-ccache_has cache field.DefaultPrincipal = differs_from_first cache.principal (tickets_of cache.credentials)
-ccache_has cache field.Configuration = list_any is_configuration cache.credentials
-ccache_has cache field.Removed = list_any is_removed cache.credentials
-ccache_has cache field.IsSkey = list_any (λ c. not (c.is_skey == 0)) (tickets_of cache.credentials)
-ccache_has cache field.Authdata = list_any (λ c. nat_lt 0 (length c.authorization_data)) (tickets_of cache.credentials)
-ccache_has cache field.SecondTicket = list_any (λ c. nat_lt 0 (length c.second_ticket)) (tickets_of cache.credentials)
-ccache_has cache _ = false
-
 -- what a credential has of this
 abbrev pub credential_has : Field → Credential → Bool
 credential_has field.Configuration c = is_configuration c
@@ -93,6 +82,14 @@ credential_has field.IsSkey c = not (c.is_skey == 0)
 credential_has field.Authdata c = nat_lt 0 (length c.authorization_data)
 credential_has field.SecondTicket c = nat_lt 0 (length c.second_ticket)
 credential_has _ c = false
+
+-- what of a cache has no place in a KRB-CRED: a header, another default principal, configuration entries, removed credentials, and what tickets have of it
+abbrev pub ccache_has : Ccache → Field → Bool
+ccache_has cache field.Header = nat_lt 0 (length cache.header)
+ccache_has cache field.DefaultPrincipal = differs_from_first cache.principal (tickets_of cache.credentials)
+ccache_has cache field.Configuration = list_any (credential_has field.Configuration) cache.credentials
+ccache_has cache field.Removed = list_any (credential_has field.Removed) cache.credentials
+ccache_has cache f = list_any (credential_has f) (tickets_of cache.credentials)
 
 -- all that may have none, in the order in which it is told
 abbrev pub ccache_fields : List Field

@@ -95,15 +95,12 @@ rest_from info = do
   addresses ← addresses_from info.caddr.0
   Ok (etype, times, addresses)
 
--- "Credential format": of a ticket, its octets, and what goes along with it (RFC 4120, 5.8.1: KrbCredInfo). Where srealm or sname is absent, the
--- ticket has it. There are no authorization data and no second ticket.
+-- "Credential format": of a ticket, its octets, and what goes along with it (RFC 4120, 5.8.1: KrbCredInfo). There are no authorization data and no
+-- second ticket.
 abbrev pub credential_from : List ℕ → TicketInner → KrbCredInfo → Result Credential ConvertError
 credential_from octets ticket info = do
-  client ← client_from info.prealm.0 info.pname.0
-  server ← principal_from (unwrap_or info.srealm.0 ticket.realm) (unwrap_or info.sname.0 ticket.sname)
-  etype ← or_error (complement_of 32768 info.key.key_type) errors.KeyType
-  times ← times_from info.auth_time.0 info.start_time.0 info.end_time.0 info.renew_till.0
-  addresses ← addresses_from info.caddr.0
+  (client, server) ← parties_from ticket info
+  (etype, times, addresses) ← rest_from info
   Ok (record {
     client = client;
     server = server;
@@ -130,6 +127,4 @@ paired_from octets_of tickets infos =
 
 -- the cache of tickets, by what each one's octets are, and of what goes along with them
 abbrev pub cache_from : (TicketInner → List ℕ) → List TicketInner → List KrbCredInfo → Result Ccache ConvertError
-cache_from octets_of tickets infos =
-    if length tickets == length infos then (each_pair_of (λ ticket info. credential_from (octets_of ticket) ticket info) tickets infos >>= cache_with)
-    else Err errors.TicketInfo
+cache_from octets_of tickets infos = paired_from octets_of tickets infos >>= cache_with

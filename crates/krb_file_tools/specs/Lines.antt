@@ -104,16 +104,11 @@ pub record IsAddedPart (ticket : List ℕ → List ℕ → Type 0) (own : List �
 
 -- start, end and server; then what klist -f -e adds, each part behind two blanks
 pub record IsCredentialLine (ticket : List ℕ → List ℕ → Type 0) (own : List ℕ) (c : Credential) (line : List ℕ) : Type 0 where
-  pub start : List ℕ
-  pub expiry : List ℕ
-  pub renewal : List ℕ
-  pub etypes : List ℕ
-  pub start_is : IsTimeText (start_of c.times) start
-  pub expiry_is : IsTimeText c.times.endtime expiry
-  pub renewal_is : IsRenewPart c.times.renew_till renewal
-  pub etypes_is : IsEtypePart ticket c etypes
-  pub is : line ≡ start ++ codes "  " ++ expiry ++ codes "  " ++ principal_text c.server.principal
-      ++ client_part own (principal_text c.client.principal) ++ renewal ++ flags_part (flag_letters c.flags) ++ etypes
+  pub first : List ℕ
+  pub added : List ℕ
+  pub first_is : IsTicketPart c first
+  pub added_is : IsAddedPart ticket own c added
+  pub is : line ≡ first ++ added
 
 -- the default principal, the header, and a line for each ticket, by which octets of a ticket have which text for their
 -- encryption type

@@ -53,25 +53,6 @@ pub record IsMade (octets : List ℕ) (credentials : List Credential) (wanted : 
 abbrev pub IsUnwritten : ConvertError → Result Ccache ConvertError → Type 0
 IsUnwritten e wanted = (wanted ≡ Err e) ⊎ ((e ≡ errors.TooLong) × ((cache : Ccache) × (wanted ≡ Ok cache) × (FitsCcache cache → ⊥)))
 
--- what of a KRB-CRED has no place in the cache of these credentials, or stands there in another way
-abbrev pub kirbi_has : KrbCredInner → EncKrbCredPartInner → List Credential → Field → Bool
-kirbi_has k p made field.Kvno = is_some k.enc_part.kvno.0
-kirbi_has k p made field.Flags = list_any (λ info. has_long_flags info.flags.0) p.ticket_info
-kirbi_has k p made field.Nonce = is_some p.nonce.0
-kirbi_has k p made field.Timestamp = is_some p.timestamp.0
-kirbi_has k p made field.Usec = is_some p.usec.0
-kirbi_has k p made field.SAddress = is_some p.s_address.0
-kirbi_has k p made field.RAddress = is_some p.r_address.0
-kirbi_has k p made field.NoSrealm = list_any (λ info. is_none info.srealm.0) p.ticket_info
-kirbi_has k p made field.NoSname = list_any (λ info. is_none info.sname.0) p.ticket_info
-kirbi_has k p made field.NoFlags = list_any (λ info. is_none info.flags.0) p.ticket_info
-kirbi_has k p made field.FlagsLength = list_any (λ info. has_other_length info.flags.0) p.ticket_info
-kirbi_has k p made field.FirstSecond = list_any has_first_second p.ticket_info
-kirbi_has k p made field.EmptyCaddr = list_any (λ info. has_empty_addresses info.caddr.0) p.ticket_info
-kirbi_has k p made field.AsConfiguration = list_any is_configuration made
-kirbi_has k p made field.AsRemoved = list_any is_removed made
-kirbi_has k p made _ = false
-
 -- what of this goes along with a ticket
 abbrev pub info_has : Field → KrbCredInfo → Bool
 info_has field.Flags info = has_long_flags info.flags.0
@@ -88,6 +69,18 @@ abbrev pub credential_is : Field → Credential → Bool
 credential_is field.AsConfiguration c = is_configuration c
 credential_is field.AsRemoved c = is_removed c
 credential_is _ c = false
+
+-- what of a KRB-CRED has no place in the cache of these credentials, or stands there in another way
+abbrev pub kirbi_has : KrbCredInner → EncKrbCredPartInner → List Credential → Field → Bool
+kirbi_has k p made field.Kvno = is_some k.enc_part.kvno.0
+kirbi_has k p made field.Nonce = is_some p.nonce.0
+kirbi_has k p made field.Timestamp = is_some p.timestamp.0
+kirbi_has k p made field.Usec = is_some p.usec.0
+kirbi_has k p made field.SAddress = is_some p.s_address.0
+kirbi_has k p made field.RAddress = is_some p.r_address.0
+kirbi_has k p made field.AsConfiguration = list_any (credential_is field.AsConfiguration) made
+kirbi_has k p made field.AsRemoved = list_any (credential_is field.AsRemoved) made
+kirbi_has k p made f = list_any (info_has f) p.ticket_info
 
 -- all that may have none, in the order in which it is told
 abbrev pub kirbi_fields : List Field

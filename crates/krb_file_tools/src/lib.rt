@@ -2,6 +2,7 @@
 //! the clear, each as the other.
 #![tactic(auto)]
 
+mod components;
 pub mod convert;
 pub mod list;
 mod tickets;

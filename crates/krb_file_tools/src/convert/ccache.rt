@@ -262,8 +262,7 @@ fn has(
         Field::Header => has_header(cache),
         Field::DefaultPrincipal => other_client,
         Field::Configuration | Field::Removed => any_has(all, field),
-        Field::IsSkey | Field::Authdata | Field::SecondTicket => any_has(kept, field),
-        _ => false,
+        _ => any_has(kept, field),
     }
 }
 
@@ -283,13 +282,11 @@ fn fields_of(
     requires other { other_client ≡ differs_from_first cache.now.principal kept.now }
     ensures { IfOk result (λ v. v.items ≡ filter (ccache_has cache.now) fields.now) }
 {
-    let mut found = Vec::new(alloc);
-    for field in fields {
-        if has(cache, all, kept, other_client, *field) {
-            found.push(*field)?;
-        }
-    }
-    Ok(found)
+    fields
+        .iter()
+        .copied()
+        .filter(|field| has(cache, all, kept, other_client, *field))
+        .collect(alloc)
 }
 
 /// What a cache has, and a KRB-CRED has no place for.

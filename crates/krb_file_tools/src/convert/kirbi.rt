@@ -243,15 +243,8 @@ fn has(
         Field::Usec => part.usec.0.is_some(),
         Field::SAddress => part.s_address.0.is_some(),
         Field::RAddress => part.r_address.0.is_some(),
-        Field::Flags
-        | Field::NoSrealm
-        | Field::NoSname
-        | Field::NoFlags
-        | Field::FlagsLength
-        | Field::FirstSecond
-        | Field::EmptyCaddr => any_info_has(part.ticket_info.0.0.as_slice(), field),
         Field::AsConfiguration | Field::AsRemoved => any_is(made, field),
-        _ => false,
+        _ => any_info_has(part.ticket_info.0.0.as_slice(), field),
     }
 }
 
@@ -265,13 +258,11 @@ fn left_out_of(
 ) -> Result<Vec<Field>, AllocError>
     ensures { IfOk result (λ v. v.items ≡ filter (kirbi_has message.now part.now made.now) fields.now) }
 {
-    let mut left_out = Vec::new(alloc);
-    for field in fields {
-        if has(message, part, made, *field) {
-            left_out.push(*field)?;
-        }
-    }
-    Ok(left_out)
+    fields
+        .iter()
+        .copied()
+        .filter(|field| has(message, part, made, *field))
+        .collect(alloc)
 }
 
 /// The cache of these credentials, of a message and its part.

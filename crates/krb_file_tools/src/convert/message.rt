@@ -8,6 +8,7 @@ ghost use Rattle.krb_file_tools.specs.Message.{AreTimesOf, HasNoTime, HasNoTimes
 ghost use Rattle.krb_file_tools.specs.Message.{integer_at, is_text, name_from, names_from, text_from};
 ghost use Rattle.krb_file_tools.specs.declared.convert.error.ConvertError.TheVariants as errors;
 
+use crate::components::components_of;
 use crate::convert::error::ConvertError;
 use byteorder::{BigEndian, ByteOrder};
 use krb_der::{
@@ -109,16 +110,6 @@ fn time_of<N>(
         Ok(time) => Ok(field(Some(time))),
         Err(_) => Err(ConvertError::Time),
     }
-}
-
-/// The octets of components, in their order.
-fn components_of<'a>(
-    alloc: Global,
-    components: ComponentsView<'a>,
-) -> Result<Vec<&'a [u8]>, AllocError>
-    ensures { IfOk result (λ v. map (λ x. x.now) v.items ≡ components.entry) }
-{
-    components.collect(alloc)
 }
 
 /// The texts of octets, in their order. `Name` where an octet is past 127.

@@ -6,7 +6,8 @@ ghost use Rattle.krb_file_tools.specs.Principals.{after_slashes, components_text
 ghost use Rattle.krb_show_text.specs.Text.{ArePrintable};
 ghost use Rattle.krb_types.specs.Principals.{quotation};
 
-use krb_files::fields::{ComponentsView, PrincipalView};
+use crate::components::components_of;
+use krb_files::fields::PrincipalView;
 use krb_show::push_hex;
 use std::alloc::{AllocError, Global};
 
@@ -73,16 +74,6 @@ fn push_name(out: &mut Vec<u8>, octets: &[u8]) -> Result<(), AllocError>
         push_name_octet(out, *octet)?;
     }
     Ok(())
-}
-
-/// The components of a name, in their order.
-fn components_of<'a>(
-    alloc: Global,
-    components: ComponentsView<'a>,
-) -> Result<Vec<&'a [u8]>, AllocError>
-    ensures { IfOk result (λ v. map (λ x. x.now) v.items ≡ components.entry) }
-{
-    components.collect(alloc)
 }
 
 /// Appends components, each behind a `/`.
