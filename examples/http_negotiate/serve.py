@@ -1,7 +1,9 @@
-"""Serves a page to those who have a ticket: serve.py [--ask] KEYTAB CACHE PORT [CERTIFICATE KEY], on 127.0.0.1, with TLS and channel bindings where there is a
-certificate; --ask wants MICs over the list of mechanisms, of each client that speaks SPNEGO."""
+"""Serves a page to those who have a ticket: serve.py [--ask] [--new] KEYTAB CACHE PORT [CERTIFICATE KEY], on 127.0.0.1, with TLS and channel bindings where
+there is a certificate; --ask wants MICs over the list of mechanisms, of each client that speaks SPNEGO. --new is said once, of a keytab with which nobody was
+let in before: without it a CACHE that is made now lets in nobody for the first five minutes."""
 
 import logging
+import os
 import ssl
 import sys
 from http.server import BaseHTTPRequestHandler
@@ -45,12 +47,15 @@ def page(environ, start_response):
     return [body]
 
 
-words = sys.argv[1:]
-asks = words[:1] == ["--ask"]
-keytab, cache, port, *files = words[asks:]
+options, words = {"--ask": False, "--new": False}, sys.argv[1:]
+while words and words[0] in options:
+    options[words.pop(0)] = True
+keytab, cache, port, *files = words
 logging.basicConfig(format="%(name)s: %(message)s")
-acceptor = krb.Acceptor(keytab, replay_cache=krb.FileReplayCache(cache, whole_since=None))
-application = Negotiate(page, acceptor, bindings_of(files[0]) if files else None, asks)
+if options["--new"] and os.path.lexists(cache):
+    sys.exit("serve.py: --new is said once, and %s is there: leave it out" % cache)
+acceptor = krb.Acceptor(keytab, replay_cache=krb.FileReplayCache(cache, None if options["--new"] else "now"))
+application = Negotiate(page, acceptor, bindings_of(files[0]) if files else None, options["--ask"])
 with make_server("127.0.0.1", int(port), application, Server, Connection) as server:
     if files:
         context = ssl.SSLContext(ssl.PROTOCOL_TLS_SERVER)

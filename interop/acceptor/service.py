@@ -9,6 +9,7 @@ import krb
 from checks import expect
 from clients import MitClient
 from contexts import refused
+from units import in_child
 
 
 def token_of(service="e18", words=("mutual",)):
@@ -50,11 +51,53 @@ def try_caches(keytab):
         expect(got == wanted, "a replay cache, %s: %s, and not %s" % (title, got, wanted))
     late = krb.Acceptor(keytab, replay_cache=krb.ReplayCache(None), clock=lambda: now - 100)
     expect([rule_of(late, token), rule_of(late, token)] == [None, "REPEAT"], "a clock that is late")
+    error = refused(lambda: krb.Acceptor(keytab, replay_cache=krb.ReplayCache(now - 270)).accept(token))
+    expect(re.search(r"is let in in (2[5-9]|3[01]) s \(replay_cache= says whole_since", str(error)), "a cache that is too young: %s" % error)
     try:
         krb.Acceptor(keytab, replay_cache=Own(OSError("the disk is full"))).accept(token)
         expect(False, "a client is let in though the replay cache fails")
     except OSError as error:
         expect("full" in str(error), "the error of a replay cache: %s" % error)
+
+
+def try_clock_back(realm, keytab):
+    """A client whose time was forgotten, since the clock was an hour ahead: not let in, by a text of its own; and the caches of a service's own."""
+    for title, cache in (
+        ("in memory", krb.ReplayCache(None)),
+        ("in a file", krb.FileReplayCache(realm.path("clock-back"), None)),
+        ("the service's own", Forgets(time.time() + 3300)),
+    ):
+        if not isinstance(cache, Forgets):
+            ahead = int(time.time()) + 3600
+            cache.add(ahead.to_bytes(8, "big") + bytes(4) + b"an entry", ahead - 300)
+        acceptor, token = krb.Acceptor(keytab, replay_cache=cache), token_of()
+        for turn in range(2):
+            error = refused(lambda: acceptor.accept(token))
+            right = error is not None and (error.rule, error.code) == (krb.Rule.UNREMEMBERED, 34) and bool(error.error)
+            expect(right and "clock was 3600 s later than now: it went back" in re.sub("359[5-9]", "3600", str(error)), "a clock that went back, %s: %s" % (title, error))
+
+
+class Forgets:
+    """A replay cache of a service's own, which has forgotten what was before a time."""
+
+    def __init__(self, before):
+        self.whole_since, self.before = None, int(before)
+
+    def add(self, entry, seconds):
+        raise krb.Forgotten(self.before)
+
+
+def try_workers(realm, keytab):
+    """One token at four workers that are forked: an Acceptor with a cache in memory lets none in but its own process's, one with a file lets in one."""
+    for title, cache, wanted in (
+        ("in memory", krb.ReplayCache(None), ["RuntimeError"] * 4),
+        ("the default", None, ["RuntimeError"] * 4),
+        ("in a file", krb.FileReplayCache(realm.path("workers"), None), ["REPEAT"] * 3 + ["in"]),
+    ):
+        first = [time.time() - 400]  # the time at which it is made, so that the default is old enough
+        acceptor, token = krb.Acceptor(keytab, replay_cache=cache, clock=lambda: first.pop() if first and cache is None else time.time()), token_of()
+        said = sorted(in_child(lambda: rule_of(acceptor, token) or "in").strip("'").partition(":")[0] for _ in range(4))
+        expect(said == wanted, "four workers, a cache %s: %s" % (title, said))
 
 
 def try_threads(keytab):
@@ -139,6 +182,8 @@ def try_service(realm):
     with open(realm.keytab, "rb") as file:
         keytab = file.read()
     try_caches(keytab)
+    try_clock_back(realm, keytab)
+    try_workers(realm, keytab)
     try_threads(keytab)
     try_messages(keytab)
     try_options(realm, keytab)

@@ -19,7 +19,7 @@ def entry(seconds, microseconds=0, client=(b"ann",)):
 
 
 def try_cache(title, make):
-    """A sequence of entries, with the time before which all may be forgotten, and whether each is new."""
+    """A sequence of entries, with the time before which all may be forgotten, and whether each is new, or the time before which all is forgotten."""
     cache = make("now")
     expect(0 <= cache.whole_since - time.time() + 1 <= 3, "%s: whole since %s" % (title, cache.whole_since))
     expect(make(None).whole_since is None and make(17.5).whole_since == 18, "%s: whole_since" % title)
@@ -30,17 +30,51 @@ def try_cache(title, make):
         (1000, 0, b"bob", 700, True),
         (999, 0, b"ann", 700, True),
         (1000, 0, b"ann", 1000, False),
-        (999, 0, b"ann", 1000, False),
+        (999, 0, b"ann", 1000, 1000),
         (2000, 0, b"ann", 1700, True),
         (1700, 0, b"ann", 1700, True),
         (1700, 0, b"ann", 500, False),
-        (1000, 0, b"carol", 500, False),
+        (1000, 0, b"carol", 500, 1700),
         (1701, 0, b"carol", 500, True),
-        (-5, 0, b"ann", -10, False),
+        (-5, 0, b"ann", -10, 1700),
     ):
-        got = cache.add(entry(seconds, microseconds, (client,)), before)
-        expect(got == wanted, "%s: %d.%d of %s: %s" % (title, seconds, microseconds, client, got))
+        got = added(cache, entry(seconds, microseconds, (client,)), before)
+        expect(got == wanted and type(got) is type(wanted), "%s: %d.%d of %s: %s" % (title, seconds, microseconds, client, got))
     expect(len(cache) == 3, "%s: %d entries are left" % (title, len(cache)))
+
+
+def added(cache, octets, before):
+    """What `add` answers; the time of which it says that all before is forgotten."""
+    try:
+        return cache.add(octets, before)
+    except krb.Forgotten as forgotten:
+        return pickle.loads(pickle.dumps(forgotten)).before
+
+
+def in_child(call):
+    """What a call returns, or the error that it raises, as text, in a process that is forked."""
+    reader, writer = os.pipe()
+    child = os.fork()
+    if child == 0:
+        try:
+            text = repr(call())
+        except BaseException as error:
+            text = "%s: %s" % (type(error).__name__, error)
+        os.write(writer, text.encode())
+        os._exit(0)
+    os.close(writer)
+    with open(reader, encoding="utf-8") as file:
+        text = file.read()
+    os.waitpid(child, 0)
+    return text
+
+
+def try_forked():
+    """A cache in memory is of one process."""
+    cache = krb.ReplayCache(None)
+    said = in_child(lambda: cache.add(entry(1000), 0))
+    expect(said.startswith("RuntimeError: ") and "krb.FileReplayCache" in said, "a ReplayCache in a process that was forked: %s" % said)
+    expect(cache.add(entry(1000), 0) and not cache.add(entry(1000), 0), "a ReplayCache in its own process")
 
 
 def try_threads(title, cache):
@@ -81,10 +115,8 @@ def try_file(path):
     expect(again.whole_since is None and not again.add(entry(1000), 0) and again.add(entry(1001), 0), "a file that is opened again")
     modes = {stat.S_IMODE(os.stat(each).st_mode) for each in (path, path + "-wal")}
     expect(modes == {0o600}, "the modes of a cache's files: %s" % modes)
-    child = os.fork()
-    if child == 0:
-        os._exit(not (cache.add(entry(1002), 0) and not cache.add(entry(1001), 0)))
-    expect(os.waitpid(child, 0)[1] == 0 and not cache.add(entry(1002), 0), "a process that was forked with an open cache")
+    said = in_child(lambda: (cache.add(entry(1002), 0), cache.add(entry(1001), 0)))
+    expect(said == "(True, False)" and not cache.add(entry(1002), 0), "a process that was forked with an open cache: %s" % said)
     os.chmod(path, 0o620)
     link = path + "-link"
     os.symlink(path, link)
@@ -97,6 +129,68 @@ def try_file(path):
             expect(False, "%s is taken for a cache" % what)
         except Exception as error:
             expect(isinstance(error, OSError) == (what != garbage), "%s: %r" % (what, error))
+
+
+def try_lost(path):
+    """A cache's file that has not what it had, or is another user's: refused when it is opened, and where a process has it open."""
+
+    def text_of(call):
+        error = raised(call, True)
+        return "%s: %s" % (type(error).__name__, error)
+
+    def begun(name):
+        cache = krb.FileReplayCache(path + name, None)
+        expect(cache.add(entry(1000), 0), "%s: a new cache" % name)
+        return cache, path + name
+
+    empty = path + "-empty"
+    os.close(os.open(empty, os.O_WRONLY | os.O_CREAT, 0o600))
+    said = text_of(lambda: krb.FileReplayCache(empty, None))
+    expect(said.startswith("OSError: %s has no octets" % empty) and empty + "-wal" in said, "a file of no octets: %s" % said)
+    for name, what, wanted in (
+        ("-emptied", lambda at: os.truncate(at, 0), "has no octets"),
+        ("-removed", os.unlink, "was removed"),
+        ("-replaced", lambda at: (krb.FileReplayCache(at + "-2", None).close(), os.replace(at + "-2", at)), "was replaced by another file"),
+    ):
+        cache, at = begun(name)
+        what(at)
+        for turn in range(2):
+            said = text_of(lambda: cache.add(entry(1000), 0))
+            expect(said.startswith("OSError: %s %s" % (at, wanted)), "a file that is open, %s: %s" % (name, said))
+        said = in_child(lambda: cache.add(entry(1000), 0))
+        expect(said.startswith("OSError: %s %s" % (at, wanted)), "a file that is open, in a process that was forked, %s: %s" % (name, said))
+        again = text_of(lambda: krb.FileReplayCache(at, None))
+        there = {"-emptied": "has no octets", "-removed": "is not there, and what SQLite keeps beside it is (-wal, -shm)", "-replaced": "None"}[name]
+        expect(there in again, "a file that is opened again, %s: %s" % (name, again))
+        cache.close()
+    cache, at = begun("-without")
+    cache._connection().execute("DELETE FROM state")
+    for what, call in (("open", lambda: cache.add(entry(1000), 0)), ("opened again", lambda: krb.FileReplayCache(at, None))):
+        said = text_of(call)
+        expect(said.startswith("OSError: %s does not say since when it is whole" % at), "a file without a state, %s: %s" % (what, said))
+    if os.geteuid() == 0:
+        cache, at = begun("-owner")
+        os.chown(at, 65534, -1)
+        for call in (lambda: cache.add(entry(1001), 0), lambda: krb.FileReplayCache(at)):
+            said = text_of(call)
+            expect(said.startswith("PermissionError: ") and "another user's" in said, "another user's file: %s" % said)
+    left = [each for each in os.listdir(os.path.dirname(path)) if not each.endswith(("-wal", "-shm")) and each.count("-") > 3]
+    expect(not left, "names that were left behind: %s" % left)
+
+
+def try_begun_together(path):
+    """Eight processes that make one file at once: each finds it whole, and one entry is new once."""
+    for n in range(10):
+        children = [os.fork() or _begins(path + str(n)) for _ in range(8)]
+        said = sorted(os.waitpid(child, 0)[1] for child in children)
+        expect(said == [0] + [256] * 7, "eight processes that make one file: %s" % said)
+
+
+def _begins(path):
+    try:
+        os._exit(not krb.FileReplayCache(path, None).add(entry(1000), 0))
+    except BaseException:
+        os._exit(2)
 
 
 def try_window():
@@ -137,6 +231,7 @@ def try_refusals(keytab):
         (krb.Rule.KEY_VERSION, 3, "KEY_VERSION: the keytab has no key of version 3, which the ticket names"),
         (krb.Rule.EXPIRED, 4000, "EXPIRED: the ticket ended 1970-01-01 01:06:40 UTC"),
         (krb.Rule.NOT_YET_VALID, 86400, "NOT_YET_VALID: the ticket is not valid before 1970-01-02 00:00:00 UTC"),
+        (krb.Rule.REPEAT, None, "REPEAT: the client was let in by this authenticator before"),
     ):
         refused = krb.NotAccepted(rule, 37, seen, b"e", krb.accept._why(rule, seen, 5000, 300))
         copy = pickle.loads(pickle.dumps(refused))
@@ -144,6 +239,13 @@ def try_refusals(keytab):
         same = all(getattr(copy, each) == getattr(refused, each) for each in ("rule", "code", "seen", "error", "status")) and str(copy) == text
         expect(same and refused.status == krb.Status.NOT_ACCEPTED, "a copy of a refusal: %r" % copy)
     expect(all(krb.accept._TEXTS.get(rule) for rule in krb.Rule), "a rule has no text")
+    for seconds, words in ((4970, "is let in in 30 s "), (5000, "is let in now "), (6000, "is let in now ")):
+        said = krb.accept._why(krb.Rule.UNREMEMBERED, None, seconds, 300, 4700)
+        expect(words in said and "before 1970-01-01 01:18:20 UTC" in said and "replay_cache= says whole_since" in said, "a cache that is too young: %s" % said)
+    said = krb.accept._forgotten(8300, 5000, 300)
+    expect("what came before 1970-01-01 02:18:20 UTC is forgotten, when the service's clock was 3600 s later than now: it went back" in said, "a clock: %s" % said)
+    expect(said.endswith("are let in again from 1970-01-01 02:18:20 UTC on"), "a clock that went back: %s" % said)
+    expect("went back" not in krb.accept._forgotten(4700, 5000, 300), "a clock that did not go back")
     for words, kind in (({"pac": "some"}, ValueError), ({"skew": -1}, ValueError), ({"skew": 2**32}, ValueError), ({"replay_cache": True}, ValueError)):
         expect(raised(lambda: krb.Acceptor(keytab, **words)) is kind, "an Acceptor of %s" % words)
     for octets, status in ((b"", "KEYTAB"), (b"\5\1" + bytes(20), "KEYTAB"), (b"\5\2", "ABSENT")):
@@ -168,7 +270,10 @@ def try_units(realm):
     try_threads("ReplayCache", krb.ReplayCache(None))
     try_threads("FileReplayCache", krb.FileReplayCache(realm.path("cache-threads"), None))
     try_growth()
+    try_forked()
     try_file(realm.path("cache-file"))
+    try_lost(realm.path("lost"))
+    try_begun_together(realm.path("together"))
     try_window()
     try_names()
     with open(realm.keytab, "rb") as file:

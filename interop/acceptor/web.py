@@ -22,7 +22,7 @@ class Site:
         files = [certificate, realm.path("key.pem")] if certificate else []
         self.url = "http%s://localhost:%d/" % ("s" if files else "", self.port)
         cache = realm.path("replays-%d" % self.port)
-        realm.start(["/usr/bin/python3", SERVE, *words, realm.keytab, cache, str(self.port), *files], environment, self.port)
+        realm.start(["/usr/bin/python3", SERVE, "--new", *words, realm.keytab, cache, str(self.port), *files], environment, self.port)
 
     def curl(self, *words, cache=None):
         """The status, and the page."""

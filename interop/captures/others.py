@@ -25,7 +25,7 @@ HEIMDAL = (
 
 def web_page(realm, environment, path):
     """A login by curl at a page of Python, with a ticket of before, and one without a ticket."""
-    command = ["/usr/bin/python3", SERVE, realm.path("keytab"), realm.path("replays"), "80"]
+    command = ["/usr/bin/python3", SERVE, "--new", realm.path("keytab"), realm.path("replays"), "80"]
     realm.start(command, dict(environment, PYTHONPATH=os.path.join(TOP, "python")), 80)
     with Recording(path):
         curl = ["curl", "-s", "--noproxy", "*", "-4", "-o", "/dev/null", "-w", "%{http_code}", "http://localhost/"]

@@ -112,6 +112,37 @@ def try_order():
             expect(got == wanted, "of %s an acceptor of %s takes %s" % tuple([each[-1] for each in some] for some in (offered, own, [got])))
 
 
+def try_front():
+    """A third takes away the first choice of both, which the initiator's token is of. An acceptor of two mechanisms is not complete without a MIC, unless it was
+    told not to ask, and with one it is the initiator that refuses; an acceptor of one mechanism asks for none."""
+    for words, is_complete in (((), False), ((None,), False), ((True,), False), ((False,), True)):
+        side = krb.Negotiator(ACCEPTOR, [Toy(ACCEPTOR, FIRST), Toy(ACCEPTOR, SECOND)], *words)
+        answer, state = side.step(init([SECOND], b"toy:01:1"))
+        said = spnego.neg_token_resp(answer).neg_state
+        expect((state, side.by_mic, said) == ((COMPLETE, False, COMPLETED) if is_complete else (RUNNING, False, REQUEST_MIC)), "asks %s: %s, %s" % (words, state, said))
+        initiator = krb.Negotiator(INITIATOR, [Toy(INITIATOR, FIRST), Toy(INITIATOR, SECOND)])
+        initiator.step()
+        expect(rule_of(lambda: talk_on(initiator, side, answer)) is not None and initiator.state != COMPLETE, "asks %s: the initiator is complete" % (words,))
+        expect(is_complete or side.state != COMPLETE, "asks %s: the acceptor is complete" % (words,))
+    for own, words, wanted in (([FIRST], (), COMPLETE), ([FIRST], (True,), RUNNING), ([FIRST, SECOND], (), RUNNING), ([FIRST, SECOND], (False,), COMPLETE)):
+        _, state = krb.Negotiator(ACCEPTOR, [Toy(ACCEPTOR, each) for each in own], *words).step(init([FIRST], TOKEN_1))
+        expect(state == wanted, "%d mechanisms, asks %s: %s" % (len(own), words, state))
+    krb.Negotiator(INITIATOR, [Toy(INITIATOR, FIRST), Toy(INITIATOR, SECOND)], None).step()
+    for offered in ([FIRST, SECOND], [SECOND, FIRST], [SECOND]):
+        sides = [krb.Negotiator(role, [Toy(role, each) for each in given]) for role, given in ((INITIATOR, offered), (ACCEPTOR, [FIRST, SECOND]))]
+        _, one, other = talk(*sides)
+        expect((one, other) == (COMPLETE, COMPLETE) and sides[0].by_mic and sides[1].by_mic, "honest sides, an acceptor of two: %s, %s" % (one, other))
+
+
+def talk_on(initiator, acceptor, answer):
+    """The rest of a conversation, from an answer of the acceptor's."""
+    while answer is not None:
+        answer, _ = initiator.step(answer)
+        if answer is None:
+            return
+        answer, _ = acceptor.step(answer)
+
+
 def try_alias():
     """A name that peers use in the place of a mechanism's own is answered as it is spelled."""
     for offered in ([SECOND], [SECOND, FIRST], [FIRST, SECOND]):
@@ -120,7 +151,7 @@ def try_alias():
         answer, state = sides[1].step(init(offered, b"toy:00:1"))
         expect(state == COMPLETE and spnego.neg_token_resp(answer).supported_mech == offered[0] == sides[1].name, "the alias in %s" % offered)
         expect(sides[0].step(answer) == (None, COMPLETE) and sides[0].name == offered[0], "the alias in %s: the initiator" % offered)
-    both = krb.Negotiator(ACCEPTOR, [Toy(ACCEPTOR, THIRD, names=[SECOND]), Toy(ACCEPTOR, SECOND)])
+    both = krb.Negotiator(ACCEPTOR, [Toy(ACCEPTOR, THIRD, names=[SECOND]), Toy(ACCEPTOR, SECOND)], False)
     both.step(init([SECOND], b"toy:02:1"))
     expect(both.mechanism is not None and both.mechanism.oid == THIRD, "a name of two mechanisms is the first one's")
 
@@ -414,7 +445,7 @@ def try_threads():
 
 
 def try_units():
-    for each in (try_honest, try_transcript, try_order, try_alias, try_rules, try_reject, try_bare, try_hint, try_words, try_broken, try_threads):
+    for each in (try_honest, try_transcript, try_order, try_front, try_alias, try_rules, try_reject, try_bare, try_hint, try_words, try_broken, try_threads):
         each()
 
 

@@ -31,15 +31,15 @@ from krb._parts import Hidden, Outcome, Part, decode, find, find_number, parts
 from krb._shown import json, show, text
 from krb import crypto, frames, gss, messages, pac, proxy, spnego
 from krb import accept
-from krb.accept import Acceptor, AnyReplayCache, ChannelBindings, Context, ContextFlag, EncryptionKey, FileReplayCache, NotAccepted, Order, OutOfOrder
-from krb.accept import ReplayCache, Rule
+from krb.accept import Acceptor, AnyReplayCache, ChannelBindings, Context, ContextFlag, EncryptionKey, FileReplayCache, Forgotten, NotAccepted, Order
+from krb.accept import OutOfOrder, ReplayCache, Rule
 from krb import negotiate
 from krb.negotiate import KerberosMechanism, Mechanism, NegotiationRole, NegotiationRule, NegotiationState, Negotiator, NotNegotiated
 from krb import client
 from krb.client import ClientRule, Credentials, Initiator, InitiatorContext, KdcUnreachable, KerberosInitiator, NotGranted, kinit
 
 __all__ = ["Form", "Hidden", "Item", "Leaf", "Node", "Outcome", "PageForm", "PageItem", "Part", "Refused", "Registry", "Role", "Secret", "Status", "decode", "find", "find_item", "find_number", "first_error", "items", "json", "name_of", "page_items", "parts", "show", "text", "type_of", "crypto", "frames", "gss", "messages", "pac", "proxy", "spnego"]
-__all__ += ["Acceptor", "AnyReplayCache", "ChannelBindings", "Context", "ContextFlag", "EncryptionKey", "FileReplayCache", "NotAccepted", "Order"]
+__all__ += ["Acceptor", "AnyReplayCache", "ChannelBindings", "Context", "ContextFlag", "EncryptionKey", "FileReplayCache", "Forgotten", "NotAccepted", "Order"]
 __all__ += ["OutOfOrder", "ReplayCache", "Rule", "accept"]
 __all__ += ["KerberosMechanism", "Mechanism", "NegotiationRole", "NegotiationRule", "NegotiationState", "Negotiator", "NotNegotiated", "negotiate"]
 __all__ += ["ClientRule", "Credentials", "Initiator", "InitiatorContext", "KdcUnreachable", "KerberosInitiator", "NotGranted", "client", "kinit"]

@@ -11,10 +11,10 @@ from typing import Any, Callable, NamedTuple, Optional, Tuple, Union
 
 from krb._context import Accepted, Context, ContextFlag, EncryptionKey, OutOfOrder, time_of
 from krb._library import IN, U32, Call, Octets, Refused, Status, _library, plain
-from krb._replay import AnyReplayCache, FileReplayCache, ReplayCache
+from krb._replay import AnyReplayCache, FileReplayCache, Forgotten, ReplayCache
 from krb._window import Order
 
-__all__ = ["Acceptor", "AnyReplayCache", "ChannelBindings", "Context", "ContextFlag", "EncryptionKey", "FileReplayCache", "NotAccepted", "Order"]
+__all__ = ["Acceptor", "AnyReplayCache", "ChannelBindings", "Context", "ContextFlag", "EncryptionKey", "FileReplayCache", "Forgotten", "NotAccepted", "Order"]
 __all__ += ["OutOfOrder", "ReplayCache", "Rule"]
 
 
@@ -91,7 +91,7 @@ _TEXTS = {
     Rule.PATH: "no KDC has checked the path of realms",
     Rule.CRITICAL_DATA: "the service does not understand the authorization data",
     Rule.DATA_FORM: "the authorization data is malformed",
-    Rule.UNREMEMBERED: "the client may have been let in before the replay cache began; it may try again in as many seconds as clocks may differ",
+    Rule.UNREMEMBERED: "the client may have been let in before, in a time of which the replay cache knows nothing",
     Rule.REPEAT: "the client was let in by this authenticator before",
     Rule.FRAME: "the token is not one of Kerberos with an AP-REQ",
     Rule.PAC_MISSING: "the ticket has no PAC",
@@ -128,8 +128,33 @@ class NotAccepted(Refused):
         return NotAccepted, (int(self.rule), self.code, self.seen, self.error, self._text)
 
 
-def _why(rule: Rule, seen: Optional[int], seconds: int, skew: int) -> str:
-    """The message of a refusal, with what was seen."""
+def _written(seconds: int) -> str:
+    return time_of(seconds).replace(tzinfo=None).isoformat(" ") + " UTC"
+
+
+def _unremembered(since: int, seconds: int, skew: int) -> str:
+    """Why a cache that is whole since then does not tell whether the client was let in before."""
+    left = since + skew - seconds
+    when = "in %d s" % left if left > 0 else "now"
+    return (
+        "the client may have been let in before %s, since when the replay cache is whole: one whose clock is right is let in %s "
+        "(replay_cache= says whole_since; None is for a service that let in nobody before)" % (_written(since), when)
+    )
+
+
+def _forgotten(before: int, seconds: int, skew: int) -> str:
+    """Why a cache that has forgotten what is earlier does not tell it."""
+    text = "the client may have been let in before: what came before %s is forgotten" % _written(before)
+    if before > seconds - skew:
+        text += ", when the service's clock was %d s later than now: it went back. Clients whose clocks are as this one are let in again from %s on" % (
+            before + skew - seconds,
+            _written(before),
+        )
+    return text
+
+
+def _why(rule: Rule, seen: Optional[int], seconds: int, skew: int, since: Optional[int] = None) -> str:
+    """The message of a refusal, with what was seen; `since` says since when the replay cache is whole."""
     text = _TEXTS[rule]
     if seen is not None and rule == Rule.SKEW:
         text = "the client's time is %d s %s (limit %d)" % (abs(seconds - seen), "behind" if seen < seconds else "ahead", skew)
@@ -137,7 +162,9 @@ def _why(rule: Rule, seen: Optional[int], seconds: int, skew: int) -> str:
         text = "the keytab has no key of version %d, which the ticket names" % seen
     elif seen is not None and rule in (Rule.EXPIRED, Rule.NOT_YET_VALID):
         verb = "ended" if rule == Rule.EXPIRED else "is not valid before"
-        text = "the ticket %s %s UTC" % (verb, time_of(seen).replace(tzinfo=None).isoformat(" "))
+        text = "the ticket %s %s" % (verb, _written(seen))
+    elif since is not None and rule == Rule.UNREMEMBERED:
+        text = _unremembered(since, seconds, skew)
     return "%s: %s" % (rule.name, text)
 
 
@@ -179,6 +206,7 @@ _RANDOM = 48
 _SEQUENCE_NUMBERS = 2**30  # as MIT Kerberos: some clients take the highest bits for a sign
 _AP_REQ = 0x6E
 _ERROR_ROOM = 1024
+_REPEAT = 34  # KRB_AP_ERR_REPEAT (RFC 4120, 7.5.9)
 
 
 def _error(keytab: bytes, now: float, code: int, in_frame: bool) -> bytes:
@@ -216,8 +244,9 @@ class Acceptor:
     - `keytab`: the octets of a keytab, or the path of one. `session_keys`: a keytab with the session keys of the service's own ticket-granting tickets
       (user-to-user).
     - `skew`: by how many seconds clocks may differ.
-    - `replay_cache`: None for a `ReplayCache` of its own, from now on; a `FileReplayCache`; or one of the service's own (`AnyReplayCache`). False for none:
-      each token then lets its client in as often as it comes, for twice `skew` seconds.
+    - `replay_cache`: None for a `ReplayCache` of its own, from now on, which is of this process alone: in a worker that is forked later `accept` raises
+      RuntimeError. A `FileReplayCache`, for any number of workers; or one of the service's own (`AnyReplayCache`). False for none: each token then lets its
+      client in as often as it comes, for twice `skew` seconds.
     - `bare_request`: an AP-REQ with no frame around it is taken too, as DCE style has it.
     - `other_checksum`: so is an authenticator whose checksum is not of the GSS-API.
     - `pac`: "checked" where a ticket has one, "ignored", or "required".
@@ -276,7 +305,7 @@ class Acceptor:
         `address` is the client's, of IPv4 or IPv6, where it is known.
 
         NotAccepted: it is not let in. Refused: KEYTAB where `session_keys` is none, MEMORY, and then nobody is let in either. ValueError of what is no
-        address. What a replay cache raises is raised on."""
+        address. What a replay cache raises, but `Forgotten`, is raised on, as a `ReplayCache` does in another process than its own."""
         token, keytab, now = plain(token), self._keytab, self._clock()
         bindings = b""
         if channel_bindings is not None:
@@ -288,19 +317,34 @@ class Acceptor:
         asked = _Asked(seconds, since or 0, self._skew, options, address_type, secrets.randbelow(_SEQUENCE_NUMBERS))
         status, accepted, out = _answer(asked, keytab, self._session_keys, bindings, octets, token)
         if status == Status.NOT_ACCEPTED:
-            raise self._refusal(accepted.rule, accepted.code, accepted.seen if accepted.has_seen else None, now, keytab, token)
+            seen = accepted.seen if accepted.has_seen else None
+            why = _why(Rule(accepted.rule), seen, seconds, self._skew, since)
+            raise self._refusal(accepted.rule, accepted.code, seen, why, now, keytab, token)
         if status != Status.DONE:
             raise Refused(status)
-        if self._cache is not None and not self._cache.add(accepted.octets("entry", out), seconds - self._skew):
-            raise self._refusal(Rule.REPEAT, 34, None, now, keytab, token)
+        self._remember(accepted.octets("entry", out), now, keytab, token)
         return Context(accepted, out, asked.sequence_number)
 
-    def _refusal(self, rule: int, code: int, seen: Optional[int], now: float, keytab: bytes, token: bytes) -> NotAccepted:
+    def _remember(self, entry: bytes, now: float, keytab: bytes, token: bytes) -> None:
+        """Returns where the replay cache did not have the entry, and has it now."""
+        if self._cache is None:
+            return
+        seconds = math.floor(now)
+        try:
+            is_new = self._cache.add(entry, seconds - self._skew)
+        except Forgotten as forgotten:
+            why = "%s: %s" % (Rule.UNREMEMBERED.name, _forgotten(forgotten.before, seconds, self._skew))
+            raise self._refusal(Rule.UNREMEMBERED, _REPEAT, None, why, now, keytab, token) from forgotten
+        if not is_new:
+            raise self._refusal(Rule.REPEAT, _REPEAT, None, _why(Rule.REPEAT, None, seconds, self._skew), now, keytab, token)
+
+    @staticmethod
+    def _refusal(rule: int, code: int, seen: Optional[int], why: str, now: float, keytab: bytes, token: bytes) -> NotAccepted:
         try:
             error = _error(keytab, now, code, token[:1] != bytes([_AP_REQ]))
         except Refused:
             error = b""
-        return NotAccepted(rule, code, seen, error, _why(Rule(rule), seen, math.floor(now), self._skew))
+        return NotAccepted(rule, code, seen, error, why)
 
 
 def _answer(asked: _Asked, keytab: bytes, session_keys: bytes, bindings: bytes, address: bytes, token: bytes) -> Tuple[int, Accepted, bytes]:

@@ -84,7 +84,8 @@ class Negotiator:
     mechanism in their order and writes what they say is tested.
 
     - `role`: `NegotiationRole`. `mechanisms`: objects as `Mechanism` has it, of this negotiation alone; of an initiator in the order of its preference.
-    - `asks`: an acceptor wants MICs whichever mechanism is chosen.
+    - `asks`: whether an acceptor wants MICs whichever mechanism is chosen: None for one of two or more mechanisms alone. It needs them then, since a third may
+      take away the initiator's first choice, and the acceptor would be complete with the next one, the first of what it received. False: it does not.
 
     An acceptor takes the first mechanism of the initiator's list that is one of its own. A first token that one of them knows as its own (`is_bare`) goes to
     it with no negotiation around it, and then nothing protects which mechanism it is. An initiator passes over a server's NegTokenInit2 that comes before its
@@ -92,13 +93,15 @@ class Negotiator:
 
     Any number of threads may use it; their steps take turns."""
 
-    def __init__(self, role: NegotiationRole, mechanisms: Iterable[Mechanism], asks: bool = False) -> None:
+    def __init__(self, role: NegotiationRole, mechanisms: Iterable[Mechanism], asks: Optional[bool] = None) -> None:
         self.role = NegotiationRole(role)
         self._mechanisms: List[Mechanism] = list(mechanisms)
         if not self._mechanisms:
             raise ValueError("a negotiation of no mechanisms")
         if asks and self.role == NegotiationRole.INITIATOR:
             raise ValueError("an acceptor alone asks for MICs")
+        if asks is None:
+            asks = self.role == NegotiationRole.ACCEPTOR and len(self._mechanisms) > 1
         self._side = Side(role=self.role, asks=bool(asks))
         self._mechanism: Optional[Mechanism] = None
         self._name, self._list = b"", b""
