@@ -5,6 +5,7 @@ import random
 import re
 import struct
 import subprocess
+import time
 
 import dpkt
 
@@ -334,11 +335,54 @@ def try_snapped(realm, environment, capture):
     expect(0 < sum(cut) < len(cut) and found == cut and status == 1 and is_clean(out, errors), "packets of 300 octets: %s, and not %s" % (found, cut))
 
 
+# Segments of one octet, the last first, straight to what puts them in order: how many pieces it tells, its seconds, and how many segments waited at most.
+BACKWARDS = """
+import sys, time
+from krb._packets import Packet
+from krb._streams import Streams
+count = int(sys.argv[1])
+body = (count - 4).to_bytes(4, "big") + bytes(count - 4)
+streams, begun, pieces, most = Streams(), time.process_time(), [], 0
+for number in [-1, *range(count - 1, -1, -1)]:
+    begins = number < 0
+    packet = Packet(1, 1, ("10.0.0.1", 41000), ("10.0.0.2", 88), 0, 1000 + number, begins, False, b"" if begins else body[number : number + 1], [], False)
+    pieces += streams.take(packet)
+    most = max(most, *(len(each.early) for each in streams._halves.values()))
+pieces += streams.rest()
+whole = sum(each.trouble is None and each.octets == body[4:] for each in pieces)
+print(whole, len(pieces), most, time.process_time() - begun)
+"""
+
+
+def try_backwards(realm, environment, request):
+    """Segments in reverse order: the time grows with their number, and so does not the number of those that are kept; and the command ends when its seconds are over."""
+
+    def ran(count):
+        done = subprocess.run([PYTHON, "-c", BACKWARDS, str(count)], env=environment, capture_output=True, text=True, timeout=300)
+        return [float(each) for each in done.stdout.split()] or [done.stderr]
+
+    few, many, more = ran(16000), ran(100000), ran(400000)
+    expect(few[:3] == [1, 1, 15999], "16,000 segments backwards: %s" % few)
+    expect(many[0] == 0 and 0 < many[1] < 10 and many[2] <= 16385 and more[2] <= 16385, "100,000 and 400,000 segments backwards: %s, %s" % (many, more))
+    expect(more[3] < 8 * many[3] + 1, "the seconds of 100,000 and of 400,000 segments backwards: %s, %s" % (many[3], more[3]))
+    frames = stream(framed(request * 100), sport=41000)
+    for at in range(60000):
+        frames += stream(b"a", first=60000 - at, sport=42000, begins=at == 59999)
+    capture, begun = made_of(realm, "backwards.pcap", frames), time.monotonic()
+    status, lines, out, errors = told(environment, capture, "--seconds", "3")
+    took = time.monotonic() - begun
+    right = status == 1 and len(errors) == 1 and re.fullmatch(r"krb\.capture: tshark was stopped after 3 seconds; \d+ messages up to there; --seconds N .*", errors[0])
+    expect(right and took < 30, "60,000 segments backwards and 3 seconds: %d, %s in %.1f seconds" % (status, errors, took))
+    for words in (("--seconds", "-1"), ("--seconds", "x")):
+        expect(told(environment, capture, *words)[0] == 2, "the command with %s" % (words,))
+
+
 def try_broken(realm, environment, captures, keytab):
     udp, tcp = captures["MIT's clients, udp"][0], captures["MIT's clients, tcp"][0]
     messages = requests(udp)
     try_same(realm, environment, tcp, keytab)
     try_streams(realm, environment, messages[0])
+    try_backwards(realm, environment, messages[0])
     try_datagrams(realm, environment, messages)
     try_names(realm, environment, messages[0])
     found = [bytes(dpkt.ethernet.Ethernet(frame).data.data.data) for _, frame in read(captures["curl and a page"][0]) if b"Negotiate YII" in frame]

@@ -155,11 +155,13 @@ def _feed(pipe: IO[bytes], octets: bytes) -> None:
 
 class Capture:
     """A file of packets, or its `octets`, of which nothing is written to disk. `trouble` says, behind the last packet, why there may be more than were
-    read: a line of tshark, or None. With `seconds` tshark is stopped when they are over, and `trouble` says so."""
+    read: a line of tshark, or None. With `seconds` tshark is stopped when they are over, no packet comes from then on, `is_stopped` is True, and `trouble` says
+    so."""
 
     def __init__(self, path: str = "-", octets: Optional[bytes] = None, seconds: Optional[float] = None) -> None:
         self.path, self.octets, self.seconds = path, octets, seconds
         self.trouble: Optional[str] = None
+        self.is_stopped = False
 
     def packets(self) -> Iterator[Packet]:
         """The packets that may hold messages, in their order. NoReader: tshark is not there."""
@@ -188,6 +190,8 @@ class Capture:
             if process.stdin is not None and self.octets is not None:
                 threading.Thread(target=_feed, args=(process.stdin, self.octets), daemon=True).start()
             for line in process.stdout:
+                if stopped.is_set():
+                    break
                 if b'"layers"' in line:
                     try:
                         packet = _packet(json.loads(line.decode("utf-8", "replace"))["layers"])
@@ -204,6 +208,7 @@ class Capture:
                 timer.cancel()
             lines = said.lines()
         if stopped.is_set():
+            self.is_stopped = True
             self.trouble = "%s was stopped after %g seconds" % (READER, self.seconds or 0)
         elif status != 0:
             self.trouble = lines[-1] if lines else "%s ends with the status %d" % (READER, status)

@@ -9,6 +9,7 @@ __all__ = ["Piece", "Streams"]
 
 MOST_OCTETS = 1 << 20  # of a message; a KDC takes no longer ones
 MOST_HELD = 1 << 22  # octets of a stream behind some that are missing
+MOST_WAITING = 1 << 14  # segments with them
 _LENGTH = 4  # octets before each message of a stream (RFC 4120, 7.2.2)
 
 
@@ -54,7 +55,7 @@ class _Half:
         heapq.heappush(self.early, (place, packet.number, packet, packet.payload))
         self.held += len(packet.payload)
         yield from self._drain()
-        if self.held > MOST_HELD:
+        if self.held > MOST_HELD or len(self.early) > MOST_WAITING:
             yield from self.leave_gap()
 
     def _drain(self) -> Iterator[Piece]:

@@ -1,4 +1,4 @@
-"""Messages of Kerberos in a capture of a network: python3 -m krb.capture FILE [--keytab KEYTAB].. [--show] [--show-keys]."""
+"""Messages of Kerberos in a capture of a network: python3 -m krb.capture FILE [--keytab KEYTAB].. [--show] [--show-keys] [--seconds N]."""
 
 import argparse
 import base64
@@ -22,7 +22,9 @@ Authorization and WWW-Authenticate, and in binds of LDAP and SMB: a line for eac
 kind, who asks for what, the error by name, and what keys opened in it. Keys that stand in what is opened open what follows. Names are
 quoted as RFC 1964 has it. What is not read is told in a line, too. Kerberos in TLS is not seen. tshark reads the packets.
 
-The status is 0; 1 where octets are not read, or where the capture ends in the middle of a packet; 2 where it cannot be read at all."""
+The status is 0; 1 where octets are not read, or where the capture ends in the middle of a packet or takes more than so many seconds; 2 where it
+cannot be read at all."""
+SECONDS = 300  # in which the command reads a capture, unless it is told otherwise
 
 
 class Told(NamedTuple):
@@ -128,7 +130,7 @@ def _fail(text: str) -> int:
 
 def _tell(options: argparse.Namespace, reader: Reader) -> int:
     """Prints the messages of the capture, and answers the status."""
-    capture, count, unread = Capture(options.file), 0, 0
+    capture, count, unread = Capture(options.file, seconds=options.seconds or None), 0, 0
     for each in messages(capture, reader):
         count += each.facts is not None
         unread += each.facts is None
@@ -139,8 +141,9 @@ def _tell(options: argparse.Namespace, reader: Reader) -> int:
     if reader.keys.left_out:
         print("krb.capture: %d keys that were found are tried no more" % reader.keys.left_out, file=sys.stderr)
     if capture.trouble is not None:
-        _fail("%s; %d messages up to there" % (re.sub(r"^tshark: |\.$", "", capture.trouble), count))
-        return 1 if count or unread or "cut short" in capture.trouble else 2
+        more = "; --seconds N gives it N, and 0 no limit" if capture.is_stopped else ""
+        _fail("%s; %d messages up to there%s" % (re.sub(r"^tshark: |\.$", "", capture.trouble), count, more))
+        return 1 if count or unread or capture.is_stopped or "cut short" in capture.trouble else 2
     return 1 if unread else 0
 
 
@@ -152,7 +155,10 @@ def main(arguments: Optional[List[str]] = None) -> int:
     parser.add_argument("--keytab", metavar="KEYTAB", action="append", default=[], help="keys that open what is encrypted; may stand more than once")
     parser.add_argument("--show", action="store_true", help="the whole of each message, opened where a key fits")
     parser.add_argument("--show-keys", action="store_true", help="with --show: the octets of keys and passwords, too")
+    parser.add_argument("--seconds", metavar="N", type=float, default=SECONDS, help="stop after so many seconds (%(default)s); 0: never")
     options = parser.parse_args(arguments)
+    if not 0 <= options.seconds < 1e9:
+        parser.error("--seconds %g" % options.seconds)
     if options.show_keys and not options.show:
         parser.error("--show-keys without --show")
     try:
