@@ -48,6 +48,7 @@ FILES = {
     "page.css": ("page.css", "text/css; charset=utf-8"),
     "icon.svg": ("icon.svg", "image/svg+xml"),
 }
+ALIVE = "alive"
 POLICY = (
     "default-src 'none'; script-src 'self'; style-src 'self'; img-src 'self'; connect-src 'self'; form-action 'none'; base-uri 'none'; frame-ancestors 'none'; "
     "require-trusted-types-for 'script'; trusted-types 'none'"
@@ -221,6 +222,9 @@ class Handler(http.server.BaseHTTPRequestHandler):
     def do_GET(self) -> None:
         try:
             name = self._path()
+            if name == ALIVE:
+                self._stay()
+                return
             if name not in FILES:
                 raise Rejected(HTTPStatus.METHOD_NOT_ALLOWED if name == "show" else HTTPStatus.NOT_FOUND, "no such page")
             body, content_type = self.server.files[name]
@@ -229,6 +233,18 @@ class Handler(http.server.BaseHTTPRequestHandler):
             self._refuse(rejected)
 
     do_HEAD = do_GET
+
+    def _stay(self) -> None:
+        """An answer that lasts as long as this server and the page do: by its end the page knows that whoever has the port then is another."""
+        self.close_connection = True
+        self.send_response(HTTPStatus.OK)
+        for name, value in {**HEADERS, "Content-Type": "text/plain; charset=utf-8", "Connection": "close"}.items():
+            self.send_header(name, value)
+        self.end_headers()
+        if self.command != "HEAD":
+            self.connection.settimeout(None)
+            while self.connection.recv(4096):
+                pass
 
     def do_POST(self) -> None:
         try:

@@ -15,6 +15,9 @@ let cursor = null; // the octet that the keyboard is on
 let list = null; // the messages of a capture, as the server told them, and the item of each
 let picked = null; // the message of the list that is shown in place of it
 let asked = 0; // requests so far: an answer to an earlier one is not shown
+let held = null; // whether the server holds an answer open, which ends when the server does
+let gone = false; // the server has ended: nothing is sent any more
+const GONE = "The server has ended. Close this page: nothing is sent any more.";
 
 function made(tag, name, text) {
     const element = document.createElement(tag);
@@ -41,14 +44,45 @@ async function octetsOf(given) {
 }
 
 function say(error, status) {
-    get("error").textContent = error;
-    get("status").textContent = status;
+    get("error").textContent = gone ? GONE : error;
+    get("status").textContent = gone ? "" : status;
 }
+
+// The server.
+
+// Has the server hold an answer open: whoever listens at its port once it has ended is to get no keys. False where it is busy, or has ended.
+function hold() {
+    if (!held) {
+        held = fetch("alive", { credentials: "omit", cache: "no-store", redirect: "error" }).then((answer) => {
+            if (!answer.ok) held = null;
+            else wait(answer.body.getReader());
+            return answer.ok;
+        }, leave);
+    }
+    return held;
+}
+
+function wait(reader) {
+    reader.read().then((piece) => piece.done ? leave() : wait(reader), leave);
+}
+
+// The server has ended: the keys go, and what is shown stays.
+function leave() {
+    gone = true;
+    asked++;
+    for (const id of ["keytabs", "keys", "password", "salt"]) get(id).value = "";
+    for (const id of ["go", "show", "keytabs", "keys", "password", "salt"]) get(id).disabled = true;
+    say("", "");
+    return false;
+}
+
+hold();
 
 // Asking.
 
 // Asks about what is given, or about a message of the list.
 async function ask(message) {
+    if (gone) return say("", "");
     const number = ++asked;
     const octets = message ? fromBase64(message.octets) : file ? file.octets : new TextEncoder().encode(get("input").value);
     picked = message || null;
@@ -65,6 +99,7 @@ async function ask(message) {
             input: base64(octets), kind: message ? message.kind : get("kind").value.trim(), keytabs: keytabs, keys: get("keys").value, password: get("password").value,
             salt: get("salt").value, show: get("show").checked,
         };
+        if (!await hold() || gone) throw new Error("The server is busy. Try again.");
         const answer = await fetch("show", {
             method: "POST", headers: { "Content-Type": "application/json" }, body: JSON.stringify(question), credentials: "omit", cache: "no-store", redirect: "error",
         });
