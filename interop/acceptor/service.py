@@ -74,7 +74,8 @@ def try_clock_back(realm, keytab):
         for turn in range(2):
             error = refused(lambda: acceptor.accept(token))
             right = error is not None and (error.rule, error.code) == (krb.Rule.UNREMEMBERED, 34) and bool(error.error)
-            expect(right and "clock was 3600 s later than now: it went back" in re.sub("359[5-9]", "3600", str(error)), "a clock that went back, %s: %s" % (title, error))
+            told = re.search(r"clock was (359\d|3600) s later than now: it went back", str(error))
+            expect(right and told, "a clock that went back, %s: %s" % (title, error))
 
 
 class Forgets:

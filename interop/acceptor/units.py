@@ -243,7 +243,7 @@ def try_refusals(keytab):
         said = krb.accept._why(krb.Rule.UNREMEMBERED, None, seconds, 300, 4700)
         expect(words in said and "before 1970-01-01 01:18:20 UTC" in said and "replay_cache= says whole_since" in said, "a cache that is too young: %s" % said)
     said = krb.accept._forgotten(8300, 5000, 300)
-    expect("what came before 1970-01-01 02:18:20 UTC is forgotten, when the service's clock was 3600 s later than now: it went back" in said, "a clock: %s" % said)
+    expect("before 1970-01-01 02:18:20 UTC is forgotten, when the service's clock was 3600 s later than now: it went back" in said, "a clock: %s" % said)
     expect(said.endswith("are let in again from 1970-01-01 02:18:20 UTC on"), "a clock that went back: %s" % said)
     expect("went back" not in krb.accept._forgotten(4700, 5000, 300), "a clock that did not go back")
     for words, kind in (({"pac": "some"}, ValueError), ({"skew": -1}, ValueError), ({"skew": 2**32}, ValueError), ({"replay_cache": True}, ValueError)):

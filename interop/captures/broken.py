@@ -355,7 +355,7 @@ print(whole, len(pieces), most, time.process_time() - begun)
 
 
 def try_backwards(realm, environment, request):
-    """Segments in reverse order: the time grows with their number, and so does not the number of those that are kept; and the command ends when its seconds are over."""
+    """Segments in reverse order: the time grows with their number, but not how many are kept; and the command ends when its seconds are over."""
 
     def ran(count):
         done = subprocess.run([PYTHON, "-c", BACKWARDS, str(count)], env=environment, capture_output=True, text=True, timeout=300)
@@ -371,7 +371,8 @@ def try_backwards(realm, environment, request):
     capture, begun = made_of(realm, "backwards.pcap", frames), time.monotonic()
     status, lines, out, errors = told(environment, capture, "--seconds", "3")
     took = time.monotonic() - begun
-    right = status == 1 and len(errors) == 1 and re.fullmatch(r"krb\.capture: tshark was stopped after 3 seconds; \d+ messages up to there; --seconds N .*", errors[0])
+    stopped = r"krb\.capture: tshark was stopped after 3 seconds; \d+ messages up to there; --seconds N .*"
+    right = status == 1 and len(errors) == 1 and re.fullmatch(stopped, errors[0])
     expect(right and took < 30, "60,000 segments backwards and 3 seconds: %d, %s in %.1f seconds" % (status, errors, took))
     for words in (("--seconds", "-1"), ("--seconds", "x")):
         expect(told(environment, capture, *words)[0] == 2, "the command with %s" % (words,))

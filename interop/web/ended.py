@@ -21,7 +21,8 @@ return null;
 """
 TOLD = """
 const get = (id) => document.getElementById(id);
-return [get("error").textContent, get("keys").value + get("password").value + get("salt").value, get("keytabs").files.length, get("go").disabled, get("status").textContent];
+const secrets = get("keys").value + get("password").value + get("salt").value;
+return [get("error").textContent, secrets, get("keytabs").files.length, get("go").disabled, get("status").textContent];
 """
 
 
