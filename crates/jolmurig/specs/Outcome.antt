@@ -265,13 +265,13 @@ IsUnprepared gives s e =
 -- What octets of a kind are told as, what keys open in a page, and what files give.
 module _ (tells : Kind → List ℕ → Result (Vec Token Global) PageError → Type 0) (opens : Opens) (gives : Gives) where
   -- this is written of what is asked to be shown, in printable lines
-  pub record IsMade (s : Show) (left : Option (List ℕ)) (made : List ℕ) : Type 0 where
+  pub record IsMade (breaks : Breaks) (s : Show) (left : Option (List ℕ)) (made : List ℕ) : Type 0 where
     pub kind : Option Kind
     pub openers : Openers
     pub prepared : IsPrepared gives s kind openers
     pub octets : List ℕ
     pub are_read : AreRead gives s.file left octets
-    pub is_written : IsWritten tells opens kind (output_of s) s.shows_keys openers octets made
+    pub is_written : IsWritten tells opens breaks kind (output_of s) s.shows_keys openers octets made
     pub printable : ArePrintableLines made
 
   -- the input is rejected: it is not read, or has no page
@@ -286,9 +286,9 @@ module _ (tells : Kind → List ℕ → Result (Vec Token Global) PageError → 
   IsNotMade places s left rest e = (Keeps left rest × IsUnprepared gives s e) ⊎ IsInputRejected places s left e
 
   -- what is written is what the input is shown as, and the input is as it was where a file is named
-  abbrev pub IsShowRun : Places → Show → Option (List ℕ) → Option (List ℕ) → Option (List ℕ) → Option (List ℕ) → Outcome → Type 0
-  IsShowRun places s left rest before after outcome =
-      IsLeft s.file left rest × IsWrittenRun (λ made notes. IsMade s left made × (notes ≡ [])) (IsNotMade places s left rest) before after outcome
+  abbrev pub IsShowRun : Breaks → Places → Show → Option (List ℕ) → Option (List ℕ) → Option (List ℕ) → Option (List ℕ) → Outcome → Type 0
+  IsShowRun breaks places s left rest before after outcome =
+      IsLeft s.file left rest × IsWrittenRun (λ made notes. IsMade breaks s left made × (notes ≡ [])) (IsNotMade places s left rest) before after outcome
 
   -- ---- the whole
 
@@ -299,7 +299,7 @@ module _ (tells : Kind → List ℕ → Result (Vec Token Global) PageError → 
     IsRun None help input rest before after outcome = (outcome ≡ Err Arguments) × Keeps input rest × Keeps before after
     IsRun (Some Help) help input rest before after outcome =
         Keeps input rest × IsWrittenRun (λ made notes. (made ≡ help) × (notes ≡ [])) (λ e. ⊥) before after outcome
-    IsRun (Some (command.Show s)) help input rest before after outcome = IsShowRun places s input rest before after outcome
+    IsRun (Some (command.Show s)) help input rest before after outcome = IsShowRun breaks places s input rest before after outcome
     IsRun (Some (command.Check name file)) help input rest before after outcome = IsCheckRun tells places breaks gives name file input rest before after outcome
     IsRun (Some (command.List file)) help input rest before after outcome = IsListRun gives lists file input rest before after outcome
     IsRun (Some (command.Convert to file)) help input rest before after outcome =

@@ -2,7 +2,7 @@
 
 ghost use Rattle.std.specs.Prelude.{◌≡◌, ◌⊎◌, ◌-◌, ◌++◌, ◌∷◌, [], length, take, IfOk, IfErr};
 ghost use Rattle.std.specs.String.{string_bytes};
-ghost use Rattle.jolmurig.specs.Answers.{AreKeysFor, ArePrintableLines, chosen, is_placed_for, IsRefused, IsWritten, IsWrittenAs, IsWrittenOf, most_of, output_text, shown_keys, type_line};
+ghost use Rattle.jolmurig.specs.Answers.{AreKeysFor, ArePrintableLines, chosen, is_placed_for, IsRefused, IsWarned, IsWritten, IsWrittenAs, IsWrittenOf, most_of, output_text, shown_keys, type_line};
 ghost use Rattle.jolmurig_command.specs.declared.command.Output.TheVariants as output;
 ghost use Rattle.jolmurig.specs.declared.failure.Failure.TheVariants as failure;
 
@@ -12,7 +12,10 @@ use crate::openers::Openers;
 use jolmurig_command::Output;
 use krb_decrypt::{Key, MOST_FOUND, keys_of_passwords, without_keys};
 use krb_show::{Page, Token};
-use krb_show_any::{Kind, PageError, Pages, json_with_places, kind_of_octets, page_with_places};
+use krb_show_any::{
+    Kind, PageError, Pages, json_with_places, kind_of_octets, page_with_places,
+    page_with_unchecked, page_with_warnings,
+};
 use krb_show_pac::page_with_contents;
 use krb_show_text::{json_of_page, text_of_page, text_of_page_with_places};
 use std::alloc::{AllocError, Global};
@@ -143,7 +146,8 @@ fn most_of(tries_all: bool, keys: &[Key]) -> usize
     }
 }
 
-/// What is written of a page: what the keys open in it is shown in its place, and so is what the buffers of PACs hold.
+/// What is written of a page: what the keys open in it is shown in its place, so is what the buffers of PACs hold, and of a PAC that
+/// nobody checks it is said that nobody does.
 fn written_opened<C: Calls>(
     alloc: Global,
     output: Output,
@@ -157,7 +161,8 @@ fn written_opened<C: Calls>(
     let tries_all = openers.tries_all;
     let keys = keys_for(alloc, openers, &page)?;
     let opened = C::opened(alloc, most_of(tries_all, &keys), keys, page)?;
-    let detailed = page_with_contents(alloc, opened)?;
+    let told = page_with_unchecked(alloc, opened)?;
+    let detailed = page_with_contents(alloc, told)?;
     let page = kept(alloc, shows_keys, detailed)?;
     written(alloc, output, &page)
 }
@@ -180,6 +185,19 @@ fn placed_for(
     }
 }
 
+/// The page of octets of a kind, and behind it a warning for each item in the octets that breaks a rule of its standard.
+fn warned<C: Calls>(
+    alloc: Global,
+    kind: Kind,
+    octets: &[u8],
+    page: Page,
+) -> Result<Page, AllocError>
+    ensures { IfOk result (λ made. IsWarned C.breaks kind octets.now page.items made.items) }
+{
+    let broken = C::broken(alloc, kind, octets)?;
+    page_with_warnings(alloc, &broken, page)
+}
+
 /// What is written of the page of octets of a kind.
 fn written_as<C: Calls>(
     alloc: Global,
@@ -190,11 +208,12 @@ fn written_as<C: Calls>(
     octets: &[u8],
     page: Page,
 ) -> Result<Vec<u8>, AllocError>
-    ensures made { IfOk result (λ made. IsWrittenAs C.opens openers kind octets.now page.items output shows_keys made.items) }
+    ensures made { IfOk result (λ made. IsWrittenAs C.breaks C.opens openers kind octets.now page.items output shows_keys made.items) }
     ensures printable { IfOk result (λ made. ArePrintableLines made.items) }
 {
     let placed = placed_for(alloc, output, kind, octets, page)?;
-    written_opened::<C>(alloc, output, shows_keys, openers, placed)
+    let warned = warned::<C>(alloc, kind, octets, placed)?;
+    written_opened::<C>(alloc, output, shows_keys, openers, warned)
 }
 
 /// What is written for octets.
@@ -206,7 +225,7 @@ pub fn shown<S: Pages<Kind, PageError>, C: Calls>(
     openers: Openers,
     octets: &[u8],
 ) -> Result<Vec<u8>, Failure>
-    ensures found { IfOk result (λ made. IsWritten S.tells C.opens kind output shows_keys openers octets.now made.items) }
+    ensures found { IfOk result (λ made. IsWritten S.tells C.opens C.breaks kind output shows_keys openers octets.now made.items) }
     ensures printable { IfOk result (λ made. ArePrintableLines made.items) }
     ensures rejected { IfErr result (λ e. (e ≡ failure.Memory) ⊎ IsRefused S.tells C.opens C.places kind octets.now e) }
 {

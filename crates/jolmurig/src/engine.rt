@@ -118,7 +118,7 @@ fn make_prepared<S: Pages<Kind, PageError>, C: Calls, F: Files, R: Read>(
     input: &mut R,
 ) -> Result<Vec<u8>, Failure>
     ensures found { IsPrepared (F.gives files.now) show.now prepared.kind prepared.openers
-        → IfOk result (λ made. IsMade S.tells C.opens (F.gives files.now) show.now (R.remaining input.old) made.items) }
+        → IfOk result (λ made. IsMade S.tells C.opens (F.gives files.now) C.breaks show.now (R.remaining input.old) made.items) }
     ensures rejected { IsPrepared (F.gives files.now) show.now prepared.kind prepared.openers
         → IfErr result (IsInputRejected S.tells C.opens (F.gives files.now) C.places show.now (R.remaining input.old)) }
     ensures left { IsLeft show.now.file (R.remaining input.old) (R.remaining input.new) }
@@ -141,7 +141,7 @@ fn make<S: Pages<Kind, PageError>, C: Calls, F: Files, R: Read>(
     files: &F,
     input: &mut R,
 ) -> Result<Vec<u8>, Failure>
-    ensures found { IfOk result (λ made. IsMade S.tells C.opens (F.gives files.now) show.now (R.remaining input.old) made.items) }
+    ensures found { IfOk result (λ made. IsMade S.tells C.opens (F.gives files.now) C.breaks show.now (R.remaining input.old) made.items) }
     ensures rejected { IfErr result (IsNotMade S.tells C.opens (F.gives files.now) C.places show.now (R.remaining input.old) (R.remaining input.new)) }
     ensures left { IsLeft show.now.file (R.remaining input.old) (R.remaining input.new) }
 {
@@ -174,7 +174,7 @@ fn show<S: Pages<Kind, PageError>, C: Calls, F: Files, R: Read, W: Write>(
     input: &mut R,
     output: &mut W,
 ) -> Result<Vec<u8>, Failure>
-    ensures { IsShowRun S.tells C.opens (F.gives files.now) C.places show.now (R.remaining input.old) (R.remaining input.new)
+    ensures { IsShowRun S.tells C.opens (F.gives files.now) C.breaks C.places show.now (R.remaining input.old) (R.remaining input.new)
         (W.contents output.old) (W.contents output.new) result }
 {
     let made = make::<S, C, F, R>(alloc, show, files, input)?;

@@ -13,7 +13,8 @@ usage:
     jolmurig accept --keytab FILE [OPTION].. [FILE]
     jolmurig --help
 
-show       the type of the octets, and what they hold
+show       the type of the octets, and what they hold; behind that a warning for each thing that breaks a rule of its standard,
+           as those of check; of a PAC in a ticket or an authenticator that nobody checks, `unchecked` says so
 check      the octets themselves, if they are of this type: those of a type of DER if they are the one encoding of a value;
            else their first error, with its place. What is legal DER and breaks a rule of its standard, as a pvno that is
            not 5, the msg-type of another message, microseconds past 999999 and a list that may not be empty, is named in

@@ -6,5 +6,7 @@ pub mod Rows
 pub mod Frames
 pub mod Places
 pub mod Broken
+pub mod Warnings
+pub mod Unchecked
 pub mod Placed
 pub mod Paired

@@ -1,7 +1,8 @@
 //! Octets of any kind that the library reads, as pages.
 //!
 //! `kind_of_octets` says what octets begin as, `kind_of_name` what a name is of, and `Everything::page_of` makes the page of octets of a kind.
-//! `page_with_places` gives a page the places of its elements, `place_of_error` says where their first error is, and `broken_rules_of` what in them is legal DER and breaks a rule of its standard.
+//! `page_with_places` gives a page the places of its elements, `place_of_error` says where their first error is, and `broken_rules_of` what in them is legal DER and breaks a rule of its standard;
+//! `page_with_warnings` says that behind a page, and `page_with_unchecked` which PACs nobody checks.
 #![tactic(auto)]
 
 mod applications;
@@ -22,6 +23,8 @@ mod place;
 mod placed;
 mod rows;
 mod tokens;
+mod unchecked;
+mod warnings;
 
 pub use applications::Applications;
 pub use broken::broken_rules_of;
@@ -39,3 +42,5 @@ pub use password_frames::PasswordFrames;
 pub use place::place_of_error;
 pub use placed::page_with_places;
 pub use tokens::Tokens;
+pub use unchecked::page_with_unchecked;
+pub use warnings::{page_with_warnings, warning_of};

@@ -9,7 +9,8 @@ pub use krb_show::{
 };
 pub use krb_show_any::{
     Everything, Kind, PageError, Pages, broken_rules_of, json_with_places, kind_of_name,
-    kind_of_octets, name_of_kind, page_with_places, place_of_error,
+    kind_of_octets, name_of_kind, page_with_places, page_with_unchecked, page_with_warnings,
+    place_of_error, warning_of,
 };
 pub use krb_show_messages::{
     Certificate, HasRow, KerberosFormats, Message, RowField, page_of_pac, places_of_pac, show_pac,

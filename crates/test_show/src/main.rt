@@ -17,6 +17,7 @@ mod opened;
 mod pac;
 mod pac_text;
 mod pages;
+mod warnings;
 
 use std::alloc::Global;
 use std::io;
@@ -42,6 +43,7 @@ impl Tables for Shown {
             "logon" => logon::answer(alloc, columns),
             "pac text" => pac_text::answer(alloc, columns),
             "kdc proxy" => kdc_proxy::answer(alloc, columns),
+            "warnings" => warnings::answer(alloc, columns),
             _ => Err(RowError::NoTable),
         }?;
         Ok(Report::of(text))

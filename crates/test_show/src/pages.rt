@@ -15,7 +15,7 @@ use std::alloc::{AllocError, Global};
 use test_rows::{Columns, RowError};
 
 /// The kind of a row's octets.
-fn kind_of(name: &str, octets: &[u8]) -> Kind {
+pub(crate) fn kind_of(name: &str, octets: &[u8]) -> Kind {
     if name.starts_with("token: ") {
         return Kind::Token;
     }
