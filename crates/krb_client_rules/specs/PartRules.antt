@@ -1,4 +1,4 @@
--- What the part of a KDC's reply has to say (RFC 4120, 3.1.3, 3.1.5, 3.3.3, 3.3.4 and 5.4.2).
+-- What the part of a KDC's reply has to say (RFC 4120, 3.1.3, 3.1.5, 3.3.3, 3.3.4, 5.2.8 and 5.4.2; RFC 3961, 5.3).
 use Rattle.std.specs.Prelude.{◌≡◌, ℕ, ◌≤◌, pos, true, List, [], ◌∷◌, Option, Some, None, Contains}
 use Rattle.krb_der_core.specs.GeneralizedTime.{Time}
 use Rattle.krb_messages.specs.declared.messages.replies.EncKdcRepPart.{EncKdcRepPart}
@@ -12,6 +12,7 @@ use Rattle.krb_client_rules.specs.declared.mismatch.Mismatch.TheVariants as rule
 use Rattle.krb_client_rules.specs.Etypes.{IsAskedFor}
 use Rattle.krb_client_rules.specs.InOrder.{BreaksFirst, Keeps}
 use Rattle.krb_client_rules.specs.Names.{IsServer}
+use Rattle.krb_client_rules.specs.Sizes.{HasFlags, HasKeySize}
 use Rattle.krb_client_rules.specs.Times.{IsInTime, IsInTimeOf, IsOrdered, IsWithin, begin_of, start_or}
 
 -- from when on the ticket is valid (5.3)
@@ -45,6 +46,8 @@ abbrev pub PartRule : Asked → Clock → EncKdcRepPart → Mismatch → Type 0
 PartRule a c p rule.Nonce = p.nonce ≡ pos a.nonce
 PartRule a c p rule.Server = IsServer a p.srealm p.sname
 PartRule a c p rule.SessionKey = IsAskedFor a.etypes.items p.key.key_type
+PartRule a c p rule.SessionKeySize = HasKeySize p.key.key_type p.key.key_value
+PartRule a c p rule.FlagsSize = HasFlags p.flags
 PartRule a c p rule.Start = StartsInTime a c (start_of p)
 PartRule a c p rule.End = EndsInTime a (start_of p) p.end_time
 PartRule a c p rule.RenewTill = IsRenewal a p.flags.octets p.renew_till.0
@@ -53,13 +56,14 @@ PartRule a c p rule.Addresses = HasNoAddress p.caddr.0
 PartRule a c p other = Unit {0}
 
 abbrev pub identity_order : List Mismatch
-identity_order = rule.Nonce ∷ rule.Server ∷ rule.SessionKey ∷ []
+identity_order = rule.Nonce ∷ rule.Server ∷ rule.SessionKey ∷ rule.SessionKeySize ∷ rule.FlagsSize ∷ []
 
 abbrev pub time_order : List Mismatch
 time_order = rule.Start ∷ rule.End ∷ rule.RenewTill ∷ []
 
 abbrev pub part_order : List Mismatch
-part_order = rule.Nonce ∷ rule.Server ∷ rule.SessionKey ∷ rule.Start ∷ rule.End ∷ rule.RenewTill ∷ rule.Flags ∷ rule.Addresses ∷ []
+part_order =
+    rule.Nonce ∷ rule.Server ∷ rule.SessionKey ∷ rule.SessionKeySize ∷ rule.FlagsSize ∷ rule.Start ∷ rule.End ∷ rule.RenewTill ∷ rule.Flags ∷ rule.Addresses ∷ []
 
 -- the part answers what was asked, by this clock: it keeps them all
 abbrev pub Answers : Asked → Clock → EncKdcRepPart → Type 0

@@ -6,12 +6,14 @@ mod asked;
 mod confirmed;
 mod etypes;
 mod key;
+pub mod laws;
 mod mismatch;
 mod names;
 mod numbers;
 mod part;
 mod part_times;
 mod reply;
+mod sizes;
 mod times;
 
 pub use asked::{Asked, Clock};

@@ -32,6 +32,12 @@ pub enum Mismatch {
     /// The session key is of an encryption type that was not asked for (RFC 4120, 3.1.3 and 3.3.3).
     #[error("the encryption type of the session key was not asked for")]
     SessionKey,
+    /// The session key has more or fewer octets than a key of its encryption type (RFC 3961, 5.3).
+    #[error("the session key has another size than its encryption type's")]
+    SessionKeySize,
+    /// The ticket has fewer than 32 flags (RFC 4120, 5.2.8).
+    #[error("the ticket has fewer than 32 flags")]
+    FlagsSize,
     /// The ticket is not valid from the time that was asked for, as far as the clocks may differ:
     /// starttime, or authtime where it is absent (RFC 4120, 3.1.3 and 5.3).
     #[error("the ticket is not valid from the time that was asked for")]

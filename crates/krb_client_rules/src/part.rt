@@ -11,6 +11,7 @@ use crate::mismatch::Mismatch;
 use crate::names::is_server;
 use crate::numbers::is_number;
 use crate::part_times::check_times;
+use crate::sizes::{has_flags, has_key_size};
 use krb_der::{
     ApplicationTag, BitStringAsn1, ExplicitContextTag8, ExplicitContextTag11, IntegerAsn1, Optional,
 };
@@ -30,6 +31,10 @@ pub trait ReplyPart {
     /// The encryption type of the session key.
     fn key_type(&self) -> &IntegerAsn1
         ensures { result.now ≡ (content self.now).key.key_type };
+
+    /// The octets of the session key.
+    fn key_value(&self) -> &[u8]
+        ensures { result.now ≡ (content self.now).key.key_value };
 
     /// From when on the ticket is valid.
     fn start(&self) -> &KerberosTime
@@ -73,6 +78,10 @@ impl<const N: u8> ReplyPart for ApplicationTag<EncKdcRepPart, N> {
 
     fn key_type(&self) -> &IntegerAsn1 {
         &self.0.key.0.key_type.0
+    }
+
+    fn key_value(&self) -> &[u8] {
+        self.0.key.0.key_value.0.0.as_slice()
     }
 
     fn start(&self) -> &KerberosTime {
@@ -133,8 +142,8 @@ fn has_no_address(addresses: &Optional<Option<ExplicitContextTag11<HostAddresses
     }
 }
 
-/// Whether the part repeats the nonce, is of the server, and has a session key of an encryption
-/// type that was asked for; else the first rule that it breaks.
+/// Whether the part repeats the nonce, is of the server, has a session key of an encryption type
+/// that was asked for and of its size, and 32 flags or more; else the first rule that it breaks.
 fn check_identity<P: ReplyPart>(part: &P, asked: &Asked, clock: &Clock) -> Result<(), Mismatch>
     ensures kept { OnOk result (Keeps (PartRule asked.now clock.now (P.content part.now)) identity_order) }
     ensures broken { IfErr result (BreaksFirst (PartRule asked.now clock.now (P.content part.now)) identity_order) }
@@ -147,6 +156,12 @@ fn check_identity<P: ReplyPart>(part: &P, asked: &Asked, clock: &Clock) -> Resul
     }
     if !is_asked_for(&asked.etypes, part.key_type()) {
         return Err(Mismatch::SessionKey);
+    }
+    if !has_key_size(part.key_type(), part.key_value()) {
+        return Err(Mismatch::SessionKeySize);
+    }
+    if !has_flags(part.flags()) {
+        return Err(Mismatch::FlagsSize);
     }
     Ok(())
 }

@@ -6,4 +6,19 @@ returns-then-not-are_allowed-clause-rejected g c =
     let other = rw (c.deref.ensures.value, c.flags.ensures) at c.if-not-are_allowed.ensures in
     let identity = c.in_ok-_identity.ensures.kept in
     let times = c.in_ok-_times.ensures.kept in
-    inr (identity.0, inr (identity.1.0, inr (identity.1.1.0, inr (times.0, inr (times.1.0, inr (times.1.1.0, inl (refl, other)))))))
+    inr (
+      identity.0,
+      inr (
+        identity.1.0,
+        inr (
+          identity.1.1.0,
+          inr (
+            identity.1.1.1.0,
+            inr (
+              identity.1.1.1.1.0,
+              inr (times.0, inr (times.1.0, inr (times.1.1.0, inl (refl, other)))),
+            ),
+          ),
+        ),
+      ),
+    )
