@@ -983,12 +983,14 @@ typedef struct krb_client_terms {
     uint32_t settings;     /* KRB_CLIENT_.., added; other bits are not looked at */
 } krb_client_terms;
 
-/* What an exchange keeps between two messages. It is all zeros at the beginning; of krb_client_ticket it may have an offset that an exchange before it took. */
+/* What an exchange keeps between two messages. It is all zeros at the beginning, and never again, unless the caller wipes it; of krb_client_ticket it may have an offset
+   that an exchange before it took (offset and has_offset), and is zeros else. */
 typedef struct krb_exchange {
     int64_t offset;      /* by how many seconds the KDC's time is ahead of the client's, where has_offset is 1 */
     uint32_t has_offset; /* 1 where the KDC's time was taken from an error of the KDC, and else 0 */
     uint32_t nonce;      /* of the last request */
     int32_t etype;       /* of the key under which the last AS-REQ has the time; 0 where it has none */
+    uint32_t begun;      /* 1 once a request was made, and else 0 */
     uint8_t key[32];     /* the octets of this key, and zeros */
 } krb_exchange;
 
@@ -1003,7 +1005,7 @@ enum {
 /* The first rule that a reply breaks (docs/CLIENT.md), why there is no key for what the KDC tells (20 to 27), or why no request is made (29 to 36). */
 enum {
     KRB_CLIENT_RULE_NONE = 0,
-    KRB_CLIENT_RULE_OTHER_MESSAGE = 1,
+    KRB_CLIENT_RULE_OTHER_MESSAGE = 1, /* the exchange does not wait for such a message */
     KRB_CLIENT_RULE_MESSAGE = 2,
     KRB_CLIENT_RULE_PVNO = 3,
     KRB_CLIENT_RULE_MSG_TYPE = 4,
@@ -1041,7 +1043,9 @@ enum {
     KRB_CLIENT_RULE_REQUEST_KEY = 36,
     KRB_CLIENT_RULE_UNAUTHENTICATED = 37, /* krb_client_renamed: the last request has no time under a key */
     KRB_CLIENT_RULE_NO_CHECKSUM = 38,     /* the reply has no checksum of the request */
-    KRB_CLIENT_RULE_CHECKSUM = 39         /* it is not that of the request */
+    KRB_CLIENT_RULE_CHECKSUM = 39,        /* it is not that of the request */
+    KRB_CLIENT_RULE_SESSION_KEY_SIZE = 40, /* behind 13: the session key has another size than its encryption type's */
+    KRB_CLIENT_RULE_FLAGS_SIZE = 41        /* behind 40: the ticket has fewer than 32 flags */
 };
 
 typedef struct krb_followed {
@@ -1053,7 +1057,9 @@ typedef struct krb_followed {
 } krb_followed;
 
 /* A first ticket (RFC 4120, 3.1), step by step, by a password or, where `keytab` has octets, by the client's keys in it: of each encryption type the last one,
-   which was added last. A message of no octets begins an exchange, by an AS-REQ without pre-authentication; each other one is what the KDC sent.
+   which was added last. A message of no octets begins an exchange that is all zeros, by an AS-REQ without pre-authentication; each other one is what the KDC sent to one
+   that has begun. A message of no octets later, as of a peer that closed, and octets before are refused by KRB_CLIENT_RULE_OTHER_MESSAGE, before all else: so, whatever
+   comes, an exchange hands out at most three requests (of krb_client_ticket two), until the caller wipes it.
    `options` are numbers of KDCOptions (5.4.1), 0 to 31; `flags` those of the flags 1 to 8 that the ticket may have; `etypes` the encryption types, the preferred one
    first; `random` has 16 octets, fresh for each call.
 
@@ -1080,7 +1086,7 @@ krb_status krb_client_renamed(const krb_client_terms *terms, const size_t *flags
                               uint8_t *out, size_t room, size_t *size);
 
 /* A further ticket (3.3), step by step, by the encoding of a ticket for the KDC and its session key. `subkey` has as many octets as the session key, random, fresh for
-   each exchange and the same in each of its calls. All else as krb_client_initial; KRB_INVALID, KRB_TRUNCATED or KRB_UNSUPPORTED also where `ticket` is no encoding of a
+   each exchange and the same in each of its calls. All else as krb_client_initial, but that an exchange may begin with an offset; KRB_INVALID, KRB_TRUNCATED or KRB_UNSUPPORTED also where `ticket` is no encoding of a
    ticket, KRB_NUMBER where the encryption type of the session key is not supported. */
 krb_status krb_client_ticket(const krb_client_terms *terms, const size_t *options, size_t options_count, const size_t *flags, size_t flags_count,
                              const int32_t *etypes, size_t etypes_count, const uint8_t *client, size_t client_size, const uint8_t *server,

@@ -45,6 +45,7 @@ static void reply_of(char **columns, struct login *it) {
     terms->nonce = it->exchange.nonce = (uint32_t)number_of(columns[11]);
     it->flags_count = numbers_of(columns[12], it->flags), it->etypes_count = numbers_of(columns[13], etypes);
     for (size_t k = 0; k < it->etypes_count; k++) it->etypes[k] = (int32_t)etypes[k];
+    it->exchange.begun = 1;
     if (it->kind != INITIAL) return;
     it->exchange.etype = it->etype;
     memcpy(it->exchange.key, it->key.at, it->key.count);
@@ -55,7 +56,7 @@ static void error_of(char **columns, struct login *it) {
     it->octets = octets_of_text(columns[2]), it->client = text_octets("alice@PEER.TEST"), it->server = text_octets("krbtgt/PEER.TEST@PEER.TEST");
     it->password = !strcmp(columns[0], "password") ? octets_of_text(columns[3]) : text_octets("password");
     it->terms = (krb_client_terms){.seconds = 1795763470, .till = 1795799470, .nonce = 77, .skew = 300, .least = 1, .most = 1 << 20, .client_type = 1, .server_type = 2};
-    it->exchange.nonce = 76;
+    it->exchange.nonce = 76, it->exchange.begun = 1;
     it->etypes[0] = 20, it->etypes[1] = 18, it->etypes[2] = 19, it->etypes_count = 3;
 }
 
@@ -160,7 +161,7 @@ struct login_answer login_called(const struct login *it, struct octets *room) {
 
 static int is_same_exchange(const krb_exchange *one, const krb_exchange *other) {
     return one->offset == other->offset && one->has_offset == other->has_offset && one->nonce == other->nonce && one->etype == other->etype &&
-           !memcmp(one->key, other->key, sizeof one->key);
+           one->begun == other->begun && !memcmp(one->key, other->key, sizeof one->key);
 }
 
 static int is_same_place(krb_place one, krb_place other) { return one.offset == other.offset && one.size == other.size; }

@@ -1,6 +1,7 @@
 /* Makes the calls of an acceptor and of a client: logins FILE [STEP], whose rows expect_logins.py writes. Each with just enough room, with too little and with none;
    each token and reply cut, and with a bit of each octet another: of every STEP-th octet, of each row others, where STEP is given. */
 #include "login_calls.h"
+#include <stddef.h>
 #include <stdio.h>
 #include <stdlib.h>
 #include <string.h>
@@ -66,13 +67,12 @@ static void try_status(const struct login *it, krb_status wanted, const char *wh
     drop(&room);
 }
 
-/* Each prefix is refused: of a reply none is begun by one of no octets. */
+/* Each prefix is refused: one of no octets by an exchange as another message than it waits for. */
 static void try_cuts(const struct login *it, uint32_t rule) {
     struct login cut = *it;
     for (size_t count = row_number % step; count < it->octets.count; count += step) {
-        if (!count && it->kind != ACCEPT && it->kind != AP_REPLY) continue;
         cut.octets = octets_of(it->octets.at, count);
-        try_refused(&cut, rule, "cut", count);
+        try_refused(&cut, !count && (it->kind == INITIAL || it->kind == TICKET) ? KRB_CLIENT_RULE_OTHER_MESSAGE : rule, "cut", count);
         drop(&cut.octets);
     }
 }
@@ -351,6 +351,29 @@ static void try_other_client(const struct login *it) {
     if (it->kind != INITIAL) drop(&other.key);
 }
 
+/* An exchange begins where it is all zeros, for a further ticket but for the KDC's time, and takes octets once it has begun: whatever octet of it is not 0. */
+static void try_turns(const struct login *it) {
+    struct login other = *it;
+    other.exchange.begun = 0;
+    try_refused(&other, KRB_CLIENT_RULE_OTHER_MESSAGE, "a reply, and it has not begun", 0);
+    memset(&other.exchange, 0, sizeof other.exchange);
+    try_refused(&other, KRB_CLIENT_RULE_OTHER_MESSAGE, "a reply to zeros", 0);
+    other.octets = (struct octets){NULL, 0};
+    for (size_t k = 0; k < sizeof other.exchange; k++) {
+        struct octets room;
+        memset(&other.exchange, 0, sizeof other.exchange);
+        ((uint8_t *)&other.exchange)[k] = 1;
+        if (it->kind == INITIAL || k >= offsetof(krb_exchange, nonce)) {
+            try_refused(&other, KRB_CLIENT_RULE_OTHER_MESSAGE, "no message, and one octet is not 0", k);
+            continue;
+        }
+        struct login_answer answer = called_in(&other, &room);
+        EXPECT(answer.status == KRB_DONE && answer.followed.follows == KRB_FOLLOWS_SENDS && answer.exchange.begun == 1, "%s, with octet %zu of a time: status %u, rule %u",
+                it->name, k, answer.status, answer.followed.rule);
+        drop(&room);
+    }
+}
+
 static void try_reply(const struct login *it, char **row) {
     struct octets room;
     struct login_answer answer = called_in(it, &room);
@@ -364,6 +387,7 @@ static void try_reply(const struct login *it, char **row) {
         try_cuts(it, KRB_CLIENT_RULE_MESSAGE);
         try_turned_reply(it, &answer, &room, row[19], wanted_number(row[17]));
         try_other_client(it);
+        try_turns(it);
     }
     drop(&room);
 }
@@ -378,9 +402,12 @@ static struct octets sent(const struct login *it, krb_exchange *after) {
     EXPECT(krb_check(it->kind == INITIAL ? KRB_MESSAGE_AS_REQ : KRB_MESSAGE_TGS_REQ, room.at, answer.size) == KRB_DONE && is_untouched(&room, answer.size),
             "%s: what is sent is no %s", it->name, type);
     EXPECT(krb_find_number_text(type, "req-body.nonce", room.at, answer.size, &nonce) == KRB_DONE && nonce == it->terms.nonce, "%s: another nonce is sent", it->name);
-    EXPECT(answer.exchange.nonce == it->terms.nonce && !answer.exchange.has_offset, "%s: another nonce is kept", it->name);
+    EXPECT(answer.exchange.nonce == it->terms.nonce && !answer.exchange.has_offset && answer.exchange.begun == 1, "%s: another nonce is kept", it->name);
     try_rooms(it, &answer, &room);
     *after = answer.exchange;
+    struct login again = *it;
+    again.exchange = answer.exchange, again.octets = (struct octets){NULL, 0};
+    try_refused(&again, KRB_CLIENT_RULE_OTHER_MESSAGE, "no message once more", 0);
     struct octets request = octets_of(room.at, answer.size);
     drop(&room);
     return request;

@@ -335,6 +335,11 @@ def part_server(chance, reply):
 
 
 def key_type(chance, reply):
+    if chance.random() < 0.3:
+        octets = field(field(reply.part, 0), 1)[1]
+        size = chance.choice([each for each in (0, 1, 15, 16, 24, 31, 32, 33, 64) if each != len(octets)])
+        put(field(reply.part, 0), 1, [4, chance.randbytes(size)])
+        return refused("a session key of %d octets" % size, reply.closed(), "SESSION_KEY_SIZE")
     value = chance.choice([1, 3, 16, 23, 24, 0, -1, -18, 25, 26, 2**31 - 1])
     put(field(reply.part, 0), 0, integer(value))
     return refused("a session key of type %d" % value, reply.closed(), "SESSION_KEY", "OPENING")
@@ -381,6 +386,12 @@ def with_flags(reply, numbers):
 
 
 def flags(chance, reply):
+    if chance.random() < 0.2:
+        bits, node = chance.choice([0, 1, 8, 24, 31, 33, 40, 64]), field(reply.part, 4)
+        value, spare = int.from_bytes(node[1][1:5], "big"), -bits % 8
+        value = value >> 32 - bits if bits < 32 else value << bits - 32
+        node[1] = bytes([spare]) + (value << spare).to_bytes((bits + spare) // 8, "big")
+        return refused("%d flags" % bits, reply.closed(), "FLAGS_SIZE") if bits < 32 else granted("%d flags" % bits, reply.closed())
     numbers = chance.sample(range(1, 9), chance.choice([1, 1, 1, 2, 3]))
     with_flags(reply, numbers)
     if 8 in numbers:
@@ -510,7 +521,7 @@ KINDS = [
     ("cname", cname), ("the ticket's version", ticket_version), ("the ticket's realm", ticket_realm), ("the ticket's server", ticket_server),
     ("what nobody compares", not_compared), ("the part's encryption type", etype), ("bits of the cipher", cipher_flipped), ("other ciphers", cipher_cut),
     ("another key usage", usage), ("another key", other_key), ("another tag of the part", tags), ("nonce", nonce), ("srealm", part_realm), ("sname", part_server),
-    ("the session key's type", key_type), ("starttime", start), ("endtime", end), ("renew-till", renew_till), ("flags", flags), ("addresses", addresses),
+    ("the session key's type and size", key_type), ("starttime", start), ("endtime", end), ("renew-till", renew_till), ("flags", flags), ("addresses", addresses),
     ("BER in the clear", forms), ("BER in the part", part_forms), ("octets behind", behind), ("fields missing or twice", missing), ("another message", others),
 ]
 EACH = 20

@@ -2,11 +2,12 @@
 
 import os
 import pickle
+import threading
 
 import krb
 from checks import expect, say
 from krb import __main__ as command
-from krb import _ccache, _configuration, _dns, _kdc, _names
+from krb import _ccache, _configuration, _dns, _exchange, _kdc, _names, _times
 
 
 def raises(kind, call):
@@ -120,9 +121,54 @@ def try_rest(realm):
     expect(raises(ValueError, lambda: krb.kinit("a@R")) and raises(ValueError, lambda: krb.kinit("a@R", "x", b"y")), "a password or a keytab")
 
 
+def rule_of(call):
+    try:
+        call()
+        return None
+    except krb.NotGranted as refused:
+        return refused.rule
+
+
+def try_turns():
+    """An exchange begins once, by no octets, and takes none later; one for a further ticket may begin with the KDC's time."""
+    other, wanted = krb.ClientRule.OTHER_MESSAGE, _exchange.Wanted(_names.parsed("a@R"), _names.ticket_granting("R"), (18,))
+    exchange = _exchange.Exchange(wanted, _exchange.Limits(), lambda: 1.5, b"x")
+    expect(rule_of(lambda: exchange.step(b"")) == other and rule_of(lambda: exchange.step(b"\x6b\0")) == other, "an exchange that has not begun takes octets")
+    expect(exchange.begin().follows == _exchange.Follows.SENDS, "an exchange does not begin")
+    expect(rule_of(lambda: exchange.step(b"")) == other and rule_of(exchange.begin) == other, "an exchange begins anew")
+    expect(rule_of(lambda: exchange.step(b"\x6b\0")) == krb.ClientRule.MESSAGE, "an exchange that has begun takes no octets")
+
+
+def try_times():
+    """No second and microsecond twice: of a clock that stands, in threads, and of one that is set back."""
+    now, given = [1795763470.25], []
+
+    def draw(count, clock, *offsets):
+        given.extend([_times.moment(clock, offset) for _ in range(count) for offset in offsets])
+
+    threads = [threading.Thread(target=draw, args=(500, lambda: now[0], 0, 3, -2)) for _ in range(8)]
+    for each in threads:
+        each.start()
+    for each in threads:
+        each.join()
+    expect(max(given) < (1795763475, 0) and min(given) == (1795763468, 250000), "a clock that stands: %s to %s" % (min(given), max(given)))
+    now[0] -= 5000
+    draw(1000, lambda: now[0], 0, 0)
+    expect(given[-1] == (1795758470, 251999), "a clock that is set back: %s" % (given[-1],))
+    now[0] = 1795763470.999999
+    draw(10, lambda: now[0], 0)
+    expect(given[-10:] == [(1795763470, 999999)] + [(1795763471, number) for number in range(9)], "the end of a second: %s" % given[-10:])
+    for start in (1795763470, 1795763460, 0):  # past the seconds that are kept
+        for second in range(20000):
+            draw(1, lambda: start + second, 0)
+    expect(len(set(given)) == len(given), "a time was given out twice: %d of %d" % (len(given) - len(set(given)), len(given)))
+
+
 def try_units(realm):
+    try_turns()
+    try_times()
     try_names()
     try_words()
     try_configuration(realm)
     try_rest(realm)
-    say("names, words, krb5.conf and files")
+    say("turns, times, names, words, krb5.conf and files")

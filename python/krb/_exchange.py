@@ -2,7 +2,6 @@
 
 import ctypes
 import enum
-import math
 import secrets
 from typing import Any, Callable, Iterable, List, NamedTuple, Optional, Tuple
 
@@ -10,6 +9,7 @@ from krb._context import EncryptionKey, Place
 from krb._items import Registry, name_of
 from krb._library import Refused, Status, _library, _unsigned
 from krb._names import Name
+from krb._times import moment
 
 __all__ = ["ClientRule", "NotGranted"]
 
@@ -57,6 +57,8 @@ class ClientRule(enum.IntEnum):
     UNAUTHENTICATED = 37
     NO_CHECKSUM = 38
     CHECKSUM = 39
+    SESSION_KEY_SIZE = 40
+    FLAGS_SIZE = 41
 
 
 _TEXTS = {
@@ -100,6 +102,8 @@ _TEXTS = {
     ClientRule.UNAUTHENTICATED: "the reply renames, and the request had no pre-authentication",
     ClientRule.NO_CHECKSUM: "the reply renames, and has no checksum of the request",
     ClientRule.CHECKSUM: "the reply renames, and its checksum is not that of the request",
+    ClientRule.SESSION_KEY_SIZE: "the session key has another size than its encryption type's",
+    ClientRule.FLAGS_SIZE: "the ticket has fewer than 32 flags",
 }
 
 
@@ -149,7 +153,11 @@ class _Terms(ctypes.Structure):
 class _State(ctypes.Structure):
     """krb_exchange of krb.h."""
 
-    _fields_ = [("offset", ctypes.c_int64)] + [(name, ctypes.c_uint32) for name in ("has_offset", "nonce")] + [("etype", ctypes.c_int32), ("key", ctypes.c_uint8 * 32)]
+    _fields_ = [("offset", ctypes.c_int64)] + [(name, ctypes.c_uint32) for name in ("has_offset", "nonce")] + [
+        ("etype", ctypes.c_int32),
+        ("begun", ctypes.c_uint32),
+        ("key", ctypes.c_uint8 * 32),
+    ]
 
 
 class _Followed(ctypes.Structure):
@@ -184,13 +192,6 @@ _ap_request.argtypes = [ctypes.POINTER(_ApTerms)] + _OCTETS * 6 + [_RULE] + _OUT
 _ap_reply.argtypes = [ctypes.c_int32] + _OCTETS + [ctypes.c_int64, ctypes.c_uint32] + _OCTETS + [_RULE] + _OUT
 for _call in (_initial, _ticket, _renamed, _ap_request, _ap_reply):
     _call.restype = ctypes.c_uint32
-
-
-def moment(clock: Callable[[], float], offset: int = 0) -> Tuple[int, int]:
-    """The seconds and the microseconds of a clock, so many seconds ahead."""
-    now = clock()
-    seconds = math.floor(now)
-    return seconds + offset, min(int((now - seconds) * 1000000), 999999)
 
 
 class Wanted(NamedTuple):
@@ -246,11 +247,12 @@ class Exchange:
     ) -> None:
         self.wanted, self._limits, self._clock = wanted, Limits(*(_unsigned(each, 32) for each in limits)), clock
         self._request = b""
-        self._state = _State(offset=offset or 0, has_offset=offset is not None)
+        self._state = _State()
         if session_key is None:
             self._call, self._by = _initial, _passed(password) + _passed(keytab)
         else:
             subkey = secrets.token_bytes(len(session_key.octets))
+            self._state.offset, self._state.has_offset = offset or 0, offset is not None
             self._call, self._by = _ticket, _passed(ticket) + [session_key.etype] + _passed(session_key.octets) + _passed(subkey)
 
     @property
@@ -259,12 +261,13 @@ class Exchange:
         return int(self._state.offset) if self._state.has_offset else None
 
     def begin(self) -> Answer:
-        """The first request. NotGranted; Refused: INVALID, NUMBER, KEYTAB, MEMORY."""
+        """The first request. NotGranted, as OTHER_MESSAGE once it was made; Refused: INVALID, NUMBER, KEYTAB, MEMORY."""
         return self._stepped(b"", False)
 
     def step(self, message: bytes, is_datagram: bool = False) -> Answer:
-        """What follows on a message of the KDC's. Raises as `begin`, and then the exchange is as it was."""
-        if not message:  # no octets would begin anew
+        """What follows on a message of the KDC's. Raises as `begin`, and then the exchange is as it was; OTHER_MESSAGE of no octets, and where it
+        has not begun."""
+        if not message and not self._state.begun:
             raise NotGranted(ClientRule.OTHER_MESSAGE)
         return self._stepped(message, is_datagram)
 
@@ -277,12 +280,13 @@ class Exchange:
 
     def _terms(self, is_datagram: bool) -> _Terms:
         wanted = self.wanted
-        seconds, microseconds = moment(self._clock)
+        offset = self.offset or 0
+        seconds, microseconds = moment(self._clock, offset)
         settings = (wanted.start is not None and _FROM) | (wanted.rtime is not None and _RTIME) | (is_datagram and _DATAGRAMS)
         settings |= wanted.canonicalize and _CANONICALIZE
         types = wanted.client.name_type, wanted.server.name_type
         nonce = secrets.randbelow(2**31)
-        return _Terms(seconds, wanted.start or 0, wanted.till, wanted.rtime or 0, microseconds, nonce, *self._limits, *types, settings)
+        return _Terms(seconds - offset, wanted.start or 0, wanted.till, wanted.rtime or 0, microseconds, nonce, *self._limits, *types, settings)
 
     def _stepped(self, message: bytes, is_datagram: bool) -> Answer:
         wanted = self.wanted

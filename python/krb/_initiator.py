@@ -5,11 +5,12 @@ from typing import TYPE_CHECKING, Callable, Optional, Tuple, Union
 
 from krb import gss, spnego
 from krb._context import ContextFlag, EncryptionKey, Messages
-from krb._exchange import AP_GSS, AP_MUTUAL, AP_SEQUENCE, ClientRule, NotGranted, ap_reply, ap_request, moment
+from krb._exchange import AP_GSS, AP_MUTUAL, AP_SEQUENCE, ClientRule, NotGranted, ap_reply, ap_request
 from krb._items import Secret, find_number
 from krb._library import Octets, Refused, plain
 from krb._mechanism import _MICROSOFT, Mechanism
 from krb._parts import decode
+from krb._times import moment
 from krb.accept import ChannelBindings
 
 if TYPE_CHECKING:

@@ -7,11 +7,12 @@ from typing import Any, Callable, NamedTuple, Optional, Tuple, Union
 
 from krb import frames, messages
 from krb._context import EncryptionKey
-from krb._exchange import AP_MUTUAL, AP_SEQUENCE, ClientRule, Follows, NotGranted, ap_reply, ap_request, moment
+from krb._exchange import AP_MUTUAL, AP_SEQUENCE, ClientRule, Follows, NotGranted, ap_reply, ap_request
 from krb._items import Secret
 from krb._kdc import Address, Kdcs, Named
 from krb._library import Octets, Refused, Status
 from krb._parts import decode
+from krb._times import moment
 
 __all__ = ["PasswordNotChanged", "change_password"]
 

@@ -43,11 +43,13 @@ abbrev pub key_or_zeros : Option Key → List ℕ
 key_or_zeros None = replicate 32 0
 key_or_zeros (Some k) = padded k.octets.items
 
+-- an exchange that has begun
 abbrev pub written : Option ℤ → ℕ → Option Key → ExchangeRecord
 written offset nonce key = record {
   offset = offset_or_zero offset;
   has_offset = taken_number offset;
   nonce = nonce;
   etype = etype_or_zero key;
+  begun = 1;
   key = key_or_zeros key;
 }

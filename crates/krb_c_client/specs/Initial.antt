@@ -23,8 +23,9 @@ use Rattle.krb_c_client.specs.Followed.{TellsFirst}
 use Rattle.krb_c_client.specs.Inputs.{Inputs}
 use Rattle.krb_c_client.specs.Keys.{AreClientKeys}
 use Rattle.krb_c_client.specs.Records.{sends}
-use Rattle.krb_c_client.specs.Refusals.{client_refusal, request_refusal}
+use Rattle.krb_c_client.specs.Refusals.{client_refusal, out_of_turn, request_refusal}
 use Rattle.krb_c_client.specs.Telling.{Tells}
+use Rattle.krb_c_client.specs.Turns.{AreZeros, HasBegun, IsFirstTurn}
 use Rattle.krb_c_client.specs.declared.records.ExchangeRecord.{ExchangeRecord}
 use Rattle.krb_c_client.specs.declared.records.FollowedRecord.{FollowedRecord}
 use Rattle.krb_c_client.specs.declared.refusal.Refusal.{Refusal}
@@ -111,19 +112,22 @@ pub data GoesNotOn (t : InitialTypes) (i : Inputs) (password keytab : List ℕ) 
 
 -- ---- all of it
 
--- no message begins an exchange, and each other one is a step of that which was kept
+-- no octets begin an exchange that is all zeros, and octets are a step of one that has begun
 pub data FollowsFirst (t : InitialTypes) (tickets : EncodingOf TicketInner) (parts : EncodingOf EncKdcRepPart) (i : Inputs) (password keytab : List ℕ)
     (before : ExchangeRecord) (f : Followed) : Type 0 where
-  begins : (a : Asked) (m : Moment) → IsPrepared i before.nonce a m → i.message ≡ [] → Opens t i a m f
+  begins : (a : Asked) (m : Moment) → AreZeros before → IsPrepared i before.nonce a m → i.message ≡ [] → Opens t i a m f
       → FollowsFirst t tickets parts i password keytab before f
-  goes_on : (a : Asked) (m : Moment) → IsPrepared i before.nonce a m → i.message ≢ [] → GoesOn t tickets parts i password keytab before a m f
-      → FollowsFirst t tickets parts i password keytab before f
+  goes_on : (a : Asked) (m : Moment) → HasBegun before → IsPrepared i before.nonce a m → i.message ≢ []
+      → GoesOn t tickets parts i password keytab before a m f → FollowsFirst t tickets parts i password keytab before f
 
 pub data RefusesFirst (t : InitialTypes) (i : Inputs) (password keytab : List ℕ) (before : ExchangeRecord) (r : Refusal) : Type 0 where
-  not_prepared : (error : CallError) → IsNotPrepared i error → r ≡ refusals.Failed error → RefusesFirst t i password keytab before r
-  begins_not : (a : Asked) (m : Moment) → IsPrepared i before.nonce a m → i.message ≡ [] → OpensNot i a m r → RefusesFirst t i password keytab before r
-  goes_not_on : (a : Asked) (m : Moment) → IsPrepared i before.nonce a m → i.message ≢ [] → GoesNotOn t i password keytab before a m r
+  not_in_turn : (IsFirstTurn before i.message → ⊥) → r ≡ out_of_turn → RefusesFirst t i password keytab before r
+  not_prepared : (error : CallError) → IsFirstTurn before i.message → IsNotPrepared i error → r ≡ refusals.Failed error
       → RefusesFirst t i password keytab before r
+  begins_not : (a : Asked) (m : Moment) → AreZeros before → IsPrepared i before.nonce a m → i.message ≡ [] → OpensNot i a m r
+      → RefusesFirst t i password keytab before r
+  goes_not_on : (a : Asked) (m : Moment) → HasBegun before → IsPrepared i before.nonce a m → i.message ≢ []
+      → GoesNotOn t i password keytab before a m r → RefusesFirst t i password keytab before r
 
 abbrev pub IsFirstOutcome : InitialTypes → EncodingOf TicketInner → EncodingOf EncKdcRepPart → Inputs → List ℕ → List ℕ → ExchangeRecord
     → Result Followed Refusal → Type 0

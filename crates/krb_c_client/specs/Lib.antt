@@ -4,6 +4,7 @@ pub mod Names
 pub mod Suites
 pub mod Asked
 pub mod Exchanges
+pub mod Turns
 pub mod Keys
 pub mod Rules
 pub mod Refusals
@@ -14,5 +15,6 @@ pub mod Initial
 pub mod Renamed
 pub mod Means
 pub mod Service
+pub mod CallRuns
 pub mod Application
 pub mod Confirmed

@@ -14,6 +14,10 @@ abbrev pub refusal_of : Option ℕ → ℕ → Refusal
 refusal_of None code = refusals.Failed calls.Memory
 refusal_of (Some rule) code = refusals.Rule rule code
 
+-- the exchange does not wait for such a message (KRB_CLIENT_RULE_OTHER_MESSAGE)
+abbrev pub out_of_turn : Refusal
+out_of_turn = refusals.Rule 1 0
+
 abbrev pub client_refusal : ClientError → Refusal
 client_refusal e = refusal_of (client_rule e) (code_of e)
 

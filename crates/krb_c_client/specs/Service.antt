@@ -25,8 +25,9 @@ use Rattle.krb_c_client.specs.Followed.{TellsFurther}
 use Rattle.krb_c_client.specs.Inputs.{Inputs}
 use Rattle.krb_c_client.specs.Means.{AreMeans, AreNoMeans, IsByOf, Lent}
 use Rattle.krb_c_client.specs.Records.{sends}
-use Rattle.krb_c_client.specs.Refusals.{client_refusal, request_refusal}
+use Rattle.krb_c_client.specs.Refusals.{client_refusal, out_of_turn, request_refusal}
 use Rattle.krb_c_client.specs.Telling.{Tells}
+use Rattle.krb_c_client.specs.Turns.{HasBegun, IsFurtherTurn, IsUnbegun}
 use Rattle.krb_c_client.specs.declared.records.ExchangeRecord.{ExchangeRecord}
 use Rattle.krb_c_client.specs.declared.records.FollowedRecord.{FollowedRecord}
 use Rattle.krb_c_client.specs.declared.refusal.Refusal.{Refusal}
@@ -99,21 +100,24 @@ pub record IsLent (tickets : EncodingOf TicketInner) (l : Lent) (by : ByTicket) 
   pub are_means : AreMeans tickets l ticket suite subkey
   pub is_by : IsByOf ticket suite l.session_key by
 
--- no message begins an exchange, and each other one is a step of that which was kept
+-- no octets begin an exchange that is all zeros but perhaps for the KDC's time, and octets are a step of one that has begun
 pub data FollowsFurther (t : ServiceTypes) (tickets : EncodingOf TicketInner) (parts : EncodingOf EncKdcRepPart) (i : Inputs) (l : Lent)
     (before : ExchangeRecord) (f : Followed) : Type 0 where
-  begins : (a : Asked) (m : Moment) (by : ByTicket) (subkey : Key) → IsPrepared i before.nonce a m → IsLent tickets l by subkey → i.message ≡ []
-      → Opens t i by subkey before a m f → FollowsFurther t tickets parts i l before f
-  goes_on : (a : Asked) (m : Moment) (by : ByTicket) (subkey : Key) → IsPrepared i before.nonce a m → IsLent tickets l by subkey → i.message ≢ []
-      → GoesOn t tickets parts i by subkey before a m f → FollowsFurther t tickets parts i l before f
+  begins : (a : Asked) (m : Moment) (by : ByTicket) (subkey : Key) → IsUnbegun before → IsPrepared i before.nonce a m → IsLent tickets l by subkey
+      → i.message ≡ [] → Opens t i by subkey before a m f → FollowsFurther t tickets parts i l before f
+  goes_on : (a : Asked) (m : Moment) (by : ByTicket) (subkey : Key) → HasBegun before → IsPrepared i before.nonce a m → IsLent tickets l by subkey
+      → i.message ≢ [] → GoesOn t tickets parts i by subkey before a m f → FollowsFurther t tickets parts i l before f
 
 pub data RefusesFurther (t : ServiceTypes) (tickets : EncodingOf TicketInner) (i : Inputs) (l : Lent) (before : ExchangeRecord) (r : Refusal) : Type 0 where
-  not_prepared : (error : CallError) → IsNotPrepared i error → r ≡ refusals.Failed error → RefusesFurther t tickets i l before r
-  no_means : (error : CallError) → AreNoMeans tickets l error → r ≡ refusals.Failed error → RefusesFurther t tickets i l before r
-  begins_not : (a : Asked) (m : Moment) (by : ByTicket) (subkey : Key) → IsPrepared i before.nonce a m → IsLent tickets l by subkey → i.message ≡ []
-      → OpensNot i by subkey before a m r → RefusesFurther t tickets i l before r
-  goes_not_on : (a : Asked) (m : Moment) (by : ByTicket) (subkey : Key) → IsPrepared i before.nonce a m → IsLent tickets l by subkey → i.message ≢ []
-      → GoesNotOn t i by subkey before a m r → RefusesFurther t tickets i l before r
+  not_in_turn : (IsFurtherTurn before i.message → ⊥) → r ≡ out_of_turn → RefusesFurther t tickets i l before r
+  not_prepared : (error : CallError) → IsFurtherTurn before i.message → IsNotPrepared i error → r ≡ refusals.Failed error
+      → RefusesFurther t tickets i l before r
+  no_means : (error : CallError) → IsFurtherTurn before i.message → AreNoMeans tickets l error → r ≡ refusals.Failed error
+      → RefusesFurther t tickets i l before r
+  begins_not : (a : Asked) (m : Moment) (by : ByTicket) (subkey : Key) → IsUnbegun before → IsPrepared i before.nonce a m → IsLent tickets l by subkey
+      → i.message ≡ [] → OpensNot i by subkey before a m r → RefusesFurther t tickets i l before r
+  goes_not_on : (a : Asked) (m : Moment) (by : ByTicket) (subkey : Key) → HasBegun before → IsPrepared i before.nonce a m → IsLent tickets l by subkey
+      → i.message ≢ [] → GoesNotOn t i by subkey before a m r → RefusesFurther t tickets i l before r
 
 abbrev pub IsFurtherOutcome : ServiceTypes → EncodingOf TicketInner → EncodingOf EncKdcRepPart → Inputs → Lent → ExchangeRecord → Result Followed Refusal
     → Type 0

@@ -123,7 +123,7 @@ fn taken_number(offset: &Option<i64>) -> u32
     }
 }
 
-/// An exchange, as the caller is to keep it.
+/// An exchange that has begun, as the caller is to keep it.
 pub(crate) fn written(offset: &Option<i64>, nonce: u32, key: &Option<Key>) -> ExchangeRecord
     ensures { result ≡ written offset.now nonce key.now }
 {
@@ -132,6 +132,7 @@ pub(crate) fn written(offset: &Option<i64>, nonce: u32, key: &Option<Key>) -> Ex
         has_offset: taken_number(offset),
         nonce,
         etype: etype_or_zero(key),
+        begun: 1,
         key: key_or_zeros(key),
     }
 }

@@ -15,6 +15,7 @@ use crate::records::{ExchangeRecord, FollowedRecord, sends, waits};
 use crate::refusal::Refusal;
 use crate::rules::{client_refusal, request_refusal};
 use crate::tell::{Followed, tell};
+use crate::turn::{is_first_turn, out_of_turn};
 use krb_c_calls::CallError;
 use krb_client::{
     Asked, ClientError, Encodings, InitialExchange, InitialStep, Moment, Rfc4120, Secret, Terms,
@@ -209,6 +210,9 @@ fn decided(
     ensures refused { IfErr result (RefusesFirst ⟦<Rfc4120 as Encodings>⟧.initial
         (inputs_of question.now) proof.now.password.now proof.now.keytab.now kept.now) }
 {
+    if !is_first_turn(kept, question.message) {
+        return Err(out_of_turn());
+    }
     let prepared = prepared_of(alloc, question, kept.nonce)?;
     if is_absent(question.message) {
         opened(alloc, question, prepared)
@@ -217,7 +221,9 @@ fn decided(
     }
 }
 
-/// A first ticket, step by step (RFC 4120, 3.1): what follows on the message.
+/// A first ticket, step by step (RFC 4120, 3.1): what follows on the message. No octets begin an
+/// exchange, and only one that is all zeros; octets are for one that has begun. Else rule 1,
+/// `OtherMessage`, is broken, before all else.
 ///
 /// 0 where something follows: `followed` tells what, its octets are handed out, and `exchange` is as
 /// it is to be passed in the next time; 1 where the octets are more than `out` has. 42 where a rule

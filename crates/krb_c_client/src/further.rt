@@ -16,6 +16,7 @@ use crate::records::{ExchangeRecord, FollowedRecord, sends, waits};
 use crate::refusal::Refusal;
 use crate::rules::{client_refusal, request_refusal};
 use crate::tell::{Followed, tell};
+use crate::turn::{is_further_turn, out_of_turn};
 use krb_c_calls::CallError;
 use krb_c_calls::suites::cipher_suite_of;
 use krb_client::{
@@ -247,6 +248,9 @@ fn decided(
     ensures refused { IfErr result (RefusesFurther ⟦<Rfc4120 as Encodings>⟧.service ⟦<Ticket as DerEncode>⟧
         (inputs_of question.now) (means_of by.now) kept.now) }
 {
+    if !is_further_turn(kept, question.message) {
+        return Err(out_of_turn());
+    }
     let prepared = prepared_of(alloc, question, kept.nonce)?;
     let means = means_of(alloc, by)?;
     let Means {
@@ -264,7 +268,8 @@ fn decided(
 
 /// A further ticket, step by step (RFC 4120, 3.3): what follows on the message.
 ///
-/// As `initial` in all else; 9, 10 or 11 also where the ticket is no encoding of one, and 3 where
+/// As `initial` in all else, but that an exchange may begin with what the KDC's time is ahead, as
+/// one before it took it; 9, 10 or 11 also where the ticket is no encoding of one, and 3 where
 /// the encryption type of the session key has no suite.
 pub fn ticket(
     alloc: Global,

@@ -19,6 +19,7 @@ mod rules;
 mod settings;
 mod suites;
 mod tell;
+mod turn;
 
 pub use application::{ApAsked, ap_request};
 pub use application_reply::{ReplyAsked, ap_reply};

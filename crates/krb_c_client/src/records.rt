@@ -48,6 +48,8 @@ pub struct ExchangeRecord {
     /// The encryption type of the key under which the last AS-REQ has the time; 0 where it has
     /// none.
     pub etype: i32,
+    /// 1 once a request was made, and else 0.
+    pub begun: u32,
     /// The octets of this key, and zeros.
     pub key: [u8; 32],
 }

@@ -46,6 +46,8 @@ fn mismatch_rule(rule: Mismatch) -> u32
         Mismatch::Nonce => 11,
         Mismatch::Server => 12,
         Mismatch::SessionKey => 13,
+        Mismatch::SessionKeySize => 40,
+        Mismatch::FlagsSize => 41,
         Mismatch::Start => 14,
         Mismatch::End => 15,
         Mismatch::RenewTill => 16,

@@ -22,7 +22,7 @@ use Rattle.krb_client.specs.declared.terms.Terms.{Terms}
 use Rattle.krb_client.proofs.Running.{clash, run_count, run_keeps, run_last, unset, unset_most}
 
 -- how many more requests an exchange makes at most: one for the key, and one for the KDC's time
-abbrev left : InitialExchange → ℕ
+abbrev pub left : InitialExchange → ℕ
 left e = unset e.key + unset e.offset
 
 module _ (t : InitialTypes) (terms : Terms) where
@@ -31,7 +31,7 @@ module _ (t : InitialTypes) (terms : Terms) where
   change_left e s m r (changes.Key key) nonce calls = let one : unset e.key ≡ 1 = ap unset calls.0.1 in omega (arith, one)
   change_left e s m r (changes.Offset offset) nonce calls = let one : unset e.offset ≡ 1 = ap unset calls.0.1 in omega (arith, one)
 
-  step_left : (e : InitialExchange) (s : Secret) (m : Moment) (octets : List ℕ) (outcome : Result InitialStep ClientError) (after : InitialExchange)
+  pub step_left : (e : InitialExchange) (s : Secret) (m : Moment) (octets : List ℕ) (outcome : Result InitialStep ClientError) (after : InitialExchange)
       → StepsTo t terms e s m octets outcome after → requests_in outcome + left after ≡ left e
   step_left e s m octets (Ok (steps.Send request)) after (change, answer, is) =
       let one : 1 + left (taken e change m.nonce) ≡ left e = change_left e s m answer.1.report change m.nonce answer.1.calls in

@@ -19,11 +19,11 @@ use Rattle.krb_client.specs.declared.terms.Terms.{Terms}
 use Rattle.krb_client.proofs.Running.{clash, run_count, run_keeps, run_last, unset, unset_most}
 
 -- how many more requests an exchange makes at most: one for the KDC's time
-abbrev left : ServiceExchange → ℕ
+abbrev pub left : ServiceExchange → ℕ
 left e = unset e.offset
 
 module _ (t : ServiceTypes) (terms : Terms) (by : ByTicket) where
-  step_left : (e : ServiceExchange) (m : Moment) (octets : List ℕ) (outcome : Result ServiceStep ClientError) (after : ServiceExchange)
+  pub step_left : (e : ServiceExchange) (m : Moment) (octets : List ℕ) (outcome : Result ServiceStep ClientError) (after : ServiceExchange)
       → ServiceStepsTo t terms by e m octets outcome after → requests_in outcome + left after ≡ left e
   step_left e m octets (Ok (steps.Send request)) after (offset, answer, is) =
       let one : unset e.offset ≡ 1 = ap unset answer.1.needs_time.1 in

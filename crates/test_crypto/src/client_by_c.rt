@@ -119,6 +119,7 @@ fn exchange_of(nonce: u32, keyed: &Keyed) -> ExchangeRecord {
         has_offset: 0,
         nonce,
         etype: if is_initial { keyed.etype } else { 0 },
+        begun: 1,
         key: if is_initial {
             padded(keyed.octets)
         } else {

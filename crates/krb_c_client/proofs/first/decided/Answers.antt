@@ -1,30 +1,38 @@
 use Rattle.std.proofs.Common.{refl}
 use Rattle.std.proofs.lemmas.Result.{err_from_is_err_and}
-use Rattle.krb_c_client.specs.Initial.{begins, begins_not, goes_not_on, goes_on, not_prepared}
+use Rattle.krb_c_client.specs.Initial.{begins, begins_not, goes_not_on, goes_on, not_in_turn, not_prepared}
 use Rattle.krb_c_client.proofs.Results.{err_map, ok_map}
+use Rattle.krb_c_client.proofs.Turning.{to_begin, to_go_on}
 use Rattle.krb_c_client.proofs.first.decided.Goals as goal
+
+pub returns-then-not-is_first_turn-clause-refused : goal.returns-then-not-is_first_turn-clause-refused
+returns-then-not-is_first_turn-clause-refused c = not_in_turn c.if-not-is_first_turn.ensures c.out_of_turn.ensures
 
 pub returns-in_err-prepared-clause-refused : goal.returns-in_err-prepared-clause-refused
 returns-in_err-prepared-clause-refused c =
     let p = err_from_is_err_and c.from_residual.result c.from_residual.ensures.1 in
-    rw (p.1, p.2) (not_prepared c.in_err-prepared.field-0.0 c.in_err-prepared.ensures.refused refl)
+    rw (p.1, p.2) (not_prepared c.in_err-prepared.field-0.0 c.if-not-is_first_turn.ensures c.in_err-prepared.ensures.refused refl)
 
 pub returns-then-is_absent-clause-follows : goal.returns-then-is_absent-clause-follows
 returns-then-is_absent-clause-follows c =
-    ok_map c.opened.result (λ f is. begins c.in_ok-prepared.prepared.asked c.in_ok-prepared.prepared.moment c.in_ok-prepared.ensures.made c.if-is_absent.ensures is)
+    ok_map c.opened.result (λ f is. begins c.in_ok-prepared.prepared.asked c.in_ok-prepared.prepared.moment
+    (to_begin _ _ _ c.if-not-is_first_turn.ensures c.if-is_absent.ensures) c.in_ok-prepared.ensures.made c.if-is_absent.ensures is)
     c.opened.ensures.opens
 
 pub returns-then-is_absent-clause-refused : goal.returns-then-is_absent-clause-refused
 returns-then-is_absent-clause-refused c =
-    err_map c.opened.result (λ r is. begins_not c.in_ok-prepared.prepared.asked c.in_ok-prepared.prepared.moment c.in_ok-prepared.ensures.made
+    err_map c.opened.result (λ r is. begins_not c.in_ok-prepared.prepared.asked c.in_ok-prepared.prepared.moment
+    (to_begin _ _ _ c.if-not-is_first_turn.ensures c.if-is_absent.ensures) c.in_ok-prepared.ensures.made
     c.if-is_absent.ensures is) c.opened.ensures.refused
 
 pub returns-else-is_absent-clause-follows : goal.returns-else-is_absent-clause-follows
 returns-else-is_absent-clause-follows c =
-    ok_map c.continued.result (λ f is. goes_on c.in_ok-prepared.prepared.asked c.in_ok-prepared.prepared.moment c.in_ok-prepared.ensures.made
+    ok_map c.continued.result (λ f is. goes_on c.in_ok-prepared.prepared.asked c.in_ok-prepared.prepared.moment
+    (to_go_on _ _ _ c.if-not-is_first_turn.ensures c.if-is_absent.ensures) c.in_ok-prepared.ensures.made
     c.if-is_absent.ensures is) c.continued.ensures.goes_on
 
 pub returns-else-is_absent-clause-refused : goal.returns-else-is_absent-clause-refused
 returns-else-is_absent-clause-refused c =
-    err_map c.continued.result (λ r is. goes_not_on c.in_ok-prepared.prepared.asked c.in_ok-prepared.prepared.moment c.in_ok-prepared.ensures.made
+    err_map c.continued.result (λ r is. goes_not_on c.in_ok-prepared.prepared.asked c.in_ok-prepared.prepared.moment
+    (to_go_on _ _ _ c.if-not-is_first_turn.ensures c.if-is_absent.ensures) c.in_ok-prepared.ensures.made
     c.if-is_absent.ensures is) c.continued.ensures.refused
