@@ -31,13 +31,13 @@ static void fail(const char *what, unsigned long status) {
 
 /* One token taken, and its reply made. */
 static void accept_once(void) {
-    krb_acceptor acceptor = {time(NULL), 0, 300, KRB_ACCEPT_SUBKEY, 0, 1};
+    krb_acceptor acceptor = {time(NULL), 0, 300, KRB_ACCEPT_SUBKEY | KRB_ACCEPT_WHOLE_EVER, 0, 1};
     krb_accepted accepted;
     uint8_t octets[RANDOM] = {1};
     size_t size;
-    krb_status status = krb_accept(&acceptor, keytab, keytab_size, octets, 0, octets, 0, octets, 0, octets, sizeof octets, token, token_size, &accepted,
-                                   out, sizeof out, &size);
-    if (status != KRB_DONE || accepted.reply.size == 0) {
+    krb_status status = krb_accept(&acceptor, keytab, keytab_size, octets, 0, octets, 0, octets, 0, octets, 0, octets, 0, octets, sizeof octets, token,
+                                   token_size, &accepted, out, sizeof out, &size);
+    if (status != KRB_UNLESS_REPEATED || accepted.reply.size == 0) {
         fail("krb_accept", status == KRB_NOT_ACCEPTED ? 1000 + accepted.rule : status);
     }
 }

@@ -37,7 +37,7 @@ extern "C" {
 #endif
 
 /* It rises where a declaration below changes its meaning, and with it the number in the shared object's name. */
-#define KRB_VERSION 1
+#define KRB_VERSION 2
 
 /* What a call answers. No number changes its meaning; new ones come behind. */
 typedef uint32_t krb_status;
@@ -84,7 +84,8 @@ enum {
     KRB_PROXY_PVNO = 39,         /* pvno is not 5 */
     KRB_PROXY_MSG_TYPE = 40,     /* msg-type is not what the tag says */
     KRB_NOT_ACCEPTED = 41,       /* a rule of the acceptor's refuses the token: its number is in `rule` */
-    KRB_NOT_GRANTED = 42         /* a rule of the client's refuses the reply or the request: its number is in `rule` */
+    KRB_NOT_GRANTED = 42,        /* a rule of the client's refuses the reply or the request: its number is in `rule` */
+    KRB_UNLESS_REPEATED = 43     /* no rule of the acceptor's refuses the token, but perhaps the one at which the caller looks: that of its replay cache */
 };
 
 /* Encryption types (RFC 3961, 8; RFC 3962, 7; RFC 8009, 7). */
@@ -608,34 +609,39 @@ krb_status krb_make_kdc_proxy_message(const uint8_t *message, size_t message_siz
 /* Whether a service lets in the client that sent a token, and what it answers (RFC 4120, 3.2.3; RFC 4121, 4.1). docs/ACCEPTOR.md has the rules, and what is
    promised.
 
-   The calls keep nothing, so the replay cache is the caller's: an accepted client is let in where its `entry` is added to a set that does not have it yet. An
-   entry may be forgotten once its time, the first eight octets, is more than `skew` seconds ago. A service that starts with an empty cache sets
-   KRB_ACCEPT_WHOLE_SINCE, and `whole_since` to the time at which it starts.
+   The calls keep nothing, so the replay cache is the caller's: a client is let in where the status is KRB_UNLESS_REPEATED and its `entry` is added to a set
+   that does not have it yet. An entry may be forgotten once its time, the first eight octets, is more than `skew` seconds ago. A service that starts with an
+   empty cache sets `whole_since` to the time at which it starts: what was let in before is then refused, as KRB_RULE_UNREMEMBERED, until `skew` seconds have
+   passed. A cache that is whole since ever, as that of a service which let in nobody before, has to be asked for.
 
    What a service asks. Without options: a token of the GSS-API with a checksum of type 0x8003, keys of AES, a PAC that is checked where there is one, a path of
-   realms that a KDC has checked. */
+   realms that a KDC has checked, a client with a name. What is asked for has to be there, and what contradicts is refused (KRB_NUMBER): nothing is off because
+   it is absent. */
 enum {
     KRB_ACCEPT_BARE_REQUEST = 1,        /* an AP-REQ with no frame around it is taken too, as DCE style has it */
     KRB_ACCEPT_OTHER_CHECKSUM = 2,      /* so is an authenticator with no checksum, or with one of another type */
-    KRB_ACCEPT_PAC_IGNORED = 4,         /* a PAC is not looked at */
-    KRB_ACCEPT_PAC_REQUIRED = 8,        /* a ticket without a PAC is refused; KRB_ACCEPT_PAC_IGNORED goes before it */
-    KRB_ACCEPT_TRIPLE_DES = 16,         /* session keys and subkeys may be of triple DES (RFC 8429 deprecates it) */
-    KRB_ACCEPT_ADDRESSES_REQUIRED = 32, /* a ticket has to name addresses, where the client's is known */
+    KRB_ACCEPT_PAC_IGNORED = 4,         /* a PAC is not verified, and none is handed out */
+    KRB_ACCEPT_PAC_REQUIRED = 8,        /* a ticket without a PAC is refused; not with KRB_ACCEPT_PAC_IGNORED */
+    KRB_ACCEPT_TRIPLE_DES = 16,         /* keys of tickets, session keys and subkeys may be of triple DES (RFC 8429 deprecates it) */
+    KRB_ACCEPT_ADDRESSES_REQUIRED = 32, /* a ticket has to name addresses: the client's has to be given */
     KRB_ACCEPT_UNCHECKED_PATH = 64,     /* a path of realms is taken that no KDC has checked (RFC 4120, 2.7) */
-    KRB_ACCEPT_WHOLE_SINCE = 128,       /* the replay cache is whole since `whole_since`, and not since ever */
-    KRB_ACCEPT_SUBKEY = 256             /* the answer has a subkey of the service's, made of `random` */
+    KRB_ACCEPT_WHOLE_EVER = 128,        /* the replay cache is whole since ever: `whole_since` has to be 0 */
+    KRB_ACCEPT_SUBKEY = 256,            /* the answer has a subkey of the service's, made of `random` */
+    KRB_ACCEPT_BOUND = 512,             /* the client's channel bindings have to be the service's: `bindings` has to have 16 octets, and has none without it */
+    KRB_ACCEPT_ANONYMOUS = 1024         /* clients without a name are let in (RFC 8062) */
 };
 
 typedef struct krb_acceptor {
     int64_t clock;            /* the service's time, in seconds since 1 January 1970, 00:00:00 UTC */
-    int64_t whole_since;      /* since when the replay cache is whole, where the option says so; in the same seconds */
+    int64_t whole_since;      /* since when the replay cache is whole, more than 0, in the same seconds; 0 with KRB_ACCEPT_WHOLE_EVER */
     uint32_t skew;            /* by how many seconds clocks may differ; usually 300 */
-    uint32_t options;         /* KRB_ACCEPT_.., added; other bits are not looked at */
+    uint32_t options;         /* KRB_ACCEPT_.., added */
     uint32_t address_type;    /* of the client's address: 2 for IPv4, 24 for IPv6 (RFC 4120, 7.5.3); not looked at where there is no address */
     uint32_t sequence_number; /* of the service's first message: the answer has it */
 } krb_acceptor;
 
-/* The first rule that a token breaks, in their order; the rules of the replay cache come last. */
+/* The first rule that a token breaks. They are looked at in the order of their numbers, but for three: KRB_RULE_ANONYMOUS and then KRB_RULE_CLIENT_REALM before
+   KRB_RULE_PATH, KRB_RULE_PAC_PLACE before KRB_RULE_PAC_MISSING; and the rules of the replay cache come last. */
 enum {
     KRB_RULE_NONE = 0,
     KRB_RULE_NOT_REQUEST = 1,
@@ -675,7 +681,10 @@ enum {
     KRB_RULE_CHECKSUM_TYPE = 35,
     KRB_RULE_CHECKSUM_LAYOUT = 36,
     KRB_RULE_BINDINGS = 37,
-    KRB_RULE_DELEGATION = 38
+    KRB_RULE_DELEGATION = 38,
+    KRB_RULE_ANONYMOUS = 39,
+    KRB_RULE_CLIENT_REALM = 40,
+    KRB_RULE_PAC_PLACE = 41
 };
 
 /* Octets of `out`. */
@@ -692,8 +701,9 @@ typedef struct krb_accepted {
     krb_place session_key;        /* the octets of the ticket's session key */
     krb_place subkey;             /* the client's subkey; no octets where it has none */
     krb_place own_subkey;         /* the service's subkey, where the option asks for one */
+    krb_place pac;                /* the ticket's PAC, whose server checksum holds and which is the client's; no octets where there is none, or it is ignored */
     krb_place transited;          /* the realms that took part in authenticating the client, as `transited_type` encodes them (RFC 4120, 3.3.3.2) */
-    krb_place authorization_data; /* of the ticket: the encoding of an AuthorizationData; no octets where it has none */
+    krb_place authorization_data; /* of the ticket: the encoding of an AuthorizationData, without elements in which a PAC stands; no octets where it has none */
     krb_place restrictions;       /* of the authenticator, the same */
     krb_place delegated;          /* the KRB-CRED that the client delegated; no octets where there is none */
     krb_place reply;              /* what to send to the client: a token with an AP-REP, or the AP-REP alone; no octets where the client waits for none */
@@ -703,8 +713,8 @@ typedef struct krb_accepted {
     int64_t sequence_number;      /* of the client's first message; -1 where it gives none */
     int64_t seen;                 /* of a refused token, where has_seen is 1: the client's time for KRB_RULE_SKEW, the ticket's start for
                                      KRB_RULE_NOT_YET_VALID, its end for KRB_RULE_EXPIRED, the kvno that it names for KRB_RULE_KEY_VERSION */
-    uint32_t flags;               /* of the context (RFC 4121, 4.1.1.1): 1 delegation, 2 mutual authentication, 4 replay, 8 sequence, 16 confidentiality,
-                                     32 integrity, 0x1000 DCE style */
+    uint32_t flags;               /* of the context (RFC 4121, 4.1.1.1), those that a client may set and no others: 1 delegation, 2 mutual authentication, 4
+                                     replay, 8 sequence, 16 confidentiality, 32 integrity, 0x1000 DCE style */
     uint32_t ticket_flags;        /* the ticket's flags (5.3), bit 0 highest */
     uint32_t session_etype;       /* the encryption type of the session key, and of the service's subkey */
     uint32_t subkey_etype;        /* of the client's subkey; 0 where it has none */
@@ -714,20 +724,35 @@ typedef struct krb_accepted {
     uint32_t has_seen;            /* 1 or 0 */
 } krb_accepted;
 
-/* The client that sent `token`, where it is let in.
+/* The client that sent `token`, where it is let in unless the caller's replay cache has it.
    `keytab` has the service's keys, `session_keys` the keys of its own ticket-granting tickets, a keytab as well, for tickets under such a key
-   (user-to-user), mostly no octets. `bindings` is the hash of the service's channel bindings (krb_channel_bindings, 16 octets), or no octets where it has none.
-   `address` is the client's, or no octets where it is not known. `random` has 48 random octets, for one call alone: of the AP-REP's confounder (16; 8 for triple
-   DES, of the first ones) and of a subkey (32; as many as a seed has, behind the first 16).
-   An answer is made where the client asks for mutual authentication, by its flags or its ap-options: it is in a frame where the token was, but not in DCE style.
+   (user-to-user), mostly no octets. `server` names the service, as text (RFC 1964, 2.1.1): "HTTP/www.home.test@HOME.TEST"; the realm may be left out, and the
+   host, as in "HTTP"; tickets for others are refused (KRB_RULE_NOT_US). With no octets it is any of which the keytab has a key. `client_realm` is the realm
+   whose clients are let in; with no octets any. `bindings` is the hash of the service's channel bindings (krb_channel_bindings, 16 octets), with
+   KRB_ACCEPT_BOUND, or no octets without it. `address` is the client's, or no octets where it is not known. `random` has 48 random octets, for one call alone:
+   of the AP-REP's confounder (16; 8 for triple DES, of the first ones) and of a subkey (32; as many as a seed has, behind the first 16).
+   An answer is made where the client asks for mutual authentication: by the flags of its checksum of the GSS-API, and where it has none by its ap-options. It
+   is in a frame where the token was, but not in DCE style.
 
-   KRB_DONE: *accepted tells of it, and its places are in the first *size octets of `out`. KRB_ROOM: there are *size, more than `room`; *accepted is all zeros. As
-   many octets as `token` has three times, and 1024, suffice.
-   KRB_KEYTAB: `keytab`, or `session_keys`, is none. KRB_SEED_SIZE: `random` has not 48 octets, or `bindings` neither 0 nor 16. KRB_NOT_ACCEPTED: the client is
-   refused, by the rule that *accepted tells. KRB_MEMORY. On each of these *size is 0, `out` is as it was and, but for KRB_NOT_ACCEPTED, *accepted all zeros. */
+   KRB_UNLESS_REPEATED: *accepted tells of it, and its places are in the first *size octets of `out`. It is not KRB_DONE: the client is let in where the replay
+   cache does not have `entry`, and has it from now on. KRB_ROOM: there are *size, more than `room`; *accepted is all zeros. As many octets as `token` has three
+   times, and 1024, suffice.
+   KRB_SEED_SIZE: `random` has not 48 octets, or `bindings` neither 0 nor 16. KRB_NUMBER: `options` has a bit that is none of these, or both of PACs;
+   KRB_ACCEPT_BOUND and no bindings, or bindings without it; KRB_ACCEPT_ADDRESSES_REQUIRED and no address; no `whole_since` above 0, or one with
+   KRB_ACCEPT_WHOLE_EVER. KRB_KEYTAB: `keytab`, or `session_keys`, is none. KRB_INVALID: `server` is no name, or `client_realm` not of ASCII. KRB_NOT_ACCEPTED:
+   the client is refused, by the rule that *accepted tells. KRB_MEMORY. On each of these *size is 0, `out` is as it was and, but for KRB_NOT_ACCEPTED, *accepted
+   all zeros. */
 krb_status krb_accept(const krb_acceptor *acceptor, const uint8_t *keytab, size_t keytab_size, const uint8_t *session_keys, size_t session_keys_size,
-                      const uint8_t *bindings, size_t bindings_size, const uint8_t *address, size_t address_size, const uint8_t *random, size_t random_size,
-                      const uint8_t *token, size_t token_size, krb_accepted *accepted, uint8_t *out, size_t room, size_t *size);
+                      const uint8_t *server, size_t server_size, const uint8_t *client_realm, size_t client_realm_size, const uint8_t *bindings,
+                      size_t bindings_size, const uint8_t *address, size_t address_size, const uint8_t *random, size_t random_size, const uint8_t *token,
+                      size_t token_size, krb_accepted *accepted, uint8_t *out, size_t room, size_t *size);
+
+/* Whether a client's last message in DCE style (MS-KILE, 3.4.5.1) is its AP-REP: under the session key, of this encryption type, with the service's
+   `sequence_number`, and not `own_reply`, which krb_accept made, sent back. Until it has come, a context with the flag 0x1000 is not established.
+   KRB_DONE: it is. Of the first rule that is broken: KRB_INVALID, where it is no AP-REP; KRB_DIRECTION, where it is the service's own; KRB_INTEGRITY, where the
+   key does not decrypt its part; KRB_NOT_ACCEPTED, where that has another sequence number; KRB_MEMORY. */
+krb_status krb_confirm(uint32_t etype, const uint8_t *session_key, size_t session_key_size, const uint8_t *own_reply, size_t own_reply_size,
+                       uint32_t sequence_number, const uint8_t *message, size_t message_size);
 
 /* The hash of channel bindings (RFC 4121, 4.1.1.2): 16 octets; types and addresses of both sides are mostly 0 and no octets (RFC 2744, 3.11), and the data
    "tls-server-end-point:" and a hash of the server's certificate (RFC 5929, 4).
@@ -771,8 +796,8 @@ typedef struct krb_proxy_posted {
 
 krb_status krb_proxy_request(const uint8_t *octets, size_t octets_size, krb_proxy_posted *posted);
 
-/* A request, as krb_proxy_request tells of it, and all items of its message, as krb_items tells them: of an AS-REQ or a TGS-REQ; of a frame those of its AP-REQ,
-   which begins six octets behind message_offset. The places of the items are in the octets of this message, from its first on. It has at most
+/* A request, as krb_proxy_request tells of it, and all items of its message, as krb_items tells them: of an AS-REQ or a TGS-REQ; of a frame those of its
+   AP-REQ, which begins six octets behind message_offset. The places of the items are in the octets of this message, from its first on. It has at most
    octets_size items.
    KRB_DONE: *posted tells of the request, and the items are the first *count of `items`, and those behind are as they were. Those of krb_proxy_request: all in
    *posted is 0, *count is 0, and `items` is as it was. Then, where *posted tells of the request, and `items` is as it was: KRB_ROOM, where there are *count,
@@ -835,21 +860,21 @@ krb_status krb_make_neg_token_init(const uint8_t *mechanisms, size_t mechanisms_
 krb_status krb_make_neg_token_resp(uint32_t state, const uint8_t *mechanism, size_t mechanism_size, const uint8_t *token, size_t token_size,
                                    const uint8_t *mic, size_t mic_size, uint8_t *out, size_t room, size_t *size);
 
-/* The decisions of a negotiation (RFC 4178, 3.2, 4.2 and 5): which rule a message breaks first, whether the mechanism takes its token, and what a side does then.
-   The messages are read and made by the calls above; the mechanism, its MICs and all octets are the caller's. No call here allocates.
+/* The decisions of a negotiation (RFC 4178, 3.2, 4.2 and 5): which rule a message breaks first, whether the mechanism takes its token, and what a side does
+   then. The messages are read and made by the calls above; the mechanism, its MICs and all octets are the caller's. No call here allocates.
 
-   One side of a negotiation is a krb_negotiation that the caller keeps: all 0 at its beginning, but for `role` and `asks`, and for `established` of an initiator
-   whose first mechanism has ended its context with its first token. An initiator has sent its offer then. Each message of the peer takes two calls:
+   One side of a negotiation is a krb_negotiation that the caller keeps: all 0 at its beginning, but for `role` and `asks`, and for `established` of an
+   initiator whose first mechanism has ended its context with its first token. An initiator has sent its offer then. Each message of the peer takes two calls:
 
      krb_negotiation_take      with what the message says. Then, where `steps` is 1, the mechanism takes the message's token (mechToken, responseToken), or
                                begins with none where the acceptor chose another one than the initiator's first
      krb_negotiation_answer    with what the mechanism made of it, and what the message's mechListMIC is. Then, where `sends` is 1, a message goes out
 
-   until `stage` is KRB_STAGE_COMPLETE or KRB_STAGE_FAILED. Where it fails by octets that are no message, or for want of memory, the caller ends it. After a failure
-   it may send a message with KRB_NEG_STATE_REJECT.
+   until `stage` is KRB_STAGE_COMPLETE or KRB_STAGE_FAILED. Where it fails by octets that are no message, or for want of memory, the caller ends it. After a
+   failure it may send a message with KRB_NEG_STATE_REJECT.
 
-   A MIC is one over the DER encoding of the initiator's list of mechanisms, mechTypes, as it was sent; a caller that verified it over anything else, or not at all,
-   has no protection against a third who changed the list. */
+   A MIC is one over the DER encoding of the initiator's list of mechanisms, mechTypes, as it was sent; a caller that verified it over anything else, or not at
+   all, has no protection against a third who changed the list. */
 enum { KRB_INITIATOR = 0, KRB_ACCEPTOR = 1 };
 
 enum {
@@ -862,7 +887,8 @@ enum {
 
 /* The rule that a message broke. They are looked at in another order than that of their numbers: of an offer NO_MECHANISM, UNKNOWN_MECHANISM, UNPROTECTED,
    EARLY_MIC; of the first reply NO_STATE, REJECTED, NO_MECHANISM, UNKNOWN_MECHANISM, UNPROTECTED, UNEXPECTED_TOKEN, NO_TOKEN; of a later message REJECTED,
-   LATE_REQUEST, SECOND_MECHANISM, UNEXPECTED_TOKEN, NO_TOKEN; then, by krb_negotiation_answer, MECHANISM_FAILED, EARLY_MIC, WRONG_MIC, EARLY_COMPLETION, NO_MIC. */
+   LATE_REQUEST, SECOND_MECHANISM, UNEXPECTED_TOKEN, NO_TOKEN; then, by krb_negotiation_answer, MECHANISM_FAILED, EARLY_MIC, WRONG_MIC, EARLY_COMPLETION,
+   NO_MIC. */
 enum {
     KRB_NEGOTIATION_RULE_NONE = 0,
     KRB_NEGOTIATION_RULE_NO_STATE = 1,          /* the first reply has no negState (4.2.2) */
@@ -917,8 +943,9 @@ typedef struct krb_negotiation_message {
 
 /* A side takes a message: an acceptor that begins as the offer, an initiator that begins as the first reply, a side that waits as a later message.
    KRB_DONE: the stage is KRB_STAGE_TAKEN, and `steps` says whether the mechanism takes a token (of an offer, where the chosen mechanism is the initiator's
-   first one and there is a mechToken; else while the context is not established); or it is KRB_STAGE_FAILED, and `rule` says which rule is broken first. A message to
-   a complete side fails it by KRB_NEGOTIATION_RULE_FINISHED; a side that has failed is as it was. But for `stage` and `rule`, a failure changes nothing.
+   first one and there is a mechToken; else while the context is not established); or it is KRB_STAGE_FAILED, and `rule` says which rule is broken first. A
+   message to a complete side fails it by KRB_NEGOTIATION_RULE_FINISHED; a side that has failed is as it was. But for `stage` and `rule`, a failure changes
+   nothing.
    KRB_NUMBER: role, stage, state or choice is none of the numbers above, or the message before this one is not answered yet; *side is as it was. */
 krb_status krb_negotiation_take(krb_negotiation *side, const krb_negotiation_message *message);
 
@@ -946,25 +973,26 @@ typedef struct krb_negotiation_reply {
     uint32_t has_mic;   /* 1 where it has this side's MIC over the initiator's list of mechanisms */
 } krb_negotiation_reply;
 
-/* What a side does with the message that it took, and the message that it sends: `progress` is KRB_PROGRESS_.., and not looked at unless `steps` is set; `mic` is
-   KRB_MIC_...
-   KRB_DONE: the stage is KRB_STAGE_WAITS, KRB_STAGE_COMPLETE or KRB_STAGE_FAILED, and *reply tells of the message. A side that is complete may have a last one to
-   send; one that failed has none, and but for `stage` and `rule` is as it was.
-   KRB_NUMBER: role, stage or `said`, `progress` where it is looked at, or `mic` is none of the numbers above, or the stage is another than KRB_STAGE_TAKEN; *side
-   and *reply are as they were. `reply` overlaps nothing else that is passed. */
+/* What a side does with the message that it took, and the message that it sends: `progress` is KRB_PROGRESS_.., and not looked at unless `steps` is set; `mic`
+   is KRB_MIC_...
+   KRB_DONE: the stage is KRB_STAGE_WAITS, KRB_STAGE_COMPLETE or KRB_STAGE_FAILED, and *reply tells of the message. A side that is complete may have a last one
+   to send; one that failed has none, and but for `stage` and `rule` is as it was.
+   KRB_NUMBER: role, stage or `said`, `progress` where it is looked at, or `mic` is none of the numbers above, or the stage is another than KRB_STAGE_TAKEN;
+   *side and *reply are as they were. `reply` overlaps nothing else that is passed. */
 krb_status krb_negotiation_answer(krb_negotiation *side, uint32_t progress, uint32_t mic, krb_negotiation_reply *reply);
 
 /* A client: tickets of a KDC, and the request for a service (RFC 4120, 3.1 to 3.3; docs/CLIENT.md).
 
-   The calls keep nothing: what an exchange keeps between two messages stands in a krb_exchange of the caller's. The caller sends and receives, reads the clock and
-   draws random numbers. A name is a text of RFC 1964, 2.1.1, with a realm: "carol@HOME.TEST", "HTTP/www.home.test@HOME.TEST", "krbtgt/HOME.TEST@HOME.TEST"; a
-   backslash stands before a slash, an at sign and a backslash within a component. */
+   The calls keep nothing: what an exchange keeps between two messages stands in a krb_exchange of the caller's. The caller sends and receives, reads the clock
+   and draws random numbers. A name is a text of RFC 1964, 2.1.1, with a realm: "carol@HOME.TEST", "HTTP/www.home.test@HOME.TEST", "krbtgt/HOME.TEST@HOME.TEST";
+   a backslash stands before a slash, an at sign and a backslash within a component. */
 
 /* Settings of krb_client_terms. */
 enum {
     KRB_CLIENT_FROM = 1,        /* `from` is asked for */
     KRB_CLIENT_RTIME = 2,       /* `rtime` is asked for */
-    KRB_CLIENT_DATAGRAMS = 4,   /* the transport may deliver replies to other requests, as UDP may: one that opens and has another nonce is passed over, else refused */
+    KRB_CLIENT_DATAGRAMS = 4,   /* the transport may deliver replies to other requests, as UDP may: one that opens and has another nonce is passed over, else
+                                   refused */
     KRB_CLIENT_CANONICALIZE = 8 /* an AS-REQ asks that the reply have its checksum (RFC 6806, 11), for krb_client_renamed; the option 15 is among the options */
 };
 
@@ -983,8 +1011,8 @@ typedef struct krb_client_terms {
     uint32_t settings;     /* KRB_CLIENT_.., added; other bits are not looked at */
 } krb_client_terms;
 
-/* What an exchange keeps between two messages. It is all zeros at the beginning, and never again, unless the caller wipes it; of krb_client_ticket it may have an offset
-   that an exchange before it took (offset and has_offset), and is zeros else. */
+/* What an exchange keeps between two messages. It is all zeros at the beginning, and never again, unless the caller wipes it; of krb_client_ticket it may have
+   an offset that an exchange before it took (offset and has_offset), and is zeros else. */
 typedef struct krb_exchange {
     int64_t offset;      /* by how many seconds the KDC's time is ahead of the client's, where has_offset is 1 */
     uint32_t has_offset; /* 1 where the KDC's time was taken from an error of the KDC, and else 0 */
@@ -1057,37 +1085,37 @@ typedef struct krb_followed {
 } krb_followed;
 
 /* A first ticket (RFC 4120, 3.1), step by step, by a password or, where `keytab` has octets, by the client's keys in it: of each encryption type the last one,
-   which was added last. A message of no octets begins an exchange that is all zeros, by an AS-REQ without pre-authentication; each other one is what the KDC sent to one
-   that has begun. A message of no octets later, as of a peer that closed, and octets before are refused by KRB_CLIENT_RULE_OTHER_MESSAGE, before all else: so, whatever
-   comes, an exchange hands out at most three requests (of krb_client_ticket two), until the caller wipes it.
-   `options` are numbers of KDCOptions (5.4.1), 0 to 31; `flags` those of the flags 1 to 8 that the ticket may have; `etypes` the encryption types, the preferred one
-   first; `random` has 16 octets, fresh for each call.
+   which was added last. A message of no octets begins an exchange that is all zeros, by an AS-REQ without pre-authentication; each other one is what the KDC
+   sent to one that has begun. A message of no octets later, as of a peer that closed, and octets before are refused by KRB_CLIENT_RULE_OTHER_MESSAGE, before
+   all else: so, whatever comes, an exchange hands out at most three requests (of krb_client_ticket two), until the caller wipes it.
+   `options` are numbers of KDCOptions (5.4.1), 0 to 31; `flags` those of the flags 1 to 8 that the ticket may have; `etypes` the encryption types, the
+   preferred one first; `random` has 16 octets, fresh for each call.
 
-   KRB_DONE: *followed says what follows, and *exchange is as it is to be passed in the next time. KRB_ROOM: there are *size octets, more than `room`; *followed is all
-   zeros, and *exchange and `out` are as they were: the same call with more room answers the same.
+   KRB_DONE: *followed says what follows, and *exchange is as it is to be passed in the next time. KRB_ROOM: there are *size octets, more than `room`; *followed
+   is all zeros, and *exchange and `out` are as they were: the same call with more room answers the same.
    KRB_NOT_GRANTED: *followed says which rule is broken. KRB_SEED_SIZE: `random` has not 16 octets. KRB_INVALID: `client` or `server` is no name with a realm.
-   KRB_NUMBER: an encryption type is not supported. KRB_KEYTAB: `keytab` is none. KRB_MEMORY. On each of these *size is 0, *exchange and `out` are as they were and, but
-   for KRB_NOT_GRANTED, *followed is all zeros. */
+   KRB_NUMBER: an encryption type is not supported. KRB_KEYTAB: `keytab` is none. KRB_MEMORY. On each of these *size is 0, *exchange and `out` are as they were
+   and, but for KRB_NOT_GRANTED, *followed is all zeros. */
 krb_status krb_client_initial(const krb_client_terms *terms, const size_t *options, size_t options_count, const size_t *flags, size_t flags_count,
                               const int32_t *etypes, size_t etypes_count, const uint8_t *client, size_t client_size, const uint8_t *server,
                               size_t server_size, const uint8_t *password, size_t password_size, const uint8_t *keytab, size_t keytab_size,
                               const uint8_t *random, size_t random_size, const uint8_t *message, size_t message_size, krb_exchange *exchange,
                               krb_followed *followed, uint8_t *out, size_t room, size_t *size);
 
-/* What an AS-REP grants that krb_client_initial refused by KRB_CLIENT_RULE_CLIENT, KRB_CLIENT_RULE_TICKET or KRB_CLIENT_RULE_SERVER, since it renames the client or
-   the server (RFC 6806, 6 and 8), where the caller allows that. `client` and `server` are the names of the reply (to krb_find "crealm", "cname", "ticket.realm" and
-   "ticket.sname" of the AS-REP), `request` is the last request of the exchange, *exchange as the last call left it; the nonce of the terms is not looked at.
-   All rules hold for these names, and besides the reply's part has the checksum of the request under the reply key, for which KRB_CLIENT_CANONICALIZE asks. The client's
-   new name is under no key.
+/* What an AS-REP grants that krb_client_initial refused by KRB_CLIENT_RULE_CLIENT, KRB_CLIENT_RULE_TICKET or KRB_CLIENT_RULE_SERVER, since it renames the
+   client or the server (RFC 6806, 6 and 8), where the caller allows that. `client` and `server` are the names of the reply (to krb_find "crealm", "cname",
+   "ticket.realm" and "ticket.sname" of the AS-REP), `request` is the last request of the exchange, *exchange as the last call left it; the nonce of the terms
+   is not looked at. All rules hold for these names, and besides the reply's part has the checksum of the request under the reply key, for which
+   KRB_CLIENT_CANONICALIZE asks. The client's new name is under no key.
    KRB_DONE, KRB_ROOM, KRB_NOT_GRANTED and the other statuses as of krb_client_initial; *exchange stays as it is. */
 krb_status krb_client_renamed(const krb_client_terms *terms, const size_t *flags, size_t flags_count, const int32_t *etypes, size_t etypes_count,
                               const uint8_t *client, size_t client_size, const uint8_t *server, size_t server_size, const uint8_t *request,
                               size_t request_size, const uint8_t *message, size_t message_size, const krb_exchange *exchange, krb_followed *followed,
                               uint8_t *out, size_t room, size_t *size);
 
-/* A further ticket (3.3), step by step, by the encoding of a ticket for the KDC and its session key. `subkey` has as many octets as the session key, random, fresh for
-   each exchange and the same in each of its calls. All else as krb_client_initial, but that an exchange may begin with an offset; KRB_INVALID, KRB_TRUNCATED or KRB_UNSUPPORTED also where `ticket` is no encoding of a
-   ticket, KRB_NUMBER where the encryption type of the session key is not supported. */
+/* A further ticket (3.3), step by step, by the encoding of a ticket for the KDC and its session key. `subkey` has as many octets as the session key, random,
+   fresh for each exchange and the same in each of its calls. All else as krb_client_initial, but that an exchange may begin with an offset; KRB_INVALID,
+   KRB_TRUNCATED or KRB_UNSUPPORTED also where `ticket` is no encoding of a ticket, KRB_NUMBER where the encryption type of the session key is not supported. */
 krb_status krb_client_ticket(const krb_client_terms *terms, const size_t *options, size_t options_count, const size_t *flags, size_t flags_count,
                              const int32_t *etypes, size_t etypes_count, const uint8_t *client, size_t client_size, const uint8_t *server,
                              size_t server_size, const uint8_t *ticket, size_t ticket_size, int32_t session_etype, const uint8_t *session_key,
@@ -1107,24 +1135,27 @@ typedef struct krb_ap_terms {
     uint32_t microseconds;    /* after it, 0 to 999999 */
     uint32_t client_type;     /* the type of the client's name (6.2): usually 1 */
     uint32_t sequence_number; /* of the client's first message */
-    uint32_t gss_flags;       /* of the context (RFC 4121, 4.1.1.1): 2 mutual authentication, 4 replay, 8 sequence, 16 confidentiality, 32 integrity; not 1, delegation */
+    uint32_t gss_flags;       /* of the context (RFC 4121, 4.1.1.1): 2 mutual authentication, 4 replay, 8 sequence, 16 confidentiality, 32 integrity; not 1,
+                                 delegation */
     uint32_t settings;        /* KRB_AP_.., added; other bits are not looked at */
     int32_t session_etype;    /* the encryption type of the session key and of the subkey */
 } krb_ap_terms;
 
-/* The AP-REQ for a service (3.2.2), by the encoding of a ticket and its session key. `subkey` has as many octets as the session key, random, or none: then the request
-   has none. `bindings` is the hash of channel bindings (krb_channel_bindings, 16 octets), or no octets where there are none. `random` has 16 octets, fresh.
-   KRB_DONE; KRB_ROOM. KRB_NOT_GRANTED: *rule says why no request is made. KRB_SEED_SIZE: `random` has not 16 octets, or `bindings` neither 0 nor 16. KRB_NUMBER: the encryption
-   type is not supported. KRB_INVALID: `client` is no name with a realm. KRB_INVALID, KRB_TRUNCATED, KRB_UNSUPPORTED: `ticket` is no encoding of a ticket. KRB_MEMORY.
-   But for KRB_NOT_GRANTED *rule is 0. */
+/* The AP-REQ for a service (3.2.2), by the encoding of a ticket and its session key. `subkey` has as many octets as the session key, random, or none: then the
+   request has none. `bindings` is the hash of channel bindings (krb_channel_bindings, 16 octets), or no octets where there are none. `random` has 16 octets,
+   fresh.
+   KRB_DONE; KRB_ROOM. KRB_NOT_GRANTED: *rule says why no request is made. KRB_SEED_SIZE: `random` has not 16 octets, or `bindings` neither 0 nor 16.
+   KRB_NUMBER: the encryption type is not supported. KRB_INVALID: `client` is no name with a realm. KRB_INVALID, KRB_TRUNCATED, KRB_UNSUPPORTED: `ticket` is no
+   encoding of a ticket. KRB_MEMORY. But for KRB_NOT_GRANTED *rule is 0. */
 krb_status krb_client_ap_request(const krb_ap_terms *terms, const uint8_t *client, size_t client_size, const uint8_t *ticket, size_t ticket_size,
                                  const uint8_t *session_key, size_t session_key_size, const uint8_t *subkey, size_t subkey_size,
                                  const uint8_t *bindings, size_t bindings_size, const uint8_t *random, size_t random_size, uint32_t *rule, uint8_t *out,
                                  size_t room, size_t *size);
 
-/* Whether an AP-REP confirms the service (3.2.5): it opens under the session key to the very time that was sent. Hands out the encoding of its EncAPRepPart (5.5.2), in
-   which the service's subkey and the number of its first message stand.
-   KRB_DONE; KRB_ROOM. KRB_NOT_GRANTED: *rule says which rule is broken. KRB_NUMBER: the encryption type is not supported. KRB_MEMORY. But for KRB_NOT_GRANTED *rule is 0. */
+/* Whether an AP-REP confirms the service (3.2.5): it opens under the session key to the very time that was sent. Hands out the encoding of its EncAPRepPart
+   (5.5.2), in which the service's subkey and the number of its first message stand.
+   KRB_DONE; KRB_ROOM. KRB_NOT_GRANTED: *rule says which rule is broken. KRB_NUMBER: the encryption type is not supported. KRB_MEMORY. But for KRB_NOT_GRANTED
+   *rule is 0. */
 krb_status krb_client_ap_reply(int32_t session_etype, const uint8_t *session_key, size_t session_key_size, int64_t seconds, uint32_t microseconds,
                                const uint8_t *reply, size_t reply_size, uint32_t *rule, uint8_t *out, size_t room, size_t *size);
 
@@ -1212,6 +1243,7 @@ static inline const char *krb_status_text(krb_status status) {
     case KRB_PROXY_MSG_TYPE: return "the msg-type of another message";
     case KRB_NOT_ACCEPTED: return "a token that a rule refuses";
     case KRB_NOT_GRANTED: return "a reply or a request that a rule refuses";
+    case KRB_UNLESS_REPEATED: return "a client that is let in unless the replay cache has it";
     default: return "an unknown status";
     }
 }

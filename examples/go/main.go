@@ -6,7 +6,7 @@
 // It does not stand in the arguments, since other users of the machine see those. The exit status is
 // 1 if the library refuses or the password cannot be read, and 2 if the arguments are wrong.
 //
-// PKG_CONFIG_PATH names the folder of krbc.pc, and LD_LIBRARY_PATH that of libkrbc.so.1, where they
+// PKG_CONFIG_PATH names the folder of krbc.pc, and LD_LIBRARY_PATH that of libkrbc.so.2, where they
 // are not where the system looks.
 package main
 

@@ -1,6 +1,7 @@
-"""Serves a page to those who have a ticket: serve.py [--ask] [--new] KEYTAB CACHE PORT [CERTIFICATE KEY], on 127.0.0.1, with TLS and channel bindings where
-there is a certificate; --ask wants MICs over the list of mechanisms, of each client that speaks SPNEGO. --new is said once, of a keytab with which nobody was
-let in before: without it a CACHE that is made now lets in nobody for the first five minutes."""
+"""Serves a page to those who have a ticket: serve.py [--ask] [--new] [--server NAME] KEYTAB CACHE PORT [CERTIFICATE KEY], on 127.0.0.1, with TLS and channel
+bindings where there is a certificate; --ask wants MICs over the list of mechanisms, of each client that speaks SPNEGO. --new is said once, of a keytab with
+which nobody was let in before: without it a CACHE that is made now lets in nobody for the first five minutes. --server names the service for which tickets have
+to be, as HTTP/www.home.test: without it HTTP at any host of which the KEYTAB has a key, and no other service."""
 
 import logging
 import os
@@ -47,14 +48,18 @@ def page(environ, start_response):
     return [body]
 
 
-options, words = {"--ask": False, "--new": False}, sys.argv[1:]
+options, words = {"--ask": False, "--new": False, "--server": "HTTP"}, sys.argv[1:]
 while words and words[0] in options:
-    options[words.pop(0)] = True
+    word = words.pop(0)
+    options[word] = words.pop(0) if word == "--server" and words else word != "--server"
+if len(words) not in (3, 5) or not options["--server"]:
+    sys.exit(__doc__)
 keytab, cache, port, *files = words
 logging.basicConfig(format="%(name)s: %(message)s")
 if options["--new"] and os.path.lexists(cache):
     sys.exit("serve.py: --new is said once, and %s is there: leave it out" % cache)
-acceptor = krb.Acceptor(keytab, replay_cache=krb.FileReplayCache(cache, None if options["--new"] else "now"))
+replays = krb.FileReplayCache(cache, None if options["--new"] else "now")
+acceptor = krb.Acceptor(keytab, replay_cache=replays, server=options["--server"])
 application = Negotiate(page, acceptor, bindings_of(files[0]) if files else None, options["--ask"])
 with make_server("127.0.0.1", int(port), application, Server, Connection) as server:
     if files:

@@ -32,6 +32,15 @@ def refused(call):
     return None
 
 
+def refused_as(call):
+    """The name of the status by which a call refuses; None where it does not."""
+    try:
+        call()
+    except krb.Refused as error:
+        return error.status.name
+    return None
+
+
 def fails(call, *kinds):
     try:
         call()
@@ -48,7 +57,7 @@ def try_facts(realm, title, client, context, service, user, is_delegated):
     expect(context.client == user, "%s: the client is %s, and not %s" % (title, context.client, user))
     expect((context.server, context.server_components) == (server, (service, "localhost")), "%s: the server is %s" % (title, context.server))
     known = krb.ContextFlag(facts.flags) & krb.ContextFlag(0x103F)
-    expect(context.flags & krb.ContextFlag(0x103F) == known, "%s: the flags are %r, and not %r" % (title, context.flags, known))
+    expect(context.flags == known, "%s: the flags are %r, and not %r" % (title, context.flags, known))
     expect((context.delegated is not None) == is_delegated, "%s: delegated: %r" % (title, context.delegated))
     if is_delegated:
         expect(krb.decode(context.delegated, "KRB-CRED")["msg-type"] == 22, "%s: the delegated credentials are no KRB-CRED" % title)
@@ -109,8 +118,14 @@ def try_context(realm, title, make, acceptor, service, words, user="ann@" + REAL
             expect((third is not None) == (not context.is_complete), "%s: a third message: %r" % (title, third))
             if third is not None:
                 expect(fails(lambda: context.get_mic(b""), RuntimeError), "%s: a message before the third one" % title)
-                expect(fails(lambda: context.confirm(context.reply), krb.Refused), "%s: the reply as the third message" % title)
+                for what, message, status in (
+                    ("the reply", context.reply, "DIRECTION"), ("a cut one", third[:-1], "INVALID"), ("nothing", b"", "INVALID"),
+                    ("a changed one", third[:-1] + bytes([third[-1] ^ 1]), "INTEGRITY"),
+                ):
+                    error = refused_as(lambda: context.confirm(message))
+                    expect(error == status and not context.is_complete, "%s: %s as the third message: %s" % (title, what, error))
                 context.confirm(third)
+                expect(fails(lambda: context.confirm(third), RuntimeError), "%s: the third message twice" % title)
         expect(client.is_complete() and context.is_complete, "%s: the context is not complete" % title)
         try_facts(realm, title, client, context, service, user, "deleg" in words)
         try_messages(title, client, context, "dce" in words)

@@ -9,7 +9,8 @@ import krb
 from checks import expect
 from clients import MitClient
 from contexts import refused
-from units import in_child
+from sealing import Request, field, keys_of, put
+from units import in_child, raised
 
 
 def token_of(service="e18", words=("mutual",)):
@@ -175,8 +176,39 @@ def try_options(realm, keytab):
     for address in ("127.0.0.1", "::1", "::ffff:127.0.0.1", "fe80::1%lo", None):
         expect(rule_of(krb.Acceptor(keytab, replay_cache=False), token_of(), address=address) is None, "the address %s" % address)
     required = krb.Acceptor(keytab, replay_cache=False, addresses_required=True)
-    got = [rule_of(required, token_of(), address=address) for address in (None, "127.0.0.1")]
-    expect(got == [None, "OTHER_ADDRESS"], "a ticket that names no addresses: %s" % got)
+    expect(rule_of(required, token_of(), address="127.0.0.1") == "OTHER_ADDRESS", "a ticket that names no addresses")
+    error = raised(lambda: required.accept(token_of()), True)
+    expect(type(error) is ValueError and "addresses_required" in str(error), "no address, and addresses are required: %r" % error)
+
+
+def try_named(keytab):
+    """For which service tickets have to be, and of which realm clients."""
+    token = token_of("HTTP")
+    for server, wanted in (
+        ("HTTP", None), ("HTTP@HOME.TEST", None), ("HTTP/localhost", None), ("HTTP/localhost@HOME.TEST", None), (None, None),
+        ("e18", "NOT_US"), ("HTTP/www", "NOT_US"), ("HTTP/localhost@HOME", "NOT_US"), ("http/localhost", "NOT_US"), ("HTTP/localhost/more", "NOT_US"),
+        ("localhost", "NOT_US"),
+    ):
+        got = rule_of(krb.Acceptor(keytab, replay_cache=False, server=server), token)
+        expect(got == wanted, "a ticket for HTTP/localhost@HOME.TEST, and the service %s: %s" % (server, got))
+    for realm, wanted in ((None, None), ("HOME.TEST", None), ("home.test", "CLIENT_REALM"), ("HOME", "CLIENT_REALM")):
+        got = rule_of(krb.Acceptor(keytab, replay_cache=False, client_realm=realm), token)
+        expect(got == wanted, "a client of HOME.TEST, and the realm %s: %s" % (realm, got))
+    bound = krb.Acceptor(keytab, replay_cache=False)
+    expect(rule_of(bound, token, channel_bindings=b"") == "BINDINGS", "channel bindings of no data, which the client does not have")
+    early = krb.Acceptor(keytab, replay_cache=krb.ReplayCache(-5))
+    expect([rule_of(early, token), rule_of(early, token)] == [None, "REPEAT"], "a cache that is whole since before 1970")
+
+
+def try_anonymous(keytab):
+    """A client without a name (RFC 8062), whose ticket is sealed again with the flag of one."""
+    keys = keys_of(keytab)
+    request = Request(token_of(), keys)
+    flags = int.from_bytes(field(request.part, 0)[1][1:5], "big") | 1 << 31 - 16
+    put(request.part, 0, [3, bytes(1) + flags.to_bytes(4, "big")])
+    token = request.seal().token()
+    got = [rule_of(krb.Acceptor(keytab, replay_cache=False, anonymous=anonymous, pac="ignored"), token) for anonymous in (False, True)]
+    expect(got == ["ANONYMOUS", None], "a client without a name: %s" % got)
 
 
 def try_service(realm):
@@ -188,4 +220,6 @@ def try_service(realm):
     try_threads(keytab)
     try_messages(keytab)
     try_options(realm, keytab)
+    try_named(keytab)
+    try_anonymous(keytab)
     try_keytab(realm)

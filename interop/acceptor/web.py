@@ -93,6 +93,8 @@ def try_tokens(site, krb):
 
 def try_refused(site, spnego, token, negoex):
     """First messages that get nobody in, and then the token that they were made of."""
+    from clients import MitClient
+
     kerberos = spnego.KERBEROS
     for what, sent in (
         ("another mechanism first", value(spnego.make_neg_token_init([negoex, kerberos], token))),
@@ -103,6 +105,7 @@ def try_refused(site, spnego, token, negoex):
         ("Basic", "Basic YW5uOmE="),
         ("NTLM", value(b"NTLMSSP\0\1\0\0\0")),
         ("octets past ASCII", "Negotiate \xff\xfe"),
+        ("a ticket for another service of the keytab", value(MitClient("e18", ["mutual"]).begin())),
     ):
         status, _, page = site.get(sent)
         expect(status == 401 and "ann" not in page, "%s: %d %s" % (what, status, page))
@@ -134,4 +137,4 @@ def try_web(realm, environment):
     status, _ = tls.curl("--negotiate", "-u", ":")
     say("curl over TLS, where channel bindings are checked: %d" % status)
     log = realm.log()
-    expect("REPEAT: " in log and "BINDINGS: " in log and "Traceback" not in log, "the log of the example: %s" % log)
+    expect(all(rule + ": " in log for rule in ("REPEAT", "BINDINGS", "NOT_US")) and "Traceback" not in log, "the log of the example: %s" % log)

@@ -123,18 +123,26 @@ def listed(text):
     return b"".join(each.encode("ascii") + b"\xff" for each in [realm, *name.split("/")]) + b"\xfe"
 
 
+# Options of krb_accept, by the settings of a row (crates/test_crypto/src/accepted.rt).
+OPTIONS = {1: 1, 2: 2, 16: 4, 32: 16, 64: 1024}
+
+
 def accepted_rows(lines):
     numbers = rules("KRB_RULE_")
     rows = table_of("test_crypto", "accepted", 6)
     if len(rows) != len(lines):
         raise SystemExit("expect_logins: crates/test_crypto has another count of rows than of lines")
-    for (name, keytab, clock, bindings, settings, token), line in zip(rows, lines):
-        first = ["accept", name, keytab, clock, bindings, str(int(settings) & 3), token]
+    for (name, keytab, clock, bindings, settings, token, *terms), line in zip(rows, lines):
+        # `logins` names no server and no realm.
+        if terms:
+            continue
+        options = sum(option for setting, option in OPTIONS.items() if int(settings) & setting)
+        first = ["accept", name, keytab, clock, bindings, str(options), token]
         refused = re.match(r"\S+: refused, (\w+) (\d+);", line)
         if refused:
             yield first + [str(numbers[refused[1].upper()]), refused[2]]
             continue
-        let_in = re.match(r"\S+: (\S+) for (\S+), flags (\d+), until (\d+)(?:, key (\d+):(\w+), subkey (?:none|(\d+):(\w+)))?;", line)
+        let_in = re.match(r"\S+: (\S+) for (\S+), flags (\d+), until (\d+)(?:, key (\d+):(\w+), subkey (?:none|(\d+):(\w+)))?[;,]", line)
         client, server, flags, end, etype, key, subtype, subkey = let_in.groups()
         entry = "" if "\\" in client + server else (listed(server) + listed(client)).hex()
         keys = [etype, key, subtype or "0", subkey or ""] if etype else [""] * 4

@@ -29,7 +29,7 @@ static size_t numbers_of(const char *text, size_t *to) {
 static void accept_of(char **columns, struct login *it) {
     it->keytab = octets_of_text(columns[2]), it->bindings = octets_of_text(columns[4]), it->octets = octets_of_text(columns[6]);
     it->acceptor.clock = number_of(columns[3]), it->acceptor.skew = 300, it->acceptor.sequence_number = 4711;
-    it->acceptor.options = (uint32_t)number_of(columns[5]);
+    it->acceptor.options = (uint32_t)number_of(columns[5]) | KRB_ACCEPT_WHOLE_EVER | (it->bindings.count ? KRB_ACCEPT_BOUND : 0);
 }
 
 /* The exchange of a row is as after the request of its nonce, which had the time under the client's key. */
@@ -94,7 +94,7 @@ int login_of(char **columns, struct login *it) {
 }
 
 void drop_login(struct login *it) {
-    drop(&it->octets), drop(&it->key), drop(&it->keytab), drop(&it->bindings), drop(&it->client), drop(&it->server), drop(&it->request), drop(&it->password);
+    drop(&it->octets), drop(&it->key), drop(&it->keytab), drop(&it->bindings), drop(&it->client), drop(&it->server), drop(&it->realm), drop(&it->request), drop(&it->password);
     drop(&it->addresses[0]), drop(&it->addresses[1]);
 }
 
@@ -105,8 +105,8 @@ static const uint8_t any_ticket[] = {0x61, 0x32, 0x30, 0x30, 0xa0, 3,   2,   1, 
                                      0xb,  0x1b, 6,    'k',  'r',  'b', 't', 'g', 't', 0x1b, 1,    'R',  0xa3, 0xc, 0x30, 0xa,  0xa0, 3,    2,    1, 18, 0xa2, 3,    4,   1, 0};
 
 static krb_status accept_called(const struct login *it, struct octets *room, struct login_answer *to) {
-    return krb_accept(&it->acceptor, it->keytab.at, it->keytab.count, NULL, 0, it->bindings.at, it->bindings.count, NULL, 0, login_random, sizeof login_random,
-            it->octets.at, it->octets.count, &to->accepted, room->at, room->count, &to->size);
+    return krb_accept(&it->acceptor, it->keytab.at, it->keytab.count, NULL, 0, it->server.at, it->server.count, it->realm.at, it->realm.count, it->bindings.at,
+            it->bindings.count, NULL, 0, login_random, sizeof login_random, it->octets.at, it->octets.count, &to->accepted, room->at, room->count, &to->size);
 }
 
 static krb_status initial_called(const struct login *it, struct octets *room, struct login_answer *to) {

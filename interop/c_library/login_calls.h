@@ -12,7 +12,7 @@ enum { LOGIN_COLUMNS = 22, MOST_NUMBERS = 16, LOGIN_ROOM = 8192 };
 struct login {
     enum login_kind kind;
     char name[128];
-    struct octets octets, key, keytab, bindings, client, server, request, password; /* octets: the token, the reply, the ticket, the data */
+    struct octets octets, key, keytab, bindings, client, server, realm, request, password; /* octets: the token, the reply, the ticket, the data */
     int32_t etype;
     krb_acceptor acceptor;
     krb_client_terms terms;

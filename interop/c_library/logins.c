@@ -6,7 +6,8 @@
 #include <stdlib.h>
 #include <string.h>
 
-enum { OWN_SUBKEY = 16, TIME_SIZE = 12, YEAR = 31536000 };
+/* The key usage of the part of an AP-REP (RFC 4120, 7.5.1). */
+enum { OWN_SUBKEY = 16, TIME_SIZE = 12, YEAR = 31536000, AP_REP_PART = 12 };
 
 static size_t step = 1, row_number;
 
@@ -99,7 +100,7 @@ static void try_turned_token(const struct login *it, const char *bits) {
         if (free_bits(bits, k) >> k % 8 & 1) {
             struct octets room;
             struct login_answer answer = called_in(&turned, &room);
-            EXPECT(answer.status == KRB_DONE, "%s, a bit of octet %zu: status %u", it->name, k, answer.status);
+            EXPECT(answer.status == KRB_UNLESS_REPEATED, "%s, a bit of octet %zu: status %u", it->name, k, answer.status);
             drop(&room);
         } else {
             try_refused(&turned, 0, "a bit of octet", k);
@@ -127,6 +128,45 @@ static void time_of(const uint8_t *entry, krb_ap_terms *to) {
     to->microseconds = (uint32_t)entry[8] << 24 | (uint32_t)entry[9] << 16 | (uint32_t)entry[10] << 8 | entry[11];
 }
 
+/* What krb_confirm says of a client's message, after the service's own one: this status. */
+static void try_confirmed(const struct login *it, const struct login *own, const struct octets *message, krb_status wanted, const char *what, size_t at) {
+    krb_status status = krb_confirm((uint32_t)own->etype, own->key.at, own->key.count, own->octets.at, own->octets.count, it->acceptor.sequence_number, message->at,
+            message->count);
+    EXPECT(status == wanted, "%s, a third message, %s %zu: status %u, and not %u", it->name, what, at, status, wanted);
+}
+
+/* The client's last message in DCE style has the service's number, under another confounder; it is refused where it is the service's own, cut, changed, or under another
+   key, and where the number is another. */
+static void try_third_leg(const struct login *it, const struct login *own) {
+    struct octets cipher = field_of("AP-REP", "enc-part.cipher", &own->octets), part = room_of(cipher.count), third = octets_of(own->octets.at, own->octets.count);
+    size_t at = third.count - cipher.count, size;
+    krb_status status = krb_decrypt(own->etype, own->key.at, own->key.count, AP_REP_PART, cipher.at, cipher.count, part.at, part.count, &part.count);
+    EXPECT(status == KRB_DONE, "%s: the answer is not opened: %u", it->name, status);
+    status = krb_encrypt(own->etype, own->key.at, own->key.count, AP_REP_PART, login_random + 1, krb_confounder_size(own->etype), part.at, part.count, third.at + at,
+            cipher.count, &size);
+    EXPECT(status == KRB_DONE && size == cipher.count, "%s: no third message is made: %u", it->name, status);
+    try_confirmed(it, own, &third, KRB_DONE, "as it should be", 0);
+    try_confirmed(it, own, &own->octets, KRB_DIRECTION, "the service's own", 0);
+    struct login other = *it, under = *own;
+    other.acceptor.sequence_number ^= 1;
+    try_confirmed(&other, own, &third, KRB_NOT_ACCEPTED, "of another number", 0);
+    under.etype = 23;
+    try_confirmed(it, &under, &third, KRB_INTEGRITY, "under etype", 23);
+    under = *own, under.key = octets_of(own->key.at, own->key.count);
+    under.key.at[0] ^= 2;
+    try_confirmed(it, &under, &third, KRB_INTEGRITY, "under another key", 0);
+    for (size_t k = row_number % step; k < third.count; k += step) {
+        struct octets cut = octets_of(third.at, k);
+        try_confirmed(it, own, &cut, KRB_INVALID, "cut", k);
+        drop(&cut);
+        if (k < at) continue;
+        third.at[k] ^= 1 << k % 8;
+        try_confirmed(it, own, &third, KRB_INTEGRITY, "a bit of octet", k);
+        third.at[k] ^= 1 << k % 8;
+    }
+    drop(&cipher), drop(&part), drop(&third), drop(&under.key);
+}
+
 /* The answer confirms the service to the client: it has the client's time, the service's number and, where one is asked for, its subkey, of random octets. */
 static void try_answer(const struct login *it, const struct login_answer *answer, const uint8_t *out) {
     const krb_accepted *told = &answer->accepted;
@@ -148,6 +188,7 @@ static void try_answer(const struct login *it, const struct login_answer *answer
         EXPECT(number.count == wanted.count && !memcmp(number.at, wanted.at, wanted.count), "%s: another subkey in the answer", it->name);
         drop(&number);
     }
+    try_third_leg(it, &reply);
     reply.ap.microseconds ^= 1;
     try_refused(&reply, KRB_CLIENT_RULE_TIME, "another time", 0);
     reply.ap.microseconds ^= 1, reply.key.at[0] ^= 2;
@@ -170,6 +211,78 @@ static void try_client(const struct login *it, const struct login_answer *answer
     EXPECT(told->rule == 0 && told->code == 0 && told->has_seen == 0 && told->seen == 0, "%s: a refusal is told", it->name);
     if (told->reply.size) try_answer(it, answer, out);
     EXPECT(told->reply.size || !(told->flags & 2), "%s: no answer", it->name);
+}
+
+/* A service that asks for this name and this realm, and the rule by which it refuses; 0 of one that lets the client in. */
+static void try_asked(const struct login *it, struct octets server, struct octets realm, uint32_t rule, const char *what) {
+    struct login other = *it;
+    other.server = server, other.realm = realm;
+    if (rule) {
+        try_refused(&other, rule, what, 0);
+    } else {
+        struct octets room;
+        struct login_answer answer = called_in(&other, &room);
+        EXPECT(answer.status == KRB_UNLESS_REPEATED, "%s, %s: status %u, rule %u", it->name, what, answer.status, answer.accepted.rule);
+        drop(&room);
+    }
+    drop(&server), drop(&realm);
+}
+
+/* A service of a name, and of clients of a realm: those of an entry, which are each a realm and components, with ff behind each, and fe behind these. */
+static void try_named(const struct login *it, const char *names) {
+    struct octets entry = octets_of_text(names), none = {NULL, 0};
+    uint8_t *realm = entry.at, *first = (uint8_t *)memchr(realm, 0xff, entry.count) + 1, *end = memchr(first, 0xfe, entry.count - (size_t)(first - entry.at));
+    uint8_t *client = end + 1, *client_end = memchr(client, 0xff, entry.count - (size_t)(client - entry.at));
+    char text[512];
+    int size = snprintf(text, sizeof text, "%.*s", (int)(end - 1 - first), (const char *)first);
+    int parts = 1;
+    for (int k = 0; k < size; k++)
+        if ((uint8_t)text[k] == 0xff) text[k] = '/', parts++;
+    try_asked(it, text_octets(text), none, 0, "a service of its name");
+    snprintf(text + size, sizeof text - (size_t)size, "@%.*s", (int)(first - 1 - realm), (const char *)realm);
+    try_asked(it, text_octets(text), none, 0, "a service of its name and realm");
+    try_asked(it, none, octets_of(client, (size_t)(client_end - client)), 0, "clients of its realm");
+    strcat(text, "X");
+    try_asked(it, text_octets(text), none, KRB_RULE_NOT_US, "a service of another realm");
+    if (parts == 2) {
+        *strchr(text, '/') = 0;
+        try_asked(it, text_octets(text), none, 0, "a service of its name at any host");
+    }
+    try_asked(it, text_octets("nobody/nowhere"), none, KRB_RULE_NOT_US, "another service");
+    try_asked(it, none, text_octets("NOWHERE.TEST"), KRB_RULE_CLIENT_REALM, "clients of another realm");
+    struct login wrong = *it;
+    wrong.server = text_octets("a@b@c");
+    try_status(&wrong, KRB_INVALID, "what is no name of a service");
+    drop(&wrong.server);
+    wrong.server = none, wrong.realm = text_octets("\xc3\xa9");
+    try_status(&wrong, KRB_INVALID, "a realm that is not of ASCII");
+    drop(&wrong.realm), drop(&entry);
+}
+
+/* Options that there are not, or that contradict what else is asked; and since when the replay cache is whole. */
+static void try_options(const struct login *it) {
+    static const struct {
+        uint32_t added;
+        const char *what;
+    } wrong[] = {{2048, "an option that there is not"}, {0x80000000, "the last option"}, {KRB_ACCEPT_PAC_IGNORED | KRB_ACCEPT_PAC_REQUIRED, "both options of PACs"},
+                 {KRB_ACCEPT_ADDRESSES_REQUIRED, "addresses, and none"}};
+    struct login other = *it;
+    for (size_t k = 0; k < sizeof wrong / sizeof *wrong; k++) {
+        other.acceptor.options = it->acceptor.options | wrong[k].added;
+        try_status(&other, KRB_NUMBER, wrong[k].what);
+    }
+    other.acceptor.options = it->acceptor.options ^ KRB_ACCEPT_BOUND;
+    try_status(&other, KRB_NUMBER, it->bindings.count ? "bindings that are not asked for" : "no bindings, and they are asked for");
+    other.acceptor.options = it->acceptor.options, other.acceptor.whole_since = 1;
+    try_status(&other, KRB_NUMBER, "whole since ever, and since a time");
+    other.acceptor.options = it->acceptor.options & ~(uint32_t)KRB_ACCEPT_WHOLE_EVER;
+    try_asked(&other, (struct octets){NULL, 0}, (struct octets){NULL, 0}, 0, "whole since long ago");
+    other.acceptor.whole_since = it->acceptor.clock + 1;
+    try_refused(&other, KRB_RULE_UNREMEMBERED, "whole since now", 0);
+    for (int since = -1; since <= 0; since++) {
+        other.acceptor.whole_since = since;
+        try_status(&other, KRB_NUMBER, "whole since no time");
+    }
 }
 
 /* A service whose keytab, bindings or clock are others. */
@@ -203,14 +316,16 @@ static void try_accept(const struct login *it, char **row) {
         drop(&room);
         return;
     }
-    EXPECT(answer.status == KRB_DONE, "%s: status %u, rule %u", it->name, answer.status, answer.accepted.rule);
-    if (answer.status == KRB_DONE) {
+    EXPECT(answer.status == KRB_UNLESS_REPEATED, "%s: status %u, rule %u", it->name, answer.status, answer.accepted.rule);
+    if (answer.status == KRB_UNLESS_REPEATED) {
         EXPECT(is_untouched(&room, answer.size), "%s touches more of its room", it->name);
         try_client(it, &answer, room.at, row);
         try_rooms(it, &answer, &room);
         try_cuts(it, 0);
         try_turned_token(it, row[17]);
         try_other_service(it);
+        try_options(it);
+        if (row[15][0]) try_named(it, row[15]);
     }
     drop(&room);
     if (it->acceptor.options & KRB_ACCEPT_SUBKEY) return;
@@ -218,7 +333,7 @@ static void try_accept(const struct login *it, char **row) {
     with_subkey.acceptor.options |= KRB_ACCEPT_SUBKEY;
     answer = called_in(&with_subkey, &room);
     size_t own = answer.accepted.reply.size ? answer.accepted.session_key.size : 0; /* it stands in the answer */
-    EXPECT(answer.status == KRB_DONE && answer.accepted.own_subkey.size == own, "%s with a subkey: status %u", it->name, answer.status);
+    EXPECT(answer.status == KRB_UNLESS_REPEATED && answer.accepted.own_subkey.size == own, "%s with a subkey: status %u", it->name, answer.status);
     if (answer.accepted.reply.size) try_answer(&with_subkey, &answer, room.at);
     drop(&room);
 }
@@ -248,8 +363,8 @@ static void try_ap_request(const struct login *it, const struct login *row, cons
     accept.octets = framed(room.at, made.size);
     struct login_answer answer = called_in(&accept, &out);
     const krb_accepted *told = &answer.accepted;
-    EXPECT(answer.status == KRB_DONE, "%s: an AP-REQ is not taken: status %u, rule %u", it->name, answer.status, told->rule);
-    if (answer.status == KRB_DONE) {
+    EXPECT(answer.status == KRB_UNLESS_REPEATED, "%s: an AP-REQ is not taken: status %u, rule %u", it->name, answer.status, told->rule);
+    if (answer.status == KRB_UNLESS_REPEATED) {
         krb_place place = {told->entry.offset + TIME_SIZE, told->entry.size - TIME_SIZE};
         krb_ap_terms seen;
         time_of(out.at + told->entry.offset, &seen);

@@ -53,10 +53,10 @@ int main(int count, char **words) {
     while (next_row(file, row, LOGIN_COLUMNS)) {
         if (!login_of(row, &it)) die("a table has a call that is none");
         try_call(&it);
-        if (it.kind == ACCEPT && it.acceptor.options == 0) {
-            it.acceptor.options = KRB_ACCEPT_SUBKEY;
+        if (it.kind == ACCEPT && it.acceptor.options == KRB_ACCEPT_WHOLE_EVER) {
+            it.acceptor.options |= KRB_ACCEPT_SUBKEY;
             try_call(&it);
-            it.acceptor.options = 0;
+            it.acceptor.options = KRB_ACCEPT_WHOLE_EVER;
         }
         if (login_made(row, &it, &made)) {
             try_call(&made);

@@ -22,7 +22,7 @@ Octets come in as any object with a buffer of octets, as bytes, bytearray or mem
 which are views of it. What a call refuses is `Refused`, whose `status` says why. The calls may be made by several threads at once; they let
 go of the interpreter's lock.
 
-The shared object is what the variable KRBC_LIBRARY names, or `libkrbc.so.1` beside this file, or that of the system's."""
+The shared object is what the variable KRBC_LIBRARY names, or `libkrbc.so.2` beside this file, or that of the system's."""
 
 from krb._items import Form, Item, Leaf, Node, Registry, Role, Secret, find_item, first_error, items, name_of, type_of
 from krb._library import Refused, Status

@@ -6,16 +6,15 @@ import enum
 import threading
 from typing import FrozenSet, List, NamedTuple, Optional, Tuple
 
-from krb import crypto, gss
+from krb import gss
 from krb._items import Registry, Secret, _flags
-from krb._library import Octets, Refused, Status
-from krb._parts import decode
+from krb._library import IN, U32, Call, Octets, Refused, Status
 from krb._window import Order, SequenceWindow
 
 __all__ = ["Context", "ContextFlag", "EncryptionKey", "OutOfOrder"]
 
+_confirm = Call("krb_confirm", U32, IN, IN, U32, IN)
 _EPOCH = datetime.datetime(1970, 1, 1, tzinfo=datetime.timezone.utc)
-_AP_REP_PART = 12  # the key usage of an AP-REP's part (RFC 4120, 7.5.1)
 
 
 class ContextFlag(enum.IntFlag):
@@ -64,7 +63,10 @@ class Accepted(ctypes.Structure):
     """krb_accepted of krb.h."""
 
     _fields_ = (
-        [(name, Place) for name in ("entry", "session_key", "subkey", "own_subkey", "transited", "authorization_data", "restrictions", "delegated", "reply")]
+        [
+            (name, Place)
+            for name in ("entry", "session_key", "subkey", "own_subkey", "pac", "transited", "authorization_data", "restrictions", "delegated", "reply")
+        ]
         + [(name, ctypes.c_int64) for name in ("auth_time", "start_time", "end_time", "sequence_number", "seen")]
         + [(name, ctypes.c_uint32) for name in ("flags", "ticket_flags", "session_etype", "subkey_etype", "transited_type", "rule", "code", "has_seen")]
     )
@@ -183,7 +185,10 @@ class Context(Messages):
     - `auth_time`, `start_time`, `end_time`: of the ticket, in UTC. A service ends what it does for the client at `end_time`.
     - `session_key`, `subkey` of the client, `own_subkey` of the service: None where there is none.
     - `sequence_number` of the client's first message, None where it gives none; `own_sequence_number` of the service's next one.
-    - `authorization_data` of the ticket, `restrictions` of the authenticator: encodings of an AuthorizationData (RFC 4120, 5.2.6), or None.
+    - `pac`: the ticket's PAC, which was verified: its server checksum holds under the service's key, and it names the client. None where there is none, or PACs
+      are ignored. `krb.pac` looks into it.
+    - `authorization_data` of the ticket, `restrictions` of the authenticator: encodings of an AuthorizationData (RFC 4120, 5.2.6), or None. Elements in which a
+      PAC stands are not in them.
     - `transited`: the type of their encoding, and the realms that took part (RFC 4120, 3.3.3.2).
     - `delegated`: the KRB-CRED that the client delegated, or None.
     - `reply`: what is to be sent to the client, or None where it waits for nothing."""
@@ -208,20 +213,21 @@ class Context(Messages):
         self.reply = optional("reply")
         self.own_subkey = key("own_subkey", accepted.session_etype) if self.reply is not None else None
         self.transited = int(accepted.transited_type), accepted.octets("transited", out)
-        self.authorization_data, self.restrictions, self.delegated = map(optional, ("authorization_data", "restrictions", "delegated"))
+        self.pac, self.authorization_data, self.restrictions, self.delegated = map(optional, ("pac", "authorization_data", "restrictions", "delegated"))
         self.sequence_number: Optional[int] = None if accepted.sequence_number < 0 else int(accepted.sequence_number)
         first = self.sequence_number or 0
+        self._waits = ContextFlag.DCE_STYLE in self.flags
         # To a client that gets no AP-REP the service counts from the client's number, as MIT Kerberos and Heimdal do.
-        self._own_first = own_sequence_number if self.reply is not None else first
+        self._own_first = own_sequence_number if self._waits or self.reply is not None else first
         self._begins(self._own_first, first)
-        self._waits = ContextFlag.DCE_STYLE in self.flags and self.reply is not None
 
     def __repr__(self) -> str:
         return "Context(client=%r, server=%r)" % (self.client, self.server)
 
     @property
     def is_complete(self) -> bool:
-        """False where the client has to send the third message of DCE style, for `confirm`."""
+        """False where the client has to send the third message of DCE style, for `confirm`: it needs the reply for it, so that a client of that style which
+        asks for no mutual authentication gets none, and its context is never complete."""
         return not self._waits
 
     def confirm(self, token: Octets) -> None:
@@ -229,18 +235,11 @@ class Context(Messages):
 
         It has to have the sequence number of the service's AP-REP; its time is the client's, of MIT Kerberos the one at which it was made, and is not compared.
 
-        Refused: INVALID, TRUNCATED, UNSUPPORTED where it is no AP-REP; INTEGRITY where the session key does not decrypt it, or it has another sequence number,
-        or is the service's own AP-REP, sent back to it; MEMORY."""
-        message = decode(token, "AP-REP")
-        sealed = message["enc-part"]
-        if (message["pvno"], message["msg-type"]) != (5, 15):
-            raise Refused(Status.INVALID)
-        own = None if self.reply is None else decode(self.reply, "AP-REP")["enc-part"]["cipher"]
-        if sealed["etype"] != self.session_key.etype or sealed["cipher"] == own:
-            raise Refused(Status.INTEGRITY)
-        part = decode(crypto.decrypt(self.session_key.etype, self.session_key.octets, _AP_REP_PART, sealed["cipher"]), "EncAPRepPart")
-        if part.get("seq-number") != self._own_first:
-            raise Refused(Status.INTEGRITY)
+        Refused: INVALID where it is no AP-REP; DIRECTION where it is the service's own AP-REP, sent back to it; INTEGRITY where the session key does not
+        decrypt it; NOT_ACCEPTED where it has another sequence number; MEMORY. RuntimeError: no such message is waited for."""
+        if not self._waits:
+            raise RuntimeError("no third message of DCE style is waited for")
+        _confirm.done(self.session_key.etype, self.session_key.octets, self.reply or b"", self._own_first, token)
         self._waits = False
 
     def _key(self, sender: gss.Sender) -> gss.TokenKey:

@@ -53,6 +53,7 @@ class Status(enum.IntEnum):
     PROXY_MSG_TYPE = 40
     NOT_ACCEPTED = 41
     NOT_GRANTED = 42
+    UNLESS_REPEATED = 43
 
 
 TEXTS = {
@@ -96,6 +97,7 @@ TEXTS = {
     Status.PROXY_MSG_TYPE: "the msg-type of another message",
     Status.NOT_ACCEPTED: "a token that a rule refuses",
     Status.NOT_GRANTED: "a reply or a request that a rule refuses",
+    Status.UNLESS_REPEATED: "a client that is let in unless the replay cache has it",
 }
 
 
@@ -156,7 +158,7 @@ _OUT = [ctypes.c_void_p, ctypes.c_size_t, ctypes.POINTER(ctypes.c_size_t)]
 
 def _load() -> ctypes.CDLL:
     """The shared object that KRBC_LIBRARY names, or that stands beside this file, as in a wheel, or that the loader finds, as a Debian package's."""
-    beside = pathlib.Path(__file__).with_name("libkrbc.so.1")
+    beside = pathlib.Path(__file__).with_name("libkrbc.so.2")
     return ctypes.CDLL(os.environ.get("KRBC_LIBRARY") or (str(beside) if beside.exists() else beside.name))
 
 

@@ -19,7 +19,7 @@ __all__ += ["OutOfOrder", "ReplayCache", "Rule"]
 
 
 class Rule(enum.IntEnum):
-    """The rules of an acceptor, in their order (docs/ACCEPTOR.md). `NONE` is of no refusal."""
+    """The rules of an acceptor, with their numbers in krb.h; docs/ACCEPTOR.md has their order. `NONE` is of no refusal."""
 
     NONE = 0
     NOT_REQUEST = 1
@@ -60,6 +60,9 @@ class Rule(enum.IntEnum):
     CHECKSUM_LAYOUT = 36
     BINDINGS = 37
     DELEGATION = 38
+    ANONYMOUS = 39
+    CLIENT_REALM = 40
+    PAC_PLACE = 41
 
 
 _TEXTS = {
@@ -70,7 +73,7 @@ _TEXTS = {
     Rule.TICKET_VERSION: "the version of the ticket is not 5",
     Rule.OPTIONS: "the options have fewer than 32 bits",
     Rule.USER_TO_USER: "the ticket is under a session key that the service does not have",
-    Rule.NOT_US: "the keytab has no key for the server that the ticket names",
+    Rule.NOT_US: "the ticket is for another server than the service, or for one of which the keytab has no key",
     Rule.NO_KEY: "the keytab has no key of the ticket's encryption type",
     Rule.KEY_VERSION: "the keytab has no key of the version that the ticket names",
     Rule.TICKET_SUITE: "the ticket's encryption type is not supported",
@@ -102,6 +105,9 @@ _TEXTS = {
     Rule.CHECKSUM_LAYOUT: "the authenticator's checksum is not laid out as one of the GSS-API",
     Rule.BINDINGS: "the client is bound to another channel, or to none",
     Rule.DELEGATION: "the delegated credentials cannot be read",
+    Rule.ANONYMOUS: "the client is anonymous",
+    Rule.CLIENT_REALM: "the service lets in no client of this realm",
+    Rule.PAC_PLACE: "a PAC stands where nobody verifies it, elsewhere than as the only one in an AD-IF-RELEVANT of the ticket; or containers are too deep",
 }
 
 
@@ -195,12 +201,14 @@ _channel_bindings = Call("krb_channel_bindings", U32, IN, U32, IN, IN, has_room=
 _OCTETS = [ctypes.c_char_p, ctypes.c_size_t]
 _SIZE = ctypes.POINTER(ctypes.c_size_t)
 _accept, _make_error = _library.krb_accept, _library.krb_make_error
-_accept.argtypes = [ctypes.POINTER(_Asked)] + _OCTETS * 6 + [ctypes.POINTER(Accepted), ctypes.c_void_p, ctypes.c_size_t, _SIZE]
+_accept.argtypes = [ctypes.POINTER(_Asked)] + _OCTETS * 8 + [ctypes.POINTER(Accepted), ctypes.c_void_p, ctypes.c_size_t, _SIZE]
 _make_error.argtypes = _OCTETS + [ctypes.c_int64, ctypes.c_uint32, ctypes.c_uint32, ctypes.c_bool, ctypes.c_void_p, ctypes.c_size_t, _SIZE]
 _accept.restype = _make_error.restype = ctypes.c_uint32
 
 # KRB_ACCEPT_.. of krb.h.
-_BARE_REQUEST, _OTHER_CHECKSUM, _TRIPLE_DES, _ADDRESSES_REQUIRED, _UNCHECKED_PATH, _WHOLE_SINCE, _SUBKEY = 1, 2, 16, 32, 64, 128, 256
+_BARE_REQUEST, _OTHER_CHECKSUM, _TRIPLE_DES, _ADDRESSES_REQUIRED, _UNCHECKED_PATH = 1, 2, 16, 32, 64
+_WHOLE_EVER, _SUBKEY, _BOUND, _ANONYMOUS = 128, 256, 512, 1024
+_NO_KEYS = b"\5\2"  # a keytab with no entry
 _PAC = {"checked": 0, "ignored": 4, "required": 8}
 _RANDOM = 48
 _SEQUENCE_NUMBERS = 2**30  # as MIT Kerberos: some clients take the highest bits for a sign
@@ -250,11 +258,16 @@ class Acceptor:
     - `bare_request`: an AP-REQ with no frame around it is taken too, as DCE style has it.
     - `other_checksum`: so is an authenticator whose checksum is not of the GSS-API.
     - `pac`: "checked" where a ticket has one, "ignored", or "required".
-    - `triple_des`: session keys and subkeys may be of triple DES. `addresses_required`: a ticket has to name addresses, where the client's is known.
+    - `triple_des`: keys of tickets, session keys and subkeys may be of triple DES. `addresses_required`: a ticket has to name addresses, and `accept` needs the
+      client's.
     - `unchecked_path`: a path of realms is taken that no KDC has checked. `subkey`: the reply has a subkey of the service's.
+    - `server`: the service's name, "HTTP/www.home.test@HOME.TEST" (RFC 1964, 2.1.1); the realm may be left out, and the host, as in "HTTP". Tickets for others
+      are refused, as NOT_US, though the keytab has their keys. None: it is any of which the keytab has a key.
+    - `client_realm`: the realm whose clients are let in; None: any. `anonymous`: so are clients without a name (RFC 8062).
     - `clock`: tells the service's time, in seconds since 1970.
 
-    Refused, when it is made: KEYTAB where the keytab is none, ABSENT where it has no entry, MEMORY. OSError: the file cannot be read."""
+    Refused, when it is made: KEYTAB where the keytab is none, ABSENT where it has no entry, MEMORY. ValueError of what is no name of a server and no realm, as
+    of empty text. OSError: the file cannot be read."""
 
     def __init__(
         self,
@@ -270,6 +283,9 @@ class Acceptor:
         addresses_required: bool = False,
         unchecked_path: bool = False,
         subkey: bool = True,
+        server: Optional[str] = None,
+        client_realm: Optional[str] = None,
+        anonymous: bool = False,
         clock: Callable[[], float] = time.time,
     ) -> None:
         if pac not in _PAC:
@@ -278,10 +294,11 @@ class Acceptor:
             raise ValueError("a skew that has not 32 bits")
         if replay_cache is True:
             raise ValueError("replay_cache is a cache, None or False")
-        switches = bare_request, other_checksum, triple_des, addresses_required, unchecked_path, subkey
-        bits = _BARE_REQUEST, _OTHER_CHECKSUM, _TRIPLE_DES, _ADDRESSES_REQUIRED, _UNCHECKED_PATH, _SUBKEY
+        switches = bare_request, other_checksum, triple_des, addresses_required, unchecked_path, subkey, anonymous
+        bits = _BARE_REQUEST, _OTHER_CHECKSUM, _TRIPLE_DES, _ADDRESSES_REQUIRED, _UNCHECKED_PATH, _SUBKEY, _ANONYMOUS
         self._options = _PAC[pac] + sum(bit for switch, bit in zip(switches, bits) if switch)
-        self._skew, self._clock, self._session_keys = skew, clock, plain(session_keys)
+        self._skew, self._clock, self._session_keys, self._addresses_required = skew, clock, plain(session_keys), addresses_required
+        self._server, self._client_realm = _server(server), _client_realm(client_realm)
         self._cache: Optional[AnyReplayCache] = None
         if not isinstance(replay_cache, bool):
             self._cache = ReplayCache(clock()) if replay_cache is None else replay_cache
@@ -301,26 +318,30 @@ class Acceptor:
     def accept(self, token: Octets, channel_bindings: Union[Octets, ChannelBindings, None] = None, address: Optional[str] = None) -> Context:
         """The context with the client that sent this token, which is let in. Its `reply` is to be sent to the client.
 
-        `channel_bindings` are the service's, and are checked where they are given: data, as b"tls-server-end-point:" and a hash, or `ChannelBindings`.
-        `address` is the client's, of IPv4 or IPv6, where it is known.
+        `channel_bindings` are the service's, and are checked where they are given, which a service that has some always does: data, as
+        b"tls-server-end-point:" and a hash, or `ChannelBindings`. `address` is the client's, of IPv4 or IPv6, where it is known.
 
-        NotAccepted: it is not let in. Refused: KEYTAB where `session_keys` is none, MEMORY, and then nobody is let in either. ValueError of what is no
-        address. What a replay cache raises, but `Forgotten`, is raised on, as a `ReplayCache` does in another process than its own."""
+        NotAccepted: it is not let in. Refused: KEYTAB where `session_keys` is none, MEMORY, and then nobody is let in either. ValueError of what is no address,
+        and of none where `addresses_required` asks for one. What a replay cache raises, but `Forgotten`, is raised on, as a `ReplayCache` does in another
+        process than its own."""
+        if self._addresses_required and address is None:
+            raise ValueError("the client's address is needed, since addresses_required is set")
         token, keytab, now = plain(token), self._keytab, self._clock()
-        bindings = b""
+        options, bindings = self._options, b""
         if channel_bindings is not None:
             given = channel_bindings if isinstance(channel_bindings, ChannelBindings) else ChannelBindings(plain(channel_bindings))
-            bindings = given.hash()
+            options, bindings = options | _BOUND, given.hash()
         address_type, octets = _address(address)
         seconds, since = math.floor(now), None if self._cache is None else self._cache.whole_since
-        options = self._options | (0 if since is None else _WHOLE_SINCE)
-        asked = _Asked(seconds, since or 0, self._skew, options, address_type, secrets.randbelow(_SEQUENCE_NUMBERS))
-        status, accepted, out = _answer(asked, keytab, self._session_keys, bindings, octets, token)
+        options |= _WHOLE_EVER if since is None else 0
+        # (a cache that is whole since before 1970 is whole since 1970 too)
+        asked = _Asked(seconds, 0 if since is None else max(since, 1), self._skew, options, address_type, secrets.randbelow(_SEQUENCE_NUMBERS))
+        status, accepted, out = _answer(asked, keytab, self._session_keys, self._server, self._client_realm, bindings, octets, token)
         if status == Status.NOT_ACCEPTED:
             seen = accepted.seen if accepted.has_seen else None
             why = _why(Rule(accepted.rule), seen, seconds, self._skew, since)
             raise self._refusal(accepted.rule, accepted.code, seen, why, now, keytab, token)
-        if status != Status.DONE:
+        if status != Status.UNLESS_REPEATED:
             raise Refused(status)
         self._remember(accepted.octets("entry", out), now, keytab, token)
         return Context(accepted, out, asked.sequence_number)
@@ -347,10 +368,37 @@ class Acceptor:
         return NotAccepted(rule, code, seen, error, why)
 
 
-def _answer(asked: _Asked, keytab: bytes, session_keys: bytes, bindings: bytes, address: bytes, token: bytes) -> Tuple[int, Accepted, bytes]:
+def _server(name: Optional[str]) -> bytes:
+    """The octets of a service's name; none of None. ValueError: it is no name."""
+    octets = b"" if name is None else name.encode("utf-8", "surrogateescape")
+    if name is not None and not (octets and _is_taken(octets, b"")):
+        raise ValueError('server=%r is no name of a service, as "HTTP/www.home.test@HOME.TEST", "HTTP/www.home.test" or "HTTP" is one' % name)
+    return octets
+
+
+def _client_realm(realm: Optional[str]) -> bytes:
+    """The octets of a realm; none of None. ValueError: it is none."""
+    octets = b"" if realm is None else realm.encode("utf-8", "surrogateescape")
+    if realm is not None and not (octets and _is_taken(b"", octets)):
+        raise ValueError("client_realm=%r is no realm, which has letters of ASCII" % realm)
+    return octets
+
+
+def _is_taken(server: bytes, client_realm: bytes) -> bool:
+    """Whether the library takes these for a server and a realm: it looks at them before the token. Refused: MEMORY."""
+    status, _, _ = _answer(_Asked(0, 0, 0, _WHOLE_EVER, 0, 0), _NO_KEYS, b"", server, client_realm, b"", b"", b"")
+    if status not in (Status.INVALID, Status.NOT_ACCEPTED):
+        raise Refused(status)
+    return status == Status.NOT_ACCEPTED
+
+
+def _answer(
+    asked: _Asked, keytab: bytes, session_keys: bytes, server: bytes, client_realm: bytes, bindings: bytes, address: bytes, token: bytes
+) -> Tuple[int, Accepted, bytes]:
     """The status of krb_accept, what it tells, and the octets in which the places are."""
     accepted, size, room = Accepted(), ctypes.c_size_t(), 3 * len(token) + 1024
-    given = [each for octets in (keytab, session_keys, bindings, address, secrets.token_bytes(_RANDOM), token) for each in (octets, len(octets))]
+    random = secrets.token_bytes(_RANDOM)
+    given = [each for octets in (keytab, session_keys, server, client_realm, bindings, address, random, token) for each in (octets, len(octets))]
     while True:
         out = ctypes.create_string_buffer(room)
         status = _accept(ctypes.byref(asked), *given, ctypes.byref(accepted), out, room, ctypes.byref(size))

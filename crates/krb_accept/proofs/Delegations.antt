@@ -7,7 +7,7 @@ use Rattle.krb_enc_parts.specs.declared.data_types.credentials.EncKrbCredPartInn
 use Rattle.krb_messages.specs.declared.messages.credentials.KrbCredInner.{KrbCredInner}
 use Rattle.krb_types.specs.declared.data_types.encryption.EncryptedData.{EncryptedData}
 use Rattle.krb_types.specs.declared.data_types.encryption.EncryptionKey.{EncryptionKey}
-use Rattle.krb_accept.specs.Delegation.{HasCredentials, HasNoCredentials, HasNumbers, IsNoPart, IsPart, IsUnderSubkey}
+use Rattle.krb_accept.specs.Delegation.{HasCredentials, HasNoCredentials, HasNumbers, IsNoPart, IsPaired, IsPart, IsUnderSubkey}
 use Rattle.krb_accept.specs.Opening.{Encodes}
 use Rattle.krb_accept.specs.WithKey.{IsSealedWith}
 use Rattle.krb_accept.specs.declared.delegation.Delegated.{Delegated}
@@ -36,7 +36,13 @@ no_key t subkey sealed is = subst (λ (s : Option EncryptionKey). HasNone (IsUnd
 -- no key decrypts the part of the message
 pub not_opened : (t : EncodingOf EncKrbCredPartInner) (a : Accepted) (m : KrbCredInner) (sealed : EncryptedData) → HasNumbers m → sealed ≡ m.enc_part → IsNoPart t a sealed
     → HasNoCredentials t a m
-not_opened t a m sealed numbers same none = inr (numbers, subst (IsNoPart t a) same none)
+not_opened t a m sealed numbers same none = inr (inl (numbers, subst (IsNoPart t a) same none))
+
+-- it is of another number of tickets
+pub not_paired : (t : EncodingOf EncKrbCredPartInner) (a : Accepted) (m : KrbCredInner) (sealed : EncryptedData) (v : EncKrbCredPartInner) → HasNumbers m → sealed ≡ m.enc_part
+    → IsPart t a sealed v → (IsPaired m v → ⊥) → HasNoCredentials t a m
+not_paired t a m sealed v numbers same is other =
+    inr (inr (numbers, (v, subst (λ (x : EncryptedData). IsPart t a x v) same is, other)))
 
 -- what the one message has is what is delegated
 pub delegated_so : (IsMessage : KrbCredInner → Type 0) (t : EncodingOf EncKrbCredPartInner) (a : Accepted) (octets : List ℕ) (m : KrbCredInner) {E : Type 0}

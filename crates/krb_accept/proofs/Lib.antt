@@ -7,6 +7,7 @@ pub mod Comparing
 pub mod Made
 pub mod FileTimes
 pub mod Pacs
+pub mod TokenLaws
 pub mod TextLists
 pub mod Texts
 pub mod EntryOctets
@@ -15,3 +16,4 @@ pub mod Matching
 pub mod Delegations
 pub mod WithKeys
 pub mod ThirdLegs
+pub mod Wanting

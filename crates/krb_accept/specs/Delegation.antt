@@ -1,5 +1,5 @@
 -- Delegated credentials (RFC 4121, 4.1.1; RFC 4120, 5.8; RFC 6448).
-use Rattle.std.specs.Prelude.{◌≡◌, ◌≢◌, ◌⊎◌, ◌%◌, ℕ, pos, List, Option, None, Some}
+use Rattle.std.specs.Prelude.{◌≡◌, ◌≢◌, ◌⊎◌, ◌%◌, ℕ, pos, List, Option, None, Some, length}
 use Rattle.krb_accept_rules.specs.Values.{HasNone, IsTheValue}
 use Rattle.krb_accept_rules.specs.declared.accepted.Accepted.{Accepted}
 use Rattle.krb_der_core.specs.declared.der.DerEncode.{Ghosts as EncodingOf}
@@ -40,16 +40,24 @@ IsNoPart t a sealed =
 abbrev pub HasNumbers : KrbCredInner → Type 0
 HasNumbers m = (m.pvno ≡ pos 5) × (m.msg_type ≡ pos 22)
 
+-- there is a KrbCredInfo for each ticket (5.8.1: tickets and ticket-info are of the same number, in the same order)
+abbrev pub IsPaired : KrbCredInner → EncKrbCredPartInner → Type 0
+IsPaired m v = length m.tickets ≡ length v.ticket_info
+
 -- these are the credentials of the message, which has those numbers and a part that the client made for the service
 pub record HasCredentials (t : EncodingOf EncKrbCredPartInner) (a : Accepted) (octets : List ℕ) (m : KrbCredInner) (d : Delegated) : Type 0 where
   pub octets_are : d.octets.items ≡ octets
   pub message_is : d.message ≡ m
   pub numbers : HasNumbers m
   pub part_is : IsPart t a m.enc_part d.part
+  pub paired : IsPaired m d.part
 
--- it has other numbers; or no key decrypts its part
+-- it has other numbers; or no key decrypts its part; or that is of another number of tickets
 abbrev pub HasNoCredentials : EncodingOf EncKrbCredPartInner → Accepted → KrbCredInner → Type 0
-HasNoCredentials t a m = (HasNumbers m → ⊥) ⊎ (HasNumbers m × IsNoPart t a m.enc_part)
+HasNoCredentials t a m =
+    (HasNumbers m → ⊥)
+    ⊎ ((HasNumbers m × IsNoPart t a m.enc_part)
+    ⊎ (HasNumbers m × ((v : EncKrbCredPartInner) × IsPart t a m.enc_part v × (IsPaired m v → ⊥))))
 
 -- the octets are the one encoding of such a message
 abbrev pub IsDelegated : EncodingOf KrbCredInner → EncodingOf EncKrbCredPartInner → Accepted → List ℕ → Delegated → Type 0

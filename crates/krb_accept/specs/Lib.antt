@@ -2,6 +2,7 @@ pub mod Opening
 pub mod Fields
 pub mod Memory
 pub mod Kerberos
+pub mod Wanted
 pub mod WithKey
 pub mod Frame
 pub mod Layout
@@ -10,10 +11,13 @@ pub mod TokenRefusals
 pub mod Said
 pub mod Delegation
 pub mod Tokens
+pub mod TokenRuns
 pub mod Replies
 pub mod ThirdLeg
 pub mod ErrorReplies
+pub mod HandedOut
 pub mod Keytab
 pub mod Pac
+pub mod PacPlaces
 pub mod ContextKey
 pub mod Entries

@@ -1,8 +1,8 @@
--- The PAC of a ticket: where it is (MS-PAC, 2.1; RFC 4120, 5.2.6.1), and its rules (MS-PAC, 2.7 and 2.8.1; MS-KILE, 3.4.5.2).
-use Rattle.std.specs.Prelude.{◌≡◌, ◌⊎◌, ⊤, ℕ, ℤ, pos, ◌+ℤ◌, ◌*◌, List, [], ◌∷◌, ◌++◌, Option, None, Some, Ok, Err}
+-- The rules of the PAC of a ticket (MS-PAC, 2.7 and 2.8.1; MS-KILE, 3.4.5.2).
+use Rattle.std.specs.Prelude.{◌≡◌, ◌⊎◌, ℕ, ℤ, pos, ◌+ℤ◌, ◌*◌, List, [], ◌∷◌, ◌++◌, Option, None, Some, Ok, Err}
 use Rattle.std.specs.List.{flat_map}
 use Rattle.byteorder.specs.Endian.{little_number}
-use Rattle.krb_accept_rules.specs.Firsts.{IsFirst, NoneIs}
+use Rattle.krb_accept_rules.specs.declared.accepted.Accepted.{Accepted}
 use Rattle.krb_accept_rules.specs.declared.fields.TicketFields.{TicketFields}
 use Rattle.krb_der_core.specs.declared.der.DerEncode.{Ghosts as EncodingOf}
 use Rattle.krb_pac.specs.Numbered.{NumberedBuffer, NumberedPacIs, NumberedPacRejected, first_numbered}
@@ -15,44 +15,12 @@ use Rattle.krb_pac_signatures.specs.declared.error.PacSignatureError.{PacSignatu
 use Rattle.krb_pac_signatures.specs.declared.verdict.Verdict.TheVariants as verdict
 use Rattle.krb_types.specs.Times.{unix_seconds}
 use Rattle.krb_types.specs.declared.data_types.authorization_data.AuthorizationDataInner.{AuthorizationDataInner}
-use Rattle.krb_accept.specs.Opening.{Encodes}
+use Rattle.krb_accept.specs.PacPlaces.{NoPacOf, TicketPac}
 use Rattle.krb_accept.specs.TokenRefusals.{memory}
 use Rattle.krb_accept.specs.declared.settings.PacCheck.{PacCheck}
 use Rattle.krb_accept.specs.declared.settings.PacCheck.TheVariants as checks
 use Rattle.krb_accept.specs.declared.token_refusal.TokenRefusal.{TokenRefusal}
 use Rattle.krb_accept.specs.declared.token_refusal.TokenRefusal.TheVariants as refusal
-
--- ---- where it is
-
--- an AD-WIN2K-PAC (RFC 4120, 7.5.4)
-abbrev pub IsPac : AuthorizationDataInner → Type 0
-IsPac e = e.ad_type ≡ pos 128
-
--- an AD-IF-RELEVANT, whose first AD-WIN2K-PAC has these octets
-pub record HoldsPac (t : EncodingOf (List AuthorizationDataInner)) (e : AuthorizationDataInner) (octets : List ℕ) : Type 0 where
-  pub elements : List AuthorizationDataInner
-  pub pac : AuthorizationDataInner
-  pub if_relevant : e.ad_type ≡ pos 1
-  pub encoded : Encodes t e.ad_data elements
-  pub is_first : IsFirst IsPac elements pac
-  pub octets_are : octets ≡ pac.ad_data
-
-abbrev pub HasPac : EncodingOf (List AuthorizationDataInner) → AuthorizationDataInner → Type 0
-HasPac t e = (octets : List ℕ) × HoldsPac t e octets
-
--- the first element that has a PAC has this one
-pub record IsPacOf (t : EncodingOf (List AuthorizationDataInner)) (elements : List AuthorizationDataInner) (octets : List ℕ) : Type 0 where
-  pub element : AuthorizationDataInner
-  pub is_first : IsFirst (HasPac t) elements element
-  pub holds : HoldsPac t element octets
-
-abbrev pub TicketPac : EncodingOf (List AuthorizationDataInner) → Option (List AuthorizationDataInner) → List ℕ → Type 0
-TicketPac t None octets = ⊥
-TicketPac t (Some elements) octets = IsPacOf t elements octets
-
-abbrev pub NoPacOf : EncodingOf (List AuthorizationDataInner) → Option (List AuthorizationDataInner) → Type 0
-NoPacOf t None = ⊤
-NoPacOf t (Some elements) = NoneIs (HasPac t) elements
 
 -- ---- its server checksum (MS-PAC, 2.8.1)
 
@@ -118,15 +86,32 @@ pub data RefusesPac (key : List ℕ) (ticket : TicketFields) (octets : List ℕ)
 
 -- ---- what the service asks for
 
-abbrev pub KeepsPac : EncodingOf (List AuthorizationDataInner) → PacCheck → List ℕ → TicketFields → Type 0
-KeepsPac t checks.Ignored key ticket = Unit {0}
-KeepsPac t checks.Checked key ticket =
-    NoPacOf t ticket.authorization_data ⊎ ((octets : List ℕ) × TicketPac t ticket.authorization_data octets × TakesPac key ticket octets)
-KeepsPac t checks.Required key ticket = (octets : List ℕ) × TicketPac t ticket.authorization_data octets × TakesPac key ticket octets
+-- this PAC of the ticket is verified and handed out
+pub record HasVerified (t : EncodingOf (List AuthorizationDataInner)) (key : List ℕ) (a : Accepted) (octets : List ℕ) : Type 0 where
+  pub stands : TicketPac t a.ticket.authorization_data octets
+  pub takes : TakesPac key a.ticket octets
 
--- the ticket's PAC breaks a rule; or there is none, and the service asks for one
-abbrev pub BreaksPac : EncodingOf (List AuthorizationDataInner) → PacCheck → List ℕ → TicketFields → TokenRefusal → Type 0
-BreaksPac t check key ticket e =
-    (e ≡ memory)
-    ⊎ (((e ≡ refusal.PacMissing) × (check ≡ checks.Required) × NoPacOf t ticket.authorization_data)
-    ⊎ ((check ≡ checks.Ignored → ⊥) × ((octets : List ℕ) × TicketPac t ticket.authorization_data octets × RefusesPac key ticket octets e)))
+-- The rules by which a client is let in, and the PAC that is handed out of it. Where PACs are ignored, none is. Else none stands where nobody verifies
+-- it, in the ticket or the authenticator; and the one that the ticket has is verified.
+abbrev pub KeepsPac : EncodingOf (List AuthorizationDataInner) → PacCheck → List ℕ → Accepted → Option (List ℕ) → Type 0
+KeepsPac t checks.Ignored key a pac = pac ≡ None
+KeepsPac t checks.Checked key a pac =
+    NoPacOf t a.authorization_data
+    × (((pac ≡ None) × NoPacOf t a.ticket.authorization_data) ⊎ ((octets : List ℕ) × (pac ≡ Some octets) × HasVerified t key a octets))
+KeepsPac t checks.Required key a pac =
+    NoPacOf t a.authorization_data × ((octets : List ℕ) × (pac ≡ Some octets) × HasVerified t key a octets)
+
+-- no PAC stands where nobody verifies it
+abbrev pub IsPlaced : EncodingOf (List AuthorizationDataInner) → Accepted → Type 0
+IsPlaced t a =
+    NoPacOf t a.authorization_data
+    × (NoPacOf t a.ticket.authorization_data ⊎ ((octets : List ℕ) × TicketPac t a.ticket.authorization_data octets))
+
+-- Why they are broken, by the first: a PAC stands where nobody verifies it; there is none, and the service asks for one; or the ticket's breaks a rule.
+pub data BreaksPac (t : EncodingOf (List AuthorizationDataInner)) (check : PacCheck) (key : List ℕ) (a : Accepted) (e : TokenRefusal) : Type 0 where
+  for_memory : e ≡ memory → BreaksPac t check key a e
+  at_place : e ≡ refusal.PacPlace → (check ≡ checks.Ignored → ⊥) → (IsPlaced t a → ⊥) → BreaksPac t check key a e
+  missing : e ≡ refusal.PacMissing → check ≡ checks.Required → NoPacOf t a.authorization_data → NoPacOf t a.ticket.authorization_data
+      → BreaksPac t check key a e
+  broken : (check ≡ checks.Ignored → ⊥) → NoPacOf t a.authorization_data → (octets : List ℕ) → TicketPac t a.ticket.authorization_data octets
+      → RefusesPac key a.ticket octets e → BreaksPac t check key a e

@@ -1,5 +1,5 @@
 -- What the checksum of an authenticator says of a context (RFC 4121, 4.1.1).
-use Rattle.std.specs.Prelude.{◌≡◌, ◌⊎◌, ℕ, pos, true, false, List, [], Option, None, Some}
+use Rattle.std.specs.Prelude.{◌≡◌, ◌⊎◌, ℕ, ◌+◌, ◌*◌, ◌/◌, ◌%◌, pos, true, false, List, [], Option, None, Some}
 use Rattle.krb_accept_rules.specs.Bindings.{FitsBindings}
 use Rattle.krb_types.specs.declared.data_types.checksums.Checksum.{Checksum}
 use Rattle.krb_accept.specs.Layout.{IsLaidOut}
@@ -31,11 +31,17 @@ RefusesOther s e =
 
 -- ---- with it
 
--- it says these flags and these octets of a KRB-CRED, and its bindings are the service's
+-- the flags that a client may set: 1 to 32 (RFC 4121, 4.1.1.1), and 0x1000, DCE style (MS-KILE, 3.4.5.1)
+abbrev pub known_flags : ℕ → ℕ
+known_flags flags = flags % 64 + flags / 4096 % 2 * 4096
+
+-- it says these flags, of those that a client may set, and these octets of a KRB-CRED, and its bindings are the service's
 pub record IsBound (s : Settings) (octets : List ℕ) (flags : ℕ) (delegated : List ℕ) : Type 0 where
   pub bindings : List ℕ
   pub extensions : List ℕ
-  pub laid_out : IsLaidOut octets bindings flags delegated extensions
+  pub set : ℕ
+  pub laid_out : IsLaidOut octets bindings set delegated extensions
+  pub flags_are : flags ≡ known_flags set
   pub fits : FitsBindings s.bindings bindings
 
 -- it is not laid out so; or its bindings are not the service's

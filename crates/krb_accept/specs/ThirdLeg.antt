@@ -5,6 +5,7 @@ use Rattle.krb_accept_rules.specs.declared.accepted.Accepted.{Accepted}
 use Rattle.krb_der_core.specs.declared.der.DerEncode.{Ghosts as EncodingOf}
 use Rattle.krb_enc_parts.specs.declared.data_types.authenticators.EncApRepPartInner.{EncApRepPartInner}
 use Rattle.krb_messages.specs.declared.messages.application.ApRepInner.{ApRepInner}
+use Rattle.krb_types.specs.declared.data_types.encryption.EncryptionKey.{EncryptionKey}
 use Rattle.krb_accept.specs.Opening.{Encodes}
 use Rattle.krb_accept.specs.WithKey.{IsSealedWith}
 use Rattle.krb_accept.specs.declared.third_leg.ThirdLegError.{ThirdLegError}
@@ -71,31 +72,31 @@ pub record IsReflected (ap_rep : EncodingOf ApRepInner) (own : List ℕ) (m : Ap
   pub same : m.enc_part.cipher ≡ sent.enc_part.cipher
 
 module _ (ap_rep : EncodingOf ApRepInner) (part : EncodingOf EncApRepPartInner) where
-  -- The message is an AP-REP and not the service's own; its part is encrypted under the session key, for key usage 12, and has the service's sequence number.
-  pub record IsClientReply (a : Accepted) (own : List ℕ) (number : ℤ) (m : ApRepInner) : Type 0 where
+  -- The message is an AP-REP and not the service's own; its part is encrypted under this session key, for key usage 12, and has the service's sequence number.
+  pub record IsClientReply (key : EncryptionKey) (own : List ℕ) (number : ℤ) (m : ApRepInner) : Type 0 where
     pub value : EncApRepPartInner
     pub numbers : HasNumbers m
     pub not_own : IsReflected ap_rep own m → ⊥
-    pub value_is : IsTheValue (IsSealedWith part a.ticket.key (pos 12) m.enc_part) value
+    pub value_is : IsTheValue (IsSealedWith part key (pos 12) m.enc_part) value
     pub number_is : value.seq_number.0 ≡ Some number
 
   -- It is none by its numbers; or it is the service's own; or the session key does not decrypt its part; or that has not this number; or memory was wanting.
-  abbrev pub IsNoClientReply : Accepted → List ℕ → ℤ → ApRepInner → ThirdLegError → Type 0
-  IsNoClientReply a own number m e =
+  abbrev pub IsNoClientReply : EncryptionKey → List ℕ → ℤ → ApRepInner → ThirdLegError → Type 0
+  IsNoClientReply key own number m e =
       (e ≡ errors.OutOfMemory)
       ⊎ (((e ≡ errors.NotReply) × (HasNumbers m → ⊥))
       ⊎ (((e ≡ errors.Reflected) × HasNumbers m × IsReflected ap_rep own m)
-      ⊎ (((e ≡ errors.Part) × HasNumbers m × (IsReflected ap_rep own m → ⊥) × HasNone (IsSealedWith part a.ticket.key (pos 12) m.enc_part))
+      ⊎ (((e ≡ errors.Part) × HasNumbers m × (IsReflected ap_rep own m → ⊥) × HasNone (IsSealedWith part key (pos 12) m.enc_part))
       ⊎ ((v : EncApRepPartInner) × (e ≡ errors.SequenceNumber) × HasNumbers m × (IsReflected ap_rep own m → ⊥)
-      × IsTheValue (IsSealedWith part a.ticket.key (pos 12) m.enc_part) v × (v.seq_number.0 ≡ Some number → ⊥)))))
+      × IsTheValue (IsSealedWith part key (pos 12) m.enc_part) v × (v.seq_number.0 ≡ Some number → ⊥)))))
 
   -- the octets are the one encoding of such a message
-  abbrev pub IsFromClient : Accepted → List ℕ → ℤ → List ℕ → Type 0
-  IsFromClient a own number octets = (m : ApRepInner) × IsTheValue (Encodes ap_rep octets) m × IsClientReply a own number m
+  abbrev pub IsFromClient : EncryptionKey → List ℕ → ℤ → List ℕ → Type 0
+  IsFromClient key own number octets = (m : ApRepInner) × IsTheValue (Encodes ap_rep octets) m × IsClientReply key own number m
 
   -- they are the encoding of no AP-REP, or of one that is not such a message; or memory was wanting
-  abbrev pub IsNotFromClient : Accepted → List ℕ → ℤ → List ℕ → ThirdLegError → Type 0
-  IsNotFromClient a own number octets e =
+  abbrev pub IsNotFromClient : EncryptionKey → List ℕ → ℤ → List ℕ → ThirdLegError → Type 0
+  IsNotFromClient key own number octets e =
       (e ≡ errors.OutOfMemory)
       ⊎ (((e ≡ errors.NotReply) × HasNone (Encodes ap_rep octets))
-      ⊎ ((m : ApRepInner) × IsTheValue (Encodes ap_rep octets) m × IsNoClientReply a own number m e))
+      ⊎ ((m : ApRepInner) × IsTheValue (Encodes ap_rep octets) m × IsNoClientReply key own number m e))

@@ -8,6 +8,7 @@ use Rattle.krb_accept.specs.declared.token_refusal.TokenRefusal.TheVariants as r
 abbrev pub token_error_code : TokenRefusal → ℕ
 token_error_code refusal.Frame = 60
 token_error_code (refusal.Request r) = error_code r.rule
+token_error_code refusal.PacPlace = 60
 token_error_code refusal.PacMissing = 60
 token_error_code refusal.PacForm = 60
 token_error_code refusal.PacChecksum = 41

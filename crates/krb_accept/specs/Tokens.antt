@@ -1,5 +1,6 @@
 -- Whether the client of a token is let in (RFC 4121, 4.1 and 4.1.1).
 use Rattle.std.specs.Prelude.{◌≡◌, ◌⊎◌, ℕ, true, false, List, Option}
+use Rattle.std.specs.Option.{option_map}
 use Rattle.krb_accept_rules.specs.Accepting.{IsAdmitted, IsNotAdmitted}
 use Rattle.krb_accept_rules.specs.FirstFault.{OrMemory}
 use Rattle.krb_accept_rules.specs.Presenting.{IsNotPresented, IsPresented}
@@ -16,6 +17,7 @@ use Rattle.krb_messages.specs.declared.messages.credentials.KrbCredInner.{KrbCre
 use Rattle.krb_types.specs.declared.data_types.authorization_data.AuthorizationDataInner.{AuthorizationDataInner}
 use Rattle.krb_accept.specs.Delegation.{MatchDelegated, RefusesDelegated}
 use Rattle.krb_accept.specs.Frame.{in_frame}
+use Rattle.krb_accept.specs.HandedOut.{IsHandedOut}
 use Rattle.krb_accept.specs.Pac.{BreaksPac, KeepsPac}
 use Rattle.krb_accept.specs.Said.{IsNotSaid, IsSaid}
 use Rattle.krb_accept.specs.TokenRefusals.{memory}
@@ -46,6 +48,7 @@ IsNoRequestIn s token e = (e ≡ refusal.Frame) × IsUnframed token × (s.bare_r
 -- the context of what was presented
 pub record IsContextOf (p : PresentedToken) (c : Context) : Type 0 where
   pub accepted : c.accepted ≡ p.presented.accepted
+  pub pac : c.pac ≡ p.pac
   pub flags : c.flags ≡ p.flags
   pub delegated : c.delegated ≡ p.delegated
 
@@ -70,18 +73,22 @@ module _ (cred : EncodingOf KrbCredInner) (part : EncodingOf EncKrbCredPartInner
   -- the ticket's PAC breaks a rule; or it keeps them, and the authenticator says nothing
   abbrev pub IsNoContext : Settings → ServiceKey → Accepted → TokenRefusal → Type 0
   IsNoContext s key a e =
-      BreaksPac elements s.pac key.octets a.ticket e ⊎ (KeepsPac elements s.pac key.octets a.ticket × IsNotTold cred part s a e)
+      BreaksPac elements s.pac key.octets a e
+      ⊎ ((pac : Option (List ℕ)) × KeepsPac elements s.pac key.octets a pac × IsNotTold cred part s a e)
 
   module _ {O : Type 0} (o : OpeningOf O) (keys session_keys : List ServiceKey) (terms : Terms) (arrival : Arrival) (s : Settings) (token : List ℕ) where
     -- ---- all of it but the cache
 
-    -- The AP-REQ in the token keeps the rules of an AP-REQ, and its authenticator says this of the context.
+    -- The AP-REQ in the token keeps the rules of an AP-REQ, and its authenticator says this of the context. The ticket's PAC keeps its rules and is this; all
+    -- else that was found is handed out but for elements in which a PAC stands.
     pub record IsTokenPresented (p : PresentedToken) : Type 0 where
       pub octets : List ℕ
+      pub found : Accepted
       pub is_request : IsRequestIn s token octets
-      pub presented : IsPresented o keys session_keys terms arrival octets p.presented.key.now p.presented.entry p.presented.accepted
-      pub pac : KeepsPac elements s.pac p.presented.key.now.octets p.presented.accepted.ticket
-      pub told : IsTold cred part s p.presented.accepted p.flags p.delegated
+      pub presented : IsPresented o keys session_keys terms arrival octets p.presented.key.now p.presented.entry found
+      pub pac : KeepsPac elements s.pac p.presented.key.now.octets found (option_map (λ v. v.items) p.pac)
+      pub told : IsTold cred part s found p.flags p.delegated
+      pub handed_out : IsHandedOut elements found p.presented.accepted
 
     -- Why not, by the first rule that is broken: there is no AP-REQ in the token; or it breaks a rule of an AP-REQ; or its PAC breaks one, or its authenticator says
     -- nothing of a context.

@@ -1,7 +1,7 @@
 //! Delegated credentials (RFC 4121, 4.1.1; RFC 4120, 5.8; RFC 6448).
 
 ghost use Rattle.std.specs.Prelude.{◌≡◌, ◌≢◌, ◌%◌, IfErr, IfOk, MatchBool, MatchOption};
-ghost use Rattle.krb_accept.specs.Delegation.{HasCredentials, HasNoCredentials, HasNumbers, IsDelegated, IsNoPart, IsNotDelegated, IsPart, IsUnderSubkey, MatchDelegated, RefusesDelegated};
+ghost use Rattle.krb_accept.specs.Delegation.{HasCredentials, HasNoCredentials, HasNumbers, IsDelegated, IsNoPart, IsNotDelegated, IsPaired, IsPart, IsUnderSubkey, MatchDelegated, RefusesDelegated};
 ghost use Rattle.krb_accept.specs.Opening.{Encodes};
 ghost use Rattle.krb_accept.specs.WithKey.{IsSealedWith};
 ghost use Rattle.krb_accept_rules.specs.Values.{HasNone, IsTheValue};
@@ -17,6 +17,7 @@ use krb_messages::messages::KrbCred;
 use krb_registry::key_usages::KRB_CRED_ENC_PART;
 use krb_registry::types::KRB_CRED_MSG_TYPE;
 use krb_types::data_types::{EncryptedData, EncryptionKey};
+use krb_types::view::items;
 use std::alloc::{AllocError, Global};
 
 /// The encryption type of a part that is not encrypted (RFC 6448).
@@ -87,6 +88,13 @@ fn part_in(message: &KrbCred) -> &EncryptedData
     &message.0.enc_part.0
 }
 
+/// Whether a message has as many tickets as its part tells of.
+fn is_paired(message: &KrbCred, part: &EncKrbCredPart) -> bool
+    ensures { MatchBool result (IsPaired message.now part.now) (IsPaired message.now part.now → ⊥) }
+{
+    items(&message.0.tickets.0).len() == items(&part.0.ticket_info.0).len()
+}
+
 /// The credentials of a message; `None` where it is no KRB-CRED, or no key of the context decrypts its part.
 fn credentials_in(
     alloc: Global,
@@ -113,6 +121,11 @@ fn credentials_in(
         drop(message);
         return Ok(None);
     };
+    if !is_paired(&message, &part) {
+        drop(message);
+        drop(part);
+        return Ok(None);
+    }
     match Vec::from_slice(alloc, octets) {
         Ok(octets) => Ok(Some(Delegated {
             octets,

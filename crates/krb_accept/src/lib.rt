@@ -12,16 +12,19 @@ mod entries;
 mod error_message;
 mod fields;
 mod frame;
+mod handed_out;
 mod kerberos;
 mod keytab;
 pub mod laws;
 mod opening;
 mod pac;
+mod pac_places;
 mod said;
 mod settings;
 mod third_leg;
 mod token;
 mod token_refusal;
+mod wanted;
 mod with_key;
 
 pub use ap_rep::{ReplyError, reply, reply_token};
@@ -36,11 +39,12 @@ pub use frame::{InnerToken, message_in, token_of};
 pub use kerberos::Kerberos;
 pub use keytab::keys_of_keytab;
 pub use krb_accept_rules::{
-    Accepted, Arrival, Entry, Presented, Refusal, ReplayCache, Rule, ServiceKey, Terms,
+    Accepted, Arrival, Entry, Presented, Refusal, ReplayCache, Rule, ServerName, ServiceKey, Terms,
     TicketFields, admit,
 };
 pub use opening::suite_of;
 pub use settings::{PacCheck, Settings};
-pub use third_leg::{ThirdLegError, check_third_leg, confirm_third_leg};
+pub use third_leg::{ThirdLegError, check_third_leg, confirm_by_key, confirm_third_leg};
 pub use token::{Context, PresentedToken, accept_token, admit_token, present_token};
 pub use token_refusal::TokenRefusal;
+pub use wanted::wants_reply;

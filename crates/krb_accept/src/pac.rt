@@ -2,106 +2,25 @@
 
 ghost use Rattle.std.specs.Prelude.{◌≡◌, ◌/◌, pos, ◌-ℤ◌, ◌∷◌, ◌++◌, IfErr, IfOk, MatchBool, MatchOption, OnOk};
 ghost use Rattle.std.specs.List.{flat_map};
-ghost use Rattle.krb_accept.specs.Pac.{BreaksPac, HasInfo, HasNoInfo, HasPac, HasServerChecksum, HoldsPac, IsPac, IsPacOf, IsTimed, KeepsPac, NamesClient, NoPacOf, RefusesPac, TakesPac, TicketPac, joined, wide};
-ghost use Rattle.krb_accept_rules.specs.Firsts.{IsFirst, NoneIs};
+ghost use Rattle.std.specs.Option.{option_map};
+ghost use Rattle.krb_accept.specs.Pac.{BreaksPac, HasInfo, HasNoInfo, HasServerChecksum, IsTimed, KeepsPac, NamesClient, RefusesPac, TakesPac, joined, wide};
+ghost use Rattle.krb_accept.specs.PacPlaces.{NoPacOf};
+ghost use Rattle.krb_accept.specs.declared.settings.PacCheck.TheVariants as checks;
 
-use crate::opening::value_of;
+use crate::pac_places::{Held, has_no_pac, pac_in};
 use crate::settings::PacCheck;
 use crate::token_refusal::TokenRefusal;
-use crate::with_key::is_number;
-use krb_accept_rules::{ServiceKey, TicketFields};
+use krb_accept_rules::{Accepted, ServiceKey, TicketFields};
 use krb_der::DerEncode;
 use krb_pac::NumberedPacView;
 use krb_pac_contents::buffers::ClientInfoView;
 use krb_pac_signatures::{PacSignatures, Verdict, server_verdict};
-use krb_types::data_types::{AuthorizationData, AuthorizationDataInner, KerberosStringAsn1};
+use krb_types::data_types::{AuthorizationData, KerberosStringAsn1};
 use krb_types::view::{items, unix_seconds};
 use std::alloc::{AllocError, Global};
 
-/// The type of AD-IF-RELEVANT (RFC 4120, 5.2.6.1).
-const IF_RELEVANT: u32 = 1;
-
-/// The type of AD-WIN2K-PAC (RFC 4120, 7.5.4).
-const WIN2K_PAC: u32 = 128;
-
 /// The number of PAC_CLIENT_INFO among the types of a PAC's buffers (MS-PAC, 2.4).
 const CLIENT_INFO: u32 = 10;
-
-/// Whether an element is an AD-WIN2K-PAC.
-fn is_pac(element: &AuthorizationDataInner) -> bool
-    ensures { MatchBool result (IsPac element.now) (IsPac element.now → ⊥) }
-{
-    is_number(&element.ad_type.0, WIN2K_PAC)
-}
-
-/// Whether an element is an AD-IF-RELEVANT.
-fn is_if_relevant(element: &AuthorizationDataInner) -> bool
-    ensures { MatchBool result (element.now.ad_type ≡ pos 1) (element.now.ad_type ≡ pos 1 → ⊥) }
-{
-    is_number(&element.ad_type.0, IF_RELEVANT)
-}
-
-/// The first AD-WIN2K-PAC.
-fn first_pac(elements: &[AuthorizationDataInner]) -> Option<&AuthorizationDataInner>
-    ensures { MatchOption result (NoneIs IsPac elements.now) (λ e. IsFirst IsPac elements.now e.now) }
-{
-    for element in elements {
-        if is_pac(element) {
-            return Some(element);
-        }
-    }
-    None
-}
-
-/// The octets of the first PAC in an element that is an AD-IF-RELEVANT.
-fn pac_of_element(
-    alloc: Global,
-    element: &AuthorizationDataInner,
-) -> Result<Option<Vec<u8>>, AllocError>
-    ensures { IfOk result
-        (λ found. MatchOption found (HasPac ⟦<AuthorizationData as DerEncode>⟧ element.now → ⊥)
-        (λ octets. HoldsPac ⟦<AuthorizationData as DerEncode>⟧ element.now octets.items)) }
-{
-    if !is_if_relevant(element) {
-        return Ok(None);
-    }
-    let Some(inner) = value_of::<AuthorizationData>(alloc, element.ad_data.0.0.as_slice())? else {
-        return Ok(None);
-    };
-    match first_pac(items(&inner)) {
-        Some(pac) => Ok(Some(Vec::from_slice(alloc, pac.ad_data.0.0.as_slice())?)),
-        None => Ok(None),
-    }
-}
-
-/// The octets of the first PAC in these elements.
-fn pac_of_elements(
-    alloc: Global,
-    elements: &[AuthorizationDataInner],
-) -> Result<Option<Vec<u8>>, AllocError>
-    ensures { IfOk result
-        (λ found. MatchOption found (NoneIs (HasPac ⟦<AuthorizationData as DerEncode>⟧) elements.now)
-        (λ octets. IsPacOf ⟦<AuthorizationData as DerEncode>⟧ elements.now octets.items)) }
-{
-    for element in elements {
-        if let Some(octets) = pac_of_element(alloc, element)? {
-            return Ok(Some(octets));
-        }
-    }
-    Ok(None)
-}
-
-/// The octets of a ticket's PAC.
-fn pac_of(alloc: Global, ticket: &TicketFields) -> Result<Option<Vec<u8>>, AllocError>
-    ensures { IfOk result
-        (λ found. MatchOption found (NoPacOf ⟦<AuthorizationData as DerEncode>⟧ ticket.now.authorization_data)
-        (λ octets. TicketPac ⟦<AuthorizationData as DerEncode>⟧ ticket.now.authorization_data octets.items)) }
-{
-    match &ticket.authorization_data {
-        Some(elements) => pac_of_elements(alloc, items(elements)),
-        None => Ok(None),
-    }
-}
 
 /// Whether the server checksum of a PAC holds under the key of the service (MS-PAC, 2.8.1).
 fn has_checksum(
@@ -244,26 +163,62 @@ fn check_octets(
     Ok(())
 }
 
-/// Whether the ticket's PAC keeps the rules that the service sets; else the first that is broken.
+/// The octets of the ticket's PAC, where they keep the rules of `check_octets`.
+fn verified(
+    alloc: Global,
+    key: &ServiceKey,
+    ticket: &TicketFields,
+    octets: Vec<u8>,
+) -> Result<Vec<u8>, TokenRefusal>
+    ensures same { IfOk result (λ v. v.items ≡ octets.items) }
+    ensures kept { OnOk result (TakesPac key.now.octets ticket.now octets.items) }
+    ensures refused { IfErr result (RefusesPac key.now.octets ticket.now octets.items) }
+{
+    check_octets(alloc, key, ticket, &octets)?;
+    Ok(octets)
+}
+
+/// The PAC of a client whose authenticator has none, where it keeps the rules that the service sets; else the first that it breaks.
+fn pac_of_ticket(
+    alloc: Global,
+    check: PacCheck,
+    key: &ServiceKey,
+    accepted: &Accepted,
+) -> Result<Option<Vec<u8>>, TokenRefusal>
+    requires checks { check ≡ checks.Ignored → ⊥ }
+    requires none { NoPacOf ⟦<AuthorizationData as DerEncode>⟧ accepted.now.authorization_data }
+    ensures kept { IfOk result
+        (λ pac. KeepsPac ⟦<AuthorizationData as DerEncode>⟧ check key.now.octets accepted.now (option_map (λ v. v.items) pac)) }
+    ensures refused { IfErr result (BreaksPac ⟦<AuthorizationData as DerEncode>⟧ check key.now.octets accepted.now) }
+{
+    match pac_in(alloc, &accepted.ticket.authorization_data)? {
+        Held::Once(octets) => Ok(Some(verified(alloc, key, &accepted.ticket, octets)?)),
+        Held::Nowhere => {
+            if check == PacCheck::Required {
+                return Err(TokenRefusal::PacMissing);
+            }
+            Ok(None)
+        }
+        Held::Elsewhere => Err(TokenRefusal::PacPlace),
+    }
+}
+
+/// The PAC that is handed out of a client, where it keeps the rules that the service sets; else the first that is broken.
 pub(crate) fn check_pac(
     alloc: Global,
     check: PacCheck,
     key: &ServiceKey,
-    ticket: &TicketFields,
-) -> Result<(), TokenRefusal>
-    ensures kept { OnOk result (KeepsPac ⟦<AuthorizationData as DerEncode>⟧ check key.now.octets ticket.now) }
-    ensures refused { IfErr result (BreaksPac ⟦<AuthorizationData as DerEncode>⟧ check key.now.octets ticket.now) }
+    accepted: &Accepted,
+) -> Result<Option<Vec<u8>>, TokenRefusal>
+    ensures kept { IfOk result
+        (λ pac. KeepsPac ⟦<AuthorizationData as DerEncode>⟧ check key.now.octets accepted.now (option_map (λ v. v.items) pac)) }
+    ensures refused { IfErr result (BreaksPac ⟦<AuthorizationData as DerEncode>⟧ check key.now.octets accepted.now) }
 {
     if check == PacCheck::Ignored {
-        return Ok(());
+        return Ok(None);
     }
-    match pac_of(alloc, ticket)? {
-        Some(octets) => check_octets(alloc, key, ticket, &octets),
-        None => {
-            if check == PacCheck::Required {
-                return Err(TokenRefusal::PacMissing);
-            }
-            Ok(())
-        }
+    if !has_no_pac(alloc, &accepted.authorization_data)? {
+        return Err(TokenRefusal::PacPlace);
     }
+    pac_of_ticket(alloc, check, key, accepted)
 }

@@ -1,7 +1,7 @@
 //! What the checksum of an authenticator says of a context (RFC 4121, 4.1.1).
 
 ghost use Rattle.std.specs.Prelude.{◌≡◌, ℕ, List, IfErr, IfOk, MatchOption};
-ghost use Rattle.krb_accept.specs.Said.{HasChecksum, IsNotSaid, IsSaid, TakesOther, RefusesOther};
+ghost use Rattle.krb_accept.specs.Said.{HasChecksum, IsNotSaid, IsSaid, TakesOther, RefusesOther, known_flags};
 
 use crate::checksum::checksum_of;
 use crate::settings::Settings;
@@ -23,7 +23,7 @@ pub(crate) struct Said<'a> {
 }
 
 /// The octets of the checksum, where it is one of the GSS-API.
-fn gss_octets(checksum: &Option<Checksum>) -> Option<&[u8]>
+pub(crate) fn gss_octets(checksum: &Option<Checksum>) -> Option<&[u8]>
     ensures { MatchOption result ((octets : List ℕ) → HasChecksum checksum.now octets → ⊥) (λ octets. HasChecksum checksum.now octets.now) }
 {
     let Some(checksum) = checksum else {
@@ -52,6 +52,13 @@ fn other(settings: &Settings) -> Result<Said<'static>, TokenRefusal>
     })
 }
 
+/// The flags that RFC 4121, 4.1.1.1, and MS-KILE, 3.4.5.1, give a meaning that a client may set: 1 to 32, and 0x1000.
+fn known_flags(flags: u32) -> u32
+    ensures { result ≡ known_flags flags }
+{
+    flags % 64 + flags / 4096 % 2 * 4096
+}
+
 /// What the checksum says, where it keeps the rules; else the first that it breaks.
 pub(crate) fn said_of<'a>(
     settings: &Settings,
@@ -70,7 +77,7 @@ pub(crate) fn said_of<'a>(
         return Err(TokenRefusal::Bindings);
     }
     Ok(Said {
-        flags: said.flags,
+        flags: known_flags(said.flags),
         delegated: said.delegated,
     })
 }

@@ -3,12 +3,13 @@
 ghost use Rattle.std.specs.Prelude.{◌≡◌, None, false};
 ghost use Rattle.krb_accept.specs.declared.settings.PacCheck.TheVariants as PacCheck;
 
-/// What a service does with the PAC of a ticket (MS-PAC): the first AD-WIN2K-PAC of the first AD-IF-RELEVANT that has one.
+/// What a service does with the PAC of a ticket (MS-PAC): the one AD-WIN2K-PAC of an AD-IF-RELEVANT of its authorization data.
 #[derive(Debug, Clone, Copy, PartialEq, Eq)]
 pub enum PacCheck {
-    /// It is not looked at.
+    /// It is not verified, and no PAC is handed out.
     Ignored,
-    /// Where the ticket has one, its server checksum holds under the key that decrypted the ticket, and it names the ticket's client.
+    /// Where the ticket has one, its server checksum holds under the key that decrypted the ticket, and it names the ticket's client. No
+    /// other AD-WIN2K-PAC stands in the ticket or in the authenticator.
     Checked,
     /// The ticket has one, and it is so.
     Required,

@@ -12,7 +12,7 @@ use krb_enc_parts::data_types::EncApRepPart;
 use krb_messages::messages::ApRep;
 use krb_registry::key_usages::AP_REP_ENC;
 use krb_registry::types::AP_REP_MSG_TYPE;
-use krb_types::data_types::EncryptedData;
+use krb_types::data_types::{EncryptedData, EncryptionKey};
 use krb_types::view::Present;
 use std::alloc::{AllocError, Global};
 use std::fmt;
@@ -193,15 +193,15 @@ fn check_number(sequence_number: &IntegerAsn1, part: &EncApRepPart) -> Result<()
 /// Whether the message is the third leg, whatever its time is.
 fn confirm_message(
     alloc: Global,
-    accepted: &Accepted,
+    key: &EncryptionKey,
     own_reply: &[u8],
     sequence_number: &IntegerAsn1,
     message: &ApRep,
 ) -> Result<(), ThirdLegError>
     ensures confirmed { OnOk result
-        (IsClientReply ⟦<ApRep as DerEncode>⟧ ⟦<EncApRepPart as DerEncode>⟧ accepted.now own_reply.now sequence_number.now message.now) }
+        (IsClientReply ⟦<ApRep as DerEncode>⟧ ⟦<EncApRepPart as DerEncode>⟧ key.now own_reply.now sequence_number.now message.now) }
     ensures refused { IfErr result
-        (IsNoClientReply ⟦<ApRep as DerEncode>⟧ ⟦<EncApRepPart as DerEncode>⟧ accepted.now own_reply.now sequence_number.now message.now) }
+        (IsNoClientReply ⟦<ApRep as DerEncode>⟧ ⟦<EncApRepPart as DerEncode>⟧ key.now own_reply.now sequence_number.now message.now) }
 {
     if !has_numbers(message) {
         return Err(ThirdLegError::NotReply);
@@ -210,7 +210,7 @@ fn confirm_message(
         return Err(ThirdLegError::Reflected);
     }
     let sealed = part_in(message);
-    match value_with::<EncApRepPart>(alloc, &accepted.ticket.key, AP_REP_ENC, sealed)? {
+    match value_with::<EncApRepPart>(alloc, key, AP_REP_ENC, sealed)? {
         Some(part) => check_number(sequence_number, &part),
         None => Err(ThirdLegError::Part),
     }
@@ -240,6 +240,25 @@ pub fn check_third_leg(
     }
 }
 
+/// `confirm_third_leg` by the session key alone, for a service that keeps no more of its client.
+pub fn confirm_by_key(
+    alloc: Global,
+    key: &EncryptionKey,
+    own_reply: &[u8],
+    sequence_number: &IntegerAsn1,
+    octets: &[u8],
+) -> Result<(), ThirdLegError>
+    ensures confirmed { OnOk result
+        (IsFromClient ⟦<ApRep as DerEncode>⟧ ⟦<EncApRepPart as DerEncode>⟧ key.now own_reply.now sequence_number.now octets.now) }
+    ensures refused { IfErr result
+        (IsNotFromClient ⟦<ApRep as DerEncode>⟧ ⟦<EncApRepPart as DerEncode>⟧ key.now own_reply.now sequence_number.now octets.now) }
+{
+    match value_of::<ApRep>(alloc, octets)? {
+        Some(message) => confirm_message(alloc, key, own_reply, sequence_number, &message),
+        None => Err(ThirdLegError::NotReply),
+    }
+}
+
 /// Whether the octets are the third leg of DCE style (MS-KILE, 3.4.5.1) as clients send it: an AP-REP whose part the client encrypted under
 /// the session key, for key usage 12, with the sequence number that the service gave in its own AP-REP. No frame is around it. Its time is not
 /// compared: clients of MIT Kerberos and Impacket put that at which they make it, and not that of the authenticator, as RFC 4120, 3.2.4, has it.
@@ -257,12 +276,15 @@ pub fn confirm_third_leg(
     octets: &[u8],
 ) -> Result<(), ThirdLegError>
     ensures confirmed { OnOk result
-        (IsFromClient ⟦<ApRep as DerEncode>⟧ ⟦<EncApRepPart as DerEncode>⟧ accepted.now own_reply.now sequence_number.now octets.now) }
+        (IsFromClient ⟦<ApRep as DerEncode>⟧ ⟦<EncApRepPart as DerEncode>⟧ accepted.now.ticket.key own_reply.now sequence_number.now octets.now) }
     ensures refused { IfErr result
-        (IsNotFromClient ⟦<ApRep as DerEncode>⟧ ⟦<EncApRepPart as DerEncode>⟧ accepted.now own_reply.now sequence_number.now octets.now) }
+        (IsNotFromClient ⟦<ApRep as DerEncode>⟧ ⟦<EncApRepPart as DerEncode>⟧ accepted.now.ticket.key own_reply.now sequence_number.now octets.now) }
 {
-    match value_of::<ApRep>(alloc, octets)? {
-        Some(message) => confirm_message(alloc, accepted, own_reply, sequence_number, &message),
-        None => Err(ThirdLegError::NotReply),
-    }
+    confirm_by_key(
+        alloc,
+        &accepted.ticket.key,
+        own_reply,
+        sequence_number,
+        octets,
+    )
 }

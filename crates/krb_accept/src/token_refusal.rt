@@ -15,6 +15,9 @@ pub enum TokenRefusal {
     Frame,
     /// The client is not let in.
     Request(Refusal),
+    /// An AD-WIN2K-PAC stands where nobody verifies it: bare, in an AD-IF-RELEVANT of an AD-IF-RELEVANT, beside another, or in the
+    /// authenticator; or more than 16 levels of these stand in one another (MS-PAC, 2.1).
+    PacPlace,
     /// The ticket has no PAC, and the service asks for one (MS-PAC, 2.1).
     PacMissing,
     /// The ticket's PAC is none, or its PAC_CLIENT_INFO or one of its signatures is not there whole (MS-PAC, 2.3, 2.7 and 2.8).
@@ -44,7 +47,8 @@ impl TokenRefusal {
             TokenRefusal::PacClient => 36,
             TokenRefusal::PacChecksum | TokenRefusal::Bindings => 41,
             TokenRefusal::ChecksumType => 50,
-            TokenRefusal::Frame | TokenRefusal::PacMissing | TokenRefusal::PacForm => 60,
+            TokenRefusal::Frame | TokenRefusal::PacPlace => 60,
+            TokenRefusal::PacMissing | TokenRefusal::PacForm => 60,
             TokenRefusal::ChecksumLayout | TokenRefusal::Delegation => 60,
         }
     }
@@ -55,6 +59,7 @@ impl fmt::Display for TokenRefusal {
         match self {
             TokenRefusal::Frame => f.write_str("the token is not one of Kerberos with an AP-REQ"),
             TokenRefusal::Request(refusal) => f.write_str(refusal.rule.text()),
+            TokenRefusal::PacPlace => f.write_str("a PAC stands where nobody verifies it"),
             TokenRefusal::PacMissing => f.write_str("the ticket has no PAC"),
             TokenRefusal::PacForm => f.write_str("the PAC is malformed"),
             TokenRefusal::PacChecksum => f.write_str(

@@ -44,7 +44,7 @@ AreKeysOf octets keys = (entries : List Entry) × KeytabIs octets entries × (ke
 
 -- usual terms with the skew that is asked about, its clock, no address of the client, and its settings
 pub record IsAsked (q : Question) (terms : Terms) (arrival : Arrival) (settings : Settings) : Type 0 where
-  pub are_usual : AreUsual q.skew terms
+  pub are_usual : AreUsual q.skew None terms
   pub arrives : arrival ≡ record { clock = q.clock; address = None }
   pub asks : settings ≡ q.settings
 

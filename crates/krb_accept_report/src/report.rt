@@ -107,7 +107,7 @@ fn service_of<'k>(
     ensures keys { IfOk result (λ s. s.keys.now ≡ keys.now) }
     ensures asked { IfOk result (λ s. IsAsked question.now s.terms s.arrival s.settings) }
 {
-    let terms = Terms::new(alloc, question.skew)?;
+    let terms = Terms::new(alloc, question.skew, None)?;
     Ok(Service {
         keys,
         terms,

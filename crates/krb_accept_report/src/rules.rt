@@ -20,7 +20,7 @@ pub(crate) fn rule_text(rule: Rule) -> &'static str
         Rule::NotUs => "no key for the server that the ticket names",
         Rule::NoKey => "no key of the ticket's encryption type",
         Rule::KeyVersion => "no key of the kvno that the ticket names",
-        Rule::TicketSuite => "the ticket's encryption type is not supported",
+        Rule::TicketSuite => "the ticket's encryption type is not supported or permitted",
         Rule::Ticket => "no key decrypts the ticket",
         Rule::Flags => "the ticket's flags have fewer than 32 bits",
         Rule::SessionSuite =>
@@ -36,6 +36,8 @@ pub(crate) fn rule_text(rule: Rule) -> &'static str
         Rule::NotYetValid => "the ticket is not yet valid",
         Rule::Invalid => "the ticket has the flag INVALID",
         Rule::Expired => "the ticket has expired",
+        Rule::Anonymous => "the client is anonymous",
+        Rule::ClientRealm => "no client of this realm is let in",
         Rule::Path => "no KDC has checked the path of realms",
         Rule::CriticalData => "authorization data that a service has to understand, and does not",
         Rule::DataForm => "the authorization data is malformed",
@@ -52,6 +54,7 @@ pub(crate) fn token_text(refusal: &TokenRefusal) -> &'static str
     match refusal {
         TokenRefusal::Request(refusal) => rule_text(refusal.rule),
         TokenRefusal::Frame => "not a token of Kerberos with an AP-REQ",
+        TokenRefusal::PacPlace => "a PAC stands where nobody verifies it",
         TokenRefusal::PacMissing => "the ticket has no PAC",
         TokenRefusal::PacForm => "the PAC is malformed, or lacks a buffer that is checked",
         TokenRefusal::PacChecksum => "the PAC's server checksum does not hold",

@@ -60,6 +60,6 @@ module _ (holds : Rule → Type 0) (shows : Rule → Option ℤ → Type 0) (a b
       refuses_in_second holds shows a (b ++ (c ++ d)) e h (refuses_in_second holds shows b (c ++ d) e k (refuses_in_first holds shows c d e r))
 
   -- and that in the last
-  pub last_refuses : Keeps holds a → Keeps holds b → Keeps holds c → OrMemory (RefusesFirst holds shows d) e → OrMemory (RefusesFirst holds shows (a ++ (b ++ (c ++ d)))) e
+  pub last_refuses : Keeps holds a → Keeps holds b → Keeps holds c → RefusesFirst holds shows d e → RefusesFirst holds shows (a ++ (b ++ (c ++ d))) e
   last_refuses h k l r =
-      or_memory_in_second holds shows a (b ++ (c ++ d)) e h (or_memory_in_second holds shows b (c ++ d) e k (or_memory_in_second holds shows c d e l r))
+      refuses_in_second holds shows a (b ++ (c ++ d)) e h (refuses_in_second holds shows b (c ++ d) e k (refuses_in_second holds shows c d e l r))

@@ -9,3 +9,4 @@ pub mod Once
 pub mod Runs
 pub mod Forms
 pub mod Refused
+pub mod Hosts

@@ -76,12 +76,12 @@ over_restarts o keys session_keys terms other first second since octets seen aft
 
 -- ---- what is presented is not refused as if it were not
 
-module _ {O : Type 0} (o : OpeningOf O) (keys session_keys : List ServiceKey) (octets : List ℕ) (e : Refusal) where
-  pub not_absent : (r : RequestFields) (k : ServiceKey) (v : TicketFields) → HasTicket o keys session_keys octets r k v → HasNoTicket o keys session_keys octets e → ⊥
+module _ {O : Type 0} (o : OpeningOf O) (keys session_keys : List ServiceKey) (terms : Terms) (octets : List ℕ) (e : Refusal) where
+  pub not_absent : (r : RequestFields) (k : ServiceKey) (v : TicketFields) → HasTicket o keys session_keys terms octets r k v → HasNoTicket o keys session_keys terms octets e → ⊥
   not_absent r k v p (why.no_request same none) = none r p.is_request.holds
   not_absent r k v p (why.at_request s is refuses) =
-      keeps_all (RequestRule o keys session_keys r) request_order e.rule p.keeps
-      (subst (λ (x : RequestFields). BreaksFirst (RequestRule o keys session_keys x) request_order e.rule) (sym (is.only r p.is_request.holds)) refuses.0)
+      keeps_all (RequestRule o terms keys session_keys r) request_order e.rule p.keeps
+      (subst (λ (x : RequestFields). BreaksFirst (RequestRule o terms keys session_keys x) request_order e.rule) (sym (is.only r p.is_request.holds)) refuses.0)
   not_absent r k v p (why.no_key s is kept same none) =
       none_first (OpensTicket o r) (keys_for r keys session_keys)
       (subst (λ (x : RequestFields). NoneIs (OpensTicket o x) (keys_for x keys session_keys)) (sym (is.only r p.is_request.holds)) none) (k, p.is_key)
@@ -89,17 +89,17 @@ module _ {O : Type 0} (o : OpeningOf O) (keys session_keys : List ServiceKey) (o
 pub not_refused : {O : Type 0} (o : OpeningOf O) (keys session_keys : List ServiceKey) (terms : Terms) (first second : Arrival) (octets : List ℕ) (k : ServiceKey) (d : Entry) (a : Accepted) (e : Refusal)
     → (p : IsPresented o keys session_keys terms first octets k d a) → Keeps (AuthenticatorRule o terms second p.ticket p.authenticator) authenticator_order
     → IsNotPresented o keys session_keys terms second octets e → ⊥
-not_refused o keys session_keys terms first second octets k d a e p keeps (why.no_ticket n) = not_absent o keys session_keys octets e p.request k p.ticket p.has_ticket n
+not_refused o keys session_keys terms first second octets k d a e p keeps (why.no_ticket n) = not_absent o keys session_keys terms octets e p.request k p.ticket p.has_ticket n
 not_refused o keys session_keys terms first second octets k d a e p keeps (why.at_session s l w h refuses) =
-    let same = one_ticket o keys session_keys octets p.request s k l p.ticket w p.has_ticket h in
+    let same = one_ticket o keys session_keys terms terms octets p.request s k l p.ticket w p.has_ticket h in
     keeps_all (SessionRule o terms p.request p.ticket) session_order e.rule p.keeps_session
     (subst (λ (x : RequestFields). BreaksFirst (SessionRule o terms x p.ticket) session_order e.rule) (sym same.requests)
     (subst (λ (x : TicketFields). BreaksFirst (SessionRule o terms s x) session_order e.rule) (sym same.tickets) refuses.0))
 not_refused o keys session_keys terms first second octets k d a e p keeps (why.no_authenticator s l w h kept is none) =
-    let same = one_ticket o keys session_keys octets p.request s k l p.ticket w p.has_ticket h in
+    let same = one_ticket o keys session_keys terms terms octets p.request s k l p.ticket w p.has_ticket h in
     none p.authenticator (same_authenticator o p.request s k l p.ticket w p.authenticator same p.is_authenticator.holds)
 not_refused o keys session_keys terms first second octets k d a e p keeps (why.at_authenticator s l w u h kept is refuses) =
-    let same = one_ticket o keys session_keys octets p.request s k l p.ticket w p.has_ticket h in
+    let same = one_ticket o keys session_keys terms terms octets p.request s k l p.ticket w p.has_ticket h in
     let authenticators = is.only p.authenticator (same_authenticator o p.request s k l p.ticket w p.authenticator same p.is_authenticator.holds) in
     keeps_all (AuthenticatorRule o terms second p.ticket p.authenticator) authenticator_order e.rule keeps
     (subst (λ (x : TicketFields). BreaksFirst (AuthenticatorRule o terms second x p.authenticator) authenticator_order e.rule) (sym same.tickets)

@@ -57,22 +57,22 @@ one_refuses holds shows order e d one p q =
 
 -- ---- the reasons
 
-module _ {O : Type 0} (o : OpeningOf O) (keys session_keys : List ServiceKey) (octets : List ℕ) (e d : Refusal) where
-  one_no_ticket : HasNoTicket o keys session_keys octets e → HasNoTicket o keys session_keys octets d → e ≡ d
+module _ {O : Type 0} (o : OpeningOf O) (keys session_keys : List ServiceKey) (terms : Terms) (octets : List ℕ) (e d : Refusal) where
+  one_no_ticket : HasNoTicket o keys session_keys terms octets e → HasNoTicket o keys session_keys terms octets d → e ≡ d
   one_no_ticket (why.no_request a none) (why.no_request b more) = a ∙ sym b
   one_no_ticket (why.no_request a none) (why.at_request s is q) = absurd (none s is.holds)
   one_no_ticket (why.no_request a none) (why.no_key s is kept b more) = absurd (none s is.holds)
   one_no_ticket (why.at_request r is p) (why.no_request b none) = absurd (none r is.holds)
   one_no_ticket (why.at_request r is p) (why.at_request s other q) =
-      one_refuses (RequestRule o keys session_keys r) (ShowsOfRequest r) request_order e d (one_of_request r) p
-      (subst (λ (x : RequestFields). RefusesFirst (RequestRule o keys session_keys x) (ShowsOfRequest x) request_order d) (sym (other.only r is.holds)) q)
+      one_refuses (RequestRule o terms keys session_keys r) (ShowsOfRequest r) request_order e d (one_of_request r) p
+      (subst (λ (x : RequestFields). RefusesFirst (RequestRule o terms keys session_keys x) (ShowsOfRequest x) request_order d) (sym (other.only r is.holds)) q)
   one_no_ticket (why.at_request r is p) (why.no_key s other kept b none) =
-      absurd (keeps_all (RequestRule o keys session_keys s) request_order e.rule kept
-      (subst (λ (x : RequestFields). BreaksFirst (RequestRule o keys session_keys x) request_order e.rule) (other.only r is.holds) p.0))
+      absurd (keeps_all (RequestRule o terms keys session_keys s) request_order e.rule kept
+      (subst (λ (x : RequestFields). BreaksFirst (RequestRule o terms keys session_keys x) request_order e.rule) (other.only r is.holds) p.0))
   one_no_ticket (why.no_key r is kept a none) (why.no_request b more) = absurd (more r is.holds)
   one_no_ticket (why.no_key r is kept a none) (why.at_request s other q) =
-      absurd (keeps_all (RequestRule o keys session_keys r) request_order d.rule kept
-      (subst (λ (x : RequestFields). BreaksFirst (RequestRule o keys session_keys x) request_order d.rule) (sym (other.only r is.holds)) q.0))
+      absurd (keeps_all (RequestRule o terms keys session_keys r) request_order d.rule kept
+      (subst (λ (x : RequestFields). BreaksFirst (RequestRule o terms keys session_keys x) request_order d.rule) (sym (other.only r is.holds)) q.0))
   one_no_ticket (why.no_key r is kept a none) (why.no_key s other more b none_too) = a ∙ sym b
 
 -- what breaks the rules of one breaks those of the other
@@ -90,31 +90,31 @@ same_rules o terms arrival v w u x e f g h =
 
 module _ {O : Type 0} (o : OpeningOf O) (keys session_keys : List ServiceKey) (terms : Terms) (arrival : Arrival) (octets : List ℕ) (e d : Refusal) where
   one_not_presented : IsNotPresented o keys session_keys terms arrival octets e → IsNotPresented o keys session_keys terms arrival octets d → e ≡ d
-  one_not_presented (why.no_ticket n) (why.no_ticket m) = one_no_ticket o keys session_keys octets e d n m
-  one_not_presented (why.no_ticket n) (why.at_session s l w h q) = absurd (not_absent o keys session_keys octets e s l w h n)
-  one_not_presented (why.no_ticket n) (why.no_authenticator s l w h kept b none) = absurd (not_absent o keys session_keys octets e s l w h n)
-  one_not_presented (why.no_ticket n) (why.at_authenticator s l w u h kept is q) = absurd (not_absent o keys session_keys octets e s l w h n)
-  one_not_presented (why.at_session r k v g p) (why.no_ticket m) = absurd (not_absent o keys session_keys octets d r k v g m)
+  one_not_presented (why.no_ticket n) (why.no_ticket m) = one_no_ticket o keys session_keys terms octets e d n m
+  one_not_presented (why.no_ticket n) (why.at_session s l w h q) = absurd (not_absent o keys session_keys terms octets e s l w h n)
+  one_not_presented (why.no_ticket n) (why.no_authenticator s l w h kept b none) = absurd (not_absent o keys session_keys terms octets e s l w h n)
+  one_not_presented (why.no_ticket n) (why.at_authenticator s l w u h kept is q) = absurd (not_absent o keys session_keys terms octets e s l w h n)
+  one_not_presented (why.at_session r k v g p) (why.no_ticket m) = absurd (not_absent o keys session_keys terms octets d r k v g m)
   one_not_presented (why.at_session r k v g p) (why.at_session s l w h q) =
       one_refuses (SessionRule o terms r v) ShowsNothing session_order e d (λ rule s' t' a b. a ∙ sym b) p
-      (same_session o terms r s k l v w d (one_ticket o keys session_keys octets r s k l v w g h) q)
+      (same_session o terms r s k l v w d (one_ticket o keys session_keys terms terms octets r s k l v w g h) q)
   one_not_presented (why.at_session r k v g p) (why.no_authenticator s l w h kept b none) =
-      absurd (keeps_all (SessionRule o terms s w) session_order e.rule kept (same_session o terms s r l k w v e (one_ticket o keys session_keys octets s r l k w v h g) p).0)
+      absurd (keeps_all (SessionRule o terms s w) session_order e.rule kept (same_session o terms s r l k w v e (one_ticket o keys session_keys terms terms octets s r l k w v h g) p).0)
   one_not_presented (why.at_session r k v g p) (why.at_authenticator s l w u h kept is q) =
-      absurd (keeps_all (SessionRule o terms s w) session_order e.rule kept (same_session o terms s r l k w v e (one_ticket o keys session_keys octets s r l k w v h g) p).0)
-  one_not_presented (why.no_authenticator r k v g kept a none) (why.no_ticket m) = absurd (not_absent o keys session_keys octets d r k v g m)
+      absurd (keeps_all (SessionRule o terms s w) session_order e.rule kept (same_session o terms s r l k w v e (one_ticket o keys session_keys terms terms octets s r l k w v h g) p).0)
+  one_not_presented (why.no_authenticator r k v g kept a none) (why.no_ticket m) = absurd (not_absent o keys session_keys terms octets d r k v g m)
   one_not_presented (why.no_authenticator r k v g kept a none) (why.at_session s l w h q) =
-      absurd (keeps_all (SessionRule o terms r v) session_order d.rule kept (same_session o terms r s k l v w d (one_ticket o keys session_keys octets r s k l v w g h) q).0)
+      absurd (keeps_all (SessionRule o terms r v) session_order d.rule kept (same_session o terms r s k l v w d (one_ticket o keys session_keys terms terms octets r s k l v w g h) q).0)
   one_not_presented (why.no_authenticator r k v g kept a none) (why.no_authenticator s l w h too b more) = a ∙ sym b
   one_not_presented (why.no_authenticator r k v g kept a none) (why.at_authenticator s l w u h too is q) =
-      absurd (none u (same_authenticator o s r l k w v u (one_ticket o keys session_keys octets s r l k w v h g) is.holds))
-  one_not_presented (why.at_authenticator r k v u g kept is p) (why.no_ticket m) = absurd (not_absent o keys session_keys octets d r k v g m)
+      absurd (none u (same_authenticator o s r l k w v u (one_ticket o keys session_keys terms terms octets s r l k w v h g) is.holds))
+  one_not_presented (why.at_authenticator r k v u g kept is p) (why.no_ticket m) = absurd (not_absent o keys session_keys terms octets d r k v g m)
   one_not_presented (why.at_authenticator r k v u g kept is p) (why.at_session s l w h q) =
-      absurd (keeps_all (SessionRule o terms r v) session_order d.rule kept (same_session o terms r s k l v w d (one_ticket o keys session_keys octets r s k l v w g h) q).0)
+      absurd (keeps_all (SessionRule o terms r v) session_order d.rule kept (same_session o terms r s k l v w d (one_ticket o keys session_keys terms terms octets r s k l v w g h) q).0)
   one_not_presented (why.at_authenticator r k v u g kept is p) (why.no_authenticator s l w h too b none) =
-      absurd (none u (same_authenticator o r s k l v w u (one_ticket o keys session_keys octets r s k l v w g h) is.holds))
+      absurd (none u (same_authenticator o r s k l v w u (one_ticket o keys session_keys terms terms octets r s k l v w g h) is.holds))
   one_not_presented (why.at_authenticator r k v u g kept is p) (why.at_authenticator s l w x h too other q) =
-      let same = one_ticket o keys session_keys octets r s k l v w g h in
+      let same = one_ticket o keys session_keys terms terms octets r s k l v w g h in
       let authenticators = other.only u (same_authenticator o r s k l v w u same is.holds) in
       one_refuses (AuthenticatorRule o terms arrival v u) (ShowsTime v u) authenticator_order e d (one_time v u) p
       (same_rules o terms arrival v w u x d same.tickets authenticators q)

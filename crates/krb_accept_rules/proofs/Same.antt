@@ -22,8 +22,8 @@ pub record AreSameTickets (r s : RequestFields) (k l : ServiceKey) (v w : Ticket
   pub keys : k ≡ l
   pub tickets : v ≡ w
 
-module _ {O : Type 0} (o : OpeningOf O) (keys session_keys : List ServiceKey) (octets : List ℕ) (r s : RequestFields) (k l : ServiceKey) (v w : TicketFields) where
-  one_key : r ≡ s → HasTicket o keys session_keys octets r k v → HasTicket o keys session_keys octets s l w → k ≡ l
+module _ {O : Type 0} (o : OpeningOf O) (keys session_keys : List ServiceKey) (terms other : Terms) (octets : List ℕ) (r s : RequestFields) (k l : ServiceKey) (v w : TicketFields) where
+  one_key : r ≡ s → HasTicket o keys session_keys terms octets r k v → HasTicket o keys session_keys other octets s l w → k ≡ l
   one_key e p q =
       one_first (OpensTicket o r) (keys_for r keys session_keys) k l p.is_key
       (subst (λ (x : RequestFields). IsFirst (OpensTicket o x) (keys_for x keys session_keys) l) (sym e) q.is_key)
@@ -32,7 +32,7 @@ module _ {O : Type 0} (o : OpeningOf O) (keys session_keys : List ServiceKey) (o
   same_holds e f h = subst (λ (x : ServiceKey). o.opens_ticket x s v) f (subst (λ (x : RequestFields). o.opens_ticket k x v) e h)
 
   -- octets have one ticket
-  pub one_ticket : HasTicket o keys session_keys octets r k v → HasTicket o keys session_keys octets s l w → AreSameTickets r s k l v w
+  pub one_ticket : HasTicket o keys session_keys terms octets r k v → HasTicket o keys session_keys other octets s l w → AreSameTickets r s k l v w
   one_ticket p q =
       let e = q.is_request.only r p.is_request.holds in
       let f = one_key e p q in
@@ -62,7 +62,7 @@ pub record AreSame (e d : Entry) (a b : Accepted) : Type 0 where
 pub one_presented : {O : Type 0} (o : OpeningOf O) (keys session_keys : List ServiceKey) (terms other : Terms) (first second : Arrival) (octets : List ℕ) (k l : ServiceKey) (e d : Entry) (a b : Accepted)
     → IsPresented o keys session_keys terms first octets k e a → IsPresented o keys session_keys other second octets l d b → AreSame e d a b
 one_presented o keys session_keys terms other first second octets k l e d a b p q =
-    let same = one_ticket o keys session_keys octets p.request q.request k l p.ticket q.ticket p.has_ticket q.has_ticket in
+    let same = one_ticket o keys session_keys terms other octets p.request q.request k l p.ticket q.ticket p.has_ticket q.has_ticket in
     let authenticators = q.is_authenticator.only p.authenticator (same_authenticator o p.request q.request k l p.ticket q.ticket p.authenticator same p.is_authenticator.holds) in
     let numbers = one_number p.microseconds q.microseconds (sym p.is_microseconds ∙ ap (λ (v : AuthenticatorFields). v.cusec) authenticators ∙ q.is_microseconds) in
     record {

@@ -23,11 +23,11 @@ use Rattle.krb_accept_rules.specs.declared.terms.Arrival.{Arrival}
 use Rattle.krb_accept_rules.specs.declared.terms.Terms.{Terms}
 
 -- none of the keys opens the ticket
-pub no_key_opens : {O : Type 0} (o : OpeningOf O) (keys session_keys candidates : List ServiceKey) (octets : List ℕ) (r : RequestFields) (e : Refusal)
-    → IsTheValue (o.reads octets) r → Keeps (RequestRule o keys session_keys r) request_order → candidates ≡ keys_for r keys session_keys
-    → OrMemory (λ d. (d ≡ plain Rules.Ticket) × NoneIs (OpensTicket o r) candidates) e → OrMemory (HasNoTicket o keys session_keys octets) e
-no_key_opens o keys session_keys candidates octets r e is kept same (inl m) = inl m
-no_key_opens o keys session_keys candidates octets r e is kept same (inr n) =
+pub no_key_opens : {O : Type 0} (o : OpeningOf O) (keys session_keys candidates : List ServiceKey) (terms : Terms) (octets : List ℕ) (r : RequestFields) (e : Refusal)
+    → IsTheValue (o.reads octets) r → Keeps (RequestRule o terms keys session_keys r) request_order → candidates ≡ keys_for r keys session_keys
+    → OrMemory (λ d. (d ≡ plain Rules.Ticket) × NoneIs (OpensTicket o r) candidates) e → OrMemory (HasNoTicket o keys session_keys terms octets) e
+no_key_opens o keys session_keys candidates terms octets r e is kept same (inl m) = inl m
+no_key_opens o keys session_keys candidates terms octets r e is kept same (inr n) =
     inr (no_key r is kept n.0 (subst (λ (l : List ServiceKey). NoneIs (OpensTicket o r) l) same n.1))
 
 module _ {O : Type 0} (o : OpeningOf O) (terms : Terms) (arrival : Arrival) (r : RequestFields) (v : TicketFields) (e : Refusal) where
@@ -45,12 +45,12 @@ module _ {O : Type 0} (o : OpeningOf O) (terms : Terms) (arrival : Arrival) (r :
 
 module _ {O : Type 0} (o : OpeningOf O) (keys session_keys : List ServiceKey) (terms : Terms) (arrival : Arrival) (octets : List ℕ) (e : Refusal) where
   -- there is no ticket
-  pub not_a_ticket : OrMemory (HasNoTicket o keys session_keys octets) e → OrMemory (IsNotPresented o keys session_keys terms arrival octets) e
+  pub not_a_ticket : OrMemory (HasNoTicket o keys session_keys terms octets) e → OrMemory (IsNotPresented o keys session_keys terms arrival octets) e
   not_a_ticket (inl m) = inl m
   not_a_ticket (inr n) = inr (no_ticket n)
 
   -- what the ticket's request has beside it is not as the rules say
-  pub not_judged : (r : RequestFields) (k : ServiceKey) (v : TicketFields) → HasTicket o keys session_keys octets r k v → OrMemory (IsNotJudged o terms arrival r v) e
+  pub not_judged : (r : RequestFields) (k : ServiceKey) (v : TicketFields) → HasTicket o keys session_keys terms octets r k v → OrMemory (IsNotJudged o terms arrival r v) e
       → OrMemory (IsNotPresented o keys session_keys terms arrival octets) e
   not_judged r k v h (inl m) = inl m
   not_judged r k v h (inr (session_breaks n)) = inr (at_session r k v h n)

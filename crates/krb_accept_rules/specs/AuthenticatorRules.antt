@@ -8,6 +8,7 @@ use Rattle.krb_types.specs.Times.{unix_seconds}
 use Rattle.krb_accept_rules.specs.Firsts.{EachIs}
 use Rattle.krb_accept_rules.specs.Names.{IsAmong}
 use Rattle.krb_accept_rules.specs.Numbers.{HasMicroseconds, IsListed, IsNumber32}
+use Rattle.krb_accept_rules.specs.Servers.{IsRealmOf}
 use Rattle.krb_accept_rules.specs.TicketTimes.{end_of, start_of}
 use Rattle.krb_accept_rules.specs.Times.{IsWithin}
 use Rattle.krb_accept_rules.specs.declared.fields.AuthenticatorFields.{AuthenticatorFields}
@@ -45,6 +46,12 @@ abbrev pub FitsAddress : Bool → Option HostAddress → Option (List HostAddres
 FitsAddress required None addresses = Unit {0}
 FitsAddress required (Some address) None = required ≡ false
 FitsAddress required (Some address) (Some addresses) = IsAmong addresses address
+
+-- ---- who the client is
+
+-- the ticket does not have the flag ANONYMOUS (16; RFC 8062, 4), or the service lets in clients without a name
+abbrev pub HasName : Terms → TicketFields → Type 0
+HasName terms ticket = (is_set ticket.flags.octets 16 ≡ false) ⊎ (terms.anonymous ≡ true)
 
 -- ---- the path
 
@@ -85,6 +92,8 @@ AuthenticatorRule o terms arrival ticket authenticator Rules.Skew = IsWithin arr
 AuthenticatorRule o terms arrival ticket authenticator Rules.NotYetValid = start_of ticket ≤ℤ (arrival.clock +ℤ pos terms.skew)
 AuthenticatorRule o terms arrival ticket authenticator Rules.Invalid = is_set ticket.flags.octets 7 ≡ false
 AuthenticatorRule o terms arrival ticket authenticator Rules.Expired = arrival.clock ≤ℤ (end_of ticket +ℤ pos terms.skew)
+AuthenticatorRule o terms arrival ticket authenticator Rules.Anonymous = HasName terms ticket
+AuthenticatorRule o terms arrival ticket authenticator Rules.ClientRealm = IsRealmOf terms ticket.realm
 AuthenticatorRule o terms arrival ticket authenticator Rules.Path = IsPath terms ticket
 AuthenticatorRule o terms arrival ticket authenticator Rules.CriticalData = EachElement (IsUnderstood terms.known_data.items) ticket authenticator
 AuthenticatorRule o terms arrival ticket authenticator Rules.DataForm = EachElement (IsWellFormed o) ticket authenticator
@@ -108,8 +117,16 @@ client_order = Rules.OtherClient ∷ Rules.OtherAddress ∷ Rules.Skew ∷ []
 abbrev pub time_order : List Rule
 time_order = Rules.NotYetValid ∷ Rules.Invalid ∷ Rules.Expired ∷ []
 
-abbrev pub data_order : List Rule
-data_order = Rules.Path ∷ Rules.CriticalData ∷ Rules.DataForm ∷ []
+abbrev pub trust_order : List Rule
+trust_order = Rules.Anonymous ∷ Rules.ClientRealm ∷ Rules.Path ∷ Rules.CriticalData ∷ []
+
+-- those that are decided on the values that were read
+abbrev pub value_order : List Rule
+value_order = parts_order ++ (client_order ++ (time_order ++ trust_order))
+
+-- and that of octets within them
+abbrev pub octets_order : List Rule
+octets_order = Rules.DataForm ∷ []
 
 abbrev pub authenticator_order : List Rule
-authenticator_order = parts_order ++ (client_order ++ (time_order ++ data_order))
+authenticator_order = value_order ++ octets_order

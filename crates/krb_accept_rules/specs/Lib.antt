@@ -14,6 +14,7 @@ pub mod Remembering
 pub mod Keys
 pub mod RequestRules
 pub mod AuthenticatorRules
+pub mod Servers
 pub mod SessionRules
 pub mod Accepted
 pub mod Presenting

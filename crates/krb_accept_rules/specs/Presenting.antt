@@ -28,20 +28,20 @@ abbrev pub OpensTicket : {O : Type 0} → OpeningOf O → RequestFields → Serv
 OpensTicket o r key = IsForTicket r key × ((ticket : TicketFields) × o.opens_ticket key r ticket)
 
 -- The octets are this request, which keeps the rules; its ticket is sealed under this key, the first that opens it, and holds this.
-pub record HasTicket {O : Type 0} (o : OpeningOf O) (keys session_keys : List ServiceKey) (octets : List ℕ)
+pub record HasTicket {O : Type 0} (o : OpeningOf O) (keys session_keys : List ServiceKey) (terms : Terms) (octets : List ℕ)
     (r : RequestFields) (key : ServiceKey) (ticket : TicketFields) : Type 0 where
   pub is_request : IsTheValue (o.reads octets) r
-  pub keeps : Keeps (RequestRule o keys session_keys r) request_order
+  pub keeps : Keeps (RequestRule o terms keys session_keys r) request_order
   pub is_key : IsFirst (OpensTicket o r) (keys_for r keys session_keys) key
   pub is_ticket : IsTheValue (o.opens_ticket key r) ticket
 
 -- Why they are not, by the first rule that is broken: they are no request; it breaks a rule; or none of the keys opens its ticket.
-pub data HasNoTicket {O : Type 0} (o : OpeningOf O) (keys session_keys : List ServiceKey) (octets : List ℕ) (e : Refusal) : Type 0 where
-  no_request : e ≡ plain Rules.NotRequest → HasNone (o.reads octets) → HasNoTicket o keys session_keys octets e
-  at_request : (r : RequestFields) → IsTheValue (o.reads octets) r → RefusesFirst (RequestRule o keys session_keys r) (ShowsOfRequest r) request_order e
-      → HasNoTicket o keys session_keys octets e
-  no_key : (r : RequestFields) → IsTheValue (o.reads octets) r → Keeps (RequestRule o keys session_keys r) request_order
-      → e ≡ plain Rules.Ticket → NoneIs (OpensTicket o r) (keys_for r keys session_keys) → HasNoTicket o keys session_keys octets e
+pub data HasNoTicket {O : Type 0} (o : OpeningOf O) (keys session_keys : List ServiceKey) (terms : Terms) (octets : List ℕ) (e : Refusal) : Type 0 where
+  no_request : e ≡ plain Rules.NotRequest → HasNone (o.reads octets) → HasNoTicket o keys session_keys terms octets e
+  at_request : (r : RequestFields) → IsTheValue (o.reads octets) r → RefusesFirst (RequestRule o terms keys session_keys r) (ShowsOfRequest r) request_order e
+      → HasNoTicket o keys session_keys terms octets e
+  no_key : (r : RequestFields) → IsTheValue (o.reads octets) r → Keeps (RequestRule o terms keys session_keys r) request_order
+      → e ≡ plain Rules.Ticket → NoneIs (OpensTicket o r) (keys_for r keys session_keys) → HasNoTicket o keys session_keys terms octets e
 
 -- ---- the authenticator
 
@@ -71,7 +71,7 @@ pub record IsPresented {O : Type 0} (o : OpeningOf O) (keys session_keys : List 
   pub ticket : TicketFields
   pub authenticator : AuthenticatorFields
   pub microseconds : ℕ
-  pub has_ticket : HasTicket o keys session_keys octets request key ticket
+  pub has_ticket : HasTicket o keys session_keys terms octets request key ticket
   pub keeps_session : Keeps (SessionRule o terms request ticket) session_order
   pub is_authenticator : IsTheValue (o.opens_authenticator ticket.key request) authenticator
   pub keeps : Keeps (AuthenticatorRule o terms arrival ticket authenticator) authenticator_order
@@ -83,14 +83,14 @@ pub record IsPresented {O : Type 0} (o : OpeningOf O) (keys session_keys : List 
 -- sealed under the session key; or it breaks a rule beside the ticket.
 pub data IsNotPresented {O : Type 0} (o : OpeningOf O) (keys session_keys : List ServiceKey) (terms : Terms) (arrival : Arrival) (octets : List ℕ)
     (e : Refusal) : Type 0 where
-  no_ticket : HasNoTicket o keys session_keys octets e → IsNotPresented o keys session_keys terms arrival octets e
-  at_session : (r : RequestFields) (key : ServiceKey) (v : TicketFields) → HasTicket o keys session_keys octets r key v
+  no_ticket : HasNoTicket o keys session_keys terms octets e → IsNotPresented o keys session_keys terms arrival octets e
+  at_session : (r : RequestFields) (key : ServiceKey) (v : TicketFields) → HasTicket o keys session_keys terms octets r key v
       → RefusesFirst (SessionRule o terms r v) ShowsNothing session_order e → IsNotPresented o keys session_keys terms arrival octets e
-  no_authenticator : (r : RequestFields) (key : ServiceKey) (v : TicketFields) → HasTicket o keys session_keys octets r key v
+  no_authenticator : (r : RequestFields) (key : ServiceKey) (v : TicketFields) → HasTicket o keys session_keys terms octets r key v
       → Keeps (SessionRule o terms r v) session_order
       → e ≡ plain Rules.Authenticator → HasNone (o.opens_authenticator v.key r) → IsNotPresented o keys session_keys terms arrival octets e
   at_authenticator : (r : RequestFields) (key : ServiceKey) (v : TicketFields) (u : AuthenticatorFields)
-      → HasTicket o keys session_keys octets r key v
+      → HasTicket o keys session_keys terms octets r key v
       → Keeps (SessionRule o terms r v) session_order → IsTheValue (o.opens_authenticator v.key r) u
       → RefusesFirst (AuthenticatorRule o terms arrival v u) (ShowsTime v u) authenticator_order e
       → IsNotPresented o keys session_keys terms arrival octets e

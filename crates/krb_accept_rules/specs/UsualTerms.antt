@@ -1,12 +1,16 @@
 -- The usual terms of a service.
-use Rattle.std.specs.Prelude.{◌≡◌, ℕ, false, None, [], ◌∷◌}
+use Rattle.std.specs.Prelude.{◌≡◌, ℕ, ℤ, false, Option, [], ◌∷◌}
 use Rattle.krb_accept_rules.specs.declared.terms.Terms.{Terms}
 
--- AES alone, authorization data of a KDC and a PAC, a path that a KDC has checked, and a cache that is whole
-pub record AreUsual (skew : ℕ) (terms : Terms) : Type 0 where
+-- AES alone, authorization data of a KDC and a PAC, a path that a KDC has checked, any server, clients with names of any realm, and a cache
+-- that is whole since this time
+pub record AreUsual (skew : ℕ) (whole_since : Option ℤ) (terms : Terms) : Type 0 where
   pub skew_is : terms.skew ≡ skew
   pub addresses : terms.addresses_required ≡ false
   pub etypes : terms.etypes.items ≡ 17 ∷ 18 ∷ 19 ∷ 20 ∷ []
   pub known_data : terms.known_data.items ≡ 8 ∷ 128 ∷ []
   pub path : terms.unchecked_path ≡ false
-  pub whole : terms.whole_since ≡ None
+  pub servers : terms.servers.items ≡ []
+  pub named : terms.anonymous ≡ false
+  pub realms : terms.realms.items ≡ []
+  pub whole : terms.whole_since ≡ whole_since

@@ -2,11 +2,11 @@
 
 ghost use Rattle.std.specs.Prelude.{◌≡◌, pos, IfOk, IfErr, OnOk, MatchBool};
 ghost use Rattle.krb_accept_rules.specs.AuthenticatorRules.{AuthenticatorRule, FitsAddress, IsPermitted, IsSameClient, IsSubkey, ShowsTime, WherePresent};
-ghost use Rattle.krb_accept_rules.specs.AuthenticatorRules.{authenticator_order, client_order, parts_order};
+ghost use Rattle.krb_accept_rules.specs.AuthenticatorRules.{authenticator_order, client_order, parts_order, value_order};
 ghost use Rattle.krb_accept_rules.specs.FirstFault.{Keeps, OrMemory, RefusesFirst};
 ghost use Rattle.krb_accept_rules.specs.Numbers.{IsNumber32};
 
-use crate::elements::check_data;
+use crate::elements::{check_form, check_trust};
 use crate::fields::{AuthenticatorFields, TicketFields};
 use crate::names::{is_among, is_same_name, is_same_realm};
 use crate::numbers::{is_listed, is_number, is_number_of_32_bits, microseconds_of};
@@ -150,6 +150,29 @@ fn check_client<O: Opening>(
     Ok(())
 }
 
+/// The microseconds of an authenticator, where it and its ticket keep the rules that are decided on
+/// their values, `AuthenticatorVersion` to `CriticalData`; else the refusal by the first of these
+/// that is broken.
+///
+/// Nothing is allocated, so this is the answer always: there is no `OutOfMemory`.
+pub fn judge<O: Opening>(
+    terms: &Terms,
+    arrival: &Arrival,
+    ticket: &TicketFields,
+    authenticator: &AuthenticatorFields,
+) -> Result<u32, Refusal>
+    ensures microseconds { IfOk result (λ n. authenticator.now.cusec ≡ pos n) }
+    ensures kept { OnOk result (Keeps (AuthenticatorRule ⟦<O as Opening>⟧ terms.now arrival.now ticket.now authenticator.now) value_order) }
+    ensures broken { IfErr result (RefusesFirst (AuthenticatorRule ⟦<O as Opening>⟧ terms.now arrival.now ticket.now authenticator.now)
+        (ShowsTime ticket.now authenticator.now) value_order) }
+{
+    let microseconds = check_parts::<O>(terms, arrival, ticket, authenticator)?;
+    let _client = check_client::<O>(terms, arrival, ticket, authenticator)?;
+    let _times = check_times::<O>(terms, arrival, ticket, authenticator)?;
+    let _trust = check_trust::<O>(terms, arrival, ticket, authenticator)?;
+    Ok(microseconds)
+}
+
 /// The microseconds of the authenticator, where it and the ticket keep the rules; else the first
 /// that is broken.
 pub(crate) fn check_authenticator<O: Opening>(
@@ -164,9 +187,7 @@ pub(crate) fn check_authenticator<O: Opening>(
     ensures broken { IfErr result (OrMemory (RefusesFirst (AuthenticatorRule ⟦<O as Opening>⟧ terms.now arrival.now ticket.now authenticator.now)
         (ShowsTime ticket.now authenticator.now) authenticator_order)) }
 {
-    let microseconds = check_parts::<O>(terms, arrival, ticket, authenticator)?;
-    let _client = check_client::<O>(terms, arrival, ticket, authenticator)?;
-    let _times = check_times::<O>(terms, arrival, ticket, authenticator)?;
-    let _data = check_data::<O>(alloc, terms, arrival, ticket, authenticator)?;
+    let microseconds = judge::<O>(terms, arrival, ticket, authenticator)?;
+    let _form = check_form::<O>(alloc, terms, arrival, ticket, authenticator)?;
     Ok(microseconds)
 }

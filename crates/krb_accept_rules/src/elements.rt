@@ -1,7 +1,7 @@
-//! The rules of a ticket's path and of authorization data (RFC 4120, 2.7 and 5.2.6).
+//! The rules of a client's name and realm, of a ticket's path and of authorization data (RFC 8062; RFC 4120, 2.7 and 5.2.6).
 
 ghost use Rattle.std.specs.Prelude.{◌≡◌, IfErr, IfOk, OnOk, MatchBool};
-ghost use Rattle.krb_accept_rules.specs.AuthenticatorRules.{AuthenticatorRule, EachElement, IsPath, IsUnderstood, IsWellFormed, ShowsTime, data_in, data_order};
+ghost use Rattle.krb_accept_rules.specs.AuthenticatorRules.{AuthenticatorRule, EachElement, HasName, IsPath, IsUnderstood, IsWellFormed, ShowsTime, data_in, octets_order, trust_order};
 ghost use Rattle.krb_accept_rules.specs.FirstFault.{Keeps, OrMemory, RefusesFirst};
 ghost use Rattle.krb_accept_rules.specs.Firsts.{EachIs};
 
@@ -9,16 +9,27 @@ use crate::fields::{AuthenticatorFields, TicketFields};
 use crate::numbers::{is_listed, is_number};
 use crate::opening::Opening;
 use crate::refusal::{Refusal, Rule};
+use crate::servers::is_realm_of;
 use crate::terms::{Arrival, Terms};
 use krb_types::data_types::{AuthorizationData, AuthorizationDataInner};
 use krb_types::view::{is_set, items};
 use std::alloc::{AllocError, Global};
+
+/// The number of ANONYMOUS among the flags of a ticket (RFC 8062, 4).
+const ANONYMOUS: usize = 16;
 
 /// The number of TRANSITED-POLICY-CHECKED among the flags of a ticket (RFC 4120, 5.3).
 const TRANSITED_POLICY_CHECKED: usize = 12;
 
 /// The type of AD-IF-RELEVANT (RFC 4120, 5.2.6.1).
 const IF_RELEVANT: u32 = 1;
+
+/// Whether the client has a name, or the service lets in clients without one.
+fn has_name(terms: &Terms, ticket: &TicketFields) -> bool
+    ensures { MatchBool result (HasName terms.now ticket.now) (HasName terms.now ticket.now → ⊥) }
+{
+    !is_set(&ticket.flags, ANONYMOUS) || terms.anonymous
+}
 
 /// Whether the path of realms that the ticket took may be taken.
 fn is_path(terms: &Terms, ticket: &TicketFields) -> bool
@@ -117,25 +128,45 @@ fn is_all_well_formed<O: Opening>(
     Ok(of_ticket && of_authenticator)
 }
 
-/// Whether the ticket's path and the authorization data keep the rules; else the first that is
-/// broken.
-pub(crate) fn check_data<O: Opening>(
-    alloc: Global,
+/// Whether the ticket is of a client that the service lets in by its name, its realm, its path and
+/// its authorization data; else the first rule that is broken.
+pub(crate) fn check_trust<O: Opening>(
     terms: &Terms,
     arrival: &Arrival,
     ticket: &TicketFields,
     authenticator: &AuthenticatorFields,
 ) -> Result<(), Refusal>
-    ensures kept { OnOk result (Keeps (AuthenticatorRule ⟦<O as Opening>⟧ terms.now arrival.now ticket.now authenticator.now) data_order) }
-    ensures broken { IfErr result (OrMemory (RefusesFirst (AuthenticatorRule ⟦<O as Opening>⟧ terms.now arrival.now ticket.now authenticator.now)
-        (ShowsTime ticket.now authenticator.now) data_order)) }
+    ensures kept { OnOk result (Keeps (AuthenticatorRule ⟦<O as Opening>⟧ terms.now arrival.now ticket.now authenticator.now) trust_order) }
+    ensures broken { IfErr result (RefusesFirst (AuthenticatorRule ⟦<O as Opening>⟧ terms.now arrival.now ticket.now authenticator.now)
+        (ShowsTime ticket.now authenticator.now) trust_order) }
 {
+    if !has_name(terms, ticket) {
+        return Err(Refusal::plain(Rule::Anonymous));
+    }
+    if !is_realm_of(terms, &ticket.realm) {
+        return Err(Refusal::plain(Rule::ClientRealm));
+    }
     if !is_path(terms, ticket) {
         return Err(Refusal::plain(Rule::Path));
     }
     if !is_all_understood(&terms.known_data, ticket, authenticator) {
         return Err(Refusal::plain(Rule::CriticalData));
     }
+    Ok(())
+}
+
+/// Whether what each AD-IF-RELEVANT holds is an AuthorizationData.
+pub(crate) fn check_form<O: Opening>(
+    alloc: Global,
+    terms: &Terms,
+    arrival: &Arrival,
+    ticket: &TicketFields,
+    authenticator: &AuthenticatorFields,
+) -> Result<(), Refusal>
+    ensures kept { OnOk result (Keeps (AuthenticatorRule ⟦<O as Opening>⟧ terms.now arrival.now ticket.now authenticator.now) octets_order) }
+    ensures broken { IfErr result (OrMemory (RefusesFirst (AuthenticatorRule ⟦<O as Opening>⟧ terms.now arrival.now ticket.now authenticator.now)
+        (ShowsTime ticket.now authenticator.now) octets_order)) }
+{
     let is = is_all_well_formed::<O>(alloc, ticket, authenticator)?;
     if is {
         Ok(())

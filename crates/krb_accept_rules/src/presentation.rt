@@ -82,14 +82,15 @@ fn sound_request<O: Opening>(
     alloc: Global,
     keys: &[ServiceKey],
     session_keys: &[ServiceKey],
+    terms: &Terms,
     octets: &[u8],
 ) -> Result<RequestFields, Refusal>
     ensures found { IfOk result (IsTheValue (O.reads octets.now)) }
-    ensures kept { IfOk result (λ r. Keeps (RequestRule ⟦<O as Opening>⟧ keys.now session_keys.now r) request_order) }
-    ensures rejected { IfErr result (OrMemory (HasNoTicket ⟦<O as Opening>⟧ keys.now session_keys.now octets.now)) }
+    ensures kept { IfOk result (λ r. Keeps (RequestRule ⟦<O as Opening>⟧ terms.now keys.now session_keys.now r) request_order) }
+    ensures rejected { IfErr result (OrMemory (HasNoTicket ⟦<O as Opening>⟧ keys.now session_keys.now terms.now octets.now)) }
 {
     let request = request_in::<O>(alloc, octets)?;
-    match check_request::<O>(keys, session_keys, &request) {
+    match check_request::<O>(terms, keys, session_keys, &request) {
         Ok(()) => Ok(request),
         Err(refusal) => {
             drop(request);
@@ -103,12 +104,13 @@ fn ticket_in<'k, O: Opening>(
     alloc: Global,
     keys: &'k [ServiceKey],
     session_keys: &'k [ServiceKey],
+    terms: &Terms,
     octets: &[u8],
 ) -> Result<Opened<'k>, Refusal>
-    ensures found { IfOk result (λ p. HasTicket ⟦<O as Opening>⟧ keys.now session_keys.now octets.now p.request p.key.now p.ticket) }
-    ensures rejected { IfErr result (OrMemory (HasNoTicket ⟦<O as Opening>⟧ keys.now session_keys.now octets.now)) }
+    ensures found { IfOk result (λ p. HasTicket ⟦<O as Opening>⟧ keys.now session_keys.now terms.now octets.now p.request p.key.now p.ticket) }
+    ensures rejected { IfErr result (OrMemory (HasNoTicket ⟦<O as Opening>⟧ keys.now session_keys.now terms.now octets.now)) }
 {
-    let request = sound_request::<O>(alloc, keys, session_keys, octets)?;
+    let request = sound_request::<O>(alloc, keys, session_keys, terms, octets)?;
     let candidates = keys_for(keys, session_keys, &request);
     match first_opening::<O>(alloc, candidates, &request) {
         Ok((key, ticket)) => Ok(Opened {
@@ -175,7 +177,7 @@ struct Judged {
 
 /// The authenticator, where the session key keeps the rules, the authenticator is sealed under it, and it and the ticket keep the
 /// rules; else the first of these that does not hold.
-fn judge<O: Opening>(
+fn judge_opened<O: Opening>(
     alloc: Global,
     terms: &Terms,
     arrival: &Arrival,
@@ -241,9 +243,9 @@ pub fn present<'k, O: Opening>(
         IsPresented ⟦<O as Opening>⟧ keys.now session_keys.now terms.now arrival.now octets.now p.key.now p.entry p.accepted) }
     ensures rejected { IfErr result (OrMemory (IsNotPresented ⟦<O as Opening>⟧ keys.now session_keys.now terms.now arrival.now octets.now)) }
 {
-    let opened = ticket_in::<O>(alloc, keys, session_keys, octets)?;
-    match judge::<O>(alloc, terms, arrival, &opened) {
-        Ok(judged) => Ok(presented(opened, judged)),
+    let opened = ticket_in::<O>(alloc, keys, session_keys, terms, octets)?;
+    match judge_opened::<O>(alloc, terms, arrival, &opened) {
+        Ok(found) => Ok(presented(opened, found)),
         Err(refusal) => {
             drop(opened);
             Err(refusal)

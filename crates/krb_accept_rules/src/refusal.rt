@@ -22,13 +22,13 @@ pub enum Rule {
     Options,
     /// use-session-key is not set, or the caller gives a session key (3.2.3).
     UserToUser,
-    /// A key is of the server that the ticket names (3.2.3).
+    /// The terms name the server that the ticket names, or name none, and a key is of it (3.2.3).
     NotUs,
     /// One of these is of the encryption type of the ticket (3.2.3).
     NoKey,
     /// One of these is of the version that the ticket names, where it names one (3.2.3).
     KeyVersion,
-    /// The encryption type of the ticket is supported (3.2.3).
+    /// The encryption type of the ticket is supported and permitted (3.2.3).
     TicketSuite,
     /// One of these keys opens the ticket (3.2.3).
     Ticket,
@@ -60,6 +60,11 @@ pub enum Rule {
     Invalid,
     /// The ticket has not ended (3.2.3).
     Expired,
+    /// The ticket does not have the flag ANONYMOUS, or the service lets in clients without a name
+    /// (RFC 8062, 4).
+    Anonymous,
+    /// The client's realm is one of those of the terms, where these name some.
+    ClientRealm,
     /// A KDC has checked the path of realms, there is none, or the service does not ask (2.7).
     Path,
     /// The service understands each element of authorization data (5.2.6).
@@ -95,6 +100,7 @@ impl Rule {
             Rule::KeyVersion => 44,
             Rule::NoKey => 45,
             Rule::Options | Rule::Flags | Rule::Microseconds | Rule::SequenceNumber => 60,
+            Rule::Anonymous | Rule::ClientRealm => 60,
             Rule::CriticalData | Rule::DataForm | Rule::OutOfMemory => 60,
             Rule::UserToUser => 67,
         }
@@ -110,10 +116,11 @@ impl Rule {
             Rule::Options => "the options have fewer than 32 bits",
             Rule::UserToUser =>
                 "the ticket is sealed under a session key that the service does not have",
-            Rule::NotUs => "the service has no key for the server that the ticket names",
+            Rule::NotUs =>
+                "the ticket is for a server that is not the service, or that it has no key of",
             Rule::NoKey => "the service has no key of the ticket's encryption type",
             Rule::KeyVersion => "the service has no key of the version that the ticket names",
-            Rule::TicketSuite => "the ticket's encryption type is not supported",
+            Rule::TicketSuite => "the ticket's encryption type is not supported or permitted",
             Rule::Ticket => "no key of the service opens the ticket",
             Rule::Flags => "the ticket's flags have fewer than 32 bits",
             Rule::SessionSuite => "the session key's encryption type is not supported or permitted",
@@ -128,6 +135,8 @@ impl Rule {
             Rule::NotYetValid => "the ticket is not yet valid",
             Rule::Invalid => "the ticket has the flag INVALID",
             Rule::Expired => "the ticket has expired",
+            Rule::Anonymous => "the client is anonymous",
+            Rule::ClientRealm => "the service lets in no client of this realm",
             Rule::Path => "no KDC has checked the path of realms",
             Rule::CriticalData => "the service does not understand the authorization data",
             Rule::DataForm => "the authorization data is malformed",

@@ -7,12 +7,15 @@ ghost use Rattle.krb_accept_rules.specs.Keys.{Fits, ShowsVersion};
 ghost use Rattle.krb_accept_rules.specs.declared.refusal.Rule.TheVariants as Rules;
 ghost use Rattle.krb_accept_rules.specs.RequestRules.{HasItsSessionKey, RequestRule, ShowsOfRequest, form_order, key_order, request_order, suite_order};
 
+use crate::authenticator::is_permitted;
 use crate::fields::RequestFields;
 use crate::flags::has_flags;
 use crate::key::{ServiceKey, Sought, first_key, keys_for, uses_session_key, version_seen};
 use crate::numbers::is_number;
 use crate::opening::Opening;
 use crate::refusal::{Refusal, Rule};
+use crate::servers::is_served;
+use crate::terms::Terms;
 
 /// pvno and tkt-vno (RFC 4120, 5.3 and 5.5.1).
 const VERSION: u32 = 5;
@@ -33,12 +36,13 @@ fn has_its_session_key(request: &RequestFields, session_keys: &[ServiceKey]) -> 
 
 /// Whether the rules are kept that need no key; else the first that is broken.
 fn check_form<O: Opening>(
+    terms: &Terms,
     keys: &[ServiceKey],
     session_keys: &[ServiceKey],
     request: &RequestFields,
 ) -> Result<(), Refusal>
-    ensures kept { OnOk result (Keeps (RequestRule ⟦<O as Opening>⟧ keys.now session_keys.now request.now) form_order) }
-    ensures broken { IfErr result (RefusesFirst (RequestRule ⟦<O as Opening>⟧ keys.now session_keys.now request.now)
+    ensures kept { OnOk result (Keeps (RequestRule ⟦<O as Opening>⟧ terms.now keys.now session_keys.now request.now) form_order) }
+    ensures broken { IfErr result (RefusesFirst (RequestRule ⟦<O as Opening>⟧ terms.now keys.now session_keys.now request.now)
         (ShowsOfRequest request.now) form_order) }
 {
     if !is_number(&request.version, VERSION) {
@@ -86,17 +90,21 @@ fn other_version(request: &RequestFields) -> Refusal
     }
 }
 
-/// Whether one of the keys is of the ticket's server, its encryption type and its version; else the
-/// first of these that none is of.
+/// Whether clients are let in for the ticket's server, and one of the keys is of it, of its encryption
+/// type and its version; else the first of these that none is of.
 fn check_keys<O: Opening>(
+    terms: &Terms,
     keys: &[ServiceKey],
     session_keys: &[ServiceKey],
     request: &RequestFields,
 ) -> Result<(), Refusal>
-    ensures kept { OnOk result (Keeps (RequestRule ⟦<O as Opening>⟧ keys.now session_keys.now request.now) key_order) }
-    ensures broken { IfErr result (RefusesFirst (RequestRule ⟦<O as Opening>⟧ keys.now session_keys.now request.now)
+    ensures kept { OnOk result (Keeps (RequestRule ⟦<O as Opening>⟧ terms.now keys.now session_keys.now request.now) key_order) }
+    ensures broken { IfErr result (RefusesFirst (RequestRule ⟦<O as Opening>⟧ terms.now keys.now session_keys.now request.now)
         (ShowsOfRequest request.now) key_order) }
 {
+    if !is_served(terms, request) {
+        return Err(Refusal::plain(Rule::NotUs));
+    }
     let candidates = keys_for(keys, session_keys, request);
     let _of_server = require(
         candidates,
@@ -114,35 +122,40 @@ fn check_keys<O: Opening>(
     Ok(())
 }
 
-/// Whether the ticket's encryption type is supported.
+/// Whether the ticket's encryption type is supported and permitted.
 fn check_suite<O: Opening>(
+    terms: &Terms,
     keys: &[ServiceKey],
     session_keys: &[ServiceKey],
     request: &RequestFields,
 ) -> Result<(), Refusal>
-    ensures kept { OnOk result (Keeps (RequestRule ⟦<O as Opening>⟧ keys.now session_keys.now request.now) suite_order) }
-    ensures broken { IfErr result (RefusesFirst (RequestRule ⟦<O as Opening>⟧ keys.now session_keys.now request.now)
+    ensures kept { OnOk result (Keeps (RequestRule ⟦<O as Opening>⟧ terms.now keys.now session_keys.now request.now) suite_order) }
+    ensures broken { IfErr result (RefusesFirst (RequestRule ⟦<O as Opening>⟧ terms.now keys.now session_keys.now request.now)
         (ShowsOfRequest request.now) suite_order) }
 {
-    if O::is_supported(&request.ticket.etype.0) {
+    if is_permitted::<O>(terms, &request.ticket.etype.0) {
         Ok(())
     } else {
         Err(Refusal::plain(Rule::TicketSuite))
     }
 }
 
-/// Whether the rules are kept that come before the ticket is opened; else the first that is broken.
-pub(crate) fn check_request<O: Opening>(
+/// Whether a request keeps the rules that come before its ticket is opened, `Version` to
+/// `TicketSuite`; else the refusal by the first of these that is broken.
+///
+/// Nothing is allocated, so this is the answer always: there is no `OutOfMemory`.
+pub fn check_request<O: Opening>(
+    terms: &Terms,
     keys: &[ServiceKey],
     session_keys: &[ServiceKey],
     request: &RequestFields,
 ) -> Result<(), Refusal>
-    ensures kept { OnOk result (Keeps (RequestRule ⟦<O as Opening>⟧ keys.now session_keys.now request.now) request_order) }
-    ensures broken { IfErr result (RefusesFirst (RequestRule ⟦<O as Opening>⟧ keys.now session_keys.now request.now)
+    ensures kept { OnOk result (Keeps (RequestRule ⟦<O as Opening>⟧ terms.now keys.now session_keys.now request.now) request_order) }
+    ensures broken { IfErr result (RefusesFirst (RequestRule ⟦<O as Opening>⟧ terms.now keys.now session_keys.now request.now)
         (ShowsOfRequest request.now) request_order) }
 {
-    let _form = check_form::<O>(keys, session_keys, request)?;
-    let _keys = check_keys::<O>(keys, session_keys, request)?;
-    let _suite = check_suite::<O>(keys, session_keys, request)?;
+    let _form = check_form::<O>(terms, keys, session_keys, request)?;
+    let _keys = check_keys::<O>(terms, keys, session_keys, request)?;
+    let _suite = check_suite::<O>(terms, keys, session_keys, request)?;
     Ok(())
 }

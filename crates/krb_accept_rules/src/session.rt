@@ -23,9 +23,11 @@ fn is_session_key<O: Opening>(terms: &Terms, request: &RequestFields, key: &Encr
         && is_same_integer(&request.authenticator.etype.0, &key.key_type.0)
 }
 
-/// Whether the ticket keeps the rules that come before the authenticator is opened; else the first
-/// that is broken.
-pub(crate) fn check_session<O: Opening>(
+/// Whether a ticket keeps the rules that come before the authenticator is opened, `Flags` and
+/// `SessionSuite`; else the refusal by the first of these that is broken.
+///
+/// Nothing is allocated, so this is the answer always: there is no `OutOfMemory`.
+pub fn check_session<O: Opening>(
     terms: &Terms,
     request: &RequestFields,
     ticket: &TicketFields,

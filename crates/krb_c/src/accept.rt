@@ -2,6 +2,7 @@
 
 ghost use Rattle.krb_c_accept.specs.Bindings.{IsBindingsHash, RefusesBindings};
 ghost use Rattle.krb_c_accept.specs.Calls.{IsCall};
+ghost use Rattle.krb_c_accept.specs.Confirming.{IsConfirmation, confirm_inputs};
 ghost use Rattle.krb_c_accept.specs.ErrorMessages.{IsErrorMessage, RefusesErrorMessage};
 ghost use Rattle.krb_c_accept.specs.Inputs.{inputs};
 ghost use Rattle.krb_c_calls.specs.Handing.{IsAnswered};
@@ -9,7 +10,8 @@ ghost use Rattle.krb_c_calls.specs.Handing.{IsAnswered};
 use krb_accept::{ChannelBindings, Kerberos};
 use krb_accept_rules::Opening;
 use krb_c_accept::{
-    AcceptedRecord, AcceptorRecord, Asked, ErrorAsked, accept, channel_bindings, make_error,
+    AcceptedRecord, AcceptorRecord, Asked, ConfirmAsked, ErrorAsked, accept, channel_bindings,
+    confirm, make_error,
 };
 use krb_der::DerEncode;
 use krb_enc_parts::data_types::{EncApRepPart, EncKrbCredPart};
@@ -24,6 +26,8 @@ pub extern "C" fn krb_accept(
     acceptor: &AcceptorRecord,
     keytab: &[u8],
     session_keys: &[u8],
+    server: &[u8],
+    client_realm: &[u8],
     bindings: &[u8],
     address: &[u8],
     random: &[u8],
@@ -34,18 +38,43 @@ pub extern "C" fn krb_accept(
 ) -> u32
     ensures { IsCall ⟦<KrbCred as DerEncode>⟧ ⟦<EncKrbCredPart as DerEncode>⟧ ⟦<AuthorizationData as DerEncode>⟧ ⟦<Kerberos as Opening>⟧
         ⟦<EncApRepPart as DerEncode>⟧ ⟦<ApRep as DerEncode>⟧
-        (inputs acceptor.now keytab.now session_keys.now bindings.now address.now random.now token.now) accepted.new out.old out.new size.new result }
+        (inputs acceptor.now keytab.now session_keys.now server.now client_realm.now bindings.now address.now random.now token.now) accepted.new out.old out.new size.new result }
 {
     let asked = Asked {
         acceptor: *acceptor,
         keytab,
         session_keys,
+        servers: server,
+        realms: client_realm,
         bindings,
         address,
         random,
         token,
     };
     accept(alloc, &asked, accepted, out, size)
+}
+
+/// `krb_confirm` of `krb.h`: whether a client's message is the third leg of DCE style.
+#[unsafe(no_mangle)]
+pub extern "C" fn krb_confirm(
+    alloc: Global,
+    etype: u32,
+    session_key: &[u8],
+    own_reply: &[u8],
+    sequence_number: u32,
+    message: &[u8],
+) -> u32
+    ensures { IsConfirmation ⟦<ApRep as DerEncode>⟧ ⟦<EncApRepPart as DerEncode>⟧
+        (confirm_inputs etype session_key.now own_reply.now sequence_number message.now) result }
+{
+    let asked = ConfirmAsked {
+        etype,
+        session_key,
+        own_reply,
+        sequence_number,
+        message,
+    };
+    confirm(alloc, &asked)
 }
 
 /// `krb_channel_bindings` of `krb.h`: the hash of channel bindings.

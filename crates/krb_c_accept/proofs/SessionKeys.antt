@@ -1,5 +1,5 @@
 -- The session key of a client that is let in: the authenticator was decrypted with it.
-use Rattle.std.proofs.Common.{◌∙◌, ℕ, List, sym, subst}
+use Rattle.std.proofs.Common.{◌∙◌, ℕ, List, ap, sym, subst}
 use Rattle.krb_accept.specs.Kerberos.{HasLength}
 use Rattle.krb_accept_rules.specs.declared.accepted.Accepted.{Accepted}
 use Rattle.krb_accept_rules.specs.declared.fields.AuthenticatorFields.{AuthenticatorFields}
@@ -19,5 +19,6 @@ pub of_its_length : (cred : EncodingOf KrbCredInner) (part : EncodingOf EncKrbCr
     → IsLetIn cred part elements o p token l → HasLength l.context.accepted.ticket.key
 of_its_length cred part elements o p token l opens is =
     let what = is.is_presented.presented in
-    subst (λ (a : Accepted). HasLength a.ticket.key) (sym (is.told.accepted ∙ what.tells))
+    subst (λ (k : EncryptionKey). HasLength k)
+    (sym (ap (λ (a : Accepted). a.ticket.key) (is.told.accepted ∙ is.is_presented.handed_out.told_is) ∙ ap (λ (a : Accepted). a.ticket.key) what.tells))
     (opens what.ticket.key what.request what.authenticator what.is_authenticator.holds)

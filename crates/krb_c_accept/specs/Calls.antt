@@ -1,5 +1,5 @@
 -- What becomes of a call of the acceptor, and what it tells.
-use Rattle.std.specs.Prelude.{◌≡◌, ◌⊎◌, ℕ, ◌<◌, Bool, true, false, if◌then◌else◌, List}
+use Rattle.std.specs.Prelude.{◌≡◌, ◌⊎◌, ℕ, ◌<◌, ◌==◌, Bool, true, false, if◌then◌else◌, List}
 use Rattle.krb_accept.specs.declared.token_refusal.TokenRefusal.{TokenRefusal}
 use Rattle.krb_accept.specs.declared.token_refusal.TokenRefusal.TheVariants as refusal
 use Rattle.krb_accept_rules.specs.declared.opening.Opening.{Ghosts as OpeningOf}
@@ -64,10 +64,14 @@ module _ (cred : EncodingOf KrbCredInner) (cred_part : EncodingOf EncKrbCredPart
 
 -- ---- what it tells
 
--- The octets of the client are handed out, and it is told (0), or they do not fit (1); or the rule is told that refuses it (41), or nothing.
+-- 43 in place of 0: the client is let in unless the caller's replay cache has it
+abbrev pub let_in_status : ℕ → ℕ
+let_in_status status = if status == 0 then 43 else status
+
+-- The octets of the client are handed out, and it is told (43), or they do not fit (1); or the rule is told that refuses it (41), or nothing.
 abbrev pub Tells : Outcome → AcceptedRecord → List ℕ → List ℕ → ℕ → ℕ → Type 0
 Tells (outcomes.LetIn a) told before after size status =
-    IsPut a.octets.items before after size status × (status ≡ 0 → told ≡ a.record) × (status ≡ 1 → told ≡ nothing)
+    (put : ℕ) × IsPut a.octets.items before after size put × (status ≡ let_in_status put) × (put ≡ 0 → told ≡ a.record) × (put ≡ 1 → told ≡ nothing)
 Tells (outcomes.Refused e) told before after size status = (status ≡ 41) × (told ≡ refused_record e) × IsKept before after size
 Tells (outcomes.Failed e) told before after size status = (status ≡ refusal_status e) × (1 < status) × (told ≡ nothing) × IsKept before after size
 

@@ -1,4 +1,6 @@
 pub mod Options
+pub mod Refusing
+pub mod Names
 pub mod Inputs
 pub mod Prepared
 pub mod Rules
@@ -10,3 +12,4 @@ pub mod Answers
 pub mod Calls
 pub mod Bindings
 pub mod ErrorMessages
+pub mod Confirming

@@ -1,5 +1,6 @@
 -- The octets that are handed out of a client that is let in, one part behind the other.
 use Rattle.std.specs.Prelude.{◌≡◌, ℕ, List, [], ◌++◌, length, Option, None, Some}
+use Rattle.std.specs.Option.{option_map}
 use Rattle.krb_accept.specs.declared.delegation.Delegated.{Delegated}
 use Rattle.krb_der_core.specs.declared.der.DerEncode.{Ghosts as EncodingOf}
 use Rattle.krb_types.specs.declared.data_types.authorization_data.AuthorizationDataInner.{AuthorizationDataInner}
@@ -22,11 +23,17 @@ abbrev pub optional_delegated : Option Delegated → List ℕ
 optional_delegated None = []
 optional_delegated (Some d) = d.octets.items
 
+-- those of a PAC (MS-PAC, 2.1), or none
+abbrev pub optional_octets : Option (List ℕ) → List ℕ
+optional_octets None = []
+optional_octets (Some octets) = octets
+
 pub record ArePartsOf (elements : EncodingOf (List AuthorizationDataInner)) (l : LetIn) (r : Reply) (p : Parts) : Type 0 where
   pub entry : p.entry.now ≡ l.entry.items
   pub session_key : p.session_key.now ≡ l.context.accepted.ticket.key.key_value
   pub subkey : p.subkey.now ≡ optional_key l.context.accepted.subkey
   pub own_subkey : p.own_subkey.now ≡ r.own_subkey.items
+  pub pac : p.pac.now ≡ optional_octets (option_map (λ v. v.items) l.context.pac)
   pub transited : p.transited.now ≡ l.context.accepted.ticket.transited.contents
   pub authorization_data : p.authorization_data.now ≡ optional_encoding elements l.context.accepted.ticket.authorization_data
   pub restrictions : p.restrictions.now ≡ optional_encoding elements l.context.accepted.authorization_data
@@ -42,7 +49,7 @@ place_behind before octets = record { offset = length before; size = length octe
 -- the parts behind others, in this order
 abbrev pub joined : List ℕ → Parts → List ℕ
 joined before p =
-    before ++ p.entry.now ++ p.session_key.now ++ p.subkey.now ++ p.own_subkey.now ++ p.transited.now ++ p.authorization_data.now
+    before ++ p.entry.now ++ p.session_key.now ++ p.subkey.now ++ p.own_subkey.now ++ p.pac.now ++ p.transited.now ++ p.authorization_data.now
     ++ p.restrictions.now ++ p.delegated.now ++ p.reply.now
 
 abbrev pub places_behind : List ℕ → Parts → Places
@@ -51,16 +58,17 @@ places_behind before p = record {
   session_key = place_behind (before ++ p.entry.now) p.session_key.now;
   subkey = place_behind (before ++ p.entry.now ++ p.session_key.now) p.subkey.now;
   own_subkey = place_behind (before ++ p.entry.now ++ p.session_key.now ++ p.subkey.now) p.own_subkey.now;
-  transited = place_behind (before ++ p.entry.now ++ p.session_key.now ++ p.subkey.now ++ p.own_subkey.now) p.transited.now;
+  pac = place_behind (before ++ p.entry.now ++ p.session_key.now ++ p.subkey.now ++ p.own_subkey.now) p.pac.now;
+  transited = place_behind (before ++ p.entry.now ++ p.session_key.now ++ p.subkey.now ++ p.own_subkey.now ++ p.pac.now) p.transited.now;
   authorization_data =
-      place_behind (before ++ p.entry.now ++ p.session_key.now ++ p.subkey.now ++ p.own_subkey.now ++ p.transited.now) p.authorization_data.now;
+      place_behind (before ++ p.entry.now ++ p.session_key.now ++ p.subkey.now ++ p.own_subkey.now ++ p.pac.now ++ p.transited.now) p.authorization_data.now;
   restrictions =
-      place_behind (before ++ p.entry.now ++ p.session_key.now ++ p.subkey.now ++ p.own_subkey.now ++ p.transited.now ++ p.authorization_data.now)
+      place_behind (before ++ p.entry.now ++ p.session_key.now ++ p.subkey.now ++ p.own_subkey.now ++ p.pac.now ++ p.transited.now ++ p.authorization_data.now)
       p.restrictions.now;
   delegated =
-      place_behind (before ++ p.entry.now ++ p.session_key.now ++ p.subkey.now ++ p.own_subkey.now ++ p.transited.now ++ p.authorization_data.now
+      place_behind (before ++ p.entry.now ++ p.session_key.now ++ p.subkey.now ++ p.own_subkey.now ++ p.pac.now ++ p.transited.now ++ p.authorization_data.now
       ++ p.restrictions.now) p.delegated.now;
   reply =
-      place_behind (before ++ p.entry.now ++ p.session_key.now ++ p.subkey.now ++ p.own_subkey.now ++ p.transited.now ++ p.authorization_data.now
+      place_behind (before ++ p.entry.now ++ p.session_key.now ++ p.subkey.now ++ p.own_subkey.now ++ p.pac.now ++ p.transited.now ++ p.authorization_data.now
       ++ p.restrictions.now ++ p.delegated.now) p.reply.now;
 }

@@ -1,5 +1,5 @@
 -- What a service asks, as the library takes it: keys, terms, what is known of the request, settings.
-use Rattle.std.specs.Prelude.{◌≡◌, ◌≢◌, ◌⊎◌, ℕ, ℤ, pos, if◌then◌else◌, List, [], ◌∷◌, length, Option, None, Some, Err}
+use Rattle.std.specs.Prelude.{◌≡◌, ◌≢◌, ◌⊎◌, ℕ, ℤ, pos, Bool, true, false, if◌then◌else◌, List, [], ◌∷◌, length, Option, None, Some, Err}
 use Rattle.std.specs.List.{flat_map}
 use Rattle.krb_accept.specs.Keytab.{keys_of_entry}
 use Rattle.krb_accept.specs.declared.settings.PacCheck.{PacCheck}
@@ -16,7 +16,8 @@ use Rattle.krb_types.specs.declared.data_types.addresses.HostAddress.{HostAddres
 use Rattle.krb_c_calls.specs.declared.call_error.CallError.{CallError}
 use Rattle.krb_c_calls.specs.declared.call_error.CallError.TheVariants as refusals
 use Rattle.krb_c_accept.specs.Inputs.{Inputs}
-use Rattle.krb_c_accept.specs.Options.{has_option}
+use Rattle.krb_c_accept.specs.Names.{AreNoRealms, AreNoServers, AreRealms, AreServers}
+use Rattle.krb_c_accept.specs.Options.{are_options, has_option}
 use Rattle.krb_c_accept.specs.declared.prepared.Prepared.{Prepared}
 use Rattle.krb_c_accept.specs.declared.records.AcceptorRecord.{AcceptorRecord}
 
@@ -45,15 +46,18 @@ abbrev pub etypes_of : ℕ → List ℕ
 etypes_of options = if has_option options 16 then 16 ∷ 17 ∷ 18 ∷ 19 ∷ 20 ∷ [] else 17 ∷ 18 ∷ 19 ∷ 20 ∷ []
 
 abbrev pub whole_since_of : AcceptorRecord → Option ℤ
-whole_since_of a = if has_option a.options 128 then Some a.whole_since else None
+whole_since_of a = if has_option a.options 128 then None else Some a.whole_since
 
-pub record AreTerms (a : AcceptorRecord) (terms : Terms) : Type 0 where
+pub record AreTerms (a : AcceptorRecord) (servers realms : List ℕ) (terms : Terms) : Type 0 where
   pub skew : terms.skew ≡ a.skew
   pub addresses : terms.addresses_required ≡ has_option a.options 32
   pub etypes : terms.etypes.items ≡ etypes_of a.options
   pub known_data : terms.known_data.items ≡ 8 ∷ 128 ∷ []
   pub path : terms.unchecked_path ≡ has_option a.options 64
   pub whole : terms.whole_since ≡ whole_since_of a
+  pub anonymous : terms.anonymous ≡ has_option a.options 1024
+  pub servers_are : AreServers servers terms.servers.items
+  pub realms_are : AreRealms realms terms.realms.items
 
 -- ---- what is known of the request
 
@@ -76,6 +80,11 @@ pac_of options = if has_option options 4 then pacs.Ignored else if has_option op
 abbrev pub IsHash : List ℕ → Type 0
 IsHash bindings = (bindings ≡ []) ⊎ (length bindings ≡ 16)
 
+-- whether there are octets
+abbrev pub has_octets : List ℕ → Bool
+has_octets [] = false
+has_octets (first ∷ others) = true
+
 abbrev pub bindings_of : List ℕ → Option (List ℕ)
 bindings_of [] = None
 bindings_of (first ∷ others) = Some (first ∷ others)
@@ -93,16 +102,21 @@ settings_of options bindings = record {
 pub record IsPrepared (i : Inputs) (p : Prepared) : Type 0 where
   pub random : length i.random ≡ 48
   pub hash : IsHash i.bindings
+  pub options : are_options i.acceptor (has_octets i.bindings) (has_octets i.address) ≡ true
   pub keys : AreKeys i.keytab p.keys.items
   pub session_keys : AreOptionalKeys i.session_keys p.session_keys.items
-  pub terms : AreTerms i.acceptor p.terms
+  pub terms : AreTerms i.acceptor i.servers i.realms p.terms
   pub arrival : IsArrival i.acceptor i.address p.arrival
   pub settings : p.settings ≡ settings_of i.acceptor.options (bindings_of i.bindings)
 
--- an allocation failed; or octets have another size (SeedSize); or a keytab is none (Keytab)
+-- An allocation failed; or octets have another size (SeedSize); or the options are not such (Number); or a keytab is none (Keytab); or names are (Invalid).
 pub data IsNotPrepared (i : Inputs) (e : CallError) : Type 0 where
   no_memory : e ≡ refusals.Memory → IsNotPrepared i e
   no_random : length i.random ≢ 48 → e ≡ refusals.SeedSize → IsNotPrepared i e
   no_hash : (IsHash i.bindings → ⊥) → e ≡ refusals.SeedSize → IsNotPrepared i e
+  no_options : length i.random ≡ 48 → IsHash i.bindings → are_options i.acceptor (has_octets i.bindings) (has_octets i.address) ≡ false → e ≡ refusals.Number
+      → IsNotPrepared i e
   no_keys : length i.random ≡ 48 → IsHash i.bindings → e ≡ refusals.Keytab → IsNoKeytab i.keytab → IsNotPrepared i e
   no_session_keys : length i.random ≡ 48 → IsHash i.bindings → i.session_keys ≢ [] → e ≡ refusals.Keytab → IsNoKeytab i.session_keys → IsNotPrepared i e
+  no_servers : length i.random ≡ 48 → IsHash i.bindings → e ≡ refusals.Invalid → AreNoServers i.servers → IsNotPrepared i e
+  no_realms : length i.random ≡ 48 → IsHash i.bindings → e ≡ refusals.Invalid → AreNoRealms i.realms → IsNotPrepared i e

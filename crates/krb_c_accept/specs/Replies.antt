@@ -1,7 +1,8 @@
 -- What is sent to a client that is let in (RFC 4120, 3.2.4; RFC 4121, 4.1.2), and the service's subkey in it.
-use Rattle.std.specs.Prelude.{◌≡◌, ℕ, ℤ, pos, ◌/◌, ◌%◌, ◌==◌, Bool, true, false, ◌||◌, MatchBool, List, [], take, drop, Option, None, Some}
+use Rattle.std.specs.Prelude.{◌≡◌, ℕ, ℤ, pos, ◌/◌, ◌%◌, Bool, true, false, MatchBool, List, [], take, drop, Option, None, Some}
 use Rattle.krb_accept.specs.Frame.{in_frame}
 use Rattle.krb_accept.specs.Replies.{IsReply, IsReplyToken}
+use Rattle.krb_accept.specs.Wanted.{WantsReply}
 use Rattle.krb_accept.specs.declared.ap_rep.ReplyError.{ReplyError}
 use Rattle.krb_accept.specs.declared.ap_rep.ReplyError.TheVariants as errors
 use Rattle.krb_accept.specs.declared.frame.InnerToken.TheVariants as inner
@@ -14,7 +15,6 @@ use Rattle.krb_crypto.specs.declared.cipher_suite.CipherSuite.TheVariants as sui
 use Rattle.krb_der_core.specs.declared.der.DerEncode.{Ghosts as EncodingOf}
 use Rattle.krb_enc_parts.specs.declared.data_types.authenticators.EncApRepPartInner.{EncApRepPartInner}
 use Rattle.krb_messages.specs.declared.messages.application.ApRepInner.{ApRepInner}
-use Rattle.krb_types.specs.Flags.{is_set}
 use Rattle.krb_types.specs.declared.data_types.encryption.EncryptionKey.{EncryptionKey}
 use Rattle.krb_c_calls.specs.declared.call_error.CallError.{CallError}
 use Rattle.krb_c_calls.specs.declared.call_error.CallError.TheVariants as refusals
@@ -57,10 +57,6 @@ optional_key (Some key) = key.key_value
 
 -- ---- the AP-REP
 
--- the client waits for one: by its flags (2; RFC 4121, 4.1.1.1), or by its ap-options (bit 2; RFC 4120, 5.5.1)
-abbrev pub wants_reply : Context → Bool
-wants_reply c = (c.flags / 2 % 2 == 1) || is_set c.accepted.options.octets 2
-
 -- the token is a frame around an AP-REQ (RFC 2743, 3.1)
 abbrev pub IsFramed : List ℕ → Type 0
 IsFramed token = (octets : List ℕ) × (token ≡ in_frame inner.ApReq octets)
@@ -90,7 +86,7 @@ module _ (part : EncodingOf EncApRepPartInner) (ap_rep : EncodingOf ApRepInner) 
 
   -- none, where the client waits for none; else under the suite of the session key
   pub data IsReplyTo (acceptor : AcceptorRecord) (random token : List ℕ) (c : Context) (r : Reply) : Type 0 where
-    no_reply : wants_reply c ≡ false → r.own_subkey.items ≡ [] → r.octets.items ≡ [] → IsReplyTo acceptor random token c r
-    answered : wants_reply c ≡ true → (suite : CipherSuite) → c.accepted.ticket.key.key_type ≡ pos (etype suite)
+    no_reply : (WantsReply c.accepted c.flags → ⊥) → r.own_subkey.items ≡ [] → r.octets.items ≡ [] → IsReplyTo acceptor random token c r
+    answered : WantsReply c.accepted c.flags → (suite : CipherSuite) → c.accepted.ticket.key.key_type ≡ pos (etype suite)
         → (framed : Bool) → MatchBool framed (IsInFrame token c.flags) (IsInFrame token c.flags → ⊥)
         → IsAnswerTo acceptor random suite framed c.accepted r → IsReplyTo acceptor random token c r

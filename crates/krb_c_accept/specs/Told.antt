@@ -45,6 +45,7 @@ pub record HasPlaces (p : Places) (r : AcceptedRecord) : Type 0 where
   pub session_key : r.session_key ≡ p.session_key
   pub subkey : r.subkey ≡ p.subkey
   pub own_subkey : r.own_subkey ≡ p.own_subkey
+  pub pac : r.pac ≡ p.pac
   pub transited : r.transited ≡ p.transited
   pub authorization_data : r.authorization_data ≡ p.authorization_data
   pub restrictions : r.restrictions ≡ p.restrictions

@@ -2,7 +2,7 @@
 
 ghost use Rattle.std.specs.Prelude.{◌≡◌, length};
 ghost use Rattle.krb_accept.specs.Kerberos.{HasLength};
-ghost use Rattle.krb_c_accept.specs.Calls.{IsAnswered, IsCall, IsDecision, IsOutcome, Tells, is_memory, refused};
+ghost use Rattle.krb_c_accept.specs.Calls.{IsAnswered, IsCall, IsDecision, IsOutcome, Tells, is_memory, let_in_status, refused};
 ghost use Rattle.krb_c_accept.specs.Inputs.{inputs_of};
 
 use crate::answer::{Answer, answer_of};
@@ -19,6 +19,9 @@ use krb_enc_parts::data_types::{EncApRepPart, EncKrbCredPart};
 use krb_messages::messages::{ApRep, KrbCred};
 use krb_types::data_types::AuthorizationData;
 use std::alloc::Global;
+
+/// The status of a client that is let in unless the caller's replay cache has its entry.
+pub const UNLESS_REPEATED: u32 = 43;
 
 /// What becomes of a call.
 #[derive(Drop)]
@@ -94,6 +97,17 @@ fn decided(alloc: Global, asked: &Asked) -> Outcome
     }
 }
 
+/// The status of a client that is let in, by that of its octets.
+fn let_in_status(status: u32) -> u32
+    ensures { result ≡ let_in_status status }
+{
+    if status == DONE {
+        UNLESS_REPEATED
+    } else {
+        status
+    }
+}
+
 /// Tells what became of a call.
 fn tell(outcome: &Outcome, accepted: &mut AcceptedRecord, out: &mut [u8], size: &mut usize) -> u32
     ensures { Tells outcome.now accepted.new out.old out.new size.new result }
@@ -106,7 +120,7 @@ fn tell(outcome: &Outcome, accepted: &mut AcceptedRecord, out: &mut [u8], size: 
             } else {
                 NOTHING
             };
-            status
+            let_in_status(status)
         }
         Outcome::Refused(refusal) => {
             *accepted = refused_record(refusal);
@@ -124,9 +138,10 @@ fn tell(outcome: &Outcome, accepted: &mut AcceptedRecord, out: &mut [u8], size: 
 /// Whether a service lets in the client that sent a token (RFC 4120, 3.2.3; RFC 4121, 4.1), by all rules but one: that its replay cache has the entry, the caller sees
 /// to.
 ///
-/// 0 where it does: `accepted` tells of the client, and its octets are handed out; 1 where they are more than `out` has, and then `accepted` is all zeros. 41 where a
+/// 43 where it does, and not 0, since the replay cache was not asked yet: `accepted` tells of the client, and its octets are handed out; 1 where they are more than `out` has, and then `accepted` is all zeros. 41 where a
 /// rule refuses the token: `accepted` tells which. Else `accepted` is all zeros: 13 where there are not 48 random octets, or the hash of the bindings has neither 0 nor
-/// 16 octets; 23 where a keytab is none; 2 where an allocation failed.
+/// 16 octets; 3 where the options are not such (`are_options`); 23 where a keytab is none; 9 where the name of the server or the realm is none; 2 where an allocation
+/// failed.
 pub fn accept(
     alloc: Global,
     asked: &Asked,

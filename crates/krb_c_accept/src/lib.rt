@@ -4,8 +4,10 @@
 mod answer;
 mod bindings;
 mod call;
+mod confirming;
 mod decision;
 mod error_message;
+mod names;
 mod options;
 mod own_subkey;
 mod parts;
@@ -16,7 +18,8 @@ mod rules;
 mod told;
 
 pub use bindings::channel_bindings;
-pub use call::accept;
+pub use call::{UNLESS_REPEATED, accept};
+pub use confirming::{ConfirmAsked, confirm};
 pub use error_message::{ErrorAsked, make_error};
 pub use prepared::Asked;
 pub use records::{AcceptedRecord, AcceptorRecord, OutPlace};

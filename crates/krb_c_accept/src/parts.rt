@@ -1,7 +1,8 @@
 //! The octets that are handed out of a client that is let in.
 
 ghost use Rattle.std.specs.Prelude.{◌≡◌, ◌++◌, length, IfOk, OnOk};
-ghost use Rattle.krb_c_accept.specs.Parts.{ArePartsOf, joined, optional_delegated, optional_encoding, place_behind, places_behind};
+ghost use Rattle.std.specs.Option.{option_map};
+ghost use Rattle.krb_c_accept.specs.Parts.{ArePartsOf, joined, optional_delegated, optional_encoding, optional_octets, place_behind, places_behind};
 ghost use Rattle.krb_c_accept.specs.Replies.{optional_key};
 
 use crate::decision::LetIn;
@@ -19,6 +20,7 @@ pub(crate) struct Parts<'a> {
     pub session_key: &'a [u8],
     pub subkey: &'a [u8],
     pub own_subkey: &'a [u8],
+    pub pac: &'a [u8],
     pub transited: &'a [u8],
     pub authorization_data: &'a [u8],
     pub restrictions: &'a [u8],
@@ -33,6 +35,7 @@ pub(crate) struct Places {
     pub session_key: OutPlace,
     pub subkey: OutPlace,
     pub own_subkey: OutPlace,
+    pub pac: OutPlace,
     pub transited: OutPlace,
     pub authorization_data: OutPlace,
     pub restrictions: OutPlace,
@@ -76,6 +79,16 @@ fn octets_of_delegated(delegated: &Option<Delegated>) -> &[u8]
     }
 }
 
+/// The octets of a PAC; none of none.
+fn octets_of_pac(pac: &Option<Vec<u8>>) -> &[u8]
+    ensures { result.now ≡ optional_octets (option_map (λ v. v.items) pac.now) }
+{
+    match pac {
+        Some(octets) => octets,
+        None => &[],
+    }
+}
+
 /// The octets of a client that is let in, and of the answer to it, with the encodings of the ticket's authorization data and of the
 /// authenticator's.
 pub(crate) fn parts_of<'a>(
@@ -96,6 +109,7 @@ pub(crate) fn parts_of<'a>(
         session_key: &accepted.ticket.key.key_value.0.0,
         subkey: octets_of_key(&accepted.subkey),
         own_subkey: &reply.own_subkey,
+        pac: octets_of_pac(&context.pac),
         transited: &accepted.ticket.transited.contents.0.0,
         authorization_data,
         restrictions,
@@ -126,6 +140,7 @@ pub(crate) fn put_parts(out: &mut Vec<u8>, parts: &Parts) -> Result<Places, Allo
     let session_key = put_behind(out, parts.session_key)?;
     let subkey = put_behind(out, parts.subkey)?;
     let own_subkey = put_behind(out, parts.own_subkey)?;
+    let pac = put_behind(out, parts.pac)?;
     let transited = put_behind(out, parts.transited)?;
     let authorization_data = put_behind(out, parts.authorization_data)?;
     let restrictions = put_behind(out, parts.restrictions)?;
@@ -136,6 +151,7 @@ pub(crate) fn put_parts(out: &mut Vec<u8>, parts: &Parts) -> Result<Places, Allo
         session_key,
         subkey,
         own_subkey,
+        pac,
         transited,
         authorization_data,
         restrictions,

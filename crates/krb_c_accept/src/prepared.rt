@@ -1,20 +1,23 @@
 //! What a service asks, as the library takes it.
 
-ghost use Rattle.std.specs.Prelude.{◌≡◌, ◌≢◌, length, IfErr, IfOk, OnOk};
+ghost use Rattle.std.specs.Prelude.{◌≡◌, ◌≢◌, ℕ, List, true, false, length, IfErr, IfOk, OnOk};
 ghost use Rattle.krb_c_accept.specs.Inputs.{inputs_of};
-ghost use Rattle.krb_c_accept.specs.Prepared.{AreKeys, AreOptionalKeys, AreTerms, HaveNoKeys, HaveNoOptionalKeys, IsAddress, IsArrival, IsHash, IsNotPrepared, IsPrepared, bindings_of, etypes_of, pac_of, settings_of, whole_since_of};
+ghost use Rattle.krb_c_accept.specs.Prepared.{AreKeys, AreOptionalKeys, AreTerms, HaveNoKeys, HaveNoOptionalKeys, IsAddress, IsArrival, IsHash, IsNotPrepared, IsPrepared, bindings_of, etypes_of, has_octets, pac_of, settings_of, whole_since_of};
+ghost use Rattle.krb_c_accept.specs.Names.{AreRealms, AreServers};
+ghost use Rattle.krb_c_accept.specs.Options.{are_options};
 ghost use Rattle.krb_c_calls.specs.declared.call_error.CallError.TheVariants as refusals;
 
+use crate::names::{realms_of, servers_of};
 use crate::options::{
-    ADDRESSES_REQUIRED, BARE_REQUEST, OTHER_CHECKSUM, PAC_IGNORED, PAC_REQUIRED, TRIPLE_DES,
-    UNCHECKED_PATH, WHOLE_SINCE, has_option,
+    ADDRESSES_REQUIRED, ANONYMOUS, BARE_REQUEST, OTHER_CHECKSUM, PAC_IGNORED, PAC_REQUIRED,
+    TRIPLE_DES, UNCHECKED_PATH, WHOLE_EVER, are_options, has_option,
 };
 use crate::records::AcceptorRecord;
-use krb_accept::{Arrival, PacCheck, ServiceKey, Settings, Terms, keys_of_keytab};
+use krb_accept::{Arrival, PacCheck, ServerName, ServiceKey, Settings, Terms, keys_of_keytab};
 use krb_c_calls::CallError;
 use krb_der::{IntegerAsn1, OctetStringAsn1};
 use krb_files::keytab::KeytabView;
-use krb_types::data_types::HostAddress;
+use krb_types::data_types::{HostAddress, Realm};
 use std::alloc::{AllocError, Global};
 
 /// How many random octets a call has.
@@ -32,6 +35,11 @@ pub struct Asked<'a> {
     pub keytab: &'a [u8],
     /// A keytab with the keys of its own ticket-granting tickets, or no octets.
     pub session_keys: &'a [u8],
+    /// The server for which clients are let in, as text (RFC 1964, 2.1.1); no octets: any of which the
+    /// keytab has a key.
+    pub servers: &'a [u8],
+    /// The realm whose clients are let in; no octets: any.
+    pub realms: &'a [u8],
     /// The hash of its channel bindings, 16 octets, or no octets.
     pub bindings: &'a [u8],
     /// The client's address, or no octets.
@@ -89,16 +97,22 @@ fn etypes_of(alloc: Global, options: u32) -> Result<Vec<u32>, AllocError>
 fn whole_since_of(acceptor: &AcceptorRecord) -> Option<i64>
     ensures { result ≡ whole_since_of acceptor.now }
 {
-    if has_option(acceptor.options, WHOLE_SINCE) {
-        Some(acceptor.whole_since)
-    } else {
+    if has_option(acceptor.options, WHOLE_EVER) {
         None
+    } else {
+        Some(acceptor.whole_since)
     }
 }
 
 /// The terms on which clients are let in.
-fn terms_of(alloc: Global, acceptor: &AcceptorRecord) -> Result<Terms, AllocError>
-    ensures { IfOk result (AreTerms acceptor.now) }
+fn terms_of(
+    alloc: Global,
+    acceptor: &AcceptorRecord,
+    servers: Vec<ServerName>,
+    realms: Vec<Realm>,
+) -> Result<Terms, AllocError>
+    ensures { IfOk result (λ terms. (asked : List ℕ) (others : List ℕ) → AreServers asked servers.items → AreRealms others realms.items
+        → AreTerms acceptor.now asked others terms) }
 {
     let etypes = etypes_of(alloc, acceptor.options)?;
     let known_data = vec![in alloc; 8, 128]?;
@@ -108,6 +122,9 @@ fn terms_of(alloc: Global, acceptor: &AcceptorRecord) -> Result<Terms, AllocErro
         etypes,
         known_data,
         unchecked_path: has_option(acceptor.options, UNCHECKED_PATH),
+        servers,
+        anonymous: has_option(acceptor.options, ANONYMOUS),
+        realms,
         whole_since: whole_since_of(acceptor),
     })
 }
@@ -183,6 +200,30 @@ fn check_random(random: &[u8]) -> Result<(), CallError>
     Ok(())
 }
 
+/// Whether there are octets.
+fn has_octets(octets: &[u8]) -> bool
+    ensures { result ≡ has_octets octets.now }
+{
+    !octets.is_empty()
+}
+
+/// Whether the options are such, with these bindings and this address.
+fn check_options(
+    acceptor: &AcceptorRecord,
+    bindings: &[u8],
+    address: &[u8],
+) -> Result<(), CallError>
+    ensures right { OnOk result (are_options acceptor.now (has_octets bindings.now) (has_octets address.now) ≡ true) }
+    ensures refused { IfErr result
+        (λ e. (e ≡ refusals.Number) × (are_options acceptor.now (has_octets bindings.now) (has_octets address.now) ≡ false)) }
+{
+    if are_options(acceptor, has_octets(bindings), has_octets(address)) {
+        Ok(())
+    } else {
+        Err(CallError::Number)
+    }
+}
+
 /// What is known of a request besides its octets.
 fn arrival_of(
     alloc: Global,
@@ -198,17 +239,20 @@ fn arrival_of(
     })
 }
 
-/// What a service asks, as the library takes it. Else `SeedSize` where there are not 48 random octets, or neither 0 nor 16 of the hash; `Keytab` where a
-/// keytab is none; or `Memory`.
+/// What a service asks, as the library takes it. Else `SeedSize` where there are not 48 random octets, or neither 0 nor 16 of the hash; `Number` where the
+/// options are not such; `Keytab` where a keytab is none; `Invalid` where the server's name or the realm is none; or `Memory`.
 pub(crate) fn prepared_of(alloc: Global, asked: &Asked) -> Result<Prepared, CallError>
     ensures made { IfOk result (IsPrepared (inputs_of asked.now)) }
     ensures refused { IfErr result (IsNotPrepared (inputs_of asked.now)) }
 {
     check_random(asked.random)?;
     let bindings = bindings_of(asked.bindings)?;
+    check_options(&asked.acceptor, asked.bindings, asked.address)?;
     let keys = keys_of(alloc, asked.keytab)?;
     let session_keys = optional_keys_of(alloc, asked.session_keys)?;
-    let terms = terms_of(alloc, &asked.acceptor)?;
+    let servers = servers_of(alloc, asked.servers)?;
+    let realms = realms_of(alloc, asked.realms)?;
+    let terms = terms_of(alloc, &asked.acceptor, servers, realms)?;
     let arrival = arrival_of(alloc, &asked.acceptor, asked.address)?;
     Ok(Prepared {
         keys,

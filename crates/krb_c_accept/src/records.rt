@@ -6,7 +6,7 @@
 pub struct AcceptorRecord {
     /// The service's time, in seconds since 1 January 1970, 00:00:00 UTC.
     pub clock: i64,
-    /// Since when the replay cache is whole, in these seconds, where the option 128 is there.
+    /// Since when the replay cache is whole, in these seconds; 0 with the option 128, since ever.
     pub whole_since: i64,
     /// By how many seconds clocks may differ.
     pub skew: u32,
@@ -40,9 +40,11 @@ pub struct AcceptedRecord {
     pub subkey: OutPlace,
     /// Those of the service's subkey.
     pub own_subkey: OutPlace,
+    /// The ticket's PAC, which was verified.
+    pub pac: OutPlace,
     /// The contents of the ticket's transited.
     pub transited: OutPlace,
-    /// The encoding of the ticket's authorization data.
+    /// The encoding of the ticket's authorization data, without elements in which a PAC stands.
     pub authorization_data: OutPlace,
     /// The encoding of the authenticator's.
     pub restrictions: OutPlace,
@@ -87,6 +89,7 @@ pub(crate) const NOTHING: AcceptedRecord = AcceptedRecord {
     session_key: NOWHERE,
     subkey: NOWHERE,
     own_subkey: NOWHERE,
+    pac: NOWHERE,
     transited: NOWHERE,
     authorization_data: NOWHERE,
     restrictions: NOWHERE,

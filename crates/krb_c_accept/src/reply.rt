@@ -3,7 +3,7 @@
 ghost use Rattle.std.specs.Prelude.{◌≡◌, length, pos, MatchBool, MatchOption, IfErr, IfOk};
 ghost use Rattle.krb_accept.specs.Kerberos.{HasLength};
 ghost use Rattle.krb_accept.specs.Replies.{IsNoReply};
-ghost use Rattle.krb_c_accept.specs.Replies.{IsAnswerTo, IsFramed, IsInFrame, IsMade, IsReplyTo, reply_error, wants_reply};
+ghost use Rattle.krb_c_accept.specs.Replies.{IsAnswerTo, IsFramed, IsInFrame, IsMade, IsReplyTo, reply_error};
 ghost use Rattle.krb_crypto.specs.BySuite.{key_octets_of};
 ghost use Rattle.krb_crypto.specs.Suites.{etype};
 ghost use Rattle.krb_crypto.specs.declared.cipher_suite.CipherSuite.{CipherSuite};
@@ -15,6 +15,7 @@ use crate::parts::octets_of_key;
 use crate::records::AcceptorRecord;
 use krb_accept::{
     Accepted, Context, InnerToken, ReplyError, message_in, reply, reply_token, suite_of,
+    wants_reply,
 };
 use krb_c_calls::CallError;
 use krb_crypto::CipherSuite;
@@ -22,11 +23,7 @@ use krb_der::{DerEncode, IntegerAsn1};
 use krb_enc_parts::data_types::EncApRepPart;
 use krb_messages::messages::ApRep;
 use krb_types::data_types::EncryptionKey;
-use krb_types::view::is_set;
 use std::alloc::Global;
-
-/// The option of an AP-REQ that asks for mutual authentication (RFC 4120, 5.5.1).
-const MUTUAL_REQUIRED: usize = 2;
 
 /// What is sent to a client, and the service's subkey in it.
 #[derive(Drop)]
@@ -35,13 +32,6 @@ pub(crate) struct Reply {
     pub own_subkey: Vec<u8>,
     /// The token or the message; none where the client waits for none.
     pub octets: Vec<u8>,
-}
-
-/// Whether a client waits for an AP-REP: by its flags (2) or its options.
-fn wants_reply(context: &Context) -> bool
-    ensures { result ≡ wants_reply context.now }
-{
-    context.flags / 2 % 2 == 1 || is_set(&context.accepted.options, MUTUAL_REQUIRED)
 }
 
 /// Whether octets are a frame around an AP-REQ.
@@ -139,7 +129,7 @@ pub(crate) fn reply_to(
         (IsReplyTo ⟦<EncApRepPart as DerEncode>⟧ ⟦<ApRep as DerEncode>⟧ acceptor.now random.now token.now context.now) }
     ensures refused { IfErr result (λ e. e ≡ refusals.Memory) }
 {
-    if wants_reply(context) {
+    if wants_reply(&context.accepted, context.flags) {
         let Some(suite) = suite_in(context) else {
             return Err(CallError::Never);
         };

@@ -6,7 +6,7 @@ ghost use Rattle.krb_c_accept.specs.Rules.{has_seen_number, refused_record, requ
 use crate::records::{AcceptedRecord, NOTHING};
 use krb_accept::{Rule, TokenRefusal};
 
-/// The number of a rule of an AP-REQ: its place among the rules, from 1 on.
+/// The number of a rule of an AP-REQ. Those of version 1 of the header are numbered in their order, from 1 on; later ones behind all.
 fn request_rule(rule: Rule) -> u32
     ensures { result ≡ request_rule rule }
 {
@@ -35,6 +35,8 @@ fn request_rule(rule: Rule) -> u32
         Rule::NotYetValid => 22,
         Rule::Invalid => 23,
         Rule::Expired => 24,
+        Rule::Anonymous => 39,
+        Rule::ClientRealm => 40,
         Rule::Path => 25,
         Rule::CriticalData => 26,
         Rule::DataForm => 27,
@@ -51,6 +53,7 @@ pub fn rule_number(refusal: &TokenRefusal) -> u32
     match refusal {
         TokenRefusal::Request(refusal) => request_rule(refusal.rule),
         TokenRefusal::Frame => 30,
+        TokenRefusal::PacPlace => 41,
         TokenRefusal::PacMissing => 31,
         TokenRefusal::PacForm => 32,
         TokenRefusal::PacChecksum => 33,

@@ -78,6 +78,7 @@ pub(crate) fn told_record(context: &Context, places: Places) -> AcceptedRecord
         session_key: places.session_key,
         subkey: places.subkey,
         own_subkey: places.own_subkey,
+        pac: places.pac,
         transited: places.transited,
         authorization_data: places.authorization_data,
         restrictions: places.restrictions,

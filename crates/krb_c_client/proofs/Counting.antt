@@ -1,5 +1,5 @@
 -- How many requests calls hand out.
-use Rattle.std.proofs.Common.{◌≡◌, ◌≢◌, ◌∙◌, ◌⊎◌, ◌+◌, ◌<◌, ◌≤◌, ℕ, ℤ, pos, Bool, true, false, ◌==◌, ◌&&◌, nat_abs, List, Option, Some, None, Ok, Err, Result, if◌then◌else◌, refl, ap, sym, subst, inl, inr, arith}
+use Rattle.std.proofs.Common.{◌≡◌, ◌≢◌, ◌∙◌, ◌⊎◌, ◌+◌, ◌<◌, ◌≤◌, ℕ, ℤ, Bool, true, false, ◌==◌, ◌&&◌, nat_abs, List, Option, Some, None, Ok, Err, if◌then◌else◌, refl, ap, sym, subst, inl, inr, arith}
 use Rattle.std.proofs.lemmas.Bool.{ne_eqb}
 use Rattle.krb_client.proofs.Running.{unset}
 use Rattle.krb_client_rules.specs.declared.key.Key.{Key}

@@ -1,5 +1,5 @@
 -- Whole runs of calls for a first ticket.
-use Rattle.std.proofs.Common.{◌≡◌, ◌∙◌, ℕ, ℤ, ◌+◌, ◌≤◌, List, Option, None, Result, Ok, Err, nat_abs, ◌==◌, ap, sym, subst, inl, inr, arith}
+use Rattle.std.proofs.Common.{◌≡◌, ◌∙◌, ℕ, ℤ, ◌+◌, ◌≤◌, List, Option, Result, Ok, Err, nat_abs, ◌==◌, ap, sym, subst, inl, inr, arith}
 use Rattle.krb_client.proofs.InitialRunning.{left, step_left}
 use Rattle.krb_client.proofs.Running.{run_count, unset}
 use Rattle.krb_client.specs.InitialRuns.{requests_in as requests_of_step}

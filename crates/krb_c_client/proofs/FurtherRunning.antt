@@ -15,7 +15,7 @@ use Rattle.krb_der_core.specs.declared.der.DerEncode.{Ghosts as EncodingOf}
 use Rattle.krb_messages.specs.declared.messages.replies.EncKdcRepPart.{EncKdcRepPart}
 use Rattle.krb_types.specs.declared.data_types.tickets.TicketInner.{TicketInner}
 use Rattle.krb_c_client.specs.CallRuns.{FurtherCall, FurtherCalls, IsFurtherCall, further_requests, requests_in, requests_told}
-use Rattle.krb_c_client.specs.Exchanges.{offset_in, written}
+use Rattle.krb_c_client.specs.Exchanges.{written}
 use Rattle.krb_c_client.specs.Followed.{TellsFurther}
 use Rattle.krb_c_client.specs.Inputs.{Inputs}
 use Rattle.krb_c_client.specs.Means.{Lent}

@@ -9,10 +9,11 @@ ghost use Rattle.krb_c_client.specs.Records.{broken};
 ghost use Rattle.krb_c_client.specs.Turns.{HasBegun, IsFirstTurn, IsFurtherTurn, IsUnbegun};
 ghost use Rattle.krb_c_client.specs.declared.records.ExchangeRecord.{ExchangeRecord as ExchangeOf};
 ghost use Rattle.krb_client.specs.Runs.{sent_by};
-ghost use Rattle.krb_client.specs.Types.{InitialTypes, ServiceTypes};
-ghost use Rattle.krb_der_core.specs.declared.der.DerEncode.{Ghosts as EncodingOf};
-ghost use Rattle.krb_messages.specs.declared.messages.replies.EncKdcRepPart.{EncKdcRepPart as PartOf};
-ghost use Rattle.krb_types.specs.declared.data_types.tickets.TicketInner.{TicketInner as TicketOf};
+
+use krb_client::{Encodings, Rfc4120};
+use krb_der::DerEncode;
+use krb_messages::messages::EncTgsRepPart;
+use krb_types::data_types::Ticket;
 
 /// The offset and the key that were written are read, where the key has its suite's length; no key
 /// is read where none was written. An exchange that was written has begun, so it is never all
@@ -31,15 +32,15 @@ pub fn what_is_kept_is_read()
 /// turn, as one without octets after the first request, is refused by rule 1 and changes nothing.
 /// After a call that is done the exchange has begun, so only the caller can have it begin anew.
 pub fn initial_calls()
-    ensures requests { (t : InitialTypes) (tickets : EncodingOf TicketOf) (parts : EncodingOf PartOf) (before : ExchangeOf)
-        (calls : List FirstCall) (after : ExchangeOf) → FirstCalls tickets parts t before calls after
+    ensures requests { (before : ExchangeOf) (calls : List FirstCall) (after : ExchangeOf)
+        → FirstCalls ⟦<Ticket as DerEncode>⟧ ⟦<EncTgsRepPart as DerEncode>⟧ ⟦<Rfc4120 as Encodings>⟧.initial before calls after
         → sent_by first_requests calls ≤ 3 }
-    ensures out_of_turn { (t : InitialTypes) (tickets : EncodingOf TicketOf) (parts : EncodingOf PartOf) (before : ExchangeOf)
-        (call : FirstCall) (after : ExchangeOf) → IsFirstCall tickets parts t before call after
+    ensures out_of_turn { (before : ExchangeOf) (call : FirstCall) (after : ExchangeOf)
+        → IsFirstCall ⟦<Ticket as DerEncode>⟧ ⟦<EncTgsRepPart as DerEncode>⟧ ⟦<Rfc4120 as Encodings>⟧.initial before call after
         → (IsFirstTurn before call.inputs.message → ⊥)
         → (call.answered.status ≡ 42) × (call.answered.told ≡ broken 1 0) × (after ≡ before) }
-    ensures begun { (t : InitialTypes) (tickets : EncodingOf TicketOf) (parts : EncodingOf PartOf) (before : ExchangeOf)
-        (call : FirstCall) (after : ExchangeOf) → IsFirstCall tickets parts t before call after
+    ensures begun { (before : ExchangeOf) (call : FirstCall) (after : ExchangeOf)
+        → IsFirstCall ⟦<Ticket as DerEncode>⟧ ⟦<EncTgsRepPart as DerEncode>⟧ ⟦<Rfc4120 as Encodings>⟧.initial before call after
         → call.answered.status ≡ 0 → HasBegun after }
 {}
 
@@ -47,14 +48,14 @@ pub fn initial_calls()
 /// the exchange handed from each call to the next: at most two requests are handed out (RFC 4120,
 /// 3.3). Else as `initial_calls`.
 pub fn ticket_calls()
-    ensures requests { (t : ServiceTypes) (tickets : EncodingOf TicketOf) (parts : EncodingOf PartOf) (before : ExchangeOf)
-        (calls : List FurtherCall) (after : ExchangeOf) → FurtherCalls tickets parts t before calls after
+    ensures requests { (before : ExchangeOf) (calls : List FurtherCall) (after : ExchangeOf)
+        → FurtherCalls ⟦<Ticket as DerEncode>⟧ ⟦<EncTgsRepPart as DerEncode>⟧ ⟦<Rfc4120 as Encodings>⟧.service before calls after
         → sent_by further_requests calls ≤ 2 }
-    ensures out_of_turn { (t : ServiceTypes) (tickets : EncodingOf TicketOf) (parts : EncodingOf PartOf) (before : ExchangeOf)
-        (call : FurtherCall) (after : ExchangeOf) → IsFurtherCall tickets parts t before call after
+    ensures out_of_turn { (before : ExchangeOf) (call : FurtherCall) (after : ExchangeOf)
+        → IsFurtherCall ⟦<Ticket as DerEncode>⟧ ⟦<EncTgsRepPart as DerEncode>⟧ ⟦<Rfc4120 as Encodings>⟧.service before call after
         → (IsFurtherTurn before call.inputs.message → ⊥)
         → (call.answered.status ≡ 42) × (call.answered.told ≡ broken 1 0) × (after ≡ before) }
-    ensures begun { (t : ServiceTypes) (tickets : EncodingOf TicketOf) (parts : EncodingOf PartOf) (before : ExchangeOf)
-        (call : FurtherCall) (after : ExchangeOf) → IsFurtherCall tickets parts t before call after
+    ensures begun { (before : ExchangeOf) (call : FurtherCall) (after : ExchangeOf)
+        → IsFurtherCall ⟦<Ticket as DerEncode>⟧ ⟦<EncTgsRepPart as DerEncode>⟧ ⟦<Rfc4120 as Encodings>⟧.service before call after
         → call.answered.status ≡ 0 → HasBegun after }
 {}

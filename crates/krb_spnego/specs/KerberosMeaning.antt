@@ -1,6 +1,6 @@
 -- What Kerberos means as the mechanism of an acceptor (RFC 4121).
 use Rattle.std.proofs.Common.{◌≡◌, ◌∙◌, refl, ap}
-use Rattle.std.specs.Prelude.{◌⊎◌, ◌||◌, ◌&&◌, ◌==◌, ◌+◌, ◌-◌, ◌/◌, ◌%◌, ◌^◌, nat_eq, nat_lt, if◌then◌else◌, drop, pos, ℕ, List, [], ◌∷◌, Bool, true, false, Option, Some, None, Vec, is_some}
+use Rattle.std.specs.Prelude.{◌⊎◌, ◌||◌, ◌&&◌, ◌==◌, ◌+◌, ◌-◌, ◌/◌, ◌%◌, ◌^◌, nat_eq, nat_lt, if◌then◌else◌, drop, pos, ℕ, List, [], ◌∷◌, Bool, true, false, Option, Some, None, Vec, is_some, MatchBool}
 use Rattle.std.specs.Cmp.Lexicographic.{pointwise}
 use Rattle.std.specs.List.{starts_with}
 use Rattle.std.specs.declared.alloc.Global.{Global}
@@ -20,6 +20,7 @@ use Rattle.krb_accept.specs.Frame.{mechanism}
 use Rattle.krb_accept.specs.Replies.{IsNoReply, IsReplyToken}
 use Rattle.krb_accept.specs.TokenRefusals.{memory}
 use Rattle.krb_accept.specs.Tokens.{IsTokenNotPresented, IsTokenPresented}
+use Rattle.krb_accept.specs.Wanted.{WantsReply}
 use Rattle.krb_accept.specs.declared.ap_rep.ReplyError.{ReplyError}
 use Rattle.krb_accept.specs.declared.ap_rep.ReplyError.TheVariants as replies
 use Rattle.krb_accept.specs.declared.token.PresentedToken.{PresentedToken}
@@ -56,24 +57,27 @@ is_framed_in token = starts_with nat_eq token (96 ∷ []) && starts_with nat_eq 
 
 -- ---- a client
 
--- the flag of mutual authentication (RFC 4121, 4.1.1.1)
-abbrev pub is_mutual : ℕ → Bool
-is_mutual flags = flags / 2 % 2 == 1
+-- the flag of DCE style, whose context is established by a third message (MS-KILE, 3.4.5.1)
+abbrev pub is_dce_style : ℕ → Bool
+is_dce_style flags = flags / 4096 % 2 == 1
 
 module _ (cred : EncodingOf KrbCredInner) (part : EncodingOf EncKrbCredPartInner) (elements : EncodingOf (List AuthorizationDataInner)) {O : Type 0}
     (o : OpeningOf O) where
-  -- a token of this client keeps all rules but those of the replay cache
+  -- a token of this client keeps all rules but those of the replay cache, and it does not want DCE style
   abbrev pub IsClientOf : Service → List ℕ → Client → Type 0
   IsClientOf service token client =
       (p : PresentedToken) × (IsTokenPresented cred part elements o service.keys.items service.session_keys.items service.terms service.arrival
       service.settings token p
-      × (client ≡ record { entry = p.presented.entry; accepted = p.presented.accepted; flags = p.flags; delegated = p.delegated }))
+      × ((is_dce_style p.flags ≡ false)
+      × (client ≡ record { entry = p.presented.entry; accepted = p.presented.accepted; pac = p.pac; flags = p.flags; delegated = p.delegated })))
 
-  -- the token breaks one of them
+  -- the token breaks one of them; or its client wants DCE style
   abbrev pub IsNoClientOf : Service → List ℕ → Type 0
   IsNoClientOf service token =
-      (e : TokenRefusal) × (IsTokenNotPresented cred part elements o service.keys.items service.session_keys.items service.terms service.arrival
-      service.settings token e × (e ≡ memory → ⊥))
+      ((e : TokenRefusal) × (IsTokenNotPresented cred part elements o service.keys.items service.session_keys.items service.terms service.arrival
+      service.settings token e × (e ≡ memory → ⊥)))
+      ⊎ ((p : PresentedToken) × (IsTokenPresented cred part elements o service.keys.items service.session_keys.items service.terms service.arrival
+      service.settings token p × (is_dce_style p.flags ≡ true)))
 
 -- a key of the context makes and verifies MICs
 abbrev pub HasTokenKey : Accepted → Type 0
@@ -87,10 +91,16 @@ IsTurnBy true reply ap_rep a confounder number turn =
     (token : Vec ℕ Global) × (IsReplyToken reply ap_rep a confounder None (Some (pos number)) token.items × (turn ≡ EndsWithToken token))
 IsTurnBy false reply ap_rep a confounder number turn = turn ≡ Ends
 
+-- it does (krb_accept's one rule), or not
+abbrev pub IsTurnFor : EncodingOf EncApRepPartInner → EncodingOf ApRepInner → Client → List ℕ → ℕ → Turn → Type 0
+IsTurnFor reply ap_rep client confounder number turn =
+    (wants : Bool) × (MatchBool wants (WantsReply client.accepted client.flags) (WantsReply client.accepted client.flags → ⊥)
+    × IsTurnBy wants reply ap_rep client.accepted confounder number turn)
+
 -- the client waits for one, and there is none: the session key is of no suite, or the confounder of another length
 abbrev pub IsNoTurnOf : Client → List ℕ → Type 0
 IsNoTurnOf client confounder =
-    (is_mutual client.flags ≡ true) × ((e : ReplyError) × (IsNoReply client.accepted confounder e × (e ≡ replies.OutOfMemory → ⊥)))
+    WantsReply client.accepted client.flags × ((e : ReplyError) × (IsNoReply client.accepted confounder e × (e ≡ replies.OutOfMemory → ⊥)))
 
 -- ---- MICs (RFC 4121, 4.2.4)
 
@@ -116,7 +126,7 @@ module _ (cred : EncodingOf KrbCredInner) (part : EncodingOf EncKrbCredPartInner
   abbrev pub KerberosSteps : KerberosAcceptor → Option (List ℕ) → KerberosAcceptor → Turn → Type 0
   KerberosSteps k token after turn =
       (octets : List ℕ) × ((token ≡ Some octets) × ((k.client ≡ None) × ((client : Client) × (IsClientOf cred part elements o k.service octets client
-      × (HasTokenKey client.accepted × (IsTurnBy (is_mutual client.flags) reply ap_rep client.accepted k.confounder.items k.number turn
+      × (HasTokenKey client.accepted × (IsTurnFor reply ap_rep client k.confounder.items k.number turn
       × (after ≡ with_client k client)))))))
 
   -- there is a client already; no token came; the token breaks a rule; the context has no key for MICs, or no AP-REP

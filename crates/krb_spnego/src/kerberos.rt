@@ -1,7 +1,7 @@
 //! Kerberos as the mechanism of an acceptor (RFC 4121).
 
 ghost use Rattle.std.specs.Prelude.{◌≡◌, ◌⊎◌, drop, pos, None, false, IfErr, IfOk, MatchBool};
-ghost use Rattle.krb_spnego.specs.KerberosMeaning.{HasTokenKey, HoldsOf, IsClientOf, IsNoClientOf, IsNoTurnOf, IsTurnBy, MadeOf, content_in, is_framed_in, is_kerberos, is_mutual, kerberos_meaning, kerberos_steady};
+ghost use Rattle.krb_spnego.specs.KerberosMeaning.{HasTokenKey, HoldsOf, IsClientOf, IsNoClientOf, IsNoTurnOf, IsTurnFor, MadeOf, content_in, is_dce_style, is_framed_in, is_kerberos, kerberos_meaning, kerberos_steady};
 ghost use Rattle.krb_accept.specs.TokenRefusals.{memory};
 ghost use Rattle.krb_accept.specs.ContextKey.{HasNoTokenKey, context_key};
 ghost use Rattle.krb_gss_per_message.specs.declared.error.ProtectionError.TheVariants as protection;
@@ -9,7 +9,7 @@ ghost use Rattle.krb_spnego_rules.specs.declared.mechanism.MechanismError.TheVar
 
 use krb_accept::{
     Accepted, Arrival, Delegated, Entry, Kerberos, Presented, PresentedToken, ReplyError, Rule,
-    ServiceKey, Settings, Terms, TokenRefusal, present_token, reply_token, token_key,
+    ServiceKey, Settings, Terms, TokenRefusal, present_token, reply_token, token_key, wants_reply,
 };
 use krb_accept_rules::Opening;
 use krb_der::{DerEncode, IntegerAsn1};
@@ -55,8 +55,10 @@ pub struct Client {
     /// What is to be remembered: whether a replay cache has it decides whether the client is let
     /// in.
     pub entry: Entry,
-    /// The client.
+    /// The client. Of authorization data the elements are left out in which a PAC stands.
     pub accepted: Accepted,
+    /// The PAC of its ticket, which was verified; `None` where it has none, or PACs are ignored.
+    pub pac: Option<Vec<u8>>,
     /// The flags of its context (RFC 4121, 4.1.1.1).
     pub flags: u32,
     /// The credentials that it delegated.
@@ -66,9 +68,10 @@ pub struct Client {
 /// One conversation of a service, whose mechanism is Kerberos.
 ///
 /// A client's token is taken where it keeps all rules but those of the replay cache
-/// (`krb_accept::present_token`). **Before anything is sent to the client, the caller looks whether
-/// its replay cache has `client.entry`, and remembers it**: what was accepted once is not accepted
-/// again.
+/// (`krb_accept::present_token`), and does not want DCE style, whose context is established by a
+/// third message, which this mechanism does not take. **Before anything is sent to the client, the
+/// caller looks whether its replay cache has `client.entry`, and remembers it**: what was accepted
+/// once is not accepted again.
 #[derive(Drop)]
 pub struct KerberosAcceptor {
     /// The service.
@@ -133,7 +136,14 @@ fn is_memory(refusal: &TokenRefusal) -> bool
     }
 }
 
-/// The client of a token.
+/// Whether a client wants DCE style, whose context is established by a third message (MS-KILE, 3.4.5.1).
+fn is_dce_style(flags: u32) -> bool
+    ensures { result ≡ is_dce_style flags }
+{
+    flags / 0x1000 % 2 == 1
+}
+
+/// The client of a token; one that wants DCE style is refused.
 fn client_of(alloc: Global, service: &Service, token: &[u8]) -> Result<Client, MechanismError>
     ensures found { IfOk result
         (IsClientOf ⟦<KrbCred as DerEncode>⟧ ⟦<EncKrbCredPart as DerEncode>⟧ ⟦<AuthorizationData as DerEncode>⟧ ⟦<Kerberos as Opening>⟧
@@ -152,8 +162,13 @@ fn client_of(alloc: Global, service: &Service, token: &[u8]) -> Result<Client, M
         token,
     ) {
         Ok(shown) => {
+            if is_dce_style(shown.flags) {
+                drop(shown);
+                return Err(MechanismError::Refused);
+            }
             let PresentedToken {
                 presented,
+                pac,
                 flags,
                 delegated,
             } = shown;
@@ -165,6 +180,7 @@ fn client_of(alloc: Global, service: &Service, token: &[u8]) -> Result<Client, M
             Ok(Client {
                 entry,
                 accepted,
+                pac,
                 flags,
                 delegated,
             })
@@ -178,13 +194,6 @@ fn client_of(alloc: Global, service: &Service, token: &[u8]) -> Result<Client, M
     }
 }
 
-/// Whether a client waits for an AP-REP (RFC 4121, 4.1.1.1).
-fn is_mutual(flags: u32) -> bool
-    ensures { result ≡ is_mutual flags }
-{
-    flags / 2 % 2 == 1
-}
-
 /// What the service sends to a client.
 fn turn_of(
     alloc: Global,
@@ -192,11 +201,10 @@ fn turn_of(
     confounder: &[u8],
     number: u32,
 ) -> Result<Turn, MechanismError>
-    ensures made { IfOk result (IsTurnBy (is_mutual client.now.flags) ⟦<EncApRepPart as DerEncode>⟧ ⟦<ApRep as DerEncode>⟧ client.now.accepted
-        confounder.now number) }
+    ensures made { IfOk result (IsTurnFor ⟦<EncApRepPart as DerEncode>⟧ ⟦<ApRep as DerEncode>⟧ client.now confounder.now number) }
     ensures refused { IfErr result (λ e. e ≡ errors.Refused → IsNoTurnOf client.now confounder.now) }
 {
-    if !is_mutual(client.flags) {
+    if !wants_reply(&client.accepted, client.flags) {
         return Ok(Turn::Ends);
     }
     let integer = IntegerAsn1::from_u32(alloc, number);
@@ -225,7 +233,7 @@ fn turn_for(
     number: u32,
 ) -> Result<Turn, MechanismError>
     ensures made { IfOk result (λ turn. HasTokenKey client.now.accepted
-        × IsTurnBy (is_mutual client.now.flags) ⟦<EncApRepPart as DerEncode>⟧ ⟦<ApRep as DerEncode>⟧ client.now.accepted confounder.now number turn) }
+        × IsTurnFor ⟦<EncApRepPart as DerEncode>⟧ ⟦<ApRep as DerEncode>⟧ client.now confounder.now number turn) }
     ensures refused { IfErr result (λ e. e ≡ errors.Refused
         → HasNoTokenKey (context_key client.now.accepted None) ⊎ IsNoTurnOf client.now confounder.now) }
 {

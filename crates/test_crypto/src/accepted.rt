@@ -1,19 +1,23 @@
 //! Whether a service lets in the client of a token.
 //!
-//! A row is a name, a keytab, the service's time, the hash of its channel bindings, the settings and a token. The settings are a sum of 1 an AP-REQ with no frame
-//! is taken, 2 so is an authenticator with another checksum than 0x8003. For each row it prints who is let in, with what is told of the context, and by which rule
-//! the same token is refused when it comes again; or by which rule it is refused at once. In each case how many entries the cache has then. Where the settings have 4,
-//! it prints of how many tokens that differ from this one in one bit a client is let in; where they have 8, no keys. At the end of each line stands what the call of the
-//! library for C answers: its status, the rule and the code of a refusal, or whether it tells the same, and what it answers without room.
+//! A row is a name, a keytab, the service's time, the hash of its channel bindings, the settings and a token; behind it may stand the server for
+//! which clients are let in, and the realm whose clients are. The settings are a sum of 1 an AP-REQ with no frame is taken, 2 so is an authenticator
+//! with another checksum than 0x8003, 16 PACs are ignored, 32 keys may be of triple DES, 64 clients without a name are let in. For each row it prints
+//! who is let in, with what is told of the context, and by which rule the same token is refused when it comes again; or by which rule it is refused
+//! at once. In each case how many entries the cache has then. Where the settings have 4, it prints of how many tokens that differ from this one in
+//! one bit a client is let in; where they have 8, no keys; where they have 128, the PAC and the authorization data of the ticket and of the
+//! authenticator. At the end of each line stands what the call of the library for C answers: its status, the rule and the code of a refusal, or
+//! whether it tells the same, whether there is a reply, and what it answers without room.
 
-use crate::accepted_by_c::{Caller, text_by_c};
+use crate::accepted_by_c::{Caller, encoding_of, text_by_c};
 use picky_krb::accept::{
-    Arrival, Context, ReplayCache, ServiceKey, Settings, Terms, TokenRefusal, accept_token,
-    keys_of_keytab,
+    Arrival, Context, PacCheck, ReplayCache, ServerName, ServiceKey, Settings, Terms, TokenRefusal,
+    accept_token, keys_of_keytab,
 };
-use picky_krb::data_types::EncryptionKey;
+use picky_krb::data_types::{AuthorizationData, EncryptionKey};
+use picky_krb::der::{Asn1SequenceOf, GeneralStringAsn1};
 use picky_krb::keytab::KeytabView;
-use picky_krb::view::{text_of_principal, unix_seconds};
+use picky_krb::view::{TextPrincipal, principal_of_text, text_of_principal, unix_seconds};
 use std::alloc::{AllocError, Global};
 use test_rows::{Columns, RowError};
 
@@ -38,9 +42,14 @@ impl Service {
         let Ok(view) = KeytabView::new(keytab) else {
             return Err(RowError::NoDigits);
         };
+        let mut terms = Terms::new(alloc, 300, None)?;
+        if number & 32 != 0 {
+            terms.etypes.push(16)?;
+        }
+        terms.anonymous = number & 64 != 0;
         Ok(Service {
             keys: keys_of_keytab(alloc, &view)?,
-            terms: Terms::new(alloc, 300)?,
+            terms,
             arrival: Arrival {
                 clock,
                 address: None,
@@ -49,9 +58,34 @@ impl Service {
                 bindings: <[u8; 16]>::try_from(bindings).ok(),
                 bare_request: number & 1 != 0,
                 other_checksum: number & 2 != 0,
-                ..Settings::new()
+                pac: if number & 16 != 0 {
+                    PacCheck::Ignored
+                } else {
+                    PacCheck::Checked
+                },
             },
         })
+    }
+
+    /// Lets in clients for this server and of this realm alone, where there are texts.
+    fn restrict(&mut self, alloc: Global, server: &str, realm: &str) -> Result<(), RowError> {
+        if !server.is_empty() {
+            let Ok(name) = principal_of_text(alloc, server) else {
+                return Err(RowError::NoDigits);
+            };
+            let TextPrincipal { components, realm } = name;
+            self.terms.servers.push(ServerName {
+                components: Asn1SequenceOf(components),
+                realm,
+            })?;
+        }
+        if !realm.is_empty() {
+            let Ok(realm) = GeneralStringAsn1::from_string(String::from_str(alloc, realm)?) else {
+                return Err(RowError::NoDigits);
+            };
+            self.terms.realms.push(realm)?;
+        }
+        Ok(())
     }
 
     /// Whether the client of a token is let in.
@@ -105,6 +139,26 @@ fn keys_text(alloc: Global, context: &Context) -> Result<String, AllocError> {
         None => String::from_str(alloc, "none")?,
     };
     format!(in alloc; ", key {key}, subkey {subkey}")
+}
+
+/// Authorization data as text.
+fn data_text(alloc: Global, data: &Option<AuthorizationData>) -> Result<String, AllocError> {
+    let octets = encoding_of(alloc, data)?;
+    if octets.is_empty() {
+        return String::from_str(alloc, "none");
+    }
+    hex::encode(alloc, octets.as_slice())
+}
+
+/// The PAC, and the authorization data of the ticket and of the authenticator.
+fn data_of(alloc: Global, context: &Context) -> Result<String, AllocError> {
+    let pac = match &context.pac {
+        Some(octets) => hex::encode(alloc, octets.as_slice())?,
+        None => String::from_str(alloc, "none")?,
+    };
+    let of_ticket = data_text(alloc, &context.accepted.ticket.authorization_data)?;
+    let of_authenticator = data_text(alloc, &context.accepted.authorization_data)?;
+    format!(in alloc; ", PAC {pac}, data {of_ticket} and {of_authenticator}")
 }
 
 /// The rule that is broken.
@@ -164,18 +218,23 @@ fn text_again(
 fn text_of_client(
     alloc: Global,
     context: &Context,
-    with_keys: bool,
+    number: u32,
     again: &str,
     entries: usize,
     by_c: &str,
 ) -> Result<String, AllocError> {
     let first = told(alloc, context)?;
-    let keys = if with_keys {
+    let keys = if number & 8 == 0 {
         keys_text(alloc, context)?
     } else {
         String::new(alloc)
     };
-    format!(in alloc; "{first}{keys}; again {again}; entries {entries}; {by_c}")
+    let data = if number & 128 != 0 {
+        data_of(alloc, context)?
+    } else {
+        String::new(alloc)
+    };
+    format!(in alloc; "{first}{keys}{data}; again {again}; entries {entries}; {by_c}")
 }
 
 /// The same, with what is told where it comes again and what the call of the library for C tells.
@@ -183,7 +242,7 @@ fn let_in(
     alloc: Global,
     service: &Service,
     caller: &Caller,
-    with_keys: bool,
+    number: u32,
     token: &[u8],
     cache: &mut ReplayCache,
     context: &Context,
@@ -193,7 +252,7 @@ fn let_in(
     text_of_client(
         alloc,
         context,
-        with_keys,
+        number,
         again.as_str(),
         cache.len(),
         by_c.as_str(),
@@ -218,15 +277,13 @@ fn text_of(
     alloc: Global,
     service: &Service,
     caller: &Caller,
-    with_keys: bool,
+    number: u32,
     token: &[u8],
 ) -> Result<String, AllocError> {
     let mut cache = ReplayCache::new(alloc);
     match service.answer(alloc, token, &mut cache) {
         Ok(context) => {
-            let text = let_in(
-                alloc, service, caller, with_keys, token, &mut cache, &context,
-            );
+            let text = let_in(alloc, service, caller, number, token, &mut cache, &context);
             drop(context);
             text
         }
@@ -236,22 +293,26 @@ fn text_of(
 
 /// The columns of a row behind its name.
 #[derive(Drop)]
-struct Row {
+struct Row<'a> {
     keytab: Vec<u8>,
     clock: i64,
     bindings: Vec<u8>,
     number: u32,
     token: Vec<u8>,
+    server: &'a str,
+    realm: &'a str,
 }
 
 /// The columns behind the name.
-fn row_of(alloc: Global, columns: &mut Columns<'_>) -> Result<Row, RowError> {
+fn row_of<'a>(alloc: Global, columns: &mut Columns<'a>) -> Result<Row<'a>, RowError> {
     Ok(Row {
         keytab: columns.octets(alloc)?,
         clock: columns.number::<i64>()?,
         bindings: columns.octets(alloc)?,
         number: columns.number::<u32>()?,
         token: columns.octets(alloc)?,
+        server: columns.text_if_any(),
+        realm: columns.text_if_any(),
     })
 }
 
@@ -259,16 +320,18 @@ fn row_of(alloc: Global, columns: &mut Columns<'_>) -> Result<Row, RowError> {
 fn text_of_row(
     alloc: Global,
     name: &str,
-    row: &Row,
+    row: &Row<'_>,
     service: &Service,
 ) -> Result<String, AllocError> {
     let caller = Caller {
         keytab: &row.keytab,
         clock: row.clock,
         bindings: &row.bindings,
-        options: row.number & 3,
+        number: row.number,
+        server: row.server,
+        realm: row.realm,
     };
-    let text = text_of(alloc, service, &caller, row.number & 8 == 0, &row.token)?;
+    let text = text_of(alloc, service, &caller, row.number, &row.token)?;
     if row.number & 4 == 0 {
         return format!(in alloc; "{name}: {text}\n");
     }
@@ -280,6 +343,7 @@ fn text_of_row(
 pub(crate) fn answer(alloc: Global, mut columns: Columns<'_>) -> Result<String, RowError> {
     let name = columns.text()?;
     let row = row_of(alloc, &mut columns)?;
-    let service = Service::of(alloc, &row.keytab, row.clock, &row.bindings, row.number)?;
+    let mut service = Service::of(alloc, &row.keytab, row.clock, &row.bindings, row.number)?;
+    service.restrict(alloc, row.server, row.realm)?;
     Ok(text_of_row(alloc, name, &row, &service)?)
 }

@@ -1,9 +1,10 @@
 //! Whether a message is the third leg of DCE style.
 //!
 //! A row is a name, a keytab, the service's time, the token of a client that is let in, the service's own AP-REP, its sequence number (four octets), and the message.
-//! For each row it prints what `confirm_third_leg` answers, and what `check_third_leg` does.
+//! For each row it prints what `confirm_third_leg` answers, what `check_third_leg` does, and the status of the call of the library for C.
 
 use crate::accepted::Service;
+use krb_c_accept::{ConfirmAsked, confirm};
 use picky_krb::accept::{Accepted, ReplayCache, ThirdLegError, check_third_leg, confirm_third_leg};
 use picky_krb::der::IntegerAsn1;
 use std::alloc::{AllocError, Global};
@@ -20,6 +21,25 @@ fn text_of(alloc: Global, answered: Result<(), ThirdLegError>) -> Result<String,
     }
 }
 
+/// The status of the call of the library for C, by the session key.
+fn status_by_c(
+    alloc: Global,
+    accepted: &Accepted,
+    own_reply: &[u8],
+    number: &IntegerAsn1,
+    message: &[u8],
+) -> u32 {
+    let key = &accepted.ticket.key;
+    let asked = ConfirmAsked {
+        etype: key.key_type.0.to_u32().unwrap_or(0),
+        session_key: key.key_value.0.0.as_slice(),
+        own_reply,
+        sequence_number: number.to_u32().unwrap_or(0),
+        message,
+    };
+    confirm(alloc, &asked)
+}
+
 /// What is printed of a message, to a service that let the client in.
 fn text_of_leg(
     alloc: Global,
@@ -33,7 +53,8 @@ fn text_of_leg(
     let confirm_text = text_of(alloc, confirmed)?;
     let checked = check_third_leg(alloc, accepted, number, message);
     let check_text = text_of(alloc, checked)?;
-    format!(in alloc; "{name}: confirm {confirm_text}; check {check_text}\n")
+    let status = status_by_c(alloc, accepted, own_reply, number, message);
+    format!(in alloc; "{name}: confirm {confirm_text}; check {check_text}; C {status}\n")
 }
 
 /// The columns behind those of the service.

@@ -1,7 +1,7 @@
 //! Whether a service lets in the client of a token, by the call of the library for C.
 
 use crate::outcome::Rejection;
-use krb_c_accept::{AcceptedRecord, AcceptorRecord, Asked, OutPlace, accept};
+use krb_c_accept::{AcceptedRecord, AcceptorRecord, Asked, OutPlace, UNLESS_REPEATED, accept};
 use std::alloc::Global;
 
 /// Octets that are random enough for a test.
@@ -21,6 +21,7 @@ const UNTOLD: AcceptedRecord = AcceptedRecord {
     session_key: NOWHERE,
     subkey: NOWHERE,
     own_subkey: NOWHERE,
+    pac: NOWHERE,
     transited: NOWHERE,
     authorization_data: NOWHERE,
     restrictions: NOWHERE,
@@ -53,12 +54,14 @@ fn asked_of(octets: &[u8]) -> Option<Asked<'_>> {
             clock,
             whole_since: 0,
             skew: 300,
-            options: 256,
+            options: 256 + 128,
             address_type: 0,
             sequence_number: 1,
         },
         keytab,
         session_keys: &[],
+        servers: &[],
+        realms: &[],
         bindings: &[],
         address: &[],
         random: &RANDOM,
@@ -80,7 +83,7 @@ pub fn try_acceptor(alloc: Global, octets: &[u8]) -> Result<Vec<u8>, Rejection> 
     let mut out = [7u8; 4096];
     let mut size = 7usize;
     match accept(alloc, &asked, &mut told, &mut out, &mut size) {
-        0 => match out.get(..size) {
+        UNLESS_REPEATED => match out.get(..size) {
             Some(octets) => Ok(Vec::from_slice(alloc, octets)?),
             None => Err(Rejection::Changed),
         },

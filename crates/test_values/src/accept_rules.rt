@@ -30,7 +30,7 @@ fn entry(alloc: Global, seconds: i64, microseconds: u32) -> Result<Entry, Fail> 
 }
 
 /// The rules with their error codes and texts: the numbers are typed from RFC 4120, 7.5.9, by what its names say of each rule.
-const RULES: [(Rule, u32, &str); 30] = [
+const RULES: [(Rule, u32, &str); 32] = [
     (Rule::NotRequest, 40, "the message is not an AP-REQ"),
     (Rule::Version, 39, "the protocol version is not 5"),
     (
@@ -52,7 +52,7 @@ const RULES: [(Rule, u32, &str); 30] = [
     (
         Rule::NotUs,
         35,
-        "the service has no key for the server that the ticket names",
+        "the ticket is for a server that is not the service, or that it has no key of",
     ),
     (
         Rule::NoKey,
@@ -67,7 +67,7 @@ const RULES: [(Rule, u32, &str); 30] = [
     (
         Rule::TicketSuite,
         14,
-        "the ticket's encryption type is not supported",
+        "the ticket's encryption type is not supported or permitted",
     ),
     (Rule::Ticket, 31, "no key of the service opens the ticket"),
     (
@@ -119,6 +119,12 @@ const RULES: [(Rule, u32, &str); 30] = [
     (Rule::NotYetValid, 33, "the ticket is not yet valid"),
     (Rule::Invalid, 33, "the ticket has the flag INVALID"),
     (Rule::Expired, 32, "the ticket has expired"),
+    (Rule::Anonymous, 60, "the client is anonymous"),
+    (
+        Rule::ClientRealm,
+        60,
+        "the service lets in no client of this realm",
+    ),
     (Rule::Path, 28, "no KDC has checked the path of realms"),
     (
         Rule::CriticalData,
@@ -154,7 +160,9 @@ fn rules_of_an_acceptor(rt: HostRuntime) -> Result<(), Fail> {
 
 #[test]
 fn usual_terms(rt: HostRuntime) -> Result<(), Fail> {
-    let terms = Terms::new(rt.alloc(), 300)?;
+    let terms = Terms::new(rt.alloc(), 300, Some(7))?;
+    assert!(rt; terms.whole_since == Some(7) && !terms.anonymous);
+    assert!(rt; terms.servers.is_empty() && terms.realms.is_empty());
     assert!(rt; terms.etypes.as_slice() == [17, 18, 19, 20].as_slice());
     assert!(rt; terms.known_data.as_slice() == [8, 128].as_slice());
     Ok(())

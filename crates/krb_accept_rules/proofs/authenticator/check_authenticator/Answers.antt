@@ -1,19 +1,18 @@
 use Rattle.std.proofs.Common.{inr}
 use Rattle.std.proofs.lemmas.Result.{err_from_is_err_and}
-use Rattle.krb_accept_rules.specs.AuthenticatorRules.{AuthenticatorRule, ShowsTime, client_order, data_order, parts_order, time_order}
-use Rattle.krb_accept_rules.proofs.FirstFaults.{last_refuses, third_refuses}
+use Rattle.krb_accept_rules.specs.AuthenticatorRules.{AuthenticatorRule, ShowsTime, octets_order, value_order}
+use Rattle.krb_accept_rules.proofs.FirstFaults.{or_memory_in_second, refuses_in_first}
 use Rattle.krb_accept_rules.proofs.authenticator.check_authenticator.Goals as goal
 
-pub returns-in_err-_times-clause-broken : goal.returns-in_err-_times-clause-broken
-returns-in_err-_times-clause-broken g c =
-    let p = err_from_is_err_and c.from_residual-in_err-_times.result c.from_residual-in_err-_times.ensures.1 in
-    rw (p.1, p.2) (inr (third_refuses (AuthenticatorRule g.O.Opening c.args.terms.now c.args.arrival.now c.args.ticket.now c.args.authenticator.now)
-    (ShowsTime c.args.ticket.now c.args.authenticator.now) parts_order client_order time_order data_order _
-    c.in_ok-microseconds.ensures.kept c.in_ok-_client.ensures.kept c.in_err-_times.ensures.broken))
+pub returns-in_err-microseconds-clause-broken : goal.returns-in_err-microseconds-clause-broken
+returns-in_err-microseconds-clause-broken g c =
+    let p = err_from_is_err_and c.from_residual.result c.from_residual.ensures.1 in
+    rw (p.1, p.2) (inr (refuses_in_first (AuthenticatorRule g.O.Opening c.args.terms.now c.args.arrival.now c.args.ticket.now c.args.authenticator.now)
+    (ShowsTime c.args.ticket.now c.args.authenticator.now) value_order octets_order _ c.in_err-microseconds.ensures.broken))
 
-pub returns-in_err-_data-clause-broken : goal.returns-in_err-_data-clause-broken
-returns-in_err-_data-clause-broken g c =
-    let p = err_from_is_err_and c.from_residual-in_err-_data.result c.from_residual-in_err-_data.ensures.1 in
-    rw (p.1, p.2) (last_refuses (AuthenticatorRule g.O.Opening c.args.terms.now c.args.arrival.now c.args.ticket.now c.args.authenticator.now)
-    (ShowsTime c.args.ticket.now c.args.authenticator.now) parts_order client_order time_order data_order _
-    c.in_ok-microseconds.ensures.kept c.in_ok-_client.ensures.kept c.in_ok-_times.ensures.kept c.in_err-_data.ensures.broken)
+pub returns-in_err-_form-clause-broken : goal.returns-in_err-_form-clause-broken
+returns-in_err-_form-clause-broken g c =
+    let p = err_from_is_err_and c.from_residual-in_err-_form.result c.from_residual-in_err-_form.ensures.1 in
+    rw (p.1, p.2) (or_memory_in_second (AuthenticatorRule g.O.Opening c.args.terms.now c.args.arrival.now c.args.ticket.now c.args.authenticator.now)
+    (ShowsTime c.args.ticket.now c.args.authenticator.now) value_order octets_order _
+    c.in_ok-microseconds.ensures.kept c.in_err-_form.ensures.broken)

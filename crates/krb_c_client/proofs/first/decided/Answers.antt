@@ -16,23 +16,23 @@ returns-in_err-prepared-clause-refused c =
 pub returns-then-is_absent-clause-follows : goal.returns-then-is_absent-clause-follows
 returns-then-is_absent-clause-follows c =
     ok_map c.opened.result (λ f is. begins c.in_ok-prepared.prepared.asked c.in_ok-prepared.prepared.moment
-    (to_begin _ _ _ c.if-not-is_first_turn.ensures c.if-is_absent.ensures) c.in_ok-prepared.ensures.made c.if-is_absent.ensures is)
+    (to_begin _ c.args.kept.now _ c.if-not-is_first_turn.ensures c.if-is_absent.ensures) c.in_ok-prepared.ensures.made c.if-is_absent.ensures is)
     c.opened.ensures.opens
 
 pub returns-then-is_absent-clause-refused : goal.returns-then-is_absent-clause-refused
 returns-then-is_absent-clause-refused c =
     err_map c.opened.result (λ r is. begins_not c.in_ok-prepared.prepared.asked c.in_ok-prepared.prepared.moment
-    (to_begin _ _ _ c.if-not-is_first_turn.ensures c.if-is_absent.ensures) c.in_ok-prepared.ensures.made
+    (to_begin _ c.args.kept.now _ c.if-not-is_first_turn.ensures c.if-is_absent.ensures) c.in_ok-prepared.ensures.made
     c.if-is_absent.ensures is) c.opened.ensures.refused
 
 pub returns-else-is_absent-clause-follows : goal.returns-else-is_absent-clause-follows
 returns-else-is_absent-clause-follows c =
     ok_map c.continued.result (λ f is. goes_on c.in_ok-prepared.prepared.asked c.in_ok-prepared.prepared.moment
-    (to_go_on _ _ _ c.if-not-is_first_turn.ensures c.if-is_absent.ensures) c.in_ok-prepared.ensures.made
+    (to_go_on _ c.args.kept.now _ c.if-not-is_first_turn.ensures c.if-is_absent.ensures) c.in_ok-prepared.ensures.made
     c.if-is_absent.ensures is) c.continued.ensures.goes_on
 
 pub returns-else-is_absent-clause-refused : goal.returns-else-is_absent-clause-refused
 returns-else-is_absent-clause-refused c =
     err_map c.continued.result (λ r is. goes_not_on c.in_ok-prepared.prepared.asked c.in_ok-prepared.prepared.moment
-    (to_go_on _ _ _ c.if-not-is_first_turn.ensures c.if-is_absent.ensures) c.in_ok-prepared.ensures.made
+    (to_go_on _ c.args.kept.now _ c.if-not-is_first_turn.ensures c.if-is_absent.ensures) c.in_ok-prepared.ensures.made
     c.if-is_absent.ensures is) c.continued.ensures.refused

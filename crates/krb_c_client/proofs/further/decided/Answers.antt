@@ -21,7 +21,7 @@ returns-in_err-means-clause-refused c =
 pub returns-then-is_absent-clause-follows : goal.returns-then-is_absent-clause-follows
 returns-then-is_absent-clause-follows c =
     ok_map c.opened.result (λ f is. begins c.in_ok-prepared.prepared.asked c.in_ok-prepared.prepared.moment c.by_of-lent.result c.in_ok-means.means.subkey
-    (to_begin _ _ _ c.if-not-is_further_turn.ensures c.if-is_absent.ensures)
+    (to_begin _ c.args.kept.now _ c.if-not-is_further_turn.ensures c.if-is_absent.ensures)
     c.in_ok-prepared.ensures.made
     (record { ticket = c.in_ok-means.means.ticket; suite = c.in_ok-means.means.suite; are_means = c.in_ok-means.ensures.made; is_by = c.by_of-lent.ensures })
     c.if-is_absent.ensures is) c.opened.ensures.opens
@@ -29,7 +29,7 @@ returns-then-is_absent-clause-follows c =
 pub returns-then-is_absent-clause-refused : goal.returns-then-is_absent-clause-refused
 returns-then-is_absent-clause-refused c =
     err_map c.opened.result (λ r is. begins_not c.in_ok-prepared.prepared.asked c.in_ok-prepared.prepared.moment c.by_of-lent.result c.in_ok-means.means.subkey
-    (to_begin _ _ _ c.if-not-is_further_turn.ensures c.if-is_absent.ensures)
+    (to_begin _ c.args.kept.now _ c.if-not-is_further_turn.ensures c.if-is_absent.ensures)
     c.in_ok-prepared.ensures.made
     (record { ticket = c.in_ok-means.means.ticket; suite = c.in_ok-means.means.suite; are_means = c.in_ok-means.ensures.made; is_by = c.by_of-lent.ensures })
     c.if-is_absent.ensures is) c.opened.ensures.refused
@@ -37,7 +37,7 @@ returns-then-is_absent-clause-refused c =
 pub returns-clause-follows : goal.returns-clause-follows
 returns-clause-follows c =
     ok_map c.continued.result (λ f is. goes_on c.in_ok-prepared.prepared.asked c.in_ok-prepared.prepared.moment c.by_of-lent.result c.in_ok-means.means.subkey
-    (to_go_on _ _ _ c.if-not-is_further_turn.ensures c.if-is_absent.ensures)
+    (to_go_on _ c.args.kept.now _ c.if-not-is_further_turn.ensures c.if-is_absent.ensures)
     c.in_ok-prepared.ensures.made
     (record { ticket = c.in_ok-means.means.ticket; suite = c.in_ok-means.means.suite; are_means = c.in_ok-means.ensures.made; is_by = c.by_of-lent.ensures })
     c.if-is_absent.ensures is) c.continued.ensures.goes_on
@@ -45,7 +45,7 @@ returns-clause-follows c =
 pub returns-clause-refused : goal.returns-clause-refused
 returns-clause-refused c =
     err_map c.continued.result (λ r is. goes_not_on c.in_ok-prepared.prepared.asked c.in_ok-prepared.prepared.moment c.by_of-lent.result c.in_ok-means.means.subkey
-    (to_go_on _ _ _ c.if-not-is_further_turn.ensures c.if-is_absent.ensures)
+    (to_go_on _ c.args.kept.now _ c.if-not-is_further_turn.ensures c.if-is_absent.ensures)
     c.in_ok-prepared.ensures.made
     (record { ticket = c.in_ok-means.means.ticket; suite = c.in_ok-means.means.suite; are_means = c.in_ok-means.ensures.made; is_by = c.by_of-lent.ensures })
     c.if-is_absent.ensures is) c.continued.ensures.refused

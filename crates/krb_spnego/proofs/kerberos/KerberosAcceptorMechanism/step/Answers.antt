@@ -1,4 +1,4 @@
-use Rattle.std.proofs.Common.{ap, inr, sym}
+use Rattle.std.proofs.Common.{ap, inl, inr, rules, sym}
 use Rattle.std.specs.Option.{option_copied}
 use Rattle.krb_spnego.proofs.ContextMics.{error_is, nobody}
 use Rattle.krb_spnego.proofs.kerberos.KerberosAcceptorMechanism.step.Goals as goal
@@ -46,3 +46,7 @@ returns-in-Err-clause-refused c = λ refused.
         ),
       ),
     ))
+
+pub returns-in_err-client-clause-refused : goal.returns-in_err-client-clause-refused
+returns-in_err-client-clause-refused c = λ refused.
+    inr (inr (c.in-Some.token.now, (ap option_copied c.in-Some.is, inl (c.in_err-client.ensures.refused (search rules)))))

@@ -2,7 +2,7 @@ use Rattle.std.proofs.Common.{inr}
 use Rattle.std.proofs.lemmas.Result.{err_from_is_err_and}
 use Rattle.krb_accept_rules.specs.Presenting.{session_breaks}
 use Rattle.krb_accept_rules.proofs.Steps.{not_an_authenticator, not_kept}
-use Rattle.krb_accept_rules.proofs.presentation.judge.Goals as goal
+use Rattle.krb_accept_rules.proofs.presentation.judge_opened.Goals as goal
 
 pub returns-in_err-_session-clause-rejected : goal.returns-in_err-_session-clause-rejected
 returns-in_err-_session-clause-rejected g c =

@@ -1,0 +1,240 @@
+//! Where the PAC of a ticket stands (MS-PAC, 2.1): in one AD-IF-RELEVANT of the ticket, and nowhere else.
+
+ghost use Rattle.std.specs.Prelude.{◌≡◌, pos, IfOk, MatchBool};
+ghost use Rattle.krb_accept.specs.PacPlaces.{HoldsFree, HoldsOne, HoldsPac, IsContainer, IsFree, IsPac, IsPacOf, MatchHeld, NoPacOf, OneOf, TicketPac, both};
+ghost use Rattle.krb_accept_rules.specs.Firsts.{EachIs};
+
+use crate::opening::{octets_of, value_of};
+use crate::with_key::is_number;
+use krb_der::DerEncode;
+use krb_types::data_types::{AuthorizationData, AuthorizationDataInner};
+use krb_types::view::items;
+use std::alloc::{AllocError, Global};
+
+/// The type of AD-IF-RELEVANT (RFC 4120, 5.2.6.1).
+const IF_RELEVANT: u32 = 1;
+
+/// The type of AD-MANDATORY-FOR-KDC (RFC 4120, 5.2.6.4).
+const MANDATORY_FOR_KDC: u32 = 8;
+
+/// The type of AD-WIN2K-PAC (RFC 4120, 7.5.4).
+const WIN2K_PAC: u32 = 128;
+
+/// How many levels of containers may stand in an element; real tickets have one.
+const LEVELS: usize = 16;
+
+/// Where a PAC is found.
+#[derive(Drop)]
+pub(crate) enum Held {
+    /// None stands there.
+    Nowhere,
+    /// One stands where it is verified, and these are its octets.
+    Once(Vec<u8>),
+    /// One stands where nobody verifies it, or a second one; or the levels are too many.
+    Elsewhere,
+}
+
+/// Whether an element is an AD-WIN2K-PAC.
+fn is_pac(element: &AuthorizationDataInner) -> bool
+    ensures { MatchBool result (IsPac element.now) (IsPac element.now → ⊥) }
+{
+    is_number(&element.ad_type.0, WIN2K_PAC)
+}
+
+/// Whether an element is an AD-IF-RELEVANT.
+fn is_if_relevant(element: &AuthorizationDataInner) -> bool
+    ensures { MatchBool result (element.now.ad_type ≡ pos 1) (element.now.ad_type ≡ pos 1 → ⊥) }
+{
+    is_number(&element.ad_type.0, IF_RELEVANT)
+}
+
+/// Whether an element's content is an AuthorizationData.
+fn is_container(element: &AuthorizationDataInner) -> bool
+    ensures { MatchBool result (IsContainer element.now) (IsContainer element.now → ⊥) }
+{
+    is_if_relevant(element) || is_number(&element.ad_type.0, MANDATORY_FOR_KDC)
+}
+
+/// The octets that an element holds.
+fn content_of(element: &AuthorizationDataInner) -> &[u8]
+    ensures { result.now ≡ element.now.ad_data }
+{
+    octets_of(&element.ad_data.0)
+}
+
+/// Whether octets are an AuthorizationData in which no PAC stands.
+#[cycle(free)]
+fn holds_free(alloc: Global, levels: usize, octets: &[u8]) -> Result<bool, AllocError>
+    ensures { IfOk result (λ is. MatchBool is (HoldsFree ⟦<AuthorizationData as DerEncode>⟧ levels octets.now)
+        (HoldsFree ⟦<AuthorizationData as DerEncode>⟧ levels octets.now → ⊥)) }
+{
+    if levels == 0 {
+        return Ok(false);
+    }
+    match value_of::<AuthorizationData>(alloc, octets)? {
+        Some(inner) => are_free(alloc, levels - 1, items(&inner)),
+        None => Ok(false),
+    }
+}
+
+/// Whether no PAC stands in any of these elements.
+#[cycle(free)]
+fn are_free(
+    alloc: Global,
+    levels: usize,
+    elements: &[AuthorizationDataInner],
+) -> Result<bool, AllocError>
+    ensures { IfOk result (λ is. MatchBool is (EachIs (IsFree ⟦<AuthorizationData as DerEncode>⟧ levels) elements.now)
+        (EachIs (IsFree ⟦<AuthorizationData as DerEncode>⟧ levels) elements.now → ⊥)) }
+{
+    'elements: for element in elements {
+        if !is_free(alloc, levels, element)? {
+            return Ok(false);
+        }
+    }
+    Ok(true)
+}
+
+/// Whether no PAC stands in an element.
+#[cycle(free)]
+fn is_free(
+    alloc: Global,
+    levels: usize,
+    element: &AuthorizationDataInner,
+) -> Result<bool, AllocError>
+    ensures { IfOk result (λ is. MatchBool is (IsFree ⟦<AuthorizationData as DerEncode>⟧ levels element.now)
+        (IsFree ⟦<AuthorizationData as DerEncode>⟧ levels element.now → ⊥)) }
+{
+    if is_pac(element) {
+        return Ok(false);
+    }
+    if !is_container(element) {
+        return Ok(true);
+    }
+    holds_free(alloc, levels, content_of(element))
+}
+
+/// Whether no PAC stands in an element of a ticket or an authenticator.
+pub(crate) fn is_without_pac(
+    alloc: Global,
+    element: &AuthorizationDataInner,
+) -> Result<bool, AllocError>
+    ensures { IfOk result (λ is. MatchBool is (IsFree ⟦<AuthorizationData as DerEncode>⟧ 16 element.now)
+        (IsFree ⟦<AuthorizationData as DerEncode>⟧ 16 element.now → ⊥)) }
+{
+    is_free(alloc, LEVELS, element)
+}
+
+/// Whether no PAC stands in authorization data.
+pub(crate) fn has_no_pac(
+    alloc: Global,
+    field: &Option<AuthorizationData>,
+) -> Result<bool, AllocError>
+    ensures { IfOk result (λ is. MatchBool is (NoPacOf ⟦<AuthorizationData as DerEncode>⟧ field.now)
+        (NoPacOf ⟦<AuthorizationData as DerEncode>⟧ field.now → ⊥)) }
+{
+    match field {
+        Some(elements) => are_free(alloc, LEVELS, items(elements)),
+        None => Ok(true),
+    }
+}
+
+/// What is found in both.
+fn both(first: Held, second: Held) -> Held
+    ensures { result ≡ both first second }
+{
+    match first {
+        Held::Nowhere => second,
+        Held::Once(octets) => match second {
+            Held::Nowhere => Held::Once(octets),
+            Held::Once(other) => {
+                drop(octets);
+                drop(other);
+                Held::Elsewhere
+            }
+            Held::Elsewhere => {
+                drop(octets);
+                Held::Elsewhere
+            }
+        },
+        Held::Elsewhere => {
+            drop(second);
+            Held::Elsewhere
+        }
+    }
+}
+
+/// What an element of an AD-IF-RELEVANT of a ticket is.
+fn held_by(alloc: Global, element: &AuthorizationDataInner) -> Result<Held, AllocError>
+    ensures { IfOk result (λ found. MatchHeld found (IsFree ⟦<AuthorizationData as DerEncode>⟧ 15 element.now) (IsPacOf element.now)) }
+{
+    if is_pac(element) {
+        return Ok(Held::Once(Vec::from_slice(alloc, content_of(element))?));
+    }
+    if is_free(alloc, LEVELS - 1, element)? {
+        Ok(Held::Nowhere)
+    } else {
+        Ok(Held::Elsewhere)
+    }
+}
+
+/// What the elements of an AD-IF-RELEVANT of a ticket are.
+fn held_by_each(alloc: Global, elements: &[AuthorizationDataInner]) -> Result<Held, AllocError>
+    ensures { IfOk result (λ found. MatchHeld found (EachIs (IsFree ⟦<AuthorizationData as DerEncode>⟧ 15) elements.now)
+        (OneOf (IsFree ⟦<AuthorizationData as DerEncode>⟧ 15) IsPacOf elements.now)) }
+{
+    let mut found = Held::Nowhere;
+    'elements: for element in elements {
+        found = both(found, held_by(alloc, element)?);
+    }
+    Ok(found)
+}
+
+/// What stands in an AD-IF-RELEVANT of a ticket.
+fn held_within(alloc: Global, octets: &[u8]) -> Result<Held, AllocError>
+    ensures { IfOk result (λ found. MatchHeld found (HoldsFree ⟦<AuthorizationData as DerEncode>⟧ 16 octets.now)
+        (HoldsOne ⟦<AuthorizationData as DerEncode>⟧ octets.now)) }
+{
+    match value_of::<AuthorizationData>(alloc, octets)? {
+        Some(inner) => held_by_each(alloc, items(&inner)),
+        None => Ok(Held::Elsewhere),
+    }
+}
+
+/// What stands in an element of a ticket.
+fn held_in(alloc: Global, element: &AuthorizationDataInner) -> Result<Held, AllocError>
+    ensures { IfOk result (λ found. MatchHeld found (IsFree ⟦<AuthorizationData as DerEncode>⟧ 16 element.now)
+        (HoldsPac ⟦<AuthorizationData as DerEncode>⟧ element.now)) }
+{
+    if is_if_relevant(element) {
+        return held_within(alloc, content_of(element));
+    }
+    if is_without_pac(alloc, element)? {
+        Ok(Held::Nowhere)
+    } else {
+        Ok(Held::Elsewhere)
+    }
+}
+
+/// What stands in the elements of a ticket.
+fn held_in_each(alloc: Global, elements: &[AuthorizationDataInner]) -> Result<Held, AllocError>
+    ensures { IfOk result (λ found. MatchHeld found (EachIs (IsFree ⟦<AuthorizationData as DerEncode>⟧ 16) elements.now)
+        (OneOf (IsFree ⟦<AuthorizationData as DerEncode>⟧ 16) (HoldsPac ⟦<AuthorizationData as DerEncode>⟧) elements.now)) }
+{
+    let mut found = Held::Nowhere;
+    'elements: for element in elements {
+        found = both(found, held_in(alloc, element)?);
+    }
+    Ok(found)
+}
+
+/// The PAC of a ticket, by its authorization data.
+pub(crate) fn pac_in(alloc: Global, field: &Option<AuthorizationData>) -> Result<Held, AllocError>
+    ensures { IfOk result (λ found. MatchHeld found (NoPacOf ⟦<AuthorizationData as DerEncode>⟧ field.now)
+        (TicketPac ⟦<AuthorizationData as DerEncode>⟧ field.now)) }
+{
+    match field {
+        Some(elements) => held_in_each(alloc, items(elements)),
+        None => Ok(Held::Nowhere),
+    }
+}
