@@ -15,7 +15,7 @@ mod x509;
 pub use implicit::{
     ImplicitContextTag, ImplicitContextTag0, ImplicitContextTag1, ImplicitContextTag2,
 };
-pub use object_identifier::ObjectIdentifierAsn1;
+pub use object_identifier::{ObjectIdentifierAsn1, read_sub_identifier};
 pub use primitive::DerPrimitive;
 pub use raw_value::Asn1RawDer;
 pub use x509::{AlgorithmIdentifier, SubjectPublicKeyInfo};

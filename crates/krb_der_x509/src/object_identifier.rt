@@ -56,8 +56,11 @@ fn are_arcs(arcs: &[u64]) -> bool
         && arcs[1] <= u64::MAX - 40 * arcs[0]
 }
 
-/// The sub-identifier at the start, and the number of its octets.
-fn read_sub_identifier(octets: &[u8]) -> Result<(u64, usize), Asn1DerError>
+/// The sub-identifier at the start of octets (X.690, 8.19.2), and the number of its octets.
+///
+/// `InvalidData` where there is none, or it begins with `80` or is cut short; `UnsupportedValue` where it does not fit
+/// 64 bits and one more octet is there. Nothing is allocated.
+pub fn read_sub_identifier(octets: &[u8]) -> Result<(u64, usize), Asn1DerError>
     ensures found { IfOk result (λ p. TakesPrefix (sub_identifier p.0) p.1 octets.now) }
     ensures fits { IfOk result (λ p. p.0 < 2 ^ 64) }
     ensures rejected { IfErr result (λ e. (n : ℕ) (rest : List ℕ) → n < 2 ^ 64 → octets.now ≡ sub_identifier n ++ rest → ⊥) }

@@ -1,10 +1,10 @@
-mod Beginnings
+pub mod Beginnings
 mod Composing
 mod Contents
 mod Determined
 mod FirstFaults
 mod Headers
 mod OneForest
-mod Refusals
-mod Walking
+pub mod Refusals
+pub mod Walking
 pub mod PathSizes

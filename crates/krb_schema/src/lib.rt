@@ -5,6 +5,7 @@
 //! it is. Nothing is copied, and nothing is printed here.
 #![tactic(auto)]
 
+pub mod elements;
 mod item;
 pub mod kerberos;
 mod laws;

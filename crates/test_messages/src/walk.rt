@@ -1,7 +1,8 @@
-//! The walk of `krb_schema` beside the readers: it reads the same octets, and has the same error.
+//! The walk of `krb_schema`, and the check that allocates nothing, beside the readers: they take the same octets, and have the same error.
 
 use crate::row::{Attempt, Row};
 use krb_der::Asn1DerError;
+use krb_encoding_check::check_encoding;
 use krb_schema::kerberos::{kerberos, types};
 use krb_schema::{Fault, Name, Role, items_of};
 use std::alloc::{AllocError, Global};
@@ -59,7 +60,16 @@ fn is_refused_so(found: &Attempt, why: &Asn1DerError) -> bool {
     }
 }
 
-/// Whether the walk answers what the readers do: items of octets that they read, and the error of others. `None` where the type has no row.
+/// Whether the check answers what the readers do, without memory.
+fn is_checked(row: &Row<'_>, is: usize, name: Name, found: &Attempt) -> bool {
+    match check_encoding(&kerberos(), is, name, row.octets) {
+        Ok(()) => matches!(found, Some(Ok(_))),
+        Err(Fault::Refused { why, .. }) => is_refused_so(found, &why),
+        Err(_) => false,
+    }
+}
+
+/// Whether the walk and the check answer what the readers do: items of octets that they read, and the error of others. `None` where the type has no row.
 pub fn is_walked(row: &Row<'_>, found: &Attempt) -> Result<Option<bool>, AllocError> {
     let Some(is) = row_of(row.alloc, row.name)? else {
         return Ok(None);
@@ -69,6 +79,9 @@ pub fn is_walked(row: &Row<'_>, found: &Attempt) -> Result<Option<bool>, AllocEr
         registry: None,
         role: Role::None,
     };
+    if !is_checked(row, is, name, found) {
+        return Ok(Some(false));
+    }
     match items_of(row.alloc, &kerberos(), is, name, row.octets) {
         Ok(_items) => Ok(Some(matches!(found, Some(Ok(_))))),
         Err(Fault::OutOfMemory) => Err(AllocError),
