@@ -107,7 +107,7 @@ _TEXTS = {
     Rule.DELEGATION: "the delegated credentials cannot be read",
     Rule.ANONYMOUS: "the client is anonymous",
     Rule.CLIENT_REALM: "the service lets in no client of this realm",
-    Rule.PAC_PLACE: "a PAC stands where nobody verifies it, elsewhere than as the only one in an AD-IF-RELEVANT of the ticket; or containers are too deep",
+    Rule.PAC_PLACE: "a PAC stands, or may stand, where nobody verifies it: elsewhere than as the only one in an AD-IF-RELEVANT of the ticket, or too deep",
 }
 
 

@@ -6,7 +6,10 @@ use Rattle.krb_types.specs.declared.data_types.authorization_data.AuthorizationD
 use Rattle.krb_accept_rules.specs.Firsts.{EachIs}
 use Rattle.krb_accept_rules.specs.Values.{HasNone, IsTheValue}
 use Rattle.krb_accept.specs.Opening.{Encodes}
-use Rattle.krb_accept.specs.PacPlaces.{AreKept, HoldsFree, HoldsOne, HoldsPac, IsFree, IsPac, IsPacOf, IsPushedIf, MatchHeld, OneOf, both}
+use Rattle.krb_accept.specs.PacPlaces.{AreKept, HasNoWay, HoldsFree, HoldsOne, HoldsPac, IsFree, IsPac, IsPacOf, IsPushedIf, IsWay, MatchHeld, OneOf, Reaches, both, field_way}
+use Rattle.krb_message_fields.specs.Paths.{Leads, LeadsNowhere}
+use Rattle.krb_message_fields.specs.PathLaws.{one_end}
+use Rattle.krb_message_fields.specs.declared.places.place.Step.{Step}
 use Rattle.krb_accept.specs.declared.pac_places.Held.{Held}
 use Rattle.krb_accept.specs.declared.pac_places.Held.TheVariants as held
 
@@ -26,6 +29,17 @@ each_front free (y ∷ xs) x (g, h) = (g, each_front free xs x h)
 pub each_last : {A : Type 0} (free : A → Type 0) (xs : List A) (x : A) → EachIs free (xs ++ x ∷ []) → free x
 each_last free [] x (f, h) = f
 each_last free (y ∷ xs) x (g, h) = each_last free xs x h
+
+-- one of them, by its place
+pub each_nth : {A : Type 0} (free : A → Type 0) (xs : List A) (i : ℕ) (d x : A) → i < length xs → x ≡ get_or xs i d → EachIs free xs → free x
+each_nth free [] i d x lt is h = absurd (omega (arith, lt))
+each_nth free (y ∷ xs) zero d x lt is h = subst free (sym is) h.0
+each_nth free (y ∷ xs) (suc i) d x lt is h = each_nth free xs i d x (omega (arith, lt)) is h.1
+
+-- and so with one more
+pub each_more : {A : Type 0} (free : A → Type 0) (xs : List A) (i : ℕ) (x : A) → i < length xs → x ≡ get_or xs i x → EachIs free (take i xs) → free x
+    → EachIs free (take (i + 1) xs)
+each_more free xs i x lt is h f = subst (EachIs free) (sym (longer xs i x lt is)) (each_push free (take i xs) x h f)
 
 module _ {A B : Type 0} (free : A → Type 0) (has : A → B → Type 0) where
   -- one more that is free
@@ -182,6 +196,70 @@ module _ (t : EncodingOf (List AuthorizationDataInner)) (octets : List ℕ) wher
   pub none_found : HasNone (Encodes t octets) → MatchHeld held.Elsewhere (HoldsFree t 16 octets) (HoldsOne t octets)
   none_found none = (none_within 15 none, λ v o. none o.inner o.encoded)
 
+-- ---- ways into elements
+
+module _ (e : AuthorizationDataInner) where
+  apart : (a b : ℕ) → e.ad_type ≡ pos a → e.ad_type ≡ pos b → a ≡ b
+  apart a b p q = cc
+
+  whole_apart : (b : ℕ) → (1 ≡ b → ⊥) → (8 ≡ b → ⊥) → (e.ad_type ≡ pos 1) ⊎ (e.ad_type ≡ pos 8) → e.ad_type ≡ pos b → ⊥
+  whole_apart b one eight (inl p) q = one (apart 1 b p q)
+  whole_apart b one eight (inr p) q = eight (apart 8 b p q)
+
+  -- an element has one way
+  pub one_way : (way other : List Step) → IsWay e way → IsWay e other → way ≡ other
+  one_way way other (inl p) (inl q) = p.1 ∙ sym q.1
+  one_way way other (inl p) (inr (inl q)) = absurd (whole_apart 4 (λ k. cc) (λ k. cc) p.0 q.0)
+  one_way way other (inl p) (inr (inr (inl q))) = absurd (whole_apart 5 (λ k. cc) (λ k. cc) p.0 q.0)
+  one_way way other (inl p) (inr (inr (inr q))) = absurd (whole_apart 96 (λ k. cc) (λ k. cc) p.0 q.0)
+  one_way way other (inr (inl p)) (inl q) = absurd (whole_apart 4 (λ k. cc) (λ k. cc) q.0 p.0)
+  one_way way other (inr (inl p)) (inr (inl q)) = p.1 ∙ sym q.1
+  one_way way other (inr (inl p)) (inr (inr (inl q))) = let k = apart 4 5 p.0 q.0 in absurd (cc)
+  one_way way other (inr (inl p)) (inr (inr (inr q))) = let k = apart 4 96 p.0 q.0 in absurd (cc)
+  one_way way other (inr (inr (inl p))) (inl q) = absurd (whole_apart 5 (λ k. cc) (λ k. cc) q.0 p.0)
+  one_way way other (inr (inr (inl p))) (inr (inl q)) = let k = apart 5 4 p.0 q.0 in absurd (cc)
+  one_way way other (inr (inr (inl p))) (inr (inr (inl q))) = p.1 ∙ sym q.1
+  one_way way other (inr (inr (inl p))) (inr (inr (inr q))) = let k = apart 5 96 p.0 q.0 in absurd (cc)
+  one_way way other (inr (inr (inr p))) (inl q) = absurd (whole_apart 96 (λ k. cc) (λ k. cc) q.0 p.0)
+  one_way way other (inr (inr (inr p))) (inr (inl q)) = let k = apart 96 4 p.0 q.0 in absurd (cc)
+  one_way way other (inr (inr (inr p))) (inr (inr (inl q))) = let k = apart 96 5 p.0 q.0 in absurd (cc)
+  one_way way other (inr (inr (inr p))) (inr (inr (inr q))) = p.1 ∙ sym q.1
+
+  pub no_way : ((e.ad_type ≡ pos 1) ⊎ (e.ad_type ≡ pos 8) → ⊥) → (e.ad_type ≡ pos 4 → ⊥) → (e.ad_type ≡ pos 5 → ⊥) → (e.ad_type ≡ pos 96 → ⊥) → HasNoWay e
+  no_way whole issued and_or cammac way (inl p) = whole p.0
+  no_way whole issued and_or cammac way (inr (inl p)) = issued p.0
+  no_way whole issued and_or cammac way (inr (inr (inl p))) = and_or p.0
+  no_way whole issued and_or cammac way (inr (inr (inr p))) = cammac p.0
+
+module _ (t : EncodingOf (List AuthorizationDataInner)) (n : ℕ) (e : AuthorizationDataInner) where
+  pub free_without_way : (IsPac e → ⊥) → HasNoWay e → IsFree t n e
+  free_without_way other none = (other, λ way is. absurd (none way is))
+
+  -- an element whose way leads nowhere
+  pub not_free_nowhere : (way : List Step) (octets : List ℕ) → octets ≡ e.ad_data → IsWay e way → LeadsNowhere way octets → IsFree t n e → ⊥
+  not_free_nowhere way octets same is nowhere f =
+      let k = f.1 way is in
+      nowhere k.1.0 k.0 (subst (λ (l : List ℕ). Leads way l k.1.0 k.0) (sym same) k.1.1)
+
+  free_by_way : (way : List Step) (inner : List ℕ) → (IsPac e → ⊥) → IsWay e way → Reaches way e.ad_data inner → HoldsFree t n inner → IsFree t n e
+  free_by_way way inner other is reached h =
+      (other, λ w is_w. (inner, subst (λ (p : List Step). Reaches p e.ad_data inner) (one_way e way w is is_w) reached, h))
+
+  not_free_by_way : (way : List Step) (inner : List ℕ) → IsWay e way → Reaches way e.ad_data inner → (HoldsFree t n inner → ⊥) → IsFree t n e → ⊥
+  not_free_by_way way inner is reached h f =
+      let k = f.1 way is in
+      h (subst (λ (l : List ℕ). HoldsFree t n l) (one_end way e.ad_data k.1.0 reached.0 k.0 inner k.1.1 reached.1).1 k.2)
+
+  -- whether what the way reaches holds no PAC says whether none stands in the element
+  pub free_by_way_so : {E : Type 0} (way : List Step) (octets inner : List ℕ) (r : Result Bool E) → (IsPac e → ⊥) → IsWay e way → octets ≡ e.ad_data
+      → Reaches way octets inner → IfOk r (λ is. MatchBool is (HoldsFree t n inner) (HoldsFree t n inner → ⊥))
+      → IfOk r (λ is. MatchBool is (IsFree t n e) (IsFree t n e → ⊥))
+  free_by_way_so way octets inner (Err x) other is same reached h = tt
+  free_by_way_so way octets inner (Ok true) other is same reached h =
+      free_by_way way inner other is (subst (λ (l : List ℕ). Reaches way l inner) same reached) h
+  free_by_way_so way octets inner (Ok false) other is same reached h =
+      not_free_by_way way inner is (subst (λ (l : List ℕ). Reaches way l inner) same reached) h
+
 -- ---- what an element holds
 
 not_a_pac : (e : AuthorizationDataInner) → e.ad_type ≡ pos 1 → IsPac e → ⊥
@@ -189,10 +267,16 @@ not_a_pac e p q = cc
 
 module _ (t : EncodingOf (List AuthorizationDataInner)) (e : AuthorizationDataInner) where
   -- what is found in the octets of an AD-IF-RELEVANT is found in it
+  whole_way : e.ad_type ≡ pos 1 → IsWay e []
+  whole_way is = inl (inl is, refl)
+
+  itself : Reaches [] e.ad_data e.ad_data
+  itself = (0, (refl, refl))
+
   pub found_in : (found : Held) → e.ad_type ≡ pos 1 → MatchHeld found (HoldsFree t 16 e.ad_data) (HoldsOne t e.ad_data) → MatchHeld found (IsFree t 16 e) (HoldsPac t e)
-  found_in held.Nowhere is h = (not_a_pac e is, λ _. h)
-  found_in (held.Once v) is h = ((is, h.0), λ f. h.1 (f.1 (inl is)))
-  found_in held.Elsewhere is h = (λ f. h.0 (f.1 (inl is)), λ v o. h.1 v o.1)
+  found_in held.Nowhere is h = free_by_way t 16 e [] e.ad_data (not_a_pac e is) (whole_way is) itself h
+  found_in (held.Once v) is h = ((is, h.0), not_free_by_way t 16 e [] e.ad_data (whole_way is) itself h.1)
+  found_in held.Elsewhere is h = (not_free_by_way t 16 e [] e.ad_data (whole_way is) itself h.0, λ v o. h.1 v o.1)
 
   pub found_in_so : {E : Type 0} (octets : List ℕ) (r : Result Held E) → e.ad_type ≡ pos 1 → octets ≡ e.ad_data
       → IfOk r (λ found. MatchHeld found (HoldsFree t 16 octets) (HoldsOne t octets)) → IfOk r (λ found. MatchHeld found (IsFree t 16 e) (HoldsPac t e))

@@ -101,13 +101,13 @@ KeepsPac t checks.Checked key a pac =
 KeepsPac t checks.Required key a pac =
     NoPacOf t a.authorization_data × ((octets : List ℕ) × (pac ≡ Some octets) × HasVerified t key a octets)
 
--- no PAC stands where nobody verifies it
+-- no PAC stands, nor may stand, where nobody verifies it
 abbrev pub IsPlaced : EncodingOf (List AuthorizationDataInner) → Accepted → Type 0
 IsPlaced t a =
     NoPacOf t a.authorization_data
     × (NoPacOf t a.ticket.authorization_data ⊎ ((octets : List ℕ) × TicketPac t a.ticket.authorization_data octets))
 
--- Why they are broken, by the first: a PAC stands where nobody verifies it; there is none, and the service asks for one; or the ticket's breaks a rule.
+-- Why they are broken, by the first: a PAC stands, or may stand, where nobody verifies it; there is none, and the service asks for one; or the ticket's breaks a rule.
 pub data BreaksPac (t : EncodingOf (List AuthorizationDataInner)) (check : PacCheck) (key : List ℕ) (a : Accepted) (e : TokenRefusal) : Type 0 where
   for_memory : e ≡ memory → BreaksPac t check key a e
   at_place : e ≡ refusal.PacPlace → (check ≡ checks.Ignored → ⊥) → (IsPlaced t a → ⊥) → BreaksPac t check key a e

@@ -1,6 +1,9 @@
--- Where the PAC of a ticket stands, and where none may stand (MS-PAC, 2.1; RFC 4120, 5.2.6.1 and 5.2.6.4).
-use Rattle.std.specs.Prelude.{◌≡◌, ◌⊎◌, ⊤, ℕ, pos, zero, suc, List, [], ◌∷◌, ◌++◌, Option, None, Some}
+-- Where the PAC of a ticket stands, and where none may stand (MS-PAC, 2.1; RFC 4120, 5.2.6; RFC 7751, 3).
+use Rattle.std.specs.Prelude.{◌≡◌, ◌⊎◌, ⊤, ◌+◌, ℕ, pos, zero, suc, List, [], ◌∷◌, ◌++◌, Option, None, Some}
 use Rattle.krb_accept_rules.specs.Firsts.{EachIs}
+use Rattle.krb_message_fields.specs.Paths.{Leads}
+use Rattle.krb_message_fields.specs.declared.places.place.Step.{Step}
+use Rattle.krb_message_fields.specs.declared.places.place.Step.TheVariants.{Tag}
 use Rattle.krb_der_core.specs.declared.der.DerEncode.{Ghosts as EncodingOf}
 use Rattle.krb_types.specs.declared.data_types.authorization_data.AuthorizationDataInner.{AuthorizationDataInner}
 use Rattle.krb_accept.specs.Opening.{Encodes}
@@ -13,9 +16,27 @@ use Rattle.krb_accept.specs.declared.pac_places.Held.TheVariants as held
 abbrev pub IsPac : AuthorizationDataInner → Type 0
 IsPac e = e.ad_type ≡ pos 128
 
--- an AD-IF-RELEVANT (1) or an AD-MANDATORY-FOR-KDC (8), whose content is an AuthorizationData
-abbrev pub IsContainer : AuthorizationDataInner → Type 0
-IsContainer e = (e.ad_type ≡ pos 1) ⊎ (e.ad_type ≡ pos 8)
+-- the tags of a SEQUENCE and of its field of this number (X.690, 8.1.2)
+abbrev pub field_way : ℕ → List Step
+field_way number = Tag 48 ∷ Tag (160 + number) ∷ []
+
+-- These tags lead from the content of an element to the AuthorizationData that stands in it. The content of an AD-IF-RELEVANT (1) and of an AD-MANDATORY-FOR-KDC (8)
+-- is one (RFC 4120, 5.2.6.1 and 5.2.6.4); an AD-KDCIssued (4) has it in its field 3 (5.2.6.2), an AD-AND-OR (5) in its field 1 (5.2.6.3), an AD-CAMMAC (96) in its field 0
+-- (RFC 7751, 3).
+abbrev pub IsWay : AuthorizationDataInner → List Step → Type 0
+IsWay e way =
+    (((e.ad_type ≡ pos 1) ⊎ (e.ad_type ≡ pos 8)) × (way ≡ []))
+    ⊎ (((e.ad_type ≡ pos 4) × (way ≡ field_way 3))
+    ⊎ (((e.ad_type ≡ pos 5) × (way ≡ field_way 1))
+    ⊎ ((e.ad_type ≡ pos 96) × (way ≡ field_way 0))))
+
+-- no AuthorizationData stands in an element of this type
+abbrev pub HasNoWay : AuthorizationDataInner → Type 0
+HasNoWay e = (way : List Step) → IsWay e way → ⊥
+
+-- the way leads to these octets, which begin somewhere
+abbrev pub Reaches : List Step → List ℕ → List ℕ → Type 0
+Reaches way octets inner = (start : ℕ) × Leads way octets start inner
 
 -- an AD-WIN2K-PAC of these octets
 abbrev pub IsPacOf : AuthorizationDataInner → List ℕ → Type 0
@@ -23,17 +44,17 @@ IsPacOf e octets = IsPac e × (octets ≡ e.ad_data)
 
 -- ---- no PAC
 
--- the octets are an AuthorizationData, no element of which is an AD-WIN2K-PAC; nor is one that stands in a container in it, at any depth, and
--- there are at most so many levels of these
+-- the octets are an AuthorizationData, no element of which is an AD-WIN2K-PAC; in each that has a way, it leads to an AuthorizationData of which the
+-- same holds; and there are at most so many levels of these
 unfoldable pub HoldsFree : EncodingOf (List AuthorizationDataInner) → ℕ → List ℕ → Type 0
 HoldsFree t zero octets = ⊥
 HoldsFree t (suc n) octets =
     (inner : List AuthorizationDataInner) × Encodes t octets inner
-    × EachIs (λ e. (IsPac e → ⊥) × (IsContainer e → HoldsFree t n e.ad_data)) inner
+    × EachIs (λ e. (IsPac e → ⊥) × ((way : List Step) → IsWay e way → (octets : List ℕ) × Reaches way e.ad_data octets × HoldsFree t n octets)) inner
 
 -- the element is no AD-WIN2K-PAC, and none stands in it
 abbrev pub IsFree : EncodingOf (List AuthorizationDataInner) → ℕ → AuthorizationDataInner → Type 0
-IsFree t n e = (IsPac e → ⊥) × (IsContainer e → HoldsFree t n e.ad_data)
+IsFree t n e = (IsPac e → ⊥) × ((way : List Step) → IsWay e way → (octets : List ℕ) × Reaches way e.ad_data octets × HoldsFree t n octets)
 
 -- no PAC stands in authorization data, at any of 16 levels, and there are no more
 abbrev pub NoPacOf : EncodingOf (List AuthorizationDataInner) → Option (List AuthorizationDataInner) → Type 0

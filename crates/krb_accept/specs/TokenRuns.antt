@@ -1,4 +1,4 @@
--- A service over time: tokens come, and old entries are forgotten.
+-- A service over time: tokens come (RFC 4121, 4.1), and old entries are forgotten (RFC 4120, 3.2.3).
 use Rattle.std.specs.Prelude.{◌≡◌, ℕ, ℤ, ◌≤ℤ◌, List, [], ◌∷◌, Result, Ok, Err}
 use Rattle.krb_accept_rules.specs.Remembering.{IsWithout}
 use Rattle.krb_accept_rules.specs.declared.cache.Entry.{Entry}

@@ -1,12 +1,14 @@
 //! Where the PAC of a ticket stands (MS-PAC, 2.1): in one AD-IF-RELEVANT of the ticket, and nowhere else.
 
-ghost use Rattle.std.specs.Prelude.{◌≡◌, pos, IfOk, MatchBool};
-ghost use Rattle.krb_accept.specs.PacPlaces.{HoldsFree, HoldsOne, HoldsPac, IsContainer, IsFree, IsPac, IsPacOf, MatchHeld, NoPacOf, OneOf, TicketPac, both};
+ghost use Rattle.std.specs.Prelude.{◌≡◌, ◌⊎◌, pos, IfOk, MatchBool, MatchOption};
+ghost use Rattle.krb_accept.specs.PacPlaces.{HasNoWay, HoldsFree, HoldsOne, HoldsPac, IsFree, IsPac, IsPacOf, IsWay, MatchHeld, NoPacOf, OneOf, Reaches, TicketPac, both};
+ghost use Rattle.krb_message_fields.specs.Paths.{LeadsNowhere};
 ghost use Rattle.krb_accept_rules.specs.Firsts.{EachIs};
 
 use crate::opening::{octets_of, value_of};
 use crate::with_key::is_number;
 use krb_der::DerEncode;
+use krb_message_fields::places::{Step, place_of};
 use krb_types::data_types::{AuthorizationData, AuthorizationDataInner};
 use krb_types::view::items;
 use std::alloc::{AllocError, Global};
@@ -16,6 +18,27 @@ const IF_RELEVANT: u32 = 1;
 
 /// The type of AD-MANDATORY-FOR-KDC (RFC 4120, 5.2.6.4).
 const MANDATORY_FOR_KDC: u32 = 8;
+
+/// The type of AD-KDCIssued (RFC 4120, 5.2.6.2).
+const KDC_ISSUED: u32 = 4;
+
+/// The type of AD-AND-OR (RFC 4120, 5.2.6.3).
+const AND_OR: u32 = 5;
+
+/// The type of AD-CAMMAC (RFC 7751, 3).
+const CAMMAC: u32 = 96;
+
+/// The way into an element whose content is an AuthorizationData.
+const WHOLE: [Step; 0] = [];
+
+/// The way to field 0 of a SEQUENCE.
+const FIELD_0: [Step; 2] = [Step::Tag(0x30), Step::Tag(0xa0)];
+
+/// The way to field 1 of a SEQUENCE.
+const FIELD_1: [Step; 2] = [Step::Tag(0x30), Step::Tag(0xa1)];
+
+/// The way to field 3 of a SEQUENCE.
+const FIELD_3: [Step; 2] = [Step::Tag(0x30), Step::Tag(0xa3)];
 
 /// The type of AD-WIN2K-PAC (RFC 4120, 7.5.4).
 const WIN2K_PAC: u32 = 128;
@@ -30,7 +53,8 @@ pub(crate) enum Held {
     Nowhere,
     /// One stands where it is verified, and these are its octets.
     Once(Vec<u8>),
-    /// One stands where nobody verifies it, or a second one; or the levels are too many.
+    /// One stands where nobody verifies it, or a second one; or what stands there cannot be looked
+    /// through.
     Elsewhere,
 }
 
@@ -49,10 +73,39 @@ fn is_if_relevant(element: &AuthorizationDataInner) -> bool
 }
 
 /// Whether an element's content is an AuthorizationData.
-fn is_container(element: &AuthorizationDataInner) -> bool
-    ensures { MatchBool result (IsContainer element.now) (IsContainer element.now → ⊥) }
+fn is_whole(element: &AuthorizationDataInner) -> bool
+    ensures { MatchBool result ((element.now.ad_type ≡ pos 1) ⊎ (element.now.ad_type ≡ pos 8))
+        ((element.now.ad_type ≡ pos 1) ⊎ (element.now.ad_type ≡ pos 8) → ⊥) }
 {
     is_if_relevant(element) || is_number(&element.ad_type.0, MANDATORY_FOR_KDC)
+}
+
+/// The tags that lead from an element's content to the AuthorizationData in it; `None` where its
+/// type has none.
+fn way_into(element: &AuthorizationDataInner) -> Option<&'static [Step]>
+    ensures { MatchOption result (HasNoWay element.now) (λ way. IsWay element.now way.now) }
+{
+    if is_whole(element) {
+        return Some(&WHOLE);
+    }
+    if is_number(&element.ad_type.0, KDC_ISSUED) {
+        return Some(&FIELD_3);
+    }
+    if is_number(&element.ad_type.0, AND_OR) {
+        return Some(&FIELD_1);
+    }
+    if is_number(&element.ad_type.0, CAMMAC) {
+        return Some(&FIELD_0);
+    }
+    None
+}
+
+/// The octets to which a way leads; `None` where it leads nowhere.
+fn reached<'a>(way: &[Step], octets: &'a [u8]) -> Option<&'a [u8]>
+    ensures { MatchOption result (LeadsNowhere way.now octets.now) (λ inner. Reaches way.now octets.now inner.now) }
+{
+    let place = place_of(way, octets)?;
+    Some(&octets[place.offset..place.offset + place.size])
 }
 
 /// The octets that an element holds.
@@ -108,10 +161,13 @@ fn is_free(
     if is_pac(element) {
         return Ok(false);
     }
-    if !is_container(element) {
+    let Some(way) = way_into(element) else {
         return Ok(true);
-    }
-    holds_free(alloc, levels, content_of(element))
+    };
+    let Some(inner) = reached(way, content_of(element)) else {
+        return Ok(false);
+    };
+    holds_free(alloc, levels, inner)
 }
 
 /// Whether no PAC stands in an element of a ticket or an authenticator.

@@ -9,7 +9,8 @@ pub enum PacCheck {
     /// It is not verified, and no PAC is handed out.
     Ignored,
     /// Where the ticket has one, its server checksum holds under the key that decrypted the ticket, and it names the ticket's client. No
-    /// other AD-WIN2K-PAC stands in the ticket or in the authenticator.
+    /// other AD-WIN2K-PAC stands in the ticket or in the authenticator, nor in an element of theirs that holds elements
+    /// ([`TokenRefusal::PacPlace`](crate::TokenRefusal)).
     Checked,
     /// The ticket has one, and it is so.
     Required,

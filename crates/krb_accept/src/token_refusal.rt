@@ -15,8 +15,9 @@ pub enum TokenRefusal {
     Frame,
     /// The client is not let in.
     Request(Refusal),
-    /// An AD-WIN2K-PAC stands where nobody verifies it: bare, in an AD-IF-RELEVANT of an AD-IF-RELEVANT, beside another, or in the
-    /// authenticator; or more than 16 levels of these stand in one another (MS-PAC, 2.1).
+    /// An AD-WIN2K-PAC stands where nobody verifies it: bare, deeper than in an AD-IF-RELEVANT of the ticket, in an AD-KDCIssued, an
+    /// AD-AND-OR or an AD-CAMMAC, beside another, or in the authenticator; or it may: more than 16 levels of these stand in one another, or
+    /// in one that has to hold authorization data none stand (MS-PAC, 2.1).
     PacPlace,
     /// The ticket has no PAC, and the service asks for one (MS-PAC, 2.1).
     PacMissing,
@@ -59,7 +60,9 @@ impl fmt::Display for TokenRefusal {
         match self {
             TokenRefusal::Frame => f.write_str("the token is not one of Kerberos with an AP-REQ"),
             TokenRefusal::Request(refusal) => f.write_str(refusal.rule.text()),
-            TokenRefusal::PacPlace => f.write_str("a PAC stands where nobody verifies it"),
+            TokenRefusal::PacPlace => {
+                f.write_str("a PAC stands, or may stand, where nobody verifies it")
+            },
             TokenRefusal::PacMissing => f.write_str("the ticket has no PAC"),
             TokenRefusal::PacForm => f.write_str("the PAC is malformed"),
             TokenRefusal::PacChecksum => f.write_str(

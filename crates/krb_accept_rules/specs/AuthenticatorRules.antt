@@ -49,7 +49,7 @@ FitsAddress required (Some address) (Some addresses) = IsAmong addresses address
 
 -- ---- who the client is
 
--- the ticket does not have the flag ANONYMOUS (16; RFC 8062, 4), or the service lets in clients without a name
+-- the ticket does not have the flag ANONYMOUS (16; RFC 8062, 3), or the service lets in clients without a name
 abbrev pub HasName : Terms → TicketFields → Type 0
 HasName terms ticket = (is_set ticket.flags.octets 16 ≡ false) ⊎ (terms.anonymous ≡ true)
 

@@ -1,4 +1,4 @@
--- The usual terms of a service.
+-- The usual terms of a service (RFC 4120, 3.2.3; RFC 3962 and RFC 8009 for the encryption types; RFC 4120, 5.2.6.4, and MS-PAC, 2.1, for authorization data).
 use Rattle.std.specs.Prelude.{◌≡◌, ℕ, ℤ, false, Option, [], ◌∷◌}
 use Rattle.krb_accept_rules.specs.declared.terms.Terms.{Terms}
 

@@ -15,7 +15,7 @@ use krb_types::data_types::{AuthorizationData, AuthorizationDataInner};
 use krb_types::view::{is_set, items};
 use std::alloc::{AllocError, Global};
 
-/// The number of ANONYMOUS among the flags of a ticket (RFC 8062, 4).
+/// The number of ANONYMOUS among the flags of a ticket (RFC 8062, 3).
 const ANONYMOUS: usize = 16;
 
 /// The number of TRANSITED-POLICY-CHECKED among the flags of a ticket (RFC 4120, 5.3).

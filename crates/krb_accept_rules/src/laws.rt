@@ -4,16 +4,24 @@ ghost use Rattle.std.specs.Prelude.{◌≡◌, ◌⊎◌, ℕ, ℤ, pos, ◌+ℤ
 ghost use Rattle.krb_types.specs.Times.{unix_seconds};
 ghost use Rattle.krb_accept_rules.specs.Accepted.{HasSameEntry};
 ghost use Rattle.krb_accept_rules.specs.Accepting.{IsAccepted, IsRefused};
+ghost use Rattle.krb_accept_rules.specs.AuthenticatorRules.{AuthenticatorRule, value_order};
+ghost use Rattle.krb_accept_rules.specs.FirstFault.{BreaksFirst, Keeps};
 ghost use Rattle.krb_accept_rules.specs.Names.{IsAmong};
 ghost use Rattle.krb_accept_rules.specs.Refusals.{plain};
 ghost use Rattle.krb_accept_rules.specs.Remembering.{IsHistory, IsKept, Step, records};
+ghost use Rattle.krb_accept_rules.specs.RequestRules.{RequestRule, request_order};
 ghost use Rattle.krb_accept_rules.specs.Runs.{Event, IsRun};
+ghost use Rattle.krb_accept_rules.specs.SessionRules.{SessionRule, session_order};
 ghost use Rattle.krb_accept_rules.specs.TicketTimes.{end_of, start_of};
 ghost use Rattle.krb_accept_rules.specs.Times.{IsWithin};
 ghost use Rattle.krb_accept_rules.specs.declared.accepted.Accepted.{Accepted};
 ghost use Rattle.krb_accept_rules.specs.declared.cache.Entry.{Entry};
 ghost use Rattle.krb_accept_rules.specs.declared.key.ServiceKey.{ServiceKey};
 ghost use Rattle.krb_accept_rules.specs.declared.refusal.Refusal.{Refusal};
+ghost use Rattle.krb_accept_rules.specs.declared.fields.AuthenticatorFields.{AuthenticatorFields};
+ghost use Rattle.krb_accept_rules.specs.declared.fields.RequestFields.{RequestFields};
+ghost use Rattle.krb_accept_rules.specs.declared.fields.TicketFields.{TicketFields};
+ghost use Rattle.krb_accept_rules.specs.declared.refusal.Rule.{Rule};
 ghost use Rattle.krb_accept_rules.specs.declared.refusal.Rule.TheVariants as Rules;
 ghost use Rattle.krb_accept_rules.specs.declared.terms.Arrival.{Arrival};
 ghost use Rattle.krb_accept_rules.specs.declared.terms.Terms.{Terms};
@@ -75,6 +83,30 @@ pub fn one_answer<O: Opening>()
         → IsAccepted ⟦<O as Opening>⟧ keys session_keys terms arrival octets seen after a
         → ((e : Refusal) → IsRefused ⟦<O as Opening>⟧ keys session_keys terms arrival octets seen e → e ≡ plain Rules.OutOfMemory)
         × ((b : Accepted) → IsAccepted ⟦<O as Opening>⟧ keys session_keys terms arrival octets seen last b → a ≡ b) }
+{}
+
+/// Of values that were read and opened there is one judgement: where all rules hold, none is the
+/// first that is broken, and no two are. So `check_request`, `check_session` and `judge` answer `Ok`
+/// exactly if all of their rules hold, and a rule exactly if it is the first that is broken.
+pub fn one_judgement<O: Opening>()
+    ensures request { (terms : Terms) (keys session_keys : List ServiceKey) (r : RequestFields) (broken : Rule)
+        → Keeps (RequestRule ⟦<O as Opening>⟧ terms keys session_keys r) request_order
+        → BreaksFirst (RequestRule ⟦<O as Opening>⟧ terms keys session_keys r) request_order broken → ⊥ }
+    ensures request_rule { (terms : Terms) (keys session_keys : List ServiceKey) (r : RequestFields) (one other : Rule)
+        → BreaksFirst (RequestRule ⟦<O as Opening>⟧ terms keys session_keys r) request_order one
+        → BreaksFirst (RequestRule ⟦<O as Opening>⟧ terms keys session_keys r) request_order other → one ≡ other }
+    ensures session { (terms : Terms) (r : RequestFields) (ticket : TicketFields) (broken : Rule)
+        → Keeps (SessionRule ⟦<O as Opening>⟧ terms r ticket) session_order
+        → BreaksFirst (SessionRule ⟦<O as Opening>⟧ terms r ticket) session_order broken → ⊥ }
+    ensures session_rule { (terms : Terms) (r : RequestFields) (ticket : TicketFields) (one other : Rule)
+        → BreaksFirst (SessionRule ⟦<O as Opening>⟧ terms r ticket) session_order one
+        → BreaksFirst (SessionRule ⟦<O as Opening>⟧ terms r ticket) session_order other → one ≡ other }
+    ensures client { (terms : Terms) (arrival : Arrival) (ticket : TicketFields) (a : AuthenticatorFields) (broken : Rule)
+        → Keeps (AuthenticatorRule ⟦<O as Opening>⟧ terms arrival ticket a) value_order
+        → BreaksFirst (AuthenticatorRule ⟦<O as Opening>⟧ terms arrival ticket a) value_order broken → ⊥ }
+    ensures client_rule { (terms : Terms) (arrival : Arrival) (ticket : TicketFields) (a : AuthenticatorFields) (one other : Rule)
+        → BreaksFirst (AuthenticatorRule ⟦<O as Opening>⟧ terms arrival ticket a) value_order one
+        → BreaksFirst (AuthenticatorRule ⟦<O as Opening>⟧ terms arrival ticket a) value_order other → one ≡ other }
 {}
 
 /// The same octets are not let in twice over a service's run: between two calls with them any

@@ -61,7 +61,7 @@ pub enum Rule {
     /// The ticket has not ended (3.2.3).
     Expired,
     /// The ticket does not have the flag ANONYMOUS, or the service lets in clients without a name
-    /// (RFC 8062, 4).
+    /// (RFC 8062, 3).
     Anonymous,
     /// The client's realm is one of those of the terms, where these name some.
     ClientRealm,
