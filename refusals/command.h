@@ -4,7 +4,7 @@
 #include "c_library.h"
 
 /* The most arguments of a command. */
-enum { WORDS = 8 };
+enum { WORDS = 12 };
 
 /* The file that arguments name, and its place among the open files of a process: after its three
  * streams and what reports its allocations. */

@@ -43,7 +43,9 @@ _jolmurig_arguments() {
             _jolmurig_option_or_file "--as --tree --json --type --places --key --key-file --keytab --password-file
                 --all-found-keys --show-keys --no-keys"
             ;;
-        accept) _jolmurig_option_or_file "--keytab --time --skew --bindings --pac --bare --other-checksum" ;;
+        accept)
+            _jolmurig_option_or_file "--keytab --time --skew --server --realm --bindings --pac --bare --other-checksum"
+            ;;
         check) _jolmurig_option_or_file "--as" ;;
         list | convert | proxy) _jolmurig_option_or_file "" ;;
     esac
@@ -54,7 +56,7 @@ _jolmurig() {
     case $COMP_CWORD/${COMP_WORDS[1]}/${COMP_WORDS[COMP_CWORD - 1]} in
         1/*) _jolmurig_words "show check list convert proxy accept --help" ;;
         */--as) _jolmurig_types ;;
-        */--key | */--time | */--skew | */--bindings) ;;
+        */--key | */--time | */--skew | */--server | */--realm | */--bindings) ;;
         */--pac) _jolmurig_words "required ignored" ;;
         */--key-file | */--keytab | */--password-file) _jolmurig_files ;;
         2/convert/*) _jolmurig_words "kirbi ccache --help" ;;

@@ -3,3 +3,4 @@ mod KeyLists
 mod PasswordLists
 mod Writes
 mod Judging
+mod TermLists

@@ -15,7 +15,7 @@ use Rattle.krb_show_any.specs.Names.{kind_name}
 use Rattle.krb_show_any.specs.declared.kind.Kind.{Kind}
 use Rattle.krb_show_any.specs.declared.kind.Kind.TheVariants as kinds
 use Rattle.jolmurig.specs.declared.failure.Failure.{Failure}
-use Rattle.jolmurig.specs.declared.failure.Failure.TheVariants.{Arguments, Key, KeyFile, KeyInFile, KeytabFile, Keytab, PasswordFile, NotBase64, UnknownKind, NoEntries, Convert, Proxy, Octets, Time, Skew, Bindings, Refused, Memory, Read, Write}
+use Rattle.jolmurig.specs.declared.failure.Failure.TheVariants.{Arguments, Key, KeyFile, KeyInFile, KeytabFile, Keytab, PasswordFile, NotBase64, UnknownKind, NoEntries, Convert, Proxy, Octets, Time, Skew, Server, Realm, Bindings, Refused, Memory, Read, Write}
 use Rattle.jolmurig.specs.declared.failure.Failure.TheVariants as failure
 use Rattle.jolmurig.specs.declared.failure.Undecided.{Undecided}
 use Rattle.jolmurig.specs.declared.failure.Undecided.TheVariants as undecided
@@ -25,6 +25,8 @@ status_of_failure Arguments = 2
 status_of_failure Key = 2
 status_of_failure Time = 2
 status_of_failure Skew = 2
+status_of_failure Server = 2
+status_of_failure Realm = 2
 status_of_failure Bindings = 2
 status_of_failure (failure.Undecided why) = 2
 status_of_failure e = 1
@@ -75,6 +77,8 @@ subject (Proxy rule) = breaker rule
 subject (Octets kind why place) = kind_name kind
 subject Time = codes "--time"
 subject Skew = codes "--skew"
+subject Server = codes "--server"
+subject Realm = codes "--realm"
 subject Bindings = codes "--bindings"
 subject (failure.Undecided why) = undecided_subject why
 subject Refused = codes "refused"
@@ -134,6 +138,8 @@ reason (Proxy rule) = rule_of_proxy rule
 reason (Octets kind why place) = page_reason why
 reason Time = codes "a time is the seconds since 1970 in decimal, or as 2026-01-02T03:04:05Z, of a year of 0 to 9999"
 reason Skew = codes "the skew is a number of seconds in decimal, of 0 to 4294967295"
+reason Server = codes "a server is SERVICE/HOST@REALM, in ASCII, as HTTP/www.example.com@EXAMPLE.COM; the realm may be left out, and so may the host"
+reason Realm = codes "a realm is one or more characters of ASCII, as EXAMPLE.COM"
 reason Bindings = codes "channel bindings are 32 hexadecimal digits, an MD5"
 reason (failure.Undecided why) = undecided_reason why
 reason Refused = codes "the output says why"

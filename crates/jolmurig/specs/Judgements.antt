@@ -1,14 +1,16 @@
 -- The service that `accept` is asked about.
-use Rattle.std.specs.Prelude.{◌≡◌, ◌≢◌, ◌⊎◌, ◌<◌, ◌^◌, ℕ, ℤ, Option, Some, None, Ok, List, FitsSigned, length, slice_index, unwrap_or}
+use Rattle.std.specs.Prelude.{◌≡◌, ◌≢◌, ◌⊎◌, ℕ, ℤ, Option, Some, None, Ok, List, FitsSigned, length, slice_index, unwrap_or}
 use Rattle.std.specs.Int.{w64}
-use Rattle.std.specs.Str.Parse.{IsNumeral, digits_value, without_leading_sign, signed_digits_value}
+use Rattle.std.specs.Str.Parse.{IsNumeral, without_leading_sign, signed_digits_value}
 use Rattle.hex.specs.Hex.{decode_of}
 use Rattle.krb_accept.specs.declared.settings.PacCheck.TheVariants as pacs
 use Rattle.krb_accept.specs.declared.settings.Settings.{Settings}
+use Rattle.krb_accept_rules.specs.declared.terms.Terms.{Terms}
 use Rattle.krb_accept_report.specs.Texts.{IsTimeOf}
 use Rattle.krb_accept_report.specs.declared.report.ReportError.{ReportError}
 use Rattle.krb_accept_report.specs.declared.report.ReportError.TheVariants as errors
 use Rattle.jolmurig_command.specs.Accepts.{Accept}
+use Rattle.jolmurig.specs.Terms.{AreNoTerms, AreTerms}
 use Rattle.jolmurig.specs.declared.failure.Failure.{Failure}
 use Rattle.jolmurig.specs.declared.failure.Failure.TheVariants as failure
 use Rattle.jolmurig.specs.declared.failure.Undecided.TheVariants as undecided
@@ -38,19 +40,6 @@ IsClock ticks (Some text) seconds = IsMoment text seconds
 abbrev pub IsNoClock : Ticks → Option (List ℕ) → Failure → Type 0
 IsNoClock ticks None e = (e ≡ failure.Undecided undecided.Clock) × ticks None
 IsNoClock ticks (Some text) e = (e ≡ failure.Time) × ((seconds : ℤ) → IsMoment text seconds → ⊥)
-
--- ---- the skew
-
--- a text is this number in decimal digits, and 32 bits hold it
-pub record IsNumber (text : List ℕ) (number : ℕ) : Type 0 where
-  pub digits : IsNumeral 10 text
-  pub value : digits_value 10 text ≡ number
-  pub fits : number < 2 ^ 32
-
--- the skew that is named, or 300 seconds (RFC 4120, 8.2)
-abbrev pub IsSkew : Option (List ℕ) → ℕ → Type 0
-IsSkew None seconds = seconds ≡ 300
-IsSkew (Some text) seconds = IsNumber text seconds
 
 -- ---- what the service asks of tokens
 
@@ -92,27 +81,30 @@ module _ (gives : List ℕ → Option (List ℕ) → Type 0) where
 
 -- What files give by their names, and a clock tells.
 module _ (gives : List ℕ → Option (List ℕ) → Type 0) (ticks : Ticks) where
-  pub record IsService (a : Accept) (skew : ℕ) (settings : Settings) (clock : ℤ) (keytab : List ℕ) : Type 0 where
-    pub is_skew : IsSkew a.skew skew
+  -- what it asks of tokens, the time, and the keytab
+  pub record AreMeans (a : Accept) (settings : Settings) (clock : ℤ) (keytab : List ℕ) : Type 0 where
     pub are_settings : AreSettings a settings
     pub is_clock : IsClock ticks a.time clock
     pub is_keytab : IsKeytab gives a.keytab keytab
 
-  -- there is a skew, and no channel bindings; these too, and no time; and all of them, and no keytab
-  abbrev pub HasNoSettings : Accept → Failure → Type 0
-  HasNoSettings a e = (skew : ℕ) × IsSkew a.skew skew × AreNoBindings a.bindings e
-
+  -- there are settings, and no time; and these, and no keytab
   abbrev pub HasNoClock : Accept → Failure → Type 0
-  HasNoClock a e = (skew : ℕ) × (settings : Settings) × IsSkew a.skew skew × AreSettings a settings × IsNoClock ticks a.time e
+  HasNoClock a e = (settings : Settings) × AreSettings a settings × IsNoClock ticks a.time e
 
   abbrev pub HasNoKeytab : Accept → Failure → Type 0
-  HasNoKeytab a e =
-      (skew : ℕ) × (settings : Settings) × (clock : ℤ) × IsSkew a.skew skew × AreSettings a settings × IsClock ticks a.time clock × IsNoKeytab gives a.keytab e
+  HasNoKeytab a e = (settings : Settings) × (clock : ℤ) × AreSettings a settings × IsClock ticks a.time clock × IsNoKeytab gives a.keytab e
 
-  -- why there is no service: the first option that has no value, or whose file or clock cannot be read
+  -- the first option that has no value, or whose file or clock cannot be read
+  abbrev pub AreNoMeans : Accept → Failure → Type 0
+  AreNoMeans a e = AreNoBindings a.bindings e ⊎ HasNoClock a e ⊎ HasNoKeytab a e
+
+  pub record IsService (a : Accept) (terms : Terms) (settings : Settings) (clock : ℤ) (keytab : List ℕ) : Type 0 where
+    pub are_terms : AreTerms a terms
+    pub are_means : AreMeans a settings clock keytab
+
+  -- why there is no service: there are no terms; or there are, and the rest is wanting
   abbrev pub IsNoService : Accept → Failure → Type 0
-  IsNoService a e =
-      ((e ≡ failure.Skew) × ((seconds : ℕ) → IsSkew a.skew seconds → ⊥)) ⊎ HasNoSettings a e ⊎ HasNoClock a e ⊎ HasNoKeytab a e
+  IsNoService a e = AreNoTerms a e ⊎ ((terms : Terms) × AreTerms a terms × AreNoMeans a e)
 
 -- ---- failures
 

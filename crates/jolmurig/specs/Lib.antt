@@ -9,5 +9,6 @@ pub mod Warnings
 pub mod Checks
 pub mod Conversions
 pub mod Passages
+pub mod Terms
 pub mod Judgements
 pub mod Outcome

@@ -12,6 +12,7 @@ use Rattle.krb_show_any.specs.Names.{IsNamed}
 use Rattle.krb_show_any.specs.declared.kind.Kind.TheVariants as kinds
 use Rattle.krb_decrypt.specs.Keys.{NamedKey}
 use Rattle.krb_accept.specs.declared.settings.Settings.{Settings}
+use Rattle.krb_accept_rules.specs.declared.terms.Terms.{Terms}
 use Rattle.krb_accept_report.specs.Questions.{Question}
 use Rattle.krb_accept_report.specs.declared.report.ReportError.{ReportError}
 use Rattle.jolmurig_command.specs.Accepts.{Accept}
@@ -166,32 +167,32 @@ Judges = Question → Bool → List ℕ → Type 0
 abbrev pub Misjudges : Type 1
 Misjudges = Question → ReportError → Type 0
 
-abbrev pub question_of : List ℕ → List ℕ → ℤ → ℕ → Settings → Question
-question_of keytab octets clock skew settings = record { keytab = keytab; octets = octets; clock = clock; skew = skew; settings = settings }
+abbrev pub question_of : List ℕ → List ℕ → ℤ → Terms → Settings → Question
+question_of keytab octets clock terms settings = record { keytab = keytab; octets = octets; clock = clock; terms = terms; settings = settings }
 
 -- What files give, and a clock tells.
 module _ (gives : Gives) (ticks : Ticks) where
   -- this is said of the octets of the input
   pub record IsJudged (judges : Judges) (a : Accept) (left : Option (List ℕ)) (accepts : Bool) (line : List ℕ) : Type 0 where
-    pub skew : ℕ
+    pub terms : Terms
     pub settings : Settings
     pub clock : ℤ
     pub keytab : List ℕ
-    pub is_service : IsService gives ticks a skew settings clock keytab
+    pub is_service : IsService gives ticks a terms settings clock keytab
     pub octets : List ℕ
     pub are_read : AreRead gives a.file left octets
-    pub said : judges (question_of keytab octets clock skew settings) accepts line
+    pub said : judges (question_of keytab octets clock terms settings) accepts line
 
   -- nothing is said: the input is not read, or the keytab is none
   pub record HasNoJudgement (misjudges : Misjudges) (a : Accept) (left : Option (List ℕ)) (e : Failure) : Type 0 where
-    pub skew : ℕ
+    pub terms : Terms
     pub settings : Settings
     pub clock : ℤ
     pub keytab : List ℕ
-    pub is_service : IsService gives ticks a skew settings clock keytab
+    pub is_service : IsService gives ticks a terms settings clock keytab
     pub none : AreNotRead gives a.file left e
         ⊎ ((octets : List ℕ) × AreRead gives a.file left octets
-        × ((why : ReportError) × misjudges (question_of keytab octets clock skew settings) why × (e ≡ failure_of_report why)))
+        × ((why : ReportError) × misjudges (question_of keytab octets clock terms settings) why × (e ≡ failure_of_report why)))
 
   -- or there is no service, and nothing is read; or an allocation failed
   abbrev pub IsNotJudged : Misjudges → Accept → Option (List ℕ) → Option (List ℕ) → Failure → Type 0

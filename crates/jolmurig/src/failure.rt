@@ -70,6 +70,10 @@ pub enum Failure {
     Time,
     /// The text of the option `--skew` is no number of 32 bits.
     Skew,
+    /// The text of an option `--server` is that of no server.
+    Server,
+    /// The text of an option `--realm` is that of no realm.
+    Realm,
     /// The text of the option `--bindings` is not 16 octets.
     Bindings,
     /// Nothing is decided of a token.
@@ -207,14 +211,15 @@ impl Undecided {
 }
 
 impl Failure {
-    /// The status with which the program ends: 2 where the arguments are no command or name no key, time, skew or channel bindings, and
-    /// where nothing is decided of a token; else 1.
+    /// The status with which the program ends: 2 where the arguments are no command or name no key, time, skew, server, realm or channel
+    /// bindings, and where nothing is decided of a token; else 1.
     pub fn status(&self) -> u8
         ensures { result ≡ status_of_failure self.now }
     {
         match self {
             Failure::Arguments | Failure::Key => 2,
-            Failure::Time | Failure::Skew | Failure::Bindings | Failure::Undecided(_) => 2,
+            Failure::Time | Failure::Skew | Failure::Server | Failure::Realm => 2,
+            Failure::Bindings | Failure::Undecided(_) => 2,
             _ => 1,
         }
     }
@@ -241,6 +246,8 @@ impl Failure {
             } => name_of_kind(*kind),
             Failure::Time => "--time",
             Failure::Skew => "--skew",
+            Failure::Server => "--server",
+            Failure::Realm => "--realm",
             Failure::Bindings => "--bindings",
             Failure::Undecided(why) => why.subject(),
             Failure::Refused => "refused",
@@ -280,6 +287,9 @@ impl Failure {
             Failure::Time =>
                 "a time is the seconds since 1970 in decimal, or as 2026-01-02T03:04:05Z, of a year of 0 to 9999",
             Failure::Skew => "the skew is a number of seconds in decimal, of 0 to 4294967295",
+            Failure::Server =>
+                "a server is SERVICE/HOST@REALM, in ASCII, as HTTP/www.example.com@EXAMPLE.COM; the realm may be left out, and so may the host",
+            Failure::Realm => "a realm is one or more characters of ASCII, as EXAMPLE.COM",
             Failure::Bindings => "channel bindings are 32 hexadecimal digits, an MD5",
             Failure::Undecided(why) => why.reason(),
             Failure::Refused => "the output says why",

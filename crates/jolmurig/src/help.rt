@@ -57,6 +57,10 @@ options of accept:
     --time T                the service's time: seconds since 1970, or as 2026-01-02T03:04:05Z; without it that of the
                             clock. Of a token that was sent some time ago, the time at which it came
     --skew S                by how many seconds the clocks of client and service may differ; without it 300
+    --server NAME           let in clients for this server alone, as often as wanted: HTTP/www.example.com@EXAMPLE.COM, as
+                            RFC 1964, 2.1.1, writes a name; the realm may be left out, and so may the host, as in HTTP,
+                            and stand for any then. Without it for each server of which the keytab has a key
+    --realm REALM           let in clients of this realm alone, as often as wanted; without it those of any realm
     --bindings HEX          the MD5 of the service's channel bindings (RFC 4121, 4.1.1.2), which those of the client
                             have to have; without it those of the client are not compared
     --pac required|ignored  refuse a ticket without a PAC, or do not look at PACs; without it a PAC is checked where there

@@ -4,8 +4,8 @@ ghost use Rattle.std.specs.Prelude.{◌≡◌, ◌≢◌, ◌⊎◌, ℤ, ℕ, L
 ghost use Rattle.hex.specs.Hex.{decode_of};
 ghost use Rattle.krb_accept_report.specs.Texts.{IsTimeOf};
 ghost use Rattle.krb_accept_report.specs.declared.report.ReportError.{ReportError};
-ghost use Rattle.jolmurig.specs.Judgements.{AreBindings, AreNoBindings, AreSettings, HasBindings, HasNoBindings, IsClock, IsKeytab, IsMoment, IsNoClock};
-ghost use Rattle.jolmurig.specs.Judgements.{IsNoKeytab, IsNoService, IsSeconds, IsService, IsSkew, failure_of_report, undecided_of};
+ghost use Rattle.jolmurig.specs.Judgements.{AreBindings, AreMeans, AreNoBindings, AreNoMeans, AreSettings, HasBindings, HasNoBindings, IsClock, IsKeytab, IsMoment, IsNoClock};
+ghost use Rattle.jolmurig.specs.Judgements.{IsNoKeytab, IsNoService, IsSeconds, IsService, failure_of_report, undecided_of};
 ghost use Rattle.jolmurig.specs.Outcome.{AreNotRead, AreRead, IsJudged, IsLeft, IsNotJudged, question_of};
 ghost use Rattle.jolmurig.specs.declared.failure.Failure.TheVariants as failure;
 ghost use Rattle.jolmurig.specs.declared.failure.Undecided.TheVariants as undecided;
@@ -15,15 +15,14 @@ use crate::clock::Clock;
 use crate::failure::{Failure, Undecided};
 use crate::files::{Files, octets_of_file};
 use crate::input::read_octets;
+use crate::terms::terms_of;
 use hex::FromHexError;
 use jolmurig_command::Accept;
 use krb_accept::{PacCheck, Settings};
 use krb_accept_report::{Question, Report, ReportError, seconds_of_text};
+use krb_accept_rules::Terms;
 use std::alloc::Global;
 use std::io::Read;
-
-/// The usual skew, in seconds (RFC 4120, 8.2).
-const SKEW: u32 = 300;
 
 /// The seconds that a text names in decimal, with or without a minus.
 fn seconds_in(text: &str) -> Option<i64>
@@ -73,23 +72,6 @@ fn clock_of<F: Clock>(alloc: Global, files: &F, time: Option<&str>) -> Result<i6
             Some(seconds) => Ok(seconds),
             None => Err(Failure::Undecided(Undecided::Clock)),
         },
-    }
-}
-
-/// The skew that is named, or the usual one.
-fn skew_of(skew: Option<&str>) -> Result<u32, Failure>
-    ensures found { IfOk result (IsSkew (option_copied skew.entry)) }
-    ensures rejected { IfErr result (λ e. (e ≡ failure.Skew) × ((seconds : ℕ) → IsSkew (option_copied skew.entry) seconds → ⊥)) }
-{
-    let Some(text) = skew else {
-        return Ok(SKEW);
-    };
-    if text.starts_with('+') {
-        return Err(Failure::Skew);
-    }
-    match text.parse::<u32>() {
-        Ok(seconds) => Ok(seconds),
-        Err(_) => Err(Failure::Skew),
     }
 }
 
@@ -148,13 +130,34 @@ fn keytab_of<F: Files>(alloc: Global, files: &F, keytab: Option<&str>) -> Result
     }
 }
 
-/// The service that is asked about.
+/// What a service has beside its terms.
 #[derive(Drop)]
-struct Service {
-    skew: u32,
+struct Means {
     settings: Settings,
     clock: i64,
     keytab: Vec<u8>,
+}
+
+/// What the service that is asked about has beside its terms.
+fn means_of<F: Files + Clock>(alloc: Global, files: &F, asked: &Accept) -> Result<Means, Failure>
+    ensures found { IfOk result (λ m. AreMeans (F.gives files.now) (F.ticks files.now) asked.now m.settings m.clock m.keytab.items) }
+    ensures rejected { IfErr result (λ e. (e ≡ failure.Memory) ⊎ AreNoMeans (F.gives files.now) (F.ticks files.now) asked.now e) }
+{
+    let settings = settings_of(alloc, asked)?;
+    let clock = clock_of(alloc, files, asked.time)?;
+    let keytab = keytab_of(alloc, files, asked.keytab)?;
+    Ok(Means {
+        settings,
+        clock,
+        keytab,
+    })
+}
+
+/// The service that is asked about.
+#[derive(Drop)]
+struct Service {
+    terms: Terms,
+    means: Means,
 }
 
 /// The service that is asked about.
@@ -163,19 +166,18 @@ fn service_of<F: Files + Clock>(
     files: &F,
     asked: &Accept,
 ) -> Result<Service, Failure>
-    ensures found { IfOk result (λ s. IsService (F.gives files.now) (F.ticks files.now) asked.now s.skew s.settings s.clock s.keytab.items) }
+    ensures found { IfOk result (λ s. IsService (F.gives files.now) (F.ticks files.now) asked.now
+        s.terms s.means.settings s.means.clock s.means.keytab.items) }
     ensures rejected { IfErr result (λ e. (e ≡ failure.Memory) ⊎ IsNoService (F.gives files.now) (F.ticks files.now) asked.now e) }
 {
-    let skew = skew_of(asked.skew)?;
-    let settings = settings_of(alloc, asked)?;
-    let clock = clock_of(alloc, files, asked.time)?;
-    let keytab = keytab_of(alloc, files, asked.keytab)?;
-    Ok(Service {
-        skew,
-        settings,
-        clock,
-        keytab,
-    })
+    let terms = terms_of(alloc, asked)?;
+    match means_of(alloc, files, asked) {
+        Ok(means) => Ok(Service { terms, means }),
+        Err(error) => {
+            drop(terms);
+            Err(error)
+        }
+    }
 }
 
 /// The failure that an error of a report is.
@@ -221,20 +223,22 @@ fn judge_by<C: Calls, F: Files, R: Read>(
     input: &mut R,
 ) -> Result<Report, Failure>
     ensures said { IfOk result (λ r. (octets : List ℕ) × AreRead (F.gives files.now) (option_copied file.entry) (R.remaining input.old) octets
-        × C.judges (question_of service.now.keytab.items octets service.now.clock service.now.skew service.now.settings) r.accepts r.line.items) }
+        × C.judges (question_of service.now.means.keytab.items octets service.now.means.clock service.now.terms service.now.means.settings)
+        r.accepts r.line.items) }
     ensures rejected { IfErr result (λ e. AreNotRead (F.gives files.now) (option_copied file.entry) (R.remaining input.old) e
         ⊎ ((octets : List ℕ) × AreRead (F.gives files.now) (option_copied file.entry) (R.remaining input.old) octets
-        × ((why : ReportError) × C.misjudges (question_of service.now.keytab.items octets service.now.clock service.now.skew service.now.settings) why
+        × ((why : ReportError)
+        × C.misjudges (question_of service.now.means.keytab.items octets service.now.means.clock service.now.terms service.now.means.settings) why
         × (e ≡ failure_of_report why)))) }
     ensures left { IsLeft (option_copied file.entry) (R.remaining input.old) (R.remaining input.new) }
 {
     let octets = read_octets(alloc, files, file, input)?;
     let question = Question {
-        keytab: &service.keytab,
+        keytab: &service.means.keytab,
         octets: &octets,
-        clock: service.clock,
-        skew: service.skew,
-        settings: service.settings,
+        clock: service.means.clock,
+        terms: &service.terms,
+        settings: service.means.settings,
     };
     said_of::<C>(alloc, &question)
 }
@@ -251,5 +255,7 @@ pub fn judge<C: Calls, F: Files + Clock, R: Read>(
     ensures left { IsLeft asked.now.file (R.remaining input.old) (R.remaining input.new) }
 {
     let service = service_of(alloc, files, asked)?;
-    judge_by::<C, F, R>(alloc, &service, asked.file, files, input)
+    let said = judge_by::<C, F, R>(alloc, &service, asked.file, files, input);
+    drop(service);
+    said
 }

@@ -17,6 +17,7 @@ mod list;
 mod openers;
 mod passwords;
 mod proxy;
+mod terms;
 mod warning;
 
 use calls::Library;

@@ -1,5 +1,5 @@
 -- What the arguments of `accept` ask for.
-use Rattle.std.specs.Prelude.{ℕ, Bool, true, ◌||◌, if◌then◌else◌, option_and_then, Option, Some, None, List, [], ◌∷◌, codes}
+use Rattle.std.specs.Prelude.{ℕ, Bool, true, ◌||◌, if◌then◌else◌, option_and_then, Option, Some, None, List, [], ◌∷◌, ◌++◌, codes}
 use Rattle.krb_accept.specs.declared.settings.PacCheck.{PacCheck}
 use Rattle.krb_accept.specs.declared.settings.PacCheck.TheVariants as pacs
 use Rattle.jolmurig_command.specs.Accepts.{Accept}
@@ -24,7 +24,7 @@ accept_flag w a =
     else if is_word w (codes "--other-checksum") then Some (record a { takes_other = true })
     else accept_file w a
 
--- ---- options with a value, each once
+-- ---- options with a value, each once, but for --server NAME and --realm REALM, which are given as often as wanted
 
 -- what is done with the PAC, by this name
 abbrev pub pac_of : List ℕ → Option PacCheck
@@ -33,16 +33,24 @@ pac_of w = if is_word w (codes "required") then Some pacs.Required else if is_wo
 abbrev pub accept_pac : List ℕ → Accept → Option Accept
 accept_pac w a = option_and_then (λ check. once a.pac (record a { pac = Some check })) (pac_of w)
 
+abbrev pub with_server : List ℕ → Accept → Option Accept
+with_server name a = Some (record a { servers = a.servers ++ name ∷ [] })
+
+abbrev pub with_realm : List ℕ → Accept → Option Accept
+with_realm name a = Some (record a { realms = a.realms ++ name ∷ [] })
+
 abbrev pub accept_valued : List ℕ → Bool
 accept_valued w =
-    is_word w (codes "--keytab") || is_word w (codes "--time") || is_word w (codes "--skew") || is_word w (codes "--bindings")
-    || is_word w (codes "--pac")
+    is_word w (codes "--keytab") || is_word w (codes "--time") || is_word w (codes "--skew") || is_word w (codes "--server")
+    || is_word w (codes "--realm") || is_word w (codes "--bindings") || is_word w (codes "--pac")
 
 abbrev pub accept_value : List ℕ → List ℕ → Accept → Option Accept
 accept_value option value a =
     if is_word option (codes "--keytab") then once a.keytab (record a { keytab = Some value })
     else if is_word option (codes "--time") then once a.time (record a { time = Some value })
     else if is_word option (codes "--skew") then once a.skew (record a { skew = Some value })
+    else if is_word option (codes "--server") then with_server value a
+    else if is_word option (codes "--realm") then with_realm value a
     else if is_word option (codes "--bindings") then once a.bindings (record a { bindings = Some value })
     else if is_word option (codes "--pac") then accept_pac value a
     else None

@@ -432,7 +432,7 @@ fn command_of<'a>(
     } else if is_word(name, "proxy") {
         Ok(proxy_of(rest))
     } else if is_word(name, "accept") {
-        Ok(accept_of(rest))
+        accept_of(alloc, rest)
     } else {
         Ok(None)
     }

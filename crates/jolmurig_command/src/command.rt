@@ -152,6 +152,21 @@ impl<'a> Model for Operand<'a> {
     ghost view = { λ o. option_copied o.file };
 }
 
+/// The name of a server or of a realm, as a text.
+#[derive(Debug, Drop)]
+pub struct NameText<'a> {
+    /// The text.
+    pub text: &'a str,
+}
+
+impl<'a> Model for NameText<'a> {
+    ghost use Rattle.std.specs.Prelude.{ℕ, List};
+
+    ghost Value = { List ℕ };
+
+    ghost view = { λ n. n.text.now };
+}
+
 /// What is asked about a token.
 #[derive(Debug, Drop)]
 pub struct Accept<'a> {
@@ -161,6 +176,10 @@ pub struct Accept<'a> {
     pub time: Option<&'a str>,
     /// The skew, as a text: the option `--skew`.
     pub skew: Option<&'a str>,
+    /// The names of the servers for which clients are let in: the options `--server`.
+    pub servers: Vec<NameText<'a>>,
+    /// The realms whose clients are let in: the options `--realm`.
+    pub realms: Vec<NameText<'a>>,
     /// The hash of the service's channel bindings, as a text: the option `--bindings`.
     pub bindings: Option<&'a str>,
     /// What is done with the PAC: the option `--pac`.
@@ -183,6 +202,8 @@ impl<'a> Model for Accept<'a> {
       keytab = option_copied a.keytab;
       time = option_copied a.time;
       skew = option_copied a.skew;
+      servers = a.servers.items;
+      realms = a.realms.items;
       bindings = option_copied a.bindings;
       pac = a.pac;
       is_bare = a.is_bare;

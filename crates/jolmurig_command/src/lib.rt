@@ -7,6 +7,6 @@ mod parse_accept;
 
 pub use arguments::parse;
 pub use command::{
-    Accept, Command, Direction, FileName, Format, Operand, Output, Show, Source, SourceKind,
-    TypeName,
+    Accept, Command, Direction, FileName, Format, NameText, Operand, Output, Show, Source,
+    SourceKind, TypeName,
 };

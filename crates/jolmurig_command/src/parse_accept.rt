@@ -1,14 +1,15 @@
 //! What the arguments of `accept` ask for.
 
-ghost use Rattle.std.specs.Prelude.{◌≡◌, ◌≤◌, ◌∷◌, false, length, map, None, Some, MatchOption};
+ghost use Rattle.std.specs.Prelude.{◌≡◌, ◌≤◌, ◌∷◌, false, length, map, None, Some, IfOk, MatchOption};
 ghost use Rattle.std.specs.String.{string_bytes};
-ghost use Rattle.jolmurig_command.specs.AcceptArguments.{accept_asked, accept_file, accept_flag, accept_options, accept_pac, accept_value, accept_valued, once, pac_of};
+ghost use Rattle.jolmurig_command.specs.AcceptArguments.{accept_asked, accept_file, accept_flag, accept_options, accept_pac, accept_value, accept_valued, once, pac_of, with_realm, with_server};
 ghost use Rattle.jolmurig_command.specs.Accepts.{no_option};
 ghost use Rattle.jolmurig_command.specs.Words.{is_help};
 
 use crate::arguments::{file_name, is_help, is_word};
-use crate::command::{Accept, Command};
+use crate::command::{Accept, Command, NameText};
 use krb_accept::PacCheck;
+use std::alloc::{AllocError, Global};
 
 /// Of this file, where none was asked for.
 fn accept_file<'a>(argument: &'a str, asked: Accept<'a>) -> Option<Accept<'a>>
@@ -122,6 +123,46 @@ fn with_bindings<'a>(text: &'a str, asked: Accept<'a>) -> Option<Accept<'a>>
     })
 }
 
+/// With one more server.
+fn with_server<'a>(name: &'a str, asked: Accept<'a>) -> Result<Accept<'a>, AllocError>
+    ensures { IfOk result (λ made. Some made ≡ with_server name.now asked.entry) }
+{
+    let mut servers = asked.servers;
+    servers.push(NameText { text: name })?;
+    Ok(Accept {
+        keytab: asked.keytab,
+        time: asked.time,
+        skew: asked.skew,
+        servers,
+        realms: asked.realms,
+        bindings: asked.bindings,
+        pac: asked.pac,
+        is_bare: asked.is_bare,
+        takes_other: asked.takes_other,
+        file: asked.file,
+    })
+}
+
+/// With one more realm.
+fn with_realm<'a>(name: &'a str, asked: Accept<'a>) -> Result<Accept<'a>, AllocError>
+    ensures { IfOk result (λ made. Some made ≡ with_realm name.now asked.entry) }
+{
+    let mut realms = asked.realms;
+    realms.push(NameText { text: name })?;
+    Ok(Accept {
+        keytab: asked.keytab,
+        time: asked.time,
+        skew: asked.skew,
+        servers: asked.servers,
+        realms,
+        bindings: asked.bindings,
+        pac: asked.pac,
+        is_bare: asked.is_bare,
+        takes_other: asked.takes_other,
+        file: asked.file,
+    })
+}
+
 /// Whether an argument is an option with a value.
 fn accept_valued(argument: &str) -> bool
     ensures { result ≡ accept_valued argument.now }
@@ -129,26 +170,36 @@ fn accept_valued(argument: &str) -> bool
     is_word(argument, "--keytab")
         || is_word(argument, "--time")
         || is_word(argument, "--skew")
+        || is_word(argument, "--server")
+        || is_word(argument, "--realm")
         || is_word(argument, "--bindings")
         || is_word(argument, "--pac")
 }
 
 /// With an option that has a value.
-fn accept_value<'a>(option: &str, value: &'a str, asked: Accept<'a>) -> Option<Accept<'a>>
-    ensures { result ≡ accept_value option.now value.now asked.entry }
+fn accept_value<'a>(
+    option: &str,
+    value: &'a str,
+    asked: Accept<'a>,
+) -> Result<Option<Accept<'a>>, AllocError>
+    ensures { IfOk result (λ found. found ≡ accept_value option.now value.now asked.entry) }
 {
     if is_word(option, "--keytab") {
-        with_keytab(value, asked)
+        Ok(with_keytab(value, asked))
     } else if is_word(option, "--time") {
-        with_time(value, asked)
+        Ok(with_time(value, asked))
     } else if is_word(option, "--skew") {
-        with_skew(value, asked)
+        Ok(with_skew(value, asked))
+    } else if is_word(option, "--server") {
+        Ok(Some(with_server(value, asked)?))
+    } else if is_word(option, "--realm") {
+        Ok(Some(with_realm(value, asked)?))
     } else if is_word(option, "--bindings") {
-        with_bindings(value, asked)
+        Ok(with_bindings(value, asked))
     } else if is_word(option, "--pac") {
-        accept_pac(value, asked)
+        Ok(accept_pac(value, asked))
     } else {
-        None
+        Ok(None)
     }
 }
 
@@ -160,27 +211,31 @@ struct Step<'a> {
 }
 
 /// With the option or the file that the first argument is; `rest` stands behind it.
-fn accept_first<'a>(word: &'a str, rest: &'a [String], asked: Accept<'a>) -> Option<Step<'a>>
+fn accept_first<'a>(
+    word: &'a str,
+    rest: &'a [String],
+    asked: Accept<'a>,
+) -> Result<Option<Step<'a>>, AllocError>
     requires { is_help word.now ≡ false }
-    ensures { MatchOption result (accept_options asked.entry (word.now ∷ map string_bytes rest.now) ≡ None)
+    ensures { IfOk result (λ found. MatchOption found (accept_options asked.entry (word.now ∷ map string_bytes rest.now) ≡ None)
         (λ step. (accept_options asked.entry (word.now ∷ map string_bytes rest.now) ≡ accept_options step.asked (map string_bytes step.behind.now))
-        × (length step.behind.now ≤ length rest.now)) }
+        × (length step.behind.now ≤ length rest.now))) }
 {
     if !accept_valued(word) {
         return match accept_flag(word, asked) {
-            Some(asked) => Some(Step {
+            Some(asked) => Ok(Some(Step {
                 asked,
                 behind: rest,
-            }),
-            None => None,
+            })),
+            None => Ok(None),
         };
     }
     let Some((value, behind)) = rest.split_first() else {
-        return None;
+        return Ok(None);
     };
-    match accept_value(word, value.as_str(), asked) {
-        Some(asked) => Some(Step { asked, behind }),
-        None => None,
+    match accept_value(word, value.as_str(), asked)? {
+        Some(asked) => Ok(Some(Step { asked, behind })),
+        None => Ok(None),
     }
 }
 
@@ -195,34 +250,39 @@ fn accept_asked(asked: Accept<'_>) -> Option<Command<'_>>
 }
 
 /// What options ask for, behind those that asked for this.
-fn accept_options<'a>(asked: Accept<'a>, words: &'a [String]) -> Option<Command<'a>>
-    ensures { result ≡ accept_options asked.entry (map string_bytes words.now) }
+fn accept_options<'a>(
+    asked: Accept<'a>,
+    words: &'a [String],
+) -> Result<Option<Command<'a>>, AllocError>
+    ensures { IfOk result (λ found. found ≡ accept_options asked.entry (map string_bytes words.now)) }
 {
     let mut so_far = asked;
     let mut rest = words;
     'options: while let Some((word, behind)) = rest.split_first() {
         if is_help(word.as_str()) {
-            return Some(Command::Help);
+            return Ok(Some(Command::Help));
         }
-        match accept_first(word.as_str(), behind, so_far) {
+        match accept_first(word.as_str(), behind, so_far)? {
             Some(step) => {
                 so_far = step.asked;
                 rest = step.behind;
             }
-            None => return None,
+            None => return Ok(None),
         }
     }
-    accept_asked(so_far)
+    Ok(accept_asked(so_far))
 }
 
 /// What the arguments of `accept` ask for.
-pub(crate) fn accept_of(words: &[String]) -> Option<Command<'_>>
-    ensures { result ≡ accept_options no_option (map string_bytes words.now) }
+pub(crate) fn accept_of(alloc: Global, words: &[String]) -> Result<Option<Command<'_>>, AllocError>
+    ensures { IfOk result (λ found. found ≡ accept_options no_option (map string_bytes words.now)) }
 {
     let asked = Accept {
         keytab: None,
         time: None,
         skew: None,
+        servers: Vec::new(alloc),
+        realms: Vec::new(alloc),
         bindings: None,
         pac: None,
         is_bare: false,

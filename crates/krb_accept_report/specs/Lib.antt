@@ -3,5 +3,7 @@ pub mod Rules
 pub mod Requests
 pub mod Reasons
 pub mod Negotiation
+pub mod Names
+pub mod Asked
 pub mod Questions
 pub mod Reports

@@ -1,5 +1,5 @@
 -- The line that says whether a service with a keytab lets the client of a token in.
-use Rattle.std.specs.Prelude.{◌≡◌, ◌≢◌, ◌⊎◌, ℕ, ℤ, Bool, true, false, None, Some, Err, List, [], ◌++◌, codes}
+use Rattle.std.specs.Prelude.{◌≡◌, ◌≢◌, ◌⊎◌, ℕ, ℤ, Bool, true, false, Some, Err, List, [], ◌++◌, codes}
 use Rattle.std.specs.List.{flat_map}
 use Rattle.krb_accept.specs.Keytab.{keys_of_entry}
 use Rattle.krb_accept.specs.Opening.{Encodes}
@@ -8,7 +8,6 @@ use Rattle.krb_accept.specs.Tokens.{IsTokenNotPresented, IsTokenPresented}
 use Rattle.krb_accept.specs.declared.settings.Settings.{Settings}
 use Rattle.krb_accept.specs.declared.token.PresentedToken.{PresentedToken}
 use Rattle.krb_accept.specs.declared.token_refusal.TokenRefusal.{TokenRefusal}
-use Rattle.krb_accept_rules.specs.UsualTerms.{AreUsual}
 use Rattle.krb_accept_rules.specs.declared.accepted.Accepted.{Accepted}
 use Rattle.krb_accept_rules.specs.declared.key.ServiceKey.{ServiceKey}
 use Rattle.krb_accept_rules.specs.declared.opening.Opening.{Ghosts as OpeningOf}
@@ -29,7 +28,7 @@ use Rattle.krb_accept_report.specs.Reasons.{IsReason}
 use Rattle.krb_accept_report.specs.Texts.{printed, time_text}
 use Rattle.krb_accept_report.specs.declared.report.ReportError.{ReportError}
 use Rattle.krb_accept_report.specs.declared.report.ReportError.TheVariants as errors
-use Rattle.krb_accept_report.specs.Questions.{Question}
+use Rattle.krb_accept_report.specs.Questions.{Question, arrival_of}
 
 -- who is let in, for which server, and until when the ticket is valid
 abbrev pub accepted_text : Accepted → List ℕ
@@ -41,12 +40,6 @@ accepted_text a =
 -- the keys of the keytab that octets are
 abbrev pub AreKeysOf : List ℕ → List ServiceKey → Type 0
 AreKeysOf octets keys = (entries : List Entry) × KeytabIs octets entries × (keys ≡ flat_map keys_of_entry entries)
-
--- usual terms with the skew that is asked about, its clock, no address of the client, and its settings
-pub record IsAsked (q : Question) (terms : Terms) (arrival : Arrival) (settings : Settings) : Type 0 where
-  pub are_usual : AreUsual q.skew None terms
-  pub arrives : arrival ≡ record { clock = q.clock; address = None }
-  pub asks : settings ≡ q.settings
 
 -- the line of a refusal: its reason, printed
 abbrev pub IsReasonLine : {O : Type 0} → OpeningOf O → List ServiceKey → ℤ → ℕ → List ℕ → TokenRefusal → List ℕ → Type 0
@@ -71,13 +64,12 @@ module _ (cred : EncodingOf KrbCredInner) (part : EncodingOf EncKrbCredPartInner
   abbrev pub IsSaid : Bool → List ℕ → Type 0
   IsSaid accepts line = ((accepts ≡ true) × IsAcceptedLine line) ⊎ ((accepts ≡ false) × IsRefusedLine line)
 
--- What is said of octets: of the token in them, by the keytab and the clock.
+-- What is said of octets: of the token in them, by the keytab, the terms and the clock.
 abbrev pub IsReport : EncodingOf KrbCredInner → EncodingOf EncKrbCredPartInner → EncodingOf (List AuthorizationDataInner) → EncodingOf GssApiNegInit
     → {O : Type 0} → OpeningOf O → Question → Bool → List ℕ → Type 0
 IsReport cred part elements negotiation o q accepts line =
-    (keys : List ServiceKey) × (terms : Terms) × (arrival : Arrival) × (settings : Settings) × (token : List ℕ)
-    × AreKeysOf q.keytab keys × IsAsked q terms arrival settings × IsTokenIn (Encodes negotiation q.octets) q.octets token
-    × IsSaid cred part elements o keys terms arrival settings token accepts line
+    (keys : List ServiceKey) × (token : List ℕ) × AreKeysOf q.keytab keys × IsTokenIn (Encodes negotiation q.octets) q.octets token
+    × IsSaid cred part elements o keys q.terms (arrival_of q) q.settings token accepts line
 
 -- the keytab is none, and this is its first error; or an allocation failed
 abbrev pub IsNotSaid : Question → ReportError → Type 0

@@ -3,7 +3,8 @@ use Rattle.std.specs.Prelude.{◌≡◌, ◌⊎◌, ℕ, List, [], ◌∷◌, �
 use Rattle.krb_accept.specs.Frame.{in_frame}
 use Rattle.krb_accept.specs.Tokens.{IsUnframed}
 use Rattle.krb_accept.specs.declared.frame.InnerToken.TheVariants as inner
-use Rattle.krb_accept_rules.specs.Keys.{IsOfServerAndType}
+use Rattle.krb_accept_rules.specs.Firsts.{OneIs}
+use Rattle.krb_accept_rules.specs.Keys.{IsOfServer, IsOfServerAndType}
 use Rattle.krb_accept_rules.specs.Values.{HasNone, IsTheValue}
 use Rattle.krb_accept_rules.specs.declared.fields.RequestFields.{RequestFields}
 use Rattle.krb_accept_rules.specs.declared.key.ServiceKey.{ServiceKey}
@@ -41,9 +42,15 @@ pub record IsUnder (r : RequestFields) (text : List ℕ) : Type 0 where
   pub is_kvno : IsNumberOrNone r.ticket.kvno.0 kvno
   pub is_text : text ≡ codes " (etype " ++ etype ++ codes ", kvno " ++ kvno ++ codes ")"
 
--- what the ticket asks for, where no key is for it or none decrypts it
+-- no key is of the server; or one is, and the terms name others (`IsServed` of krb_accept_rules)
+abbrev pub IsServerReason : List ServiceKey → RequestFields → List ℕ → Type 0
+IsServerReason keys r text =
+    ((OneIs (IsOfServer r) keys → ⊥) × (text ≡ codes "no key for the server " ++ server_text r))
+    ⊎ (OneIs (IsOfServer r) keys × (text ≡ codes "no client is let in for the server " ++ server_text r))
+
+-- what the ticket asks for, where no key is for it, no client is let in for its server, or no key decrypts it
 abbrev pub IsKeyReason : List ServiceKey → RequestFields → Rule → List ℕ → Type 0
-IsKeyReason keys r Rules.NotUs text = text ≡ codes "no key for the server " ++ server_text r
+IsKeyReason keys r Rules.NotUs text = IsServerReason keys r text
 IsKeyReason keys r Rules.NoKey text =
     (under : List ℕ) × IsUnder r under × (text ≡ codes "no key of the ticket's encryption type for the server " ++ server_text r ++ under)
 IsKeyReason keys r Rules.KeyVersion text =

@@ -1,6 +1,7 @@
 //! The keys at hand for a ticket.
 
 ghost use Rattle.std.specs.Prelude.{◌≡◌, ◌++◌, ◌∷◌, [], pos, MatchBool, IfOk, OnOk};
+ghost use Rattle.krb_accept_rules.specs.Firsts.{OneIs};
 ghost use Rattle.krb_accept_rules.specs.Keys.{IsOfServer, IsOfServerAndType, IsOfType};
 ghost use Rattle.krb_accept_report.specs.Requests.{AddsKvno, AreKvnos};
 
@@ -41,7 +42,19 @@ fn is_of_server(request: &RequestFields, key: &ServiceKey) -> bool
         && is_same_name(&key.name.name_string.0, &request.server.name_string.0)
 }
 
-/// Whether it is, and of the encryption type of the ticket.
+/// Whether one of the keys is of the server that a ticket names.
+pub(crate) fn has_key_of(request: &RequestFields, keys: &[ServiceKey]) -> bool
+    ensures { MatchBool result (OneIs (IsOfServer request.now) keys.now) (OneIs (IsOfServer request.now) keys.now → ⊥) }
+{
+    for key in keys {
+        if is_of_server(request, key) {
+            return true;
+        }
+    }
+    false
+}
+
+/// Whether a key is, and of the encryption type of the ticket.
 fn is_of_server_and_type(request: &RequestFields, key: &ServiceKey) -> bool
     ensures { MatchBool result (IsOfServerAndType request.now key.now) (IsOfServerAndType request.now key.now → ⊥) }
 {

@@ -1,13 +1,13 @@
-//! What a ticket asks for, where no key is for it or none decrypts it.
+//! What a ticket asks for, where no key is for it, no client is let in for its server, or no key decrypts it.
 
 ghost use Rattle.std.specs.Prelude.{◌≡◌, ◌++◌, List, ℕ, Option, IfOk, OnOk, MatchOption, codes};
 ghost use Rattle.krb_accept_rules.specs.declared.refusal.Rule.{Rule};
 ghost use Rattle.krb_accept_rules.specs.declared.refusal.Rule.TheVariants as Rules;
-ghost use Rattle.krb_accept_report.specs.Requests.{AreKvnos, IsKeyReason, IsKeyReasonOf, IsUnder, server_text};
+ghost use Rattle.krb_accept_report.specs.Requests.{AreKvnos, IsKeyReason, IsKeyReasonOf, IsServerReason, IsUnder, server_text};
 ghost use Rattle.krb_accept_report.specs.Rules.{rule_text};
 ghost use Rattle.krb_accept_report.specs.Texts.{IsNumber, IsNumberOrNone, listed};
 
-use crate::at_hand::kvnos_for;
+use crate::at_hand::{has_key_of, kvnos_for};
 use crate::request::{push_server, request_in};
 use crate::rules::rule_text;
 use crate::written::push_list;
@@ -52,13 +52,28 @@ fn under_text(alloc: Global, request: &RequestFields) -> Result<Vec<u8>, AllocEr
     Ok(text)
 }
 
-/// No key is for the server.
-fn no_server(alloc: Global, request: &RequestFields) -> Result<Vec<u8>, AllocError>
-    ensures { IfOk result (λ text. text.items ≡ codes "no key for the server " ++ server_text request.now) }
+/// These words, and the server.
+fn with_server(alloc: Global, words: &str, request: &RequestFields) -> Result<Vec<u8>, AllocError>
+    ensures { IfOk result (λ text. text.items ≡ words.now ++ server_text request.now) }
 {
-    let mut text = Vec::from_slice(alloc, b"no key for the server ")?;
+    let mut text = Vec::from_slice(alloc, words.as_bytes())?;
     push_server(&mut text, alloc, request)?;
     Ok(text)
+}
+
+/// No key is of the server, or no client is let in for it.
+fn no_server(
+    alloc: Global,
+    keys: &[ServiceKey],
+    request: &RequestFields,
+) -> Result<Vec<u8>, AllocError>
+    ensures { IfOk result (λ text. IsServerReason keys.now request.now text.items) }
+{
+    if has_key_of(request, keys) {
+        with_server(alloc, "no client is let in for the server ", request)
+    } else {
+        with_server(alloc, "no key for the server ", request)
+    }
 }
 
 /// None of these is of the encryption type.
@@ -119,7 +134,7 @@ fn text_of_request(
     ensures { IfOk result (λ text. IsKeyReason keys.now request.now rule text.items) }
 {
     match rule {
-        Rule::NotUs => no_server(alloc, request),
+        Rule::NotUs => no_server(alloc, keys, request),
         Rule::NoKey => no_type(alloc, request),
         Rule::KeyVersion => no_version(alloc, keys, request),
         _ => no_ticket(alloc, request),

@@ -4,14 +4,18 @@
 mod at_hand;
 mod key_reason;
 mod moment;
+mod names;
 mod negotiation;
 mod printed;
 mod reason;
 mod report;
 mod request;
 mod rules;
+mod terms;
 mod value;
 mod written;
 
 pub use moment::seconds_of_text;
+pub use names::{realm_of_text, server_of_text};
 pub use report::{Question, Report, ReportError, report_of};
+pub use terms::terms_for;

@@ -2,7 +2,8 @@
 
 ghost use Rattle.std.specs.Prelude.{◌≡◌, ◌≢◌, ◌++◌, [], List, ℕ, false, true, unwrap_or, IfErr, IfOk, MatchBool, ⊤};
 ghost use Rattle.krb_accept.specs.TokenRefusals.{memory};
-ghost use Rattle.krb_accept_report.specs.Reports.{AreKeysOf, IsAsked, IsNotSaid, IsReasonLine, IsReport, IsSaid, accepted_text};
+ghost use Rattle.krb_accept_report.specs.Questions.{arrival_of};
+ghost use Rattle.krb_accept_report.specs.Reports.{AreKeysOf, IsNotSaid, IsReasonLine, IsReport, IsSaid, accepted_text};
 ghost use Rattle.krb_accept_report.specs.Texts.{ArePrintable, printed};
 ghost use Rattle.krb_accept_report.specs.declared.report.ReportError.TheVariants as errors;
 
@@ -31,8 +32,8 @@ pub struct Question<'a> {
     pub octets: &'a [u8],
     /// The service's clock, in seconds since 1 January 1970, 00:00:00 UTC.
     pub clock: i64,
-    /// By how many seconds clocks may differ.
-    pub skew: u32,
+    /// The service's terms.
+    pub terms: &'a Terms,
     /// What the service asks of tokens.
     pub settings: Settings,
 }
@@ -42,7 +43,7 @@ impl<'a> Model for Question<'a> {
 
     ghost Value = { Question };
 
-    ghost view = { λ q. record { keytab = q.keytab.now; octets = q.octets.now; clock = q.clock; skew = q.skew; settings = q.settings } };
+    ghost view = { λ q. record { keytab = q.keytab.now; octets = q.octets.now; clock = q.clock; terms = q.terms.now; settings = q.settings } };
 }
 
 /// What is said of a token.
@@ -83,7 +84,7 @@ impl From<AllocError> for ReportError {
 #[derive(Drop)]
 struct Service<'k> {
     keys: &'k [ServiceKey],
-    terms: Terms,
+    terms: &'k Terms,
     arrival: Arrival,
     settings: Settings,
 }
@@ -99,24 +100,21 @@ fn keys_of(alloc: Global, question: &Question) -> Result<Vec<ServiceKey>, Report
 }
 
 /// The service that is asked about, with these keys.
-fn service_of<'k>(
-    alloc: Global,
-    question: &Question,
-    keys: &'k [ServiceKey],
-) -> Result<Service<'k>, AllocError>
-    ensures keys { IfOk result (λ s. s.keys.now ≡ keys.now) }
-    ensures asked { IfOk result (λ s. IsAsked question.now s.terms s.arrival s.settings) }
+fn service_of<'k>(question: &'k Question, keys: &'k [ServiceKey]) -> Service<'k>
+    ensures keys { result.keys.now ≡ keys.now }
+    ensures terms { result.terms.now ≡ question.now.terms }
+    ensures arrives { result.arrival ≡ arrival_of question.now }
+    ensures settings { result.settings ≡ question.now.settings }
 {
-    let terms = Terms::new(alloc, question.skew, None)?;
-    Ok(Service {
+    Service {
         keys,
-        terms,
+        terms: question.terms,
         arrival: Arrival {
             clock: question.clock,
             address: None,
         },
         settings: question.settings,
-    })
+    }
 }
 
 /// Who is let in, for which server, and until when the ticket is valid.
@@ -143,7 +141,7 @@ fn refused_line(
     token: &[u8],
     refusal: &TokenRefusal,
 ) -> Result<Vec<u8>, AllocError>
-    ensures line { IfOk result (λ line. IsReasonLine ⟦<Kerberos as Opening>⟧ service.now.keys.now service.now.arrival.clock service.now.terms.skew token.now
+    ensures line { IfOk result (λ line. IsReasonLine ⟦<Kerberos as Opening>⟧ service.now.keys.now service.now.arrival.clock service.now.terms.now.skew token.now
         refusal.now line.items) }
     ensures printable { IfOk result (λ line. ArePrintable line.items) }
 {
@@ -194,7 +192,7 @@ fn refused_report(
 ) -> Result<Report, AllocError>
     ensures refuses { IfOk result (λ r. r.accepts ≡ false) }
     ensures breach { IfOk result (λ r. refusal.now ≢ memory) }
-    ensures line { IfOk result (λ r. IsReasonLine ⟦<Kerberos as Opening>⟧ service.now.keys.now service.now.arrival.clock service.now.terms.skew token.now
+    ensures line { IfOk result (λ r. IsReasonLine ⟦<Kerberos as Opening>⟧ service.now.keys.now service.now.arrival.clock service.now.terms.now.skew token.now
         refusal.now r.line.items) }
     ensures printable { IfOk result (λ r. ArePrintable r.line.items) }
 {
@@ -211,14 +209,14 @@ fn refused_report(
 /// What is said of a token.
 fn said_of(alloc: Global, service: &Service, token: &[u8]) -> Result<Report, AllocError>
     ensures said { IfOk result (λ r. IsSaid ⟦<KrbCred as DerEncode>⟧ ⟦<EncKrbCredPart as DerEncode>⟧ ⟦<AuthorizationData as DerEncode>⟧
-        ⟦<Kerberos as Opening>⟧ service.now.keys.now service.now.terms service.now.arrival service.now.settings token.now r.accepts r.line.items) }
+        ⟦<Kerberos as Opening>⟧ service.now.keys.now service.now.terms.now service.now.arrival service.now.settings token.now r.accepts r.line.items) }
     ensures printable { IfOk result (λ r. ArePrintable r.line.items) }
 {
     match present_token(
         alloc,
         service.keys,
         &[],
-        &service.terms,
+        service.terms,
         &service.arrival,
         &service.settings,
         token,
@@ -238,9 +236,9 @@ fn token_or<'a>(inner: &'a Option<OctetStringAsn1>, octets: &'a [u8]) -> &'a [u8
     }
 }
 
-/// Whether a service with this keytab lets the client of a token in, and a line that says so or why not: the decision is that of
-/// `present_token` under the usual terms, so no replay cache is asked, and the client's address is not known. Octets that are the first
-/// message of SPNEGO stand for its mechToken (RFC 4178, 4.2.1).
+/// Whether a service with this keytab and these terms lets the client of a token in, and a line that says so or why not: the decision is
+/// that of `present_token`, so no replay cache is asked, and the client's address is not known. Octets that are the first message of SPNEGO
+/// stand for its mechToken (RFC 4178, 4.2.1).
 ///
 /// The line is printable ASCII and has no line feed. `Keytab` where the keytab is none, whatever the token is.
 pub fn report_of(alloc: Global, question: &Question) -> Result<Report, ReportError>
@@ -250,7 +248,7 @@ pub fn report_of(alloc: Global, question: &Question) -> Result<Report, ReportErr
     ensures none { IfErr result (IsNotSaid question.now) }
 {
     let keys = keys_of(alloc, question)?;
-    let service = service_of(alloc, question, &keys)?;
+    let service = service_of(question, &keys);
     let inner = mech_token(alloc, question.octets)?;
     let token = token_or(&inner, question.octets);
     let said = said_of(alloc, &service, token)?;

@@ -17,7 +17,7 @@ pub(crate) fn rule_text(rule: Rule) -> &'static str
         Rule::TicketVersion => "tkt-vno is not 5",
         Rule::Options => "ap-options has fewer than 32 bits",
         Rule::UserToUser => "the ticket is under a session key, as for user-to-user authentication",
-        Rule::NotUs => "no key for the server that the ticket names",
+        Rule::NotUs => "no key for the server that the ticket names, or no client is let in for it",
         Rule::NoKey => "no key of the ticket's encryption type",
         Rule::KeyVersion => "no key of the kvno that the ticket names",
         Rule::TicketSuite => "the ticket's encryption type is not supported or permitted",
@@ -54,7 +54,7 @@ pub(crate) fn token_text(refusal: &TokenRefusal) -> &'static str
     match refusal {
         TokenRefusal::Request(refusal) => rule_text(refusal.rule),
         TokenRefusal::Frame => "not a token of Kerberos with an AP-REQ",
-        TokenRefusal::PacPlace => "a PAC stands where nobody verifies it",
+        TokenRefusal::PacPlace => "a PAC stands, or may stand, where nobody verifies it",
         TokenRefusal::PacMissing => "the ticket has no PAC",
         TokenRefusal::PacForm => "the PAC is malformed, or lacks a buffer that is checked",
         TokenRefusal::PacChecksum => "the PAC's server checksum does not hold",

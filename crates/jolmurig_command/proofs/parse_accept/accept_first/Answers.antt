@@ -11,10 +11,10 @@ returns-in-Some c = (
   omega arith,
 )
 
-pub returns-in-Some-accept_value : goal.returns-in-Some-accept_value
-returns-in-Some-accept_value c = (
-  behind_accept_value string_bytes c.args.asked c.in-Some-accept_value.asked c.args.word.now c.args.rest.now c.in-Some-split_first.behind.now _
+pub returns-in-Some-2 : goal.returns-in-Some-2
+returns-in-Some-2 c = (
+  behind_accept_value string_bytes c.args.asked c.in-Some-2.asked c.args.word.now c.args.rest.now c.in-Some-split_first.behind.now _
       c.in-Some-split_first.ensures.cases.0 c.requires (sym c.accept_valued.ensures ∙ c.if-not-accept_valued.false)
-      (sym (ap (λ o. accept_value c.args.word.now o c.args.asked) c.as_str.ensures.value) ∙ sym c.accept_value.ensures ∙ c.in-Some-accept_value.is),
+      (sym (ap (λ o. accept_value c.args.word.now o c.args.asked) c.as_str.ensures.value) ∙ sym c.in_ok-asked.ensures ∙ c.in-Some-2.is),
   fewer _ _ _ c.in-Some-split_first.ensures.cases.0,
 )
