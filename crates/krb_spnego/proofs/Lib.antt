@@ -2,3 +2,4 @@ pub mod Rejecting
 pub mod Encodings
 pub mod Hearing
 pub mod ContextMics
+pub mod Refusals

@@ -1,5 +1,5 @@
 -- What Kerberos means as the mechanism of an acceptor (RFC 4121).
-use Rattle.std.proofs.Common.{◌≡◌, ◌∙◌, refl, ap}
+use Rattle.std.proofs.Common.{◌≡◌, ◌∙◌, MutBor, refl, ap}
 use Rattle.std.specs.Prelude.{◌⊎◌, ◌||◌, ◌&&◌, ◌==◌, ◌+◌, ◌-◌, ◌/◌, ◌%◌, ◌^◌, nat_eq, nat_lt, if◌then◌else◌, drop, pos, ℕ, List, [], ◌∷◌, Bool, true, false, Option, Some, None, Vec, is_some, MatchBool}
 use Rattle.std.specs.Cmp.Lexicographic.{pointwise}
 use Rattle.std.specs.List.{starts_with}
@@ -24,13 +24,18 @@ use Rattle.krb_accept.specs.Wanted.{WantsReply}
 use Rattle.krb_accept.specs.declared.ap_rep.ReplyError.{ReplyError}
 use Rattle.krb_accept.specs.declared.ap_rep.ReplyError.TheVariants as replies
 use Rattle.krb_accept.specs.declared.token.PresentedToken.{PresentedToken}
-use Rattle.krb_accept.specs.declared.token_refusal.TokenRefusal.{TokenRefusal}
 use Rattle.krb_spnego_rules.specs.Meaning.{IsSteady, Meaning}
+use Rattle.krb_spnego_rules.specs.declared.mechanism.MechanismError.{MechanismError}
+use Rattle.krb_spnego_rules.specs.declared.mechanism.MechanismError.TheVariants as errors
 use Rattle.krb_spnego_rules.specs.declared.mechanism.Turn.{Turn}
 use Rattle.krb_spnego_rules.specs.declared.mechanism.Turn.TheVariants.{EndsWithToken, Ends}
 use Rattle.krb_spnego.specs.declared.kerberos.Client.{Client}
 use Rattle.krb_spnego.specs.declared.kerberos.KerberosAcceptor.{KerberosAcceptor}
 use Rattle.krb_spnego.specs.declared.kerberos.Service.{Service}
+use Rattle.krb_spnego.specs.declared.refusal.KerberosRefusal.{KerberosRefusal}
+use Rattle.krb_spnego.specs.declared.refusal.KerberosRefusal.TheVariants as refusals
+use Rattle.krb_spnego.specs.declared.refusal.StepError.{StepError}
+use Rattle.krb_spnego.specs.declared.refusal.StepError.TheVariants as steps
 
 -- ---- names
 
@@ -71,14 +76,6 @@ module _ (cred : EncodingOf KrbCredInner) (part : EncodingOf EncKrbCredPartInner
       × ((is_dce_style p.flags ≡ false)
       × (client ≡ record { entry = p.presented.entry; accepted = p.presented.accepted; pac = p.pac; flags = p.flags; delegated = p.delegated })))
 
-  -- the token breaks one of them; or its client wants DCE style
-  abbrev pub IsNoClientOf : Service → List ℕ → Type 0
-  IsNoClientOf service token =
-      ((e : TokenRefusal) × (IsTokenNotPresented cred part elements o service.keys.items service.session_keys.items service.terms service.arrival
-      service.settings token e × (e ≡ memory → ⊥)))
-      ⊎ ((p : PresentedToken) × (IsTokenPresented cred part elements o service.keys.items service.session_keys.items service.terms service.arrival
-      service.settings token p × (is_dce_style p.flags ≡ true)))
-
 -- a key of the context makes and verifies MICs
 abbrev pub HasTokenKey : Accepted → Type 0
 HasTokenKey a = (key : Key) × IsTokenKeyOf (context_key a None) Acceptor false key
@@ -97,10 +94,60 @@ IsTurnFor reply ap_rep client confounder number turn =
     (wants : Bool) × (MatchBool wants (WantsReply client.accepted client.flags) (WantsReply client.accepted client.flags → ⊥)
     × IsTurnBy wants reply ap_rep client.accepted confounder number turn)
 
--- the client waits for one, and there is none: the session key is of no suite, or the confounder of another length
-abbrev pub IsNoTurnOf : Client → List ℕ → Type 0
-IsNoTurnOf client confounder =
-    WantsReply client.accepted client.flags × ((e : ReplyError) × (IsNoReply client.accepted confounder e × (e ≡ replies.OutOfMemory → ⊥)))
+-- the context has no key for MICs; or it has one, the client waits for an AP-REP, and there is none: the session key is of no suite, or the confounder of another
+-- length
+abbrev pub IsNoTurnFor : Client → List ℕ → KerberosRefusal → Type 0
+IsNoTurnFor client confounder refusals.NoTokenKey = HasNoTokenKey (context_key client.accepted None)
+IsNoTurnFor client confounder (refusals.NoReply e) =
+    HasTokenKey client.accepted × WantsReply client.accepted client.flags × IsNoReply client.accepted confounder e × (e ≡ replies.OutOfMemory → ⊥)
+IsNoTurnFor client confounder other = ⊥
+
+-- ---- refusals
+
+-- an allocation failed; or it is for this reason
+abbrev pub NoStep : (KerberosRefusal → Type 0) → StepError → Type 0
+NoStep is_why steps.OutOfMemory = Unit {0}
+NoStep is_why (steps.Refused why) = is_why why
+
+-- the place that the caller lends says this
+abbrev pub told : MutBor (Option KerberosRefusal) → Option KerberosRefusal → MutBor (Option KerberosRefusal)
+told place why = record { ref_ptr = place.ref_ptr; ghost_name = place.ghost_name; now = why }
+
+abbrev pub with_refusal : KerberosAcceptor → Option KerberosRefusal → KerberosAcceptor
+with_refusal k why = record { service = k.service; confounder = k.confounder; number = k.number; next = k.next; client = k.client; refusal = told k.refusal why }
+
+module _ (cred : EncodingOf KrbCredInner) (part : EncodingOf EncKrbCredPartInner) (elements : EncodingOf (List AuthorizationDataInner)) {O : Type 0}
+    (o : OpeningOf O) where
+  -- why a token is refused: the first rule that it breaks; or it breaks none, and its client wants DCE style; or it does not, and has no turn
+  abbrev pub IsRefusedBy : KerberosAcceptor → List ℕ → KerberosRefusal → Type 0
+  IsRefusedBy k token refusals.Established = ⊥
+  IsRefusedBy k token refusals.NoToken = ⊥
+  IsRefusedBy k token (refusals.Token e) =
+      IsTokenNotPresented cred part elements o k.service.keys.items k.service.session_keys.items k.service.terms k.service.arrival k.service.settings token e
+      × (e ≡ memory → ⊥)
+  IsRefusedBy k token refusals.DceStyle =
+      (p : PresentedToken)
+      × IsTokenPresented cred part elements o k.service.keys.items k.service.session_keys.items k.service.terms k.service.arrival k.service.settings token p
+      × (is_dce_style p.flags ≡ true)
+  IsRefusedBy k token refusals.NoTokenKey =
+      (client : Client) × IsClientOf cred part elements o k.service token client × IsNoTurnFor client k.confounder.items refusals.NoTokenKey
+  IsRefusedBy k token (refusals.NoReply e) =
+      (client : Client) × IsClientOf cred part elements o k.service token client × IsNoTurnFor client k.confounder.items (refusals.NoReply e)
+
+  -- why there is no step: the first of these that is so
+  abbrev pub KerberosRefusesBy : KerberosAcceptor → Option (List ℕ) → KerberosRefusal → Type 0
+  KerberosRefusesBy k token refusals.Established = is_some k.client ≡ true
+  KerberosRefusesBy k token refusals.NoToken = (k.client ≡ None) × (token ≡ None)
+  KerberosRefusesBy k token why = (k.client ≡ None) × ((octets : List ℕ) × (token ≡ Some octets) × IsRefusedBy k octets why)
+
+  -- there is a client already; no token came; the token breaks a rule; the context has no key for MICs, or no AP-REP
+  abbrev pub KerberosRefuses : KerberosAcceptor → Option (List ℕ) → Type 0
+  KerberosRefuses k token = (why : KerberosRefusal) × KerberosRefusesBy k token why
+
+  -- the mechanism tells why, and else is as it was
+  abbrev pub TellsRefusal : KerberosAcceptor → Option (List ℕ) → KerberosAcceptor → MechanismError → Type 0
+  TellsRefusal k token after errors.OutOfMemory = after ≡ with_refusal k None
+  TellsRefusal k token after errors.Refused = (why : KerberosRefusal) × KerberosRefusesBy k token why × (after ≡ with_refusal k (Some why))
 
 -- ---- MICs (RFC 4121, 4.2.4)
 
@@ -115,28 +162,27 @@ HoldsOf a text mic = (key : Key) × (IsTokenKeyOf (context_key a None) Initiator
 -- ---- the mechanism
 
 abbrev pub with_client : KerberosAcceptor → Client → KerberosAcceptor
-with_client k client = record { service = k.service; confounder = k.confounder; number = k.number; next = k.next; client = Some client }
+with_client k client =
+    record { service = k.service; confounder = k.confounder; number = k.number; next = k.next; client = Some client; refusal = told k.refusal None }
 
 abbrev pub with_next : KerberosAcceptor → ℕ → KerberosAcceptor
-with_next k next = record { service = k.service; confounder = k.confounder; number = k.number; next = next; client = k.client }
+with_next k next = record { service = k.service; confounder = k.confounder; number = k.number; next = next; client = k.client; refusal = k.refusal }
 
 module _ (cred : EncodingOf KrbCredInner) (part : EncodingOf EncKrbCredPartInner) (elements : EncodingOf (List AuthorizationDataInner)) {O : Type 0}
     (o : OpeningOf O) (reply : EncodingOf EncApRepPartInner) (ap_rep : EncodingOf ApRepInner) where
+  -- the token is this client's, and this is sent to it
+  abbrev pub IsTaken : KerberosAcceptor → List ℕ → Client → Turn → Type 0
+  IsTaken k octets client turn =
+      IsClientOf cred part elements o k.service octets client × HasTokenKey client.accepted
+      × IsTurnFor reply ap_rep client k.confounder.items k.number turn
+
+  -- of a first token
+  abbrev pub IsStep : KerberosAcceptor → Option (List ℕ) → Client → Turn → Type 0
+  IsStep k token client turn = (k.client ≡ None) × ((octets : List ℕ) × (token ≡ Some octets) × IsTaken k octets client turn)
+
   -- the first token is a client's, and the context is established with it
   abbrev pub KerberosSteps : KerberosAcceptor → Option (List ℕ) → KerberosAcceptor → Turn → Type 0
-  KerberosSteps k token after turn =
-      (octets : List ℕ) × ((token ≡ Some octets) × ((k.client ≡ None) × ((client : Client) × (IsClientOf cred part elements o k.service octets client
-      × (HasTokenKey client.accepted × (IsTurnFor reply ap_rep client k.confounder.items k.number turn
-      × (after ≡ with_client k client)))))))
-
-  -- there is a client already; no token came; the token breaks a rule; the context has no key for MICs, or no AP-REP
-  abbrev pub KerberosRefuses : KerberosAcceptor → Option (List ℕ) → Type 0
-  KerberosRefuses k token =
-      (is_some k.client ≡ true)
-      ⊎ ((token ≡ None)
-      ⊎ ((octets : List ℕ) × ((token ≡ Some octets) × (IsNoClientOf cred part elements o k.service octets
-      ⊎ ((client : Client) × (IsClientOf cred part elements o k.service octets client
-      × (HasNoTokenKey (context_key client.accepted None) ⊎ IsNoTurnOf client k.confounder.items)))))))
+  KerberosSteps k token after turn = (client : Client) × IsStep k token client turn × (after ≡ with_client k client)
 
   abbrev pub kerberos_meaning : Meaning KerberosAcceptor
   kerberos_meaning = record {
@@ -146,7 +192,7 @@ module _ (cred : EncodingOf KrbCredInner) (part : EncodingOf EncKrbCredPartInner
     bare = λ k octets. is_framed_in octets;
     established = λ k. (client : Client) × (k.client ≡ Some client);
     steps = KerberosSteps;
-    refuses = KerberosRefuses;
+    refuses = KerberosRefuses cred part elements o;
     holds = λ k text mic. (client : Client) × ((k.client ≡ Some client) × HoldsOf client.accepted text mic);
     makes = λ k text mic after.
         (client : Client) × ((k.client ≡ Some client) × (MadeOf client.accepted k.next text mic × (after ≡ with_next k ((k.next + 1) % 2 ^ 64))));
@@ -156,7 +202,7 @@ module _ (cred : EncodingOf KrbCredInner) (part : EncodingOf EncKrbCredPartInner
   kerberos_steady = record {
     oid_by_steps = λ a token b turn s. refl;
     names_by_steps = λ a token b turn s arcs. refl;
-    established_by_steps = λ a token b turn s e. (s.1.1.1.0, ap (λ k. k.client) s.1.1.1.1.1.1.1);
+    established_by_steps = λ a token b turn s e. (s.0, ap (λ k. k.client) s.2);
     oid_by_makes = λ a text mic b s. refl;
     names_by_makes = λ a text mic b s arcs. refl;
     established_by_makes = λ a text mic b s e. (e.0, ap (λ k. k.client) s.1.1.1 ∙ e.1);

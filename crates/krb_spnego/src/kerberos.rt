@@ -1,12 +1,14 @@
 //! Kerberos as the mechanism of an acceptor (RFC 4121).
 
-ghost use Rattle.std.specs.Prelude.{◌≡◌, ◌⊎◌, drop, pos, None, false, IfErr, IfOk, MatchBool};
-ghost use Rattle.krb_spnego.specs.KerberosMeaning.{HasTokenKey, HoldsOf, IsClientOf, IsNoClientOf, IsNoTurnOf, IsTurnFor, MadeOf, content_in, is_dce_style, is_framed_in, is_kerberos, kerberos_meaning, kerberos_steady};
+ghost use Rattle.std.specs.Prelude.{◌≡◌, drop, pos, Err, None, false, IfErr, IfOk, MatchBool};
+ghost use Rattle.std.specs.Option.{option_copied};
+ghost use Rattle.krb_spnego.specs.KerberosMeaning.{HasTokenKey, HoldsOf, IsClientOf, IsNoTurnFor, IsRefusedBy, IsStep, IsTaken, IsTurnFor, KerberosRefuses, KerberosRefusesBy, KerberosSteps, MadeOf, NoStep, TellsRefusal, content_in, is_dce_style, is_framed_in, is_kerberos, kerberos_meaning, kerberos_steady};
 ghost use Rattle.krb_accept.specs.TokenRefusals.{memory};
 ghost use Rattle.krb_accept.specs.ContextKey.{HasNoTokenKey, context_key};
 ghost use Rattle.krb_gss_per_message.specs.declared.error.ProtectionError.TheVariants as protection;
 ghost use Rattle.krb_spnego_rules.specs.declared.mechanism.MechanismError.TheVariants as errors;
 
+use crate::refusal::{KerberosRefusal, StepError};
 use krb_accept::{
     Accepted, Arrival, Delegated, Entry, Kerberos, Presented, PresentedToken, ReplyError, Rule,
     ServiceKey, Settings, Terms, TokenRefusal, present_token, reply_token, token_key, wants_reply,
@@ -73,7 +75,7 @@ pub struct Client {
 /// caller looks whether its replay cache has `client.entry`, and remembers it**: what was accepted
 /// once is not accepted again.
 #[derive(Drop)]
-pub struct KerberosAcceptor {
+pub struct KerberosAcceptor<'a> {
     /// The service.
     pub service: Service,
     /// The confounder of the AP-REP, of the length of the session key's suite: 16 octets for the
@@ -85,6 +87,9 @@ pub struct KerberosAcceptor {
     pub next: u64,
     /// The client, once its token was taken.
     pub client: Option<Client>,
+    /// A place of the caller's, in which each step tells why it refuses, or `None` where it does not.
+    /// A negotiation that fails lets its mechanism go; the place stays.
+    pub refusal: &'a mut Option<KerberosRefusal>,
 }
 
 fn is_kerberos(arcs: &[u64]) -> bool
@@ -144,14 +149,15 @@ fn is_dce_style(flags: u32) -> bool
 }
 
 /// The client of a token; one that wants DCE style is refused.
-fn client_of(alloc: Global, service: &Service, token: &[u8]) -> Result<Client, MechanismError>
+fn client_of(alloc: Global, acceptor: &KerberosAcceptor, token: &[u8]) -> Result<Client, StepError>
     ensures found { IfOk result
         (IsClientOf ⟦<KrbCred as DerEncode>⟧ ⟦<EncKrbCredPart as DerEncode>⟧ ⟦<AuthorizationData as DerEncode>⟧ ⟦<Kerberos as Opening>⟧
-        service.now token.now) }
-    ensures refused { IfErr result (λ e. e ≡ errors.Refused
-        → IsNoClientOf ⟦<KrbCred as DerEncode>⟧ ⟦<EncKrbCredPart as DerEncode>⟧ ⟦<AuthorizationData as DerEncode>⟧ ⟦<Kerberos as Opening>⟧
-        service.now token.now) }
+        acceptor.now.service token.now) }
+    ensures refused { IfErr result (NoStep
+        (IsRefusedBy ⟦<KrbCred as DerEncode>⟧ ⟦<EncKrbCredPart as DerEncode>⟧ ⟦<AuthorizationData as DerEncode>⟧ ⟦<Kerberos as Opening>⟧
+        acceptor.now token.now)) }
 {
+    let service = &acceptor.service;
     match present_token(
         alloc,
         &service.keys,
@@ -164,7 +170,7 @@ fn client_of(alloc: Global, service: &Service, token: &[u8]) -> Result<Client, M
         Ok(shown) => {
             if is_dce_style(shown.flags) {
                 drop(shown);
-                return Err(MechanismError::Refused);
+                return Err(StepError::Refused(KerberosRefusal::DceStyle));
             }
             let PresentedToken {
                 presented,
@@ -187,9 +193,9 @@ fn client_of(alloc: Global, service: &Service, token: &[u8]) -> Result<Client, M
         }
         Err(refusal) => {
             if is_memory(&refusal) {
-                return Err(MechanismError::OutOfMemory);
+                return Err(StepError::OutOfMemory);
             }
-            Err(MechanismError::Refused)
+            Err(StepError::Refused(KerberosRefusal::Token(refusal)))
         }
     }
 }
@@ -200,9 +206,10 @@ fn turn_of(
     client: &Client,
     confounder: &[u8],
     number: u32,
-) -> Result<Turn, MechanismError>
+) -> Result<Turn, StepError>
+    requires key { HasTokenKey client.now.accepted }
     ensures made { IfOk result (IsTurnFor ⟦<EncApRepPart as DerEncode>⟧ ⟦<ApRep as DerEncode>⟧ client.now confounder.now number) }
-    ensures refused { IfErr result (λ e. e ≡ errors.Refused → IsNoTurnOf client.now confounder.now) }
+    ensures refused { IfErr result (NoStep (IsNoTurnFor client.now confounder.now)) }
 {
     if !wants_reply(&client.accepted, client.flags) {
         return Ok(Turn::Ends);
@@ -210,8 +217,8 @@ fn turn_of(
     let integer = IntegerAsn1::from_u32(alloc, number);
     match reply_token(alloc, &client.accepted, confounder, None, Some(integer)) {
         Ok(token) => Ok(Turn::EndsWithToken(token)),
-        Err(ReplyError::OutOfMemory) => Err(MechanismError::OutOfMemory),
-        Err(_error) => Err(MechanismError::Refused),
+        Err(ReplyError::OutOfMemory) => Err(StepError::OutOfMemory),
+        Err(error) => Err(StepError::Refused(KerberosRefusal::NoReply(error))),
     }
 }
 
@@ -231,17 +238,61 @@ fn turn_for(
     client: &Client,
     confounder: &[u8],
     number: u32,
-) -> Result<Turn, MechanismError>
+) -> Result<Turn, StepError>
     ensures made { IfOk result (λ turn. HasTokenKey client.now.accepted
         × IsTurnFor ⟦<EncApRepPart as DerEncode>⟧ ⟦<ApRep as DerEncode>⟧ client.now confounder.now number turn) }
-    ensures refused { IfErr result (λ e. e ≡ errors.Refused
-        → HasNoTokenKey (context_key client.now.accepted None) ⊎ IsNoTurnOf client.now confounder.now) }
+    ensures refused { IfErr result (NoStep (IsNoTurnFor client.now confounder.now)) }
 {
     if !has_key(&client.accepted) {
-        return Err(MechanismError::Refused);
+        return Err(StepError::Refused(KerberosRefusal::NoTokenKey));
     }
     let turn = turn_of(alloc, client, confounder, number)?;
     Ok(turn)
+}
+
+/// The client of a token, and what the service sends to it.
+fn taken(
+    alloc: Global,
+    acceptor: &KerberosAcceptor,
+    token: &[u8],
+) -> Result<(Client, Turn), StepError>
+    ensures taken { IfOk result (λ r.
+        IsTaken ⟦<KrbCred as DerEncode>⟧ ⟦<EncKrbCredPart as DerEncode>⟧ ⟦<AuthorizationData as DerEncode>⟧ ⟦<Kerberos as Opening>⟧
+        ⟦<EncApRepPart as DerEncode>⟧ ⟦<ApRep as DerEncode>⟧ acceptor.now token.now r.0 r.1) }
+    ensures refused { IfErr result (NoStep
+        (IsRefusedBy ⟦<KrbCred as DerEncode>⟧ ⟦<EncKrbCredPart as DerEncode>⟧ ⟦<AuthorizationData as DerEncode>⟧ ⟦<Kerberos as Opening>⟧
+        acceptor.now token.now)) }
+{
+    let client = client_of(alloc, acceptor, token)?;
+    match turn_for(alloc, &client, &acceptor.confounder, acceptor.number) {
+        Ok(turn) => Ok((client, turn)),
+        Err(error) => {
+            drop(client);
+            Err(error)
+        }
+    }
+}
+
+/// The same of a first token, where one came.
+fn stepped(
+    alloc: Global,
+    acceptor: &KerberosAcceptor,
+    token: Option<&[u8]>,
+) -> Result<(Client, Turn), StepError>
+    ensures taken { IfOk result (λ r.
+        IsStep ⟦<KrbCred as DerEncode>⟧ ⟦<EncKrbCredPart as DerEncode>⟧ ⟦<AuthorizationData as DerEncode>⟧ ⟦<Kerberos as Opening>⟧
+        ⟦<EncApRepPart as DerEncode>⟧ ⟦<ApRep as DerEncode>⟧ acceptor.now (option_copied token.entry) r.0 r.1) }
+    ensures refused { IfErr result (NoStep
+        (KerberosRefusesBy ⟦<KrbCred as DerEncode>⟧ ⟦<EncKrbCredPart as DerEncode>⟧ ⟦<AuthorizationData as DerEncode>⟧ ⟦<Kerberos as Opening>⟧
+        acceptor.now (option_copied token.entry))) }
+{
+    if acceptor.client.is_some() {
+        return Err(StepError::Refused(KerberosRefusal::Established));
+    }
+    match token {
+        Some(token) => taken(alloc, acceptor, token),
+        None => Err(StepError::Refused(KerberosRefusal::NoToken)),
+    }
 }
 
 /// The MIC of a text under the key of a context (RFC 4121, 4.2.6.1).
@@ -290,7 +341,7 @@ fn holds_of(alloc: Global, accepted: &Accepted, text: &[u8], mic: &[u8]) -> Resu
     }
 }
 
-impl Mechanism for KerberosAcceptor {
+impl<'a> Mechanism for KerberosAcceptor<'a> {
     ghost meaning = { kerberos_meaning ⟦<KrbCred as DerEncode>⟧ ⟦<EncKrbCredPart as DerEncode>⟧ ⟦<AuthorizationData as DerEncode>⟧
         ⟦<Kerberos as Opening>⟧ ⟦<EncApRepPart as DerEncode>⟧ ⟦<ApRep as DerEncode>⟧ };
 
@@ -313,22 +364,31 @@ impl Mechanism for KerberosAcceptor {
         is_framed(token)
     }
 
-    fn step(&mut self, alloc: Global, token: Option<&[u8]>) -> Result<Turn, MechanismError> {
-        if self.client.is_some() {
-            return Err(MechanismError::Refused);
-        }
-        let Some(token) = token else {
-            return Err(MechanismError::Refused);
-        };
-        let client = client_of(alloc, &self.service, token)?;
-        match turn_for(alloc, &client, &self.confounder, self.number) {
-            Ok(turn) => {
+    /// A refusal is told in `refusal`, and nothing else changes.
+    fn step(&mut self, alloc: Global, token: Option<&[u8]>) -> Result<Turn, MechanismError>
+        ensures taken { IfOk result
+            (KerberosSteps ⟦<KrbCred as DerEncode>⟧ ⟦<EncKrbCredPart as DerEncode>⟧ ⟦<AuthorizationData as DerEncode>⟧ ⟦<Kerberos as Opening>⟧
+            ⟦<EncApRepPart as DerEncode>⟧ ⟦<ApRep as DerEncode>⟧ self.old (option_copied token.entry) self.new) }
+        ensures refused { result ≡ Err errors.Refused
+            → KerberosRefuses ⟦<KrbCred as DerEncode>⟧ ⟦<EncKrbCredPart as DerEncode>⟧ ⟦<AuthorizationData as DerEncode>⟧ ⟦<Kerberos as Opening>⟧
+            self.old (option_copied token.entry) }
+        ensures told { IfErr result
+            (TellsRefusal ⟦<KrbCred as DerEncode>⟧ ⟦<EncKrbCredPart as DerEncode>⟧ ⟦<AuthorizationData as DerEncode>⟧ ⟦<Kerberos as Opening>⟧
+            self.old (option_copied token.entry) self.new) }
+    {
+        match stepped(alloc, self, token) {
+            Ok((client, turn)) => {
                 drop(self.client.replace(client));
+                *self.refusal = None;
                 Ok(turn)
             }
-            Err(error) => {
-                drop(client);
-                Err(error)
+            Err(StepError::OutOfMemory) => {
+                *self.refusal = None;
+                Err(MechanismError::OutOfMemory)
+            }
+            Err(StepError::Refused(refusal)) => {
+                *self.refusal = Some(refusal);
+                Err(MechanismError::Refused)
             }
         }
     }

@@ -7,6 +7,7 @@ mod kerberos;
 pub mod laws;
 mod machine;
 mod reading;
+mod refusal;
 mod writing;
 
 pub use error::{BeginError, ReadError};
@@ -14,4 +15,5 @@ pub use kerberos::{Client, KerberosAcceptor, Service};
 pub use krb_spnego_rules as rules;
 pub use machine::{accept_step, begin, initiate_step};
 pub use reading::{read_offer, read_reply};
+pub use refusal::KerberosRefusal;
 pub use writing::REJECT;
