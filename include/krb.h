@@ -737,11 +737,11 @@ typedef struct krb_accepted {
    KRB_UNLESS_REPEATED: *accepted tells of it, and its places are in the first *size octets of `out`. It is not KRB_DONE: the client is let in where the replay
    cache does not have `entry`, and has it from now on. KRB_ROOM: there are *size, more than `room`; *accepted is all zeros. As many octets as `token` has three
    times, and 1024, suffice.
-   KRB_SEED_SIZE: `random` has not 48 octets, or `bindings` neither 0 nor 16. KRB_NUMBER: `options` has a bit that is none of these, or both of PACs;
-   KRB_ACCEPT_BOUND and no bindings, or bindings without it; KRB_ACCEPT_ADDRESSES_REQUIRED and no address; no `whole_since` above 0, or one with
+   Else the first of these. KRB_SEED_SIZE: `random` has not 48 octets, or `bindings` neither 0 nor 16. KRB_NUMBER: `options` has a bit that is none of these, or
+   both of PACs; KRB_ACCEPT_BOUND and no bindings, or bindings without it; KRB_ACCEPT_ADDRESSES_REQUIRED and no address; no `whole_since` above 0, or one with
    KRB_ACCEPT_WHOLE_EVER. KRB_KEYTAB: `keytab`, or `session_keys`, is none. KRB_INVALID: `server` is no name, or `client_realm` not of ASCII. KRB_NOT_ACCEPTED:
-   the client is refused, by the rule that *accepted tells. KRB_MEMORY. On each of these *size is 0, `out` is as it was and, but for KRB_NOT_ACCEPTED, *accepted
-   all zeros. */
+   the client is refused, by the rule that *accepted tells. KRB_MEMORY may come in place of any. On each of these *size is 0, `out` is as it was and, but for
+   KRB_NOT_ACCEPTED, *accepted all zeros. */
 krb_status krb_accept(const krb_acceptor *acceptor, const uint8_t *keytab, size_t keytab_size, const uint8_t *session_keys, size_t session_keys_size,
                       const uint8_t *server, size_t server_size, const uint8_t *client_realm, size_t client_realm_size, const uint8_t *bindings,
                       size_t bindings_size, const uint8_t *address, size_t address_size, const uint8_t *random, size_t random_size, const uint8_t *token,
@@ -763,8 +763,8 @@ krb_status krb_channel_bindings(uint32_t initiator_type, const uint8_t *initiato
 
 /* The KRB-ERROR for a client that is refused (RFC 4120, 5.9.1): the service's time and microseconds, the code, and realm and name of the first entry of the
    keytab; in a token (RFC 4121, 4.1.3) where `in_frame`.
-   KRB_KEYTAB; KRB_ABSENT where no entry of the keytab is of ASCII; KRB_NUMBER where there are more than 999999 microseconds, or the year of the time is past
-   9999; KRB_MEMORY. */
+   The first of these: KRB_KEYTAB; KRB_ABSENT where no entry of the keytab is of ASCII; KRB_NUMBER where there are more than 999999 microseconds, or the year of
+   the time is past 9999. Or KRB_MEMORY. */
 krb_status krb_make_error(const uint8_t *keytab, size_t keytab_size, int64_t clock, uint32_t microseconds, uint32_t code, bool in_frame, uint8_t *out,
                           size_t room, size_t *size);
 
@@ -1093,9 +1093,9 @@ typedef struct krb_followed {
 
    KRB_DONE: *followed says what follows, and *exchange is as it is to be passed in the next time. KRB_ROOM: there are *size octets, more than `room`; *followed
    is all zeros, and *exchange and `out` are as they were: the same call with more room answers the same.
-   KRB_NOT_GRANTED: *followed says which rule is broken. KRB_SEED_SIZE: `random` has not 16 octets. KRB_INVALID: `client` or `server` is no name with a realm.
-   KRB_NUMBER: an encryption type is not supported. KRB_KEYTAB: `keytab` is none. KRB_MEMORY. On each of these *size is 0, *exchange and `out` are as they were
-   and, but for KRB_NOT_GRANTED, *followed is all zeros. */
+   Else, of a call in its turn, the first of these. KRB_SEED_SIZE: `random` has not 16 octets. KRB_INVALID: `client` or `server` is no name with a realm.
+   KRB_NUMBER: an encryption type is not supported. KRB_KEYTAB: `keytab` is none, of a message. KRB_NOT_GRANTED: *followed says which rule is broken. KRB_MEMORY
+   may come in place of any. On each of these *size is 0, *exchange and `out` are as they were and, but for KRB_NOT_GRANTED, *followed is all zeros. */
 krb_status krb_client_initial(const krb_client_terms *terms, const size_t *options, size_t options_count, const size_t *flags, size_t flags_count,
                               const int32_t *etypes, size_t etypes_count, const uint8_t *client, size_t client_size, const uint8_t *server,
                               size_t server_size, const uint8_t *password, size_t password_size, const uint8_t *keytab, size_t keytab_size,
@@ -1115,7 +1115,8 @@ krb_status krb_client_renamed(const krb_client_terms *terms, const size_t *flags
 
 /* A further ticket (3.3), step by step, by the encoding of a ticket for the KDC and its session key. `subkey` has as many octets as the session key, random,
    fresh for each exchange and the same in each of its calls. All else as krb_client_initial, but that an exchange may begin with an offset; KRB_INVALID,
-   KRB_TRUNCATED or KRB_UNSUPPORTED also where `ticket` is no encoding of a ticket, KRB_NUMBER where the encryption type of the session key is not supported. */
+   KRB_TRUNCATED or KRB_UNSUPPORTED also where `ticket` is no encoding of a ticket, and then KRB_NUMBER where the encryption type of the session key is not
+   supported: both in the place of KRB_KEYTAB. */
 krb_status krb_client_ticket(const krb_client_terms *terms, const size_t *options, size_t options_count, const size_t *flags, size_t flags_count,
                              const int32_t *etypes, size_t etypes_count, const uint8_t *client, size_t client_size, const uint8_t *server,
                              size_t server_size, const uint8_t *ticket, size_t ticket_size, int32_t session_etype, const uint8_t *session_key,
@@ -1144,9 +1145,9 @@ typedef struct krb_ap_terms {
 /* The AP-REQ for a service (3.2.2), by the encoding of a ticket and its session key. `subkey` has as many octets as the session key, random, or none: then the
    request has none. `bindings` is the hash of channel bindings (krb_channel_bindings, 16 octets), or no octets where there are none. `random` has 16 octets,
    fresh.
-   KRB_DONE; KRB_ROOM. KRB_NOT_GRANTED: *rule says why no request is made. KRB_SEED_SIZE: `random` has not 16 octets, or `bindings` neither 0 nor 16.
-   KRB_NUMBER: the encryption type is not supported. KRB_INVALID: `client` is no name with a realm. KRB_INVALID, KRB_TRUNCATED, KRB_UNSUPPORTED: `ticket` is no
-   encoding of a ticket. KRB_MEMORY. But for KRB_NOT_GRANTED *rule is 0. */
+   KRB_DONE; KRB_ROOM. Else the first of these. KRB_SEED_SIZE: `random` has not 16 octets, or `bindings` neither 0 nor 16. KRB_NUMBER: the encryption type is
+   not supported. KRB_INVALID: `client` is no name with a realm. KRB_INVALID, KRB_TRUNCATED, KRB_UNSUPPORTED: `ticket` is no encoding of a ticket.
+   KRB_NOT_GRANTED: *rule says why no request is made. KRB_MEMORY may come in place of any. But for KRB_NOT_GRANTED *rule is 0. */
 krb_status krb_client_ap_request(const krb_ap_terms *terms, const uint8_t *client, size_t client_size, const uint8_t *ticket, size_t ticket_size,
                                  const uint8_t *session_key, size_t session_key_size, const uint8_t *subkey, size_t subkey_size,
                                  const uint8_t *bindings, size_t bindings_size, const uint8_t *random, size_t random_size, uint32_t *rule, uint8_t *out,

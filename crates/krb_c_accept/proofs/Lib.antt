@@ -3,3 +3,5 @@ pub mod SessionKeys
 pub mod Replying
 pub mod Errors
 pub mod Seeds
+pub mod Agreeing
+pub mod Preparing

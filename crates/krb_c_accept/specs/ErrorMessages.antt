@@ -45,13 +45,22 @@ build_refusal errors.Microseconds = refusals.Number
 build_refusal errors.Time = refusals.Number
 build_refusal errors.FlagNumber = refusals.Number
 
+-- there are more microseconds than a second has, or no time is of these seconds
+abbrev pub HasNoTime : ℤ → ℕ → Type 0
+HasNoTime clock microseconds = (999999 < microseconds) ⊎ IsNoTime clock
+
 -- an allocation failed (2); or no time is so (3)
 abbrev pub IsNotMade : ℤ → ℕ → ℕ → Type 0
-IsNotMade clock microseconds status = (status ≡ 2) ⊎ (((999999 < microseconds) ⊎ IsNoTime clock) × (status ≡ 3))
+IsNotMade clock microseconds status = (status ≡ 2) ⊎ (HasNoTime clock microseconds × (status ≡ 3))
 
--- or it is no keytab (23), or has no key (20)
+-- the keytab has a key
+abbrev pub HasKey : List ℕ → Type 0
+HasKey keytab = (first : ServiceKey) × (others : List ServiceKey) × AreKeys keytab (first ∷ others)
+
+-- an allocation failed (2); or it is no keytab (23); or one that has no key (20); or it has one, and no time is so (3)
 abbrev pub RefusesErrorMessage : ErrorAsked → List ℕ → ℕ → Type 0
 RefusesErrorMessage a keytab status =
-    (IsNoKeytab keytab × (status ≡ 23))
+    (status ≡ 2)
+    ⊎ (IsNoKeytab keytab × (status ≡ 23))
     ⊎ (AreKeys keytab [] × (status ≡ 20))
-    ⊎ IsNotMade a.clock a.microseconds status
+    ⊎ (HasKey keytab × HasNoTime a.clock a.microseconds × (status ≡ 3))

@@ -1,11 +1,12 @@
 -- What a service asks, as the library takes it: keys, terms, what is known of the request, settings.
-use Rattle.std.specs.Prelude.{◌≡◌, ◌≢◌, ◌⊎◌, ℕ, ℤ, pos, Bool, true, false, if◌then◌else◌, List, [], ◌∷◌, length, Option, None, Some, Err}
+use Rattle.std.specs.Prelude.{◌≡◌, ◌≢◌, ◌⊎◌, ℕ, ℤ, pos, if◌then◌else◌, List, [], ◌∷◌, length, Option, None, Some, Err}
 use Rattle.std.specs.List.{flat_map}
 use Rattle.krb_accept.specs.Keytab.{keys_of_entry}
 use Rattle.krb_accept.specs.declared.settings.PacCheck.{PacCheck}
 use Rattle.krb_accept.specs.declared.settings.PacCheck.TheVariants as pacs
 use Rattle.krb_accept.specs.declared.settings.Settings.{Settings}
 use Rattle.krb_accept_rules.specs.declared.key.ServiceKey.{ServiceKey}
+use Rattle.krb_accept_rules.specs.declared.servers.ServerName.{ServerName}
 use Rattle.krb_accept_rules.specs.declared.terms.Arrival.{Arrival}
 use Rattle.krb_accept_rules.specs.declared.terms.Terms.{Terms}
 use Rattle.krb_files.specs.Entry.{Entry}
@@ -17,7 +18,7 @@ use Rattle.krb_c_calls.specs.declared.call_error.CallError.{CallError}
 use Rattle.krb_c_calls.specs.declared.call_error.CallError.TheVariants as refusals
 use Rattle.krb_c_accept.specs.Inputs.{Inputs}
 use Rattle.krb_c_accept.specs.Names.{AreNoRealms, AreNoServers, AreRealms, AreServers}
-use Rattle.krb_c_accept.specs.Options.{are_options, has_option}
+use Rattle.krb_c_accept.specs.Options.{AreOptions, has_option}
 use Rattle.krb_c_accept.specs.declared.prepared.Prepared.{Prepared}
 use Rattle.krb_c_accept.specs.declared.records.AcceptorRecord.{AcceptorRecord}
 
@@ -80,11 +81,6 @@ pac_of options = if has_option options 4 then pacs.Ignored else if has_option op
 abbrev pub IsHash : List ℕ → Type 0
 IsHash bindings = (bindings ≡ []) ⊎ (length bindings ≡ 16)
 
--- whether there are octets
-abbrev pub has_octets : List ℕ → Bool
-has_octets [] = false
-has_octets (first ∷ others) = true
-
 abbrev pub bindings_of : List ℕ → Option (List ℕ)
 bindings_of [] = None
 bindings_of (first ∷ others) = Some (first ∷ others)
@@ -102,21 +98,39 @@ settings_of options bindings = record {
 pub record IsPrepared (i : Inputs) (p : Prepared) : Type 0 where
   pub random : length i.random ≡ 48
   pub hash : IsHash i.bindings
-  pub options : are_options i.acceptor (has_octets i.bindings) (has_octets i.address) ≡ true
+  pub options : AreOptions i.acceptor i.bindings i.address
   pub keys : AreKeys i.keytab p.keys.items
   pub session_keys : AreOptionalKeys i.session_keys p.session_keys.items
   pub terms : AreTerms i.acceptor i.servers i.realms p.terms
   pub arrival : IsArrival i.acceptor i.address p.arrival
   pub settings : p.settings ≡ settings_of i.acceptor.options (bindings_of i.bindings)
 
--- An allocation failed; or octets have another size (SeedSize); or the options are not such (Number); or a keytab is none (Keytab); or names are (Invalid).
+-- ---- the first of these that is not so
+
+-- the random octets, the hash and the options are as they have to be
+abbrev pub AreSuch : Inputs → Type 0
+AreSuch i = (length i.random ≡ 48) × IsHash i.bindings × AreOptions i.acceptor i.bindings i.address
+
+-- and the keytab is one
+abbrev pub HaveKeys : Inputs → Type 0
+HaveKeys i = AreSuch i × ((keys : List ServiceKey) × AreKeys i.keytab keys)
+
+-- and that of the service's own tickets is one, or absent
+abbrev pub HaveSessionKeys : Inputs → Type 0
+HaveSessionKeys i = HaveKeys i × ((keys : List ServiceKey) × AreOptionalKeys i.session_keys keys)
+
+-- and the server has a name, or is absent
+abbrev pub HaveServers : Inputs → Type 0
+HaveServers i = HaveSessionKeys i × ((servers : List ServerName) × AreServers i.servers servers)
+
+-- An allocation failed; or the first that is not so: there are 48 random octets, and 16 of the hash or none (SeedSize); the options are such (Number); the keytab is
+-- one, and then that of the service's own tickets (Keytab); the server's name is one, and then the realm (Invalid).
 pub data IsNotPrepared (i : Inputs) (e : CallError) : Type 0 where
   no_memory : e ≡ refusals.Memory → IsNotPrepared i e
   no_random : length i.random ≢ 48 → e ≡ refusals.SeedSize → IsNotPrepared i e
-  no_hash : (IsHash i.bindings → ⊥) → e ≡ refusals.SeedSize → IsNotPrepared i e
-  no_options : length i.random ≡ 48 → IsHash i.bindings → are_options i.acceptor (has_octets i.bindings) (has_octets i.address) ≡ false → e ≡ refusals.Number
-      → IsNotPrepared i e
-  no_keys : length i.random ≡ 48 → IsHash i.bindings → e ≡ refusals.Keytab → IsNoKeytab i.keytab → IsNotPrepared i e
-  no_session_keys : length i.random ≡ 48 → IsHash i.bindings → i.session_keys ≢ [] → e ≡ refusals.Keytab → IsNoKeytab i.session_keys → IsNotPrepared i e
-  no_servers : length i.random ≡ 48 → IsHash i.bindings → e ≡ refusals.Invalid → AreNoServers i.servers → IsNotPrepared i e
-  no_realms : length i.random ≡ 48 → IsHash i.bindings → e ≡ refusals.Invalid → AreNoRealms i.realms → IsNotPrepared i e
+  no_hash : length i.random ≡ 48 → (IsHash i.bindings → ⊥) → e ≡ refusals.SeedSize → IsNotPrepared i e
+  no_options : length i.random ≡ 48 → IsHash i.bindings → (AreOptions i.acceptor i.bindings i.address → ⊥) → e ≡ refusals.Number → IsNotPrepared i e
+  no_keys : AreSuch i → IsNoKeytab i.keytab → e ≡ refusals.Keytab → IsNotPrepared i e
+  no_session_keys : HaveKeys i → i.session_keys ≢ [] → IsNoKeytab i.session_keys → e ≡ refusals.Keytab → IsNotPrepared i e
+  no_servers : HaveSessionKeys i → AreNoServers i.servers → e ≡ refusals.Invalid → IsNotPrepared i e
+  no_realms : HaveServers i → AreNoRealms i.realms → e ≡ refusals.Invalid → IsNotPrepared i e

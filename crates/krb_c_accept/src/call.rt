@@ -139,9 +139,9 @@ fn tell(outcome: &Outcome, accepted: &mut AcceptedRecord, out: &mut [u8], size: 
 /// to.
 ///
 /// 43 where it does, and not 0, since the replay cache was not asked yet: `accepted` tells of the client, and its octets are handed out; 1 where they are more than `out` has, and then `accepted` is all zeros. 41 where a
-/// rule refuses the token: `accepted` tells which. Else `accepted` is all zeros: 13 where there are not 48 random octets, or the hash of the bindings has neither 0 nor
-/// 16 octets; 3 where the options are not such (`are_options`); 23 where a keytab is none; 9 where the name of the server or the realm is none; 2 where an allocation
-/// failed.
+/// rule refuses the token: `accepted` tells which. Before the token is looked at, the first of these: 13 where there are not 48 random octets; 13 where the hash of the
+/// bindings has neither 0 nor 16 octets; 3 where the options are not such (`AreOptions`); 23 where the keytab is none, then where that of the session keys is; 9 where the
+/// name of the server is none, then where the realm is. 2 where an allocation failed. But for 43 and 41 `accepted` is all zeros.
 pub fn accept(
     alloc: Global,
     asked: &Asked,

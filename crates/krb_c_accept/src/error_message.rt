@@ -104,8 +104,8 @@ fn message_for(alloc: Global, asked: ErrorAsked, keytab: &[u8]) -> Result<Vec<u8
 
 /// The KRB-ERROR for a client that is refused (RFC 4120, 5.9.1), with realm and name of the first entry of a keytab; in a token (RFC 4121, 4.1.3), or alone.
 ///
-/// Status 23 where the keytab is none; 20 where no entry of it is of ASCII; 3 where there are more than 999999 microseconds, or the year of the time is not of 0 to
-/// 9999; 2 where an allocation failed.
+/// The first of these: 23 where the keytab is none; 20 where no entry of it is of ASCII; 3 where there are more than 999999 microseconds, or the year of the time is
+/// not of 0 to 9999. Or 2 where an allocation failed.
 pub fn make_error(
     alloc: Global,
     asked: ErrorAsked,

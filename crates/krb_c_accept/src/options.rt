@@ -1,7 +1,7 @@
 //! The options of a call: powers of two, added.
 
-ghost use Rattle.std.specs.Prelude.{◌≡◌, ◌≢◌};
-ghost use Rattle.krb_c_accept.specs.Options.{are_options, has_option, is_since};
+ghost use Rattle.std.specs.Prelude.{◌≡◌, ◌≢◌, MatchBool};
+ghost use Rattle.krb_c_accept.specs.Options.{AgreeOnAddress, AgreeOnBindings, AgreeOnPacs, AreOptions, IsSince, has_option};
 
 use crate::records::AcceptorRecord;
 
@@ -49,23 +49,54 @@ pub(crate) fn has_option(options: u32, option: u32) -> bool
     options / option % 2 == 1
 }
 
-/// Whether options are those that there are, contradict neither each other nor what else is asked, and have what they need: of PACs ignored
-/// and required not both; of the channel bindings' hash octets exactly if it is asked for; of the client's address octets if a ticket has to
-/// name it; since when the replay cache is whole, or that it is since ever.
-pub(crate) fn are_options(acceptor: &AcceptorRecord, has_bindings: bool, has_address: bool) -> bool
-    ensures { result ≡ are_options acceptor.now has_bindings has_address }
+/// Whether a PAC is not both ignored and required.
+fn agree_on_pacs(options: u32) -> bool
+    ensures { MatchBool result (AgreeOnPacs options) (AgreeOnPacs options → ⊥) }
 {
-    let options = acceptor.options;
-    options < END
-        && !(has_option(options, PAC_IGNORED) && has_option(options, PAC_REQUIRED))
-        && has_option(options, BOUND) == has_bindings
-        && (has_address || !has_option(options, ADDRESSES_REQUIRED))
-        && is_since(has_option(options, WHOLE_EVER), acceptor.whole_since)
+    !(has_option(options, PAC_IGNORED) && has_option(options, PAC_REQUIRED))
+}
+
+/// Whether there are channel bindings exactly if they are asked for.
+fn agree_on_bindings(options: u32, bindings: &[u8]) -> bool
+    ensures { MatchBool result (AgreeOnBindings options bindings.now) (AgreeOnBindings options bindings.now → ⊥) }
+{
+    if has_option(options, BOUND) {
+        !bindings.is_empty()
+    } else {
+        bindings.is_empty()
+    }
+}
+
+/// Whether the client's address is given, if a ticket has to name it.
+fn agree_on_address(options: u32, address: &[u8]) -> bool
+    ensures { MatchBool result (AgreeOnAddress options address.now) (AgreeOnAddress options address.now → ⊥) }
+{
+    !(has_option(options, ADDRESSES_REQUIRED) && address.is_empty())
 }
 
 /// Whether it is said since when the replay cache is whole: since ever, with no time, or since a time.
-fn is_since(ever: bool, since: i64) -> bool
-    ensures { result ≡ is_since ever since }
+fn is_since(acceptor: &AcceptorRecord) -> bool
+    ensures { MatchBool result (IsSince acceptor.now.options acceptor.now.whole_since) (IsSince acceptor.now.options acceptor.now.whole_since → ⊥) }
 {
-    if ever { since == 0 } else { since > 0 }
+    if has_option(acceptor.options, WHOLE_EVER) {
+        acceptor.whole_since == 0
+    } else {
+        acceptor.whole_since > 0
+    }
+}
+
+/// Whether options are those that there are, contradict neither each other nor what else is asked, and have what they need: of PACs ignored
+/// and required not both; of the channel bindings' hash octets exactly if it is asked for; of the client's address octets if a ticket has to
+/// name it; since when the replay cache is whole, or that it is since ever.
+pub(crate) fn are_options(acceptor: &AcceptorRecord, bindings: &[u8], address: &[u8]) -> bool
+    ensures { MatchBool result (AreOptions acceptor.now bindings.now address.now) (AreOptions acceptor.now bindings.now address.now → ⊥) }
+{
+    let options = acceptor.options;
+    if options >= END || !agree_on_pacs(options) {
+        return false;
+    }
+    if !agree_on_bindings(options, bindings) || !agree_on_address(options, address) {
+        return false;
+    }
+    is_since(acceptor)
 }

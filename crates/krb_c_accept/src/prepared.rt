@@ -1,10 +1,10 @@
 //! What a service asks, as the library takes it.
 
-ghost use Rattle.std.specs.Prelude.{◌≡◌, ◌≢◌, ℕ, List, true, false, length, IfErr, IfOk, OnOk};
+ghost use Rattle.std.specs.Prelude.{◌≡◌, ◌≢◌, ℕ, List, length, IfErr, IfOk, OnOk};
 ghost use Rattle.krb_c_accept.specs.Inputs.{inputs_of};
-ghost use Rattle.krb_c_accept.specs.Prepared.{AreKeys, AreOptionalKeys, AreTerms, HaveNoKeys, HaveNoOptionalKeys, IsAddress, IsArrival, IsHash, IsNotPrepared, IsPrepared, bindings_of, etypes_of, has_octets, pac_of, settings_of, whole_since_of};
+ghost use Rattle.krb_c_accept.specs.Prepared.{AreKeys, AreOptionalKeys, AreTerms, HaveNoKeys, HaveNoOptionalKeys, IsAddress, IsArrival, IsHash, IsNotPrepared, IsPrepared, bindings_of, etypes_of, pac_of, settings_of, whole_since_of};
 ghost use Rattle.krb_c_accept.specs.Names.{AreRealms, AreServers};
-ghost use Rattle.krb_c_accept.specs.Options.{are_options};
+ghost use Rattle.krb_c_accept.specs.Options.{AreOptions};
 ghost use Rattle.krb_c_calls.specs.declared.call_error.CallError.TheVariants as refusals;
 
 use crate::names::{realms_of, servers_of};
@@ -200,24 +200,16 @@ fn check_random(random: &[u8]) -> Result<(), CallError>
     Ok(())
 }
 
-/// Whether there are octets.
-fn has_octets(octets: &[u8]) -> bool
-    ensures { result ≡ has_octets octets.now }
-{
-    !octets.is_empty()
-}
-
 /// Whether the options are such, with these bindings and this address.
 fn check_options(
     acceptor: &AcceptorRecord,
     bindings: &[u8],
     address: &[u8],
 ) -> Result<(), CallError>
-    ensures right { OnOk result (are_options acceptor.now (has_octets bindings.now) (has_octets address.now) ≡ true) }
-    ensures refused { IfErr result
-        (λ e. (e ≡ refusals.Number) × (are_options acceptor.now (has_octets bindings.now) (has_octets address.now) ≡ false)) }
+    ensures right { OnOk result (AreOptions acceptor.now bindings.now address.now) }
+    ensures refused { IfErr result (λ e. (e ≡ refusals.Number) × (AreOptions acceptor.now bindings.now address.now → ⊥)) }
 {
-    if are_options(acceptor, has_octets(bindings), has_octets(address)) {
+    if are_options(acceptor, bindings, address) {
         Ok(())
     } else {
         Err(CallError::Number)
@@ -239,8 +231,9 @@ fn arrival_of(
     })
 }
 
-/// What a service asks, as the library takes it. Else `SeedSize` where there are not 48 random octets, or neither 0 nor 16 of the hash; `Number` where the
-/// options are not such; `Keytab` where a keytab is none; `Invalid` where the server's name or the realm is none; or `Memory`.
+/// What a service asks, as the library takes it. Else the first of these: `SeedSize` where there are not 48 random octets, and where there are neither 0 nor 16 of the
+/// hash; `Number` where the options are not such; `Keytab` where the keytab is none, and where that of the session keys is; `Invalid` where the server's name is none,
+/// and where the realm is. Or `Memory`.
 pub(crate) fn prepared_of(alloc: Global, asked: &Asked) -> Result<Prepared, CallError>
     ensures made { IfOk result (IsPrepared (inputs_of asked.now)) }
     ensures refused { IfErr result (IsNotPrepared (inputs_of asked.now)) }

@@ -104,7 +104,7 @@ module _ (tickets : EncodingOf TicketInner) (parts : EncodingOf EncKdcRepPart) (
   refused_out i l before after told out_before out_after size status r out (not_in_turn other is) tells =
       let here = subst (λ (x : Refusal). Tells (Err x) before after told out_before out_after size status) is tells in (here.0, here.1, here.2)
   refused_out i l before after told out_before out_after size status r out (not_prepared error turn prepared is) tells = absurd (out turn)
-  refused_out i l before after told out_before out_after size status r out (no_means error turn means is) tells = absurd (out turn)
+  refused_out i l before after told out_before out_after size status r out (no_means a m error turn prepared means is) tells = absurd (out turn)
   refused_out i l before after told out_before out_after size status r out (begins_not a m by subkey blank prepared lent absent opens) tells =
       absurd (out (inl (absent, blank)))
   refused_out i l before after told out_before out_after size status r out (goes_not_on a m by subkey begun prepared lent there on) tells =

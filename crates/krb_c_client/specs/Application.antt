@@ -21,7 +21,7 @@ use Rattle.krb_c_calls.specs.Numbers.{etype_number}
 use Rattle.krb_c_calls.specs.declared.call_error.CallError.{CallError}
 use Rattle.krb_c_calls.specs.declared.call_error.CallError.TheVariants as calls
 use Rattle.krb_c_client.specs.Means.{IsNoTicket}
-use Rattle.krb_c_client.specs.Names.{IsNamed, IsNoName}
+use Rattle.krb_c_client.specs.Names.{HasName, IsNamed, IsNoName}
 use Rattle.krb_c_client.specs.Refusals.{request_refusal}
 use Rattle.krb_c_client.specs.Settings.{has_setting, optional_number}
 use Rattle.krb_c_client.specs.Suites.{IsNoSuite}
@@ -124,12 +124,25 @@ pub record IsRequested (tickets : EncodingOf TicketInner) (requests : EncodingOf
   pub are_parts : AreParts tickets i realm name ticket suite bindings
   pub is_request : IsRequestOf requests authenticators i realm name ticket suite bindings octets
 
+-- there are 16 random octets, and a hash of bindings or none
+abbrev pub HaveBindings : ApInputs → Type 0
+HaveBindings i = (length i.random ≡ 16) × ((bindings : List ℕ) × IsBindings i.bindings bindings)
+
+-- and the encryption type has a suite
+abbrev pub HaveSuite : ApInputs → Type 0
+HaveSuite i = HaveBindings i × ((suite : CipherSuite) × (etype_number suite ≡ i.terms.session_etype))
+
+-- and the client has a name
+abbrev pub HaveClient : ApInputs → Type 0
+HaveClient i = HaveSuite i × HasName i.client i.terms.client_type
+
+-- The first of these that is not so; or the engine refuses; or an allocation failed.
 pub data IsNotRequested (tickets : EncodingOf TicketInner) (i : ApInputs) (r : Refusal) : Type 0 where
   no_random : length i.random ≢ 16 → r ≡ refusals.Failed calls.SeedSize → IsNotRequested tickets i r
-  no_bindings : (e : CallError) → IsNoBindings i.bindings e → r ≡ refusals.Failed e → IsNotRequested tickets i r
-  no_suite : (e : CallError) → IsNoSuite i.terms.session_etype e → r ≡ refusals.Failed e → IsNotRequested tickets i r
-  no_client : (e : CallError) → IsNoName i.client e → r ≡ refusals.Failed e → IsNotRequested tickets i r
-  no_ticket : (e : CallError) → IsNoTicket tickets i.ticket e → r ≡ refusals.Failed e → IsNotRequested tickets i r
+  no_bindings : (e : CallError) → length i.random ≡ 16 → IsNoBindings i.bindings e → r ≡ refusals.Failed e → IsNotRequested tickets i r
+  no_suite : (e : CallError) → HaveBindings i → IsNoSuite i.terms.session_etype e → r ≡ refusals.Failed e → IsNotRequested tickets i r
+  no_client : (e : CallError) → HaveSuite i → IsNoName i.client e → r ≡ refusals.Failed e → IsNotRequested tickets i r
+  no_ticket : (e : CallError) → HaveClient i → IsNoTicket tickets i.ticket e → r ≡ refusals.Failed e → IsNotRequested tickets i r
   no_request : (realm : List ℕ) (name : PrincipalName) (ticket : TicketInner) (suite : CipherSuite) (bindings : List ℕ)
       → AreParts tickets i realm name ticket suite bindings → IsNoRequestOf i realm name suite bindings r → IsNotRequested tickets i r
 

@@ -7,7 +7,7 @@ use Rattle.krb_c_calls.specs.Numbers.{etype_number}
 use Rattle.krb_c_calls.specs.declared.call_error.CallError.{CallError}
 use Rattle.krb_c_calls.specs.declared.call_error.CallError.TheVariants as refusals
 use Rattle.krb_c_client.specs.Inputs.{Inputs}
-use Rattle.krb_c_client.specs.Names.{IsNamed, IsNoName}
+use Rattle.krb_c_client.specs.Names.{HasName, IsNamed, IsNoName}
 use Rattle.krb_c_client.specs.Settings.{has_setting, optional}
 use Rattle.krb_c_client.specs.Suites.{AreNoSuites}
 
@@ -40,12 +40,12 @@ pub record IsAsked (i : Inputs) (nonce : ℕ) (a : Asked) : Type 0 where
   pub flags : a.flags.items ≡ i.flags
   pub etypes : map etype_number a.etypes.items ≡ i.etypes
 
--- the client or the server has no name, or an encryption type no suite
+-- An allocation failed; or the first of these that is not so: the client has a name, the server has one, each encryption type has a suite.
 pub data IsNotAsked (i : Inputs) (e : CallError) : Type 0 where
   no_memory : e ≡ refusals.Memory → IsNotAsked i e
   no_client : IsNoName i.client e → IsNotAsked i e
-  no_server : IsNoName i.server e → IsNotAsked i e
-  no_suites : AreNoSuites i.etypes e → IsNotAsked i e
+  no_server : HasName i.client i.terms.client_type → IsNoName i.server e → IsNotAsked i e
+  no_suites : HasName i.client i.terms.client_type → HasName i.server i.terms.server_type → AreNoSuites i.etypes e → IsNotAsked i e
 
 -- ---- all of it
 

@@ -120,6 +120,7 @@ pub data FollowsFirst (t : InitialTypes) (tickets : EncodingOf TicketInner) (par
   goes_on : (a : Asked) (m : Moment) → HasBegun before → IsPrepared i before.nonce a m → i.message ≢ []
       → GoesOn t tickets parts i password keytab before a m f → FollowsFirst t tickets parts i password keytab before f
 
+-- the first that is so: the call is out of turn; what is asked is not as it has to be; the key that was kept has no suite, or the keytab is none; the engine refuses
 pub data RefusesFirst (t : InitialTypes) (i : Inputs) (password keytab : List ℕ) (before : ExchangeRecord) (r : Refusal) : Type 0 where
   not_in_turn : (IsFirstTurn before i.message → ⊥) → r ≡ out_of_turn → RefusesFirst t i password keytab before r
   not_prepared : (error : CallError) → IsFirstTurn before i.message → IsNotPrepared i error → r ≡ refusals.Failed error

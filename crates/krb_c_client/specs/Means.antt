@@ -38,10 +38,10 @@ pub record AreMeans (tickets : EncodingOf TicketInner) (l : Lent) (ticket : Tick
 abbrev pub IsNoTicket : EncodingOf TicketInner → List ℕ → CallError → Type 0
 IsNoTicket tickets octets e = (why : Asn1DerError) × (e ≡ der_refusal why) × ((why ≡ der.OutOfMemory) ⊎ IsNotRead tickets octets why)
 
--- an allocation failed; there is no ticket, or no suite
+-- an allocation failed; there is no ticket; or there is one, and no suite
 pub data AreNoMeans (tickets : EncodingOf TicketInner) (l : Lent) (e : CallError) : Type 0 where
   no_ticket : IsNoTicket tickets l.ticket e → AreNoMeans tickets l e
-  no_suite : IsNoSuite l.session_etype e → AreNoMeans tickets l e
+  no_suite : (ticket : TicketInner) → Encodes tickets l.ticket ticket → IsNoSuite l.session_etype e → AreNoMeans tickets l e
 
 -- ---- lent to the engine
 

@@ -11,6 +11,10 @@ pub record IsNamed (octets : List ℕ) (type : ℕ) (realm : List ℕ) (name : P
   pub is_text : IsTextOf name.name_string (Some realm) octets
   pub of_type : name.name_type ≡ pos type
 
+-- they are that of a principal with a realm
+abbrev pub HasName : List ℕ → ℕ → Type 0
+HasName octets type = (realm : List ℕ) × (name : PrincipalName) × IsNamed octets type realm name
+
 -- they are no text; or no principal's; or that of one without a realm
 pub data IsNameless (octets : List ℕ) : Type 0 where
   no_text : (IsUtf8 octets → ⊥) → IsNameless octets

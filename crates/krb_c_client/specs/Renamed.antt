@@ -52,9 +52,11 @@ module _ (t : InitialTypes) (checksums : EncodingOf Checksum) where
     not_renamed : (error : RenameError) → IsNotRenamed t checksums terms e m request message error → r ≡ rename_refusal error
         → TakesNot terms e m request message r
 
+  -- the first that is so: what is asked is not as it has to be; the key that was kept has no suite; the engine refuses
   pub data RefusesRenamed (i : Inputs) (request : List ℕ) (kept : ExchangeRecord) (r : Refusal) : Type 0 where
     not_prepared : (error : CallError) → IsNotPrepared i error → r ≡ refusals.Failed error → RefusesRenamed i request kept r
-    not_read : (error : CallError) → IsNoKeyIn kept error → r ≡ refusals.Failed error → RefusesRenamed i request kept r
+    not_read : (a : Asked) (m : Moment) (error : CallError) → IsPrepared i kept.nonce a m → IsNoKeyIn kept error → r ≡ refusals.Failed error
+        → RefusesRenamed i request kept r
     not_taken : (a : Asked) (m : Moment) (e : InitialExchange) (terms : Terms) → IsPrepared i kept.nonce a m → IsRead kept a e → AreTerms i terms
         → TakesNot terms e m request i.message r → RefusesRenamed i request kept r
 

@@ -108,12 +108,13 @@ pub data FollowsFurther (t : ServiceTypes) (tickets : EncodingOf TicketInner) (p
   goes_on : (a : Asked) (m : Moment) (by : ByTicket) (subkey : Key) → HasBegun before → IsPrepared i before.nonce a m → IsLent tickets l by subkey
       → i.message ≢ [] → GoesOn t tickets parts i by subkey before a m f → FollowsFurther t tickets parts i l before f
 
+-- the first that is so: the call is out of turn; what is asked is not as it has to be; there is no ticket or no suite; the engine refuses
 pub data RefusesFurther (t : ServiceTypes) (tickets : EncodingOf TicketInner) (i : Inputs) (l : Lent) (before : ExchangeRecord) (r : Refusal) : Type 0 where
   not_in_turn : (IsFurtherTurn before i.message → ⊥) → r ≡ out_of_turn → RefusesFurther t tickets i l before r
   not_prepared : (error : CallError) → IsFurtherTurn before i.message → IsNotPrepared i error → r ≡ refusals.Failed error
       → RefusesFurther t tickets i l before r
-  no_means : (error : CallError) → IsFurtherTurn before i.message → AreNoMeans tickets l error → r ≡ refusals.Failed error
-      → RefusesFurther t tickets i l before r
+  no_means : (a : Asked) (m : Moment) (error : CallError) → IsFurtherTurn before i.message → IsPrepared i before.nonce a m → AreNoMeans tickets l error
+      → r ≡ refusals.Failed error → RefusesFurther t tickets i l before r
   begins_not : (a : Asked) (m : Moment) (by : ByTicket) (subkey : Key) → IsUnbegun before → IsPrepared i before.nonce a m → IsLent tickets l by subkey
       → i.message ≡ [] → OpensNot i by subkey before a m r → RefusesFurther t tickets i l before r
   goes_not_on : (a : Asked) (m : Moment) (by : ByTicket) (subkey : Key) → HasBegun before → IsPrepared i before.nonce a m → IsLent tickets l by subkey

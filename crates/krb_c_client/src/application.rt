@@ -182,11 +182,11 @@ fn decided(alloc: Global, asked: &ApAsked) -> Result<Vec<u8>, Refusal>
 
 /// The AP-REQ for a service (RFC 4120, 3.2.2), by a ticket and its session key.
 ///
-/// 0 where it is handed out; 1 where it has more octets than `out` has. 42 where no request is made:
-/// `rule` tells why. 13 where there are not 16 random octets, or the bindings have neither 0 nor 16;
-/// 3 where the encryption type has no suite; 9 where the client is no principal with a realm; 9, 10
-/// or 11 where the ticket is no encoding of one; 2 where an allocation failed. But for 42 `rule` is
-/// 0.
+/// 0 where it is handed out; 1 where it has more octets than `out` has. Else the first of these: 13
+/// where there are not 16 random octets; 13 where the bindings have neither 0 nor 16; 3 where the
+/// encryption type has no suite; 9 where the client is no principal with a realm; 9, 10 or 11 where
+/// the ticket is no encoding of one; 42 where no request is made: `rule` tells why. Or 2 where an
+/// allocation failed. But for 42 `rule` is 0.
 pub fn ap_request(
     alloc: Global,
     asked: &ApAsked,

@@ -113,9 +113,9 @@ fn asked_of(alloc: Global, question: &Question, nonce: u32) -> Result<Asked, Cal
     })
 }
 
-/// What is asked of a KDC under this nonce. Else `SeedSize` where there are not 16 random octets;
-/// else `Invalid` where the client or the server is no principal with a realm; else `Number` where
-/// an encryption type has no suite.
+/// What is asked of a KDC under this nonce. Else the first of these: `SeedSize` where there are not
+/// 16 random octets; `Invalid` where the client is no principal with a realm, and where the server
+/// is none; `Number` where an encryption type has no suite. Or `Memory`.
 pub(crate) fn prepared_of(
     alloc: Global,
     question: &Question,

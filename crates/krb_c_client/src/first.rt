@@ -226,11 +226,12 @@ fn decided(
 /// `OtherMessage`, is broken, before all else.
 ///
 /// 0 where something follows: `followed` tells what, its octets are handed out, and `exchange` is as
-/// it is to be passed in the next time; 1 where the octets are more than `out` has. 42 where a rule
-/// is broken: `followed` tells which. 13 where there are not 16 random octets; 9 where the client or
-/// the server is no principal with a realm; 3 where an encryption type has no suite; 23 where the
-/// keytab is none; 2 where an allocation failed. But for 0 `exchange` is as it was, and but for 0
-/// and 42 `followed` is all zeros.
+/// it is to be passed in the next time; 1 where the octets are more than `out` has. Else, of a call in
+/// its turn, the first of these: 13 where there are not 16 random octets; 9 where the client is no
+/// principal with a realm, then where the server is none; 3 where an encryption type has no suite; of
+/// a message 3 where that of the key that was kept has none, and 23 where the keytab is none; 42 where
+/// a rule is broken: `followed` tells which. Or 2 where an allocation failed. But for 0 `exchange` is
+/// as it was, and but for 0 and 42 `followed` is all zeros.
 pub fn initial(
     alloc: Global,
     question: &Question,

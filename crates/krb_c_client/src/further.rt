@@ -269,8 +269,9 @@ fn decided(
 /// A further ticket, step by step (RFC 4120, 3.3): what follows on the message.
 ///
 /// As `initial` in all else, but that an exchange may begin with what the KDC's time is ahead, as
-/// one before it took it; 9, 10 or 11 also where the ticket is no encoding of one, and 3 where
-/// the encryption type of the session key has no suite.
+/// one before it took it; and that there is neither a key that was kept nor a keytab: after what is
+/// asked, and before a rule, it is 9, 10 or 11 where the ticket is no encoding of one, and then 3
+/// where the encryption type of the session key has no suite.
 pub fn ticket(
     alloc: Global,
     question: &Question,

@@ -1,5 +1,5 @@
 use Rattle.std.proofs.lemmas.Result.{err_from_is_err_and}
-use Rattle.krb_c_client.specs.Asked.{no_client, no_server}
+use Rattle.krb_c_client.specs.Asked.{no_client, no_server, no_suites}
 use Rattle.krb_c_client.proofs.asked.asked_of.Goals as goal
 
 pub returns-in_err-client-clause-refused : goal.returns-in_err-client-clause-refused
@@ -9,4 +9,11 @@ returns-in_err-client-clause-refused c =
 pub returns-in_err-server-clause-refused : goal.returns-in_err-server-clause-refused
 returns-in_err-server-clause-refused c =
     let p = err_from_is_err_and c.from_residual-in_err-server.result c.from_residual-in_err-server.ensures.1 in
-    rw (p.1, p.2) (no_server c.in_err-server.ensures.refused)
+    rw (p.1, p.2) (no_server (c.in_ok-client.client.realm, c.in_ok-client.client.name, c.in_ok-client.ensures.found) c.in_err-server.ensures.refused)
+
+pub returns-in_err-etypes-clause-refused : goal.returns-in_err-etypes-clause-refused
+returns-in_err-etypes-clause-refused c =
+    let p = err_from_is_err_and c.from_residual-in_err-etypes.result c.from_residual-in_err-etypes.ensures.1 in
+    rw (p.1, p.2)
+    (no_suites (c.in_ok-client.client.realm, c.in_ok-client.client.name, c.in_ok-client.ensures.found)
+    (c.in_ok-server.server.realm, c.in_ok-server.server.name, c.in_ok-server.ensures.found) c.in_err-etypes.ensures.refused)

@@ -16,7 +16,9 @@ returns-in_err-prepared-clause-refused c =
 pub returns-in_err-means-clause-refused : goal.returns-in_err-means-clause-refused
 returns-in_err-means-clause-refused c =
     let p = err_from_is_err_and c.from_residual-in_err-means.result c.from_residual-in_err-means.ensures.1 in
-    rw (p.1, p.2) (no_means c.in_err-means.field-0.0 c.if-not-is_further_turn.ensures c.in_err-means.ensures.refused refl)
+    rw (p.1, p.2)
+    (no_means c.in_ok-prepared.prepared.asked c.in_ok-prepared.prepared.moment c.in_err-means.field-0.0 c.if-not-is_further_turn.ensures
+    c.in_ok-prepared.ensures.made c.in_err-means.ensures.refused refl)
 
 pub returns-then-is_absent-clause-follows : goal.returns-then-is_absent-clause-follows
 returns-then-is_absent-clause-follows c =

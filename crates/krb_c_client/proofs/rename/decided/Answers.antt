@@ -12,7 +12,7 @@ returns-in_err-prepared-clause-refused c =
 pub returns-in_err-exchange-clause-refused : goal.returns-in_err-exchange-clause-refused
 returns-in_err-exchange-clause-refused c =
     let p = err_from_is_err_and c.from_residual-in_err-exchange.result c.from_residual-in_err-exchange.ensures.1 in
-    rw (p.1, p.2) (not_read c.in_err-exchange.field-0.0 c.in_err-exchange.ensures.refused refl)
+    rw (p.1, p.2) (not_read c.in_ok-prepared.prepared.asked c.in_ok-prepared.prepared.moment c.in_err-exchange.field-0.0 c.in_ok-prepared.ensures.made c.in_err-exchange.ensures.refused refl)
 
 pub returns-clause-told : goal.returns-clause-told
 returns-clause-told c =
