@@ -728,7 +728,8 @@ typedef struct krb_accepted {
    `keytab` has the service's keys, `session_keys` the keys of its own ticket-granting tickets, a keytab as well, for tickets under such a key
    (user-to-user), mostly no octets. `server` names the service, as text (RFC 1964, 2.1.1): "HTTP/www.home.test@HOME.TEST"; the realm may be left out, and the
    host, as in "HTTP"; tickets for others are refused (KRB_RULE_NOT_US). With no octets it is any of which the keytab has a key. `client_realm` is the realm
-   whose clients are let in; with no octets any. `bindings` is the hash of the service's channel bindings (krb_channel_bindings, 16 octets), with
+   whose clients are let in; with no octets any. Each may be several, an octet 0 between one and the next: "HTTP/www.home.test\0HTTP/home.test", and
+   one of them suffices. `bindings` is the hash of the service's channel bindings (krb_channel_bindings, 16 octets), with
    KRB_ACCEPT_BOUND, or no octets without it. `address` is the client's, or no octets where it is not known. `random` has 48 random octets, for one call alone:
    of the AP-REP's confounder (16; 8 for triple DES, of the first ones) and of a subkey (32; as many as a seed has, behind the first 16).
    An answer is made where the client asks for mutual authentication: by the flags of its checksum of the GSS-API, and where it has none by its ap-options. It
@@ -739,9 +740,9 @@ typedef struct krb_accepted {
    times, and 1024, suffice.
    Else the first of these. KRB_SEED_SIZE: `random` has not 48 octets, or `bindings` neither 0 nor 16. KRB_NUMBER: `options` has a bit that is none of these, or
    both of PACs; KRB_ACCEPT_BOUND and no bindings, or bindings without it; KRB_ACCEPT_ADDRESSES_REQUIRED and no address; no `whole_since` above 0, or one with
-   KRB_ACCEPT_WHOLE_EVER. KRB_KEYTAB: `keytab`, or `session_keys`, is none. KRB_INVALID: `server` is no name, or `client_realm` not of ASCII. KRB_NOT_ACCEPTED:
-   the client is refused, by the rule that *accepted tells. KRB_MEMORY may come in place of any. On each of these *size is 0, `out` is as it was and, but for
-   KRB_NOT_ACCEPTED, *accepted all zeros. */
+   KRB_ACCEPT_WHOLE_EVER. KRB_KEYTAB: `keytab`, or `session_keys`, is none. KRB_INVALID: one of `server` is no name, or one of
+   `client_realm` not of ASCII, or one of several has no octets. KRB_NOT_ACCEPTED: the client is refused, by the rule that *accepted tells. KRB_MEMORY may come
+   in place of any. On each of these *size is 0, `out` is as it was and, but for KRB_NOT_ACCEPTED, *accepted all zeros. */
 krb_status krb_accept(const krb_acceptor *acceptor, const uint8_t *keytab, size_t keytab_size, const uint8_t *session_keys, size_t session_keys_size,
                       const uint8_t *server, size_t server_size, const uint8_t *client_realm, size_t client_realm_size, const uint8_t *bindings,
                       size_t bindings_size, const uint8_t *address, size_t address_size, const uint8_t *random, size_t random_size, const uint8_t *token,

@@ -187,11 +187,11 @@ def try_named(keytab):
     for server, wanted in (
         ("HTTP", None), ("HTTP@HOME.TEST", None), ("HTTP/localhost", None), ("HTTP/localhost@HOME.TEST", None), (None, None),
         ("e18", "NOT_US"), ("HTTP/www", "NOT_US"), ("HTTP/localhost@HOME", "NOT_US"), ("http/localhost", "NOT_US"), ("HTTP/localhost/more", "NOT_US"),
-        ("localhost", "NOT_US"),
+        ("localhost", "NOT_US"), (["ldap", "HTTP"], None), (("HTTP/www", "HTTP/localhost@HOME.TEST"), None), (["ldap", "HTTP/www"], "NOT_US"),
     ):
         got = rule_of(krb.Acceptor(keytab, replay_cache=False, server=server), token)
         expect(got == wanted, "a ticket for HTTP/localhost@HOME.TEST, and the service %s: %s" % (server, got))
-    for realm, wanted in ((None, None), ("HOME.TEST", None), ("home.test", "CLIENT_REALM"), ("HOME", "CLIENT_REALM")):
+    for realm, wanted in ((None, None), ("HOME.TEST", None), ("home.test", "CLIENT_REALM"), ("HOME", "CLIENT_REALM"), (["HOME", "HOME.TEST"], None), (["HOME"], "CLIENT_REALM")):
         got = rule_of(krb.Acceptor(keytab, replay_cache=False, client_realm=realm), token)
         expect(got == wanted, "a client of HOME.TEST, and the realm %s: %s" % (realm, got))
     bound = krb.Acceptor(keytab, replay_cache=False)

@@ -248,7 +248,9 @@ def try_refusals(keytab):
     expect("went back" not in krb.accept._forgotten(4700, 5000, 300), "a clock that did not go back")
     for words, kind in (({"pac": "some"}, ValueError), ({"skew": -1}, ValueError), ({"skew": 2**32}, ValueError), ({"replay_cache": True}, ValueError)):
         expect(raised(lambda: krb.Acceptor(keytab, **words)) is kind, "an Acceptor of %s" % words)
-    for words in [{"server": each} for each in ("", "a@b@c", "HTTP/www\\")] + [{"client_realm": each} for each in ("", "r\xe9alme", "\udc80")]:
+    servers = "", "a@b@c", "HTTP/www\\", "HTTP\0ldap", [], ["HTTP", ""], ["HTTP", "a@b@c"], ["HTTP\0ldap"]
+    realms = "", "r\xe9alme", "\udc80", "A\0B", [], ["A", ""], ["A", "\udc80"]
+    for words in [{"server": each} for each in servers] + [{"client_realm": each} for each in realms]:
         error = raised(lambda: krb.Acceptor(keytab, **words), True)
         expect(type(error) is ValueError and "%s=" % next(iter(words)) in str(error), "an Acceptor of %s: %r" % (words, error))
     for octets, status in ((b"", "KEYTAB"), (b"\5\1" + bytes(20), "KEYTAB"), (b"\5\2", "ABSENT")):

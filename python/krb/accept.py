@@ -7,7 +7,7 @@ import math
 import os
 import secrets
 import time
-from typing import Any, Callable, NamedTuple, Optional, Tuple, Union
+from typing import Any, Callable, Iterable, NamedTuple, Optional, Tuple, Union
 
 from krb._context import Accepted, Context, ContextFlag, EncryptionKey, OutOfOrder, time_of
 from krb._library import IN, U32, Call, Octets, Refused, Status, _library, plain
@@ -261,13 +261,14 @@ class Acceptor:
     - `triple_des`: keys of tickets, session keys and subkeys may be of triple DES. `addresses_required`: a ticket has to name addresses, and `accept` needs the
       client's.
     - `unchecked_path`: a path of realms is taken that no KDC has checked. `subkey`: the reply has a subkey of the service's.
-    - `server`: the service's name, "HTTP/www.home.test@HOME.TEST" (RFC 1964, 2.1.1); the realm may be left out, and the host, as in "HTTP". Tickets for others
-      are refused, as NOT_US, though the keytab has their keys. None: it is any of which the keytab has a key.
-    - `client_realm`: the realm whose clients are let in; None: any. `anonymous`: so are clients without a name (RFC 8062).
+    - `server`: the service's name, "HTTP/www.home.test@HOME.TEST" (RFC 1964, 2.1.1); the realm may be left out, and the host, as in "HTTP"; or several, as
+      ["HTTP/www.home.test", "HTTP/home.test"]. Tickets for others are refused, as NOT_US, though the keytab has their keys. None: it is any of which the keytab
+      has a key.
+    - `client_realm`: the realm whose clients are let in, or several; None: any. `anonymous`: so are clients without a name (RFC 8062).
     - `clock`: tells the service's time, in seconds since 1970.
 
     Refused, when it is made: KEYTAB where the keytab is none, ABSENT where it has no entry, MEMORY. ValueError of what is no name of a server and no realm, as
-    of empty text. OSError: the file cannot be read."""
+    of empty text, and of no names at all. OSError: the file cannot be read."""
 
     def __init__(
         self,
@@ -283,8 +284,8 @@ class Acceptor:
         addresses_required: bool = False,
         unchecked_path: bool = False,
         subkey: bool = True,
-        server: Optional[str] = None,
-        client_realm: Optional[str] = None,
+        server: Union[str, Iterable[str], None] = None,
+        client_realm: Union[str, Iterable[str], None] = None,
         anonymous: bool = False,
         clock: Callable[[], float] = time.time,
     ) -> None:
@@ -298,7 +299,7 @@ class Acceptor:
         bits = _BARE_REQUEST, _OTHER_CHECKSUM, _TRIPLE_DES, _ADDRESSES_REQUIRED, _UNCHECKED_PATH, _SUBKEY, _ANONYMOUS
         self._options = _PAC[pac] + sum(bit for switch, bit in zip(switches, bits) if switch)
         self._skew, self._clock, self._session_keys, self._addresses_required = skew, clock, plain(session_keys), addresses_required
-        self._server, self._client_realm = _server(server), _client_realm(client_realm)
+        self._server, self._client_realm = _servers(server), _client_realms(client_realm)
         self._cache: Optional[AnyReplayCache] = None
         if not isinstance(replay_cache, bool):
             self._cache = ReplayCache(clock()) if replay_cache is None else replay_cache
@@ -368,24 +369,31 @@ class Acceptor:
         return NotAccepted(rule, code, seen, error, why)
 
 
-def _server(name: Optional[str]) -> bytes:
-    """The octets of a service's name; none of None. ValueError: it is no name."""
-    octets = b"" if name is None else name.encode("utf-8", "surrogateescape")
-    if name is not None and not (octets and _is_taken(octets, b"")):
-        raise ValueError('server=%r is no name of a service, as "HTTP/www.home.test@HOME.TEST", "HTTP/www.home.test" or "HTTP" is one' % name)
-    return octets
+def _servers(names: Union[str, Iterable[str], None]) -> bytes:
+    """The octets of a service's names; none of None. ValueError: one is no name, or there are none."""
+    what = 'server=%r is no name of a service, as "HTTP/www.home.test@HOME.TEST", "HTTP/www.home.test" or "HTTP" is one'
+    return _between_nuls(names, what, lambda octets: _is_taken(octets, b""))
 
 
-def _client_realm(realm: Optional[str]) -> bytes:
-    """The octets of a realm; none of None. ValueError: it is none."""
-    octets = b"" if realm is None else realm.encode("utf-8", "surrogateescape")
-    if realm is not None and not (octets and _is_taken(b"", octets)):
-        raise ValueError("client_realm=%r is no realm, which has letters of ASCII" % realm)
+def _client_realms(realms: Union[str, Iterable[str], None]) -> bytes:
+    """The octets of realms; none of None. ValueError: one is none, or there are none."""
+    return _between_nuls(realms, "client_realm=%r is no realm, which has letters of ASCII", lambda octets: _is_taken(b"", octets))
+
+
+def _between_nuls(texts: Union[str, Iterable[str], None], what: str, is_taken: Callable[[bytes], bool]) -> bytes:
+    """The octets of these texts, an octet 0 between each and the next, as krb.h has it; none of None. ValueError, by `what`: one is not taken, or there are
+    none."""
+    if texts is None:
+        return b""
+    each = [text.encode("utf-8", "surrogateescape") for text in ([texts] if isinstance(texts, str) else texts)]
+    octets = b"\0".join(each)
+    if not each or b"" in each or len(octets.split(b"\0")) != len(each) or not is_taken(octets):
+        raise ValueError(what % (texts if isinstance(texts, str) else [text.decode("utf-8", "surrogateescape") for text in each],))
     return octets
 
 
 def _is_taken(server: bytes, client_realm: bytes) -> bool:
-    """Whether the library takes these for a server and a realm: it looks at them before the token. Refused: MEMORY."""
+    """Whether the library takes these for servers and realms: it looks at them before the token. Refused: MEMORY."""
     status, _, _ = _answer(_Asked(0, 0, 0, _WHOLE_EVER, 0, 0), _NO_KEYS, b"", server, client_realm, b"", b"", b"")
     if status not in (Status.INVALID, Status.NOT_ACCEPTED):
         raise Refused(status)

@@ -2,7 +2,7 @@
 use Rattle.std.specs.Prelude.{◌≡◌, ◌⊎◌, ◌<◌, ◌^◌, ℕ, Option, Some, None, List, [], ◌∷◌}
 use Rattle.std.specs.Str.Parse.{IsNumeral, digits_value}
 use Rattle.krb_accept_report.specs.Asked.{AreTermsFor}
-use Rattle.krb_accept_report.specs.Names.{IsRealm, IsServer}
+use Rattle.krb_accept_rules.specs.Texts.{IsRealm, IsServer}
 use Rattle.krb_accept_rules.specs.Names.{IsAmong}
 use Rattle.krb_accept_rules.specs.declared.servers.ServerName.{ServerName}
 use Rattle.krb_accept_rules.specs.declared.terms.Terms.{Terms}

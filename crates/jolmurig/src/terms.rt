@@ -1,7 +1,7 @@
 //! The terms of the service that is asked about.
 
 ghost use Rattle.std.specs.Prelude.{◌≡◌, ◌⊎◌, ◌++◌, ◌∷◌, [], ℕ, option_copied, IfErr, IfOk, OnOk};
-ghost use Rattle.krb_accept_report.specs.Names.{IsNoRealm, IsNoServer, IsRealm, IsServer};
+ghost use Rattle.krb_accept_rules.specs.Texts.{IsNoRealm, IsNoServer, IsRealm, IsServer};
 ghost use Rattle.jolmurig.specs.Terms.{AreNoTerms, AreOfTexts, AreTerms, HasTextOfNone, IsSkew};
 ghost use Rattle.jolmurig.specs.declared.failure.Failure.TheVariants as failure;
 

@@ -3,7 +3,6 @@ pub mod Rules
 pub mod Requests
 pub mod Reasons
 pub mod Negotiation
-pub mod Names
 pub mod Asked
 pub mod Questions
 pub mod Reports

@@ -4,7 +4,6 @@
 mod at_hand;
 mod key_reason;
 mod moment;
-mod names;
 mod negotiation;
 mod printed;
 mod reason;
@@ -15,7 +14,7 @@ mod terms;
 mod value;
 mod written;
 
+pub use krb_accept_rules::{realm_of_text, server_of_text};
 pub use moment::seconds_of_text;
-pub use names::{realm_of_text, server_of_text};
 pub use report::{Question, Report, ReportError, report_of};
 pub use terms::terms_for;

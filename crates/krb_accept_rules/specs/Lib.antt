@@ -15,6 +15,7 @@ pub mod Keys
 pub mod RequestRules
 pub mod AuthenticatorRules
 pub mod Servers
+pub mod Texts
 pub mod SessionRules
 pub mod Accepted
 pub mod Presenting

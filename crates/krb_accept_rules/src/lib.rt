@@ -22,6 +22,7 @@ mod seconds;
 mod servers;
 mod session;
 mod terms;
+mod texts;
 mod ticket;
 
 pub use accepted::{Accepted, Presented};
@@ -38,3 +39,4 @@ pub use request::check_request;
 pub use servers::ServerName;
 pub use session::check_session;
 pub use terms::{Arrival, Terms};
+pub use texts::{realm_of_text, server_of_text};

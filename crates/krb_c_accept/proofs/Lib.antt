@@ -5,3 +5,4 @@ pub mod Errors
 pub mod Seeds
 pub mod Agreeing
 pub mod Preparing
+pub mod Each

@@ -12,4 +12,5 @@ pub use krb_accept::{
 };
 pub use krb_accept_rules::{
     AuthenticatorFields, Opening, RequestFields, check_request, check_session, judge,
+    realm_of_text, server_of_text,
 };

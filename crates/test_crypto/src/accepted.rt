@@ -1,7 +1,7 @@
 //! Whether a service lets in the client of a token.
 //!
 //! A row is a name, a keytab, the service's time, the hash of its channel bindings, the settings and a token; behind it may stand the server for
-//! which clients are let in, and the realm whose clients are. The settings are a sum of 1 an AP-REQ with no frame is taken, 2 so is an authenticator
+//! which clients are let in, and the realm whose clients are, or several of them with `|` between. The settings are a sum of 1 an AP-REQ with no frame is taken, 2 so is an authenticator
 //! with another checksum than 0x8003, 16 PACs are ignored, 32 keys may be of triple DES, 64 clients without a name are let in. For each row it prints
 //! who is let in, with what is told of the context, and by which rule the same token is refused when it comes again; or by which rule it is refused
 //! at once. In each case how many entries the cache has then. Where the settings have 4, it prints of how many tokens that differ from this one in
@@ -11,13 +11,12 @@
 
 use crate::accepted_by_c::{Caller, encoding_of, text_by_c};
 use picky_krb::accept::{
-    Arrival, Context, PacCheck, ReplayCache, ServerName, ServiceKey, Settings, Terms, TokenRefusal,
-    accept_token, keys_of_keytab,
+    Arrival, Context, PacCheck, ReplayCache, ServiceKey, Settings, Terms, TokenRefusal,
+    accept_token, keys_of_keytab, realm_of_text, server_of_text,
 };
 use picky_krb::data_types::{AuthorizationData, EncryptionKey};
-use picky_krb::der::{Asn1SequenceOf, GeneralStringAsn1};
 use picky_krb::keytab::KeytabView;
-use picky_krb::view::{TextPrincipal, principal_of_text, text_of_principal, unix_seconds};
+use picky_krb::view::{text_of_principal, unix_seconds};
 use std::alloc::{AllocError, Global};
 use test_rows::{Columns, RowError};
 
@@ -67,23 +66,23 @@ impl Service {
         })
     }
 
-    /// Lets in clients for this server and of this realm alone, where there are texts.
-    fn restrict(&mut self, alloc: Global, server: &str, realm: &str) -> Result<(), RowError> {
-        if !server.is_empty() {
-            let Ok(name) = principal_of_text(alloc, server) else {
-                return Err(RowError::NoDigits);
-            };
-            let TextPrincipal { components, realm } = name;
-            self.terms.servers.push(ServerName {
-                components: Asn1SequenceOf(components),
-                realm,
-            })?;
+    /// Lets in clients for these servers and of these realms alone, where there are texts.
+    fn restrict(&mut self, alloc: Global, servers: &str, realms: &str) -> Result<(), RowError> {
+        for server in servers.split('|') {
+            if !servers.is_empty() {
+                let Some(name) = server_of_text(alloc, server)? else {
+                    return Err(RowError::NoDigits);
+                };
+                self.terms.servers.push(name)?;
+            }
         }
-        if !realm.is_empty() {
-            let Ok(realm) = GeneralStringAsn1::from_string(String::from_str(alloc, realm)?) else {
-                return Err(RowError::NoDigits);
-            };
-            self.terms.realms.push(realm)?;
+        for realm in realms.split('|') {
+            if !realms.is_empty() {
+                let Some(realm) = realm_of_text(alloc, realm)? else {
+                    return Err(RowError::NoDigits);
+                };
+                self.terms.realms.push(realm)?;
+            }
         }
         Ok(())
     }
@@ -299,8 +298,8 @@ struct Row<'a> {
     bindings: Vec<u8>,
     number: u32,
     token: Vec<u8>,
-    server: &'a str,
-    realm: &'a str,
+    servers: &'a str,
+    realms: &'a str,
 }
 
 /// The columns behind the name.
@@ -311,9 +310,20 @@ fn row_of<'a>(alloc: Global, columns: &mut Columns<'a>) -> Result<Row<'a>, RowEr
         bindings: columns.octets(alloc)?,
         number: columns.number::<u32>()?,
         token: columns.octets(alloc)?,
-        server: columns.text_if_any(),
-        realm: columns.text_if_any(),
+        servers: columns.text_if_any(),
+        realms: columns.text_if_any(),
     })
+}
+
+/// The octets of texts with `|` between, which stand as `krb.h` has them: an octet 0 between.
+fn with_nuls(alloc: Global, texts: &str) -> Result<Vec<u8>, AllocError> {
+    let mut octets = Vec::from_slice(alloc, texts.as_bytes())?;
+    for octet in octets.iter_mut() {
+        if *octet == b'|' {
+            *octet = 0;
+        }
+    }
+    Ok(octets)
 }
 
 /// What is printed of a row to a service.
@@ -323,13 +333,15 @@ fn text_of_row(
     row: &Row<'_>,
     service: &Service,
 ) -> Result<String, AllocError> {
+    let servers = with_nuls(alloc, row.servers)?;
+    let realms = with_nuls(alloc, row.realms)?;
     let caller = Caller {
         keytab: &row.keytab,
         clock: row.clock,
         bindings: &row.bindings,
         number: row.number,
-        server: row.server,
-        realm: row.realm,
+        servers: &servers,
+        realms: &realms,
     };
     let text = text_of(alloc, service, &caller, row.number, &row.token)?;
     if row.number & 4 == 0 {
@@ -344,6 +356,6 @@ pub(crate) fn answer(alloc: Global, mut columns: Columns<'_>) -> Result<String, 
     let name = columns.text()?;
     let row = row_of(alloc, &mut columns)?;
     let mut service = Service::of(alloc, &row.keytab, row.clock, &row.bindings, row.number)?;
-    service.restrict(alloc, row.server, row.realm)?;
+    service.restrict(alloc, row.servers, row.realms)?;
     Ok(text_of_row(alloc, name, &row, &service)?)
 }

@@ -69,8 +69,8 @@ pub(crate) struct Caller<'a> {
     pub clock: i64,
     pub bindings: &'a [u8],
     pub number: u32,
-    pub server: &'a str,
-    pub realm: &'a str,
+    pub servers: &'a [u8],
+    pub realms: &'a [u8],
 }
 
 impl<'a> Caller<'a> {
@@ -96,8 +96,8 @@ impl<'a> Caller<'a> {
             },
             keytab: self.keytab,
             session_keys: &[],
-            servers: self.server.as_bytes(),
-            realms: self.realm.as_bytes(),
+            servers: self.servers,
+            realms: self.realms,
             bindings: self.bindings,
             address: &[],
             random: &RANDOM,

@@ -1,5 +1,5 @@
 use Rattle.std.proofs.lemmas.Result.{err_from_is_err_and}
-use Rattle.krb_accept_report.specs.Names.{IsRealm}
+use Rattle.krb_accept_rules.specs.Texts.{IsRealm}
 use Rattle.jolmurig.specs.declared.failure.Failure.TheVariants as failure
 use Rattle.jolmurig.proofs.TermLists.{next, refused_at}
 use Rattle.jolmurig.proofs.terms.realms_of.Goals as goal

@@ -1,5 +1,5 @@
 use Rattle.std.proofs.Common.{take}
-use Rattle.krb_accept_report.specs.Names.{IsRealm}
+use Rattle.krb_accept_rules.specs.Texts.{IsRealm}
 use Rattle.jolmurig.specs.Terms.{AreOfTexts}
 use Rattle.jolmurig.proofs.terms.realms_of.Given as goal
 

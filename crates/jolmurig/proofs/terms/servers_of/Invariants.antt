@@ -1,5 +1,5 @@
 use Rattle.std.proofs.Common.{take}
-use Rattle.krb_accept_report.specs.Names.{IsServer}
+use Rattle.krb_accept_rules.specs.Texts.{IsServer}
 use Rattle.jolmurig.specs.Terms.{AreOfTexts}
 use Rattle.jolmurig.proofs.terms.servers_of.Given as goal
 

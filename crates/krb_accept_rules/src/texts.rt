@@ -1,9 +1,9 @@
 //! Servers and realms by their texts (RFC 1964, 2.1.1).
 
 ghost use Rattle.std.specs.Prelude.{IfOk, MatchOption};
-ghost use Rattle.krb_accept_report.specs.Names.{IsNoRealm, IsNoServer, IsRealm, IsServer};
+ghost use Rattle.krb_accept_rules.specs.Texts.{IsNoRealm, IsNoServer, IsRealm, IsServer};
 
-use krb_accept_rules::ServerName;
+use crate::servers::ServerName;
 use krb_der::{Asn1SequenceOf, GeneralStringAsn1};
 use krb_types::data_types::Realm;
 use krb_types::view::{PrincipalError, TextPrincipal, principal_of_text};
