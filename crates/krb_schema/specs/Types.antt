@@ -30,7 +30,7 @@ types =
     ∷ (codes "HostAddress", 16)
     ∷ (codes "HostAddresses", 17)
     ∷ (codes "AuthorizationData", 20)
-    ∷ (codes "AD-IF-RELEVANT", 22)
+    ∷ (codes "AD-IF-RELEVANT (inner)", 22)
     ∷ (codes "EncryptedData", 23)
     ∷ (codes "EncryptionKey", 24)
     ∷ (codes "Checksum", 25)
@@ -105,6 +105,14 @@ types =
     ∷ (codes "NegTokenInit", 135)
     ∷ (codes "ContextFlags", 136)
     ∷ (codes "NegTokenResp", 138)
+    ∷ (codes "AD-IF-RELEVANT", 141)
+    ∷ (codes "AD-KDCIssued", 142)
+    ∷ (codes "AD-AND-OR", 143)
+    ∷ (codes "AD-CAMMAC", 145)
+    ∷ (codes "Verifier-MAC", 146)
+    ∷ (codes "AD-KDCIssued (inner)", 147)
+    ∷ (codes "AD-AND-OR (inner)", 148)
+    ∷ (codes "AD-CAMMAC (inner)", 149)
     ∷ []
 
 -- the rows
@@ -128,7 +136,7 @@ shapes =
     ∷ shape.Sequence 48 0 2
     ∷ shape.Sequence 48 2 2
     ∷ shape.SequenceOf 48 16 true
-    ∷ shape.Holding 0 1
+    ∷ shape.Holding 0 5
     ∷ shape.Sequence 48 4 2
     ∷ shape.SequenceOf 48 19 true
     ∷ shape.Sequence 48 6 2
@@ -142,7 +150,7 @@ shapes =
     ∷ shape.Sequence 48 19 11
     ∷ shape.Tagged 99 29
     ∷ shape.Sequence 48 30 2
-    ∷ shape.Holding 1 10
+    ∷ shape.Holding 5 10
     ∷ shape.Sequence 48 32 2
     ∷ shape.SequenceOf 48 33 false
     ∷ shape.Sequence 48 34 2
@@ -196,7 +204,7 @@ shapes =
     ∷ shape.Tagged 125 82
     ∷ shape.Sequence 48 130 11
     ∷ shape.Leaf 2 (leaf.Number 30)
-    ∷ shape.Holding 11 2
+    ∷ shape.Holding 15 2
     ∷ shape.Sequence 48 141 13
     ∷ shape.Tagged 126 87
     ∷ shape.Sequence 48 154 2
@@ -233,7 +241,7 @@ shapes =
     ∷ shape.Sequence 48 206 2
     ∷ shape.Sequence 48 208 5
     ∷ shape.Sequence 48 213 2
-    ∷ shape.Holding 13 3
+    ∷ shape.Holding 17 3
     ∷ shape.Sequence 48 215 2
     ∷ shape.Sequence 48 217 3
     ∷ shape.Sequence 48 220 4
@@ -244,11 +252,22 @@ shapes =
     ∷ shape.Tagged 160 135
     ∷ shape.Tagged 161 138
     ∷ shape.SequenceOf 48 9 false
-    ∷ shape.Holding 16 3
+    ∷ shape.Holding 20 3
     ∷ shape.Sequence 48 233 4
     ∷ shape.Leaf 3 leaf.Flags
-    ∷ shape.Holding 19 3
+    ∷ shape.Holding 23 3
     ∷ shape.Sequence 48 237 4
+    ∷ shape.Holding 26 5
+    ∷ shape.Sequence 48 241 2
+    ∷ shape.SequenceOf 48 140 true
+    ∷ shape.Sequence 48 243 4
+    ∷ shape.Sequence 48 247 2
+    ∷ shape.SequenceOf 48 13 true
+    ∷ shape.Sequence 48 249 4
+    ∷ shape.Sequence 48 253 4
+    ∷ shape.Sequence 48 257 4
+    ∷ shape.Sequence 48 261 2
+    ∷ shape.Sequence 48 263 4
     ∷ []
 
 -- the fields of SEQUENCEs
@@ -495,12 +514,42 @@ fields =
     ∷ (Some 161, true, true, codes "supportedMech", None, role.None, 9)
     ∷ (Some 162, true, true, codes "responseToken", None, role.MechanismToken, 137)
     ∷ (Some 163, true, true, codes "mechListMIC", None, role.MechanismListMic, 6)
+    ∷ (Some 160, true, false, codes "ad-type", Some kinds.AuthorizationDataType, role.None, 1)
+    ∷ (Some 161, true, false, codes "ad-data", None, role.AuthorizationData, 139)
+    ∷ (Some 160, true, false, codes "ad-checksum", None, role.None, 25)
+    ∷ (Some 161, true, true, codes "i-realm", None, role.None, 11)
+    ∷ (Some 162, true, true, codes "i-sname", None, role.None, 15)
+    ∷ (Some 163, true, false, codes "elements", None, role.None, 141)
+    ∷ (Some 160, true, false, codes "condition-count", None, role.None, 1)
+    ∷ (Some 161, true, false, codes "elements", None, role.None, 141)
+    ∷ (Some 160, true, false, codes "elements", None, role.None, 141)
+    ∷ (Some 161, true, true, codes "kdc-verifier", None, role.None, 146)
+    ∷ (Some 162, true, true, codes "svc-verifier", None, role.None, 146)
+    ∷ (Some 163, true, true, codes "other-verifiers", None, role.None, 144)
+    ∷ (Some 160, true, true, codes "identifier", None, role.None, 15)
+    ∷ (Some 161, true, true, codes "kvno", None, role.None, 1)
+    ∷ (Some 162, true, true, codes "enctype", Some kinds.EncryptionType, role.None, 1)
+    ∷ (Some 163, true, false, codes "mac", None, role.None, 25)
+    ∷ (Some 160, true, false, codes "ad-checksum", None, role.None, 25)
+    ∷ (Some 161, true, true, codes "i-realm", None, role.None, 11)
+    ∷ (Some 162, true, true, codes "i-sname", None, role.None, 15)
+    ∷ (Some 163, true, false, codes "elements", None, role.None, 22)
+    ∷ (Some 160, true, false, codes "condition-count", None, role.None, 1)
+    ∷ (Some 161, true, false, codes "elements", None, role.None, 22)
+    ∷ (Some 160, true, false, codes "elements", None, role.None, 22)
+    ∷ (Some 161, true, true, codes "kdc-verifier", None, role.None, 146)
+    ∷ (Some 162, true, true, codes "svc-verifier", None, role.None, 146)
+    ∷ (Some 163, true, true, codes "other-verifiers", None, role.None, 144)
     ∷ []
 
 -- what OCTET STRINGs hold
 unfoldable pub cases : List (Option ℕ × Option (List ℕ × Option Kind × Role) × ℕ)
 cases =
-    (Some 1, None, 22)
+    (Some 1, None, 141)
+    ∷ (Some 4, None, 142)
+    ∷ (Some 5, None, 143)
+    ∷ (Some 8, None, 141)
+    ∷ (Some 96, None, 145)
     ∷ (Some 1, None, 65)
     ∷ (Some 2, None, 23)
     ∷ (Some 16, None, 106)
@@ -522,4 +571,9 @@ cases =
     ∷ (None, None, 65)
     ∷ (None, None, 70)
     ∷ (None, None, 88)
+    ∷ (Some 1, None, 22)
+    ∷ (Some 4, None, 147)
+    ∷ (Some 5, None, 148)
+    ∷ (Some 8, None, 22)
+    ∷ (Some 96, None, 149)
     ∷ []

@@ -147,8 +147,8 @@ pub const HOST_ADDRESS: usize = 16;
 pub const HOST_ADDRESSES: usize = 17;
 /// AuthorizationData: it should not be empty (RFC 4120, 5.2.6).
 pub const AUTHORIZATION_DATA: usize = 20;
-/// AD-IF-RELEVANT: AuthorizationData whose own data stay octets (RFC 4120, 5.2.6.1).
-pub const AD_IF_RELEVANT: usize = 22;
+/// AD-IF-RELEVANT (inner): within another element; data of its own elements stay octets (RFC 4120, 5.2.6.1).
+pub const AD_IF_RELEVANT_INNER: usize = 22;
 /// EncryptedData (RFC 4120, 5.2.9).
 pub const ENCRYPTED_DATA: usize = 23;
 /// EncryptionKey (RFC 4120, 5.2.9).
@@ -297,14 +297,30 @@ pub const NEG_TOKEN_INIT: usize = 135;
 pub const CONTEXT_FLAGS: usize = 136;
 /// NegTokenResp (RFC 4178, 4.2.2).
 pub const NEG_TOKEN_RESP: usize = 138;
+/// AD-IF-RELEVANT: also AD-MANDATORY-FOR-KDC, and what an AD-KDCIssued, an AD-AND-OR and an AD-CAMMAC hold (RFC 4120, 5.2.6.1 and 5.2.6.4).
+pub const AD_IF_RELEVANT: usize = 141;
+/// AD-KDCIssued (RFC 4120, 5.2.6.2).
+pub const AD_KDC_ISSUED: usize = 142;
+/// AD-AND-OR (RFC 4120, 5.2.6.3).
+pub const AD_AND_OR: usize = 143;
+/// AD-CAMMAC: a Verifier is not read (RFC 7751, 3).
+pub const AD_CAMMAC: usize = 145;
+/// Verifier-MAC (RFC 7751, 3).
+pub const VERIFIER_MAC: usize = 146;
+/// AD-KDCIssued (inner): within another element (RFC 4120, 5.2.6.2).
+pub const AD_KDC_ISSUED_INNER: usize = 147;
+/// AD-AND-OR (inner): within another element (RFC 4120, 5.2.6.3).
+pub const AD_AND_OR_INNER: usize = 148;
+/// AD-CAMMAC (inner): within another element (RFC 7751, 3).
+pub const AD_CAMMAC_INNER: usize = 149;
 /// SEQUENCE OF KerberosString (component).
 const SEQUENCE_OF_KERBEROS_STRING_COMPONENT: usize = 14;
 /// Within AuthorizationData.
 const AUTHORIZATION_DATA_ELEMENT_AD_DATA: usize = 18;
 /// Within AuthorizationData.
 const AUTHORIZATION_DATA_ELEMENT: usize = 19;
-/// Within AD-IF-RELEVANT.
-const AD_IF_RELEVANT_ELEMENT: usize = 21;
+/// Within AD-IF-RELEVANT (inner).
+const AD_IF_RELEVANT_INNER_ELEMENT: usize = 21;
 /// INTEGER (5).
 const INTEGER_5: usize = 26;
 /// Within Ticket.
@@ -389,8 +405,14 @@ const SEQUENCE_OF_OBJECT_IDENTIFIER: usize = 133;
 const NEG_TOKEN_INIT_MECH_TOKEN: usize = 134;
 /// Within NegTokenResp.
 const NEG_TOKEN_RESP_RESPONSE_TOKEN: usize = 137;
+/// Within AD-IF-RELEVANT.
+const AD_IF_RELEVANT_ELEMENT_AD_DATA: usize = 139;
+/// Within AD-IF-RELEVANT.
+const AD_IF_RELEVANT_ELEMENT: usize = 140;
+/// SEQUENCE OF ANY.
+const SEQUENCE_OF_ANY: usize = 144;
 
-static FIELDS: [Field; 241] = [
+static FIELDS: [Field; 267] = [
     // PRINCIPAL_NAME
     tagged!(0xa0, "name-type", INTEGER, of Kind::NameType),
     tagged!(0xa1, "name-string", SEQUENCE_OF_KERBEROS_STRING_COMPONENT),
@@ -405,7 +427,7 @@ static FIELDS: [Field; 241] = [
         AUTHORIZATION_DATA_ELEMENT_AD_DATA,
         as Role::AuthorizationData
     ),
-    // AD_IF_RELEVANT_ELEMENT
+    // AD_IF_RELEVANT_INNER_ELEMENT
     tagged!(0xa0, "ad-type", INTEGER, of Kind::AuthorizationDataType),
     tagged!(0xa1, "ad-data", OCTET_STRING, as Role::AuthorizationData),
     // ENCRYPTED_DATA
@@ -738,11 +760,54 @@ static FIELDS: [Field; 241] = [
         as Role::MechanismToken
     ),
     tagged_optional!(0xa3, "mechListMIC", OCTET_STRING, as Role::MechanismListMic),
+    // AD_IF_RELEVANT_ELEMENT
+    tagged!(0xa0, "ad-type", INTEGER, of Kind::AuthorizationDataType),
+    tagged!(
+        0xa1,
+        "ad-data",
+        AD_IF_RELEVANT_ELEMENT_AD_DATA,
+        as Role::AuthorizationData
+    ),
+    // AD_KDC_ISSUED
+    tagged!(0xa0, "ad-checksum", CHECKSUM),
+    tagged_optional!(0xa1, "i-realm", REALM),
+    tagged_optional!(0xa2, "i-sname", PRINCIPAL_NAME),
+    tagged!(0xa3, "elements", AD_IF_RELEVANT),
+    // AD_AND_OR
+    tagged!(0xa0, "condition-count", INTEGER),
+    tagged!(0xa1, "elements", AD_IF_RELEVANT),
+    // AD_CAMMAC
+    tagged!(0xa0, "elements", AD_IF_RELEVANT),
+    tagged_optional!(0xa1, "kdc-verifier", VERIFIER_MAC),
+    tagged_optional!(0xa2, "svc-verifier", VERIFIER_MAC),
+    tagged_optional!(0xa3, "other-verifiers", SEQUENCE_OF_ANY),
+    // VERIFIER_MAC
+    tagged_optional!(0xa0, "identifier", PRINCIPAL_NAME),
+    tagged_optional!(0xa1, "kvno", INTEGER),
+    tagged_optional!(0xa2, "enctype", INTEGER, of Kind::EncryptionType),
+    tagged!(0xa3, "mac", CHECKSUM),
+    // AD_KDC_ISSUED_INNER
+    tagged!(0xa0, "ad-checksum", CHECKSUM),
+    tagged_optional!(0xa1, "i-realm", REALM),
+    tagged_optional!(0xa2, "i-sname", PRINCIPAL_NAME),
+    tagged!(0xa3, "elements", AD_IF_RELEVANT_INNER),
+    // AD_AND_OR_INNER
+    tagged!(0xa0, "condition-count", INTEGER),
+    tagged!(0xa1, "elements", AD_IF_RELEVANT_INNER),
+    // AD_CAMMAC_INNER
+    tagged!(0xa0, "elements", AD_IF_RELEVANT_INNER),
+    tagged_optional!(0xa1, "kdc-verifier", VERIFIER_MAC),
+    tagged_optional!(0xa2, "svc-verifier", VERIFIER_MAC),
+    tagged_optional!(0xa3, "other-verifiers", SEQUENCE_OF_ANY),
 ];
 
-static CASES: [Case; 22] = [
+static CASES: [Case; 31] = [
     // AUTHORIZATION_DATA_ELEMENT_AD_DATA
     case!(1, AD_IF_RELEVANT),
+    case!(4, AD_KDC_ISSUED),
+    case!(5, AD_AND_OR),
+    case!(8, AD_IF_RELEVANT),
+    case!(96, AD_CAMMAC),
     // PA_DATA_PADATA_VALUE
     case!(1, AP_REQ),
     case!(2, ENCRYPTED_DATA),
@@ -769,9 +834,15 @@ static CASES: [Case; 22] = [
     case!(AP_REQ),
     case!(AP_REP),
     case!(KRB_ERROR),
+    // AD_IF_RELEVANT_ELEMENT_AD_DATA
+    case!(1, AD_IF_RELEVANT_INNER),
+    case!(4, AD_KDC_ISSUED_INNER),
+    case!(5, AD_AND_OR_INNER),
+    case!(8, AD_IF_RELEVANT_INNER),
+    case!(96, AD_CAMMAC_INNER),
 ];
 
-static SHAPES: [Shape; 139] = [
+static SHAPES: [Shape; 150] = [
     Shape::Leaf(0x01, Leaf::Truth),
     Shape::Leaf(0x02, Leaf::Integer),
     Shape::Leaf(0x02, Leaf::Unsigned),
@@ -790,11 +861,11 @@ static SHAPES: [Shape; 139] = [
     Shape::Sequence(0x30, 0, 2),
     Shape::Sequence(0x30, 2, 2),
     Shape::SequenceOf(0x30, HOST_ADDRESS, true),
-    Shape::Holding(0, 1),
+    Shape::Holding(0, 5),
     Shape::Sequence(0x30, 4, 2),
     Shape::SequenceOf(0x30, AUTHORIZATION_DATA_ELEMENT, true),
     Shape::Sequence(0x30, 6, 2),
-    Shape::SequenceOf(0x30, AD_IF_RELEVANT_ELEMENT, true),
+    Shape::SequenceOf(0x30, AD_IF_RELEVANT_INNER_ELEMENT, true),
     Shape::Sequence(0x30, 8, 3),
     Shape::Sequence(0x30, 11, 2),
     Shape::Sequence(0x30, 13, 2),
@@ -804,7 +875,7 @@ static SHAPES: [Shape; 139] = [
     Shape::Sequence(0x30, 19, 11),
     Shape::Tagged(0x63, ENC_TICKET_PART_CONTENT),
     Shape::Sequence(0x30, 30, 2),
-    Shape::Holding(1, 10),
+    Shape::Holding(5, 10),
     Shape::Sequence(0x30, 32, 2),
     Shape::SequenceOf(0x30, PA_DATA, false),
     Shape::Sequence(0x30, 34, 2),
@@ -858,7 +929,7 @@ static SHAPES: [Shape; 139] = [
     Shape::Tagged(0x7d, ENC_KRB_CRED_PART_CONTENT),
     Shape::Sequence(0x30, 130, 11),
     Shape::Leaf(0x02, Leaf::Number(30)),
-    Shape::Holding(11, 2),
+    Shape::Holding(15, 2),
     Shape::Sequence(0x30, 141, 13),
     Shape::Tagged(0x7e, KRB_ERROR_CONTENT),
     Shape::Sequence(0x30, 154, 2),
@@ -895,7 +966,7 @@ static SHAPES: [Shape; 139] = [
     Shape::Sequence(0x30, 206, 2),
     Shape::Sequence(0x30, 208, 5),
     Shape::Sequence(0x30, 213, 2),
-    Shape::Holding(13, 3),
+    Shape::Holding(17, 3),
     Shape::Sequence(0x30, 215, 2),
     Shape::Sequence(0x30, 217, 3),
     Shape::Sequence(0x30, 220, 4),
@@ -906,14 +977,25 @@ static SHAPES: [Shape; 139] = [
     Shape::Tagged(0xa0, NEG_TOKEN_INIT),
     Shape::Tagged(0xa1, NEG_TOKEN_RESP),
     Shape::SequenceOf(0x30, OBJECT_IDENTIFIER, false),
-    Shape::Holding(16, 3),
+    Shape::Holding(20, 3),
     Shape::Sequence(0x30, 233, 4),
     Shape::Leaf(0x03, Leaf::Flags),
-    Shape::Holding(19, 3),
+    Shape::Holding(23, 3),
     Shape::Sequence(0x30, 237, 4),
+    Shape::Holding(26, 5),
+    Shape::Sequence(0x30, 241, 2),
+    Shape::SequenceOf(0x30, AD_IF_RELEVANT_ELEMENT, true),
+    Shape::Sequence(0x30, 243, 4),
+    Shape::Sequence(0x30, 247, 2),
+    Shape::SequenceOf(0x30, ANY, true),
+    Shape::Sequence(0x30, 249, 4),
+    Shape::Sequence(0x30, 253, 4),
+    Shape::Sequence(0x30, 257, 4),
+    Shape::Sequence(0x30, 261, 2),
+    Shape::Sequence(0x30, 263, 4),
 ];
 
-static TYPES: [(&str, usize); 94] = [
+static TYPES: [(&str, usize); 102] = [
     ("BOOLEAN", BOOLEAN),
     ("INTEGER", INTEGER),
     ("UInt32", UINT32),
@@ -933,7 +1015,7 @@ static TYPES: [(&str, usize); 94] = [
     ("HostAddress", HOST_ADDRESS),
     ("HostAddresses", HOST_ADDRESSES),
     ("AuthorizationData", AUTHORIZATION_DATA),
-    ("AD-IF-RELEVANT", AD_IF_RELEVANT),
+    ("AD-IF-RELEVANT (inner)", AD_IF_RELEVANT_INNER),
     ("EncryptedData", ENCRYPTED_DATA),
     ("EncryptionKey", ENCRYPTION_KEY),
     ("Checksum", CHECKSUM),
@@ -1014,6 +1096,14 @@ static TYPES: [(&str, usize); 94] = [
     ("NegTokenInit", NEG_TOKEN_INIT),
     ("ContextFlags", CONTEXT_FLAGS),
     ("NegTokenResp", NEG_TOKEN_RESP),
+    ("AD-IF-RELEVANT", AD_IF_RELEVANT),
+    ("AD-KDCIssued", AD_KDC_ISSUED),
+    ("AD-AND-OR", AD_AND_OR),
+    ("AD-CAMMAC", AD_CAMMAC),
+    ("Verifier-MAC", VERIFIER_MAC),
+    ("AD-KDCIssued (inner)", AD_KDC_ISSUED_INNER),
+    ("AD-AND-OR (inner)", AD_AND_OR_INNER),
+    ("AD-CAMMAC (inner)", AD_CAMMAC_INNER),
 ];
 
 /// The schema of the types of DER that this library reads.

@@ -3,7 +3,7 @@
 ghost use Rattle.std.specs.Prelude.{◌≡◌, map};
 ghost use Rattle.krb_schema.specs.NameTable.{name_table};
 
-static NAMES: [&str; 238] = [
+static NAMES: [&str; 258] = [
     "name-type",
     "name-string",
     "addr-type",
@@ -242,6 +242,26 @@ static NAMES: [&str; 238] = [
     "encKeyPack",
     "KERB-KEY-LIST-REQ",
     "KERB-KEY-LIST-REP",
+    "ad-checksum",
+    "i-realm",
+    "i-sname",
+    "elements",
+    "condition-count",
+    "kdc-verifier",
+    "svc-verifier",
+    "other-verifiers",
+    "identifier",
+    "enctype",
+    "mac",
+    "AD-KDCIssued",
+    "AD-AND-OR",
+    "AD-CAMMAC",
+    "Verifier-MAC",
+    "OCTET STRING (ad-data)",
+    "AD-IF-RELEVANT (inner)",
+    "AD-KDCIssued (inner)",
+    "AD-AND-OR (inner)",
+    "AD-CAMMAC (inner)",
 ];
 
 /// The names, each at its number.

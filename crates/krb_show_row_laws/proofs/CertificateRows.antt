@@ -209,7 +209,7 @@ ts_credentials_tie schema k levels =
     coded_tie schema k (suc (suc levels)) 124 ts_credentials_fields ts_credentials_to ts_credentials_of (λ x. refl)
     (sequence_tie schema k (suc levels) 124 48 215 2 _ _ refl (lit≤ tt) refl
     (required_tie schema k _ _ _ _ _ _ _ _ _ (integer_tie schema k levels 1 refl)
-    (required_tie schema k _ _ _ _ _ _ _ _ _ (holding_tie schema k levels 123 13 3 refl (lit≤ tt))
+    (required_tie schema k _ _ _ _ _ _ _ _ _ (holding_tie schema k levels 123 17 3 refl (lit≤ tt))
     (end_tie schema k _))))
 
 abbrev pub ts_credentials_octets : TsCredentials → List ℕ

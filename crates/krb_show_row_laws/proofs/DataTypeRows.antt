@@ -129,7 +129,7 @@ authorization_data_tie schema k levels =
     coded_tie schema k (suc (suc levels)) 19 authorization_data_fields authorization_data_to authorization_data_of (λ x. refl)
     (sequence_tie schema k (suc levels) 19 48 4 2 _ _ refl (lit≤ tt) refl
     (required_tie schema k _ _ _ _ _ _ _ _ _ (integer_tie schema k levels 1 refl)
-    (required_tie schema k _ _ _ _ _ _ _ _ _ (holding_tie schema k levels 18 0 1 refl (lit≤ tt))
+    (required_tie schema k _ _ _ _ _ _ _ _ _ (holding_tie schema k levels 18 0 5 refl (lit≤ tt))
     (end_tie schema k _))))
 
 abbrev pub authorization_data_octets : AuthorizationDataInner → List ℕ
@@ -373,7 +373,7 @@ pa_data_tie schema k levels =
     coded_tie schema k (suc (suc levels)) 33 pa_data_fields pa_data_to pa_data_of (λ x. refl)
     (sequence_tie schema k (suc levels) 33 48 32 2 _ _ refl (lit≤ tt) refl
     (required_tie schema k _ _ _ _ _ _ _ _ _ (integer_tie schema k levels 1 refl)
-    (required_tie schema k _ _ _ _ _ _ _ _ _ (holding_tie schema k levels 32 1 10 refl (lit≤ tt))
+    (required_tie schema k _ _ _ _ _ _ _ _ _ (holding_tie schema k levels 32 5 10 refl (lit≤ tt))
     (end_tie schema k _))))
 
 abbrev pub pa_data_octets : PaData → List ℕ

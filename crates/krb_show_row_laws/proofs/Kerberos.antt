@@ -15,7 +15,7 @@ unfolding shapes fields cases
 kerberos_told = refl
 
 pub kerberos_fits : (name : List ℕ) (role : Role)
-    → each_below (λ is. nat_eq is 32 || fits as_octets every_row 64 shapes fields cases 64 true is name role) 139 ≡ true
+    → each_below (λ is. nat_eq is 32 || fits as_octets every_row 64 shapes fields cases 64 true is name role) 150 ≡ true
 unfolding shapes fields cases
 kerberos_fits name roles.None = refl
 kerberos_fits name roles.AuthorizationData = refl
@@ -46,7 +46,7 @@ unfolding shapes fields cases
 formats_told = refl
 
 pub formats_fits : (name : List ℕ) → each_below (λ is. nat_eq is 32 || fits kerberos_kinds every_row 64 shapes fields cases 64 true is name roles.None)
-    139 ≡ true
+    150 ≡ true
 unfolding shapes fields cases
 formats_fits name = refl
 

@@ -543,7 +543,7 @@ krb_error_tie schema k levels =
     (required_tie schema k _ _ _ _ _ _ _ _ _ (text_tie schema k (suc (suc levels)) 11 refl)
     (required_tie schema k _ _ _ _ _ _ _ _ _ (principal_name_tie schema k levels)
     (maybe_tie schema k _ _ _ _ _ _ _ _ _ refl (text_tie schema k (suc (suc levels)) 11 refl)
-    (maybe_tie schema k _ _ _ _ _ _ _ _ _ refl (holding_tie schema k (suc (suc levels)) 86 11 2 refl (lit≤ tt))
+    (maybe_tie schema k _ _ _ _ _ _ _ _ _ refl (holding_tie schema k (suc (suc levels)) 86 15 2 refl (lit≤ tt))
     (end_tie schema k _)))))))))))))))
 
 abbrev pub krb_error_octets : KrbErrorInner → List ℕ

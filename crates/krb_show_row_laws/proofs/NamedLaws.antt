@@ -26,7 +26,7 @@ pub formats_text_tells : (schema : Schema) (is : ℕ) (name : Name) → IsKerber
     → TextTellsOctets formats_of schema is name
 formats_text_tells schema is name kerberos named none =
     each_row formats_of kerberos_kinds kerberos_formats formats_told schema kerberos name named
-    (subst (λ (r : Role). each_below (λ i. nat_eq i 32 || fits kerberos_kinds every_row 64 shapes fields cases 64 true i name.text.now r) 139 ≡ true) (sym none)
+    (subst (λ (r : Role). each_below (λ i. nat_eq i 32 || fits kerberos_kinds every_row 64 shapes fields cases 64 true i name.text.now r) 150 ≡ true) (sym none)
     (formats_fits name.text.now)) is
 
 pub row_fits : (row_name text : List ℕ) (is : ℕ) → row_in types row_name ≡ Some is

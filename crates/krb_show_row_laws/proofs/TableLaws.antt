@@ -46,17 +46,17 @@ by_table schema k P h =
 
 -- ---- the test of each row
 
-so_many : length shapes ≡ 139
+so_many : length shapes ≡ 150
 unfolding shapes
 so_many = refl
 
 -- the rows that pass under this name, which are those of the table but for the row of a padata-value
 module _ (kinds : Kinds) (name : List ℕ) (role : Role)
-    (each : each_below (λ is. nat_eq is 32 || fits kinds every_row 64 shapes fields cases 64 true is name role) 139 ≡ true) where
-  fits_within : (is : ℕ) → is < 139 → nat_eq is 32 ≡ false → fits kinds every_row 64 shapes fields cases 64 true is name role ≡ true
+    (each : each_below (λ is. nat_eq is 32 || fits kinds every_row 64 shapes fields cases 64 true is name role) 150 ≡ true) where
+  fits_within : (is : ℕ) → is < 150 → nat_eq is 32 ≡ false → fits kinds every_row 64 shapes fields cases 64 true is name role ≡ true
   fits_within is less other =
       by_test (or_true (nat_eq is 32) (fits kinds every_row 64 shapes fields cases 64 true is name role)
-      (at_each (λ i. nat_eq i 32 || fits kinds every_row 64 shapes fields cases 64 true i name role) 139 is each less))
+      (at_each (λ i. nat_eq i 32 || fits kinds every_row 64 shapes fields cases 64 true i name role) 150 is each less))
     where
       by_test : (nat_eq is 32 ≡ true) ⊎ (fits kinds every_row 64 shapes fields cases 64 true is name role ≡ true)
           → fits kinds every_row 64 shapes fields cases 64 true is name role ≡ true
@@ -64,7 +64,7 @@ module _ (kinds : Kinds) (name : List ℕ) (role : Role)
       by_test (inr t) = t
 
   -- no row is behind the last
-  fits_past : (is : ℕ) → 139 ≤ is → fits kinds every_row 64 shapes fields cases 64 true is name role ≡ true
+  fits_past : (is : ℕ) → 150 ≤ is → fits kinds every_row 64 shapes fields cases 64 true is name role ≡ true
   fits_past is past =
       let many = so_many in
       let none = slice_get_past shapes is (omega (arith, past, many)) in
@@ -73,11 +73,11 @@ module _ (kinds : Kinds) (name : List ℕ) (role : Role)
       (subst (λ (o : Option Shape). option_fits kinds every_row 64 shapes fields cases inner 63 true o name role ≡ true) (sym none) refl)
 
   pub fits_at : (is : ℕ) → nat_eq is 32 ≡ false → fits kinds every_row 64 shapes fields cases 64 true is name role ≡ true
-  fits_at is other = by_place (nat_lt is 139) refl
+  fits_at is other = by_place (nat_lt is 150) refl
     where
-      by_place : (b : Bool) → nat_lt is 139 ≡ b → fits kinds every_row 64 shapes fields cases 64 true is name role ≡ true
-      by_place true e = let less : is < 139 = grind (arith, common_steps) in fits_within is less other
-      by_place false e = let past : 139 ≤ is = grind (arith, common_steps) in fits_past is past
+      by_place : (b : Bool) → nat_lt is 150 ≡ b → fits kinds every_row 64 shapes fields cases 64 true is name role ≡ true
+      by_place true e = let less : is < 150 = grind (arith, common_steps) in fits_within is less other
+      by_place false e = let past : 150 ≤ is = grind (arith, common_steps) in fits_past is past
 
 -- ---- a padata-value behind no field is plain octets: each of its cases stands behind a number
 
@@ -102,7 +102,7 @@ only_octets R name content cs f e (later c ds element lacks r) = only_octets R n
     (and_right (is_behind c.behind) (all_behind (map case_row ds)) e) r
 only_octets R name content cs f e plain = refl
 
-row_32 : slice_get shapes 32 ≡ Some (shape.Holding 1 10)
+row_32 : slice_get shapes 32 ≡ Some (shape.Holding 5 10)
 unfolding shapes
 row_32 = refl
 
@@ -110,20 +110,20 @@ row_6 : slice_get shapes 6 ≡ Some (shape.Leaf 4 leaves.Octets)
 unfolding shapes
 row_6 = refl
 
-cases_32 : all_behind (part 1 10 cases) ≡ true
+cases_32 : all_behind (part 5 10 cases) ≡ true
 unfolding cases
 cases_32 = refl
 
 as_octet_string : (levels : ℕ) (schema : Schema) → IsKerberos schema → (name : Name) (f : Forest) → IsElement (suc levels) schema 32 name [] f
     → IsElement (suc levels) schema 6 name [] f
 as_octet_string levels schema k name f v =
-    let same : v.0 ≡ shape.Holding 1 10 = same_shape v.0 (shape.Holding 1 10) (sym v.1 ∙ ap (λ (l : List Shape). slice_get l 32) k.rows ∙ row_32) in
+    let same : v.0 ≡ shape.Holding 5 10 = same_shape v.0 (shape.Holding 5 10) (sym v.1 ∙ ap (λ (l : List Shape). slice_get l 32) k.rows ∙ row_32) in
     let held = subst (λ (s : Shape). IsShaped (IsElement levels schema) schema s name [] f) same v.2 in
-    let all : all_behind (map case_row (part 1 10 schema.cases.now)) ≡ true =
-    ap all_behind (sym (part_map case_row 1 10 schema.cases.now) ∙ ap (λ (l : List CaseRow). part 1 10 l) k.held) ∙ cases_32 in (
+    let all : all_behind (map case_row (part 5 10 schema.cases.now)) ≡ true =
+    ap all_behind (sym (part_map case_row 5 10 schema.cases.now) ∙ ap (λ (l : List CaseRow). part 5 10 l) k.held) ∙ cases_32 in (
       shape.Leaf 4 leaves.Octets,
       ap (λ (l : List Shape). slice_get l 6) k.rows ∙ row_6,
-      (held.0, tt, only_octets (IsElement levels schema) name held.0 (part 1 10 schema.cases.now) f all held.2),
+      (held.0, tt, only_octets (IsElement levels schema) name held.0 (part 5 10 schema.cases.now) f all held.2),
     )
 
 by_octet_string : (tells : Role → List ℕ → Label → List ℕ → List Token → List Token → Type 0) (schema : Schema) → IsKerberos schema → (name : Name)
@@ -137,7 +137,7 @@ by_octet_string tells schema k name law octets other items others page another s
 pub each_row : (tells : Role → List ℕ → Label → List ℕ → List Token → List Token → Type 0) (kinds : Kinds) → FormatsTell kinds tells
     → is_told kinds every_row 64 shapes fields cases ≡ true
     → (schema : Schema) → IsKerberos schema → (name : Name) → is_name name.text.now ≡ true
-    → each_below (λ is. nat_eq is 32 || fits kinds every_row 64 shapes fields cases 64 true is name.text.now name.role) 139 ≡ true → (is : ℕ)
+    → each_below (λ is. nat_eq is 32 || fits kinds every_row 64 shapes fields cases 64 true is name.text.now name.role) 150 ≡ true → (is : ℕ)
     → TextTellsOctets tells schema is name
 each_row tells kinds formats told schema kerberos name named each is = by_row (nat_eq is 32) refl
   where
