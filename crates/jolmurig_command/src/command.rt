@@ -30,7 +30,7 @@ pub enum SourceKind {
 }
 
 /// A key, or the name of a file of keys.
-#[derive(Debug, Drop)]
+#[derive(Drop)]
 pub struct Source<'a> {
     /// What the text is.
     pub kind: SourceKind,
@@ -47,7 +47,7 @@ impl<'a> Model for Source<'a> {
 }
 
 /// The name of a file.
-#[derive(Debug, Drop)]
+#[derive(Drop)]
 pub struct FileName<'a> {
     /// The name.
     pub text: &'a str,
@@ -62,7 +62,7 @@ impl<'a> Model for FileName<'a> {
 }
 
 /// What is asked to be shown, and how.
-#[derive(Debug, Drop)]
+#[derive(Drop)]
 pub struct Show<'a> {
     /// The name of the type as which octets are read: the option `--as`.
     pub type_name: Option<&'a str>,
@@ -113,7 +113,7 @@ pub enum Format {
 }
 
 /// The name of a type.
-#[derive(Debug, Drop)]
+#[derive(Drop)]
 pub struct TypeName<'a> {
     /// The name.
     pub text: &'a str,
@@ -137,7 +137,7 @@ pub enum Direction {
 }
 
 /// What a command without options is of.
-#[derive(Debug, Drop)]
+#[derive(Drop)]
 pub struct Operand<'a> {
     /// The name of the file that is read; standard input where there is none.
     pub file: Option<&'a str>,
@@ -153,7 +153,7 @@ impl<'a> Model for Operand<'a> {
 }
 
 /// The name of a server or of a realm, as a text.
-#[derive(Debug, Drop)]
+#[derive(Drop)]
 pub struct NameText<'a> {
     /// The text.
     pub text: &'a str,
@@ -168,7 +168,7 @@ impl<'a> Model for NameText<'a> {
 }
 
 /// What is asked about a token.
-#[derive(Debug, Drop)]
+#[derive(Drop)]
 pub struct Accept<'a> {
     /// The name of the service's keytab: the option `--keytab`.
     pub keytab: Option<&'a str>,
@@ -213,7 +213,7 @@ impl<'a> Model for Accept<'a> {
 }
 
 /// What is asked for by the arguments.
-#[derive(Debug, Drop)]
+#[derive(Drop)]
 pub enum Command<'a> {
     /// Help: the option `--help`.
     Help,

@@ -1,6 +1,6 @@
 -- What Kerberos means as the mechanism of an acceptor (RFC 4121).
 use Rattle.std.proofs.Common.{◌≡◌, ◌∙◌, MutBor, refl, ap}
-use Rattle.std.specs.Prelude.{◌⊎◌, ◌||◌, ◌&&◌, ◌==◌, ◌+◌, ◌-◌, ◌/◌, ◌%◌, ◌^◌, nat_eq, nat_lt, if◌then◌else◌, drop, pos, ℕ, List, [], ◌∷◌, Bool, true, false, Option, Some, None, Vec, is_some, MatchBool}
+use Rattle.std.specs.Prelude.{◌||◌, ◌&&◌, ◌==◌, ◌+◌, ◌-◌, ◌/◌, ◌%◌, ◌^◌, nat_eq, nat_lt, if◌then◌else◌, drop, pos, ℕ, List, [], ◌∷◌, Bool, true, false, Option, Some, None, Vec, is_some, MatchBool}
 use Rattle.std.specs.Cmp.Lexicographic.{pointwise}
 use Rattle.std.specs.List.{starts_with}
 use Rattle.std.specs.declared.alloc.Global.{Global}
@@ -21,7 +21,6 @@ use Rattle.krb_accept.specs.Replies.{IsNoReply, IsReplyToken}
 use Rattle.krb_accept.specs.TokenRefusals.{memory}
 use Rattle.krb_accept.specs.Tokens.{IsTokenNotPresented, IsTokenPresented}
 use Rattle.krb_accept.specs.Wanted.{WantsReply}
-use Rattle.krb_accept.specs.declared.ap_rep.ReplyError.{ReplyError}
 use Rattle.krb_accept.specs.declared.ap_rep.ReplyError.TheVariants as replies
 use Rattle.krb_accept.specs.declared.token.PresentedToken.{PresentedToken}
 use Rattle.krb_spnego_rules.specs.Meaning.{IsSteady, Meaning}
