@@ -309,7 +309,7 @@ def try_document(realm):
     with open(os.path.join(TOP, "docs", "CLIENT.md"), encoding="utf-8") as file:
         code = textwrap.dedent(re.search(r"^## From Python\n\n[^\n]*\n\n((?:    [^\n]*\n|\n)+)", file.read(), re.MULTILINE)[1])
     path = realm.path("document")
-    for old, new in (("carol@HOME.TEST", USER), ("HTTP/www.home.test@HOME.TEST", "HTTP/localhost@" + REALM), ("/tmp/krb5cc_1000", path)):
+    for old, new in (("carol@HOME.TEST", USER), ("HTTP/www.home.test@HOME.TEST", "HTTP/localhost@" + REALM), ("carol.ccache", path)):
         expect(code.count(old) == 1, "docs/CLIENT.md has %s" % old)
         code = code.replace(old, new)
     sent, contexts, asked = [], [], getpass.getpass
