@@ -1,8 +1,17 @@
-"""The rows of the test programs: crates/TEST/stdin, in which a line `== NAME` begins a table."""
+"""The rows of the test programs: crates/TEST/stdin, in which a line `== NAME` begins a table; and those of tests/NAME.rows."""
 
 import os
+import sys
 
 TOP = os.path.dirname(os.path.dirname(os.path.abspath(__file__)))
+
+
+def asked(name):
+    """The rows of tests/NAME.rows, each with its columns and the lines that are expected of it."""
+    sys.path.insert(0, os.path.join(TOP, "tests"))
+    from rows import rows_of
+
+    return rows_of(os.path.join(TOP, "tests", name + ".rows"), "tests/%s.rows" % name)
 
 
 def lines_of(test, name):

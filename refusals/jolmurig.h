@@ -24,7 +24,7 @@
     "e6f5e1e8b4a0feb6c6c8632ec6370d6e883cf349201f824f4dea190aeaf03c982029bc2ef97bf838a210bbac89619bc1137e7b099756a7284121bed6" \
     "c61764b7585f0912fc2b63ad74e4e6ed5f3bf505"
 
-/* Rows `a-m2030` and `a-m1463` of crates/test_crypto/stdin: a token, and a keytab. The client's time of the first is 300 seconds before
+/* Rows `a-m2030` and `a-m1463` of tests/accepted.rows: a token, and a keytab. The client's time of the first is 300 seconds before
  * 2026-11-27T07:08:23Z; the kvno of the second's ticket is 257. */
 #define ACCEPTED_TOKEN \
     "608201f106092a864886f71201020201006e8201e0308201dca003020105a10302010ea20703050020000000a38201026181ff3081fca003020105a1" \

@@ -1,7 +1,7 @@
 #!/usr/bin/env python3
 """Writes the rows that `logins`, `refused` and `threads` read: the calls of an acceptor and of a client, and what they are to answer.
 
-Nothing here is the library's: tokens and replies are those of the tables `accepted` and `replies` of crates/test_crypto, with what their peers said of them; where a
+Nothing here is the library's: tokens and replies are those of tests/accepted.rows and tests/replies.rows, with what their peers said of them; where a
 ticket, a name's type, a version of a key stand in them a walker over tags and lengths finds; hashes of channel bindings (RFC 4121, 4.1.1.2), KRB-ERRORs (RFC 4120, 5.9.1)
 and keys of a password (RFC 8009, 4) are made by Python's hashlib and hmac. Columns, with tabs between:
 
@@ -27,7 +27,7 @@ import time
 
 sys.dont_write_bytecode = True
 sys.path.insert(0, os.path.join(os.path.dirname(os.path.abspath(__file__)), ".."))
-from tables import TOP, table_of  # noqa: E402
+from tables import TOP, asked  # noqa: E402
 
 BINDINGS = b"tls-server-end-point:" + bytes(range(32))  # of interop/acceptor, whose clients made the tokens
 PASSWORD = b"a password of nobody"
@@ -40,12 +40,8 @@ def rules(prefix):
 
 
 def told():
-    """What crates/test_crypto is to print, by the tables."""
-    with open(os.path.join(TOP, "crates", "test_crypto", "stdout"), encoding="utf-8") as file:
-        lines = file.read().splitlines()
-    accepted = [line for line in lines if "; entries " in line]
-    first = next(n for n, line in enumerate(lines) if line.startswith("k-"))
-    return accepted, lines[first:]
+    """The first line that is expected of each row of the two tables."""
+    return [[row.expected[0] for row in asked(name)] for name in ("accepted", "replies")]
 
 
 # Octets.
@@ -123,15 +119,13 @@ def listed(text):
     return b"".join(each.encode("ascii") + b"\xff" for each in [realm, *name.split("/")]) + b"\xfe"
 
 
-# Options of krb_accept, by the settings of a row (crates/test_crypto/src/accepted.rt).
+# Options of krb_accept, by the settings of a row (tests/acceptor.py).
 OPTIONS = {1: 1, 2: 2, 16: 4, 32: 16, 64: 1024}
 
 
 def accepted_rows(lines):
     numbers = rules("KRB_RULE_")
-    rows = table_of("test_crypto", "accepted", 6)
-    if len(rows) != len(lines):
-        raise SystemExit("expect_logins: crates/test_crypto has another count of rows than of lines")
+    rows = [row.columns for row in asked("accepted")]
     for (name, keytab, clock, bindings, settings, token, *terms), line in zip(rows, lines):
         # `logins` names no server and no realm.
         if terms:
@@ -187,9 +181,9 @@ def reply_row(row, line, error):
 
 def reply_rows(lines):
     numbers, before = rules("KRB_CLIENT_RULE_"), ["", ""]
-    for row, line in zip(table_of("test_crypto", "replies", 5), lines):
+    for row, line in zip([row.columns for row in asked("replies")], lines):
         if not line.startswith(row[0] + ": "):
-            raise SystemExit("expect_logins: crates/test_crypto has a row and another line: %s" % row[0])
+            raise SystemExit("expect_logins: tests/replies.rows has a row and another line: %s" % row[0])
         if row[1] == "0":
             code = int(re.search(r": error (\d+)", line)[1])
             before = [row[0], row[4]]
@@ -233,7 +227,7 @@ def error_octets(clock, microseconds, code, kind, components, realm, in_frame, d
 
 def error_rows():
     seen = set()
-    for row in table_of("test_crypto", "accepted", 6):
+    for row in [row.columns for row in asked("accepted")]:
         keytab = bytes.fromhex(row[1])
         if keytab in seen:
             continue

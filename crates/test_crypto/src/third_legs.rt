@@ -3,15 +3,12 @@
 //! A row is a name, a keytab, the service's time, the token of a client that is let in, the service's own AP-REP, its sequence number (four octets), and the message.
 //! For each row it prints what `confirm_third_leg` answers, what `check_third_leg` does, and the status of the call of the library for C.
 
-use crate::accepted::Service;
+use crate::service::Service;
 use krb_c_accept::{ConfirmAsked, confirm};
 use picky_krb::accept::{Accepted, ReplayCache, ThirdLegError, check_third_leg, confirm_third_leg};
 use picky_krb::der::IntegerAsn1;
 use std::alloc::{AllocError, Global};
 use test_rows::{Columns, RowError};
-
-/// An AP-REQ with no frame is taken, and an authenticator with any checksum.
-const TAKES_ALL: u32 = 3;
 
 /// Whether it is taken, or the rule that it breaks.
 fn text_of(alloc: Global, answered: Result<(), ThirdLegError>) -> Result<String, AllocError> {
@@ -106,7 +103,7 @@ pub(crate) fn answer(alloc: Global, mut columns: Columns<'_>) -> Result<String, 
     let name = columns.text()?;
     let keytab = columns.octets(alloc)?;
     let clock = columns.number::<i64>()?;
-    let service = Service::of(alloc, &keytab, clock, &[], TAKES_ALL)?;
+    let service = Service::of(alloc, &keytab, clock)?;
     let leg = leg_of(alloc, &mut columns)?;
     text_to(alloc, name, &service, &leg)
 }
