@@ -93,9 +93,10 @@ class Library:
     Each call is made again with each of its allocations refused, that one alone and all from it
     on: it has to answer that memory was wanting and nothing else, or, where it does without, the
     same as before; and to keep no block. What it answers as octets is asked for again with just
-    enough room, and with one octet less."""
+    enough room, and with one octet less. Without `refuses` each is made once."""
 
-    def __init__(self, file, header):
+    def __init__(self, file, header, refuses=True):
+        self.refuses = refuses
         self.numbers, self.calls = declared(header)
         statuses = header[header.index("typedef uint32_t krb_status") :]
         statuses = statuses[: statuses.index("};")]
@@ -122,7 +123,7 @@ class Library:
         """The answer of a call; `Fault` where it does not keep to what the header says of all."""
         room = room_for(given) if room is None else room
         answer = self.make(call, given, room)
-        if self.calls[call][0] == "krb_status":
+        if self.refuses and self.calls[call][0] == "krb_status":
             self.refuse(call, given, room, answer)
             self.press(call, given, answer)
         return answer

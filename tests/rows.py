@@ -17,7 +17,8 @@ def rows_of(path, file):
     it; each other line is a row: columns with tabs between."""
     rows = []
     with open(path, encoding="utf-8", newline="\n") as lines:
-        for number, line in enumerate(lines.read().removesuffix("\n").split("\n"), 1):
+        text = lines.read().removesuffix("\n")
+        for number, line in enumerate(text.split("\n") if text else [], 1):
             if line.startswith("#"):
                 continue
             if line == ">" or line.startswith("> "):
