@@ -1,7 +1,6 @@
-/* The calls of the cryptography and of the acceptor, and what they are made on. */
+/* The calls of the cryptography, and what they are made on. */
 #ifndef CALLS_H
 #define CALLS_H
-#include "accepted.h"
 #include "c_library.h"
 
 /* A call of crates/test_refusals by its name. It is made on the octets of these digits, or on one
@@ -60,7 +59,5 @@ static const struct call calls[] = {
     {.name = "encrypt_des", .count = 64, .most = ANY},
     {.name = "decrypt_des", .most = ANY},
     {.name = "fill_blocks", .count = 61, .octet = 0x5a, .most = ANY},
-    /* Whether a client is let in: tokens of real clients. */
-    ACCEPTED
 };
 #endif

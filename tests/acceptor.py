@@ -15,8 +15,8 @@ OPTIONS = {
     TRIPLE_DES: "TRIPLE_DES",
     ANONYMOUS: "ANONYMOUS",
 }
-# Octets that are random enough for a test.
-RANDOM = bytes([11]) * 48
+# Octets that are random enough for a test: of a confounder, and behind the first 16 of a subkey.
+RANDOM = bytes(range(48))
 # Key usages (RFC 4120, 7.5.1).
 OF_TICKET, OF_AUTHENTICATOR = 2, 11
 
@@ -36,7 +36,7 @@ def accepted(library, columns):
     before, token = (terms, keytab, b"", *names, bindings, b"", RANDOM), octets(token)
     told = library.accept(*before, token)
     if told.is_given:
-        lines = [f"{name}: {let_in(library, settings, keytab, before, token, told)}"]
+        lines = [f"{name}: {let_in(library, settings, before, token, told)}"]
     else:
         lines = [f"{name}: {refused(library, told)}"]
     if settings & FLIPPED:
@@ -53,7 +53,7 @@ def refused(library, told):
     return f"refused, {rule} {it.code}; entries 0; {by_c}"
 
 
-def let_in(library, settings, keytab, before, token, told):
+def let_in(library, settings, before, token, told):
     """Who is let in, and what is told of the context."""
     it, (client, server) = told.accepted, names_of(told.at(told.accepted.entry))
     line = f"{client} for {server}, flags {it.flags}, until {it.end_time}"
@@ -67,7 +67,9 @@ def let_in(library, settings, keytab, before, token, told):
     again = library.accept(*before, token)
     is_repeated = again.is_given and again.at(again.accepted.entry) == told.at(it.entry)
     line += "; again Repeat 34; entries 1" if is_repeated else "; again another entry"
-    alike = "alike" if is_alike(library, keytab, token, told) else "differs"
+    is_alike = is_of_token(library, before[1], token, told)
+    is_alike = is_alike and has_own_subkey(library, before, token, told)
+    alike = "alike" if is_alike else "differs"
     reply = "a reply" if it.reply.size else "no reply"
     without = library.accept(*before, token, room=0)
     is_counted = without.size == told.size and not any(bytes(without.accepted))
@@ -101,18 +103,34 @@ def quoted(octets_of_text):
     return text.replace("\b", "\\b").replace("\0", "\\0")
 
 
-def is_alike(library, keytab, token, told):
+def has_own_subkey(library, before, token, told):
+    """Whether the service's subkey is made of the random octets (krb.h), where one is asked for and
+    the client waits for an answer; and all else is told as without."""
+    terms = type(before[0]).from_buffer_copy(before[0])
+    terms.options |= library.numbers["KRB_ACCEPT_SUBKEY"]
+    it = library.accept(terms, *before[1:], token)
+    etype = told.accepted.session_etype
+    seed = RANDOM[16 : 16 + library.seed_size(etype)]
+    key = library.once("random_to_key", etype, seed).out if told.accepted.reply.size else b""
+    is_same = it.at(it.accepted.entry) == told.at(told.accepted.entry)
+    return is_same and it.at(it.accepted.own_subkey) == key
+
+
+def is_of_token(library, keytab, token, told):
     """Whether what the row does not have is that of the token: when the client was authenticated
     (RFC 4120, 5.3), and the credentials that it delegates (RFC 4121, 4.1.1)."""
     it, request = told.accepted, request_of(library, token)
-    sealed = [found(library, b"AP-REQ", path, request) for path in (b"ticket.enc-part.cipher", b"authenticator.cipher")]
-    part = opened_by_keytab(library, keytab, request, sealed[0])
+    sealed = found(library, b"AP-REQ", b"ticket.enc-part.cipher", request)
+    auth_time = found(
+        library, b"EncTicketPart", b"authtime", opened_by_keytab(library, keytab, sealed)
+    )
     session = it.session_etype, told.at(it.session_key), OF_AUTHENTICATOR
-    authenticator = library.once("open_authenticator", *session, sealed[1]).out
+    sealed = found(library, b"AP-REQ", b"authenticator.cipher", request)
+    authenticator = library.once("open_authenticator", *session, sealed).out
     checksum = found(library, b"Authenticator", b"cksum.checksum", authenticator)
     size = int.from_bytes(checksum[26:28], "little") if it.flags & 1 else 0
     is_delegated = told.at(it.delegated) == checksum[28 : 28 + size]
-    return is_delegated and it.auth_time == seconds_of(found(library, b"EncTicketPart", b"authtime", part))
+    return is_delegated and it.auth_time == seconds_of(auth_time)
 
 
 def request_of(library, token):
@@ -133,7 +151,7 @@ def seconds_of(text):
     return calendar.timegm(time.strptime(text.decode("ascii"), "%Y%m%d%H%M%SZ"))
 
 
-def opened_by_keytab(library, keytab, request, sealed):
+def opened_by_keytab(library, keytab, sealed):
     """The part of a ticket, opened by the first key of a keytab that does."""
     for etype, key in keys_of(keytab):
         opened = library.once("open_ticket_part", etype, key, OF_TICKET, sealed)

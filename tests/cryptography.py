@@ -49,8 +49,8 @@ def tokens(library, columns):
     """A row of `tokens`: an encryption type, a key, whether the acceptor sent the token, whether
     the key is the acceptor's subkey, a sequence number, the kind, a message, the token."""
     etype, key, sent, subkey, number, kind, message, token = columns
-    etype, number, key, message, token = int(etype), int(number), *map(octets, (key, message, token))
-    sent, subkey = sent == "1", subkey == "1"
+    etype, sent, subkey, number = int(etype), sent == "1", subkey == "1", int(number)
+    key, message, token = map(octets, (key, message, token))
     context, lines = (etype, key), []
     if kind == "mic":
         lines.append("made " + line_of(library.make_mic(*context, sent, subkey, number, message)))

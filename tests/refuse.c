@@ -1,5 +1,5 @@
-/* The allocator of the shared object that tests/run asks: it counts requests and blocks, and refuses.
- * The linker puts it before that of the C library (--wrap), for this object alone. */
+/* The allocator of the shared object that tests/run asks: it counts requests and blocks, and
+ * refuses. The linker puts it before that of the C library (--wrap), for this object alone. */
 
 typedef unsigned long size_t;
 

@@ -1,6 +1,5 @@
 //! The calls, by their names.
 
-use crate::acceptor::try_acceptor;
 use crate::cryptography::try_cryptography;
 use crate::keys::try_key;
 use crate::outcome::Rejection;
@@ -28,9 +27,6 @@ pub fn made_of(alloc: Global, input: &[u8]) -> Result<Vec<u8>, Rejection> {
     let Some((name, octets)) = split(input) else {
         return Err(Rejection::NoCall);
     };
-    if name == "accept" {
-        return try_acceptor(alloc, octets);
-    }
     let Some((call, number)) = name.split_once(' ') else {
         return try_cryptography(alloc, name, octets);
     };

@@ -1,11 +1,10 @@
-//! The program `refusals`: makes one call of the cryptography, or of the acceptor, and takes no memory but what that call takes.
+//! The program `refusals`: makes one call of the cryptography, and takes no memory but what that call takes.
 //!
 //! Its standard input is an octet, a name of so many octets, and the octets that the call is made on. It writes the octets that
 //! the call returns, and ends with status 0, or with that of its `Rejection`. `refusals/run` links it with C that fails its requests
 //! for memory, each in turn.
 #![tactic(auto)]
 
-mod acceptor;
 mod call;
 mod cryptography;
 mod keys;
