@@ -155,14 +155,16 @@ class Library:
 
     def press(self, call, given, answer):
         """The call again, with just enough room and with one octet less."""
-        size = answer.told.get("size", 0)
-        if not answer.is_given or not size or "out" not in answer.told:
+        arrays = [it for it in self.calls[call][1] if it.what == "told array"]
+        size = answer.told.get("size", answer.told.get("count", 0))
+        if not answer.is_given or not size or len(arrays) != 1:
             return
-        if self.make(call, given, size).plain() != answer.plain():
+        each = ctypes.sizeof(arrays[0].kind)
+        if self.make(call, given, size * each).plain() != answer.plain():
             raise Fault(f"krb_{call}: another answer with just enough room")
-        less = self.make(call, given, size - 1)
-        if less.status != ROOM or less.size != size:
-            raise Fault(f"krb_{call}: {less.name} with one octet less room than needed")
+        less = self.make(call, given, (size - 1) * each)
+        if less.status != ROOM or less.told.get("size", less.told.get("count")) != size:
+            raise Fault(f"krb_{call}: {less.name} with room for one less than needed")
 
     def make(self, call, given, room):
         """One call, as it is told."""
