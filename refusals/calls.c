@@ -24,9 +24,7 @@ int try_program(int count, char **words) {
     struct octets octets = {.count = 0};
     for (size_t i = 0; i < sizeof calls / sizeof *calls; i++) {
         const struct call *call = &calls[i];
-        if (call->digits) {
-            octets = octets_of(call->digits);
-        } else if (call->count) {
+        if (call->count) {
             octets.count = call->count;
             memset(octets.at, call->octet, call->count);
         }

@@ -3,7 +3,6 @@
 use crate::cryptography::try_cryptography;
 use crate::keys::try_key;
 use crate::outcome::Rejection;
-use crate::parts::try_part;
 use crate::suites::{suite_of, try_suite};
 use std::alloc::Global;
 
@@ -34,10 +33,7 @@ pub fn made_of(alloc: Global, input: &[u8]) -> Result<Vec<u8>, Rejection> {
         return Err(Rejection::NoCall);
     };
     match call {
-        "seal_part" | "open_part" => try_part(alloc, call, &suite, octets),
-        "derive_key" | "password_key" | "random_to_key" | "shared_secret" => {
-            try_key(alloc, call, &suite, octets)
-        }
+        "derive_key" | "shared_secret" => try_key(alloc, call, &suite, octets),
         _ => try_suite(alloc, call, &suite, octets),
     }
 }

@@ -2,8 +2,8 @@
 
 use crate::outcome::Rejection;
 use crate::suites::key_of;
+use krb_crypto::CipherSuite;
 use krb_crypto::diffie_hellman::{DhNonce, generate_key_from_shared_secret};
-use krb_crypto::{Cipher, CipherSuite};
 use krb_crypto_block::{AesSize, kdf_hmac_sha256, kdf_hmac_sha384};
 use krb_crypto_message::{KERBEROS, aes, des};
 use std::alloc::Global;
@@ -17,8 +17,6 @@ pub fn try_key(
 ) -> Result<Vec<u8>, Rejection> {
     match call {
         "derive_key" => derived(alloc, suite),
-        "password_key" => Ok(suite.generate_key_from_password(alloc, octets, b"EXAMPLE.COMtest1")?),
-        "random_to_key" => made_of_seed(alloc, suite, octets),
         "shared_secret" => agreed(alloc, suite, octets),
         _ => Err(Rejection::NoCall),
     }
@@ -39,14 +37,6 @@ fn derived(alloc: Global, suite: &CipherSuite) -> Result<Vec<u8>, Rejection> {
         CipherSuite::Aes256CtsHmacSha384192 => kdf_hmac_sha384(alloc, key, KERBEROS, 256)?,
     };
     Ok(made)
-}
-
-fn made_of_seed(alloc: Global, suite: &CipherSuite, octets: &[u8]) -> Result<Vec<u8>, Rejection> {
-    let seed = Vec::from_slice(alloc, octets)?;
-    if seed.len() < suite.seed_bit_len() / 8 {
-        return Err(Rejection::NoCall);
-    }
-    Ok(suite.random_to_key(alloc, seed)?)
 }
 
 fn agreed(alloc: Global, suite: &CipherSuite, octets: &[u8]) -> Result<Vec<u8>, Rejection> {

@@ -9,7 +9,6 @@ mod call;
 mod cryptography;
 mod keys;
 mod outcome;
-mod parts;
 mod suites;
 
 use call::made_of;

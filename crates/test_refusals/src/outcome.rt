@@ -1,9 +1,7 @@
 //! Why a call made nothing.
 
 use krb_crypto::diffie_hellman::DiffieHellmanError;
-use krb_crypto::seal::PartError;
 use krb_crypto_block::KerberosCryptoError;
-use krb_der::Asn1DerError;
 use std::alloc::{AllocError, AllocFailed};
 
 /// Why a call made nothing.
@@ -48,24 +46,6 @@ impl From<KerberosCryptoError> for Rejection {
         match error {
             KerberosCryptoError::OutOfMemory => Rejection::OutOfMemory,
             _ => Rejection::Other,
-        }
-    }
-}
-
-impl From<Asn1DerError> for Rejection {
-    fn from(error: Asn1DerError) -> Rejection {
-        match error {
-            Asn1DerError::OutOfMemory => Rejection::OutOfMemory,
-            _ => Rejection::Other,
-        }
-    }
-}
-
-impl From<PartError> for Rejection {
-    fn from(error: PartError) -> Rejection {
-        match error {
-            PartError::Crypto(error) => Rejection::from(error),
-            PartError::Der(error) => Rejection::from(error),
         }
     }
 }

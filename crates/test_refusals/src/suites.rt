@@ -5,7 +5,7 @@ use krb_crypto::{Checksum, Cipher, CipherSuite};
 use std::alloc::Global;
 
 /// The key usage of a ticket's part (RFC 4120, 7.5.1).
-pub const TICKET: i32 = 2;
+const TICKET: i32 = 2;
 
 /// The suite of this number.
 pub fn suite_of(number: &str) -> Option<CipherSuite> {
@@ -33,7 +33,7 @@ pub fn key_of(suite: &CipherSuite) -> &'static [u8] {
 }
 
 /// A confounder of the suite.
-pub fn confounder_of(suite: &CipherSuite) -> &'static [u8] {
+fn confounder_of(suite: &CipherSuite) -> &'static [u8] {
     match suite {
         CipherSuite::Des3CbcSha1Kd => b"confound",
         _ => b"a confounder, 16",
