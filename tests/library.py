@@ -231,11 +231,13 @@ def is_told(told):
 
 
 def written(parameter, given, room):
-    """What a call may write: the caller's own struct, a new value, or so much room."""
+    """What a call may write: the caller's own struct, a value that is not 0, or so much room; a
+    kept key is zeros."""
     if parameter.what == "changed":
         return parameter.kind.from_buffer_copy(given.pop(0))
     if parameter.what == "told":
-        return parameter.kind()
+        filled = 0 if parameter.name == "kept" else UNTOUCHED
+        return parameter.kind.from_buffer_copy(bytes([filled]) * ctypes.sizeof(parameter.kind))
     count = room // ctypes.sizeof(parameter.kind)
     octets = bytes([UNTOUCHED]) * (count * ctypes.sizeof(parameter.kind))
     return (parameter.kind * count).from_buffer_copy(octets)
