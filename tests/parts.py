@@ -8,6 +8,9 @@ import tempfile
 
 from rows import flipped, octets
 
+# How many seconds a run may take, also where other work takes the processors.
+LIMIT = 600
+
 
 def parts(library, columns):
     """A row of `parts`: an encryption type, a key, a key usage, a confounder, a part, and what it
@@ -50,7 +53,10 @@ def run(program, words, given):
     with tempfile.TemporaryFile() as file:
         file.write(given)
         file.seek(0)
-        ran = subprocess.run([program, *words], stdin=file, capture_output=True, timeout=60)
+        try:
+            ran = subprocess.run([program, *words], stdin=file, capture_output=True, timeout=LIMIT)
+        except subprocess.TimeoutExpired:
+            return f"not ended after {LIMIT} seconds", b"", b""
         left = len(given) - os.lseek(file.fileno(), 0, os.SEEK_CUR)
     return f"status {ran.returncode}, {left} octets left", ran.stdout, ran.stderr
 
