@@ -39,7 +39,8 @@ def lines_of(call, answer):
         return [answer.name if is_silent else f"{answer.name}, and tells something"]
     out = answer.told.get("out", b"")
     if call in PAGES:
-        return [answer.name, *out.decode("ascii").removesuffix("\n").split("\n")]
+        *lines, behind = out.decode("ascii").split("\n")
+        return [answer.name, *lines, *([f"{behind}, and no line feed"] if behind else [])]
     if call in NAMES:
         return [f'{answer.name} "{out.decode("ascii")}"']
     words = [answer.name, *([digits_of(out)] if out else [])]
