@@ -48,7 +48,7 @@ use krb_types::data_types::{AuthorizationData, Ticket};
 use std::alloc::{AllocError, Global};
 
 /// What a file of entries is.
-#[derive(Clone, Copy, PartialEq, Eq, Debug)]
+#[derive(Clone, Copy, PartialEq, Eq)]
 pub enum Entries {
     /// A keytab.
     Keytab,

@@ -15,7 +15,7 @@ use std::alloc::{AllocError, Global};
 use std::io;
 
 /// Why nothing is decided of a token.
-#[derive(Clone, Copy, Debug, PartialEq, Eq)]
+#[derive(Clone, Copy, PartialEq, Eq)]
 pub enum Undecided {
     /// The file of the option `--keytab` could not be read.
     KeytabFile,
@@ -34,7 +34,7 @@ pub enum Undecided {
 }
 
 /// Why a run is rejected.
-#[derive(Debug, Drop)]
+#[derive(Drop)]
 pub enum Failure {
     /// The arguments are no command.
     Arguments,

@@ -11,7 +11,7 @@ use std::alloc::Global;
 use std::io;
 
 /// Why the octets of a file were not had.
-#[derive(Debug, Clone, Copy, PartialEq, Eq)]
+#[derive(Clone, Copy, PartialEq, Eq)]
 pub enum FileError {
     /// There is no such file, or it cannot be read.
     Unreadable,

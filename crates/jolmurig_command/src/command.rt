@@ -4,7 +4,7 @@ use krb_accept::PacCheck;
 use std::marker::Model;
 
 /// What is written of a page.
-#[derive(Clone, Copy, PartialEq, Eq, Debug)]
+#[derive(Clone, Copy, PartialEq, Eq)]
 pub enum Output {
     /// Its indented lines.
     Text,
@@ -19,7 +19,7 @@ pub enum Output {
 }
 
 /// Where keys are.
-#[derive(Clone, Copy, PartialEq, Eq, Debug)]
+#[derive(Clone, Copy, PartialEq, Eq)]
 pub enum SourceKind {
     /// A key, as a text: the option `--key`.
     Key,
@@ -104,7 +104,7 @@ impl<'a> Model for Show<'a> {
 }
 
 /// A format of tickets with their keys.
-#[derive(Clone, Copy, PartialEq, Eq, Debug)]
+#[derive(Clone, Copy, PartialEq, Eq)]
 pub enum Format {
     /// A KRB-CRED (RFC 4120, 5.8) whose part is in the clear: `kirbi`.
     Kirbi,
@@ -128,7 +128,7 @@ impl<'a> Model for TypeName<'a> {
 }
 
 /// Which way a message goes through a proxy in front of a KDC (MS-KKDCP).
-#[derive(Clone, Copy, PartialEq, Eq, Debug)]
+#[derive(Clone, Copy, PartialEq, Eq)]
 pub enum Direction {
     /// From a client to a KDC: `request`.
     Request,

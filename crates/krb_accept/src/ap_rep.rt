@@ -28,7 +28,7 @@ use std::alloc::{AllocError, Global};
 use std::fmt;
 
 /// Why no AP-REP is made.
-#[derive(Debug, Clone, Copy, PartialEq, Eq)]
+#[derive(Clone, Copy, PartialEq, Eq)]
 pub enum ReplyError {
     /// The session key is of no suite, or has not as many octets as the suite's keys.
     Key,

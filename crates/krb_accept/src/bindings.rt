@@ -8,7 +8,7 @@ use md5::{Digest, Md5};
 
 /// What a channel is bound to (RFC 2744, 3.11; RFC 4121, 4.1.1.2): the addresses of both sides, mostly none (type 0 and no
 /// octets), and data of the application, as `tls-server-end-point:` and a hash (RFC 5929).
-#[derive(Debug, Drop, Clone, Copy)]
+#[derive(Drop, Clone, Copy)]
 pub struct ChannelBindings<'a> {
     /// The type of the initiator's address; 0 where there is none.
     pub initiator_type: u32,

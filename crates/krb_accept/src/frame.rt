@@ -11,7 +11,7 @@ use std::alloc::{AllocError, Global};
 const TOKEN: u8 = 0x60;
 
 /// What an inner token of Kerberos is (RFC 4121, 4.1, TOK_ID).
-#[derive(Debug, Clone, Copy, PartialEq, Eq)]
+#[derive(Clone, Copy, PartialEq, Eq)]
 pub enum InnerToken {
     /// KRB_AP_REQ, 01 00.
     ApReq,

@@ -4,7 +4,7 @@ ghost use Rattle.std.specs.Prelude.{◌≡◌, None, false};
 ghost use Rattle.krb_accept.specs.declared.settings.PacCheck.TheVariants as PacCheck;
 
 /// What a service does with the PAC of a ticket (MS-PAC): the one AD-WIN2K-PAC of an AD-IF-RELEVANT of its authorization data.
-#[derive(Debug, Clone, Copy, PartialEq, Eq)]
+#[derive(Clone, Copy, PartialEq, Eq)]
 pub enum PacCheck {
     /// It is not verified, and no PAC is handed out.
     Ignored,
@@ -17,7 +17,7 @@ pub enum PacCheck {
 }
 
 /// What a service asks of tokens beside its terms.
-#[derive(Debug, Clone, Copy, PartialEq, Eq)]
+#[derive(Clone, Copy, PartialEq, Eq)]
 pub struct Settings {
     /// The hash of the service's channel bindings (RFC 4121, 4.1.1.2), which a client's have to be; with `None` the service has none, and
     /// those of a client are not compared.

@@ -9,7 +9,7 @@ use std::alloc::AllocError;
 use std::fmt;
 
 /// Why a token is refused: the first rule that it breaks, in the order of the variants; but the rules of the replay cache come last.
-#[derive(Debug, Clone, Copy, PartialEq, Eq)]
+#[derive(Clone, Copy, PartialEq, Eq)]
 pub enum TokenRefusal {
     /// The octets are not the one encoding of a token of Kerberos with the token id of an AP-REQ (RFC 2743, 3.1; RFC 4121, 4.1).
     Frame,

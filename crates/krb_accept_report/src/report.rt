@@ -47,7 +47,7 @@ impl<'a> Model for Question<'a> {
 }
 
 /// What is said of a token.
-#[derive(Debug, Drop)]
+#[derive(Drop)]
 pub struct Report {
     /// Whether the client is let in.
     pub accepts: bool,
@@ -56,7 +56,7 @@ pub struct Report {
 }
 
 /// Why nothing is said of a token.
-#[derive(Debug, Clone, Copy, PartialEq, Eq)]
+#[derive(Clone, Copy, PartialEq, Eq)]
 pub enum ReportError {
     /// The keytab is none: its first error.
     Keytab(KeytabError),

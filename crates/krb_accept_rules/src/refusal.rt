@@ -8,7 +8,7 @@ use std::alloc::AllocError;
 use std::fmt;
 
 /// A rule that a request keeps, named by its breach. The variants are in the order of the rules.
-#[derive(Clone, Copy, Debug, PartialEq, Eq)]
+#[derive(Clone, Copy, PartialEq, Eq)]
 pub enum Rule {
     /// The octets are the one encoding of an AP-REQ (RFC 4120, 5.5.1).
     NotRequest,
@@ -154,7 +154,7 @@ impl fmt::Display for Rule {
 }
 
 /// Why a client is not let in: the first rule that is broken, and what was seen of it.
-#[derive(Clone, Copy, Debug, PartialEq, Eq)]
+#[derive(Clone, Copy, PartialEq, Eq)]
 pub struct Refusal {
     /// The first rule that is broken.
     pub rule: Rule,

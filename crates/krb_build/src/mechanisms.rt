@@ -10,7 +10,7 @@ use krb_der_x509::ObjectIdentifierAsn1;
 use std::alloc::{AllocError, Global};
 
 /// A security mechanism. `krb_registry::mechanism_name` has its name by its object identifier in dotted numbers.
-#[derive(Debug, Clone, Copy, PartialEq, Eq)]
+#[derive(Clone, Copy, PartialEq, Eq)]
 pub enum Mechanism {
     /// Kerberos, 1.2.840.113554.1.2.2 (RFC 4121, 1; RFC 1964, 1).
     Kerberos,

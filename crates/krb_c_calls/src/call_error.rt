@@ -11,7 +11,7 @@ pub const ROOM: u32 = 1;
 
 /// Why a call refuses: the names and the numbers that `krb_status` of `krb.h` has from 2 on.
 /// Lengths are in octets.
-#[derive(Clone, Copy, Debug, PartialEq, Eq)]
+#[derive(Clone, Copy, PartialEq, Eq)]
 pub enum CallError {
     /// An allocation failed.
     Memory = 2,

@@ -15,7 +15,7 @@ use krb_show_text::{json_of_page, text_of_page, text_of_page_with_places};
 use std::alloc::{AllocError, Global};
 
 /// How a page is written: as text or as JSON, with the places of its values or without.
-#[derive(Clone, Copy, PartialEq, Eq, Debug)]
+#[derive(Clone, Copy, PartialEq, Eq)]
 pub struct Style {
     /// As JSON, and not as text.
     pub is_json: bool,

@@ -30,7 +30,7 @@ const AS_REP: u8 = 0x6b;
 
 /// An exchange for a first ticket, between two messages. Each of its fields is plain: a caller may
 /// keep them as it likes, and make the exchange of them again.
-#[derive(Debug, Drop)]
+#[derive(Drop)]
 pub struct InitialExchange {
     /// What is asked for; its nonce is that of the last request.
     pub asked: Asked,
@@ -42,7 +42,7 @@ pub struct InitialExchange {
 }
 
 /// What follows on octets of the KDC.
-#[derive(Debug, Drop)]
+#[derive(Drop)]
 pub enum InitialStep {
     /// These octets go to the KDC: an AS-REQ.
     Send(Vec<u8>),

@@ -2,7 +2,7 @@
 
 /// The client's clock, and fresh random numbers, for one step. Each step has its own: the nonce is
 /// that of the request that the step makes, and the octets are the confounder of what it seals.
-#[derive(Debug, Drop, Clone, Copy)]
+#[derive(Drop, Clone, Copy)]
 pub struct Moment {
     /// The client's time, in seconds since 1 January 1970, 00:00:00 UTC.
     pub seconds: i64,

@@ -24,7 +24,7 @@ const TGS_REP: u8 = 0x6d;
 
 /// An exchange for a further ticket, between two messages. Each of its fields is plain: a caller
 /// may keep them as it likes, and make the exchange of them again.
-#[derive(Debug, Drop)]
+#[derive(Drop)]
 pub struct ServiceExchange {
     /// What is asked for; its nonce is that of the last request.
     pub asked: Asked,
@@ -37,7 +37,7 @@ pub struct ServiceExchange {
 }
 
 /// What follows on octets of the KDC.
-#[derive(Debug, Drop)]
+#[derive(Drop)]
 pub enum ServiceStep {
     /// These octets go to the KDC: a TGS-REQ.
     Send(Vec<u8>),

@@ -5,7 +5,7 @@ use crate::requests::LentKey;
 use krb_types::data_types::Ticket;
 
 /// How a client asks, beside what it asks for.
-#[derive(Debug, Drop, Clone, Copy)]
+#[derive(Drop, Clone, Copy)]
 pub struct Terms<'a> {
     /// The options of its requests, by their numbers (RFC 4120, 5.4.1: KDCOptions), 0 to 31.
     pub options: &'a [usize],
@@ -24,7 +24,7 @@ pub struct Terms<'a> {
 }
 
 /// By what a client asks for a further ticket (RFC 4120, 3.3).
-#[derive(Debug, Drop, Clone, Copy)]
+#[derive(Drop, Clone, Copy)]
 pub struct ByTicket<'a> {
     /// The ticket for the KDC.
     pub ticket: &'a Ticket,

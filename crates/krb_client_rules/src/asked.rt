@@ -5,7 +5,7 @@ use krb_types::data_types::{PrincipalName, Realm};
 
 /// What a client asked a KDC for, as the reply has to answer it (RFC 4120, 3.1.5 and 3.3.4). It
 /// asks for a ticket with no addresses.
-#[derive(Debug, Drop)]
+#[derive(Drop)]
 pub struct Asked {
     /// The realm of the client whom the ticket is to name.
     pub crealm: Realm,
@@ -38,7 +38,7 @@ pub struct Asked {
 }
 
 /// The client's clock.
-#[derive(Debug, Clone, Copy, PartialEq, Eq)]
+#[derive(Clone, Copy, PartialEq, Eq)]
 pub struct Clock {
     /// The time, in seconds since 1 January 1970, 00:00:00 UTC.
     pub seconds: i64,

@@ -8,7 +8,7 @@ use krb_enc_parts::data_types::EncApRepPartInner;
 use krb_types::view::unix_seconds;
 
 /// The time of the authenticator that was sent.
-#[derive(Debug, Clone, Copy, PartialEq, Eq)]
+#[derive(Clone, Copy, PartialEq, Eq)]
 pub struct Sent {
     /// ctime, in seconds since 1 January 1970, 00:00:00 UTC.
     pub seconds: i64,

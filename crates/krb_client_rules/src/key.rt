@@ -3,7 +3,7 @@
 use krb_crypto::CipherSuite;
 
 /// A key and its suite.
-#[derive(Debug, Drop)]
+#[derive(Drop)]
 pub struct Key {
     /// The suite.
     pub suite: CipherSuite,

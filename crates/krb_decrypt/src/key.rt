@@ -8,7 +8,7 @@ use std::alloc::{AllocError, Global};
 use std::marker::Model;
 
 /// A key, and what it is called where it is said that it decrypted a part: any octets.
-#[derive(Debug, Drop)]
+#[derive(Drop)]
 pub struct Key {
     /// The suite that the key is of.
     pub suite: CipherSuite,

@@ -4,7 +4,7 @@ use crate::usage::Usage;
 use krb_schema::Item;
 
 /// A decrypted part.
-#[derive(Debug, Drop)]
+#[derive(Drop)]
 pub struct Part {
     /// What the standard calls its type, as `EncTicketPart`.
     pub type_name: &'static str,
@@ -15,7 +15,7 @@ pub struct Part {
 }
 
 /// Why a part is not decrypted.
-#[derive(Clone, Copy, PartialEq, Eq, Debug)]
+#[derive(Clone, Copy, PartialEq, Eq)]
 pub enum Reason {
     /// Its encryption type is that of no suite.
     TypeNotSupported,
@@ -26,7 +26,7 @@ pub enum Reason {
 }
 
 /// What keys make of an encrypted part.
-#[derive(Debug, Drop)]
+#[derive(Drop)]
 pub enum Outcome {
     /// There is no key.
     NotTried,

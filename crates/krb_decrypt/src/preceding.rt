@@ -10,7 +10,7 @@ use krb_show::{Form, Token};
 use std::alloc::{AllocError, Global};
 
 /// What stands before a token.
-#[derive(Clone, Copy, Debug)]
+#[derive(Clone, Copy)]
 pub struct Preceding {
     /// The role of the struct that began last before it.
     pub role: Role,

@@ -6,7 +6,7 @@ ghost use Rattle.krb_decrypt.specs.Usages.{number_of, type_of, usages_of};
 use krb_schema::Role;
 
 /// What a key encrypts: the key usages (RFC 4120, 7.5.1) under which messages have encrypted parts.
-#[derive(Clone, Copy, PartialEq, Eq, Debug)]
+#[derive(Clone, Copy, PartialEq, Eq)]
 pub enum Usage {
     /// 1: the time stamp of PA-ENC-TIMESTAMP, under the client's key.
     PaEncTimestamp,

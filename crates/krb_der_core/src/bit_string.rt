@@ -48,8 +48,9 @@ fn power_of_two(n: u8) -> u8
     1u8 << n
 }
 
-/// Whether the unused bits are at most seven and zeros, and none without octets.
-fn are_bits(octets: &[u8], spare: u8) -> bool
+/// Whether octets and the number of unused bits in the last one are those of a BIT STRING: the unused bits are at most
+/// seven and zeros, and none without octets (X.690, 8.6.2 and 11.2.1).
+pub fn are_bits(octets: &[u8], spare: u8) -> bool
     ensures { MatchBool result (IsBits (record { octets = octets.now; spare = spare })) (IsBits (record { octets = octets.now; spare = spare }) → ⊥) }
 {
     if spare > 7 {

@@ -185,7 +185,7 @@ fn number_at(content: &[u8], index: usize) -> u8
     10 * (content[index] % 16) + content[index + 1] % 16
 }
 
-/// The time whose digits are at their places in a content, or `InvalidData` where the calendar has no such time. An octet
+/// The time whose digits are at their places in octets, or `InvalidData` where the calendar has no such time. An octet
 /// that is no digit counts as some number too.
 fn time_read(content: &[u8]) -> Result<GeneralizedTimeAsn1, Asn1DerError>
     requires { length content.now ≡ 15 }
@@ -203,6 +203,24 @@ fn time_read(content: &[u8]) -> Result<GeneralizedTimeAsn1, Asn1DerError>
     )
 }
 
+/// The time that has this content, `YYYYMMDDHHMMSSZ` in ASCII (RFC 4120, 5.2.3), or `InvalidData`. It takes no memory.
+pub fn time_of_content(content: &[u8]) -> Result<GeneralizedTimeAsn1, Asn1DerError>
+    ensures valid { IfOk result IsRealTime }
+    ensures found { IfOk result (λ t. content.now ≡ time_content t) }
+    ensures rejected { IfErr result (λ e. (t : Time) → IsRealTime t → content.now ≡ time_content t → ⊥) }
+    ensures error { IfErr result (λ e. e ≡ errors.InvalidData) }
+{
+    if content.len() != CONTENT_LENGTH {
+        return Err(Asn1DerError::InvalidData);
+    }
+    let time = time_read(content)?;
+    // The time's content equals these octets only where each is the digit or the `Z` of its place.
+    if time.octets().as_slice() != content {
+        return Err(Asn1DerError::InvalidData);
+    }
+    Ok(time)
+}
+
 impl Content for GeneralizedTimeAsn1 {
     ghost octets = { time_content };
 
@@ -211,15 +229,7 @@ impl Content for GeneralizedTimeAsn1 {
     ghost one_content = { time_one_content };
 
     fn read_content(_alloc: Global, content: &[u8]) -> Result<Self, Asn1DerError> {
-        if content.len() != CONTENT_LENGTH {
-            return Err(Asn1DerError::InvalidData);
-        }
-        let time = time_read(content)?;
-        // The time's content equals these octets only where each is the digit or the `Z` of its place.
-        if time.octets().as_slice() != content {
-            return Err(Asn1DerError::InvalidData);
-        }
-        Ok(time)
+        time_of_content(content)
     }
 }
 

@@ -53,8 +53,8 @@ impl Model for IntegerAsn1 {
     ghost invariant = { λ s. IsHeld s.count s.few s.more.items };
 }
 
-/// Whether there is an octet, and the first is not redundant (X.690, 8.3.2).
-fn is_shortest(octets: &[u8]) -> bool
+/// Whether octets are the content of an INTEGER: there is one, and the first is not redundant (X.690, 8.3.2).
+pub fn is_shortest(octets: &[u8]) -> bool
     ensures { MatchBool result (IsShortest octets.now) (IsShortest octets.now → ⊥) }
 {
     match octets {

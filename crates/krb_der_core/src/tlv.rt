@@ -10,8 +10,8 @@ ghost use Rattle.krb_der_core.specs.declared.error.Asn1DerError.TheVariants as e
 use crate::error::Asn1DerError;
 use std::alloc::AllocError;
 
-/// The number that the octets represent in base 256, highest octet first.
-pub(crate) fn number_of(octets: &[u8]) -> usize
+/// The number that the octets represent in base 256, highest octet first; none represent 0.
+pub fn number_of(octets: &[u8]) -> usize
     requires { length octets.now ≤ 8 }
     ensures { result ≡ number_from_digits 256 octets.now }
 {

@@ -1,6 +1,5 @@
 -- Contents of primitive elements, by what a check of them says.
-use Rattle.std.proofs.Common.{◌≡◌, ℕ, zero, suc, ℤ, pos, negsuc, inl, inr, ◌<◌, ◌≤◌, ◌*◌, ◌-◌, ◌^◌, Bool, true, false, not, nat_eq, List, [], ◌∷◌, ◌++◌, length, get_or, drop, slice_index, refl, sym, ap, ◌∙◌, subst, append_assoc, arith, MatchBool}
-use Rattle.std.specs.Cmp.Lexicographic.{bytes_decides, pointwise}
+use Rattle.std.proofs.Common.{◌≡◌, ℕ, zero, suc, ℤ, pos, negsuc, inl, inr, ◌<◌, ◌≤◌, ◌*◌, ◌-◌, ◌^◌, Bool, true, false, List, [], ◌∷◌, ◌++◌, length, get_or, drop, slice_index, refl, sym, ap, ◌∙◌, subst, append_assoc, arith, MatchBool}
 use Rattle.std.specs.Int.{w64}
 use Rattle.std.specs.Prelude.{FitsSigned}
 use Rattle.std.specs.List.{AllByRecursion, flat_map}
@@ -8,7 +7,6 @@ use Rattle.std.specs.Int.Digits.{number_from_digits, AllBelowBase}
 use Rattle.std.proofs.lemmas.Bool.{cases_lt}
 use Rattle.std.proofs.lemmas.List.{append-nil}
 use Rattle.krb_der_core.specs.Errors.{PrimitiveError}
-use Rattle.krb_der_core.specs.GeneralizedTime.{IsRealTime, Time, time_content, time_read}
 use Rattle.krb_der_core.specs.Integer.{IsShortest, inverted, shortest, whole_number}
 use Rattle.krb_der_core.specs.IntegerLaws.{shortest_is, shortest_of_number}
 use Rattle.krb_der_core.specs.Reading.{TakesPrefix}
@@ -16,7 +14,6 @@ use Rattle.krb_der_core.specs.Tlv.{tlv}
 use Rattle.krb_der_core.specs.TlvLaws.{tlv_same}
 use Rattle.krb_der_core.specs.declared.error.Asn1DerError.TheVariants as errors
 use Rattle.krb_der_core.proofs.IntegerBounds.{is_inverted, is_natural, more_than_eight}
-use Rattle.krb_der_core.proofs.TimesRead.{none_written}
 use Rattle.krb_der_x509.proofs.ObjectIdentifiers.{below_push}
 use Rattle.krb_der_x509.specs.ObjectIdentifier.{IsArcs, arcs_content, sub_identifier}
 use Rattle.krb_schema.specs.Faults.{refused_at}
@@ -68,15 +65,6 @@ pub is_few : (content : List ℕ) (n : ℕ) → AllBelowBase 256 content → IsS
 is_few content n below short few small is less =
     let whole : shortest (whole_number content) ≡ content = shortest_of_number content below short in
     (n, less, sym whole ∙ ap shortest (is_natural (whole_number content) content n (sym whole) few small is).number)
-
--- ---- GeneralizedTime
-
--- the time that was read, where it is written so
-pub time_so : (content written : List ℕ) (t : Time) (same : Bool) → t ≡ time_read content → IsRealTime (time_read content) → written ≡ time_content t
-    → same ≡ pointwise nat_eq written content → MatchBool same (Has IsRealTime time_content content) (HasNone IsRealTime time_content content)
-time_so content written t true reported real octets tested =
-    (t, subst IsRealTime (sym reported) real, sym ((bytes_decides written content).0 (sym tested)) ∙ octets)
-time_so content written t false reported real octets tested = none_written content written t true reported octets (ap not tested) refl
 
 -- ---- OBJECT IDENTIFIER
 

@@ -1,16 +1,15 @@
 //! Contents of INTEGERs, BIT STRINGs, BOOLEANs, GeneralStrings and OBJECT IDENTIFIERs.
 
-ghost use Rattle.std.specs.Prelude.{◌≡◌, ◌<◌, ◌≤◌, ◌^◌, ℤ, pos, Bool, length, IfErr, IfOk, MatchBool, OnOk};
-ghost use Rattle.std.specs.Int.Digits.{number_from_digits};
+ghost use Rattle.std.specs.Prelude.{◌≡◌, ◌<◌, ◌^◌, ℤ, pos, Bool, IfErr, MatchBool, OnOk};
 ghost use Rattle.std.specs.Str.{IsAscii};
 ghost use Rattle.krb_der_core.specs.BitString.{IsBits, bits_content};
-ghost use Rattle.krb_der_core.specs.Integer.{IsShortest, shortest};
+ghost use Rattle.krb_der_core.specs.Integer.{shortest};
 ghost use Rattle.krb_der_core.specs.Primitive.{bool_content};
 ghost use Rattle.krb_der_x509.specs.ObjectIdentifier.{IsArcs, arcs_content};
 ghost use Rattle.krb_der_x509.specs.ObjectIdentifierErrors.{ArcsError};
 ghost use Rattle.krb_encoding_check.specs.Contents.{Has, HasNone};
 
-use krb_der_core::Asn1DerError;
+use krb_der_core::{Asn1DerError, are_bits, is_shortest, number_of};
 use krb_der_x509::read_sub_identifier;
 use std::str;
 
@@ -18,36 +17,13 @@ use std::str;
 const U64_OCTETS: usize = 8;
 
 /// The largest number of 32 bits.
-const MOST: u64 = 0xffff_ffff;
-
-/// Whether there is an octet, and the first is not redundant (X.690, 8.3.2).
-fn is_shortest(octets: &[u8]) -> bool
-    ensures { MatchBool result (IsShortest octets.now) (IsShortest octets.now → ⊥) }
-{
-    match octets {
-        [] => false,
-        [_] => true,
-        [first, second, ..] => *first != if *second < 128 { 0x00 } else { 0xff },
-    }
-}
+const MOST: usize = 0xffff_ffff;
 
 /// Whether a content is that of an INTEGER.
 pub(crate) fn is_integer(content: &[u8]) -> bool
     ensures { MatchBool result (Has {A = ℤ} (λ v. Unit {0}) shortest content.now) (HasNone {A = ℤ} (λ v. Unit {0}) shortest content.now) }
 {
     is_shortest(content)
-}
-
-/// The number that octets represent in base 256, highest octet first.
-fn number_of(octets: &[u8]) -> u64
-    requires { length octets.now ≤ 8 }
-    ensures { result ≡ number_from_digits 256 octets.now }
-{
-    let mut n = 0u64;
-    for octet in octets {
-        n = n * 256 + *octet as u64;
-    }
-    n
 }
 
 /// Whether a content is that of an INTEGER from 0 to 2^32 - 1.
@@ -68,27 +44,6 @@ pub(crate) fn is_unsigned(content: &[u8]) -> bool
         return false;
     }
     true
-}
-
-/// Two to the power of n.
-fn power_of_two(n: u8) -> u8
-    requires { n ≤ 7 }
-    ensures { result ≡ 2 ^ n }
-{
-    1u8 << n
-}
-
-/// Whether the unused bits are at most seven and zeros, and none without octets.
-fn are_bits(octets: &[u8], spare: u8) -> bool
-    ensures { MatchBool result (IsBits (record { octets = octets.now; spare = spare })) (IsBits (record { octets = octets.now; spare = spare }) → ⊥) }
-{
-    if spare > 7 {
-        return false;
-    }
-    if octets.is_empty() {
-        return spare == 0;
-    }
-    octets[octets.len() - 1] % power_of_two(spare) == 0
 }
 
 /// Whether a content is that of a BIT STRING.

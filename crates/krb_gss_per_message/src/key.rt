@@ -21,7 +21,7 @@ pub(crate) const SEALED: u8 = 2;
 pub(crate) const ACCEPTOR_SUBKEY: u8 = 4;
 
 /// Who sends a token (RFC 4121, 4.2.2).
-#[derive(Debug, Drop, Clone, Copy, PartialEq, Eq)]
+#[derive(Drop, Clone, Copy, PartialEq, Eq)]
 pub enum Sender {
     /// The side that began the context.
     Initiator,
@@ -32,7 +32,7 @@ pub enum Sender {
 /// The key that a sender's tokens are made and verified with (RFC 4121, 2): of the suites of AES, with as many octets as the suite's keys have.
 ///
 /// A side makes its tokens with its own `Sender`, and verifies those that come with the other's.
-#[derive(Debug, Drop)]
+#[derive(Drop)]
 pub struct TokenKey<'a> {
     suite: CipherSuite,
     octets: &'a [u8],

@@ -9,7 +9,7 @@ use std::marker::Model;
 const WINDOW: u64 = 64;
 
 /// What a token is to those that came before it (RFC 2743, 1.2.3).
-#[derive(Clone, Copy, PartialEq, Eq, Debug)]
+#[derive(Clone, Copy, PartialEq, Eq)]
 pub enum Order {
     /// The next one.
     InOrder,

@@ -14,7 +14,7 @@ use krb_gss_tokens::WrapToken;
 use std::alloc::Global;
 
 /// What a Wrap token held.
-#[derive(Debug, Drop)]
+#[derive(Drop)]
 pub struct Unwrapped {
     /// The message.
     pub message: Vec<u8>,

@@ -10,7 +10,7 @@ use std::alloc::{AllocError, Global};
 use std::marker::Model;
 
 /// The id of an inner token (RFC 4121, 4.1): two octets with no tag and no length.
-#[derive(Debug, Drop)]
+#[derive(Drop)]
 pub struct TokenId(pub [u8; 2]);
 
 impl Model for TokenId {

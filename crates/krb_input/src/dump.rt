@@ -9,7 +9,7 @@ use crate::words::after_text;
 use std::alloc::{AllocError, Global};
 
 /// Where one is on a line of a dump.
-#[derive(Clone, Copy, PartialEq, Eq, Debug)]
+#[derive(Clone, Copy, PartialEq, Eq)]
 pub enum Column {
     /// In the offset at its start.
     Offset,

@@ -6,7 +6,7 @@ ghost use Rattle.krb_input.specs.Marks.{behind_pair, digits_left, digits_of, is_
 use std::alloc::{AllocError, Global};
 
 /// Where one is in a text of digits in pairs.
-#[derive(Clone, Copy, PartialEq, Eq, Debug)]
+#[derive(Clone, Copy, PartialEq, Eq)]
 pub enum Spot {
     /// Before a pair, or a mark.
     BetweenPairs,

@@ -9,7 +9,7 @@ use std::io;
 use std::io::ErrorKind;
 
 /// Why octets were not read into a vector.
-#[derive(Debug, Drop)]
+#[derive(Drop)]
 pub enum ReadError {
     /// The reader failed.
     Io(io::Error),

@@ -8,7 +8,7 @@ use krb_messages::messages::{ApReqInner, KdcReq, KdcReqBody};
 use krb_types::data_types::{PrincipalName, Realm, TicketInner};
 
 /// Whom a request is for.
-#[derive(Debug, Clone, Copy, PartialEq, Eq)]
+#[derive(Clone, Copy, PartialEq, Eq)]
 pub enum Service {
     /// A KDC (RFC 4120, 7.2; port 88).
     Kdc,

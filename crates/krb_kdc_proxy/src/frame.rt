@@ -12,7 +12,7 @@ ghost use Rattle.std.specs.Prelude.{MatchBool, MatchOption};
 ghost use Rattle.krb_kdc_proxy.specs.Frames.{BeginsAsFrame, IsFrame, IsNoFrame, IsVersion};
 
 /// Where a frame goes: to the server that changes passwords, or back.
-#[derive(Debug, Clone, Copy, PartialEq, Eq)]
+#[derive(Clone, Copy, PartialEq, Eq)]
 pub enum Direction {
     /// To the server.
     Request,

@@ -19,7 +19,7 @@ use krb_messages::messages::{
 use std::alloc::Global;
 
 /// What goes back to a client.
-#[derive(Debug, Clone, Copy, PartialEq, Eq)]
+#[derive(Clone, Copy, PartialEq, Eq)]
 pub enum Reply {
     /// A KRB-AS-REP of a KDC (RFC 4120, 5.4.2).
     AsRep,

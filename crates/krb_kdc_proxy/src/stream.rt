@@ -5,7 +5,7 @@ ghost use Rattle.krb_kdc_proxy.specs.Streams.{HasArrived};
 use crate::prefixed::LENGTH;
 
 /// Whether a message that comes over a stream is there with all its octets.
-#[derive(Debug, Clone, Copy, PartialEq, Eq)]
+#[derive(Clone, Copy, PartialEq, Eq)]
 pub enum Whole {
     /// It is there, and nothing behind it.
     Yes,

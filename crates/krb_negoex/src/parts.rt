@@ -82,7 +82,7 @@ impl<T: Lay> Lay for &T {
 }
 
 /// A part, and the parts after it: the fixed parts one after another, and the payloads in the same order.
-#[derive(Debug, Drop)]
+#[derive(Drop)]
 pub struct Both<A, B>(pub A, pub B);
 
 impl<A: Lay, B: Lay> Lay for Both<A, B> {

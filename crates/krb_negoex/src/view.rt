@@ -45,7 +45,7 @@ fn octets_view<'a>(octets: &[u8], message: &'a [u8]) -> io::Result<&'a [u8]>
 }
 
 /// An extension (MS-NEGOEX 2.2.5.1.4) whose value is a slice of the message.
-#[derive(Debug, Drop)]
+#[derive(Drop)]
 pub struct ExtensionView<'a> {
     extension_type: u32,
     extension_value: &'a [u8],
@@ -90,7 +90,7 @@ fn extension_view<'a>(octets: &[u8], message: &'a [u8]) -> io::Result<ExtensionV
 /// The extensions of a message (MS-NEGOEX 2.2.5.2.4), whose values are slices of the message. It takes no memory.
 ///
 /// A contract sees their list.
-#[derive(Debug, Drop)]
+#[derive(Drop)]
 pub struct ExtensionsView<'a> {
     message: &'a [u8],
     offset: usize,
@@ -161,7 +161,7 @@ fn extensions_view<'a>(octets: &[u8], message: &'a [u8]) -> io::Result<Extension
 /// The schemes of a message (MS-NEGOEX 2.2.5.2.2), read out of its octets one by one. It takes no memory.
 ///
 /// A contract sees their list.
-#[derive(Debug, Drop)]
+#[derive(Drop)]
 pub struct AuthSchemesView<'a> {
     message: &'a [u8],
     offset: usize,
@@ -242,7 +242,7 @@ fn schemes_view<'a>(octets: &[u8], message: &'a [u8]) -> io::Result<AuthSchemesV
 }
 
 /// An `Exchange` (MS-NEGOEX 2.2.6.4) over the octets that the caller holds. It takes no memory.
-#[derive(Debug, Drop)]
+#[derive(Drop)]
 pub struct ExchangeView<'a> {
     header: MessageHeader,
     auth_scheme: Uuid,
@@ -305,7 +305,7 @@ impl<'a> ExchangeView<'a> {
 }
 
 /// A checksum (MS-NEGOEX 2.2.5.1.3) whose value is a slice of the message.
-#[derive(Debug, Drop)]
+#[derive(Drop)]
 pub struct ChecksumView<'a> {
     header_len: u32,
     checksum_scheme: u32,
@@ -376,7 +376,7 @@ fn checksum_view<'a>(octets: &[u8], message: &'a [u8]) -> io::Result<ChecksumVie
 }
 
 /// A `Verify` (MS-NEGOEX 2.2.6.5) over the octets that the caller holds. It takes no memory.
-#[derive(Debug, Drop)]
+#[derive(Drop)]
 pub struct VerifyView<'a> {
     header: MessageHeader,
     auth_scheme: Uuid,
@@ -440,7 +440,7 @@ impl<'a> VerifyView<'a> {
 }
 
 /// A `Nego` (MS-NEGOEX 2.2.6.3) over the octets that the caller holds. It takes no memory.
-#[derive(Debug, Drop)]
+#[derive(Drop)]
 pub struct NegoView<'a> {
     header: MessageHeader,
     random: [u8; 32],

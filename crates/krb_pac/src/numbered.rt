@@ -12,7 +12,7 @@ use byteorder::{ByteOrder, LittleEndian};
 use std::marker::Model;
 
 /// The entry of a buffer (MS-PAC 2.4, PAC_INFO_BUFFER), its type as the number that stands there.
-#[derive(Debug, Clone, Copy, PartialEq, Eq)]
+#[derive(Clone, Copy, PartialEq, Eq)]
 pub struct NumberedInfoBuffer {
     /// ulType: what the buffer holds. The standard lists some numbers (`PacBufferType`), and readers ignore buffers of others.
     pub ul_type: u32,
@@ -23,7 +23,7 @@ pub struct NumberedInfoBuffer {
 }
 
 /// A buffer of a PAC that the caller holds, of whatever type: its entry and the octets that the entry names, a slice of the PAC's.
-#[derive(Debug, Drop)]
+#[derive(Drop)]
 pub struct NumberedBufferView<'a> {
     info: NumberedInfoBuffer,
     octets: &'a [u8],
@@ -58,7 +58,7 @@ impl<'a> NumberedBufferView<'a> {
 /// too: as `PacView`, but a type is the number that stands there, and no number is refused. It takes no memory.
 ///
 /// A contract sees the list of its buffers, in the order of their entries.
-#[derive(Debug, Drop)]
+#[derive(Drop)]
 pub struct NumberedPacView<'a> {
     octets: &'a [u8],
     count: usize,
@@ -148,7 +148,7 @@ impl<'a> NumberedPacView<'a> {
 }
 
 /// An iterator over the buffers of a PAC. A contract sees the list of those that are left.
-#[derive(Debug, Drop)]
+#[derive(Drop)]
 pub struct NumberedBuffers<'a> {
     pac: NumberedPacView<'a>,
     place: usize,

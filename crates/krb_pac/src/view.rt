@@ -15,7 +15,7 @@ use std::marker::Model;
 
 /// A buffer of a PAC that the caller holds: its entry (MS-PAC 2.4, PAC_INFO_BUFFER) and the octets that the entry names, a slice
 /// of the PAC's.
-#[derive(Debug, Drop)]
+#[derive(Drop)]
 pub struct PacBufferView<'a> {
     info: PacInfoBuffer,
     octets: &'a [u8],
@@ -49,7 +49,7 @@ impl<'a> PacBufferView<'a> {
 /// A PAC (MS-PAC 2.3, PACTYPE) over the octets that the caller holds: its buffers are slices of these. It takes no memory.
 ///
 /// A contract sees the list of its buffers, in the order of their entries.
-#[derive(Debug, Drop)]
+#[derive(Drop)]
 pub struct PacView<'a> {
     octets: &'a [u8],
     count: usize,
@@ -140,7 +140,7 @@ impl<'a> PacView<'a> {
 }
 
 /// An iterator over the buffers of a PAC. A contract sees the list of those that are left.
-#[derive(Debug, Drop)]
+#[derive(Drop)]
 pub struct PacBuffers<'a> {
     pac: PacView<'a>,
     place: usize,

@@ -9,7 +9,7 @@ use crate::sid::{SidView, sid};
 use std::marker::Model;
 
 /// A group of an account (MS-PAC 2.2.2, GROUP_MEMBERSHIP).
-#[derive(Debug, Clone, Copy, PartialEq, Eq)]
+#[derive(Clone, Copy, PartialEq, Eq)]
 pub struct Membership {
     /// The relative identifier of the group, in the domain of the account, or in that of the resource groups.
     pub relative_id: u32,
@@ -18,7 +18,7 @@ pub struct Membership {
 }
 
 /// An extra identifier of an account (MS-PAC 2.2.1, KERB_SID_AND_ATTRIBUTES).
-#[derive(Debug, Drop)]
+#[derive(Drop)]
 pub struct SidAndAttributes<'a> {
     /// The identifier.
     pub sid: SidView<'a>,
@@ -27,7 +27,7 @@ pub struct SidAndAttributes<'a> {
 }
 
 /// An iterator over groups. A contract sees the list of those that are left.
-#[derive(Debug, Drop)]
+#[derive(Drop)]
 pub struct Memberships<'a> {
     left: usize,
     octets: &'a [u8],
@@ -79,7 +79,7 @@ impl<'a> Iterator for Memberships<'a> {
 }
 
 /// An iterator over extra identifiers. A contract sees the list of those that are left.
-#[derive(Debug, Drop)]
+#[derive(Drop)]
 pub struct ExtraSids<'a> {
     left: usize,
     elements: &'a [u8],

@@ -14,7 +14,7 @@ use std::marker::Model;
 ///
 /// A contract sees its octets: revision, how many sub-authorities there are, six octets of the authority, and four for each
 /// sub-authority.
-#[derive(Debug, Drop)]
+#[derive(Drop)]
 pub struct SidView<'a> {
     octets: &'a [u8],
 }
@@ -80,7 +80,7 @@ impl<'a> SidView<'a> {
 }
 
 /// An iterator over the sub-authorities of an identifier. A contract sees the list of those that are left.
-#[derive(Debug, Drop)]
+#[derive(Drop)]
 pub struct SubAuthorities<'a> {
     left: usize,
     octets: &'a [u8],

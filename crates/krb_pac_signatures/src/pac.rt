@@ -97,7 +97,7 @@ fn type_of(given: &Option<SignatureView>) -> Option<u32>
 }
 
 /// What is known of one checksum of a PAC.
-#[derive(Debug, Clone, Copy, PartialEq, Eq)]
+#[derive(Clone, Copy, PartialEq, Eq)]
 pub struct PacChecksum {
     /// SignatureType, the number of its type (MS-PAC 2.8); `None` where there is no such checksum.
     pub signature_type: Option<u32>,
@@ -106,7 +106,7 @@ pub struct PacChecksum {
 }
 
 /// What is known of the four checksums of a PAC (MS-PAC 2.8).
-#[derive(Debug, Clone, Copy, PartialEq, Eq)]
+#[derive(Clone, Copy, PartialEq, Eq)]
 pub struct PacVerdicts {
     /// Of the server's (MS-PAC 2.8.1), under the key of the service.
     pub server: PacChecksum,

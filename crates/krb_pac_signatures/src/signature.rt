@@ -11,7 +11,7 @@ use std::marker::Model;
 /// A signature of a PAC (MS-PAC 2.8, PAC_SIGNATURE_DATA) over the octets that the caller holds. It takes no memory.
 ///
 /// A contract sees its octets.
-#[derive(Debug, Drop)]
+#[derive(Drop)]
 pub struct SignatureView<'a> {
     octets: &'a [u8],
 }

@@ -13,7 +13,7 @@ use std::alloc::{AllocError, Global};
 use std::marker::Model;
 
 /// A signature, and how many octets of the PAC are before it.
-#[derive(Debug, Drop)]
+#[derive(Drop)]
 pub(crate) struct PlacedView<'a> {
     at: usize,
     signature: SignatureView<'a>,
@@ -27,7 +27,7 @@ impl<'a> Model for PlacedView<'a> {
 
 /// The checksums of a PAC over the octets that the caller holds: which are there, of which type, and whether they hold. It takes no
 /// memory.
-#[derive(Debug, Drop)]
+#[derive(Drop)]
 pub struct PacSignatures<'a> {
     octets: &'a [u8],
     server: Option<PlacedView<'a>>,

@@ -1,7 +1,7 @@
 //! The kinds of numbers that have names.
 
 /// What a number is of. Each kind is one table of a standard, or of several that share their numbers.
-#[derive(Clone, Copy, PartialEq, Eq, Debug)]
+#[derive(Clone, Copy, PartialEq, Eq)]
 pub enum Kind {
     /// Encryption types, as `etype` of an EncryptedData and `keytype` of an EncryptionKey have them: `aes256-cts-hmac-sha1-96`
     /// (RFC 3961, 8; RFC 3962, 7; RFC 4757; RFC 6803, 9; RFC 8009, 7; IANA, Kerberos Encryption Type Numbers).

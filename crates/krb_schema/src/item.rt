@@ -9,7 +9,7 @@ use std::alloc::AllocError;
 use thiserror::Error;
 
 /// An element that has elements.
-#[derive(Clone, Copy, PartialEq, Eq, Debug)]
+#[derive(Clone, Copy, PartialEq, Eq)]
 pub enum Node {
     /// A SEQUENCE (X.690, 8.9).
     Struct,
@@ -22,7 +22,7 @@ pub enum Node {
 }
 
 /// What an item is.
-#[derive(Clone, Copy, PartialEq, Eq, Debug)]
+#[derive(Clone, Copy, PartialEq, Eq)]
 pub enum Form {
     /// An element without elements.
     Leaf(Leaf),
@@ -33,7 +33,7 @@ pub enum Form {
 }
 
 /// An element, or where one begins or ends. It holds no octets: these stand in the input at its place.
-#[derive(Clone, Copy, PartialEq, Eq, Debug)]
+#[derive(Clone, Copy, PartialEq, Eq)]
 pub struct Item {
     /// What it is.
     pub form: Form,

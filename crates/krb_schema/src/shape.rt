@@ -3,7 +3,7 @@
 use krb_registry::Kind;
 
 /// What an element without elements holds.
-#[derive(Clone, Copy, PartialEq, Eq, Debug)]
+#[derive(Clone, Copy, PartialEq, Eq)]
 pub enum Leaf {
     /// INTEGER (X.690, 8.3).
     Integer,
@@ -38,7 +38,7 @@ pub enum Leaf {
 }
 
 /// What programs do with the octets of an element that DER does not read further.
-#[derive(Clone, Copy, PartialEq, Eq, Debug)]
+#[derive(Clone, Copy, PartialEq, Eq)]
 pub enum Role {
     /// Nothing.
     None,
@@ -87,7 +87,7 @@ pub enum Role {
 }
 
 /// What an element is called, and what a number or the flags in it are of.
-#[derive(Clone, Copy, PartialEq, Eq, Debug)]
+#[derive(Clone, Copy, PartialEq, Eq)]
 pub struct Name {
     /// The name that the standard gives the field or the type.
     pub text: &'static str,

@@ -11,7 +11,7 @@ use std::alloc::{AllocError, Global};
 use std::marker::Model;
 
 /// What a token is.
-#[derive(Clone, Copy, PartialEq, Eq, Debug)]
+#[derive(Clone, Copy, PartialEq, Eq)]
 pub enum Form {
     /// A struct begins: its fields follow, up to its `StructEnd`.
     Struct,
@@ -40,7 +40,7 @@ pub enum Form {
 }
 
 /// What a value is called, what a number in it is of, and what programs do with it.
-#[derive(Debug, Drop)]
+#[derive(Drop)]
 pub struct Label<'l> {
     /// The name.
     pub text: &'l str,
@@ -97,7 +97,7 @@ impl<'l> Label<'l> {
 }
 
 /// A leaf of a value, or where a struct or a list begins or ends.
-#[derive(Debug, Drop)]
+#[derive(Drop)]
 pub struct Token {
     form: Form,
     text: Vec<u8>,

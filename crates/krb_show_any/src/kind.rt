@@ -6,7 +6,7 @@ ghost use Rattle.krb_show_any.specs.Kinds.{is_application, is_ccache, is_frame, 
 use krb_show_pages::{CertificateKind, DataKind};
 
 /// What octets are.
-#[derive(Clone, Copy, PartialEq, Eq, Debug)]
+#[derive(Clone, Copy, PartialEq, Eq)]
 pub enum Kind {
     /// The message or the opened part of a message (RFC 4120, 5.3 to 5.9) whose first octet this is.
     Application(u8),

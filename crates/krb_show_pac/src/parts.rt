@@ -13,7 +13,7 @@ use std::alloc::{AllocError, Global};
 use std::marker::Model;
 
 /// What tells behind each ticket that a key decrypts what is known of the checksums of its PAC. As a value it is the caller's own keys.
-#[derive(Debug, Drop)]
+#[derive(Drop)]
 pub struct Checksums {
     own: Vec<Key>,
 }

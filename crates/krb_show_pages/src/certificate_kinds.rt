@@ -5,7 +5,7 @@ ghost use Rattle.std.specs.Char.{to_ascii_lowercase};
 ghost use Rattle.krb_show_pages.specs.CertificateKinds.{kinds, name_of};
 
 /// A type of PKINIT (RFC 4556) or of CredSSP (MS-CSSP), whose values `page_of_certificate_data` shows.
-#[derive(Clone, Copy, PartialEq, Eq, Debug)]
+#[derive(Clone, Copy, PartialEq, Eq)]
 pub enum CertificateKind {
     /// What a client asks a KDC (RFC 4556, 3.2.1; padata 16).
     PaPkAsReq,

@@ -5,7 +5,7 @@ ghost use Rattle.std.specs.Char.{to_ascii_lowercase};
 ghost use Rattle.krb_show_pages.specs.Kinds.{kinds, name_of};
 
 /// A type that is a SEQUENCE, so that its first octet, `30`, does not tell which it is: `page_of_data` is given the kind.
-#[derive(Clone, Copy, PartialEq, Eq, Debug)]
+#[derive(Clone, Copy, PartialEq, Eq)]
 pub enum DataKind {
     /// A name (RFC 4120, 5.2.2).
     PrincipalName,

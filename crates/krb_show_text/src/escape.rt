@@ -8,7 +8,7 @@ use krb_show::push_hex_octet;
 use std::alloc::AllocError;
 
 /// Where octets are written, and so which of them are escaped.
-#[derive(Clone, Copy, PartialEq, Eq, Debug)]
+#[derive(Clone, Copy, PartialEq, Eq)]
 pub enum Style {
     /// On a line, as a word: what is not printable is `\xNN`.
     Plain,

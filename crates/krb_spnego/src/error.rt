@@ -8,7 +8,7 @@ use krb_der::Asn1DerError;
 use std::alloc::{AllocError, AllocFailed};
 
 /// Why octets are no message of a negotiation.
-#[derive(Debug, Drop)]
+#[derive(Drop)]
 pub enum ReadError {
     /// An allocation failed.
     OutOfMemory,
@@ -37,7 +37,7 @@ impl<T: Drop> From<AllocFailed<T>> for ReadError {
 }
 
 /// Why an initiator does not begin.
-#[derive(Clone, Copy, Debug)]
+#[derive(Clone, Copy)]
 pub enum BeginError {
     /// An allocation failed.
     OutOfMemory,

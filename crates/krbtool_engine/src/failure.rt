@@ -10,7 +10,7 @@ use krb_der::Asn1DerError;
 use std::io;
 
 /// Why a run is rejected.
-#[derive(Debug, Drop)]
+#[derive(Drop)]
 pub enum Failure {
     /// The arguments are no command.
     Arguments,

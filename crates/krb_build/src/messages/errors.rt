@@ -19,7 +19,7 @@ use krb_types::data_types::{KerberosStringAsn1, PrincipalName, Realm};
 use std::alloc::Global;
 
 /// What a server or a KDC tells of an error (RFC 4120, 5.9.1).
-#[derive(Debug, Drop)]
+#[derive(Drop)]
 pub struct ErrorParts {
     /// The error code (RFC 4120, 7.5.9).
     pub code: u32,

@@ -24,7 +24,7 @@ use krb_types::data_types::{KerberosFlags, KerberosTime, PaData, PrincipalName, 
 use std::alloc::{AllocError, Global};
 
 /// What a client asks a KDC for, to get its first ticket (RFC 4120, 5.4.1).
-#[derive(Debug, Drop)]
+#[derive(Drop)]
 pub struct AsReqParts {
     /// The name of the client.
     pub cname: PrincipalName,

@@ -2,7 +2,7 @@
 
 /// How many iterations of PBKDF2 a client takes, at least and at most. Whoever can send a KRB-ERROR
 /// names a number: too few make a password easier to guess, and too many keep the client at work.
-#[derive(Debug, Clone, Copy, PartialEq, Eq)]
+#[derive(Clone, Copy, PartialEq, Eq)]
 pub struct Limits {
     /// The fewest.
     pub least: u32,

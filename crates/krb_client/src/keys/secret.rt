@@ -19,7 +19,7 @@ use krb_types::data_types::{KerberosStringAsn1, PrincipalName, Realm};
 use std::alloc::{AllocError, Global};
 
 /// A client by its name.
-#[derive(Debug, Drop, Clone, Copy)]
+#[derive(Drop, Clone, Copy)]
 pub struct Client<'a> {
     /// The client's realm.
     pub realm: &'a Realm,
@@ -28,7 +28,7 @@ pub struct Client<'a> {
 }
 
 /// What a client knows.
-#[derive(Debug, Drop, Clone, Copy)]
+#[derive(Drop, Clone, Copy)]
 pub enum Secret<'a> {
     /// The octets of its password.
     Password(&'a [u8]),

@@ -18,7 +18,7 @@ use krb_types::data_types::Ticket;
 use std::alloc::Global;
 
 /// What a KDC granted.
-#[derive(Debug, Drop)]
+#[derive(Drop)]
 pub struct Granted {
     /// The ticket.
     pub ticket: Ticket,

@@ -13,7 +13,7 @@ use krb_types::view::unix_seconds;
 use std::alloc::Global;
 
 /// What a KRB-ERROR reports. It is not authenticated: anyone may have sent it (RFC 4120, 3.1.4).
-#[derive(Debug, Drop)]
+#[derive(Drop)]
 pub struct Reported {
     /// The error code (RFC 4120, 7.5.9).
     pub code: u32,

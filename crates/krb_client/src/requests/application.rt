@@ -23,7 +23,7 @@ use krb_types::data_types::{ApOptions, Checksum, EncryptedData, Ticket};
 use std::alloc::Global;
 
 /// What the checksum 0x8003 of the GSS-API says (RFC 4121, 4.1.1).
-#[derive(Debug, Drop, Clone, Copy)]
+#[derive(Drop, Clone, Copy)]
 pub struct GssChecksum {
     /// The MD5 of the channel bindings; zeros, where there are none.
     pub bindings: [u8; 16],
@@ -33,7 +33,7 @@ pub struct GssChecksum {
 }
 
 /// What an AP-REQ is made of, beside the time.
-#[derive(Debug, Drop, Clone, Copy)]
+#[derive(Drop, Clone, Copy)]
 pub struct ApRequest<'a> {
     /// The ticket for the service.
     pub ticket: &'a Ticket,

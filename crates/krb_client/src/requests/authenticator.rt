@@ -23,7 +23,7 @@ use krb_types::data_types::{
 use std::alloc::Global;
 
 /// Who sends an authenticator, when, and what it chooses (RFC 4120, 5.5.1).
-#[derive(Debug, Drop, Clone, Copy)]
+#[derive(Drop, Clone, Copy)]
 pub struct Sender<'a> {
     /// The client's realm.
     pub crealm: &'a Realm,

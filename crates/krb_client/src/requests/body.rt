@@ -22,7 +22,7 @@ const MOST_NONCE: u32 = (1 << 31) - 1;
 
 /// What a client wants of a KDC (RFC 4120, 5.4.1). It asks for no addresses, and gives no
 /// authorization data and no further tickets.
-#[derive(Debug, Drop, Clone, Copy)]
+#[derive(Drop, Clone, Copy)]
 pub struct Want<'a> {
     /// The realm of the server, and in an AS-REQ of the client.
     pub realm: &'a Realm,

@@ -3,7 +3,7 @@
 use krb_crypto::CipherSuite;
 
 /// A key and its suite, as a caller lends them.
-#[derive(Debug, Drop, Clone, Copy)]
+#[derive(Drop, Clone, Copy)]
 pub struct LentKey<'a> {
     /// The suite.
     pub suite: &'a CipherSuite,

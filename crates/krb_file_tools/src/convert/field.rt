@@ -5,7 +5,7 @@ ghost use Rattle.krb_file_tools.specs.Fields.{name_of};
 
 /// What a KRB-CRED or a credential cache has, and the other format has no place for; and what of a
 /// KRB-CRED stands in a cache in another way, so that it does not come back as it was.
-#[derive(Debug, Clone, Copy, PartialEq, Eq)]
+#[derive(Clone, Copy, PartialEq, Eq)]
 pub enum Field {
     /// The version of the key of a KRB-CRED's enc-part (RFC 4120, 5.2.9).
     Kvno,
@@ -86,7 +86,7 @@ impl Field {
 }
 
 /// What a conversion gives.
-#[derive(Debug, Drop)]
+#[derive(Drop)]
 pub struct Converted {
     /// The octets of the target.
     pub octets: Vec<u8>,

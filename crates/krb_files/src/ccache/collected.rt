@@ -11,7 +11,7 @@ use std::alloc::{AllocError, Global};
 use std::marker::Model;
 
 /// A principal that was read, with the list of its components: slices of the caller's octets.
-#[derive(Debug, Drop)]
+#[derive(Drop)]
 pub struct CollectedPrincipal<'a> {
     name_type: u32,
     realm: &'a [u8],
@@ -56,7 +56,7 @@ impl<'a> CcachePrincipalView<'a> {
 }
 
 /// A credential that was read, with the lists of its components, addresses and authorization data: slices of the caller's octets.
-#[derive(Debug, Drop)]
+#[derive(Drop)]
 pub struct CollectedCredential<'a> {
     client: CollectedPrincipal<'a>,
     server: CollectedPrincipal<'a>,

@@ -14,7 +14,7 @@ use crate::fields::{
 use std::marker::Model;
 
 /// The times of a ticket (RFC 4120, 5.3), in seconds since 1970; 0 where there is none.
-#[derive(Clone, Copy, Debug, PartialEq, Eq)]
+#[derive(Clone, Copy, PartialEq, Eq)]
 pub struct Times {
     /// When the client authenticated.
     pub authtime: u32,
@@ -27,7 +27,7 @@ pub struct Times {
 }
 
 /// A credential of a cache that the caller holds: a ticket and its session key.
-#[derive(Debug, Drop)]
+#[derive(Drop)]
 pub struct CredentialView<'a> {
     client: CcachePrincipalView<'a>,
     server: CcachePrincipalView<'a>,

@@ -10,7 +10,7 @@ use crate::fields::{
 use std::marker::Model;
 
 /// A principal of a credential cache that the caller holds, and the type of its name.
-#[derive(Debug, Drop)]
+#[derive(Drop)]
 pub struct CcachePrincipalView<'a> {
     name_type: u32,
     principal: PrincipalView<'a>,

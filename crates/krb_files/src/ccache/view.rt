@@ -14,7 +14,7 @@ use crate::fields::{FieldError, LengthSize, TypedOctets, counted_at, typed_at, u
 use std::marker::Model;
 
 /// The versions of a credential cache whose numbers have the most significant octet first.
-#[derive(Clone, Copy, Debug, PartialEq, Eq)]
+#[derive(Clone, Copy, PartialEq, Eq)]
 pub enum CcacheVersion {
     /// Version 3, 05 03.
     Three,
@@ -23,7 +23,7 @@ pub enum CcacheVersion {
 }
 
 /// A credential cache over the octets that the caller holds: what it holds are slices of these. It takes no memory.
-#[derive(Debug, Drop)]
+#[derive(Drop)]
 pub struct CcacheView<'a> {
     version: CcacheVersion,
     header: &'a [u8],
@@ -164,7 +164,7 @@ fn check_credentials(version: CcacheVersion, octets: &[u8]) -> Result<(), FieldE
 }
 
 /// An iterator over the fields of a header. A contract sees the list of those that are left.
-#[derive(Debug, Drop)]
+#[derive(Drop)]
 pub struct HeaderFieldsView<'a> {
     octets: &'a [u8],
 }
@@ -213,7 +213,7 @@ fn first_field(octets: &[u8]) -> Option<(TypedOctets<'_>, &[u8])>
 }
 
 /// An iterator over the credentials of a cache. A contract sees the list of those that are left.
-#[derive(Debug, Drop)]
+#[derive(Drop)]
 pub struct CredentialsView<'a> {
     version: CcacheVersion,
     octets: &'a [u8],

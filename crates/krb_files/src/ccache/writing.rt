@@ -17,7 +17,7 @@ use crate::fields::{
 use std::alloc::{AllocError, Global};
 
 /// A principal to be written, and the type of its name.
-#[derive(Clone, Copy, Debug)]
+#[derive(Clone, Copy)]
 pub struct CcachePrincipalParts<'a> {
     /// The type of the name (RFC 4120, 6.2).
     pub name_type: u32,
@@ -26,7 +26,7 @@ pub struct CcachePrincipalParts<'a> {
 }
 
 /// A credential to be written: a ticket and its session key.
-#[derive(Clone, Copy, Debug)]
+#[derive(Clone, Copy)]
 pub struct NewCredential<'a> {
     /// The client.
     pub client: CcachePrincipalParts<'a>,
@@ -53,7 +53,7 @@ pub struct NewCredential<'a> {
 }
 
 /// A credential cache to be written.
-#[derive(Clone, Copy, Debug)]
+#[derive(Clone, Copy)]
 pub struct NewCcache<'a> {
     /// The version.
     pub version: CcacheVersion,

@@ -6,7 +6,7 @@ use crate::fields::error::FieldError;
 use byteorder::{BigEndian, ByteOrder};
 
 /// How many octets a length or a count has.
-#[derive(Clone, Copy, Debug, PartialEq, Eq)]
+#[derive(Clone, Copy, PartialEq, Eq)]
 pub enum LengthSize {
     /// 16 bits.
     Two,

@@ -13,7 +13,7 @@ use crate::fields::writing::PrincipalParts;
 use std::marker::Model;
 
 /// Counted octets, one after the other. An iterator over them; a contract sees the list of those that are left.
-#[derive(Debug, Drop)]
+#[derive(Drop)]
 pub struct ComponentsView<'a> {
     size: LengthSize,
     count: u32,
@@ -68,7 +68,7 @@ impl<'a> Iterator for ComponentsView<'a> {
 }
 
 /// A realm and the components of a principal: slices of the caller's octets.
-#[derive(Debug, Drop)]
+#[derive(Drop)]
 pub struct PrincipalView<'a> {
     realm: &'a [u8],
     components: ComponentsView<'a>,

@@ -11,7 +11,7 @@ use crate::fields::writing::fits;
 use std::marker::Model;
 
 /// Octets and the number of their type.
-#[derive(Debug, Drop)]
+#[derive(Drop)]
 pub struct TypedOctets<'a> {
     kind: u16,
     octets: &'a [u8],
@@ -59,7 +59,7 @@ impl<'a> TypedOctets<'a> {
 }
 
 /// Octets with their types, one after the other. An iterator over them; a contract sees the list of those that are left.
-#[derive(Debug, Drop)]
+#[derive(Drop)]
 pub struct TypedListView<'a> {
     count: u32,
     octets: &'a [u8],

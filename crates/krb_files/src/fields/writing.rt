@@ -13,7 +13,7 @@ use crate::fields::typed::TypedOctets;
 use std::alloc::AllocError;
 
 /// A realm and the components of a principal, each as octets.
-#[derive(Clone, Copy, Debug)]
+#[derive(Clone, Copy)]
 pub struct PrincipalParts<'a> {
     /// The realm's octets.
     pub realm: &'a [u8],

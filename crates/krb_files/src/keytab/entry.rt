@@ -12,7 +12,7 @@ use byteorder::{BigEndian, ByteOrder};
 use std::marker::Model;
 
 /// An entry of a keytab that the caller holds: a principal's key.
-#[derive(Debug, Drop)]
+#[derive(Drop)]
 pub struct EntryView<'a> {
     principal: PrincipalView<'a>,
     name_type: u32,

@@ -19,7 +19,7 @@ const VERSION_2: u16 = 0x0502;
 /// A keytab over the octets that the caller holds: what its entries hold are slices of these. It takes no memory.
 ///
 /// A contract sees the list of its entries, in their order.
-#[derive(Debug, Drop)]
+#[derive(Drop)]
 pub struct KeytabView<'a> {
     records: &'a [u8],
 }
@@ -88,7 +88,7 @@ fn check_records(octets: &[u8]) -> Result<(), KeytabError>
 }
 
 /// An iterator over the entries of a keytab. A contract sees the list of those that are left.
-#[derive(Debug, Drop)]
+#[derive(Drop)]
 pub struct EntriesView<'a> {
     records: &'a [u8],
 }

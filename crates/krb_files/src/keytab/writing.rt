@@ -16,7 +16,7 @@ use crate::keytab::error::KeytabWriteError;
 use std::alloc::{AllocError, Global};
 
 /// An entry to be written: a principal's key.
-#[derive(Clone, Copy, Debug)]
+#[derive(Clone, Copy)]
 pub struct NewEntry<'a> {
     /// The principal.
     pub principal: PrincipalParts<'a>,

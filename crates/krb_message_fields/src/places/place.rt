@@ -1,7 +1,7 @@
 //! Places and steps.
 
 /// Some octets of an input, in octets from its front.
-#[derive(Debug, Clone, Copy, PartialEq, Eq)]
+#[derive(Clone, Copy, PartialEq, Eq)]
 pub struct Place {
     /// The number of the octets before them.
     pub offset: usize,
@@ -10,7 +10,7 @@ pub struct Place {
 }
 
 /// One step into elements that stand one after another (X.690, 8.1.1).
-#[derive(Debug, Clone, Copy, PartialEq, Eq)]
+#[derive(Clone, Copy, PartialEq, Eq)]
 pub enum Step {
     /// To the content of the first element that has this tag, which is one octet (X.690, 8.1.2).
     Tag(u8),

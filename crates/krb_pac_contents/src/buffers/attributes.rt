@@ -10,7 +10,7 @@ use crate::buffers::numbers::u32_at;
 use std::marker::Model;
 
 /// Attributes of a PAC (MS-PAC 2.14, PAC_ATTRIBUTES_INFO) over the octets that the caller holds. A contract sees these.
-#[derive(Debug, Drop)]
+#[derive(Drop)]
 pub struct AttributesView<'a> {
     octets: &'a [u8],
 }

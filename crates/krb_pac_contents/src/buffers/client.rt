@@ -11,7 +11,7 @@ use std::marker::Model;
 
 /// The client's name and the time of its authentication (MS-PAC 2.7, PAC_CLIENT_INFO) over the octets that the caller holds. A contract
 /// sees these.
-#[derive(Debug, Drop)]
+#[derive(Drop)]
 pub struct ClientInfoView<'a> {
     octets: &'a [u8],
 }

@@ -11,7 +11,7 @@ use crate::buffers::numbers::{u16_at, u32_at};
 use std::marker::Model;
 
 /// The user's principal name and the domain's DNS name (MS-PAC 2.10, UPN_DNS_INFO) over the octets that the caller holds.
-#[derive(Debug, Drop)]
+#[derive(Drop)]
 pub struct UpnDnsView<'a> {
     flags: u32,
     upn: Octets<'a>,
@@ -27,7 +27,7 @@ impl<'a> Model for UpnDnsView<'a> {
 }
 
 /// Octets that the caller holds.
-#[derive(Debug, Drop)]
+#[derive(Drop)]
 struct Octets<'a> {
     octets: &'a [u8],
 }

@@ -10,7 +10,7 @@ use krb_types::view::time_of_unix_seconds;
 const FROM_1601_TO_1970: i64 = 11_644_473_600;
 
 /// A time of a PAC (MS-DTYP 2.3.3, FILETIME).
-#[derive(Debug, Drop)]
+#[derive(Drop)]
 pub enum FileTime {
     /// The time never comes, as LogoffTime and KickOffTime have it (MS-PAC 2.5).
     Never,

@@ -22,7 +22,7 @@ pub(crate) enum Inside {
 }
 
 /// Whether the octets of keys and of passwords are shown.
-#[derive(Clone, Copy, PartialEq, Eq, Debug)]
+#[derive(Clone, Copy, PartialEq, Eq)]
 pub enum Secrets {
     /// They are shown.
     Shown,

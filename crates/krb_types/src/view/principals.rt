@@ -228,7 +228,7 @@ fn realm_of(alloc: Global, text: &[u8]) -> Result<Option<GeneralStringAsn1>, Pri
 }
 
 /// A principal that was read from text: its components, and its realm where the text has one.
-#[derive(Debug, Drop)]
+#[derive(Drop)]
 pub struct TextPrincipal {
     /// The components, one or more.
     pub components: Vec<GeneralStringAsn1>,
