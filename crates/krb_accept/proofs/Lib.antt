@@ -1,4 +1,3 @@
-pub mod Openings
 pub mod Seals
 pub mod Suites
 pub mod Found

@@ -1,6 +1,5 @@
 pub mod Opening
 pub mod Fields
-pub mod Memory
 pub mod Kerberos
 pub mod Wanted
 pub mod WithKey

@@ -1,6 +1,7 @@
 -- Refusals of tokens, and the numbers of errors (RFC 4120, 7.5.9).
-use Rattle.std.specs.Prelude.{ℕ}
+use Rattle.std.specs.Prelude.{ℕ, Bool, true, false}
 use Rattle.krb_accept_rules.specs.Refusals.{error_code, plain}
+use Rattle.krb_accept_rules.specs.declared.refusal.Rule.{Rule}
 use Rattle.krb_accept_rules.specs.declared.refusal.Rule.TheVariants as Rules
 use Rattle.krb_accept.specs.declared.token_refusal.TokenRefusal.{TokenRefusal}
 use Rattle.krb_accept.specs.declared.token_refusal.TokenRefusal.TheVariants as refusal
@@ -21,3 +22,12 @@ token_error_code refusal.Delegation = 60
 -- an allocation failed
 abbrev pub memory : TokenRefusal
 memory = refusal.Request (plain Rules.OutOfMemory)
+
+-- that it is refused means that an allocation failed
+abbrev pub is_memory_rule : Rule → Bool
+is_memory_rule Rules.OutOfMemory = true
+is_memory_rule other = false
+
+abbrev pub is_memory : TokenRefusal → Bool
+is_memory (refusal.Request r) = is_memory_rule r.rule
+is_memory other = false

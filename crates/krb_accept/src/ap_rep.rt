@@ -11,13 +11,13 @@ ghost use Rattle.krb_crypto.specs.PreparedKeys.{IsPreparedFor};
 ghost use Rattle.krb_crypto.specs.Suites.{etype};
 
 use crate::frame::{InnerToken, token_of};
-use crate::opening::{octets_of, suite_of};
+use crate::opening::octets_of;
 use krb_accept_rules::Accepted;
 use krb_crypto::prepared::SealingKey;
 use krb_crypto::seal::prepared::seal_part;
 use krb_crypto::{Cipher, CipherSuite};
 use krb_der::{
-    ApplicationTag, Der, DerEncode, IntegerAsn1, OctetStringAsn1, Optional, copy, to_vec,
+    ApplicationTag, Der, DerEncode, IntegerAsn1, OctetStringAsn1, Optional, copy, encoding,
 };
 use krb_enc_parts::data_types::{EncApRepPart, EncApRepPartInner};
 use krb_messages::messages::{ApRep, ApRepInner};
@@ -154,16 +154,6 @@ fn sealed<T: Der>(
     }
 }
 
-/// The encoding of a value.
-fn encoding<T: DerEncode>(alloc: Global, value: &T) -> Result<Vec<u8>, ReplyError>
-    ensures { MatchResult result (λ octets. octets.items ≡ T.enc value.now) (λ e. e ≡ errors.OutOfMemory) }
-{
-    match to_vec(alloc, value) {
-        Ok(octets) => Ok(octets),
-        Err(_error) => Err(ReplyError::OutOfMemory),
-    }
-}
-
 /// The encoding of the AP-REP for a client that was let in, with the subkey and the number of the first message that the service chose (RFC
 /// 4120, 3.2.4), as it is sent where no frame is around it. Its part is encrypted under the session key, for key usage 12 and this
 /// confounder, which has the length of the session key's suite: 8 octets for triple DES, else 16. It is for one use, and random.
@@ -182,7 +172,7 @@ pub fn reply(
     ensures rejected { IfErr result (IsNoReply accepted.now confounder.now) }
 {
     let key = &accepted.ticket.key;
-    let Some(suite) = suite_of(&key.key_type.0) else {
+    let Some(suite) = CipherSuite::of_number(&key.key_type.0) else {
         return Err(ReplyError::Key);
     };
     if confounder.len() != suite.confounder_size() {

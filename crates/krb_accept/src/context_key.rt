@@ -4,8 +4,9 @@ ghost use Rattle.std.specs.Prelude.{◌≡◌, MatchOption};
 ghost use Rattle.std.specs.Option.{is_some, option_copied};
 ghost use Rattle.krb_accept.specs.ContextKey.{HasNoTokenKey, IsTokenKeyOf, context_key};
 
-use crate::opening::{octets_of, suite_of};
+use crate::opening::octets_of;
 use krb_accept_rules::Accepted;
+use krb_crypto::CipherSuite;
 use krb_gss_per_message::{Sender, TokenKey};
 use krb_types::data_types::EncryptionKey;
 
@@ -36,7 +37,7 @@ pub fn token_key<'a>(
         (IsTokenKeyOf (context_key accepted.now (option_copied subkey.entry)) sender (is_some subkey.entry)) }
 {
     let key = context_key(accepted, subkey);
-    let Some(suite) = suite_of(&key.key_type.0) else {
+    let Some(suite) = CipherSuite::of_number(&key.key_type.0) else {
         return None;
     };
     match TokenKey::new(suite, octets_of(&key.key_value.0), sender, subkey.is_some()) {

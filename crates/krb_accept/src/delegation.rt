@@ -9,7 +9,7 @@ ghost use Rattle.krb_accept_rules.specs.Values.{HasNone, IsTheValue};
 use crate::opening::{octets_of, value_of};
 use crate::said::Said;
 use crate::token_refusal::TokenRefusal;
-use crate::with_key::{is_number, value_with};
+use crate::with_key::value_with;
 use krb_accept_rules::Accepted;
 use krb_der::DerEncode;
 use krb_enc_parts::data_types::EncKrbCredPart;
@@ -63,7 +63,7 @@ fn part_of(
         (λ found. MatchOption found (IsNoPart ⟦<EncKrbCredPart as DerEncode>⟧ accepted.now sealed.now)
         (IsPart ⟦<EncKrbCredPart as DerEncode>⟧ accepted.now sealed.now)) }
 {
-    if is_number(&sealed.etype.0, NULL) {
+    if sealed.etype.0.is_number(NULL) {
         return value_of(alloc, octets_of(&sealed.cipher.0));
     }
     let found = under_subkey(alloc, &accepted.subkey, sealed)?;
@@ -77,8 +77,8 @@ fn part_of(
 fn has_numbers(message: &KrbCred) -> bool
     ensures { MatchBool result (HasNumbers message.now) (HasNumbers message.now → ⊥) }
 {
-    is_number(&message.0.pvno.0, VERSION)
-        && is_number(&message.0.msg_type.0, u32::from(KRB_CRED_MSG_TYPE))
+    message.0.pvno.0.is_number(VERSION)
+        && message.0.msg_type.0.is_number(u32::from(KRB_CRED_MSG_TYPE))
 }
 
 /// The encrypted part of a KRB-CRED.

@@ -3,9 +3,9 @@
 ghost use Rattle.std.specs.Prelude.{◌≡◌, MatchOption};
 
 use crate::fields::{authenticator_of, request_of, ticket_of};
-use crate::opening::{octets_of, suite_of, value_of, value_under};
+use crate::opening::{octets_of, value_of, value_under};
 use krb_accept_rules::{AuthenticatorFields, Opening, RequestFields, ServiceKey, TicketFields};
-use krb_crypto::Cipher;
+use krb_crypto::{Cipher, CipherSuite};
 use krb_der::{DerEncode, IntegerAsn1};
 use krb_enc_parts::data_types::{Authenticator, EncTicketPart};
 use krb_messages::messages::ApReq;
@@ -39,14 +39,14 @@ impl Opening for Kerberos {
     }
 
     fn is_supported(etype: &IntegerAsn1) -> bool {
-        match suite_of(etype) {
+        match CipherSuite::of_number(etype) {
             Some(_suite) => true,
             None => false,
         }
     }
 
     fn has_key_length(key: &EncryptionKey) -> bool {
-        match suite_of(&key.key_type.0) {
+        match CipherSuite::of_number(&key.key_type.0) {
             Some(suite) => octets_of(&key.key_value.0).len() == suite.key_size(),
             None => false,
         }
@@ -57,7 +57,7 @@ impl Opening for Kerberos {
         key: &ServiceKey,
         request: &RequestFields,
     ) -> Result<Option<TicketFields>, AllocError> {
-        let Some(suite) = suite_of(&request.ticket.etype.0) else {
+        let Some(suite) = CipherSuite::of_number(&request.ticket.etype.0) else {
             return Ok(None);
         };
         let octets = octets_of(&key.octets);
@@ -73,7 +73,7 @@ impl Opening for Kerberos {
         key: &EncryptionKey,
         request: &RequestFields,
     ) -> Result<Option<AuthenticatorFields>, AllocError> {
-        let Some(suite) = suite_of(&key.key_type.0) else {
+        let Some(suite) = CipherSuite::of_number(&key.key_type.0) else {
             return Ok(None);
         };
         let octets = octets_of(&key.key_value.0);

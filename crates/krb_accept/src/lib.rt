@@ -42,7 +42,7 @@ pub use krb_accept_rules::{
     Accepted, Arrival, Entry, Presented, Refusal, ReplayCache, Rule, ServerName, ServiceKey, Terms,
     TicketFields, admit,
 };
-pub use opening::suite_of;
+pub use opening::{suite_of, value_of};
 pub use settings::{PacCheck, Settings};
 pub use third_leg::{ThirdLegError, check_third_leg, confirm_by_key, confirm_third_leg};
 pub use token::{Context, PresentedToken, accept_token, admit_token, present_token};

@@ -6,7 +6,6 @@ ghost use Rattle.krb_message_fields.specs.Paths.{LeadsNowhere};
 ghost use Rattle.krb_accept_rules.specs.Firsts.{EachIs};
 
 use crate::opening::{octets_of, value_of};
-use crate::with_key::is_number;
 use krb_der::DerEncode;
 use krb_message_fields::places::{Step, place_of};
 use krb_types::data_types::{AuthorizationData, AuthorizationDataInner};
@@ -62,14 +61,14 @@ pub(crate) enum Held {
 fn is_pac(element: &AuthorizationDataInner) -> bool
     ensures { MatchBool result (IsPac element.now) (IsPac element.now → ⊥) }
 {
-    is_number(&element.ad_type.0, WIN2K_PAC)
+    element.ad_type.0.is_number(WIN2K_PAC)
 }
 
 /// Whether an element is an AD-IF-RELEVANT.
 fn is_if_relevant(element: &AuthorizationDataInner) -> bool
     ensures { MatchBool result (element.now.ad_type ≡ pos 1) (element.now.ad_type ≡ pos 1 → ⊥) }
 {
-    is_number(&element.ad_type.0, IF_RELEVANT)
+    element.ad_type.0.is_number(IF_RELEVANT)
 }
 
 /// Whether an element's content is an AuthorizationData.
@@ -77,7 +76,7 @@ fn is_whole(element: &AuthorizationDataInner) -> bool
     ensures { MatchBool result ((element.now.ad_type ≡ pos 1) ⊎ (element.now.ad_type ≡ pos 8))
         ((element.now.ad_type ≡ pos 1) ⊎ (element.now.ad_type ≡ pos 8) → ⊥) }
 {
-    is_if_relevant(element) || is_number(&element.ad_type.0, MANDATORY_FOR_KDC)
+    is_if_relevant(element) || element.ad_type.0.is_number(MANDATORY_FOR_KDC)
 }
 
 /// The tags that lead from an element's content to the AuthorizationData in it; `None` where its
@@ -88,13 +87,13 @@ fn way_into(element: &AuthorizationDataInner) -> Option<&'static [Step]>
     if is_whole(element) {
         return Some(&WHOLE);
     }
-    if is_number(&element.ad_type.0, KDC_ISSUED) {
+    if element.ad_type.0.is_number(KDC_ISSUED) {
         return Some(&FIELD_3);
     }
-    if is_number(&element.ad_type.0, AND_OR) {
+    if element.ad_type.0.is_number(AND_OR) {
         return Some(&FIELD_1);
     }
-    if is_number(&element.ad_type.0, CAMMAC) {
+    if element.ad_type.0.is_number(CAMMAC) {
         return Some(&FIELD_0);
     }
     None

@@ -6,7 +6,6 @@ ghost use Rattle.krb_accept.specs.Said.{HasChecksum, IsNotSaid, IsSaid, TakesOth
 use crate::checksum::checksum_of;
 use crate::settings::Settings;
 use crate::token_refusal::TokenRefusal;
-use crate::with_key::is_number;
 use krb_accept_rules::fits_bindings;
 use krb_types::data_types::Checksum;
 
@@ -29,7 +28,7 @@ pub(crate) fn gss_octets(checksum: &Option<Checksum>) -> Option<&[u8]>
     let Some(checksum) = checksum else {
         return None;
     };
-    if !is_number(&checksum.cksumtype.0, GSS_CHECKSUM) {
+    if !checksum.cksumtype.0.is_number(GSS_CHECKSUM) {
         return None;
     }
     Some(checksum.checksum.0.0.as_slice())

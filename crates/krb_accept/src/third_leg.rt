@@ -5,7 +5,7 @@ ghost use Rattle.krb_accept.specs.ThirdLeg.{HasNumbers, HasTime, IsClientReply, 
 ghost use Rattle.krb_accept.specs.declared.third_leg.ThirdLegError.TheVariants.{OutOfMemory, SequenceNumber};
 
 use crate::opening::{octets_of, value_of};
-use crate::with_key::{is_number, is_same_integer, value_with};
+use crate::with_key::{is_same_integer, value_with};
 use krb_accept_rules::Accepted;
 use krb_der::{DerEncode, GeneralizedTimeAsn1, IntegerAsn1};
 use krb_enc_parts::data_types::EncApRepPart;
@@ -86,8 +86,8 @@ fn is_same_time(first: &GeneralizedTimeAsn1, second: &GeneralizedTimeAsn1) -> bo
 fn has_numbers(message: &ApRep) -> bool
     ensures { MatchBool result (HasNumbers message.now) (HasNumbers message.now → ⊥) }
 {
-    is_number(&message.0.pvno.0, VERSION)
-        && is_number(&message.0.msg_type.0, u32::from(AP_REP_MSG_TYPE))
+    message.0.pvno.0.is_number(VERSION)
+        && message.0.msg_type.0.is_number(u32::from(AP_REP_MSG_TYPE))
 }
 
 /// Whether the part has the time of the client's authenticator.

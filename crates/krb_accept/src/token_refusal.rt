@@ -1,10 +1,10 @@
 //! Why a token is refused.
 
-ghost use Rattle.std.specs.Prelude.{◌≡◌};
-ghost use Rattle.krb_accept.specs.TokenRefusals.{memory, token_error_code};
+ghost use Rattle.std.specs.Prelude.{◌≡◌, ◌≢◌, false};
+ghost use Rattle.krb_accept.specs.TokenRefusals.{is_memory, memory, token_error_code};
 ghost use Rattle.krb_accept.specs.declared.token_refusal.TokenRefusal.TheVariants.{Request};
 
-use krb_accept_rules::Refusal;
+use krb_accept_rules::{Refusal, Rule};
 use std::alloc::AllocError;
 use std::fmt;
 
@@ -39,6 +39,20 @@ pub enum TokenRefusal {
 }
 
 impl TokenRefusal {
+    /// Whether nothing is decided, since an allocation failed.
+    pub fn is_out_of_memory(&self) -> bool
+        ensures value { result ≡ is_memory self.now }
+        ensures other { result ≡ false → self.now ≢ memory }
+    {
+        match self {
+            TokenRefusal::Request(refusal) => match refusal.rule {
+                Rule::OutOfMemory => true,
+                _ => false,
+            },
+            _ => false,
+        }
+    }
+
     /// The number of the error in a KRB-ERROR (RFC 4120, 7.5.9).
     pub fn code(&self) -> u32
         ensures { result ≡ token_error_code self.now }

@@ -4,7 +4,8 @@ ghost use Rattle.std.specs.Prelude.{◌≡◌, pos, IfOk, MatchBool, MatchOption
 ghost use Rattle.krb_accept.specs.WithKey.{IsSealedWith};
 ghost use Rattle.krb_accept_rules.specs.Values.{HasNone, IsTheValue};
 
-use crate::opening::{octets_of, suite_of, value_under};
+use crate::opening::{octets_of, value_under};
+use krb_crypto::CipherSuite;
 use krb_der::{Der, DerEncode, IntegerAsn1};
 use krb_types::data_types::{EncryptedData, EncryptionKey};
 use std::alloc::{AllocError, Global};
@@ -14,13 +15,6 @@ pub(crate) fn is_same_integer(first: &IntegerAsn1, second: &IntegerAsn1) -> bool
     ensures { MatchBool result (first.now ≡ second.now) (first.now ≡ second.now → ⊥) }
 {
     *first == *second
-}
-
-/// Whether an integer is this number.
-pub(crate) fn is_number(integer: &IntegerAsn1, number: u32) -> bool
-    ensures { MatchBool result (integer.now ≡ pos number) (integer.now ≡ pos number → ⊥) }
-{
-    integer.to_u32() == Some(number)
 }
 
 /// The one value whose encoding is encrypted in the part under this key for this usage, where there is one.
@@ -37,7 +31,7 @@ pub(crate) fn value_with<T: Der + Drop>(
     if !is_same_integer(&sealed.etype.0, &key.key_type.0) {
         return Ok(None);
     }
-    let Some(suite) = suite_of(&key.key_type.0) else {
+    let Some(suite) = CipherSuite::of_number(&key.key_type.0) else {
         return Ok(None);
     };
     let octets = octets_of(&key.key_value.0);

@@ -27,13 +27,6 @@ fn is_same_name(
     *first == *second
 }
 
-/// Whether an integer is this number.
-fn is_number(integer: &IntegerAsn1, number: u32) -> bool
-    ensures { MatchBool result (integer.now ≡ pos number) (integer.now ≡ pos number → ⊥) }
-{
-    integer.to_u32() == Some(number)
-}
-
 /// Whether a key is of the server that a ticket names.
 fn is_of_server(request: &RequestFields, key: &ServiceKey) -> bool
     ensures { MatchBool result (IsOfServer request.now key.now) (IsOfServer request.now key.now → ⊥) }
@@ -58,7 +51,7 @@ pub(crate) fn has_key_of(request: &RequestFields, keys: &[ServiceKey]) -> bool
 fn is_of_server_and_type(request: &RequestFields, key: &ServiceKey) -> bool
     ensures { MatchBool result (IsOfServerAndType request.now key.now) (IsOfServerAndType request.now key.now → ⊥) }
 {
-    is_of_server(request, key) && is_number(&request.ticket.etype.0, key.etype)
+    is_of_server(request, key) && request.ticket.etype.0.is_number(key.etype)
 }
 
 /// Appends the kvno of a key, if the key is of the server that a ticket names and of its encryption type.

@@ -11,7 +11,6 @@ mod report;
 mod request;
 mod rules;
 mod terms;
-mod value;
 mod written;
 
 pub use krb_accept_rules::{realm_of_text, server_of_text};

@@ -4,8 +4,8 @@ ghost use Rattle.std.specs.Prelude.{◌≡◌, ◌∷◌, ℤ, length, IfOk, Mat
 ghost use Rattle.krb_der_core.specs.GeneralizedTime.{IsRealTime};
 ghost use Rattle.krb_accept_report.specs.Texts.{IsMoment, IsNoText, IsTimeOf, digits_of, time_text};
 
-use crate::value::value_of;
 use crate::written::push_time;
+use krb_accept::value_of;
 use krb_der::GeneralizedTimeAsn1;
 use krb_types::view::{time_of_unix_seconds, unix_seconds};
 use std::alloc::{AllocError, Global};

@@ -4,7 +4,7 @@ ghost use Rattle.std.specs.Prelude.{◌≡◌, List, ℕ, IfOk, MatchBool, Match
 ghost use Rattle.krb_accept.specs.Opening.{Encodes};
 ghost use Rattle.krb_accept_report.specs.Negotiation.{BeginsWithKerberos, IsKerberos, IsMechToken, OffersKerberos};
 
-use crate::value::value_of;
+use krb_accept::value_of;
 use krb_der::{DerEncode, ExplicitContextTag0, OctetStringAsn1, Optional};
 use krb_gss_tokens::gss_api::{
     ApplicationTag0, GssApiNegInit, MechType, MechTypeList, NegTokenInit,

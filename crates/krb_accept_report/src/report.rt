@@ -156,19 +156,6 @@ fn refused_line(
     printed(alloc, &text)
 }
 
-/// Whether an allocation failed.
-fn is_memory(refusal: &TokenRefusal) -> bool
-    ensures { MatchBool result ⊤ (refusal.now ≢ memory) }
-{
-    match refusal {
-        TokenRefusal::Request(refusal) => match refusal.rule {
-            Rule::OutOfMemory => true,
-            _ => false,
-        },
-        _ => false,
-    }
-}
-
 /// What is said of a client that is let in.
 fn accepted_report(alloc: Global, accepted: &Accepted) -> Result<Report, AllocError>
     ensures accepts { IfOk result (λ r. r.accepts ≡ true) }
@@ -196,7 +183,7 @@ fn refused_report(
         refusal.now r.line.items) }
     ensures printable { IfOk result (λ r. ArePrintable r.line.items) }
 {
-    if is_memory(refusal) {
+    if refusal.is_out_of_memory() {
         return Err(AllocError);
     }
     let line = refused_line(alloc, service, token, refusal)?;

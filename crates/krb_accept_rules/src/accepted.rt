@@ -6,7 +6,7 @@ ghost use Rattle.krb_accept_rules.specs.Accepted.{accepted_of, entry_of};
 use crate::cache::Entry;
 use crate::fields::{AuthenticatorFields, RequestFields, TicketFields};
 use crate::key::ServiceKey;
-use krb_der::{Asn1SequenceOf, Der, IntegerAsn1, copy};
+use krb_der::{Asn1SequenceOf, IntegerAsn1, copied};
 use krb_types::data_types::{
     ApOptions, AuthorizationData, Checksum, EncryptionKey, KerberosStringAsn1, KerberosTime,
     Microseconds, PrincipalName, Realm,
@@ -51,16 +51,6 @@ pub struct Presented<'k> {
     pub accepted: Accepted,
     /// The key that opened the ticket.
     pub key: &'k ServiceKey,
-}
-
-/// An equal value.
-fn copied<T: Der + Drop>(alloc: Global, value: &T) -> Result<T, AllocError>
-    ensures { IfOk result (λ same. same ≡ value.now) }
-{
-    match copy(alloc, value) {
-        Ok(same) => Ok(same),
-        Err(_error) => Err(AllocError),
-    }
 }
 
 /// What is remembered of the server, and the microseconds of the authenticator.

@@ -9,7 +9,7 @@ ghost use Rattle.krb_accept_rules.specs.Numbers.{IsNumber32};
 use crate::elements::{check_form, check_trust};
 use crate::fields::{AuthenticatorFields, TicketFields};
 use crate::names::{is_among, is_same_name, is_same_realm};
-use crate::numbers::{is_listed, is_number, is_number_of_32_bits, microseconds_of};
+use crate::numbers::{is_listed, is_number_of_32_bits, microseconds_of};
 use crate::opening::Opening;
 use crate::refusal::{Refusal, Rule};
 use crate::seconds::is_within;
@@ -103,7 +103,7 @@ fn check_parts<O: Opening>(
     ensures broken { IfErr result (RefusesFirst (AuthenticatorRule ⟦<O as Opening>⟧ terms.now arrival.now ticket.now authenticator.now)
         (ShowsTime ticket.now authenticator.now) parts_order) }
 {
-    if !is_number(&authenticator.version, VERSION) {
+    if !authenticator.version.is_number(VERSION) {
         return Err(Refusal::plain(Rule::AuthenticatorVersion));
     }
     let Some(microseconds) = microseconds_of(&authenticator.cusec) else {

@@ -6,7 +6,7 @@ ghost use Rattle.krb_accept_rules.specs.FirstFault.{Keeps, OrMemory, RefusesFirs
 ghost use Rattle.krb_accept_rules.specs.Firsts.{EachIs};
 
 use crate::fields::{AuthenticatorFields, TicketFields};
-use crate::numbers::{is_listed, is_number};
+use crate::numbers::is_listed;
 use crate::opening::Opening;
 use crate::refusal::{Refusal, Rule};
 use crate::servers::is_realm_of;
@@ -54,7 +54,7 @@ fn data_in(field: &Option<AuthorizationData>) -> &[AuthorizationDataInner]
 fn is_understood(known: &[u32], element: &AuthorizationDataInner) -> bool
     ensures { MatchBool result (IsUnderstood known.now element.now) (IsUnderstood known.now element.now → ⊥) }
 {
-    is_number(&element.ad_type.0, IF_RELEVANT) || is_listed(known, &element.ad_type.0)
+    element.ad_type.0.is_number(IF_RELEVANT) || is_listed(known, &element.ad_type.0)
 }
 
 /// Whether the service understands each element.
@@ -91,7 +91,7 @@ fn is_well_formed<O: Opening>(
     ensures { IfOk result (λ is. MatchBool is (IsWellFormed ⟦<O as Opening>⟧ element.now)
         (IsWellFormed ⟦<O as Opening>⟧ element.now → ⊥)) }
 {
-    if !is_number(&element.ad_type.0, IF_RELEVANT) {
+    if !element.ad_type.0.is_number(IF_RELEVANT) {
         return Ok(true);
     }
     O::is_authorization_data(alloc, &element.ad_data.0.0)

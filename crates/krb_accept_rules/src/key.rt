@@ -7,7 +7,6 @@ ghost use Rattle.krb_accept_rules.specs.Keys.{Fits, IsOfItsVersion, IsOfServer, 
 
 use crate::fields::RequestFields;
 use crate::names::{is_same_name, is_same_realm};
-use crate::numbers::is_number;
 use krb_der::OctetStringAsn1;
 use krb_types::data_types::{PrincipalName, Realm};
 use krb_types::view::{Present, is_set};
@@ -75,7 +74,7 @@ fn is_of_server(request: &RequestFields, key: &ServiceKey) -> bool
 fn is_of_type(request: &RequestFields, key: &ServiceKey) -> bool
     ensures { MatchBool result (IsOfType request.now key.now) (IsOfType request.now key.now → ⊥) }
 {
-    is_number(&request.ticket.etype.0, key.etype)
+    request.ticket.etype.0.is_number(key.etype)
 }
 
 /// Whether a key is of the version that a ticket names, where it names one.
@@ -84,7 +83,7 @@ fn is_of_version(request: &RequestFields, key: &ServiceKey) -> bool
         (IsOfVersion request.now.ticket.kvno.0 key.now.kvno → ⊥) }
 {
     match request.ticket.kvno.get() {
-        Some(kvno) => is_number(kvno, key.kvno),
+        Some(kvno) => kvno.is_number(key.kvno),
         None => true,
     }
 }

@@ -9,13 +9,6 @@ use krb_types::data_types::Microseconds;
 /// How many microseconds a second has.
 const MICROSECONDS: u32 = 1_000_000;
 
-/// Whether an integer is this number.
-pub(crate) fn is_number(integer: &IntegerAsn1, number: u32) -> bool
-    ensures { MatchBool result (integer.now ≡ pos number) (integer.now ≡ pos number → ⊥) }
-{
-    integer.to_u32() == Some(number)
-}
-
 /// Whether two integers are the same.
 pub(crate) fn is_same_integer(first: &IntegerAsn1, second: &IntegerAsn1) -> bool
     ensures { MatchBool result (first.now ≡ second.now) (first.now ≡ second.now → ⊥) }
@@ -28,7 +21,7 @@ pub(crate) fn is_listed(numbers: &[u32], integer: &IntegerAsn1) -> bool
     ensures { MatchBool result (IsListed numbers.now integer.now) (IsListed numbers.now integer.now → ⊥) }
 {
     for number in numbers {
-        if is_number(integer, *number) {
+        if integer.is_number(*number) {
             return true;
         }
     }

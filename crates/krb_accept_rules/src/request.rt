@@ -11,7 +11,6 @@ use crate::authenticator::is_permitted;
 use crate::fields::RequestFields;
 use crate::flags::has_flags;
 use crate::key::{ServiceKey, Sought, first_key, keys_for, uses_session_key, version_seen};
-use crate::numbers::is_number;
 use crate::opening::Opening;
 use crate::refusal::{Refusal, Rule};
 use crate::servers::is_served;
@@ -45,13 +44,13 @@ fn check_form<O: Opening>(
     ensures broken { IfErr result (RefusesFirst (RequestRule ⟦<O as Opening>⟧ terms.now keys.now session_keys.now request.now)
         (ShowsOfRequest request.now) form_order) }
 {
-    if !is_number(&request.version, VERSION) {
+    if !request.version.is_number(VERSION) {
         return Err(Refusal::plain(Rule::Version));
     }
-    if !is_number(&request.message_type, AP_REQ) {
+    if !request.message_type.is_number(AP_REQ) {
         return Err(Refusal::plain(Rule::MessageType));
     }
-    if !is_number(&request.ticket_version, VERSION) {
+    if !request.ticket_version.is_number(VERSION) {
         return Err(Refusal::plain(Rule::TicketVersion));
     }
     if !has_flags(&request.options) {

@@ -1,10 +1,8 @@
 -- What becomes of a call of the acceptor, and what it tells.
 use Rattle.std.specs.Prelude.{◌≡◌, ◌⊎◌, ℕ, ◌<◌, ◌==◌, Bool, true, false, if◌then◌else◌, List}
+use Rattle.krb_accept.specs.TokenRefusals.{is_memory}
 use Rattle.krb_accept.specs.declared.token_refusal.TokenRefusal.{TokenRefusal}
-use Rattle.krb_accept.specs.declared.token_refusal.TokenRefusal.TheVariants as refusal
 use Rattle.krb_accept_rules.specs.declared.opening.Opening.{Ghosts as OpeningOf}
-use Rattle.krb_accept_rules.specs.declared.refusal.Rule.{Rule}
-use Rattle.krb_accept_rules.specs.declared.refusal.Rule.TheVariants as Rules
 use Rattle.krb_der_core.specs.declared.der.DerEncode.{Ghosts as EncodingOf}
 use Rattle.krb_enc_parts.specs.declared.data_types.authenticators.EncApRepPartInner.{EncApRepPartInner}
 use Rattle.krb_enc_parts.specs.declared.data_types.credentials.EncKrbCredPartInner.{EncKrbCredPartInner}
@@ -27,15 +25,6 @@ use Rattle.krb_c_accept.specs.declared.prepared.Prepared.{Prepared}
 use Rattle.krb_c_accept.specs.declared.records.AcceptedRecord.{AcceptedRecord}
 
 -- ---- a refused token
-
--- that it is refused means that an allocation failed
-abbrev pub is_memory_rule : Rule → Bool
-is_memory_rule Rules.OutOfMemory = true
-is_memory_rule other = false
-
-abbrev pub is_memory : TokenRefusal → Bool
-is_memory (refusal.Request r) = is_memory_rule r.rule
-is_memory other = false
 
 abbrev pub refused : TokenRefusal → Outcome
 refused e = if is_memory e then outcomes.Failed refusals.Memory else outcomes.Refused e

@@ -2,7 +2,7 @@
 
 ghost use Rattle.std.specs.Prelude.{◌≡◌, length};
 ghost use Rattle.krb_accept.specs.Kerberos.{HasLength};
-ghost use Rattle.krb_c_accept.specs.Calls.{IsAnswered, IsCall, IsDecision, IsOutcome, Tells, is_memory, let_in_status, refused};
+ghost use Rattle.krb_c_accept.specs.Calls.{IsAnswered, IsCall, IsDecision, IsOutcome, Tells, let_in_status, refused};
 ghost use Rattle.krb_c_accept.specs.Inputs.{inputs_of};
 
 use crate::answer::{Answer, answer_of};
@@ -10,7 +10,7 @@ use crate::decision::{LetIn, judged};
 use crate::prepared::{Asked, Prepared, prepared_of};
 use crate::records::{AcceptedRecord, NOTHING};
 use crate::rules::refused_record;
-use krb_accept::{Kerberos, Rule, TokenRefusal};
+use krb_accept::{Kerberos, TokenRefusal};
 use krb_accept_rules::Opening;
 use krb_c_calls::handing::put;
 use krb_c_calls::{CallError, DONE};
@@ -34,24 +34,11 @@ enum Outcome {
     Failed(CallError),
 }
 
-/// Whether an allocation failed.
-fn is_memory(refusal: &TokenRefusal) -> bool
-    ensures { result ≡ is_memory refusal.now }
-{
-    match refusal {
-        TokenRefusal::Request(refusal) => match refusal.rule {
-            Rule::OutOfMemory => true,
-            _ => false,
-        },
-        _ => false,
-    }
-}
-
 /// What becomes of a token that is refused.
 fn refused(refusal: TokenRefusal) -> Outcome
     ensures { result ≡ refused refusal }
 {
-    if is_memory(&refusal) {
+    if refusal.is_out_of_memory() {
         Outcome::Failed(CallError::Memory)
     } else {
         Outcome::Refused(refusal)

@@ -12,7 +12,7 @@ use krb_accept::{ServiceKey, error_reply, error_reply_token};
 use krb_build::{BuildError, ErrorParts};
 use krb_c_calls::CallError;
 use krb_c_calls::handing::hand_out;
-use krb_der::{Der, DerEncode, copy};
+use krb_der::{DerEncode, copied};
 use krb_messages::messages::KrbError;
 use std::alloc::{AllocError, Global};
 
@@ -27,16 +27,6 @@ pub struct ErrorAsked {
     pub code: u32,
     /// Whether the message goes in a frame.
     pub in_frame: bool,
-}
-
-/// An equal value.
-fn copied<T: Der + Drop>(alloc: Global, value: &T) -> Result<T, AllocError>
-    ensures { IfOk result (λ same. same ≡ value.now) }
-{
-    match copy(alloc, value) {
-        Ok(same) => Ok(same),
-        Err(_) => Err(AllocError),
-    }
 }
 
 /// The parts of the message, with the realm and the name of a key.

@@ -4,14 +4,13 @@ ghost use Rattle.std.specs.Prelude.{◌≡◌, IfErr, IfOk};
 ghost use Rattle.krb_c_client.specs.Confirmed.{IsConfirmedPart, IsNotConfirmedPart, IsReplyCall, IsSessionKey, reply_inputs_of, sent_of};
 ghost use Rattle.krb_c_client.specs.Suites.{IsNoSuite};
 
-use crate::granted::encoding;
 use crate::refusal::Refusal;
 use crate::rules::reply_refusal;
 use crate::tell::tell_octets;
 use krb_c_calls::CallError;
 use krb_c_calls::suites::cipher_suite_of;
 use krb_client::{Key, Sent, check_ap_rep};
-use krb_der::{ApplicationTag, DerEncode};
+use krb_der::{ApplicationTag, DerEncode, encoding};
 use krb_enc_parts::data_types::{EncApRepPart, EncApRepPartInner};
 use krb_messages::messages::ApRep;
 use std::alloc::{AllocError, Global};

@@ -5,7 +5,7 @@ ghost use Rattle.krb_c_client.specs.Followed.{IsTold};
 
 use crate::records::{FollowedRecord, grants};
 use krb_client::Granted;
-use krb_der::{ApplicationTag, DerEncode, to_vec};
+use krb_der::{ApplicationTag, DerEncode, encoding};
 use krb_messages::messages::EncTgsRepPart;
 use krb_types::data_types::Ticket;
 use std::alloc::{AllocError, Global};
@@ -17,16 +17,6 @@ pub(crate) struct Told {
     pub record: FollowedRecord,
     /// The octets that it tells of.
     pub octets: Vec<u8>,
-}
-
-/// The encoding of a value.
-pub(crate) fn encoding<T: DerEncode>(alloc: Global, value: &T) -> Result<Vec<u8>, AllocError>
-    ensures { IfOk result (λ octets. octets.items ≡ T.enc value.now) }
-{
-    match to_vec(alloc, value) {
-        Ok(octets) => Ok(octets),
-        Err(_) => Err(AllocError),
-    }
 }
 
 /// The encodings of a ticket and of its part, which is under tag 26, one behind the other.

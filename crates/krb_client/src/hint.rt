@@ -12,7 +12,7 @@ use crate::error::ClientError;
 use crate::keys::{Client, HintError, Limits, Secret, client_key, key_by_elements};
 use crate::messages::{Encodings, Rfc4120};
 use crate::replies::ReplyError;
-use krb_client_rules::{Asked, Key, is_number};
+use krb_client_rules::{Asked, Key};
 use krb_crypto::CipherSuite;
 use krb_der::{ApplicationTag, Asn1SequenceOf, Der, DerEncode, IntegerAsn1, from_bytes};
 use krb_messages::messages::{AsRep, KdcRep};
@@ -53,7 +53,7 @@ impl<const N: u8> Hinting for ApplicationTag<KdcRep, N> {
 fn is_number_of(number: &IntegerAsn1, suite: &CipherSuite) -> bool
     ensures { MatchBool result (IsNumberOf number.now suite.now) (IsNumberOf number.now suite.now → ⊥) }
 {
-    is_number(number, u32::from(suite))
+    number.is_number(u32::from(suite))
 }
 
 /// The first of these suites whose encryption type has this number.

@@ -9,7 +9,7 @@ ghost use Rattle.krb_client.specs.declared.renamed.RenameError.TheVariants as er
 
 use crate::replies::ReplyError;
 use crate::requests::{LentKey, RequestError, request_checksum};
-use krb_client_rules::{Key, is_number};
+use krb_client_rules::Key;
 use krb_der::DerEncode;
 use krb_messages::messages::EncKdcRepPart;
 use krb_types::data_types::{Checksum, PaData};
@@ -44,7 +44,7 @@ pub enum RenameError {
 fn is_mark(element: &PaData) -> bool
     ensures { MatchBool result (IsMark element.now) (IsMark element.now → ⊥) }
 {
-    is_number(&element.padata_type.0, REQ_ENC_PA_REP)
+    element.padata_type.0.is_number(REQ_ENC_PA_REP)
 }
 
 /// The first PA-REQ-ENC-PA-REP of these elements.

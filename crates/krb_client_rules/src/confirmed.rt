@@ -3,7 +3,6 @@
 ghost use Rattle.std.specs.Prelude.{MatchBool};
 ghost use Rattle.krb_client_rules.specs.Times.{HasTime};
 
-use crate::numbers::is_number;
 use krb_enc_parts::data_types::EncApRepPartInner;
 use krb_types::view::unix_seconds;
 
@@ -21,5 +20,5 @@ pub struct Sent {
 pub fn has_time(part: &EncApRepPartInner, sent: &Sent) -> bool
     ensures { MatchBool result (HasTime sent.now part.now) (HasTime sent.now part.now → ⊥) }
 {
-    unix_seconds(&part.ctime.0) == sent.seconds && is_number(&part.cusec.0, sent.microseconds)
+    unix_seconds(&part.ctime.0) == sent.seconds && part.cusec.0.is_number(sent.microseconds)
 }

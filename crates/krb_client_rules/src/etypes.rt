@@ -3,7 +3,6 @@
 ghost use Rattle.std.specs.Prelude.{MatchBool};
 ghost use Rattle.krb_client_rules.specs.Etypes.{IsAskedFor};
 
-use crate::numbers::is_number;
 use krb_crypto::CipherSuite;
 use krb_der::IntegerAsn1;
 
@@ -12,7 +11,7 @@ pub fn is_asked_for(suites: &[CipherSuite], number: &IntegerAsn1) -> bool
     ensures { MatchBool result (IsAskedFor suites.now number.now) (IsAskedFor suites.now number.now → ⊥) }
 {
     for suite in suites {
-        if is_number(number, u32::from(suite)) {
+        if number.is_number(u32::from(suite)) {
             return true;
         }
     }

@@ -9,7 +9,6 @@ use crate::asked::{Asked, Clock};
 use crate::etypes::is_asked_for;
 use crate::mismatch::Mismatch;
 use crate::names::is_server;
-use crate::numbers::is_number;
 use crate::part_times::check_times;
 use crate::sizes::{has_flags, has_key_size};
 use krb_der::{
@@ -148,7 +147,7 @@ fn check_identity<P: ReplyPart>(part: &P, asked: &Asked, clock: &Clock) -> Resul
     ensures kept { OnOk result (Keeps (PartRule asked.now clock.now (P.content part.now)) identity_order) }
     ensures broken { IfErr result (BreaksFirst (PartRule asked.now clock.now (P.content part.now)) identity_order) }
 {
-    if !is_number(part.nonce(), asked.nonce) {
+    if !part.nonce().is_number(asked.nonce) {
         return Err(Mismatch::Nonce);
     }
     if !is_server(part.srealm(), part.sname(), asked) {

@@ -8,7 +8,6 @@ use crate::asked::Asked;
 use crate::etypes::is_asked_for;
 use crate::mismatch::Mismatch;
 use crate::names::{is_same_name, is_same_realm, is_server};
-use crate::numbers::is_number;
 use krb_crypto::CipherSuite;
 use krb_der::{ApplicationTag, IntegerAsn1};
 use krb_messages::messages::KdcRep;
@@ -129,7 +128,7 @@ pub fn is_expected<M: KdcReply>(
     if !is_for_client(message, asked) {
         return Err(Mismatch::Client);
     }
-    if !is_number(message.ticket_version(), VERSION) {
+    if !message.ticket_version().is_number(VERSION) {
         return Err(Mismatch::TicketVersion);
     }
     if !is_server(message.ticket_realm(), message.ticket_sname(), asked) {
@@ -138,7 +137,7 @@ pub fn is_expected<M: KdcReply>(
     if !is_asked_of(initial, &asked.etypes, message.etype()) {
         return Err(Mismatch::Unasked);
     }
-    if !is_number(message.etype(), etype) {
+    if !message.etype().is_number(etype) {
         return Err(Mismatch::EncryptionType);
     }
     Ok(())

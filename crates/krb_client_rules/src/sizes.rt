@@ -1,7 +1,6 @@
 //! How many octets a session key has, and how many flags a ticket.
 
-ghost use Rattle.std.specs.Prelude.{◌≡◌, pos, MatchBool, MatchOption};
-ghost use Rattle.krb_crypto.specs.Suites.{etype};
+ghost use Rattle.std.specs.Prelude.{MatchBool};
 ghost use Rattle.krb_client_rules.specs.Sizes.{HasFlags, HasKeySize};
 
 use krb_crypto::{Cipher, CipherSuite};
@@ -10,23 +9,11 @@ use krb_der::{BitStringAsn1, IntegerAsn1};
 /// How many bits flags have at least (RFC 4120, 5.2.8).
 const FLAGS: usize = 32;
 
-/// The suite of an encryption type (RFC 3961, 8); `None` where no suite has this number.
-fn suite_of(number: &IntegerAsn1) -> Option<CipherSuite>
-    ensures { MatchOption result ((suite : CipherSuite) → number.now ≡ pos (etype suite) → ⊥)
-        (λ suite. number.now ≡ pos (etype suite)) }
-{
-    let number = number.to_u32()?;
-    match CipherSuite::try_from(number as usize) {
-        Ok(suite) => Some(suite),
-        Err(_error) => None,
-    }
-}
-
 /// Whether a key has as many octets as one of its encryption type has (RFC 3961, 5.3).
 pub(crate) fn has_key_size(number: &IntegerAsn1, octets: &[u8]) -> bool
     ensures { MatchBool result (HasKeySize number.now octets.now) (HasKeySize number.now octets.now → ⊥) }
 {
-    match suite_of(number) {
+    match CipherSuite::of_number(number) {
         Some(suite) => octets.len() == suite.key_size(),
         None => false,
     }

@@ -1,10 +1,12 @@
 //! The encryption suites by their numbers.
 
-ghost use Rattle.std.specs.Prelude.{◌≡◌, ◌<◌, [], ◌∷◌, MatchResult};
+ghost use Rattle.std.specs.Prelude.{◌≡◌, ◌<◌, [], ◌∷◌, pos, MatchOption, MatchResult};
 ghost use Rattle.krb_crypto_hash.specs.CryptoError.{IsMemoryOr};
 ghost use Rattle.krb_crypto.specs.Suites.{etype, IsNumbered, IsIdentifierData, NoSuite};
+ghost use Rattle.krb_crypto.specs.declared.cipher_suite.CipherSuite.{CipherSuite};
 
 use krb_crypto_block::{KerberosCryptoError, KerberosCryptoResult};
+use krb_der::IntegerAsn1;
 use krb_registry::etypes::{
     AES128_CTS_HMAC_SHA1_96, AES128_CTS_HMAC_SHA256_128, AES256_CTS_HMAC_SHA1_96,
     AES256_CTS_HMAC_SHA384_192, DES3_CBC_SHA1_KD,
@@ -39,6 +41,16 @@ impl CipherSuite {
             }
         }
         Err(KerberosCryptoError::AlgorithmIdentifierData(Vec::from_slice(alloc, identifier)?))
+    }
+
+    /// The suite of an encryption type (RFC 3961, 8; RFC 3962, 7; RFC 8009, 7); `None` where no suite has this number.
+    pub fn of_number(number: &IntegerAsn1) -> Option<CipherSuite>
+        ensures { MatchOption result ((suite : CipherSuite) → number.now ≡ pos (etype suite) → ⊥) (λ suite. number.now ≡ pos (etype suite)) }
+    {
+        match CipherSuite::try_from(number.to_u32()? as usize) {
+            Ok(suite) => Some(suite),
+            Err(_error) => None,
+        }
     }
 
     fn number(&self) -> usize

@@ -1,6 +1,6 @@
 //! The errors of the cryptography.
 
-ghost use Rattle.std.specs.Prelude.{◌≡◌};
+ghost use Rattle.std.specs.Prelude.{◌≡◌, MatchBool};
 ghost use Rattle.krb_crypto_hash.specs.declared.error.KerberosCryptoError.TheVariants.{OutOfMemory};
 
 use std::alloc::{AllocError, AllocFailed};
@@ -46,6 +46,18 @@ pub enum KerberosCryptoError {
 
 /// The result of a call of the cryptography.
 pub type KerberosCryptoResult<T> = Result<T, KerberosCryptoError>;
+
+impl KerberosCryptoError {
+    /// Whether an allocation failed.
+    pub fn is_out_of_memory(&self) -> bool
+        ensures { MatchBool result (self.now ≡ OutOfMemory) (self.now ≡ OutOfMemory → ⊥) }
+    {
+        match self {
+            KerberosCryptoError::OutOfMemory => true,
+            _ => false,
+        }
+    }
+}
 
 impl From<AllocError> for KerberosCryptoError {
     ghost from_gives = { λ _ e. e ≡ OutOfMemory };

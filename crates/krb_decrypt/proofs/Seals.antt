@@ -1,14 +1,11 @@
 -- What a prepared key says of the key that it was prepared from.
-use Rattle.std.proofs.Common.{◌≡◌, ℕ, ◌<◌, ◌≤◌, ℤ, false, List, subst, sym, ap, ◌∙◌, length, arith}
+use Rattle.std.proofs.Common.{◌≡◌, ℕ, ◌<◌, ◌≤◌, ℤ, List, subst, sym, length, arith}
 use Rattle.krb_crypto_message.specs.Sealing.{HasNoPayload, IsGiven, Opens}
 use Rattle.krb_crypto.specs.BySuite.{IsSealed, confounder_octets_of, key_octets_of, padding_octets_of}
 use Rattle.krb_crypto.specs.PreparedKeys.{IsPreparedFor, PreparedKeys}
 use Rattle.krb_crypto.specs.declared.cipher_suite.CipherSuite.{CipherSuite}
 use Rattle.krb_crypto.specs.declared.cipher_suite.CipherSuite.TheVariants as suites
-use Rattle.krb_crypto_hash.specs.declared.error.KerberosCryptoError.{KerberosCryptoError}
-use Rattle.krb_crypto_hash.specs.declared.error.KerberosCryptoError.TheVariants as crypto
-use Rattle.std.proofs.lemmas.Bool.{false≢true}
-use Rattle.krb_decrypt.specs.Keys.{Decrypts, HasZeros, NamedKey, IsSealedOf, SealsNone, is_memory, zeros_of}
+use Rattle.krb_decrypt.specs.Keys.{Decrypts, HasZeros, NamedKey, IsSealedOf, SealsNone, zeros_of}
 
 -- what is given under the prepared key is sealed under the key
 pub sealed_of : (key : NamedKey) (usage : ℤ) (cipher payload : List ℕ) (k : PreparedKeys) → k.suite ≡ key.suite → IsPreparedFor key.octets usage k
@@ -70,7 +67,3 @@ decrypts_of key usage cipher opened k same prepared opens = record {
 pub none_of : (key : NamedKey) (usage : ℤ) (cipher : List ℕ) (k : PreparedKeys) → k.suite ≡ key.suite
     → HasNoPayload (IsSealed k.suite key.octets usage) (confounder_octets_of k.suite) cipher → SealsNone key usage cipher
 none_of key usage cipher k same none = λ payload sealed. none payload (given_of key usage cipher payload k same sealed)
-
--- an error that is not of memory
-pub not_memory : (e : KerberosCryptoError) → is_memory e ≡ false → e ≡ crypto.OutOfMemory → ⊥
-not_memory e is_not is = false≢true (sym is_not ∙ ap is_memory is)

@@ -1,8 +1,6 @@
 -- Keys with names, and what is encrypted under them (RFC 3961, 5.3).
-use Rattle.std.specs.Prelude.{◌≡◌, ◌↔◌, ◌≤◌, ◌++◌, replicate, ℕ, ℤ, pos, Bool, true, false, if◌then◌else◌, List, Option, None, Some, length}
+use Rattle.std.specs.Prelude.{◌≡◌, ◌↔◌, ◌≤◌, ◌++◌, replicate, ℕ, ℤ, pos, if◌then◌else◌, List, Option, None, Some, length}
 use Rattle.std.specs.Ordering.{int_eq}
-use Rattle.krb_crypto_hash.specs.declared.error.KerberosCryptoError.{KerberosCryptoError}
-use Rattle.krb_crypto_hash.specs.declared.error.KerberosCryptoError.TheVariants as crypto
 use Rattle.krb_crypto_message.specs.Sealing.{IsGiven}
 use Rattle.krb_crypto.specs.BySuite.{IsSealed, confounder_octets_of, key_octets_of}
 use Rattle.krb_crypto.specs.declared.cipher_suite.CipherSuite.{CipherSuite}
@@ -52,8 +50,3 @@ pub record Decrypts (key : NamedKey) (usage : ℤ) (cipher decrypted : List ℕ)
 -- no payload is encrypted to these octets
 abbrev pub SealsNone : NamedKey → ℤ → List ℕ → Type 0
 SealsNone key usage cipher = (payload : List ℕ) → IsSealedOf key usage cipher payload → ⊥
-
--- the error says that an allocation failed
-abbrev pub is_memory : KerberosCryptoError → Bool
-is_memory crypto.OutOfMemory = true
-is_memory other = false

@@ -39,8 +39,8 @@ impl Key {
     }
 }
 
-/// The suite of an encryption type, if there is one.
-pub(crate) fn suite_of(etype: Option<i64>) -> Option<CipherSuite>
+/// The suite of an encryption type, if there is one (RFC 3961, 8; RFC 3962, 7; RFC 8009, 7).
+pub fn suite_of(etype: Option<i64>) -> Option<CipherSuite>
     ensures { result ≡ suite_of etype }
 {
     match etype {

@@ -25,7 +25,7 @@ mod walked;
 
 pub use behind::{Nothing, TellsBehind};
 pub use hidden::without_keys;
-pub use key::Key;
+pub use key::{Key, suite_of};
 pub use keys::keys_of_passwords;
 pub use keytab::{KeytabKeysError, keys_of_keytab};
 pub use outcome::{Outcome, Part, Reason};

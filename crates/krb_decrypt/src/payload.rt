@@ -3,7 +3,7 @@
 ghost use Rattle.std.specs.Prelude.{◌≡◌, ◌≢◌, ⊤, IfOk, MatchOption, length};
 ghost use Rattle.krb_crypto.specs.BySuite.{key_octets_of};
 ghost use Rattle.krb_crypto.specs.PreparedKeys.{IsPreparedFor};
-ghost use Rattle.krb_decrypt.specs.Keys.{Decrypts, SealsNone, is_memory};
+ghost use Rattle.krb_decrypt.specs.Keys.{Decrypts, SealsNone};
 ghost use Rattle.krb_decrypt.specs.Usages.{integer_of};
 
 use crate::key::Key;
@@ -20,16 +20,6 @@ fn prepared_for(key: &Key, usage: Usage) -> Option<OpeningKey>
     match OpeningKey::new(&key.suite, &key.octets, i32::from(usage.number())) {
         Ok(prepared) => Some(prepared),
         Err(_error) => None,
-    }
-}
-
-/// Whether an allocation failed.
-fn is_memory(error: &KerberosCryptoError) -> bool
-    ensures { result ≡ is_memory error.now }
-{
-    match error {
-        KerberosCryptoError::OutOfMemory => true,
-        _ => false,
     }
 }
 
@@ -50,7 +40,7 @@ pub(crate) fn decrypted_under(
     match prepared.decrypt(alloc, cipher) {
         Ok(decrypted) => Ok(Some(decrypted)),
         Err(error) => {
-            if is_memory(&error) {
+            if error.is_out_of_memory() {
                 return Err(AllocError);
             }
             Ok(None)

@@ -10,16 +10,6 @@ use krb_schema::kerberos::kerberos;
 use krb_schema::{Fault, Item, Name, Role, items_of, row_named};
 use std::alloc::{AllocError, Global};
 
-/// Whether an allocation failed.
-fn is_memory(fault: &Fault) -> bool
-    ensures { MatchBool result (fault.now ≡ faults.OutOfMemory) (fault.now ≡ faults.OutOfMemory → ⊥) }
-{
-    match fault {
-        Fault::OutOfMemory => true,
-        Fault::NoRow | Fault::TooDeep { .. } | Fault::Refused { .. } => false,
-    }
-}
-
 /// The items of octets by the row of their type, if they are one element of it.
 fn walked_by(
     alloc: Global,
@@ -38,7 +28,7 @@ fn walked_by(
     match items_of(alloc, &kerberos(), row, name, octets) {
         Ok(items) => Ok(Some(items)),
         Err(fault) => {
-            if is_memory(&fault) {
+            if fault.is_out_of_memory() {
                 return Err(AllocError);
             }
             Ok(None)

@@ -30,4 +30,4 @@ pub use krb_der_core::{
 pub use optional::Optional;
 pub use sequence_of::Asn1SequenceOf;
 pub use stream::{from_reader, to_writer};
-pub use whole::{copy, from_bytes, to_vec};
+pub use whole::{copied, copy, encoding, from_bytes, to_vec};

@@ -52,6 +52,27 @@ pub fn copy<T: Der + Drop>(alloc: Global, value: &T) -> Result<T, Asn1DerError>
     from_bytes(alloc, &octets)
 }
 
+/// The encoding of a value, as of `to_vec`, for callers whose only error is that of memory.
+pub fn encoding<T: DerEncode>(alloc: Global, value: &T) -> Result<Vec<u8>, AllocError>
+    ensures octets { IfOk result (λ v. v.items ≡ T.enc value.now) }
+    ensures valid { OnOk result (T.is_value value.now) }
+{
+    match to_vec(alloc, value) {
+        Ok(octets) => Ok(octets),
+        Err(_error) => Err(AllocError),
+    }
+}
+
+/// An equal value, as of `copy`, for callers whose only error is that of memory.
+pub fn copied<T: Der + Drop>(alloc: Global, value: &T) -> Result<T, AllocError>
+    ensures { IfOk result (λ same. same ≡ value.now) }
+{
+    match copy(alloc, value) {
+        Ok(same) => Ok(same),
+        Err(_error) => Err(AllocError),
+    }
+}
+
 /// Appends the element of this tag around a value's encoding.
 pub(crate) fn write_around<T: DerEncode>(
     alloc: Global,

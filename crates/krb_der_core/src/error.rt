@@ -1,6 +1,6 @@
 //! Errors of reading and writing DER.
 
-ghost use Rattle.std.specs.Prelude.{◌≡◌};
+ghost use Rattle.std.specs.Prelude.{◌≡◌, MatchBool};
 ghost use Rattle.krb_der_core.specs.declared.error.Asn1DerError.TheVariants as errors;
 
 use std::alloc::{AllocError, AllocFailed};
@@ -28,6 +28,18 @@ pub enum Asn1DerError {
     /// An allocation failed.
     #[error("out of memory")]
     OutOfMemory,
+}
+
+impl Asn1DerError {
+    /// Whether an allocation failed.
+    pub fn is_out_of_memory(&self) -> bool
+        ensures { MatchBool result (self.now ≡ errors.OutOfMemory) (self.now ≡ errors.OutOfMemory → ⊥) }
+    {
+        match self {
+            Asn1DerError::OutOfMemory => true,
+            _ => false,
+        }
+    }
 }
 
 impl From<AllocError> for Asn1DerError {

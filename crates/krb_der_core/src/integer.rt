@@ -211,6 +211,13 @@ impl IntegerAsn1 {
     {
         u32::try_from(self.to_i64()?).ok()
     }
+
+    /// Whether it is this number.
+    pub fn is_number(&self, number: u32) -> bool
+        ensures { MatchBool result (self.now ≡ pos number) (self.now ≡ pos number → ⊥) }
+    {
+        self.to_u32() == Some(number)
+    }
 }
 
 impl Debug for IntegerAsn1 {

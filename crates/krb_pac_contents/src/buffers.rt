@@ -4,7 +4,6 @@
 mod attributes;
 mod client;
 mod error;
-mod numbers;
 mod upn;
 
 pub use attributes::{AttributesView, requestor};

@@ -1,6 +1,6 @@
 //! Items: what a walk answers.
 
-ghost use Rattle.std.specs.Prelude.{◌≡◌};
+ghost use Rattle.std.specs.Prelude.{◌≡◌, MatchBool};
 ghost use Rattle.krb_schema.specs.declared.item.Fault.TheVariants as faults;
 
 use crate::shape::{Leaf, Name};
@@ -65,6 +65,18 @@ pub enum Fault {
     /// where its element begins, one of a content without elements where that content begins, and octets that are left over where they begin.
     #[error("{why} at octet {offset}")]
     Refused { why: Asn1DerError, offset: usize },
+}
+
+impl Fault {
+    /// Whether an allocation failed.
+    pub fn is_out_of_memory(&self) -> bool
+        ensures { MatchBool result (self.now ≡ faults.OutOfMemory) (self.now ≡ faults.OutOfMemory → ⊥) }
+    {
+        match self {
+            Fault::OutOfMemory => true,
+            Fault::NoRow | Fault::TooDeep { .. } | Fault::Refused { .. } => false,
+        }
+    }
 }
 
 impl From<AllocError> for Fault {

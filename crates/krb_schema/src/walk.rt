@@ -1,6 +1,6 @@
 //! The walk.
 
-ghost use Rattle.std.specs.Prelude.{◌≡◌, ◌≤◌, ◌<◌, ◌+◌, ◌*◌, ◌^◌, ℕ, List, [], ◌∷◌, ◌++◌, true, false, length, IfErr, IfOk, MatchBool, OnOk};
+ghost use Rattle.std.specs.Prelude.{◌≡◌, ◌≤◌, ◌<◌, ◌+◌, ◌*◌, ◌^◌, ℕ, List, [], ◌∷◌, ◌++◌, true, false, length, IfErr, IfOk, OnOk};
 ghost use Rattle.krb_der_core.specs.Tlv.{header, tlv};
 ghost use Rattle.krb_schema.specs.Faults.{HasElement, IsContentFault, IsFault, IsFieldsFault, IsLeafFault, IsRowFault, IsWholeFault, OrMemory};
 ghost use Rattle.krb_schema.specs.Forests.{item};
@@ -39,16 +39,6 @@ fn list_node(filled: bool) -> Node
     ensures { result ≡ list_node filled }
 {
     if filled { Node::FilledList } else { Node::List }
-}
-
-/// Whether it is that an allocation failed.
-fn is_memory(fault: &Fault) -> bool
-    ensures { MatchBool result (fault.now ≡ faults.OutOfMemory) (fault.now ≡ faults.OutOfMemory → ⊥) }
-{
-    match fault {
-        Fault::OutOfMemory => true,
-        Fault::NoRow | Fault::TooDeep { .. } | Fault::Refused { .. } => false,
-    }
 }
 
 /// Appends an item.
@@ -442,7 +432,7 @@ fn push_held(
         &mut inside,
     ) {
         Err(fault) => {
-            if is_memory(&fault) {
+            if fault.is_out_of_memory() {
                 return Err(Fault::OutOfMemory);
             }
             push_held(alloc, schema, more, before, levels, head, content, items)

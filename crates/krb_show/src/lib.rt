@@ -32,7 +32,7 @@ pub use leaves::{
     show_cipher, show_identifier, show_number, show_octets, show_secret, show_text, show_word,
 };
 pub use names::tag_name;
-pub use numbers::{OpensValues, TypedValue, is_number};
+pub use numbers::{OpensValues, TypedValue};
 pub use opened::{open, show_opened};
 pub use page::page_of_octets;
 pub use rows::{

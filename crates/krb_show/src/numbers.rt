@@ -9,16 +9,6 @@ use krb_der::{ExplicitContextTag, IntegerAsn1, OctetStringAsn1};
 use std::alloc::{AllocError, Global};
 use std::marker::PhantomData;
 
-/// Whether it is this number.
-pub fn is_number(number: &IntegerAsn1, wanted: u32) -> bool
-    ensures { IsTrue result ↔ number.now ≡ pos wanted }
-{
-    match number.to_u32() {
-        Some(found) => found == wanted,
-        None => false,
-    }
-}
-
 /// Octets whose type is said by a number beside them, as in PA-DATA.
 pub trait OpensValues {
     /// What a page is after the octets are appended to it, opened as their type has them: the label, the number, the octets, the page

@@ -6,19 +6,9 @@ ghost use Rattle.krb_show_messages.specs.Shown.{IsToldByRow, shows_of};
 
 use crate::formats::KerberosFormats;
 use crate::rows::HasRow;
-use krb_der::{Asn1DerError, Der, DerEncode, from_bytes, to_vec};
+use krb_der::{Asn1DerError, Der, DerEncode, encoding, from_bytes};
 use krb_show::{Label, Page, ShowFields, open, show_by_row, show_octets};
 use std::alloc::{AllocError, Global};
-
-/// The encoding of a value.
-fn encoding_of<T: DerEncode>(alloc: Global, value: &T) -> Result<Vec<u8>, AllocError>
-    ensures { IfOk result (λ v. v.items ≡ T.enc value.now) }
-{
-    match to_vec(alloc, value) {
-        Ok(octets) => Ok(octets),
-        Err(_) => Err(AllocError),
-    }
-}
 
 /// Appends a value, called `text`, by its type's row. The page is as before where an allocation fails.
 pub fn show_value<T: DerEncode + HasRow>(
@@ -31,7 +21,7 @@ pub fn show_value<T: DerEncode + HasRow>(
     ensures kept { OnOk result (Begins page.old.items page.new.items) }
     ensures err { OnErr result (page.new.items ≡ page.old.items) }
 {
-    let octets = encoding_of(alloc, value)?;
+    let octets = encoding(alloc, value)?;
     show_by_row::<KerberosFormats>(alloc, T::row(), text, &octets, page)
 }
 

@@ -7,45 +7,25 @@ ghost use Rattle.krb_show_pac.specs.Message.{with_data, with_elements};
 
 use krb_der::{
     Asn1SequenceOf, Der, DerEncode, ExplicitContextTag1, ExplicitContextTag10, OctetStringAsn1,
-    Optional, copy, to_vec,
+    Optional, copied, encoding,
 };
 use krb_enc_parts::data_types::EncTicketPart;
-use krb_show::{is_number, open};
+use krb_show::open;
 use krb_types::data_types::{AuthorizationData, AuthorizationDataInner};
 use std::alloc::{AllocError, Global};
-
-/// An equal value.
-fn copied<T: Der + Drop>(alloc: Global, value: &T) -> Result<T, AllocError>
-    ensures { IfOk result (λ same. same ≡ value.now) }
-{
-    match copy(alloc, value) {
-        Ok(same) => Ok(same),
-        Err(_error) => Err(AllocError),
-    }
-}
-
-/// The encoding of a value.
-fn encoded<T: DerEncode>(alloc: Global, value: &T) -> Result<Vec<u8>, AllocError>
-    ensures { IfOk result (λ octets. octets.items ≡ T.enc value.now) }
-{
-    match to_vec(alloc, value) {
-        Ok(octets) => Ok(octets),
-        Err(_error) => Err(AllocError),
-    }
-}
 
 /// The encoding of a value that is used no more.
 fn encoding_of<T: DerEncode + Drop>(alloc: Global, value: T) -> Result<Vec<u8>, AllocError>
     ensures { IfOk result (λ octets. octets.items ≡ T.enc value) }
 {
-    encoded(alloc, &value)
+    encoding(alloc, &value)
 }
 
 /// Whether an element is of this type.
 pub(crate) fn is_of_type(element: &AuthorizationDataInner, number: u32) -> bool
     ensures { IsTrue result ↔ element.now.ad_type ≡ pos number }
 {
-    is_number(&element.ad_type.0, number)
+    element.ad_type.0.is_number(number)
 }
 
 /// The data of an element.

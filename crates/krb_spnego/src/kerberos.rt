@@ -131,16 +131,6 @@ fn is_framed(token: &[u8]) -> bool
     token.starts_with(&[TOKEN]) && content_of(token).starts_with(&IDENTIFIER)
 }
 
-/// Whether a refusal is that of memory.
-fn is_memory(refusal: &TokenRefusal) -> bool
-    ensures { result ≡ false → refusal.now ≡ memory → ⊥ }
-{
-    match refusal {
-        TokenRefusal::Request(refusal) => refusal.rule == Rule::OutOfMemory,
-        _ => false,
-    }
-}
-
 /// Whether a client wants DCE style, whose context is established by a third message (MS-KILE, 3.4.5.1).
 fn is_dce_style(flags: u32) -> bool
     ensures { result ≡ is_dce_style flags }
@@ -192,7 +182,7 @@ fn client_of(alloc: Global, acceptor: &KerberosAcceptor, token: &[u8]) -> Result
             })
         }
         Err(refusal) => {
-            if is_memory(&refusal) {
+            if refusal.is_out_of_memory() {
                 return Err(StepError::OutOfMemory);
             }
             Err(StepError::Refused(KerberosRefusal::Token(refusal)))

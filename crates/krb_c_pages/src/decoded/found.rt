@@ -2,11 +2,10 @@
 
 ghost use Rattle.std.specs.Prelude.{◌≡◌, ◌++◌, ◌∷◌, [], None, Some, IfOk, MatchOption, OnOk};
 ghost use Rattle.krb_c_pages.specs.Found.{are_types, behind, is_key, key_at, keys_in, name_behind, type_in};
-ghost use Rattle.krb_decrypt.specs.Keys.{suite_of};
 ghost use Rattle.krb_decrypt.specs.Preceding.{in_list, start};
 
 use krb_crypto::CipherSuite;
-use krb_decrypt::{Key, Part, Preceding};
+use krb_decrypt::{Key, Part, Preceding, suite_of};
 use krb_registry::Kind;
 use krb_schema::{Form, Item, Leaf, Node, Role, content_of};
 use std::alloc::{AllocError, Global};
@@ -73,20 +72,6 @@ fn name_behind(item: Item, name: &[u8]) -> &[u8]
     match item.form {
         Form::Begin(Node::Struct) => item.name.text.as_bytes(),
         _ => name,
-    }
-}
-
-/// The suite of an encryption type, if there is one (RFC 3961, 8).
-fn suite_of(etype: Option<i64>) -> Option<CipherSuite>
-    ensures { result ≡ suite_of etype }
-{
-    match etype {
-        Some(16) => Some(CipherSuite::Des3CbcSha1Kd),
-        Some(17) => Some(CipherSuite::Aes128CtsHmacSha196),
-        Some(18) => Some(CipherSuite::Aes256CtsHmacSha196),
-        Some(19) => Some(CipherSuite::Aes128CtsHmacSha256128),
-        Some(20) => Some(CipherSuite::Aes256CtsHmacSha384192),
-        _ => None,
     }
 }
 

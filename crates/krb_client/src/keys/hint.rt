@@ -12,9 +12,9 @@ ghost use Rattle.krb_client.specs.declared.keys.hint.HintError.TheVariants as er
 use crate::keys::limits::Limits;
 use crate::keys::password::PasswordError;
 use crate::keys::secret::{Client, Secret, client_key};
-use krb_client_rules::{Key, is_number};
+use krb_client_rules::Key;
 use krb_crypto::CipherSuite;
-use krb_der::{Asn1DerError, Asn1SequenceOf, Der, DerEncode, from_bytes};
+use krb_der::{Asn1SequenceOf, Der, DerEncode, from_bytes};
 use krb_types::data_types::{EtypeInfo2, EtypeInfo2Entry, PaData};
 use krb_types::view::items;
 use std::alloc::{AllocError, Global};
@@ -57,16 +57,6 @@ impl From<AllocError> for HintError {
     }
 }
 
-/// Whether an allocation failed.
-fn is_memory(error: &Asn1DerError) -> bool
-    ensures { MatchBool result (error.now ≡ Asn1DerError.OutOfMemory) (error.now ≡ Asn1DerError.OutOfMemory → ⊥) }
-{
-    match error {
-        Asn1DerError::OutOfMemory => true,
-        _ => false,
-    }
-}
-
 /// The value whose one encoding the octets are, where they are one.
 fn value_of<T: Der + Drop>(alloc: Global, octets: &[u8]) -> Result<Option<T>, AllocError>
     ensures { IfOk result (λ found. MatchOption found ((v : T) → Encodes ⟦<T as DerEncode>⟧ octets.now v → ⊥)
@@ -75,7 +65,7 @@ fn value_of<T: Der + Drop>(alloc: Global, octets: &[u8]) -> Result<Option<T>, Al
     match from_bytes::<T>(alloc, octets) {
         Ok(value) => Ok(Some(value)),
         Err(error) => {
-            if is_memory(&error) {
+            if error.is_out_of_memory() {
                 return Err(AllocError);
             }
             Ok(None)
@@ -87,7 +77,7 @@ fn value_of<T: Der + Drop>(alloc: Global, octets: &[u8]) -> Result<Option<T>, Al
 fn is_info(element: &PaData) -> bool
     ensures { MatchBool result (IsInfo element.now) (IsInfo element.now → ⊥) }
 {
-    is_number(&element.padata_type.0, ETYPE_INFO2)
+    element.padata_type.0.is_number(ETYPE_INFO2)
 }
 
 /// The first element that is an ETYPE-INFO2.
@@ -106,7 +96,7 @@ fn first_info(elements: &[PaData]) -> Option<&PaData>
 fn is_entry_of(entry: &EtypeInfo2Entry, suite: &CipherSuite) -> bool
     ensures { MatchBool result (IsEntryOf suite.now entry.now) (IsEntryOf suite.now entry.now → ⊥) }
 {
-    is_number(&entry.etype.0, u32::from(suite))
+    entry.etype.0.is_number(u32::from(suite))
 }
 
 /// The first entry of this suite's encryption type.

@@ -10,7 +10,7 @@ use crate::replies::error::ReplyError;
 use crate::replies::message::message_of;
 use crate::replies::numbered::Numbered;
 use crate::replies::opened::part_under;
-use krb_client_rules::{Key, Mismatch, Sent, has_time, is_number};
+use krb_client_rules::{Key, Mismatch, Sent, has_time};
 use krb_der::{ApplicationTag, Der, DerEncode, IntegerAsn1};
 use krb_enc_parts::data_types::{EncApRepPart, EncApRepPartInner};
 use krb_messages::messages::{ApRep, ApRepInner};
@@ -85,7 +85,7 @@ fn confirmed<M: Der + Numbered + ApReply + Drop, P: Der + ApPart + Drop>(
         sent.now key.now octets.now) }
 {
     let message: M = message_of(alloc, AP_REP_MSG_TYPE, octets)?;
-    if !is_number(message.etype(), u32::from(&key.suite)) {
+    if !message.etype().is_number(u32::from(&key.suite)) {
         return Err(ReplyError::Mismatch(Mismatch::EncryptionType));
     }
     let part: P = part_under(alloc, key, AP_REP_ENC, message.cipher())?;

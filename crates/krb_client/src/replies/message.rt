@@ -9,7 +9,6 @@ ghost use Rattle.krb_der_core.specs.declared.error.Asn1DerError.TheVariants as d
 
 use crate::replies::error::ReplyError;
 use crate::replies::numbered::Numbered;
-use krb_client_rules::is_number;
 use krb_der::{Der, DerEncode, IntegerAsn1, from_bytes};
 use std::alloc::Global;
 
@@ -34,10 +33,10 @@ fn has_numbers(pvno: &IntegerAsn1, msg_type: &IntegerAsn1, number: u8) -> Result
     ensures rejected { IfErr result (λ e. ((e ≡ errors.Pvno) × (pvno.now ≢ pos 5))
         ⊎ ((e ≡ errors.MsgType) × (pvno.now ≡ pos 5) × (msg_type.now ≢ pos number))) }
 {
-    if !is_number(pvno, VERSION) {
+    if !pvno.is_number(VERSION) {
         return Err(ReplyError::Pvno);
     }
-    if !is_number(msg_type, u32::from(number)) {
+    if !msg_type.is_number(u32::from(number)) {
         return Err(ReplyError::MsgType);
     }
     Ok(())

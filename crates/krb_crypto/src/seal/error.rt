@@ -1,6 +1,7 @@
 //! Why a part was not sealed or not opened.
 
-ghost use Rattle.std.specs.Prelude.{◌≡◌};
+ghost use Rattle.std.specs.Prelude.{◌≡◌, MatchBool};
+ghost use Rattle.krb_crypto.specs.PartError.{IsMemory};
 ghost use Rattle.krb_crypto.specs.declared.seal.error.PartError.TheVariants.{Crypto, Der};
 
 use crate::KerberosCryptoError;
@@ -16,6 +17,18 @@ pub enum PartError {
     /// The opened octets are not one encoding with the cipher's padding after it.
     #[error("{0}")]
     Der(Asn1DerError),
+}
+
+impl PartError {
+    /// Whether an allocation failed.
+    pub fn is_out_of_memory(&self) -> bool
+        ensures { MatchBool result (IsMemory self.now) (IsMemory self.now → ⊥) }
+    {
+        match self {
+            PartError::Crypto(error) => error.is_out_of_memory(),
+            PartError::Der(error) => error.is_out_of_memory(),
+        }
+    }
 }
 
 impl From<KerberosCryptoError> for PartError {

@@ -45,13 +45,3 @@ pub(crate) fn read<T: Der + Drop>(
         Err(why) => Err(refusal(form, why)),
     }
 }
-
-/// Whether an INTEGER is this number.
-pub(crate) fn is_number(integer: &IntegerAsn1, number: u32) -> bool
-    ensures { IsTrue result ↔ (integer.now ≡ pos number) }
-{
-    match integer.to_u32() {
-        Some(found) => found == number,
-        None => false,
-    }
-}

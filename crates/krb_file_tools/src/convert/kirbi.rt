@@ -15,7 +15,7 @@ ghost use Rattle.krb_file_tools.specs.Whole.{credential_is, info_has, kirbi_fiel
 use crate::convert::credential::{MessageCredential, credential_of};
 use crate::convert::error::ConvertError;
 use crate::convert::field::{Converted, Field};
-use crate::convert::form::{Form, is_number, read};
+use crate::convert::form::{Form, read};
 use crate::convert::numbers::{has_long_flags, has_other_length, is_first_second};
 use crate::convert::vectors::append;
 use krb_der::{Der, DerEncode, ExplicitContextTag, IntegerAsn1, Optional, to_vec};
@@ -149,13 +149,13 @@ fn part_of<P: Der + Drop>(
     ensures found { IfOk result (IsClear P.DerEncode pvno.now msg_type.now etype.now cipher.now) }
     ensures rejected { IfErr result (λ e. IsMemoryOr e (ClearError P.DerEncode pvno.now msg_type.now etype.now cipher.now e)) }
 {
-    if !is_number(pvno, 5) {
+    if !pvno.is_number(5) {
         return Err(ConvertError::Pvno);
     }
-    if !is_number(msg_type, 22) {
+    if !msg_type.is_number(22) {
         return Err(ConvertError::MsgType);
     }
-    if !is_number(etype, 0) {
+    if !etype.is_number(0) {
         return Err(ConvertError::Sealed);
     }
     read(alloc, Form::Part, cipher)

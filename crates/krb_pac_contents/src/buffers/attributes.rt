@@ -6,7 +6,7 @@ ghost use Rattle.krb_pac_contents.specs.Attributes.{attributes_of, requestor_of}
 
 use crate::SidView;
 use crate::buffers::error::BufferError;
-use crate::buffers::numbers::u32_at;
+use crate::numbers::u32_at;
 use std::marker::Model;
 
 /// Attributes of a PAC (MS-PAC 2.14, PAC_ATTRIBUTES_INFO) over the octets that the caller holds. A contract sees these.

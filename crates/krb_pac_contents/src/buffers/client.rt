@@ -5,7 +5,7 @@ ghost use Rattle.byteorder.specs.Endian.{little_number};
 ghost use Rattle.krb_pac_contents.specs.Client.{client_info_of, client_name};
 
 use crate::buffers::error::BufferError;
-use crate::buffers::numbers::u16_at;
+use crate::numbers::u16_at;
 use byteorder::{ByteOrder, LittleEndian};
 use std::marker::Model;
 

@@ -7,7 +7,7 @@ ghost use Rattle.krb_pac_contents.specs.Upn.{UpnDns, named_of, name_of, sam_and_
 use crate::SidView;
 use crate::buffers::attributes::requestor;
 use crate::buffers::error::BufferError;
-use crate::buffers::numbers::{u16_at, u32_at};
+use crate::numbers::{u16_at, u32_at};
 use std::marker::Model;
 
 /// The user's principal name and the domain's DNS name (MS-PAC 2.10, UPN_DNS_INFO) over the octets that the caller holds.

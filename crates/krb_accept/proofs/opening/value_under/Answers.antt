@@ -1,6 +1,4 @@
-use Rattle.std.proofs.Common.{◌≡◌, false, sym, to_z-of_z}
-use Rattle.krb_accept.specs.Memory.{is_part_memory}
-use Rattle.krb_accept.proofs.Openings.{not_part_memory}
+use Rattle.std.proofs.Common.{sym, to_z-of_z}
 use Rattle.krb_accept.proofs.Seals.{given_of, sealed_of}
 use Rattle.krb_accept.proofs.opening.value_under.Goals as goal
 
@@ -19,10 +17,9 @@ returns-in-Ok g c =
           (given_of c.args.suite.now c.args.key.now c.args.usage c.args.octets.now (g.T.DerEncode.enc w) c.in-Some.prepared same h.1));
     }
 
-pub returns-else-is_part_memory : goal.returns-else-is_part_memory
-returns-else-is_part_memory g c =
+pub returns-else-is_out_of_memory : goal.returns-else-is_out_of_memory
+returns-else-is_out_of_memory g c =
     let fits = c.ranges.usage in
     let prepared = simp to_z-of_z at c.in-Some.ensures.some in
-    let other : is_part_memory c.in-Err.error ≡ false = cc in
-    λ v h. not_part_memory c.in-Err.error other (c.in-Err.ensures.only c.args.key.now c.args.usage prepared v h.0
+    λ v h. c.if-is_out_of_memory.ensures (c.in-Err.ensures.only c.args.key.now c.args.usage prepared v h.0
     (given_of c.args.suite.now c.args.key.now c.args.usage c.args.octets.now (g.T.DerEncode.enc v) c.in-Some.prepared c.in-Some.ensures.none h.1))

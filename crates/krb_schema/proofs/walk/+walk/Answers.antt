@@ -238,7 +238,7 @@ push_held-returns-in-Err-clause-walked t c =
     (held_later R head.name c.args.before.now content case c.in-Some.more.now (tlv head.tag content) head.depth head.at items ended
     (λ so. subst (λ n. IsNone (R case.is n []) content) c.called.ensures
     (refused_or_memory c.args.levels schema case.is c.called.result [] (head.at + head.header) content c.in-Err.fault (omega (arith, c.requires.headed.room))
-    c.in-Err.ensures.refused c.if-is_memory.ensures))
+    c.in-Err.ensures.refused c.if-is_out_of_memory.ensures))
     w))
     c.push_held-in-Err.ensures.walked
 
