@@ -232,8 +232,8 @@ fn arrival_of(
 }
 
 /// What a service asks, as the library takes it. Else the first of these: `SeedSize` where there are not 48 random octets, and where there are neither 0 nor 16 of the
-/// hash; `Number` where the options are not such; `Keytab` where the keytab is none, and where that of the session keys is; `Invalid` where the server's name is none,
-/// and where the realm is. Or `Memory`.
+/// hash; `Number` where the options are not such; `Keytab` where the keytab is none, and where that of the session keys is; `Invalid` where a text among the servers is
+/// that of none, and where one among the realms is no realm. Or `Memory`.
 pub(crate) fn prepared_of(alloc: Global, asked: &Asked) -> Result<Prepared, CallError>
     ensures made { IfOk result (IsPrepared (inputs_of asked.now)) }
     ensures refused { IfErr result (IsNotPrepared (inputs_of asked.now)) }
