@@ -3,7 +3,7 @@
 #define OCTETS_H
 #include "c_library.h"
 
-/* The most octets that crates/test_refusals reads. */
+/* The most octets of an input, and of what a program writes. */
 enum { ROOM = 16384 };
 
 struct octets {

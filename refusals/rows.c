@@ -1,6 +1,7 @@
-/* Has the program test_messages read, copy and write the octets of each row of its tables, with its
- * allocations failing, and of a PAC its first buffer alone too. The argument is the file of these
- * tables. */
+/* Hands each row of a program's tables to it, with its allocations failing. The arguments are the
+ * file of these tables, and the name of a table whose rows alone are handed over as they stand; where
+ * none is named the program is test_messages, which reads, copies and writes the octets of each row,
+ * and of a PAC its first buffer alone too. */
 #include "program.h"
 #include "runs.h"
 
@@ -12,6 +13,10 @@ static char line[4 * ROOM];
 
 /* The line that begins the table which is read. */
 static char table[64];
+
+/* Calls of a row that open what is given with each bit flipped, each proper prefix, or in a thousand
+ * ways: other rows make the calls in them once. */
+static const char *const sweeps[] = {"flips", "fronts", "alike", "large_part"};
 
 /* Whether an error's name is in the origin's place: one word that begins with a capital. */
 static int is_refusal(const char *origin) {
@@ -35,8 +40,25 @@ static void try_row(const char *origin, const char *name, const char *digits) {
     try_runs(name, &input, is_refusal(origin) ? REFUSED : HELD);
 }
 
+/* Tries the row that the line has, with what its table's program prints of it. */
+static void try_line(void) {
+    struct octets input;
+    int count = snprintf((char *)input.at, ROOM, "%s%s", table, line);
+    char *call = strtok(line, "\t\n");
+    for (size_t i = 0; i < sizeof sweeps / sizeof *sweeps; i++) {
+        if (!strcmp(call, sweeps[i])) {
+            return;
+        }
+    }
+    if (count >= ROOM) {
+        fail(call, "too many octets");
+    }
+    input.count = count;
+    try_runs(call, &input, HELD);
+}
+
 int try_program(int count, char **words) {
-    FILE *rows = count == 2 ? fopen(words[1], "r") : 0;
+    FILE *rows = count == 2 || count == 3 ? fopen(words[1], "r") : 0;
     if (!rows) {
         die("no such file of tables");
     }
@@ -44,6 +66,13 @@ int try_program(int count, char **words) {
     while (fgets(line, sizeof line, rows)) {
         if (!memcmp(line, "== ", 3)) {
             snprintf(table, sizeof table, "%s", line);
+            continue;
+        }
+        if (count == 3) {
+            size_t size = strlen(words[2]);
+            if (*line != '#' && !memcmp(table + 3, words[2], size) && table[3 + size] == '\n') {
+                try_line();
+            }
             continue;
         }
         char *origin = strtok(line, "\t\n"), *name = strtok(0, "\t\n"), *digits = strtok(0, "\t\n");

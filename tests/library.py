@@ -11,6 +11,8 @@ for _bits in (8, 16, 32, 64):
 DONE, ROOM, MEMORY, UNLESS_REPEATED = 0, 1, 2, 43
 # What a caller's octets have before a call, so that it is seen what the call writes.
 UNTOUCHED = 0xA5
+# How many allocations these calls make at most.
+MOST = {"encrypt": 4, "decrypt": 4, "n_fold": 1}
 # A struct that the caller passes in and takes back.
 CHANGED = ("krb_exchange",)
 
@@ -139,6 +141,8 @@ class Library:
         requests, held = self.object.tests_requests(), self.object.tests_held()
         if held or answer.status == MEMORY:
             raise Fault(f"krb_{call}: {answer.name} with memory to spare, {held} blocks are held")
+        if requests > MOST.get(call, requests):
+            raise Fault(f"krb_{call}: {requests} allocations, and {MOST[call]} at most are needed")
         for are_more in (0, 1):
             for first in range(1, requests + 1):
                 self.object.tests_refuse(first, are_more)

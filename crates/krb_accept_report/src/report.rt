@@ -208,7 +208,12 @@ fn said_of(alloc: Global, service: &Service, token: &[u8]) -> Result<Report, All
         &service.settings,
         token,
     ) {
-        Ok(found) => accepted_report(alloc, &found.presented.accepted),
+        Ok(found) => {
+            let said = accepted_report(alloc, &found.presented.accepted);
+            // (what a scope lets go by itself is opened value by value)
+            drop(found);
+            said
+        }
         Err(refusal) => refused_report(alloc, service, token, &refusal),
     }
 }

@@ -78,6 +78,8 @@ pub fn report_of(alloc: Global, columns: Columns<'_>) -> Result<String, RowError
     let (call, suite) = (row.call, row.suite);
     let text = match try_row(alloc, &row) {
         Some(Ok(text)) => format!(in alloc; "{call} {suite}: {text}")?,
+        // (a row that expects the error of memory has its text alone, and makes no call)
+        Some(Err(rejection)) if rejection.is_out_of_memory() => return Err(RowError::OutOfMemory),
         Some(Err(rejection)) => format!(in alloc; "{call} {suite}: refused, {rejection:?}")?,
         None => format!(in alloc; "{call} {suite}: no such call")?,
     };
