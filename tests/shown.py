@@ -1,0 +1,202 @@
+"""What is shown of octets: by krb_show_page, and by the program jolmurig, also with keys."""
+
+import contextlib
+import json
+import re
+import subprocess
+import tempfile
+from pathlib import Path
+
+from library import Fault
+from parts import LIMIT
+from rows import octets
+
+# What the rows have of a buffer of a PAC; what it holds is asked of in `buffers` and `logon`.
+OF_BUFFER = ("ulType", "cbBufferSize", "Offset", "buffer")
+# The formats that are no DER.
+FORMATS = ("token", "PAC", "NEGOEX", "password-frame", "keytab", "ccache")
+# Where the octets of a value of DER are refused, which no row has.
+PLACE = re.compile(r", at octet \d+$")
+# What is said of a PAC beside it.
+OF_PAC = ("PAC-checksums", "unchecked")
+
+
+class Struct(list):
+    """The members of an object of JSON, in their order."""
+
+
+def pages(library, columns):
+    """A row of `pages`: an origin, the type, and behind `: ` what is peculiar to the octets; the
+    octets. `told` are of the format that they begin as, which is named first: that as which they
+    have the same page."""
+    _, name, given = columns
+    kind, given = name.partition(": ")[0].replace("told", ""), octets(given)
+    page = page_of(library, kind, given)
+    if page is None:
+        return refused(library, kind, given)
+    alike = [it for it in FORMATS if not kind and page_of(library, it, given) == page]
+    return [*alike, *page]
+
+
+def page_of(library, kind, given):
+    """The lines of a page and its JSON, by krb_show_page with keys shown; nothing where both are
+    refused alike."""
+    text, line = (
+        library.show_page(kind.encode(), given, b"", is_json, True) for is_json in (False, True)
+    )
+    if text.status or line.status:
+        return None if text.status == line.status else [text.name, line.name]
+    return page_in(text.out, line.out)
+
+
+def page_in(text, line):
+    """The lines of a page and its JSON, but for what buffers of PACs hold."""
+    (line,), lines = lines_of(line), lines_of(text) if text else []
+    members = json.loads(line, object_pairs_hook=Struct)
+    bare = without_contents(members)
+    if bare != members:
+        if written(members) != line:
+            raise Fault(f"the JSON is written otherwise than {written(members)}")
+        line = written(bare)
+    return [*lines_without_contents(lines), line]
+
+
+def lines_of(out):
+    """The lines of a text, each of which has its end."""
+    *lines, rest = out.decode("ascii").split("\n")
+    if rest:
+        raise Fault(f"no line feed behind {rest!r}")
+    return lines
+
+
+def without_contents(value):
+    """JSON but for what buffers of PACs hold."""
+    if isinstance(value, Struct):
+        is_buffer = tuple(name for name, _ in value)[:4] == OF_BUFFER
+        kept = [it for it in value if not is_buffer or it[0] in OF_BUFFER]
+        return Struct((name, without_contents(it)) for name, it in kept)
+    return [without_contents(it) for it in value] if isinstance(value, list) else value
+
+
+def written(value):
+    """JSON in one line."""
+    if isinstance(value, Struct):
+        return f"{{{','.join(f'{json.dumps(name)}:{written(it)}' for name, it in value)}}}"
+    if isinstance(value, list):
+        return f"[{','.join(map(written, value))}]"
+    return json.dumps(value)
+
+
+def lines_without_contents(lines):
+    """The lines of a page but for what buffers of PACs hold."""
+    kept, depth = [], None
+    for line in lines:
+        name, indent = line.lstrip(" ").partition(":")[0], len(line) - len(line.lstrip(" "))
+        if depth is not None and indent < depth:
+            depth = None
+        depth = indent if name == OF_BUFFER[0] else depth
+        if depth is None or (indent == depth and name in OF_BUFFER):
+            kept.append(line)
+    return kept
+
+
+def refused(library, kind, given):
+    """Why octets are none of a type: the status, the words of the program's line on standard
+    error, and of the frame of a change of a password what krb_password_frame answers."""
+    told = library.once("show_page", kind.encode(), given, b"", False, True)
+    options = ["--as", kind] if kind else []
+    status, output, errors = run(library, ["show", *options], given)
+    (line,) = lines_of(errors)
+    begin = "jolmurig: "
+    if status != 1 or output or not line.startswith(begin):
+        raise Fault(f"jolmurig ends with status {status} and {line!r}")
+    frame = [library.password_frame(given).name] if kind == "password-frame" else []
+    return [told.name, PLACE.sub("", line.removeprefix(begin)), *frame]
+
+
+def run(library, words, given, folder=None):
+    """A run of jolmurig: its status, and what it writes to both its outputs."""
+    words = [library.jolmurig, *words]
+    try:
+        ran = subprocess.run(words, input=given, capture_output=True, timeout=LIMIT, cwd=folder)
+    except subprocess.TimeoutExpired as error:
+        raise Fault(f"jolmurig has not ended after {LIMIT} seconds") from error
+    return ran.returncode, ran.stdout, ran.stderr
+
+
+def asked(library, words, given, folder=None):
+    """What jolmurig writes, where it says nothing on standard error."""
+    status, output, errors = run(library, words, given, folder)
+    if status or errors:
+        raise Fault(f"jolmurig ends with status {status}, and says {errors[:200]!r}")
+    return output
+
+
+def warnings(library, columns):
+    """A row of `warnings`: as one of `pages`, of the program, which warns."""
+    _, name, given = columns
+    words, given = ["show", "--show-keys", "--as", name.partition(": ")[0]], octets(given)
+    return page_in(asked(library, words, given), asked(library, [*words, "--json"], given))
+
+
+def keytab_of(name, realm, kvno, etype, key):
+    """A keytab of one entry (MIT Kerberos, "Keytab file format")."""
+    counted = [len(it.encode()).to_bytes(2, "big") + it.encode() for it in (realm, *name)]
+    entry = len(name).to_bytes(2, "big") + b"".join(counted) + bytes([0, 0, 0, 1]) + bytes(4)
+    entry += bytes([kvno & 255]) + etype.to_bytes(2, "big") + len(key).to_bytes(2, "big") + key
+    entry += kvno.to_bytes(4, "big")
+    return b"\x05\x02" + len(entry).to_bytes(4, "big") + entry
+
+
+@contextlib.contextmanager
+def keys_of(column, between):
+    """The options of jolmurig for keys ETYPE:HEX:NAME, and a folder to run in: it calls a key of
+    the command line `--key N`, one of a keytab `PRINCIPAL kvno N`, and one of a file as that."""
+    with tempfile.TemporaryDirectory(prefix="tests-") as room:
+        options, folder = [], Path(room, "keys")
+        folder.mkdir()
+        for count, it in enumerate([] if column == "-" else column.split(between)):
+            etype, digits, name = it.split(":", 2)
+            entry = re.fullmatch(r"([^@]+)@([^@]*) kvno (\d+)", name)
+            if name == f"--key {options.count('--key') + 1}":
+                options += ["--key", f"{etype}:{digits}"]
+            elif entry:
+                key = int(entry[3]), int(etype), octets(digits)
+                file = Path(room, f"keytab{count}")
+                file.write_bytes(keytab_of(entry[1].split("/"), entry[2], *key))
+                options += ["--keytab", str(file)]
+            else:
+                file = Path(folder, name)
+                file.parent.mkdir(parents=True, exist_ok=True)
+                file.write_text(f"{etype}:{digits}\n")
+                options += ["--key-file", name]
+        yield options, folder
+
+
+def opened(library, columns):
+    """A row of `opened`: an origin, keys, the type or `message`, the octets, and where they are
+    there those that are opened: a line says that the page ends with theirs."""
+    _, keys, kind, given, *part = columns
+    with keys_of(keys, " ") as (options, folder):
+        options += [] if kind == "message" else ["--as", kind]
+        words = ["show", "--show-keys", *options]
+        lines = lines_of(asked(library, words, octets(given), folder))
+    if part:
+        alone = lines_of(asked(library, ["show", "--show-keys"], octets(part[0])))
+        tail = [f"  {it}" for it in lines_without_pacs(alone)]
+        lines = lines_without_pacs(lines)
+        if lines[-len(tail) :] == tail:
+            lines[-len(tail) :] = ["  the opened octets are shown"]
+    return lines
+
+
+def lines_without_pacs(lines):
+    """The lines of a page but for what buffers of PACs hold and what is said of PACs."""
+    kept, depth = [], None
+    for line in lines_without_contents(lines):
+        name, indent = line.lstrip(" ").partition(":")[0], len(line) - len(line.lstrip(" "))
+        if depth is None or indent <= depth:
+            depth = indent if name in OF_PAC else None
+        if depth is None:
+            kept.append(line)
+    return kept
