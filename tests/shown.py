@@ -9,7 +9,7 @@ from pathlib import Path
 
 from library import Fault
 from parts import LIMIT
-from rows import octets
+from rows import flipped, octets
 
 # What the rows have of a buffer of a PAC; what it holds is asked of in `buffers` and `logon`.
 OF_BUFFER = ("ulType", "cbBufferSize", "Offset", "buffer")
@@ -17,8 +17,13 @@ OF_BUFFER = ("ulType", "cbBufferSize", "Offset", "buffer")
 FORMATS = ("token", "PAC", "NEGOEX", "password-frame", "keytab", "ccache")
 # Where the octets of a value of DER are refused, which no row has.
 PLACE = re.compile(r", at octet \d+$")
-# What is said of a PAC beside it.
-OF_PAC = ("PAC-checksums", "unchecked")
+# What is said of a PAC beside it, which `checksums` and `warnings` ask of.
+OF_PAC = ("PAC-checksums", "unchecked", "ticket-checksum")
+# What the lines that tell of checksums of PACs begin with.
+OF_CHECKSUMS = ("PAC-checksums:", "server-checksum", "kdc-checksum", "full-checksum")
+OF_CHECKSUMS += ("ticket-checksum", "unread:")
+# What a key of a keytab is called.
+PRINCIPAL = re.compile(r"([^@]+)@([^@]*) kvno (\d+)")
 
 
 class Struct(list):
@@ -139,13 +144,19 @@ def warnings(library, columns):
     return page_in(asked(library, words, given), asked(library, [*words, "--json"], given))
 
 
-def keytab_of(name, realm, kvno, etype, key):
-    """A keytab of one entry (MIT Kerberos, "Keytab file format")."""
-    counted = [len(it.encode()).to_bytes(2, "big") + it.encode() for it in (realm, *name)]
-    entry = len(name).to_bytes(2, "big") + b"".join(counted) + bytes([0, 0, 0, 1]) + bytes(4)
-    entry += bytes([kvno & 255]) + etype.to_bytes(2, "big") + len(key).to_bytes(2, "big") + key
-    entry += kvno.to_bytes(4, "big")
-    return b"\x05\x02" + len(entry).to_bytes(4, "big") + entry
+def keytab_of(keys):
+    """A keytab of keys ETYPE:HEX:NAME (MIT Kerberos, "Keytab file format")."""
+    made = b"\x05\x02"
+    for it in keys:
+        etype, digits, name = it.split(":", 2)
+        name, realm, kvno = PRINCIPAL.fullmatch(name).groups()
+        name, key, kvno = name.split("/"), octets(digits), int(kvno)
+        entry = len(name).to_bytes(2, "big")
+        entry += b"".join(len(it).to_bytes(2, "big") + it.encode() for it in (realm, *name))
+        entry += bytes([0, 0, 0, 1, 0, 0, 0, 0, kvno & 255]) + int(etype).to_bytes(2, "big")
+        entry += len(key).to_bytes(2, "big") + key + kvno.to_bytes(4, "big")
+        made += len(entry).to_bytes(4, "big") + entry
+    return made
 
 
 @contextlib.contextmanager
@@ -157,13 +168,11 @@ def keys_of(column, between):
         folder.mkdir()
         for count, it in enumerate([] if column == "-" else column.split(between)):
             etype, digits, name = it.split(":", 2)
-            entry = re.fullmatch(r"([^@]+)@([^@]*) kvno (\d+)", name)
             if name == f"--key {options.count('--key') + 1}":
                 options += ["--key", f"{etype}:{digits}"]
-            elif entry:
-                key = int(entry[3]), int(etype), octets(digits)
+            elif PRINCIPAL.fullmatch(name):
                 file = Path(room, f"keytab{count}")
-                file.write_bytes(keytab_of(entry[1].split("/"), entry[2], *key))
+                file.write_bytes(keytab_of([it]))
                 options += ["--keytab", str(file)]
             else:
                 file = Path(folder, name)
@@ -200,3 +209,41 @@ def lines_without_pacs(lines):
         if depth is None:
             kept.append(line)
     return kept
+
+
+def checksums(library, columns):
+    """A row of `checksums`: an origin, keys with `|` between, and `show` and a message, or `flips`
+    and what a ticket is made of."""
+    _, keys, how, *given = columns
+    if how == "flips":
+        return flips(library, keys, *given)
+    with keys_of(keys, "|") as (options, folder):
+        out = asked(library, ["show", "--show-keys", *options], octets(given[0]), folder)
+    return of_checksums(out) or ["no checksums"]
+
+
+def of_checksums(page):
+    """The lines of a page that tell of checksums of PACs."""
+    lines = lines_without_contents(lines_of(page))
+    return [it for it in lines if it.lstrip(" ").startswith(OF_CHECKSUMS)]
+
+
+def flips(library, keys, *given):
+    """What is told of checksums, of how many bits in a row, where each bit of a PAC is flipped: of
+    the ticket up to its ciphertext, the encryption type and the key that seals it, the part, and
+    where in it the PAC begins and how many octets it has. Each call is made once: these are
+    thousands."""
+    front, etype, key, part, begin, size = given
+    front, etype, key, part = octets(front), int(etype), octets(key), octets(part)
+    begin, end = int(begin), int(begin) + int(size)
+    keytab, runs = keytab_of(keys.split("|")), []
+    for it in flipped(part[begin:end]):
+        changed = part[:begin] + it + part[end:]
+        sealed = library.once("encrypt", etype, key, 2, bytes(16), changed).out
+        page = library.once("show_page", b"Ticket", front + sealed, keytab, False, True)
+        told = " ".join(it.lstrip(" ") for it in of_checksums(page.out))
+        if runs and runs[-1][1] == told:
+            runs[-1][0] += 1
+        else:
+            runs.append([1, told])
+    return [f"{count} {told}" for count, told in runs]
