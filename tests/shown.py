@@ -22,12 +22,6 @@ OF_PAC = ("PAC-checksums", "unchecked", "ticket-checksum")
 # What the lines that tell of checksums of PACs begin with.
 OF_CHECKSUMS = ("PAC-checksums:", "server-checksum", "kdc-checksum", "full-checksum")
 OF_CHECKSUMS += ("ticket-checksum", "unread:")
-# The lines of a PAC of one buffer, up to what it holds, with their numbers left out, and its JSON.
-ALONE = ["PAC[1]:", "  PAC:", *(f"    {it}: .." for it in OF_BUFFER)]
-NUMBERS = re.compile(r"(?<=:) .*")
-ALONE_IN_JSON = re.compile(
-    r'\{"PAC":\[\{"ulType":\{[^}]*\},"cbBufferSize":\d+,"Offset":24,"buffer":"[0-9a-f]*",?(.*)\}\]\}'
-)
 # What a key of a keytab is called.
 PRINCIPAL = re.compile(r"([^@]+)@([^@]*) kvno (\d+)")
 
@@ -253,26 +247,3 @@ def flips(library, keys, *given):
         else:
             runs.append([1, told])
     return [f"{count} {told}" for count, told in runs]
-
-
-def buffers(library, columns):
-    """A row of `buffers`: an origin, the number of a buffer's type, and its octets: the lines and
-    the JSON of what it holds, which is shown of a PAC of this buffer alone."""
-    _, number, given = columns
-    lines, line = shown_alone(library, int(number), octets(given))
-    if [NUMBERS.sub(" ..", it) for it in lines[: len(ALONE)]] != ALONE:
-        raise Fault(f"the page begins otherwise: {lines[: len(ALONE)]}")
-    lines = [it.removeprefix("    ") for it in lines[len(ALONE) :]]
-    return [*lines, f"{{{ALONE_IN_JSON.fullmatch(line).group(1)}}}"]
-
-
-def shown_alone(library, number, buffer):
-    """The lines of the page of a PAC of this buffer alone, and its JSON."""
-    pac = bytes([1, 0, 0, 0, 0, 0, 0, 0]) + number.to_bytes(4, "little")
-    pac += len(buffer).to_bytes(4, "little") + bytes([24, 0, 0, 0, 0, 0, 0, 0])
-    pac += buffer + bytes(-len(buffer) % 8)
-    text, line = (library.show_page(b"PAC", pac, b"", is_json, True) for is_json in (False, True))
-    if text.status or line.status:
-        raise Fault(f"a PAC of this buffer alone is refused: {text.name}, {line.name}")
-    (line,) = lines_of(line.out)
-    return lines_of(text.out), line
