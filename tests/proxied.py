@@ -15,8 +15,8 @@ FRONT = 1500
 
 
 def proxied(library, columns):
-    """A row: `request` and what a client posts; `post`, a message and a realm; `reply` and what came
-    in a datagram; `write_reply` and what came over a stream; `read_reply` and what a proxy
+    """A row: `request` and what a client posts; `post`, a message and a realm; `reply` and what
+    came in a datagram; `write_reply` and what came over a stream; `read_reply` and what a proxy
     answers; or `whole`, what came over a stream, and a limit."""
     how, given, *more = columns
     return ASKED[how](library, octets(given), *more)

@@ -1,0 +1,118 @@
+"""Which keys the program jolmurig takes of texts and keytabs, and pages with keys hidden."""
+
+import tempfile
+from pathlib import Path
+
+from library import Fault
+from rows import octets
+from shown import asked, lines_of, run
+
+# The EncTicketPart without an option of the table `pages`, under key usage 2.
+PART = bytes.fromhex(
+    "6370306ea00703050430f9a300a111300fa00702051f63b564dfa1040402c3e5a20a1b08302f5961422e622ea30f30"
+    "0da004020200dda10530031b0178a40d300ba00402020101a10304015aa511180f3139303031313239303030353434"
+    "5aa711180f38333934303633303039353930305a"
+)
+# Of a ticket without a part (RFC 4120, 5.3): tkt-vno, realm and sname.
+FRONT = bytes.fromhex("a003020105a1031b0152a20e300ca003020101a10530031b0178")
+ETYPES, FRESH, OTHER = (16, 17, 18, 19, 20), bytes(16), b"\x5a" * 32
+OF_TYPE, OF_OTHERS = '"no key of this encryption type opens it"', '"no key of this encryption type"'
+
+
+def keys(library, columns):
+    """A row of `keys`: `key` or `keytab`, a text or a keytab, and keys ETYPE:HEX with `|` between;
+    or `hidden` or `message` and octets that are shown with keys hidden."""
+    how, given, *more = columns
+    return ASKED[how](library, given, *more)
+
+
+def key(library, text, wanted=""):
+    """What opens a ticket under a key, where it is named by this text on the command line and in a
+    file; or that the text is none on the command line (that of a file may have blanks)."""
+    if not wanted:
+        return ["no key" if is_refused(library, ["show", "--key", text], 2) else "taken"]
+    ticket = ticket_of(library, *key_of(wanted))
+    with tempfile.TemporaryDirectory(prefix="tests-") as folder:
+        Path(folder, "a name").write_text(f"{text}\n", encoding="utf-8")
+        words = ["show", "--key", text], ["show", "--key-file", "a name"]
+        return [opener_in(asked(library, it, ticket, folder)) for it in words]
+
+
+def is_refused(library, words, refusal):
+    """Whether the program ends with this status, and names the option on standard error."""
+    status, output, errors = run(library, words, b"")
+    line = errors.decode("utf-8", "backslashreplace")
+    return (status, output) == (refusal, b"") and line.startswith(f"jolmurig: {words[1]}: ")
+
+
+def keytab(library, given, wanted=""):
+    """What opens tickets under these keys, each in turn; and of which encryption types there are
+    keys, which another ticket tells; or that the octets are no keytab."""
+    with tempfile.TemporaryDirectory(prefix="tests-") as folder:
+        file = Path(folder, "keytab")
+        file.write_bytes(octets(given))
+        words, told, types = ["show", "--keytab", str(file)], [], []
+        if is_refused(library, words, 1):
+            page = library.show_page(b"Ticket", FRONT, octets(given), False, True)
+            return ["no keytab"] if page.name == "KEYTAB" else [page.name]
+        for it in wanted.split("|") if wanted else []:
+            told.append(opener_in(asked(library, words, ticket_of(library, *key_of(it)))))
+        for etype in ETYPES:
+            other = ticket_of(library, etype, OTHER[: library.key_size(etype)])
+            why = value_in(asked(library, words, other), "not-opened")
+            if why not in (None, OF_TYPE, OF_OTHERS):
+                raise Fault(f"a ticket under another key is not opened, since {why}")
+            types += {None: ["no keys"], OF_TYPE: [str(etype)], OF_OTHERS: []}[why]
+    return [*told, f"encryption types: {' '.join(types)}"]
+
+
+def key_of(text):
+    """The encryption type and the octets of ETYPE:HEX."""
+    etype, digits = text.split(":")
+    return int(etype), octets(digits)
+
+
+def ticket_of(library, etype, key_octets):
+    """A ticket whose part is sealed under a key."""
+    confounder = FRESH[: library.confounder_size(etype)]
+    sealed = library.seal_ticket_part(etype, key_octets, 2, confounder, PART).out
+    number = element(0xA0, element(2, bytes([etype])))
+    part = element(0xA3, element(0x30, number + element(0xA2, element(4, sealed))))
+    return element(0x61, element(0x30, FRONT + part))
+
+
+def element(tag, content):
+    """An element of DER (X.690, 8.1.3) of less than 64 KiB."""
+    size = len(content)
+    length = bytes([size]) if size < 128 else bytes([0x82]) + size.to_bytes(2, "big")
+    length = bytes([0x81, size]) if 128 <= size < 256 else length
+    return bytes([tag]) + length + content
+
+
+def opener_in(page):
+    """What a page says of the key that opens its part, for the key usage of a ticket."""
+    if value_in(page, "key-usage") != "2" or value_in(page, "EncTicketPart") is None:
+        return f"not opened: {value_in(page, 'not-opened')}"
+    return value_in(page, "opened-by")
+
+
+def value_in(page, name):
+    """What stands behind a name in a page; nothing where the name does not."""
+    for line in lines_of(page):
+        if line.lstrip(" ").startswith(f"{name}:"):
+            return line.partition(":")[2].removeprefix(" ")
+    return None
+
+
+def hidden(library, given):
+    """The page of a keytab and its JSON, with keys hidden."""
+    told = [library.show_page(b"keytab", octets(given), b"", it, False) for it in (False, True)]
+    return [line for it in told for line in lines_of(it.out)]
+
+
+def message(library, given):
+    """The page of a message, with keys hidden."""
+    return lines_of(library.show_page(b"", octets(given), b"", False, False).out)
+
+
+ASKED = {"key": key, "keytab": keytab, "hidden": hidden, "message": message}
