@@ -1,6 +1,6 @@
-"""Tries `krb.text`, `krb.json`, `krb.decode` and `krb.show`: try_show.py TOP, in an environment that has the package installed. The rows of TOP/crates/test_show/stdin, table `pages`, whose
-type has a row in the table of types, are to be told as TOP/crates/test_show/stdout has them, which decoders in Python made that share no code with the
-library; but for those that hold a format that is no DER, which the library leaves octets. `krb.decode` is to have the values of that JSON. `krb.show` is to tell the rows of table `opened`, with their keys in a keytab, and those of kinds without
+"""Tries `krb.text`, `krb.json`, `krb.decode` and `krb.show`: try_show.py TOP, in an environment that has the package installed. The rows of TOP/tests/pages.rows whose
+type has a row in the table of types are to be told as these expect, which decoders in Python made that share no code with the
+library; but for those that hold a format that is no DER, which the library leaves octets. `krb.decode` is to have the values of that JSON. `krb.show` is to tell the rows of TOP/tests/opened.rows, with their keys in a keytab, and those of kinds without
 a row; `krb.decode` is to have the values of its JSON, with what the keys open, `krb.parts` the parts of it, and `krb.find` to find in them. The last line is `N passed, N failed`."""
 
 import datetime
@@ -26,28 +26,25 @@ KERBEROS = bytes.fromhex("2a864886f712010202")  # 1.2.840.113554.1.2.2 (RFC 1964
 HEADINGS = {"DHSubjectPublicKeyInfo": "SubjectPublicKeyInfo", "DHAuthPack": "AuthPack", "ECAuthPack": "AuthPack"}
 
 
-def table_of(top, name):
-    """The columns of each row of a table."""
-    table, inside = [], False
-    with open(os.path.join(top, "crates", "test_show", "stdin"), encoding="utf-8") as file:
-        for line in file:
-            if line.startswith("== "):
-                inside = line == "== %s\n" % name
-            elif inside and not line.startswith("#"):
-                table.append(line.rstrip("\n").split("\t"))
-    return table
+def rows_of(top, name):
+    """The rows of TOP/tests/NAME.rows, with the lines that are expected of each."""
+    sys.path.insert(0, os.path.join(top, "tests"))
+    import rows
+
+    return rows.rows_of(os.path.join(top, "tests", name + ".rows"), "tests/%s.rows" % name)
 
 
 def opened_rows(top):
-    """Keys, kind and octets of each row of the table `opened`, with the lines that are expected of it."""
-    table = table_of(top, "opened")
-    behind = table_of(top, "limited")[0][0]
-    with open(os.path.join(top, "crates", "test_show", "stdout"), encoding="utf-8") as file:
-        lines = file.read().split("\n")
-    at = lines.index(table[0][0])
-    for number, row in enumerate(table):
-        start, at = at + 1, lines.index(table[number + 1][0] if number + 1 < len(table) else behind, at + 1)
-        yield row[1], row[2], bytes.fromhex(row[3]), lines[start:at]
+    """Keys, kind and octets of each row of `opened`, with the lines that are expected of it."""
+    for row in rows_of(top, "opened"):
+        yield row.columns[1], row.columns[2], bytes.fromhex(row.columns[3]), row.expected
+
+
+def files(top):
+    """Kind and octets of each keytab and cache among the rows of `pages`."""
+    for row in rows_of(top, "pages"):
+        if row.columns[1] in ("keytab", "ccache"):
+            yield row.columns[1], bytes.fromhex(row.columns[2])
 
 
 def keytab_of(keys):
@@ -202,10 +199,8 @@ def openers(tree):
 
 def try_kinds(top):
     """Octets of kinds that have no row: files, as the table `files` tells them. How many there are."""
-    table = [row for row in table_of(top, "files") if row[1] in ("keytab", "ccache")]
     count = 0
-    for _, kind, digits in (row[:3] for row in table):
-        octets = bytes.fromhex(digits)
+    for kind, octets in files(top):
         shown = outcome(krb.show, octets, kind, b"", False, True)
         if not isinstance(shown, Status):
             expect(shown.startswith(kind) and shown.isascii() and "keyvalue: hidden" not in shown, "%s is told otherwise" % kind)
@@ -220,18 +215,12 @@ def try_kinds(top):
 
 
 def rows(top):
-    """Origin, type and octets of each row of the table, with the lines that are expected of it."""
-    table = table_of(top, "pages")
-    with open(os.path.join(top, "crates", "test_show", "stdout"), encoding="utf-8") as file:
-        lines = file.read().split("\n")
-    at = 0
-    for number, (origin, name, octets) in enumerate(table):
-        following = "%s %s" % tuple(table[number + 1][:2]) if number + 1 < len(table) else None
-        start = at + 1
-        at = start + 1
-        while lines[at] != following and not (following is None and lines[at - 1].startswith("{")):
-            at += 1
-        yield origin, name, bytes.fromhex(octets), lines[start:at]
+    """Origin, type and octets of each row of `pages`, but for files, with the lines that are expected of it."""
+    for row in rows_of(top, "pages"):
+        origin, name, octets = row.columns
+        name = name if name.startswith("token") else name.partition(": ")[0]
+        if name not in ("keytab", "ccache"):
+            yield origin, name, bytes.fromhex(octets), row.expected
 
 
 def bare(told):
@@ -293,9 +282,8 @@ def try_items(octets, kind, keytab):
 def try_places(top):
     """`krb.show` with places, of all rows and files: what it tells without, and within the octets; `krb.page_items` the same. How many places of what is no DER."""
     count = 0
-    files = [(kind, bytes.fromhex(digits)) for _, kind, digits in (row[:3] for row in table_of(top, "files") if row[1] in ("keytab", "ccache"))]
-    for name, octets in [(name, octets) for _, name, octets, _ in rows(top)] + files:
-        kind = "token" if name.startswith("token") else {"told": None, "password frame": "password-frame"}.get(name, name)
+    for name, octets in [(name, octets) for _, name, octets, _ in rows(top)] + list(files(top)):
+        kind = "token" if name.startswith("token") else None if name == "told" else name
         for each in (kind, APPLICATIONS.get(octets[0]) if octets else None):
             shown = outcome(krb.show, octets, each, b"", False, True)
             if not isinstance(shown, Status):
@@ -384,7 +372,7 @@ def agrees(value, told):
 
 def try_row(name, octets, expected):
     """Whether the type has a row."""
-    if name in ("tree", "told", "password frame", "NEGOEX") or name.startswith("token: ") or any(map(FORMATS.match, expected)):
+    if name in ("tree", "told", "password-frame", "NEGOEX") or name.startswith("token: ") or any(map(FORMATS.match, expected)):
         return False
     try:
         krb.items(octets, name)
@@ -393,8 +381,8 @@ def try_row(name, octets, expected):
             name = APPLICATIONS.get(octets[0]) if octets else None
     if name is None or outcome(krb.items, octets, name) == Status.NUMBER:
         return False
-    if len(expected) == 1:
-        wanted = {"InvalidData": Status.INVALID, "TruncatedData": Status.TRUNCATED, "UnsupportedValue": Status.UNSUPPORTED}[expected[0]]
+    if not expected[-1].startswith("{"):
+        wanted = Status[expected[0]]
         expect(outcome(krb.text, octets, name) == wanted and outcome(krb.json, octets, name) == wanted, "%s is not refused so" % name)
         return True
     text, told = krb.text(octets, name, show_secrets=True), krb.json(octets, name, show_secrets=True)

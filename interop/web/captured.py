@@ -122,7 +122,7 @@ def begin_so(told, fronts, title):
 
 def rows_of(top):
     """An AS-REQ of the rows of `pages`, and an AP-REQ and a KRB-PRIV of `opened`, with their keys and what decoders in Python made of them."""
-    request = next(row for row in pages(top) if row[:2] == ("mit", "AsReq") and row[3][-1].startswith("{"))
+    request = next(row for row in pages(top) if row[:2] == ("mit", "AS-REQ") and row[3][-1].startswith("{"))
     find = lambda title: next(row for row in opened(top) if row[0] == title)
     return request, find("17 AP-REQ, the service's key"), find("17 KRB-PRIV, the subkey second")
 
@@ -149,7 +149,7 @@ def try_list(browser, site, top):
         told = browser.run(PASTE + TOLD, text)
         begin_so(told, fronts, form)
         expect(told["status"].endswith("given as " + form), "%s: %r" % (form, told["status"]))
-    # Messages that are chosen, each as the decoders of test_show have it. What "Read as" says is of what is given, and of no message of a capture.
+    # Messages that are chosen, each as the rows of `pages` have it. What "Read as" says is of what is given, and of no message of a capture.
     browser.run("document.getElementById('kind').value = 'Ticket'")
     begin_so(drop(browser, whole), fronts, "a capture, to be read as a ticket")
     told = chosen(browser, 0)

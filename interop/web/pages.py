@@ -1,4 +1,4 @@
-"""Octets in the page, as the rows of crates/test_show have them."""
+"""Octets in the page, as the rows of tests/*.rows have them."""
 
 import base64
 import json
@@ -51,8 +51,6 @@ return [...document.querySelectorAll("#tree li")].map((item) => {
         document.getElementById("source").value];
 });
 """
-KINDS = {"password frame": "password-frame"}
-ERRORS = {"InvalidData": "INVALID", "TruncatedData": "TRUNCATED", "UnexpectedEof": "TRUNCATED", "UnsupportedLength": "UNSUPPORTED"}
 
 
 def shown(browser, octets, kind="", keytabs=(), keys="", password="", salt="", show=False, form="hex"):
@@ -67,9 +65,7 @@ def kind_of(name, octets):
     """What a row's type is called where its octets are read."""
     from krb._pages import KINDS as named
 
-    if name.startswith("token: "):
-        return "token"
-    name = KINDS.get(name, name)
+    name = name.partition(": ")[0]
     found = next((each for each in named if each.lower() == name.lower()), "")
     return found if name != "told" else ""
 
@@ -150,14 +146,12 @@ def try_rows(browser, top):
         told = shown(browser, octets, kind, show=True, form=form)
         if len(expected) == 1 or not expected[-1].startswith("{"):
             counts["refused"] += 1
-            status = next((ERRORS[each] for each in ERRORS if expected[0] == each), "")
-            if name == "NEGOEX" and expected[0] == "UnexpectedEof":
-                status = ""  # the library for C says INVALID of each fault of NEGOEX
+            status = expected[0] if expected[0].isupper() else ""
             expect(told["error"].startswith(status) and told["error"] != "" and not told["copied"][1], "%s: %r, not %r" % (title, told["error"], expected[0]))
             continue
         counts["shown"] += 1
         lines, (text, as_json) = told["lines"], told["copied"]
-        if any(line.lstrip().startswith("ulType:") for line in expected):  # `krb.show` tells what is in the buffers, and test_show does not: try_buffers
+        if any(line.lstrip().startswith("ulType:") for line in expected):  # `krb.show` tells what is in the buffers, and these rows do not: try_buffers
             lines, text = without_contents(lines), "\n".join(without_contents(text.split("\n")))
             as_json = json.dumps(json_without_contents(json.loads(as_json)), separators=(",", ":"))
         expect(told["error"] == "" and lines == expected[:-1], "%s (%s): other lines: %s" % (title, form, told["error"] or different(lines, expected)))

@@ -1,75 +1,55 @@
-"""The rows of crates/test_show, octets with what decoders in Python made of them that share no code with the library, and texts to mislead."""
+"""The rows of tests/*.rows, octets with what decoders in Python made of them that share no code with the library, and texts to mislead."""
 
 import os
 import struct
+import sys
 
 
-def table_of(top, name):
-    """The columns of each row of a table, and the lines that are expected of it."""
-    rows, inside = [], False
-    with open(os.path.join(top, "crates", "test_show", "stdin"), encoding="utf-8") as file:
-        for line in file:
-            if line.startswith("== "):
-                inside = line == "== %s\n" % name
-            elif inside and not line.startswith("#"):
-                rows.append(line.rstrip("\n").split("\t"))
-    return rows
+def rows_of(top, name):
+    """The rows of tests/NAME.rows, with the lines that are expected of each."""
+    sys.path.insert(0, os.path.join(top, "tests"))
+    import rows
 
-
-def expected_of(top):
-    """The lines of stdout."""
-    with open(os.path.join(top, "crates", "test_show", "stdout"), encoding="utf-8") as file:
-        return file.read().split("\n")
+    return rows.rows_of(os.path.join(top, "tests", name + ".rows"), "tests/%s.rows" % name)
 
 
 def pages(top):
-    """Title, type, octets and expected lines of the rows of `pages` and `files`: the last line is JSON, or there is one line, the error."""
-    rows = table_of(top, "pages") + table_of(top, "files")
-    follows = table_of(top, "opened")[0][0]
-    lines, at = expected_of(top), 0
-    titles = ["%s %s" % (row[0], row[1]) for row in rows] + [follows]
-    for row, title, after in zip(rows, titles, titles[1:]):
-        assert lines[at] == title, (lines[at], title)
-        end = lines.index(after, at + 1)
-        yield row[0], row[1], bytes.fromhex(row[2]), lines[at + 1 : end]
-        at = end
+    """Origin, type, octets and expected lines of the rows of `pages`: the last line is JSON, or of octets that are refused there are the status and why."""
+    for row in rows_of(top, "pages"):
+        origin, name, octets = row.columns
+        yield origin, name, bytes.fromhex(octets), row.expected
 
 
 def opened(top):
     """Title, keys, kind, octets and expected lines of the rows of `opened`."""
-    rows = table_of(top, "opened")
-    follows = table_of(top, "limited")[0][0]
-    lines = expected_of(top)
-    at = lines.index(rows[0][0])
-    for number, row in enumerate(rows):
-        end = lines.index(rows[number + 1][0] if number + 1 < len(rows) else follows, at + 1)
-        yield row[0], row[1], row[2], bytes.fromhex(row[3]), lines[at + 1 : end]
-        at = end
+    for row in rows_of(top, "opened"):
+        title, keys, kind, octets = row.columns[:4]
+        yield title, keys, kind, bytes.fromhex(octets), row.expected
 
 
 def checksums(top):
     """Title, keys, octets and expected lines of the rows of `checksums` that are shown."""
-    rows = table_of(top, "checksums")
-    lines = expected_of(top)
-    at = next(n for n, line in enumerate(lines) if line == rows[0][0] and lines[n + 1] == "no checksums")
-    for number, row in enumerate(rows):
-        if row[2] != "show":
-            break
-        after = rows[number + 1][0] if number + 1 < len(rows) else None
-        end = lines.index(after, at + 1) if after in lines[at + 1 :] else len(lines)
-        yield row[0], row[1].split("|"), bytes.fromhex(row[3]), lines[at + 1 : end]
-        at = end
+    for row in rows_of(top, "checksums"):
+        if row.columns[2] == "show":
+            yield row.columns[0], row.columns[1].split("|"), bytes.fromhex(row.columns[3]), row.expected
 
 
 def buffers(top):
-    """Title, number of the type, octets and expected lines of the rows of `pac`; the last line is JSON."""
-    rows, lines = table_of(top, "pac"), expected_of(top)
-    at = len(lines) - 1 - lines[::-1].index("%s %s" % tuple(rows[0][:2]))
-    for row in rows:
-        assert lines[at] == "%s %s" % tuple(row[:2]), (lines[at], row[:2])
-        end = lines.index("", at)
-        yield row[0], int(row[1]), bytes.fromhex(row[2]), lines[at + 1 : end]
-        at = end + 1
+    """Title, number of the type, octets and expected lines of the rows of `buffers`; the last line is JSON."""
+    for row in rows_of(top, "buffers"):
+        yield row.columns[0], int(row.columns[1]), bytes.fromhex(row.columns[2]), row.expected
+
+
+def passwords(top):
+    """The rows of passwords and their keys, of crates/test_show, table `keys`: the columns of each, and all lines of keys."""
+    folder, inside, found = os.path.join(top, "crates", "test_show"), False, []
+    with open(os.path.join(folder, "stdin"), encoding="utf-8") as file:
+        for line in file:
+            inside = line == "== keys\n" if line.startswith("== ") else inside
+            if inside and line.startswith("password\t"):
+                found.append(line.rstrip("\n").split("\t"))
+    with open(os.path.join(folder, "stdout"), encoding="utf-8") as file:
+        return found, file.read().split("\n")
 
 
 def keytab_of(keys):
