@@ -23,7 +23,7 @@ def told(library, words, given, lines_in):
     one line, and nothing is written."""
     status, output, errors = run(library, words, given)
     errors = lines_of(errors)
-    if status == 0:
+    if status == 0 and output:
         return [*lines_in(output), *errors]
     if status != 1 or output or len(errors) != 1:
         raise Fault(f"jolmurig ends with status {status}, writes {output[:80]!r} and says {errors}")

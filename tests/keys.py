@@ -54,7 +54,7 @@ def keytab(library, given, wanted=""):
         words, told, types = ["show", "--keytab", str(file)], [], []
         if is_refused(library, words, 1):
             page = library.show_page(b"Ticket", FRONT, octets(given), False, True)
-            return ["no keytab"] if page.name == "KEYTAB" else [page.name]
+            return ["no keytab" if page.refused() == "KEYTAB" else page.name]
         for it in wanted.split("|") if wanted else []:
             told.append(opener_in(asked(library, words, ticket_of(library, *key_of(it)))))
         for etype in ETYPES:
@@ -75,7 +75,7 @@ def key_of(text):
 def ticket_of(library, etype, key_octets):
     """A ticket whose part is sealed under a key."""
     confounder = FRESH[: library.confounder_size(etype)]
-    sealed = library.seal_ticket_part(etype, key_octets, 2, confounder, PART).out
+    sealed = library.seal_ticket_part(etype, key_octets, 2, confounder, PART).demand().out
     number = element(0xA0, element(2, bytes([etype])))
     part = element(0xA3, element(0x30, number + element(0xA2, element(4, sealed))))
     return element(0x61, element(0x30, FRONT + part))
@@ -107,12 +107,12 @@ def value_in(page, name):
 def hidden(library, given):
     """The page of a keytab and its JSON, with keys hidden."""
     told = [library.show_page(b"keytab", octets(given), b"", it, False) for it in (False, True)]
-    return [line for it in told for line in lines_of(it.out)]
+    return [line for it in told for line in lines_of(it.demand().out)]
 
 
 def message(library, given):
     """The page of a message, with keys hidden."""
-    return lines_of(library.show_page(b"", octets(given), b"", False, False).out)
+    return lines_of(library.show_page(b"", octets(given), b"", False, False).demand().out)
 
 
 ASKED = {"key": key, "keytab": keytab, "hidden": hidden, "message": message}

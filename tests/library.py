@@ -43,6 +43,18 @@ class Answer:
         """All of it, so that two answers compare."""
         return self.status, {name: plain_of(it) for name, it in self.told.items()}
 
+    def refused(self):
+        """The name of the status, of a call that refuses, which tells nothing."""
+        if self.is_given or any(map(is_told, self.told.values())):
+            raise Fault(f"{self.name} tells something: {self.plain()}")
+        return self.name
+
+    def demand(self):
+        """The answer, which has to be given."""
+        if not self.is_given:
+            raise Fault(f"there is no answer, but {self.refused()}")
+        return self
+
     def at(self, place):
         """The octets of `out` at a place."""
         return self.out[place.offset : place.offset + place.size]

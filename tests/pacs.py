@@ -6,15 +6,10 @@ import re
 
 from library import Fault
 from rows import octets
-from shown import OF_BUFFER, lines_of
+from shown import lines_of
 
-# The lines of a PAC of one buffer, up to what it holds, with their numbers left out, and its JSON.
-ALONE = ["PAC[1]:", "  PAC:", *(f"    {it}: .." for it in OF_BUFFER)]
-NUMBERS = re.compile(r"(?<=:) .*")
-ALONE_IN_JSON = re.compile(
-    r'\{"PAC":\[\{"ulType":\{[^}]*\},"cbBufferSize":\d+,"Offset":24,'
-    r'"buffer":"[0-9a-f]*",?(.*)\}\]\}'
-)
+# The JSON of a PAC of one buffer: the number and the name of its type, and the rest.
+OF_TYPE = re.compile(r'\{"PAC":\[\{"ulType":\{"number":(\d+),"name":(.*?)\},(.*)\}\]\}')
 # Seconds from 1601 to 1970, and parts of one in a FILETIME (MS-DTYP, 2.3.3).
 SINCE_1601, PARTS = 11_644_473_600, 10_000_000
 TIMES = ("LogonTime", "LogoffTime", "KickOffTime")
@@ -22,31 +17,40 @@ TIMES += ("PasswordLastSet", "PasswordCanChange", "PasswordMustChange")
 NAMES = ("EffectiveName", "FullName", "LogonScript", "ProfilePath")
 NAMES += ("HomeDirectory", "HomeDirectoryDrive")
 COUNTS = ("LogonCount", "BadPasswordCount", "UserId", "PrimaryGroupId")
-# What is not printable ASCII in a text of a page.
-ESCAPED = re.compile(rb"\\(?:x([0-9a-f]{2})|(.))")
+# The struct of a buffer of type 10, and its members (MS-PAC, 2.7).
+CLIENT_INFO = "PAC_CLIENT_INFO", ["ClientId", "Name"]
+# What stands in a page without quotes: times and identifiers.
+VALUE = re.compile(r"never|\d{4}-\d\d-\d\dT\d\d:\d\d:\d\dZ|S-1(-\w+)+")
+ESCAPES = {0x22: '\\"', 0x5C: "\\\\"}
 
 
 def buffers(library, columns):
     """A row of `buffers`: an origin, the number of a buffer's type, and its octets: the lines and
     the JSON of what it holds, which is shown of a PAC of this buffer alone."""
     _, number, given = columns
-    lines, line = shown_alone(library, int(number), octets(given))
-    if [NUMBERS.sub(" ..", it) for it in lines[: len(ALONE)]] != ALONE:
-        raise Fault(f"the page begins otherwise: {lines[: len(ALONE)]}")
-    lines = [it.removeprefix("    ") for it in lines[len(ALONE) :]]
-    return [*lines, f"{{{ALONE_IN_JSON.fullmatch(line).group(1)}}}"]
+    return shown_alone(library, int(number), octets(given))
 
 
 def shown_alone(library, number, buffer):
-    """The lines of the page of a PAC of this buffer alone, and its JSON."""
+    """The lines and the JSON of what a buffer holds, of a PAC of it alone, whose own lines stand
+    before."""
+    size, digits = len(buffer), buffer.hex()
     pac = bytes([1, 0, 0, 0, 0, 0, 0, 0]) + number.to_bytes(4, "little")
-    pac += len(buffer).to_bytes(4, "little") + bytes([24, 0, 0, 0, 0, 0, 0, 0])
-    pac += buffer + bytes(-len(buffer) % 8)
+    pac += size.to_bytes(4, "little") + bytes([24, 0, 0, 0, 0, 0, 0, 0])
+    pac += buffer + bytes(-size % 8)
     text, line = (library.show_page(b"PAC", pac, b"", is_json, True) for is_json in (False, True))
-    if text.status or line.status:
-        raise Fault(f"a PAC of this buffer alone is refused: {text.name}, {line.name}")
-    (line,) = lines_of(line.out)
-    return lines_of(text.out), line
+    lines, (line,) = lines_of(text.demand().out), lines_of(line.demand().out)
+    behind = f'"cbBufferSize":{size},"Offset":24,"buffer":"{digits}"'
+    told, name, inner = OF_TYPE.fullmatch(line).groups()
+    if told != str(number) or not inner.startswith(behind):
+        raise Fault(f"the buffer is not told: {line[:200]}")
+    kind = f"{number} {json.loads(name) or ''}".rstrip(" ")
+    own = ["PAC[1]:", "  PAC:", f"    ulType: {kind}", f"    cbBufferSize: {size}"]
+    own += ["    Offset: 24", f"    buffer: {size} octets{' ' if size else ''}{digits}"]
+    if lines[: len(own)] != own:
+        raise Fault(f"the buffer is told otherwise: {lines[: len(own)]}")
+    lines = [it.removeprefix("    ") for it in lines[len(own) :]]
+    return [*lines, f"{{{inner[len(behind) :].removeprefix(',')}}}"]
 
 
 def logon(library, columns):
@@ -54,7 +58,7 @@ def logon(library, columns):
     it, or why that is not read."""
     given = octets(columns[1])
     told = library.show_placed_page(b"PAC", given, b"", True, True)
-    (line,) = lines_of(told.out)
+    (line,) = lines_of(told.demand().out)
     of_logon = [it["value"] for it in json.loads(line)["PAC"]["value"] if type_of(it) == 1]
     if not of_logon:
         return ["no logon information"]
@@ -120,29 +124,34 @@ def texts(library, columns):
     or that it is none, or what is shown of the time."""
     kind, given = columns
     if kind == "sid":
-        return [text_alone(library, 18, octets(given), "UserSid")]
+        return [members_alone(library, 18, octets(given), "PAC_REQUESTOR", ["UserSid"])[0]]
     if kind == "time":
         buffer = int(given).to_bytes(8, "little") + bytes([2, 0, 0x78, 0])
-        told = text_alone(library, 10, buffer, "ClientId")
+        told, _ = members_alone(library, 10, buffer, *CLIENT_INFO)
         return ["unrepresentable" if told == given else told]
     name = octets(given)
-    told = text_alone(library, 10, bytes(8) + len(name).to_bytes(2, "little") + name, "Name")
-    if told == f"{len(name)} octets {name.hex()}":
-        return ["none"]
-    text = ESCAPED.sub(octet_of, told.encode("ascii"))
-    if not (text[:1] == text[-1:] == b'"'):
-        raise Fault(f"no text is shown, but {told}")
-    return [f"text {text[1:-1].hex()}"]
+    buffer = bytes(8) + len(name).to_bytes(2, "little") + name
+    _, told = members_alone(library, 10, buffer, *CLIENT_INFO)
+    return ["none" if name and told == name.hex() else f"text {told.encode().hex()}"]
 
 
-def octet_of(escaped):
-    """The octet that stands escaped in a text."""
-    return bytes.fromhex(escaped[1].decode()) if escaped[1] else escaped[2]
+def members_alone(library, number, buffer, struct, names):
+    """The members of a struct that a buffer holds, as its JSON has them: its lines have to be
+    those."""
+    *lines, line = shown_alone(library, number, buffer)
+    told = json.loads(line)[struct]
+    own = [f"{struct}:", *(f"  {name}: {text_of(told[name], buffer)}" for name in names)]
+    if list(told) != names or lines != own:
+        raise Fault(f"{line} is shown as {lines}")
+    return [str(told[name]) for name in names]
 
 
-def text_alone(library, number, buffer, name):
-    """What the page of a PAC of this buffer alone has behind a name."""
-    lines, _ = shown_alone(library, number, buffer)
-    found = [it.partition(": ")[2] for it in lines if it.startswith(f"      {name}: ")]
-    (told,) = found
-    return told
+def text_of(value, buffer):
+    """A value as a page has it: a name is in quotes, or its octets are shown."""
+    if not isinstance(value, str) or VALUE.fullmatch(value):
+        return str(value)
+    if value == buffer[10:].hex() != "":
+        return f"{len(value) // 2} octets {value}"
+    octets_of_text = value.encode()
+    plain = {it: chr(it) for it in range(32, 127)} | ESCAPES
+    return f'"{"".join(plain.get(it, f"{chr(92)}x{it:02x}") for it in octets_of_text)}"'

@@ -26,7 +26,7 @@ def request(library, given):
     """For whom a request is, with names and realm of its message; as the lenient call has it; and
     what the program says, which passes on the message."""
     strict, lenient = library.proxy_request(given), library.proxy_request_lenient(given)
-    told = [f"proxy_request: {strict.name}", f"proxy_request_lenient: {lenient.name}"]
+    told = [f"proxy_request: {name_of(strict)}", f"proxy_request_lenient: {name_of(lenient)}"]
     begin = given
     if strict.is_given:
         it = strict.posted
@@ -41,6 +41,11 @@ def request(library, given):
         words = [SERVICES[it.service], domain_of(given, it), hint_of(it), place_of(it)]
         told[1] += f" {' '.join(words)}"
     return [*told, said(library, "request", given, begin if strict.is_given else None)]
+
+
+def name_of(answer):
+    """The name of a status; a call that refuses tells nothing."""
+    return answer.name if answer.is_given else answer.refused()
 
 
 def domain_of(given, posted):
@@ -77,8 +82,10 @@ def names_of(library, message):
 
 def components_of(library, kind, name, message):
     """The components of a name; `-` for none."""
-    if not name or library.find(kind.encode(), name.encode(), message).name == "ABSENT":
+    told = library.find(kind.encode(), name.encode(), message) if name else None
+    if told is None or told.name == "ABSENT":
         return "-"
+    told.demand()
     text = ""
     for number in range(len(message)):
         part = text_at(library, kind, f"{name}.name-string[{number}]", message)
@@ -93,7 +100,8 @@ def text_at(library, kind, path, message):
     told = library.find(kind.encode(), path.encode(), message)
     if told.name == "ABSENT":
         return None
-    return message[told.item.offset :][: told.item.size].decode("ascii")
+    it = told.demand().item
+    return message[it.offset :][: it.size].decode("ascii")
 
 
 def said(library, what, given, passed):
@@ -110,13 +118,13 @@ def post(library, message, realm):
     or why not, which the program says of such a request."""
     made = library.make_proxy_request(message, realm.encode())
     if made.is_given:
-        it = library.proxy_request(made.out).posted
+        it = library.proxy_request(made.out).demand().posted
         is_read = stream_at(made.out, it.message_offset, it.message_size)[4:] == message
         digits, is_read = made.out[:FRONT].hex(), "true" if is_read else "false"
         return [f"make_proxy_request: DONE {made.size} {digits} {is_read}"]
     stream = len(message).to_bytes(4, "big") + message
-    whole = library.make_kdc_proxy_message(stream, realm.encode()).out
-    return [f"make_proxy_request: {made.name}", said(library, "request", whole, None)]
+    posted = library.make_kdc_proxy_message(stream, realm.encode()).demand().out
+    return [f"make_proxy_request: {made.refused()}", said(library, "request", posted, None)]
 
 
 def reply(library, message):
@@ -136,7 +144,7 @@ def replied(library, call, made, given, stream):
     it is refused. The program writes the same of a stream."""
     line = said(library, "reply", stream, made.out if made.is_given else None)
     if not made.is_given:
-        return [f"{call}: {made.name}", line]
+        return [f"{call}: {made.refused()}", line]
     front = made.out[: -len(given)]
     stands = "true" if made.out == front + given else "false"
     return [f"{call}: DONE {front.hex()} {stands}", *read_reply(library, made.out), line]
@@ -146,13 +154,13 @@ def read_reply(library, given):
     """Which reply a proxy answers, and where it stands; or why it is refused, which of a message
     that is refused the program says."""
     told = library.read_proxy_reply(given)
-    line = f"read_proxy_reply: {told.name}"
+    line = f"read_proxy_reply: {name_of(told)}"
     if told.is_given:
         message = stream_at(given, told.message_offset, told.message_size)[4:]
         return [f"{line} {kind_of(library, message)} {told.message_offset}+{told.message_size}"]
     if not told.name.startswith("PROXY_"):
         return [line]
-    it = library.find(b"KDC-PROXY-MESSAGE", b"kerb-message", given).item
+    it = library.find(b"KDC-PROXY-MESSAGE", b"kerb-message", given).demand().item
     return [line, said(library, "reply", given[it.offset :][: it.size], None)]
 
 
@@ -168,7 +176,7 @@ def kind_of(library, message):
 
 def whole(library, given, limit):
     """Whether what came over a stream is there with all its octets."""
-    return [f"proxy_is_whole: {library.proxy_is_whole(given, int(limit)).name}"]
+    return [f"proxy_is_whole: {name_of(library.proxy_is_whole(given, int(limit)))}"]
 
 
 ASKED = {

@@ -49,9 +49,9 @@ def page_of(library, kind, given):
     text, line = (
         library.show_page(kind.encode(), given, b"", is_json, True) for is_json in (False, True)
     )
-    if text.status or line.status:
-        return None if text.status == line.status else [text.name, line.name]
-    return page_in(text.out, line.out)
+    if text.is_given or line.is_given:
+        return page_in(text.demand().out, line.demand().out)
+    return None if text.refused() == line.refused() else [text.name, line.name]
 
 
 def page_in(text, line):
@@ -115,8 +115,11 @@ def refused(library, kind, given):
     begin = "jolmurig: "
     if status != 1 or output or not line.startswith(begin):
         raise Fault(f"jolmurig ends with status {status} and {line!r}")
-    frame = [library.password_frame(given).name] if kind == "password-frame" else []
-    return [told.name, PLACE.sub("", line.removeprefix(begin)), *frame]
+    lines = [told.refused(), PLACE.sub("", line.removeprefix(begin))]
+    if kind == "password-frame":
+        frame = library.password_frame(given)
+        lines.append(frame.name if frame.is_given else frame.refused())
+    return lines
 
 
 def run(library, words, given, folder=None):
@@ -239,9 +242,9 @@ def flips(library, keys, *given):
     keytab, runs = keytab_of(keys.split("|")), []
     for it in flipped(part[begin:end]):
         changed = part[:begin] + it + part[end:]
-        sealed = library.once("encrypt", etype, key, 2, bytes(16), changed).out
+        sealed = library.once("encrypt", etype, key, 2, bytes(16), changed).demand().out
         page = library.once("show_page", b"Ticket", front + sealed, keytab, False, True)
-        told = " ".join(it.lstrip(" ") for it in of_checksums(page.out))
+        told = " ".join(it.lstrip(" ") for it in of_checksums(page.demand().out))
         if runs and runs[-1][1] == told:
             runs[-1][0] += 1
         else:
