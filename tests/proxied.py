@@ -38,6 +38,8 @@ def request(library, given):
     if lenient.is_given:
         it = lenient.posted
         stream_at(given, it.message_offset, it.message_size)
+        if it.names_one_realm:
+            raise Fault("the lenient call looks at the realm of the message")
         words = [SERVICES[it.service], domain_of(given, it), hint_of(it), place_of(it)]
         told[1] += f" {' '.join(words)}"
     return [*told, said(library, "request", given, begin if strict.is_given else None)]
@@ -54,7 +56,9 @@ def domain_of(given, posted):
 
 
 def hint_of(posted):
-    """The hint of a request: `-` where there is none, `large` past 64 bits."""
+    """The hint of a request: `-` where there is none, `large` past 64 bits; the number is 0 then."""
+    if posted.hint and posted.hint_status:
+        raise Fault(f"the hint {posted.hint} is told with {posted.hint_status}")
     return {0: str(posted.hint), 20: "-", 21: "large"}[posted.hint_status]
 
 

@@ -163,13 +163,14 @@ def keytab_of(keys):
 
 
 @contextlib.contextmanager
-def keys_of(column, between):
+def keys_of(column):
     """The options of jolmurig for keys ETYPE:HEX:NAME, and a folder to run in: it calls a key of
-    the command line `--key N`, one of a keytab `PRINCIPAL kvno N`, and one of a file as that."""
+    the command line `--key N`, one of a keytab `PRINCIPAL kvno N`, and one of a file as that. A
+    name that begins with `/` has that of the folder before it."""
     with tempfile.TemporaryDirectory(prefix="tests-") as room:
         options, folder = [], Path(room, "keys")
         folder.mkdir()
-        for count, it in enumerate([] if column == "-" else column.split(between)):
+        for count, it in enumerate([] if column == "-" else column.split("|")):
             etype, digits, name = it.split(":", 2)
             if name == f"--key {options.count('--key') + 1}":
                 options += ["--key", f"{etype}:{digits}"]
@@ -178,18 +179,19 @@ def keys_of(column, between):
                 file.write_bytes(keytab_of([it]))
                 options += ["--keytab", str(file)]
             else:
+                name = f"{folder}{name}" if name[0] == "/" else name
                 file = Path(folder, name)
                 file.parent.mkdir(parents=True, exist_ok=True)
                 file.write_text(f"{etype}:{digits}\n")
                 options += ["--key-file", name]
-        yield options, folder
+        yield options, str(folder)
 
 
 def opened(library, columns):
     """A row of `opened`: an origin, keys, the type or `message`, the octets, and where they are
     there those that are opened: a line says that the page ends with theirs."""
     _, keys, kind, given, *part = columns
-    with keys_of(keys, " ") as (options, folder):
+    with keys_of(keys) as (options, folder):
         options += [] if kind == "message" else ["--as", kind]
         words = ["show", "--show-keys", *options]
         lines = lines_of(asked(library, words, octets(given), folder))
@@ -220,9 +222,9 @@ def checksums(library, columns):
     _, keys, how, *given = columns
     if how == "flips":
         return flips(library, keys, *given)
-    with keys_of(keys, "|") as (options, folder):
+    with keys_of(keys) as (options, folder):
         out = asked(library, ["show", "--show-keys", *options], octets(given[0]), folder)
-    return of_checksums(out) or ["no checksums"]
+    return of_checksums(out.replace(f'"{folder}/'.encode(), b'"/')) or ["no checksums"]
 
 
 def of_checksums(page):
