@@ -56,7 +56,7 @@ def domain_of(given, posted):
 
 
 def hint_of(posted):
-    """The hint of a request: `-` where there is none, `large` past 64 bits; the number is 0 then."""
+    """The hint of a request: `-` where there is none, `large` past 64 bits; it is 0 then."""
     if posted.hint and posted.hint_status:
         raise Fault(f"the hint {posted.hint} is told with {posted.hint_status}")
     return {0: str(posted.hint), 20: "-", 21: "large"}[posted.hint_status]

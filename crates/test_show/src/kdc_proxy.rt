@@ -1,52 +1,75 @@
-//! What a proxy passes on and what it refuses, of messages of MIT Kerberos, Heimdal and Samba.
+//! What a client posts to a KDC proxy, with a hint.
 //!
-//! A row is a call, octets, and arguments:
-//!
-//! ```text
-//! request      what a client posts
-//! post         a message, a target-domain, the content octets of a hint or nothing
-//! reply        what came in a datagram
-//! write_reply  what came over a stream
-//! read_reply   what a proxy answers
-//! whole        what came over a stream, a limit
-//! ```
-//!
-//! For each row it prints a line a call: what was read, or the status of HTTP and the error.
+//! A row is a message, a target-domain and the content octets of a hint. For each row it prints a line: what is posted, or the status
+//! of HTTP and the error.
 
-mod replies;
-mod requests;
-
-use crate::kdc_proxy::replies::{answered, is_there, read, replied};
-use crate::kdc_proxy::requests::{looked_at, posted, requested};
+use krb_der::IntegerAsn1;
+use krb_kdc_proxy::{ProxyError, read_request, write_request};
+use krb_types::data_types::KerberosStringAsn1;
 use std::alloc::{AllocError, Global};
-use test_rows::{Columns, RowError, octets_of};
+use test_rows::{Columns, RowError};
 
-/// What is printed of what a client posts.
-fn request(alloc: Global, octets: &[u8]) -> Result<String, AllocError> {
-    let mut text = requested(alloc, octets)?;
-    text.push_str(&looked_at(alloc, octets)?)?;
-    Ok(text)
+/// The line of an error.
+fn refused(alloc: Global, error: ProxyError) -> Result<String, AllocError> {
+    let status = error.status();
+    format!(in alloc; "write_request: {status} {error}\n")
 }
 
-/// What is printed of a message that is posted.
-fn post(alloc: Global, octets: &[u8], columns: &mut Columns<'_>) -> Result<String, RowError> {
-    let domain = columns.text()?;
-    let hint = octets_of(alloc, columns.text_if_any())?;
-    Ok(posted(alloc, octets, domain, &hint)?)
+/// The realm of a text; that of no letter, where it is none.
+fn domain_of(alloc: Global, text: &str) -> Result<KerberosStringAsn1, ProxyError> {
+    match KerberosStringAsn1::from_string(String::from_str(alloc, text)?) {
+        Ok(domain) => Ok(domain),
+        Err(_) => Err(ProxyError::OutOfMemory),
+    }
+}
+
+/// The hint of these content octets; none of none.
+fn hint_of(alloc: Global, content: &[u8]) -> Result<Option<IntegerAsn1>, ProxyError> {
+    if content.is_empty() {
+        return Ok(None);
+    }
+    match IntegerAsn1::from_bytes_be_signed(alloc, Vec::from_slice(alloc, content)?) {
+        Ok(hint) => Ok(Some(hint)),
+        Err(_) => Err(ProxyError::OutOfMemory),
+    }
+}
+
+/// What is posted.
+fn posting(
+    alloc: Global,
+    message: &[u8],
+    domain: &str,
+    hint: &[u8],
+) -> Result<Vec<u8>, ProxyError> {
+    let domain = domain_of(alloc, domain)?;
+    let hint = hint_of(alloc, hint)?;
+    write_request(alloc, message, domain, hint)
+}
+
+/// Whether these octets are read as the request of this message.
+fn is_read(alloc: Global, octets: &[u8], message: &[u8]) -> bool {
+    match read_request(alloc, octets) {
+        Ok(request) => request.datagram == message,
+        Err(_) => false,
+    }
+}
+
+/// The line of `write_request`: the first octets, how many there are, and whether they are read as this message.
+fn posted(alloc: Global, message: &[u8], domain: &str, hint: &[u8]) -> Result<String, AllocError> {
+    match posting(alloc, message, domain, hint) {
+        Ok(octets) => {
+            let size = octets.len();
+            let digits = hex::encode(alloc, &octets[..size.min(1500)])?;
+            let is_read = is_read(alloc, &octets, message);
+            format!(in alloc; "write_request: {size} {digits} {is_read}\n")
+        }
+        Err(error) => refused(alloc, error),
+    }
 }
 
 /// What is printed of a row.
 pub(crate) fn answer(alloc: Global, mut columns: Columns<'_>) -> Result<String, RowError> {
-    let call = columns.text()?;
-    let octets = columns.octets(alloc)?;
-    let text = match call {
-        "request" => request(alloc, &octets)?,
-        "post" => post(alloc, &octets, &mut columns)?,
-        "reply" => replied(alloc, &octets)?,
-        "write_reply" => answered(alloc, &octets)?,
-        "read_reply" => read(alloc, &octets)?,
-        "whole" => is_there(alloc, &octets, columns.number::<usize>()?)?,
-        _ => return Err(RowError::NoColumn),
-    };
-    Ok(text)
+    let message = columns.octets(alloc)?;
+    let domain = columns.text()?;
+    Ok(posted(alloc, &message, domain, &columns.octets(alloc)?)?)
 }

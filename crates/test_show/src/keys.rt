@@ -1,15 +1,10 @@
-//! Keys from texts, keytabs and passwords, and pages without keys.
+//! Keys from keytabs and passwords.
 //!
-//! A row is a word and more columns: `key` and a text, `keytab` and a keytab, `hidden` and a keytab, whose page is then shown
-//! without keys, `message` and a message, whose page is too; `password`, a password and a message, whose salts give its keys. For
-//! each row it prints the keys, or the page's text and, of a keytab, its JSON, or the error.
+//! A row is `keytab` and a keytab; or `password`, a password and a message, whose salts give its keys. For each row it prints the
+//! keys, or the error.
 
-use crate::pages::printed;
-use krb_decrypt::{
-    Key, KeytabKeysError, key_of_text, keys_of_keytab, keys_of_passwords, without_keys,
-};
-use krb_show_pages::{page_of_keytab, page_of_message};
-use krb_show_text::text_of_page;
+use krb_decrypt::{Key, KeytabKeysError, keys_of_keytab, keys_of_passwords};
+use krb_show_pages::page_of_message;
 use std::alloc::{AllocError, Global};
 use test_rows::{Columns, RowError};
 
@@ -19,16 +14,6 @@ fn line_of(alloc: Global, key: &Key) -> Result<String, AllocError> {
     let digits = hex::encode(alloc, &key.octets)?;
     let name = String::from_utf8_lossy(alloc, &key.name)?;
     format!(in alloc; "{number} {digits} {name}\n")
-}
-
-/// What is printed of a text.
-fn key(alloc: Global, text: &str) -> Result<String, AllocError> {
-    let mut name = Vec::new(alloc);
-    name.extend_from_slice(b"a name")?;
-    match key_of_text(alloc, text.as_bytes(), name)? {
-        Some(key) => line_of(alloc, &key),
-        None => String::from_str(alloc, "no key\n"),
-    }
 }
 
 /// What is printed of a keytab.
@@ -44,28 +29,6 @@ fn keytab(alloc: Global, octets: &[u8]) -> Result<String, AllocError> {
         text.push_str(line.as_str())?;
     }
     Ok(text)
-}
-
-/// What is printed of the page of a keytab without its keys.
-fn hidden(alloc: Global, octets: &[u8]) -> Result<String, AllocError> {
-    match page_of_keytab(alloc, octets) {
-        Ok(page) => {
-            let page = without_keys(alloc, page)?;
-            printed(alloc, &page)
-        }
-        Err(_) => String::from_str(alloc, "no page\n"),
-    }
-}
-
-/// What is printed of the page of a message without its keys.
-fn message(alloc: Global, octets: &[u8]) -> Result<String, AllocError> {
-    match page_of_message(alloc, octets) {
-        Ok(page) => {
-            let page = without_keys(alloc, page)?;
-            text_of_page(alloc, &page)
-        }
-        Err(_) => String::from_str(alloc, "no page\n"),
-    }
 }
 
 /// What is printed of the keys that a password gives with the salts of a message.
@@ -89,20 +52,12 @@ fn password(alloc: Global, password: &str, octets: &[u8]) -> Result<String, Allo
 
 /// What is printed of a row.
 pub(crate) fn answer(alloc: Global, mut columns: Columns<'_>) -> Result<String, RowError> {
-    let kind = columns.text()?;
-    if kind == "key" {
-        return Ok(key(alloc, columns.text()?)?);
+    match columns.text()? {
+        "keytab" => Ok(keytab(alloc, &columns.octets(alloc)?)?),
+        "password" => {
+            let word = columns.text()?;
+            Ok(password(alloc, word, &columns.octets(alloc)?)?)
+        }
+        _ => Err(RowError::NoColumn),
     }
-    if kind == "password" {
-        let word = columns.text()?;
-        return Ok(password(alloc, word, &columns.octets(alloc)?)?);
-    }
-    let octets = columns.octets(alloc)?;
-    let text = match kind {
-        "keytab" => keytab(alloc, &octets)?,
-        "message" => message(alloc, &octets)?,
-        "hidden" => hidden(alloc, &octets)?,
-        _ => return Err(RowError::NoColumn),
-    };
-    Ok(text)
 }

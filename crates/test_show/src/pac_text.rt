@@ -1,20 +1,11 @@
 //! Prints what Windows writes in a PAC as text.
 //!
-//! A row is a kind and a value: octets, of a kind `sid` or `name`, or a number in decimal, of the kind `time`. For each row the
-//! program prints a line: the text of an identifier, the text of a name in hexadecimal digits, or the parts of a time.
+//! A row is a kind and a value: octets, of the kind `name`, or a number in decimal, of the kind `time`. For each row the program
+//! prints a line: the text of a name in hexadecimal digits, or the parts of a time.
 
-use krb_pac_contents::SidView;
-use krb_pac_contents::text::{FileTime, name_text, sid_text, time_of_filetime};
+use krb_pac_contents::text::{FileTime, name_text, time_of_filetime};
 use std::alloc::{AllocError, Global};
 use test_rows::{Columns, RowError};
-
-/// The text of an identifier.
-fn sid(alloc: Global, octets: &[u8]) -> Result<String, AllocError> {
-    match SidView::new(octets) {
-        Ok(sid) => sid_text(alloc, &sid),
-        Err(error) => format!(in alloc; "{error:?}"),
-    }
-}
 
 /// The text of a name, in hexadecimal digits.
 fn name(alloc: Global, octets: &[u8]) -> Result<String, AllocError> {
@@ -48,7 +39,6 @@ pub(crate) fn answer(alloc: Global, mut columns: Columns<'_>) -> Result<String, 
     let kind = columns.text()?;
     let text = match kind {
         "time" => time(alloc, columns.number::<u64>()?)?,
-        "sid" => sid(alloc, &columns.octets(alloc)?)?,
         "name" => name(alloc, &columns.octets(alloc)?)?,
         _ => return Err(RowError::NoColumn),
     };
