@@ -1,18 +1,24 @@
-"""What the page in the browser shows: the lines of `krb.show` as a tree, and beside it the places that `krb_decode`, `krb_gss_token` and their kin tell.
+"""What the page in the browser shows: the items of `krb.page_items` as the lines of a tree, and beside it the text and the JSON of `krb.show`.
 
-Nothing is decoded here. A line has the place of the item that has its name, in the order of both, and other lines, as those of a PAC, a keytab or a cache, have
-the place that `krb.show` writes with it; where the library tells no place of a line it has none, and the page lights up what it stands in."""
+Nothing is decoded here, and no printed text is taken apart. A line has the place of its item, in the octets given or in those that a key opened, which
+`krb_decode` tells. Where no place is known it has none: the page lights up what it stands in, and hides that where it is secret. What no item tells:
+
+- Of a buffer of a PAC its item has the place of the entry; the line has that of the octets which the entry's cbBufferSize and Offset name.
+- Of a token in a frame its item has the place of what the frame holds, and of an element of any type, which is shown whole, that of its content, or none where
+  it stands in a token or in a type of PKINIT; their lines have the tag and the length before it too.
+- The places of a tree of tags stand in the names of its items (`_TREE_PLACE`).
+- What a key of the caller's is called has the end of a name in a keytab, in the text and the JSON too (`_OWN_KEY`)."""
 
 import base64
-import json
 import re
 import struct
-from typing import Any, Dict, Iterable, Iterator, List, NamedTuple, Optional, Tuple
+from typing import Any, Dict, Iterable, List, NamedTuple, Optional, Set, Tuple
 
-from krb import crypto, frames, spnego
-from krb._items import Form, Item, Leaf, Node, Registry, Role, _item, _Record, _RECORD, first_error, name_of, type_of
+from krb import crypto, spnego
+from krb._items import Registry, Role, _all_names, _RECORD, first_error, name_of, type_of
 from krb._library import TEXTS, Refused, Status
-from krb._parts import Outcome, _decoded, _ETYPES
+from krb._page_items import FORMATS, PageForm, PageItem, page_items
+from krb._parts import _decoded, _ETYPES
 from krb._shown import show
 
 __all__ = ["BadInput", "KINDS", "Page", "keys_of", "page_of"]
@@ -32,11 +38,14 @@ _WITHOUT_KEYS = {"Ticket", "AS-REQ", "AS-REP", "TGS-REQ", "TGS-REP", "AP-REQ", "
 MOST_LINES = 20000  # of a tree; the text and the JSON are whole
 MOST_KEYS = 80  # that are made of a password
 _CLEAR = b"\xa0\3\2\1\0"  # etype [0] INTEGER of 0 (RFC 4120, 5.2.9): what follows may be in the clear
-_LINE = re.compile(r"( *)(.*?)(?:\[(\d+)\])?:(?: (.*))?")
-_WRITTEN_PLACE = re.compile(r" @(\d+)\+(\d+)$")
 _TREE_PLACE = re.compile(r"@(\d+)\+(\d+)$")
 # What a key of the caller's is called: the principal of an entry without a realm.
 _OWN_KEY = re.compile(r'((?:opened-by|-key)"?: ?"(?:key \d+|the password, salt .*?))@ kvno 1"')
+_OWN_NAME = re.compile(r"(key \d+|the password, salt .*)@ kvno 1", re.DOTALL)
+_BEGINS = (PageForm.STRUCT, PageForm.LIST)
+_ENDS = (PageForm.STRUCT_END, PageForm.LIST_END)
+# What stands in a text for an octet that does not stand there itself.
+_ESCAPES = {each: "\\" + chr(each) if each in b'"\\' else "\\x%02x" % each for each in range(256) if not 32 <= each < 127 or each in b'"\\'}
 
 
 class BadInput(ValueError):
@@ -59,33 +68,20 @@ class Source(NamedTuple):
 
 
 class Line:
-    """A line of `show`, and the lines that stand in it."""
+    """An item that is no end, and the lines that stand in it. `source` is the one that it has a place in, where it is known, and `cipher` a ciphertext in it behind
+    which what a key opened has not come yet."""
 
-    __slots__ = ("name", "count", "value", "place", "lines", "around")
+    __slots__ = ("item", "name", "count", "value", "place", "lines", "around", "depth", "source", "cipher")
 
-    def __init__(self, name: str, count: Optional[int], value: Optional[str], around: Optional["Line"]) -> None:
-        self.name, self.count, self.value, self.around = name, count, value, around
+    def __init__(self, item: PageItem, around: Optional["Line"]) -> None:
+        self.item, self.name, self.around = item, item.name, around
+        self.count = int(item.value) if item.form == PageForm.LIST else None
+        self.value = None if item.form in _BEGINS else _written(item)
         self.place: Optional[Place] = None
         self.lines: List["Line"] = []
-
-    def within(self, name: str) -> Optional["Line"]:
-        return next((line for line in self.lines if line.name == name), None)
-
-    def number(self, name: str) -> Optional[int]:
-        """The number with which the value of a line within begins."""
-        line = self.within(name)
-        found = re.match(r"\d{1,10}(?= |$)", line.value or "") if line else None
-        return int(found.group()) if found else None
-
-
-class Element:
-    """An item of the library's, without the explicit tags around it, and what stands in it."""
-
-    __slots__ = ("item", "elements")
-
-    def __init__(self, item: Item) -> None:
-        self.item = item
-        self.elements: List["Element"] = []
+        self.depth: int = 0 if around is None else around.depth + 1
+        self.source: Optional[int] = 0 if around is None else around.source
+        self.cipher: Optional["Line"] = None
 
 
 class Page(NamedTuple):
@@ -98,25 +94,24 @@ class Page(NamedTuple):
     error: Optional[Tuple[str, str, Optional[int]]]
     notes: List[str]
     hides_octets: bool
-    secrets: List[Place]
+    untold: List[int]  # the sources of which no line has the whole
 
 
-def _lines_of(text: str) -> List[Line]:
-    """All lines, each behind what it stands in."""
-    outer: List[Line] = []
-    lines: List[Line] = []
-    for written in text.split("\n"):
-        found = _LINE.fullmatch(written)
-        if found is None:
-            continue
-        depth = len(found.group(1)) // 2
-        del outer[depth:]
-        line = Line(found.group(2), None if found.group(3) is None else int(found.group(3)), found.group(4), outer[-1] if outer else None)
-        if outer:
-            outer[-1].lines.append(line)
-        outer.append(line)
-        lines.append(line)
-    return lines
+def _own_name(name: str) -> str:
+    """The name of a key, of the caller's without a version."""
+    found = _OWN_NAME.fullmatch(name)
+    return found.group(1) if found else name
+
+
+def _written(item: PageItem) -> str:
+    """The value of an item, as `krb.show` writes it."""
+    value = item.value
+    if item.form == PageForm.TEXT:
+        text = value.decode("latin-1")
+        return '"%s"' % (_own_name(text) if item.name.endswith(("opened-by", "-key")) else text).translate(_ESCAPES)
+    if item.form in (PageForm.OCTETS, PageForm.SECRET, PageForm.CIPHER):
+        return "%d octets %s" % (len(value), value.hex()) if value else "0 octets"
+    return " ".join([value.decode("ascii"), *item.names])
 
 
 def _printable(text: str) -> str:
@@ -124,217 +119,168 @@ def _printable(text: str) -> str:
     return text.encode("unicode_escape").decode("ascii")
 
 
-def _elements(records: memoryview) -> Optional[Element]:
-    """The tree of items; None where there are none."""
-    whole: Optional[Element] = None
-    outer: List[Element] = []
-    for record in _RECORD.iter_unpack(records):
-        item = _item(_Record(*record))
-        if item.kind == Node.WRAP and item.form != Form.LEAF:
-            continue
-        if item.form == Form.END:
-            outer.pop()
-            continue
-        element = Element(item)
-        if outer:
-            outer[-1].elements.append(element)
-        elif whole is None:
-            whole = element
-        if item.form == Form.BEGIN:
-            outer.append(element)
-    return whole
+def _header_size(size: int) -> int:
+    """How many octets an element has before a content of so many (X.690, 8.1.3)."""
+    return 2 if size < 128 else 2 + (size.bit_length() + 7) // 8
 
 
-class _Places:
-    """Gives lines their places."""
+class _Tree:
+    """The lines of octets, what their places are in, and the salts that they tell."""
 
-    def __init__(self, keytab: bytes, sources: List[Source]) -> None:
-        self.keytab, self.sources = keytab, sources
+    def __init__(self, octets: bytes, kind: Optional[str], keytab: bytes, show_keys: bool) -> None:
+        self.kind, self.keytab = kind, keytab
+        self.sources = [Source("the octets given", octets)]
+        self.lines: List[Line] = []
         self.salts: List[bytes] = []
-        self.secrets: List[Place] = []
         self.told = {0}  # the sources of which a line has the whole
+        self._opened: Dict[Place, Tuple[str, int]] = {}  # of ciphertexts the type of what a key opens, and its source
+        self._tried: Set[Place] = set()  # elements whose ciphertexts are among these
+        around: Optional[Line] = None
+        for item in page_items(octets, kind, keytab, show_keys):
+            if item.form in _ENDS:
+                assert around is not None
+                self._salts_in(around)
+                around = around.around
+                continue
+            line = Line(item, around)
+            if kind == "tree":
+                _place_in_tree(line)
+            elif around is None:
+                self._place_whole(line)
+            else:
+                self._place(line, around)
+            if item.role == Role.SALT:
+                self.salts.append(item.value)
+            self.lines.append(line)
+            if around is not None:
+                around.lines.append(line)
+            if item.form in _BEGINS:
+                around = line
 
-    def _slice(self, place: Place) -> bytes:
-        return self.sources[place.source].octets[place.offset : place.offset + place.size]
+    def _place_of(self, line: Line) -> Optional[Place]:
+        """The place of its item."""
+        place, source = line.item.place, line.source
+        if place is None or source is None or place.stop > len(self.sources[source].octets):
+            return None
+        return Place(source, place.start, place.stop - place.start)
 
-    def element(self, line: Line, place: Place, as_type: str) -> bool:
-        """`place` is an element of the type."""
-        octets = self._slice(place)
+    def _place_whole(self, line: Line) -> None:
+        """The line of all octets. A choice has no place, and that of a keytab is without its version."""
+        line.place = None if line.name == "keytab" else self._place_of(line)
+        if line.place is None:
+            line.place = Place(0, 0, len(self.sources[0].octets))
+
+    def _place(self, line: Line, around: Line) -> None:
+        """A line, and what is known by it of the one that it stands in."""
+        item = line.item
+        if around.cipher is not None and item.form in _BEGINS:
+            line.source, around.cipher = self._source_of(around.cipher, line.name), None
+        line.place = self._place_of(line)
+        if item.form == PageForm.OCTETS:
+            self._place_element(line, around)
+        elif line.name == "cipher":
+            around.cipher = line
+        elif line.name == "thisMech" and around.place is not None and not around.lines:  # a token in its frame (RFC 2743, 3.1)
+            source, offset, size = around.place
+            around.place = Place(source, offset - _header_size(size), size + _header_size(size))
+        elif line.name == "buffers":  # a PAC in another order than its own
+            line.place = around.place
+        elif line.name == "Offset" and around.name != "buffers":
+            self._place_buffer(around, item)
+
+    def _place_element(self, line: Line, around: Line) -> None:
+        """An element of any type has its tag and length before its content. Where its content has no place, it is looked for behind the line before."""
+        value, source, outer = line.item.value, line.source, around.place
+        if source is None or outer is None or outer.source != source:
+            return
+        octets, offset = self.sources[source].octets, -1
+        if line.place is None and value:
+            before = around.lines[-1].place if around.lines else None
+            offset = octets.find(value, outer.offset if before is None else before.offset + before.size, outer.offset + outer.size)
+        elif line.place is not None and line.place.size < len(value):
+            offset = line.place.offset + line.place.size - len(value)
+        if offset >= 0 and octets[offset : offset + len(value)] == value:
+            line.place = Place(source, offset, len(value))
+
+    def _place_buffer(self, entry: Line, told: PageItem) -> None:
+        """A buffer of a PAC has the place that its entry names: the size before the Offset, and this, which is told."""
+        pac = entry.around.place if entry.around is not None else None
+        before = entry.lines[-1].item if entry.lines else told
+        if pac is not None and before.name == "cbBufferSize" and before.form == told.form == PageForm.NUMBER:
+            offset, size = int(told.value), int(before.value)
+            if offset + size <= pac.size:
+                entry.place = Place(pac.source, pac.offset + offset, size)
+
+    def _source_of(self, cipher: Line, type_name: str) -> Optional[int]:
+        """The source of what a key opens in a ciphertext; None where it is not known. What stands around it tells, the outermost first."""
+        outer: List[Line] = []
+        line = cipher.around
+        while line is not None and line.source == cipher.source:
+            outer.append(line)
+            line = line.around
+        if cipher.place is None:
+            return None
+        while cipher.place not in self._opened and outer:
+            self._open(outer.pop())
+        told, source = self._opened.get(cipher.place, ("", 0))
+        if told != type_name:
+            return None
+        self.told.add(source)
+        return source
+
+    def _element_of(self, line: Line) -> Optional[Tuple[Place, str]]:
+        """The element of a struct and its type: the one that is asked for, or the one that the tag around a SEQUENCE tells (RFC 4120, 5.10)."""
+        if line.around is None and self.kind is not None and self.kind.lower() not in FORMATS:
+            return Place(0, 0, len(self.sources[0].octets)), self.kind
+        if line.item.form != PageForm.STRUCT or line.item.place is None or line.source is None:
+            return None
+        offset, end = line.item.place.start, line.item.place.stop
+        for _ in range(2):
+            offset -= _header_size(end - offset)
+        told = type_of(self.sources[line.source].octets[offset : offset + 1]) if offset >= 0 else None
+        return None if told is None else (Place(line.source, offset, end - offset), told)
+
+    def _open(self, line: Line) -> None:
+        """Makes sources of what the keys open in the element of a struct."""
+        element = self._element_of(line)
+        if element is None or element[0] in self._tried:
+            return
+        (source, at, count), as_type = element
+        self._tried.add(element[0])
         try:
-            decoded = _decoded(octets, as_type, self.keytab)
+            decoded = _decoded(self.sources[source].octets[at : at + count], as_type, self.keytab)
         except Refused:
-            return False
-        first = min((part.first for part in decoded.parts if part.count), default=len(decoded.records) // _RECORD.size)
-        whole = _elements(decoded.records[: first * _RECORD.size])
-        if whole is None:
-            return False
-        parts = []
+            return
         for part in decoded.parts:
-            opened = _elements(decoded.records_of(part)) if part.count else None
-            if opened is not None:
+            offset, size = _RECORD.unpack_from(decoded.records, part.item * _RECORD.size)[:2]
+            cipher = Place(source, at + offset, size)
+            if part.count and cipher not in self._opened:
+                name = _all_names()[_RECORD.unpack_from(decoded.records, part.first * _RECORD.size)[4]]
                 opener = decoded.opener_of(part)
-                name = re.sub(r"@ kvno 1$", "", opener) if opener and opener.startswith(("key ", "the password")) else opener
-                title = "%s, opened by %s" % (opened.item.name, _printable(name or "")) if opener else "%s, in the clear" % opened.item.name
+                title = "%s, opened by %s" % (name, _printable(_own_name(opener))) if opener else "%s, in the clear" % name
+                self._opened[cipher] = name, len(self.sources)
                 self.sources.append(Source(title, decoded.octets_of(part)))
-                self._secrets_of(opened, len(self.sources) - 1, 0)
-            if part.outcome == Outcome.IN_CLEAR:
-                cipher = _RECORD.unpack_from(decoded.records, part.item * _RECORD.size)
-                self.secrets.append(Place(place.source, place.offset + cipher[0], cipher[1]))
-            parts.append((opened, len(self.sources) - 1))
-        self._secrets_of(whole, place.source, place.offset)
-        self._match(line, whole, place.source, place.offset, iter(parts))
-        self._salts_of(octets, whole)
-        for opened, source in parts:
-            if opened is not None:
-                self._salts_of(self.sources[source].octets, opened)
-        return True
 
-    def _secrets_of(self, whole: Element, source: int, at: int) -> None:
-        """The octets of keys and passwords among the items."""
-        waiting = [whole]
-        while waiting:
-            element = waiting.pop()
-            waiting.extend(element.elements)
-            if element.item.form == Form.LEAF and element.item.kind == Leaf.SECRET:
-                self.secrets.append(Place(source, at + element.item.offset, element.item.size))
-
-    def _salts_of(self, octets: bytes, whole: Element) -> None:
-        """The salts that octets name, and the default ones of the principals in them (RFC 4120, 4)."""
-        realms: Dict[Role, bytes] = {}
-        waiting = [whole]
-        while waiting:
-            element = waiting.pop()
-            waiting.extend(reversed(element.elements))
-            item = element.item
-            if item.form == Form.LEAF and item.role == Role.SALT:
-                self.salts.append(octets[item.place])
-            elif item.form == Form.LEAF and item.role in (Role.CLIENT_REALM, Role.SERVER_REALM):
-                realms[item.role] = octets[item.place]
-        waiting = [whole]
-        while waiting:
-            element = waiting.pop()
-            waiting.extend(reversed(element.elements))
-            if element.item.role in (Role.CLIENT_NAME, Role.SERVER_NAME) and element.item.kind == Node.STRUCT:
-                name = b"".join(octets[each.item.place] for listed in element.elements for each in listed.elements)
-                client = element.item.role == Role.CLIENT_NAME
+    def _salts_in(self, line: Line) -> None:
+        """The default salts of the realms and names that stand beside one another in a struct (RFC 4120, 4)."""
+        texts = {each.item.role: each.item.value for each in line.lines if each.item.form == PageForm.TEXT}
+        for each in line.lines:
+            realm = None
+            if each.item.form == PageForm.STRUCT and each.item.role == Role.CLIENT_NAME:
                 # The body of a request has one realm, that of both (RFC 4120, 5.4.1).
-                realm = realms.get(Role.CLIENT_REALM if client else Role.SERVER_REALM, realms.get(Role.SERVER_REALM if client else Role.CLIENT_REALM))
-                if realm is not None:
-                    self.salts.append(realm + name)
-
-    def _match(self, line: Line, element: Element, source: int, at: int, parts: Iterator[Tuple[Optional[Element], int]]) -> None:
-        item = element.item
-        line.place = Place(source, at + item.offset, item.size)
-        if item.form == Form.LEAF:
-            if line.lines:
-                self.content(line, line.place)
-            elif item.kind == Leaf.ANY:  # it is shown with its tag and length, which stand before its content
-                told = re.match(r"(\d{1,10}) octets", line.value or "")
-                header = int(told.group(1)) - item.size if told else 0
-                if 0 < header <= item.offset:
-                    line.place = Place(source, at + item.offset - header, item.size + header)
-            return
-        elements, next_element, opened = element.elements, 0, None  # type: List[Element], int, Optional[Tuple[Optional[Element], int]]
-        for each in line.lines:
-            if opened and opened[0] is not None and each.name == opened[0].item.name:
-                self._match(each, opened[0], opened[1], 0, iter(()))
-                self.told.add(opened[1])
-                opened = None
-            elif next_element < len(elements) and (item.kind != Node.STRUCT or elements[next_element].item.name == each.name):
-                self._match(each, elements[next_element], source, at, parts)
-                if elements[next_element].item.kind == Leaf.CIPHER and elements[next_element].item.form == Form.LEAF:
-                    opened = next(parts, None)
-                next_element += 1
-
-    def content(self, line: Line, place: Place) -> None:
-        """Lines within an OCTET STRING, or of the whole, that is no element of the type of DER that the line is named."""
-        names = [each.name for each in line.lines]
-        if names[:1] == ["thisMech"]:
-            self.frame(line, place)
-        elif names[:1] == ["buffers"]:  # a PAC in another order than its own
-            self.content(line.lines[0], place)
-            for each in line.lines:
-                if each.name in ("buffers", "octets"):
-                    each.place = place
-        elif line.lines and line.lines[0].within("cbBufferSize"):
-            for each in line.lines:
-                offset, size = each.number("Offset"), each.number("cbBufferSize")
-                if offset is not None and size is not None and offset + size <= place.size:
-                    each.place = Place(place.source, place.offset + offset, size)
-                    buffer = each.within("buffer")
-                    if buffer is not None:
-                        buffer.place = each.place
-        elif names[:1] == ["pvno"]:
-            told = type_of(self._slice(place)[:1])
-            if told:
-                self.element(line, place, told)
-        elif line.name == "kerb-message" and place.size >= 4:
-            told = type_of(self._slice(place)[4:5])
-            inner = Place(place.source, place.offset + 4, place.size - 4)
-            for each in line.lines:
-                if each.name == "length":
-                    each.place = Place(place.source, place.offset, 4)
-                elif each.name == told:
-                    self.element(each, inner, told)
-
-    def frame(self, line: Line, place: Place) -> None:
-        """A token in its frame (RFC 2743, 3.1)."""
-        octets = self._slice(place)
-        try:
-            mechanism, mechanism_size, inner, inner_size = spnego._token.told(octets)
-        except Refused:
-            return
-        line.place = place
-        place_of = lambda offset, size: Place(place.source, place.offset + offset, size)
-        for each in line.lines:
-            if each.name == "thisMech":
-                each.place = place_of(mechanism, mechanism_size)
-            elif each.name == "TOK_ID":
-                each.place = place_of(inner, 2)
-            elif each.name in ("negTokenInit", "negTokenResp"):
-                self.element(each, place_of(inner, inner_size), "NegotiationToken (%s)" % each.name)
-            elif each.name in KINDS and not line.within("IAKERB-HEADER"):
-                self.element(each, place_of(inner + 2, inner_size - 2), each.name)
-
-    def whole(self, line: Line, kind: Optional[str]) -> None:
-        """The line of all octets."""
-        octets = self.sources[0].octets
-        place = Place(0, 0, len(octets))
-        line.place = place
-        if line.name in ("NegTokenInit", "NegTokenResp"):
-            self.element(line, place, "NegotiationToken (n%s)" % line.name[1:])
-        elif line.name == "InitialContextToken":
-            self.frame(line, place)
-        elif line.name == "PAC":
-            self.content(line, place)
-        elif line.name == "password-frame":
-            try:
-                ap, ap_size, private, private_size = frames._password_frame.told(octets)
-            except Refused:
-                return
-            for each in line.lines:
-                told = type_of(octets[ap : ap + 1])
-                if each.name in ("AP-REQ-data", "AP-REP-data") and told:
-                    self.element(each, Place(0, ap, ap_size), told)
-                elif each.name == "KRB-PRIV-message":
-                    self.element(each, Place(0, private, private_size), "KRB-PRIV")
-        elif kind is not None or line.name in KINDS:
-            self.element(line, place, kind or line.name)
+                realm = texts.get(Role.CLIENT_REALM, texts.get(Role.SERVER_REALM))
+            elif each.item.form == PageForm.STRUCT and each.item.role == Role.SERVER_NAME:
+                realm = texts.get(Role.SERVER_REALM, texts.get(Role.CLIENT_REALM))
+            elif each.item.form == PageForm.LIST and each.name == "components":  # of a keytab, or a cache
+                realm = next((other.item.value for other in line.lines if other.name == "realm"), None)
+            if realm is not None:
+                values = [named.item.value for named in each.lines if named.item.form == PageForm.TEXT]
+                self.salts.append(realm + b"".join(values if each.item.form == PageForm.LIST else map(_components, values)))
 
 
-def _fill(lines: List[Line], text: str, sources: List[Source]) -> None:
-    """Lines without a place get the one that the library writes with them in `text`, the same lines with places. It counts octets of what the nearest line
-    around that has a place stands in."""
-    for line, written in zip(lines, (each for each in text.split("\n") if _LINE.fullmatch(each))):
-        found = _WRITTEN_PLACE.search(written)
-        if line.place is not None or found is None:
-            continue
-        around = line.around
-        while around is not None and around.place is None:
-            around = around.around
-        source, offset, size = 0 if around is None or around.place is None else around.place.source, int(found.group(1)), int(found.group(2))
-        if offset + size <= len(sources[source].octets):
-            line.place = Place(source, offset, size)
+def _components(name: bytes) -> bytes:
+    """The components of a name, one behind another: in its text a `/` stands between them, and a `\\` before a `/` or `\\` in one."""
+    return re.sub(rb"/|\\(.)", rb"\1", name, flags=re.DOTALL)
 
 
 def _place_in_tree(line: Line) -> None:
@@ -342,8 +288,8 @@ def _place_in_tree(line: Line) -> None:
     found = _TREE_PLACE.search(line.name)
     if found:
         size = int(found.group(2))
-        header = 2 if size < 128 else 2 + (size.bit_length() + 7) // 8
-        line.place = Place(0, int(found.group(1)), size if line.name.startswith(("TruncatedData", "InvalidData", "UnsupportedData")) else size + header)
+        whole = size if line.name.startswith(("TruncatedData", "InvalidData", "UnsupportedData")) else size + _header_size(size)
+        line.place = Place(0, int(found.group(1)), whole)
 
 
 def _known(kind: Optional[str]) -> Optional[str]:
@@ -377,13 +323,9 @@ def _error_of(octets: bytes, kind: Optional[str], refused: Refused) -> Tuple[str
 
 def _tree_of(octets: bytes) -> Tuple[str, List[Line]]:
     try:
-        text = show(octets, "tree")
+        return show(octets, "tree"), _Tree(octets, "tree", b"", False).lines
     except Refused:
         return "", []
-    lines = _lines_of(text)
-    for line in lines:
-        _place_in_tree(line)
-    return text, lines
 
 
 def _may_hold_keys(octets: bytes, kind: Optional[str]) -> bool:
@@ -403,6 +345,7 @@ def page_of(octets: bytes, kind: Optional[str], keytab: bytes, show_keys: bool) 
     try:
         text = _OWN_KEY.sub(r'\1"', show(octets, known, keytab, False, show_keys))
         as_json = _OWN_KEY.sub(r'\1"', show(octets, known, keytab, True, show_keys))
+        tree = _Tree(octets, known, keytab, show_keys)
     except Refused as refused:
         if refused.status == Status.MEMORY:
             raise
@@ -414,44 +357,18 @@ def page_of(octets: bytes, kind: Optional[str], keytab: bytes, show_keys: bool) 
         if hides:
             notes.append("What the octets hold is not known, and may be keys: they are hidden until keys and passwords are asked for.")
         return Page(lines, sources, text, "", _error_of(octets, kind, refused), notes, hides, []), []
-    lines = _lines_of(text)
-    places = _Places(keytab, sources)
-    if lines:
-        if known == "tree":
-            for line in lines:
-                _place_in_tree(line)
-        else:
-            places.whole(lines[0], None if known in ("token", "PAC", "NEGOEX", "password-frame", "keytab", "ccache") else known)
-            _fill(lines, show(octets, known, keytab, False, show_keys, places=True), sources)
-    secrets = places.secrets + [Place(number, 0, len(source.octets)) for number, source in enumerate(sources) if number not in places.told]
-    salts = places.salts + _cached_salts(as_json)
-    return Page(lines, sources, text, as_json, None, notes, False, secrets), list(dict.fromkeys(salts))
-
-
-def _cached_salts(as_json: str) -> List[bytes]:
-    """The default salts of the principals that a keytab or a cache names with realm and components."""
-    salts: List[bytes] = []
-    if '"components":' in as_json:
-        waiting = [json.loads(as_json)]
-        while waiting:
-            value = waiting.pop()
-            if isinstance(value, dict):
-                if isinstance(value.get("realm"), str) and isinstance(value.get("components"), list):
-                    salts.append("".join([value["realm"], *map(str, value["components"])]).encode("utf-8", "surrogatepass"))
-                waiting.extend(value.values())
-            elif isinstance(value, list):
-                waiting.extend(value)
-    return salts
+    untold = [number for number in range(len(tree.sources)) if number not in tree.told]
+    return Page(tree.lines, tree.sources, text, as_json, None, notes, False, untold), list(dict.fromkeys(tree.salts))
 
 
 def masks_of(page: Page, hidden: bool) -> List[List[Tuple[int, int]]]:
-    """Of each source the places whose octets are not shown: those of each line `hidden`, or of what it stands in where it has none of its own; those
-    of each key and password among the items; and all of a part that no line has."""
+    """Of each source the places whose octets are not shown: those of each line `hidden`, or of what it stands in where it has none of its own; and all of a
+    part that no line has."""
     masks: List[List[Tuple[int, int]]] = [[] for _ in page.sources]
     if page.hides_octets:
         masks[0].append((0, len(page.sources[0].octets)))
-    for place in page.secrets if hidden else ():
-        masks[place.source].append((place.offset, place.size))
+    for number in page.untold if hidden else ():
+        masks[number].append((0, len(page.sources[number].octets)))
     for line in page.lines if hidden else ():
         if line.value == "hidden":
             around: Optional[Line] = line
@@ -515,8 +432,9 @@ def keys_of(keytabs: Iterable[bytes], keys: str) -> bytes:
 
 def etypes_of(page: Page) -> List[int]:
     """The encryption types of ciphertexts in the page."""
-    found = {line.number("etype") for line in page.lines if line.within("cipher")}
-    return sorted(etype for etype in found if etype in _ETYPES)
+    around = [line.around.lines for line in page.lines if line.name == "cipher" and line.around is not None]
+    told = [each.item for lines in around for each in lines if each.item.registry == Registry.ENCRYPTION_TYPE]
+    return sorted({item.number for item in told if item.number is not None and item.number in _ETYPES})
 
 
 def with_password(keytab: bytes, password: str, salts: Iterable[bytes], etypes: Iterable[int]) -> Tuple[bytes, int]:
@@ -540,11 +458,7 @@ def as_answer(page: Page, show_keys: bool, form: str) -> Dict[str, Any]:
         for offset, size in masks:
             octets[offset : offset + size] = bytes(size)
         sources.append({"title": source.title, "octets": base64.b64encode(octets).decode("ascii"), "size": len(octets), "masks": masks})
-    depths: Dict[int, int] = {}
-    lines = []
-    for line in page.lines[:MOST_LINES]:
-        depth = depths[id(line)] = 0 if line.around is None else depths[id(line.around)] + 1
-        lines.append([depth, line.name, line.count, line.value, line.place])
+    lines = [[line.depth, line.name, line.count, line.value, line.place] for line in page.lines[:MOST_LINES]]
     notes = list(page.notes)
     if len(page.lines) > MOST_LINES:
         notes.append("The tree has %d lines, of which the first %d are here; the text and the JSON have all." % (len(page.lines), MOST_LINES))
