@@ -68,8 +68,8 @@ class Source(NamedTuple):
 
 
 class Line:
-    """An item that is no end, and the lines that stand in it. `source` is the one that it has a place in, where it is known, and `cipher` a ciphertext in it behind
-    which what a key opened has not come yet."""
+    """An item that is no end, and the lines that stand in it. `source` is the one that it has a place in, where it is known, and `cipher` a ciphertext in it
+    behind which what a key opened has not come yet."""
 
     __slots__ = ("item", "name", "count", "value", "place", "lines", "around", "depth", "source", "cipher")
 
