@@ -3,6 +3,7 @@
 import calendar
 import time
 
+from library import is_told
 from rows import flipped, octets
 
 # Settings of a row, and the options of the call that they are (krb.h).
@@ -17,6 +18,8 @@ OPTIONS = {
 }
 # Octets that are random enough for a test: of a confounder, and behind the first 16 of a subkey.
 RANDOM = bytes(range(48))
+# The type of an address of IPv4 (RFC 4120, 7.5.3).
+ADDRESS_TYPE = 2
 # Key usages (RFC 4120, 7.5.1).
 OF_TICKET, OF_AUTHENTICATOR = 2, 11
 
@@ -24,16 +27,17 @@ OF_TICKET, OF_AUTHENTICATOR = 2, 11
 def accepted(library, columns):
     """A row of `accepted`: a name, a keytab, the service's time, the hash of its channel bindings,
     settings, a token; then, where they are there, the server and the client's realm, or several of
-    them with `|` between."""
+    them with `|` between, and words of `asked`."""
     name, keytab, clock, bindings, settings, token, *more = columns
-    servers, realms = (more + ["", ""])[:2]
+    servers, realms, words = (more + ["", "", ""])[:3]
     settings, keytab, bindings = int(settings), octets(keytab), octets(bindings)
     options = sum(library.numbers["KRB_ACCEPT_" + it] for n, it in OPTIONS.items() if settings & n)
     options += library.numbers["KRB_ACCEPT_WHOLE_EVER"]
     options += library.numbers["KRB_ACCEPT_BOUND"] if bindings else 0
-    terms = library.struct("acceptor", int(clock), 0, 300, options, 0, 1)
+    options, since, address = asked(library, options, words)
+    terms = library.struct("acceptor", int(clock), since, 300, options, ADDRESS_TYPE, 1)
     names = (it.replace("|", "\0").encode() for it in (servers, realms))
-    before, token = (terms, keytab, b"", *names, bindings, b"", RANDOM), octets(token)
+    before, token = (terms, keytab, b"", *names, bindings, address, RANDOM), octets(token)
     told = library.accept(*before, token)
     if told.is_given:
         lines = [f"{name}: {let_in(library, settings, before, token, told)}"]
@@ -45,8 +49,28 @@ def accepted(library, columns):
     return lines
 
 
+def asked(library, options, words):
+    """The options, since when the replay cache is whole, and the client's address, by words:
+    `+NAME` adds an option, or a number, `-NAME` takes one away; `since SECONDS`; `address OCTETS`."""
+    since, address, words = 0, b"", words.split(" ") if words else []
+    while words:
+        word = words.pop(0)
+        if word == "since":
+            since = int(words.pop(0))
+        elif word == "address":
+            address = octets(words.pop(0))
+        else:
+            name = word[1:]
+            number = int(name) if name.isdigit() else library.numbers["KRB_ACCEPT_" + name]
+            options += number if word[0] == "+" else -number
+    return options, since, address
+
+
 def refused(library, told):
-    """The rule that refuses a token."""
+    """The rule that refuses a token; or why nothing was decided."""
+    if told.status != library.numbers["KRB_NOT_ACCEPTED"]:
+        is_silent = not any(map(is_told, told.told.values()))
+        return f"not decided, {told.name}, {'nothing' if is_silent else 'something'} is told"
     it = told.accepted
     rule = library.rules("KRB_RULE_")[it.rule]
     by_c = f"C {told.status}, rule {it.rule}, code {it.code}, {told.size} octets"
