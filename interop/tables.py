@@ -14,14 +14,9 @@ def asked(name):
     return rows_of(os.path.join(TOP, "tests", name + ".rows"), "tests/%s.rows" % name)
 
 
-def columns_of(name):
+def asked_of(name):
     """The columns of the rows of tests/NAME.rows."""
     return [row.columns for row in asked(name)]
-
-
-def pages():
-    """The columns of the rows of tests/pages.rows, an origin, a type and octets, but for files."""
-    return [columns for columns in columns_of("pages") if columns[1] not in ("keytab", "ccache")]
 
 
 def lines_of(test, name):

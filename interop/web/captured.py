@@ -149,7 +149,7 @@ def try_list(browser, site, top):
         told = browser.run(PASTE + TOLD, text)
         begin_so(told, fronts, form)
         expect(told["status"].endswith("given as " + form), "%s: %r" % (form, told["status"]))
-    # Messages that are chosen, each as the rows of `pages` have it. What "Read as" says is of what is given, and of no message of a capture.
+    # Messages that are chosen, each as the decoders of tests/pages.rows have it. What "Read as" says is of what is given, and of no message of a capture.
     browser.run("document.getElementById('kind').value = 'Ticket'")
     begin_so(drop(browser, whole), fronts, "a capture, to be read as a ticket")
     told = chosen(browser, 0)
@@ -165,7 +165,7 @@ def try_list(browser, site, top):
     told = chosen(browser, 2)
     expect(told["list"] is not None and not told["result"] and told["status"].startswith("Packet 3: not read: "), "what is not read: %r" % told["status"])
     # The same with keys: what is opened, and what stays hidden.
-    given = keys.split(" ") + private_keys.split(" ")
+    given = keys.split("|") + private_keys.split("|")
     give = lambda each_key: browser.run("document.getElementById('keys').value = arguments[0]", " ".join(":".join(each.split(":")[:2]) for each in each_key))
     give(given)
     told = drop(browser, whole)
@@ -179,9 +179,9 @@ def try_list(browser, site, top):
     told = chosen(browser, 4)
     expect(told["list"] is not None and not told["result"] and "the line alone" in told["status"], "the new password's request: %r" % told["status"])
     expect(hides(password) and bytes.fromhex(password).decode() not in told["text"], "the new password is shown")
-    give(keys.split(" "))
+    give(keys.split("|"))
     told = chosen(browser, 3)
-    names = names_of(keys.split(" "))
+    names = names_of(keys.split("|"))
 
     def renamed(line):
         found = re.fullmatch(r'( *opened-by: )"(.*)"', line)

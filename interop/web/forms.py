@@ -32,10 +32,10 @@ def key_of(password, salt):
 def try_salts(top):
     """The salts of a password that octets tell: those under which a program in Python made keys of it for the rows of `keys` (crates/test_show)."""
     from krb._pages import page_of
-    from tables import passwords
+    from tables import expected_of, table_of
 
-    rows, lines = passwords(top)
-    lines = [line for line in lines if re.fullmatch(r"20 [0-9a-f]+ password, salt .+", line)]
+    rows = [row for row in table_of(top, "keys") if row[0] == "password"]
+    lines = [line for line in expected_of(top) if re.fullmatch(r"20 [0-9a-f]+ password, salt .+", line)]
     counts = [3, 2, 2, 3, 2, 1, 0, 16]  # how many salts each row has, some twice; the last has more, of which 16 count
     expect(len(rows) == len(counts) and len(lines) == sum(counts), "%d rows of passwords, %d lines" % (len(rows), len(lines)))
     for (_, password, digits), count in zip(rows, counts):

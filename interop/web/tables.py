@@ -1,55 +1,59 @@
-"""The rows of tests/*.rows, octets with what decoders in Python made of them that share no code with the library, and texts to mislead."""
+"""The rows of tests/ and crates/test_show, octets with what decoders in Python made of them that share no code with the library, and texts to mislead."""
 
 import os
 import struct
 import sys
 
 
-def rows_of(top, name):
+def asked(top, name):
     """The rows of tests/NAME.rows, with the lines that are expected of each."""
     sys.path.insert(0, os.path.join(top, "tests"))
-    import rows
+    from rows import rows_of
 
-    return rows.rows_of(os.path.join(top, "tests", name + ".rows"), "tests/%s.rows" % name)
+    return rows_of(os.path.join(top, "tests", name + ".rows"), "tests/%s.rows" % name)
+
+
+def table_of(top, name):
+    """The columns of each row of a table of crates/test_show."""
+    rows, inside = [], False
+    with open(os.path.join(top, "crates", "test_show", "stdin"), encoding="utf-8") as file:
+        for line in file:
+            if line.startswith("== "):
+                inside = line == "== %s\n" % name
+            elif inside and not line.startswith("#"):
+                rows.append(line.rstrip("\n").split("\t"))
+    return rows
+
+
+def expected_of(top):
+    """The lines of stdout."""
+    with open(os.path.join(top, "crates", "test_show", "stdout"), encoding="utf-8") as file:
+        return file.read().split("\n")
 
 
 def pages(top):
-    """Origin, type, octets and expected lines of the rows of `pages`: the last line is JSON, or of octets that are refused there are the status and why."""
-    for row in rows_of(top, "pages"):
-        origin, name, octets = row.columns
-        yield origin, name, bytes.fromhex(octets), row.expected
+    """Title, type, octets and expected lines of the rows of `pages`: the last line is JSON, or the first a status, of octets that are refused."""
+    for row in asked(top, "pages"):
+        yield row.columns[0], row.columns[1], bytes.fromhex(row.columns[2]), row.expected
 
 
 def opened(top):
     """Title, keys, kind, octets and expected lines of the rows of `opened`."""
-    for row in rows_of(top, "opened"):
-        title, keys, kind, octets = row.columns[:4]
-        yield title, keys, kind, bytes.fromhex(octets), row.expected
+    for row in asked(top, "opened"):
+        yield row.columns[0], row.columns[1], row.columns[2], bytes.fromhex(row.columns[3]), row.expected
 
 
 def checksums(top):
     """Title, keys, octets and expected lines of the rows of `checksums` that are shown."""
-    for row in rows_of(top, "checksums"):
+    for row in asked(top, "checksums"):
         if row.columns[2] == "show":
             yield row.columns[0], row.columns[1].split("|"), bytes.fromhex(row.columns[3]), row.expected
 
 
 def buffers(top):
     """Title, number of the type, octets and expected lines of the rows of `buffers`; the last line is JSON."""
-    for row in rows_of(top, "buffers"):
+    for row in asked(top, "buffers"):
         yield row.columns[0], int(row.columns[1]), bytes.fromhex(row.columns[2]), row.expected
-
-
-def passwords(top):
-    """The rows of passwords and their keys, of crates/test_show, table `keys`: the columns of each, and all lines of keys."""
-    folder, inside, found = os.path.join(top, "crates", "test_show"), False, []
-    with open(os.path.join(folder, "stdin"), encoding="utf-8") as file:
-        for line in file:
-            inside = line == "== keys\n" if line.startswith("== ") else inside
-            if inside and line.startswith("password\t"):
-                found.append(line.rstrip("\n").split("\t"))
-    with open(os.path.join(folder, "stdout"), encoding="utf-8") as file:
-        return found, file.read().split("\n")
 
 
 def keytab_of(keys):
