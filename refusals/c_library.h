@@ -45,5 +45,6 @@ int memcmp(const void *one, const void *other, size_t count);
 void *memcpy(void *to, const void *from, size_t count);
 void *memset(void *to, int octet, size_t count);
 size_t strlen(const char *text);
+int strcmp(const char *one, const char *other);
 char *strtok(char *text, const char *between);
 #endif

@@ -14,9 +14,9 @@ static char line[4 * ROOM];
 /* The line that begins the table which is read. */
 static char table[64];
 
-/* Calls of a row that open what is given with each bit flipped, each proper prefix, or in a thousand
- * ways: other rows make the calls in them once. */
-static const char *const sweeps[] = {"flips", "fronts", "alike", "large_part"};
+/* Calls that are left out: those that open what is given with each bit flipped, each proper prefix,
+ * or in a thousand ways, since other rows make the calls in them once; and the texts of errors. */
+static const char *const left_out[] = {"flips", "fronts", "alike", "large_part", "text"};
 
 /* Whether an error's name is in the origin's place: one word that begins with a capital. */
 static int is_refusal(const char *origin) {
@@ -45,8 +45,8 @@ static void try_line(void) {
     struct octets input;
     int count = snprintf((char *)input.at, ROOM, "%s%s", table, line);
     char *call = strtok(line, "\t\n");
-    for (size_t i = 0; i < sizeof sweeps / sizeof *sweeps; i++) {
-        if (!strcmp(call, sweeps[i])) {
+    for (size_t i = 0; i < sizeof left_out / sizeof *left_out; i++) {
+        if (!strcmp(call, left_out[i])) {
             return;
         }
     }

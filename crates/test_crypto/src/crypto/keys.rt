@@ -2,7 +2,7 @@
 
 use crate::crypto::aes_sha2::try_aes_sha2;
 use crate::crypto::row::{Answer, Row, answer_of, size_of};
-use picky_krb::crypto::{aes, des};
+use picky_krb::crypto::{KerberosCryptoError, aes, des};
 use std::alloc::Global;
 
 /// Calls of keys of triple DES (RFC 3961, 6.3).
@@ -44,7 +44,7 @@ fn try_aes_key(alloc: Global, row: &Row) -> Answer {
         ),
         "random_to_key" => match Vec::from_slice(alloc, &row.input) {
             Ok(seed) => answer_of(alloc, Ok(aes::random_to_key(seed))),
-            Err(_) => None,
+            Err(_) => Some(Err(KerberosCryptoError::OutOfMemory)),
         },
         _ => None,
     }

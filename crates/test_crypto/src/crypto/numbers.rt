@@ -5,8 +5,8 @@ use picky_krb::constants::{cksum_types, etypes};
 use picky_krb::crypto::aes::{AES_MAC_SIZE, AES128_KEY_SIZE, AES256_KEY_SIZE, AesSize};
 use picky_krb::crypto::des::{DES3_BLOCK_SIZE, DES3_KEY_SIZE, DES3_MAC_SIZE, DES3_SEED_LEN};
 use picky_krb::crypto::{
-    ChecksumSuite, Cipher, CipherSuite, KERBEROS, KerberosCryptoResult, usage_kc, usage_ke,
-    usage_ki,
+    ChecksumSuite, Cipher, CipherSuite, KERBEROS, KerberosCryptoError, KerberosCryptoResult,
+    usage_kc, usage_ke, usage_ki,
 };
 use std::alloc::Global;
 
@@ -97,7 +97,7 @@ fn constants(alloc: Global) -> KerberosCryptoResult<String> {
 fn usage(alloc: Global, octets: [u8; 5]) -> Answer {
     match Vec::from_slice(alloc, &octets) {
         Ok(octets) => answer_of(alloc, Ok(octets)),
-        Err(_) => None,
+        Err(_) => Some(Err(KerberosCryptoError::OutOfMemory)),
     }
 }
 

@@ -2,9 +2,11 @@
 
 use crate::crypto::row::{Answer, Row, answer_of};
 use examples::ListedWords;
-use picky_krb::crypto::diffie_hellman::{DhNonce, generate_key_from_shared_secret};
-use picky_krb::crypto::{Cipher, KerberosCryptoResult, encrypt_with_rng};
-use picky_krb::der::{Asn1RawDer, OctetStringAsn1, from_bytes};
+use picky_krb::crypto::diffie_hellman::{
+    DhNonce, DiffieHellmanError, generate_key_from_shared_secret,
+};
+use picky_krb::crypto::{Cipher, KerberosCryptoError, KerberosCryptoResult, encrypt_with_rng};
+use picky_krb::der::{Asn1DerError, Asn1RawDer, OctetStringAsn1, from_bytes};
 use picky_krb::seal::{PartError, open_part, seal_part};
 use rand_core::Rng;
 use std::alloc::Global;
@@ -13,6 +15,7 @@ use std::alloc::Global;
 fn rejected(alloc: Global, rejection: PartError) -> KerberosCryptoResult<String> {
     match rejection {
         PartError::Crypto(rejection) => Err(rejection),
+        PartError::Der(Asn1DerError::OutOfMemory) => Err(KerberosCryptoError::OutOfMemory),
         rejection => Ok(format!(in alloc; "refused, {rejection:?}")?),
     }
 }
@@ -30,7 +33,11 @@ fn try_sealing(alloc: Global, cipher: &dyn Cipher, row: &Row) -> Answer {
     if row.beside.len() != cipher.confounder_size() {
         return None;
     }
-    let part: Asn1RawDer = from_bytes(alloc, &row.input).ok()?;
+    let part: Asn1RawDer = match from_bytes(alloc, &row.input) {
+        Ok(part) => part,
+        Err(Asn1DerError::OutOfMemory) => return Some(Err(KerberosCryptoError::OutOfMemory)),
+        Err(_) => return None,
+    };
     match seal_part(alloc, cipher, &row.key, row.number, &row.beside, &part) {
         Ok(sealed) => answer_of(alloc, Ok(sealed)),
         Err(rejection) => Some(rejected(alloc, rejection)),
@@ -73,6 +80,7 @@ fn agreed(alloc: Global, cipher: &dyn Cipher, row: &Row) -> KerberosCryptoResult
     };
     match generate_key_from_shared_secret(alloc, secret, nonce, cipher) {
         Ok(key) => Ok(hex::encode(alloc, key.as_slice())?),
+        Err(DiffieHellmanError::OutOfMemory) => Err(KerberosCryptoError::OutOfMemory),
         Err(rejection) => Ok(format!(in alloc; "refused, {rejection:?}")?),
     }
 }
@@ -92,6 +100,7 @@ pub fn generated(alloc: Global, cipher: &dyn Cipher, row: &Row) -> KerberosCrypt
             let digits = hex::encode(alloc, octets.as_slice())?;
             Ok(format!(in alloc; "{digits} next {next}")?)
         }
+        Err(KerberosCryptoError::OutOfMemory) => Err(KerberosCryptoError::OutOfMemory),
         Err(rejection) => Ok(format!(in alloc; "refused, {rejection:?} next {next}")?),
     }
 }

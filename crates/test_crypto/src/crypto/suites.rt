@@ -11,7 +11,7 @@ use picky_krb::crypto::aes::{
 use picky_krb::crypto::des::{Des3CbcSha1Kd, HmacSha1Des3Kd};
 use picky_krb::crypto::{
     Checksum, ChecksumSuite, Cipher, CipherSuite, DecryptWithoutChecksum, EncryptWithoutChecksum,
-    KerberosCryptoResult,
+    KerberosCryptoError, KerberosCryptoResult,
 };
 use std::alloc::Global;
 
@@ -86,7 +86,7 @@ fn seeded(
     }
     match Vec::from_slice(alloc, seed) {
         Ok(seed) => Some(cipher.random_to_key(alloc, seed)),
-        Err(_) => None,
+        Err(_) => Some(Err(KerberosCryptoError::OutOfMemory)),
     }
 }
 
