@@ -93,12 +93,20 @@ def let_in(library, settings, before, token, told):
     line += "; again Repeat 34; entries 1" if is_repeated else "; again another entry"
     is_alike = is_of_token(library, before[1], token, told)
     is_alike = is_alike and has_own_subkey(library, before, token, told)
+    is_alike = is_alike and is_in_its_frame(token, told)
     alike = "alike" if is_alike else "differs"
     reply = "a reply" if it.reply.size else "no reply"
     without = library.accept(*before, token, room=0)
     is_counted = without.size == told.size and not any(bytes(without.accepted))
     counted = str(is_counted).lower()
     return f"{line}; C {told.status}, {alike}, {reply}, without room {without.status} {counted}"
+
+
+def is_in_its_frame(token, told):
+    """Whether an AP-REP is in a frame (RFC 4121, 4.1) where the token was, but not in DCE style
+    (MS-KILE, 3.4.5.1)."""
+    wanted = 0x60 if token[0] == 0x60 and not told.accepted.flags & 0x1000 else 0x6F
+    return told.at(told.accepted.reply)[:1] in (b"", bytes([wanted]))
 
 
 def digits(text):

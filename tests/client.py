@@ -21,8 +21,8 @@ AES256 = 18
 
 def replies(library, columns):
     """A row of `replies`: a name, a key usage, an encryption type, a key, a reply; of a KDC's reply
-    then what was asked for, and `not begun` where no request was made before it; of an AP-REP the
-    time that was sent."""
+    then what was asked for, and `not begun` where no request was made before it, `no key` where the
+    exchange kept none; of an AP-REP the time that was sent."""
     name, usage, etype, key, reply, *rest = columns
     usage, etype, key, reply = int(usage), int(etype), octets(key), octets(reply)
     if usage == NONE:
@@ -55,7 +55,7 @@ def question(library, usage, etype, key, reply, rest):
     terms = library.struct("client_terms", *times, *numbers)
     asked = terms, [], numbers_of(flags), numbers_of(etypes), client.encode(), server.encode()
     is_initial = usage == AS_REP
-    has_key, is_begun = is_initial and begun != ["not begun"], begun != ["not begun"]
+    has_key, is_begun = is_initial and not begun, begun != ["not begun"]
     kept = etype if has_key else 0, is_begun, (ctypes.c_uint8 * 32)(*(key if has_key else b""))
     exchange = library.struct("exchange", 0, 0, int(nonce), *kept)
     proof = (b"no password is looked at", b"") if is_initial else (ANY_TICKET, etype, key, key)
