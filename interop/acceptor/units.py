@@ -258,6 +258,7 @@ def try_refusals(keytab):
         expect(isinstance(refused, krb.Refused) and refused.status.name == status, "an Acceptor of the keytab %r: %r" % (octets, refused))
     expect(raised(lambda: krb.Acceptor("/nowhere/keytab")) is FileNotFoundError, "an Acceptor of a file that is not there")
     expect(raised(lambda: krb.Acceptor(keytab).accept(b"", address="nowhere")) is ValueError, "an address that is none")
+    expect(raised(lambda: krb.Acceptor(keytab, addresses_required=True).accept(b"")) is ValueError, "no address, where one is asked for")
 
 
 def raised(call, whole=False):
