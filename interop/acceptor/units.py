@@ -261,6 +261,58 @@ def try_refusals(keytab):
     expect(raised(lambda: krb.Acceptor(keytab, addresses_required=True).accept(b"")) is ValueError, "no address, where one is asked for")
 
 
+def rows_of_table():
+    """The rows of tests/accepted.rows by their names: a keytab, a time and a token."""
+    path = os.path.join(os.path.dirname(os.path.abspath(__file__)), "..", "..", "tests", "accepted.rows")
+    with open(path, encoding="utf-8") as file:
+        rows = [line.rstrip("\n").split("\t") for line in file if line[0] not in "#>"]
+    return {row[0]: (bytes.fromhex(row[1]), int(row[2]), bytes.fromhex(row[5])) for row in rows}
+
+
+def try_terms():
+    """What a service asks, of tokens of tests/accepted.rows: by which rule one is refused, or who is let in."""
+    found = rows_of_table()
+
+    def told(name, later=0, accept={}, **words):
+        keytab, clock, token = found[name]
+        words.setdefault("replay_cache", krb.ReplayCache(None))
+        try:
+            return krb.Acceptor(keytab, clock=lambda: clock + later, **words).accept(token, **accept)
+        except krb.NotAccepted as refused:
+            return refused.rule.name
+
+    for title, name, words, wanted in (
+        ("its server", "a-n-server", {"server": "e18/web.peer.test"}, "alice@PEER.TEST"),
+        ("one of its servers", "a-n-server", {"server": ["HTTP", "e18"]}, "alice@PEER.TEST"),
+        ("another server, of the same keytab", "a-n-server", {"server": "HTTP"}, "NOT_US"),
+        ("its realm", "a-n-client-realm", {"client_realm": ["PEER.TEST", "HEIM.TEST"]}, "alice@HEIM.TEST"),
+        ("another realm", "a-n-client-realm", {"client_realm": "PEER.TEST"}, "CLIENT_REALM"),
+        ("no name", "a-n-anonymous", {}, "ANONYMOUS"),
+        ("no name, which is let in", "a-n-anonymous", {"anonymous": True}, "alice@PEER.TEST"),
+        ("a ticket of triple DES", "a-n-ticket-of-triple-des", {}, "TICKET_SUITE"),
+        ("a ticket of triple DES, permitted", "a-n-ticket-of-triple-des", {"triple_des": True}, "alice@PEER.TEST"),
+        ("other bindings", "a-n-server", {"accept": {"channel_bindings": b"tls-server-end-point:other"}}, "BINDINGS"),
+        ("an address that no ticket names", "a-n-server", {"addresses_required": True, "accept": {"address": "10.0.0.1"}}, "OTHER_ADDRESS"),
+        ("a cache that is whole since now", "a-n-server", {"replay_cache": None}, "UNREMEMBERED"),
+        ("a PAC that stands bare", "a-n-pac-bare", {}, "PAC_PLACE"),
+        ("a PAC that stands bare, where one is required", "a-n-pac-bare-beside-it", {"pac": "required"}, "PAC_PLACE"),
+        ("no PAC, where one is required", "a-m2030", {"pac": "required"}, "PAC_MISSING"),
+        ("a PAC with another checksum", "a-n-pac-with-a-changed-checksum", {}, "PAC_CHECKSUM"),
+        ("a PAC of another client", "a-n-pac-of-another-client", {}, "PAC_CLIENT"),
+    ):
+        got = told(name, **words)
+        expect(getattr(got, "client", got) == wanted, "%s: %s, and not %s" % (title, got, wanted))
+    verified, ignored = told("a-n-pac"), told("a-n-pac", pac="ignored")
+    expect(verified.pac is not None and len(verified.pac) == 144 and verified.authorization_data is None, "the PAC: %r" % verified.pac)
+    expect(ignored.pac is None and ignored.authorization_data is None, "a PAC that is ignored: %r" % ignored.pac)
+    flags = told("a-n-all-flags")
+    expect(int(flags.flags) == 0x103E and not flags.is_complete and flags.reply[:1] == b"\x6f", "the flags that a client may set: %r" % flags.flags)
+    expect(raised(lambda: flags.confirm(flags.reply), True).status.name == "DIRECTION", "the service's own AP-REP as the third leg")
+    cache = krb.ReplayCache(None)
+    again = [told("a-n-server", replay_cache=cache) for _ in range(2)]
+    expect(again[0].client == "alice@PEER.TEST" and again[1] == "REPEAT", "a token twice: %s" % again[1])
+
+
 def raised(call, whole=False):
     try:
         call()
@@ -282,5 +334,6 @@ def try_units(realm):
     try_begun_together(realm.path("together"))
     try_window()
     try_names()
+    try_terms()
     with open(realm.keytab, "rb") as file:
         try_refusals(file.read())
