@@ -1,7 +1,7 @@
 """Types what docs/FIRST_TEN_MINUTES.md has, and compares what is printed.
 
 The lines of a part are typed into one bash, in a folder of its own, with what the person has beside a realm of MIT Kerberos on this machine
-(acceptor/realm.py, at the ports 88 and 464 of a network namespace of its own). What stands behind `cat` of a file that is not there is written to it.
+(captures/recorded.py, at the ports 88 and 464 of a network namespace of its own). What stands behind `cat` of a file that is not there is written to it.
 A line that ends in `..` is the beginning of what is printed; alone, it is anything."""
 
 import os
@@ -123,7 +123,7 @@ def stood_in(title, commands, library):
 
 def inside(library):
     """The parts that need no `jolmurig`, in a network namespace; a line for each check."""
-    sys.path[:0] = [os.path.join(HERE, "captures"), os.path.join(HERE, "acceptor")]
+    sys.path.insert(0, os.path.join(HERE, "captures"))
     from realm import PASSWORD
     from recorded import RecordedRealm
 

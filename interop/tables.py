@@ -4,13 +4,13 @@ import os
 import sys
 
 TOP = os.path.dirname(os.path.dirname(os.path.abspath(__file__)))
+sys.path.append(os.path.join(TOP, "tests"))
+
+from rows import rows_of  # noqa: E402
 
 
 def asked(name):
     """The rows of tests/NAME.rows, each with its columns and the lines that are expected of it."""
-    sys.path.insert(0, os.path.join(TOP, "tests"))
-    from rows import rows_of
-
     return rows_of(os.path.join(TOP, "tests", name + ".rows"), "tests/%s.rows" % name)
 
 

@@ -267,10 +267,8 @@ def try_curl(site, title):
 
 def try_browsers(realm, environment, folder, programs):
     """`programs` are those of the browsers that are there."""
-    words = "openssl req -x509 -newkey rsa:2048 -sha256 -nodes -days 2 -subj /CN=localhost -addext subjectAltName=DNS:localhost".split()
-    realm.run(*words, "-keyout", realm.path("key.pem"), "-out", realm.path("cert.pem"))
     realm.kinit("bob", cache=realm.path("bob"))
-    site, asking, tls = Site(realm, environment), Site(realm, environment, words=["--ask"]), Site(realm, environment, realm.path("cert.pem"))
+    site, asking, tls = Site(realm, environment), Site(realm, environment, words=["--ask"]), Site(realm, environment, realm.certificate())
     try_curl(site, "the page")
     try_curl(asking, "the page that asks for MICs")
     for names, flags, wanted in ((("krb5",), ("mutual",), [200]), (("krb5",), (), [200]), (("ntlm", "krb5"), ("mutual",), [401, 401, 200])):
