@@ -6,17 +6,15 @@ A line that ends in `..` is the beginning of what is printed; alone, it is anyth
 
 import os
 import re
-import shutil
 import subprocess
 import sys
 import tempfile
 
+from script import PYTHON, TOP, is_there
+
 HERE = os.path.dirname(os.path.abspath(__file__))
-TOP = os.path.dirname(HERE)
 PAGE = os.path.join(TOP, "docs", "FIRST_TEN_MINUTES.md")
-PYTHON = "/usr/bin/python3"
 NEEDED = "krb5kdc kadmind kadmin.local kinit kvno curl openssl gunicorn unshare ip".split()
-PATHS = "/usr/sbin:/usr/bin:/sbin:/bin"
 MARK = "\x1e"
 
 
@@ -160,7 +158,7 @@ def checks(library, program):
                 os.mkdir(os.path.join(folder, "bin"))
                 os.symlink(program, os.path.join(folder, "bin", "jolmurig"))
                 yield from judge(title, commands, typed(commands, folder, dict(os.environ), ""))
-    missing = [each for each in NEEDED if shutil.which(each, path=PATHS) is None]
+    missing = [each for each in NEEDED if not is_there(each)]
     if library is None or missing or os.geteuid() != 0:
         why = "there is no library (--library)" if library is None else "%s is missing" % " ".join(missing) if missing else "it needs root"
         yield "the parts with a realm: not run, since %s" % why, True

@@ -12,6 +12,7 @@ import sys
 from checks import NAME
 
 TOP = os.path.dirname(os.path.dirname(os.path.abspath(__file__)))
+PROGRAM = os.path.join(TOP, "crates", "jolmurig", "out", "jolmurig")
 PYTHON = "/usr/bin/python3"  # Debian's, for which its packages are
 PATHS = "/usr/sbin:/usr/bin:/sbin:/bin"
 # Heimdal's clients, and the libraries that they need.

@@ -8,8 +8,8 @@ import subprocess
 
 from checks import expect, say
 from realm import free_port
+from script import TOP
 
-TOP = os.path.dirname(os.path.dirname(os.path.dirname(os.path.abspath(__file__))))
 SERVE = os.path.join(TOP, "examples", "http_negotiate", "serve.py")
 PAGE = "You are ann@HOME.TEST.\n"
 

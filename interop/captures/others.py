@@ -9,9 +9,8 @@ import time
 from checks import say
 from recorded import Recording
 from realm import PASSWORD, REALM
-from script import HEIMDAL, module_of
+from script import HEIMDAL, TOP, module_of
 
-TOP = os.path.dirname(os.path.dirname(os.path.dirname(os.path.abspath(__file__))))
 SERVE = os.path.join(TOP, "examples", "http_negotiate", "serve.py")
 BASIC = "a secret word"  # a password that goes by in Basic, and is nobody's business
 SAMBA_PASSWORD, NEW_PASSWORD = "A-pass-1word", "A-new-4word-here"  # the first is that of interop/samba

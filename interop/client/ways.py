@@ -8,8 +8,8 @@ import krb
 from checks import expect, say
 from realm import PASSWORD, REALM, free_port
 from relay import Datagrams, Relay, Saying, Server, framed
+from script import TOP
 
-TOP = os.path.dirname(os.path.dirname(os.path.dirname(os.path.abspath(__file__))))
 HERE = os.path.dirname(os.path.abspath(__file__))
 USER = "u18@" + REALM
 

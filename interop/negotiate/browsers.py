@@ -15,7 +15,7 @@ import zlib
 from checks import expect, say
 from realm import free_port
 from sides import INITIATOR, MitSide
-from web import PAGE, Site, value
+from web import PAGE, Site, try_curl, value
 
 WAIT = 90  # seconds for a browser
 
@@ -254,15 +254,6 @@ def try_legs(site, title, names, words, wanted, keeps=True):
     link.close()
     expect(statuses == wanted and (page == PAGE) == (wanted[-1] == 200), "%s: %s %r" % (title, statuses, page))
     expect(side.is_complete() == (wanted[-1] == 200), "%s: the client is complete: %s" % (title, side.is_complete()))
-
-
-def try_curl(site, title):
-    got = site.curl("--negotiate", "-u", ":")
-    expect(got == (200, PAGE), "%s: curl with a ticket: %s" % (title, got))
-    bob = site.realm.path("bob")
-    expect(site.curl("--negotiate", "-u", ":", cache=bob) == (200, PAGE.replace("ann", "bob")), "%s: curl of another user" % title)
-    expect(site.curl("--negotiate", "-u", ":", cache=site.realm.path("no-cache"))[0] == 401, "%s: curl without a ticket" % title)
-    expect(site.curl()[0] == 401, "%s: curl without --negotiate" % title)
 
 
 def try_browsers(realm, environment, folder, programs):
