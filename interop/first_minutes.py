@@ -10,6 +10,7 @@ import subprocess
 import sys
 import tempfile
 
+sys.dont_write_bytecode = True
 from script import PYTHON, TOP, is_there
 
 HERE = os.path.dirname(os.path.abspath(__file__))
@@ -172,6 +173,5 @@ def checks(library, program):
 
 
 if __name__ == "__main__":
-    sys.dont_write_bytecode = True
     for what, wrong in inside(os.path.abspath(sys.argv[1])):
         print("%s\t%s" % (what, wrong or "ok"), flush=True)

@@ -4,6 +4,7 @@ import os
 import random
 import sys
 
+sys.dont_write_bytecode = True
 sys.path.append(os.path.join(os.path.dirname(os.path.abspath(__file__)), ".."))
 
 from checks import ended, expect  # noqa: E402, F401

@@ -7,6 +7,7 @@ the tags of RFC 4120, and shares nothing with the library but the names."""
 import os
 import sys
 
+sys.dont_write_bytecode = True
 sys.path.append(os.path.join(os.path.dirname(os.path.abspath(__file__)), ".."))
 
 from der import BITS, INTEGER, OCTETS, TEXT, TIME, elements  # noqa: E402
