@@ -1,22 +1,21 @@
 """Types what docs/FIRST_TEN_MINUTES.md has, and compares what is printed.
 
 The lines of a part are typed into one bash, in a folder of its own, with what the person has beside a realm of MIT Kerberos on this machine
-(acceptor/realm.py, at the ports 88 and 464 of a network namespace of its own). What stands behind `cat` of a file that is not there is written to it.
+(captures/recorded.py, at the ports 88 and 464 of a network namespace of its own). What stands behind `cat` of a file that is not there is written to it.
 A line that ends in `..` is the beginning of what is printed; alone, it is anything."""
 
 import os
 import re
-import shutil
 import subprocess
 import sys
 import tempfile
 
+sys.dont_write_bytecode = True
+from script import PYTHON, TOP, is_there
+
 HERE = os.path.dirname(os.path.abspath(__file__))
-TOP = os.path.dirname(HERE)
 PAGE = os.path.join(TOP, "docs", "FIRST_TEN_MINUTES.md")
-PYTHON = "/usr/bin/python3"
 NEEDED = "krb5kdc kadmind kadmin.local kinit kvno curl openssl gunicorn unshare ip".split()
-PATHS = "/usr/sbin:/usr/bin:/sbin:/bin"
 MARK = "\x1e"
 
 
@@ -123,7 +122,7 @@ def stood_in(title, commands, library):
 
 def inside(library):
     """The parts that need no `jolmurig`, in a network namespace; a line for each check."""
-    sys.path[:0] = [os.path.join(HERE, "captures"), os.path.join(HERE, "acceptor")]
+    sys.path.insert(0, os.path.join(HERE, "captures"))
     from realm import PASSWORD
     from recorded import RecordedRealm
 
@@ -160,7 +159,7 @@ def checks(library, program):
                 os.mkdir(os.path.join(folder, "bin"))
                 os.symlink(program, os.path.join(folder, "bin", "jolmurig"))
                 yield from judge(title, commands, typed(commands, folder, dict(os.environ), ""))
-    missing = [each for each in NEEDED if shutil.which(each, path=PATHS) is None]
+    missing = [each for each in NEEDED if not is_there(each)]
     if library is None or missing or os.geteuid() != 0:
         why = "there is no library (--library)" if library is None else "%s is missing" % " ".join(missing) if missing else "it needs root"
         yield "the parts with a realm: not run, since %s" % why, True
@@ -174,6 +173,5 @@ def checks(library, program):
 
 
 if __name__ == "__main__":
-    sys.dont_write_bytecode = True
     for what, wrong in inside(os.path.abspath(sys.argv[1])):
         print("%s\t%s" % (what, wrong or "ok"), flush=True)

@@ -4,19 +4,24 @@ import os
 import sys
 
 TOP = os.path.dirname(os.path.dirname(os.path.abspath(__file__)))
+sys.path.append(os.path.join(TOP, "tests"))
+
+from rows import rows_of  # noqa: E402
 
 
 def asked(name):
     """The rows of tests/NAME.rows, each with its columns and the lines that are expected of it."""
-    sys.path.insert(0, os.path.join(TOP, "tests"))
-    from rows import rows_of
-
     return rows_of(os.path.join(TOP, "tests", name + ".rows"), "tests/%s.rows" % name)
 
 
-def asked_of(name):
+def columns_of(name):
     """The columns of the rows of tests/NAME.rows."""
     return [row.columns for row in asked(name)]
+
+
+def pages():
+    """The columns of the rows of tests/pages.rows, an origin, a type and octets, but for files."""
+    return [columns for columns in columns_of("pages") if columns[1] not in ("keytab", "ccache")]
 
 
 def lines_of(test, name):

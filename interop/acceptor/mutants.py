@@ -3,11 +3,11 @@
 `wanted` is True, False, or None where the standards leave it open; `rules` are the names of those rules of docs/ACCEPTOR.md of which one is to be named, or
 None."""
 
-import calendar
 import time
 from typing import NamedTuple, Optional
 
-from sealing import KERBEROS, element, field, framed, integer, name, number_of, put, text, trees, tree, unframed, written
+from der import element, field, integer, name, nodes, number_of, put, sequence, stamp, text, tree, written
+from sealing import KERBEROS, framed, unframed
 
 BINDINGS = b"tls-server-end-point:" + bytes(range(32))
 ADDRESS = "127.0.0.1"
@@ -26,14 +26,6 @@ class Mutant(NamedTuple):
 
 def rules(*names):
     return frozenset(names)
-
-
-def stamp(seconds):
-    return [0x18, time.strftime("%Y%m%d%H%M%SZ", time.gmtime(seconds)).encode()]
-
-
-def seconds_of(node):
-    return calendar.timegm(time.strptime(node[1].decode(), "%Y%m%d%H%M%SZ"))
 
 
 # Octets.
@@ -121,13 +113,6 @@ def frames(random, base):
 # BER that is no DER (X.690, 8.1.3 and 10).
 
 
-def walk(node):
-    yield node
-    if isinstance(node[1], list):
-        for each in node[1]:
-            yield from walk(each)
-
-
 def length_of(size, digits):
     return bytes([128 + digits]) + size.to_bytes(digits, "big")
 
@@ -153,7 +138,7 @@ def ber(random, base):
     q = base.request.copy().seal()
     where = random.choice(["message", "part", "authenticator"])
     outer = [{"message": 0x6E, "part": 0x63, "authenticator": 0x62}[where], [getattr(q, where)]]
-    chosen = random.choice(list(walk(outer)))
+    chosen = random.choice(list(nodes([outer])))
     forms = ["long", "four"] + {0x02: ["needless octet"], 0x04: ["in parts"]}.get(chosen[0], ["indefinite"] if chosen[0] & 32 else [])
     form = random.choice(forms)
     octets = written_otherwise(outer, chosen, form)
@@ -264,18 +249,23 @@ def both_names(keep_pac):
     return change
 
 
+def typed(kind, octets):
+    """An element of authorization data, an address, a key or a checksum: a type and octets (RFC 4120, 5.2)."""
+    return sequence((0, integer(kind)), (1, [4, octets]))
+
+
 def with_data(place, number, *more):
     """Appends elements of authorization data; they have a type and octets."""
 
     def change(random, q):
         found = field(place(q), number) or [0x30, []]
-        put(place(q), number, [0x30, found[1] + [[0x30, [[0xA0, [integer(kind)]], [0xA1, [[4, octets]]]]] for kind, octets in more]])
+        put(place(q), number, [0x30, found[1] + [typed(*each) for each in more]])
 
     return change
 
 
 def data(*elements):
-    return written([0x30, [[0x30, [[0xA0, [integer(kind)]], [0xA1, [[4, octets]]]]] for kind, octets in elements]])
+    return written([0x30, [typed(*each) for each in elements]])
 
 
 RELEVANT = IF_RELEVANT, data((UNKNOWN, b"anything"))
@@ -314,15 +304,11 @@ def flag(bit, size=5):
 
 
 def addresses(octets):
-    return [0x30, [[0x30, [[0xA0, [integer(2)]], [0xA1, [[4, octets]]]]]]]
-
-
-def key(etype, octets):
-    return [0x30, [[0xA0, [integer(etype)]], [0xA1, [[4, octets]]]]]
+    return [0x30, [typed(2, octets)]]
 
 
 def other_session(random, q):
-    put(q.part, 1, key(q.session[0], bytes(random.randrange(256) for _ in q.session[1])))
+    put(q.part, 1, typed(q.session[0], bytes(random.randrange(256) for _ in q.session[1])))
 
 
 PART = [
@@ -345,11 +331,11 @@ PART = [
     ("a bit of the PAC", pac_flip, False, None),
     ("both names, with the PAC", both_names(True), False, rules("PAC_CLIENT")),
     ("both names, without a PAC", both_names(False), True, None),
-    ("unknown transited type", setting(part, 4, either([0x30, [[0xA0, [integer(7)]], [0xA1, [[4, b"OTHER.TEST"]]]]])), None, None),
+    ("unknown transited type", setting(part, 4, either(typed(7, b"OTHER.TEST"))), None, None),
 ]
 
-OTHER_SUITES = [key(1, bytes(8)), key(3, bytes(8)), key(23, bytes(16)), key(16, bytes(24))]
-OTHER_SIZES = [key(17, bytes(15)), key(18, bytes(16)), key(19, bytes(32)), key(20, b"")]
+OTHER_SUITES = [typed(1, bytes(8)), typed(3, bytes(8)), typed(23, bytes(16)), typed(16, bytes(24))]
+OTHER_SIZES = [typed(17, bytes(15)), typed(18, bytes(16)), typed(19, bytes(32)), typed(20, b"")]
 AUTHENTICATOR = [
     ("cname", setting(authenticator, 2, either(*CLIENTS)), False, rules("OTHER_CLIENT")),
     ("crealm", setting(authenticator, 1, either(*REALMS)), False, rules("OTHER_CLIENT")),
@@ -363,7 +349,7 @@ AUTHENTICATOR = [
     ("no subkey", setting(authenticator, 6, absent), True, None),
     ("subkey of another suite", setting(authenticator, 6, either(*OTHER_SUITES)), False, rules("SUBKEY")),
     ("subkey of another size", setting(authenticator, 6, either(*OTHER_SIZES)), False, rules("SUBKEY")),
-    ("subkey of AES", setting(authenticator, 6, either(key(17, b"k" * 16), key(18, b"k" * 32), key(19, b"k" * 16), key(20, b"k" * 32))), True, None),
+    ("subkey of AES", setting(authenticator, 6, either(typed(17, b"k" * 16), typed(18, b"k" * 32), typed(19, b"k" * 16), typed(20, b"k" * 32))), True, None),
     ("critical data", lambda random, q: with_data(authenticator, 8, random.choice(CRITICAL))(random, q), False, rules("CRITICAL_DATA")),
     ("data that may be passed over", with_data(authenticator, 8, RELEVANT), True, None),
     ("AD-IF-RELEVANT of garbage", with_data(authenticator, 8, (IF_RELEVANT, b"\x30\x80")), False, rules("DATA_FORM")),
@@ -402,7 +388,7 @@ def checksum(make):
     def change(random, q):
         found = field(q.authenticator, 3)
         kind, octets = make(random, number_of(field(found, 0)), field(found, 1)[1])
-        put(q.authenticator, 3, None if kind is None else [0x30, [[0xA0, [integer(kind)]], [0xA1, [[4, octets]]]]])
+        put(q.authenticator, 3, None if kind is None else typed(kind, octets))
 
     return change
 

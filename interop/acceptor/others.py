@@ -5,7 +5,8 @@ import os
 import subprocess
 
 from checks import expect, say
-from realm import PASSWORD, PATHS, REALM
+from realm import PASSWORD, REALM
+from script import PATHS, unpacked
 
 HERE = os.path.dirname(os.path.abspath(__file__))
 HEIMDAL = (
@@ -18,12 +19,9 @@ def unpacked_heimdal(realm):
     """The client of Heimdal's GSS-API, and where its libraries are; None where they cannot be had. Debian keeps its packages apart from MIT's, so they are
     unpacked into the realm's folder."""
     root, program = realm.path("heimdal"), realm.path("heimdal_client")
-    os.mkdir(root)
-    done = subprocess.run(["apt-get", "download", "-qq", *HEIMDAL], cwd=root, capture_output=True, timeout=300)
-    for package in glob.glob(os.path.join(root, "*.deb")):
-        subprocess.run(["dpkg", "-x", package, root], check=True)
+    whole = unpacked(HEIMDAL, root)
     found = glob.glob(os.path.join(root, "usr", "lib", "*", "libgssapi.so.3"))
-    if done.returncode != 0 or not found:
+    if not whole or not found:
         say("left out: Heimdal, whose packages cannot be had")
         return None
     libraries = os.path.dirname(found[0])

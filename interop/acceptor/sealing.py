@@ -1,6 +1,6 @@
-"""DER as trees, and encryption under types 17 to 20, by Python's hmac and OpenSSL's AES: nothing of this repository's library.
+"""Encryption under types 17 to 20, by Python's hmac and OpenSSL's AES: nothing of this repository's library.
 
-A tree is [tag, what it holds]: a list of trees, or octets. `Request` is an AP-REQ with its parts opened, which are changed and sealed again."""
+`Request` is an AP-REQ with its parts opened, trees of ../der.py, which are changed and sealed again."""
 
 import copy
 import hashlib
@@ -9,81 +9,11 @@ import os
 from math import lcm
 
 from cryptography.hazmat.primitives.ciphers import Cipher, algorithms, modes
+from der import element, field, number_of, put, read, tree, written
 
 KERBEROS = bytes.fromhex("2a864886f712010202")
 KEY_SIZES = {17: 16, 18: 32, 19: 16, 20: 32}
 TICKET_USAGE, AUTHENTICATOR_USAGE = 2, 11
-
-
-def element(tag, content):
-    size = len(content)
-    if size < 128:
-        return bytes([tag, size]) + content
-    digits = size.to_bytes((size.bit_length() + 7) // 8, "big")
-    return bytes([tag, 128 + len(digits)]) + digits + content
-
-
-def split(octets):
-    """The tag and the content of the element with which octets begin, and what is behind it; ValueError where that is no DER."""
-    if len(octets) < 2:
-        raise ValueError("an element ends early")
-    tag, size, at = octets[0], octets[1], 2
-    if size >= 128:
-        digits = octets[2 : 2 + size - 128]
-        at, size = 2 + len(digits), int.from_bytes(digits, "big")
-        if not digits or digits[0] == 0 or size < 128 or octets[1] - 128 != len(digits):
-            raise ValueError("a length of another form")
-    if len(octets) < at + size or tag & 31 == 31:
-        raise ValueError("an element ends early")
-    return tag, octets[at : at + size], octets[at + size :]
-
-
-def trees(octets):
-    """All elements of octets that are elements and nothing else."""
-    found = []
-    while octets:
-        tag, content, octets = split(octets)
-        found.append([tag, trees(content) if tag & 32 else content])
-    return found
-
-
-def tree(octets):
-    (found,) = trees(octets)
-    return found
-
-
-def written(node):
-    tag, held = node
-    return element(tag, held if isinstance(held, bytes) else b"".join(map(written, held)))
-
-
-def integer(number):
-    return [2, number.to_bytes((number + (number < 0)).bit_length() // 8 + 1, "big", signed=True)]
-
-
-def number_of(node):
-    return int.from_bytes(node[1], "big", signed=True)
-
-
-def text(octets):
-    return [0x1B, octets if isinstance(octets, bytes) else octets.encode("ascii")]
-
-
-def name(kind, *components):
-    return [0x30, [[0xA0, [integer(kind)]], [0xA1, [[0x30, [text(each) for each in components]]]]]]
-
-
-def field(node, number):
-    """What a SEQUENCE has under [number], or None."""
-    return next((each[1][0] for each in node[1] if each[0] == 0xA0 + number), None)
-
-
-def put(node, number, value):
-    """Sets, adds or (None) takes away what a SEQUENCE has under [number]."""
-    kept = [each for each in node[1] if each[0] != 0xA0 + number]
-    if value is not None:
-        kept.append([0xA0 + number, [value]])
-    node[1] = sorted(kept, key=lambda each: each[0])
 
 
 # Encryption (RFC 3961, RFC 3962, RFC 8009).
@@ -162,29 +92,7 @@ def decrypt(etype, key, usage, octets):
     return plain[16:]
 
 
-# Keytabs (MIT's format 5.2) and requests.
-
-
-def keys_of(keytab):
-    """(realm, components, kvno, etype) to key."""
-    keys, at = {}, 2
-    while at < len(keytab):
-        size = int.from_bytes(keytab[at : at + 4], "big", signed=True)
-        entry, at = keytab[at + 4 : at + 4 + abs(size)], at + 4 + abs(size)
-        if size <= 0:
-            continue
-        place, texts = 2, []
-        for _ in range(int.from_bytes(entry[:2], "big") + 1):
-            end = place + 2 + int.from_bytes(entry[place : place + 2], "big")
-            texts.append(entry[place + 2 : end])
-            place = end
-        kvno, etype = entry[place + 8], int.from_bytes(entry[place + 9 : place + 11], "big")
-        length = int.from_bytes(entry[place + 11 : place + 13], "big")
-        key = entry[place + 13 : place + 13 + length]
-        if size - (place + 13 + length) >= 4:
-            kvno = int.from_bytes(entry[place + 13 + length : place + 17 + length], "big") or kvno
-        keys[texts[0], tuple(texts[1:]), kvno, etype] = key
-    return keys
+# Requests.
 
 
 def framed(octets, mechanism=KERBEROS, token_id=b"\1\0"):
@@ -192,11 +100,11 @@ def framed(octets, mechanism=KERBEROS, token_id=b"\1\0"):
 
 
 def unframed(token):
-    tag, content, behind = split(token)
-    kind, mechanism, inner = split(content)
-    if (tag, kind, mechanism, inner[:2], behind) != (0x60, 6, KERBEROS, b"\1\0", b""):
+    tag, start, end = read(token)
+    kind, mechanism, inner = read(token, start, end)
+    if (tag, kind, token[mechanism:inner], token[inner : inner + 2], end) != (0x60, 6, KERBEROS, b"\1\0", len(token)):
         raise ValueError("no token of Kerberos with an AP-REQ")
-    return inner[2:]
+    return token[inner + 2 :]
 
 
 class Request:

@@ -9,7 +9,9 @@ import krb
 from checks import expect
 from clients import MitClient
 from contexts import refused
-from sealing import Request, field, keys_of, put
+from der import field, put
+from keytabs import keys_of
+from sealing import Request
 from units import in_child, raised
 
 

@@ -8,8 +8,8 @@ import subprocess
 
 from checks import expect, say
 from realm import free_port
+from script import TOP
 
-TOP = os.path.dirname(os.path.dirname(os.path.dirname(os.path.abspath(__file__))))
 SERVE = os.path.join(TOP, "examples", "http_negotiate", "serve.py")
 PAGE = "You are ann@HOME.TEST.\n"
 
@@ -128,9 +128,7 @@ def try_bindings(site, krb):
 def try_web(realm, environment):
     import krb
 
-    words = "openssl req -x509 -newkey rsa:2048 -sha256 -nodes -days 2 -subj /CN=localhost -addext subjectAltName=DNS:localhost".split()
-    realm.run(*words, "-keyout", realm.path("key.pem"), "-out", realm.path("cert.pem"))
-    site, tls = Site(realm, environment), Site(realm, environment, realm.path("cert.pem"))
+    site, tls = Site(realm, environment), Site(realm, environment, realm.certificate())
     try_curl(site, "http")
     try_tokens(site, krb)
     try_bindings(tls, krb)

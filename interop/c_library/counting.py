@@ -1,18 +1,14 @@
-"""What the Python tests of the package have alike: what passed and what failed is counted, a refusal is an outcome, and octets are changed."""
+"""What the Python tests of the package have alike: they count by ../checks.py, a refusal is an outcome, and octets are changed."""
 
 import os
 import random
 import sys
 
-from krb import Refused
+sys.dont_write_bytecode = True
+sys.path.append(os.path.join(os.path.dirname(os.path.abspath(__file__)), ".."))
 
-_counts = [0, 0]
-
-
-def expect(right, what):
-    _counts[not right] += 1
-    if not right:
-        print("%s: %s" % (os.path.splitext(os.path.basename(sys.argv[0]))[0], what))
+from checks import ended, expect  # noqa: E402, F401
+from krb import Refused  # noqa: E402
 
 
 def outcome(call, *arguments):
@@ -32,9 +28,3 @@ def changed(octets, count, front=0.8):
         if random.random() < 0.1:
             del other[random.randrange(len(other)) :]
         yield bytes(other)
-
-
-def counted():
-    """Prints the last line, and returns the status to end with."""
-    print("%d passed, %d failed" % tuple(_counts))
-    return 1 if _counts[1] else 0

@@ -4,9 +4,14 @@ A row for each message, field and index: number, octets, field, index, status, o
 where 64 bits do not hold it; then the type and the field's path, or a dash where the message has no such field. It walks the elements (X.690, 8.1) by
 the tags of RFC 4120, and shares nothing with the library but the names."""
 
+import os
 import sys
 
-TEXT, TIME, INTEGER, BITS, OCTETS = 0x1B, 0x18, 0x02, 0x03, 0x04
+sys.dont_write_bytecode = True
+sys.path.append(os.path.join(os.path.dirname(os.path.abspath(__file__)), ".."))
+
+from der import BITS, INTEGER, OCTETS, TEXT, TIME, elements  # noqa: E402
+
 # The fields of a ticket and of a sealed part, by the numbers of krb.h: the tags of the fields on the way, `[n]` of a SEQUENCE each, and what is there;
 # a list has its items by index, or a field of each.
 TICKET = {1: ([1], TEXT), 4: ([2, 1], [TEXT]), 29: ([2, 0], INTEGER), 19: ([3, 0], INTEGER), 20: ([3, 1], INTEGER), 21: ([3, 2], OCTETS)}
@@ -118,25 +123,9 @@ def path_of(number, path, kind, index):
     return ".".join(words)
 
 
-def element(octets, start):
-    """Tag, content and end of the element at a place."""
-    tag, length, content = octets[start], octets[start + 1], start + 2
-    if length >= 128:
-        content += length - 128
-        length = int.from_bytes(octets[start + 2 : content], "big")
-    return tag, content, content + length
-
-
-def items(octets, start, end):
-    while start < end:
-        tag, content, after = element(octets, start)
-        yield start, tag, content, after
-        start = after
-
-
 def tagged(octets, place, tag):
     """The content of the element of this tag in a place, or nothing."""
-    for _, other, content, after in items(octets, *place):
+    for _, other, content, after in elements(octets, *place):
         if other == tag:
             return content, after
     return None
@@ -153,7 +142,7 @@ def found(octets, number, path, kind, index):
         if place is None:
             return None
     if isinstance(kind, list):
-        all_items = list(items(octets, *tagged(octets, place, 0x30)))
+        all_items = list(elements(octets, *tagged(octets, place, 0x30)))
         if index >= len(all_items):
             return None
         start, tag, content, after = all_items[index]

@@ -23,10 +23,11 @@ import hmac
 import os
 import re
 import sys
-import time
 
 sys.dont_write_bytecode = True
 sys.path.insert(0, os.path.join(os.path.dirname(os.path.abspath(__file__)), ".."))
+from der import element, elements, integer, name, read, sequence, stamp, text  # noqa: E402
+from keytabs import keytab_of_texts  # noqa: E402
 from tables import TOP, asked  # noqa: E402
 
 BINDINGS = b"tls-server-end-point:" + bytes(range(32))  # of interop/acceptor, whose clients made the tokens
@@ -51,18 +52,11 @@ class Element:
     """An element: its tag, and where it and its content begin and end."""
 
     def __init__(self, octets, start):
-        size, content = octets[start + 1], start + 2
-        if size >= 128:
-            content += size - 128
-            size = int.from_bytes(octets[start + 2 : content], "big")
-        self.octets, self.tag, self.start, self.content, self.end = octets, octets[start], start, content, content + size
+        self.octets, self.start = octets, start
+        self.tag, self.content, self.end = read(octets, start)
 
     def within(self):
-        found, start = [], self.content
-        while start < self.end:
-            found.append(Element(self.octets, start))
-            start = found[-1].end
-        return found
+        return [Element(self.octets, start) for start, *_ in elements(self.octets, self.content, self.end)]
 
     def field(self, *numbers):
         """The element of a field of a field, by the numbers of their tags; None where one is absent."""
@@ -72,24 +66,6 @@ class Element:
             if it is None:
                 return None
         return it
-
-
-def element(tag, *parts):
-    content = b"".join(parts)
-    size = len(content).to_bytes(2, "big") if len(content) > 255 else bytes([len(content)])
-    return bytes([tag]) + (bytes([0x80 + len(size)]) + size if len(content) > 127 else size) + content
-
-
-def integer(number):
-    return element(2, number.to_bytes(number.bit_length() // 8 + 1, "big", signed=True))
-
-
-def field(number, *parts):
-    return element(0xA0 + number, *parts)
-
-
-def counted(octets):
-    return len(octets).to_bytes(2, "big") + octets
 
 
 # The acceptor.
@@ -155,15 +131,6 @@ def free_places(reply):
     return " ".join("%d-%d" % (it.content, it.end) for it in free)
 
 
-def keytab_of(client, etype, key):
-    """A keytab of one key (MIT Kerberos, "Keytab file format")."""
-    name, realm = client.encode("ascii").split(b"@")
-    parts = name.split(b"/")
-    entry = len(parts).to_bytes(2, "big") + counted(realm) + b"".join(map(counted, parts)) + bytes([0, 0, 0, 1]) + bytes(4) + b"\1"
-    entry += etype.to_bytes(2, "big") + counted(key)
-    return b"\5\2" + len(entry).to_bytes(4, "big") + entry
-
-
 def reply_row(row, line, error):
     """The row of a reply of a KDC, behind this error."""
     numbers, tag = rules("KRB_CLIENT_RULE_"), "6b" if row[1] == "3" else "6d"
@@ -175,7 +142,7 @@ def reply_row(row, line, error):
     ticket = Element(bytes.fromhex(row[4]), 0).within()[0].field(5)
     made += ["0", granted[1], granted[2], str(ticket.start), str(ticket.end - ticket.start), free_places(bytes.fromhex(row[4]))]
     if row[1] == "3":
-        made += [keytab_of(row[6], int(row[2]), bytes.fromhex(row[3])).hex(), error]
+        made += [keytab_of_texts(["%s:%s:%s" % (row[2], row[3], row[6])]).hex(), error]
     return made
 
 
@@ -204,9 +171,9 @@ def password_rows():
     """Keys of a password with the salt and the number of iterations that an error names in its ETYPE-INFO2 (RFC 4120, 5.2.7.5; RFC 8009, 4)."""
     for etype, suite, hashed, size, count in ((19, b"aes128-cts-hmac-sha256-128", "sha256", 16, 16), (20, b"aes256-cts-hmac-sha384-192", "sha384", 32, 17)):
         salt = b"PEER.TESTalice"
-        entry = element(0x30, field(0, integer(etype)), field(1, element(0x1B, salt)), field(2, element(4, count.to_bytes(4, "big"))))
-        data = element(0x30, element(0x30, field(1, integer(19)), field(2, element(4, element(0x30, entry)))))
-        error = error_octets(1795763470, 0, 25, 2, [b"krbtgt", b"PEER.TEST"], b"PEER.TEST", False, field(12, element(4, data)))
+        entry = sequence((0, integer(etype)), (1, text(salt)), (2, [4, count.to_bytes(4, "big")]))
+        data = element(0x30, sequence((1, integer(19)), (2, [4, element(0x30, entry)])))
+        error = error_octets(1795763470, 0, 25, 2, [b"krbtgt", b"PEER.TEST"], b"PEER.TEST", False, [4, data])
         key = hashlib.pbkdf2_hmac(hashed, PASSWORD, suite + b"\0" + salt, count, size)
         key = hmac.new(key, b"\0\0\0\1kerberos\0" + (8 * size).to_bytes(4, "big"), hashed).digest()[:size]
         yield ["password", "the key of a password under %d" % etype, error.hex(), PASSWORD.hex(), str(etype), key.hex()]
@@ -215,13 +182,10 @@ def password_rows():
 # What is made.
 
 
-def error_octets(clock, microseconds, code, kind, components, realm, in_frame, data=b""):
-    """A KRB-ERROR with neither ctime nor text (RFC 4120, 5.9.1), and with the field of its data; in the frame of RFC 4121, 4.1.3."""
-    name = field(0, integer(kind)), field(1, element(0x30, *(element(0x1B, each) for each in components)))
-    stime = time.strftime("%Y%m%d%H%M%SZ", time.gmtime(clock)).encode("ascii")
-    fields = [(0, integer(5)), (1, integer(30)), (4, element(0x18, stime)), (5, integer(microseconds)), (6, integer(code))]
-    fields += [(9, element(0x1B, realm)), (10, element(0x30, *name))]
-    made = element(0x7E, element(0x30, *(field(*each) for each in fields), data))
+def error_octets(clock, microseconds, code, kind, components, realm, in_frame, data=None):
+    """A KRB-ERROR with neither ctime nor text (RFC 4120, 5.9.1), and with its data; in the frame of RFC 4121, 4.1.3."""
+    fields = [(0, integer(5)), (1, integer(30)), (4, stamp(clock)), (5, integer(microseconds)), (6, integer(code))]
+    made = element(0x7E, sequence(*fields, (9, text(realm)), (10, name(kind, *components)), (12, data)))
     return element(0x60, bytes.fromhex("06092a864886f712010202"), b"\3\0", made) if in_frame else made
 
 

@@ -7,7 +7,9 @@ import os
 import random
 import sys
 
-sys.path.append(os.path.join(os.path.dirname(os.path.abspath(__file__)), "..", "kdc_proxy_parts"))
+sys.dont_write_bytecode = True
+HERE = os.path.dirname(os.path.abspath(__file__))
+sys.path += [os.path.join(HERE, ".."), os.path.join(HERE, "..", "kdc_proxy_parts")]
 
 import judge  # noqa: E402
 import rules  # noqa: E402

@@ -21,124 +21,41 @@ line is `N passed, N failed`; the status is 1 where one failed.
 
 import os
 import random
-import signal
-import socket
-import subprocess
 import sys
 import tempfile
-import time
+
+sys.dont_write_bytecode = True
+sys.path.append(os.path.join(os.path.dirname(os.path.abspath(__file__)), ".."))
+
+from checks import ended, expect  # noqa: E402
+from realm import SUITES, Servers  # noqa: E402
 
 REALM = "LAB.EXAMPLE"
-ETYPES = {
-    17: "aes128-cts-hmac-sha1-96",
-    18: "aes256-cts-hmac-sha1-96",
-    19: "aes128-cts-hmac-sha256-128",
-    20: "aes256-cts-hmac-sha384-192",
-}
-PATHS = "/usr/sbin:/usr/bin:/sbin:/bin"
-COUNTS = {"passed": 0, "failed": 0}
 
 
-def expect(right, what):
-    COUNTS["passed" if right else "failed"] += 1
-    if not right:
-        print("gss_context: %s" % what, flush=True)
-
-
-class Realm:
+class ContextRealm(Servers):
     """A KDC in a directory of its own, a user with a ticket, and a service with a key of each encryption type."""
 
     def __init__(self, home):
-        self.home = home
-        with socket.socket() as probe:
-            probe.bind(("127.0.0.1", 0))
-            port = probe.getsockname()[1]
-        self.environment = {
-            "PATH": PATHS,
-            "HOME": home,
-            "KRB5_CONFIG": os.path.join(home, "krb5.conf"),
-            "KRB5_KDC_PROFILE": os.path.join(home, "kdc.conf"),
-            "KRB5CCNAME": "FILE:" + os.path.join(home, "cache"),
-            "KRB5_KTNAME": "FILE:" + os.path.join(home, "keytab"),
-            "KRB5RCACHETYPE": "none",
-            "LC_ALL": "C.UTF-8",
-        }
-        names = {"krb5.conf": " ".join(ETYPES.values()), **{"krb5-%d.conf" % number: name for number, name in ETYPES.items()}}
-        for name, permitted in names.items():
-            self.write(
-                name,
-                """[libdefaults]
- default_realm = %s
- dns_lookup_kdc = false
- dns_lookup_realm = false
- dns_canonicalize_hostname = false
- rdns = false
- permitted_enctypes = %s
-[realms]
- %s = {
-  kdc = 127.0.0.1:%d
- }
-""",
-                REALM,
-                permitted,
-                REALM,
-                port,
-            )
-        self.write(
-            "kdc.conf",
-            """[kdcdefaults]
- kdc_listen = 127.0.0.1:%d
- kdc_tcp_listen = 127.0.0.1:%d
-[realms]
- %s = {
-  database_name = %s/principal
-  key_stash_file = %s/stash
-  acl_file = %s/acl
-  supported_enctypes = %s
- }
-""",
-            port,
-            port,
-            REALM,
-            home,
-            home,
-            home,
-            " ".join(name + ":normal" for name in ETYPES.values()),
-        )
-        self.run("kdb5_util", "create", "-s", "-r", REALM, "-P", "master")
+        own = {name: "FILE:" + os.path.join(home, file) for name, file in (("KRB5CCNAME", "cache"), ("KRB5_KTNAME", "keytab"))}
+        super().__init__(home, REALM, KRB5RCACHETYPE="none", **own)
+        for name, permitted in {"krb5.conf": " ".join(SUITES.values()), **{"krb5-%d.conf" % number: name for number, name in SUITES.items()}}.items():
+            self.write_client(name, " permitted_enctypes = %s\n" % permitted)
+        self.write_kdc(suites=SUITES.values())
+
+    def begin(self):
+        self.create()
         self.admin("addprinc -pw password user")
-        for number, name in ETYPES.items():
+        for number, name in SUITES.items():
             self.admin("addprinc -randkey -e %s:normal host/e%d.lab.example" % (name, number))
-            self.admin("ktadd -norandkey -k %s/keytab host/e%d.lab.example" % (home, number))
-        self.kdc = subprocess.Popen(["krb5kdc", "-n"], env=self.environment, stdout=subprocess.DEVNULL, stderr=subprocess.DEVNULL)
-        for number in ETYPES:
-            self.kinit(self.under(number))
+            self.admin("ktadd -norandkey -k %s/keytab host/e%d.lab.example" % (self.home, number))
+        self.start_kdc()
+        for number in SUITES:
+            self.run("kinit", "user", text="password\n", environment=self.under(number))
 
     def under(self, etype):
         """The environment in which this encryption type alone is permitted, and a cache with a ticket under it."""
-        names = {"KRB5_CONFIG": os.path.join(self.home, "krb5-%d.conf" % etype), "KRB5CCNAME": "FILE:" + os.path.join(self.home, "cache-%d" % etype)}
-        return dict(self.environment, **names)
-
-    def kinit(self, environment):
-        for _ in range(100):
-            if subprocess.run(["kinit", "user"], input="password\n", env=environment, text=True, capture_output=True).returncode == 0:
-                return
-            time.sleep(0.1)
-        raise SystemExit("gss_context: the KDC does not answer")
-
-    def write(self, name, text, *words):
-        with open(os.path.join(self.home, name), "w", encoding="ascii") as file:
-            file.write(text % words)
-
-    def run(self, *command):
-        subprocess.run(command, env=self.environment, check=True, capture_output=True)
-
-    def admin(self, query):
-        self.run("kadmin.local", "-r", REALM, "-q", query)
-
-    def stop(self):
-        self.kdc.send_signal(signal.SIGTERM)
-        self.kdc.wait()
+        return dict(self.environment, KRB5_CONFIG=self.path("krb5-%d.conf" % etype), KRB5CCNAME="FILE:" + self.path("cache-%d" % etype))
 
 
 class Side:
@@ -174,7 +91,7 @@ def sides(etype, mutual):
 
 
 def rows(realm):
-    for etype in ETYPES:
+    for etype in SUITES:
         os.environ.update(realm.under(etype))
         for mutual in (False, True):
             for side in sides(etype, mutual):
@@ -295,7 +212,7 @@ class Pair:
 
 def try_contexts(realm):
     draw = random.Random(4121)
-    for etype in ETYPES:
+    for etype in SUITES:
         os.environ.update(realm.under(etype))
         for mutual in (False, True):
             initiator, acceptor = sides(etype, mutual)
@@ -309,8 +226,9 @@ def try_contexts(realm):
 
 def main():
     with tempfile.TemporaryDirectory() as home:
-        realm = Realm(home)
+        realm = ContextRealm(home)
         try:
+            realm.begin()
             os.environ.update(realm.environment)
             if sys.argv[1:] == ["--rows"]:
                 rows(realm)
@@ -318,8 +236,7 @@ def main():
             try_contexts(realm)
         finally:
             realm.stop()
-    print("%d passed, %d failed" % (COUNTS["passed"], COUNTS["failed"]))
-    return 1 if COUNTS["failed"] else 0
+    return ended()
 
 
 if __name__ == "__main__":

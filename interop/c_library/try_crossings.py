@@ -37,7 +37,7 @@ class _Counting:
 ctypes.CDLL = _Counting
 
 import krb  # noqa: E402
-from counting import counted, expect, outcome  # noqa: E402
+from counting import ended, expect, outcome  # noqa: E402
 
 CKSUMTYPES = {16: 12, 17: 15, 18: 16, 19: 19, 20: 20}
 
@@ -91,7 +91,7 @@ def main():
     with open(sys.argv[1], encoding="ascii") as table:
         for number, digits in (line.split() for line in table if not line.startswith("#")):
             try_message(int(number), bytes.fromhex(digits))
-    return counted()
+    return ended()
 
 
 if __name__ == "__main__":

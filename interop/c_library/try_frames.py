@@ -8,7 +8,8 @@ import struct
 import sys
 import tracemalloc
 
-from counting import changed, counted, expect, outcome
+from counting import changed, ended, expect, outcome
+from der import integer, sequence, written
 from krb import Refused, Status, frames, messages, pac, spnego
 
 TYPES = {1, 2, 6, 7, *range(10, 20)}
@@ -400,16 +401,11 @@ def try_lengths(octets):
     """A frame of 65535 octets, and of one more: the KRB-PRIV's cipher is filled up."""
     ap, _, _ = password_of(octets)
 
-    def der(tag, content):
-        size = len(content)
-        digits = size.to_bytes((size.bit_length() + 7) // 8, "big")
-        return bytes([tag]) + (bytes([size]) if size < 128 else bytes([128 + len(digits)]) + digits) + content
-
     for more in range(2):
         cipher = 65535 + more - 6 - len(ap) - 42
         while True:
-            data = der(0x30, der(0xA0, b"\2\1\x12") + der(0xA2, der(4, bytes(cipher))))
-            private = der(0x75, der(0x30, der(0xA0, b"\2\1\5") + der(0xA1, b"\2\1\x15") + der(0xA3, data)))
+            data = sequence((0, integer(18)), (2, [4, bytes(cipher)]))
+            private = written([0x75, [sequence((0, integer(5)), (1, integer(21)), (3, data))]])
             if 6 + len(ap) + len(private) >= 65535 + more:
                 break
             cipher += 1
@@ -457,7 +453,7 @@ def main():
         expect(found == right if isinstance(right, Status) else tuple(found) == (b"x", None, right), "the hint %s: %s" % (hint.hex(), found))
     for kind, number in seen.items():
         expect(number > 1, "%d rows of %s" % (number, kind))
-    return counted()
+    return ended()
 
 
 if __name__ == "__main__":

@@ -7,7 +7,7 @@ import pickle
 import sys
 
 import krb
-from counting import counted, expect, outcome
+from counting import ended, expect, outcome
 from krb import Refused, Status
 from krb import crypto, gss, messages
 
@@ -203,7 +203,7 @@ def main():
     with concurrent.futures.ThreadPoolExecutor(16) as pool:
         for number, right in enumerate(pool.map(turn, range(2000))):
             expect(right, "turn %d of 16 threads" % number)
-    return counted()
+    return ended()
 
 
 if __name__ == "__main__":

@@ -7,14 +7,16 @@ import os
 import random
 import sys
 
-sys.path.append(os.path.join(os.path.dirname(os.path.abspath(__file__)), "..", "kdc_proxy_parts"))
+HERE = os.path.dirname(os.path.abspath(__file__))
+sys.path += [os.path.join(HERE, ".."), os.path.join(HERE, "..", "kdc_proxy_parts")]
 
 import judge  # noqa: E402
 import rules  # noqa: E402
-from counting import changed, counted, expect, outcome  # noqa: E402
+from counting import changed, ended, expect, outcome  # noqa: E402
+from der import element, explicit, field, put, text, tree, written  # noqa: E402
 from expect_fields import FIELDS, found as place_of  # noqa: E402
 from krb import Refused, Status, proxy  # noqa: E402
-from mutants import Request, body, element, framed, password_frame, tree, written  # noqa: E402
+from mutants import Request, body, framed, password_frame  # noqa: E402
 
 CLIENT, SERVER, TICKET_SERVER = 3, 4, 24
 # What kadmind of MIT Kerberos 1.20.1 sends where it cannot read the AP-REQ: a frame of no AP-REP, and a KRB-ERROR (RFC 3244, 2).
@@ -97,8 +99,7 @@ def try_hints(message, realm):
     """dclocator-hint, which is handed out where 64 bits hold it."""
     hints = {b"\0": 0, b"\x7f" + b"\xff" * 7: 2**63 - 1, b"\x80" + bytes(7): -(2**63), b"\0\x80" + bytes(7): None, b"\x40\0\0\1": 0x40000001}
     for digits, hint in hints.items():
-        fields = element(0xA0, element(0x04, framed(message))) + element(0xA1, element(0x1B, realm)) + element(0xA2, element(0x02, digits))
-        octets = element(0x30, fields)
+        octets = element(0x30, explicit(0, element(0x04, framed(message))), explicit(1, element(0x1B, realm)), explicit(2, element(0x02, digits)))
         found = outcome(proxy.read_request, octets)
         expect(found not in Status.__members__.values() and tuple(found) == expected(octets, hint), "the hint %s: %s" % (digits.hex(), found))
 
@@ -199,21 +200,19 @@ def try_large(message, realm):
 
 def try_long_realm(message):
     """A realm of some sixty thousand octets, which is the target-domain too, but for the last octet or not."""
-    elements = tree(message)
-    (realm,) = [each for each in elements[0][1][0][1][-1][1][0][1] if each[0] == 0xA2]
+    whole = tree(message)
     for size in (127, 128, 255, 256, 1000, 60000):
-        realm[1][0][1] = b"R" * size
+        put(field(whole[1][0], 4), 2, text(b"R" * size))
         for domain in (b"R" * size, b"r" * size, b"R" * (size - 1) + b"S", b"R" * (size - 1)):
-            try_read(body(framed(written(elements)), domain), "a realm of %d octets" % size)
+            try_read(body(framed(written(whole)), domain), "a realm of %d octets" % size)
 
 
 def try_many_items(message):
     """Requests with so many encryption types that the library has more items than it is given room for at first."""
-    elements = tree(message)
-    (types,) = [each for each in elements[0][1][0][1][-1][1][0][1] if each[0] == 0xA8]
+    whole = tree(message)
     for number in (500, 2040, 2048, 2060, 2100, 10000, 30000):
-        types[1][0][1] = [[0x02, b"\x12"]] * number
-        octets = body(framed(written(elements)), judge.judged(body(framed(message), b"")).realm)
+        put(field(whole[1][0], 4), 8, [0x30, [[0x02, b"\x12"]] * number])
+        octets = body(framed(written(whole)), judge.judged(body(framed(message), b"")).realm)
         expect(try_read(octets, "a request with %d encryption types" % number), "a request with %d encryption types is none" % number)
 
 
@@ -262,7 +261,7 @@ def main():
     try_long_realm(requests[0])
     try_many_items(requests[0])
     try_statuses()
-    return counted()
+    return ended()
 
 
 if __name__ == "__main__":

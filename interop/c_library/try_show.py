@@ -1,18 +1,18 @@
-"""Tries `krb.text`, `krb.json`, `krb.decode` and `krb.show`: try_show.py TOP, in an environment that has the package installed. The rows of TOP/tests/pages.rows whose
-type has a row in the table of types are to be told as these rows expect, which decoders in Python made that share no code with the
-library; but for those that hold a format that is no DER, which the library leaves octets. `krb.decode` is to have the values of that JSON. `krb.show` is to tell the rows of TOP/tests/opened.rows, with their keys in a keytab, and those of kinds without
+"""Tries `krb.text`, `krb.json`, `krb.decode` and `krb.show`: try_show.py, in an environment that has the package installed. The rows of tests/pages.rows whose
+type has a row in the table of types are to be told as these expect, which decoders in Python made that share no code with the library; but for those that hold a format that is no DER, which the library leaves octets. `krb.decode` is to have the values of that JSON. `krb.show` is to tell the rows of tests/opened.rows, with their keys in a keytab, and those of kinds without
 a row; `krb.decode` is to have the values of its JSON, with what the keys open, `krb.parts` the parts of it, and `krb.find` to find in them. The last line is `N passed, N failed`."""
 
 import datetime
 import json
-import os
 import re
-import struct
 import sys
 
 import krb
-from counting import counted, expect, outcome
+from counting import ended, expect, outcome
+import der
+import keytabs
 from krb import Refused, Status
+from tables import asked
 
 # How a line of a PAC begins, one of the checksum of RFC 4121 (4.1.1), and one of the message behind its length that a KDC-PROXY-MESSAGE holds.
 FORMATS = re.compile(r" *(ulType: |Lgth: |kerb-message:$)")
@@ -26,42 +26,34 @@ KERBEROS = bytes.fromhex("2a864886f712010202")  # 1.2.840.113554.1.2.2 (RFC 1964
 HEADINGS = {"DHSubjectPublicKeyInfo": "SubjectPublicKeyInfo", "DHAuthPack": "AuthPack", "ECAuthPack": "AuthPack"}
 
 
-def asked(top, name):
-    """The rows of TOP/tests/NAME.rows, with the lines that are expected of each."""
-    sys.path.insert(0, os.path.join(top, "tests"))
-    from rows import rows_of
-
-    return rows_of(os.path.join(top, "tests", name + ".rows"), "tests/%s.rows" % name)
-
-
-def opened_rows(top):
-    """Keys, kind and octets of each row of the table `opened`, with the lines that are expected of it."""
-    for row in asked(top, "opened"):
+def opened_rows():
+    """Keys, kind and octets of each row of `opened`, with the lines that are expected of it."""
+    for row in asked("opened"):
         yield row.columns[1], row.columns[2], bytes.fromhex(row.columns[3]), row.expected
 
 
-def files(top):
-    """Origin, kind and octets of the rows of `pages` that are keytabs and caches."""
-    return [row.columns for row in asked(top, "pages") if row.columns[1] in ("keytab", "ccache")]
+def files():
+    """Kind and octets of each keytab and cache among the rows of `pages`."""
+    for row in asked("pages"):
+        if row.columns[1] in ("keytab", "ccache"):
+            yield row.columns[1], bytes.fromhex(row.columns[2])
 
 
 def keytab_of(keys):
-    """A keytab of these keys (MIT Kerberos, "Keytab file format"), each SUITE:OCTETS:NAME, and what each is called in it."""
-    octets, names = b"\5\2", {}
+    """A keytab of these keys, each SUITE:OCTETS:NAME, and what each is called in it."""
+    entries, names = [], {}
     for key in keys.split("|") if keys != "-" else []:
         suite, digits, name = key.split(":", 2)
-        counted = lambda text: struct.pack(">H", len(text)) + text
-        entry = struct.pack(">H", 1) + counted(b"R") + counted(name.encode()) + struct.pack(">IIBH", 1, 0, 1, int(suite)) + counted(bytes.fromhex(digits))
-        octets += struct.pack(">i", len(entry)) + entry
+        entries.append((b"R", [name.encode()], 1, int(suite), bytes.fromhex(digits)))
         shown = name.replace("\\", "\\\\").replace('"', '\\"')
         names['opened-by: "%s"' % shown] = 'opened-by: "%s@R kvno 1"' % shown
-    return octets if names else b"", names
+    return keytabs.keytab_of(*entries) if entries else b"", names
 
 
-def try_opened(top):
+def try_opened():
     """How many rows there are. Where the opened octets stand in a row of their own, and where a PAC is told, the lines are the program's to compare."""
     count = 0
-    for keys, kind, octets, expected in opened_rows(top):
+    for keys, kind, octets, expected in opened_rows():
         keytab, names = keytab_of(keys)
         kind = None if kind == "message" else kind
         if len(expected) == 1 and not expected[0].endswith(":"):
@@ -149,10 +141,10 @@ def try_decoded(octets, kind, keytab):
     return try_found(octets, kind, keytab, tree)
 
 
-def try_trees(top):
+def try_trees():
     """The rows of `opened` as trees, by keytabs and by keys. How many rows, and parts in them."""
     rows = parts = 0
-    for keys, kind, octets, expected in opened_rows(top):
+    for keys, kind, octets, expected in opened_rows():
         if len(expected) == 1 and not expected[0].endswith(":"):
             continue
         kind, keytab = None if kind == "message" else kind, keytab_of(keys)[0]
@@ -169,16 +161,16 @@ def try_trees(top):
     return rows, parts
 
 
-def try_tokens(top):
+def try_tokens():
     """AP-REQs of `opened` as tokens of Kerberos (RFC 4121, 4.1), with what their keys open as trees, by keytabs and by keys. How many there are."""
     count = 0
-    for keys, kind, octets, expected in opened_rows(top):
+    for keys, kind, octets, expected in opened_rows():
         if kind != "message" or octets[:1] != b"\x6e" or len(expected) < 2:
             continue
         keytab, token = keytab_of(keys)[0], krb.spnego.make_token(KERBEROS, b"\1\0" + octets)
         (told,) = json.loads(krb.show(token, "token", keytab, True, True)).values()
         expect(is_decoded(krb.decode(token, "token", keytab, show_keys=True), told), "an opened token is decoded otherwise")
-        given = [(int(key.split(":")[0]), bytes.fromhex(key.split(":")[1])) for key in keys.split(" ")] if keys != "-" else []
+        given = [(int(key.split(":")[0]), bytes.fromhex(key.split(":")[1])) for key in keys.split("|")] if keys != "-" else []
         if all(etype in range(16, 21) for etype, _ in given):
             tree = krb.decode(token, "token", keys=given)
             opened = [name for name in openers(tree) if name.startswith("keys[")]
@@ -195,11 +187,10 @@ def openers(tree):
     return [name for one in tree for name in openers(one)] if isinstance(tree, list) else []
 
 
-def try_kinds(top):
-    """Octets of kinds that have no row: files, as rows of `pages` tell them. How many there are."""
+def try_kinds():
+    """Octets of kinds that have no row: files, as the table `files` tells them. How many there are."""
     count = 0
-    for _, kind, digits in files(top):
-        octets = bytes.fromhex(digits)
+    for kind, octets in files():
         shown = outcome(krb.show, octets, kind, b"", False, True)
         if not isinstance(shown, Status):
             expect(shown.startswith(kind) and shown.isascii() and "keyvalue: hidden" not in shown, "%s is told otherwise" % kind)
@@ -213,10 +204,11 @@ def try_kinds(top):
     return count
 
 
-def rows(top):
-    """Origin, type and octets of each row of the table `pages` that is no file, with the lines that are expected of it."""
-    for row in asked(top, "pages"):
+def rows():
+    """Origin, type and octets of each row of `pages`, but for files, with the lines that are expected of it."""
+    for row in asked("pages"):
         origin, name, octets = row.columns
+        name = name if name.startswith("token") else name.partition(": ")[0]
         if name not in ("keytab", "ccache"):
             yield origin, name, bytes.fromhex(octets), row.expected
 
@@ -277,12 +269,11 @@ def try_items(octets, kind, keytab):
         expect(all(item.names == () or item.form != krb.PageForm.NUMBER or item.names == (krb.name_of(item.registry, item.number),) for item in items), "%s has another name" % kind)
 
 
-def try_places(top):
+def try_places():
     """`krb.show` with places, of all rows and files: what it tells without, and within the octets; `krb.page_items` the same. How many places of what is no DER."""
     count = 0
-    others = [(kind, bytes.fromhex(digits)) for _, kind, digits in files(top)]
-    for name, octets in [(name, octets) for _, name, octets, _ in rows(top)] + others:
-        kind = "token" if name.startswith("token") else {"told": None}.get(name, name)
+    for name, octets in [(name, octets) for _, name, octets, _ in rows()] + list(files()):
+        kind = "token" if name.startswith("token") else None if name == "told" else name
         for each in (kind, APPLICATIONS.get(octets[0]) if octets else None):
             shown = outcome(krb.show, octets, each, b"", False, True)
             if not isinstance(shown, Status):
@@ -371,8 +362,7 @@ def agrees(value, told):
 
 def try_row(name, octets, expected):
     """Whether the type has a row."""
-    name, _, peculiar = name.partition(": ")
-    if peculiar == "no message" or name in ("tree", "told", "password-frame", "NEGOEX", "token") or any(map(FORMATS.match, expected)):
+    if name in ("tree", "told", "password-frame", "NEGOEX") or name.startswith("token: ") or any(map(FORMATS.match, expected)):
         return False
     try:
         krb.items(octets, name)
@@ -382,7 +372,7 @@ def try_row(name, octets, expected):
     if name is None or outcome(krb.items, octets, name) == Status.NUMBER:
         return False
     if not expected[-1].startswith("{"):
-        wanted = {"INVALID": Status.INVALID, "TRUNCATED": Status.TRUNCATED, "UNSUPPORTED": Status.UNSUPPORTED}[expected[0]]
+        wanted = Status[expected[0]]
         expect(outcome(krb.text, octets, name) == wanted and outcome(krb.json, octets, name) == wanted, "%s is not refused so" % name)
         return True
     text, told = krb.text(octets, name, show_secrets=True), krb.json(octets, name, show_secrets=True)
@@ -415,26 +405,16 @@ def try_key():
 HOSTILE = [b"\n", b"\r", b"\x1b[2J", b"\xc2\x9b31m", "\u202ereversed".encode(), b"\0", b"a: b", b'"', b"\\", b"\x7f", b"\xff\xfe", b"hidden"]
 
 
-def element(tag, content):
-    """An element (X.690, 8.1.3)."""
-    size = len(content)
-    if size < 128:
-        return bytes([tag, size]) + content
-    digits = size.to_bytes((size.bit_length() + 7) // 8, "big")
-    return bytes([tag, 128 + len(digits)]) + digits + content
-
-
 def try_found_keys():
     """Of the keys in an encrypted part a thousand are tried on what follows, and how many are left out is said (krb.h, krb_show_page)."""
-    wrap = lambda number, inner: element(0xA0 + number, inner)
-    key, number = bytes(range(16)), element(2, b"\x11")
+    key, number = bytes(range(16)), der.integer(17)
     for count in (1000, 1001, 1100):
-        info = element(48, wrap(0, element(48, wrap(0, number) + wrap(1, element(4, bytes(16))))))
-        part = element(0x7D, element(48, wrap(0, element(48, info * count))))
+        info = der.sequence((0, der.sequence((0, number), (1, [4, bytes(16)]))))
+        part = der.element(0x7D, der.sequence((0, [48, [info] * count])))
         part_octets = part
         cipher = krb.messages.seal(krb.messages.Part.CRED_PART, 17, key, 14, part)
-        encrypted = element(48, wrap(0, number) + wrap(2, element(4, cipher)))
-        message = element(0x76, element(48, wrap(0, element(2, b"\5")) + wrap(1, element(2, b"\x16")) + wrap(2, element(48, b"")) + wrap(3, encrypted)))
+        encrypted = der.sequence((0, number), (2, [4, cipher]))
+        message = der.element(0x76, der.sequence((0, der.integer(5)), (1, der.integer(22)), (2, [48, []]), (3, encrypted)))
         shown = krb.show(message, keytab=keytab_of("17:%s:service" % key.hex())[0])
         left = "keys-not-tried: %d" % (count - 1000)
         expect("ticket-info[%d]:" % count in shown and (left in shown) == (count > 1000) and ("keys-not-tried" in shown) == (count > 1000), "%d keys are found" % count)
@@ -448,17 +428,17 @@ def try_found_keys():
 
 def rows_holding(text):
     """Types, and octets of each that hold this in leaves of all kinds that take it."""
-    wrap = lambda number, inner: element(0xA0 + number, inner)
-    number, octets, string = element(2, b"\x11"), element(4, text), element(27, text)
-    return [
-        ("PrincipalName", element(48, wrap(0, element(2, b"\1")) + wrap(1, element(48, string + string)))),
-        ("EncryptionKey", element(48, wrap(0, number) + wrap(1, octets))),
-        ("EncryptedData", element(48, wrap(0, number) + wrap(2, octets))),
-        ("Checksum", element(48, wrap(0, number) + wrap(1, octets))),
-        ("PA-DATA", element(48, wrap(1, number) + wrap(2, octets))),
-        ("HostAddress", element(48, wrap(0, number) + wrap(1, octets))),
-        ("ETYPE-INFO2-ENTRY", element(48, wrap(0, number) + wrap(1, string) + wrap(2, octets))),
+    number, octets = der.integer(17), [4, text]
+    rows = [
+        ("PrincipalName", der.name(1, text, text)),
+        ("EncryptionKey", der.sequence((0, number), (1, octets))),
+        ("EncryptedData", der.sequence((0, number), (2, octets))),
+        ("Checksum", der.sequence((0, number), (1, octets))),
+        ("PA-DATA", der.sequence((1, number), (2, octets))),
+        ("HostAddress", der.sequence((0, number), (1, octets))),
+        ("ETYPE-INFO2-ENTRY", der.sequence((0, number), (1, der.text(text)), (2, octets))),
     ]
+    return [(name, der.written(row)) for name, row in rows]
 
 
 def try_hostile():
@@ -481,26 +461,26 @@ def try_hostile():
 
 
 def main():
-    count = sum(try_row(name, octets, expected) for _, name, octets, expected in rows(sys.argv[1]))
+    count = sum(try_row(name, octets, expected) for _, name, octets, expected in rows())
     expect(count > 200, "only %d rows were tried" % count)
     print("shown: %d rows" % count)
     try_key()
     hostile = try_hostile()
     expect(hostile > 60, "only %d hostile texts were shown" % hostile)
     try_found_keys()
-    opened, kinds = try_opened(sys.argv[1]), try_kinds(sys.argv[1])
+    opened, kinds = try_opened(), try_kinds()
     expect(opened > 150 and kinds > 10, "only %d opened rows and %d files were tried" % (opened, kinds))
     print("opened: %d rows; files: %d" % (opened, kinds))
-    places = try_places(sys.argv[1])
+    places = try_places()
     expect(places > 1500, "only %d places of what is no DER were told" % places)
     print("places: %d of what is no DER" % places)
-    tokens = try_tokens(sys.argv[1])
+    tokens = try_tokens()
     expect(tokens > 5, "only %d opened tokens were tried" % tokens)
     print("opened tokens: %d" % tokens)
-    trees, parts = try_trees(sys.argv[1])
+    trees, parts = try_trees()
     expect(trees > 100 and parts > 80, "only %d trees with %d parts were tried" % (trees, parts))
     print("trees: %d rows with %d parts" % (trees, parts))
-    return counted()
+    return ended()
 
 
 if __name__ == "__main__":

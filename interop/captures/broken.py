@@ -10,8 +10,9 @@ import time
 import dpkt
 
 from checks import expect, say
-from compare import HEAD, PYTHON
+from compare import HEAD
 from others import BASIC
+from script import PYTHON
 
 SEED = 20
 CLIENT, SERVER = bytes([10, 0, 0, 1]), bytes([10, 0, 0, 2])

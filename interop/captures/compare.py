@@ -17,8 +17,8 @@ import subprocess
 import sys
 
 from checks import expect, say
+from script import PYTHON
 
-PYTHON = "/usr/bin/python3"
 # Fields of tshark, and the names of the lines of `--show` that have the same.
 FIELDS = {
     "kerberos.msg_type": ["msg-type"],

@@ -1,8 +1,6 @@
 """Other programs that speak Kerberos: curl and a web page, Heimdal's clients, Samba's domain (whose KDC is Heimdal's) with its LDAP and SMB."""
 
 import glob
-import importlib.machinery
-import importlib.util
 import os
 import re
 import subprocess
@@ -11,17 +9,11 @@ import time
 from checks import say
 from recorded import Recording
 from realm import PASSWORD, REALM
+from script import HEIMDAL, TOP, module_of
 
-TOP = os.path.dirname(os.path.dirname(os.path.dirname(os.path.abspath(__file__))))
 SERVE = os.path.join(TOP, "examples", "http_negotiate", "serve.py")
 BASIC = "a secret word"  # a password that goes by in Basic, and is nobody's business
 SAMBA_PASSWORD, NEW_PASSWORD = "A-pass-1word", "A-new-4word-here"  # the first is that of interop/samba
-HEIMDAL = (
-    "heimdal-clients libasn1-8-heimdal libgssapi3-heimdal libhcrypto5-heimdal libhdb9-heimdal libheimbase1-heimdal libheimntlm0-heimdal "
-    "libhx509-5-heimdal libkadm5clnt7-heimdal libkadm5srv8-heimdal libkafs0-heimdal libkrb5-26-heimdal libotp0-heimdal "
-    "libroken19-heimdal libsl0-heimdal libwind0-heimdal"
-).split()
-
 
 def web_page(realm, environment, path):
     """A login by curl at a page of Python, with a ticket of before, and one without a ticket."""
@@ -73,13 +65,6 @@ class Heimdal:
         return done
 
 
-def module_of(name):
-    loader = importlib.machinery.SourceFileLoader(name.replace("/", "_"), os.path.join(TOP, "interop", name))
-    module = importlib.util.module_from_spec(importlib.util.spec_from_loader(loader.name, loader))
-    loader.exec_module(module)
-    return module
-
-
 class Samba:
     """A domain of Samba's, as interop/samba makes it, at the ports 88, 464, 389 and 445 of 127.0.0.1."""
 
@@ -104,7 +89,7 @@ class Samba:
         domain.tool("spn", "add", "cifs/dc1.ad.example", "dc1$")
         domain.tool("domain", "passwordsettings", "set", "--min-pwd-age=0")
         self.keytab = domain.export("all.keytab")
-        domain.start()
+        domain.start_samba()
 
     def conversation(self, path):
         """A ticket, a password, LDAP by GSSAPI and GSS-SPNEGO, and SMB; the names of what went well."""

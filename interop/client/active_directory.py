@@ -1,7 +1,5 @@
 """The KDC of a domain of Active Directory, by Samba, where its packages are: the same first and further tickets, and names that it gives otherwise (RFC 6806)."""
 
-import importlib.machinery
-import importlib.util
 import os
 import shutil
 import time
@@ -9,8 +7,8 @@ import time
 import krb
 from checks import expect, say
 from exchanges import listed, refusal
+from script import module_of
 
-SCRIPT = os.path.join(os.path.dirname(os.path.dirname(os.path.abspath(__file__))), "samba")
 COMMANDS = "samba", "samba-tool", "ldbsearch"
 REALM, ALICE, SERVICE = "AD.EXAMPLE", "alice@AD.EXAMPLE", "HTTP/web.ad.example"
 SUITES = {17: "aes128-cts-hmac-sha1-96", 18: "aes256-cts-hmac-sha1-96"}  # those of RFC 8009 are not in this domain
@@ -20,9 +18,7 @@ ENTERPRISE = 10  # NT-ENTERPRISE (RFC 6806, 5)
 
 def domain_of(realm):
     """A domain as interop/samba makes it, with its KDC, alice and a service."""
-    loader = importlib.machinery.SourceFileLoader("samba_domain", SCRIPT)
-    samba = importlib.util.module_from_spec(importlib.util.spec_from_loader(loader.name, loader))
-    loader.exec_module(samba)
+    samba = module_of("samba")
     os.mkdir(realm.path("samba"))
     domain = samba.Domain(realm.path("samba"))
     domain.make()
@@ -94,7 +90,7 @@ def try_samba(realm):
         say("left out: Samba, which needs root and its packages")
         return
     domain, password = domain_of(realm)
-    domain.start()
+    domain.start_samba()
     try:
         tcp, udp = "tcp/127.0.0.1:%d" % domain.port, "udp/127.0.0.1:%d" % domain.port
         try_tickets(realm, domain, password, (tcp, udp))

@@ -10,8 +10,8 @@ import tempfile
 
 from checks import expect, say
 from realm import free_port
+from script import TOP
 
-TOP = os.path.dirname(os.path.dirname(os.path.dirname(os.path.abspath(__file__))))
 PACKAGES = "apache2-bin", "libapache2-mod-auth-gssapi"
 PAGE = "Hello from Apache.\n"
 MODULES = "mpm_event", "authn_core", "authz_core", "authz_user", "mime", "auth_gssapi"

@@ -3,11 +3,12 @@
 Of each change it is known whether a ticket may be granted (`wanted`), and of a refusal the names of the rules of docs/CLIENT.md of which one is to be named. What a change
 under the reply's key needs is opened and sealed by interop/acceptor/sealing.py, which has nothing of the library."""
 
-import calendar
 import time
 from typing import NamedTuple
 
-from sealing import KEY_SIZES, decrypt, element, encrypt, field, integer, keys_of, name, number_of, put, split, text, tree, written
+from der import element, elements, field, integer, name, number_of, put, seconds_of, sequence, stamp, text, tree, walk, written
+from keytabs import keys_of
+from sealing import KEY_SIZES, decrypt, encrypt
 
 AS_REP, TGS_REP = 0x6B, 0x6D
 AS_USAGE, TGS_USAGE, SESSION_USAGE = 3, 9, 8
@@ -21,14 +22,6 @@ class Changed(NamedTuple):
     octets: bytes
     wanted: bool
     rules: frozenset
-
-
-def stamp(seconds):
-    return [0x18, time.strftime("%Y%m%d%H%M%SZ", time.gmtime(seconds)).encode()]
-
-
-def seconds_of(node):
-    return calendar.timegm(time.strptime(node[1].decode(), "%Y%m%d%H%M%SZ"))
 
 
 class Keys:
@@ -136,15 +129,12 @@ def flipped(octets, at, bit):
     return octets[:at] + bytes([octets[at] ^ 1 << bit]) + octets[at + 1 :]
 
 
-def heads(octets, at=0):
+def heads(octets, at=0, end=None):
     """The places of tags and lengths of elements, but for what stands in a cipher or in padata."""
-    while octets:
-        _, content, behind = split(octets)
-        size = len(octets) - len(behind)
-        yield from range(at, at + size - len(content))
-        if octets[0] & 32 and octets[0] != 0xA2:
-            yield from heads(content, at + size - len(content))
-        at, octets = at + size, behind
+    for place, tag, start, after in elements(octets, at, end):
+        yield from range(place, start)
+        if tag & 32 and tag != 0xA2:
+            yield from heads(octets, start, after)
 
 
 # In the clear.
@@ -403,7 +393,7 @@ def addresses(chance, reply):
     if chance.random() < 0.25:
         put(reply.part, 11, [0x30, []])
         return granted("an empty list of addresses", reply.closed())
-    host = [0x30, [[0xA0, [integer(chance.choice([2, 24, 20]))]], [0xA1, [[4, chance.randbytes(4)]]]]]
+    host = sequence((0, integer(chance.choice([2, 24, 20]))), (1, [4, chance.randbytes(4)]))
     put(reply.part, 11, [0x30, [host] * chance.choice([1, 2])])
     return refused("addresses", reply.closed(), "ADDRESSES")
 
@@ -411,21 +401,14 @@ def addresses(chance, reply):
 # Forms.
 
 
-def elements(octets, at=0):
+def constructed(octets):
     """The place, the size of the head and that of the content of each element with elements."""
-    while octets:
-        _, content, behind = split(octets)
-        size = len(octets) - len(behind)
-        head = size - len(content)
-        if octets[0] & 32:
-            yield at, head, len(content)
-            yield from elements(content, at + head)
-        at, octets = at + size, behind
+    return [(at, start - at, end - start) for at, tag, start, end in walk(octets) if tag & 32]
 
 
 def outer(octets, at, made):
     """Octets with another encoding in the place of the element there, and the lengths around it right."""
-    found = [each for each in elements(octets) if each[0] <= at < each[0] + each[1] + each[2]]
+    found = [each for each in constructed(octets) if each[0] <= at < each[0] + each[1] + each[2]]
     inner_at, head, size = next(each for each in found if each[0] == at)
     octets = octets[:at] + made + octets[at + head + size :]
     grown = len(made) - head - size
@@ -438,7 +421,7 @@ def outer(octets, at, made):
 
 def other_form(chance, octets):
     """The same values in BER that is no DER."""
-    at, head, size = chance.choice(list(elements(octets)))
+    at, head, size = chance.choice(constructed(octets))
     tag, content = octets[at : at + 1], octets[at + head : at + head + size]
     if chance.random() < 0.5:
         return "an indefinite length at %d" % at, outer(octets, at, tag + b"\x80" + content + b"\0\0")
@@ -485,9 +468,8 @@ def missing(chance, reply):
 
 
 def error(code):
-    fields = [[0xA0, [integer(5)]], [0xA1, [integer(30)]], [0xA4, [stamp(time.time())]], [0xA5, [integer(0)]], [0xA6, [integer(code)]]]
-    fields += [[0xA9, [text("HOME.TEST")]], [0xAA, [name(2, "krbtgt", "HOME.TEST")]]]
-    return written([0x7E, [[0x30, fields]]])
+    fields = [(0, integer(5)), (1, integer(30)), (4, stamp(time.time())), (5, integer(0)), (6, integer(code))]
+    return written([0x7E, [sequence(*fields, (9, text("HOME.TEST")), (10, name(2, "krbtgt", "HOME.TEST")))]])
 
 
 KEPT = {}

@@ -2,7 +2,6 @@
 
 import glob
 import os
-import subprocess
 import time
 
 import krb
@@ -12,13 +11,10 @@ from krb._exchange import Exchange, Follows, Limits, Wanted
 from krb._kdc import Kdcs
 from krb._names import parsed, ticket_granting
 from realm import PASSWORD, SUITES, free_port
+from script import HEIMDAL, unpacked as packages_unpacked
 
 REALM = "HEIM.TEST"
-PACKAGES = (
-    "heimdal-kdc heimdal-clients libasn1-8-heimdal libgssapi3-heimdal libhcrypto5-heimdal libhdb9-heimdal libheimbase1-heimdal libheimntlm0-heimdal "
-    "libhx509-5-heimdal libkadm5clnt7-heimdal libkadm5srv8-heimdal libkafs0-heimdal libkdc2-heimdal libkrb5-26-heimdal libotp0-heimdal libroken19-heimdal "
-    "libsl0-heimdal libwind0-heimdal"
-).split()
+PACKAGES = ["heimdal-kdc", "libkdc2-heimdal", *HEIMDAL]
 CONFIG = """[libdefaults]
  default_realm = {realm}
  dns_lookup_kdc = false
@@ -47,11 +43,7 @@ RULE = krb.ClientRule
 def unpacked(realm):
     """The folder of the packages; None where they cannot be had."""
     root = realm.path("heimdal-packages")
-    os.mkdir(root)
-    done = subprocess.run(["apt-get", "download", "-qq", *PACKAGES], cwd=root, capture_output=True, timeout=300)
-    for package in glob.glob(os.path.join(root, "*.deb")):
-        subprocess.run(["dpkg", "-x", package, root], check=True)
-    return root if done.returncode == 0 and os.path.exists(os.path.join(root, "usr", "lib", "heimdal-servers", "kdc")) else None
+    return root if packages_unpacked(PACKAGES, root) and os.path.exists(os.path.join(root, "usr", "lib", "heimdal-servers", "kdc")) else None
 
 
 class Heimdal:

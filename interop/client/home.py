@@ -5,24 +5,8 @@ import subprocess
 from realm import PASSWORD, REALM, SUITES, Realm, free_port
 
 OTHER = "OTHER.TEST"
-CONFIG = """[libdefaults]
- default_realm = {realm}
- dns_lookup_kdc = false
- dns_lookup_realm = false
- dns_canonicalize_hostname = false
- rdns = false
- udp_preference_limit = 1
-[realms]
- {realm} = {{
-  kdc = 127.0.0.1:{port}
- }}
- {other} = {{
-  kdc = 127.0.0.1:{port}
- }}
-[domain_realm]
- localhost = {realm}
- www.other.test = {other}
-"""
+OWN = " udp_preference_limit = 1\n"
+BEHIND = " %s = {{\n  kdc = 127.0.0.1:{0}\n }}\n[domain_realm]\n localhost = %s\n www.other.test = %s\n" % (OTHER, REALM, OTHER)
 # Users without a ticket, by what the KDC is told of them, and the error that it reports (RFC 4120, 7.5.9).
 REFUSED = {"late": ("-expire \"2020-01-01 00:00:00\"", 1), "locked": ("-allow_tix", 18), "stale": ("-pwexpire \"2020-01-01 00:00:00\"", 23)}
 
@@ -34,14 +18,10 @@ class Home(Realm):
     def __init__(self, home):
         super().__init__(home)
         self.users, self.granting, self.wrong, self.other_keytab = map(self.path, ("users", "granting", "wrong", "other-keytab"))
-        self.write("krb5.conf", CONFIG.format(realm=REALM, other=OTHER, port=self.port))
-        suites = " ".join(name + ":normal" for name in reversed(SUITES.values()))
-        lines = "  database_name = {0}/{1}\n  key_stash_file = {0}/stash-{1}\n  acl_file = {0}/acl\n  supported_enctypes = {2}\n  max_renewable_life = 2d\n"
-        self.password_port, admin = free_port(), "  kadmind_listen = 127.0.0.1:%d\n  kpasswd_listen = 127.0.0.1:%d\n"
-        more = {REALM: admin % (free_port(), self.password_port), OTHER: ""}
-        realms = "".join(" %s = {\n%s%s }\n" % (realm, lines.format(home, realm, suites), more[realm]) for realm in (REALM, OTHER))
-        listen = "[kdcdefaults]\n kdc_listen = 127.0.0.1:{0}\n kdc_tcp_listen = 127.0.0.1:{0}\n".format(self.port)
-        self.write("kdc.conf", listen + "[realms]\n" + realms)
+        self.client_config(self.port, "krb5.conf")
+        self.password_port, lines = free_port(), "  max_renewable_life = 2d\n"
+        admin = "  kadmind_listen = 127.0.0.1:%d\n  kpasswd_listen = 127.0.0.1:%d\n" % (free_port(), self.password_port)
+        self.write_kdc(lines + admin, [(OTHER, lines)])
         self.kdc = "tcp/127.0.0.1:%d" % self.port
 
     def begin(self):
@@ -54,13 +34,10 @@ class Home(Realm):
         self.of(OTHER, 'addprinc -pw "the key of both" krbtgt/%s@%s' % (OTHER, REALM), 'addprinc -pw "the key of both" krbtgt/%s@%s' % (REALM, OTHER), quiet=True)
         self.of(REALM, 'addprinc -pw "the key of both" krbtgt/%s@%s' % (REALM, OTHER), quiet=True)
         self.of(OTHER, "addprinc -randkey HTTP/www.other.test", "ktadd -norandkey -k %s HTTP/www.other.test" % self.other_keytab)
+        self.add_services()
         for number, suite in SUITES.items():
-            service = "e%d/localhost" % number
-            self.admin("addprinc -randkey -e %s:normal %s" % (suite, service), "setstr %s session_enctypes %s" % (service, suite))
-            self.admin("ktadd -norandkey -k %s %s" % (self.keytab, service))
             for user, more in (("u%d" % number, "+requires_preauth"), ("f%d" % number, "")):
                 self.admin('addprinc -pw "%s" %s -e %s:normal %s' % (PASSWORD, more, suite, user), "ktadd -norandkey -k %s %s" % (self.users, user))
-        self.admin("addprinc -randkey HTTP/localhost", "ktadd -norandkey -k %s HTTP/localhost" % self.keytab)
         self.admin('addprinc -pw "%s" +requires_preauth ann' % PASSWORD, "ktadd -norandkey -k %s ann" % self.users)
         self.admin('addprinc -pw "%s" bob' % PASSWORD, 'addprinc -pw "%s" "%s"' % (PASSWORD, self.quoted_name()))
         self.admin('addprinc -pw "%s" +requires_preauth before' % PASSWORD, "renprinc -force before salted")
@@ -68,7 +45,7 @@ class Home(Realm):
             self.admin('addprinc -pw "%s" +requires_preauth %s %s' % (PASSWORD, words, user))
         self.admin("ktadd -norandkey -k %s krbtgt/%s@%s" % (self.granting, REALM, REALM))
         self.begin_wrong()
-        self.start(["krb5kdc", "-n", "-r", REALM, "-r", OTHER], self.environment, self.port)
+        self.start_kdc("-r", REALM, "-r", OTHER)
         self.admin('addprinc -pw "%s" +requires_preauth changing' % PASSWORD, "addpol -minlength 8 long", "modprinc -policy long changing")
         self.start(["kadmind", "-nofork", "-r", REALM], self.environment, self.password_port)
 
@@ -83,7 +60,7 @@ class Home(Realm):
 
     def client_config(self, port, name="relay.conf"):
         """A krb5.conf of clients that know the KDC at this port alone."""
-        return self.write(name, CONFIG.format(realm=REALM, other=OTHER, port=port))
+        return self.write_client(name, OWN, BEHIND.format(port), port)
 
     def status(self, *command, environment=None, text=""):
         """The status of a command, its output, and its lines of errors."""

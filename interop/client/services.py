@@ -14,9 +14,9 @@ import krb
 from apache import try_apache
 from checks import expect, say
 from realm import PASSWORD, REALM, SUITES
+from script import TOP
 from sides import ACCEPTOR, INITIATOR, MitSide, OurSide, Program, ProgramSide, talk
 
-TOP = os.path.dirname(os.path.dirname(os.path.dirname(os.path.abspath(__file__))))
 BINDINGS = b"tls-server-end-point:" + bytes(range(32))
 USER = "ann@" + REALM
 RULE = krb.ClientRule

@@ -8,8 +8,8 @@ import krb
 from checks import expect, say
 from realm import PASSWORD, REALM, free_port
 from relay import Datagrams, Relay, Saying, Server, framed
+from script import TOP
 
-TOP = os.path.dirname(os.path.dirname(os.path.dirname(os.path.abspath(__file__))))
 HERE = os.path.dirname(os.path.abspath(__file__))
 USER = "u18@" + REALM
 
@@ -221,8 +221,7 @@ class Web(Server):
 
 def try_proxy(realm):
     """examples/kdc_proxy behind TLS, and servers of HTTPS that are of no use."""
-    words = "openssl req -x509 -newkey rsa:2048 -nodes -days 2 -subj /CN=localhost -addext subjectAltName=DNS:localhost,IP:127.0.0.1".split()
-    realm.run(*words, "-keyout", realm.path("key.pem"), "-out", realm.path("cert.pem"))
+    realm.certificate()
     settings = realm.write("kdc_proxy.conf", "[proxy]\n[%s]\nkdc = 127.0.0.1:%d\n" % (REALM, realm.port))
     port = free_port()
     environment = dict(os.environ, KDC_PROXY_CONFIG=settings, PYTHONPATH=os.pathsep.join([os.path.join(TOP, "python"), os.path.join(TOP, "examples", "kdc_proxy")]))

@@ -1,34 +1,20 @@
 """Whether octets are a request that a KDC proxy passes on: read by the ASN.1 of RFC 4120, RFC 3244 and MS-KKDCP, and by the DER of X.690.
 
-It is written for interop/kdc_proxy alone and shares nothing with the library. `ValueError` says what is wrong."""
+It is written for interop/kdc_proxy alone, over ../der.py, and shares nothing with the library. `ValueError` says what is wrong."""
 
 import calendar
 from collections import namedtuple
+
+from der import elements, read
 
 # A request: kdc or kpasswd, the message without its length, target-domain, and the realm that the message names.
 Judged = namedtuple("Judged", "service message target_domain realm")
 LIMIT = 131072  # octets of a request
 
 
-def element(octets, at, end):
-    """The tag of the element at a place, and where its content begins and ends (X.690, 8.1 and 10.1)."""
-    if end - at < 2:
-        raise ValueError("no element")
-    tag, size, start = octets[at], octets[at + 1], at + 2
-    if size >= 128:
-        start += size - 128
-        digits = octets[at + 2 : start]
-        if size == 128 or start > end or digits[0] == 0 or (len(digits) == 1 and digits[0] < 128):
-            raise ValueError("a length in another form")
-        size = int.from_bytes(digits, "big")
-    if size > end - start:
-        raise ValueError("an element that is cut")
-    return tag, start, start + size
-
-
 def inside(octets, at, end, tag):
     """Where the content of the element of this tag begins and ends."""
-    found, start, after = element(octets, at, end)
+    found, start, after = read(octets, at, end)
     if found != tag:
         raise ValueError("the tag %02x, and not %02x" % (found, tag))
     return start, after
@@ -177,11 +163,11 @@ def content_at(octets, *path):
     """The content of the element that these tags lead to."""
     start, end = 0, len(octets)
     for tag in path:
-        while True:
-            found, inner, after = element(octets, start, end)
+        for _, found, inner, after in elements(octets, start, end):
             if found == tag:
                 break
-            start = after
+        else:
+            raise ValueError("no element of the tag %02x" % tag)
         start, end = inner, after
     return octets[start:end]
 

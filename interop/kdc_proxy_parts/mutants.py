@@ -3,51 +3,12 @@
 from collections import namedtuple
 
 import judge
+from der import element, field, nodes, put, text, tree, walk, written
 
 REFUSED, UNCHANGED = "refused", "goes on unchanged"
 # What kind of change it is, what is certain to become of it (None where that is for the judge to say), and the octets.
 Mutant = namedtuple("Mutant", "kind certain octets")
 AS_REQ, TGS_REQ = 0x6A, 0x6C
-
-
-# DER, written.
-
-
-def length_of(size, more=0):
-    """A length (X.690, 8.1.3), with so many octets more than are needed."""
-    if size < 128 and not more:
-        return bytes([size])
-    digits = size.to_bytes(max((size.bit_length() + 7) // 8, 1) + more - (size < 128), "big")
-    return bytes([128 + len(digits)]) + digits
-
-
-def element(tag, content, more=0):
-    return bytes([tag]) + length_of(len(content), more) + content
-
-
-def tree(octets):
-    """The elements that octets are, each a tag and its content, which is such a list where the element is constructed."""
-    found, at = [], 0
-    while at < len(octets):
-        tag, start, at = judge.element(octets, at, len(octets))
-        found.append([tag, tree(octets[start:at]) if tag & 0x20 else octets[start:at]])
-    return found
-
-
-def nodes(elements):
-    for each in elements:
-        yield each
-        if isinstance(each[1], list):
-            yield from nodes(each[1])
-
-
-def written(elements, longer=None, more=1):
-    """The octets of elements; the length of the one that is `longer` has needless octets."""
-    parts = []
-    for each in elements:
-        content = written(each[1], longer, more) if isinstance(each[1], list) else each[1]
-        parts.append(element(each[0], content, more if each is longer else 0))
-    return b"".join(parts)
 
 
 def framed(message):
@@ -62,18 +23,6 @@ def body(kerb_message, domain):
 def password_frame(ap_req, priv, version=1):
     """RFC 3244, 2."""
     return b"".join(each.to_bytes(2, "big") for each in (6 + len(ap_req) + len(priv), version, len(ap_req))) + ap_req + priv
-
-
-def places(octets, tag, within=0):
-    """Where the contents of the elements of this tag are in octets that are elements, by place and end."""
-    at = 0
-    while at < len(octets):
-        found, start, after = judge.element(octets, at, len(octets))
-        if found & 0x20:
-            yield from places(octets[start:after], tag, within + start)
-        elif found == tag:
-            yield within + start, within + after
-        at = after
 
 
 class Request:
@@ -108,7 +57,7 @@ def bit(chance, request, replies):
 def bit_of_a_cipher(chance, request, replies):
     """A bit of a large OCTET STRING: a cipher, or the value of pre-authentication, which holds one."""
     part = chance.randrange(len(request.parts))
-    found = [place for place in places(request.parts[part], 0x04) if place[1] - place[0] >= 16]
+    found = [(start, end) for _, tag, start, end in walk(request.parts[part]) if tag == 0x04 and end - start >= 16]
     if not found:
         return bit_of_a_nonce(chance, request, replies)
     return flipped(request.octets, request.place(part) + chance.randrange(*chance.choice(found)), chance.randrange(8))
@@ -171,10 +120,9 @@ def another_realm(chance, request, replies):
     """A message for one realm with another target-domain, or the other way round, or with none."""
     message, domain = request.message, request.domain
     if request.judged.service == "kdc" and chance.randrange(2):
-        elements = tree(message)
-        (realm,) = [each for each in elements[0][1][0][1][-1][1][0][1] if each[0] == 0xA2]
-        realm[1][0][1] = chance.choice((b"OTHER.TEST", b"PROXY.TESU", b"PROXY.TEST.", b""))
-        return body(framed(written(elements)), domain)
+        whole = tree(message)
+        put(field(whole[1][0], 4), 2, text(chance.choice((b"OTHER.TEST", b"PROXY.TESU", b"PROXY.TEST.", b""))))
+        return body(framed(written(whole)), domain)
     return body(framed(message), chance.choice((b"OTHER.TEST", domain[:-1], domain + b".", domain + b"\0", b"", None)))
 
 
@@ -206,16 +154,19 @@ def garbage(chance, request, replies):
     )
 
 
+def longer(chance, octets, more):
+    whole = tree(octets)
+    return written(whole, chance.choice(list(nodes([whole]))), more)
+
+
 def longer_length(chance, request, replies):
     """One length with needless octets, within the message or around it."""
     more = chance.choice((1, 1, 1, 2, 3))
     if chance.randrange(4) == 0:
-        elements = tree(request.octets)
-        return written(elements, chance.choice(list(nodes(elements))), more)
+        return longer(chance, request.octets, more)
     parts = list(request.parts)
     part = chance.randrange(len(parts))
-    elements = tree(parts[part])
-    parts[part] = written(elements, chance.choice(list(nodes(elements))), more)
+    parts[part] = longer(chance, parts[part], more)
     return request.with_parts(parts)
 
 

@@ -15,7 +15,7 @@ import zlib
 from checks import expect, say
 from realm import free_port
 from sides import INITIATOR, MitSide
-from web import PAGE, Site, value
+from web import PAGE, Site, try_curl, value
 
 WAIT = 90  # seconds for a browser
 
@@ -256,21 +256,10 @@ def try_legs(site, title, names, words, wanted, keeps=True):
     expect(side.is_complete() == (wanted[-1] == 200), "%s: the client is complete: %s" % (title, side.is_complete()))
 
 
-def try_curl(site, title):
-    got = site.curl("--negotiate", "-u", ":")
-    expect(got == (200, PAGE), "%s: curl with a ticket: %s" % (title, got))
-    bob = site.realm.path("bob")
-    expect(site.curl("--negotiate", "-u", ":", cache=bob) == (200, PAGE.replace("ann", "bob")), "%s: curl of another user" % title)
-    expect(site.curl("--negotiate", "-u", ":", cache=site.realm.path("no-cache"))[0] == 401, "%s: curl without a ticket" % title)
-    expect(site.curl()[0] == 401, "%s: curl without --negotiate" % title)
-
-
 def try_browsers(realm, environment, folder, programs):
     """`programs` are those of the browsers that are there."""
-    words = "openssl req -x509 -newkey rsa:2048 -sha256 -nodes -days 2 -subj /CN=localhost -addext subjectAltName=DNS:localhost".split()
-    realm.run(*words, "-keyout", realm.path("key.pem"), "-out", realm.path("cert.pem"))
     realm.kinit("bob", cache=realm.path("bob"))
-    site, asking, tls = Site(realm, environment), Site(realm, environment, words=["--ask"]), Site(realm, environment, realm.path("cert.pem"))
+    site, asking, tls = Site(realm, environment), Site(realm, environment, words=["--ask"]), Site(realm, environment, realm.certificate())
     try_curl(site, "the page")
     try_curl(asking, "the page that asks for MICs")
     for names, flags, wanted in ((("krb5",), ("mutual",), [200]), (("krb5",), (), [200]), (("ntlm", "krb5"), ("mutual",), [401, 401, 200])):

@@ -6,6 +6,7 @@ import subprocess
 import gssapi
 import gssapi.raw
 import krb
+from clients import hexed
 
 INITIATOR, ACCEPTOR = krb.NegotiationRole
 FLAGS = {"mutual": 2, "replay": 4, "sequence": 8, "integ": 32, "dce": 0x1000}
@@ -39,10 +40,6 @@ def bits(words):
 def named(mechanisms):
     """Mechanisms as words."""
     return " ".join(BY_CONTENT.get(each, each.hex()) for each in mechanisms)
-
-
-def hexed(octets):
-    return octets.hex() or "-"
 
 
 # Mechanisms that a Negotiator is lent.

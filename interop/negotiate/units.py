@@ -12,10 +12,10 @@ import threading
 HERE = os.path.dirname(os.path.abspath(__file__))
 if __name__ == "__main__":
     sys.dont_write_bytecode = True
-    sys.path[:0] = [HERE, os.path.join(os.path.dirname(HERE), "acceptor"), os.path.join(os.path.dirname(os.path.dirname(HERE)), "python")]
+    sys.path[:0] = [HERE, os.path.dirname(HERE), os.path.join(os.path.dirname(os.path.dirname(HERE)), "python")]
 
 import krb  # noqa: E402
-from checks import COUNTS, expect  # noqa: E402
+from checks import ended, expect  # noqa: E402
 from krb import spnego  # noqa: E402
 from toys import BARE, FIRST, SECOND, THIRD, Toy  # noqa: E402
 
@@ -451,5 +451,4 @@ def try_units():
 
 if __name__ == "__main__":
     try_units()
-    print("%d passed, %d failed" % (COUNTS["passed"], COUNTS["failed"]))
-    sys.exit(1 if COUNTS["failed"] else 0)
+    sys.exit(ended())

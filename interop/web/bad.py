@@ -8,7 +8,7 @@ import threading
 import time
 
 from checks import expect, say
-from tables import error_with
+from given import error_with
 
 HEADERS = {
     "X-Content-Type-Options": "nosniff",

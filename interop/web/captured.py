@@ -10,7 +10,7 @@ import time
 from checks import expect, say
 from pages import names_of, secrets_in
 from site_of import Site
-from tables import MARKUP, error_with, opened, pages
+from given import MARKUP, error_with, opened, pages
 
 CLIENT, SERVER = "10.0.0.1", "10.0.0.2"
 ERROR = error_with(b"HOME.TEST")
@@ -120,15 +120,15 @@ def begin_so(told, fronts, title):
     expect(told["odd"] == [] and all(" " <= letter <= "~" for line in lines for letter in line), "%s: markup or other letters: %s" % (title, told["odd"]))
 
 
-def rows_of(top):
+def rows_of():
     """An AS-REQ of the rows of `pages`, and an AP-REQ and a KRB-PRIV of `opened`, with their keys and what decoders in Python made of them."""
-    request = next(row for row in pages(top) if row[:2] == ("mit", "AS-REQ") and row[3][-1].startswith("{"))
-    find = lambda title: next(row for row in opened(top) if row[0] == title)
+    request = next(row for row in pages() if row[:2] == ("mit", "AS-REQ") and row[3][-1].startswith("{"))
+    find = lambda title: next(row for row in opened() if row[0] == title)
     return request, find("17 AP-REQ, the service's key"), find("17 KRB-PRIV, the subkey second")
 
 
-def try_list(browser, site, top):
-    (_, _, request, expected), (_, keys, _, ap, ap_lines), (_, private_keys, _, private, private_lines) = rows_of(top)
+def try_list(browser, site):
+    (_, _, request, expected), (_, keys, _, ap, ap_lines), (_, private_keys, _, private, private_lines) = rows_of()
     frame = struct.pack(">HHH", 6 + len(ap) + len(private), 1, len(ap)) + ap + private  # of a request for a new password (RFC 3244, 2)
     password = next(line.split()[-1] for line in private_lines if line.strip().startswith("user-data: "))
     frames = [to(request), reply(ERROR), to(b"no message"), to(b"elsewhere", 53), segment(ap), to(frame, 464)]
@@ -330,10 +330,10 @@ def children_of(parent):
     return found
 
 
-def try_captures(browser, site, top, pictures):
+def try_captures(browser, site, pictures):
     from hands import CONTRAST
 
-    whole = try_list(browser, site, top)
+    whole = try_list(browser, site)
     try_broken(browser, site)
     try_keys_alone(browser, site, whole)
     try_looks(browser, whole, pictures, CONTRAST)

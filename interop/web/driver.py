@@ -5,20 +5,15 @@ import http.client
 import json
 import os
 import signal
-import socket
 import subprocess
 import time
+
+from realm import free_port
 
 ELEMENT = "element-6066-11e4-a52e-4f735466cecf"
 WAIT = 60  # seconds for an answer
 KEYS = {"Tab": "\ue004", "Enter": "\ue007", "Shift": "\ue008", "Control": "\ue009", "Home": "\ue011", "End": "\ue010", "Space": " "}
 KEYS.update({"ArrowLeft": "\ue012", "ArrowUp": "\ue013", "ArrowRight": "\ue014", "ArrowDown": "\ue015", "PageDown": "\ue00f"})
-
-
-def free_port():
-    with socket.socket() as probe:
-        probe.bind(("127.0.0.1", 0))
-        return probe.getsockname()[1]
 
 
 class Failed(Exception):

@@ -29,13 +29,13 @@ def key_of(password, salt):
     return hmac.new(first, b"\0\0\0\1kerberos\0" + (256).to_bytes(4, "big"), hashlib.sha384).digest()[:32]
 
 
-def try_salts(top):
+def try_salts():
     """The salts of a password that octets tell: those under which a program in Python made keys of it for the rows of `keys` (crates/test_show)."""
     from krb._pages import page_of
-    from tables import expected_of, table_of
+    from given import passwords
 
-    rows = [row for row in table_of(top, "keys") if row[0] == "password"]
-    lines = [line for line in expected_of(top) if re.fullmatch(r"20 [0-9a-f]+ password, salt .+", line)]
+    rows, lines = passwords()
+    lines = [line for line in lines if re.fullmatch(r"20 [0-9a-f]+ password, salt .+", line)]
     counts = [3, 2, 2, 3, 2, 1, 0, 16]  # how many salts each row has, some twice; the last has more, of which 16 count
     expect(len(rows) == len(counts) and len(lines) == sum(counts), "%d rows of passwords, %d lines" % (len(rows), len(lines)))
     for (_, password, digits), count in zip(rows, counts):

@@ -7,7 +7,8 @@ import threading
 
 from checks import expect, say
 from pages import shown
-from tables import checksums, error_with, keytab_of, opened
+from given import checksums, error_with, opened
+from keytabs import keytab_of_texts
 
 ERROR = error_with(b"HOME.TEST")
 AT = ERROR.index(b"HOME.TEST")
@@ -64,7 +65,7 @@ def settled(browser):
         await new Promise((done) => setTimeout(done, 10)); })()""")
 
 
-def try_keyboard(browser, site, top):
+def try_keyboard(browser, site):
     browser.go(site.address)
     browser.press("Tab")
     expect(browser.run(ACTIVE) == "input", "the first stop is %s" % browser.run(ACTIVE))
@@ -112,7 +113,7 @@ def try_keyboard(browser, site, top):
         tab_to(browser, "KRB-ERROR:")
         tab_to(browser, "octets")
     # A ticket, with its key, by keys alone.
-    title, keys, _, octets, expected = next(row for row in opened(top) if row[0] == "17 AP-REQ, the service's key")
+    title, keys, _, octets, expected = next(row for row in opened() if row[0] == "17 AP-REQ, the service's key")
     secret = next(line.split()[-1] for line in expected if line.strip().startswith("keyvalue: 16"))
     browser.go(site.address)
     tab_to(browser, "input")
@@ -190,7 +191,7 @@ def try_times(browser):
 def try_files(browser, site, folder):
     """Files that are chosen and dropped, and text that is dropped."""
     octets, keytab = os.path.join(folder, "error.der"), os.path.join(folder, "empty.keytab")
-    for path, content in ((octets, ERROR), (keytab, keytab_of(["17:" + "00" * 16 + ":a@R kvno 1"]))):
+    for path, content in ((octets, ERROR), (keytab, keytab_of_texts(["17:" + "00" * 16 + ":a@R kvno 1"]))):
         with open(path, "wb") as file:
             file.write(content)
     browser.go(site.address)
@@ -208,16 +209,16 @@ def try_files(browser, site, folder):
     expect(status == "KRB-ERROR, %d octets, given as the octets themselves" % len(ERROR), "a file that is dropped: %r" % status)
     status = browser.run(drop % "given.setData('text/plain', arguments[0]);", "Authorization: Negotiate " + base64.b64encode(ERROR).decode())
     expect(status == "KRB-ERROR, %d octets, given as a header of HTTP" % len(ERROR), "text that is dropped: %r" % status)
-    keytab = base64.b64encode(keytab_of(["17:" + "00" * 16 + ":a@R kvno 1"])).decode()
+    keytab = base64.b64encode(keytab_of_texts(["17:" + "00" * 16 + ":a@R kvno 1"])).decode()
     browser.run((drop % added).replace("document.body.dispatch", "document.getElementById('keytabs').dispatch"), keytab)
     told = browser.run("return [document.getElementById('keytabs').files.length, document.getElementById('status').textContent]")
     expect(told == [1, status], "a keytab that is dropped on the keys: %s" % told)
     say("files: done")
 
 
-def try_pictures(browser, top, pictures):
+def try_pictures(browser, pictures):
     """Narrow and wide, dark and light: nothing runs over the edge, and all is to be read. The pictures are for people to look at."""
-    title, keys, octets, _ = next(row for row in checksums(top) if row[0] == "made under 18 and 20, both keys")
+    title, keys, octets, _ = next(row for row in checksums() if row[0] == "made under 18 and 20, both keys")
     bad = ERROR[:AT] + b"HO\xffE.TEST" + ERROR[AT + 9 :]
     grounds = {"light": "rgb(255, 255, 255)", "dark": "rgb(21, 24, 28)"}
     for width, height, size in ((1440, 1000, "wide"), (360, 800, "narrow")):
@@ -225,7 +226,7 @@ def try_pictures(browser, top, pictures):
         for scheme in ("light", "dark"):
             browser.tool("Emulation.setEmulatedMedia", features=[{"name": "prefers-color-scheme", "value": scheme}])
             for name, given in (("ticket", octets), ("error", bad)):
-                shown(browser, given, keytabs=[keytab_of([each]) for each in keys])
+                shown(browser, given, keytabs=[keytab_of_texts([each]) for each in keys])
                 browser.run(POSED)
                 what = "%s, %s, %s" % (name, size, scheme)
                 wide, room = browser.run("return [document.documentElement.scrollWidth, document.documentElement.clientWidth]")
@@ -293,10 +294,10 @@ def try_others(browser, site):
     say("other pages: done")
 
 
-def try_hands(browser, site, top, folder, pictures):
-    try_keyboard(browser, site, top)
+def try_hands(browser, site, folder, pictures):
+    try_keyboard(browser, site)
     try_names(browser)
     try_mouse(browser)
     try_times(browser)
     try_files(browser, site, folder)
-    try_pictures(browser, top, pictures)
+    try_pictures(browser, pictures)

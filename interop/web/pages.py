@@ -1,4 +1,4 @@
-"""Octets in the page, as the rows of tests/ have them."""
+"""Octets in the page, as the rows of tests/*.rows have them."""
 
 import base64
 import json
@@ -6,8 +6,10 @@ import re
 import struct
 
 from checks import expect, say
+from der import element, integer, name, sequence, text
 from forms import key_of
-from tables import buffers, checksums, element, error_with, keytab_of, misleading, opened, pages
+from given import buffers, checksums, error_with, misleading, opened, pages
+from keytabs import keytab_of_texts
 
 # Gives the page octets and keys, waits for its answer, opens the tree and tells what stands there.
 SHOW = """
@@ -133,10 +135,10 @@ def try_hidden(title, told, secrets):
         expect(secret not in told["answer"] and not any(secret in each for each in told["copied"] or ()), "%s: a key is in the answer" % title)
 
 
-def try_rows(browser, top):
+def try_rows(browser):
     counts = {"shown": 0, "refused": 0, "secrets": 0, "compared": 0, "without": 0, "more": 0, "other": 0}
     forms = ("hex", "base64", "file", "header")
-    for number, (origin, name, octets, expected) in enumerate(pages(top)):
+    for number, (origin, name, octets, expected) in enumerate(pages()):
         title = "%s %s" % (origin, name)
         form, kind = forms[number % 4], kind_of(name, octets)
         if name == "told" and expected[-1].startswith("{"):
@@ -201,10 +203,10 @@ def names_of(keys):
     return {quoted_as(key.split(":", 2)[2].encode())[1:-1]: "key %d" % (number + 1) for number, key in enumerate(keys)}
 
 
-def try_opened(browser, top):
+def try_opened(browser):
     counts = {"by keys": 0, "by keytabs": 0, "secrets": 0, "compared": 0, "without": 0, "more": 0, "other": 0, "left out": 0}
     sizes = {"16": 24, "17": 16, "18": 32, "19": 16, "20": 32}
-    for number, (title, keys, kind, octets, expected) in enumerate(opened(top)):
+    for number, (title, keys, kind, octets, expected) in enumerate(opened()):
         given = keys.split("|") if keys != "-" else []
         kind = "" if kind == "message" else kind
         whole = all(len(each.split(":")[1]) == 2 * sizes.get(each.split(":")[0], -1) for each in given)
@@ -215,7 +217,7 @@ def try_opened(browser, top):
                 expect("is not ETYPE:HEX" in told["error"], "%s: a key of another size is taken: %r" % (title, told["error"]))
             continue
         names, by_keys = names_of(given), number % 2 == 0
-        words = {"keys": " ".join(":".join(each.split(":")[:2]) for each in given)} if by_keys else {"keytabs": [keytab_of([each]) for each in given]}
+        words = {"keys": " ".join(":".join(each.split(":")[:2]) for each in given)} if by_keys else {"keytabs": [keytab_of_texts([each]) for each in given]}
 
         def renamed(line):
             found = re.fullmatch(r'( *(?:opened-by|[a-z]+-checksum-key): )"(.*)"', line)
@@ -239,13 +241,13 @@ def try_opened(browser, top):
     expect(counts["by keys"] > 40 and counts["by keytabs"] > 40 and counts["compared"] > 300 and counts["secrets"] > 40, "few rows are tried: %s" % counts)
 
 
-def try_checksums(browser, top):
+def try_checksums(browser):
     count = holds = 0
     names = ("ticket-checksum", "ticket-checksum-key")
-    for title, keys, octets, expected in checksums(top):
+    for title, keys, octets, expected in checksums():
         if len(octets) > 100000 or any(not re.fullmatch(r"[^@]+@\S+ kvno \d+", each.split(":", 2)[2]) for each in keys) or len(keys) > 8:
             continue  # names that no keytab gives
-        told = shown(browser, octets, "Ticket" if octets[:1] == b"\x61" else "", keytabs=[keytab_of([each]) for each in keys], show=True)
+        told = shown(browser, octets, "Ticket" if octets[:1] == b"\x61" else "", keytabs=[keytab_of_texts([each]) for each in keys], show=True)
         lines, inside = [], False
         for line in told["lines"]:
             inside = line.strip() == "PAC-checksums:" or (inside and len(line) - len(line.lstrip()) > depth)
@@ -259,10 +261,10 @@ def try_checksums(browser, top):
     expect(count >= 20 and 10 <= holds < count, "few checksums are tried: %d, %d" % (count, holds))
 
 
-def try_buffers(browser, top):
+def try_buffers(browser):
     """What buffers of PACs hold, each in a PAC of its own (MS-PAC, 2.3)."""
     count = 0
-    for title, number, octets, expected in buffers(top):
+    for title, number, octets, expected in buffers():
         if number not in (1, 6, 7, 10, 12, 16, 17, 18, 19) or len(octets) > 60000:
             continue
         pac = struct.pack("<IIIIQ", 1, 0, number, len(octets), 24) + octets
@@ -288,7 +290,7 @@ def try_misleading(browser):
             expect(odd == [], "%s: letters on the page: %r" % (title, odd[:5]))
     names = ["\u202egpj.exe", "<img src=x onerror=misled=1>.keytab", "a\nb\x07", "\u2066x"]
     for name in names:
-        keytab = keytab_of(["17:" + "00" * 16 + ":" + "a\u202e<b>@R kvno 1"])
+        keytab = keytab_of_texts(["17:" + "00" * 16 + ":" + "a\u202e<b>@R kvno 1"])
         browser.run("""const octets = Uint8Array.from(atob(arguments[0]), (each) => each.charCodeAt(0)), given = new DataTransfer();
             given.items.add(new File([octets], arguments[1]));
             document.getElementById("file").files = given.files; document.getElementById("file").dispatchEvent(new Event("change"));
@@ -304,19 +306,14 @@ def try_password(browser):
     """A ticket under the key of a password, which hashlib makes (RFC 8009, 4 and 3), with the default salt and with another one; and an AS-REP that tells it."""
     import krb
 
-    integer = lambda tag, number: element(0xA0 + tag, element(2, number.to_bytes(1, "big")))
-    name = lambda kind, *parts: element(0x30, integer(0, kind) + element(0xA1, element(0x30, b"".join(element(0x1B, each) for each in parts))))
-    text = lambda tag, octets: element(0xA0 + tag, element(0x1B, octets))
-    key = element(0xA1, element(0x30, integer(0, 17) + element(0xA1, element(4, bytes(range(100, 116))))))
-    time = lambda tag: element(0xA0 + tag, element(0x18, b"20300102030405Z"))
-    transited = element(0xA4, element(0x30, integer(0, 1) + element(0xA1, element(4, b""))))
-    fields = element(0xA0, element(3, bytes(5))) + key + text(2, b"HOME.TEST") + element(0xA3, name(1, b"ann")) + transited + time(5) + time(7)
-    part = element(0x63, element(0x30, fields))
+    key, transited = (sequence((0, integer(kind)), (1, [4, octets])) for kind, octets in ((17, bytes(range(100, 116))), (1, b"")))
+    time = [0x18, b"20300102030405Z"]
+    part = element(0x63, sequence((0, [3, bytes(5)]), (1, key), (2, text("HOME.TEST")), (3, name(1, "ann")), (4, transited), (5, time), (7, time)))
 
     def ticket(salt):
         sealed = krb.messages.seal(krb.messages.Part.TICKET_PART, 20, key_of(b"a password", salt), 2, part)
-        encrypted = element(0xA3, element(0x30, integer(0, 20) + integer(1, 1) + element(0xA2, element(4, sealed))))
-        return element(0x61, element(0x30, integer(0, 5) + text(1, b"HOME.TEST") + element(0xA2, name(2, b"HTTP", b"www.home.test")) + encrypted))
+        encrypted = sequence((0, integer(20)), (1, integer(1)), (2, [4, sealed]))
+        return element(0x61, sequence((0, integer(5)), (1, text("HOME.TEST")), (2, name(2, "HTTP", "www.home.test")), (3, encrypted)))
 
     default = ticket(b"HOME.TESTHTTPwww.home.test")
     told = shown(browser, default, password="a password")
@@ -347,7 +344,7 @@ def try_refused(browser):
     expect(browser.run("return [...document.querySelectorAll('#octets .hex b.fault')].map((each) => each.at + ' ' + each.textContent)") == ["%d 48" % at], "another octet is marked")
     cut = shown(browser, good[:-3])
     expect(cut["error"].startswith("TRUNCATED at octet "), "a cut message: %r" % cut["error"])
-    for octets in (keytab_of(["17:" + "5a" * 16 + ":a@R kvno 1"])[:-1], element(0x7D, b"\x5a" * 40), element(0x30, element(0xA0, b"\x5a" * 40))):
+    for octets in (keytab_of_texts(["17:" + "5a" * 16 + ":a@R kvno 1"])[:-1], element(0x7D, b"\x5a" * 40), element(0x30, element(0xA0, b"\x5a" * 40))):
         told = shown(browser, octets)
         hides = "5a5a5a" not in told["text"].replace(" ", "") and not any("5a5a" in each for each in told["octets"])
         expect(told["error"] != "" and hides, "octets that may be keys are shown: %r" % told["error"])
@@ -381,7 +378,7 @@ def try_large(browser):
     last = browser.run("""const item = [...document.querySelectorAll("#tree li")].pop(); item.querySelector(".row").click();
         return [...document.querySelectorAll("#octets .hex b.chosen")].map((each) => each.textContent).join("")""")
     expect(last == "1b0178", "the last field lights up %r" % last)
-    many = element(0x30, element(0x30, element(0xA0, element(2, b"\1")) + element(0xA1, element(4, b"x"))) * 15000)
+    many = element(0x30, *[sequence((0, integer(1)), (1, [4, b"x"]))] * 15000)
     told = shown(browser, many, kind="AuthorizationData", form="file")
     expect(any("of which the first 20000" in each for each in told["notes"]) and told["copied"][0].count("\n") >= 45000, "many lines: %s %s" % (told["error"], told["notes"]))
     say("large octets: done")
@@ -398,8 +395,8 @@ def try_log(browser, site):
     say("%d requests, all to the server" % len(urls))
 
 
-def try_pages(browser, site, top, folder):
-    for attempt in (lambda: try_rows(browser, top), lambda: try_opened(browser, top), lambda: try_checksums(browser, top), lambda: try_buffers(browser, top)):
+def try_pages(browser, site, folder):
+    for attempt in (lambda: try_rows(browser), lambda: try_opened(browser), lambda: try_checksums(browser), lambda: try_buffers(browser)):
         attempt()
     try_misleading(browser)
     try_password(browser)

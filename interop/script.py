@@ -1,0 +1,109 @@
+"""What a script begins with: its options, the packages that it needs, and the library."""
+
+import glob
+import importlib.machinery
+import importlib.util
+import os
+import random
+import shutil
+import subprocess
+import sys
+
+from checks import NAME
+
+TOP = os.path.dirname(os.path.dirname(os.path.abspath(__file__)))
+PROGRAM = os.path.join(TOP, "crates", "jolmurig", "out", "jolmurig")
+PYTHON = "/usr/bin/python3"  # Debian's, for which its packages are
+PATHS = "/usr/sbin:/usr/bin:/sbin:/bin"
+# Heimdal's clients, and the libraries that they need.
+HEIMDAL = (
+    "heimdal-clients libasn1-8-heimdal libgssapi3-heimdal libhcrypto5-heimdal libhdb9-heimdal libheimbase1-heimdal libheimntlm0-heimdal "
+    "libhx509-5-heimdal libkadm5clnt7-heimdal libkadm5srv8-heimdal libkafs0-heimdal libkrb5-26-heimdal libotp0-heimdal libroken19-heimdal "
+    "libsl0-heimdal libwind0-heimdal"
+).split()
+
+
+def options_of(doc, *switches, paths=("--library",), with_seed=False):
+    """What the script is given, by its options: whether each switch, an absolute path or None, and a seed, of chance where it is not given. Other words end
+    the script, which prints its usage."""
+    found, words = {**dict.fromkeys(switches, False), **dict.fromkeys(paths)}, sys.argv[1:]
+    if with_seed:
+        found["--seed"] = random.SystemRandom().randrange(10**6)
+    while words:
+        word = words.pop(0)
+        if word in switches:
+            found[word] = True
+        elif word in paths and words:
+            found[word] = os.path.abspath(words.pop(0))
+        elif word == "--seed" and with_seed and words and words[0].isdecimal():
+            found[word] = int(words.pop(0))
+        else:
+            print(doc.split("\n\n")[1], file=sys.stderr)
+            sys.exit(2)
+    return found
+
+
+def is_there(what, path=PATHS):
+    """Whether there is a program, a file (a path or a pattern, which begin with `/`) or, of `import NAME`, a module of Debian's Python."""
+    if what.startswith("import "):
+        return subprocess.run([PYTHON, "-c", what], cwd="/", env={"PATH": PATHS}, capture_output=True).returncode == 0
+    return bool(glob.glob(what)) if what.startswith("/") else shutil.which(what, path=path) is not None
+
+
+def missing(packages, path=PATHS):
+    """Of packages by what is looked for those that are missing."""
+    return sorted({package for what, package in packages.items() if not is_there(what, path)})
+
+
+def apt_install(*packages):
+    """Installs packages; what comes of it is to be looked at."""
+    command = ["apt-get", "install", "-y", "-qq", "--no-install-recommends", *packages]
+    subprocess.run(command, env=dict(os.environ, DEBIAN_FRONTEND="noninteractive"), capture_output=True, timeout=1800)
+
+
+def are_services_kept_off():
+    """Whether a service that is installed is not started (invoke-rc.d, policy-rc.d: status 101)."""
+    policy = "/usr/sbin/policy-rc.d"
+    return os.access(policy, os.X_OK) and subprocess.run([policy, "krb5-kdc", "start"], capture_output=True).returncode == 101
+
+
+def install(packages, *others):
+    """Installs what is missing, where services are kept off, and ends the script where some is missing still. Others are packages that may be."""
+    wanted = [each for each in (missing(packages), *others) if each]
+    if wanted and os.geteuid() == 0 and are_services_kept_off():
+        subprocess.run(["apt-get", "update"], capture_output=True, timeout=600)
+        for each in wanted:
+            apt_install(*each)
+    lacking = missing(packages)
+    if lacking:
+        print("%s: these packages are missing: %s" % (NAME, " ".join(lacking)), file=sys.stderr)
+        sys.exit(2)
+
+
+def unpacked(packages, root):
+    """Downloads Debian's packages and unpacks them into a folder, since Debian keeps them apart from those of MIT; whether they could be had."""
+    os.mkdir(root)
+    done = subprocess.run(["apt-get", "download", "-qq", *packages], cwd=root, capture_output=True, timeout=300)
+    for package in glob.glob(os.path.join(root, "*.deb")):
+        subprocess.run(["dpkg", "-x", package, root], check=True)
+    return done.returncode == 0
+
+
+def library_of(options, folder):
+    """The library's file, which `bin/build-c` makes in a folder where none is given."""
+    if options["--library"] is None and subprocess.run([os.path.join(TOP, "bin", "build-c"), os.path.join(folder, "built")]).returncode != 0:
+        sys.exit(2)
+    return options["--library"] or os.path.join(folder, "built", "lib", "libkrbc.so.2")
+
+
+def with_library(environment, library):
+    """An environment in which the package krb is found, and this library."""
+    return dict(environment, PYTHONPATH=os.path.join(TOP, "python"), PYTHONDONTWRITEBYTECODE="1", KRBC_LIBRARY=library)
+
+
+def module_of(name):
+    """Another script of this folder, as a module."""
+    loader = importlib.machinery.SourceFileLoader(name, os.path.join(TOP, "interop", name))
+    module = importlib.util.module_from_spec(importlib.util.spec_from_loader(name, loader))
+    loader.exec_module(module)
+    return module
