@@ -113,7 +113,7 @@ def stood_in(title, commands, library):
             wanted = [line.replace("clock skew", "SKEW") for line in wanted]
         ours.append((command, wanted))
     with tempfile.TemporaryDirectory() as folder:
-        os.symlink(os.path.join(TOP, "crates"), os.path.join(folder, "crates"))
+        os.symlink(os.path.join(TOP, "tests"), os.path.join(folder, "tests"))
         with open(os.path.join(folder, "stand_in.py"), "w", encoding="ascii") as file:
             file.write(STAND_IN)
         environment = dict(os.environ, KRBC_LIBRARY=library, PYTHONPATH=os.path.join(TOP, "python"))
@@ -155,7 +155,7 @@ def checks(library, program):
                     yield from stood_in(title, commands, library)
                 continue
             with tempfile.TemporaryDirectory() as folder:
-                os.symlink(os.path.join(TOP, "crates"), os.path.join(folder, "crates"))
+                os.symlink(os.path.join(TOP, "tests"), os.path.join(folder, "tests"))
                 os.mkdir(os.path.join(folder, "bin"))
                 os.symlink(program, os.path.join(folder, "bin", "jolmurig"))
                 yield from judge(title, commands, typed(commands, folder, dict(os.environ), ""))
