@@ -1,6 +1,7 @@
 """Octets in the page, as the rows of tests/*.rows have them."""
 
 import base64
+import calendar
 import json
 import re
 import struct
@@ -47,6 +48,8 @@ return (async () => {
 """
 # What the page says of files that are refused is not a status alone.
 FILES = ("told", "keytab", "ccache")
+# How a page is told that has, or is, a format which is no DER: a PAC, a checksum of the GSS-API, NEGOEX, a keytab, a cache, a token.
+NO_DER = re.compile(r" *(ulType|Lgth|cbHeaderLength|keytab|ccache|TOK_ID)\b")
 # Chooses each line, and tells which octets light up and where they are said to be.
 LIT = """
 return [...document.querySelectorAll("#tree li")].map((item) => {
@@ -88,6 +91,28 @@ def agrees(value, octets):
     return None
 
 
+def agrees_otherwise(value, octets):
+    """Whether octets are those of a value of a format that is no DER: True or False; None where the value tells no octets of its own. A PAC and NEGOEX are
+    little-endian (MS-PAC, 2; draft-zhu-negoex, 6), with times of 100 nanoseconds since 1601 and texts of UTF-16LE; a keytab and a cache big-endian, with times
+    of seconds since 1970 (MIT Kerberos, "Keytab file format", "Credential cache file format"), and of a cache flags, too."""
+    if value.startswith('"'):
+        return value in (quoted_as(octets), quoted_as_units(octets))
+    if re.fullmatch(r"\d{4}-\d\d-\d\dT\d\d:\d\d:\d\dZ", value):
+        seconds = calendar.timegm(tuple(map(int, re.findall(r"\d+", value))))
+        wide = int.from_bytes(octets, "little") // 10**7 - 11644473600
+        return seconds == (wide if len(octets) == 8 else int.from_bytes(octets, "big")) and len(octets) in (4, 8)
+    if re.fullmatch(r"0x[0-9a-f]+( .*)?", value):
+        return value.split()[0][2:] in (octets.hex(), octets[::-1].hex())
+    if re.fullmatch(r"-?\d+( [^.]*)?", value):
+        return int(value.split()[0]) in [int.from_bytes(octets, order, signed=signed) for order in ("little", "big") for signed in (False, True)]
+    return None
+
+
+def quoted_as_units(octets):
+    """A text of UTF-16LE as a page has it (docs/SPECIFICATION.md, "Pages")."""
+    return quoted_as(octets.decode("utf-16-le", "surrogatepass").encode("utf-8", "surrogatepass")) if len(octets) % 2 == 0 else None
+
+
 def quoted_as(octets):
     letters = ["\\" + chr(each) if each in b'"\\' else chr(each) if 32 <= each < 127 else "\\x%02x" % each for each in octets]
     return '"' + "".join(letters) + '"'
@@ -97,6 +122,7 @@ def try_lit(browser, title, told, counts):
     """What lights up with each line that has a place of its own is what the line tells."""
     if told["lines"][0].startswith(("[", "SEQUENCE", "MIC", "Wrap")) or "@" in told["lines"][0]:
         return
+    is_format = any(map(NO_DER.match, told["lines"]))
     for line, (octets, where, _) in zip(told["lines"], browser.run(LIT)):
         name, _, value = line.strip().partition(": ")
         place = re.search(r": octets (\d+) to (\d+), (\d+) of ", where) or re.search(r": (no octets), (behind) (\d+) of ", where)
@@ -112,9 +138,10 @@ def try_lit(browser, title, told, counts):
         if name == "TOK_ID":
             right = found.hex() == value.split()[0]
         elif value.startswith('"') and name not in ("name-string",):
-            right = value == quoted_as(found)
+            right = value == quoted_as(found) or is_format and agrees_otherwise(value, found)
         else:
             right = agrees(value, found)
+            right = right or (agrees_otherwise(value, found) if is_format and right is not None else right)
         if right is None:
             counts["other"] += 1
             continue
