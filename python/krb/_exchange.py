@@ -9,102 +9,10 @@ from krb._context import EncryptionKey, Place
 from krb._items import Registry, name_of
 from krb._library import Refused, Status, _library, _unsigned
 from krb._names import Name
+from krb._rules import CLIENT_TEXTS, ClientRule
 from krb._times import moment
 
 __all__ = ["ClientRule", "NotGranted"]
-
-
-class ClientRule(enum.IntEnum):
-    """Why no ticket is taken, or no request made, with the numbers of krb.h (docs/CLIENT.md). `NONE` is of no refusal."""
-
-    NONE = 0
-    OTHER_MESSAGE = 1
-    MESSAGE = 2
-    PVNO = 3
-    MSG_TYPE = 4
-    OPENING = 5
-    CLIENT = 6
-    TICKET_VERSION = 7
-    TICKET = 8
-    UNASKED = 9
-    ENCRYPTION_TYPE = 10
-    NONCE = 11
-    SERVER = 12
-    SESSION_KEY = 13
-    START = 14
-    END = 15
-    RENEW_TILL = 16
-    FLAGS = 17
-    ADDRESSES = 18
-    TIME = 19
-    METHOD_DATA = 20
-    NO_INFO = 21
-    INFO = 22
-    NO_SUITE = 23
-    NO_KEY = 24
-    PASSWORD_SUITE = 25
-    PARAMETERS = 26
-    ITERATIONS = 27
-    KDC = 28
-    REQUEST_NONCE = 29
-    REQUEST_OPTION = 30
-    REQUEST_MICROSECONDS = 31
-    REQUEST_TIME = 32
-    REQUEST_DELEGATION = 33
-    REQUEST_SUBKEY = 34
-    REQUEST_CONFOUNDER = 35
-    REQUEST_KEY = 36
-    UNAUTHENTICATED = 37
-    NO_CHECKSUM = 38
-    CHECKSUM = 39
-    SESSION_KEY_SIZE = 40
-    FLAGS_SIZE = 41
-
-
-_TEXTS = {
-    ClientRule.NONE: "no rule",
-    ClientRule.OTHER_MESSAGE: "the message is not one that the exchange waits for",
-    ClientRule.MESSAGE: "the octets are not the one encoding of the message",
-    ClientRule.PVNO: "the protocol version is not 5",
-    ClientRule.MSG_TYPE: "the message type is that of another message",
-    ClientRule.OPENING: "the key does not open the reply, as where a password is wrong",
-    ClientRule.CLIENT: "the reply names another client than asked",
-    ClientRule.TICKET_VERSION: "the version of the ticket is not 5",
-    ClientRule.TICKET: "the ticket is for another server than was asked for",
-    ClientRule.UNASKED: "the reply is under an encryption type that was not asked for",
-    ClientRule.ENCRYPTION_TYPE: "the reply is under another encryption type than the key's",
-    ClientRule.NONCE: "the reply is to another request",
-    ClientRule.SERVER: "the reply names another server than was asked for",
-    ClientRule.SESSION_KEY: "the session key is of an encryption type that was not asked for",
-    ClientRule.START: "the ticket does not start when it was asked for, or the clocks differ by more than the skew",
-    ClientRule.END: "the ticket ends later than was asked for, or before it starts",
-    ClientRule.RENEW_TILL: "the ticket is renewable for longer than was asked for, or without saying that it is",
-    ClientRule.FLAGS: "the ticket has a flag that was not asked for",
-    ClientRule.ADDRESSES: "the ticket is for addresses",
-    ClientRule.TIME: "the reply does not have the time that was sent",
-    ClientRule.METHOD_DATA: "the KDC's data of pre-authentication are no encoding",
-    ClientRule.NO_INFO: "the KDC does not tell of the client's keys",
-    ClientRule.INFO: "what the KDC tells of the client's keys is no encoding",
-    ClientRule.NO_SUITE: "the KDC has no key of the client's under an encryption type that was asked for",
-    ClientRule.NO_KEY: "the keytab has no key of the client's of the encryption type",
-    ClientRule.PASSWORD_SUITE: "no password becomes a key of the encryption type",
-    ClientRule.PARAMETERS: "the KDC's parameters for the key of a password are not four octets",
-    ClientRule.ITERATIONS: "the KDC asks for fewer or more iterations for the key of a password than are taken",
-    ClientRule.KDC: "the KDC reports an error",
-    ClientRule.REQUEST_NONCE: "the nonce is 2^31 or more",
-    ClientRule.REQUEST_OPTION: "an option has another number than 0 to 31",
-    ClientRule.REQUEST_MICROSECONDS: "the microseconds are not 0 to 999999",
-    ClientRule.REQUEST_TIME: "a time is before the year 0 or past 9999",
-    ClientRule.REQUEST_DELEGATION: "credentials are not delegated",
-    ClientRule.REQUEST_SUBKEY: "the subkey is of another size than its encryption type's",
-    ClientRule.REQUEST_CONFOUNDER: "the confounder is of another size than the encryption type's",
-    ClientRule.REQUEST_KEY: "the key is of another size than its encryption type's",
-    ClientRule.UNAUTHENTICATED: "the reply renames, and the request had no pre-authentication",
-    ClientRule.NO_CHECKSUM: "the reply renames, and has no checksum of the request",
-    ClientRule.CHECKSUM: "the reply renames, and its checksum is not that of the request",
-    ClientRule.SESSION_KEY_SIZE: "the session key has another size than its encryption type's",
-    ClientRule.FLAGS_SIZE: "the ticket has fewer than 32 flags",
-}
 
 
 class NotGranted(Refused):
@@ -119,7 +27,7 @@ class NotGranted(Refused):
     def __init__(self, rule: int, code: int = 0, who: str = "the KDC") -> None:
         super().__init__(Status.NOT_GRANTED)
         self.rule, self.code, self._who = ClientRule(rule), code, who
-        text = _TEXTS[self.rule]
+        text = CLIENT_TEXTS[self.rule]
         if self.rule == ClientRule.KDC:
             text = "%s reports %s (%d)" % (who, self.error or "an error", code)
         self.args = ("%s: %s" % (self.rule.name, text),)

@@ -1,7 +1,6 @@
 """Whether a service lets in the client that sent a token, and what it answers (RFC 4120, 3.2.3; RFC 4121, 4.1; docs/ACCEPTOR.md)."""
 
 import ctypes
-import enum
 import ipaddress
 import math
 import os
@@ -12,103 +11,11 @@ from typing import Any, Callable, Iterable, NamedTuple, Optional, Tuple, Union
 from krb._context import Accepted, Context, ContextFlag, EncryptionKey, OutOfOrder, time_of
 from krb._library import IN, U32, Call, Octets, Refused, Status, _library, plain
 from krb._replay import AnyReplayCache, FileReplayCache, Forgotten, ReplayCache
+from krb._rules import TEXTS, Rule
 from krb._window import Order
 
 __all__ = ["Acceptor", "AnyReplayCache", "ChannelBindings", "Context", "ContextFlag", "EncryptionKey", "FileReplayCache", "Forgotten", "NotAccepted", "Order"]
 __all__ += ["OutOfOrder", "ReplayCache", "Rule"]
-
-
-class Rule(enum.IntEnum):
-    """The rules of an acceptor, with their numbers in krb.h; docs/ACCEPTOR.md has their order. `NONE` is of no refusal."""
-
-    NONE = 0
-    NOT_REQUEST = 1
-    VERSION = 2
-    MESSAGE_TYPE = 3
-    TICKET_VERSION = 4
-    OPTIONS = 5
-    USER_TO_USER = 6
-    NOT_US = 7
-    NO_KEY = 8
-    KEY_VERSION = 9
-    TICKET_SUITE = 10
-    TICKET = 11
-    FLAGS = 12
-    SESSION_SUITE = 13
-    AUTHENTICATOR = 14
-    AUTHENTICATOR_VERSION = 15
-    MICROSECONDS = 16
-    SEQUENCE_NUMBER = 17
-    SUBKEY = 18
-    OTHER_CLIENT = 19
-    OTHER_ADDRESS = 20
-    SKEW = 21
-    NOT_YET_VALID = 22
-    INVALID = 23
-    EXPIRED = 24
-    PATH = 25
-    CRITICAL_DATA = 26
-    DATA_FORM = 27
-    UNREMEMBERED = 28
-    REPEAT = 29
-    FRAME = 30
-    PAC_MISSING = 31
-    PAC_FORM = 32
-    PAC_CHECKSUM = 33
-    PAC_CLIENT = 34
-    CHECKSUM_TYPE = 35
-    CHECKSUM_LAYOUT = 36
-    BINDINGS = 37
-    DELEGATION = 38
-    ANONYMOUS = 39
-    CLIENT_REALM = 40
-    PAC_PLACE = 41
-
-
-_TEXTS = {
-    Rule.NONE: "no rule",
-    Rule.NOT_REQUEST: "the message is not an AP-REQ",
-    Rule.VERSION: "the protocol version is not 5",
-    Rule.MESSAGE_TYPE: "the message type is not that of an AP-REQ",
-    Rule.TICKET_VERSION: "the version of the ticket is not 5",
-    Rule.OPTIONS: "the options have fewer than 32 bits",
-    Rule.USER_TO_USER: "the ticket is under a session key that the service does not have",
-    Rule.NOT_US: "the ticket is for another server than the service, or for one of which the keytab has no key",
-    Rule.NO_KEY: "the keytab has no key of the ticket's encryption type",
-    Rule.KEY_VERSION: "the keytab has no key of the version that the ticket names",
-    Rule.TICKET_SUITE: "the ticket's encryption type is not supported",
-    Rule.TICKET: "no key of the keytab decrypts the ticket",
-    Rule.FLAGS: "the ticket's flags have fewer than 32 bits",
-    Rule.SESSION_SUITE: "the session key's encryption type is not supported or permitted",
-    Rule.AUTHENTICATOR: "the session key does not decrypt the authenticator",
-    Rule.AUTHENTICATOR_VERSION: "the version of the authenticator is not 5",
-    Rule.MICROSECONDS: "the client's microseconds are not 0 to 999999",
-    Rule.SEQUENCE_NUMBER: "the sequence number does not fit 32 bits",
-    Rule.SUBKEY: "the subkey is not of a supported and permitted encryption type",
-    Rule.OTHER_CLIENT: "the ticket and the authenticator name different clients",
-    Rule.OTHER_ADDRESS: "the ticket is not for the client's address",
-    Rule.SKEW: "the clocks differ by more than the skew",
-    Rule.NOT_YET_VALID: "the ticket is not yet valid",
-    Rule.INVALID: "the ticket has the flag INVALID",
-    Rule.EXPIRED: "the ticket has expired",
-    Rule.PATH: "no KDC has checked the path of realms",
-    Rule.CRITICAL_DATA: "the service does not understand the authorization data",
-    Rule.DATA_FORM: "the authorization data is malformed",
-    Rule.UNREMEMBERED: "the client may have been let in before, in a time of which the replay cache knows nothing",
-    Rule.REPEAT: "the client was let in by this authenticator before",
-    Rule.FRAME: "the token is not one of Kerberos with an AP-REQ",
-    Rule.PAC_MISSING: "the ticket has no PAC",
-    Rule.PAC_FORM: "the PAC is malformed",
-    Rule.PAC_CHECKSUM: "the service's key did not sign the PAC",
-    Rule.PAC_CLIENT: "the PAC is of another client than the ticket",
-    Rule.CHECKSUM_TYPE: "the authenticator's checksum is not of the type 8003",
-    Rule.CHECKSUM_LAYOUT: "the authenticator's checksum is not laid out as one of the GSS-API",
-    Rule.BINDINGS: "the client is bound to another channel, or to none",
-    Rule.DELEGATION: "the delegated credentials cannot be read",
-    Rule.ANONYMOUS: "the client is anonymous",
-    Rule.CLIENT_REALM: "the service lets in no client of this realm",
-    Rule.PAC_PLACE: "a PAC stands, or may stand, where nobody verifies it: elsewhere than as the only one in an AD-IF-RELEVANT of the ticket, or too deep",
-}
 
 
 class NotAccepted(Refused):
@@ -127,7 +34,7 @@ class NotAccepted(Refused):
     def __init__(self, rule: int, code: int, seen: Optional[int] = None, error: bytes = b"", text: Optional[str] = None) -> None:
         super().__init__(Status.NOT_ACCEPTED)
         self.rule, self.code, self.seen, self.error = Rule(rule), code, seen, error
-        self._text = "%s: %s" % (self.rule.name, _TEXTS[self.rule]) if text is None else text
+        self._text = "%s: %s" % (self.rule.name, TEXTS[self.rule]) if text is None else text
         self.args = (self._text,)
 
     def __reduce__(self) -> Any:
@@ -161,7 +68,7 @@ def _forgotten(before: int, seconds: int, skew: int) -> str:
 
 def _why(rule: Rule, seen: Optional[int], seconds: int, skew: int, since: Optional[int] = None) -> str:
     """The message of a refusal, with what was seen; `since` says since when the replay cache is whole."""
-    text = _TEXTS[rule]
+    text = TEXTS[rule]
     if seen is not None and rule == Rule.SKEW:
         text = "the client's time is %d s %s (limit %d)" % (abs(seconds - seen), "behind" if seen < seconds else "ahead", skew)
     elif seen is not None and rule == Rule.KEY_VERSION:

@@ -8,7 +8,8 @@ from typing import Any, Iterable, List, Optional, Tuple
 from krb import spnego
 from krb._library import Octets, Refused, Status, plain
 from krb._mechanism import KerberosMechanism, Mechanism
-from krb._negotiation import NO_STATE, TEXTS, Choice, Message, Mic, NegotiationRule, Progress, Side, Stage, answer, take
+from krb._negotiation import NO_STATE, Choice, Message, Mic, Progress, Side, Stage, answer, take
+from krb._rules import NEGOTIATION_TEXTS, NegotiationRule
 
 __all__ = ["KerberosMechanism", "Mechanism", "NegotiationRole", "NegotiationRule", "NegotiationState", "Negotiator", "NotNegotiated"]
 
@@ -43,7 +44,7 @@ class NotNegotiated(Refused):
     def __init__(self, rule: int, answer: bytes = b"", text: Optional[str] = None) -> None:
         super().__init__(Status.NOT_ACCEPTED)
         self.rule, self.answer = NegotiationRule(rule), answer
-        self._text = "%s: %s" % (self.rule.name, TEXTS[self.rule]) if text is None else text
+        self._text = "%s: %s" % (self.rule.name, NEGOTIATION_TEXTS[self.rule]) if text is None else text
         self.args = (self._text,)
 
     def __reduce__(self) -> Any:
@@ -63,7 +64,7 @@ def _is_named(mechanism: Mechanism, name: bytes) -> bool:
 
 def _text(rule: NegotiationRule, cause: Optional[Exception]) -> Optional[str]:
     """The message of a refusal with the mechanism's own; None where it has none."""
-    return None if cause is None else "%s: %s: %s" % (rule.name, TEXTS[rule], cause)
+    return None if cause is None else "%s: %s: %s" % (rule.name, NEGOTIATION_TEXTS[rule], cause)
 
 
 def _spnego_inner(octets: bytes) -> Optional[bytes]:

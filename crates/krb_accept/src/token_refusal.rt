@@ -1,7 +1,7 @@
 //! Why a token is refused.
 
 ghost use Rattle.std.specs.Prelude.{◌≡◌, ◌≢◌, false};
-ghost use Rattle.krb_accept.specs.TokenRefusals.{is_memory, memory, token_error_code};
+ghost use Rattle.krb_accept.specs.TokenRefusals.{is_memory, memory, token_error_code, token_text};
 ghost use Rattle.krb_accept.specs.declared.token_refusal.TokenRefusal.TheVariants.{Request};
 
 use krb_accept_rules::{Refusal, Rule};
@@ -67,33 +67,31 @@ impl TokenRefusal {
             TokenRefusal::ChecksumLayout | TokenRefusal::Delegation => 60,
         }
     }
+
+    /// What it is called that the token is refused, in English: a text that krb.h and the Python package have too (docs/rules).
+    pub fn text(&self) -> &'static str
+        ensures { result.now ≡ token_text self.now }
+    {
+        match self {
+            TokenRefusal::Request(refusal) => refusal.rule.text(),
+            TokenRefusal::Frame => "not a token of Kerberos with an AP-REQ",
+            TokenRefusal::PacPlace => "a PAC stands, or may stand, where nobody verifies it",
+            TokenRefusal::PacMissing => "the ticket has no PAC",
+            TokenRefusal::PacForm => "the PAC is malformed, or lacks a buffer that is checked",
+            TokenRefusal::PacChecksum => "the PAC's server checksum does not hold",
+            TokenRefusal::PacClient =>
+                "the PAC is of another client than the ticket, or of another time",
+            TokenRefusal::ChecksumType => "the authenticator has no checksum of type 0x8003",
+            TokenRefusal::ChecksumLayout => "the authenticator's checksum is malformed",
+            TokenRefusal::Bindings => "the client's channel bindings are others than the service's",
+            TokenRefusal::Delegation => "the delegated credentials cannot be decrypted or read",
+        }
+    }
 }
 
 impl fmt::Display for TokenRefusal {
     fn fmt<W: fmt::Write>(&self, f: &mut fmt::Formatter<W>) -> fmt::Result {
-        match self {
-            TokenRefusal::Frame => f.write_str("the token is not one of Kerberos with an AP-REQ"),
-            TokenRefusal::Request(refusal) => f.write_str(refusal.rule.text()),
-            TokenRefusal::PacPlace => {
-                f.write_str("a PAC stands, or may stand, where nobody verifies it")
-            },
-            TokenRefusal::PacMissing => f.write_str("the ticket has no PAC"),
-            TokenRefusal::PacForm => f.write_str("the PAC is malformed"),
-            TokenRefusal::PacChecksum => f.write_str(
-                "the server checksum of the PAC does not hold",
-            ),
-            TokenRefusal::PacClient => f.write_str("the PAC is of another client than the ticket"),
-            TokenRefusal::ChecksumType => {
-                f.write_str("the authenticator has no checksum of the GSS-API")
-            }
-            TokenRefusal::ChecksumLayout => {
-                f.write_str("the checksum of the authenticator is malformed")
-            }
-            TokenRefusal::Bindings => {
-                f.write_str("the channel bindings are not those of the service")
-            }
-            TokenRefusal::Delegation => f.write_str("the delegated credentials cannot be read"),
-        }
+        f.write_str(self.text())
     }
 }
 

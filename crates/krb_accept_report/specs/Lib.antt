@@ -1,5 +1,4 @@
 pub mod Texts
-pub mod Rules
 pub mod Requests
 pub mod Reasons
 pub mod Negotiation

@@ -4,12 +4,13 @@ use Rattle.std.specs.Fmt.{decimal}
 use Rattle.std.specs.List.{starts_with}
 use Rattle.krb_accept.specs.declared.token_refusal.TokenRefusal.{TokenRefusal}
 use Rattle.krb_accept.specs.declared.token_refusal.TokenRefusal.TheVariants as refusal
+use Rattle.krb_accept.specs.TokenRefusals.{token_text}
+use Rattle.krb_accept_rules.specs.Refusals.{rule_text}
 use Rattle.krb_accept_rules.specs.declared.key.ServiceKey.{ServiceKey}
 use Rattle.krb_accept_rules.specs.declared.opening.Opening.{Ghosts as OpeningOf}
 use Rattle.krb_accept_rules.specs.declared.refusal.Rule.{Rule}
 use Rattle.krb_accept_rules.specs.declared.refusal.Rule.TheVariants as Rules
 use Rattle.krb_accept_report.specs.Requests.{IsKeyReasonOf}
-use Rattle.krb_accept_report.specs.Rules.{rule_text, token_text}
 use Rattle.krb_accept_report.specs.Texts.{IsMoment}
 
 -- by how many seconds the client's time differs from the clock, and to which side

@@ -4,12 +4,11 @@ ghost use Rattle.std.specs.Prelude.{◌≡◌, ◌++◌, List, ℕ, Option, IfOk
 ghost use Rattle.krb_accept_rules.specs.declared.refusal.Rule.{Rule};
 ghost use Rattle.krb_accept_rules.specs.declared.refusal.Rule.TheVariants as Rules;
 ghost use Rattle.krb_accept_report.specs.Requests.{AreKvnos, IsKeyReason, IsKeyReasonOf, IsServerReason, IsUnder, server_text};
-ghost use Rattle.krb_accept_report.specs.Rules.{rule_text};
+ghost use Rattle.krb_accept_rules.specs.Refusals.{rule_text};
 ghost use Rattle.krb_accept_report.specs.Texts.{IsNumber, IsNumberOrNone, listed};
 
 use crate::at_hand::{has_key_of, kvnos_for};
 use crate::request::{push_server, request_in};
-use crate::rules::rule_text;
 use crate::written::push_list;
 use krb_accept::Kerberos;
 use krb_accept_rules::{Opening, RequestFields, Rule, ServiceKey};
@@ -152,6 +151,6 @@ pub(crate) fn text_of_key_rule(
 {
     match request_in(alloc, token)? {
         Some(request) => Ok(text_of_request(alloc, keys, &request, rule)?),
-        None => Vec::from_slice(alloc, rule_text(rule).as_bytes()),
+        None => Vec::from_slice(alloc, rule.text().as_bytes()),
     }
 }

@@ -9,7 +9,6 @@ mod printed;
 mod reason;
 mod report;
 mod request;
-mod rules;
 mod terms;
 mod written;
 

@@ -2,11 +2,10 @@
 
 ghost use Rattle.std.specs.Prelude.{◌≡◌, ◌++◌, List, ℕ, IfOk, OnOk, codes};
 ghost use Rattle.krb_accept_report.specs.Reasons.{IsDistance, IsReason, IsRuleReason, IsSkewReason, IsTimeReason, frame_text};
-ghost use Rattle.krb_accept_report.specs.Rules.{rule_text};
+ghost use Rattle.krb_accept_rules.specs.Refusals.{rule_text};
 
 use crate::key_reason::text_of_key_rule;
 use crate::moment::text_of_seconds;
-use crate::rules::{rule_text, token_text};
 use crate::written::push_number;
 use krb_accept::{Kerberos, TokenRefusal};
 use krb_accept_rules::{Opening, Rule, ServiceKey};
@@ -44,7 +43,7 @@ fn skew_seen(alloc: Global, clock: i64, skew: u32, time: i64) -> Result<Vec<u8>,
 {
     let moment = text_of_seconds(alloc, time)?;
     let Distance { seconds, side } = distance_of(clock, time);
-    let mut text = Vec::from_slice(alloc, rule_text(Rule::Skew).as_bytes())?;
+    let mut text = Vec::from_slice(alloc, Rule::Skew.text().as_bytes())?;
     text.extend_from_slice(b": the client's time ")?;
     text.extend_from_slice(&moment)?;
     text.extend_from_slice(b" is ")?;
@@ -60,7 +59,7 @@ fn skew_seen(alloc: Global, clock: i64, skew: u32, time: i64) -> Result<Vec<u8>,
 fn plain(alloc: Global, rule: Rule) -> Result<Vec<u8>, AllocError>
     ensures { IfOk result (λ text. text.items ≡ rule_text rule) }
 {
-    Vec::from_slice(alloc, rule_text(rule).as_bytes())
+    Vec::from_slice(alloc, rule.text().as_bytes())
 }
 
 /// A rule's text, and the time that was seen.
@@ -71,7 +70,7 @@ fn timed(alloc: Global, rule: Rule, words: &str, seen: Option<i64>) -> Result<Ve
         return plain(alloc, rule);
     };
     let moment = text_of_seconds(alloc, time)?;
-    let mut text = Vec::from_slice(alloc, rule_text(rule).as_bytes())?;
+    let mut text = Vec::from_slice(alloc, rule.text().as_bytes())?;
     text.extend_from_slice(words.as_bytes())?;
     text.extend_from_slice(&moment)?;
     Ok(text)
@@ -128,7 +127,7 @@ fn frame_text(token: &[u8]) -> &'static str
     } else if token.starts_with(&[0x6e]) {
         "not a token of Kerberos: it begins as an AP-REQ with no frame around it"
     } else {
-        token_text(&TokenRefusal::Frame)
+        TokenRefusal::Frame.text()
     }
 }
 
@@ -146,6 +145,6 @@ pub(crate) fn text_of_refusal(
             text_of_rule(alloc, judge, token, refusal.rule, refusal.seen)
         }
         TokenRefusal::Frame => Vec::from_slice(alloc, frame_text(token).as_bytes()),
-        other => Vec::from_slice(alloc, token_text(other).as_bytes()),
+        other => Vec::from_slice(alloc, other.text().as_bytes()),
     }
 }

@@ -1,7 +1,7 @@
 //! Why a client is not let in.
 
 ghost use Rattle.std.specs.Prelude.{◌≡◌};
-ghost use Rattle.krb_accept_rules.specs.Refusals.{error_code, plain};
+ghost use Rattle.krb_accept_rules.specs.Refusals.{error_code, plain, rule_text};
 ghost use Rattle.krb_accept_rules.specs.declared.refusal.Rule.TheVariants as Rules;
 
 use std::alloc::AllocError;
@@ -106,39 +106,44 @@ impl Rule {
         }
     }
 
-    /// What the breach of the rule means, in English.
-    pub fn text(&self) -> &'static str {
+    /// What the breach of the rule is called, in English: a text that krb.h and the Python package have too (docs/rules).
+    pub fn text(&self) -> &'static str
+        ensures { result.now ≡ rule_text self.now }
+    {
         match self {
             Rule::NotRequest => "the message is not an AP-REQ",
-            Rule::Version => "the protocol version is not 5",
-            Rule::MessageType => "the message type is not that of an AP-REQ",
-            Rule::TicketVersion => "the version of the ticket is not 5",
-            Rule::Options => "the options have fewer than 32 bits",
+            Rule::Version => "pvno is not 5",
+            Rule::MessageType => "msg-type is not 14",
+            Rule::TicketVersion => "tkt-vno is not 5",
+            Rule::Options => "ap-options has fewer than 32 bits",
             Rule::UserToUser =>
-                "the ticket is sealed under a session key that the service does not have",
+                "the ticket is under a session key, as for user-to-user authentication",
             Rule::NotUs =>
-                "the ticket is for a server that is not the service, or that it has no key of",
-            Rule::NoKey => "the service has no key of the ticket's encryption type",
-            Rule::KeyVersion => "the service has no key of the version that the ticket names",
+                "no key for the server that the ticket names, or no client is let in for it",
+            Rule::NoKey => "no key of the ticket's encryption type",
+            Rule::KeyVersion => "no key of the kvno that the ticket names",
             Rule::TicketSuite => "the ticket's encryption type is not supported or permitted",
-            Rule::Ticket => "no key of the service opens the ticket",
+            Rule::Ticket => "no key decrypts the ticket",
             Rule::Flags => "the ticket's flags have fewer than 32 bits",
-            Rule::SessionSuite => "the session key's encryption type is not supported or permitted",
-            Rule::Authenticator => "the session key does not open the authenticator",
-            Rule::AuthenticatorVersion => "the version of the authenticator is not 5",
-            Rule::Microseconds => "the client's microseconds are not 0 to 999999",
-            Rule::SequenceNumber => "the sequence number does not fit 32 bits",
-            Rule::Subkey => "the subkey is not of a supported and permitted encryption type",
-            Rule::OtherClient => "the ticket and the authenticator name different clients",
+            Rule::SessionSuite =>
+                "the session key's encryption type is not permitted, or the authenticator names another",
+            Rule::Authenticator => "the session key does not decrypt the authenticator",
+            Rule::AuthenticatorVersion => "authenticator-vno is not 5",
+            Rule::Microseconds => "cusec is not of 0 to 999999",
+            Rule::SequenceNumber => "seq-number is not of 0 to 4294967295",
+            Rule::Subkey =>
+                "the subkey's encryption type is not permitted, or its length is another",
+            Rule::OtherClient => "the authenticator names another client than the ticket",
             Rule::OtherAddress => "the ticket is not for the client's address",
-            Rule::Skew => "the clocks differ by more than the skew",
+            Rule::Skew => "clock skew",
             Rule::NotYetValid => "the ticket is not yet valid",
             Rule::Invalid => "the ticket has the flag INVALID",
             Rule::Expired => "the ticket has expired",
             Rule::Anonymous => "the client is anonymous",
-            Rule::ClientRealm => "the service lets in no client of this realm",
+            Rule::ClientRealm => "no client of this realm is let in",
             Rule::Path => "no KDC has checked the path of realms",
-            Rule::CriticalData => "the service does not understand the authorization data",
+            Rule::CriticalData =>
+                "authorization data that a service has to understand, and does not",
             Rule::DataForm => "the authorization data is malformed",
             Rule::Unremembered => "the authenticator is older than the replay cache",
             Rule::Repeat => "the authenticator was accepted before",

@@ -21,7 +21,7 @@ returns c = (
     c.in_ok-extend_from_slice.ensures.items,
     c.in_ok-text.ensures.items,
     c.as_bytes.ensures.value,
-    c.rule_text.ensures,
+    c.text.ensures,
     c.from.ensures,
     append_assoc,
   ),
