@@ -1,46 +1,33 @@
 //! A reader and a writer of few octets at a time, which fail or are interrupted.
 
-use std::alloc::Global;
 use std::io;
 use std::io::{ErrorKind, Read, Write};
 
-/// Which calls of a reader or a writer fail.
-#[derive(Clone, Copy, PartialEq, Eq)]
-pub enum Failure {
-    None,
-    /// The call after so many others.
-    At(usize),
-    /// Every second call, from this one on, 0 or 1: a signal interrupts it.
-    Interrupted(usize),
-}
-
-/// The error, if any, of the call after `before` others.
-fn error_at(error: Failure, before: usize) -> io::Result<()> {
-    match error {
-        Failure::At(turn) if turn == before => Err(io::Error::from(ErrorKind::BrokenPipe)),
-        Failure::Interrupted(first) if before % 2 == first => {
-            Err(io::Error::from(ErrorKind::Interrupted))
-        }
-        _ => Ok(()),
+/// `Interrupted` for every second call of a device: a signal interrupts it.
+fn interrupt(calls: usize) -> io::Result<()> {
+    if calls % 2 == 0 {
+        return Err(io::Error::from(ErrorKind::Interrupted));
     }
+    Ok(())
 }
 
-/// A reader of few octets at a time.
+/// A reader of few octets at a time. A signal interrupts every second read.
 #[derive(Drop)]
 pub struct Source<'a> {
     pub left: &'a [u8],
     /// The most octets that a read gives.
     at_once: usize,
-    error: Failure,
+    /// How many reads come before the one that fails, if one does.
+    failing: Option<usize>,
     pub reads: usize,
 }
 
 impl<'a> Source<'a> {
-    pub fn new(left: &'a [u8], at_once: usize, error: Failure) -> Source<'a> {
+    pub fn new(left: &'a [u8], at_once: usize, failing: Option<usize>) -> Source<'a> {
         Source {
             left,
             at_once,
-            error,
+            failing,
             reads: 0,
         }
     }
@@ -50,7 +37,10 @@ impl<'a> Read for Source<'a> {
     fn read(&mut self, buf: &mut [u8]) -> io::Result<usize> {
         let before = self.reads;
         self.reads = before.saturating_add(1);
-        error_at(self.error, before)?;
+        if self.failing == Some(before) {
+            return Err(io::Error::from(ErrorKind::BrokenPipe));
+        }
+        interrupt(before)?;
         let count = buf.len().min(self.at_once).min(self.left.len());
         let (prefix, rest) = self.left.split_at(count);
         buf[..count].copy_from_slice(prefix);
@@ -59,24 +49,20 @@ impl<'a> Read for Source<'a> {
     }
 }
 
-/// A writer that takes at most three octets at a time, and fails where it has no room.
+/// A writer that takes at most three octets at a time, and fails where it has no room. A signal interrupts every second write.
 #[derive(Drop)]
 pub struct Sink {
     pub taken: Vec<u8>,
     room: usize,
-    /// The error where there is no room.
-    pub full: ErrorKind,
-    error: Failure,
     writes: usize,
 }
 
 impl Sink {
-    pub fn new(alloc: Global, room: usize, error: Failure) -> Sink {
+    /// A writer with room for so many octets, which it keeps in an empty vector.
+    pub fn new(taken: Vec<u8>, room: usize) -> Sink {
         Sink {
-            taken: Vec::new(alloc),
+            taken,
             room,
-            full: ErrorKind::BrokenPipe,
-            error,
             writes: 0,
         }
     }
@@ -86,10 +72,10 @@ impl Write for Sink {
     fn write(&mut self, buf: &[u8]) -> io::Result<usize> {
         let before = self.writes;
         self.writes = before.saturating_add(1);
-        error_at(self.error, before)?;
+        interrupt(before)?;
         let left = self.room.saturating_sub(self.taken.len());
         if left == 0 {
-            return Err(io::Error::from(self.full));
+            return Err(io::Error::from(ErrorKind::BrokenPipe));
         }
         let count = buf.len().min(left).min(3);
         self.taken.extend_from_slice(&buf[..count])?;

@@ -1,17 +1,11 @@
 //! What the program reports of a test vector.
 
 use crate::formats::try_format;
-use crate::rejection::Rejection;
+use crate::refusal::Refusal;
 use crate::row::{Attempt, Row, Trial};
 use crate::types::try_type;
-use crate::walk::is_walked;
 use std::alloc::Global;
 use test_rows::{Columns, Report, RowError, octets_of};
-
-/// Whether reading a test vector of this origin should be an error: its name, a word with a capital, is in the origin's place.
-fn is_rejected(origin: &str) -> bool {
-    origin.starts_with(|letter: char| letter.is_ascii_uppercase()) && !origin.contains(' ')
-}
 
 /// What a run tries of a test vector of this origin.
 fn trial_of(origin: &str) -> Trial {
@@ -32,51 +26,26 @@ fn written_of(alloc: Global, column: &str) -> Result<(Vec<u8>, &str), RowError> 
     }
 }
 
-/// The findings of the octets of a row of a table. `None` where nothing has the row's name there.
-fn try_row(table: &str, row: &Row<'_>) -> Attempt {
-    match table {
-        "types" => try_type(row),
-        _ => try_format(table, row),
-    }
-}
-
-/// Appends the findings of the test vector. Returns whether they are as they should be.
-fn push_outcome(
-    alloc: Global,
-    text: &mut String,
-    origin: &str,
-    found: &Attempt,
-) -> Result<bool, RowError> {
-    match found {
+/// Appends the findings of a test vector of this origin. Returns whether they are as they should be: of a rejection, whether its name
+/// is in the origin's place, alone or as the name of the error that it passes on.
+fn push_findings(text: &mut String, origin: &str, attempt: Attempt) -> Result<bool, RowError> {
+    match attempt {
         Some(Ok(found)) => {
             text.push_str(" read")?;
             text.push_str(found.text.as_str())?;
-            Ok(found.held && !is_rejected(origin))
+            Ok(found.held)
         }
-        Some(Err(Rejection::OutOfMemory)) => Err(RowError::OutOfMemory),
-        Some(Err(rejection)) => {
+        Some(Err(Refusal::Named(name))) => {
             text.push_str(" refused, ")?;
-            text.push_str(rejection.reported(alloc)?.as_str())?;
-            Ok(origin == rejection.name())
+            text.push_str(name.as_str())?;
+            Ok(name.contains(origin))
         }
+        Some(Err(Refusal::OutOfMemory)) => Err(RowError::OutOfMemory),
         None => {
             text.push_str(" no such type")?;
             Ok(false)
         }
     }
-}
-
-/// Appends whether the walk answers what the readers do, if the type has a row for it. Returns whether it does.
-fn push_walked(text: &mut String, row: &Row<'_>, found: &Attempt) -> Result<bool, RowError> {
-    let Some(is_walked) = is_walked(row, found)? else {
-        return Ok(true);
-    };
-    text.push_str(if is_walked {
-        ", walked"
-    } else {
-        ", not walked"
-    })?;
-    Ok(is_walked)
 }
 
 /// What the program reports of the test vector in a line. An allocation failure in any of its calls is returned as such.
@@ -96,11 +65,11 @@ pub fn report_of(alloc: Global, table: &str, mut columns: Columns<'_>) -> Result
         unwritten,
         text: columns.text_if_any(),
     };
-    let found = try_row(table, &row);
-    let mut held = push_outcome(alloc, &mut text, origin, &found)?;
-    if table == "types" {
-        held = push_walked(&mut text, &row, &found)? && held;
-    }
+    let attempt = match table {
+        "types" => try_type(&row),
+        _ => try_format(table, &row),
+    };
+    let held = push_findings(&mut text, origin, attempt)?;
     text.push_str("\n")?;
     Ok(Report { text, held })
 }

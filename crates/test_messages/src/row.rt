@@ -1,6 +1,6 @@
 //! A test vector, and its findings.
 
-use crate::rejection::Rejection;
+use crate::refusal::Refusal;
 use std::alloc::{AllocError, Global};
 
 /// How much a run tries of a test vector's octets.
@@ -10,9 +10,9 @@ pub enum Trial {
     Whole,
     /// One reading; the program prints the value.
     Shown,
-    /// Readings, copies and writings alone: there are many octets.
+    /// A reading, a copy and writings alone: there are many octets.
     Large,
-    /// One reading, one copy, and writings: the run makes allocations fail.
+    /// One reading, one copy, and one writing: the run makes allocations fail.
     Once,
 }
 
@@ -57,5 +57,5 @@ impl Findings {
     }
 }
 
-/// The findings of a test vector, or the error of reading its octets. `None` where nothing has the test vector's name.
-pub type Attempt = Option<Result<Findings, Rejection>>;
+/// The findings of a test vector, or why its octets are not read. `None` where nothing has the test vector's name.
+pub type Attempt = Option<Result<Findings, Refusal>>;

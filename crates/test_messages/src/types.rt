@@ -2,7 +2,7 @@
 
 mod certificates;
 mod delegation;
-mod encoded;
+pub mod encoded;
 mod messages;
 mod negotiation;
 mod parts;

@@ -1,117 +1,92 @@
 //! The frames that change passwords (RFC 3244, 2), and records of a caller's integrity level and machine (MS-KILE, 2.2.5).
 
-use crate::devices::Source;
-use crate::rejection::Rejection;
-use crate::row::{Attempt, Row};
-use crate::trials::{Format, Streamed, made, tried, tried_slowly};
+use crate::refusal::Refusal;
+use crate::row::{Attempt, Findings, Row};
+use crate::trials::{Format, made, tried_slowly};
 use krb_messages::kpasswd::{
     KrbPrivMessage, ReadFrameError, WriteFrameError, read_frame, write_frame,
 };
 use krb_types::lsap::{LsapTokenInfoIntegrity, octets_of, record_of};
 use std::alloc::Global;
-use std::io::Write;
+use std::io;
+use std::io::{ErrorKind, Read, Write};
 
 impl Format for KrbPrivMessage {
-    fn read_from(alloc: Global, octets: &[u8]) -> Result<KrbPrivMessage, Rejection> {
-        let mut reader = octets;
-        Ok(KrbPrivMessage::deserialize(alloc, &mut reader)?)
-    }
+    type Value = KrbPrivMessage;
 
-    fn again(&self, alloc: Global) -> Result<KrbPrivMessage, Rejection> {
-        Ok(self.clone(alloc)?)
-    }
+    type Error = io::Error;
 
-    fn write_to<W: Write>(&self, alloc: Global, writer: &mut W) -> Result<(), Rejection> {
-        Ok(self.serialize(alloc, writer)?)
-    }
-}
-
-impl Streamed for KrbPrivMessage {
-    fn read_slowly(
+    fn read_from<R: Read>(
         alloc: Global,
         _octets: &[u8],
-        reader: &mut Source<'_>,
-    ) -> Result<KrbPrivMessage, Rejection> {
-        Ok(KrbPrivMessage::deserialize(alloc, reader)?)
+        reader: &mut R,
+    ) -> io::Result<KrbPrivMessage> {
+        let message = KrbPrivMessage::deserialize(alloc, reader)?;
+        match message.clone(alloc) {
+            Ok(again) => Ok(again),
+            Err(_) => Err(io::Error::from(ErrorKind::OutOfMemory)),
+        }
+    }
+
+    fn write_to<W: Write>(alloc: Global, value: &KrbPrivMessage, writer: &mut W) -> io::Result<()> {
+        value.serialize(alloc, writer)
     }
 }
 
-/// A frame that is read from a slice and written to a vector.
-#[derive(Debug, Drop, PartialEq)]
-struct Frame(KrbPrivMessage);
-
-impl Format for Frame {
-    fn read_from(alloc: Global, octets: &[u8]) -> Result<Frame, Rejection> {
-        let (message, taken) = read_frame(alloc, octets)?;
-        if taken > octets.len() {
-            return Err(Rejection::Lost);
-        }
-        Ok(Frame(message))
-    }
-
-    fn again(&self, alloc: Global) -> Result<Frame, Rejection> {
-        Ok(Frame(self.0.clone(alloc)?))
-    }
-
-    fn write_to<W: Write>(&self, alloc: Global, writer: &mut W) -> Result<(), Rejection> {
-        let mut octets = Vec::from_slice(alloc, &[0x5a])?;
-        let outcome = write_frame(alloc, &self.0, &mut octets);
-        let Some(trailing) = octets.strip_prefix([0x5a].as_slice()) else {
-            return Err(Rejection::Lost);
-        };
-        if outcome.is_err() && !trailing.is_empty() {
-            return Err(Rejection::Lost);
-        }
-        outcome?;
-        Ok(writer.write_all(trailing)?)
-    }
-}
-
+/// A record, which goes through the calls on arrays once it is read.
 impl Format for LsapTokenInfoIntegrity {
-    fn read_from(_alloc: Global, octets: &[u8]) -> Result<LsapTokenInfoIntegrity, Rejection> {
-        let mut reader = octets;
-        Ok(LsapTokenInfoIntegrity::decode(&mut reader)?)
-    }
+    type Value = LsapTokenInfoIntegrity;
 
-    fn again(&self, _alloc: Global) -> Result<LsapTokenInfoIntegrity, Rejection> {
-        Ok(self.clone()?)
-    }
+    type Error = io::Error;
 
-    fn write_to<W: Write>(&self, _alloc: Global, writer: &mut W) -> Result<(), Rejection> {
-        Ok(self.encode(writer)?)
-    }
-}
-
-impl Streamed for LsapTokenInfoIntegrity {
-    fn read_slowly(
+    fn read_from<R: Read>(
         _alloc: Global,
         _octets: &[u8],
-        reader: &mut Source<'_>,
-    ) -> Result<LsapTokenInfoIntegrity, Rejection> {
-        Ok(LsapTokenInfoIntegrity::decode(reader)?)
+        reader: &mut R,
+    ) -> io::Result<LsapTokenInfoIntegrity> {
+        let record = LsapTokenInfoIntegrity::decode(reader)?;
+        Ok(record_of(&octets_of(&record.clone()?)))
+    }
+
+    fn write_to<W: Write>(
+        _alloc: Global,
+        value: &LsapTokenInfoIntegrity,
+        writer: &mut W,
+    ) -> io::Result<()> {
+        value.encode(writer)
     }
 }
 
-/// The octets of the record that these are, by the calls on arrays.
-fn recorded(row: &Row<'_>) -> Result<Vec<u8>, Rejection> {
-    let mut octets = [0; 40];
-    if row.octets.len() != octets.len() {
-        return Err(Rejection::Lost);
+/// The findings of a frame that is read from a slice and appended to a vector, with the texts of errors.
+fn reframed(row: &Row<'_>) -> Result<Findings, Refusal> {
+    let (message, _taken) = match read_frame(row.alloc, row.octets) {
+        Ok(read) => read,
+        Err(ReadFrameError::OutOfMemory) => return Err(Refusal::OutOfMemory),
+        Err(error) => {
+            let text = format!(in row.alloc; "{error:?}: {error}")?;
+            return Err(Refusal::Named(text));
+        }
+    };
+    let mut found = Findings::new(row.alloc);
+    let mut frame = Vec::new(row.alloc);
+    match write_frame(row.alloc, &message, &mut frame) {
+        Ok(()) => found.decide("copied", frame.as_slice() == row.written)?,
+        Err(WriteFrameError::OutOfMemory) => return Err(Refusal::OutOfMemory),
+        Err(error) => {
+            let text = format!(in row.alloc; ", not written, {error:?}: {error}")?;
+            found.text.push_str(text.as_str())?;
+            found.held = row.unwritten == "TooLong";
+        }
     }
-    octets.copy_from_slice(row.octets);
-    let record = record_of(&octets);
-    if record != LsapTokenInfoIntegrity::read_from(row.alloc, row.octets)? {
-        return Err(Rejection::Otherwise);
-    }
-    Ok(Vec::from_slice(row.alloc, &octets_of(&record))?)
+    Ok(found)
 }
 
 /// The texts of the errors for allocation failures.
-fn texts(alloc: Global) -> Result<Vec<u8>, Rejection> {
+fn texts(row: &Row<'_>) -> io::Result<Vec<u8>> {
     let read = ReadFrameError::OutOfMemory;
     let written = WriteFrameError::OutOfMemory;
-    let text = format!(in alloc; "{read}, {written}")?;
-    Ok(Vec::from_slice(alloc, text.as_bytes())?)
+    let text = format!(in row.alloc; "{read}, {written}")?;
+    Ok(Vec::from_slice(row.alloc, text.as_bytes())?)
 }
 
 /// The findings of a frame or a record, by its name.
@@ -119,9 +94,8 @@ pub fn try_frame(row: &Row<'_>) -> Attempt {
     Some(match row.name {
         "KrbPrivMessage" => tried_slowly::<KrbPrivMessage>(row),
         "LsapTokenInfoIntegrity" => tried_slowly::<LsapTokenInfoIntegrity>(row),
-        "read_frame" => tried::<Frame>(row),
-        "frames, texts" => made(row, texts(row.alloc)),
-        "record_of" => made(row, recorded(row)),
+        "read_frame" => reframed(row),
+        "frames, texts" => made(row, texts(row), row.written),
         _ => return None,
     })
 }

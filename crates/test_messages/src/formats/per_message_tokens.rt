@@ -1,12 +1,10 @@
 //! MIC and Wrap tokens (RFC 4121, 4.2.6).
 
-use crate::devices::Source;
-use crate::rejection::Rejection;
 use crate::row::{Attempt, Row};
-use crate::trials::{Format, Streamed, made, of_both, tried_slowly};
-use krb_gss_tokens::{MicToken, WrapToken};
+use crate::trials::{Format, made, tried_slowly};
+use krb_gss_tokens::{GssApiMessageError, MicToken, WrapToken};
 use std::alloc::Global;
-use std::io::Write;
+use std::io::{Read, Write};
 
 /// The octets that a token has as its payload, so that a clone copies them.
 const PAYLOAD: &[u8] = b"a payload";
@@ -15,76 +13,56 @@ const PAYLOAD: &[u8] = b"a payload";
 const SENT_BY_ACCEPTOR: u8 = 1;
 
 impl Format for MicToken {
-    fn read_from(alloc: Global, octets: &[u8]) -> Result<MicToken, Rejection> {
-        let slice = MicToken::from_slice(alloc, octets);
-        let read = MicToken::decode(alloc, octets);
-        let mut token = of_both(
-            alloc,
-            read.map_err(Rejection::from),
-            slice.map_err(Rejection::from),
-        )?;
-        token.set_payload(Vec::from_slice(alloc, PAYLOAD)?);
-        Ok(token)
-    }
+    type Value = MicToken;
 
-    fn again(&self, alloc: Global) -> Result<MicToken, Rejection> {
-        Ok(self.clone(alloc)?)
-    }
+    type Error = GssApiMessageError;
 
-    fn write_to<W: Write>(&self, _alloc: Global, writer: &mut W) -> Result<(), Rejection> {
-        Ok(self.encode(writer)?)
-    }
-}
-
-impl Streamed for MicToken {
-    fn read_slowly(
+    fn read_from<R: Read>(
         alloc: Global,
         _octets: &[u8],
-        reader: &mut Source<'_>,
-    ) -> Result<MicToken, Rejection> {
+        reader: &mut R,
+    ) -> Result<MicToken, GssApiMessageError> {
         let mut token = MicToken::decode(alloc, reader)?;
         token.set_payload(Vec::from_slice(alloc, PAYLOAD)?);
-        Ok(token)
+        token.clone(alloc)
+    }
+
+    fn write_to<W: Write>(
+        _alloc: Global,
+        value: &MicToken,
+        writer: &mut W,
+    ) -> Result<(), GssApiMessageError> {
+        value.encode(writer)
     }
 }
 
 impl Format for WrapToken {
-    fn read_from(alloc: Global, octets: &[u8]) -> Result<WrapToken, Rejection> {
-        let slice = WrapToken::from_slice(alloc, octets);
-        let read = WrapToken::decode(alloc, octets);
-        let mut token = of_both(
-            alloc,
-            read.map_err(Rejection::from),
-            slice.map_err(Rejection::from),
-        )?;
-        token.payload = Some(Vec::from_slice(alloc, PAYLOAD)?);
-        Ok(token)
-    }
+    type Value = WrapToken;
 
-    fn again(&self, alloc: Global) -> Result<WrapToken, Rejection> {
-        Ok(self.clone(alloc)?)
-    }
+    type Error = GssApiMessageError;
 
-    fn write_to<W: Write>(&self, _alloc: Global, writer: &mut W) -> Result<(), Rejection> {
-        Ok(self.encode(writer)?)
-    }
-}
-
-impl Streamed for WrapToken {
-    fn read_slowly(
+    fn read_from<R: Read>(
         alloc: Global,
         _octets: &[u8],
-        reader: &mut Source<'_>,
-    ) -> Result<WrapToken, Rejection> {
+        reader: &mut R,
+    ) -> Result<WrapToken, GssApiMessageError> {
         let mut token = WrapToken::decode(alloc, reader)?;
         token.payload = Some(Vec::from_slice(alloc, PAYLOAD)?);
-        Ok(token)
+        token.clone(alloc)
+    }
+
+    fn write_to<W: Write>(
+        _alloc: Global,
+        value: &WrapToken,
+        writer: &mut W,
+    ) -> Result<(), GssApiMessageError> {
+        value.encode(writer)
     }
 }
 
 /// The octets of a MIC token that is made of the parts of the test vector's, after those of its header alone.
-fn mic_again(row: &Row<'_>) -> Result<Vec<u8>, Rejection> {
-    let read = MicToken::decode(row.alloc, row.octets)?;
+fn mic_again(row: &Row<'_>) -> Result<Vec<u8>, GssApiMessageError> {
+    let read = MicToken::from_slice(row.alloc, row.octets)?;
     let token = if read.flags & SENT_BY_ACCEPTOR == 0 {
         MicToken::with_initiator_flags(row.alloc)
     } else {
@@ -98,8 +76,8 @@ fn mic_again(row: &Row<'_>) -> Result<Vec<u8>, Rejection> {
 }
 
 /// The octets of a Wrap token that is made of the parts of the test vector's, after those of its header alone.
-fn wrap_again(row: &Row<'_>) -> Result<Vec<u8>, Rejection> {
-    let read = WrapToken::decode(row.alloc, row.octets)?;
+fn wrap_again(row: &Row<'_>) -> Result<Vec<u8>, GssApiMessageError> {
+    let read = WrapToken::from_slice(row.alloc, row.octets)?;
     let mut token = WrapToken::with_seq_number(row.alloc, read.seq_num);
     let mut octets = Vec::from_slice(row.alloc, &token.header())?;
     token.flags = read.flags;
@@ -110,13 +88,13 @@ fn wrap_again(row: &Row<'_>) -> Result<Vec<u8>, Rejection> {
     Ok(octets)
 }
 
-/// The findings of a per-message token, by the name of its type.
+/// The findings of a per-message token, by the name of its type or of the call that makes it.
 pub fn try_per_message(row: &Row<'_>) -> Attempt {
     Some(match row.name {
         "MicToken" => tried_slowly::<MicToken>(row),
-        "MicToken::with_seq_number" => made(row, mic_again(row)),
+        "MicToken::with_seq_number" => made(row, mic_again(row), row.written),
         "WrapToken" => tried_slowly::<WrapToken>(row),
-        "WrapToken::with_seq_number" => made(row, wrap_again(row)),
+        "WrapToken::with_seq_number" => made(row, wrap_again(row), row.written),
         _ => return None,
     })
 }

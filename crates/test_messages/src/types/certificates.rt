@@ -10,7 +10,8 @@ use krb_pkinit::pkinit::{
     Pku2uNegoBody, Pku2uNegoRep, Pku2uNegoReq, Pku2uNegoReqMetadata, ValidationParams,
 };
 
-/// Reads the octets as a client's type of PKINIT of this name, and returns the findings. `None` where no type has the name.
+/// Reads the octets as a client's type of PKINIT, an algorithm or a public key of this name, and returns the findings. `None` where no
+/// type has the name.
 pub fn try_certificate(row: &Row<'_>) -> Attempt {
     Some(match row.name {
         "DhAuthPack" => findings_of::<DhAuthPack>(row),
@@ -19,13 +20,6 @@ pub fn try_certificate(row: &Row<'_>) -> Attempt {
         "ExternalPrincipalIdentifier" => findings_of::<ExternalPrincipalIdentifier>(row),
         "PaPkAsReq" => findings_of::<PaPkAsReq>(row),
         "PkAuthenticator" => findings_of::<PkAuthenticator>(row),
-        _ => return try_public_key(row),
-    })
-}
-
-/// Reads the octets as an algorithm or a public key of this name, and returns the findings. `None` where no type has the name.
-fn try_public_key(row: &Row<'_>) -> Attempt {
-    Some(match row.name {
         "AlgorithmIdentifier" => findings_of::<AlgorithmIdentifier>(row),
         "Asn1SequenceOf<AlgorithmIdentifier>" => findings_of::<Asn1SequenceOf<AlgorithmIdentifier>>(
             row,
@@ -39,7 +33,7 @@ fn try_public_key(row: &Row<'_>) -> Attempt {
     })
 }
 
-/// Reads the octets as a message of PKU2U of this name, and returns the findings. `None` where no type has the name.
+/// Reads the octets as a message of PKU2U, or a KDC's type of PKINIT, of this name, and returns the findings.
 fn try_pku2u(row: &Row<'_>) -> Attempt {
     Some(match row.name {
         "KrbFinished" => findings_of::<KrbFinished>(row),
@@ -47,13 +41,6 @@ fn try_pku2u(row: &Row<'_>) -> Attempt {
         "Pku2uNegoRep" => findings_of::<Pku2uNegoRep>(row),
         "Pku2uNegoReq" => findings_of::<Pku2uNegoReq>(row),
         "Pku2uNegoReqMetadata" => findings_of::<Pku2uNegoReqMetadata>(row),
-        _ => return try_certificate_reply(row),
-    })
-}
-
-/// Reads the octets as a KDC's type of PKINIT of this name, and returns the findings. `None` where no type has the name.
-fn try_certificate_reply(row: &Row<'_>) -> Attempt {
-    Some(match row.name {
         "DhRepInfo" => findings_of::<DhRepInfo>(row),
         "KdcDhKeyInfo" => findings_of::<KdcDhKeyInfo>(row),
         "PaPkAsRep" => findings_of::<PaPkAsRep>(row),

@@ -8,7 +8,7 @@ use krb_messages::messages::{
     KrbErrorInner, KrbPriv, KrbPrivInner, TgsRep, TgsReq, TgtRep, TgtReq,
 };
 
-/// Reads the octets as another message of this name, and returns the findings. `None` where no type has the name.
+/// Reads the octets as a message of this name, and returns the findings. `None` where no type has the name.
 pub fn try_message(row: &Row<'_>) -> Attempt {
     Some(match row.name {
         "ApMessage" => findings_of::<ApMessage>(row),
@@ -29,20 +29,13 @@ pub fn try_message(row: &Row<'_>) -> Attempt {
     })
 }
 
-/// Reads the octets as a request to a KDC of this name, and returns the findings. `None` where no type has the name.
+/// Reads the octets as a request to a KDC, its reply, or the encrypted part of one, of this name, and returns the findings.
 fn try_request(row: &Row<'_>) -> Attempt {
     Some(match row.name {
         "AsReq" => findings_of::<AsReq>(row),
         "KdcReq" => findings_of::<KdcReq>(row),
         "KdcReqBody" => findings_of::<KdcReqBody>(row),
         "TgsReq" => findings_of::<TgsReq>(row),
-        _ => return try_reply(row),
-    })
-}
-
-/// Reads the octets as a KDC's reply, or its encrypted part, of this name, and returns the findings.
-fn try_reply(row: &Row<'_>) -> Attempt {
-    Some(match row.name {
         "AsRep" => findings_of::<AsRep>(row),
         "EncAsRepPart" => findings_of::<EncAsRepPart>(row),
         "EncKdcRepPart" => findings_of::<EncKdcRepPart>(row),

@@ -10,7 +10,8 @@ use krb_gss_tokens::gss_api::{
 use krb_messages::messages::{ApRep, ApReq, TgtReq};
 use krb_types::data_types::{KerbPaPacRequest, PrincipalName};
 
-/// Reads the octets as a message of SPNEGO of this name, and returns the findings. `None` where no type has the name.
+/// Reads the octets as a message of SPNEGO, or a token with a message of Kerberos, of this name, and returns the findings. `None` where
+/// no type has the name.
 pub fn try_negotiation(row: &Row<'_>) -> Attempt {
     Some(match row.name {
         "ApplicationTag0<GssApiNegInit>" => findings_of::<ApplicationTag0<GssApiNegInit>>(row),
@@ -23,13 +24,6 @@ pub fn try_negotiation(row: &Row<'_>) -> Attempt {
         "NegTokenInit" => findings_of::<NegTokenInit>(row),
         "NegTokenTarg" => findings_of::<NegTokenTarg>(row),
         "NegTokenTarg1" => findings_of::<NegTokenTarg1>(row),
-        _ => return try_token(row),
-    })
-}
-
-/// Reads the octets as a token with a message of Kerberos of this name, and returns the findings.
-fn try_token(row: &Row<'_>) -> Attempt {
-    Some(match row.name {
         "ApplicationTag0<KrbMessage<ApRep>>" => findings_of::<ApplicationTag0<KrbMessage<ApRep>>>(
             row,
         ),

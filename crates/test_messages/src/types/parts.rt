@@ -8,7 +8,7 @@ use krb_enc_parts::data_types::{
     KrbCredInfo,
 };
 
-/// Reads the octets as a part of this name, and returns the findings. `None` where no type has the name.
+/// Reads the octets as a part, or as credentials in one, of this name, and returns the findings. `None` where no type has the name.
 pub fn try_part(row: &Row<'_>) -> Attempt {
     Some(match row.name {
         "Authenticator" => findings_of::<Authenticator>(row),
@@ -19,13 +19,6 @@ pub fn try_part(row: &Row<'_>) -> Attempt {
         "EncKrbPrivPartInner" => findings_of::<EncKrbPrivPartInner>(row),
         "EncTicketPart" => findings_of::<EncTicketPart>(row),
         "EncTicketPartInner" => findings_of::<EncTicketPartInner>(row),
-        _ => return try_credentials(row),
-    })
-}
-
-/// Reads the octets as forwarded credentials of this name, and returns the findings. `None` where no type has the name.
-fn try_credentials(row: &Row<'_>) -> Attempt {
-    Some(match row.name {
         "EncKrbCredPart" => findings_of::<EncKrbCredPart>(row),
         "EncKrbCredPartInner" => findings_of::<EncKrbCredPartInner>(row),
         "KrbCredInfo" => findings_of::<KrbCredInfo>(row),

@@ -11,7 +11,7 @@ use krb_der_x509::{
 };
 use krb_types::data_types::KerbPaPacRequest;
 
-/// Reads the octets as a primitive type of this name, and returns the findings. `None` where no type has the name.
+/// Reads the octets as a primitive type, tagged or not, of this name, and returns the findings. `None` where no type has the name.
 pub fn try_primitive(row: &Row<'_>) -> Attempt {
     Some(match row.name {
         "Asn1RawDer" => findings_of::<Asn1RawDer>(row),
@@ -24,13 +24,6 @@ pub fn try_primitive(row: &Row<'_>) -> Attempt {
         "String" => findings_of::<Utf8StringAsn1>(row),
         "bool" => findings_of::<bool>(row),
         "u32" => findings_of::<u32>(row),
-        _ => return try_tagged(row),
-    })
-}
-
-/// Reads the octets as a tagged primitive type of this name, and returns the findings. `None` where no type has the name.
-fn try_tagged(row: &Row<'_>) -> Attempt {
-    Some(match row.name {
         "ApplicationTag<KerbPaPacRequest, 31>" => findings_of::<
             ApplicationTag<KerbPaPacRequest, 31>,
         >(row),

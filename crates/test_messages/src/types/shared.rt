@@ -9,7 +9,8 @@ use krb_types::data_types::{
     PrincipalName, Realm, Ticket, TicketInner, TransitedEncoding,
 };
 
-/// Reads the octets as a type that is no sequence, of this name, and returns the findings. `None` where no type has the name.
+/// Reads the octets as a primitive type, or a sequence of these, of this name, and returns the findings. `None` where no type has the
+/// name.
 pub fn try_shared(row: &Row<'_>) -> Attempt {
     Some(match row.name {
         "ApOptions" => findings_of::<ApOptions>(row),
@@ -18,13 +19,6 @@ pub fn try_shared(row: &Row<'_>) -> Attempt {
         "KerberosTime" => findings_of::<KerberosTime>(row),
         "Microseconds" => findings_of::<Microseconds>(row),
         "Realm" => findings_of::<Realm>(row),
-        _ => return try_sequence(row),
-    })
-}
-
-/// Reads the octets as a sequence of primitive types, of this name, and returns the findings. `None` where no type has the name.
-fn try_sequence(row: &Row<'_>) -> Attempt {
-    Some(match row.name {
         "AuthorizationDataInner" => findings_of::<AuthorizationDataInner>(row),
         "Checksum" => findings_of::<Checksum>(row),
         "EncryptedData" => findings_of::<EncryptedData>(row),
