@@ -9,6 +9,8 @@ from rows import octets
 PAGES, NAMES = ("show",), ("item_name", "number_name")
 # A key of any size, and random octets, for what is encrypted here.
 KEY, CONFOUNDER, MANY = bytes([9]) * 32, bytes([5]) * 16, b"\x5a" * 70001
+# The field s-address of an EncKrbPrivPart (RFC 4120, 5.7.1).
+S_ADDRESS = bytes.fromhex("a40f300da003020102a10604047f000001")
 
 
 def told(library, columns):
@@ -95,6 +97,23 @@ def many_octets(library, etype):
     return "the same" if is_right and opened.out.rstrip(b"\0") == MANY else "others"
 
 
+def wide(tag, content):
+    """An element of DER (X.690, 8.1.3) of 64 KiB and more."""
+    return bytes([tag, 0x83]) + len(content).to_bytes(3, "big") + content
+
+
+def many_in_a_part(library, etype):
+    """Whether an EncKrbPrivPart (RFC 4120, 5.7.1) of many octets is encrypted, and decrypted to
+    itself."""
+    etype = int(etype)
+    key, confounder = KEY[: library.key_size(etype)], CONFOUNDER[: library.confounder_size(etype)]
+    part = wide(0x7C, wide(0x30, wide(0xA0, wide(4, MANY)) + S_ADDRESS))
+    made = library.seal_priv_part(etype, key, 13, confounder, part)
+    opened = library.open_priv_part(etype, key, 13, made.out)
+    is_right = len(made.out) == library.encrypted_size(etype, len(part))
+    return "the same" if is_right and opened.out == part else "others"
+
+
 def many_wrapped(library, etype):
     """Whether a MIC token of many octets holds, and Wrap tokens, rotated, hold them."""
     etype = int(etype)
@@ -115,5 +134,6 @@ OTHERS = {
     "item": item,
     "page begins": page_begins,
     "many octets": many_octets,
+    "many octets in a part": many_in_a_part,
     "many octets wrapped": many_wrapped,
 }

@@ -16,12 +16,14 @@ PART = bytes.fromhex(
 # Of a ticket without a part (RFC 4120, 5.3): tkt-vno, realm and sname.
 FRONT = bytes.fromhex("a003020105a1031b0152a20e300ca003020101a10530031b0178")
 ETYPES, FRESH, OTHER = (16, 17, 18, 19, 20), bytes(16), b"\x5a" * 32
+KEY = b"\xa5" * 16
 OF_TYPE, OF_OTHERS = '"no key of this encryption type opens it"', '"no key of this encryption type"'
 
 
 def keys(library, columns):
     """A row of `keys`: `key` or `keytab`, a text or a keytab, and keys ETYPE:HEX with `|` between;
-    or `hidden` or `message` and octets that are shown with keys hidden."""
+    or `password`, a text, what stands in a ticket before its part, and keys; or `found` and how
+    many keys are found; or `hidden` or `message` and octets that are shown with keys hidden."""
     how, given, *more = columns
     return ASKED[how](library, given, *more)
 
@@ -66,19 +68,51 @@ def keytab(library, given, wanted=""):
     return [*told, f"encryption types: {' '.join(types)}"]
 
 
+def password(library, text, front, wanted):
+    """What opens tickets of a realm and a name under these keys, each in turn, where the first line
+    of a file is this password."""
+    with tempfile.TemporaryDirectory(prefix="tests-") as folder:
+        file = Path(folder, "password")
+        file.write_text(f"{text}\n", encoding="utf-8")
+        words, told = ["show", "--password-file", str(file)], []
+        for it in wanted.split("|"):
+            ticket = ticket_of(library, *key_of(it), front=octets(front))
+            told.append(opener_in(asked(library, words, ticket)))
+    return told
+
+
+def found(library, count):
+    """How many keys are not tried of those that are found in the part of a KRB-CRED (RFC 4120,
+    5.8.1), by default and with --all-found-keys."""
+    number, words = element(0xA0, element(2, b"\x11")), ["show", "--key", f"17:{KEY.hex()}"]
+    info = element(0xA0, element(0x30, number + element(0xA1, element(4, bytes(16)))))
+    infos = element(0xA0, element(0x30, element(0x30, info) * int(count)))
+    part = element(0x7D, element(0x30, infos))
+    sealed = library.encrypt(17, KEY, 14, FRESH, part).demand().out
+    encrypted = element(0xA3, element(0x30, number + element(0xA2, element(4, sealed))))
+    front = bytes.fromhex("a003020105a103020116a2023000")
+    message, told = element(0x76, element(0x30, front + encrypted)), []
+    for more in ([], ["--all-found-keys"]):
+        page = asked(library, words + more, message)
+        if value_in(page, f"ticket-info[{count}]") is None:
+            raise Fault(f"the page has not the {count} keys")
+        told.append(value_in(page, "keys-not-tried") or "each is tried")
+    return told
+
+
 def key_of(text):
     """The encryption type and the octets of ETYPE:HEX."""
     etype, digits = text.split(":")
     return int(etype), octets(digits)
 
 
-def ticket_of(library, etype, key_octets):
-    """A ticket whose part is sealed under a key."""
+def ticket_of(library, etype, key_octets, front=FRONT):
+    """A ticket whose part, behind `front`, is sealed under a key."""
     confounder = FRESH[: library.confounder_size(etype)]
     sealed = library.seal_ticket_part(etype, key_octets, 2, confounder, PART).demand().out
     number = element(0xA0, element(2, bytes([etype])))
     part = element(0xA3, element(0x30, number + element(0xA2, element(4, sealed))))
-    return element(0x61, element(0x30, FRONT + part))
+    return element(0x61, element(0x30, front + part))
 
 
 def element(tag, content):
@@ -115,4 +149,5 @@ def message(library, given):
     return lines_of(library.show_page(b"", octets(given), b"", False, False).demand().out)
 
 
-ASKED = {"key": key, "keytab": keytab, "hidden": hidden, "message": message}
+ASKED = {"key": key, "keytab": keytab, "password": password, "found": found}
+ASKED.update({"hidden": hidden, "message": message})

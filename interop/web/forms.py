@@ -1,9 +1,6 @@
 """The forms of an input, as programs of others write them (crates/krb_input)."""
 
 import base64
-import hashlib
-import hmac
-import re
 import shutil
 import subprocess
 
@@ -23,27 +20,15 @@ def outcome(text):
         return None
 
 
-def key_of(password, salt):
-    """The key of type 20 of a password (RFC 8009, 4 and 3), by hashlib."""
-    first = hashlib.pbkdf2_hmac("sha384", password, b"aes256-cts-hmac-sha384-192\0" + salt, 32768, 32)
-    return hmac.new(first, b"\0\0\0\1kerberos\0" + (256).to_bytes(4, "big"), hashlib.sha384).digest()[:32]
-
-
 def try_salts():
-    """The salts of a password that octets tell: those under which a program in Python made keys of it for the rows of `keys` (crates/test_show)."""
+    """The salts of a password that octets tell: those under which a program in Python made keys of it (crates/test_show, table `salts`)."""
     from krb._pages import page_of
-    from given import passwords
+    from given import salted
 
-    rows, lines = passwords()
-    lines = [line for line in lines if re.fullmatch(r"20 [0-9a-f]+ password, salt .+", line)]
-    counts = [3, 2, 2, 3, 2, 1, 0, 16]  # how many salts each row has, some twice; the last has more, of which 16 count
-    expect(len(rows) == len(counts) and len(lines) == sum(counts), "%d rows of passwords, %d lines" % (len(rows), len(lines)))
-    for (_, password, digits), count in zip(rows, counts):
-        mine, lines = lines[:count], lines[count:]
-        salts = {line.split(", salt ", 1)[1].encode() for line in mine}
-        expect(all(key_of(password.encode(), line.split(", salt ", 1)[1].encode()).hex() == line.split()[1] for line in mine), "lines of another row: %s" % mine)
-        told = page_of(bytes.fromhex(digits), None, b"", False)[1]
-        expect(set(told) == salts if count < 16 else salts <= set(told), "the salts %s, not %s" % (told, salts))
+    for octets, expected in salted():
+        told, salts = page_of(octets, None, b"", False)[1], {it.encode() for it in expected}
+        # (the last row has more, of which 16 count)
+        expect(set(told) == salts if len(expected) < 16 else salts <= set(told), "the salts %s, not %s" % (told, salts))
 
 
 def try_forms():

@@ -1,6 +1,7 @@
 """The rows of tests/*.rows, octets with what decoders in Python made of them that share no code with the library, and texts to mislead."""
 
 import os
+import re
 
 from der import element, integer, name, sequence, text
 from keytabs import keytab_of
@@ -34,10 +35,12 @@ def buffers():
         yield row.columns[0], int(row.columns[1]), bytes.fromhex(row.columns[2]), row.expected
 
 
-def passwords():
-    """The rows of passwords and their keys, of crates/test_show, table `keys`: the columns of each, and all lines of keys."""
+def salted():
+    """The rows of crates/test_show, table `salts`: the octets of a message, and the salts that are expected of it."""
     with open(os.path.join(TOP, "crates", "test_show", "stdout"), encoding="utf-8") as file:
-        return [line.split("\t") for _, line in lines_of("test_show", "keys") if line.startswith("password\t")], file.read().split("\n")
+        expected = [re.findall(r" ([^;]+);", line) for line in file if line.startswith("salts:")]
+    rows = [bytes.fromhex(line) for _, line in lines_of("test_show", "salts") if not line.startswith("#")]
+    return list(zip(rows, expected, strict=True))
 
 
 # Texts to mislead.

@@ -6,7 +6,6 @@
 
 mod crypto;
 mod pac_checksums;
-mod service;
 mod third_legs;
 
 use std::alloc::Global;

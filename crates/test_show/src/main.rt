@@ -6,11 +6,10 @@
 
 mod fields;
 mod kdc_proxy;
-mod keys;
-mod limited;
 mod lists;
 mod negoex;
 mod pac_text;
+mod salts;
 
 use std::alloc::Global;
 use std::io;
@@ -24,8 +23,7 @@ impl Tables for Shown {
     fn report_of(alloc: Global, table: &str, columns: Columns<'_>) -> Result<Report, RowError> {
         let text = match table {
             "negoex" => negoex::answer(alloc, columns),
-            "limited" => limited::answer(alloc, columns),
-            "keys" => keys::answer(alloc, columns),
+            "salts" => salts::answer(alloc, columns),
             "fields" => fields::answer(alloc, columns),
             "lists" => lists::answer(alloc, columns),
             "pac text" => pac_text::answer(alloc, columns),

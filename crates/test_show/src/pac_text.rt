@@ -7,17 +7,6 @@ use krb_pac_contents::text::{FileTime, name_text, time_of_filetime};
 use std::alloc::{AllocError, Global};
 use test_rows::{Columns, RowError};
 
-/// The text of a name, in hexadecimal digits.
-fn name(alloc: Global, octets: &[u8]) -> Result<String, AllocError> {
-    match name_text(alloc, octets)? {
-        Some(text) => {
-            let digits = hex::encode(alloc, text.as_bytes())?;
-            format!(in alloc; "text {digits}")
-        }
-        None => String::from_str(alloc, "none"),
-    }
-}
-
 /// The parts of a time.
 fn time(alloc: Global, filetime: u64) -> Result<String, AllocError> {
     match time_of_filetime(filetime) {
@@ -36,10 +25,12 @@ fn time(alloc: Global, filetime: u64) -> Result<String, AllocError> {
 
 /// What is printed of a row.
 pub(crate) fn answer(alloc: Global, mut columns: Columns<'_>) -> Result<String, RowError> {
-    let kind = columns.text()?;
-    let text = match kind {
+    let text = match columns.text()? {
         "time" => time(alloc, columns.number::<u64>()?)?,
-        "name" => name(alloc, &columns.octets(alloc)?)?,
+        "name" => match name_text(alloc, &columns.octets(alloc)?)? {
+            Some(text) => format!(in alloc; "text {}", hex::encode(alloc, text.as_bytes())?)?,
+            None => String::from_str(alloc, "none")?,
+        },
         _ => return Err(RowError::NoColumn),
     };
     Ok(format!(in alloc; "{text}\n")?)
