@@ -86,33 +86,40 @@ const ALICE: CcachePrincipalParts<'static> = CcachePrincipalParts {
     },
 };
 
-/// A cache of as little as there can be.
-const EMPTY: NewCcache<'static> = NewCcache {
-    version: CcacheVersion::Four,
-    header: &[],
-    principal: NOBODY,
-    credentials: &[],
-};
+/// A cache of this principal without a header and a credential.
+fn cache_of<'a>(version: CcacheVersion, principal: CcachePrincipalParts<'a>) -> NewCcache<'a> {
+    NewCcache {
+        version,
+        header: &[],
+        principal,
+        credentials: &[],
+    }
+}
 
-/// A credential of as little as there can be.
-const LEAST_CREDENTIAL: NewCredential<'static> = NewCredential {
-    client: NOBODY,
-    server: NOBODY,
-    etype: 0,
-    key: b"",
-    times: Times {
-        authtime: 0,
-        starttime: 0,
-        endtime: 0,
-        renew_till: 0,
-    },
-    is_skey: 0,
-    flags: 0,
-    addresses: &[],
-    authorization_data: &[],
-    ticket: b"",
-    second_ticket: b"",
-};
+/// A credential of as little as there can be, of these principals.
+fn credential_of<'a>(
+    client: CcachePrincipalParts<'a>,
+    server: CcachePrincipalParts<'a>,
+) -> NewCredential<'a> {
+    NewCredential {
+        client,
+        server,
+        etype: 0,
+        key: b"",
+        times: Times {
+            authtime: 0,
+            starttime: 0,
+            endtime: 0,
+            renew_till: 0,
+        },
+        is_skey: 0,
+        flags: 0,
+        addresses: &[],
+        authorization_data: &[],
+        ticket: b"",
+        second_ticket: b"",
+    }
+}
 
 /// The address of a full credential of type 24, IPv6.
 const ADDRESS: [u8; 16] = [0xfd, 0, 0, 0, 0, 0, 0, 0, 0, 0, 0, 0, 0, 0, 0, 2];
@@ -129,30 +136,13 @@ const TICKET: [u8; 19] = [
     0x02, 0x04, 0x00,
 ];
 
-/// A credential with a value in each field but its addresses and its authorization data.
-const FULL: NewCredential<'static> = NewCredential {
-    client: ALICE,
-    server: CcachePrincipalParts {
-        name_type: 2,
-        principal: PrincipalParts {
-            realm: b"LAB.EXAMPLE",
-            components: &[b"HTTP", b"web.lab.example"],
-        },
+/// A web server of that realm.
+const WEB: CcachePrincipalParts<'static> = CcachePrincipalParts {
+    name_type: 2,
+    principal: PrincipalParts {
+        realm: b"LAB.EXAMPLE",
+        components: &[b"HTTP", b"web.lab.example"],
     },
-    etype: 18,
-    key: &KEY,
-    times: Times {
-        authtime: 1_700_000_001,
-        starttime: 1_700_000_002,
-        endtime: 1_700_036_003,
-        renew_till: 1_700_604_804,
-    },
-    is_skey: 1,
-    flags: 0x50e1_0000,
-    addresses: &[],
-    authorization_data: &[],
-    ticket: &TICKET,
-    second_ticket: &[0x61, 3, 2, 1, 5],
 };
 
 /// The server of a configuration entry.
@@ -199,35 +189,39 @@ fn built(rt: HostRuntime) -> Result<(), Fail> {
         TypedOctets::new(65535, &[0xff]),
     ];
     let full = NewCredential {
+        client: ALICE,
+        server: WEB,
+        etype: 18,
+        key: &KEY,
+        times: Times {
+            authtime: 1_700_000_001,
+            starttime: 1_700_000_002,
+            endtime: 1_700_036_003,
+            renew_till: 1_700_604_804,
+        },
+        is_skey: 1,
+        flags: 0x50e1_0000,
         addresses: &addresses,
         authorization_data: &authorization_data,
-        ..FULL
+        ticket: &TICKET,
+        second_ticket: &[0x61, 3, 2, 1, 5],
     };
     let configuration = NewCredential {
-        client: ALICE,
-        server: CONFIGURATION,
         ticket: b"yes",
-        ..LEAST_CREDENTIAL
+        ..credential_of(ALICE, CONFIGURATION)
     };
     let both = [full, configuration];
-    let three = NewCcache {
-        version: CcacheVersion::Three,
-        principal: ALICE,
-        ..EMPTY
-    };
     let four = NewCcache {
-        version: CcacheVersion::Four,
         header: &header,
-        ..three
+        ..cache_of(CcacheVersion::Four, ALICE)
     };
     assert!(rt; hex::encode(alloc, &written(alloc, &four, &both)?)?.as_str() == FOUR);
+    let three = cache_of(CcacheVersion::Three, ALICE);
     assert!(rt; hex::encode(alloc, &written(alloc, &three, &both)?)?.as_str() == THREE);
-    assert!(rt; hex::encode(alloc, &written(alloc, &EMPTY, &[])?)?.as_str() == NOTHING);
-    let three = NewCcache {
-        version: CcacheVersion::Three,
-        ..EMPTY
-    };
-    let octets = written(alloc, &three, &[LEAST_CREDENTIAL])?;
+    let four = cache_of(CcacheVersion::Four, NOBODY);
+    assert!(rt; hex::encode(alloc, &written(alloc, &four, &[])?)?.as_str() == NOTHING);
+    let three = cache_of(CcacheVersion::Three, NOBODY);
+    let octets = written(alloc, &three, &[credential_of(NOBODY, NOBODY)])?;
     assert!(rt; hex::encode(alloc, &octets)?.as_str() == LEAST);
     Ok(())
 }
@@ -241,30 +235,13 @@ const A: CcachePrincipalParts<'static> = CcachePrincipalParts {
     },
 };
 
-/// The small credential but for its addresses and its authorization data.
-const SMALL_CREDENTIAL: NewCredential<'static> = NewCredential {
-    client: A,
-    server: CcachePrincipalParts {
-        name_type: 2,
-        principal: PrincipalParts {
-            realm: b"R",
-            components: &[b"b"],
-        },
+/// B of the realm R.
+const B: CcachePrincipalParts<'static> = CcachePrincipalParts {
+    name_type: 2,
+    principal: PrincipalParts {
+        realm: b"R",
+        components: &[b"b"],
     },
-    etype: 17,
-    key: b"k",
-    times: Times {
-        authtime: 1,
-        starttime: 2,
-        endtime: 3,
-        renew_till: 4,
-    },
-    is_skey: 0,
-    flags: 5,
-    addresses: &[],
-    authorization_data: &[],
-    ticket: b"t",
-    second_ticket: b"",
 };
 
 /// These octets in hexadecimal, and then others so many times.
@@ -286,25 +263,30 @@ fn large(rt: HostRuntime) -> Result<(), Fail> {
     let alloc = rt.alloc();
     let (addresses, data) = ([TypedOctets::new(6, b"7")], [TypedOctets::new(8, b"9")]);
     let small = NewCredential {
+        etype: 17,
+        key: b"k",
+        times: Times {
+            authtime: 1,
+            starttime: 2,
+            endtime: 3,
+            renew_till: 4,
+        },
+        flags: 5,
         addresses: &addresses,
         authorization_data: &data,
-        ..SMALL_CREDENTIAL
+        ticket: b"t",
+        ..credential_of(A, B)
     };
     let credentials = Vec::from_elem(alloc, small, 1500)?;
-    let cache = NewCcache {
-        principal: A,
+    let four = NewCcache {
         credentials: &credentials,
-        ..EMPTY
+        ..cache_of(CcacheVersion::Four, A)
     };
     let expected = repeated(alloc, SMALL_HEAD, SMALL, 1500)?;
-    assert!(rt; write(alloc, &cache)? == expected);
-    let cache = NewCcache {
-        version: CcacheVersion::Three,
-        principal: A,
-        ..EMPTY
-    };
+    assert!(rt; write(alloc, &four)? == expected);
+    let three = cache_of(CcacheVersion::Three, A);
     let expected = repeated(alloc, SMALL_HEAD_IN_THREE, SMALL_IN_THREE, 1500)?;
-    assert!(rt; written(alloc, &cache, &credentials)? == expected);
+    assert!(rt; written(alloc, &three, &credentials)? == expected);
     let ticket = Vec::from_elem(alloc, 0xa5, 70_000)?;
     let credential = NewCredential {
         ticket: &ticket,
@@ -327,9 +309,8 @@ fn with_header(
     let field = Vec::from_elem(alloc, 0xa5, size)?;
     let header = [TypedOctets::new(1, &field)];
     let cache = NewCcache {
-        version,
         header: &header,
-        ..EMPTY
+        ..cache_of(version, NOBODY)
     };
     write(alloc, &cache)
 }
