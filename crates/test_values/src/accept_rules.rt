@@ -1,29 +1,25 @@
 //! The texts and the numbers of an acceptor's refusals, its usual terms, and a replay cache of a thousand entries.
 
 use krb_accept_rules::{Entry, Refusal, ReplayCache, Rule, Terms};
-use krb_der::{Asn1SequenceOf, GeneralStringAsn1};
-use std::alloc::{AllocError, Global};
+use krb_der::{Asn1DerError, Asn1SequenceOf, GeneralStringAsn1};
+use std::alloc::Global;
 use std::test::Fail;
 
 /// A text of Kerberos.
-fn text(alloc: Global, text: &str) -> Result<GeneralStringAsn1, Fail> {
-    Ok(GeneralStringAsn1::from_string(String::from_str(alloc, text)?)?)
-}
-
-/// A name of one component.
-fn name(alloc: Global, component: &str) -> Result<Asn1SequenceOf<GeneralStringAsn1>, Fail> {
-    let mut components = Vec::new(alloc);
-    components.push(text(alloc, component)?)?;
-    Ok(Asn1SequenceOf(components))
+fn text(alloc: Global, text: &str) -> Result<GeneralStringAsn1, Asn1DerError> {
+    GeneralStringAsn1::from_string(String::from_str(alloc, text)?)
 }
 
 /// The entry of ann's authenticator of this time, for a web server.
 fn entry(alloc: Global, seconds: i64, microseconds: u32) -> Result<Entry, Fail> {
+    let (server_realm, client_realm) = (text(alloc, "HOME.TEST")?, text(alloc, "HOME.TEST")?);
+    let server = Vec::from_array(alloc, [text(alloc, "web")?])?;
+    let client = Vec::from_array(alloc, [text(alloc, "ann")?])?;
     Ok(Entry {
-        server_realm: text(alloc, "HOME.TEST")?,
-        server: name(alloc, "web")?,
-        client_realm: text(alloc, "HOME.TEST")?,
-        client: name(alloc, "ann")?,
+        server_realm,
+        server: Asn1SequenceOf(server),
+        client_realm,
+        client: Asn1SequenceOf(client),
         seconds,
         microseconds,
     })
@@ -141,19 +137,13 @@ const RULES: [(Rule, u32, &str); 32] = [
     (Rule::OutOfMemory, 60, "an allocation failed"),
 ];
 
-/// Whether the rule has this error code and this text, and so has a refusal by it.
-fn is_rule(alloc: Global, rule: Rule, code: u32, words: &str) -> Result<bool, AllocError> {
-    Ok(
-        rule.code() == code
-            && rule.to_string(alloc)?.as_str() == words
-            && Refusal::plain(rule).to_string(alloc)?.as_str() == words,
-    )
-}
-
 #[test]
 fn rules_of_an_acceptor(rt: HostRuntime) -> Result<(), Fail> {
     for row in &RULES {
-        assert!(rt; is_rule(rt.alloc(), row.0, row.1, row.2)?, "{}", row.2);
+        assert!(rt; row.0.code() == row.1, "{}", row.2);
+        assert!(rt; row.0.to_string(rt.alloc())?.as_str() == row.2, "{}", row.2);
+        let refusal = Refusal::plain(row.0).to_string(rt.alloc())?;
+        assert!(rt; refusal.as_str() == row.2, "{}", row.2);
     }
     Ok(())
 }
@@ -168,31 +158,30 @@ fn usual_terms(rt: HostRuntime) -> Result<(), Fail> {
     Ok(())
 }
 
-/// A cache of an entry for each second up to this one.
-fn cache_of(alloc: Global, seconds: i64) -> Result<ReplayCache, Fail> {
-    let mut cache = ReplayCache::new(alloc);
-    for second in 0..seconds {
-        cache.remember(entry(alloc, second, 7)?)?;
+/// Whether the cache has of the first thousand seconds the entries since this one, and none of
+/// other microseconds.
+fn is_since(alloc: Global, cache: &ReplayCache, since: i64) -> Result<bool, Fail> {
+    let (mut kept, mut other) = (entry(alloc, 0, 7)?, entry(alloc, 0, 8)?);
+    for second in 0..1000 {
+        kept.seconds = second;
+        other.seconds = second;
+        if cache.contains(&kept) != (second >= since) || cache.contains(&other) {
+            return Ok(false);
+        }
     }
-    Ok(cache)
-}
-
-/// Whether the cache has the entry of this second, and not another of other microseconds.
-fn has(alloc: Global, cache: &ReplayCache, second: i64) -> Result<bool, Fail> {
-    Ok(cache.contains(&entry(alloc, second, 7)?) && !cache.contains(&entry(alloc, second, 8)?))
+    Ok(true)
 }
 
 #[test]
 fn thousand_entries(rt: HostRuntime) -> Result<(), Fail> {
-    let alloc = rt.alloc();
-    let mut cache = cache_of(alloc, 1000)?;
-    assert!(rt; cache.len() == 1000);
+    let mut cache = ReplayCache::new(rt.alloc());
     for second in 0..1000 {
-        assert!(rt; has(alloc, &cache, second)?);
+        cache.remember(entry(rt.alloc(), second, 7)?)?;
     }
+    assert!(rt; cache.len() == 1000);
+    assert!(rt; is_since(rt.alloc(), &cache, 0)?);
     cache.forget(800, 300);
     assert!(rt; cache.len() == 500);
-    assert!(rt; !has(alloc, &cache, 499)?);
-    assert!(rt; has(alloc, &cache, 500)?);
+    assert!(rt; is_since(rt.alloc(), &cache, 500)?);
     Ok(())
 }

@@ -6,9 +6,9 @@
 //! shows these values of the first three entries of `BUILT`, and takes the fourth, which has no component, for the end. Of a name the
 //! entry of the highest version is expected where a version of 0 is asked for, as `krb5_kt_get_entry` of MIT Kerberos has it.
 
-use hex::FromHexError;
+use crate::built_ccache::repeated;
 use krb_files::fields::PrincipalParts;
-use krb_files::keytab::{EntryView, KeytabView, KeytabWriteError, NewEntry, push_entry, write};
+use krb_files::keytab::{KeytabView, KeytabWriteError, NewEntry, push_entry, write};
 use std::alloc::{AllocError, Global};
 use std::test::Fail;
 
@@ -35,16 +35,14 @@ const BUILT: &str =
     01520001780001fffffffffffffffffefffffd000180ffffffff0000001a0001000152000161000000010000000200001700\
     016b0000010000000015000000000000000000000000000000000000000000";
 
+/// What is in front of the entries.
+const VERSION: &str = "0502";
+
 /// The record of a small entry.
 const SMALL: &str = "0000001a0001000152000161000000010000000203000400016b00000003";
 
 /// A file of a small entry with a key of 65,535 octets, up to the key.
 const TO_LONG_KEY: &str = "05020001001800010001520001610000000100000002030004ffff";
-
-/// A principal.
-fn principal<'a>(realm: &'a [u8], components: &'a [&'a [u8]]) -> PrincipalParts<'a> {
-    PrincipalParts { realm, components }
-}
 
 /// The key of the first entry of `BUILT`.
 const KEY: [u8; 32] = [
@@ -52,213 +50,214 @@ const KEY: [u8; 32] = [
     26, 27, 28, 29, 30, 31,
 ];
 
+/// The components of a web server's name.
+const WEB: &[&[u8]] = &[b"HTTP", b"web.lab.example"];
+
 /// The first entry of `BUILT`.
-fn full<'a>() -> NewEntry<'a> {
-    NewEntry {
-        principal: principal(b"LAB.EXAMPLE", &[b"HTTP", b"web.lab.example"]),
-        name_type: 2,
-        timestamp: 1_700_000_001,
-        kvno: 300,
-        etype: 18,
-        key: &KEY,
-    }
-}
+const FULL: NewEntry<'static> = NewEntry {
+    principal: PrincipalParts {
+        realm: b"LAB.EXAMPLE",
+        components: WEB,
+    },
+    name_type: 2,
+    timestamp: 1_700_000_001,
+    kvno: 300,
+    etype: 18,
+    key: &KEY,
+};
 
 /// The second entry of `BUILT`.
-fn highest<'a>() -> NewEntry<'a> {
-    NewEntry {
-        principal: principal(b"R", &[b"x", b"\xff"]),
-        name_type: 0xffff_ffff,
-        timestamp: 0xffff_fffe,
-        kvno: 0xffff_ffff,
-        etype: 0xfffd,
-        key: &[0x80],
-    }
-}
+const HIGHEST: NewEntry<'static> = NewEntry {
+    principal: PrincipalParts {
+        realm: b"R",
+        components: &[b"x", b"\xff"],
+    },
+    name_type: 0xffff_ffff,
+    timestamp: 0xffff_fffe,
+    kvno: 0xffff_ffff,
+    etype: 0xfffd,
+    key: &[0x80],
+};
+
+/// A small entry; the third one of `BUILT` has other numbers.
+const SMALL_ENTRY: NewEntry<'static> = NewEntry {
+    principal: PrincipalParts {
+        realm: b"R",
+        components: &[b"a"],
+    },
+    name_type: 1,
+    timestamp: 2,
+    kvno: 3,
+    etype: 4,
+    key: b"k",
+};
 
 /// An entry of zeros alone.
-fn least<'a>() -> NewEntry<'a> {
-    NewEntry {
-        principal: principal(b"", &[]),
-        name_type: 0,
-        timestamp: 0,
-        kvno: 0,
-        etype: 0,
-        key: b"",
-    }
-}
+const LEAST: NewEntry<'static> = NewEntry {
+    principal: PrincipalParts {
+        realm: b"",
+        components: &[],
+    },
+    name_type: 0,
+    timestamp: 0,
+    kvno: 0,
+    etype: 0,
+    key: b"",
+};
 
+/// The second entry of `KTUTIL`.
+const ADMIN: NewEntry<'static> = NewEntry {
+    principal: PrincipalParts {
+        realm: b"LAB.EXAMPLE",
+        components: &[b"bob", b"admin"],
+    },
+    name_type: 1,
+    timestamp: 1_795_634_522,
+    kvno: 7,
+    etype: 17,
+    key: &[
+        0xc9, 0x50, 0x40, 0xad, 0xb6, 0x19, 0x6d, 0x5d, 0xb7, 0xda, 0x85, 0x47, 0xdc, 0xf2, 0xf9,
+        0x87,
+    ],
+};
+
+/// What is built, and an entry that is added to a file of `ktutil`, cut before its second entry: the
+/// file is then as `ktutil` wrote it.
 #[test]
 fn built(rt: HostRuntime) -> Result<(), Fail> {
     let third = NewEntry {
-        timestamp: 2,
         kvno: 256,
         etype: 23,
-        ..small(b"k")
+        ..SMALL_ENTRY
     };
-    let octets = write(rt.alloc(), &[full(), highest(), third, least()])?;
+    let octets = write(rt.alloc(), &[FULL, HIGHEST, third, LEAST])?;
     assert!(rt; hex::encode(rt.alloc(), &octets)?.as_str() == BUILT);
-    Ok(())
-}
-
-/// The file of `ktutil` up to its second entry, and that entry.
-fn with_bob(alloc: Global) -> Result<Vec<u8>, Fail> {
-    let mut octets = hex::decode(alloc, KTUTIL)?;
+    let mut octets = hex::decode(rt.alloc(), KTUTIL)?;
     octets.truncate(75);
-    let key = hex::decode(alloc, "c95040adb6196d5db7da8547dcf2f987")?;
-    let entry = NewEntry {
-        principal: principal(b"LAB.EXAMPLE", &[b"bob", b"admin"]),
-        name_type: 1,
-        timestamp: 1_795_634_522,
-        kvno: 7,
-        etype: 17,
-        key: &key,
-    };
-    push_entry(alloc, &mut octets, &entry)?;
-    Ok(octets)
-}
-
-/// An entry is added to a file of `ktutil`, cut before its second entry: the file is then as `ktutil` wrote it.
-#[test]
-fn added(rt: HostRuntime) -> Result<(), Fail> {
-    let whole = hex::decode(rt.alloc(), KTUTIL)?;
-    assert!(rt; with_bob(rt.alloc())? == whole);
+    push_entry(rt.alloc(), &mut octets, &ADMIN)?;
+    assert!(rt; hex::encode(rt.alloc(), &octets)?.as_str() == KTUTIL);
     Ok(())
 }
 
-/// The version, the encryption type and the key of an entry.
-fn line_of(alloc: Global, entry: &EntryView<'_>) -> Result<String, AllocError> {
-    let key = hex::encode(alloc, entry.key())?;
-    format!(in alloc; "{} {} {key}", entry.kvno(), entry.etype())
-}
-
-/// Whether the entry that is found is this one, or none is.
-fn finds(
-    alloc: Global,
-    (realm, components): (&[u8], &[&[u8]]),
-    etype: Option<u16>,
-    kvno: u32,
-    expected: &str,
-) -> Result<bool, Fail> {
-    let octets = hex::decode(alloc, KADMIN)?;
-    let keytab = KeytabView::new(&octets)?;
-    match keytab.find(&principal(realm, components), etype, kvno) {
-        Some(entry) => Ok(line_of(alloc, &entry)?.as_str() == expected),
-        None => Ok(expected == "none"),
-    }
-}
-
-/// Encryption types and versions that are asked for, 0 for any, and what is found of HTTP/web.lab.example.
-const ASKED: [(Option<u16>, u32, &str); 6] = [
+/// Realms and components, encryption types and versions that are asked for, 0 for any, and the version, the
+/// encryption type and the key of the entry of `KADMIN` that is found.
+const ASKED: [(&[u8], &[&[u8]], Option<u16>, u32, &str); 10] = [
     (
+        b"LAB.EXAMPLE",
+        WEB,
         None,
         0,
         "3 18 5431f9437f6630e7da51349195eb84afd164a1db703f24f2bc12dd13ce896683",
     ),
-    (Some(17), 0, "3 17 50ea25f5ea10bdfb5699d80a9a988779"),
-    (Some(17), 2, "2 17 bd2cd14606acb73d4003fe8f680c1c79"),
     (
+        b"LAB.EXAMPLE",
+        WEB,
+        Some(17),
+        0,
+        "3 17 50ea25f5ea10bdfb5699d80a9a988779",
+    ),
+    (
+        b"LAB.EXAMPLE",
+        WEB,
+        Some(17),
+        2,
+        "2 17 bd2cd14606acb73d4003fe8f680c1c79",
+    ),
+    (
+        b"LAB.EXAMPLE",
+        WEB,
         None,
         2,
         "2 18 88aaa5b9f2796ac6d91ff6c66660683a2bb71610f2ce0f917d6865a3ac44518e",
     ),
-    (Some(23), 0, "none"),
-    (None, 4, "none"),
+    (b"LAB.EXAMPLE", WEB, Some(23), 0, "none"),
+    (b"LAB.EXAMPLE", WEB, None, 4, "none"),
+    (b"LAB.EXAMPL", WEB, None, 0, "none"),
+    (b"LAB.EXAMPLE", &[b"HTTP"], None, 0, "none"),
+    (
+        b"LAB.EXAMPLE",
+        &[b"HTTP", b"web.lab.example", b""],
+        None,
+        0,
+        "none",
+    ),
+    (
+        b"LAB.EXAMPLE",
+        &[b"HTTP", b"web.lab.examplf"],
+        None,
+        0,
+        "none",
+    ),
 ];
 
+/// The version, the encryption type and the key of the entry that is found, or `none`.
+fn found(
+    alloc: Global,
+    keytab: &KeytabView<'_>,
+    principal: &PrincipalParts<'_>,
+    etype: Option<u16>,
+    kvno: u32,
+) -> Result<String, AllocError> {
+    match keytab.find(principal, etype, kvno) {
+        Some(entry) => {
+            let key = hex::encode(alloc, entry.key())?;
+            format!(in alloc; "{} {} {key}", entry.kvno(), entry.etype())
+        }
+        None => String::from_str(alloc, "none"),
+    }
+}
+
 #[test]
-fn keys_that_are_there(rt: HostRuntime) -> Result<(), Fail> {
-    let web: [&[u8]; 2] = [b"HTTP", b"web.lab.example"];
-    for asked in &ASKED {
-        let name = (b"LAB.EXAMPLE".as_slice(), web.as_slice());
-        assert!(rt; finds(rt.alloc(), name, asked.0, asked.1, asked.2)?);
+fn entries_that_are_found(rt: HostRuntime) -> Result<(), Fail> {
+    let octets = hex::decode(rt.alloc(), KADMIN)?;
+    let keytab = KeytabView::new(&octets)?;
+    for row in &ASKED {
+        let principal = PrincipalParts {
+            realm: row.0,
+            components: row.1,
+        };
+        let line = found(rt.alloc(), &keytab, &principal, row.2, row.3)?;
+        assert!(rt; line.as_str() == row.4, "{line}, not {}", row.4);
     }
     Ok(())
-}
-
-/// Principals that are not in the file.
-const OTHERS: [(&[u8], &[&[u8]]); 4] = [
-    (b"LAB.EXAMPL", &[b"HTTP", b"web.lab.example"]),
-    (b"LAB.EXAMPLE", &[b"HTTP"]),
-    (b"LAB.EXAMPLE", &[b"HTTP", b"web.lab.example", b""]),
-    (b"LAB.EXAMPLE", &[b"HTTP", b"web.lab.examplf"]),
-];
-
-#[test]
-fn other_principals(rt: HostRuntime) -> Result<(), Fail> {
-    for other in &OTHERS {
-        assert!(rt; finds(rt.alloc(), *other, None, 0, "none")?);
-    }
-    Ok(())
-}
-
-/// A small entry with this key.
-fn small<'a>(key: &'a [u8]) -> NewEntry<'a> {
-    NewEntry {
-        principal: principal(b"R", &[b"a"]),
-        name_type: 1,
-        timestamp: 2,
-        kvno: 3,
-        etype: 4,
-        key,
-    }
-}
-
-/// As many such entries, of `push_entry`.
-fn pushed(alloc: Global, entry: &NewEntry<'_>, count: usize) -> Result<Vec<u8>, KeytabWriteError> {
-    let mut octets = Vec::from_slice(alloc, &[5, 2])?;
-    for _ in 0..count {
-        push_entry(alloc, &mut octets, entry)?;
-    }
-    Ok(octets)
-}
-
-/// As many records of a small entry.
-fn records(alloc: Global, count: usize) -> Result<Vec<u8>, FromHexError> {
-    let record = hex::decode(alloc, SMALL)?;
-    let mut octets = Vec::from_slice(alloc, &[5, 2])?;
-    octets.extend_from_slice(&record.repeat(alloc, count)?)?;
-    Ok(octets)
 }
 
 /// More than a thousand entries, of `write` and of `push_entry`.
 #[test]
 fn many_entries(rt: HostRuntime) -> Result<(), Fail> {
     let alloc = rt.alloc();
-    let entries = Vec::from_elem(alloc, small(b"k"), 1500)?;
-    let expected = records(alloc, 1500)?;
+    let entries = Vec::from_elem(alloc, SMALL_ENTRY, 1500)?;
+    let expected = repeated(alloc, VERSION, SMALL, 1500)?;
     assert!(rt; write(alloc, &entries)? == expected);
-    assert!(rt; pushed(alloc, &small(b"k"), 1500)? == expected);
+    let mut octets = hex::decode(alloc, VERSION)?;
+    for entry in &entries {
+        push_entry(alloc, &mut octets, entry)?;
+    }
+    assert!(rt; octets == expected);
     Ok(())
 }
 
-/// Whether a key is refused as too long, and nothing is then appended.
-fn is_too_long(alloc: Global, key: &[u8]) -> Result<bool, AllocError> {
-    let mut octets = Vec::from_slice(alloc, &[5, 2])?;
-    let refused = push_entry(alloc, &mut octets, &small(key));
-    let unwritten = write(alloc, &[small(key)]).err();
-    Ok(
-        refused == Err(KeytabWriteError::TooLong)
-            && octets.as_slice() == [5, 2].as_slice()
-            && unwritten == Some(KeytabWriteError::TooLong),
-    )
-}
-
-/// A file of the small entry with 65,534 octets more in its key: its length, and that of the key, are the other numbers.
-fn file_with(alloc: Global, key: &[u8]) -> Result<Vec<u8>, FromHexError> {
-    let mut octets = hex::decode(alloc, TO_LONG_KEY)?;
-    octets.extend_from_slice(key)?;
-    octets.extend_from_slice(&[0, 0, 0, 3])?;
-    Ok(octets)
-}
-
-/// A key as long as it can be, and one that is longer.
+/// A key as long as it can be, and one that is longer: it is refused, and nothing is then appended.
 #[test]
 fn long_keys(rt: HostRuntime) -> Result<(), Fail> {
     let alloc = rt.alloc();
-    let longer = Vec::from_elem(alloc, 0xa5, 65_536)?;
-    assert!(rt; is_too_long(alloc, &longer)?);
-    let longest = Vec::from_elem(alloc, 0xa5, 65_535)?;
-    assert!(rt; pushed(alloc, &small(&longest), 1)? == file_with(alloc, &longest)?);
+    let mut octets = hex::decode(alloc, VERSION)?;
+    let key = Vec::from_elem(alloc, 0xa5, 65_536)?;
+    let longer = NewEntry {
+        key: &key,
+        ..SMALL_ENTRY
+    };
+    assert!(rt; write(alloc, &[longer]).err() == Some(KeytabWriteError::TooLong));
+    let refused = push_entry(alloc, &mut octets, &longer);
+    assert!(rt; refused == Err(KeytabWriteError::TooLong));
+    let key = Vec::from_elem(alloc, 0xa5, 65_535)?;
+    let longest = NewEntry {
+        key: &key,
+        ..SMALL_ENTRY
+    };
+    push_entry(alloc, &mut octets, &longest)?;
+    let mut expected = repeated(alloc, TO_LONG_KEY, "a5", 65_535)?;
+    expected.extend_from_slice(&[0, 0, 0, 3])?;
+    assert!(rt; octets == expected);
     Ok(())
 }

@@ -23,6 +23,11 @@ const PART: [u8; 128] = [
     0x0f, 0x32, 0x30, 0x32, 0x31, 0x31, 0x32, 0x33, 0x31, 0x31, 0x30, 0x30, 0x30, 0x30, 0x30, 0x5a,
 ];
 
+/// Its first octets.
+const CUT: [u8; 13] = [
+    0x63, 0x7e, 0x30, 0x7c, 0xa0, 0x07, 0x03, 0x05, 0x00, 0x00, 0x00, 0x00, 0x00,
+];
+
 /// The part of a ticket of MIT Kerberos 1.20.1 under encryption type 18, as another program of RFC 3961 and RFC 3962 encrypts it.
 const SEALED: [u8; 216] = [
     0x2f, 0xe4, 0xec, 0xeb, 0x55, 0x95, 0xa7, 0x84, 0x6d, 0x89, 0xa5, 0xfd, 0x71, 0xc5, 0x71, 0x34,
@@ -58,10 +63,9 @@ const OPENED: [u8; 188] = [
 ];
 
 const SEAL: &str =
-    "krbtool seal 18 e980e7a4858c4105dc4c6c79c24e8ad9f2c8584e4bd858bfccd8ddb754b9a5a3 2 a58c4cc4efdd1faa7ca2eae3c70568e4";
+    "seal 18 e980e7a4858c4105dc4c6c79c24e8ad9f2c8584e4bd858bfccd8ddb754b9a5a3 2 a58c4cc4efdd1faa7ca2eae3c70568e4";
 
-const OPEN: &str =
-    "krbtool open 18 e980e7a4858c4105dc4c6c79c24e8ad9f2c8584e4bd858bfccd8ddb754b9a5a3 2";
+const OPEN: &str = "open 18 e980e7a4858c4105dc4c6c79c24e8ad9f2c8584e4bd858bfccd8ddb754b9a5a3 2";
 
 /// The octets of a reader, or those that a writer has taken: at most `step` at a call. The call number `failing`, from 1, fails.
 #[derive(Drop)]
@@ -127,184 +131,158 @@ impl<'a> Write for Device<'a> {
     }
 }
 
-/// A run: how many octets a call moves at most, what it is given, and what comes.
-#[derive(Drop)]
-struct Row {
+/// A run over devices of which a call moves at most `step` octets: what it is given, and what comes.
+struct Run {
     step: usize,
-    arguments: Vec<String>,
-    input: Vec<u8>,
+    arguments: &'static str,
+    input: &'static [u8],
+    /// How many octets of the input are not read.
     left: usize,
     status: u8,
-    output: Vec<u8>,
-    errors: Vec<u8>,
+    output: &'static [u8],
+    errors: &'static [u8],
+    /// How many calls move these octets: of the reader, whose last call finds the end; of the
+    /// writer, whose last call is the flush; and of that of the errors.
+    calls: [usize; 3],
 }
 
-/// The arguments of a line but its first.
-fn arguments_of(alloc: Global, line: &str) -> Result<Vec<String>, AllocError> {
-    let mut arguments = Vec::new(alloc);
-    let mut rest = line.split_once(' ');
-    for _ in 0..8 {
-        let Some((_, trailing)) = rest else {
-            break;
-        };
-        rest = trailing.split_once(' ');
-        let argument = match rest {
-            Some((argument, _)) => argument,
-            None => trailing,
-        };
-        arguments.push(String::from_str(alloc, argument)?)?;
-    }
-    Ok(arguments)
-}
-
-/// A run over these octets.
-fn row_of(
-    alloc: Global,
-    step: usize,
-    arguments: &str,
-    input: &[u8],
-    left: usize,
-    status: u8,
-    output: &[u8],
-    errors: &[u8],
-) -> Result<Row, AllocError> {
-    Ok(Row {
-        step,
-        arguments: arguments_of(alloc, arguments)?,
-        input: Vec::from_slice(alloc, input)?,
-        left,
-        status,
-        output: Vec::from_slice(alloc, output)?,
-        errors: Vec::from_slice(alloc, errors)?,
-    })
-}
-
-/// How many calls of at most `step` octets move so many, where each moves as many as it can.
-fn calls_of(octets: usize, step: usize) -> usize {
-    if step == 0 {
-        return 0;
-    }
-    octets.div_ceil(step)
-}
-
-/// How many calls of its writer a run makes: the last is the flush.
-fn writes_of(row: &Row) -> usize {
-    if row.status != 0 {
-        return 0;
-    }
-    calls_of(row.output.len(), row.step).saturating_add(1)
-}
+const RUNS: [Run; 6] = [
+    Run {
+        step: 1,
+        arguments: "check",
+        input: &PART,
+        left: 0,
+        status: 0,
+        output: &PART,
+        errors: &[],
+        calls: [129, 129, 0],
+    },
+    Run {
+        step: 16,
+        arguments: "check",
+        input: &PART,
+        left: 0,
+        status: 0,
+        output: &PART,
+        errors: &[],
+        calls: [9, 9, 0],
+    },
+    Run {
+        step: 5,
+        arguments: "check",
+        input: &CUT,
+        left: 0,
+        status: 1,
+        output: &[],
+        errors: TRUNCATED,
+        calls: [4, 0, 6],
+    },
+    Run {
+        step: 1,
+        arguments: "seal",
+        input: &PART,
+        left: 128,
+        status: 2,
+        output: &[],
+        errors: USAGE,
+        calls: [0, 0, 81],
+    },
+    Run {
+        step: 7,
+        arguments: SEAL,
+        input: &OPENED,
+        left: 0,
+        status: 0,
+        output: &SEALED,
+        errors: &[],
+        calls: [28, 32, 0],
+    },
+    Run {
+        step: 7,
+        arguments: OPEN,
+        input: &SEALED,
+        left: 0,
+        status: 0,
+        output: &OPENED,
+        errors: &[],
+        calls: [32, 28, 0],
+    },
+];
 
 /// The first `count` of the octets, or all of them.
 fn prefix_of(octets: &[u8], count: usize) -> &[u8] {
     &octets[..count.min(octets.len())]
 }
 
-/// Whether a run is as the row says where the call number `failing` of one device fails: of the reader (0), of the writer (1) or of
-/// that of the errors (2). No call has the number 0.
-fn is_reported(alloc: Global, row: &Row, place: u8, failing: usize, is_interrupted: bool) -> bool {
-    let step = row.step;
+/// Whether a run ends as it has to where the call number `failing` of one device fails, or is
+/// interrupted: of the reader (0), of the writer (1) or of that of the errors (2). No call has the
+/// number 0. A call that is interrupted is made again, but for the flush.
+fn is_reported(
+    alloc: Global,
+    row: &Run,
+    arguments: &[String],
+    place: u8,
+    failing: usize,
+    is_interrupted: bool,
+) -> bool {
     let failing_at = [
         if place == 0 { failing } else { 0 },
         if place == 1 { failing } else { 0 },
         if place == 2 { failing } else { 0 },
     ];
-    let mut input = Device::new(alloc, &row.input, step, failing_at[0], is_interrupted);
-    let mut output = Device::new(alloc, &[], step, failing_at[1], is_interrupted);
-    let mut errors = Device::new(alloc, &[], step, failing_at[2], is_interrupted);
-    let status = run(alloc, &row.arguments, &mut input, &mut output, &mut errors);
-    let is_flush = place == 1 && failing == writes_of(row);
+    let mut input = Device::new(alloc, row.input, row.step, failing_at[0], is_interrupted);
+    let mut output = Device::new(alloc, &[], row.step, failing_at[1], is_interrupted);
+    let mut errors = Device::new(alloc, &[], row.step, failing_at[2], is_interrupted);
+    let status = run(alloc, arguments, &mut input, &mut output, &mut errors);
+    let is_flush = place == 1 && failing == row.calls[1];
     if failing == 0 || (is_interrupted && !is_flush) {
         return status == row.status
-            && output.taken == row.output
-            && errors.taken == row.errors
+            && output.taken.as_slice() == row.output
+            && errors.taken.as_slice() == row.errors
             && input.left.len() == row.left
-            && (is_interrupted || output.calls == writes_of(row));
+            && (is_interrupted || output.calls == row.calls[1]);
     }
-    let before = failing.saturating_sub(1).saturating_mul(step);
+    let before = failing.saturating_sub(1).saturating_mul(row.step);
     if place == 2 {
         return status == row.status
-            && output.taken == row.output
-            && errors.taken.as_slice() == prefix_of(&row.errors, before);
+            && output.taken.as_slice() == row.output
+            && errors.taken.as_slice() == prefix_of(row.errors, before);
     }
     let taken = if place == 1 { before } else { 0 };
     status == 1
-        && output.taken.as_slice() == prefix_of(&row.output, taken)
+        && output.taken.as_slice() == prefix_of(row.output, taken)
         && errors.taken.as_slice() == b"krbtool: io\n".as_slice()
 }
 
-/// Each call of each device fails in turn, and is interrupted in turn. The reader's last call finds the end.
-fn is_reported_over_devices(alloc: Global, row: &Row) -> bool {
-    let mut reads = 0;
-    if row.left == 0 {
-        reads = calls_of(row.input.len(), row.step).saturating_add(1);
+/// Whether a run ends as it has to, also where each call of each device fails, and is interrupted,
+/// in turn.
+fn is_reported_over_devices(alloc: Global, row: &Run) -> Result<bool, AllocError> {
+    let mut arguments = Vec::new(alloc);
+    for argument in row.arguments.split(' ') {
+        arguments.push(String::from_str(alloc, argument)?)?;
     }
-    let lines = calls_of(row.errors.len(), row.step);
-    for (place, count) in [(0u8, reads), (1, writes_of(row)), (2, lines)] {
+    for (place, count) in [(0u8, row.calls[0]), (1, row.calls[1]), (2, row.calls[2])] {
         for turn in 0..count {
             let failing = turn.saturating_add(1);
-            if !is_reported(alloc, row, place, failing, false)
-                || !is_reported(alloc, row, place, failing, true)
+            if !is_reported(alloc, row, &arguments, place, failing, false)
+                || !is_reported(alloc, row, &arguments, place, failing, true)
             {
-                return false;
+                return Ok(false);
             }
         }
     }
-    is_reported(alloc, row, 0, 0, false)
-}
-
-/// Octets a call, arguments, how many octets of the part come, how many are left unread, the
-/// status, and the lines on standard error.
-const CHECKS: [(usize, &str, usize, usize, u8, &[u8]); 6] = [
-    (1, "krbtool check", 128, 0, 0, &[]),
-    (7, "krbtool check", 128, 0, 0, &[]),
-    (16, "krbtool check", 128, 0, 0, &[]),
-    (5, "krbtool check", 127, 0, 1, TRUNCATED),
-    (1, "krbtool check", 127, 0, 1, TRUNCATED),
-    (1, "krbtool seal", 128, 128, 2, USAGE),
-];
-
-/// Whether a run over the part is reported; where it succeeds, it writes the part.
-fn is_checked(
-    alloc: Global,
-    row: &(usize, &str, usize, usize, u8, &[u8]),
-) -> Result<bool, AllocError> {
-    let output = if row.4 == 0 {
-        prefix_of(&PART, 128)
-    } else {
-        prefix_of(&PART, 0)
-    };
-    let input = prefix_of(&PART, row.2);
-    let run = row_of(alloc, row.0, row.1, input, row.3, row.4, output, row.5)?;
-    Ok(is_reported_over_devices(alloc, &run))
+    Ok(is_reported(alloc, row, &arguments, 0, 0, false))
 }
 
 #[test]
-fn checks_over_devices(rt: HostRuntime) -> Result<(), Fail> {
-    for row in &CHECKS {
-        assert!(rt; is_checked(rt.alloc(), row)?);
-    }
-    Ok(())
-}
-
-/// Octets a call, arguments, what is given, and what it is made to.
-const SEALINGS: [(usize, &str, &[u8], &[u8]); 4] = [
-    (1, SEAL, &OPENED, &SEALED),
-    (1, OPEN, &SEALED, &OPENED),
-    (7, SEAL, &OPENED, &SEALED),
-    (7, OPEN, &SEALED, &OPENED),
-];
-
-/// Whether a run that encrypts or decrypts is reported.
-fn is_sealing(alloc: Global, row: &(usize, &str, &[u8], &[u8])) -> Result<bool, AllocError> {
-    let run = row_of(alloc, row.0, row.1, row.2, 0, 0, row.3, &[])?;
-    Ok(is_reported_over_devices(alloc, &run))
-}
-
-#[test]
-fn parts_over_devices(rt: HostRuntime) -> Result<(), Fail> {
-    for row in &SEALINGS {
-        assert!(rt; is_sealing(rt.alloc(), row)?);
+fn runs_over_devices(rt: HostRuntime) -> Result<(), Fail> {
+    for row in &RUNS {
+        assert!(rt;
+            is_reported_over_devices(rt.alloc(), row)?,
+            "{} by {}",
+            row.arguments,
+            row.step
+        );
     }
     Ok(())
 }

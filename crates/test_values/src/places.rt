@@ -8,9 +8,13 @@ const NAMED: [u8; 18] = [
     0x01, 0x63,
 ];
 
-/// Paths, and the offset and the size of what each leads to.
-const PATHS: [(&[Step], usize, usize); 4] = [
-    (&[Step::Tag(0x30), Step::Tag(0xa0), Step::Tag(0x02)], 6, 1),
+/// Paths, how many octets they are followed in, and the offset and the size of what each leads to.
+const PATHS: [(&[Step], usize, Option<(usize, usize)>); 7] = [
+    (
+        &[Step::Tag(0x30), Step::Tag(0xa0), Step::Tag(0x02)],
+        18,
+        Some((6, 1)),
+    ),
     (
         &[
             Step::Tag(0x30),
@@ -19,8 +23,8 @@ const PATHS: [(&[Step], usize, usize); 4] = [
             Step::Item(1),
             Step::Tag(0x1b),
         ],
-        17,
-        1,
+        18,
+        Some((17, 1)),
     ),
     (
         &[
@@ -29,34 +33,33 @@ const PATHS: [(&[Step], usize, usize); 4] = [
             Step::Tag(0x30),
             Step::Item(1),
         ],
-        15,
-        3,
+        18,
+        Some((15, 3)),
     ),
-    (&[], 0, 18),
+    (&[], 18, Some((0, 18))),
+    (
+        &[
+            Step::Tag(0x30),
+            Step::Tag(0xa1),
+            Step::Tag(0x30),
+            Step::Item(2),
+        ],
+        18,
+        None,
+    ),
+    (&[Step::Tag(0x30), Step::Tag(0xa2)], 18, None),
+    (
+        &[Step::Tag(0x30), Step::Tag(0xa0), Step::Tag(0x02)],
+        17,
+        None,
+    ),
 ];
 
 #[test]
-fn finds(rt: HostRuntime) {
+fn places(rt: HostRuntime) {
     for row in &PATHS {
-        let place = Place {
-            offset: row.1,
-            size: row.2,
-        };
-        assert!(rt; place_of(row.0, &NAMED) == Some(place));
+        let place = row.2.map(|(offset, size)| Place { offset, size });
+        let octets = &NAMED[..row.1.min(NAMED.len())];
+        assert!(rt; place_of(row.0, octets) == place);
     }
-}
-
-#[test]
-fn finds_nothing(rt: HostRuntime) {
-    let third = [
-        Step::Tag(0x30),
-        Step::Tag(0xa1),
-        Step::Tag(0x30),
-        Step::Item(2),
-    ];
-    assert!(rt; place_of(&third, &NAMED).is_none());
-    let other = [Step::Tag(0x30), Step::Tag(0xa2)];
-    assert!(rt; place_of(&other, &NAMED).is_none());
-    let number = [Step::Tag(0x30), Step::Tag(0xa0), Step::Tag(0x02)];
-    assert!(rt; place_of(&number, &NAMED[..17]).is_none(), "cut");
 }

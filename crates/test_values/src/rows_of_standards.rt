@@ -44,15 +44,11 @@ const ROWS: [(Kind, i64, &str); 38] = [
     (Kind::TokenFlag, 2, "AcceptorSubkey"),
 ];
 
-/// Whether the number of this kind has this name, and the name this number.
-fn is_row(kind: Kind, code: i64, text: &str) -> bool {
-    name(kind, code) == Some(text) && number(kind, text) == Some(code)
-}
-
 #[test]
 fn rows_of_standards(rt: HostRuntime) {
     for row in &ROWS {
-        assert!(rt; is_row(row.0, row.1, row.2));
+        assert!(rt; name(row.0, row.1) == Some(row.2), "{}", row.2);
+        assert!(rt; number(row.0, row.2) == Some(row.1), "{}", row.2);
     }
     assert!(rt; name(Kind::ErrorCode, 43) == None);
     assert!(rt; number(Kind::NameType, "nt-principal") == None);
@@ -66,15 +62,11 @@ const MECHANISMS: [(&str, &str); 4] = [
     ("1.3.6.1.5.5.2", "SPNEGO"),
 ];
 
-/// Whether the identifier has this name, and the name this identifier.
-fn is_mechanism(identifier: &str, text: &str) -> bool {
-    mechanism_name(identifier) == Some(text) && mechanism_identifier(text) == Some(identifier)
-}
-
 #[test]
 fn mechanisms_of_standards(rt: HostRuntime) {
     for row in &MECHANISMS {
-        assert!(rt; is_mechanism(row.0, row.1));
+        assert!(rt; mechanism_name(row.0) == Some(row.1), "{}", row.1);
+        assert!(rt; mechanism_identifier(row.1) == Some(row.0), "{}", row.1);
     }
     assert!(rt; mechanism_name("1.2.840") == None);
     assert!(rt; mechanism_identifier("krb5") == None);
