@@ -240,7 +240,8 @@ fn is_reported(
             && output.taken.as_slice() == row.output
             && errors.taken.as_slice() == row.errors
             && input.left.len() == row.left
-            && (is_interrupted || output.calls == row.calls[1]);
+            && (is_interrupted
+                || [input.calls, output.calls, errors.calls].as_slice() == row.calls.as_slice());
     }
     let before = failing.saturating_sub(1).saturating_mul(row.step);
     if place == 2 {
