@@ -36,10 +36,10 @@ def buffers():
 
 
 def salted():
-    """The rows of crates/test_show, table `salts`: the octets of a message, and the salts that are expected of it."""
-    with open(os.path.join(TOP, "crates", "test_show", "stdout"), encoding="utf-8") as file:
+    """The rows of crates/test_rows, table `salts`: the octets of a message, and the salts that are expected of it."""
+    with open(os.path.join(TOP, "crates", "test_rows", "stdout"), encoding="utf-8") as file:
         expected = [re.findall(r" ([^;]+);", line) for line in file if line.startswith("salts:")]
-    rows = [bytes.fromhex(line) for _, line in lines_of("test_show", "salts") if not line.startswith("#")]
+    rows = [bytes.fromhex(line) for _, line in lines_of("test_rows", "salts") if not line.startswith("#")]
     return list(zip(rows, expected, strict=True))
 
 
