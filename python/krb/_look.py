@@ -1,0 +1,122 @@
+"""What `python -m krb show` and `accept` do: what octets hold, and whether a service lets in the client that sent a token."""
+
+import argparse
+import datetime
+import sys
+import time
+from typing import List, Optional
+
+from krb import _pages, spnego
+from krb._forms import given_octets
+from krb._library import Refused, Status
+from krb._mechanism import KerberosMechanism
+from krb._shown import show
+from krb.accept import Acceptor, NotAccepted
+
+__all__ = ["add_accept", "add_show", "run_accept", "run_show"]
+
+_TIME = "%Y-%m-%dT%H:%M:%SZ"
+
+
+def octets_of(path: Optional[str]) -> bytes:
+    """The octets that a file, or standard input, stands for: PEM, a header of HTTP, a dump, hexadecimal, base64, or themselves. OSError; ValueError."""
+    if path is None:
+        return given_octets(sys.stdin.buffer.read()).octets
+    with open(path, "rb") as file:
+        return given_octets(file.read()).octets
+
+
+def keys_of(options: argparse.Namespace) -> bytes:
+    """One keytab of all that the options name. OSError; ValueError of what is none."""
+    keytabs, keys = [], ""
+    for path in options.keytab:
+        with open(path, "rb") as keytab:
+            keytabs.append(keytab.read())
+    for path in options.key_file:
+        with open(path, encoding="ascii", errors="replace") as file:
+            keys += " " + file.read()
+    return _pages.keys_of(keytabs, keys)
+
+
+def add_show(parser: argparse.ArgumentParser) -> None:
+    parser.add_argument("--as", dest="kind", metavar="KIND", help="as this type or format, as AS-REQ, token, PAC, keytab; else as the octets begin")
+    parser.add_argument("--json", action="store_true", help="a line of JSON")
+    parser.add_argument("--places", action="store_true", help="with the place of each value")
+    parser.add_argument("--keytab", action="append", default=[], metavar="FILE", help="open what is encrypted with its keys; may be given more than once")
+    parser.add_argument("--key-file", action="append", default=[], metavar="FILE", help="the same with the keys ETYPE:HEX of this file")
+    parser.add_argument("--show-keys", action="store_true", help="the octets of keys and passwords, and not the word hidden")
+    parser.add_argument("file", nargs="?", metavar="FILE", help="else standard input")
+
+
+def run_show(options: argparse.Namespace) -> int:
+    octets, keytab = octets_of(options.file), keys_of(options)
+    if not octets:
+        raise ValueError("the input is empty")
+    try:
+        told = show(octets, options.kind, keytab, options.json, options.show_keys, options.places)
+    except Refused as refused:
+        if refused.status != Status.NUMBER:
+            raise
+        raise ValueError(
+            "the octets begin as no kind that is known; --as names one" if options.kind is None else "--as: no type or format is called %s" % options.kind
+        ) from None
+    sys.stdout.write(told)
+    return 0
+
+
+def add_accept(parser: argparse.ArgumentParser) -> None:
+    parser.add_argument("--keytab", metavar="FILE", help="the service's keytab; else $KRB5_KTNAME or /etc/krb5.keytab")
+    parser.add_argument("--server", action="append", metavar="NAME", help="for this server alone, as HTTP/www.home.test; may be given more than once")
+    parser.add_argument("--realm", action="append", metavar="REALM", help="clients of this realm alone; may be given more than once")
+    parser.add_argument("--time", type=moment, metavar="T", help="when the token came: seconds since 1970, or as 2026-01-02T03:04:05Z; else now")
+    parser.add_argument("--skew", type=int, default=300, metavar="S", help="by how many seconds clocks may differ (300)")
+    parser.add_argument("--bare", dest="bare_request", action="store_true", help="an AP-REQ with no frame around it too")
+    parser.add_argument("--other-checksum", action="store_true", help="an authenticator with another checksum than that of the GSS-API too")
+    parser.add_argument("--pac", choices=("required", "ignored"), default="checked", help="else a PAC is checked where there is one")
+    parser.add_argument("file", nargs="?", metavar="FILE", help="the token, as it stands in a header of HTTP or as octets; else standard input")
+
+
+def moment(text: str) -> float:
+    """The seconds since 1970 of a time."""
+    try:
+        return float(int(text)) if text.isdecimal() else datetime.datetime.strptime(text, _TIME).replace(tzinfo=datetime.timezone.utc).timestamp()
+    except ValueError:
+        raise argparse.ArgumentTypeError("no time: %a" % text) from None
+
+
+def token_of(octets: bytes) -> bytes:
+    """The token of Kerberos: the octets, or the first mechanism's in the first message of SPNEGO (RFC 4178, 4.2.1) where that mechanism is Kerberos."""
+    try:
+        if spnego.token(octets).mechanism != spnego.SPNEGO:
+            return octets
+        offer = spnego.neg_token_init(octets)
+    except Refused as refused:
+        if refused.status == Status.MEMORY:
+            raise
+        return octets
+    listed: List[bytes] = offer.mechanisms or []
+    if offer.mech_token is None or not listed or listed[0] not in (KerberosMechanism.oid, *KerberosMechanism.names):
+        return octets
+    return offer.mech_token
+
+
+def run_accept(options: argparse.Namespace) -> int:
+    """Status 0 where the client is let in, 1 where it is not, and 2 where nothing is decided."""
+    try:
+        acceptor = Acceptor(
+            options.keytab,
+            skew=options.skew,
+            replay_cache=False,
+            bare_request=options.bare_request,
+            other_checksum=options.other_checksum,
+            pac=options.pac,
+            server=options.server,
+            client_realm=options.realm,
+            clock=time.time if options.time is None else lambda: options.time,
+        )
+        found = acceptor.accept(token_of(octets_of(options.file)))
+    except NotAccepted as refused:
+        print("refused: %s" % refused)
+        return 1
+    print("accepted: %s for %s, until %s; no replay cache was asked" % (found.client, found.server, found.end_time.strftime(_TIME)))
+    return 0
