@@ -26,7 +26,7 @@ pub(crate) fn answer(alloc: Global, mut columns: Columns<'_>) -> Result<String, 
         }
     };
     let is_read = match read_request(alloc, &octets) {
-        Ok(request) => request.datagram == message,
+        Ok(request) => request.datagram == message.as_slice(),
         Err(_) => false,
     };
     let size = octets.len();
