@@ -1,6 +1,8 @@
 """python -m krb: its commands, its statuses, and files of tickets that MIT's commands and these have in common."""
 
+import base64
 import os
+import re
 import subprocess
 import time
 
@@ -8,8 +10,44 @@ import krb
 from checks import expect, say
 from exchanges import GRANTING, listed
 from realm import PASSWORD, REALM
+from tables import asked
 
 USER = "ann@" + REALM
+
+
+def try_look(realm, run, one_line):
+    """show, accept and klist -k: of a token that a client of MIT Kerberos sent, which its service let in, and of a keytab that its kadmin wrote."""
+    row = next(row.columns for row in asked("accepted") if row.columns[0] == "a-t013")
+    keytab, token = bytes.fromhex(row[1]), bytes.fromhex(row[5])
+    header = "Authorization: Negotiate %s\n" % base64.b64encode(token).decode("ascii")
+    path, came = realm.path("http.keytab"), "2026-11-27T07:08:23Z"
+    with open(path, "wb") as file:
+        file.write(keytab)
+    let_in = "accepted: alice@PEER.TEST for e17/web.peer.test@PEER.TEST, until 2026-11-27T17:08:23Z; no replay cache was asked\n"
+    expect(run("accept", "--keytab", path, "--time", came, text=header) == (0, let_in, ""), "accept")
+    expect(run("accept", "--time", "1795763303", text=token.hex(), KRB5_KTNAME="FILE:" + path) == (0, let_in, ""), "accept by KRB5_KTNAME, of hexadecimal digits")
+    late = run("accept", "--keytab", path, "--time", "2026-11-27T07:18:23Z", text=header)
+    expect(late == (1, "refused: SKEW: the client's time is 600 s behind (limit 300)\n", ""), "accept ten minutes later: %s" % (late,))
+    offer = krb.spnego.make_neg_token_init([krb.spnego.KERBEROS], token)
+    expect(run("accept", "--keytab", path, "--time", came, text=base64.b64encode(offer).decode("ascii")) == (0, let_in, ""), "accept of SPNEGO's first message")
+    other = run("accept", "--keytab", path, "--time", came, "--server", "HTTP", text=header)
+    expect(other[0] == 1 and other[1].startswith("refused: NOT_US: "), "accept for another server: %s" % (other,))
+    for words in (("accept", "--keytab", realm.path("none")), ("accept", "--keytab", path, "--server", "@")):
+        status, out, err = run(*words, text=header)
+        expect((status, out, err.count("\n")) == (2, "", 1) and err.startswith("accept: "), "%s: %s" % (words, err))
+    expect(run("accept", "--time", "soon")[0] == 2, "accept at no time")
+    told = run("show", "--keytab", path, text=header)
+    expect(told == (0, krb.show(token, keytab=keytab), "") and "opened-by" in told[1], "show of a header, with its keytab")
+    expect(run("show", "--json", "--places", path) == (0, krb.show(keytab, as_json=True, places=True), ""), "show of a file, as JSON with places")
+    one_line("show of nothing", run("show"), "show: the input is empty")
+    one_line("show as no type", run("show", "--as", "Nonsense", text=header), "show: --as: no type or format is called Nonsense")
+    one_line("show of a text", run("show", text="hello, world"), "show: the octets begin as no kind that is known")
+    one_line("show of no file", run("show", realm.path("none")), "show: No such file or directory: ")
+    status, out, err = run("klist", "-k", "-e", "-t", realm.users)
+    theirs = re.findall(r"(?m)^ *(\d+) .*?(\S+@\S+) \((\S+)\)", realm.run("klist", "-k", "-t", "-e", realm.users))
+    expect(status == 0 and theirs and re.findall(r"(?m)^ *(\d+) .*?(\S+@\S+) \((\S+)\)", out) == theirs, "klist -k: %s %s %s" % (out, theirs, err))
+    expect(krb.decode(token)["mech-type"] and krb.decode(keytab) == krb.decode(keytab, "keytab"), "decode without a kind")
+    expect(run("web", "--help")[0] == 0 and "krb.web" in run("web", "--help")[1], "web --help")
 
 
 def try_commands(realm, environment):
@@ -24,7 +62,7 @@ def try_commands(realm, environment):
         status, out, err = found
         expect(status == 1 and out == "" and err.count("\n") == 1 and err.startswith(start), "%s: %d %a %a" % (title, status, out, err))
 
-    for command in ("kinit", "klist", "kvno", "kpasswd", "kdestroy"):
+    for command in ("kinit", "klist", "kvno", "kpasswd", "kdestroy", "show", "accept"):
         status, out, err = run(command, "--help")
         expect(status == 0 and "usage: " in out and err == "", "%s --help: %s" % (command, err))
     expect(run()[0] == 2 and run("kinit", "-l", "soon", USER)[0] == 2, "words that are wrong")
@@ -39,6 +77,7 @@ def try_commands(realm, environment):
     one_line("a file of another kind", run("klist", "-c", realm.users), "klist: no credential cache of version 4")
     one_line("a cache of another kind", run("klist", "-c", "KEYRING:x"), "klist: ")
     expect(not os.path.exists(path), "a file where there is no ticket")
+    try_look(realm, run, one_line)
     secret = realm.write("secret", PASSWORD + "\n")
     for words, text in ((("ann",), PASSWORD + "\n"), (("--password-file", secret, USER), ""), (("--password-file", "-", USER), PASSWORD), (("-k", "-t", realm.users, USER), "")):
         expect(run("kinit", *words, text=text) == (0, "", ""), "kinit %s" % (words,))

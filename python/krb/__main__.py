@@ -1,4 +1,5 @@
-"""A command line: python -m krb kinit|klist|kvno|kpasswd|kdestroy, a client with options as those of MIT Kerberos have them, and python -m krb capture."""
+"""A command line: python -m krb kinit|klist|kvno|kpasswd|kdestroy, a client with options as those of MIT Kerberos have them; show and accept, for what octets hold and
+whether a service lets in the client of a token; capture and web."""
 
 import argparse
 import datetime
@@ -9,18 +10,17 @@ import re
 import sys
 from typing import Callable, Dict, List, Optional
 
-from krb import _ccache, capture
+from krb import __version__, _ccache, _look, capture, web
 from krb._configuration import Configuration
+from krb._context import unparsed
 from krb._items import Registry, find_number, name_of
 from krb._names import parsed
+from krb._parts import decode
+from krb._paths import Failed, cache_path, keytab_path
 from krb.client import Credentials, Settings, change_password, kinit, load, load_all
 
 # The letters of flags, as klist of MIT Kerberos has them.
 _LETTERS = {1: "F", 2: "f", 3: "P", 4: "p", 5: "D", 6: "d", 7: "i", 8: "R", 9: "I", 10: "A", 11: "H", 12: "T", 13: "O"}
-
-
-class Failed(Exception):
-    """What a command says on its one line of an error."""
 
 
 def duration(text: str) -> int:
@@ -32,28 +32,6 @@ def duration(text: str) -> int:
         raise argparse.ArgumentTypeError("no duration: %a" % text)
     days, hours, minutes, seconds = (int(each or 0) for each in found.groups())
     return ((days * 24 + hours) * 60 + minutes) * 60 + seconds
-
-
-def cache_path(word: Optional[str]) -> str:
-    """The file of tickets: that of -c, of $KRB5CCNAME, or /tmp/krb5cc_UID."""
-    word = word or os.environ.get("KRB5CCNAME") or "/tmp/krb5cc_%d" % os.getuid()
-    kind, colon, path = word.partition(":")
-    if not colon or "/" in kind:
-        return word
-    if kind != "FILE" or not path:
-        raise Failed("%s is no cache in a file" % ascii(word)[1:-1])
-    return path
-
-
-def keytab_path(word: Optional[str]) -> str:
-    """The keytab: that of -t, of $KRB5_KTNAME, or /etc/krb5.keytab."""
-    word = word or os.environ.get("KRB5_KTNAME") or "/etc/krb5.keytab"
-    kind, colon, path = word.partition(":")
-    if not colon or "/" in kind:
-        return word
-    if kind not in ("FILE", "WRFILE") or not path:
-        raise Failed("%s is no keytab in a file" % ascii(word)[1:-1])
-    return path
 
 
 def password_of(file: Optional[str], client: str) -> str:
@@ -145,7 +123,23 @@ def printable(text: str) -> str:
     return "".join(each if " " <= each <= "~" else "\\x%02x" % ord(each) for each in text)
 
 
+def list_keytab(options: argparse.Namespace) -> int:
+    path = keytab_path(options.keytab)
+    with open(path, "rb") as file:
+        entries = decode(file.read(), "keytab")
+    print("Keytab name: FILE:%s\n" % path)
+    print("%4s  %-19s  %s" % ("KVNO", "Timestamp", "Principal"))
+    for each in entries:
+        if "keytype" in each:  # others are records that were removed
+            time = each["timestamp"].astimezone().strftime("%Y-%m-%d %H:%M:%S")
+            etype = " (%s)" % etype_of(each["keytype"]) if options.etypes else ""
+            print("%4d  %s  %s%s" % (each["vno"], time, printable(unparsed(tuple(each["components"]), each["realm"])), etype))
+    return 0
+
+
 def run_klist(options: argparse.Namespace) -> int:
+    if options.use_keytab:
+        return list_keytab(options)
     path = cache_path(options.cache)
     if options.silent:
         try:
@@ -218,7 +212,9 @@ def add_ways(parser: argparse.ArgumentParser) -> None:
 
 
 def parser_of() -> argparse.ArgumentParser:
-    parser = argparse.ArgumentParser(prog="python -m krb", description="A client of Kerberos. What is sent, and which reply is taken, a proved library decides.")
+    about = "A client of Kerberos, and what octets of Kerberos hold. What is sent, which reply is taken, who is let in and what is shown a proved library decides."
+    parser = argparse.ArgumentParser(prog="krb" if os.path.basename(sys.argv[0]) == "krb" else "python -m krb", description=about)
+    parser.add_argument("--version", action="version", version="krb %s" % __version__)
     commands = parser.add_subparsers(dest="command", required=True, metavar="COMMAND")
 
     def command(name: str, about: str, has_cache: bool = True) -> argparse.ArgumentParser:
@@ -244,6 +240,8 @@ def parser_of() -> argparse.ArgumentParser:
     add_ways(first)
     first.add_argument("principal", nargs="?", help="as carol@HOME.TEST; else the user's name in the default realm")
     listed = command("klist", "list the tickets of a file")
+    listed.add_argument("-k", dest="use_keytab", action="store_true", help="the keys of a keytab in place of the tickets of a file")
+    listed.add_argument("-t", dest="keytab", metavar="KEYTAB", help="that keytab; else $KRB5_KTNAME or /etc/krb5.keytab")
     listed.add_argument("-e", dest="etypes", action="store_true", help="with encryption types")
     listed.add_argument("-f", dest="flags", action="store_true", help="with flags")
     listed.add_argument("-s", dest="silent", action="store_true", help="write nothing; the status is 0 where there is a ticket-granting ticket that has not ended")
@@ -258,26 +256,30 @@ def parser_of() -> argparse.ArgumentParser:
     add_ways(changed)
     changed.add_argument("principal", nargs="?", help="as carol@HOME.TEST; else the user's name in the default realm")
     command("kdestroy", "remove the file of tickets")
+    _look.add_show(command("show", "show what octets hold: of messages, tokens, PACs, keytabs and caches", has_cache=False))
+    _look.add_accept(command("accept", "say whether a service lets in the client that sent a token, and else why not", has_cache=False))
+    commands.add_parser("web", add_help=False, help="serve a page on 127.0.0.1 that shows octets in the browser (python -m krb web --help)")
     commands.add_parser("capture", add_help=False, help="tell the messages in a capture of a network (python -m krb capture --help)")
     return parser
 
 
 COMMANDS: Dict[str, Callable[[argparse.Namespace], int]] = {
     "kinit": run_kinit, "klist": run_klist, "kvno": run_kvno, "kpasswd": run_kpasswd, "kdestroy": run_kdestroy,
+    "show": _look.run_show, "accept": _look.run_accept,
 }
 
 
 def main(words: Optional[List[str]] = None) -> int:
     words = sys.argv[1:] if words is None else words
-    if words[:1] == ["capture"]:
-        return capture.main(words[1:])
+    if words[:1] in (["capture"], ["web"]):
+        return (capture if words[0] == "capture" else web).main(words[1:])
     options = parser_of().parse_args(words)
     try:
         return COMMANDS[options.command](options)
     except (Failed, OSError, ValueError, LookupError) as error:
         text = error.strerror + ": " + str(error.filename) if isinstance(error, OSError) and error.strerror and error.filename else str(error)
         print("%s: %s" % (options.command, printable(" ".join(text.split()))), file=sys.stderr)
-        return 1
+        return 2 if options.command == "accept" else 1
     except KeyboardInterrupt:
         return 1
 

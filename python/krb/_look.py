@@ -10,6 +10,7 @@ from krb import _pages, spnego
 from krb._forms import given_octets
 from krb._library import Refused, Status
 from krb._mechanism import KerberosMechanism
+from krb._paths import keytab_path
 from krb._shown import show
 from krb.accept import Acceptor, NotAccepted
 
@@ -95,7 +96,7 @@ def token_of(octets: bytes) -> bytes:
             raise
         return octets
     listed: List[bytes] = offer.mechanisms or []
-    if offer.mech_token is None or not listed or listed[0] not in (KerberosMechanism.oid, *KerberosMechanism.names):
+    if offer.mech_token is None or not listed or listed[0] not in KerberosMechanism.names:
         return octets
     return offer.mech_token
 
@@ -104,7 +105,7 @@ def run_accept(options: argparse.Namespace) -> int:
     """Status 0 where the client is let in, 1 where it is not, and 2 where nothing is decided."""
     try:
         acceptor = Acceptor(
-            options.keytab,
+            keytab_path(options.keytab),
             skew=options.skew,
             replay_cache=False,
             bare_request=options.bare_request,

@@ -160,8 +160,8 @@ def _value(item: PageItem, hidden: str) -> Any:
     return _word(value, hidden) if form == PageForm.WORD else value.decode("ascii")
 
 
-def tree(octets: bytes, kind: str, keytab: bytes, show_keys: bool, hidden: str) -> Any:
-    """The tree of octets of a kind, with what the keys of the keytab open in them."""
+def tree(octets: bytes, kind: Optional[str], keytab: bytes, show_keys: bool, hidden: str) -> Any:
+    """The tree of octets of a kind, of None as the one that they begin as, with what the keys of the keytab open in them."""
     around: Any = {}
     whole, outer = around, []
     for item in _listed(octets, kind, keytab, show_keys):

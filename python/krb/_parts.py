@@ -285,7 +285,8 @@ def decode(octets: Octets, as_type: Optional[str] = None, keytab: Optional[Octet
     Where `show_keys` is false, `Hidden` (the word "hidden") stands in the place of the octets of keys, of passwords, and of a ciphertext in the clear; else a key is a `Secret`. The
     library is called once, and once more where a keytab's names are long.
 
-    Octets of a format that is no DER are decoded too if `as_type` names it, as `krb.show` does: "token", "PAC", "NEGOEX", "password-frame", "keytab" or "ccache". Flags without
+    Octets of a format that is no DER are decoded too if `as_type` names it, as `krb.show` does: "token", "PAC", "NEGOEX", "password-frame", "keytab" or "ccache"; and without a
+    type where they begin as one. Flags without
     names are an int there, and bits that fill no whole octet a text. Keys open what is encrypted in them, too, and of a PAC in a ticket its buffers are told.
     `krb.page_items` has their values with the place of each.
 
@@ -293,7 +294,12 @@ def decode(octets: Octets, as_type: Optional[str] = None, keytab: Optional[Octet
     octets = plain(octets)
     if as_type is not None and as_type.lower() in FORMATS:
         return tree(octets, as_type, _keytab_of(keytab, keys), show_keys, _HIDDEN)
-    decoded = _decoded(octets, as_type, _keytab_of(keytab, keys))
+    try:
+        decoded = _decoded(octets, as_type, _keytab_of(keytab, keys))
+    except Refused as refused:
+        if as_type is not None or refused.status != Status.NUMBER:
+            raise
+        return tree(octets, None, _keytab_of(keytab, keys), show_keys, _HIDDEN)
     records = decoded.records
     if decoded.parts:
         records = records[: min((part.first for part in decoded.parts if part.count), default=len(records) // _RECORD.size) * _RECORD.size]
