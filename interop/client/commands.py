@@ -46,7 +46,7 @@ def try_look(realm, run, one_line):
     status, out, err = run("klist", "-k", "-e", "-t", realm.users)
     theirs = re.findall(r"(?m)^ *(\d+) .*?(\S+@\S+) \((\S+)\)", realm.run("klist", "-k", "-t", "-e", realm.users))
     expect(status == 0 and theirs and re.findall(r"(?m)^ *(\d+) .*?(\S+@\S+) \((\S+)\)", out) == theirs, "klist -k: %s %s %s" % (out, theirs, err))
-    expect(krb.decode(token)["mech-type"] and krb.decode(keytab) == krb.decode(keytab, "keytab"), "decode without a kind")
+    expect(krb.decode(token)["thisMech"] and krb.decode(keytab) == krb.decode(keytab, "keytab"), "decode without a kind")
     expect(run("web", "--help")[0] == 0 and "krb.web" in run("web", "--help")[1], "web --help")
 
 
