@@ -11,6 +11,7 @@ from der import element, integer, name, sequence, text
 from forms import key_of
 from given import buffers, checksums, error_with, misleading, opened, pages
 from keytabs import keytab_of_texts
+from tables import asked
 
 # Gives the page octets and keys, waits for its answer, opens the tree and tells what stands there.
 SHOW = """
@@ -31,7 +32,7 @@ return (async () => {
     }
     if (!get("result").hidden) get("open-all").click();
     const allowed = ["role", "class", "aria-level", "aria-expanded", "aria-selected", "aria-hidden", "tabindex", "hidden"];
-    const odd = [...document.querySelectorAll("#tree *, #octets *, #notes *")].filter((each) => !["LI", "UL", "DIV", "SPAN", "B"].includes(each.tagName)
+    const odd = [...document.querySelectorAll("#tree *, #octets *, #verdicts *, #notes *")].filter((each) => !["LI", "UL", "DIV", "SPAN", "B"].includes(each.tagName)
         || [...each.attributes].some((one) => !allowed.includes(one.name)));
     const lines = [...document.querySelectorAll("#tree li")].map((item) => {
         const value = item.querySelector(":scope > .row > .value");
@@ -39,7 +40,8 @@ return (async () => {
     });
     return {
         lines, odd: odd.map((each) => each.outerHTML.slice(0, 100)), error: get("error").textContent, status: get("status").textContent,
-        notes: [...get("notes").children].map((each) => each.textContent), sources: [...get("source").options].map((each) => each.textContent),
+        notes: [...get("notes").children].map((each) => each.textContent), verdicts: [...get("verdicts").children].map((each) => [each.className, each.textContent]),
+        sources: [...get("source").options].map((each) => each.textContent),
         text: document.body.innerText, answer: JSON.stringify(shown, (name, value) => name === "item" || name === "around" || name === "lines" ? undefined : value),
         octets: shown ? shown.sources.map((each) => [...each.octets].map((octet) => octet.toString(16).padStart(2, "0")).join("")) : [],
         scripts: document.scripts.length, misled: window.misled === undefined, copied: shown ? [shown.text, shown.json] : null, hidden: get("result").hidden,
@@ -359,6 +361,21 @@ def try_password(browser):
     say("passwords: done")
 
 
+def try_verdicts(browser):
+    """Whether the service lets the client in, of a token that a client of MIT Kerberos sent to it days ago, with its keytab, with another one, and without."""
+    row = next(row.columns for row in asked("accepted") if row.columns[0] == "a-t013")
+    keytab, token = bytes.fromhex(row[1]), bytes.fromhex(row[5])
+    now, sent = shown(browser, token, keytabs=[keytab], form="header")["verdicts"]
+    expect(now[0] == "bad" and re.fullmatch(r"refused: SKEW: the client's time is \d+ s behind \(limit 300\)", now[1]), "the verdict of now: %s" % now)
+    let_in = "accepted: alice@PEER.TEST for e17/web.peer.test@PEER.TEST, until 2026-11-27T17:08:23Z; no replay cache was asked"
+    expect(sent == ["good", let_in], "the verdict of when it was sent: %s" % sent)
+    told = shown(browser, token, keytabs=[keytab_of_texts(["18:" + "00" * 32 + ":HTTP/other.test@PEER.TEST kvno 1"])], form="header")
+    expect([each[0] for each in told["verdicts"]] == ["bad"] and "NOT_US" in told["verdicts"][0][1], "the verdict by another keytab: %s" % told["verdicts"])
+    expect(shown(browser, token, form="header")["verdicts"] == [], "a verdict without a keytab")
+    expect(shown(browser, error_with(b"HOME.TEST"), keytabs=[keytab])["verdicts"] == [], "a verdict of what is no token")
+    say("verdicts: done")
+
+
 def try_refused(browser):
     """The first error at its octet, and the elements as far as they go."""
     good = error_with(b"HOME.TEST")
@@ -428,4 +445,5 @@ def try_pages(browser, site, folder):
     try_misleading(browser)
     try_password(browser)
     try_refused(browser)
+    try_verdicts(browser)
     try_large(browser)

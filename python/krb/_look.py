@@ -4,17 +4,19 @@ import argparse
 import datetime
 import sys
 import time
-from typing import List, Optional
+from typing import List, NamedTuple, Optional
 
 from krb import _pages, spnego
+from krb._facts import printable
 from krb._forms import given_octets
 from krb._library import Refused, Status
 from krb._mechanism import KerberosMechanism
 from krb._paths import keytab_path
+from krb._rules import Rule
 from krb._shown import show
 from krb.accept import Acceptor, NotAccepted
 
-__all__ = ["add_accept", "add_show", "run_accept", "run_show"]
+__all__ = ["Verdict", "add_accept", "add_show", "run_accept", "run_show", "verdicts_of"]
 
 _TIME = "%Y-%m-%dT%H:%M:%SZ"
 
@@ -101,23 +103,50 @@ def token_of(octets: bytes) -> bytes:
     return offer.mech_token
 
 
+class Verdict(NamedTuple):
+    """Whether a client is let in, a line that says so, and the time of the client where its clock is off."""
+
+    is_let_in: bool
+    text: str
+    sent: Optional[int] = None
+
+
+def verdict_of(acceptor: Acceptor, octets: bytes) -> Verdict:
+    """What an acceptor says of a token. Refused, and what else `Acceptor.accept` raises: nothing is decided."""
+    try:
+        found = acceptor.accept(token_of(octets))
+    except NotAccepted as refused:
+        return Verdict(False, printable("refused: %s" % refused), refused.seen if refused.rule == Rule.SKEW else None)
+    names = found.client, found.server, found.end_time.strftime(_TIME)
+    return Verdict(True, printable("accepted: %s for %s, until %s; no replay cache was asked" % names))
+
+
+def verdicts_of(keytab: bytes, octets: bytes) -> List[Verdict]:
+    """What a service with this keytab says of a token now, and where the clock of the client is off also what it would have said when the token was sent; none
+    where nothing is decided."""
+    try:
+        now = verdict_of(Acceptor(keytab, replay_cache=False), octets)
+        if now.sent is None:
+            return [now]
+        sent = float(now.sent)
+        return [now, verdict_of(Acceptor(keytab, replay_cache=False, clock=lambda: sent), octets)]
+    except (Refused, ValueError):
+        return []
+
+
 def run_accept(options: argparse.Namespace) -> int:
     """Status 0 where the client is let in, 1 where it is not, and 2 where nothing is decided."""
-    try:
-        acceptor = Acceptor(
-            keytab_path(options.keytab),
-            skew=options.skew,
-            replay_cache=False,
-            bare_request=options.bare_request,
-            other_checksum=options.other_checksum,
-            pac=options.pac,
-            server=options.server,
-            client_realm=options.realm,
-            clock=time.time if options.time is None else lambda: options.time,
-        )
-        found = acceptor.accept(token_of(octets_of(options.file)))
-    except NotAccepted as refused:
-        print("refused: %s" % refused)
-        return 1
-    print("accepted: %s for %s, until %s; no replay cache was asked" % (found.client, found.server, found.end_time.strftime(_TIME)))
-    return 0
+    acceptor = Acceptor(
+        keytab_path(options.keytab),
+        skew=options.skew,
+        replay_cache=False,
+        bare_request=options.bare_request,
+        other_checksum=options.other_checksum,
+        pac=options.pac,
+        server=options.server,
+        client_realm=options.realm,
+        clock=time.time if options.time is None else lambda: options.time,
+    )
+    verdict = verdict_of(acceptor, octets_of(options.file))
+    print(verdict.text)
+    return 0 if verdict.is_let_in else 1

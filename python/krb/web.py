@@ -29,6 +29,7 @@ from typing import Any, Dict, List, Optional, Tuple
 from krb._forms import NotBase64, given_octets
 from krb._library import Refused
 from krb._listed import is_capture, listed
+from krb._look import verdicts_of
 from krb._pages import BadInput, KINDS, MOST_KEYS, as_answer, etypes_of, keys_of, page_of, with_password
 
 __all__ = ["Server", "main"]
@@ -139,6 +140,9 @@ def answer(asked: Any) -> Dict[str, Any]:
             page, notes = _with_password(octets, kind or None, keytab, show_keys, password, salt, page, salts)
         told = as_answer(page, show_keys, form)
         told["notes"] += notes
+        files = keys_of([_octets_of(each, "a keytab") for each in keytabs], "")
+        is_token = octets[:1] == b"\x60"  # of the GSS-API (RFC 2743, 3.1)
+        told["verdicts"] = [[each.is_let_in, each.text] for each in verdicts_of(files, octets)] if files and is_token else []
         return told
     except (BadInput, NotBase64) as bad:
         return {"bad": str(bad)}

@@ -119,7 +119,7 @@ function clearResult() {
     get("result").hidden = get("capture").hidden = true;
     get("of-capture").hidden = !picked;
     get("of-line").textContent = picked ? picked.line : "";
-    for (const id of ["tree", "octets", "notes", "source", "messages"]) get(id).replaceChildren();
+    for (const id of ["tree", "octets", "verdicts", "notes", "source", "messages"]) get(id).replaceChildren();
     get("where").textContent = "";
 }
 
@@ -151,6 +151,7 @@ function present(told) {
     const name = shown.lines.length && !error ? shown.lines[0].name + ", " : "";
     const place = error && error.offset !== null ? " at octet " + error.offset : "";
     say(error ? error.status + place + ": " + error.text : "", name + size + " octets, " + (picked ? "of the capture" : "given as " + told.form));
+    for (const [isLetIn, text] of told.verdicts) get("verdicts").append(made("li", isLetIn ? "good" : "bad", text));
     note(told.notes);
     told.sources.forEach((each, number) => {
         const option = made("option", "", each.title + " (" + each.size + ")");
@@ -583,6 +584,8 @@ get("input").addEventListener("paste", (event) => {
     if (event.clipboardData && event.clipboardData.files.length) {
         event.preventDefault();
         take(event.clipboardData.files[0]);
+    } else {
+        setTimeout(ask, 0); // (the text is there then)
     }
 });
 get("file").addEventListener("change", () => {
