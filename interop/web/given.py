@@ -66,7 +66,7 @@ def error_with(realm):
 
 
 def quoted(octets):
-    """A text of a page: in quotation marks, `"` and `\\` behind a `\\`, and what is no printable ASCII as \\xNN (docs/SPECIFICATION.md, "Pages")."""
+    """A text of a page: in quotation marks, `"` and `\\` behind a `\\`, and what is no printable ASCII as \\xNN (docs/SPECIFICATION.md, "Values as text and as JSON")."""
     letters = ["\\" + chr(each) if each in b'"\\' else chr(each) if 32 <= each < 127 else "\\x%02x" % each for each in octets]
     return '"' + "".join(letters) + '"'
 

@@ -111,7 +111,7 @@ def agrees_otherwise(value, octets):
 
 
 def quoted_as_units(octets):
-    """A text of UTF-16LE as a page has it (docs/SPECIFICATION.md, "Pages")."""
+    """A text of UTF-16LE as a page has it (docs/SPECIFICATION.md, "Values as text and as JSON")."""
     return quoted_as(octets.decode("utf-16-le", "surrogatepass").encode("utf-8", "surrogatepass")) if len(octets) % 2 == 0 else None
 
 
