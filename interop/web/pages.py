@@ -2,13 +2,14 @@
 
 import base64
 import calendar
+import hashlib
+import hmac
 import json
 import re
 import struct
 
 from checks import expect, say
 from der import element, integer, name, sequence, text
-from forms import key_of
 from given import buffers, checksums, error_with, misleading, opened, pages
 from keytabs import keytab_of_texts
 from tables import asked
@@ -60,6 +61,12 @@ return [...document.querySelectorAll("#tree li")].map((item) => {
         document.getElementById("source").value];
 });
 """
+
+
+def key_of(password, salt):
+    """The key of type 20 of a password (RFC 8009, 4 and 3), by hashlib."""
+    first = hashlib.pbkdf2_hmac("sha384", password, b"aes256-cts-hmac-sha384-192\0" + salt, 32768, 32)
+    return hmac.new(first, b"\0\0\0\1kerberos\0" + (256).to_bytes(4, "big"), hashlib.sha384).digest()[:32]
 
 
 def shown(browser, octets, kind="", keytabs=(), keys="", password="", salt="", show=False, form="hex"):
