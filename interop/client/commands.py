@@ -32,7 +32,7 @@ def try_look(realm, run, one_line):
     expect(run("accept", "--keytab", path, "--time", came, text=base64.b64encode(offer).decode("ascii")) == (0, let_in, ""), "accept of SPNEGO's first message")
     other = run("accept", "--keytab", path, "--time", came, "--server", "HTTP", text=header)
     expect(other[0] == 1 and other[1].startswith("refused: NOT_US: "), "accept for another server: %s" % (other,))
-    for words in (("accept", "--keytab", realm.path("none")), ("accept", "--keytab", path, "--server", "@")):
+    for words in (("accept", "--keytab", realm.path("none")), ("accept", "--keytab", path, "--server", "")):
         status, out, err = run(*words, text=header)
         expect((status, out, err.count("\n")) == (2, "", 1) and err.startswith("accept: "), "%s: %s" % (words, err))
     expect(run("accept", "--time", "soon")[0] == 2, "accept at no time")
