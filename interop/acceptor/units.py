@@ -231,14 +231,14 @@ def try_refusals(keytab):
         (krb.Rule.KEY_VERSION, 3, "KEY_VERSION: the keytab has no key of version 3, which the ticket names"),
         (krb.Rule.EXPIRED, 4000, "EXPIRED: the ticket ended 1970-01-01 01:06:40 UTC"),
         (krb.Rule.NOT_YET_VALID, 86400, "NOT_YET_VALID: the ticket is not valid before 1970-01-02 00:00:00 UTC"),
-        (krb.Rule.REPEAT, None, "REPEAT: the client was let in by this authenticator before"),
+        (krb.Rule.REPEAT, None, "REPEAT: the authenticator was accepted before"),
     ):
         refused = krb.NotAccepted(rule, 37, seen, b"e", krb.accept._why(rule, seen, 5000, 300))
         copy = pickle.loads(pickle.dumps(refused))
         expect(str(refused) == text and isinstance(refused, krb.Refused), "a message: %s" % refused)
         same = all(getattr(copy, each) == getattr(refused, each) for each in ("rule", "code", "seen", "error", "status")) and str(copy) == text
         expect(same and refused.status == krb.Status.NOT_ACCEPTED, "a copy of a refusal: %r" % copy)
-    expect(all(krb.accept._TEXTS.get(rule) for rule in krb.Rule), "a rule has no text")
+    expect(all(krb._rules.TEXTS.get(rule) for rule in krb.Rule), "a rule has no text")
     for seconds, words in ((4970, "is let in in 30 s "), (5000, "is let in now "), (6000, "is let in now ")):
         said = krb.accept._why(krb.Rule.UNREMEMBERED, None, seconds, 300, 4700)
         expect(words in said and "before 1970-01-01 01:18:20 UTC" in said and "replay_cache= says whole_since" in said, "a cache that is too young: %s" % said)

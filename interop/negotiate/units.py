@@ -310,7 +310,7 @@ def try_reject():
     copied = pickle.loads(pickle.dumps(refused))
     same = all(getattr(copied, each) == getattr(refused, each) for each in ("rule", "answer", "status")) and str(copied) == str(refused)
     expect(same and isinstance(refused, krb.Refused) and refused.status == krb.Status.NOT_ACCEPTED, "a copy of a refusal: %r" % copied)
-    expect(all(krb.negotiate.TEXTS.get(rule) for rule in krb.NegotiationRule), "a rule has no text")
+    expect(all(krb._rules.NEGOTIATION_TEXTS.get(rule) for rule in krb.NegotiationRule), "a rule has no text")
 
 
 # What else there is.
