@@ -7,7 +7,7 @@ use krb_messages::kpasswd::{
     KrbPrivMessage, ReadFrameError, WriteFrameError, read_frame, write_frame,
 };
 use krb_types::lsap::{LsapTokenInfoIntegrity, octets_of, record_of};
-use std::alloc::Global;
+use std::alloc::{AllocError, Global};
 use std::io;
 use std::io::{ErrorKind, Read, Write};
 
@@ -22,7 +22,9 @@ impl Format for KrbPrivMessage {
         reader: &mut R,
     ) -> io::Result<KrbPrivMessage> {
         let message = KrbPrivMessage::deserialize(alloc, reader)?;
-        match message.clone(alloc) {
+        let again = message.clone(alloc);
+        drop(message);
+        match again {
             Ok(again) => Ok(again),
             Err(_) => Err(io::Error::from(ErrorKind::OutOfMemory)),
         }
@@ -57,21 +59,16 @@ impl Format for LsapTokenInfoIntegrity {
     }
 }
 
-/// The findings of a frame that is read from a slice and appended to a vector, with the texts of errors.
-fn reframed(row: &Row<'_>) -> Result<Findings, Refusal> {
-    let (message, _taken) = match read_frame(row.alloc, row.octets) {
-        Ok(read) => read,
-        Err(ReadFrameError::OutOfMemory) => return Err(Refusal::OutOfMemory),
-        Err(error) => {
-            let text = format!(in row.alloc; "{error:?}: {error}")?;
-            return Err(Refusal::Named(text));
-        }
-    };
+/// The findings of a frame that was written, with the text of an error.
+fn rewritten(
+    row: &Row<'_>,
+    outcome: Result<(), WriteFrameError>,
+    frame: &[u8],
+) -> Result<Findings, AllocError> {
     let mut found = Findings::new(row.alloc);
-    let mut frame = Vec::new(row.alloc);
-    match write_frame(row.alloc, &message, &mut frame) {
-        Ok(()) => found.decide("copied", frame.as_slice() == row.written)?,
-        Err(WriteFrameError::OutOfMemory) => return Err(Refusal::OutOfMemory),
+    match outcome {
+        Ok(()) => found.decide("copied", frame == row.written)?,
+        Err(WriteFrameError::OutOfMemory) => return Err(AllocError),
         Err(error) => {
             let text = format!(in row.alloc; ", not written, {error:?}: {error}")?;
             found.text.push_str(text.as_str())?;
@@ -79,6 +76,23 @@ fn reframed(row: &Row<'_>) -> Result<Findings, Refusal> {
         }
     }
     Ok(found)
+}
+
+/// The findings of a frame that is read from a slice and appended to a vector, with the texts of errors.
+fn reframed(row: &Row<'_>) -> Result<Findings, Refusal> {
+    match read_frame(row.alloc, row.octets) {
+        Ok((message, _taken)) => {
+            let mut frame = Vec::new(row.alloc);
+            let outcome = write_frame(row.alloc, &message, &mut frame);
+            drop(message);
+            Ok(rewritten(row, outcome, &frame)?)
+        }
+        Err(ReadFrameError::OutOfMemory) => Err(Refusal::OutOfMemory),
+        Err(error) => {
+            let text = format!(in row.alloc; "{error:?}: {error}")?;
+            Err(Refusal::Named(text))
+        }
+    }
 }
 
 /// The texts of the errors for allocation failures.

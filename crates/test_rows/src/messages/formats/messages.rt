@@ -54,7 +54,10 @@ impl Format for IAKerbHeader {
         octets: &[u8],
         _reader: &mut R,
     ) -> Result<IAKerbHeader, Asn1DerError> {
-        IAKerbHeader::from_bytes(alloc, octets)?.clone(alloc)
+        let header = IAKerbHeader::from_bytes(alloc, octets)?;
+        let again = header.clone(alloc);
+        drop(header);
+        again
     }
 
     fn write_to<W: Write>(

@@ -19,7 +19,10 @@ impl Format for Pac {
     type Error = PacError;
 
     fn read_from<R: Read>(alloc: Global, _octets: &[u8], reader: &mut R) -> Result<Pac, PacError> {
-        Pac::deserialize(alloc, reader)?.clone(alloc)
+        let read = Pac::deserialize(alloc, reader)?;
+        let again = read.clone(alloc);
+        drop(read);
+        again
     }
 
     fn write_to<W: Write>(alloc: Global, value: &Pac, writer: &mut W) -> Result<(), PacError> {
