@@ -11,7 +11,7 @@ use krb_files::ccache::{
     push_credential, write,
 };
 use krb_files::fields::{PrincipalParts, TypedOctets};
-use std::alloc::Global;
+use std::alloc::{AllocError, Global};
 use std::test::Fail;
 
 /// Version 4 with three fields of a header, a credential with a value in each field, and a configuration entry.
@@ -50,9 +50,6 @@ const LEAST: &str =
 /// What is in front of the credentials of a small cache.
 const SMALL_HEAD: &str = "05040000000000010000000100000001520000000161";
 
-/// What is in front of the credentials in version 3, which has no header.
-const SMALL_HEAD_IN_THREE: &str = "0503000000010000000100000001520000000161";
-
 /// A small credential in version 4.
 const SMALL: &str =
     "0000000100000001000000015200000001610000000200000001000000015200000001620011000000016b00000001000000\
@@ -63,61 +60,45 @@ const SMALL_IN_THREE: &str =
     "00000001000000010000000152000000016100000002000000010000000152000000016200110011000000016b0000000100\
     0000020000000300000004000000000500000001000600000001370000000100080000000139000000017400000000";
 
-/// The small credential in version 4 up to its ticket's length, of 70,000 octets.
-const SMALL_TO_TICKET: &str =
-    "0000000100000001000000015200000001610000000200000001000000015200000001620011000000016b0000\
-    000100000002000000030000000400000000050000000100060000000137000000010008000000013900011170";
+/// No octets.
+const NONE: &[u8] = b"";
 
-/// Nobody.
-const NOBODY: CcachePrincipalParts<'static> = CcachePrincipalParts {
-    name_type: 0,
-    principal: PrincipalParts {
-        realm: b"",
-        components: &[],
-    },
-};
-
-/// Alice of the realm LAB.EXAMPLE.
-const ALICE: CcachePrincipalParts<'static> = CcachePrincipalParts {
-    name_type: 1,
-    principal: PrincipalParts {
-        realm: b"LAB.EXAMPLE",
-        components: &[b"alice"],
-    },
-};
-
-/// A cache of this principal without a header and a credential.
-fn cache_of<'a>(version: CcacheVersion, principal: CcachePrincipalParts<'a>) -> NewCcache<'a> {
-    NewCcache {
-        version,
-        header: &[],
-        principal,
-        credentials: &[],
+/// A principal.
+fn principal<'a>(
+    name_type: u32,
+    realm: &'a [u8],
+    components: &'a [&'a [u8]],
+) -> CcachePrincipalParts<'a> {
+    CcachePrincipalParts {
+        name_type,
+        principal: PrincipalParts { realm, components },
     }
 }
 
-/// A credential of as little as there can be, of these principals.
-fn credential_of<'a>(
-    client: CcachePrincipalParts<'a>,
-    server: CcachePrincipalParts<'a>,
-) -> NewCredential<'a> {
+/// The times of a configuration entry.
+fn no_times() -> Times {
+    Times {
+        authtime: 0,
+        starttime: 0,
+        endtime: 0,
+        renew_till: 0,
+    }
+}
+
+/// A credential of as little as there can be.
+fn least<'a>() -> NewCredential<'a> {
     NewCredential {
-        client,
-        server,
+        client: principal(0, NONE, &[]),
+        server: principal(0, NONE, &[]),
         etype: 0,
-        key: b"",
-        times: Times {
-            authtime: 0,
-            starttime: 0,
-            endtime: 0,
-            renew_till: 0,
-        },
+        key: NONE,
+        times: no_times(),
         is_skey: 0,
         flags: 0,
         addresses: &[],
         authorization_data: &[],
-        ticket: b"",
-        second_ticket: b"",
+        ticket: NONE,
+        second_ticket: NONE,
     }
 }
 
@@ -136,61 +117,29 @@ const TICKET: [u8; 19] = [
     0x02, 0x04, 0x00,
 ];
 
-/// A web server of that realm.
-const WEB: CcachePrincipalParts<'static> = CcachePrincipalParts {
-    name_type: 2,
-    principal: PrincipalParts {
-        realm: b"LAB.EXAMPLE",
-        components: &[b"HTTP", b"web.lab.example"],
-    },
-};
-
-/// The server of a configuration entry.
-const CONFIGURATION: CcachePrincipalParts<'static> = CcachePrincipalParts {
-    name_type: 0,
-    principal: PrincipalParts {
-        realm: b"X-CACHECONF:",
-        components: &[
-            b"krb5_ccache_conf_data",
-            b"fast_avail",
-            b"krbtgt/LAB.EXAMPLE@LAB.EXAMPLE",
-        ],
-    },
-};
-
-/// The octets of a cache, and of credentials that are added to it.
-fn written(
-    alloc: Global,
-    cache: &NewCcache<'_>,
-    added: &[NewCredential<'_>],
-) -> Result<Vec<u8>, CcacheWriteError> {
-    let mut octets = write(alloc, cache)?;
-    for credential in added {
-        push_credential(alloc, &mut octets, cache.version, credential)?;
-    }
-    Ok(octets)
+/// Alice of the realm LAB.EXAMPLE.
+fn alice<'a>() -> CcachePrincipalParts<'a> {
+    principal(1, b"LAB.EXAMPLE", &[b"alice"])
 }
 
-#[test]
-fn built(rt: HostRuntime) -> Result<(), Fail> {
-    let alloc = rt.alloc();
-    let header = [
-        TypedOctets::new(1, &[0xff, 0xff, 0xff, 0xfe, 0, 1, 0xe2, 0x40]),
-        TypedOctets::new(0xfe01, b""),
-        TypedOctets::new(2, b"abc"),
-    ];
+/// Appends a credential with a value in each field.
+fn push_full(
+    alloc: Global,
+    out: &mut Vec<u8>,
+    version: CcacheVersion,
+) -> Result<(), CcacheWriteError> {
     let addresses = [
         TypedOctets::new(2, &[192, 0, 2, 7]),
         TypedOctets::new(24, &ADDRESS),
     ];
     let authorization_data = [
         TypedOctets::new(1, &[0x30, 0]),
-        TypedOctets::new(128, b""),
+        TypedOctets::new(128, NONE),
         TypedOctets::new(65535, &[0xff]),
     ];
-    let full = NewCredential {
-        client: ALICE,
-        server: WEB,
+    let credential = NewCredential {
+        client: alice(),
+        server: principal(2, b"LAB.EXAMPLE", &[b"HTTP", b"web.lab.example"]),
         etype: 18,
         key: &KEY,
         times: Times {
@@ -206,43 +155,118 @@ fn built(rt: HostRuntime) -> Result<(), Fail> {
         ticket: &TICKET,
         second_ticket: &[0x61, 3, 2, 1, 5],
     };
-    let configuration = NewCredential {
+    push_credential(alloc, out, version, &credential)
+}
+
+/// Appends a configuration entry.
+fn push_config(
+    alloc: Global,
+    out: &mut Vec<u8>,
+    version: CcacheVersion,
+) -> Result<(), CcacheWriteError> {
+    let config: [&[u8]; 3] = [
+        b"krb5_ccache_conf_data",
+        b"fast_avail",
+        b"krbtgt/LAB.EXAMPLE@LAB.EXAMPLE",
+    ];
+    let entry = NewCredential {
+        client: alice(),
+        server: principal(0, b"X-CACHECONF:", &config),
         ticket: b"yes",
-        ..credential_of(ALICE, CONFIGURATION)
+        ..least()
     };
-    let both = [full, configuration];
-    let four = NewCcache {
+    push_credential(alloc, out, version, &entry)
+}
+
+/// Whether these are the octets of the text in hexadecimal.
+fn is_hex(alloc: Global, octets: &[u8], text: &str) -> Result<bool, AllocError> {
+    Ok(hex::encode(alloc, octets)?.as_str() == text)
+}
+
+/// A cache with both credentials.
+fn with_both(alloc: Global, cache: &NewCcache<'_>) -> Result<Vec<u8>, CcacheWriteError> {
+    let mut octets = write(alloc, cache)?;
+    push_full(alloc, &mut octets, cache.version)?;
+    push_config(alloc, &mut octets, cache.version)?;
+    Ok(octets)
+}
+
+#[test]
+fn version_four(rt: HostRuntime) -> Result<(), Fail> {
+    let header = [
+        TypedOctets::new(1, &[0xff, 0xff, 0xff, 0xfe, 0, 1, 0xe2, 0x40]),
+        TypedOctets::new(0xfe01, NONE),
+        TypedOctets::new(2, b"abc"),
+    ];
+    let cache = NewCcache {
+        version: CcacheVersion::Four,
         header: &header,
-        ..cache_of(CcacheVersion::Four, ALICE)
+        principal: alice(),
+        credentials: &[],
     };
-    assert!(rt; hex::encode(alloc, &written(alloc, &four, &both)?)?.as_str() == FOUR);
-    let three = cache_of(CcacheVersion::Three, ALICE);
-    assert!(rt; hex::encode(alloc, &written(alloc, &three, &both)?)?.as_str() == THREE);
-    let four = cache_of(CcacheVersion::Four, NOBODY);
-    assert!(rt; hex::encode(alloc, &written(alloc, &four, &[])?)?.as_str() == NOTHING);
-    let three = cache_of(CcacheVersion::Three, NOBODY);
-    let octets = written(alloc, &three, &[credential_of(NOBODY, NOBODY)])?;
-    assert!(rt; hex::encode(alloc, &octets)?.as_str() == LEAST);
+    assert!(rt; is_hex(rt.alloc(), &with_both(rt.alloc(), &cache)?, FOUR)?);
     Ok(())
 }
 
-/// A of the realm R.
-const A: CcachePrincipalParts<'static> = CcachePrincipalParts {
-    name_type: 1,
-    principal: PrincipalParts {
-        realm: b"R",
-        components: &[b"a"],
-    },
-};
+#[test]
+fn version_three(rt: HostRuntime) -> Result<(), Fail> {
+    let octets = with_both(rt.alloc(), &head(CcacheVersion::Three, alice()))?;
+    assert!(rt; is_hex(rt.alloc(), &octets, THREE)?);
+    Ok(())
+}
 
-/// B of the realm R.
-const B: CcachePrincipalParts<'static> = CcachePrincipalParts {
-    name_type: 2,
-    principal: PrincipalParts {
-        realm: b"R",
-        components: &[b"b"],
-    },
-};
+/// A cache without a header and with this default principal, empty.
+fn head<'a>(version: CcacheVersion, principal: CcachePrincipalParts<'a>) -> NewCcache<'a> {
+    NewCcache {
+        version,
+        header: &[],
+        principal,
+        credentials: &[],
+    }
+}
+
+/// A cache in version 3 with a credential of as little as there can be.
+fn with_least(alloc: Global) -> Result<Vec<u8>, CcacheWriteError> {
+    let nobody = principal(0, NONE, &[]);
+    let mut octets = write(alloc, &head(CcacheVersion::Three, nobody))?;
+    push_credential(alloc, &mut octets, CcacheVersion::Three, &least())?;
+    Ok(octets)
+}
+
+#[test]
+fn nothing_and_least(rt: HostRuntime) -> Result<(), Fail> {
+    let alloc = rt.alloc();
+    let octets = write(alloc, &head(CcacheVersion::Four, principal(0, NONE, &[])))?;
+    assert!(rt; is_hex(alloc, &octets, NOTHING)?);
+    assert!(rt; is_hex(alloc, &with_least(alloc)?, LEAST)?);
+    Ok(())
+}
+
+/// A small credential with these addresses, data and ticket.
+fn small<'a>(
+    addresses: &'a [TypedOctets<'a>],
+    authorization_data: &'a [TypedOctets<'a>],
+    ticket: &'a [u8],
+) -> NewCredential<'a> {
+    NewCredential {
+        client: principal(1, b"R", &[b"a"]),
+        server: principal(2, b"R", &[b"b"]),
+        etype: 17,
+        key: b"k",
+        times: Times {
+            authtime: 1,
+            starttime: 2,
+            endtime: 3,
+            renew_till: 4,
+        },
+        is_skey: 0,
+        flags: 5,
+        addresses,
+        authorization_data,
+        ticket,
+        second_ticket: NONE,
+    }
+}
 
 /// These octets in hexadecimal, and then others so many times.
 pub(crate) fn repeated(
@@ -257,78 +281,124 @@ pub(crate) fn repeated(
     Ok(octets)
 }
 
-/// More than a thousand credentials, of `write` and of `push_credential`, and a ticket past 64 KiB.
-#[test]
-fn large(rt: HostRuntime) -> Result<(), Fail> {
-    let alloc = rt.alloc();
-    let (addresses, data) = ([TypedOctets::new(6, b"7")], [TypedOctets::new(8, b"9")]);
-    let small = NewCredential {
-        etype: 17,
-        key: b"k",
-        times: Times {
-            authtime: 1,
-            starttime: 2,
-            endtime: 3,
-            renew_till: 4,
-        },
-        flags: 5,
-        addresses: &addresses,
-        authorization_data: &data,
-        ticket: b"t",
-        ..credential_of(A, B)
-    };
-    let credentials = Vec::from_elem(alloc, small, 1500)?;
-    let four = NewCcache {
-        credentials: &credentials,
-        ..cache_of(CcacheVersion::Four, A)
-    };
-    let expected = repeated(alloc, SMALL_HEAD, SMALL, 1500)?;
-    assert!(rt; write(alloc, &four)? == expected);
-    let three = cache_of(CcacheVersion::Three, A);
-    let expected = repeated(alloc, SMALL_HEAD_IN_THREE, SMALL_IN_THREE, 1500)?;
-    assert!(rt; written(alloc, &three, &credentials)? == expected);
-    let ticket = Vec::from_elem(alloc, 0xa5, 70_000)?;
-    let credential = NewCredential {
-        ticket: &ticket,
-        ..small
-    };
-    let mut octets = Vec::new(alloc);
-    push_credential(alloc, &mut octets, CcacheVersion::Four, &credential)?;
-    let mut expected = repeated(alloc, SMALL_TO_TICKET, "a5", 70_000)?;
-    expected.extend_from_slice(&[0; 4])?;
-    assert!(rt; octets == expected);
-    Ok(())
-}
-
-/// A cache with a header of one field with so many octets.
-fn with_header(
+/// A cache of as many such credentials, of `write`.
+fn of_many(
     alloc: Global,
-    version: CcacheVersion,
-    size: usize,
+    credential: NewCredential<'_>,
+    count: usize,
 ) -> Result<Vec<u8>, CcacheWriteError> {
-    let field = Vec::from_elem(alloc, 0xa5, size)?;
-    let header = [TypedOctets::new(1, &field)];
+    let credentials = Vec::from_elem(alloc, credential, count)?;
     let cache = NewCcache {
-        header: &header,
-        ..cache_of(version, NOBODY)
+        credentials: &credentials,
+        ..head(CcacheVersion::Four, principal(1, b"R", &[b"a"]))
     };
     write(alloc, &cache)
 }
 
-/// A header as long as it can be: 05 04, a length of 65,535 octets, a field of tag 1 and 65,531
-/// octets, and a principal of twelve zeros. One that is longer by an octet, in the field or as a
-/// whole, and one in version 3 are refused.
+/// As many such credentials, of `push_credential`.
+fn pushed(
+    alloc: Global,
+    version: CcacheVersion,
+    credential: &NewCredential<'_>,
+    count: usize,
+) -> Result<Vec<u8>, CcacheWriteError> {
+    let mut octets = Vec::new(alloc);
+    for _ in 0..count {
+        push_credential(alloc, &mut octets, version, credential)?;
+    }
+    Ok(octets)
+}
+
+/// More than a thousand credentials, of `write` and of `push_credential`.
 #[test]
-fn headers(rt: HostRuntime) -> Result<(), Fail> {
+fn many_credentials(rt: HostRuntime) -> Result<(), Fail> {
     let alloc = rt.alloc();
+    let (addresses, data) = ([TypedOctets::new(6, b"7")], [TypedOctets::new(8, b"9")]);
+    let credential = small(&addresses, &data, b"t");
+    let expected = repeated(alloc, SMALL_HEAD, SMALL, 1500)?;
+    assert!(rt; of_many(alloc, credential, 1500)? == expected);
+    let expected = repeated(alloc, "", SMALL_IN_THREE, 1500)?;
+    assert!(rt; pushed(alloc, CcacheVersion::Three, &credential, 1500)? == expected);
+    Ok(())
+}
+
+/// The octets of a small credential with this ticket.
+fn with_ticket(alloc: Global, ticket: &[u8]) -> Result<Vec<u8>, CcacheWriteError> {
+    let (addresses, data) = ([TypedOctets::new(6, b"7")], [TypedOctets::new(8, b"9")]);
+    let credential = small(&addresses, &data, ticket);
+    pushed(alloc, CcacheVersion::Four, &credential, 1)
+}
+
+/// The small credential up to its ticket's length of 32 bits, and then 70,000, so many octets and no second ticket.
+fn expected_with(alloc: Global, ticket: &[u8]) -> Result<Vec<u8>, FromHexError> {
+    let mut expected = hex::decode(alloc, SMALL)?;
+    expected.truncate(86);
+    expected.extend_from_slice(&[0, 1, 0x11, 0x70])?;
+    expected.extend_from_slice(ticket)?;
+    expected.extend_from_slice(&[0, 0, 0, 0])?;
+    Ok(expected)
+}
+
+/// A ticket past 64 KiB.
+#[test]
+fn large_ticket(rt: HostRuntime) -> Result<(), Fail> {
+    let alloc = rt.alloc();
+    let large = Vec::from_elem(alloc, 0xa5, 70_000)?;
+    assert!(rt; SMALL.len() == 190);
+    assert!(rt; with_ticket(alloc, &large)? == expected_with(alloc, &large)?);
+    Ok(())
+}
+
+/// A cache with a header of one field with these octets.
+fn with_header(
+    alloc: Global,
+    version: CcacheVersion,
+    field: &[u8],
+) -> Result<Vec<u8>, CcacheWriteError> {
+    let header = [TypedOctets::new(1, field)];
+    let cache = NewCcache {
+        header: &header,
+        ..head(version, principal(0, NONE, &[]))
+    };
+    write(alloc, &cache)
+}
+
+/// 05 04, a header of 65,535 octets, a field of tag 1 and 65,531 octets, and a principal of twelve zeros.
+fn expected_header(alloc: Global) -> Result<Vec<u8>, FromHexError> {
     let mut expected = repeated(alloc, "0504ffff0001fffb", "a5", 65_531)?;
     expected.extend_from_slice(&[0; 12])?;
-    assert!(rt; with_header(alloc, CcacheVersion::Four, 65_531)? == expected);
-    let refused = with_header(alloc, CcacheVersion::Four, 65_532).err();
-    assert!(rt; refused == Some(CcacheWriteError::TooLong), "the whole");
-    let refused = with_header(alloc, CcacheVersion::Four, 65_536).err();
-    assert!(rt; refused == Some(CcacheWriteError::TooLong), "the field");
-    let refused = with_header(alloc, CcacheVersion::Three, 0).err();
+    Ok(expected)
+}
+
+/// A header as long as it can be.
+#[test]
+fn large_header(rt: HostRuntime) -> Result<(), Fail> {
+    let alloc = rt.alloc();
+    let field = Vec::from_elem(alloc, 0xa5, 65_531)?;
+    let octets = with_header(alloc, CcacheVersion::Four, &field)?;
+    assert!(rt; octets == expected_header(alloc)?);
+    Ok(())
+}
+
+/// The refusal of a header of one field with so many octets.
+fn refusal_of(
+    alloc: Global,
+    version: CcacheVersion,
+    size: usize,
+) -> Result<Option<CcacheWriteError>, AllocError> {
+    let field = Vec::from_elem(alloc, 0xa5, size)?;
+    Ok(with_header(alloc, version, &field).err())
+}
+
+/// A header in version 3, and one that is too long by one octet, in the field or as a whole.
+#[test]
+fn refusals(rt: HostRuntime) -> Result<(), Fail> {
+    let alloc = rt.alloc();
+    let refused = refusal_of(alloc, CcacheVersion::Three, 0)?;
     assert!(rt; refused == Some(CcacheWriteError::HeaderInVersion3));
+    let refused = refusal_of(alloc, CcacheVersion::Four, 65_532)?;
+    assert!(rt; refused == Some(CcacheWriteError::TooLong), "the field");
+    let refused = refusal_of(alloc, CcacheVersion::Four, 65_536)?;
+    assert!(rt; refused == Some(CcacheWriteError::TooLong), "the whole");
     Ok(())
 }

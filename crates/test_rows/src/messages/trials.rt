@@ -154,12 +154,22 @@ pub fn tried_slowly<F: Format>(row: &Row<'_>) -> Result<Findings, Refusal> {
 fn is_streamed<F: Format>(row: &Row<'_>, value: &F::Value, left: usize) -> bool {
     for at_once in PACES {
         let mut source = Source::new(row.octets, at_once, None);
-        match F::read_from(row.alloc, row.octets, &mut source) {
-            Ok(read) if read == *value && source.left.len() == left => (),
-            _ => return false,
+        let Ok(read) = F::read_from(row.alloc, row.octets, &mut source) else {
+            return false;
+        };
+        if source.left.len() != left || read != *value {
+            return false;
         }
     }
     true
+}
+
+/// Whether a call returned the error of a device.
+fn is_broken_pipe<V, E: Rejection>(outcome: &Result<V, E>) -> bool {
+    match outcome {
+        Ok(_) => false,
+        Err(error) => error.io_kind() == Some(ErrorKind::BrokenPipe),
+    }
 }
 
 /// Whether the error of a reader of one octet at a time is returned, at each read in turn.
@@ -170,9 +180,9 @@ fn is_faulted<F: Format>(row: &Row<'_>) -> bool {
     }
     for turn in 0..all.reads {
         let mut source = Source::new(row.octets, 1, Some(turn));
-        match F::read_from(row.alloc, row.octets, &mut source) {
-            Err(error) if error.io_kind() == Some(ErrorKind::BrokenPipe) => (),
-            _ => return false,
+        let outcome = F::read_from(row.alloc, row.octets, &mut source);
+        if !is_broken_pipe(&outcome) {
+            return false;
         }
     }
     true
