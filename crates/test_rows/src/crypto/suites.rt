@@ -2,7 +2,7 @@
 
 use crate::crypto::numbers::sizes_of;
 use crate::crypto::parts::{agreed, generated, try_part};
-use crate::crypto::row::{Answer, Row, answer_of, copied, text_of};
+use crate::crypto::row::{Answer, Row, answer_of, text_of};
 use examples::Toy;
 use picky_krb::crypto::aes::{
     Aes128CtsHmacSha196, Aes128CtsHmacSha256128, Aes256CtsHmacSha196, Aes256CtsHmacSha384192,
@@ -11,7 +11,7 @@ use picky_krb::crypto::aes::{
 use picky_krb::crypto::des::{Des3CbcSha1Kd, HmacSha1Des3Kd};
 use picky_krb::crypto::{
     Checksum, ChecksumSuite, Cipher, CipherSuite, DecryptWithoutChecksum, EncryptWithoutChecksum,
-    KerberosCryptoResult,
+    KerberosCryptoError, KerberosCryptoResult,
 };
 use std::alloc::Global;
 
@@ -49,9 +49,9 @@ fn seeded(
     if seed.len() < cipher.seed_bit_len() / 8 {
         return None;
     }
-    Some(match copied(alloc, seed) {
+    Some(match Vec::from_slice(alloc, seed) {
         Ok(seed) => cipher.random_to_key(alloc, seed),
-        Err(rejection) => Err(rejection),
+        Err(_) => Err(KerberosCryptoError::OutOfMemory),
     })
 }
 
