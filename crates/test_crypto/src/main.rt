@@ -6,6 +6,7 @@
 
 mod crypto;
 mod pac_checksums;
+mod service;
 mod third_legs;
 
 use std::alloc::Global;

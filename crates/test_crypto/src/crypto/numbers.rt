@@ -1,24 +1,29 @@
 //! Numbers of suites, their sizes, and constants.
 
-use crate::crypto::row::{Answer, Row, answer_of, copied};
+use crate::crypto::row::{Answer, Row, answer_of};
 use picky_krb::constants::{cksum_types, etypes};
 use picky_krb::crypto::aes::{AES_MAC_SIZE, AES128_KEY_SIZE, AES256_KEY_SIZE, AesSize};
 use picky_krb::crypto::des::{DES3_BLOCK_SIZE, DES3_KEY_SIZE, DES3_MAC_SIZE, DES3_SEED_LEN};
 use picky_krb::crypto::{
-    ChecksumSuite, Cipher, CipherSuite, KERBEROS, KerberosCryptoResult, usage_kc, usage_ke,
-    usage_ki,
+    ChecksumSuite, Cipher, CipherSuite, KERBEROS, KerberosCryptoError, KerberosCryptoResult,
+    usage_kc, usage_ke, usage_ki,
 };
-use std::alloc::{AllocError, Global};
+use std::alloc::Global;
+
+/// A number, in decimal digits.
+pub fn number_of(alloc: Global, number: u8) -> KerberosCryptoResult<String> {
+    Ok(format!(in alloc; "{number}")?)
+}
 
 /// The sizes of a cipher, the number of its type and that of its checksum's.
-pub fn sizes_of(alloc: Global, cipher: &dyn Cipher) -> Result<String, AllocError> {
+pub fn sizes_of(alloc: Global, cipher: &dyn Cipher) -> KerberosCryptoResult<String> {
     let (key, seed) = (cipher.key_size(), cipher.seed_bit_len());
     let (confounder, fill) = (cipher.confounder_size(), cipher.fill_size());
     let number = u8::from(cipher.cipher_type());
     let sum = u8::from(cipher.checksum_type());
-    format!(in alloc;
+    Ok(format!(in alloc;
         "key {key} seed {seed} confounder {confounder} fill {fill} cipher {number} checksum {sum}"
-    )
+    )?)
 }
 
 /// A cipher's suite by its number, or by the octets of the input where there are some: its numbers, and the suites that are equal to it.
@@ -88,13 +93,20 @@ fn constants(alloc: Global) -> KerberosCryptoResult<String> {
     Ok(text)
 }
 
-/// Calls of numbers (RFC 3961, 5.3 and 8; RFC 3962, 7; RFC 8009, 7), and the constants of derived
-/// keys.
+/// The constant of a derived key: RFC 3961, 5.3.
+fn usage(alloc: Global, octets: [u8; 5]) -> Answer {
+    match Vec::from_slice(alloc, &octets) {
+        Ok(octets) => answer_of(alloc, Ok(octets)),
+        Err(_) => Some(Err(KerberosCryptoError::OutOfMemory)),
+    }
+}
+
+/// Calls of numbers (RFC 3961, 5.3 and 8; RFC 3962, 7; RFC 8009, 7).
 pub fn try_number(alloc: Global, row: &Row) -> Answer {
     match row.call {
-        "usage_ke" => answer_of(alloc, copied(alloc, &usage_ke(row.number))),
-        "usage_ki" => answer_of(alloc, copied(alloc, &usage_ki(row.number))),
-        "usage_kc" => answer_of(alloc, copied(alloc, &usage_kc(row.number))),
+        "usage_ke" => usage(alloc, usage_ke(row.number)),
+        "usage_ki" => usage(alloc, usage_ki(row.number)),
+        "usage_kc" => usage(alloc, usage_kc(row.number)),
         "constants" => Some(constants(alloc)),
         "cipher_suite" => {
             let number = usize::try_from(row.number).ok()?;

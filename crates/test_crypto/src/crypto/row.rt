@@ -2,8 +2,7 @@
 
 use picky_krb::crypto::KerberosCryptoResult;
 use picky_krb::crypto::aes::AesSize;
-use std::alloc::{AllocError, Global};
-use test_rows::{Columns, RowError};
+use std::alloc::Global;
 
 /// What a call is given.
 #[derive(Drop)]
@@ -20,54 +19,46 @@ pub struct Row<'a> {
     pub input: Vec<u8>,
 }
 
-impl<'a> Row<'a> {
-    /// The row of these columns.
-    pub fn of(alloc: Global, mut columns: Columns<'a>) -> Result<Row<'a>, RowError> {
-        Ok(Row {
-            call: columns.text()?,
-            suite: columns.text()?,
-            number: columns.number()?,
-            key: columns.octets(alloc)?,
-            beside: columns.octets(alloc)?,
-            input: columns.octets(alloc)?,
-        })
-    }
-}
-
-/// What a call returns, as text. `None` where there is no such call, or none of such arguments.
+/// What a call returns, in hexadecimal digits. `None` where there is no such call, or none of such arguments.
 pub type Answer = Option<KerberosCryptoResult<String>>;
 
-/// The answer of a call that returns a text.
-pub fn text_of(text: Result<String, AllocError>) -> Answer {
-    match text {
-        Ok(text) => Some(Ok(text)),
-        Err(error) => Some(Err(error.into())),
-    }
+fn digits(alloc: Global, octets: &[u8]) -> KerberosCryptoResult<String> {
+    Ok(hex::encode(alloc, octets)?)
 }
 
-/// The answer of a call that returns octets, in hexadecimal digits.
+/// The result of a call that returns octets.
 pub fn answer_of(alloc: Global, octets: KerberosCryptoResult<Vec<u8>>) -> Answer {
     match octets {
-        Ok(octets) => text_of(hex::encode(alloc, &octets)),
+        Ok(octets) => Some(digits(alloc, &octets)),
         Err(rejection) => Some(Err(rejection)),
     }
 }
 
-/// A copy of octets.
-pub fn copied(alloc: Global, octets: &[u8]) -> KerberosCryptoResult<Vec<u8>> {
-    Ok(Vec::from_slice(alloc, octets)?)
-}
-
-/// The size of AES of a suite of this name.
+/// The size of AES of this name.
 pub fn size_of(name: &str) -> Option<AesSize> {
     match name {
-        "aes128" | "aes128-sha2" => Some(AesSize::Aes128),
-        "aes256" | "aes256-sha2" => Some(AesSize::Aes256),
+        "aes128" => Some(AesSize::Aes128),
+        "aes256" => Some(AesSize::Aes256),
         _ => None,
     }
 }
 
-/// The octets as a block.
-pub fn block_of<const SIZE: usize>(octets: &[u8]) -> Option<[u8; SIZE]> {
-    <[u8; SIZE]>::try_from(octets).ok()
+/// The octets as a block of AES.
+pub fn aes_block(octets: &[u8]) -> Option<[u8; 16]> {
+    if octets.len() != 16 {
+        return None;
+    }
+    let mut block = [0; 16];
+    block.copy_from_slice(octets);
+    Some(block)
+}
+
+/// The octets as a block of DES.
+pub fn des_block(octets: &[u8]) -> Option<[u8; 8]> {
+    if octets.len() != 8 {
+        return None;
+    }
+    let mut block = [0; 8];
+    block.copy_from_slice(octets);
+    Some(block)
 }

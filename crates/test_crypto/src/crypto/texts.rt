@@ -1,99 +1,106 @@
 //! The texts of the errors.
 
+use crate::crypto::row::Answer;
 use picky_krb::crypto::KerberosCryptoError;
 use picky_krb::crypto::diffie_hellman::DiffieHellmanError;
 use picky_krb::der::Asn1DerError;
 use picky_krb::gss_api::GssApiMessageError;
 use picky_krb::pac::PacError;
 use picky_krb::seal::PartError;
-use std::alloc::{AllocError, Global};
+use std::alloc::Global;
 use std::fmt::Display;
 use std::io;
 use std::io::ErrorKind;
 
-/// The texts of errors, with ` | ` between.
-fn joined<E: Display + Drop, const COUNT: usize>(
-    alloc: Global,
-    errors: [E; COUNT],
-) -> Result<String, AllocError> {
-    let mut texts = String::new(alloc);
-    for error in &errors {
-        if !texts.is_empty() {
-            texts.push_str(" | ")?;
-        }
-        let text = error.to_string(alloc)?;
-        texts.push_str(text.as_str())?;
+/// The text of an error.
+fn text_of<E: Display + Drop>(alloc: Global, rejection: E) -> Answer {
+    match rejection.to_string(alloc) {
+        Ok(text) => Some(Ok(text)),
+        Err(_) => None,
     }
-    Ok(texts)
 }
 
-/// Each error of the cryptography.
-fn crypto_errors(alloc: Global) -> Result<[KerberosCryptoError; 10], AllocError> {
-    Ok([
-        KerberosCryptoError::KeyLength(15, 16),
-        KerberosCryptoError::CipherLength(27, 28),
-        KerberosCryptoError::AlgorithmIdentifier(19),
-        KerberosCryptoError::AlgorithmIdentifierData(Vec::from_slice(alloc, &[0, 17])?),
-        KerberosCryptoError::IntegrityCheck,
-        KerberosCryptoError::CipherError(String::from_str(alloc, "no such mode")?),
-        KerberosCryptoError::CipherUnpad,
-        KerberosCryptoError::CipherPad,
-        KerberosCryptoError::SeedBitLen(String::from_str(alloc, "13")?),
-        KerberosCryptoError::OutOfMemory,
-    ])
+fn crypto_rejection(alloc: Global, name: &str) -> Option<KerberosCryptoError> {
+    Some(match name {
+        "KeyLength" => KerberosCryptoError::KeyLength(15, 16),
+        "CipherLength" => KerberosCryptoError::CipherLength(27, 28),
+        "AlgorithmIdentifier" => KerberosCryptoError::AlgorithmIdentifier(19),
+        "AlgorithmIdentifierData" => {
+            KerberosCryptoError::AlgorithmIdentifierData(Vec::from_slice(alloc, &[0, 17]).ok()?)
+        }
+        "IntegrityCheck" => KerberosCryptoError::IntegrityCheck,
+        "CipherError" => {
+            KerberosCryptoError::CipherError(String::from_str(alloc, "no such mode").ok()?)
+        }
+        "CipherUnpad" => KerberosCryptoError::CipherUnpad,
+        "CipherPad" => KerberosCryptoError::CipherPad,
+        "SeedBitLen" => KerberosCryptoError::SeedBitLen(String::from_str(alloc, "13").ok()?),
+        "OutOfMemory" => KerberosCryptoError::OutOfMemory,
+        _ => return None,
+    })
 }
 
-/// Each error of a token.
-fn token_errors(alloc: Global) -> Result<[GssApiMessageError; 7], AllocError> {
-    Ok([
-        GssApiMessageError::InvalidId([4, 4], [5, 4]),
-        GssApiMessageError::InvalidMechanismOid(
-            String::from_str(alloc, "1.3.6.1.5.2.5")?,
-            String::from_str(alloc, "1.2")?,
+fn der_rejection(name: &str) -> Option<Asn1DerError> {
+    match name {
+        "InvalidData" => Some(Asn1DerError::InvalidData),
+        "TruncatedData" => Some(Asn1DerError::TruncatedData),
+        "UnsupportedValue" => Some(Asn1DerError::UnsupportedValue),
+        "OutOfMemory" => Some(Asn1DerError::OutOfMemory),
+        _ => None,
+    }
+}
+
+fn agreement_rejection(alloc: Global, name: &str) -> Option<DiffieHellmanError> {
+    match name {
+        "BitLen" => Some(DiffieHellmanError::BitLen(String::from_str(alloc, "13").ok()?)),
+        "DataLen" => Some(DiffieHellmanError::DataLen(5121, 5120)),
+        "OutOfMemory" => Some(DiffieHellmanError::OutOfMemory),
+        _ => None,
+    }
+}
+
+fn pac_rejection(name: &str) -> Option<PacError> {
+    match name {
+        "Version" => Some(PacError::Version(3)),
+        "PacBufferType" => Some(PacError::PacBufferType(20)),
+        "IoError" => Some(PacError::IoError(io::Error::from(ErrorKind::UnexpectedEof))),
+        "InvalidVersion" => Some(PacError::InvalidVersion(1)),
+        "InvalidRange" => Some(PacError::InvalidRange),
+        "OutOfMemory" => Some(PacError::OutOfMemory),
+        _ => None,
+    }
+}
+
+fn token_rejection(alloc: Global, name: &str) -> Option<GssApiMessageError> {
+    Some(match name {
+        "InvalidId" => GssApiMessageError::InvalidId([4, 4], [5, 4]),
+        "InvalidMechanismOid" => GssApiMessageError::InvalidMechanismOid(
+            String::from_str(alloc, "1.3.6.1.5.2.5").ok()?,
+            String::from_str(alloc, "1.2").ok()?,
         ),
-        GssApiMessageError::IoError(io::Error::from(ErrorKind::UnexpectedEof)),
-        GssApiMessageError::InvalidMicFiller([255, 255, 0, 255, 255]),
-        GssApiMessageError::InvalidWrapFiller(254),
-        GssApiMessageError::Asn1Error(Asn1DerError::TruncatedData),
-        GssApiMessageError::OutOfMemory,
-    ])
+        "IoError" => GssApiMessageError::IoError(io::Error::from(ErrorKind::UnexpectedEof)),
+        "InvalidMicFiller" => GssApiMessageError::InvalidMicFiller([255, 255, 0, 255, 255]),
+        "InvalidWrapFiller" => GssApiMessageError::InvalidWrapFiller(254),
+        "Asn1Error" => GssApiMessageError::Asn1Error(Asn1DerError::TruncatedData),
+        "OutOfMemory" => GssApiMessageError::OutOfMemory,
+        _ => return None,
+    })
 }
 
-/// The texts of each error of this family. A part's has the text of the half that returned it.
-pub fn texts_of(alloc: Global, family: &str) -> Result<String, AllocError> {
+/// The text of the error of this family and name. A part's has the text of the half that returned it.
+pub fn try_text(alloc: Global, name: &str) -> Answer {
+    let (family, name) = name.split_once(' ')?;
     match family {
-        "crypto" => joined(alloc, crypto_errors(alloc)?),
-        "part" => joined(
-            alloc,
-            [
-                PartError::from(KerberosCryptoError::KeyLength(15, 16)),
-                PartError::from(KerberosCryptoError::IntegrityCheck),
-                PartError::from(KerberosCryptoError::OutOfMemory),
-                PartError::from(Asn1DerError::InvalidData),
-                PartError::from(Asn1DerError::TruncatedData),
-                PartError::from(Asn1DerError::UnsupportedValue),
-            ],
-        ),
-        "agreement" => joined(
-            alloc,
-            [
-                DiffieHellmanError::BitLen(String::from_str(alloc, "13")?),
-                DiffieHellmanError::DataLen(5121, 5120),
-                DiffieHellmanError::OutOfMemory,
-            ],
-        ),
-        "pac" => joined(
-            alloc,
-            [
-                PacError::Version(3),
-                PacError::PacBufferType(20),
-                PacError::IoError(io::Error::from(ErrorKind::UnexpectedEof)),
-                PacError::InvalidVersion(1),
-                PacError::InvalidRange,
-                PacError::OutOfMemory,
-            ],
-        ),
-        "token" => joined(alloc, token_errors(alloc)?),
-        _ => Ok(String::new(alloc)),
+        "crypto" => text_of(alloc, crypto_rejection(alloc, name)?),
+        "part" => {
+            if let Some(rejection) = crypto_rejection(alloc, name) {
+                return text_of(alloc, PartError::from(rejection));
+            }
+            text_of(alloc, PartError::from(der_rejection(name)?))
+        }
+        "agreement" => text_of(alloc, agreement_rejection(alloc, name)?),
+        "pac" => text_of(alloc, pac_rejection(name)?),
+        "token" => text_of(alloc, token_rejection(alloc, name)?),
+        _ => None,
     }
 }
