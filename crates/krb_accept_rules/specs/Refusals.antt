@@ -38,7 +38,7 @@ error_code Rules.Unremembered = 34
 error_code Rules.Repeat = 34
 error_code Rules.OutOfMemory = 60
 
--- what the breach of a rule is called
+-- what a service says of the breach of a rule: RFC 4120, 3.2.3, has the rules, and no words for them
 abbrev pub rule_text : Rule → List ℕ
 rule_text Rules.NotRequest = codes "the message is not an AP-REQ"
 rule_text Rules.Version = codes "pvno is not 5"
