@@ -1,7 +1,6 @@
-/* Hands each row of a program's tables to it, with its allocations failing. The arguments are the
- * file of these tables, and the name of a table whose rows alone are handed over as they stand; where
- * none is named the program is test_messages, which reads, copies and writes the octets of each row,
- * and of a PAC its first buffer alone too. */
+/* Hands rows of the tables of test_rows to it, with its allocations failing. The argument is the file
+ * of the tables. Rows of `crypto` are handed over as they stand; of those of `READ` the program reads,
+ * copies and writes the octets, and of a PAC its first buffer alone too. */
 #include "program.h"
 #include "runs.h"
 
@@ -14,9 +13,24 @@ static char line[4 * ROOM];
 /* The line that begins the table which is read. */
 static char table[64];
 
-/* Calls that are left out: those that open what is given with each bit flipped, each proper prefix,
- * or in a thousand ways, since other rows make the calls in them once; and the texts of errors. */
-static const char *const left_out[] = {"flips", "fronts", "alike", "large_part", "text"};
+/* The tables of octets that are read. */
+static const char *const READ[] = {"types", "messages", "frames", "tokens", "negoex", "pacs"};
+
+/* Whether the table that is read has this name. */
+static int is_table(const char *name) {
+    size_t size = strlen(name);
+    return !memcmp(table + 3, name, size) && table[3 + size] == '\n';
+}
+
+/* Whether it is one of octets that are read. */
+static int is_read(void) {
+    for (size_t i = 0; i < sizeof READ / sizeof *READ; i++) {
+        if (is_table(READ[i])) {
+            return 1;
+        }
+    }
+    return 0;
+}
 
 /* Whether an error's name is in the origin's place: one word that begins with a capital. */
 static int is_refusal(const char *origin) {
@@ -45,10 +59,8 @@ static void try_line(void) {
     struct octets input;
     int count = snprintf((char *)input.at, ROOM, "%s%s", table, line);
     char *call = strtok(line, "\t\n");
-    for (size_t i = 0; i < sizeof left_out / sizeof *left_out; i++) {
-        if (!strcmp(call, left_out[i])) {
-            return;
-        }
+    if (!strcmp(call, "text")) { /* the texts of errors */
+        return;
     }
     if (count >= ROOM) {
         fail(call, "too many octets");
@@ -58,7 +70,7 @@ static void try_line(void) {
 }
 
 int try_program(int count, char **words) {
-    FILE *rows = count == 2 || count == 3 ? fopen(words[1], "r") : 0;
+    FILE *rows = count == 2 ? fopen(words[1], "r") : 0;
     if (!rows) {
         die("no such file of tables");
     }
@@ -68,15 +80,15 @@ int try_program(int count, char **words) {
             snprintf(table, sizeof table, "%s", line);
             continue;
         }
-        if (count == 3) {
-            size_t size = strlen(words[2]);
-            if (*line != '#' && !memcmp(table + 3, words[2], size) && table[3 + size] == '\n') {
-                try_line();
-            }
+        if (*line == '#' || (!is_table("crypto") && !is_read())) {
+            continue;
+        }
+        if (is_table("crypto")) {
+            try_line();
             continue;
         }
         char *origin = strtok(line, "\t\n"), *name = strtok(0, "\t\n"), *digits = strtok(0, "\t\n");
-        if (digits && *origin != '#' && memcmp(origin, "large", 5)) {
+        if (digits && memcmp(origin, "large", 5)) {
             try_row(origin, name, digits);
             if (strlen(name) == 3 && !memcmp(name, "Pac", 3)) {
                 try_row(origin, "PacBuffer", digits);

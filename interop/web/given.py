@@ -36,10 +36,10 @@ def buffers():
 
 
 def salted():
-    """The rows of crates/test_show, table `salts`: the octets of a message, and the salts that are expected of it."""
-    with open(os.path.join(TOP, "crates", "test_show", "stdout"), encoding="utf-8") as file:
+    """The rows of crates/test_rows, table `salts`: the octets of a message, and the salts that are expected of it."""
+    with open(os.path.join(TOP, "crates", "test_rows", "stdout"), encoding="utf-8") as file:
         expected = [re.findall(r" ([^;]+);", line) for line in file if line.startswith("salts:")]
-    rows = [bytes.fromhex(line) for _, line in lines_of("test_show", "salts") if not line.startswith("#")]
+    rows = [bytes.fromhex(line) for _, line in lines_of("test_rows", "salts") if not line.startswith("#")]
     return list(zip(rows, expected, strict=True))
 
 
@@ -66,7 +66,7 @@ def error_with(realm):
 
 
 def quoted(octets):
-    """A text of a page: in quotation marks, `"` and `\\` behind a `\\`, and what is no printable ASCII as \\xNN (docs/SPECIFICATION.md, "Pages")."""
+    """A text of a page: in quotation marks, `"` and `\\` behind a `\\`, and what is no printable ASCII as \\xNN (docs/SPECIFICATION.md, "Values as text and as JSON")."""
     letters = ["\\" + chr(each) if each in b'"\\' else chr(each) if 32 <= each < 127 else "\\x%02x" % each for each in octets]
     return '"' + "".join(letters) + '"'
 

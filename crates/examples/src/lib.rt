@@ -2,7 +2,7 @@
 //!
 //! `reseal` is the file of the README, and `note` the type at the head of `composite.rt` of `krb_der`; `./test` compares their texts. `toy` is
 //! a cipher of a caller's own, which hides nothing, and `listed_words` a generator, which gives words from a list: the whole law of
-//! `Cipher` is proved of the one, and that of `Rng` of the other. `test_crypto` calls both, and what else `picky_krb` re-exports of the cryptography.
+//! `Cipher` is proved of the one, and that of `Rng` of the other. `test_rows` calls both, and what else `picky_krb` re-exports of the cryptography.
 #![tactic(auto)]
 
 pub mod buffer_count;
